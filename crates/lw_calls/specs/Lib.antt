@@ -1,0 +1,10 @@
+pub mod Limits
+pub mod Planned
+pub mod Layer
+pub mod Desk
+pub mod Screen
+pub mod Kept
+pub mod Paint
+pub mod Step
+pub mod History
+pub mod Report

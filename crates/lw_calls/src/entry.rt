@@ -1,0 +1,9 @@
+use crate::call::Call;
+
+/// One step of a history: which task made which call, `seq` being the number of the task's earlier calls.
+#[derive(Clone, Copy, Debug, PartialEq, Eq)]
+pub struct Entry {
+    pub task: u32,
+    pub seq: u32,
+    pub call: Call,
+}

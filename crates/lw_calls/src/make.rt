@@ -1,0 +1,40 @@
+/// How a layer keeps the pixels that other layers cover (the manual's Layers Library chapter).
+#[derive(Clone, Copy, Debug, PartialEq, Eq)]
+pub enum Kind {
+    /// LAYERSIMPLE: what is covered is lost, and becomes damage when it is seen again.
+    Simple,
+    /// LAYERSMART: what is covered is kept.
+    Smart,
+    /// LAYERSUPER: a bitmap of its own, of which the layer shows a portion.
+    SuperBitmap,
+}
+
+/// Where a new layer goes among the others (CreateUpfrontLayer, CreateBehindLayer).
+#[derive(Clone, Copy, Debug, PartialEq, Eq)]
+pub enum Place {
+    Front,
+    Behind,
+}
+
+/// A layer as it is asked for when it is created (the manual's Layers Library chapter).
+#[derive(Clone, Copy, Debug, PartialEq, Eq)]
+pub struct Make {
+    pub kind: Kind,
+    pub place: Place,
+    /// The screen column of the layer's left edge.
+    pub x: i32,
+    /// The screen row of the layer's top edge.
+    pub y: i32,
+    /// How many columns the layer has.
+    pub w: i32,
+    /// How many rows the layer has.
+    pub h: i32,
+    /// Whether the layer stays behind all that are no backdrop layers (LAYERBACKDROP).
+    pub backdrop: bool,
+    /// The number of the hook that fills what is uncovered.
+    pub hook: Option<u32>,
+    /// The width of a super-bitmap layer's own bitmap, and 0 for the other kinds.
+    pub bits_w: u32,
+    /// The height of a super-bitmap layer's own bitmap, and 0 for the other kinds.
+    pub bits_h: u32,
+}
