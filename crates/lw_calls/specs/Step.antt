@@ -39,7 +39,7 @@ new_layer depth m =
       bits = bitmap w h depth (λ x y. 0);
       damage = grid w h (λ x y. false);
       raster = new_raster;
-      updating = false
+      updating = false;
     }
 
 -- The calls whose steps are given here: a smart layer is created in front of all others, without a hook; and RectFill.
@@ -68,7 +68,7 @@ created d slot make =
     record d {
       order = slot ∷ d.order;
       bounds = with_value slot (Some (bounds_of make)) d.bounds;
-      slot = with_value slot (Live (new_layer d.sizes.depth make)) d.slot
+      slot = with_value slot (Live (new_layer d.sizes.depth make)) d.slot;
     }
 
 -- the desk after a call that is not refused

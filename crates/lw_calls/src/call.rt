@@ -1,6 +1,5 @@
-use lw_region::Rect;
-
 use crate::make::Make;
+use lw_region::Rect;
 
 /// One call of a task: the machine's atomic step. A slot is a layer's number, by first appearance of its name.
 #[derive(Clone, Copy, Debug, PartialEq, Eq)]

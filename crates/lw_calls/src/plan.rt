@@ -1,11 +1,10 @@
 ghost use Rattle.std.specs.Prelude.{◌≡◌, ◌<◌, map};
 ghost use Rattle.lw_calls.specs.Planned.{Planned, task_calls, IsPlan};
 
-use std::marker::Model;
-
 use crate::call::Call;
 use crate::sizes::Sizes;
 use crate::text::Text;
+use std::marker::Model;
 
 /// A plan's parts, of which `Plan::new` makes a plan.
 #[derive(Debug, Drop)]
@@ -35,17 +34,17 @@ impl Model for Plan {
     ghost Value = { Planned };
 
     ghost view = { λ p. record {
-        sizes = p.sizes;
-        slot_names = p.slot_names.items;
-        task_names = p.task_names.items;
-        calls = map (λ cs. cs.items) p.calls.items
+      sizes = p.sizes;
+      slot_names = p.slot_names.items;
+      task_names = p.task_names.items;
+      calls = map (λ cs. cs.items) p.calls.items;
     } };
 
     ghost invariant = { λ p. IsPlan (record {
-        sizes = p.sizes;
-        slot_names = p.slot_names.items;
-        task_names = p.task_names.items;
-        calls = map (λ cs. cs.items) p.calls.items
+      sizes = p.sizes;
+      slot_names = p.slot_names.items;
+      task_names = p.task_names.items;
+      calls = map (λ cs. cs.items) p.calls.items;
     }) };
 }
 
@@ -53,16 +52,16 @@ impl Plan {
     /// The plan of these parts.
     pub fn new(parts: PlanParts) -> Plan
         requires { IsPlan (record {
-            sizes = parts.sizes;
-            slot_names = parts.slot_names.items;
-            task_names = parts.task_names.items;
-            calls = map (λ cs. cs.items) parts.calls.items
+          sizes = parts.sizes;
+          slot_names = parts.slot_names.items;
+          task_names = parts.task_names.items;
+          calls = map (λ cs. cs.items) parts.calls.items;
         }) }
         ensures { result ≡ record {
-            sizes = parts.sizes;
-            slot_names = parts.slot_names.items;
-            task_names = parts.task_names.items;
-            calls = map (λ cs. cs.items) parts.calls.items
+          sizes = parts.sizes;
+          slot_names = parts.slot_names.items;
+          task_names = parts.task_names.items;
+          calls = map (λ cs. cs.items) parts.calls.items;
         } }
     {
         let PlanParts {

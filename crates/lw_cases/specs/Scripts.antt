@@ -1,0 +1,42 @@
+-- Plans and reports of worked cases, written out as data.
+use Rattle.std.specs.Prelude.{◌≡◌, ℕ, ℤ, pos, negsuc, List, [], ◌∷◌, Bool, true, false, Some, None, codes}
+use Rattle.std.specs.List.{flat_map}
+use Rattle.lw_region.specs.Rectangle.{Rectangle}
+use Rattle.lw_calls.specs.declared.sizes.Sizes.{Sizes}
+use Rattle.lw_calls.specs.declared.make.Kind.TheVariants.{Smart}
+use Rattle.lw_calls.specs.declared.make.Place.TheVariants.{Front}
+use Rattle.lw_calls.specs.declared.make.Make.{Make}
+use Rattle.lw_calls.specs.declared.call.Call.{Call}
+use Rattle.lw_calls.specs.declared.call.Call.TheVariants.{Create, Fill}
+use Rattle.lw_calls.specs.Planned.{Planned}
+use Rattle.lw_calls.specs.Report.{line_of}
+
+-- lines of text, a line feed after each
+abbrev pub text : List (List ℕ) → List ℕ
+text = flat_map line_of
+
+-- the sizes of a plan of one task a with one layer w
+abbrev pub small_sizes : ℕ → ℕ → ℕ → Sizes
+small_sizes w h d = record { version = 1; width = w; height = h; depth = d; slots = 1; tasks = 1; hooks = 0; bitmaps = 0 }
+
+-- create w smart front, at (x, y) with w columns and h rows
+abbrev pub smart : ℕ → ℕ → ℕ → ℕ → Call
+smart x y w h =
+    Create 0 (record { kind = Smart; place = Front; x = pos x; y = pos y; w = pos w; h = pos h; backdrop = false; hook = None; bits_w = 0; bits_h = 0 })
+
+-- fill w x0 y0 x1 y1
+abbrev pub fill : ℕ → ℕ → ℕ → ℕ → Call
+fill x0 y0 x1 y1 = Fill 0 (record { min_x = pos x0; min_y = pos y0; max_x = pos x1; max_y = pos y1 })
+
+-- the plan of one task a with these calls, on a screen of w by h with d planes
+abbrev pub one_task : ℕ → ℕ → ℕ → List Call → Planned
+one_task w h d calls =
+    record { sizes = small_sizes w h d; slot_names = codes "w" ∷ []; task_names = codes "a" ∷ []; calls = calls ∷ [] }
+
+-- a small layer, and a fill within it
+abbrev pub first_fill : Planned
+first_fill = one_task 16 4 1 (smart 0 0 8 4 ∷ fill 1 1 2 2 ∷ [])
+
+abbrev pub first_fill_report : List ℕ
+first_fill_report =
+    text (codes "order 2" ∷ codes "0 0" ∷ codes "planes 16 4 1" ∷ codes "plane 0" ∷ codes "0000" ∷ codes "6000" ∷ codes "6000" ∷ codes "0000" ∷ codes "replies a 2" ∷ codes "ok" ∷ codes "ok" ∷ codes "done" ∷ [])
