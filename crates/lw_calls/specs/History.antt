@@ -5,7 +5,7 @@ use Rattle.lw_calls.specs.declared.call.Call.{Call}
 use Rattle.lw_calls.specs.declared.reply.Reply.{Reply}
 use Rattle.lw_calls.specs.declared.entry.Entry.{Entry}
 use Rattle.lw_calls.specs.Planned.{Planned, task_calls}
-use Rattle.lw_calls.specs.Desk.{Desk, empty_desk}
+use Rattle.lw_calls.specs.Desk.{Desk}
 use Rattle.lw_calls.specs.Step.{after, reply}
 
 -- how many steps of a history are the task's
@@ -19,7 +19,7 @@ next_entry task seq None = []
 next_entry task seq (Some call) = record { task = task; seq = seq; call = call } ∷ []
 
 -- The steps that an order of task numbers stands for, after the past: the k-th occurrence of a task's number stands
--- for its call k.
+-- for its call k, and for nothing where the task has no such call.
 abbrev pub entries : Planned → List Entry → List ℕ → List Entry
 entries plan past [] = []
 entries plan past (task ∷ tasks) =

@@ -1,6 +1,5 @@
 -- Layers and the slots that hold them (the manual's Layers Library and Graphics Primitives chapters).
 use Rattle.std.specs.Prelude.{ℕ, Bool, true, false, ℤ, pos, List}
-use Rattle.lw_planes.specs.Grid.{grid}
 use Rattle.lw_planes.specs.Bitmap.{Bitmap}
 use Rattle.lw_calls.specs.declared.make.Kind.{Kind}
 
@@ -25,13 +24,13 @@ pub record Layer : Type 0 where
   pub raster : Raster
   pub updating : Bool
 
--- A name's slot: its layer was not created so far, is on the screen, or was deleted. Each name opens at most once.
+-- A name's slot: its layer was not created so far, is live, or was deleted. Each name opens at most once (own rule).
 pub data Slot : Type 0 where
   Unopened : Slot
   Live : Layer → Slot
   Closed : Slot
 
--- how a new layer paints: with pen 1 on pen 0, in the mode JAM2, in all planes, from the corner
+-- How a new layer paints (this project's own): with pen 1 on pen 0, in the mode JAM2, in all planes, from the corner.
 abbrev pub new_raster : Raster
 new_raster = record { pen_a = 1; pen_b = 0; mode = 1; mask = 255; cursor_x = pos 0; cursor_y = pos 0 }
 

@@ -1,5 +1,6 @@
 -- The limits of a plan's sizes, and which calls fit them (this project's own).
-use Rattle.std.specs.Prelude.{◌≡◌, ℕ, ◌+◌, ◌<◌, ◌≤◌, Bool, true, false, ◌&&◌, nat_lt, nat_le, ◌==◌, ℤ, pos, negsuc, int_le, Option, Some, None}
+use Rattle.std.specs.Prelude.{◌≡◌, ℕ, ◌≤◌, Bool, true, false, ◌&&◌, nat_lt, nat_le, ◌==◌, ℤ, pos, negsuc, int_le, Option, Some, None}
+use Rattle.lw_region.specs.Rectangle.{Rectangle, within}
 use Rattle.lw_calls.specs.declared.sizes.Sizes.{Sizes}
 use Rattle.lw_calls.specs.declared.make.Kind.{Kind}
 use Rattle.lw_calls.specs.declared.make.Kind.TheVariants.{Simple, Smart, SuperBitmap}
@@ -26,13 +27,9 @@ pub record IsWithinLimits (s : Sizes) : Type 0 where
   pub tasks : s.tasks ≤ 16
   pub bitmaps : s.bitmaps ≤ 16
 
--- z is none below low and none above high
-unfoldable pub in_range : ℤ → ℤ → ℤ → Bool
-in_range low high z = int_le low z && int_le z high
-
 -- a coordinate is a signed word of 16 bits
 abbrev pub is_coordinate : ℤ → Bool
-is_coordinate z = in_range (negsuc 32767) (pos 32767) z
+is_coordinate z = within (negsuc 32767) z (pos 32767)
 
 -- the hook that is asked for is one of those handed in
 abbrev pub hook_fits : ℕ → Option ℕ → Bool
@@ -49,10 +46,18 @@ kind_fits Smart hook w h = (w == 0) && (h == 0)
 -- a layer that may be asked for
 abbrev pub make_fits : Sizes → Make → Bool
 make_fits s m =
-    ((is_coordinate m.x && is_coordinate m.y) && (in_range (pos 1) (pos 65536) m.w && in_range (pos 1) (pos 65536) m.h))
+    ((is_coordinate m.x && is_coordinate m.y) && (within (pos 1) m.w (pos 65536) && within (pos 1) m.h (pos 65536)))
     && (hook_fits s.hooks m.hook && kind_fits m.kind m.hook m.bits_w m.bits_h)
+
+-- along one axis, a minimum and a maximum that is not below it, both of them coordinates
+unfoldable pub axis_fits : ℤ → ℤ → Bool
+axis_fits low high = (is_coordinate low && is_coordinate high) && int_le low high
+
+-- a rectangle that a call may have
+abbrev pub rect_fits : Rectangle → Bool
+rect_fits r = axis_fits r.min_x r.max_x && axis_fits r.min_y r.max_y
 
 -- Every number of the call is in its range, and it names slots and hooks that there are.
 abbrev pub call_fits : Sizes → Call → Bool
 call_fits s (Create slot make) = nat_lt slot s.slots && make_fits s make
-call_fits s (Fill slot rect) = nat_lt slot s.slots
+call_fits s (Fill slot rect) = nat_lt slot s.slots && rect_fits rect

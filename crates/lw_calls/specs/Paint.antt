@@ -1,37 +1,43 @@
 -- How a pen is painted over another, and what a drawing call changes (the manual's Graphics Primitives chapter: drawing
--- modes, the write mask).
-use Rattle.std.specs.Prelude.{ℕ, ◌-◌, ◌==◌, Bool, true, false, ◌&&◌, if◌then◌else◌, pos}
+-- modes, the write mask; that the mask applies to every painting call is this project's own).
+use Rattle.std.specs.Prelude.{ℕ, ◌-◌, ◌==◌, Bool, true, ◌&&◌, if◌then◌else◌, pos}
 use Rattle.std.specs.Int.{bit_at}
 use Rattle.lw_region.specs.Rectangle.{Rectangle, has_pixel}
 use Rattle.lw_planes.specs.Pen.{pen_of}
-use Rattle.lw_planes.specs.Bitmap.{Bitmap, bitmap, pen_at}
+use Rattle.lw_planes.specs.Bitmap.{bitmap, pen_at}
 use Rattle.lw_calls.specs.Layer.{Layer, Raster}
-use Rattle.lw_calls.specs.Desk.{Desk}
 use Rattle.lw_calls.specs.Kept.{is_drawable}
 
--- the modes JAM2, COMPLEMENT and INVERSVID are bits of the mode
+-- the flags JAM2 and COMPLEMENT of a mode
 abbrev pub has_jam2 : Raster → Bool
 has_jam2 r = bit_at r.mode 0 == 1
 
 abbrev pub has_complement : Raster → Bool
 has_complement r = bit_at r.mode 1 == 1
 
--- What a plane's bit becomes before the mask, where it was old: under COMPLEMENT it turns where the shape is set; else
--- it is pen A's bit where the shape is set, and where it isn't, pen B's under JAM2 and the old bit otherwise.
+-- What plane k's bit becomes before the mask, where it was old: under COMPLEMENT it turns in the foreground and stays
+-- elsewhere; else it is pen A's bit in the foreground, and elsewhere pen B's under JAM2 and the old bit without it.
 abbrev pub candidate_bit : Raster → Bool → ℕ → ℕ → ℕ
-candidate_bit r set k old =
-    if has_complement r then (if set then 1 - old else old) else (if set then bit_at r.pen_a k else (if has_jam2 r then bit_at r.pen_b k else old))
+candidate_bit r foreground k old =
+    if has_complement r then (if foreground then 1 - old else old) else (if foreground then bit_at r.pen_a k else (if has_jam2 r then bit_at r.pen_b k else old))
 
--- The pen that painting leaves where the pen was old: each plane that the mask has takes the candidate's bit.
-unfoldable pub paint : ℕ → Raster → Bool → ℕ → ℕ
-paint depth r set old =
-    pen_of depth (λ k. if bit_at r.mask k == 1 then candidate_bit r set k (bit_at old k) else bit_at old k)
+-- The pen whose planes that the mask has take the candidate's bit, while each other plane keeps the old pen's.
+unfoldable pub through_mask : ℕ → ℕ → (ℕ → ℕ) → ℕ → ℕ
+through_mask depth mask candidate old = pen_of depth (λ k. if bit_at mask k == 1 then candidate k else bit_at old k)
 
--- The layer with pixel (x, y) painted wherever on x y, and set where the shape is set there; all else as before.
-unfoldable pub paint_where : (ℕ → ℕ → Bool) → (ℕ → ℕ → Bool) → Layer → Layer
-paint_where on set l =
-    record l { bits = bitmap l.bits.width l.bits.height l.bits.depth (λ x y. if on x y then paint l.bits.depth l.raster (set x y) (pen_at l.bits x y) else pen_at l.bits x y) }
+-- the pen that painting leaves where the pen was old, in the foreground or not
+abbrev pub paint : ℕ → Raster → Bool → ℕ → ℕ
+paint depth r foreground old = through_mask depth r.mask (λ k. candidate_bit r foreground k (bit_at old k)) old
 
--- RectFill: each drawable pixel of the rectangle is painted, with the shape set.
-abbrev pub filled : Desk → ℕ → Rectangle → Layer → Layer
-filled d s rect l = paint_where (λ x y. is_drawable d s l x y && has_pixel rect (pos x) (pos y)) (λ x y. true) l
+-- The layer with the pen that pen x y gives at each pixel (x, y) where on x y holds, and all else as before.
+unfoldable pub with_pens : (ℕ → ℕ → Bool) → (ℕ → ℕ → ℕ) → Layer → Layer
+with_pens on pen l =
+    record l { bits = bitmap l.bits.width l.bits.height l.bits.depth (λ x y. if on x y then pen x y else pen_at l.bits x y) }
+
+-- The layer with each pixel painted where on holds, by its raster state, and all else as before.
+abbrev pub paint_where : (ℕ → ℕ → Bool) → (ℕ → ℕ → Bool) → Layer → Layer
+paint_where on foreground l = with_pens on (λ x y. paint l.bits.depth l.raster (foreground x y) (pen_at l.bits x y)) l
+
+-- RectFill: each drawable pixel of the rectangle is painted, all in the foreground.
+abbrev pub filled : (ℕ → ℕ → Bool) → Rectangle → Layer → Layer
+filled visible rect l = paint_where (λ x y. is_drawable visible l x y && has_pixel rect (pos x) (pos y)) (λ x y. true) l

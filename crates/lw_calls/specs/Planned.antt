@@ -16,11 +16,13 @@ pub record Planned : Type 0 where
 abbrev pub task_calls : Planned → ℕ → List Call
 task_calls p task = slice_index_or p.calls task []
 
--- A plan that may be run: its lists are as long as its sizes say, no task has too many calls, and every call fits.
+-- A plan that may be run: its lists are as long as its sizes say, it has no bitmaps so far, no task has too many calls,
+-- and every call fits.
 pub record IsPlan (p : Planned) : Type 0 where
   pub limits : IsWithinLimits p.sizes
   pub slots : length p.slot_names ≡ p.sizes.slots
   pub tasks : length p.task_names ≡ p.sizes.tasks
   pub lists : length p.calls ≡ p.sizes.tasks
+  pub bitmaps : p.sizes.bitmaps ≡ 0
   pub few : All (λ cs. length cs ≤ call_limit) p.calls
   pub fit : All (λ cs. All (λ c. IsTrue (call_fits p.sizes c)) cs) p.calls

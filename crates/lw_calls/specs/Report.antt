@@ -1,11 +1,11 @@
 -- The report of a run (this project's own format; docs/FORMATS.md has it with an example).
-use Rattle.std.specs.Prelude.{ℕ, ◌+◌, ◌%◌, ◌/◌, ◌==◌, Bool, true, false, ◌||◌, nat_lt, if◌then◌else◌, List, [], ◌∷◌, ◌++◌, length, codes, map}
+use Rattle.std.specs.Prelude.{ℕ, ◌+◌, ◌%◌, ◌/◌, ◌==◌, Bool, true, false, ◌||◌, nat_lt, if◌then◌else◌, List, [], ◌∷◌, ◌++◌, length, codes}
 use Rattle.std.specs.List.{flat_map, range_with_len, slice_index_or}
 use Rattle.std.specs.Fmt.{decimal}
 use Rattle.lw_planes.specs.Bitmap.{Bitmap, plane_row}
 use Rattle.lw_calls.specs.declared.reply.Reply.{Reply}
 use Rattle.lw_calls.specs.declared.reply.Reply.TheVariants.{Done, NotOpen, AlreadyOpen, OutOfBounds}
-use Rattle.lw_calls.specs.Planned.{Planned, task_calls}
+use Rattle.lw_calls.specs.Planned.{Planned}
 use Rattle.lw_calls.specs.Desk.{Desk, empty_desk}
 use Rattle.lw_calls.specs.Screen.{screen}
 use Rattle.lw_calls.specs.History.{entries, machine, replies_of}
@@ -14,7 +14,7 @@ use Rattle.lw_calls.specs.History.{entries, machine, replies_of}
 abbrev pub line_of : List ℕ → List ℕ
 line_of bytes = bytes ++ 10 ∷ []
 
--- a number behind a word of the report
+-- a space and the number
 abbrev pub spaced : ℕ → List ℕ
 spaced n = 32 ∷ decimal n
 
@@ -25,11 +25,11 @@ hex_digit n = if nat_lt n 10 then 48 + n else 87 + n
 abbrev pub hex_byte : ℕ → List ℕ
 hex_byte b = hex_digit (b / 16) ∷ hex_digit (b % 16) ∷ []
 
--- behind the k-th number of an order a line feed, where it is the last or its line has 64; else a space
 abbrev pub is_empty : List ℕ → Bool
 is_empty [] = true
 is_empty (t ∷ ts) = false
 
+-- behind the k-th number of an order, with these still to come: a line feed where none is or its line has 64, else a space
 abbrev pub separator : ℕ → List ℕ → ℕ
 separator k rest = if is_empty rest || (k % 64 == 0) then 10 else 32
 

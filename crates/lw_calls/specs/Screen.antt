@@ -1,9 +1,9 @@
 -- Which layer is on top of a place, and what the screen shows (the manual's Layers Library chapter).
-use Rattle.std.specs.Prelude.{ℕ, ◌+◌, Bool, true, false, ℤ, pos, ◌-ℤ◌, unsigned_abs, List, Option, Some, None}
+use Rattle.std.specs.Prelude.{ℕ, ◌+◌, Bool, false, ℤ, pos, ◌-ℤ◌, unsigned_abs, Option, Some, None}
 use Rattle.std.specs.List.{find}
 use Rattle.lw_region.specs.Rectangle.{Rectangle, has_pixel}
 use Rattle.lw_planes.specs.Bitmap.{Bitmap, bitmap, pen_at}
-use Rattle.lw_calls.specs.Layer.{Layer, Slot, Unopened, Live, Closed}
+use Rattle.lw_calls.specs.Layer.{Slot, Unopened, Live, Closed}
 use Rattle.lw_calls.specs.Desk.{Desk}
 
 -- these bounds have the place
@@ -15,7 +15,7 @@ bounds_have (Some r) x y = has_pixel r x y
 unfoldable pub top : Desk → ℤ → ℤ → Option ℕ
 top d x y = find (λ s. bounds_have (d.bounds s) x y) d.order
 
--- how far a place lies right of a left edge, or below a top edge, that is none past it
+-- how far a place lies right of a left edge, or below a top edge, which is not past the place
 abbrev pub distance : ℤ → ℤ → ℕ
 distance edge place = unsigned_abs (place -ℤ edge)
 

@@ -1,5 +1,7 @@
--- What each call does to the desk, and what it answers.
-use Rattle.std.specs.Prelude.{◌≡◌, ℕ, ◌==◌, ◌-◌, Bool, true, false, not, ◌&&◌, if◌then◌else◌, ℤ, pos, ◌+ℤ◌, ◌-ℤ◌, int_le, unsigned_abs, List, [], ◌∷◌, Option, Some, None, is_none}
+-- What each call does to the desk, and what it answers (the manual's Layers Library and Graphics Primitives chapters;
+-- which calls are refused, in which order, and that a refused call changes nothing is this project's own). The step
+-- speaks of the calls that `is_built` names.
+use Rattle.std.specs.Prelude.{ℕ, Bool, true, false, not, ◌&&◌, if◌then◌else◌, pos, ◌+ℤ◌, ◌-ℤ◌, int_le, unsigned_abs, ◌∷◌, Option, Some, None}
 use Rattle.lw_region.specs.Rectangle.{Rectangle}
 use Rattle.lw_planes.specs.Grid.{grid}
 use Rattle.lw_planes.specs.Bitmap.{bitmap}
@@ -13,8 +15,9 @@ use Rattle.lw_calls.specs.declared.call.Call.{Call}
 use Rattle.lw_calls.specs.declared.call.Call.TheVariants.{Create, Fill}
 use Rattle.lw_calls.specs.declared.reply.Reply.{Reply}
 use Rattle.lw_calls.specs.declared.reply.Reply.TheVariants.{Done, NotOpen, AlreadyOpen, OutOfBounds}
-use Rattle.lw_calls.specs.Layer.{Layer, Slot, Live, new_raster, is_unopened, is_live, change_layer}
+use Rattle.lw_calls.specs.Layer.{Layer, Live, new_raster, is_unopened, is_live, change_layer}
 use Rattle.lw_calls.specs.Desk.{Desk, with_value}
+use Rattle.lw_calls.specs.Kept.{is_visible}
 use Rattle.lw_calls.specs.Paint.{filled}
 
 -- the bounds that a layer of w columns and h rows has at its place
@@ -26,7 +29,7 @@ unfoldable pub is_on_screen : Sizes → Rectangle → Bool
 is_on_screen s r =
     (int_le (pos 0) r.min_x && int_le (r.max_x +ℤ pos 1) (pos s.width)) && (int_le (pos 0) r.min_y && int_le (r.max_y +ℤ pos 1) (pos s.height))
 
--- A new layer has pen 0 everywhere and no damage.
+-- A new layer has pen 0 everywhere and no damage (this project's own).
 abbrev pub new_layer : ℕ → Make → Layer
 new_layer depth m =
     let w = unsigned_abs m.w in
@@ -74,7 +77,7 @@ created d slot make =
 -- the desk after a call that is not refused
 abbrev pub effect : Desk → ℕ → Call → Desk
 effect d task (Create slot make) = created d slot make
-effect d task (Fill slot rect) = record d { slot = with_value slot (change_layer (filled d slot rect) (d.slot slot)) d.slot }
+effect d task (Fill slot rect) = record d { slot = with_value slot (change_layer (λ l. filled (is_visible d slot l) rect l) (d.slot slot)) d.slot }
 
 -- what a call answers that is not refused
 abbrev pub answer : Desk → ℕ → Call → Reply
@@ -82,8 +85,8 @@ answer d task (Create slot make) = Done
 answer d task (Fill slot rect) = Done
 
 abbrev pub unless_refused : {A : Type 0} → Option Reply → A → A → A
-unless_refused None kept changed = changed
-unless_refused (Some r) kept changed = kept
+unless_refused None before changed = changed
+unless_refused (Some r) before changed = before
 
 abbrev pub reply_or : Option Reply → Reply → Reply
 reply_or None r = r

@@ -1,7 +1,7 @@
 use crate::call::Call;
 
 /// One step of a history: which task made which call, `seq` being the number of the task's earlier calls.
-#[derive(Clone, Copy, Debug, PartialEq, Eq)]
+#[derive(Debug, PartialEq, Eq, Drop)]
 pub struct Entry {
     pub task: u32,
     pub seq: u32,

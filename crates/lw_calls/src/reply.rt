@@ -1,12 +1,12 @@
-/// What a call answers. Each answer but `Done` refuses, and then nothing has changed (this project's own).
-#[derive(Clone, Copy, Debug, PartialEq, Eq)]
+/// What a call answers. An answer that refuses leaves all as it was (this project's own).
+#[derive(Debug, PartialEq, Eq, Drop)]
 pub enum Reply {
     /// The call was done.
     Done,
-    /// The layer isn't live.
+    /// Refused: the layer isn't live.
     NotOpen,
-    /// The layer's name was opened before.
+    /// Refused: the layer's name was opened before.
     AlreadyOpen,
-    /// A pixel of the layer would lie off the screen.
+    /// Refused: a pixel of the layer would lie off the screen.
     OutOfBounds,
 }

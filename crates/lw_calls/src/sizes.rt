@@ -1,8 +1,10 @@
 ghost use Rattle.std.specs.Prelude.{◌≡◌};
-ghost use Rattle.lw_calls.specs.Limits.{call_fits, make_fits, hook_fits, kind_fits, is_coordinate, in_range};
+ghost use Rattle.lw_region.specs.Rectangle.{within};
+ghost use Rattle.lw_calls.specs.Limits.{call_fits, make_fits, hook_fits, kind_fits, axis_fits, rect_fits, is_coordinate};
 
 use crate::call::Call;
 use crate::make::{Kind, Make};
+use lw_region::Rect;
 
 /// The sizes of a screen, and how many of each a plan has (this project's own limits).
 #[derive(Clone, Copy, Debug, PartialEq, Eq)]
@@ -30,9 +32,9 @@ impl Sizes {
     pub fn fits(&self, call: &Call) -> bool
         ensures { result ≡ call_fits self.now call.now }
     {
-        match *call {
-            Call::Create { slot, make } => slot < self.slots && self.fits_make(&make),
-            Call::Fill { slot, .. } => slot < self.slots,
+        match call {
+            Call::Create { slot, make } => *slot < self.slots && self.fits_make(make),
+            Call::Fill { slot, rect } => *slot < self.slots && fits_rect(rect),
         }
     }
 
@@ -63,9 +65,9 @@ fn holds_coordinate(place: i32) -> bool
     is_in_range(-32768, 32767, place)
 }
 
-#[tactic(auto, using(std::proofs::lemmas::Int::ints), unfolding(crate::specs::Limits::in_range))]
+#[tactic(auto, using(std::proofs::lemmas::Int::ints), unfolding(lw_region::specs::Rectangle::within))]
 fn is_in_range(low: i32, high: i32, number: i32) -> bool
-    ensures { result ≡ in_range low high number }
+    ensures { result ≡ within low number high }
 {
     if number < low {
         return false;
@@ -83,4 +85,18 @@ fn fits_kind(kind: Kind, hook: Option<u32>, bits_w: u32, bits_h: u32) -> bool
         (Kind::SuperBitmap, Some(_)) => false,
         _ => bits_w == 0 && bits_h == 0,
     }
+}
+
+fn fits_rect(rect: &Rect) -> bool
+    ensures { result ≡ rect_fits rect.now }
+{
+    fits_axis(rect.min_x(), rect.max_x()) && fits_axis(rect.min_y(), rect.max_y())
+}
+
+// Both are coordinates by their type.
+#[tactic(auto, using(std::proofs::lemmas::Int::ints), unfolding(lw_region::specs::Rectangle::within, crate::specs::Limits::axis_fits))]
+fn fits_axis(low: i16, high: i16) -> bool
+    ensures { result ≡ axis_fits low high }
+{
+    low <= high
 }

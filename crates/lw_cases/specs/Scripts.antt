@@ -1,11 +1,9 @@
 -- Plans and reports of worked cases, written out as data.
-use Rattle.std.specs.Prelude.{◌≡◌, ℕ, ℤ, pos, negsuc, List, [], ◌∷◌, Bool, true, false, Some, None, codes}
+use Rattle.std.specs.Prelude.{ℕ, pos, List, [], ◌∷◌, false, None, codes}
 use Rattle.std.specs.List.{flat_map}
-use Rattle.lw_region.specs.Rectangle.{Rectangle}
 use Rattle.lw_calls.specs.declared.sizes.Sizes.{Sizes}
 use Rattle.lw_calls.specs.declared.make.Kind.TheVariants.{Smart}
 use Rattle.lw_calls.specs.declared.make.Place.TheVariants.{Front}
-use Rattle.lw_calls.specs.declared.make.Make.{Make}
 use Rattle.lw_calls.specs.declared.call.Call.{Call}
 use Rattle.lw_calls.specs.declared.call.Call.TheVariants.{Create, Fill}
 use Rattle.lw_calls.specs.Planned.{Planned}
@@ -40,3 +38,28 @@ first_fill = one_task 16 4 1 (smart 0 0 8 4 ∷ fill 1 1 2 2 ∷ [])
 abbrev pub first_fill_report : List ℕ
 first_fill_report =
     text (codes "order 2" ∷ codes "0 0" ∷ codes "planes 16 4 1" ∷ codes "plane 0" ∷ codes "0000" ∷ codes "6000" ∷ codes "6000" ∷ codes "0000" ∷ codes "replies a 2" ∷ codes "ok" ∷ codes "ok" ∷ codes "done" ∷ [])
+
+-- a layer as wide as a screen of 17 columns, filled whole
+abbrev pub padded_row : Planned
+padded_row = one_task 17 1 1 (smart 0 0 17 1 ∷ fill 0 0 16 0 ∷ [])
+
+abbrev pub padded_row_report : List ℕ
+padded_row_report =
+    text (codes "order 2" ∷ codes "0 0" ∷ codes "planes 17 1 1" ∷ codes "plane 0" ∷ codes "ffff8000" ∷ codes "replies a 2" ∷ codes "ok" ∷ codes "ok" ∷ codes "done" ∷ [])
+
+-- a fill right of the layer
+abbrev pub fill_outside : Planned
+fill_outside = one_task 16 4 1 (smart 0 0 8 4 ∷ fill 8 0 9 1 ∷ [])
+
+abbrev pub fill_outside_report : List ℕ
+fill_outside_report =
+    text (codes "order 2" ∷ codes "0 0" ∷ codes "planes 16 4 1" ∷ codes "plane 0" ∷ codes "0000" ∷ codes "0000" ∷ codes "0000" ∷ codes "0000" ∷ codes "replies a 2" ∷ codes "ok" ∷ codes "ok" ∷ codes "done" ∷ [])
+
+-- A fill of a layer that was not created, a creation that leaves the screen by one column, one that fits, one more of
+-- the same name, and a fill that covers the layer's right edge and passes it.
+abbrev pub refused_calls : Planned
+refused_calls = one_task 16 2 2 (fill 0 0 0 0 ∷ smart 9 0 8 1 ∷ smart 8 0 8 1 ∷ smart 0 0 1 1 ∷ fill 6 0 9 1 ∷ [])
+
+abbrev pub refused_calls_report : List ℕ
+refused_calls_report =
+    text (codes "order 5" ∷ codes "0 0 0 0 0" ∷ codes "planes 16 2 2" ∷ codes "plane 0" ∷ codes "0003" ∷ codes "0000" ∷ codes "plane 1" ∷ codes "0000" ∷ codes "0000" ∷ codes "replies a 5" ∷ codes "not-open" ∷ codes "out-of-bounds" ∷ codes "ok" ∷ codes "already-open" ∷ codes "ok" ∷ codes "done" ∷ [])

@@ -1,0 +1,29 @@
+//! Bytes in and bytes out, with faults by count.
+//!
+//! A stream that fails says no more than `Failed`, and counts one more fault: so a caller's contract can say that a
+//! failure came only where the count rose, whatever stands behind the stream. The traits, the two streams over memory
+//! and the two over std's reader and writer are this project's own.
+#![tactic(auto)]
+
+mod failed;
+mod faults;
+mod mem_sink;
+mod mem_source;
+mod reading;
+mod sink;
+mod source;
+mod std_sink;
+mod std_source;
+#[cfg(test)]
+mod tests;
+mod writing;
+
+pub use failed::Failed;
+pub use mem_sink::MemSink;
+pub use mem_source::MemSource;
+pub use reading::{ReadStop, read_all};
+pub use sink::Sink;
+pub use source::Source;
+pub use std_sink::StdSink;
+pub use std_source::StdSource;
+pub use writing::write_all;

@@ -1,0 +1,24 @@
+ghost use Rattle.std.specs.Prelude.{◌≡◌, ℕ, ◌<◌, ◌≤◌, List, length, take, IfOk, OnErr, Option};
+ghost use Rattle.lw_io.specs.Streams.{Rose, bytes_after};
+
+use crate::Failed;
+
+/// A stream to write bytes to, in pieces.
+pub trait Sink {
+    // The bytes that were written, where the sink tells them.
+    ghost written: { Self → Option (List ℕ) };
+
+    // The count of faults. It stands still at the last value of a u64.
+    ghost faults: { Self → ℕ };
+
+    /// Writes some bytes from the front of `piece`, and answers how many: at least one, if `piece` is not empty.
+    ///
+    /// A sink that tells what was written goes on telling it, and one that does not goes on not telling.
+    fn write(&mut self, piece: &[u8]) -> Result<usize, Failed>
+        ensures bound { IfOk result (λ n. n ≤ length piece.now) }
+        ensures some { IfOk result (λ n. 0 < length piece.now → 0 < n) }
+        ensures bytes { IfOk result (λ n. written self.new ≡ bytes_after (written self.old) (take n piece.now)) }
+        ensures kept { OnErr result (written self.new ≡ written self.old) }
+        ensures failed { OnErr result (Rose (faults self.old) (faults self.new)) }
+        ensures count { faults self.old ≤ faults self.new };
+}
