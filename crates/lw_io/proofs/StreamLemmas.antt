@@ -1,9 +1,7 @@
 -- What follows one read or write after another.
 use Rattle.std.proofs.Common.{◌≡◌, ℕ, ◌+◌, ◌-◌, ◌≤◌, List, ◌++◌, length, Option, None, Some, refl, sym, ap, ◌∙◌, append_assoc, length-append, arith, take, drop}
-use Rattle.std.specs.Prelude.{IfSome}
 use Rattle.std.proofs.Math.Seq.{take-add}
-use Rattle.std.proofs.lemmas.List.{append-nil}
-use Rattle.lw_io.specs.Streams.{bytes_before, bytes_after, NoneLeft, TakesAtMost}
+use Rattle.lw_io.specs.Streams.{bytes_before, bytes_after, TakesAtMost}
 
 -- bytes before bytes are the joined bytes
 pub bytes_before-bytes_before : (a b : List ℕ) (told : Option (List ℕ)) → bytes_before a (bytes_before b told) ≡ bytes_before (a ++ b) told
@@ -19,11 +17,6 @@ bytes_after-bytes_after (Some start) a b = ap Some (append_assoc start a b)
 pub written_more : (at n : ℕ) (bytes rest : List ℕ) (before between after : Option (List ℕ)) → rest ≡ drop at bytes → between ≡ bytes_after before (take at bytes) → after ≡ bytes_after between (take n rest) → after ≡ bytes_after before (take (at + n) bytes)
 written_more at n bytes rest before between after r e f =
     rw (f, e, r) (bytes_after-bytes_after before (take at bytes) (take n (drop at bytes)) ∙ ap (bytes_after before) (sym (take-add at n bytes)))
-
--- what a source that tells had left is what was taken, where nothing is left afterwards
-pub all_taken : (bytes : List ℕ) (before after : Option (List ℕ)) → before ≡ bytes_before bytes after → NoneLeft after → IfSome before (λ left. bytes ≡ left)
-all_taken bytes before None e n = rw e tt
-all_taken bytes before (Some rest) e n = rw (e, n, append-nil)
 
 -- bytes that were taken one after another are at most so many together
 pub TakesAtMost-from : (most had : ℕ) (bytes : List ℕ) (before between after : Option (List ℕ)) → had ≡ length bytes → had ≤ most → before ≡ bytes_before bytes between → TakesAtMost (most - had + 1) between after → TakesAtMost (most + 1) before after

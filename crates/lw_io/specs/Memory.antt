@@ -1,7 +1,8 @@
 -- What the source and the sink over memory hold, and which of their calls fail.
 use Rattle.std.specs.Prelude.{ℕ, ◌+◌, ◌<◌, ◌≤◌, min, List, length, Contains}
 
--- a source over memory: the bytes that are left, how many a call moves at most, the numbers of the calls that fail, the number of the next call, and the count of faults
+-- a source over memory: the bytes that are left; how many of them a call moves at most; the numbers
+-- of the calls that fail; the number of the next call; and how many calls failed
 pub record SourceState : Type 0 where
   pub left : List ℕ
   pub step : ℕ
@@ -9,7 +10,8 @@ pub record SourceState : Type 0 where
   pub call : ℕ
   pub faults : ℕ
 
--- a sink over memory: the bytes that were written, how many it has room for, and the rest as at a source
+-- a sink over memory: the bytes that were written; for how many there is room in all; and the rest
+-- as at a source
 pub record SinkState : Type 0 where
   pub written : List ℕ
   pub room : ℕ
@@ -18,7 +20,7 @@ pub record SinkState : Type 0 where
   pub call : ℕ
   pub faults : ℕ
 
--- the list has the number of this call, which is not the last value of a u32
+-- the list has the number of this call, which is below the last value of a u32
 abbrev pub IsListed : List ℕ → ℕ → Type 0
 IsListed fails call = (call < 4294967295) × Contains fails call
 

@@ -1,4 +1,5 @@
--- What a call does to the bytes that a source has left and that a sink was given, and to a count of faults.
+-- What a call does to the bytes that a source has left or a sink was given, and to the count of
+-- faults. A stream that does not tell its bytes has `None` for them.
 use Rattle.std.specs.Prelude.{◌≡◌, ℕ, ◌<◌, ◌≤◌, ◌⊎◌, List, [], ◌++◌, length, take, ⊤, Option, None, Some}
 use Rattle.std.specs.Option.{option_map}
 
@@ -6,15 +7,15 @@ use Rattle.std.specs.Option.{option_map}
 abbrev pub Rose : ℕ → ℕ → Type 0
 Rose before after = (before < after) ⊎ (after ≡ 18446744073709551615)
 
--- these bytes and then the told ones, or nothing where nothing is told
+-- these bytes and then the told ones, where any are told
 abbrev pub bytes_before : List ℕ → Option (List ℕ) → Option (List ℕ)
 bytes_before bytes told = option_map (λ rest. bytes ++ rest) told
 
--- the told bytes and then these, or nothing where nothing is told
+-- the told bytes and then these, where any are told
 abbrev pub bytes_after : Option (List ℕ) → List ℕ → Option (List ℕ)
 bytes_after told bytes = option_map (λ start. start ++ bytes) told
 
--- no told byte is left
+-- no byte is left, where the source tells
 abbrev pub NoneLeft : Option (List ℕ) → Type 0
 NoneLeft None = ⊤
 NoneLeft (Some bytes) = bytes ≡ []
@@ -24,12 +25,17 @@ abbrev pub TakesAtMost : ℕ → Option (List ℕ) → Option (List ℕ) → Typ
 TakesAtMost most before after =
     (bytes : List ℕ) × (length bytes ≤ most) × (before ≡ bytes_before bytes after)
 
--- the first of these bytes, some or none or all, were written at the end of what was written
+-- a front of these bytes, be it none or all of them, came after what was written
 abbrev pub WritesPrefix : List ℕ → Option (List ℕ) → Option (List ℕ) → Type 0
 WritesPrefix bytes before after =
     (k : ℕ) × (k ≤ length bytes) × (after ≡ bytes_after before (take k bytes))
 
--- the bytes by which a list grew at its end are those that were taken from the front of what was left
+-- a list grew at its end by the bytes that were taken from the front of what was left
 abbrev pub Moves : List ℕ → List ℕ → Option (List ℕ) → Option (List ℕ) → Type 0
 Moves had has before after =
     (bytes : List ℕ) × (has ≡ had ++ bytes) × (before ≡ bytes_before bytes after)
+
+-- a reader or a writer of std, and how many of its calls failed
+pub record Counted (T : Type 0) : Type 0 where
+  pub stream : T
+  pub faults : ℕ

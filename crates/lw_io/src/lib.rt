@@ -1,8 +1,9 @@
 //! Bytes in and bytes out, with faults by count.
 //!
-//! A stream that fails says no more than `Failed`, and counts one more fault: so a caller's contract can say that a
-//! failure came only where the count rose, whatever stands behind the stream. The traits, the two streams over memory
-//! and the two over std's reader and writer are this project's own.
+//! A stream that fails answers no more than `Failed`, and counts one more fault. So a contract
+//! above can say that a failure came only where the count rose, whatever stands behind the stream.
+//! The traits, the two streams over memory, the two over std's reader and writer, and the two calls
+//! that read and write all are this project's own.
 #![tactic(auto)]
 
 mod failed;

@@ -1,4 +1,4 @@
-ghost use Rattle.std.specs.Prelude.{◌≡◌, ◌<◌, ◌≤◌, ◌-◌, ◌↔◌, ◌⊎◌, List, [], ◌++◌, ℕ, Some, length, min, take, IfOk, OnErr, IsErr};
+ghost use Rattle.std.specs.Prelude.{◌≡◌, ◌<◌, ◌≤◌, ◌-◌, ◌↔◌, ◌⊎◌, [], ◌++◌, Some, length, min, take, IfOk, OnErr, IsErr};
 ghost use Rattle.lw_io.specs.Memory.{IsListed, IsFull, next_call, one_more_fault};
 
 use crate::faults::{call_after, is_listed, raised};
@@ -6,7 +6,8 @@ use crate::{Failed, Sink};
 use std::alloc::{AllocError, Global};
 use std::marker::Model;
 
-/// A sink into memory, with faults at chosen calls and room for so many bytes: for tests of what writes.
+/// A sink into memory, with room for so many bytes and faults at chosen calls: for tests of what
+/// writes.
 #[derive(Drop)]
 pub struct MemSink {
     bytes: Vec<u8>,
@@ -32,12 +33,15 @@ impl Model for MemSink {
       faults = s.faults;
     } };
 
-    ghost invariant = { λ s. (vec_len s.bytes ≤ s.room) × (s.room ≤ vec_capacity s.bytes) × (0 < s.step) };
+    ghost invariant = { λ s.
+        (vec_len s.bytes ≤ s.room) × (s.room ≤ vec_capacity s.bytes) × (0 < s.step) };
 }
 
 impl MemSink {
-    /// A sink with room for `room` bytes, for which it takes the memory here. A call moves at most `step` bytes, and
-    /// the calls numbered in `fails`, from 0, fail.
+    /// A sink with room for `room` bytes, whose memory it takes here. A call moves at most `step`
+    /// bytes. The calls numbered in `fails`, from 0, fail, and so does one with bytes to write where
+    /// the room is used up. The number of calls stands still at 4294967295, and no call from there
+    /// on fails by the list.
     pub fn new(
         alloc: Global,
         room: usize,
@@ -45,7 +49,14 @@ impl MemSink {
         fails: Vec<u32>,
     ) -> Result<MemSink, AllocError>
         requires { 0 < step }
-        ensures { IfOk result (λ sink. sink ≡ record { written = []; room = room; step = step; fails = fails.items; call = 0; faults = 0 }) }
+        ensures { IfOk result (λ sink. sink ≡ record {
+          written = [];
+          room = room;
+          step = step;
+          fails = fails.items;
+          call = 0;
+          faults = 0;
+        }) }
     {
         Ok(MemSink {
             bytes: Vec::with_capacity(alloc, room)?,
@@ -72,9 +83,10 @@ impl Sink for MemSink {
     ghost faults = { λ sink. sink.faults };
 
     fn write(&mut self, piece: &[u8]) -> Result<usize, Failed>
-        // Exactly the calls of the list fail, and those with bytes to write and no room for any. Such a call changes
-        // its number and the count alone.
-        ensures fails { IsErr result ↔ (IsListed self.old.fails self.old.call ⊎ IsFull self.old piece.now) }
+        // Exactly the calls of the list fail, and those with bytes to write and no room for any.
+        // Such a call changes its number and the count alone.
+        ensures fails { IsErr result
+            ↔ (IsListed self.old.fails self.old.call ⊎ IsFull self.old piece.now) }
         ensures after_failed { OnErr result (self.new ≡ record self.old {
           call = next_call self.old.call;
           faults = one_more_fault self.old.faults;
@@ -82,7 +94,8 @@ impl Sink for MemSink {
 
         // Any other call moves as many bytes as the step, the piece and the room allow.
         ensures moved { IfOk result (λ n.
-            n ≡ min self.old.step (min (length piece.now) (self.old.room - length self.old.written))) }
+            n ≡ min self.old.step
+            (min (length piece.now) (self.old.room - length self.old.written))) }
         ensures after_ok { IfOk result (λ n. self.new ≡ record self.old {
           written = self.old.written ++ take n piece.now;
           call = next_call self.old.call;

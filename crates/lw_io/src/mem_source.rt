@@ -1,5 +1,4 @@
-ghost use Rattle.std.specs.Prelude.{◌≡◌, ◌<◌, ◌≤◌, ◌↔◌, List, [], ℕ, Some, length, min, take, drop, IfOk, OnErr, IsErr};
-ghost use Rattle.lw_io.specs.Streams.{Rose, bytes_before, NoneLeft};
+ghost use Rattle.std.specs.Prelude.{◌≡◌, ◌<◌, ◌≤◌, ◌↔◌, [], Some, length, min, take, drop, IfOk, OnErr, IsErr};
 ghost use Rattle.lw_io.specs.Memory.{IsListed, next_call, one_more_fault};
 
 use crate::faults::{call_after, is_listed, raised};
@@ -36,10 +35,17 @@ impl Model for MemSource {
 }
 
 impl MemSource {
-    /// A source of `bytes`. A call moves at most `step` of them, and the calls numbered in `fails`, from 0, fail.
+    /// A source of `bytes`. A call moves at most `step` of them, and the calls numbered in `fails`,
+    /// from 0, fail. The number of calls stands still at 4294967295, and no call from there on fails.
     pub fn new(bytes: Vec<u8>, step: usize, fails: Vec<u32>) -> MemSource
         requires { 0 < step }
-        ensures { result ≡ record { left = bytes.items; step = step; fails = fails.items; call = 0; faults = 0 } }
+        ensures { result ≡ record {
+          left = bytes.items;
+          step = step;
+          fails = fails.items;
+          call = 0;
+          faults = 0;
+        } }
     {
         MemSource {
             bytes,
@@ -58,7 +64,7 @@ impl Source for MemSource {
     ghost faults = { λ source. source.faults };
 
     fn read(&mut self, piece: &mut [u8]) -> Result<usize, Failed>
-        // Exactly the calls of the list fail, and such a call changes its number and the count alone.
+        // Exactly the calls of the list fail. Such a call changes its number and the count alone.
         ensures fails { IsErr result ↔ IsListed self.old.fails self.old.call }
         ensures after_failed { OnErr result (self.new ≡ record self.old {
           call = next_call self.old.call;
@@ -66,7 +72,8 @@ impl Source for MemSource {
         }) }
 
         // Any other call moves as many bytes as the step, the piece and what is left allow.
-        ensures moved { IfOk result (λ n. n ≡ min self.old.step (min (length piece.new) (length self.old.left))) }
+        ensures moved { IfOk result (λ n.
+            n ≡ min self.old.step (min (length piece.new) (length self.old.left))) }
         ensures given { IfOk result (λ n. take n piece.new ≡ take n self.old.left) }
         ensures after_ok { IfOk result (λ n. self.new ≡ record self.old {
           left = drop n self.old.left;

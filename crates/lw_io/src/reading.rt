@@ -50,7 +50,8 @@ pub fn read_all<S: Source>(alloc: Global, source: &mut S, limit: usize) -> Resul
     Ok(bytes)
 }
 
-// Reads one piece and puts it at the end of `bytes`. It says whether there was one, or else the source is at its end.
+// Reads one piece and puts it at the end of `bytes`. It answers whether there was one: if not, the
+// source is at its end.
 fn read_piece<S: Source>(
     source: &mut S,
     piece: &mut [u8],
@@ -66,7 +67,8 @@ fn read_piece<S: Source>(
     ensures within { OnOk result (vec_len bytes.new ≤ limit) }
     ensures more { IfOk result (λ more. IsTrue more → vec_len bytes.old < vec_len bytes.new) }
     ensures end { IfOk result (λ more. more ≡ false → NoneLeft (S.left source.new)) }
-    ensures fault { IsErrOf result ReadStop.Fault → Rose (S.faults source.old) (S.faults source.new) }
+    ensures fault { IsErrOf result ReadStop.Fault
+        → Rose (S.faults source.old) (S.faults source.new) }
     ensures too_long { IsErrOf result ReadStop.TooLong
         → IfSome (S.left source.old) (λ left. limit < vec_len bytes.old + length left) }
     ensures taken { TakesAtMost (limit - vec_len bytes.old + 1)

@@ -11,13 +11,16 @@ pub trait Sink {
     // The count of faults. It stands still at the last value of a u64.
     ghost faults: { Self → ℕ };
 
-    /// Writes some bytes from the front of `piece`, and answers how many: at least one, if `piece` is not empty.
+    /// Writes some bytes from the front of `piece`, and answers how many: at least one, if `piece`
+    /// is not empty.
     ///
-    /// A sink that tells what was written goes on telling it, and one that does not goes on not telling.
+    /// A sink that tells what was written goes on telling it, and one that does not goes on not
+    /// telling. Where the stream behind it takes nothing, it raises its count and answers `Failed`.
     fn write(&mut self, piece: &[u8]) -> Result<usize, Failed>
         ensures bound { IfOk result (λ n. n ≤ length piece.now) }
         ensures some { IfOk result (λ n. 0 < length piece.now → 0 < n) }
-        ensures bytes { IfOk result (λ n. written self.new ≡ bytes_after (written self.old) (take n piece.now)) }
+        ensures bytes { IfOk result (λ n.
+            written self.new ≡ bytes_after (written self.old) (take n piece.now)) }
         ensures kept { OnErr result (written self.new ≡ written self.old) }
         ensures failed { OnErr result (Rose (faults self.old) (faults self.new)) }
         ensures count { faults self.old ≤ faults self.new };

@@ -13,13 +13,15 @@ pub trait Source {
 
     /// Reads some bytes into the front of `piece`, and answers how many.
     ///
-    /// An answer of 0 for a piece that is not empty is the end of the source. What `piece` holds behind the bytes that
-    /// were read, and after `Failed`, is not said. A source that tells what is left goes on telling it, and one that
-    /// does not goes on not telling.
+    /// An answer of 0 for a piece that is not empty is the end of the source. What `piece` holds
+    /// behind the bytes that were read, and after `Failed`, is not said. A source that tells what
+    /// is left goes on telling it, and one that does not goes on not telling.
     fn read(&mut self, piece: &mut [u8]) -> Result<usize, Failed>
         ensures bound { IfOk result (λ n. n ≤ length piece.new) }
-        ensures bytes { IfOk result (λ n. left self.old ≡ bytes_before (take n piece.new) (left self.new)) }
-        ensures end { IfOk result (λ n. n ≡ 0 → 0 < length piece.new → NoneLeft (left self.new)) }
+        ensures bytes { IfOk result (λ n.
+            left self.old ≡ bytes_before (take n piece.new) (left self.new)) }
+        ensures end { IfOk result (λ n.
+            n ≡ 0 → 0 < length piece.new → NoneLeft (left self.new)) }
         ensures kept { OnErr result (left self.new ≡ left self.old) }
         ensures failed { OnErr result (Rose (faults self.old) (faults self.new)) }
         ensures count { faults self.old ≤ faults self.new };

@@ -1,5 +1,5 @@
-ghost use Rattle.std.specs.Prelude.{◌≡◌, ◌≤◌, ◌<◌, None, length, OnOk, OnErr, IfOk};
-ghost use Rattle.lw_io.specs.Streams.{Rose};
+ghost use Rattle.std.specs.Prelude.{◌≡◌, ◌≤◌, None, length, OnOk, OnErr, IfOk};
+ghost use Rattle.std.specs.Io.KnownBytes.{ReadConsumes};
 ghost use Rattle.lw_io.specs.Memory.{one_more_fault};
 
 use crate::faults::raised;
@@ -7,7 +7,7 @@ use crate::{Failed, Source};
 use std::io::Read;
 use std::marker::Model;
 
-/// A source over std's reader. Contracts see its count of faults: of the bytes it tells nothing.
+/// A source over std's reader, which counts the errors. As a source it tells nothing of the bytes.
 #[derive(Drop)]
 pub struct StdSource<R: Read + Drop> {
     reader: R,
@@ -15,17 +15,17 @@ pub struct StdSource<R: Read + Drop> {
 }
 
 impl<R: Read + Drop> Model for StdSource<R> {
-    ghost use Rattle.std.specs.Prelude.{ℕ};
+    ghost use Rattle.lw_io.specs.Streams.{Counted};
 
-    ghost Value = { ℕ };
+    ghost Value = { Counted R };
 
-    ghost view = { λ s. s.faults };
+    ghost view = { λ s. record { stream = s.reader; faults = s.faults } };
 }
 
 impl<R: Read + Drop> StdSource<R> {
     /// A source over `reader`, with no fault yet.
     pub fn new(reader: R) -> StdSource<R>
-        ensures { result ≡ 0 }
+        ensures { result ≡ record { stream = reader; faults = 0 } }
     {
         StdSource { reader, faults: 0 }
     }
@@ -34,14 +34,17 @@ impl<R: Read + Drop> StdSource<R> {
 impl<R: Read + Drop> Source for StdSource<R> {
     ghost left = { λ _. None };
 
-    ghost faults = { λ count. count };
+    ghost faults = { λ source. source.faults };
 
-    /// Reads by the reader's own `read`. Each error that it answers is a fault, an interrupted read too.
+    /// Reads by the reader's own `read`. Each error that it answers is a fault, also an
+    /// interrupted read.
     fn read(&mut self, piece: &mut [u8]) -> Result<usize, Failed>
         ensures bound { IfOk result (λ n. n ≤ length piece.new) }
-        ensures ok { OnOk result (self.new ≡ self.old) }
-        ensures err { OnErr result (self.new ≡ one_more_fault self.old) }
-        ensures count { self.old ≤ self.new }
+        ensures reader { ReadConsumes
+            (R.remaining self.old.stream) (R.remaining self.new.stream) result piece.new }
+        ensures ok { OnOk result (self.new.faults ≡ self.old.faults) }
+        ensures err { OnErr result (self.new.faults ≡ one_more_fault self.old.faults) }
+        ensures count { self.old.faults ≤ self.new.faults }
     {
         match self.reader.read(piece) {
             Ok(count) => Ok(count),

@@ -1,4 +1,4 @@
-ghost use Rattle.std.specs.Prelude.{◌≡◌, ◌<◌, ◌++◌, Some, List, ℕ, length, IsErr, IsErrOf, OnOk};
+ghost use Rattle.std.specs.Prelude.{◌≡◌, ◌<◌, ◌≤◌, ◌++◌, Some, List, ℕ, length, IsErr, IsErrOf, OnOk};
 ghost use Rattle.lw_io.specs.Streams.{Rose};
 
 use super::*;
@@ -13,7 +13,8 @@ enum CopyStop {
     Write,
 }
 
-// A caller by the contracts alone: what the sink holds is what it held before, and then all that the source had left.
+// A caller by the contracts alone: what the sink holds is what it held before, and then all that
+// the source had left.
 fn copy<S: Source, K: Sink>(
     alloc: Global,
     source: &mut S,
@@ -21,10 +22,16 @@ fn copy<S: Source, K: Sink>(
     limit: usize,
 ) -> Result<(), CopyStop>
     requires { limit < usize.MAX }
-    ensures done { (text held : List ℕ) → S.left source.old ≡ Some text → K.written sink.old ≡ Some held
-        → OnOk result (K.written sink.new ≡ Some (held ++ text)) }
-    ensures too_long { (text : List ℕ) → S.left source.old ≡ Some text → limit < length text → IsErr result }
-    ensures write { IsErrOf result CopyStop.Write → Rose (K.faults sink.old) (K.faults sink.new) }
+    ensures done { (text held : List ℕ) → S.left source.old ≡ Some text
+        → K.written sink.old ≡ Some held → OnOk result (K.written sink.new ≡ Some (held ++ text)) }
+    ensures too_long { (text : List ℕ) → S.left source.old ≡ Some text
+        → limit < length text → IsErr result }
+    ensures fits { (text : List ℕ) → S.left source.old ≡ Some text
+        → length text ≤ limit → IsErrOf result (CopyStop.Read ReadStop.TooLong) → ⊥ }
+    ensures read { IsErrOf result (CopyStop.Read ReadStop.Fault)
+        → Rose (S.faults source.old) (S.faults source.new) × (K.written sink.new ≡ K.written sink.old) }
+    ensures write { IsErrOf result CopyStop.Write
+        → Rose (K.faults sink.old) (K.faults sink.new) }
 {
     let text = match read_all(alloc, source, limit) {
         Ok(text) => text,
