@@ -8,3 +8,10 @@ pub mod Paint
 pub mod Step
 pub mod History
 pub mod Report
+pub mod Lines
+pub mod Words
+pub mod Values
+pub mod Forms
+pub mod Above
+pub mod Grammar
+pub mod Reading

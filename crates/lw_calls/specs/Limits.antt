@@ -8,6 +8,10 @@ use Rattle.lw_calls.specs.declared.make.Make.{Make}
 use Rattle.lw_calls.specs.declared.call.Call.{Call}
 use Rattle.lw_calls.specs.declared.call.Call.TheVariants.{Create, Fill}
 
+-- how many layer names a script has at most
+abbrev pub name_limit : ℕ
+name_limit = 64
+
 -- how many calls a task has at most
 abbrev pub call_limit : ℕ
 call_limit = 4096
@@ -22,7 +26,7 @@ pub record IsWithinLimits (s : Sizes) : Type 0 where
   pub rows : s.height ≤ 1024
   pub some_planes : 1 ≤ s.depth
   pub planes : s.depth ≤ 8
-  pub slots : s.slots ≤ 64
+  pub slots : s.slots ≤ name_limit
   pub some_task : 1 ≤ s.tasks
   pub tasks : s.tasks ≤ 16
   pub bitmaps : s.bitmaps ≤ 16

@@ -6,6 +6,7 @@
 
 mod call;
 mod entry;
+mod laws;
 mod make;
 mod plan;
 mod reason;
@@ -15,6 +16,7 @@ mod text;
 
 pub use call::Call;
 pub use entry::Entry;
+pub use laws::{scripts_are_decided, spelled_plans_are_runnable};
 pub use make::{Kind, Make, Place};
 pub use plan::{Plan, PlanParts};
 pub use reason::Reason;

@@ -1,3 +1,10 @@
 pub mod Grid
 pub mod Pen
+pub mod Row
 pub mod Bitmap
+pub mod Sizes
+pub mod Storage
+pub mod Change
+pub mod Lending
+pub mod Minterm
+pub mod Laws

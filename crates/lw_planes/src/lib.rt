@@ -1,10 +1,12 @@
 //! Bitmaps kept as bit planes (the manual's Graphics Primitives chapter).
 #![tactic(auto)]
 
-ghost use Rattle.std.specs.Prelude.{◌≡◌, ℕ, ◌<◌};
-ghost use Rattle.lw_planes.specs.Grid.{grid, at};
+mod bits;
+mod laws;
+mod planes;
 
-/// A tabulated value stands where it was tabulated.
-pub fn grid_has_its_values()
-    ensures { (w h : ℕ) (f : ℕ → ℕ → ℕ) (d x y : ℕ) → x < w → y < h → at d (grid w h f) x y ≡ f x y }
-{}
+pub use laws::{
+    bitmap_is_its_pens, pen_has_its_bits, plane_row_has_its_bits, row_write_changes_its_row,
+    table_has_its_values,
+};
+pub use planes::Planes;

@@ -1,1 +1,9 @@
 pub mod Rectangle
+pub mod Order
+pub mod Pixels
+pub mod Bands
+pub mod Banded
+pub mod Operations
+pub mod Columns
+pub mod Rows
+pub mod Regions

@@ -1,8 +1,10 @@
-ghost use Rattle.std.specs.Prelude.{◌≡◌};
+ghost use Rattle.std.specs.Prelude.{◌≡◌, ◌&&◌, ◌↔◌, ℤ, ◌+ℤ◌, ◌≤ℤ◌, IfSome, IsNone, [], ◌∷◌};
 ghost use Rattle.std.specs.Option.{SomeIff};
-ghost use Rattle.lw_region.specs.Rectangle.{Rectangle, within, has_pixel, IsOrdered};
+ghost use Rattle.lw_region.specs.Rectangle.{Rectangle, within, has_pixel, IsOrdered, AreApart, common_part, moved_by, HasWords};
+ghost use Rattle.lw_region.specs.Rows.{down_to};
 
 use std::marker::Model;
+use std::slice;
 
 /// A rectangle of pixels, after the `Rectangle` structure of graphics.library: the columns `min_x` to
 /// `max_x` and the rows `min_y` to `max_y`, all four bounds inclusive, each from -32768 to 32767.
@@ -45,6 +47,41 @@ impl Rect {
         })
     }
 
+    // The rectangle with these bounds, which the caller knows to be in order.
+    pub(crate) fn of_words(min_x: i16, min_y: i16, max_x: i16, max_y: i16) -> Rect
+        requires columns { min_x ≤ℤ max_x }
+        requires rows { min_y ≤ℤ max_y }
+        ensures { result ≡ record { min_x = min_x; min_y = min_y; max_x = max_x; max_y = max_y } }
+    {
+        Rect {
+            min_x,
+            min_y,
+            max_x,
+            max_y,
+        }
+    }
+
+    // The list of this rectangle alone.
+    pub(crate) fn as_list(&self) -> &[Rect]
+        ensures value { result.now ≡ self.now ∷ [] }
+        ensures ordered { IsOrdered self.now }
+    {
+        let _ = &self.min_x;
+        slice::from_ref(self)
+    }
+
+    // The rectangle reaching down to row `bottom` at least.
+    pub(crate) fn down_to(&self, bottom: i16) -> Rect
+        ensures { result ≡ down_to self.now bottom }
+    {
+        Rect {
+            min_x: self.min_x,
+            min_y: self.min_y,
+            max_x: self.max_x,
+            max_y: self.max_y.max(bottom),
+        }
+    }
+
     /// The leftmost column.
     pub fn min_x(&self) -> i16
         ensures value { result ≡ self.now.min_x }
@@ -83,6 +120,61 @@ impl Rect {
     {
         is_between(self.min_x(), x, self.max_x()) && is_between(self.min_y(), y, self.max_y())
     }
+
+    /// The rectangle of the pixels that are in both (this project's own); `None` exactly where no pixel is
+    /// in both.
+    pub fn meet(&self, other: &Rect) -> Option<Rect>
+        ensures bounds { SomeIff result
+            (IsOrdered (common_part self.now other.now))
+            (common_part self.now other.now) }
+        ensures pixels { IfSome result
+            (λ r. (x y : ℤ) → has_pixel r x y ≡ (has_pixel self.now x y && has_pixel other.now x y)) }
+        ensures none { IsNone result ↔ AreApart self.now other.now }
+    {
+        let min_x = self.min_x().max(other.min_x());
+        let min_y = self.min_y().max(other.min_y());
+        let max_x = self.max_x().min(other.max_x());
+        let max_y = self.max_y().min(other.max_y());
+        Rect::new(min_x, min_y, max_x, max_y)
+    }
+
+    /// The rectangle moved by `dx` columns to the right and `dy` rows down (this project's own); `None`
+    /// exactly where a bound leaves the 16-bit range.
+    pub fn moved(&self, dx: i32, dy: i32) -> Option<Rect>
+        ensures { SomeIff result (HasWords (moved_by self.now dx dy)) (moved_by self.now dx dy) }
+    {
+        let x0 = moved_place(self.min_x(), dx);
+        let y0 = moved_place(self.min_y(), dy);
+        let x1 = moved_place(self.max_x(), dx);
+        let y1 = moved_place(self.max_y(), dy);
+        from_places(x0, y0, x1, y1)
+    }
+}
+
+fn moved_place(place: i16, by: i32) -> i64
+    ensures { result ≡ place +ℤ by }
+{
+    i64::from(place) + i64::from(by)
+}
+
+// The rectangle with these bounds, if they are words.
+#[tactic(auto, using(std::proofs::lemmas::Int::ints))]
+fn from_places(x0: i64, y0: i64, x1: i64, y1: i64) -> Option<Rect>
+    requires columns { x0 ≤ℤ x1 }
+    requires rows { y0 ≤ℤ y1 }
+    ensures { SomeIff result
+        (HasWords (record { min_x = x0; min_y = y0; max_x = x1; max_y = y1 }))
+        (record { min_x = x0; min_y = y0; max_x = x1; max_y = y1 }) }
+{
+    if x0 < -32768 || y0 < -32768 || x1 > 32767 || y1 > 32767 {
+        return None;
+    }
+    Some(Rect {
+        min_x: x0 as i16,
+        min_y: y0 as i16,
+        max_x: x1 as i16,
+        max_y: y1 as i16,
+    })
 }
 
 #[tactic(auto, using(std::proofs::lemmas::Int::ints), unfolding(crate::specs::Rectangle::within))]

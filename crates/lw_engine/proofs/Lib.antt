@@ -1,0 +1,9 @@
+pub mod RowLaws
+pub mod BitmapLaws
+pub mod PaintLaws
+pub mod StepLaws
+pub mod StandsForLaws
+pub mod PlainLaws
+pub mod PlaceLaws
+pub mod EmptyLaws
+pub mod ShownLaws

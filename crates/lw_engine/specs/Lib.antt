@@ -1,0 +1,7 @@
+pub mod Span
+pub mod PlainBitmap
+pub mod Plain
+pub mod StandsFor
+pub mod Shown
+pub mod Filled
+pub mod Place

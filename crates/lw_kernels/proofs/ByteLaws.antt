@@ -1,0 +1,172 @@
+-- Laws of single bytes, bit by bit from the left.
+use Rattle.std.proofs.Common.{◌≡◌, ℕ, suc, zero, ◌+◌, ◌-◌, ◌*◌, ◌/◌, ◌%◌, ◌^◌, ◌<◌, ◌≤◌, ◌==◌, ◌&&◌, nat_lt, nat_le, nat_eq, min, max, if◌then◌else◌, Bool, true, false, List, get_or, bit_and, bit_or, ap, refl, ◌∙◌, ⊎_elim, arith}
+use Rattle.std.specs.Int.{bit_at, w8}
+use Rattle.std.proofs.lemmas.Bool.{cases_lt}
+use Rattle.std.proofs.lemmas.Bool.Decides.{nat_tests}
+use Rattle.std.proofs.lemmas.Nat.{shr-shr}
+use Rattle.std.proofs.lemmas.Nat.Bits.{bit_at-lt, bit_at_ones, bit_at_ones_above, bit_at_not, bit_at_and, bit_at_or, bit_at_cat_low, bit_at_cat_high}
+use Rattle.lw_planes.specs.Row.{bit_of, row_bit}
+use Rattle.lw_planes.specs.Minterm.{minterm_bit}
+use Rattle.lw_planes.proofs.BitLaws.{bit-tested}
+use Rattle.lw_kernels.specs.Kernel.{is_between}
+
+-- every bit of the byte of ones is 1
+pub bit_at-all_ones : (i : ℕ) → i < 8 → bit_at 255 i ≡ 1
+bit_at-all_ones i low = bit_at_ones 8 i low
+
+-- a shifted number has the bits from the shift on
+pub bit_at-shr : (n k i : ℕ) → bit_at (n / 2 ^ k) i ≡ bit_at n (k + i)
+bit_at-shr n k i = ap (λ m. m % 2) (shr-shr n k i)
+
+-- a choice by an order, from both of its cases
+chosen_below : (j n v a b : ℕ) → (j < n → v ≡ a) → (n ≤ j → v ≡ b) → v ≡ (if nat_lt j n then a else b)
+chosen_below j n v a b below past =
+    ⊎_elim
+    (λ (low : j < n). let is : v ≡ a = below low in grind (arith, nat_tests))
+    (λ (high : n ≤ j). let is : v ≡ b = past high in grind (arith, nat_tests))
+    (cases_lt j n)
+
+-- the ones that are not before a bit
+pub bit_at-ones_from : (first j : ℕ) → first ≤ 8 → j < 8 → bit_at (255 / 2 ^ first) (7 - j) ≡ (if nat_lt j first then 0 else 1)
+bit_at-ones_from first j most low =
+    chosen_below j first (bit_at (255 / 2 ^ first) (7 - j)) 0 1
+    (λ before. let high : 8 ≤ first + (7 - j) = omega arith in bit_at-shr 255 first (7 - j) ∙ bit_at_ones_above 8 (first + (7 - j)) high)
+    (λ past. let small : first + (7 - j) < 8 = omega arith in bit_at-shr 255 first (7 - j) ∙ bit_at_ones 8 (first + (7 - j)) small)
+
+-- the bits of one byte that another one leaves out
+bit_at-and_not : (a b i : ℕ) → b < 256 → i < 8 → bit_at (bit_and a (255 - b)) i ≡ min (bit_at a i) (1 - bit_at b i)
+bit_at-and_not a b i small low = bit_at_and a (255 - b) i ∙ ap (λ n. min (bit_at a i) n) (bit_at_not w8 b i small low)
+
+-- ones from one bit on without those from another on are the bits between
+between_bit : (from end base j first last v a b : ℕ) → j < 8 → first ≡ min (from - base) 8 → last ≡ min (end - base) 8 → a ≡ (if nat_lt j first then 0 else 1) → b ≡ (if nat_lt j last then 0 else 1) → v ≡ min a (1 - b) → v ≡ bit_of (nat_le from (base + j) && nat_lt (base + j) end)
+between_bit from end base j first last v a b low is_first is_last is_a is_b is =
+    ⊎_elim
+    (λ (before : base + j < from). let none : a ≡ 0 = grind (arith, nat_tests) in grind (arith, nat_tests))
+    (λ (after : from ≤ base + j).
+    let one : a ≡ 1 = grind (arith, nat_tests) in
+    ⊎_elim
+    (λ (inside : base + j < end). let kept : b ≡ 0 = grind (arith, nat_tests) in grind (arith, nat_tests))
+    (λ (past : end ≤ base + j). let gone : b ≡ 1 = grind (arith, nat_tests) in grind (arith, nat_tests))
+    (cases_lt (base + j) end))
+    (cases_lt (base + j) from)
+
+-- a mask has the bits between two bits of the row
+pub bit_at-mask : (from end index first last ones_first ones_last j : ℕ) → ones_last < 256 → j < 8 → first ≡ min (from - 8 * index) 8 → last ≡ min (end - 8 * index) 8 → bit_at ones_first (7 - j) ≡ (if nat_lt j first then 0 else 1) → bit_at ones_last (7 - j) ≡ (if nat_lt j last then 0 else 1) → bit_at (bit_and ones_first (255 - ones_last)) (7 - j) ≡ bit_of (is_between from end (8 * index + j))
+bit_at-mask from end index first last ones_first ones_last j small low is_first is_last a b =
+    between_bit from end (8 * index) j first last (bit_at (bit_and ones_first (255 - ones_last)) (7 - j)) (bit_at ones_first (7 - j)) (bit_at ones_last (7 - j)) low is_first is_last a b
+    (bit_at-and_not ones_first ones_last (7 - j) small (omega arith))
+
+-- one bit of what a mask takes from two bytes
+masked_bit : (t : Bool) (value old m : ℕ) → value < 2 → old < 2 → m ≡ bit_of t → max (min value m) (min old (1 - m)) ≡ (if t then value else old)
+masked_bit true value old m a b is = omega arith
+masked_bit false value old m a b is = omega arith
+
+-- a byte whose named bits are those of another
+pub bit_at-replaced : (t : Bool) (value old mask i : ℕ) → mask < 256 → i < 8 → bit_at mask i ≡ bit_of t → bit_at (bit_or (bit_and value mask) (bit_and old (255 - mask))) i ≡ (if t then bit_at value i else bit_at old i)
+bit_at-replaced t value old mask i small low is =
+    bit_at_or (bit_and value mask) (bit_and old (255 - mask)) i ∙
+    (ap (λ n. max n (bit_at (bit_and old (255 - mask)) i)) (bit_at_and value mask i) ∙
+    (ap (λ n. max (min (bit_at value i) (bit_at mask i)) n) (bit_at-and_not old mask i small low) ∙
+    masked_bit t (bit_at value i) (bit_at old i) (bit_at mask i) (bit_at-lt value i) (bit_at-lt old i) is))
+
+-- the low eight bits of a number are its own
+bit_at-low_byte : (n i : ℕ) → i < 8 → bit_at (bit_and n 255) i ≡ bit_at n i
+bit_at-low_byte n i low =
+    let one : bit_at 255 i ≡ 1 = bit_at-all_ones i low in
+    let small : bit_at n i < 2 = bit_at-lt n i in
+    let both : bit_at (bit_and n 255) i ≡ min (bit_at n i) (bit_at 255 i) = bit_at_and n 255 i in
+    omega arith
+
+-- eight bits of a pair of neighbouring bytes
+pub bit_at-pair : (row : List ℕ) (place left right j : ℕ) → right < 256 → j < 8 → left ≡ get_or row (place / 8) 0 → right ≡ get_or row (place / 8 + 1) 0 → bit_at (bit_and ((left * 256 + right) / 2 ^ (8 - place % 8)) 255) (7 - j) ≡ row_bit row (place + j)
+unfolding row_bit
+bit_at-pair row place left right j small low is_left is_right =
+    let i : ℕ = 8 - place % 8 + (7 - j) in
+    let in_byte : 7 - j < 8 = omega arith in
+    bit_at-low_byte ((left * 256 + right) / 2 ^ (8 - place % 8)) (7 - j) in_byte ∙
+    (bit_at-shr (left * 256 + right) (8 - place % 8) (7 - j) ∙
+    ⊎_elim
+    (λ (first : place % 8 + j < 8).
+    let high : 8 ≤ i = omega arith in
+    let byte : (place + j) / 8 ≡ place / 8 = omega arith in
+    let bit : i - 8 ≡ 7 - (place + j) % 8 = omega arith in
+    bit_at_cat_high left 8 right i small high ∙ rw (bit, byte, ← is_left))
+    (λ (second : 8 ≤ place % 8 + j).
+    let in_right : i < 8 = omega arith in
+    let byte : (place + j) / 8 ≡ place / 8 + 1 = omega arith in
+    let bit : i ≡ 7 - (place + j) % 8 = omega arith in
+    bit_at_cat_low left 8 right i in_right ∙ rw (bit, byte, ← is_right))
+    (cases_lt (place % 8 + j) 8))
+
+-- eight bits that begin before the byte, moved to their places in it
+pub bit_at-moved : (row : List ℕ) (byte source_bit to_bit base j : ℕ) → j < 8 → base < to_bit → to_bit ≤ base + j → ((i : ℕ) → i < 8 → bit_at byte (7 - i) ≡ row_bit row (source_bit + i)) → bit_at (byte / 2 ^ (to_bit - base)) (7 - j) ≡ row_bit row (source_bit + (base + j - to_bit))
+bit_at-moved row byte source_bit to_bit base j low before inside bits =
+    let i : ℕ = base + j - to_bit in
+    let in_byte : i < 8 = omega arith in
+    let place : to_bit - base + (7 - j) ≡ 7 - i = omega arith in
+    bit_at-shr byte (to_bit - base) (7 - j) ∙ (ap (λ n. bit_at byte n) place ∙ bits i in_byte)
+
+-- one term of a minterm: what a byte has where its minterm bit is 1
+term : Bool → ℕ → ℕ
+term t bit = if t then bit else 0
+
+-- a term of no bits is 0
+term-none : (t : Bool) → term t 0 ≡ 0
+unfolding term
+term-none true = refl
+term-none false = refl
+
+-- a term of a bit is its minterm bit
+term-one : (t : Bool) → term t 1 ≡ bit_of t
+unfolding term
+term-one t = refl
+
+-- the greatest of four numbers of which three are 0
+greatest-first : (a b c d : ℕ) → b ≡ 0 → c ≡ 0 → d ≡ 0 → max (max (max a b) c) d ≡ a
+greatest-first a b c d p q r = omega arith
+
+greatest-second : (a b c d : ℕ) → a ≡ 0 → c ≡ 0 → d ≡ 0 → max (max (max a b) c) d ≡ b
+greatest-second a b c d p q r = omega arith
+
+greatest-third : (a b c d : ℕ) → a ≡ 0 → b ≡ 0 → d ≡ 0 → max (max (max a b) c) d ≡ c
+greatest-third a b c d p q r = omega arith
+
+greatest-fourth : (a b c d : ℕ) → a ≡ 0 → b ≡ 0 → c ≡ 0 → max (max (max a b) c) d ≡ d
+greatest-fourth a b c d p q r = omega arith
+
+-- of the four terms of a minterm the one for the pair of bits counts
+minterm_terms : (t7 t6 t5 t4 : Bool) (m7 m6 m5 m4 b c : ℕ) → b < 2 → c < 2 → bit_of t7 ≡ m7 → bit_of t6 ≡ m6 → bit_of t5 ≡ m5 → bit_of t4 ≡ m4 → max (max (max (term t7 (min b c)) (term t6 (min b (1 - c)))) (term t5 (min (1 - b) c))) (term t4 (min (1 - b) (1 - c))) ≡ (if b == 1 then (if c == 1 then m7 else m6) else (if c == 1 then m5 else m4))
+minterm_terms t7 t6 t5 t4 m7 m6 m5 m4 zero zero l1 l2 h7 h6 h5 h4 = greatest-fourth (term t7 0) (term t6 0) (term t5 0) (term t4 1) (term-none t7) (term-none t6) (term-none t5) ∙ (term-one t4 ∙ h4)
+minterm_terms t7 t6 t5 t4 m7 m6 m5 m4 zero (suc zero) l1 l2 h7 h6 h5 h4 = greatest-third (term t7 0) (term t6 0) (term t5 1) (term t4 0) (term-none t7) (term-none t6) (term-none t4) ∙ (term-one t5 ∙ h5)
+minterm_terms t7 t6 t5 t4 m7 m6 m5 m4 (suc zero) zero l1 l2 h7 h6 h5 h4 = greatest-second (term t7 0) (term t6 1) (term t5 0) (term t4 0) (term-none t7) (term-none t5) (term-none t4) ∙ (term-one t6 ∙ h6)
+minterm_terms t7 t6 t5 t4 m7 m6 m5 m4 (suc zero) (suc zero) l1 l2 h7 h6 h5 h4 = greatest-first (term t7 1) (term t6 0) (term t5 0) (term t4 0) (term-none t6) (term-none t5) (term-none t4) ∙ (term-one t7 ∙ h7)
+minterm_terms t7 t6 t5 t4 m7 m6 m5 m4 (suc (suc b)) c l1 l2 h7 h6 h5 h4 = absurd (omega arith)
+minterm_terms t7 t6 t5 t4 m7 m6 m5 m4 zero (suc (suc c)) l1 l2 h7 h6 h5 h4 = absurd (omega arith)
+minterm_terms t7 t6 t5 t4 m7 m6 m5 m4 (suc zero) (suc (suc c)) l1 l2 h7 h6 h5 h4 = absurd (omega arith)
+
+-- a bit of four bytes in one
+bit_at-or_four : (p q r s i : ℕ) → bit_at (bit_or (bit_or (bit_or p q) r) s) i ≡ max (max (max (bit_at p i) (bit_at q i)) (bit_at r i)) (bit_at s i)
+bit_at-or_four p q r s i =
+    bit_at_or (bit_or (bit_or p q) r) s i ∙
+    (ap (λ n. max n (bit_at s i)) (bit_at_or (bit_or p q) r i) ∙ ap (λ n. max (max n (bit_at r i)) (bit_at s i)) (bit_at_or p q i))
+
+-- the terms of a minterm, taken from a source byte and an old byte
+pub bit_at-minterm : (minterm source old p q r s i : ℕ) → source < 256 → old < 256 → i < 8 → bit_at p i ≡ (if nat_eq (bit_and (minterm / 128) 1) 1 then bit_at (bit_and source old) i else 0) → bit_at q i ≡ (if nat_eq (bit_and (minterm / 64) 1) 1 then bit_at (bit_and source (255 - old)) i else 0) → bit_at r i ≡ (if nat_eq (bit_and (minterm / 32) 1) 1 then bit_at (bit_and (255 - source) old) i else 0) → bit_at s i ≡ (if nat_eq (bit_and (minterm / 16) 1) 1 then bit_at (bit_and (255 - source) (255 - old)) i else 0) → bit_at (bit_or (bit_or (bit_or p q) r) s) i ≡ minterm_bit minterm (bit_at source i) (bit_at old i)
+unfolding term
+bit_at-minterm minterm source old p q r s i small_source small_old low is_p is_q is_r is_s =
+    let b : ℕ = bit_at source i in
+    let c : ℕ = bit_at old i in
+    let not_b : bit_at (255 - source) i ≡ 1 - b = bit_at_not w8 source i small_source low in
+    let not_c : bit_at (255 - old) i ≡ 1 - c = bit_at_not w8 old i small_old low in
+    let both = is_p ∙ ap (λ n. term (nat_eq (bit_and (minterm / 128) 1) 1) n) (bit_at_and source old i) in
+    let source_alone = is_q ∙ ap (λ n. term (nat_eq (bit_and (minterm / 64) 1) 1) n) (bit_at_and source (255 - old) i ∙ ap (λ n. min b n) not_c) in
+    let old_alone = is_r ∙ ap (λ n. term (nat_eq (bit_and (minterm / 32) 1) 1) n) (bit_at_and (255 - source) old i ∙ ap (λ n. min n c) not_b) in
+    let neither = is_s ∙ ap (λ n. term (nat_eq (bit_and (minterm / 16) 1) 1) n) (bit_at_and (255 - source) (255 - old) i ∙ (ap (λ n. min n (bit_at (255 - old) i)) not_b ∙ ap (λ n. min (1 - b) n) not_c)) in
+    bit_at-or_four p q r s i ∙
+    (ap (λ n. max (max (max n (bit_at q i)) (bit_at r i)) (bit_at s i)) both ∙
+    (ap (λ n. max (max (max (term (nat_eq (bit_and (minterm / 128) 1) 1) (min b c)) n) (bit_at r i)) (bit_at s i)) source_alone ∙
+    (ap (λ n. max (max (max (term (nat_eq (bit_and (minterm / 128) 1) 1) (min b c)) (term (nat_eq (bit_and (minterm / 64) 1) 1) (min b (1 - c)))) n) (bit_at s i)) old_alone ∙
+    (ap (λ n. max (max (max (term (nat_eq (bit_and (minterm / 128) 1) 1) (min b c)) (term (nat_eq (bit_and (minterm / 64) 1) 1) (min b (1 - c)))) (term (nat_eq (bit_and (minterm / 32) 1) 1) (min (1 - b) c))) n) neither ∙
+    minterm_terms (nat_eq (bit_and (minterm / 128) 1) 1) (nat_eq (bit_and (minterm / 64) 1) 1) (nat_eq (bit_and (minterm / 32) 1) 1) (nat_eq (bit_and (minterm / 16) 1) 1)
+    (bit_at minterm 7) (bit_at minterm 6) (bit_at minterm 5) (bit_at minterm 4) b c (bit_at-lt source i) (bit_at-lt old i)
+    (bit-tested minterm 7) (bit-tested minterm 6) (bit-tested minterm 5) (bit-tested minterm 4)))))

@@ -1,0 +1,199 @@
+-- A row that is written byte by byte, to the right or to the left.
+use Rattle.std.proofs.Common.{◌≡◌, ◌≢◌, ℕ, ◌+◌, ◌-◌, ◌*◌, ◌/◌, ◌%◌, ◌<◌, ◌≤◌, ◌&&◌, nat_lt, nat_le, if◌then◌else◌, Bool, true, false, List, length, get_or, set, map, ap, subst, sym, refl, ◌∙◌, ⊎_elim, get_or-set_same, get_or-set_other, zero-add, arith}
+use Rattle.std.specs.Int.{bit_at, div_ceil}
+use Rattle.std.specs.List.{range_with_len}
+use Rattle.std.proofs.lemmas.List.{ext_get_or, get_or_past}
+use Rattle.std.proofs.lemmas.List.FromFn.{length-map-range_with_len, get_or-map-range_with_len}
+use Rattle.std.proofs.lemmas.Bool.{cases_lt, cases_eq}
+use Rattle.std.proofs.lemmas.Bool.Decides.{nat_tests}
+use Rattle.lw_planes.specs.Row.{row_bit, row_bits}
+use Rattle.lw_planes.specs.Minterm.{minterm_bit}
+use Rattle.lw_planes.proofs.RowLaws.{row_bit-at, row_bit-past, row_bits-at, length-row_bits}
+use Rattle.lw_kernels.specs.Kernel.{is_between, is_named, with_named}
+
+-- the bits from `from` on, before `end`, are the new ones in the bytes before `index`, and every other bit is the old one
+abbrev pub DoneBefore : List ℕ → (ℕ → ℕ) → (ℕ → ℕ) → ℕ → ℕ → ℕ → Type 0
+DoneBefore row new old from end index = (x : ℕ) → row_bit row x ≡ (if is_between from end x && nat_lt x (8 * index) then new x else old x)
+
+-- the bits from `from` on, before `end`, are the new ones in the bytes from `index` on, and every other bit is the old one
+abbrev pub DoneFrom : List ℕ → (ℕ → ℕ) → (ℕ → ℕ) → ℕ → ℕ → ℕ → Type 0
+DoneFrom row new old from end index = (x : ℕ) → row_bit row x ≡ (if is_between from end x && nat_le (8 * index) x then new x else old x)
+
+-- all is done
+abbrev pub Done : List ℕ → (ℕ → ℕ) → (ℕ → ℕ) → ℕ → ℕ → Type 0
+Done row new old from end = (x : ℕ) → row_bit row x ≡ (if is_between from end x then new x else old x)
+
+-- a choice whose test is true
+if-true : (t : Bool) (v a b : ℕ) → v ≡ (if t then a else b) → t ≡ true → v ≡ a
+if-true true v a b is h = is
+if-true false v a b is h = cc
+
+-- a choice whose test is false
+if-false : (t : Bool) (v a b : ℕ) → v ≡ (if t then a else b) → t ≡ false → v ≡ b
+if-false true v a b is h = cc
+if-false false v a b is h = is
+
+-- a choice by another test of the same value
+if-test : (t u : Bool) (v a b : ℕ) → v ≡ (if t then a else b) → t ≡ u → v ≡ (if u then a else b)
+if-test t u v a b is h = is ∙ ap (λ q. if q then a else b) h
+
+-- `and` with a true test, and with a false one
+and-true : (t u : Bool) → u ≡ true → (t && u) ≡ t
+and-true true true h = refl
+and-true false true h = refl
+and-true true false h = cc
+and-true false false h = refl
+
+and-false : (t u : Bool) → u ≡ false → (t && u) ≡ false
+and-false true true h = cc
+and-false false true h = refl
+and-false true false h = refl
+and-false false false h = refl
+
+-- tests that hold or don't
+lt-yes : (a b : ℕ) → a < b → nat_lt a b ≡ true
+lt-yes a b h = grind (arith, nat_tests)
+
+lt-no : (a b : ℕ) → b ≤ a → nat_lt a b ≡ false
+lt-no a b h = grind (arith, nat_tests)
+
+le-yes : (a b : ℕ) → a ≤ b → nat_le a b ≡ true
+le-yes a b h = grind (arith, nat_tests)
+
+le-no : (a b : ℕ) → b < a → nat_le a b ≡ false
+le-no a b h = grind (arith, nat_tests)
+
+-- what is between two bits is not before the first
+pub between-from : (from end x : ℕ) → is_between from end x ≡ true → from ≤ x
+between-from from end x h = grind (arith, nat_tests)
+
+-- a byte that was written
+pub set-here : (row : List ℕ) (index v x : ℕ) → index < length row → x / 8 ≡ index → row_bit (set row index v) x ≡ bit_at v (7 - x % 8)
+unfolding row_bit
+set-here row index v x inside here = ap (λ p. bit_at p (7 - x % 8)) (rw here (get_or-set_same row index v 0 inside))
+
+-- any other byte
+pub set-elsewhere : (row : List ℕ) (index v x : ℕ) → x / 8 ≢ index → row_bit (set row index v) x ≡ row_bit row x
+unfolding row_bit
+set-elsewhere row index v x apart = ap (λ p. bit_at p (7 - x % 8)) (get_or-set_other row index (x / 8) v 0 apart)
+
+-- a bit of the byte that is written next, seen in the row
+pub byte-old : (row : List ℕ) (index byte j : ℕ) → j < 8 → byte ≡ get_or row index 0 → bit_at byte (7 - j) ≡ row_bit row (8 * index + j)
+byte-old row index byte j low is = ap (λ p. bit_at p (7 - j)) is ∙ sym (row_bit-at row index j low)
+
+-- before the first byte nothing is done
+pub before_none : (row : List ℕ) (new : ℕ → ℕ) (from end index : ℕ) → 8 * index ≤ from → DoneBefore row new (λ x. row_bit row x) from end index
+before_none row new from end index early = λ x. let bit : ℕ = row_bit row x in let other : ℕ = new x in grind (arith, nat_tests)
+
+-- one more byte is done, to the right
+pub before_more : (row : List ℕ) (new old : ℕ → ℕ) (from end index v : ℕ) → index < length row → DoneBefore row new old from end index → ((j : ℕ) → j < 8 → bit_at v (7 - j) ≡ (if is_between from end (8 * index + j) then new (8 * index + j) else old (8 * index + j))) → DoneBefore (set row index v) new old from end (index + 1)
+before_more row new old from end index v inside done byte = λ x.
+    ⊎_elim
+    (λ (here : x / 8 ≡ index).
+    let j : ℕ = x % 8 in
+    let low : j < 8 = omega arith in
+    let place : 8 * index + j ≡ x = omega arith in
+    let test : nat_lt x (8 * (index + 1)) ≡ true = lt-yes x (8 * (index + 1)) (omega arith) in
+    let bit : bit_at v (7 - j) ≡ (if is_between from end x then new x else old x) = subst (λ i. bit_at v (7 - j) ≡ (if is_between from end i then new i else old i)) place (byte j low) in
+    if-test (is_between from end x) (is_between from end x && nat_lt x (8 * (index + 1))) (row_bit (set row index v) x) (new x) (old x)
+    (set-here row index v x inside here ∙ bit) (sym (and-true (is_between from end x) (nat_lt x (8 * (index + 1))) test)))
+    (λ (apart : x / 8 ≢ index).
+    let same : nat_lt x (8 * index) ≡ nat_lt x (8 * (index + 1)) =
+    ⊎_elim
+    (λ (before : x < 8 * index). lt-yes x (8 * index) before ∙ sym (lt-yes x (8 * (index + 1)) (omega arith)))
+    (λ (after : 8 * index ≤ x). lt-no x (8 * index) after ∙ sym (lt-no x (8 * (index + 1)) (omega arith)))
+    (cases_lt x (8 * index))
+    in
+    if-test (is_between from end x && nat_lt x (8 * index)) (is_between from end x && nat_lt x (8 * (index + 1))) (row_bit (set row index v) x) (new x) (old x)
+    (set-elsewhere row index v x apart ∙ done x) (ap (λ t. is_between from end x && t) same))
+    (cases_eq (x / 8) index)
+
+-- after the last byte all is done
+pub before_all : (row : List ℕ) (new old : ℕ → ℕ) (from end index : ℕ) → end ≤ 8 * index → DoneBefore row new old from end index → Done row new old from end
+before_all row new old from end index late done = λ x. let is = done x in let a : ℕ = new x in let b : ℕ = old x in grind (arith, nat_tests)
+
+-- to the right: what isn't yet done is old
+pub before_old : (row : List ℕ) (new old : ℕ → ℕ) (from end index x : ℕ) → DoneBefore row new old from end index → 8 * index ≤ x → row_bit row x ≡ old x
+before_old row new old from end index x done late =
+    if-false (is_between from end x && nat_lt x (8 * index)) (row_bit row x) (new x) (old x) (done x) (and-false (is_between from end x) (nat_lt x (8 * index)) (lt-no x (8 * index) late))
+
+-- after the last byte nothing is done
+pub from_none : (row : List ℕ) (new : ℕ → ℕ) (from end index : ℕ) → end ≤ 8 * index → DoneFrom row new (λ x. row_bit row x) from end index
+from_none row new from end index late = λ x. let bit : ℕ = row_bit row x in let other : ℕ = new x in grind (arith, nat_tests)
+
+-- one more byte is done, to the left
+pub from_more : (row : List ℕ) (new old : ℕ → ℕ) (from end index next v : ℕ) → index < length row → next ≡ index + 1 → DoneFrom row new old from end next → ((j : ℕ) → j < 8 → bit_at v (7 - j) ≡ (if is_between from end (8 * index + j) then new (8 * index + j) else old (8 * index + j))) → DoneFrom (set row index v) new old from end index
+from_more row new old from end index next v inside is_next done byte = λ x.
+    ⊎_elim
+    (λ (here : x / 8 ≡ index).
+    let j : ℕ = x % 8 in
+    let low : j < 8 = omega arith in
+    let place : 8 * index + j ≡ x = omega arith in
+    let test : nat_le (8 * index) x ≡ true = le-yes (8 * index) x (omega arith) in
+    let bit : bit_at v (7 - j) ≡ (if is_between from end x then new x else old x) = subst (λ i. bit_at v (7 - j) ≡ (if is_between from end i then new i else old i)) place (byte j low) in
+    if-test (is_between from end x) (is_between from end x && nat_le (8 * index) x) (row_bit (set row index v) x) (new x) (old x)
+    (set-here row index v x inside here ∙ bit) (sym (and-true (is_between from end x) (nat_le (8 * index) x) test)))
+    (λ (apart : x / 8 ≢ index).
+    let same : nat_le (8 * next) x ≡ nat_le (8 * index) x =
+    ⊎_elim
+    (λ (before : x < 8 * next). le-no (8 * next) x before ∙ sym (le-no (8 * index) x (omega arith)))
+    (λ (after : 8 * next ≤ x). le-yes (8 * next) x after ∙ sym (le-yes (8 * index) x (omega arith)))
+    (cases_lt x (8 * next))
+    in
+    if-test (is_between from end x && nat_le (8 * next) x) (is_between from end x && nat_le (8 * index) x) (row_bit (set row index v) x) (new x) (old x)
+    (set-elsewhere row index v x apart ∙ done x) (ap (λ t. is_between from end x && t) same))
+    (cases_eq (x / 8) index)
+
+-- before the first byte all is done
+pub from_all : (row : List ℕ) (new old : ℕ → ℕ) (from end index : ℕ) → 8 * index ≤ from → DoneFrom row new old from end index → Done row new old from end
+from_all row new old from end index early done = λ x. let is = done x in let a : ℕ = new x in let b : ℕ = old x in grind (arith, nat_tests)
+
+-- to the left: what isn't yet done is old
+pub from_old : (row : List ℕ) (new old : ℕ → ℕ) (from end index x : ℕ) → DoneFrom row new old from end index → x < 8 * index → row_bit row x ≡ old x
+from_old row new old from end index x done early =
+    if-false (is_between from end x && nat_le (8 * index) x) (row_bit row x) (new x) (old x) (done x) (and-false (is_between from end x) (nat_le (8 * index) x) (le-no (8 * index) x early))
+
+-- the byte that is written has new bits where they are between the two, and old ones elsewhere
+pub byte_bit : (t : Bool) (v a b new old : ℕ) → v ≡ (if t then a else b) → (t ≡ true → a ≡ new) → b ≡ old → v ≡ (if t then new else old)
+byte_bit true v a b new old is here other = is ∙ here refl
+byte_bit false v a b new old is here other = is ∙ other
+
+-- the list of a row's bits has each of them, and none past the row
+pub bits-at : (row : List ℕ) (x : ℕ) → get_or (row_bits row) x 0 ≡ row_bit row x
+bits-at row x =
+    ⊎_elim
+    (λ (inside : x < 8 * length row). row_bits-at row x inside)
+    (λ (past : 8 * length row ≤ x).
+    let long : length (row_bits row) ≤ x = rw (length-row_bits row) past in
+    get_or_past (row_bits row) x 0 long ∙ sym (row_bit-past row x past))
+    (cases_lt x (8 * length row))
+
+-- a choice of equal values
+chosen_same : (t : Bool) (v a b c d : ℕ) → v ≡ (if t then a else b) → a ≡ c → b ≡ d → v ≡ (if t then c else d)
+chosen_same true v a b c d is p q = is ∙ p
+chosen_same false v a b c d is p q = is ∙ q
+
+-- what holds of each bit of a row holds of the list of its bits
+pub with_named-from_bits : (row was : List ℕ) (from count : ℕ) (new at_place : ℕ → ℕ) → length row ≡ length was → ((x : ℕ) → row_bit row x ≡ (if is_named from count x then at_place x else row_bit was x)) → ((x : ℕ) → at_place x ≡ new x) → row_bits row ≡ with_named (row_bits was) from count new
+unfolding with_named
+with_named-from_bits row was from count new at_place same each places =
+    let long : length (row_bits row) ≡ length (row_bits was) = length-row_bits row ∙ (ap (λ n. 8 * n) same ∙ sym (length-row_bits was)) in
+    ext_get_or 0 (row_bits row) (map (λ x. if is_named from count x then new x else get_or (row_bits was) x 0) (range_with_len 0 (length (row_bits was))))
+    (long ∙ sym (length-map-range_with_len (λ x. if is_named from count x then new x else get_or (row_bits was) x 0) 0 (length (row_bits was))))
+    (λ x inside.
+    let low : x < length (row_bits was) = omega (arith, long, inside) in
+    chosen_same (is_named from count x) (get_or (row_bits row) x 0) (at_place x) (row_bit was x) (new x) (get_or (row_bits was) x 0)
+    (bits-at row x ∙ each x) (places x) (sym (bits-at was x)) ∙
+    sym (get_or-map-range_with_len (λ i. if is_named from count i then new i else get_or (row_bits was) i 0) 0 (length (row_bits was)) x x 0 low (zero-add x)))
+
+-- the bytes that are written reach to the end
+pub ceil_reaches : (n : ℕ) → n ≤ 8 * div_ceil n 8
+ceil_reaches n = grind (arith, nat_tests)
+
+-- the bytes that are written are in the row
+pub ceil_inside : (n long index : ℕ) → n ≤ 8 * long → index < div_ceil n 8 → index < long
+ceil_inside n long index inside below = grind (arith, nat_tests)
+
+-- a minterm's value for equal bits
+pub minterm_same : (m b c b' c' : ℕ) → b ≡ b' → c ≡ c' → minterm_bit m b c ≡ minterm_bit m b' c'
+minterm_same m b c b' c' p q = ap (λ n. minterm_bit m n c) p ∙ ap (λ n. minterm_bit m b' n) q

@@ -1,0 +1,77 @@
+// Single bytes of a row, seen as eight bits from the left.
+
+ghost use Rattle.std.specs.Prelude.{◌≡◌, ℕ, ◌+◌, ◌-◌, ◌*◌, ◌^◌, ◌<◌, ◌≤◌, ◌==◌, nat_lt, if◌then◌else◌, length, slice_index};
+ghost use Rattle.std.specs.Int.{bit_at};
+ghost use Rattle.lw_planes.specs.Row.{bit_of, row_bit};
+ghost use Rattle.lw_planes.specs.Minterm.{minterm_bit};
+ghost use Rattle.lw_kernels.specs.Kernel.{is_between};
+
+// The byte whose bits are all this one.
+pub(crate) fn spread(bit: bool) -> u8
+    ensures { (i : ℕ) → i < 8 → bit_at result i ≡ bit_of bit }
+{
+    if bit { 0xff } else { 0 }
+}
+
+// The byte that has a 1 in the bits from the left that are not before this one.
+fn ones_from(first: usize) -> u8
+    requires { first ≤ 8 }
+    ensures { (j : ℕ) → j < 8 → bit_at result (7 - j) ≡ (if nat_lt j first then 0 else 1) }
+{
+    (0xff_u16 >> first) as u8
+}
+
+// The bits of byte `index` of a row that stand from bit `from` of the row on, before bit `end`.
+fn mask(from: usize, end: usize, index: usize) -> u8
+    requires { index < 2 ^ 60 }
+    ensures { (j : ℕ) → j < 8 → bit_at result (7 - j) ≡ bit_of (is_between from end (8 * index + j)) }
+{
+    let first = from.saturating_sub(8 * index).min(8);
+    let last = end.saturating_sub(8 * index).min(8);
+    ones_from(first) & !ones_from(last)
+}
+
+// Byte `index` of a row, with the bits of `value` in the place of its own from bit `from` of the row on,
+// before bit `end`.
+pub(crate) fn replaced(old: u8, value: u8, from: usize, end: usize, index: usize) -> u8
+    requires { index < 2 ^ 60 }
+    ensures { (j : ℕ) → j < 8 → bit_at result (7 - j) ≡ (if is_between from end (8 * index + j)
+        then bit_at value (7 - j)
+        else bit_at old (7 - j)) }
+{
+    let mask = mask(from, end, index);
+    (value & mask) | (old & !mask)
+}
+
+// Byte `index` of a row, and 0 past its end.
+fn byte_at(row: &[u8], index: usize) -> u8
+    ensures { result ≡ slice_index row.now index }
+{
+    row.get(index).copied().unwrap_or(0)
+}
+
+// The eight bits of a row from this place on, zeros past its end.
+pub(crate) fn eight_bits(row: &[u8], place: usize) -> u8
+    ensures { (j : ℕ) → j < 8 → bit_at result (7 - j) ≡ row_bit row.now (place + j) }
+{
+    let index = place / 8;
+    let pair = u16::from(byte_at(row, index)) * 256 + u16::from(byte_at(row, index + 1));
+    ((pair >> (8 - place % 8)) & 0xff) as u8
+}
+
+// The byte or no bits.
+fn if_set(chosen: bool, byte: u8) -> u8
+    ensures { (i : ℕ) → bit_at result i ≡ (if chosen then bit_at byte i else 0) }
+{
+    if chosen { byte } else { 0 }
+}
+
+// The minterm's value for each source bit and old bit of two bytes.
+pub(crate) fn minterm_byte(minterm: u8, source: u8, old: u8) -> u8
+    ensures { (i : ℕ) → i < 8 → bit_at result i ≡ minterm_bit minterm (bit_at source i) (bit_at old i) }
+{
+    if_set((minterm >> 7) & 1 == 1, source & old)
+        | if_set((minterm >> 6) & 1 == 1, source & !old)
+        | if_set((minterm >> 5) & 1 == 1, !source & old)
+        | if_set((minterm >> 4) & 1 == 1, !source & !old)
+}

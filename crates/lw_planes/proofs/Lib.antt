@@ -1,0 +1,9 @@
+pub mod GridLaws
+pub mod PenLaws
+pub mod RowLaws
+pub mod BitLaws
+pub mod BitmapLaws
+pub mod StorageLaws
+pub mod ChangeLaws
+pub mod WriteLaws
+pub mod DefinitionLaws

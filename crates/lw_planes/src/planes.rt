@@ -1,0 +1,196 @@
+ghost use Rattle.std.specs.Prelude.{◌≡◌, ℕ, ◌+◌, ◌*◌, ◌^◌, ◌<◌, ◌≤◌, length, IfOk};
+ghost use Rattle.std.specs.Int.{bit_at};
+ghost use Rattle.std.specs.Borrow.{sem};
+ghost use Rattle.lw_planes.specs.Row.{row_bit};
+ghost use Rattle.lw_planes.specs.Bitmap.{bitmap, pen_at, row_bytes};
+ghost use Rattle.lw_planes.specs.Sizes.{AreSizes, IsPlanes};
+ghost use Rattle.lw_planes.specs.Change.{with_pen};
+ghost use Rattle.lw_planes.specs.Lending.{LendsRow};
+
+use crate::bits::{gathered_pen, scatter_pen};
+use std::alloc::{AllocError, Global};
+use std::marker::Model;
+
+/// A bitmap kept as bit planes, after the `BitMap` structure of graphics.library (the manual's Graphics
+/// Primitives chapter): 1 to 2048 columns, 1 to 2048 rows, 1 to 8 planes. Plane `k` has bit `k` of each
+/// pen; a row of a plane is padded to whole 16-bit words, and its leftmost pixel is the most significant
+/// bit of its first byte. What the padding holds is no part of the bitmap.
+#[derive(Debug, Drop)]
+pub struct Planes {
+    width: u32,
+    height: u32,
+    depth: u32,
+    bytes: Vec<u8>,
+}
+
+impl Model for Planes {
+    ghost use Rattle.lw_planes.specs.Bitmap.{Bitmap};
+    ghost use Rattle.lw_planes.specs.Storage.{stored, IsStored};
+
+    ghost Value = { Bitmap };
+
+    ghost view = { λ p. stored p.width p.height p.depth p.bytes.items };
+
+    ghost invariant = { λ p. IsStored p.width p.height p.depth p.bytes.items };
+}
+
+impl Planes {
+    /// A bitmap of these sizes whose every pen is 0.
+    pub fn new(alloc: Global, width: u32, height: u32, depth: u32) -> Result<Planes, AllocError>
+        requires { AreSizes width height depth }
+        ensures { IfOk result (λ planes. planes ≡ bitmap width height depth (λ _ _. 0)) }
+    {
+        let length = depth as usize * height as usize * row_length(width);
+        let bytes = vec![in alloc; 0; length]?;
+        Ok(Planes {
+            width,
+            height,
+            depth,
+            bytes,
+        })
+    }
+
+    /// The number of columns, 1 to 2048.
+    pub fn width(&self) -> u32
+        ensures value { result ≡ self.now.width }
+        ensures planes { IsPlanes self.now }
+    {
+        self.width
+    }
+
+    /// The number of rows, 1 to 2048.
+    pub fn height(&self) -> u32
+        ensures value { result ≡ self.now.height }
+        ensures planes { IsPlanes self.now }
+    {
+        self.height
+    }
+
+    /// The number of planes, 1 to 8: each pen is below 2 to this power.
+    pub fn depth(&self) -> u32
+        ensures value { result ≡ self.now.depth }
+        ensures planes { IsPlanes self.now }
+    {
+        self.depth
+    }
+
+    /// The pen at column `x` and row `y`, both in range.
+    pub fn pen(&self, x: u32, y: u32) -> u8
+        requires column { x < self.now.width }
+        requires line { y < self.now.height }
+        ensures value { result ≡ pen_at self.now x y }
+        ensures small { result < 2 ^ self.now.depth }
+    {
+        let step = self.height as usize * row_length(self.width) * 8;
+        let place = y as usize * row_length(self.width) * 8 + x as usize;
+        gathered_pen(&self.bytes, place, step, self.depth)
+    }
+
+    /// Gives the pixel at column `x` and row `y`, both in range, this pen, which is below 2 to the
+    /// power of the depth. Every other pixel stays as it was.
+    pub fn set_pen(&mut self, x: u32, y: u32, pen: u8)
+        requires column { x < self.old.width }
+        requires line { y < self.old.height }
+        requires small { pen < 2 ^ self.old.depth }
+        ensures { self.new ≡ with_pen self.old x y pen }
+    {
+        let step = self.height as usize * row_length(self.width) * 8;
+        let place = y as usize * row_length(self.width) * 8 + x as usize;
+        scatter_pen(self.bytes.as_mut_slice(), place, step, self.depth, pen);
+    }
+
+    /// The bytes of row `y` of one plane, both in range: `((width + 15) / 16) * 2` of them, the leftmost
+    /// pixel in the most significant bit of the first.
+    pub fn row(&self, plane: u32, y: u32) -> &[u8]
+        requires plane { plane < self.now.depth }
+        requires line { y < self.now.height }
+        ensures long { length result.now ≡ row_bytes self.now.width }
+        ensures bits { (x : ℕ) → x < self.now.width →
+            row_bit result.now x ≡ bit_at (pen_at self.now x y) plane }
+    {
+        let length = row_length(self.width);
+        let start = row_start(self.height, length, plane, y);
+        &self.bytes[start..start + length]
+    }
+
+    /// Lends the bytes of row `y` of one plane, both in range. After the loan each pixel of this row has
+    /// in this plane the bit that the bytes then hold, and all else stays as it was.
+    pub fn row_mut(&mut self, plane: u32, y: u32) -> &mut [u8]
+        requires plane { plane < self.old.depth }
+        requires line { y < self.old.height }
+        ensures* writes_back { sem 𝓛 (LendsRow self.entry plane y result) }
+        ensures long { length result.now ≡ row_bytes self.old.width }
+        ensures bits { (x : ℕ) → x < self.old.width →
+            row_bit result.now x ≡ bit_at (pen_at self.old x y) plane }
+        ensures planes { IsPlanes self.old }
+    {
+        let length = row_length(self.width);
+        let start = row_start(self.height, length, plane, y);
+        self.bytes.slice_mut(start..start + length)
+    }
+}
+
+// How many bytes a row of one plane has.
+fn row_length(width: u32) -> usize
+    requires { width ≤ 2048 }
+    ensures { result ≡ row_bytes width }
+{
+    (width as usize + 15) / 16 * 2
+}
+
+// The index of the first byte of row `y` of one plane.
+fn row_start(height: u32, length: usize, plane: u32, y: u32) -> usize
+    requires { (plane * height + y) * length < 2 ^ 32 }
+    ensures { result ≡ (plane * height + y) * length }
+{
+    (plane as usize * height as usize + y as usize) * length
+}
+
+#[cfg(test)]
+mod tests {
+    use super::*;
+    use std::test::Fail;
+
+    // Pixel (0, 0) has pen 2, pixel (9, 0) pen 1, pixel (16, 1) pen 3, every other pixel pen 0.
+    #[test]
+    fn rows_have_the_bits_of_the_pens(rt: HostRuntime) -> Result<(), Fail> {
+        let mut planes = Planes::new(rt.alloc(), 17, 2, 2)?;
+        assert_eq!(rt;
+            (planes.width(), planes.height(), planes.depth()),
+            (17, 2, 2)
+        );
+        planes.set_pen(0, 0, 2);
+        planes.set_pen(9, 0, 1);
+        planes.set_pen(16, 1, 3);
+        assert_eq!(rt; planes.row(0, 0), [0, 0x40, 0, 0].as_slice());
+        assert_eq!(rt; planes.row(1, 0), [0x80, 0, 0, 0].as_slice());
+        assert_eq!(rt; planes.row(0, 1), [0, 0, 0x80, 0].as_slice());
+        assert_eq!(rt; planes.row(1, 1), [0, 0, 0x80, 0].as_slice());
+        assert_eq!(rt;
+            (planes.pen(0, 0), planes.pen(9, 0), planes.pen(16, 1)),
+            (2, 1, 3)
+        );
+        assert_eq!(rt;
+            (planes.pen(1, 0), planes.pen(0, 1), planes.pen(16, 0)),
+            (0, 0, 0)
+        );
+        Ok(())
+    }
+
+    // The lent bytes 01 02 and padding give the pixels 7 and 14 of row 1 plane 1's bit, which is 2.
+    #[test]
+    fn a_row_that_was_lent_is_written_back(rt: HostRuntime) -> Result<(), Fail> {
+        let mut planes = Planes::new(rt.alloc(), 16, 2, 2)?;
+        planes.set_pen(7, 1, 1);
+        let row = planes.row_mut(1, 1);
+        row[0] = 1;
+        row[1] = 2;
+        assert_eq!(rt;
+            (planes.pen(7, 1), planes.pen(14, 1), planes.pen(7, 0)),
+            (3, 2, 0)
+        );
+        assert_eq!(rt; planes.row(0, 1), [1, 0].as_slice());
+        assert_eq!(rt; planes.row(1, 1), [1, 2].as_slice());
+        Ok(())
+    }
+}

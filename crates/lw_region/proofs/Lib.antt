@@ -1,0 +1,15 @@
+pub mod Within
+pub mod Meet
+pub mod Order
+pub mod Numbers
+pub mod Runs
+pub mod Stacks
+pub mod Lists
+pub mod Reading
+pub mod Canonical
+pub mod Columns
+pub mod Rows
+pub mod Flat
+pub mod RegionSweep
+pub mod SetOps
+pub mod Disjoint

@@ -1,0 +1,521 @@
+-- The sweep over the rows of two regions, step by step.
+use Rattle.std.proofs.Common.{◌≡◌, ℕ, ◌+◌, ◌<◌, ◌≤◌, Some, None, Bool, true, false, cond, ◌&&◌, ◌||◌, List, [], ◌∷◌, ◌++◌, map, take, drop, length, ℤ, pos, negsuc, ◌+ℤ◌, ◌-ℤ◌, ◌≤ℤ◌, ◌<ℤ◌, refl, ap, sym, ◌∙◌, arith}
+use Rattle.std.specs.Prelude.{int_lt}
+use Rattle.std.specs.List.{between}
+use Rattle.std.specs.Int.{int_min, int_max}
+use Rattle.std.specs.Ordering.{int_eq}
+use Rattle.std.proofs.lemmas.Int.{ints, clamps, by_lt_z}
+use Rattle.std.proofs.lemmas.Bool.{false≢true, or_left, or_from, and_left, and_right, and_parts, and_from, lt-ltb, le-ltb}
+use Rattle.std.proofs.lemmas.List.{take_at, drop_at, append-nil, append_assoc, length-append}
+use Rattle.std.proofs.lemmas.Slice.{between_is}
+use Rattle.lw_region.specs.declared.operation.Operation.{Operation}
+use Rattle.lw_region.specs.Rectangle.{Rectangle, within}
+use Rattle.lw_region.specs.Pixels.{pixels_of}
+use Rattle.lw_region.specs.Bands.{Run, Band, same_runs, covers}
+use Rattle.lw_region.specs.Banded.{IsCanonical, in_runs, AreRuns, in_bands, IsBand, AreBands, flat}
+use Rattle.lw_region.specs.Operations.{holds}
+use Rattle.lw_region.specs.Columns.{in_columns, AreColumns, run_rectangles, IsRowOf}
+use Rattle.lw_region.specs.Rows.{first_row, next_row, begun_band, from_row, same_columns, joined_bottom, down_to, joined_rects, last_place}
+use Rattle.lw_region.proofs.Within.{within_true, within_below, within_above}
+use Rattle.lw_region.proofs.Meet.{same_bounds}
+use Rattle.lw_region.proofs.Numbers.{eq_true, eq_of, of_lt as lt_true}
+use Rattle.lw_region.proofs.Order.{or_none}
+use Rattle.lw_region.proofs.Runs.{in_runs_nil, same_runs_true, same_runs_itself}
+use Rattle.lw_region.proofs.Columns.{holds_none, le_lt_false as lt_false}
+use Rattle.lw_region.proofs.Stacks.{in_bands_nil, in_bands_cons, none_over}
+use Rattle.lw_region.proofs.Canonical.{flat_nil, covers_nil, covers_flat, band_list, are_band_list, bands_flat, flat_canonical}
+use Rattle.lw_region.proofs.Flat.{flat_first, flat_append, first_row_flat, from_bands, from_flat, EndsRow, until_next_row, begun_columns, next_row_further, passed_rows, same_columns_runs, EndAbove, end_lower, end_above_push, end_above_init, end_above_last, in_bands_append, bands_push, bands_taller}
+
+-- The lowest band is apart from those above it: `lowest` has one band, or none where there is no band at all.
+abbrev pub IsLowest : List Band → List Band → Type 0
+IsLowest upper [] = upper ≡ []
+IsLowest upper (l ∷ []) = Unit {0}
+IsLowest upper (l ∷ m ∷ ms) = ⊥
+
+-- The list that is made, after a band: its bands, where the last of them begins, and which pixels it has.
+pub record IsMade (next : ℤ) (has : ℤ → ℤ → Bool) (last : ℕ) (out : List Rectangle) : Type 0 where
+  pub upper : List Band
+  pub lowest : List Band
+  pub short : IsLowest upper lowest
+  pub made : out ≡ flat (upper ++ lowest)
+  pub place : last ≡ length (flat upper)
+  pub are : AreBands (upper ++ lowest)
+  pub ends : EndAbove next (upper ++ lowest)
+  pub pixels : (x y : ℤ) → in_bands (upper ++ lowest) x y ≡ has x y
+
+-- the band of these runs
+abbrev new_band : ℤ → ℤ → List Run → Band
+new_band top bottom rs = record { top = top; bottom = bottom; runs = rs }
+
+one_flat : (b : Band) → flat (b ∷ []) ≡ run_rectangles b.top b.bottom b.runs
+one_flat b = flat_first b [] ∙ (ap (λ w. run_rectangles b.top b.bottom b.runs ++ w) flat_nil ∙ append-nil (run_rectangles b.top b.bottom b.runs))
+
+in_one : (b : Band) (x y : ℤ) → in_bands (b ∷ []) x y ≡ (within b.top y b.bottom && in_runs b.runs x)
+in_one b x y =
+    in_bands_cons b [] x y ∙ (ap (λ w. (within b.top y b.bottom && in_runs b.runs x) || w) (in_bands_nil x y) ∙ or_none _)
+
+no_runs : (top bottom : ℤ) → run_rectangles top bottom [] ≡ []
+unfolding run_rectangles
+no_runs top bottom = refl
+
+joined_none : (upper : List Rectangle) → joined_bottom upper [] ≡ None
+unfolding joined_bottom
+joined_none [] = refl
+joined_none (q ∷ qs) = refl
+
+joined_first : (lower : List Rectangle) → joined_bottom [] lower ≡ None
+unfolding joined_bottom
+joined_first lower = refl
+
+joined_runs : (t u v w : ℤ) (rs ss : List Run) → (rs ≡ [] → ⊥) → (ss ≡ [] → ⊥)
+    → joined_bottom (run_rectangles t u rs) (run_rectangles v w ss) ≡ cond (int_eq (u +ℤ pos 1) v && same_columns (run_rectangles t u rs) (run_rectangles v w ss)) (Some w) None
+unfolding joined_bottom run_rectangles
+joined_runs t u v w [] ss m n = absurd (m refl)
+joined_runs t u v w (r ∷ rs) [] m n = absurd (n refl)
+joined_runs t u v w (r ∷ rs) (s ∷ ss) m n = refl
+
+some_rectangles : (top bottom : ℤ) (rs : List Run) → (rs ≡ [] → ⊥) → 0 < length (run_rectangles top bottom rs)
+unfolding run_rectangles
+some_rectangles top bottom [] n = absurd (n refl)
+some_rectangles top bottom (r ∷ rs) n = omega arith
+
+down_runs : (top bottom to : ℤ) (rs : List Run) → bottom ≤ℤ to → map (λ r. down_to r to) (run_rectangles top bottom rs) ≡ run_rectangles top to rs
+unfolding run_rectangles
+down_runs top bottom to [] h = refl
+down_runs top bottom to (r ∷ rs) h =
+    let e : int_max bottom to ≡ to = omega (arith, ints, clamps) in
+    ap (λ w. w ∷ map (λ s. down_to s to) (run_rectangles top bottom rs)) (same_bounds r.first top r.last (int_max bottom to) r.first top r.last to refl refl refl e)
+    ∙ ap (λ w. record { min_x = r.first; min_y = top; max_x = r.last; max_y = to } ∷ w) (down_runs top bottom to rs h)
+
+-- the pixels with those of a further band
+abbrev pub with_row : (ℤ → ℤ → Bool) → ℤ → ℤ → List Run → ℤ → ℤ → Bool
+with_row has row next rs x y = has x y || (within row y (next -ℤ pos 1) && in_runs rs x)
+
+-- a list with a band added, as it is then joined
+abbrev Joined : ℤ → (ℤ → ℤ → Bool) → List Rectangle → ℕ → ℕ → Type 0
+Joined next has rects last start =
+    let o = joined_bottom (between last start rects) (drop start rects) in
+    IsMade next has (last_place o rects last start) (joined_rects o rects last start)
+
+-- the three parts of a list in which a band was added
+record Parts (p q r : List Rectangle) (last start : ℕ) (rects : List Rectangle) : Type 0 where
+  front : take last rects ≡ p
+  middle : between last start rects ≡ q
+  back : drop start rects ≡ r
+  whole : rects ≡ (p ++ q) ++ r
+
+parts : (p q r : List Rectangle) (last start : ℕ) (rects : List Rectangle) → rects ≡ (p ++ q) ++ r → last ≡ length p → start ≡ length (p ++ q) → Parts p q r last start rects
+parts p q r last start rects e f g =
+    record {
+      front = ap (take last) (e ∙ append_assoc p q r) ∙ take_at p (q ++ r) last (sym f);
+      middle = between_is rects last start ∙ (ap (λ w. drop last (take start w)) e ∙ (ap (drop last) (take_at (p ++ q) r start (sym g)) ∙ drop_at p q last (sym f)));
+      back = ap (drop start) e ∙ drop_at (p ++ q) r start (sym g);
+      whole = e;
+    }
+
+-- no band is added where there is no run
+no_band : (row next : ℤ) (has : ℤ → ℤ → Bool) (last : ℕ) (out rects : List Rectangle) → row <ℤ next → IsMade row has last out → rects ≡ out
+    → joined_bottom (between last (length out) rects) (drop (length out) rects) ≡ None
+    → Joined next (with_row has row next []) rects last (length out)
+no_band row next has last out rects l s e j =
+    let n : last_place None rects last (length out) ≡ last = ap (λ w. cond w (length out) last) (le-ltb (length out) (length rects) (omega (arith, ap length e))) in
+    let m : IsMade next (with_row has row next []) (last_place None rects last (length out)) rects =
+    record {
+      upper = s.upper;
+      lowest = s.lowest;
+      short = s.short;
+      made = e ∙ s.made;
+      place = n ∙ s.place;
+      are = s.are;
+      ends = end_lower row next (s.upper ++ s.lowest) (omega (arith, ints)) s.ends;
+      pixels = λ x y. s.pixels x y ∙ (sym (or_none (has x y)) ∙ ap (λ w. has x y || w) (sym (and_right (within row y (next -ℤ pos 1)) (in_runs [] x) (in_runs_nil x))));
+    } in
+    rw j m
+
+module _ (row next : ℤ) (has : ℤ → ℤ → Bool) (last : ℕ) (out rects : List Rectangle) (rs : List Run)
+    (further : row <ℤ next) (are : AreRuns rs) (some : rs ≡ [] → ⊥) (added : rects ≡ out ++ run_rectangles row (next -ℤ pos 1) rs) where
+  is_band : IsBand (new_band row (next -ℤ pos 1) rs)
+  is_band = record { rows = omega (arith, ints); some = some; runs = are }
+
+  longer : last_place None rects last (length out) ≡ length out
+  longer =
+      let k = some_rectangles row (next -ℤ pos 1) rs some in
+      ap (λ w. cond w (length out) last) (lt-ltb (length out) (length rects) (omega (arith, ap length added ∙ length-append out (run_rectangles row (next -ℤ pos 1) rs))))
+
+  -- the first band of all
+  first_band : IsMade row has last out → out ≡ [] → ((x y : ℤ) → has x y ≡ false) → last ≡ 0 → Joined next (with_row has row next rs) rects last (length out)
+  first_band s e f g =
+      let b = new_band row (next -ℤ pos 1) rs in
+      let j : joined_bottom (between last (length out) rects) (drop (length out) rects) ≡ None =
+      ap (λ w. joined_bottom w (drop (length out) rects)) (between_is rects last (length out) ∙ (ap (λ w. drop last (take (length w) rects)) e ∙ ap (λ w. drop w (take 0 rects)) g))
+      ∙ joined_first (drop (length out) rects) in
+      let m : IsMade next (with_row has row next rs) (last_place None rects last (length out)) rects =
+      record {
+        upper = [];
+        lowest = b ∷ [];
+        short = tt;
+        made = added ∙ (ap (λ w. w ++ run_rectangles row (next -ℤ pos 1) rs) e ∙ sym (one_flat b));
+        place = longer ∙ (ap length e ∙ ap length (sym flat_nil));
+        are = (is_band, tt, tt);
+        ends = (omega (arith, ints), tt);
+        pixels = λ x y. in_one b x y ∙ ap (λ w. w || (within row y (next -ℤ pos 1) && in_runs rs x)) (sym (f x y));
+      } in
+      rw j m
+
+  -- a further band that is not joined to the last one
+  below_band : (upper : List Band) (l : Band) → out ≡ flat (upper ++ l ∷ []) → AreBands (upper ++ l ∷ []) → EndAbove row (upper ++ l ∷ [])
+      → ((x y : ℤ) → in_bands (upper ++ l ∷ []) x y ≡ has x y)
+      → (l.bottom +ℤ pos 1 ≡ row → l.runs ≡ rs → ⊥)
+      → joined_bottom (between last (length out) rects) (drop (length out) rects) ≡ None
+      → Joined next (with_row has row next rs) rects last (length out)
+  below_band upper l e h k p d j =
+      let b = new_band row (next -ℤ pos 1) rs in
+      let g : (upper ++ l ∷ []) ++ b ∷ [] ≡ upper ++ l ∷ b ∷ [] = append_assoc upper (l ∷ []) (b ∷ []) in
+      let m : IsMade next (with_row has row next rs) (last_place None rects last (length out)) rects =
+      record {
+        upper = upper ++ l ∷ [];
+        lowest = b ∷ [];
+        short = tt;
+        made = added ∙ (ap (λ w. w ++ run_rectangles row (next -ℤ pos 1) rs) e
+            ∙ (ap (λ w. flat (upper ++ l ∷ []) ++ w) (sym (one_flat b)) ∙ sym (flat_append (upper ++ l ∷ []) (b ∷ []))));
+        place = longer ∙ ap length e;
+        are = rw g (bands_push l b upper h (end_above_last row l upper k, d) is_band);
+        ends = end_above_push next b (upper ++ l ∷ []) (end_lower row next (upper ++ l ∷ []) (omega (arith, ints)) k) (omega (arith, ints));
+        pixels = λ x y. in_bands_append (upper ++ l ∷ []) (b ∷ []) x y
+            ∙ (ap (λ w. w || in_bands (b ∷ []) x y) (p x y) ∙ ap (λ w. has x y || w) (in_one b x y));
+      } in
+      rw j m
+
+  within_joined : (t u y : ℤ) → t ≤ℤ u → u +ℤ pos 1 ≡ row → (within t y u || within row y (next -ℤ pos 1)) ≡ within t y (next -ℤ pos 1)
+  within_joined t u y h e =
+      by_lt_z y t
+      (λ a. or_from _ _ (within_below t y u a) (within_below row y (next -ℤ pos 1) (omega (arith, ints))) ∙ sym (within_below t y (next -ℤ pos 1) a))
+      (λ a. by_lt_z u y
+      (λ b. ap (λ w. w || within row y (next -ℤ pos 1)) (within_above t y u b) ∙ by_lt_z (next -ℤ pos 1) y
+      (λ g. within_above row y (next -ℤ pos 1) g ∙ sym (within_above t y (next -ℤ pos 1) g))
+      (λ g. within_true row y (next -ℤ pos 1) (omega (arith, ints)) g ∙ sym (within_true t y (next -ℤ pos 1) a g)))
+      (λ b. or_left _ _ (within_true t y u a b) ∙ sym (within_true t y (next -ℤ pos 1) a (omega (arith, ints)))))
+
+  and_or : (p q t : Bool) → ((p && t) || (q && t)) ≡ ((p || q) && t)
+  and_or true true true = refl
+  and_or true true false = refl
+  and_or true false true = refl
+  and_or true false false = refl
+  and_or false q t = refl
+
+  or_group : (p q r : Bool) → ((p || q) || r) ≡ (p || (q || r))
+  or_group true q r = refl
+  or_group false q r = refl
+
+  -- a further band that is joined to the last one
+  joined_band : (upper : List Band) (l : Band) → out ≡ flat (upper ++ l ∷ []) → AreBands (upper ++ l ∷ []) → IsBand l → EndAbove row (upper ++ l ∷ [])
+      → ((x y : ℤ) → in_bands (upper ++ l ∷ []) x y ≡ has x y) → last ≡ length (flat upper)
+      → l.bottom +ℤ pos 1 ≡ row → l.runs ≡ rs
+      → joined_bottom (between last (length out) rects) (drop (length out) rects) ≡ Some (next -ℤ pos 1)
+      → take last rects ≡ flat upper → between last (length out) rects ≡ run_rectangles l.top l.bottom l.runs
+      → Joined next (with_row has row next rs) rects last (length out)
+  joined_band upper l e h i k p g a f j front middle =
+      let b = new_band l.top (next -ℤ pos 1) l.runs in
+      let q = i.rows in
+      let m : IsMade next (with_row has row next rs) last (take last rects ++ map (λ r. down_to r (next -ℤ pos 1)) (between last (length out) rects)) =
+      record {
+        upper = upper;
+        lowest = b ∷ [];
+        short = tt;
+        made = ap (λ w. w ++ map (λ r. down_to r (next -ℤ pos 1)) (between last (length out) rects)) front
+            ∙ (ap (λ w. flat upper ++ map (λ r. down_to r (next -ℤ pos 1)) w) middle
+            ∙ (ap (λ w. flat upper ++ w) (down_runs l.top l.bottom (next -ℤ pos 1) l.runs (omega (arith, ints)) ∙ sym (one_flat b)) ∙ sym (flat_append upper (b ∷ []))));
+        place = g;
+        are = bands_taller l b upper refl refl (record { rows = omega (arith, ints); some = i.some; runs = i.runs }) h;
+        ends = end_above_push next b upper (end_lower row next upper (omega (arith, ints)) (end_above_init row l upper k)) (omega (arith, ints));
+        pixels = λ x y.
+            in_bands_append upper (b ∷ []) x y
+            ∙ (ap (λ w. in_bands upper x y || w) (in_one b x y
+            ∙ (ap (λ w. w && in_runs l.runs x) (sym (within_joined l.top l.bottom y q a))
+            ∙ (sym (and_or (within l.top y l.bottom) (within row y (next -ℤ pos 1)) (in_runs l.runs x))
+            ∙ (ap (λ w. w || (within row y (next -ℤ pos 1) && in_runs l.runs x)) (sym (in_one l x y))
+            ∙ ap (λ w. in_bands (l ∷ []) x y || (within row y (next -ℤ pos 1) && in_runs w x)) f))))
+            ∙ (sym (or_group (in_bands upper x y) (in_bands (l ∷ []) x y) (within row y (next -ℤ pos 1) && in_runs rs x))
+            ∙ ap (λ w. w || (within row y (next -ℤ pos 1) && in_runs rs x)) (sym (in_bands_append upper (l ∷ []) x y) ∙ p x y)));
+      } in
+      rw j m
+
+last_is_band : (us : List Band) (l : Band) → AreBands (us ++ l ∷ []) → IsBand l
+last_is_band [] l h = h.0
+last_is_band (u ∷ us) l h = last_is_band us l h.2
+
+-- the two last bands are joined where they go on with the same runs
+next_band_step : (row next : ℤ) (has : ℤ → ℤ → Bool) (last : ℕ) (out rects : List Rectangle) (rs : List Run) → row <ℤ next → AreRuns rs → (rs ≡ [] → ⊥)
+    → rects ≡ out ++ run_rectangles row (next -ℤ pos 1) rs → (upper : List Band) (l : Band)
+    → out ≡ flat (upper ++ l ∷ []) → last ≡ length (flat upper) → AreBands (upper ++ l ∷ []) → EndAbove row (upper ++ l ∷ [])
+    → ((x y : ℤ) → in_bands (upper ++ l ∷ []) x y ≡ has x y)
+    → Parts (flat upper) (run_rectangles l.top l.bottom l.runs) (run_rectangles row (next -ℤ pos 1) rs) last (length out) rects
+    → (t : Bool) → (int_eq (l.bottom +ℤ pos 1) row && same_runs l.runs rs) ≡ t
+    → joined_bottom (between last (length out) rects) (drop (length out) rects) ≡ cond t (Some (next -ℤ pos 1)) None
+    → Joined next (with_row has row next rs) rects last (length out)
+next_band_step row next has last out rects rs f k n m upper l e g h i p q true t j =
+    let u = and_parts (int_eq (l.bottom +ℤ pos 1) row) (same_runs l.runs rs) t in
+    joined_band row next has last out rects rs f k n m upper l e h (last_is_band upper l h) i p g (eq_of (l.bottom +ℤ pos 1) row u.0) (same_runs_true l.runs rs u.1) j q.front q.middle
+next_band_step row next has last out rects rs f k n m upper l e g h i p q false t j =
+    below_band row next has last out rects rs f k n m upper l e h i p
+    (λ a b. false≢true (sym t ∙ and_from _ _ (eq_true (l.bottom +ℤ pos 1) row a) (ap (λ w. same_runs w rs) b ∙ same_runs_itself rs))) j
+
+next_band : (row next : ℤ) (has : ℤ → ℤ → Bool) (last : ℕ) (out rects : List Rectangle) (rs : List Run) → row <ℤ next → AreRuns rs → (rs ≡ [] → ⊥)
+    → rects ≡ out ++ run_rectangles row (next -ℤ pos 1) rs → (upper lowest : List Band) → IsLowest upper lowest
+    → out ≡ flat (upper ++ lowest) → last ≡ length (flat upper) → AreBands (upper ++ lowest) → EndAbove row (upper ++ lowest)
+    → ((x y : ℤ) → in_bands (upper ++ lowest) x y ≡ has x y)
+    → IsMade row has last out
+    → Joined next (with_row has row next rs) rects last (length out)
+next_band row next has last out rects rs f k n m upper [] s e g h i p d =
+    let u : upper ++ [] ≡ [] = append-nil upper ∙ s in
+    first_band row next has last out rects rs f k n m d (e ∙ (ap flat u ∙ flat_nil))
+    (λ x y. sym (p x y) ∙ (ap (λ w. in_bands w x y) u ∙ in_bands_nil x y)) (g ∙ (ap (λ w. length (flat w)) s ∙ ap length flat_nil))
+next_band row next has last out rects rs f k n m upper (l ∷ []) s e g h i p d =
+    let o : out ≡ flat upper ++ run_rectangles l.top l.bottom l.runs = e ∙ (flat_append upper (l ∷ []) ∙ ap (λ w. flat upper ++ w) (one_flat l)) in
+    let q = parts (flat upper) (run_rectangles l.top l.bottom l.runs) (run_rectangles row (next -ℤ pos 1) rs) last (length out) rects
+    (m ∙ ap (λ w. w ++ run_rectangles row (next -ℤ pos 1) rs) o) g (ap length o) in
+    let b = last_is_band upper l h in
+    next_band_step row next has last out rects rs f k n m upper l e g h i p q (int_eq (l.bottom +ℤ pos 1) row && same_runs l.runs rs) refl
+    (ap (λ w. joined_bottom w (drop (length out) rects)) q.middle
+    ∙ (ap (λ w. joined_bottom (run_rectangles l.top l.bottom l.runs) w) q.back
+    ∙ (joined_runs l.top l.bottom row (next -ℤ pos 1) l.runs rs b.some n
+    ∙ ap (λ w. cond (int_eq (l.bottom +ℤ pos 1) row && w) (Some (next -ℤ pos 1)) None) (same_columns_runs l.top l.bottom row (next -ℤ pos 1) l.runs rs))))
+next_band row next has last out rects rs f k n m upper (l ∷ v ∷ vs) s e g h i p d = absurd s
+
+not_nil : (r : Run) (rs : List Run) → (r ∷ rs) ≡ [] → ⊥
+not_nil r rs e = cc
+
+-- a band is added and joined
+band_added : (row next : ℤ) (has : ℤ → ℤ → Bool) (last : ℕ) (out rects : List Rectangle) (rs : List Run) → row <ℤ next → AreRuns rs
+    → rects ≡ out ++ run_rectangles row (next -ℤ pos 1) rs → IsMade row has last out → Joined next (with_row has row next rs) rects last (length out)
+band_added row next has last out rects [] f k m s =
+    let e : rects ≡ out = m ∙ (ap (λ w. out ++ w) (no_runs row (next -ℤ pos 1)) ∙ append-nil out) in
+    no_band row next has last out rects f s e
+    (ap (λ w. joined_bottom (between last (length out) rects) w)
+    (ap (drop (length out)) (e ∙ sym (append-nil out)) ∙ drop_at out [] (length out) refl)
+    ∙ joined_none (between last (length out) rects))
+band_added row next has last out rects (r ∷ rs) f k m s =
+    next_band row next has last out rects (r ∷ rs) f k (λ e. not_nil r rs e) m s.upper s.lowest s.short s.made s.place s.are s.ends s.pixels s
+
+-- The sweep over the rows of a₀ and b₀ has come to row `row`: left_a and left_b are what is left of them, and `out` is the list that
+-- is made of the rows above, whose last band begins at `last`.
+pub record SweepState (operation : Operation) (a₀ b₀ left_a left_b : List Rectangle) (row : ℤ) (last : ℕ) (out : List Rectangle) : Type 0 where
+  pub bands_a : List Band
+  pub is_a : left_a ≡ flat bands_a
+  pub are_a : AreBands bands_a
+  pub ends_a : EndsRow row bands_a
+  pub same_a : (x y : ℤ) → row ≤ℤ y → covers a₀ x y ≡ in_bands bands_a x y
+  pub bands_b : List Band
+  pub is_b : left_b ≡ flat bands_b
+  pub are_b : AreBands bands_b
+  pub ends_b : EndsRow row bands_b
+  pub same_b : (x y : ℤ) → row ≤ℤ y → covers b₀ x y ≡ in_bands bands_b x y
+  pub low : negsuc 32767 ≤ℤ row
+  pub most : row ≤ℤ pos 32768
+  pub made : IsMade row (λ x y. int_lt y row && holds operation (covers a₀ x y) (covers b₀ x y)) last out
+
+made_same : (row : ℤ) (has has' : ℤ → ℤ → Bool) (last : ℕ) (out : List Rectangle) → ((x y : ℤ) → has x y ≡ has' x y) → IsMade row has last out → IsMade row has' last out
+made_same row has has' last out e s =
+    record {
+      upper = s.upper;
+      lowest = s.lowest;
+      short = s.short;
+      made = s.made;
+      place = s.place;
+      are = s.are;
+      ends = s.ends;
+      pixels = λ x y. s.pixels x y ∙ e x y;
+    }
+
+module _ (operation : Operation) (a₀ b₀ left_a left_b : List Rectangle) (row : ℤ) (last : ℕ) (out : List Rectangle)
+    (s : SweepState operation a₀ b₀ left_a left_b row last out) where
+  -- the first bands lie from left to right
+  pub columns_a : AreColumns (begun_band left_a row)
+  columns_a = rw (s.is_a) (begun_columns s.bands_a row s.are_a)
+
+  pub columns_b : AreColumns (begun_band left_b row)
+  columns_b = rw (s.is_b) (begun_columns s.bands_b row s.are_b)
+
+  -- the last band begins in the list
+  pub place_within : last ≤ length out
+  place_within =
+      let m = s.made in
+      let e : length out ≡ length (flat m.upper) + length (flat m.lowest) = ap length (m.made ∙ flat_append m.upper m.lowest) ∙ length-append (flat m.upper) (flat m.lowest) in
+      let f = m.place in
+      omega arith
+
+  row_settled : (h : Bool) (rs : List Run) (next x y : ℤ) → row <ℤ next → (row ≤ℤ y → y <ℤ next → h ≡ in_runs rs x)
+      → ((int_lt y row && h) || (within row y (next -ℤ pos 1) && in_runs rs x)) ≡ (int_lt y next && h)
+  row_settled h rs next x y f e =
+      by_lt_z y row
+      (λ a. ap (λ w. (w && h) || (within row y (next -ℤ pos 1) && in_runs rs x)) (lt_true y row a)
+      ∙ (ap (λ w. h || (w && in_runs rs x)) (within_below row y (next -ℤ pos 1) a)
+      ∙ (or_none h ∙ ap (λ w. w && h) (sym (lt_true y next (omega (arith, ints)))))))
+      (λ a. ap (λ w. (w && h) || (within row y (next -ℤ pos 1) && in_runs rs x)) (lt_false y row a) ∙ by_lt_z y next
+      (λ b. ap (λ w. w && in_runs rs x) (within_true row y (next -ℤ pos 1) a (omega (arith, ints)))
+      ∙ (sym (e a b) ∙ ap (λ w. w && h) (sym (lt_true y next b))))
+      (λ b. ap (λ w. w && in_runs rs x) (within_above row y (next -ℤ pos 1) (omega (arith, ints))) ∙ ap (λ w. w && h) (sym (lt_false y next b))))
+
+  module _ (next : ℤ) (rects : List Rectangle) (further : row <ℤ next) (next_a : next ≤ℤ next_row left_a row) (next_b : next ≤ℤ next_row left_b row) (most : next ≤ℤ pos 32768)
+      (r : IsRowOf operation (begun_band left_a row) (begun_band left_b row) row (next -ℤ pos 1) out rects) where
+    near_a : next ≤ℤ next_row (flat s.bands_a) row
+    near_a = rw s.is_a at next_a
+
+    near_b : next ≤ℤ next_row (flat s.bands_b) row
+    near_b = rw s.is_b at next_b
+
+    -- the rows up to the next change have the runs that are added
+    segment_rows : (x y : ℤ) → row ≤ℤ y → y <ℤ next → holds operation (covers a₀ x y) (covers b₀ x y) ≡ in_runs r.runs x
+    segment_rows x y h k =
+        let p = near_a in
+        let q = near_b in
+        let a = s.same_a x y h ∙ (until_next_row s.bands_a row x y s.are_a s.ends_a h (omega (arith, ints)) ∙ ap (λ w. in_columns (begun_band w row) x) (sym s.is_a)) in
+        let b = s.same_b x y h ∙ (until_next_row s.bands_b row x y s.are_b s.ends_b h (omega (arith, ints)) ∙ ap (λ w. in_columns (begun_band w row) x) (sym s.is_b)) in
+        ap (λ w. holds operation w (covers b₀ x y)) a ∙ (ap (λ w. holds operation (in_columns (begun_band left_a row) x) w) b ∙ sym (r.has x))
+
+    -- one step of the sweep
+    pub sweep_step : let o = joined_bottom (between last (length out) rects) (drop (length out) rects) in
+        SweepState operation a₀ b₀ (from_row left_a next) (from_row left_b next) next (last_place o rects last (length out)) (joined_rects o rects last (length out))
+    sweep_step =
+        let pa = passed_rows s.bands_a row next s.are_a near_a in
+        let pb = passed_rows s.bands_b row next s.are_b near_b in
+        let l = s.low in
+        record {
+          bands_a = from_bands s.bands_a next;
+          is_a = ap (λ w. from_row w next) s.is_a ∙ from_flat s.bands_a next s.are_a;
+          are_a = pa.are;
+          ends_a = pa.ends;
+          same_a = λ x y h. s.same_a x y (omega (arith, ints)) ∙ pa.same x y h;
+          bands_b = from_bands s.bands_b next;
+          is_b = ap (λ w. from_row w next) s.is_b ∙ from_flat s.bands_b next s.are_b;
+          are_b = pb.are;
+          ends_b = pb.ends;
+          same_b = λ x y h. s.same_b x y (omega (arith, ints)) ∙ pb.same x y h;
+          low = omega (arith, ints);
+          most = most;
+          made = made_same next _ _ _ _
+              (λ x y. row_settled (holds operation (covers a₀ x y) (covers b₀ x y)) r.runs next x y further (segment_rows x y))
+              (band_added row next (λ x y. int_lt y row && holds operation (covers a₀ x y) (covers b₀ x y)) last out rects r.runs further r.are r.made s.made);
+        }
+
+next_of_none : (row : ℤ) → next_row [] row ≡ pos 32768
+unfolding next_row
+next_of_none row = refl
+
+further_step : (left_a left_b : List Rectangle) (bs cs : List Band) (row next : ℤ) → left_a ≡ flat bs → left_b ≡ flat cs → AreBands bs → AreBands cs
+    → EndsRow row bs → EndsRow row cs → 0 < length left_a + length left_b → next_row left_a row ≤ℤ pos 32768 → next_row left_b row ≤ℤ pos 32768
+    → next ≡ int_min (next_row left_a row) (next_row left_b row) → row <ℤ next
+further_step left_a left_b [] [] row next e f h k i j n l m g =
+    absurd (omega (arith, ap length (e ∙ flat_nil), ap length (f ∙ flat_nil)))
+further_step left_a left_b [] (c ∷ cs) row next e f h k i j n l m g =
+    let p : next_row left_a row ≡ pos 32768 = ap (λ w. next_row w row) (e ∙ flat_nil) ∙ next_of_none row in
+    let q : row <ℤ next_row left_b row = rw f (next_row_further c cs row k j) in
+    omega (arith, ints, clamps)
+further_step left_a left_b (b ∷ bs) [] row next e f h k i j n l m g =
+    let p : next_row left_b row ≡ pos 32768 = ap (λ w. next_row w row) (f ∙ flat_nil) ∙ next_of_none row in
+    let q : row <ℤ next_row left_a row = rw e (next_row_further b bs row h i) in
+    omega (arith, ints, clamps)
+further_step left_a left_b (b ∷ bs) (c ∷ cs) row next e f h k i j n l m g =
+    let p : row <ℤ next_row left_a row = rw e (next_row_further b bs row h i) in
+    let q : row <ℤ next_row left_b row = rw f (next_row_further c cs row k j) in
+    omega (arith, ints, clamps)
+
+-- while something is left the sweep goes on downwards
+pub sweep_further : (operation : Operation) (a₀ b₀ left_a left_b : List Rectangle) (row : ℤ) (last : ℕ) (out : List Rectangle) (next : ℤ)
+    → SweepState operation a₀ b₀ left_a left_b row last out → 0 < length left_a + length left_b
+    → next_row left_a row ≤ℤ pos 32768 → next_row left_b row ≤ℤ pos 32768 → next ≡ int_min (next_row left_a row) (next_row left_b row) → row <ℤ next
+sweep_further operation a₀ b₀ left_a left_b row last out next s n l m g =
+    further_step left_a left_b s.bands_a s.bands_b row next s.is_a s.is_b s.are_a s.are_b s.ends_a s.ends_b n l m g
+
+first_ends_row : (rects : List Rectangle) (bs : List Band) (row : ℤ) → rects ≡ flat bs → AreBands bs → row ≤ℤ first_row rects → EndsRow row bs
+first_ends_row rects [] row e h k = tt
+first_ends_row rects (b ∷ bs) row e h k =
+    let f : first_row rects ≡ b.top = ap first_row e ∙ first_row_flat b bs h in let p = h.0.rows in omega (arith, ints)
+
+first_over : (rects : List Rectangle) (bs : List Band) (row x y : ℤ) → rects ≡ flat bs → AreBands bs → row ≤ℤ first_row rects → y <ℤ row → in_bands bs x y ≡ false
+first_over rects [] row x y e h k l = in_bands_nil x y
+first_over rects (b ∷ bs) row x y e h k l =
+    let f : first_row rects ≡ b.top = ap first_row e ∙ first_row_flat b bs h in none_over (b ∷ bs) x y h (omega (arith, ints))
+
+canonical_flat : (rects : List Rectangle) → IsCanonical rects → rects ≡ flat (band_list (pixels_of rects))
+canonical_flat rects h = sym h ∙ bands_flat (pixels_of rects)
+
+-- where the sweep begins
+pub sweep_start : (operation : Operation) (a b : List Rectangle) (row : ℤ) → IsCanonical a → IsCanonical b → row ≤ℤ first_row a → row ≤ℤ first_row b
+    → negsuc 32767 ≤ℤ row → row ≤ℤ pos 32768 → SweepState operation a b a b row 0 []
+sweep_start operation a b row h k l m n o =
+    let bs = band_list (pixels_of a) in
+    let cs = band_list (pixels_of b) in
+    let e = canonical_flat a h in
+    let f = canonical_flat b k in
+    let p = are_band_list (pixels_of a) in
+    let q = are_band_list (pixels_of b) in
+    let in_a : (x y : ℤ) → covers a x y ≡ in_bands bs x y = λ x y. ap (λ w. covers w x y) e ∙ covers_flat bs x y in
+    let in_b : (x y : ℤ) → covers b x y ≡ in_bands cs x y = λ x y. ap (λ w. covers w x y) f ∙ covers_flat cs x y in
+    record {
+      bands_a = bs;
+      is_a = e;
+      are_a = p;
+      ends_a = first_ends_row a bs row e p l;
+      same_a = λ x y r. in_a x y;
+      bands_b = cs;
+      is_b = f;
+      are_b = q;
+      ends_b = first_ends_row b cs row f q m;
+      same_b = λ x y r. in_b x y;
+      low = n;
+      most = o;
+      made = record {
+        upper = [];
+        lowest = [];
+        short = refl;
+        made = sym flat_nil;
+        place = sym (ap length flat_nil);
+        are = tt;
+        ends = tt;
+        pixels = λ x y. in_bands_nil x y ∙ by_lt_z y row
+            (λ r. sym (and_right (int_lt y row) _
+            (ap (λ w. holds operation w (covers b x y)) (in_a x y ∙ first_over a bs row x y e p l r)
+            ∙ (ap (λ w. holds operation false w) (in_b x y ∙ first_over b cs row x y f q m r) ∙ holds_none operation))))
+            (λ r. sym (and_left (int_lt y row) _ (lt_false y row r)));
+      };
+    }
+
+-- where the sweep ends
+pub sweep_end : (operation : Operation) (a₀ b₀ : List Rectangle) (row : ℤ) (last : ℕ) (out : List Rectangle) → SweepState operation a₀ b₀ [] [] row last out
+    → IsCanonical out × ((x y : ℤ) → covers out x y ≡ holds operation (covers a₀ x y) (covers b₀ x y))
+sweep_end operation a₀ b₀ row last out s =
+    let m = s.made in
+    let e = m.made in
+    let canonical : IsCanonical out = rw e (flat_canonical (m.upper ++ m.lowest) m.are) in
+    let in_a : (x y : ℤ) → row ≤ℤ y → covers a₀ x y ≡ false = λ x y h.
+    s.same_a x y h ∙ (sym (covers_flat s.bands_a x y) ∙ (ap (λ w. covers w x y) (sym s.is_a) ∙ covers_nil x y)) in
+    let in_b : (x y : ℤ) → row ≤ℤ y → covers b₀ x y ≡ false = λ x y h.
+    s.same_b x y h ∙ (sym (covers_flat s.bands_b x y) ∙ (ap (λ w. covers w x y) (sym s.is_b) ∙ covers_nil x y)) in (
+      canonical,
+      λ x y. ap (λ w. covers w x y) e ∙ (covers_flat (m.upper ++ m.lowest) x y ∙ (m.pixels x y ∙ by_lt_z y row
+          (λ h. ap (λ w. w && holds operation (covers a₀ x y) (covers b₀ x y)) (lt_true y row h))
+          (λ h. ap (λ w. w && holds operation (covers a₀ x y) (covers b₀ x y)) (lt_false y row h)
+          ∙ sym (ap (λ w. holds operation w (covers b₀ x y)) (in_a x y h) ∙ (ap (λ w. holds operation false w) (in_b x y h) ∙ holds_none operation))))),
+    )
+
+-- the same row by other terms
+pub row_of_terms : (operation : Operation) (a b : List Rectangle) (top bottom : ℤ) (before after : List Rectangle) (a' b' : List Rectangle) (top' bottom' : ℤ)
+    → a' ≡ a → b' ≡ b → top' ≡ top → bottom' ≡ bottom → IsRowOf operation a b top bottom before after → IsRowOf operation a' b' top' bottom' before after
+row_of_terms operation a b top bottom before after a' b' top' bottom' e f g h s = rw (e, f, g, h) s
+
+-- the same state by other terms
+pub sweep_move : (operation : Operation) (a₀ b₀ left_a left_b : List Rectangle) (row : ℤ) (last start start' : ℕ) (rects : List Rectangle) (left_a' left_b' : List Rectangle) (last' : ℕ) (out' : List Rectangle)
+    → left_a' ≡ left_a → left_b' ≡ left_b → start' ≡ start
+    → last' ≡ last_place (joined_bottom (between last start' rects) (drop start' rects)) rects last start'
+    → out' ≡ joined_rects (joined_bottom (between last start' rects) (drop start' rects)) rects last start'
+    → SweepState operation a₀ b₀ left_a left_b row (last_place (joined_bottom (between last start rects) (drop start rects)) rects last start)
+    (joined_rects (joined_bottom (between last start rects) (drop start rects)) rects last start)
+    → SweepState operation a₀ b₀ left_a' left_b' row last' out'
+sweep_move operation a₀ b₀ left_a left_b row last start start' rects left_a' left_b' last' out' e f g h k s = rw (e, f, h, k, g) s
+
+-- the state before the first step by other terms
+pub start_move : (operation : Operation) (a₀ b₀ left_a left_b : List Rectangle) (row : ℤ) (last : ℕ) (out left_a' left_b' out' : List Rectangle)
+    → left_a' ≡ left_a → left_b' ≡ left_b → out' ≡ out
+    → SweepState operation a₀ b₀ left_a left_b row last out → SweepState operation a₀ b₀ left_a' left_b' row last out'
+start_move operation a₀ b₀ left_a left_b row last out left_a' left_b' out' e f g s = rw (e, f, g) s

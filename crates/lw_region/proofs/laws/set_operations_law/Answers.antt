@@ -1,0 +1,5 @@
+use Rattle.lw_region.proofs.Reading.{contains_union, contains_intersection, contains_difference, contains_symmetric}
+use Rattle.lw_region.proofs.laws.set_operations_law.Goals as goal
+
+pub returns : goal.returns
+returns c = (contains_union, contains_intersection, contains_difference, contains_symmetric)

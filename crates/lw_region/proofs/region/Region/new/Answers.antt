@@ -1,0 +1,5 @@
+use Rattle.lw_region.proofs.SetOps.{canonical_nil}
+use Rattle.lw_region.proofs.region.Region.new.Goals as goal
+
+pub invariant_of-result : goal.invariant_of-result
+invariant_of-result c = canonical_nil

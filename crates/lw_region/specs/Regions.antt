@@ -1,0 +1,62 @@
+-- What the operations on regions make, and the laws of canonical lists.
+use Rattle.std.specs.Prelude.{◌≡◌, ℕ, ◌<◌, false, ◌&&◌, ◌||◌, not, List, [], ◌∷◌, length, slice_index_or, ℤ}
+use Rattle.lw_region.specs.declared.operation.Operation.{Operation}
+use Rattle.lw_region.specs.Rectangle.{Rectangle, AreApart}
+use Rattle.lw_region.specs.Order.{IsInOrder}
+use Rattle.lw_region.specs.Pixels.{Pixel, precedes, contains_pixel, pixels_of, union, intersection, difference, symmetric_difference}
+use Rattle.lw_region.specs.Bands.{bands, covers}
+use Rattle.lw_region.specs.Banded.{IsCanonical}
+use Rattle.lw_region.specs.Operations.{holds}
+
+-- the set of one rectangle
+abbrev pub rectangle_set : Rectangle → List Pixel
+rectangle_set r = pixels_of (r ∷ [])
+
+-- `after` is the canonical list of the pixels for which the operation holds on the lists a and b
+pub record IsCombined (operation : Operation) (a b after : List Rectangle) : Type 0 where
+  pub canonical : IsCanonical after
+  pub pixels : (x y : ℤ) → covers after x y ≡ holds operation (covers a x y) (covers b x y)
+
+-- a pixel is in the set of a list exactly where some rectangle of the list has it, and sets are in reading order
+abbrev pub SetOfListLaw : Type 0
+SetOfListLaw =
+    ((rects : List Rectangle) (x y : ℤ) → contains_pixel (pixels_of rects) x y ≡ covers rects x y)
+    × ((rects : List Rectangle) → IsInOrder precedes (pixels_of rects))
+
+-- the bands of a set have its pixels and are canonical, and their set is the set again
+abbrev pub BandsLaw : Type 0
+BandsLaw =
+    ((s : List Pixel) (x y : ℤ) → covers (bands s) x y ≡ contains_pixel s x y)
+    × ((s : List Pixel) → IsCanonical (bands s)) × ((s : List Pixel) → IsInOrder precedes s → pixels_of (bands s) ≡ s)
+
+-- canonical lists with the same pixels, or with the same set, are one list
+abbrev pub OneListLaw : Type 0
+OneListLaw =
+    ((rs ss : List Rectangle) → IsCanonical rs → IsCanonical ss → ((x y : ℤ) → covers rs x y ≡ covers ss x y) → rs ≡ ss)
+    × ((rs ss : List Rectangle) → IsCanonical rs → IsCanonical ss → pixels_of rs ≡ pixels_of ss → rs ≡ ss)
+
+-- a canonical list with no pixel is empty, and the empty list has the empty set
+abbrev pub EmptyListLaw : Type 0
+EmptyListLaw =
+    ((rects : List Rectangle) → IsCanonical rects → ((x y : ℤ) → covers rects x y ≡ false) → rects ≡ []) × (pixels_of [] ≡ []) × (bands [] ≡ [])
+
+-- no two rectangles of a canonical list have a pixel in common
+abbrev pub DisjointLaw : Type 0
+DisjointLaw =
+    (rects : List Rectangle) → IsCanonical rects → (i j : ℕ) (d : Rectangle) → i < j → j < length rects
+    → AreApart (slice_index_or rects i d) (slice_index_or rects j d)
+
+-- the pixels of the sets that the operations on sets give
+abbrev pub SetOperationsLaw : Type 0
+SetOperationsLaw =
+    ((s t : List Pixel) (x y : ℤ) → contains_pixel (union s t) x y ≡ (contains_pixel s x y || contains_pixel t x y))
+    × ((s t : List Pixel) (x y : ℤ) → contains_pixel (intersection s t) x y ≡ (contains_pixel s x y && contains_pixel t x y))
+    × ((s t : List Pixel) (x y : ℤ) → contains_pixel (difference s t) x y ≡ (contains_pixel s x y && not (contains_pixel t x y)))
+    × ((s t : List Pixel) (x y : ℤ)
+    → contains_pixel (symmetric_difference s t) x y
+    ≡ ((contains_pixel s x y && not (contains_pixel t x y)) || (contains_pixel t x y && not (contains_pixel s x y))))
+
+-- sets in reading order with the same pixels are one set
+abbrev pub OneSetLaw : Type 0
+OneSetLaw =
+    (s t : List Pixel) → IsInOrder precedes s → IsInOrder precedes t → ((x y : ℤ) → contains_pixel s x y ≡ contains_pixel t x y) → s ≡ t

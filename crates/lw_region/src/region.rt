@@ -1,0 +1,188 @@
+ghost use Rattle.std.specs.Prelude.{◌≡◌, ◌&&◌, ◌||◌, not, List, [], ◌∷◌, ℤ, IfOk, OnOk, OnErr};
+ghost use Rattle.lw_region.specs.Rectangle.{has_pixel};
+ghost use Rattle.lw_region.specs.Pixels.{pixels_of, union, intersection, difference, symmetric_difference};
+ghost use Rattle.lw_region.specs.Bands.{bands, covers};
+ghost use Rattle.lw_region.specs.Banded.{IsCanonical};
+ghost use Rattle.lw_region.specs.Regions.{rectangle_set, IsCombined};
+
+use crate::operation::Operation;
+use crate::rect::Rect;
+use crate::sweep::sweep;
+use std::alloc::{AllocError, Global};
+use std::marker::Model;
+
+/// A set of pixels with coordinates from -32768 to 32767, after the `Region` structure of graphics.library.
+/// It is kept as its canonical list of rectangles, and contracts see it as that list: bands from top to bottom,
+/// the runs of a band from left to right, no two runs of a band touching or overlapping, no two adjacent bands
+/// with equal runs (this project's own form). So one set has one list.
+#[derive(Debug, Drop)]
+pub struct Region {
+    rects: Option<Vec<Rect>>,
+}
+
+impl Model for Region {
+    ghost use Rattle.std.specs.Prelude.{List, []};
+    ghost use Rattle.std.specs.Option.{option_map, unwrap_or};
+    ghost use Rattle.lw_region.specs.Rectangle.{Rectangle};
+    ghost use Rattle.lw_region.specs.Banded.{IsCanonical};
+
+    ghost Value = { List Rectangle };
+
+    ghost view = { λ r. unwrap_or (option_map (λ v. v.items) r.rects) [] };
+
+    ghost invariant = { λ r. IsCanonical (unwrap_or (option_map (λ v. v.items) r.rects) []) };
+}
+
+impl Region {
+    /// The region with no pixel (NewRegion).
+    pub fn new() -> Region
+        ensures { result ≡ [] }
+    {
+        Region { rects: None }
+    }
+
+    /// The canonical list of the region's rectangles.
+    pub fn rects(&self) -> &[Rect]
+        ensures value { result.now ≡ self.now }
+        ensures canonical { IsCanonical self.now }
+    {
+        match &self.rects {
+            None => &[],
+            Some(rects) => rects.as_slice(),
+        }
+    }
+
+    /// Whether the pixel at column `x` and row `y` is in the region (this project's own).
+    #[tactic(auto, using(std::proofs::lemmas::Int::ints), unfolding(crate::specs::Bands::covers))]
+    pub fn has(&self, x: i32, y: i32) -> bool
+        ensures { result ≡ covers self.now x y }
+    {
+        self.rects().iter().any(|rect| rect.has(x, y))
+    }
+
+    /// A region with the same pixels (this project's own).
+    pub fn copy(&self, alloc: Global) -> Result<Region, AllocError>
+        ensures { IfOk result (λ made. made ≡ self.now) }
+    {
+        let rects = Vec::from_slice(alloc, self.rects())?;
+        Ok(Region { rects: Some(rects) })
+    }
+
+    /// Takes all pixels out of the region (ClearRegion).
+    pub fn clear(&mut self)
+        ensures { self.new ≡ [] }
+    {
+        self.rects = None;
+    }
+
+    /// Adds the pixels of the rectangle (OrRectRegion). After an error the region is
+    /// as before.
+    pub fn or_rect(&mut self, alloc: Global, rect: &Rect) -> Result<(), AllocError>
+        ensures pixels { OnOk result
+            ((x y : ℤ) → covers self.new x y ≡ (covers self.old x y || has_pixel rect.now x y)) }
+        ensures set { OnOk result
+            (pixels_of self.new ≡ union (pixels_of self.old) (rectangle_set rect.now)) }
+        ensures list { OnOk result
+            (self.new ≡ bands (union (pixels_of self.old) (rectangle_set rect.now))) }
+        ensures err { OnErr result (self.new ≡ self.old) }
+    {
+        self.combine(alloc, Operation::Union, rect.as_list())
+    }
+
+    /// Keeps the pixels that are in the rectangle (AndRectRegion). After an error the region is
+    /// as before.
+    pub fn and_rect(&mut self, alloc: Global, rect: &Rect) -> Result<(), AllocError>
+        ensures pixels { OnOk result
+            ((x y : ℤ) → covers self.new x y ≡ (covers self.old x y && has_pixel rect.now x y)) }
+        ensures set { OnOk result
+            (pixels_of self.new ≡ intersection (pixels_of self.old) (rectangle_set rect.now)) }
+        ensures list { OnOk result
+            (self.new ≡ bands (intersection (pixels_of self.old) (rectangle_set rect.now))) }
+        ensures err { OnErr result (self.new ≡ self.old) }
+    {
+        self.combine(alloc, Operation::Intersection, rect.as_list())
+    }
+
+    /// Adds the pixels of the rectangle that are not in the region, and takes out those that are (XorRectRegion). After an error the region is
+    /// as before.
+    pub fn xor_rect(&mut self, alloc: Global, rect: &Rect) -> Result<(), AllocError>
+        ensures pixels { OnOk result
+            ((x y : ℤ) → covers self.new x y ≡ ((covers self.old x y && not (has_pixel rect.now x y)) || (has_pixel rect.now x y && not (covers self.old x y)))) }
+        ensures set { OnOk result
+            (pixels_of self.new ≡ symmetric_difference (pixels_of self.old) (rectangle_set rect.now)) }
+        ensures list { OnOk result
+            (self.new ≡ bands (symmetric_difference (pixels_of self.old) (rectangle_set rect.now))) }
+        ensures err { OnErr result (self.new ≡ self.old) }
+    {
+        self.combine(alloc, Operation::SymmetricDifference, rect.as_list())
+    }
+
+    /// Takes the pixels of the rectangle out of the region (ClearRectRegion). After an error the region is
+    /// as before.
+    pub fn clear_rect(&mut self, alloc: Global, rect: &Rect) -> Result<(), AllocError>
+        ensures pixels { OnOk result
+            ((x y : ℤ) → covers self.new x y ≡ (covers self.old x y && not (has_pixel rect.now x y))) }
+        ensures set { OnOk result
+            (pixels_of self.new ≡ difference (pixels_of self.old) (rectangle_set rect.now)) }
+        ensures list { OnOk result
+            (self.new ≡ bands (difference (pixels_of self.old) (rectangle_set rect.now))) }
+        ensures err { OnErr result (self.new ≡ self.old) }
+    {
+        self.combine(alloc, Operation::Difference, rect.as_list())
+    }
+
+    // Makes the region that of the pixels for which the operation holds on it and a further canonical list.
+    fn combine(
+        &mut self,
+        alloc: Global,
+        operation: Operation,
+        other: &[Rect],
+    ) -> Result<(), AllocError>
+        requires { IsCanonical other.now }
+        ensures made { OnOk result (IsCombined operation self.old other.now self.new) }
+        ensures err { OnErr result (self.new ≡ self.old) }
+    {
+        let made = sweep(alloc, operation, self.rects(), other)?;
+        self.rects = Some(made);
+        Ok(())
+    }
+}
+
+/// Adds the pixels of `from` to `into` (OrRegionRegion). After an error both are as before.
+pub fn or_region(alloc: Global, from: &Region, into: &mut Region) -> Result<(), AllocError>
+    ensures pixels { OnOk result
+        ((x y : ℤ) → covers into.new x y ≡ (covers into.old x y || covers from.now x y)) }
+    ensures set { OnOk result
+        (pixels_of into.new ≡ union (pixels_of into.old) (pixels_of from.now)) }
+    ensures list { OnOk result
+        (into.new ≡ bands (union (pixels_of into.old) (pixels_of from.now))) }
+    ensures err { OnErr result (into.new ≡ into.old) }
+{
+    into.combine(alloc, Operation::Union, from.rects())
+}
+
+/// Keeps the pixels of `into` that are in `from` (AndRegionRegion). After an error both are as before.
+pub fn and_region(alloc: Global, from: &Region, into: &mut Region) -> Result<(), AllocError>
+    ensures pixels { OnOk result
+        ((x y : ℤ) → covers into.new x y ≡ (covers into.old x y && covers from.now x y)) }
+    ensures set { OnOk result
+        (pixels_of into.new ≡ intersection (pixels_of into.old) (pixels_of from.now)) }
+    ensures list { OnOk result
+        (into.new ≡ bands (intersection (pixels_of into.old) (pixels_of from.now))) }
+    ensures err { OnErr result (into.new ≡ into.old) }
+{
+    into.combine(alloc, Operation::Intersection, from.rects())
+}
+
+/// Adds the pixels of `from` that are not in `into`, and takes out those that are (XorRegionRegion). After an error both are as before.
+pub fn xor_region(alloc: Global, from: &Region, into: &mut Region) -> Result<(), AllocError>
+    ensures pixels { OnOk result
+        ((x y : ℤ) → covers into.new x y ≡ ((covers into.old x y && not (covers from.now x y)) || (covers from.now x y && not (covers into.old x y)))) }
+    ensures set { OnOk result
+        (pixels_of into.new ≡ symmetric_difference (pixels_of into.old) (pixels_of from.now)) }
+    ensures list { OnOk result
+        (into.new ≡ bands (symmetric_difference (pixels_of into.old) (pixels_of from.now))) }
+    ensures err { OnErr result (into.new ≡ into.old) }
+{
+    into.combine(alloc, Operation::SymmetricDifference, from.rects())
+}

@@ -1,0 +1,491 @@
+use super::{Rect, Region, and_region, or_region, xor_region};
+use std::alloc::Global;
+use std::mem;
+use std::test::Fail;
+
+const BOTTOM: i16 = -32768;
+
+const TOP: i16 = 32767;
+
+#[derive(Clone, Copy)]
+enum Call {
+    Or,
+    And,
+    Xor,
+    Clear,
+}
+
+// The first region, a call, the second region, and the list that is due, each rectangle by its four bounds.
+struct Case {
+    first: &'static [[i16; 4]],
+    call: Call,
+    second: &'static [[i16; 4]],
+    due: &'static [[i16; 4]],
+}
+
+static CASES: [Case; 30] = [
+    // Operands that touch at a vertical edge, at a horizontal edge and at a corner.
+    Case {
+        first: &[[0, 0, 3, 3]],
+        call: Call::Or,
+        second: &[[4, 0, 7, 3]],
+        due: &[[0, 0, 7, 3]],
+    },
+    Case {
+        first: &[[0, 0, 3, 3]],
+        call: Call::And,
+        second: &[[4, 0, 7, 3]],
+        due: &[],
+    },
+    Case {
+        first: &[[0, 0, 3, 3]],
+        call: Call::Xor,
+        second: &[[4, 0, 7, 3]],
+        due: &[[0, 0, 7, 3]],
+    },
+    Case {
+        first: &[[0, 0, 3, 3]],
+        call: Call::Clear,
+        second: &[[4, 0, 7, 3]],
+        due: &[[0, 0, 3, 3]],
+    },
+    Case {
+        first: &[[0, 0, 3, 3]],
+        call: Call::Or,
+        second: &[[0, 4, 3, 7]],
+        due: &[[0, 0, 3, 7]],
+    },
+    Case {
+        first: &[[0, 0, 3, 3]],
+        call: Call::Xor,
+        second: &[[0, 4, 3, 7]],
+        due: &[[0, 0, 3, 7]],
+    },
+    Case {
+        first: &[[0, 0, 3, 3]],
+        call: Call::Clear,
+        second: &[[0, 4, 3, 7]],
+        due: &[[0, 0, 3, 3]],
+    },
+    Case {
+        first: &[[0, 0, 3, 3]],
+        call: Call::Or,
+        second: &[[4, 4, 7, 7]],
+        due: &[[0, 0, 3, 3], [4, 4, 7, 7]],
+    },
+    Case {
+        first: &[[0, 0, 3, 3]],
+        call: Call::And,
+        second: &[[4, 4, 7, 7]],
+        due: &[],
+    },
+    // One inside the other.
+    Case {
+        first: &[[0, 0, 9, 9]],
+        call: Call::Or,
+        second: &[[3, 3, 6, 6]],
+        due: &[[0, 0, 9, 9]],
+    },
+    Case {
+        first: &[[0, 0, 9, 9]],
+        call: Call::And,
+        second: &[[3, 3, 6, 6]],
+        due: &[[3, 3, 6, 6]],
+    },
+    Case {
+        first: &[[0, 0, 9, 9]],
+        call: Call::Xor,
+        second: &[[3, 3, 6, 6]],
+        due: &[[0, 0, 9, 2], [0, 3, 2, 6], [7, 3, 9, 6], [0, 7, 9, 9]],
+    },
+    Case {
+        first: &[[3, 3, 6, 6]],
+        call: Call::Clear,
+        second: &[[0, 0, 9, 9]],
+        due: &[],
+    },
+    // Operands that overlap at a corner.
+    Case {
+        first: &[[0, 0, 5, 5]],
+        call: Call::Or,
+        second: &[[3, 3, 8, 8]],
+        due: &[[0, 0, 5, 2], [0, 3, 8, 5], [3, 6, 8, 8]],
+    },
+    Case {
+        first: &[[0, 0, 5, 5]],
+        call: Call::Clear,
+        second: &[[3, 3, 8, 8]],
+        due: &[[0, 0, 5, 2], [0, 3, 2, 5]],
+    },
+    // Equal and empty operands.
+    Case {
+        first: &[[1, 2, 3, 4], [6, 2, 8, 4]],
+        call: Call::Or,
+        second: &[[1, 2, 3, 4], [6, 2, 8, 4]],
+        due: &[[1, 2, 3, 4], [6, 2, 8, 4]],
+    },
+    Case {
+        first: &[[1, 2, 3, 4], [6, 2, 8, 4]],
+        call: Call::Xor,
+        second: &[[1, 2, 3, 4], [6, 2, 8, 4]],
+        due: &[],
+    },
+    Case {
+        first: &[],
+        call: Call::Or,
+        second: &[],
+        due: &[],
+    },
+    Case {
+        first: &[],
+        call: Call::Xor,
+        second: &[[1, 1, 2, 2]],
+        due: &[[1, 1, 2, 2]],
+    },
+    Case {
+        first: &[[1, 1, 2, 2]],
+        call: Call::And,
+        second: &[],
+        due: &[],
+    },
+    Case {
+        first: &[[1, 1, 2, 2]],
+        call: Call::Clear,
+        second: &[],
+        due: &[[1, 1, 2, 2]],
+    },
+    // Bands that come to have equal runs, and rows below the shorter operand.
+    Case {
+        first: &[[0, 0, 1, 0], [0, 2, 1, 2]],
+        call: Call::Or,
+        second: &[[0, 1, 1, 1]],
+        due: &[[0, 0, 1, 2]],
+    },
+    Case {
+        first: &[[0, 0, 1, 1]],
+        call: Call::Or,
+        second: &[[0, 0, 1, 1], [0, 3, 1, 3], [5, 8, 6, 9]],
+        due: &[[0, 0, 1, 1], [0, 3, 1, 3], [5, 8, 6, 9]],
+    },
+    Case {
+        first: &[[0, 0, 1, 9]],
+        call: Call::Clear,
+        second: &[[0, 2, 1, 3]],
+        due: &[[0, 0, 1, 1], [0, 4, 1, 9]],
+    },
+    Case {
+        first: &[[0, 0, 1, 0], [4, 0, 5, 0], [8, 0, 9, 0]],
+        call: Call::Or,
+        second: &[[2, 0, 3, 0], [6, 0, 7, 0]],
+        due: &[[0, 0, 9, 0]],
+    },
+    // Bounds at the ends of the range.
+    Case {
+        first: &[[BOTTOM, BOTTOM, TOP, TOP]],
+        call: Call::Or,
+        second: &[[0, 0, 0, 0]],
+        due: &[[BOTTOM, BOTTOM, TOP, TOP]],
+    },
+    Case {
+        first: &[[BOTTOM, BOTTOM, TOP, TOP]],
+        call: Call::Xor,
+        second: &[[TOP, TOP, TOP, TOP]],
+        due: &[[BOTTOM, BOTTOM, TOP, 32766], [BOTTOM, TOP, 32766, TOP]],
+    },
+    Case {
+        first: &[[BOTTOM, BOTTOM, TOP, TOP]],
+        call: Call::And,
+        second: &[[BOTTOM, BOTTOM, BOTTOM, BOTTOM]],
+        due: &[[BOTTOM, BOTTOM, BOTTOM, BOTTOM]],
+    },
+    Case {
+        first: &[[BOTTOM, BOTTOM, TOP, TOP]],
+        call: Call::Clear,
+        second: &[[BOTTOM, BOTTOM, TOP, BOTTOM]],
+        due: &[[BOTTOM, -32767, TOP, TOP]],
+    },
+    Case {
+        first: &[[BOTTOM, 0, 0, 0]],
+        call: Call::Or,
+        second: &[[1, 0, TOP, 0], [BOTTOM, 1, TOP, TOP]],
+        due: &[[BOTTOM, 0, TOP, TOP]],
+    },
+];
+
+fn rect_of(bounds: [i16; 4]) -> Result<Rect, Fail> {
+    Ok(Rect::new(bounds[0], bounds[1], bounds[2], bounds[3]).ok_or("out of order")?)
+}
+
+fn region_of(alloc: Global, rects: &[[i16; 4]]) -> Result<Region, Fail> {
+    let mut region = Region::new();
+    for bounds in rects {
+        region.or_rect(alloc, &rect_of(*bounds)?)?;
+    }
+    Ok(region)
+}
+
+fn has_list(region: &Region, due: &[[i16; 4]]) -> bool {
+    let rects = region.rects();
+    if rects.len() != due.len() {
+        return false;
+    }
+    for (rect, bounds) in rects.iter().zip(due) {
+        let same_x = rect.min_x() == bounds[0] && rect.max_x() == bounds[2];
+        let same_y = rect.min_y() == bounds[1] && rect.max_y() == bounds[3];
+        if !same_x || !same_y {
+            return false;
+        }
+    }
+    true
+}
+
+fn call_rect(alloc: Global, region: &mut Region, call: Call, rect: &Rect) -> Result<(), Fail> {
+    match call {
+        Call::Or => region.or_rect(alloc, rect)?,
+        Call::And => region.and_rect(alloc, rect)?,
+        Call::Xor => region.xor_rect(alloc, rect)?,
+        Call::Clear => region.clear_rect(alloc, rect)?,
+    }
+    Ok(())
+}
+
+// The same by a whole region; what is cleared goes rectangle by rectangle.
+fn call_region(alloc: Global, from: &Region, into: &mut Region, call: Call) -> Result<(), Fail> {
+    match call {
+        Call::Or => or_region(alloc, from, into)?,
+        Call::And => and_region(alloc, from, into)?,
+        Call::Xor => xor_region(alloc, from, into)?,
+        Call::Clear => {
+            for rect in from.rects() {
+                into.clear_rect(alloc, rect)?;
+            }
+        }
+    }
+    Ok(())
+}
+
+#[test]
+fn operations_give_the_lists_worked_out_by_hand(rt: HostRuntime) -> Result<(), Fail> {
+    let alloc = rt.alloc();
+    for case in &CASES {
+        let mut made = region_of(alloc, case.first)?;
+        let second = region_of(alloc, case.second)?;
+        call_region(alloc, &second, &mut made, case.call)?;
+        assert!(rt; has_list(&made, case.due));
+        assert!(rt; has_list(&second, case.second));
+        if let [only] = case.second {
+            let mut by_rect = region_of(alloc, case.first)?;
+            call_rect(alloc, &mut by_rect, case.call, &rect_of(*only)?)?;
+            assert!(rt; has_list(&by_rect, case.due));
+        }
+    }
+    Ok(())
+}
+
+#[test]
+fn two_registers_are_combined_step_by_step(rt: HostRuntime) -> Result<(), Fail> {
+    let alloc = rt.alloc();
+    let mut first = Region::new();
+    first.or_rect(alloc, &rect_of([0, 0, 3, 1])?)?;
+    first.or_rect(alloc, &rect_of([4, 0, 7, 1])?)?;
+    assert!(rt; has_list(&first, &[[0, 0, 7, 1]]));
+    first.xor_rect(alloc, &rect_of([2, 1, 5, 2])?)?;
+    assert!(rt;
+        has_list(
+            &first,
+            &[[0, 0, 7, 0], [0, 1, 1, 1], [6, 1, 7, 1], [2, 2, 5, 2]]
+        )
+    );
+    let mut second = Region::new();
+    second.or_rect(alloc, &rect_of([0, 0, 1, 3])?)?;
+    and_region(alloc, &first, &mut second)?;
+    assert!(rt; has_list(&second, &[[0, 0, 1, 1]]));
+    let copy = first.copy(alloc)?;
+    first.clear();
+    assert!(rt; has_list(&first, &[]));
+    assert!(rt;
+        has_list(
+            &copy,
+            &[[0, 0, 7, 0], [0, 1, 1, 1], [6, 1, 7, 1], [2, 2, 5, 2]]
+        )
+    );
+    for (x, y, due) in [
+        (7, 0, true),
+        (8, 0, false),
+        (1, 1, true),
+        (2, 1, false),
+        (5, 2, true),
+        (5, 3, false),
+        (70000, 0, false),
+    ] {
+        assert_eq!(rt; copy.has(x, y), due, "at {x}, {y}");
+    }
+    let rect = rect_of([-4, 2, 5, 9])?;
+    let meet = rect.meet(&rect_of([5, 9, 12, 12])?);
+    assert!(rt; meet == Some(rect_of([5, 9, 5, 9])?));
+    assert!(rt; rect.meet(&rect_of([6, 2, 7, 9])?) == None);
+    assert!(rt; rect.moved(-32764, 32758) == Some(rect_of([BOTTOM, 32760, -32759, TOP])?));
+    assert!(rt; rect.moved(-32765, 0) == None);
+    assert!(rt; rect.moved(0, 32759) == None);
+    Ok(())
+}
+
+// A plain set of pixels: for each of 16 rows from -8 on, which of the 16 columns from -8 on are in it.
+type Rows = [u16; 16];
+
+fn has_column(row: u16, column: usize) -> bool {
+    (u32::from(row) >> (column % 16)) % 2 == 1
+}
+
+fn plain_row(first: usize, last: usize) -> u16 {
+    let mut row = 0u16;
+    for x in 0..16usize {
+        if first <= x && x <= last {
+            row |= 1u16.wrapping_shl(x as u32);
+        }
+    }
+    row
+}
+
+fn plain_rect(x0: usize, y0: usize, x1: usize, y1: usize) -> Rows {
+    let mut rows = [0u16; 16];
+    for y in 0..16 {
+        if y0 <= y && y <= y1 {
+            rows[y] = plain_row(x0, x1);
+        }
+    }
+    rows
+}
+
+fn plain_call(into: &Rows, from: &Rows, call: Call) -> Rows {
+    let mut rows = [0u16; 16];
+    for y in 0..16 {
+        rows[y] = match call {
+            Call::Or => into[y] | from[y],
+            Call::And => into[y] & from[y],
+            Call::Xor => into[y] ^ from[y],
+            Call::Clear => into[y] & !from[y],
+        };
+    }
+    rows
+}
+
+// The last row below row `top` up to which all rows are like it.
+fn plain_bottom(rows: &Rows, top: usize) -> usize {
+    let mut bottom = top;
+    for y in 0..16 {
+        if y > 0 && y - 1 == bottom && top < 16 && rows[y] == rows[top] {
+            bottom = y;
+        }
+    }
+    bottom
+}
+
+fn plain_last(row: u16, first: usize) -> usize {
+    let mut last = first;
+    for x in 0..16 {
+        if x > 0 && x - 1 == last && has_column(row, x) {
+            last = x;
+        }
+    }
+    last
+}
+
+fn place(index: usize) -> i16 {
+    (index % 16) as i16 - 8
+}
+
+fn push_row(list: &mut Vec<[i16; 4]>, row: u16, top: i16, bottom: i16) -> Result<(), Fail> {
+    for x in 0..16usize {
+        if has_column(row, x) && (x == 0 || !has_column(row, x - 1)) {
+            list.push([place(x), top, place(plain_last(row, x)), bottom])?;
+        }
+    }
+    Ok(())
+}
+
+// The bands of the plain set: the longest runs of a row, and the tallest bands of rows with equal runs.
+fn plain_list(alloc: Global, rows: &Rows) -> Result<Vec<[i16; 4]>, Fail> {
+    let mut list = Vec::new(alloc);
+    for y in 0..16usize {
+        if y == 0 || rows[y - 1] != rows[y] {
+            push_row(&mut list, rows[y], place(y), place(plain_bottom(rows, y)))?;
+        }
+    }
+    Ok(list)
+}
+
+fn row_has_pixels(region: &Region, row: u16, y: i32) -> bool {
+    for x in 0..16usize {
+        if region.has(i32::from(place(x)), y) != has_column(row, x) {
+            return false;
+        }
+    }
+    true
+}
+
+fn has_pixels(region: &Region, rows: &Rows) -> bool {
+    for y in 0..16usize {
+        if !row_has_pixels(region, rows[y], i32::from(place(y))) {
+            return false;
+        }
+    }
+    true
+}
+
+fn next_number(seed: &mut u32) -> usize {
+    *seed = seed.wrapping_mul(1664525).wrapping_add(1013904223);
+    (*seed >> 20) as usize
+}
+
+fn next_call(seed: &mut u32) -> Call {
+    match next_number(seed) % 5 {
+        0 | 1 => Call::Or,
+        2 => Call::Xor,
+        3 => Call::Clear,
+        _ => Call::And,
+    }
+}
+
+fn step_by_rect(
+    alloc: Global,
+    seed: &mut u32,
+    call: Call,
+    region: &mut Region,
+    rows: &mut Rows,
+) -> Result<(), Fail> {
+    let a = next_number(seed) % 16;
+    let b = next_number(seed) % 16;
+    let c = next_number(seed) % 16;
+    let d = next_number(seed) % 16;
+    let (x0, y0, x1, y1) = (a.min(b), c.min(d), a.max(b), c.max(d));
+    let rect = rect_of([place(x0), place(y0), place(x1), place(y1)])?;
+    call_rect(alloc, region, call, &rect)?;
+    let made = plain_call(rows, &plain_rect(x0, y0, x1, y1), call);
+    *rows = made;
+    Ok(())
+}
+
+#[test]
+fn regions_agree_with_plain_sets_of_pixels(rt: HostRuntime) -> Result<(), Fail> {
+    let alloc = rt.alloc();
+    let mut seed = 1u32;
+    let mut region = Region::new();
+    let mut other = Region::new();
+    let mut rows: Rows = [0; 16];
+    let mut other_rows: Rows = [0; 16];
+    for step in 0..4000u32 {
+        let call = next_call(&mut seed);
+        if next_number(&mut seed) % 4 == 0 {
+            call_region(alloc, &other, &mut region, call)?;
+            rows = plain_call(&rows, &other_rows, call);
+            mem::swap(&mut region, &mut other);
+            mem::swap(&mut rows, &mut other_rows);
+        }
+        step_by_rect(alloc, &mut seed, call, &mut region, &mut rows)?;
+        let due = plain_list(alloc, &rows)?;
+        assert!(rt; has_list(&region, due.as_slice()), "at step {step}");
+        assert!(rt; has_pixels(&region, &rows), "at step {step}");
+    }
+    Ok(())
+}

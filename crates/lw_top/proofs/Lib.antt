@@ -1,0 +1,14 @@
+mod AnswerLaws
+mod MadeCalls
+mod OneTask
+mod PlainRun
+mod ReaderAnswers
+mod ReaderLines
+mod ReaderNames
+mod ReaderNumbers
+mod ReaderPlans
+mod ReaderRanges
+mod ReaderTests
+mod ReportLists
+mod ReportPens
+mod ReportWhole

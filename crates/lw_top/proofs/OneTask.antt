@@ -1,0 +1,57 @@
+-- The machine's run of a plan of one task, in its only order, is the task's calls one after another.
+use Rattle.std.proofs.Common.{◌≡◌, ℕ, zero, suc, ◌+◌, ◌<◌, ◌==◌, List, [], ◌∷◌, ◌++◌, length, drop, replicate, Option, Some, None, refl, sym, ap, ◌∙◌, subst, arith, append_assoc, add-one}
+use Rattle.std.specs.List.{slice_get}
+use Rattle.lw_calls.specs.declared.call.Call.{Call}
+use Rattle.lw_calls.specs.declared.entry.Entry.{Entry}
+use Rattle.lw_calls.specs.declared.reply.Reply.{Reply}
+use Rattle.lw_calls.specs.Planned.{Planned, task_calls}
+use Rattle.lw_calls.specs.Desk.{Desk, empty_desk}
+use Rattle.lw_calls.specs.Step.{after, reply}
+use Rattle.lw_calls.specs.History.{count_of, next_entry, entries, machine, replies_of, only_order}
+use Rattle.lw_top.specs.Run.{desk_after, replies_to}
+
+-- the entries of task 0 that make these calls, the first of them with number n
+abbrev pub numbered : ℕ → List Call → List Entry
+numbered n [] = []
+numbered n (c ∷ cs) = record { task = 0; seq = n; call = c } ∷ numbered (n + 1) cs
+
+pub machine-numbered : (d : Desk) (n : ℕ) (cs : List Call) → machine d (numbered n cs) ≡ desk_after d cs
+machine-numbered d n [] = refl
+machine-numbered d n (c ∷ cs) = machine-numbered (after d 0 c) (n + 1) cs
+
+pub replies_of-numbered : (d : Desk) (n : ℕ) (cs : List Call) → replies_of d 0 (numbered n cs) ≡ replies_to d cs
+replies_of-numbered d n [] = refl
+replies_of-numbered d n (c ∷ cs) = ap (λ rs. reply d 0 c ∷ rs) (replies_of-numbered (after d 0 c) (n + 1) cs)
+
+pub count_of-push : (past : List Entry) (n : ℕ) (c : Call) → count_of 0 (past ++ record { task = 0; seq = n; call = c } ∷ []) ≡ count_of 0 past + 1
+count_of-push [] n c = refl
+count_of-push (e ∷ es) n c = let h = count_of-push es n c in omega arith
+
+pub slice_get-drop : (cs rest : List Call) (n : ℕ) (c : Call) → drop n cs ≡ c ∷ rest → slice_get cs n ≡ Some c
+slice_get-drop [] rest zero c h = cc
+slice_get-drop [] rest (suc n) c h = cc
+slice_get-drop (x ∷ cs) rest zero c h = cc
+slice_get-drop (x ∷ cs) rest (suc n) c h = slice_get-drop cs rest n c h
+
+pub drop-next : (cs rest : List Call) (n : ℕ) (c : Call) → drop n cs ≡ c ∷ rest → drop (suc n) cs ≡ rest
+drop-next [] rest zero c h = cc
+drop-next [] rest (suc n) c h = cc
+drop-next (x ∷ cs) rest zero c h = cc
+drop-next (x ∷ cs) rest (suc n) c h = drop-next cs rest n c h
+
+pub entries-only : (plan : Planned) (past : List Entry) (cs : List Call) → drop (count_of 0 past) (task_calls plan 0) ≡ cs → entries plan past (replicate (length cs) 0) ≡ numbered (count_of 0 past) cs
+entries-only plan past [] h = refl
+entries-only plan past (c ∷ cs) h =
+    let n = count_of 0 past in
+    let e : Entry = record { task = 0; seq = n; call = c } in
+    let pushed : count_of 0 (past ++ e ∷ []) ≡ n + 1 = count_of-push past n c in
+    let rest : drop (count_of 0 (past ++ e ∷ [])) (task_calls plan 0) ≡ cs = rw (pushed, add-one) (drop-next (task_calls plan 0) cs n c h) in
+    rw (slice_get-drop (task_calls plan 0) cs n c h) (ap (λ es. e ∷ es) (entries-only plan (past ++ e ∷ []) cs rest ∙ ap (λ k. numbered k cs) pushed))
+
+-- the machine after a plan of one task in its only order
+pub machine-only : (plan : Planned) (d : Desk) → machine d (entries plan [] (only_order plan)) ≡ desk_after d (task_calls plan 0)
+machine-only plan d = rw (entries-only plan [] (task_calls plan 0) refl) (machine-numbered d 0 (task_calls plan 0))
+
+-- the replies of that run
+pub replies_of-only : (plan : Planned) (d : Desk) → replies_of d 0 (entries plan [] (only_order plan)) ≡ replies_to d (task_calls plan 0)
+replies_of-only plan d = rw (entries-only plan [] (task_calls plan 0) refl) (replies_of-numbered d 0 (task_calls plan 0))

@@ -1,0 +1,10 @@
+pub mod Answers
+pub mod ReaderCuts
+pub mod ReaderForms
+pub mod ReaderLine
+pub mod ReaderState
+pub mod ReaderStops
+pub mod ReaderValues
+pub mod ReportWords
+pub mod Run
+pub mod Status

@@ -1,0 +1,62 @@
+-- What the program's call answers, and what it writes for it (this project's own).
+use Rattle.std.specs.Prelude.{◌≡◌, ℕ, Bool, true, false, ◌⊎◌, IsTrue, List, [], ◌∷◌, ◌++◌, codes, Option}
+use Rattle.lw_io.specs.Streams.{Rose, bytes_after}
+use Rattle.lw_calls.specs.declared.reason.Reason.{Reason}
+use Rattle.lw_calls.specs.declared.reason.Reason.TheVariants.{OneTaskOnly, NotBuilt, Missing}
+use Rattle.lw_calls.specs.Report.{line_of, spaced}
+use Rattle.lw_top.specs.declared.status.Status.{Status}
+use Rattle.lw_top.specs.declared.status.Status.TheVariants.{Done, Refused, Usage, ReadFault, WriteFault, NoMemory, TooLong}
+
+-- the exit status of each answer
+abbrev pub number_of : Status → ℕ
+number_of Done = 0
+number_of (Refused line reason) = 1
+number_of Usage = 2
+number_of ReadFault = 3
+number_of WriteFault = 4
+number_of NoMemory = 5
+number_of TooLong = 6
+
+-- how a reason is printed
+abbrev pub reason_text : Reason → List ℕ
+reason_text OneTaskOnly = codes "one-task-only"
+reason_text NotBuilt = codes "not-built"
+reason_text Missing = codes "missing"
+
+-- What is written with an answer: nothing where reading failed or memory was wanting. With Done it is the report, and
+-- with WriteFault a front of what was due.
+abbrev pub text_of : Status → List ℕ
+text_of Done = []
+text_of (Refused line reason) = line_of (codes "refused line" ++ spaced line ++ 32 ∷ reason_text reason)
+text_of Usage = line_of (codes "usage: layers run|check|replay|audit|demo NUMBER TASKS")
+text_of ReadFault = []
+text_of WriteFault = []
+text_of NoMemory = []
+text_of TooLong = line_of (codes "too long")
+
+-- the answers that a stream's fault or want of memory gives
+abbrev pub is_stop : Status → Bool
+is_stop Done = false
+is_stop (Refused line reason) = false
+is_stop Usage = false
+is_stop ReadFault = true
+is_stop WriteFault = true
+is_stop NoMemory = true
+is_stop TooLong = false
+
+-- The answer is the one that is due, or a fault or want of memory came instead.
+abbrev pub IsUnlessStopped : Status → Status → Type 0
+IsUnlessStopped due result = (result ≡ due) ⊎ IsTrue (is_stop result)
+
+-- the most bytes that an input may have
+abbrev pub input_limit : ℕ
+input_limit = 4194304
+
+-- After this text was due with this answer: it was written whole, or the sink failed and its count rose.
+abbrev pub Says : List ℕ → Status → Status → Option (List ℕ) → Option (List ℕ) → ℕ → ℕ → Type 0
+Says text due result before after faults_before faults_after =
+    ((result ≡ due) × (after ≡ bytes_after before text)) ⊎ ((result ≡ WriteFault) × Rose faults_before faults_after)
+
+-- the words are the one command that there is so far
+abbrev pub IsRun : List (List ℕ) → Type 0
+IsRun words = words ≡ codes "run" ∷ []

@@ -1,0 +1,17 @@
+//! The program's one call: a script in, its report out.
+#![tactic(auto)]
+
+mod answer;
+mod command;
+mod plain_run;
+mod reader;
+mod report;
+mod run;
+mod say;
+mod status;
+#[cfg(test)]
+mod tests;
+mod words;
+
+pub use command::layers;
+pub use status::Status;

@@ -1,0 +1,76 @@
+ghost use Rattle.std.specs.Prelude.{◌≡◌, ◌≤◌, ◌⊎◌, length, IfOk, IfSome};
+ghost use Rattle.lw_top.specs.Answers.{Shows, Tells};
+ghost use Rattle.std.specs.String.{string_bytes};
+ghost use Rattle.lw_top.specs.Status.{IsUnlessStopped, input_limit, reason_text, text_of};
+
+use crate::answer::answer;
+use crate::reader::ScriptStop;
+use crate::say::say;
+use crate::status::Status;
+use lw_calls::Reason;
+use lw_io::{ReadStop, Sink, Source, read_all};
+use std::alloc::{AllocError, Global};
+
+const INPUT_LIMIT: usize = 4_194_304;
+
+/// Reads the source to its end, runs the script and writes the report, or the text of another answer.
+pub fn run<S: Source, K: Sink>(alloc: Global, source: &mut S, sink: &mut K) -> Status
+    ensures shows { Shows result (S.faults source.old) (S.faults source.new)
+        (K.written sink.old) (K.written sink.new) (K.faults sink.old) (K.faults sink.new) }
+    ensures tells { IfSome (S.left source.old) (λ input. Tells input result (K.written sink.old) (K.written sink.new)) }
+    ensures untouched { (result ≡ Status.ReadFault) ⊎ (result ≡ Status.NoMemory) → sink.new ≡ sink.old }
+    ensures source_count { S.faults source.old ≤ S.faults source.new }
+    ensures sink_count { K.faults sink.old ≤ K.faults sink.new }
+{
+    match read_all(alloc, source, INPUT_LIMIT) {
+        Ok(input) => run_input(alloc, input.as_slice(), sink),
+        Err(ReadStop::Fault) => Status::ReadFault,
+        Err(ReadStop::TooLong) => say(sink, b"too long\n", Status::TooLong),
+        Err(ReadStop::Memory) => Status::NoMemory,
+    }
+}
+
+fn run_input<K: Sink>(alloc: Global, input: &[u8], sink: &mut K) -> Status
+    requires { length input.now ≤ input_limit }
+    ensures shows { Shows result 0 0
+        (K.written sink.old) (K.written sink.new) (K.faults sink.old) (K.faults sink.new) }
+    ensures tells { Tells input.now result (K.written sink.old) (K.written sink.new) }
+    ensures untouched { result ≡ Status.NoMemory → sink.new ≡ sink.old }
+    ensures sink_count { K.faults sink.old ≤ K.faults sink.new }
+{
+    match answer(alloc, input) {
+        Ok(text) => say(sink, text.as_slice(), Status::Done),
+        Err(ScriptStop::Refused { line, reason }) => refuse(alloc, line, reason, sink),
+        Err(ScriptStop::Memory) => Status::NoMemory,
+    }
+}
+
+fn refuse<K: Sink>(alloc: Global, line: u32, reason: Reason, sink: &mut K) -> Status
+    ensures due { IsUnlessStopped (Status.Refused line reason) result }
+    ensures shows { Shows result 0 0
+        (K.written sink.old) (K.written sink.new) (K.faults sink.old) (K.faults sink.new) }
+    ensures untouched { result ≡ Status.NoMemory → sink.new ≡ sink.old }
+    ensures sink_count { K.faults sink.old ≤ K.faults sink.new }
+{
+    match refusal_line(alloc, line, reason) {
+        Ok(text) => say(sink, text.as_bytes(), Status::Refused { line, reason }),
+        Err(_) => Status::NoMemory,
+    }
+}
+
+fn refusal_line(alloc: Global, line: u32, reason: Reason) -> Result<String, AllocError>
+    ensures { IfOk result (λ text. string_bytes text ≡ text_of (Status.Refused line reason)) }
+{
+    let word = reason_word(reason);
+    format!(in alloc; "refused line {line} {word}\n")
+}
+
+fn reason_word(reason: Reason) -> &'static str
+    ensures { result.now ≡ reason_text reason }
+{
+    match reason {
+        Reason::OneTaskOnly => "one-task-only",
+        Reason::NotBuilt => "not-built",
+        Reason::Missing => "missing",
+    }
+}

@@ -1,0 +1,40 @@
+ghost use Rattle.std.specs.Prelude.{◌≡◌};
+ghost use Rattle.lw_top.specs.Status.{number_of};
+
+use lw_calls::Reason;
+
+/// What a call of the program answers (this project's own).
+#[derive(Clone, Copy, Debug, PartialEq, Eq)]
+pub enum Status {
+    /// The job was done, and its text was written whole.
+    Done,
+    /// The script's first bad line, counted from 1, and its first reason.
+    Refused { line: u32, reason: Reason },
+    /// The words are no command.
+    Usage,
+    /// The source failed.
+    ReadFault,
+    /// The sink failed.
+    WriteFault,
+    /// Memory was wanting. Nothing was written.
+    NoMemory,
+    /// The input has more than 4,194,304 bytes.
+    TooLong,
+}
+
+impl Status {
+    /// The exit status, from 0 to 6.
+    pub fn number(&self) -> u8
+        ensures { result ≡ number_of self.now }
+    {
+        match self {
+            Status::Done => 0,
+            Status::Refused { .. } => 1,
+            Status::Usage => 2,
+            Status::ReadFault => 3,
+            Status::WriteFault => 4,
+            Status::NoMemory => 5,
+            Status::TooLong => 6,
+        }
+    }
+}

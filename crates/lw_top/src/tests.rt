@@ -1,0 +1,188 @@
+use crate::{Status, layers};
+use lw_calls::Reason;
+use lw_io::{MemSink, MemSource};
+use std::alloc::{AllocError, Global};
+use std::test::Fail;
+
+const FIRST_FILL: &[u8] =
+    b"screen 16 4 1\ntask a\ncreate w smart front 0 0 7 3\nfill w 1 1 2 2\nend\n";
+
+const FIRST_FILL_REPORT: &[u8] =
+    b"order 2\n0 0\nplanes 16 4 1\nplane 0\n0000\n6000\n6000\n0000\nreplies a 2\nok\nok\ndone\n";
+
+const USAGE_LINE: &[u8] = b"usage: layers run|check|replay|audit|demo NUMBER TASKS\n";
+
+// A source that moves `step` bytes a call at most, and whose calls with these numbers fail.
+fn source_of(
+    alloc: Global,
+    script: &[u8],
+    step: usize,
+    fails: &[u32],
+) -> Result<MemSource, AllocError> {
+    let bytes = Vec::from_slice(alloc, script)?;
+    let fails = Vec::from_slice(alloc, fails)?;
+    Ok(MemSource::new(bytes, step.max(1), fails))
+}
+
+// The same for a sink with room for so many bytes.
+fn sink_of(alloc: Global, room: usize, step: usize, fails: &[u32]) -> Result<MemSink, AllocError> {
+    let fails = Vec::from_slice(alloc, fails)?;
+    MemSink::new(alloc, room, step.max(1), fails)
+}
+
+fn word(alloc: Global, text: &str) -> Result<String, AllocError> {
+    String::from_str(alloc, text)
+}
+
+#[test]
+fn scripts_give_their_reports_and_refusals(rt: HostRuntime) -> Result<(), Fail> {
+    let missing = |line: u32| Status::Refused {
+        line,
+        reason: Reason::Missing,
+    };
+    let table: [(&[u8], Status, &[u8]); 8] = [
+        (FIRST_FILL, Status::Done, FIRST_FILL_REPORT),
+        // A row of 17 pixels is padded to 32 bits.
+        (
+            b"screen 17 1 1\ntask a\ncreate w smart front 0 0 16 0\nfill w 0 0 16 0\nend\n",
+            Status::Done,
+            b"order 2\n0 0\nplanes 17 1 1\nplane 0\nffff8000\nreplies a 2\nok\nok\ndone\n",
+        ),
+        // A fill right of the layer changes nothing, and answers `ok`.
+        (
+            b"screen 16 4 1\ntask a\ncreate w smart front 0 0 7 3\nfill w 8 0 9 1\nend\n",
+            Status::Done,
+            b"order 2\n0 0\nplanes 16 4 1\nplane 0\n0000\n0000\n0000\n0000\nreplies a 2\nok\nok\ndone\n",
+        ),
+        // A task without calls.
+        (
+            b"screen 1 1 1\ntask a\nend",
+            Status::Done,
+            b"order 0\nplanes 1 1 1\nplane 0\n0000\nreplies a 0\ndone\n",
+        ),
+        (b"", missing(1), b"refused line 1 missing\n"),
+        (b"screen 16 4 1\n", missing(2), b"refused line 2 missing\n"),
+        (
+            b"\n",
+            Status::Refused {
+                line: 1,
+                reason: Reason::NotBuilt,
+            },
+            b"refused line 1 not-built\n",
+        ),
+        (
+            b"screen 16 4 1\ntask a\nend\ntask b\n",
+            Status::Refused {
+                line: 4,
+                reason: Reason::OneTaskOnly,
+            },
+            b"refused line 4 one-task-only\n",
+        ),
+    ];
+    let alloc = rt.alloc();
+    let words = vec![in alloc; word(alloc, "run")?]?;
+    for (script, status, text) in table {
+        let mut source = source_of(alloc, script, 4096, &[])?;
+        let mut sink = sink_of(alloc, 4096, 4096, &[])?;
+        let answer = layers(alloc, words.as_slice(), &mut source, &mut sink);
+        assert_eq!(rt; answer, status);
+        assert_eq!(rt; sink.bytes(), text);
+    }
+    Ok(())
+}
+
+#[test]
+fn streams_of_any_pieces_and_faults(rt: HostRuntime) -> Result<(), Fail> {
+    let whole = FIRST_FILL_REPORT;
+    let but_last = &whole[..whole.len() - 1];
+    let table: [(usize, &[u32], usize, usize, &[u32], Status, &[u8]); 13] = [
+        // step and failing calls of the source; room, step and failing calls of the sink
+        (1, &[], 4096, 1, &[], Status::Done, whole),
+        (2, &[], 4096, 7, &[], Status::Done, whole),
+        (7, &[], 77, 4096, &[], Status::Done, whole),
+        // The first read fails, one in the middle, and the one that would find the end. One behind the end is not made.
+        (69, &[0], 4096, 4096, &[], Status::ReadFault, b""),
+        (5, &[1], 4096, 4096, &[], Status::ReadFault, b""),
+        (69, &[1], 4096, 4096, &[], Status::ReadFault, b""),
+        (69, &[2], 4096, 4096, &[], Status::Done, whole),
+        // The first write fails, one in the middle, and the last. One behind the last is not made.
+        (4096, &[], 4096, 1, &[0], Status::WriteFault, b""),
+        (
+            4096,
+            &[],
+            4096,
+            10,
+            &[1],
+            Status::WriteFault,
+            b"order 2\n0 ",
+        ),
+        (4096, &[], 4096, 1, &[76], Status::WriteFault, but_last),
+        (4096, &[], 4096, 1, &[77], Status::Done, whole),
+        // The sink's room is used up.
+        (4096, &[], 10, 10, &[], Status::WriteFault, b"order 2\n0 "),
+        (4096, &[], 0, 4096, &[], Status::WriteFault, b""),
+    ];
+    let alloc = rt.alloc();
+    let words = vec![in alloc; word(alloc, "run")?]?;
+    for (read_step, read_fails, room, write_step, write_fails, status, text) in table {
+        let mut source = source_of(alloc, FIRST_FILL, read_step, read_fails)?;
+        let mut sink = sink_of(alloc, room, write_step, write_fails)?;
+        let answer = layers(alloc, words.as_slice(), &mut source, &mut sink);
+        assert_eq!(rt; answer, status);
+        assert_eq!(rt; sink.bytes(), text);
+    }
+    Ok(())
+}
+
+#[test]
+fn words_that_are_no_command_get_the_usage_line(rt: HostRuntime) -> Result<(), Fail> {
+    let alloc = rt.alloc();
+    let table: [&[&str]; 7] = [
+        &[],
+        &["run", "run"],
+        &["--help"],
+        &["Run"],
+        &[""],
+        &["check"],
+        &["demo", "1", "17"],
+    ];
+    for texts in table {
+        let mut words = Vec::new(alloc);
+        for text in texts {
+            words.push(word(alloc, text)?)?;
+        }
+        let mut source = source_of(alloc, FIRST_FILL, 4096, &[])?;
+        let mut sink = sink_of(alloc, 4096, 4096, &[])?;
+        let answer = layers(alloc, words.as_slice(), &mut source, &mut sink);
+        assert_eq!(rt; answer, Status::Usage);
+        assert_eq!(rt; sink.bytes(), USAGE_LINE);
+        let mut full = sink_of(alloc, 3, 4096, &[])?;
+        let answer = layers(alloc, words.as_slice(), &mut source, &mut full);
+        assert_eq!(rt; answer, Status::WriteFault);
+        assert_eq!(rt; full.bytes(), b"usa".as_slice());
+    }
+    Ok(())
+}
+
+#[test]
+fn an_input_has_4194304_bytes_at_most(rt: HostRuntime) -> Result<(), Fail> {
+    let alloc = rt.alloc();
+    let words = vec![in alloc; word(alloc, "run")?]?;
+    let not_built = Status::Refused {
+        line: 1,
+        reason: Reason::NotBuilt,
+    };
+    let table: [(usize, Status, &[u8]); 2] = [
+        (4_194_304, not_built, b"refused line 1 not-built\n"),
+        (4_194_305, Status::TooLong, b"too long\n"),
+    ];
+    for (length, status, text) in table {
+        let script = vec![in alloc; b'x'; length]?;
+        let mut source = source_of(alloc, script.as_slice(), 65_536, &[])?;
+        let mut sink = sink_of(alloc, 4096, 4096, &[])?;
+        let answer = layers(alloc, words.as_slice(), &mut source, &mut sink);
+        assert_eq!(rt; answer, status);
+        assert_eq!(rt; sink.bytes(), text);
+    }
+    Ok(())
+}
