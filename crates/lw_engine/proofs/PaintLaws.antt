@@ -50,8 +50,8 @@ unfolding with_pens is_kept is_drawable with_rectangle
 filled-plain visible rect b some few =
     ap (λ rows. record (plain_layer b) { bits = record b { rows = rows } })
     (grid-same b.width b.height _ _ (λ x y left low.
-        ap (λ t. if ((t && true) && true) && has_pixel rect (pos x) (pos y) then paint b.depth new_raster true (pen_at b x y) else pen_at b x y) (in-size x y b.width b.height left low) ∙
-        ap (λ n. if has_pixel rect (pos x) (pos y) then n else pen_at b x y) (paint-new b.depth (pen_at b x y) some few)))
+    ap (λ t. if ((t && true) && true) && has_pixel rect (pos x) (pos y) then paint b.depth new_raster true (pen_at b x y) else pen_at b x y) (in-size x y b.width b.height left low) ∙
+    ap (λ n. if has_pixel rect (pos x) (pos y) then n else pen_at b x y) (paint-new b.depth (pen_at b x y) some few)))
 
 -- a layer of a plain creation is smart, in front, no backdrop layer, and has no hook
 pub record IsPlainMake (k : Kind) (p : Place) (b : Bool) (o : Option ℕ) : Type 0 where

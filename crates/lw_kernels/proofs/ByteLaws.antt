@@ -121,16 +121,19 @@ term-one : (t : Bool) → term t 1 ≡ bit_of t
 unfolding term
 term-one t = refl
 
--- the greatest of four numbers of which three are 0
+-- the greatest of four numbers of which all but the first are 0
 greatest-first : (a b c d : ℕ) → b ≡ 0 → c ≡ 0 → d ≡ 0 → max (max (max a b) c) d ≡ a
 greatest-first a b c d p q r = omega arith
 
+-- the greatest of four numbers of which all but the second are 0
 greatest-second : (a b c d : ℕ) → a ≡ 0 → c ≡ 0 → d ≡ 0 → max (max (max a b) c) d ≡ b
 greatest-second a b c d p q r = omega arith
 
+-- the greatest of four numbers of which all but the third are 0
 greatest-third : (a b c d : ℕ) → a ≡ 0 → b ≡ 0 → d ≡ 0 → max (max (max a b) c) d ≡ c
 greatest-third a b c d p q r = omega arith
 
+-- the greatest of four numbers of which all but the fourth are 0
 greatest-fourth : (a b c d : ℕ) → a ≡ 0 → b ≡ 0 → c ≡ 0 → max (max (max a b) c) d ≡ d
 greatest-fourth a b c d p q r = omega arith
 

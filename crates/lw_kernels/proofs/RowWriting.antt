@@ -37,29 +37,33 @@ if-false false v a b is h = is
 if-test : (t u : Bool) (v a b : ℕ) → v ≡ (if t then a else b) → t ≡ u → v ≡ (if u then a else b)
 if-test t u v a b is h = is ∙ ap (λ q. if q then a else b) h
 
--- `and` with a true test, and with a false one
+-- `and` with a true test
 and-true : (t u : Bool) → u ≡ true → (t && u) ≡ t
 and-true true true h = refl
 and-true false true h = refl
 and-true true false h = cc
 and-true false false h = refl
 
+-- `and` with a false test
 and-false : (t u : Bool) → u ≡ false → (t && u) ≡ false
 and-false true true h = cc
 and-false false true h = refl
 and-false true false h = refl
 and-false false false h = refl
 
--- tests that hold or don't
+-- an order that holds, tested
 lt-yes : (a b : ℕ) → a < b → nat_lt a b ≡ true
 lt-yes a b h = grind (arith, nat_tests)
 
+-- an order that doesn't hold, tested
 lt-no : (a b : ℕ) → b ≤ a → nat_lt a b ≡ false
 lt-no a b h = grind (arith, nat_tests)
 
+-- a weak order that holds, tested
 le-yes : (a b : ℕ) → a ≤ b → nat_le a b ≡ true
 le-yes a b h = grind (arith, nat_tests)
 
+-- a weak order that doesn't hold, tested
 le-no : (a b : ℕ) → b < a → nat_le a b ≡ false
 le-no a b h = grind (arith, nat_tests)
 

@@ -61,10 +61,6 @@ pen-same n p small =
     same_from_bits_below n (pen_of n (λ k. bit_at p k)) p (pen_of-lt n (λ k. bit_at p k) (λ k h. bit_at-lt p k)) small
     (λ i h. bit-pen_of n (λ k. bit_at p k) i (λ k l. bit_at-lt p k) h)
 
--- pens of n planes that have the same bits in them are equal
-pub pen-from_bits : (n p q : ℕ) → p < 2 ^ n → q < 2 ^ n → ((k : ℕ) → k < n → bit_at p k ≡ bit_at q k) → p ≡ q
-pen-from_bits n p q small less same = same_from_bits_below n p q small less same
-
 -- bytes with equal bits are equal
 pub byte_of-same : (b c : ℕ → ℕ) → ((j : ℕ) → j < 8 → b j ≡ c j) → byte_of b ≡ byte_of c
 unfolding byte_of

@@ -1,5 +1,5 @@
 -- What follows from what the command `run` ensures of its answer.
-use Rattle.std.proofs.Common.{◌≡◌, ◌≢◌, ◌⊎◌, ℕ, List, [], ◌++◌, Option, Some, None, refl, sym, ap, ◌∙◌, subst, inl, inr, append-nil, ◌<◌, ◌≤◌, length, IfSome, arith}
+use Rattle.std.proofs.Common.{◌≡◌, ◌≢◌, ◌⊎◌, ℕ, List, [], Option, Some, None, refl, sym, ap, ◌∙◌, inl, inr, append-nil, ◌<◌, ◌≤◌, length, IfSome, arith}
 use Rattle.lw_io.specs.Streams.{Rose, bytes_after}
 use Rattle.lw_calls.specs.declared.reason.Reason.{Reason}
 use Rattle.lw_calls.specs.Lines.{lines}

@@ -1,13 +1,12 @@
 -- The machine's run of a plan of one task, in its only order, is the task's calls one after another.
-use Rattle.std.proofs.Common.{◌≡◌, ℕ, zero, suc, ◌+◌, ◌<◌, ◌==◌, List, [], ◌∷◌, ◌++◌, length, drop, replicate, Option, Some, None, refl, sym, ap, ◌∙◌, subst, arith, append_assoc, add-one}
+use Rattle.std.proofs.Common.{◌≡◌, ℕ, zero, suc, ◌+◌, List, [], ◌∷◌, ◌++◌, length, drop, replicate, Some, refl, ap, ◌∙◌, arith, add-one}
 use Rattle.std.specs.List.{slice_get}
 use Rattle.lw_calls.specs.declared.call.Call.{Call}
 use Rattle.lw_calls.specs.declared.entry.Entry.{Entry}
-use Rattle.lw_calls.specs.declared.reply.Reply.{Reply}
 use Rattle.lw_calls.specs.Planned.{Planned, task_calls}
-use Rattle.lw_calls.specs.Desk.{Desk, empty_desk}
+use Rattle.lw_calls.specs.Desk.{Desk}
 use Rattle.lw_calls.specs.Step.{after, reply}
-use Rattle.lw_calls.specs.History.{count_of, next_entry, entries, machine, replies_of, only_order}
+use Rattle.lw_calls.specs.History.{count_of, entries, machine, replies_of, only_order}
 use Rattle.lw_top.specs.Run.{desk_after, replies_to}
 
 -- the entries of task 0 that make these calls, the first of them with number n

@@ -1,11 +1,11 @@
 -- The report that is written after the plain desk's run is the report of the machine's run.
-use Rattle.std.proofs.Common.{◌≡◌, ℕ, zero, suc, ◌<◌, List, [], ◌∷◌, map, length, replicate, refl, sym, ap, ◌∙◌, subst, arith}
+use Rattle.std.proofs.Common.{◌≡◌, ℕ, zero, suc, ◌<◌, List, [], ◌∷◌, sym, ap, ◌∙◌, arith}
 use Rattle.std.specs.List.{concat}
 use Rattle.lw_calls.specs.declared.reply.Reply.{Reply}
 use Rattle.lw_calls.specs.Planned.{Planned, task_calls}
 use Rattle.lw_calls.specs.Desk.{Desk, empty_desk}
 use Rattle.lw_calls.specs.Screen.{screen}
-use Rattle.lw_calls.specs.History.{entries, machine, replies_of, only_order}
+use Rattle.lw_calls.specs.History.{entries, replies_of, only_order}
 use Rattle.lw_calls.specs.Report.{report, run_report}
 use Rattle.lw_engine.specs.Plain.{Plain}
 use Rattle.lw_engine.specs.StandsFor.{StandsFor}

@@ -1,5 +1,5 @@
 -- What reading a script answers, given that it gives the outcome of the lines.
-use Rattle.std.proofs.Common.{◌≡◌, ℕ, ◌⊎◌, List, [], Result, Ok, Err, IfOk, MatchResult, refl, sym, ap, subst, ◌∙◌, inl, inr}
+use Rattle.std.proofs.Common.{◌≡◌, ℕ, List, [], Result, Ok, Err, IfOk, MatchResult, refl, ap, subst, inl, inr}
 use Rattle.lw_calls.specs.declared.reason.Reason.{Reason}
 use Rattle.lw_calls.specs.Planned.{Planned}
 use Rattle.lw_calls.specs.Grammar.{IsFirstBad, Spells, IsRunnable}

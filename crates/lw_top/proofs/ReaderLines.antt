@@ -1,11 +1,11 @@
 -- The first line of bytes and the first word of a line, by the place of the byte that ends it.
-use Rattle.std.proofs.Common.{◌≡◌, ℕ, zero, suc, ◌+◌, ◌-◌, ◌<◌, ◌≤◌, ◌==◌, Bool, true, false, not, cond, List, [], ◌∷◌, length, take, drop, Option, Some, None, option_map, position, nat_lt, refl, sym, ap, subst, ◌∙◌, arith, rules, length-drop}
+use Rattle.std.proofs.Common.{◌≡◌, ℕ, suc, ◌+◌, ◌-◌, ◌<◌, ◌≤◌, ◌==◌, Bool, true, false, not, cond, List, [], ◌∷◌, length, take, drop, Option, Some, None, option_map, position, nat_lt, refl, sym, ap, subst, ◌∙◌, arith, length-drop}
 use Rattle.std.specs.List.{onto_first, position_or_len}
 use Rattle.lw_calls.specs.Lines.{lines}
 use Rattle.lw_calls.specs.Words.{words, words_at, is_space}
 use Rattle.std.proofs.lemmas.Grind.{common_steps}
 use Rattle.std.proofs.lemmas.Bool.Decides.{nat_tests}
-use Rattle.std.proofs.lemmas.Bool.{false≢true, ltb-true, ltb-false}
+use Rattle.std.proofs.lemmas.Bool.{ltb-true, ltb-false}
 
 -- where a byte was found
 pub found_at : {X : Type 0} (p : X → Bool) (bs : List X) (i : ℕ) → position p bs ≡ Some i → (i < length bs) × (position_or_len p bs ≡ i)

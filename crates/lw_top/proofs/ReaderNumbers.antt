@@ -1,9 +1,9 @@
 -- What digits count, digit by digit and up to the cap.
-use Rattle.std.proofs.Common.{◌≡◌, ℕ, zero, suc, ◌+◌, ◌-◌, ◌*◌, ◌<◌, ◌≤◌, min, Bool, true, false, ◌&&◌, List, [], ◌∷◌, length, take, drop, get_or, IsTrue, ◌||◌, cond, ℤ, pos, neg_ℤ, ◌-ℤ◌, to_z, of_z, w64, codes, bytes_eq, refl, sym, ap, subst, ◌∙◌, arith, rules}
+use Rattle.std.proofs.Common.{◌≡◌, ℕ, zero, suc, ◌+◌, ◌-◌, ◌*◌, ◌<◌, ◌≤◌, min, Bool, true, false, ◌&&◌, List, [], ◌∷◌, length, take, drop, get_or, IsTrue, ◌||◌, cond, ℤ, pos, neg_ℤ, ◌-ℤ◌, to_z, of_z, w64, codes, bytes_eq, refl, ap, ◌∙◌, arith}
 use Rattle.std.specs.List.{list_all}
 use Rattle.std.specs.Char.{digit_value}
 use Rattle.std.specs.Str.Parse.{digits_value}
-use Rattle.lw_calls.specs.Values.{Value, Name, Number, Odd, is_digit, is_name, is_positive, is_negative, number_cap, magnitude, value_of}
+use Rattle.lw_calls.specs.Values.{Name, Number, Odd, is_digit, is_name, is_positive, is_negative, number_cap, magnitude, value_of}
 use Rattle.std.proofs.lemmas.Int.{ints}
 use Rattle.std.proofs.lemmas.Grind.{common_steps}
 use Rattle.std.proofs.lemmas.Int.Digits.{digits_value_more}

@@ -1,13 +1,10 @@
 -- What was read of a whole script makes a plan that may be run.
-use Rattle.std.proofs.Common.{◌≡◌, ℕ, ◌+◌, ◌<◌, ◌≤◌, List, [], ◌∷◌, length, Fits, w32, refl, sym, ap, subst, ◌∙◌, arith, rules, true}
+use Rattle.std.proofs.Common.{◌≡◌, ℕ, ◌≤◌, List, [], ◌∷◌, length, Fits, w32, sym, ap, subst, ◌∙◌, arith, true}
 use Rattle.lw_calls.specs.declared.call.Call.{Call}
-use Rattle.lw_calls.specs.declared.sizes.Sizes.{Sizes}
 use Rattle.lw_calls.specs.Planned.{Planned, IsPlan}
 use Rattle.lw_calls.specs.Forms.{LineForm}
 use Rattle.lw_calls.specs.Above.{part, has_ended, screen_width, screen_height, screen_depth, layer_names, task_names, calls_of, plan_of}
-use Rattle.lw_calls.specs.Reading.{AreGood}
 use Rattle.lw_calls.proofs.Runnable.{plan_of_good, few_names}
-use Rattle.lw_top.specs.declared.reader.state.Part.{Part}
 use Rattle.lw_top.specs.declared.reader.state.Part.TheVariants.{Ended}
 use Rattle.lw_top.specs.declared.reader.state.Reader.{Reader}
 use Rattle.lw_top.specs.ReaderCuts.{targets}

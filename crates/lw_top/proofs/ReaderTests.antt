@@ -1,17 +1,16 @@
 -- The reader's tests of a line are those of the grammar.
-use Rattle.std.proofs.Common.{◌≡◌, ℕ, ◌+◌, ◌<◌, ◌≤◌, Bool, true, false, not, cond, ◌&&◌, List, [], ◌∷◌, ◌++◌, length, map, Option, Some, None, Result, Ok, Err, option_map, nat_le, bytes_eq, codes, refl, sym, ap, subst, ◌∙◌, arith, rules, length-append}
+use Rattle.std.proofs.Common.{◌≡◌, ℕ, ◌+◌, Bool, true, false, not, cond, ◌&&◌, List, ◌∷◌, length, Option, Some, None, Result, Ok, Err, nat_le, bytes_eq, codes, refl, sym, ap, subst, ◌∙◌, length-append}
 use Rattle.lw_calls.specs.declared.reason.Reason.{Reason}
 use Rattle.lw_calls.specs.declared.reason.Reason.TheVariants.{OneTaskOnly, NotBuilt, Missing}
 use Rattle.lw_calls.specs.Limits.{name_limit, call_limit}
 use Rattle.lw_calls.specs.Words.{first_word}
 use Rattle.lw_calls.specs.Forms.{LineForm, ScreenLine, TaskLine, CallLine, EndLine, line_form, is_in_range}
-use Rattle.lw_calls.specs.Above.{Part, part, has_ended, is_in_place, layer_names, calls_of, call_of}
+use Rattle.lw_calls.specs.Above.{part, has_ended, is_in_place, layer_names, calls_of}
 use Rattle.lw_calls.specs.Grammar.{is_second_task, is_good_form, is_good_line}
 use Rattle.lw_calls.specs.Reading.{line_at}
 use Rattle.lw_calls.proofs.Answer.{line_tells}
 use Rattle.lw_top.specs.declared.reader.state.Reader.{Reader}
 use Rattle.lw_top.specs.ReaderState.{Stands, part_meaning, names_with, calls_with, has_room}
-use Rattle.std.proofs.lemmas.Bool.{false≢true}
 
 -- what reading a line tells, by its three tests
 abbrev Tells : Bool → Option LineForm → Bool → Result LineForm Reason → Type 0

@@ -1,5 +1,5 @@
 -- What each answer of the program tells of its input, and what is written with it.
-use Rattle.std.specs.Prelude.{◌≡◌, ℕ, ◌<◌, ◌≤◌, List, ◌++◌, length, Option}
+use Rattle.std.specs.Prelude.{◌≡◌, ℕ, ◌<◌, ◌≤◌, List, length, Option}
 use Rattle.lw_io.specs.Streams.{Rose, bytes_after}
 use Rattle.lw_calls.specs.Planned.{Planned}
 use Rattle.lw_calls.specs.History.{only_order}

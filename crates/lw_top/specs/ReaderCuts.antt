@@ -1,7 +1,7 @@
 -- What cutting bytes says: into a first line or a first word, and what stands behind it.
-use Rattle.std.specs.Prelude.{◌≡◌, ℕ, ◌+◌, ◌<◌, ◌==◌, Bool, List, [], ◌∷◌, map, length, Option, Some, None, option_map}
+use Rattle.std.specs.Prelude.{◌≡◌, ℕ, ◌+◌, ◌<◌, List, [], ◌∷◌, map, length, Option, Some, None, option_map}
 use Rattle.lw_calls.specs.Lines.{lines}
-use Rattle.lw_calls.specs.Words.{words, is_space}
+use Rattle.lw_calls.specs.Words.{words}
 use denote.Ref.{Bor}
 
 -- The first line and the bytes behind its line feed; or nothing, where no line is left.

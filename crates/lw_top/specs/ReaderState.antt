@@ -1,6 +1,5 @@
 -- What the reader's state stands for.
 use Rattle.std.specs.Prelude.{◌≡◌, ℕ, ◌+◌, Bool, ◌&&◌, nat_le, List, length}
-use Rattle.std.specs.HashSet.{keys}
 use Rattle.lw_calls.specs.Forms.{LineForm, ScreenLine, TaskLine, CallLine, EndLine}
 use Rattle.lw_calls.specs.Above.{Part as PartMeaning, ScreenDue as ScreenDueMeaning, TaskDue as TaskDueMeaning, InTask as InTaskMeaning, Ended as EndedMeaning, part, screen_width, screen_height, screen_depth, task_names, with_names, layer_names, calls_of}
 use Rattle.lw_calls.specs.Limits.{name_limit, call_limit}

@@ -1,7 +1,6 @@
 -- What reading lines answers, and what reading a script answers.
 use Rattle.std.specs.Prelude.{◌≡◌, ℕ, ◌⊎◌, List, ◌∷◌, Result, Ok, Err}
 use Rattle.lw_calls.specs.declared.reason.Reason.{Reason}
-use Rattle.lw_calls.specs.declared.plan.Plan.{Plan}
 use Rattle.lw_calls.specs.Forms.{LineForm as FormMeaning}
 use Rattle.lw_calls.specs.Planned.{Planned}
 use Rattle.lw_top.specs.declared.reader.state.Reader.{Reader}

@@ -55,3 +55,6 @@ pub fn read(alloc: Global, bytes: &[u8]) -> Result<Plan, ScriptStop>
 {
     read_lines(alloc, bytes)
 }
+
+#[cfg(test)]
+mod tests;

@@ -1,7 +1,5 @@
-use Rattle.std.proofs.Common.{◌≡◌, ◌∙◌, sym, ap, subst, length, replicate, List, [], ◌∷◌, map, rules, arith}
-use Rattle.std.proofs.lemmas.Grind.{common_steps}
+use Rattle.std.proofs.Common.{◌≡◌, ◌∙◌, ap, subst, List, [], ◌∷◌, map, rules}
 use Rattle.std.proofs.lemmas.Result.{IfOk-weaker}
-use Rattle.lw_calls.specs.declared.reply.Reply.{Reply}
 use Rattle.lw_calls.specs.History.{only_order}
 use Rattle.std.specs.List.{concat}
 use Rattle.lw_calls.specs.declared.call.Call.{Call}
@@ -17,8 +15,8 @@ use Rattle.lw_top.proofs.plain_run.run_plan.Goals as goal
 pub returns : goal.returns
 returns c =
     let plan = c.args.plan.now in
-    let order : c.as_slice.result.now ≡ only_order plan = first_of (search rules, grind (arith, common_steps)) in
-    let lists : map (λ (r : _). r.items) c.as_slice-3.result.now ≡ c.in_ok-replies.replies.items ∷ [] = first_of (search rules, grind (arith, common_steps)) in
+    let order : c.as_slice.result.now ≡ only_order plan = search rules in
+    let lists : map (λ (r : _). r.items) c.as_slice-3.result.now ≡ c.in_ok-replies.replies.items ∷ [] = search rules in
     let P : Sizes → Type 0 = λ s. StandsFor c.in_ok-desk.desk (empty_desk s) in
     let empty : StandsFor c.in_ok-desk.desk (empty_desk plan.sizes) = subst P c.sizes.ensures.value c.in_ok-desk.ensures.empty in
     let sizes : c.make_calls.new.desk.sizes ≡ plan.sizes = c.in_ok-replies.ensures.sizes ∙ (c.in_ok-desk.ensures.sizes ∙ c.sizes.ensures.value) in

@@ -1,8 +1,7 @@
-use Rattle.std.proofs.Common.{rules, ◌≡◌, length, IfOk, ℕ, List, [], ◌∷◌, ◌++◌, sym, ap, ◌∙◌, append_assoc}
-use Rattle.std.specs.String.{string_bytes}
+use Rattle.std.proofs.Common.{◌≡◌, ℕ, List, [], ◌∷◌, ◌++◌, ◌∙◌, append_assoc}
 use Rattle.std.specs.Fmt.{decimal}
 use Rattle.std.proofs.lemmas.Result.{IfOk-weaker}
-use Rattle.lw_top.specs.Status.{reason_text, text_of}
+use Rattle.lw_top.specs.Status.{reason_text}
 use Rattle.lw_top.proofs.run.refusal_line.Goals as goal
 
 -- the format's text is the definition's, which joins its parts the other way round

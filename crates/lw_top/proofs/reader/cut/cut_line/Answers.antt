@@ -1,6 +1,5 @@
-use Rattle.std.proofs.Common.{◌≡◌, ℕ, ◌+◌, ◌-◌, ◌<◌, ◌==◌, Option, Some, None, List, [], ◌∷◌, length, take, drop, position, sym, subst, ◌∙◌, arith, length-drop}
-use Rattle.lw_calls.specs.Lines.{lines}
-use Rattle.lw_top.proofs.ReaderLines.{last_line, whole_cut, some_bytes, cuts_line}
+use Rattle.std.proofs.Common.{◌≡◌, ◌==◌, None, position, sym, ◌∙◌}
+use Rattle.lw_top.proofs.ReaderLines.{whole_cut, some_bytes, cuts_line}
 use Rattle.lw_top.proofs.reader.cut.cut_line.Goals as goal
 
 pub returns-in-None : goal.returns-in-None

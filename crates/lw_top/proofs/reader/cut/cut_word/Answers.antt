@@ -1,4 +1,4 @@
-use Rattle.std.proofs.Common.{◌≡◌, ◌+◌, ◌<◌, List, length, sym, ◌∙◌, arith, None, position}
+use Rattle.std.proofs.Common.{◌≡◌, sym, ◌∙◌, arith, None, position}
 use Rattle.lw_calls.specs.Words.{is_space}
 use Rattle.lw_top.proofs.ReaderLines.{cuts_word, last_word, some_bytes}
 use Rattle.lw_top.proofs.reader.cut.cut_word.Goals as goal

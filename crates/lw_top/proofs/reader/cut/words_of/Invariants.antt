@@ -1,4 +1,4 @@
-use Rattle.std.proofs.Common.{◌≡◌, List, ◌++◌, option_map}
+use Rattle.std.proofs.Common.{◌≡◌, ◌++◌, option_map}
 use Rattle.lw_calls.specs.Words.{words}
 use Rattle.lw_top.specs.ReaderCuts.{targets, words_left, size_left}
 use Rattle.lw_top.proofs.reader.cut.words_of.Given as goal

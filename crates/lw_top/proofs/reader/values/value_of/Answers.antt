@@ -1,4 +1,4 @@
-use Rattle.std.proofs.Common.{length, take, drop, sym, ◌∙◌, arith}
+use Rattle.std.proofs.Common.{sym, ◌∙◌}
 use Rattle.lw_top.proofs.ReaderNumbers.{negative_value}
 use Rattle.lw_top.proofs.reader.values.value_of.Goals as goal
 

@@ -1,4 +1,4 @@
-use Rattle.std.proofs.Common.{sym, ap, ◌∙◌}
+use Rattle.std.proofs.Common.{ap, ◌∙◌}
 use Rattle.lw_calls.specs.Above.{with_name}
 use Rattle.lw_top.specs.ReaderCuts.{targets}
 use Rattle.lw_top.specs.ReaderForms.{act_meaning}

@@ -1,4 +1,4 @@
-use Rattle.std.proofs.Common.{◌≡◌, sym, ◌∙◌, ap, option_map}
+use Rattle.std.proofs.Common.{sym, ◌∙◌, ap, option_map}
 use Rattle.lw_top.specs.ReaderForms.{form_meaning}
 use Rattle.lw_top.proofs.ReaderTests.{line_good, line_bad, accepts_good, second_task}
 use Rattle.lw_top.proofs.reader.state.Reader.line.Goals as goal
