@@ -63,3 +63,16 @@ refused_calls = one_task 16 2 2 (fill 0 0 0 0 ∷ smart 9 0 8 1 ∷ smart 8 0 8 
 abbrev pub refused_calls_report : List ℕ
 refused_calls_report =
     text (codes "order 5" ∷ codes "0 0 0 0 0" ∷ codes "planes 16 2 2" ∷ codes "plane 0" ∷ codes "0003" ∷ codes "0000" ∷ codes "plane 1" ∷ codes "0000" ∷ codes "0000" ∷ codes "replies a 5" ∷ codes "not-open" ∷ codes "out-of-bounds" ∷ codes "ok" ∷ codes "already-open" ∷ codes "ok" ∷ codes "done" ∷ [])
+
+-- the script of that plan
+abbrev pub first_fill_script : List ℕ
+first_fill_script =
+    text (codes "screen 16 4 1" ∷ codes "task a" ∷ codes "create w smart front 0 0 7 3" ∷ codes "fill w 1 1 2 2" ∷ codes "end" ∷ [])
+
+-- the first two lines of a script, and a line of its task
+abbrev pub in_task : List ℕ → List ℕ
+in_task line = text (codes "screen 16 4 1" ∷ codes "task a" ∷ line ∷ [])
+
+-- a whole script, and a line behind it
+abbrev pub behind_end : List ℕ → List ℕ
+behind_end line = text (codes "screen 16 4 1" ∷ codes "task a" ∷ codes "end" ∷ line ∷ [])
