@@ -30,15 +30,18 @@ abbrev tested : List LineForm → LineForm → Result LineForm Reason
 tested above f =
     demand (is_in_place (part above) f) NotBuilt >>= (λ _. demand (is_in_range f) NotBuilt >>= (λ _. demand (nat_le (length (layer_names (f ∷ above))) name_limit) NotBuilt >>= (λ _. demand (nat_le (length (calls_of (f ∷ above))) call_limit) NotBuilt >>= (λ _. Ok f))))
 
+-- the same of a form that a line has, or has not
 told_form : (above : List LineForm) (o : Option LineForm) → Told false o (is_good_line above o) (ok_or o NotBuilt >>= tested above)
 told_form above None = refl
 told_form above (Some f) =
     told_tests f (is_in_place (part above) f) (is_in_range f) (nat_le (length (layer_names (f ∷ above))) name_limit) (nat_le (length (calls_of (f ∷ above))) call_limit)
 
+-- the same of the words that a line has, or has not
 told_words : (above : List LineForm) (ws : Option (List (List ℕ))) → Told false (option_and_then form_of ws) (is_good_line above (option_and_then form_of ws)) (ok_or ws NotBuilt >>= (λ v. ok_or (form_of v) NotBuilt >>= tested above))
 told_words above None = refl
 told_words above (Some ws) = told_form above (form_of ws)
 
+-- the same of a line that begins a second task, or does not
 told_second : (above : List LineForm) (second : Bool) (ws : Option (List (List ℕ))) → Told second (option_and_then form_of ws) (is_good_line above (option_and_then form_of ws)) (demand (not second) OneTaskOnly >>= (λ _. ok_or ws NotBuilt >>= (λ v. ok_or (form_of v) NotBuilt >>= tested above)))
 told_second above true ws = refl
 told_second above false ws = told_words above ws
@@ -104,6 +107,7 @@ answered_bad n above line ls r e = (zero, omega arith, omega arith, e, λ k h. a
 none_if_good : (second good : Bool) → second ≡ false → good ≡ true → cond second (Some OneTaskOnly) (cond (not good) (Some NotBuilt) (cond false (Some Missing) None)) ≡ None
 none_if_good second good e d = rw (e, d) refl
 
+-- below a line, whatever reading it tells
 answered_line : (n : ℕ) (above : List LineForm) (line : List ℕ) (ls : List (List ℕ)) (res : Result LineForm Reason) → Told (is_second_task above line) (line_form line) (is_good_line above (line_form line)) res → ((f : LineForm) → Answered (n + 1) (f ∷ above) ls (outcome (n + 1) (f ∷ above) ls)) → Answered n above (line ∷ ls) (numbered n res (λ f. outcome (n + 1) (f ∷ above) ls))
 answered_line n above line ls (Ok f) t h =
     answered_more n above line ls f (none_if_good _ _ t.0 t.1) t.2 (rw t.2 at t.1) (outcome (n + 1) (f ∷ above) ls) (h f)
@@ -130,6 +134,7 @@ none_bad ls (suc i) h r b =
     let d : reason_at ls (suc i) ≡ None = h i refl in
     cc
 
+-- what is said of an outcome is what the grammar says
 decided : (ls : List (List ℕ)) (a : Result Planned (ℕ × Reason)) → Answered 1 [] ls a → MatchResult a (Spells ls) (λ e. IsFirstBad ls e.0 e.1)
 decided ls (Ok p) h = record { good = λ n r b. none_bad ls n (λ i e. h.0 i) r b; spelled = h.1 }
 decided ls (Err e) h =
@@ -189,6 +194,7 @@ answer_spelled ls p s = go (outcome 1 [] ls) (answer_decides ls)
     go (Ok q) h = ap Ok (one_plan ls q p h s)
     go (Err e) h = absurd (not_both ls e.0 e.1 p h s)
 
+-- a refusal by its number and its reason
 same_refusal : (e : ℕ × Reason) (n : ℕ) (r : Reason) → (e.0 ≡ n) × (e.1 ≡ r) → (let f : ℕ × Reason → Result Planned (ℕ × Reason) = λ p. Err p in f e ≡ f (n, r))
 same_refusal e n r h = rw (← h.0, ← h.1) refl
 

@@ -44,6 +44,7 @@ pub record Good (above : List LineForm) (f : LineForm) : Type 0 where
   names : length (layer_names (f ∷ above)) ≤ name_limit
   calls : length (calls_of (f ∷ above)) ≤ call_limit
 
+-- each test of a good form holds
 good : (above : List LineForm) (f : LineForm) → is_good_form above f ≡ true → Good above f
 good above f h =
     let p = both _ _ h in
@@ -58,18 +59,21 @@ screen_place TaskDue w h d e = absurd (false≢true e)
 screen_place InTask w h d e = absurd (false≢true e)
 screen_place Ended w h d e = absurd (false≢true e)
 
+-- a task begins behind the screen line
 task_place : (p : Part) (n : List ℕ) → is_in_place p (TaskLine n) ≡ true → p ≡ TaskDue
 task_place ScreenDue n e = absurd (false≢true e)
 task_place TaskDue n e = refl
 task_place InTask n e = absurd (false≢true e)
 task_place Ended n e = absurd (false≢true e)
 
+-- a task ends inside it
 end_place : (p : Part) → is_in_place p EndLine ≡ true → p ≡ InTask
 end_place ScreenDue e = absurd (false≢true e)
 end_place TaskDue e = absurd (false≢true e)
 end_place InTask e = refl
 end_place Ended e = absurd (false≢true e)
 
+-- only the last part has ended
 ended_part : (p : Part) → has_ended p ≡ true → p ≡ Ended
 ended_part ScreenDue e = absurd (false≢true e)
 ended_part TaskDue e = absurd (false≢true e)
@@ -89,6 +93,7 @@ Sized TaskDue w h d = Screened w h d
 Sized InTask w h d = Screened w h d
 Sized Ended w h d = Screened w h d
 
+-- below the screen line, good lines give the sizes of a screen
 sized : (above : List LineForm) → AreGood above → Sized (part above) (screen_width above) (screen_height above) (screen_depth above)
 sized [] g = tt
 sized (ScreenLine w h d ∷ above) g =
@@ -110,6 +115,7 @@ Begun TaskDue n = n ≡ 0
 Begun InTask n = n ≡ 1
 Begun Ended n = n ≡ 1
 
+-- good lines have begun as many tasks as their part says
 begun : (above : List LineForm) → AreGood above → Begun (part above) (length (task_names above))
 begun [] g = refl
 begun (ScreenLine w h d ∷ above) g =
@@ -131,43 +137,53 @@ HasLayer (TaskLine n) = Unit {0}
 HasLayer (CallLine layers act) = (n : List ℕ) × (layers ≡ n ∷ [])
 HasLayer EndLine = Unit {0}
 
+-- of two forms that name one layer, each does
 choose : (b : Bool) (x y : Option LineForm) → IfSome x HasLayer → IfSome y HasLayer → IfSome (cond b x y) HasLayer
 choose true x y h k = h
 choose false x y h k = k
 
+-- a screen line names no layer
 screen_layer : (vs : List Value) → IfSome (screen_form vs) HasLayer
 screen_layer (Number w ∷ Number h ∷ Number d ∷ []) = tt
 screen_layer _ = tt
 
+-- a task line names no layer
 task_layer : (vs : List Value) → IfSome (task_form vs) HasLayer
 task_layer (Name n ∷ []) = tt
 task_layer _ = tt
 
+-- a create line names one layer
 create_layer : (vs : List Value) → IfSome (create_form vs) HasLayer
 create_layer (Name l ∷ Name kind ∷ Name place ∷ Number x0 ∷ Number y0 ∷ Number x1 ∷ Number y1 ∷ []) =
     choose (bytes_eq kind (codes "smart") && bytes_eq place (codes "front")) _ None (l, refl) tt
 create_layer _ = tt
 
+-- a fill line names one layer
 fill_layer : (vs : List Value) → IfSome (fill_form vs) HasLayer
 fill_layer (Name l ∷ Number x0 ∷ Number y0 ∷ Number x1 ∷ Number y1 ∷ []) = (l, refl)
 fill_layer _ = tt
 
+-- an end line names no layer
 end_layer : (vs : List Value) → IfSome (end_form vs) HasLayer
 end_layer [] = tt
 end_layer _ = tt
 
+-- so it is for each verb
 verb_layer : (verb : List ℕ) (vs : List Value) → IfSome (verb_form verb vs) HasLayer
 verb_layer verb vs =
     choose (bytes_eq verb (codes "screen")) (screen_form vs) _ (screen_layer vs) (choose (bytes_eq verb (codes "task")) (task_form vs) _ (task_layer vs) (choose (bytes_eq verb (codes "create")) (create_form vs) _ (create_layer vs) (choose (bytes_eq verb (codes "fill")) (fill_form vs) _ (fill_layer vs) (choose (bytes_eq verb (codes "end")) (end_form vs) None (end_layer vs) tt))))
 
+-- so it is for all words
 words_layer : (ws : List (List ℕ)) → IfSome (form_of ws) HasLayer
 words_layer [] = tt
 words_layer (verb ∷ ws) = verb_layer verb (map value_of ws)
 
+-- and for a line without words too
 split_layer : (o : Option (List (List ℕ))) → IfSome (option_and_then form_of o) HasLayer
 split_layer None = tt
 split_layer (Some ws) = words_layer ws
 
+-- every form of a line names one layer, or is no call
 line_layer : (line : List ℕ) (f : LineForm) → line_form line ≡ Some f → HasLayer f
 line_layer line f e = let P : Option LineForm → Type 0 = λ o. IfSome o HasLayer in subst P e (split_layer (words line))
 
@@ -176,6 +192,7 @@ place_step : (b : Bool) (rest : Bool) (i k : ℕ) → (rest ≡ true → i < k) 
 place_step true rest i k h e = omega arith
 place_step false rest i k h e = omega (arith, h e)
 
+-- the place of a name that is among the names
 place_below : (p : List ℕ → Bool) (names : List (List ℕ)) → list_any p names ≡ true → position_or_len p names < length names
 place_below p [] h = absurd (false≢true h)
 place_below p (n ∷ ns) h =
@@ -191,6 +208,7 @@ any_push p (m ∷ ms) n h = any_step (p m) (any_push p ms n h)
     any_step true e = refl
     any_step false e = e
 
+-- a name is the same as itself
 same_name : (n : List ℕ) → bytes_eq n n ≡ true
 same_name n = (bytes_eq-Decides n n).1 refl
 
@@ -207,6 +225,7 @@ one_more : (b : Bool) (names : List (List ℕ)) (n : List ℕ) → length names 
 one_more true names n = omega arith
 one_more false names n = omega (arith, length-append names (n ∷ []))
 
+-- with further names there are no fewer
 names_grow : (names ns : List (List ℕ)) → length names ≤ length (with_names names ns)
 names_grow names [] = omega arith
 names_grow names (n ∷ ns) = omega (arith, one_more (list_any (bytes_eq n) names) names n, names_grow (with_name names n) ns)
@@ -217,6 +236,7 @@ and_true true true h k = refl
 and_true true false h k = k
 and_true false b h k = h
 
+-- what fits sizes fits sizes with more slots
 more_slots : (s t : Sizes) (c : Call) → s.slots ≤ t.slots → s.hooks ≡ t.hooks → call_fits s c ≡ true → call_fits t c ≡ true
 more_slots s t (Create slot make) le same h =
     let p = both (nat_lt slot s.slots) (make_fits s make) h in
@@ -236,6 +256,7 @@ corners_fit r h s =
     let y = span_fits r.min_y r.max_y k.1 in
     and_true _ _ (and_true _ _ (and_true _ _ x.0 y.0) (and_true _ _ x.1 y.1)) refl
 
+-- the call of an act in its range fits, if its slot is one
 act_fits : (act : Act) (slot : ℕ) (s : Sizes) → is_act_in_range act ≡ true → slot < s.slots → call_fits s (call_of act (slot ∷ [])) ≡ true
 act_fits (SmartFront r) slot s h lt =
     let l : nat_lt slot s.slots ≡ true = grind (arith, nat_tests) in
@@ -244,10 +265,12 @@ act_fits (FillAct r) slot s h lt =
     let l : nat_lt slot s.slots ≡ true = grind (arith, nat_tests) in
     and_true _ _ l h
 
+-- the step of each act is given
 act_built : (act : Act) (slots : List ℕ) → is_built (call_of act slots) ≡ true
 act_built (SmartFront r) slots = refl
 act_built (FillAct r) slots = refl
 
+-- the call of a further line fits the sizes with its names
 new_call_fits : (above : List LineForm) (layers : List (List ℕ)) (act : Act) (s : Sizes) → HasLayer (CallLine layers act) → is_act_in_range act ≡ true → s.slots ≡ length (with_names (layer_names above) layers) → call_fits s (call_of act (map (slot_of (with_names (layer_names above) layers)) layers)) ≡ true
 new_call_fits above layers act s (n, e) h same =
     let P : List (List ℕ) → Type 0 = λ ls. s.slots ≡ length (with_names (layer_names above) ls) → call_fits s (call_of act (map (slot_of (with_names (layer_names above) ls)) ls)) ≡ true in
@@ -282,6 +305,7 @@ pub few_names : (above : List LineForm) → AreGood above → length (layer_name
 few_names [] g = omega arith
 few_names (f ∷ above) g = (good above f g.1).names
 
+-- good lines make few calls
 few_calls : (above : List LineForm) → AreGood above → length (calls_of above) ≤ call_limit
 few_calls [] g = omega arith
 few_calls (f ∷ above) g = (good above f g.1).calls

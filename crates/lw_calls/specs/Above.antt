@@ -26,6 +26,7 @@ part (TaskLine name ∷ above) = InTask
 part (CallLine layers act ∷ above) = part above
 part (EndLine ∷ above) = Ended
 
+-- no further line is due
 abbrev pub has_ended : Part → Bool
 has_ended ScreenDue = false
 has_ended TaskDue = false
@@ -46,11 +47,13 @@ screen_width [] = 0
 screen_width (ScreenLine w h d ∷ above) = unsigned_abs w
 screen_width (_ ∷ above) = screen_width above
 
+-- the same for its second number
 abbrev pub screen_height : List LineForm → ℕ
 screen_height [] = 0
 screen_height (ScreenLine w h d ∷ above) = unsigned_abs h
 screen_height (_ ∷ above) = screen_height above
 
+-- the same for its third number
 abbrev pub screen_depth : List LineForm → ℕ
 screen_depth [] = 0
 screen_depth (ScreenLine w h d ∷ above) = unsigned_abs d

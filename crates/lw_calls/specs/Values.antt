@@ -9,9 +9,11 @@ pub data Value : Type 0 where
   Number : ℤ → Value
   Odd : Value
 
+-- a letter of ASCII, large or small
 abbrev pub is_letter : ℕ → Bool
 is_letter b = (nat_le 65 b && nat_le b 90) || (nat_le 97 b && nat_le b 122)
 
+-- a decimal digit
 abbrev pub is_digit : ℕ → Bool
 is_digit b = nat_le 48 b && nat_le b 57
 

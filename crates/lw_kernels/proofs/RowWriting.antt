@@ -162,6 +162,15 @@ pub byte_bit : (t : Bool) (v a b new old : ℕ) → v ≡ (if t then a else b) �
 byte_bit true v a b new old is here other = is ∙ here refl
 byte_bit false v a b new old is here other = is ∙ other
 
+-- a minterm's value for equal bits
+pub minterm_same : (m b c b' c' : ℕ) → b ≡ b' → c ≡ c' → minterm_bit m b c ≡ minterm_bit m b' c'
+minterm_same m b c b' c' p q = ap (λ n. minterm_bit m n c) p ∙ ap (λ n. minterm_bit m b' n) q
+
+-- a byte that is blitted has the minterm's values between the two, if their sources are old, and old bits elsewhere
+pub blitted_bit : (t : Bool) (v bit minterm now was old : ℕ) → v ≡ (if t then minterm_bit minterm now bit else bit) → (t ≡ true → now ≡ was) → bit ≡ old → v ≡ (if t then minterm_bit minterm was old else old)
+blitted_bit true v bit minterm now was old is source same = is ∙ minterm_same minterm now bit was old (source refl) same
+blitted_bit false v bit minterm now was old is source same = is ∙ same
+
 -- the list of a row's bits has each of them, and none past the row
 pub bits-at : (row : List ℕ) (x : ℕ) → get_or (row_bits row) x 0 ≡ row_bit row x
 bits-at row x =
@@ -197,7 +206,3 @@ ceil_reaches n = grind (arith, nat_tests)
 -- the bytes that are written are in the row
 pub ceil_inside : (n long index : ℕ) → n ≤ 8 * long → index < div_ceil n 8 → index < long
 ceil_inside n long index inside below = grind (arith, nat_tests)
-
--- a minterm's value for equal bits
-pub minterm_same : (m b c b' c' : ℕ) → b ≡ b' → c ≡ c' → minterm_bit m b c ≡ minterm_bit m b' c'
-minterm_same m b c b' c' p q = ap (λ n. minterm_bit m n c) p ∙ ap (λ n. minterm_bit m b' n) q

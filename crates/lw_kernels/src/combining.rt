@@ -1,6 +1,7 @@
 ghost use Rattle.std.specs.Prelude.{◌≡◌, ℕ, ◌+◌, ◌-◌, ◌*◌, ◌^◌, ◌<◌, ◌≤◌, if◌then◌else◌, length, slice_index};
 ghost use Rattle.std.specs.Int.{bit_at};
 ghost use Rattle.lw_planes.specs.Row.{row_bit, row_bits};
+ghost use Rattle.lw_planes.specs.Minterm.{minterm_bit};
 ghost use Rattle.lw_kernels.specs.Kernel.{blit_bit, is_between, is_named, with_named};
 
 use crate::bytes::{eight_bits, minterm_byte, replaced};
@@ -23,9 +24,7 @@ pub fn combine(to: &mut [u8], to_bit: u32, source: &[u8], source_bit: u32, count
     let source_bit = source_bit as usize;
     let end = to_bit + count as usize;
     for index in to_bit / 8..end.div_ceil(8) {
-        let bits = aligned(source, source_bit, to_bit, index);
-        let value = minterm_byte(minterm, bits, to[index]);
-        to[index] = replaced(to[index], value, to_bit, end, index);
+        to[index] = blit_byte(to[index], to_bit, end, source, source_bit, minterm, index);
     }
 }
 
@@ -63,9 +62,7 @@ fn combine_forwards(row: &mut [u8], to_bit: usize, source_bit: usize, end: usize
         else row_bit row.old x) }
 {
     for index in to_bit / 8..end.div_ceil(8) {
-        let bits = aligned(row, source_bit, to_bit, index);
-        let value = minterm_byte(minterm, bits, row[index]);
-        row[index] = replaced(row[index], value, to_bit, end, index);
+        row[index] = blit_byte(row[index], to_bit, end, row, source_bit, minterm, index);
     }
 }
 
@@ -80,10 +77,30 @@ fn combine_backwards(row: &mut [u8], to_bit: usize, source_bit: usize, end: usiz
         else row_bit row.old x) }
 {
     for index in (to_bit / 8..end.div_ceil(8)).rev() {
-        let bits = aligned(row, source_bit, to_bit, index);
-        let value = minterm_byte(minterm, bits, row[index]);
-        row[index] = replaced(row[index], value, to_bit, end, index);
+        row[index] = blit_byte(row[index], to_bit, end, row, source_bit, minterm, index);
     }
+}
+
+// Byte `index` of a destination, once its bits from bit `to_bit` of the row on, before bit `end`, have
+// the minterm's values for their source bits and for themselves.
+fn blit_byte(
+    old: u8,
+    to_bit: usize,
+    end: usize,
+    source: &[u8],
+    source_bit: usize,
+    minterm: u8,
+    index: usize,
+) -> u8
+    requires near { index < 2 ^ 60 }
+    requires near_source { source_bit < 2 ^ 60 }
+    requires reaches { to_bit < 8 * index + 8 }
+    ensures { (j : ℕ) → j < 8 → bit_at result (7 - j) ≡ (if is_between to_bit end (8 * index + j)
+        then minterm_bit minterm (row_bit source.now (source_bit + (8 * index + j - to_bit))) (bit_at old (7 - j))
+        else bit_at old (7 - j)) }
+{
+    let bits = aligned(source, source_bit, to_bit, index);
+    replaced(old, minterm_byte(minterm, bits, old), to_bit, end, index)
 }
 
 // The source bits of byte `index` of a destination: its bit x, counted in the whole row and not before

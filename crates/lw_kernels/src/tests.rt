@@ -1,6 +1,13 @@
-ghost use Rattle.std.specs.Prelude.{◌*◌, ◌<◌, length};
+ghost use Rattle.std.specs.Prelude.{◌≡◌, ◌+◌, ◌*◌, ◌<◌, ◌≤◌, if◌then◌else◌, length};
+ghost use Rattle.std.specs.Int.{bit_at};
+ghost use Rattle.lw_planes.specs.Row.{bit_of};
+ghost use Rattle.lw_planes.specs.Bitmap.{pen_at};
+ghost use Rattle.lw_planes.specs.Change.{with_plane_row};
+ghost use Rattle.lw_kernels.specs.Kernel.{is_named};
 
 use super::*;
+use lw_planes::Planes;
+use std::test::Fail;
 
 const COUNTS: [u32; 8] = [0, 1, 7, 8, 9, 63, 64, 65];
 
@@ -24,6 +31,38 @@ fn minterm_value(minterm: u8, source: bool, old: bool) -> bool {
         (false, true) => minterm & 0x20 != 0,
         (false, false) => minterm & 0x10 != 0,
     }
+}
+
+// Fills a part of row `y` of one plane: a caller that lends the row, and knows which bitmap results.
+fn fill_row(planes: &mut Planes, plane: u32, y: u32, from: u32, count: u32, bit: bool)
+    requires plane { plane < planes.old.depth }
+    requires row { y < planes.old.height }
+    requires columns { from + count ≤ planes.old.width }
+    ensures { planes.new ≡ with_plane_row planes.old plane y (λ x. if is_named from count x
+        then bit_of bit
+        else bit_at (pen_at planes.old x y) plane) }
+{
+    fill(planes.row_mut(plane, y), from, count, bit);
+}
+
+// The bits 7 and 8 of plane 1 are the last of one byte and the first of the next.
+#[test]
+fn fill_of_a_lent_row_changes_that_row_of_its_plane(rt: HostRuntime) -> Result<(), Fail> {
+    let mut planes = Planes::new(rt.alloc(), 10, 2, 2)?;
+    planes.set_pen(8, 0, 1);
+    fill_row(&mut planes, 1, 0, 7, 2, true);
+    assert_eq!(rt; planes.row(1, 0), [0x01, 0x80].as_slice());
+    assert_eq!(rt;
+        (
+            planes.pen(6, 0),
+            planes.pen(7, 0),
+            planes.pen(8, 0),
+            planes.pen(9, 0),
+            planes.pen(7, 1)
+        ),
+        (0, 2, 3, 0, 0)
+    );
+    Ok(())
 }
 
 #[test]

@@ -79,15 +79,15 @@ bit-stored w h d bytes k x y deep left low =
 pub row_start-inside : (h n d k y : ℕ) → k < d → y < h → row_start h n k y + n ≤ d * h * n
 row_start-inside h n d k y deep low =
     let planes : (k + 1) * h ≤ d * h = mul-le (k + 1) h d h (omega arith) (omega arith) in
-    let lines : k * h + y + 1 ≤ d * h = omega arith in
-    let whole : (k * h + y + 1) * n ≤ d * h * n = mul-le (k * h + y + 1) n (d * h) n lines (omega arith) in
+    let rows : k * h + y + 1 ≤ d * h = omega arith in
+    let whole : (k * h + y + 1) * n ≤ d * h * n = mul-le (k * h + y + 1) n (d * h) n rows (omega arith) in
     omega arith
 
 -- the planes of the greatest sizes have at most four million bytes
 pub planes-small : (h n d : ℕ) → h ≤ 2048 → n ≤ 256 → d ≤ 8 → d * h * n ≤ 4194304
 planes-small h n d high wide deep =
-    let lines : d * h ≤ 8 * 2048 = mul-le d h 8 2048 deep high in
-    mul-le (d * h) n (8 * 2048) 256 lines wide
+    let rows : d * h ≤ 8 * 2048 = mul-le d h 8 2048 deep high in
+    mul-le (d * h) n (8 * 2048) 256 rows wide
 
 -- a place by its row among all rows
 pub place-row : (w h k x y : ℕ) → bit_place w h k x y ≡ (k * h + y) * (8 * row_bytes w) + x

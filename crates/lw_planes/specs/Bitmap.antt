@@ -24,7 +24,7 @@ pen_at b x y = at 0 b.rows x y
 abbrev pub row_at : Bitmap → ℕ → List ℕ
 row_at b y = slice_index_or b.rows y []
 
--- A table of this size whose every pen has a bit in these planes alone.
+-- A table of this size whose every pen is below 2 ^ depth.
 pub record IsBitmap (b : Bitmap) : Type 0 where
   pub rows : length b.rows ≡ b.height
   pub columns : (y : ℕ) → y < b.height → length (row_at b y) ≡ b.width

@@ -77,7 +77,7 @@ impl Planes {
     /// The pen at column `x` and row `y`, both in range.
     pub fn pen(&self, x: u32, y: u32) -> u8
         requires column { x < self.now.width }
-        requires line { y < self.now.height }
+        requires row { y < self.now.height }
         ensures value { result ≡ pen_at self.now x y }
         ensures small { result < 2 ^ self.now.depth }
     {
@@ -90,7 +90,7 @@ impl Planes {
     /// power of the depth. Every other pixel stays as it was.
     pub fn set_pen(&mut self, x: u32, y: u32, pen: u8)
         requires column { x < self.old.width }
-        requires line { y < self.old.height }
+        requires row { y < self.old.height }
         requires small { pen < 2 ^ self.old.depth }
         ensures { self.new ≡ with_pen self.old x y pen }
     {
@@ -99,12 +99,13 @@ impl Planes {
         scatter_pen(self.bytes.as_mut_slice(), place, step, self.depth, pen);
     }
 
-    /// The bytes of row `y` of one plane, both in range: `((width + 15) / 16) * 2` of them, the leftmost
-    /// pixel in the most significant bit of the first.
+    /// The bytes of row `y` of one plane, both in range: `((width + 15) / 16) * 2` of them, which have a
+    /// bit for each pixel, the leftmost in the most significant bit of the first.
     pub fn row(&self, plane: u32, y: u32) -> &[u8]
         requires plane { plane < self.now.depth }
-        requires line { y < self.now.height }
+        requires row { y < self.now.height }
         ensures long { length result.now ≡ row_bytes self.now.width }
+        ensures wide { self.now.width ≤ 8 * length result.now }
         ensures bits { (x : ℕ) → x < self.now.width →
             row_bit result.now x ≡ bit_at (pen_at self.now x y) plane }
     {
@@ -113,13 +114,15 @@ impl Planes {
         &self.bytes[start..start + length]
     }
 
-    /// Lends the bytes of row `y` of one plane, both in range. After the loan each pixel of this row has
-    /// in this plane the bit that the bytes then hold, and all else stays as it was.
+    /// Lends the bytes of row `y` of one plane, both in range, as `row` shows them. After the loan each
+    /// pixel of this row has in this plane the bit that the bytes then hold, and all else stays as it was:
+    /// `row_write_changes_its_row` is the law of what a written row changes.
     pub fn row_mut(&mut self, plane: u32, y: u32) -> &mut [u8]
         requires plane { plane < self.old.depth }
-        requires line { y < self.old.height }
+        requires row { y < self.old.height }
         ensures* writes_back { sem 𝓛 (LendsRow self.entry plane y result) }
         ensures long { length result.now ≡ row_bytes self.old.width }
+        ensures wide { self.old.width ≤ 8 * length result.now }
         ensures bits { (x : ℕ) → x < self.old.width →
             row_bit result.now x ≡ bit_at (pen_at self.old x y) plane }
         ensures planes { IsPlanes self.old }
@@ -177,20 +180,26 @@ mod tests {
         Ok(())
     }
 
-    // The lent bytes 01 02 and padding give the pixels 7 and 14 of row 1 plane 1's bit, which is 2.
+    // Row 1 of plane 1 is lent and gets the bytes 01 02 FF FF: a pen has bit 1 where these have a one, at
+    // the pixels 7, 14 and 16. The 15 ones behind pixel 16 are padding, which no pixel sees.
     #[test]
     fn a_row_that_was_lent_is_written_back(rt: HostRuntime) -> Result<(), Fail> {
-        let mut planes = Planes::new(rt.alloc(), 16, 2, 2)?;
+        let mut planes = Planes::new(rt.alloc(), 17, 3, 2)?;
         planes.set_pen(7, 1, 1);
         let row = planes.row_mut(1, 1);
         row[0] = 1;
         row[1] = 2;
-        assert_eq!(rt;
-            (planes.pen(7, 1), planes.pen(14, 1), planes.pen(7, 0)),
-            (3, 2, 0)
-        );
-        assert_eq!(rt; planes.row(0, 1), [1, 0].as_slice());
-        assert_eq!(rt; planes.row(1, 1), [1, 2].as_slice());
+        row[2] = 0xff;
+        row[3] = 0xff;
+        let want = [0, 0, 0, 0, 0, 0, 0, 3, 0, 0, 0, 0, 0, 0, 2, 0, 2];
+        for x in 0..17 {
+            assert_eq!(rt;
+                (planes.pen(x, 0), planes.pen(x, 1), planes.pen(x, 2)),
+                (0, want[x as usize], 0),
+                "column {x}"
+            );
+        }
+        assert_eq!(rt; planes.row(0, 1), [1, 0, 0, 0].as_slice());
         Ok(())
     }
 }

@@ -99,10 +99,6 @@ pub covers_append : (rs ss : List Rectangle) (x y : ℤ) → covers (rs ++ ss) x
 unfolding covers
 covers_append rs ss x y = list_any-append (λ r. has_pixel r x y) rs ss
 
--- the rectangles of a band with these runs
-pub run_rectangles : ℤ → ℤ → List Run → List Rectangle
-run_rectangles top bottom rs = map (λ r. record { min_x = r.first; min_y = top; max_x = r.last; max_y = bottom }) rs
-
 and_both : (p q t : Bool) → ((p && t) || (t && q)) ≡ (t && (p || q))
 and_both true q true = refl
 and_both true true false = refl

@@ -1,12 +1,12 @@
 -- What the operations on regions do to sets and lists, and the laws of canonical lists.
-use Rattle.std.proofs.Common.{◌≡◌, Bool, false, not, ◌&&◌, ◌||◌, List, [], ◌∷◌, ℤ, refl, ap, sym, ◌∙◌}
+use Rattle.std.proofs.Common.{◌≡◌, ◌↔◌, Bool, false, not, ◌&&◌, ◌||◌, List, [], ◌∷◌, ℤ, refl, ap, sym, subst, ◌∙◌}
 use Rattle.lw_region.specs.declared.operation.Operation.{Operation}
 use Rattle.lw_region.specs.declared.operation.Operation.TheVariants.{Union, Intersection, SymmetricDifference, Difference}
 use Rattle.lw_region.specs.Rectangle.{Rectangle, has_pixel, IsOrdered}
 use Rattle.lw_region.specs.Order.{IsInOrder}
 use Rattle.lw_region.specs.Pixels.{Pixel, precedes, contains_pixel, pixels_of, union, intersection, difference, symmetric_difference}
 use Rattle.lw_region.specs.Bands.{Run, Band, bands, covers}
-use Rattle.lw_region.specs.Banded.{IsCanonical, flat}
+use Rattle.lw_region.specs.Banded.{IsCanonical, IsBanded, flat}
 use Rattle.lw_region.specs.Operations.{holds}
 use Rattle.lw_region.specs.Regions.{IsCombined}
 use Rattle.lw_region.proofs.Order.{or_none}
@@ -87,6 +87,19 @@ by_list operation a other after b e m = rw e at m
 -- the bands of a set are canonical
 pub canonical_bands : (s : List Pixel) → IsCanonical (bands s)
 canonical_bands s = rw (bands_flat s) (flat_canonical (band_list s) (are_band_list s))
+
+-- a canonical list is the rectangles of its set's bands
+canonical_banded : (rects : List Rectangle) → IsCanonical rects → IsBanded rects
+canonical_banded rects h =
+    let s = pixels_of rects in record { bands = band_list s; are = are_band_list s; rectangles = sym (bands_flat s) ∙ h }
+
+-- the rectangles of bands are canonical
+banded_canonical : (rects : List Rectangle) → IsBanded rects → IsCanonical rects
+banded_canonical rects h = subst IsCanonical h.rectangles (flat_canonical h.bands h.are)
+
+-- a list is canonical exactly where it is the rectangles of bands
+pub canonical_is_banded : (rects : List Rectangle) → IsCanonical rects ↔ IsBanded rects
+canonical_is_banded rects = (canonical_banded rects, banded_canonical rects)
 
 -- the set of the bands of a set is the set
 pub set_of_bands : (s : List Pixel) → IsInOrder precedes s → pixels_of (bands s) ≡ s

@@ -46,3 +46,9 @@ AreBands (b ∷ bs) = IsBand b × IsAbove b bs × AreBands bs
 -- the rectangles of these bands
 unfoldable pub flat : List Band → List Rectangle
 flat bs = flat_map band_rectangles bs
+
+-- the list is the rectangles of such bands, band by band downwards and run by run to the right
+pub record IsBanded (rects : List Rectangle) : Type 0 where
+  pub bands : List Band
+  pub are : AreBands bands
+  pub rectangles : flat bands ≡ rects

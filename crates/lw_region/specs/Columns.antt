@@ -1,4 +1,4 @@
--- One band of a region as the columns of its rectangles, and the sweep over the columns of two bands.
+-- Words of this crate's private contracts alone: one band of a region as the columns of its rectangles, and the sweep over the columns of two bands.
 use Rattle.std.specs.Prelude.{◌≡◌, Bool, true, false, cond, List, [], ◌∷◌, ◌++◌, map, ℤ, pos, ◌+ℤ◌, ◌<ℤ◌, ◌≤ℤ◌, int_lt, int_le}
 use Rattle.std.specs.List.{list_any}
 use Rattle.lw_region.specs.declared.operation.Operation.{Operation}

@@ -1,18 +1,18 @@
 -- What the operations on regions make, and the laws of canonical lists.
-use Rattle.std.specs.Prelude.{◌≡◌, ℕ, ◌<◌, false, ◌&&◌, ◌||◌, not, List, [], ◌∷◌, length, slice_index_or, ℤ}
+use Rattle.std.specs.Prelude.{◌≡◌, ◌↔◌, ℕ, ◌<◌, false, ◌&&◌, ◌||◌, not, List, [], ◌∷◌, length, slice_index_or, ℤ}
 use Rattle.lw_region.specs.declared.operation.Operation.{Operation}
 use Rattle.lw_region.specs.Rectangle.{Rectangle, AreApart}
 use Rattle.lw_region.specs.Order.{IsInOrder}
 use Rattle.lw_region.specs.Pixels.{Pixel, precedes, contains_pixel, pixels_of, union, intersection, difference, symmetric_difference}
 use Rattle.lw_region.specs.Bands.{bands, covers}
-use Rattle.lw_region.specs.Banded.{IsCanonical}
+use Rattle.lw_region.specs.Banded.{IsCanonical, IsBanded}
 use Rattle.lw_region.specs.Operations.{holds}
 
 -- the set of one rectangle
 abbrev pub rectangle_set : Rectangle → List Pixel
 rectangle_set r = pixels_of (r ∷ [])
 
--- `after` is the canonical list of the pixels for which the operation holds on the lists a and b
+-- A word of this crate's private contracts alone: `after` is the canonical list of the pixels for which the operation holds on the lists a and b
 pub record IsCombined (operation : Operation) (a b after : List Rectangle) : Type 0 where
   pub canonical : IsCanonical after
   pub pixels : (x y : ℤ) → covers after x y ≡ holds operation (covers a x y) (covers b x y)
@@ -28,6 +28,10 @@ abbrev pub BandsLaw : Type 0
 BandsLaw =
     ((s : List Pixel) (x y : ℤ) → covers (bands s) x y ≡ contains_pixel s x y)
     × ((s : List Pixel) → IsCanonical (bands s)) × ((s : List Pixel) → IsInOrder precedes s → pixels_of (bands s) ≡ s)
+
+-- a list is canonical exactly where it is the rectangles of bands from top to bottom, no two adjacent ones with equal runs, each with its runs from left to right, no two of which touch or overlap
+abbrev pub BandedLaw : Type 0
+BandedLaw = (rects : List Rectangle) → IsCanonical rects ↔ IsBanded rects
 
 -- canonical lists with the same pixels, or with the same set, are one list
 abbrev pub OneListLaw : Type 0
@@ -46,15 +50,27 @@ DisjointLaw =
     (rects : List Rectangle) → IsCanonical rects → (i j : ℕ) (d : Rectangle) → i < j → j < length rects
     → AreApart (slice_index_or rects i d) (slice_index_or rects j d)
 
--- the pixels of the sets that the operations on sets give
-abbrev pub SetOperationsLaw : Type 0
-SetOperationsLaw =
+-- the pixels that the operations on sets give
+abbrev pub OperationPixels : Type 0
+OperationPixels =
     ((s t : List Pixel) (x y : ℤ) → contains_pixel (union s t) x y ≡ (contains_pixel s x y || contains_pixel t x y))
     × ((s t : List Pixel) (x y : ℤ) → contains_pixel (intersection s t) x y ≡ (contains_pixel s x y && contains_pixel t x y))
     × ((s t : List Pixel) (x y : ℤ) → contains_pixel (difference s t) x y ≡ (contains_pixel s x y && not (contains_pixel t x y)))
     × ((s t : List Pixel) (x y : ℤ)
     → contains_pixel (symmetric_difference s t) x y
     ≡ ((contains_pixel s x y && not (contains_pixel t x y)) || (contains_pixel t x y && not (contains_pixel s x y))))
+
+-- the operations on sets give sets: lists of pixels in reading order
+abbrev pub OperationOrder : Type 0
+OperationOrder =
+    ((s t : List Pixel) → IsInOrder precedes (union s t))
+    × ((s t : List Pixel) → IsInOrder precedes s → IsInOrder precedes (intersection s t))
+    × ((s t : List Pixel) → IsInOrder precedes s → IsInOrder precedes (difference s t))
+    × ((s t : List Pixel) → IsInOrder precedes (symmetric_difference s t))
+
+-- the operations on sets give sets, with these pixels
+abbrev pub SetOperationsLaw : Type 0
+SetOperationsLaw = OperationPixels × OperationOrder
 
 -- sets in reading order with the same pixels are one set
 abbrev pub OneSetLaw : Type 0

@@ -1,7 +1,7 @@
-//! Laws of pixel sets and of canonical lists, for the crates above: each function does nothing, and its contract
-//! is the law.
+// Laws of pixel sets and of canonical lists, for the crates above: each function does nothing, and its contract
+// is the law.
 
-ghost use Rattle.lw_region.specs.Regions.{SetOfListLaw, BandsLaw, OneListLaw, EmptyListLaw, DisjointLaw, SetOperationsLaw, OneSetLaw};
+ghost use Rattle.lw_region.specs.Regions.{SetOfListLaw, BandsLaw, BandedLaw, OneListLaw, EmptyListLaw, DisjointLaw, SetOperationsLaw, OneSetLaw};
 
 /// A pixel is in the set of a list exactly where some rectangle of the list has it.
 pub fn set_of_list_law()
@@ -13,12 +13,18 @@ pub fn bands_law()
     ensures { BandsLaw }
 {}
 
+/// A list is canonical exactly where it is the rectangles of bands: bands from top to bottom, no two adjacent ones
+/// with equal runs, and in each band its runs from left to right, no two of them touching or overlapping.
+pub fn banded_law()
+    ensures { BandedLaw }
+{}
+
 /// One set has one canonical list.
 pub fn one_list_law()
     ensures { OneListLaw }
 {}
 
-/// A canonical list with no pixel is the empty list.
+/// A canonical list with no pixel is the empty list, and the empty list has the empty set, whose bands it is.
 pub fn empty_list_law()
     ensures { EmptyListLaw }
 {}
@@ -28,7 +34,8 @@ pub fn disjoint_law()
     ensures { DisjointLaw }
 {}
 
-/// Which pixels the operations on sets give.
+/// The operations on sets give sets in reading order, and which pixels these have. The intersection and the
+/// difference are in order where the first set is.
 pub fn set_operations_law()
     ensures { SetOperationsLaw }
 {}

@@ -66,6 +66,7 @@ impl Rect {
         ensures value { result.now ≡ self.now ∷ [] }
         ensures ordered { IsOrdered self.now }
     {
+        // Reading a field is what makes the invariant known to the proof, for `ordered`.
         let _ = &self.min_x;
         slice::from_ref(self)
     }

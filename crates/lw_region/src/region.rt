@@ -17,28 +17,29 @@ use std::marker::Model;
 /// with equal runs (this project's own form). So one set has one list.
 #[derive(Debug, Drop)]
 pub struct Region {
-    rects: Option<Vec<Rect>>,
+    rects: Vec<Rect>,
 }
 
 impl Model for Region {
-    ghost use Rattle.std.specs.Prelude.{List, []};
-    ghost use Rattle.std.specs.Option.{option_map, unwrap_or};
+    ghost use Rattle.std.specs.Prelude.{List};
     ghost use Rattle.lw_region.specs.Rectangle.{Rectangle};
     ghost use Rattle.lw_region.specs.Banded.{IsCanonical};
 
     ghost Value = { List Rectangle };
 
-    ghost view = { λ r. unwrap_or (option_map (λ v. v.items) r.rects) [] };
+    ghost view = { λ r. r.rects.items };
 
-    ghost invariant = { λ r. IsCanonical (unwrap_or (option_map (λ v. v.items) r.rects) []) };
+    ghost invariant = { λ r. IsCanonical r.rects.items };
 }
 
 impl Region {
-    /// The region with no pixel (NewRegion).
-    pub fn new() -> Region
+    /// The region with no pixel (NewRegion). It takes no memory yet.
+    pub fn new(alloc: Global) -> Region
         ensures { result ≡ [] }
     {
-        Region { rects: None }
+        Region {
+            rects: Vec::new(alloc),
+        }
     }
 
     /// The canonical list of the region's rectangles.
@@ -46,10 +47,7 @@ impl Region {
         ensures value { result.now ≡ self.now }
         ensures canonical { IsCanonical self.now }
     {
-        match &self.rects {
-            None => &[],
-            Some(rects) => rects.as_slice(),
-        }
+        self.rects.as_slice()
     }
 
     /// Whether the pixel at column `x` and row `y` is in the region (this project's own).
@@ -65,14 +63,14 @@ impl Region {
         ensures { IfOk result (λ made. made ≡ self.now) }
     {
         let rects = Vec::from_slice(alloc, self.rects())?;
-        Ok(Region { rects: Some(rects) })
+        Ok(Region { rects })
     }
 
     /// Takes all pixels out of the region (ClearRegion).
     pub fn clear(&mut self)
         ensures { self.new ≡ [] }
     {
-        self.rects = None;
+        self.rects.clear();
     }
 
     /// Adds the pixels of the rectangle (OrRectRegion). After an error the region is
@@ -103,8 +101,8 @@ impl Region {
         self.combine(alloc, Operation::Intersection, rect.as_list())
     }
 
-    /// Adds the pixels of the rectangle that are not in the region, and takes out those that are (XorRectRegion). After an error the region is
-    /// as before.
+    /// Adds the pixels of the rectangle that are not in the region, and takes out those that are (XorRectRegion).
+    /// After an error the region is as before.
     pub fn xor_rect(&mut self, alloc: Global, rect: &Rect) -> Result<(), AllocError>
         ensures pixels { OnOk result
             ((x y : ℤ) → covers self.new x y ≡ ((covers self.old x y && not (has_pixel rect.now x y)) || (has_pixel rect.now x y && not (covers self.old x y)))) }
@@ -143,7 +141,7 @@ impl Region {
         ensures err { OnErr result (self.new ≡ self.old) }
     {
         let made = sweep(alloc, operation, self.rects(), other)?;
-        self.rects = Some(made);
+        self.rects = made;
         Ok(())
     }
 }
@@ -174,7 +172,8 @@ pub fn and_region(alloc: Global, from: &Region, into: &mut Region) -> Result<(),
     into.combine(alloc, Operation::Intersection, from.rects())
 }
 
-/// Adds the pixels of `from` that are not in `into`, and takes out those that are (XorRegionRegion). After an error both are as before.
+/// Adds the pixels of `from` that are not in `into`, and takes out those that are (XorRegionRegion). After an error
+/// both are as before.
 pub fn xor_region(alloc: Global, from: &Region, into: &mut Region) -> Result<(), AllocError>
     ensures pixels { OnOk result
         ((x y : ℤ) → covers into.new x y ≡ ((covers into.old x y && not (covers from.now x y)) || (covers from.now x y && not (covers into.old x y)))) }

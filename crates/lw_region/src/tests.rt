@@ -3,9 +3,12 @@ use std::alloc::Global;
 use std::mem;
 use std::test::Fail;
 
-const BOTTOM: i16 = -32768;
+const LEAST: i16 = -32768;
 
-const TOP: i16 = 32767;
+const GREATEST: i16 = 32767;
+
+// A region whose three bands differ in their runs.
+static STEPPED: [[i16; 4]; 4] = [[0, 0, 7, 0], [0, 1, 1, 1], [6, 1, 7, 1], [2, 2, 5, 2]];
 
 #[derive(Clone, Copy)]
 enum Call {
@@ -181,34 +184,37 @@ static CASES: [Case; 30] = [
     },
     // Bounds at the ends of the range.
     Case {
-        first: &[[BOTTOM, BOTTOM, TOP, TOP]],
+        first: &[[LEAST, LEAST, GREATEST, GREATEST]],
         call: Call::Or,
         second: &[[0, 0, 0, 0]],
-        due: &[[BOTTOM, BOTTOM, TOP, TOP]],
+        due: &[[LEAST, LEAST, GREATEST, GREATEST]],
     },
     Case {
-        first: &[[BOTTOM, BOTTOM, TOP, TOP]],
+        first: &[[LEAST, LEAST, GREATEST, GREATEST]],
         call: Call::Xor,
-        second: &[[TOP, TOP, TOP, TOP]],
-        due: &[[BOTTOM, BOTTOM, TOP, 32766], [BOTTOM, TOP, 32766, TOP]],
+        second: &[[GREATEST, GREATEST, GREATEST, GREATEST]],
+        due: &[
+            [LEAST, LEAST, GREATEST, 32766],
+            [LEAST, GREATEST, 32766, GREATEST],
+        ],
     },
     Case {
-        first: &[[BOTTOM, BOTTOM, TOP, TOP]],
+        first: &[[LEAST, LEAST, GREATEST, GREATEST]],
         call: Call::And,
-        second: &[[BOTTOM, BOTTOM, BOTTOM, BOTTOM]],
-        due: &[[BOTTOM, BOTTOM, BOTTOM, BOTTOM]],
+        second: &[[LEAST, LEAST, LEAST, LEAST]],
+        due: &[[LEAST, LEAST, LEAST, LEAST]],
     },
     Case {
-        first: &[[BOTTOM, BOTTOM, TOP, TOP]],
+        first: &[[LEAST, LEAST, GREATEST, GREATEST]],
         call: Call::Clear,
-        second: &[[BOTTOM, BOTTOM, TOP, BOTTOM]],
-        due: &[[BOTTOM, -32767, TOP, TOP]],
+        second: &[[LEAST, LEAST, GREATEST, LEAST]],
+        due: &[[LEAST, -32767, GREATEST, GREATEST]],
     },
     Case {
-        first: &[[BOTTOM, 0, 0, 0]],
+        first: &[[LEAST, 0, 0, 0]],
         call: Call::Or,
-        second: &[[1, 0, TOP, 0], [BOTTOM, 1, TOP, TOP]],
-        due: &[[BOTTOM, 0, TOP, TOP]],
+        second: &[[1, 0, GREATEST, 0], [LEAST, 1, GREATEST, GREATEST]],
+        due: &[[LEAST, 0, GREATEST, GREATEST]],
     },
 ];
 
@@ -217,7 +223,7 @@ fn rect_of(bounds: [i16; 4]) -> Result<Rect, Fail> {
 }
 
 fn region_of(alloc: Global, rects: &[[i16; 4]]) -> Result<Region, Fail> {
-    let mut region = Region::new();
+    let mut region = Region::new(alloc);
     for bounds in rects {
         region.or_rect(alloc, &rect_of(*bounds)?)?;
     }
@@ -283,32 +289,28 @@ fn operations_give_the_lists_worked_out_by_hand(rt: HostRuntime) -> Result<(), F
 }
 
 #[test]
-fn two_registers_are_combined_step_by_step(rt: HostRuntime) -> Result<(), Fail> {
+fn two_regions_are_combined_step_by_step(rt: HostRuntime) -> Result<(), Fail> {
     let alloc = rt.alloc();
-    let mut first = Region::new();
+    let mut first = Region::new(alloc);
     first.or_rect(alloc, &rect_of([0, 0, 3, 1])?)?;
     first.or_rect(alloc, &rect_of([4, 0, 7, 1])?)?;
     assert!(rt; has_list(&first, &[[0, 0, 7, 1]]));
     first.xor_rect(alloc, &rect_of([2, 1, 5, 2])?)?;
-    assert!(rt;
-        has_list(
-            &first,
-            &[[0, 0, 7, 0], [0, 1, 1, 1], [6, 1, 7, 1], [2, 2, 5, 2]]
-        )
-    );
-    let mut second = Region::new();
+    assert!(rt; has_list(&first, &STEPPED));
+    let mut second = Region::new(alloc);
     second.or_rect(alloc, &rect_of([0, 0, 1, 3])?)?;
     and_region(alloc, &first, &mut second)?;
     assert!(rt; has_list(&second, &[[0, 0, 1, 1]]));
     let copy = first.copy(alloc)?;
     first.clear();
     assert!(rt; has_list(&first, &[]));
-    assert!(rt;
-        has_list(
-            &copy,
-            &[[0, 0, 7, 0], [0, 1, 1, 1], [6, 1, 7, 1], [2, 2, 5, 2]]
-        )
-    );
+    assert!(rt; has_list(&copy, &STEPPED));
+    Ok(())
+}
+
+#[test]
+fn region_has_the_pixels_of_its_rectangles(rt: HostRuntime) -> Result<(), Fail> {
+    let region = region_of(rt.alloc(), &STEPPED)?;
     for (x, y, due) in [
         (7, 0, true),
         (8, 0, false),
@@ -318,13 +320,18 @@ fn two_registers_are_combined_step_by_step(rt: HostRuntime) -> Result<(), Fail> 
         (5, 3, false),
         (70000, 0, false),
     ] {
-        assert_eq!(rt; copy.has(x, y), due, "at {x}, {y}");
+        assert_eq!(rt; region.has(x, y), due, "at {x}, {y}");
     }
+    Ok(())
+}
+
+#[test]
+fn rectangles_meet_and_move(rt: HostRuntime) -> Result<(), Fail> {
     let rect = rect_of([-4, 2, 5, 9])?;
     let meet = rect.meet(&rect_of([5, 9, 12, 12])?);
     assert!(rt; meet == Some(rect_of([5, 9, 5, 9])?));
     assert!(rt; rect.meet(&rect_of([6, 2, 7, 9])?) == None);
-    assert!(rt; rect.moved(-32764, 32758) == Some(rect_of([BOTTOM, 32760, -32759, TOP])?));
+    assert!(rt; rect.moved(-32764, 32758) == Some(rect_of([LEAST, 32760, -32759, GREATEST])?));
     assert!(rt; rect.moved(-32765, 0) == None);
     assert!(rt; rect.moved(0, 32759) == None);
     Ok(())
@@ -470,8 +477,8 @@ fn step_by_rect(
 fn regions_agree_with_plain_sets_of_pixels(rt: HostRuntime) -> Result<(), Fail> {
     let alloc = rt.alloc();
     let mut seed = 1u32;
-    let mut region = Region::new();
-    let mut other = Region::new();
+    let mut region = Region::new(alloc);
+    let mut other = Region::new(alloc);
     let mut rows: Rows = [0; 16];
     let mut other_rows: Rows = [0; 16];
     for step in 0..4000u32 {

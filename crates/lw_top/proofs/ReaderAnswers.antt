@@ -14,16 +14,19 @@ use Rattle.lw_top.specs.ReaderStops.{Gives, IsUnlessMemory}
 abbrev Decided : List (List ℕ) → Result Planned (ℕ × Reason) → Type 0
 Decided ls o = MatchResult o (Spells ls) (λ e. IsFirstBad ls e.0 e.1)
 
+-- a plan that is answered is the one that the lines spell
 pub found : (ls : List (List ℕ)) (r : Result Planned ScriptStop) → Gives r (outcome 1 [] ls) → IfOk r (Spells ls)
 found ls (Ok p) g = let P : Result Planned (ℕ × Reason) → Type 0 = Decided ls in subst P g (answer_decides ls)
 found ls (Err (Refused line reason)) g = tt
 found ls (Err Memory) g = tt
 
+-- a plan that is answered may be run
 pub runnable : (ls : List (List ℕ)) (r : Result Planned ScriptStop) → Gives r (outcome 1 [] ls) → IfOk r IsRunnable
 runnable ls (Ok p) g = spelled_runs ls p (found ls (Ok p) g)
 runnable ls (Err (Refused line reason)) g = tt
 runnable ls (Err Memory) g = tt
 
+-- a refusal names the first bad line
 pub refused : (ls : List (List ℕ)) (r : Result Planned ScriptStop) → Gives r (outcome 1 [] ls) → (line : ℕ) (reason : Reason) → r ≡ Err (Refused line reason) → IsFirstBad ls line reason
 refused ls r g line reason e =
     let G : Result Planned ScriptStop → Type 0 = λ a. Gives a (outcome 1 [] ls) in
@@ -31,6 +34,7 @@ refused ls r g line reason e =
     let P : Result Planned (ℕ × Reason) → Type 0 = Decided ls in
     subst P h (answer_decides ls)
 
+-- a script that spells a plan is answered by it
 pub only_read : (ls : List (List ℕ)) (r : Result Planned ScriptStop) → Gives r (outcome 1 [] ls) → (plan : Planned) → Spells ls plan → IsUnlessMemory r (Ok plan)
 only_read ls r g plan s = go r (outcome 1 [] ls) g (answer_spelled ls plan s)
   where
@@ -39,6 +43,7 @@ only_read ls r g plan s = go r (outcome 1 [] ls) g (answer_spelled ls plan s)
     go (Err (Refused line reason)) o g e = let f : o ≡ Err (line, reason) = g in absurd (cc)
     go (Err Memory) o g e = inr refl
 
+-- a script with a first bad line is refused at it
 pub only_refused : (ls : List (List ℕ)) (r : Result Planned ScriptStop) → Gives r (outcome 1 [] ls) → (line : ℕ) (reason : Reason) → IsFirstBad ls line reason → IsUnlessMemory r (Err (Refused line reason))
 only_refused ls r g line reason b = go r (outcome 1 [] ls) g (answer_refused ls line reason b)
   where

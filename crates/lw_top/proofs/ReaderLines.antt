@@ -27,9 +27,11 @@ found_none p bs e = go (nat_lt (position_or_len p bs) (length bs)) refl e
 one_up : (k : ℕ) → 1 + k ≡ suc k
 one_up k = omega arith
 
+-- 1 + k + 1 as a successor
 two_up : (k : ℕ) → (1 + k) + 1 ≡ suc (k + 1)
 two_up k = omega arith
 
+-- the first line with a byte put before it
 lines_step : (b : ℕ) (bs : List ℕ) (c : Bool) (k : ℕ) → (k < length bs → lines bs ≡ take k bs ∷ lines (drop (k + 1) bs)) → cond (not c) (1 + k) 0 < suc (length bs) → cond c ([] ∷ lines bs) (onto_first b (lines bs)) ≡ take (cond (not c) (1 + k) 0) (b ∷ bs) ∷ lines (drop (cond (not c) (1 + k) 0 + 1) (b ∷ bs))
 lines_step b bs true k h lt = refl
 lines_step b bs false k h lt =
@@ -41,6 +43,7 @@ lines_step b bs false k h lt =
     let R : ℕ → Type 0 = λ j. P (1 + k) j in
     subst R (sym (two_up k)) (subst Q (sym (one_up k)) g)
 
+-- the first line, by the place of its line feed
 lines_at : (bs : List ℕ) → position_or_len (λ b. b == 10) bs < length bs → lines bs ≡ take (position_or_len (λ b. b == 10) bs) bs ∷ lines (drop (position_or_len (λ b. b == 10) bs + 1) bs)
 lines_at [] h = absurd (omega arith)
 lines_at (b ∷ bs) h = lines_step b bs (b == 10) (position_or_len (λ c. c == 10) bs) (lines_at bs) h
@@ -52,10 +55,12 @@ first_line bs i e =
     let P : ℕ → Type 0 = λ k. k < length bs → lines bs ≡ take k bs ∷ lines (drop (k + 1) bs) in
     subst P f.1 (lines_at bs) f.0
 
+-- the last line with a byte put before it
 last_step : (b : ℕ) (bs : List ℕ) (c : Bool) (k : ℕ) → (length bs ≤ k → onto_first b (lines bs) ≡ (b ∷ bs) ∷ []) → suc (length bs) ≤ cond (not c) (1 + k) 0 → cond c ([] ∷ lines bs) (onto_first b (lines bs)) ≡ (b ∷ bs) ∷ []
 last_step b bs true k h le = absurd (omega arith)
 last_step b bs false k h le = h (omega arith)
 
+-- the last line behind a byte
 onto_last : (b : ℕ) (bs : List ℕ) → length bs ≤ position_or_len (λ c. c == 10) bs → onto_first b (lines bs) ≡ (b ∷ bs) ∷ []
 onto_last b [] h = refl
 onto_last b (d ∷ ds) h =
@@ -72,6 +77,7 @@ map_onto : (b : ℕ) (w : List ℕ) (o : Option (List (List ℕ))) → option_ma
 map_onto b w None = refl
 map_onto b w (Some ws) = refl
 
+-- the first word with a byte put before it
 words_step : (b : ℕ) (bs : List ℕ) (c : Bool) (k : ℕ) → (k < length bs → words_at false bs ≡ option_map (λ ws. take k bs ∷ ws) (words (drop (k + 1) bs))) → cond (not c) (1 + k) 0 < suc (length bs) → cond c (option_map (λ ws. [] ∷ ws) (words_at true bs)) (option_map (onto_first b) (words_at false bs)) ≡ option_map (λ ws. take (cond (not c) (1 + k) 0) (b ∷ bs) ∷ ws) (words (drop (cond (not c) (1 + k) 0 + 1) (b ∷ bs)))
 words_step b bs true k h lt = refl
 words_step b bs false k h lt =
@@ -83,6 +89,7 @@ words_step b bs false k h lt =
     let R : ℕ → Type 0 = λ j. P (1 + k) j in
     subst R (sym (two_up k)) (subst Q (sym (one_up k)) g)
 
+-- the first word, by the place of its space
 words_cut : (bs : List ℕ) → position_or_len is_space bs < length bs → words_at false bs ≡ option_map (λ ws. take (position_or_len is_space bs) bs ∷ ws) (words (drop (position_or_len is_space bs + 1) bs))
 words_cut [] h = absurd (omega arith)
 words_cut (b ∷ bs) h = words_step b bs (is_space b) (position_or_len is_space bs) (words_cut bs) h
@@ -112,10 +119,12 @@ no_word_cut (b ∷ bs) e = go (is_space b) (found_at is_space (b ∷ bs) 0 e).1
     go true f = refl
     go false f = absurd (omega arith)
 
+-- the last word with a byte put before it
 word_step : (b : ℕ) (bs : List ℕ) (c : Bool) (k : ℕ) (o : Option (List (List ℕ))) → (length bs ≤ k → words_at false bs ≡ Some (bs ∷ [])) → suc (length bs) ≤ cond (not c) (1 + k) 0 → cond c o (option_map (onto_first b) (words_at false bs)) ≡ Some ((b ∷ bs) ∷ [])
 word_step b bs true k o h le = absurd (omega arith)
 word_step b bs false k o h le = ap (option_map (onto_first b)) (h (omega arith))
 
+-- the last word is all that is left
 whole_word : (bs : List ℕ) → length bs ≤ position_or_len is_space bs → words_at false bs ≡ Some (bs ∷ [])
 whole_word [] h = refl
 whole_word (b ∷ bs) h =

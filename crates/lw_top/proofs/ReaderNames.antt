@@ -14,14 +14,17 @@ pub any_target : (p : List ℕ → Bool) (ks : List (Bor (List ℕ))) → list_a
 any_target p [] = refl
 any_target p (k ∷ ks) = ap (λ b. p k.now || b) (any_target p ks)
 
+-- the first place where a test passes
 pub place_of_target : (p : List ℕ → Bool) (ks : List (Bor (List ℕ))) → position_or_len (λ k. p k.now) ks ≡ position_or_len p (targets ks)
 place_of_target p [] = refl
 place_of_target p (k ∷ ks) = ap (λ n. cond (not (p k.now)) (1 + n) 0) (place_of_target p ks)
 
+-- a reference put at the end
 pub targets_push : (ks : List (Bor (List ℕ))) (k : Bor (List ℕ)) → targets (ks ++ k ∷ []) ≡ targets ks ++ k.now ∷ []
 targets_push [] k = refl
 targets_push (j ∷ ks) k = ap (λ ns. j.now ∷ ns) (targets_push ks k)
 
+-- as many targets as references
 pub length-targets : (ks : List (Bor (List ℕ))) → length (targets ks) ≡ length ks
 length-targets [] = refl
 length-targets (k ∷ ks) = omega (arith, length-targets ks)
@@ -31,13 +34,16 @@ choice : (b : Bool) (ks : List (Bor (List ℕ))) (k : Bor (List ℕ)) → target
 choice true ks k = refl
 choice false ks k = targets_push ks k
 
+-- a name that is put in, as reference and as target
 pub targets_insert : (ks : List (Bor (List ℕ))) (k : Bor (List ℕ)) → targets (cond (list_any (λ (j : Bor (List ℕ)). bytes_eq k.now j.now) ks) ks (ks ++ k ∷ [])) ≡ with_name (targets ks) k.now
 targets_insert ks k =
     choice (list_any (λ (j : Bor (List ℕ)). bytes_eq k.now j.now) ks) ks k ∙ ap (λ b. cond b (targets ks) (targets ks ++ k.now ∷ [])) (any_target (bytes_eq k.now) ks)
 
+-- a name is the same as itself
 same_name : (n : List ℕ) → bytes_eq n n ≡ true
 same_name n = (bytes_eq-Decides n n).1 refl
 
+-- a name put at the end stands where no earlier one does
 behind : (p : List ℕ → Bool) (ns : List (List ℕ)) (n : List ℕ) → p n ≡ true → position_or_len p (ns ++ n ∷ []) ≡ position_or_len p ns
 behind p ns n e =
     let f : position_or_len p (ns ++ n ∷ []) ≡ cond (eqb (position_or_len p ns) (length ns)) (length ns + cond (p n) 0 1) (position_or_len p ns) = position_or_len_push p ns n in

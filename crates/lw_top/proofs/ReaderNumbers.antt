@@ -16,6 +16,7 @@ step true true p q h = (p refl, q refl)
 step true false p q h = absurd (false≢true h)
 step false b p q h = absurd (false≢true h)
 
+-- each byte of digits is one
 pub digit_range : (ds : List ℕ) (i : ℕ) → IsTrue (list_all is_digit ds) → i < length ds → (48 ≤ get_or ds i 0) × (get_or ds i 0 ≤ 57)
 digit_range [] i h lt = absurd (omega arith)
 digit_range (d ∷ ds) zero h lt =
@@ -25,9 +26,11 @@ digit_range (d ∷ ds) (suc i) h lt =
     let k : IsTrue (list_all is_digit ds) = (step (is_digit d) (list_all is_digit ds) {P = Unit {0}} {Q = IsTrue (list_all is_digit ds)} (λ e. tt) (λ e. e) h).1 in
     digit_range ds i k (omega arith)
 
+-- what a digit counts
 value_of_digit : (d : ℕ) → 48 ≤ d → d ≤ 57 → digit_value d ≡ d - 48
 value_of_digit d low high = grind (arith, nat_tests)
 
+-- a cap put on early or late is the same
 capped : (v d n w : ℕ) → n ≡ min v 4294967296 → w ≡ v * 10 + d → min (n * 10 + d) 4294967296 ≡ min w 4294967296
 capped v d n w e f = omega arith
 
@@ -43,17 +46,21 @@ capped_more ds i n h lt e =
 minus : (m : ℕ) (r : ℤ) → m ≤ 4294967296 → r ≡ pos m → to_z w64 (of_z w64 (pos 0 -ℤ to_z w64 (of_z w64 r))) ≡ neg_ℤ (pos m)
 minus m r le e = omega (arith, ints)
 
+-- no number is above the cap
 up_to_cap : (m : ℕ) → min m 4294967296 ≤ 4294967296
 up_to_cap m = omega arith
 
+-- a slice without its first byte
 behind_one : (w : List ℕ) → take (length w - 1) (drop 1 w) ≡ drop 1 w
 behind_one w = grind (arith, common_steps)
 
+-- the value of a word that is a number behind a minus, by its tests
 number_value : (w : List ℕ) (n p q m : Bool) (z : ℤ) → n ≡ false → m ≡ true → z ≡ neg_ℤ (pos (magnitude (drop 1 w))) → Number z ≡ cond n (Name w) (cond (p || (q || m)) (Number (cond m (neg_ℤ (pos (magnitude (drop 1 w)))) (pos (magnitude w)))) Odd)
 number_value w n true q m z e f g = rw (e, f, g) refl
 number_value w n false true m z e f g = rw (e, f, g) refl
 number_value w n false false m z e f g = rw (e, f, g) refl
 
+-- the value of a word that is a number behind a minus
 pub negative_value : (w : List ℕ) (r : ℤ) → is_name w ≡ false → is_negative w ≡ true → r ≡ pos (magnitude (take (length w - 1) (drop 1 w))) → Number (to_z w64 (of_z w64 (pos 0 -ℤ to_z w64 (of_z w64 r)))) ≡ value_of w
 negative_value w r n m e =
     let f : r ≡ pos (magnitude (drop 1 w)) = e ∙ ap (λ d. pos (magnitude d)) (behind_one w) in

@@ -15,6 +15,7 @@ use Rattle.lw_top.proofs.ReaderNames.{length-targets}
 name_count : (r : Reader) (above : List LineForm) → Stands r above → length r.layer_names.keys ≡ length (layer_names above)
 name_count r above s = sym (length-targets r.layer_names.keys) ∙ ap length s.layers
 
+-- the number of names fits 32 bits
 pub names_fit : (r : Reader) → HasRead r → (n : ℕ) → n ≡ length r.layer_names.keys → Fits w32 n
 names_fit r h n e =
     let few : length (layer_names h.0) ≤ 64 = few_names h.0 h.2 in
@@ -31,6 +32,7 @@ plan_with w h d n slots tasks calls =
       calls = calls;
     }
 
+-- a plan whose parts are those of lines is the plan of the lines
 same_plan : (w h d n : ℕ) (ss ts : List (List ℕ)) (cs : List (List Call)) (above : List LineForm) → w ≡ screen_width above → h ≡ screen_height above → d ≡ screen_depth above → n ≡ length (layer_names above) → ss ≡ layer_names above → ts ≡ task_names above → cs ≡ calls_of above ∷ [] → plan_with w h d n ss ts cs ≡ plan_of above
 same_plan w h d n ss ts cs above a b c e f g i =
     ap (λ x. plan_with x h d n ss ts cs) a ∙ ap (λ x. plan_with (screen_width above) x d n ss ts cs) b ∙ ap (λ x. plan_with (screen_width above) (screen_height above) x n ss ts cs) c ∙ ap (λ x. plan_with (screen_width above) (screen_height above) (screen_depth above) x ss ts cs) e ∙ ap (λ x. plan_with (screen_width above) (screen_height above) (screen_depth above) (length (layer_names above)) x ts cs) f ∙ ap (λ x. plan_with (screen_width above) (screen_height above) (screen_depth above) (length (layer_names above)) (layer_names above) x cs) g ∙ ap (λ x. plan_with (screen_width above) (screen_height above) (screen_depth above) (length (layer_names above)) (layer_names above) (task_names above) x) i

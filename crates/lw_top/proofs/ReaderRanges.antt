@@ -19,11 +19,13 @@ both true true h = (refl, refl)
 both true false h = absurd (false≢true h)
 both false b h = absurd (false≢true h)
 
+-- what a fitting axis satisfies
 axis : (low high : ℤ) → axis_fits low high ≡ true → (negsuc 32767 ≤ℤ low) × (low ≤ℤ high) × (high ≤ℤ pos 32767)
 unfolding within axis_fits
 axis low high h =
     (grind (arith, ints, nat_tests), grind (arith, ints, nat_tests), grind (arith, ints, nat_tests))
 
+-- what a fitting rectangle satisfies
 pub corners_by_fits : (r : Rectangle) → IsTrue (rect_fits r) → AreCorners r
 corners_by_fits r h =
     let k = both (axis_fits r.min_x r.max_x) (axis_fits r.min_y r.max_y) h in
@@ -31,6 +33,7 @@ corners_by_fits r h =
     let y = axis r.min_y r.max_y k.1 in
     record { left = x.0; columns = x.1; right = x.2; top = y.0; rows = y.1; bottom = y.2 }
 
+-- a bound of a bound is a bound
 below_all : (a b c : ℤ) → a ≤ℤ b → b ≤ℤ c → a ≤ℤ c
 below_all a b c h k = omega (arith, ints)
 
@@ -38,6 +41,7 @@ below_all a b c h k = omega (arith, ints)
 in_16_bits : (z : ℤ) → negsuc 32767 ≤ℤ z → z ≤ℤ pos 32767 → to_z w16 (of_z w16 (to_z w64 (of_z w64 z))) ≡ z
 in_16_bits z low high = omega (arith, ints)
 
+-- the same in 32 bits
 in_32_bits : (z : ℤ) → negsuc 32767 ≤ℤ z → z ≤ℤ pos 32767 → to_z w32 (of_z w32 (to_z w64 (of_z w64 z))) ≡ z
 in_32_bits z low high = omega (arith, ints)
 
@@ -45,6 +49,7 @@ in_32_bits z low high = omega (arith, ints)
 extent_in_32_bits : (a b : ℤ) → negsuc 32767 ≤ℤ a → a ≤ℤ b → b ≤ℤ pos 32767 → to_z w32 (of_z w32 (to_z w64 (of_z w64 (to_z w64 (of_z w64 (to_z w64 (of_z w64 b) -ℤ to_z w64 (of_z w64 a))) +ℤ pos 1)))) ≡ (b -ℤ a) +ℤ pos 1
 extent_in_32_bits a b low mid high = omega (arith, ints)
 
+-- rectangles with equal bounds
 same_rect : (a b c d e f g h : ℤ) → a ≡ e → b ≡ f → c ≡ g → d ≡ h → corners a b c d ≡ corners e f g h
 same_rect a b c d e f g h p q r s = rw (p, q, r, s) refl
 
@@ -58,21 +63,26 @@ some_rect : (o : Option Rectangle) (v : Rectangle) → SomeIff o (IsOrdered v) v
 some_rect None v s h = absurd (s h)
 some_rect (Some x) v s h = search rules
 
+-- so the rectangle is made
 pub made_rect : (o : Option Rectangle) (r : Rectangle) → AreCorners r → (let v = corners (to_z w16 (of_z w16 (to_z w64 (of_z w64 r.min_x)))) (to_z w16 (of_z w16 (to_z w64 (of_z w64 r.min_y)))) (to_z w16 (of_z w16 (to_z w64 (of_z w64 r.max_x)))) (to_z w16 (of_z w16 (to_z w64 (of_z w64 r.max_y)))) in SomeIff o (IsOrdered v) v) → IsSome o
 made_rect o r h s =
     let P : Rectangle → Type 0 = λ v. SomeIff o (IsOrdered v) v in
     some_rect o r (subst P (cast_rect r h) s) (record { columns = h.columns; rows = h.rows })
 
+-- the value that an answer has
 value_of_some : (o : Option Rectangle) (u v : Rectangle) (Q : Type 0) → SomeIff o Q v → o ≡ Some u → u ≡ v
 value_of_some None u v Q s e = absurd (cc)
 value_of_some (Some x) u v Q s e = let f : x ≡ v = s.1 in cc
 
+-- and it is the one with these corners
 pub rect_is : (o : Option Rectangle) (u r : Rectangle) → AreCorners r → (let v = corners (to_z w16 (of_z w16 (to_z w64 (of_z w64 r.min_x)))) (to_z w16 (of_z w16 (to_z w64 (of_z w64 r.min_y)))) (to_z w16 (of_z w16 (to_z w64 (of_z w64 r.max_x)))) (to_z w16 (of_z w16 (to_z w64 (of_z w64 r.max_y)))) in SomeIff o (IsOrdered v) v) → o ≡ Some u → u ≡ r
 rect_is o u r h s e = value_of_some o u _ _ s e ∙ cast_rect r h
 
+-- layers with equal places and sizes
 same_make : (a b c d e f g h : ℤ) → a ≡ e → b ≡ f → c ≡ g → d ≡ h → (let make : ℤ → ℤ → ℤ → ℤ → Make = λ x y w h. record { kind = Smart; place = Front; x = x; y = y; w = w; h = h; backdrop = false; hook = None; bits_w = 0; bits_h = 0 } in make a b c d ≡ make e f g h)
 same_make a b c d e f g h p q r s = rw (p, q, r, s) refl
 
+-- the layer in 32 bits is the one with these corners
 pub make_is : (r : Rectangle) → AreCorners r → (let extent : ℤ → ℤ → ℤ = λ a b. to_z w32 (of_z w32 (to_z w64 (of_z w64 (to_z w64 (of_z w64 (to_z w64 (of_z w64 b) -ℤ to_z w64 (of_z w64 a))) +ℤ pos 1)))) in let place : ℤ → ℤ = λ z. to_z w32 (of_z w32 (to_z w64 (of_z w64 z))) in let v : Make = record { kind = Smart; place = Front; x = place r.min_x; y = place r.min_y; w = extent r.min_x r.max_x; h = extent r.min_y r.max_y; backdrop = false; hook = None; bits_w = 0; bits_h = 0 } in v ≡ smart_front r)
 make_is r h =
     same_make _ _ _ _ r.min_x r.min_y ((r.max_x -ℤ r.min_x) +ℤ pos 1) ((r.max_y -ℤ r.min_y) +ℤ pos 1) (in_32_bits r.min_x h.left (below_all r.min_x r.max_x _ h.columns h.right)) (in_32_bits r.min_y h.top (below_all r.min_y r.max_y _ h.rows h.bottom)) (extent_in_32_bits r.min_x r.max_x h.left h.columns h.right) (extent_in_32_bits r.min_y r.max_y h.top h.rows h.bottom)

@@ -17,12 +17,14 @@ abbrev Tells : Bool → Option LineForm → Bool → Result LineForm Reason → 
 Tells second o good (Ok f) = (second ≡ false) × (good ≡ true) × (o ≡ Some f)
 Tells second o good (Err r) = cond second (Some OneTaskOnly) (cond (not good) (Some NotBuilt) (cond false (Some Missing) None)) ≡ Some r
 
+-- a good form is told
 tells_good : (s : Bool) (o : Option LineForm) (g : Bool) (f : LineForm) (r : Result LineForm Reason) → Tells s o g r → s ≡ false → o ≡ Some f → g ≡ true → r ≡ Ok f
 tells_good s o g f (Ok h) t a b c = let e : o ≡ Some h = t.2 in cc
 tells_good true o g f (Err e) t a b c = absurd (cc)
 tells_good false o false f (Err e) t a b c = absurd (cc)
 tells_good false o true f (Err e) t a b c = absurd (cc)
 
+-- a form that is not good is refused
 tells_bad : (s : Bool) (o : Option LineForm) (g : Bool) (r : Result LineForm Reason) → Tells s o g r → s ≡ false → g ≡ false → r ≡ Err NotBuilt
 tells_bad s o g (Ok h) t a b = let e : g ≡ true = t.1 in absurd (cc)
 tells_bad true o g (Err e) t a b = absurd (cc)
@@ -48,16 +50,19 @@ names_are r above s (TaskLine n) = s.layers
 names_are r above s (CallLine layers act) = rw s.layers refl
 names_are r above s EndLine = s.layers
 
+-- the number of calls with that of a further line
 calls_are : (r : Reader) (above : List LineForm) → Stands r above → (f : LineForm) → calls_with r f ≡ length (calls_of (f ∷ above))
 calls_are r above s (ScreenLine w h d) = ap length s.calls
 calls_are r above s (TaskLine n) = ap length s.calls
 calls_are r above s (CallLine layers act) = ap (λ cs. length cs + 1) s.calls ∙ sym (length-append (calls_of above) _)
 calls_are r above s EndLine = ap length s.calls
 
+-- there is room where the grammar says so
 pub room_is : (r : Reader) (above : List LineForm) → Stands r above → (f : LineForm) → has_room r f ≡ (nat_le (length (layer_names (f ∷ above))) name_limit && nat_le (length (calls_of (f ∷ above))) call_limit)
 room_is r above s f =
     ap (λ ns. nat_le (length ns) name_limit && nat_le (calls_with r f) call_limit) (names_are r above s f) ∙ ap (λ k. nat_le (length (layer_names (f ∷ above))) name_limit && nat_le k call_limit) (calls_are r above s f)
 
+-- three tests in a row
 and_assoc : (a b c : Bool) → (a && (b && c)) ≡ ((a && b) && c)
 and_assoc true b c = refl
 and_assoc false b c = refl

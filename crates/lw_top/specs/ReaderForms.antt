@@ -8,9 +8,11 @@ use Rattle.lw_top.specs.declared.reader.forms.Act.TheVariants.{SmartFront, Fill}
 use Rattle.lw_top.specs.declared.reader.forms.LineForm.{LineForm}
 use Rattle.lw_top.specs.declared.reader.forms.LineForm.TheVariants.{Screen, Task, Call, End}
 
+-- the four numbers as bounds
 abbrev pub corners_meaning : Corners → Rectangle
 corners_meaning c = corners c.x0 c.y0 c.x1 c.y1
 
+-- what a call asks for, as the grammar has it
 abbrev pub act_meaning : Act → ActMeaning
 act_meaning (SmartFront c) = SmartFrontMeaning (corners_meaning c)
 act_meaning (Fill c) = FillAct (corners_meaning c)

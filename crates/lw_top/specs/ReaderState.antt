@@ -9,6 +9,7 @@ use Rattle.lw_top.specs.declared.reader.state.Part.TheVariants.{ScreenDue, TaskD
 use Rattle.lw_top.specs.declared.reader.state.Reader.{Reader}
 use Rattle.lw_top.specs.ReaderCuts.{targets}
 
+-- the part, as the grammar has it
 abbrev pub part_meaning : Part → PartMeaning
 part_meaning ScreenDue = ScreenDueMeaning
 part_meaning TaskDue = TaskDueMeaning

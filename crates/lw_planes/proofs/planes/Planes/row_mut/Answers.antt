@@ -5,6 +5,7 @@ use Rattle.lw_planes.specs.Sizes.{IsPlanes}
 use Rattle.lw_planes.specs.Storage.{row_start}
 use Rattle.lw_planes.specs.Change.{with_row}
 use Rattle.lw_planes.proofs.planes.Planes.row_mut.Goals as goal
+use Rattle.lw_planes.proofs.BitmapLaws.{row_bytes-wide}
 use Rattle.lw_planes.proofs.StorageLaws.{row_start-inside, row-lent, IsPlanes-stored}
 use Rattle.lw_planes.proofs.ChangeLaws.{row-written}
 
@@ -31,6 +32,7 @@ returns c =
       record {
         writes_back = tt;
         long = omega (arith, c.slice_mut.ensures.len, c.row_length-length.ensures, width_is);
+        wide = omega (arith, c.slice_mut.ensures.len, c.row_length-length.ensures, width_is, row_bytes-wide c.self.inside.width);
         bits = λ x left.
             let in_width : x < c.self.inside.width = omega (arith, left, width_is) in
             row-lent c.self.inside.width c.self.inside.height c.self.inside.depth c.self.inside.bytes.items c.self.inside.bytes.items c.slice_mut.result.now c.args.plane c.args.y c.row_start-start.result c.row_length-length.result
