@@ -21,6 +21,7 @@ use Rattle.lw_region.proofs.Reading.{contains_pixels_of}
 abbrev row_runs : List Pixel → ℤ → List Run
 row_runs s y = longest_runs (columns_in s y)
 
+-- the columns of a row are in order
 ordered_columns : (s : List Pixel) (y : ℤ) → IsInOrder int_lt (columns_in s y)
 ordered_columns s y = ordered_in_order int_lt int_trans (map (λ p. p.x) (filter (λ p. int_eq p.y y) s))
 
@@ -34,6 +35,7 @@ in_row_runs s x y =
     ∙ (any_filter (λ p. int_eq p.x x) (λ p. int_eq p.y y) s
     ∙ any_agree _ (is_at x y) (λ p. and_comm (int_eq p.y y) (int_eq p.x x)) s)))
 
+-- a row is among the rows exactly where some pixel is in it
 any_rows : (s : List Pixel) (y : ℤ) → list_any (λ w. int_eq w y) (rows_in s) ≡ list_any (λ p. int_eq p.y y) s
 any_rows s y =
     any_in_order int_lt int_total (λ w. int_eq w y) (map (λ p. p.y) s) ∙ any_map (λ w. int_eq w y) (λ (p : Pixel). p.y) s
@@ -46,6 +48,7 @@ row_has_runs s y h =
     let q = p.0 in
     some_runs (row_runs s y) q.x (in_row_runs s q.x y ∙ p.2 (is_at q.x y) (and_from (int_eq q.x q.x) (int_eq q.y y) (eq_true q.x q.x refl) p.1))
 
+-- rows that are not empty have runs
 rows_have_runs : (s : List Pixel) (ys : List ℤ) → ((y : ℤ) → list_any (λ w. int_eq w y) ys ≡ true → row_runs s y ≡ [] → ⊥) → HaveRuns (row_runs s) ys
 rows_have_runs s [] h = tt
 rows_have_runs s (y ∷ ys) h = (
@@ -58,6 +61,7 @@ rows_have_runs s (y ∷ ys) h = (
 unfoldable pub band_list : List Pixel → List Band
 band_list s = tallest_bands (λ y. longest_runs (columns_in s y)) (rows_in s)
 
+-- the rows of a set are in order
 ordered_rows : (s : List Pixel) → IsInOrder int_lt (rows_in s)
 ordered_rows s = ordered_in_order int_lt int_trans (map (λ p. p.y) s)
 
@@ -66,6 +70,7 @@ pub are_band_list : (s : List Pixel) → AreBands (band_list s)
 unfolding band_list
 are_band_list s = are_tallest (row_runs s) (rows_in s) (ordered_rows s) (rows_have_runs s (rows_in s) (row_has_runs s))
 
+-- no pixel is in a row that is not among the rows
 row_absent : (s : List Pixel) (x y : ℤ) → contains_pixel s x y ≡ true → list_any (λ w. int_eq w y) (rows_in s) ≡ false → ⊥
 unfolding contains_pixel
 row_absent s x y h e =
@@ -74,6 +79,7 @@ row_absent s x y h e =
     let k = and_parts (int_eq q.x x) (int_eq q.y y) p.1 in
     false≢true (sym e ∙ (any_rows s y ∙ p.2 (λ r. int_eq r.y y) k.1))
 
+-- the rows of a set tell nothing more than its pixels
 row_settled : (s : List Pixel) (x y : ℤ) (t : Bool) → list_any (λ w. int_eq w y) (rows_in s) ≡ t → (t && contains_pixel s x y) ≡ contains_pixel s x y
 row_settled s x y true e = refl
 row_settled s x y false e = sym (false_from_ne_true _ (λ h. row_absent s x y h e))
@@ -91,14 +97,17 @@ pub covers_nil : (x y : ℤ) → covers [] x y ≡ false
 unfolding covers
 covers_nil x y = refl
 
+-- a pixel of the first rectangle or of the others
 pub covers_cons : (r : Rectangle) (rs : List Rectangle) (x y : ℤ) → covers (r ∷ rs) x y ≡ (has_pixel r x y || covers rs x y)
 unfolding covers
 covers_cons r rs x y = refl
 
+-- a pixel of either list
 pub covers_append : (rs ss : List Rectangle) (x y : ℤ) → covers (rs ++ ss) x y ≡ (covers rs x y || covers ss x y)
 unfolding covers
 covers_append rs ss x y = list_any-append (λ r. has_pixel r x y) rs ss
 
+-- a test that two share
 and_both : (p q t : Bool) → ((p && t) || (t && q)) ≡ (t && (p || q))
 and_both true q true = refl
 and_both true true false = refl
@@ -116,10 +125,12 @@ covers_runs top bottom (r ∷ rs) x y =
     ∙ (and_both (within r.first x r.last) (in_runs rs x) (within top y bottom)
     ∙ ap (λ w. within top y bottom && w) (sym (in_runs_cons r rs x))))
 
+-- no band has no rectangle
 pub flat_nil : flat [] ≡ []
 unfolding flat
 flat_nil = refl
 
+-- the rectangles of the first band stand before those of the others
 pub flat_cons : (b : Band) (bs : List Band) → flat (b ∷ bs) ≡ band_rectangles b ++ flat bs
 unfolding flat
 flat_cons b bs = refl
@@ -133,6 +144,7 @@ covers_flat (b ∷ bs) x y =
     ∙ (ap (λ w. w || covers (flat bs) x y) (covers_runs b.top b.bottom b.runs x y)
     ∙ (ap (λ w. (within b.top y b.bottom && in_runs b.runs x) || w) (covers_flat bs x y) ∙ sym (in_bands_cons b bs x y))))
 
+-- the bands of a set, as rectangles and as bands
 pub bands_flat : (s : List Pixel) → bands s ≡ flat (band_list s)
 unfolding bands flat band_list
 bands_flat s = refl

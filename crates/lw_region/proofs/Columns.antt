@@ -26,24 +26,30 @@ holds_none Intersection = refl
 holds_none SymmetricDifference = refl
 holds_none Difference = refl
 
+-- no rectangle has no column
 pub in_columns_nil : (x : ℤ) → in_columns [] x ≡ false
 unfolding in_columns
 in_columns_nil x = refl
 
+-- a column of the first rectangle or of the others
 pub in_columns_cons : (r : Rectangle) (rs : List Rectangle) (x : ℤ) → in_columns (r ∷ rs) x ≡ (within r.min_x x r.max_x || in_columns rs x)
 unfolding in_columns
 in_columns_cons r rs x = refl
 
+-- rectangles that begin behind a column begin behind those before it
 columns_after_less : (x y : ℤ) (rs : List Rectangle) → x ≤ℤ y → ColumnsAfter y rs → ColumnsAfter x rs
 columns_after_less x y [] h k = tt
 columns_after_less x y (r ∷ rs) h k = omega (arith, ints)
 
+-- the test passes where it holds
 pub le_true : (a b : ℤ) → a ≤ℤ b → int_le a b ≡ true
 le_true a b h = grind (arith, ints)
 
+-- the test fails where it does not hold
 pub le_false : (a b : ℤ) → b <ℤ a → int_le a b ≡ false
 le_false a b h = grind (arith, ints)
 
+-- the strict test fails where it does not hold
 pub le_lt_false : (a b : ℤ) → b ≤ℤ a → int_lt a b ≡ false
 le_lt_false a b h = grind (arith, ints)
 
@@ -79,6 +85,7 @@ unfolding next_column
 next_further r rs at k =
     by_lt_z at r.min_x (λ a. rw (of_lt at r.min_x a) a) (λ a. rw (le_lt_false at r.min_x a) (omega (arith, ints)))
 
+-- the next change is at most right behind the first rectangle
 next_most : (r : Rectangle) (rs : List Rectangle) (at : ℤ) → r.min_x ≤ℤ r.max_x → next_column (r ∷ rs) at ≤ℤ (r.max_x +ℤ pos 1)
 unfolding next_column
 next_most r rs at h =
@@ -90,10 +97,12 @@ record Passed (next : ℤ) (rs ss : List Rectangle) : Type 0 where
   ends : EndsAt next ss
   same : (x : ℤ) → next ≤ℤ x → in_columns rs x ≡ in_columns ss x
 
+-- what begins behind a column does not end before it
 ends_after : (x y : ℤ) (rs : List Rectangle) → AreColumns rs → ColumnsAfter x rs → y ≤ℤ (x +ℤ pos 1) → EndsAt y rs
 ends_after x y [] h k l = tt
 ends_after x y (r ∷ rs) h k l = let p = h.0 in omega (arith, ints)
 
+-- what a step leaves is still ahead
 passed : (rs : List Rectangle) (at next : ℤ) → AreColumns rs → next ≤ℤ next_column rs at → Passed next rs (from_column rs next)
 unfolding from_column
 passed [] at next h k = record { are = tt; ends = tt; same = λ x l. refl }
@@ -114,10 +123,12 @@ abbrev pub EndBefore : ℤ → List Run → Type 0
 EndBefore x [] = Unit {0}
 EndBefore x (r ∷ rs) = ((r.last +ℤ pos 1) <ℤ x) × EndBefore x rs
 
+-- runs that end before a column end before a later one
 end_later : (x y : ℤ) (rs : List Run) → x ≤ℤ y → EndBefore x rs → EndBefore y rs
 end_later x y [] h k = tt
 end_later x y (r ∷ rs) h k = let p = k.0 in (omega (arith, ints), end_later x y rs h k.1)
 
+-- a further run that ends in time
 end_push : (x : ℤ) (n : Run) (rs : List Run) → EndBefore x rs → (n.last +ℤ pos 1) <ℤ x → EndBefore x (rs ++ n ∷ [])
 end_push x n [] h k = (k, tt)
 end_push x n (r ∷ rs) h k = (h.0, end_push x n rs h.1 k)
@@ -129,6 +140,7 @@ right_of_all (r ∷ rs) x y h k =
     let p = h.0 in
     in_runs_cons r rs x ∙ or_from _ _ (within_above r.first x r.last (omega (arith, ints))) (right_of_all rs x y h.1 k)
 
+-- a further run changes nothing at the first one
 starts_push : (z : ℤ) (n : Run) (rs : List Run) → StartsAfter z rs → z <ℤ n.first → StartsAfter z (rs ++ n ∷ [])
 starts_push z n [] h k = k
 starts_push z n (r ∷ rs) h k = h
@@ -138,19 +150,23 @@ runs_push : (n : Run) (rs : List Run) → AreRuns rs → EndBefore n.first rs �
 runs_push n [] h k l = (l, tt, tt)
 runs_push n (r ∷ rs) h k l = (h.0, starts_push (r.last +ℤ pos 1) n rs h.1 k.0, runs_push n rs h.2 k.1 l)
 
+-- a column of the runs or of the further one
 in_push : (n : Run) (rs : List Run) (x : ℤ) → in_runs (rs ++ n ∷ []) x ≡ (in_runs rs x || within n.first x n.last)
 unfolding in_runs
 in_push n rs x =
     list_any-append (λ r. within r.first x r.last) rs (n ∷ []) ∙ ap (λ w. in_runs rs x || w) (or_none (within n.first x n.last))
 
+-- the rectangles of two lists of runs
 run_rectangles_append : (top bottom : ℤ) (rs ss : List Run) → run_rectangles top bottom (rs ++ ss) ≡ run_rectangles top bottom rs ++ run_rectangles top bottom ss
 unfolding run_rectangles
 run_rectangles_append top bottom rs ss = map-append (λ (r : Run). record { min_x = r.first; min_y = top; max_x = r.last; max_y = bottom }) rs ss
 
+-- no run has no rectangle
 run_rectangles_nil : (top bottom : ℤ) → run_rectangles top bottom [] ≡ []
 unfolding run_rectangles
 run_rectangles_nil top bottom = refl
 
+-- below both upper bounds they make no difference
 within_upto : (start x u v : ℤ) → x ≤ℤ u → x ≤ℤ v → within start x u ≡ within start x v
 within_upto start x u v h k =
     by_lt_z x start
@@ -199,9 +215,11 @@ module _ (operation : Operation) (a₀ b₀ : List Rectangle) (top bottom : ℤ)
       let q = s.same_b x h ∙ until_next b at x s.are_b s.ends_b h (omega (arith, ints)) in
       ap (λ w. holds operation w (in_columns b₀ x)) p ∙ (ap (λ w. holds operation (has_begun a at) w) q ∙ sym e)
 
+  -- nothing is added
   still_out : (rs : List Run) → out ≡ before ++ run_rectangles top bottom rs → out ++ run_rectangles top bottom [] ≡ before ++ run_rectangles top bottom rs
   still_out rs h = ap (λ w. out ++ w) (run_rectangles_nil top bottom) ∙ (append-nil out ∙ h)
 
+  -- one run is added
   more_out : (rs : List Run) (r : Run) → out ≡ before ++ run_rectangles top bottom rs
       → out ++ run_rectangles top bottom (r ∷ []) ≡ before ++ run_rectangles top bottom (rs ++ r ∷ [])
   more_out rs r h =
@@ -341,6 +359,7 @@ row_start operation a b top bottom before at h k l m n o =
           ∙ (ap (λ w. holds operation false w) (first_before b at x k m p) ∙ (holds_none operation ∙ sym (or_from _ _ (in_runs_nil x) refl)));
     }
 
+-- where nothing is left the operation holds nowhere
 row_end_step : (operation : Operation) (a₀ b₀ : List Rectangle) (top bottom : ℤ) (before : List Rectangle) (at start : ℤ) (open' : Bool) (out : List Rectangle)
     → RowState operation a₀ b₀ top bottom before [] [] at start open' out
     → (x : ℤ) → at ≤ℤ x → holds operation (in_columns a₀ x) (in_columns b₀ x) ≡ false
@@ -384,6 +403,7 @@ unfolding run_rectangles
 pushed_run top bottom first last is_run out r e f g h k =
     rw e (ap (λ w. out ++ w ∷ []) (same_bounds r.min_x r.min_y r.max_x r.max_y first top last bottom f g h k))
 
+-- with no rectangle there is no change
 next_of_nil : (at : ℤ) → next_column [] at ≡ pos 32768
 unfolding next_column
 next_of_nil at = refl

@@ -32,10 +32,12 @@ band_disjoint top bottom (r ∷ rs) tail h k d = (
   band_disjoint top bottom rs tail h.2 k d,
 )
 
+-- the empty list is disjoint
 nil_disjoint : Disjoint []
 unfolding Disjoint
 nil_disjoint = tt
 
+-- the rectangles of bands are disjoint
 flat_disjoint : (bs : List Band) → AreBands bs → Disjoint (flat bs)
 flat_disjoint [] h = rw flat_nil nil_disjoint
 flat_disjoint (b ∷ bs) h =
@@ -52,6 +54,7 @@ has_at [] k d x y l h = absurd (omega arith)
 has_at (r ∷ rs) zero d x y l h = covers_cons r rs x y ∙ or_left (has_pixel r x y) (covers rs x y) h
 has_at (r ∷ rs) (suc k) d x y l h = covers_cons r rs x y ∙ or_right (has_pixel r x y) (covers rs x y) (has_at rs k d x y (omega arith) h)
 
+-- disjoint lists by places
 disjoint_at : (rs : List Rectangle) → Disjoint rs → (i j : ℕ) (d : Rectangle) → i < j → j < length rs → AreApart (get_or rs i d) (get_or rs j d)
 unfolding Disjoint
 disjoint_at [] h i j d l m = absurd (omega arith)

@@ -23,6 +23,7 @@ pub flat_first : (b : Band) (bs : List Band) → flat (b ∷ bs) ≡ run_rectang
 unfolding run_rectangles
 flat_first b bs = flat_cons b bs
 
+-- the rectangles of two lists of bands
 pub flat_append : (bs cs : List Band) → flat (bs ++ cs) ≡ flat bs ++ flat cs
 unfolding flat
 flat_append bs cs = flat_map-append band_rectangles bs cs
@@ -35,11 +36,13 @@ columns_of_runs top bottom (r ∷ rs) x =
     in_columns_cons (record { min_x = r.first; min_y = top; max_x = r.last; max_y = bottom }) (run_rectangles top bottom rs) x
     ∙ (ap (λ w. within r.first x r.last || w) (columns_of_runs top bottom rs x) ∙ sym (in_runs_cons r rs x))
 
+-- rectangles begin where their runs do
 columns_after_runs : (x top bottom : ℤ) (rs : List Run) → StartsAfter (x +ℤ pos 1) rs → ColumnsAfter x (run_rectangles top bottom rs)
 unfolding run_rectangles
 columns_after_runs x top bottom [] h = tt
 columns_after_runs x top bottom (r ∷ rs) h = omega (arith, ints)
 
+-- the rectangles of runs lie from left to right
 pub are_columns : (top bottom : ℤ) (rs : List Run) → AreRuns rs → AreColumns (run_rectangles top bottom rs)
 unfolding run_rectangles
 are_columns top bottom [] h = tt
@@ -52,11 +55,13 @@ module _ (top bottom : ℤ) (tail : List Rectangle) where
   first_row_app [] n = absurd (n refl)
   first_row_app (r ∷ rs) n = refl
 
+  -- the next change is that of the first band
   next_row_app : (rs : List Run) (y : ℤ) → (rs ≡ [] → ⊥) → next_row (run_rectangles top bottom rs ++ tail) y ≡ cond (int_lt y top) top (bottom +ℤ pos 1)
   unfolding next_row run_rectangles
   next_row_app [] y n = absurd (n refl)
   next_row_app (r ∷ rs) y n = refl
 
+  -- the first band is counted where it has begun
   begun_app : (rs : List Run) (y : ℤ) → (rs ≡ [] → ⊥)
       → begun_band (run_rectangles top bottom rs ++ tail) y
       ≡ cond (int_le top y) (take (band_length top (run_rectangles top bottom rs ++ tail)) (run_rectangles top bottom rs ++ tail)) []
@@ -64,6 +69,7 @@ module _ (top bottom : ℤ) (tail : List Rectangle) where
   begun_app [] y n = absurd (n refl)
   begun_app (r ∷ rs) y n = refl
 
+  -- the first band is left out where it is over
   from_app : (rs : List Run) (y : ℤ) → (rs ≡ [] → ⊥)
       → from_row (run_rectangles top bottom rs ++ tail) y
       ≡ cond (int_lt bottom y) (drop (band_length top (run_rectangles top bottom rs ++ tail)) (run_rectangles top bottom rs ++ tail)) (run_rectangles top bottom rs ++ tail)
@@ -79,12 +85,14 @@ module _ (top bottom : ℤ) (tail : List Rectangle) where
       ap (λ w. cond w (1 + prefix_len (λ s. int_eq s.min_y top) (run_rectangles top bottom rs ++ tail)) 0) (eq_true top top refl)
       ∙ (ap (λ w. 1 + w) (length_app rs) ∙ omega arith)
 
+-- a rectangle with another top row is not counted
 length_other_app : (y top bottom : ℤ) (tail : List Rectangle) (rs : List Run) → (rs ≡ [] → ⊥) → y <ℤ top → band_length y (run_rectangles top bottom rs ++ tail) ≡ 0
 unfolding band_length run_rectangles
 length_other_app y top bottom tail [] n h = absurd (n refl)
 length_other_app y top bottom tail (r ∷ rs) n h =
     ap (λ w. cond w (1 + prefix_len (λ s. int_eq s.min_y y) (run_rectangles top bottom rs ++ tail)) 0) (eq_above top y h)
 
+-- an empty list has no rectangle
 length_none : (y : ℤ) → band_length y [] ≡ 0
 unfolding band_length
 length_none y = refl
@@ -108,9 +116,11 @@ length_first b bs h =
 pub first_row_flat : (b : Band) (bs : List Band) → AreBands (b ∷ bs) → first_row (flat (b ∷ bs)) ≡ b.top
 first_row_flat b bs h = ap first_row (flat_first b bs) ∙ first_row_app b.top b.bottom (flat bs) b.runs h.0.some
 
+-- the next change of bands
 pub next_row_flat : (b : Band) (bs : List Band) (y : ℤ) → AreBands (b ∷ bs) → next_row (flat (b ∷ bs)) y ≡ cond (int_lt y b.top) b.top (b.bottom +ℤ pos 1)
 next_row_flat b bs y h = ap (λ w. next_row w y) (flat_first b bs) ∙ next_row_app b.top b.bottom (flat bs) b.runs y h.0.some
 
+-- the rectangles of the first band, where it has begun
 pub begun_flat : (b : Band) (bs : List Band) (y : ℤ) → AreBands (b ∷ bs)
     → begun_band (flat (b ∷ bs)) y ≡ cond (int_le b.top y) (run_rectangles b.top b.bottom b.runs) []
 begun_flat b bs y h =
@@ -123,14 +133,17 @@ pub from_bands : List Band → ℤ → List Band
 from_bands [] y = []
 from_bands (b ∷ bs) y = cond (int_lt b.bottom y) bs (b ∷ bs)
 
+-- a function of a choice
 cond_over : {A B : Type 0} (f : A → B) (t : Bool) (x y : A) → cond t (f x) (f y) ≡ f (cond t x y)
 cond_over f true x y = refl
 cond_over f false x y = refl
 
+-- nothing is left of nothing
 from_nil : (y : ℤ) → from_row [] y ≡ []
 unfolding from_row
 from_nil y = refl
 
+-- what is left of the rectangles is that of the bands
 pub from_flat : (bs : List Band) (y : ℤ) → AreBands bs → from_row (flat bs) y ≡ flat (from_bands bs y)
 unfolding from_bands
 from_flat [] y h = ap (λ w. from_row w y) flat_nil ∙ (from_nil y ∙ sym flat_nil)
@@ -145,6 +158,7 @@ abbrev pub EndsRow : ℤ → List Band → Type 0
 EndsRow y [] = Unit {0}
 EndsRow y (b ∷ bs) = y ≤ℤ b.bottom
 
+-- no band has begun where there is none
 begun_nil : (y : ℤ) → begun_band [] y ≡ []
 unfolding begun_band
 begun_nil y = refl
@@ -172,6 +186,7 @@ begun_columns_step : (b : Band) (t : Bool) → AreRuns b.runs → AreColumns (co
 begun_columns_step b true h = are_columns b.top b.bottom b.runs h
 begun_columns_step b false h = tt
 
+-- the columns of the first band lie from left to right
 pub begun_columns : (bs : List Band) (at : ℤ) → AreBands bs → AreColumns (begun_band (flat bs) at)
 begun_columns [] at h = rw (ap (λ w. begun_band w at) flat_nil ∙ begun_nil at) tt
 begun_columns (b ∷ bs) at h = rw (begun_flat b bs at h) (begun_columns_step b (int_le b.top at) h.0.runs)
@@ -183,6 +198,7 @@ next_row_further b bs at h k =
     rw (next_row_flat b bs at h)
     (by_lt_z at b.top (λ a. rw (of_lt at b.top a) a) (λ a. rw (le_lt_false at b.top a) (omega (arith, ints))))
 
+-- the next change is at most right below the first band
 next_row_most : (b : Band) (bs : List Band) (at : ℤ) → AreBands (b ∷ bs) → next_row (flat (b ∷ bs)) at ≤ℤ (b.bottom +ℤ pos 1)
 next_row_most b bs at h =
     let p = h.0.rows in
@@ -195,10 +211,12 @@ pub record PassedRows (next : ℤ) (bs cs : List Band) : Type 0 where
   pub ends : EndsRow next cs
   pub same : (x y : ℤ) → next ≤ℤ y → in_bands bs x y ≡ in_bands cs x y
 
+-- what begins below a row does not end above it
 ends_row_after : (x y : ℤ) (bs : List Band) → AreBands bs → StartsBelow x bs → y ≤ℤ (x +ℤ pos 1) → EndsRow y bs
 ends_row_after x y [] h k l = tt
 ends_row_after x y (b ∷ bs) h k l = let p = h.0.rows in omega (arith, ints)
 
+-- what a step leaves is still ahead
 pub passed_rows : (bs : List Band) (at next : ℤ) → AreBands bs → next ≤ℤ next_row (flat bs) at → PassedRows next bs (from_bands bs next)
 unfolding from_bands
 passed_rows [] at next h k = record { are = tt; ends = tt; same = λ x y l. refl }
@@ -228,18 +246,22 @@ abbrev pub EndAbove : ℤ → List Band → Type 0
 EndAbove y [] = Unit {0}
 EndAbove y (b ∷ bs) = (b.bottom <ℤ y) × EndAbove y bs
 
+-- bands that end above a row end above a lower one
 pub end_lower : (y z : ℤ) (bs : List Band) → y ≤ℤ z → EndAbove y bs → EndAbove z bs
 end_lower y z [] h k = tt
 end_lower y z (b ∷ bs) h k = let p = k.0 in (omega (arith, ints), end_lower y z bs h k.1)
 
+-- a further band that ends in time
 pub end_above_push : (y : ℤ) (n : Band) (bs : List Band) → EndAbove y bs → n.bottom <ℤ y → EndAbove y (bs ++ n ∷ [])
 end_above_push y n [] h k = (k, tt)
 end_above_push y n (b ∷ bs) h k = (h.0, end_above_push y n bs h.1 k)
 
+-- the bands without the last one end in time too
 pub end_above_init : (y : ℤ) (l : Band) (bs : List Band) → EndAbove y (bs ++ l ∷ []) → EndAbove y bs
 end_above_init y l [] h = tt
 end_above_init y l (b ∷ bs) h = (h.0, end_above_init y l bs h.1)
 
+-- the last band ends in time
 pub end_above_last : (y : ℤ) (l : Band) (bs : List Band) → EndAbove y (bs ++ l ∷ []) → l.bottom <ℤ y
 end_above_last y l [] h = h.0
 end_above_last y l (b ∷ bs) h = end_above_last y l bs h.1
@@ -250,10 +272,12 @@ below_all [] x y z h k = in_bands_nil x y
 below_all (b ∷ bs) x y z h k =
     let p = h.0 in in_below b bs x y (omega (arith, ints)) ∙ below_all bs x y z h.1 k
 
+-- a pixel of either list of bands
 pub in_bands_append : (bs cs : List Band) (x y : ℤ) → in_bands (bs ++ cs) x y ≡ (in_bands bs x y || in_bands cs x y)
 unfolding in_bands
 in_bands_append bs cs x y = list_any-append (λ b. within b.top y b.bottom && in_runs b.runs x) bs cs
 
+-- a further band changes nothing at the first one
 above_grown : (u l n : Band) (us : List Band) → IsAbove u (us ++ l ∷ []) → IsAbove u (us ++ l ∷ n ∷ [])
 above_grown u l n [] h = h
 above_grown u l n (v ∷ us) h = h
@@ -263,6 +287,7 @@ pub bands_push : (l n : Band) (us : List Band) → AreBands (us ++ l ∷ []) →
 bands_push l n [] h k m = (h.0, k, (m, tt, tt))
 bands_push l n (u ∷ us) h k m = (h.0, above_grown u l n us h.1, bands_push l n us h.2 k m)
 
+-- the last band may reach further down
 above_taller_last : (u l m : Band) (us : List Band) → l.top ≡ m.top → l.runs ≡ m.runs → IsAbove u (us ++ l ∷ []) → IsAbove u (us ++ m ∷ [])
 above_taller_last u l m [] e f h = let p = h.0 in (omega (arith, ints), λ a g. h.1 (a ∙ sym e) (g ∙ sym f))
 above_taller_last u l m (v ∷ us) e f h = h

@@ -9,23 +9,28 @@ pub any_agree : {A : Type 0} (p q : A → Bool) → ((a : A) → p a ≡ q a) �
 any_agree p q h [] = refl
 any_agree p q h (a ∷ s) = ap (λ w. w || list_any p s) (h a) ∙ ap (λ w. q a || w) (any_agree p q h s)
 
+-- a test on what a function gives
 pub any_map : {A B : Type 0} (p : B → Bool) (f : A → B) (s : List A) → list_any p (map f s) ≡ list_any (λ a. p (f a)) s
 any_map p f [] = refl
 any_map p f (a ∷ s) = ap (λ w. p (f a) || w) (any_map p f s)
 
+-- a test on what one more element leaves of a filter
 any_filter_step : {A : Type 0} (p q : A → Bool) (a : A) (s : List A) → list_any p (filter q s) ≡ list_any (λ b. q b && p b) s
     → (t : Bool) → list_any p (cond t (a ∷ filter q s) (filter q s)) ≡ ((t && p a) || list_any (λ b. q b && p b) s)
 any_filter_step p q a s h true = ap (λ w. p a || w) h
 any_filter_step p q a s h false = h
 
+-- a test on what a filter keeps
 pub any_filter : {A : Type 0} (p q : A → Bool) (s : List A) → list_any p (filter q s) ≡ list_any (λ b. q b && p b) s
 any_filter p q [] = refl
 any_filter p q (a ∷ s) = any_filter_step p q a s (any_filter p q s) (q a)
 
+-- a test on lists end to end
 pub any_flat_map : {A B : Type 0} (p : B → Bool) (f : A → List B) (s : List A) → list_any p (flat_map f s) ≡ list_any (λ a. list_any p (f a)) s
 any_flat_map p f [] = refl
 any_flat_map p f (a ∷ s) = list_any-append p (f a) (flat_map f s) ∙ ap (λ w. list_any p (f a) || w) (any_flat_map p f s)
 
+-- a further test on two
 and_over : (p q c : Bool) → ((p && c) || (q && c)) ≡ ((p || q) && c)
 and_over true true true = refl
 and_over true true false = refl
@@ -38,6 +43,7 @@ pub any_and : {A : Type 0} (p : A → Bool) (c : Bool) (s : List A) → list_any
 any_and p c [] = refl
 any_and p c (a ∷ s) = ap (λ w. (p a && c) || w) (any_and p c s) ∙ and_over (p a) (list_any p s) c
 
+-- an element that passes, at the first or behind it
 any_some_step : {A : Type 0} (p : A → Bool) (a : A) (s : List A)
     → (list_any p s ≡ true → (b : A) × (p b ≡ true) × ((q : A → Bool) → q b ≡ true → list_any q s ≡ true))
     → (t : Bool) → p a ≡ t → (t || list_any p s) ≡ true
@@ -51,6 +57,7 @@ pub any_some : {A : Type 0} (p : A → Bool) (s : List A) → list_any p s ≡ t
 any_some p [] h = absurd (false≢true h)
 any_some p (a ∷ s) h = any_some_step p a s (any_some p s) (p a) refl h
 
+-- two tests in the other order
 pub and_comm : (p q : Bool) → (p && q) ≡ (q && p)
 and_comm true true = refl
 and_comm true false = refl

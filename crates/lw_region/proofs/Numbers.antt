@@ -26,15 +26,19 @@ eq_above x y h = false_from_ne_true _ (λ t. let e = (Decides-int_eq x y).0 t in
 pub int_total : (x y : ℤ) → int_lt x y ≡ false → int_lt y x ≡ false → x ≡ y
 int_total x y a b = grind (arith, ints)
 
+-- the order of numbers goes on
 pub int_trans : (x y z : ℤ) → int_lt x y ≡ true → int_lt y z ≡ true → int_lt x z ≡ true
 int_trans x y z a b = grind (arith, ints)
 
+-- the order of numbers goes one way
 pub int_asym : (x y : ℤ) → int_lt x y ≡ true → int_lt y x ≡ false
 int_asym x y a = grind (arith, ints)
 
+-- what the strict test says
 pub lt_of : (x y : ℤ) → int_lt x y ≡ true → x <ℤ y
 lt_of x y a = grind (arith, ints)
 
+-- the strict test passes where it holds
 pub of_lt : (x y : ℤ) → x <ℤ y → int_lt x y ≡ true
 of_lt x y a = grind (arith, ints)
 
@@ -57,10 +61,12 @@ any_count_up z (suc n) x =
     ap (λ w. int_eq z x || w) (any_count_up (z +ℤ pos 1) n x ∙ ap (λ w. within (z +ℤ pos 1) x w) e)
     ∙ within_cons z x (z +ℤ pos (suc n) -ℤ pos 1) (omega (arith, ints))
 
+-- a number that is not below 0
 natural_is : (z : ℤ) → pos 0 ≤ℤ z → pos (natural z) ≡ z
 natural_is (pos n) h = refl
 natural_is (negsuc n) h = absurd (omega (arith, ints))
 
+-- a number below 0
 natural_none : (z : ℤ) → z <ℤ pos 0 → natural z ≡ 0
 natural_none (pos n) h = absurd (omega (arith, ints))
 natural_none (negsuc n) h = refl

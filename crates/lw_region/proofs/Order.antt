@@ -11,10 +11,12 @@ or_swap true false r = refl
 or_swap false true r = refl
 or_swap false false r = refl
 
+-- a test made twice
 or_again : (q r : Bool) → (q || r) ≡ (q || (q || r))
 or_again true r = refl
 or_again false r = refl
 
+-- the three ways to put an element in
 any_put_step : {A : Type 0} (before : A → A → Bool) → ((a b : A) → before a b ≡ false → before b a ≡ false → a ≡ b)
     → (p : A → Bool) (a b : A) (bs : List A) → list_any p (put_in_order before a bs) ≡ (p a || list_any p bs)
     → (s t : Bool) → before a b ≡ s → before b a ≡ t
@@ -28,10 +30,12 @@ pub or_assoc : (p q r : Bool) → ((p || q) || r) ≡ (p || (q || r))
 or_assoc true q r = refl
 or_assoc false q r = refl
 
+-- a test or none
 pub or_none : (p : Bool) → (p || false) ≡ p
 or_none true = refl
 or_none false = refl
 
+-- a test within itself
 pub absorbed : (p q : Bool) → (p || (q && p)) ≡ p
 absorbed true q = refl
 absorbed false true = refl
@@ -57,6 +61,7 @@ before_all : {A : Type 0} (before : A → A → Bool) → ((a b c : A) → befor
 before_all before trans a b [] h k = tt
 before_all before trans a b (c ∷ bs) h k = (trans a b c h k.0, before_all before trans a b bs h k.1)
 
+-- the three ways to put an element behind another
 before_put_step : {A : Type 0} (before : A → A → Bool) (c a b : A) (bs : List A) → before c a ≡ true → before c b ≡ true → ComesBefore before c bs
     → ComesBefore before c (put_in_order before a bs)
     → (s t : Bool) → ComesBefore before c (cond s (a ∷ b ∷ bs) (cond t (b ∷ put_in_order before a bs) (b ∷ bs)))
@@ -71,6 +76,7 @@ before_put before c a [] h k = (h, tt)
 before_put before c a (b ∷ bs) h k =
     before_put_step before c a b bs h k.0 k.1 (before_put before c a bs h k.1) (before a b) (before b a)
 
+-- the three ways to put an element in order
 ordered_put_step : {A : Type 0} (before : A → A → Bool) → ((a b c : A) → before a b ≡ true → before b c ≡ true → before a c ≡ true)
     → (a b : A) (bs : List A) → ComesBefore before b bs → IsInOrder before bs → IsInOrder before (put_in_order before a bs)
     → (s t : Bool) → before a b ≡ s → before b a ≡ t
@@ -92,15 +98,18 @@ pub ordered_in_order : {A : Type 0} (before : A → A → Bool) → ((a b c : A)
 ordered_in_order before trans [] = tt
 ordered_in_order before trans (a ∷ s) = ordered_put before trans a (in_order before s) (ordered_in_order before trans s)
 
+-- what comes before an element and those kept
 before_filter_step : {A : Type 0} (before : A → A → Bool) (p : A → Bool) (a b : A) (bs : List A) → before a b ≡ true → ComesBefore before a (filter p bs)
     → (t : Bool) → ComesBefore before a (cond t (b ∷ filter p bs) (filter p bs))
 before_filter_step before p a b bs h k true = (h, k)
 before_filter_step before p a b bs h k false = k
 
+-- what comes before a list comes before what is kept of it
 before_filter : {A : Type 0} (before : A → A → Bool) (p : A → Bool) (a : A) (bs : List A) → ComesBefore before a bs → ComesBefore before a (filter p bs)
 before_filter before p a [] h = tt
 before_filter before p a (b ∷ bs) h = before_filter_step before p a b bs h.0 (before_filter before p a bs h.1) (p b)
 
+-- one more element that is kept or not
 ordered_filter_step : {A : Type 0} (before : A → A → Bool) (p : A → Bool) (b : A) (bs : List A) → ComesBefore before b (filter p bs) → IsInOrder before (filter p bs)
     → (t : Bool) → IsInOrder before (cond t (b ∷ filter p bs) (filter p bs))
 ordered_filter_step before p b bs h k true = (h, k)
@@ -118,9 +127,11 @@ pub none_behind : {A : Type 0} (before : A → A → Bool) (p : A → Bool) (a :
 none_behind before p a h [] k = refl
 none_behind before p a h (b ∷ bs) k = rw (h b k.0) (none_behind before p a h bs k.1)
 
+-- a test that passes settles the answer
 true_or : (p q : Bool) → p ≡ true → (p || q) ≡ true
 true_or p q e = rw e
 
+-- a test that fails settles nothing
 or_cancel : (p q r : Bool) → p ≡ false → (p || q) ≡ (p || r) → q ≡ r
 or_cancel p q r e h = rw e at h
 
@@ -140,6 +151,7 @@ module _ {A : Type 0} (before same : A → A → Bool)
   not_before a b xs ys k h e =
       false≢true (sym (absent a (b ∷ ys) (e, before_all before trans a b ys e k)) ∙ (sym (h a) ∙ true_or _ _ (itself a)))
 
+  -- the rests of two lists with the same elements have the same
   same_tails : (a b : A) (xs ys : List A) → ComesBefore before a xs → ComesBefore before b ys → a ≡ b
       → ((c : A) → list_any (λ z. same z c) (a ∷ xs) ≡ list_any (λ z. same z c) (b ∷ ys))
       → (c : A) (t : Bool) → same a c ≡ t → list_any (λ z. same z c) xs ≡ list_any (λ z. same z c) ys

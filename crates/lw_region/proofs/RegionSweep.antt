@@ -47,26 +47,32 @@ pub record IsMade (next : ℤ) (has : ℤ → ℤ → Bool) (last : ℕ) (out : 
 abbrev new_band : ℤ → ℤ → List Run → Band
 new_band top bottom rs = record { top = top; bottom = bottom; runs = rs }
 
+-- the rectangles of one band
 one_flat : (b : Band) → flat (b ∷ []) ≡ run_rectangles b.top b.bottom b.runs
 one_flat b = flat_first b [] ∙ (ap (λ w. run_rectangles b.top b.bottom b.runs ++ w) flat_nil ∙ append-nil (run_rectangles b.top b.bottom b.runs))
 
+-- the pixels of one band
 in_one : (b : Band) (x y : ℤ) → in_bands (b ∷ []) x y ≡ (within b.top y b.bottom && in_runs b.runs x)
 in_one b x y =
     in_bands_cons b [] x y ∙ (ap (λ w. (within b.top y b.bottom && in_runs b.runs x) || w) (in_bands_nil x y) ∙ or_none _)
 
+-- no run has no rectangle
 no_runs : (top bottom : ℤ) → run_rectangles top bottom [] ≡ []
 unfolding run_rectangles
 no_runs top bottom = refl
 
+-- no band is joined to none below
 joined_none : (upper : List Rectangle) → joined_bottom upper [] ≡ None
 unfolding joined_bottom
 joined_none [] = refl
 joined_none (q ∷ qs) = refl
 
+-- no band is joined to none above
 joined_first : (lower : List Rectangle) → joined_bottom [] lower ≡ None
 unfolding joined_bottom
 joined_first lower = refl
 
+-- two bands are joined by their rows and columns
 joined_runs : (t u v w : ℤ) (rs ss : List Run) → (rs ≡ [] → ⊥) → (ss ≡ [] → ⊥)
     → joined_bottom (run_rectangles t u rs) (run_rectangles v w ss) ≡ cond (int_eq (u +ℤ pos 1) v && same_columns (run_rectangles t u rs) (run_rectangles v w ss)) (Some w) None
 unfolding joined_bottom run_rectangles
@@ -74,11 +80,13 @@ joined_runs t u v w [] ss m n = absurd (m refl)
 joined_runs t u v w (r ∷ rs) [] m n = absurd (n refl)
 joined_runs t u v w (r ∷ rs) (s ∷ ss) m n = refl
 
+-- runs have rectangles
 some_rectangles : (top bottom : ℤ) (rs : List Run) → (rs ≡ [] → ⊥) → 0 < length (run_rectangles top bottom rs)
 unfolding run_rectangles
 some_rectangles top bottom [] n = absurd (n refl)
 some_rectangles top bottom (r ∷ rs) n = omega arith
 
+-- a band reaching further down
 down_runs : (top bottom to : ℤ) (rs : List Run) → bottom ≤ℤ to → map (λ r. down_to r to) (run_rectangles top bottom rs) ≡ run_rectangles top to rs
 unfolding run_rectangles
 down_runs top bottom to [] h = refl
@@ -104,6 +112,7 @@ record Parts (p q r : List Rectangle) (last start : ℕ) (rects : List Rectangle
   back : drop start rects ≡ r
   whole : rects ≡ (p ++ q) ++ r
 
+-- a list is cut into its three parts
 parts : (p q r : List Rectangle) (last start : ℕ) (rects : List Rectangle) → rects ≡ (p ++ q) ++ r → last ≡ length p → start ≡ length (p ++ q) → Parts p q r last start rects
 parts p q r last start rects e f g =
     record {
@@ -134,9 +143,11 @@ no_band row next has last out rects l s e j =
 
 module _ (row next : ℤ) (has : ℤ → ℤ → Bool) (last : ℕ) (out rects : List Rectangle) (rs : List Run)
     (further : row <ℤ next) (are : AreRuns rs) (some : rs ≡ [] → ⊥) (added : rects ≡ out ++ run_rectangles row (next -ℤ pos 1) rs) where
+  -- what is added is a band
   is_band : IsBand (new_band row (next -ℤ pos 1) rs)
   is_band = record { rows = omega (arith, ints); some = some; runs = are }
 
+  -- the list is longer with the band
   longer : last_place None rects last (length out) ≡ length out
   longer =
       let k = some_rectangles row (next -ℤ pos 1) rs some in
@@ -186,6 +197,7 @@ module _ (row next : ℤ) (has : ℤ → ℤ → Bool) (last : ℕ) (out rects :
       } in
       rw j m
 
+  -- the rows of two bands that touch
   within_joined : (t u y : ℤ) → t ≤ℤ u → u +ℤ pos 1 ≡ row → (within t y u || within row y (next -ℤ pos 1)) ≡ within t y (next -ℤ pos 1)
   within_joined t u y h e =
       by_lt_z y t
@@ -196,6 +208,7 @@ module _ (row next : ℤ) (has : ℤ → ℤ → Bool) (last : ℕ) (out rects :
       (λ g. within_true row y (next -ℤ pos 1) (omega (arith, ints)) g ∙ sym (within_true t y (next -ℤ pos 1) a g)))
       (λ b. or_left _ _ (within_true t y u a b) ∙ sym (within_true t y (next -ℤ pos 1) a (omega (arith, ints)))))
 
+  -- a test that two share
   and_or : (p q t : Bool) → ((p && t) || (q && t)) ≡ ((p || q) && t)
   and_or true true true = refl
   and_or true true false = refl
@@ -203,6 +216,7 @@ module _ (row next : ℤ) (has : ℤ → ℤ → Bool) (last : ℕ) (out rects :
   and_or true false false = refl
   and_or false q t = refl
 
+  -- tests on three, grouped the other way
   or_group : (p q r : Bool) → ((p || q) || r) ≡ (p || (q || r))
   or_group true q r = refl
   or_group false q r = refl
@@ -240,6 +254,7 @@ module _ (row next : ℤ) (has : ℤ → ℤ → Bool) (last : ℕ) (out rects :
       } in
       rw j m
 
+-- the last band is a band
 last_is_band : (us : List Band) (l : Band) → AreBands (us ++ l ∷ []) → IsBand l
 last_is_band [] l h = h.0
 last_is_band (u ∷ us) l h = last_is_band us l h.2
@@ -260,6 +275,7 @@ next_band_step row next has last out rects rs f k n m upper l e g h i p q false 
     below_band row next has last out rects rs f k n m upper l e h i p
     (λ a b. false≢true (sym t ∙ and_from _ _ (eq_true (l.bottom +ℤ pos 1) row a) (ap (λ w. same_runs w rs) b ∙ same_runs_itself rs))) j
 
+-- a band that has runs is added
 next_band : (row next : ℤ) (has : ℤ → ℤ → Bool) (last : ℕ) (out rects : List Rectangle) (rs : List Run) → row <ℤ next → AreRuns rs → (rs ≡ [] → ⊥)
     → rects ≡ out ++ run_rectangles row (next -ℤ pos 1) rs → (upper lowest : List Band) → IsLowest upper lowest
     → out ≡ flat (upper ++ lowest) → last ≡ length (flat upper) → AreBands (upper ++ lowest) → EndAbove row (upper ++ lowest)
@@ -282,6 +298,7 @@ next_band row next has last out rects rs f k n m upper (l ∷ []) s e g h i p d 
     ∙ ap (λ w. cond (int_eq (l.bottom +ℤ pos 1) row && w) (Some (next -ℤ pos 1)) None) (same_columns_runs l.top l.bottom row (next -ℤ pos 1) l.runs rs))))
 next_band row next has last out rects rs f k n m upper (l ∷ v ∷ vs) s e g h i p d = absurd s
 
+-- a list with an element is not empty
 not_nil : (r : Run) (rs : List Run) → (r ∷ rs) ≡ [] → ⊥
 not_nil r rs e = cc
 
@@ -314,6 +331,7 @@ pub record SweepState (operation : Operation) (a₀ b₀ left_a left_b : List Re
   pub most : row ≤ℤ pos 32768
   pub made : IsMade row (λ x y. int_lt y row && holds operation (covers a₀ x y) (covers b₀ x y)) last out
 
+-- the same pixels by another test
 made_same : (row : ℤ) (has has' : ℤ → ℤ → Bool) (last : ℕ) (out : List Rectangle) → ((x y : ℤ) → has x y ≡ has' x y) → IsMade row has last out → IsMade row has' last out
 made_same row has has' last out e s =
     record {
@@ -333,6 +351,7 @@ module _ (operation : Operation) (a₀ b₀ left_a left_b : List Rectangle) (row
   pub columns_a : AreColumns (begun_band left_a row)
   columns_a = rw (s.is_a) (begun_columns s.bands_a row s.are_a)
 
+  -- the same of the second operand
   pub columns_b : AreColumns (begun_band left_b row)
   columns_b = rw (s.is_b) (begun_columns s.bands_b row s.are_b)
 
@@ -344,6 +363,7 @@ module _ (operation : Operation) (a₀ b₀ left_a left_b : List Rectangle) (row
       let f = m.place in
       omega arith
 
+  -- the rows that are done, with those of the new band
   row_settled : (h : Bool) (rs : List Run) (next x y : ℤ) → row <ℤ next → (row ≤ℤ y → y <ℤ next → h ≡ in_runs rs x)
       → ((int_lt y row && h) || (within row y (next -ℤ pos 1) && in_runs rs x)) ≡ (int_lt y next && h)
   row_settled h rs next x y f e =
@@ -398,10 +418,12 @@ module _ (operation : Operation) (a₀ b₀ left_a left_b : List Rectangle) (row
               (band_added row next (λ x y. int_lt y row && holds operation (covers a₀ x y) (covers b₀ x y)) last out rects r.runs further r.are r.made s.made);
         }
 
+-- with no band there is no change
 next_of_none : (row : ℤ) → next_row [] row ≡ pos 32768
 unfolding next_row
 next_of_none row = refl
 
+-- the sweep goes on, by what is left of either
 further_step : (left_a left_b : List Rectangle) (bs cs : List Band) (row next : ℤ) → left_a ≡ flat bs → left_b ≡ flat cs → AreBands bs → AreBands cs
     → EndsRow row bs → EndsRow row cs → 0 < length left_a + length left_b → next_row left_a row ≤ℤ pos 32768 → next_row left_b row ≤ℤ pos 32768
     → next ≡ int_min (next_row left_a row) (next_row left_b row) → row <ℤ next
@@ -427,16 +449,19 @@ pub sweep_further : (operation : Operation) (a₀ b₀ left_a left_b : List Rect
 sweep_further operation a₀ b₀ left_a left_b row last out next s n l m g =
     further_step left_a left_b s.bands_a s.bands_b row next s.is_a s.is_b s.are_a s.are_b s.ends_a s.ends_b n l m g
 
+-- the first band does not end above where it begins
 first_ends_row : (rects : List Rectangle) (bs : List Band) (row : ℤ) → rects ≡ flat bs → AreBands bs → row ≤ℤ first_row rects → EndsRow row bs
 first_ends_row rects [] row e h k = tt
 first_ends_row rects (b ∷ bs) row e h k =
     let f : first_row rects ≡ b.top = ap first_row e ∙ first_row_flat b bs h in let p = h.0.rows in omega (arith, ints)
 
+-- no row is above the first band
 first_over : (rects : List Rectangle) (bs : List Band) (row x y : ℤ) → rects ≡ flat bs → AreBands bs → row ≤ℤ first_row rects → y <ℤ row → in_bands bs x y ≡ false
 first_over rects [] row x y e h k l = in_bands_nil x y
 first_over rects (b ∷ bs) row x y e h k l =
     let f : first_row rects ≡ b.top = ap first_row e ∙ first_row_flat b bs h in none_over (b ∷ bs) x y h (omega (arith, ints))
 
+-- a canonical list is that of its bands
 canonical_flat : (rects : List Rectangle) → IsCanonical rects → rects ≡ flat (band_list (pixels_of rects))
 canonical_flat rects h = sym h ∙ bands_flat (pixels_of rects)
 

@@ -15,16 +15,19 @@ unfolding band_length
 length_more top rects i r l e h =
     prefix_len-drop_yes (λ s. int_eq s.min_y top) rects i r l (ap (λ (s : Rectangle). int_eq s.min_y top) (sym e) ∙ h)
 
+-- the count stops at another top row
 pub length_stops : (top : ℤ) (rects : List Rectangle) (i : ℕ) (r : Rectangle) → i < length rects → r ≡ get_or rects i r → int_eq r.min_y top ≡ false
     → band_length top (drop i rects) ≡ 0
 unfolding band_length
 length_stops top rects i r l e h =
     prefix_len-drop_no (λ s. int_eq s.min_y top) rects i r l (ap (λ (s : Rectangle). int_eq s.min_y top) (sym e) ∙ h)
 
+-- the count ends with the list
 pub length_ends : (top : ℤ) (rects : List Rectangle) (i : ℕ) → length rects ≤ i → band_length top (drop i rects) ≡ 0
 unfolding band_length
 length_ends top rects i l = prefix_len-drop_all (λ s. int_eq s.min_y top) rects i l
 
+-- four lists end to end
 regroup : {X : Type 0} (a b c d : List X) → (a ++ (b ++ c)) ++ d ≡ (a ++ b) ++ (c ++ d)
 regroup a b c d = simp append_assoc
 

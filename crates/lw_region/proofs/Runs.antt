@@ -18,6 +18,7 @@ pub in_runs_nil : (x : ℤ) → in_runs [] x ≡ false
 unfolding in_runs
 in_runs_nil x = refl
 
+-- a column of the first run or of the others
 pub in_runs_cons : (r : Run) (rs : List Run) (x : ℤ) → in_runs (r ∷ rs) x ≡ (within r.first x r.last || in_runs rs x)
 unfolding in_runs
 in_runs_cons r rs x = refl
@@ -43,6 +44,7 @@ in_first r rs x h k = in_runs_cons r rs x ∙ or_left _ _ (within_true r.first x
 pub in_rest : (r : Run) (rs : List Run) (x : ℤ) → r.last <ℤ x → in_runs (r ∷ rs) x ≡ in_runs rs x
 in_rest r rs x h = in_runs_cons r rs x ∙ ap (λ w. w || in_runs rs x) (within_above r.first x r.last h)
 
+-- the first runs begin together
 first_le : (r s : Run) (rs ss : List Run) → AreRuns (r ∷ rs) → AreRuns (s ∷ ss)
     → ((x : ℤ) → in_runs (r ∷ rs) x ≡ in_runs (s ∷ ss) x) → r.first ≤ℤ s.first
 first_le r s rs ss h k e =
@@ -50,6 +52,7 @@ first_le r s rs ss h k e =
     (λ a. absurd (false≢true (sym (none_before (r ∷ rs) s.first h a) ∙ (e s.first ∙ in_first s ss s.first (omega (arith, ints)) k.0))))
     (λ a. a)
 
+-- the first runs end together
 last_le : (r s : Run) (rs ss : List Run) → AreRuns (r ∷ rs) → AreRuns (s ∷ ss) → r.first ≡ s.first
     → ((x : ℤ) → in_runs (r ∷ rs) x ≡ in_runs (s ∷ ss) x) → s.last ≤ℤ r.last
 last_le r s rs ss h k f e =
@@ -90,6 +93,7 @@ one_run_list (r ∷ rs) (s ∷ ss) h k e =
     let u = one_run_list rs ss h.2 k.2 t in
     ap (λ z. z ∷ rs) (same_run r s f g) ∙ ap (λ z. s ∷ z) u
 
+-- a column joined to the first run or apart from it
 put_column_has : (x : ℤ) (r : Run) (rs : List Run) (z : ℤ) → r.first ≤ℤ r.last → (t : Bool) → int_eq (x +ℤ pos 1) r.first ≡ t
     → in_runs (cond t (record { first = x; last = r.last } ∷ rs) (record { first = x; last = x } ∷ r ∷ rs)) z ≡ (int_eq x z || in_runs (r ∷ rs) z)
 put_column_has x r rs z h true e =
@@ -105,20 +109,24 @@ pub in_put_column : (x : ℤ) (rs : List Run) (z : ℤ) → AreRuns rs → in_ru
 in_put_column x [] z h = in_runs_cons (record { first = x; last = x }) [] z ∙ ap (λ w. w || in_runs [] z) (sym (eq_is_within x z))
 in_put_column x (r ∷ rs) z h = put_column_has x r rs z h.0 (int_eq (x +ℤ pos 1) r.first) refl
 
+-- a column in front leaves runs
 put_column_runs : (x : ℤ) (r : Run) (rs : List Run) → AreRuns (r ∷ rs) → x <ℤ r.first → (t : Bool) → int_eq (x +ℤ pos 1) r.first ≡ t
     → AreRuns (cond t (record { first = x; last = r.last } ∷ rs) (record { first = x; last = x } ∷ r ∷ rs))
 put_column_runs x r rs h l true e = let p = h.0 in (omega (arith, ints), h.1, h.2)
 put_column_runs x r rs h l false e = let n = ne_of (x +ℤ pos 1) r.first e in (omega (arith, ints), omega (arith, ints), h)
 
+-- the same of any runs
 are_put_column : (x : ℤ) (rs : List Run) → AreRuns rs → StartsAfter x rs → AreRuns (put_column x rs)
 are_put_column x [] h l = (omega (arith, ints), tt, tt)
 are_put_column x (r ∷ rs) h l = put_column_runs x r rs h l (int_eq (x +ℤ pos 1) r.first) refl
 
+-- a column in front is the first one
 put_column_starts : (w x : ℤ) (r : Run) (rs : List Run) → w <ℤ x → (t : Bool)
     → StartsAfter w (cond t (record { first = x; last = r.last } ∷ rs) (record { first = x; last = x } ∷ r ∷ rs))
 put_column_starts w x r rs l true = l
 put_column_starts w x r rs l false = l
 
+-- the same of any runs
 starts_put_column : (w x : ℤ) (rs : List Run) → w <ℤ x → StartsAfter w (put_column x rs)
 starts_put_column w x [] l = l
 starts_put_column w x (r ∷ rs) l = put_column_starts w x r rs l (int_eq (x +ℤ pos 1) r.first)
@@ -158,6 +166,7 @@ same_runs_true (r ∷ rs) (s ∷ ss) h =
     let q = and_parts _ _ p.0 in
     ap (λ z. z ∷ rs) (same_run r s (eq_of _ _ q.0) (eq_of _ _ q.1)) ∙ ap (λ z. s ∷ z) (same_runs_true rs ss p.1)
 
+-- runs pass the test with themselves
 pub same_runs_itself : (rs : List Run) → same_runs rs rs ≡ true
 same_runs_itself [] = refl
 same_runs_itself (r ∷ rs) =

@@ -21,10 +21,12 @@ canonical_nil = rw (sym flat_nil) (flat_canonical [] tt)
 abbrev one_band : Rectangle → Band
 one_band r = record { top = r.min_y; bottom = r.max_y; runs = record { first = r.min_x; last = r.max_x } ∷ [] }
 
+-- the rectangles of that band
 one_rectangle : (r : Rectangle) → flat (one_band r ∷ []) ≡ r ∷ []
 unfolding flat
 one_rectangle r = refl
 
+-- one run is not none
 one_not_nil : (r : Run) → (r ∷ []) ≡ [] → ⊥
 one_not_nil r e = cc
 
@@ -34,6 +36,7 @@ canonical_one r h =
     rw (sym (one_rectangle r))
     (flat_canonical (one_band r ∷ []) (record { rows = h.rows; some = one_not_nil (record { first = r.min_x; last = r.max_x }); runs = (h.columns, tt, tt) }, tt, tt))
 
+-- the pixels of one rectangle
 pub covers_one : (r : Rectangle) (x y : ℤ) → covers (r ∷ []) x y ≡ has_pixel r x y
 covers_one r x y = covers_cons r [] x y ∙ (ap (λ w. has_pixel r x y || w) (covers_nil x y) ∙ or_none (has_pixel r x y))
 
@@ -43,28 +46,33 @@ pub set_and_list : (after : List Rectangle) (s : List Pixel) → IsCanonical aft
 set_and_list after s h k e =
     (one_set (pixels_of after) s (ordered_pixels after) k (λ x y. contains_pixels_of after x y ∙ e x y), canonical_is_bands after s h e)
 
+-- pixels of lists and of their sets
 both_covers : (f : Bool → Bool → Bool) (a b : List Rectangle) (x y : ℤ) → f (covers a x y) (covers b x y) ≡ f (contains_pixel (pixels_of a) x y) (contains_pixel (pixels_of b) x y)
 both_covers f a b x y =
     ap (λ w. f w (covers b x y)) (sym (contains_pixels_of a x y)) ∙ ap (λ w. f (contains_pixel (pixels_of a) x y) w) (sym (contains_pixels_of b x y))
 
+-- the set and the list of a union
 pub union_made : (a b after : List Rectangle) → IsCombined Union a b after
     → (pixels_of after ≡ union (pixels_of a) (pixels_of b)) × (after ≡ bands (union (pixels_of a) (pixels_of b)))
 union_made a b after m =
     set_and_list after (union (pixels_of a) (pixels_of b)) m.canonical (ordered_union (pixels_of a) (pixels_of b))
     (λ x y. m.pixels x y ∙ (both_covers ◌||◌ a b x y ∙ sym (contains_union (pixels_of a) (pixels_of b) x y)))
 
+-- the set and the list of an intersection
 pub intersection_made : (a b after : List Rectangle) → IsCombined Intersection a b after
     → (pixels_of after ≡ intersection (pixels_of a) (pixels_of b)) × (after ≡ bands (intersection (pixels_of a) (pixels_of b)))
 intersection_made a b after m =
     set_and_list after (intersection (pixels_of a) (pixels_of b)) m.canonical (ordered_intersection (pixels_of a) (pixels_of b) (ordered_pixels a))
     (λ x y. m.pixels x y ∙ (both_covers ◌&&◌ a b x y ∙ sym (contains_intersection (pixels_of a) (pixels_of b) x y)))
 
+-- the set and the list of a symmetric difference
 pub symmetric_made : (a b after : List Rectangle) → IsCombined SymmetricDifference a b after
     → (pixels_of after ≡ symmetric_difference (pixels_of a) (pixels_of b)) × (after ≡ bands (symmetric_difference (pixels_of a) (pixels_of b)))
 symmetric_made a b after m =
     set_and_list after (symmetric_difference (pixels_of a) (pixels_of b)) m.canonical (ordered_symmetric (pixels_of a) (pixels_of b))
     (λ x y. m.pixels x y ∙ (both_covers (λ p q. (p && not q) || (q && not p)) a b x y ∙ sym (contains_symmetric (pixels_of a) (pixels_of b) x y)))
 
+-- the set and the list of a difference
 pub difference_made : (a b after : List Rectangle) → IsCombined Difference a b after
     → (pixels_of after ≡ difference (pixels_of a) (pixels_of b)) × (after ≡ bands (difference (pixels_of a) (pixels_of b)))
 difference_made a b after m =
@@ -75,6 +83,7 @@ difference_made a b after m =
 pub with_one : (operation : Operation) (a other after : List Rectangle) (r : Rectangle) → other ≡ r ∷ [] → IsCombined operation a other after → IsCombined operation a (r ∷ []) after
 with_one operation a other after r e m = rw e at m
 
+-- the pixels with those of one rectangle
 pub one_pixels : (operation : Operation) (a other after : List Rectangle) (r : Rectangle) → other ≡ r ∷ [] → IsCombined operation a other after
     → (x y : ℤ) → covers after x y ≡ holds operation (covers a x y) (has_pixel r x y)
 one_pixels operation a other after r e m x y =
@@ -114,10 +123,12 @@ pub one_canonical_set : (rs ss : List Rectangle) → IsCanonical rs → IsCanoni
 one_canonical_set rs ss h k e =
     one_canonical rs ss h k (λ x y. sym (contains_pixels_of rs x y) ∙ (ap (λ w. contains_pixel w x y) e ∙ contains_pixels_of ss x y))
 
+-- the empty list has the empty set
 pub set_of_nil : pixels_of [] ≡ []
 unfolding pixels_of
 set_of_nil = refl
 
+-- the empty set has no band
 pub bands_of_nil : bands [] ≡ []
 unfolding bands
 bands_of_nil = refl

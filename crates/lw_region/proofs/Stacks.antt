@@ -19,6 +19,7 @@ pub in_bands_nil : (x y : ℤ) → in_bands [] x y ≡ false
 unfolding in_bands
 in_bands_nil x y = refl
 
+-- a pixel of the first band or of the others
 pub in_bands_cons : (b : Band) (bs : List Band) (x y : ℤ) → in_bands (b ∷ bs) x y ≡ ((within b.top y b.bottom && in_runs b.runs x) || in_bands bs x y)
 unfolding in_bands
 in_bands_cons b bs x y = refl
@@ -28,6 +29,7 @@ abbrev pub StartsBelow : ℤ → List Band → Type 0
 StartsBelow y [] = Unit {0}
 StartsBelow y (b ∷ bs) = y <ℤ b.top
 
+-- bands that begin below a row begin below those above it
 pub starts_below_less : (x y : ℤ) (bs : List Band) → x ≤ℤ y → StartsBelow y bs → StartsBelow x bs
 starts_below_less x y [] h k = tt
 starts_below_less x y (b ∷ bs) h k = omega (arith, ints)
@@ -66,6 +68,7 @@ some_pixel b bs h =
     let q = h.0.rows in
     (p.0, in_top b bs p.0 b.top h (omega (arith, ints)) q ∙ p.1)
 
+-- the first bands begin together
 top_le : (b c : Band) (bs cs : List Band) → AreBands (b ∷ bs) → AreBands (c ∷ cs)
     → ((x y : ℤ) → in_bands (b ∷ bs) x y ≡ in_bands (c ∷ cs) x y) → b.top ≤ℤ c.top
 top_le b c bs cs h k e =
@@ -74,6 +77,7 @@ top_le b c bs cs h k e =
     (λ a. absurd (false≢true (sym (none_over (b ∷ bs) p.0 c.top h a) ∙ (e p.0 c.top ∙ p.1))))
     (λ a. a)
 
+-- a first band that ended earlier would leave a row out
 bottom_le_at : (b c : Band) (bs cs : List Band) → AreBands (b ∷ bs) → AreBands (c ∷ cs) → b.top ≡ c.top → b.runs ≡ c.runs
     → ((x y : ℤ) → in_bands (b ∷ bs) x y ≡ in_bands (c ∷ cs) x y) → b.bottom <ℤ c.bottom → ⊥
 bottom_le_at b c [] cs h k f g e l =
@@ -96,6 +100,7 @@ bottom_le_at b c (d ∷ ds) cs h k f g e l =
     let u : (x : ℤ) → in_runs c.runs x ≡ in_runs d.runs x = λ x. sym (same x) ∙ in_top d ds x y h.2 (omega (arith, ints)) (omega (arith, ints)) in
     h.1.1 (omega (arith, ints)) (g ∙ one_run_list c.runs d.runs k.0.runs h.2.0.runs u))
 
+-- the first bands end together
 bottom_le : (b c : Band) (bs cs : List Band) → AreBands (b ∷ bs) → AreBands (c ∷ cs) → b.top ≡ c.top → b.runs ≡ c.runs
     → ((x y : ℤ) → in_bands (b ∷ bs) x y ≡ in_bands (c ∷ cs) x y) → c.bottom ≤ℤ b.bottom
 bottom_le b c bs cs h k f g e = by_lt_z b.bottom c.bottom (λ l. absurd (bottom_le_at b c bs cs h k f g e l)) (λ a. a)
@@ -132,6 +137,7 @@ one_band_list (b ∷ bs) (c ∷ cs) h k e =
     ∙ sym (none_over cs x y k.2 (starts_below_less y c.bottom cs (omega (arith, ints)) (above_starts c cs k.1)))) in
     ap (λ z. z ∷ bs) (same_band b c t u r) ∙ ap (λ z. c ∷ z) (one_band_list bs cs h.2 k.2 v)
 
+-- a test on either of two, and a further one
 or_part : (p q r s : Bool) → (((p || q) && r) || s) ≡ ((p && r) || ((q && r) || s))
 or_part true true true s = refl
 or_part true true false s = refl
@@ -139,6 +145,7 @@ or_part true false true s = refl
 or_part true false false s = refl
 or_part false q r s = refl
 
+-- a row joined to the first band or apart from it
 put_row_has : (y : ℤ) (rs : List Run) (b : Band) (bs : List Band) (x z : ℤ) → b.top ≤ℤ b.bottom
     → (t : Bool) → (int_eq (y +ℤ pos 1) b.top && same_runs rs b.runs) ≡ t
     → in_bands (cond t (record { top = y; bottom = b.bottom; runs = rs } ∷ bs) (record { top = y; bottom = y; runs = rs } ∷ b ∷ bs)) x z
@@ -166,11 +173,13 @@ in_put_row y rs [] x z h =
 in_put_row y rs (b ∷ bs) x z h =
     put_row_has y rs b bs x z h.0.rows (int_eq (y +ℤ pos 1) b.top && same_runs rs b.runs) refl
 
+-- a band that begins higher up
 above_taller : (y : ℤ) (rs : List Run) (b : Band) (bs : List Band) → rs ≡ b.runs → IsAbove b bs
     → IsAbove (record { top = y; bottom = b.bottom; runs = rs }) bs
 above_taller y rs b [] e h = tt
 above_taller y rs b (c ∷ cs) e h = (h.0, λ a f. h.1 a (sym e ∙ f))
 
+-- a row on top leaves bands
 put_row_bands : (y : ℤ) (rs : List Run) (b : Band) (bs : List Band) → AreBands (b ∷ bs) → y <ℤ b.top → AreRuns rs → (rs ≡ [] → ⊥)
     → (t : Bool) → (int_eq (y +ℤ pos 1) b.top && same_runs rs b.runs) ≡ t
     → AreBands (cond t (record { top = y; bottom = b.bottom; runs = rs } ∷ bs) (record { top = y; bottom = y; runs = rs } ∷ b ∷ bs))
@@ -184,19 +193,23 @@ put_row_bands y rs b bs h l m n false e = (
   h,
 )
 
+-- the same of any bands
 are_put_row : (y : ℤ) (rs : List Run) (bs : List Band) → AreBands bs → StartsBelow y bs → AreRuns rs → (rs ≡ [] → ⊥) → AreBands (put_row y rs bs)
 are_put_row y rs [] h l m n = (record { rows = omega (arith, ints); some = n; runs = m }, tt, tt)
 are_put_row y rs (b ∷ bs) h l m n = put_row_bands y rs b bs h l m n (int_eq (y +ℤ pos 1) b.top && same_runs rs b.runs) refl
 
+-- a row on top is the first one
 put_row_starts : (w y : ℤ) (rs : List Run) (b : Band) (bs : List Band) → w <ℤ y → (t : Bool)
     → StartsBelow w (cond t (record { top = y; bottom = b.bottom; runs = rs } ∷ bs) (record { top = y; bottom = y; runs = rs } ∷ b ∷ bs))
 put_row_starts w y rs b bs l true = l
 put_row_starts w y rs b bs l false = l
 
+-- the same of any bands
 starts_put_row : (w y : ℤ) (rs : List Run) (bs : List Band) → w <ℤ y → StartsBelow w (put_row y rs bs)
 starts_put_row w y rs [] l = l
 starts_put_row w y rs (b ∷ bs) l = put_row_starts w y rs b bs l (int_eq (y +ℤ pos 1) b.top && same_runs rs b.runs)
 
+-- the bands of rows below a row begin below it
 starts_tallest : (f : ℤ → List Run) (w : ℤ) (ys : List ℤ) → ComesBefore int_lt w ys → StartsBelow w (tallest_bands f ys)
 starts_tallest f w [] h = tt
 starts_tallest f w (y ∷ ys) h = starts_put_row w y (f y) (tallest_bands f ys) (lt_of w y h.0)
@@ -212,6 +225,7 @@ are_tallest f [] h k = tt
 are_tallest f (y ∷ ys) h k =
     are_put_row y (f y) (tallest_bands f ys) (are_tallest f ys h.1 k.2) (starts_tallest f y ys h.0) k.0 k.1
 
+-- a row at its own number or at another
 row_step : (f : ℤ → List Run) (y z x : ℤ) (t q : Bool) → int_eq y z ≡ t
     → ((t && in_runs (f y) x) || (q && in_runs (f z) x)) ≡ ((t || q) && in_runs (f z) x)
 row_step f y z x true q e =

@@ -1,5 +1,5 @@
 -- What the operations on regions make, and the laws of canonical lists.
-use Rattle.std.specs.Prelude.{◌≡◌, ◌↔◌, ℕ, ◌<◌, false, ◌&&◌, ◌||◌, not, List, [], ◌∷◌, length, slice_index_or, ℤ}
+use Rattle.std.specs.Prelude.{◌≡◌, ◌↔◌, ℕ, ◌<◌, false, ◌&&◌, ◌||◌, not, List, [], ◌∷◌, length, slice_index_or, ℤ, pos}
 use Rattle.lw_region.specs.declared.operation.Operation.{Operation}
 use Rattle.lw_region.specs.Rectangle.{Rectangle, AreApart}
 use Rattle.lw_region.specs.Order.{IsInOrder}
@@ -76,3 +76,16 @@ SetOperationsLaw = OperationPixels × OperationOrder
 abbrev pub OneSetLaw : Type 0
 OneSetLaw =
     (s t : List Pixel) → IsInOrder precedes s → IsInOrder precedes t → ((x y : ℤ) → contains_pixel s x y ≡ contains_pixel t x y) → s ≡ t
+
+-- the rectangle with these bounds
+abbrev pub rectangle : ℤ → ℤ → ℤ → ℤ → Rectangle
+rectangle x₀ y₀ x₁ y₁ = record { min_x = x₀; min_y = y₀; max_x = x₁; max_y = y₁ }
+
+-- a worked example: the pixels of 0 0 7 1 and of 2 1 5 2 that are not in both, in bands, and what 0 0 1 3 has of them
+abbrev pub WorkedExample : Type 0
+WorkedExample =
+    let apart = symmetric_difference (rectangle_set (rectangle (pos 0) (pos 0) (pos 7) (pos 1))) (rectangle_set (rectangle (pos 2) (pos 1) (pos 5) (pos 2))) in
+    (bands apart
+    ≡ rectangle (pos 0) (pos 0) (pos 7) (pos 0) ∷ rectangle (pos 0) (pos 1) (pos 1) (pos 1) ∷ rectangle (pos 6) (pos 1) (pos 7) (pos 1)
+    ∷ rectangle (pos 2) (pos 2) (pos 5) (pos 2) ∷ [])
+    × (bands (intersection apart (rectangle_set (rectangle (pos 0) (pos 0) (pos 1) (pos 3)))) ≡ rectangle (pos 0) (pos 0) (pos 1) (pos 1) ∷ [])

@@ -1,7 +1,7 @@
 // Laws of pixel sets and of canonical lists, for the crates above: each function does nothing, and its contract
 // is the law.
 
-ghost use Rattle.lw_region.specs.Regions.{SetOfListLaw, BandsLaw, BandedLaw, OneListLaw, EmptyListLaw, DisjointLaw, SetOperationsLaw, OneSetLaw};
+ghost use Rattle.lw_region.specs.Regions.{SetOfListLaw, BandsLaw, BandedLaw, OneListLaw, EmptyListLaw, DisjointLaw, SetOperationsLaw, OneSetLaw, WorkedExample};
 
 /// A pixel is in the set of a list exactly where some rectangle of the list has it.
 pub fn set_of_list_law()
@@ -43,4 +43,9 @@ pub fn set_operations_law()
 /// Sets in reading order with the same pixels are one set.
 pub fn one_set_law()
     ensures { OneSetLaw }
+{}
+
+/// What the definitions give for a small set that was worked out by hand.
+pub fn worked_example_law()
+    ensures { WorkedExample }
 {}
