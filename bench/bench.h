@@ -1,0 +1,37 @@
+// What the files of the benchmarks share: the generator, the timing, and the calls of the static library.
+#ifndef BENCH_H
+#define BENCH_H
+
+#include <stdint.h>
+
+// The calls of crates/lw_bench_c.
+int64_t lw_bench_regions(uint32_t shape, uint16_t size, uint32_t operation, uint32_t repetitions, uint32_t seed);
+uint32_t lw_bench_row(uint32_t kernel, uint32_t bytes, uint32_t bit, uint8_t minterm, uint32_t repetitions,
+                      uint32_t seed);
+
+// The generator that both sides use; its state begins as the seed.
+struct generator {
+    uint32_t state;
+};
+
+// The next number of the generator, modulo `limit`.
+static inline uint32_t below(struct generator *generator, uint32_t limit) {
+    generator->state = generator->state * 1664525u + 1013904223u;
+    return (generator->state >> 16) % limit;
+}
+
+// Seconds of processor time that this process has taken.
+double now(void);
+
+// One side of a comparison: it does the work `repetitions` times, with the set-up before it.
+typedef int64_t (*side)(const void *work, uint32_t repetitions);
+
+// The seconds that one repetition takes on each of the two sides: the set-up is timed alone and taken off, and
+// the least of several runs counts. The runs of the two sides take turns.
+void time_both(side ours, side theirs, const void *work, double seconds[2]);
+
+// Each prints a table; the answer is the number of lines on which the two sides disagree.
+int bench_regions(void);
+int bench_rows(void);
+
+#endif

@@ -1,0 +1,28 @@
+#!/bin/sh
+# Builds the static library and the benchmarks, and runs them. An argument, `regions` or `rows`, runs one of the
+# two alone.
+set -eu
+
+bench=$(cd "$(dirname "$0")" && pwd)
+crate=$bench/../crates/lw_bench_c
+built=$crate/out/bench
+compiler=${CC:-cc}
+
+if ! command -v rt >/dev/null; then
+    echo "bench/run.sh: the command rt is not there" >&2
+    exit 2
+fi
+if ! pkg-config --exists pixman-1 2>/dev/null; then
+    echo "bench/run.sh: pixman's library is not there; its package is libpixman-1-dev (apt-get install libpixman-1-dev)" >&2
+    exit 2
+fi
+
+# The library takes its memory from the C library, through this file of the toolchain.
+heap=$(dirname "$(rt doc)")/c/liblibc_c.a
+
+(cd "$crate" && rt lib >&2)
+mkdir -p "$built"
+# shellcheck disable=SC2046
+"$compiler" -std=c11 -D_POSIX_C_SOURCE=199309L -O2 -Wall -Wextra $(pkg-config --cflags pixman-1) \
+    -o "$built/bench" "$bench"/*.c "$crate/out/liblw_bench_c.a" "$heap" $(pkg-config --libs pixman-1)
+exec "$built/bench" "$@"

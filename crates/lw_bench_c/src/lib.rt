@@ -1,0 +1,53 @@
+//! The calls of the benchmarks, for a program in C. Each takes numbers alone, makes its operands by the
+//! generator that docs/BENCHMARKS.md states, and repeats one operation on them (this project's own).
+#![tactic(auto)]
+
+ghost use Rattle.std.specs.Prelude.{◌≡◌, ◌<◌, ◌≤ℤ◌, negsuc};
+
+mod boxes;
+mod generator;
+mod operation;
+mod regions;
+mod rows;
+
+use std::alloc::Global;
+
+/// How many rectangles the result of an operation on two regions has. Shape 0 is the staggered grid and any
+/// other the random boxes; `size` is the number of rectangles of which each operand is made, and `seed` begins
+/// the generator. Operation 0 copies the first operand, 1 joins the second to it, 2 keeps what is in both, 3
+/// keeps what is in one alone, 4 takes the second from it, and 5 takes one fixed rectangle from it. The
+/// operation is done `repetitions` times, each on a fresh copy; for none the answer is 0. It is -1 for an
+/// unknown operation and where memory is wanting.
+#[unsafe(no_mangle)]
+pub extern "C" fn lw_bench_regions(
+    alloc: Global,
+    shape: u32,
+    size: u16,
+    operation: u32,
+    repetitions: u32,
+    seed: u32,
+) -> i64
+    ensures least { negsuc 0 ≤ℤ result }
+    ensures unknown { 5 < operation → result ≡ negsuc 0 }
+{
+    match regions::counted(alloc, shape, size, operation, repetitions, seed) {
+        Some(count) => i64::from(count),
+        None => -1,
+    }
+}
+
+/// A number made of the bytes of a row, after a kernel was called on it `repetitions` times for 8 bits each of
+/// `bytes` bytes, from bit `bit % 8` of the row on. Kernel 0 fills, 1 inverts, 2 blits from another row, from
+/// its bit 0 on, and any other blits within the row, from its bit 8 on; the blits use `minterm`. At most 256
+/// bytes count. The rows are made from `seed`.
+#[unsafe(no_mangle)]
+pub extern "C" fn lw_bench_row(
+    kernel: u32,
+    bytes: u32,
+    bit: u32,
+    minterm: u8,
+    repetitions: u32,
+    seed: u32,
+) -> u32 {
+    rows::repeated(kernel, bytes.min(256), bit % 8, minterm, repetitions, seed)
+}

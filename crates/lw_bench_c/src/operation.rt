@@ -1,0 +1,80 @@
+ghost use Rattle.std.specs.Prelude.{◌≡◌, ◌<◌, ◌↔◌, ◌&&◌, not, ℤ, IfOk, OnOk, IsNone};
+ghost use Rattle.lw_region.specs.Rectangle.{has_pixel};
+ghost use Rattle.lw_region.specs.Bands.{covers};
+ghost use Rattle.lw_bench_c.specs.Wanted.{wanted};
+
+use lw_region::{Rect, Region, and_region, or_region, xor_region};
+use std::alloc::{AllocError, Global};
+
+// What is done to a copy of the first operand.
+#[derive(Clone, Copy)]
+pub(crate) enum Operation {
+    Copied,
+    Union,
+    Intersection,
+    SymmetricDifference,
+    Difference,
+    RectangleDifference,
+}
+
+impl Operation {
+    pub(crate) fn of_number(number: u32) -> Option<Operation>
+        ensures { IsNone result ↔ (5 < number) }
+    {
+        match number {
+            0 => Some(Operation::Copied),
+            1 => Some(Operation::Union),
+            2 => Some(Operation::Intersection),
+            3 => Some(Operation::SymmetricDifference),
+            4 => Some(Operation::Difference),
+            5 => Some(Operation::RectangleDifference),
+            _ => None,
+        }
+    }
+}
+
+// The result of the operation, where `hole` is the rectangle that is taken out.
+pub(crate) fn combined(
+    alloc: Global,
+    operation: Operation,
+    a: &Region,
+    b: &Region,
+    hole: &Rect,
+) -> Result<Region, AllocError>
+    ensures { IfOk result (λ made. (x y : ℤ) → covers made x y
+        ≡ wanted operation (covers a.now x y) (covers b.now x y) (has_pixel hole.now x y)) }
+{
+    let mut made = a.copy(alloc)?;
+    apply(alloc, operation, b, hole, &mut made)?;
+    Ok(made)
+}
+
+fn apply(
+    alloc: Global,
+    operation: Operation,
+    b: &Region,
+    hole: &Rect,
+    made: &mut Region,
+) -> Result<(), AllocError>
+    ensures { OnOk result ((x y : ℤ) → covers made.new x y
+        ≡ wanted operation (covers made.old x y) (covers b.now x y) (has_pixel hole.now x y)) }
+{
+    match operation {
+        Operation::Copied => Ok(()),
+        Operation::Union => or_region(alloc, b, made),
+        Operation::Intersection => and_region(alloc, b, made),
+        Operation::SymmetricDifference => xor_region(alloc, b, made),
+        Operation::Difference => reduce(alloc, b, made),
+        Operation::RectangleDifference => made.clear_rect(alloc, hole),
+    }
+}
+
+// Takes the pixels of `from` out of `into`: what stays are the pixels of `into` at which the two differ.
+fn reduce(alloc: Global, from: &Region, into: &mut Region) -> Result<(), AllocError>
+    ensures { OnOk result
+        ((x y : ℤ) → covers into.new x y ≡ (covers into.old x y && not (covers from.now x y))) }
+{
+    let mut other = from.copy(alloc)?;
+    xor_region(alloc, into, &mut other)?;
+    and_region(alloc, &other, into)
+}
