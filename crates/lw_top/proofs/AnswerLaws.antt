@@ -6,7 +6,7 @@ use Rattle.lw_calls.specs.Lines.{lines}
 use Rattle.lw_calls.specs.Planned.{Planned}
 use Rattle.lw_calls.specs.Grammar.{Spells, IsFirstBad}
 use Rattle.lw_calls.proofs.Answer.{not_both, one_line}
-use Rattle.lw_top.specs.Answers.{Shows, Tells}
+use Rattle.lw_top.specs.Answers.{IsInput, Shows, Tells, Took}
 use Rattle.lw_top.specs.Status.{text_of, IsUnlessStopped, input_limit}
 use Rattle.lw_top.specs.declared.status.Status.{Status}
 use Rattle.lw_top.specs.declared.status.Status.TheVariants.{Done, Refused, Usage, ReadFault, WriteFault, NoMemory, TooLong}
@@ -66,6 +66,16 @@ complete_due ReadFault s t before after f g h no_read no_write due = absurd (no_
 complete_due WriteFault s t before after f g h no_read no_write due = absurd (no_write h)
 complete_due NoMemory s t before after f g h no_read no_write due = inr refl
 complete_due TooLong s t before after f g h no_read no_write due = absurd (elim due [ inl e ↦ cc | inr e ↦ cc ])
+
+-- what an answer tells of its input, where the input was taken from a source
+pub took_of_tells : (r : Status) (input : List ℕ) (left rest before after : Option (List ℕ)) → IsInput input left rest → Tells input r before after → Took r left rest before after
+took_of_tells Done input left rest before after is h = (input, is, h.1, h.2, h.3)
+took_of_tells (Refused line reason) input left rest before after is h = (input, is, h.1)
+took_of_tells Usage input left rest before after is h = tt
+took_of_tells ReadFault input left rest before after is h = tt
+took_of_tells WriteFault input left rest before after is h = tt
+took_of_tells NoMemory input left rest before after is h = tt
+took_of_tells TooLong input left rest before after is h = tt
 
 -- the same of an input that a source may tell
 pub refused_due_told : (told : Option (List ℕ)) (r : Status) (before after : Option (List ℕ)) → IfSome told (λ input. Tells input r before after) → IfSome told (λ input. length input ≤ input_limit → (line : ℕ) (reason : Reason) → IsFirstBad (lines input) line reason → IsUnlessStopped (Refused line reason) r)

@@ -7,12 +7,7 @@ use Rattle.lw_calls.specs.Planned.{Planned, task_calls}
 use Rattle.lw_calls.specs.Desk.{Desk}
 use Rattle.lw_calls.specs.Step.{after, reply}
 use Rattle.lw_calls.specs.History.{count_of, entries, machine, replies_of, only_order}
-use Rattle.lw_top.specs.Run.{desk_after, replies_to}
-
--- the entries of task 0 that make these calls, the first of them with number n
-abbrev pub numbered : ℕ → List Call → List Entry
-numbered n [] = []
-numbered n (c ∷ cs) = record { task = 0; seq = n; call = c } ∷ numbered (n + 1) cs
+use Rattle.lw_top.specs.Run.{desk_after, replies_to, numbered, CallsStandOnce}
 
 pub machine-numbered : (d : Desk) (n : ℕ) (cs : List Call) → machine d (numbered n cs) ≡ desk_after d cs
 machine-numbered d n [] = refl
@@ -54,3 +49,7 @@ machine-only plan d = rw (entries-only plan [] (task_calls plan 0) refl) (machin
 -- the replies of that run
 pub replies_of-only : (plan : Planned) (d : Desk) → replies_of d 0 (entries plan [] (only_order plan)) ≡ replies_to d (task_calls plan 0)
 replies_of-only plan d = rw (entries-only plan [] (task_calls plan 0) refl) (replies_of-numbered d 0 (task_calls plan 0))
+
+-- each call stands once, and in its order
+pub calls_stand_once : CallsStandOnce
+calls_stand_once plan = entries-only plan [] (task_calls plan 0) refl

@@ -1,7 +1,10 @@
 -- A run of one task, call by call.
-use Rattle.std.specs.Prelude.{List, [], ◌∷◌}
+use Rattle.std.specs.Prelude.{◌≡◌, ℕ, ◌+◌, List, [], ◌∷◌}
 use Rattle.lw_calls.specs.declared.call.Call.{Call}
+use Rattle.lw_calls.specs.declared.entry.Entry.{Entry}
 use Rattle.lw_calls.specs.declared.reply.Reply.{Reply}
+use Rattle.lw_calls.specs.Planned.{Planned, task_calls}
+use Rattle.lw_calls.specs.History.{entries, only_order}
 use Rattle.lw_calls.specs.Desk.{Desk}
 use Rattle.lw_calls.specs.Step.{after, reply}
 
@@ -14,3 +17,12 @@ desk_after d (c ∷ cs) = desk_after (after d 0 c) cs
 abbrev pub replies_to : Desk → List Call → List Reply
 replies_to d [] = []
 replies_to d (c ∷ cs) = reply d 0 c ∷ replies_to (after d 0 c) cs
+
+-- the steps in which task 0 makes these calls in their order, the first of them as its call n
+abbrev pub numbered : ℕ → List Call → List Entry
+numbered n [] = []
+numbered n (c ∷ cs) = record { task = 0; seq = n; call = c } ∷ numbered (n + 1) cs
+
+-- In the only order of a plan of one task each of its calls stands once, and in its order.
+abbrev pub CallsStandOnce : Type 0
+CallsStandOnce = (plan : Planned) → entries plan [] (only_order plan) ≡ numbered 0 (task_calls plan 0)

@@ -1,8 +1,8 @@
-ghost use Rattle.std.specs.Prelude.{◌≡◌, ◌≢◌, ◌⊎◌, ℕ, ◌<◌, ◌≤◌, List, length, map, IfSome};
+ghost use Rattle.std.specs.Prelude.{◌≡◌, ◌≢◌, ◌⊎◌, ℕ, ◌+◌, ◌<◌, ◌≤◌, List, length, map, IfSome};
 ghost use Rattle.std.specs.String.{string_bytes};
-ghost use Rattle.lw_io.specs.Streams.{Rose, bytes_after};
+ghost use Rattle.lw_io.specs.Streams.{Rose, bytes_after, TakesAtMost};
 ghost use Rattle.lw_calls.specs.declared.reason.Reason.{Reason as TheReason};
-ghost use Rattle.lw_top.specs.Answers.{IsReportOf};
+ghost use Rattle.lw_top.specs.Answers.{IsInput, IsReportOf};
 ghost use Rattle.lw_top.specs.Status.{IsRun, IsUnlessStopped, input_limit, text_of};
 ghost use Rattle.lw_calls.specs.Lines.{lines};
 ghost use Rattle.lw_calls.specs.Planned.{Planned};
@@ -26,8 +26,12 @@ pub fn layers<S: Source, K: Sink>(
     sink: &mut K,
 ) -> Status
     // What was written with Done is the report of the machine's run of the plan that the input's lines spell, in the
-    // one order of its one task.
-    ensures report { result ≡ Status.Done → IfSome (S.left source.old) (λ input.
+    // one order of its one task. The input is what was taken from the source, which was read to its end.
+    ensures report { result ≡ Status.Done → (input : List ℕ) × IsInput input (S.left source.old) (S.left source.new)
+        × (text : List ℕ) × IsReportOf (lines input) text
+        × (K.written sink.new ≡ bytes_after (K.written sink.old) text) }
+    // So it is what the source had left, where it tells that.
+    ensures report_of_left { result ≡ Status.Done → IfSome (S.left source.old) (λ input.
         (text : List ℕ) × IsReportOf (lines input) text × (K.written sink.new ≡ bytes_after (K.written sink.old) text)) }
 
     // Why each other answer came: Usage before the input is read, then a fault or the limit, then the first bad line.
@@ -36,6 +40,9 @@ pub fn layers<S: Source, K: Sink>(
     ensures too_long { result ≡ Status.TooLong
         → IfSome (S.left source.old) (λ input. input_limit < length input) }
     ensures refused { (line : ℕ) (reason : TheReason) → result ≡ Status.Refused line reason
+        → (input : List ℕ) × IsInput input (S.left source.old) (S.left source.new)
+        × IsFirstBad (lines input) line reason }
+    ensures refused_of_left { (line : ℕ) (reason : TheReason) → result ≡ Status.Refused line reason
         → IfSome (S.left source.old) (λ input. (length input ≤ input_limit) × IsFirstBad (lines input) line reason) }
     ensures write_fault { result ≡ Status.WriteFault → Rose (K.faults sink.old) (K.faults sink.new) }
 
@@ -61,6 +68,7 @@ pub fn layers<S: Source, K: Sink>(
     ensures text { result ≢ Status.Done → result ≢ Status.WriteFault
         → K.written sink.new ≡ bytes_after (K.written sink.old) (text_of result) }
     ensures untouched { (result ≡ Status.ReadFault) ⊎ (result ≡ Status.NoMemory) → sink.new ≡ sink.old }
+    ensures taken { TakesAtMost (input_limit + 1) (S.left source.old) (S.left source.new) }
     ensures unread { (IsRun (map string_bytes words.now) → ⊥) → source.new ≡ source.old }
     ensures source_count { S.faults source.old ≤ S.faults source.new }
     ensures sink_count { K.faults sink.old ≤ K.faults sink.new }

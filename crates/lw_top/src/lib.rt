@@ -3,6 +3,7 @@
 
 mod answer;
 mod command;
+mod laws;
 mod plain_run;
 mod reader;
 mod report;
@@ -14,4 +15,5 @@ mod tests;
 mod words;
 
 pub use command::layers;
+pub use laws::calls_stand_once_and_in_order;
 pub use status::Status;

@@ -1,5 +1,6 @@
-ghost use Rattle.std.specs.Prelude.{◌≡◌, ◌≤◌, ◌⊎◌, length, IfOk, IfSome};
-ghost use Rattle.lw_top.specs.Answers.{Shows, Tells};
+ghost use Rattle.std.specs.Prelude.{◌≡◌, ◌≤◌, ◌+◌, ◌⊎◌, length, IfOk, IfSome};
+ghost use Rattle.lw_io.specs.Streams.{TakesAtMost};
+ghost use Rattle.lw_top.specs.Answers.{Shows, Tells, Took};
 ghost use Rattle.std.specs.String.{string_bytes};
 ghost use Rattle.lw_top.specs.Status.{IsUnlessStopped, input_limit, reason_text, text_of};
 
@@ -19,6 +20,8 @@ pub fn run<S: Source, K: Sink>(alloc: Global, source: &mut S, sink: &mut K) -> S
         (K.written sink.old) (K.written sink.new) (K.faults sink.old) (K.faults sink.new) }
     ensures tells { IfSome (S.left source.old) (λ input. Tells input result (K.written sink.old) (K.written sink.new)) }
     ensures untouched { (result ≡ Status.ReadFault) ⊎ (result ≡ Status.NoMemory) → sink.new ≡ sink.old }
+    ensures took { Took result (S.left source.old) (S.left source.new) (K.written sink.old) (K.written sink.new) }
+    ensures most { TakesAtMost (input_limit + 1) (S.left source.old) (S.left source.new) }
     ensures source_count { S.faults source.old ≤ S.faults source.new }
     ensures sink_count { K.faults sink.old ≤ K.faults sink.new }
 {
