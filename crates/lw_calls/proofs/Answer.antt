@@ -8,7 +8,8 @@ use Rattle.lw_calls.specs.Words.{words}
 use Rattle.lw_calls.specs.Forms.{LineForm, form_of, line_form, is_in_range}
 use Rattle.lw_calls.specs.Above.{part, has_ended, is_in_place, layer_names, calls_of, plan_of}
 use Rattle.lw_calls.specs.Grammar.{is_second_task, is_good_form, is_good_line, first_reason, with_form, forms_onto, forms, reason_below, reason_at, IsBad, IsFirstBad, Spells, IsDecided}
-use Rattle.lw_calls.specs.Reading.{◌>>=◌, demand, line_at, numbered, outcome, AreGood}
+use Rattle.lw_calls.specs.Demands.{◌>>=◌, demand}
+use Rattle.lw_calls.specs.Reading.{line_at, numbered, outcome, AreGood}
 use Rattle.std.proofs.lemmas.Bool.{cases_lt}
 
 -- What reading a line tells, where the line begins a second task or not, has the form o or none, and this form is good

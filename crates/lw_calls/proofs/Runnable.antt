@@ -1,24 +1,27 @@
 -- A plan that a script spells is one that may be run.
-use Rattle.std.proofs.Common.{◌≡◌, ℕ, ◌+◌, ◌<◌, ◌≤◌, Bool, true, false, not, ◌&&◌, ◌||◌, cond, List, [], ◌∷◌, ◌++◌, length, map, Option, Some, None, option_and_then, nat_lt, ℤ, pos, ◌+ℤ◌, ◌-ℤ◌, unsigned_abs, bytes_eq, codes, IsTrue, IfSome, All, refl, sym, subst, arith, length-append}
+use Rattle.std.proofs.Common.{replicate, zero, suc, slice_index, slice_index_or, ◌≡◌, ◌∙◌, ℕ, ◌+◌, ◌<◌, ◌≤◌, Bool, true, false, not, ◌&&◌, ◌||◌, cond, List, [], ◌∷◌, ◌++◌, length, map, Option, Some, None, option_and_then, nat_lt, ℤ, pos, ◌+ℤ◌, ◌-ℤ◌, unsigned_abs, bytes_eq, codes, IsTrue, IfSome, All, refl, sym, subst, arith, length-append}
 use Rattle.std.specs.List.{list_any, position_or_len}
+use Rattle.std.specs.Option.{option_map_or}
 use Rattle.lw_region.specs.Rectangle.{Rectangle, within}
 use Rattle.lw_calls.specs.declared.sizes.Sizes.{Sizes}
 use Rattle.lw_calls.specs.declared.call.Call.{Call}
-use Rattle.lw_calls.specs.declared.call.Call.TheVariants.{Create, Fill}
-use Rattle.lw_calls.specs.Limits.{name_limit, is_coordinate, axis_fits, rect_fits, make_fits, call_fits, call_limit}
-use Rattle.lw_calls.specs.Planned.{Planned}
+use Rattle.lw_calls.specs.declared.operation.RectOp.{RectOp}
+use Rattle.lw_calls.specs.declared.operation.PairOp.{PairOp}
+use Rattle.lw_calls.specs.Limits.{name_limit, is_coordinate, axis_fits, rect_fits, register_fits, make_fits, call_fits, call_limit}
+use Rattle.lw_calls.specs.Planned.{groups_fit, Planned}
 use Rattle.lw_calls.specs.Step.{is_built}
 use Rattle.lw_calls.specs.Words.{words}
 use Rattle.lw_calls.specs.Values.{Value, Name, Number, value_of}
-use Rattle.lw_calls.specs.Forms.{LineForm, ScreenLine, TaskLine, CallLine, EndLine, Act, SmartFront, FillAct, screen_form, task_form, create_form, fill_form, end_form, verb_form, form_of, line_form, is_in_range, is_act_in_range}
+use Rattle.lw_calls.specs.Forms.{LineForm, ScreenLine, TaskLine, CallLine, EndLine, Act, SmartFront, FillAct, RectAct, PairAct, ClearAct, ClipAct, UnclipAct, screen_form, task_form, create_form, fill_form, clip_form, unclip_form, rect_verb, rect_form, pair_verb, pair_form, clear_form, end_form, register_form, call_form, verb_form, form_of, line_form, is_in_range, is_register, is_act_in_range}
 use Rattle.lw_calls.specs.Above.{Part, ScreenDue, TaskDue, InTask, Ended, part, has_ended, is_in_place, screen_width, screen_height, screen_depth, task_names, with_name, with_names, layer_names, slot_of, smart_front, call_of, calls_of, plan_of}
 use Rattle.lw_calls.specs.Grammar.{is_good_form, forms, Spells, IsRunnable}
 use Rattle.lw_calls.specs.Reading.{AreGood}
 use Rattle.lw_calls.proofs.Answer.{good_lines}
 use Rattle.std.proofs.lemmas.Int.{ints}
-use Rattle.std.proofs.lemmas.Bool.{false≢true, leb-true, ltb-true}
+use Rattle.std.proofs.lemmas.Bool.{false≢true, leb-true}
 use Rattle.std.proofs.lemmas.Bool.Decides.{nat_tests}
-use Rattle.std.proofs.lemmas.List.Elements.{All-nil, All-cons, All-push, All-weaker}
+use Rattle.std.proofs.lemmas.List.{length-map}
+use Rattle.std.proofs.lemmas.List.Elements.{All-nil, All-cons, All-push, All-map, All-weaker, All-replicate}
 use Rattle.std.proofs.lemmas.Slice.Eq.{bytes_eq-Decides}
 
 -- both halves of a test that holds
@@ -130,62 +133,112 @@ begun (EndLine ∷ above) g =
     let P : Part → Type 0 = λ p. Begun p (length (task_names above)) in
     subst P (end_place (part above) (good above EndLine g.1).place) (begun above g.2)
 
--- a call's line names one layer
-abbrev HasLayer : LineForm → Type 0
-HasLayer (ScreenLine w h d) = Unit {0}
-HasLayer (TaskLine n) = Unit {0}
-HasLayer (CallLine layers act) = (n : List ℕ) × (layers ≡ n ∷ [])
-HasLayer EndLine = Unit {0}
+-- how many layers the line of an act names
+abbrev layer_count : Act → ℕ
+layer_count (SmartFront r) = 1
+layer_count (FillAct r) = 1
+layer_count (RectAct op register r) = 0
+layer_count (PairAct op source into) = 0
+layer_count (ClearAct register) = 0
+layer_count (ClipAct register) = 1
+layer_count UnclipAct = 1
 
--- of two forms that name one layer, each does
-choose : (b : Bool) (x y : Option LineForm) → IfSome x HasLayer → IfSome y HasLayer → IfSome (cond b x y) HasLayer
+-- a call's line names as many layers as its act is on
+abbrev NamesLayers : LineForm → Type 0
+NamesLayers (ScreenLine w h d) = Unit {0}
+NamesLayers (TaskLine n) = Unit {0}
+NamesLayers (CallLine layers act) = length layers ≡ layer_count act
+NamesLayers EndLine = Unit {0}
+
+-- of two forms that name their layers, each does
+choose : (b : Bool) (x y : Option LineForm) → IfSome x NamesLayers → IfSome y NamesLayers → IfSome (cond b x y) NamesLayers
 choose true x y h k = h
 choose false x y h k = k
 
+-- so does the form that a verb's operation gives, or else another
+choose_operation : {A : Type 0} (o : Option A) (form : A → Option LineForm) (y : Option LineForm) → ((a : A) → IfSome (form a) NamesLayers) → IfSome y NamesLayers → IfSome (option_map_or form o y) NamesLayers
+choose_operation None form y h k = k
+choose_operation (Some a) form y h k = h a
+
 -- a screen line names no layer
-screen_layer : (vs : List Value) → IfSome (screen_form vs) HasLayer
-screen_layer (Number w ∷ Number h ∷ Number d ∷ []) = tt
-screen_layer _ = tt
+screen_layers : (vs : List Value) → IfSome (screen_form vs) NamesLayers
+screen_layers (Number w ∷ Number h ∷ Number d ∷ []) = tt
+screen_layers _ = tt
 
 -- a task line names no layer
-task_layer : (vs : List Value) → IfSome (task_form vs) HasLayer
-task_layer (Name n ∷ []) = tt
-task_layer _ = tt
+task_layers : (vs : List Value) → IfSome (task_form vs) NamesLayers
+task_layers (Name n ∷ []) = tt
+task_layers _ = tt
 
 -- a create line names one layer
-create_layer : (vs : List Value) → IfSome (create_form vs) HasLayer
-create_layer (Name l ∷ Name kind ∷ Name place ∷ Number x0 ∷ Number y0 ∷ Number x1 ∷ Number y1 ∷ []) =
-    choose (bytes_eq kind (codes "smart") && bytes_eq place (codes "front")) _ None (l, refl) tt
-create_layer _ = tt
+create_layers : (vs : List Value) → IfSome (create_form vs) NamesLayers
+create_layers (Name l ∷ Name kind ∷ Name place ∷ Number x0 ∷ Number y0 ∷ Number x1 ∷ Number y1 ∷ []) =
+    choose (bytes_eq kind (codes "smart") && bytes_eq place (codes "front")) _ None refl tt
+create_layers _ = tt
 
 -- a fill line names one layer
-fill_layer : (vs : List Value) → IfSome (fill_form vs) HasLayer
-fill_layer (Name l ∷ Number x0 ∷ Number y0 ∷ Number x1 ∷ Number y1 ∷ []) = (l, refl)
-fill_layer _ = tt
+fill_layers : (vs : List Value) → IfSome (fill_form vs) NamesLayers
+fill_layers (Name l ∷ Number x0 ∷ Number y0 ∷ Number x1 ∷ Number y1 ∷ []) = refl
+fill_layers _ = tt
+
+-- a clip line names one layer
+clip_layers : (vs : List Value) → IfSome (clip_form vs) NamesLayers
+clip_layers (Name l ∷ Number r ∷ []) = refl
+clip_layers _ = tt
+
+-- an unclip line names one layer
+unclip_layers : (vs : List Value) → IfSome (unclip_form vs) NamesLayers
+unclip_layers (Name l ∷ []) = refl
+unclip_layers _ = tt
+
+-- the line of a rectangle and a register names no layer
+rect_layers : (vs : List Value) (op : RectOp) → IfSome (rect_form op vs) NamesLayers
+rect_layers (Number r ∷ Number x0 ∷ Number y0 ∷ Number x1 ∷ Number y1 ∷ []) op = refl
+rect_layers _ op = tt
+
+-- the line of two registers names no layer
+pair_layers : (vs : List Value) (op : PairOp) → IfSome (pair_form op vs) NamesLayers
+pair_layers (Number s ∷ Number r ∷ []) op = refl
+pair_layers _ op = tt
+
+-- the line that empties a register names no layer
+clear_layers : (vs : List Value) → IfSome (clear_form vs) NamesLayers
+clear_layers (Number r ∷ []) = refl
+clear_layers _ = tt
 
 -- an end line names no layer
-end_layer : (vs : List Value) → IfSome (end_form vs) HasLayer
-end_layer [] = tt
-end_layer _ = tt
+end_layers : (vs : List Value) → IfSome (end_form vs) NamesLayers
+end_layers [] = tt
+end_layers _ = tt
+
+-- so it is for each verb of a call on registers
+register_layers : (verb : List ℕ) (vs : List Value) → IfSome (register_form verb vs) NamesLayers
+register_layers verb vs =
+    choose_operation (rect_verb verb) (λ op. rect_form op vs) _ (rect_layers vs) (choose_operation (pair_verb verb) (λ op. pair_form op vs) _ (pair_layers vs) (choose (bytes_eq verb (codes "clearregion")) (clear_form vs) None (clear_layers vs) tt))
+
+-- so it is for each verb of a call
+call_layers : (verb : List ℕ) (vs : List Value) → IfSome (call_form verb vs) NamesLayers
+call_layers verb vs =
+    choose (bytes_eq verb (codes "create")) (create_form vs) _ (create_layers vs) (choose (bytes_eq verb (codes "fill")) (fill_form vs) _ (fill_layers vs) (choose (bytes_eq verb (codes "clip")) (clip_form vs) _ (clip_layers vs) (choose (bytes_eq verb (codes "unclip")) (unclip_form vs) _ (unclip_layers vs) (register_layers verb vs))))
 
 -- so it is for each verb
-verb_layer : (verb : List ℕ) (vs : List Value) → IfSome (verb_form verb vs) HasLayer
-verb_layer verb vs =
-    choose (bytes_eq verb (codes "screen")) (screen_form vs) _ (screen_layer vs) (choose (bytes_eq verb (codes "task")) (task_form vs) _ (task_layer vs) (choose (bytes_eq verb (codes "create")) (create_form vs) _ (create_layer vs) (choose (bytes_eq verb (codes "fill")) (fill_form vs) _ (fill_layer vs) (choose (bytes_eq verb (codes "end")) (end_form vs) None (end_layer vs) tt))))
+verb_layers : (verb : List ℕ) (vs : List Value) → IfSome (verb_form verb vs) NamesLayers
+verb_layers verb vs =
+    choose (bytes_eq verb (codes "screen")) (screen_form vs) _ (screen_layers vs) (choose (bytes_eq verb (codes "task")) (task_form vs) _ (task_layers vs) (choose (bytes_eq verb (codes "end")) (end_form vs) _ (end_layers vs) (call_layers verb vs)))
 
 -- so it is for all words
-words_layer : (ws : List (List ℕ)) → IfSome (form_of ws) HasLayer
-words_layer [] = tt
-words_layer (verb ∷ ws) = verb_layer verb (map value_of ws)
+words_layers : (ws : List (List ℕ)) → IfSome (form_of ws) NamesLayers
+words_layers [] = tt
+words_layers (verb ∷ ws) = verb_layers verb (map value_of ws)
 
 -- and for a line without words too
-split_layer : (o : Option (List (List ℕ))) → IfSome (option_and_then form_of o) HasLayer
-split_layer None = tt
-split_layer (Some ws) = words_layer ws
+split_layers : (o : Option (List (List ℕ))) → IfSome (option_and_then form_of o) NamesLayers
+split_layers None = tt
+split_layers (Some ws) = words_layers ws
 
--- every form of a line names one layer, or is no call
-line_layer : (line : List ℕ) (f : LineForm) → line_form line ≡ Some f → HasLayer f
-line_layer line f e = let P : Option LineForm → Type 0 = λ o. IfSome o HasLayer in subst P e (split_layer (words line))
+-- every form of a line names as many layers as its act is on, or is no call
+line_layers : (line : List ℕ) (f : LineForm) → line_form line ≡ Some f → NamesLayers f
+line_layers line f e = let P : Option LineForm → Type 0 = λ o. IfSome o NamesLayers in subst P e (split_layers (words line))
 
 -- a name that is among the names stands at a place below their number
 place_step : (b : Bool) (rest : Bool) (i k : ℕ) → (rest ≡ true → i < k) → (b || rest) ≡ true → cond (not b) (1 + i) 0 < 1 + k
@@ -199,26 +252,61 @@ place_below p (n ∷ ns) h =
     let r : cond (not (p n)) (1 + position_or_len p ns) 0 < 1 + length ns = place_step (p n) (list_any p ns) (position_or_len p ns) (length ns) (place_below p ns) h in
     omega (arith, r)
 
+-- of two names, one test that holds keeps the other's
+any_step : (b : Bool) {r q : Bool} → (r ≡ true → q ≡ true) → (b || r) ≡ true → (b || q) ≡ true
+any_step true f e = refl
+any_step false f e = f e
+
+-- a name that is among the names is among them with a further one
+any_more : (p : List ℕ → Bool) (names : List (List ℕ)) (n : List ℕ) → list_any p names ≡ true → list_any p (names ++ n ∷ []) ≡ true
+any_more p [] n h = absurd (false≢true h)
+any_more p (m ∷ ms) n h = any_step (p m) (any_more p ms n) h
+
 -- a name put at the end is among the names
 any_push : (p : List ℕ → Bool) (names : List (List ℕ)) (n : List ℕ) → p n ≡ true → list_any p (names ++ n ∷ []) ≡ true
 any_push p [] n h = rw h refl
-any_push p (m ∷ ms) n h = any_step (p m) (any_push p ms n h)
+any_push p (m ∷ ms) n h = go (p m) (any_push p ms n h)
   where
-    any_step : (b : Bool) {r : Bool} → r ≡ true → (b || r) ≡ true
-    any_step true e = refl
-    any_step false e = e
+    go : (b : Bool) {r : Bool} → r ≡ true → (b || r) ≡ true
+    go true e = refl
+    go false e = e
 
 -- a name is the same as itself
 same_name : (n : List ℕ) → bytes_eq n n ≡ true
 same_name n = (bytes_eq-Decides n n).1 refl
 
--- a name's slot lies below the number of names once it is one of them
-slot_below : (names : List (List ℕ)) (n : List ℕ) → slot_of (with_name names n) n < length (with_name names n)
-slot_below names n = go (list_any (bytes_eq n) names) refl
+-- a name is one of the names that it is put to
+is_named : (names : List (List ℕ)) (n : List ℕ) → list_any (bytes_eq n) (with_name names n) ≡ true
+is_named names n = go (list_any (bytes_eq n) names) refl
   where
-    go : (b : Bool) → list_any (bytes_eq n) names ≡ b → slot_of (cond b names (names ++ n ∷ [])) n < length (cond b names (names ++ n ∷ []))
-    go true e = place_below (bytes_eq n) names e
-    go false e = place_below (bytes_eq n) (names ++ n ∷ []) (any_push (bytes_eq n) names n (same_name n))
+    go : (b : Bool) → list_any (bytes_eq n) names ≡ b → list_any (bytes_eq n) (cond b names (names ++ n ∷ [])) ≡ true
+    go true e = e
+    go false e = any_push (bytes_eq n) names n (same_name n)
+
+-- a name that is among the names is so with one more
+stays_named : (p : List ℕ → Bool) (names : List (List ℕ)) (n : List ℕ) → list_any p names ≡ true → list_any p (with_name names n) ≡ true
+stays_named p names n h = go (list_any (bytes_eq n) names)
+  where
+    go : (b : Bool) → list_any p (cond b names (names ++ n ∷ [])) ≡ true
+    go true = h
+    go false = any_more p names n h
+
+-- and with several more
+stay_named : (p : List ℕ → Bool) (names ns : List (List ℕ)) → list_any p names ≡ true → list_any p (with_names names ns) ≡ true
+stay_named p names [] h = h
+stay_named p names (n ∷ ns) h = stay_named p (with_name names n) ns (stays_named p names n h)
+
+-- names are among the names that they are put to
+are_named : (names ns : List (List ℕ)) → All (λ n. list_any (bytes_eq n) (with_names names ns) ≡ true) ns
+are_named names [] = All-nil _
+are_named names (n ∷ ns) =
+    All-cons (λ m. list_any (bytes_eq m) (with_names (with_name names n) ns) ≡ true) n ns (stay_named (bytes_eq n) (with_name names n) ns (is_named names n)) (are_named (with_name names n) ns)
+
+-- the slots of a line's layers lie below the number of names with them
+slots_below : (names ns : List (List ℕ)) → All (λ i. i < length (with_names names ns)) (map (slot_of (with_names names ns)) ns)
+slots_below names ns =
+    let all = with_names names ns in
+    All-map (λ i. i < length all) (slot_of all) ns (All-weaker (λ n. list_any (bytes_eq n) all ≡ true) (λ n. slot_of all n < length all) (λ n h. place_below (bytes_eq n) all h) ns (are_named names ns))
 
 -- names only grow
 one_more : (b : Bool) (names : List (List ℕ)) (n : List ℕ) → length names ≤ length (cond b names (names ++ n ∷ []))
@@ -230,23 +318,11 @@ names_grow : (names ns : List (List ℕ)) → length names ≤ length (with_name
 names_grow names [] = omega arith
 names_grow names (n ∷ ns) = omega (arith, one_more (list_any (bytes_eq n) names) names n, names_grow (with_name names n) ns)
 
--- a call that fits sizes fits sizes with more slots
+-- two tests that hold
 and_true : (a b : Bool) → a ≡ true → b ≡ true → (a && b) ≡ true
 and_true true true h k = refl
 and_true true false h k = k
 and_true false b h k = h
-
--- what fits sizes fits sizes with more slots
-more_slots : (s t : Sizes) (c : Call) → s.slots ≤ t.slots → s.hooks ≡ t.hooks → call_fits s c ≡ true → call_fits t c ≡ true
-more_slots s t (Create slot make) le same h =
-    let p = both (nat_lt slot s.slots) (make_fits s make) h in
-    let lt : nat_lt slot t.slots ≡ true = let q = ltb-true slot s.slots p.0 in grind (arith, nat_tests) in
-    let fits : make_fits t make ≡ true = rw (← same) p.1 in
-    and_true _ _ lt fits
-more_slots s t (Fill slot rect) le same h =
-    let p = both (nat_lt slot s.slots) (rect_fits rect) h in
-    let lt : nat_lt slot t.slots ≡ true = let q = ltb-true slot s.slots p.0 in grind (arith, nat_tests) in
-    and_true _ _ lt p.1
 
 -- the call of a line fits the sizes of a plan with the line's names
 corners_fit : (r : Rectangle) → rect_fits r ≡ true → (s : Sizes) → make_fits s (smart_front r) ≡ true
@@ -256,40 +332,51 @@ corners_fit r h s =
     let y = span_fits r.min_y r.max_y k.1 in
     and_true _ _ (and_true _ _ (and_true _ _ x.0 y.0) (and_true _ _ x.1 y.1)) refl
 
--- the call of an act in its range fits, if its slot is one
-act_fits : (act : Act) (slot : ℕ) (s : Sizes) → is_act_in_range act ≡ true → slot < s.slots → call_fits s (call_of act (slot ∷ [])) ≡ true
-act_fits (SmartFront r) slot s h lt =
-    let l : nat_lt slot s.slots ≡ true = grind (arith, nat_tests) in
-    and_true _ _ l (corners_fit r h s)
-act_fits (FillAct r) slot s h lt =
-    let l : nat_lt slot s.slots ≡ true = grind (arith, nat_tests) in
-    and_true _ _ l h
+-- a register of a line in its range is a register
+register_in : (z : ℤ) → is_register z ≡ true → register_fits (unsigned_abs z) ≡ true
+unfolding within
+register_in z h = grind (arith, ints, nat_tests)
+
+-- the slot of the layer that a line names
+first_below : (slots : List ℕ) (n : ℕ) → length slots ≡ 1 → All (λ i. i < n) slots → nat_lt (slice_index slots 0) n ≡ true
+first_below slots n one below = let h : slice_index slots 0 < n = below 0 0 (omega (arith, one)) in grind (arith, nat_tests)
+
+-- the call of an act in its range fits, if its slots are some
+act_fits : (act : Act) (slots : List ℕ) (s : Sizes) → is_act_in_range act ≡ true → length slots ≡ layer_count act → All (λ i. i < s.slots) slots → call_fits s (call_of act slots) ≡ true
+act_fits (SmartFront r) slots s h count below = and_true _ _ (first_below slots s.slots count below) (corners_fit r h s)
+act_fits (FillAct r) slots s h count below = and_true _ _ (first_below slots s.slots count below) h
+act_fits (RectAct op register r) slots s h count below = let k = both (is_register register) (rect_fits r) h in and_true _ _ (register_in register k.0) k.1
+act_fits (PairAct op source into) slots s h count below =
+    let k = both (is_register source) (is_register into) h in and_true _ _ (register_in source k.0) (register_in into k.1)
+act_fits (ClearAct register) slots s h count below = register_in register h
+act_fits (ClipAct register) slots s h count below = and_true _ _ (first_below slots s.slots count below) (register_in register h)
+act_fits UnclipAct slots s h count below = first_below slots s.slots count below
 
 -- the step of each act is given
 act_built : (act : Act) (slots : List ℕ) → is_built (call_of act slots) ≡ true
 act_built (SmartFront r) slots = refl
 act_built (FillAct r) slots = refl
+act_built (RectAct op register r) slots = refl
+act_built (PairAct op source into) slots = refl
+act_built (ClearAct register) slots = refl
+act_built (ClipAct register) slots = refl
+act_built UnclipAct slots = refl
 
--- the call of a further line fits the sizes with its names
-new_call_fits : (above : List LineForm) (layers : List (List ℕ)) (act : Act) (s : Sizes) → HasLayer (CallLine layers act) → is_act_in_range act ≡ true → s.slots ≡ length (with_names (layer_names above) layers) → call_fits s (call_of act (map (slot_of (with_names (layer_names above) layers)) layers)) ≡ true
-new_call_fits above layers act s (n, e) h same =
-    let P : List (List ℕ) → Type 0 = λ ls. s.slots ≡ length (with_names (layer_names above) ls) → call_fits s (call_of act (map (slot_of (with_names (layer_names above) ls)) ls)) ≡ true in
-    let at_one : P (n ∷ []) = λ k. act_fits act _ s h (omega (arith, k, slot_below (layer_names above) n)) in
-    subst P (sym e) at_one same
+-- the call of a further line fits sizes that have its names
+new_call_fits : (above : List LineForm) (layers : List (List ℕ)) (act : Act) (s : Sizes) → NamesLayers (CallLine layers act) → is_act_in_range act ≡ true → length (with_names (layer_names above) layers) ≤ s.slots → call_fits s (call_of act (map (slot_of (with_names (layer_names above) layers)) layers)) ≡ true
+new_call_fits above layers act s count h few =
+    let names = with_names (layer_names above) layers in
+    let slots = map (slot_of names) layers in
+    act_fits act slots s h (length-map layers (slot_of names) ∙ count) (All-weaker (λ i. i < length names) (λ i. i < s.slots) (λ i low. omega arith) slots (slots_below (layer_names above) layers))
 
--- every call of good lines fits the sizes of their plan
-calls_fit : (above : List LineForm) → AreGood above → All (λ c. IsTrue (call_fits (plan_of above).sizes c)) (calls_of above)
-calls_fit [] g = All-nil _
-calls_fit (ScreenLine w h d ∷ above) g =
-    All-weaker _ _ (λ c k. more_slots (plan_of above).sizes (plan_of (ScreenLine w h d ∷ above)).sizes c (omega arith) refl k) (calls_of above) (calls_fit above g.2)
-calls_fit (TaskLine n ∷ above) g =
-    All-weaker _ _ (λ c k. more_slots (plan_of above).sizes (plan_of (TaskLine n ∷ above)).sizes c (omega arith) refl k) (calls_of above) (calls_fit above g.2)
-calls_fit (CallLine layers act ∷ above) g =
-    let s = (plan_of (CallLine layers act ∷ above)).sizes in
-    let grown : length (layer_names above) ≤ s.slots = names_grow (layer_names above) layers in
-    All-push (λ c. IsTrue (call_fits s c)) (calls_of above) _ (All-weaker _ _ (λ c k. more_slots (plan_of above).sizes s c grown refl k) (calls_of above) (calls_fit above g.2)) (new_call_fits above layers act s (line_layer g.0.0 (CallLine layers act) g.0.1) (good above (CallLine layers act) g.1).range refl)
-calls_fit (EndLine ∷ above) g =
-    All-weaker _ _ (λ c k. more_slots (plan_of above).sizes (plan_of (EndLine ∷ above)).sizes c (omega arith) refl k) (calls_of above) (calls_fit above g.2)
+-- every call of good lines fits sizes that have their names
+calls_fit : (above : List LineForm) (s : Sizes) → AreGood above → length (layer_names above) ≤ s.slots → All (λ c. IsTrue (call_fits s c)) (calls_of above)
+calls_fit [] s g few = All-nil _
+calls_fit (ScreenLine w h d ∷ above) s g few = calls_fit above s g.2 few
+calls_fit (TaskLine n ∷ above) s g few = calls_fit above s g.2 few
+calls_fit (CallLine layers act ∷ above) s g few =
+    All-push (λ c. IsTrue (call_fits s c)) (calls_of above) _ (calls_fit above s g.2 (omega (arith, names_grow (layer_names above) layers))) (new_call_fits above layers act s (line_layers g.0.0 (CallLine layers act) g.0.1) (good above (CallLine layers act) g.1).range few)
+calls_fit (EndLine ∷ above) s g few = calls_fit above s g.2 few
 
 -- the steps of all calls of lines are given
 calls_built : (above : List LineForm) → All (λ c. IsTrue (is_built c)) (calls_of above)
@@ -313,6 +400,11 @@ few_calls (f ∷ above) g = (good above f g.1).calls
 -- what holds of the only list of calls
 of_one : (P : List Call → Type 0) (cs : List Call) → P cs → All P (cs ∷ [])
 of_one P cs h = All-cons P cs [] h (All-nil P)
+
+-- no task of a plan of one task has a group
+no_groups : (calls : List Call) (task : ℕ) → IsTrue (groups_fit (slice_index_or (calls ∷ []) task []) (slice_index_or ([] ∷ []) task []))
+no_groups calls zero = refl
+no_groups calls (suc task) = refl
 
 -- The plan of good lines that end a script may be run.
 pub plan_of_good : (above : List LineForm) → AreGood above → has_ended (part above) ≡ true → IsRunnable (plan_of above)
@@ -341,8 +433,12 @@ plan_of_good above g e =
         tasks = one;
         lists = omega arith;
         bitmaps = refl;
+        group_lists = omega arith;
+        supplied = refl;
+        supplies = record { glyphs = refl; rows = All-replicate (λ g. length g ≡ 8) 95 (replicate 8 0) refl; bitmaps = All-nil _ };
+        groups = no_groups (calls_of above);
         few = of_one (λ cs. length cs ≤ call_limit) (calls_of above) (few_calls above g);
-        fit = of_one (λ cs. All (λ c. IsTrue (call_fits (plan_of above).sizes c)) cs) (calls_of above) (calls_fit above g);
+        fit = of_one (λ cs. All (λ c. IsTrue (call_fits (plan_of above).sizes c)) cs) (calls_of above) (calls_fit above (plan_of above).sizes g (omega arith));
       };
       one_task = refl;
       built = of_one (λ cs. All (λ c. IsTrue (is_built c)) cs) (calls_of above) (calls_built above);

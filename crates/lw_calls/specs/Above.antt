@@ -1,15 +1,16 @@
 -- What the lines above a line of a script tell (this project's own format). They are given as their forms, nearest
 -- first, and they may be taken to be good, since only a script's first bad line counts.
-use Rattle.std.specs.Prelude.{ℕ, Bool, true, false, if◌then◌else◌, List, [], ◌∷◌, ◌++◌, map, length, pos, ◌+ℤ◌, ◌-ℤ◌, unsigned_abs, None, slice_index, bytes_eq}
+use Rattle.std.specs.Prelude.{ℕ, Bool, true, false, if◌then◌else◌, List, [], ◌∷◌, ◌++◌, map, length, pos, ◌+ℤ◌, ◌-ℤ◌, unsigned_abs, None, slice_index, bytes_eq, replicate}
 use Rattle.std.specs.List.{list_any, position_or_len}
 use Rattle.lw_region.specs.Rectangle.{Rectangle}
 use Rattle.lw_calls.specs.declared.make.Kind.TheVariants.{Smart}
 use Rattle.lw_calls.specs.declared.make.Place.TheVariants.{Front}
 use Rattle.lw_calls.specs.declared.make.Make.{Make}
 use Rattle.lw_calls.specs.declared.call.Call.{Call}
-use Rattle.lw_calls.specs.declared.call.Call.TheVariants.{Create, Fill}
+use Rattle.lw_calls.specs.declared.call.Call.TheVariants.{RegRect, RegPair, RegClear, Create, Fill, Clip, Unclip}
+use Rattle.lw_calls.specs.Desk.{Supplies}
 use Rattle.lw_calls.specs.Planned.{Planned}
-use Rattle.lw_calls.specs.Forms.{Act, SmartFront, FillAct, LineForm, ScreenLine, TaskLine, CallLine, EndLine}
+use Rattle.lw_calls.specs.Forms.{Act, SmartFront, FillAct, RectAct, PairAct, ClearAct, ClipAct, UnclipAct, LineForm, ScreenLine, TaskLine, CallLine, EndLine}
 
 -- The parts of a script, by what is due in them: the screen line, the task line, a call or the end, and nothing more.
 pub data Part : Type 0 where
@@ -105,6 +106,11 @@ smart_front r =
 abbrev pub call_of : Act → List ℕ → Call
 call_of (SmartFront r) slots = Create (slice_index slots 0) (smart_front r)
 call_of (FillAct r) slots = Fill (slice_index slots 0) r
+call_of (RectAct op register r) slots = RegRect op (unsigned_abs register) r
+call_of (PairAct op source into) slots = RegPair op (unsigned_abs source) (unsigned_abs into)
+call_of (ClearAct register) slots = RegClear (unsigned_abs register)
+call_of (ClipAct register) slots = Clip (slice_index slots 0) (unsigned_abs register)
+call_of UnclipAct slots = Unclip (slice_index slots 0)
 
 -- the task's calls, the first call first
 abbrev pub calls_of : List LineForm → List Call
@@ -112,6 +118,10 @@ calls_of [] = []
 calls_of (CallLine layers act ∷ above) =
     calls_of above ++ call_of act (map (slot_of (with_names (layer_names above) layers)) layers) ∷ []
 calls_of (_ ∷ above) = calls_of above
+
+-- What a script hands in that has neither glyphs nor bitmaps: each code has the empty glyph.
+abbrev pub no_supplies : Supplies
+no_supplies = record { glyphs = replicate 95 (replicate 8 0); bitmaps = [] }
 
 -- The plan that the lines of a whole script spell.
 abbrev pub plan_of : List LineForm → Planned
@@ -129,5 +139,8 @@ plan_of above =
       };
       slot_names = layer_names above;
       task_names = task_names above;
+      bitmap_names = [];
       calls = calls_of above ∷ [];
+      groups = [] ∷ [];
+      supplies = no_supplies;
     }

@@ -29,7 +29,7 @@ is_good_line above (Some form) = is_good_form above form
 abbrev pub is_bad : List LineForm → List ℕ → Reason → Bool
 is_bad above line OneTaskOnly = is_second_task above line
 is_bad above line NotBuilt = not (is_good_line above (line_form line))
-is_bad above line Missing = false
+is_bad above line other = false
 
 -- the reasons, in the order in which they are asked
 abbrev pub all_reasons : List Reason

@@ -1,12 +1,14 @@
 -- The limits of a plan's sizes, and which calls fit them (this project's own).
-use Rattle.std.specs.Prelude.{◌≡◌, ℕ, ◌≤◌, Bool, true, false, ◌&&◌, nat_lt, nat_le, ◌==◌, ℤ, pos, negsuc, int_le, Option, Some, None}
+use Rattle.std.specs.Prelude.{◌≡◌, ℕ, ◌≤◌, ◌%◌, Bool, true, false, not, ◌&&◌, nat_lt, nat_le, ◌==◌, ℤ, pos, negsuc, int_le, Option, Some, None}
 use Rattle.lw_region.specs.Rectangle.{Rectangle, within}
 use Rattle.lw_calls.specs.declared.sizes.Sizes.{Sizes}
 use Rattle.lw_calls.specs.declared.make.Kind.{Kind}
 use Rattle.lw_calls.specs.declared.make.Kind.TheVariants.{Simple, Smart, SuperBitmap}
 use Rattle.lw_calls.specs.declared.make.Make.{Make}
 use Rattle.lw_calls.specs.declared.call.Call.{Call}
-use Rattle.lw_calls.specs.declared.call.Call.TheVariants.{Create, Fill}
+use Rattle.lw_calls.specs.declared.call.Call.TheVariants.{RegRect, RegPair, RegClear, Create, OpenWindow, Close, ToFront, ToBack, InFrontOf, MoveBy, SizeBy, SetBox, Activate, Which, SetA, SetB, SetMode, SetMask, At, WritePixel, ReadPixel, Fill, DrawTo, Letters, SetRast, ScrollRaster, Put, Blit, Clip, Unclip, BeginRefresh, EndRefresh, Scroll, SetTitle, TakeMessage}
+use Rattle.lw_calls.specs.declared.area.Area.{Area}
+use Rattle.lw_calls.specs.Layer.{is_super}
 
 -- how many layer names a script has at most
 abbrev pub name_limit : ℕ
@@ -16,7 +18,7 @@ name_limit = 64
 abbrev pub call_limit : ℕ
 call_limit = 4096
 
--- Sizes that a plan may have: the screen is 1 to 1024 columns by 1 to 1024 rows of 1 to 8 planes, with at most 64
+-- Sizes that a plan of version 1 may have: the screen is 1 to 1024 columns by 1 to 1024 rows of 1 to 8 planes, with at most 64
 -- layer names, 1 to 16 tasks and at most 16 bitmaps.
 pub record IsWithinLimits (s : Sizes) : Type 0 where
   pub version : s.version ≡ 1
@@ -61,7 +63,69 @@ axis_fits low high = (is_coordinate low && is_coordinate high) && int_le low hig
 abbrev pub rect_fits : Rectangle → Bool
 rect_fits r = axis_fits r.min_x r.max_x && axis_fits r.min_y r.max_y
 
--- Every number of the call is in its range, and it names slots and hooks that there are.
+-- the number of a register
+abbrev pub register_fits : ℕ → Bool
+register_fits n = nat_lt n 8
+
+-- a pen, a mask or another byte
+abbrev pub is_byte : ℕ → Bool
+is_byte n = nat_le n 255
+
+-- how far a box or a blit reaches along one axis
+abbrev pub is_extent : ℤ → Bool
+is_extent z = within (pos 1) z (pos 32767)
+
+-- two coordinates, or two steps
+abbrev pub coordinates_fit : ℤ → ℤ → Bool
+coordinates_fit x y = is_coordinate x && is_coordinate y
+
+-- a minterm is a byte whose lower four bits are 0
+abbrev pub is_minterm : ℕ → Bool
+is_minterm n = is_byte n && (n % 16 == 0)
+
+-- a blit's places and sizes, and its minterm
+abbrev pub area_fits : Area → Bool
+area_fits a =
+    ((coordinates_fit a.sx a.sy && coordinates_fit a.x a.y) && (is_extent a.w && is_extent a.h)) && is_minterm a.minterm
+
+-- a window that may be asked for: no super-bitmap layer has a frame, and there are five classes of messages
+abbrev pub window_fits : Make → Bool → ℕ → Bool
+window_fits make framed classes = not (framed && is_super make.kind) && nat_lt classes 32
+
+-- Every number of the call is in its range, and it names slots, bitmaps and hooks that there are.
 abbrev pub call_fits : Sizes → Call → Bool
+call_fits s (RegRect op register rect) = register_fits register && rect_fits rect
+call_fits s (RegPair op source into) = register_fits source && register_fits into
+call_fits s (RegClear register) = register_fits register
 call_fits s (Create slot make) = nat_lt slot s.slots && make_fits s make
+call_fits s (OpenWindow slot make framed nocare classes title) = nat_lt slot s.slots && (make_fits s make && window_fits make framed classes)
+call_fits s (Close slot) = nat_lt slot s.slots
+call_fits s (ToFront slot) = nat_lt slot s.slots
+call_fits s (ToBack slot) = nat_lt slot s.slots
+call_fits s (InFrontOf slot other) = nat_lt slot s.slots && nat_lt other s.slots
+call_fits s (MoveBy slot dx dy) = nat_lt slot s.slots && coordinates_fit dx dy
+call_fits s (SizeBy slot dw dh) = nat_lt slot s.slots && coordinates_fit dw dh
+call_fits s (SetBox slot x y w h) = nat_lt slot s.slots && (coordinates_fit x y && (is_extent w && is_extent h))
+call_fits s (Activate slot) = nat_lt slot s.slots
+call_fits s (Which x y) = coordinates_fit x y
+call_fits s (SetA slot pen) = nat_lt slot s.slots && is_byte pen
+call_fits s (SetB slot pen) = nat_lt slot s.slots && is_byte pen
+call_fits s (SetMode slot mode) = nat_lt slot s.slots && nat_lt mode 8
+call_fits s (SetMask slot mask) = nat_lt slot s.slots && is_byte mask
+call_fits s (At slot x y) = nat_lt slot s.slots && coordinates_fit x y
+call_fits s (WritePixel slot x y) = nat_lt slot s.slots && coordinates_fit x y
+call_fits s (ReadPixel slot x y) = nat_lt slot s.slots && coordinates_fit x y
 call_fits s (Fill slot rect) = nat_lt slot s.slots && rect_fits rect
+call_fits s (DrawTo slot x y) = nat_lt slot s.slots && coordinates_fit x y
+call_fits s (Letters slot text) = nat_lt slot s.slots
+call_fits s (SetRast slot pen) = nat_lt slot s.slots && is_byte pen
+call_fits s (ScrollRaster slot dx dy rect) = nat_lt slot s.slots && (coordinates_fit dx dy && rect_fits rect)
+call_fits s (Put bitmap slot area) = nat_lt bitmap s.bitmaps && (nat_lt slot s.slots && area_fits area)
+call_fits s (Blit source slot area) = nat_lt source s.slots && (nat_lt slot s.slots && area_fits area)
+call_fits s (Clip slot register) = nat_lt slot s.slots && register_fits register
+call_fits s (Unclip slot) = nat_lt slot s.slots
+call_fits s (BeginRefresh slot) = nat_lt slot s.slots
+call_fits s (EndRefresh slot full) = nat_lt slot s.slots
+call_fits s (Scroll slot dx dy) = nat_lt slot s.slots && coordinates_fit dx dy
+call_fits s (SetTitle slot title) = nat_lt slot s.slots
+call_fits s (TakeMessage slot) = nat_lt slot s.slots

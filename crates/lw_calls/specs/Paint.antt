@@ -1,19 +1,21 @@
 -- How a pen is painted over another, and what a drawing call changes (the manual's Graphics Primitives chapter: drawing
--- modes, the write mask; that the mask applies to every painting call is this project's own).
-use Rattle.std.specs.Prelude.{ℕ, ◌-◌, ◌==◌, Bool, true, ◌&&◌, if◌then◌else◌, pos}
+-- modes, the write mask; that the mask applies to every painting call, and what COMPLEMENT and JAM2 together mean, are this
+-- project's own).
+use Rattle.std.specs.Prelude.{ℕ, ◌-◌, ◌==◌, Bool, if◌then◌else◌}
 use Rattle.std.specs.Int.{bit_at}
-use Rattle.lw_region.specs.Rectangle.{Rectangle, has_pixel}
 use Rattle.lw_planes.specs.Pen.{pen_of}
 use Rattle.lw_planes.specs.Bitmap.{bitmap, pen_at}
 use Rattle.lw_calls.specs.Layer.{Layer, Raster}
-use Rattle.lw_calls.specs.Kept.{is_drawable}
 
--- the flags JAM2 and COMPLEMENT of a mode
+-- the flags JAM2, COMPLEMENT and INVERSVID of a mode
 abbrev pub has_jam2 : Raster → Bool
 has_jam2 r = bit_at r.mode 0 == 1
 
 abbrev pub has_complement : Raster → Bool
 has_complement r = bit_at r.mode 1 == 1
+
+abbrev pub has_inversvid : Raster → Bool
+has_inversvid r = bit_at r.mode 2 == 1
 
 -- What plane k's bit becomes before the mask, where it was old: under COMPLEMENT it turns in the foreground and stays
 -- elsewhere; else it is pen A's bit in the foreground, and elsewhere pen B's under JAM2 and the old bit without it.
@@ -29,6 +31,10 @@ through_mask depth mask candidate old = pen_of depth (λ k. if bit_at mask k == 
 abbrev pub paint : ℕ → Raster → Bool → ℕ → ℕ
 paint depth r foreground old = through_mask depth r.mask (λ k. candidate_bit r foreground k (bit_at old k)) old
 
+-- a pen taken modulo 2 ^ depth
+abbrev pub pen_within : ℕ → ℕ → ℕ
+pen_within depth pen = pen_of depth (λ k. bit_at pen k)
+
 -- The layer with the pen that pen x y gives at each pixel (x, y) where on x y holds, and all else as before.
 unfoldable pub with_pens : (ℕ → ℕ → Bool) → (ℕ → ℕ → ℕ) → Layer → Layer
 with_pens on pen l =
@@ -38,6 +44,8 @@ with_pens on pen l =
 abbrev pub paint_where : (ℕ → ℕ → Bool) → (ℕ → ℕ → Bool) → Layer → Layer
 paint_where on foreground l = with_pens on (λ x y. paint l.bits.depth l.raster (foreground x y) (pen_at l.bits x y)) l
 
--- RectFill: each drawable pixel of the rectangle is painted, all in the foreground.
-abbrev pub filled : (ℕ → ℕ → Bool) → Rectangle → Layer → Layer
-filled visible rect l = paint_where (λ x y. is_drawable visible l x y && has_pixel rect (pos x) (pos y)) (λ x y. true) l
+-- The layer with the pen that pen x y gives put through its mask at each pixel where on holds, whatever its mode, and all
+-- else as before.
+abbrev pub put_where : (ℕ → ℕ → Bool) → (ℕ → ℕ → ℕ) → Layer → Layer
+put_where on pen l =
+    with_pens on (λ x y. through_mask l.bits.depth l.raster.mask (λ k. bit_at (pen x y) k) (pen_at l.bits x y)) l

@@ -1,5 +1,5 @@
 -- The grammar of scripts read from the first line to the last, which a reader does.
-use Rattle.std.specs.Prelude.{◌≡◌, ℕ, ◌+◌, Bool, true, false, not, nat_le, if◌then◌else◌, List, [], ◌∷◌, length, Some, Result, Ok, Err, ok_or}
+use Rattle.std.specs.Prelude.{◌≡◌, ℕ, ◌+◌, true, not, nat_le, if◌then◌else◌, List, [], ◌∷◌, length, Some, Result, Ok, Err, ok_or}
 use Rattle.lw_calls.specs.declared.reason.Reason.{Reason}
 use Rattle.lw_calls.specs.declared.reason.Reason.TheVariants.{OneTaskOnly, NotBuilt, Missing}
 use Rattle.lw_calls.specs.Limits.{name_limit, call_limit}
@@ -8,17 +8,7 @@ use Rattle.lw_calls.specs.Words.{words}
 use Rattle.lw_calls.specs.Forms.{LineForm, form_of, line_form, is_in_range}
 use Rattle.lw_calls.specs.Above.{part, has_ended, is_in_place, layer_names, calls_of, plan_of}
 use Rattle.lw_calls.specs.Grammar.{is_second_task, is_good_form}
-
-infixl 10 ◌>>=◌
--- what is found is handed on, unless there was a reason to stop
-abbrev pub ◌>>=◌ : {A B R : Type 0} → Result A R → (A → Result B R) → Result B R
-◌>>=◌ (Ok a) f = f a
-◌>>=◌ (Err r) f = Err r
-
--- the reason to stop, unless the test holds
-abbrev pub demand : Bool → Reason → Result (Unit {0}) Reason
-demand true reason = Ok tt
-demand false reason = Err reason
+use Rattle.lw_calls.specs.Demands.{◌>>=◌, demand}
 
 -- The form of a line below lines of these forms, or its first reason.
 abbrev pub line_at : List LineForm → List ℕ → Result LineForm Reason

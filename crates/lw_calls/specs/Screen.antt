@@ -1,10 +1,11 @@
--- Which layer is on top of a place, and what the screen shows (the manual's Layers Library chapter).
+-- Which layer is on top of a place, and what the screen shows (the manual's Layers Library chapter; how
+-- a super-bitmap layer shows its bits is this project's own).
 use Rattle.std.specs.Prelude.{ℕ, ◌+◌, Bool, false, ℤ, pos, ◌-ℤ◌, unsigned_abs, Option, Some, None}
 use Rattle.std.specs.List.{find}
 use Rattle.lw_region.specs.Rectangle.{Rectangle, has_pixel}
 use Rattle.lw_planes.specs.Bitmap.{Bitmap, bitmap, pen_at}
 use Rattle.lw_calls.specs.Layer.{Slot, Unopened, Live, Closed}
-use Rattle.lw_calls.specs.Desk.{Desk}
+use Rattle.lw_calls.specs.Desk.{Desk, is_the}
 
 -- these bounds have the place
 abbrev pub bounds_have : Option Rectangle → ℤ → ℤ → Bool
@@ -14,6 +15,10 @@ bounds_have (Some r) x y = has_pixel r x y
 -- The slot of the first layer from the front whose bounds have the place at column x and row y.
 unfoldable pub top : Desk → ℤ → ℤ → Option ℕ
 top d x y = find (λ s. bounds_have (d.bounds s) x y) d.order
+
+-- The layer in slot s is the top of the place: the screen shows a pixel of it there.
+abbrev pub is_shown : Desk → ℕ → ℤ → ℤ → Bool
+is_shown d s x y = is_the (top d x y) s
 
 -- how far a place lies right of a left edge, or below a top edge, which is not past the place
 abbrev pub distance : ℤ → ℤ → ℕ

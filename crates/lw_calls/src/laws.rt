@@ -1,4 +1,6 @@
+ghost use Rattle.lw_calls.specs.Laws.{ScreenShowsTheTop, NothingIsLost, RefusedCallsChangeNothing, ReachedDesksAreSound, StepsLeaveTheRest, StepsAreLocal};
 ghost use Rattle.lw_calls.specs.Grammar.{ScriptsAreDecided, SpelledPlansAreRunnable};
+ghost use Rattle.lw_calls.specs.Script.{InputsAreDecided, SpelledInputsAreRunnable};
 
 /// A law of the grammar of scripts (this project's own), which does nothing: the lines of any bytes either have a
 /// first bad line, with one number and one reason, or they spell a plan, and one only.
@@ -10,4 +12,55 @@ pub fn scripts_are_decided()
 /// task, may be run, and makes just calls whose steps are given.
 pub fn spelled_plans_are_runnable()
     ensures { SpelledPlansAreRunnable }
+{}
+
+/// A law of the grammar of scripts (this project's own), which does nothing: any bytes, read with any number of hooks as
+/// a script alone, with an order or with a report, either have a first bad line, with one number and one reason, or they
+/// spell an input, and one only.
+pub fn inputs_are_decided()
+    ensures { InputsAreDecided }
+{}
+
+/// A law of the grammar of scripts (this project's own), which does nothing: an input that bytes spell may be run. Its
+/// plan is one, with the hooks that were handed in and just calls whose steps are given; a script alone has one task; and
+/// an order has numbers that tasks may have.
+pub fn spelled_inputs_are_runnable()
+    ensures { SpelledInputsAreRunnable }
+{}
+
+/// A law of the machine (this project's own), which does nothing: the screen has at each place the pen of the top
+/// layer's pixel, or 0 where there is no layer.
+pub fn screen_shows_the_top()
+    ensures { ScreenShowsTheTop }
+{}
+
+/// A law of the machine (this project's own), which does nothing: an arrangement leaves the pen of each pixel that lies
+/// in the inner rectangle of a smart layer before and after it, and all pens of a super-bitmap layer.
+pub fn nothing_is_lost()
+    ensures { NothingIsLost }
+{}
+
+/// A law of the machine (this project's own), which does nothing: a refused call changes nothing.
+pub fn refused_calls_change_nothing()
+    ensures { RefusedCallsChangeNothing }
+{}
+
+/// A law of the machine (this project's own), which does nothing: a step leaves each part of the desk that its call
+/// doesn't touch.
+pub fn steps_leave_the_rest()
+    ensures { StepsLeaveTheRest }
+{}
+
+/// A law of the machine (this project's own), which does nothing: a call's reply, and what it touches after it, are
+/// functions of what it touches before it.
+pub fn steps_are_local()
+    ensures { StepsAreLocal }
+{}
+
+/// A law of the machine (this project's own), which does nothing: in every desk that a history of calls that fit
+/// reaches, pens off the kept pixels are 0, damage lies on kept pixels of the inner rectangle alone and never on a
+/// super-bitmap layer, at most one window is active, the list has each live slot once with backdrop layers last, and a
+/// super-bitmap layer's portion lies in its bitmap.
+pub fn reached_desks_are_sound()
+    ensures { ReachedDesksAreSound }
 {}

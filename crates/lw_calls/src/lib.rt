@@ -4,22 +4,46 @@
 //! and the script's grammar. `docs/DEFINITIONS.md` is its map.
 #![tactic(auto)]
 
+mod area;
+mod assets;
 mod call;
 mod entry;
+mod form;
+mod group;
+mod last;
 mod laws;
 mod make;
+mod message;
+mod operation;
+mod order_list;
 mod plan;
 mod reason;
 mod reply;
 mod sizes;
 mod text;
+mod touch;
+mod verb;
 
+pub use area::Area;
+pub use assets::Assets;
 pub use call::Call;
 pub use entry::Entry;
-pub use laws::{scripts_are_decided, spelled_plans_are_runnable};
+pub use form::Form;
+pub use group::{Group, Hold};
+pub use last::{Final, Seen};
+pub use laws::{
+    inputs_are_decided, nothing_is_lost, reached_desks_are_sound, refused_calls_change_nothing,
+    screen_shows_the_top, scripts_are_decided, spelled_inputs_are_runnable,
+    spelled_plans_are_runnable, steps_are_local, steps_leave_the_rest,
+};
 pub use make::{Kind, Make, Place};
+pub use message::{Message, Messages};
+pub use operation::{PairOp, RectOp};
+pub use order_list::OrderList;
 pub use plan::{Plan, PlanParts};
 pub use reason::Reason;
-pub use reply::Reply;
+pub use reply::{Replies, Reply};
 pub use sizes::Sizes;
 pub use text::Text;
+pub use touch::{Role, Slots, Touch, touches};
+pub use verb::Verb;

@@ -21,20 +21,20 @@ pub enum Place {
 pub struct Make {
     pub kind: Kind,
     pub place: Place,
-    /// The screen column of the layer's left edge.
+    /// The screen column of the layer's left edge, -32768 to 32767.
     pub x: i32,
-    /// The screen row of the layer's top edge.
+    /// The screen row of the layer's top edge, -32768 to 32767.
     pub y: i32,
-    /// How many columns the layer has.
+    /// How many columns the layer has, 1 to 65536.
     pub w: i32,
-    /// How many rows the layer has.
+    /// How many rows the layer has, 1 to 65536.
     pub h: i32,
     /// Whether the layer stays behind all that are no backdrop layers (LAYERBACKDROP).
     pub backdrop: bool,
-    /// The number of the hook that fills what is uncovered.
+    /// The number of the hook that fills what is uncovered; a super-bitmap layer has none.
     pub hook: Option<u32>,
-    /// The width of a super-bitmap layer's own bitmap, and 0 for the other kinds.
+    /// The width of a super-bitmap layer's own bitmap, 1 to 2048, and 0 for the other kinds.
     pub bits_w: u32,
-    /// The height of a super-bitmap layer's own bitmap, and 0 for the other kinds.
+    /// The height of a super-bitmap layer's own bitmap, 1 to 2048, and 0 for the other kinds.
     pub bits_h: u32,
 }

@@ -1,7 +1,9 @@
 ghost use Rattle.std.specs.Prelude.{◌≡◌, ◌<◌, map};
-ghost use Rattle.lw_calls.specs.Planned.{Planned, task_calls, IsPlan};
+ghost use Rattle.lw_calls.specs.Planned.{Planned, task_calls, task_groups, IsPlan};
 
+use crate::assets::Assets;
 use crate::call::Call;
+use crate::group::Group;
 use crate::sizes::Sizes;
 use crate::text::Text;
 use std::marker::Model;
@@ -14,17 +16,26 @@ pub struct PlanParts {
     pub slot_names: Vec<Text>,
     /// The tasks' names, by number.
     pub task_names: Vec<Text>,
+    /// The bitmaps' names, by number.
+    pub bitmap_names: Vec<Text>,
     /// Each task's calls in their order.
     pub calls: Vec<Vec<Call>>,
+    /// Each task's groups in rising order.
+    pub groups: Vec<Vec<Group>>,
+    pub assets: Assets,
 }
 
-/// What a script says to do: the sizes, the names, and the calls of each task in their order.
+/// What a script says to do: the sizes, the names, the calls and the groups of each task in their order, and what the
+/// script hands in (this project's own).
 #[derive(Debug, Drop)]
 pub struct Plan {
     sizes: Sizes,
     slot_names: Vec<Text>,
     task_names: Vec<Text>,
+    bitmap_names: Vec<Text>,
     calls: Vec<Vec<Call>>,
+    groups: Vec<Vec<Group>>,
+    assets: Assets,
 }
 
 impl Model for Plan {
@@ -37,14 +48,20 @@ impl Model for Plan {
       sizes = p.sizes;
       slot_names = p.slot_names.items;
       task_names = p.task_names.items;
+      bitmap_names = p.bitmap_names.items;
       calls = map (λ cs. cs.items) p.calls.items;
+      groups = map (λ gs. gs.items) p.groups.items;
+      supplies = p.assets;
     } };
 
     ghost invariant = { λ p. IsPlan (record {
       sizes = p.sizes;
       slot_names = p.slot_names.items;
       task_names = p.task_names.items;
+      bitmap_names = p.bitmap_names.items;
       calls = map (λ cs. cs.items) p.calls.items;
+      groups = map (λ gs. gs.items) p.groups.items;
+      supplies = p.assets;
     }) };
 }
 
@@ -55,26 +72,38 @@ impl Plan {
           sizes = parts.sizes;
           slot_names = parts.slot_names.items;
           task_names = parts.task_names.items;
+          bitmap_names = parts.bitmap_names.items;
           calls = map (λ cs. cs.items) parts.calls.items;
+          groups = map (λ gs. gs.items) parts.groups.items;
+          supplies = parts.assets;
         }) }
         ensures { result ≡ record {
           sizes = parts.sizes;
           slot_names = parts.slot_names.items;
           task_names = parts.task_names.items;
+          bitmap_names = parts.bitmap_names.items;
           calls = map (λ cs. cs.items) parts.calls.items;
+          groups = map (λ gs. gs.items) parts.groups.items;
+          supplies = parts.assets;
         } }
     {
         let PlanParts {
             sizes,
             slot_names,
             task_names,
+            bitmap_names,
             calls,
+            groups,
+            assets,
         } = parts;
         Plan {
             sizes,
             slot_names,
             task_names,
+            bitmap_names,
             calls,
+            groups,
+            assets,
         }
     }
 
@@ -97,6 +126,35 @@ impl Plan {
         ensures { result.now ≡ self.now.task_names }
     {
         self.task_names.as_slice()
+    }
+
+    /// The script's version.
+    pub fn version(&self) -> u32
+        ensures { result ≡ self.now.sizes.version }
+    {
+        self.sizes.version
+    }
+
+    /// The bitmaps' names, by number.
+    pub fn bitmap_names(&self) -> &[Text]
+        ensures { result.now ≡ self.now.bitmap_names }
+    {
+        self.bitmap_names.as_slice()
+    }
+
+    /// The glyphs and bitmaps that the script hands in.
+    pub fn assets(&self) -> &Assets
+        ensures { result.now ≡ self.now.supplies }
+    {
+        &self.assets
+    }
+
+    /// The groups of a task in rising order.
+    pub fn groups(&self, task: u32) -> &[Group]
+        requires { task < self.now.sizes.tasks }
+        ensures { result.now ≡ task_groups self.now task }
+    {
+        self.groups[task as usize].as_slice()
     }
 
     /// The calls of a task in their order.

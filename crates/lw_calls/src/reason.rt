@@ -1,10 +1,40 @@
-/// Why a line of a script is refused (this project's own).
+/// Why a line of a script is refused, in the order in which the reasons are asked (this project's own).
 #[derive(Clone, Copy, Debug, PartialEq, Eq)]
 pub enum Reason {
-    /// A second task begins.
+    /// The line has more than 512 bytes.
+    LineTooLong,
+    /// The line has a byte outside 0x20 to 0x7e.
+    BadByte,
+    /// The leftmost fault of the line is an empty word.
+    Spacing,
+    /// The leftmost fault of the line is a double quote inside a word, or a text whose next quote isn't the line's last
+    /// byte.
+    Quote,
+    /// No line begins with this word.
+    UnknownWord,
+    /// Lines with this first word don't stand in this part of this input.
+    Misplaced,
+    /// A second task begins, in a script alone.
     OneTaskOnly,
-    /// The line is none of the forms that can be run so far, in its place and range, or is the line of a 65th layer
-    /// name or of a 4,097th call.
+    /// The words fit no form of the first word.
+    Form,
+    /// A number is outside its range, a glyph's code outside 0x20 to 0x7e, or a maximum below its minimum.
+    Range,
+    /// No bitmap of this name stands above.
+    NoName,
+    /// A bitmap or a task of this name, or a glyph of this code, stands above.
+    DoubleName,
+    /// The line may not stand in this group, or ends none, or ends one without a call.
+    Group,
+    /// A 17th task, bitmap or line that asks for a super-bitmap layer, a 65th layer name, or a 4,097th call of a task.
+    TooMany,
+    /// There is no hook of this number.
+    NoHook,
+    /// The hook is named above.
+    HookUsed,
+    /// A padding bit of a bitmap's row is 1.
+    Padding,
+    /// The call can't be made so far.
     NotBuilt,
     /// The input ends before the script does.
     Missing,

@@ -1,0 +1,26 @@
+use crate::message::Messages;
+use crate::reply::Replies;
+use lw_planes::Planes;
+use lw_region::Region;
+
+/// A live layer as a report shows it (this project's own).
+#[derive(Debug, Drop)]
+pub struct Seen {
+    /// Where the layer is shown, in screen coordinates.
+    pub visible: Region,
+    /// Its damage, in layer coordinates.
+    pub damage: Region,
+    /// The messages of its port, if it is a window.
+    pub messages: Option<Messages>,
+}
+
+/// What a run leaves: the screen, the live layers, and the replies (this project's own).
+#[derive(Debug, Drop)]
+pub struct Final {
+    /// The screen's pens.
+    pub planes: Planes,
+    /// What is seen of each slot's layer, where it is live.
+    pub slots: Vec<Option<Seen>>,
+    /// The replies of each task.
+    pub replies: Vec<Replies>,
+}

@@ -1,0 +1,31 @@
+use std::marker::Model;
+
+/// An order of calls: the number of the task whose next call is made, one for each call (this project's own). Contracts see the list.
+#[derive(Debug, Drop)]
+pub struct OrderList {
+    tasks: Vec<u32>,
+}
+
+impl Model for OrderList {
+    ghost use Rattle.std.specs.Prelude.{List, ℕ};
+
+    ghost Value = { List ℕ };
+
+    ghost view = { λ o. o.tasks.items };
+}
+
+impl OrderList {
+    ghost use Rattle.std.specs.Prelude.{◌≡◌};
+
+    pub fn new(tasks: Vec<u32>) -> OrderList
+        ensures { result ≡ tasks.items }
+    {
+        OrderList { tasks }
+    }
+
+    pub fn tasks(&self) -> &[u32]
+        ensures { result.now ≡ self.now }
+    {
+        self.tasks.as_slice()
+    }
+}

@@ -1,0 +1,17 @@
+//! What arrangements reveal, and which layer is on top.
+#![tactic(auto, unfolding(crate::proofs::Computing::computing))]
+
+ghost use Rattle.std.specs.Prelude.{◌≡◌, []};
+ghost use Rattle.lw_calls.specs.History.{only_order};
+ghost use Rattle.lw_calls.specs.Report.{run_report};
+ghost use Rattle.lw_cases.specs.Arranging.{simple_move, simple_move_report, which_in_front, which_in_front_report};
+
+/// A simple layer that is moved from under another keeps the pens that it showed, and has damage where it showed none.
+pub fn simple_move_damages_what_it_reveals()
+    ensures { run_report simple_move [] (only_order simple_move) ≡ simple_move_report }
+{}
+
+/// A look at a place finds the layer that is in front there at that time, or none.
+pub fn look_finds_the_front_layer()
+    ensures { run_report which_in_front [] (only_order which_in_front) ≡ which_in_front_report }
+{}

@@ -1,0 +1,34 @@
+//! What masks and modes make of fills and letters.
+#![tactic(auto, unfolding(crate::proofs::Computing::computing))]
+
+ghost use Rattle.std.specs.Prelude.{◌≡◌, []};
+ghost use Rattle.lw_calls.specs.History.{only_order};
+ghost use Rattle.lw_calls.specs.Report.{run_report};
+ghost use Rattle.lw_cases.specs.Modes.{masked_fills, masked_fills_report, masked_raster, masked_raster_report, letters_jam1, letters_jam1_report, letters_complemented, letters_complemented_report, letters_at_edges, letters_at_edges_report, codes_without_glyph, codes_without_glyph_report, letters_far_off, letters_far_off_report};
+
+/// The planes that a mask hasn't got stay as they are, in any mode.
+pub fn mask_keeps_planes()
+    ensures fills { run_report masked_fills [] (only_order masked_fills) ≡ masked_fills_report }
+    ensures raster { run_report masked_raster [] (only_order masked_raster) ≡ masked_raster_report }
+{}
+
+/// JAM1 leaves what isn't the letter, COMPLEMENT turns the letter alone, also with JAM2, and INVERSVID swaps the two.
+pub fn modes_paint_letters()
+    ensures jam1 { run_report letters_jam1 [] (only_order letters_jam1) ≡ letters_jam1_report }
+    ensures complemented { run_report letters_complemented [] (only_order letters_complemented) ≡ letters_complemented_report }
+{}
+
+/// Letters are cut at the layer's edges.
+pub fn letters_are_cut_at_edges()
+    ensures { run_report letters_at_edges [] (only_order letters_at_edges) ≡ letters_at_edges_report }
+{}
+
+/// What has no glyph has the empty one.
+pub fn no_glyph_is_empty()
+    ensures { run_report codes_without_glyph [] (only_order codes_without_glyph) ≡ codes_without_glyph_report }
+{}
+
+/// Letters end at the last coordinate.
+pub fn letters_end_at_the_last_coordinate()
+    ensures { run_report letters_far_off [] (only_order letters_far_off) ≡ letters_far_off_report }
+{}

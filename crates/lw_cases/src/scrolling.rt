@@ -1,0 +1,36 @@
+//! What scrolling calls move.
+#![tactic(auto, unfolding(crate::proofs::Computing::computing))]
+
+ghost use Rattle.std.specs.Prelude.{◌≡◌, []};
+ghost use Rattle.lw_calls.specs.History.{only_order};
+ghost use Rattle.lw_calls.specs.Report.{run_report};
+ghost use Rattle.lw_cases.specs.Scrolling.{scroll_past_all, scroll_past_all_report, scroll_under_cover, scroll_under_cover_report, scroll_uncovered, scroll_uncovered_report, scroll_damage, scroll_damage_report, portion_scrolled, portion_scrolled_report, scroll_right_down, scroll_right_down_report, scroll_masked, scroll_masked_report, scroll_updated, scroll_updated_report, scroll_in_frame, scroll_in_frame_report};
+
+/// What is scrolled in from outside the rectangle has pen B, and isn't damaged.
+pub fn scroll_past_all_shows_pen_b()
+    ensures { run_report scroll_past_all [] (only_order scroll_past_all) ≡ scroll_past_all_report }
+{}
+
+/// What a scroll takes from under a cover is damaged, and damage moves with the pens in a later scroll.
+pub fn scroll_damages_what_it_cannot_read()
+    ensures scroll_under_cover { run_report scroll_under_cover [] (only_order scroll_under_cover) ≡ scroll_under_cover_report }
+    ensures scroll_uncovered { run_report scroll_uncovered [] (only_order scroll_uncovered) ≡ scroll_uncovered_report }
+    ensures scroll_damage { run_report scroll_damage [] (only_order scroll_damage) ≡ scroll_damage_report }
+{}
+
+/// A super-bitmap layer shows a portion of its bitmap, which can't leave it, while all of its pixels can be read.
+pub fn portion_stays_in_its_bitmap()
+    ensures { run_report portion_scrolled [] (only_order portion_scrolled) ≡ portion_scrolled_report }
+{}
+
+/// A rectangle is scrolled in any direction, and ends at the layer's edges.
+pub fn scroll_goes_any_way()
+    ensures { run_report scroll_right_down [] (only_order scroll_right_down) ≡ scroll_right_down_report }
+{}
+
+/// Damage moves whatever the mask, within an update too, and never into a frame.
+pub fn scroll_moves_damage()
+    ensures masked { run_report scroll_masked [] (only_order scroll_masked) ≡ scroll_masked_report }
+    ensures updated { run_report scroll_updated [] (only_order scroll_updated) ≡ scroll_updated_report }
+    ensures in_frame { run_report scroll_in_frame [] (only_order scroll_in_frame) ≡ scroll_in_frame_report }
+{}
