@@ -1,0 +1,5 @@
+pub mod RoleLaws
+pub mod HistoryLaws
+pub mod Bound
+pub mod ViewLaws
+pub mod Steps
