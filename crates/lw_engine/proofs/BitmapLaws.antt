@@ -1,5 +1,5 @@
 -- Laws of the plain program's bitmaps.
-use Rattle.std.proofs.Common.{◌≡◌, ℕ, ◌^◌, ◌<◌, ◌≤◌, ◌&&◌, Bool, true, false, if◌then◌else◌, ℤ, pos, List, [], length, get_or, replicate, ◌∙◌, sym, ap, arith, w16, to_z, of_z}
+use Rattle.std.proofs.Common.{◌≡◌, ℕ, ◌^◌, ◌<◌, ◌≤◌, ◌&&◌, ◌||◌, Bool, true, false, if◌then◌else◌, ℤ, pos, List, [], length, get_or, replicate, ◌∙◌, sym, refl, ap, arith, w16, to_z, of_z}
 use mir.Val.{SFits}
 use Rattle.std.proofs.Math.Nat.{pow-le-pow_right}
 use Rattle.std.proofs.lemmas.List.{length-replicate, get_or-replicate}
@@ -7,11 +7,11 @@ use Rattle.std.proofs.lemmas.Int.{to_z-of_z}
 use Rattle.lw_region.specs.Rectangle.{Rectangle, has_pixel, within}
 use Rattle.lw_planes.specs.Grid.{grid, at}
 use Rattle.lw_planes.specs.Bitmap.{Bitmap, IsBitmap, bitmap, pen_at}
-use Rattle.lw_planes.proofs.GridLaws.{grid-from_rows}
-use Rattle.lw_planes.proofs.BitmapLaws.{IsBitmap-bitmap}
+use Rattle.lw_planes.proofs.GridLaws.{grid-from_rows, grid-at}
+use Rattle.lw_planes.proofs.BitmapLaws.{IsBitmap-bitmap, bitmap-again, bitmap-same}
 use Rattle.lw_engine.specs.declared.span.Span.{Span}
 use Rattle.lw_engine.specs.Span.{spans, FillsRows}
-use Rattle.lw_engine.specs.PlainBitmap.{IsPlainBitmap, with_rectangle}
+use Rattle.lw_engine.specs.PlainBitmap.{IsPlainBitmap, with_pixels, with_rectangle}
 
 -- a value of equal rows of one value
 at-replicate : (w h c x y : ℕ) → x < w → y < h → at 0 (replicate h (replicate w c)) x y ≡ c
@@ -29,10 +29,14 @@ replicate-rows w h c =
 pub pen-one : (d : ℕ) → 1 ≤ d → 1 < 2 ^ d
 pen-one d some = let more : 2 ^ 1 ≤ 2 ^ d = pow-le-pow_right {n = 2} (omega arith) {i = 1} {j = d} some in omega arith
 
+-- a table of pen 0 is a bitmap
+pub IsBitmap-blank : (w h d : ℕ) → 1 ≤ d → IsBitmap (bitmap w h d (λ x y. 0))
+IsBitmap-blank w h d some = IsBitmap-bitmap w h d (λ x y. 0) (λ x y _ _. let one = pen-one d some in omega arith)
+
 -- a bitmap of pen 0 is one of the plain program's
 pub IsPlainBitmap-blank : (w h d : ℕ) → w ≤ 1024 → h ≤ 1024 → 1 ≤ d → d ≤ 8 → IsPlainBitmap (bitmap w h d (λ x y. 0))
 IsPlainBitmap-blank w h d columns lines some planes = record {
-  bitmap = IsBitmap-bitmap w h d (λ x y. 0) (λ x y _ _. let one = pen-one d some in omega arith);
+  bitmap = IsBitmap-blank w h d some;
   columns = columns;
   lines = lines;
   some_planes = some;
@@ -44,11 +48,44 @@ pen-small : (on : Bool) (old top : ℕ) → 1 < top → old < top → (if on the
 pen-small true old top one small = one
 pen-small false old top one small = small
 
+-- a bitmap with pen 1 in some pixels is a bitmap
+pub IsBitmap-with_pixels : (b : Bitmap) (test : ℤ → ℤ → Bool) → 1 ≤ b.depth → IsBitmap b → IsBitmap (with_pixels b test)
+unfolding with_pixels
+IsBitmap-with_pixels b test some ok =
+    IsBitmap-bitmap b.width b.height b.depth _ (λ x y left low. pen-small (test (pos x) (pos y)) (pen_at b x y) (2 ^ b.depth) (pen-one b.depth some) (ok.pens x y left low))
+
+-- a bitmap with pen 1 in no pixel is as it was
+pub with_pixels-none : (b : Bitmap) (test : ℤ → ℤ → Bool) → IsBitmap b → ((x y : ℤ) → test x y ≡ false) → with_pixels b test ≡ b
+unfolding with_pixels
+with_pixels-none b test ok none =
+    bitmap-same b.width b.height b.depth _ (λ x y. pen_at b x y) (λ x y left low. ap (λ t. if t then 1 else pen_at b x y) (none (pos x) (pos y))) ∙ bitmap-again b ok
+
+-- tests that agree name the same pixels
+pub with_pixels-same : (b : Bitmap) (p q : ℤ → ℤ → Bool) → ((x y : ℤ) → p x y ≡ q x y) → with_pixels b p ≡ with_pixels b q
+unfolding with_pixels
+with_pixels-same b p q same =
+    bitmap-same b.width b.height b.depth _ _ (λ x y left low. ap (λ t. if t then 1 else pen_at b x y) (same (pos x) (pos y)))
+
+-- a choice after a choice
+choice-twice : (q p : Bool) (one old : ℕ) → (if q then one else (if p then one else old)) ≡ (if p || q then one else old)
+choice-twice true true one old = refl
+choice-twice true false one old = refl
+choice-twice false true one old = refl
+choice-twice false false one old = refl
+
+-- pen 1 in some pixels and then in others
+pub with_pixels-twice : (b : Bitmap) (p q : ℤ → ℤ → Bool) → with_pixels (with_pixels b p) q ≡ with_pixels b (λ x y. p x y || q x y)
+unfolding with_pixels
+with_pixels-twice b p q =
+    bitmap-same b.width b.height b.depth _ _ (λ x y left low.
+    ap (λ n. if q (pos x) (pos y) then 1 else n) (grid-at b.width b.height (λ x y. if p (pos x) (pos y) then 1 else pen_at b x y) 0 x y left low) ∙
+    choice-twice (q (pos x) (pos y)) (p (pos x) (pos y)) 1 (pen_at b x y))
+
 -- a bitmap with a rectangle is one of the plain program's
 pub IsPlainBitmap-with_rectangle : (b : Bitmap) (r : Rectangle) → IsPlainBitmap b → IsPlainBitmap (with_rectangle b r)
-unfolding with_rectangle
+unfolding with_pixels
 IsPlainBitmap-with_rectangle b r ok = record {
-  bitmap = IsBitmap-bitmap b.width b.height b.depth _ (λ x y left low. pen-small (has_pixel r (pos x) (pos y)) (pen_at b x y) (2 ^ b.depth) (pen-one b.depth ok.some_planes) (ok.bitmap.pens x y left low));
+  bitmap = IsBitmap-with_pixels b (λ x y. has_pixel r x y) ok.some_planes ok.bitmap;
   columns = ok.columns;
   lines = ok.lines;
   some_planes = ok.some_planes;
@@ -68,7 +105,7 @@ filled-rows b r new columns lines ok across down fills =
 
 -- the bitmap with filled rows is the bitmap with the rectangle
 pub filled-bitmap : (b : Bitmap) (r : Rectangle) (new : List (List ℕ)) (columns lines : Span) → IsBitmap b → ((x : ℕ) → x < b.width → within r.min_x (pos x) r.max_x ≡ spans columns x) → ((y : ℕ) → y < b.height → within r.min_y (pos y) r.max_y ≡ spans lines y) → FillsRows b.rows new columns lines → record b { rows = new } ≡ with_rectangle b r
-unfolding with_rectangle
+unfolding with_pixels
 filled-bitmap b r new columns lines ok across down fills = ap (λ rows. record b { rows = rows }) (filled-rows b r new columns lines ok across down fills)
 
 -- a test between bounds that were read as words

@@ -1,54 +1,63 @@
 -- The plain desk before the first call.
-use Rattle.std.proofs.Common.{◌≡◌, ℕ, ◌<◌, [], List, Option, None, replicate, ◌∙◌, sym, refl, ap, subst}
+use Rattle.std.proofs.Common.{◌≡◌, ℕ, ◌<◌, [], List, get_or, Option, None, length, replicate, ◌∙◌, sym, refl, ap, subst}
 use Rattle.std.proofs.lemmas.List.{length-replicate, get_or-replicate}
 use Rattle.std.proofs.lemmas.List.Elements.{All-nil}
 use Rattle.lw_region.specs.Rectangle.{Rectangle}
-use Rattle.lw_planes.specs.Bitmap.{Bitmap}
+use Rattle.lw_region.specs.Pixels.{pixels_of}
+use Rattle.lw_region.proofs.SetOps.{set_of_nil}
 use Rattle.lw_calls.specs.declared.sizes.Sizes.{Sizes}
 use Rattle.lw_calls.specs.Limits.{IsWithinLimits}
-use Rattle.lw_calls.specs.Desk.{empty_desk}
-use Rattle.lw_engine.specs.Plain.{Plain, bounds_at, bits_at, IsFitting, IsPlain}
+use Rattle.lw_calls.specs.Hook.{Hook}
+use Rattle.lw_calls.specs.Desk.{Supplies, empty_desk}
+use Rattle.lw_engine.specs.declared.layer.PlainLayer.{PlainLayer}
+use Rattle.lw_engine.specs.Plain.{Plain, layer_at, bounds_in, registers_at, register_at, IsFitting, IsPlain}
 use Rattle.lw_engine.specs.StandsFor.{StandsFor, slot_of}
 
 -- nothing but sizes
 abbrev pub empty : Sizes → Plain
-empty s = record { sizes = s; order = []; bounds = replicate s.slots None; slots = replicate s.slots None }
+empty s = record { sizes = s; order = []; layers = replicate s.slots None; registers = replicate s.tasks (replicate 8 []) }
 
--- no slot has bounds
-no-bounds : (s : Sizes) (k : ℕ) → k < s.slots → bounds_at (empty s) k ≡ None
-no-bounds s k low = get_or-replicate s.slots k None None low
+-- no slot has a layer
+no-layer : (s : Sizes) (k : ℕ) → k < s.slots → layer_at (empty s) k ≡ None
+no-layer s k low = get_or-replicate s.slots k None None low
 
--- no slot has bits
-no-bits : (s : Sizes) (k : ℕ) → k < s.slots → bits_at (empty s) k ≡ None
-no-bits s k low = get_or-replicate s.slots k None None low
+-- a task has empty registers
+no-registers : (s : Sizes) (t : ℕ) → t < s.tasks → registers_at (empty s) t ≡ replicate 8 []
+no-registers s t low = get_or-replicate s.tasks t (replicate 8 []) [] low
 
 -- it is a plain desk
 pub IsPlain-empty : (s : Sizes) → IsWithinLimits s → IsPlain (empty s)
 IsPlain-empty s limits = record {
   limits = limits;
-  bounds = length-replicate s.slots None;
-  slots = length-replicate s.slots None;
+  layers = length-replicate s.slots None;
   order = All-nil (λ k. k < s.slots);
   fit = λ k low.
-      let P : Option Rectangle → Type 0 = λ r. IsFitting s r (bits_at (empty s) k) in
-      let Q : Option Bitmap → Type 0 = λ b. IsFitting s None b in
-      subst P (sym (no-bounds s k low)) (subst Q (sym (no-bits s k low)) tt);
+      let P : Option PlainLayer → Type 0 = λ o. IsFitting s o in
+      subst P (sym (no-layer s k low)) tt;
+  registers = length-replicate s.tasks (replicate 8 []);
+  eight = λ t low. ap length (no-registers s t low);
 }
 
--- it stands for the desk before the first call
-pub stands-empty : (s : Sizes) → StandsFor (empty s) (empty_desk s)
-stands-empty s = record {
+-- an empty register has the empty set
+empty-set : (s : Sizes) (t r : ℕ) → t < s.tasks → r < 8 → pixels_of (register_at (empty s) t r) ≡ []
+empty-set s t r low small =
+    ap (λ regs. pixels_of (get_or regs r [])) (no-registers s t low) ∙ (ap pixels_of (get_or-replicate 8 r [] [] small) ∙ set_of_nil)
+
+-- it stands for the desk before the first call, whatever was handed in
+pub stands-empty : (s : Sizes) (supplies : Supplies) (shelf : ℕ → Option Hook) → StandsFor (empty s) (empty_desk s supplies shelf)
+stands-empty s supplies shelf = record {
   sizes = refl;
   order = refl;
-  bounds = λ k low. sym (no-bounds s k low);
-  slots = λ k low. ap slot_of (sym (no-bits s k low));
+  bounds = λ k low. ap bounds_in (sym (no-layer s k low));
+  slots = λ k low. ap slot_of (sym (no-layer s k low));
+  registers = λ t r low small. sym (empty-set s t r low small);
 }
 
 -- a plain desk by its parts
-abbrev pub plain_of : Sizes → List ℕ → List (Option Rectangle) → List (Option Bitmap) → Plain
-plain_of s order bounds slots = record { sizes = s; order = order; bounds = bounds; slots = slots }
+abbrev pub plain_of : Sizes → List ℕ → List (Option PlainLayer) → List (List (List Rectangle)) → Plain
+plain_of s order layers registers = record { sizes = s; order = order; layers = layers; registers = registers }
 
 -- a plain desk whose parts are empty
-pub parts-empty : (s : Sizes) (order : List ℕ) (bounds : List (Option Rectangle)) (slots : List (Option Bitmap)) → order ≡ [] → bounds ≡ replicate s.slots None → slots ≡ replicate s.slots None → plain_of s order bounds slots ≡ empty s
-parts-empty s order bounds slots no-order none none' =
-    ap (λ o. plain_of s o bounds slots) no-order ∙ (ap (λ b. plain_of s [] b slots) none ∙ ap (λ t. plain_of s [] (replicate s.slots None) t) none')
+pub parts-empty : (s : Sizes) (order : List ℕ) (layers : List (Option PlainLayer)) (registers : List (List (List Rectangle))) → order ≡ [] → layers ≡ replicate s.slots None → registers ≡ replicate s.tasks (replicate 8 []) → plain_of s order layers registers ≡ empty s
+parts-empty s order layers registers no-order none clear =
+    ap (λ o. plain_of s o layers registers) no-order ∙ (ap (λ l. plain_of s [] l registers) none ∙ ap (λ r. plain_of s [] (replicate s.slots None) r) clear)

@@ -2,8 +2,16 @@ pub mod RowLaws
 pub mod BitmapLaws
 pub mod PaintLaws
 pub mod StepLaws
+pub mod RevealLaws
 pub mod StandsForLaws
+pub mod CreateLaws
 pub mod PlainLaws
 pub mod PlaceLaws
 pub mod EmptyLaws
 pub mod ShownLaws
+pub mod RegisterLaws
+pub mod ClipLaws
+pub mod CallLaws
+pub mod VisibleLaws
+pub mod ScreenLaws
+pub mod FinishLaws

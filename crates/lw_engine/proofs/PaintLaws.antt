@@ -1,9 +1,11 @@
 -- How a new layer is painted.
-use Rattle.std.proofs.Common.{◌≡◌, ℕ, zero, suc, ◌<◌, ◌≤◌, ◌==◌, ◌&&◌, Bool, true, false, if◌then◌else◌, ℤ, pos, ◌∙◌, refl, ap, arith, Some, None, Option, IsTrue, nat_lt}
+use Rattle.std.proofs.Common.{◌≡◌, ℕ, zero, suc, ◌<◌, ◌≤◌, ◌==◌, ◌&&◌, Bool, true, false, if◌then◌else◌, ℤ, pos, ◌∙◌, refl, ap, List, arith, Some, None, Option, IsTrue, nat_lt}
 use Rattle.std.proofs.Common.{lt-ltb}
 use Rattle.std.specs.Int.{bit_at}
 use Rattle.std.proofs.lemmas.Bool.{false≢true}
 use Rattle.lw_region.specs.Rectangle.{Rectangle, has_pixel}
+use Rattle.lw_region.specs.Pixels.{contains_pixel, pixels_of}
+use Rattle.lw_region.proofs.Reading.{contains_pixels_of}
 use Rattle.lw_planes.specs.Bitmap.{Bitmap, bitmap, pen_at}
 use Rattle.lw_planes.proofs.GridLaws.{grid-same}
 use Rattle.lw_planes.proofs.PenLaws.{pen_of-same, pen-same}
@@ -12,12 +14,17 @@ use Rattle.lw_calls.specs.declared.make.Kind.TheVariants.{Simple, Smart, SuperBi
 use Rattle.lw_calls.specs.declared.make.Place.{Place}
 use Rattle.lw_calls.specs.declared.make.Place.TheVariants.{Front, Behind}
 use Rattle.lw_calls.specs.declared.make.Make.{Make}
+use Rattle.lw_calls.specs.Hook.{Hook}
 use Rattle.lw_calls.specs.Layer.{Layer, new_raster}
-use Rattle.lw_calls.specs.Kept.{is_kept, is_drawable}
-use Rattle.lw_calls.specs.Paint.{paint, through_mask, with_pens, filled}
-use Rattle.lw_calls.specs.Step.{new_layer, is_plain_make}
-use Rattle.lw_engine.specs.PlainBitmap.{with_rectangle}
-use Rattle.lw_engine.specs.StandsFor.{plain_layer}
+use Rattle.lw_calls.specs.Kept.{is_kept, in_clip, is_drawable}
+use Rattle.lw_calls.specs.Paint.{paint, through_mask, with_pens}
+use Rattle.lw_calls.specs.Shapes.{filled}
+use Rattle.lw_calls.specs.Arrangement.{new_layer, hook_from}
+use Rattle.lw_calls.specs.Step.{is_plain_make}
+use Rattle.lw_engine.specs.PlainBitmap.{with_pixels}
+use Rattle.lw_engine.specs.LayerCalls.{clip_has, filled_bits}
+use Rattle.lw_engine.specs.StandsFor.{clip_set, layer_of}
+use Rattle.lw_engine.specs.declared.layer.PlainLayer.{PlainLayer}
 use Rattle.lw_engine.proofs.BitmapLaws.{pen-one}
 
 -- the mask of a new layer has all eight planes
@@ -41,17 +48,31 @@ paint-new depth old some few =
     pen-same depth 1 (pen-one depth some)
 
 -- a place in a bitmap, tested
-in-size : (x y w h : ℕ) → x < w → y < h → (nat_lt x w && nat_lt y h) ≡ true
+pub in-size : (x y w h : ℕ) → x < w → y < h → (nat_lt x w && nat_lt y h) ≡ true
 in-size x y w h left low = ap (λ b. b && nat_lt y h) (lt-ltb x w left) ∙ lt-ltb y h low
 
--- a fill of a layer that is as it was created but for its bits
-pub filled-plain : (visible : ℕ → ℕ → Bool) (rect : Rectangle) (b : Bitmap) → 1 ≤ b.depth → b.depth ≤ 8 → filled visible rect (plain_layer b) ≡ plain_layer (with_rectangle b rect)
-unfolding with_pens is_kept is_drawable with_rectangle
-filled-plain visible rect b some few =
-    ap (λ rows. record (plain_layer b) { bits = record b { rows = rows } })
+-- two tests of which the second holds
+and-true : (t : Bool) → (t && true) ≡ t
+and-true true = refl
+and-true false = refl
+
+-- a pixel of a layer that isn't updating is drawable and in a rectangle, where it is in its clip region and in the
+-- rectangle
+clip-and-rectangle : (clip : Option (List Rectangle)) (rect : Rectangle) (x y : ℕ) → ((true && (in_clip (clip_set clip) x y && true)) && has_pixel rect (pos x) (pos y)) ≡ clip_has clip rect (pos x) (pos y)
+clip-and-rectangle None rect x y = refl
+clip-and-rectangle (Some rects) rect x y =
+    ap (λ t. t && has_pixel rect (pos x) (pos y)) (and-true (contains_pixel (pixels_of rects) (pos x) (pos y)) ∙ contains_pixels_of rects (pos x) (pos y))
+
+-- a fill of a layer that is as it was created but for its bits and its clip region
+pub filled-plain : (visible : ℕ → ℕ → Bool) (rect : Rectangle) (l : PlainLayer) → 1 ≤ l.bits.depth → l.bits.depth ≤ 8 → filled visible rect (layer_of l) ≡ layer_of (record l { bits = filled_bits l.clip rect l.bits })
+unfolding with_pens is_kept is_drawable with_pixels
+filled-plain visible rect l some few =
+    let b : Bitmap = l.bits in
+    ap (λ rows. record (layer_of l) { bits = record b { rows = rows } })
     (grid-same b.width b.height _ _ (λ x y left low.
-    ap (λ t. if ((t && true) && true) && has_pixel rect (pos x) (pos y) then paint b.depth new_raster true (pen_at b x y) else pen_at b x y) (in-size x y b.width b.height left low) ∙
-    ap (λ n. if has_pixel rect (pos x) (pos y) then n else pen_at b x y) (paint-new b.depth (pen_at b x y) some few)))
+    ap (λ t. if ((t && true) && (in_clip (clip_set l.clip) x y && true)) && has_pixel rect (pos x) (pos y) then paint b.depth new_raster true (pen_at b x y) else pen_at b x y) (in-size x y b.width b.height left low) ∙
+    (ap (λ t. if t then paint b.depth new_raster true (pen_at b x y) else pen_at b x y) (clip-and-rectangle l.clip rect x y) ∙
+    ap (λ n. if clip_has l.clip rect (pos x) (pos y) then n else pen_at b x y) (paint-new b.depth (pen_at b x y) some few))))
 
 -- a layer of a plain creation is smart, in front, no backdrop layer, and has no hook
 pub record IsPlainMake (k : Kind) (p : Place) (b : Bool) (o : Option ℕ) : Type 0 where
@@ -61,7 +82,7 @@ pub record IsPlainMake (k : Kind) (p : Place) (b : Bool) (o : Option ℕ) : Type
   pub hook : o ≡ None
 
 -- what a plain creation asks for
-plain-make : (kind : Kind) (place : Place) (backdrop : Bool) (hook : Option ℕ) → IsTrue (is_plain_make kind place backdrop hook) → IsPlainMake kind place backdrop hook
+pub plain-make : (kind : Kind) (place : Place) (backdrop : Bool) (hook : Option ℕ) → IsTrue (is_plain_make kind place backdrop hook) → IsPlainMake kind place backdrop hook
 plain-make Smart Front false None h = record { kind = refl; place = refl; backdrop = refl; hook = refl }
 plain-make Smart Front false (Some n) h = absurd (false≢true h)
 plain-make Smart Front true hook h = absurd (false≢true h)
@@ -69,11 +90,15 @@ plain-make Smart Behind backdrop hook h = absurd (false≢true h)
 plain-make Simple place backdrop hook h = absurd (false≢true h)
 plain-make SuperBitmap place backdrop hook h = absurd (false≢true h)
 
+-- a layer with these bounds and bits, and without a clip region
+abbrev pub fresh : Rectangle → Bitmap → PlainLayer
+fresh r b = record { bounds = r; bits = b; clip = None }
+
 -- a new layer is a plain layer with bits of pen 0
-pub new-plain : (depth w h : ℕ) (make : Make) → IsTrue (is_plain_make make.kind make.place make.backdrop make.hook) → make.w ≡ pos w → make.h ≡ pos h → new_layer depth make ≡ plain_layer (bitmap w h depth (λ x y. 0))
-new-plain depth w h make plain wide high =
+pub new-plain : (shelf : ℕ → Option Hook) (depth w h : ℕ) (make : Make) (r : Rectangle) → IsTrue (is_plain_make make.kind make.place make.backdrop make.hook) → make.w ≡ pos w → make.h ≡ pos h → new_layer depth make (hook_from shelf make.hook) None ≡ layer_of (fresh r (bitmap w h depth (λ x y. 0)))
+new-plain shelf depth w h make r plain wide high =
     let is = plain-make make.kind make.place make.backdrop make.hook plain in
-    let build : Kind → Place → Bool → Option ℕ → ℤ → ℤ → Layer = λ k p b o m n. new_layer depth (record make { kind = k; place = p; backdrop = b; hook = o; w = m; h = n }) in
+    let build : Kind → Place → Bool → Option ℕ → ℤ → ℤ → Layer = λ k p b o m n. new_layer depth (record make { kind = k; place = p; backdrop = b; hook = o; w = m; h = n }) (hook_from shelf o) None in
     ap (λ k. build k make.place make.backdrop make.hook make.w make.h) is.kind ∙
     (ap (λ p. build Smart p make.backdrop make.hook make.w make.h) is.place ∙
     (ap (λ b. build Smart Front b make.hook make.w make.h) is.backdrop ∙

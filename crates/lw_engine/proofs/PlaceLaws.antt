@@ -10,9 +10,11 @@ use Rattle.lw_calls.specs.declared.sizes.Sizes.{Sizes}
 use Rattle.lw_calls.specs.declared.make.Make.{Make}
 use Rattle.lw_calls.specs.Limits.{make_fits, is_coordinate, hook_fits, kind_fits}
 use Rattle.lw_calls.specs.Screen.{distance, bounds_have}
-use Rattle.lw_calls.specs.Step.{is_on_screen, bounds_of}
+use Rattle.lw_calls.specs.Arrangement.{is_on_screen, bounds_of}
 use Rattle.lw_engine.specs.Place.{IsInRange}
-use Rattle.lw_engine.specs.Plain.{Plain, bounds_at, bits_at, FitsBounds, IsFitting, IsPlain}
+use Rattle.lw_engine.specs.declared.layer.PlainLayer.{PlainLayer}
+use Rattle.lw_engine.specs.Plain.{Plain, layer_at, bounds_in, bounds_at, FitsBounds, IsFitting, IsPlain}
+use Rattle.lw_engine.proofs.BitmapLaws.{IsBitmap-blank}
 
 -- a number that passes the test of a range lies in it
 within-true : (low high z : ℤ) → within low z high ≡ true → (low ≤ℤ z) × (z ≤ℤ high)
@@ -138,13 +140,14 @@ past-last : (from count : ℤ) (n : ℕ) → pos n ≡ count → (((from +ℤ co
 past-last from count n is = rw is (omega (arith, ints))
 
 -- the bounds and the bits of a new layer fit
-pub fits-created : (s : Sizes) (m : Make) (w h : ℕ) → IsInRange m → IsTrue (is_on_screen s (bounds_of m)) → unsigned_abs m.w ≡ w → unsigned_abs m.h ≡ h → FitsBounds s (bounds_of m) (bitmap w h s.depth (λ x y. 0))
-fits-created s m w h range on wide high = record {
+pub fits-created : (s : Sizes) (m : Make) (w h : ℕ) → 1 ≤ s.depth → IsInRange m → IsTrue (is_on_screen s (bounds_of m)) → unsigned_abs m.w ≡ w → unsigned_abs m.h ≡ h → FitsBounds s (bounds_of m) (bitmap w h s.depth (λ x y. 0))
+fits-created s m w h some range on wide high = record {
   on_screen = on;
   ordered = ordered-bounds m range;
   columns = past-last m.x m.w w (ap (λ n. pos n) (sym wide) ∙ pos-abs m.w range.w_low);
   lines = past-last m.y m.h h (ap (λ n. pos n) (sym high) ∙ pos-abs m.h range.h_low);
   planes = refl;
+  bitmap = IsBitmap-blank w h s.depth some;
 }
 
 -- a number that isn't negative is its absolute value
@@ -196,19 +199,18 @@ row-lies-in s r b x y fits have =
     let places = and_parts (within r.min_x (pos x) r.max_x) (within r.min_y (pos y) r.max_y) have in
     lies-in r.min_y r.max_y y b.height s.height tests.1 places.1 fits.lines
 
--- bounds and bits that a slot has fit
-fits-at : (p : Plain) (slot : ℕ) (r : Rectangle) (b : Bitmap) → IsPlain p → slot < p.sizes.slots → bounds_at p slot ≡ Some r → bits_at p slot ≡ Some b → FitsBounds p.sizes r b
-fits-at p slot r b ok low has bits =
-    let P : Option Rectangle → Type 0 = λ q. IsFitting p.sizes q (bits_at p slot) in
-    let Q : Option Bitmap → Type 0 = λ o. IsFitting p.sizes (Some r) o in
-    subst Q bits (subst P has (ok.fit slot low))
+-- the bounds and the bits of a slot's layer fit
+pub fits-at : (p : Plain) (slot : ℕ) (l : PlainLayer) → IsPlain p → slot < p.sizes.slots → layer_at p slot ≡ Some l → FitsBounds p.sizes l.bounds l.bits
+fits-at p slot l ok low has =
+    let P : Option PlainLayer → Type 0 = λ o. IsFitting p.sizes o in
+    subst P has (ok.fit slot low)
 
 -- the column of a place that a slot's bounds have
-pub column-at : (p : Plain) (slot : ℕ) (r : Rectangle) (b : Bitmap) (x y : ℕ) → IsPlain p → slot < p.sizes.slots → bounds_at p slot ≡ Some r → bits_at p slot ≡ Some b → IsTrue (bounds_have (bounds_at p slot) (pos x) (pos y)) → LiesIn r.min_x x b.width
-column-at p slot r b x y ok low has bits here =
-    column-lies-in p.sizes r b x y (fits-at p slot r b ok low has bits) (sym (ap (λ q. bounds_have q (pos x) (pos y)) has) ∙ here)
+pub column-at : (p : Plain) (slot : ℕ) (l : PlainLayer) (x y : ℕ) → IsPlain p → slot < p.sizes.slots → layer_at p slot ≡ Some l → IsTrue (bounds_have (bounds_at p slot) (pos x) (pos y)) → LiesIn l.bounds.min_x x l.bits.width
+column-at p slot l x y ok low has here =
+    column-lies-in p.sizes l.bounds l.bits x y (fits-at p slot l ok low has) (sym (ap (λ o. bounds_have (bounds_in o) (pos x) (pos y)) has) ∙ here)
 
 -- the row of a place that a slot's bounds have
-pub row-at : (p : Plain) (slot : ℕ) (r : Rectangle) (b : Bitmap) (x y : ℕ) → IsPlain p → slot < p.sizes.slots → bounds_at p slot ≡ Some r → bits_at p slot ≡ Some b → IsTrue (bounds_have (bounds_at p slot) (pos x) (pos y)) → LiesIn r.min_y y b.height
-row-at p slot r b x y ok low has bits here =
-    row-lies-in p.sizes r b x y (fits-at p slot r b ok low has bits) (sym (ap (λ q. bounds_have q (pos x) (pos y)) has) ∙ here)
+pub row-at : (p : Plain) (slot : ℕ) (l : PlainLayer) (x y : ℕ) → IsPlain p → slot < p.sizes.slots → layer_at p slot ≡ Some l → IsTrue (bounds_have (bounds_at p slot) (pos x) (pos y)) → LiesIn l.bounds.min_y y l.bits.height
+row-at p slot l x y ok low has here =
+    row-lies-in p.sizes l.bounds l.bits x y (fits-at p slot l ok low has) (sym (ap (λ o. bounds_have (bounds_in o) (pos x) (pos y)) has) ∙ here)

@@ -1,23 +1,22 @@
--- Which desks a plain desk stands for after a call.
-use Rattle.std.proofs.Common.{◌≡◌, ◌≢◌, ℕ, ◌<◌, ◌≤◌, Bool, true, false, not, if◌then◌else◌, List, ◌∷◌, length, get_or, set, Option, Some, None, is_some, ◌∙◌, sym, refl, ap, subst, ⊎_elim, arith}
-use Rattle.std.proofs.lemmas.Bool.{cases_eq, eq-eqb, ne_eqb}
+-- Which desks a plain desk stands for, and which after a call on a layer.
+use Rattle.std.proofs.Common.{◌≡◌, ◌≢◌, ℕ, ◌<◌, not, if◌then◌else◌, List, length, get_or, set, Option, Some, None, is_some, IsTrue, ◌∙◌, sym, refl, ap, subst, ⊎_elim, arith}
+use Rattle.std.proofs.lemmas.Bool.{cases_eq, eq-eqb, ne_eqb, false≢true}
 use Rattle.std.proofs.lemmas.List.{get_or-set_same, get_or-set_other, set-get_or}
 use Rattle.lw_region.specs.Rectangle.{Rectangle}
-use Rattle.lw_planes.specs.Bitmap.{Bitmap}
-use Rattle.lw_calls.specs.declared.sizes.Sizes.{Sizes}
-use Rattle.lw_calls.specs.declared.make.Make.{Make}
-use Rattle.lw_calls.specs.declared.call.Call.TheVariants.{Create, Fill}
-use Rattle.lw_calls.specs.declared.reply.Reply.TheVariants.{Done, AlreadyOpen, OutOfBounds}
-use Rattle.lw_calls.specs.Layer.{Live, is_unopened, is_live, change_layer}
+use Rattle.lw_region.specs.Pixels.{Pixel}
+use Rattle.lw_calls.specs.declared.call.Call.TheVariants.{Fill, Clip, Unclip}
+use Rattle.lw_calls.specs.declared.reply.Reply.TheVariants.{Done, NotOpen, InUpdate}
+use Rattle.lw_calls.specs.Layer.{Layer, Live, is_unopened, layer_is, change_layer}
 use Rattle.lw_calls.specs.Desk.{Desk, with_value}
 use Rattle.lw_calls.specs.Kept.{is_visible}
-use Rattle.lw_calls.specs.Paint.{filled}
-use Rattle.lw_calls.specs.Step.{is_on_screen, bounds_of, new_layer, created, effect, reply, after}
-use Rattle.lw_engine.specs.Plain.{Plain, bounds_at, bits_at, IsFitting, IsPlain}
-use Rattle.lw_engine.specs.StandsFor.{StandsFor, slot_of, plain_layer}
-use Rattle.lw_engine.specs.Filled.{filled_slot, fill_reply}
+use Rattle.lw_calls.specs.Shapes.{filled}
+use Rattle.lw_calls.specs.Step.{refuse, unless_open, unless_refused, reply_or, on_layer, from_layer, clip_answer, reply, after}
+use Rattle.lw_calls.specs.Laws.{is_refusing}
+use Rattle.lw_engine.specs.declared.layer.PlainLayer.{PlainLayer}
+use Rattle.lw_engine.specs.Plain.{Plain, layer_at, bounds_in, bounds_at, register_at, IsFitting, IsPlain}
+use Rattle.lw_engine.specs.StandsFor.{StandsFor, clip_set, layer_of, slot_of}
+use Rattle.lw_engine.specs.LayerCalls.{filled_slot, fill_reply, clipped_slot, clip_reply, with_slot}
 use Rattle.lw_engine.proofs.PaintLaws.{filled-plain}
-use Rattle.lw_engine.proofs.StepLaws.{reply-create, after-create, reply-fill, after-fill}
 
 -- a function with a value at n, and a list with a value at n, that agree elsewhere
 pub with-set : {A B : Type 0} (g : B → A) (n k : ℕ) (v : A) (f : ℕ → A) (xs : List B) (x d : B) → n < length xs → v ≡ g x → f k ≡ g (get_or xs k d) → with_value n v f k ≡ g (get_or (set xs n x) k d)
@@ -30,115 +29,167 @@ with-set g n k v f xs x d low here there =
     ap (λ t. if t then v else f k) (ne_eqb k n other) ∙ (there ∙ ap g (sym (get_or-set_other xs n k x d other))))
     (cases_eq k n)
 
--- a slot was never opened where it has no bits
-unopened-slot_of : (o : Option Bitmap) → is_unopened (slot_of o) ≡ not (is_some o)
+-- a function, and a list with a value at n, that agree everywhere
+kept-set : {A B : Type 0} (g : B → A) (n k : ℕ) (f : ℕ → A) (xs : List B) (x d : B) → n < length xs → f n ≡ g x → f k ≡ g (get_or xs k d) → f k ≡ g (get_or (set xs n x) k d)
+kept-set g n k f xs x d low here there =
+    ⊎_elim
+    (λ (same : k ≡ n). ap f same ∙ (here ∙ ap g (sym (get_or-set_same xs n x d low) ∙ ap (λ j. get_or (set xs n x) j d) (sym same))))
+    (λ (other : k ≢ n). there ∙ ap g (sym (get_or-set_other xs n k x d other)))
+    (cases_eq k n)
+
+-- a slot was never opened where it has no layer
+unopened-slot_of : (o : Option PlainLayer) → is_unopened (slot_of o) ≡ not (is_some o)
 unopened-slot_of None = refl
-unopened-slot_of (Some b) = refl
+unopened-slot_of (Some l) = refl
 
--- a slot is live where it has bits
-live-slot_of : (o : Option Bitmap) → is_live (slot_of o) ≡ is_some o
-live-slot_of None = refl
-live-slot_of (Some b) = refl
+-- the desk's slot was never opened where the plain desk's has no layer
+pub unopened-stands : (p : Plain) (d : Desk) (s : ℕ) → s < p.sizes.slots → StandsFor p d → is_unopened (d.slot s) ≡ not (is_some (layer_at p s))
+unopened-stands p d s low stands = ap is_unopened (stands.slots s low) ∙ unopened-slot_of (layer_at p s)
 
--- the desk's slot was never opened where the plain desk's has no bits
-pub unopened-stands : (p : Plain) (d : Desk) (s : ℕ) → s < p.sizes.slots → StandsFor p d → is_unopened (d.slot s) ≡ not (is_some (bits_at p s))
-unopened-stands p d s low stands = ap is_unopened (stands.slots s low) ∙ unopened-slot_of (bits_at p s)
-
--- the desk's slot is live where the plain desk's has bits
-pub live-stands : (p : Plain) (d : Desk) (s : ℕ) → s < p.sizes.slots → StandsFor p d → is_live (d.slot s) ≡ is_some (bits_at p s)
-live-stands p d s low stands = ap is_live (stands.slots s low) ∙ live-slot_of (bits_at p s)
-
--- the plain desk with a new layer stands for the desk with it
-pub stands-created : (p : Plain) (d : Desk) (slot : ℕ) (make : Make) (r : Rectangle) (b : Bitmap) → slot < length p.bounds → slot < length p.slots → bounds_of make ≡ r → new_layer d.sizes.depth make ≡ plain_layer b → StandsFor p d → StandsFor (record { sizes = p.sizes; order = slot ∷ p.order; bounds = set p.bounds slot (Some r); slots = set p.slots slot (Some b) }) (created d slot make)
-stands-created p d slot make r b low low' bounds layer stands = record {
-  sizes = stands.sizes;
-  order = ap (λ o. slot ∷ o) stands.order;
-  bounds = λ s h. with-set (λ o. o) slot s (Some (bounds_of make)) d.bounds p.bounds (Some r) None low (ap (λ q. Some q) bounds) (stands.bounds s h);
-  slots = λ s h. with-set slot_of slot s (Live (new_layer d.sizes.depth make)) d.slot p.slots (Some b) None low' (ap (λ l. Live l) layer) (stands.slots s h);
-}
-
--- a layer's bits have the screen's depth
-fitting-depth : (s : Sizes) (r : Option Rectangle) (b : Bitmap) → IsFitting s r (Some b) → b.depth ≡ s.depth
-fitting-depth s None b fit = absurd fit
-fitting-depth s (Some r) b fit = fit.planes
-
--- a fill of a slot, by what it has
-stands-filled-by : (p : Plain) (d : Desk) (task slot : ℕ) (rect : Rectangle) (o : Option Bitmap) → slot < p.sizes.slots → slot < length p.slots → 1 ≤ p.sizes.depth → p.sizes.depth ≤ 8 → IsFitting p.sizes (bounds_at p slot) o → bits_at p slot ≡ o → StandsFor p d → StandsFor (record p { slots = set p.slots slot (filled_slot rect o) }) (after d task (Fill slot rect))
-stands-filled-by p d task slot rect None low low' some few fit is stands =
-    let kept : set p.slots slot None ≡ p.slots = ap (λ o. set p.slots slot o) (sym is) ∙ set-get_or p.slots slot None in
-    let same : after d task (Fill slot rect) ≡ d = after-fill d task slot rect false (live-stands p d slot low stands ∙ ap is_some is) in
-    let P : List (Option Bitmap) → Type 0 = λ slots. StandsFor (record p { slots = slots }) d in
-    let Q : Desk → Type 0 = λ e. StandsFor (record p { slots = set p.slots slot None }) e in
-    subst Q (sym same) (subst P (sym kept) stands)
-stands-filled-by p d task slot rect (Some b) low low' some few fit is stands =
-    let depth = fitting-depth p.sizes (bounds_at p slot) b fit in
-    let e : Desk = effect d task (Fill slot rect) in
-    let same : after d task (Fill slot rect) ≡ e = after-fill d task slot rect true (live-stands p d slot low stands ∙ ap is_some is) in
-    let layer : change_layer (λ l. filled (is_visible d slot l) rect l) (d.slot slot) ≡ slot_of (filled_slot rect (Some b)) =
-    ap (λ s. change_layer (λ l. filled (is_visible d slot l) rect l) s) (stands.slots slot low ∙ ap slot_of is) ∙ ap (λ l. Live l) (filled-plain (is_visible d slot (plain_layer b)) rect b (omega arith) (omega arith)) in
-    let Q : Desk → Type 0 = λ e. StandsFor (record p { slots = set p.slots slot (filled_slot rect (Some b)) }) e in
-    subst Q (sym same) (record {
+-- a plain desk with another slot stands for the desk whose layer there was changed so
+pub stands-with_slot : (p : Plain) (d : Desk) (slot : ℕ) (o : Option PlainLayer) (change : Layer → Layer) → slot < p.sizes.slots → IsPlain p → bounds_in o ≡ bounds_at p slot → change_layer change (slot_of (layer_at p slot)) ≡ slot_of o → StandsFor p d → StandsFor (with_slot p slot o) (on_layer d slot change)
+stands-with_slot p d slot o change low ok bounds changed stands =
+    let long : slot < length p.layers = omega (arith, ok.layers) in
+    record {
       sizes = stands.sizes;
       order = stands.order;
-      bounds = stands.bounds;
-      slots = λ s h. with-set slot_of slot s (change_layer (λ l. filled (is_visible d slot l) rect l) (d.slot slot)) d.slot p.slots (filled_slot rect (Some b)) None low' layer (stands.slots s h);
-    })
+      bounds = λ s h. kept-set bounds_in slot s d.bounds p.layers o None long (stands.bounds slot low ∙ sym bounds) (stands.bounds s h);
+      slots = λ s h. with-set slot_of slot s (change_layer change (d.slot slot)) d.slot p.layers o None long (ap (change_layer change) (stands.slots slot low) ∙ changed) (stands.slots s h);
+      registers = stands.registers;
+    }
+
+-- a call on a slot's layer that is refused where there is none, by what the slot has
+stands-changed-by : (p : Plain) (d e : Desk) (slot : ℕ) (o new : Option PlainLayer) (change : Layer → Layer) → slot < p.sizes.slots → IsPlain p → layer_at p slot ≡ o → e ≡ unless_refused (refuse (not (is_some o)) NotOpen None) d (on_layer d slot change) → bounds_in new ≡ bounds_in o → change_layer change (slot_of o) ≡ slot_of new → StandsFor p d → StandsFor (with_slot p slot new) e
+stands-changed-by p d e slot None None change low ok is does bounds changed stands =
+    let kept : set p.layers slot None ≡ p.layers = ap (λ o. set p.layers slot o) (sym is) ∙ set-get_or p.layers slot None in
+    let P : List (Option PlainLayer) → Type 0 = λ layers. StandsFor (record p { layers = layers }) d in
+    let Q : Desk → Type 0 = λ f. StandsFor (with_slot p slot None) f in
+    subst Q (sym does) (subst P (sym kept) stands)
+stands-changed-by p d e slot None (Some m) change low ok is does bounds changed stands = absurd (cc)
+stands-changed-by p d e slot (Some l) new change low ok is does bounds changed stands =
+    let Q : Desk → Type 0 = λ f. StandsFor (with_slot p slot new) f in
+    subst Q (sym does)
+    (stands-with_slot p d slot new change low ok (bounds ∙ sym (ap bounds_in is)) (ap (λ o. change_layer change (slot_of o)) is ∙ changed) stands)
+
+-- the refusal of a call on a slot, by what it has
+open-slot_of : (o : Option PlainLayer) → unless_open (slot_of o) None ≡ refuse (not (is_some o)) NotOpen None
+open-slot_of None = refl
+open-slot_of (Some l) = refl
+
+-- no layer is updating
+updating-slot_of : (o : Option PlainLayer) → unless_open (slot_of o) (refuse (layer_is (λ l. l.updating) (slot_of o)) InUpdate None) ≡ refuse (not (is_some o)) NotOpen None
+updating-slot_of None = refl
+updating-slot_of (Some l) = refl
+
+-- a layer's bits have the screen's depth
+fitting-depth : (p : Plain) (slot : ℕ) (l : PlainLayer) → slot < p.sizes.slots → IsPlain p → layer_at p slot ≡ Some l → l.bits.depth ≡ p.sizes.depth
+fitting-depth p slot l low ok is =
+    let P : Option PlainLayer → Type 0 = λ o. IsFitting p.sizes o in
+    let fit = subst P is (ok.fit slot low) in
+    fit.planes
+
+-- the bounds of a filled slot
+filled-bounds : (rect : Rectangle) (o : Option PlainLayer) → bounds_in (filled_slot rect o) ≡ bounds_in o
+filled-bounds rect None = refl
+filled-bounds rect (Some l) = refl
+
+-- the slot of the desk that is filled, by what the plain desk's slot has
+filled-slot_of : (p : Plain) (d : Desk) (slot : ℕ) (rect : Rectangle) (o : Option PlainLayer) → slot < p.sizes.slots → IsPlain p → layer_at p slot ≡ o → change_layer (λ l. filled (is_visible d slot l) rect l) (slot_of o) ≡ slot_of (filled_slot rect o)
+filled-slot_of p d slot rect None low ok is = refl
+filled-slot_of p d slot rect (Some l) low ok is =
+    let depth = fitting-depth p slot l low ok is in
+    ap (λ m. Live m) (filled-plain (is_visible d slot (layer_of l)) rect l (omega (arith, depth, ok.limits.some_planes)) (omega (arith, depth, ok.limits.planes)))
 
 -- the plain desk with a slot filled stands for the desk after the fill
-pub stands-filled : (p : Plain) (d : Desk) (task slot : ℕ) (rect : Rectangle) → slot < p.sizes.slots → slot < length p.slots → 1 ≤ p.sizes.depth → p.sizes.depth ≤ 8 → IsFitting p.sizes (bounds_at p slot) (bits_at p slot) → StandsFor p d → StandsFor (record p { slots = set p.slots slot (filled_slot rect (bits_at p slot)) }) (after d task (Fill slot rect))
-stands-filled p d task slot rect low low' some few fit stands = stands-filled-by p d task slot rect (bits_at p slot) low low' some few fit refl stands
+pub stands-filled : (p : Plain) (d : Desk) (task slot : ℕ) (rect : Rectangle) → slot < p.sizes.slots → IsPlain p → StandsFor p d → StandsFor (with_slot p slot (filled_slot rect (layer_at p slot))) (after d task (Fill slot rect))
+unfolding after
+stands-filled p d task slot rect low ok stands =
+    let o : Option PlainLayer = layer_at p slot in
+    let change : Layer → Layer = λ l. filled (is_visible d slot l) rect l in
+    let does : after d task (Fill slot rect) ≡ unless_refused (refuse (not (is_some o)) NotOpen None) d (on_layer d slot change) = ap (λ s. unless_refused (unless_open s None) d (on_layer d slot change)) (stands.slots slot low) ∙ ap (λ r. unless_refused r d (on_layer d slot change)) (open-slot_of o) in
+    stands-changed-by p d (after d task (Fill slot rect)) slot o (filled_slot rect o) change low ok refl does (filled-bounds rect o) (filled-slot_of p d slot rect o low ok refl) stands
 
 -- what a fill answers, by what the slot has
-fill-reply-by : (p : Plain) (d : Desk) (task slot : ℕ) (rect : Rectangle) (o : Option Bitmap) → slot < p.sizes.slots → bits_at p slot ≡ o → StandsFor p d → fill_reply o ≡ reply d task (Fill slot rect)
-fill-reply-by p d task slot rect None low is stands = sym (reply-fill d task slot rect false (live-stands p d slot low stands ∙ ap is_some is))
-fill-reply-by p d task slot rect (Some b) low is stands = sym (reply-fill d task slot rect true (live-stands p d slot low stands ∙ ap is_some is))
+fill-reply-by : (o : Option PlainLayer) → reply_or (unless_open (slot_of o) None) Done ≡ fill_reply o
+fill-reply-by None = refl
+fill-reply-by (Some l) = refl
 
 -- a fill answers what the desk's does
-pub fill-reply : (p : Plain) (d : Desk) (task slot : ℕ) (rect : Rectangle) → slot < p.sizes.slots → StandsFor p d → fill_reply (bits_at p slot) ≡ reply d task (Fill slot rect)
-fill-reply p d task slot rect low stands = fill-reply-by p d task slot rect (bits_at p slot) low refl stands
+pub fill-reply : (p : Plain) (d : Desk) (task slot : ℕ) (rect : Rectangle) → slot < p.sizes.slots → StandsFor p d → fill_reply (layer_at p slot) ≡ reply d task (Fill slot rect)
+unfolding reply
+fill-reply p d task slot rect low stands =
+    sym (ap (λ s. reply_or (unless_open s None) Done) (stands.slots slot low) ∙ fill-reply-by (layer_at p slot))
+
+-- the bounds of a slot with another clip region
+clipped-bounds : (clip : Option (List Rectangle)) (o : Option PlainLayer) → bounds_in (clipped_slot clip o) ≡ bounds_in o
+clipped-bounds clip None = refl
+clipped-bounds clip (Some l) = refl
+
+-- the slot of the desk that gets a clip region, by what the plain desk's slot has
+clipped-slot_of : (set' : Option (List Pixel)) (clip : Option (List Rectangle)) (o : Option PlainLayer) → set' ≡ clip_set clip → change_layer (λ l. record l { clip = set' }) (slot_of o) ≡ slot_of (clipped_slot clip o)
+clipped-slot_of set' clip None same = refl
+clipped-slot_of set' clip (Some l) same = ap (λ c. Live (record (layer_of l) { clip = c })) same
+
+-- the plain desk with a clip region in a slot stands for the desk after that was installed
+pub stands-clipped : (p : Plain) (d : Desk) (task slot reg : ℕ) → task < p.sizes.tasks → slot < p.sizes.slots → reg < 8 → IsPlain p → StandsFor p d → StandsFor (with_slot p slot (clipped_slot (Some (register_at p task reg)) (layer_at p slot))) (after d task (Clip slot reg))
+unfolding after
+stands-clipped p d task slot reg here low small ok stands =
+    let o : Option PlainLayer = layer_at p slot in
+    let clip : Option (List Rectangle) = Some (register_at p task reg) in
+    let change : Layer → Layer = λ l. record l { clip = Some (d.registers task reg) } in
+    let does : after d task (Clip slot reg) ≡ unless_refused (refuse (not (is_some o)) NotOpen None) d (on_layer d slot change) = ap (λ s. unless_refused (unless_open s (refuse (layer_is (λ l. l.updating) s) InUpdate None)) d (on_layer d slot change)) (stands.slots slot low) ∙ ap (λ r. unless_refused r d (on_layer d slot change)) (updating-slot_of o) in
+    stands-changed-by p d (after d task (Clip slot reg)) slot o (clipped_slot clip o) change low ok refl does (clipped-bounds clip o) (clipped-slot_of (Some (d.registers task reg)) clip o (ap (λ q. Some q) (stands.registers task reg here small))) stands
+
+-- the plain desk without a clip region in a slot stands for the desk after that was taken away
+pub stands-unclipped : (p : Plain) (d : Desk) (task slot : ℕ) → slot < p.sizes.slots → IsPlain p → StandsFor p d → StandsFor (with_slot p slot (clipped_slot None (layer_at p slot))) (after d task (Unclip slot))
+unfolding after
+stands-unclipped p d task slot low ok stands =
+    let o : Option PlainLayer = layer_at p slot in
+    let change : Layer → Layer = λ l. record l { clip = None } in
+    let does : after d task (Unclip slot) ≡ unless_refused (refuse (not (is_some o)) NotOpen None) d (on_layer d slot change) = ap (λ s. unless_refused (unless_open s (refuse (layer_is (λ l. l.updating) s) InUpdate None)) d (on_layer d slot change)) (stands.slots slot low) ∙ ap (λ r. unless_refused r d (on_layer d slot change)) (updating-slot_of o) in
+    stands-changed-by p d (after d task (Unclip slot)) slot o (clipped_slot None o) change low ok refl does (clipped-bounds None o) (clipped-slot_of None None o refl) stands
+
+-- what a call on a clip region answers, by what the slot has
+clip-reply-by : (o : Option PlainLayer) → reply_or (unless_open (slot_of o) (refuse (layer_is (λ l. l.updating) (slot_of o)) InUpdate None)) (from_layer (λ l. clip_answer l.clip) (slot_of o)) ≡ clip_reply o
+clip-reply-by None = refl
+clip-reply-by (Some l) = refl
+
+-- an installation of a clip region answers what the desk's does
+pub clip-reply : (p : Plain) (d : Desk) (task slot reg : ℕ) → slot < p.sizes.slots → StandsFor p d → clip_reply (layer_at p slot) ≡ reply d task (Clip slot reg)
+unfolding reply
+clip-reply p d task slot reg low stands =
+    sym (ap (λ s. reply_or (unless_open s (refuse (layer_is (λ l. l.updating) s) InUpdate None)) (from_layer (λ l. clip_answer l.clip) s)) (stands.slots slot low) ∙ clip-reply-by (layer_at p slot))
+
+-- and so does its removal
+pub unclip-reply : (p : Plain) (d : Desk) (task slot : ℕ) → slot < p.sizes.slots → StandsFor p d → clip_reply (layer_at p slot) ≡ reply d task (Unclip slot)
+unfolding reply
+unclip-reply p d task slot low stands =
+    sym (ap (λ s. reply_or (unless_open s (refuse (layer_is (λ l. l.updating) s) InUpdate None)) (from_layer (λ l. clip_answer l.clip) s)) (stands.slots slot low) ∙ clip-reply-by (layer_at p slot))
+
+-- a slot that is as it was
+same-slot : (p : Plain) (slot : ℕ) → layer_at p slot ≡ None → with_slot p slot None ≡ p
+same-slot p slot is =
+    ap (λ layers. record p { layers = layers }) (ap (λ o. set p.layers slot o) (sym is) ∙ set-get_or p.layers slot None)
 
 -- a fill that is refused changes nothing, by what the slot has
-fill-refused-by : (p : Plain) (slot : ℕ) (rect : Rectangle) (o : Option Bitmap) → bits_at p slot ≡ o → fill_reply o ≢ Done → set p.slots slot (filled_slot rect o) ≡ p.slots
-fill-refused-by p slot rect None is refused = ap (λ o. set p.slots slot o) (sym is) ∙ set-get_or p.slots slot None
-fill-refused-by p slot rect (Some b) is refused = absurd (refused refl)
+fill-refused-by : (p : Plain) (slot : ℕ) (rect : Rectangle) (o : Option PlainLayer) → layer_at p slot ≡ o → IsTrue (is_refusing (fill_reply o)) → with_slot p slot (filled_slot rect o) ≡ p
+fill-refused-by p slot rect None is refused = same-slot p slot is
+fill-refused-by p slot rect (Some l) is refused = absurd (false≢true refused)
 
 -- a fill that is refused changes nothing
-pub fill-refused : (p : Plain) (slot : ℕ) (rect : Rectangle) → fill_reply (bits_at p slot) ≢ Done → record p { slots = set p.slots slot (filled_slot rect (bits_at p slot)) } ≡ p
-fill-refused p slot rect refused = ap (λ slots. record p { slots = slots }) (fill-refused-by p slot rect (bits_at p slot) refl refused)
+pub fill-refused : (p : Plain) (slot : ℕ) (rect : Rectangle) → IsTrue (is_refusing (fill_reply (layer_at p slot))) → with_slot p slot (filled_slot rect (layer_at p slot)) ≡ p
+fill-refused p slot rect refused = fill-refused-by p slot rect (layer_at p slot) refl refused
 
--- whether a layer would be on the screen is the same for both
-on-stands : (p : Plain) (d : Desk) (make : Make) (o : Bool) → is_on_screen p.sizes (bounds_of make) ≡ o → StandsFor p d → is_on_screen d.sizes (bounds_of make) ≡ o
-on-stands p d make o on stands = ap (λ s. is_on_screen s (bounds_of make)) stands.sizes ∙ on
+-- an answer that gives a clip region refuses nothing
+answer-refuses-none : (set' : Option (List Pixel)) → IsTrue (is_refusing (clip_answer set')) → ⊥
+answer-refuses-none None refused = false≢true refused
+answer-refuses-none (Some s) refused = false≢true refused
 
--- a creation in an opened slot answers so
-pub open-reply : (p : Plain) (d : Desk) (task slot : ℕ) (make : Make) → slot < p.sizes.slots → is_some (bits_at p slot) ≡ true → StandsFor p d → AlreadyOpen ≡ reply d task (Create slot make)
-open-reply p d task slot make low is stands = sym (reply-create d task slot make false _ (unopened-stands p d slot low stands ∙ ap not is) refl)
+-- a call on a clip region that is refused changes nothing, by what the slot has
+clip-refused-by : (p : Plain) (slot : ℕ) (clip : Option (List Rectangle)) (o : Option PlainLayer) → layer_at p slot ≡ o → IsTrue (is_refusing (clip_reply o)) → with_slot p slot (clipped_slot clip o) ≡ p
+clip-refused-by p slot clip None is refused = same-slot p slot is
+clip-refused-by p slot clip (Some l) is refused = absurd (answer-refuses-none (clip_set l.clip) refused)
 
--- a creation in an opened slot changes nothing
-pub open-stands : (p : Plain) (d : Desk) (task slot : ℕ) (make : Make) → slot < p.sizes.slots → is_some (bits_at p slot) ≡ true → StandsFor p d → StandsFor p (after d task (Create slot make))
-open-stands p d task slot make low is stands =
-    let same : after d task (Create slot make) ≡ d = after-create d task slot make false _ (unopened-stands p d slot low stands ∙ ap not is) refl in
-    let P : Desk → Type 0 = λ e. StandsFor p e in
-    subst P (sym same) stands
-
--- a creation off the screen answers so
-pub outside-reply : (p : Plain) (d : Desk) (task slot : ℕ) (make : Make) → slot < p.sizes.slots → is_some (bits_at p slot) ≡ false → is_on_screen p.sizes (bounds_of make) ≡ false → StandsFor p d → OutOfBounds ≡ reply d task (Create slot make)
-outside-reply p d task slot make low is off stands = sym (reply-create d task slot make true false (unopened-stands p d slot low stands ∙ ap not is) (on-stands p d make false off stands))
-
--- a creation off the screen changes nothing
-pub outside-stands : (p : Plain) (d : Desk) (task slot : ℕ) (make : Make) → slot < p.sizes.slots → is_some (bits_at p slot) ≡ false → is_on_screen p.sizes (bounds_of make) ≡ false → StandsFor p d → StandsFor p (after d task (Create slot make))
-outside-stands p d task slot make low is off stands =
-    let same : after d task (Create slot make) ≡ d = after-create d task slot make true false (unopened-stands p d slot low stands ∙ ap not is) (on-stands p d make false off stands) in
-    let P : Desk → Type 0 = λ e. StandsFor p e in
-    subst P (sym same) stands
-
--- a creation that isn't refused answers that it was done
-pub created-reply : (p : Plain) (d : Desk) (task slot : ℕ) (make : Make) → slot < p.sizes.slots → is_some (bits_at p slot) ≡ false → is_on_screen p.sizes (bounds_of make) ≡ true → StandsFor p d → Done ≡ reply d task (Create slot make)
-created-reply p d task slot make low is on stands = sym (reply-create d task slot make true true (unopened-stands p d slot low stands ∙ ap not is) (on-stands p d make true on stands))
-
--- the plain desk with the new layer stands for the desk after the creation
-pub created-stands : (p : Plain) (d : Desk) (task slot : ℕ) (make : Make) (r : Rectangle) (b : Bitmap) → IsPlain p → slot < p.sizes.slots → is_some (bits_at p slot) ≡ false → is_on_screen p.sizes (bounds_of make) ≡ true → bounds_of make ≡ r → new_layer p.sizes.depth make ≡ plain_layer b → StandsFor p d → StandsFor (record { sizes = p.sizes; order = slot ∷ p.order; bounds = set p.bounds slot (Some r); slots = set p.slots slot (Some b) }) (after d task (Create slot make))
-created-stands p d task slot make r b ok low is on bounds layer stands =
-    let same : after d task (Create slot make) ≡ created d slot make = after-create d task slot make true true (unopened-stands p d slot low stands ∙ ap not is) (on-stands p d make true on stands) in
-    let P : Desk → Type 0 = λ e. StandsFor (record { sizes = p.sizes; order = slot ∷ p.order; bounds = set p.bounds slot (Some r); slots = set p.slots slot (Some b) }) e in
-    subst P (sym same) (stands-created p d slot make r b (omega (arith, ok.bounds)) (omega (arith, ok.slots)) bounds (ap (λ s. new_layer s.depth make) stands.sizes ∙ layer) stands)
+-- a call on a clip region that is refused changes nothing
+pub clip-refused : (p : Plain) (slot : ℕ) (clip : Option (List Rectangle)) → IsTrue (is_refusing (clip_reply (layer_at p slot))) → with_slot p slot (clipped_slot clip (layer_at p slot)) ≡ p
+clip-refused p slot clip refused = clip-refused-by p slot clip (layer_at p slot) refl refused

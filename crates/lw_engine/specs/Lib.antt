@@ -3,5 +3,6 @@ pub mod PlainBitmap
 pub mod Plain
 pub mod StandsFor
 pub mod Shown
-pub mod Filled
+pub mod LayerCalls
 pub mod Place
+pub mod Registers

@@ -1,13 +1,15 @@
 -- Which desks a plain desk stands for (this project's own).
-use Rattle.std.specs.Prelude.{◌≡◌, ℕ, ◌<◌, pos, false, Option, Some, None}
-use Rattle.lw_planes.specs.Bitmap.{Bitmap}
+use Rattle.std.specs.Prelude.{◌≡◌, ℕ, ◌<◌, pos, false, List, Option, Some, None}
+use Rattle.lw_region.specs.Rectangle.{Rectangle}
+use Rattle.lw_region.specs.Pixels.{Pixel, pixels_of}
 use Rattle.lw_calls.specs.declared.make.Kind.TheVariants.{Smart}
 use Rattle.lw_calls.specs.declared.make.Place.TheVariants.{Front}
 use Rattle.lw_calls.specs.declared.make.Make.{Make}
 use Rattle.lw_calls.specs.Layer.{Layer, Slot, Unopened, Live}
 use Rattle.lw_calls.specs.Desk.{Desk}
-use Rattle.lw_calls.specs.Step.{new_layer}
-use Rattle.lw_engine.specs.Plain.{Plain, bounds_at, bits_at}
+use Rattle.lw_calls.specs.Arrangement.{new_layer}
+use Rattle.lw_engine.specs.declared.layer.PlainLayer.{PlainLayer}
+use Rattle.lw_engine.specs.Plain.{Plain, layer_at, bounds_at, register_at}
 
 -- a smart layer of w columns and h rows, as it is asked for
 abbrev pub plain_make : ℕ → ℕ → Make
@@ -24,18 +26,26 @@ plain_make w h = record {
   bits_h = 0;
 }
 
--- the layer with these bits that is otherwise as it was created
-abbrev pub plain_layer : Bitmap → Layer
-plain_layer b = record (new_layer b.depth (plain_make b.width b.height)) { bits = b }
+-- the set of pixels of a clip region, if there is one
+abbrev pub clip_set : Option (List Rectangle) → Option (List Pixel)
+clip_set None = None
+clip_set (Some rects) = Some (pixels_of rects)
 
--- the slot that has a layer with these bits, or was never opened
-abbrev pub slot_of : Option Bitmap → Slot
+-- the layer with these bits and this clip region that is otherwise as it was created: no layer is updating
+abbrev pub layer_of : PlainLayer → Layer
+layer_of l = record (new_layer l.bits.depth (plain_make l.bits.width l.bits.height) None None) { bits = l.bits; clip = clip_set l.clip }
+
+-- the slot that has this layer, or was never opened
+abbrev pub slot_of : Option PlainLayer → Slot
 slot_of None = Unopened
-slot_of (Some b) = Live (plain_layer b)
+slot_of (Some l) = Live (layer_of l)
 
--- The plain desk and the desk have equal sizes, an equal order, and in each slot the same bounds and the same layer.
+-- The plain desk and the desk have equal sizes, an equal order, in each slot the same bounds and the same layer, and in
+-- each register of each task the same set. What was handed in, the active window and the shelf may be anything: no plain
+-- layer depends on them.
 pub record StandsFor (p : Plain) (d : Desk) : Type 0 where
   pub sizes : d.sizes ≡ p.sizes
   pub order : d.order ≡ p.order
   pub bounds : (s : ℕ) → s < p.sizes.slots → d.bounds s ≡ bounds_at p s
-  pub slots : (s : ℕ) → s < p.sizes.slots → d.slot s ≡ slot_of (bits_at p s)
+  pub slots : (s : ℕ) → s < p.sizes.slots → d.slot s ≡ slot_of (layer_at p s)
+  pub registers : (t r : ℕ) → t < p.sizes.tasks → r < 8 → d.registers t r ≡ pixels_of (register_at p t r)

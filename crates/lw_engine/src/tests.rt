@@ -1,22 +1,36 @@
 ghost use Rattle.std.specs.Prelude.{◌≡◌, ◌≤◌, IsTrue};
 ghost use Rattle.lw_calls.specs.Step.{is_built};
 
-use crate::PlainDesk;
-use lw_calls::{Call, Kind, Make, Place, Reply, Sizes};
-use lw_region::Rect;
+use crate::{PlainDesk, Regs};
+use lw_calls::{
+    Assets, Call, Final, Kind, Make, PairOp, Place, RectOp, Replies, Reply, Seen, Sizes,
+};
+use lw_region::{Rect, Region};
 use std::process::Abort;
 use std::test::Fail;
+
+/// What a call of a case has to answer.
+#[derive(Drop)]
+enum Want {
+    Done,
+    Nothing,
+    /// The clip region from before, each rectangle by its four bounds.
+    Rects(&'static [[i16; 4]]),
+    NotOpen,
+    AlreadyOpen,
+    OutOfBounds,
+}
 
 /// A call of a case, and what it has to answer.
 #[derive(Drop)]
 struct Step {
     call: Call,
-    reply: Reply,
+    want: Want,
     ghost built: { IsTrue (is_built call) },
 }
 
 /// The creation of a layer with its left top corner at (`x`, `y`).
-fn create(slot: u32, x: i32, y: i32, w: i32, h: i32, reply: Reply) -> Step {
+fn create(slot: u32, x: i32, y: i32, w: i32, h: i32, want: Want) -> Step {
     let make = Make {
         kind: Kind::Smart,
         place: Place::Front,
@@ -31,27 +45,86 @@ fn create(slot: u32, x: i32, y: i32, w: i32, h: i32, reply: Reply) -> Step {
     };
     Step {
         call: Call::Create { slot, make },
-        reply,
+        want,
     }
 }
 
 /// The fill of a rectangle, in layer coordinates.
-fn fill(rt: &impl Abort, slot: u32, x0: i16, y0: i16, x1: i16, y1: i16, reply: Reply) -> Step {
+fn fill(rt: &impl Abort, slot: u32, x0: i16, y0: i16, x1: i16, y1: i16, want: Want) -> Step {
     let rect = Rect::new(x0, y0, x1, y1).expect(rt, "a rectangle");
     Step {
         call: Call::Fill { slot, rect },
-        reply,
+        want,
     }
 }
 
-/// Makes the calls on a screen of three planes, and compares their replies and the pens of the screen.
-fn show(
+/// A rectangle joined to a register.
+fn join(rt: &impl Abort, op: RectOp, reg: u32, x0: i16, y0: i16, x1: i16, y1: i16) -> Step {
+    let rect = Rect::new(x0, y0, x1, y1).expect(rt, "a rectangle");
+    Step {
+        call: Call::RegRect { op, reg, rect },
+        want: Want::Done,
+    }
+}
+
+/// A register joined to another.
+fn join_pair(op: PairOp, source: u32, into: u32) -> Step {
+    Step {
+        call: Call::RegPair { op, source, into },
+        want: Want::Done,
+    }
+}
+
+/// A register installed as a clip region.
+fn clip(slot: u32, reg: u32, want: Want) -> Step {
+    Step {
+        call: Call::Clip { slot, reg },
+        want,
+    }
+}
+
+/// A clip region taken away.
+fn unclip(slot: u32, want: Want) -> Step {
+    Step {
+        call: Call::Unclip { slot },
+        want,
+    }
+}
+
+/// Whether the region has this list, each rectangle by its four bounds.
+fn has_list(region: &Region, due: &[[i16; 4]]) -> bool {
+    if region.rects().len() != due.len() {
+        return false;
+    }
+    for (rect, bounds) in region.rects().iter().zip(due) {
+        let found = [rect.min_x(), rect.min_y(), rect.max_x(), rect.max_y()];
+        if found != *bounds {
+            return false;
+        }
+    }
+    true
+}
+
+/// Whether the reply is the one that is wanted.
+fn is_wanted(reply: &Reply, want: &Want) -> bool {
+    match (reply, want) {
+        (Reply::Rects(region), Want::Rects(due)) => has_list(region, due),
+        (Reply::Done, Want::Done)
+        | (Reply::Nothing, Want::Nothing)
+        | (Reply::NotOpen, Want::NotOpen)
+        | (Reply::AlreadyOpen, Want::AlreadyOpen)
+        | (Reply::OutOfBounds, Want::OutOfBounds) => true,
+        _ => false,
+    }
+}
+
+/// Makes the calls of one task on a screen of three planes, compares their replies, and gives what they leave.
+fn run(
     rt: &(impl Abort + AllocGlobal),
     width: u32,
     height: u32,
     steps: &[Step],
-    pens: &[u8],
-) -> Result<(), Fail>
+) -> Result<Final, Fail>
     requires some_columns { 1 ≤ width }
     requires columns { width ≤ 1024 }
     requires some_rows { 1 ≤ height }
@@ -67,13 +140,43 @@ fn show(
         hooks: 0,
         bitmaps: 0,
     };
+    let assets = Assets {
+        glyphs: [[0; 8]; 95],
+        bitmaps: Vec::new(rt.alloc()),
+    };
     let mut desk = PlainDesk::new(rt.alloc(), sizes)?;
+    let mut replies = Vec::new(rt.alloc());
     for step in steps {
         assert!(rt; sizes.fits(&step.call));
-        let reply = desk.step(rt.alloc(), 0, &step.call)?;
-        assert_eq!(rt; reply, step.reply);
+        let reply = desk.step(rt.alloc(), &assets, 0, &step.call)?;
+        assert!(rt; is_wanted(&reply, &step.want));
+        replies.push(reply)?;
     }
-    let shown = desk.screen(rt.alloc())?;
+    let mut lists = Vec::new(rt.alloc());
+    lists.push(Replies::new(replies))?;
+    Ok(desk.finish(rt.alloc(), lists)?)
+}
+
+/// Makes the calls, and compares the pens of the screen, row by row from the top.
+fn show(
+    rt: &(impl Abort + AllocGlobal),
+    width: u32,
+    height: u32,
+    steps: &[Step],
+    pens: &[u8],
+) -> Result<(), Fail>
+    requires some_columns { 1 ≤ width }
+    requires columns { width ≤ 1024 }
+    requires some_rows { 1 ≤ height }
+    requires rows { height ≤ 1024 }
+{
+    let last = run(rt, width, height, steps)?;
+    let mut shown = Vec::new(rt.alloc());
+    for y in 0..last.planes.height() {
+        for x in 0..last.planes.width() {
+            shown.push(last.planes.pen(x, y))?;
+        }
+    }
     assert_eq!(rt; shown.as_slice(), pens);
     Ok(())
 }
@@ -81,8 +184,8 @@ fn show(
 #[test]
 fn a_fill_paints_its_layer_alone(rt: HostRuntime) -> Result<(), Fail> {
     let within = [
-        create(0, 1, 0, 4, 2, Reply::Done),
-        fill(&rt, 0, 1, 0, 2, 0, Reply::Done),
+        create(0, 1, 0, 4, 2, Want::Done),
+        fill(&rt, 0, 1, 0, 2, 0, Want::Done),
     ];
     let pens = [
         0, 0, 1, 1, 0, 0, //
@@ -91,14 +194,14 @@ fn a_fill_paints_its_layer_alone(rt: HostRuntime) -> Result<(), Fail> {
     ];
     show(&rt, 6, 3, &within, &pens)?;
     let off = [
-        create(0, 1, 0, 4, 2, Reply::Done),
-        fill(&rt, 0, 4, 0, 9, 9, Reply::Done),
-        fill(&rt, 0, -5, -5, -1, -1, Reply::Done),
+        create(0, 1, 0, 4, 2, Want::Done),
+        fill(&rt, 0, 4, 0, 9, 9, Want::Done),
+        fill(&rt, 0, -5, -5, -1, -1, Want::Done),
     ];
     show(&rt, 6, 3, &off, &[0; 18])?;
     let whole = [
-        create(0, 0, 0, 17, 1, Reply::Done),
-        fill(&rt, 0, -32768, -32768, 32767, 32767, Reply::Done),
+        create(0, 0, 0, 17, 1, Want::Done),
+        fill(&rt, 0, -32768, -32768, 32767, 32767, Want::Done),
     ];
     show(&rt, 17, 1, &whole, &[1; 17])
 }
@@ -106,10 +209,10 @@ fn a_fill_paints_its_layer_alone(rt: HostRuntime) -> Result<(), Fail> {
 #[test]
 fn a_refused_call_changes_nothing(rt: HostRuntime) -> Result<(), Fail> {
     let unopened = [
-        create(0, 0, 0, 4, 2, Reply::Done),
-        create(0, 2, 1, 2, 2, Reply::AlreadyOpen),
-        fill(&rt, 1, 0, 0, 9, 9, Reply::NotOpen),
-        fill(&rt, 0, 2, 1, 2, 1, Reply::Done),
+        create(0, 0, 0, 4, 2, Want::Done),
+        create(0, 2, 1, 2, 2, Want::AlreadyOpen),
+        fill(&rt, 1, 0, 0, 9, 9, Want::NotOpen),
+        fill(&rt, 0, 2, 1, 2, 1, Want::Done),
     ];
     let pens = [
         0, 0, 0, 0, //
@@ -118,12 +221,12 @@ fn a_refused_call_changes_nothing(rt: HostRuntime) -> Result<(), Fail> {
     ];
     show(&rt, 4, 3, &unopened, &pens)?;
     let edges = [
-        create(0, -1, 0, 2, 2, Reply::OutOfBounds),
-        create(0, 0, -1, 2, 2, Reply::OutOfBounds),
-        create(0, 3, 0, 2, 2, Reply::OutOfBounds),
-        create(0, 0, 2, 2, 2, Reply::OutOfBounds),
-        create(0, 2, 1, 2, 2, Reply::Done),
-        fill(&rt, 0, 0, 0, 1, 1, Reply::Done),
+        create(0, -1, 0, 2, 2, Want::OutOfBounds),
+        create(0, 0, -1, 2, 2, Want::OutOfBounds),
+        create(0, 3, 0, 2, 2, Want::OutOfBounds),
+        create(0, 0, 2, 2, 2, Want::OutOfBounds),
+        create(0, 2, 1, 2, 2, Want::Done),
+        fill(&rt, 0, 0, 0, 1, 1, Want::Done),
     ];
     let corner = [
         0, 0, 0, 0, //
@@ -136,10 +239,10 @@ fn a_refused_call_changes_nothing(rt: HostRuntime) -> Result<(), Fail> {
 #[test]
 fn the_layer_in_front_shows(rt: HostRuntime) -> Result<(), Fail> {
     let overlapping = [
-        create(0, 0, 0, 3, 3, Reply::Done),
-        create(1, 1, 1, 3, 2, Reply::Done),
-        fill(&rt, 0, 0, 0, 2, 2, Reply::Done),
-        fill(&rt, 1, 1, 0, 1, 1, Reply::Done),
+        create(0, 0, 0, 3, 3, Want::Done),
+        create(1, 1, 1, 3, 2, Want::Done),
+        fill(&rt, 0, 0, 0, 2, 2, Want::Done),
+        fill(&rt, 1, 1, 0, 1, 1, Want::Done),
     ];
     let pens = [
         1, 1, 1, 0, 0, //
@@ -147,4 +250,112 @@ fn the_layer_in_front_shows(rt: HostRuntime) -> Result<(), Fail> {
         1, 0, 1, 0, 0,
     ];
     show(&rt, 5, 3, &overlapping, &pens)
+}
+
+#[test]
+fn a_fill_keeps_to_the_clip_region(rt: HostRuntime) -> Result<(), Fail> {
+    let steps = [
+        create(0, 0, 0, 16, 4, Want::Done),
+        join(&rt, RectOp::Or, 0, 0, 0, 3, 1),
+        join(&rt, RectOp::Or, 0, 4, 0, 7, 1),
+        join(&rt, RectOp::Xor, 0, 2, 1, 5, 2),
+        clip(0, 0, Want::Nothing),
+        fill(&rt, 0, 0, 0, 15, 3, Want::Done),
+        join(&rt, RectOp::Or, 1, 0, 0, 1, 3),
+        join_pair(PairOp::And, 1, 0),
+        clip(
+            0,
+            0,
+            Want::Rects(&[[0, 0, 7, 0], [0, 1, 1, 1], [6, 1, 7, 1], [2, 2, 5, 2]]),
+        ),
+        unclip(0, Want::Rects(&[[0, 0, 1, 1]])),
+    ];
+    let pens = [
+        1, 1, 1, 1, 1, 1, 1, 1, 0, 0, 0, 0, 0, 0, 0, 0, //
+        1, 1, 0, 0, 0, 0, 1, 1, 0, 0, 0, 0, 0, 0, 0, 0, //
+        0, 0, 1, 1, 1, 1, 0, 0, 0, 0, 0, 0, 0, 0, 0, 0, //
+        0, 0, 0, 0, 0, 0, 0, 0, 0, 0, 0, 0, 0, 0, 0, 0,
+    ];
+    show(&rt, 16, 4, &steps, &pens)
+}
+
+#[test]
+fn each_region_call_changes_its_register(rt: HostRuntime) -> Result<(), Fail> {
+    let cleared = Step {
+        call: Call::RegClear { reg: 1 },
+        want: Want::Done,
+    };
+    let steps = [
+        create(0, 0, 0, 4, 2, Want::Done),
+        join(&rt, RectOp::Or, 0, 0, 0, 3, 3),
+        join(&rt, RectOp::And, 0, 1, 1, 9, 9),
+        clip(0, 0, Want::Nothing),
+        join(&rt, RectOp::Clear, 0, 2, 2, 2, 2),
+        clip(0, 0, Want::Rects(&[[1, 1, 3, 3]])),
+        join(&rt, RectOp::Xor, 0, 1, 1, 3, 3),
+        clip(
+            0,
+            0,
+            Want::Rects(&[[1, 1, 3, 1], [1, 2, 1, 2], [3, 2, 3, 2], [1, 3, 3, 3]]),
+        ),
+        join(&rt, RectOp::Or, 1, 5, 5, 6, 6),
+        join_pair(PairOp::Or, 1, 0),
+        clip(0, 0, Want::Rects(&[[2, 2, 2, 2]])),
+        join_pair(PairOp::And, 1, 0),
+        clip(0, 0, Want::Rects(&[[2, 2, 2, 2], [5, 5, 6, 6]])),
+        join_pair(PairOp::Xor, 0, 0),
+        clip(0, 0, Want::Rects(&[[5, 5, 6, 6]])),
+        fill(&rt, 0, 0, 0, 3, 1, Want::Done),
+        clip(0, 1, Want::Rects(&[])),
+        cleared,
+        clip(0, 1, Want::Rects(&[[5, 5, 6, 6]])),
+        unclip(0, Want::Rects(&[])),
+        unclip(0, Want::Nothing),
+        clip(1, 1, Want::NotOpen),
+        unclip(1, Want::NotOpen),
+    ];
+    show(&rt, 4, 2, &steps, &[0; 8])
+}
+
+#[test]
+fn a_register_has_at_most_128_rectangles(rt: HostRuntime) -> Result<(), Fail> {
+    let mut regs = Regs::new(rt.alloc());
+    let mut column: i16 = 0;
+    for _pixel in 0..128 {
+        let pixel = Rect::new(column, 0, column, 0).expect(&rt, "a rectangle");
+        let reply = regs.join_rect(rt.alloc(), RectOp::Or, 7, &pixel)?;
+        assert!(rt; matches!(reply, Reply::Done));
+        column = column.wrapping_add(2);
+    }
+    let apart = Rect::new(0, 2, 0, 2).expect(&rt, "a rectangle");
+    let reply = regs.join_rect(rt.alloc(), RectOp::Or, 7, &apart)?;
+    assert!(rt; matches!(reply, Reply::TooManyRects));
+    assert_eq!(rt; regs.region(7).rects().len(), 128);
+    assert!(rt; !regs.region(7).has(0, 2));
+    assert_eq!(rt; regs.region(6).rects().len(), 0);
+    Ok(())
+}
+
+#[test]
+fn what_a_layer_in_front_covers_is_not_visible(rt: HostRuntime) -> Result<(), Fail> {
+    let steps = [
+        create(0, 0, 0, 3, 3, Want::Done),
+        create(1, 1, 1, 3, 2, Want::Done),
+    ];
+    let last = run(&rt, 5, 3, &steps)?;
+    let [Some(behind), Some(front)] = last.slots.as_slice() else {
+        return Err(Fail::from("two layers"));
+    };
+    assert!(rt; is_seen(behind, &[[0, 0, 2, 0], [0, 1, 0, 2]]));
+    assert!(rt; is_seen(front, &[[1, 1, 3, 2]]));
+    let [replies] = last.replies.as_slice() else {
+        return Err(Fail::from("one task"));
+    };
+    assert_eq!(rt; replies.list().len(), 2);
+    Ok(())
+}
+
+/// Whether this is visible of a layer that isn't damaged and no window.
+fn is_seen(seen: &Seen, visible: &[[i16; 4]]) -> bool {
+    has_list(&seen.visible, visible) && has_list(&seen.damage, &[]) && seen.messages.is_none()
 }

@@ -9,6 +9,3 @@ mod ReaderNumbers
 mod ReaderPlans
 mod ReaderRanges
 mod ReaderTests
-mod ReportLists
-mod ReportPens
-mod ReportWhole

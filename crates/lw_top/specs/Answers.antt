@@ -1,5 +1,5 @@
 -- What each answer of the program tells of its input, and what is written with it.
-use Rattle.std.specs.Prelude.{◌≡◌, ℕ, ◌<◌, ◌≤◌, List, length, Option}
+use Rattle.std.specs.Prelude.{◌≡◌, ℕ, ◌<◌, ◌≤◌, List, [], length, Option}
 use Rattle.lw_io.specs.Streams.{Rose, bytes_before, bytes_after, NoneLeft}
 use Rattle.lw_calls.specs.Planned.{Planned}
 use Rattle.lw_calls.specs.History.{only_order}
@@ -12,7 +12,7 @@ use Rattle.lw_top.specs.Status.{text_of, input_limit}
 
 -- the text is the report of the machine's run of the plan that the lines spell
 abbrev pub IsReportOf : List (List ℕ) → List ℕ → Type 0
-IsReportOf ls text = (plan : Planned) × Spells ls plan × (text ≡ run_report plan (only_order plan))
+IsReportOf ls text = (plan : Planned) × Spells ls plan × (text ≡ run_report plan [] (only_order plan))
 
 -- Reading took these bytes from a source, which is at its end then, and they are no more than the limit.
 pub record IsInput (input : List ℕ) (before after : Option (List ℕ)) : Type 0 where

@@ -5,6 +5,5 @@ pub mod ReaderLine
 pub mod ReaderState
 pub mod ReaderStops
 pub mod ReaderValues
-pub mod ReportWords
 pub mod Run
 pub mod Status

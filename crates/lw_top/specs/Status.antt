@@ -2,7 +2,7 @@
 use Rattle.std.specs.Prelude.{◌≡◌, ℕ, Bool, true, false, ◌⊎◌, IsTrue, List, [], ◌∷◌, ◌++◌, codes, Option}
 use Rattle.lw_io.specs.Streams.{Rose, bytes_after}
 use Rattle.lw_calls.specs.declared.reason.Reason.{Reason}
-use Rattle.lw_calls.specs.declared.reason.Reason.TheVariants.{OneTaskOnly, NotBuilt, Missing}
+use Rattle.lw_calls.specs.declared.reason.Reason.TheVariants.{LineTooLong, BadByte, Spacing, Quote, UnknownWord, Misplaced, OneTaskOnly, Form, Range, NoName, DoubleName, Group, TooMany, NoHook, HookUsed, Padding, NotBuilt, Missing}
 use Rattle.lw_calls.specs.Report.{line_of, spaced}
 use Rattle.lw_top.specs.declared.status.Status.{Status}
 use Rattle.lw_top.specs.declared.status.Status.TheVariants.{Done, Refused, Usage, ReadFault, WriteFault, NoMemory, TooLong}
@@ -19,7 +19,22 @@ number_of TooLong = 6
 
 -- how a reason is printed
 abbrev pub reason_text : Reason → List ℕ
+reason_text LineTooLong = codes "line-too-long"
+reason_text BadByte = codes "bad-byte"
+reason_text Spacing = codes "spacing"
+reason_text Quote = codes "quote"
+reason_text UnknownWord = codes "unknown-word"
+reason_text Misplaced = codes "misplaced"
 reason_text OneTaskOnly = codes "one-task-only"
+reason_text Form = codes "form"
+reason_text Range = codes "range"
+reason_text NoName = codes "no-name"
+reason_text DoubleName = codes "double-name"
+reason_text Group = codes "group"
+reason_text TooMany = codes "too-many"
+reason_text NoHook = codes "no-hook"
+reason_text HookUsed = codes "hook-used"
+reason_text Padding = codes "padding"
 reason_text NotBuilt = codes "not-built"
 reason_text Missing = codes "missing"
 

@@ -6,7 +6,6 @@ mod command;
 mod laws;
 mod plain_run;
 mod reader;
-mod report;
 mod run;
 mod say;
 mod status;

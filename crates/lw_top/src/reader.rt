@@ -7,6 +7,7 @@ ghost use Rattle.lw_calls.specs.Grammar.{IsFirstBad, Spells, IsRunnable};
 ghost use Rattle.lw_calls.specs.Reading.{outcome};
 ghost use Rattle.lw_top.specs.ReaderStops.{Gives, IsUnlessMemory};
 
+mod acts;
 mod add;
 mod cut;
 mod finish;

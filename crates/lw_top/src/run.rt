@@ -72,7 +72,22 @@ fn reason_word(reason: Reason) -> &'static str
     ensures { result.now ≡ reason_text reason }
 {
     match reason {
+        Reason::LineTooLong => "line-too-long",
+        Reason::BadByte => "bad-byte",
+        Reason::Spacing => "spacing",
+        Reason::Quote => "quote",
+        Reason::UnknownWord => "unknown-word",
+        Reason::Misplaced => "misplaced",
         Reason::OneTaskOnly => "one-task-only",
+        Reason::Form => "form",
+        Reason::Range => "range",
+        Reason::NoName => "no-name",
+        Reason::DoubleName => "double-name",
+        Reason::Group => "group",
+        Reason::TooMany => "too-many",
+        Reason::NoHook => "no-hook",
+        Reason::HookUsed => "hook-used",
+        Reason::Padding => "padding",
         Reason::NotBuilt => "not-built",
         Reason::Missing => "missing",
     }

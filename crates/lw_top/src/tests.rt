@@ -8,7 +8,47 @@ const FIRST_FILL: &[u8] =
     b"screen 16 4 1\ntask a\ncreate w smart front 0 0 7 3\nfill w 1 1 2 2\nend\n";
 
 const FIRST_FILL_REPORT: &[u8] =
-    b"order 2\n0 0\nplanes 16 4 1\nplane 0\n0000\n6000\n6000\n0000\nreplies a 2\nok\nok\ndone\n";
+    b"order 2\n0 0\nplanes 16 4 1\nplane 0\n0000\n6000\n6000\n0000\nvisible w 1\n0 0 7 3\ndamage w 0\nreplies a 2\nok\nok\ndone\n";
+
+const CLIPPED: &[u8] = b"screen 16 4 1
+task a
+create w smart front 0 0 15 3
+orrect 0 0 0 3 1
+orrect 0 4 0 7 1
+xorrect 0 2 1 5 2
+clip w 0
+fill w 0 0 15 3
+orrect 1 0 0 1 3
+andregion 1 0
+clip w 0
+unclip w
+end
+";
+
+const CLIPPED_REPORT: &[u8] = b"order 10
+0 0 0 0 0 0 0 0 0 0
+planes 16 4 1
+plane 0
+ff00
+c300
+3c00
+0000
+visible w 1
+0 0 15 3
+damage w 0
+replies a 10
+ok
+ok
+ok
+ok
+none
+ok
+ok
+ok
+region 4 0 0 7 0 0 1 1 1 6 1 7 1 2 2 5 2
+region 1 0 0 1 1
+done
+";
 
 const USAGE_LINE: &[u8] = b"usage: layers run|check|replay|audit|demo NUMBER TASKS\n";
 
@@ -40,20 +80,22 @@ fn scripts_give_their_reports_and_refusals(rt: HostRuntime) -> Result<(), Fail> 
         line,
         reason: Reason::Missing,
     };
-    let table: [(&[u8], Status, &[u8]); 8] = [
+    let table: [(&[u8], Status, &[u8]); 9] = [
         (FIRST_FILL, Status::Done, FIRST_FILL_REPORT),
         // A row of 17 pixels is padded to 32 bits.
         (
             b"screen 17 1 1\ntask a\ncreate w smart front 0 0 16 0\nfill w 0 0 16 0\nend\n",
             Status::Done,
-            b"order 2\n0 0\nplanes 17 1 1\nplane 0\nffff8000\nreplies a 2\nok\nok\ndone\n",
+            b"order 2\n0 0\nplanes 17 1 1\nplane 0\nffff8000\nvisible w 1\n0 0 16 0\ndamage w 0\nreplies a 2\nok\nok\ndone\n",
         ),
         // A fill right of the layer changes nothing, and answers `ok`.
         (
             b"screen 16 4 1\ntask a\ncreate w smart front 0 0 7 3\nfill w 8 0 9 1\nend\n",
             Status::Done,
-            b"order 2\n0 0\nplanes 16 4 1\nplane 0\n0000\n0000\n0000\n0000\nreplies a 2\nok\nok\ndone\n",
+            b"order 2\n0 0\nplanes 16 4 1\nplane 0\n0000\n0000\n0000\n0000\nvisible w 1\n0 0 7 3\ndamage w 0\nreplies a 2\nok\nok\ndone\n",
         ),
+        // Fills are clipped by a copy of a register.
+        (CLIPPED, Status::Done, CLIPPED_REPORT),
         // A task without calls.
         (
             b"screen 1 1 1\ntask a\nend",
@@ -99,7 +141,7 @@ fn streams_of_any_pieces_and_faults(rt: HostRuntime) -> Result<(), Fail> {
         // step and failing calls of the source; room, step and failing calls of the sink
         (1, &[], 4096, 1, &[], Status::Done, whole),
         (2, &[], 4096, 7, &[], Status::Done, whole),
-        (7, &[], 77, 4096, &[], Status::Done, whole),
+        (7, &[], 108, 4096, &[], Status::Done, whole),
         // The first read fails, one in the middle, and the one that would find the end. One behind the end is not made.
         (69, &[0], 4096, 4096, &[], Status::ReadFault, b""),
         (5, &[1], 4096, 4096, &[], Status::ReadFault, b""),
@@ -116,8 +158,8 @@ fn streams_of_any_pieces_and_faults(rt: HostRuntime) -> Result<(), Fail> {
             Status::WriteFault,
             b"order 2\n0 ",
         ),
-        (4096, &[], 4096, 1, &[76], Status::WriteFault, but_last),
-        (4096, &[], 4096, 1, &[77], Status::Done, whole),
+        (4096, &[], 4096, 1, &[107], Status::WriteFault, but_last),
+        (4096, &[], 4096, 1, &[108], Status::Done, whole),
         // The sink's room is used up.
         (4096, &[], 10, 10, &[], Status::WriteFault, b"order 2\n0 "),
         (4096, &[], 0, 4096, &[], Status::WriteFault, b""),

@@ -2,7 +2,8 @@ ghost use Rattle.std.specs.Prelude.{OnOk, List, ◌∷◌};
 ghost use Rattle.lw_calls.specs.Forms.{LineForm as FormMeaning};
 ghost use Rattle.lw_top.specs.ReaderForms.{form_meaning};
 
-use crate::reader::forms::{Act, LineForm};
+use crate::reader::acts::{LayerAct, RegisterAct};
+use crate::reader::forms::LineForm;
 use crate::reader::state::{Part, Reader};
 use std::alloc::AllocError;
 
@@ -11,13 +12,23 @@ impl<'a> Reader<'a> {
     ghost use Rattle.lw_top.specs.ReaderLine.{FitsIn};
 
     /// Adds a call on a layer, which gets the next number if it was not named above.
-    fn add_call(&mut self, layer: &'a [u8], act: Act) -> Result<(), AllocError>
-        requires { FitsIn self.old (LineForm.Call layer act) }
+    fn add_on_layer(&mut self, layer: &'a [u8], act: LayerAct) -> Result<(), AllocError>
+        requires { FitsIn self.old (LineForm.OnLayer layer act) }
         ensures { (above : List FormMeaning) → Stands self.old above
-            → OnOk result (Stands self.new (form_meaning (LineForm.Call layer.entry act) ∷ above)) }
+            → OnOk result (Stands self.new (form_meaning (LineForm.OnLayer layer.entry act) ∷ above)) }
     {
         let (slot, _) = self.layer_names.insert_full(layer)?;
         self.calls.push(act.call(slot as u32))?;
+        Ok(())
+    }
+
+    /// Adds a call on registers.
+    fn add_on_registers(&mut self, act: RegisterAct) -> Result<(), AllocError>
+        requires { FitsIn self.old (LineForm.OnRegisters act) }
+        ensures { (above : List FormMeaning) → Stands self.old above
+            → OnOk result (Stands self.new (form_meaning (LineForm.OnRegisters act) ∷ above)) }
+    {
+        self.calls.push(act.call())?;
         Ok(())
     }
 
@@ -44,7 +55,8 @@ impl<'a> Reader<'a> {
                 self.part = Part::InTask;
                 Ok(())
             }
-            LineForm::Call { layer, act } => self.add_call(layer, act),
+            LineForm::OnLayer { layer, act } => self.add_on_layer(layer, act),
+            LineForm::OnRegisters(act) => self.add_on_registers(act),
             LineForm::End => {
                 self.part = Part::Ended;
                 Ok(())

@@ -1,12 +1,12 @@
 ghost use Rattle.std.specs.Prelude.{◌≡◌, IfOk, List, [], ◌∷◌, map};
 ghost use Rattle.lw_calls.specs.Forms.{LineForm as FormMeaning};
-ghost use Rattle.lw_calls.specs.Above.{plan_of};
+ghost use Rattle.lw_calls.specs.Above.{no_supplies, plan_of};
 ghost use Rattle.lw_calls.specs.Reading.{outcome};
 ghost use Rattle.lw_top.specs.ReaderCuts.{targets};
 
 use crate::reader::state::{Part, Reader};
 use crate::reader::stop::ScriptStop;
-use lw_calls::{Call, Plan, PlanParts, Reason, Sizes, Text};
+use lw_calls::{Assets, Group, Plan, PlanParts, Reason, Sizes, Text};
 use std::alloc::{AllocError, Global};
 
 /// The names as texts of their own.
@@ -20,13 +20,23 @@ fn texts_of(alloc: Global, names: &[&[u8]]) -> Result<Vec<Text>, AllocError>
     Ok(texts)
 }
 
-/// The list that has just these calls.
-fn only_list(alloc: Global, calls: Vec<Call>) -> Result<Vec<Vec<Call>>, AllocError>
-    ensures { IfOk result (λ lists. map (λ cs. cs.items) lists.items ≡ calls.items ∷ []) }
+/// The list that has just this list.
+fn only_list<T: Drop>(alloc: Global, list: Vec<T>) -> Result<Vec<Vec<T>>, AllocError>
+    ensures { IfOk result (λ lists. map (λ l. l.items) lists.items ≡ list.items ∷ []) }
 {
     let mut lists = Vec::with_capacity(alloc, 1)?;
-    lists.push(calls)?;
+    lists.push(list)?;
     Ok(lists)
+}
+
+/// What a script hands in that has neither glyphs nor bitmaps.
+fn no_assets(alloc: Global) -> Assets
+    ensures { result ≡ no_supplies }
+{
+    Assets {
+        glyphs: [[0; 8]; 95],
+        bitmaps: Vec::new(alloc),
+    }
 }
 
 impl<'a> Reader<'a> {
@@ -53,11 +63,15 @@ impl<'a> Reader<'a> {
         };
         let Reader { calls, .. } = self;
         let calls = only_list(alloc, calls)?;
+        let groups = only_list(alloc, Vec::<Group>::new(alloc))?;
         Ok(Plan::new(PlanParts {
             sizes,
             slot_names,
             task_names,
+            bitmap_names: Vec::new(alloc),
             calls,
+            groups,
+            assets: no_assets(alloc),
         }))
     }
 

@@ -4,7 +4,7 @@ ghost use Rattle.lw_calls.specs.Above.{is_in_place as place_meant};
 ghost use Rattle.lw_top.specs.ReaderCuts.{targets};
 ghost use Rattle.lw_top.specs.ReaderForms.{form_meaning};
 
-use crate::reader::forms::{Act, LineForm};
+use crate::reader::forms::LineForm;
 use indexmap::IndexSet;
 use lw_calls::Call;
 use std::alloc::{AllocError, Global};
@@ -65,7 +65,8 @@ impl<'a> Reader<'a> {
         match (self.part, form) {
             (Part::ScreenDue, LineForm::Screen { .. }) => true,
             (Part::TaskDue, LineForm::Task(_)) => true,
-            (Part::InTask, LineForm::Call { .. }) => true,
+            (Part::InTask, LineForm::OnLayer { .. }) => true,
+            (Part::InTask, LineForm::OnRegisters(_)) => true,
             (Part::InTask, LineForm::End) => true,
             _ => false,
         }
@@ -83,7 +84,7 @@ impl<'a> Reader<'a> {
         ensures { result ≡ length (names_with self.now (form_meaning form.now)) }
     {
         match form {
-            LineForm::Call { layer, .. } if !self.is_named(layer) => self.layer_names.len() + 1,
+            LineForm::OnLayer { layer, .. } if !self.is_named(layer) => self.layer_names.len() + 1,
             _ => self.layer_names.len(),
         }
     }
@@ -93,7 +94,7 @@ impl<'a> Reader<'a> {
         ensures { result ≡ calls_with self.now (form_meaning form.now) }
     {
         match form {
-            LineForm::Call { .. } => self.calls.len() + 1,
+            LineForm::OnLayer { .. } | LineForm::OnRegisters(_) => self.calls.len() + 1,
             _ => self.calls.len(),
         }
     }

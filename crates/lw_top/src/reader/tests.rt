@@ -1,5 +1,5 @@
 use crate::reader::{ScriptStop, read};
-use lw_calls::{Call, Kind, Make, Place, Plan, Reason};
+use lw_calls::{Call, Kind, Make, PairOp, Place, Plan, Reason, RectOp};
 use lw_region::Rect;
 use std::alloc::{AllocError, Global};
 use std::process::Abort;
@@ -127,6 +127,27 @@ fn words_of_calls(rt: HostRuntime) -> Result<(), Fail> {
 }
 
 #[test]
+fn calls_on_registers(rt: HostRuntime) -> Result<(), Fail> {
+    let above = b"screen 16 4 1\ntask a\n";
+    let bad =
+        b"orrect 8 0 0 0 0\norrect -1 0 0 0 0\norrect 0 5 0 4 0\nandrect 0 0 5 0 4\nxorrect 0 0 0 32768 0\nclearrect 0 -32769 0 0 0\norrect w 0 0 0 0\norrect 0 0 0 0\nclearrect 0 0 0 0 0 0\nrect 0 0 0 0 0\norregion 8 0\nandregion 0 8\nxorregion -1 0\norregion 0 -1\nandregion 0\nxorregion 0 1 2\norregion w 0\nclearregion\nclearregion 8\nclearregion -1\nclearregion 00\nclearregion 0 0\nclearregion w";
+    refuses_each(&rt, rt.alloc(), above, bad, b"\nend\n", 3, Reason::NotBuilt)?;
+    let good =
+        b"orrect 0 -32768 -32768 32767 32767\nandrect 7 -32768 -32768 32767 32767\nxorrect 0 5 5 5 5\nclearrect 7 32767 32767 32767 32767\norregion 0 7\nandregion 7 0\nxorregion 7 7\nclearregion 0\nclearregion 7";
+    takes_each(&rt, rt.alloc(), above, good, b"\nend\n")
+}
+
+#[test]
+fn clips_of_layers(rt: HostRuntime) -> Result<(), Fail> {
+    let above = b"screen 16 4 1\ntask a\n";
+    let bad =
+        b"clip w\nclip w 8\nclip w -1\nclip w 4294967296\nclip 0 w\nclip 0 0\nclip w 0 0\nunclip\nunclip w 0\nunclip 0";
+    refuses_each(&rt, rt.alloc(), above, bad, b"\nend\n", 3, Reason::NotBuilt)?;
+    let good = b"clip w 0\nclip w 7\nunclip w";
+    takes_each(&rt, rt.alloc(), above, good, b"\nend\n")
+}
+
+#[test]
 fn lines_behind_the_end(rt: HostRuntime) -> Result<(), Fail> {
     let above = b"screen 16 4 1\ntask a\nend\n";
     let second = b"task b\ntask\ntask  b\ntask 9a\ntask a b ";
@@ -177,6 +198,22 @@ fn smart_front(x: i32, y: i32, w: i32, h: i32) -> Make {
     }
 }
 
+/// The slot and the rectangle of a fill.
+fn fill_of(call: &Call) -> Option<(u32, Rect)> {
+    match call {
+        Call::Fill { slot, rect } => Some((*slot, *rect)),
+        _ => None,
+    }
+}
+
+/// The slot and the layer of a creation.
+fn make_of(call: &Call) -> Option<(u32, Make)> {
+    match call {
+        Call::Create { slot, make } => Some((*slot, *make)),
+        _ => None,
+    }
+}
+
 #[test]
 fn plan_of_a_script(rt: HostRuntime) -> Result<(), Fail> {
     let script =
@@ -200,27 +237,61 @@ fn plan_of_a_script(rt: HostRuntime) -> Result<(), Fail> {
     let first = Rect::new(-1, 0, 1, 2).expect(&rt, "corners in order");
     let third = Rect::new(3, 3, 3, 3).expect(&rt, "corners in order");
     assert_eq!(rt; calls.len(), 3);
-    assert_eq!(rt;
-        calls[0],
-        Call::Fill {
-            slot: 0,
-            rect: first
-        }
-    );
-    assert_eq!(rt;
-        calls[1],
-        Call::Create {
-            slot: 1,
-            make: smart_front(-5, 6, 13, 3)
-        }
-    );
-    assert_eq!(rt;
-        calls[2],
-        Call::Fill {
-            slot: 0,
-            rect: third
-        }
-    );
+    let second = smart_front(-5, 6, 13, 3);
+    assert_eq!(rt; fill_of(&calls[0]), Some((0, first)));
+    assert_eq!(rt; make_of(&calls[1]), Some((1, second)));
+    assert_eq!(rt; fill_of(&calls[2]), Some((0, third)));
+    assert_eq!(rt; plan.groups(0).len(), 0);
+    assert_eq!(rt; plan.bitmap_names().len(), 0);
+    assert_eq!(rt; plan.assets().glyphs, [[0; 8]; 95]);
+    assert_eq!(rt; plan.assets().bitmaps.len(), 0);
+    Ok(())
+}
+
+/// How the call joins a rectangle to which register, and the rectangle.
+fn rect_of(call: &Call) -> Option<(RectOp, u32, Rect)> {
+    match call {
+        Call::RegRect { op, reg, rect } => Some((*op, *reg, *rect)),
+        _ => None,
+    }
+}
+
+/// How the call joins which register to which.
+fn pair_of(call: &Call) -> Option<(PairOp, u32, u32)> {
+    match call {
+        Call::RegPair { op, source, into } => Some((*op, *source, *into)),
+        _ => None,
+    }
+}
+
+/// The slot of the layer whose clip region is installed or taken away, and the register that is installed.
+fn clip_of(call: &Call) -> Option<(u32, Option<u32>)> {
+    match call {
+        Call::Clip { slot, reg } => Some((*slot, Some(*reg))),
+        Call::Unclip { slot } => Some((*slot, None)),
+        _ => None,
+    }
+}
+
+#[test]
+fn region_calls_of_a_script(rt: HostRuntime) -> Result<(), Fail> {
+    let script =
+        b"screen 16 4 1\ntask a\norrect 1 -3 2 5 4\nandrect 2 -3 2 5 4\nxorrect 3 -3 2 5 4\nclearrect 4 -3 2 5 4\norregion 5 6\nandregion 6 7\nxorregion 7 0\nclearregion 4\nunclip w\nclip v 3\nend\n";
+    let plan = reading(&rt, rt.alloc(), script)?;
+    let calls = plan.calls(0);
+    let rect = Rect::new(-3, 2, 5, 4).expect(&rt, "corners in order");
+    assert_eq!(rt; calls.len(), 10);
+    assert_eq!(rt; rect_of(&calls[0]), Some((RectOp::Or, 1, rect)));
+    assert_eq!(rt; rect_of(&calls[1]), Some((RectOp::And, 2, rect)));
+    assert_eq!(rt; rect_of(&calls[2]), Some((RectOp::Xor, 3, rect)));
+    assert_eq!(rt; rect_of(&calls[3]), Some((RectOp::Clear, 4, rect)));
+    assert_eq!(rt; pair_of(&calls[4]), Some((PairOp::Or, 5, 6)));
+    assert_eq!(rt; pair_of(&calls[5]), Some((PairOp::And, 6, 7)));
+    assert_eq!(rt; pair_of(&calls[6]), Some((PairOp::Xor, 7, 0)));
+    assert!(rt; matches!(&calls[7], Call::RegClear { reg: 4 }));
+    assert_eq!(rt; clip_of(&calls[8]), Some((0, None)));
+    assert_eq!(rt; clip_of(&calls[9]), Some((1, Some(3))));
+    assert_eq!(rt; plan.slot_names().len(), 2);
     Ok(())
 }
 

@@ -7,11 +7,11 @@ use Rattle.lw_engine.proofs.plain_desk.PlainDesk.new.Goals as goal
 
 pub invariant_of-result : goal.invariant_of-result
 invariant_of-result c =
-    subst IsPlain (sym (parts-empty c.args.sizes c.new-order.result.items c.in_ok-bounds.bounds.items c.in_ok-slots.slots.items c.new-order.ensures.items c.in_ok-bounds.ensures c.in_ok-slots.ensures))
+    subst IsPlain (sym (parts-empty c.args.sizes c.new-order.result.items c.in_ok-layers.layers.items c.in_ok-registers.registers.items c.new-order.ensures.items c.in_ok-layers.ensures c.in_ok-registers.ensures))
     (IsPlain-empty c.args.sizes c.requires)
 
 pub returns-clause-empty : goal.returns-clause-empty
-returns-clause-empty c =
-    let P : Plain → Type 0 = λ p. StandsFor p (empty_desk c.args.sizes) in
-    subst P (sym (parts-empty c.args.sizes c.new-order.result.items c.in_ok-bounds.bounds.items c.in_ok-slots.slots.items c.new-order.ensures.items c.in_ok-bounds.ensures c.in_ok-slots.ensures))
-    (stands-empty c.args.sizes)
+returns-clause-empty c = λ supplies shelf.
+    let P : Plain → Type 0 = λ p. StandsFor p (empty_desk c.args.sizes supplies shelf) in
+    subst P (sym (parts-empty c.args.sizes c.new-order.result.items c.in_ok-layers.layers.items c.in_ok-registers.registers.items c.new-order.ensures.items c.in_ok-layers.ensures c.in_ok-registers.ensures))
+    (stands-empty c.args.sizes supplies shelf)

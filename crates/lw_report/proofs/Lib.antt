@@ -1,0 +1,3 @@
+mod Padded
+mod Pieces
+mod Whole

@@ -1,0 +1,3 @@
+pub mod Padding
+pub mod Text
+pub mod Words

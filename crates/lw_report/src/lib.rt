@@ -1,0 +1,17 @@
+//! The report of a run, from what the run leaves (this project's own format; docs/FORMATS.md has it with an example).
+//!
+//! `specs/Text.antt` has the text as a function of a plan, an order and what is left.
+#![tactic(auto)]
+
+mod layers;
+mod lines;
+mod order;
+mod planes;
+mod rects;
+mod replies;
+mod report;
+mod row;
+#[cfg(test)]
+mod tests;
+
+pub use report::write;

@@ -1,0 +1,50 @@
+//! The whole report.
+
+ghost use Rattle.std.specs.Prelude.{◌≡◌, ℕ, List, IfOk};
+ghost use Rattle.lw_calls.specs.declared.reply.Reply.{Reply};
+ghost use Rattle.lw_calls.specs.Desk.{Desk};
+ghost use Rattle.lw_calls.specs.Finals.{IsFinalOf};
+ghost use Rattle.lw_calls.specs.Report.{report};
+ghost use Rattle.lw_report.specs.Text.{text_of};
+
+use crate::layers::{Part, push_part};
+use crate::lines::push_line;
+use crate::order::push_order;
+use crate::planes::push_planes;
+use crate::replies::push_replies;
+use lw_calls::{Final, OrderList, Plan};
+use std::alloc::{AllocError, Global};
+
+/// The report of a plan after the calls of an order, which has a task's number for each call, where `last` is what the
+/// run left: bytes, with a line feed behind each line. The only error is want of memory (this project's own format).
+pub fn write(
+    alloc: Global,
+    plan: &Plan,
+    last: &Final,
+    order: &OrderList,
+) -> Result<Vec<u8>, AllocError>
+    ensures report { IfOk result (λ text. (d : Desk) (rs : ℕ → List Reply) →
+        d.sizes ≡ plan.now.sizes → IsFinalOf d rs last.now →
+        text.items ≡ report plan.now order.now d rs) }
+    ensures text { IfOk result (λ text. text.items ≡ text_of plan.now order.now last.now) }
+{
+    // The clause of `sizes` tells the proof that the plan has a name for each of its tasks.
+    let _sizes = plan.sizes();
+    let mut out = Vec::new(alloc);
+    let names = plan.slot_names();
+    let slots = last.slots.as_slice();
+    push_order(alloc, &mut out, order.tasks())?;
+    push_planes(alloc, &mut out, &last.planes)?;
+    push_part(alloc, &mut out, Part::Visible, names, slots)?;
+    push_part(alloc, &mut out, Part::Damage, names, slots)?;
+    push_part(alloc, &mut out, Part::Messages, names, slots)?;
+    push_replies(
+        alloc,
+        &mut out,
+        names,
+        plan.task_names(),
+        last.replies.as_slice(),
+    )?;
+    push_line(&mut out, b"done")?;
+    Ok(out)
+}

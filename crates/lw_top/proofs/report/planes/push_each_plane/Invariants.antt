@@ -1,9 +1,0 @@
-use Rattle.std.proofs.Common.{◌≡◌, ◌++◌}
-use Rattle.std.specs.List.{flat_map, range_with_len}
-use Rattle.lw_calls.specs.Report.{plane_lines}
-use Rattle.lw_top.specs.ReportWords.{screen_of}
-use Rattle.lw_top.proofs.report.planes.push_each_plane.Given as goal
-
-abbrev pub invariant-loop-plane : goal.invariant-loop-plane
-invariant-loop-plane l =
-    l.out.items ≡ l.initial.out.items ++ flat_map (plane_lines (screen_of l.sizes l.pens)) (range_with_len 0 l.plane)

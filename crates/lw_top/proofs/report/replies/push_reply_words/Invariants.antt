@@ -1,7 +1,0 @@
-use Rattle.std.proofs.Common.{◌≡◌, ◌++◌, take}
-use Rattle.std.specs.List.{flat_map}
-use Rattle.lw_calls.specs.Report.{line_of, reply_text}
-use Rattle.lw_top.proofs.report.replies.push_reply_words.Given as goal
-
-abbrev pub invariant-loop-reply : goal.invariant-loop-reply
-invariant-loop-reply l = l.out.items ≡ l.initial.out.items ++ flat_map (λ r. line_of (reply_text r)) (take l.reply-index l.replies)
