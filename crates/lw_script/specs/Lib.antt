@@ -1,0 +1,9 @@
+pub mod AskedParts
+pub mod BlitParts
+pub mod Cuts
+pub mod Digits
+pub mod FormMeaning
+pub mod NumbersTaken
+pub mod Stops
+pub mod TokenMeaning
+pub mod VerbFamilies
