@@ -10,12 +10,12 @@ use Rattle.lw_cases.specs.Directions.{flat_lines, steep_lines, lines_from_outsid
 use Rattle.lw_cases.specs.Drawing.{first_fill, padded_row, fill_outside, line_complemented_twice, inverse_text, blit_away}
 use Rattle.lw_cases.specs.Frames.{first_activated_again, frame_uncovered, frame_narrowed, frame_painted_again, frame_covered}
 use Rattle.lw_cases.specs.Hooks.{refreshed_in_full, hook_turned, checkered_again, tiled, created_covered, hooks_cut}
-use Rattle.lw_cases.specs.Modes.{masked_fills, masked_raster, letters_jam1, letters_complemented, letters_at_edges, letters_far_off}
+use Rattle.lw_cases.specs.Modes.{masked_fills, masked_raster, letters_jam1, letters_complemented, letters_at_edges, letters_far_off, inverse_shapes}
 use Rattle.lw_cases.specs.Orders.{two_layers, locked_fills, beside_a_hold, beside_a_lock, beside_two_locks, blit_of}
 use Rattle.lw_cases.specs.Owners.{foreign_window, own_registers}
 use Rattle.lw_cases.specs.Refusals.{refused_calls, backdrop_closed, first_causes, made_too_small}
 use Rattle.lw_cases.specs.Registers.{clipped, joined, joined_to_itself, filled_up}
-use Rattle.lw_cases.specs.Scrolling.{scroll_past_all, scroll_damage, portion_scrolled, scroll_right_down, scroll_masked, scroll_updated, scroll_in_frame}
+use Rattle.lw_cases.specs.Scrolling.{scroll_past_all, scroll_damage, portion_scrolled, scroll_right_down, scroll_masked, scroll_updated, scroll_in_frame, scroll_from_damage}
 use Rattle.lw_cases.specs.Stacking.{put_first, backdrop_in_front, put_behind, backdrops_created}
 use Rattle.lw_cases.specs.SuperBitmaps.{scrolls_refused, super_updated, super_uncovered, super_window}
 use Rattle.lw_cases.specs.Reading.{pixels_covered, fill_from_outside}
@@ -25,12 +25,12 @@ use Rattle.lw_cases.specs.Windows.{uncovered_again, active_title, frame_too_narr
 -- worked plans that draw
 abbrev pub drawing_plans : List Planned
 drawing_plans =
-    first_fill ∷ padded_row ∷ fill_outside ∷ line_complemented_twice ∷ inverse_text ∷ blit_away ∷ put_deep ∷ put_flat ∷ put_beyond ∷ blit_to_hidden ∷ put_masked ∷ pixels_covered ∷ fill_from_outside ∷ flat_lines ∷ steep_lines ∷ lines_from_outside ∷ masked_fills ∷ masked_raster ∷ letters_jam1 ∷ letters_complemented ∷ letters_at_edges ∷ letters_far_off ∷ []
+    first_fill ∷ padded_row ∷ fill_outside ∷ line_complemented_twice ∷ inverse_text ∷ blit_away ∷ put_deep ∷ put_flat ∷ put_beyond ∷ blit_to_hidden ∷ put_masked ∷ pixels_covered ∷ fill_from_outside ∷ flat_lines ∷ steep_lines ∷ lines_from_outside ∷ masked_fills ∷ masked_raster ∷ letters_jam1 ∷ letters_complemented ∷ letters_at_edges ∷ letters_far_off ∷ inverse_shapes ∷ []
 
 -- worked plans with registers, scrolls and super-bitmap layers
 abbrev pub scrolling_plans : List Planned
 scrolling_plans =
-    clipped ∷ joined ∷ joined_to_itself ∷ filled_up ∷ scroll_past_all ∷ scroll_damage ∷ portion_scrolled ∷ scroll_right_down ∷ scroll_masked ∷ scroll_updated ∷ scroll_in_frame ∷ scrolls_refused ∷ super_updated ∷ super_uncovered ∷ super_window ∷ []
+    clipped ∷ joined ∷ joined_to_itself ∷ filled_up ∷ scroll_past_all ∷ scroll_damage ∷ portion_scrolled ∷ scroll_right_down ∷ scroll_masked ∷ scroll_updated ∷ scroll_in_frame ∷ scroll_from_damage ∷ scrolls_refused ∷ super_updated ∷ super_uncovered ∷ super_window ∷ []
 
 -- worked plans that arrange layers
 abbrev pub arranging_plans : List Planned

@@ -1,5 +1,5 @@
 -- Plans of framed windows that become active and inactive, and their reports.
-use Rattle.std.specs.Prelude.{ℕ, true, List, [], ◌∷◌, ◌++◌, pos, neg_ℤ, codes}
+use Rattle.std.specs.Prelude.{ℕ, true, List, [], ◌∷◌, ◌++◌, pos, neg_ℤ, Option, codes}
 use Rattle.lw_calls.specs.declared.make.Kind.TheVariants.{Simple, Smart}
 use Rattle.lw_calls.specs.declared.call.Call.TheVariants.{Close, ToFront, MoveBy, SizeBy, Activate, SetTitle, SetMask, Clip}
 use Rattle.lw_planes.specs.Bitmap.{pen_at}
@@ -85,3 +85,7 @@ pen_in Closed x y = 0
 
 abbrev pub pen_after : Planned → ℕ → ℕ → ℕ → ℕ
 pen_after plan slot x y = pen_in ((machine (opening_desk plan []) (entries plan [] (only_order plan))).slot slot) x y
+
+-- the active window at the end of a run
+abbrev pub active_after : Planned → Option ℕ
+active_after plan = (machine (opening_desk plan []) (entries plan [] (only_order plan))).active

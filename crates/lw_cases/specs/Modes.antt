@@ -1,7 +1,7 @@
 -- Plans that paint through masks and in modes, and their reports.
 use Rattle.std.specs.Prelude.{ℕ, List, [], ◌∷◌, ◌++◌, pos, neg_ℤ, codes}
 use Rattle.lw_calls.specs.declared.make.Kind.TheVariants.{Smart}
-use Rattle.lw_calls.specs.declared.call.Call.TheVariants.{SetA, SetB, SetMode, SetMask, At, Letters, SetRast}
+use Rattle.lw_calls.specs.declared.call.Call.TheVariants.{SetA, SetB, SetMode, SetMask, At, WritePixel, DrawTo, Letters, SetRast}
 use Rattle.lw_calls.specs.Planned.{Planned}
 use Rattle.lw_cases.specs.Plans.{text, one_task, with_glyph, create, fill}
 
@@ -71,3 +71,12 @@ letters_far_off =
 abbrev pub letters_far_off_report : List ℕ
 letters_far_off_report =
     text (codes "order 7/0 0 0 0 0 0 0/planes 16 1 1/plane 0/0000/visible w 1/0 0 15 0/damage w 0/" ++ codes "replies a 7/ok/ok/ok/ok/out-of-bounds/ok/out-of-bounds/done/")
+
+-- a fill, a line and a pixel in the mode JAM2 with INVERSVID, on pen 1 with pen A 2 and pen B 3
+abbrev pub inverse_shapes : Planned
+inverse_shapes =
+    one_task 16 1 2 (codes "w" ∷ []) (create 0 Smart 0 0 7 0 ∷ SetRast 0 1 ∷ SetA 0 2 ∷ SetB 0 3 ∷ SetMode 0 5 ∷ fill 0 0 0 1 0 ∷ At 0 (pos 3) (pos 0) ∷ DrawTo 0 (pos 4) (pos 0) ∷ WritePixel 0 (pos 6) (pos 0) ∷ [])
+
+abbrev pub inverse_shapes_report : List ℕ
+inverse_shapes_report =
+    text (codes "order 9/0 0 0 0 0 0 0 0 0/planes 16 1 2/plane 0/2500/plane 1/da00/visible w 1/0 0 7 0/damage w 0/" ++ codes "replies a 9/ok/ok/ok/ok/ok/ok/ok/ok/ok/done/")

@@ -84,3 +84,13 @@ scroll_in_frame =
 abbrev pub scroll_in_frame_report : List ℕ
 scroll_in_frame_report =
     text (codes "order 3/0 0 0/planes 16 14 2/plane 0/0000/0000/0000/0000/0000/0000/0000/0000/0000/0000/0000/0000/0000/0000/" ++ codes "plane 1/ffc0/ffc0/ffc0/ffc0/ffc0/ffc0/ffc0/ffc0/ffc0/ffc0/ffc0/e3c0/ffc0/ffc0/" ++ codes "visible w 4/0 0 9 10/0 11 3 11/6 11 9 11/0 12 9 13/visible c 1/4 11 5 11/damage w 0/damage c 0/messages w 0/replies a 3/ok/ok/ok/done/")
+
+-- A layer whose last column is damaged, scrolled one column to the left: the damage goes there with its pen, and stays where
+-- pen B comes in.
+abbrev pub scroll_from_damage : Planned
+scroll_from_damage =
+    one_task 16 1 1 (codes "s" ∷ codes "c" ∷ []) (create 0 Simple 0 0 3 0 ∷ create 1 Smart 3 0 3 0 ∷ Close 1 ∷ SetB 0 1 ∷ scroll_left 0 1 0 0 3 0 ∷ [])
+
+abbrev pub scroll_from_damage_report : List ℕ
+scroll_from_damage_report =
+    text (codes "order 5/0 0 0 0 0/planes 16 1 1/plane 0/1000/visible s 1/0 0 3 0/damage s 1/2 0 3 0/replies a 5/ok/ok/ok/ok/ok/done/")

@@ -4,7 +4,7 @@
 ghost use Rattle.std.specs.Prelude.{◌≡◌, []};
 ghost use Rattle.lw_calls.specs.History.{only_order};
 ghost use Rattle.lw_calls.specs.Report.{run_report};
-ghost use Rattle.lw_cases.specs.Modes.{masked_fills, masked_fills_report, masked_raster, masked_raster_report, letters_jam1, letters_jam1_report, letters_complemented, letters_complemented_report, letters_at_edges, letters_at_edges_report, codes_without_glyph, codes_without_glyph_report, letters_far_off, letters_far_off_report};
+ghost use Rattle.lw_cases.specs.Modes.{masked_fills, masked_fills_report, masked_raster, masked_raster_report, letters_jam1, letters_jam1_report, letters_complemented, letters_complemented_report, letters_at_edges, letters_at_edges_report, codes_without_glyph, codes_without_glyph_report, letters_far_off, letters_far_off_report, inverse_shapes, inverse_shapes_report};
 
 /// The planes that a mask hasn't got stay as they are, in any mode.
 pub fn mask_keeps_planes()
@@ -31,4 +31,9 @@ pub fn no_glyph_is_empty()
 /// Letters end at the last coordinate.
 pub fn letters_end_at_the_last_coordinate()
     ensures { run_report letters_far_off [] (only_order letters_far_off) ≡ letters_far_off_report }
+{}
+
+/// A fill, a line and a pixel take no notice of INVERSVID.
+pub fn inversvid_is_for_letters()
+    ensures { run_report inverse_shapes [] (only_order inverse_shapes) ≡ inverse_shapes_report }
 {}

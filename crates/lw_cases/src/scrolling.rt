@@ -4,7 +4,7 @@
 ghost use Rattle.std.specs.Prelude.{◌≡◌, []};
 ghost use Rattle.lw_calls.specs.History.{only_order};
 ghost use Rattle.lw_calls.specs.Report.{run_report};
-ghost use Rattle.lw_cases.specs.Scrolling.{scroll_past_all, scroll_past_all_report, scroll_under_cover, scroll_under_cover_report, scroll_uncovered, scroll_uncovered_report, scroll_damage, scroll_damage_report, portion_scrolled, portion_scrolled_report, scroll_right_down, scroll_right_down_report, scroll_masked, scroll_masked_report, scroll_updated, scroll_updated_report, scroll_in_frame, scroll_in_frame_report};
+ghost use Rattle.lw_cases.specs.Scrolling.{scroll_past_all, scroll_past_all_report, scroll_under_cover, scroll_under_cover_report, scroll_uncovered, scroll_uncovered_report, scroll_damage, scroll_damage_report, portion_scrolled, portion_scrolled_report, scroll_right_down, scroll_right_down_report, scroll_masked, scroll_masked_report, scroll_updated, scroll_updated_report, scroll_in_frame, scroll_in_frame_report, scroll_from_damage, scroll_from_damage_report};
 
 /// What is scrolled in from outside the rectangle has pen B, and isn't damaged.
 pub fn scroll_past_all_shows_pen_b()
@@ -28,9 +28,10 @@ pub fn scroll_goes_any_way()
     ensures { run_report scroll_right_down [] (only_order scroll_right_down) ≡ scroll_right_down_report }
 {}
 
-/// Damage moves whatever the mask, within an update too, and never into a frame.
+/// Damage moves whatever the mask, within an update too, and never into a frame; what pen B fills keeps its own.
 pub fn scroll_moves_damage()
     ensures masked { run_report scroll_masked [] (only_order scroll_masked) ≡ scroll_masked_report }
     ensures updated { run_report scroll_updated [] (only_order scroll_updated) ≡ scroll_updated_report }
     ensures in_frame { run_report scroll_in_frame [] (only_order scroll_in_frame) ≡ scroll_in_frame_report }
+    ensures from_damage { run_report scroll_from_damage [] (only_order scroll_from_damage) ≡ scroll_from_damage_report }
 {}
