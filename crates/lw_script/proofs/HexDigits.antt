@@ -1,5 +1,5 @@
 -- What hexadecimal digits spell.
-use Rattle.std.proofs.Common.{◌≡◌, ℕ, zero, suc, ◌+◌, ◌*◌, ◌<◌, ◌≤◌, map, ◌==◌, Bool, true, false, ◌&&◌, cond, List, [], ◌∷◌, length, get_or, Option, Some, None, option_map, IsTrue, refl, sym, ap, ◌∙◌, arith}
+use Rattle.std.proofs.Common.{◌≡◌, ℕ, zero, suc, ◌+◌, ◌*◌, ◌/◌, ◌<◌, ◌≤◌, map, ◌==◌, Bool, true, false, ◌&&◌, cond, List, [], ◌∷◌, length, get_or, Option, Some, None, option_map, IsTrue, refl, sym, ap, ◌∙◌, arith}
 use Rattle.std.specs.List.{list_all}
 use Rattle.lw_calls.specs.Tokens.{Token, NameToken, NumberToken, TextToken, OddToken, is_hex, hex_value, hex_bytes, spelled_bytes, bytes_in}
 use Rattle.lw_calls.specs.LineForms.{GlyphLine, glyph_of_bytes, glyph_line}
@@ -64,14 +64,14 @@ hex_at (d ∷ ds) zero h lt = (both (is_hex d) (list_all is_hex ds) h).0
 hex_at (d ∷ ds) (suc i) h lt = hex_at ds i (both (is_hex d) (list_all is_hex ds) h).1 (omega arith)
 
 -- the byte at a place among those that digits spell
-pub decoded_at : (ds : List ℕ) (i : ℕ) → 2 * i + 1 < length ds → (hex_value (get_or ds (2 * i) 0) * 16) + hex_value (get_or ds (2 * i + 1) 0) ≡ get_or (decoded ds) i 0
-decoded_at [] i lt = absurd (omega arith)
-decoded_at (a ∷ []) i lt = absurd (omega arith)
-decoded_at (a ∷ b ∷ rest) zero lt = refl
-decoded_at (a ∷ b ∷ rest) (suc i) lt =
+pub decoded_by : (ds : List ℕ) (i : ℕ) → 2 * i + 1 < length ds → (hex_value (get_or ds (2 * i) 0) * 16) + hex_value (get_or ds (2 * i + 1) 0) ≡ get_or (decoded ds) i 0
+decoded_by [] i lt = absurd (omega arith)
+decoded_by (a ∷ []) i lt = absurd (omega arith)
+decoded_by (a ∷ b ∷ rest) zero lt = refl
+decoded_by (a ∷ b ∷ rest) (suc i) lt =
     let e : 2 * suc i ≡ suc (suc (2 * i)) = omega arith in
     let f : 2 * suc i + 1 ≡ suc (suc (2 * i + 1)) = omega arith in
-    rw (f, e) (decoded_at rest i (omega arith))
+    rw (f, e) (decoded_by rest i (omega arith))
 
 -- how many bytes digits spell
 pub length-decoded : (ds : List ℕ) (count : ℕ) → length ds ≡ 2 * count → length (decoded ds) ≡ count
@@ -80,17 +80,26 @@ length-decoded (a ∷ []) count e = absurd (omega arith)
 length-decoded (a ∷ b ∷ rest) zero e = absurd (omega arith)
 length-decoded (a ∷ b ∷ rest) (suc count) e = let h = length-decoded rest count (omega arith) in omega (arith, h)
 
--- the one byte that two digits spell
-pub one_byte : (ds : List ℕ) → length ds ≡ 2 → decoded ds ≡ get_or (decoded ds) 0 0 ∷ []
-one_byte [] e = absurd (omega arith)
-one_byte (a ∷ []) e = absurd (omega arith)
-one_byte (a ∷ b ∷ []) e = refl
-one_byte (a ∷ b ∷ c ∷ ds) e = absurd (omega arith)
+-- half as many bytes as digits
+pub half : (ds : List ℕ) → length (decoded ds) ≡ length ds / 2
+half [] = refl
+half (a ∷ []) = refl
+half (a ∷ b ∷ rest) = let h = half rest in omega (arith, h)
+
+-- the digits of a byte stand among all
+pub pair_within : (ds : List ℕ) (i : ℕ) → i < length (decoded ds) → 2 * i + 1 < length ds
+pair_within ds i lt = let h = half ds in omega (arith, h)
+
+-- a byte alone
+only_one : (bs : List ℕ) → length bs ≡ 1 → bs ≡ get_or bs 0 0 ∷ []
+only_one [] e = absurd (omega arith)
+only_one (b ∷ []) e = refl
+only_one (b ∷ c ∷ bs) e = absurd (omega arith)
 
 -- the glyph of digits of its code and of its rows
-pub glyph_made : (code rows : List ℕ) (x y : Option (List ℕ)) (b : ℕ) → Some (decoded code) ≡ x → Some (decoded rows) ≡ y → length code ≡ 2 → b ≡ get_or (decoded code) 0 0 → Some (GlyphLine b (decoded rows)) ≡ glyph_of_bytes x y
+pub glyph_made : (code rows : List ℕ) (x y : Option (List ℕ)) (b : ℕ) → Some code ≡ x → Some rows ≡ y → length code ≡ 1 → b ≡ get_or code 0 0 → Some (GlyphLine b rows) ≡ glyph_of_bytes x y
 glyph_made code rows x y b e f long g =
-    let h : Some (b ∷ []) ≡ x = ap (λ c. Some (c ∷ [])) g ∙ ap Some (sym (one_byte code long)) ∙ e in
+    let h : Some (b ∷ []) ≡ x = ap (λ c. Some (c ∷ [])) g ∙ ap Some (sym (only_one code long)) ∙ e in
     rw (← h, ← f) refl
 
 -- behind a glyph's code stands one word

@@ -1,8 +1,15 @@
+mod ActNumbers
 mod AskedLines
+mod Binds
+mod BitsBehind
 mod BlitLines
 mod Classes
 mod CutLines
 mod CutWords
 mod HexDigits
+mod KnownTests
+mod LinesAlike
+mod NamesWith
 mod Numbers
+mod RectRanges
 mod Targets

@@ -1,8 +1,14 @@
 -- What a form of the reader means.
-use Rattle.std.specs.Prelude.{ℤ, List, [], ◌∷◌, ℕ}
+use Rattle.std.specs.Prelude.{ℤ, pos, List, [], ◌∷◌, ℕ}
 use Rattle.lw_region.specs.Rectangle.{Rectangle}
 use Rattle.lw_calls.specs.LineForms.{Asked as AskedMeaning, Blitting as BlittingMeaning, Act as ActMeaning, RegRectAct, RegPairAct, RegClearAct, CreateAct, OpenAct, CloseAct, FrontAct, BehindAct, InFrontAct, MoveAct, SizeAct, BoxAct, ActivateAct, WhichAct, APenAct, BPenAct, ModeAct, MaskAct, AtAct, WriteAct, ReadAct, FillAct, DrawAct, TextAct as TextActMeaning, SetRastAct, ScrollRasterAct, PutAct, BlitAct, ClipAct, UnclipAct, RefreshAct, EndRefreshAct, ScrollAct, TitleAct, GetMsgAct, LineForm as Meaning, ScreenLine, GlyphLine, BitmapLine, RowLine, TaskLine, EndLine, OrderLine, NumbersLine, ReportLine, CallLine, LockLine, UnlockLine, HoldLine, ReleaseLine, four}
+use Rattle.lw_calls.specs.declared.make.Kind.{Kind}
+use Rattle.lw_calls.specs.declared.make.Kind.TheVariants.{Simple as SimpleMeaning, Smart as SmartMeaning, SuperBitmap}
 use Rattle.lw_script.specs.declared.form.Corners.{Corners}
+use Rattle.lw_script.specs.declared.form.PlainKind.{PlainKind}
+use Rattle.lw_script.specs.declared.form.PlainKind.TheVariants.{Simple, Smart}
+use Rattle.lw_script.specs.declared.form.AskedKind.{AskedKind}
+use Rattle.lw_script.specs.declared.form.AskedKind.TheVariants.{Plain, Super}
 use Rattle.lw_script.specs.declared.form.Asked.{Asked}
 use Rattle.lw_script.specs.declared.form.Blitting.{Blitting}
 use Rattle.lw_script.specs.declared.form.BareAct.{BareAct}
@@ -25,9 +31,34 @@ use Rattle.lw_script.specs.Digits.{decoded}
 abbrev pub corners_meaning : Corners → Rectangle
 corners_meaning c = four c.x0 c.y0 c.x1 c.y1
 
+-- the kinds of layers, and the size of a bitmap of a layer's own
+abbrev pub plain_meaning : PlainKind → Kind
+plain_meaning Simple = SimpleMeaning
+plain_meaning Smart = SmartMeaning
+
+abbrev pub kind_meaning : AskedKind → Kind
+kind_meaning (Plain kind) = plain_meaning kind
+kind_meaning (Super w h) = SuperBitmap
+
+abbrev pub width_meaning : AskedKind → ℤ
+width_meaning (Plain kind) = pos 0
+width_meaning (Super w h) = w
+
+abbrev pub height_meaning : AskedKind → ℤ
+height_meaning (Plain kind) = pos 0
+height_meaning (Super w h) = h
+
 abbrev pub asked_meaning : Asked → AskedMeaning
 asked_meaning a =
-    record { kind = a.kind; place = a.place; box = corners_meaning a.corners; backdrop = a.backdrop; hook = a.hook; bits_w = a.bits_w; bits_h = a.bits_h }
+    record {
+      kind = kind_meaning a.kind;
+      place = a.place;
+      box = corners_meaning a.corners;
+      backdrop = a.backdrop;
+      hook = a.hook;
+      bits_w = width_meaning a.kind;
+      bits_h = height_meaning a.kind;
+    }
 
 abbrev pub blitting_meaning : Blitting → BlittingMeaning
 blitting_meaning b = record { sx = b.sx; sy = b.sy; x = b.x; y = b.y; w = b.w; h = b.h; minterm = b.minterm }
@@ -95,9 +126,9 @@ layers_meaning (Two l m) = l.now ∷ m.now ∷ []
 -- names by their bytes, digits by what they spell, and all else as it stands
 abbrev pub form_meaning : LineForm → Meaning
 form_meaning (Screen w h d) = ScreenLine w h d
-form_meaning (Glyph code digits) = GlyphLine code (decoded digits.now)
+form_meaning (Glyph code digits) = GlyphLine code (decoded digits.digits.now)
 form_meaning (Bitmap name w h d) = BitmapLine name.now w h d
-form_meaning (Row digits) = RowLine (decoded digits.now)
+form_meaning (Row digits) = RowLine (decoded digits.digits.now)
 form_meaning (Task name) = TaskLine name.now
 form_meaning End = EndLine
 form_meaning Order = OrderLine

@@ -1,9 +1,16 @@
 pub mod AskedParts
 pub mod BlitParts
+pub mod CallMeaning
 pub mod Cuts
 pub mod Digits
 pub mod FormMeaning
+pub mod GroupMeaning
+pub mod Known
+pub mod LineReading
+pub mod ReaderKnows
 pub mod NumbersTaken
+pub mod SectionMeaning
+pub mod Stands
 pub mod Stops
 pub mod TokenMeaning
 pub mod VerbFamilies

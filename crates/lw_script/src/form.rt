@@ -1,4 +1,5 @@
-use lw_calls::{Kind, PairOp, Place, RectOp};
+use crate::hex::Digits;
+use lw_calls::{PairOp, Place, RectOp};
 
 /// Four numbers of a line: the bounds of a rectangle, or a place and a size.
 #[derive(Clone, Copy)]
@@ -9,18 +10,30 @@ pub struct Corners {
     pub y1: i64,
 }
 
+/// The kinds of layers that have no bitmap of their own.
+#[derive(Clone, Copy)]
+pub enum PlainKind {
+    Simple,
+    Smart,
+}
+
+/// The kind of a layer that is asked for.
+#[derive(Clone, Copy)]
+pub enum AskedKind {
+    Plain(PlainKind),
+    /// A layer with a bitmap of its own of this size.
+    Super { bits_w: i64, bits_h: i64 },
+}
+
 /// A layer as a line asks for it.
 #[derive(Clone, Copy)]
 pub struct Asked {
-    pub kind: Kind,
+    pub kind: AskedKind,
     pub place: Place,
     /// The bounds of a creation, or the place and size of an opening.
     pub corners: Corners,
     pub backdrop: bool,
     pub hook: Option<i64>,
-    /// The size of a bitmap of its own, or 0 and 0.
-    pub bits_w: i64,
-    pub bits_h: i64,
 }
 
 /// A blit's places and sizes, and its minterm.
@@ -149,7 +162,7 @@ pub enum LineForm<'a> {
     /// A glyph's code, and the digits of its 8 rows.
     Glyph {
         code: u8,
-        digits: &'a [u8],
+        digits: Digits<'a>,
     },
     /// A bitmap, whose rows then follow.
     Bitmap {
@@ -159,7 +172,7 @@ pub enum LineForm<'a> {
         depth: i64,
     },
     /// The digits of a row of a bitmap.
-    Row(&'a [u8]),
+    Row(Digits<'a>),
     /// A task begins.
     Task(&'a [u8]),
     /// A task ends.

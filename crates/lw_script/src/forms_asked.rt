@@ -2,12 +2,12 @@ ghost use Rattle.std.specs.Prelude.{◌≡◌, ◌≤◌, IfSome, map, option_ma
 ghost use Rattle.lw_calls.specs.LineForms.{kind_of, place_of, flag as flag_meant, hook_option, class_of, classes_from, ask_option, create_plain, create_super, titled_line, open_plain, open_super, asked_line};
 ghost use Rattle.lw_calls.specs.Tokens.{NumberToken};
 ghost use Rattle.lw_script.specs.TokenMeaning.{token_meaning};
-ghost use Rattle.lw_script.specs.FormMeaning.{form_meaning, corners_meaning, asked_meaning};
+ghost use Rattle.lw_script.specs.FormMeaning.{form_meaning, corners_meaning, plain_meaning, asked_meaning};
 ghost use Rattle.lw_script.specs.AskedParts.{behind_numbers, with_words, with_numbers, with_names};
 
 use crate::corners::corners_in;
 use crate::cut::is_text;
-use crate::form::{Act, Asked, Corners, LineForm};
+use crate::form::{Act, Asked, AskedKind, Corners, LineForm, PlainKind};
 use crate::token::Token;
 use lw_calls::{Kind, Place};
 
@@ -126,12 +126,12 @@ fn asks_in<'a, 'b>(tokens: &'b [Token<'a>]) -> (u8, &'b [Token<'a>])
 /// What stands behind the four numbers of a creation: `[backdrop] [hook N]`
 fn create_plain<'a>(
     layer: &'a [u8],
-    kind: Kind,
+    kind: PlainKind,
     place: Place,
     corners: Corners,
     tokens: &[Token<'a>],
 ) -> Option<LineForm<'a>>
-    ensures { option_map form_meaning result ≡ create_plain layer.now kind place (corners_meaning corners) (map token_meaning tokens.now) }
+    ensures { option_map form_meaning result ≡ create_plain layer.now (plain_meaning kind) place (corners_meaning corners) (map token_meaning tokens.now) }
 {
     let (backdrop, rest) = flag(b"backdrop", tokens);
     let (hook, rest) = hook_in(rest);
@@ -139,13 +139,11 @@ fn create_plain<'a>(
         return None;
     }
     let asked = Asked {
-        kind,
+        kind: AskedKind::Plain(kind),
         place,
         corners,
         backdrop,
         hook,
-        bits_w: 0,
-        bits_h: 0,
     };
     Some(LineForm::on(layer, Act::Create(asked)))
 }
@@ -170,13 +168,14 @@ fn create_super<'a>(
                 return None;
             }
             let asked = Asked {
-                kind: Kind::SuperBitmap,
+                kind: AskedKind::Super {
+                    bits_w: *bits_w,
+                    bits_h: *bits_h,
+                },
                 place,
                 corners,
                 backdrop,
                 hook: None,
-                bits_w: *bits_w,
-                bits_h: *bits_h,
             };
             Some(LineForm::on(layer, Act::Create(asked)))
         }
@@ -216,12 +215,12 @@ fn titled<'a>(
 /// What stands behind the four numbers of an opening: `[backdrop] [borderless] [nocare] [hook N] [ask SET] "TITLE"`
 fn open_plain<'a>(
     layer: &'a [u8],
-    kind: Kind,
+    kind: PlainKind,
     place: Place,
     corners: Corners,
     tokens: &[Token<'a>],
 ) -> Option<LineForm<'a>>
-    ensures { option_map form_meaning result ≡ open_plain layer.now kind place (corners_meaning corners) (map token_meaning tokens.now) }
+    ensures { option_map form_meaning result ≡ open_plain layer.now (plain_meaning kind) place (corners_meaning corners) (map token_meaning tokens.now) }
 {
     let (backdrop, rest) = flag(b"backdrop", tokens);
     let (borderless, rest) = flag(b"borderless", rest);
@@ -229,13 +228,11 @@ fn open_plain<'a>(
     let (hook, rest) = hook_in(rest);
     let (classes, rest) = asks_in(rest);
     let asked = Asked {
-        kind,
+        kind: AskedKind::Plain(kind),
         place,
         corners,
         backdrop,
         hook,
-        bits_w: 0,
-        bits_h: 0,
     };
     titled(layer, asked, !borderless, nocare, classes, rest)
 }
@@ -255,13 +252,11 @@ fn open_sized<'a>(
     let (backdrop, rest) = flag(b"backdrop", tokens);
     let (classes, rest) = asks_in(rest);
     let asked = Asked {
-        kind: Kind::SuperBitmap,
+        kind: AskedKind::Super { bits_w, bits_h },
         place,
         corners,
         backdrop,
         hook: None,
-        bits_w,
-        bits_h,
     };
     titled(layer, asked, false, false, classes, rest)
 }
@@ -308,13 +303,13 @@ fn kind_form<'a>(
 {
     match request {
         Request::Creation => match kind {
-            Kind::Simple => create_plain(layer, Kind::Simple, place, corners, tokens),
-            Kind::Smart => create_plain(layer, Kind::Smart, place, corners, tokens),
+            Kind::Simple => create_plain(layer, PlainKind::Simple, place, corners, tokens),
+            Kind::Smart => create_plain(layer, PlainKind::Smart, place, corners, tokens),
             Kind::SuperBitmap => create_super(layer, place, corners, tokens),
         },
         Request::Opening => match kind {
-            Kind::Simple => open_plain(layer, Kind::Simple, place, corners, tokens),
-            Kind::Smart => open_plain(layer, Kind::Smart, place, corners, tokens),
+            Kind::Simple => open_plain(layer, PlainKind::Simple, place, corners, tokens),
+            Kind::Smart => open_plain(layer, PlainKind::Smart, place, corners, tokens),
             Kind::SuperBitmap => open_super(layer, place, corners, tokens),
         },
     }

@@ -7,7 +7,7 @@ ghost use Rattle.lw_script.specs.BlitParts.{only_minterm, end_taken, begin_line,
 
 use crate::corners::{corners_in, only_corners};
 use crate::form::{Act, Blitting, Corners, Layers, LineForm};
-use crate::hex::{byte_at, digits_in};
+use crate::hex::digits_in;
 use crate::token::Token;
 
 /// A blit from this place, with these numbers and this minterm behind its names.
@@ -32,7 +32,7 @@ fn minterm_in(token: &Token<'_>) -> Option<u8>
     match digits_in(1, token) {
         None => None,
         Some(digits) => {
-            let minterm = byte_at(digits, 0);
+            let minterm = digits.byte(0);
             if minterm % 16 == 0 {
                 Some(minterm)
             } else {

@@ -5,7 +5,7 @@ ghost use Rattle.lw_script.specs.TokenMeaning.{token_meaning};
 ghost use Rattle.lw_script.specs.FormMeaning.{form_meaning};
 
 use crate::form::LineForm;
-use crate::hex::{byte_at, digits_in};
+use crate::hex::digits_in;
 use crate::token::Token;
 use std::alloc::{AllocError, Global};
 
@@ -39,7 +39,7 @@ fn glyph_of<'a>(code: &Token<'a>, rows: &Token<'a>) -> Option<LineForm<'a>>
         Some(code) => match digits_in(8, rows) {
             None => None,
             Some(digits) => {
-                let code = byte_at(code, 0);
+                let code = code.byte(0);
                 Some(LineForm::Glyph { code, digits })
             }
         },
@@ -88,7 +88,7 @@ pub(crate) fn bitmap_form<'a>(tokens: &[Token<'a>]) -> Option<LineForm<'a>>
 }
 
 /// A row of a bitmap of this width.
-pub fn row_form<'a>(width: u32, tokens: &[Token<'a>]) -> Option<LineForm<'a>>
+pub(crate) fn row_form<'a>(width: u32, tokens: &[Token<'a>]) -> Option<LineForm<'a>>
     requires { width ≤ 1024 }
     ensures { option_map form_meaning result ≡ row_line width (map token_meaning tokens.now) }
 {
@@ -116,7 +116,7 @@ fn numbers_of(alloc: Global, tokens: &[Token<'_>]) -> Result<Option<Vec<i64>>, A
 }
 
 /// Numbers of an order.
-pub fn numbers_form<'a>(
+pub(crate) fn numbers_form<'a>(
     alloc: Global,
     tokens: &[Token<'a>],
 ) -> Result<Option<LineForm<'a>>, AllocError>

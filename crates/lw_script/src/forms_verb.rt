@@ -101,7 +101,7 @@ fn pair_or_text_form<'a>(verb: Verb, tokens: &[Token<'a>]) -> Option<LineForm<'a
 }
 
 /// The form of a line with this verb, if the words behind it fit one.
-pub fn form_by<'a>(verb: Verb, tokens: &[Token<'a>]) -> Option<LineForm<'a>>
+pub(crate) fn form_by<'a>(verb: Verb, tokens: &[Token<'a>]) -> Option<LineForm<'a>>
     ensures { option_map form_meaning result ≡ form_meant verb (map token_meaning tokens.now) }
 {
     match verb {

@@ -1,7 +1,10 @@
-//! Reads the lines of a script: its words, what each of them is, and the form of the line (this project's own format).
-//! `lw_calls` has the grammar as definitions, in `specs/Tokens.antt`, `Verbs.antt` and `LineForms.antt`.
+//! Reads a line of a script below those that were read: its form, or the first reason for which it is bad (this project's
+//! own format). `lw_calls` has the grammar as definitions, in `specs/Script.antt` and `ScriptReading.antt`.
 #![tactic(auto)]
 
+mod acts;
+mod calls;
+mod converted;
 mod corners;
 mod cut;
 mod form;
@@ -11,20 +14,27 @@ mod forms_layer;
 mod forms_parts;
 mod forms_verb;
 mod hex;
+mod line;
+mod ranges;
+mod reading;
+mod section;
+mod state;
 mod stop;
+mod tested;
 #[cfg(test)]
 mod tests;
 mod token;
 mod tokens;
 mod verbs;
 
+pub use acts::Opened;
 pub use cut::cut_line;
 pub use form::{
-    Act, Asked, BareAct, Blitting, Corners, Layers, LineForm, NumberAct, PairAct, TextAct,
+    Act, Asked, AskedKind, BareAct, Blitting, Corners, Layers, LineForm, NumberAct, PairAct,
+    PlainKind, TextAct,
 };
-pub use forms_parts::{numbers_form, row_form};
-pub use forms_verb::form_by;
+pub use hex::Digits;
+pub use line::{is_skipped, line_words, words_form};
+pub use section::{Section, is_second_task, stands_in};
+pub use state::{AssetsRead, Reader, TasksRead};
 pub use stop::Stop;
-pub use token::{Token, token_of, tokens_of};
-pub use tokens::words_of;
-pub use verbs::verb_of;

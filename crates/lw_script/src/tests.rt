@@ -1,4 +1,8 @@
-use crate::{Stop, form_by, tokens_of, verb_of, words_of};
+use crate::Stop;
+use crate::forms_verb::form_by;
+use crate::token::tokens_of;
+use crate::tokens::words_of;
+use crate::verbs::verb_of;
 use lw_calls::Reason;
 use std::alloc::{AllocError, Global};
 use std::test::Fail;

@@ -126,7 +126,7 @@ fn plain_token(word: &[u8]) -> Token<'_>
 }
 
 /// What a word is.
-pub fn token_of(word: &[u8]) -> Token<'_>
+pub(crate) fn token_of(word: &[u8]) -> Token<'_>
     ensures { token_meaning result ≡ token_of word.now }
 {
     match word {
@@ -136,7 +136,7 @@ pub fn token_of(word: &[u8]) -> Token<'_>
 }
 
 /// What the words are.
-pub fn tokens_of<'a>(alloc: Global, words: &[&'a [u8]]) -> Result<Vec<Token<'a>>, AllocError>
+pub(crate) fn tokens_of<'a>(alloc: Global, words: &[&'a [u8]]) -> Result<Vec<Token<'a>>, AllocError>
     ensures { IfOk result (λ found. map token_meaning found.items ≡ map token_of (targets words.now)) }
 {
     let mut found = Vec::with_capacity(alloc, words.len())?;

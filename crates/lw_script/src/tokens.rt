@@ -63,7 +63,7 @@ fn cut_word(line: &[u8]) -> Result<(&[u8], Option<&[u8]>), Reason>
 }
 
 /// The words of a line, or its leftmost fault of spacing or quotes.
-pub fn words_of(alloc: Global, line: &[u8]) -> Result<Vec<&[u8]>, Stop>
+pub(crate) fn words_of(alloc: Global, line: &[u8]) -> Result<Vec<&[u8]>, Stop>
     ensures found { IfOk result (λ words. tokens line.now ≡ Ok (targets words.items)) }
     ensures stopped { IfErr result (λ stop. Tells stop (tokens line.now)) }
 {

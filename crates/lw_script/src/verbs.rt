@@ -178,7 +178,7 @@ fn clip_verb(word: &[u8]) -> Option<Verb>
 
 /// The verb that a word is, if it is one.
 #[tactic(auto, unfolding(lw_calls::specs::Verbs::verb_of))]
-pub fn verb_of(word: &[u8]) -> Option<Verb>
+pub(crate) fn verb_of(word: &[u8]) -> Option<Verb>
     ensures { result ≡ verb_of word.now }
 {
     if let Some(verb) = part_verb(word) {

@@ -1,7 +1,7 @@
 use Rattle.std.proofs.Common.{◌≡◌, ◌∙◌, sym, ap, option_map, Some}
 use Rattle.lw_script.specs.Digits.{spelling}
 use Rattle.lw_script.specs.TokenMeaning.{token_meaning}
-use Rattle.lw_script.proofs.HexDigits.{bytes_of_word, spells, spells_not, too_long}
+use Rattle.lw_script.proofs.HexDigits.{bytes_of_word, length-decoded, spells, spells_not, too_long}
 use Rattle.lw_script.proofs.hex.digits_in.Goals as goal
 
 pub returns-then-word-count-clause-bytes : goal.returns-then-word-count-clause-bytes
@@ -18,3 +18,6 @@ pub returns-else-not-are_hex-clause-bytes : goal.returns-else-not-are_hex-clause
 returns-else-not-are_hex-clause-bytes c =
     let e : spelling (token_meaning c.args.token.now) ≡ Some c.in-Some.word.now = sym c.word_of.ensures ∙ ap (option_map (λ w. w.now)) c.in-Some.is in
     sym (bytes_of_word (token_meaning c.args.token.now) c.in-Some.word.now c.args.count e ∙ spells c.in-Some.word.now c.args.count c.if-word-count.false (sym c.are_hex.ensures ∙ c.if-not-are_hex.false))
+
+pub returns-else-not-are_hex-clause-long : goal.returns-else-not-are_hex-clause-long
+returns-else-not-are_hex-clause-long c = length-decoded c.in-Some.word.now c.args.count c.if-word-count.false

@@ -1,0 +1,59 @@
+//! The form of a line below those read so far.
+ghost use Rattle.std.specs.Prelude.{◌≤◌, List};
+ghost use Rattle.lw_calls.specs.LineForms.{LineForm as FormValue};
+ghost use Rattle.lw_calls.specs.Script.{Setting};
+ghost use Rattle.lw_calls.specs.ScriptReading.{line_read};
+ghost use Rattle.lw_script.specs.Cuts.{targets};
+ghost use Rattle.lw_script.specs.SectionMeaning.{section_meaning};
+ghost use Rattle.lw_script.specs.LineReading.{Reads, words_read_in, line_read_in};
+ghost use Rattle.lw_script.specs.ReaderKnows.{known};
+ghost use Rattle.lw_script.specs.Stands.{Stands};
+
+use crate::form::LineForm;
+use crate::line::{line_words, words_form};
+use crate::state::Reader;
+use crate::stop::Stop;
+use std::alloc::Global;
+
+impl<'a> Reader<'a> {
+    /// The form of a line of these words, or its first reason.
+    fn words_line(&self, alloc: Global, words: &[&'a [u8]]) -> Result<LineForm<'a>, Stop>
+        requires { self.now.assets.width ≤ 1024 }
+        ensures { Reads result (words_read_in (known self.now) self.now.form (section_meaning self.now.section) self.now.assets.due (targets words.now)) }
+    {
+        let due = self.assets.due;
+        match words_form(
+            alloc,
+            self.form,
+            self.section,
+            due,
+            self.assets.width,
+            words,
+        ) {
+            Err(stop) => Err(stop),
+            Ok(form) => match self.tested(&form) {
+                Err(reason) => Err(Stop::Refused(reason)),
+                Ok(()) => Ok(form),
+            },
+        }
+    }
+
+    /// The form of a line that isn't passed, or its first reason.
+    fn line(&self, alloc: Global, line: &'a [u8]) -> Result<LineForm<'a>, Stop>
+        requires { self.now.assets.width ≤ 1024 }
+        ensures { Reads result (line_read_in (known self.now) self.now.form (section_meaning self.now.section) self.now.assets.due line.now) }
+    {
+        match line_words(alloc, line) {
+            Err(stop) => Err(stop),
+            Ok(words) => self.words_line(alloc, words.as_slice()),
+        }
+    }
+
+    /// The form of a line that isn't passed, below the lines that were read, or its first reason.
+    pub fn read_line(&self, alloc: Global, line: &'a [u8]) -> Result<LineForm<'a>, Stop>
+        requires { self.now.assets.width ≤ 1024 }
+        ensures { (s : Setting) (above : List FormValue) → Stands s self.now above → Reads result (line_read s above line.now) }
+    {
+        self.line(alloc, line)
+    }
+}

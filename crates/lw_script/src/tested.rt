@@ -1,0 +1,232 @@
+//! The tests of a line's form by what was read so far.
+ghost use Rattle.std.specs.Prelude.{◌≡◌, nat_le, length, IsTrue};
+ghost use Rattle.lw_calls.specs.Limits.{call_limit};
+ghost use Rattle.lw_calls.specs.LineForms.{is_line_in_range};
+ghost use Rattle.lw_calls.specs.LinesAbove.{and_name, hook_on};
+ghost use Rattle.lw_calls.specs.Script.{lacks_name, super_limit, fits_group, is_no_hook, has_padding};
+ghost use Rattle.lw_script.specs.FormMeaning.{form_meaning};
+ghost use Rattle.lw_script.specs.Known.{gives_again_in, tasks_with, bitmaps_with, calls_with, supers_with, names_with, are_few_in, is_used_in, is_unbuilt_in, tested_in};
+ghost use Rattle.lw_script.specs.ReaderKnows.{known};
+
+use crate::converted::hook;
+use crate::cut::is_text;
+use crate::form::{Act, Layers, LineForm};
+use crate::state::{Reader, has_hook, has_name};
+use lw_calls::Reason;
+
+/// How many tasks, bitmaps, layer names, lines that ask for a super-bitmap layer, and calls of a task a script has at most.
+const TASK_LIMIT: usize = 16;
+
+const BITMAP_LIMIT: usize = 16;
+
+const NAME_LIMIT: usize = 64;
+
+const SUPER_LIMIT: u32 = 16;
+
+const CALL_LIMIT: u32 = 4096;
+
+impl<'a> Reader<'a> {
+    /// Whether the bitmap that the line names doesn't stand above.
+    fn lacks_name(&self, form: &LineForm<'a>) -> bool
+        ensures { result ≡ lacks_name (known self.now).bitmaps (form_meaning form.now) }
+    {
+        match form {
+            LineForm::Call {
+                act: Act::Put { bitmap, .. },
+                ..
+            } => !has_name(&self.assets.names, bitmap),
+            _ => false,
+        }
+    }
+
+    /// Whether the line gives a bitmap, a task or a code again.
+    fn gives_again(&self, form: &LineForm<'a>) -> bool
+        ensures { result ≡ gives_again_in (known self.now) (form_meaning form.now) }
+    {
+        match form {
+            LineForm::Glyph { code, .. } => self.assets.given[*code as usize],
+            LineForm::Bitmap { name, .. } => has_name(&self.assets.names, name),
+            LineForm::Task(name) => has_name(&self.tasks.task_names, name),
+            _ => false,
+        }
+    }
+
+    /// How many tasks there are with the line.
+    fn tasks_with(&self, form: &LineForm<'a>) -> usize
+        ensures { result ≡ tasks_with (known self.now) (form_meaning form.now) }
+    {
+        match form {
+            LineForm::Task(_) => self.tasks.task_names.len() + 1,
+            _ => self.tasks.task_names.len(),
+        }
+    }
+
+    /// How many bitmaps there are with the line.
+    fn bitmaps_with(&self, form: &LineForm<'a>) -> usize
+        ensures { result ≡ bitmaps_with (known self.now) (form_meaning form.now) }
+    {
+        match form {
+            LineForm::Bitmap { .. } => self.assets.names.len() + 1,
+            _ => self.assets.names.len(),
+        }
+    }
+
+    /// Whether the line's call is one too many.
+    fn has_room_for_call(&self, form: &LineForm<'a>) -> bool
+        ensures { result ≡ nat_le (calls_with (known self.now) (form_meaning form.now)) call_limit }
+    {
+        match form {
+            LineForm::Task(_) => true,
+            LineForm::Call { .. } => self.tasks.so_far < CALL_LIMIT,
+            _ => self.tasks.so_far <= CALL_LIMIT,
+        }
+    }
+
+    /// Whether the line's super-bitmap layer is one too many.
+    fn has_room_for_super(&self, form: &LineForm<'a>) -> bool
+        ensures { result ≡ nat_le (supers_with (known self.now) (form_meaning form.now)) super_limit }
+    {
+        if form.asks_super() {
+            self.tasks.supers < SUPER_LIMIT
+        } else {
+            self.tasks.supers <= SUPER_LIMIT
+        }
+    }
+
+    /// How many layer names there are with this one.
+    fn with_name(&self, name: &&'a [u8]) -> usize
+        ensures { result ≡ length (and_name (known self.now).names name.now.now) }
+    {
+        if has_name(&self.tasks.layer_names, name) {
+            self.tasks.layer_names.len()
+        } else {
+            self.tasks.layer_names.len() + 1
+        }
+    }
+
+    /// How many layer names there are with these two.
+    fn with_two(&self, first: &&'a [u8], second: &&'a [u8]) -> usize
+        ensures { result ≡ length (and_name (and_name (known self.now).names first.now.now) second.now.now) }
+    {
+        if has_name(&self.tasks.layer_names, first) {
+            return self.with_name(second);
+        }
+        if is_text(*second, *first) {
+            return self.tasks.layer_names.len() + 1;
+        }
+        if has_name(&self.tasks.layer_names, second) {
+            return self.tasks.layer_names.len() + 1;
+        }
+        self.tasks.layer_names.len() + 2
+    }
+
+    /// How many layer names there are with those of the line.
+    fn names_with(&self, form: &LineForm<'a>) -> usize
+        ensures { result ≡ names_with (known self.now) (form_meaning form.now) }
+    {
+        match form {
+            LineForm::Lock(name) | LineForm::Unlock(name) => self.with_name(name),
+            LineForm::Call {
+                layers: Layers::One(name),
+                ..
+            } => self.with_name(name),
+            LineForm::Call {
+                layers: Layers::Two(first, second),
+                ..
+            } => self.with_two(first, second),
+            _ => self.tasks.layer_names.len(),
+        }
+    }
+
+    /// Whether nothing of the line is one too many.
+    fn has_room(&self, form: &LineForm<'a>) -> bool
+        ensures { result ≡ are_few_in (known self.now) (form_meaning form.now) }
+    {
+        ((self.tasks_with(form) <= TASK_LIMIT && self.bitmaps_with(form) <= BITMAP_LIMIT)
+            && self.names_with(form) <= NAME_LIMIT)
+            && (self.has_room_for_super(form) && self.has_room_for_call(form))
+    }
+
+    /// Whether there is no hook of the number that the line names.
+    fn is_no_hook(&self, form: &LineForm<'a>) -> bool
+        requires { IsTrue (is_line_in_range (form_meaning form.now)) }
+        ensures { result ≡ is_no_hook (known self.now).hooks (hook_on (form_meaning form.now)) }
+    {
+        match form.hook() {
+            None => false,
+            Some(number) => number.unsigned_abs() >= u64::from(self.hooks),
+        }
+    }
+
+    /// Whether the hook that the line names is used.
+    fn is_used(&self, form: &LineForm<'a>) -> bool
+        requires { IsTrue (is_line_in_range (form_meaning form.now)) }
+        ensures { result ≡ is_used_in (known self.now).used (hook_on (form_meaning form.now)) }
+    {
+        match form.hook() {
+            None => false,
+            Some(number) => has_hook(&self.tasks.used, &hook(number)),
+        }
+    }
+
+    /// Whether a bit of the row behind the bitmap's width is 1.
+    fn has_padding(&self, form: &LineForm<'a>) -> bool
+        ensures { result ≡ has_padding (known self.now).width (form_meaning form.now) }
+    {
+        match form {
+            LineForm::Row(digits) => digits.has_bit_from(self.assets.width),
+            _ => false,
+        }
+    }
+
+    /// Whether the open group may have the line.
+    fn fits_group(&self, form: &LineForm<'a>) -> bool
+        ensures { result ≡ fits_group (known self.now).group (known self.now).some (form_meaning form.now) }
+    {
+        form.fits_group(&self.tasks.group, self.tasks.began < self.tasks.so_far)
+    }
+
+    /// The first reason for which a line of this form is bad, if it is bad.
+    pub fn tested(&self, form: &LineForm<'a>) -> Result<(), Reason>
+        ensures { result ≡ tested_in (known self.now) (form_meaning form.now) }
+    {
+        if !form.is_in_range() {
+            return Err(Reason::Range);
+        }
+        if self.lacks_name(form) {
+            return Err(Reason::NoName);
+        }
+        if self.gives_again(form) {
+            return Err(Reason::DoubleName);
+        }
+        if !self.fits_group(form) {
+            return Err(Reason::Group);
+        }
+        if !self.has_room(form) {
+            return Err(Reason::TooMany);
+        }
+        if self.is_no_hook(form) {
+            return Err(Reason::NoHook);
+        }
+        if self.is_used(form) {
+            return Err(Reason::HookUsed);
+        }
+        if self.has_padding(form) {
+            return Err(Reason::Padding);
+        }
+        if is_unbuilt(form) {
+            return Err(Reason::NotBuilt);
+        }
+        Ok(())
+    }
+}
+
+/// Whether the line is a call that can't be made so far.
+fn is_unbuilt(form: &LineForm<'_>) -> bool
+    ensures { result ≡ is_unbuilt_in (form_meaning form.now) }
+{
+    match form {
+        LineForm::Call { act, .. } => !act.is_built(),
+        _ => false,
+    }
+}
