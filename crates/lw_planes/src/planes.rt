@@ -4,6 +4,7 @@ ghost use Rattle.std.specs.Borrow.{sem};
 ghost use Rattle.lw_planes.specs.Row.{row_bit};
 ghost use Rattle.lw_planes.specs.Bitmap.{bitmap, pen_at, row_bytes};
 ghost use Rattle.lw_planes.specs.Sizes.{AreSizes, IsPlanes};
+ghost use Rattle.lw_planes.specs.Storage.{stored, IsStored};
 ghost use Rattle.lw_planes.specs.Change.{with_pen};
 ghost use Rattle.lw_planes.specs.Lending.{LendsRow};
 
@@ -48,6 +49,24 @@ impl Planes {
             depth,
             bytes,
         })
+    }
+
+    /// A bitmap of these sizes whose planes are the bytes: plane after plane, the plane of bit 0 first, in each
+    /// plane row after row from the top, and in each row `((width + 15) / 16) * 2` bytes, whole 16-bit words
+    /// whose most significant bit is the leftmost pixel (the manual's Graphics Primitives chapter has the
+    /// planes; that they come one after another in one vector is this project's own). So the vector has
+    /// `depth * height * ((width + 15) / 16) * 2` bytes. The bits behind a row's last pixel are padding: they
+    /// are no part of the bitmap, and may be anything. No memory is taken.
+    pub fn from_bytes(width: u32, height: u32, depth: u32, bytes: Vec<u8>) -> Planes
+        requires { IsStored width height depth bytes.items }
+        ensures { result ≡ stored width height depth bytes.items }
+    {
+        Planes {
+            width,
+            height,
+            depth,
+            bytes,
+        }
     }
 
     /// The number of columns, 1 to 2048.
@@ -177,6 +196,20 @@ mod tests {
             (planes.pen(1, 0), planes.pen(0, 1), planes.pen(16, 0)),
             (0, 0, 0)
         );
+        Ok(())
+    }
+
+    // The bytes C0 00 80 00 of plane 0 have ones at the pixels 0, 1 and 16; 40 00 FF FF of plane 1 at the pixels
+    // 1 and 16, and 15 more in the padding, which no pixel sees.
+    #[test]
+    fn bytes_handed_in_are_the_planes(rt: HostRuntime) -> Result<(), Fail> {
+        let bytes = vec![in rt.alloc(); 0xc0, 0, 0x80, 0, 0x40, 0, 0xff, 0xff]?;
+        let planes = Planes::from_bytes(17, 1, 2, bytes);
+        assert_eq!(rt; planes.row(1, 0), [0x40, 0, 0xff, 0xff].as_slice());
+        let want = [1, 3, 0, 0, 0, 0, 0, 0, 0, 0, 0, 0, 0, 0, 0, 0, 3];
+        for x in 0..17 {
+            assert_eq!(rt; planes.pen(x, 0), want[x as usize], "column {x}");
+        }
         Ok(())
     }
 
