@@ -5,12 +5,13 @@ use Rattle.lw_region.specs.Rectangle.{within}
 use Rattle.lw_calls.specs.declared.make.Kind.{Kind}
 use Rattle.lw_calls.specs.declared.make.Kind.TheVariants.{Simple, Smart, SuperBitmap}
 use Rattle.lw_calls.specs.declared.sizes.Sizes.{Sizes}
-use Rattle.lw_calls.specs.Limits.{is_coordinate, hook_fits, kind_fits, make_fits, axis_fits, rect_fits, is_byte, window_fits, call_fits}
+use Rattle.lw_calls.specs.Limits.{is_coordinate, hook_fits, kind_fits, make_fits, axis_fits, rect_fits, is_byte, window_fits, call_fits, is_extent}
 use Rattle.lw_calls.specs.Layer.{is_super}
-use Rattle.lw_calls.specs.LineForms.{Asked, Act, RegRectAct, RegPairAct, RegClearAct, CreateAct, OpenAct, CloseAct, FrontAct, BehindAct, InFrontAct, MoveAct, SizeAct, BoxAct, ActivateAct, WhichAct, APenAct, BPenAct, ModeAct, MaskAct, AtAct, WriteAct, ReadAct, FillAct, DrawAct, TextAct, SetRastAct, ScrollRasterAct, PutAct, BlitAct, ClipAct, UnclipAct, RefreshAct, EndRefreshAct, ScrollAct, TitleAct, GetMsgAct, CallLine, is_size, is_hook_number, is_own_size, is_asked_in_range, is_box, is_act_in_range}
+use Rattle.lw_calls.specs.LineForms.{Asked, Act, RegRectAct, RegPairAct, RegClearAct, CreateAct, OpenAct, CloseAct, FrontAct, BehindAct, InFrontAct, MoveAct, SizeAct, BoxAct, ActivateAct, WhichAct, APenAct, BPenAct, ModeAct, MaskAct, AtAct, WriteAct, ReadAct, FillAct, DrawAct, TextAct, SetRastAct, ScrollRasterAct, PutAct, BlitAct, ClipAct, UnclipAct, RefreshAct, EndRefreshAct, ScrollAct, TitleAct, GetMsgAct, CallLine, is_hook_number, is_own_size, is_asked_in_range, is_box, is_act_in_range}
 use Rattle.lw_calls.specs.LinesAbove.{place_among, hook_on, make_of, created_make, opened_make, spelled_call}
 use Rattle.lw_calls.specs.Script.{lacks_name, is_no_hook}
-use Rattle.lw_calls.proofs.ScriptForms.{layers_of, IsAskedOf, IsActMade}
+use Rattle.lw_calls.specs.LineForms.{layers_of}
+use Rattle.lw_calls.proofs.ScriptForms.{IsAskedOf, IsActMade}
 use Rattle.lw_calls.proofs.ScriptNames.{place_below}
 use Rattle.std.proofs.lemmas.Int.{ints}
 use Rattle.std.proofs.lemmas.Bool.{not-false, lt-ltb, le-leb, eq-eqb, and_parts, and_from}
@@ -39,7 +40,7 @@ unfolding within axis_fits
 span_fits low high h = grind (arith, ints, nat_tests)
 
 -- so is the width or height of a box
-box_fits : (z : ℤ) → is_size z ≡ true → within (pos 1) z (pos 65536) ≡ true
+box_fits : (z : ℤ) → is_extent z ≡ true → within (pos 1) z (pos 65536) ≡ true
 unfolding within
 box_fits z h = grind (arith, ints, nat_tests)
 
@@ -83,7 +84,7 @@ opened_fits z a m r k =
     let parts = and_parts (is_box a.box) (is_asked_in_range a) r in
     let halves = and_parts (is_coordinate a.box.min_x && is_coordinate a.box.min_y) _ parts.0 in
     let place = and_parts (is_coordinate a.box.min_x) _ halves.0 in
-    let size = and_parts (is_size a.box.max_x) _ halves.1 in
+    let size = and_parts (is_extent a.box.max_x) _ halves.1 in
     make_made z a _ _ _ _ m parts.1 k place.0 place.1 (box_fits _ size.0) (box_fits _ size.1)
 
 -- a window that is asked for

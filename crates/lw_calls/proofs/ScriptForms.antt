@@ -18,7 +18,7 @@ use Rattle.lw_calls.specs.declared.verb.Verb.TheVariants.{Screen as ScreenVerb, 
 use Rattle.lw_calls.specs.Limits.{is_minterm}
 use Rattle.lw_calls.specs.Layer.{is_super}
 use Rattle.lw_calls.specs.Tokens.{Token, NameToken, NumberToken, TextToken, OddToken, token_of, is_hex, hex_value, hex_bytes, spelled_bytes, bytes_in}
-use Rattle.lw_calls.specs.LineForms.{Asked, Act, RegRectAct, RegPairAct, RegClearAct, CreateAct, OpenAct, CloseAct, FrontAct, BehindAct, InFrontAct, ActivateAct, WhichAct, ScrollRasterAct, PutAct, BlitAct, UnclipAct, RefreshAct, EndRefreshAct, GetMsgAct, LineForm, ScreenLine, GlyphLine, BitmapLine, RowLine, TaskLine, EndLine, OrderLine, NumbersLine, ReportLine, CallLine, LockLine, UnlockLine, HoldLine, ReleaseLine, four, screen_line, glyph_of_bytes, glyph_line, bitmap_line, row_line, all_numbers, numbers_limit, numbers_line, name_line, bare_line, layer_line, number_line, pair_line, text_line, rect_line, region_line, clear_line, which_line, infront_line, four_line, scrollraster_line, minterm_of, put_line, blit_line, endrefresh_line, kind_of, place_of, flag, hook_option, class_of, classes_from, asked_classes, ask_option, at_end, create_super, create_kind, titled_line, open_super, open_kind, asked_line, form_by}
+use Rattle.lw_calls.specs.LineForms.{layers_of, Asked, Act, RegRectAct, RegPairAct, RegClearAct, CreateAct, OpenAct, CloseAct, FrontAct, BehindAct, InFrontAct, ActivateAct, WhichAct, ScrollRasterAct, PutAct, BlitAct, UnclipAct, RefreshAct, EndRefreshAct, GetMsgAct, LineForm, ScreenLine, GlyphLine, BitmapLine, RowLine, TaskLine, EndLine, OrderLine, NumbersLine, ReportLine, CallLine, LockLine, UnlockLine, HoldLine, ReleaseLine, four, screen_line, glyph_of_bytes, glyph_line, bitmap_line, row_line, all_numbers, numbers_limit, numbers_line, name_line, bare_line, layer_line, number_line, pair_line, text_line, rect_line, region_line, clear_line, which_line, infront_line, four_line, scrollraster_line, minterm_of, put_line, blit_line, endrefresh_line, kind_of, place_of, flag, hook_option, class_of, classes_from, asked_classes, ask_option, at_end, create_super, create_kind, titled_line, open_super, open_kind, asked_line, form_by}
 use Rattle.lw_calls.specs.LinesAbove.{Section, section_of, rows_due, row_width}
 use Rattle.lw_calls.specs.Script.{Setting, is_screen_due, are_assets_due, are_calls_due, are_tasks_due, are_numbers_due, is_ordered, is_audited, is_plain, stands_in, is_task_verb, verb_on, behind_verb}
 use Rattle.lw_calls.specs.Demands.{◌>>=◌, demand}
@@ -42,16 +42,6 @@ stands_at form s (LockLine name) = are_calls_due s
 stands_at form s (UnlockLine name) = are_calls_due s
 stands_at form s HoldLine = are_calls_due s
 stands_at form s ReleaseLine = are_calls_due s
-
--- how many layers the line of a call names
-abbrev pub layers_of : Act → ℕ
-layers_of (RegRectAct op r rect) = 0
-layers_of (RegPairAct op s r) = 0
-layers_of (RegClearAct r) = 0
-layers_of (WhichAct x y) = 0
-layers_of InFrontAct = 2
-layers_of (BlitAct b) = 2
-layers_of act = 1
 
 -- a layer with a bitmap of its own has no hook, and no other has the size of one
 abbrev pub IsAskedOf : Kind → Asked → Type 0
@@ -93,7 +83,7 @@ call_so : (form : Form) (s : Section) (layers : List (List ℕ)) (act : Act) →
 call_so form s layers act n h = record { place = λ e. e; begins = refl; made = (n, h) }
 
 -- of two options that have a property, each has it
-either_has : {A : Type 0} (P : A → Type 0) (b : Bool) (x y : Option A) → IfSome x P → IfSome y P → IfSome (cond b x y) P
+pub either_has : {A : Type 0} (P : A → Type 0) (b : Bool) (x y : Option A) → IfSome x P → IfSome y P → IfSome (cond b x y) P
 either_has P true x y h k = h
 either_has P false x y h k = k
 
@@ -103,7 +93,7 @@ then_has P g None h = tt
 then_has P g (Some a) h = h a
 
 -- what is made of what is found, by what is known of this
-map_has : {A B : Type 0} (Q : A → Type 0) (P : B → Type 0) (g : A → B) (o : Option A) → IfSome o Q → ((a : A) → Q a → P (g a)) → IfSome (option_map g o) P
+pub map_has : {A B : Type 0} (Q : A → Type 0) (P : B → Type 0) (g : A → B) (o : Option A) → IfSome o Q → ((a : A) → Q a → P (g a)) → IfSome (option_map g o) P
 map_has Q P g None q h = tt
 map_has Q P g (Some a) q h = h a q
 
@@ -152,7 +142,7 @@ word_spelled count word = step (length word == 2 * count) refl (hex_bytes word) 
     step true e (Some bytes) h = let same : length word ≡ 2 * count = eqb-true _ _ e in (omega (arith, h.0, same), h.1)
 
 -- the same of what a word is
-token_spelled : (count : ℕ) (t : Token) → IfSome (bytes_in count t) (AreSoMany count)
+pub token_spelled : (count : ℕ) (t : Token) → IfSome (bytes_in count t) (AreSoMany count)
 token_spelled count (NameToken word) = word_spelled count word
 token_spelled count (NumberToken word z) = word_spelled count word
 token_spelled count (TextToken text) = tt
@@ -435,7 +425,7 @@ verb_here s above e stands task h a (NumbersLine zs) k = absurd (false≢true (k
 verb_here s above e stands task h a f k = (e, k.place h, ap (λ b. is_task_refused s above && b) k.begins ∙ a, k.made)
 
 -- what is found is found as a result too
-found_has : {A : Type 0} (P : A → Type 0) (o : Option A) (r : Reason) → IfSome o P → IfOk (ok_or o r) P
+pub found_has : {A : Type 0} (P : A → Type 0) (o : Option A) (r : Reason) → IfSome o P → IfOk (ok_or o r) P
 found_has P None r h = tt
 found_has P (Some a) r h = h
 

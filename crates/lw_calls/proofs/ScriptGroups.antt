@@ -11,7 +11,7 @@ use Rattle.lw_calls.specs.Planned.{is_one, is_all, begins_update, ends_update, m
 use Rattle.lw_calls.specs.LineForms.{Act, RegRectAct, RegPairAct, RegClearAct, CreateAct, OpenAct, CloseAct, FrontAct, BehindAct, InFrontAct, MoveAct, SizeAct, BoxAct, ActivateAct, WhichAct, BlitAct, RefreshAct, EndRefreshAct}
 use Rattle.lw_calls.specs.LinesAbove.{place_among, spelled_call}
 use Rattle.lw_calls.specs.Script.{is_arranging, is_beginning, is_ending, are_all, is_on_one}
-use Rattle.lw_calls.proofs.ScriptForms.{layers_of}
+use Rattle.lw_calls.specs.LineForms.{layers_of}
 use Rattle.lw_calls.proofs.ScriptNames.{equal_names}
 use Rattle.std.proofs.lemmas.Bool.{true≢false, false≢true, lt-ltb, le-leb, ltb-true, leb-true, eq-eqb, and_parts, and_from, or_left, or_right, not-true}
 use Rattle.std.proofs.lemmas.List.{take_all, take-append-le, drop-append-le}

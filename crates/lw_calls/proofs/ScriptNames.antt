@@ -28,7 +28,7 @@ any_push : (p : List ℕ → Bool) (names : List (List ℕ)) (n : List ℕ) → 
 any_push p [] n h = rw h refl
 any_push p (m ∷ ms) n h = or_right (p m) _ (any_push p ms n h)
 
-any_before : (p : List ℕ → Bool) (names more : List (List ℕ)) → list_any p names ≡ true → list_any p (names ++ more) ≡ true
+pub any_before : (p : List ℕ → Bool) (names more : List (List ℕ)) → list_any p names ≡ true → list_any p (names ++ more) ≡ true
 any_before p [] more h = absurd (false≢true h)
 any_before p (m ∷ ms) more h = step (p m) h (any_before p ms more)
   where
@@ -36,7 +36,7 @@ any_before p (m ∷ ms) more h = step (p m) h (any_before p ms more)
     step true e go = refl
     step false e go = go e
 
-place_before : (p : List ℕ → Bool) (names more : List (List ℕ)) → list_any p names ≡ true → position_or_len p (names ++ more) ≡ position_or_len p names
+pub place_before : (p : List ℕ → Bool) (names more : List (List ℕ)) → list_any p names ≡ true → position_or_len p (names ++ more) ≡ position_or_len p names
 place_before p [] more h = absurd (false≢true h)
 place_before p (m ∷ ms) more h = step (p m) h (place_before p ms more)
   where

@@ -14,7 +14,7 @@ use Rattle.lw_calls.proofs.ScriptTasks.{view_of, IsTaskFit, HaveBegun, TasksAre,
 use Rattle.std.proofs.lemmas.Bool.{eqb-true, ltb-true}
 
 -- no rows are due where no bitmap may stand
-rows_done : (s : Setting) (above : List LineForm) → AreGoodLines s above → are_assets_due (section_of above) ≡ false → rows_due above ≡ 0
+pub rows_done : (s : Setting) (above : List LineForm) → AreGoodLines s above → are_assets_due (section_of above) ≡ false → rows_due above ≡ 0
 rows_done s above g e = go (rows_due above == 0) refl
   where
     go : (t : Bool) → (rows_due above == 0) ≡ t → rows_due above ≡ 0

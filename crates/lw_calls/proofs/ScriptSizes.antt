@@ -8,11 +8,11 @@ use Rattle.lw_planes.proofs.StorageLaws.{IsPlanes-stored}
 use Rattle.lw_calls.specs.declared.reason.Reason.{Reason}
 use Rattle.lw_calls.specs.declared.form.Form.{Form}
 use Rattle.lw_calls.specs.declared.form.Form.TheVariants.{Plain, Ordered, Audited}
-use Rattle.lw_calls.specs.Limits.{name_limit, call_limit}
+use Rattle.lw_calls.specs.Limits.{name_limit, call_limit, task_limit, bitmap_limit}
 use Rattle.lw_calls.specs.Demands.{◌>>=◌, demand}
 use Rattle.lw_calls.specs.LineForms.{LineForm, ScreenLine, GlyphLine, BitmapLine, RowLine, TaskLine, EndLine, OrderLine, NumbersLine, ReportLine, is_line_in_range}
 use Rattle.lw_calls.specs.LinesAbove.{Section, ScreenIsDue, AssetsAreDue, CallsAreDue, TasksAreDue, NumbersAreDue, NothingIsDue, section_of, rows_due, row_width, width_above, height_above, depth_above, tasks_above, bitmaps_above, names_above, supers_above, hook_on, hooks_above, group_above, calls_so_far, began_at, glyph_above, bitmaps_with, order_above}
-use Rattle.lw_calls.specs.Script.{Setting, is_screen_due, are_assets_due, are_calls_due, are_tasks_due, are_numbers_due, is_nothing_due, is_plain, lacks_name, gives_again, fits_group, task_limit, bitmap_limit, super_limit, are_few, is_no_hook, is_used, has_padding, is_unbuilt, is_whole}
+use Rattle.lw_calls.specs.Script.{Setting, is_screen_due, are_assets_due, are_calls_due, are_tasks_due, are_numbers_due, is_nothing_due, is_plain, lacks_name, gives_again, fits_group, super_limit, are_few, is_no_hook, is_used, has_padding, is_unbuilt, is_whole}
 use Rattle.lw_calls.specs.ScriptReading.{form_tested, AreGoodLines}
 use Rattle.lw_calls.proofs.ScriptForms.{IsFormHere}
 use Rattle.lw_calls.proofs.ScriptAnswer.{good_line}

@@ -14,7 +14,7 @@ use Rattle.lw_calls.specs.LineForms.{Act, RefreshAct, EndRefreshAct, LineForm, S
 use Rattle.lw_calls.specs.LinesAbove.{Section, ScreenIsDue, AssetsAreDue, CallsAreDue, TasksAreDue, NumbersAreDue, NothingIsDue, section_of, tasks_above, bitmaps_above, and_names, names_above, place_among, hook_on, Opened, Locked, Updating, Held, opened_by, group_above, calls_so_far, began_at, spelled_call, call_below, onto_last, calls_above, group_from, groups_above}
 use Rattle.lw_calls.specs.Script.{Setting, is_screen_due, are_assets_due, are_calls_due, are_tasks_due, is_beginning, is_ending, is_on_one, call_may_stand, is_lock_on, is_hold, is_missing, is_no_hook}
 use Rattle.lw_calls.specs.ScriptReading.{AreGoodLines}
-use Rattle.lw_calls.proofs.ScriptForms.{layers_of}
+use Rattle.lw_calls.specs.LineForms.{layers_of}
 use Rattle.lw_calls.proofs.ScriptNames.{equal_names, names_grow, any_kept, place_kept, all_named, places_below}
 use Rattle.lw_calls.proofs.ScriptCalls.{act_fits}
 use Rattle.lw_calls.proofs.ScriptGroups.{begins_so, ends_so, arranges, on_one, EndBefore, end_later, end_pushed, groups_kept, groups_pushed, to_the_end, all_pushed, update_stands, locked_stands, drop_pushed}
@@ -101,7 +101,7 @@ pub record AreTasks (z : Sizes) (c : Section) (v : View) : Type 0 where
   pub tasks : TasksAre (has_begun c) z v
 
 -- a list's last one with something put at its end
-onto_pushed : {A : Type 0} (a : A) (lists : List (List A)) (list : List A) → onto_last a (lists ++ list ∷ []) ≡ lists ++ (list ++ a ∷ []) ∷ []
+pub onto_pushed : {A : Type 0} (a : A) (lists : List (List A)) (list : List A) → onto_last a (lists ++ list ∷ []) ≡ lists ++ (list ++ a ∷ []) ∷ []
 onto_pushed a [] list = refl
 onto_pushed a (x ∷ []) list = refl
 onto_pushed a (x ∷ y ∷ ys) list = ap (λ rest. x ∷ rest) (onto_pushed a (y ∷ ys) list)
@@ -120,7 +120,7 @@ zip_pushed R (a ∷ as') [] x y h k = absurd h
 zip_pushed R (a ∷ as') (b ∷ bs) x y h k = (h.0, zip_pushed R as' bs x y h.1 k)
 
 -- a missing group
-none_open : (o : Option Opened) → is_missing o ≡ true → o ≡ None
+pub none_open : (o : Option Opened) → is_missing o ≡ true → o ≡ None
 none_open None h = refl
 none_open (Some g) h = absurd (false≢true h)
 
@@ -244,7 +244,7 @@ task_grouped z calls groups g before fits h =
     record { few = h.few; fit = h.fit; built = h.built; grouped = groups_pushed calls groups g h.grouped before fits }
 
 -- what a line that is no beginning and no end leaves of groups
-plain_groups : (above : List LineForm) (layers : List (List ℕ)) (act : Act) → is_beginning act ≡ false → is_ending act ≡ false → (groups_above (CallLine layers act ∷ above) ≡ groups_above above) × (opened_by layers act (group_above above) ≡ group_above above) × (began_at (CallLine layers act ∷ above) ≡ began_at above)
+pub plain_groups : (above : List LineForm) (layers : List (List ℕ)) (act : Act) → is_beginning act ≡ false → is_ending act ≡ false → (groups_above (CallLine layers act ∷ above) ≡ groups_above above) × (opened_by layers act (group_above above) ≡ group_above above) × (began_at (CallLine layers act ∷ above) ≡ began_at above)
 plain_groups above [] RefreshAct b e = absurd (true≢false b)
 plain_groups above (l ∷ []) RefreshAct b e = absurd (true≢false b)
 plain_groups above (l ∷ m ∷ ms) RefreshAct b e = absurd (true≢false b)
@@ -305,14 +305,14 @@ module _ (z : Sizes) (s : Setting) (above : List LineForm) (layers : List (List 
       with_call b b.groups (e.0 ∙ b.groups_are) (call_fits_now b.calls b.groups b.now.long b.now.fits) (subst P (sym e.1) (subst Q (sym e.2) plain))
 
 -- an update begins where no group is open
-opens_none : (o : Option Opened) (l : List ℕ) → call_may_stand o (l ∷ []) RefreshAct ≡ true → o ≡ None
+pub opens_none : (o : Option Opened) (l : List ℕ) → call_may_stand o (l ∷ []) RefreshAct ≡ true → o ≡ None
 opens_none None l h = refl
 opens_none (Some (Locked m)) l h = absurd (false≢true (and_parts (is_on_one m (l ∷ []) RefreshAct) _ h).1)
 opens_none (Some (Updating m)) l h = absurd (false≢true (and_parts (is_on_one m (l ∷ []) RefreshAct) _ h).1)
 opens_none (Some Held) l h = absurd (false≢true h)
 
 -- an update ends on its layer
-ends_same : (o : Option Opened) (l : List ℕ) (full : Bool) → call_may_stand o (l ∷ []) (EndRefreshAct full) ≡ true → o ≡ Some (Updating l)
+pub ends_same : (o : Option Opened) (l : List ℕ) (full : Bool) → call_may_stand o (l ∷ []) (EndRefreshAct full) ≡ true → o ≡ Some (Updating l)
 ends_same None l full h = absurd (false≢true h)
 ends_same (Some (Locked m)) l full h = absurd (false≢true (and_parts (is_on_one m (l ∷ []) (EndRefreshAct full)) _ h).1)
 ends_same (Some (Updating m)) l full h =
@@ -412,13 +412,13 @@ hold_begins z s above g b =
     grouped z (view_of above) (view_of (HoldLine ∷ above)) b b.groups refl refl b.groups_are b.now.fits (record { before = before; order = omega arith }, subst Q (sym (none_behind z (view_of above) b)) refl)
 
 -- a lock ends on its layer, and a hold ends
-unlocks_same : (o : Option Opened) (l : List ℕ) → is_lock_on l o ≡ true → o ≡ Some (Locked l)
+pub unlocks_same : (o : Option Opened) (l : List ℕ) → is_lock_on l o ≡ true → o ≡ Some (Locked l)
 unlocks_same None l h = absurd (false≢true h)
 unlocks_same (Some (Locked m)) l h = ap (λ (k : List ℕ). Some (Locked k)) (sym (equal_names l m h))
 unlocks_same (Some (Updating m)) l h = absurd (false≢true h)
 unlocks_same (Some Held) l h = absurd (false≢true h)
 
-releases_held : (o : Option Opened) → is_hold o ≡ true → o ≡ Some Held
+pub releases_held : (o : Option Opened) → is_hold o ≡ true → o ≡ Some Held
 releases_held None h = absurd (false≢true h)
 releases_held (Some (Locked m)) h = absurd (false≢true h)
 releases_held (Some (Updating m)) h = absurd (false≢true h)

@@ -14,6 +14,7 @@ pub mod Touches
 pub mod Limits
 pub mod Planned
 pub mod Orders
+pub mod OrderState
 pub mod History
 pub mod Report
 pub mod Finals
@@ -22,16 +23,12 @@ pub mod Parts
 pub mod Sound
 pub mod Laws
 pub mod Lines
-pub mod Words
-pub mod Values
-pub mod Forms
-pub mod Above
-pub mod Grammar
 pub mod Demands
-pub mod Reading
 pub mod Tokens
 pub mod Verbs
 pub mod LineForms
 pub mod LinesAbove
 pub mod Script
 pub mod ScriptReading
+pub mod Spelling
+pub mod Canonical

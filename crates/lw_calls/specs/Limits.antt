@@ -14,6 +14,13 @@ use Rattle.lw_calls.specs.Layer.{is_super}
 abbrev pub name_limit : ℕ
 name_limit = 64
 
+-- how many tasks and how many bitmaps a script has at most
+abbrev pub task_limit : ℕ
+task_limit = 16
+
+abbrev pub bitmap_limit : ℕ
+bitmap_limit = 16
+
 -- how many calls a task has at most
 abbrev pub call_limit : ℕ
 call_limit = 4096
@@ -30,8 +37,8 @@ pub record IsWithinLimits (s : Sizes) : Type 0 where
   pub planes : s.depth ≤ 8
   pub slots : s.slots ≤ name_limit
   pub some_task : 1 ≤ s.tasks
-  pub tasks : s.tasks ≤ 16
-  pub bitmaps : s.bitmaps ≤ 16
+  pub tasks : s.tasks ≤ task_limit
+  pub bitmaps : s.bitmaps ≤ bitmap_limit
 
 -- a coordinate is a signed word of 16 bits
 abbrev pub is_coordinate : ℤ → Bool

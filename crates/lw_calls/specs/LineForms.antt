@@ -13,7 +13,7 @@ use Rattle.lw_calls.specs.declared.make.Place.{Place}
 use Rattle.lw_calls.specs.declared.make.Place.TheVariants.{Front, Behind}
 use Rattle.lw_calls.specs.declared.verb.Verb.{Verb}
 use Rattle.lw_calls.specs.declared.verb.Verb.TheVariants.{Screen as ScreenVerb, Glyph as GlyphVerb, Bitmap as BitmapVerb, Task as TaskVerb, End as EndVerb, Order as OrderVerb, Report as ReportVerb, Lock as LockVerb, Unlock as UnlockVerb, Hold as HoldVerb, Release as ReleaseVerb, OrRect as OrRectVerb, AndRect as AndRectVerb, XorRect as XorRectVerb, ClearRect as ClearRectVerb, OrRegion as OrRegionVerb, AndRegion as AndRegionVerb, XorRegion as XorRegionVerb, ClearRegion as ClearRegionVerb, Create as CreateVerb, Open as OpenVerb, Close as CloseVerb, Front as FrontVerb, Behind as BehindVerb, InFront as InFrontVerb, Move as MoveVerb, Size as SizeVerb, Box as BoxVerb, Activate as ActivateVerb, Which as WhichVerb, APen as APenVerb, BPen as BPenVerb, Mode as ModeVerb, Mask as MaskVerb, At as AtVerb, Write as WriteVerb, Read as ReadVerb, Fill as FillVerb, Draw as DrawVerb, Text as TextVerb, SetRast as SetRastVerb, ScrollRaster as ScrollRasterVerb, Put as PutVerb, Blit as BlitVerb, Clip as ClipVerb, Unclip as UnclipVerb, Refresh as RefreshVerb, EndRefresh as EndRefreshVerb, Scroll as ScrollVerb, Title as TitleVerb, GetMsg as GetMsgVerb}
-use Rattle.lw_calls.specs.Limits.{rect_fits, is_coordinate}
+use Rattle.lw_calls.specs.Limits.{rect_fits, coordinates_fit, is_extent}
 use Rattle.lw_calls.specs.Tokens.{Token, NameToken, NumberToken, TextToken, bytes_in}
 
 -- A layer as a line asks for it: its kind and place, four numbers for its bounds or its box, whether it is a backdrop layer,
@@ -74,6 +74,16 @@ pub data Act : Type 0 where
   ScrollAct : ℤ → ℤ → Act
   TitleAct : List ℕ → Act
   GetMsgAct : Act
+
+-- how many layers the line of a call names
+abbrev pub layers_of : Act → ℕ
+layers_of (RegRectAct op r rect) = 0
+layers_of (RegPairAct op s r) = 0
+layers_of (RegClearAct r) = 0
+layers_of (WhichAct x y) = 0
+layers_of InFrontAct = 2
+layers_of (BlitAct b) = 2
+layers_of act = 1
 
 -- A line that isn't skipped: the screen; a glyph by its code and its rows; a bitmap, whose rows then follow; a row of a
 -- bitmap; a task's beginning and its end; the beginnings of an order and of a report; numbers of an order; a call with the
@@ -388,14 +398,6 @@ form_by ScrollVerb ts = pair_line (λ x y. ScrollAct x y) ts
 form_by TitleVerb ts = text_line (λ t. TitleAct t) ts
 form_by GetMsgVerb ts = layer_line GetMsgAct ts
 
--- two coordinates, or two steps
-abbrev pub are_places : ℤ → ℤ → Bool
-are_places x y = is_coordinate x && is_coordinate y
-
--- the width or height of a box or a blit
-abbrev pub is_size : ℤ → Bool
-is_size z = within (pos 1) z (pos 32767)
-
 -- a hook's number, if there is one
 abbrev pub is_hook_number : Option ℤ → Bool
 is_hook_number None = true
@@ -413,11 +415,11 @@ is_asked_in_range a = is_hook_number a.hook && is_own_size a.kind a.bits_w a.bit
 
 -- a box: a place, a width and a height
 abbrev pub is_box : Rectangle → Bool
-is_box r = are_places r.min_x r.min_y && (is_size r.max_x && is_size r.max_y)
+is_box r = coordinates_fit r.min_x r.min_y && (is_extent r.max_x && is_extent r.max_y)
 
 -- a blit's numbers
 abbrev pub is_blitting : Blitting → Bool
-is_blitting b = (are_places b.sx b.sy && are_places b.x b.y) && (is_size b.w && is_size b.h)
+is_blitting b = (coordinates_fit b.sx b.sy && coordinates_fit b.x b.y) && (is_extent b.w && is_extent b.h)
 
 -- every number of the act is in its range, and no maximum is below its minimum
 abbrev pub is_act_in_range : Act → Bool
@@ -426,25 +428,25 @@ is_act_in_range (RegPairAct op s r) = within (pos 0) s (pos 7) && within (pos 0)
 is_act_in_range (RegClearAct r) = within (pos 0) r (pos 7)
 is_act_in_range (CreateAct asked) = rect_fits asked.box && is_asked_in_range asked
 is_act_in_range (OpenAct asked framed nocare classes title) = is_box asked.box && is_asked_in_range asked
-is_act_in_range (MoveAct dx dy) = are_places dx dy
-is_act_in_range (SizeAct dw dh) = are_places dw dh
+is_act_in_range (MoveAct dx dy) = coordinates_fit dx dy
+is_act_in_range (SizeAct dw dh) = coordinates_fit dw dh
 is_act_in_range (BoxAct x y w h) = is_box (four x y w h)
-is_act_in_range (WhichAct x y) = are_places x y
+is_act_in_range (WhichAct x y) = coordinates_fit x y
 is_act_in_range (APenAct p) = within (pos 0) p (pos 255)
 is_act_in_range (BPenAct p) = within (pos 0) p (pos 255)
 is_act_in_range (ModeAct k) = within (pos 0) k (pos 7)
 is_act_in_range (MaskAct p) = within (pos 0) p (pos 255)
-is_act_in_range (AtAct x y) = are_places x y
-is_act_in_range (WriteAct x y) = are_places x y
-is_act_in_range (ReadAct x y) = are_places x y
+is_act_in_range (AtAct x y) = coordinates_fit x y
+is_act_in_range (WriteAct x y) = coordinates_fit x y
+is_act_in_range (ReadAct x y) = coordinates_fit x y
 is_act_in_range (FillAct rect) = rect_fits rect
-is_act_in_range (DrawAct x y) = are_places x y
+is_act_in_range (DrawAct x y) = coordinates_fit x y
 is_act_in_range (SetRastAct p) = within (pos 0) p (pos 255)
-is_act_in_range (ScrollRasterAct dx dy rect) = are_places dx dy && rect_fits rect
+is_act_in_range (ScrollRasterAct dx dy rect) = coordinates_fit dx dy && rect_fits rect
 is_act_in_range (PutAct bm blitting) = is_blitting blitting
 is_act_in_range (BlitAct blitting) = is_blitting blitting
 is_act_in_range (ClipAct r) = within (pos 0) r (pos 7)
-is_act_in_range (ScrollAct dx dy) = are_places dx dy
+is_act_in_range (ScrollAct dx dy) = coordinates_fit dx dy
 is_act_in_range act = true
 
 -- Every number of the line is in its range, and no maximum is below its minimum.

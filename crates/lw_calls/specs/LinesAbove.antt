@@ -1,11 +1,9 @@
 -- What the lines above a line of a script tell (this project's own format). They are given as their forms, nearest
 -- first, without skipped lines and those behind a line `report`, and they may be taken to be good, since only a script's first bad line counts.
-use Rattle.std.specs.Prelude.{ℕ, ◌+◌, ◌-◌, ◌*◌, ◌==◌, Bool, true, false, if◌then◌else◌, List, [], ◌∷◌, ◌++◌, map, length, ℤ, pos, ◌+ℤ◌, ◌-ℤ◌, unsigned_abs, Option, Some, None, option_map, slice_index, bytes_eq, replicate}
+use Rattle.std.specs.Prelude.{ℕ, ◌+◌, ◌-◌, ◌*◌, ◌==◌, Bool, false, if◌then◌else◌, List, [], ◌∷◌, ◌++◌, map, length, ℤ, pos, ◌+ℤ◌, ◌-ℤ◌, unsigned_abs, Option, Some, None, option_map, slice_index, bytes_eq, replicate}
 use Rattle.std.specs.List.{list_any, position_or_len, range_with_len}
 use Rattle.lw_planes.specs.Bitmap.{Bitmap}
 use Rattle.lw_planes.specs.Storage.{stored}
-use Rattle.lw_calls.specs.declared.make.Kind.{Kind}
-use Rattle.lw_calls.specs.declared.make.Kind.TheVariants.{Simple, Smart, SuperBitmap}
 use Rattle.lw_calls.specs.declared.make.Make.{Make}
 use Rattle.lw_calls.specs.declared.area.Area.{Area}
 use Rattle.lw_calls.specs.declared.call.Call.{Call}
@@ -13,6 +11,7 @@ use Rattle.lw_calls.specs.declared.call.Call.TheVariants.{RegRect, RegPair, RegC
 use Rattle.lw_calls.specs.declared.group.Hold.{Hold}
 use Rattle.lw_calls.specs.declared.group.Hold.TheVariants.{Slot, All}
 use Rattle.lw_calls.specs.declared.group.Group.{Group}
+use Rattle.lw_calls.specs.Layer.{is_super}
 use Rattle.lw_calls.specs.Desk.{Supplies}
 use Rattle.lw_calls.specs.Planned.{Planned}
 use Rattle.lw_calls.specs.LineForms.{Asked, Blitting, Act, RegRectAct, RegPairAct, RegClearAct, CreateAct, OpenAct, CloseAct, FrontAct, BehindAct, InFrontAct, MoveAct, SizeAct, BoxAct, ActivateAct, WhichAct, APenAct, BPenAct, ModeAct, MaskAct, AtAct, WriteAct, ReadAct, FillAct, DrawAct, TextAct, SetRastAct, ScrollRasterAct, PutAct, BlitAct, ClipAct, UnclipAct, RefreshAct, EndRefreshAct, ScrollAct, TitleAct, GetMsgAct, LineForm, ScreenLine, GlyphLine, BitmapLine, RowLine, TaskLine, EndLine, OrderLine, NumbersLine, ReportLine, CallLine, LockLine, UnlockLine, HoldLine, ReleaseLine}
@@ -109,16 +108,10 @@ names_above (form ∷ above) = and_names (names_above above) (layers_on form)
 abbrev pub place_among : List (List ℕ) → List ℕ → ℕ
 place_among names name = position_or_len (bytes_eq name) names
 
--- the kind has a bitmap of its own
-abbrev pub is_super_kind : Kind → Bool
-is_super_kind Simple = false
-is_super_kind Smart = false
-is_super_kind SuperBitmap = true
-
 -- the line asks for a layer with a bitmap of its own
 abbrev pub asks_super : LineForm → Bool
-asks_super (CallLine layers (CreateAct asked)) = is_super_kind asked.kind
-asks_super (CallLine layers (OpenAct asked framed nocare classes title)) = is_super_kind asked.kind
+asks_super (CallLine layers (CreateAct asked)) = is_super asked.kind
+asks_super (CallLine layers (OpenAct asked framed nocare classes title)) = is_super asked.kind
 asks_super form = false
 
 -- how many lines ask for a super-bitmap layer

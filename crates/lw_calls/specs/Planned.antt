@@ -1,5 +1,5 @@
 -- What a plan holds, as contracts see it (this project's own).
-use Rattle.std.specs.Prelude.{◌≡◌, ℕ, ◌+◌, ◌-◌, ◌≤◌, ◌==◌, Bool, true, false, not, ◌&&◌, ◌||◌, nat_lt, nat_le, List, [], ◌∷◌, length, take, drop, All, IsTrue}
+use Rattle.std.specs.Prelude.{◌≡◌, ℕ, ◌+◌, ◌-◌, ◌≤◌, ◌==◌, Bool, true, false, not, ◌&&◌, ◌||◌, nat_lt, nat_le, List, [], ◌∷◌, length, take, drop, replicate, All, IsTrue}
 use Rattle.std.specs.List.{slice_index_or, list_all}
 use Rattle.lw_planes.specs.Sizes.{IsPlanes}
 use Rattle.lw_calls.specs.declared.sizes.Sizes.{Sizes}
@@ -95,6 +95,10 @@ abbrev pub groups_fit : List Call → List Group → Bool
 groups_fit calls [] = true
 groups_fit calls (g ∷ []) = group_fits calls g
 groups_fit calls (g ∷ h ∷ gs) = (group_fits calls g && nat_lt g.last h.first) && groups_fit calls (h ∷ gs)
+
+-- What a script hands in that has neither glyphs nor bitmaps: each code has the empty glyph.
+abbrev pub no_supplies : Supplies
+no_supplies = record { glyphs = replicate 95 (replicate 8 0); bitmaps = [] }
 
 -- Supplies of a plan, as their types have them: a glyph of 8 rows for each code from 0x20 to 0x7e, and bitmaps.
 pub record AreSupplies (supplies : Supplies) : Type 0 where

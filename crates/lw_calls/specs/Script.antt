@@ -9,7 +9,7 @@ use Rattle.lw_calls.specs.declared.reason.Reason.{Reason}
 use Rattle.lw_calls.specs.declared.reason.Reason.TheVariants.{LineTooLong, BadByte, Spacing, Quote, UnknownWord, Misplaced, OneTaskOnly, Form as FormReason, Range, NoName, DoubleName, Group, TooMany, NoHook, HookUsed, Padding, NotBuilt, Missing}
 use Rattle.lw_calls.specs.declared.verb.Verb.{Verb}
 use Rattle.lw_calls.specs.declared.verb.Verb.TheVariants.{Screen as ScreenVerb, Glyph as GlyphVerb, Bitmap as BitmapVerb, Task as TaskVerb, Order as OrderVerb, Report as ReportVerb}
-use Rattle.lw_calls.specs.Limits.{name_limit, call_limit}
+use Rattle.lw_calls.specs.Limits.{name_limit, task_limit, bitmap_limit, call_limit}
 use Rattle.lw_calls.specs.Planned.{Planned, IsPlan}
 use Rattle.lw_calls.specs.Step.{is_built}
 use Rattle.lw_calls.specs.Lines.{lines}
@@ -194,13 +194,7 @@ fits_group group some (UnlockLine name) = is_lock_on name group && some
 fits_group group some ReleaseLine = is_hold group && some
 fits_group group some form = true
 
--- the limits of a script's counts
-abbrev pub task_limit : ℕ
-task_limit = 16
-
-abbrev pub bitmap_limit : ℕ
-bitmap_limit = 16
-
+-- how many lines ask for a super-bitmap layer at most
 abbrev pub super_limit : ℕ
 super_limit = 16
 

@@ -1,18 +1,6 @@
 ghost use Rattle.lw_calls.specs.Laws.{ScreenShowsTheTop, NothingIsLost, RefusedCallsChangeNothing, ReachedDesksAreSound, StepsLeaveTheRest, StepsAreLocal};
-ghost use Rattle.lw_calls.specs.Grammar.{ScriptsAreDecided, SpelledPlansAreRunnable};
+ghost use Rattle.lw_calls.specs.Canonical.{CanonicalTextsReadBack};
 ghost use Rattle.lw_calls.specs.Script.{InputsAreDecided, SpelledInputsAreRunnable};
-
-/// A law of the grammar of scripts (this project's own), which does nothing: the lines of any bytes either have a
-/// first bad line, with one number and one reason, or they spell a plan, and one only.
-pub fn scripts_are_decided()
-    ensures { ScriptsAreDecided }
-{}
-
-/// A law of the grammar of scripts (this project's own), which does nothing: a plan that a script spells has one
-/// task, may be run, and makes just calls whose steps are given.
-pub fn spelled_plans_are_runnable()
-    ensures { SpelledPlansAreRunnable }
-{}
 
 /// A law of the grammar of scripts (this project's own), which does nothing: any bytes, read with any number of hooks as
 /// a script alone, with an order or with a report, either have a first bad line, with one number and one reason, or they
@@ -26,6 +14,12 @@ pub fn inputs_are_decided()
 /// an order has numbers that tasks may have.
 pub fn spelled_inputs_are_runnable()
     ensures { SpelledInputsAreRunnable }
+{}
+
+/// A law of the grammar of scripts (this project's own), which does nothing: the canonical text of a plan of one task that
+/// some input spells is itself a script that spells this plan.
+pub fn canonical_texts_read_back()
+    ensures { CanonicalTextsReadBack }
 {}
 
 /// A law of the machine (this project's own), which does nothing: the screen has at each place the pen of the top

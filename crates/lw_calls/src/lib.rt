@@ -16,7 +16,9 @@ mod make;
 mod message;
 mod operation;
 mod order_list;
+mod orders;
 mod plan;
+mod progress;
 mod reason;
 mod reply;
 mod sizes;
@@ -32,14 +34,15 @@ pub use form::Form;
 pub use group::{Group, Hold};
 pub use last::{Final, Seen};
 pub use laws::{
-    inputs_are_decided, nothing_is_lost, reached_desks_are_sound, refused_calls_change_nothing,
-    screen_shows_the_top, scripts_are_decided, spelled_inputs_are_runnable,
-    spelled_plans_are_runnable, steps_are_local, steps_leave_the_rest,
+    canonical_texts_read_back, inputs_are_decided, nothing_is_lost, reached_desks_are_sound,
+    refused_calls_change_nothing, screen_shows_the_top, spelled_inputs_are_runnable,
+    steps_are_local, steps_leave_the_rest,
 };
 pub use make::{Kind, Make, Place};
 pub use message::{Message, Messages};
 pub use operation::{PairOp, RectOp};
 pub use order_list::OrderList;
+pub use orders::bad_place;
 pub use plan::{Plan, PlanParts};
 pub use reason::Reason;
 pub use reply::{Replies, Reply};

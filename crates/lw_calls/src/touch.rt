@@ -1,5 +1,6 @@
-ghost use Rattle.std.specs.Prelude.{◌≡◌, ◌==◌, if◌then◌else◌};
-ghost use Rattle.lw_calls.specs.Touches.{touch_of, touches_info, slots_of};
+ghost use Rattle.std.specs.Prelude.{◌≡◌, ◌==◌, not, if◌then◌else◌};
+ghost use Rattle.lw_calls.specs.Touches.{touch_of, touches_info, slots_of, has_slot};
+ghost use Rattle.lw_calls.specs.Orders.{has_some};
 
 use crate::call::Call;
 
@@ -18,6 +19,30 @@ pub enum Slots {
     One(u32),
     Two(u32, u32),
     All,
+}
+
+impl Slots {
+    /// The slot is one of these.
+    pub(crate) fn has(&self, slot: u32) -> bool
+        ensures { result ≡ has_slot self.now slot }
+    {
+        match *self {
+            Slots::Nothing => false,
+            Slots::One(one) => one == slot,
+            Slots::Two(one, other) => one == slot || other == slot,
+            Slots::All => true,
+        }
+    }
+
+    /// There is none among these.
+    pub(crate) fn is_empty(&self) -> bool
+        ensures { result ≡ not (has_some self.now) }
+    {
+        match *self {
+            Slots::Nothing => true,
+            _ => false,
+        }
+    }
 }
 
 /// The parts of the machine that a call may read or change: its task's registers, what LayerInfo keeps, and slots.
