@@ -1,17 +1,17 @@
 -- Reading a line by what the reader knows gives what the grammar gives.
-use Rattle.std.proofs.Common.{◌≡◌, ℕ, List, map, Result, Ok, Err, not, ◌==◌, cond, refl, sym, ap, subst, ◌∙◌}
+use Rattle.std.proofs.Common.{◌≡◌, ℕ, List, Result, Ok, Err, refl, ap, subst, ◌∙◌}
 use Rattle.lw_calls.specs.declared.reason.Reason.{Reason}
 use Rattle.lw_calls.specs.Demands.{◌>>=◌}
 use Rattle.lw_calls.specs.LineForms.{LineForm}
-use Rattle.lw_calls.specs.LinesAbove.{section_of, rows_due, row_width}
 use Rattle.lw_calls.specs.Script.{Setting}
 use Rattle.lw_calls.specs.ScriptReading.{words_read, form_read, form_tested, line_read}
 use Rattle.lw_script.specs.declared.state.Reader.{Reader}
-use Rattle.lw_script.specs.declared.form.LineForm.{LineForm as Form}
-use Rattle.lw_script.specs.declared.stop.Stop.{Stop}
-use Rattle.lw_script.specs.SectionMeaning.{section_meaning}
+use Rattle.lw_lines.specs.declared.form.LineForm.{LineForm as Form}
+use Rattle.lw_words.specs.declared.stop.Stop.{Stop}
+use Rattle.lw_lines.specs.SectionMeaning.{section_meaning}
 use Rattle.lw_script.specs.Known.{tested_in}
-use Rattle.lw_script.specs.LineReading.{Reads, form_read_in, words_read_in, line_read_in}
+use Rattle.lw_lines.specs.LineReading.{Reads, form_read_in}
+use Rattle.lw_script.specs.LineReading.{words_read_in, line_read_in}
 use Rattle.lw_script.specs.ReaderKnows.{known}
 use Rattle.lw_script.specs.Stands.{Stands}
 use Rattle.lw_script.proofs.KnownTests.{tests_alike}

@@ -1,11 +1,9 @@
 -- What the reader knows of the lines that it has read.
-use Rattle.std.specs.Prelude.{◌≡◌, ℕ, ◌==◌, nat_lt, get_or, false, option_map, Result, Ok, Err}
+use Rattle.std.specs.Prelude.{◌==◌, nat_lt, get_or, false, option_map}
 use Rattle.std.specs.List.{list_any}
-use Rattle.lw_calls.specs.declared.reason.Reason.{Reason}
-use Rattle.lw_calls.specs.LineForms.{LineForm}
 use Rattle.lw_script.specs.declared.state.Reader.{Reader}
-use Rattle.lw_script.specs.Cuts.{targets}
-use Rattle.lw_script.specs.GroupMeaning.{opened_meaning}
+use Rattle.lw_words.specs.Cuts.{targets}
+use Rattle.lw_lines.specs.GroupMeaning.{opened_meaning}
 use Rattle.lw_script.specs.Known.{Known}
 
 abbrev pub known : Reader → Known

@@ -1,15 +1,28 @@
 -- What the reader's state stands for.
-use Rattle.std.specs.Prelude.{◌≡◌, ℕ, ◌+◌, ◌<◌, ◌==◌, false, List, [], map, get_or, option_map}
+use Rattle.std.specs.Prelude.{◌≡◌, ℕ, ◌+◌, ◌*◌, ◌<◌, ◌≤◌, ◌==◌, false, if◌then◌else◌, List, [], ◌∷◌, ◌++◌, length, map, get_or, option_map}
 use Rattle.std.specs.List.{list_any}
+use Rattle.lw_planes.specs.Bitmap.{Bitmap, row_bytes}
+use Rattle.lw_planes.specs.Sizes.{AreSizes}
+use Rattle.lw_planes.specs.Storage.{stored}
 use Rattle.lw_calls.specs.LineForms.{LineForm}
-use Rattle.lw_calls.specs.LinesAbove.{section_of, rows_due, row_width, width_above, height_above, depth_above, tasks_above, bitmaps_above, codes_above, names_above, supers_above, hooks_above, group_above, calls_so_far, began_at, calls_above, groups_above, glyph_above, order_above}
+use Rattle.lw_calls.specs.LinesAbove.{section_of, rows_due, row_width, width_above, height_above, depth_above, tasks_above, bitmaps_above, codes_above, names_above, supers_above, hooks_above, group_above, calls_so_far, began_at, calls_above, groups_above, glyph_above, bitmaps_with, order_above}
 use Rattle.lw_calls.specs.Script.{Setting}
+use Rattle.lw_calls.specs.ScriptReading.{AreGoodLines}
 use Rattle.lw_script.specs.declared.state.AssetsRead.{AssetsRead}
 use Rattle.lw_script.specs.declared.state.TasksRead.{TasksRead}
 use Rattle.lw_script.specs.declared.state.Reader.{Reader}
-use Rattle.lw_script.specs.Cuts.{targets}
-use Rattle.lw_script.specs.GroupMeaning.{opened_meaning}
-use Rattle.lw_script.specs.SectionMeaning.{section_meaning}
+use Rattle.lw_words.specs.Cuts.{targets}
+use Rattle.lw_lines.specs.GroupMeaning.{opened_meaning}
+use Rattle.lw_lines.specs.SectionMeaning.{section_meaning}
+
+-- the nearest bitmap, where further rows stand behind those that were read; none where no row of it is due
+abbrev pub unfinished : AssetsRead → List ℕ → List Bitmap
+unfinished a rows = if a.due == 0 then [] else stored a.width a.height a.depth (a.rows.items ++ rows) ∷ []
+
+-- Where rows are due, the nearest bitmap has sizes, and its rows so far and those due are all its rows.
+pub record IsBitmapBegun (a : AssetsRead) : Type 0 where
+  pub sizes : AreSizes a.width a.height a.depth
+  pub long : length a.rows.items + a.due * row_bytes a.width ≡ a.depth * a.height * row_bytes a.width
 
 -- glyphs and bitmaps
 pub record AssetsStand (a : AssetsRead) (above : List LineForm) : Type 0 where
@@ -17,7 +30,10 @@ pub record AssetsStand (a : AssetsRead) (above : List LineForm) : Type 0 where
   pub glyphs : (i : ℕ) → i < 95 → get_or a.glyphs i [] ≡ glyph_above above (32 + i)
   pub names : targets a.names.keys ≡ bitmaps_above above
   pub width : a.width ≡ row_width above
+  pub narrow : a.width ≤ 1024
   pub due : a.due ≡ rows_due above
+  pub begun : 0 < a.due → IsBitmapBegun a
+  pub bitmaps : (rows : List ℕ) → (a.due ≡ 0 → rows ≡ []) → a.bitmaps.items ++ unfinished a rows ≡ bitmaps_with above rows
 
 -- tasks, their calls and their groups
 pub record TasksStand (t : TasksRead) (above : List LineForm) : Type 0 where
@@ -42,3 +58,11 @@ pub record Stands (s : Setting) (r : Reader) (above : List LineForm) : Type 0 wh
   pub assets : AssetsStand r.assets above
   pub tasks : TasksStand r.tasks above
   pub order : r.order.items ≡ order_above above
+
+-- the reader stands for lines that were good where they stood
+abbrev pub HasRead : Reader → Type 0
+HasRead r = (s : Setting) × (above : List LineForm) × Stands s r above × AreGoodLines s above
+
+-- the same, where a line of this form is good below them
+abbrev pub CanAdd : Reader → LineForm → Type 0
+CanAdd r form = (s : Setting) × (above : List LineForm) × Stands s r above × AreGoodLines s (form ∷ above)

@@ -3,16 +3,16 @@ ghost use Rattle.std.specs.Prelude.{◌≤◌, List};
 ghost use Rattle.lw_calls.specs.LineForms.{LineForm as FormValue};
 ghost use Rattle.lw_calls.specs.Script.{Setting};
 ghost use Rattle.lw_calls.specs.ScriptReading.{line_read};
-ghost use Rattle.lw_script.specs.Cuts.{targets};
-ghost use Rattle.lw_script.specs.SectionMeaning.{section_meaning};
-ghost use Rattle.lw_script.specs.LineReading.{Reads, words_read_in, line_read_in};
+ghost use Rattle.lw_words.specs.Cuts.{targets};
+ghost use Rattle.lw_lines.specs.SectionMeaning.{section_meaning};
+ghost use Rattle.lw_lines.specs.LineReading.{Reads};
+ghost use Rattle.lw_script.specs.LineReading.{words_read_in, line_read_in};
 ghost use Rattle.lw_script.specs.ReaderKnows.{known};
 ghost use Rattle.lw_script.specs.Stands.{Stands};
 
-use crate::form::LineForm;
-use crate::line::{line_words, words_form};
 use crate::state::Reader;
-use crate::stop::Stop;
+use lw_lines::{LineForm, words_form};
+use lw_words::{Stop, line_words};
 use std::alloc::Global;
 
 impl<'a> Reader<'a> {

@@ -1,13 +1,14 @@
 //! What was read of a script so far.
-ghost use Rattle.std.specs.Prelude.{◌≡◌, ◌==◌, bytes_eq};
+ghost use Rattle.std.specs.Prelude.{◌≡◌, ◌≤◌, ◌==◌, [], length, bytes_eq};
 ghost use Rattle.std.specs.List.{list_any};
-ghost use Rattle.lw_script.specs.Cuts.{targets};
+ghost use Rattle.lw_calls.specs.LinesAbove.{place_among};
+ghost use Rattle.lw_words.specs.Cuts.{targets};
 
-use crate::acts::Opened;
-use crate::section::Section;
 use indexmap::IndexSet;
 use lw_calls::{Call, Form, Group};
+use lw_lines::{Opened, Section};
 use lw_planes::Planes;
+use std::alloc::Global;
 
 /// The glyphs and bitmaps that were read.
 #[derive(Drop)]
@@ -65,11 +66,64 @@ pub struct Reader<'a> {
     pub order: Vec<u32>,
 }
 
+impl<'a> Reader<'a> {
+    ghost use Rattle.lw_script.specs.Answers.{reading_with};
+    ghost use Rattle.lw_script.specs.Stands.{Stands};
+
+    /// Nothing was read of a script that is read with so many hooks in this input.
+    pub fn new(alloc: Global, hooks: u32, form: Form) -> Reader<'a>
+        ensures { Stands (reading_with hooks form) result [] }
+    {
+        Reader {
+            hooks,
+            form,
+            section: Section::Screen,
+            width: 0,
+            height: 0,
+            depth: 0,
+            assets: AssetsRead {
+                given: [false; 256],
+                glyphs: [[0; 8]; 95],
+                names: IndexSet::new(alloc),
+                bitmaps: Vec::new(alloc),
+                width: 0,
+                height: 0,
+                depth: 0,
+                due: 0,
+                rows: Vec::new(alloc),
+            },
+            tasks: TasksRead {
+                task_names: IndexSet::new(alloc),
+                layer_names: IndexSet::new(alloc),
+                supers: 0,
+                used: IndexSet::new(alloc),
+                group: None,
+                began: 0,
+                so_far: 0,
+                calls: Vec::new(alloc),
+                groups: Vec::new(alloc),
+            },
+            order: Vec::new(alloc),
+        }
+    }
+}
+
 /// Whether the name is one of these.
 pub(crate) fn has_name<'a>(names: &IndexSet<&'a [u8]>, name: &&'a [u8]) -> bool
     ensures { result ≡ list_any (bytes_eq name.now.now) (targets names.now.keys) }
 {
     names.contains(name)
+}
+
+/// The place of the name among these, or how many there are where it isn't one of them.
+pub(crate) fn place_of_name<'a>(names: &IndexSet<&'a [u8]>, name: &&'a [u8]) -> usize
+    ensures place { result ≡ place_among (targets names.now.keys) name.now.now }
+    ensures within { result ≤ length names.now.keys }
+{
+    match names.get_index_of(name) {
+        Some(place) => place,
+        None => names.len(),
+    }
 }
 
 /// Whether the hook is one of these.

@@ -4,15 +4,14 @@ ghost use Rattle.lw_calls.specs.Limits.{call_limit};
 ghost use Rattle.lw_calls.specs.LineForms.{is_line_in_range};
 ghost use Rattle.lw_calls.specs.LinesAbove.{and_name, hook_on};
 ghost use Rattle.lw_calls.specs.Script.{lacks_name, super_limit, fits_group, is_no_hook, has_padding};
-ghost use Rattle.lw_script.specs.FormMeaning.{form_meaning};
+ghost use Rattle.lw_lines.specs.FormMeaning.{form_meaning};
 ghost use Rattle.lw_script.specs.Known.{gives_again_in, tasks_with, bitmaps_with, calls_with, supers_with, names_with, are_few_in, is_used_in, is_unbuilt_in, tested_in};
 ghost use Rattle.lw_script.specs.ReaderKnows.{known};
 
-use crate::converted::hook;
-use crate::cut::is_text;
-use crate::form::{Act, Layers, LineForm};
 use crate::state::{Reader, has_hook, has_name};
 use lw_calls::Reason;
+use lw_lines::{Act, Layers, LineForm, hook};
+use lw_words::is_text;
 
 /// How many tasks, bitmaps, layer names, lines that ask for a super-bitmap layer, and calls of a task a script has at most.
 const TASK_LIMIT: usize = 16;

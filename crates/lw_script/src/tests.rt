@@ -1,61 +1,799 @@
-use crate::Stop;
-use crate::forms_verb::form_by;
-use crate::token::tokens_of;
-use crate::tokens::words_of;
-use crate::verbs::verb_of;
-use lw_calls::Reason;
+use crate::{Input, ScriptStop, read};
+use lw_calls::{Call, Form, Group, Hold, Kind, Make, PairOp, Place, Plan, Reason, RectOp, Text};
+use lw_planes::Planes;
+use lw_region::Rect;
 use std::alloc::{AllocError, Global};
 use std::test::Fail;
 
-// How a line reads: its fault, an unknown word, no form, or a form.
-#[derive(Clone, Copy, Debug, PartialEq, Eq)]
-enum Outcome {
-    Fault(Reason),
-    Unknown,
-    NoForm,
-    Fits,
+// Scripts that are refused in this input, with so many hooks, on this line for this reason. Behind each stands what it shows.
+struct Refused {
+    at: (Form, u32, u32, Reason),
+    scripts: &'static [&'static str],
 }
 
-fn read(alloc: Global, line: &[u8]) -> Result<Outcome, AllocError> {
-    let words = match words_of(alloc, line) {
-        Ok(words) => words,
-        Err(Stop::Refused(reason)) => return Ok(Outcome::Fault(reason)),
-        Err(Stop::Memory) => return Err(AllocError),
-    };
-    let [first, behind @ ..] = words.as_slice() else {
-        return Ok(Outcome::Unknown);
-    };
-    let Some(verb) = verb_of(first) else {
-        return Ok(Outcome::Unknown);
-    };
-    let tokens = tokens_of(alloc, behind)?;
-    match form_by(verb, tokens.as_slice()) {
-        None => Ok(Outcome::NoForm),
-        Some(_) => Ok(Outcome::Fits),
+static SCRIPTS: [Refused; 38] = [
+    // The input ends before the line `order`.
+    Refused {
+        at: (Form::Ordered, 0, 1, Reason::Missing),
+        scripts: &[
+            "", // nothing
+        ],
+    },
+    Refused {
+        at: (Form::Ordered, 0, 4, Reason::Missing),
+        scripts: &[
+            "screen 16 4 1\ntask a\nend\n", // a whole script
+        ],
+    },
+    Refused {
+        at: (Form::Ordered, 0, 5, Reason::Missing),
+        scripts: &[
+            "screen 16 4 1\ntask a\nend\n\n", // an empty line
+            "screen 16 4 1\ntask a\nend\n# order", // a comment
+            "screen 16 4 1\ntask a\nend\ntask b\n", // a second task without an end
+        ],
+    },
+    Refused {
+        at: (Form::Ordered, 0, 6, Reason::Missing),
+        scripts: &[
+            "screen 16 4 1\ntask a\nend\ntask b\nend", // two tasks
+        ],
+    },
+    // `order` before the first task, in a task or with a word, and lines of other inputs.
+    Refused {
+        at: (Form::Ordered, 0, 2, Reason::Misplaced),
+        scripts: &[
+            "screen 16 4 1\norder\n", // before the first task
+        ],
+    },
+    Refused {
+        at: (Form::Ordered, 0, 3, Reason::Misplaced),
+        scripts: &[
+            "screen 16 4 1\ntask a\norder\n", // in a task
+            "screen 16 4 1\ntask a\nreport\n", // a report in a task
+        ],
+    },
+    Refused {
+        at: (Form::Ordered, 0, 4, Reason::Misplaced),
+        scripts: &[
+            "screen 16 4 1\ntask a\nend\nreport\n", // a report where an order is due
+            "screen 16 4 1\ntask a\nend\nfill w 0 0 1 1\n", // a call behind a task
+            "screen 16 4 1\ntask a\nlock w\norder\n", // in a group
+        ],
+    },
+    Refused {
+        at: (Form::Ordered, 0, 5, Reason::Misplaced),
+        scripts: &[
+            "screen 16 4 1\ntask a\nend\ntask b\norder\n", // in a second task
+            "screen 16 4 1\ntask a\nend\ntask b\ntask c\n", // a task in a second task
+        ],
+    },
+    Refused {
+        at: (Form::Ordered, 0, 4, Reason::Form),
+        scripts: &[
+            "screen 16 4 1\ntask a\nend\norder 0\n", // a number on the line `order`
+            "screen 16 4 1\ntask a\nend\norder x\n", // a name on the line `order`
+            "screen 16 4 1\ntask a\nend\ntask 9a\n", // a second task of a bad name
+            "screen 16 4 1\ntask a\nend\ntask\n", // a second task without a name
+        ],
+    },
+    // Lines of numbers, which have no first word.
+    Refused {
+        at: (Form::Ordered, 0, 5, Reason::Form),
+        scripts: &[
+            "screen 16 4 1\ntask a\nend\norder\norder\n", // a second line `order`
+            "screen 16 4 1\ntask a\nend\norder\nend\n", // an end
+            "screen 16 4 1\ntask a\nend\norder\ntask b\n", // a task
+            "screen 16 4 1\ntask a\nend\norder\nglow\n", // an unknown word
+            "screen 16 4 1\ntask a\nend\norder\nx\n", // a name
+            "screen 16 4 1\ntask a\nend\norder\n0 x\n", // a number and a name
+            "screen 16 4 1\ntask a\nend\norder\n00\n", // two zeros
+            "screen 16 4 1\ntask a\nend\norder\n+1\n", // a plus sign
+            "screen 16 4 1\ntask a\nend\norder\n-0\n", // a minus before 0
+            "screen 16 4 1\ntask a\nend\norder\n\"0\"\n", // a text
+            "screen 16 4 1\ntask a\nend\norder\n16 x\n", // form before range
+        ],
+    },
+    Refused {
+        at: (Form::Ordered, 0, 6, Reason::Form),
+        scripts: &[
+            "screen 16 4 1\ntask a\nend\norder\n0\norder\n", // a second line `order` behind numbers
+        ],
+    },
+    Refused {
+        at: (Form::Ordered, 0, 5, Reason::Range),
+        scripts: &[
+            "screen 16 4 1\ntask a\nend\norder\n16\n", // the number behind the last
+            "screen 16 4 1\ntask a\nend\norder\n-1\n", // the number before the first
+            "screen 16 4 1\ntask a\nend\norder\n0 15 16\n", // the last of three
+            "screen 16 4 1\ntask a\nend\norder\n4294967296\n", // 2 to the 32nd
+            "screen 16 4 1\ntask a\nend\norder\n18446744073709551616\n", // 2 to the 64th
+        ],
+    },
+    Refused {
+        at: (Form::Ordered, 0, 7, Reason::Range),
+        scripts: &[
+            "screen 16 4 1\ntask a\nend\norder\n0 15\n# 16\n16\n", // behind other numbers and a comment
+        ],
+    },
+    Refused {
+        at: (Form::Ordered, 0, 5, Reason::Spacing),
+        scripts: &[
+            "screen 16 4 1\ntask a\nend\norder\n0  0\n", // two spaces
+            "screen 16 4 1\ntask a\nend\norder\n0 \n", // a space at the end
+            "screen 16 4 1\ntask a\nend\norder\n 0\n", // a space at the beginning
+            "screen 16 4 1\ntask a\nend\norder\n \n", // a line of one space
+        ],
+    },
+    Refused {
+        at: (Form::Ordered, 0, 5, Reason::Quote),
+        scripts: &[
+            "screen 16 4 1\ntask a\nend\norder\n0 \"1\n", // a text without an end
+            "screen 16 4 1\ntask a\nend\norder\n\"0\" 1\n", // a text as the first of two words
+            "screen 16 4 1\ntask a\nend\norder\n0\"\n", // a quote behind a number
+        ],
+    },
+    Refused {
+        at: (Form::Ordered, 0, 5, Reason::BadByte),
+        scripts: &[
+            "screen 16 4 1\ntask a\nend\norder\n0\t1\n", // a tab
+        ],
+    },
+    // Second tasks are read where an order or a report is due, each with its own name.
+    Refused {
+        at: (Form::Ordered, 0, 4, Reason::DoubleName),
+        scripts: &[
+            "screen 16 4 1\ntask a\nend\ntask a\n", // the first one's name
+        ],
+    },
+    Refused {
+        at: (Form::Ordered, 0, 6, Reason::DoubleName),
+        scripts: &[
+            "screen 16 4 1\ntask a\nend\ntask b\nend\ntask b\n", // the second one's name
+            "screen 16 4 1\ntask a\nend\ntask b\nend\ntask a\n", // the first one's name behind another
+        ],
+    },
+    Refused {
+        at: (Form::Audited, 0, 4, Reason::DoubleName),
+        scripts: &[
+            "screen 16 4 1\ntask a\nend\ntask a\n", // the first one's name with a report
+        ],
+    },
+    // The input ends before the line `report`, or that line stands elsewhere.
+    Refused {
+        at: (Form::Audited, 0, 4, Reason::Missing),
+        scripts: &[
+            "screen 16 4 1\ntask a\nend\n", // a whole script
+        ],
+    },
+    Refused {
+        at: (Form::Audited, 0, 5, Reason::Missing),
+        scripts: &[
+            "screen 16 4 1\ntask a\nend\n# report", // a comment
+        ],
+    },
+    Refused {
+        at: (Form::Audited, 0, 3, Reason::Misplaced),
+        scripts: &[
+            "screen 16 4 1\ntask a\nreport\n", // in a task
+        ],
+    },
+    Refused {
+        at: (Form::Audited, 0, 4, Reason::Misplaced),
+        scripts: &[
+            "screen 16 4 1\ntask a\nend\norder\n0\n", // an order
+            "screen 16 4 1\ntask a\nend\nend\n", // a second end
+        ],
+    },
+    Refused {
+        at: (Form::Audited, 0, 4, Reason::Form),
+        scripts: &[
+            "screen 16 4 1\ntask a\nend\nreport x\n", // a word on the line `report`
+            "screen 16 4 1\ntask a\nend\nreport 0\n", // a number on the line `report`
+        ],
+    },
+    Refused {
+        at: (Form::Audited, 0, 4, Reason::UnknownWord),
+        scripts: &[
+            "screen 16 4 1\ntask a\nend\nReport\n", // a capital letter
+            "screen 16 4 1\ntask a\nend\nreports\n", // a letter more
+        ],
+    },
+    Refused {
+        at: (Form::Audited, 0, 4, Reason::Spacing),
+        scripts: &[
+            "screen 16 4 1\ntask a\nend\nreport \n", // a space behind `report`
+        ],
+    },
+    // Hooks that are handed in, from 0 on. No call with a hook can be run yet, so none is named a second time.
+    Refused {
+        at: (Form::Plain, 3, 3, Reason::NoHook),
+        scripts: &[
+            "screen 16 4 1\ntask a\ncreate w smart front 0 0 7 3 hook 3\n", // the fourth of three
+            "screen 16 4 1\ntask a\ncreate w simple behind 0 0 7 3 backdrop hook 4294967295\n", // the greatest number
+            "screen 16 4 1\ntask a\nopen w smart front 0 0 9 14 hook 3 ask r \"t\"\n", // a window's
+        ],
+    },
+    Refused {
+        at: (Form::Plain, 3, 3, Reason::NotBuilt),
+        scripts: &[
+            "screen 16 4 1\ntask a\ncreate w smart front 0 0 7 3 hook 0\n", // the first of three
+            "screen 16 4 1\ntask a\ncreate w smart front 0 0 7 3 hook 2\n", // the last of three
+            "screen 16 4 1\ntask a\nopen w smart front 0 0 9 14 hook 2 ask r \"t\"\n", // a window's
+        ],
+    },
+    Refused {
+        at: (Form::Plain, 3, 3, Reason::Range),
+        scripts: &[
+            "screen 16 4 1\ntask a\ncreate w smart front 0 0 7 3 hook -1\n", // below the first
+            "screen 16 4 1\ntask a\ncreate w smart front 0 0 7 3 hook 4294967296\n", // above all numbers
+        ],
+    },
+    Refused {
+        at: (Form::Plain, 1, 3, Reason::NoHook),
+        scripts: &[
+            "screen 16 4 1\ntask a\ncreate w smart front 0 0 7 3 hook 1\n", // the second of one
+        ],
+    },
+    Refused {
+        at: (Form::Plain, 1, 3, Reason::NotBuilt),
+        scripts: &[
+            "screen 16 4 1\ntask a\ncreate w smart front 0 0 7 3 hook 0\n", // the only one
+        ],
+    },
+    Refused {
+        at: (Form::Plain, 4294967295, 3, Reason::NoHook),
+        scripts: &[
+            "screen 16 4 1\ntask a\ncreate w smart front 0 0 7 3 hook 4294967295\n", // behind the most that can be handed in
+        ],
+    },
+    Refused {
+        at: (Form::Plain, 4294967295, 3, Reason::NotBuilt),
+        scripts: &[
+            "screen 16 4 1\ntask a\ncreate w smart front 0 0 7 3 hook 4294967294\n", // the last of the most
+        ],
+    },
+    Refused {
+        at: (Form::Plain, 3, 4, Reason::Group),
+        scripts: &[
+            "screen 16 4 1\ntask a\nlock w\ncreate v smart front 0 0 7 3 hook 3\n", // in a lock
+        ],
+    },
+    Refused {
+        at: (Form::Plain, 3, 4, Reason::NoHook),
+        scripts: &[
+            "screen 16 4 1\ntask a\nhold\ncreate v smart front 0 0 7 3 hook 3\n", // the fourth of three in a hold
+        ],
+    },
+    Refused {
+        at: (Form::Plain, 3, 4, Reason::NotBuilt),
+        scripts: &[
+            "screen 16 4 1\ntask a\nhold\ncreate v smart front 0 0 7 3 hook 2\n", // the last of three in a hold
+        ],
+    },
+    Refused {
+        at: (Form::Ordered, 3, 5, Reason::NotBuilt),
+        scripts: &[
+            "screen 16 4 1\ntask a\nend\ntask b\ncreate w smart front 0 0 7 3 hook 2\n", // the last of three in a second task
+        ],
+    },
+    Refused {
+        at: (Form::Audited, 3, 5, Reason::NoHook),
+        scripts: &[
+            "screen 16 4 1\ntask a\nend\ntask b\ncreate w smart front 0 0 7 3 hook 3\n", // the fourth of three in a second task
+        ],
+    },
+];
+
+// What there are many of.
+#[derive(Clone, Copy)]
+enum Many {
+    Tasks,
+    Layers,
+    Calls,
+    Numbers,
+    Digits,
+}
+
+// What stands behind so many of them in an input with an order that is refused on this line for this reason.
+struct Counted {
+    at: (Many, u32, u32, Reason),
+    behind: &'static [&'static str],
+}
+
+static COUNTED: [Counted; 12] = [
+    // 16 tasks, and then one more.
+    Counted {
+        at: (Many::Tasks, 16, 34, Reason::TooMany),
+        behind: &[
+            "task u\n", // a 17th task
+        ],
+    },
+    Counted {
+        at: (Many::Tasks, 16, 34, Reason::DoubleName),
+        behind: &[
+            "task t0\n", // of the first one's name
+        ],
+    },
+    Counted {
+        at: (Many::Tasks, 16, 35, Reason::Range),
+        behind: &[
+            "order\n16\n", // an order with a number of no task
+        ],
+    },
+    Counted {
+        at: (Many::Tasks, 15, 34, Reason::Missing),
+        behind: &[
+            "task u\nend\n", // a 16th task
+        ],
+    },
+    // Layer names and bitmaps are counted through all tasks, calls in each task anew.
+    Counted {
+        at: (Many::Layers, 64, 69, Reason::TooMany),
+        behind: &[
+            "end\ntask b\nfill x 0 0 1 1\n", // the 65th name in the second task
+        ],
+    },
+    Counted {
+        at: (Many::Layers, 64, 70, Reason::NotBuilt),
+        behind: &[
+            "end\ntask b\nfill n0 0 0 1 1\nfront n63\n", // names that stand in the first task
+        ],
+    },
+    Counted {
+        at: (Many::Calls, 4096, 4101, Reason::NotBuilt),
+        behind: &[
+            "end\ntask b\nwhich 0 0\n", // the first call of the second task
+        ],
+    },
+    // A line of an order has 64 numbers and 512 bytes at most.
+    Counted {
+        at: (Many::Numbers, 64, 5, Reason::Form),
+        behind: &[
+            "0\n", // 65 numbers
+            "x\n", // 64 numbers and a name
+        ],
+    },
+    Counted {
+        at: (Many::Numbers, 63, 6, Reason::Form),
+        behind: &[
+            "0\nx\n", // 64 numbers
+        ],
+    },
+    Counted {
+        at: (Many::Numbers, 63, 6, Reason::Range),
+        behind: &[
+            "15\n-1\n", // 64 numbers, and one out of range
+        ],
+    },
+    Counted {
+        at: (Many::Digits, 513, 5, Reason::LineTooLong),
+        behind: &[
+            "\n", // a number of 513 digits
+        ],
+    },
+    Counted {
+        at: (Many::Digits, 512, 5, Reason::Range),
+        behind: &[
+            "\n", // a number of 512 digits
+        ],
+    },
+];
+
+// What stands before many of them.
+fn before(many: Many) -> &'static str {
+    match many {
+        Many::Tasks => "screen 16 4 1\n",
+        Many::Layers | Many::Calls => "screen 16 4 1\ntask a\n",
+        Many::Numbers | Many::Digits => "screen 16 4 1\ntask a\nend\norder\n",
     }
 }
 
+fn one_of(alloc: Global, many: Many, number: u32) -> Result<String, AllocError> {
+    match many {
+        Many::Tasks => format!(in alloc; "task t{number}\nend\n"),
+        Many::Layers => format!(in alloc; "create n{number} smart front 0 0 7 3\n"),
+        Many::Calls => String::from_str(alloc, "clearregion 0\n"),
+        Many::Numbers => String::from_str(alloc, "0 "),
+        Many::Digits => String::from_str(alloc, "1"),
+    }
+}
+
+fn script_with(alloc: Global, many: Many, count: u32, behind: &str) -> Result<Vec<u8>, AllocError> {
+    let mut script = Vec::from_slice(alloc, before(many).as_bytes())?;
+    for number in 0..count {
+        let one = one_of(alloc, many, number)?;
+        script.extend_from_slice(one.as_bytes())?;
+    }
+    script.extend_from_slice(behind.as_bytes())?;
+    Ok(script)
+}
+
+// `read`, for scripts that are short enough for it.
+fn read_short(alloc: Global, script: &[u8], hooks: u32, form: Form) -> Result<Input, ScriptStop> {
+    if script.len() < 4_294_967_295 {
+        return read(alloc, script, hooks, form);
+    }
+    Err(ScriptStop::Memory)
+}
+
+// The line and the reason for which a script is refused, or nothing where it is read.
+pub(crate) fn refusal_of(
+    alloc: Global,
+    script: &[u8],
+    hooks: u32,
+    form: Form,
+) -> Result<Option<(u32, Reason)>, AllocError> {
+    match read_short(alloc, script, hooks, form) {
+        Ok(_) => Ok(None),
+        Err(ScriptStop::Refused { line, reason }) => Ok(Some((line, reason))),
+        Err(ScriptStop::Memory) => Err(AllocError),
+    }
+}
+
+// A script with another answer than the one that is due: none where it is read.
+type Other = (&'static str, Option<(u32, Reason)>);
+
+fn first_other(alloc: Global, refused: &Refused) -> Result<Option<Other>, AllocError> {
+    let (form, hooks, line, reason) = refused.at;
+    let due = Some((line, reason));
+    for script in refused.scripts {
+        let answer = refusal_of(alloc, script.as_bytes(), hooks, form)?;
+        if answer != due {
+            return Ok(Some((*script, answer)));
+        }
+    }
+    Ok(None)
+}
+
+fn first_other_of(alloc: Global, counted: &Counted) -> Result<Option<Other>, AllocError> {
+    let (many, count, line, reason) = counted.at;
+    let due = Some((line, reason));
+    for behind in counted.behind {
+        let script = script_with(alloc, many, count, behind)?;
+        let answer = refusal_of(alloc, script.as_slice(), 0, Form::Ordered)?;
+        if answer != due {
+            return Ok(Some((*behind, answer)));
+        }
+    }
+    Ok(None)
+}
+
 #[test]
-fn lines_read_as_they_should(rt: HostRuntime) -> Result<(), Fail> {
-    let table: [(&[u8], Outcome); 12] = [
-        (b"fill w -5 0 9 0", Outcome::Fits),
-        (b"fill w 05 0 9 0", Outcome::NoForm),
-        (b"fill w  0 0 9 0", Outcome::Fault(Reason::Spacing)),
-        (b"fill w 0 0 9 0 ", Outcome::Fault(Reason::Spacing)),
-        (b"text w \"a b\"", Outcome::Fits),
-        (b"text w \"a\" b", Outcome::Fault(Reason::Quote)),
-        (b"Fill w 0 0 9 0", Outcome::Unknown),
-        (b"glyph 7F 0000000000000000", Outcome::NoForm),
-        (b"blit w 0 0 w 1 0 7 1 c0", Outcome::Fits),
-        (
-            b"open w smart front 0 0 9 14 backdrop ask rc \"B\"",
-            Outcome::Fits,
-        ),
-        (b"open w smart front 0 0 9 14 ask cr \"B\"", Outcome::NoForm),
-        (b"create w super front 0 0 3 0 8 1 hook 0", Outcome::NoForm),
-    ];
-    for (line, wanted) in table {
-        assert_eq!(rt; read(rt.alloc(), line)?, wanted);
+fn orders_reports_and_hooks_are_refused_where_they_should_be(rt: HostRuntime) -> Result<(), Fail> {
+    for refused in SCRIPTS.iter() {
+        assert_eq!(rt; first_other(rt.alloc(), refused)?, None);
+    }
+    Ok(())
+}
+
+#[test]
+fn tasks_names_calls_and_numbers_are_counted(rt: HostRuntime) -> Result<(), Fail> {
+    for counted in COUNTED.iter() {
+        assert_eq!(rt; first_other_of(rt.alloc(), counted)?, None);
+    }
+    Ok(())
+}
+
+// A script with everything that can be read so far: skipped lines in each part, glyphs, bitmaps, two tasks with groups, and
+// an order that names a task that there isn't.
+const WHOLE: &str = "# a script
+screen 640 256 2
+glyph 41 183c66667e666601
+bitmap dot 8 2 1
+ff00
+
+# the second row
+8100
+glyph 20 0000000000000000
+bitmap two 17 1 2
+ffff8000
+00018000
+glyph 7e 8000000000000000
+task clock
+create clk smart front 10 20 129 79
+lock log
+fill log 8 16 60 40
+
+clip log 7
+unclip log
+unlock log
+orrect 0 -32768 20 100 32767
+andrect 1 0 0 0 0
+xorrect 7 1 2 3 4
+clearrect 2 -1 -2 -1 -2
+orregion 3 4
+andregion 0 0
+xorregion 7 1
+clearregion 5
+end
+# between two tasks
+task edit
+hold
+create Log smart front 0 0 7 3
+create log smart front -5 -6 32767 0
+release
+fill clk 0 0 1 1
+lock clk
+unclip clk
+unlock clk
+end
+
+order
+0 1 0
+# in the order
+
+15 1
+";
+
+static CLOCK: [&str; 12] = [
+    "create 0 smart front at 10 20 with 120 60 and bits of 0 0",
+    "fill 1 from 8 16 to 60 40",
+    "clip 1 by 7",
+    "unclip 1",
+    "or 0 from -32768 20 to 100 32767",
+    "and 1 from 0 0 to 0 0",
+    "xor 7 from 1 2 to 3 4",
+    "clear 2 from -1 -2 to -1 -2",
+    "or 3 into 4",
+    "and 0 into 0",
+    "xor 7 into 1",
+    "clear 5",
+];
+
+static EDIT: [&str; 4] = [
+    "create 2 smart front at 0 0 with 8 4 and bits of 0 0",
+    "create 1 smart front at -5 -6 with 32773 7 and bits of 0 0",
+    "fill 0 from 0 0 to 1 1",
+    "unclip 0",
+];
+
+fn bounds_of(alloc: Global, rect: &Rect) -> Result<String, AllocError> {
+    let min_x = rect.min_x();
+    let min_y = rect.min_y();
+    let max_x = rect.max_x();
+    let max_y = rect.max_y();
+    format!(in alloc; "from {min_x} {min_y} to {max_x} {max_y}")
+}
+
+fn creation(alloc: Global, slot: u32, make: &Make) -> Result<String, AllocError> {
+    let kind = match make.kind {
+        Kind::Simple => "simple",
+        Kind::Smart => "smart",
+        Kind::SuperBitmap => "super",
+    };
+    let place = match make.place {
+        Place::Front => "front",
+        Place::Behind => "behind",
+    };
+    let backdrop = if make.backdrop { " backdrop" } else { "" };
+    let hook = if make.hook == None { "" } else { " hook" };
+    let (x, y, w, h) = (make.x, make.y, make.w, make.h);
+    let (bits_w, bits_h) = (make.bits_w, make.bits_h);
+    format!(in alloc;
+        "create {slot} {kind} {place}{backdrop}{hook} at {x} {y} with {w} {h} and bits of {bits_w} {bits_h}"
+    )
+}
+
+fn rect_word(op: RectOp) -> &'static str {
+    match op {
+        RectOp::Or => "or",
+        RectOp::And => "and",
+        RectOp::Xor => "xor",
+        RectOp::Clear => "clear",
+    }
+}
+
+fn pair_word(op: PairOp) -> &'static str {
+    match op {
+        PairOp::Or => "or",
+        PairOp::And => "and",
+        PairOp::Xor => "xor",
+    }
+}
+
+// A call in words. Those that can't be run yet are all one.
+fn told(alloc: Global, call: &Call) -> Result<String, AllocError> {
+    match call {
+        Call::Create { slot, make } => creation(alloc, *slot, make),
+        Call::Fill { slot, rect } => {
+            let bounds = bounds_of(alloc, rect)?;
+            format!(in alloc; "fill {slot} {bounds}")
+        }
+        Call::Clip { slot, reg } => format!(in alloc; "clip {slot} by {reg}"),
+        Call::Unclip { slot } => format!(in alloc; "unclip {slot}"),
+        Call::RegRect { op, reg, rect } => {
+            let word = rect_word(*op);
+            let bounds = bounds_of(alloc, rect)?;
+            format!(in alloc; "{word} {reg} {bounds}")
+        }
+        Call::RegPair { op, source, into } => {
+            let word = pair_word(*op);
+            format!(in alloc; "{word} {source} into {into}")
+        }
+        Call::RegClear { reg } => format!(in alloc; "clear {reg}"),
+        _ => String::from_str(alloc, "another call"),
+    }
+}
+
+// Whether a task of the plan has these calls.
+fn has_calls(alloc: Global, plan: &Plan, task: u32, due: &[&str]) -> Result<bool, AllocError> {
+    if task >= plan.sizes().tasks {
+        return Ok(false);
+    }
+    let calls = plan.calls(task);
+    if calls.len() != due.len() {
+        return Ok(false);
+    }
+    for (call, words) in calls.iter().zip(due) {
+        let one = told(alloc, call)?;
+        if one.as_str() != *words {
+            return Ok(false);
+        }
+    }
+    Ok(true)
+}
+
+// Whether a task of the plan has these groups.
+fn has_groups(plan: &Plan, task: u32, due: &[Group]) -> bool {
+    if task >= plan.sizes().tasks {
+        return false;
+    }
+    plan.groups(task) == due
+}
+
+// Names with a space behind each.
+fn joined(alloc: Global, names: &[Text]) -> Result<Vec<u8>, AllocError> {
+    let mut bytes = Vec::new(alloc);
+    for name in names {
+        bytes.extend_from_slice(name.bytes())?;
+        bytes.push(b' ')?;
+    }
+    Ok(bytes)
+}
+
+// The pens of a bitmap's row from the left, none where there is no such row.
+fn pens_of(alloc: Global, bitmap: &Planes, y: u32) -> Result<Vec<u8>, AllocError> {
+    let mut pens = Vec::new(alloc);
+    if y >= bitmap.height() {
+        return Ok(pens);
+    }
+    for x in 0..bitmap.width() {
+        pens.push(bitmap.pen(x, y))?;
+    }
+    Ok(pens)
+}
+
+#[test]
+fn a_script_gives_its_sizes_names_and_calls(rt: HostRuntime) -> Result<(), Fail> {
+    let alloc = rt.alloc();
+    let input = read_short(alloc, WHOLE.as_bytes(), 3, Form::Ordered)?;
+    let plan = &input.plan;
+    let sizes = plan.sizes();
+    assert_eq!(rt; (sizes.version, plan.version(), sizes.hooks), (1, 1, 3));
+    assert_eq!(rt; (sizes.width, sizes.height, sizes.depth), (640, 256, 2));
+    assert_eq!(rt; (sizes.slots, sizes.tasks, sizes.bitmaps), (3, 2, 2));
+    assert_eq!(rt;
+        joined(alloc, plan.slot_names())?.as_slice(),
+        b"clk log Log ".as_slice()
+    );
+    assert_eq!(rt;
+        joined(alloc, plan.task_names())?.as_slice(),
+        b"clock edit ".as_slice()
+    );
+    assert_eq!(rt;
+        joined(alloc, plan.bitmap_names())?.as_slice(),
+        b"dot two ".as_slice()
+    );
+    assert!(rt; has_calls(alloc, plan, 0, &CLOCK)?);
+    assert!(rt; has_calls(alloc, plan, 1, &EDIT)?);
+    let locked = Group {
+        first: 1,
+        last: 3,
+        hold: Hold::Slot(1),
+    };
+    let held = Group {
+        first: 0,
+        last: 1,
+        hold: Hold::All,
+    };
+    let last = Group {
+        first: 3,
+        last: 3,
+        hold: Hold::Slot(0),
+    };
+    assert!(rt; has_groups(plan, 0, &[locked]));
+    assert!(rt; has_groups(plan, 1, &[held, last]));
+    assert_eq!(rt; input.order.tasks(), [0, 1, 0, 15, 1].as_slice());
+    assert_eq!(rt; input.rest, WHOLE.len());
+    Ok(())
+}
+
+#[test]
+fn a_script_gives_its_glyphs_and_bitmaps(rt: HostRuntime) -> Result<(), Fail> {
+    let alloc = rt.alloc();
+    let input = read_short(alloc, WHOLE.as_bytes(), 0, Form::Ordered)?;
+    let assets = input.plan.assets();
+    for place in 0..95usize {
+        let due: [u8; 8] = match place {
+            33 => [0x18, 0x3c, 0x66, 0x66, 0x7e, 0x66, 0x66, 0x01],
+            94 => [0x80, 0, 0, 0, 0, 0, 0, 0],
+            _ => [0; 8],
+        };
+        assert_eq!(rt;
+            assets.glyphs[place].as_slice(),
+            due.as_slice(),
+            "at {place}"
+        );
+    }
+    assert_eq!(rt; assets.bitmaps.len(), 2);
+    let [dot, two] = assets.bitmaps.as_slice() else {
+        return Ok(());
+    };
+    assert_eq!(rt; (dot.width(), dot.height(), dot.depth()), (8, 2, 1));
+    assert_eq!(rt; pens_of(alloc, dot, 0)?.as_slice(), [1u8; 8].as_slice());
+    assert_eq!(rt;
+        pens_of(alloc, dot, 1)?.as_slice(),
+        [1u8, 0, 0, 0, 0, 0, 0, 1].as_slice()
+    );
+    assert_eq!(rt; (two.width(), two.height(), two.depth()), (17, 1, 2));
+    let pens = [1u8, 1, 1, 1, 1, 1, 1, 1, 1, 1, 1, 1, 1, 1, 1, 3, 3];
+    assert_eq!(rt; pens_of(alloc, two, 0)?.as_slice(), pens.as_slice());
+    Ok(())
+}
+
+// Inputs, and where what stands behind their line `report` begins.
+static RESTS: [(Form, &str, usize); 9] = [
+    (Form::Plain, "screen 1 1 1\ntask a\nend", 23),
+    (Form::Plain, "screen 1 1 1\ntask a\nend\n\n# n\n", 29),
+    (Form::Ordered, "screen 1 1 1\ntask a\nend\norder", 29),
+    (Form::Ordered, "screen 1 1 1\ntask a\nend\norder\n\n", 31),
+    (Form::Audited, "screen 1 1 1\ntask a\nend\nreport", 30),
+    (Form::Audited, "screen 1 1 1\ntask a\nend\nreport\n", 31),
+    (Form::Audited, "screen 1 1 1\ntask a\nend\nreport\n\n", 31),
+    (
+        Form::Audited,
+        "screen 1 1 1\ntask a\nend\nreport\norder 0",
+        31,
+    ),
+    (
+        Form::Audited,
+        "screen 1 1 1\n# n\ntask a\nend\n\nreport\n  \x01\" \u{ff}\n",
+        36,
+    ),
+];
+
+#[test]
+fn a_report_begins_behind_its_line(rt: HostRuntime) -> Result<(), Fail> {
+    let alloc = rt.alloc();
+    for (form, script, rest) in RESTS.iter() {
+        let input = read_short(alloc, script.as_bytes(), 0, *form)?;
+        assert_eq!(rt; input.rest, *rest, "{script}");
+        assert_eq!(rt; input.order.tasks().len(), 0, "{script}");
+        assert_eq!(rt; input.plan.slot_names().len(), 0, "{script}");
+        assert!(rt; has_calls(alloc, &input.plan, 0, &[])?, "{script}");
+        assert!(rt; has_groups(&input.plan, 0, &[]), "{script}");
+    }
+    Ok(())
+}
+
+// Orders, and their numbers.
+static ORDERS: [(&str, &[u32]); 6] = [
+    ("", &[]),
+    ("\n# 1\n\n", &[]),
+    ("\n0", &[0]),
+    ("\n0 15\n", &[0, 15]),
+    ("\n\n10 9\n# 3\n0\n\n2 2", &[10, 9, 0, 2, 2]),
+    ("\n#0\n1\n1\n1\n", &[1, 1, 1]),
+];
+
+#[test]
+fn an_order_has_the_numbers_of_all_its_lines(rt: HostRuntime) -> Result<(), Fail> {
+    let alloc = rt.alloc();
+    for (behind, numbers) in ORDERS.iter() {
+        let script = format!(in alloc; "screen 1 1 1\ntask a\nend\norder{behind}")?;
+        let input = read_short(alloc, script.as_bytes(), 0, Form::Ordered)?;
+        assert_eq!(rt; input.order.tasks(), *numbers, "{behind}");
     }
     Ok(())
 }

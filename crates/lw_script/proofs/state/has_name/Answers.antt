@@ -1,5 +1,5 @@
 use Rattle.std.proofs.Common.{bytes_eq, ◌∙◌}
-use Rattle.lw_script.proofs.Targets.{any_target}
+use Rattle.lw_words.proofs.Targets.{any_target}
 use Rattle.lw_script.proofs.state.has_name.Goals as goal
 
 pub returns : goal.returns

@@ -1,4 +1,4 @@
-use Rattle.lw_script.proofs.Binds.{stops_before}
+use Rattle.lw_words.proofs.Binds.{stops_before}
 use Rattle.lw_script.proofs.state.Reader.line.Goals as goal
 
 pub returns-in-Err : goal.returns-in-Err

@@ -1,6 +1,6 @@
 use Rattle.std.proofs.Common.{◌+◌, sym, ap, ◌∙◌}
-use Rattle.lw_script.specs.Cuts.{targets}
-use Rattle.lw_script.proofs.Targets.{length-targets}
+use Rattle.lw_words.specs.Cuts.{targets}
+use Rattle.lw_words.proofs.Targets.{length-targets}
 use Rattle.lw_script.proofs.NamesWith.{known_first, alike, known_second, both_new}
 use Rattle.lw_script.proofs.state.Reader.with_two.Goals as goal
 

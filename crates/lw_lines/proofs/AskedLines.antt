@@ -1,0 +1,9 @@
+-- The line of a creation or an opening in parts is the whole line.
+use Rattle.std.proofs.Common.{◌≡◌, List, ◌∷◌, refl}
+use Rattle.lw_calls.specs.Tokens.{Token, NameToken, NumberToken}
+use Rattle.lw_calls.specs.LineForms.{asked_line}
+use Rattle.lw_lines.specs.AskedParts.{Behind, with_names}
+
+pub whole_asked : (behind : Behind) (ts : List Token) → with_names behind ts ≡ asked_line behind ts
+whole_asked behind (NameToken l ∷ NameToken k ∷ NameToken p ∷ NumberToken a x ∷ NumberToken b y ∷ NumberToken c z ∷ NumberToken d w ∷ ts) = refl
+whole_asked behind ts = refl

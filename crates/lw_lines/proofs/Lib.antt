@@ -1,0 +1,5 @@
+mod ActNumbers
+mod AskedLines
+mod BlitLines
+mod Classes
+mod RectRanges

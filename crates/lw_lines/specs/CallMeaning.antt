@@ -1,0 +1,30 @@
+-- The bitmap that an act names, and families of acts.
+use Rattle.std.specs.Prelude.{ℕ, Bool, true, false, List}
+use Rattle.lw_calls.specs.LineForms.{Act as Meaning, PutAct}
+use Rattle.lw_calls.specs.LinesAbove.{place_among}
+use Rattle.lw_lines.specs.declared.form.Act.{Act}
+use Rattle.lw_lines.specs.declared.form.Act.TheVariants.{RegRect, RegPair, RegClear, Create, InFront, Box, Which, Fill, ScrollRaster, Blit, EndRefresh}
+
+-- the place of the bitmap that the act names among these names, and 0 where it names none
+abbrev pub bitmap_place : List (List ℕ) → Meaning → ℕ
+bitmap_place bitmaps (PutAct bm blitting) = place_among bitmaps bm
+bitmap_place bitmaps act = 0
+
+-- the act names no layer
+abbrev pub is_apart : Act → Bool
+is_apart (RegRect op register corners) = true
+is_apart (RegPair op source into) = true
+is_apart (RegClear register) = true
+is_apart (Which x y) = true
+is_apart act = false
+
+-- the act is an arrangement but an opening, or one without kin
+abbrev pub is_on_layers : Act → Bool
+is_on_layers (Create asked) = true
+is_on_layers InFront = true
+is_on_layers (Box corners) = true
+is_on_layers (Fill corners) = true
+is_on_layers (ScrollRaster dx dy corners) = true
+is_on_layers (Blit blitting) = true
+is_on_layers (EndRefresh full) = true
+is_on_layers act = false

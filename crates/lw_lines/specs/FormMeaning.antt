@@ -1,0 +1,141 @@
+-- What a form of the reader means.
+use Rattle.std.specs.Prelude.{ℤ, pos, List, [], ◌∷◌, ℕ}
+use Rattle.lw_region.specs.Rectangle.{Rectangle}
+use Rattle.lw_calls.specs.LineForms.{Asked as AskedMeaning, Blitting as BlittingMeaning, Act as ActMeaning, RegRectAct, RegPairAct, RegClearAct, CreateAct, OpenAct, CloseAct, FrontAct, BehindAct, InFrontAct, MoveAct, SizeAct, BoxAct, ActivateAct, WhichAct, APenAct, BPenAct, ModeAct, MaskAct, AtAct, WriteAct, ReadAct, FillAct, DrawAct, TextAct as TextActMeaning, SetRastAct, ScrollRasterAct, PutAct, BlitAct, ClipAct, UnclipAct, RefreshAct, EndRefreshAct, ScrollAct, TitleAct, GetMsgAct, LineForm as Meaning, ScreenLine, GlyphLine, BitmapLine, RowLine, TaskLine, EndLine, OrderLine, NumbersLine, ReportLine, CallLine, LockLine, UnlockLine, HoldLine, ReleaseLine, four}
+use Rattle.lw_calls.specs.declared.make.Kind.{Kind}
+use Rattle.lw_calls.specs.declared.make.Kind.TheVariants.{Simple as SimpleMeaning, Smart as SmartMeaning, SuperBitmap}
+use Rattle.lw_lines.specs.declared.form.Corners.{Corners}
+use Rattle.lw_lines.specs.declared.form.PlainKind.{PlainKind}
+use Rattle.lw_lines.specs.declared.form.PlainKind.TheVariants.{Simple, Smart}
+use Rattle.lw_lines.specs.declared.form.AskedKind.{AskedKind}
+use Rattle.lw_lines.specs.declared.form.AskedKind.TheVariants.{Plain, Super}
+use Rattle.lw_lines.specs.declared.form.Asked.{Asked}
+use Rattle.lw_lines.specs.declared.form.Blitting.{Blitting}
+use Rattle.lw_lines.specs.declared.form.BareAct.{BareAct}
+use Rattle.lw_lines.specs.declared.form.BareAct.TheVariants.{Close, Front, Behind, Activate, Unclip, Refresh, GetMsg}
+use Rattle.lw_lines.specs.declared.form.NumberAct.{NumberAct}
+use Rattle.lw_lines.specs.declared.form.NumberAct.TheVariants.{APen, BPen, Mode, Mask, SetRast, Clip}
+use Rattle.lw_lines.specs.declared.form.PairAct.{PairAct}
+use Rattle.lw_lines.specs.declared.form.PairAct.TheVariants.{Move, Size, At, Write, Read, Draw, Scroll}
+use Rattle.lw_lines.specs.declared.form.TextAct.{TextAct}
+use Rattle.lw_lines.specs.declared.form.TextAct.TheVariants.{Text as TextOf, Title}
+use Rattle.lw_lines.specs.declared.form.Act.{Act}
+use Rattle.lw_lines.specs.declared.form.Act.TheVariants.{RegRect, RegPair, RegClear, Create, Open, InFront, Box, Which, Bare, Number, Pair, Text, Fill, ScrollRaster, Put, Blit, EndRefresh}
+use Rattle.lw_lines.specs.declared.form.Layers.{Layers}
+use Rattle.lw_lines.specs.declared.form.Layers.TheVariants.{Nothing, One, Two}
+use Rattle.lw_lines.specs.declared.form.LineForm.{LineForm}
+use Rattle.lw_lines.specs.declared.form.LineForm.TheVariants.{Screen, Glyph, Bitmap, Row, Task, End, Order, Numbers, Report, Call, Lock, Unlock, Hold, Release}
+use Rattle.lw_words.specs.Digits.{decoded}
+
+-- the four numbers as bounds
+abbrev pub corners_meaning : Corners → Rectangle
+corners_meaning c = four c.x0 c.y0 c.x1 c.y1
+
+-- the kinds of layers, and the size of a bitmap of a layer's own
+abbrev pub plain_meaning : PlainKind → Kind
+plain_meaning Simple = SimpleMeaning
+plain_meaning Smart = SmartMeaning
+
+abbrev pub kind_meaning : AskedKind → Kind
+kind_meaning (Plain kind) = plain_meaning kind
+kind_meaning (Super w h) = SuperBitmap
+
+abbrev pub width_meaning : AskedKind → ℤ
+width_meaning (Plain kind) = pos 0
+width_meaning (Super w h) = w
+
+abbrev pub height_meaning : AskedKind → ℤ
+height_meaning (Plain kind) = pos 0
+height_meaning (Super w h) = h
+
+abbrev pub asked_meaning : Asked → AskedMeaning
+asked_meaning a =
+    record {
+      kind = kind_meaning a.kind;
+      place = a.place;
+      box = corners_meaning a.corners;
+      backdrop = a.backdrop;
+      hook = a.hook;
+      bits_w = width_meaning a.kind;
+      bits_h = height_meaning a.kind;
+    }
+
+abbrev pub blitting_meaning : Blitting → BlittingMeaning
+blitting_meaning b = record { sx = b.sx; sy = b.sy; x = b.x; y = b.y; w = b.w; h = b.h; minterm = b.minterm }
+
+-- the calls of a layer alone
+abbrev pub bare_meaning : BareAct → ActMeaning
+bare_meaning Close = CloseAct
+bare_meaning Front = FrontAct
+bare_meaning Behind = BehindAct
+bare_meaning Activate = ActivateAct
+bare_meaning Unclip = UnclipAct
+bare_meaning Refresh = RefreshAct
+bare_meaning GetMsg = GetMsgAct
+
+-- the calls of a layer and a number
+abbrev pub number_meaning : NumberAct → ℤ → ActMeaning
+number_meaning APen z = APenAct z
+number_meaning BPen z = BPenAct z
+number_meaning Mode z = ModeAct z
+number_meaning Mask z = MaskAct z
+number_meaning SetRast z = SetRastAct z
+number_meaning Clip z = ClipAct z
+
+-- the calls of a layer and two numbers
+abbrev pub pair_meaning : PairAct → ℤ → ℤ → ActMeaning
+pair_meaning Move x y = MoveAct x y
+pair_meaning Size x y = SizeAct x y
+pair_meaning At x y = AtAct x y
+pair_meaning Write x y = WriteAct x y
+pair_meaning Read x y = ReadAct x y
+pair_meaning Draw x y = DrawAct x y
+pair_meaning Scroll x y = ScrollAct x y
+
+-- the calls of a layer and a text
+abbrev pub text_meaning : TextAct → List ℕ → ActMeaning
+text_meaning TextOf t = TextActMeaning t
+text_meaning Title t = TitleAct t
+
+-- names and texts by their bytes, and all else as it stands
+abbrev pub act_meaning : Act → ActMeaning
+act_meaning (RegRect op register c) = RegRectAct op register (corners_meaning c)
+act_meaning (RegPair op source into) = RegPairAct op source into
+act_meaning (RegClear register) = RegClearAct register
+act_meaning (Create asked) = CreateAct (asked_meaning asked)
+act_meaning (Open asked framed nocare classes title) = OpenAct (asked_meaning asked) framed nocare classes title.now
+act_meaning InFront = InFrontAct
+act_meaning (Box c) = BoxAct c.x0 c.y0 c.x1 c.y1
+act_meaning (Which x y) = WhichAct x y
+act_meaning (Bare act) = bare_meaning act
+act_meaning (Number act z) = number_meaning act z
+act_meaning (Pair act x y) = pair_meaning act x y
+act_meaning (Text act t) = text_meaning act t.now
+act_meaning (Fill c) = FillAct (corners_meaning c)
+act_meaning (ScrollRaster dx dy c) = ScrollRasterAct dx dy (corners_meaning c)
+act_meaning (Put bitmap b) = PutAct bitmap.now (blitting_meaning b)
+act_meaning (Blit b) = BlitAct (blitting_meaning b)
+act_meaning (EndRefresh full) = EndRefreshAct full
+
+-- the layers' names by their bytes
+abbrev pub layers_meaning : Layers → List (List ℕ)
+layers_meaning Nothing = []
+layers_meaning (One l) = l.now ∷ []
+layers_meaning (Two l m) = l.now ∷ m.now ∷ []
+
+-- names by their bytes, digits by what they spell, and all else as it stands
+abbrev pub form_meaning : LineForm → Meaning
+form_meaning (Screen w h d) = ScreenLine w h d
+form_meaning (Glyph code digits) = GlyphLine code (decoded digits.digits.now)
+form_meaning (Bitmap name w h d) = BitmapLine name.now w h d
+form_meaning (Row digits) = RowLine (decoded digits.digits.now)
+form_meaning (Task name) = TaskLine name.now
+form_meaning End = EndLine
+form_meaning Order = OrderLine
+form_meaning (Numbers zs) = NumbersLine zs.items
+form_meaning Report = ReportLine
+form_meaning (Call layers act) = CallLine (layers_meaning layers) (act_meaning act)
+form_meaning (Lock name) = LockLine name.now
+form_meaning (Unlock name) = UnlockLine name.now
+form_meaning Hold = HoldLine
+form_meaning Release = ReleaseLine

@@ -1,0 +1,9 @@
+pub mod AskedParts
+pub mod BlitParts
+pub mod CallMeaning
+pub mod FormMeaning
+pub mod GroupMeaning
+pub mod LineReading
+pub mod NumbersTaken
+pub mod SectionMeaning
+pub mod VerbFamilies

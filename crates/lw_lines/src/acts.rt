@@ -1,0 +1,218 @@
+//! What the grammar asks of a line's act.
+ghost use Rattle.std.specs.Prelude.{◌≡◌, ℕ, List, option_map, unsigned_abs};
+ghost use Rattle.lw_calls.specs.Step.{is_built, is_plain_make};
+ghost use Rattle.lw_calls.specs.LineForms.{CallLine};
+ghost use Rattle.lw_calls.specs.LinesAbove.{asks_super, hook_on, spelled_call};
+ghost use Rattle.lw_calls.specs.Script.{is_arranging, is_beginning, is_ending, is_on_one, are_all, call_may_stand, is_lock_on, is_hold, is_missing, fits_group};
+ghost use Rattle.lw_lines.specs.FormMeaning.{kind_meaning, act_meaning, layers_meaning, form_meaning};
+ghost use Rattle.lw_lines.specs.GroupMeaning.{opened_meaning};
+
+use crate::form::{
+    Act, Asked, AskedKind, BareAct, Layers, LineForm, NumberAct, PairAct, PlainKind,
+};
+use lw_calls::Place;
+use lw_words::is_text;
+
+/// A group that is open.
+#[derive(Clone, Copy)]
+pub enum Opened<'a> {
+    /// A lock on this layer.
+    Locked(&'a [u8]),
+    /// An update of this layer.
+    Updating(&'a [u8]),
+    /// A hold.
+    Held,
+}
+
+impl Act<'_> {
+    /// Whether it is an arrangement.
+    fn is_arranging(&self) -> bool
+        ensures { result ≡ is_arranging (act_meaning self.now) }
+    {
+        match self {
+            Act::Create(_)
+            | Act::Open { .. }
+            | Act::InFront
+            | Act::Box(_)
+            | Act::Bare(BareAct::Close | BareAct::Front | BareAct::Behind | BareAct::Activate)
+            | Act::Pair(PairAct::Move | PairAct::Size, _, _) => true,
+            _ => false,
+        }
+    }
+
+    /// Whether it begins an update.
+    pub fn is_beginning(&self) -> bool
+        ensures { result ≡ is_beginning (act_meaning self.now) }
+    {
+        match self {
+            Act::Bare(BareAct::Refresh) => true,
+            _ => false,
+        }
+    }
+
+    /// Whether it ends an update.
+    pub fn is_ending(&self) -> bool
+        ensures { result ≡ is_ending (act_meaning self.now) }
+    {
+        match self {
+            Act::EndRefresh { .. } => true,
+            _ => false,
+        }
+    }
+
+    /// Whether its call can be made so far, whichever layers and bitmaps it names.
+    pub fn is_built(&self) -> bool
+        ensures { (bitmaps : List (List ℕ)) (slots : List ℕ) → result ≡ is_built (spelled_call bitmaps (act_meaning self.now) slots) }
+    {
+        match self {
+            Act::Create(asked) => asked.is_plain(),
+            Act::RegRect { .. }
+            | Act::RegPair { .. }
+            | Act::RegClear(_)
+            | Act::Fill(_)
+            | Act::Number(NumberAct::Clip, _)
+            | Act::Bare(BareAct::Unclip) => true,
+            _ => false,
+        }
+    }
+}
+
+impl Act<'_> {
+    /// Whether its line asks for a layer with a bitmap of its own.
+    pub fn asks_super(&self) -> bool
+        ensures { (layers : List (List ℕ)) → result ≡ asks_super (CallLine layers (act_meaning self.now)) }
+    {
+        match self {
+            Act::Create(asked) | Act::Open { asked, .. } => match asked.kind {
+                AskedKind::Super { .. } => true,
+                AskedKind::Plain(PlainKind::Simple) | AskedKind::Plain(PlainKind::Smart) => false,
+            },
+            _ => false,
+        }
+    }
+
+    /// The hook that its line names.
+    pub fn hook(&self) -> Option<i64>
+        ensures { (layers : List (List ℕ)) → result ≡ hook_on (CallLine layers (act_meaning self.now)) }
+    {
+        match self {
+            Act::Create(asked) | Act::Open { asked, .. } => asked.hook,
+            _ => None,
+        }
+    }
+}
+
+impl Asked {
+    /// Whether such a layer can be created so far.
+    fn is_plain(&self) -> bool
+        ensures { result ≡ is_plain_make (kind_meaning self.now.kind) self.now.place self.now.backdrop (option_map unsigned_abs self.now.hook) }
+    {
+        match (self.kind, self.place, self.backdrop, self.hook) {
+            (AskedKind::Plain(PlainKind::Smart), Place::Front, false, None) => true,
+            _ => false,
+        }
+    }
+}
+
+impl Layers<'_> {
+    /// Whether there is a layer, and each is this one.
+    fn are_all(&self, layer: &[u8]) -> bool
+        ensures { result ≡ are_all layer.now (layers_meaning self.now) }
+    {
+        match self {
+            Layers::Nothing => false,
+            Layers::One(first) => is_text(layer, *first),
+            Layers::Two(first, second) => is_text(layer, *first) && is_text(layer, *second),
+        }
+    }
+}
+
+/// Whether it is a call on the one layer.
+fn is_on_one(layer: &[u8], layers: &Layers<'_>, act: &Act<'_>) -> bool
+    ensures { result ≡ is_on_one layer.now (layers_meaning layers.now) (act_meaning act.now) }
+{
+    layers.are_all(layer) && !act.is_arranging()
+}
+
+/// Whether such a call may stand in this group, or in none.
+fn call_may_stand(group: &Option<Opened<'_>>, layers: &Layers<'_>, act: &Act<'_>) -> bool
+    ensures { result ≡ call_may_stand (option_map opened_meaning group.now) (layers_meaning layers.now) (act_meaning act.now) }
+{
+    match group {
+        None => !act.is_ending(),
+        Some(Opened::Locked(layer)) => {
+            is_on_one(*layer, layers, act) && (!act.is_beginning() && !act.is_ending())
+        }
+        Some(Opened::Updating(layer)) => is_on_one(*layer, layers, act) && !act.is_beginning(),
+        Some(Opened::Held) => act.is_arranging(),
+    }
+}
+
+/// Whether the group is a lock on this layer.
+fn is_lock_on(layer: &[u8], group: &Option<Opened<'_>>) -> bool
+    ensures { result ≡ is_lock_on layer.now (option_map opened_meaning group.now) }
+{
+    match group {
+        Some(Opened::Locked(locked)) => is_text(layer, *locked),
+        _ => false,
+    }
+}
+
+/// Whether the group is a hold.
+fn is_hold(group: &Option<Opened<'_>>) -> bool
+    ensures { result ≡ is_hold (option_map opened_meaning group.now) }
+{
+    match group {
+        Some(Opened::Held) => true,
+        _ => false,
+    }
+}
+
+/// Whether no group is open.
+fn is_closed(group: &Option<Opened<'_>>) -> bool
+    ensures { result ≡ is_missing (option_map opened_meaning group.now) }
+{
+    group.is_none()
+}
+
+impl LineForm<'_> {
+    /// Whether the line may stand where this group is open, or none, in which there are calls, or not.
+    pub fn fits_group(&self, group: &Option<Opened<'_>>, some: bool) -> bool
+        ensures { result ≡ fits_group (option_map opened_meaning group.now) some (form_meaning self.now) }
+    {
+        match self {
+            LineForm::Call { layers, act } => call_may_stand(group, layers, act),
+            LineForm::Lock(_) | LineForm::Hold | LineForm::End => is_closed(group),
+            LineForm::Unlock(layer) => is_lock_on(*layer, group) && some,
+            LineForm::Release => is_hold(group) && some,
+            LineForm::Screen { .. }
+            | LineForm::Glyph { .. }
+            | LineForm::Bitmap { .. }
+            | LineForm::Row(_)
+            | LineForm::Task(_)
+            | LineForm::Order
+            | LineForm::Numbers(_)
+            | LineForm::Report => true,
+        }
+    }
+
+    /// Whether the line asks for a layer with a bitmap of its own.
+    pub fn asks_super(&self) -> bool
+        ensures { result ≡ asks_super (form_meaning self.now) }
+    {
+        match self {
+            LineForm::Call { act, .. } => act.asks_super(),
+            _ => false,
+        }
+    }
+
+    /// The hook that the line names.
+    pub fn hook(&self) -> Option<i64>
+        ensures { result ≡ hook_on (form_meaning self.now) }
+    {
+        match self {
+            LineForm::Call { act, .. } => act.hook(),
+            _ => None,
+        }
+    }
+}

@@ -1,0 +1,347 @@
+//! The calls that acts are.
+ghost use Rattle.std.specs.Prelude.{◌≡◌, ℕ, List, [], ◌∷◌, pos, ◌+ℤ◌, ◌-ℤ◌, IsTrue, IfOk, option_map, unsigned_abs};
+ghost use Rattle.lw_calls.specs.Limits.{axis_fits, rect_fits, coordinates_fit};
+ghost use Rattle.lw_calls.specs.LineForms.{is_hook_number, is_own_size, is_asked_in_range, is_box, is_blitting, is_act_in_range};
+ghost use Rattle.lw_calls.specs.LinesAbove.{make_of, created_make, opened_make, area_of, spelled_call};
+ghost use Rattle.lw_lines.specs.FormMeaning.{corners_meaning, kind_meaning, width_meaning, height_meaning, asked_meaning, blitting_meaning, bare_meaning, number_meaning, pair_meaning, text_meaning, act_meaning};
+ghost use Rattle.lw_lines.specs.CallMeaning.{bitmap_place, is_apart, is_on_layers};
+
+use crate::converted::{coordinate, extent, hook, mode, own_size, pen, register, step};
+use crate::form::{
+    Act, Asked, AskedKind, BareAct, Blitting, NumberAct, PairAct, PlainKind, TextAct,
+};
+use lw_calls::{Area, Call, Kind, Make, Text};
+use std::alloc::{AllocError, Global};
+
+fn hook_number(number: Option<i64>) -> Option<u32>
+    requires { IsTrue (is_hook_number number) }
+    ensures { result ≡ option_map unsigned_abs number }
+{
+    match number {
+        None => None,
+        Some(number) => Some(hook(number)),
+    }
+}
+
+/// How many columns or rows lie from one bound to the other.
+#[tactic(auto, using(std::proofs::lemmas::Int::ints), unfolding(lw_region::specs::Rectangle::within, lw_calls::specs::Limits::axis_fits))]
+fn spread(low: i64, high: i64) -> i32
+    requires { IsTrue (axis_fits low high) }
+    ensures { result ≡ (high -ℤ low) +ℤ pos 1 }
+{
+    (high - low + 1) as i32
+}
+
+impl AskedKind {
+    fn kind(&self) -> Kind
+        ensures { result ≡ kind_meaning self.now }
+    {
+        match self {
+            AskedKind::Plain(PlainKind::Simple) => Kind::Simple,
+            AskedKind::Plain(PlainKind::Smart) => Kind::Smart,
+            AskedKind::Super { .. } => Kind::SuperBitmap,
+        }
+    }
+
+    /// The size of a bitmap of its own, or 0 and 0.
+    fn bits(&self) -> (u32, u32)
+        requires { IsTrue (is_own_size (kind_meaning self.now) (width_meaning self.now) (height_meaning self.now)) }
+        ensures { result ≡ (unsigned_abs (width_meaning self.now), unsigned_abs (height_meaning self.now)) }
+    {
+        match self {
+            AskedKind::Plain(_) => (0, 0),
+            AskedKind::Super { bits_w, bits_h } => (own_size(*bits_w), own_size(*bits_h)),
+        }
+    }
+}
+
+impl Asked {
+    /// The layer with this place and size.
+    fn make(&self, x: i32, y: i32, w: i32, h: i32) -> Make
+        requires { IsTrue (is_asked_in_range (asked_meaning self.now)) }
+        ensures { result ≡ make_of (asked_meaning self.now) x y w h }
+    {
+        let (bits_w, bits_h) = self.kind.bits();
+        Make {
+            kind: self.kind.kind(),
+            place: self.place,
+            x,
+            y,
+            w,
+            h,
+            backdrop: self.backdrop,
+            hook: hook_number(self.hook),
+            bits_w,
+            bits_h,
+        }
+    }
+
+    /// The layer of a creation, with these bounds.
+    fn created(&self) -> Make
+        requires bounds { IsTrue (rect_fits (corners_meaning self.now.corners)) }
+        requires range { IsTrue (is_asked_in_range (asked_meaning self.now)) }
+        ensures { result ≡ created_make (asked_meaning self.now) }
+    {
+        let corners = self.corners;
+        self.make(
+            step(corners.x0),
+            step(corners.y0),
+            spread(corners.x0, corners.x1),
+            spread(corners.y0, corners.y1),
+        )
+    }
+
+    /// The layer of an opening, with this place and size.
+    fn opened(&self) -> Make
+        requires bounds { IsTrue (is_box (corners_meaning self.now.corners)) }
+        requires range { IsTrue (is_asked_in_range (asked_meaning self.now)) }
+        ensures { result ≡ opened_make (asked_meaning self.now) }
+    {
+        let corners = self.corners;
+        self.make(
+            step(corners.x0),
+            step(corners.y0),
+            extent(corners.x1),
+            extent(corners.y1),
+        )
+    }
+}
+
+impl Blitting {
+    fn area(&self) -> Area
+        requires { IsTrue (is_blitting (blitting_meaning self.now)) }
+        ensures { result ≡ area_of (blitting_meaning self.now) }
+    {
+        Area {
+            sx: step(self.sx),
+            sy: step(self.sy),
+            x: step(self.x),
+            y: step(self.y),
+            w: extent(self.w),
+            h: extent(self.h),
+            minterm: self.minterm,
+        }
+    }
+}
+
+impl BareAct {
+    fn call(&self, slot: u32) -> Call
+        ensures { (bitmaps : List (List ℕ)) (slots : List ℕ) → result ≡ spelled_call bitmaps (bare_meaning self.now) (slot ∷ slots) }
+    {
+        match self {
+            BareAct::Close => Call::Close { slot },
+            BareAct::Front => Call::ToFront { slot },
+            BareAct::Behind => Call::ToBack { slot },
+            BareAct::Activate => Call::Activate { slot },
+            BareAct::Unclip => Call::Unclip { slot },
+            BareAct::Refresh => Call::BeginRefresh { slot },
+            BareAct::GetMsg => Call::TakeMessage { slot },
+        }
+    }
+}
+
+impl NumberAct {
+    fn call(&self, slot: u32, number: i64) -> Call
+        requires { IsTrue (is_act_in_range (number_meaning self.now number)) }
+        ensures { (bitmaps : List (List ℕ)) (slots : List ℕ) → result ≡ spelled_call bitmaps (number_meaning self.now number) (slot ∷ slots) }
+    {
+        match self {
+            NumberAct::APen => Call::SetA {
+                slot,
+                pen: pen(number),
+            },
+            NumberAct::BPen => Call::SetB {
+                slot,
+                pen: pen(number),
+            },
+            NumberAct::Mode => Call::SetMode {
+                slot,
+                mode: mode(number),
+            },
+            NumberAct::Mask => Call::SetMask {
+                slot,
+                mask: pen(number),
+            },
+            NumberAct::SetRast => Call::SetRast {
+                slot,
+                pen: pen(number),
+            },
+            NumberAct::Clip => Call::Clip {
+                slot,
+                reg: register(number),
+            },
+        }
+    }
+}
+
+impl PairAct {
+    fn call(&self, slot: u32, x: i64, y: i64) -> Call
+        requires { IsTrue (coordinates_fit x y) }
+        ensures { (bitmaps : List (List ℕ)) (slots : List ℕ) → result ≡ spelled_call bitmaps (pair_meaning self.now x y) (slot ∷ slots) }
+    {
+        let (dx, dy) = (step(x), step(y));
+        match self {
+            PairAct::Move => Call::MoveBy { slot, dx, dy },
+            PairAct::Size => Call::SizeBy {
+                slot,
+                dw: dx,
+                dh: dy,
+            },
+            PairAct::At => Call::At {
+                slot,
+                x: coordinate(x),
+                y: coordinate(y),
+            },
+            PairAct::Write => Call::WritePixel { slot, x: dx, y: dy },
+            PairAct::Read => Call::ReadPixel { slot, x: dx, y: dy },
+            PairAct::Draw => Call::DrawTo {
+                slot,
+                x: coordinate(x),
+                y: coordinate(y),
+            },
+            PairAct::Scroll => Call::Scroll { slot, dx, dy },
+        }
+    }
+}
+
+impl TextAct {
+    fn call(&self, slot: u32, text: Text) -> Call
+        ensures { (bitmaps : List (List ℕ)) (slots : List ℕ) → result ≡ spelled_call bitmaps (text_meaning self.now text) (slot ∷ slots) }
+    {
+        match self {
+            TextAct::Text => Call::Letters { slot, text },
+            TextAct::Title => Call::SetTitle { slot, title: text },
+        }
+    }
+}
+
+/// A copy of the bytes.
+fn text_of(alloc: Global, bytes: &[u8]) -> Result<Text, AllocError>
+    ensures { IfOk result (λ text. text ≡ bytes.now) }
+{
+    Ok(Text::new(Vec::from_slice(alloc, bytes)?))
+}
+
+impl Act<'_> {
+    /// The call of an act that names no layer.
+    fn call_apart(&self) -> Call
+        requires apart { IsTrue (is_apart self.now) }
+        requires range { IsTrue (is_act_in_range (act_meaning self.now)) }
+        ensures { (bitmaps : List (List ℕ)) (slots : List ℕ) → result ≡ spelled_call bitmaps (act_meaning self.now) slots }
+    {
+        match self {
+            Act::RegRect {
+                op,
+                register: number,
+                corners,
+            } => Call::RegRect {
+                op: *op,
+                reg: register(*number),
+                rect: corners.rect(),
+            },
+            Act::RegPair { op, source, into } => Call::RegPair {
+                op: *op,
+                source: register(*source),
+                into: register(*into),
+            },
+            Act::RegClear(number) => Call::RegClear {
+                reg: register(*number),
+            },
+            Act::Which { x, y } => Call::Which {
+                x: step(*x),
+                y: step(*y),
+            },
+            // Each other act names a layer.
+            _ => unreachable!(),
+        }
+    }
+
+    /// The call of an arrangement but an opening, and of what has no kin.
+    fn call_on(&self, slot: u32, other: u32) -> Call
+        requires alone { IsTrue (is_on_layers self.now) }
+        requires range { IsTrue (is_act_in_range (act_meaning self.now)) }
+        ensures { (bitmaps : List (List ℕ)) → result ≡ spelled_call bitmaps (act_meaning self.now) (slot ∷ other ∷ []) }
+    {
+        match self {
+            Act::Create(asked) => Call::Create {
+                slot,
+                make: asked.created(),
+            },
+            Act::InFront => Call::InFrontOf { slot, other },
+            Act::Box(corners) => Call::SetBox {
+                slot,
+                x: step(corners.x0),
+                y: step(corners.y0),
+                w: extent(corners.x1),
+                h: extent(corners.y1),
+            },
+            Act::Fill(corners) => Call::Fill {
+                slot,
+                rect: corners.rect(),
+            },
+            Act::ScrollRaster { dx, dy, corners } => Call::ScrollRaster {
+                slot,
+                dx: step(*dx),
+                dy: step(*dy),
+                rect: corners.rect(),
+            },
+            Act::Blit(blitting) => Call::Blit {
+                source: slot,
+                slot: other,
+                area: blitting.area(),
+            },
+            Act::EndRefresh { full } => Call::EndRefresh { slot, full: *full },
+            // No other act is one of these.
+            _ => unreachable!(),
+        }
+    }
+
+    /// The call, where the layers that it names have these slots, and the bitmap that it names this number.
+    pub fn call(
+        &self,
+        alloc: Global,
+        bitmap: u32,
+        slot: u32,
+        other: u32,
+    ) -> Result<Call, AllocError>
+        requires { IsTrue (is_act_in_range (act_meaning self.now)) }
+        ensures { (bitmaps : List (List ℕ)) → bitmap ≡ bitmap_place bitmaps (act_meaning self.now) →
+            IfOk result (λ call. call ≡ spelled_call bitmaps (act_meaning self.now) (slot ∷ other ∷ [])) }
+    {
+        match self {
+            Act::Open {
+                asked,
+                framed,
+                nocare,
+                classes,
+                title,
+            } => Ok(Call::OpenWindow {
+                slot,
+                make: asked.opened(),
+                framed: *framed,
+                nocare: *nocare,
+                asks: *classes,
+                title: text_of(alloc, *title)?,
+            }),
+            Act::Bare(act) => Ok(act.call(slot)),
+            Act::Number(act, number) => Ok(act.call(slot, *number)),
+            Act::Pair(act, x, y) => Ok(act.call(slot, *x, *y)),
+            Act::Text(act, text) => Ok(act.call(slot, text_of(alloc, *text)?)),
+            Act::Put { blitting, .. } => Ok(Call::Put {
+                bitmap,
+                slot,
+                area: blitting.area(),
+            }),
+            Act::RegRect { .. } | Act::RegPair { .. } | Act::RegClear(_) | Act::Which { .. } => {
+                Ok(self.call_apart())
+            }
+            Act::Create(_)
+            | Act::InFront
+            | Act::Box(_)
+            | Act::Fill(_)
+            | Act::ScrollRaster { .. }
+            | Act::Blit(_)
+            | Act::EndRefresh { .. } => Ok(self.call_on(slot, other)),
+        }
+    }
+}

@@ -1,0 +1,151 @@
+ghost use Rattle.std.specs.Prelude.{◌≡◌, ◌≤◌, ℕ, List, ◌∷◌, map, option_map, IfOk};
+ghost use Rattle.lw_calls.specs.LineForms.{LineForm as FormValue, screen_line, glyph_of_bytes, glyph_line, bitmap_line, row_line, numbers_line, all_numbers, name_line, bare_line};
+ghost use Rattle.lw_calls.specs.Tokens.{bytes_in};
+ghost use Rattle.lw_words.specs.TokenMeaning.{token_meaning};
+ghost use Rattle.lw_lines.specs.FormMeaning.{form_meaning};
+
+use crate::form::LineForm;
+use lw_words::{Token, digits_in};
+use std::alloc::{AllocError, Global};
+
+/// How many numbers of an order a line has at most.
+const NUMBERS_LIMIT: usize = 64;
+
+/// `screen W H D`
+pub(crate) fn screen_form<'a>(tokens: &[Token<'a>]) -> Option<LineForm<'a>>
+    ensures { option_map form_meaning result ≡ screen_line (map token_meaning tokens.now) }
+{
+    match tokens {
+        [
+            Token::Number(_, width),
+            Token::Number(_, height),
+            Token::Number(_, depth),
+        ] => Some(LineForm::Screen {
+            width: *width,
+            height: *height,
+            depth: *depth,
+        }),
+        _ => None,
+    }
+}
+
+/// The glyph of a code and of its rows.
+fn glyph_of<'a>(code: &Token<'a>, rows: &Token<'a>) -> Option<LineForm<'a>>
+    ensures { option_map form_meaning result ≡ glyph_of_bytes (bytes_in 1 (token_meaning code.now)) (bytes_in 8 (token_meaning rows.now)) }
+{
+    match digits_in(1, code) {
+        None => None,
+        Some(code) => match digits_in(8, rows) {
+            None => None,
+            Some(digits) => {
+                let code = code.byte(0);
+                Some(LineForm::Glyph { code, digits })
+            }
+        },
+    }
+}
+
+/// The glyph of a code and of what stands behind it.
+fn glyph_behind<'a>(code: &Token<'a>, tokens: &[Token<'a>]) -> Option<LineForm<'a>>
+    ensures { option_map form_meaning result ≡ glyph_line (token_meaning code.now ∷ map token_meaning tokens.now) }
+{
+    match tokens {
+        [] => None,
+        [rows] => glyph_of(code, rows),
+        [_, _, ..] => None,
+    }
+}
+
+/// `glyph CC HHHHHHHHHHHHHHHH`
+pub(crate) fn glyph_form<'a>(tokens: &[Token<'a>]) -> Option<LineForm<'a>>
+    ensures { option_map form_meaning result ≡ glyph_line (map token_meaning tokens.now) }
+{
+    match tokens {
+        [] => None,
+        [code, rest @ ..] => glyph_behind(code, rest),
+    }
+}
+
+/// `bitmap NAME W H D`
+pub(crate) fn bitmap_form<'a>(tokens: &[Token<'a>]) -> Option<LineForm<'a>>
+    ensures { option_map form_meaning result ≡ bitmap_line (map token_meaning tokens.now) }
+{
+    match tokens {
+        [
+            Token::Name(name),
+            Token::Number(_, width),
+            Token::Number(_, height),
+            Token::Number(_, depth),
+        ] => Some(LineForm::Bitmap {
+            name: *name,
+            width: *width,
+            height: *height,
+            depth: *depth,
+        }),
+        _ => None,
+    }
+}
+
+/// A row of a bitmap of this width.
+pub(crate) fn row_form<'a>(width: u32, tokens: &[Token<'a>]) -> Option<LineForm<'a>>
+    requires { width ≤ 1024 }
+    ensures { option_map form_meaning result ≡ row_line width (map token_meaning tokens.now) }
+{
+    match tokens {
+        [row] => match digits_in((width as usize + 15) / 16 * 2, row) {
+            Some(digits) => Some(LineForm::Row(digits)),
+            None => None,
+        },
+        _ => None,
+    }
+}
+
+/// The numbers of tokens that are all numbers.
+fn numbers_of(alloc: Global, tokens: &[Token<'_>]) -> Result<Option<Vec<i64>>, AllocError>
+    ensures { IfOk result (λ found. option_map (λ v. v.items) found ≡ all_numbers (map token_meaning tokens.now)) }
+{
+    let mut numbers = Vec::new(alloc);
+    for token in tokens {
+        match token {
+            Token::Number(_, number) => numbers.push(*number)?,
+            _ => return Ok(None),
+        }
+    }
+    Ok(Some(numbers))
+}
+
+/// Numbers of an order.
+pub(crate) fn numbers_form<'a>(
+    alloc: Global,
+    tokens: &[Token<'a>],
+) -> Result<Option<LineForm<'a>>, AllocError>
+    ensures { IfOk result (λ form. option_map form_meaning form ≡ numbers_line (map token_meaning tokens.now)) }
+{
+    if tokens.len() > NUMBERS_LIMIT {
+        return Ok(None);
+    }
+    match numbers_of(alloc, tokens)? {
+        None => Ok(None),
+        Some(numbers) => Ok(Some(LineForm::Numbers(numbers))),
+    }
+}
+
+/// The name that stands alone behind a verb.
+pub(crate) fn only_name<'a>(tokens: &[Token<'a>]) -> Option<&'a [u8]>
+    ensures { (form : List ℕ → FormValue) → option_map (λ n. form n.now) result ≡ name_line form (map token_meaning tokens.now) }
+{
+    match tokens {
+        [Token::Name(name)] => Some(*name),
+        _ => None,
+    }
+}
+
+/// A line that is its verb alone.
+pub(crate) fn alone<'a>(form: LineForm<'a>, tokens: &[Token<'a>]) -> Option<LineForm<'a>>
+    ensures { option_map form_meaning result ≡ bare_line (form_meaning form.entry) (map token_meaning tokens.now) }
+{
+    match tokens {
+        [] => Some(form),
+        _ => None,
+    }
+}

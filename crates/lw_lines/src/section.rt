@@ -1,0 +1,120 @@
+ghost use Rattle.std.specs.Prelude.{◌≡◌, ◌&&◌};
+ghost use Rattle.lw_calls.specs.Script.{is_screen_due, are_assets_due, are_calls_due, are_tasks_due, are_numbers_due, is_nothing_due, is_plain, is_ordered, is_audited, stands_in as stands_meant, is_task_verb};
+ghost use Rattle.lw_lines.specs.SectionMeaning.{section_meaning, may_end as may_end_meant};
+
+use lw_calls::{Form, Verb};
+
+/// The parts of a script, by what is due in them.
+#[derive(Clone, Copy, Debug, PartialEq, Eq)]
+pub enum Section {
+    /// The screen.
+    Screen,
+    /// Glyphs, bitmaps and the first task.
+    Assets,
+    /// Calls, groups or a task's end.
+    Calls,
+    /// A further task, an order or a report.
+    Tasks,
+    /// Numbers of an order.
+    Numbers,
+    /// Nothing more.
+    Nothing,
+}
+
+impl Section {
+    fn is_screen(self) -> bool
+        ensures { result ≡ is_screen_due (section_meaning self) }
+    {
+        self == Section::Screen
+    }
+
+    fn is_assets(self) -> bool
+        ensures { result ≡ are_assets_due (section_meaning self) }
+    {
+        self == Section::Assets
+    }
+
+    fn is_calls(self) -> bool
+        ensures { result ≡ are_calls_due (section_meaning self) }
+    {
+        self == Section::Calls
+    }
+
+    pub fn is_tasks(self) -> bool
+        ensures { result ≡ are_tasks_due (section_meaning self) }
+    {
+        self == Section::Tasks
+    }
+
+    pub fn is_numbers(self) -> bool
+        ensures { result ≡ are_numbers_due (section_meaning self) }
+    {
+        self == Section::Numbers
+    }
+
+    pub fn is_nothing(self) -> bool
+        ensures { result ≡ is_nothing_due (section_meaning self) }
+    {
+        self == Section::Nothing
+    }
+
+    /// Whether the input may end here.
+    pub fn may_end(self, form: Form) -> bool
+        ensures { result ≡ may_end_meant form (section_meaning self) }
+    {
+        match form {
+            Form::Plain => self.is_tasks(),
+            Form::Ordered => self.is_numbers(),
+            Form::Audited => self.is_nothing(),
+        }
+    }
+}
+
+pub fn is_plain(form: Form) -> bool
+    ensures { result ≡ is_plain form }
+{
+    form == Form::Plain
+}
+
+fn is_ordered(form: Form) -> bool
+    ensures { result ≡ is_ordered form }
+{
+    form == Form::Ordered
+}
+
+fn is_audited(form: Form) -> bool
+    ensures { result ≡ is_audited form }
+{
+    form == Form::Audited
+}
+
+/// Whether lines with this verb stand in this section of this input.
+pub fn stands_in(form: Form, section: Section, verb: Verb) -> bool
+    ensures { result ≡ stands_meant form (section_meaning section) verb }
+{
+    match verb {
+        Verb::Screen => section.is_screen(),
+        Verb::Glyph | Verb::Bitmap => section.is_assets(),
+        Verb::Task => section.is_assets() || section.is_tasks(),
+        Verb::Order => section.is_tasks() && is_ordered(form),
+        Verb::Report => section.is_tasks() && is_audited(form),
+        _ => section.is_calls(),
+    }
+}
+
+/// Whether the verb begins a task.
+fn is_task_verb(verb: Verb) -> bool
+    ensures { result ≡ is_task_verb verb }
+{
+    match verb {
+        Verb::Task => true,
+        _ => false,
+    }
+}
+
+/// Whether a second task begins, in a script alone.
+pub fn is_second_task(form: Form, section: Section, verb: Verb) -> bool
+    ensures { result ≡ ((is_plain form && are_tasks_due (section_meaning section)) && is_task_verb verb) }
+{
+    (is_plain(form) && section.is_tasks()) && is_task_verb(verb)
+}

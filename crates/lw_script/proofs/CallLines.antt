@@ -1,0 +1,79 @@
+-- What the line of a call makes of the lines above it.
+use Rattle.std.proofs.Common.{◌≡◌, ℕ, ◌+◌, ◌-◌, ◌≤◌, Bool, true, false, ◌&&◌, cond, List, [], ◌∷◌, length, map, refl, sym, ap, ◌∙◌, arith}
+use Rattle.std.specs.Bool.{IsTrue}
+use Rattle.lw_calls.specs.declared.call.Call.{Call}
+use Rattle.lw_calls.specs.declared.group.Group.{Group}
+use Rattle.lw_calls.specs.declared.group.Hold.TheVariants.{Slot}
+use Rattle.lw_calls.specs.LineForms.{Act, RegRectAct, RegPairAct, RegClearAct, CreateAct, OpenAct, InFrontAct, WhichAct, BlitAct, EndRefreshAct, LineForm, CallLine, layers_of, is_hook_number, is_act_in_range}
+use Rattle.lw_calls.specs.LinesAbove.{and_names, place_among, bitmaps_above, names_above, hook_on, spelled_call, call_below, calls_so_far, began_at, onto_last, calls_above, groups_above}
+use Rattle.lw_calls.specs.Script.{is_ending}
+use Rattle.lw_script.specs.CallParts.{first_place, second_place}
+use Rattle.lw_script.proofs.NamesAdded.{place_of_one, places_of_two}
+
+-- an act that names no layer doesn't look at slots
+named_none : (b : List (List ℕ)) (act : Act) (s o : ℕ) → 0 ≡ layers_of act → spelled_call b act (s ∷ o ∷ []) ≡ spelled_call b act []
+named_none b (RegRectAct op r rect) s o e = refl
+named_none b (RegPairAct op t r) s o e = refl
+named_none b (RegClearAct r) s o e = refl
+named_none b (WhichAct x y) s o e = refl
+named_none b InFrontAct s o e = absurd (omega (arith, e))
+named_none b (BlitAct blitting) s o e = absurd (omega (arith, e))
+named_none b act s o e = absurd (omega (arith, e))
+
+-- one that names one layer doesn't look at further ones
+named_one : (b : List (List ℕ)) (act : Act) (s o : ℕ) → 1 ≡ layers_of act → spelled_call b act (s ∷ o ∷ []) ≡ spelled_call b act (s ∷ [])
+named_one b InFrontAct s o e = absurd (omega (arith, e))
+named_one b (BlitAct blitting) s o e = absurd (omega (arith, e))
+named_one b act s o e = refl
+
+-- no act names three
+at_most_two : (act : Act) → layers_of act ≤ 2
+at_most_two (RegRectAct op r rect) = omega arith
+at_most_two (RegPairAct op t r) = omega arith
+at_most_two (RegClearAct r) = omega arith
+at_most_two (WhichAct x y) = omega arith
+at_most_two InFrontAct = omega arith
+at_most_two (BlitAct blitting) = omega arith
+at_most_two act = omega arith
+
+-- the call, by the numbers of the layers that its line names
+pub call_spelled : (b names ls : List (List ℕ)) (act : Act) → length ls ≡ layers_of act → spelled_call b act (first_place names ls ∷ second_place names ls ∷ []) ≡ spelled_call b act (map (place_among (and_names names ls)) ls)
+call_spelled b names [] act e = named_none b act _ _ e
+call_spelled b names (l ∷ []) act e = named_one b act _ _ e ∙ ap (spelled_call b act) (sym (place_of_one names l _ refl))
+call_spelled b names (l ∷ m ∷ []) act e = ap (spelled_call b act) (sym (places_of_two names l m _ _ refl refl))
+call_spelled b names (l ∷ m ∷ k ∷ ls) act e = absurd (omega (arith, e, at_most_two act))
+
+-- the groups, where a call ends one or not
+pub groups_with : (above : List LineForm) (ls : List (List ℕ)) (act : Act) → length ls ≡ layers_of act → groups_above (CallLine ls act ∷ above) ≡ cond (is_ending act) (onto_last (record { first = began_at above; last = calls_so_far above; hold = Slot (first_place (names_above above) ls) }) (groups_above above)) (groups_above above)
+groups_with above [] (EndRefreshAct full) e = absurd (omega (arith, e))
+groups_with above [] act e = refl
+groups_with above (l ∷ []) (EndRefreshAct full) e =
+    let n : (calls_so_far above + 1) - 1 ≡ calls_so_far above = omega arith in
+    ap (λ last. onto_last (record { first = began_at above; last = last; hold = Slot (place_among (names_above above) l) }) (groups_above above)) n
+groups_with above (l ∷ []) act e = refl
+groups_with above (l ∷ m ∷ ls) (EndRefreshAct full) e = absurd (omega (arith, e))
+groups_with above (l ∷ m ∷ ls) act e = refl
+
+-- a hook's number is in its range where the act's numbers are
+middle : (a b c : Bool) → IsTrue (a && (b && c)) → IsTrue b
+middle true true c h = refl
+middle true false c h = h
+middle false b c h = absurd (cc)
+
+pub hook_fits : (ls : List (List ℕ)) (act : Act) → IsTrue (is_act_in_range act) → IsTrue (is_hook_number (hook_on (CallLine ls act)))
+hook_fits ls (CreateAct asked) h = middle _ _ _ h
+hook_fits ls (OpenAct asked framed nocare classes title) h = middle _ _ _ h
+hook_fits ls act h = refl
+
+-- the groups that are kept
+pub groups_kept : (above : List LineForm) (ls : List (List ℕ)) (act : Act) (began so_far s : ℕ) (old new : List (List Group)) → length ls ≡ layers_of act → old ≡ groups_above above → began ≡ began_at above → so_far ≡ calls_so_far above → s ≡ first_place (names_above above) ls → new ≡ cond (is_ending act) (onto_last (record { first = began; last = so_far; hold = Slot s }) old) old → new ≡ groups_above (CallLine ls act ∷ above)
+groups_kept above ls act began so_far s old new m e f g h k =
+    let same : cond (is_ending act) (onto_last (record { first = began; last = so_far; hold = Slot s }) old) old ≡ cond (is_ending act) (onto_last (record { first = began_at above; last = calls_so_far above; hold = Slot (first_place (names_above above) ls) }) (groups_above above)) (groups_above above) = rw (e, f, g, h) refl in
+    k ∙ same ∙ sym (groups_with above ls act m)
+
+-- the calls that are kept
+pub calls_kept : (above : List LineForm) (ls : List (List ℕ)) (act : Act) (s o : ℕ) (call : Call) (old new : List (List Call)) → length ls ≡ layers_of act → old ≡ calls_above above → s ≡ first_place (names_above above) ls → o ≡ second_place (names_above above) ls → call ≡ spelled_call (bitmaps_above above) act (s ∷ o ∷ []) → new ≡ onto_last call old → new ≡ calls_above (CallLine ls act ∷ above)
+calls_kept above ls act s o call old new m e f g h k =
+    let b = bitmaps_above above in
+    let same : call ≡ call_below above ls act = h ∙ ap (λ p. spelled_call b act (p ∷ o ∷ [])) f ∙ ap (λ p. spelled_call b act (first_place (names_above above) ls ∷ p ∷ [])) g ∙ call_spelled b (names_above above) ls act m in
+    k ∙ ap (onto_last call) e ∙ ap (λ c. onto_last c (calls_above above)) same

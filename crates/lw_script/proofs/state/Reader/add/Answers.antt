@@ -1,0 +1,52 @@
+use Rattle.std.proofs.Common.{sym, subst, ◌∷◌, arith, List}
+use Rattle.lw_calls.specs.Script.{Setting}
+use Rattle.lw_calls.specs.LineForms.{LineForm as FormValue}
+use Rattle.lw_lines.specs.declared.form.LineForm.{LineForm}
+use Rattle.lw_lines.specs.FormMeaning.{form_meaning}
+use Rattle.lw_script.specs.declared.state.Reader.{Reader}
+use Rattle.lw_script.specs.Stands.{Stands, CanAdd}
+use Rattle.lw_script.proofs.Addable.{in_64, screen_ranged, bitmap_ranged}
+use Rattle.lw_script.proofs.Passing.{same_screen, same_bitmap, on_done}
+use Rattle.lw_script.proofs.state.Reader.add.Goals as goal
+
+-- the reader stands for the form put on the lines above
+abbrev Put : Setting → Reader → List FormValue → LineForm → Type 0
+Put s r above f = Stands s r (form_meaning f ∷ above)
+
+pub returns-in-End : goal.returns-in-End
+returns-in-End c = λ s above k. subst (Put s c.add_end.new.self above) (sym c.in-End.is) (c.add_end.ensures s above k)
+
+pub returns-in-Order : goal.returns-in-Order
+returns-in-Order c = λ s above k. subst (Put s c.add_order.new.self above) (sym c.in-Order.is) (c.add_order.ensures s above k)
+
+pub returns-in-Report : goal.returns-in-Report
+returns-in-Report c = λ s above k. subst (Put s c.add_report.new.self above) (sym c.in-Report.is) (c.add_report.ensures s above k)
+
+pub returns-in-Hold : goal.returns-in-Hold
+returns-in-Hold c = λ s above k. subst (Put s c.add_hold.new.self above) (sym c.in-Hold.is) (c.add_hold.ensures s above k)
+
+pub returns-in-Glyph : goal.returns-in-Glyph
+returns-in-Glyph c = λ s above k. subst (Put s c.add_glyph.new.self above) (sym c.in-Glyph.is) (c.add_glyph.ensures s above k)
+
+-- a line that can be added, by the form that was read
+abbrev Adds : Reader → LineForm → Type 0
+Adds r f = CanAdd r (form_meaning f)
+
+pub returns-in-Screen : goal.returns-in-Screen
+returns-in-Screen c = λ s above k.
+    let w = c.in-Screen.width in
+    let h = c.in-Screen.height in
+    let d = c.in-Screen.depth in
+    let q = screen_ranged c.args.self.now w h d (subst (Adds c.args.self.now) c.in-Screen.is c.requires) in
+    let new = c.add_screen.new.self in
+    subst (Put s new above) (sym c.in-Screen.is) (same_screen s new above w h d _ _ _ (in_64 w 1024 (omega arith) q.width) (in_64 h 1024 (omega arith) q.height) (in_64 d 8 (omega arith) q.depth) (c.add_screen.ensures s above k))
+
+pub returns-in-Bitmap : goal.returns-in-Bitmap
+returns-in-Bitmap c = λ s above k.
+    let name = c.in-Bitmap.name.now in
+    let w = c.in-Bitmap.width in
+    let h = c.in-Bitmap.height in
+    let d = c.in-Bitmap.depth in
+    let q = bitmap_ranged c.args.self.now name w h d (subst (Adds c.args.self.now) c.in-Bitmap.is c.requires) in
+    let new = c.add_bitmap.new.self in
+    on_done c.add_bitmap.result _ _ (subst (Put s new above) (sym c.in-Bitmap.is)) (same_bitmap c.add_bitmap.result s new above name w h d _ _ _ (in_64 w 1024 (omega arith) q.width) (in_64 h 1024 (omega arith) q.height) (in_64 d 8 (omega arith) q.depth) (c.add_bitmap.ensures s above k))

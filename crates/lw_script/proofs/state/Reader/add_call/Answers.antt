@@ -1,0 +1,31 @@
+use Rattle.std.proofs.Common.{refl, ap, ◌∙◌}
+use Rattle.lw_calls.specs.LineForms.{CallLine}
+use Rattle.lw_lines.specs.FormMeaning.{act_meaning, layers_meaning}
+use Rattle.lw_lines.specs.CallMeaning.{bitmap_place}
+use Rattle.lw_script.proofs.Addable.{here_of, due_of, few_names, few_bitmaps, call_ranged, call_made, call_room, call_supers}
+use Rattle.lw_script.proofs.Passing.{with_tasks, on_done}
+use Rattle.lw_script.proofs.state.Reader.add_call.Goals as goal
+
+pub bitmap_of-bitmap-requires : goal.bitmap_of-bitmap-requires
+bitmap_of-bitmap-requires c = few_bitmaps c.args.self.now _ c.requires
+
+pub add_call-requires-clause-range : goal.add_call-requires-clause-range
+add_call-requires-clause-range c = call_ranged c.args.self.now (layers_meaning c.args.layers) (act_meaning c.args.act) c.requires
+
+pub add_call-requires-clause-made : goal.add_call-requires-clause-made
+add_call-requires-clause-made c = call_made c.args.self.now (layers_meaning c.args.layers) (act_meaning c.args.act) c.requires
+
+pub add_call-requires-clause-few : goal.add_call-requires-clause-few
+add_call-requires-clause-few c = few_names c.args.self.now _ c.requires
+
+pub add_call-requires-clause-room : goal.add_call-requires-clause-room
+add_call-requires-clause-room c = call_room c.args.self.now (layers_meaning c.args.layers) (act_meaning c.args.act) c.requires
+
+pub add_call-requires-clause-supers : goal.add_call-requires-clause-supers
+add_call-requires-clause-supers c = call_supers c.args.self.now (layers_meaning c.args.layers) (act_meaning c.args.act) c.requires
+
+pub returns : goal.returns
+returns c = λ s above k.
+    let f = CallLine (layers_meaning c.args.layers) (act_meaning c.args.act) in
+    let r = c.args.self.now in
+    on_done c.add_call.result _ _ (with_tasks s r above f c.add_call.new.self refl refl (due_of r f c.requires (here_of r f c.requires).0) k) (c.add_call.ensures above (c.bitmap_of-bitmap.ensures ∙ ap (λ ns. bitmap_place ns (act_meaning c.args.act)) k.assets.names) k.tasks)

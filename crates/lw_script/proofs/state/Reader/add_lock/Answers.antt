@@ -1,0 +1,14 @@
+use Rattle.std.proofs.Common.{refl}
+use Rattle.lw_calls.specs.LineForms.{LockLine}
+use Rattle.lw_script.proofs.Addable.{here_of, due_of, few_names}
+use Rattle.lw_script.proofs.Passing.{with_tasks, on_done}
+use Rattle.lw_script.proofs.state.Reader.add_lock.Goals as goal
+
+pub add_lock-requires : goal.add_lock-requires
+add_lock-requires c = record { few = few_names c.args.self.now (LockLine c.args.name.now) c.requires }
+
+pub returns : goal.returns
+returns c = λ s above k.
+    let f = LockLine c.args.name.now in
+    let r = c.args.self.now in
+    on_done c.add_lock.result _ _ (with_tasks s r above f c.add_lock.new.self refl refl (due_of r f c.requires (here_of r f c.requires).0) k) (c.add_lock.ensures above k.tasks)

@@ -1,0 +1,24 @@
+use Rattle.std.proofs.Common.{◌++◌, map, unsigned_abs, ◌∙◌, ap, refl}
+use Rattle.lw_calls.specs.LineForms.{NumbersLine}
+use Rattle.lw_script.proofs.Addable.{here_of, tests_of, due_of}
+use Rattle.lw_script.proofs.Passing.{assets_pass, tasks_pass, on_done}
+use Rattle.lw_script.proofs.state.Reader.add_numbers.Goals as goal
+
+pub push_numbers-requires : goal.push_numbers-requires
+push_numbers-requires c = (tests_of c.args.self.now (NumbersLine c.args.numbers.now) c.requires).range
+
+pub returns : goal.returns
+returns c = λ s above k.
+    let f = NumbersLine c.args.numbers.now in
+    on_done c.push_numbers.result _ _ (λ e.
+    record {
+      hooks = k.hooks;
+      form = k.form;
+      section = k.section;
+      width = k.width;
+      height = k.height;
+      depth = k.depth;
+      assets = assets_pass c.args.self.now.assets above f refl (due_of c.args.self.now f c.requires (here_of c.args.self.now f c.requires).0) k.assets;
+      tasks = tasks_pass c.args.self.now.tasks above f refl k.tasks;
+      order = e ∙ ap (λ ns. ns ++ map unsigned_abs c.args.numbers.now) k.order;
+    }) c.push_numbers.ensures

@@ -1,0 +1,23 @@
+use Rattle.lw_script.proofs.Addable.{task_new, here_of, due_of}
+use Rattle.lw_script.proofs.Passing.{assets_pass}
+use Rattle.std.proofs.Common.{refl}
+use Rattle.lw_calls.specs.LineForms.{TaskLine}
+use Rattle.lw_script.proofs.state.Reader.add_task.Goals as goal
+
+pub add_task-requires : goal.add_task-requires
+add_task-requires c = record { new = task_new c.args.self.now c.args.name.now c.requires }
+
+pub returns : goal.returns
+returns c = λ s above k.
+    let f = TaskLine c.args.name.now in
+    record {
+      hooks = k.hooks;
+      form = k.form;
+      section = refl;
+      width = k.width;
+      height = k.height;
+      depth = k.depth;
+      assets = assets_pass c.args.self.now.assets above f refl (due_of c.args.self.now f c.requires (here_of c.args.self.now f c.requires).0) k.assets;
+      tasks = c.in_ok-add_task.ensures above k.tasks;
+      order = k.order;
+    }

@@ -1,0 +1,17 @@
+use Rattle.std.proofs.Common.{refl}
+use Rattle.lw_calls.specs.LineForms.{UnlockLine}
+use Rattle.lw_script.proofs.Addable.{here_of, due_of, few_names, some_unlocked}
+use Rattle.lw_script.proofs.Passing.{with_tasks, on_done}
+use Rattle.lw_script.proofs.state.Reader.add_unlock.Goals as goal
+
+pub add_unlock-requires-clause-few : goal.add_unlock-requires-clause-few
+add_unlock-requires-clause-few c = few_names c.args.self.now (UnlockLine c.args.name.now) c.requires
+
+pub add_unlock-requires-clause-some : goal.add_unlock-requires-clause-some
+add_unlock-requires-clause-some c = some_unlocked c.args.self.now c.args.name.now c.requires
+
+pub returns : goal.returns
+returns c = λ s above k.
+    let f = UnlockLine c.args.name.now in
+    let r = c.args.self.now in
+    on_done c.add_unlock.result _ _ (with_tasks s r above f c.add_unlock.new.self refl refl (due_of r f c.requires (here_of r f c.requires).0) k) (c.add_unlock.ensures above k.tasks)

@@ -1,0 +1,11 @@
+use Rattle.lw_lines.specs.FormMeaning.{form_meaning}
+use Rattle.lw_script.proofs.state.Reader.take.Goals as goal
+
+pub add-requires : goal.add-requires
+add-requires c =
+    let h = c.requires in
+    (h.0, h.1, h.2, (record { line = c.args.line.now; read = c.in-Ok.ensures h.0 h.1 h.2 }, h.3))
+
+pub returns-in_ok-add-in-Ok : goal.returns-in_ok-add-in-Ok
+returns-in_ok-add-in-Ok c = λ s above k.
+    (form_meaning c.in-Ok.form, c.in-Ok.ensures s above k, c.in_ok-add-in-Ok.ensures s above k)

@@ -1,5 +1,0 @@
-use Rattle.lw_script.proofs.Numbers.{front_of}
-use Rattle.lw_script.proofs.token.without_last.Goals as goal
-
-pub returns : goal.returns
-returns c = front_of c.args.bytes.now

@@ -1,0 +1,18 @@
+-- What the line of a call tells of the layers and hooks that it names.
+use Rattle.std.specs.Prelude.{◌≡◌, ℕ, ◌==◌, List, [], ◌∷◌}
+use Rattle.std.specs.List.{list_any}
+use Rattle.lw_calls.specs.LinesAbove.{and_name, place_among}
+
+-- the number of the first layer that a line names, below lines that name these, and 0 where it names none
+abbrev pub first_place : List (List ℕ) → List (List ℕ) → ℕ
+first_place names [] = 0
+first_place names (l ∷ layers) = place_among names l
+
+-- the number of the second one, and 0 where it names none
+abbrev pub second_place : List (List ℕ) → List (List ℕ) → ℕ
+second_place names (l ∷ m ∷ layers) = place_among (and_name names l) m
+second_place names layers = 0
+
+-- the hooks that were noted are those of the lines
+abbrev pub AreNoted : List ℕ → List ℕ → Type 0
+AreNoted noted hooks = (n : ℕ) → list_any (λ m. n == m) noted ≡ list_any (λ m. m == n) hooks

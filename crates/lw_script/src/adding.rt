@@ -1,0 +1,231 @@
+//! A line added below those that were read.
+ghost use Rattle.std.specs.Prelude.{◌≡◌, ◌≤◌, ◌++◌, pos, unsigned_abs, IsTrue, OnOk, List, ◌∷◌, length, map};
+ghost use Rattle.std.specs.List.{list_all};
+ghost use Rattle.lw_region.specs.Rectangle.{within};
+ghost use Rattle.lw_calls.specs.LineForms.{LineForm as FormValue, ScreenLine, GlyphLine, BitmapLine, RowLine, TaskLine, EndLine, OrderLine, NumbersLine, ReportLine, CallLine, LockLine, UnlockLine, HoldLine, ReleaseLine};
+ghost use Rattle.lw_words.specs.Digits.{decoded};
+ghost use Rattle.lw_calls.specs.Script.{Setting};
+ghost use Rattle.lw_words.specs.Cuts.{targets};
+ghost use Rattle.lw_lines.specs.FormMeaning.{form_meaning, act_meaning, layers_meaning};
+ghost use Rattle.lw_lines.specs.CallMeaning.{bitmap_place};
+ghost use Rattle.lw_script.specs.Stands.{Stands, CanAdd};
+
+use crate::state::{Reader, place_of_name};
+use lw_lines::{Act, Layers, LineForm, Section, depth as depth_of, size, task_number};
+use lw_words::Digits;
+use std::alloc::{AllocError, Global};
+
+/// Puts the numbers at the end of the order.
+fn push_numbers(order: &mut Vec<u32>, numbers: &[i64]) -> Result<(), AllocError>
+    requires { IsTrue (list_all (λ z. within (pos 0) z (pos 15)) numbers.now) }
+    ensures { OnOk result (order.new.items ≡ order.old.items ++ map unsigned_abs numbers.now) }
+{
+    for number in numbers {
+        order.push(task_number(*number))?;
+    }
+    Ok(())
+}
+
+impl<'a> Reader<'a> {
+    /// Adds the screen's line.
+    fn add_screen(&mut self, width: i64, height: i64, depth: i64)
+        requires { CanAdd self.old (ScreenLine width height depth) }
+        ensures { (s : Setting) (above : List FormValue) → Stands s self.old above
+            → Stands s self.new (ScreenLine width height depth ∷ above) }
+    {
+        self.width = size(width);
+        self.height = size(height);
+        self.depth = depth_of(depth);
+        self.section = Section::Assets;
+    }
+
+    /// Adds the glyph of a code.
+    fn add_glyph(&mut self, code: u8, digits: &Digits<'a>)
+        requires { CanAdd self.old (GlyphLine code (decoded digits.now.digits.now)) }
+        ensures { (s : Setting) (above : List FormValue) → Stands s self.old above
+            → Stands s self.new (GlyphLine code (decoded digits.now.digits.now) ∷ above) }
+    {
+        self.assets.add_glyph(code, digits);
+    }
+
+    /// Adds a bitmap, whose rows are then due.
+    fn add_bitmap(
+        &mut self,
+        alloc: Global,
+        name: &'a [u8],
+        width: i64,
+        height: i64,
+        depth: i64,
+    ) -> Result<(), AllocError>
+        requires { CanAdd self.old (BitmapLine name.now width height depth) }
+        ensures { (s : Setting) (above : List FormValue) → Stands s self.old above
+            → OnOk result (Stands s self.new (BitmapLine name.entry.now width height depth ∷ above)) }
+    {
+        self.assets.add_bitmap(alloc, name, width, height, depth)
+    }
+
+    /// Adds a row of the nearest bitmap.
+    fn add_row(&mut self, alloc: Global, digits: &Digits<'a>) -> Result<(), AllocError>
+        requires { CanAdd self.old (RowLine (decoded digits.now.digits.now)) }
+        ensures { (s : Setting) (above : List FormValue) → Stands s self.old above
+            → OnOk result (Stands s self.new (RowLine (decoded digits.now.digits.now) ∷ above)) }
+    {
+        self.assets.add_row(alloc, digits)
+    }
+
+    /// Adds the end of a task.
+    fn add_end(&mut self)
+        requires { CanAdd self.old EndLine }
+        ensures { (s : Setting) (above : List FormValue) → Stands s self.old above → Stands s self.new (EndLine ∷ above) }
+    {
+        self.section = Section::Tasks;
+    }
+
+    /// Adds the beginning of an order.
+    fn add_order(&mut self)
+        requires { CanAdd self.old OrderLine }
+        ensures { (s : Setting) (above : List FormValue) → Stands s self.old above → Stands s self.new (OrderLine ∷ above) }
+    {
+        self.section = Section::Numbers;
+    }
+
+    /// Adds the line behind which a report stands.
+    fn add_report(&mut self)
+        requires { CanAdd self.old ReportLine }
+        ensures { (s : Setting) (above : List FormValue) → Stands s self.old above → Stands s self.new (ReportLine ∷ above) }
+    {
+        self.section = Section::Nothing;
+    }
+
+    /// Adds the beginning of a lock on a layer.
+    fn add_lock(&mut self, name: &'a [u8]) -> Result<(), AllocError>
+        requires { CanAdd self.old (LockLine name.now) }
+        ensures { (s : Setting) (above : List FormValue) → Stands s self.old above
+            → OnOk result (Stands s self.new (LockLine name.entry.now ∷ above)) }
+    {
+        self.tasks.add_lock(name)
+    }
+
+    /// Adds the end of a lock on a layer.
+    fn add_unlock(&mut self, name: &'a [u8]) -> Result<(), AllocError>
+        requires { CanAdd self.old (UnlockLine name.now) }
+        ensures { (s : Setting) (above : List FormValue) → Stands s self.old above
+            → OnOk result (Stands s self.new (UnlockLine name.entry.now ∷ above)) }
+    {
+        self.tasks.add_unlock(name)
+    }
+
+    /// Adds the beginning of a hold.
+    fn add_hold(&mut self)
+        requires { CanAdd self.old HoldLine }
+        ensures { (s : Setting) (above : List FormValue) → Stands s self.old above → Stands s self.new (HoldLine ∷ above) }
+    {
+        self.tasks.add_hold();
+    }
+
+    /// Adds the end of a hold.
+    fn add_release(&mut self) -> Result<(), AllocError>
+        requires { CanAdd self.old ReleaseLine }
+        ensures { (s : Setting) (above : List FormValue) → Stands s self.old above
+            → OnOk result (Stands s self.new (ReleaseLine ∷ above)) }
+    {
+        self.tasks.add_release()
+    }
+
+    /// Adds the beginning of a task.
+    fn add_task(&mut self, alloc: Global, name: &'a [u8]) -> Result<(), AllocError>
+        requires { CanAdd self.old (TaskLine name.now) }
+        ensures { (s : Setting) (above : List FormValue) → Stands s self.old above
+            → OnOk result (Stands s self.new (TaskLine name.entry.now ∷ above)) }
+    {
+        self.tasks.add_task(alloc, name)?;
+        self.section = Section::Calls;
+        Ok(())
+    }
+
+    /// Adds numbers of an order.
+    fn add_numbers(&mut self, numbers: &[i64]) -> Result<(), AllocError>
+        requires { CanAdd self.old (NumbersLine numbers.now) }
+        ensures { (s : Setting) (above : List FormValue) → Stands s self.old above
+            → OnOk result (Stands s self.new (NumbersLine numbers.now ∷ above)) }
+    {
+        push_numbers(&mut self.order, numbers)
+    }
+
+    /// The number of the bitmap that the act names, and 0 where it names none.
+    fn bitmap_of(&self, act: &Act<'a>) -> u32
+        requires { length self.now.assets.names.keys ≤ 16 }
+        ensures { result ≡ bitmap_place (targets self.now.assets.names.keys) (act_meaning act.now) }
+    {
+        match act {
+            Act::Put { bitmap, .. } => place_of_name(&self.assets.names, bitmap) as u32,
+            _ => 0,
+        }
+    }
+
+    /// Adds a call.
+    fn add_call(
+        &mut self,
+        alloc: Global,
+        layers: Layers<'a>,
+        act: Act<'a>,
+    ) -> Result<(), AllocError>
+        requires { CanAdd self.old (CallLine (layers_meaning layers) (act_meaning act)) }
+        ensures { (s : Setting) (above : List FormValue) → Stands s self.old above
+            → OnOk result (Stands s self.new (CallLine (layers_meaning layers.entry) (act_meaning act.entry) ∷ above)) }
+    {
+        let bitmap = self.bitmap_of(&act);
+        self.tasks.add_call(alloc, bitmap, layers, act)
+    }
+
+    /// Adds a line below those that were read, where it is good.
+    pub fn add(&mut self, alloc: Global, form: LineForm<'a>) -> Result<(), AllocError>
+        requires { CanAdd self.old (form_meaning form) }
+        ensures { (s : Setting) (above : List FormValue) → Stands s self.old above
+            → OnOk result (Stands s self.new (form_meaning form.entry ∷ above)) }
+    {
+        match form {
+            LineForm::Screen {
+                width,
+                height,
+                depth,
+            } => {
+                self.add_screen(width, height, depth);
+                Ok(())
+            }
+            LineForm::Glyph { code, digits } => {
+                self.add_glyph(code, &digits);
+                Ok(())
+            }
+            LineForm::Bitmap {
+                name,
+                width,
+                height,
+                depth,
+            } => self.add_bitmap(alloc, name, width, height, depth),
+            LineForm::Row(digits) => self.add_row(alloc, &digits),
+            LineForm::Task(name) => self.add_task(alloc, name),
+            LineForm::End => {
+                self.add_end();
+                Ok(())
+            }
+            LineForm::Order => {
+                self.add_order();
+                Ok(())
+            }
+            LineForm::Numbers(numbers) => self.add_numbers(numbers.as_slice()),
+            LineForm::Report => {
+                self.add_report();
+                Ok(())
+            }
+            LineForm::Call { layers, act } => self.add_call(alloc, layers, act),
+            LineForm::Lock(name) => self.add_lock(name),
+            LineForm::Unlock(name) => self.add_unlock(name),
+            LineForm::Hold => {
+                self.add_hold();
+                Ok(())
+            }
+            LineForm::Release => self.add_release(),
+        }
+    }
+}

@@ -1,0 +1,48 @@
+//! Reads a script from its first line to its last.
+ghost use Rattle.std.specs.Prelude.{◌≡◌, ◌<◌, ℕ, IfOk, Err, [], length, min};
+ghost use Rattle.lw_calls.specs.declared.reason.Reason.{Reason as ReasonValue};
+ghost use Rattle.lw_calls.specs.Lines.{lines};
+ghost use Rattle.lw_calls.specs.Script.{ScriptInput, SpellsInput, IsFirstBadIn, IsRunnableInput, bytes_through};
+ghost use Rattle.lw_calls.specs.ScriptReading.{outcome_of};
+ghost use Rattle.lw_script.specs.Answers.{reading_with, input_meaning, Gives, GivesInput, RefusesAt};
+
+use crate::input::{Input, ScriptStop};
+use crate::state::Reader;
+use lw_calls::Form;
+use std::alloc::Global;
+
+/// Reads the lines one after another, up to a line `report` if there is one.
+fn read_lines(alloc: Global, bytes: &[u8], hooks: u32, form: Form) -> Result<Input, ScriptStop>
+    requires { length bytes.now < 4294967295 }
+    ensures { Gives (reading_with hooks form) (min (length bytes.now) (bytes_through [] (lines bytes.now))) result
+        (outcome_of (reading_with hooks form) 1 [] (lines bytes.now)) }
+{
+    let mut reader = Reader::new(alloc, hooks, form);
+    let mut rest = bytes;
+    let mut number = 1;
+    while let Some((line, behind)) = reader.next_line(rest) {
+        reader.take_line(alloc, number, line)?;
+        rest = behind;
+        number += 1;
+    }
+    reader.finish(alloc, number, bytes.len() - rest.len())
+}
+
+/// Reads a script in this input, where so many hooks are handed in: the plan that its lines spell, the numbers of its order
+/// and the place behind its line `report`; or its first bad line with the first reason. Memory may run out instead. The
+/// bytes are fewer than 4,294,967,295 (this project's own format).
+pub fn read(alloc: Global, bytes: &[u8], hooks: u32, form: Form) -> Result<Input, ScriptStop>
+    requires { length bytes.now < 4294967295 }
+    ensures found { IfOk result (λ input. SpellsInput (reading_with hooks form) bytes.now (input_meaning input)) }
+    ensures runnable { IfOk result (λ input. IsRunnableInput (reading_with hooks form) (input_meaning input)) }
+    ensures refused { (line : ℕ) (reason : ReasonValue) → result ≡ Err (ScriptStop.Refused line reason)
+        → IsFirstBadIn (reading_with hooks form) (lines bytes.now) line reason }
+
+    // What the script is decides the answer, but for want of memory.
+    ensures only_read { (input : ScriptInput) → SpellsInput (reading_with hooks form) bytes.now input
+        → GivesInput input result }
+    ensures only_refused { (line : ℕ) (reason : ReasonValue)
+        → IsFirstBadIn (reading_with hooks form) (lines bytes.now) line reason → RefusesAt line reason result }
+{
+    read_lines(alloc, bytes, hooks, form)
+}

@@ -1,0 +1,59 @@
+//! A line taken from the bytes that are left.
+ghost use Rattle.std.specs.Prelude.{List};
+ghost use Rattle.lw_calls.specs.LineForms.{LineForm as FormValue};
+ghost use Rattle.lw_calls.specs.Script.{Setting, is_nothing_due};
+ghost use Rattle.lw_calls.specs.ScriptReading.{line_read};
+ghost use Rattle.lw_lines.specs.SectionMeaning.{section_meaning};
+ghost use Rattle.lw_script.specs.Stands.{Stands, HasRead};
+ghost use Rattle.lw_script.specs.Answers.{Takes, forms_with, Advances};
+ghost use Rattle.lw_script.specs.NextLine.{CutsDue};
+
+use crate::input::ScriptStop;
+use crate::state::Reader;
+use lw_words::{Stop, cut_line, is_skipped};
+use std::alloc::Global;
+
+impl<'a> Reader<'a> {
+    /// Reads a line that isn't passed, and adds it.
+    pub fn take(&mut self, alloc: Global, number: u32, line: &'a [u8]) -> Result<(), ScriptStop>
+        requires { HasRead self.old }
+        ensures { (s : Setting) (above : List FormValue) → Stands s self.old above
+            → Takes s self.new above number result (line_read s above line.entry.now) }
+    {
+        match self.read_line(alloc, line) {
+            Err(Stop::Refused(reason)) => Err(ScriptStop::Refused {
+                line: number,
+                reason,
+            }),
+            Err(Stop::Memory) => Err(ScriptStop::Memory),
+            Ok(form) => Ok(self.add(alloc, form)?),
+        }
+    }
+
+    /// Takes a line, unless it says nothing.
+    pub fn take_line(
+        &mut self,
+        alloc: Global,
+        number: u32,
+        line: &'a [u8],
+    ) -> Result<(), ScriptStop>
+        requires { HasRead self.old }
+        ensures { (s : Setting) (above : List FormValue) → Stands s self.old above
+            → Advances s self.new number result (forms_with s above line.entry.now) }
+    {
+        if is_skipped(line) {
+            return Ok(());
+        }
+        self.take(alloc, number, line)
+    }
+
+    /// The next line and the bytes behind it, where a further line is read.
+    pub fn next_line<'b>(&self, rest: &'b [u8]) -> Option<(&'b [u8], &'b [u8])>
+        ensures { CutsDue (is_nothing_due (section_meaning self.now.section)) rest.now result }
+    {
+        if self.section.is_nothing() {
+            return None;
+        }
+        cut_line(rest)
+    }
+}

@@ -1,0 +1,221 @@
+//! Tasks, groups and calls added to those that were read.
+ghost use Rattle.std.specs.Prelude.{◌≡◌, ℕ, ◌+◌, ◌<◌, ◌≤◌, false, if◌then◌else◌, IsTrue, IfOk, OnOk, List, ◌∷◌, length, map, option_map, bytes_eq};
+ghost use Rattle.std.specs.List.{list_any};
+ghost use Rattle.lw_calls.specs.LineForms.{LineForm as FormValue, TaskLine, LockLine, UnlockLine, HoldLine, ReleaseLine, CallLine, layers_of, is_hook_number, is_act_in_range};
+ghost use Rattle.lw_calls.specs.LinesAbove.{bitmaps_above, and_name, and_names, place_among, asks_super, listed, opened_by, calls_so_far, began_at, onto_last};
+ghost use Rattle.lw_calls.specs.Script.{is_ending};
+ghost use Rattle.lw_words.specs.Cuts.{targets};
+ghost use Rattle.lw_lines.specs.FormMeaning.{act_meaning, layers_meaning};
+ghost use Rattle.lw_lines.specs.CallMeaning.{bitmap_place};
+ghost use Rattle.lw_lines.specs.GroupMeaning.{opened_meaning};
+ghost use Rattle.lw_script.specs.CallParts.{first_place, second_place, AreNoted};
+ghost use Rattle.lw_script.specs.Stands.{TasksStand};
+
+use crate::state::TasksRead;
+use indexmap::IndexSet;
+use lw_calls::{Group, Hold};
+use lw_lines::{Act, BareAct, Layers, Opened, hook};
+use std::alloc::{AllocError, Global};
+
+/// The number of a name among these, where a name that isn't one of them gets the next number.
+fn numbered<'a>(names: &mut IndexSet<&'a [u8]>, name: &'a [u8]) -> Result<u32, AllocError>
+    requires few { length names.old.keys ≤ 66 }
+    ensures names { OnOk result (targets names.new.keys ≡ and_name (targets names.old.keys) name.entry.now) }
+    ensures place { IfOk result (λ slot. slot ≡ place_among (targets names.old.keys) name.entry.now) }
+{
+    let (slot, _) = names.insert_full(name)?;
+    Ok(slot as u32)
+}
+
+/// Puts something at the end of the last of these lists, if there is one.
+fn put_last<T: Drop>(lists: &mut Vec<Vec<T>>, item: T) -> Result<(), AllocError>
+    ensures { OnOk result (map (λ list. list.items) lists.new.items ≡ onto_last item (map (λ list. list.items) lists.old.items)) }
+{
+    if let Some(list) = lists.last_mut() {
+        list.push(item)?;
+    }
+    Ok(())
+}
+
+/// The numbers of the layers that a call's line names, and 0 in the place of each that it doesn't name.
+fn slots_of<'a>(
+    names: &mut IndexSet<&'a [u8]>,
+    layers: Layers<'a>,
+) -> Result<(u32, u32), AllocError>
+    requires few { length names.old.keys ≤ 64 }
+    ensures names { OnOk result (targets names.new.keys ≡ and_names (targets names.old.keys) (layers_meaning layers.entry)) }
+    ensures first { IfOk result (λ slots. slots.0 ≡ first_place (targets names.old.keys) (layers_meaning layers.entry)) }
+    ensures second { IfOk result (λ slots. slots.1 ≡ second_place (targets names.old.keys) (layers_meaning layers.entry)) }
+{
+    match layers {
+        Layers::Nothing => Ok((0, 0)),
+        Layers::One(first) => {
+            let slot = numbered(names, first)?;
+            Ok((slot, 0))
+        }
+        Layers::Two(first, second) => {
+            let slot = numbered(names, first)?;
+            let other = numbered(names, second)?;
+            Ok((slot, other))
+        }
+    }
+}
+
+/// Notes the hook that a line names.
+fn note_hook(used: &mut IndexSet<u32>, number: Option<i64>) -> Result<(), AllocError>
+    requires { IsTrue (is_hook_number number) }
+    ensures { (hooks : List ℕ) → AreNoted used.old.keys hooks → OnOk result (AreNoted used.new.keys (listed number hooks)) }
+{
+    if let Some(number) = number {
+        used.insert(hook(number))?;
+    }
+    Ok(())
+}
+
+/// How many lines asked for a super-bitmap layer, with a call's.
+fn supers_with(supers: u32, act: &Act<'_>) -> u32
+    requires { supers ≤ 16 }
+    ensures { (layers : List (List ℕ)) → result ≡ (if asks_super (CallLine layers (act_meaning act.now)) then 1 else 0) + supers }
+{
+    if act.asks_super() { supers + 1 } else { supers }
+}
+
+/// Adds the group that a call ends, if it ends one.
+fn end_update(groups: &mut Vec<Vec<Group>>, act: &Act<'_>, group: Group) -> Result<(), AllocError>
+    ensures { OnOk result (map (λ list. list.items) groups.new.items ≡ (if is_ending (act_meaning act.now)
+        then onto_last group (map (λ list. list.items) groups.old.items) else map (λ list. list.items) groups.old.items)) }
+{
+    if act.is_ending() {
+        put_last(groups, group)?;
+    }
+    Ok(())
+}
+
+/// The group that is open below a call.
+fn group_below<'a>(
+    group: Option<Opened<'a>>,
+    layers: Layers<'a>,
+    act: &Act<'_>,
+) -> Option<Opened<'a>>
+    ensures { option_map opened_meaning result ≡ opened_by (layers_meaning layers.entry) (act_meaning act.now) (option_map opened_meaning group.entry) }
+{
+    match (layers, act) {
+        (Layers::One(layer), Act::Bare(BareAct::Refresh)) => Some(Opened::Updating(layer)),
+        (_, Act::EndRefresh { .. }) => None,
+        _ => group,
+    }
+}
+
+/// How many calls a task had when the group began that is open below a call.
+fn began_below(began: u32, so_far: u32, act: &Act<'_>) -> u32
+    ensures { (above : List FormValue) → began ≡ began_at above → so_far ≡ calls_so_far above
+        → (layers : List (List ℕ)) → result ≡ began_at (CallLine layers (act_meaning act.now) ∷ above) }
+{
+    match act {
+        Act::Bare(BareAct::Refresh) => so_far,
+        _ => began,
+    }
+}
+
+impl<'a> TasksRead<'a> {
+    /// Begins a task.
+    pub(crate) fn add_task(&mut self, alloc: Global, name: &'a [u8]) -> Result<(), AllocError>
+        requires new { list_any (bytes_eq name.now) (targets self.old.task_names.keys) ≡ false }
+        ensures { (above : List FormValue) → TasksStand self.old above
+            → OnOk result (TasksStand self.new (TaskLine name.entry.now ∷ above)) }
+    {
+        self.task_names.insert(name)?;
+        self.calls.push(Vec::new(alloc))?;
+        self.groups.push(Vec::new(alloc))?;
+        self.so_far = 0;
+        Ok(())
+    }
+
+    /// Begins a lock on a layer.
+    pub(crate) fn add_lock(&mut self, name: &'a [u8]) -> Result<(), AllocError>
+        requires few { length self.old.layer_names.keys ≤ 64 }
+        ensures { (above : List FormValue) → TasksStand self.old above
+            → OnOk result (TasksStand self.new (LockLine name.entry.now ∷ above)) }
+    {
+        numbered(&mut self.layer_names, name)?;
+        self.group = Some(Opened::Locked(name));
+        self.began = self.so_far;
+        Ok(())
+    }
+
+    /// Begins a hold.
+    pub(crate) fn add_hold(&mut self)
+        ensures { (above : List FormValue) → TasksStand self.old above → TasksStand self.new (HoldLine ∷ above) }
+    {
+        self.group = Some(Opened::Held);
+        self.began = self.so_far;
+    }
+
+    /// Ends a lock on a layer, which has calls.
+    pub(crate) fn add_unlock(&mut self, name: &'a [u8]) -> Result<(), AllocError>
+        requires few { length self.old.layer_names.keys ≤ 64 }
+        requires some { 0 < self.old.so_far }
+        ensures { (above : List FormValue) → TasksStand self.old above
+            → OnOk result (TasksStand self.new (UnlockLine name.entry.now ∷ above)) }
+    {
+        let slot = numbered(&mut self.layer_names, name)?;
+        let group = Group {
+            first: self.began,
+            last: self.so_far - 1,
+            hold: Hold::Slot(slot),
+        };
+        put_last(&mut self.groups, group)?;
+        self.group = None;
+        Ok(())
+    }
+
+    /// Ends a hold, which has calls.
+    pub(crate) fn add_release(&mut self) -> Result<(), AllocError>
+        requires some { 0 < self.old.so_far }
+        ensures { (above : List FormValue) → TasksStand self.old above
+            → OnOk result (TasksStand self.new (ReleaseLine ∷ above)) }
+    {
+        let group = Group {
+            first: self.began,
+            last: self.so_far - 1,
+            hold: Hold::All,
+        };
+        put_last(&mut self.groups, group)?;
+        self.group = None;
+        Ok(())
+    }
+
+    /// Adds a call, where the bitmap that it names has this number.
+    pub(crate) fn add_call(
+        &mut self,
+        alloc: Global,
+        bitmap: u32,
+        layers: Layers<'a>,
+        act: Act<'a>,
+    ) -> Result<(), AllocError>
+        requires range { IsTrue (is_act_in_range (act_meaning act)) }
+        requires made { length (layers_meaning layers) ≡ layers_of (act_meaning act) }
+        requires few { length self.old.layer_names.keys ≤ 64 }
+        requires room { self.old.so_far < 4096 }
+        requires supers { self.old.supers ≤ 16 }
+        ensures { (above : List FormValue) → bitmap ≡ bitmap_place (bitmaps_above above) (act_meaning act.entry)
+            → TasksStand self.old above
+            → OnOk result (TasksStand self.new (CallLine (layers_meaning layers.entry) (act_meaning act.entry) ∷ above)) }
+    {
+        let (slot, other) = slots_of(&mut self.layer_names, layers)?;
+        let call = act.call(alloc, bitmap, slot, other)?;
+        note_hook(&mut self.used, act.hook())?;
+        self.supers = supers_with(self.supers, &act);
+        let group = Group {
+            first: self.began,
+            last: self.so_far,
+            hold: Hold::Slot(slot),
+        };
+        end_update(&mut self.groups, &act, group)?;
+        self.group = group_below(self.group, layers, &act);
+        self.began = began_below(self.began, self.so_far, &act);
+        put_last(&mut self.calls, call)?;
+        self.so_far += 1;
+        Ok(())
+    }
+}

@@ -1,0 +1,19 @@
+-- What references point to.
+use Rattle.std.proofs.Common.{◌≡◌, ℕ, Bool, ◌||◌, List, [], ◌∷◌, ◌++◌, length, Bor, refl, ap, arith}
+use Rattle.std.specs.List.{list_any}
+use Rattle.lw_words.specs.Cuts.{targets}
+
+-- a reference put at the end
+pub targets_push : (ks : List (Bor (List ℕ))) (k : Bor (List ℕ)) → targets (ks ++ k ∷ []) ≡ targets ks ++ k.now ∷ []
+targets_push [] k = refl
+targets_push (j ∷ ks) k = ap (λ ns. j.now ∷ ns) (targets_push ks k)
+
+-- a test of what references point to
+pub any_target : (p : List ℕ → Bool) (ks : List (Bor (List ℕ))) → list_any (λ k. p k.now) ks ≡ list_any p (targets ks)
+any_target p [] = refl
+any_target p (k ∷ ks) = ap (λ b. p k.now || b) (any_target p ks)
+
+-- as many targets as references
+pub length-targets : (ks : List (Bor (List ℕ))) → length (targets ks) ≡ length ks
+length-targets [] = refl
+length-targets (k ∷ ks) = omega (arith, length-targets ks)
