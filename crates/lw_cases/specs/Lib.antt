@@ -17,6 +17,8 @@ pub mod Registers
 pub mod Refusals
 pub mod Orders
 pub mod Histories
-pub mod Scripts
 pub mod Fitting
 pub mod WholeScripts
+pub mod CanonicalTexts
+pub mod SmallPlans
+pub mod LinesBelow

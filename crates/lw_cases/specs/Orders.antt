@@ -6,8 +6,7 @@ use Rattle.lw_calls.specs.declared.call.Call.{Call}
 use Rattle.lw_calls.specs.declared.call.Call.TheVariants.{RegRect, ToFront, Which}
 use Rattle.lw_calls.specs.declared.entry.Entry.{Entry}
 use Rattle.lw_calls.specs.declared.group.Hold.TheVariants.{Slot, All}
-use Rattle.lw_calls.specs.Planned.{Planned}
-use Rattle.lw_calls.specs.Above.{no_supplies}
+use Rattle.lw_calls.specs.Planned.{Planned, no_supplies}
 use Rattle.lw_cases.specs.Plans.{text, one_task, grouped, with_second_task, rect, create, fill, blit_across}
 
 -- two tasks, each of which creates a layer of its own and fills it

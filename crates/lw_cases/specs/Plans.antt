@@ -13,8 +13,7 @@ use Rattle.lw_calls.specs.declared.call.Call.{Call}
 use Rattle.lw_calls.specs.declared.call.Call.TheVariants.{Create, OpenWindow, Fill, ScrollRaster, Put, Blit}
 use Rattle.lw_calls.specs.declared.group.Group.{Group}
 use Rattle.lw_calls.specs.Hook.{Hook}
-use Rattle.lw_calls.specs.Planned.{Planned, task_calls, task_groups}
-use Rattle.lw_calls.specs.Above.{no_supplies}
+use Rattle.lw_calls.specs.Planned.{Planned, task_calls, task_groups, no_supplies}
 
 -- A text of lines. Each line feed is written as a stroke, which stands in no report and no script here.
 abbrev pub text : List ℕ → List ℕ

@@ -4,6 +4,7 @@ use Rattle.std.specs.List.{flat_map, range_with_len}
 use Rattle.std.specs.Fmt.{decimal}
 use Rattle.lw_calls.specs.declared.form.Form.TheVariants.{Plain, Ordered, Audited}
 use Rattle.lw_calls.specs.Script.{Setting, ScriptInput, SpellsInput}
+use Rattle.lw_cases.specs.Drawing.{first_fill}
 
 -- the byte that a character of a script stands for: / for a line feed, and ' for a double quote
 abbrev pub byte_for : ℕ → ℕ
@@ -47,6 +48,13 @@ sixteen_bitmaps = flat_map (λ i. script (codes "bitmap b") ++ decimal i ++ scri
 abbrev pub sixteen_tasks : List ℕ
 sixteen_tasks = flat_map (λ i. script (codes "task t") ++ decimal i ++ script (codes "/end/")) (range_with_len 0 16)
 
+-- the script of the first fill, and what it gives: its plan, no order, and the number of its bytes
+abbrev pub first_fill_script : List ℕ
+first_fill_script = created ++ script (codes "fill w 1 1 2 2/end/")
+
+abbrev pub first_fill_input : ScriptInput
+first_fill_input = record { plan = first_fill; order = []; rest = 69 }
+
 abbrev pub line_feed : List ℕ
 line_feed = script (codes "/")
 
@@ -62,6 +70,13 @@ one_space = script (codes " ")
 abbrev pub long_comment : List ℕ
 long_comment = script (codes "#") ++ replicate 600 1 ++ script (codes "/screen 16 4 1/task a/end")
 
+abbrev pub all_parts : List ℕ
+all_parts =
+    script (codes "# first fill/screen 16 4 1//glyph 41 183c66667e666600/bitmap dot 8 2 1/ff00/8100/task a/") ++ script (codes "create w smart front 0 0 7 3/lock w/fill w 1 1 2 2/unlock w/end/")
+
+abbrev pub comment_in_task : List ℕ
+comment_in_task = in_task_a ++ script (codes "# note/")
+
 abbrev pub line_of_512 : List ℕ
 line_of_512 = in_task_a ++ replicate 512 97
 
@@ -73,6 +88,9 @@ second_task = in_task_a ++ script (codes "end/task 9a")
 
 abbrev pub second_task_apart : List ℕ
 second_task_apart = in_task_a ++ script (codes "end/task  b")
+
+abbrev pub word_behind_end : List ℕ
+word_behind_end = in_task_a ++ script (codes "end/tasks b")
 
 abbrev pub task_in_task : List ℕ
 task_in_task = in_task_a ++ script (codes "task b")
@@ -97,6 +115,9 @@ quote_in_word = created ++ script (codes "text w a'b  c")
 
 abbrev pub quote_alone : List ℕ
 quote_alone = created ++ script (codes "text w '")
+
+abbrev pub two_spaces : List ℕ
+two_spaces = created ++ script (codes "fill w 0  0 1 1")
 
 abbrev pub space_at_end : List ℕ
 space_at_end = created ++ script (codes "text w a ")
@@ -226,6 +247,12 @@ hook_above_32_bits = in_task_a ++ script (codes "create w smart front 0 0 7 3 ho
 
 abbrev pub hook_below_0 : List ℕ
 hook_below_0 = in_task_a ++ script (codes "create w smart front 0 0 7 3 hook -1")
+
+abbrev pub hook_0_of_none : List ℕ
+hook_0_of_none = in_task_a ++ script (codes "create w smart front 0 0 7 3 hook 0/end/")
+
+abbrev pub simple_layer : List ℕ
+simple_layer = in_task_a ++ script (codes "create w simple front 0 0 7 3/end/")
 
 abbrev pub hook_2_of_2 : List ℕ
 hook_2_of_2 = in_task_a ++ script (codes "create w smart front 0 0 7 3 hook 2")
@@ -380,6 +407,9 @@ task_before_screen = script (codes "task a/")
 abbrev pub end_before_task : List ℕ
 end_before_task = screened ++ script (codes "end")
 
+abbrev pub task_missing : List ℕ
+task_missing = screened
+
 abbrev pub end_missing : List ℕ
 end_missing = in_task_a
 
@@ -424,3 +454,43 @@ bitmaps_17 = screened ++ sixteen_bitmaps ++ script (codes "bitmap c 1 1 1/")
 
 abbrev pub tasks_17 : List ℕ
 tasks_17 = screened ++ sixteen_tasks ++ script (codes "task u/")
+
+-- a task with one line, or two, of which the last is refused
+abbrev pub plus_sign : List ℕ
+plus_sign = in_task_a ++ script (codes "fill w +5 0 9 0/")
+
+abbrev pub zeros_before_7 : List ℕ
+zeros_before_7 = in_task_a ++ script (codes "fill w 007 0 9 0/")
+
+abbrev pub maximum_of_5_below_9 : List ℕ
+maximum_of_5_below_9 = in_task_a ++ script (codes "fill w 9 0 5 0/")
+
+abbrev pub maximum_of_40000 : List ℕ
+maximum_of_40000 = in_task_a ++ script (codes "fill w 0 0 40000 0/")
+
+abbrev pub zero_apart : List ℕ
+zero_apart = in_task_a ++ script (codes "fill w 0  0 1 1/")
+
+abbrev pub text_before_a_word : List ℕ
+text_before_a_word = in_task_a ++ script (codes "text w 'a' b/")
+
+abbrev pub unknown_verb : List ℕ
+unknown_verb = in_task_a ++ script (codes "glow w/")
+
+abbrev pub glyph_in_task : List ℕ
+glyph_in_task = in_task_a ++ script (codes "glyph 41 0000000000000000/")
+
+abbrev pub blit_by_c1 : List ℕ
+blit_by_c1 = in_task_a ++ script (codes "blit w 0 0 w 0 0 1 1 c1/")
+
+abbrev pub put_without_bitmap : List ℕ
+put_without_bitmap = in_task_a ++ script (codes "put b 0 0 w 0 0 1 1 c0/")
+
+abbrev pub unlock_at_once : List ℕ
+unlock_at_once = in_task_a ++ script (codes "unlock w/")
+
+abbrev pub hook_6 : List ℕ
+hook_6 = in_task_a ++ script (codes "create w smart front 0 0 3 3 hook 6/")
+
+abbrev pub lock_and_unlock : List ℕ
+lock_and_unlock = in_task_a ++ script (codes "lock w/unlock w/")

@@ -3,14 +3,15 @@
 #![tactic(auto)]
 
 pub mod arranging;
+pub mod canonical;
 pub mod copying;
 pub mod directions;
 pub mod drawing;
 pub mod fitting;
 pub mod frames;
-pub mod grammar;
 pub mod histories;
 pub mod hooks;
+pub mod lines_below;
 pub mod modes;
 pub mod orders;
 pub mod owners;
@@ -21,5 +22,7 @@ pub mod scripts;
 pub mod scrolling;
 pub mod stacking;
 pub mod super_bitmaps;
+#[cfg(test)]
+mod tests;
 pub mod updates;
 pub mod windows;

@@ -4,7 +4,7 @@ use Rattle.lw_planes.specs.Row.{row_bit}
 use Rattle.lw_calls.specs.Limits.{axis_fits}
 use Rattle.lw_calls.specs.Verbs.{part_verb, group_verb, region_verb, arrangement_verb, state_verb, drawing_verb, clip_verb, verb_of}
 use Rattle.lw_cases.proofs.Decided.{decided}
-use Rattle.lw_cases.specs.WholeScripts.{alone, with_order, with_report, bitmap_unknown, minterm_c1, minterm_in_capitals, put_of_a_bitmap, put_of_no_columns}
+use Rattle.lw_cases.specs.WholeScripts.{alone, bitmap_unknown, minterm_c1, minterm_in_capitals, put_of_a_bitmap, put_of_no_columns}
 use Rattle.lw_cases.proofs.scripts.bitmaps_and_minterms.Goals as goal
 
 pub returns-clause-bitmap_unknown : goal.returns-clause-bitmap_unknown

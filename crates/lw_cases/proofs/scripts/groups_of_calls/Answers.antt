@@ -4,7 +4,7 @@ use Rattle.lw_planes.specs.Row.{row_bit}
 use Rattle.lw_calls.specs.Limits.{axis_fits}
 use Rattle.lw_calls.specs.Verbs.{part_verb, group_verb, region_verb, arrangement_verb, state_verb, drawing_verb, clip_verb, verb_of}
 use Rattle.lw_cases.proofs.Decided.{decided}
-use Rattle.lw_cases.specs.WholeScripts.{alone, with_order, with_report, lock_of_nothing, lock_of_a_fill, lock_of_another, lock_in_lock, hold_in_lock, end_in_lock, end_with_a_word, unlock_of_another, unlock_alone, which_in_lock, region_in_lock, blit_in_lock, blit_of_two_in_lock, refresh_in_lock, endrefresh_in_lock, endrefresh_alone, endrefresh_fully, create_in_lock, hold_of_a_create, hold_of_nothing, fill_in_hold, which_in_hold, move_in_hold, release_alone}
+use Rattle.lw_cases.specs.WholeScripts.{alone, lock_of_nothing, lock_of_a_fill, lock_of_another, lock_in_lock, hold_in_lock, end_in_lock, end_with_a_word, unlock_of_another, unlock_alone, which_in_lock, region_in_lock, blit_in_lock, blit_of_two_in_lock, refresh_in_lock, endrefresh_in_lock, endrefresh_alone, endrefresh_fully, create_in_lock, hold_of_a_create, hold_of_nothing, fill_in_hold, which_in_hold, move_in_hold, release_alone}
 use Rattle.lw_cases.proofs.scripts.groups_of_calls.Goals as goal
 
 pub returns-clause-lock_of_nothing : goal.returns-clause-lock_of_nothing

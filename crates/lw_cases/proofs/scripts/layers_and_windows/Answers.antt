@@ -4,7 +4,7 @@ use Rattle.lw_planes.specs.Row.{row_bit}
 use Rattle.lw_calls.specs.Limits.{axis_fits}
 use Rattle.lw_calls.specs.Verbs.{part_verb, group_verb, region_verb, arrangement_verb, state_verb, drawing_verb, clip_verb, verb_of}
 use Rattle.lw_cases.proofs.Decided.{decided}
-use Rattle.lw_cases.specs.WholeScripts.{alone, with_order, with_report, hook_above_32_bits, hook_below_0, hook_2_of_2, hook_1_of_2, hook_of_super, super_backdrop, super_of_2049, hook_before_backdrop, open_with_all, open_out_of_order, set_out_of_order, set_with_one_twice, super_borderless, super_with_set, open_of_no_columns}
+use Rattle.lw_cases.specs.WholeScripts.{alone, hook_0_of_none, simple_layer, hook_above_32_bits, hook_below_0, hook_2_of_2, hook_1_of_2, hook_of_super, super_backdrop, super_of_2049, hook_before_backdrop, open_with_all, open_out_of_order, set_out_of_order, set_with_one_twice, super_borderless, super_with_set, open_of_no_columns}
 use Rattle.lw_cases.proofs.scripts.layers_and_windows.Goals as goal
 
 pub returns-clause-hook_above_32_bits : goal.returns-clause-hook_above_32_bits
@@ -66,3 +66,11 @@ returns-clause-super_with_set c = decided (alone 2) super_with_set
 pub returns-clause-open_of_no_columns : goal.returns-clause-open_of_no_columns
 unfolding digits within row_bit axis_fits verb_of part_verb group_verb region_verb arrangement_verb state_verb drawing_verb clip_verb
 returns-clause-open_of_no_columns c = decided (alone 2) open_of_no_columns
+
+pub returns-clause-hook_0_of_none : goal.returns-clause-hook_0_of_none
+unfolding digits within row_bit axis_fits verb_of part_verb group_verb region_verb arrangement_verb state_verb drawing_verb clip_verb
+returns-clause-hook_0_of_none c = decided (alone 0) hook_0_of_none
+
+pub returns-clause-simple_layer : goal.returns-clause-simple_layer
+unfolding digits within row_bit axis_fits verb_of part_verb group_verb region_verb arrangement_verb state_verb drawing_verb clip_verb
+returns-clause-simple_layer c = decided (alone 0) simple_layer

@@ -4,7 +4,7 @@ use Rattle.lw_planes.specs.Row.{row_bit}
 use Rattle.lw_calls.specs.Limits.{axis_fits}
 use Rattle.lw_calls.specs.Verbs.{part_verb, group_verb, region_verb, arrangement_verb, state_verb, drawing_verb, clip_verb, verb_of}
 use Rattle.lw_cases.proofs.Decided.{decided}
-use Rattle.lw_cases.specs.WholeScripts.{alone, with_order, with_report, mode_8, mask_256, mask_255, register_8, regions_joined, names_64, names_65, names_65_by_blit, unlock_before_65, bitmaps_17, tasks_17}
+use Rattle.lw_cases.specs.WholeScripts.{alone, with_order, mode_8, mask_256, mask_255, register_8, regions_joined, names_64, names_65, names_65_by_blit, unlock_before_65, bitmaps_17, tasks_17}
 use Rattle.lw_cases.proofs.scripts.limits_of_counts.Goals as goal
 
 pub returns-clause-mode_8 : goal.returns-clause-mode_8

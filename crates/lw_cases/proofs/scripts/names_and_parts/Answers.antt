@@ -4,7 +4,7 @@ use Rattle.lw_planes.specs.Row.{row_bit}
 use Rattle.lw_calls.specs.Limits.{axis_fits}
 use Rattle.lw_calls.specs.Verbs.{part_verb, group_verb, region_verb, arrangement_verb, state_verb, drawing_verb, clip_verb, verb_of}
 use Rattle.lw_cases.proofs.Decided.{decided}
-use Rattle.lw_cases.specs.WholeScripts.{alone, with_order, with_report, layer_named_front, name_of_16, name_of_17, name_with_underscore, name_from_a_digit, screen_of_1025, screen_again, task_before_screen, end_before_task, end_missing, two_tasks, task_again, verb_in_capitals}
+use Rattle.lw_cases.specs.WholeScripts.{alone, with_order, all_parts, task_missing, layer_named_front, name_of_16, name_of_17, name_with_underscore, name_from_a_digit, screen_of_1025, screen_again, task_before_screen, end_before_task, end_missing, two_tasks, task_again, verb_in_capitals}
 use Rattle.lw_cases.proofs.scripts.names_and_parts.Goals as goal
 
 pub returns-clause-layer_named_front : goal.returns-clause-layer_named_front
@@ -58,3 +58,11 @@ returns-clause-task_again c = decided (with_order 0) task_again
 pub returns-clause-verb_in_capitals : goal.returns-clause-verb_in_capitals
 unfolding digits within row_bit axis_fits verb_of part_verb group_verb region_verb arrangement_verb state_verb drawing_verb clip_verb
 returns-clause-verb_in_capitals c = decided (alone 0) verb_in_capitals
+
+pub returns-clause-task_missing : goal.returns-clause-task_missing
+unfolding digits within row_bit axis_fits verb_of part_verb group_verb region_verb arrangement_verb state_verb drawing_verb clip_verb
+returns-clause-task_missing c = decided (alone 0) task_missing
+
+pub returns-clause-all_parts : goal.returns-clause-all_parts
+unfolding digits within row_bit axis_fits verb_of part_verb group_verb region_verb arrangement_verb state_verb drawing_verb clip_verb
+returns-clause-all_parts c = decided (alone 0) all_parts

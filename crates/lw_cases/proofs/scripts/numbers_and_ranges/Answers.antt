@@ -4,7 +4,7 @@ use Rattle.lw_planes.specs.Row.{row_bit}
 use Rattle.lw_calls.specs.Limits.{axis_fits}
 use Rattle.lw_calls.specs.Verbs.{part_verb, group_verb, region_verb, arrangement_verb, state_verb, drawing_verb, clip_verb, verb_of}
 use Rattle.lw_cases.proofs.Decided.{decided}
-use Rattle.lw_cases.specs.WholeScripts.{alone, with_order, with_report, form_before_range, number_too_large, number_of_101_digits, maximum_below_minimum, leading_zero, minus_zero, negative_number}
+use Rattle.lw_cases.specs.WholeScripts.{alone, form_before_range, number_too_large, number_of_101_digits, maximum_below_minimum, leading_zero, minus_zero, negative_number}
 use Rattle.lw_cases.proofs.scripts.numbers_and_ranges.Goals as goal
 
 pub returns-clause-form_before_range : goal.returns-clause-form_before_range

@@ -4,7 +4,7 @@ use Rattle.lw_planes.specs.Row.{row_bit}
 use Rattle.lw_calls.specs.Limits.{axis_fits}
 use Rattle.lw_calls.specs.Verbs.{part_verb, group_verb, region_verb, arrangement_verb, state_verb, drawing_verb, clip_verb, verb_of}
 use Rattle.lw_cases.proofs.Decided.{decided}
-use Rattle.lw_cases.specs.WholeScripts.{alone, with_order, with_report, row, row_too_short, row_of_32, padding_bit, rows_apart, rows_missing, row_in_capitals, bitmap_again, bitmap_of_9_planes, bitmap_without_columns, glyph_in_capitals, glyph_of_7f, glyph_again, glyph_too_short}
+use Rattle.lw_cases.specs.WholeScripts.{alone, row, row_too_short, row_of_32, padding_bit, rows_apart, rows_missing, row_in_capitals, bitmap_again, bitmap_of_9_planes, bitmap_without_columns, glyph_in_capitals, glyph_of_7f, glyph_again, glyph_too_short}
 use Rattle.lw_cases.proofs.scripts.rows_and_glyphs.Goals as goal
 
 pub returns-clause-row : goal.returns-clause-row
