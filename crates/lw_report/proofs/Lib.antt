@@ -1,3 +1,1 @@
-mod Padded
-mod Pieces
 mod Whole

@@ -13,7 +13,7 @@ use Rattle.lw_calls.specs.Screen.{screen}
 use Rattle.lw_calls.specs.Finals.{port_of, seen_of, IsFinalOf}
 use Rattle.lw_calls.specs.Report.{of_live, shown_set, damage_set, rectangles_part, port_lines, reply_lines, planes_part, visible_part, damage_part, messages_part, replies_part, report}
 use Rattle.lw_report.specs.Text.{of_seen, of_slots, visible_text, damage_text, port_text, messages_text, replies_text, text_of}
-use Rattle.lw_report.proofs.Pieces.{pieces-same}
+use Rattle.lw_text.proofs.Pieces.{pieces-same}
 
 -- pieces by number of a list that has its elements by number
 pieces-tabled : {A B : Type 0} (say : ℕ → A → List B) (f : ℕ → A) (none : A) (n : ℕ) → flat_map (λ i. say i (slice_index_or (map f (range_with_len 0 n)) i none)) (range_with_len 0 (length (map f (range_with_len 0 n)))) ≡ flat_map (λ i. say i (f i)) (range_with_len 0 n)

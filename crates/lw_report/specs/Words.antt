@@ -1,12 +1,10 @@
 -- Words of the report and what stands behind them.
 use Rattle.std.specs.Prelude.{ℕ, List, [], ◌∷◌, ◌++◌, codes, length}
 use Rattle.std.specs.List.{flat_map, slice_index_or}
-use Rattle.std.specs.Fmt.{signed_decimal}
-use Rattle.lw_region.specs.Rectangle.{Rectangle}
 use Rattle.lw_calls.specs.declared.reply.Reply.{Reply}
 use Rattle.lw_calls.specs.declared.reply.Reply.TheVariants.{Done, Pen, Outside, Nothing, Layer, Rects, Got, NotOpen, AlreadyOpen, NotWindow, NotOwner, Backdrop, NotSuper, InUpdate, NotInUpdate, OutOfBounds, TooManyRects}
 use Rattle.lw_calls.specs.declared.last.Seen.{Seen}
-use Rattle.lw_calls.specs.Report.{message_text, spaced, spaced_signed, spaced_bounds}
+use Rattle.lw_calls.specs.Report.{message_text, spaced, spaced_bounds}
 use Rattle.lw_report.specs.declared.layers.Part.{Part}
 use Rattle.lw_report.specs.declared.layers.Part.TheVariants.{Visible, Damage, Messages}
 use Rattle.lw_report.specs.Text.{visible_text, damage_text, messages_text}
@@ -16,10 +14,6 @@ abbrev pub part_text : Part → List ℕ → Seen → List ℕ
 part_text Visible name seen = visible_text name seen
 part_text Damage name seen = damage_text name seen
 part_text Messages name seen = messages_text name seen
-
--- the four bounds of a rectangle with single spaces
-abbrev pub bounds_text : Rectangle → List ℕ
-bounds_text r = signed_decimal r.min_x ++ spaced_signed r.min_y ++ spaced_signed r.max_x ++ spaced_signed r.max_y
 
 -- the word that a reply begins with
 abbrev pub reply_word : Reply → List ℕ

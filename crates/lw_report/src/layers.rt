@@ -6,10 +6,10 @@ ghost use Rattle.lw_calls.specs.Report.{line_of, message_text};
 ghost use Rattle.lw_report.specs.Text.{of_seen, of_slots, message_lines, port_text};
 ghost use Rattle.lw_report.specs.Words.{part_text};
 
-use crate::lines::{name_of, push_line, push_numbered_line};
 use crate::rects::push_rectangles;
 use crate::replies::message_word;
 use lw_calls::{Message, Messages, Seen, Text};
+use lw_text::{name_of, push_line, push_numbered_line};
 use std::alloc::{AllocError, Global};
 
 /// A part of the report that has a piece for each layer.

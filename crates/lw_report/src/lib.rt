@@ -4,13 +4,11 @@
 #![tactic(auto)]
 
 mod layers;
-mod lines;
 mod order;
 mod planes;
 mod rects;
 mod replies;
 mod report;
-mod row;
 #[cfg(test)]
 mod tests;
 

@@ -2,12 +2,10 @@
 
 ghost use Rattle.std.specs.Prelude.{◌≡◌, ◌<◌, ◌++◌, codes, OnOk};
 ghost use Rattle.std.specs.List.{flat_map, range_with_len};
-ghost use Rattle.lw_planes.specs.Bitmap.{plane_row};
-ghost use Rattle.lw_calls.specs.Report.{line_of, spaced, hex_byte, plane_lines, planes_part};
+ghost use Rattle.lw_calls.specs.Report.{line_of, spaced, plane_lines, planes_part};
 
-use crate::lines::{end_line, push_numbered_line, push_spaced};
-use crate::row::push_row;
 use lw_planes::Planes;
+use lw_text::{end_line, push_numbered_line, push_rows, push_spaced};
 use std::alloc::{AllocError, Global};
 
 /// Writes the sizes of the screen and its planes.
@@ -53,15 +51,4 @@ fn push_plane(
 {
     push_numbered_line(alloc, out, b"plane", plane as usize)?;
     push_rows(out, planes, plane)
-}
-
-/// Writes the rows of a plane.
-fn push_rows(out: &mut Vec<u8>, planes: &Planes, plane: u32) -> Result<(), AllocError>
-    requires { plane < planes.now.depth }
-    ensures { OnOk result (out.new.items ≡ out.old.items ++ flat_map (λ y. line_of (flat_map hex_byte (plane_row planes.now plane y))) (range_with_len 0 planes.now.height)) }
-{
-    for y in 0..planes.height() {
-        push_row(out, planes.row(plane, y), planes.width() as usize)?;
-    }
-    Ok(())
 }

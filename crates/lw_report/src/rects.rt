@@ -3,10 +3,9 @@
 ghost use Rattle.std.specs.Prelude.{◌≡◌, ◌++◌, length, OnOk};
 ghost use Rattle.std.specs.List.{flat_map};
 ghost use Rattle.lw_calls.specs.Report.{spaced, spaced_bounds, rectangle_line, rectangles_part};
-ghost use Rattle.lw_report.specs.Words.{bounds_text};
 
-use crate::lines::{end_line, push_numbered_line, push_signed, push_spaced, push_spaced_signed};
 use lw_region::Rect;
+use lw_text::{end_line, push_bounds, push_numbered_line, push_spaced, push_spaced_bounds};
 use std::alloc::{AllocError, Global};
 
 /// Writes a line with a word, a name and how many rectangles there are, and a line for each rectangle.
@@ -58,22 +57,4 @@ fn push_each_rect(alloc: Global, out: &mut Vec<u8>, rects: &[Rect]) -> Result<()
         push_spaced_bounds(alloc, out, rect)?;
     }
     Ok(())
-}
-
-/// Writes the bounds of a rectangle, each behind a space.
-fn push_spaced_bounds(alloc: Global, out: &mut Vec<u8>, rect: &Rect) -> Result<(), AllocError>
-    ensures { OnOk result (out.new.items ≡ out.old.items ++ spaced_bounds rect.now) }
-{
-    out.push(b' ')?;
-    push_bounds(alloc, out, rect)
-}
-
-/// Writes the bounds of a rectangle with single spaces.
-fn push_bounds(alloc: Global, out: &mut Vec<u8>, rect: &Rect) -> Result<(), AllocError>
-    ensures { OnOk result (out.new.items ≡ out.old.items ++ bounds_text rect.now) }
-{
-    push_signed(alloc, out, rect.min_x())?;
-    push_spaced_signed(alloc, out, rect.min_y())?;
-    push_spaced_signed(alloc, out, rect.max_x())?;
-    push_spaced_signed(alloc, out, rect.max_y())
 }

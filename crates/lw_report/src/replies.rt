@@ -6,9 +6,9 @@ ghost use Rattle.lw_calls.specs.Report.{line_of, message_text, reply_text, reply
 ghost use Rattle.lw_report.specs.Text.{replies_text};
 ghost use Rattle.lw_report.specs.Words.{reply_word, reply_rest};
 
-use crate::lines::{end_line, name_of, push_numbered_line, push_spaced, push_word};
 use crate::rects::push_rects;
 use lw_calls::{Message, Replies, Reply, Text};
+use lw_text::{end_line, name_of, push_numbered_line, push_spaced, push_word};
 use std::alloc::{AllocError, Global};
 
 /// Writes each task's name and replies, in rising number of the tasks. `names` has the layers' names by slot, and

@@ -8,11 +8,11 @@ ghost use Rattle.lw_calls.specs.Report.{report};
 ghost use Rattle.lw_report.specs.Text.{text_of};
 
 use crate::layers::{Part, push_part};
-use crate::lines::push_line;
 use crate::order::push_order;
 use crate::planes::push_planes;
 use crate::replies::push_replies;
 use lw_calls::{Final, OrderList, Plan};
+use lw_text::push_line;
 use std::alloc::{AllocError, Global};
 
 /// The report of a plan after the calls of an order, which has a task's number for each call, where `last` is what the

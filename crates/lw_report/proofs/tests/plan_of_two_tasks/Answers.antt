@@ -5,8 +5,7 @@ use Rattle.lw_calls.specs.declared.call.Call.{Call}
 use Rattle.lw_calls.specs.declared.group.Group.{Group}
 use Rattle.lw_calls.specs.Limits.{call_fits, call_limit}
 use Rattle.lw_calls.specs.Desk.{Supplies}
-use Rattle.lw_calls.specs.Planned.{Planned, IsPlan, groups_fit}
-use Rattle.lw_calls.specs.Above.{no_supplies}
+use Rattle.lw_calls.specs.Planned.{Planned, IsPlan, groups_fit, no_supplies}
 use Rattle.lw_report.proofs.tests.plan_of_two_tasks.Goals as goal
 
 -- a plan of two tasks on four layers

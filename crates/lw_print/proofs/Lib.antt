@@ -1,0 +1,4 @@
+pub mod Grouped
+pub mod Joined
+pub mod ManyLines
+pub mod Numbers

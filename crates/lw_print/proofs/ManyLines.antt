@@ -1,0 +1,65 @@
+-- The text of lines that stand one after another.
+use Rattle.std.proofs.Common.{◌≡◌, ℕ, List, [], ◌∷◌, ◌++◌, append_assoc, append-nil, map, ◌∙◌, sym, refl, ap}
+use Rattle.std.specs.List.{flat_map, range_with_len}
+use Rattle.std.proofs.lemmas.Grind.{flat_map-append}
+use Rattle.lw_planes.specs.Bitmap.{Bitmap, plane_row}
+use Rattle.lw_calls.specs.Desk.{Supplies}
+use Rattle.lw_calls.specs.Report.{line_of, hex_byte}
+use Rattle.lw_calls.specs.LineForms.{LineForm, RowLine}
+use Rattle.lw_calls.specs.Spelling.{spelled}
+use Rattle.lw_text.proofs.Pieces.{pieces-same}
+use Rattle.lw_print.specs.Behind.{text_of_lines}
+
+-- lines behind lines
+pub text-append : (fs gs : List LineForm) → text_of_lines (fs ++ gs) ≡ text_of_lines fs ++ text_of_lines gs
+text-append fs gs = flat_map-append (λ form. line_of (spelled form)) fs gs
+
+-- some lines are written, and then others
+pub more-lines : (fs gs : List LineForm) (start p q : List ℕ) → p ≡ start ++ text_of_lines fs → q ≡ p ++ text_of_lines gs → q ≡ start ++ text_of_lines (fs ++ gs)
+more-lines fs gs start p q e f =
+    f ∙ (ap (λ xs. xs ++ text_of_lines gs) e ∙ (append_assoc start (text_of_lines fs) (text_of_lines gs) ∙ ap (λ xs. start ++ xs) (sym (text-append fs gs))))
+
+-- one line is written
+pub line-written : (f : LineForm) (start p : List ℕ) → p ≡ start ++ line_of (spelled f) → p ≡ start ++ text_of_lines (f ∷ [])
+line-written f start p e = e ∙ ap (λ xs. start ++ xs) (sym (append-nil (line_of (spelled f))))
+
+-- the lines that are still to be written, where some more have been written
+pub fewer-lines : (all these others : List LineForm) (start was now : List ℕ) → was ++ text_of_lines all ≡ start → now ≡ was ++ text_of_lines these → all ≡ these ++ others → now ++ text_of_lines others ≡ start
+fewer-lines all these others start was now before step split =
+    ap (λ xs. xs ++ text_of_lines others) step ∙
+    (append_assoc was (text_of_lines these) (text_of_lines others) ∙
+    (ap (λ xs. was ++ xs) (sym (text-append these others)) ∙
+    (ap (λ fs. was ++ text_of_lines fs) (sym split) ∙ before)))
+
+-- the text of lines that are given piece by piece
+pub text-pieces : {X : Type 0} (f : X → List LineForm) (xs : List X) → text_of_lines (flat_map f xs) ≡ flat_map (λ x. text_of_lines (f x)) xs
+text-pieces f [] = refl
+text-pieces f (x ∷ xs) = text-append (f x) (flat_map f xs) ∙ ap (λ ys. text_of_lines (f x) ++ ys) (text-pieces f xs)
+
+-- the text of lines that are given one by one
+pub text-each : {X : Type 0} (f : X → LineForm) (xs : List X) → text_of_lines (map f xs) ≡ flat_map (λ x. line_of (spelled (f x))) xs
+text-each f [] = refl
+text-each f (x ∷ xs) = ap (λ ys. line_of (spelled (f x)) ++ ys) (text-each f xs)
+
+-- the text of a bitmap's rows plane by plane
+pub planes-text : (b : Bitmap) → text_of_lines (flat_map (λ k. map (λ y. RowLine (plane_row b k y)) (range_with_len 0 b.height)) (range_with_len 0 b.depth)) ≡ flat_map (λ k. flat_map (λ y. line_of (flat_map hex_byte (plane_row b k y))) (range_with_len 0 b.height)) (range_with_len 0 b.depth)
+planes-text b =
+    text-pieces (λ k. map (λ y. RowLine (plane_row b k y)) (range_with_len 0 b.height)) (range_with_len 0 b.depth) ∙
+    pieces-same b.depth (λ k. text_of_lines (map (λ y. RowLine (plane_row b k y)) (range_with_len 0 b.height))) (λ k. flat_map (λ y. line_of (flat_map hex_byte (plane_row b k y))) (range_with_len 0 b.height))
+    (λ k below. text-each (λ y. RowLine (plane_row b k y)) (range_with_len 0 b.height))
+
+-- the text of lines that were written piece by piece
+pub pieces-text : (f : ℕ → List LineForm) (n m : ℕ) (start p : List ℕ) → n ≡ m → p ≡ start ++ flat_map (λ i. text_of_lines (f i)) (range_with_len 0 n) → p ≡ start ++ text_of_lines (flat_map f (range_with_len 0 m))
+pieces-text f n m start p end e =
+    e ∙ (ap (λ k. start ++ flat_map (λ i. text_of_lines (f i)) (range_with_len 0 k)) end ∙ ap (λ xs. start ++ xs) (sym (text-pieces f (range_with_len 0 m))))
+
+-- glyphs and bitmaps are written as their type shows them
+pub viewed-written : (gs hs : Supplies → List LineForm) (s t : Supplies) (o p q : List ℕ) → s ≡ t → p ≡ o ++ text_of_lines (gs s) → q ≡ p ++ text_of_lines (hs s) → q ≡ o ++ text_of_lines (gs t ++ hs t)
+viewed-written gs hs s t o p q e f h = rw (← e) (more-lines (gs s) (hs s) o p q f h)
+
+-- a line is written, and then others in two parts
+pub parts-written : (f : LineForm) (gs hs ks : List LineForm) (o p q r : List ℕ) → o ≡ [] → p ≡ o ++ line_of (spelled f) → q ≡ p ++ text_of_lines (gs ++ hs) → r ≡ q ++ text_of_lines ks → r ≡ text_of_lines (f ∷ gs ++ hs ++ ks)
+parts-written f gs hs ks o p q r none d e g =
+    more-lines (f ∷ gs ++ hs) ks [] q r
+    (more-lines (f ∷ []) (gs ++ hs) [] p q (line-written f [] p (d ∙ ap (λ xs. xs ++ line_of (spelled f)) none)) e)
+    g

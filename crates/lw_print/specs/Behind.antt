@@ -1,0 +1,35 @@
+-- A line as its first word and those behind it, and the text of some lines.
+use Rattle.std.specs.Prelude.{ℕ, List, [], ◌∷◌, ◌++◌}
+use Rattle.std.specs.List.{flat_map}
+use Rattle.lw_calls.specs.declared.call.Call.{Call}
+use Rattle.lw_calls.specs.Report.{line_of}
+use Rattle.lw_calls.specs.LineForms.{LineForm}
+use Rattle.lw_calls.specs.Spelling.{words_of, spelled}
+use Rattle.lw_calls.specs.Canonical.{line_of_call}
+
+-- words that stand behind another, each behind a space
+abbrev pub behind : List (List ℕ) → List ℕ
+behind [] = []
+behind (w ∷ ws) = 32 ∷ w ++ behind ws
+
+-- the first word, and no byte where there is none
+abbrev pub first_word : List (List ℕ) → List ℕ
+first_word [] = []
+first_word (w ∷ ws) = w
+
+-- the words behind the first
+abbrev pub other_words : List (List ℕ) → List (List ℕ)
+other_words [] = []
+other_words (w ∷ ws) = ws
+
+-- the words of a call's line, where the layers have these names by slot, and the bitmaps these by number
+abbrev pub words_of_call : List (List ℕ) → List (List ℕ) → Call → List (List ℕ)
+words_of_call names bitmaps call = words_of (line_of_call names bitmaps call)
+
+-- what a call's line has behind its first word
+abbrev pub rest_of_call : List (List ℕ) → List (List ℕ) → Call → List ℕ
+rest_of_call names bitmaps call = behind (other_words (words_of_call names bitmaps call))
+
+-- lines, each with a line feed behind it
+abbrev pub text_of_lines : List LineForm → List ℕ
+text_of_lines forms = flat_map (λ form. line_of (spelled form)) forms

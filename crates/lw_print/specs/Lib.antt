@@ -1,0 +1,4 @@
+pub mod Behind
+pub mod Families
+pub mod Grouping
+pub mod Parts

@@ -1,0 +1,19 @@
+//! The canonical text of a plan: the script that spells it, with each line in its one spelling (this project's own format).
+//!
+//! `lw_calls` has the text as a definition, in `specs/Canonical.antt`.
+#![tactic(auto)]
+
+mod bitmaps;
+mod calls;
+mod glyphs;
+mod groups;
+mod lines;
+mod making;
+mod tasks;
+#[cfg(test)]
+mod tests;
+mod verbs;
+mod whole;
+mod words;
+
+pub use whole::print;

@@ -1,0 +1,3 @@
+mod FourBounds
+mod Padded
+pub mod Pieces
