@@ -1,0 +1,5 @@
+mod Going
+mod Next
+pub mod OnlyOrder
+pub mod Reported
+mod Steps

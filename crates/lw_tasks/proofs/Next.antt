@@ -1,0 +1,49 @@
+-- The next call of a task, made on the plain desk, is one more step of the run.
+use Rattle.std.proofs.Common.{◌≡◌, ℕ, ◌<◌, ◌==◌, Bool, true, false, if◌then◌else◌, List, [], ◌∷◌, ◌++◌, length, Some, slice_index_or, slice_set, refl, ap, sym, subst, ◌∙◌, append-nil, get_or-set_other, arith, length-set}
+use Rattle.std.specs.List.{slice_get}
+use Rattle.std.proofs.lemmas.Bool.{eqb-true, eqb-false}
+use Rattle.std.proofs.lemmas.Grind.{get_or-set_at}
+use Rattle.lw_calls.specs.declared.call.Call.{Call}
+use Rattle.lw_calls.specs.declared.entry.Entry.{Entry}
+use Rattle.lw_calls.specs.declared.reply.Reply.{Reply}
+use Rattle.lw_calls.specs.Planned.{Planned, task_calls}
+use Rattle.lw_calls.specs.Desk.{Desk}
+use Rattle.lw_calls.specs.Step.{after, reply}
+use Rattle.lw_calls.specs.History.{count_of, next_entry, machine, replies_of}
+use Rattle.lw_calls.specs.Report.{opening_desk}
+use Rattle.lw_engine.specs.Plain.{Plain}
+use Rattle.lw_engine.specs.StandsFor.{StandsFor}
+use Rattle.lw_tasks.specs.Run.{HasRun, next_of}
+use Rattle.lw_tasks.proofs.Steps.{machine-push, replies_of-push, length-replies_of}
+
+-- a reply more in one task's list, and all other lists as they were
+told_task : (b : Bool) (told : List (List Reply)) (new : List Reply) (task t : ℕ) (r : Reply) → (task == t) ≡ b → task < length told → new ≡ slice_index_or told task [] ++ r ∷ [] → slice_index_or (slice_set told task new) t [] ≡ slice_index_or told t [] ++ (if b then r ∷ [] else [])
+told_task true told new task t r e low h =
+    let same : t ≡ task = sym (eqb-true task t e) in
+    get_or-set_at told task t new [] same low ∙ (h ∙ ap (λ k. slice_index_or told k [] ++ r ∷ []) (sym same))
+told_task false told new task t r e low h =
+    get_or-set_other told task t new [] (λ s. eqb-false task t e (sym s)) ∙ sym (append-nil (slice_index_or told t []))
+
+-- the replies that one step gives to a task
+pub one_reply : (b : Bool) (r s : Reply) → r ≡ s → (if b then r ∷ [] else []) ≡ (if b then s ∷ [] else [])
+one_reply b r s e = ap (λ x. if b then x ∷ [] else []) e
+
+pub has_run_next : (plan : Planned) (past : List Entry) (desk next : Plain) (told : List (List Reply)) (new : List Reply) (task : ℕ) (call : Call) (r : Reply) → task < plan.sizes.tasks → slice_get (task_calls plan task) (length (slice_index_or told task [])) ≡ Some call → ((d : Desk) → StandsFor desk d → r ≡ reply d task call) → ((d : Desk) → StandsFor desk d → StandsFor next (after d task call)) → next.sizes ≡ desk.sizes → new ≡ slice_index_or told task [] ++ r ∷ [] → HasRun plan past desk told → HasRun plan (past ++ next_of plan past task) next (slice_set told task new)
+has_run_next plan past desk next told new task call r low got replied stood sizes pushed run =
+    let start : Desk = opening_desk plan [] in
+    let made : length (slice_index_or told task []) ≡ count_of task past = ap length (run.each task low) ∙ length-replies_of start task past in
+    let e : Entry = record { task = task; seq = count_of task past; call = call } in
+    let G : ℕ → Type 0 = λ n. slice_get (task_calls plan task) n ≡ Some call in
+    let found : slice_get (task_calls plan task) (count_of task past) ≡ Some call = subst G made got in
+    let one : next_of plan past task ≡ e ∷ [] = ap (next_entry task (count_of task past)) found in
+    let within : task < length told = omega (arith, low, run.lists) in
+    let P : List Entry → Type 0 = λ es. HasRun plan (past ++ es) next (slice_set told task new) in
+    let S : Desk → Type 0 = λ d. StandsFor next d in
+    subst P (sym one) (
+    record {
+      stands = subst S (sym (machine-push start past e)) (stood (machine start past) run.stands);
+      sizes = sizes ∙ run.sizes;
+      lists = length-set told task new ∙ run.lists;
+      each = λ t under. told_task (task == t) told new task t r refl within pushed ∙ (ap (λ rs. rs ++ (if (task == t) then r ∷ [] else [])) (run.each t under) ∙ (ap (λ rs. replies_of start t past ++ rs) (one_reply (task == t) r (reply (machine start past) task call) (replied (machine start past) run.stands)) ∙ sym (replies_of-push start t past e)));
+    }
+    )

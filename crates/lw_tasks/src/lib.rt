@@ -1,0 +1,11 @@
+//! The machine's run of a plan in an order, on the plain desk and with no lock (this project's own).
+#![tactic(auto)]
+
+mod laws;
+mod run;
+#[cfg(test)]
+mod tests;
+mod told;
+
+pub use laws::only_order_is_legal;
+pub use run::replay;

@@ -1,0 +1,104 @@
+ghost use Rattle.std.specs.Prelude.{◌≡◌, ℕ, ◌<◌, ◌++◌, [], List, length, true, All, IsTrue, IfOk, OnOk, Some};
+ghost use Rattle.std.specs.List.{slice_index_or, slice_get};
+ghost use Rattle.lw_calls.specs.declared.entry.Entry.{Entry};
+ghost use Rattle.lw_calls.specs.declared.reply.Reply.{Reply as AnyReply};
+ghost use Rattle.lw_calls.specs.Limits.{call_fits};
+ghost use Rattle.lw_calls.specs.Planned.{IsPlan, task_calls};
+ghost use Rattle.lw_calls.specs.Desk.{Desk};
+ghost use Rattle.lw_calls.specs.Step.{is_built};
+ghost use Rattle.lw_calls.specs.Orders.{is_legal, keeps_groups};
+ghost use Rattle.lw_calls.specs.History.{entries, machine, replies_of};
+ghost use Rattle.lw_calls.specs.Report.{opening_desk};
+ghost use Rattle.lw_calls.specs.Finals.{IsFinalOf};
+ghost use Rattle.lw_engine.specs.StandsFor.{StandsFor};
+ghost use Rattle.lw_tasks.specs.Run.{HasRun, next_of};
+
+use crate::told::{Told, all_replies, nothing_told};
+use lw_calls::{Call, Final, OrderList, Plan};
+use lw_engine::PlainDesk;
+use std::alloc::{AllocError, Global};
+
+/// The final state of the machine's run of a plan in a legal order, several tasks included: each number makes its task's
+/// next call on the plain desk. It takes no lock and returns. (this project's own)
+pub fn replay(alloc: Global, plan: &Plan, order: &OrderList) -> Result<Final, AllocError>
+    requires legal { is_legal plan.now order.now ≡ true }
+    requires built { All (λ calls. All (λ call. IsTrue (is_built call)) calls) plan.now.calls }
+    ensures { IfOk result (λ last. IsFinalOf (machine (opening_desk plan.now []) (entries plan.now [] order.now))
+        (λ t. replies_of (opening_desk plan.now []) t (entries plan.now [] order.now)) last) }
+{
+    let mut run = Run::new(alloc, plan)?;
+    run.make_all(alloc, plan, order.tasks())?;
+    run.finish(alloc)
+}
+
+/// A run under way: the desk, and each task's replies so far. So many replies as a task had, so many calls it made.
+#[derive(Debug, Drop)]
+struct Run {
+    desk: PlainDesk,
+    told: Vec<Told>,
+}
+
+impl Run {
+    /// The run before its first call.
+    fn new(alloc: Global, plan: &Plan) -> Result<Run, AllocError>
+        ensures run { IfOk result (λ run. HasRun plan.now [] run.desk run.told.items) }
+        ensures plan { IsPlan plan.now }
+    {
+        let sizes = *plan.sizes();
+        let desk = PlainDesk::new(alloc, sizes)?;
+        let told = nothing_told(alloc, sizes.tasks)?;
+        Ok(Run { desk, told })
+    }
+
+    /// Makes the calls that the numbers stand for, one after another.
+    fn make_all(&mut self, alloc: Global, plan: &Plan, tasks: &[u32]) -> Result<(), AllocError>
+        requires plan { IsPlan plan.now }
+        requires opened { HasRun plan.now [] self.old.desk self.old.told.items }
+        requires legal { keeps_groups plan.now [] tasks.now ≡ true }
+        requires built { All (λ calls. All (λ call. IsTrue (is_built call)) calls) plan.now.calls }
+        ensures { OnOk result (HasRun plan.now (entries plan.now [] tasks.now) self.new.desk self.new.told.items) }
+    {
+        for task in tasks {
+            self.make_next(alloc, plan, *task)?;
+        }
+        Ok(())
+    }
+
+    /// Makes the next call of a task, which has one left.
+    fn make_next(&mut self, alloc: Global, plan: &Plan, task: u32) -> Result<(), AllocError>
+        requires plan { IsPlan plan.now }
+        requires task { task < plan.now.sizes.tasks }
+        requires sizes { self.old.desk.sizes ≡ plan.now.sizes }
+        requires lists { length self.old.told.items ≡ plan.now.sizes.tasks }
+        requires left { length (slice_index_or self.old.told.items task []) < length (task_calls plan.now task) }
+        requires built { All (λ calls. All (λ call. IsTrue (is_built call)) calls) plan.now.calls }
+        ensures { OnOk result ((past : List Entry) → HasRun plan.now past self.old.desk self.old.told.items → HasRun plan.now (past ++ next_of plan.now past task) self.new.desk self.new.told.items) }
+    {
+        let told = &mut self.told[task as usize];
+        let call = call_of(plan, task, told.len());
+        let reply = self.desk.step(alloc, plan.assets(), task, call)?;
+        told.push(reply)
+    }
+
+    /// What the run leaves.
+    fn finish(self, alloc: Global) -> Result<Final, AllocError>
+        requires { length self.told.items ≡ self.desk.sizes.tasks }
+        ensures { IfOk result (λ last. (d : Desk) (rs : ℕ → List AnyReply) → StandsFor self.desk d → ((t : ℕ) → t < self.desk.sizes.tasks → slice_index_or self.told.items t [] ≡ rs t) → IsFinalOf d rs last) }
+    {
+        let lists = all_replies(alloc, self.told)?;
+        self.desk.finish(alloc, lists)
+    }
+}
+
+/// The call of a task that is its call `made`.
+fn call_of(plan: &Plan, task: u32, made: usize) -> &Call
+    requires plan { IsPlan plan.now }
+    requires task { task < plan.now.sizes.tasks }
+    requires left { made < length (task_calls plan.now task) }
+    requires built { All (λ calls. All (λ call. IsTrue (is_built call)) calls) plan.now.calls }
+    ensures call { slice_get (task_calls plan.now task) made ≡ Some result.now }
+    ensures fits { IsTrue (call_fits plan.now.sizes result.now) }
+    ensures built { IsTrue (is_built result.now) }
+{
+    &plan.calls(task)[made]
+}

@@ -1,0 +1,112 @@
+ghost use Rattle.std.specs.Prelude.{◌≡◌, [], ◌∷◌, true, All, IsTrue, IfOk, length};
+ghost use Rattle.lw_calls.specs.Limits.{call_fits};
+ghost use Rattle.lw_calls.specs.Orders.{is_legal};
+ghost use Rattle.lw_calls.specs.Step.{is_built};
+
+use crate::replay;
+use lw_calls::{
+    Assets, Call, Kind, Make, OrderList, Place, Plan, PlanParts, Replies, Reply, Sizes, Text,
+};
+use lw_region::Rect;
+use std::alloc::{AllocError, Global};
+use std::process::Abort;
+use std::test::Fail;
+
+const SIZES: Sizes = Sizes {
+    version: 1,
+    width: 16,
+    height: 1,
+    depth: 1,
+    slots: 2,
+    tasks: 2,
+    hooks: 0,
+    bitmaps: 0,
+};
+
+/// The calls of a task that creates a layer of four columns from column `x` on, and fills it.
+fn calls_of_task(rt: &(impl Abort + AllocGlobal), slot: u32, x: i32) -> Result<Vec<Call>, Fail>
+    ensures two { IfOk result (λ calls. length calls.items ≡ 2) }
+    ensures fit { IfOk result (λ calls. All (λ call. IsTrue (call_fits SIZES call)) calls.items) }
+    ensures built { IfOk result (λ calls. All (λ call. IsTrue (is_built call)) calls.items) }
+{
+    let make = Make {
+        kind: Kind::Smart,
+        place: Place::Front,
+        x,
+        y: 0,
+        w: 4,
+        h: 1,
+        backdrop: false,
+        hook: None,
+        bits_w: 0,
+        bits_h: 0,
+    };
+    let create = Call::Create { slot, make };
+    let rect = Rect::new(0, 0, 3, 0).expect(rt, "a rectangle");
+    let fill = Call::Fill { slot, rect };
+    assert!(rt; SIZES.fits(&create));
+    assert!(rt; SIZES.fits(&fill));
+    Ok(vec![in rt.alloc(); create, fill]?)
+}
+
+fn name(alloc: Global, bytes: &[u8]) -> Result<Text, AllocError> {
+    Ok(Text::new(Vec::from_slice(alloc, bytes)?))
+}
+
+/// The plan of these two tasks, which has no groups.
+fn plan_of(alloc: Global, first: Vec<Call>, second: Vec<Call>) -> Result<Plan, AllocError>
+    requires two { length first.items ≡ 2 }
+    requires two_more { length second.items ≡ 2 }
+    requires fit { All (λ call. IsTrue (call_fits SIZES call)) first.items }
+    requires fit_more { All (λ call. IsTrue (call_fits SIZES call)) second.items }
+    ensures calls { IfOk result (λ plan. plan.calls ≡ first.items ∷ second.items ∷ []) }
+    ensures groups { IfOk result (λ plan. plan.groups ≡ [] ∷ [] ∷ []) }
+    ensures tasks { IfOk result (λ plan. plan.sizes.tasks ≡ 2) }
+{
+    let parts = PlanParts {
+        sizes: SIZES,
+        slot_names: vec![in alloc; name(alloc, b"x")?, name(alloc, b"y")?]?,
+        task_names: vec![in alloc; name(alloc, b"a")?, name(alloc, b"b")?]?,
+        bitmap_names: Vec::new(alloc),
+        calls: vec![in alloc; first, second]?,
+        groups: vec![in alloc; Vec::new(alloc), Vec::new(alloc)]?,
+        assets: Assets {
+            glyphs: [[0; 8]; 95],
+            bitmaps: Vec::new(alloc),
+        },
+    };
+    Ok(Plan::new(parts))
+}
+
+/// Runs the plan in the order, and looks for both layers' pixels on the screen and for a task's two replies each.
+fn fills_both(rt: &(impl Abort + AllocGlobal), plan: &Plan, numbers: &[u32]) -> Result<(), Fail>
+    requires legal { is_legal plan.now numbers.now ≡ true }
+    requires built { All (λ calls. All (λ call. IsTrue (is_built call)) calls) plan.now.calls }
+{
+    let order = OrderList::new(Vec::from_slice(rt.alloc(), numbers)?);
+    let last = replay(rt.alloc(), plan, &order)?;
+    assert_eq!(rt; last.planes.width(), 16);
+    assert_eq!(rt; last.planes.height(), 1);
+    assert_eq!(rt; last.planes.depth(), 1);
+    assert_eq!(rt; last.planes.row(0, 0), [0xf0, 0xf0].as_slice());
+    let [first, second] = last.replies.as_slice() else {
+        return Err(Fail::from("two tasks"));
+    };
+    assert!(rt; are_done(first));
+    assert!(rt; are_done(second));
+    Ok(())
+}
+
+fn are_done(replies: &Replies) -> bool {
+    matches!(replies.list(), [Reply::Done, Reply::Done])
+}
+
+#[test]
+fn two_tasks_fill_their_layers_in_any_order(rt: HostRuntime) -> Result<(), Fail> {
+    let first = calls_of_task(&rt, 0, 0)?;
+    let second = calls_of_task(&rt, 1, 8)?;
+    let plan = plan_of(rt.alloc(), first, second)?;
+    fills_both(&rt, &plan, &[0, 1, 0, 1])?;
+    fills_both(&rt, &plan, &[1, 0, 1, 0])?;
+    fills_both(&rt, &plan, &[1, 1, 0, 0])
+}
