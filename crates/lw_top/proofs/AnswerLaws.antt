@@ -1,15 +1,19 @@
--- What follows from what the command `run` ensures of its answer.
-use Rattle.std.proofs.Common.{◌≡◌, ◌≢◌, ◌⊎◌, ℕ, List, [], Option, Some, None, refl, sym, ap, ◌∙◌, inl, inr, append-nil, ◌<◌, ◌≤◌, length, IfSome, arith}
-use Rattle.lw_io.specs.Streams.{Rose, bytes_after}
+-- What follows from what serving a command ensures of its answer.
+use Rattle.std.proofs.Common.{◌≡◌, ◌≢◌, ◌⊎◌, ℕ, ◌+◌, List, [], Option, Some, None, refl, sym, ap, ◌∙◌, inl, inr, append-nil, ◌<◌, ◌≤◌, length, IfSome, subst, arith, IsTrue}
+use Rattle.std.proofs.lemmas.Bool.{false≢true}
+use Rattle.lw_io.specs.Streams.{Rose, bytes_after, TakesAtMost}
 use Rattle.lw_calls.specs.declared.reason.Reason.{Reason}
 use Rattle.lw_calls.specs.Lines.{lines}
-use Rattle.lw_calls.specs.Planned.{Planned}
-use Rattle.lw_calls.specs.Grammar.{Spells, IsFirstBad}
-use Rattle.lw_calls.proofs.Answer.{not_both, one_line}
-use Rattle.lw_top.specs.Answers.{IsInput, Shows, Tells, Took}
-use Rattle.lw_top.specs.Status.{text_of, IsUnlessStopped, input_limit}
+use Rattle.lw_calls.specs.Script.{ScriptInput, SpellsInput, IsFirstBadIn}
+use Rattle.lw_calls.proofs.ScriptAnswer.{bad_or_spelled, one_bad_line, one_spelled}
+use Rattle.lw_top.specs.Answers.{Shows, Tells, Took, Answered}
+use Rattle.lw_top.specs.Commands.{reads_with, IsTextFor, IsBadOrderFor, IsDue, IsTextOf, IsBadOrderOf}
+use Rattle.lw_top.specs.Status.{text_of, is_stop, IsUnlessStopped, input_limit, Says}
 use Rattle.lw_top.specs.declared.status.Status.{Status}
-use Rattle.lw_top.specs.declared.status.Status.TheVariants.{Done, Refused, Usage, ReadFault, WriteFault, NoMemory, TooLong}
+use Rattle.lw_top.specs.declared.status.Status.TheVariants.{Done, Refused, Usage, ReadFault, WriteFault, NoMemory, TooLong, BadOrder}
+use Rattle.lw_top.specs.declared.words.Command.{Command}
+use Rattle.lw_top.specs.declared.words.Command.TheVariants.{Run, Check, Replay}
+use Rattle.lw_top.proofs.BadPlaces.{one_bad_place, legal_or_bad}
 
 -- nothing more was written
 bytes_after-none : (told : Option (List ℕ)) → bytes_after told [] ≡ told
@@ -17,7 +21,7 @@ bytes_after-none None = refl
 bytes_after-none (Some bytes) = ap Some (append-nil bytes)
 
 -- each answer but Done and WriteFault has its text written
-pub text_shown : (r : Status) (s t : ℕ) (before after : Option (List ℕ)) (f g : ℕ) → Shows r s t before after f g → r ≢ Done → r ≢ WriteFault → after ≡ bytes_after before (text_of r)
+text_shown : (r : Status) (s t : ℕ) (before after : Option (List ℕ)) (f g : ℕ) → Shows r s t before after f g → r ≢ Done → r ≢ WriteFault → after ≡ bytes_after before (text_of r)
 text_shown Done s t before after f g h not_done not_fault = absurd (not_done refl)
 text_shown (Refused line reason) s t before after f g h not_done not_fault = h
 text_shown Usage s t before after f g h not_done not_fault = absurd h
@@ -25,40 +29,114 @@ text_shown ReadFault s t before after f g h not_done not_fault = h.0 ∙ sym (by
 text_shown WriteFault s t before after f g h not_done not_fault = absurd (not_fault refl)
 text_shown NoMemory s t before after f g h not_done not_fault = h ∙ sym (bytes_after-none before)
 text_shown TooLong s t before after f g h not_done not_fault = h
+text_shown (BadOrder place) s t before after f g h not_done not_fault = h
 
--- a script that spells a plan is run
-pub done_due : (input : List ℕ) (r : Status) (before after : Option (List ℕ)) → Tells input r before after → length input ≤ input_limit → (plan : Planned) → Spells (lines input) plan → IsUnlessStopped Done r
-done_due input Done before after h short plan spelled = inl refl
-done_due input (Refused line reason) before after h short plan spelled = absurd (not_both (lines input) line reason plan h.1 spelled)
-done_due input Usage before after h short plan spelled = absurd h
-done_due input ReadFault before after h short plan spelled = inr refl
-done_due input WriteFault before after h short plan spelled = inr refl
-done_due input NoMemory before after h short plan spelled = inr refl
-done_due input TooLong before after h short plan spelled = absurd (omega arith)
+-- what an answer tells of its input, where the command's text was due
+pub done_tells : (command : Command) (input said text : List ℕ) (r : Status) (before after : Option (List ℕ)) (f g : ℕ) → length input ≤ input_limit → said ≡ text → IsTextOf command input text → Says said Done r before after f g → Tells command input r before after
+done_tells command input said text r before after f g short same is h =
+    let P : Status → Type 0 = λ s. Tells command input s before after in
+    let here : IsTextOf command input said = subst (IsTextOf command input) (sym same) is in
+    elim h [ inl e ↦ subst P (sym e.0) (short, said, here, e.1) | inr e ↦ subst P (sym e.0) tt ]
+
+-- the same where the order's first bad place was due
+stopped_tells : (command : Command) (input : List ℕ) (r : Status) (before after : Option (List ℕ)) → IsTrue (is_stop r) → Tells command input r before after
+stopped_tells command input Done before after h = absurd (false≢true h)
+stopped_tells command input (Refused line reason) before after h = absurd (false≢true h)
+stopped_tells command input Usage before after h = absurd (false≢true h)
+stopped_tells command input ReadFault before after h = tt
+stopped_tells command input WriteFault before after h = tt
+stopped_tells command input NoMemory before after h = tt
+stopped_tells command input TooLong before after h = absurd (false≢true h)
+stopped_tells command input (BadOrder place) before after h = absurd (false≢true h)
+
+pub bad_order_tells : (command : Command) (input : List ℕ) (place : ℕ) (r : Status) (before after : Option (List ℕ)) → length input ≤ input_limit → IsBadOrderOf command input place → IsUnlessStopped (BadOrder place) r → Tells command input r before after
+bad_order_tells command input place r before after short bad (inl e) = subst (λ s. Tells command input s before after) (sym e) (short, bad)
+bad_order_tells command input place r before after short bad (inr h) = stopped_tells command input r before after h
+
+-- the usage line was due
+pub usage_said : (said : List ℕ) (r : Status) (before after : Option (List ℕ)) (f g : ℕ) → said ≡ text_of Usage → Says said Usage r before after f g → r ≢ WriteFault → after ≡ bytes_after before (text_of r)
+usage_said said r before after f g same (inl e) not_fault = subst (λ s. after ≡ bytes_after before (text_of s)) (sym e.0) (e.1 ∙ ap (bytes_after before) same)
+usage_said said r before after f g same (inr e) not_fault = absurd (not_fault e.0)
+
+-- no script has a text for a command and a bad place of its order, and none has two bad places
+text_or_bad : (command : Command) (script : ScriptInput) (text : List ℕ) (place : ℕ) → IsTextFor command script text → IsBadOrderFor command script place → ⊥
+text_or_bad Run script text place h bad = bad
+text_or_bad Check script text place h bad = bad
+text_or_bad Replay script text place h bad = legal_or_bad script.plan script.order place h.0 bad
+
+due_or_bad : (command : Command) (script : ScriptInput) (place : ℕ) → IsDue command script → IsBadOrderFor command script place → ⊥
+due_or_bad Run script place h bad = bad
+due_or_bad Check script place h bad = bad
+due_or_bad Replay script place h bad = legal_or_bad script.plan script.order place h bad
+
+one_bad_order : (command : Command) (script : ScriptInput) (k m : ℕ) → IsBadOrderFor command script k → IsBadOrderFor command script m → k ≡ m
+one_bad_order Run script k m a b = absurd a
+one_bad_order Check script k m a b = absurd a
+one_bad_order Replay script k m a b = one_bad_place script.plan script.order k m a b
+
+-- The same of what an input spells.
+no_bad_of_due : (command : Command) (input : List ℕ) (script : ScriptInput) (place : ℕ) → SpellsInput (reads_with command) input script → IsDue command script → IsBadOrderOf command input place → ⊥
+no_bad_of_due command input script place spelled due bad =
+    let same = one_spelled (reads_with command) input bad.0 script bad.1 spelled in
+    due_or_bad command script place due (subst (λ s. IsBadOrderFor command s place) same bad.2)
+
+no_bad_of_text : (command : Command) (input text : List ℕ) (place : ℕ) → IsTextOf command input text → IsBadOrderOf command input place → ⊥
+no_bad_of_text command input text place is bad =
+    let same = one_spelled (reads_with command) input bad.0 is.0 bad.1 is.1 in
+    text_or_bad command is.0 text place is.2 (subst (λ s. IsBadOrderFor command s place) same bad.2)
+
+one_bad_of : (command : Command) (input : List ℕ) (k m : ℕ) → IsBadOrderOf command input k → IsBadOrderOf command input m → k ≡ m
+one_bad_of command input k m a b =
+    let same = one_spelled (reads_with command) input b.0 a.0 b.1 a.1 in
+    one_bad_order command a.0 k m a.2 (subst (λ s. IsBadOrderFor command s m) same b.2)
+
+-- a script whose text is due is done
+done_due : (command : Command) (input : List ℕ) (r : Status) (before after : Option (List ℕ)) → Tells command input r before after → length input ≤ input_limit → (script : ScriptInput) → SpellsInput (reads_with command) input script → IsDue command script → IsUnlessStopped Done r
+done_due command input Done before after h short script spelled due = inl refl
+done_due command input (Refused line reason) before after h short script spelled due = absurd (bad_or_spelled (reads_with command) input line reason script h.1 spelled)
+done_due command input Usage before after h short script spelled due = absurd h
+done_due command input ReadFault before after h short script spelled due = inr refl
+done_due command input WriteFault before after h short script spelled due = inr refl
+done_due command input NoMemory before after h short script spelled due = inr refl
+done_due command input TooLong before after h short script spelled due = absurd (omega arith)
+done_due command input (BadOrder place) before after h short script spelled due = absurd (no_bad_of_due command input script place spelled due h.1)
 
 -- a script with a first bad line is refused there
-pub refused_due : (input : List ℕ) (r : Status) (before after : Option (List ℕ)) → Tells input r before after → length input ≤ input_limit → (line : ℕ) (reason : Reason) → IsFirstBad (lines input) line reason → IsUnlessStopped (Refused line reason) r
-refused_due input Done before after h short line reason bad = absurd (not_both (lines input) line reason h.2.0 bad h.2.1)
-refused_due input (Refused m other) before after h short line reason bad =
-    let same = one_line (lines input) m line other reason h.1 bad in inl cc
-refused_due input Usage before after h short line reason bad = absurd h
-refused_due input ReadFault before after h short line reason bad = inr refl
-refused_due input WriteFault before after h short line reason bad = inr refl
-refused_due input NoMemory before after h short line reason bad = inr refl
-refused_due input TooLong before after h short line reason bad = absurd (omega arith)
+refused_due : (command : Command) (input : List ℕ) (r : Status) (before after : Option (List ℕ)) → Tells command input r before after → length input ≤ input_limit → (line : ℕ) (reason : Reason) → IsFirstBadIn (reads_with command) (lines input) line reason → IsUnlessStopped (Refused line reason) r
+refused_due command input Done before after h short line reason bad = absurd (bad_or_spelled (reads_with command) input line reason h.2.0 bad h.2.1)
+refused_due command input (Refused m other) before after h short line reason bad =
+    let same = one_bad_line (reads_with command) (lines input) m line other reason h.1 bad in inl cc
+refused_due command input Usage before after h short line reason bad = absurd h
+refused_due command input ReadFault before after h short line reason bad = inr refl
+refused_due command input WriteFault before after h short line reason bad = inr refl
+refused_due command input NoMemory before after h short line reason bad = inr refl
+refused_due command input TooLong before after h short line reason bad = absurd (omega arith)
+refused_due command input (BadOrder place) before after h short line reason bad = absurd (bad_or_spelled (reads_with command) input line reason h.1.0 bad h.1.1)
+
+-- a script whose order has a first bad place is told it
+bad_order_due : (command : Command) (input : List ℕ) (r : Status) (before after : Option (List ℕ)) → Tells command input r before after → length input ≤ input_limit → (place : ℕ) → IsBadOrderOf command input place → IsUnlessStopped (BadOrder place) r
+bad_order_due command input Done before after h short place bad = absurd (no_bad_of_text command input h.1 place h.2 bad)
+bad_order_due command input (Refused line reason) before after h short place bad = absurd (bad_or_spelled (reads_with command) input line reason bad.0 h.1 bad.1)
+bad_order_due command input Usage before after h short place bad = absurd h
+bad_order_due command input ReadFault before after h short place bad = inr refl
+bad_order_due command input WriteFault before after h short place bad = inr refl
+bad_order_due command input NoMemory before after h short place bad = inr refl
+bad_order_due command input TooLong before after h short place bad = absurd (omega arith)
+bad_order_due command input (BadOrder other) before after h short place bad = inl (ap BadOrder (one_bad_of command input other place h.1 bad))
 
 -- an input past the limit is too long
-pub too_long_due : (input : List ℕ) (r : Status) (before after : Option (List ℕ)) → Tells input r before after → input_limit < length input → IsUnlessStopped TooLong r
-too_long_due input Done before after h long = absurd (omega arith)
-too_long_due input (Refused line reason) before after h long = absurd (omega arith)
-too_long_due input Usage before after h long = absurd h
-too_long_due input ReadFault before after h long = inr refl
-too_long_due input WriteFault before after h long = inr refl
-too_long_due input NoMemory before after h long = inr refl
-too_long_due input TooLong before after h long = inl refl
+too_long_due : (command : Command) (input : List ℕ) (r : Status) (before after : Option (List ℕ)) → Tells command input r before after → input_limit < length input → IsUnlessStopped TooLong r
+too_long_due command input Done before after h long = let short = h.0 in absurd (omega arith)
+too_long_due command input (Refused line reason) before after h long = let short = h.0 in absurd (omega arith)
+too_long_due command input Usage before after h long = absurd h
+too_long_due command input ReadFault before after h long = inr refl
+too_long_due command input WriteFault before after h long = inr refl
+too_long_due command input NoMemory before after h long = inr refl
+too_long_due command input TooLong before after h long = inl refl
+too_long_due command input (BadOrder place) before after h long = let short = h.0 in absurd (omega arith)
 
--- without a fault a run is done, unless memory was wanting
-pub complete_due : (r : Status) (s t : ℕ) (before after : Option (List ℕ)) (f g : ℕ) → Shows r s t before after f g → (Rose s t → ⊥) → (Rose f g → ⊥) → IsUnlessStopped Done r → (r ≡ Done) ⊎ (r ≡ NoMemory)
+-- without a fault a command is done, unless memory was wanting
+complete_due : (r : Status) (s t : ℕ) (before after : Option (List ℕ)) (f g : ℕ) → Shows r s t before after f g → (Rose s t → ⊥) → (Rose f g → ⊥) → IsUnlessStopped Done r → (r ≡ Done) ⊎ (r ≡ NoMemory)
 complete_due Done s t before after f g h no_read no_write due = inl refl
 complete_due (Refused line reason) s t before after f g h no_read no_write due = absurd (elim due [ inl e ↦ cc | inr e ↦ cc ])
 complete_due Usage s t before after f g h no_read no_write due = absurd h
@@ -66,27 +144,37 @@ complete_due ReadFault s t before after f g h no_read no_write due = absurd (no_
 complete_due WriteFault s t before after f g h no_read no_write due = absurd (no_write h)
 complete_due NoMemory s t before after f g h no_read no_write due = inr refl
 complete_due TooLong s t before after f g h no_read no_write due = absurd (elim due [ inl e ↦ cc | inr e ↦ cc ])
+complete_due (BadOrder place) s t before after f g h no_read no_write due = absurd (elim due [ inl e ↦ cc | inr e ↦ cc ])
 
--- what an answer tells of its input, where the input was taken from a source
-pub took_of_tells : (r : Status) (input : List ℕ) (left rest before after : Option (List ℕ)) → IsInput input left rest → Tells input r before after → Took r left rest before after
-took_of_tells Done input left rest before after is h = (input, is, h.1, h.2, h.3)
-took_of_tells (Refused line reason) input left rest before after is h = (input, is, h.1)
-took_of_tells Usage input left rest before after is h = tt
-took_of_tells ReadFault input left rest before after is h = tt
-took_of_tells WriteFault input left rest before after is h = tt
-took_of_tells NoMemory input left rest before after is h = tt
-took_of_tells TooLong input left rest before after is h = tt
+-- what is told of an input is told of what a source may tell
+each_told : (P Q : List ℕ → Type 0) → ((input : List ℕ) → P input → Q input) → (told : Option (List ℕ)) → IfSome told P → IfSome told Q
+each_told P Q f None h = tt
+each_told P Q f (Some input) h = f input h
 
--- the same of an input that a source may tell
-pub refused_due_told : (told : Option (List ℕ)) (r : Status) (before after : Option (List ℕ)) → IfSome told (λ input. Tells input r before after) → IfSome told (λ input. length input ≤ input_limit → (line : ℕ) (reason : Reason) → IsFirstBad (lines input) line reason → IsUnlessStopped (Refused line reason) r)
-refused_due_told None r before after h = tt
-refused_due_told (Some input) r before after h = refused_due input r before after h
-
-pub done_due_told : (told : Option (List ℕ)) (r : Status) (before after : Option (List ℕ)) → IfSome told (λ input. Tells input r before after) → IfSome told (λ input. length input ≤ input_limit → (plan : Planned) → Spells (lines input) plan → IsUnlessStopped Done r)
-done_due_told None r before after h = tt
-done_due_told (Some input) r before after h = done_due input r before after h
-
-pub complete_due_told : (told : Option (List ℕ)) (r : Status) (s t : ℕ) (before after : Option (List ℕ)) (f g : ℕ) → Shows r s t before after f g → (Rose s t → ⊥) → (Rose f g → ⊥) → IfSome told (λ input. Tells input r before after) → IfSome told (λ input. length input ≤ input_limit → (plan : Planned) → Spells (lines input) plan → (r ≡ Done) ⊎ (r ≡ NoMemory))
-complete_due_told None r s t before after f g shown no_read no_write h = tt
-complete_due_told (Some input) r s t before after f g shown no_read no_write h =
-    λ short plan spelled. complete_due r s t before after f g shown no_read no_write (done_due input r before after h short plan spelled)
+-- What serving a command ensures is what its answer promises.
+pub answered : (command : Command) (r : Status) (left rest : Option (List ℕ)) (s t : ℕ) (before after : Option (List ℕ)) (f g : ℕ) → Shows r s t before after f g → IfSome left (λ input. Tells command input r before after) → Took command r left rest before after → TakesAtMost (input_limit + 1) left rest → s ≤ t → f ≤ g → Answered command r left rest s t before after f g
+answered command r left rest s t before after f g shown told took most source_counted sink_counted =
+    record {
+      done = λ e. subst (λ q. Took command q left rest before after) e took;
+      done_of_left = λ e. each (λ input. (text : List ℕ) × IsTextOf command input text × (after ≡ bytes_after before text)) (λ input h. let k = subst (λ q. Tells command input q before after) e h in (k.1, k.2, k.3));
+      never_usage = λ e. subst (λ q. Shows q s t before after f g) e shown;
+      read_fault = λ e. (subst (λ q. Shows q s t before after f g) e shown).1;
+      too_long = λ e. each (λ input. input_limit < length input) (λ input h. subst (λ q. Tells command input q before after) e h);
+      refused = λ line reason e. subst (λ q. Took command q left rest before after) e took;
+      refused_of_left = λ line reason e. each (λ input. (length input ≤ input_limit) × IsFirstBadIn (reads_with command) (lines input) line reason) (λ input h. subst (λ q. Tells command input q before after) e h);
+      bad_order = λ place e. subst (λ q. Took command q left rest before after) e took;
+      bad_order_of_left = λ place e. each (λ input. (length input ≤ input_limit) × IsBadOrderOf command input place) (λ input h. subst (λ q. Tells command input q before after) e h);
+      write_fault = λ e. subst (λ q. Shows q s t before after f g) e shown;
+      only_too_long = each (λ input. input_limit < length input → IsUnlessStopped TooLong r) (λ input h. too_long_due command input r before after h);
+      only_refused = each (λ input. length input ≤ input_limit → (line : ℕ) (reason : Reason) → IsFirstBadIn (reads_with command) (lines input) line reason → IsUnlessStopped (Refused line reason) r) (λ input h. refused_due command input r before after h);
+      only_bad_order = each (λ input. length input ≤ input_limit → (place : ℕ) → IsBadOrderOf command input place → IsUnlessStopped (BadOrder place) r) (λ input h. bad_order_due command input r before after h);
+      only_done = each (λ input. length input ≤ input_limit → (script : ScriptInput) → SpellsInput (reads_with command) input script → IsDue command script → IsUnlessStopped Done r) (λ input h. done_due command input r before after h);
+      complete = λ no_read no_write. each (λ input. length input ≤ input_limit → (script : ScriptInput) → SpellsInput (reads_with command) input script → IsDue command script → (r ≡ Done) ⊎ (r ≡ NoMemory)) (λ input h short script spelled due. complete_due r s t before after f g shown no_read no_write (done_due command input r before after h short script spelled due));
+      text = text_shown r s t before after f g shown;
+      taken = most;
+      source_count = source_counted;
+      sink_count = sink_counted;
+    }
+  where
+    each : (Q : List ℕ → Type 0) → ((input : List ℕ) → Tells command input r before after → Q input) → IfSome left Q
+    each Q k = each_told (λ input. Tells command input r before after) Q k left told

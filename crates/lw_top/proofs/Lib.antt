@@ -1,11 +1,5 @@
 mod AnswerLaws
-mod MadeCalls
+mod BadPlaces
 mod OneTask
-mod PlainRun
-mod ReaderAnswers
-mod ReaderLines
-mod ReaderNames
-mod ReaderNumbers
-mod ReaderPlans
-mod ReaderRanges
-mod ReaderTests
+mod OrderLength
+mod Reported

@@ -1,21 +1,11 @@
--- The machine's run of a plan of one task, in its only order, is the task's calls one after another.
+-- The only order of a plan of one task stands for the task's calls, one after another.
 use Rattle.std.proofs.Common.{◌≡◌, ℕ, zero, suc, ◌+◌, List, [], ◌∷◌, ◌++◌, length, drop, replicate, Some, refl, ap, ◌∙◌, arith, add-one}
 use Rattle.std.specs.List.{slice_get}
 use Rattle.lw_calls.specs.declared.call.Call.{Call}
 use Rattle.lw_calls.specs.declared.entry.Entry.{Entry}
 use Rattle.lw_calls.specs.Planned.{Planned, task_calls}
-use Rattle.lw_calls.specs.Desk.{Desk}
-use Rattle.lw_calls.specs.Step.{after, reply}
-use Rattle.lw_calls.specs.History.{count_of, entries, machine, replies_of, only_order}
-use Rattle.lw_top.specs.Run.{desk_after, replies_to, numbered, CallsStandOnce}
-
-pub machine-numbered : (d : Desk) (n : ℕ) (cs : List Call) → machine d (numbered n cs) ≡ desk_after d cs
-machine-numbered d n [] = refl
-machine-numbered d n (c ∷ cs) = machine-numbered (after d 0 c) (n + 1) cs
-
-pub replies_of-numbered : (d : Desk) (n : ℕ) (cs : List Call) → replies_of d 0 (numbered n cs) ≡ replies_to d cs
-replies_of-numbered d n [] = refl
-replies_of-numbered d n (c ∷ cs) = ap (λ rs. reply d 0 c ∷ rs) (replies_of-numbered (after d 0 c) (n + 1) cs)
+use Rattle.lw_calls.specs.History.{count_of, entries}
+use Rattle.lw_top.specs.Run.{numbered, CallsStandOnce}
 
 pub count_of-push : (past : List Entry) (n : ℕ) (c : Call) → count_of 0 (past ++ record { task = 0; seq = n; call = c } ∷ []) ≡ count_of 0 past + 1
 count_of-push [] n c = refl
@@ -41,14 +31,6 @@ entries-only plan past (c ∷ cs) h =
     let pushed : count_of 0 (past ++ e ∷ []) ≡ n + 1 = count_of-push past n c in
     let rest : drop (count_of 0 (past ++ e ∷ [])) (task_calls plan 0) ≡ cs = rw (pushed, add-one) (drop-next (task_calls plan 0) cs n c h) in
     rw (slice_get-drop (task_calls plan 0) cs n c h) (ap (λ es. e ∷ es) (entries-only plan (past ++ e ∷ []) cs rest ∙ ap (λ k. numbered k cs) pushed))
-
--- the machine after a plan of one task in its only order
-pub machine-only : (plan : Planned) (d : Desk) → machine d (entries plan [] (only_order plan)) ≡ desk_after d (task_calls plan 0)
-machine-only plan d = rw (entries-only plan [] (task_calls plan 0) refl) (machine-numbered d 0 (task_calls plan 0))
-
--- the replies of that run
-pub replies_of-only : (plan : Planned) (d : Desk) → replies_of d 0 (entries plan [] (only_order plan)) ≡ replies_to d (task_calls plan 0)
-replies_of-only plan d = rw (entries-only plan [] (task_calls plan 0) refl) (replies_of-numbered d 0 (task_calls plan 0))
 
 -- each call stands once, and in its order
 pub calls_stand_once : CallsStandOnce

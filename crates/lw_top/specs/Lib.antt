@@ -1,9 +1,4 @@
 pub mod Answers
-pub mod ReaderCuts
-pub mod ReaderForms
-pub mod ReaderLine
-pub mod ReaderState
-pub mod ReaderStops
-pub mod ReaderValues
+pub mod Commands
 pub mod Run
 pub mod Status

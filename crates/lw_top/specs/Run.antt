@@ -1,22 +1,9 @@
--- A run of one task, call by call.
+-- The only order of a plan of one task.
 use Rattle.std.specs.Prelude.{◌≡◌, ℕ, ◌+◌, List, [], ◌∷◌}
 use Rattle.lw_calls.specs.declared.call.Call.{Call}
 use Rattle.lw_calls.specs.declared.entry.Entry.{Entry}
-use Rattle.lw_calls.specs.declared.reply.Reply.{Reply}
 use Rattle.lw_calls.specs.Planned.{Planned, task_calls}
 use Rattle.lw_calls.specs.History.{entries, only_order}
-use Rattle.lw_calls.specs.Desk.{Desk}
-use Rattle.lw_calls.specs.Step.{after, reply}
-
--- the desk after task 0 made these calls
-abbrev pub desk_after : Desk → List Call → Desk
-desk_after d [] = d
-desk_after d (c ∷ cs) = desk_after (after d 0 c) cs
-
--- the replies to these calls of task 0
-abbrev pub replies_to : Desk → List Call → List Reply
-replies_to d [] = []
-replies_to d (c ∷ cs) = reply d 0 c ∷ replies_to (after d 0 c) cs
 
 -- the steps in which task 0 makes these calls in their order, the first of them as its call n
 abbrev pub numbered : ℕ → List Call → List Entry

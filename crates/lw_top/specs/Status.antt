@@ -5,7 +5,7 @@ use Rattle.lw_calls.specs.declared.reason.Reason.{Reason}
 use Rattle.lw_calls.specs.declared.reason.Reason.TheVariants.{LineTooLong, BadByte, Spacing, Quote, UnknownWord, Misplaced, OneTaskOnly, Form, Range, NoName, DoubleName, Group, TooMany, NoHook, HookUsed, Padding, NotBuilt, Missing}
 use Rattle.lw_calls.specs.Report.{line_of, spaced}
 use Rattle.lw_top.specs.declared.status.Status.{Status}
-use Rattle.lw_top.specs.declared.status.Status.TheVariants.{Done, Refused, Usage, ReadFault, WriteFault, NoMemory, TooLong}
+use Rattle.lw_top.specs.declared.status.Status.TheVariants.{Done, Refused, Usage, ReadFault, WriteFault, NoMemory, TooLong, BadOrder}
 
 -- the exit status of each answer
 abbrev pub number_of : Status → ℕ
@@ -16,6 +16,7 @@ number_of ReadFault = 3
 number_of WriteFault = 4
 number_of NoMemory = 5
 number_of TooLong = 6
+number_of (BadOrder place) = 8
 
 -- how a reason is printed
 abbrev pub reason_text : Reason → List ℕ
@@ -48,6 +49,7 @@ text_of ReadFault = []
 text_of WriteFault = []
 text_of NoMemory = []
 text_of TooLong = line_of (codes "too long")
+text_of (BadOrder place) = line_of (codes "bad order at" ++ spaced place)
 
 -- the answers that a stream's fault or want of memory gives
 abbrev pub is_stop : Status → Bool
@@ -58,6 +60,7 @@ is_stop ReadFault = true
 is_stop WriteFault = true
 is_stop NoMemory = true
 is_stop TooLong = false
+is_stop (BadOrder place) = false
 
 -- The answer is the one that is due, or a fault or want of memory came instead.
 abbrev pub IsUnlessStopped : Status → Status → Type 0
@@ -71,7 +74,3 @@ input_limit = 4194304
 abbrev pub Says : List ℕ → Status → Status → Option (List ℕ) → Option (List ℕ) → ℕ → ℕ → Type 0
 Says text due result before after faults_before faults_after =
     ((result ≡ due) × (after ≡ bytes_after before text)) ⊎ ((result ≡ WriteFault) × Rose faults_before faults_after)
-
--- the words are the one command that there is so far
-abbrev pub IsRun : List (List ℕ) → Type 0
-IsRun words = words ≡ codes "run" ∷ []

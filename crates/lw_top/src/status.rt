@@ -20,10 +20,12 @@ pub enum Status {
     NoMemory,
     /// The input has more than 4,194,304 bytes.
     TooLong,
+    /// The order isn't legal, from this place on, counted from 0.
+    BadOrder { place: u32 },
 }
 
 impl Status {
-    /// The exit status, from 0 to 6.
+    /// The exit status: 0 to 6, or 8.
     pub fn number(&self) -> u8
         ensures { result ≡ number_of self.now }
     {
@@ -35,6 +37,7 @@ impl Status {
             Status::WriteFault => 4,
             Status::NoMemory => 5,
             Status::TooLong => 6,
+            Status::BadOrder { .. } => 8,
         }
     }
 }

@@ -4,10 +4,10 @@ use lw_io::{MemSink, MemSource};
 use std::alloc::{AllocError, Global};
 use std::test::Fail;
 
-const FIRST_FILL: &[u8] =
+pub const FIRST_FILL: &[u8] =
     b"screen 16 4 1\ntask a\ncreate w smart front 0 0 7 3\nfill w 1 1 2 2\nend\n";
 
-const FIRST_FILL_REPORT: &[u8] =
+pub const FIRST_FILL_REPORT: &[u8] =
     b"order 2\n0 0\nplanes 16 4 1\nplane 0\n0000\n6000\n6000\n0000\nvisible w 1\n0 0 7 3\ndamage w 0\nreplies a 2\nok\nok\ndone\n";
 
 const CLIPPED: &[u8] = b"screen 16 4 1
@@ -50,10 +50,26 @@ region 1 0 0 1 1
 done
 ";
 
+// The first fill with lines that say nothing, a glyph and a bitmap that no call reads, and a group.
+pub const FIRST_FILL_AT_LENGTH: &[u8] = b"# first fill
+screen 16 4 1
+
+glyph 41 183c66667e666600
+bitmap dot 8 2 1
+ff00
+8100
+task a
+create w smart front 0 0 7 3
+lock w
+fill w 1 1 2 2
+unlock w
+end
+";
+
 const USAGE_LINE: &[u8] = b"usage: layers run|check|replay|audit|demo NUMBER TASKS\n";
 
 // A source that moves `step` bytes a call at most, and whose calls with these numbers fail.
-fn source_of(
+pub fn source_of(
     alloc: Global,
     script: &[u8],
     step: usize,
@@ -65,23 +81,26 @@ fn source_of(
 }
 
 // The same for a sink with room for so many bytes.
-fn sink_of(alloc: Global, room: usize, step: usize, fails: &[u32]) -> Result<MemSink, AllocError> {
+pub fn sink_of(
+    alloc: Global,
+    room: usize,
+    step: usize,
+    fails: &[u32],
+) -> Result<MemSink, AllocError> {
     let fails = Vec::from_slice(alloc, fails)?;
     MemSink::new(alloc, room, step.max(1), fails)
 }
 
-fn word(alloc: Global, text: &str) -> Result<String, AllocError> {
+pub fn word(alloc: Global, text: &str) -> Result<String, AllocError> {
     String::from_str(alloc, text)
 }
 
 #[test]
 fn scripts_give_their_reports_and_refusals(rt: HostRuntime) -> Result<(), Fail> {
-    let missing = |line: u32| Status::Refused {
-        line,
-        reason: Reason::Missing,
-    };
-    let table: [(&[u8], Status, &[u8]); 9] = [
+    let refused = |line: u32, reason: Reason| Status::Refused { line, reason };
+    let table: [(&[u8], Status, &[u8]); 12] = [
         (FIRST_FILL, Status::Done, FIRST_FILL_REPORT),
+        (FIRST_FILL_AT_LENGTH, Status::Done, FIRST_FILL_REPORT),
         // A row of 17 pixels is padded to 32 bits.
         (
             b"screen 17 1 1\ntask a\ncreate w smart front 0 0 16 0\nfill w 0 0 16 0\nend\n",
@@ -102,23 +121,38 @@ fn scripts_give_their_reports_and_refusals(rt: HostRuntime) -> Result<(), Fail> 
             Status::Done,
             b"order 0\nplanes 1 1 1\nplane 0\n0000\nreplies a 0\ndone\n",
         ),
-        (b"", missing(1), b"refused line 1 missing\n"),
-        (b"screen 16 4 1\n", missing(2), b"refused line 2 missing\n"),
+        (
+            b"",
+            refused(1, Reason::Missing),
+            b"refused line 1 missing\n",
+        ),
+        (
+            b"screen 16 4 1\n",
+            refused(2, Reason::Missing),
+            b"refused line 2 missing\n",
+        ),
+        // An empty line says nothing, and counts as a line.
         (
             b"\n",
-            Status::Refused {
-                line: 1,
-                reason: Reason::NotBuilt,
-            },
-            b"refused line 1 not-built\n",
+            refused(2, Reason::Missing),
+            b"refused line 2 missing\n",
         ),
         (
             b"screen 16 4 1\ntask a\nend\ntask b\n",
-            Status::Refused {
-                line: 4,
-                reason: Reason::OneTaskOnly,
-            },
+            refused(4, Reason::OneTaskOnly),
             b"refused line 4 one-task-only\n",
+        ),
+        // No hook is handed in.
+        (
+            b"screen 16 4 1\ntask a\ncreate w smart front 0 0 7 3 hook 0\nend\n",
+            refused(3, Reason::NoHook),
+            b"refused line 3 no-hook\n",
+        ),
+        // A call that can't be made so far.
+        (
+            b"screen 16 4 1\ntask a\ncreate w simple front 0 0 7 3\nend\n",
+            refused(3, Reason::NotBuilt),
+            b"refused line 3 not-built\n",
         ),
     ];
     let alloc = rt.alloc();
@@ -179,14 +213,16 @@ fn streams_of_any_pieces_and_faults(rt: HostRuntime) -> Result<(), Fail> {
 #[test]
 fn words_that_are_no_command_get_the_usage_line(rt: HostRuntime) -> Result<(), Fail> {
     let alloc = rt.alloc();
-    let table: [&[&str]; 7] = [
+    let table: [&[&str]; 9] = [
         &[],
         &["run", "run"],
         &["--help"],
         &["Run"],
         &[""],
-        &["check"],
-        &["demo", "1", "17"],
+        &["audit"],
+        &["demo", "1", "2"],
+        &["check", "check"],
+        &["replay", "0"],
     ];
     for texts in table {
         let mut words = Vec::new(alloc);
@@ -210,12 +246,12 @@ fn words_that_are_no_command_get_the_usage_line(rt: HostRuntime) -> Result<(), F
 fn an_input_has_4194304_bytes_at_most(rt: HostRuntime) -> Result<(), Fail> {
     let alloc = rt.alloc();
     let words = vec![in alloc; word(alloc, "run")?]?;
-    let not_built = Status::Refused {
+    let long_line = Status::Refused {
         line: 1,
-        reason: Reason::NotBuilt,
+        reason: Reason::LineTooLong,
     };
     let table: [(usize, Status, &[u8]); 2] = [
-        (4_194_304, not_built, b"refused line 1 not-built\n"),
+        (4_194_304, long_line, b"refused line 1 line-too-long\n"),
         (4_194_305, Status::TooLong, b"too long\n"),
     ];
     for (length, status, text) in table {

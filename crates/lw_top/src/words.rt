@@ -1,13 +1,40 @@
-ghost use Rattle.std.specs.Prelude.{◌≡◌, IsTrue, ◌↔◌, map};
+ghost use Rattle.std.specs.Prelude.{◌≡◌, map};
 ghost use Rattle.std.specs.String.{string_bytes};
-ghost use Rattle.lw_top.specs.Status.{IsRun};
+ghost use Rattle.lw_top.specs.Commands.{command_named, command_of};
 
-/// Whether the words, without the program's name, are the command `run`.
-pub fn is_run(words: &[String]) -> bool
-    ensures { IsTrue result ↔ IsRun (map string_bytes words.now) }
+use lw_words::is_text;
+
+/// What the program is told to do.
+#[derive(Clone, Copy, Debug, PartialEq, Eq)]
+pub enum Command {
+    /// Run a script of one task.
+    Run,
+    /// Write a script's canonical text.
+    Check,
+    /// Run a script of some tasks in the order that stands in it.
+    Replay,
+}
+
+/// The command that the words are, without the program's name; none where they are no command.
+pub fn command_of(words: &[String]) -> Option<Command>
+    ensures { result ≡ command_of (map string_bytes words.now) }
 {
     match words {
-        [word] => word.as_str() == "run",
-        _ => false,
+        [word] => command_named(word.as_bytes()),
+        _ => None,
+    }
+}
+
+fn command_named(word: &[u8]) -> Option<Command>
+    ensures { result ≡ command_named word.now }
+{
+    if is_text(word, b"run") {
+        Some(Command::Run)
+    } else if is_text(word, b"check") {
+        Some(Command::Check)
+    } else if is_text(word, b"replay") {
+        Some(Command::Replay)
+    } else {
+        None
     }
 }

@@ -1,0 +1,121 @@
+-- An order that an input spells has at most 64 numbers for each of the input's lines.
+use Rattle.std.proofs.Common.{◌≡◌, ℕ, suc, ◌+◌, ◌*◌, ◌≤◌, ◌==◌, Bool, true, false, not, cond, nat_le, List, [], ◌∷◌, length, map, ℤ, unsigned_abs, Option, Some, None, option_map, Result, Ok, Err, refl, sym, ap, subst, ◌∙◌, arith, length-append, ok_or}
+use Rattle.std.proofs.lemmas.List.{length-map}
+use Rattle.std.specs.List.{onto_first}
+use Rattle.std.proofs.lemmas.Bool.{leb-true}
+use Rattle.lw_calls.specs.declared.reason.Reason.{Reason}
+use Rattle.lw_calls.specs.declared.reason.Reason.TheVariants.{Form as FormReason}
+use Rattle.lw_calls.specs.Demands.{◌>>=◌}
+use Rattle.lw_calls.specs.Lines.{lines}
+use Rattle.lw_calls.specs.Tokens.{Token, NumberToken, token_of, tokens}
+use Rattle.lw_calls.specs.LineForms.{LineForm, NumbersLine, all_numbers, numbers_line, numbers_limit, row_line}
+use Rattle.lw_calls.specs.LinesAbove.{order_above, section_of, row_width}
+use Rattle.lw_calls.specs.Script.{Setting, ScriptInput, SpellsInput, are_numbers_due, form_below, is_passed, put_form, with_line, with_lines, words_or_none}
+use Rattle.lw_calls.specs.ScriptReading.{AreGoodLines, form_read, form_tested, verb_read, words_read}
+use Rattle.lw_calls.proofs.ScriptForms.{IsFormHere}
+use Rattle.lw_calls.proofs.ScriptAnswer.{good_line, spelled_lines_good}
+
+-- the numbers of tokens are as many
+so_many : (ts : List Token) (zs : List ℤ) → all_numbers ts ≡ Some zs → length zs ≡ length ts
+so_many [] [] e = refl
+so_many [] (z ∷ zs) e = absurd (cc)
+so_many (NumberToken a n ∷ ts) zs e = step (all_numbers ts) (λ ns d. so_many ts ns d) e
+  where
+    step : (o : Option (List ℤ)) → ((ns : List ℤ) → o ≡ Some ns → length ns ≡ length ts) → option_map (λ ns. n ∷ ns) o ≡ Some zs → length zs ≡ suc (length ts)
+    step None h e = absurd (cc)
+    step (Some ns) h e =
+        let same : n ∷ ns ≡ zs = cc in
+        sym (ap length same) ∙ ap suc (h ns refl)
+so_many (_ ∷ ts) zs e = absurd (cc)
+
+-- a line has at most 64
+few_numbers : (ts : List Token) (zs : List ℤ) → ok_or (numbers_line ts) FormReason ≡ Ok (NumbersLine zs) → length zs ≤ 64
+few_numbers ts zs e = at_test (nat_le (length ts) numbers_limit) refl e
+  where
+    at_numbers : length ts ≤ 64 → (o : Option (List ℤ)) → all_numbers ts ≡ o → ok_or (option_map (λ ns. NumbersLine ns) o) FormReason ≡ Ok (NumbersLine zs) → length zs ≤ 64
+    at_numbers few None d e = absurd (cc)
+    at_numbers few (Some ns) d e =
+        let same : ns ≡ zs = cc in
+        let many = so_many ts ns d in
+        subst (λ (l : List ℤ). length l ≤ 64) same (omega (arith, many, few))
+
+    at_test : (b : Bool) → nat_le (length ts) numbers_limit ≡ b → ok_or (cond b (option_map (λ ns. NumbersLine ns) (all_numbers ts)) None) FormReason ≡ Ok (NumbersLine zs) → length zs ≤ 64
+    at_test true d e = at_numbers (leb-true (length ts) numbers_limit d) (all_numbers ts) refl e
+    at_test false d e = absurd (cc)
+
+-- where the numbers of an order are read, they are few
+few_read : (s : Setting) (above : List LineForm) (ws : List (List ℕ)) (zs : List ℤ) → IsFormHere s above (NumbersLine zs) → form_read s above ws ≡ Ok (NumbersLine zs) → length zs ≤ 64
+few_read s above ws zs h e =
+    let P : Bool → Type 0 = λ b. cond (not b) (ok_or (row_line (row_width above) (map token_of ws)) FormReason) (cond (are_numbers_due (section_of above)) (ok_or (numbers_line (map token_of ws)) FormReason) (verb_read s above ws)) ≡ Ok (NumbersLine zs) in
+    let Q : Bool → Type 0 = λ b. cond b (ok_or (numbers_line (map token_of ws)) FormReason) (verb_read s above ws) ≡ Ok (NumbersLine zs) in
+    few_numbers (map token_of ws) zs (subst Q h.1 (subst P h.0 e))
+
+few_tested : (s : Setting) (above : List LineForm) (ws : List (List ℕ)) (zs : List ℤ) → IsFormHere s above (NumbersLine zs) → (r : Result LineForm Reason) → form_read s above ws ≡ r → (r >>= (λ f. form_tested s above f >>= (λ _. Ok f))) ≡ Ok (NumbersLine zs) → length zs ≤ 64
+few_tested s above ws zs h (Err q) e d = absurd (cc)
+few_tested s above ws zs h (Ok f) e d = at_test (form_tested s above f) d
+  where
+    at_test : (t : Result (Unit {0}) Reason) → (t >>= (λ _. Ok f)) ≡ Ok (NumbersLine zs) → length zs ≤ 64
+    at_test (Err q) d = absurd (cc)
+    at_test (Ok u) d =
+        let same : f ≡ NumbersLine zs = cc in
+        few_read s above ws zs h (e ∙ ap Ok same)
+
+few_words : (s : Setting) (above : List LineForm) (zs : List ℤ) → IsFormHere s above (NumbersLine zs) → (t : Result (List (List ℕ)) Reason) → (t >>= (λ ws. form_read s above ws >>= (λ f. form_tested s above f >>= (λ _. Ok f)))) ≡ Ok (NumbersLine zs) → length zs ≤ 64
+few_words s above zs h (Err q) e = absurd (cc)
+few_words s above zs h (Ok ws) e = few_tested s above ws zs h (form_read s above ws) refl e
+
+-- an order above has at most 64 for each line
+few_above : (s : Setting) (above : List LineForm) → AreGoodLines s above → length (order_above above) ≤ 64 * length above
+few_above s [] g = omega arith
+few_above s (NumbersLine zs ∷ above) g =
+    let few = few_words s above zs (good_line s above (NumbersLine zs) g.0).0 (words_read g.0.line) g.0.read in
+    let rest = few_above s above g.1 in
+    let whole = length-append (order_above above) (map unsigned_abs zs) in
+    let same = length-map zs unsigned_abs in
+    omega (arith, few, rest, whole, same)
+few_above s (f ∷ above) g =
+    let rest = few_above s above g.1 in
+    omega (arith, rest)
+
+-- each line gives one form at most
+one_form : (o : Option LineForm) (above : List LineForm) → length (put_form o above) ≤ suc (length above)
+one_form None above = omega arith
+one_form (Some f) above = omega arith
+
+one_more : (b : Bool) (o : Option LineForm) (above : List LineForm) → length (cond b above (put_form o above)) ≤ suc (length above)
+one_more true o above = omega arith
+one_more false o above = one_form o above
+
+few_forms : (above : List LineForm) (ls : List (List ℕ)) → length (with_lines above ls) ≤ length above + length ls
+few_forms above [] = omega arith
+few_forms above (line ∷ ls) =
+    let rest = few_forms (with_line above line) ls in
+    let more = one_more (is_passed above line) (form_below above (words_or_none (tokens line))) above in
+    omega (arith, rest, more)
+
+-- there are no more lines than bytes
+few_on : (b : ℕ) (ls : List (List ℕ)) → length (onto_first b ls) ≤ suc (length ls)
+few_on b [] = omega arith
+few_on b (l ∷ ls) = omega arith
+
+few_ended : (t : Bool) (b : ℕ) (ls : List (List ℕ)) → length (cond t ([] ∷ ls) (onto_first b ls)) ≤ suc (length ls)
+few_ended true b ls = omega arith
+few_ended false b ls = few_on b ls
+
+few_lines : (bytes : List ℕ) → length (lines bytes) ≤ length bytes
+few_lines [] = omega arith
+few_lines (b ∷ bs) =
+    let rest = few_lines bs in
+    let more = few_ended (b == 10) b (lines bs) in
+    omega (arith, rest, more)
+
+-- An order that bytes spell has at most 64 numbers for each byte.
+pub order_few : (s : Setting) (bytes : List ℕ) (input : ScriptInput) → SpellsInput s bytes input → length input.order ≤ 64 * length bytes
+order_few s bytes input spelled =
+    let good = (spelled_lines_good s bytes input spelled).0 in
+    let order : input.order ≡ order_above (with_lines [] (lines bytes)) = ap (λ i. i.order) spelled.spelled in
+    let many = ap length order in
+    let above = few_above s (with_lines [] (lines bytes)) good in
+    let forms = few_forms [] (lines bytes) in
+    let ls = few_lines bytes in
+    omega (arith, many, above, forms, ls)

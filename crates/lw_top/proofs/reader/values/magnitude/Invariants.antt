@@ -1,7 +1,0 @@
-use Rattle.std.proofs.Common.{◌≡◌, min, take}
-use Rattle.std.specs.Str.Parse.{digits_value}
-use Rattle.lw_calls.specs.Values.{number_cap}
-use Rattle.lw_top.proofs.reader.values.magnitude.Given as goal
-
-abbrev pub invariant-loop-digit : goal.invariant-loop-digit
-invariant-loop-digit l = l.total ≡ min (digits_value 10 (take l.digit-index l.digits)) number_cap

@@ -1,0 +1,14 @@
+use Rattle.std.proofs.Common.{◌≡◌, ℕ, List, [], ◌∷◌, ◌++◌, ◌∙◌, append_assoc}
+use Rattle.std.specs.Fmt.{decimal}
+use Rattle.std.proofs.lemmas.Result.{IfOk-weaker}
+use Rattle.lw_top.specs.Status.{reason_text}
+use Rattle.lw_top.proofs.serve.refusal_line.Goals as goal
+
+-- the format's text is the definition's, which joins its parts the other way round
+regrouped : (line word : List ℕ) → 114 ∷ 101 ∷ 102 ∷ 117 ∷ 115 ∷ 101 ∷ 100 ∷ 32 ∷ 108 ∷ 105 ∷ 110 ∷ 101 ∷ 32 ∷ (line ++ (32 ∷ (word ++ 10 ∷ []))) ≡ (114 ∷ 101 ∷ 102 ∷ 117 ∷ 115 ∷ 101 ∷ 100 ∷ 32 ∷ 108 ∷ 105 ∷ 110 ∷ 101 ∷ 32 ∷ (line ++ (32 ∷ word))) ++ 10 ∷ []
+regrouped line word = simp append_assoc
+
+pub returns : goal.returns
+returns c =
+    let said = c.reason_word-word.ensures in
+    IfOk-weaker c.format.result _ _ (λ text e. e ∙ rw said (regrouped (decimal c.args.line) (reason_text c.args.reason))) c.format.ensures.ok

@@ -1,0 +1,55 @@
+-- The program's commands: which words each has, what it reads, and what is due for a script (this project's own).
+use Rattle.std.specs.Prelude.{◌≡◌, ℕ, true, if◌then◌else◌, List, [], ◌∷◌, codes, bytes_eq, Option, Some, None}
+use Rattle.lw_calls.specs.declared.form.Form.TheVariants.{Plain, Ordered}
+use Rattle.lw_calls.specs.Canonical.{canonical_text}
+use Rattle.lw_calls.specs.History.{only_order}
+use Rattle.lw_calls.specs.Orders.{is_legal, IsBadPlace}
+use Rattle.lw_calls.specs.Report.{run_report}
+use Rattle.lw_calls.specs.Script.{Setting, ScriptInput, SpellsInput}
+use Rattle.lw_script.specs.Answers.{reading_with}
+use Rattle.lw_top.specs.declared.words.Command.{Command}
+use Rattle.lw_top.specs.declared.words.Command.TheVariants.{Run, Check, Replay}
+
+-- the command of this name
+abbrev pub command_named : List ℕ → Option Command
+command_named word =
+    if bytes_eq word (codes "run") then Some Run else (if bytes_eq word (codes "check") then Some Check else (if bytes_eq word (codes "replay") then Some Replay else None))
+
+-- the command that the words are, if they are one
+abbrev pub command_of : List (List ℕ) → Option Command
+command_of [] = None
+command_of (word ∷ []) = command_named word
+command_of (word ∷ other ∷ words) = None
+
+-- How a command reads its input, with no hook handed in: as a script alone, or with an order.
+abbrev pub reads_with : Command → Setting
+reads_with Run = reading_with 0 Plain
+reads_with Check = reading_with 0 Plain
+reads_with Replay = reading_with 0 Ordered
+
+-- The text that a command writes for a script: the report of the machine's run of its plan, in the one order of its one
+-- task or in the order that stands in it, which is legal then; or the plan's canonical text.
+abbrev pub IsTextFor : Command → ScriptInput → List ℕ → Type 0
+IsTextFor Run script text = text ≡ run_report script.plan [] (only_order script.plan)
+IsTextFor Check script text = text ≡ canonical_text script.plan
+IsTextFor Replay script text = (is_legal script.plan script.order ≡ true) × (text ≡ run_report script.plan [] script.order)
+
+-- the first bad place of the order that stands in a script, of which only the command `replay` speaks
+abbrev pub IsBadOrderFor : Command → ScriptInput → ℕ → Type 0
+IsBadOrderFor Run script place = ⊥
+IsBadOrderFor Check script place = ⊥
+IsBadOrderFor Replay script place = IsBadPlace script.plan script.order place
+
+-- a script for which a command's text is due
+abbrev pub IsDue : Command → ScriptInput → Type 0
+IsDue Run script = Unit {0}
+IsDue Check script = Unit {0}
+IsDue Replay script = is_legal script.plan script.order ≡ true
+
+-- the text is what a command writes for the script that the input spells
+abbrev pub IsTextOf : Command → List ℕ → List ℕ → Type 0
+IsTextOf command input text = (script : ScriptInput) × SpellsInput (reads_with command) input script × IsTextFor command script text
+
+-- the place is the first bad one of the order in the script that the input spells
+abbrev pub IsBadOrderOf : Command → List ℕ → ℕ → Type 0
+IsBadOrderOf command input place = (script : ScriptInput) × SpellsInput (reads_with command) input script × IsBadOrderFor command script place
