@@ -6,6 +6,7 @@
 
 mod area;
 mod assets;
+mod built_calls;
 mod call;
 mod entry;
 mod form;
@@ -28,6 +29,7 @@ mod verb;
 
 pub use area::Area;
 pub use assets::Assets;
+pub use built_calls::built;
 pub use call::Call;
 pub use entry::Entry;
 pub use form::Form;

@@ -18,8 +18,8 @@ use lw_calls::{Call, Final, OrderList, Plan};
 use lw_engine::PlainDesk;
 use std::alloc::{AllocError, Global};
 
-/// The final state of the machine's run of a plan in a legal order, several tasks included: each number makes its task's
-/// next call on the plain desk. It takes no lock and returns. (this project's own)
+/// The final state of the machine's run of a plan in a legal order, several tasks included, where each call may be made so far:
+/// each number makes its task's next call on the plain desk. It takes no lock and returns (this project's own).
 pub fn replay(alloc: Global, plan: &Plan, order: &OrderList) -> Result<Final, AllocError>
     requires legal { is_legal plan.now order.now ≡ true }
     requires built { All (λ calls. All (λ call. IsTrue (is_built call)) calls) plan.now.calls }

@@ -39,8 +39,8 @@ reason_text Padding = codes "padding"
 reason_text NotBuilt = codes "not-built"
 reason_text Missing = codes "missing"
 
--- What is written with an answer: nothing where reading failed or memory was wanting. With Done it is the report, and
--- with WriteFault a front of what was due.
+-- What is written with an answer that has a text of its own: nothing where reading failed or memory was wanting. Done has its
+-- command's text, and WriteFault none.
 abbrev pub text_of : Status → List ℕ
 text_of Done = []
 text_of (Refused line reason) = line_of (codes "refused line" ++ spaced line ++ 32 ∷ reason_text reason)

@@ -2,7 +2,7 @@
 
 ghost use Rattle.lw_top.specs.Run.{CallsStandOnce};
 
-/// In the order that a report prints, each call of the task stands once, and in its order.
+/// In the order that the report of a script alone prints, each call of its task stands once, and in its order.
 pub fn calls_stand_once_and_in_order()
     ensures { CallsStandOnce }
 {}
