@@ -2,4 +2,3 @@ mod AnswerLaws
 mod BadPlaces
 mod OneTask
 mod OrderLength
-mod Reported

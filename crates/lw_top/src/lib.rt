@@ -17,6 +17,8 @@ mod tests_commands;
 mod tests_limits;
 #[cfg(test)]
 mod tests_refusals;
+#[cfg(test)]
+mod tests_stated;
 mod words;
 
 pub use command::layers;

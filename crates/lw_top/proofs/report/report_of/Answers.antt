@@ -1,5 +1,5 @@
 use Rattle.std.proofs.lemmas.Result.{IfOk-weaker}
-use Rattle.lw_top.proofs.Reported.{run_reported}
+use Rattle.lw_tasks.proofs.Reported.{run_reported}
 use Rattle.lw_top.proofs.report.report_of.Goals as goal
 
 pub returns : goal.returns
