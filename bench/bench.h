@@ -30,6 +30,16 @@ typedef int64_t (*side)(const void *work, uint32_t repetitions);
 // the least of several runs counts. The runs of the two sides take turns.
 void time_both(side ours, side theirs, const void *work, double seconds[2]);
 
+// A loop over `bytes` bytes of a row, whose source has room for two bytes more.
+typedef void (*row_loop)(uint8_t *row, const uint8_t *source, uint32_t bytes);
+
+void loop_invert(uint8_t *row, const uint8_t *source, uint32_t bytes);
+void loop_shift(uint8_t *row, const uint8_t *source, uint32_t bytes);
+void loop_shift_to_the_left(uint8_t *row, const uint8_t *source, uint32_t bytes);
+void loop_shift_to_the_right(uint8_t *row, const uint8_t *source, uint32_t bytes);
+void loop_exclusive_or(uint8_t *row, const uint8_t *source, uint32_t bytes);
+void loop_shift_exclusive_or(uint8_t *row, const uint8_t *source, uint32_t bytes);
+
 // Each prints a table; the answer is the number of lines on which the two sides disagree.
 int bench_regions(void);
 int bench_rows(void);

@@ -4,8 +4,21 @@
 #include <stdio.h>
 #include <string.h>
 
+// Other work slows both sides, so the tables are told with the load that the machine had.
+static void print_load(void) {
+    char line[128];
+    FILE *load = fopen("/proc/loadavg", "r");
+    if (load && fgets(line, sizeof line, load)) {
+        printf("load: %s", line);
+    }
+    if (load) {
+        fclose(load);
+    }
+}
+
 int main(int count, char **words) {
     int disagreements = 0;
+    print_load();
     int all = count < 2;
     if (all || strcmp(words[1], "regions") == 0) {
         disagreements += bench_regions();
@@ -14,6 +27,7 @@ int main(int count, char **words) {
     if (all || strcmp(words[1], "rows") == 0) {
         disagreements += bench_rows();
     }
+    print_load();
     if (disagreements > 0) {
         fprintf(stderr, "%d lines disagree\n", disagreements);
         return 1;

@@ -25,4 +25,13 @@ mkdir -p "$built"
 # shellcheck disable=SC2046
 "$compiler" -std=c11 -D_POSIX_C_SOURCE=199309L -O2 -Wall -Wextra $(pkg-config --cflags pixman-1) \
     -o "$built/bench" "$bench"/*.c "$crate/out/liblw_bench_c.a" "$heap" $(pkg-config --libs pixman-1)
-exec "$built/bench" "$@"
+
+# The load of the last 1, 5 and 15 minutes, before and after.
+load() {
+    echo "load $1: $(cut -d ' ' -f 1-3 /proc/loadavg 2>/dev/null || echo unknown)"
+}
+load before
+status=0
+"$built/bench" "$@" || status=$?
+load after
+exit $status

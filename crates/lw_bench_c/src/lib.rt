@@ -37,9 +37,9 @@ pub extern "C" fn lw_bench_regions(
 }
 
 /// A number made of the bytes of a row, after a kernel was called on it `repetitions` times for 8 bits each of
-/// `bytes` bytes, from bit `bit % 8` of the row on. Kernel 0 fills, 1 inverts, 2 blits from another row, from
-/// its bit 0 on, and any other blits within the row, from its bit 8 on; the blits use `minterm`. At most 256
-/// bytes count. The rows are made from `seed`.
+/// `bytes` bytes, from bit `bit % 8` of the row on. Kernel 0 fills, 1 inverts, 2 blits from bit 0 of another row,
+/// 3 blits within the row from its bit 8 on, and any other blits within the row from its bit 0 on, to the bits
+/// that stand 8 further right; the blits use `minterm`. At most 4096 bytes count. The rows are made from `seed`.
 #[unsafe(no_mangle)]
 pub extern "C" fn lw_bench_row(
     kernel: u32,
@@ -49,5 +49,5 @@ pub extern "C" fn lw_bench_row(
     repetitions: u32,
     seed: u32,
 ) -> u32 {
-    rows::repeated(kernel, bytes.min(256), bit % 8, minterm, repetitions, seed)
+    rows::repeated(kernel, bytes.min(4096), bit % 8, minterm, repetitions, seed)
 }

@@ -1,9 +1,9 @@
-ghost use Rattle.std.specs.Prelude.{◌≡◌, ◌<◌, ◌↔◌, ◌&&◌, not, ℤ, IfOk, OnOk, IsNone};
+ghost use Rattle.std.specs.Prelude.{◌≡◌, ◌<◌, ◌↔◌, ℤ, IfOk, OnOk, IsNone};
 ghost use Rattle.lw_region.specs.Rectangle.{has_pixel};
 ghost use Rattle.lw_region.specs.Bands.{covers};
 ghost use Rattle.lw_bench_c.specs.Wanted.{wanted};
 
-use lw_region::{Rect, Region, and_region, or_region, xor_region};
+use lw_region::{Rect, Region, and_region, clear_region, or_region, xor_region};
 use std::alloc::{AllocError, Global};
 
 // What is done to a copy of the first operand.
@@ -64,17 +64,7 @@ fn apply(
         Operation::Union => or_region(alloc, b, made),
         Operation::Intersection => and_region(alloc, b, made),
         Operation::SymmetricDifference => xor_region(alloc, b, made),
-        Operation::Difference => reduce(alloc, b, made),
+        Operation::Difference => clear_region(alloc, b, made),
         Operation::RectangleDifference => made.clear_rect(alloc, hole),
     }
-}
-
-// Takes the pixels of `from` out of `into`: what stays are the pixels of `into` at which the two differ.
-fn reduce(alloc: Global, from: &Region, into: &mut Region) -> Result<(), AllocError>
-    ensures { OnOk result
-        ((x y : ℤ) → covers into.new x y ≡ (covers into.old x y && not (covers from.now x y))) }
-{
-    let mut other = from.copy(alloc)?;
-    xor_region(alloc, into, &mut other)?;
-    and_region(alloc, &other, into)
 }

@@ -3,8 +3,8 @@ ghost use Rattle.std.specs.Prelude.{◌+◌, ◌*◌, ◌≤◌, ◌<◌, length
 use crate::generator::Generator;
 use lw_kernels::{combine, combine_within, fill, flip};
 
-// Room for 256 bytes from any bit of the first byte on.
-const ROOM: usize = 257;
+// Room for 4096 bytes from any bit of the second byte on.
+const ROOM: usize = 4098;
 
 fn random_row(generator: &mut Generator) -> [u8; ROOM] {
     let mut row = [0; ROOM];
@@ -12,19 +12,6 @@ fn random_row(generator: &mut Generator) -> [u8; ROOM] {
         *byte = generator.byte();
     }
     row
-}
-
-fn call(kernel: u32, row: &mut [u8], source: &[u8], bit: u32, count: u32, minterm: u8, is_set: bool)
-    requires inside { bit + count ≤ 8 * length row.old }
-    requires later_inside { 8 + count ≤ 8 * length row.old }
-    requires source_inside { count ≤ 8 * length source.now }
-{
-    match kernel {
-        0 => fill(row, bit, count, is_set),
-        1 => flip(row, bit, count),
-        2 => combine(row, bit, source, 0, count, minterm),
-        _ => combine_within(row, bit, 8, count, minterm),
-    }
 }
 
 // The bytes as one number, so that each of them counts.
@@ -44,23 +31,67 @@ pub(crate) fn repeated(
     repetitions: u32,
     seed: u32,
 ) -> u32
-    requires bytes { bytes ≤ 256 }
+    requires bytes { bytes ≤ 4096 }
     requires bit { bit < 8 }
 {
     let mut generator = Generator::new(seed);
     let mut row = random_row(&mut generator);
     let source = random_row(&mut generator);
-    let used = &mut row[..bytes as usize + 1];
-    for index in 0..repetitions {
-        call(
-            kernel,
-            used,
-            &source,
-            bit,
-            8 * bytes,
-            minterm,
-            index % 2 == 0,
-        );
+    let used = &mut row[..bytes as usize + 2];
+    match kernel {
+        0 => repeat_fill(used, bit, 8 * bytes, repetitions),
+        1 => repeat_flip(used, bit, 8 * bytes, repetitions),
+        2 => repeat_combine(used, bit, &source, 8 * bytes, minterm, repetitions),
+        3 => repeat_combine_within(used, bit, 8, 8 * bytes, minterm, repetitions),
+        _ => repeat_combine_within(used, bit + 8, 0, 8 * bytes, minterm, repetitions),
     }
     digest(used)
+}
+
+fn repeat_fill(row: &mut [u8], bit: u32, count: u32, repetitions: u32)
+    requires { bit + count ≤ 8 * length row.old }
+{
+    for index in 0..repetitions {
+        fill(row, bit, count, index % 2 == 0);
+    }
+}
+
+fn repeat_flip(row: &mut [u8], bit: u32, count: u32, repetitions: u32)
+    requires { bit + count ≤ 8 * length row.old }
+{
+    for _ in 0..repetitions {
+        flip(row, bit, count);
+    }
+}
+
+fn repeat_combine(
+    row: &mut [u8],
+    bit: u32,
+    source: &[u8],
+    count: u32,
+    minterm: u8,
+    repetitions: u32,
+)
+    requires inside { bit + count ≤ 8 * length row.old }
+    requires source_inside { count ≤ 8 * length source.now }
+{
+    for _ in 0..repetitions {
+        combine(row, bit, source, 0, count, minterm);
+    }
+}
+
+fn repeat_combine_within(
+    row: &mut [u8],
+    bit: u32,
+    from: u32,
+    count: u32,
+    minterm: u8,
+    repetitions: u32,
+)
+    requires inside { bit + count ≤ 8 * length row.old }
+    requires from_inside { from + count ≤ 8 * length row.old }
+{
+    for _ in 0..repetitions {
+        combine_within(row, bit, from, count, minterm);
+    }
 }

@@ -1,10 +1,10 @@
 -- Laws of single bytes, bit by bit from the left.
-use Rattle.std.proofs.Common.{◌≡◌, ℕ, suc, zero, ◌+◌, ◌-◌, ◌*◌, ◌/◌, ◌%◌, ◌^◌, ◌<◌, ◌≤◌, ◌==◌, ◌&&◌, nat_lt, nat_le, nat_eq, min, max, if◌then◌else◌, Bool, true, false, List, get_or, bit_and, bit_or, ap, refl, ◌∙◌, ⊎_elim, arith}
+use Rattle.std.proofs.Common.{◌≡◌, ℕ, suc, zero, ◌+◌, ◌-◌, ◌*◌, ◌/◌, ◌%◌, ◌^◌, ◌<◌, ◌≤◌, ◌==◌, ◌&&◌, nat_lt, nat_le, nat_eq, min, max, sym, if◌then◌else◌, Bool, true, false, List, get_or, bit_and, bit_or, ap, refl, ◌∙◌, ⊎_elim, arith}
 use Rattle.std.specs.Int.{bit_at, w8}
 use Rattle.std.proofs.lemmas.Bool.{cases_lt}
 use Rattle.std.proofs.lemmas.Bool.Decides.{nat_tests}
-use Rattle.std.proofs.lemmas.Nat.{shr-shr}
-use Rattle.std.proofs.lemmas.Nat.Bits.{bit_at-lt, bit_at_ones, bit_at_ones_above, bit_at_not, bit_at_and, bit_at_or, bit_at_cat_low, bit_at_cat_high}
+use Rattle.std.proofs.lemmas.Nat.{shr-shr, pow_pos}
+use Rattle.std.proofs.lemmas.Nat.Bits.{bit_at-lt, bit_at_ones, bit_at_ones_above, bit_at_not, bit_at_and, bit_at_or, bit_at_cat_low, bit_at_cat_high, bit_at-zero, bit_at_above}
 use Rattle.lw_planes.specs.Row.{bit_of, row_bit}
 use Rattle.lw_planes.specs.Minterm.{minterm_bit}
 use Rattle.lw_planes.proofs.BitLaws.{bit-tested}
@@ -25,6 +25,14 @@ chosen_below j n v a b below past =
     (λ (low : j < n). let is : v ≡ a = below low in grind (arith, nat_tests))
     (λ (high : n ≤ j). let is : v ≡ b = past high in grind (arith, nat_tests))
     (cases_lt j n)
+
+-- the choice by an order that holds
+lt_choice : (j n v a b : ℕ) → j < n → v ≡ (if nat_lt j n then a else b) → v ≡ a
+lt_choice j n v a b low is = grind (arith, nat_tests)
+
+-- the choice by an order that doesn't hold
+ge_choice : (j n v a b : ℕ) → n ≤ j → v ≡ (if nat_lt j n then a else b) → v ≡ b
+ge_choice j n v a b high is = grind (arith, nat_tests)
 
 -- the ones that are not before a bit
 pub bit_at-ones_from : (first j : ℕ) → first ≤ 8 → j < 8 → bit_at (255 / 2 ^ first) (7 - j) ≡ (if nat_lt j first then 0 else 1)
@@ -98,8 +106,66 @@ bit_at-pair row place left right j small low is_left is_right =
     bit_at_cat_low left 8 right i in_right ∙ rw (bit, byte, ← is_right))
     (cases_lt (place % 8 + j) 8))
 
+-- a byte that is shifted to the left has no bits below the shift, and above it those from its lowest on
+bit_at-shl : (a n i : ℕ) → i < 8 → bit_at ((a * 2 ^ n) % 256) i ≡ (if nat_lt i n then 0 else bit_at a (i - n))
+bit_at-shl a n i low =
+    let whole : ℕ = a * 2 ^ n in
+    let split : (whole / 256) * 2 ^ 8 + whole % 256 ≡ whole + 0 = omega arith in
+    let same : bit_at (whole % 256) i ≡ bit_at (whole + 0) i = sym (bit_at_cat_low (whole / 256) 8 (whole % 256) i low) ∙ ap (λ m. bit_at m i) split in
+    same ∙
+    chosen_below i n (bit_at (whole + 0) i) 0 (bit_at a (i - n))
+    (λ below. bit_at_cat_low a n 0 i below ∙ bit_at-zero i)
+    (λ past. bit_at_cat_high a n 0 i (pow_pos n) past)
+
+-- the greater of two bits of which the second is 0
+max-zero : (a b c : ℕ) → a ≡ c → b ≡ 0 → max a b ≡ c
+max-zero a b c p q = omega arith
+
+-- the greater of two bits of which the first is 0
+zero-max : (a b c : ℕ) → a ≡ 0 → b ≡ c → max a b ≡ c
+zero-max a b c p q = omega arith
+
+-- a bit of a pair of bytes that was shifted
+pub bit_at-shifted : (left right shift j : ℕ) → right < 256 → 0 < shift → shift < 8 → j < 8 → bit_at (bit_or ((left * 2 ^ shift) % 256) (right / 2 ^ (8 - shift))) (7 - j) ≡ (if nat_lt (shift + j) 8 then bit_at left (7 - (shift + j)) else bit_at right (15 - (shift + j)))
+bit_at-shifted left right shift j small some few low =
+    let i : ℕ = 7 - j in
+    let in_byte : i < 8 = omega arith in
+    let first : ℕ = bit_at ((left * 2 ^ shift) % 256) i in
+    let second : ℕ = bit_at (right / 2 ^ (8 - shift)) i in
+    let from_right : second ≡ bit_at right (8 - shift + i) = bit_at-shr right (8 - shift) i in
+    bit_at_or ((left * 2 ^ shift) % 256) (right / 2 ^ (8 - shift)) i ∙
+    chosen_below (shift + j) 8 (max first second) (bit_at left (7 - (shift + j))) (bit_at right (15 - (shift + j)))
+    (λ inside.
+    let high : 8 ≤ 8 - shift + i = omega arith in
+    let reached : shift ≤ i = omega arith in
+    let place : i - shift ≡ 7 - (shift + j) = omega arith in
+    max-zero first second (bit_at left (7 - (shift + j)))
+    (ge_choice i shift first 0 (bit_at left (i - shift)) reached (bit_at-shl left shift i in_byte) ∙ ap (λ n. bit_at left n) place)
+    (from_right ∙ bit_at_above right 8 (8 - shift + i) small high))
+    (λ past.
+    let below : i < shift = omega arith in
+    let place : 8 - shift + i ≡ 15 - (shift + j) = omega arith in
+    zero-max first second (bit_at right (15 - (shift + j)))
+    (lt_choice i shift first 0 (bit_at left (i - shift)) below (bit_at-shl left shift i in_byte))
+    (from_right ∙ ap (λ n. bit_at right n) place))
+
+-- a shifted pair of neighbouring bytes of a row
+pub shifted-row : (row : List ℕ) (at left right shift j v : ℕ) → j < 8 → left ≡ get_or row at 0 → right ≡ get_or row (at + 1) 0 → v ≡ (if nat_lt (shift + j) 8 then bit_at left (7 - (shift + j)) else bit_at right (15 - (shift + j))) → shift < 8 → v ≡ row_bit row (8 * at + shift + j)
+unfolding row_bit
+shifted-row row at left right shift j v low is_left is_right is few =
+    ⊎_elim
+    (λ (inside : shift + j < 8).
+    let byte : (8 * at + shift + j) / 8 ≡ at = omega arith in
+    let bit : 7 - (shift + j) ≡ 7 - (8 * at + shift + j) % 8 = omega arith in
+    lt_choice (shift + j) 8 v (bit_at left (7 - (shift + j))) (bit_at right (15 - (shift + j))) inside is ∙ rw (← bit, byte, is_left) refl)
+    (λ (past : 8 ≤ shift + j).
+    let byte : (8 * at + shift + j) / 8 ≡ at + 1 = omega arith in
+    let bit : 15 - (shift + j) ≡ 7 - (8 * at + shift + j) % 8 = omega arith in
+    ge_choice (shift + j) 8 v (bit_at left (7 - (shift + j))) (bit_at right (15 - (shift + j))) past is ∙ rw (← bit, byte, is_right) refl)
+    (cases_lt (shift + j) 8)
+
 -- eight bits that begin before the byte, moved to their places in it
-pub bit_at-moved : (row : List ℕ) (byte source_bit to_bit base j : ℕ) → j < 8 → base < to_bit → to_bit ≤ base + j → ((i : ℕ) → i < 8 → bit_at byte (7 - i) ≡ row_bit row (source_bit + i)) → bit_at (byte / 2 ^ (to_bit - base)) (7 - j) ≡ row_bit row (source_bit + (base + j - to_bit))
+pub bit_at-moved : (row : List ℕ) (byte source_bit to_bit base j : ℕ) → j < 8 → base ≤ to_bit → to_bit ≤ base + j → ((i : ℕ) → i < 8 → bit_at byte (7 - i) ≡ row_bit row (source_bit + i)) → bit_at (byte / 2 ^ (to_bit - base)) (7 - j) ≡ row_bit row (source_bit + (base + j - to_bit))
 bit_at-moved row byte source_bit to_bit base j low before inside bits =
     let i : ℕ = base + j - to_bit in
     let in_byte : i < 8 = omega arith in
@@ -173,3 +239,21 @@ bit_at-minterm minterm source old p q r s i small_source small_old low is_p is_q
     minterm_terms (nat_eq (bit_and (minterm / 128) 1) 1) (nat_eq (bit_and (minterm / 64) 1) 1) (nat_eq (bit_and (minterm / 32) 1) 1) (nat_eq (bit_and (minterm / 16) 1) 1)
     (bit_at minterm 7) (bit_at minterm 6) (bit_at minterm 5) (bit_at minterm 4) b c (bit_at-lt source i) (bit_at-lt old i)
     (bit-tested minterm 7) (bit-tested minterm 6) (bit-tested minterm 5) (bit-tested minterm 4)))))
+
+-- a bit of a number of which some bits are tested at once
+tested-bit : (minterm mask value i : ℕ) → bit_and minterm mask ≡ value → bit_at mask i ≡ 1 → bit_at minterm i ≡ bit_at value i
+tested-bit minterm mask value i is one =
+    let both : bit_at (bit_and minterm mask) i ≡ min (bit_at minterm i) (bit_at mask i) = bit_at_and minterm mask i in
+    let same : bit_at (bit_and minterm mask) i ≡ bit_at value i = ap (λ n. bit_at n i) is in
+    let small : bit_at minterm i < 2 = bit_at-lt minterm i in
+    omega arith
+
+-- a choice by two bits that depends on the first alone
+chosen-copies : (m7 m6 m5 m4 b c : ℕ) → b < 2 → m7 ≡ 1 → m6 ≡ 1 → m5 ≡ 0 → m4 ≡ 0 → (if b == 1 then (if c == 1 then m7 else m6) else (if c == 1 then m5 else m4)) ≡ b
+chosen-copies m7 m6 m5 m4 b c small p q r s = grind (arith, nat_tests)
+
+-- the minterm of a copy has the source bit for its value
+pub minterm-copies : (minterm b c : ℕ) → b < 2 → bit_and minterm 240 ≡ 192 → minterm_bit minterm b c ≡ b
+minterm-copies minterm b c small is =
+    chosen-copies (bit_at minterm 7) (bit_at minterm 6) (bit_at minterm 5) (bit_at minterm 4) b c small
+    (tested-bit minterm 240 192 7 is refl) (tested-bit minterm 240 192 6 is refl) (tested-bit minterm 240 192 5 is refl) (tested-bit minterm 240 192 4 is refl)

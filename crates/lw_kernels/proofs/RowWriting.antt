@@ -1,6 +1,6 @@
 -- A row that is written byte by byte, to the right or to the left.
 use Rattle.std.proofs.Common.{◌≡◌, ◌≢◌, ℕ, ◌+◌, ◌-◌, ◌*◌, ◌/◌, ◌%◌, ◌<◌, ◌≤◌, ◌&&◌, nat_lt, nat_le, if◌then◌else◌, Bool, true, false, List, length, get_or, set, map, ap, subst, sym, refl, ◌∙◌, ⊎_elim, get_or-set_same, get_or-set_other, zero-add, arith}
-use Rattle.std.specs.Int.{bit_at, div_ceil}
+use Rattle.std.specs.Int.{bit_at}
 use Rattle.std.specs.List.{range_with_len}
 use Rattle.std.proofs.lemmas.List.{ext_get_or, get_or_past}
 use Rattle.std.proofs.lemmas.List.FromFn.{length-map-range_with_len, get_or-map-range_with_len}
@@ -112,6 +112,10 @@ before_more row new old from end index v inside done byte = λ x.
     (set-elsewhere row index v x apart ∙ done x) (ap (λ t. is_between from end x && t) same))
     (cases_eq (x / 8) index)
 
+-- the same bytes are done, counted otherwise
+pub before_at : (row : List ℕ) (new old : ℕ → ℕ) (from end index place : ℕ) → index ≡ place → DoneBefore row new old from end index → DoneBefore row new old from end place
+before_at row new old from end index place same done = λ x. done x ∙ ap (λ n. if is_between from end x && nat_lt x (8 * n) then new x else old x) same
+
 -- after the last byte all is done
 pub before_all : (row : List ℕ) (new old : ℕ → ℕ) (from end index : ℕ) → end ≤ 8 * index → DoneBefore row new old from end index → Done row new old from end
 before_all row new old from end index late done = λ x. let is = done x in let a : ℕ = new x in let b : ℕ = old x in grind (arith, nat_tests)
@@ -199,10 +203,105 @@ with_named-from_bits row was from count new at_place same each places =
     (bits-at row x ∙ each x) (places x) (sym (bits-at was x)) ∙
     sym (get_or-map-range_with_len (λ i. if is_named from count i then new i else get_or (row_bits was) i 0) 0 (length (row_bits was)) x x 0 low (zero-add x)))
 
--- the bytes that are written reach to the end
-pub ceil_reaches : (n : ℕ) → n ≤ 8 * div_ceil n 8
-ceil_reaches n = grind (arith, nat_tests)
+-- a bit that is between two
+pub between-yes : (from end x : ℕ) → from ≤ x → x < end → is_between from end x ≡ true
+between-yes from end x p q = grind (arith, nat_tests)
 
--- the bytes that are written are in the row
-pub ceil_inside : (n long index : ℕ) → n ≤ 8 * long → index < div_ceil n 8 → index < long
-ceil_inside n long index inside below = grind (arith, nat_tests)
+-- a bit before the first of two
+pub between-before : (from end x : ℕ) → x < from → is_between from end x ≡ false
+between-before from end x p = grind (arith, nat_tests)
+
+-- a bit that is not before the last of two
+pub between-after : (from end x : ℕ) → end ≤ x → is_between from end x ≡ false
+between-after from end x p = grind (arith, nat_tests)
+
+-- a choice, from both of its cases
+chosen : (t : Bool) (v a b : ℕ) → (t ≡ true → v ≡ a) → (t ≡ false → v ≡ b) → v ≡ (if t then a else b)
+chosen true v a b then_is else_is = then_is refl
+chosen false v a b then_is else_is = else_is refl
+
+-- a bit that was to change
+pub done-inside : (row : List ℕ) (new old : ℕ → ℕ) (from end x : ℕ) → Done row new old from end → from ≤ x → x < end → row_bit row x ≡ new x
+done-inside row new old from end x done p q = if-true (is_between from end x) (row_bit row x) (new x) (old x) (done x) (between-yes from end x p q)
+
+-- a bit before those that were to change
+pub done-before : (row : List ℕ) (new old : ℕ → ℕ) (from end x : ℕ) → Done row new old from end → x < from → row_bit row x ≡ old x
+done-before row new old from end x done p = if-false (is_between from end x) (row_bit row x) (new x) (old x) (done x) (between-before from end x p)
+
+-- a bit behind those that were to change
+pub done-after : (row : List ℕ) (new old : ℕ → ℕ) (from end x : ℕ) → Done row new old from end → end ≤ x → row_bit row x ≡ old x
+done-after row new old from end x done p = if-false (is_between from end x) (row_bit row x) (new x) (old x) (done x) (between-after from end x p)
+
+-- each bit by its place
+pub done-each : (row : List ℕ) (new old : ℕ → ℕ) (from end : ℕ) → ((x : ℕ) → from ≤ x → x < end → row_bit row x ≡ new x) → ((x : ℕ) → x < from → row_bit row x ≡ old x) → ((x : ℕ) → end ≤ x → row_bit row x ≡ old x) → Done row new old from end
+done-each row new old from end inside before after = λ x.
+    ⊎_elim
+    (λ (low : x < from). chosen (is_between from end x) (row_bit row x) (new x) (old x) (λ is. absurd (cc (is, between-before from end x low))) (λ _. before x low))
+    (λ (late : from ≤ x).
+    ⊎_elim
+    (λ (within : x < end). chosen (is_between from end x) (row_bit row x) (new x) (old x) (λ _. inside x late within) (λ is. absurd (cc (is, between-yes from end x late within))))
+    (λ (past : end ≤ x). chosen (is_between from end x) (row_bit row x) (new x) (old x) (λ is. absurd (cc (is, between-after from end x past))) (λ _. after x past))
+    (cases_lt x end))
+    (cases_lt x from)
+
+-- other new bits of the same values
+pub done_same : (row : List ℕ) (first new old : ℕ → ℕ) (from end : ℕ) → Done row first old from end → ((x : ℕ) → from ≤ x → x < end → first x ≡ new x) → Done row new old from end
+done_same row first new old from end done same =
+    done-each row new old from end
+    (λ x p q. done-inside row first old from end x done p q ∙ same x p q)
+    (λ x p. done-before row first old from end x done p)
+    (λ x p. done-after row first old from end x done p)
+
+-- adjoining ranges, the left one first
+pub join_right : (one two : List ℕ) (new first second old : ℕ → ℕ) (from mid end : ℕ) → from ≤ mid → mid ≤ end → Done one first old from mid → Done two second (λ x. row_bit one x) mid end → ((x : ℕ) → from ≤ x → x < mid → first x ≡ new x) → ((x : ℕ) → mid ≤ x → x < end → second x ≡ new x) → Done two new old from end
+join_right one two new first second old from mid end p q a b left right =
+    let was : ℕ → ℕ = λ x. row_bit one x in
+    done-each two new old from end
+    (λ x late low.
+    ⊎_elim
+    (λ (here : x < mid). done-before two second was mid end x b here ∙ (done-inside one first old from mid x a late here ∙ left x late here))
+    (λ (there : mid ≤ x). done-inside two second was mid end x b there low ∙ right x there low)
+    (cases_lt x mid))
+    (λ x low. let under : x < mid = omega arith in done-before two second was mid end x b under ∙ done-before one first old from mid x a low)
+    (λ x late. let over : mid ≤ x = omega arith in done-after two second was mid end x b late ∙ done-after one first old from mid x a over)
+
+-- adjoining ranges, the right one first
+pub join_left : (one two : List ℕ) (new first second old : ℕ → ℕ) (from mid end : ℕ) → from ≤ mid → mid ≤ end → Done one first old mid end → Done two second (λ x. row_bit one x) from mid → ((x : ℕ) → mid ≤ x → x < end → first x ≡ new x) → ((x : ℕ) → from ≤ x → x < mid → second x ≡ new x) → Done two new old from end
+join_left one two new first second old from mid end p q a b right left =
+    let was : ℕ → ℕ = λ x. row_bit one x in
+    done-each two new old from end
+    (λ x late low.
+    ⊎_elim
+    (λ (here : x < mid). done-inside two second was from mid x b late here ∙ left x late here)
+    (λ (there : mid ≤ x). done-after two second was from mid x b there ∙ (done-inside one first old mid end x a there low ∙ right x there low))
+    (cases_lt x mid))
+    (λ x low. let under : x < mid = omega arith in done-before two second was from mid x b low ∙ done-before one first old mid end x a under)
+    (λ x late. let over : mid ≤ x = omega arith in done-after two second was from mid x b over ∙ done-after one first old mid end x a late)
+
+-- a range with another name for its first bit
+pub done_starts : (row : List ℕ) (new old : ℕ → ℕ) (from to end : ℕ) → from ≡ to → Done row new old from end → Done row new old to end
+done_starts row new old from to end same done = λ x. done x ∙ ap (λ n. if is_between n end x then new x else old x) same
+
+-- a range with another name for its end
+pub done_ends : (row : List ℕ) (new old : ℕ → ℕ) (from end stop : ℕ) → end ≡ stop → Done row new old from end → Done row new old from stop
+done_ends row new old from end stop same done = λ x. done x ∙ ap (λ n. if is_between from n x then new x else old x) same
+
+-- a byte that has the bits of a range in it, and its own ones
+pub one_byte : (row : List ℕ) (new : ℕ → ℕ) (from end index v : ℕ) → index < length row → 8 * index ≤ from → end ≤ 8 * index + 8 → ((j : ℕ) → j < 8 → bit_at v (7 - j) ≡ (if is_between from end (8 * index + j) then new (8 * index + j) else row_bit row (8 * index + j))) → Done (set row index v) new (λ x. row_bit row x) from end
+one_byte row new from end index v inside begins ends byte =
+    let old : ℕ → ℕ = λ x. row_bit row x in
+    let late : end ≤ 8 * (index + 1) = omega arith in
+    before_all (set row index v) new old from end (index + 1) late
+    (before_more row new old from end index v inside (before_none row new from end index begins) byte)
+
+-- no range, no change
+pub done_none : (row : List ℕ) (new : ℕ → ℕ) (from end : ℕ) → end ≤ from → Done row new (λ x. row_bit row x) from end
+done_none row new from end empty =
+    done-each row new (λ x. row_bit row x) from end (λ x p q. absurd (omega arith)) (λ x _. refl) (λ x _. refl)
+
+-- a byte that is written whole
+pub whole_byte : (first last index j v new old : ℕ) → first ≤ index → index < last → j < 8 → v ≡ new → v ≡ (if is_between (8 * first) (8 * last) (8 * index + j) then new else old)
+whole_byte first last index j v new old p q low is =
+    let begins : 8 * first ≤ 8 * index + j = omega arith in
+    let ends : 8 * index + j < 8 * last = omega arith in
+    chosen (is_between (8 * first) (8 * last) (8 * index + j)) v new old (λ _. is) (λ none. absurd (cc (none, between-yes (8 * first) (8 * last) (8 * index + j) begins ends)))

@@ -21,20 +21,25 @@ fn ones_from(first: usize) -> u8
     (0xff_u16 >> first) as u8
 }
 
-// The bits of byte `index` of a row that stand from bit `from` of the row on, before bit `end`.
+// The bits of byte `index` of a row that stand from bit `from` of the row on, before bit `end`; both are in the
+// byte, or at its end.
 fn mask(from: usize, end: usize, index: usize) -> u8
-    requires { index < 2 ^ 60 }
+    requires near { index < 2 ^ 60 }
+    requires begins { 8 * index ≤ from }
+    requires ordered { from ≤ end }
+    requires ends { end ≤ 8 * index + 8 }
     ensures { (j : ℕ) → j < 8 → bit_at result (7 - j) ≡ bit_of (is_between from end (8 * index + j)) }
 {
-    let first = from.saturating_sub(8 * index).min(8);
-    let last = end.saturating_sub(8 * index).min(8);
-    ones_from(first) & !ones_from(last)
+    ones_from(from - 8 * index) & !ones_from(end - 8 * index)
 }
 
 // Byte `index` of a row, with the bits of `value` in the place of its own from bit `from` of the row on,
-// before bit `end`.
+// before bit `end`; both are in the byte, or at its end.
 pub(crate) fn replaced(old: u8, value: u8, from: usize, end: usize, index: usize) -> u8
-    requires { index < 2 ^ 60 }
+    requires near { index < 2 ^ 60 }
+    requires begins { 8 * index ≤ from }
+    requires ordered { from ≤ end }
+    requires ends { end ≤ 8 * index + 8 }
     ensures { (j : ℕ) → j < 8 → bit_at result (7 - j) ≡ (if is_between from end (8 * index + j)
         then bit_at value (7 - j)
         else bit_at old (7 - j)) }
@@ -57,6 +62,18 @@ pub(crate) fn eight_bits(row: &[u8], place: usize) -> u8
     let index = place / 8;
     let pair = u16::from(byte_at(row, index)) * 256 + u16::from(byte_at(row, index + 1));
     ((pair >> (8 - place % 8)) & 0xff) as u8
+}
+
+// The eight bits of a pair of neighbouring bytes from bit `shift` of the pair on.
+#[inline(always)]
+pub(crate) fn shifted(left: u8, right: u8, shift: usize) -> u8
+    requires some { 0 < shift }
+    requires low { shift < 8 }
+    ensures { (j : ℕ) → j < 8 → bit_at result (7 - j) ≡ (if nat_lt (shift + j) 8
+        then bit_at left (7 - (shift + j))
+        else bit_at right (15 - (shift + j))) }
+{
+    (left << shift) | (right >> (8 - shift))
 }
 
 // The byte or no bits.

@@ -1,10 +1,11 @@
-ghost use Rattle.std.specs.Prelude.{◌≡◌, ℕ, ◌+◌, ◌-◌, ◌*◌, ◌^◌, ◌<◌, ◌≤◌, if◌then◌else◌, length, slice_index};
+ghost use Rattle.std.specs.Prelude.{◌≡◌, ℕ, ◌+◌, ◌-◌, ◌*◌, ◌/◌, ◌^◌, ◌<◌, ◌≤◌, if◌then◌else◌, length, slice_index};
 ghost use Rattle.std.specs.Int.{bit_at};
 ghost use Rattle.lw_planes.specs.Row.{row_bit, row_bits};
 ghost use Rattle.lw_planes.specs.Minterm.{minterm_bit};
 ghost use Rattle.lw_kernels.specs.Kernel.{blit_bit, is_between, is_named, with_named};
 
-use crate::bytes::{eight_bits, minterm_byte, replaced};
+use crate::bytes::{eight_bits, minterm_byte, replaced, shifted};
+use crate::copying::copy_bytes;
 
 /// Blits `count` bits of one row onto those of another: each bit from `to_bit` on becomes the minterm's
 /// value for its source bit B, which stands as far from `source_bit` in the source, and its old value
@@ -20,101 +21,146 @@ pub fn combine(to: &mut [u8], to_bit: u32, source: &[u8], source_bit: u32, count
         then blit_bit minterm (row_bit source.now) source_bit (row_bit to.old) to_bit x
         else row_bit to.old x) }
 {
-    let to_bit = to_bit as usize;
-    let source_bit = source_bit as usize;
-    let end = to_bit + count as usize;
-    for index in to_bit / 8..end.div_ceil(8) {
-        to[index] = blit_byte(to[index], to_bit, end, source, source_bit, minterm, index);
-    }
+    let from = to_bit as usize;
+    let end = from + count as usize;
+    combine_between(to, from, end, source, source_bit as usize, minterm);
 }
 
-/// Blits `count` bits of a row from `source_bit` on onto those of the same row from `to_bit` on, as
-/// `combine` does. The sources are the bits as they were before the call. All bits named are in the row,
-/// and each bit that is not written stays as it was.
-pub fn combine_within(row: &mut [u8], to_bit: u32, source_bit: u32, count: u32, minterm: u8)
-    requires to_inside { to_bit + count ≤ 8 * length row.old }
-    requires source_inside { source_bit + count ≤ 8 * length row.old }
-    ensures bits { row_bits row.new ≡ with_named (row_bits row.old) to_bit count
-        (blit_bit minterm (slice_index (row_bits row.old)) source_bit (slice_index (row_bits row.old)) to_bit) }
-    ensures each { (x : ℕ) → row_bit row.new x ≡ (if is_named to_bit count x
-        then blit_bit minterm (row_bit row.old) source_bit (row_bit row.old) to_bit x
-        else row_bit row.old x) }
+// As `combine`, from bit `from` of the destination and bit `place` of the source on. Whole bytes go by loops with no
+// mask, which the compiler turns into vector code.
+fn combine_between(to: &mut [u8], from: usize, end: usize, source: &[u8], place: usize, minterm: u8)
+    requires near { end < 2 ^ 40 }
+    requires near_source { place < 2 ^ 40 }
+    requires ordered { from ≤ end }
+    requires inside { end ≤ 8 * length to.old }
+    requires source_inside { place + (end - from) ≤ 8 * length source.now }
+    ensures { (x : ℕ) → row_bit to.new x ≡ (if is_between from end x
+        then blit_bit minterm (row_bit source.now) place (row_bit to.old) from x
+        else row_bit to.old x) }
 {
-    let to_bit = to_bit as usize;
-    let source_bit = source_bit as usize;
-    let end = to_bit + count as usize;
-    if to_bit <= source_bit {
-        combine_forwards(row, to_bit, source_bit, end, minterm);
+    let first = from.div_ceil(8);
+    let last = end / 8;
+    if first <= last {
+        combine_edge(to, from, 8 * first, source, place, minterm);
+        combine_bytes(to, first, last, source, place + (8 * first - from), minterm);
+        combine_edge(
+            to,
+            8 * last,
+            end,
+            source,
+            place + (8 * last - from),
+            minterm,
+        );
     } else {
-        combine_backwards(row, to_bit, source_bit, end, minterm);
+        combine_edge(to, from, end, source, place, minterm);
     }
 }
 
-// Byte after byte to the right: no source stands left of its destination, so none was written yet.
-fn combine_forwards(row: &mut [u8], to_bit: usize, source_bit: usize, end: usize, minterm: u8)
-    requires inside { end ≤ 8 * length row.old }
-    requires near { end < 2 ^ 40 }
-    requires near_source { source_bit < 2 ^ 40 }
-    requires ordered { to_bit ≤ end }
-    requires leftwards { to_bit ≤ source_bit }
-    ensures { (x : ℕ) → row_bit row.new x ≡ (if is_between to_bit end x
-        then blit_bit minterm (row_bit row.old) source_bit (row_bit row.old) to_bit x
-        else row_bit row.old x) }
+// Bits of a single byte.
+fn combine_edge(to: &mut [u8], from: usize, end: usize, source: &[u8], place: usize, minterm: u8)
+    requires near { end < 2 ^ 41 }
+    requires near_source { place < 2 ^ 42 }
+    requires ordered { from ≤ end }
+    requires inside { end ≤ 8 * length to.old }
+    requires one_byte { end ≤ 8 * (from / 8) + 8 }
+    ensures { (x : ℕ) → row_bit to.new x ≡ (if is_between from end x
+        then blit_bit minterm (row_bit source.now) place (row_bit to.old) from x
+        else row_bit to.old x) }
 {
-    for index in to_bit / 8..end.div_ceil(8) {
-        row[index] = blit_byte(row[index], to_bit, end, row, source_bit, minterm, index);
+    if from < end {
+        let index = from / 8;
+        to[index] = blit_byte(to[index], from, end, source, place, minterm);
     }
 }
 
-// Byte after byte to the left: no source stands right of its destination, so none was written yet.
-fn combine_backwards(row: &mut [u8], to_bit: usize, source_bit: usize, end: usize, minterm: u8)
-    requires inside { end ≤ 8 * length row.old }
-    requires near { end < 2 ^ 40 }
-    requires ordered { to_bit ≤ end }
-    requires rightwards { source_bit < to_bit }
-    ensures { (x : ℕ) → row_bit row.new x ≡ (if is_between to_bit end x
-        then blit_bit minterm (row_bit row.old) source_bit (row_bit row.old) to_bit x
-        else row_bit row.old x) }
-{
-    for index in (to_bit / 8..end.div_ceil(8)).rev() {
-        row[index] = blit_byte(row[index], to_bit, end, row, source_bit, minterm, index);
-    }
-}
-
-// Byte `index` of a destination, once its bits from bit `to_bit` of the row on, before bit `end`, have
-// the minterm's values for their source bits and for themselves.
-fn blit_byte(
+// The byte of a destination that has bit `from`, once its bits from that on, before bit `end`, have the minterm's
+// values for their source bits and for themselves.
+pub(crate) fn blit_byte(
     old: u8,
-    to_bit: usize,
+    from: usize,
     end: usize,
     source: &[u8],
-    source_bit: usize,
+    place: usize,
     minterm: u8,
-    index: usize,
 ) -> u8
-    requires near { index < 2 ^ 60 }
-    requires near_source { source_bit < 2 ^ 60 }
-    requires reaches { to_bit < 8 * index + 8 }
-    ensures { (j : ℕ) → j < 8 → bit_at result (7 - j) ≡ (if is_between to_bit end (8 * index + j)
-        then minterm_bit minterm (row_bit source.now (source_bit + (8 * index + j - to_bit))) (bit_at old (7 - j))
+    requires near { end < 2 ^ 41 }
+    requires near_source { place < 2 ^ 42 }
+    requires ordered { from ≤ end }
+    requires one_byte { end ≤ 8 * (from / 8) + 8 }
+    ensures { (j : ℕ) → j < 8 → bit_at result (7 - j) ≡ (if is_between from end (8 * (from / 8) + j)
+        then minterm_bit minterm (row_bit source.now (place + (8 * (from / 8) + j - from))) (bit_at old (7 - j))
         else bit_at old (7 - j)) }
 {
-    let bits = aligned(source, source_bit, to_bit, index);
-    replaced(old, minterm_byte(minterm, bits, old), to_bit, end, index)
+    let index = from / 8;
+    let bits = eight_bits(source, place) >> (from - 8 * index);
+    replaced(old, minterm_byte(minterm, bits, old), from, end, index)
 }
 
-// The source bits of byte `index` of a destination: its bit x, counted in the whole row and not before
-// `to_bit`, has its source as far from `source_bit`.
-fn aligned(source: &[u8], source_bit: usize, to_bit: usize, index: usize) -> u8
-    requires near { index < 2 ^ 60 }
-    requires near_source { source_bit < 2 ^ 60 }
-    requires reaches { to_bit < 8 * index + 8 }
-    ensures { (j : ℕ) → j < 8 → to_bit ≤ 8 * index + j →
-        bit_at result (7 - j) ≡ row_bit source.now (source_bit + (8 * index + j - to_bit)) }
+// The bytes from `first` on, before `last`.
+#[inline(always)]
+fn combine_bytes(to: &mut [u8], first: usize, last: usize, source: &[u8], place: usize, minterm: u8)
+    requires near { place < 2 ^ 42 }
+    requires ordered { first ≤ last }
+    requires inside { last ≤ length to.old }
+    requires source_inside { place + 8 * (last - first) ≤ 8 * length source.now }
+    ensures { (x : ℕ) → row_bit to.new x ≡ (if is_between (8 * first) (8 * last) x
+        then blit_bit minterm (row_bit source.now) place (row_bit to.old) (8 * first) x
+        else row_bit to.old x) }
 {
-    if to_bit <= 8 * index {
-        eight_bits(source, source_bit + (8 * index - to_bit))
+    if minterm & 0xf0 == 0xc0 {
+        copy_bytes(to, first, last, source, place);
+    } else if place % 8 == 0 {
+        combine_whole(to, first, last, source, place / 8, minterm);
     } else {
-        eight_bits(source, source_bit) >> (to_bit - 8 * index)
+        combine_shifted(to, first, last, source, place / 8, place % 8, minterm);
+    }
+}
+
+// From byte `start` of the source on.
+pub(crate) fn combine_whole(
+    to: &mut [u8],
+    first: usize,
+    last: usize,
+    source: &[u8],
+    start: usize,
+    minterm: u8,
+)
+    requires near { start < 2 ^ 60 }
+    requires ordered { first ≤ last }
+    requires inside { last ≤ length to.old }
+    requires source_inside { start + (last - first) ≤ length source.now }
+    ensures { (x : ℕ) → row_bit to.new x ≡ (if is_between (8 * first) (8 * last) x
+        then blit_bit minterm (row_bit source.now) (8 * start) (row_bit to.old) (8 * first) x
+        else row_bit to.old x) }
+{
+    for index in first..last {
+        to[index] = minterm_byte(minterm, source[start + (index - first)], to[index]);
+    }
+}
+
+// From bit `shift` of byte `start` of the source on.
+fn combine_shifted(
+    to: &mut [u8],
+    first: usize,
+    last: usize,
+    source: &[u8],
+    start: usize,
+    shift: usize,
+    minterm: u8,
+)
+    requires some { 0 < shift }
+    requires low { shift < 8 }
+    requires near { start < 2 ^ 60 }
+    requires ordered { first ≤ last }
+    requires inside { last ≤ length to.old }
+    requires source_inside { start + (last - first) < length source.now }
+    ensures { (x : ℕ) → row_bit to.new x ≡ (if is_between (8 * first) (8 * last) x
+        then blit_bit minterm (row_bit source.now) (8 * start + shift) (row_bit to.old) (8 * first) x
+        else row_bit to.old x) }
+{
+    for index in first..last {
+        let at = start + (index - first);
+        let bits = shifted(source[at], source[at + 1], shift);
+        to[index] = minterm_byte(minterm, bits, to[index]);
     }
 }

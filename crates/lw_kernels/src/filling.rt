@@ -1,6 +1,6 @@
-ghost use Rattle.std.specs.Prelude.{◌≡◌, ℕ, ◌+◌, ◌-◌, ◌*◌, ◌≤◌, if◌then◌else◌, length, slice_index};
+ghost use Rattle.std.specs.Prelude.{◌≡◌, ℕ, ◌+◌, ◌-◌, ◌*◌, ◌/◌, ◌^◌, ◌<◌, ◌≤◌, if◌then◌else◌, length, slice_index};
 ghost use Rattle.lw_planes.specs.Row.{bit_of, row_bit, row_bits};
-ghost use Rattle.lw_kernels.specs.Kernel.{is_named, with_named};
+ghost use Rattle.lw_kernels.specs.Kernel.{is_between, is_named, with_named};
 
 use crate::bytes::{replaced, spread};
 
@@ -12,11 +12,7 @@ pub fn fill(row: &mut [u8], from: u32, count: u32, bit: bool)
     ensures each { (x : ℕ) → row_bit row.new x ≡ (if is_named from count x then bit_of bit else row_bit row.old x) }
 {
     let from = from as usize;
-    let end = from + count as usize;
-    let value = spread(bit);
-    for index in from / 8..end.div_ceil(8) {
-        row[index] = replaced(row[index], value, from, end, index);
-    }
+    fill_between(row, from, from + count as usize, bit);
 }
 
 /// Inverts the `count` bits of the row from bit `from` on. All of them are in the row, and each other
@@ -27,8 +23,123 @@ pub fn flip(row: &mut [u8], from: u32, count: u32)
     ensures each { (x : ℕ) → row_bit row.new x ≡ (if is_named from count x then 1 - row_bit row.old x else row_bit row.old x) }
 {
     let from = from as usize;
-    let end = from + count as usize;
-    for index in from / 8..end.div_ceil(8) {
+    flip_between(row, from, from + count as usize);
+}
+
+// Whole bytes go by a loop of their own, with no mask, which the compiler turns into vector code.
+fn fill_between(row: &mut [u8], from: usize, end: usize, bit: bool)
+    requires near { end < 2 ^ 40 }
+    requires ordered { from ≤ end }
+    requires inside { end ≤ 8 * length row.old }
+    ensures { (x : ℕ) → row_bit row.new x ≡ (if is_between from end x then bit_of bit else row_bit row.old x) }
+{
+    let first = from.div_ceil(8);
+    let last = end / 8;
+    if first <= last {
+        fill_edge(row, from, 8 * first, bit);
+        fill_whole(row, first, last, bit);
+        fill_edge(row, 8 * last, end, bit);
+    } else {
+        fill_edge(row, from, end, bit);
+    }
+}
+
+// Bits of a single byte.
+fn fill_edge(row: &mut [u8], from: usize, end: usize, bit: bool)
+    requires near { end < 2 ^ 41 }
+    requires ordered { from ≤ end }
+    requires inside { end ≤ 8 * length row.old }
+    requires one_byte { end ≤ 8 * (from / 8) + 8 }
+    ensures { (x : ℕ) → row_bit row.new x ≡ (if is_between from end x then bit_of bit else row_bit row.old x) }
+{
+    if from < end {
+        let index = from / 8;
+        row[index] = replaced(row[index], spread(bit), from, end, index);
+    }
+}
+
+// The bytes from `first` on, before `last`. The compiler makes one store of a fixed number of bytes, which may be
+// written twice, and a call of `memset` of any other.
+fn fill_whole(row: &mut [u8], first: usize, last: usize, bit: bool)
+    requires ordered { first ≤ last }
+    requires inside { last ≤ length row.old }
+    ensures { (x : ℕ) → row_bit row.new x ≡ (if is_between (8 * first) (8 * last) x
+        then bit_of bit
+        else row_bit row.old x) }
+{
+    let count = last - first;
+    if count > 8 {
+        fill_bytes(row, first, count, bit);
+    } else if count >= 4 {
+        fill_bytes(row, first, 4, bit);
+        fill_bytes(row, last - 4, 4, bit);
+    } else if count >= 2 {
+        fill_bytes(row, first, 2, bit);
+        fill_bytes(row, last - 2, 2, bit);
+    } else if count == 1 {
+        fill_bytes(row, first, 1, bit);
+    }
+}
+
+// As many bytes from `first` on, one after another.
+#[inline(always)]
+fn fill_bytes(row: &mut [u8], first: usize, count: usize, bit: bool)
+    requires inside { first + count ≤ length row.old }
+    ensures { (x : ℕ) → row_bit row.new x ≡ (if is_between (8 * first) (8 * (first + count)) x
+        then bit_of bit
+        else row_bit row.old x) }
+{
+    let value = spread(bit);
+    for index in 0..count {
+        row[first + index] = value;
+    }
+}
+
+// As `fill_between`.
+fn flip_between(row: &mut [u8], from: usize, end: usize)
+    requires near { end < 2 ^ 40 }
+    requires ordered { from ≤ end }
+    requires inside { end ≤ 8 * length row.old }
+    ensures { (x : ℕ) → row_bit row.new x ≡ (if is_between from end x
+        then 1 - row_bit row.old x
+        else row_bit row.old x) }
+{
+    let first = from.div_ceil(8);
+    let last = end / 8;
+    if first <= last {
+        flip_edge(row, from, 8 * first);
+        flip_bytes(row, first, last);
+        flip_edge(row, 8 * last, end);
+    } else {
+        flip_edge(row, from, end);
+    }
+}
+
+// Bits of a single byte.
+fn flip_edge(row: &mut [u8], from: usize, end: usize)
+    requires near { end < 2 ^ 41 }
+    requires ordered { from ≤ end }
+    requires inside { end ≤ 8 * length row.old }
+    requires one_byte { end ≤ 8 * (from / 8) + 8 }
+    ensures { (x : ℕ) → row_bit row.new x ≡ (if is_between from end x
+        then 1 - row_bit row.old x
+        else row_bit row.old x) }
+{
+    if from < end {
+        let index = from / 8;
         row[index] = replaced(row[index], !row[index], from, end, index);
+    }
+}
+
+// The bytes from `first` on, before `last`.
+fn flip_bytes(row: &mut [u8], first: usize, last: usize)
+    requires ordered { first ≤ last }
+    requires inside { last ≤ length row.old }
+    ensures { (x : ℕ) → row_bit row.new x ≡ (if is_between (8 * first) (8 * last) x
+        then 1 - row_bit row.old x
+        else row_bit row.old x) }
+{
+    for index in first..last {
+        row[index] = !row[index];
     }
 }

@@ -5,10 +5,14 @@
 
 mod bytes;
 mod combining;
+mod copying;
 mod filling;
+mod moving;
+mod within;
 
-pub use combining::{combine, combine_within};
+pub use combining::combine;
 pub use filling::{fill, flip};
+pub use within::combine_within;
 
 #[cfg(test)]
 mod tests;

@@ -9,12 +9,12 @@ use Rattle.std.proofs.lemmas.List.Folds.{list_any-append}
 use Rattle.std.proofs.lemmas.Grind.{flat_map-append}
 use Rattle.lw_region.specs.Rectangle.{Rectangle, within}
 use Rattle.lw_region.specs.Bands.{Run, Band, band_rectangles, same_runs}
-use Rattle.lw_region.specs.Banded.{in_runs, StartsAfter, AreRuns, in_bands, IsBand, IsAbove, AreBands, flat}
-use Rattle.lw_region.specs.Columns.{in_columns, ColumnsAfter, AreColumns, run_rectangles}
+use Rattle.lw_region.specs.Banded.{in_runs, AreRuns, in_bands, IsBand, IsAbove, AreBands, flat}
+use Rattle.lw_region.specs.Columns.{columns, run_rectangles}
 use Rattle.lw_region.specs.Rows.{band_length, first_row, next_row, begun_band, from_row, same_columns}
 use Rattle.lw_region.proofs.Numbers.{eq_true, eq_above, of_lt}
-use Rattle.lw_region.proofs.Runs.{in_runs_nil, in_runs_cons}
-use Rattle.lw_region.proofs.Columns.{in_columns_nil, in_columns_cons, le_true, le_false, le_lt_false}
+use Rattle.lw_region.proofs.Runs.{in_runs_nil}
+use Rattle.lw_region.proofs.Columns.{le_true, le_false, le_lt_false}
 use Rattle.lw_region.proofs.Stacks.{in_bands_nil, StartsBelow, starts_below_less, above_starts, none_over, in_top, in_below}
 use Rattle.lw_region.proofs.Canonical.{flat_nil, flat_cons}
 
@@ -29,24 +29,10 @@ unfolding flat
 flat_append bs cs = flat_map-append band_rectangles bs cs
 
 -- the columns of a band's rectangles are those of its runs
-pub columns_of_runs : (top bottom : ℤ) (rs : List Run) (x : ℤ) → in_columns (run_rectangles top bottom rs) x ≡ in_runs rs x
+pub columns_of_runs : (top bottom : ℤ) (rs : List Run) → columns (run_rectangles top bottom rs) ≡ rs
 unfolding run_rectangles
-columns_of_runs top bottom [] x = in_columns_nil x ∙ sym (in_runs_nil x)
-columns_of_runs top bottom (r ∷ rs) x =
-    in_columns_cons (record { min_x = r.first; min_y = top; max_x = r.last; max_y = bottom }) (run_rectangles top bottom rs) x
-    ∙ (ap (λ w. within r.first x r.last || w) (columns_of_runs top bottom rs x) ∙ sym (in_runs_cons r rs x))
-
--- rectangles begin where their runs do
-columns_after_runs : (x top bottom : ℤ) (rs : List Run) → StartsAfter (x +ℤ pos 1) rs → ColumnsAfter x (run_rectangles top bottom rs)
-unfolding run_rectangles
-columns_after_runs x top bottom [] h = tt
-columns_after_runs x top bottom (r ∷ rs) h = omega (arith, ints)
-
--- the rectangles of runs lie from left to right
-pub are_columns : (top bottom : ℤ) (rs : List Run) → AreRuns rs → AreColumns (run_rectangles top bottom rs)
-unfolding run_rectangles
-are_columns top bottom [] h = tt
-are_columns top bottom (r ∷ rs) h = (h.0, columns_after_runs r.last top bottom rs h.1, are_columns top bottom rs h.2)
+columns_of_runs top bottom [] = refl
+columns_of_runs top bottom (r ∷ rs) = ap (λ w. r ∷ w) (columns_of_runs top bottom rs)
 
 module _ (top bottom : ℤ) (tail : List Rectangle) where
   -- what is read of the first rectangle of a band
@@ -104,7 +90,7 @@ length_other y (b ∷ bs) h k =
     ap (λ w. band_length y w) (flat_first b bs) ∙ length_other_app y b.top b.bottom (flat bs) b.runs h.0.some k
 
 -- the first band's rectangles are counted
-length_first : (b : Band) (bs : List Band) → AreBands (b ∷ bs)
+pub length_first : (b : Band) (bs : List Band) → AreBands (b ∷ bs)
     → length (run_rectangles b.top b.bottom b.runs) ≡ band_length b.top (run_rectangles b.top b.bottom b.runs ++ flat bs)
 length_first b bs h =
     let p = h.0.rows in
@@ -164,30 +150,30 @@ unfolding begun_band
 begun_nil y = refl
 
 -- up to the next change a row has the columns of the first band that has begun
-pub until_next_row : (bs : List Band) (at x y : ℤ) → AreBands bs → EndsRow at bs → at ≤ℤ y → y <ℤ next_row (flat bs) at → in_bands bs x y ≡ in_columns (begun_band (flat bs) at) x
+pub until_next_row : (bs : List Band) (at x y : ℤ) → AreBands bs → EndsRow at bs → at ≤ℤ y → y <ℤ next_row (flat bs) at → in_bands bs x y ≡ in_runs (columns (begun_band (flat bs) at)) x
 until_next_row [] at x y h k l m =
-    in_bands_nil x y ∙ (sym (in_columns_nil x) ∙ ap (λ w. in_columns w x) (sym (ap (λ w. begun_band w at) flat_nil ∙ begun_nil at)))
+    in_bands_nil x y ∙ (sym (in_runs_nil x) ∙ ap (λ w. in_runs (columns w) x) (sym (ap (λ w. begun_band w at) flat_nil ∙ begun_nil at)))
 until_next_row (b ∷ bs) at x y h k l m =
     let m' = rw (next_row_flat b bs at h) at m in
     by_lt_z at b.top
     (λ a.
     let n : y <ℤ b.top = rw (of_lt at b.top a) at m' in
     none_over (b ∷ bs) x y h n
-    ∙ (sym (in_columns_nil x)
-    ∙ ap (λ w. in_columns w x) (sym (begun_flat b bs at h ∙ ap (λ w. cond w (run_rectangles b.top b.bottom b.runs) []) (le_false b.top at a)))))
+    ∙ (sym (in_runs_nil x)
+    ∙ ap (λ w. in_runs (columns w) x) (sym (begun_flat b bs at h ∙ ap (λ w. cond w (run_rectangles b.top b.bottom b.runs) []) (le_false b.top at a)))))
     (λ a.
     let n : y <ℤ (b.bottom +ℤ pos 1) = rw (le_lt_false at b.top a) at m' in
     in_top b bs x y h (omega (arith, ints)) (omega (arith, ints))
-    ∙ (sym (columns_of_runs b.top b.bottom b.runs x)
-    ∙ ap (λ w. in_columns w x) (sym (begun_flat b bs at h ∙ ap (λ w. cond w (run_rectangles b.top b.bottom b.runs) []) (le_true b.top at a)))))
+    ∙ (ap (λ w. in_runs w x) (sym (columns_of_runs b.top b.bottom b.runs))
+    ∙ ap (λ w. in_runs (columns w) x) (sym (begun_flat b bs at h ∙ ap (λ w. cond w (run_rectangles b.top b.bottom b.runs) []) (le_true b.top at a)))))
 
 -- the columns of the first band lie from left to right
-begun_columns_step : (b : Band) (t : Bool) → AreRuns b.runs → AreColumns (cond t (run_rectangles b.top b.bottom b.runs) [])
-begun_columns_step b true h = are_columns b.top b.bottom b.runs h
+begun_columns_step : (b : Band) (t : Bool) → AreRuns b.runs → AreRuns (columns (cond t (run_rectangles b.top b.bottom b.runs) []))
+begun_columns_step b true h = rw (columns_of_runs b.top b.bottom b.runs) h
 begun_columns_step b false h = tt
 
 -- the columns of the first band lie from left to right
-pub begun_columns : (bs : List Band) (at : ℤ) → AreBands bs → AreColumns (begun_band (flat bs) at)
+pub begun_columns : (bs : List Band) (at : ℤ) → AreBands bs → AreRuns (columns (begun_band (flat bs) at))
 begun_columns [] at h = rw (ap (λ w. begun_band w at) flat_nil ∙ begun_nil at) tt
 begun_columns (b ∷ bs) at h = rw (begun_flat b bs at h) (begun_columns_step b (int_le b.top at) h.0.runs)
 

@@ -8,6 +8,8 @@ pub mod Lists
 pub mod Reading
 pub mod Canonical
 pub mod Columns
+pub mod Merges
+pub mod Edges
 pub mod Rows
 pub mod Flat
 pub mod RegionSweep

@@ -1,5 +1,5 @@
 -- The sweep over the rows of two regions, step by step.
-use Rattle.std.proofs.Common.{◌≡◌, ℕ, ◌+◌, ◌<◌, ◌≤◌, Some, None, Bool, true, false, cond, ◌&&◌, ◌||◌, List, [], ◌∷◌, ◌++◌, map, take, drop, length, ℤ, pos, negsuc, ◌+ℤ◌, ◌-ℤ◌, ◌≤ℤ◌, ◌<ℤ◌, refl, ap, sym, ◌∙◌, arith}
+use Rattle.std.proofs.Common.{◌≡◌, ℕ, ◌+◌, ◌<◌, ◌≤◌, Some, None, Bool, true, false, cond, ◌&&◌, ◌||◌, ◌⊎◌, inl, inr, List, [], ◌∷◌, ◌++◌, map, take, drop, length, ℤ, pos, negsuc, ◌+ℤ◌, ◌-ℤ◌, ◌≤ℤ◌, ◌<ℤ◌, refl, ap, sym, ◌∙◌, arith}
 use Rattle.std.specs.Prelude.{int_lt}
 use Rattle.std.specs.List.{between}
 use Rattle.std.specs.Int.{int_min, int_max}
@@ -12,19 +12,20 @@ use Rattle.lw_region.specs.declared.operation.Operation.{Operation}
 use Rattle.lw_region.specs.Rectangle.{Rectangle, within}
 use Rattle.lw_region.specs.Pixels.{pixels_of}
 use Rattle.lw_region.specs.Bands.{Run, Band, same_runs, covers}
-use Rattle.lw_region.specs.Banded.{IsCanonical, in_runs, AreRuns, in_bands, IsBand, AreBands, flat}
+use Rattle.lw_region.specs.Banded.{IsCanonical, in_runs, AreRuns, in_bands, IsBand, IsAbove, AreBands, flat}
 use Rattle.lw_region.specs.Operations.{holds}
-use Rattle.lw_region.specs.Columns.{in_columns, AreColumns, run_rectangles, IsRowOf}
-use Rattle.lw_region.specs.Rows.{first_row, next_row, begun_band, from_row, same_columns, joined_bottom, down_to, joined_rects, last_place}
+use Rattle.lw_region.specs.Columns.{columns, run_rectangles, IsRowOf}
+use Rattle.lw_region.specs.Rows.{band_length, first_length, first_row, next_row, begun_band, from_row, same_columns, joined_bottom, down_to, joined_rects, last_place, joined_to, with_rest}
 use Rattle.lw_region.proofs.Within.{within_true, within_below, within_above}
 use Rattle.lw_region.proofs.Meet.{same_bounds}
 use Rattle.lw_region.proofs.Numbers.{eq_true, eq_of, of_lt as lt_true}
 use Rattle.lw_region.proofs.Order.{or_none}
-use Rattle.lw_region.proofs.Runs.{in_runs_nil, same_runs_true, same_runs_itself}
-use Rattle.lw_region.proofs.Columns.{holds_none, le_lt_false as lt_false}
-use Rattle.lw_region.proofs.Stacks.{in_bands_nil, in_bands_cons, none_over}
+use Rattle.lw_region.proofs.Runs.{in_runs_nil, one_run_list, same_runs_true, same_runs_itself}
+use Rattle.lw_region.proofs.Columns.{holds_none, le_lt_false as lt_false, kept, kept_second, no_rectangles}
+use Rattle.lw_region.proofs.Merges.{is_none}
+use Rattle.lw_region.proofs.Stacks.{in_bands_nil, in_bands_cons, none_over, starts_below_less, above_starts}
 use Rattle.lw_region.proofs.Canonical.{flat_nil, covers_nil, covers_flat, band_list, are_band_list, bands_flat, flat_canonical}
-use Rattle.lw_region.proofs.Flat.{flat_first, flat_append, first_row_flat, from_bands, from_flat, EndsRow, until_next_row, begun_columns, next_row_further, passed_rows, same_columns_runs, EndAbove, end_lower, end_above_push, end_above_init, end_above_last, in_bands_append, bands_push, bands_taller}
+use Rattle.lw_region.proofs.Flat.{below_all, columns_of_runs, length_first, flat_first, flat_append, first_row_flat, from_bands, from_flat, EndsRow, until_next_row, begun_columns, next_row_further, passed_rows, same_columns_runs, EndAbove, end_lower, end_above_push, end_above_init, end_above_last, in_bands_append, bands_push, bands_taller}
 
 -- The lowest band is apart from those above it: `lowest` has one band, or none where there is no band at all.
 abbrev pub IsLowest : List Band → List Band → Type 0
@@ -55,11 +56,6 @@ one_flat b = flat_first b [] ∙ (ap (λ w. run_rectangles b.top b.bottom b.runs
 in_one : (b : Band) (x y : ℤ) → in_bands (b ∷ []) x y ≡ (within b.top y b.bottom && in_runs b.runs x)
 in_one b x y =
     in_bands_cons b [] x y ∙ (ap (λ w. (within b.top y b.bottom && in_runs b.runs x) || w) (in_bands_nil x y) ∙ or_none _)
-
--- no run has no rectangle
-no_runs : (top bottom : ℤ) → run_rectangles top bottom [] ≡ []
-unfolding run_rectangles
-no_runs top bottom = refl
 
 -- no band is joined to none below
 joined_none : (upper : List Rectangle) → joined_bottom upper [] ≡ None
@@ -306,7 +302,7 @@ not_nil r rs e = cc
 band_added : (row next : ℤ) (has : ℤ → ℤ → Bool) (last : ℕ) (out rects : List Rectangle) (rs : List Run) → row <ℤ next → AreRuns rs
     → rects ≡ out ++ run_rectangles row (next -ℤ pos 1) rs → IsMade row has last out → Joined next (with_row has row next rs) rects last (length out)
 band_added row next has last out rects [] f k m s =
-    let e : rects ≡ out = m ∙ (ap (λ w. out ++ w) (no_runs row (next -ℤ pos 1)) ∙ append-nil out) in
+    let e : rects ≡ out = m ∙ (ap (λ w. out ++ w) (no_rectangles row (next -ℤ pos 1)) ∙ append-nil out) in
     no_band row next has last out rects f s e
     (ap (λ w. joined_bottom (between last (length out) rects) w)
     (ap (drop (length out)) (e ∙ sym (append-nil out)) ∙ drop_at out [] (length out) refl)
@@ -348,11 +344,11 @@ made_same row has has' last out e s =
 module _ (operation : Operation) (a₀ b₀ left_a left_b : List Rectangle) (row : ℤ) (last : ℕ) (out : List Rectangle)
     (s : SweepState operation a₀ b₀ left_a left_b row last out) where
   -- the first bands lie from left to right
-  pub columns_a : AreColumns (begun_band left_a row)
+  pub columns_a : AreRuns (columns (begun_band left_a row))
   columns_a = rw (s.is_a) (begun_columns s.bands_a row s.are_a)
 
   -- the same of the second operand
-  pub columns_b : AreColumns (begun_band left_b row)
+  pub columns_b : AreRuns (columns (begun_band left_b row))
   columns_b = rw (s.is_b) (begun_columns s.bands_b row s.are_b)
 
   -- the last band begins in the list
@@ -389,9 +385,9 @@ module _ (operation : Operation) (a₀ b₀ left_a left_b : List Rectangle) (row
     segment_rows x y h k =
         let p = near_a in
         let q = near_b in
-        let a = s.same_a x y h ∙ (until_next_row s.bands_a row x y s.are_a s.ends_a h (omega (arith, ints)) ∙ ap (λ w. in_columns (begun_band w row) x) (sym s.is_a)) in
-        let b = s.same_b x y h ∙ (until_next_row s.bands_b row x y s.are_b s.ends_b h (omega (arith, ints)) ∙ ap (λ w. in_columns (begun_band w row) x) (sym s.is_b)) in
-        ap (λ w. holds operation w (covers b₀ x y)) a ∙ (ap (λ w. holds operation (in_columns (begun_band left_a row) x) w) b ∙ sym (r.has x))
+        let a = s.same_a x y h ∙ (until_next_row s.bands_a row x y s.are_a s.ends_a h (omega (arith, ints)) ∙ ap (λ w. in_runs (columns (begun_band w row)) x) (sym s.is_a)) in
+        let b = s.same_b x y h ∙ (until_next_row s.bands_b row x y s.are_b s.ends_b h (omega (arith, ints)) ∙ ap (λ w. in_runs (columns (begun_band w row)) x) (sym s.is_b)) in
+        ap (λ w. holds operation w (covers b₀ x y)) a ∙ (ap (λ w. holds operation (in_runs (columns (begun_band left_a row)) x) w) b ∙ sym (r.has x))
 
     -- one step of the sweep
     pub sweep_step : let o = joined_bottom (between last (length out) rects) (drop (length out) rects) in
@@ -448,6 +444,17 @@ pub sweep_further : (operation : Operation) (a₀ b₀ left_a left_b : List Rect
     → next_row left_a row ≤ℤ pos 32768 → next_row left_b row ≤ℤ pos 32768 → next ≡ int_min (next_row left_a row) (next_row left_b row) → row <ℤ next
 sweep_further operation a₀ b₀ left_a left_b row last out next s n l m g =
     further_step left_a left_b s.bands_a s.bands_b row next s.is_a s.is_b s.are_a s.are_b s.ends_a s.ends_b n l m g
+
+-- the first band that is left has rows ahead
+further_left : (left : List Rectangle) (bs : List Band) (row : ℤ) → left ≡ flat bs → AreBands bs → EndsRow row bs → 0 < length left → row <ℤ next_row left row
+further_left left [] row e h k n = absurd (omega (arith, ap length (e ∙ flat_nil)))
+further_left left (b ∷ bs) row e h k n = rw e (next_row_further b bs row h k)
+
+-- the same of either operand
+pub rows_left : (operation : Operation) (a₀ b₀ left_a left_b : List Rectangle) (row : ℤ) (last : ℕ) (out : List Rectangle) → SweepState operation a₀ b₀ left_a left_b row last out
+    → (0 < length left_a → row <ℤ next_row left_a row) × (0 < length left_b → row <ℤ next_row left_b row)
+rows_left operation a₀ b₀ left_a left_b row last out s =
+    (λ n. further_left left_a s.bands_a row s.is_a s.are_a s.ends_a n, λ n. further_left left_b s.bands_b row s.is_b s.are_b s.ends_b n)
 
 -- the first band does not end above where it begins
 first_ends_row : (rects : List Rectangle) (bs : List Band) (row : ℤ) → rects ≡ flat bs → AreBands bs → row ≤ℤ first_row rects → EndsRow row bs
@@ -506,23 +513,207 @@ sweep_start operation a b row h k l m n o =
       };
     }
 
--- where the sweep ends
-pub sweep_end : (operation : Operation) (a₀ b₀ : List Rectangle) (row : ℤ) (last : ℕ) (out : List Rectangle) → SweepState operation a₀ b₀ [] [] row last out
-    → IsCanonical out × ((x y : ℤ) → covers out x y ≡ holds operation (covers a₀ x y) (covers b₀ x y))
-sweep_end operation a₀ b₀ row last out s =
-    let m = s.made in
-    let e = m.made in
-    let canonical : IsCanonical out = rw e (flat_canonical (m.upper ++ m.lowest) m.are) in
-    let in_a : (x y : ℤ) → row ≤ℤ y → covers a₀ x y ≡ false = λ x y h.
-    s.same_a x y h ∙ (sym (covers_flat s.bands_a x y) ∙ (ap (λ w. covers w x y) (sym s.is_a) ∙ covers_nil x y)) in
-    let in_b : (x y : ℤ) → row ≤ℤ y → covers b₀ x y ≡ false = λ x y h.
-    s.same_b x y h ∙ (sym (covers_flat s.bands_b x y) ∙ (ap (λ w. covers w x y) (sym s.is_b) ∙ covers_nil x y)) in (
-      canonical,
-      λ x y. ap (λ w. covers w x y) e ∙ (covers_flat (m.upper ++ m.lowest) x y ∙ (m.pixels x y ∙ by_lt_z y row
-          (λ h. ap (λ w. w && holds operation (covers a₀ x y) (covers b₀ x y)) (lt_true y row h))
-          (λ h. ap (λ w. w && holds operation (covers a₀ x y) (covers b₀ x y)) (lt_false y row h)
-          ∙ sym (ap (λ w. holds operation w (covers b₀ x y)) (in_a x y h) ∙ (ap (λ w. holds operation false w) (in_b x y h) ∙ holds_none operation))))),
+-- a band ends above where the last one begins
+top_below : (u l : Band) (us : List Band) → AreBands (u ∷ (us ++ l ∷ [])) → u.bottom <ℤ l.top
+top_below u l [] h = h.1.0
+top_below u l (v ∷ us) h = let p = h.1.0 in let q = top_below v l us h.2 in let r = h.2.0.rows in omega (arith, ints)
+
+-- the bands end above where the last one begins
+end_top : (l : Band) (us : List Band) → AreBands (us ++ l ∷ []) → EndAbove l.top us
+end_top l [] h = tt
+end_top l (u ∷ us) h = (top_below u l us h, end_top l us h.2)
+
+-- the last row of the last band
+in_last : (l : Band) (us : List Band) (x : ℤ) → AreBands (us ++ l ∷ []) → in_bands (us ++ l ∷ []) x l.bottom ≡ in_runs l.runs x
+in_last l us x h =
+    let o = (last_is_band us l h).rows in
+    in_bands_append us (l ∷ []) x l.bottom
+    ∙ (ap (λ w. w || in_bands (l ∷ []) x l.bottom) (below_all us x l.bottom l.top (end_top l us h) o)
+    ∙ (in_one l x l.bottom ∙ ap (λ w. w && in_runs l.runs x) (within_true l.top l.bottom l.bottom o (omega (arith, ints)))))
+
+-- bands below bands
+bands_follow : (us : List Band) (l : Band) (cs : List Band) → AreBands (us ++ l ∷ []) → IsAbove l cs → AreBands cs → AreBands (us ++ l ∷ cs)
+bands_follow [] l cs h k m = (h.0, k, m)
+bands_follow (u ∷ []) l cs h k m = (h.0, h.1, bands_follow [] l cs h.2 k m)
+bands_follow (u ∷ v ∷ us) l cs h k m = (h.0, h.1, bands_follow (v ∷ us) l cs h.2 k m)
+
+-- the last band is above the others that are left, where those go on with other runs
+above_rest : (b l : Band) (cs : List Band) → IsAbove b cs → l.bottom ≤ℤ b.bottom → (l.bottom ≡ b.bottom → l.runs ≡ b.runs) → IsAbove l cs
+above_rest b l [] h k e = tt
+above_rest b l (c ∷ cs) h k e =
+    let p = h.0 in
+    (omega (arith, ints), λ q r. let f : l.bottom ≡ b.bottom = omega (arith, ints) in h.1 (ap (λ w. w +ℤ pos 1) (sym f) ∙ q) (sym (e f) ∙ r))
+
+-- the others that are left go below the bands that are made
+rest_bands : (b : Band) (bs : List Band) (top : ℤ) (has : ℤ → ℤ → Bool) (last : ℕ) (out : List Rectangle) → AreBands (b ∷ bs) → top ≤ℤ b.bottom
+    → ((x y : ℤ) → top ≤ℤ y → has x y ≡ false) → (upper lowest : List Band) → IsLowest upper lowest → AreBands (upper ++ lowest) → EndAbove (b.bottom +ℤ pos 1) (upper ++ lowest)
+    → ((x y : ℤ) → in_bands (upper ++ lowest) x y ≡ with_row has top (b.bottom +ℤ pos 1) b.runs x y) → AreBands ((upper ++ lowest) ++ bs)
+rest_bands b bs top has last out h k f upper [] s a e p = rw (append-nil upper ∙ s) h.2
+rest_bands b bs top has last out h k f upper (l ∷ []) s a e p =
+    let o = end_above_last (b.bottom +ℤ pos 1) l upper e in
+    let same : l.bottom ≡ b.bottom → l.runs ≡ b.runs = λ q.
+    one_run_list l.runs b.runs (last_is_band upper l a).runs h.0.runs (λ x.
+    sym (in_last l upper x a)
+    ∙ (p x l.bottom ∙ (ap (λ w. w || (within top l.bottom (b.bottom +ℤ pos 1 -ℤ pos 1) && in_runs b.runs x)) (f x l.bottom (omega (arith, ints)))
+    ∙ ap (λ w. w && in_runs b.runs x) (within_true top l.bottom (b.bottom +ℤ pos 1 -ℤ pos 1) (omega (arith, ints)) (omega (arith, ints)))))) in
+    rw (append_assoc upper (l ∷ []) bs) (bands_follow upper l bs a (above_rest b l bs h.1 (omega (arith, ints)) same) h.2)
+rest_bands b bs top has last out h k f upper (l ∷ v ∷ vs) s a e p = absurd s
+
+-- what is left of one region, by its first band
+module _ (t u : ℤ) (tail : List Rectangle) (row : ℤ) (last : ℕ) (out : List Rectangle) where
+  rest_app : (rs : List Run) → (rs ≡ [] → ⊥)
+      → with_rest (run_rectangles t u rs ++ tail) row last out
+      ≡ joined_to out last (run_rectangles (int_max row t) u (columns (take (band_length t (run_rectangles t u rs ++ tail)) (run_rectangles t u rs ++ tail))))
+      ++ drop (band_length t (run_rectangles t u rs ++ tail)) (run_rectangles t u rs ++ tail)
+  unfolding with_rest first_length run_rectangles
+  rest_app [] n = absurd (n refl)
+  rest_app (r ∷ rs) n = refl
+
+-- the list with all that is left of a region
+rest_flat : (b : Band) (bs : List Band) (row : ℤ) (last : ℕ) (out : List Rectangle) → AreBands (b ∷ bs)
+    → with_rest (flat (b ∷ bs)) row last out ≡ joined_to out last (run_rectangles (int_max row b.top) b.bottom b.runs) ++ flat bs
+rest_flat b bs row last out h =
+    let q = run_rectangles b.top b.bottom b.runs in
+    let n = length_first b bs h in
+    ap (λ w. with_rest w row last out) (flat_first b bs)
+    ∙ (rest_app b.top b.bottom (flat bs) row last out b.runs h.0.some
+    ∙ (ap (λ w. joined_to out last (run_rectangles (int_max row b.top) b.bottom (columns w)) ++ drop (band_length b.top (q ++ flat bs)) (q ++ flat bs)) (take_at q (flat bs) _ n)
+    ∙ (ap (λ w. joined_to out last (run_rectangles (int_max row b.top) b.bottom w) ++ drop (band_length b.top (q ++ flat bs)) (q ++ flat bs)) (columns_of_runs b.top b.bottom b.runs)
+    ∙ ap (λ w. joined_to out last (run_rectangles (int_max row b.top) b.bottom b.runs) ++ w) (drop_at q (flat bs) _ n))))
+
+-- the rows of a span from some row in it on
+within_from : (row t y u : ℤ) → row ≤ℤ y → within (int_max row t) y u ≡ within t y u
+within_from row t y u h =
+    by_lt_z y t
+    (λ a. within_below (int_max row t) y u (omega (arith, ints, clamps)) ∙ sym (within_below t y u a))
+    (λ a. by_lt_z u y
+    (λ b. within_above (int_max row t) y u b ∙ sym (within_above t y u b))
+    (λ b. within_true (int_max row t) y u (omega (arith, ints, clamps)) b ∙ sym (within_true t y u a b)))
+
+-- the rows that are left, and the rows above them
+rest_pixels : (b : Band) (bs : List Band) (row x y : ℤ) (has : Bool) → AreBands (b ∷ bs) → row ≤ℤ b.bottom → (row ≤ℤ y → has ≡ false)
+    → ((has || (within (int_max row b.top) y (b.bottom +ℤ pos 1 -ℤ pos 1) && in_runs b.runs x)) || in_bands bs x y) ≡ cond (int_lt y row) has (in_bands (b ∷ bs) x y)
+rest_pixels b bs row x y has h k f =
+    let e : b.bottom +ℤ pos 1 -ℤ pos 1 ≡ b.bottom = omega (arith, ints) in
+    let o = h.0.rows in
+    by_lt_z y row
+    (λ a. rw (
+      lt_true y row a,
+      within_below (int_max row b.top) y (b.bottom +ℤ pos 1 -ℤ pos 1) (omega (arith, ints, clamps)),
+      none_over bs x y h.2 (starts_below_less y b.bottom bs (omega (arith, ints)) (above_starts b bs h.1)),
+    ) (or_none (has || false) ∙ or_none has))
+    (λ a. rw (lt_false y row a, f a, e) (ap (λ w. (w && in_runs b.runs x) || in_bands bs x y) (within_from row b.top y b.bottom a) ∙ sym (in_bands_cons b bs x y)))
+
+-- nothing is left
+rest_none : (row : ℤ) (last : ℕ) (out : List Rectangle) → with_rest [] row last out ≡ out
+unfolding with_rest
+rest_none row last out = refl
+
+-- where one of two regions is left
+finish : (row : ℤ) (due : ℤ → ℤ → Bool) (last : ℕ) (out : List Rectangle) → IsMade row (λ x y. int_lt y row && due x y) last out
+    → (bs : List Band) → AreBands bs → EndsRow row bs → ((x y : ℤ) → row ≤ℤ y → due x y ≡ in_bands bs x y)
+    → IsCanonical (with_rest (flat bs) row last out) × ((x y : ℤ) → covers (with_rest (flat bs) row last out) x y ≡ due x y)
+finish row due last out s [] h k e =
+    let r : with_rest (flat []) row last out ≡ flat (s.upper ++ s.lowest) = ap (λ w. with_rest w row last out) flat_nil ∙ (rest_none row last out ∙ s.made) in (
+      rw r (flat_canonical (s.upper ++ s.lowest) s.are),
+      λ x y. ap (λ w. covers w x y) r ∙ (covers_flat (s.upper ++ s.lowest) x y ∙ (s.pixels x y ∙ by_lt_z y row
+          (λ a. ap (λ w. w && due x y) (lt_true y row a))
+          (λ a. ap (λ w. w && due x y) (lt_false y row a) ∙ sym (e x y a ∙ in_bands_nil x y)))),
     )
+finish row due last out s (b ∷ bs) h k e =
+    let top = int_max row b.top in
+    let next = b.bottom +ℤ pos 1 in
+    let o = h.0.rows in
+    let has : ℤ → ℤ → Bool = λ x y. int_lt y row && due x y in
+    let none : (x y : ℤ) → row ≤ℤ y → has x y ≡ false = λ x y a. ap (λ w. w && due x y) (lt_false y row a) in
+    let lower : IsMade top has last out = record {
+      upper = s.upper;
+      lowest = s.lowest;
+      short = s.short;
+      made = s.made;
+      place = s.place;
+      are = s.are;
+      ends = end_lower row top (s.upper ++ s.lowest) (omega (arith, ints, clamps)) s.ends;
+      pixels = s.pixels;
+    } in
+    let rects = out ++ run_rectangles top b.bottom b.runs in
+    let found = joined_bottom (between last (length out) rects) (drop (length out) rects) in
+    let j : IsMade next (with_row has top next b.runs) (last_place found rects last (length out)) (joined_rects found rects last (length out)) =
+    band_added top next has last out rects b.runs (omega (arith, ints, clamps)) h.0.runs
+    (ap (λ w. out ++ run_rectangles top w b.runs) (omega (arith, ints))) lower in
+    let us = j.upper ++ j.lowest in
+    let are = rest_bands b bs top has last out h (omega (arith, ints, clamps)) (λ x y a. none x y (omega (arith, ints, clamps))) j.upper j.lowest j.short j.are j.ends j.pixels in
+    let r : with_rest (flat (b ∷ bs)) row last out ≡ flat (us ++ bs) = rest_flat b bs row last out h ∙ (ap (λ w. w ++ flat bs) j.made ∙ sym (flat_append us bs)) in (
+      rw r (flat_canonical (us ++ bs) are),
+      λ x y. ap (λ w. covers w x y) r ∙ (covers_flat (us ++ bs) x y ∙ (in_bands_append us bs x y ∙ (ap (λ w. w || in_bands bs x y) (j.pixels x y)
+          ∙ (rest_pixels b bs row x y (has x y) h k (none x y) ∙ by_lt_z y row
+          (λ a. rw (lt_true y row a) refl)
+          (λ a. rw (lt_false y row a) (sym (e x y a))))))),
+    )
+
+-- an alternative that makes no difference
+cond_same : {A : Type 0} (t : Bool) (x : A) → cond t x x ≡ x
+cond_same true x = refl
+cond_same false x = refl
+
+-- where nothing is left there is no change
+pub rest_empty : (t : Bool) (rects : List Rectangle) (row : ℤ) (last : ℕ) (out : List Rectangle) → length rects ≡ 0 → cond t (with_rest rects row last out) out ≡ out
+rest_empty t rects row last out n =
+    ap (λ w. cond t w out) (ap (λ w. with_rest w row last out) (is_none rects n) ∙ rest_none row last out) ∙ cond_same t out
+
+-- the first band that is left begins above its end
+pub top_inside : (rects : List Rectangle) (r : Rectangle) (rs : List Rectangle) (row : ℤ) → rects ≡ r ∷ rs → row <ℤ next_row rects row → r.min_y ≤ℤ r.max_y → int_max row r.min_y ≤ℤ r.max_y
+unfolding next_row
+top_inside rects r rs row e h k =
+    let l : row <ℤ next_row (r ∷ rs) row = rw e at h in
+    by_lt_z row r.min_y
+    (λ a. omega (arith, ints, clamps))
+    (λ a. let m : row <ℤ (r.max_y +ℤ pos 1) = rw (lt_false row r.min_y a) at l in omega (arith, ints, clamps))
+
+-- the list that is made of it
+pub rest_made : (rects : List Rectangle) (r : Rectangle) (rs : List Rectangle) (n : ℕ) (row top bottom : ℤ) (last start : ℕ) (out copied joined : List Rectangle) → rects ≡ r ∷ rs
+    → n ≡ first_length rects → top ≡ int_max row r.min_y → bottom ≡ r.max_y → start ≡ length out → copied ≡ out ++ run_rectangles top bottom (columns (take n rects))
+    → joined ≡ joined_rects (joined_bottom (between last start copied) (drop start copied)) copied last start → joined ++ drop n rects ≡ with_rest rects row last out
+unfolding with_rest
+rest_made rects r rs n row top bottom last start out copied joined e f g h k l m =
+    let f' : n ≡ first_length (r ∷ rs) = f ∙ ap first_length e in
+    let l' : copied ≡ out ++ run_rectangles top bottom (columns (take n (r ∷ rs))) = l ∙ ap (λ w. out ++ run_rectangles top bottom (columns (take n w))) e in
+    rw (e, m, l', k, g, h, f') refl
+
+-- where one of two regions is left, kept or not
+end_one : (row : ℤ) (due : ℤ → ℤ → Bool) (last : ℕ) (out : List Rectangle) → IsMade row (λ x y. int_lt y row && due x y) last out
+    → (t : Bool) (rects : List Rectangle) (bs : List Band) → rects ≡ flat bs → AreBands bs → EndsRow row bs → ((x y : ℤ) → row ≤ℤ y → due x y ≡ cond t (in_bands bs x y) false)
+    → (all : List Rectangle) → all ≡ cond t (with_rest rects row last out) out → IsCanonical all × ((x y : ℤ) → covers all x y ≡ due x y)
+end_one row due last out s true rects bs f h k e all g = rw (g ∙ ap (λ w. with_rest w row last out) f) (finish row due last out s bs h k e)
+end_one row due last out s false rects bs f h k e all g =
+    rw (g ∙ (sym (rest_none row last out) ∙ ap (λ w. with_rest w row last out) (sym flat_nil)))
+    (finish row due last out s [] tt tt (λ x y a. e x y a ∙ sym (in_bands_nil x y)))
+
+-- where the sweep ends
+pub sweep_end : (operation : Operation) (a₀ b₀ left_a left_b : List Rectangle) (row : ℤ) (last : ℕ) (out first all : List Rectangle) → SweepState operation a₀ b₀ left_a left_b row last out
+    → (length left_a ≡ 0) ⊎ (length left_b ≡ 0) → first ≡ cond (holds operation true false) (with_rest left_a row last out) out
+    → all ≡ cond (holds operation false true) (with_rest left_b row last first) first
+    → IsCanonical all × ((x y : ℤ) → covers all x y ≡ holds operation (covers a₀ x y) (covers b₀ x y))
+sweep_end operation a₀ b₀ left_a left_b row last out first all s (inl n) f g =
+    let e = is_none left_a n in
+    let o : first ≡ out = f ∙ rest_empty (holds operation true false) left_a row last out n in
+    end_one row (λ x y. holds operation (covers a₀ x y) (covers b₀ x y)) last out s.made (holds operation false true) left_b s.bands_b s.is_b s.are_b s.ends_b
+    (λ x y h. ap (λ w. holds operation w (covers b₀ x y)) (s.same_a x y h ∙ (sym (covers_flat s.bands_a x y) ∙ (ap (λ w. covers w x y) (sym s.is_a ∙ e) ∙ covers_nil x y)))
+    ∙ (kept_second operation (holds operation false true) (covers b₀ x y) refl ∙ ap (λ w. cond (holds operation false true) w false) (s.same_b x y h)))
+    all (g ∙ ap (λ w. cond (holds operation false true) (with_rest left_b row last w) w) o)
+sweep_end operation a₀ b₀ left_a left_b row last out first all s (inr n) f g =
+    let e = is_none left_b n in
+    let o : all ≡ first = g ∙ rest_empty (holds operation false true) left_b row last first n in
+    end_one row (λ x y. holds operation (covers a₀ x y) (covers b₀ x y)) last out s.made (holds operation true false) left_a s.bands_a s.is_a s.are_a s.ends_a
+    (λ x y h. ap (λ w. holds operation (covers a₀ x y) w) (s.same_b x y h ∙ (sym (covers_flat s.bands_b x y) ∙ (ap (λ w. covers w x y) (sym s.is_b ∙ e) ∙ covers_nil x y)))
+    ∙ (kept operation (holds operation true false) (covers a₀ x y) refl ∙ ap (λ w. cond (holds operation true false) w false) (s.same_a x y h)))
+    all (o ∙ f)
+
+-- the last band begins in the list also behind what is left of the first operand
+pub place_second : (t : Bool) (left_a left_b : List Rectangle) (row : ℤ) (last : ℕ) (out first : List Rectangle) → (length left_a ≡ 0) ⊎ (length left_b ≡ 0)
+    → first ≡ cond t (with_rest left_a row last out) out → last ≤ length out → 0 < length left_b → last ≤ length first
+place_second t left_a left_b row last out first (inl n) f h k = omega (arith, ap length (f ∙ rest_empty t left_a row last out n))
+place_second t left_a left_b row last out first (inr n) f h k = absurd (omega arith)
 
 -- the same row by other terms
 pub row_of_terms : (operation : Operation) (a b : List Rectangle) (top bottom : ℤ) (before after : List Rectangle) (a' b' : List Rectangle) (top' bottom' : ℤ)

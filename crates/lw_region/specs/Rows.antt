@@ -4,10 +4,16 @@ use Rattle.std.specs.List.{prefix_len, between}
 use Rattle.std.specs.Int.{int_max}
 use Rattle.std.specs.Ordering.{int_eq}
 use Rattle.lw_region.specs.Rectangle.{Rectangle}
+use Rattle.lw_region.specs.Columns.{columns, run_rectangles}
 
 -- how many rectangles the list begins with that have this top row
 unfoldable pub band_length : ℤ → List Rectangle → ℕ
 band_length top rects = prefix_len (λ r. int_eq r.min_y top) rects
+
+-- how many rectangles the first band has
+unfoldable pub first_length : List Rectangle → ℕ
+first_length [] = 0
+first_length (r ∷ rs) = band_length r.min_y (r ∷ rs)
 
 -- where the first band begins, or the end of the range
 unfoldable pub first_row : List Rectangle → ℤ
@@ -56,3 +62,14 @@ joined_rects (Some bottom) rects last start = take last rects ++ map (λ r. down
 abbrev pub last_place : Option ℤ → List Rectangle → ℕ → ℕ → ℕ
 last_place None rects last start = cond (nat_lt start (length rects)) start last
 last_place (Some bottom) rects last start = last
+
+-- the list with a further band from its end on, joined to its last band, from `last` on, where it goes on with the same columns
+abbrev pub joined_to : List Rectangle → ℕ → List Rectangle → List Rectangle
+joined_to out last band =
+    joined_rects (joined_bottom (between last (length out) (out ++ band)) (drop (length out) (out ++ band))) (out ++ band) last (length out)
+
+-- the list with all that is left of a region from row y on: its first band, and the others as they are
+unfoldable pub with_rest : List Rectangle → ℤ → ℕ → List Rectangle → List Rectangle
+with_rest [] y last out = out
+with_rest (r ∷ rs) y last out =
+    joined_to out last (run_rectangles (int_max y r.min_y) r.max_y (columns (take (first_length (r ∷ rs)) (r ∷ rs)))) ++ drop (first_length (r ∷ rs)) (r ∷ rs)

@@ -1,9 +1,11 @@
 ghost use Rattle.std.specs.Prelude.{◌≡◌, ◌≤◌, cond, map, length, take, drop, ◌++◌, pos, negsuc, ◌≤ℤ◌, vec_len};
 ghost use Rattle.std.specs.List.{between};
-ghost use Rattle.lw_region.specs.Rows.{band_length, first_row, next_row, begun_band, from_row, same_columns, joined_bottom, down_to, joined_rects, last_place};
+ghost use Rattle.lw_region.specs.Rows.{band_length, first_length, first_row, next_row, begun_band, from_row, same_columns, joined_bottom, down_to, joined_rects, last_place};
 
 use crate::rect::Rect;
-use crate::row::END;
+
+// The row behind the last one of the range.
+const END: i32 = 32768;
 
 #[tactic(auto, using(std::proofs::lemmas::Int::ints), unfolding(crate::specs::Rows::first_row))]
 pub(crate) fn first_row(rects: &[Rect]) -> i32
@@ -48,15 +50,30 @@ fn band_length(top: i16, rects: &[Rect]) -> usize
     rects.len()
 }
 
-#[tactic(auto, using(std::proofs::lemmas::Int::ints), unfolding(crate::specs::Rows::begun_band))]
-pub(crate) fn begun_band(rects: &[Rect], row: i32) -> &[Rect]
+// How many rectangles the first band has.
+#[tactic(auto, unfolding(crate::specs::Rows::first_length))]
+pub(crate) fn first_length(rects: &[Rect]) -> usize
+    ensures value { result ≡ first_length rects.now }
+    ensures most { result ≤ length rects.now }
+{
+    match rects.split_first() {
+        None => 0,
+        Some((rect, _)) => band_length(rect.min_y(), rects),
+    }
+}
+
+// The first band, where it has begun at row `row`; `count` is how many rectangles it has.
+#[tactic(auto, using(std::proofs::lemmas::Int::ints), unfolding(crate::specs::Rows::begun_band, crate::specs::Rows::first_length))]
+pub(crate) fn begun_band(rects: &[Rect], count: usize, row: i32) -> &[Rect]
+    requires count { count ≡ first_length rects.now }
+    requires inside { count ≤ length rects.now }
     ensures { result.now ≡ begun_band rects.now row }
 {
     match rects.split_first() {
         None => rects,
         Some((rect, _)) => {
             if i32::from(rect.min_y()) <= row {
-                &rects[..band_length(rect.min_y(), rects)]
+                &rects[..count]
             } else {
                 &rects[..0]
             }
@@ -64,17 +81,24 @@ pub(crate) fn begun_band(rects: &[Rect], row: i32) -> &[Rect]
     }
 }
 
-#[tactic(auto, using(std::proofs::lemmas::Int::ints), unfolding(crate::specs::Rows::from_row))]
-pub(crate) fn from_row(rects: &[Rect], row: i32) -> &[Rect]
-    ensures { result.now ≡ from_row rects.now row }
+// The rectangles without the first band, where that ends before row `row`, and how many rectangles the first band
+// of these has; `count` is how many the first band has.
+#[tactic(auto, using(std::proofs::lemmas::Int::ints), unfolding(crate::specs::Rows::from_row, crate::specs::Rows::first_length))]
+pub(crate) fn from_row(rects: &[Rect], count: usize, row: i32) -> (&[Rect], usize)
+    requires count { count ≡ first_length rects.now }
+    requires inside { count ≤ length rects.now }
+    ensures left { result.0.now ≡ from_row rects.now row }
+    ensures count { result.1 ≡ first_length result.0.now }
+    ensures inside { result.1 ≤ length result.0.now }
 {
     match rects.split_first() {
-        None => rects,
+        None => (rects, count),
         Some((rect, _)) => {
             if i32::from(rect.max_y()) < row {
-                &rects[band_length(rect.min_y(), rects)..]
+                let left = &rects[count..];
+                (left, first_length(left))
             } else {
-                rects
+                (rects, count)
             }
         }
     }

@@ -1,19 +1,9 @@
 //! Rectangles and regions of pixels (the manual's Graphics Primitives and Layers Library chapters).
 //!
-//! A region is kept as y-x bands: its rows are cut into bands as tall as possible in each of which every row has the
-//! same runs of pixels, and each run of a band is one rectangle. So the set on the left has the five rectangles on the
-//! right, in the order of their numbers:
-//!
-//! ```text
-//! ##..####        11..2222
-//! ##..####        11..2222
-//! ########        33333333
-//! ..##..##        ..44..55
-//! ```
-//!
-//! Every operation is one sweep over the bands of both operands (`sweep`), and in each stretch of rows one sweep over
-//! the columns of the two bands there (`row`); what is made is joined to the band above where it goes on (`band`).
-//! No set of pixels is ever written out.
+//! A region is kept as y-x bands, which the head of `region` explains with a picture. Every operation is one sweep over
+//! the bands of both operands (`sweep`), and where both have a band, one merge of the runs of the two, rectangle by
+//! rectangle (`row`); what is made is joined to the band above where it goes on (`band`). No set of pixels is ever
+//! written out.
 #![tactic(auto)]
 
 mod band;
@@ -29,7 +19,7 @@ pub use laws::{
     set_of_list_law, set_operations_law, worked_example_law,
 };
 pub use rect::Rect;
-pub use region::{Region, and_region, or_region, xor_region};
+pub use region::{Region, and_region, clear_region, or_region, xor_region};
 
 #[cfg(test)]
 mod tests;

@@ -1,3 +1,27 @@
+// A region is kept as y-x bands. Its rows are cut into bands, as tall as possible, in each of which every row has the
+// same runs of pixels; a run of a band is one rectangle. So the pixels on the left are the six rectangles A to F, in
+// this order, of three bands:
+//
+//     ....##....##....        ....AA....BB....    band 1: rows 0 to 1, runs A and B
+//     ....##....##....        ....AA....BB....
+//     ..##############        ..CCCCCCCCCCCCCC    band 2: row 2, run C
+//     ..####..##..####        ..DDDD..EE..FFFF    band 3: rows 3 to 4, runs D, E and F
+//     ..####..##..####        ..DDDD..EE..FFFF
+//
+// Two runs of a band neither touch nor overlap: a free column is between them. Two bands that touch have different
+// runs, or they were one. So a set has one list, and two regions are one set exactly where their lists are equal.
+//
+// An operation sweeps down both lists at once (sweep.rt). Each band, and each gap between bands, is cut where one of
+// the other operand begins or is over, so that in each piece both operands have the same runs in all rows:
+//
+//     first      second      pieces, and what a union makes of them
+//     AAAA....   ........    A alone                   AAAA....     copied
+//     AAAA....   ..XXXX..    A and X                   MMMMMM..     merged, run by run (row.rt)
+//     ........   ..XXXX..    X alone                   ..XXXX..     copied
+//     ....BB..   ........    B, with nothing below     ....BB..     the rest is copied in one piece
+//
+// What a piece adds is joined to the band above where it goes on with the same runs (band.rt).
+
 ghost use Rattle.std.specs.Prelude.{◌≡◌, ◌&&◌, ◌||◌, not, List, [], ◌∷◌, ℤ, IfOk, OnOk, OnErr};
 ghost use Rattle.lw_region.specs.Rectangle.{has_pixel};
 ghost use Rattle.lw_region.specs.Pixels.{pixels_of, union, intersection, difference, symmetric_difference};
@@ -184,4 +208,18 @@ pub fn xor_region(alloc: Global, from: &Region, into: &mut Region) -> Result<(),
     ensures err { OnErr result (into.new ≡ into.old) }
 {
     into.combine(alloc, Operation::SymmetricDifference, from.rects())
+}
+
+/// Takes the pixels of `from` out of `into` (this project's own: the manual has the call for a rectangle alone). After an
+/// error both are as before.
+pub fn clear_region(alloc: Global, from: &Region, into: &mut Region) -> Result<(), AllocError>
+    ensures pixels { OnOk result
+        ((x y : ℤ) → covers into.new x y ≡ (covers into.old x y && not (covers from.now x y))) }
+    ensures set { OnOk result
+        (pixels_of into.new ≡ difference (pixels_of into.old) (pixels_of from.now)) }
+    ensures list { OnOk result
+        (into.new ≡ bands (difference (pixels_of into.old) (pixels_of from.now))) }
+    ensures err { OnErr result (into.new ≡ into.old) }
+{
+    into.combine(alloc, Operation::Difference, from.rects())
 }

@@ -1,4 +1,4 @@
-use super::{Rect, Region, and_region, or_region, xor_region};
+use super::{Rect, Region, and_region, clear_region, or_region, xor_region};
 use std::alloc::Global;
 use std::mem;
 use std::test::Fail;
@@ -26,7 +26,7 @@ struct Case {
     due: &'static [[i16; 4]],
 }
 
-static CASES: [Case; 30] = [
+static CASES: [Case; 31] = [
     // Operands that touch at a vertical edge, at a horizontal edge and at a corner.
     Case {
         first: &[[0, 0, 3, 3]],
@@ -216,6 +216,22 @@ static CASES: [Case; 30] = [
         second: &[[1, 0, GREATEST, 0], [LEAST, 1, GREATEST, GREATEST]],
         due: &[[LEAST, 0, GREATEST, GREATEST]],
     },
+    // Holes in one band, and one that reaches over two rectangles.
+    Case {
+        first: &[[0, 0, 9, 3], [12, 0, 15, 3]],
+        call: Call::Clear,
+        second: &[[1, 1, 2, 2], [5, 1, 6, 2], [8, 1, 12, 2]],
+        due: &[
+            [0, 0, 9, 0],
+            [12, 0, 15, 0],
+            [0, 1, 0, 2],
+            [3, 1, 4, 2],
+            [7, 1, 7, 2],
+            [13, 1, 15, 2],
+            [0, 3, 9, 3],
+            [12, 3, 15, 3],
+        ],
+    },
 ];
 
 fn rect_of(bounds: [i16; 4]) -> Result<Rect, Fail> {
@@ -255,17 +271,13 @@ fn call_rect(alloc: Global, region: &mut Region, call: Call, rect: &Rect) -> Res
     Ok(())
 }
 
-// The same by a whole region; what is cleared goes rectangle by rectangle.
+// The same by a whole region.
 fn call_region(alloc: Global, from: &Region, into: &mut Region, call: Call) -> Result<(), Fail> {
     match call {
         Call::Or => or_region(alloc, from, into)?,
         Call::And => and_region(alloc, from, into)?,
         Call::Xor => xor_region(alloc, from, into)?,
-        Call::Clear => {
-            for rect in from.rects() {
-                into.clear_rect(alloc, rect)?;
-            }
-        }
+        Call::Clear => clear_region(alloc, from, into)?,
     }
     Ok(())
 }

@@ -1,0 +1,114 @@
+// Bits of one row that become whole bytes of another.
+
+ghost use Rattle.std.specs.Prelude.{◌≡◌, ℕ, ◌+◌, ◌-◌, ◌*◌, ◌^◌, ◌<◌, ◌≤◌, if◌then◌else◌, length};
+ghost use Rattle.lw_planes.specs.Row.{row_bit};
+ghost use Rattle.lw_kernels.specs.Kernel.{is_between};
+
+use crate::bytes::shifted;
+
+// From this many bytes on each shift has a loop of its own: vectors of bytes are shifted fast only by a constant, but
+// for fewer bytes the way to the loop is dearer.
+const MANY: usize = 16;
+
+// Gives the bytes from `first` on, before `last`, the bits of the source from `place` on.
+#[inline(always)]
+pub(crate) fn copy_bytes(to: &mut [u8], first: usize, last: usize, source: &[u8], place: usize)
+    requires near { place < 2 ^ 60 }
+    requires ordered { first ≤ last }
+    requires inside { last ≤ length to.old }
+    requires source_inside { place + 8 * (last - first) ≤ 8 * length source.now }
+    ensures { (x : ℕ) → row_bit to.new x ≡ (if is_between (8 * first) (8 * last) x
+        then row_bit source.now (place + (x - 8 * first))
+        else row_bit to.old x) }
+{
+    let start = place / 8;
+    let shift = place % 8;
+    if shift == 0 {
+        copy_unshifted(to, first, last, source, start);
+    } else if last - first < MANY {
+        copy_shifted(to, first, last, source, start, shift);
+    } else {
+        copy_many(to, first, last, source, start, shift);
+    }
+}
+
+// From byte `start` of the source on. The compiler makes one store of a fixed number of bytes, which may be written
+// twice, and a call of `memcpy` of any other.
+#[inline(always)]
+fn copy_unshifted(to: &mut [u8], first: usize, last: usize, source: &[u8], start: usize)
+    requires near { start < 2 ^ 60 }
+    requires ordered { first ≤ last }
+    requires inside { last ≤ length to.old }
+    requires source_inside { start + (last - first) ≤ length source.now }
+    ensures { (x : ℕ) → row_bit to.new x ≡ (if is_between (8 * first) (8 * last) x
+        then row_bit source.now (8 * start + (x - 8 * first))
+        else row_bit to.old x) }
+{
+    let count = last - first;
+    if count > 8 {
+        copy_whole(to, first, last, source, start);
+    } else if count >= 4 {
+        copy_whole(to, first, first + 4, source, start);
+        copy_whole(to, last - 4, last, source, start + count - 4);
+    } else if count >= 2 {
+        copy_whole(to, first, first + 2, source, start);
+        copy_whole(to, last - 2, last, source, start + count - 2);
+    } else if count == 1 {
+        copy_whole(to, first, first + 1, source, start);
+    }
+}
+
+// As `copy_unshifted`.
+#[inline(always)]
+fn copy_whole(to: &mut [u8], first: usize, last: usize, source: &[u8], start: usize)
+    requires ordered { first ≤ last }
+    requires inside { last ≤ length to.old }
+    requires source_inside { start + (last - first) ≤ length source.now }
+    ensures { (x : ℕ) → row_bit to.new x ≡ (if is_between (8 * first) (8 * last) x
+        then row_bit source.now (8 * start + (x - 8 * first))
+        else row_bit to.old x) }
+{
+    to[first..last].copy_from_slice(&source[start..start + (last - first)]);
+}
+
+// From bit `shift` of byte `start` of the source on.
+#[inline(always)]
+fn copy_shifted(to: &mut [u8], first: usize, last: usize, source: &[u8], start: usize, shift: usize)
+    requires some { 0 < shift }
+    requires low { shift < 8 }
+    requires near { start < 2 ^ 60 }
+    requires ordered { first ≤ last }
+    requires inside { last ≤ length to.old }
+    requires source_inside { start + (last - first) < length source.now }
+    ensures { (x : ℕ) → row_bit to.new x ≡ (if is_between (8 * first) (8 * last) x
+        then row_bit source.now (8 * start + shift + (x - 8 * first))
+        else row_bit to.old x) }
+{
+    for index in first..last {
+        let at = start + (index - first);
+        to[index] = shifted(source[at], source[at + 1], shift);
+    }
+}
+
+// As `copy_shifted`.
+fn copy_many(to: &mut [u8], first: usize, last: usize, source: &[u8], start: usize, shift: usize)
+    requires some { 0 < shift }
+    requires low { shift < 8 }
+    requires near { start < 2 ^ 60 }
+    requires ordered { first ≤ last }
+    requires inside { last ≤ length to.old }
+    requires source_inside { start + (last - first) < length source.now }
+    ensures { (x : ℕ) → row_bit to.new x ≡ (if is_between (8 * first) (8 * last) x
+        then row_bit source.now (8 * start + shift + (x - 8 * first))
+        else row_bit to.old x) }
+{
+    match shift {
+        1 => copy_shifted(to, first, last, source, start, 1),
+        2 => copy_shifted(to, first, last, source, start, 2),
+        3 => copy_shifted(to, first, last, source, start, 3),
+        4 => copy_shifted(to, first, last, source, start, 4),
+        5 => copy_shifted(to, first, last, source, start, 5),
+        6 => copy_shifted(to, first, last, source, start, 6),
+        _ => copy_shifted(to, first, last, source, start, 7),
+    }
+}
