@@ -9,9 +9,9 @@ use Rattle.lw_calls.specs.declared.group.Hold.{Hold}
 use Rattle.lw_calls.specs.declared.group.Hold.TheVariants.{Slot, All as AllLayers}
 use Rattle.lw_calls.specs.declared.group.Group.{Group}
 use Rattle.lw_calls.specs.Touches.{slots_of}
-use Rattle.lw_calls.specs.Planned.{is_one, is_all, may_be_locked, are_locked, are_an_update, end_an_update, may_stand, group_calls, group_fits, groups_fit}
+use Rattle.lw_calls.specs.Plan.{is_one, is_all, may_be_locked, are_locked, are_an_update, end_an_update, may_stand, group_calls, group_fits, groups_fit}
 use Rattle.lw_calls.specs.Orders.{meets, is_open}
-use Rattle.lw_calls.specs.OrderState.{groups_over, progress_at, is_held_by, over_more, progress_more}
+use Rattle.lw_calls.specs.Code.OrderState.{groups_over, progress_at, is_held_by, over_more, progress_more}
 use Rattle.std.proofs.lemmas.Bool.{true≢false, false≢true, lt-ltb, le-ltb, lt-leb, ltb-true, ltb-false, leb-true, eqb-true, and_parts}
 use Rattle.std.proofs.lemmas.Bool.Decides.{nat_tests}
 use Rattle.std.proofs.Math.Bool.{or-false}

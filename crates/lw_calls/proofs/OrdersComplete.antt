@@ -5,7 +5,7 @@ use Rattle.lw_calls.specs.declared.call.Call.{Call}
 use Rattle.lw_calls.specs.declared.touch.Touch.{Touch}
 use Rattle.lw_calls.specs.declared.group.Hold.{Hold}
 use Rattle.lw_calls.specs.Touches.{slots_of, touches_info, touch_of}
-use Rattle.lw_calls.specs.Planned.{Planned, IsPlan, task_calls, task_groups}
+use Rattle.lw_calls.specs.Plan.{Plan, IsPlan, task_calls, task_groups}
 use Rattle.lw_calls.specs.Orders.{occurrences, keeps_off, may_come, keeps_groups, is_complete, Begins}
 use Rattle.lw_calls.proofs.OrderGroups.{hold_at, meets_some, inside, any_as_hold, none_at_first, more_within, next_inside, last_inside, clash, clash_sym, meets_inside}
 use Rattle.std.proofs.lemmas.Bool.{true≢false, false≢true, ltb-true, ltb-false, eqb-true, eqb-false, eq-eqb, ne_eqb, and_parts, and_from}
@@ -77,16 +77,16 @@ find_below p (suc n) = step (p n) refl (find_below p n)
     step false e (inr none) = inr (last e none)
 
 -- what the group holds that a task is within after the past
-abbrev pub hold_of : Planned → List ℕ → ℕ → Option Hold
+abbrev pub hold_of : Plan → List ℕ → ℕ → Option Hold
 hold_of plan past t = hold_at (occurrences t past) (task_groups plan t)
 
 -- No task made more calls than it has, and no two tasks are within groups that hold something in common.
-pub record Good (plan : Planned) (past : List ℕ) : Type 0 where
+pub record Good (plan : Plan) (past : List ℕ) : Type 0 where
   pub few : (t : ℕ) → occurrences t past ≤ length (task_calls plan t)
   pub apart : (t u : ℕ) → t < plan.sizes.tasks → u < plan.sizes.tasks → (t ≡ u → ⊥) → (h k : Hold) → hold_of plan past t ≡ Some h → hold_of plan past u ≡ Some k → clash h k ≡ false
 
 -- nothing was done before the first call
-pub good_first : (plan : Planned) → Good plan []
+pub good_first : (plan : Plan) → Good plan []
 good_first plan = record {
   few = λ t. omega arith;
   apart = λ t u low high other h k at there. absurd (none h (sym at ∙ none_at_first (task_groups plan t)));
@@ -96,7 +96,7 @@ good_first plan = record {
     none h e = search rules
 
 -- a call that may come is kept off by no other task
-kept_off_by_none : (plan : Planned) (past : List ℕ) (t : ℕ) (c : Call) (u : ℕ) → may_come plan past t (Some c) ≡ true → u < plan.sizes.tasks → (u ≡ t → ⊥) → keeps_off plan past (touch_of t c) u ≡ false
+kept_off_by_none : (plan : Plan) (past : List ℕ) (t : ℕ) (c : Call) (u : ℕ) → may_come plan past t (Some c) ≡ true → u < plan.sizes.tasks → (u ≡ t → ⊥) → keeps_off plan past (touch_of t c) u ≡ false
 kept_off_by_none plan past t c u may low other =
     step (u == t) (keeps_off plan past (touch_of t c) u) (ne_eqb u t other)
     (all_below (λ t2. (t2 == t) || not (keeps_off plan past (touch_of t c) t2)) plan.sizes.tasks u may low)
@@ -107,7 +107,7 @@ kept_off_by_none plan past t c u may low other =
     step false false e h = refl
 
 -- the converse
-comes_if_free : (plan : Planned) (past : List ℕ) (t : ℕ) (c : Call) → ((u : ℕ) → u < plan.sizes.tasks → (u ≡ t → ⊥) → keeps_off plan past (touch_of t c) u ≡ false) → may_come plan past t (Some c) ≡ true
+comes_if_free : (plan : Plan) (past : List ℕ) (t : ℕ) (c : Call) → ((u : ℕ) → u < plan.sizes.tasks → (u ≡ t → ⊥) → keeps_off plan past (touch_of t c) u ≡ false) → may_come plan past t (Some c) ≡ true
 comes_if_free plan past t c free =
     all_range (λ u. (u == t) || not (keeps_off plan past (touch_of t c) u)) plan.sizes.tasks
     (λ u low. step (u == t) refl (keeps_off plan past (touch_of t c) u) (free u low))
@@ -117,25 +117,25 @@ comes_if_free plan past t c free =
     step {u} false e b off = ap not (off (eqb-false u t e))
 
 -- what keeps a call off, by the hold that a task is within
-pub off_by_hold : (plan : Planned) → IsPlan plan → (past : List ℕ) (touch : Touch) (u : ℕ) → keeps_off plan past touch u ≡ meets_some touch (hold_of plan past u)
+pub off_by_hold : (plan : Plan) → IsPlan plan → (past : List ℕ) (touch : Touch) (u : ℕ) → keeps_off plan past touch u ≡ meets_some touch (hold_of plan past u)
 off_by_hold plan ok past touch u = any_as_hold (task_calls plan u) (task_groups plan u) (occurrences u past) touch (ok.groups u)
 
 -- a call inside a group that may come touches nothing that another task's group holds
-apart_from_call : (plan : Planned) → IsPlan plan → (past : List ℕ) (t : ℕ) (c : Call) (u : ℕ) (h k : Hold) → may_come plan past t (Some c) ≡ true → u < plan.sizes.tasks → (u ≡ t → ⊥) → inside h (slots_of c) ≡ true → hold_of plan past u ≡ Some k → clash h k ≡ false
+apart_from_call : (plan : Plan) → IsPlan plan → (past : List ℕ) (t : ℕ) (c : Call) (u : ℕ) (h k : Hold) → may_come plan past t (Some c) ≡ true → u < plan.sizes.tasks → (u ≡ t → ⊥) → inside h (slots_of c) ≡ true → hold_of plan past u ≡ Some k → clash h k ≡ false
 apart_from_call plan ok past t c u h k may low other in_h at =
     sym (meets_inside h k t (touches_info c) (slots_of c) in_h) ∙
     (ap (meets_some (touch_of t c)) (sym at) ∙
     (sym (off_by_hold plan ok past (touch_of t c) u) ∙ kept_off_by_none plan past t c u may low other))
 
 -- after a call of its own, and after one of another task
-hold_again : (plan : Planned) (past : List ℕ) (t : ℕ) → hold_of plan (past ++ t ∷ []) t ≡ hold_at (occurrences t past + 1) (task_groups plan t)
+hold_again : (plan : Plan) (past : List ℕ) (t : ℕ) → hold_of plan (past ++ t ∷ []) t ≡ hold_at (occurrences t past + 1) (task_groups plan t)
 hold_again plan past t = ap (λ n. hold_at n (task_groups plan t)) (occurs_again t past)
 
-hold_as_before : (plan : Planned) (past : List ℕ) (t u : ℕ) → (t ≡ u → ⊥) → hold_of plan (past ++ t ∷ []) u ≡ hold_of plan past u
+hold_as_before : (plan : Plan) (past : List ℕ) (t u : ℕ) → (t ≡ u → ⊥) → hold_of plan (past ++ t ∷ []) u ≡ hold_of plan past u
 hold_as_before plan past t u other = ap (λ n. hold_at n (task_groups plan u)) (occurs_as_before u t past other)
 
 -- a call that may come leaves what is good good
-pub good_more : (plan : Planned) → IsPlan plan → (past : List ℕ) (t : ℕ) (c : Call) → Good plan past → slice_get (task_calls plan t) (occurrences t past) ≡ Some c → may_come plan past t (Some c) ≡ true → Good plan (past ++ t ∷ [])
+pub good_more : (plan : Plan) → IsPlan plan → (past : List ℕ) (t : ℕ) (c : Call) → Good plan past → slice_get (task_calls plan t) (occurrences t past) ≡ Some c → may_come plan past t (Some c) ≡ true → Good plan (past ++ t ∷ [])
 good_more plan ok past t c good at may = record {
   few = λ u. few u (t == u) refl;
   apart = λ u v low high other h k held there. apart u v low high other h k held there (t == u) refl (t == v) refl;
@@ -170,7 +170,7 @@ good_more plan ok past t c good at may = record {
         good.apart u v low high other h k (sym (hold_as_before plan past t u (eqb-false t u e)) ∙ held) (sym (hold_as_before plan past t v (eqb-false t v d)) ∙ there)
 
 -- numbers that keep the groups leave what is good good
-pub good_after : (plan : Planned) → IsPlan plan → (numbers past : List ℕ) → Good plan past → keeps_groups plan past numbers ≡ true → Good plan (past ++ numbers)
+pub good_after : (plan : Plan) → IsPlan plan → (numbers past : List ℕ) → Good plan past → keeps_groups plan past numbers ≡ true → Good plan (past ++ numbers)
 good_after plan ok [] past good keeps = subst (Good plan) (sym (append-nil past)) good
 good_after plan ok (t ∷ ts) past good keeps =
     subst (Good plan) (append_assoc past (t ∷ []) ts)
@@ -182,11 +182,11 @@ good_after plan ok (t ∷ ts) past good keeps =
     step (Some c) e may = good_more plan ok past t c good e may
 
 -- how many calls the tasks below n have left
-abbrev left : Planned → List ℕ → ℕ → ℕ
+abbrev left : Plan → List ℕ → ℕ → ℕ
 left plan past zero = 0
 left plan past (suc n) = (length (task_calls plan n) - occurrences n past) + left plan past n
 
-left_as_before : (plan : Planned) (past : List ℕ) (t n : ℕ) → n ≤ t → left plan (past ++ t ∷ []) n ≡ left plan past n
+left_as_before : (plan : Plan) (past : List ℕ) (t n : ℕ) → n ≤ t → left plan (past ++ t ∷ []) n ≡ left plan past n
 left_as_before plan past t zero low = refl
 left_as_before plan past t (suc n) low =
     let same = occurs_as_before n t past (λ e. omega (arith, e)) in
@@ -194,7 +194,7 @@ left_as_before plan past t (suc n) low =
     ap (λ k. (length (task_calls plan n) - occurrences n past) + k) (left_as_before plan past t n (omega arith))
 
 -- a call of one of them leaves one less
-left_falls : (plan : Planned) (past : List ℕ) (t n : ℕ) → t < n → occurrences t past < length (task_calls plan t) → left plan (past ++ t ∷ []) n + 1 ≡ left plan past n
+left_falls : (plan : Plan) (past : List ℕ) (t n : ℕ) → t < n → occurrences t past < length (task_calls plan t) → left plan (past ++ t ∷ []) n + 1 ≡ left plan past n
 left_falls plan past t zero low more = absurd (omega arith)
 left_falls plan past t (suc n) low more = step (t == n) refl (λ below. left_falls plan past t n below more)
   where
@@ -219,7 +219,7 @@ left_falls plan past t (suc n) low more = step (t == n) refl (λ below. left_fal
         omega arith
 
 -- a task whose next call may come
-record Next (plan : Planned) (past : List ℕ) : Type 0 where
+record Next (plan : Plan) (past : List ℕ) : Type 0 where
   pub task : ℕ
   pub low : task < plan.sizes.tasks
   pub call : Call
@@ -227,7 +227,7 @@ record Next (plan : Planned) (past : List ℕ) : Type 0 where
   pub may : may_come plan past task (Some call) ≡ true
 
 -- the next call of a task that has one left
-call_left : (plan : Planned) (past : List ℕ) (t : ℕ) → occurrences t past < length (task_calls plan t) → (c : Call) × (slice_get (task_calls plan t) (occurrences t past) ≡ Some c)
+call_left : (plan : Plan) (past : List ℕ) (t : ℕ) → occurrences t past < length (task_calls plan t) → (c : Call) × (slice_get (task_calls plan t) (occurrences t past) ≡ Some c)
 call_left plan past t low = got (task_calls plan t) (occurrences t past) low
   where
     got : (calls : List Call) (i : ℕ) → i < length calls → (c : Call) × (slice_get calls i ≡ Some c)
@@ -236,7 +236,7 @@ call_left plan past t low = got (task_calls plan t) (occurrences t past) low
     got (c ∷ cs) (suc i) low = got cs i (omega arith)
 
 -- a task within a group may make its next call
-next_within : (plan : Planned) → IsPlan plan → (past : List ℕ) (t : ℕ) (h : Hold) → Good plan past → t < plan.sizes.tasks → hold_of plan past t ≡ Some h → Next plan past
+next_within : (plan : Plan) → IsPlan plan → (past : List ℕ) (t : ℕ) (h : Hold) → Good plan past → t < plan.sizes.tasks → hold_of plan past t ≡ Some h → Next plan past
 next_within plan ok past t h good low at =
     let next = call_left plan past t (more_within (task_calls plan t) (task_groups plan t) (occurrences t past) h (ok.groups t) at) in
     let in_h = next_inside (task_calls plan t) (task_groups plan t) (occurrences t past) h next.0 (ok.groups t) at next.1 in
@@ -257,7 +257,7 @@ is_held_at None = false
 is_held_at (Some h) = true
 
 -- while no task is within a group, each may make its next call
-next_free : (plan : Planned) → IsPlan plan → (past : List ℕ) (t : ℕ) → t < plan.sizes.tasks → occurrences t past < length (task_calls plan t) → ((u : ℕ) → u < plan.sizes.tasks → is_held_at (hold_of plan past u) ≡ false) → Next plan past
+next_free : (plan : Plan) → IsPlan plan → (past : List ℕ) (t : ℕ) → t < plan.sizes.tasks → occurrences t past < length (task_calls plan t) → ((u : ℕ) → u < plan.sizes.tasks → is_held_at (hold_of plan past u) ≡ false) → Next plan past
 next_free plan ok past t low more none =
     let next = call_left plan past t more in
     record {
@@ -273,7 +273,7 @@ next_free plan ok past t low more none =
     step touch (Some h) e = absurd (true≢false e)
 
 -- some task may make its next call, or all calls were made
-next_or_done : (plan : Planned) → IsPlan plan → (past : List ℕ) → Good plan past → Next plan past ⊎ (is_complete plan past ≡ true)
+next_or_done : (plan : Plan) → IsPlan plan → (past : List ℕ) → Good plan past → Next plan past ⊎ (is_complete plan past ≡ true)
 next_or_done plan ok past good = first (find_below (λ t. is_held_at (hold_of plan past t)) plan.sizes.tasks)
   where
     all_made : ((t : ℕ) → t < plan.sizes.tasks → nat_lt (occurrences t past) (length (task_calls plan t)) ≡ false) → is_complete plan past ≡ true
@@ -295,13 +295,13 @@ next_or_done plan ok past good = first (find_below (λ t. is_held_at (hold_of pl
     first (inr none) = second none (find_below (λ t. nat_lt (occurrences t past) (length (task_calls plan t))) plan.sizes.tasks)
 
 -- calls that complete a past
-record Completed (plan : Planned) (past : List ℕ) : Type 0 where
+record Completed (plan : Plan) (past : List ℕ) : Type 0 where
   pub rest : List ℕ
   pub keeps : keeps_groups plan past rest ≡ true
   pub whole : is_complete plan (past ++ rest) ≡ true
 
 -- The law: a good past can be completed, by so many calls as are left.
-completed : (plan : Planned) → IsPlan plan → (count : ℕ) (past : List ℕ) → Good plan past → left plan past plan.sizes.tasks ≡ count → Completed plan past
+completed : (plan : Plan) → IsPlan plan → (count : ℕ) (past : List ℕ) → Good plan past → left plan past plan.sizes.tasks ≡ count → Completed plan past
 completed plan ok zero past good is = step (next_or_done plan ok past good)
   where
     step : Next plan past ⊎ (is_complete plan past ≡ true) → Completed plan past
@@ -323,7 +323,7 @@ completed plan ok (suc count) past good is = step (next_or_done plan ok past goo
         }
 
 -- numbers that keep the groups after a past, and then more
-pub keeps_append : (plan : Planned) (past xs ys : List ℕ) → keeps_groups plan past (xs ++ ys) ≡ (keeps_groups plan past xs && keeps_groups plan (past ++ xs) ys)
+pub keeps_append : (plan : Plan) (past xs ys : List ℕ) → keeps_groups plan past (xs ++ ys) ≡ (keeps_groups plan past xs && keeps_groups plan (past ++ xs) ys)
 keeps_append plan past [] ys = ap (λ p. keeps_groups plan p ys) (sym (append-nil past))
 keeps_append plan past (t ∷ ts) ys =
     ap (λ b. may_come plan past t (slice_get (task_calls plan t) (occurrences t past)) && b) (keeps_append plan (past ++ t ∷ []) ts ys ∙ ap (λ p. keeps_groups plan (past ++ t ∷ []) ts && keeps_groups plan p ys) (append_assoc past (t ∷ []) ts)) ∙
@@ -334,7 +334,7 @@ keeps_append plan past (t ∷ ts) ys =
     grouped false b c = refl
 
 -- Numbers that keep the groups begin a legal order.
-pub begins : (plan : Planned) → IsPlan plan → (numbers : List ℕ) → keeps_groups plan [] numbers ≡ true → Begins plan numbers
+pub begins : (plan : Plan) → IsPlan plan → (numbers : List ℕ) → keeps_groups plan [] numbers ≡ true → Begins plan numbers
 begins plan ok numbers keeps =
     let more = completed plan ok (left plan numbers plan.sizes.tasks) numbers (good_after plan ok numbers [] (good_first plan) keeps) refl in
     (more.rest, and_from _ _ (keeps_append plan [] numbers more.rest ∙ and_from _ _ keeps more.keeps) more.whole)

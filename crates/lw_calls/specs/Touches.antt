@@ -8,59 +8,73 @@ use Rattle.lw_calls.specs.declared.touch.Slots.{Slots}
 use Rattle.lw_calls.specs.declared.touch.Slots.TheVariants.{Nothing, One, Two, All}
 use Rattle.lw_calls.specs.declared.touch.Touch.{Touch}
 
--- The slots of a call: none of a call on registers or of a look at LayerInfo; one of a call on one layer; two of a blit
--- between two layers; all of an arrangement.
-abbrev pub slots_of : Call → Slots
-slots_of (RegRect op register rect) = Nothing
-slots_of (RegPair op source into) = Nothing
-slots_of (RegClear register) = Nothing
-slots_of (Create slot make) = All
-slots_of (OpenWindow slot make framed nocare asks title) = All
-slots_of (Close slot) = All
-slots_of (ToFront slot) = All
-slots_of (ToBack slot) = All
-slots_of (InFrontOf slot other) = All
-slots_of (MoveBy slot dx dy) = All
-slots_of (SizeBy slot dw dh) = All
-slots_of (SetBox slot x y w h) = All
-slots_of (Activate slot) = All
-slots_of (Which x y) = Nothing
-slots_of (SetA slot pen) = One slot
-slots_of (SetB slot pen) = One slot
-slots_of (SetMode slot mode) = One slot
-slots_of (SetMask slot mask) = One slot
-slots_of (At slot x y) = One slot
-slots_of (WritePixel slot x y) = One slot
-slots_of (ReadPixel slot x y) = One slot
-slots_of (Fill slot rect) = One slot
-slots_of (DrawTo slot x y) = One slot
-slots_of (Letters slot text) = One slot
-slots_of (SetRast slot pen) = One slot
-slots_of (ScrollRaster slot dx dy rect) = One slot
-slots_of (Put bitmap slot area) = One slot
-slots_of (Blit source slot area) = if source == slot then One slot else Two source slot
-slots_of (Clip slot register) = One slot
-slots_of (Unclip slot) = One slot
-slots_of (BeginRefresh slot) = One slot
-slots_of (EndRefresh slot full) = One slot
-slots_of (Scroll slot dx dy) = One slot
-slots_of (SetTitle slot title) = One slot
-slots_of (TakeMessage slot) = One slot
+-- What a call works on, and with it what it locks: the registers of its task; LayerInfo, at which it looks; one layer; two
+-- layers, which may be one; or all of them, which it arranges.
+pub data CallClass : Type 0 where
+  OnRegisters : CallClass
+  OnInfo : CallClass
+  OnLayer : ℕ → CallClass
+  OnLayers : ℕ → ℕ → CallClass
+  OnAll : CallClass
 
--- The call reads or changes what LayerInfo keeps: an arrangement, and the look at it.
+abbrev pub class_of : Call → CallClass
+class_of (RegRect op register rect) = OnRegisters
+class_of (RegPair op source into) = OnRegisters
+class_of (RegClear register) = OnRegisters
+class_of (Create slot make) = OnAll
+class_of (OpenWindow slot make framed nocare asks title) = OnAll
+class_of (Close slot) = OnAll
+class_of (ToFront slot) = OnAll
+class_of (ToBack slot) = OnAll
+class_of (InFrontOf slot other) = OnAll
+class_of (MoveBy slot dx dy) = OnAll
+class_of (SizeBy slot dw dh) = OnAll
+class_of (SetBox slot x y w h) = OnAll
+class_of (Activate slot) = OnAll
+class_of (Which x y) = OnInfo
+class_of (SetA slot pen) = OnLayer slot
+class_of (SetB slot pen) = OnLayer slot
+class_of (SetMode slot mode) = OnLayer slot
+class_of (SetMask slot mask) = OnLayer slot
+class_of (At slot x y) = OnLayer slot
+class_of (WritePixel slot x y) = OnLayer slot
+class_of (ReadPixel slot x y) = OnLayer slot
+class_of (Fill slot rect) = OnLayer slot
+class_of (DrawTo slot x y) = OnLayer slot
+class_of (Letters slot text) = OnLayer slot
+class_of (SetRast slot pen) = OnLayer slot
+class_of (ScrollRaster slot dx dy rect) = OnLayer slot
+class_of (Put bitmap slot area) = OnLayer slot
+class_of (Blit source slot area) = OnLayers source slot
+class_of (Clip slot register) = OnLayer slot
+class_of (Unclip slot) = OnLayer slot
+class_of (BeginRefresh slot) = OnLayer slot
+class_of (EndRefresh slot full) = OnLayer slot
+class_of (Scroll slot dx dy) = OnLayer slot
+class_of (SetTitle slot title) = OnLayer slot
+class_of (TakeMessage slot) = OnLayer slot
+
+-- the slots of a class of calls
+abbrev pub slots_in : CallClass → Slots
+slots_in OnRegisters = Nothing
+slots_in OnInfo = Nothing
+slots_in (OnLayer slot) = One slot
+slots_in (OnLayers source slot) = if source == slot then One slot else Two source slot
+slots_in OnAll = All
+
+abbrev pub slots_of : Call → Slots
+slots_of call = slots_in (class_of call)
+
+-- calls of the class read or change what LayerInfo keeps
+abbrev pub is_on_info : CallClass → Bool
+is_on_info OnRegisters = false
+is_on_info OnInfo = true
+is_on_info (OnLayer slot) = false
+is_on_info (OnLayers source slot) = false
+is_on_info OnAll = true
+
 abbrev pub touches_info : Call → Bool
-touches_info (Create slot make) = true
-touches_info (OpenWindow slot make framed nocare asks title) = true
-touches_info (Close slot) = true
-touches_info (ToFront slot) = true
-touches_info (ToBack slot) = true
-touches_info (InFrontOf slot other) = true
-touches_info (MoveBy slot dx dy) = true
-touches_info (SizeBy slot dw dh) = true
-touches_info (SetBox slot x y w h) = true
-touches_info (Activate slot) = true
-touches_info (Which x y) = true
-touches_info call = false
+touches_info call = is_on_info (class_of call)
 
 -- What the call of a task touches: the task's registers, maybe LayerInfo, and slots.
 abbrev pub touch_of : ℕ → Call → Touch
@@ -74,11 +88,11 @@ has_slot (Two a b) s = (a == s) || (b == s)
 has_slot All s = true
 
 -- these are one slot, or two
-abbrev pub is_on_layers : Slots → Bool
-is_on_layers Nothing = false
-is_on_layers (One a) = true
-is_on_layers (Two a b) = true
-is_on_layers All = false
+abbrev pub is_one_or_two : Slots → Bool
+is_one_or_two Nothing = false
+is_one_or_two (One a) = true
+is_one_or_two (Two a b) = true
+is_one_or_two All = false
 
 -- The part is one of those that are touched.
 abbrev pub touches_role : Touch → Role → Bool

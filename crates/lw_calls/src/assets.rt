@@ -13,9 +13,9 @@ pub struct Assets {
 }
 
 impl Model for Assets {
-    ghost use Rattle.lw_calls.specs.Desk.{Supplies};
+    ghost use Rattle.lw_calls.specs.Assets.{Assets as AssetsView};
 
-    ghost Value = { Supplies };
+    ghost Value = { AssetsView };
 
     ghost view = { λ a. record { glyphs = a.glyphs; bitmaps = a.bitmaps.items } };
 }

@@ -1,5 +1,5 @@
 ghost use Rattle.std.specs.Prelude.{◌≡◌};
-ghost use Rattle.lw_calls.specs.Step.{is_built, is_plain_make};
+ghost use Rattle.lw_calls.specs.Built.{is_built, is_plain_make};
 
 use crate::call::Call;
 use crate::make::{Kind, Make, Place};

@@ -1,7 +1,7 @@
-//! The calls of the machine and their replies as plain data, and the definitions of what each call does.
+//! The calls of the machine, their replies and plans as plain data, with their ranges, what each call touches and which
+//! orders of a plan's calls are legal.
 //!
-//! `specs/` is the text to believe: layers, desks, the step of each call, the machine's run, the report
-//! and the script's grammar. `docs/DEFINITIONS.md` is its map.
+//! `specs/` is the text to believe. `docs/DEFINITIONS.md` is its map.
 #![tactic(auto)]
 
 mod area;
@@ -12,7 +12,6 @@ mod entry;
 mod form;
 mod group;
 mod last;
-mod laws;
 mod make;
 mod message;
 mod operation;
@@ -25,7 +24,6 @@ mod reply;
 mod sizes;
 mod text;
 mod touch;
-mod verb;
 
 pub use area::Area;
 pub use assets::Assets;
@@ -35,11 +33,6 @@ pub use entry::Entry;
 pub use form::Form;
 pub use group::{Group, Hold};
 pub use last::{Final, Seen};
-pub use laws::{
-    canonical_texts_read_back, inputs_are_decided, nothing_is_lost, reached_desks_are_sound,
-    refused_calls_change_nothing, screen_shows_the_top, spelled_inputs_are_runnable,
-    steps_are_local, steps_leave_the_rest,
-};
 pub use make::{Kind, Make, Place};
 pub use message::{Message, Messages};
 pub use operation::{PairOp, RectOp};
@@ -51,4 +44,3 @@ pub use reply::{Replies, Reply};
 pub use sizes::Sizes;
 pub use text::Text;
 pub use touch::{Role, Slots, Touch, touches};
-pub use verb::Verb;

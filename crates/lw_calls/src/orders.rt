@@ -1,8 +1,8 @@
 ghost use Rattle.std.specs.Prelude.{◌≡◌, ℕ, true, List, ◌∷◌, [], ◌++◌, ◌<◌, IfOk, length, replicate, Ok, Some, None};
 ghost use Rattle.std.specs.List.{slice_get};
-ghost use Rattle.lw_calls.specs.Planned.{task_calls};
+ghost use Rattle.lw_calls.specs.Plan.{task_calls};
 ghost use Rattle.lw_calls.specs.Orders.{is_legal, IsBadPlace, may_come, occurrences};
-ghost use Rattle.lw_calls.specs.OrderState.{are_all_made, is_free, no_progress, progress_after};
+ghost use Rattle.lw_calls.specs.Code.OrderState.{are_all_made, is_free, no_progress, progress_after};
 
 use crate::order_list::OrderList;
 use crate::plan::Plan;

@@ -1,5 +1,5 @@
 ghost use Rattle.std.specs.Prelude.{◌≡◌, ◌<◌, map};
-ghost use Rattle.lw_calls.specs.Planned.{Planned, task_calls, task_groups, IsPlan};
+ghost use Rattle.lw_calls.specs.Plan.{Plan as PlanView, task_calls, task_groups, IsPlan};
 
 use crate::assets::Assets;
 use crate::call::Call;
@@ -40,9 +40,9 @@ pub struct Plan {
 
 impl Model for Plan {
     ghost use Rattle.std.specs.Prelude.{map};
-    ghost use Rattle.lw_calls.specs.Planned.{Planned, IsPlan};
+    ghost use Rattle.lw_calls.specs.Plan.{Plan as PlanView, IsPlan};
 
-    ghost Value = { Planned };
+    ghost Value = { PlanView };
 
     ghost view = { λ p. record {
       sizes = p.sizes;
@@ -51,7 +51,7 @@ impl Model for Plan {
       bitmap_names = p.bitmap_names.items;
       calls = map (λ cs. cs.items) p.calls.items;
       groups = map (λ gs. gs.items) p.groups.items;
-      supplies = p.assets;
+      assets = p.assets;
     } };
 
     ghost invariant = { λ p. IsPlan (record {
@@ -61,7 +61,7 @@ impl Model for Plan {
       bitmap_names = p.bitmap_names.items;
       calls = map (λ cs. cs.items) p.calls.items;
       groups = map (λ gs. gs.items) p.groups.items;
-      supplies = p.assets;
+      assets = p.assets;
     }) };
 }
 
@@ -75,7 +75,7 @@ impl Plan {
           bitmap_names = parts.bitmap_names.items;
           calls = map (λ cs. cs.items) parts.calls.items;
           groups = map (λ gs. gs.items) parts.groups.items;
-          supplies = parts.assets;
+          assets = parts.assets;
         }) }
         ensures { result ≡ record {
           sizes = parts.sizes;
@@ -84,7 +84,7 @@ impl Plan {
           bitmap_names = parts.bitmap_names.items;
           calls = map (λ cs. cs.items) parts.calls.items;
           groups = map (λ gs. gs.items) parts.groups.items;
-          supplies = parts.assets;
+          assets = parts.assets;
         } }
     {
         let PlanParts {
@@ -144,7 +144,7 @@ impl Plan {
 
     /// The glyphs and bitmaps that the script hands in.
     pub fn assets(&self) -> &Assets
-        ensures { result.now ≡ self.now.supplies }
+        ensures { result.now ≡ self.now.assets }
     {
         &self.assets
     }

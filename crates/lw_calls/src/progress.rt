@@ -1,7 +1,7 @@
 ghost use Rattle.std.specs.Prelude.{◌≡◌, ◌<◌, ◌^◌};
 ghost use Rattle.std.specs.List.{slice_get};
 ghost use Rattle.lw_calls.specs.Orders.{meets, is_open};
-ghost use Rattle.lw_calls.specs.OrderState.{is_held, no_progress, progress_more};
+ghost use Rattle.lw_calls.specs.Code.OrderState.{is_held, no_progress, progress_more};
 
 use crate::group::{Group, Hold};
 use crate::touch::Touch;

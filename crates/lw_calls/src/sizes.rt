@@ -1,8 +1,8 @@
 ghost use Rattle.std.specs.Prelude.{◌≡◌, ◌&&◌, nat_lt, IsTrue};
-ghost use Rattle.lw_calls.specs.Touches.{slots_of, is_on_layers};
-ghost use Rattle.lw_calls.specs.Planned.{is_all};
+ghost use Rattle.lw_calls.specs.Touches.{slots_of, is_one_or_two};
+ghost use Rattle.lw_calls.specs.Plan.{is_all};
 ghost use Rattle.lw_region.specs.Rectangle.{within};
-ghost use Rattle.lw_calls.specs.Layer.{is_super};
+ghost use Rattle.lw_calls.specs.Kinds.{is_super};
 ghost use Rattle.lw_calls.specs.Limits.{call_fits, register_fits, coordinates_fit, is_extent, is_byte, is_minterm, window_fits, area_fits, make_fits, hook_fits, kind_fits, axis_fits, rect_fits, is_coordinate};
 
 use crate::area::Area;
@@ -86,7 +86,7 @@ impl Sizes {
 
     /// The same of a call that touches one layer or two.
     fn fits_on_layer(&self, call: &Call) -> bool
-        requires { IsTrue (is_on_layers (slots_of call.now)) }
+        requires { IsTrue (is_one_or_two (slots_of call.now)) }
         ensures { result ≡ call_fits self.now call.now }
     {
         match call {

@@ -1,2 +1,1 @@
 pub mod Computing
-pub mod Decided

@@ -2,11 +2,11 @@
 use Rattle.std.specs.Prelude.{ℕ, List, [], ◌∷◌, ◌++◌, pos, neg_ℤ, codes}
 use Rattle.lw_calls.specs.declared.make.Kind.TheVariants.{Simple, Smart}
 use Rattle.lw_calls.specs.declared.call.Call.TheVariants.{ToFront, MoveBy, Which}
-use Rattle.lw_calls.specs.Planned.{Planned}
+use Rattle.lw_calls.specs.Plan.{Plan}
 use Rattle.lw_cases.specs.Plans.{text, one_task, create, fill}
 
 -- a simple layer of which another covers three columns, moved one column to the left
-abbrev pub simple_move : Planned
+abbrev pub simple_move : Plan
 simple_move =
     one_task 16 2 1 (codes "s" ∷ codes "c" ∷ []) (create 0 Simple 1 0 6 1 ∷ create 1 Smart 4 0 9 1 ∷ fill 0 0 0 5 1 ∷ MoveBy 0 (neg_ℤ (pos 1)) (pos 0) ∷ [])
 
@@ -15,7 +15,7 @@ simple_move_report =
     text (codes "order 4/0 0 0 0/planes 16 2 1/plane 0/e000/e000/visible s 1/0 0 3 1/visible c 1/4 0 9 1/" ++ codes "damage s 1/3 0 3 1/damage c 0/replies a 4/ok/ok/ok/ok/done/")
 
 -- looks at a place of two layers, of which now one and now the other is in front, and at a place without a layer
-abbrev pub which_in_front : Planned
+abbrev pub which_in_front : Plan
 which_in_front =
     one_task 16 1 1 (codes "a" ∷ codes "b" ∷ []) (create 0 Smart 0 0 3 0 ∷ create 1 Smart 0 0 3 0 ∷ fill 0 1 0 2 0 ∷ Which (pos 1) (pos 0) ∷ ToFront 0 ∷ Which (pos 1) (pos 0) ∷ Which (pos 4) (pos 0) ∷ [])
 

@@ -3,16 +3,17 @@ use Rattle.std.specs.Prelude.{ℕ, true, List, [], ◌∷◌, ◌++◌, pos, neg
 use Rattle.lw_calls.specs.declared.make.Kind.TheVariants.{Simple, Smart}
 use Rattle.lw_calls.specs.declared.call.Call.TheVariants.{Close, ToFront, MoveBy, SizeBy, Activate, SetTitle, SetMask, Clip}
 use Rattle.lw_planes.specs.Bitmap.{pen_at}
-use Rattle.lw_calls.specs.Layer.{Slot, Unopened, Live, Closed}
-use Rattle.lw_calls.specs.Planned.{Planned}
-use Rattle.lw_calls.specs.History.{entries, machine, only_order}
-use Rattle.lw_calls.specs.Report.{opening_desk}
+use Rattle.lw_machine.specs.Layer.{Slot, Unopened, Live, Closed}
+use Rattle.lw_calls.specs.Plan.{Plan}
+use Rattle.lw_calls.specs.Entries.{entries, only_order}
+use Rattle.lw_machine.specs.History.{machine}
+use Rattle.lw_machine.specs.Report.{opening_desk}
 use Rattle.lw_cases.specs.Windows.{frame_widened}
 use Rattle.lw_cases.specs.Plans.{text, one_task, further, with_glyph, create, open_window, fill}
 
 -- Two windows of the least size, side by side, of which the first and then the second is made active. Then the first gets a
 -- title, of whose glyph each second row has its left column.
-abbrev pub second_activated : Planned
+abbrev pub second_activated : Plan
 second_activated =
     with_glyph 66 (128 ∷ 0 ∷ 128 ∷ 0 ∷ 128 ∷ 0 ∷ 128 ∷ 0 ∷ [])
     (one_task 18 14 2 (codes "u" ∷ codes "v" ∷ []) (open_window 0 Smart 0 0 9 14 true 24 [] ∷ open_window 1 Smart 9 0 9 14 true 24 [] ∷ Activate 0 ∷ Activate 1 ∷ SetTitle 0 (codes "B") ∷ []))
@@ -22,7 +23,7 @@ second_activated_report =
     text (codes "order 5/0 0 0 0 0/planes 18 14 2/" ++ codes "plane 0/007fc000/007fc000/087fc000/007fc000/087fc000/007fc000/087fc000/007fc000/087fc000/007fc000/007fc000/007bc000/007fc000/007fc000/" ++ codes "plane 1/ff800000/ff800000/f7800000/ff800000/f7800000/ff800000/f7800000/ff800000/f7800000/ff800000/ff800000/f7800000/ff800000/ff800000/" ++ codes "visible u 1/0 0 8 13/visible v 1/9 0 17 13/damage u 0/damage v 0/" ++ codes "messages u 2/active/inactive/messages v 1/active/replies a 5/ok/ok/ok/ok/ok/done/")
 
 -- and then the active one is closed
-abbrev pub active_closed : Planned
+abbrev pub active_closed : Plan
 active_closed = further second_activated (Close 1 ∷ [])
 
 abbrev pub active_closed_report : List ℕ
@@ -30,7 +31,7 @@ active_closed_report =
     text (codes "order 6/0 0 0 0 0 0/planes 18 14 2/" ++ codes "plane 0/00000000/00000000/08000000/00000000/08000000/00000000/08000000/00000000/08000000/00000000/00000000/00000000/00000000/00000000/" ++ codes "plane 1/ff800000/ff800000/f7800000/ff800000/f7800000/ff800000/f7800000/ff800000/f7800000/ff800000/ff800000/f7800000/ff800000/ff800000/" ++ codes "visible u 1/0 0 8 13/damage u 0/" ++ codes "messages u 2/active/inactive/replies a 6/ok/ok/ok/ok/ok/ok/done/")
 
 -- and then the other one is made active, twice
-abbrev pub first_activated_again : Planned
+abbrev pub first_activated_again : Plan
 first_activated_again = further active_closed (Activate 0 ∷ Activate 0 ∷ [])
 
 abbrev pub first_activated_again_report : List ℕ
@@ -39,7 +40,7 @@ first_activated_again_report =
 
 -- A simple window, the inner pixel of which and eight pixels of its frame are covered. Two pixels of its frame are painted
 -- over, and then it is uncovered: the frame is painted whole, and the inner pixel is damaged.
-abbrev pub frame_uncovered : Planned
+abbrev pub frame_uncovered : Plan
 frame_uncovered =
     one_task 16 14 2 (codes "w" ∷ codes "c" ∷ []) (open_window 0 Simple 0 0 9 14 true 0 [] ∷ create 1 Smart 3 10 5 12 ∷ fill 0 0 0 1 0 ∷ Close 1 ∷ [])
 
@@ -48,7 +49,7 @@ frame_uncovered_report =
     text (codes "order 4/0 0 0 0/planes 16 14 2/" ++ codes "plane 0/0000/0000/0000/0000/0000/0000/0000/0000/0000/0000/0000/0000/0000/0000/" ++ codes "plane 1/ff80/ff80/ff80/ff80/ff80/ff80/ff80/ff80/ff80/ff80/ff80/f780/ff80/ff80/" ++ codes "visible w 1/0 0 8 13/damage w 1/4 11 4 11/messages w 0/replies a 4/ok/ok/ok/ok/done/")
 
 -- the window that was made one column wider, which damaged a pixel of its old frame, made as narrow as before
-abbrev pub frame_narrowed : Planned
+abbrev pub frame_narrowed : Plan
 frame_narrowed = further frame_widened (SizeBy 0 (neg_ℤ (pos 1)) (pos 0) ∷ [])
 
 abbrev pub frame_narrowed_report : List ℕ
@@ -56,7 +57,7 @@ frame_narrowed_report =
     text (codes "order 3/0 0 0/planes 16 16 1/plane 0/0000/0000/0000/0000/0000/0000/0000/0000/0000/0000/0000/0000/0000/0000/0000/0000/" ++ codes "visible w 1/0 0 8 13/damage w 0/messages w 0/replies a 3/ok/ok/ok/done/")
 
 -- A window two pixels of whose frame are painted over, put in front and moved: nothing of its frame is painted again.
-abbrev pub frame_painted_over : Planned
+abbrev pub frame_painted_over : Plan
 frame_painted_over =
     one_task 16 14 2 (codes "w" ∷ []) (open_window 0 Smart 0 0 9 14 true 0 [] ∷ fill 0 0 0 1 0 ∷ ToFront 0 ∷ MoveBy 0 (pos 1) (pos 0) ∷ [])
 
@@ -65,7 +66,7 @@ frame_painted_over_report =
     text (codes "order 4/0 0 0 0/planes 16 14 2/" ++ codes "plane 0/6000/0000/0000/0000/0000/0000/0000/0000/0000/0000/0000/0000/0000/0000/" ++ codes "plane 1/1fc0/7fc0/7fc0/7fc0/7fc0/7fc0/7fc0/7fc0/7fc0/7fc0/7fc0/7bc0/7fc0/7fc0/" ++ codes "visible w 1/1 0 9 13/damage w 0/messages w 0/replies a 4/ok/ok/ok/ok/done/")
 
 -- then it gets the title that it has, while its clip region is empty and its mask has no planes
-abbrev pub frame_painted_again : Planned
+abbrev pub frame_painted_again : Plan
 frame_painted_again = further frame_painted_over (Clip 0 0 ∷ SetMask 0 0 ∷ SetTitle 0 [] ∷ [])
 
 abbrev pub frame_painted_again_report : List ℕ
@@ -73,7 +74,7 @@ frame_painted_again_report =
     text (codes "order 7/0 0 0 0 0 0 0/planes 16 14 2/" ++ codes "plane 0/0000/0000/0000/0000/0000/0000/0000/0000/0000/0000/0000/0000/0000/0000/" ++ codes "plane 1/7fc0/7fc0/7fc0/7fc0/7fc0/7fc0/7fc0/7fc0/7fc0/7fc0/7fc0/7bc0/7fc0/7fc0/" ++ codes "visible w 1/1 0 9 13/damage w 0/messages w 0/replies a 7/ok/ok/ok/ok/none/ok/ok/done/")
 
 -- a simple window that is covered in part, and gets a title
-abbrev pub frame_covered : Planned
+abbrev pub frame_covered : Plan
 frame_covered =
     one_task 16 14 2 (codes "w" ∷ codes "c" ∷ []) (open_window 0 Simple 0 0 9 14 true 0 [] ∷ create 1 Smart 3 10 5 12 ∷ SetTitle 0 [] ∷ [])
 
@@ -83,9 +84,9 @@ pen_in Unopened x y = 0
 pen_in (Live l) x y = pen_at l.bits x y
 pen_in Closed x y = 0
 
-abbrev pub pen_after : Planned → ℕ → ℕ → ℕ → ℕ
+abbrev pub pen_after : Plan → ℕ → ℕ → ℕ → ℕ
 pen_after plan slot x y = pen_in ((machine (opening_desk plan []) (entries plan [] (only_order plan))).slot slot) x y
 
 -- the active window at the end of a run
-abbrev pub active_after : Planned → Option ℕ
+abbrev pub active_after : Plan → Option ℕ
 active_after plan = (machine (opening_desk plan []) (entries plan [] (only_order plan))).active

@@ -4,12 +4,12 @@ use Rattle.lw_calls.specs.declared.make.Kind.TheVariants.{Simple, Smart}
 use Rattle.lw_calls.specs.declared.make.Place.TheVariants.{Behind}
 use Rattle.lw_calls.specs.declared.call.Call.TheVariants.{Create, Close, SizeBy, SetRast, BeginRefresh, EndRefresh}
 use Rattle.lw_calls.specs.declared.group.Hold.TheVariants.{Slot}
-use Rattle.lw_calls.specs.Hook.{Hook}
-use Rattle.lw_calls.specs.Planned.{Planned}
+use Rattle.lw_machine.specs.Hook.{Hook}
+use Rattle.lw_calls.specs.Plan.{Plan}
 use Rattle.lw_cases.specs.Plans.{text, one_task, further, grouped, with_hooks, six_hooks, layer, create, create_hooked}
 
 -- a layer that is made two columns narrower, and then as wide as before
-abbrev pub growth_filled : Planned
+abbrev pub growth_filled : Plan
 growth_filled =
     with_hooks six_hooks
     (one_task 16 1 1 (codes "w" ∷ []) (Create 0 (record (layer Smart 0 0 3 0) { hook = Some 0 }) ∷ SetRast 0 0 ∷ SizeBy 0 (neg_ℤ (pos 2)) (pos 0) ∷ SizeBy 0 (pos 2) (pos 0) ∷ []))
@@ -19,7 +19,7 @@ growth_filled_report =
     text (codes "order 4/0 0 0 0/planes 16 1 1/plane 0/3000/visible w 1/0 0 3 0/damage w 1/2 0 3 0/replies a 4/ok/ok/ok/ok/done/")
 
 -- and then refreshed in part
-abbrev pub refreshed_in_part : Planned
+abbrev pub refreshed_in_part : Plan
 refreshed_in_part =
     grouped (further growth_filled (BeginRefresh 0 ∷ SetRast 0 0 ∷ EndRefresh 0 false ∷ [])) (record { first = 4; last = 6; hold = Slot 0 })
 
@@ -28,7 +28,7 @@ refreshed_in_part_report =
     text (codes "order 7/0 0 0 0 0 0 0/planes 16 1 1/plane 0/0000/visible w 1/0 0 3 0/damage w 1/2 0 3 0/" ++ codes "replies a 7/ok/ok/ok/ok/ok/ok/ok/done/")
 
 -- and then in full
-abbrev pub refreshed_in_full : Planned
+abbrev pub refreshed_in_full : Plan
 refreshed_in_full =
     grouped (further refreshed_in_part (BeginRefresh 0 ∷ EndRefresh 0 true ∷ [])) (record { first = 7; last = 8; hold = Slot 0 })
 
@@ -37,7 +37,7 @@ refreshed_in_full_report =
     text (codes "order 9/0 0 0 0 0 0 0 0 0/planes 16 1 1/plane 0/0000/visible w 1/0 0 3 0/damage w 0/" ++ codes "replies a 9/ok/ok/ok/ok/ok/ok/ok/ok/ok/done/")
 
 -- a simple layer that is covered and uncovered, with a hook of several tiles
-abbrev pub hook_turned : Planned
+abbrev pub hook_turned : Plan
 hook_turned =
     with_hooks six_hooks
     (one_task 16 1 2 (codes "w" ∷ codes "c" ∷ []) (Create 0 (record (layer Simple 0 0 3 0) { hook = Some 4 }) ∷ create 1 Smart 0 0 3 0 ∷ Close 1 ∷ []))
@@ -47,7 +47,7 @@ hook_turned_report =
     text (codes "order 3/0 0 0/planes 16 1 2/plane 0/0000/plane 1/f000/visible w 1/0 0 3 0/damage w 1/0 0 3 0/" ++ codes "replies a 3/ok/ok/ok/done/")
 
 -- a simple layer whose columns begin at column 3 of the screen, with a hook of a checkered tile
-abbrev pub checkered : Planned
+abbrev pub checkered : Plan
 checkered = with_hooks six_hooks (one_task 16 2 1 (codes "w" ∷ codes "c" ∷ []) (create_hooked 0 Simple 3 0 10 1 2 ∷ []))
 
 abbrev pub checkered_report : List ℕ
@@ -55,7 +55,7 @@ checkered_report =
     text (codes "order 1/0/planes 16 2 1/plane 0/0aa0/1540/visible w 1/3 0 10 1/damage w 0/replies a 1/ok/done/")
 
 -- and then four columns of its first row are covered, the rest is set to pen 0, and they are uncovered
-abbrev pub checkered_again : Planned
+abbrev pub checkered_again : Plan
 checkered_again = further checkered (create 1 Smart 5 0 8 0 ∷ SetRast 0 0 ∷ Close 1 ∷ [])
 
 abbrev pub checkered_again_report : List ℕ
@@ -66,7 +66,7 @@ checkered_again_report =
 abbrev pub dotted : Hook
 dotted = record { tiles = (0 ∷ 1 ∷ replicate 62 0) ∷ []; place = 0 }
 
-abbrev pub tiled : Planned
+abbrev pub tiled : Plan
 tiled = with_hooks (dotted ∷ []) (one_task 16 9 1 (codes "w" ∷ []) (create_hooked 0 Smart 1 0 10 8 0 ∷ []))
 
 abbrev pub tiled_report : List ℕ
@@ -74,7 +74,7 @@ tiled_report =
     text (codes "order 1/0/planes 16 9 1/plane 0/2020/0000/0000/0000/0000/0000/0000/0000/2020/visible w 1/1 0 10 8/damage w 0/replies a 1/ok/done/")
 
 -- A simple layer that is created under a cover, where its hook of several tiles fills nothing, and then uncovered.
-abbrev pub created_covered : Planned
+abbrev pub created_covered : Plan
 created_covered =
     with_hooks six_hooks
     (one_task 16 1 2 (codes "c" ∷ codes "w" ∷ []) (create 0 Smart 0 0 3 0 ∷ Create 1 (record (layer Simple 0 0 3 0) { place = Behind; hook = Some 4 }) ∷ Close 0 ∷ []))
@@ -84,7 +84,7 @@ created_covered_report =
     text (codes "order 3/0 0 0/planes 16 1 2/plane 0/f000/plane 1/0000/visible w 1/0 0 3 0/damage w 1/0 0 3 0/replies a 3/ok/ok/ok/done/")
 
 -- the pens 2 and 3 of two hooks on a screen of one plane
-abbrev pub hooks_cut : Planned
+abbrev pub hooks_cut : Plan
 hooks_cut =
     with_hooks six_hooks (one_task 16 1 1 (codes "u" ∷ codes "v" ∷ []) (create_hooked 0 Smart 0 0 3 0 1 ∷ create_hooked 1 Smart 4 0 7 0 5 ∷ []))
 
@@ -94,7 +94,7 @@ hooks_cut_report =
 
 -- A creation that is refused leaves its hook to the next one, and a third gets none. (No script names a hook twice; the
 -- machine hands it out once all the same.)
-abbrev pub hook_named_again : Planned
+abbrev pub hook_named_again : Plan
 hook_named_again =
     with_hooks six_hooks
     (one_task 16 1 1 (codes "u" ∷ codes "v" ∷ codes "w" ∷ codes "x" ∷ []) (create_hooked 0 Smart 14 0 17 0 0 ∷ create_hooked 1 Smart 0 0 3 0 0 ∷ create_hooked 2 Smart 4 0 7 0 0 ∷ []))
@@ -104,7 +104,7 @@ hook_named_again_report =
     text (codes "order 3/0 0 0/planes 16 1 1/plane 0/f000/visible v 1/0 0 3 0/visible w 1/4 0 7 0/damage v 0/damage w 0/replies a 3/out-of-bounds/ok/ok/done/")
 
 -- nor does a fourth, after the layer that had it was deleted
-abbrev pub hook_dropped : Planned
+abbrev pub hook_dropped : Plan
 hook_dropped = further hook_named_again (Close 1 ∷ create_hooked 3 Smart 8 0 11 0 0 ∷ [])
 
 abbrev pub hook_dropped_report : List ℕ

@@ -6,11 +6,11 @@ use Rattle.lw_calls.specs.declared.call.Call.{Call}
 use Rattle.lw_calls.specs.declared.call.Call.TheVariants.{RegRect, ToFront, Which}
 use Rattle.lw_calls.specs.declared.entry.Entry.{Entry}
 use Rattle.lw_calls.specs.declared.group.Hold.TheVariants.{Slot, All}
-use Rattle.lw_calls.specs.Planned.{Planned, no_supplies}
+use Rattle.lw_calls.specs.Plan.{Plan, no_assets}
 use Rattle.lw_cases.specs.Plans.{text, one_task, grouped, with_second_task, rect, create, fill, blit_across}
 
 -- two tasks, each of which creates a layer of its own and fills it
-abbrev pub two_layers : Planned
+abbrev pub two_layers : Plan
 two_layers =
     record {
       sizes = record { version = 1; width = 16; height = 1; depth = 1; slots = 2; tasks = 2; hooks = 0; bitmaps = 0 };
@@ -19,7 +19,7 @@ two_layers =
       bitmap_names = [];
       calls = (create 0 Smart 0 0 3 0 ∷ fill 0 0 0 3 0 ∷ []) ∷ (create 1 Smart 8 0 11 0 ∷ fill 1 0 0 3 0 ∷ []) ∷ [];
       groups = [] ∷ [] ∷ [];
-      supplies = no_supplies;
+      assets = no_assets;
     }
 
 -- the orders in which the tasks take turns: the first task begins, or the second
@@ -44,7 +44,7 @@ two_layers_report second_line =
     text (codes "order 4/" ++ second_line ++ codes "/planes 16 1 1/plane 0/f0f0/visible x 1/0 0 3 0/visible y 1/8 0 11 0/" ++ codes "damage x 0/damage y 0/replies a 2/ok/ok/replies b 2/ok/ok/done/")
 
 -- a task that creates a layer and then, under its lock, fills two pixels of it; and one that fills a third pixel
-abbrev pub locked_fills : Planned
+abbrev pub locked_fills : Plan
 locked_fills =
     record {
       sizes = record { version = 1; width = 16; height = 1; depth = 1; slots = 1; tasks = 2; hooks = 0; bitmaps = 0 };
@@ -53,7 +53,7 @@ locked_fills =
       bitmap_names = [];
       calls = (create 0 Smart 0 0 3 0 ∷ fill 0 0 0 0 0 ∷ fill 0 1 0 1 0 ∷ []) ∷ (fill 0 2 0 2 0 ∷ []) ∷ [];
       groups = (record { first = 1; last = 2; hold = Slot 0 } ∷ []) ∷ [] ∷ [];
-      supplies = no_supplies;
+      assets = no_assets;
     }
 
 -- an order in which the third fill comes between the two, and one that ends before the lock does
@@ -88,19 +88,19 @@ after_all_report =
     text (codes "order 4/0 0 0 1/planes 16 1 1/plane 0/e000/visible x 1/0 0 3 0/damage x 0/" ++ codes "replies a 3/ok/ok/ok/replies b 1/ok/done/")
 
 -- a task that holds all layers from a creation to another arrangement of the layer x, and a second task's one call
-abbrev pub beside_a_hold : Call → Planned
+abbrev pub beside_a_hold : Call → Plan
 beside_a_hold call =
     with_second_task (call ∷ []) []
     (grouped (one_task 16 1 1 (codes "x" ∷ codes "y" ∷ []) (create 0 Smart 0 0 3 0 ∷ ToFront 0 ∷ [])) (record { first = 0; last = 1; hold = All }))
 
 -- a task that creates the layer x and then locks it for two fills, and a second task's one call
-abbrev pub beside_a_lock : Call → Planned
+abbrev pub beside_a_lock : Call → Plan
 beside_a_lock call =
     with_second_task (call ∷ []) []
     (grouped (one_task 16 1 1 (codes "x" ∷ codes "y" ∷ []) (create 0 Smart 0 0 3 0 ∷ fill 0 0 0 0 0 ∷ fill 0 1 0 1 0 ∷ [])) (record { first = 1; last = 2; hold = Slot 0 }))
 
 -- the same with two locks, each for one fill
-abbrev pub beside_two_locks : Call → Planned
+abbrev pub beside_two_locks : Call → Plan
 beside_two_locks call =
     with_second_task (call ∷ []) []
     (grouped (grouped (one_task 16 1 1 (codes "x" ∷ codes "y" ∷ []) (create 0 Smart 0 0 3 0 ∷ fill 0 0 0 0 0 ∷ fill 0 1 0 1 0 ∷ [])) (record { first = 1; last = 1; hold = Slot 0 })) (record { first = 2; last = 2; hold = Slot 0 }))

@@ -12,15 +12,15 @@ use Rattle.lw_calls.specs.declared.make.Make.{Make}
 use Rattle.lw_calls.specs.declared.call.Call.{Call}
 use Rattle.lw_calls.specs.declared.call.Call.TheVariants.{Create, OpenWindow, Fill, ScrollRaster, Put, Blit}
 use Rattle.lw_calls.specs.declared.group.Group.{Group}
-use Rattle.lw_calls.specs.Hook.{Hook}
-use Rattle.lw_calls.specs.Planned.{Planned, task_calls, task_groups, no_supplies}
+use Rattle.lw_machine.specs.Hook.{Hook}
+use Rattle.lw_calls.specs.Plan.{Plan, task_calls, task_groups, no_assets}
 
 -- A text of lines. Each line feed is written as a stroke, which stands in no report and no script here.
 abbrev pub text : List ℕ → List ℕ
 text lines = map (λ b. if b == 47 then 10 else b) lines
 
 -- the plan of one task a on a screen of w by h with d planes: the layers' names by slot, and the calls
-abbrev pub one_task : ℕ → ℕ → ℕ → List (List ℕ) → List Call → Planned
+abbrev pub one_task : ℕ → ℕ → ℕ → List (List ℕ) → List Call → Plan
 one_task w h d names calls =
     record {
       sizes = record { version = 1; width = w; height = h; depth = d; slots = length names; tasks = 1; hooks = 0; bitmaps = 0 };
@@ -29,37 +29,37 @@ one_task w h d names calls =
       bitmap_names = [];
       calls = calls ∷ [];
       groups = [] ∷ [];
-      supplies = no_supplies;
+      assets = no_assets;
     }
 
 -- the plan of one task with further calls
-abbrev pub further : Planned → List Call → Planned
+abbrev pub further : Plan → List Call → Plan
 further plan calls = record plan { calls = (task_calls plan 0 ++ calls) ∷ [] }
 
 -- the plan of one task with a further group
-abbrev pub grouped : Planned → Group → Planned
+abbrev pub grouped : Plan → Group → Plan
 grouped plan group = record plan { groups = (task_groups plan 0 ++ group ∷ []) ∷ [] }
 
 -- the plan where a code has this glyph, its eight bytes from the top row
-abbrev pub with_glyph : ℕ → List ℕ → Planned → Planned
+abbrev pub with_glyph : ℕ → List ℕ → Plan → Plan
 with_glyph code glyph plan =
-    record plan { supplies = record plan.supplies { glyphs = take (code - 32) plan.supplies.glyphs ++ glyph ∷ drop (code - 31) plan.supplies.glyphs } }
+    record plan { assets = record plan.assets { glyphs = take (code - 32) plan.assets.glyphs ++ glyph ∷ drop (code - 31) plan.assets.glyphs } }
 
 -- the plan where so many hooks are handed in
-abbrev pub with_hooks : List Hook → Planned → Planned
+abbrev pub with_hooks : List Hook → Plan → Plan
 with_hooks hooks plan = record plan { sizes = record plan.sizes { hooks = length hooks } }
 
 -- the plan with a further bitmap
-abbrev pub with_bitmap : List ℕ → Bitmap → Planned → Planned
+abbrev pub with_bitmap : List ℕ → Bitmap → Plan → Plan
 with_bitmap name bitmap plan =
     record plan {
       sizes = record plan.sizes { bitmaps = length plan.bitmap_names + 1 };
       bitmap_names = plan.bitmap_names ++ name ∷ [];
-      supplies = record plan.supplies { bitmaps = plan.supplies.bitmaps ++ bitmap ∷ [] };
+      assets = record plan.assets { bitmaps = plan.assets.bitmaps ++ bitmap ∷ [] };
     }
 
 -- the plan of one task with a second task b, its calls and its groups
-abbrev pub with_second_task : List Call → List Group → Planned → Planned
+abbrev pub with_second_task : List Call → List Group → Plan → Plan
 with_second_task calls groups plan =
     record plan {
       sizes = record plan.sizes { tasks = 2 };
@@ -84,7 +84,7 @@ checker a b =
 abbrev pub cycle : List ℕ → Hook
 cycle pens = record { tiles = map (λ pen. replicate 64 pen) pens; place = 0 }
 
--- the six hooks that the program hands in
+-- six hooks: two of one pen, two checkered, and two that turn
 abbrev pub six_hooks : List Hook
 six_hooks = solid 1 ∷ solid 2 ∷ checker 0 1 ∷ checker 2 3 ∷ cycle (1 ∷ 2 ∷ 3 ∷ []) ∷ cycle (3 ∷ 0 ∷ []) ∷ []
 

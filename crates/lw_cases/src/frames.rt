@@ -2,8 +2,8 @@
 #![tactic(auto, unfolding(crate::proofs::Computing::computing))]
 
 ghost use Rattle.std.specs.Prelude.{◌≡◌, [], Some, None};
-ghost use Rattle.lw_calls.specs.History.{only_order};
-ghost use Rattle.lw_calls.specs.Report.{run_report};
+ghost use Rattle.lw_calls.specs.Entries.{only_order};
+ghost use Rattle.lw_machine.specs.Report.{run_report};
 ghost use Rattle.lw_cases.specs.Frames.{second_activated, second_activated_report, active_closed, active_closed_report, first_activated_again, first_activated_again_report, frame_uncovered, frame_uncovered_report, frame_narrowed, frame_narrowed_report, frame_painted_over, frame_painted_over_report, frame_painted_again, frame_painted_again_report, frame_covered, pen_after, active_after};
 
 /// One window is active, and shows it: another that becomes active makes it inactive, and closing it leaves none active.

@@ -3,7 +3,7 @@
 
 ghost use Rattle.std.specs.Prelude.{[]};
 ghost use Rattle.lw_region.specs.Pixels.{rectangle_pixels};
-ghost use Rattle.lw_calls.specs.History.{only_order};
+ghost use Rattle.lw_calls.specs.Entries.{only_order};
 ghost use Rattle.lw_cases.specs.Plans.{six_hooks, rect};
 ghost use Rattle.lw_cases.specs.Arranging.{simple_move};
 ghost use Rattle.lw_cases.specs.Hooks.{hook_turned, checkered_again};

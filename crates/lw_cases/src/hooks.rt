@@ -2,8 +2,8 @@
 #![tactic(auto, unfolding(crate::proofs::Computing::computing))]
 
 ghost use Rattle.std.specs.Prelude.{◌≡◌, ◌∷◌, []};
-ghost use Rattle.lw_calls.specs.History.{only_order};
-ghost use Rattle.lw_calls.specs.Report.{run_report};
+ghost use Rattle.lw_calls.specs.Entries.{only_order};
+ghost use Rattle.lw_machine.specs.Report.{run_report};
 ghost use Rattle.lw_cases.specs.Plans.{six_hooks};
 ghost use Rattle.lw_cases.specs.Hooks.{growth_filled, growth_filled_report, refreshed_in_part, refreshed_in_part_report, refreshed_in_full, refreshed_in_full_report, hook_turned, hook_turned_report, checkered, checkered_report, checkered_again, checkered_again_report, dotted, tiled, tiled_report, created_covered, created_covered_report, hooks_cut, hooks_cut_report, hook_named_again, hook_named_again_report, hook_dropped, hook_dropped_report};
 

@@ -2,8 +2,8 @@
 #![tactic(auto, unfolding(crate::proofs::Computing::computing))]
 
 ghost use Rattle.std.specs.Prelude.{◌≡◌, []};
-ghost use Rattle.lw_calls.specs.History.{only_order};
-ghost use Rattle.lw_calls.specs.Report.{run_report};
+ghost use Rattle.lw_calls.specs.Entries.{only_order};
+ghost use Rattle.lw_machine.specs.Report.{run_report};
 ghost use Rattle.lw_cases.specs.Modes.{masked_fills, masked_fills_report, masked_raster, masked_raster_report, letters_jam1, letters_jam1_report, letters_complemented, letters_complemented_report, letters_at_edges, letters_at_edges_report, codes_without_glyph, codes_without_glyph_report, letters_far_off, letters_far_off_report, inverse_shapes, inverse_shapes_report};
 
 /// The planes that a mask hasn't got stay as they are, in any mode.

@@ -2,8 +2,8 @@
 #![tactic(auto, unfolding(crate::proofs::Computing::computing))]
 
 ghost use Rattle.std.specs.Prelude.{◌≡◌, []};
-ghost use Rattle.lw_calls.specs.History.{only_order};
-ghost use Rattle.lw_calls.specs.Report.{run_report};
+ghost use Rattle.lw_calls.specs.Entries.{only_order};
+ghost use Rattle.lw_machine.specs.Report.{run_report};
 ghost use Rattle.lw_cases.specs.Reading.{pixels_covered, pixels_covered_report, fill_from_outside, fill_from_outside_report};
 
 /// What a layer keeps can be read, and what is drawable can be written.

@@ -2,11 +2,11 @@
 #![tactic(auto, unfolding(crate::proofs::Computing::computing))]
 
 ghost use Rattle.std.specs.Prelude.{◌≡◌, []};
-ghost use Rattle.lw_calls.specs.History.{only_order};
-ghost use Rattle.lw_calls.specs.Report.{run_report};
+ghost use Rattle.lw_calls.specs.Entries.{only_order};
+ghost use Rattle.lw_machine.specs.Report.{run_report};
 ghost use Rattle.lw_cases.specs.Scrolling.{scroll_past_all, scroll_past_all_report, scroll_under_cover, scroll_under_cover_report, scroll_uncovered, scroll_uncovered_report, scroll_damage, scroll_damage_report, portion_scrolled, portion_scrolled_report, scroll_right_down, scroll_right_down_report, scroll_masked, scroll_masked_report, scroll_updated, scroll_updated_report, scroll_in_frame, scroll_in_frame_report, scroll_from_damage, scroll_from_damage_report};
 
-/// What is scrolled in from outside the rectangle has pen B, and isn't damaged.
+/// What is scrolled in from outside the rectangle has pen B, and keeps the damage that the pixel had.
 pub fn scroll_past_all_shows_pen_b()
     ensures { run_report scroll_past_all [] (only_order scroll_past_all) ≡ scroll_past_all_report }
 {}

@@ -2,8 +2,8 @@
 #![tactic(auto, unfolding(crate::proofs::Computing::computing))]
 
 ghost use Rattle.std.specs.Prelude.{◌≡◌, []};
-ghost use Rattle.lw_calls.specs.History.{only_order};
-ghost use Rattle.lw_calls.specs.Report.{run_report};
+ghost use Rattle.lw_calls.specs.Entries.{only_order};
+ghost use Rattle.lw_machine.specs.Report.{run_report};
 ghost use Rattle.lw_cases.specs.Stacking.{put_in_front, put_in_front_report, put_first, put_first_report, backdrop_in_front, backdrop_in_front_report, put_behind, put_behind_report, backdrops_created, backdrops_created_report};
 
 /// A layer goes directly before another, and not before itself.

@@ -2,8 +2,8 @@
 #![tactic(auto, unfolding(crate::proofs::Computing::computing))]
 
 ghost use Rattle.std.specs.Prelude.{◌≡◌, []};
-ghost use Rattle.lw_calls.specs.History.{only_order};
-ghost use Rattle.lw_calls.specs.Report.{run_report};
+ghost use Rattle.lw_calls.specs.Entries.{only_order};
+ghost use Rattle.lw_machine.specs.Report.{run_report};
 ghost use Rattle.lw_cases.specs.SuperBitmaps.{scrolls_refused, scrolls_refused_report, super_updated, super_updated_report, super_uncovered, super_uncovered_report, super_window, super_window_report};
 
 /// A portion stays in its bitmap on every side, and no other layer has one.

@@ -3,7 +3,7 @@
 
 ghost use Rattle.std.specs.Prelude.{IsTrue, ◌<◌, length};
 ghost use Rattle.lw_calls.specs.Limits.{call_fits};
-ghost use Rattle.lw_calls.specs.Planned.{groups_fit};
+ghost use Rattle.lw_calls.specs.Plan.{groups_fit};
 ghost use Rattle.lw_cases.specs.SmallPlans.{small_sizes, are_small_calls};
 
 use lw_calls::{

@@ -2,8 +2,8 @@
 #![tactic(auto, unfolding(crate::proofs::Computing::computing))]
 
 ghost use Rattle.std.specs.Prelude.{◌≡◌, []};
-ghost use Rattle.lw_calls.specs.History.{only_order};
-ghost use Rattle.lw_calls.specs.Report.{run_report};
+ghost use Rattle.lw_calls.specs.Entries.{only_order};
+ghost use Rattle.lw_machine.specs.Report.{run_report};
 ghost use Rattle.lw_cases.specs.Windows.{asked_to_refresh, asked_to_refresh_report, covered_again, covered_again_report, uncovered_again, uncovered_again_report, active_title, active_title_report, frame_widened, frame_widened_report, frame_too_narrow, frame_too_narrow_report, box_told, box_told_report, activated_behind, activated_behind_report};
 
 /// A window is asked to refresh when some damage is there, and not again before its damage was cleared.

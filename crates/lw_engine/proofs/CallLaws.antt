@@ -6,9 +6,9 @@ use Rattle.lw_calls.specs.declared.sizes.Sizes.{Sizes}
 use Rattle.lw_calls.specs.declared.call.Call.{Call}
 use Rattle.lw_calls.specs.declared.reply.Reply.{Reply}
 use Rattle.lw_calls.specs.Limits.{call_fits}
-use Rattle.lw_calls.specs.Desk.{Desk}
-use Rattle.lw_calls.specs.Step.{reply, after}
-use Rattle.lw_calls.specs.Laws.{is_refusing}
+use Rattle.lw_machine.specs.Desk.{Desk}
+use Rattle.lw_machine.specs.Step.{reply, after}
+use Rattle.lw_machine.specs.Laws.{is_refusing}
 use Rattle.lw_engine.specs.Plain.{Plain}
 use Rattle.lw_engine.specs.StandsFor.{StandsFor}
 

@@ -9,11 +9,13 @@ use Rattle.lw_planes.specs.Bitmap.{Bitmap, bitmap}
 use Rattle.lw_calls.specs.declared.make.Make.{Make}
 use Rattle.lw_calls.specs.declared.call.Call.TheVariants.{Create}
 use Rattle.lw_calls.specs.declared.reply.Reply.TheVariants.{Done, AlreadyOpen, OutOfBounds}
-use Rattle.lw_calls.specs.Layer.{Slot, Live, change_layer, is_super}
-use Rattle.lw_calls.specs.Desk.{Desk}
-use Rattle.lw_calls.specs.Arrangement.{is_on_screen, is_at_least, portion_lies, bounds_of, blank, new_layer, hook_from, has_backdrop, placed, created}
-use Rattle.lw_calls.specs.Reveal.{Across, across, settled_layer, settled}
-use Rattle.lw_calls.specs.Step.{reply, after, is_plain_make}
+use Rattle.lw_machine.specs.Layer.{Slot, Live, change_layer}
+use Rattle.lw_calls.specs.Kinds.{is_super}
+use Rattle.lw_machine.specs.Desk.{Desk}
+use Rattle.lw_machine.specs.Arrangement.{is_on_screen, is_at_least, portion_fits, bounds_of, new_layer, hook_from, has_backdrop, placed, create_layer}
+use Rattle.lw_machine.specs.Reveal.{Across, across, settled_layer, settled}
+use Rattle.lw_machine.specs.Step.{reply, after}
+use Rattle.lw_calls.specs.Built.{is_plain_make}
 use Rattle.lw_engine.specs.Place.{IsInRange}
 use Rattle.lw_engine.specs.declared.layer.PlainLayer.{PlainLayer}
 use Rattle.lw_engine.specs.Plain.{Plain, layer_at, bounds_in, bounds_at, FitsBounds, IsPlain}
@@ -30,7 +32,7 @@ is_plain make = is_plain_make make.kind make.place make.backdrop make.hook
 
 -- the plain desk with a new layer in front
 abbrev pub with_layer : Plain → ℕ → Rectangle → Bitmap → Plain
-with_layer p slot r b = record (with_slot p slot (Some (fresh r b))) { order = slot ∷ p.order }
+with_layer p slot r b = record (with_slot p slot (Some (fresh r b))) { front_to_back = slot ∷ p.front_to_back }
 
 -- an axis with some places has at least one
 at-least-one : (from count : ℤ) → pos 1 ≤ℤ count → int_le (pos 1) ((((from +ℤ count) -ℤ pos 1) +ℤ pos 1) -ℤ from) ≡ true
@@ -53,7 +55,7 @@ and-both false = refl
 made-on_screen : (d : Desk) (make : Make) → IsInRange make → IsTrue (is_plain make) → may_be_made d make ≡ is_on_screen d.sizes (bounds_of make)
 made-on_screen d make range plain =
     let on : Bool = is_on_screen d.sizes (bounds_of make) in
-    let portion : Bool = portion_lies (pos 0) (pos 0) (bounds_of make) (blank make.kind d.sizes.depth make) in
+    let portion : Bool = portion_fits (pos 0) (pos 0) make.bits_w make.bits_h (bounds_of make) in
     let is = plain-make make.kind make.place make.backdrop make.hook plain in
     ap (λ t. (on && t) && (if is_super make.kind then portion else true)) (large-enough make range) ∙
     (ap (λ k. (on && true) && (if is_super k then portion else true)) is.kind ∙ and-both on)
@@ -64,16 +66,16 @@ made-stands p d make o range plain on stands =
     made-on_screen d make range plain ∙ (ap (λ s. is_on_screen s (bounds_of make)) stands.sizes ∙ on)
 
 -- a plain layer goes in front of all others
-placed-front : (d : Desk) (slot : ℕ) (make : Make) → IsTrue (is_plain make) → placed (has_backdrop d) make.backdrop make.place slot d.order ≡ slot ∷ d.order
+placed-front : (d : Desk) (slot : ℕ) (make : Make) → IsTrue (is_plain make) → placed (has_backdrop d) make.backdrop make.place slot d.front_to_back ≡ slot ∷ d.front_to_back
 placed-front d slot make plain =
     let is = plain-make make.kind make.place make.backdrop make.hook plain in
-    ap (λ b. placed (has_backdrop d) b make.place slot d.order) is.backdrop ∙ ap (λ q. placed (has_backdrop d) false q slot d.order) is.place
+    ap (λ b. placed (has_backdrop d) b make.place slot d.front_to_back) is.backdrop ∙ ap (λ q. placed (has_backdrop d) false q slot d.front_to_back) is.place
 
 -- the plain desk with a new layer stands for the desk with it, before anything is revealed
-stands-created : (p : Plain) (d : Desk) (slot : ℕ) (make : Make) (r : Rectangle) (b : Bitmap) → slot < length p.layers → IsTrue (is_plain make) → bounds_of make ≡ r → new_layer d.sizes.depth make (hook_from d.shelf make.hook) None ≡ layer_of (fresh r b) → StandsFor p d → StandsFor (with_layer p slot r b) (created d slot make None)
+stands-created : (p : Plain) (d : Desk) (slot : ℕ) (make : Make) (r : Rectangle) (b : Bitmap) → slot < length p.layers → IsTrue (is_plain make) → bounds_of make ≡ r → new_layer d.sizes.depth make (hook_from d.shelf make.hook) None ≡ layer_of (fresh r b) → StandsFor p d → StandsFor (with_layer p slot r b) (create_layer d slot make None)
 stands-created p d slot make r b low plain bounds layer stands = record {
   sizes = stands.sizes;
-  order = placed-front d slot make plain ∙ ap (λ o. slot ∷ o) stands.order;
+  front_to_back = placed-front d slot make plain ∙ ap (λ o. slot ∷ o) stands.front_to_back;
   bounds = λ s h. with-set bounds_in slot s (Some (bounds_of make)) d.bounds p.layers (Some (fresh r b)) None low (ap (λ q. Some q) bounds) (stands.bounds s h);
   slots = λ s h. with-set slot_of slot s (Live (new_layer d.sizes.depth make (hook_from d.shelf make.hook) None)) d.slot p.layers (Some (fresh r b)) None low (ap (λ l. Live l) layer) (stands.slots s h);
   registers = stands.registers;
@@ -113,18 +115,18 @@ kept-slot p glyphs c slot s r w h low low' ok empty fits before now =
     (cases_eq s slot)
 
 -- the plain desk with a new layer stands for the desk with it
-stands-settled : (p : Plain) (d : Desk) (slot : ℕ) (make : Make) (r : Rectangle) (w h : ℕ) → slot < p.sizes.slots → IsPlain p → is_some (layer_at p slot) ≡ false → FitsBounds p.sizes r (bitmap w h p.sizes.depth (λ x y. 0)) → StandsFor p d → StandsFor (with_layer p slot r (bitmap w h p.sizes.depth (λ x y. 0))) (created d slot make None) → StandsFor (with_layer p slot r (bitmap w h p.sizes.depth (λ x y. 0))) (settled d (created d slot make None))
+stands-settled : (p : Plain) (d : Desk) (slot : ℕ) (make : Make) (r : Rectangle) (w h : ℕ) → slot < p.sizes.slots → IsPlain p → is_some (layer_at p slot) ≡ false → FitsBounds p.sizes r (bitmap w h p.sizes.depth (λ x y. 0)) → StandsFor p d → StandsFor (with_layer p slot r (bitmap w h p.sizes.depth (λ x y. 0))) (create_layer d slot make None) → StandsFor (with_layer p slot r (bitmap w h p.sizes.depth (λ x y. 0))) (settled d (create_layer d slot make None))
 stands-settled p d slot make r w h low ok empty fits stands made =
-    let a : Desk = created d slot make None in
-    let change : ℕ → Slot → Slot = λ s layer. change_layer (settled_layer d.supplies.glyphs (across d a s)) layer in
+    let a : Desk = create_layer d slot make None in
+    let change : ℕ → Slot → Slot = λ s layer. change_layer (settled_layer d.assets.glyphs (across d a s)) layer in
     record {
       sizes = made.sizes;
-      order = made.order;
+      front_to_back = made.front_to_back;
       bounds = made.bounds;
       registers = made.registers;
       slots = λ s here.
-          let kept : change s (a.slot s) ≡ a.slot s = ap (change s) (made.slots s here) ∙ (kept-slot p d.supplies.glyphs (across d a s) slot s r w h here low ok empty fits (stands.bounds s here) (made.bounds s here) ∙ sym (made.slots s here)) in
-          change_each-same a.order change a.slot s kept ∙ made.slots s here;
+          let kept : change s (a.slot s) ≡ a.slot s = ap (change s) (made.slots s here) ∙ (kept-slot p d.assets.glyphs (across d a s) slot s r w h here low ok empty fits (stands.bounds s here) (made.bounds s here) ∙ sym (made.slots s here)) in
+          change_each-same a.front_to_back change a.slot s kept ∙ made.slots s here;
     }
 
 -- a creation in an opened slot answers so
@@ -159,7 +161,7 @@ created-reply p d task slot make low range plain is on stands =
 pub created-stands : (p : Plain) (d : Desk) (task slot : ℕ) (make : Make) (r : Rectangle) (w h : ℕ) → IsPlain p → slot < p.sizes.slots → IsInRange make → IsTrue (is_plain make) → is_some (layer_at p slot) ≡ false → is_on_screen p.sizes (bounds_of make) ≡ true → bounds_of make ≡ r → make.w ≡ pos w → make.h ≡ pos h → FitsBounds p.sizes r (bitmap w h p.sizes.depth (λ x y. 0)) → StandsFor p d → StandsFor (with_layer p slot r (bitmap w h p.sizes.depth (λ x y. 0))) (after d task (Create slot make))
 created-stands p d task slot make r w h ok low range plain empty on bounds wide high fits stands =
     let b : Bitmap = bitmap w h p.sizes.depth (λ x y. 0) in
-    let same : after d task (Create slot make) ≡ settled d (created d slot make None) = after-create d task slot make true true (unopened-stands p d slot low stands ∙ ap not empty) (made-stands p d make true range plain on stands) in
+    let same : after d task (Create slot make) ≡ settled d (create_layer d slot make None) = after-create d task slot make true true (unopened-stands p d slot low stands ∙ ap not empty) (made-stands p d make true range plain on stands) in
     let layer : new_layer d.sizes.depth make (hook_from d.shelf make.hook) None ≡ layer_of (fresh r b) = ap (λ s. new_layer s.depth make (hook_from d.shelf make.hook) None) stands.sizes ∙ new-plain d.shelf p.sizes.depth w h make r plain wide high in
     let made = stands-created p d slot make r b (omega (arith, ok.layers)) plain bounds layer stands in
     let P : Desk → Type 0 = λ e. StandsFor (with_layer p slot r b) e in

@@ -7,15 +7,16 @@ use Rattle.lw_region.specs.Pixels.{pixels_of}
 use Rattle.lw_region.proofs.SetOps.{set_of_nil}
 use Rattle.lw_calls.specs.declared.sizes.Sizes.{Sizes}
 use Rattle.lw_calls.specs.Limits.{IsWithinLimits}
-use Rattle.lw_calls.specs.Hook.{Hook}
-use Rattle.lw_calls.specs.Desk.{Supplies, empty_desk}
+use Rattle.lw_machine.specs.Hook.{Hook}
+use Rattle.lw_calls.specs.Assets.{Assets}
+use Rattle.lw_machine.specs.Desk.{empty_desk}
 use Rattle.lw_engine.specs.declared.layer.PlainLayer.{PlainLayer}
 use Rattle.lw_engine.specs.Plain.{Plain, layer_at, bounds_in, registers_at, register_at, IsFitting, IsPlain}
 use Rattle.lw_engine.specs.StandsFor.{StandsFor, slot_of}
 
 -- nothing but sizes
 abbrev pub empty : Sizes → Plain
-empty s = record { sizes = s; order = []; layers = replicate s.slots None; registers = replicate s.tasks (replicate 8 []) }
+empty s = record { sizes = s; front_to_back = []; layers = replicate s.slots None; registers = replicate s.tasks (replicate 8 []) }
 
 -- no slot has a layer
 no-layer : (s : Sizes) (k : ℕ) → k < s.slots → layer_at (empty s) k ≡ None
@@ -30,7 +31,7 @@ pub IsPlain-empty : (s : Sizes) → IsWithinLimits s → IsPlain (empty s)
 IsPlain-empty s limits = record {
   limits = limits;
   layers = length-replicate s.slots None;
-  order = All-nil (λ k. k < s.slots);
+  front_to_back = All-nil (λ k. k < s.slots);
   fit = λ k low.
       let P : Option PlainLayer → Type 0 = λ o. IsFitting s o in
       subst P (sym (no-layer s k low)) tt;
@@ -44,10 +45,10 @@ empty-set s t r low small =
     ap (λ regs. pixels_of (get_or regs r [])) (no-registers s t low) ∙ (ap pixels_of (get_or-replicate 8 r [] [] small) ∙ set_of_nil)
 
 -- it stands for the desk before the first call, whatever was handed in
-pub stands-empty : (s : Sizes) (supplies : Supplies) (shelf : ℕ → Option Hook) → StandsFor (empty s) (empty_desk s supplies shelf)
-stands-empty s supplies shelf = record {
+pub stands-empty : (s : Sizes) (assets : Assets) (shelf : ℕ → Option Hook) → StandsFor (empty s) (empty_desk s assets shelf)
+stands-empty s assets shelf = record {
   sizes = refl;
-  order = refl;
+  front_to_back = refl;
   bounds = λ k low. ap bounds_in (sym (no-layer s k low));
   slots = λ k low. ap slot_of (sym (no-layer s k low));
   registers = λ t r low small. sym (empty-set s t r low small);
@@ -55,7 +56,7 @@ stands-empty s supplies shelf = record {
 
 -- a plain desk by its parts
 abbrev pub plain_of : Sizes → List ℕ → List (Option PlainLayer) → List (List (List Rectangle)) → Plain
-plain_of s order layers registers = record { sizes = s; order = order; layers = layers; registers = registers }
+plain_of s order layers registers = record { sizes = s; front_to_back = order; layers = layers; registers = registers }
 
 -- a plain desk whose parts are empty
 pub parts-empty : (s : Sizes) (order : List ℕ) (layers : List (Option PlainLayer)) (registers : List (List (List Rectangle))) → order ≡ [] → layers ≡ replicate s.slots None → registers ≡ replicate s.tasks (replicate 8 []) → plain_of s order layers registers ≡ empty s

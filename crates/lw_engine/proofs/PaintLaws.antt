@@ -1,6 +1,5 @@
 -- How a new layer is painted.
-use Rattle.std.proofs.Common.{◌≡◌, ℕ, zero, suc, ◌<◌, ◌≤◌, ◌==◌, ◌&&◌, Bool, true, false, if◌then◌else◌, ℤ, pos, ◌∙◌, refl, ap, List, arith, Some, None, Option, IsTrue, nat_lt}
-use Rattle.std.proofs.Common.{lt-ltb}
+use Rattle.std.proofs.Common.{◌≡◌, ℕ, zero, suc, ◌<◌, ◌≤◌, ◌==◌, ◌&&◌, Bool, true, false, if◌then◌else◌, ℤ, pos, ◌∙◌, refl, ap, List, arith, Some, None, Option, IsTrue, nat_lt, lt-ltb}
 use Rattle.std.specs.Int.{bit_at}
 use Rattle.std.proofs.lemmas.Bool.{false≢true}
 use Rattle.lw_region.specs.Rectangle.{Rectangle, has_pixel}
@@ -14,13 +13,13 @@ use Rattle.lw_calls.specs.declared.make.Kind.TheVariants.{Simple, Smart, SuperBi
 use Rattle.lw_calls.specs.declared.make.Place.{Place}
 use Rattle.lw_calls.specs.declared.make.Place.TheVariants.{Front, Behind}
 use Rattle.lw_calls.specs.declared.make.Make.{Make}
-use Rattle.lw_calls.specs.Hook.{Hook}
-use Rattle.lw_calls.specs.Layer.{Layer, new_raster}
-use Rattle.lw_calls.specs.Kept.{is_kept, in_clip, is_drawable}
-use Rattle.lw_calls.specs.Paint.{paint, through_mask, with_pens}
-use Rattle.lw_calls.specs.Shapes.{filled}
-use Rattle.lw_calls.specs.Arrangement.{new_layer, hook_from}
-use Rattle.lw_calls.specs.Step.{is_plain_make}
+use Rattle.lw_machine.specs.Hook.{Hook}
+use Rattle.lw_machine.specs.Layer.{Layer, new_raster}
+use Rattle.lw_machine.specs.Kept.{is_kept, in_clip, is_drawable}
+use Rattle.lw_machine.specs.Paint.{candidate_bit, through_mask, with_pens}
+use Rattle.lw_machine.specs.Shapes.{rect_fill}
+use Rattle.lw_machine.specs.Arrangement.{new_layer, hook_from}
+use Rattle.lw_calls.specs.Built.{is_plain_make}
 use Rattle.lw_engine.specs.PlainBitmap.{with_pixels}
 use Rattle.lw_engine.specs.LayerCalls.{clip_has, filled_bits}
 use Rattle.lw_engine.specs.StandsFor.{clip_set, layer_of}
@@ -39,10 +38,14 @@ bit-mask (suc (suc (suc (suc (suc (suc zero)))))) h = refl
 bit-mask (suc (suc (suc (suc (suc (suc (suc zero))))))) h = refl
 bit-mask (suc (suc (suc (suc (suc (suc (suc (suc k)))))))) h = absurd (omega arith)
 
+-- what a new layer paints in the foreground over a pen
+abbrev painted : ℕ → ℕ → ℕ
+painted depth old = through_mask depth new_raster.mask (λ k. candidate_bit new_raster true k (bit_at old k)) old
+
 -- a new layer paints pen 1, whatever the pen was
-pub paint-new : (depth old : ℕ) → 1 ≤ depth → depth ≤ 8 → paint depth new_raster true old ≡ 1
+painted-new : (depth old : ℕ) → 1 ≤ depth → depth ≤ 8 → painted depth old ≡ 1
 unfolding through_mask
-paint-new depth old some few =
+painted-new depth old some few =
     pen_of-same depth _ (λ k. bit_at 1 k)
     (λ k low. let small : k < 8 = omega arith in ap (λ b. if b == 1 then bit_at 1 k else bit_at old k) (bit-mask k small)) ∙
     pen-same depth 1 (pen-one depth some)
@@ -64,15 +67,15 @@ clip-and-rectangle (Some rects) rect x y =
     ap (λ t. t && has_pixel rect (pos x) (pos y)) (and-true (contains_pixel (pixels_of rects) (pos x) (pos y)) ∙ contains_pixels_of rects (pos x) (pos y))
 
 -- a fill of a layer that is as it was created but for its bits and its clip region
-pub filled-plain : (visible : ℕ → ℕ → Bool) (rect : Rectangle) (l : PlainLayer) → 1 ≤ l.bits.depth → l.bits.depth ≤ 8 → filled visible rect (layer_of l) ≡ layer_of (record l { bits = filled_bits l.clip rect l.bits })
+pub filled-plain : (visible : ℕ → ℕ → Bool) (rect : Rectangle) (l : PlainLayer) → 1 ≤ l.bits.depth → l.bits.depth ≤ 8 → rect_fill visible rect (layer_of l) ≡ layer_of (record l { bits = filled_bits l.clip rect l.bits })
 unfolding with_pens is_kept is_drawable with_pixels
 filled-plain visible rect l some few =
     let b : Bitmap = l.bits in
     ap (λ rows. record (layer_of l) { bits = record b { rows = rows } })
     (grid-same b.width b.height _ _ (λ x y left low.
-    ap (λ t. if ((t && true) && (in_clip (clip_set l.clip) x y && true)) && has_pixel rect (pos x) (pos y) then paint b.depth new_raster true (pen_at b x y) else pen_at b x y) (in-size x y b.width b.height left low) ∙
-    (ap (λ t. if t then paint b.depth new_raster true (pen_at b x y) else pen_at b x y) (clip-and-rectangle l.clip rect x y) ∙
-    ap (λ n. if clip_has l.clip rect (pos x) (pos y) then n else pen_at b x y) (paint-new b.depth (pen_at b x y) some few))))
+    ap (λ t. if ((t && true) && (in_clip (clip_set l.clip) x y && true)) && has_pixel rect (pos x) (pos y) then painted b.depth (pen_at b x y) else pen_at b x y) (in-size x y b.width b.height left low) ∙
+    (ap (λ t. if t then painted b.depth (pen_at b x y) else pen_at b x y) (clip-and-rectangle l.clip rect x y) ∙
+    ap (λ n. if clip_has l.clip rect (pos x) (pos y) then n else pen_at b x y) (painted-new b.depth (pen_at b x y) some few))))
 
 -- a layer of a plain creation is smart, in front, no backdrop layer, and has no hook
 pub record IsPlainMake (k : Kind) (p : Place) (b : Bool) (o : Option ℕ) : Type 0 where

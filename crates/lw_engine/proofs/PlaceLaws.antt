@@ -9,8 +9,8 @@ use Rattle.lw_planes.specs.Bitmap.{Bitmap, bitmap}
 use Rattle.lw_calls.specs.declared.sizes.Sizes.{Sizes}
 use Rattle.lw_calls.specs.declared.make.Make.{Make}
 use Rattle.lw_calls.specs.Limits.{make_fits, is_coordinate, hook_fits, kind_fits}
-use Rattle.lw_calls.specs.Screen.{distance, bounds_have}
-use Rattle.lw_calls.specs.Arrangement.{is_on_screen, bounds_of}
+use Rattle.lw_machine.specs.Screen.{distance, bounds_have}
+use Rattle.lw_machine.specs.Arrangement.{is_on_screen, bounds_of}
 use Rattle.lw_engine.specs.Place.{IsInRange}
 use Rattle.lw_engine.specs.declared.layer.PlainLayer.{PlainLayer}
 use Rattle.lw_engine.specs.Plain.{Plain, layer_at, bounds_in, bounds_at, FitsBounds, IsFitting, IsPlain}

@@ -42,20 +42,20 @@ pub IsPlain-with_slot : (p : Plain) (slot : ℕ) (o : Option PlainLayer) → slo
 IsPlain-with_slot p slot o low fits ok = record {
   limits = ok.limits;
   layers = length-set p.layers slot o ∙ ok.layers;
-  order = ok.order;
+  front_to_back = ok.front_to_back;
   fit = λ s h. set-each (λ q. IsFitting p.sizes q) p.layers slot s o None (omega (arith, ok.layers)) fits (ok.fit s h);
   registers = ok.registers;
   eight = ok.eight;
 }
 
 -- a plain desk with a new layer in front
-pub IsPlain-created : (p : Plain) (slot : ℕ) (o : Option PlainLayer) → slot < p.sizes.slots → IsFitting p.sizes o → IsPlain p → IsPlain (record (with_slot p slot o) { order = slot ∷ p.order })
+pub IsPlain-created : (p : Plain) (slot : ℕ) (o : Option PlainLayer) → slot < p.sizes.slots → IsFitting p.sizes o → IsPlain p → IsPlain (record (with_slot p slot o) { front_to_back = slot ∷ p.front_to_back })
 IsPlain-created p slot o low fits ok =
     let with = IsPlain-with_slot p slot o low fits ok in
     record {
       limits = ok.limits;
       layers = with.layers;
-      order = All-cons (λ s. s < p.sizes.slots) slot p.order low ok.order;
+      front_to_back = All-cons (λ s. s < p.sizes.slots) slot p.front_to_back low ok.front_to_back;
       fit = with.fit;
       registers = ok.registers;
       eight = ok.eight;
@@ -66,7 +66,7 @@ pub IsPlain-with_registers : (p : Plain) (task : ℕ) (regions : List (List Rect
 IsPlain-with_registers p task regions low eight ok = record {
   limits = ok.limits;
   layers = ok.layers;
-  order = ok.order;
+  front_to_back = ok.front_to_back;
   fit = ok.fit;
   registers = length-set p.registers task regions ∙ ok.registers;
   eight = λ t h. set-each (λ q. length q ≡ 8) p.registers task t regions [] (omega (arith, ok.registers)) eight (ok.eight t h);

@@ -15,10 +15,10 @@ use Rattle.lw_calls.specs.declared.operation.PairOp.TheVariants.{Or as OrPair, A
 use Rattle.lw_calls.specs.declared.call.Call.TheVariants.{RegRect, RegPair, RegClear}
 use Rattle.lw_calls.specs.declared.reply.Reply.{Reply}
 use Rattle.lw_calls.specs.declared.reply.Reply.TheVariants.{Done, TooManyRects}
-use Rattle.lw_calls.specs.Desk.{Desk, with_value}
-use Rattle.lw_calls.specs.Registers.{joined_rect, joined_pair, has_too_many, rect_limit}
-use Rattle.lw_calls.specs.Step.{refuse, unless_refused, reply_or, with_register, reply, after}
-use Rattle.lw_calls.specs.Laws.{is_refusing}
+use Rattle.lw_machine.specs.Desk.{Desk, with_value}
+use Rattle.lw_machine.specs.Registers.{rect_result, pair_result, has_too_many, rect_limit}
+use Rattle.lw_machine.specs.Step.{refuse, changed_unless, reply_or, with_register, reply, after}
+use Rattle.lw_machine.specs.Laws.{is_refusing}
 use Rattle.lw_engine.specs.Plain.{Plain, registers_at, register_at, IsPlain}
 use Rattle.lw_engine.specs.StandsFor.{StandsFor}
 use Rattle.lw_engine.specs.Registers.{set_in, with_set, set_reply, is_short, with_set_in}
@@ -47,16 +47,16 @@ length-chosen true regions reg rects n long = long
 length-chosen false regions reg rects n long = length-set regions reg rects ∙ long
 
 -- what is joined to a register is a set in reading order
-pub ordered-joined_rect : (op : RectOp) (rects : List Rectangle) (r : Rectangle) → IsInOrder precedes (joined_rect op (pixels_of rects) r)
-ordered-joined_rect OrRect rects r = ordered_union _ _
-ordered-joined_rect AndRect rects r = ordered_intersection _ _ (ordered_pixels rects)
-ordered-joined_rect XorRect rects r = ordered_symmetric _ _
-ordered-joined_rect ClearRect rects r = ordered_difference _ _ (ordered_pixels rects)
+pub ordered-rect_result : (op : RectOp) (rects : List Rectangle) (r : Rectangle) → IsInOrder precedes (rect_result op (pixels_of rects) r)
+ordered-rect_result OrRect rects r = ordered_union _ _
+ordered-rect_result AndRect rects r = ordered_intersection _ _ (ordered_pixels rects)
+ordered-rect_result XorRect rects r = ordered_symmetric _ _
+ordered-rect_result ClearRect rects r = ordered_difference _ _ (ordered_pixels rects)
 
-pub ordered-joined_pair : (op : PairOp) (source into : List Rectangle) → IsInOrder precedes (joined_pair op (pixels_of source) (pixels_of into))
-ordered-joined_pair OrPair source into = ordered_union _ _
-ordered-joined_pair AndPair source into = ordered_intersection _ _ (ordered_pixels into)
-ordered-joined_pair XorPair source into = ordered_symmetric _ _
+pub ordered-pair_result : (op : PairOp) (source into : List Rectangle) → IsInOrder precedes (pair_result op (pixels_of source) (pixels_of into))
+ordered-pair_result OrPair source into = ordered_union _ _
+ordered-pair_result AndPair source into = ordered_intersection _ _ (ordered_pixels into)
+ordered-pair_result XorPair source into = ordered_symmetric _ _
 
 -- the registers have the set in the one that it was put into, and each other one as before
 set-registers : (p : Plain) (d : Desk) (task reg t r : ℕ) (s : List Pixel) → task < p.sizes.tasks → reg < 8 → t < p.sizes.tasks → r < 8 → IsPlain p → IsInOrder precedes s → StandsFor p d → with_value task (with_value reg s (d.registers task)) d.registers t r ≡ pixels_of (register_at (record p { registers = set p.registers task (set (registers_at p task) reg (bands s)) }) t r)
@@ -77,35 +77,35 @@ set-registers p d task reg t r s here small low few ok ordered stands =
     (cases_eq t task)
 
 -- the plain desk with a set put into a register stands for the desk after that, by whether it has too many rectangles
-stands-set-by : (p : Plain) (d : Desk) (task reg : ℕ) (s : List Pixel) (many : Bool) → task < p.sizes.tasks → reg < 8 → IsPlain p → IsInOrder precedes s → StandsFor p d → StandsFor (record p { registers = set p.registers task (if many then registers_at p task else set (registers_at p task) reg (bands s)) }) (unless_refused (refuse many TooManyRects None) d (with_register d task reg s))
+stands-set-by : (p : Plain) (d : Desk) (task reg : ℕ) (s : List Pixel) (many : Bool) → task < p.sizes.tasks → reg < 8 → IsPlain p → IsInOrder precedes s → StandsFor p d → StandsFor (record p { registers = set p.registers task (if many then registers_at p task else set (registers_at p task) reg (bands s)) }) (changed_unless (refuse many TooManyRects None) d (with_register d task reg s))
 stands-set-by p d task reg s true here small ok ordered stands =
     let P : List (List (List Rectangle)) → Type 0 = λ registers. StandsFor (record p { registers = registers }) d in
     subst P (sym (set-get_or p.registers task [])) stands
 stands-set-by p d task reg s false here small ok ordered stands = record {
   sizes = stands.sizes;
-  order = stands.order;
+  front_to_back = stands.front_to_back;
   bounds = stands.bounds;
   slots = stands.slots;
   registers = λ t r low few. set-registers p d task reg t r s here small low few ok ordered stands;
 }
 
 -- the plain desk with a rectangle joined to a register stands for the desk after that
-pub stands-joined_rect : (p : Plain) (d : Desk) (task reg : ℕ) (op : RectOp) (rect : Rectangle) → task < p.sizes.tasks → reg < 8 → IsPlain p → StandsFor p d → StandsFor (with_set_in p task reg (joined_rect op (set_in (registers_at p task) reg) rect)) (after d task (RegRect op reg rect))
+pub stands-rect_result : (p : Plain) (d : Desk) (task reg : ℕ) (op : RectOp) (rect : Rectangle) → task < p.sizes.tasks → reg < 8 → IsPlain p → StandsFor p d → StandsFor (with_set_in p task reg (rect_result op (set_in (registers_at p task) reg) rect)) (after d task (RegRect op reg rect))
 unfolding after
-stands-joined_rect p d task reg op rect here small ok stands =
-    let s : List Pixel = joined_rect op (set_in (registers_at p task) reg) rect in
-    let same : joined_rect op (d.registers task reg) rect ≡ s = ap (λ q. joined_rect op q rect) (stands.registers task reg here small) in
-    let Q : List Pixel → Type 0 = λ q. StandsFor (with_set_in p task reg s) (unless_refused (refuse (has_too_many q) TooManyRects None) d (with_register d task reg q)) in
-    subst Q (sym same) (stands-set-by p d task reg s (has_too_many s) here small ok (ordered-joined_rect op (register_at p task reg) rect) stands)
+stands-rect_result p d task reg op rect here small ok stands =
+    let s : List Pixel = rect_result op (set_in (registers_at p task) reg) rect in
+    let same : rect_result op (d.registers task reg) rect ≡ s = ap (λ q. rect_result op q rect) (stands.registers task reg here small) in
+    let Q : List Pixel → Type 0 = λ q. StandsFor (with_set_in p task reg s) (changed_unless (refuse (has_too_many q) TooManyRects None) d (with_register d task reg q)) in
+    subst Q (sym same) (stands-set-by p d task reg s (has_too_many s) here small ok (ordered-rect_result op (register_at p task reg) rect) stands)
 
 -- the plain desk with a register joined to another stands for the desk after that
-pub stands-joined_pair : (p : Plain) (d : Desk) (task source into : ℕ) (op : PairOp) → task < p.sizes.tasks → source < 8 → into < 8 → IsPlain p → StandsFor p d → StandsFor (with_set_in p task into (joined_pair op (set_in (registers_at p task) source) (set_in (registers_at p task) into))) (after d task (RegPair op source into))
+pub stands-pair_result : (p : Plain) (d : Desk) (task source into : ℕ) (op : PairOp) → task < p.sizes.tasks → source < 8 → into < 8 → IsPlain p → StandsFor p d → StandsFor (with_set_in p task into (pair_result op (set_in (registers_at p task) source) (set_in (registers_at p task) into))) (after d task (RegPair op source into))
 unfolding after
-stands-joined_pair p d task source into op here small small' ok stands =
-    let s : List Pixel = joined_pair op (set_in (registers_at p task) source) (set_in (registers_at p task) into) in
-    let same : joined_pair op (d.registers task source) (d.registers task into) ≡ s = ap (λ q. joined_pair op q (d.registers task into)) (stands.registers task source here small) ∙ ap (λ q. joined_pair op (set_in (registers_at p task) source) q) (stands.registers task into here small') in
-    let Q : List Pixel → Type 0 = λ q. StandsFor (with_set_in p task into s) (unless_refused (refuse (has_too_many q) TooManyRects None) d (with_register d task into q)) in
-    subst Q (sym same) (stands-set-by p d task into s (has_too_many s) here small' ok (ordered-joined_pair op (register_at p task source) (register_at p task into)) stands)
+stands-pair_result p d task source into op here small small' ok stands =
+    let s : List Pixel = pair_result op (set_in (registers_at p task) source) (set_in (registers_at p task) into) in
+    let same : pair_result op (d.registers task source) (d.registers task into) ≡ s = ap (λ q. pair_result op q (d.registers task into)) (stands.registers task source here small) ∙ ap (λ q. pair_result op (set_in (registers_at p task) source) q) (stands.registers task into here small') in
+    let Q : List Pixel → Type 0 = λ q. StandsFor (with_set_in p task into s) (changed_unless (refuse (has_too_many q) TooManyRects None) d (with_register d task into q)) in
+    subst Q (sym same) (stands-set-by p d task into s (has_too_many s) here small' ok (ordered-pair_result op (register_at p task source) (register_at p task into)) stands)
 
 -- registers with a set put into one of them are still as many
 pub length-with_set : (regions : List (List Rectangle)) (reg : ℕ) (s : List Pixel) (n : ℕ) → length regions ≡ n → length (with_set regions reg s) ≡ n
@@ -125,7 +125,7 @@ few-nil = ap (λ rects. not (nat_le (length rects) rect_limit)) bands_of_nil
 pub stands-cleared : (p : Plain) (d : Desk) (task reg : ℕ) → task < p.sizes.tasks → reg < 8 → IsPlain p → StandsFor p d → StandsFor (with_set_in p task reg []) (after d task (RegClear reg))
 unfolding after
 stands-cleared p d task reg here small ok stands =
-    let Q : Bool → Type 0 = λ many. StandsFor (with_set_in p task reg []) (unless_refused (refuse many TooManyRects None) d (with_register d task reg [])) in
+    let Q : Bool → Type 0 = λ many. StandsFor (with_set_in p task reg []) (changed_unless (refuse many TooManyRects None) d (with_register d task reg [])) in
     subst Q few-nil (stands-set-by p d task reg [] (has_too_many []) here small ok tt stands)
 
 -- what an emptied register leaves
@@ -139,19 +139,19 @@ refuse-or-done true = refl
 refuse-or-done false = refl
 
 -- a call that joins a rectangle to a register answers what the desk's does
-pub joined_rect-reply : (p : Plain) (d : Desk) (task reg : ℕ) (op : RectOp) (rect : Rectangle) → task < p.sizes.tasks → reg < 8 → StandsFor p d → set_reply (joined_rect op (set_in (registers_at p task) reg) rect) ≡ reply d task (RegRect op reg rect)
+pub rect_result-reply : (p : Plain) (d : Desk) (task reg : ℕ) (op : RectOp) (rect : Rectangle) → task < p.sizes.tasks → reg < 8 → StandsFor p d → set_reply (rect_result op (set_in (registers_at p task) reg) rect) ≡ reply d task (RegRect op reg rect)
 unfolding reply
-joined_rect-reply p d task reg op rect here small stands =
-    refuse-or-done (has_too_many (joined_rect op (set_in (registers_at p task) reg) rect)) ∙
-    ap (λ q. reply_or (refuse (has_too_many (joined_rect op q rect)) TooManyRects None) Done) (sym (stands.registers task reg here small))
+rect_result-reply p d task reg op rect here small stands =
+    refuse-or-done (has_too_many (rect_result op (set_in (registers_at p task) reg) rect)) ∙
+    ap (λ q. reply_or (refuse (has_too_many (rect_result op q rect)) TooManyRects None) Done) (sym (stands.registers task reg here small))
 
 -- a call that joins a register to another answers what the desk's does
-pub joined_pair-reply : (p : Plain) (d : Desk) (task source into : ℕ) (op : PairOp) → task < p.sizes.tasks → source < 8 → into < 8 → StandsFor p d → set_reply (joined_pair op (set_in (registers_at p task) source) (set_in (registers_at p task) into)) ≡ reply d task (RegPair op source into)
+pub pair_result-reply : (p : Plain) (d : Desk) (task source into : ℕ) (op : PairOp) → task < p.sizes.tasks → source < 8 → into < 8 → StandsFor p d → set_reply (pair_result op (set_in (registers_at p task) source) (set_in (registers_at p task) into)) ≡ reply d task (RegPair op source into)
 unfolding reply
-joined_pair-reply p d task source into op here small small' stands =
-    refuse-or-done (has_too_many (joined_pair op (set_in (registers_at p task) source) (set_in (registers_at p task) into))) ∙
-    (ap (λ q. reply_or (refuse (has_too_many (joined_pair op q (set_in (registers_at p task) into))) TooManyRects None) Done) (sym (stands.registers task source here small)) ∙
-    ap (λ q. reply_or (refuse (has_too_many (joined_pair op (d.registers task source) q)) TooManyRects None) Done) (sym (stands.registers task into here small')))
+pair_result-reply p d task source into op here small small' stands =
+    refuse-or-done (has_too_many (pair_result op (set_in (registers_at p task) source) (set_in (registers_at p task) into))) ∙
+    (ap (λ q. reply_or (refuse (has_too_many (pair_result op q (set_in (registers_at p task) into))) TooManyRects None) Done) (sym (stands.registers task source here small)) ∙
+    ap (λ q. reply_or (refuse (has_too_many (pair_result op (d.registers task source) q)) TooManyRects None) Done) (sym (stands.registers task into here small')))
 
 -- a call that empties a register is done
 pub clear-reply : (d : Desk) (task reg : ℕ) → Done ≡ reply d task (RegClear reg)

@@ -9,10 +9,10 @@ use Rattle.lw_planes.specs.Bitmap.{Bitmap, IsBitmap, bitmap, pen_at}
 use Rattle.lw_planes.proofs.GridLaws.{grid-at, grid-same}
 use Rattle.lw_planes.proofs.BitmapLaws.{bitmap-again, bitmap-same}
 use Rattle.lw_calls.specs.declared.sizes.Sizes.{Sizes}
-use Rattle.lw_calls.specs.Layer.{Layer, Live, change_layer}
-use Rattle.lw_calls.specs.Desk.{change_each}
-use Rattle.lw_calls.specs.Kept.{is_kept, in_inner}
-use Rattle.lw_calls.specs.Reveal.{Across, width_in, height_in, counts, keeps, is_inner, revealed, frame_is_due, with_messages, settled_layer}
+use Rattle.lw_machine.specs.Layer.{Layer, Live, change_layer}
+use Rattle.lw_machine.specs.Desk.{change_each}
+use Rattle.lw_machine.specs.Kept.{is_kept, in_inner}
+use Rattle.lw_machine.specs.Reveal.{Across, width_in, height_in, counts_as_kept, resized, keeps, is_inner, revealed, frame_is_due, with_messages, settled_layer}
 use Rattle.lw_engine.specs.Plain.{bounds_in, FitsBounds, IsFitting}
 use Rattle.lw_engine.specs.declared.layer.PlainLayer.{PlainLayer}
 use Rattle.lw_engine.specs.StandsFor.{slot_of, layer_of}
@@ -63,7 +63,7 @@ between old new c = record c { bounds = old; new_bounds = new }
 -- a plain layer that is revealed as it was is settled so: it has no window that is framed or told anything
 settled-as : (glyphs : List (List ℕ)) (c : Across) (m : PlainLayer) → revealed c (layer_of m) ≡ layer_of m → settled_layer glyphs c (layer_of m) ≡ layer_of m
 unfolding settled_layer revealed
-settled-as glyphs c m same = ap (λ l. with_messages c l) (if-same (frame_is_due c (layer_of m)) (revealed c (layer_of m))) ∙ same
+settled-as glyphs c m same = ap (λ l. with_messages c l) (if-same (frame_is_due c (layer_of m) (revealed c (layer_of m))) (revealed c (layer_of m))) ∙ same
 
 -- a pixel of the bits is one that the bounds have
 inside-bounds : (b : Bitmap) (w h x y : ℕ) → w ≡ b.width → h ≡ b.height → x < b.width → y < b.height → (nat_lt x w && nat_lt y h) ≡ true
@@ -71,15 +71,15 @@ inside-bounds b w h x y wide high left low =
     ap (λ n. nat_lt x n && nat_lt y h) wide ∙ (ap (λ n. nat_lt x b.width && nat_lt y n) high ∙ in-size x y b.width b.height left low)
 
 -- a layer that was live keeps its pixels
-keeps-inside : (c : Across) (r : Rectangle) (m : PlainLayer) (x y : ℕ) → width_in (Some r) ≡ m.bits.width → height_in (Some r) ≡ m.bits.height → x < m.bits.width → y < m.bits.height → keeps (between (Some r) (Some r) c) (layer_of m) x y ≡ true
-unfolding keeps
+keeps-inside : (c : Across) (r : Rectangle) (m : PlainLayer) (x y : ℕ) → width_in (Some r) ≡ m.bits.width → height_in (Some r) ≡ m.bits.height → x < m.bits.width → y < m.bits.height → keeps (between (Some r) (Some r) c) (resized (between (Some r) (Some r) c) (layer_of m)) x y ≡ true
+unfolding is_kept
 keeps-inside c r m x y wide high left low =
     let b : Bitmap = m.bits in
     ap (λ t. t && true) (inside-bounds b (width_in (Some r)) (height_in (Some r)) x y wide high left low)
 
 -- its pixels count as kept before
-counts-inside : (c : Across) (r : Rectangle) (m : PlainLayer) (x y : ℕ) → width_in (Some r) ≡ m.bits.width → height_in (Some r) ≡ m.bits.height → x < m.bits.width → y < m.bits.height → counts (between (Some r) (Some r) c) (layer_of m) x y ≡ true
-unfolding counts is_kept in_inner
+counts-inside : (c : Across) (r : Rectangle) (m : PlainLayer) (x y : ℕ) → width_in (Some r) ≡ m.bits.width → height_in (Some r) ≡ m.bits.height → x < m.bits.width → y < m.bits.height → counts_as_kept (between (Some r) (Some r) c) (layer_of m) x y ≡ true
+unfolding counts_as_kept is_kept in_inner
 counts-inside c r m x y wide high left low =
     let b : Bitmap = m.bits in
     ap (λ t. (t && true) && ((nat_lt x (width_in (Some r)) && nat_lt y (height_in (Some r))) || true)) (in-size x y b.width b.height left low) ∙
@@ -94,33 +94,33 @@ revealed-former c r m ok wide high =
     let l : Layer = layer_of m in
     let w : ℕ = width_in (Some r) in
     let h : ℕ = height_in (Some r) in
-    let pen : ℕ → ℕ → ℕ = λ x y. if keeps n l x y then (if counts n l x y then pen_at b x y else 0) else 0 in
-    let damaged : ℕ → ℕ → Bool = λ x y. (keeps n l x y && is_inner n l x y) && (if counts n l x y then at false l.damage x y else true) in
+    let pen : ℕ → ℕ → ℕ = λ x y. if keeps n (resized n l) x y then (if counts_as_kept n l x y then pen_at b x y else 0) else 0 in
+    let damaged : ℕ → ℕ → Bool = λ x y. (keeps n (resized n l) x y && is_inner n l x y) && (if counts_as_kept n l x y then at false l.damage x y else true) in
     ap (λ bits. record l { bits = bits; damage = grid w h damaged })
     (bitmap-anew b w h pen ok wide high (λ x y left low.
-    ap (λ t. if t then (if counts n l x y then pen_at b x y else 0) else 0) (keeps-inside c r m x y wide high left low) ∙
+    ap (λ t. if t then (if counts_as_kept n l x y then pen_at b x y else 0) else 0) (keeps-inside c r m x y wide high left low) ∙
     ap (λ t. if t then pen_at b x y else 0) (counts-inside c r m x y wide high left low))) ∙
     ap (λ damage. record l { damage = damage })
     (grid-nothing b.width b.height w h damaged wide high (λ x y left low.
-    ap (λ t. (keeps n l x y && is_inner n l x y) && (if t then at false l.damage x y else true)) (counts-inside c r m x y wide high left low) ∙
-    (ap (λ t. (keeps n l x y && is_inner n l x y) && t) (grid-at b.width b.height (λ x y. false) false x y left low) ∙
-    and-false (keeps n l x y && is_inner n l x y))))
+    ap (λ t. (keeps n (resized n l) x y && is_inner n l x y) && (if t then at false l.damage x y else true)) (counts-inside c r m x y wide high left low) ∙
+    (ap (λ t. (keeps n (resized n l) x y && is_inner n l x y) && t) (grid-at b.width b.height (λ x y. false) false x y left low) ∙
+    and-false (keeps n (resized n l) x y && is_inner n l x y))))
 
 -- a new layer is revealed as it was created
 revealed-new : (c : Across) (r : Rectangle) (w h depth : ℕ) → width_in (Some r) ≡ w → height_in (Some r) ≡ h → revealed (between None (Some r) c) (layer_of (fresh r (bitmap w h depth (λ x y. 0)))) ≡ layer_of (fresh r (bitmap w h depth (λ x y. 0)))
-unfolding revealed counts
+unfolding revealed counts_as_kept
 revealed-new c r w h depth wide high =
     let n : Across = between None (Some r) c in
     let l : Layer = layer_of (fresh r (bitmap w h depth (λ x y. 0))) in
     let v : ℕ = width_in (Some r) in
     let u : ℕ = height_in (Some r) in
-    let pen : ℕ → ℕ → ℕ = λ x y. if keeps n l x y then 0 else 0 in
-    let damaged : ℕ → ℕ → Bool = λ x y. (keeps n l x y && is_inner n l x y) && false in
+    let pen : ℕ → ℕ → ℕ = λ x y. if keeps n (resized n l) x y then 0 else 0 in
+    let damaged : ℕ → ℕ → Bool = λ x y. (keeps n (resized n l) x y && is_inner n l x y) && false in
     ap (λ bits. record l { bits = bits; damage = grid v u damaged })
     (ap (λ k. bitmap k u depth pen) wide ∙
-    (ap (λ k. bitmap w k depth pen) high ∙ bitmap-same w h depth pen (λ x y. 0) (λ x y left low. if-same (keeps n l x y) 0))) ∙
+    (ap (λ k. bitmap w k depth pen) high ∙ bitmap-same w h depth pen (λ x y. 0) (λ x y left low. if-same (keeps n (resized n l) x y) 0))) ∙
     ap (λ damage. record l { damage = damage })
-    (grid-nothing w h v u damaged wide high (λ x y left low. and-false (keeps n l x y && is_inner n l x y)))
+    (grid-nothing w h v u damaged wide high (λ x y left low. and-false (keeps n (resized n l) x y && is_inner n l x y)))
 
 -- bounds that fit have as many columns as the bits
 fitting-columns : (s : Sizes) (r : Rectangle) (b : Bitmap) → FitsBounds s r b → width_in (Some r) ≡ b.width

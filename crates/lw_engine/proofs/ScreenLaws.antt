@@ -5,8 +5,8 @@ use Rattle.std.proofs.lemmas.Bool.Decides.{nat_tests}
 use Rattle.lw_planes.specs.Bitmap.{Bitmap, bitmap, pen_at}
 use Rattle.lw_planes.specs.Change.{with_pen}
 use Rattle.lw_planes.proofs.BitmapLaws.{pen_at-bitmap, bitmap-same}
-use Rattle.lw_calls.specs.Desk.{Desk, is_the}
-use Rattle.lw_calls.specs.Screen.{screen, top, bounds_have, distance, pen_on, pen_of_top}
+use Rattle.lw_machine.specs.Desk.{Desk, is_the}
+use Rattle.lw_machine.specs.Screen.{screen, top, bounds_have, distance, pen_on, pen_of_top}
 use Rattle.lw_engine.specs.declared.layer.PlainLayer.{PlainLayer}
 use Rattle.lw_engine.specs.Plain.{Plain, layer_at, bounds_in, bounds_at, IsPlain}
 use Rattle.lw_engine.specs.StandsFor.{StandsFor, slot_of}
@@ -45,8 +45,8 @@ pub pen-small : (p : Plain) (x y : ℕ) → IsPlain p → pen_shown p x y < 2 ^ 
 unfolding pen_shown
 pen-small p x y ok =
     found-pen-small p x y (top_of p (pos x) (pos y)) ok
-    (find-below (λ s. bounds_have (bounds_at p s) (pos x) (pos y)) p.sizes.slots p.order ok.order)
-    (λ s h. find-holds (λ s. bounds_have (bounds_at p s) (pos x) (pos y)) p.order s h)
+    (find-below (λ s. bounds_have (bounds_at p s) (pos x) (pos y)) p.sizes.slots p.front_to_back ok.front_to_back)
+    (λ s h. find-holds (λ s. bounds_have (bounds_at p s) (pos x) (pos y)) p.front_to_back s h)
 
 -- one place more
 one-more : (i x : ℕ) → nat_lt i (x + 1) ≡ (nat_lt i x || (i == x))

@@ -2,8 +2,8 @@
 use Rattle.std.proofs.Common.{◌≡◌, ℕ, ◌<◌, Bool, true, false, cond, ℤ, pos, List, [], ◌∷◌, Option, Some, None, All, ◌∙◌, refl, ap, IfSome}
 use Rattle.std.specs.List.{find}
 use Rattle.std.proofs.lemmas.List.Elements.{All-head, All-tail}
-use Rattle.lw_calls.specs.Desk.{Desk, is_the}
-use Rattle.lw_calls.specs.Screen.{top, is_shown, bounds_have, pen_on, pen_of_top}
+use Rattle.lw_machine.specs.Desk.{Desk, is_the}
+use Rattle.lw_machine.specs.Screen.{top, is_shown, bounds_have, pen_on, pen_of_top}
 use Rattle.lw_engine.specs.Plain.{Plain, bounds_at, IsPlain}
 use Rattle.lw_engine.specs.StandsFor.{StandsFor}
 use Rattle.lw_engine.specs.Shown.{top_of, is_on_top, pen_in, pen_shown}
@@ -35,8 +35,8 @@ pen-stands p d x y (Some s) low stands =
 top-stands : (p : Plain) (d : Desk) (x y : ℤ) → IsPlain p → StandsFor p d → top d x y ≡ top_of p x y
 unfolding top
 top-stands p d x y ok stands =
-    ap (λ order. find (λ s. bounds_have (d.bounds s) x y) order) stands.order ∙
-    find-same (λ s. bounds_have (d.bounds s) x y) (λ s. bounds_have (bounds_at p s) x y) p.sizes.slots p.order ok.order
+    ap (λ order. find (λ s. bounds_have (d.bounds s) x y) order) stands.front_to_back ∙
+    find-same (λ s. bounds_have (d.bounds s) x y) (λ s. bounds_have (bounds_at p s) x y) p.sizes.slots p.front_to_back ok.front_to_back
     (λ s low. ap (λ r. bounds_have r x y) (stands.bounds s low))
 
 -- both show the same layer there
@@ -48,4 +48,4 @@ pub shown-stands : (p : Plain) (d : Desk) (x y : ℕ) → IsPlain p → StandsFo
 unfolding pen_shown
 shown-stands p d x y ok stands =
     ap (λ o. pen_of_top d o (pos x) (pos y)) (top-stands p d (pos x) (pos y) ok stands) ∙
-    pen-stands p d x y (top_of p (pos x) (pos y)) (find-below (λ s. bounds_have (bounds_at p s) (pos x) (pos y)) p.sizes.slots p.order ok.order) stands
+    pen-stands p d x y (top_of p (pos x) (pos y)) (find-below (λ s. bounds_have (bounds_at p s) (pos x) (pos y)) p.sizes.slots p.front_to_back ok.front_to_back) stands

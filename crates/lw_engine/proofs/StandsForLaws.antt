@@ -6,12 +6,12 @@ use Rattle.lw_region.specs.Rectangle.{Rectangle}
 use Rattle.lw_region.specs.Pixels.{Pixel}
 use Rattle.lw_calls.specs.declared.call.Call.TheVariants.{Fill, Clip, Unclip}
 use Rattle.lw_calls.specs.declared.reply.Reply.TheVariants.{Done, NotOpen, InUpdate}
-use Rattle.lw_calls.specs.Layer.{Layer, Live, is_unopened, layer_is, change_layer}
-use Rattle.lw_calls.specs.Desk.{Desk, with_value}
-use Rattle.lw_calls.specs.Kept.{is_visible}
-use Rattle.lw_calls.specs.Shapes.{filled}
-use Rattle.lw_calls.specs.Step.{refuse, unless_open, unless_refused, reply_or, on_layer, from_layer, clip_answer, reply, after}
-use Rattle.lw_calls.specs.Laws.{is_refusing}
+use Rattle.lw_machine.specs.Layer.{Layer, Live, is_unopened, layer_is, change_layer}
+use Rattle.lw_machine.specs.Desk.{Desk, with_value}
+use Rattle.lw_machine.specs.Kept.{is_visible}
+use Rattle.lw_machine.specs.Shapes.{rect_fill}
+use Rattle.lw_machine.specs.Step.{refuse, refuse_not_open, changed_unless, reply_or, on_layer, from_layer, clip_answer, reply, after}
+use Rattle.lw_machine.specs.Laws.{is_refusing}
 use Rattle.lw_engine.specs.declared.layer.PlainLayer.{PlainLayer}
 use Rattle.lw_engine.specs.Plain.{Plain, layer_at, bounds_in, bounds_at, register_at, IsFitting, IsPlain}
 use Rattle.lw_engine.specs.StandsFor.{StandsFor, clip_set, layer_of, slot_of}
@@ -52,14 +52,14 @@ stands-with_slot p d slot o change low ok bounds changed stands =
     let long : slot < length p.layers = omega (arith, ok.layers) in
     record {
       sizes = stands.sizes;
-      order = stands.order;
+      front_to_back = stands.front_to_back;
       bounds = λ s h. kept-set bounds_in slot s d.bounds p.layers o None long (stands.bounds slot low ∙ sym bounds) (stands.bounds s h);
       slots = λ s h. with-set slot_of slot s (change_layer change (d.slot slot)) d.slot p.layers o None long (ap (change_layer change) (stands.slots slot low) ∙ changed) (stands.slots s h);
       registers = stands.registers;
     }
 
 -- a call on a slot's layer that is refused where there is none, by what the slot has
-stands-changed-by : (p : Plain) (d e : Desk) (slot : ℕ) (o new : Option PlainLayer) (change : Layer → Layer) → slot < p.sizes.slots → IsPlain p → layer_at p slot ≡ o → e ≡ unless_refused (refuse (not (is_some o)) NotOpen None) d (on_layer d slot change) → bounds_in new ≡ bounds_in o → change_layer change (slot_of o) ≡ slot_of new → StandsFor p d → StandsFor (with_slot p slot new) e
+stands-changed-by : (p : Plain) (d e : Desk) (slot : ℕ) (o new : Option PlainLayer) (change : Layer → Layer) → slot < p.sizes.slots → IsPlain p → layer_at p slot ≡ o → e ≡ changed_unless (refuse (not (is_some o)) NotOpen None) d (on_layer d slot change) → bounds_in new ≡ bounds_in o → change_layer change (slot_of o) ≡ slot_of new → StandsFor p d → StandsFor (with_slot p slot new) e
 stands-changed-by p d e slot None None change low ok is does bounds changed stands =
     let kept : set p.layers slot None ≡ p.layers = ap (λ o. set p.layers slot o) (sym is) ∙ set-get_or p.layers slot None in
     let P : List (Option PlainLayer) → Type 0 = λ layers. StandsFor (record p { layers = layers }) d in
@@ -72,12 +72,12 @@ stands-changed-by p d e slot (Some l) new change low ok is does bounds changed s
     (stands-with_slot p d slot new change low ok (bounds ∙ sym (ap bounds_in is)) (ap (λ o. change_layer change (slot_of o)) is ∙ changed) stands)
 
 -- the refusal of a call on a slot, by what it has
-open-slot_of : (o : Option PlainLayer) → unless_open (slot_of o) None ≡ refuse (not (is_some o)) NotOpen None
+open-slot_of : (o : Option PlainLayer) → refuse_not_open (slot_of o) None ≡ refuse (not (is_some o)) NotOpen None
 open-slot_of None = refl
 open-slot_of (Some l) = refl
 
 -- no layer is updating
-updating-slot_of : (o : Option PlainLayer) → unless_open (slot_of o) (refuse (layer_is (λ l. l.updating) (slot_of o)) InUpdate None) ≡ refuse (not (is_some o)) NotOpen None
+updating-slot_of : (o : Option PlainLayer) → refuse_not_open (slot_of o) (refuse (layer_is (λ l. l.updating) (slot_of o)) InUpdate None) ≡ refuse (not (is_some o)) NotOpen None
 updating-slot_of None = refl
 updating-slot_of (Some l) = refl
 
@@ -94,7 +94,7 @@ filled-bounds rect None = refl
 filled-bounds rect (Some l) = refl
 
 -- the slot of the desk that is filled, by what the plain desk's slot has
-filled-slot_of : (p : Plain) (d : Desk) (slot : ℕ) (rect : Rectangle) (o : Option PlainLayer) → slot < p.sizes.slots → IsPlain p → layer_at p slot ≡ o → change_layer (λ l. filled (is_visible d slot l) rect l) (slot_of o) ≡ slot_of (filled_slot rect o)
+filled-slot_of : (p : Plain) (d : Desk) (slot : ℕ) (rect : Rectangle) (o : Option PlainLayer) → slot < p.sizes.slots → IsPlain p → layer_at p slot ≡ o → change_layer (λ l. rect_fill (is_visible d slot l) rect l) (slot_of o) ≡ slot_of (filled_slot rect o)
 filled-slot_of p d slot rect None low ok is = refl
 filled-slot_of p d slot rect (Some l) low ok is =
     let depth = fitting-depth p slot l low ok is in
@@ -105,12 +105,12 @@ pub stands-filled : (p : Plain) (d : Desk) (task slot : ℕ) (rect : Rectangle) 
 unfolding after
 stands-filled p d task slot rect low ok stands =
     let o : Option PlainLayer = layer_at p slot in
-    let change : Layer → Layer = λ l. filled (is_visible d slot l) rect l in
-    let does : after d task (Fill slot rect) ≡ unless_refused (refuse (not (is_some o)) NotOpen None) d (on_layer d slot change) = ap (λ s. unless_refused (unless_open s None) d (on_layer d slot change)) (stands.slots slot low) ∙ ap (λ r. unless_refused r d (on_layer d slot change)) (open-slot_of o) in
+    let change : Layer → Layer = λ l. rect_fill (is_visible d slot l) rect l in
+    let does : after d task (Fill slot rect) ≡ changed_unless (refuse (not (is_some o)) NotOpen None) d (on_layer d slot change) = ap (λ s. changed_unless (refuse_not_open s None) d (on_layer d slot change)) (stands.slots slot low) ∙ ap (λ r. changed_unless r d (on_layer d slot change)) (open-slot_of o) in
     stands-changed-by p d (after d task (Fill slot rect)) slot o (filled_slot rect o) change low ok refl does (filled-bounds rect o) (filled-slot_of p d slot rect o low ok refl) stands
 
 -- what a fill answers, by what the slot has
-fill-reply-by : (o : Option PlainLayer) → reply_or (unless_open (slot_of o) None) Done ≡ fill_reply o
+fill-reply-by : (o : Option PlainLayer) → reply_or (refuse_not_open (slot_of o) None) Done ≡ fill_reply o
 fill-reply-by None = refl
 fill-reply-by (Some l) = refl
 
@@ -118,7 +118,7 @@ fill-reply-by (Some l) = refl
 pub fill-reply : (p : Plain) (d : Desk) (task slot : ℕ) (rect : Rectangle) → slot < p.sizes.slots → StandsFor p d → fill_reply (layer_at p slot) ≡ reply d task (Fill slot rect)
 unfolding reply
 fill-reply p d task slot rect low stands =
-    sym (ap (λ s. reply_or (unless_open s None) Done) (stands.slots slot low) ∙ fill-reply-by (layer_at p slot))
+    sym (ap (λ s. reply_or (refuse_not_open s None) Done) (stands.slots slot low) ∙ fill-reply-by (layer_at p slot))
 
 -- the bounds of a slot with another clip region
 clipped-bounds : (clip : Option (List Rectangle)) (o : Option PlainLayer) → bounds_in (clipped_slot clip o) ≡ bounds_in o
@@ -137,7 +137,7 @@ stands-clipped p d task slot reg here low small ok stands =
     let o : Option PlainLayer = layer_at p slot in
     let clip : Option (List Rectangle) = Some (register_at p task reg) in
     let change : Layer → Layer = λ l. record l { clip = Some (d.registers task reg) } in
-    let does : after d task (Clip slot reg) ≡ unless_refused (refuse (not (is_some o)) NotOpen None) d (on_layer d slot change) = ap (λ s. unless_refused (unless_open s (refuse (layer_is (λ l. l.updating) s) InUpdate None)) d (on_layer d slot change)) (stands.slots slot low) ∙ ap (λ r. unless_refused r d (on_layer d slot change)) (updating-slot_of o) in
+    let does : after d task (Clip slot reg) ≡ changed_unless (refuse (not (is_some o)) NotOpen None) d (on_layer d slot change) = ap (λ s. changed_unless (refuse_not_open s (refuse (layer_is (λ l. l.updating) s) InUpdate None)) d (on_layer d slot change)) (stands.slots slot low) ∙ ap (λ r. changed_unless r d (on_layer d slot change)) (updating-slot_of o) in
     stands-changed-by p d (after d task (Clip slot reg)) slot o (clipped_slot clip o) change low ok refl does (clipped-bounds clip o) (clipped-slot_of (Some (d.registers task reg)) clip o (ap (λ q. Some q) (stands.registers task reg here small))) stands
 
 -- the plain desk without a clip region in a slot stands for the desk after that was taken away
@@ -146,11 +146,11 @@ unfolding after
 stands-unclipped p d task slot low ok stands =
     let o : Option PlainLayer = layer_at p slot in
     let change : Layer → Layer = λ l. record l { clip = None } in
-    let does : after d task (Unclip slot) ≡ unless_refused (refuse (not (is_some o)) NotOpen None) d (on_layer d slot change) = ap (λ s. unless_refused (unless_open s (refuse (layer_is (λ l. l.updating) s) InUpdate None)) d (on_layer d slot change)) (stands.slots slot low) ∙ ap (λ r. unless_refused r d (on_layer d slot change)) (updating-slot_of o) in
+    let does : after d task (Unclip slot) ≡ changed_unless (refuse (not (is_some o)) NotOpen None) d (on_layer d slot change) = ap (λ s. changed_unless (refuse_not_open s (refuse (layer_is (λ l. l.updating) s) InUpdate None)) d (on_layer d slot change)) (stands.slots slot low) ∙ ap (λ r. changed_unless r d (on_layer d slot change)) (updating-slot_of o) in
     stands-changed-by p d (after d task (Unclip slot)) slot o (clipped_slot None o) change low ok refl does (clipped-bounds None o) (clipped-slot_of None None o refl) stands
 
 -- what a call on a clip region answers, by what the slot has
-clip-reply-by : (o : Option PlainLayer) → reply_or (unless_open (slot_of o) (refuse (layer_is (λ l. l.updating) (slot_of o)) InUpdate None)) (from_layer (λ l. clip_answer l.clip) (slot_of o)) ≡ clip_reply o
+clip-reply-by : (o : Option PlainLayer) → reply_or (refuse_not_open (slot_of o) (refuse (layer_is (λ l. l.updating) (slot_of o)) InUpdate None)) (from_layer (λ l. clip_answer l.clip) (slot_of o)) ≡ clip_reply o
 clip-reply-by None = refl
 clip-reply-by (Some l) = refl
 
@@ -158,13 +158,13 @@ clip-reply-by (Some l) = refl
 pub clip-reply : (p : Plain) (d : Desk) (task slot reg : ℕ) → slot < p.sizes.slots → StandsFor p d → clip_reply (layer_at p slot) ≡ reply d task (Clip slot reg)
 unfolding reply
 clip-reply p d task slot reg low stands =
-    sym (ap (λ s. reply_or (unless_open s (refuse (layer_is (λ l. l.updating) s) InUpdate None)) (from_layer (λ l. clip_answer l.clip) s)) (stands.slots slot low) ∙ clip-reply-by (layer_at p slot))
+    sym (ap (λ s. reply_or (refuse_not_open s (refuse (layer_is (λ l. l.updating) s) InUpdate None)) (from_layer (λ l. clip_answer l.clip) s)) (stands.slots slot low) ∙ clip-reply-by (layer_at p slot))
 
 -- and so does its removal
 pub unclip-reply : (p : Plain) (d : Desk) (task slot : ℕ) → slot < p.sizes.slots → StandsFor p d → clip_reply (layer_at p slot) ≡ reply d task (Unclip slot)
 unfolding reply
 unclip-reply p d task slot low stands =
-    sym (ap (λ s. reply_or (unless_open s (refuse (layer_is (λ l. l.updating) s) InUpdate None)) (from_layer (λ l. clip_answer l.clip) s)) (stands.slots slot low) ∙ clip-reply-by (layer_at p slot))
+    sym (ap (λ s. reply_or (refuse_not_open s (refuse (layer_is (λ l. l.updating) s) InUpdate None)) (from_layer (λ l. clip_answer l.clip) s)) (stands.slots slot low) ∙ clip-reply-by (layer_at p slot))
 
 -- a slot that is as it was
 same-slot : (p : Plain) (slot : ℕ) → layer_at p slot ≡ None → with_slot p slot None ≡ p

@@ -15,11 +15,11 @@ use Rattle.lw_region.proofs.Lists.{any_agree, any_flat_map}
 use Rattle.lw_region.proofs.Numbers.{eq_true, eq_of}
 use Rattle.lw_region.proofs.Canonical.{canonical_is_bands, covers_nil}
 use Rattle.lw_region.proofs.SetOps.{canonical_bands}
-use Rattle.lw_calls.specs.Arrangement.{is_on_screen}
-use Rattle.lw_calls.specs.Desk.{is_the}
-use Rattle.lw_calls.specs.Screen.{bounds_have}
-use Rattle.lw_calls.specs.Kept.{at_signed}
-use Rattle.lw_calls.specs.Report.{pixels_where}
+use Rattle.lw_machine.specs.Arrangement.{is_on_screen}
+use Rattle.lw_machine.specs.Desk.{is_the}
+use Rattle.lw_machine.specs.Screen.{bounds_have}
+use Rattle.lw_machine.specs.Kept.{holds_at}
+use Rattle.lw_machine.specs.Report.{pixels_where}
 use Rattle.lw_engine.specs.declared.layer.PlainLayer.{PlainLayer}
 use Rattle.lw_engine.specs.Plain.{Plain, layer_at, bounds_in, bounds_at, IsPlain}
 use Rattle.lw_engine.specs.Shown.{first_of, is_on_top, shown_in}
@@ -134,7 +134,7 @@ abbrev pub in_table : ℕ → ℕ → ℕ → ℕ → Bool
 in_table w h i j = among j 0 h && among i 0 w
 
 -- which pixels a table names: those of its places for which the test holds
-pub pixels_where-has : (w h : ℕ) (test : ℕ → ℕ → Bool) (x y : ℤ) → contains_pixel (pixels_where w h test) x y ≡ at_signed (λ i j. in_table w h i j && test i j) x y
+pub pixels_where-has : (w h : ℕ) (test : ℕ → ℕ → Bool) (x y : ℤ) → contains_pixel (pixels_where w h test) x y ≡ holds_at (λ i j. in_table w h i j && test i j) x y
 pixels_where-has w h test (pos i) (pos j) =
     table-has w h test (pos i) (pos j) ∙
     (any_agree _ _ (λ k. row-has-at w test i k (pos j)) (range_with_len 0 h) ∙
@@ -178,7 +178,7 @@ not-left low high limit i on have =
     omega (arith, ints, least, most)
 
 -- a place that bounds on the screen have is on the screen
-place-on : (p : Plain) (r : Rectangle) (x y : ℤ) → is_on_screen p.sizes r ≡ true → has_pixel r x y ≡ true → at_signed (λ i j. in_table p.sizes.width p.sizes.height i j) x y ≡ true
+place-on : (p : Plain) (r : Rectangle) (x y : ℤ) → is_on_screen p.sizes r ≡ true → has_pixel r x y ≡ true → holds_at (λ i j. in_table p.sizes.width p.sizes.height i j) x y ≡ true
 unfolding is_on_screen
 place-on p r (pos i) (pos j) on have =
     let axes = and_parts (int_le (pos 0) r.min_x && int_le (r.max_x +ℤ pos 1) (pos p.sizes.width)) (int_le (pos 0) r.min_y && int_le (r.max_y +ℤ pos 1) (pos p.sizes.height)) on in
@@ -194,19 +194,19 @@ place-on p r (negsuc i) y on have =
     absurd (not-left r.min_x r.max_x p.sizes.width i axes.0 places.0)
 
 -- a place that a slot's bounds have is on the screen, by what the slot has
-slot-on : (p : Plain) (slot : ℕ) (o : Option PlainLayer) (x y : ℤ) → IsPlain p → slot < p.sizes.slots → layer_at p slot ≡ o → bounds_have (bounds_in o) x y ≡ true → at_signed (λ i j. in_table p.sizes.width p.sizes.height i j) x y ≡ true
+slot-on : (p : Plain) (slot : ℕ) (o : Option PlainLayer) (x y : ℤ) → IsPlain p → slot < p.sizes.slots → layer_at p slot ≡ o → bounds_have (bounds_in o) x y ≡ true → holds_at (λ i j. in_table p.sizes.width p.sizes.height i j) x y ≡ true
 slot-on p slot None x y ok low is have = absurd (false≢true have)
 slot-on p slot (Some l) x y ok low is have =
     let fits = fits-at p slot l ok low is in
     place-on p l.bounds x y fits.on_screen have
 
 -- a place on which a slot's layer is the top is on the screen
-top-on : (p : Plain) (slot : ℕ) (x y : ℤ) → IsPlain p → slot < p.sizes.slots → is_on_top p slot x y ≡ true → at_signed (λ i j. in_table p.sizes.width p.sizes.height i j) x y ≡ true
+top-on : (p : Plain) (slot : ℕ) (x y : ℤ) → IsPlain p → slot < p.sizes.slots → is_on_top p slot x y ≡ true → holds_at (λ i j. in_table p.sizes.width p.sizes.height i j) x y ≡ true
 top-on p slot x y ok low top =
-    slot-on p slot (layer_at p slot) x y ok low refl (find-holds (λ s. bounds_have (bounds_at p s) x y) p.order slot top)
+    slot-on p slot (layer_at p slot) x y ok low refl (find-holds (λ s. bounds_have (bounds_at p s) x y) p.front_to_back slot top)
 
 -- so the places of the screen have all on which it is the top
-top-in-table : (p : Plain) (slot : ℕ) (x y : ℤ) → IsPlain p → slot < p.sizes.slots → is_on_top p slot x y ≡ at_signed (λ i j. in_table p.sizes.width p.sizes.height i j && is_on_top p slot (pos i) (pos j)) x y
+top-in-table : (p : Plain) (slot : ℕ) (x y : ℤ) → IsPlain p → slot < p.sizes.slots → is_on_top p slot x y ≡ holds_at (λ i j. in_table p.sizes.width p.sizes.height i j && is_on_top p slot (pos i) (pos j)) x y
 top-in-table p slot (pos i) (pos j) ok low =
     and-implied (is_on_top p slot (pos i) (pos j)) (in_table p.sizes.width p.sizes.height i j) (λ top. top-on p slot (pos i) (pos j) ok low top)
 top-in-table p slot (pos i) (negsuc j) ok low = false_from_ne_true _ (λ top. false≢true (top-on p slot (pos i) (negsuc j) ok low top))
@@ -228,13 +228,13 @@ pub record IsUncovered (p : Plain) (slot : ℕ) (region : List Rectangle) (rest 
   pub top : (x y : ℤ) → is_on_top p slot x y ≡ (covers region x y && is_the (first_of p rest x y) slot)
 
 -- the region of the bounds, where no layer was taken out
-pub uncovered-start : (p : Plain) (slot : ℕ) (bounds : Rectangle) (old region : List Rectangle) (set : List Pixel) → bounds_at p slot ≡ Some bounds → old ≡ [] → region ≡ bands set → ((x y : ℤ) → covers region x y ≡ (covers old x y || has_pixel bounds x y)) → IsUncovered p slot region p.order
+pub uncovered-start : (p : Plain) (slot : ℕ) (bounds : Rectangle) (old region : List Rectangle) (set : List Pixel) → bounds_at p slot ≡ Some bounds → old ≡ [] → region ≡ bands set → ((x y : ℤ) → covers region x y ≡ (covers old x y || has_pixel bounds x y)) → IsUncovered p slot region p.front_to_back
 uncovered-start p slot bounds old region set has empty list pixels =
     let same : (x y : ℤ) → covers region x y ≡ bounds_have (bounds_at p slot) x y = λ x y. pixels x y ∙ (ap (λ rects. covers rects x y || has_pixel bounds x y) empty ∙ (ap (λ t. t || has_pixel bounds x y) (covers_nil x y) ∙ ap (λ r. bounds_have r x y) (sym has))) in
     record {
       canonical = subst IsCanonical (sym list) (canonical_bands set);
       within = λ x y h. sym (same x y) ∙ h;
-      top = λ x y. and-implied (is_on_top p slot x y) (covers region x y) (λ h. same x y ∙ find-holds (λ s. bounds_have (bounds_at p s) x y) p.order slot h);
+      top = λ x y. and-implied (is_on_top p slot x y) (covers region x y) (λ h. same x y ∙ find-holds (λ s. bounds_have (bounds_at p s) x y) p.front_to_back slot h);
     }
 
 -- the layer in front is or isn't on the place

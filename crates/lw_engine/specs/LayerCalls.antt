@@ -5,7 +5,7 @@ use Rattle.lw_region.specs.Bands.{covers}
 use Rattle.lw_planes.specs.Bitmap.{Bitmap}
 use Rattle.lw_calls.specs.declared.reply.Reply.{Reply}
 use Rattle.lw_calls.specs.declared.reply.Reply.TheVariants.{Done, NotOpen}
-use Rattle.lw_calls.specs.Step.{clip_answer}
+use Rattle.lw_machine.specs.Step.{clip_answer}
 use Rattle.lw_engine.specs.declared.layer.PlainLayer.{PlainLayer}
 use Rattle.lw_engine.specs.PlainBitmap.{with_pixels}
 use Rattle.lw_engine.specs.Plain.{Plain}

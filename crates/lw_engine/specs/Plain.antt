@@ -5,14 +5,14 @@ use Rattle.lw_region.specs.Rectangle.{Rectangle, IsOrdered}
 use Rattle.lw_planes.specs.Bitmap.{Bitmap, IsBitmap}
 use Rattle.lw_calls.specs.declared.sizes.Sizes.{Sizes}
 use Rattle.lw_calls.specs.Limits.{IsWithinLimits}
-use Rattle.lw_calls.specs.Arrangement.{is_on_screen}
+use Rattle.lw_machine.specs.Arrangement.{is_on_screen}
 use Rattle.lw_engine.specs.declared.layer.PlainLayer.{PlainLayer}
 
 -- The sizes; the slots of the live layers from front to back; by slot its layer, where there is one; and by task its
 -- registers.
 pub record Plain : Type 0 where
   pub sizes : Sizes
-  pub order : List ℕ
+  pub front_to_back : List ℕ
   pub layers : List (Option PlainLayer)
   pub registers : List (List (List Rectangle))
 
@@ -55,7 +55,7 @@ IsFitting s (Some l) = FitsBounds s l.bounds l.bits
 pub record IsPlain (p : Plain) : Type 0 where
   pub limits : IsWithinLimits p.sizes
   pub layers : length p.layers ≡ p.sizes.slots
-  pub order : All (λ s. s < p.sizes.slots) p.order
+  pub front_to_back : All (λ s. s < p.sizes.slots) p.front_to_back
   pub fit : (s : ℕ) → s < p.sizes.slots → IsFitting p.sizes (layer_at p s)
   pub registers : length p.registers ≡ p.sizes.tasks
   pub eight : (t : ℕ) → t < p.sizes.tasks → length (registers_at p t) ≡ 8

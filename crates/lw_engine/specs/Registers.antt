@@ -6,7 +6,7 @@ use Rattle.lw_region.specs.Pixels.{Pixel, pixels_of}
 use Rattle.lw_region.specs.Bands.{bands}
 use Rattle.lw_calls.specs.declared.reply.Reply.{Reply}
 use Rattle.lw_calls.specs.declared.reply.Reply.TheVariants.{Done, TooManyRects}
-use Rattle.lw_calls.specs.Registers.{has_too_many, rect_limit}
+use Rattle.lw_machine.specs.Registers.{has_too_many, rect_limit}
 use Rattle.lw_engine.specs.Plain.{Plain, registers_at}
 
 -- the set of pixels in a register

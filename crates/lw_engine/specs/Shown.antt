@@ -6,9 +6,9 @@ use Rattle.lw_region.specs.Pixels.{Pixel}
 use Rattle.lw_region.specs.Bands.{bands}
 use Rattle.lw_planes.specs.Bitmap.{Bitmap, bitmap}
 use Rattle.lw_calls.specs.declared.last.Seen.{Seen}
-use Rattle.lw_calls.specs.Desk.{is_the}
-use Rattle.lw_calls.specs.Screen.{bounds_have, pen_on}
-use Rattle.lw_calls.specs.Report.{pixels_where}
+use Rattle.lw_machine.specs.Desk.{is_the}
+use Rattle.lw_machine.specs.Screen.{bounds_have, pen_on}
+use Rattle.lw_machine.specs.Report.{pixels_where}
 use Rattle.lw_engine.specs.declared.layer.PlainLayer.{PlainLayer}
 use Rattle.lw_engine.specs.Plain.{Plain, layer_at, bounds_at}
 use Rattle.lw_engine.specs.StandsFor.{slot_of}
@@ -19,7 +19,7 @@ first_of p order x y = find (λ s. bounds_have (bounds_at p s) x y) order
 
 -- the slot of the first layer from the front whose bounds have the place
 abbrev pub top_of : Plain → ℤ → ℤ → Option ℕ
-top_of p x y = first_of p p.order x y
+top_of p x y = first_of p p.front_to_back x y
 
 -- the layer of the slot is the top of the place
 abbrev pub is_on_top : Plain → ℕ → ℤ → ℤ → Bool

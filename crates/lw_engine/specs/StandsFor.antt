@@ -5,9 +5,9 @@ use Rattle.lw_region.specs.Pixels.{Pixel, pixels_of}
 use Rattle.lw_calls.specs.declared.make.Kind.TheVariants.{Smart}
 use Rattle.lw_calls.specs.declared.make.Place.TheVariants.{Front}
 use Rattle.lw_calls.specs.declared.make.Make.{Make}
-use Rattle.lw_calls.specs.Layer.{Layer, Slot, Unopened, Live}
-use Rattle.lw_calls.specs.Desk.{Desk}
-use Rattle.lw_calls.specs.Arrangement.{new_layer}
+use Rattle.lw_machine.specs.Layer.{Layer, Slot, Unopened, Live}
+use Rattle.lw_machine.specs.Desk.{Desk}
+use Rattle.lw_machine.specs.Arrangement.{new_layer}
 use Rattle.lw_engine.specs.declared.layer.PlainLayer.{PlainLayer}
 use Rattle.lw_engine.specs.Plain.{Plain, layer_at, bounds_at, register_at}
 
@@ -45,7 +45,7 @@ slot_of (Some l) = Live (layer_of l)
 -- layer depends on them.
 pub record StandsFor (p : Plain) (d : Desk) : Type 0 where
   pub sizes : d.sizes ≡ p.sizes
-  pub order : d.order ≡ p.order
+  pub front_to_back : d.front_to_back ≡ p.front_to_back
   pub bounds : (s : ℕ) → s < p.sizes.slots → d.bounds s ≡ bounds_at p s
   pub slots : (s : ℕ) → s < p.sizes.slots → d.slot s ≡ slot_of (layer_at p s)
   pub registers : (t r : ℕ) → t < p.sizes.tasks → r < 8 → d.registers t r ≡ pixels_of (register_at p t r)

@@ -3,9 +3,9 @@ ghost use Rattle.std.specs.List.{range_with_len, slice_index_or};
 ghost use Rattle.lw_region.specs.Bands.{bands, covers};
 ghost use Rattle.lw_region.specs.Banded.{IsCanonical};
 ghost use Rattle.lw_calls.specs.declared.reply.Reply.{Reply as AnyReply};
-ghost use Rattle.lw_calls.specs.Desk.{Desk};
-ghost use Rattle.lw_calls.specs.Screen.{bounds_have};
-ghost use Rattle.lw_calls.specs.Finals.{IsFinalOf};
+ghost use Rattle.lw_machine.specs.Desk.{Desk};
+ghost use Rattle.lw_machine.specs.Screen.{bounds_have};
+ghost use Rattle.lw_machine.specs.Finals.{IsFinalOf};
 ghost use Rattle.lw_engine.specs.Plain.{bounds_at};
 ghost use Rattle.lw_engine.specs.StandsFor.{StandsFor};
 ghost use Rattle.lw_engine.specs.Shown.{screen_of, shown_before, shown_in, seen_in};
@@ -93,7 +93,7 @@ impl PlainDesk {
     {
         let mut region = Region::new(alloc);
         region.or_rect(alloc, bounds)?;
-        for front in &self.order {
+        for front in &self.front_to_back {
             if *front == slot {
                 return Ok(region);
             }

@@ -2,7 +2,7 @@ ghost use Rattle.std.specs.Prelude.{◌≡◌, ◌&&◌, Option, IfSome};
 ghost use Rattle.lw_region.specs.Rectangle.{has_pixel};
 ghost use Rattle.lw_region.specs.Bands.{covers};
 ghost use Rattle.lw_planes.specs.Bitmap.{IsBitmap};
-ghost use Rattle.lw_calls.specs.Step.{clip_answer};
+ghost use Rattle.lw_machine.specs.Step.{clip_answer};
 ghost use Rattle.lw_engine.specs.PlainBitmap.{with_pixels};
 ghost use Rattle.lw_engine.specs.StandsFor.{clip_set};
 ghost use Rattle.lw_engine.specs.LayerCalls.{filled_bits, filled_slot, fill_reply, clipped_slot, clip_reply};

@@ -1,9 +1,10 @@
 ghost use Rattle.std.specs.Prelude.{◌≡◌, ℕ, ◌<◌, Some, None, IfOk, OnOk, OnErr, IsTrue};
 ghost use Rattle.lw_calls.specs.declared.call.Call.TheVariants.{Create};
 ghost use Rattle.lw_calls.specs.Limits.{make_fits};
-ghost use Rattle.lw_calls.specs.Desk.{Desk};
-ghost use Rattle.lw_calls.specs.Step.{after, reply, is_plain_make};
-ghost use Rattle.lw_calls.specs.Laws.{is_refusing};
+ghost use Rattle.lw_machine.specs.Desk.{Desk};
+ghost use Rattle.lw_machine.specs.Step.{after, reply};
+ghost use Rattle.lw_calls.specs.Built.{is_plain_make};
+ghost use Rattle.lw_machine.specs.Laws.{is_refusing};
 ghost use Rattle.lw_engine.specs.Plain.{IsPlain, layer_at, register_at};
 ghost use Rattle.lw_engine.specs.StandsFor.{StandsFor};
 ghost use Rattle.lw_engine.specs.LayerCalls.{filled_slot, fill_reply, clipped_slot, clip_reply, with_slot};
@@ -41,7 +42,7 @@ impl PlainDesk {
             return Ok(Reply::OutOfBounds);
         };
         let bits = PlainBitmap::new(alloc, make.w as u32, make.h as u32, self.sizes.depth)?;
-        self.order.insert(0, slot)?;
+        self.front_to_back.insert(0, slot)?;
         self.layers[slot as usize] = Some(PlainLayer {
             bounds,
             bits,

@@ -1,7 +1,7 @@
 ghost use Rattle.std.specs.Prelude.{◌≡◌, ◌≤◌, ◌&&◌, ℤ, pos, negsuc, ◌+ℤ◌, ◌-ℤ◌, ◌≤ℤ◌, int_le, IsTrue};
 ghost use Rattle.std.specs.Option.{SomeIff};
-ghost use Rattle.lw_calls.specs.Screen.{distance};
-ghost use Rattle.lw_calls.specs.Arrangement.{is_on_screen, bounds_of};
+ghost use Rattle.lw_machine.specs.Screen.{distance};
+ghost use Rattle.lw_machine.specs.Arrangement.{is_on_screen, bounds_of};
 ghost use Rattle.lw_engine.specs.Place.{IsInRange};
 
 use lw_calls::{Make, Sizes};

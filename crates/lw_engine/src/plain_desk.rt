@@ -1,9 +1,11 @@
 ghost use Rattle.std.specs.Prelude.{◌≡◌, ℕ, ◌<◌, [], Option, None, IfOk, OnOk, OnErr, IsTrue, replicate};
 ghost use Rattle.lw_calls.specs.Limits.{IsWithinLimits, call_fits};
-ghost use Rattle.lw_calls.specs.Hook.{Hook};
-ghost use Rattle.lw_calls.specs.Desk.{Desk, Supplies, empty_desk};
-ghost use Rattle.lw_calls.specs.Step.{is_built, after, reply};
-ghost use Rattle.lw_calls.specs.Laws.{is_refusing};
+ghost use Rattle.lw_machine.specs.Hook.{Hook};
+ghost use Rattle.lw_machine.specs.Desk.{Desk, empty_desk};
+ghost use Rattle.lw_calls.specs.Assets.{Assets as AssetsView};
+ghost use Rattle.lw_calls.specs.Built.{is_built};
+ghost use Rattle.lw_machine.specs.Step.{after, reply};
+ghost use Rattle.lw_machine.specs.Laws.{is_refusing};
 ghost use Rattle.lw_engine.specs.StandsFor.{StandsFor};
 
 use crate::layer::PlainLayer;
@@ -18,7 +20,7 @@ use std::marker::Model;
 pub struct PlainDesk {
     pub(crate) sizes: Sizes,
     /// The slots of the live layers, from front to back.
-    pub(crate) order: Vec<u32>,
+    pub(crate) front_to_back: Vec<u32>,
     /// Each slot's layer, where it has one.
     pub(crate) layers: Vec<Option<PlainLayer>>,
     /// Each task's region registers.
@@ -30,9 +32,9 @@ impl Model for PlainDesk {
 
     ghost Value = { Plain };
 
-    ghost view = { λ d. record { sizes = d.sizes; order = d.order.items; layers = d.layers.items; registers = d.registers.items } };
+    ghost view = { λ d. record { sizes = d.sizes; front_to_back = d.front_to_back.items; layers = d.layers.items; registers = d.registers.items } };
 
-    ghost invariant = { λ d. IsPlain (record { sizes = d.sizes; order = d.order.items; layers = d.layers.items; registers = d.registers.items }) };
+    ghost invariant = { λ d. IsPlain (record { sizes = d.sizes; front_to_back = d.front_to_back.items; layers = d.layers.items; registers = d.registers.items }) };
 }
 
 impl PlainDesk {
@@ -40,15 +42,15 @@ impl PlainDesk {
     /// want of memory alone.
     pub fn new(alloc: Global, sizes: Sizes) -> Result<PlainDesk, AllocError>
         requires { IsWithinLimits sizes }
-        ensures empty { IfOk result (λ desk. (supplies : Supplies) (shelf : ℕ → Option Hook) → StandsFor desk (empty_desk sizes supplies shelf)) }
+        ensures empty { IfOk result (λ desk. (assets : AssetsView) (shelf : ℕ → Option Hook) → StandsFor desk (empty_desk sizes assets shelf)) }
         ensures sizes { IfOk result (λ desk. desk.sizes ≡ sizes) }
     {
-        let order = Vec::new(alloc);
+        let front_to_back = Vec::new(alloc);
         let layers = no_layers(alloc, sizes.slots)?;
         let registers = empty_registers(alloc, sizes.tasks)?;
         Ok(PlainDesk {
             sizes,
-            order,
+            front_to_back,
             layers,
             registers,
         })

@@ -1,5 +1,5 @@
 ghost use Rattle.std.specs.Prelude.{◌≡◌, ◌<◌, [], IfOk, OnOk, OnErr};
-ghost use Rattle.lw_calls.specs.Registers.{joined_rect, joined_pair};
+ghost use Rattle.lw_machine.specs.Registers.{rect_result, pair_result};
 ghost use Rattle.lw_engine.specs.Plain.{IsPlain, registers_at};
 ghost use Rattle.lw_engine.specs.Registers.{set_in, set_reply, with_set_in};
 
@@ -21,8 +21,8 @@ impl PlainDesk {
     ) -> Result<Reply, AllocError>
         requires task { task < self.old.sizes.tasks }
         requires reg { reg < 8 }
-        ensures reply { IfOk result (λ r. r ≡ set_reply (joined_rect op (set_in (registers_at self.old task) reg) rect.now)) }
-        ensures desk { OnOk result (self.new ≡ with_set_in self.old task reg (joined_rect op (set_in (registers_at self.old task) reg) rect.now)) }
+        ensures reply { IfOk result (λ r. r ≡ set_reply (rect_result op (set_in (registers_at self.old task) reg) rect.now)) }
+        ensures desk { OnOk result (self.new ≡ with_set_in self.old task reg (rect_result op (set_in (registers_at self.old task) reg) rect.now)) }
         ensures unchanged { OnErr result (self.new ≡ self.old) }
         ensures plain { IsPlain self.old }
     {
@@ -41,8 +41,8 @@ impl PlainDesk {
         requires task { task < self.old.sizes.tasks }
         requires source { source < 8 }
         requires into { into < 8 }
-        ensures reply { IfOk result (λ r. r ≡ set_reply (joined_pair op (set_in (registers_at self.old task) source) (set_in (registers_at self.old task) into))) }
-        ensures desk { OnOk result (self.new ≡ with_set_in self.old task into (joined_pair op (set_in (registers_at self.old task) source) (set_in (registers_at self.old task) into))) }
+        ensures reply { IfOk result (λ r. r ≡ set_reply (pair_result op (set_in (registers_at self.old task) source) (set_in (registers_at self.old task) into))) }
+        ensures desk { OnOk result (self.new ≡ with_set_in self.old task into (pair_result op (set_in (registers_at self.old task) source) (set_in (registers_at self.old task) into))) }
         ensures unchanged { OnErr result (self.new ≡ self.old) }
         ensures plain { IsPlain self.old }
     {

@@ -2,7 +2,7 @@ ghost use Rattle.std.specs.Prelude.{◌≡◌, ℕ, ◌<◌, [], length, replica
 ghost use Rattle.std.specs.List.{slice_index_or};
 ghost use Rattle.lw_region.specs.Pixels.{pixels_of};
 ghost use Rattle.lw_region.specs.Bands.{bands};
-ghost use Rattle.lw_calls.specs.Registers.{joined_rect, joined_pair};
+ghost use Rattle.lw_machine.specs.Registers.{rect_result, pair_result};
 ghost use Rattle.lw_engine.specs.Registers.{set_in, with_set, set_reply, is_short};
 
 use lw_calls::{PairOp, RectOp, Reply};
@@ -69,8 +69,8 @@ impl Regs {
         rect: &Rect,
     ) -> Result<Reply, AllocError>
         requires { reg < 8 }
-        ensures reply { IfOk result (λ r. r ≡ set_reply (joined_rect op (set_in self.old reg) rect.now)) }
-        ensures regions { OnOk result (self.new ≡ with_set self.old reg (joined_rect op (set_in self.old reg) rect.now)) }
+        ensures reply { IfOk result (λ r. r ≡ set_reply (rect_result op (set_in self.old reg) rect.now)) }
+        ensures regions { OnOk result (self.new ≡ with_set self.old reg (rect_result op (set_in self.old reg) rect.now)) }
         ensures err { OnErr result (self.new ≡ self.old) }
     {
         let joined = joined_with_rect(alloc, op, self.region(reg), rect)?;
@@ -88,8 +88,8 @@ impl Regs {
     ) -> Result<Reply, AllocError>
         requires source { source < 8 }
         requires into { into < 8 }
-        ensures reply { IfOk result (λ r. r ≡ set_reply (joined_pair op (set_in self.old source) (set_in self.old into))) }
-        ensures regions { OnOk result (self.new ≡ with_set self.old into (joined_pair op (set_in self.old source) (set_in self.old into))) }
+        ensures reply { IfOk result (λ r. r ≡ set_reply (pair_result op (set_in self.old source) (set_in self.old into))) }
+        ensures regions { OnOk result (self.new ≡ with_set self.old into (pair_result op (set_in self.old source) (set_in self.old into))) }
         ensures err { OnErr result (self.new ≡ self.old) }
     {
         let joined = joined_with_region(alloc, op, self.region(source), self.region(into))?;
@@ -125,7 +125,7 @@ fn joined_with_rect(
     region: &Region,
     rect: &Rect,
 ) -> Result<Region, AllocError>
-    ensures { IfOk result (λ made. made ≡ bands (joined_rect op (pixels_of region.now) rect.now)) }
+    ensures { IfOk result (λ made. made ≡ bands (rect_result op (pixels_of region.now) rect.now)) }
 {
     let mut made = region.copy(alloc)?;
     match op {
@@ -144,7 +144,7 @@ fn joined_with_region(
     source: &Region,
     into: &Region,
 ) -> Result<Region, AllocError>
-    ensures { IfOk result (λ made. made ≡ bands (joined_pair op (pixels_of source.now) (pixels_of into.now))) }
+    ensures { IfOk result (λ made. made ≡ bands (pair_result op (pixels_of source.now) (pixels_of into.now))) }
 {
     let mut made = into.copy(alloc)?;
     match op {

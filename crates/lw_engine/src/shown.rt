@@ -1,5 +1,5 @@
 ghost use Rattle.std.specs.Prelude.{◌≡◌, ℕ, ◌<◌, pos, Option, Some, None, IfSome, IsTrue};
-ghost use Rattle.lw_calls.specs.Screen.{bounds_have};
+ghost use Rattle.lw_machine.specs.Screen.{bounds_have};
 ghost use Rattle.lw_engine.specs.Plain.{bounds_at};
 ghost use Rattle.lw_engine.specs.Shown.{top_of, pen_in, pen_shown};
 
@@ -28,7 +28,7 @@ impl PlainDesk {
         ensures slot { IfSome result (λ slot. slot < self.now.sizes.slots) }
         ensures here { IfSome result (λ slot. IsTrue (bounds_have (bounds_at self.now slot) (pos x) (pos y))) }
     {
-        for slot in &self.order {
+        for slot in &self.front_to_back {
             if self.has_place(*slot, x, y) {
                 return Some(*slot);
             }

@@ -1,5 +1,5 @@
 ghost use Rattle.std.specs.Prelude.{◌≡◌, ◌≤◌, IsTrue};
-ghost use Rattle.lw_calls.specs.Step.{is_built};
+ghost use Rattle.lw_calls.specs.Built.{is_built};
 
 use crate::{PlainDesk, Regs};
 use lw_calls::{

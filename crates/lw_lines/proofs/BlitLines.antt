@@ -1,7 +1,7 @@
 -- The lines of blits and of scrollraster in parts are the whole lines.
 use Rattle.std.proofs.Common.{◌≡◌, ℕ, List, [], ◌∷◌, Option, Some, None, option_map, refl}
-use Rattle.lw_calls.specs.Tokens.{Token, NameToken, NumberToken, bytes_in}
-use Rattle.lw_calls.specs.LineForms.{LineForm, minterm_of, put_line, blit_line, scrollraster_line, four}
+use Rattle.lw_grammar.specs.Tokens.{Token, NameToken, NumberToken, bytes_in}
+use Rattle.lw_grammar.specs.LineForms.{LineForm, minterm_of, put_line, blit_line, scrollraster_line, four}
 use Rattle.lw_region.specs.Rectangle.{Rectangle}
 use Rattle.lw_lines.specs.BlitParts.{begin_line, put_end, blit_between, scroll_parts}
 

@@ -1,6 +1,6 @@
 -- Sets of classes of messages, letter by letter.
 use Rattle.std.proofs.Common.{◌≡◌, ℕ, zero, suc, ◌+◌, ◌*◌, ◌%◌, ◌^◌, ◌<◌, ◌≤◌, nat_le, true, false, List, ◌∷◌, length, drop, get_or, drop-cons, add-one, Option, Some, None, option_map, refl, sym, ap, subst, ◌∙◌, arith}
-use Rattle.lw_calls.specs.LineForms.{class_of, classes_from}
+use Rattle.lw_grammar.specs.LineForms.{class_of, classes_from}
 use native.Mathlib.Numerals.{unary_clauses}
 use Rattle.std.proofs.Math.Pow.{pow_mono}
 use Rattle.std.proofs.lemmas.Bool.Decides.{nat_tests}

@@ -3,8 +3,8 @@ use Rattle.std.specs.Prelude.{ℕ, List, ◌∷◌, Option, None, option_and_the
 use Rattle.lw_region.specs.Rectangle.{Rectangle}
 use Rattle.lw_calls.specs.declared.make.Kind.{Kind}
 use Rattle.lw_calls.specs.declared.make.Place.{Place}
-use Rattle.lw_calls.specs.Tokens.{Token, NameToken}
-use Rattle.lw_calls.specs.LineForms.{LineForm, kind_of, place_of, create_kind, open_kind}
+use Rattle.lw_grammar.specs.Tokens.{Token, NameToken}
+use Rattle.lw_grammar.specs.LineForms.{LineForm, kind_of, place_of, create_kind, open_kind}
 use Rattle.lw_lines.specs.NumbersTaken.{numbers_taken}
 use Rattle.lw_lines.specs.declared.forms_asked.Request.{Request}
 use Rattle.lw_lines.specs.declared.forms_asked.Request.TheVariants.{Creation, Opening}

@@ -1,8 +1,8 @@
 -- The lines of blits and of scrollraster in parts.
 use Rattle.std.specs.Prelude.{ℤ, ℕ, List, [], ◌∷◌, Option, None, option_map, option_and_then}
 use Rattle.lw_region.specs.Rectangle.{Rectangle}
-use Rattle.lw_calls.specs.Tokens.{Token, NameToken, NumberToken, bytes_in}
-use Rattle.lw_calls.specs.LineForms.{LineForm, CallLine, PutAct, BlitAct, ScrollRasterAct, minterm_of}
+use Rattle.lw_grammar.specs.Tokens.{Token, NameToken, NumberToken, bytes_in}
+use Rattle.lw_grammar.specs.LineForms.{LineForm, CallLine, PutAct, BlitAct, ScrollRasterAct, minterm_of}
 use Rattle.lw_lines.specs.NumbersTaken.{numbers_taken, only_numbers}
 
 -- a minterm alone

@@ -3,11 +3,11 @@ use Rattle.std.specs.Prelude.{◌≡◌, ℕ, ◌==◌, not, ◌&&◌, if◌then
 use Rattle.lw_calls.specs.declared.form.Form.{Form}
 use Rattle.lw_calls.specs.declared.reason.Reason.{Reason}
 use Rattle.lw_calls.specs.declared.reason.Reason.TheVariants.{UnknownWord, Misplaced, OneTaskOnly, Form as FormReason}
-use Rattle.lw_calls.specs.Demands.{◌>>=◌, demand}
-use Rattle.lw_calls.specs.Tokens.{token_of}
-use Rattle.lw_calls.specs.LineForms.{LineForm as Meaning, row_line, numbers_line, form_by}
-use Rattle.lw_calls.specs.LinesAbove.{Section}
-use Rattle.lw_calls.specs.Script.{are_tasks_due, are_numbers_due, is_plain, stands_in, is_task_verb, verb_on, behind_verb}
+use Rattle.lw_grammar.specs.Demands.{◌>>=◌, demand}
+use Rattle.lw_grammar.specs.Tokens.{token_of}
+use Rattle.lw_grammar.specs.LineForms.{LineForm as Meaning, row_line, numbers_line, form_by}
+use Rattle.lw_grammar.specs.LinesAbove.{Section}
+use Rattle.lw_grammar.specs.Script.{are_tasks_due, are_numbers_due, is_plain, stands_in, is_task_verb, verb_on, behind_verb}
 use Rattle.lw_lines.specs.declared.form.LineForm.{LineForm}
 use Rattle.lw_words.specs.declared.stop.Stop.{Stop}
 use Rattle.lw_lines.specs.FormMeaning.{form_meaning}

@@ -1,8 +1,8 @@
 -- Four numbers at the beginning of tokens.
 use Rattle.std.specs.Prelude.{List, [], ◌∷◌, Option, Some, None, option_and_then}
 use Rattle.lw_region.specs.Rectangle.{Rectangle}
-use Rattle.lw_calls.specs.Tokens.{Token, NumberToken}
-use Rattle.lw_calls.specs.LineForms.{four}
+use Rattle.lw_grammar.specs.Tokens.{Token, NumberToken}
+use Rattle.lw_grammar.specs.LineForms.{four}
 
 -- four numbers, and what stands behind them
 abbrev pub numbers_taken : List Token → Option (Rectangle × List Token)

@@ -2,8 +2,8 @@
 use Rattle.std.specs.Prelude.{Bool}
 use Rattle.lw_calls.specs.declared.form.Form.{Form}
 use Rattle.lw_calls.specs.declared.form.Form.TheVariants.{Plain, Ordered, Audited}
-use Rattle.lw_calls.specs.LinesAbove.{Section as Meaning, ScreenIsDue, AssetsAreDue, CallsAreDue, TasksAreDue, NumbersAreDue, NothingIsDue}
-use Rattle.lw_calls.specs.Script.{are_tasks_due, are_numbers_due, is_nothing_due}
+use Rattle.lw_grammar.specs.LinesAbove.{Section as Meaning, ScreenIsDue, AssetsAreDue, CallsAreDue, TasksAreDue, NumbersAreDue, NothingIsDue}
+use Rattle.lw_grammar.specs.Script.{are_tasks_due, are_numbers_due, is_nothing_due}
 use Rattle.lw_lines.specs.declared.section.Section.{Section}
 use Rattle.lw_lines.specs.declared.section.Section.TheVariants.{Screen, Assets, Calls, Tasks, Numbers, Nothing}
 

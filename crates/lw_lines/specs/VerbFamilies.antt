@@ -1,7 +1,7 @@
 -- Families of verbs, by what stands behind them.
 use Rattle.std.specs.Prelude.{Bool, true, false}
-use Rattle.lw_calls.specs.declared.verb.Verb.{Verb}
-use Rattle.lw_calls.specs.declared.verb.Verb.TheVariants.{Screen as ScreenVerb, Glyph as GlyphVerb, Bitmap as BitmapVerb, Task as TaskVerb, End as EndVerb, Order as OrderVerb, Report as ReportVerb, Lock as LockVerb, Unlock as UnlockVerb, Hold as HoldVerb, Release as ReleaseVerb, OrRect as OrRectVerb, AndRect as AndRectVerb, XorRect as XorRectVerb, ClearRect as ClearRectVerb, OrRegion as OrRegionVerb, AndRegion as AndRegionVerb, XorRegion as XorRegionVerb, ClearRegion as ClearRegionVerb, Close as CloseVerb, Front as FrontVerb, Behind as BehindVerb, Activate as ActivateVerb, Unclip as UnclipVerb, Refresh as RefreshVerb, GetMsg as GetMsgVerb, APen as APenVerb, BPen as BPenVerb, Mode as ModeVerb, Mask as MaskVerb, SetRast as SetRastVerb, Clip as ClipVerb, Move as MoveVerb, Size as SizeVerb, At as AtVerb, Write as WriteVerb, Read as ReadVerb, Draw as DrawVerb, Scroll as ScrollVerb, Text as TextVerb, Title as TitleVerb}
+use Rattle.lw_grammar.specs.declared.verb.Verb.{Verb}
+use Rattle.lw_grammar.specs.declared.verb.Verb.TheVariants.{Screen as ScreenVerb, Glyph as GlyphVerb, Bitmap as BitmapVerb, Task as TaskVerb, End as EndVerb, Order as OrderVerb, Report as ReportVerb, Lock as LockVerb, Unlock as UnlockVerb, Hold as HoldVerb, Release as ReleaseVerb, OrRect as OrRectVerb, AndRect as AndRectVerb, XorRect as XorRectVerb, ClearRect as ClearRectVerb, OrRegion as OrRegionVerb, AndRegion as AndRegionVerb, XorRegion as XorRegionVerb, ClearRegion as ClearRegionVerb, Close as CloseVerb, Front as FrontVerb, Behind as BehindVerb, Activate as ActivateVerb, Unclip as UnclipVerb, Refresh as RefreshVerb, GetMsg as GetMsgVerb, APen as APenVerb, BPen as BPenVerb, Mode as ModeVerb, Mask as MaskVerb, SetRast as SetRastVerb, Clip as ClipVerb, Move as MoveVerb, Size as SizeVerb, At as AtVerb, Write as WriteVerb, Read as ReadVerb, Draw as DrawVerb, Scroll as ScrollVerb, Text as TextVerb, Title as TitleVerb}
 
 -- the verb parts a script or a task
 abbrev pub parts_script : Verb → Bool

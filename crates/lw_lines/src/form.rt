@@ -195,7 +195,7 @@ pub enum LineForm<'a> {
 
 impl<'a> LineForm<'a> {
     ghost use Rattle.std.specs.Prelude.{◌≡◌, [], ◌∷◌};
-    ghost use Rattle.lw_calls.specs.LineForms.{CallLine};
+    ghost use Rattle.lw_grammar.specs.LineForms.{CallLine};
     ghost use Rattle.lw_lines.specs.FormMeaning.{form_meaning, act_meaning};
 
     /// A call that names no layer.

@@ -1,6 +1,6 @@
 ghost use Rattle.std.specs.Prelude.{◌≡◌, ◌≤◌, IfSome, map, option_map, [], ◌∷◌};
-ghost use Rattle.lw_calls.specs.LineForms.{kind_of, place_of, flag as flag_meant, hook_option, class_of, classes_from, ask_option, create_plain, create_super, titled_line, open_plain, open_super, asked_line};
-ghost use Rattle.lw_calls.specs.Tokens.{NumberToken};
+ghost use Rattle.lw_grammar.specs.LineForms.{kind_of, place_of, flag as flag_meant, hook_option, class_of, classes_from, ask_option, create_plain, create_super, titled_line, open_plain, open_super, asked_line};
+ghost use Rattle.lw_grammar.specs.Tokens.{NumberToken};
 ghost use Rattle.lw_words.specs.TokenMeaning.{token_meaning};
 ghost use Rattle.lw_lines.specs.FormMeaning.{form_meaning, corners_meaning, plain_meaning, asked_meaning};
 ghost use Rattle.lw_lines.specs.AskedParts.{behind_numbers, with_words, with_numbers, with_names};

@@ -1,6 +1,6 @@
 ghost use Rattle.std.specs.Prelude.{◌≡◌, map, option_map};
-ghost use Rattle.lw_calls.specs.LineForms.{minterm_of, put_line, blit_line, scrollraster_line};
-ghost use Rattle.lw_calls.specs.Tokens.{bytes_in};
+ghost use Rattle.lw_grammar.specs.LineForms.{minterm_of, put_line, blit_line, scrollraster_line};
+ghost use Rattle.lw_grammar.specs.Tokens.{bytes_in};
 ghost use Rattle.lw_words.specs.TokenMeaning.{token_meaning};
 ghost use Rattle.lw_lines.specs.FormMeaning.{form_meaning, corners_meaning};
 ghost use Rattle.lw_lines.specs.BlitParts.{only_minterm, end_taken, begin_line, put_end, blit_between, scroll_parts};

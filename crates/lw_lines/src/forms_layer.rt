@@ -1,5 +1,5 @@
 ghost use Rattle.std.specs.Prelude.{◌≡◌, map, option_map};
-ghost use Rattle.lw_calls.specs.LineForms.{layer_line, number_line, pair_line, text_line, rect_line, region_line, clear_line, which_line, infront_line, four_line, endrefresh_line, BoxAct, FillAct, four};
+ghost use Rattle.lw_grammar.specs.LineForms.{layer_line, number_line, pair_line, text_line, rect_line, region_line, clear_line, which_line, infront_line, four_line, endrefresh_line, BoxAct, FillAct, four};
 ghost use Rattle.lw_words.specs.TokenMeaning.{token_meaning};
 ghost use Rattle.lw_lines.specs.FormMeaning.{form_meaning, bare_meaning, number_meaning, pair_meaning, text_meaning};
 

@@ -1,6 +1,6 @@
 ghost use Rattle.std.specs.Prelude.{◌≡◌, ◌≤◌, ℕ, List, ◌∷◌, map, option_map, IfOk};
-ghost use Rattle.lw_calls.specs.LineForms.{LineForm as FormValue, screen_line, glyph_of_bytes, glyph_line, bitmap_line, row_line, numbers_line, all_numbers, name_line, bare_line};
-ghost use Rattle.lw_calls.specs.Tokens.{bytes_in};
+ghost use Rattle.lw_grammar.specs.LineForms.{LineForm as FormValue, screen_line, glyph_of_bytes, glyph_line, bitmap_line, row_line, numbers_line, all_numbers, name_line, bare_line};
+ghost use Rattle.lw_grammar.specs.Tokens.{bytes_in};
 ghost use Rattle.lw_words.specs.TokenMeaning.{token_meaning};
 ghost use Rattle.lw_lines.specs.FormMeaning.{form_meaning};
 

@@ -1,5 +1,5 @@
 ghost use Rattle.std.specs.Prelude.{◌≡◌, map, option_map, IsTrue};
-ghost use Rattle.lw_calls.specs.LineForms.{form_by as form_meant};
+ghost use Rattle.lw_grammar.specs.LineForms.{form_by as form_meant};
 ghost use Rattle.lw_words.specs.TokenMeaning.{token_meaning};
 ghost use Rattle.lw_lines.specs.FormMeaning.{form_meaning};
 ghost use Rattle.lw_lines.specs.VerbFamilies.{parts_script, is_on_registers, is_short, has_pair_or_text};
@@ -12,7 +12,8 @@ use crate::forms_layer::{
     pair_form, rect_form, region_form, text_form, which_form,
 };
 use crate::forms_parts::{alone, bitmap_form, glyph_form, only_name, screen_form};
-use lw_calls::{PairOp, RectOp, Verb};
+use lw_calls::{PairOp, RectOp};
+use lw_grammar::Verb;
 use lw_words::Token;
 
 /// The form of a line that parts a script or a task.

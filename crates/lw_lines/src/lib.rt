@@ -1,5 +1,5 @@
 //! The form of a line of a script by its words, and what the form asks for: its ranges, its place in a group and its call
-//! (this project's own format). `lw_calls` has the grammar as definitions, in `specs/LineForms.antt`.
+//! (this project's own format). `lw_grammar` has the grammar as definitions, in `specs/LineForms.antt`.
 #![tactic(auto)]
 
 mod acts;

@@ -2,7 +2,7 @@ ghost use Rattle.std.specs.Prelude.{◌≡◌, ◌&&◌, map, pos};
 ghost use Rattle.std.specs.List.{list_all};
 ghost use Rattle.lw_region.specs.Rectangle.{within};
 ghost use Rattle.lw_calls.specs.Limits.{is_coordinate, axis_fits, rect_fits, coordinates_fit as places_meant, is_extent};
-ghost use Rattle.lw_calls.specs.LineForms.{is_hook_number, is_own_size, is_asked_in_range, is_box, is_blitting, is_act_in_range, is_line_in_range};
+ghost use Rattle.lw_grammar.specs.LineForms.{is_hook_number, is_own_size, is_asked_in_range, is_box, is_blitting, is_act_in_range, is_line_in_range};
 ghost use Rattle.lw_lines.specs.FormMeaning.{corners_meaning, kind_meaning, width_meaning, height_meaning, asked_meaning, blitting_meaning, number_meaning, act_meaning, form_meaning};
 
 use crate::form::{Act, Asked, AskedKind, Blitting, Corners, LineForm, NumberAct, PlainKind};

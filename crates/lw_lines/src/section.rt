@@ -1,8 +1,9 @@
 ghost use Rattle.std.specs.Prelude.{◌≡◌, ◌&&◌};
-ghost use Rattle.lw_calls.specs.Script.{is_screen_due, are_assets_due, are_calls_due, are_tasks_due, are_numbers_due, is_nothing_due, is_plain, is_ordered, is_audited, stands_in as stands_meant, is_task_verb};
+ghost use Rattle.lw_grammar.specs.Script.{is_screen_due, are_assets_due, are_calls_due, are_tasks_due, are_numbers_due, is_nothing_due, is_plain, is_ordered, is_audited, stands_in as stands_meant, is_task_verb};
 ghost use Rattle.lw_lines.specs.SectionMeaning.{section_meaning, may_end as may_end_meant};
 
-use lw_calls::{Form, Verb};
+use lw_calls::Form;
+use lw_grammar::Verb;
 
 /// The parts of a script, by what is due in them.
 #[derive(Clone, Copy, Debug, PartialEq, Eq)]

@@ -3,7 +3,7 @@ use Rattle.std.proofs.Common.{◌≡◌, ℕ, zero, suc, ◌+◌, ◌*◌, ◌<�
 use Rattle.std.proofs.lemmas.Bool.Decides.{nat_tests}
 use Rattle.std.proofs.lemmas.List.Elements.{All-head, All-tail}
 use Rattle.lw_calls.specs.declared.entry.Entry.{Entry}
-use Rattle.lw_calls.specs.History.{count_of}
+use Rattle.lw_calls.specs.Entries.{count_of}
 use Rattle.lw_order.specs.Numbered.{TasksBelow}
 
 -- the steps of the tasks below the number

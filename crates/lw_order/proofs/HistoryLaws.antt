@@ -9,7 +9,7 @@ use Rattle.lw_calls.specs.declared.call.Call.{Call}
 use Rattle.lw_calls.specs.declared.touch.Role.{Role}
 use Rattle.lw_calls.specs.declared.touch.Role.TheVariants.{Task}
 use Rattle.lw_calls.specs.Touches.{touch_of, touches_role}
-use Rattle.lw_calls.specs.History.{count_of}
+use Rattle.lw_calls.specs.Entries.{count_of}
 use Rattle.lw_order.specs.Roles.{Quiet, LeavesAlone}
 use Rattle.lw_order.specs.Numbered.{Numbered, IsNumbered, TasksBelow}
 use Rattle.lw_order.specs.Promised.{Follows, Added, longer}

@@ -12,7 +12,7 @@ use Rattle.lw_calls.specs.declared.entry.Entry.{Entry}
 use Rattle.lw_calls.specs.declared.touch.Role.{Role}
 use Rattle.lw_calls.specs.declared.touch.Role.TheVariants.{Task, Slot, Info}
 use Rattle.lw_calls.specs.Touches.{touch_of}
-use Rattle.lw_calls.specs.History.{count_of}
+use Rattle.lw_calls.specs.Entries.{count_of}
 use Rattle.lw_order.specs.declared.view.Numbers.{Numbers}
 use Rattle.lw_order.specs.declared.view.Old.{Old}
 use Rattle.lw_order.specs.declared.view.View.{View}

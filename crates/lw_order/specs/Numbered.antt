@@ -1,7 +1,7 @@
 -- Histories in which each task's steps are numbered (this project's own).
 use Rattle.std.specs.Prelude.{◌≡◌, ℕ, ◌<◌, List, [], ◌∷◌, ◌++◌, All}
 use Rattle.lw_calls.specs.declared.entry.Entry.{Entry}
-use Rattle.lw_calls.specs.History.{count_of}
+use Rattle.lw_calls.specs.Entries.{count_of}
 
 -- after the past, each step's number is that of its task's earlier steps
 abbrev pub Numbered : List Entry → List Entry → Type 0

@@ -1,10 +1,9 @@
 -- What a seat learns of the history (this project's own).
-use Rattle.std.specs.Prelude.{◌≡◌, ℕ, List, [], ◌∷◌, ◌++◌, length, if◌then◌else◌}
-use Rattle.std.specs.Prelude.{nat_lt}
+use Rattle.std.specs.Prelude.{◌≡◌, ℕ, List, [], ◌∷◌, ◌++◌, length, if◌then◌else◌, nat_lt}
 use Rattle.lw_calls.specs.declared.call.Call.{Call}
 use Rattle.lw_calls.specs.declared.entry.Entry.{Entry}
 use Rattle.lw_calls.specs.declared.touch.Role.{Role}
-use Rattle.lw_calls.specs.History.{count_of}
+use Rattle.lw_calls.specs.Entries.{count_of}
 use Rattle.lw_order.specs.Roles.{Quiet}
 
 -- the longer of two histories

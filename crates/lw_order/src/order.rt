@@ -1,6 +1,6 @@
 ghost use Rattle.std.specs.Prelude.{◌≡◌, ◌+◌, ◌<◌, [], ◌∷◌, ◌++◌, IfOk, Contains};
 ghost use Rattle.lw_calls.specs.Touches.{touch_of};
-ghost use Rattle.lw_calls.specs.History.{count_of};
+ghost use Rattle.lw_calls.specs.Entries.{count_of};
 ghost use Rattle.lw_order.specs.Roles.{all_roles, without};
 ghost use Rattle.lw_order.specs.Owned.{Owns};
 ghost use Rattle.lw_order.specs.Numbered.{IsNumbered, TasksBelow};

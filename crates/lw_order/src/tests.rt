@@ -1,5 +1,5 @@
 ghost use Rattle.std.specs.Prelude.{◌≡◌, ℕ, [], ◌+◌, ◌≤◌, ◌<◌, IfOk, All, Contains};
-ghost use Rattle.lw_calls.specs.History.{count_of};
+ghost use Rattle.lw_calls.specs.Entries.{count_of};
 
 use super::{Order, Role, Seat};
 use lw_calls::Call;

@@ -4,9 +4,9 @@ use Rattle.std.specs.List.{flat_map}
 use Rattle.std.proofs.lemmas.Bool.{true≢false, ltb-true, leb-true, eqb-true, eqb-false, ne_eqb, and_parts}
 use Rattle.lw_calls.specs.declared.call.Call.{Call}
 use Rattle.lw_calls.specs.declared.group.Group.{Group}
-use Rattle.lw_calls.specs.Planned.{Planned, group_fits, groups_fit}
-use Rattle.lw_calls.specs.LineForms.{LineForm}
-use Rattle.lw_calls.specs.Canonical.{line_of_call, is_update, opening_lines, closing_lines, lines_from}
+use Rattle.lw_calls.specs.Plan.{Plan, group_fits, groups_fit}
+use Rattle.lw_grammar.specs.LineForms.{LineForm}
+use Rattle.lw_canonical.specs.Canonical.{line_of_call, is_update, opening_lines, closing_lines, lines_from}
 use Rattle.lw_print.specs.Grouping.{opening_at, closing_at, lines_at, left_behind}
 
 -- the first group that is left doesn't end before call number n
@@ -98,7 +98,7 @@ around-split : (before : List LineForm) (line : LineForm) (behind rest : List Li
 around-split before line behind rest = simp append_assoc
 
 -- the lines of the calls from number n on, without a group that ended before it
-lines_passed : (p : Planned) (calls : List Call) (g : Group) (gs : List Group) (n : ℕ) (cs : List Call) → g.first ≤ g.last → g.last < n → lines_from p calls (g ∷ gs) n cs ≡ lines_from p calls gs n cs
+lines_passed : (p : Plan) (calls : List Call) (g : Group) (gs : List Group) (n : ℕ) (cs : List Call) → g.first ≤ g.last → g.last < n → lines_from p calls (g ∷ gs) n cs ≡ lines_from p calls gs n cs
 lines_passed p calls g gs n [] order ended = refl
 lines_passed p calls g gs n (c ∷ cs) order ended =
     around-same _ _ (line_of_call p.slot_names p.bitmap_names c) _ _ _ _
@@ -107,7 +107,7 @@ lines_passed p calls g gs n (c ∷ cs) order ended =
     (lines_passed p calls g gs (n + 1) cs order (omega arith))
 
 -- the lines of the calls from number n on are those of this call and the others
-pub lines_next : (p : Planned) (calls : List Call) (gs : List Group) (n : ℕ) (c : Call) (cs : List Call) → groups_fit calls gs ≡ true → Reaches n gs → lines_from p calls gs n (c ∷ cs) ≡ lines_at p calls gs n c ++ lines_from p calls gs (n + 1) cs
+pub lines_next : (p : Plan) (calls : List Call) (gs : List Group) (n : ℕ) (c : Call) (cs : List Call) → groups_fit calls gs ≡ true → Reaches n gs → lines_from p calls gs n (c ∷ cs) ≡ lines_at p calls gs n c ++ lines_from p calls gs (n + 1) cs
 lines_next p calls [] n c cs h reach = refl
 lines_next p calls (g ∷ gs) n c cs h reach =
     around-same _ (opening_at p.slot_names calls (g ∷ gs) n) (line_of_call p.slot_names p.bitmap_names c) _ (closing_at p.slot_names calls (g ∷ gs) n) _ _
@@ -137,7 +137,7 @@ left_reach_step false calls g gs n is h reach =
     let other : g.last ≢ n = eqb-false _ _ is in
     omega (arith, other)
 
-left_lines_step : (t : Bool) (p : Planned) (calls : List Call) (g : Group) (gs : List Group) (n : ℕ) (cs : List Call) → (g.last == n) ≡ t → groups_fit calls (g ∷ gs) ≡ true → lines_from p calls (g ∷ gs) (n + 1) cs ≡ lines_from p calls (left_if t g gs) (n + 1) cs
+left_lines_step : (t : Bool) (p : Plan) (calls : List Call) (g : Group) (gs : List Group) (n : ℕ) (cs : List Call) → (g.last == n) ≡ t → groups_fit calls (g ∷ gs) ≡ true → lines_from p calls (g ∷ gs) (n + 1) cs ≡ lines_from p calls (left_if t g gs) (n + 1) cs
 left_lines_step true p calls g gs n cs is h =
     let here : g.last ≡ n = eqb-true _ _ is in
     lines_passed p calls g gs (n + 1) cs (first_order calls g gs h) (omega (arith, here))
@@ -154,6 +154,6 @@ left_reach calls [] n h reach = tt
 left_reach calls (g ∷ gs) n h reach = left_reach_step (g.last == n) calls g gs n refl h reach
 
 -- the lines of the calls behind number n are those with the groups that are left
-pub left_lines : (p : Planned) (calls : List Call) (gs : List Group) (n : ℕ) (cs : List Call) → groups_fit calls gs ≡ true → lines_from p calls gs (n + 1) cs ≡ lines_from p calls (left_behind gs n) (n + 1) cs
+pub left_lines : (p : Plan) (calls : List Call) (gs : List Group) (n : ℕ) (cs : List Call) → groups_fit calls gs ≡ true → lines_from p calls gs (n + 1) cs ≡ lines_from p calls (left_behind gs n) (n + 1) cs
 left_lines p calls [] n cs h = refl
 left_lines p calls (g ∷ gs) n cs h = left_lines_step (g.last == n) p calls g gs n cs refl h

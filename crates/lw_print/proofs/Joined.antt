@@ -1,8 +1,8 @@
 -- Words that are written one after another.
 use Rattle.std.proofs.Common.{◌≡◌, ℕ, List, [], ◌∷◌, ◌++◌, append_assoc, append-nil, ◌∙◌, sym, refl, ap}
 use Rattle.lw_region.specs.Rectangle.{Rectangle}
-use Rattle.lw_calls.specs.Report.{line_of, spaced_bounds}
-use Rattle.lw_calls.specs.Spelling.{joined, four_words}
+use Rattle.lw_calls.specs.Written.{line_of, spaced_bounds}
+use Rattle.lw_canonical.specs.Spelling.{joined, four_words}
 use Rattle.lw_print.specs.Behind.{behind, first_word, other_words}
 
 -- words with single spaces are the first, and the others each behind a space

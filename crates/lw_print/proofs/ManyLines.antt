@@ -3,10 +3,10 @@ use Rattle.std.proofs.Common.{◌≡◌, ℕ, List, [], ◌∷◌, ◌++◌, app
 use Rattle.std.specs.List.{flat_map, range_with_len}
 use Rattle.std.proofs.lemmas.Grind.{flat_map-append}
 use Rattle.lw_planes.specs.Bitmap.{Bitmap, plane_row}
-use Rattle.lw_calls.specs.Desk.{Supplies}
-use Rattle.lw_calls.specs.Report.{line_of, hex_byte}
-use Rattle.lw_calls.specs.LineForms.{LineForm, RowLine}
-use Rattle.lw_calls.specs.Spelling.{spelled}
+use Rattle.lw_calls.specs.Assets.{Assets}
+use Rattle.lw_calls.specs.Written.{line_of, hex_byte}
+use Rattle.lw_grammar.specs.LineForms.{LineForm, RowLine}
+use Rattle.lw_canonical.specs.Spelling.{spelled}
 use Rattle.lw_text.proofs.Pieces.{pieces-same}
 use Rattle.lw_print.specs.Behind.{text_of_lines}
 
@@ -54,7 +54,7 @@ pieces-text f n m start p end e =
     e ∙ (ap (λ k. start ++ flat_map (λ i. text_of_lines (f i)) (range_with_len 0 k)) end ∙ ap (λ xs. start ++ xs) (sym (text-pieces f (range_with_len 0 m))))
 
 -- glyphs and bitmaps are written as their type shows them
-pub viewed-written : (gs hs : Supplies → List LineForm) (s t : Supplies) (o p q : List ℕ) → s ≡ t → p ≡ o ++ text_of_lines (gs s) → q ≡ p ++ text_of_lines (hs s) → q ≡ o ++ text_of_lines (gs t ++ hs t)
+pub viewed-written : (gs hs : Assets → List LineForm) (s t : Assets) (o p q : List ℕ) → s ≡ t → p ≡ o ++ text_of_lines (gs s) → q ≡ p ++ text_of_lines (hs s) → q ≡ o ++ text_of_lines (gs t ++ hs t)
 viewed-written gs hs s t o p q e f h = rw (← e) (more-lines (gs s) (hs s) o p q f h)
 
 -- a line is written, and then others in two parts

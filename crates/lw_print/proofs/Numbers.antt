@@ -2,9 +2,9 @@
 use Rattle.std.proofs.Common.{◌≡◌, ◌∙◌, sym, ap, ℕ, List, [], ◌∷◌, ◌++◌, append-nil, arith, ℤ, pos, ◌+ℤ◌, ◌-ℤ◌, to_z, of_z, w32, FitsSigned}
 use Rattle.std.proofs.lemmas.Int.{ints}
 use Rattle.std.specs.Fmt.{signed_decimal}
-use Rattle.lw_calls.specs.LineForms.{four}
-use Rattle.lw_calls.specs.Report.{spaced_signed}
-use Rattle.lw_calls.specs.Spelling.{four_words}
+use Rattle.lw_grammar.specs.LineForms.{four}
+use Rattle.lw_calls.specs.Written.{spaced_signed}
+use Rattle.lw_canonical.specs.Spelling.{four_words}
 use Rattle.lw_print.specs.Behind.{behind}
 
 -- a number as its word has it

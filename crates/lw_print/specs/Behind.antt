@@ -2,10 +2,10 @@
 use Rattle.std.specs.Prelude.{ℕ, List, [], ◌∷◌, ◌++◌}
 use Rattle.std.specs.List.{flat_map}
 use Rattle.lw_calls.specs.declared.call.Call.{Call}
-use Rattle.lw_calls.specs.Report.{line_of}
-use Rattle.lw_calls.specs.LineForms.{LineForm}
-use Rattle.lw_calls.specs.Spelling.{words_of, spelled}
-use Rattle.lw_calls.specs.Canonical.{line_of_call}
+use Rattle.lw_calls.specs.Written.{line_of}
+use Rattle.lw_grammar.specs.LineForms.{LineForm}
+use Rattle.lw_canonical.specs.Spelling.{words_of, spelled}
+use Rattle.lw_canonical.specs.Canonical.{line_of_call}
 
 -- words that stand behind another, each behind a space
 abbrev pub behind : List (List ℕ) → List ℕ

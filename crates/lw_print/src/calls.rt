@@ -2,10 +2,10 @@
 
 ghost use Rattle.std.specs.Prelude.{◌≡◌, ◌++◌, ◌∷◌, [], List, ℕ, OnOk, IsTrue};
 ghost use Rattle.std.specs.Fmt.{signed_decimal};
-ghost use Rattle.lw_calls.specs.Canonical.{line_of_call};
-ghost use Rattle.lw_calls.specs.LineForms.{four};
-ghost use Rattle.lw_calls.specs.Report.{line_of, hex_byte};
-ghost use Rattle.lw_calls.specs.Spelling.{spelled, four_words};
+ghost use Rattle.lw_canonical.specs.Canonical.{line_of_call};
+ghost use Rattle.lw_grammar.specs.LineForms.{four};
+ghost use Rattle.lw_calls.specs.Written.{line_of, hex_byte};
+ghost use Rattle.lw_canonical.specs.Spelling.{spelled, four_words};
 ghost use Rattle.lw_print.specs.Behind.{behind, rest_of_call};
 ghost use Rattle.lw_print.specs.Families.{begins_with_a_layer, has_a_box, has_layer_and_numbers, makes_a_layer};
 

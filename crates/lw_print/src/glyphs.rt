@@ -2,8 +2,8 @@
 
 ghost use Rattle.std.specs.Prelude.{◌≡◌, ◌++◌, ◌==◌, OnOk};
 ghost use Rattle.std.specs.List.{flat_map, list_all};
-ghost use Rattle.lw_calls.specs.Canonical.{lines_of_glyph};
-ghost use Rattle.lw_calls.specs.Report.{hex_byte};
+ghost use Rattle.lw_canonical.specs.Canonical.{lines_of_glyph};
+ghost use Rattle.lw_calls.specs.Written.{hex_byte};
 ghost use Rattle.lw_print.specs.Behind.{text_of_lines};
 ghost use Rattle.lw_print.specs.Parts.{glyph_lines};
 

@@ -1,7 +1,7 @@
 //! The lines that begin and end groups.
 
 ghost use Rattle.std.specs.Prelude.{◌≡◌, ◌++◌, OnOk};
-ghost use Rattle.lw_calls.specs.Canonical.{is_update, opening_lines, closing_lines};
+ghost use Rattle.lw_canonical.specs.Canonical.{is_update, opening_lines, closing_lines};
 ghost use Rattle.lw_print.specs.Behind.{text_of_lines};
 ghost use Rattle.lw_print.specs.Grouping.{opening_at, closing_at, left_behind};
 

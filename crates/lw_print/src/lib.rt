@@ -1,6 +1,6 @@
 //! The canonical text of a plan: the script that spells it, with each line in its one spelling (this project's own format).
 //!
-//! `lw_calls` has the text as a definition, in `specs/Canonical.antt`.
+//! `lw_canonical` has the text as a definition, in `specs/Canonical.antt`.
 #![tactic(auto)]
 
 mod bitmaps;

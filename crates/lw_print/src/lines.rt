@@ -1,7 +1,7 @@
 //! Lines of a word and a name.
 
 ghost use Rattle.std.specs.Prelude.{◌≡◌, ◌++◌, ◌∷◌, OnOk};
-ghost use Rattle.lw_calls.specs.Report.{line_of};
+ghost use Rattle.lw_calls.specs.Written.{line_of};
 
 use lw_text::{end_line, push_word};
 use std::alloc::AllocError;

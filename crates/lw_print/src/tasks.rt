@@ -1,8 +1,8 @@
 //! The lines of tasks.
 
 ghost use Rattle.std.specs.Prelude.{◌≡◌, ◌<◌, ◌++◌, OnOk};
-ghost use Rattle.lw_calls.specs.Canonical.{lines_from, lines_of_task};
-ghost use Rattle.lw_calls.specs.Planned.{task_calls, task_groups};
+ghost use Rattle.lw_canonical.specs.Canonical.{lines_from, lines_of_task};
+ghost use Rattle.lw_calls.specs.Plan.{task_calls, task_groups};
 ghost use Rattle.lw_print.specs.Behind.{text_of_lines};
 ghost use Rattle.lw_print.specs.Grouping.{lines_at};
 

@@ -2,7 +2,7 @@ ghost use Rattle.std.specs.Prelude.{◌≡◌, ◌≤◌, [], ◌∷◌, All, Is
 ghost use Rattle.std.specs.List.{list_all};
 ghost use Rattle.lw_calls.specs.declared.group.Hold.TheVariants.{Slot, All as AllLayers};
 ghost use Rattle.lw_calls.specs.Limits.{call_fits};
-ghost use Rattle.lw_calls.specs.Planned.{groups_fit, AreSupplies};
+ghost use Rattle.lw_calls.specs.Plan.{groups_fit, AreAssets};
 
 use crate::print;
 use lw_calls::{
@@ -42,7 +42,7 @@ fn plan_of(
     requires few { length calls.items ≤ 4096 }
     requires fit { IsTrue (list_all (call_fits (record { version = 1; width = 20; height = 10; depth = 2; slots = 2; tasks = 1; hooks = 2; bitmaps = 1 })) calls.items) }
     requires groups { IsTrue (groups_fit calls.items groups.items) }
-    requires supplies { AreSupplies assets }
+    requires assets { AreAssets assets }
     requires bitmaps { length assets.bitmaps ≡ 1 }
 {
     Ok(Plan::new(PlanParts {
@@ -69,7 +69,7 @@ fn glyphs() -> [[u8; 8]; 95]
 
 /// These glyphs, and a bitmap with ones in its padding.
 fn assets(alloc: Global) -> Result<Assets, AllocError>
-    ensures supplies { IfOk result (λ assets. AreSupplies assets) }
+    ensures assets { IfOk result (λ assets. AreAssets assets) }
     ensures bitmaps { IfOk result (λ assets. length assets.bitmaps ≡ 1) }
 {
     let rows = [0xff, 0xff, 0x01, 0x00, 0x00, 0x80, 0x80, 0x7f];

@@ -1,8 +1,8 @@
 //! The first words of calls' lines.
 
 ghost use Rattle.std.specs.Prelude.{◌≡◌, List, ℕ, IsTrue};
-ghost use Rattle.lw_calls.specs.Planned.{is_all};
-ghost use Rattle.lw_calls.specs.Spelling.{rect_word, pair_word};
+ghost use Rattle.lw_calls.specs.Plan.{is_all};
+ghost use Rattle.lw_canonical.specs.Spelling.{rect_word, pair_word};
 ghost use Rattle.lw_calls.specs.Touches.{slots_of};
 ghost use Rattle.lw_print.specs.Behind.{first_word, words_of_call};
 

@@ -2,10 +2,10 @@
 
 ghost use Rattle.std.specs.Prelude.{◌≡◌, ◌++◌, pos, IfOk, OnOk};
 ghost use Rattle.std.specs.List.{flat_map, range_with_len};
-ghost use Rattle.lw_calls.specs.Canonical.{canonical_text, lines_of_task};
-ghost use Rattle.lw_calls.specs.LineForms.{ScreenLine};
-ghost use Rattle.lw_calls.specs.Report.{line_of};
-ghost use Rattle.lw_calls.specs.Spelling.{spelled};
+ghost use Rattle.lw_canonical.specs.Canonical.{canonical_text, lines_of_task};
+ghost use Rattle.lw_grammar.specs.LineForms.{ScreenLine};
+ghost use Rattle.lw_calls.specs.Written.{line_of};
+ghost use Rattle.lw_canonical.specs.Spelling.{spelled};
 ghost use Rattle.lw_print.specs.Behind.{text_of_lines};
 ghost use Rattle.lw_print.specs.Parts.{glyph_lines, bitmap_lines};
 
@@ -24,7 +24,7 @@ pub fn print(alloc: Global, plan: &Plan) -> Result<Vec<u8>, AllocError>
 {
     let mut out = Vec::new(alloc);
     push_screen(alloc, &mut out, plan)?;
-    push_supplies(alloc, &mut out, plan.bitmap_names(), plan.assets())?;
+    push_assets(alloc, &mut out, plan.bitmap_names(), plan.assets())?;
     push_tasks(alloc, &mut out, plan)?;
     Ok(out)
 }
@@ -42,7 +42,7 @@ fn push_screen(alloc: Global, out: &mut Vec<u8>, plan: &Plan) -> Result<(), Allo
 }
 
 /// Writes the lines of glyphs and bitmaps. `names` has the bitmaps' names by number.
-fn push_supplies(
+fn push_assets(
     alloc: Global,
     out: &mut Vec<u8>,
     names: &[Text],

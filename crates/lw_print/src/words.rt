@@ -2,9 +2,9 @@
 
 ghost use Rattle.std.specs.Prelude.{◌≡◌, ◌++◌, ◌∷◌, [], OnOk, option_map, pos};
 ghost use Rattle.std.specs.Fmt.{signed_decimal};
-ghost use Rattle.lw_calls.specs.LineForms.{four};
-ghost use Rattle.lw_calls.specs.Report.{spaced_signed, hex_byte};
-ghost use Rattle.lw_calls.specs.Spelling.{four_words, flag_words, hook_words, text_word};
+ghost use Rattle.lw_grammar.specs.LineForms.{four};
+ghost use Rattle.lw_calls.specs.Written.{spaced_signed, hex_byte};
+ghost use Rattle.lw_canonical.specs.Spelling.{four_words, flag_words, hook_words, text_word};
 ghost use Rattle.lw_print.specs.Behind.{behind};
 
 use lw_text::{push_hex_byte, push_spaced, push_spaced_signed, push_word};

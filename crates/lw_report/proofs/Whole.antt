@@ -6,12 +6,12 @@ use Rattle.lw_region.specs.Bands.{bands}
 use Rattle.lw_calls.specs.declared.reply.Reply.{Reply}
 use Rattle.lw_calls.specs.declared.last.Seen.{Seen}
 use Rattle.lw_calls.specs.declared.last.Final.{Final}
-use Rattle.lw_calls.specs.Layer.{Layer, Window, Slot, Unopened, Live, Closed}
-use Rattle.lw_calls.specs.Planned.{Planned}
-use Rattle.lw_calls.specs.Desk.{Desk}
-use Rattle.lw_calls.specs.Screen.{screen}
-use Rattle.lw_calls.specs.Finals.{port_of, seen_of, IsFinalOf}
-use Rattle.lw_calls.specs.Report.{of_live, shown_set, damage_set, rectangles_part, port_lines, reply_lines, planes_part, visible_part, damage_part, messages_part, replies_part, report}
+use Rattle.lw_machine.specs.Layer.{Layer, Window, Slot, Unopened, Live, Closed}
+use Rattle.lw_calls.specs.Plan.{Plan}
+use Rattle.lw_machine.specs.Desk.{Desk}
+use Rattle.lw_machine.specs.Screen.{screen}
+use Rattle.lw_machine.specs.Finals.{port_of, seen_of, IsFinalOf}
+use Rattle.lw_machine.specs.Report.{of_live, shown_set, damage_set, rectangles_part, port_lines, reply_lines, planes_part, visible_part, damage_part, messages_part, replies_part, report}
 use Rattle.lw_report.specs.Text.{of_seen, of_slots, visible_text, damage_text, port_text, messages_text, replies_text, text_of}
 use Rattle.lw_text.proofs.Pieces.{pieces-same}
 
@@ -68,7 +68,7 @@ replies-same names tasks rs lists n long given =
     ap (λ m. flat_map (λ t. reply_lines names (slice_index_or tasks t []) (rs t)) (range_with_len 0 m)) (sym long))
 
 -- The text of what a run left is the report of each desk that it is the final state of.
-pub text-reports : (plan : Planned) (order : List ℕ) (last : Final) (d : Desk) (rs : ℕ → List Reply) → length plan.task_names ≡ plan.sizes.tasks → d.sizes ≡ plan.sizes → IsFinalOf d rs last → text_of plan order last ≡ report plan order d rs
+pub text-reports : (plan : Plan) (order : List ℕ) (last : Final) (d : Desk) (rs : ℕ → List Reply) → length plan.task_names ≡ plan.sizes.tasks → d.sizes ≡ plan.sizes → IsFinalOf d rs last → text_of plan order last ≡ report plan order d rs
 unfolding text_of report
 text-reports plan order last d rs tasks sizes final =
     let planes : planes_part last.planes ≡ planes_part (screen d) = ap planes_part final.planes in

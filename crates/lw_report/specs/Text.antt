@@ -5,8 +5,9 @@ use Rattle.lw_calls.specs.declared.message.Message.{Message}
 use Rattle.lw_calls.specs.declared.reply.Reply.{Reply}
 use Rattle.lw_calls.specs.declared.last.Seen.{Seen}
 use Rattle.lw_calls.specs.declared.last.Final.{Final}
-use Rattle.lw_calls.specs.Planned.{Planned}
-use Rattle.lw_calls.specs.Report.{line_of, spaced, order_part, planes_part, rectangles_part, message_text, reply_lines}
+use Rattle.lw_calls.specs.Plan.{Plan}
+use Rattle.lw_calls.specs.Written.{line_of, spaced}
+use Rattle.lw_machine.specs.Report.{order_part, planes_part, rectangles_part, message_text, reply_lines}
 
 -- what is said of a layer that is seen, and nothing of a slot without one
 abbrev pub of_seen : (Seen → List ℕ) → Option Seen → List ℕ
@@ -46,6 +47,6 @@ replies_text names tasks replies =
     flat_map (λ t. reply_lines names (slice_index_or tasks t []) (slice_index_or replies t [])) (range_with_len 0 (length replies))
 
 -- The report of a plan after an order, where the run left this.
-unfoldable pub text_of : Planned → List ℕ → Final → List ℕ
+unfoldable pub text_of : Plan → List ℕ → Final → List ℕ
 text_of plan order last =
     order_part order ++ planes_part last.planes ++ of_slots visible_text plan.slot_names last.slots.items ++ of_slots damage_text plan.slot_names last.slots.items ++ of_slots messages_text plan.slot_names last.slots.items ++ replies_text plan.slot_names plan.task_names last.replies.items ++ line_of (codes "done")

@@ -2,7 +2,8 @@
 
 ghost use Rattle.std.specs.Prelude.{◌≡◌, ◌++◌, OnOk};
 ghost use Rattle.std.specs.List.{flat_map};
-ghost use Rattle.lw_calls.specs.Report.{line_of, message_text};
+ghost use Rattle.lw_calls.specs.Written.{line_of};
+ghost use Rattle.lw_machine.specs.Report.{message_text};
 ghost use Rattle.lw_report.specs.Text.{of_seen, of_slots, message_lines, port_text};
 ghost use Rattle.lw_report.specs.Words.{part_text};
 

@@ -1,13 +1,13 @@
 //! The report's first part: the order of the calls.
 
 ghost use Rattle.std.specs.Prelude.{◌≡◌, ◌+◌, ◌≤◌, ◌++◌, List, ℕ, length, OnOk};
-ghost use Rattle.lw_calls.specs.Report.{order_part, order_numbers, separator};
+ghost use Rattle.lw_machine.specs.Report.{order_part, order_numbers, separator};
 
 use lw_text::{push_decimal, push_numbered_line};
 use std::alloc::{AllocError, Global};
 
 /// Writes how many calls were made, and the tasks' numbers in the order of their calls.
-#[tactic(auto, unfolding(lw_calls::specs::Report::order_part))]
+#[tactic(auto, unfolding(lw_machine::specs::Report::order_part))]
 pub fn push_order(alloc: Global, out: &mut Vec<u8>, order: &[u32]) -> Result<(), AllocError>
     ensures { OnOk result (out.new.items ≡ out.old.items ++ order_part order.now) }
 {

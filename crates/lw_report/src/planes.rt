@@ -2,14 +2,15 @@
 
 ghost use Rattle.std.specs.Prelude.{◌≡◌, ◌<◌, ◌++◌, codes, OnOk};
 ghost use Rattle.std.specs.List.{flat_map, range_with_len};
-ghost use Rattle.lw_calls.specs.Report.{line_of, spaced, plane_lines, planes_part};
+ghost use Rattle.lw_calls.specs.Written.{line_of, spaced};
+ghost use Rattle.lw_machine.specs.Report.{plane_lines, planes_part};
 
 use lw_planes::Planes;
 use lw_text::{end_line, push_numbered_line, push_rows, push_spaced};
 use std::alloc::{AllocError, Global};
 
 /// Writes the sizes of the screen and its planes.
-#[tactic(auto, unfolding(lw_calls::specs::Report::planes_part))]
+#[tactic(auto, unfolding(lw_machine::specs::Report::planes_part))]
 pub fn push_planes(alloc: Global, out: &mut Vec<u8>, planes: &Planes) -> Result<(), AllocError>
     ensures { OnOk result (out.new.items ≡ out.old.items ++ planes_part planes.now) }
 {
@@ -39,7 +40,7 @@ fn push_each_plane(alloc: Global, out: &mut Vec<u8>, planes: &Planes) -> Result<
 }
 
 /// Writes one plane: a line with its number, and a line for each row.
-#[tactic(auto, unfolding(lw_calls::specs::Report::plane_lines))]
+#[tactic(auto, unfolding(lw_machine::specs::Report::plane_lines))]
 fn push_plane(
     alloc: Global,
     out: &mut Vec<u8>,

@@ -2,7 +2,8 @@
 
 ghost use Rattle.std.specs.Prelude.{◌≡◌, ◌++◌, length, OnOk};
 ghost use Rattle.std.specs.List.{flat_map};
-ghost use Rattle.lw_calls.specs.Report.{spaced, spaced_bounds, rectangle_line, rectangles_part};
+ghost use Rattle.lw_calls.specs.Written.{spaced, spaced_bounds};
+ghost use Rattle.lw_machine.specs.Report.{rectangle_line, rectangles_part};
 
 use lw_region::Rect;
 use lw_text::{end_line, push_bounds, push_numbered_line, push_spaced, push_spaced_bounds};

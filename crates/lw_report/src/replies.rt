@@ -2,7 +2,8 @@
 
 ghost use Rattle.std.specs.Prelude.{◌≡◌, ◌++◌, OnOk};
 ghost use Rattle.std.specs.List.{flat_map};
-ghost use Rattle.lw_calls.specs.Report.{line_of, message_text, reply_text, reply_lines};
+ghost use Rattle.lw_calls.specs.Written.{line_of};
+ghost use Rattle.lw_machine.specs.Report.{message_text, reply_text, reply_lines};
 ghost use Rattle.lw_report.specs.Text.{replies_text};
 ghost use Rattle.lw_report.specs.Words.{reply_word, reply_rest};
 
@@ -36,7 +37,7 @@ pub fn push_replies(
 }
 
 /// Writes a task's name and how many replies it had, and each reply on a line.
-#[tactic(auto, unfolding(lw_calls::specs::Report::reply_lines))]
+#[tactic(auto, unfolding(lw_machine::specs::Report::reply_lines))]
 fn push_task(
     alloc: Global,
     out: &mut Vec<u8>,

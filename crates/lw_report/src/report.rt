@@ -2,9 +2,9 @@
 
 ghost use Rattle.std.specs.Prelude.{◌≡◌, ℕ, List, IfOk};
 ghost use Rattle.lw_calls.specs.declared.reply.Reply.{Reply};
-ghost use Rattle.lw_calls.specs.Desk.{Desk};
-ghost use Rattle.lw_calls.specs.Finals.{IsFinalOf};
-ghost use Rattle.lw_calls.specs.Report.{report};
+ghost use Rattle.lw_machine.specs.Desk.{Desk};
+ghost use Rattle.lw_machine.specs.Finals.{IsFinalOf};
+ghost use Rattle.lw_machine.specs.Report.{report};
 ghost use Rattle.lw_report.specs.Text.{text_of};
 
 use crate::layers::{Part, push_part};

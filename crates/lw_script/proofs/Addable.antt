@@ -3,12 +3,12 @@ use Rattle.std.proofs.Common.{◌≡◌, ℕ, ◌+◌, ◌<◌, ◌≤◌, ◌==
 use Rattle.std.specs.List.{list_any}
 use Rattle.lw_region.specs.Rectangle.{within}
 use Rattle.lw_planes.specs.Bitmap.{row_bytes}
-use Rattle.lw_calls.specs.LineForms.{LineForm, ScreenLine, GlyphLine, BitmapLine, RowLine, TaskLine, CallLine, UnlockLine, ReleaseLine, Act, layers_of, is_act_in_range}
-use Rattle.lw_calls.specs.LinesAbove.{rows_due, tasks_above, names_above, bitmaps_above, supers_above, calls_so_far, began_at, group_above, asks_super}
+use Rattle.lw_grammar.specs.LineForms.{LineForm, ScreenLine, GlyphLine, BitmapLine, RowLine, TaskLine, CallLine, UnlockLine, ReleaseLine, Act, layers_of, is_act_in_range}
+use Rattle.lw_grammar.specs.LinesAbove.{rows_due, tasks_above, names_above, bitmaps_above, supers_above, calls_so_far, began_at, group_above, asks_super}
 use Rattle.lw_calls.specs.Limits.{name_limit, task_limit, bitmap_limit}
-use Rattle.lw_calls.specs.Script.{is_lock_on, is_hold, super_limit}
-use Rattle.lw_calls.proofs.ScriptForms.{IsFormHere}
-use Rattle.lw_calls.proofs.ScriptSizes.{IsFormTested, here, tests, counted}
+use Rattle.lw_grammar.specs.Script.{is_lock_on, is_hold, super_limit}
+use Rattle.lw_grammar.proofs.ScriptForms.{IsFormHere}
+use Rattle.lw_grammar.proofs.ScriptSizes.{IsFormTested, here, tests, counted}
 use Rattle.lw_words.specs.Cuts.{targets}
 use Rattle.lw_words.proofs.Targets.{length-targets}
 use Rattle.lw_script.specs.declared.state.Reader.{Reader}

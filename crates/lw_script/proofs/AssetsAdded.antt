@@ -8,7 +8,7 @@ use Rattle.lw_region.specs.Rectangle.{within}
 use Rattle.lw_planes.specs.Bitmap.{Bitmap}
 use Rattle.lw_planes.specs.Sizes.{AreSizes}
 use Rattle.lw_planes.specs.Storage.{stored}
-use Rattle.lw_calls.proofs.ScriptCalls.{size_range}
+use Rattle.lw_grammar.proofs.ScriptCalls.{size_range}
 use Rattle.lw_words.specs.Cuts.{targets}
 use Rattle.lw_words.proofs.Targets.{any_target, targets_push}
 

@@ -4,9 +4,9 @@ use Rattle.std.specs.Bool.{IsTrue}
 use Rattle.lw_calls.specs.declared.call.Call.{Call}
 use Rattle.lw_calls.specs.declared.group.Group.{Group}
 use Rattle.lw_calls.specs.declared.group.Hold.TheVariants.{Slot}
-use Rattle.lw_calls.specs.LineForms.{Act, RegRectAct, RegPairAct, RegClearAct, CreateAct, OpenAct, InFrontAct, WhichAct, BlitAct, EndRefreshAct, LineForm, CallLine, layers_of, is_hook_number, is_act_in_range}
-use Rattle.lw_calls.specs.LinesAbove.{and_names, place_among, bitmaps_above, names_above, hook_on, spelled_call, call_below, calls_so_far, began_at, onto_last, calls_above, groups_above}
-use Rattle.lw_calls.specs.Script.{is_ending}
+use Rattle.lw_grammar.specs.LineForms.{Act, RegRectAct, RegPairAct, RegClearAct, CreateAct, OpenAct, InFrontAct, WhichAct, BlitAct, EndRefreshAct, LineForm, CallLine, layers_of, is_hook_number, is_act_in_range}
+use Rattle.lw_grammar.specs.LinesAbove.{and_names, place_among, bitmaps_above, names_above, hook_on, spelled_call, call_below, calls_so_far, began_at, onto_last, calls_above, groups_above}
+use Rattle.lw_grammar.specs.Script.{is_ending}
 use Rattle.lw_script.specs.CallParts.{first_place, second_place}
 use Rattle.lw_script.proofs.NamesAdded.{place_of_one, places_of_two}
 

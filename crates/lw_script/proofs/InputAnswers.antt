@@ -1,12 +1,12 @@
 -- What reading a script answers, given that it gives the outcome of the lines.
 use Rattle.std.proofs.Common.{◌≡◌, ℕ, List, [], length, min, Result, Ok, Err, IfOk, MatchResult, sym, ap, subst, ◌∙◌}
 use Rattle.lw_calls.specs.declared.reason.Reason.{Reason}
-use Rattle.lw_calls.specs.Lines.{lines}
-use Rattle.lw_calls.specs.LineForms.{LineForm}
-use Rattle.lw_calls.specs.Script.{Setting, ScriptInput, SpellsInput, IsFirstBadIn, IsRunnableInput, bytes_through, with_lines}
-use Rattle.lw_calls.specs.ScriptReading.{outcome_of, input_from}
-use Rattle.lw_calls.proofs.ScriptAnswer.{told_input, outcome_decides, outcome_spelled, outcome_refused}
-use Rattle.lw_calls.proofs.ScriptRunnable.{spelled_runnable}
+use Rattle.lw_grammar.specs.Lines.{lines}
+use Rattle.lw_grammar.specs.LineForms.{LineForm}
+use Rattle.lw_grammar.specs.Script.{Setting, ScriptInput, SpellsInput, IsFirstBadIn, IsRunnableInput, bytes_through, with_lines}
+use Rattle.lw_grammar.specs.ScriptReading.{outcome_of, input_from}
+use Rattle.lw_grammar.proofs.ScriptAnswer.{told_input, outcome_decides, outcome_spelled, outcome_refused}
+use Rattle.lw_grammar.proofs.ScriptRunnable.{spelled_runnable}
 use Rattle.lw_script.specs.declared.input.Input.{Input}
 use Rattle.lw_script.specs.declared.input.ScriptStop.{ScriptStop}
 use Rattle.lw_script.specs.declared.input.ScriptStop.TheVariants.{Refused, Memory}

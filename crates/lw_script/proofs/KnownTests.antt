@@ -1,12 +1,12 @@
 -- The tests of a line by what the reader knows are those of the grammar.
 use Rattle.std.proofs.Common.{◌≡◌, ℕ, ◌+◌, Bool, not, List, [], ◌∷◌, length, ℤ, unsigned_abs, Option, Some, None, refl, sym, ap, ◌∙◌, length-append}
 use Rattle.lw_calls.specs.declared.reason.Reason.TheVariants.{Range, NoName, DoubleName, Group, TooMany, NoHook, HookUsed, Padding, NotBuilt}
-use Rattle.lw_calls.specs.Demands.{◌>>=◌, demand}
-use Rattle.lw_calls.specs.Step.{is_built}
-use Rattle.lw_calls.specs.LineForms.{Act, CloseAct, LineForm, GlyphLine, BitmapLine, TaskLine, CallLine}
-use Rattle.lw_calls.specs.LinesAbove.{hook_on, spelled_call, tasks_above, bitmaps_above, hooks_above, calls_so_far}
-use Rattle.lw_calls.specs.Script.{Setting, lacks_name, gives_again, are_few, is_no_hook, is_used, has_padding, is_unbuilt}
-use Rattle.lw_calls.specs.ScriptReading.{form_tested}
+use Rattle.lw_grammar.specs.Demands.{◌>>=◌, demand}
+use Rattle.lw_calls.specs.Built.{is_built}
+use Rattle.lw_grammar.specs.LineForms.{Act, CloseAct, LineForm, GlyphLine, BitmapLine, TaskLine, CallLine}
+use Rattle.lw_grammar.specs.LinesAbove.{hook_on, spelled_call, tasks_above, bitmaps_above, hooks_above, calls_so_far}
+use Rattle.lw_grammar.specs.Script.{Setting, lacks_name, gives_again, are_few, is_no_hook, is_used, has_padding, is_unbuilt}
+use Rattle.lw_grammar.specs.ScriptReading.{form_tested}
 use Rattle.lw_script.specs.declared.state.Reader.{Reader}
 use Rattle.lw_script.specs.Known.{gives_again_in, are_few_in, tasks_with, bitmaps_with, calls_with, is_used_in, is_unbuilt_in, tested_in}
 use Rattle.lw_script.specs.ReaderKnows.{known}

@@ -1,10 +1,10 @@
 -- Reading a line by what the reader knows gives what the grammar gives.
 use Rattle.std.proofs.Common.{◌≡◌, ℕ, List, Result, Ok, Err, refl, ap, subst, ◌∙◌}
 use Rattle.lw_calls.specs.declared.reason.Reason.{Reason}
-use Rattle.lw_calls.specs.Demands.{◌>>=◌}
-use Rattle.lw_calls.specs.LineForms.{LineForm}
-use Rattle.lw_calls.specs.Script.{Setting}
-use Rattle.lw_calls.specs.ScriptReading.{words_read, form_read, form_tested, line_read}
+use Rattle.lw_grammar.specs.Demands.{◌>>=◌}
+use Rattle.lw_grammar.specs.LineForms.{LineForm}
+use Rattle.lw_grammar.specs.Script.{Setting}
+use Rattle.lw_grammar.specs.ScriptReading.{words_read, form_read, form_tested, line_read}
 use Rattle.lw_script.specs.declared.state.Reader.{Reader}
 use Rattle.lw_lines.specs.declared.form.LineForm.{LineForm as Form}
 use Rattle.lw_words.specs.declared.stop.Stop.{Stop}

@@ -4,14 +4,14 @@ use Rattle.lw_calls.specs.declared.form.Form.{Form}
 use Rattle.lw_calls.specs.declared.form.Form.TheVariants.{Plain, Ordered, Audited}
 use Rattle.lw_calls.specs.declared.reason.Reason.{Reason}
 use Rattle.lw_calls.specs.declared.reason.Reason.TheVariants.{Missing}
-use Rattle.lw_calls.specs.Demands.{◌>>=◌}
-use Rattle.lw_calls.specs.Lines.{lines}
-use Rattle.lw_calls.specs.LineForms.{LineForm, ScreenLine, TaskLine, EndLine, OrderLine, ReportLine}
-use Rattle.lw_calls.specs.LinesAbove.{section_of}
-use Rattle.lw_calls.specs.Script.{Setting, is_skipped, is_passed, is_nothing_due, is_audited, with_line, is_whole, bytes_through}
-use Rattle.lw_calls.specs.ScriptReading.{line_read, told_at, outcome_of, AreGoodLines}
-use Rattle.lw_calls.proofs.ScriptAnswer.{passed_line, line_put}
-use Rattle.lw_calls.proofs.ScriptSizes.{here}
+use Rattle.lw_grammar.specs.Demands.{◌>>=◌}
+use Rattle.lw_grammar.specs.Lines.{lines}
+use Rattle.lw_grammar.specs.LineForms.{LineForm, ScreenLine, TaskLine, EndLine, OrderLine, ReportLine}
+use Rattle.lw_grammar.specs.LinesAbove.{section_of}
+use Rattle.lw_grammar.specs.Script.{Setting, is_skipped, is_passed, is_nothing_due, is_audited, with_line, is_whole, bytes_through}
+use Rattle.lw_grammar.specs.ScriptReading.{line_read, told_at, outcome_of, AreGoodLines}
+use Rattle.lw_grammar.proofs.ScriptAnswer.{passed_line, line_put}
+use Rattle.lw_grammar.proofs.ScriptSizes.{here}
 use Rattle.lw_words.specs.Cuts.{IsCutLine}
 use Rattle.lw_script.specs.declared.input.Input.{Input}
 use Rattle.lw_script.specs.declared.input.ScriptStop.{ScriptStop}

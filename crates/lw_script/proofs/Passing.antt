@@ -1,8 +1,8 @@
 -- Lines that leave what the reader has read: of glyphs and bitmaps, or of tasks.
 use Rattle.std.proofs.Common.{◌≡◌, ℕ, ◌==◌, Bool, true, false, List, [], ◌∷◌, ◌++◌, Result, Ok, Err, OnOk, ℤ, refl, ap, subst, ◌∙◌, arith}
-use Rattle.lw_calls.specs.LineForms.{LineForm, ScreenLine, GlyphLine, BitmapLine, RowLine, TaskLine, EndLine, OrderLine, NumbersLine, ReportLine, CallLine, LockLine, UnlockLine, HoldLine, ReleaseLine}
-use Rattle.lw_calls.specs.LinesAbove.{rows_due, bitmaps_with}
-use Rattle.lw_calls.specs.Script.{Setting}
+use Rattle.lw_grammar.specs.LineForms.{LineForm, ScreenLine, GlyphLine, BitmapLine, RowLine, TaskLine, EndLine, OrderLine, NumbersLine, ReportLine, CallLine, LockLine, UnlockLine, HoldLine, ReleaseLine}
+use Rattle.lw_grammar.specs.LinesAbove.{rows_due, bitmaps_with}
+use Rattle.lw_grammar.specs.Script.{Setting}
 use Rattle.lw_script.specs.declared.state.AssetsRead.{AssetsRead}
 use Rattle.lw_script.specs.declared.state.TasksRead.{TasksRead}
 use Rattle.lw_script.specs.declared.state.Reader.{Reader}

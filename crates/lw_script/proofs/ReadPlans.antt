@@ -7,15 +7,15 @@ use Rattle.lw_calls.specs.declared.group.Group.{Group}
 use Rattle.lw_calls.specs.declared.form.Form.{Form}
 use Rattle.lw_calls.specs.declared.form.Form.TheVariants.{Plain, Ordered, Audited}
 use Rattle.lw_calls.specs.declared.sizes.Sizes.{Sizes}
-use Rattle.lw_calls.specs.Desk.{Supplies}
-use Rattle.lw_calls.specs.Planned.{Planned, IsPlan}
-use Rattle.lw_calls.specs.LineForms.{LineForm}
-use Rattle.lw_calls.specs.LinesAbove.{section_of, rows_due, tasks_above, bitmaps_above, names_above, calls_above, groups_above, glyph_above, bitmaps_with, supplies_above, order_above, plan_above}
-use Rattle.lw_calls.specs.Script.{Setting, ScriptInput, is_whole}
-use Rattle.lw_calls.specs.ScriptReading.{input_from}
-use Rattle.lw_calls.proofs.ScriptAnswer.{rows_in_assets}
-use Rattle.lw_calls.proofs.ScriptSizes.{whole_ends}
-use Rattle.lw_calls.proofs.ScriptRunnable.{runs_from_good}
+use Rattle.lw_calls.specs.Assets.{Assets}
+use Rattle.lw_calls.specs.Plan.{Plan, IsPlan}
+use Rattle.lw_grammar.specs.LineForms.{LineForm}
+use Rattle.lw_grammar.specs.LinesAbove.{section_of, rows_due, tasks_above, bitmaps_above, names_above, calls_above, groups_above, glyph_above, bitmaps_with, assets_above, order_above, plan_above}
+use Rattle.lw_grammar.specs.Script.{Setting, ScriptInput, is_whole}
+use Rattle.lw_grammar.specs.ScriptReading.{input_from}
+use Rattle.lw_grammar.proofs.ScriptAnswer.{rows_in_assets}
+use Rattle.lw_grammar.proofs.ScriptSizes.{whole_ends}
+use Rattle.lw_grammar.proofs.ScriptRunnable.{runs_from_good}
 use Rattle.lw_words.specs.Cuts.{targets}
 use Rattle.lw_words.proofs.Targets.{length-targets}
 use Rattle.lw_lines.specs.SectionMeaning.{section_meaning, may_end}
@@ -62,27 +62,27 @@ bitmaps_are s r above k e =
     sym (append-nil r.assets.bitmaps.items) ∙ ap (λ bs. r.assets.bitmaps.items ++ bs) (sym finished) ∙ k.assets.bitmaps [] (λ d. refl)
 
 -- a plan of these parts
-abbrev plan_with : Sizes → List (List ℕ) → List (List ℕ) → List (List ℕ) → List (List Call) → List (List Group) → Supplies → Planned
-plan_with sizes slots tasks bitmaps calls groups supplies =
-    record { sizes = sizes; slot_names = slots; task_names = tasks; bitmap_names = bitmaps; calls = calls; groups = groups; supplies = supplies }
+abbrev plan_with : Sizes → List (List ℕ) → List (List ℕ) → List (List ℕ) → List (List Call) → List (List Group) → Assets → Plan
+plan_with sizes slots tasks bitmaps calls groups assets =
+    record { sizes = sizes; slot_names = slots; task_names = tasks; bitmap_names = bitmaps; calls = calls; groups = groups; assets = assets }
 
 -- a plan whose parts are those of lines is the plan of the lines
-same_plan : (z : Sizes) (ss ts bs : List (List ℕ)) (cs : List (List Call)) (gs : List (List Group)) (glyphs : List (List ℕ)) (bitmaps : List Bitmap) (hooks : ℕ) (above : List LineForm) → z ≡ (plan_above hooks above).sizes → ss ≡ names_above above → ts ≡ tasks_above above → bs ≡ bitmaps_above above → cs ≡ calls_above above → gs ≡ groups_above above → glyphs ≡ (supplies_above above).glyphs → bitmaps ≡ (supplies_above above).bitmaps → plan_with z ss ts bs cs gs (record { glyphs = glyphs; bitmaps = bitmaps }) ≡ plan_above hooks above
+same_plan : (z : Sizes) (ss ts bs : List (List ℕ)) (cs : List (List Call)) (gs : List (List Group)) (glyphs : List (List ℕ)) (bitmaps : List Bitmap) (hooks : ℕ) (above : List LineForm) → z ≡ (plan_above hooks above).sizes → ss ≡ names_above above → ts ≡ tasks_above above → bs ≡ bitmaps_above above → cs ≡ calls_above above → gs ≡ groups_above above → glyphs ≡ (assets_above above).glyphs → bitmaps ≡ (assets_above above).bitmaps → plan_with z ss ts bs cs gs (record { glyphs = glyphs; bitmaps = bitmaps }) ≡ plan_above hooks above
 same_plan z ss ts bs cs gs glyphs bitmaps hooks above a b c d e f g h = rw (a, b, c, d, e, f, g, h) refl
 
 -- so is one whose parts are the reader's, where no rows are due
-pub plan_is : (s : Setting) (r : Reader) (above : List LineForm) → Stands s r above → r.assets.due ≡ 0 → (z : Sizes) (ss ts bs : List (List ℕ)) (x : Supplies) → z ≡ (plan_above s.hooks above).sizes → ss ≡ targets r.tasks.layer_names.keys → ts ≡ targets r.tasks.task_names.keys → bs ≡ targets r.assets.names.keys → x.glyphs ≡ map (λ i. glyph_above above (32 + i)) (range_with_len 0 95) → x.bitmaps ≡ r.assets.bitmaps.items → plan_with z ss ts bs (map (λ cs. cs.items) r.tasks.calls.items) (map (λ gs. gs.items) r.tasks.groups.items) x ≡ plan_above s.hooks above
+pub plan_is : (s : Setting) (r : Reader) (above : List LineForm) → Stands s r above → r.assets.due ≡ 0 → (z : Sizes) (ss ts bs : List (List ℕ)) (x : Assets) → z ≡ (plan_above s.hooks above).sizes → ss ≡ targets r.tasks.layer_names.keys → ts ≡ targets r.tasks.task_names.keys → bs ≡ targets r.assets.names.keys → x.glyphs ≡ map (λ i. glyph_above above (32 + i)) (range_with_len 0 95) → x.bitmaps ≡ r.assets.bitmaps.items → plan_with z ss ts bs (map (λ cs. cs.items) r.tasks.calls.items) (map (λ gs. gs.items) r.tasks.groups.items) x ≡ plan_above s.hooks above
 plan_is s r above k due z ss ts bs x a b c d g h =
     same_plan z ss ts bs _ _ x.glyphs x.bitmaps s.hooks above a (b ∙ k.tasks.names) (c ∙ k.tasks.tasks) (d ∙ k.assets.names) k.tasks.calls k.tasks.groups g (h ∙ bitmaps_are s r above k due)
 
 -- a plan that is that of good lines may be run
-pub plan_runs : (r : Reader) (h : HasRead r) → may_end r.form (section_meaning r.section) ≡ true → (p : Planned) → p ≡ plan_above h.0.hooks h.1 → IsPlan p
+pub plan_runs : (r : Reader) (h : HasRead r) → may_end r.form (section_meaning r.section) ≡ true → (p : Plan) → p ≡ plan_above h.0.hooks h.1 → IsPlan p
 plan_runs r h e p same =
-    subst (λ (q : Planned). IsPlan q) (sym same) (runs_from_good h.0 h.1 0 h.3 (sym (ends_alike h.0 r h.1 h.2) ∙ e)).plan
+    subst (λ (q : Plan). IsPlan q) (sym same) (runs_from_good h.0 h.1 0 h.3 (sym (ends_alike h.0 r h.1 h.2) ∙ e)).plan
 
 -- an input of such a plan and of the lines' order
-abbrev input_with : Planned → List ℕ → ℕ → ScriptInput
+abbrev input_with : Plan → List ℕ → ℕ → ScriptInput
 input_with plan order place = record { plan = plan; order = order; rest = place }
 
-pub input_is : (s : Setting) (above : List LineForm) (place : ℕ) (plan : Planned) (order : List ℕ) → plan ≡ plan_above s.hooks above → order ≡ order_above above → input_with plan order place ≡ input_from s above place
+pub input_is : (s : Setting) (above : List LineForm) (place : ℕ) (plan : Plan) (order : List ℕ) → plan ≡ plan_above s.hooks above → order ≡ order_above above → input_with plan order place ≡ input_from s above place
 input_is s above place plan order a b = rw (a, b) refl

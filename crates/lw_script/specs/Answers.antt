@@ -2,10 +2,10 @@
 use Rattle.std.specs.Prelude.{◌≡◌, ℕ, if◌then◌else◌, List, ◌∷◌, Result, Ok, Err}
 use Rattle.lw_calls.specs.declared.form.Form.{Form}
 use Rattle.lw_calls.specs.declared.reason.Reason.{Reason}
-use Rattle.lw_calls.specs.Demands.{◌>>=◌}
-use Rattle.lw_calls.specs.LineForms.{LineForm}
-use Rattle.lw_calls.specs.Script.{Setting, ScriptInput, is_skipped}
-use Rattle.lw_calls.specs.ScriptReading.{line_read, input_from}
+use Rattle.lw_grammar.specs.Demands.{◌>>=◌}
+use Rattle.lw_grammar.specs.LineForms.{LineForm}
+use Rattle.lw_grammar.specs.Script.{Setting, ScriptInput, is_skipped}
+use Rattle.lw_grammar.specs.ScriptReading.{line_read, input_from}
 use Rattle.lw_script.specs.declared.input.Input.{Input}
 use Rattle.lw_script.specs.declared.input.ScriptStop.{ScriptStop}
 use Rattle.lw_script.specs.declared.input.ScriptStop.TheVariants.{Refused, Memory}

@@ -1,7 +1,7 @@
 -- What the line of a call tells of the layers and hooks that it names.
 use Rattle.std.specs.Prelude.{◌≡◌, ℕ, ◌==◌, List, [], ◌∷◌}
 use Rattle.std.specs.List.{list_any}
-use Rattle.lw_calls.specs.LinesAbove.{and_name, place_among}
+use Rattle.lw_grammar.specs.LinesAbove.{and_name, place_among}
 
 -- the number of the first layer that a line names, below lines that name these, and 0 where it names none
 abbrev pub first_place : List (List ℕ) → List (List ℕ) → ℕ

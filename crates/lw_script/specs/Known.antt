@@ -3,12 +3,12 @@ use Rattle.std.specs.Prelude.{ℕ, ◌+◌, Bool, false, not, ◌&&◌, nat_le, 
 use Rattle.std.specs.List.{list_any}
 use Rattle.lw_calls.specs.declared.reason.Reason.{Reason}
 use Rattle.lw_calls.specs.declared.reason.Reason.TheVariants.{Range, NoName, DoubleName, Group, TooMany, NoHook, HookUsed, Padding, NotBuilt}
-use Rattle.lw_calls.specs.Demands.{◌>>=◌, demand}
+use Rattle.lw_grammar.specs.Demands.{◌>>=◌, demand}
 use Rattle.lw_calls.specs.Limits.{name_limit, call_limit, task_limit, bitmap_limit}
-use Rattle.lw_calls.specs.Step.{is_built}
-use Rattle.lw_calls.specs.LineForms.{LineForm, GlyphLine, BitmapLine, TaskLine, CallLine, is_line_in_range}
-use Rattle.lw_calls.specs.LinesAbove.{and_names, layers_on, asks_super, hook_on, Opened, spelled_call}
-use Rattle.lw_calls.specs.Script.{lacks_name, fits_group, super_limit, is_no_hook, has_padding}
+use Rattle.lw_calls.specs.Built.{is_built}
+use Rattle.lw_grammar.specs.LineForms.{LineForm, GlyphLine, BitmapLine, TaskLine, CallLine, is_line_in_range}
+use Rattle.lw_grammar.specs.LinesAbove.{and_names, layers_on, asks_super, hook_on, Opened, spelled_call}
+use Rattle.lw_grammar.specs.Script.{lacks_name, fits_group, super_limit, is_no_hook, has_padding}
 
 -- What is known of lines: how many hooks there are; the names of bitmaps, tasks and layers; which codes have a glyph; the
 -- open group, and whether it has a call; how many super-bitmap layers were asked for; how many calls the task has; which

@@ -2,10 +2,10 @@
 use Rattle.std.specs.Prelude.{ℕ, List, Result, Ok}
 use Rattle.lw_calls.specs.declared.form.Form.{Form}
 use Rattle.lw_calls.specs.declared.reason.Reason.{Reason}
-use Rattle.lw_calls.specs.Demands.{◌>>=◌}
-use Rattle.lw_calls.specs.LineForms.{LineForm as Meaning}
-use Rattle.lw_calls.specs.LinesAbove.{Section}
-use Rattle.lw_calls.specs.ScriptReading.{words_read}
+use Rattle.lw_grammar.specs.Demands.{◌>>=◌}
+use Rattle.lw_grammar.specs.LineForms.{LineForm as Meaning}
+use Rattle.lw_grammar.specs.LinesAbove.{Section}
+use Rattle.lw_grammar.specs.ScriptReading.{words_read}
 use Rattle.lw_lines.specs.LineReading.{form_read_in}
 use Rattle.lw_script.specs.Known.{Known, tested_in}
 

@@ -4,10 +4,10 @@ use Rattle.std.specs.List.{list_any}
 use Rattle.lw_planes.specs.Bitmap.{Bitmap, row_bytes}
 use Rattle.lw_planes.specs.Sizes.{AreSizes}
 use Rattle.lw_planes.specs.Storage.{stored}
-use Rattle.lw_calls.specs.LineForms.{LineForm}
-use Rattle.lw_calls.specs.LinesAbove.{section_of, rows_due, row_width, width_above, height_above, depth_above, tasks_above, bitmaps_above, codes_above, names_above, supers_above, hooks_above, group_above, calls_so_far, began_at, calls_above, groups_above, glyph_above, bitmaps_with, order_above}
-use Rattle.lw_calls.specs.Script.{Setting}
-use Rattle.lw_calls.specs.ScriptReading.{AreGoodLines}
+use Rattle.lw_grammar.specs.LineForms.{LineForm}
+use Rattle.lw_grammar.specs.LinesAbove.{section_of, rows_due, row_width, width_above, height_above, depth_above, tasks_above, bitmaps_above, codes_above, names_above, supers_above, hooks_above, group_above, calls_so_far, began_at, calls_above, groups_above, glyph_above, bitmaps_with, order_above}
+use Rattle.lw_grammar.specs.Script.{Setting}
+use Rattle.lw_grammar.specs.ScriptReading.{AreGoodLines}
 use Rattle.lw_script.specs.declared.state.AssetsRead.{AssetsRead}
 use Rattle.lw_script.specs.declared.state.TasksRead.{TasksRead}
 use Rattle.lw_script.specs.declared.state.Reader.{Reader}

@@ -2,9 +2,9 @@
 ghost use Rattle.std.specs.Prelude.{◌≡◌, ◌≤◌, ◌++◌, pos, unsigned_abs, IsTrue, OnOk, List, ◌∷◌, length, map};
 ghost use Rattle.std.specs.List.{list_all};
 ghost use Rattle.lw_region.specs.Rectangle.{within};
-ghost use Rattle.lw_calls.specs.LineForms.{LineForm as FormValue, ScreenLine, GlyphLine, BitmapLine, RowLine, TaskLine, EndLine, OrderLine, NumbersLine, ReportLine, CallLine, LockLine, UnlockLine, HoldLine, ReleaseLine};
+ghost use Rattle.lw_grammar.specs.LineForms.{LineForm as FormValue, ScreenLine, GlyphLine, BitmapLine, RowLine, TaskLine, EndLine, OrderLine, NumbersLine, ReportLine, CallLine, LockLine, UnlockLine, HoldLine, ReleaseLine};
 ghost use Rattle.lw_words.specs.Digits.{decoded};
-ghost use Rattle.lw_calls.specs.Script.{Setting};
+ghost use Rattle.lw_grammar.specs.Script.{Setting};
 ghost use Rattle.lw_words.specs.Cuts.{targets};
 ghost use Rattle.lw_lines.specs.FormMeaning.{form_meaning, act_meaning, layers_meaning};
 ghost use Rattle.lw_lines.specs.CallMeaning.{bitmap_place};

@@ -1,10 +1,10 @@
 //! What a script gives that was read to its end.
 ghost use Rattle.std.specs.Prelude.{◌≡◌, ℕ, ◌<◌, IfOk, IsTrue, List, [], map, get_or};
 ghost use Rattle.std.specs.List.{range_with_len};
-ghost use Rattle.lw_calls.specs.LineForms.{LineForm as FormValue};
-ghost use Rattle.lw_calls.specs.LinesAbove.{plan_above};
-ghost use Rattle.lw_calls.specs.Script.{Setting};
-ghost use Rattle.lw_calls.specs.ScriptReading.{outcome_of, input_from};
+ghost use Rattle.lw_grammar.specs.LineForms.{LineForm as FormValue};
+ghost use Rattle.lw_grammar.specs.LinesAbove.{plan_above};
+ghost use Rattle.lw_grammar.specs.Script.{Setting};
+ghost use Rattle.lw_grammar.specs.ScriptReading.{outcome_of, input_from};
 ghost use Rattle.lw_words.specs.Cuts.{targets};
 ghost use Rattle.lw_lines.specs.SectionMeaning.{section_meaning, may_end};
 ghost use Rattle.lw_script.specs.Stands.{Stands, HasRead};

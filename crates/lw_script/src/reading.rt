@@ -1,8 +1,8 @@
 //! The form of a line below those read so far.
 ghost use Rattle.std.specs.Prelude.{◌≤◌, List};
-ghost use Rattle.lw_calls.specs.LineForms.{LineForm as FormValue};
-ghost use Rattle.lw_calls.specs.Script.{Setting};
-ghost use Rattle.lw_calls.specs.ScriptReading.{line_read};
+ghost use Rattle.lw_grammar.specs.LineForms.{LineForm as FormValue};
+ghost use Rattle.lw_grammar.specs.Script.{Setting};
+ghost use Rattle.lw_grammar.specs.ScriptReading.{line_read};
 ghost use Rattle.lw_words.specs.Cuts.{targets};
 ghost use Rattle.lw_lines.specs.SectionMeaning.{section_meaning};
 ghost use Rattle.lw_lines.specs.LineReading.{Reads};

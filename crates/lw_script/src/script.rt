@@ -1,9 +1,9 @@
 //! Reads a script from its first line to its last.
 ghost use Rattle.std.specs.Prelude.{◌≡◌, ◌<◌, ℕ, IfOk, Err, [], length, min};
 ghost use Rattle.lw_calls.specs.declared.reason.Reason.{Reason as ReasonValue};
-ghost use Rattle.lw_calls.specs.Lines.{lines};
-ghost use Rattle.lw_calls.specs.Script.{ScriptInput, SpellsInput, IsFirstBadIn, IsRunnableInput, bytes_through};
-ghost use Rattle.lw_calls.specs.ScriptReading.{outcome_of};
+ghost use Rattle.lw_grammar.specs.Lines.{lines};
+ghost use Rattle.lw_grammar.specs.Script.{ScriptInput, SpellsInput, IsFirstBadIn, IsRunnableInput, bytes_through};
+ghost use Rattle.lw_grammar.specs.ScriptReading.{outcome_of};
 ghost use Rattle.lw_script.specs.Answers.{reading_with, input_meaning, Gives, GivesInput, RefusesAt};
 
 use crate::input::{Input, ScriptStop};

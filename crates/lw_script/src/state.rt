@@ -1,7 +1,7 @@
 //! What was read of a script so far.
 ghost use Rattle.std.specs.Prelude.{◌≡◌, ◌≤◌, ◌==◌, [], length, bytes_eq};
 ghost use Rattle.std.specs.List.{list_any};
-ghost use Rattle.lw_calls.specs.LinesAbove.{place_among};
+ghost use Rattle.lw_grammar.specs.LinesAbove.{place_among};
 ghost use Rattle.lw_words.specs.Cuts.{targets};
 
 use indexmap::IndexSet;

@@ -1,8 +1,8 @@
 //! A line taken from the bytes that are left.
 ghost use Rattle.std.specs.Prelude.{List};
-ghost use Rattle.lw_calls.specs.LineForms.{LineForm as FormValue};
-ghost use Rattle.lw_calls.specs.Script.{Setting, is_nothing_due};
-ghost use Rattle.lw_calls.specs.ScriptReading.{line_read};
+ghost use Rattle.lw_grammar.specs.LineForms.{LineForm as FormValue};
+ghost use Rattle.lw_grammar.specs.Script.{Setting, is_nothing_due};
+ghost use Rattle.lw_grammar.specs.ScriptReading.{line_read};
 ghost use Rattle.lw_lines.specs.SectionMeaning.{section_meaning};
 ghost use Rattle.lw_script.specs.Stands.{Stands, HasRead};
 ghost use Rattle.lw_script.specs.Answers.{Takes, forms_with, Advances};

@@ -1,9 +1,9 @@
 //! Tasks, groups and calls added to those that were read.
 ghost use Rattle.std.specs.Prelude.{◌≡◌, ℕ, ◌+◌, ◌<◌, ◌≤◌, false, if◌then◌else◌, IsTrue, IfOk, OnOk, List, ◌∷◌, length, map, option_map, bytes_eq};
 ghost use Rattle.std.specs.List.{list_any};
-ghost use Rattle.lw_calls.specs.LineForms.{LineForm as FormValue, TaskLine, LockLine, UnlockLine, HoldLine, ReleaseLine, CallLine, layers_of, is_hook_number, is_act_in_range};
-ghost use Rattle.lw_calls.specs.LinesAbove.{bitmaps_above, and_name, and_names, place_among, asks_super, listed, opened_by, calls_so_far, began_at, onto_last};
-ghost use Rattle.lw_calls.specs.Script.{is_ending};
+ghost use Rattle.lw_grammar.specs.LineForms.{LineForm as FormValue, TaskLine, LockLine, UnlockLine, HoldLine, ReleaseLine, CallLine, layers_of, is_hook_number, is_act_in_range};
+ghost use Rattle.lw_grammar.specs.LinesAbove.{bitmaps_above, and_name, and_names, place_among, asks_super, listed, opened_by, calls_so_far, began_at, onto_last};
+ghost use Rattle.lw_grammar.specs.Script.{is_ending};
 ghost use Rattle.lw_words.specs.Cuts.{targets};
 ghost use Rattle.lw_lines.specs.FormMeaning.{act_meaning, layers_meaning};
 ghost use Rattle.lw_lines.specs.CallMeaning.{bitmap_place};

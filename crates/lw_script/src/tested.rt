@@ -1,9 +1,9 @@
 //! The tests of a line's form by what was read so far.
 ghost use Rattle.std.specs.Prelude.{◌≡◌, nat_le, length, IsTrue};
 ghost use Rattle.lw_calls.specs.Limits.{call_limit};
-ghost use Rattle.lw_calls.specs.LineForms.{is_line_in_range};
-ghost use Rattle.lw_calls.specs.LinesAbove.{and_name, hook_on};
-ghost use Rattle.lw_calls.specs.Script.{lacks_name, super_limit, fits_group, is_no_hook, has_padding};
+ghost use Rattle.lw_grammar.specs.LineForms.{is_line_in_range};
+ghost use Rattle.lw_grammar.specs.LinesAbove.{and_name, hook_on};
+ghost use Rattle.lw_grammar.specs.Script.{lacks_name, super_limit, fits_group, is_no_hook, has_padding};
 ghost use Rattle.lw_lines.specs.FormMeaning.{form_meaning};
 ghost use Rattle.lw_script.specs.Known.{gives_again_in, tasks_with, bitmaps_with, calls_with, supers_with, names_with, are_few_in, is_used_in, is_unbuilt_in, tested_in};
 ghost use Rattle.lw_script.specs.ReaderKnows.{known};

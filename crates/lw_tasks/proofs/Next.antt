@@ -6,11 +6,12 @@ use Rattle.std.proofs.lemmas.Grind.{get_or-set_at}
 use Rattle.lw_calls.specs.declared.call.Call.{Call}
 use Rattle.lw_calls.specs.declared.entry.Entry.{Entry}
 use Rattle.lw_calls.specs.declared.reply.Reply.{Reply}
-use Rattle.lw_calls.specs.Planned.{Planned, task_calls}
-use Rattle.lw_calls.specs.Desk.{Desk}
-use Rattle.lw_calls.specs.Step.{after, reply}
-use Rattle.lw_calls.specs.History.{count_of, next_entry, machine, replies_of}
-use Rattle.lw_calls.specs.Report.{opening_desk}
+use Rattle.lw_calls.specs.Plan.{Plan, task_calls}
+use Rattle.lw_machine.specs.Desk.{Desk}
+use Rattle.lw_machine.specs.Step.{after, reply}
+use Rattle.lw_calls.specs.Entries.{count_of, next_entry}
+use Rattle.lw_machine.specs.History.{machine, replies_of}
+use Rattle.lw_machine.specs.Report.{opening_desk}
 use Rattle.lw_engine.specs.Plain.{Plain}
 use Rattle.lw_engine.specs.StandsFor.{StandsFor}
 use Rattle.lw_tasks.specs.Run.{HasRun, next_of}
@@ -28,7 +29,7 @@ told_task false told new task t r e low h =
 pub one_reply : (b : Bool) (r s : Reply) → r ≡ s → (if b then r ∷ [] else []) ≡ (if b then s ∷ [] else [])
 one_reply b r s e = ap (λ x. if b then x ∷ [] else []) e
 
-pub has_run_next : (plan : Planned) (past : List Entry) (desk next : Plain) (told : List (List Reply)) (new : List Reply) (task : ℕ) (call : Call) (r : Reply) → task < plan.sizes.tasks → slice_get (task_calls plan task) (length (slice_index_or told task [])) ≡ Some call → ((d : Desk) → StandsFor desk d → r ≡ reply d task call) → ((d : Desk) → StandsFor desk d → StandsFor next (after d task call)) → next.sizes ≡ desk.sizes → new ≡ slice_index_or told task [] ++ r ∷ [] → HasRun plan past desk told → HasRun plan (past ++ next_of plan past task) next (slice_set told task new)
+pub has_run_next : (plan : Plan) (past : List Entry) (desk next : Plain) (told : List (List Reply)) (new : List Reply) (task : ℕ) (call : Call) (r : Reply) → task < plan.sizes.tasks → slice_get (task_calls plan task) (length (slice_index_or told task [])) ≡ Some call → ((d : Desk) → StandsFor desk d → r ≡ reply d task call) → ((d : Desk) → StandsFor desk d → StandsFor next (after d task call)) → next.sizes ≡ desk.sizes → new ≡ slice_index_or told task [] ++ r ∷ [] → HasRun plan past desk told → HasRun plan (past ++ next_of plan past task) next (slice_set told task new)
 has_run_next plan past desk next told new task call r low got replied stood sizes pushed run =
     let start : Desk = opening_desk plan [] in
     let made : length (slice_index_or told task []) ≡ count_of task past = ap length (run.each task low) ∙ length-replies_of start task past in

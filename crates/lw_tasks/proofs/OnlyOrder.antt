@@ -2,9 +2,9 @@
 use Rattle.std.proofs.Common.{◌≡◌, ℕ, zero, suc, ◌+◌, ◌<◌, ◌==◌, ◌&&◌, Bool, true, List, [], ◌∷◌, ◌++◌, length, replicate, Some, refl, ap, sym, subst, ◌∙◌, zero-add, arith, eq-eqb}
 use Rattle.std.specs.List.{slice_get, list_all, range_with_len}
 use Rattle.lw_calls.specs.declared.call.Call.{Call}
-use Rattle.lw_calls.specs.Planned.{Planned, task_calls}
+use Rattle.lw_calls.specs.Plan.{Plan, task_calls}
 use Rattle.lw_calls.specs.Orders.{occurrences, may_come, keeps_groups, is_complete}
-use Rattle.lw_calls.specs.History.{only_order}
+use Rattle.lw_calls.specs.Entries.{only_order}
 use Rattle.lw_tasks.specs.Run.{OnlyOrderIsLegal}
 use Rattle.lw_tasks.proofs.Steps.{occurrences-push}
 
@@ -14,7 +14,7 @@ occurrences-replicate zero = refl
 occurrences-replicate (suc n) = let h = occurrences-replicate n in omega (arith, h)
 
 -- any call of the only task may come
-may_come-only : (plan : Planned) (past : List ℕ) (c : Call) → plan.sizes.tasks ≡ 1 → may_come plan past 0 (Some c) ≡ true
+may_come-only : (plan : Plan) (past : List ℕ) (c : Call) → plan.sizes.tasks ≡ 1 → may_come plan past 0 (Some c) ≡ true
 may_come-only plan past c one = rw one refl
 
 -- a place in the list has a call
@@ -28,7 +28,7 @@ join : (a b : Bool) → a ≡ true → b ≡ true → (a && b) ≡ true
 join a b p q = ap (λ x. x && b) p ∙ q
 
 -- Each number is the only task's, and so it may come as long as a call is left.
-keeps_groups-only : (plan : Planned) (n : ℕ) (past : List ℕ) → plan.sizes.tasks ≡ 1 → occurrences 0 past + n ≡ length (task_calls plan 0) → keeps_groups plan past (replicate n 0) ≡ true
+keeps_groups-only : (plan : Plan) (n : ℕ) (past : List ℕ) → plan.sizes.tasks ≡ 1 → occurrences 0 past + n ≡ length (task_calls plan 0) → keeps_groups plan past (replicate n 0) ≡ true
 keeps_groups-only plan zero past one left = refl
 keeps_groups-only plan (suc n) past one left =
     let calls = task_calls plan 0 in
@@ -39,7 +39,7 @@ keeps_groups-only plan (suc n) past one left =
     join _ _ (ap (may_come plan past 0) found.1 ∙ may_come-only plan past found.0 one) (keeps_groups-only plan n (past ++ 0 ∷ []) one more)
 
 -- each of the only task's calls has its number
-complete-only : (plan : Planned) → plan.sizes.tasks ≡ 1 → is_complete plan (only_order plan) ≡ true
+complete-only : (plan : Plan) → plan.sizes.tasks ≡ 1 → is_complete plan (only_order plan) ≡ true
 complete-only plan one =
     let holds : ℕ → Bool = λ t. occurrences t (only_order plan) == length (task_calls plan t) in
     let P : ℕ → Type 0 = λ n. list_all holds (range_with_len 0 n) ≡ true in

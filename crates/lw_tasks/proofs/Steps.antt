@@ -2,9 +2,10 @@
 use Rattle.std.proofs.Common.{◌≡◌, ℕ, ◌+◌, ◌==◌, Bool, true, false, if◌then◌else◌, List, [], ◌∷◌, ◌++◌, length, refl, ap, sym, zero-add, arith}
 use Rattle.lw_calls.specs.declared.entry.Entry.{Entry}
 use Rattle.lw_calls.specs.declared.reply.Reply.{Reply}
-use Rattle.lw_calls.specs.Desk.{Desk}
-use Rattle.lw_calls.specs.Step.{after, reply}
-use Rattle.lw_calls.specs.History.{count_of, machine, replies_of}
+use Rattle.lw_machine.specs.Desk.{Desk}
+use Rattle.lw_machine.specs.Step.{after, reply}
+use Rattle.lw_calls.specs.Entries.{count_of}
+use Rattle.lw_machine.specs.History.{machine, replies_of}
 use Rattle.lw_calls.specs.Orders.{occurrences}
 
 -- the machine takes the step

@@ -3,19 +3,20 @@ use Rattle.std.specs.Prelude.{◌≡◌, ℕ, ◌<◌, true, List, [], length}
 use Rattle.std.specs.List.{slice_index_or, slice_get}
 use Rattle.lw_calls.specs.declared.entry.Entry.{Entry}
 use Rattle.lw_calls.specs.declared.reply.Reply.{Reply}
-use Rattle.lw_calls.specs.Planned.{Planned, IsPlan, task_calls}
+use Rattle.lw_calls.specs.Plan.{Plan, IsPlan, task_calls}
 use Rattle.lw_calls.specs.Orders.{is_legal}
-use Rattle.lw_calls.specs.History.{count_of, next_entry, machine, replies_of, only_order}
-use Rattle.lw_calls.specs.Report.{opening_desk}
+use Rattle.lw_calls.specs.Entries.{count_of, next_entry, only_order}
+use Rattle.lw_machine.specs.History.{machine, replies_of}
+use Rattle.lw_machine.specs.Report.{opening_desk}
 use Rattle.lw_engine.specs.Plain.{Plain}
 use Rattle.lw_engine.specs.StandsFor.{StandsFor}
 
 -- the step that a task's number stands for after the past, if the task has a call left
-abbrev pub next_of : Planned → List Entry → ℕ → List Entry
+abbrev pub next_of : Plan → List Entry → ℕ → List Entry
 next_of plan past task = next_entry task (count_of task past) (slice_get (task_calls plan task) (count_of task past))
 
 -- The plain desk stands for the machine after the steps of the past, and each task was told its replies in them.
-pub record HasRun (plan : Planned) (past : List Entry) (desk : Plain) (told : List (List Reply)) : Type 0 where
+pub record HasRun (plan : Plan) (past : List Entry) (desk : Plain) (told : List (List Reply)) : Type 0 where
   pub stands : StandsFor desk (machine (opening_desk plan []) past)
   pub sizes : desk.sizes ≡ plan.sizes
   pub lists : length told ≡ plan.sizes.tasks
@@ -23,4 +24,4 @@ pub record HasRun (plan : Planned) (past : List Entry) (desk : Plain) (told : Li
 
 -- The only order of a plan of one task is a legal one.
 abbrev pub OnlyOrderIsLegal : Type 0
-OnlyOrderIsLegal = (plan : Planned) → IsPlan plan → plan.sizes.tasks ≡ 1 → is_legal plan (only_order plan) ≡ true
+OnlyOrderIsLegal = (plan : Plan) → IsPlan plan → plan.sizes.tasks ≡ 1 → is_legal plan (only_order plan) ≡ true

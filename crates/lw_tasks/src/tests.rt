@@ -1,7 +1,7 @@
 ghost use Rattle.std.specs.Prelude.{◌≡◌, [], ◌∷◌, true, All, IsTrue, IfOk, length};
 ghost use Rattle.lw_calls.specs.Limits.{call_fits};
 ghost use Rattle.lw_calls.specs.Orders.{is_legal};
-ghost use Rattle.lw_calls.specs.Step.{is_built};
+ghost use Rattle.lw_calls.specs.Built.{is_built};
 
 use crate::replay;
 use lw_calls::{

@@ -3,7 +3,7 @@ use Rattle.std.proofs.Common.{◌≡◌, List, ◌++◌, ℕ, arith, ℤ, append
 use Rattle.std.specs.Fmt.{signed_decimal}
 use Rattle.std.proofs.lemmas.Int.{ints}
 use Rattle.lw_region.specs.Rectangle.{Rectangle}
-use Rattle.lw_calls.specs.Report.{spaced_signed}
+use Rattle.lw_calls.specs.Written.{spaced_signed}
 use Rattle.lw_text.specs.Words.{bounds_text}
 
 -- four pieces, one after another

@@ -2,7 +2,7 @@
 use Rattle.std.specs.Prelude.{ℕ, List, ◌++◌}
 use Rattle.std.specs.Fmt.{signed_decimal}
 use Rattle.lw_region.specs.Rectangle.{Rectangle}
-use Rattle.lw_calls.specs.Report.{spaced_signed}
+use Rattle.lw_calls.specs.Written.{spaced_signed}
 
 -- the four bounds of a rectangle with single spaces
 abbrev pub bounds_text : Rectangle → List ℕ

@@ -1,7 +1,7 @@
 //! The four bounds of a rectangle.
 
 ghost use Rattle.std.specs.Prelude.{◌≡◌, ◌++◌, OnOk};
-ghost use Rattle.lw_calls.specs.Report.{spaced_bounds};
+ghost use Rattle.lw_calls.specs.Written.{spaced_bounds};
 ghost use Rattle.lw_text.specs.Words.{bounds_text};
 
 use crate::lines::{push_signed, push_spaced_signed};

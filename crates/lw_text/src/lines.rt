@@ -3,7 +3,7 @@
 ghost use Rattle.std.specs.Prelude.{◌≡◌, ◌<◌, ◌++◌, ◌∷◌, [], OnOk};
 ghost use Rattle.std.specs.List.{slice_index_or};
 ghost use Rattle.std.specs.Fmt.{decimal, signed_decimal};
-ghost use Rattle.lw_calls.specs.Report.{line_of, spaced, spaced_signed, hex_digit, hex_byte};
+ghost use Rattle.lw_calls.specs.Written.{line_of, spaced, spaced_signed, hex_digit, hex_byte};
 
 use lw_calls::Text;
 use std::alloc::{AllocError, Global};

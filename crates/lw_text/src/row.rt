@@ -3,7 +3,7 @@
 ghost use Rattle.std.specs.Prelude.{◌≡◌, ◌<◌, ◌++◌, OnOk};
 ghost use Rattle.std.specs.List.{flat_map, range_with_len};
 ghost use Rattle.lw_planes.specs.Bitmap.{plane_row};
-ghost use Rattle.lw_calls.specs.Report.{line_of, hex_byte};
+ghost use Rattle.lw_calls.specs.Written.{line_of, hex_byte};
 ghost use Rattle.lw_text.specs.Padding.{leftmost_bits, without_padding};
 
 use crate::lines::{end_line, push_hex_byte};

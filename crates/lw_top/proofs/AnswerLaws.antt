@@ -3,9 +3,9 @@ use Rattle.std.proofs.Common.{◌≡◌, ◌≢◌, ◌⊎◌, ℕ, ◌+◌, Lis
 use Rattle.std.proofs.lemmas.Bool.{false≢true}
 use Rattle.lw_io.specs.Streams.{Rose, bytes_after, TakesAtMost}
 use Rattle.lw_calls.specs.declared.reason.Reason.{Reason}
-use Rattle.lw_calls.specs.Lines.{lines}
-use Rattle.lw_calls.specs.Script.{ScriptInput, SpellsInput, IsFirstBadIn}
-use Rattle.lw_calls.proofs.ScriptAnswer.{bad_or_spelled, one_bad_line, one_spelled}
+use Rattle.lw_grammar.specs.Lines.{lines}
+use Rattle.lw_grammar.specs.Script.{ScriptInput, SpellsInput, IsFirstBadIn}
+use Rattle.lw_grammar.proofs.ScriptAnswer.{bad_or_spelled, one_bad_line, one_spelled}
 use Rattle.lw_top.specs.Answers.{Shows, Tells, Took, Answered}
 use Rattle.lw_top.specs.Commands.{reads_with, IsTextFor, IsBadOrderFor, IsDue, IsTextOf, IsBadOrderOf}
 use Rattle.lw_top.specs.Status.{text_of, is_stop, IsUnlessStopped, input_limit, Says}

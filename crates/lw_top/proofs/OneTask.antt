@@ -3,8 +3,8 @@ use Rattle.std.proofs.Common.{◌≡◌, ℕ, zero, suc, ◌+◌, List, [], ◌�
 use Rattle.std.specs.List.{slice_get}
 use Rattle.lw_calls.specs.declared.call.Call.{Call}
 use Rattle.lw_calls.specs.declared.entry.Entry.{Entry}
-use Rattle.lw_calls.specs.Planned.{Planned, task_calls}
-use Rattle.lw_calls.specs.History.{count_of, entries}
+use Rattle.lw_calls.specs.Plan.{Plan, task_calls}
+use Rattle.lw_calls.specs.Entries.{count_of, entries}
 use Rattle.lw_top.specs.Run.{numbered, CallsStandOnce}
 
 pub count_of-push : (past : List Entry) (n : ℕ) (c : Call) → count_of 0 (past ++ record { task = 0; seq = n; call = c } ∷ []) ≡ count_of 0 past + 1
@@ -23,7 +23,7 @@ drop-next [] rest (suc n) c h = cc
 drop-next (x ∷ cs) rest zero c h = cc
 drop-next (x ∷ cs) rest (suc n) c h = drop-next cs rest n c h
 
-pub entries-only : (plan : Planned) (past : List Entry) (cs : List Call) → drop (count_of 0 past) (task_calls plan 0) ≡ cs → entries plan past (replicate (length cs) 0) ≡ numbered (count_of 0 past) cs
+pub entries-only : (plan : Plan) (past : List Entry) (cs : List Call) → drop (count_of 0 past) (task_calls plan 0) ≡ cs → entries plan past (replicate (length cs) 0) ≡ numbered (count_of 0 past) cs
 entries-only plan past [] h = refl
 entries-only plan past (c ∷ cs) h =
     let n = count_of 0 past in

@@ -5,15 +5,15 @@ use Rattle.std.specs.List.{onto_first}
 use Rattle.std.proofs.lemmas.Bool.{leb-true}
 use Rattle.lw_calls.specs.declared.reason.Reason.{Reason}
 use Rattle.lw_calls.specs.declared.reason.Reason.TheVariants.{Form as FormReason}
-use Rattle.lw_calls.specs.Demands.{◌>>=◌}
-use Rattle.lw_calls.specs.Lines.{lines}
-use Rattle.lw_calls.specs.Tokens.{Token, NumberToken, token_of, tokens}
-use Rattle.lw_calls.specs.LineForms.{LineForm, NumbersLine, all_numbers, numbers_line, numbers_limit, row_line}
-use Rattle.lw_calls.specs.LinesAbove.{order_above, section_of, row_width}
-use Rattle.lw_calls.specs.Script.{Setting, ScriptInput, SpellsInput, are_numbers_due, form_below, is_passed, put_form, with_line, with_lines, words_or_none}
-use Rattle.lw_calls.specs.ScriptReading.{AreGoodLines, form_read, form_tested, verb_read, words_read}
-use Rattle.lw_calls.proofs.ScriptForms.{IsFormHere}
-use Rattle.lw_calls.proofs.ScriptAnswer.{good_line, spelled_lines_good}
+use Rattle.lw_grammar.specs.Demands.{◌>>=◌}
+use Rattle.lw_grammar.specs.Lines.{lines}
+use Rattle.lw_grammar.specs.Tokens.{Token, NumberToken, token_of, tokens}
+use Rattle.lw_grammar.specs.LineForms.{LineForm, NumbersLine, all_numbers, numbers_line, numbers_limit, row_line}
+use Rattle.lw_grammar.specs.LinesAbove.{order_above, section_of, row_width}
+use Rattle.lw_grammar.specs.Script.{Setting, ScriptInput, SpellsInput, are_numbers_due, form_below, is_passed, put_form, with_line, with_lines, words_or_none}
+use Rattle.lw_grammar.specs.ScriptReading.{AreGoodLines, form_read, form_tested, verb_read, words_read}
+use Rattle.lw_grammar.proofs.ScriptForms.{IsFormHere}
+use Rattle.lw_grammar.proofs.ScriptAnswer.{good_line, spelled_lines_good}
 
 -- the numbers of tokens are as many
 so_many : (ts : List Token) (zs : List ℤ) → all_numbers ts ≡ Some zs → length zs ≡ length ts

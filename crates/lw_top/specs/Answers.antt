@@ -2,8 +2,8 @@
 use Rattle.std.specs.Prelude.{◌≡◌, ◌≢◌, ◌⊎◌, ℕ, ◌+◌, ◌<◌, ◌≤◌, List, length, Option, IfSome}
 use Rattle.lw_io.specs.Streams.{Rose, bytes_before, bytes_after, NoneLeft, TakesAtMost}
 use Rattle.lw_calls.specs.declared.reason.Reason.{Reason}
-use Rattle.lw_calls.specs.Lines.{lines}
-use Rattle.lw_calls.specs.Script.{ScriptInput, SpellsInput, IsFirstBadIn}
+use Rattle.lw_grammar.specs.Lines.{lines}
+use Rattle.lw_grammar.specs.Script.{ScriptInput, SpellsInput, IsFirstBadIn}
 use Rattle.lw_top.specs.declared.answer.Found.{Found}
 use Rattle.lw_top.specs.declared.answer.Found.TheVariants.{Text, BadAt}
 use Rattle.lw_top.specs.declared.status.Status.{Status}

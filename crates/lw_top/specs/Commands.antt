@@ -1,11 +1,11 @@
 -- The program's commands: which words each has, what it reads, and what is due for a script (this project's own).
 use Rattle.std.specs.Prelude.{◌≡◌, ℕ, true, if◌then◌else◌, List, [], ◌∷◌, codes, bytes_eq, Option, Some, None}
 use Rattle.lw_calls.specs.declared.form.Form.TheVariants.{Plain, Ordered}
-use Rattle.lw_calls.specs.Canonical.{canonical_text}
-use Rattle.lw_calls.specs.History.{only_order}
+use Rattle.lw_canonical.specs.Canonical.{canonical_text}
+use Rattle.lw_calls.specs.Entries.{only_order}
 use Rattle.lw_calls.specs.Orders.{is_legal, IsBadPlace}
-use Rattle.lw_calls.specs.Report.{run_report}
-use Rattle.lw_calls.specs.Script.{Setting, ScriptInput, SpellsInput}
+use Rattle.lw_machine.specs.Report.{run_report}
+use Rattle.lw_grammar.specs.Script.{Setting, ScriptInput, SpellsInput}
 use Rattle.lw_script.specs.Answers.{reading_with}
 use Rattle.lw_top.specs.declared.words.Command.{Command}
 use Rattle.lw_top.specs.declared.words.Command.TheVariants.{Run, Check, Replay}

@@ -1,8 +1,8 @@
 ghost use Rattle.std.specs.Prelude.{◌≡◌, ℕ, ◌<◌, ◌≤◌, length, All, IsTrue, IfOk};
 ghost use Rattle.lw_calls.specs.declared.reason.Reason.{Reason as TheReason};
-ghost use Rattle.lw_calls.specs.Lines.{lines};
-ghost use Rattle.lw_calls.specs.Script.{IsFirstBadIn, IsRunnableInput};
-ghost use Rattle.lw_calls.specs.Step.{is_built};
+ghost use Rattle.lw_grammar.specs.Lines.{lines};
+ghost use Rattle.lw_grammar.specs.Script.{IsFirstBadIn, IsRunnableInput};
+ghost use Rattle.lw_calls.specs.Built.{is_built};
 ghost use Rattle.lw_script.specs.Answers.{input_meaning, reading_with};
 ghost use Rattle.lw_top.specs.Answers.{IsFoundFor, IsFoundOf};
 ghost use Rattle.lw_top.specs.Commands.{reads_with};

@@ -2,8 +2,8 @@ ghost use Rattle.std.specs.Prelude.{◌≡◌, ◌≢◌, ◌⊎◌, ℕ, ◌+�
 ghost use Rattle.std.specs.String.{string_bytes};
 ghost use Rattle.lw_io.specs.Streams.{Rose, bytes_after, TakesAtMost};
 ghost use Rattle.lw_calls.specs.declared.reason.Reason.{Reason as TheReason};
-ghost use Rattle.lw_calls.specs.Lines.{lines};
-ghost use Rattle.lw_calls.specs.Script.{ScriptInput, SpellsInput, IsFirstBadIn};
+ghost use Rattle.lw_grammar.specs.Lines.{lines};
+ghost use Rattle.lw_grammar.specs.Script.{ScriptInput, SpellsInput, IsFirstBadIn};
 ghost use Rattle.lw_top.specs.Answers.{Answered, IsInput};
 ghost use Rattle.lw_top.specs.Commands.{command_of, reads_with, IsBadOrderOf, IsDue, IsTextOf};
 ghost use Rattle.lw_top.specs.Status.{IsUnlessStopped, input_limit, text_of};

@@ -1,8 +1,8 @@
 ghost use Rattle.std.specs.Prelude.{◌≡◌, [], true, All, IsTrue, IfOk};
-ghost use Rattle.lw_calls.specs.Step.{is_built};
-ghost use Rattle.lw_calls.specs.History.{only_order};
+ghost use Rattle.lw_calls.specs.Built.{is_built};
+ghost use Rattle.lw_calls.specs.Entries.{only_order};
 ghost use Rattle.lw_calls.specs.Orders.{is_legal};
-ghost use Rattle.lw_calls.specs.Report.{run_report};
+ghost use Rattle.lw_machine.specs.Report.{run_report};
 
 use lw_calls::{OrderList, Plan};
 use lw_report::write;

@@ -1,7 +1,7 @@
 -- The first line of bytes, by the place of its line feed.
 use Rattle.std.proofs.Common.{◌≡◌, ℕ, suc, ◌+◌, ◌-◌, ◌<◌, ◌≤◌, ◌==◌, Bool, true, false, not, cond, List, [], ◌∷◌, length, take, drop, Some, None, position, nat_lt, refl, sym, ap, subst, ◌∙◌, arith, length-drop}
 use Rattle.std.specs.List.{onto_first, position_or_len}
-use Rattle.lw_calls.specs.Lines.{lines}
+use Rattle.lw_grammar.specs.Lines.{lines}
 use Rattle.lw_words.specs.Cuts.{IsCutLine}
 use Rattle.std.proofs.lemmas.Grind.{common_steps}
 use Rattle.std.proofs.lemmas.Bool.Decides.{nat_tests}

@@ -3,7 +3,7 @@ use Rattle.std.proofs.Common.{◌≡◌, ℕ, zero, suc, ◌+◌, ◌-◌, ◌<�
 use Rattle.std.specs.List.{onto_first, position_or_len}
 use Rattle.lw_calls.specs.declared.reason.Reason.{Reason}
 use Rattle.lw_calls.specs.declared.reason.Reason.TheVariants.{Spacing, Quote}
-use Rattle.lw_calls.specs.Tokens.{ends_text, on_found, tokens_at, tokens}
+use Rattle.lw_grammar.specs.Tokens.{ends_text, on_found, tokens_at, tokens}
 use Rattle.lw_words.specs.Cuts.{is_break, IsWordBegun, targets}
 use Rattle.lw_words.proofs.Targets.{targets_push}
 use Rattle.lw_words.proofs.CutLines.{found_at, found_none, one_up, two_up, tail_of}

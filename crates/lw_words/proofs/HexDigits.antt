@@ -1,8 +1,8 @@
 -- What hexadecimal digits spell.
 use Rattle.std.proofs.Common.{◌≡◌, ℕ, zero, suc, ◌+◌, ◌*◌, ◌/◌, ◌<◌, ◌≤◌, map, ◌==◌, Bool, true, false, ◌&&◌, cond, List, [], ◌∷◌, length, get_or, Option, Some, None, option_map, IsTrue, refl, sym, ap, ◌∙◌, arith}
 use Rattle.std.specs.List.{list_all}
-use Rattle.lw_calls.specs.Tokens.{Token, NameToken, NumberToken, TextToken, OddToken, is_hex, hex_value, hex_bytes, spelled_bytes, bytes_in}
-use Rattle.lw_calls.specs.LineForms.{GlyphLine, glyph_of_bytes, glyph_line}
+use Rattle.lw_grammar.specs.Tokens.{Token, NameToken, NumberToken, TextToken, OddToken, is_hex, hex_value, hex_bytes, spelled_bytes, bytes_in}
+use Rattle.lw_grammar.specs.LineForms.{GlyphLine, glyph_of_bytes, glyph_line}
 use Rattle.lw_words.specs.declared.token.Token.{Token as Reading}
 use Rattle.lw_words.specs.TokenMeaning.{token_meaning}
 use Rattle.lw_words.specs.Digits.{decoded, spelling}

@@ -3,7 +3,7 @@ use Rattle.std.proofs.Common.{◌≡◌, ℕ, zero, suc, ◌+◌, ◌-◌, ◌*�
 use Rattle.std.specs.List.{list_all}
 use Rattle.std.specs.Char.{digit_value}
 use Rattle.std.specs.Str.Parse.{digits_value}
-use Rattle.lw_calls.specs.Tokens.{NameToken, NumberToken, TextToken, OddToken, is_a_digit, is_a_text, is_a_name, is_above_zero, is_below_zero, cap, capped, token_of, without_last}
+use Rattle.lw_grammar.specs.Tokens.{NameToken, NumberToken, TextToken, OddToken, is_a_digit, is_a_text, is_a_name, is_above_zero, is_below_zero, cap, capped, token_of, without_last}
 use Rattle.std.proofs.lemmas.Int.{ints}
 use Rattle.std.proofs.lemmas.Grind.{common_steps}
 use Rattle.std.proofs.lemmas.Int.Digits.{digits_value_more}

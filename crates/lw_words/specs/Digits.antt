@@ -1,6 +1,6 @@
 -- Hexadecimal digits, and the bytes that they spell.
 use Rattle.std.specs.Prelude.{ℕ, ◌+◌, ◌*◌, List, [], ◌∷◌, Option, Some, None}
-use Rattle.lw_calls.specs.Tokens.{Token, NameToken, NumberToken, TextToken, OddToken, hex_value}
+use Rattle.lw_grammar.specs.Tokens.{Token, NameToken, NumberToken, TextToken, OddToken, hex_value}
 
 -- the bytes that digits spell, two digits a byte
 abbrev pub decoded : List ℕ → List ℕ

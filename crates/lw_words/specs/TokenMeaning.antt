@@ -1,5 +1,5 @@
 -- What a token of the reader means.
-use Rattle.lw_calls.specs.Tokens.{Token as Meaning, NameToken, NumberToken, TextToken, OddToken}
+use Rattle.lw_grammar.specs.Tokens.{Token as Meaning, NameToken, NumberToken, TextToken, OddToken}
 use Rattle.lw_words.specs.declared.token.Token.{Token}
 use Rattle.lw_words.specs.declared.token.Token.TheVariants.{Name, Number, Text, Odd}
 

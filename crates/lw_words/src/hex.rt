@@ -1,7 +1,7 @@
 ghost use Rattle.std.specs.Prelude.{◌≡◌, ◌+◌, ◌-◌, ◌*◌, ◌==◌, ◌<◌, ◌≤◌, nat_le, IsTrue, IfSome, length, get_or, option_map};
 ghost use Rattle.std.specs.List.{list_all, list_any, range_with_len};
 ghost use Rattle.lw_planes.specs.Row.{row_bit};
-ghost use Rattle.lw_calls.specs.Tokens.{is_hex, hex_value as value_meant, bytes_in};
+ghost use Rattle.lw_grammar.specs.Tokens.{is_hex, hex_value as value_meant, bytes_in};
 ghost use Rattle.lw_words.specs.Digits.{decoded, spelling};
 ghost use Rattle.lw_words.specs.TokenMeaning.{token_meaning};
 

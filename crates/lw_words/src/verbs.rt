@@ -1,11 +1,11 @@
 ghost use Rattle.std.specs.Prelude.{◌≡◌};
-ghost use Rattle.lw_calls.specs.Verbs.{part_verb, group_verb, region_verb, arrangement_verb, state_verb, drawing_verb, clip_verb, verb_of};
+ghost use Rattle.lw_grammar.specs.Verbs.{part_verb, group_verb, region_verb, arrangement_verb, state_verb, drawing_verb, clip_verb, verb_of};
 
 use crate::cut::is_text;
-use lw_calls::Verb;
+use lw_grammar::Verb;
 
 /// The verbs that part a script.
-#[tactic(auto, unfolding(lw_calls::specs::Verbs::part_verb))]
+#[tactic(auto, unfolding(lw_grammar::specs::Verbs::part_verb))]
 fn part_verb(word: &[u8]) -> Option<Verb>
     ensures { result ≡ part_verb word.now }
 {
@@ -29,7 +29,7 @@ fn part_verb(word: &[u8]) -> Option<Verb>
 }
 
 /// The verbs that begin or end a group, and those of an update.
-#[tactic(auto, unfolding(lw_calls::specs::Verbs::group_verb))]
+#[tactic(auto, unfolding(lw_grammar::specs::Verbs::group_verb))]
 fn group_verb(word: &[u8]) -> Option<Verb>
     ensures { result ≡ group_verb word.now }
 {
@@ -51,7 +51,7 @@ fn group_verb(word: &[u8]) -> Option<Verb>
 }
 
 /// The verbs of region calls.
-#[tactic(auto, unfolding(lw_calls::specs::Verbs::region_verb))]
+#[tactic(auto, unfolding(lw_grammar::specs::Verbs::region_verb))]
 fn region_verb(word: &[u8]) -> Option<Verb>
     ensures { result ≡ region_verb word.now }
 {
@@ -77,7 +77,7 @@ fn region_verb(word: &[u8]) -> Option<Verb>
 }
 
 /// The verbs of arrangements.
-#[tactic(auto, unfolding(lw_calls::specs::Verbs::arrangement_verb))]
+#[tactic(auto, unfolding(lw_grammar::specs::Verbs::arrangement_verb))]
 fn arrangement_verb(word: &[u8]) -> Option<Verb>
     ensures { result ≡ arrangement_verb word.now }
 {
@@ -105,7 +105,7 @@ fn arrangement_verb(word: &[u8]) -> Option<Verb>
 }
 
 /// The verbs of windows and of how a layer paints, and of the look at LayerInfo.
-#[tactic(auto, unfolding(lw_calls::specs::Verbs::state_verb))]
+#[tactic(auto, unfolding(lw_grammar::specs::Verbs::state_verb))]
 fn state_verb(word: &[u8]) -> Option<Verb>
     ensures { result ≡ state_verb word.now }
 {
@@ -133,7 +133,7 @@ fn state_verb(word: &[u8]) -> Option<Verb>
 }
 
 /// The verbs of drawing.
-#[tactic(auto, unfolding(lw_calls::specs::Verbs::drawing_verb))]
+#[tactic(auto, unfolding(lw_grammar::specs::Verbs::drawing_verb))]
 fn drawing_verb(word: &[u8]) -> Option<Verb>
     ensures { result ≡ drawing_verb word.now }
 {
@@ -161,7 +161,7 @@ fn drawing_verb(word: &[u8]) -> Option<Verb>
 }
 
 /// The verbs of clip regions and of a super-bitmap layer's portion.
-#[tactic(auto, unfolding(lw_calls::specs::Verbs::clip_verb))]
+#[tactic(auto, unfolding(lw_grammar::specs::Verbs::clip_verb))]
 fn clip_verb(word: &[u8]) -> Option<Verb>
     ensures { result ≡ clip_verb word.now }
 {
@@ -177,7 +177,7 @@ fn clip_verb(word: &[u8]) -> Option<Verb>
 }
 
 /// The verb that a word is, if it is one.
-#[tactic(auto, unfolding(lw_calls::specs::Verbs::verb_of))]
+#[tactic(auto, unfolding(lw_grammar::specs::Verbs::verb_of))]
 pub fn verb_of(word: &[u8]) -> Option<Verb>
     ensures { result ≡ verb_of word.now }
 {

@@ -1,8 +1,8 @@
 use Rattle.std.proofs.Common.{rules, ◌==◌, sym, ap, ◌∙◌, length}
 use Rattle.std.proofs.lemmas.Bool.{eq-eqb, ne_eqb}
 use Rattle.std.specs.List.{slice_index_or}
-use Rattle.lw_calls.specs.Planned.{task_calls}
-use Rattle.lw_calls.specs.OrderState.{no_progress}
+use Rattle.lw_calls.specs.Plan.{task_calls}
+use Rattle.lw_calls.specs.Code.OrderState.{no_progress}
 use Rattle.lw_calls.proofs.OrderReading.{range_more, range_fails}
 use Rattle.lw_calls.proofs.orders.all_made.Goals as goal
 

@@ -1,7 +1,7 @@
 use Rattle.std.proofs.Common.{◌≡◌, true, ◌==◌, length}
 use Rattle.std.specs.List.{list_all, range_with_len, slice_index_or}
-use Rattle.lw_calls.specs.Planned.{task_calls}
-use Rattle.lw_calls.specs.OrderState.{no_progress}
+use Rattle.lw_calls.specs.Plan.{task_calls}
+use Rattle.lw_calls.specs.Code.OrderState.{no_progress}
 use Rattle.lw_calls.proofs.orders.all_made.Given as goal
 
 abbrev pub invariant-loop-task : goal.invariant-loop-task

@@ -1,6 +1,6 @@
 use Rattle.std.proofs.Common.{◌≡◌, true, [], take}
 use Rattle.lw_calls.specs.Orders.{keeps_groups}
-use Rattle.lw_calls.specs.OrderState.{progress_after}
+use Rattle.lw_calls.specs.Code.OrderState.{progress_after}
 use Rattle.lw_calls.proofs.orders.bad_place.Given as goal
 
 abbrev pub invariant-loop-place : goal.invariant-loop-place

@@ -1,8 +1,8 @@
 use Rattle.std.proofs.Common.{rules, ◌==◌, ◌||◌, not, sym, ap, ◌∙◌}
 use Rattle.std.proofs.lemmas.Bool.{eq-eqb, ne_eqb}
 use Rattle.std.specs.List.{slice_index_or}
-use Rattle.lw_calls.specs.Planned.{task_groups}
-use Rattle.lw_calls.specs.OrderState.{no_progress, is_held}
+use Rattle.lw_calls.specs.Plan.{task_groups}
+use Rattle.lw_calls.specs.Code.OrderState.{no_progress, is_held}
 use Rattle.lw_calls.proofs.OrderReading.{range_more, range_fails, kept_off_so, let_in_so, own_so}
 use Rattle.lw_calls.proofs.orders.is_free.Goals as goal
 use Rattle.lw_calls.proofs.orders.is_free.Goals.{else-other-task-via-then-other-task+else-holds, else-other-task-via-else-other-task}

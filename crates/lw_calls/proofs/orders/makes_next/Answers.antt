@@ -2,7 +2,7 @@ use Rattle.std.proofs.Common.{rules, refl, sym, ap, ◌∙◌, length}
 use Rattle.std.specs.List.{slice_get, slice_index_or}
 use Rattle.std.proofs.lemmas.Bool.{ltb-true, ltb-false}
 use Rattle.std.proofs.lemmas.Option.{slice_get_past, slice_get_read}
-use Rattle.lw_calls.specs.OrderState.{is_free, no_progress, progress_more}
+use Rattle.lw_calls.specs.Code.OrderState.{is_free, no_progress, progress_more}
 use Rattle.lw_calls.proofs.OrderReading.{come_as_kept, none_as_kept, kept_more}
 use Rattle.lw_calls.proofs.orders.makes_next.Goals as goal
 

@@ -5,15 +5,14 @@ use Rattle.std.proofs.lemmas.List.Elements.{All-nil, All-cons}
 use Rattle.lw_calls.specs.declared.call.Call.{Call}
 use Rattle.lw_calls.specs.declared.group.Group.{Group}
 use Rattle.lw_calls.specs.Limits.{call_fits, call_limit}
-use Rattle.lw_calls.specs.Desk.{Supplies}
-use Rattle.lw_calls.specs.Planned.{Planned, IsPlan, groups_fit}
-use Rattle.lw_calls.specs.Planned.{no_supplies}
+use Rattle.lw_calls.specs.Assets.{Assets}
+use Rattle.lw_calls.specs.Plan.{Plan, IsPlan, groups_fit, no_assets}
 use Rattle.lw_cases.specs.SmallPlans.{small_sizes, are_small_calls}
 use Rattle.lw_cases.proofs.tests.two_tasks.Goals as goal
 
 -- a plan of two tasks on one layer
-abbrev plan_with : List (List ℕ) → List (List ℕ) → List (List ℕ) → List (List Call) → List (List Group) → Supplies → Planned
-plan_with slots tasks bitmaps calls groups supplies =
+abbrev plan_with : List (List ℕ) → List (List ℕ) → List (List ℕ) → List (List Call) → List (List Group) → Assets → Plan
+plan_with slots tasks bitmaps calls groups assets =
     record {
       sizes = small_sizes;
       slot_names = slots;
@@ -21,7 +20,7 @@ plan_with slots tasks bitmaps calls groups supplies =
       bitmap_names = bitmaps;
       calls = calls;
       groups = groups;
-      supplies = supplies;
+      assets = assets;
     }
 
 -- what holds of two lists
@@ -52,7 +51,7 @@ each_fits first second groups h (suc (suc task)) = refl
 
 -- such a plan may be run
 small_plan : (slots tasks : List (List ℕ)) (first second : List Call) (groups : List Group) → length slots ≡ 1 → length tasks ≡ 2 → IsTrue (are_small_calls first) → IsTrue (groups_fit first groups) → IsTrue (are_small_calls second)
-    → IsPlan (plan_with slots tasks [] (first ∷ second ∷ []) (groups ∷ [] ∷ []) no_supplies)
+    → IsPlan (plan_with slots tasks [] (first ∷ second ∷ []) (groups ∷ [] ∷ []) no_assets)
 small_plan slots tasks first second groups a b h g k =
     record {
       limits = search rules;
@@ -62,17 +61,17 @@ small_plan slots tasks first second groups a b h g k =
       bitmaps = refl;
       group_lists = refl;
       supplied = refl;
-      supplies = record { glyphs = refl; rows = All-replicate (λ g. length g ≡ 8) (replicate 8 0) 95 refl; bitmaps = All-nil _ };
+      assets = record { glyphs = refl; rows = All-replicate (λ g. length g ≡ 8) (replicate 8 0) 95 refl; bitmaps = All-nil _ };
       groups = each_fits first second groups g;
       few = of_two (λ cs. length cs ≤ call_limit) first second (few first h) (few second k);
       fit = of_two (λ cs. All (λ c. IsTrue (call_fits small_sizes c)) cs) first second (fit first h) (fit second k);
     }
 
 -- parts that are such a plan's
-parts : (slots tasks bitmaps : List (List ℕ)) (first second : List Call) (groups : List Group) (calls : List (List Call)) (grouped : List (List Group)) (x : Supplies) → length slots ≡ 1 → length tasks ≡ 2 → bitmaps ≡ [] → calls ≡ first ∷ second ∷ [] → grouped ≡ groups ∷ [] ∷ [] → x ≡ no_supplies
+parts : (slots tasks bitmaps : List (List ℕ)) (first second : List Call) (groups : List Group) (calls : List (List Call)) (grouped : List (List Group)) (x : Assets) → length slots ≡ 1 → length tasks ≡ 2 → bitmaps ≡ [] → calls ≡ first ∷ second ∷ [] → grouped ≡ groups ∷ [] ∷ [] → x ≡ no_assets
     → IsTrue (are_small_calls first) → IsTrue (groups_fit first groups) → IsTrue (are_small_calls second) → IsPlan (plan_with slots tasks bitmaps calls grouped x)
 parts slots tasks bitmaps first second groups calls grouped x a b c d e f h g k =
-    let same : plan_with slots tasks [] (first ∷ second ∷ []) (groups ∷ [] ∷ []) no_supplies ≡ plan_with slots tasks bitmaps calls grouped x = cc in
+    let same : plan_with slots tasks [] (first ∷ second ∷ []) (groups ∷ [] ∷ []) no_assets ≡ plan_with slots tasks bitmaps calls grouped x = cc in
     subst IsPlan same (small_plan slots tasks first second groups a b h g k)
 
 pub new-requires-4 : goal.new-requires-4

@@ -1,5 +1,5 @@
 use Rattle.std.proofs.Common.{◌≡◌, ◌+◌, ◌^◌, ◌<◌, ◌≤◌, drop, option_map}
-use Rattle.lw_calls.specs.LineForms.{classes_from}
+use Rattle.lw_grammar.specs.LineForms.{classes_from}
 use Rattle.lw_lines.proofs.forms_asked.classes_of.Given as goal
 
 -- the set so far, with the classes of the letters that are left

@@ -1,5 +1,5 @@
 use Rattle.std.proofs.Common.{◌≡◌, ◌++◌, map, drop, option_map}
-use Rattle.lw_calls.specs.LineForms.{all_numbers}
+use Rattle.lw_grammar.specs.LineForms.{all_numbers}
 use Rattle.lw_words.specs.TokenMeaning.{token_meaning}
 use Rattle.lw_lines.proofs.forms_parts.numbers_of.Given as goal
 

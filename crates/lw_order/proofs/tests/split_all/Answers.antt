@@ -3,7 +3,7 @@ use Rattle.std.specs.Prelude.{All, Contains}
 use Rattle.std.proofs.lemmas.Bool.Decides.{nat_tests}
 use Rattle.std.proofs.lemmas.List.Elements.{All-push}
 use Rattle.lw_calls.specs.declared.touch.Role.TheVariants.{Task}
-use Rattle.lw_calls.specs.History.{count_of}
+use Rattle.lw_calls.specs.Entries.{count_of}
 use Rattle.lw_order.specs.declared.tests.Job.{Job}
 use Rattle.lw_order.proofs.RoleLaws.{still_there}
 use Rattle.lw_order.proofs.tests.split_all.Goals as goal

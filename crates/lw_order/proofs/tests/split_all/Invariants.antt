@@ -1,7 +1,7 @@
 use Rattle.std.proofs.Common.{◌≡◌, ℕ, ◌<◌, ◌≤◌, []}
 use Rattle.std.specs.Prelude.{All, Contains}
 use Rattle.lw_calls.specs.declared.touch.Role.TheVariants.{Task}
-use Rattle.lw_calls.specs.History.{count_of}
+use Rattle.lw_calls.specs.Entries.{count_of}
 use Rattle.lw_order.proofs.tests.split_all.Given as goal
 
 abbrev pub invariant-loop-task : goal.invariant-loop-task

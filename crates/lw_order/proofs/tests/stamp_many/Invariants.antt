@@ -1,5 +1,5 @@
 use Rattle.std.proofs.Common.{◌≡◌}
-use Rattle.lw_calls.specs.History.{count_of}
+use Rattle.lw_calls.specs.Entries.{count_of}
 use Rattle.lw_order.proofs.tests.stamp_many.Given as goal
 
 abbrev pub invariant-loop-i : goal.invariant-loop-i

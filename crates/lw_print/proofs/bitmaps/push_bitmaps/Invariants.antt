@@ -1,6 +1,6 @@
 use Rattle.std.proofs.Common.{◌≡◌, ◌++◌, [], drop}
 use Rattle.std.specs.List.{flat_map, slice_index_or}
-use Rattle.lw_calls.specs.Canonical.{enumerated, lines_of_bitmap}
+use Rattle.lw_canonical.specs.Canonical.{enumerated, lines_of_bitmap}
 use Rattle.lw_print.specs.Behind.{text_of_lines}
 use Rattle.lw_print.proofs.bitmaps.push_bitmaps.Given as goal
 

@@ -1,7 +1,7 @@
 use Rattle.std.proofs.Common.{◌≡◌, ◌++◌}
 use Rattle.std.specs.List.{flat_map, range_with_len}
 use Rattle.lw_planes.specs.Bitmap.{plane_row}
-use Rattle.lw_calls.specs.Report.{line_of, hex_byte}
+use Rattle.lw_calls.specs.Written.{line_of, hex_byte}
 use Rattle.lw_print.proofs.bitmaps.push_planes.Given as goal
 
 abbrev pub invariant-loop-plane : goal.invariant-loop-plane

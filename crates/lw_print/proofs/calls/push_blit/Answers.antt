@@ -1,7 +1,7 @@
 use Rattle.std.proofs.Common.{rules, ℕ, List, [], ◌∷◌, ◌++◌}
 use Rattle.std.specs.Fmt.{signed_decimal}
 use Rattle.std.proofs.lemmas.Result.{on_ok_weaker}
-use Rattle.lw_calls.specs.Report.{hex_byte}
+use Rattle.lw_calls.specs.Written.{hex_byte}
 use Rattle.lw_print.proofs.Joined.{more-behind}
 use Rattle.lw_print.proofs.Numbers.{number-read, pair-written, placed-written}
 use Rattle.lw_print.proofs.calls.push_blit.Goals as goal

@@ -1,8 +1,8 @@
 use Rattle.std.proofs.Common.{rules, [], ◌∷◌}
 use Rattle.std.specs.Fmt.{signed_decimal}
 use Rattle.std.proofs.lemmas.Result.{on_ok_weaker}
-use Rattle.lw_calls.specs.LineForms.{four}
-use Rattle.lw_calls.specs.Spelling.{four_words}
+use Rattle.lw_grammar.specs.LineForms.{four}
+use Rattle.lw_canonical.specs.Spelling.{four_words}
 use Rattle.lw_print.proofs.Joined.{more-behind, word-more, bounds-behind}
 use Rattle.lw_print.proofs.Numbers.{number-read, four-written, placed-written}
 use Rattle.lw_print.proofs.calls.push_layer_and_box.Goals as goal

@@ -1,7 +1,7 @@
 use Rattle.std.proofs.Common.{ℕ, List, [], ◌∷◌, ◌++◌, ◌∙◌, ap}
 use Rattle.std.proofs.lemmas.Result.{on_ok_weaker}
-use Rattle.lw_calls.specs.Canonical.{opened_asked}
-use Rattle.lw_calls.specs.Spelling.{kind_word, place_word, four_words, opened_words, text_word}
+use Rattle.lw_canonical.specs.Canonical.{opened_asked}
+use Rattle.lw_canonical.specs.Spelling.{kind_word, place_word, four_words, opened_words, text_word}
 use Rattle.lw_print.specs.Behind.{behind}
 use Rattle.lw_print.proofs.Joined.{more-behind, word-more}
 use Rattle.lw_print.proofs.calls.push_layer_made.Goals as goal

@@ -1,6 +1,6 @@
 use Rattle.std.proofs.Common.{◌≡◌, ◌++◌, take}
 use Rattle.std.specs.List.{flat_map}
-use Rattle.lw_calls.specs.Report.{hex_byte}
+use Rattle.lw_calls.specs.Written.{hex_byte}
 use Rattle.lw_print.proofs.glyphs.push_digits.Given as goal
 
 abbrev pub invariant-loop-byte : goal.invariant-loop-byte

@@ -1,6 +1,6 @@
 use Rattle.std.proofs.Common.{◌≡◌, ◌+◌, [], refl, arith}
 use Rattle.std.specs.List.{slice_index_or}
-use Rattle.lw_calls.specs.Canonical.{lines_of_glyph}
+use Rattle.lw_canonical.specs.Canonical.{lines_of_glyph}
 use Rattle.lw_text.proofs.Pieces.{piece-written}
 use Rattle.lw_print.specs.Behind.{text_of_lines}
 use Rattle.lw_print.proofs.ManyLines.{pieces-text}

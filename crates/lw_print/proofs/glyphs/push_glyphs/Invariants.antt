@@ -1,6 +1,6 @@
 use Rattle.std.proofs.Common.{◌≡◌, ◌+◌, ◌++◌, []}
 use Rattle.std.specs.List.{flat_map, range_with_len, slice_index_or}
-use Rattle.lw_calls.specs.Canonical.{lines_of_glyph}
+use Rattle.lw_canonical.specs.Canonical.{lines_of_glyph}
 use Rattle.lw_print.specs.Behind.{text_of_lines}
 use Rattle.lw_print.proofs.glyphs.push_glyphs.Given as goal
 

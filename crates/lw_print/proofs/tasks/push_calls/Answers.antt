@@ -1,8 +1,8 @@
 use Rattle.std.proofs.Common.{◌≡◌, ◌++◌, ◌∷◌, ◌+◌, ◌<◌, List, length, get_or, drop, sym, ap, ◌∙◌}
 use Rattle.std.proofs.lemmas.List.{at_drop_more}
 use Rattle.lw_calls.specs.declared.call.Call.{Call}
-use Rattle.lw_calls.specs.Canonical.{lines_from}
-use Rattle.lw_calls.specs.Planned.{task_calls}
+use Rattle.lw_canonical.specs.Canonical.{lines_from}
+use Rattle.lw_calls.specs.Plan.{task_calls}
 use Rattle.lw_print.specs.Grouping.{lines_at}
 use Rattle.lw_print.proofs.Grouped.{lines_next, left_fit, left_reach, left_lines}
 use Rattle.lw_print.proofs.ManyLines.{fewer-lines}

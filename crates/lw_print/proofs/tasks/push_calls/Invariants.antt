@@ -1,6 +1,6 @@
 use Rattle.std.proofs.Common.{◌≡◌, ◌++◌, true, drop}
-use Rattle.lw_calls.specs.Canonical.{lines_from}
-use Rattle.lw_calls.specs.Planned.{task_calls, task_groups, groups_fit}
+use Rattle.lw_canonical.specs.Canonical.{lines_from}
+use Rattle.lw_calls.specs.Plan.{task_calls, task_groups, groups_fit}
 use Rattle.lw_print.specs.Behind.{text_of_lines}
 use Rattle.lw_print.proofs.Grouped.{Reaches}
 use Rattle.lw_print.proofs.tasks.push_calls.Given as goal

@@ -3,8 +3,8 @@ use Rattle.std.proofs.lemmas.List.Elements.{All-nil, All-cons}
 use Rattle.lw_planes.specs.Sizes.{IsPlanes}
 use Rattle.lw_print.proofs.tests.assets.Goals as goal
 
-pub returns-clause-supplies : goal.returns-clause-supplies
-returns-clause-supplies c =
+pub returns-clause-assets : goal.returns-clause-assets
+returns-clause-assets c =
     record {
       glyphs = c.glyphs.ensures.long;
       rows = c.glyphs.ensures.rows;

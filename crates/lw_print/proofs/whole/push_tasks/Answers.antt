@@ -1,6 +1,6 @@
 use Rattle.std.proofs.Common.{◌≡◌, ap, refl, arith}
 use Rattle.lw_calls.specs.declared.sizes.Sizes.{Sizes}
-use Rattle.lw_calls.specs.Canonical.{lines_of_task}
+use Rattle.lw_canonical.specs.Canonical.{lines_of_task}
 use Rattle.lw_text.proofs.Pieces.{piece-written}
 use Rattle.lw_print.specs.Behind.{text_of_lines}
 use Rattle.lw_print.proofs.ManyLines.{pieces-text}

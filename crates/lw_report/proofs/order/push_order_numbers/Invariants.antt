@@ -1,5 +1,5 @@
 use Rattle.std.proofs.Common.{◌≡◌, ◌++◌, drop}
-use Rattle.lw_calls.specs.Report.{order_numbers}
+use Rattle.lw_machine.specs.Report.{order_numbers}
 use Rattle.lw_report.proofs.order.push_order_numbers.Given as goal
 
 abbrev pub invariant-loop-above : goal.invariant-loop-above

@@ -1,5 +1,5 @@
 use Rattle.std.proofs.Common.{refl}
-use Rattle.lw_calls.specs.Report.{plane_lines}
+use Rattle.lw_machine.specs.Report.{plane_lines}
 use Rattle.lw_text.proofs.Pieces.{piece-written}
 use Rattle.lw_report.proofs.planes.push_each_plane.Goals as goal
 

@@ -1,6 +1,6 @@
 use Rattle.std.proofs.Common.{◌≡◌, ◌++◌}
 use Rattle.std.specs.List.{flat_map, range_with_len}
-use Rattle.lw_calls.specs.Report.{plane_lines}
+use Rattle.lw_machine.specs.Report.{plane_lines}
 use Rattle.lw_report.proofs.planes.push_each_plane.Given as goal
 
 abbrev pub invariant-loop-plane : goal.invariant-loop-plane

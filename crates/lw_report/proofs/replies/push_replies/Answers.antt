@@ -1,7 +1,7 @@
 use Rattle.std.proofs.Common.{[], ◌∙◌, ap}
 use Rattle.std.specs.List.{slice_index_or}
 use Rattle.std.proofs.lemmas.List.{get_or_default}
-use Rattle.lw_calls.specs.Report.{reply_lines}
+use Rattle.lw_machine.specs.Report.{reply_lines}
 use Rattle.lw_text.proofs.Pieces.{piece-written}
 use Rattle.lw_report.proofs.replies.push_replies.Goals as goal
 

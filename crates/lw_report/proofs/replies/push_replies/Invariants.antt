@@ -1,6 +1,6 @@
 use Rattle.std.proofs.Common.{◌≡◌, ◌++◌, []}
 use Rattle.std.specs.List.{flat_map, range_with_len, slice_index_or}
-use Rattle.lw_calls.specs.Report.{reply_lines}
+use Rattle.lw_machine.specs.Report.{reply_lines}
 use Rattle.lw_report.proofs.replies.push_replies.Given as goal
 
 abbrev pub invariant-loop-task : goal.invariant-loop-task

@@ -1,5 +1,5 @@
 use Rattle.std.proofs.Common.{◌++◌, ◌∙◌, ap}
-use Rattle.lw_calls.specs.Report.{order_part}
+use Rattle.lw_machine.specs.Report.{order_part}
 use Rattle.lw_report.specs.Text.{visible_text, damage_text, messages_text, text_of}
 use Rattle.lw_report.proofs.Whole.{parts-written, slots-as_given, replies-as_given, text-reports}
 use Rattle.lw_report.proofs.report.write.Goals as goal

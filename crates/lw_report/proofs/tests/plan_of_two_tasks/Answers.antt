@@ -4,13 +4,13 @@ use Rattle.std.proofs.lemmas.List.Elements.{All-nil, All-cons}
 use Rattle.lw_calls.specs.declared.call.Call.{Call}
 use Rattle.lw_calls.specs.declared.group.Group.{Group}
 use Rattle.lw_calls.specs.Limits.{call_fits, call_limit}
-use Rattle.lw_calls.specs.Desk.{Supplies}
-use Rattle.lw_calls.specs.Planned.{Planned, IsPlan, groups_fit, no_supplies}
+use Rattle.lw_calls.specs.Assets.{Assets}
+use Rattle.lw_calls.specs.Plan.{Plan, IsPlan, groups_fit, no_assets}
 use Rattle.lw_report.proofs.tests.plan_of_two_tasks.Goals as goal
 
 -- a plan of two tasks on four layers
-abbrev plan_with : List (List ℕ) → List (List ℕ) → List (List ℕ) → List (List Call) → List (List Group) → Supplies → Planned
-plan_with slots tasks bitmaps calls groups supplies =
+abbrev plan_with : List (List ℕ) → List (List ℕ) → List (List ℕ) → List (List Call) → List (List Group) → Assets → Plan
+plan_with slots tasks bitmaps calls groups assets =
     record {
       sizes = record { version = 1; width = 17; height = 2; depth = 2; slots = 4; tasks = 2; hooks = 0; bitmaps = 0 };
       slot_names = slots;
@@ -18,7 +18,7 @@ plan_with slots tasks bitmaps calls groups supplies =
       bitmap_names = bitmaps;
       calls = calls;
       groups = groups;
-      supplies = supplies;
+      assets = assets;
     }
 
 -- what holds of a list of no calls
@@ -37,7 +37,7 @@ no_groups (suc zero) = refl
 no_groups (suc (suc task)) = refl
 
 -- such a plan without calls may be run
-empty_plan : (slots tasks : List (List ℕ)) → length slots ≡ 4 → length tasks ≡ 2 → IsPlan (plan_with slots tasks [] ([] ∷ [] ∷ []) ([] ∷ [] ∷ []) no_supplies)
+empty_plan : (slots tasks : List (List ℕ)) → length slots ≡ 4 → length tasks ≡ 2 → IsPlan (plan_with slots tasks [] ([] ∷ [] ∷ []) ([] ∷ [] ∷ []) no_assets)
 empty_plan slots tasks a b =
     record {
       limits = search rules;
@@ -47,16 +47,16 @@ empty_plan slots tasks a b =
       bitmaps = refl;
       group_lists = refl;
       supplied = refl;
-      supplies = record { glyphs = refl; rows = All-replicate (λ g. length g ≡ 8) (replicate 8 0) 95 refl; bitmaps = All-nil _ };
+      assets = record { glyphs = refl; rows = All-replicate (λ g. length g ≡ 8) (replicate 8 0) 95 refl; bitmaps = All-nil _ };
       groups = no_groups;
       few = of_two (λ cs. length cs ≤ call_limit) (omega arith);
-      fit = of_two (λ cs. All (λ c. IsTrue (call_fits (plan_with slots tasks [] [] [] no_supplies).sizes c)) cs) (All-nil _);
+      fit = of_two (λ cs. All (λ c. IsTrue (call_fits (plan_with slots tasks [] [] [] no_assets).sizes c)) cs) (All-nil _);
     }
 
 -- parts that are such a plan's
-parts : (slots tasks bitmaps : List (List ℕ)) (calls : List (List Call)) (groups : List (List Group)) (x : Supplies) → length slots ≡ 4 → length tasks ≡ 2 → bitmaps ≡ [] → calls ≡ [] ∷ [] ∷ [] → groups ≡ [] ∷ [] ∷ [] → x ≡ no_supplies → IsPlan (plan_with slots tasks bitmaps calls groups x)
+parts : (slots tasks bitmaps : List (List ℕ)) (calls : List (List Call)) (groups : List (List Group)) (x : Assets) → length slots ≡ 4 → length tasks ≡ 2 → bitmaps ≡ [] → calls ≡ [] ∷ [] ∷ [] → groups ≡ [] ∷ [] ∷ [] → x ≡ no_assets → IsPlan (plan_with slots tasks bitmaps calls groups x)
 parts slots tasks bitmaps calls groups x a b c d e f =
-    let same : plan_with slots tasks [] ([] ∷ [] ∷ []) ([] ∷ [] ∷ []) no_supplies ≡ plan_with slots tasks bitmaps calls groups x = cc in
+    let same : plan_with slots tasks [] ([] ∷ [] ∷ []) ([] ∷ [] ∷ []) no_assets ≡ plan_with slots tasks bitmaps calls groups x = cc in
     subst IsPlan same (empty_plan slots tasks a b)
 
 pub new-requires-7 : goal.new-requires-7

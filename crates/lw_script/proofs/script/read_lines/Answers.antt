@@ -1,9 +1,9 @@
 use Rattle.std.proofs.Common.{◌≡◌, ◌-◌, Bool, true, false, ◌⊎◌, [], length, min, Result, Err, sym, ap, subst, ◌∙◌, arith}
 use Rattle.std.proofs.lemmas.Result.{err_from_is_err_and}
-use Rattle.lw_calls.specs.Lines.{lines}
-use Rattle.lw_calls.specs.LinesAbove.{section_of}
-use Rattle.lw_calls.specs.Script.{is_nothing_due, bytes_through}
-use Rattle.lw_calls.specs.ScriptReading.{outcome_of}
+use Rattle.lw_grammar.specs.Lines.{lines}
+use Rattle.lw_grammar.specs.LinesAbove.{section_of}
+use Rattle.lw_grammar.specs.Script.{is_nothing_due, bytes_through}
+use Rattle.lw_grammar.specs.ScriptReading.{outcome_of}
 use Rattle.lw_script.specs.declared.input.Input.{Input}
 use Rattle.lw_script.specs.declared.input.ScriptStop.{ScriptStop}
 use Rattle.lw_script.specs.Answers.{reading_with, Gives}

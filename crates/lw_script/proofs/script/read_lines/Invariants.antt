@@ -1,8 +1,8 @@
 use Rattle.std.proofs.Common.{◌≡◌, ◌+◌, ◌-◌, ◌≤◌, List, [], length, min}
-use Rattle.lw_calls.specs.Lines.{lines}
-use Rattle.lw_calls.specs.LineForms.{LineForm}
-use Rattle.lw_calls.specs.Script.{bytes_through}
-use Rattle.lw_calls.specs.ScriptReading.{outcome_of, AreGoodLines}
+use Rattle.lw_grammar.specs.Lines.{lines}
+use Rattle.lw_grammar.specs.LineForms.{LineForm}
+use Rattle.lw_grammar.specs.Script.{bytes_through}
+use Rattle.lw_grammar.specs.ScriptReading.{outcome_of, AreGoodLines}
 use Rattle.lw_script.specs.Answers.{reading_with}
 use Rattle.lw_script.specs.Stands.{Stands}
 use Rattle.lw_script.proofs.script.read_lines.Given as goal

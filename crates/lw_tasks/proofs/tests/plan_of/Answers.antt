@@ -4,14 +4,13 @@ use Rattle.std.proofs.lemmas.List.Elements.{All-nil, All-cons}
 use Rattle.lw_calls.specs.declared.call.Call.{Call}
 use Rattle.lw_calls.specs.declared.group.Group.{Group}
 use Rattle.lw_calls.specs.Limits.{call_fits, call_limit}
-use Rattle.lw_calls.specs.Desk.{Supplies}
-use Rattle.lw_calls.specs.Planned.{Planned, IsPlan, groups_fit}
-use Rattle.lw_calls.specs.Planned.{no_supplies}
+use Rattle.lw_calls.specs.Assets.{Assets}
+use Rattle.lw_calls.specs.Plan.{Plan, IsPlan, groups_fit, no_assets}
 use Rattle.lw_tasks.proofs.tests.plan_of.Goals as goal
 
 -- a plan of two tasks on two layers
-abbrev plan_with : List (List ℕ) → List (List ℕ) → List (List ℕ) → List (List Call) → List (List Group) → Supplies → Planned
-plan_with slots tasks bitmaps calls groups supplies =
+abbrev plan_with : List (List ℕ) → List (List ℕ) → List (List ℕ) → List (List Call) → List (List Group) → Assets → Plan
+plan_with slots tasks bitmaps calls groups assets =
     record {
       sizes = record { version = 1; width = 16; height = 1; depth = 1; slots = 2; tasks = 2; hooks = 0; bitmaps = 0 };
       slot_names = slots;
@@ -19,7 +18,7 @@ plan_with slots tasks bitmaps calls groups supplies =
       bitmap_names = bitmaps;
       calls = calls;
       groups = groups;
-      supplies = supplies;
+      assets = assets;
     }
 
 -- what holds of each of two lists of calls
@@ -38,10 +37,10 @@ no_groups a b (suc zero) = refl
 no_groups a b (suc (suc task)) = refl
 
 abbrev AreFitting : List Call → Type 0
-AreFitting cs = All (λ c. IsTrue (call_fits (plan_with [] [] [] [] [] no_supplies).sizes c)) cs
+AreFitting cs = All (λ c. IsTrue (call_fits (plan_with [] [] [] [] [] no_assets).sizes c)) cs
 
 -- such a plan may be run
-two_tasks : (slots tasks : List (List ℕ)) (a b : List Call) → length slots ≡ 2 → length tasks ≡ 2 → length a ≡ 2 → length b ≡ 2 → AreFitting a → AreFitting b → IsPlan (plan_with slots tasks [] (a ∷ b ∷ []) ([] ∷ [] ∷ []) no_supplies)
+two_tasks : (slots tasks : List (List ℕ)) (a b : List Call) → length slots ≡ 2 → length tasks ≡ 2 → length a ≡ 2 → length b ≡ 2 → AreFitting a → AreFitting b → IsPlan (plan_with slots tasks [] (a ∷ b ∷ []) ([] ∷ [] ∷ []) no_assets)
 two_tasks slots tasks a b s t m n f g =
     record {
       limits = search rules;
@@ -51,16 +50,16 @@ two_tasks slots tasks a b s t m n f g =
       bitmaps = refl;
       group_lists = refl;
       supplied = refl;
-      supplies = record { glyphs = refl; rows = All-replicate (λ g. length g ≡ 8) (replicate 8 0) 95 refl; bitmaps = All-nil _ };
+      assets = record { glyphs = refl; rows = All-replicate (λ g. length g ≡ 8) (replicate 8 0) 95 refl; bitmaps = All-nil _ };
       groups = no_groups a b;
       few = of_two (λ cs. length cs ≤ call_limit) a b (omega (arith, m)) (omega (arith, n));
       fit = of_two AreFitting a b f g;
     }
 
 -- parts that are such a plan's
-parts : (slots tasks bitmaps : List (List ℕ)) (calls : List (List Call)) (groups : List (List Group)) (x : Supplies) (a b : List Call) → length slots ≡ 2 → length tasks ≡ 2 → bitmaps ≡ [] → calls ≡ a ∷ b ∷ [] → groups ≡ [] ∷ [] ∷ [] → x ≡ no_supplies → length a ≡ 2 → length b ≡ 2 → AreFitting a → AreFitting b → IsPlan (plan_with slots tasks bitmaps calls groups x)
+parts : (slots tasks bitmaps : List (List ℕ)) (calls : List (List Call)) (groups : List (List Group)) (x : Assets) (a b : List Call) → length slots ≡ 2 → length tasks ≡ 2 → bitmaps ≡ [] → calls ≡ a ∷ b ∷ [] → groups ≡ [] ∷ [] ∷ [] → x ≡ no_assets → length a ≡ 2 → length b ≡ 2 → AreFitting a → AreFitting b → IsPlan (plan_with slots tasks bitmaps calls groups x)
 parts slots tasks bitmaps calls groups x a b s t e o g y m n f h =
-    let same : plan_with slots tasks [] (a ∷ b ∷ []) ([] ∷ [] ∷ []) no_supplies ≡ plan_with slots tasks bitmaps calls groups x = cc in
+    let same : plan_with slots tasks [] (a ∷ b ∷ []) ([] ∷ [] ∷ []) no_assets ≡ plan_with slots tasks bitmaps calls groups x = cc in
     subst IsPlan same (two_tasks slots tasks a b s t m n f h)
 
 pub new-requires-5 : goal.new-requires-5

@@ -1,6 +1,6 @@
 use Rattle.std.proofs.Common.{◌≡◌, ◌++◌, drop}
 use Rattle.std.specs.List.{flat_map}
-use Rattle.lw_calls.specs.Report.{hex_byte}
+use Rattle.lw_calls.specs.Written.{hex_byte}
 use Rattle.lw_text.specs.Padding.{without_padding}
 use Rattle.lw_text.proofs.row.push_bytes.Given as goal
 

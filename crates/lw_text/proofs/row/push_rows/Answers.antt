@@ -1,7 +1,7 @@
 use Rattle.std.proofs.Common.{ap}
 use Rattle.std.specs.List.{flat_map}
 use Rattle.lw_planes.specs.Bitmap.{plane_row}
-use Rattle.lw_calls.specs.Report.{line_of, hex_byte}
+use Rattle.lw_calls.specs.Written.{line_of, hex_byte}
 use Rattle.lw_text.proofs.Pieces.{piece-written}
 use Rattle.lw_text.proofs.Padded.{padded-row}
 use Rattle.lw_text.proofs.row.push_rows.Goals as goal

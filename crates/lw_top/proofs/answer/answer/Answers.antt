@@ -1,6 +1,6 @@
 use Rattle.std.proofs.Common.{◌≡◌, ap, Err, Result, subst, arith}
-use Rattle.lw_calls.specs.Lines.{lines}
-use Rattle.lw_calls.specs.Script.{Setting, SpellsInput, IsFirstBadIn}
+use Rattle.lw_grammar.specs.Lines.{lines}
+use Rattle.lw_grammar.specs.Script.{Setting, SpellsInput, IsFirstBadIn}
 use Rattle.lw_script.specs.Answers.{input_meaning, reading_with}
 use Rattle.lw_top.proofs.OrderLength.{order_few}
 use Rattle.lw_top.proofs.answer.answer.Goals as goal

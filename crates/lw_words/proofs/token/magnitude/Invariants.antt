@@ -1,6 +1,6 @@
 use Rattle.std.proofs.Common.{◌≡◌, min, take}
 use Rattle.std.specs.Str.Parse.{digits_value}
-use Rattle.lw_calls.specs.Tokens.{cap}
+use Rattle.lw_grammar.specs.Tokens.{cap}
 use Rattle.lw_words.proofs.token.magnitude.Given as goal
 
 abbrev pub invariant-loop-digit : goal.invariant-loop-digit

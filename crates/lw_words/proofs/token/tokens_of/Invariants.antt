@@ -1,5 +1,5 @@
 use Rattle.std.proofs.Common.{◌≡◌, map, take}
-use Rattle.lw_calls.specs.Tokens.{token_of}
+use Rattle.lw_grammar.specs.Tokens.{token_of}
 use Rattle.lw_words.specs.Cuts.{targets}
 use Rattle.lw_words.specs.TokenMeaning.{token_meaning}
 use Rattle.lw_words.proofs.token.tokens_of.Given as goal

@@ -1,5 +1,5 @@
 use Rattle.std.proofs.Common.{◌≡◌, ◌++◌}
-use Rattle.lw_calls.specs.Tokens.{tokens, on_found}
+use Rattle.lw_grammar.specs.Tokens.{tokens, on_found}
 use Rattle.lw_words.specs.Cuts.{targets, words_left, size_left}
 use Rattle.lw_words.proofs.tokens.words_of.Given as goal
 

@@ -7,8 +7,8 @@ use Rattle.lw_planes.specs.Bitmap.{Bitmap, bitmap}
 use Rattle.lw_calls.specs.declared.sizes.Sizes.{Sizes}
 use Rattle.lw_calls.specs.declared.call.Call.TheVariants.{Create}
 use Rattle.lw_calls.specs.Limits.{make_fits}
-use Rattle.lw_calls.specs.Arrangement.{is_on_screen, bounds_of}
-use Rattle.lw_calls.specs.Step.{after}
+use Rattle.lw_machine.specs.Arrangement.{is_on_screen, bounds_of}
+use Rattle.lw_machine.specs.Step.{after}
 use Rattle.lw_engine.specs.Plain.{Plain, layer_at, FitsBounds, IsPlain}
 use Rattle.lw_engine.proofs.PaintLaws.{fresh}
 use Rattle.lw_engine.specs.StandsFor.{StandsFor}
@@ -24,7 +24,7 @@ pub returns-then-is_some-clause-replies : goal.returns-then-is_some-clause-repli
 returns-then-is_some-clause-replies c = λ d task stands.
     let f = c.self.inside in
     let m = c.args.make.now in
-    let p : Plain = record { sizes = f.sizes; order = f.order.items; layers = f.layers.items; registers = f.registers.items } in
+    let p : Plain = record { sizes = f.sizes; front_to_back = f.front_to_back.items; layers = f.layers.items; registers = f.registers.items } in
     let equal : f.sizes ≡ c.args.self.now.sizes = ap (λ (q : Plain). q.sizes) c.self.view_is in
     let slots : f.sizes.slots ≡ c.args.self.now.sizes.slots = ap (λ (q : Plain). q.sizes.slots) c.self.view_is in
     let low : c.args.slot < f.sizes.slots = omega (arith, c.requires.slot) in
@@ -38,7 +38,7 @@ pub returns-then-is_some-clause-stands : goal.returns-then-is_some-clause-stands
 returns-then-is_some-clause-stands c = λ d task stands.
     let f = c.self.inside in
     let m = c.args.make.now in
-    let p : Plain = record { sizes = f.sizes; order = f.order.items; layers = f.layers.items; registers = f.registers.items } in
+    let p : Plain = record { sizes = f.sizes; front_to_back = f.front_to_back.items; layers = f.layers.items; registers = f.registers.items } in
     let equal : f.sizes ≡ c.args.self.now.sizes = ap (λ (q : Plain). q.sizes) c.self.view_is in
     let slots : f.sizes.slots ≡ c.args.self.now.sizes.slots = ap (λ (q : Plain). q.sizes.slots) c.self.view_is in
     let low : c.args.slot < f.sizes.slots = omega (arith, c.requires.slot) in
@@ -53,7 +53,7 @@ pub returns-in_default-clause-replies : goal.returns-in_default-clause-replies
 returns-in_default-clause-replies c = λ d task stands.
     let f = c.self.inside in
     let m = c.args.make.now in
-    let p : Plain = record { sizes = f.sizes; order = f.order.items; layers = f.layers.items; registers = f.registers.items } in
+    let p : Plain = record { sizes = f.sizes; front_to_back = f.front_to_back.items; layers = f.layers.items; registers = f.registers.items } in
     let equal : f.sizes ≡ c.args.self.now.sizes = ap (λ (q : Plain). q.sizes) c.self.view_is in
     let slots : f.sizes.slots ≡ c.args.self.now.sizes.slots = ap (λ (q : Plain). q.sizes.slots) c.self.view_is in
     let low : c.args.slot < f.sizes.slots = omega (arith, c.requires.slot) in
@@ -70,7 +70,7 @@ pub returns-in_default-clause-stands : goal.returns-in_default-clause-stands
 returns-in_default-clause-stands c = λ d task stands.
     let f = c.self.inside in
     let m = c.args.make.now in
-    let p : Plain = record { sizes = f.sizes; order = f.order.items; layers = f.layers.items; registers = f.registers.items } in
+    let p : Plain = record { sizes = f.sizes; front_to_back = f.front_to_back.items; layers = f.layers.items; registers = f.registers.items } in
     let equal : f.sizes ≡ c.args.self.now.sizes = ap (λ (q : Plain). q.sizes) c.self.view_is in
     let slots : f.sizes.slots ≡ c.args.self.now.sizes.slots = ap (λ (q : Plain). q.sizes.slots) c.self.view_is in
     let low : c.args.slot < f.sizes.slots = omega (arith, c.requires.slot) in
@@ -88,7 +88,7 @@ pub new-requires-clause-columns : goal.new-requires-clause-columns
 new-requires-clause-columns c =
     let f = c.self.inside in
     let m = c.args.make.now in
-    let p : Plain = record { sizes = f.sizes; order = f.order.items; layers = f.layers.items; registers = f.registers.items } in
+    let p : Plain = record { sizes = f.sizes; front_to_back = f.front_to_back.items; layers = f.layers.items; registers = f.registers.items } in
     let equal : f.sizes ≡ c.args.self.now.sizes = ap (λ (q : Plain). q.sizes) c.self.view_is in
     let slots : f.sizes.slots ≡ c.args.self.now.sizes.slots = ap (λ (q : Plain). q.sizes.slots) c.self.view_is in
     let low : c.args.slot < f.sizes.slots = omega (arith, c.requires.slot) in
@@ -107,7 +107,7 @@ pub new-requires-clause-lines : goal.new-requires-clause-lines
 new-requires-clause-lines c =
     let f = c.self.inside in
     let m = c.args.make.now in
-    let p : Plain = record { sizes = f.sizes; order = f.order.items; layers = f.layers.items; registers = f.registers.items } in
+    let p : Plain = record { sizes = f.sizes; front_to_back = f.front_to_back.items; layers = f.layers.items; registers = f.registers.items } in
     let equal : f.sizes ≡ c.args.self.now.sizes = ap (λ (q : Plain). q.sizes) c.self.view_is in
     let slots : f.sizes.slots ≡ c.args.self.now.sizes.slots = ap (λ (q : Plain). q.sizes.slots) c.self.view_is in
     let low : c.args.slot < f.sizes.slots = omega (arith, c.requires.slot) in
@@ -126,7 +126,7 @@ pub returns-clause-replies : goal.returns-clause-replies
 returns-clause-replies c = λ d task stands.
     let f = c.self.inside in
     let m = c.args.make.now in
-    let p : Plain = record { sizes = f.sizes; order = f.order.items; layers = f.layers.items; registers = f.registers.items } in
+    let p : Plain = record { sizes = f.sizes; front_to_back = f.front_to_back.items; layers = f.layers.items; registers = f.registers.items } in
     let equal : f.sizes ≡ c.args.self.now.sizes = ap (λ (q : Plain). q.sizes) c.self.view_is in
     let slots : f.sizes.slots ≡ c.args.self.now.sizes.slots = ap (λ (q : Plain). q.sizes.slots) c.self.view_is in
     let low : c.args.slot < f.sizes.slots = omega (arith, c.requires.slot) in
@@ -142,7 +142,7 @@ pub invariant_of-self-2 : goal.invariant_of-self-2
 invariant_of-self-2 c =
     let f = c.self.inside in
     let m = c.args.make.now in
-    let p : Plain = record { sizes = f.sizes; order = f.order.items; layers = f.layers.items; registers = f.registers.items } in
+    let p : Plain = record { sizes = f.sizes; front_to_back = f.front_to_back.items; layers = f.layers.items; registers = f.registers.items } in
     let equal : f.sizes ≡ c.args.self.now.sizes = ap (λ (q : Plain). q.sizes) c.self.view_is in
     let slots : f.sizes.slots ≡ c.args.self.now.sizes.slots = ap (λ (q : Plain). q.sizes.slots) c.self.view_is in
     let low : c.args.slot < f.sizes.slots = omega (arith, c.requires.slot) in
@@ -158,14 +158,14 @@ invariant_of-self-2 c =
     let fits = fits-created f.sizes m _ _ c.self.invariant.limits.some_planes range on wide high in
     let R : Rectangle → Type 0 = λ r. FitsBounds f.sizes r blank in
     let B : Bitmap → Type 0 = λ b. FitsBounds f.sizes c.in-Some.bounds b in
-    let O : List ℕ → Type 0 = λ o. IsPlain (record { sizes = f.sizes; order = o; layers = set f.layers.items c.args.slot (Some (fresh c.in-Some.bounds c.in_ok-bits.bits)); registers = f.registers.items }) in
+    let O : List ℕ → Type 0 = λ o. IsPlain (record { sizes = f.sizes; front_to_back = o; layers = set f.layers.items c.args.slot (Some (fresh c.in-Some.bounds c.in_ok-bits.bits)); registers = f.registers.items }) in
     subst O (sym c.in_ok-insert.ensures.items) (IsPlain-created p c.args.slot (Some (fresh c.in-Some.bounds c.in_ok-bits.bits)) low (subst B bits (subst R bounds fits)) c.self.invariant)
 
 pub returns-clause-stands : goal.returns-clause-stands
 returns-clause-stands c = λ d task stands.
     let f = c.self.inside in
     let m = c.args.make.now in
-    let p : Plain = record { sizes = f.sizes; order = f.order.items; layers = f.layers.items; registers = f.registers.items } in
+    let p : Plain = record { sizes = f.sizes; front_to_back = f.front_to_back.items; layers = f.layers.items; registers = f.registers.items } in
     let equal : f.sizes ≡ c.args.self.now.sizes = ap (λ (q : Plain). q.sizes) c.self.view_is in
     let slots : f.sizes.slots ≡ c.args.self.now.sizes.slots = ap (λ (q : Plain). q.sizes.slots) c.self.view_is in
     let low : c.args.slot < f.sizes.slots = omega (arith, c.requires.slot) in
@@ -184,6 +184,6 @@ returns-clause-stands c = λ d task stands.
     let fits = fits-created f.sizes m _ _ c.self.invariant.limits.some_planes range on wide high in
     let R : Rectangle → Type 0 = λ r. FitsBounds f.sizes r blank in
     let B : Bitmap → Type 0 = λ b. StandsFor (with_layer p c.args.slot c.in-Some.bounds b) (after d task (Create c.args.slot m)) in
-    let O : List ℕ → Type 0 = λ o. StandsFor (record { sizes = f.sizes; order = o; layers = set f.layers.items c.args.slot (Some (fresh c.in-Some.bounds c.in_ok-bits.bits)); registers = f.registers.items }) (after d task (Create c.args.slot m)) in
+    let O : List ℕ → Type 0 = λ o. StandsFor (record { sizes = f.sizes; front_to_back = o; layers = set f.layers.items c.args.slot (Some (fresh c.in-Some.bounds c.in_ok-bits.bits)); registers = f.registers.items }) (after d task (Create c.args.slot m)) in
     let stood = created-stands p d task c.args.slot m c.in-Some.bounds _ _ c.self.invariant low range c.requires.plain no on bounds (positive m.w _ range.w_low wide) (positive m.h _ range.h_low high) (subst R bounds fits) was in
     subst O (sym c.in_ok-insert.ensures.items) (subst B bits stood)

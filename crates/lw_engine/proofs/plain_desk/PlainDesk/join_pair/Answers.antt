@@ -7,7 +7,7 @@ use Rattle.lw_engine.proofs.plain_desk.PlainDesk.join_pair.Goals as goal
 pub invariant_of-self : goal.invariant_of-self
 invariant_of-self c =
     let f = c.self.inside in
-    let p : Plain = record { sizes = f.sizes; order = f.order.items; layers = f.layers.items; registers = f.registers.items } in
+    let p : Plain = record { sizes = f.sizes; front_to_back = f.front_to_back.items; layers = f.layers.items; registers = f.registers.items } in
     let tasks : f.sizes.tasks ≡ c.args.self.now.sizes.tasks = ap (λ (q : Plain). q.sizes.tasks) c.self.view_is in
     let here : c.args.task < f.sizes.tasks = omega (arith, c.requires.task) in
     let is : c.index_mut.result.now ≡ registers_at p c.args.task = entry-read f.registers.items f.sizes.tasks c.args.task c.index_mut.result.now [] c.self.invariant.registers here c.index_mut.ensures.value in

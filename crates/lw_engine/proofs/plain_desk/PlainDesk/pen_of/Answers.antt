@@ -1,7 +1,7 @@
 use Rattle.std.proofs.Common.{◌≡◌, ◌<◌, ◌∙◌, sym, ap, Some, None, IsTrue, pos, w16, to_z, of_z, rules, arith}
 use mir.Val.{SFits}
 use Rattle.std.proofs.lemmas.Int.{to_z-of_z}
-use Rattle.lw_calls.specs.Screen.{bounds_have, distance}
+use Rattle.lw_machine.specs.Screen.{bounds_have, distance}
 use Rattle.lw_engine.specs.Plain.{Plain, layer_at, bounds_at}
 use Rattle.lw_engine.proofs.PlainLaws.{entry-read}
 use Rattle.lw_engine.proofs.PlaceLaws.{column-at, row-at}
@@ -10,7 +10,7 @@ use Rattle.lw_engine.proofs.plain_desk.PlainDesk.pen_of.Goals as goal
 pub distance_from-column-requires-clause-low : goal.distance_from-column-requires-clause-low
 distance_from-column-requires-clause-low c =
     let f = c.self.inside in
-    let p : Plain = record { sizes = f.sizes; order = f.order.items; layers = f.layers.items; registers = f.registers.items } in
+    let p : Plain = record { sizes = f.sizes; front_to_back = f.front_to_back.items; layers = f.layers.items; registers = f.registers.items } in
     let l = c.in-Some.layer in
     let slots : f.sizes.slots ≡ c.args.self.now.sizes.slots = ap (λ (q : Plain). q.sizes.slots) c.self.view_is in
     let low : c.args.slot < f.sizes.slots = omega (arith, c.requires.slot) in
@@ -24,7 +24,7 @@ distance_from-column-requires-clause-low c =
 pub distance_from-column-requires-clause-reached : goal.distance_from-column-requires-clause-reached
 distance_from-column-requires-clause-reached c =
     let f = c.self.inside in
-    let p : Plain = record { sizes = f.sizes; order = f.order.items; layers = f.layers.items; registers = f.registers.items } in
+    let p : Plain = record { sizes = f.sizes; front_to_back = f.front_to_back.items; layers = f.layers.items; registers = f.registers.items } in
     let l = c.in-Some.layer in
     let slots : f.sizes.slots ≡ c.args.self.now.sizes.slots = ap (λ (q : Plain). q.sizes.slots) c.self.view_is in
     let low : c.args.slot < f.sizes.slots = omega (arith, c.requires.slot) in
@@ -38,7 +38,7 @@ distance_from-column-requires-clause-reached c =
 pub pen-requires-clause-column : goal.pen-requires-clause-column
 pen-requires-clause-column c =
     let f = c.self.inside in
-    let p : Plain = record { sizes = f.sizes; order = f.order.items; layers = f.layers.items; registers = f.registers.items } in
+    let p : Plain = record { sizes = f.sizes; front_to_back = f.front_to_back.items; layers = f.layers.items; registers = f.registers.items } in
     let l = c.in-Some.layer in
     let slots : f.sizes.slots ≡ c.args.self.now.sizes.slots = ap (λ (q : Plain). q.sizes.slots) c.self.view_is in
     let low : c.args.slot < f.sizes.slots = omega (arith, c.requires.slot) in
@@ -53,7 +53,7 @@ pen-requires-clause-column c =
 pub distance_from-line-requires-clause-low : goal.distance_from-line-requires-clause-low
 distance_from-line-requires-clause-low c =
     let f = c.self.inside in
-    let p : Plain = record { sizes = f.sizes; order = f.order.items; layers = f.layers.items; registers = f.registers.items } in
+    let p : Plain = record { sizes = f.sizes; front_to_back = f.front_to_back.items; layers = f.layers.items; registers = f.registers.items } in
     let l = c.in-Some.layer in
     let slots : f.sizes.slots ≡ c.args.self.now.sizes.slots = ap (λ (q : Plain). q.sizes.slots) c.self.view_is in
     let low : c.args.slot < f.sizes.slots = omega (arith, c.requires.slot) in
@@ -67,7 +67,7 @@ distance_from-line-requires-clause-low c =
 pub distance_from-line-requires-clause-reached : goal.distance_from-line-requires-clause-reached
 distance_from-line-requires-clause-reached c =
     let f = c.self.inside in
-    let p : Plain = record { sizes = f.sizes; order = f.order.items; layers = f.layers.items; registers = f.registers.items } in
+    let p : Plain = record { sizes = f.sizes; front_to_back = f.front_to_back.items; layers = f.layers.items; registers = f.registers.items } in
     let l = c.in-Some.layer in
     let slots : f.sizes.slots ≡ c.args.self.now.sizes.slots = ap (λ (q : Plain). q.sizes.slots) c.self.view_is in
     let low : c.args.slot < f.sizes.slots = omega (arith, c.requires.slot) in
@@ -81,7 +81,7 @@ distance_from-line-requires-clause-reached c =
 pub pen-requires-clause-line : goal.pen-requires-clause-line
 pen-requires-clause-line c =
     let f = c.self.inside in
-    let p : Plain = record { sizes = f.sizes; order = f.order.items; layers = f.layers.items; registers = f.registers.items } in
+    let p : Plain = record { sizes = f.sizes; front_to_back = f.front_to_back.items; layers = f.layers.items; registers = f.registers.items } in
     let l = c.in-Some.layer in
     let slots : f.sizes.slots ≡ c.args.self.now.sizes.slots = ap (λ (q : Plain). q.sizes.slots) c.self.view_is in
     let low : c.args.slot < f.sizes.slots = omega (arith, c.requires.slot) in

@@ -1,12 +1,12 @@
 use Rattle.std.proofs.Common.{◌<◌, [], Some, None}
 use Rattle.lw_calls.specs.declared.call.Call.TheVariants.{RegRect, RegPair, RegClear, Fill, Clip, Unclip}
 use Rattle.lw_calls.specs.declared.reply.Reply.TheVariants.{Done}
-use Rattle.lw_calls.specs.Registers.{joined_rect, joined_pair}
+use Rattle.lw_machine.specs.Registers.{rect_result, pair_result}
 use Rattle.lw_engine.specs.Plain.{layer_at, registers_at, register_at}
 use Rattle.lw_engine.specs.LayerCalls.{filled_slot, fill_reply, clipped_slot, clip_reply, with_slot}
 use Rattle.lw_engine.specs.Registers.{set_in, set_reply, with_set_in}
 use Rattle.lw_engine.proofs.CallLaws.{fits-as, below, first-below, second-below, reply-of, replies-of, stand-of, stands-of, refused-of}
-use Rattle.lw_engine.proofs.RegisterLaws.{joined_rect-reply, joined_pair-reply, clear-reply, stands-joined_rect, stands-joined_pair, stands-cleared, set-refused}
+use Rattle.lw_engine.proofs.RegisterLaws.{rect_result-reply, pair_result-reply, clear-reply, stands-rect_result, stands-pair_result, stands-cleared, set-refused}
 use Rattle.lw_engine.proofs.StandsForLaws.{fill-reply, clip-reply, unclip-reply, stands-filled, stands-clipped, stands-unclipped}
 use Rattle.lw_engine.proofs.plain_desk.PlainDesk.step.Goals as goal
 
@@ -16,8 +16,8 @@ returns-in-RegRect-clause-replies c =
     let v = c.in-RegRect in
     let fits = fits-as p.sizes c.args.call.now (RegRect v.op v.reg v.rect) v.is c.requires.fits in
     let reg : v.reg < 8 = first-below v.reg 8 _ fits in
-    let s = joined_rect v.op (set_in (registers_at p c.args.task) v.reg) v.rect in
-    replies-of p c.args.task c.args.call.now (RegRect v.op v.reg v.rect) c.join_rect.result (set_reply s) v.is c.join_rect.ensures.reply (λ d stood. joined_rect-reply p d c.args.task v.reg v.op v.rect c.requires.task reg stood)
+    let s = rect_result v.op (set_in (registers_at p c.args.task) v.reg) v.rect in
+    replies-of p c.args.task c.args.call.now (RegRect v.op v.reg v.rect) c.join_rect.result (set_reply s) v.is c.join_rect.ensures.reply (λ d stood. rect_result-reply p d c.args.task v.reg v.op v.rect c.requires.task reg stood)
 
 pub returns-in-RegRect-clause-stands : goal.returns-in-RegRect-clause-stands
 returns-in-RegRect-clause-stands c =
@@ -25,14 +25,14 @@ returns-in-RegRect-clause-stands c =
     let v = c.in-RegRect in
     let fits = fits-as p.sizes c.args.call.now (RegRect v.op v.reg v.rect) v.is c.requires.fits in
     let reg : v.reg < 8 = first-below v.reg 8 _ fits in
-    let s = joined_rect v.op (set_in (registers_at p c.args.task) v.reg) v.rect in
-    stands-of p c.join_rect.new.self (with_set_in p c.args.task v.reg s) c.args.task c.args.call.now (RegRect v.op v.reg v.rect) c.join_rect.result v.is c.join_rect.ensures.desk (λ d stood. stands-joined_rect p d c.args.task v.reg v.op v.rect c.requires.task reg c.join_rect.ensures.plain stood)
+    let s = rect_result v.op (set_in (registers_at p c.args.task) v.reg) v.rect in
+    stands-of p c.join_rect.new.self (with_set_in p c.args.task v.reg s) c.args.task c.args.call.now (RegRect v.op v.reg v.rect) c.join_rect.result v.is c.join_rect.ensures.desk (λ d stood. stands-rect_result p d c.args.task v.reg v.op v.rect c.requires.task reg c.join_rect.ensures.plain stood)
 
 pub returns-in-RegRect-clause-refused : goal.returns-in-RegRect-clause-refused
 returns-in-RegRect-clause-refused c =
     let p = c.args.self.now in
     let v = c.in-RegRect in
-    let s = joined_rect v.op (set_in (registers_at p c.args.task) v.reg) v.rect in
+    let s = rect_result v.op (set_in (registers_at p c.args.task) v.reg) v.rect in
     refused-of p c.join_rect.new.self (with_set_in p c.args.task v.reg s) c.join_rect.result (set_reply s) c.join_rect.ensures.reply c.join_rect.ensures.desk (set-refused p c.args.task v.reg s)
 
 pub returns-in-RegPair-clause-replies : goal.returns-in-RegPair-clause-replies
@@ -42,8 +42,8 @@ returns-in-RegPair-clause-replies c =
     let fits = fits-as p.sizes c.args.call.now (RegPair v.op v.source v.into) v.is c.requires.fits in
     let source : v.source < 8 = first-below v.source 8 _ fits in
     let into : v.into < 8 = second-below v.into 8 _ fits in
-    let s = joined_pair v.op (set_in (registers_at p c.args.task) v.source) (set_in (registers_at p c.args.task) v.into) in
-    replies-of p c.args.task c.args.call.now (RegPair v.op v.source v.into) c.join_pair.result (set_reply s) v.is c.join_pair.ensures.reply (λ d stood. joined_pair-reply p d c.args.task v.source v.into v.op c.requires.task source into stood)
+    let s = pair_result v.op (set_in (registers_at p c.args.task) v.source) (set_in (registers_at p c.args.task) v.into) in
+    replies-of p c.args.task c.args.call.now (RegPair v.op v.source v.into) c.join_pair.result (set_reply s) v.is c.join_pair.ensures.reply (λ d stood. pair_result-reply p d c.args.task v.source v.into v.op c.requires.task source into stood)
 
 pub returns-in-RegPair-clause-stands : goal.returns-in-RegPair-clause-stands
 returns-in-RegPair-clause-stands c =
@@ -52,8 +52,8 @@ returns-in-RegPair-clause-stands c =
     let fits = fits-as p.sizes c.args.call.now (RegPair v.op v.source v.into) v.is c.requires.fits in
     let source : v.source < 8 = first-below v.source 8 _ fits in
     let into : v.into < 8 = second-below v.into 8 _ fits in
-    let s = joined_pair v.op (set_in (registers_at p c.args.task) v.source) (set_in (registers_at p c.args.task) v.into) in
-    stands-of p c.join_pair.new.self (with_set_in p c.args.task v.into s) c.args.task c.args.call.now (RegPair v.op v.source v.into) c.join_pair.result v.is c.join_pair.ensures.desk (λ d stood. stands-joined_pair p d c.args.task v.source v.into v.op c.requires.task source into c.join_pair.ensures.plain stood)
+    let s = pair_result v.op (set_in (registers_at p c.args.task) v.source) (set_in (registers_at p c.args.task) v.into) in
+    stands-of p c.join_pair.new.self (with_set_in p c.args.task v.into s) c.args.task c.args.call.now (RegPair v.op v.source v.into) c.join_pair.result v.is c.join_pair.ensures.desk (λ d stood. stands-pair_result p d c.args.task v.source v.into v.op c.requires.task source into c.join_pair.ensures.plain stood)
 
 pub returns-in-RegClear-clause-replies : goal.returns-in-RegClear-clause-replies
 returns-in-RegClear-clause-replies c =

@@ -8,7 +8,7 @@ use Rattle.lw_engine.proofs.plain_desk.PlainDesk.unclip.Goals as goal
 pub invariant_of-self : goal.invariant_of-self
 invariant_of-self c =
     let f = c.self.inside in
-    let p : Plain = record { sizes = f.sizes; order = f.order.items; layers = f.layers.items; registers = f.registers.items } in
+    let p : Plain = record { sizes = f.sizes; front_to_back = f.front_to_back.items; layers = f.layers.items; registers = f.registers.items } in
     let sizes : f.sizes.slots ≡ c.args.self.now.sizes.slots = ap (λ (q : Plain). q.sizes.slots) c.self.view_is in
     let low : c.args.slot < f.sizes.slots = omega (arith, c.requires) in
     let is : c.index_mut.result.now ≡ layer_at p c.args.slot = entry-read f.layers.items f.sizes.slots c.args.slot c.index_mut.result.now None c.self.invariant.layers low c.index_mut.ensures.value in

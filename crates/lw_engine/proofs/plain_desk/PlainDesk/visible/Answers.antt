@@ -8,7 +8,7 @@ use Rattle.lw_engine.proofs.plain_desk.PlainDesk.visible.Goals as goal
 pub loop-front-init : goal.loop-front-init
 loop-front-init c =
     let p = c.args.self.now in
-    let all : p.order ≡ c.deref-front-items.result.now = sym (c.deref-front-items.ensures.value ∙ ap (λ (q : Plain). q.order) c.self.view_is) in
+    let all : p.front_to_back ≡ c.deref-front-items.result.now = sym (c.deref-front-items.ensures.value ∙ ap (λ (q : Plain). q.front_to_back) c.self.view_is) in
     let P : List ℕ → Type 0 = λ order. IsUncovered p c.args.slot c.or_rect.new.self order in
     subst P all (uncovered-start p c.args.slot c.args.bounds.now c.new-region.result c.or_rect.new.self _ c.requires.bounds c.new-region.ensures c.in_ok-or_rect.ensures.list c.in_ok-or_rect.ensures.pixels)
 

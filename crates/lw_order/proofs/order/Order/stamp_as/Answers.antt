@@ -1,7 +1,7 @@
 use Rattle.std.proofs.Common.{◌<◌, refl, sym, subst, rules}
 use Rattle.atomic_table.specs.Table.{keeps}
 use Rattle.lw_calls.specs.Touches.{touch_of}
-use Rattle.lw_calls.specs.History.{count_of}
+use Rattle.lw_calls.specs.Entries.{count_of}
 use Rattle.lw_order.specs.Seen.{SeenOrder, SeenSeat}
 use Rattle.lw_order.specs.Owned.{Owns}
 use Rattle.lw_order.proofs.Steps.{stamps}

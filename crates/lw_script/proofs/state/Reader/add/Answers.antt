@@ -1,6 +1,6 @@
 use Rattle.std.proofs.Common.{sym, subst, ◌∷◌, arith, List}
-use Rattle.lw_calls.specs.Script.{Setting}
-use Rattle.lw_calls.specs.LineForms.{LineForm as FormValue}
+use Rattle.lw_grammar.specs.Script.{Setting}
+use Rattle.lw_grammar.specs.LineForms.{LineForm as FormValue}
 use Rattle.lw_lines.specs.declared.form.LineForm.{LineForm}
 use Rattle.lw_lines.specs.FormMeaning.{form_meaning}
 use Rattle.lw_script.specs.declared.state.Reader.{Reader}

@@ -1,5 +1,5 @@
 use Rattle.std.proofs.Common.{refl, ap, ◌∙◌}
-use Rattle.lw_calls.specs.LineForms.{CallLine}
+use Rattle.lw_grammar.specs.LineForms.{CallLine}
 use Rattle.lw_lines.specs.FormMeaning.{act_meaning, layers_meaning}
 use Rattle.lw_lines.specs.CallMeaning.{bitmap_place}
 use Rattle.lw_script.proofs.Addable.{here_of, due_of, few_names, few_bitmaps, call_ranged, call_made, call_room, call_supers}

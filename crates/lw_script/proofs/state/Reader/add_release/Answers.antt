@@ -1,5 +1,5 @@
 use Rattle.std.proofs.Common.{refl}
-use Rattle.lw_calls.specs.LineForms.{ReleaseLine}
+use Rattle.lw_grammar.specs.LineForms.{ReleaseLine}
 use Rattle.lw_script.proofs.Addable.{here_of, due_of, some_released}
 use Rattle.lw_script.proofs.Passing.{with_tasks, on_done}
 use Rattle.lw_script.proofs.state.Reader.add_release.Goals as goal

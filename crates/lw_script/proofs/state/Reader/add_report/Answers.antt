@@ -1,5 +1,5 @@
 use Rattle.std.proofs.Common.{refl}
-use Rattle.lw_calls.specs.LineForms.{ReportLine}
+use Rattle.lw_grammar.specs.LineForms.{ReportLine}
 use Rattle.lw_script.proofs.Addable.{here_of, due_of}
 use Rattle.lw_script.proofs.Passing.{assets_pass, tasks_pass}
 use Rattle.lw_script.proofs.state.Reader.add_report.Goals as goal

@@ -1,6 +1,6 @@
 use Rattle.std.proofs.Common.{◌≡◌, true, cond, Ok, Err, sym, ap, ◌∙◌}
 use Rattle.lw_calls.specs.declared.reason.Reason.TheVariants.{Missing}
-use Rattle.lw_calls.specs.Script.{is_whole}
+use Rattle.lw_grammar.specs.Script.{is_whole}
 use Rattle.lw_script.proofs.ReadPlans.{ends_alike}
 use Rattle.lw_script.proofs.state.Reader.finish.Goals as goal
 

@@ -1,5 +1,5 @@
 use Rattle.std.proofs.Common.{◌+◌, ap, ◌∙◌}
-use Rattle.lw_calls.specs.LinesAbove.{glyph_above}
+use Rattle.lw_grammar.specs.LinesAbove.{glyph_above}
 use Rattle.lw_words.specs.Cuts.{targets}
 use Rattle.lw_script.proofs.ReadPlans.{none_due, plan_is, plan_runs, input_is}
 use Rattle.lw_script.proofs.state.Reader.input.Goals as goal

@@ -1,6 +1,6 @@
 use Rattle.std.proofs.Common.{◌≤◌, length, arith}
-use Rattle.lw_calls.specs.LinesAbove.{tasks_above, bitmaps_above}
-use Rattle.lw_calls.proofs.ScriptSizes.{counted}
+use Rattle.lw_grammar.specs.LinesAbove.{tasks_above, bitmaps_above}
+use Rattle.lw_grammar.proofs.ScriptSizes.{counted}
 use Rattle.lw_script.proofs.ReadPlans.{names_fit}
 use Rattle.lw_script.proofs.state.Reader.sizes.Goals as goal
 

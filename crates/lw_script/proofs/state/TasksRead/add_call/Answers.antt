@@ -1,6 +1,6 @@
 use Rattle.std.proofs.Common.{◌≡◌, ◌+◌, cond, Option, ℤ, sym, ap, subst, ◌∙◌}
-use Rattle.lw_calls.specs.LineForms.{CallLine, is_hook_number}
-use Rattle.lw_calls.specs.LinesAbove.{and_names, asks_super, listed, hooks_above, opened_by, bitmaps_above, names_above}
+use Rattle.lw_grammar.specs.LineForms.{CallLine, is_hook_number}
+use Rattle.lw_grammar.specs.LinesAbove.{and_names, asks_super, listed, hooks_above, opened_by, bitmaps_above, names_above}
 use Rattle.std.specs.Bool.{IsTrue}
 use Rattle.lw_lines.specs.FormMeaning.{act_meaning, layers_meaning}
 use Rattle.lw_script.specs.CallParts.{first_place, second_place, AreNoted}

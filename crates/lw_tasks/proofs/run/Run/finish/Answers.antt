@@ -1,7 +1,7 @@
 use Rattle.std.proofs.Common.{◌≡◌, ℕ, ◌<◌, List, [], IfOk, slice_index_or, subst}
 use Rattle.lw_calls.specs.declared.reply.Reply.{Reply}
-use Rattle.lw_calls.specs.Desk.{Desk}
-use Rattle.lw_calls.specs.Finals.{IsFinalOf}
+use Rattle.lw_machine.specs.Desk.{Desk}
+use Rattle.lw_machine.specs.Finals.{IsFinalOf}
 use Rattle.lw_engine.specs.StandsFor.{StandsFor}
 use Rattle.lw_tasks.proofs.run.Run.finish.Goals as goal
 

@@ -2,7 +2,7 @@ use Rattle.std.proofs.Common.{◌≡◌, ℕ, ◌<◌, [], ◌∷◌, ◌++◌, 
 use Rattle.std.specs.List.{slice_get}
 use Rattle.std.proofs.lemmas.List.{get_or_default}
 use Rattle.std.proofs.lemmas.Result.{on_ok_weaker}
-use Rattle.lw_calls.specs.Planned.{task_calls}
+use Rattle.lw_calls.specs.Plan.{task_calls}
 use Rattle.lw_tasks.proofs.Next.{has_run_next}
 use Rattle.lw_tasks.proofs.run.Run.make_next.Goals as goal
 

@@ -1,5 +1,0 @@
-use Rattle.lw_calls.proofs.CanonicalRead.{canonical_texts_read_back}
-use Rattle.lw_calls.proofs.laws.canonical_texts_read_back.Goals as goal
-
-pub returns : goal.returns
-returns c = canonical_texts_read_back

@@ -1,5 +1,0 @@
-use Rattle.lw_calls.proofs.ReachedSound.{reached_sound}
-use Rattle.lw_calls.proofs.laws.reached_desks_are_sound.Goals as goal
-
-pub returns : goal.returns
-returns c = reached_sound

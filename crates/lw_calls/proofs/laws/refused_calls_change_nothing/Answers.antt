@@ -1,5 +1,0 @@
-use Rattle.lw_calls.proofs.Refused.{refused_unchanged}
-use Rattle.lw_calls.proofs.laws.refused_calls_change_nothing.Goals as goal
-
-pub returns : goal.returns
-returns c = refused_unchanged

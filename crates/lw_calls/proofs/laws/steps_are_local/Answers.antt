@@ -1,5 +1,0 @@
-use Rattle.lw_calls.proofs.Locality.{steps_alike}
-use Rattle.lw_calls.proofs.laws.steps_are_local.Goals as goal
-
-pub returns : goal.returns
-returns c = steps_alike

@@ -1,5 +1,0 @@
-use Rattle.lw_calls.proofs.Untouched.{leaves_the_rest}
-use Rattle.lw_calls.proofs.laws.steps_leave_the_rest.Goals as goal
-
-pub returns : goal.returns
-returns c = leaves_the_rest

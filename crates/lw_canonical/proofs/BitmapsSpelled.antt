@@ -1,0 +1,68 @@
+-- The bitmaps and rows of good lines, in their one spelling, read again over lines of a screen and glyphs.
+use Rattle.std.proofs.Common.{◌≡◌, ℕ, ◌≤◌, ◌==◌, true, false, List, [], ◌∷◌, length, bytes_eq, ℤ, Ok, refl, sym, ap, subst, ◌∙◌}
+use Rattle.std.specs.List.{list_any}
+use Rattle.lw_grammar.specs.LineForms.{LineForm, BitmapLine, RowLine}
+use Rattle.lw_grammar.specs.LinesAbove.{Section, ScreenIsDue, AssetsAreDue, CallsAreDue, TasksAreDue, NumbersAreDue, NothingIsDue, section_of, rows_due, tasks_above, bitmaps_above, names_above, supers_above, calls_so_far}
+use Rattle.lw_grammar.specs.Script.{Setting, are_assets_due, is_nothing_due, are_few, has_padding}
+use Rattle.lw_grammar.specs.ScriptReading.{line_read, AreGoodLines}
+use Rattle.lw_canonical.specs.Spelling.{spelled}
+use Rattle.lw_grammar.proofs.ScriptSizes.{IsFormTested, here, tests, counted}
+use Rattle.lw_canonical.proofs.ReadsAgain.{verb_forms, row_forms, spelled_again, tests_pass, few_by_bitmaps, isnt_passed, row_stands}
+use Rattle.lw_canonical.proofs.BitmapsKept.{IsBare, bare_kept, IsWithoutBitmaps, kept, names_kept, width_kept, due_kept}
+use Rattle.lw_canonical.proofs.Rearranged.{AreSpelled, HasOneSpelling}
+use Rattle.std.proofs.lemmas.Bool.{false≢true, eqb-true, eq-eqb}
+
+-- the section by its test
+pub assets_by : (c : Section) → are_assets_due c ≡ true → c ≡ AssetsAreDue
+assets_by ScreenIsDue e = absurd (false≢true e)
+assets_by AssetsAreDue e = refl
+assets_by CallsAreDue e = absurd (false≢true e)
+assets_by TasksAreDue e = absurd (false≢true e)
+assets_by NumbersAreDue e = absurd (false≢true e)
+assets_by NothingIsDue e = absurd (false≢true e)
+
+-- lines that tell of few bitmaps and of nothing else are few
+pub few_bare : (w h d : ℕ) (lines : List LineForm) → IsBare w h d lines → length (bitmaps_above lines) ≤ 16 → are_few lines ≡ true
+few_bare w h d lines k n =
+    few_by_bitmaps (tasks_above lines) (bitmaps_above lines) (names_above lines) (supers_above lines) (calls_so_far lines) k.tasks n k.names k.supers k.so_far
+
+-- behind them something is due
+pub due_bare : (w h d : ℕ) (lines : List LineForm) → IsBare w h d lines → is_nothing_due (section_of lines) ≡ false
+due_bare w h d lines k = ap is_nothing_due k.section
+
+module _ (one : HasOneSpelling) (s t : Setting) (w h d : ℕ) (base : List LineForm) (bare : IsBare w h d base) (b : IsWithoutBitmaps base) where
+  -- what is kept of a further good line is few
+  few_kept : (f : LineForm) (above : List LineForm) → AreGoodLines s (f ∷ above) → are_few (kept (f ∷ above) base) ≡ true
+  few_kept f above g =
+      let P : List (List ℕ) → Type 0 = λ names. length names ≤ 16 in
+      few_bare w h d (kept (f ∷ above) base) (bare_kept w h d (f ∷ above) base bare) (subst P (sym (names_kept base b (f ∷ above))) (counted s (f ∷ above) g).bitmaps)
+
+  -- a bitmap's line, and a row
+  bitmap_again : (name : List ℕ) (x y z : ℤ) (above : List LineForm) → AreGoodLines s (BitmapLine name x y z ∷ above) → line_read t (kept above base) (spelled (BitmapLine name x y z)) ≡ Ok (BitmapLine name x y z)
+  bitmap_again name x y z above g =
+      let f : LineForm = BitmapLine name x y z in
+      let at = here s above (BitmapLine name x y z) g in
+      let k = tests s above (BitmapLine name x y z) g in
+      let none : rows_due (kept above base) ≡ 0 = due_kept base b s above g.1 ∙ eqb-true _ 0 at.0 in
+      let tested : IsFormTested t (kept above base) (BitmapLine name x y z) =
+      record { range = k.range; named = refl; new = ap (list_any (bytes_eq name)) (names_kept base b above) ∙ k.new; group = refl; few = few_kept f above g; hook = refl; unused = refl; padding = refl; built = refl } in
+      spelled_again one s t above (kept above base) f g.0 (verb_forms s t above (kept above base) AssetsAreDue at.0 (eq-eqb _ 0 none) (assets_by _ at.1) (bare_kept w h d above base bare).section refl) (tests_pass t (kept above base) f tested)
+
+  row_again : (bytes : List ℕ) (above : List LineForm) → AreGoodLines s (RowLine bytes ∷ above) → line_read t (kept above base) (spelled (RowLine bytes)) ≡ Ok (RowLine bytes)
+  row_again bytes above g =
+      let at = here s above (RowLine bytes) g in
+      let k = tests s above (RowLine bytes) g in
+      let some : (rows_due (kept above base) == 0) ≡ false = ap (λ n. n == 0) (due_kept base b s above g.1) ∙ at.0 in
+      let tested : IsFormTested t (kept above base) (RowLine bytes) =
+      record { range = k.range; named = refl; new = refl; group = refl; few = few_kept (RowLine bytes) above g; hook = refl; unused = refl; padding = ap (λ width. has_padding width (RowLine bytes)) (width_kept base b above) ∙ k.padding; built = refl } in
+      spelled_again one s t above (kept above base) (RowLine bytes) g.0 (row_forms s t above (kept above base) at.0 some (sym (width_kept base b above))) (tests_pass t (kept above base) (RowLine bytes) tested)
+
+  -- Each of them reads again where those below the kept lines do.
+  pub kept_spelled : (above : List LineForm) → AreGoodLines s above → AreSpelled t base → AreSpelled t (kept above base)
+  kept_spelled [] g k = k
+  kept_spelled (BitmapLine name x y z ∷ above) g k =
+      (bitmap_again name x y z above g, isnt_passed (kept above base) (spelled (BitmapLine name x y z)) refl (due_bare w h d _ (bare_kept w h d above base bare)), kept_spelled above g.1 k)
+  kept_spelled (RowLine bytes ∷ above) g k =
+      let read = row_again bytes above g in
+      (read, isnt_passed (kept above base) (spelled (RowLine bytes)) (row_stands t (kept above base) bytes read) (due_bare w h d _ (bare_kept w h d above base bare)), kept_spelled above g.1 k)
+  kept_spelled (f ∷ above) g k = kept_spelled above g.1 k

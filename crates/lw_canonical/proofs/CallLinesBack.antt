@@ -1,0 +1,121 @@
+-- The line of the call that a call line spells is this line.
+use Rattle.std.proofs.Common.{◌≡◌, ℕ, zero, suc, true, List, [], ◌∷◌, length, map, slice_index, slice_index_or, ℤ, pos, negsuc, ◌+ℤ◌, ◌-ℤ◌, unsigned_abs, Option, Some, None, option_map, refl, sym, ap, ◌∙◌, arith}
+use Rattle.lw_region.specs.Rectangle.{Rectangle, within}
+use Rattle.lw_calls.specs.declared.make.Kind.{Kind}
+use Rattle.lw_calls.specs.declared.make.Kind.TheVariants.{Simple, Smart, SuperBitmap}
+use Rattle.lw_calls.specs.Limits.{rect_fits}
+use Rattle.lw_grammar.specs.LineForms.{Asked, Act, RegRectAct, RegPairAct, RegClearAct, CreateAct, OpenAct, InFrontAct, WhichAct, APenAct, BPenAct, ModeAct, MaskAct, SetRastAct, PutAct, BlitAct, ClipAct, CallLine, four, is_hook_number, is_own_size, is_asked_in_range, is_box, is_act_in_range}
+use Rattle.lw_grammar.specs.LinesAbove.{place_among, created_make, opened_make, spelled_call}
+use Rattle.lw_canonical.specs.Canonical.{created_asked, opened_asked, line_of_call}
+use Rattle.lw_grammar.proofs.ScriptForms.{IsAskedOf, IsFormMade}
+use Rattle.std.proofs.lemmas.Int.{ints}
+use Rattle.std.proofs.lemmas.Bool.{false≢true, and_parts}
+
+-- a number in a range that begins at 0 or above is what its distance from 0 counts
+pub number_back : (low : ℕ) (z : ℤ) (high : ℕ) → within (pos low) z (pos high) ≡ true → pos (unsigned_abs z) ≡ z
+unfolding within
+number_back low (pos n) high h = refl
+number_back low (negsuc n) high h = absurd (false≢true h)
+
+-- a layer's names by its slots: of a call on one layer, and of a call on two
+one_back : (names : List (List ℕ)) (slots : List ℕ) (layers : List (List ℕ)) → map (λ s. slice_index_or names s []) slots ≡ layers → length layers ≡ 1 → slice_index_or names (slice_index slots 0) [] ∷ [] ≡ layers
+one_back names [] layers e n = let long : zero ≡ suc zero = ap length e ∙ n in absurd (omega arith)
+one_back names (s ∷ []) layers e n = e
+one_back names (s ∷ t ∷ ts) layers e n =
+    let more : List (List ℕ) = map (λ (k : ℕ). slice_index_or names k []) ts in
+    let long : suc (suc (length more)) ≡ suc zero = ap length e ∙ n in
+    absurd (omega arith)
+
+two_back : (names : List (List ℕ)) (slots : List ℕ) (layers : List (List ℕ)) → map (λ s. slice_index_or names s []) slots ≡ layers → length layers ≡ 2 → slice_index_or names (slice_index slots 0) [] ∷ slice_index_or names (slice_index slots 1) [] ∷ [] ≡ layers
+two_back names [] layers e n = let long : zero ≡ suc (suc zero) = ap length e ∙ n in absurd (omega arith)
+two_back names (s ∷ []) layers e n = let long : suc zero ≡ suc (suc zero) = ap length e ∙ n in absurd (omega arith)
+two_back names (s ∷ t ∷ []) layers e n = e
+two_back names (s ∷ t ∷ u ∷ us) layers e n =
+    let more : List (List ℕ) = map (λ (k : ℕ). slice_index_or names k []) us in
+    let long : suc (suc (suc (length more))) ≡ suc (suc zero) = ap length e ∙ n in
+    absurd (omega arith)
+
+no_layers : (layers : List (List ℕ)) → length layers ≡ 0 → [] ≡ layers
+no_layers [] n = refl
+no_layers (l ∷ ls) n = absurd (omega arith)
+
+-- the hook of a layer that is asked for
+hook_back : (hook : Option ℤ) → is_hook_number hook ≡ true → option_map pos (option_map unsigned_abs hook) ≡ hook
+hook_back None h = refl
+hook_back (Some n) h = ap (λ (z : ℤ). Some z) (number_back 0 n 4294967295 h)
+
+-- the size of its bitmap
+own_back : (kind : Kind) (a : Asked) → IsAskedOf kind a → is_own_size kind a.bits_w a.bits_h ≡ true → (pos (unsigned_abs a.bits_w) ≡ a.bits_w) × (pos (unsigned_abs a.bits_h) ≡ a.bits_h)
+own_back Simple a m h = (ap (λ z. pos (unsigned_abs z)) m.0 ∙ sym m.0, ap (λ z. pos (unsigned_abs z)) m.1 ∙ sym m.1)
+own_back Smart a m h = (ap (λ z. pos (unsigned_abs z)) m.0 ∙ sym m.0, ap (λ z. pos (unsigned_abs z)) m.1 ∙ sym m.1)
+own_back SuperBitmap a m h =
+    let sides = and_parts (within (pos 1) a.bits_w (pos 2048)) _ h in
+    (number_back 1 a.bits_w 2048 sides.0, number_back 1 a.bits_h 2048 sides.1)
+
+-- a layer that is asked for, by its parts
+abbrev asked_with : Asked → Rectangle → Option ℤ → ℤ → ℤ → Asked
+asked_with a box hook w h = record { kind = a.kind; place = a.place; box = box; backdrop = a.backdrop; hook = hook; bits_w = w; bits_h = h }
+
+asked_same : (a : Asked) (box : Rectangle) (hook : Option ℤ) (w h : ℤ) → box ≡ a.box → hook ≡ a.hook → w ≡ a.bits_w → h ≡ a.bits_h → asked_with a box hook w h ≡ a
+asked_same a box hook w h b k c d =
+    ap (λ (q : Rectangle). asked_with a q hook w h) b ∙ ap (λ (q : Option ℤ). asked_with a a.box q w h) k ∙ ap (λ (q : ℤ). asked_with a a.box a.hook q h) c ∙ ap (λ (q : ℤ). asked_with a a.box a.hook a.bits_w q) d
+
+-- its bounds
+bound_back : (low high : ℤ) → (low +ℤ ((high -ℤ low) +ℤ pos 1)) -ℤ pos 1 ≡ high
+bound_back low high = omega (arith, ints)
+
+box_same : (r : Rectangle) (c d : ℤ) → c ≡ r.max_x → d ≡ r.max_y → four r.min_x r.min_y c d ≡ r
+box_same r c d e f = ap (λ (q : ℤ). four r.min_x r.min_y q d) e ∙ ap (λ (q : ℤ). four r.min_x r.min_y r.max_x q) f
+
+-- what a creation asks for, and what an opening does
+created_back : (a : Asked) → IsAskedOf a.kind a → is_asked_in_range a ≡ true → created_asked (created_make a) ≡ a
+created_back a m h =
+    let halves = and_parts (is_hook_number a.hook) _ h in
+    let own = own_back a.kind a m halves.1 in
+    asked_same a _ _ _ _ (box_same a.box _ _ (bound_back a.box.min_x a.box.max_x) (bound_back a.box.min_y a.box.max_y)) (hook_back a.hook halves.0) own.0 own.1
+
+opened_back : (a : Asked) → IsAskedOf a.kind a → is_asked_in_range a ≡ true → opened_asked (opened_make a) ≡ a
+opened_back a m h =
+    let halves = and_parts (is_hook_number a.hook) _ h in
+    let own = own_back a.kind a m halves.1 in
+    asked_same a _ _ _ _ refl (hook_back a.hook halves.0) own.0 own.1
+
+-- the bitmap of a blit from a bitmap is found by its place among those above the line
+abbrev pub IsBitmapBack : List (List ℕ) → List (List ℕ) → Act → Type 0
+IsBitmapBack bitmaps among (PutAct bm b) = slice_index_or bitmaps (place_among among bm) [] ≡ bm
+IsBitmapBack bitmaps among act = Unit {0}
+
+-- The line of a call, where the slots' names are its layers and the bitmaps above the line are found among all.
+pub line_back : (names bitmaps among layers : List (List ℕ)) (act : Act) → IsFormMade (CallLine layers act) → is_act_in_range act ≡ true → IsBitmapBack bitmaps among act → (slots : List ℕ) → map (λ s. slice_index_or names s []) slots ≡ layers → line_of_call names bitmaps (spelled_call among act slots) ≡ CallLine layers act
+line_back names bitmaps among layers (RegRectAct op r rect) m h b slots e =
+    let halves = and_parts (within (pos 0) r (pos 7)) _ h in
+    ap (λ z. CallLine [] (RegRectAct op z rect)) (number_back 0 r 7 halves.0) ∙ ap (λ ls. CallLine ls (RegRectAct op r rect)) (no_layers layers m.0)
+line_back names bitmaps among layers (RegPairAct op s r) m h b slots e =
+    let halves = and_parts (within (pos 0) s (pos 7)) _ h in
+    ap (λ z. CallLine [] (RegPairAct op z (pos (unsigned_abs r)))) (number_back 0 s 7 halves.0) ∙ ap (λ z. CallLine [] (RegPairAct op s z)) (number_back 0 r 7 halves.1) ∙ ap (λ ls. CallLine ls (RegPairAct op s r)) (no_layers layers m.0)
+line_back names bitmaps among layers (RegClearAct r) m h b slots e =
+    ap (λ z. CallLine [] (RegClearAct z)) (number_back 0 r 7 h) ∙ ap (λ ls. CallLine ls (RegClearAct r)) (no_layers layers m.0)
+line_back names bitmaps among layers (WhichAct x y) m h b slots e = ap (λ ls. CallLine ls (WhichAct x y)) (no_layers layers m.0)
+line_back names bitmaps among layers InFrontAct m h b slots e = ap (λ ls. CallLine ls InFrontAct) (two_back names slots layers e m.0)
+line_back names bitmaps among layers (BlitAct g) m h b slots e = ap (λ ls. CallLine ls (BlitAct g)) (two_back names slots layers e m.0)
+line_back names bitmaps among layers (CreateAct a) m h b slots e =
+    let halves = and_parts (rect_fits a.box) _ h in
+    ap (λ k. CallLine (slice_index_or names (slice_index slots 0) [] ∷ []) (CreateAct k)) (created_back a m.1 halves.1) ∙ ap (λ ls. CallLine ls (CreateAct a)) (one_back names slots layers e m.0)
+line_back names bitmaps among layers (OpenAct a framed nocare classes title) m h b slots e =
+    let halves = and_parts (is_box a.box) _ h in
+    ap (λ k. CallLine (slice_index_or names (slice_index slots 0) [] ∷ []) (OpenAct k framed nocare classes title)) (opened_back a m.1.0 halves.1) ∙ ap (λ ls. CallLine ls (OpenAct a framed nocare classes title)) (one_back names slots layers e m.0)
+line_back names bitmaps among layers (APenAct p) m h b slots e =
+    ap (λ z. CallLine (slice_index_or names (slice_index slots 0) [] ∷ []) (APenAct z)) (number_back 0 p 255 h) ∙ ap (λ ls. CallLine ls (APenAct p)) (one_back names slots layers e m.0)
+line_back names bitmaps among layers (BPenAct p) m h b slots e =
+    ap (λ z. CallLine (slice_index_or names (slice_index slots 0) [] ∷ []) (BPenAct z)) (number_back 0 p 255 h) ∙ ap (λ ls. CallLine ls (BPenAct p)) (one_back names slots layers e m.0)
+line_back names bitmaps among layers (ModeAct k) m h b slots e =
+    ap (λ z. CallLine (slice_index_or names (slice_index slots 0) [] ∷ []) (ModeAct z)) (number_back 0 k 7 h) ∙ ap (λ ls. CallLine ls (ModeAct k)) (one_back names slots layers e m.0)
+line_back names bitmaps among layers (MaskAct p) m h b slots e =
+    ap (λ z. CallLine (slice_index_or names (slice_index slots 0) [] ∷ []) (MaskAct z)) (number_back 0 p 255 h) ∙ ap (λ ls. CallLine ls (MaskAct p)) (one_back names slots layers e m.0)
+line_back names bitmaps among layers (SetRastAct p) m h b slots e =
+    ap (λ z. CallLine (slice_index_or names (slice_index slots 0) [] ∷ []) (SetRastAct z)) (number_back 0 p 255 h) ∙ ap (λ ls. CallLine ls (SetRastAct p)) (one_back names slots layers e m.0)
+line_back names bitmaps among layers (ClipAct r) m h b slots e =
+    ap (λ z. CallLine (slice_index_or names (slice_index slots 0) [] ∷ []) (ClipAct z)) (number_back 0 r 7 h) ∙ ap (λ ls. CallLine ls (ClipAct r)) (one_back names slots layers e m.0)
+line_back names bitmaps among layers (PutAct bm g) m h b slots e =
+    ap (λ n. CallLine (slice_index_or names (slice_index slots 0) [] ∷ []) (PutAct n g)) b ∙ ap (λ ls. CallLine ls (PutAct bm g)) (one_back names slots layers e m.0)
+line_back names bitmaps among layers act m h b slots e = ap (λ ls. CallLine ls act) (one_back names slots layers e m.0)

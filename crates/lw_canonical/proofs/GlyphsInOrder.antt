@@ -1,0 +1,182 @@
+-- The glyphs of good lines in the order of their codes, over other lines: what they tell, and that they read again in their
+-- one spelling.
+use Rattle.std.proofs.Common.{◌≡◌, ℕ, zero, suc, ◌+◌, ◌<◌, ◌≤◌, ◌==◌, Bool, true, false, cond, List, [], ◌∷◌, ◌++◌, length, replicate, reverse, Ok, refl, sym, ap, subst, ◌∙◌, inl, inr, ◌⊎◌, ⊎_elim, arith, append_assoc, append-nil}
+use Rattle.std.specs.List.{list_any, list_all, flat_map, range_with_len}
+use Rattle.lw_grammar.specs.LineForms.{LineForm, GlyphLine}
+use Rattle.lw_grammar.specs.LinesAbove.{AssetsAreDue, bitmaps_above, codes_above, glyph_above}
+use Rattle.lw_grammar.specs.Script.{Setting}
+use Rattle.lw_grammar.specs.ScriptReading.{line_read, AreGoodLines}
+use Rattle.lw_canonical.specs.Spelling.{spelled}
+use Rattle.lw_canonical.specs.Canonical.{lines_of_glyph}
+use Rattle.lw_grammar.proofs.ScriptSizes.{IsFormTested, here, tests}
+use Rattle.lw_canonical.proofs.ReadsAgain.{verb_forms, spelled_again, tests_pass, isnt_passed}
+use Rattle.lw_canonical.proofs.BitmapsKept.{IsBare, bare_glyph, IsWithoutBitmaps}
+use Rattle.lw_canonical.proofs.BitmapsSpelled.{assets_by, few_bare, due_bare}
+use Rattle.lw_canonical.proofs.Rearranged.{glyphs_in_order, AreSpelled, HasOneSpelling}
+use Rattle.std.proofs.lemmas.Bool.{false≢true, eqb-true, eqb-false, eq-eqb, ne_eqb, and_parts, or_from, cases_eq}
+use Rattle.std.proofs.lemmas.List.{reverse-append}
+use Rattle.std.proofs.lemmas.Grind.{flat_map-append}
+
+-- a range has its last number at the end
+range_more : (a n : ℕ) → range_with_len a (suc n) ≡ range_with_len a n ++ (a + n) ∷ []
+range_more a zero = let last : a ≡ a + 0 = omega arith in ap (λ i. i ∷ []) last
+range_more a (suc n) =
+    let last : (a + 1) + n ≡ a + suc n = omega arith in
+    ap (λ xs. a ∷ xs) (range_more (a + 1) n ∙ ap (λ i. range_with_len (a + 1) n ++ i ∷ []) last)
+
+-- a glyph has one line or none
+one_line : (code : ℕ) (rows : List ℕ) → reverse (lines_of_glyph code rows) ≡ lines_of_glyph code rows
+one_line code rows = step (list_all (λ row. row == 0) rows)
+  where
+    step : (t : Bool) → (let list : List LineForm = cond t [] (GlyphLine code rows ∷ []) in reverse list ≡ list)
+    step true = refl
+    step false = refl
+
+-- The lines above, and those over which their glyphs stand.
+module _ (above base : List LineForm) where
+  -- the glyph of the code with this number
+  abbrev rows_at : ℕ → List ℕ
+  rows_at n = glyph_above above (32 + n)
+
+  -- the glyphs of so many codes with some bit set, the nearest first
+  abbrev pub glyphs_over : ℕ → List LineForm
+  glyphs_over zero = base
+  glyphs_over (suc n) = lines_of_glyph (32 + n) (rows_at n) ++ glyphs_over n
+
+  -- these are the glyphs in order
+  over_in_order : (n : ℕ) → reverse (flat_map (λ i. lines_of_glyph (32 + i) (rows_at i)) (range_with_len 0 n)) ++ base ≡ glyphs_over n
+  over_in_order zero = refl
+  over_in_order (suc n) =
+      let f : ℕ → List LineForm = λ i. lines_of_glyph (32 + i) (rows_at i) in
+      let last : 0 + n ≡ n = omega arith in
+      let more : range_with_len 0 (suc n) ≡ range_with_len 0 n ++ n ∷ [] = range_more 0 n ∙ ap (λ i. range_with_len 0 n ++ i ∷ []) last in
+      let parts : flat_map f (range_with_len 0 (suc n)) ≡ flat_map f (range_with_len 0 n) ++ f n =
+      ap (flat_map f) more ∙ (flat_map-append f (range_with_len 0 n) (n ∷ []) ∙ ap (λ l. flat_map f (range_with_len 0 n) ++ l) (append-nil (f n))) in
+      let turned : reverse (flat_map f (range_with_len 0 (suc n))) ≡ f n ++ reverse (flat_map f (range_with_len 0 n)) =
+      ap reverse parts ∙ (reverse-append (flat_map f (range_with_len 0 n)) (f n) ∙ ap (λ l. l ++ reverse (flat_map f (range_with_len 0 n))) (one_line (32 + n) (rows_at n))) in
+      ap (λ l. l ++ base) turned ∙ (append_assoc (f n) (reverse (flat_map f (range_with_len 0 n))) base ∙ ap (λ l. f n ++ l) (over_in_order n))
+
+  pub glyphs_ordered : reverse (glyphs_in_order above) ++ base ≡ glyphs_over 95
+  glyphs_ordered = over_in_order 95
+
+  -- what holds of the lines below the glyphs holds with them, where it holds with a further glyph
+  over_keeps : (P : List LineForm → Type 0) → ((code : ℕ) (rows : List ℕ) (lines : List LineForm) → P lines → P (GlyphLine code rows ∷ lines)) → P base → (n : ℕ) → P (glyphs_over n)
+  over_keeps P more h zero = h
+  over_keeps P more h (suc n) = step (list_all (λ row. row == 0) (rows_at n)) (over_keeps P more h n)
+    where
+      step : (t : Bool) → P (glyphs_over n) → P (cond t [] (GlyphLine (32 + n) (rows_at n) ∷ []) ++ glyphs_over n)
+      step true k = k
+      step false k = more (32 + n) (rows_at n) (glyphs_over n) k
+
+  -- so glyphs tell nothing but themselves
+  pub bare_over : (w h d n : ℕ) → IsBare w h d base → IsBare w h d (glyphs_over n)
+  bare_over w h d n k = over_keeps (IsBare w h d) (λ code rows lines. bare_glyph w h d lines code rows) k n
+
+  pub unmapped_over : (n : ℕ) → IsWithoutBitmaps base → IsWithoutBitmaps (glyphs_over n)
+  unmapped_over n k =
+      over_keeps IsWithoutBitmaps (λ code rows lines k. record { due = refl; width = k.width; names = k.names; made = λ behind. k.made [] }) k n
+
+  -- a later code is new
+  new_over : codes_above base ≡ [] → (n code : ℕ) → 32 + n ≤ code → list_any (λ c. c == code) (codes_above (glyphs_over n)) ≡ false
+  new_over e zero code h = ap (list_any (λ c. c == code)) e
+  new_over e (suc n) code h = step (list_all (λ row. row == 0) (rows_at n)) (new_over e n code (omega (arith, h)))
+    where
+      step : (t : Bool) → list_any (λ c. c == code) (codes_above (glyphs_over n)) ≡ false → list_any (λ c. c == code) (codes_above (cond t [] (GlyphLine (32 + n) (rows_at n) ∷ []) ++ glyphs_over n)) ≡ false
+      step true k = k
+      step false k = or_from (32 + n == code) _ (ne_eqb (32 + n) code (λ same. omega (arith, h, same))) k
+
+  -- and its glyph is that of the lines below
+  glyph_past : (n code : ℕ) → 32 + n ≤ code → glyph_above (glyphs_over n) code ≡ glyph_above base code
+  glyph_past zero code h = refl
+  glyph_past (suc n) code h = step (list_all (λ row. row == 0) (rows_at n)) (glyph_past n code (omega (arith, h)))
+    where
+      step : (t : Bool) → glyph_above (glyphs_over n) code ≡ glyph_above base code → glyph_above (cond t [] (GlyphLine (32 + n) (rows_at n) ∷ []) ++ glyphs_over n) code ≡ glyph_above base code
+      step true k = k
+      step false k =
+          let P : Bool → Type 0 = λ b. cond b (rows_at n) (glyph_above (glyphs_over n) code) ≡ glyph_above base code in
+          subst P (sym (ne_eqb (32 + n) code (λ same. omega (arith, h, same)))) k
+
+-- A glyph has no bit set, or its line stands among the good lines.
+abbrev IsGlyphRead : Setting → ℕ → List ℕ → Type 0
+IsGlyphRead s code rows = (rows ≡ replicate 8 0) ⊎ ((below : List LineForm) × AreGoodLines s (GlyphLine code rows ∷ below))
+
+glyph_read : (s : Setting) (above : List LineForm) → AreGoodLines s above → (code : ℕ) → IsGlyphRead s code (glyph_above above code)
+glyph_read s [] g code = inl refl
+glyph_read s (GlyphLine c rows ∷ above) g code = step (c == code) refl (glyph_read s above g.1 code)
+  where
+    step : (t : Bool) → (c == code) ≡ t → IsGlyphRead s code (glyph_above above code) → IsGlyphRead s code (cond t rows (glyph_above above code))
+    step true e rest = let P : ℕ → Type 0 = λ k. AreGoodLines s (GlyphLine k rows ∷ above) in inr (above, subst P (eqb-true c code e) g)
+    step false e rest = rest
+glyph_read s (f ∷ above) g code = glyph_read s above g.1 code
+
+-- rows without a bit are zeros
+zero_rows : (rows : List ℕ) → list_all (λ row. row == 0) rows ≡ true → rows ≡ replicate (length rows) 0
+zero_rows [] h = refl
+zero_rows (r ∷ rows) h =
+    let both = and_parts (r == 0) _ h in
+    let first : r ≡ 0 = eqb-true r 0 both.0 in
+    ap (λ k. k ∷ rows) first ∙ ap (λ l. 0 ∷ l) (zero_rows rows both.1)
+
+-- so a glyph without a bit is eight zeros
+unset_glyph : (s : Setting) (code : ℕ) (rows : List ℕ) → IsGlyphRead s code rows → list_all (λ row. row == 0) rows ≡ true → rows ≡ replicate 8 0
+unset_glyph s code rows (inl e) h = e
+unset_glyph s code rows (inr k) h = zero_rows rows h ∙ ap (λ n. replicate n 0) (here s k.0 (GlyphLine code rows) k.1).3
+
+-- Over lines without a glyph those of good lines give each code's glyph again, and read again.
+module _ (s : Setting) (above base : List LineForm) (g : AreGoodLines s above) where
+  pub glyph_over : ((code : ℕ) → glyph_above base code ≡ replicate 8 0) → (n i : ℕ) → i < n → glyph_above (glyphs_over above base n) (32 + i) ≡ glyph_above above (32 + i)
+  glyph_over none zero i h = absurd (omega (arith, h))
+  glyph_over none (suc n) i h = step (list_all (λ row. row == 0) (glyph_above above (32 + n))) refl (32 + n == 32 + i) refl (glyph_over none n i)
+    where
+      at_last : 32 + n ≡ 32 + i → n ≡ i
+      at_last e = omega (arith, e)
+
+      earlier : (32 + n == 32 + i) ≡ false → i < n
+      earlier e = let apart : 32 + n ≡ 32 + i → ⊥ = eqb-false (32 + n) (32 + i) e in ⊎_elim (λ same. absurd (apart (ap (λ k. 32 + k) (sym same)))) (λ differs. omega (arith, h, differs)) (cases_eq i n)
+
+      step : (t : Bool) → list_all (λ row. row == 0) (glyph_above above (32 + n)) ≡ t → (b : Bool) → (32 + n == 32 + i) ≡ b → (i < n → glyph_above (glyphs_over above base n) (32 + i) ≡ glyph_above above (32 + i)) → glyph_above (cond t [] (GlyphLine (32 + n) (glyph_above above (32 + n)) ∷ []) ++ glyphs_over above base n) (32 + i) ≡ glyph_above above (32 + i)
+      step true e true d k =
+          let same = at_last (eqb-true (32 + n) (32 + i) d) in
+          let unset : glyph_above above (32 + n) ≡ replicate 8 0 = unset_glyph s (32 + n) (glyph_above above (32 + n)) (glyph_read s above g (32 + n)) e in
+          glyph_past above base n (32 + i) (omega (arith, same)) ∙ (none (32 + i) ∙ (sym unset ∙ ap (λ k. glyph_above above (32 + k)) same))
+      step true e false d k = k (earlier d)
+      step false e b d k =
+          let P : Bool → Type 0 = λ b. cond b (glyph_above above (32 + n)) (glyph_above (glyphs_over above base n) (32 + i)) ≡ glyph_above above (32 + i) in
+          subst P (sym d) (at b d)
+        where
+          at : (b : Bool) → (32 + n == 32 + i) ≡ b → cond b (glyph_above above (32 + n)) (glyph_above (glyphs_over above base n) (32 + i)) ≡ glyph_above above (32 + i)
+          at true d = ap (λ k. glyph_above above (32 + k)) (at_last (eqb-true (32 + n) (32 + i) d))
+          at false d = k (earlier d)
+
+-- a good glyph line reads again over lines that tell of a screen alone, and of other codes
+glyph_again : HasOneSpelling → (s t : Setting) (w h d code : ℕ) (rows : List ℕ) (above lines : List LineForm) → AreGoodLines s (GlyphLine code rows ∷ above) → IsBare w h d lines → IsWithoutBitmaps lines → list_any (λ c. c == code) (codes_above lines) ≡ false → line_read t lines (spelled (GlyphLine code rows)) ≡ Ok (GlyphLine code rows)
+glyph_again one s t w h d code rows above lines g bare b new =
+    let f : LineForm = GlyphLine code rows in
+    let at = here s above (GlyphLine code rows) g in
+    let k = tests s above (GlyphLine code rows) g in
+    let none : length (bitmaps_above lines) ≡ 0 = ap length b.names in
+    let tested : IsFormTested t lines (GlyphLine code rows) =
+    record { range = k.range; named = refl; new = new; group = refl; few = few_bare w h d (f ∷ lines) (bare_glyph w h d lines code rows bare) (omega (arith, none)); hook = refl; unused = refl; padding = refl; built = refl } in
+    spelled_again one s t above lines f g.0 (verb_forms s t above lines AssetsAreDue at.0 (eq-eqb _ 0 b.due) (assets_by _ at.1) bare.section refl) (tests_pass t lines f tested)
+
+-- So do all glyphs in order.
+pub over_spelled : HasOneSpelling → (s t : Setting) (above base : List LineForm) → AreGoodLines s above → (w h d : ℕ) → IsBare w h d base → IsWithoutBitmaps base → codes_above base ≡ [] → AreSpelled t base → (n : ℕ) → AreSpelled t (glyphs_over above base n)
+over_spelled one s t above base g w h d bare b e k zero = k
+over_spelled one s t above base g w h d bare b e k (suc n) =
+    step (list_all (λ row. row == 0) (glyph_above above (32 + n))) refl (over_spelled one s t above base g w h d bare b e k n)
+  where
+    below : List LineForm
+    below = glyphs_over above base n
+
+    here_bare : IsBare w h d below
+    here_bare = bare_over above base w h d n bare
+
+    at : list_all (λ row. row == 0) (glyph_above above (32 + n)) ≡ false → IsGlyphRead s (32 + n) (glyph_above above (32 + n)) → line_read t below (spelled (GlyphLine (32 + n) (glyph_above above (32 + n)))) ≡ Ok (GlyphLine (32 + n) (glyph_above above (32 + n)))
+    at set (inl z) = absurd (false≢true (sym set ∙ ap (list_all (λ row. row == 0)) z))
+    at set (inr found) =
+        glyph_again one s t w h d (32 + n) (glyph_above above (32 + n)) found.0 below found.1 here_bare (unmapped_over above base n b) (new_over above base e n (32 + n) (omega arith))
+
+    step : (t' : Bool) → list_all (λ row. row == 0) (glyph_above above (32 + n)) ≡ t' → AreSpelled t below → AreSpelled t (cond t' [] (GlyphLine (32 + n) (glyph_above above (32 + n)) ∷ []) ++ below)
+    step true set rest = rest
+    step false set rest =
+        (at set (glyph_read s above g (32 + n)), isnt_passed below (spelled (GlyphLine (32 + n) (glyph_above above (32 + n)))) refl (due_bare w h d below here_bare), rest)

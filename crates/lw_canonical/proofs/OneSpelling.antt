@@ -1,0 +1,275 @@
+-- Each good line has one spelling, in which it isn't skipped and has no line feed; and lines so spelled are those of their text.
+use Rattle.std.proofs.Common.{◌≡◌, ℕ, ◌*◌, ◌==◌, Bool, true, false, not, cond, ◌&&◌, nat_le, List, [], ◌∷◌, ◌++◌, length, map, codes, Option, Some, None, Result, Ok, Err, ok_or, option_map, IfSome, refl, sym, ap, subst, ◌∙◌, append_assoc}
+use Rattle.std.specs.List.{list_all, flat_map, onto_first}
+use Rattle.std.specs.Result.{IfOk}
+use Rattle.lw_planes.specs.Bitmap.{row_bytes}
+use Rattle.lw_calls.specs.declared.operation.RectOp.TheVariants.{Or as OrR, And as AndR, Xor as XorR, Clear as ClearR}
+use Rattle.lw_calls.specs.declared.operation.PairOp.TheVariants.{Or as OrP, And as AndP, Xor as XorP}
+use Rattle.lw_calls.specs.declared.reason.Reason.{Reason}
+use Rattle.lw_calls.specs.declared.reason.Reason.TheVariants.{LineTooLong, BadByte, UnknownWord, Misplaced, OneTaskOnly, Form as FormReason, Range}
+use Rattle.lw_grammar.specs.declared.verb.Verb.{Verb}
+use Rattle.lw_grammar.specs.declared.verb.Verb.TheVariants.{Screen as ScreenVerb, Glyph as GlyphVerb, Bitmap as BitmapVerb, Task as TaskVerb, End as EndVerb, Order as OrderVerb, Report as ReportVerb, Lock as LockVerb, Unlock as UnlockVerb, Hold as HoldVerb, Release as ReleaseVerb, OrRect as OrRectVerb, AndRect as AndRectVerb, XorRect as XorRectVerb, ClearRect as ClearRectVerb, OrRegion as OrRegionVerb, AndRegion as AndRegionVerb, XorRegion as XorRegionVerb, ClearRegion as ClearRegionVerb, Create as CreateVerb, Open as OpenVerb, Close as CloseVerb, Front as FrontVerb, Behind as BehindVerb, InFront as InFrontVerb, Move as MoveVerb, Size as SizeVerb, Box as BoxVerb, Activate as ActivateVerb, Which as WhichVerb, APen as APenVerb, BPen as BPenVerb, Mode as ModeVerb, Mask as MaskVerb, At as AtVerb, Write as WriteVerb, Read as ReadVerb, Fill as FillVerb, Draw as DrawVerb, Text as TextVerb, SetRast as SetRastVerb, ScrollRaster as ScrollRasterVerb, Put as PutVerb, Blit as BlitVerb, Clip as ClipVerb, Unclip as UnclipVerb, Refresh as RefreshVerb, EndRefresh as EndRefreshVerb, Scroll as ScrollVerb, Title as TitleVerb, GetMsg as GetMsgVerb}
+use Rattle.lw_grammar.specs.Demands.{◌>>=◌, demand}
+use Rattle.lw_grammar.specs.Lines.{lines}
+use Rattle.lw_grammar.specs.Tokens.{on_found, tokens_at, tokens, Token, OddToken, token_of, hex_bytes, spelled_bytes}
+use Rattle.lw_grammar.specs.Verbs.{part_verb, group_verb, region_verb, arrangement_verb, state_verb, drawing_verb, clip_verb, verb_of}
+use Rattle.lw_grammar.specs.LineForms.{CloseAct, FrontAct, BehindAct, MoveAct, SizeAct, BoxAct, ActivateAct, APenAct, BPenAct, ModeAct, MaskAct, AtAct, WriteAct, ReadAct, FillAct, DrawAct, TextAct, SetRastAct, ClipAct, UnclipAct, RefreshAct, ScrollAct, TitleAct, GetMsgAct, LineForm, RowLine, TaskLine, EndLine, OrderLine, ReportLine, LockLine, UnlockLine, HoldLine, ReleaseLine, four, row_line, numbers_limit, numbers_line, form_by, is_line_in_range}
+use Rattle.lw_grammar.specs.LinesAbove.{section_of, rows_due, row_width}
+use Rattle.lw_grammar.specs.Script.{Setting, line_limit, is_skipped, is_printable, are_tasks_due, are_numbers_due, is_plain, stands_in, is_task_verb}
+use Rattle.lw_grammar.specs.ScriptReading.{words_read, verb_read, form_read, form_tested, line_read, IsGoodLine}
+use Rattle.lw_calls.specs.Written.{line_of}
+use Rattle.lw_canonical.specs.Spelling.{joined, words_of, spelled}
+use Rattle.lw_canonical.proofs.Rearranged.{HasOneSpelling}
+use Rattle.lw_grammar.proofs.ScriptForms.{either_has, found_has}
+use Rattle.lw_canonical.proofs.SpelledVerbs.{verb_word, IsWordOf, verb_spelled}
+use Rattle.lw_canonical.proofs.SpelledWords.{AreWords, AreWordsOf, words_joined, token_word, tokens_back, tokens_good}
+use Rattle.lw_canonical.proofs.SpelledRanges.{register_small, pen_small, rect_small, box_small, also}
+use Rattle.lw_canonical.proofs.SpelledForms.{IsSpelt, HasWords, screen_spelt, glyph_spelt, bitmap_spelt, row_spelt, numbers_spelt, name_spelt, bare_spelt, layer_spelt, number_spelt, pair_spelt, text_spelt, four_spelt, rect_spelt, region_spelt, clear_spelt, which_spelt, infront_spelt, scrollraster_spelt, endrefresh_spelt, put_spelt, blit_spelt}
+use Rattle.lw_canonical.proofs.SpelledLayers.{create_spelt, open_spelt}
+use Rattle.std.proofs.lemmas.Result.{IfOk-at_ok}
+use Rattle.std.proofs.lemmas.Bool.{false≢true, eqb-true, and_parts, and_from}
+
+-- the form of each verb
+form_spelt : (verb : Verb) (ts : List Token) → IfSome (form_by verb ts) (IsSpelt (verb_word verb) ts)
+form_spelt ScreenVerb ts = screen_spelt ts
+form_spelt GlyphVerb ts = glyph_spelt ts
+form_spelt BitmapVerb ts = bitmap_spelt ts
+form_spelt TaskVerb ts = name_spelt (codes "task") (λ n. TaskLine n) (λ n. refl) ts
+form_spelt EndVerb ts = bare_spelt (codes "end") EndLine refl ts
+form_spelt OrderVerb ts = bare_spelt (codes "order") OrderLine refl ts
+form_spelt ReportVerb ts = bare_spelt (codes "report") ReportLine refl ts
+form_spelt LockVerb ts = name_spelt (codes "lock") (λ n. LockLine n) (λ n. refl) ts
+form_spelt UnlockVerb ts = name_spelt (codes "unlock") (λ n. UnlockLine n) (λ n. refl) ts
+form_spelt HoldVerb ts = bare_spelt (codes "hold") HoldLine refl ts
+form_spelt ReleaseVerb ts = bare_spelt (codes "release") ReleaseLine refl ts
+form_spelt OrRectVerb ts = rect_spelt OrR ts
+form_spelt AndRectVerb ts = rect_spelt AndR ts
+form_spelt XorRectVerb ts = rect_spelt XorR ts
+form_spelt ClearRectVerb ts = rect_spelt ClearR ts
+form_spelt OrRegionVerb ts = region_spelt OrP ts
+form_spelt AndRegionVerb ts = region_spelt AndP ts
+form_spelt XorRegionVerb ts = region_spelt XorP ts
+form_spelt ClearRegionVerb ts = clear_spelt ts
+form_spelt CreateVerb ts = create_spelt ts
+form_spelt OpenVerb ts = open_spelt ts
+form_spelt CloseVerb ts = layer_spelt (codes "close") CloseAct (λ l. refl) ts
+form_spelt FrontVerb ts = layer_spelt (codes "front") FrontAct (λ l. refl) ts
+form_spelt BehindVerb ts = layer_spelt (codes "behind") BehindAct (λ l. refl) ts
+form_spelt InFrontVerb ts = infront_spelt ts
+form_spelt MoveVerb ts = pair_spelt (codes "move") (λ x y. MoveAct x y) (λ l x y. refl) (λ x y h. h) ts
+form_spelt SizeVerb ts = pair_spelt (codes "size") (λ x y. SizeAct x y) (λ l x y. refl) (λ x y h. h) ts
+form_spelt BoxVerb ts = four_spelt (codes "box") (λ x y w h. BoxAct x y w h) (λ l x y w h. refl) (λ x y w h r. box_small (four x y w h) r) ts
+form_spelt ActivateVerb ts = layer_spelt (codes "activate") ActivateAct (λ l. refl) ts
+form_spelt WhichVerb ts = which_spelt ts
+form_spelt APenVerb ts = number_spelt (codes "apen") (λ p. APenAct p) (λ l z. refl) pen_small ts
+form_spelt BPenVerb ts = number_spelt (codes "bpen") (λ p. BPenAct p) (λ l z. refl) pen_small ts
+form_spelt ModeVerb ts = number_spelt (codes "mode") (λ k. ModeAct k) (λ l z. refl) register_small ts
+form_spelt MaskVerb ts = number_spelt (codes "mask") (λ p. MaskAct p) (λ l z. refl) pen_small ts
+form_spelt AtVerb ts = pair_spelt (codes "at") (λ x y. AtAct x y) (λ l x y. refl) (λ x y h. h) ts
+form_spelt WriteVerb ts = pair_spelt (codes "write") (λ x y. WriteAct x y) (λ l x y. refl) (λ x y h. h) ts
+form_spelt ReadVerb ts = pair_spelt (codes "read") (λ x y. ReadAct x y) (λ l x y. refl) (λ x y h. h) ts
+form_spelt FillVerb ts = four_spelt (codes "fill") (λ a b c d. FillAct (four a b c d)) (λ l x y w h. refl) (λ x y w h r. rect_small (four x y w h) r) ts
+form_spelt DrawVerb ts = pair_spelt (codes "draw") (λ x y. DrawAct x y) (λ l x y. refl) (λ x y h. h) ts
+form_spelt TextVerb ts = text_spelt (codes "text") (λ t. TextAct t) (λ l t. refl) ts
+form_spelt SetRastVerb ts = number_spelt (codes "setrast") (λ p. SetRastAct p) (λ l z. refl) pen_small ts
+form_spelt ScrollRasterVerb ts = scrollraster_spelt ts
+form_spelt PutVerb ts = put_spelt ts
+form_spelt BlitVerb ts = blit_spelt ts
+form_spelt ClipVerb ts = number_spelt (codes "clip") (λ r. ClipAct r) (λ l z. refl) register_small ts
+form_spelt UnclipVerb ts = layer_spelt (codes "unclip") UnclipAct (λ l. refl) ts
+form_spelt RefreshVerb ts = layer_spelt (codes "refresh") RefreshAct (λ l. refl) ts
+form_spelt EndRefreshVerb ts = endrefresh_spelt ts
+form_spelt ScrollVerb ts = pair_spelt (codes "scroll") (λ x y. ScrollAct x y) (λ l x y. refl) (λ x y h. h) ts
+form_spelt TitleVerb ts = text_spelt (codes "title") (λ t. TitleAct t) (λ l t. refl) ts
+form_spelt GetMsgVerb ts = layer_spelt (codes "getmsg") GetMsgAct (λ l. refl) ts
+
+-- The form's words are these, where it is in range and the words are good ones.
+abbrev IsOfWords : List (List ℕ) → LineForm → Type 0
+IsOfWords ws f = AreWords ws → is_line_in_range f ≡ true → words_of f ≡ ws
+
+-- a form without a verb, by what its words are
+by_tokens : (ws : List (List ℕ)) (f : LineForm) → HasWords (map token_word (map token_of ws)) (map token_of ws) f → IsOfWords ws f
+by_tokens ws f h good r = h (tokens_good ws) r ∙ tokens_back ws good
+
+-- the same of a form that is found, or not
+found_words : (ws : List (List ℕ)) (o : Option LineForm) → IfSome o (HasWords (map token_word (map token_of ws)) (map token_of ws)) → IfOk (ok_or o FormReason) (IsOfWords ws)
+found_words ws None h = tt
+found_words ws (Some f) h = by_tokens ws f h
+
+-- a form with a verb
+by_verb : (w : List ℕ) (v : Verb) (ws : List (List ℕ)) → IsWordOf w v → (o : Option LineForm) → IfSome o (IsSpelt (verb_word v) (map token_of ws)) → IfOk (ok_or o FormReason) (IsOfWords (w ∷ ws))
+by_verb w v ws e None h = tt
+by_verb w v ws e (Some f) h = λ good r. h (tokens_good ws) r ∙ also (sym e) (tokens_back ws good.1)
+
+-- a line that begins with a verb
+verb_words : (s : Setting) (above : List LineForm) (ws : List (List ℕ)) → IfOk (verb_read s above ws) (IsOfWords ws)
+verb_words s above [] = tt
+verb_words s above (w ∷ ws) = at_verb (verb_of w) (verb_spelled w)
+  where
+    at_tests : (v : Verb) → IsWordOf w v → (b c : Bool) → IfOk (demand b Misplaced >>= (λ _. demand c OneTaskOnly >>= (λ _. ok_or (form_by v (map token_of ws)) FormReason))) (IsOfWords (w ∷ ws))
+    at_tests v e false c = tt
+    at_tests v e true false = tt
+    at_tests v e true true = by_verb w v ws e (form_by v (map token_of ws)) (form_spelt v (map token_of ws))
+
+    at_verb : (o : Option Verb) → IfSome o (IsWordOf w) → IfOk (ok_or o UnknownWord >>= (λ v. demand (stands_in s.form (section_of above) v) Misplaced >>= (λ _. demand (not ((is_plain s.form && are_tasks_due (section_of above)) && is_task_verb v)) OneTaskOnly >>= (λ _. ok_or (form_by v (map token_of ws)) FormReason)))) (IsOfWords (w ∷ ws))
+    at_verb None e = tt
+    at_verb (Some v) e = at_tests v e (stands_in s.form (section_of above) v) (not ((is_plain s.form && are_tasks_due (section_of above)) && is_task_verb v))
+
+-- of two results, each has what it is to have
+either_ok : {A : Type 0} (P : A → Type 0) (b : Bool) (x y : Result A Reason) → IfOk x P → IfOk y P → IfOk (cond b x y) P
+either_ok P true x y h k = h
+either_ok P false x y h k = k
+
+-- the form that is read has the line's words
+form_words : (s : Setting) (above : List LineForm) (ws : List (List ℕ)) → IfOk (form_read s above ws) (IsOfWords ws)
+form_words s above ws =
+    either_ok (IsOfWords ws) (not (rows_due above == 0)) _ _ (found_words ws (row_line (row_width above) (map token_of ws)) (row_spelt (row_width above) (map token_of ws))) (either_ok (IsOfWords ws) (are_numbers_due (section_of above)) _ _ (found_words ws (numbers_line (map token_of ws)) (numbers_spelt (map token_of ws))) (verb_words s above ws))
+
+-- what was handed on, and what it gave
+handed_on : {A B : Type 0} (r : Result A Reason) (f : A → Result B Reason) (b : B) → (r >>= f) ≡ Ok b → (a : A) × (r ≡ Ok a) × (f a ≡ Ok b)
+handed_on (Ok a) f b e = (a, refl, e)
+handed_on (Err q) f b e = absurd (cc)
+
+-- a test that was passed holds
+demanded : {B : Type 0} (t : Bool) (q : Reason) (f : Unit {0} → Result B Reason) (b : B) → (demand t q >>= f) ≡ Ok b → (t ≡ true) × (f tt ≡ Ok b)
+demanded true q f b e = (refl, e)
+demanded false q f b e = absurd (cc)
+
+-- What a line that was read went through.
+pub record IsReading (s : Setting) (above : List LineForm) (line : List ℕ) (f : LineForm) : Type 0 where
+  pub printable : list_all is_printable line ≡ true
+  pub ws : List (List ℕ)
+  pub split : tokens line ≡ Ok ws
+  pub form : form_read s above ws ≡ Ok f
+  pub range : is_line_in_range f ≡ true
+
+-- the form that was tested is the one that was told
+told_form : (s : Setting) (above : List LineForm) (g f : LineForm) (h : (form_tested s above g >>= (λ _. Ok g)) ≡ Ok f) → (g ≡ f) × (is_line_in_range f ≡ true)
+told_form s above g f h =
+    let t = handed_on (form_tested s above g) (λ _. Ok g) f h in
+    let same : g ≡ f = cc in
+    let tested = demanded (is_line_in_range g) Range _ _ t.1 in
+    (same, subst (λ k. is_line_in_range k ≡ true) same tested.0)
+
+pub reading : (s : Setting) (above : List LineForm) (line : List ℕ) (f : LineForm) → line_read s above line ≡ Ok f → IsReading s above line f
+reading s above line f e =
+    let words = handed_on (words_read line) _ f e in
+    let short = demanded (nat_le (length line) line_limit) LineTooLong _ _ words.1 in
+    let clean = demanded (list_all is_printable line) BadByte _ _ short.1 in
+    let form = handed_on (form_read s above words.0) _ f words.2 in
+    let told = told_form s above form.0 f form.2 in
+    record { printable = clean.0; ws = words.0; split = clean.1; form = form.1 ∙ ap (λ g. Ok g) told.0; range = told.1 }
+
+-- words that are those of a line give it back
+joined_line : (line : List ℕ) (ws : List (List ℕ)) → AreWordsOf line ws → (joined ws ≡ line) × AreWords ws
+joined_line line [] h = absurd h
+joined_line line (w ∷ ws) h = h
+
+-- Each good line has one spelling.
+pub one_spelling : HasOneSpelling
+one_spelling s above line f e =
+    let r = reading s above line f e in
+    let words = joined_line line r.ws (IfOk-at_ok (AreWordsOf line) r.split (words_joined line)) in
+    ap joined (IfOk-at_ok (IsOfWords r.ws) r.form (form_words s above r.ws) words.1 r.range) ∙ words.0
+
+-- words of which the first begins with #
+abbrev IsRemark : List (List ℕ) → Type 0
+IsRemark ws = (w : List ℕ) × (rest : List (List ℕ)) × (ws ≡ (35 ∷ w) ∷ rest)
+
+-- such are the words of a line that begins so
+remark_words : (r : Result (List (List ℕ)) Reason) → IfOk (on_found (onto_first 35) r) IsRemark
+remark_words (Ok []) = ([], [], refl)
+remark_words (Ok (w ∷ ws)) = (w, ws, refl)
+remark_words (Err q) = tt
+
+-- no bytes are spelled so
+no_digits : (w : List ℕ) → IfSome (hex_bytes (35 ∷ w)) (λ _. ⊥)
+no_digits [] = tt
+no_digits (b ∷ w) = tt
+
+no_row : (width : ℕ) (w : List ℕ) (ts : List Token) → IfSome (row_line width (OddToken (35 ∷ w) ∷ ts)) (λ _. ⊥)
+no_row width w [] = go (spelled_bytes (row_bytes width) (35 ∷ w)) (either_has (λ _. ⊥) (length (35 ∷ w) == 2 * row_bytes width) (hex_bytes (35 ∷ w)) None (no_digits w) tt)
+  where
+    go : (o : Option (List ℕ)) → IfSome o (λ _. ⊥) → IfSome (option_map (λ bytes. RowLine bytes) o) (λ _. ⊥)
+    go None h = tt
+    go (Some bytes) h = h
+no_row width w (t ∷ ts) = tt
+
+-- and no verb
+no_verb : (w : List ℕ) → verb_of (35 ∷ w) ≡ None
+unfolding verb_of part_verb group_verb region_verb arrangement_verb state_verb drawing_verb clip_verb
+no_verb w = refl
+
+-- so no form is read of such words
+no_form : (s : Setting) (above : List LineForm) (w : List ℕ) (ws : List (List ℕ)) → IfOk (form_read s above ((35 ∷ w) ∷ ws)) (λ _. ⊥)
+no_form s above w ws =
+    either_ok (λ _. ⊥) (not (rows_due above == 0)) _ _ (found_has (λ _. ⊥) (row_line (row_width above) (map token_of ((35 ∷ w) ∷ ws))) FormReason (no_row (row_width above) w (map token_of ws))) (either_ok (λ _. ⊥) (are_numbers_due (section_of above)) _ _ (found_has (λ _. ⊥) (numbers_line (map token_of ((35 ∷ w) ∷ ws))) FormReason (either_has (λ _. ⊥) (nat_le (length (map token_of ((35 ∷ w) ∷ ws))) numbers_limit) None None tt tt)) (at_verb (verb_of (35 ∷ w)) (no_verb w)))
+  where
+    at_verb : (o : Option Verb) → o ≡ None → IfOk (ok_or o UnknownWord >>= (λ v. demand (stands_in s.form (section_of above) v) Misplaced >>= (λ _. demand (not ((is_plain s.form && are_tasks_due (section_of above)) && is_task_verb v)) OneTaskOnly >>= (λ _. ok_or (form_by v (map token_of ws)) FormReason)))) (λ _. ⊥)
+    at_verb None e = tt
+    at_verb (Some v) e = absurd (cc)
+
+-- A good line isn't skipped.
+pub not_skipped : (s : Setting) (above : List LineForm) (line : List ℕ) (f : LineForm) → line_read s above line ≡ Ok f → is_skipped line ≡ false
+not_skipped s above [] f e = let r = reading s above [] f e in absurd (IfOk-at_ok (λ _. ⊥) r.split tt)
+not_skipped s above (b ∷ bs) f e = go (b == 35) refl
+  where
+    go : (t : Bool) → (b == 35) ≡ t → t ≡ false
+    go false h = refl
+    go true h =
+        let r = reading s above (b ∷ bs) f e in
+        let split : tokens (35 ∷ bs) ≡ Ok r.ws = subst (λ c. tokens (c ∷ bs) ≡ Ok r.ws) (eqb-true b 35 h) r.split in
+        let remark = IfOk-at_ok IsRemark split (remark_words (tokens_at false bs)) in
+        let form : form_read s above ((35 ∷ remark.0) ∷ remark.1) ≡ Ok f = subst (λ ws. form_read s above ws ≡ Ok f) remark.2 r.form in
+        absurd (IfOk-at_ok (λ _. ⊥) form (no_form s above remark.0 remark.1))
+
+-- no byte is a line feed
+abbrev pub HasNoFeed : List ℕ → Type 0
+HasNoFeed line = list_all (λ b. not (b == 10)) line ≡ true
+
+-- a printable byte is none
+printable_byte : (b : ℕ) → is_printable b ≡ true → not (b == 10) ≡ true
+printable_byte b h = go (b == 10) refl
+  where
+    go : (t : Bool) → (b == 10) ≡ t → not t ≡ true
+    go false e = refl
+    go true e = absurd (false≢true (ap is_printable (sym (eqb-true b 10 e)) ∙ h))
+
+printable_line : (line : List ℕ) → list_all is_printable line ≡ true → HasNoFeed line
+printable_line [] h = refl
+printable_line (b ∷ bs) h =
+    let k = and_parts (is_printable b) (list_all is_printable bs) h in
+    and_from (not (b == 10)) _ (printable_byte b k.0) (printable_line bs k.1)
+
+-- A good line has no line feed.
+pub no_feed : (s : Setting) (above : List LineForm) (line : List ℕ) (f : LineForm) → line_read s above line ≡ Ok f → list_all (λ b. not (b == 10)) line ≡ true
+no_feed s above line f e = let r = reading s above line f e in printable_line line r.printable
+
+-- So the one spelling of a good line's form reads as that form where the line did, isn't skipped, and has no line feed.
+pub good_spelling : (s : Setting) (above : List LineForm) (f : LineForm) → IsGoodLine s above f → (line_read s above (spelled f) ≡ Ok f) × (is_skipped (spelled f) ≡ false) × HasNoFeed (spelled f)
+good_spelling s above f g =
+    let read : line_read s above (spelled f) ≡ Ok f = subst (λ line. line_read s above line ≡ Ok f) (sym (one_spelling s above g.line f g.read)) g.read in
+    (read, not_skipped s above (spelled f) f read, no_feed s above (spelled f) f read)
+
+-- a line with its feed is the first of a text that begins with it
+first_line : (line rest : List ℕ) → HasNoFeed line → lines (line ++ 10 ∷ rest) ≡ line ∷ lines rest
+first_line [] rest h = refl
+first_line (b ∷ bs) rest h =
+    let k = and_parts (not (b == 10)) _ h in
+    go (b == 10) k.0 (first_line bs rest k.1)
+  where
+    go : (t : Bool) → not t ≡ true → lines (bs ++ 10 ∷ rest) ≡ bs ∷ lines rest → cond t ([] ∷ lines (bs ++ 10 ∷ rest)) (onto_first b (lines (bs ++ 10 ∷ rest))) ≡ (b ∷ bs) ∷ lines rest
+    go true n ih = absurd (false≢true n)
+    go false n ih = ap (onto_first b) ih
+
+-- none of these forms is spelled with a line feed
+abbrev pub HaveNoFeed : List LineForm → Type 0
+HaveNoFeed [] = Unit {0}
+HaveNoFeed (f ∷ fs) = HasNoFeed (spelled f) × HaveNoFeed fs
+
+-- The lines of a text of spelled forms are their spellings.
+pub lines_of_text : (fs : List LineForm) → HaveNoFeed fs → lines (flat_map (λ f. line_of (spelled f)) fs) ≡ map spelled fs
+lines_of_text [] h = refl
+lines_of_text (f ∷ fs) h =
+    ap lines (append_assoc (spelled f) (10 ∷ []) (flat_map (λ g. line_of (spelled g)) fs))
+    ∙ (first_line (spelled f) (flat_map (λ g. line_of (spelled g)) fs) h.0 ∙ ap (λ ls. spelled f ∷ ls) (lines_of_text fs h.1))

@@ -1,0 +1,78 @@
+-- Numbers in the ranges of a script's lines lie below the cap, so they are written as they were read.
+use Rattle.std.proofs.Common.{◌≡◌, ◌<◌, true, ◌&&◌, List, ◌∷◌, ℤ, pos, negsuc, unsigned_abs, Some, arith}
+use Rattle.lw_region.specs.Rectangle.{Rectangle, within}
+use Rattle.lw_calls.specs.Limits.{is_coordinate, axis_fits, rect_fits, coordinates_fit, is_extent}
+use Rattle.lw_grammar.specs.Tokens.{cap}
+use Rattle.lw_grammar.specs.LineForms.{is_hook_number, is_box}
+use Rattle.lw_canonical.proofs.SpelledNumbers.{small_in}
+use Rattle.std.proofs.lemmas.Bool.{and_parts}
+
+-- the number lies below the cap on its side of 0
+abbrev pub IsSmall : ℤ → Type 0
+IsSmall z = unsigned_abs z < cap
+
+-- a coordinate, two of them, and a size
+pub coordinate_small : (z : ℤ) → is_coordinate z ≡ true → IsSmall z
+coordinate_small z h = small_in (negsuc 32767) z (pos 32767) h (omega arith) (omega arith)
+
+pub places_small : (x y : ℤ) → coordinates_fit x y ≡ true → IsSmall x × IsSmall y
+places_small x y h =
+    let k = and_parts (is_coordinate x) (is_coordinate y) h in
+    (coordinate_small x k.0, coordinate_small y k.1)
+
+pub size_small : (z : ℤ) → is_extent z ≡ true → IsSmall z
+size_small z h = small_in (pos 1) z (pos 32767) h (omega arith) (omega arith)
+
+-- a register or a mode, a pen or a mask, and a task's number
+pub register_small : (z : ℤ) → within (pos 0) z (pos 7) ≡ true → IsSmall z
+register_small z h = small_in (pos 0) z (pos 7) h (omega arith) (omega arith)
+
+pub pen_small : (z : ℤ) → within (pos 0) z (pos 255) ≡ true → IsSmall z
+pen_small z h = small_in (pos 0) z (pos 255) h (omega arith) (omega arith)
+
+pub task_small : (z : ℤ) → within (pos 0) z (pos 15) ≡ true → IsSmall z
+task_small z h = small_in (pos 0) z (pos 15) h (omega arith) (omega arith)
+
+-- the sizes of a screen or a bitmap, and of a bitmap of a layer's own
+pub side_small : (z : ℤ) → within (pos 1) z (pos 1024) ≡ true → IsSmall z
+side_small z h = small_in (pos 1) z (pos 1024) h (omega arith) (omega arith)
+
+pub depth_small : (z : ℤ) → within (pos 1) z (pos 8) ≡ true → IsSmall z
+depth_small z h = small_in (pos 1) z (pos 8) h (omega arith) (omega arith)
+
+pub own_small : (z : ℤ) → within (pos 1) z (pos 2048) ≡ true → IsSmall z
+own_small z h = small_in (pos 1) z (pos 2048) h (omega arith) (omega arith)
+
+-- a hook's number
+pub hook_small : (z : ℤ) → is_hook_number (Some z) ≡ true → IsSmall z
+hook_small z h = small_in (pos 0) z (pos 4294967295) h (omega arith) (omega arith)
+
+-- each number of four
+abbrev pub AreSmall : Rectangle → Type 0
+AreSmall r = IsSmall r.min_x × (IsSmall r.min_y × (IsSmall r.max_x × IsSmall r.max_y))
+
+-- the bounds along one axis
+axis_small : (low high : ℤ) → axis_fits low high ≡ true → IsSmall low × IsSmall high
+unfolding axis_fits
+axis_small low high h =
+    let k = and_parts (is_coordinate low && is_coordinate high) _ h in
+    places_small low high k.0
+
+-- a rectangle, and a box
+pub rect_small : (r : Rectangle) → rect_fits r ≡ true → AreSmall r
+rect_small r h =
+    let k = and_parts (axis_fits r.min_x r.max_x) (axis_fits r.min_y r.max_y) h in
+    let x = axis_small r.min_x r.max_x k.0 in
+    let y = axis_small r.min_y r.max_y k.1 in
+    (x.0, (y.0, (x.1, y.1)))
+
+pub box_small : (r : Rectangle) → is_box r ≡ true → AreSmall r
+box_small r h =
+    let k = and_parts (coordinates_fit r.min_x r.min_y) (is_extent r.max_x && is_extent r.max_y) h in
+    let place = places_small r.min_x r.min_y k.0 in
+    let size = and_parts (is_extent r.max_x) (is_extent r.max_y) k.1 in
+    (place.0, (place.1, (size_small r.max_x size.0, size_small r.max_y size.1)))
+
+-- a list with an equal head and an equal tail is equal
+pub also : {A : Type 0} {x y : A} {xs ys : List A} → x ≡ y → xs ≡ ys → x ∷ xs ≡ y ∷ ys
+also e f = λ i. e i ∷ f i

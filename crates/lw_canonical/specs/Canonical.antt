@@ -1,0 +1,155 @@
+-- The canonical text of a plan (this project's own format): a script without skipped lines that spells the plan. Behind the
+-- screen come the glyphs with some bit set in the order of their codes, the bitmaps with their rows, and the tasks.
+use Rattle.std.specs.Prelude.{ℕ, ◌+◌, ◌==◌, Bool, true, false, if◌then◌else◌, ◌≡◌, List, [], ◌∷◌, ◌++◌, map, drop, length, ℤ, pos, ◌+ℤ◌, ◌-ℤ◌, option_map, slice_index_or}
+use Rattle.std.specs.List.{list_all, flat_map, range_with_len}
+use Rattle.lw_planes.specs.Bitmap.{Bitmap, plane_row}
+use Rattle.lw_calls.specs.declared.make.Make.{Make}
+use Rattle.lw_calls.specs.declared.area.Area.{Area}
+use Rattle.lw_calls.specs.declared.call.Call.{Call}
+use Rattle.lw_calls.specs.declared.call.Call.TheVariants.{RegRect, RegPair, RegClear, Create, OpenWindow, Close, ToFront, ToBack, InFrontOf, MoveBy, SizeBy, SetBox, Activate, Which, SetA, SetB, SetMode, SetMask, At, WritePixel, ReadPixel, Fill, DrawTo, Letters, SetRast, ScrollRaster, Put, Blit, Clip, Unclip, BeginRefresh, EndRefresh, Scroll, SetTitle, TakeMessage}
+use Rattle.lw_calls.specs.declared.group.Hold.{Hold}
+use Rattle.lw_calls.specs.declared.group.Hold.TheVariants.{Slot, All}
+use Rattle.lw_calls.specs.declared.group.Group.{Group}
+use Rattle.lw_calls.specs.declared.form.Form.TheVariants.{Plain}
+use Rattle.lw_calls.specs.Plan.{Plan, task_calls, task_groups, begins_update}
+use Rattle.lw_calls.specs.Written.{line_of}
+use Rattle.lw_grammar.specs.LineForms.{Asked, Blitting, Act, RegRectAct, RegPairAct, RegClearAct, CreateAct, OpenAct, CloseAct, FrontAct, BehindAct, InFrontAct, MoveAct, SizeAct, BoxAct, ActivateAct, WhichAct, APenAct, BPenAct, ModeAct, MaskAct, AtAct, WriteAct, ReadAct, FillAct, DrawAct, TextAct, SetRastAct, ScrollRasterAct, PutAct, BlitAct, ClipAct, UnclipAct, RefreshAct, EndRefreshAct, ScrollAct, TitleAct, GetMsgAct, LineForm, ScreenLine, GlyphLine, BitmapLine, RowLine, TaskLine, EndLine, CallLine, LockLine, UnlockLine, HoldLine, ReleaseLine, four}
+use Rattle.lw_grammar.specs.Script.{Setting, ScriptInput, SpellsInput}
+use Rattle.lw_canonical.specs.Spelling.{spelled}
+
+-- the elements with their numbers from n on
+abbrev pub enumerated : {A : Type 0} → ℕ → List A → List (ℕ × A)
+enumerated n [] = []
+enumerated n (a ∷ as') = (n, a) ∷ enumerated (n + 1) as'
+
+-- what a line asks for of which a call with this layer was made: a creation by its bounds, an opening by its place and size
+abbrev pub asked_of : Make → ℤ → ℤ → Asked
+asked_of m a b =
+    record {
+      kind = m.kind;
+      place = m.place;
+      box = four m.x m.y a b;
+      backdrop = m.backdrop;
+      hook = option_map pos m.hook;
+      bits_w = pos m.bits_w;
+      bits_h = pos m.bits_h;
+    }
+
+abbrev pub created_asked : Make → Asked
+created_asked m = asked_of m ((m.x +ℤ m.w) -ℤ pos 1) ((m.y +ℤ m.h) -ℤ pos 1)
+
+abbrev pub opened_asked : Make → Asked
+opened_asked m = asked_of m m.w m.h
+
+-- a blit's numbers
+abbrev pub blitting_of : Area → Blitting
+blitting_of a = record { sx = a.sx; sy = a.sy; x = a.x; y = a.y; w = a.w; h = a.h; minterm = a.minterm }
+
+-- the line of a call on one layer, of this name
+abbrev pub on_layer : List (List ℕ) → ℕ → Act → LineForm
+on_layer names slot act = CallLine (slice_index_or names slot [] ∷ []) act
+
+-- The line of a call, where the layers have these names by slot, and the bitmaps these by number.
+abbrev pub line_of_call : List (List ℕ) → List (List ℕ) → Call → LineForm
+line_of_call names bitmaps (RegRect op r rect) = CallLine [] (RegRectAct op (pos r) rect)
+line_of_call names bitmaps (RegPair op s r) = CallLine [] (RegPairAct op (pos s) (pos r))
+line_of_call names bitmaps (RegClear r) = CallLine [] (RegClearAct (pos r))
+line_of_call names bitmaps (Create s m) = on_layer names s (CreateAct (created_asked m))
+line_of_call names bitmaps (OpenWindow s m framed nocare classes title) = on_layer names s (OpenAct (opened_asked m) framed nocare classes title)
+line_of_call names bitmaps (Close s) = on_layer names s CloseAct
+line_of_call names bitmaps (ToFront s) = on_layer names s FrontAct
+line_of_call names bitmaps (ToBack s) = on_layer names s BehindAct
+line_of_call names bitmaps (InFrontOf s t) = CallLine (slice_index_or names s [] ∷ slice_index_or names t [] ∷ []) InFrontAct
+line_of_call names bitmaps (MoveBy s dx dy) = on_layer names s (MoveAct dx dy)
+line_of_call names bitmaps (SizeBy s dw dh) = on_layer names s (SizeAct dw dh)
+line_of_call names bitmaps (SetBox s x y w h) = on_layer names s (BoxAct x y w h)
+line_of_call names bitmaps (Activate s) = on_layer names s ActivateAct
+line_of_call names bitmaps (Which x y) = CallLine [] (WhichAct x y)
+line_of_call names bitmaps (SetA s p) = on_layer names s (APenAct (pos p))
+line_of_call names bitmaps (SetB s p) = on_layer names s (BPenAct (pos p))
+line_of_call names bitmaps (SetMode s k) = on_layer names s (ModeAct (pos k))
+line_of_call names bitmaps (SetMask s p) = on_layer names s (MaskAct (pos p))
+line_of_call names bitmaps (At s x y) = on_layer names s (AtAct x y)
+line_of_call names bitmaps (WritePixel s x y) = on_layer names s (WriteAct x y)
+line_of_call names bitmaps (ReadPixel s x y) = on_layer names s (ReadAct x y)
+line_of_call names bitmaps (Fill s rect) = on_layer names s (FillAct rect)
+line_of_call names bitmaps (DrawTo s x y) = on_layer names s (DrawAct x y)
+line_of_call names bitmaps (Letters s text) = on_layer names s (TextAct text)
+line_of_call names bitmaps (SetRast s p) = on_layer names s (SetRastAct (pos p))
+line_of_call names bitmaps (ScrollRaster s dx dy rect) = on_layer names s (ScrollRasterAct dx dy rect)
+line_of_call names bitmaps (Put b s area) = on_layer names s (PutAct (slice_index_or bitmaps b []) (blitting_of area))
+line_of_call names bitmaps (Blit s t area) = CallLine (slice_index_or names s [] ∷ slice_index_or names t [] ∷ []) (BlitAct (blitting_of area))
+line_of_call names bitmaps (Clip s r) = on_layer names s (ClipAct (pos r))
+line_of_call names bitmaps (Unclip s) = on_layer names s UnclipAct
+line_of_call names bitmaps (BeginRefresh s) = on_layer names s RefreshAct
+line_of_call names bitmaps (EndRefresh s full) = on_layer names s (EndRefreshAct full)
+line_of_call names bitmaps (Scroll s dx dy) = on_layer names s (ScrollAct dx dy)
+line_of_call names bitmaps (SetTitle s text) = on_layer names s (TitleAct text)
+line_of_call names bitmaps (TakeMessage s) = on_layer names s GetMsgAct
+
+-- the group's first call begins an update
+abbrev pub are_updating : List Call → Bool
+are_updating [] = false
+are_updating (c ∷ cs) = begins_update c
+
+abbrev pub is_update : List Call → Group → Bool
+is_update calls g = are_updating (drop g.first calls)
+
+-- The lines that begin and end a group: an update has none but its calls.
+abbrev pub opening_lines : List (List ℕ) → Hold → Bool → List LineForm
+opening_lines names (Slot s) true = []
+opening_lines names (Slot s) false = LockLine (slice_index_or names s []) ∷ []
+opening_lines names All updating = HoldLine ∷ []
+
+abbrev pub closing_lines : List (List ℕ) → Hold → Bool → List LineForm
+closing_lines names (Slot s) true = []
+closing_lines names (Slot s) false = UnlockLine (slice_index_or names s []) ∷ []
+closing_lines names All updating = ReleaseLine ∷ []
+
+-- the lines before and behind call number n of a task with these calls and groups
+abbrev pub lines_before : List (List ℕ) → List Call → List Group → ℕ → List LineForm
+lines_before names calls groups n = flat_map (λ g. if g.first == n then opening_lines names g.hold (is_update calls g) else []) groups
+
+abbrev pub lines_behind : List (List ℕ) → List Call → List Group → ℕ → List LineForm
+lines_behind names calls groups n = flat_map (λ g. if g.last == n then closing_lines names g.hold (is_update calls g) else []) groups
+
+-- the lines of those of the calls that are left from number n on, with those of groups
+abbrev pub lines_from : Plan → List Call → List Group → ℕ → List Call → List LineForm
+lines_from p calls groups n [] = []
+lines_from p calls groups n (c ∷ cs) =
+    lines_before p.slot_names calls groups n ++ line_of_call p.slot_names p.bitmap_names c ∷ lines_behind p.slot_names calls groups n ++ lines_from p calls groups (n + 1) cs
+
+-- the lines of a task
+abbrev pub lines_of_task : Plan → ℕ → List LineForm
+lines_of_task p t =
+    TaskLine (slice_index_or p.task_names t []) ∷ lines_from p (task_calls p t) (task_groups p t) 0 (task_calls p t) ++ EndLine ∷ []
+
+-- the line of a code's glyph, where some bit of it is set
+abbrev pub lines_of_glyph : ℕ → List ℕ → List LineForm
+lines_of_glyph code rows = if list_all (λ row. row == 0) rows then [] else GlyphLine code rows ∷ []
+
+-- the lines of a bitmap, row by row and plane by plane
+abbrev pub lines_of_bitmap : List ℕ → Bitmap → List LineForm
+lines_of_bitmap name b =
+    BitmapLine name (pos b.width) (pos b.height) (pos b.depth) ∷ flat_map (λ k. map (λ y. RowLine (plane_row b k y)) (range_with_len 0 b.height)) (range_with_len 0 b.depth)
+
+-- the lines of a plan
+abbrev pub lines_of_plan : Plan → List LineForm
+lines_of_plan p =
+    ScreenLine (pos p.sizes.width) (pos p.sizes.height) (pos p.sizes.depth) ∷ flat_map (λ i. lines_of_glyph (32 + i) (slice_index_or p.assets.glyphs i [])) (range_with_len 0 95)
+    ++ flat_map (λ b. lines_of_bitmap (slice_index_or p.bitmap_names b.0 []) b.1) (enumerated 0 p.assets.bitmaps)
+    ++ flat_map (lines_of_task p) (range_with_len 0 p.sizes.tasks)
+
+-- The canonical text of a plan: its lines, each with a line feed behind it.
+unfoldable pub canonical_text : Plan → List ℕ
+canonical_text p = flat_map (λ form. line_of (spelled form)) (lines_of_plan p)
+
+-- What a script alone gives of a plan's canonical text, where so many hooks are handed in as the plan has.
+abbrev pub canonical_input : Plan → ScriptInput
+canonical_input p = record { plan = p; order = []; rest = length (canonical_text p) }
+
+-- The canonical text of a plan of one task that an input spells, in whatever form it was read, spells that plan as a script
+-- alone.
+abbrev pub CanonicalTextsReadBack : Type 0
+CanonicalTextsReadBack =
+    (s : Setting) (bytes : List ℕ) (input : ScriptInput) → SpellsInput s bytes input → input.plan.sizes.tasks ≡ 1 → SpellsInput (record { hooks = s.hooks; form = Plain }) (canonical_text input.plan) (canonical_input input.plan)

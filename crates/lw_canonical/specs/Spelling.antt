@@ -1,0 +1,158 @@
+-- The one spelling of each form of a script's lines (this project's own format): its words with single spaces between them.
+use Rattle.std.specs.Prelude.{ℕ, ◌/◌, ◌%◌, ◌==◌, Bool, true, false, not, if◌then◌else◌, List, [], ◌∷◌, ◌++◌, map, ℤ, Option, Some, None, codes, slice_index_or}
+use Rattle.std.specs.List.{flat_map}
+use Rattle.std.specs.Fmt.{signed_decimal}
+use Rattle.lw_region.specs.Rectangle.{Rectangle}
+use Rattle.lw_calls.specs.declared.operation.RectOp.{RectOp}
+use Rattle.lw_calls.specs.declared.operation.RectOp.TheVariants.{Or as OrR, And as AndR, Xor as XorR, Clear as ClearR}
+use Rattle.lw_calls.specs.declared.operation.PairOp.{PairOp}
+use Rattle.lw_calls.specs.declared.operation.PairOp.TheVariants.{Or as OrP, And as AndP, Xor as XorP}
+use Rattle.lw_calls.specs.declared.make.Kind.{Kind}
+use Rattle.lw_calls.specs.declared.make.Kind.TheVariants.{Simple, Smart, SuperBitmap}
+use Rattle.lw_calls.specs.declared.make.Place.{Place}
+use Rattle.lw_calls.specs.declared.make.Place.TheVariants.{Front, Behind}
+use Rattle.lw_grammar.specs.Tokens.{space, quote}
+use Rattle.lw_grammar.specs.LineForms.{Asked, Act, RegRectAct, RegPairAct, RegClearAct, CreateAct, OpenAct, CloseAct, FrontAct, BehindAct, InFrontAct, MoveAct, SizeAct, BoxAct, ActivateAct, WhichAct, APenAct, BPenAct, ModeAct, MaskAct, AtAct, WriteAct, ReadAct, FillAct, DrawAct, TextAct, SetRastAct, ScrollRasterAct, PutAct, BlitAct, ClipAct, UnclipAct, RefreshAct, EndRefreshAct, ScrollAct, TitleAct, GetMsgAct, LineForm, ScreenLine, GlyphLine, BitmapLine, RowLine, TaskLine, EndLine, OrderLine, NumbersLine, ReportLine, CallLine, LockLine, UnlockLine, HoldLine, ReleaseLine, four}
+use Rattle.lw_calls.specs.Written.{hex_byte}
+
+-- words with single spaces between them
+abbrev pub joined : List (List ℕ) → List ℕ
+joined [] = []
+joined (w ∷ []) = w
+joined (w ∷ v ∷ ws) = w ++ space ∷ joined (v ∷ ws)
+
+-- a text between its quotes
+abbrev pub text_word : List ℕ → List ℕ
+text_word text = quote ∷ text ++ quote ∷ []
+
+-- bytes in two lower-case hexadecimal digits each
+abbrev pub hex_word : List ℕ → List ℕ
+hex_word bytes = flat_map hex_byte bytes
+
+-- four numbers
+abbrev pub four_words : Rectangle → List (List ℕ)
+four_words r = signed_decimal r.min_x ∷ signed_decimal r.min_y ∷ signed_decimal r.max_x ∷ signed_decimal r.max_y ∷ []
+
+-- the verbs of region calls
+abbrev pub rect_word : RectOp → List ℕ
+rect_word OrR = codes "orrect"
+rect_word AndR = codes "andrect"
+rect_word XorR = codes "xorrect"
+rect_word ClearR = codes "clearrect"
+
+abbrev pub pair_word : PairOp → List ℕ
+pair_word OrP = codes "orregion"
+pair_word AndP = codes "andregion"
+pair_word XorP = codes "xorregion"
+
+-- the words of a layer's kind and of its place
+abbrev pub kind_word : Kind → List ℕ
+kind_word Simple = codes "simple"
+kind_word Smart = codes "smart"
+kind_word SuperBitmap = codes "super"
+
+abbrev pub place_word : Place → List ℕ
+place_word Front = codes "front"
+place_word Behind = codes "behind"
+
+-- a word that is there, or isn't
+abbrev pub flag_words : List ℕ → Bool → List (List ℕ)
+flag_words word true = word ∷ []
+flag_words word false = []
+
+-- hook N, where there is a hook
+abbrev pub hook_words : Option ℤ → List (List ℕ)
+hook_words None = []
+hook_words (Some n) = codes "hook" ∷ signed_decimal n ∷ []
+
+-- the letter of a class of messages, where the set has it: the lowest bit of what is left of the set
+abbrev pub class_letter : ℕ → ℕ → List ℕ
+class_letter letter classes = if classes % 2 == 1 then letter ∷ [] else []
+
+-- the letters of a set of classes of messages: r, n, c, a, i for the bits 0 to 4
+abbrev pub set_word : ℕ → List ℕ
+set_word classes =
+    class_letter 114 classes ++ class_letter 110 (classes / 2) ++ class_letter 99 (classes / 4) ++ class_letter 97 (classes / 8) ++ class_letter 105 (classes / 16)
+
+-- ask SET, where the set has a class
+abbrev pub ask_words : ℕ → List (List ℕ)
+ask_words classes = if classes == 0 then [] else codes "ask" ∷ set_word classes ∷ []
+
+-- what a layer is asked for with behind its four numbers: BW BH [backdrop], or [backdrop] [hook N]
+abbrev pub created_words : Kind → Asked → List (List ℕ)
+created_words Simple a = flag_words (codes "backdrop") a.backdrop ++ hook_words a.hook
+created_words Smart a = flag_words (codes "backdrop") a.backdrop ++ hook_words a.hook
+created_words SuperBitmap a = signed_decimal a.bits_w ∷ signed_decimal a.bits_h ∷ flag_words (codes "backdrop") a.backdrop
+
+-- the same of a window: BW BH [backdrop] [ask SET], or [backdrop] [borderless] [nocare] [hook N] [ask SET]
+abbrev pub plain_words : Asked → Bool → Bool → ℕ → List (List ℕ)
+plain_words a framed nocare classes =
+    flag_words (codes "backdrop") a.backdrop ++ flag_words (codes "borderless") (not framed) ++ flag_words (codes "nocare") nocare ++ hook_words a.hook ++ ask_words classes
+
+abbrev pub opened_words : Kind → Asked → Bool → Bool → ℕ → List (List ℕ)
+opened_words Simple a framed nocare classes = plain_words a framed nocare classes
+opened_words Smart a framed nocare classes = plain_words a framed nocare classes
+opened_words SuperBitmap a framed nocare classes =
+    signed_decimal a.bits_w ∷ signed_decimal a.bits_h ∷ flag_words (codes "backdrop") a.backdrop ++ ask_words classes
+
+-- the words of a call's line, where it names these layers from left to right
+abbrev pub call_words : List (List ℕ) → Act → List (List ℕ)
+call_words layers (RegRectAct op r rect) = rect_word op ∷ signed_decimal r ∷ four_words rect
+call_words layers (RegPairAct op s r) = pair_word op ∷ signed_decimal s ∷ signed_decimal r ∷ []
+call_words layers (RegClearAct r) = codes "clearregion" ∷ signed_decimal r ∷ []
+call_words layers (CreateAct a) = codes "create" ∷ layers ++ kind_word a.kind ∷ place_word a.place ∷ four_words a.box ++ created_words a.kind a
+call_words layers (OpenAct a framed nocare classes title) =
+    codes "open" ∷ layers ++ kind_word a.kind ∷ place_word a.place ∷ four_words a.box ++ opened_words a.kind a framed nocare classes ++ text_word title ∷ []
+call_words layers CloseAct = codes "close" ∷ layers
+call_words layers FrontAct = codes "front" ∷ layers
+call_words layers BehindAct = codes "behind" ∷ layers
+call_words layers InFrontAct = codes "infront" ∷ layers
+call_words layers (MoveAct dx dy) = codes "move" ∷ layers ++ signed_decimal dx ∷ signed_decimal dy ∷ []
+call_words layers (SizeAct dw dh) = codes "size" ∷ layers ++ signed_decimal dw ∷ signed_decimal dh ∷ []
+call_words layers (BoxAct x y w h) = codes "box" ∷ layers ++ four_words (four x y w h)
+call_words layers ActivateAct = codes "activate" ∷ layers
+call_words layers (WhichAct x y) = codes "which" ∷ signed_decimal x ∷ signed_decimal y ∷ []
+call_words layers (APenAct p) = codes "apen" ∷ layers ++ signed_decimal p ∷ []
+call_words layers (BPenAct p) = codes "bpen" ∷ layers ++ signed_decimal p ∷ []
+call_words layers (ModeAct k) = codes "mode" ∷ layers ++ signed_decimal k ∷ []
+call_words layers (MaskAct p) = codes "mask" ∷ layers ++ signed_decimal p ∷ []
+call_words layers (AtAct x y) = codes "at" ∷ layers ++ signed_decimal x ∷ signed_decimal y ∷ []
+call_words layers (WriteAct x y) = codes "write" ∷ layers ++ signed_decimal x ∷ signed_decimal y ∷ []
+call_words layers (ReadAct x y) = codes "read" ∷ layers ++ signed_decimal x ∷ signed_decimal y ∷ []
+call_words layers (FillAct rect) = codes "fill" ∷ layers ++ four_words rect
+call_words layers (DrawAct x y) = codes "draw" ∷ layers ++ signed_decimal x ∷ signed_decimal y ∷ []
+call_words layers (TextAct text) = codes "text" ∷ layers ++ text_word text ∷ []
+call_words layers (SetRastAct p) = codes "setrast" ∷ layers ++ signed_decimal p ∷ []
+call_words layers (ScrollRasterAct dx dy rect) = codes "scrollraster" ∷ layers ++ signed_decimal dx ∷ signed_decimal dy ∷ four_words rect
+call_words layers (PutAct bm b) =
+    codes "put" ∷ bm ∷ signed_decimal b.sx ∷ signed_decimal b.sy ∷ layers ++ signed_decimal b.x ∷ signed_decimal b.y ∷ signed_decimal b.w ∷ signed_decimal b.h ∷ hex_byte b.minterm ∷ []
+call_words layers (BlitAct b) =
+    codes "blit" ∷ slice_index_or layers 0 [] ∷ signed_decimal b.sx ∷ signed_decimal b.sy ∷ slice_index_or layers 1 [] ∷ signed_decimal b.x ∷ signed_decimal b.y ∷ signed_decimal b.w ∷ signed_decimal b.h ∷ hex_byte b.minterm ∷ []
+call_words layers (ClipAct r) = codes "clip" ∷ layers ++ signed_decimal r ∷ []
+call_words layers UnclipAct = codes "unclip" ∷ layers
+call_words layers RefreshAct = codes "refresh" ∷ layers
+call_words layers (EndRefreshAct full) = codes "endrefresh" ∷ layers ++ (if full then codes "full" else codes "part") ∷ []
+call_words layers (ScrollAct dx dy) = codes "scroll" ∷ layers ++ signed_decimal dx ∷ signed_decimal dy ∷ []
+call_words layers (TitleAct text) = codes "title" ∷ layers ++ text_word text ∷ []
+call_words layers GetMsgAct = codes "getmsg" ∷ layers
+
+-- the words of a line
+abbrev pub words_of : LineForm → List (List ℕ)
+words_of (ScreenLine w h d) = codes "screen" ∷ signed_decimal w ∷ signed_decimal h ∷ signed_decimal d ∷ []
+words_of (GlyphLine code rows) = codes "glyph" ∷ hex_byte code ∷ hex_word rows ∷ []
+words_of (BitmapLine name w h d) = codes "bitmap" ∷ name ∷ signed_decimal w ∷ signed_decimal h ∷ signed_decimal d ∷ []
+words_of (RowLine bytes) = hex_word bytes ∷ []
+words_of (TaskLine name) = codes "task" ∷ name ∷ []
+words_of EndLine = codes "end" ∷ []
+words_of OrderLine = codes "order" ∷ []
+words_of (NumbersLine zs) = map signed_decimal zs
+words_of ReportLine = codes "report" ∷ []
+words_of (CallLine layers act) = call_words layers act
+words_of (LockLine name) = codes "lock" ∷ name ∷ []
+words_of (UnlockLine name) = codes "unlock" ∷ name ∷ []
+words_of HoldLine = codes "hold" ∷ []
+words_of ReleaseLine = codes "release" ∷ []
+
+-- the bytes of a line without its line feed
+abbrev pub spelled : LineForm → List ℕ
+spelled form = joined (words_of form)

@@ -1,0 +1,8 @@
+pub mod ScriptForms
+pub mod ScriptAnswer
+pub mod ScriptNames
+pub mod ScriptCalls
+pub mod ScriptGroups
+pub mod ScriptSizes
+pub mod ScriptTasks
+pub mod ScriptRunnable

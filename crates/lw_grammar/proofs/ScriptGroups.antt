@@ -1,0 +1,168 @@
+-- The groups of a task grow with its calls, and the calls that may stand in them.
+use Rattle.std.proofs.Common.{◌≡◌, ℕ, zero, suc, ◌+◌, ◌-◌, ◌<◌, ◌≤◌, ◌==◌, Bool, true, false, cond, ◌&&◌, nat_le, nat_lt, List, [], ◌∷◌, ◌++◌, length, map, take, drop, slice_index, bytes_eq, refl, sym, ap, ◌∙◌, arith, length-append, length-drop}
+use Rattle.std.specs.List.{list_all}
+use Rattle.lw_calls.specs.declared.call.Call.{Call}
+use Rattle.lw_calls.specs.declared.group.Hold.{Hold}
+use Rattle.lw_calls.specs.declared.group.Hold.TheVariants.{Slot}
+use Rattle.lw_calls.specs.declared.group.Group.{Group}
+use Rattle.lw_calls.specs.declared.touch.Slots.TheVariants.{One, Two}
+use Rattle.lw_calls.specs.Touches.{slots_of}
+use Rattle.lw_calls.specs.Plan.{is_one, is_all, begins_update, ends_update, may_be_locked, end_an_update, may_stand, group_calls, group_fits, groups_fit}
+use Rattle.lw_grammar.specs.LineForms.{Act, RegRectAct, RegPairAct, RegClearAct, CreateAct, OpenAct, CloseAct, FrontAct, BehindAct, InFrontAct, MoveAct, SizeAct, BoxAct, ActivateAct, WhichAct, BlitAct, RefreshAct, EndRefreshAct, layers_of}
+use Rattle.lw_grammar.specs.LinesAbove.{place_among, spelled_call}
+use Rattle.lw_grammar.specs.Script.{is_arranging, is_beginning, is_ending, are_all, is_on_one}
+use Rattle.lw_grammar.proofs.ScriptNames.{equal_names}
+use Rattle.std.proofs.lemmas.Bool.{true≢false, false≢true, lt-ltb, le-leb, ltb-true, leb-true, eq-eqb, and_parts, and_from, or_left, or_right, not-true}
+use Rattle.std.proofs.lemmas.List.{take_all, take-append-le, drop-append-le}
+
+-- an act begins an update, or ends one, just where its call does
+pub begins_so : (bitmaps : List (List ℕ)) (act : Act) (slots : List ℕ) → begins_update (spelled_call bitmaps act slots) ≡ is_beginning act
+begins_so bitmaps RefreshAct slots = refl
+begins_so bitmaps act slots = refl
+
+pub ends_so : (bitmaps : List (List ℕ)) (act : Act) (slots : List ℕ) → ends_update (spelled_call bitmaps act slots) ≡ is_ending act
+ends_so bitmaps (EndRefreshAct full) slots = refl
+ends_so bitmaps act slots = refl
+
+-- the call of an arrangement touches all layers
+pub arranges : (bitmaps : List (List ℕ)) (act : Act) (slots : List ℕ) → is_arranging act ≡ true → is_all (slots_of (spelled_call bitmaps act slots)) ≡ true
+arranges bitmaps (CreateAct a) slots h = refl
+arranges bitmaps (OpenAct a framed nocare classes title) slots h = refl
+arranges bitmaps CloseAct slots h = refl
+arranges bitmaps FrontAct slots h = refl
+arranges bitmaps BehindAct slots h = refl
+arranges bitmaps InFrontAct slots h = refl
+arranges bitmaps (MoveAct dx dy) slots h = refl
+arranges bitmaps (SizeAct dw dh) slots h = refl
+arranges bitmaps (BoxAct x y w h') slots h = refl
+arranges bitmaps ActivateAct slots h = refl
+arranges bitmaps act slots h = absurd (false≢true h)
+
+-- a call that names layers, all of them in slot s, and is no arrangement touches that slot alone
+pub touches_one : (bitmaps : List (List ℕ)) (act : Act) (slots : List ℕ) (s : ℕ) → is_arranging act ≡ false → 0 < layers_of act → ((i : ℕ) → i < layers_of act → slice_index slots i ≡ s) → is_one s (slots_of (spelled_call bitmaps act slots)) ≡ true
+touches_one bitmaps (RegRectAct op r rect) slots s h k e = absurd (omega arith)
+touches_one bitmaps (RegPairAct op q r) slots s h k e = absurd (omega arith)
+touches_one bitmaps (RegClearAct r) slots s h k e = absurd (omega arith)
+touches_one bitmaps (WhichAct x y) slots s h k e = absurd (omega arith)
+touches_one bitmaps (CreateAct a) slots s h k e = absurd (true≢false h)
+touches_one bitmaps (OpenAct a framed nocare classes title) slots s h k e = absurd (true≢false h)
+touches_one bitmaps CloseAct slots s h k e = absurd (true≢false h)
+touches_one bitmaps FrontAct slots s h k e = absurd (true≢false h)
+touches_one bitmaps BehindAct slots s h k e = absurd (true≢false h)
+touches_one bitmaps InFrontAct slots s h k e = absurd (true≢false h)
+touches_one bitmaps (MoveAct dx dy) slots s h k e = absurd (true≢false h)
+touches_one bitmaps (SizeAct dw dh) slots s h k e = absurd (true≢false h)
+touches_one bitmaps (BoxAct x y w h') slots s h k e = absurd (true≢false h)
+touches_one bitmaps ActivateAct slots s h k e = absurd (true≢false h)
+touches_one bitmaps (BlitAct b) slots s h k e =
+    let first = e 0 (omega arith) in
+    let second = e 1 (omega arith) in
+    step (slice_index slots 0 == slice_index slots 1) (eq-eqb _ _ (first ∙ sym second)) (eq-eqb _ s second)
+  where
+    step : (t : Bool) → t ≡ true → (slice_index slots 1 == s) ≡ true → is_one s (cond t (One (slice_index slots 1)) (Two (slice_index slots 0) (slice_index slots 1))) ≡ true
+    step true e d = d
+    step false e d = absurd (false≢true e)
+touches_one bitmaps act slots s h k e = eq-eqb _ s (e 0 (omega arith))
+
+-- layers that are all this one have its slot
+all_there : (names : List (List ℕ)) (l : List ℕ) (layers : List (List ℕ)) → list_all (bytes_eq l) layers ≡ true → (i : ℕ) → i < length layers → slice_index (map (place_among names) layers) i ≡ place_among names l
+all_there names l [] h i low = absurd (omega arith)
+all_there names l (m ∷ ms) h zero low = ap (place_among names) (sym (equal_names l m (and_parts _ _ h).0))
+all_there names l (m ∷ ms) h (suc i) low = all_there names l ms (and_parts (bytes_eq l m) _ h).1 i (omega arith)
+
+-- some layer is among layers that are all this one
+some_layer : (l : List ℕ) (layers : List (List ℕ)) → are_all l layers ≡ true → (0 < length layers) × (list_all (bytes_eq l) layers ≡ true)
+some_layer l [] h = absurd (false≢true h)
+some_layer l (m ∷ ms) h = (omega arith, h)
+
+-- a call on the one layer touches its slot alone
+pub on_one : (bitmaps names : List (List ℕ)) (l : List ℕ) (layers : List (List ℕ)) (act : Act) → length layers ≡ layers_of act → is_on_one l layers act ≡ true → is_one (place_among names l) (slots_of (spelled_call bitmaps act (map (place_among names) layers))) ≡ true
+on_one bitmaps names l layers act n h =
+    let halves = and_parts (are_all l layers) _ h in
+    let all = some_layer l layers halves.0 in
+    touches_one bitmaps act _ (place_among names l) (not-true _ halves.1) (omega (arith, all.0, n)) (λ i low. all_there names l layers all.1 i (omega (arith, n, low)))
+
+-- the last group, if there is one, ends before this call
+abbrev pub EndBefore : List Group → ℕ → Type 0
+EndBefore [] n = Unit {0}
+EndBefore (g ∷ []) n = g.last < n
+EndBefore (g ∷ h ∷ gs) n = EndBefore (h ∷ gs) n
+
+-- it ends before each later call too
+pub end_later : (gs : List Group) (m n : ℕ) → EndBefore gs m → m ≤ n → EndBefore gs n
+end_later [] m n h k = tt
+end_later (g ∷ []) m n h k = omega (arith, h)
+end_later (g ∷ j ∷ gs) m n h k = end_later (j ∷ gs) m n h k
+
+-- a further group is the last one
+pub end_pushed : (gs : List Group) (g : Group) (n : ℕ) → g.last < n → EndBefore (gs ++ g ∷ []) n
+end_pushed [] g n h = h
+end_pushed (f ∷ []) g n h = h
+end_pushed (f ∷ j ∷ gs) g n h = end_pushed (j ∷ gs) g n h
+
+-- the calls of a group are the same among more calls
+calls_kept : (calls : List Call) (c : Call) (g : Group) → (nat_le g.first g.last && nat_lt g.last (length calls)) ≡ true → group_calls (calls ++ c ∷ []) g ≡ group_calls calls g
+calls_kept calls c g h =
+    let bounds = and_parts (nat_le g.first g.last) _ h in
+    let order : g.first ≤ g.last = leb-true _ _ bounds.0 in
+    let inside : g.last < length calls = ltb-true _ _ bounds.1 in
+    let front : drop g.first (calls ++ c ∷ []) ≡ drop g.first calls ++ c ∷ [] = drop-append-le g.first calls (c ∷ []) (omega arith) in
+    let long : length (drop g.first calls) ≡ length calls - g.first = length-drop g.first calls in
+    ap (take ((g.last + 1) - g.first)) front ∙ take-append-le ((g.last + 1) - g.first) (drop g.first calls) (c ∷ []) (omega (arith, long))
+
+-- so a group that fits still does
+group_kept : (calls : List Call) (c : Call) (g : Group) → group_fits calls g ≡ true → group_fits (calls ++ c ∷ []) g ≡ true
+group_kept calls c g h =
+    let halves = and_parts (nat_le g.first g.last && nat_lt g.last (length calls)) _ h in
+    let bounds = and_parts (nat_le g.first g.last) _ halves.0 in
+    let inside : g.last < length calls = ltb-true _ _ bounds.1 in
+    and_from _ _ (and_from _ _ bounds.0 (lt-ltb _ _ (omega (arith, length-append calls (c ∷ []))))) (ap (may_stand g.hold) (calls_kept calls c g halves.0) ∙ halves.1)
+
+pub groups_kept : (calls : List Call) (c : Call) (gs : List Group) → groups_fit calls gs ≡ true → groups_fit (calls ++ c ∷ []) gs ≡ true
+groups_kept calls c [] h = refl
+groups_kept calls c (g ∷ []) h = group_kept calls c g h
+groups_kept calls c (g ∷ j ∷ gs) h =
+    let halves = and_parts (group_fits calls g && nat_lt g.last j.first) _ h in
+    let front = and_parts (group_fits calls g) _ halves.0 in
+    and_from _ _ (and_from _ _ (group_kept calls c g front.0) front.1) (groups_kept calls c (j ∷ gs) halves.1)
+
+-- a further group behind the last one
+pub groups_pushed : (calls : List Call) (gs : List Group) (g : Group) → groups_fit calls gs ≡ true → EndBefore gs g.first → group_fits calls g ≡ true → groups_fit calls (gs ++ g ∷ []) ≡ true
+groups_pushed calls [] g h before fits = fits
+groups_pushed calls (f ∷ []) g h before fits = and_from _ _ (and_from _ _ h (lt-ltb _ _ before)) fits
+groups_pushed calls (f ∷ j ∷ gs) g h before fits =
+    let halves = and_parts (group_fits calls f && nat_lt f.last j.first) _ h in
+    and_from _ _ halves.0 (groups_pushed calls (j ∷ gs) g halves.1 before fits)
+
+-- a group up to the last call has all calls from its first on
+pub to_the_end : (calls : List Call) (first last : ℕ) (hold : Hold) → first ≤ last → suc last ≡ length calls → may_stand hold (drop first calls) ≡ true → group_fits calls (record { first = first; last = last; hold = hold }) ≡ true
+to_the_end calls first last hold order end stands =
+    let long : length (drop first calls) ≡ length calls - first = length-drop first calls in
+    let whole : take ((last + 1) - first) (drop first calls) ≡ drop first calls = take_all ((last + 1) - first) (drop first calls) (omega (arith, long)) in
+    and_from _ _ (and_from _ _ (le-leb _ _ order) (lt-ltb _ _ (omega arith))) (ap (may_stand hold) whole ∙ stands)
+
+-- of all calls and one more each passes
+pub all_pushed : (p : Call → Bool) (cs : List Call) (c : Call) → list_all p cs ≡ true → p c ≡ true → list_all p (cs ++ c ∷ []) ≡ true
+all_pushed p [] c h k = and_from _ _ k refl
+all_pushed p (d ∷ ds) c h k = let halves = and_parts (p d) _ h in and_from _ _ halves.0 (all_pushed p ds c halves.1 k)
+
+-- calls that may be locked and then an end of the update end it
+update_ends : (s : ℕ) (cs : List Call) (c : Call) → list_all (may_be_locked s) cs ≡ true → (is_one s (slots_of c) && ends_update c) ≡ true → end_an_update s (cs ++ c ∷ []) ≡ true
+update_ends s [] c h k = k
+update_ends s (d ∷ []) c h k = and_from _ _ (and_parts (may_be_locked s d) _ h).0 k
+update_ends s (d ∷ e ∷ ds) c h k =
+    let halves = and_parts (may_be_locked s d) _ h in
+    and_from _ _ halves.0 (update_ends s (e ∷ ds) c halves.1 k)
+
+-- the calls of an update may stand under a lock of its layer
+pub update_stands : (s : ℕ) (b : Call) (cs : List Call) (c : Call) → (is_one s (slots_of b) && begins_update b) ≡ true → list_all (may_be_locked s) cs ≡ true → (is_one s (slots_of c) && ends_update c) ≡ true → may_stand (Slot s) (b ∷ cs ++ c ∷ []) ≡ true
+update_stands s b cs c begins inside ends = or_right _ _ (and_from _ _ begins (update_ends s cs c inside ends))
+
+-- so may locked calls, if there are some
+pub locked_stands : (s : ℕ) (cs : List Call) → 0 < length cs → list_all (may_be_locked s) cs ≡ true → may_stand (Slot s) cs ≡ true
+locked_stands s [] some h = absurd (omega arith)
+locked_stands s (c ∷ cs) some h = or_left _ _ h
+
+-- behind so many calls a further one stands alone, and behind fewer it stands at the end
+pub drop_pushed : (calls : List Call) (c : Call) (n : ℕ) → n ≤ length calls → drop n (calls ++ c ∷ []) ≡ drop n calls ++ c ∷ []
+drop_pushed calls c n h = drop-append-le n calls (c ∷ []) h

@@ -1,0 +1,76 @@
+-- An input that bytes spell may be run.
+use Rattle.std.proofs.Common.{◌≡◌, ℕ, ◌<◌, ◌≤◌, ◌==◌, Bool, true, false, cond, nat_lt, List, [], length, IsTrue, All, refl, sym, subst, arith}
+use Rattle.lw_calls.specs.declared.sizes.Sizes.{Sizes}
+use Rattle.lw_calls.specs.Limits.{call_limit, call_fits}
+use Rattle.lw_calls.specs.Built.{is_built}
+use Rattle.lw_grammar.specs.Lines.{lines}
+use Rattle.lw_grammar.specs.LineForms.{LineForm}
+use Rattle.lw_grammar.specs.LinesAbove.{section_of, rows_due, tasks_above, plan_above}
+use Rattle.lw_grammar.specs.Script.{Setting, ScriptInput, are_assets_due, with_lines, is_whole, SpellsInput, IsRunnableInput}
+use Rattle.lw_grammar.specs.ScriptReading.{input_from, AreGoodLines}
+use Rattle.lw_grammar.proofs.ScriptAnswer.{rows_in_assets, spelled_lines_good}
+use Rattle.lw_grammar.proofs.ScriptSizes.{counted, has_screen, when, sized, begun_tasks, one_task, whole_ends, all_glyphs, none_due, bitmaps_made, bitmaps_named, order_small}
+use Rattle.lw_grammar.proofs.ScriptTasks.{view_of, IsTaskFit, HaveBegun, TasksAre, tasks_fit, calls_listed, groups_listed, zip_at, zip_first, every_task, no_task}
+use Rattle.std.proofs.lemmas.Bool.{eqb-true, ltb-true}
+
+-- no rows are due where no bitmap may stand
+pub rows_done : (s : Setting) (above : List LineForm) → AreGoodLines s above → are_assets_due (section_of above) ≡ false → rows_due above ≡ 0
+rows_done s above g e = go (rows_due above == 0) refl
+  where
+    go : (t : Bool) → (rows_due above == 0) ≡ t → rows_due above ≡ 0
+    go true d = eqb-true _ 0 d
+    go false d = let due = rows_in_assets s above g d in absurd (cc)
+
+-- The plan of good lines below which an input may end may be run.
+pub runs_from_good : (s : Setting) (above : List LineForm) (place : ℕ) → AreGoodLines s above → is_whole s.form above ≡ true → IsRunnableInput s (input_from s above place)
+runs_from_good s above place g e =
+    let ends = whole_ends s.form above e in
+    let counts = counted s above g in
+    let size = when (has_screen (section_of above)) _ ends.screen (sized s above g) in
+    let P : Bool → Type 0 = λ b. cond b (nat_lt 0 (length (tasks_above above))) (length (tasks_above above) == 0) ≡ true in
+    let some : 0 < length (tasks_above above) = ltb-true _ _ (subst P ends.begun (begun_tasks s above g)) in
+    let z : Sizes = (plan_above s.hooks above).sizes in
+    let Q : Bool → Type 0 = λ b. TasksAre b z (view_of above) in
+    let begun : HaveBegun z (view_of above) = subst Q ends.begun (tasks_fit z s above g refl (omega arith) (omega arith)).tasks in
+    let fits = every_task z (view_of above) begun in
+    record {
+      plan = record {
+        limits = record {
+          version = refl;
+          some_columns = size.columns.0;
+          columns = size.columns.1;
+          some_rows = size.rows.0;
+          rows = size.rows.1;
+          some_planes = size.planes.0;
+          planes = size.planes.1;
+          slots = counts.names;
+          some_task = omega arith;
+          tasks = counts.tasks;
+          bitmaps = counts.bitmaps;
+        };
+        slots = refl;
+        tasks = refl;
+        bitmaps = refl;
+        lists = calls_listed above;
+        group_lists = groups_listed above;
+        supplied = bitmaps_named above [];
+        assets = record {
+          glyphs = refl;
+          rows = all_glyphs s above g;
+          bitmaps = bitmaps_made s above g [] (none_due above (rows_done s above g ends.assets));
+        };
+        few = zip_first (IsTaskFit z) (λ calls. length calls ≤ call_limit) _ _ (λ calls groups h. h.few) fits;
+        fit = zip_first (IsTaskFit z) (λ calls. All (λ c. IsTrue (call_fits z c)) calls) _ _ (λ calls groups h. h.fit) fits;
+        groups = λ task. (zip_at (IsTaskFit z) _ _ [] [] fits (no_task z) task).grouped;
+      };
+      hooks = refl;
+      built = zip_first (IsTaskFit z) (λ calls. All (λ c. IsTrue (is_built c)) calls) _ _ (λ calls groups h. h.built) fits;
+      one_task = λ p. (let few = one_task s above p g in omega arith);
+      order = order_small s above g;
+    }
+
+-- Every input that bytes spell may be run.
+pub spelled_runnable : (s : Setting) (bytes : List ℕ) (input : ScriptInput) → SpellsInput s bytes input → IsRunnableInput s input
+spelled_runnable s bytes input k =
+    let g = spelled_lines_good s bytes input k in
+    subst (λ (p : ScriptInput). IsRunnableInput s p) (sym k.spelled) (runs_from_good s (with_lines [] (lines bytes)) _ g.0 g.1)

@@ -1,0 +1,545 @@
+-- Below good lines each task's calls fit, and so do its groups.
+use Rattle.std.proofs.Common.{◌≡◌, ℕ, zero, suc, ◌+◌, ◌-◌, ◌<◌, ◌≤◌, Bool, true, false, not, ◌&&◌, ◌||◌, List, [], ◌∷◌, ◌++◌, length, map, drop, bytes_eq, Option, Some, None, IsTrue, All, refl, sym, ap, subst, ◌∙◌, arith, length-append, length-drop, ltb-true}
+use Rattle.std.specs.List.{list_any, list_all, AllZip, slice_index_or}
+use Rattle.lw_calls.specs.declared.sizes.Sizes.{Sizes}
+use Rattle.lw_calls.specs.declared.call.Call.{Call}
+use Rattle.lw_calls.specs.declared.group.Hold.{Hold}
+use Rattle.lw_calls.specs.declared.group.Hold.TheVariants.{Slot, All as AllLayers}
+use Rattle.lw_calls.specs.declared.group.Group.{Group}
+use Rattle.lw_calls.specs.Limits.{call_limit, call_fits}
+use Rattle.lw_calls.specs.Touches.{slots_of}
+use Rattle.lw_calls.specs.Plan.{is_one, is_all, begins_update, ends_update, may_be_locked, may_stand, group_fits, groups_fit}
+use Rattle.lw_calls.specs.Built.{is_built}
+use Rattle.lw_grammar.specs.LineForms.{Act, RefreshAct, EndRefreshAct, LineForm, ScreenLine, BitmapLine, TaskLine, EndLine, OrderLine, ReportLine, CallLine, LockLine, UnlockLine, HoldLine, ReleaseLine, layers_of}
+use Rattle.lw_grammar.specs.LinesAbove.{Section, ScreenIsDue, AssetsAreDue, CallsAreDue, TasksAreDue, NumbersAreDue, NothingIsDue, section_of, tasks_above, bitmaps_above, and_names, names_above, place_among, hook_on, Opened, Locked, Updating, Held, opened_by, group_above, calls_so_far, began_at, spelled_call, call_below, onto_last, calls_above, group_from, groups_above}
+use Rattle.lw_grammar.specs.Script.{Setting, is_screen_due, are_assets_due, are_calls_due, are_tasks_due, is_beginning, is_ending, is_on_one, call_may_stand, is_lock_on, is_hold, is_missing, is_no_hook}
+use Rattle.lw_grammar.specs.ScriptReading.{AreGoodLines}
+use Rattle.lw_grammar.proofs.ScriptNames.{equal_names, names_grow, any_kept, place_kept, all_named, places_below}
+use Rattle.lw_grammar.proofs.ScriptCalls.{act_fits}
+use Rattle.lw_grammar.proofs.ScriptGroups.{begins_so, ends_so, arranges, on_one, EndBefore, end_later, end_pushed, groups_kept, groups_pushed, to_the_end, all_pushed, update_stands, locked_stands, drop_pushed}
+use Rattle.lw_grammar.proofs.ScriptSizes.{here, tests, counted, has_begun, in_calls, in_tasks}
+use Rattle.std.proofs.lemmas.Bool.{true≢false, false≢true, not-false, eq-eqb, and_parts, and_from}
+use Rattle.std.proofs.lemmas.List.{drop_all, drop_at}
+use Rattle.std.proofs.lemmas.List.Elements.{All-nil, All-cons, All-push}
+
+-- what the lines above tell of the tasks: their calls and groups, and of the nearest task how many calls it has, the group
+-- that is open and where that began; and the layers' names
+pub record View : Type 0 where
+  pub all : List (List Call)
+  pub all_groups : List (List Group)
+  pub so_far : ℕ
+  pub group : Option Opened
+  pub began : ℕ
+  pub names : List (List ℕ)
+
+abbrev pub view_of : List LineForm → View
+view_of above =
+    record {
+      all = calls_above above;
+      all_groups = groups_above above;
+      so_far = calls_so_far above;
+      group = group_above above;
+      began = began_at above;
+      names = names_above above;
+    }
+
+-- the calls of one task fit, and so do its groups
+pub record IsTaskFit (z : Sizes) (calls : List Call) (groups : List Group) : Type 0 where
+  pub few : length calls ≤ call_limit
+  pub fit : All (λ c. IsTrue (call_fits z c)) calls
+  pub built : All (λ c. IsTrue (is_built c)) calls
+  pub grouped : groups_fit calls groups ≡ true
+
+-- an open group began behind the groups before it
+pub record IsOpen (so_far began : ℕ) (groups : List Group) : Type 0 where
+  pub before : EndBefore groups began
+  pub order : began ≤ so_far
+
+-- the calls of an open update: its beginning, and calls on its layer
+abbrev pub IsUpdating : ℕ → List Call → Type 0
+IsUpdating s [] = ⊥
+IsUpdating s (b ∷ cs) = ((is_one s (slots_of b) && begins_update b) ≡ true) × (list_all (may_be_locked s) cs ≡ true)
+
+-- the calls of an open hold
+abbrev pub are_held : List Call → Bool
+are_held calls = list_all (λ c. is_all (slots_of c)) calls
+
+-- what is known of the open group of a task with so many calls so far
+abbrev pub OpenState : Option Opened → ℕ → ℕ → List (List ℕ) → List Call → List Group → Type 0
+OpenState None so_far began names calls groups = EndBefore groups so_far
+OpenState (Some (Locked l)) so_far began names calls groups =
+    IsOpen so_far began groups × (list_any (bytes_eq l) names ≡ true) × (list_all (may_be_locked (place_among names l)) (drop began calls) ≡ true)
+OpenState (Some (Updating l)) so_far began names calls groups = IsOpen so_far began groups × (list_any (bytes_eq l) names ≡ true) × IsUpdating (place_among names l) (drop began calls)
+OpenState (Some Held) so_far began names calls groups = IsOpen so_far began groups × (are_held (drop began calls) ≡ true)
+
+-- the nearest task fits so far
+pub record IsNow (z : Sizes) (v : View) (calls : List Call) (groups : List Group) : Type 0 where
+  pub long : length calls ≡ v.so_far
+  pub fits : IsTaskFit z calls groups
+  pub state : OpenState v.group v.so_far v.began v.names calls groups
+
+-- all tasks fit, the nearest of them so far
+pub record HaveBegun (z : Sizes) (v : View) : Type 0 where
+  pub done : List (List Call)
+  pub done_groups : List (List Group)
+  pub calls : List Call
+  pub groups : List Group
+  pub all_are : v.all ≡ done ++ calls ∷ []
+  pub groups_are : v.all_groups ≡ done_groups ++ groups ∷ []
+  pub done_fit : AllZip (IsTaskFit z) done done_groups
+  pub now : IsNow z v calls groups
+
+-- the same where tasks have begun, and else there are none
+abbrev pub TasksAre : Bool → Sizes → View → Type 0
+TasksAre true z v = HaveBegun z v
+TasksAre false z v = (v.all ≡ []) × (v.all_groups ≡ [])
+
+-- no group is open but in a task
+pub record AreTasks (z : Sizes) (c : Section) (v : View) : Type 0 where
+  pub closed : are_calls_due c ≡ false → v.group ≡ None
+  pub tasks : TasksAre (has_begun c) z v
+
+-- a list's last one with something put at its end
+pub onto_pushed : {A : Type 0} (a : A) (lists : List (List A)) (list : List A) → onto_last a (lists ++ list ∷ []) ≡ lists ++ (list ++ a ∷ []) ∷ []
+onto_pushed a [] list = refl
+onto_pushed a (x ∷ []) list = refl
+onto_pushed a (x ∷ y ∷ ys) list = ap (λ rest. x ∷ rest) (onto_pushed a (y ∷ ys) list)
+
+-- there are as many
+length_onto : {A : Type 0} (a : A) (lists : List (List A)) → length (onto_last a lists) ≡ length lists
+length_onto a [] = refl
+length_onto a (x ∷ []) = refl
+length_onto a (x ∷ y ∷ ys) = ap suc (length_onto a (y ∷ ys))
+
+-- a pair at the end of two lists
+zip_pushed : {A B : Type 0} (R : A → B → Type 0) (xs : List A) (ys : List B) (x : A) (y : B) → AllZip R xs ys → R x y → AllZip R (xs ++ x ∷ []) (ys ++ y ∷ [])
+zip_pushed R [] [] x y h k = (k, tt)
+zip_pushed R [] (b ∷ bs) x y h k = absurd h
+zip_pushed R (a ∷ as') [] x y h k = absurd h
+zip_pushed R (a ∷ as') (b ∷ bs) x y h k = (h.0, zip_pushed R as' bs x y h.1 k)
+
+-- a missing group
+pub none_open : (o : Option Opened) → is_missing o ≡ true → o ≡ None
+none_open None h = refl
+none_open (Some g) h = absurd (false≢true h)
+
+-- no calls fit
+nothing_fits : (z : Sizes) → IsTaskFit z [] []
+nothing_fits z = record { few = omega arith; fit = All-nil _; built = All-nil _; grouped = refl }
+
+-- no calls have been made in a task that has just begun
+task_now : (z : Sizes) (v : View) → v.so_far ≡ 0 → v.group ≡ None → IsNow z v [] []
+task_now z v e n =
+    let P : Option Opened → Type 0 = λ g. OpenState g v.so_far v.began v.names [] [] in
+    record { long = sym e; fits = nothing_fits z; state = subst P (sym n) tt }
+
+-- a task begins behind others
+task_more : (z : Sizes) (v : View) (w : View) → w.all ≡ v.all ++ [] ∷ [] → w.all_groups ≡ v.all_groups ++ [] ∷ [] → w.so_far ≡ 0 → w.group ≡ None → HaveBegun z v → HaveBegun z w
+task_more z v w a g e n b =
+    record {
+      done = b.done ++ b.calls ∷ [];
+      done_groups = b.done_groups ++ b.groups ∷ [];
+      calls = [];
+      groups = [];
+      all_are = a ∙ ap (λ lists. lists ++ [] ∷ []) b.all_are;
+      groups_are = g ∙ ap (λ lists. lists ++ [] ∷ []) b.groups_are;
+      done_fit = zip_pushed (IsTaskFit z) b.done b.done_groups b.calls b.groups b.done_fit b.now.fits;
+      now = task_now z w e n;
+    }
+
+-- the first task begins
+task_first : (z : Sizes) (v : View) (w : View) → w.all ≡ v.all ++ [] ∷ [] → w.all_groups ≡ v.all_groups ++ [] ∷ [] → w.so_far ≡ 0 → w.group ≡ None → (v.all ≡ []) × (v.all_groups ≡ []) → HaveBegun z w
+task_first z v w a g e n h =
+    record {
+      done = [];
+      done_groups = [];
+      calls = [];
+      groups = [];
+      all_are = a ∙ ap (λ lists. lists ++ [] ∷ []) h.0;
+      groups_are = g ∙ ap (λ lists. lists ++ [] ∷ []) h.1;
+      done_fit = tt;
+      now = task_now z w e n;
+    }
+
+-- a task begins
+task_begins : (z : Sizes) (c : Section) (v w : View) → (are_assets_due c || are_tasks_due c) ≡ true → w.all ≡ v.all ++ [] ∷ [] → w.all_groups ≡ v.all_groups ++ [] ∷ [] → w.so_far ≡ 0 → w.group ≡ v.group → AreTasks z c v → HaveBegun z w
+task_begins z ScreenIsDue v w p a g e n h = absurd (false≢true p)
+task_begins z AssetsAreDue v w p a g e n h = task_first z v w a g e (n ∙ h.closed refl) h.tasks
+task_begins z CallsAreDue v w p a g e n h = absurd (false≢true p)
+task_begins z TasksAreDue v w p a g e n h = task_more z v w a g e (n ∙ h.closed refl) h.tasks
+task_begins z NumbersAreDue v w p a g e n h = absurd (false≢true p)
+task_begins z NothingIsDue v w p a g e n h = absurd (false≢true p)
+
+-- what happens inside a task
+inside : (z : Sizes) (c : Section) (v w : View) → c ≡ CallsAreDue → (HaveBegun z v → HaveBegun z w) → AreTasks z c v → AreTasks z c w
+inside z c v w e f h =
+    let P : Section → Type 0 = λ k. AreTasks z k v in
+    let Q : Section → Type 0 = λ k. AreTasks z k w in
+    let at : AreTasks z CallsAreDue v = subst P e h in
+    subst Q (sym e) (record { closed = λ d. absurd (true≢false d); tasks = f at.tasks })
+
+-- more calls leave an open group open
+open_later : (m n began : ℕ) (groups : List Group) → m ≤ n → IsOpen m began groups → IsOpen n began groups
+open_later m n began groups h o = record { before = o.before; order = omega (arith, o.order, h) }
+
+-- what is known by a layer's slot is known by its slot among more names
+slot_later : (P : ℕ → Type 0) (names ns : List (List ℕ)) (l : List ℕ) → list_any (bytes_eq l) names ≡ true → P (place_among names l) → P (place_among (and_names names ns) l)
+slot_later P names ns l h p = subst P (sym (place_kept (bytes_eq l) names ns h)) p
+
+-- more names leave the state of a group as it was
+names_later : (o : Option Opened) (so_far began : ℕ) (names ns : List (List ℕ)) (calls : List Call) (groups : List Group) → OpenState o so_far began names calls groups → OpenState o so_far began (and_names names ns) calls groups
+names_later None so_far began names ns calls groups h = h
+names_later (Some (Locked l)) so_far began names ns calls groups h =
+    (h.0, any_kept (bytes_eq l) names ns h.1, slot_later (λ s. list_all (may_be_locked s) (drop began calls) ≡ true) names ns l h.1 h.2)
+names_later (Some (Updating l)) so_far began names ns calls groups h =
+    (h.0, any_kept (bytes_eq l) names ns h.1, slot_later (λ s. IsUpdating s (drop began calls)) names ns l h.1 h.2)
+names_later (Some Held) so_far began names ns calls groups h = h
+
+-- a call on the one layer may be locked
+locked_call : (bitmaps names : List (List ℕ)) (l : List ℕ) (layers : List (List ℕ)) (act : Act) → length layers ≡ layers_of act → is_on_one l layers act ≡ true → is_beginning act ≡ false → is_ending act ≡ false → may_be_locked (place_among names l) (spelled_call bitmaps act (map (place_among names) layers)) ≡ true
+locked_call bitmaps names l layers act n on begins ends =
+    let slots : List ℕ = map (place_among names) layers in
+    and_from _ _ (on_one bitmaps names l layers act n on) (and_from _ _ (ap not (begins_so bitmaps act slots ∙ begins)) (ap not (ends_so bitmaps act slots ∙ ends)))
+
+-- a further call of an update
+updating_more : (s : ℕ) (cs : List Call) (c : Call) → IsUpdating s cs → may_be_locked s c ≡ true → IsUpdating s (cs ++ c ∷ [])
+updating_more s [] c h k = absurd h
+updating_more s (b ∷ cs) c h k = (h.0, all_pushed (may_be_locked s) cs c h.1 k)
+
+-- A call that neither begins nor ends an update leaves the open group open.
+plain_state : (o : Option Opened) (so_far began : ℕ) (names layers : List (List ℕ)) (act : Act) (bitmaps : List (List ℕ)) (calls : List Call) (groups : List Group) → length calls ≡ so_far → length layers ≡ layers_of act → is_beginning act ≡ false → is_ending act ≡ false → call_may_stand o layers act ≡ true → OpenState o so_far began (and_names names layers) calls groups → OpenState o (so_far + 1) began (and_names names layers) (calls ++ spelled_call bitmaps act (map (place_among (and_names names layers)) layers) ∷ []) groups
+plain_state None so_far began names layers act bitmaps calls groups long n begins ends stands h = end_later groups so_far (so_far + 1) h (omega arith)
+plain_state (Some (Locked l)) so_far began names layers act bitmaps calls groups long n begins ends stands h =
+    let more : List (List ℕ) = and_names names layers in
+    let c : Call = spelled_call bitmaps act (map (place_among more) layers) in
+    let fits = locked_call bitmaps more l layers act n (and_parts (is_on_one l layers act) _ stands).0 begins ends in
+    let P : List Call → Type 0 = λ cs. list_all (may_be_locked (place_among more l)) cs ≡ true in
+    (open_later so_far (so_far + 1) began groups (omega arith) h.0, h.1, subst P (sym (drop_pushed calls c began (omega (arith, long, h.0.order)))) (all_pushed (may_be_locked (place_among more l)) (drop began calls) c h.2 fits))
+plain_state (Some (Updating l)) so_far began names layers act bitmaps calls groups long n begins ends stands h =
+    let more : List (List ℕ) = and_names names layers in
+    let c : Call = spelled_call bitmaps act (map (place_among more) layers) in
+    let fits = locked_call bitmaps more l layers act n (and_parts (is_on_one l layers act) _ stands).0 begins ends in
+    let P : List Call → Type 0 = λ cs. IsUpdating (place_among more l) cs in
+    (open_later so_far (so_far + 1) began groups (omega arith) h.0, h.1, subst P (sym (drop_pushed calls c began (omega (arith, long, h.0.order)))) (updating_more (place_among more l) (drop began calls) c h.2 fits))
+plain_state (Some Held) so_far began names layers act bitmaps calls groups long n begins ends stands h =
+    let slots : List ℕ = map (place_among (and_names names layers)) layers in
+    let c : Call = spelled_call bitmaps act slots in
+    let P : List Call → Type 0 = λ cs. are_held cs ≡ true in
+    (open_later so_far (so_far + 1) began groups (omega arith) h.0, subst P (sym (drop_pushed calls c began (omega (arith, long, h.0.order)))) (all_pushed (λ c. is_all (slots_of c)) (drop began calls) c h.1 (arranges bitmaps act slots stands)))
+
+-- one call more fits
+task_longer : (z : Sizes) (calls : List Call) (groups : List Group) (c : Call) → length calls + 1 ≤ call_limit → call_fits z c ≡ true → is_built c ≡ true → IsTaskFit z calls groups → IsTaskFit z (calls ++ c ∷ []) groups
+task_longer z calls groups c few fits built h =
+    record {
+      few = omega (arith, few, length-append calls (c ∷ []));
+      fit = All-push (λ c. IsTrue (call_fits z c)) calls c h.fit fits;
+      built = All-push (λ c. IsTrue (is_built c)) calls c h.built built;
+      grouped = groups_kept calls c groups h.grouped;
+    }
+
+-- one group more fits
+task_grouped : (z : Sizes) (calls : List Call) (groups : List Group) (g : Group) → EndBefore groups g.first → group_fits calls g ≡ true → IsTaskFit z calls groups → IsTaskFit z calls (groups ++ g ∷ [])
+task_grouped z calls groups g before fits h =
+    record { few = h.few; fit = h.fit; built = h.built; grouped = groups_pushed calls groups g h.grouped before fits }
+
+-- what a line that is no beginning and no end leaves of groups
+pub plain_groups : (above : List LineForm) (layers : List (List ℕ)) (act : Act) → is_beginning act ≡ false → is_ending act ≡ false → (groups_above (CallLine layers act ∷ above) ≡ groups_above above) × (opened_by layers act (group_above above) ≡ group_above above) × (began_at (CallLine layers act ∷ above) ≡ began_at above)
+plain_groups above [] RefreshAct b e = absurd (true≢false b)
+plain_groups above (l ∷ []) RefreshAct b e = absurd (true≢false b)
+plain_groups above (l ∷ m ∷ ms) RefreshAct b e = absurd (true≢false b)
+plain_groups above [] (EndRefreshAct full) b e = absurd (true≢false e)
+plain_groups above (l ∷ []) (EndRefreshAct full) b e = absurd (true≢false e)
+plain_groups above (l ∷ m ∷ ms) (EndRefreshAct full) b e = absurd (true≢false e)
+plain_groups above layers act b e = (refl, refl, refl)
+
+-- the call of a good line fits, and its step is given
+call_sound : (z : Sizes) (s : Setting) (above : List LineForm) (layers : List (List ℕ)) (act : Act) → AreGoodLines s (CallLine layers act ∷ above) → z.hooks ≡ s.hooks → length (names_above (CallLine layers act ∷ above)) ≤ z.slots → length (bitmaps_above above) ≤ z.bitmaps → (call_fits z (call_below above layers act) ≡ true) × (is_built (call_below above layers act) ≡ true)
+call_sound z s above layers act g hooks slots bitmaps =
+    let h = here s above (CallLine layers act) g in
+    let t = tests s above (CallLine layers act) g in
+    let more : List (List ℕ) = and_names (names_above above) layers in
+    let low = places_below more layers (all_named (names_above above) layers) in
+    let P : ℕ → Type 0 = λ n. is_no_hook n (hook_on (CallLine layers act)) ≡ false in
+    (act_fits z (bitmaps_above above) bitmaps (map (place_among more) layers) layers act h.3.1 t.range t.named (subst P (sym hooks) t.hook) (λ i k. omega (arith, low i (omega (arith, h.3.0, k)), slots)), not-false _ t.built)
+
+-- the tasks with a call and groups more in the nearest one
+module _ (z : Sizes) (s : Setting) (above : List LineForm) (layers : List (List ℕ)) (act : Act) (good : AreGoodLines s (CallLine layers act ∷ above)) (hooks : z.hooks ≡ s.hooks) (slots : length (names_above (CallLine layers act ∷ above)) ≤ z.slots) (bitmaps : length (bitmaps_above above) ≤ z.bitmaps) where
+  -- the call
+  abbrev the_call : Call
+  the_call = call_below above layers act
+
+  -- the nearest task's calls with it
+  call_fits_now : (calls : List Call) (groups : List Group) → length calls ≡ calls_so_far above → IsTaskFit z calls groups → IsTaskFit z (calls ++ the_call ∷ []) groups
+  call_fits_now calls groups long h =
+      let sound = call_sound z s above layers act good hooks slots bitmaps in
+      let few = (counted s (CallLine layers act ∷ above) good).calls in
+      task_longer z calls groups the_call (omega (arith, few, long)) sound.0 sound.1 h
+
+  -- the tasks with it
+  with_call : (b : HaveBegun z (view_of above)) (groups : List Group) → groups_above (CallLine layers act ∷ above) ≡ b.done_groups ++ groups ∷ [] → IsTaskFit z (b.calls ++ the_call ∷ []) groups → OpenState (group_above (CallLine layers act ∷ above)) (calls_so_far above + 1) (began_at (CallLine layers act ∷ above)) (and_names (names_above above) layers) (b.calls ++ the_call ∷ []) groups → HaveBegun z (view_of (CallLine layers act ∷ above))
+  with_call b groups are fits state =
+      record {
+        done = b.done;
+        done_groups = b.done_groups;
+        calls = b.calls ++ the_call ∷ [];
+        groups = groups;
+        all_are = ap (onto_last the_call) b.all_are ∙ onto_pushed the_call b.done b.calls;
+        groups_are = are;
+        done_fit = b.done_fit;
+        now = record { long = length-append b.calls (the_call ∷ []) ∙ ap (λ k. k + 1) b.now.long; fits = fits; state = state };
+      }
+
+  -- a call that neither begins nor ends an update
+  plain_call : is_beginning act ≡ false → is_ending act ≡ false → HaveBegun z (view_of above) → HaveBegun z (view_of (CallLine layers act ∷ above))
+  plain_call begins ends b =
+      let h = here s above (CallLine layers act) good in
+      let t = tests s above (CallLine layers act) good in
+      let e = plain_groups above layers act begins ends in
+      let more : List (List ℕ) = and_names (names_above above) layers in
+      let calls : List Call = b.calls ++ the_call ∷ [] in
+      let later = names_later (group_above above) (calls_so_far above) (began_at above) (names_above above) layers b.calls b.groups b.now.state in
+      let plain = plain_state (group_above above) (calls_so_far above) (began_at above) (names_above above) layers act (bitmaps_above above) b.calls b.groups b.now.long h.3.0 begins ends t.group later in
+      let P : Option Opened → Type 0 = λ o. OpenState o (calls_so_far above + 1) (began_at (CallLine layers act ∷ above)) more calls b.groups in
+      let Q : ℕ → Type 0 = λ k. OpenState (group_above above) (calls_so_far above + 1) k more calls b.groups in
+      with_call b b.groups (e.0 ∙ b.groups_are) (call_fits_now b.calls b.groups b.now.long b.now.fits) (subst P (sym e.1) (subst Q (sym e.2) plain))
+
+-- an update begins where no group is open
+pub opens_none : (o : Option Opened) (l : List ℕ) → call_may_stand o (l ∷ []) RefreshAct ≡ true → o ≡ None
+opens_none None l h = refl
+opens_none (Some (Locked m)) l h = absurd (false≢true (and_parts (is_on_one m (l ∷ []) RefreshAct) _ h).1)
+opens_none (Some (Updating m)) l h = absurd (false≢true (and_parts (is_on_one m (l ∷ []) RefreshAct) _ h).1)
+opens_none (Some Held) l h = absurd (false≢true h)
+
+-- an update ends on its layer
+pub ends_same : (o : Option Opened) (l : List ℕ) (full : Bool) → call_may_stand o (l ∷ []) (EndRefreshAct full) ≡ true → o ≡ Some (Updating l)
+ends_same None l full h = absurd (false≢true h)
+ends_same (Some (Locked m)) l full h = absurd (false≢true (and_parts (is_on_one m (l ∷ []) (EndRefreshAct full)) _ h).1)
+ends_same (Some (Updating m)) l full h =
+    let on = and_parts (is_on_one m (l ∷ []) (EndRefreshAct full)) _ h in
+    let same = equal_names m l (and_parts (bytes_eq m l) _ (and_parts (bytes_eq m l && true) _ on.0).0).0 in
+    ap (λ (k : List ℕ). Some (Updating k)) same
+ends_same (Some Held) l full h = absurd (false≢true h)
+
+-- the calls of an update with its end may stand in its group
+update_whole : (slot : ℕ) (cs : List Call) (c : Call) → IsUpdating slot cs → (is_one slot (slots_of c) && ends_update c) ≡ true → may_stand (Slot slot) (cs ++ c ∷ []) ≡ true
+update_whole slot [] c h k = absurd h
+update_whole slot (b ∷ cs) c h k = update_stands slot b cs c h.0 h.1 k
+
+-- an update begins
+refresh_call : (z : Sizes) (s : Setting) (above : List LineForm) (l : List ℕ) → AreGoodLines s (CallLine (l ∷ []) RefreshAct ∷ above) → z.hooks ≡ s.hooks → length (names_above (CallLine (l ∷ []) RefreshAct ∷ above)) ≤ z.slots → length (bitmaps_above above) ≤ z.bitmaps → HaveBegun z (view_of above) → HaveBegun z (view_of (CallLine (l ∷ []) RefreshAct ∷ above))
+refresh_call z s above l g hooks slots bitmaps b =
+    let t = tests s above (CallLine (l ∷ []) RefreshAct) g in
+    let so_far : ℕ = calls_so_far above in
+    let more : List (List ℕ) = and_names (names_above above) (l ∷ []) in
+    let c : Call = call_below above (l ∷ []) RefreshAct in
+    let P : Option Opened → Type 0 = λ o. OpenState o so_far (began_at above) (names_above above) b.calls b.groups in
+    let before : EndBefore b.groups so_far = subst P (opens_none (group_above above) l t.group) b.now.state in
+    let Q : List Call → Type 0 = λ cs. IsUpdating (place_among more l) cs in
+    let alone : drop so_far (b.calls ++ c ∷ []) ≡ c ∷ [] = drop_at b.calls (c ∷ []) so_far b.now.long in
+    let begun : IsUpdating (place_among more l) (c ∷ []) = (and_from _ _ (eq-eqb (place_among more l) _ refl) refl, refl) in
+    with_call z s above (l ∷ []) RefreshAct g hooks slots bitmaps b b.groups b.groups_are (call_fits_now z s above (l ∷ []) RefreshAct g hooks slots bitmaps b.calls b.groups b.now.long b.now.fits)
+    (record { before = before; order = omega arith }, (all_named (names_above above) (l ∷ [])).0, subst Q (sym alone) begun)
+
+-- an update ends
+endrefresh_call : (z : Sizes) (s : Setting) (above : List LineForm) (l : List ℕ) (full : Bool) → AreGoodLines s (CallLine (l ∷ []) (EndRefreshAct full) ∷ above) → z.hooks ≡ s.hooks → length (names_above (CallLine (l ∷ []) (EndRefreshAct full) ∷ above)) ≤ z.slots → length (bitmaps_above above) ≤ z.bitmaps → HaveBegun z (view_of above) → HaveBegun z (view_of (CallLine (l ∷ []) (EndRefreshAct full) ∷ above))
+endrefresh_call z s above l full g hooks slots bitmaps b =
+    let t = tests s above (CallLine (l ∷ []) (EndRefreshAct full)) g in
+    let so_far : ℕ = calls_so_far above in
+    let began : ℕ = began_at above in
+    let slot : ℕ = place_among (names_above above) l in
+    let c : Call = call_below above (l ∷ []) (EndRefreshAct full) in
+    let calls : List Call = b.calls ++ c ∷ [] in
+    let group : Group = group_from above (Slot slot) (so_far + 1) in
+    let P : Option Opened → Type 0 = λ o. OpenState o so_far began (names_above above) b.calls b.groups in
+    let state : OpenState (Some (Updating l)) so_far began (names_above above) b.calls b.groups = subst P (ends_same (group_above above) l full t.group) b.now.state in
+    let long : length calls ≡ so_far + 1 = length-append b.calls (c ∷ []) ∙ ap (λ k. k + 1) b.now.long in
+    let same : place_among (and_names (names_above above) (l ∷ [])) l ≡ slot = place_kept (bytes_eq l) (names_above above) (l ∷ []) state.1 in
+    let ends : (is_one slot (slots_of c) && ends_update c) ≡ true = and_from _ _ (eq-eqb _ slot same) refl in
+    let whole = update_whole slot (drop began b.calls) c state.2 ends in
+    let stands : may_stand (Slot slot) (drop began calls) ≡ true = ap (may_stand (Slot slot)) (drop_pushed b.calls c began (omega (arith, b.now.long, state.0.order))) ∙ whole in
+    let fits : group_fits calls group ≡ true = to_the_end calls began ((so_far + 1) - 1) (Slot slot) (omega (arith, state.0.order)) (omega (arith, long)) stands in
+    with_call z s above (l ∷ []) (EndRefreshAct full) g hooks slots bitmaps b (b.groups ++ group ∷ []) (ap (onto_last group) b.groups_are ∙ onto_pushed group b.done_groups b.groups) (task_grouped z calls b.groups group state.0.before fits (call_fits_now z s above (l ∷ []) (EndRefreshAct full) g hooks slots bitmaps b.calls b.groups b.now.long b.now.fits))
+    (end_pushed b.groups group (so_far + 1) (omega arith))
+
+-- any call
+any_call : (z : Sizes) (s : Setting) (above : List LineForm) (layers : List (List ℕ)) (act : Act) → AreGoodLines s (CallLine layers act ∷ above) → z.hooks ≡ s.hooks → length (names_above (CallLine layers act ∷ above)) ≤ z.slots → length (bitmaps_above above) ≤ z.bitmaps → HaveBegun z (view_of above) → HaveBegun z (view_of (CallLine layers act ∷ above))
+any_call z s above [] RefreshAct g hooks slots bitmaps b = absurd (cc ((here s above (CallLine [] RefreshAct) g).3.0))
+any_call z s above (l ∷ []) RefreshAct g hooks slots bitmaps b = refresh_call z s above l g hooks slots bitmaps b
+any_call z s above (l ∷ m ∷ ms) RefreshAct g hooks slots bitmaps b = absurd (omega (arith, (here s above (CallLine (l ∷ m ∷ ms) RefreshAct) g).3.0))
+any_call z s above [] (EndRefreshAct full) g hooks slots bitmaps b = absurd (cc ((here s above (CallLine [] (EndRefreshAct full)) g).3.0))
+any_call z s above (l ∷ []) (EndRefreshAct full) g hooks slots bitmaps b = endrefresh_call z s above l full g hooks slots bitmaps b
+any_call z s above (l ∷ m ∷ ms) (EndRefreshAct full) g hooks slots bitmaps b = absurd (omega (arith, (here s above (CallLine (l ∷ m ∷ ms) (EndRefreshAct full)) g).3.0))
+any_call z s above layers act g hooks slots bitmaps b = plain_call z s above layers act g hooks slots bitmaps refl refl b
+
+-- the tasks with no further call, and these groups in the nearest one
+grouped : (z : Sizes) (v w : View) (b : HaveBegun z v) (groups : List Group) → w.all ≡ v.all → w.so_far ≡ v.so_far → w.all_groups ≡ b.done_groups ++ groups ∷ [] → IsTaskFit z b.calls groups → OpenState w.group w.so_far w.began w.names b.calls groups → HaveBegun z w
+grouped z v w b groups all so_far are fits state =
+    record {
+      done = b.done;
+      done_groups = b.done_groups;
+      calls = b.calls;
+      groups = groups;
+      all_are = all ∙ b.all_are;
+      groups_are = are;
+      done_fit = b.done_fit;
+      now = record { long = b.now.long ∙ sym so_far; fits = fits; state = state };
+    }
+
+-- no call stands in a group that has just begun
+none_behind : (z : Sizes) (v : View) (b : HaveBegun z v) → drop v.so_far b.calls ≡ []
+none_behind z v b = drop_all v.so_far b.calls (omega (arith, b.now.long))
+
+-- a group begins where none is open
+lock_begins : (z : Sizes) (s : Setting) (above : List LineForm) (name : List ℕ) → AreGoodLines s (LockLine name ∷ above) → HaveBegun z (view_of above) → HaveBegun z (view_of (LockLine name ∷ above))
+lock_begins z s above name g b =
+    let t = tests s above (LockLine name) g in
+    let so_far : ℕ = calls_so_far above in
+    let more : List (List ℕ) = and_names (names_above above) (name ∷ []) in
+    let P : Option Opened → Type 0 = λ o. OpenState o so_far (began_at above) (names_above above) b.calls b.groups in
+    let before : EndBefore b.groups so_far = subst P (none_open (group_above above) t.group) b.now.state in
+    let Q : List Call → Type 0 = λ cs. list_all (may_be_locked (place_among more name)) cs ≡ true in
+    grouped z (view_of above) (view_of (LockLine name ∷ above)) b b.groups refl refl b.groups_are b.now.fits
+    (record { before = before; order = omega arith }, (all_named (names_above above) (name ∷ [])).0, subst Q (sym (none_behind z (view_of above) b)) refl)
+
+hold_begins : (z : Sizes) (s : Setting) (above : List LineForm) → AreGoodLines s (HoldLine ∷ above) → HaveBegun z (view_of above) → HaveBegun z (view_of (HoldLine ∷ above))
+hold_begins z s above g b =
+    let t = tests s above HoldLine g in
+    let so_far : ℕ = calls_so_far above in
+    let P : Option Opened → Type 0 = λ o. OpenState o so_far (began_at above) (names_above above) b.calls b.groups in
+    let before : EndBefore b.groups so_far = subst P (none_open (group_above above) t.group) b.now.state in
+    let Q : List Call → Type 0 = λ cs. are_held cs ≡ true in
+    grouped z (view_of above) (view_of (HoldLine ∷ above)) b b.groups refl refl b.groups_are b.now.fits (record { before = before; order = omega arith }, subst Q (sym (none_behind z (view_of above) b)) refl)
+
+-- a lock ends on its layer, and a hold ends
+pub unlocks_same : (o : Option Opened) (l : List ℕ) → is_lock_on l o ≡ true → o ≡ Some (Locked l)
+unlocks_same None l h = absurd (false≢true h)
+unlocks_same (Some (Locked m)) l h = ap (λ (k : List ℕ). Some (Locked k)) (sym (equal_names l m h))
+unlocks_same (Some (Updating m)) l h = absurd (false≢true h)
+unlocks_same (Some Held) l h = absurd (false≢true h)
+
+pub releases_held : (o : Option Opened) → is_hold o ≡ true → o ≡ Some Held
+releases_held None h = absurd (false≢true h)
+releases_held (Some (Locked m)) h = absurd (false≢true h)
+releases_held (Some (Updating m)) h = absurd (false≢true h)
+releases_held (Some Held) h = refl
+
+-- the group that ends with the last call
+ended_group : (z : Sizes) (above : List LineForm) (b : HaveBegun z (view_of above)) (hold : Hold) → began_at above < calls_so_far above → EndBefore b.groups (began_at above) → may_stand hold (drop (began_at above) b.calls) ≡ true → IsTaskFit z b.calls (b.groups ++ group_from above hold (calls_so_far above) ∷ [])
+ended_group z above b hold some before stands =
+    let fits = to_the_end b.calls (began_at above) (calls_so_far above - 1) hold (omega arith) (omega (arith, b.now.long, some)) stands in
+    task_grouped z b.calls b.groups (group_from above hold (calls_so_far above)) before fits b.now.fits
+
+unlock_ends : (z : Sizes) (s : Setting) (above : List LineForm) (name : List ℕ) → AreGoodLines s (UnlockLine name ∷ above) → HaveBegun z (view_of above) → HaveBegun z (view_of (UnlockLine name ∷ above))
+unlock_ends z s above name g b =
+    let t = and_parts (is_lock_on name (group_above above)) _ (tests s above (UnlockLine name) g).group in
+    let some : began_at above < calls_so_far above = ltb-true _ _ t.1 in
+    let slot : ℕ = place_among (names_above above) name in
+    let group : Group = group_from above (Slot slot) (calls_so_far above) in
+    let P : Option Opened → Type 0 = λ o. OpenState o (calls_so_far above) (began_at above) (names_above above) b.calls b.groups in
+    let state : OpenState (Some (Locked name)) (calls_so_far above) (began_at above) (names_above above) b.calls b.groups = subst P (unlocks_same (group_above above) name t.0) b.now.state in
+    let long : length (drop (began_at above) b.calls) ≡ length b.calls - began_at above = length-drop (began_at above) b.calls in
+    let stands = locked_stands slot (drop (began_at above) b.calls) (omega (arith, long, some, b.now.long)) state.2 in
+    grouped z (view_of above) (view_of (UnlockLine name ∷ above)) b (b.groups ++ group ∷ []) refl refl (ap (onto_last group) b.groups_are ∙ onto_pushed group b.done_groups b.groups) (ended_group z above b (Slot slot) some state.0.before stands)
+    (end_pushed b.groups group (calls_so_far above) (omega (arith, some)))
+
+release_ends : (z : Sizes) (s : Setting) (above : List LineForm) → AreGoodLines s (ReleaseLine ∷ above) → HaveBegun z (view_of above) → HaveBegun z (view_of (ReleaseLine ∷ above))
+release_ends z s above g b =
+    let t = and_parts (is_hold (group_above above)) _ (tests s above ReleaseLine g).group in
+    let some : began_at above < calls_so_far above = ltb-true _ _ t.1 in
+    let group : Group = group_from above AllLayers (calls_so_far above) in
+    let P : Option Opened → Type 0 = λ o. OpenState o (calls_so_far above) (began_at above) (names_above above) b.calls b.groups in
+    let state : OpenState (Some Held) (calls_so_far above) (began_at above) (names_above above) b.calls b.groups = subst P (releases_held (group_above above) t.0) b.now.state in
+    grouped z (view_of above) (view_of (ReleaseLine ∷ above)) b (b.groups ++ group ∷ []) refl refl (ap (onto_last group) b.groups_are ∙ onto_pushed group b.done_groups b.groups) (ended_group z above b AllLayers some state.0.before state.1)
+    (end_pushed b.groups group (calls_so_far above) (omega (arith, some)))
+
+-- the screen line leaves no tasks
+screen_tasks : (z : Sizes) (c : Section) (v : View) → is_screen_due c ≡ true → AreTasks z c v → AreTasks z AssetsAreDue v
+screen_tasks z ScreenIsDue v e h = record { closed = λ d. h.closed refl; tasks = h.tasks }
+screen_tasks z AssetsAreDue v e h = absurd (false≢true e)
+screen_tasks z CallsAreDue v e h = absurd (false≢true e)
+screen_tasks z TasksAreDue v e h = absurd (false≢true e)
+screen_tasks z NumbersAreDue v e h = absurd (false≢true e)
+screen_tasks z NothingIsDue v e h = absurd (false≢true e)
+
+-- a task ends where no group is open
+end_tasks : (z : Sizes) (c : Section) (v : View) → are_calls_due c ≡ true → v.group ≡ None → AreTasks z c v → AreTasks z TasksAreDue v
+end_tasks z c v e n h =
+    let P : Section → Type 0 = λ k. AreTasks z k v in
+    let at : AreTasks z CallsAreDue v = subst P (in_calls c e) h in
+    record { closed = λ d. n; tasks = at.tasks }
+
+-- an order or a report leaves the tasks
+after_tasks : (z : Sizes) (c : Section) (v : View) → are_tasks_due c ≡ true → AreTasks z c v → AreTasks z NumbersAreDue v × AreTasks z NothingIsDue v
+after_tasks z c v e h =
+    let P : Section → Type 0 = λ k. AreTasks z k v in
+    let at : AreTasks z TasksAreDue v = subst P (in_tasks c e) h in
+    (record { closed = λ d. at.closed refl; tasks = at.tasks }, record { closed = λ d. at.closed refl; tasks = at.tasks })
+
+-- Good lines give tasks whose calls and groups fit sizes that have their names.
+pub tasks_fit : (z : Sizes) (s : Setting) (above : List LineForm) → AreGoodLines s above → z.hooks ≡ s.hooks → length (names_above above) ≤ z.slots → length (bitmaps_above above) ≤ z.bitmaps → AreTasks z (section_of above) (view_of above)
+tasks_fit z s [] g hooks slots bitmaps = record { closed = λ d. refl; tasks = (refl, refl) }
+tasks_fit z s (ScreenLine w h d ∷ above) g hooks slots bitmaps =
+    screen_tasks z (section_of above) (view_of above) (here s above (ScreenLine w h d) g).1 (tasks_fit z s above g.1 hooks slots bitmaps)
+tasks_fit z s (BitmapLine name w h d ∷ above) g hooks slots bitmaps =
+    tasks_fit z s above g.1 hooks slots (omega (arith, length-append (bitmaps_above above) (name ∷ []), bitmaps))
+tasks_fit z s (TaskLine name ∷ above) g hooks slots bitmaps =
+    record {
+      closed = λ d. absurd (true≢false d);
+      tasks = task_begins z (section_of above) (view_of above) (view_of (TaskLine name ∷ above)) (here s above (TaskLine name) g).1 refl refl refl refl (tasks_fit z s above g.1 hooks slots bitmaps);
+    }
+tasks_fit z s (EndLine ∷ above) g hooks slots bitmaps =
+    end_tasks z (section_of above) (view_of above) (here s above EndLine g).1 (none_open (group_above above) (tests s above EndLine g).group) (tasks_fit z s above g.1 hooks slots bitmaps)
+tasks_fit z s (OrderLine ∷ above) g hooks slots bitmaps =
+    (after_tasks z (section_of above) (view_of above) (and_parts (are_tasks_due (section_of above)) _ (here s above OrderLine g).1).0 (tasks_fit z s above g.1 hooks slots bitmaps)).0
+tasks_fit z s (ReportLine ∷ above) g hooks slots bitmaps =
+    (after_tasks z (section_of above) (view_of above) (and_parts (are_tasks_due (section_of above)) _ (here s above ReportLine g).1).0 (tasks_fit z s above g.1 hooks slots bitmaps)).1
+tasks_fit z s (CallLine layers act ∷ above) g hooks slots bitmaps =
+    inside z (section_of above) (view_of above) (view_of (CallLine layers act ∷ above)) (in_calls (section_of above) (here s above (CallLine layers act) g).1) (any_call z s above layers act g hooks slots bitmaps) (tasks_fit z s above g.1 hooks (omega (arith, names_grow (names_above above) layers, slots)) bitmaps)
+tasks_fit z s (LockLine name ∷ above) g hooks slots bitmaps =
+    inside z (section_of above) (view_of above) (view_of (LockLine name ∷ above)) (in_calls (section_of above) (here s above (LockLine name) g).1) (lock_begins z s above name g) (tasks_fit z s above g.1 hooks (omega (arith, names_grow (names_above above) (name ∷ []), slots)) bitmaps)
+tasks_fit z s (UnlockLine name ∷ above) g hooks slots bitmaps =
+    inside z (section_of above) (view_of above) (view_of (UnlockLine name ∷ above)) (in_calls (section_of above) (here s above (UnlockLine name) g).1) (unlock_ends z s above name g) (tasks_fit z s above g.1 hooks (omega (arith, names_grow (names_above above) (name ∷ []), slots)) bitmaps)
+tasks_fit z s (HoldLine ∷ above) g hooks slots bitmaps =
+    inside z (section_of above) (view_of above) (view_of (HoldLine ∷ above)) (in_calls (section_of above) (here s above HoldLine g).1) (hold_begins z s above g) (tasks_fit z s above g.1 hooks slots bitmaps)
+tasks_fit z s (ReleaseLine ∷ above) g hooks slots bitmaps =
+    inside z (section_of above) (view_of above) (view_of (ReleaseLine ∷ above)) (in_calls (section_of above) (here s above ReleaseLine g).1) (release_ends z s above g) (tasks_fit z s above g.1 hooks slots bitmaps)
+tasks_fit z s (f ∷ above) g hooks slots bitmaps = tasks_fit z s above g.1 hooks slots bitmaps
+
+-- there are as many lists of calls as tasks, and as many lists of groups
+pub calls_listed : (above : List LineForm) → length (calls_above above) ≡ length (tasks_above above)
+calls_listed [] = refl
+calls_listed (TaskLine name ∷ above) = length-append (calls_above above) ([] ∷ []) ∙ ap (λ k. k + 1) (calls_listed above) ∙ sym (length-append (tasks_above above) (name ∷ []))
+calls_listed (CallLine layers act ∷ above) = length_onto (call_below above layers act) (calls_above above) ∙ calls_listed above
+calls_listed (f ∷ above) = calls_listed above
+
+pub groups_listed : (above : List LineForm) → length (groups_above above) ≡ length (tasks_above above)
+groups_listed [] = refl
+groups_listed (TaskLine name ∷ above) = length-append (groups_above above) ([] ∷ []) ∙ ap (λ k. k + 1) (groups_listed above) ∙ sym (length-append (tasks_above above) (name ∷ []))
+groups_listed (UnlockLine name ∷ above) = length_onto _ (groups_above above) ∙ groups_listed above
+groups_listed (ReleaseLine ∷ above) = length_onto _ (groups_above above) ∙ groups_listed above
+groups_listed (CallLine (l ∷ []) (EndRefreshAct full) ∷ above) = length_onto _ (groups_above above) ∙ groups_listed above
+groups_listed (f ∷ above) = groups_listed above
+
+-- what holds of each pair holds at each place, and of each first one
+pub zip_at : {A B : Type 0} (R : A → B → Type 0) (xs : List A) (ys : List B) (d : A) (e : B) → AllZip R xs ys → R d e → (i : ℕ) → R (slice_index_or xs i d) (slice_index_or ys i e)
+zip_at R [] [] d e h k i = k
+zip_at R [] (y ∷ ys) d e h k i = absurd h
+zip_at R (x ∷ xs) [] d e h k i = absurd h
+zip_at R (x ∷ xs) (y ∷ ys) d e h k zero = h.0
+zip_at R (x ∷ xs) (y ∷ ys) d e h k (suc i) = zip_at R xs ys d e h.1 k i
+
+pub zip_first : {A B : Type 0} (R : A → B → Type 0) (P : A → Type 0) (xs : List A) (ys : List B) → ((x : A) (y : B) → R x y → P x) → AllZip R xs ys → All P xs
+zip_first R P [] ys f h = All-nil P
+zip_first R P (x ∷ xs) [] f h = absurd h
+zip_first R P (x ∷ xs) (y ∷ ys) f h = All-cons P x xs (f x y h.0) (zip_first R P xs ys f h.1)
+
+-- every task of tasks that have begun fits
+pub every_task : (z : Sizes) (v : View) → HaveBegun z v → AllZip (IsTaskFit z) v.all v.all_groups
+every_task z v b =
+    let P : List (List Call) → Type 0 = λ lists. AllZip (IsTaskFit z) lists v.all_groups in
+    let Q : List (List Group) → Type 0 = λ lists. AllZip (IsTaskFit z) (b.done ++ b.calls ∷ []) lists in
+    subst P (sym b.all_are) (subst Q (sym b.groups_are) (zip_pushed (IsTaskFit z) b.done b.done_groups b.calls b.groups b.done_fit b.now.fits))
+
+-- a task that a plan hasn't got fits
+pub no_task : (z : Sizes) → IsTaskFit z [] []
+no_task z = nothing_fits z

@@ -1,0 +1,16 @@
+pub mod Refused
+pub mod Settling
+pub mod Lossless
+pub mod Seen
+pub mod Untouched
+pub mod Locality
+pub mod PaintSound
+pub mod DrawingSound
+pub mod LayerCallSound
+pub mod ListSound
+pub mod RevealSound
+pub mod SettledSound
+pub mod ArrangedSound
+pub mod CreatedSound
+pub mod ArrangementSound
+pub mod ReachedSound

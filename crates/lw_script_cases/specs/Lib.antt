@@ -1,0 +1,3 @@
+pub mod WholeScripts
+pub mod CanonicalTexts
+pub mod LinesBelow

@@ -1,0 +1,36 @@
+-- Lines below lines whose calls aren't built yet: what stands above them is taken as it is, good or not.
+use Rattle.std.specs.Prelude.{ℕ, List, [], ◌++◌, Option, codes}
+use Rattle.std.specs.List.{flat_map, range_with_len}
+use Rattle.std.specs.Fmt.{decimal}
+use Rattle.lw_calls.specs.declared.reason.Reason.{Reason}
+use Rattle.lw_grammar.specs.Lines.{lines}
+use Rattle.lw_grammar.specs.Script.{Setting, reason_of, with_lines}
+use Rattle.lw_script_cases.specs.WholeScripts.{script, in_task_a}
+
+-- the first reason of a line below the lines of these bytes
+abbrev pub reason_below : Setting → List ℕ → List ℕ → Option Reason
+reason_below s above line = reason_of s (with_lines [] (lines above)) (script line)
+
+-- a task with a created layer that names hook 2, and one with an opened window that does
+abbrev pub created_with_hook : List ℕ
+created_with_hook = in_task_a ++ script (codes "create w smart front 0 0 7 3 hook 2/")
+
+abbrev pub opened_with_hook : List ℕ
+opened_with_hook = in_task_a ++ script (codes "open w simple behind 0 0 9 14 nocare hook 2 ''/")
+
+-- the first of two tasks names hook 2
+abbrev pub hook_of_another_task : List ℕ
+hook_of_another_task = created_with_hook ++ script (codes "end/task b/")
+
+-- the greatest hook that a script can name
+abbrev pub greatest_hook : List ℕ
+greatest_hook = in_task_a ++ script (codes "create w smart front 0 0 7 3 hook 4294967295/")
+
+-- a task with two layers, of which the first is being updated
+abbrev pub updating : List ℕ
+updating = in_task_a ++ script (codes "create w smart front 0 0 7 3/create v smart front 0 0 7 3/refresh w/")
+
+-- a task with so many super-bitmap layers, each second one a window
+abbrev pub supers : ℕ → List ℕ
+supers n =
+    in_task_a ++ flat_map (λ i. script (codes "create s") ++ decimal i ++ script (codes " super front 0 0 7 3 8 4/open t") ++ decimal i ++ script (codes " super front 0 0 8 4 8 4 ''/")) (range_with_len 0 n)

@@ -1,0 +1,28 @@
+//! Canonical texts of plans.
+#![tactic(auto, unfolding(crate::proofs::Computing::computing, lw_canonical::specs::Canonical::canonical_text, lw_planes::specs::Row::row_bit, lw_planes::specs::Storage::bit_place))]
+
+ghost use Rattle.std.specs.Prelude.{◌≡◌};
+ghost use Rattle.lw_canonical.specs.Canonical.{canonical_text};
+ghost use Rattle.lw_cases.specs.Drawing.{first_fill};
+ghost use Rattle.lw_script_cases.specs.WholeScripts.{first_fill_script};
+ghost use Rattle.lw_script_cases.specs.CanonicalTexts.{three_tasks, three_tasks_text, all_asked, all_asked_text, further_calls, further_calls_text};
+
+/// The first fill's canonical text is its script.
+pub fn first_fill_is_canonical()
+    ensures { canonical_text first_fill ≡ first_fill_script }
+{}
+
+/// Glyphs, a bitmap and three tasks stand in their order, with the lines of their groups.
+pub fn groups_stand_around_their_calls()
+    ensures { canonical_text three_tasks ≡ three_tasks_text }
+{}
+
+/// Optional words stand in the order of their forms.
+pub fn optional_words_stand_in_order()
+    ensures { canonical_text all_asked ≡ all_asked_text }
+{}
+
+/// Each further call has its words in their order.
+pub fn calls_have_their_words()
+    ensures { canonical_text further_calls ≡ further_calls_text }
+{}

@@ -1,0 +1,7 @@
+//! Worked cases of the grammar, as theorems over its definitions alone: each function says that the definitions give this
+//! answer for this script, or this text for this plan. The check computes it.
+#![tactic(auto)]
+
+pub mod canonical;
+pub mod lines_below;
+pub mod scripts;
