@@ -1,7 +1,7 @@
 -- What follows one read or write after another.
 use Rattle.std.proofs.Common.{◌≡◌, ℕ, ◌+◌, ◌-◌, ◌≤◌, List, ◌++◌, length, Option, None, Some, refl, sym, ap, ◌∙◌, append_assoc, length-append, arith, take, drop}
 use Rattle.std.proofs.Math.Seq.{take-add}
-use Rattle.lw_io.specs.Streams.{bytes_before, bytes_after, TakesAtMost}
+use Rattle.lw_io.specs.Streams.{bytes_before, bytes_after, TakesAtMost, TakesJust}
 
 -- bytes before bytes are the joined bytes
 pub bytes_before-bytes_before : (a b : List ℕ) (told : Option (List ℕ)) → bytes_before a (bytes_before b told) ≡ bytes_before (a ++ b) told
@@ -23,6 +23,11 @@ pub TakesAtMost-from : (most had : ℕ) (bytes : List ℕ) (before between after
 TakesAtMost-from most had bytes before between after l h e t =
     let more : List ℕ = t.0 in
     (bytes ++ more, omega (arith, length-append bytes more), e ∙ ap (bytes_before bytes) t.2 ∙ bytes_before-bytes_before bytes more after)
+
+pub TakesJust-from : (most had : ℕ) (bytes : List ℕ) (before between after : Option (List ℕ)) → had ≡ length bytes → had ≤ most → before ≡ bytes_before bytes between → TakesJust (most - had + 1) between after → TakesJust (most + 1) before after
+TakesJust-from most had bytes before between after l h e t =
+    let more : List ℕ = t.0 in
+    (bytes ++ more, omega (arith, length-append bytes more, t.1), e ∙ ap (bytes_before bytes) t.2 ∙ bytes_before-bytes_before bytes more after)
 
 -- how far a copy of some bytes to a sink has come, from the count of faults and what was written before it
 pub record HasWritten (bytes : List ℕ) (at faults_before faults : ℕ) (before written : Option (List ℕ)) : Type 0 where

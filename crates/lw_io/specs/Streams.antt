@@ -25,6 +25,11 @@ abbrev pub TakesAtMost : ℕ → Option (List ℕ) → Option (List ℕ) → Typ
 TakesAtMost most before after =
     (bytes : List ℕ) × (length bytes ≤ most) × (before ≡ bytes_before bytes after)
 
+-- some bytes, just this many, were taken from the front of what was left
+abbrev pub TakesJust : ℕ → Option (List ℕ) → Option (List ℕ) → Type 0
+TakesJust count before after =
+    (bytes : List ℕ) × (length bytes ≡ count) × (before ≡ bytes_before bytes after)
+
 -- a front of these bytes, be it none or all of them, came after what was written
 abbrev pub WritesPrefix : List ℕ → Option (List ℕ) → Option (List ℕ) → Type 0
 WritesPrefix bytes before after =

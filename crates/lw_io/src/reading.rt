@@ -1,5 +1,5 @@
 ghost use Rattle.std.specs.Prelude.{◌≡◌, ◌<◌, ◌≤◌, ◌+◌, length, vec_len, OnOk, IfOk, IfSome, IsErrOf, ◌-◌, IsTrue, false};
-ghost use Rattle.lw_io.specs.Streams.{Rose, bytes_before, NoneLeft, TakesAtMost, Moves};
+ghost use Rattle.lw_io.specs.Streams.{Rose, bytes_before, NoneLeft, TakesAtMost, TakesJust, Moves};
 
 use crate::Source;
 use std::alloc::Global;
@@ -24,7 +24,8 @@ pub enum ReadStop {
 
 /// Reads all that `source` has left, to its end: at most `limit` bytes.
 ///
-/// More than `limit` bytes are `TooLong`. At most `limit + 1` bytes are taken, whatever the answer.
+/// More than `limit` bytes are `TooLong`, and `limit + 1` of them are taken then. At most
+/// `limit + 1` bytes are taken, whatever the answer.
 pub fn read_all<S: Source>(alloc: Global, source: &mut S, limit: usize) -> Result<Vec<u8>, ReadStop>
     requires { limit < usize.MAX }
 
@@ -36,7 +37,7 @@ pub fn read_all<S: Source>(alloc: Global, source: &mut S, limit: usize) -> Resul
 
     // Why it stopped before the end. By `whole` and `within` more than the limit is never `Ok`.
     ensures too_long { IsErrOf result ReadStop.TooLong
-        → IfSome (S.left source.old) (λ left. limit < length left) }
+        → TakesJust (limit + 1) (S.left source.old) (S.left source.new) }
     ensures fault { IsErrOf result ReadStop.Fault
         → Rose (S.faults source.old) (S.faults source.new) }
 
@@ -70,7 +71,7 @@ fn read_piece<S: Source>(
     ensures fault { IsErrOf result ReadStop.Fault
         → Rose (S.faults source.old) (S.faults source.new) }
     ensures too_long { IsErrOf result ReadStop.TooLong
-        → IfSome (S.left source.old) (λ left. limit < vec_len bytes.old + length left) }
+        → TakesJust (limit - vec_len bytes.old + 1) (S.left source.old) (S.left source.new) }
     ensures taken { TakesAtMost (limit - vec_len bytes.old + 1)
         (S.left source.old) (S.left source.new) }
 {

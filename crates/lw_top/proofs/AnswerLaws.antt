@@ -1,180 +1,211 @@
--- What follows from what serving a command ensures of its answer.
-use Rattle.std.proofs.Common.{◌≡◌, ◌≢◌, ◌⊎◌, ℕ, ◌+◌, List, [], Option, Some, None, refl, sym, ap, ◌∙◌, inl, inr, append-nil, ◌<◌, ◌≤◌, length, IfSome, subst, arith, IsTrue}
-use Rattle.std.proofs.lemmas.Bool.{false≢true}
-use Rattle.lw_io.specs.Streams.{Rose, bytes_after, TakesAtMost}
+-- What a command's promise tells of its answer.
+use Rattle.std.proofs.Common.{◌≡◌, ◌≢◌, ◌⊎◌, ℕ, ◌+◌, ◌<◌, ◌≤◌, List, [], ◌++◌, Option, Some, None, IfSome, true, false, IsTrue, length, refl, sym, ap, subst, ◌∙◌, inl, inr, append-nil, length-append, arith}
+use Rattle.std.proofs.lemmas.Bool.{true≢false}
+use Rattle.lw_io.specs.Streams.{Rose, bytes_before, bytes_after, TakesJust, TakesAtMost}
 use Rattle.lw_calls.specs.declared.reason.Reason.{Reason}
+use Rattle.lw_calls.specs.Entries.{only_order}
+use Rattle.lw_machine.specs.Report.{run_report}
+use Rattle.lw_canonical.specs.Canonical.{canonical_text}
 use Rattle.lw_grammar.specs.Lines.{lines}
 use Rattle.lw_grammar.specs.Script.{ScriptInput, SpellsInput, IsFirstBadIn}
-use Rattle.lw_grammar.proofs.ScriptAnswer.{bad_or_spelled, one_bad_line, one_spelled}
-use Rattle.lw_top.specs.Answers.{Shows, Tells, Took, Answered}
-use Rattle.lw_top.specs.Commands.{reads_with, IsTextFor, IsBadOrderFor, IsDue, IsTextOf, IsBadOrderOf}
-use Rattle.lw_top.specs.Status.{text_of, is_stop, IsUnlessStopped, input_limit, Says}
 use Rattle.lw_top.specs.declared.status.Status.{Status}
 use Rattle.lw_top.specs.declared.status.Status.TheVariants.{Done, Refused, Usage, ReadFault, WriteFault, NoMemory, TooLong, BadOrder}
 use Rattle.lw_top.specs.declared.words.Command.{Command}
 use Rattle.lw_top.specs.declared.words.Command.TheVariants.{Run, Check, Replay}
-use Rattle.lw_top.proofs.BadPlaces.{one_bad_place, legal_or_bad}
+use Rattle.lw_top.specs.Commands.{reads_with, IsTextFor}
+use Rattle.lw_top.specs.Laws.{IsTextOf, IsBadOrderOf, IsDue, IsUnlessStopped, is_stop, IsInput, Told, ToldOfWords}
+use Rattle.lw_top.specs.Outcome.{IsOutcome, IsTaken, Served, Answered}
+use Rattle.lw_top.specs.Status.{Says, text_of, input_limit}
+use Rattle.lw_top.proofs.Outcomes.{one_outcome}
+
+-- an outcome is no stop, and no usage line
+no_stop : (command : Command) (input : List ℕ) (s : Status) (text : List ℕ) → IsOutcome command input s text → is_stop s ≡ false
+no_stop command input Done text h = refl
+no_stop command input (Refused line reason) text h = refl
+no_stop command input TooLong text h = refl
+no_stop command input (BadOrder place) text h = refl
+no_stop command input Usage text h = refl
+no_stop command input s text h = absurd h.3
+
+no_usage : (command : Command) (input : List ℕ) (s : Status) (text : List ℕ) → IsOutcome command input s text → s ≢ Usage
+no_usage command input Usage text h e = h.3
+no_usage command input s text h e = cc
+
+-- what was said of an outcome is no fault of the source and no want of memory
+pub said_not_stopped : (command : Command) (input : List ℕ) (due r : Status) (text : List ℕ) (before after : Option (List ℕ)) (f g : ℕ) → IsOutcome command input due text → Says text due r before after f g → (r ≡ ReadFault) ⊎ (r ≡ NoMemory) → ⊥
+said_not_stopped command input due r text before after f g h (inl e) (inl d) = true≢false (sym (ap is_stop (sym e.0 ∙ d)) ∙ no_stop command input due text h)
+said_not_stopped command input due r text before after f g h (inl e) (inr d) = true≢false (sym (ap is_stop (sym e.0 ∙ d)) ∙ no_stop command input due text h)
+said_not_stopped command input due r text before after f g h (inr e) (inl d) = let same : WriteFault ≡ ReadFault = sym e.0 ∙ d in cc
+said_not_stopped command input due r text before after f g h (inr e) (inr d) = let same : WriteFault ≡ NoMemory = sym e.0 ∙ d in cc
+
+-- The outcome on what was taken is the outcome on all that was left.
+of_left : (command : Command) (input left : List ℕ) (rest : Option (List ℕ)) (due : Status) (text : List ℕ) → IsTaken input (Some left) rest → IsOutcome command input due text → IsOutcome command left due text
+of_left command input left None due text taken h = let e : Some left ≡ None = taken.front in cc
+of_left command input left (Some rest) due text taken h = elim taken.ended [ inl e ↦ subst (λ l. IsOutcome command l due text) (whole e.1) h | inr e ↦ long e due h ]
+  where
+    all : left ≡ input ++ rest
+    all = let e : Some left ≡ Some (input ++ rest) = taken.front in cc
+
+    whole : rest ≡ [] → input ≡ left
+    whole e = sym (all ∙ ap (λ r. input ++ r) e ∙ append-nil input)
+
+    long : length input ≡ input_limit + 1 → (due : Status) → IsOutcome command input due text → IsOutcome command left due text
+    long e TooLong h = let most = ap length all ∙ length-append input rest in (omega (arith, most, e), h.1)
+    long e due h = let short = h.0 in absurd (omega (arith, short, e))
+
+-- the answer that was due is the outcome, or the sink failed
+said_only : (command : Command) (input : List ℕ) (due wanted r : Status) (text other : List ℕ) (before after : Option (List ℕ)) (f g : ℕ) → IsOutcome command input due text → Says text due r before after f g → IsOutcome command input wanted other → ((r ≡ wanted) × (after ≡ bytes_after before other)) ⊎ ((r ≡ WriteFault) × Rose f g)
+said_only command input due wanted r text other before after f g h (inl e) w =
+    let same = one_outcome command input due wanted text other h w in
+    inl (e.0 ∙ same.0, e.1 ∙ ap (bytes_after before) same.1)
+said_only command input due wanted r text other before after f g h (inr e) w = inr (e.0, e.2)
+
+-- what a command tells where its text or its order's bad place is due
+due_text : (command : Command) (script : ScriptInput) → IsDue command script → (text : List ℕ) × IsTextFor command script text
+due_text Run script due = (run_report script.plan [] (only_order script.plan), refl)
+due_text Check script due = (canonical_text script.plan, refl)
+due_text Replay script due = (run_report script.plan [] script.order, (due, refl))
+
+-- the text of an answer that has one of its own
+own_text : (command : Command) (input : List ℕ) (s : Status) (text : List ℕ) → IsOutcome command input s text → (s ≡ Done) ⊎ (text ≡ text_of s)
+own_text command input Done text h = inl refl
+own_text command input (Refused line reason) text h = inr h.2
+own_text command input TooLong text h = inr h.1
+own_text command input (BadOrder place) text h = inr h.3.1
+own_text command input s text h = absurd h.3
 
 -- nothing more was written
 bytes_after-none : (told : Option (List ℕ)) → bytes_after told [] ≡ told
 bytes_after-none None = refl
 bytes_after-none (Some bytes) = ap Some (append-nil bytes)
 
--- each answer but Done and WriteFault has its text written
-text_shown : (r : Status) (s t : ℕ) (before after : Option (List ℕ)) (f g : ℕ) → Shows r s t before after f g → r ≢ Done → r ≢ WriteFault → after ≡ bytes_after before (text_of r)
-text_shown Done s t before after f g h not_done not_fault = absurd (not_done refl)
-text_shown (Refused line reason) s t before after f g h not_done not_fault = h
-text_shown Usage s t before after f g h not_done not_fault = absurd h
-text_shown ReadFault s t before after f g h not_done not_fault = h.0 ∙ sym (bytes_after-none before)
-text_shown WriteFault s t before after f g h not_done not_fault = absurd (not_fault refl)
-text_shown NoMemory s t before after f g h not_done not_fault = h ∙ sym (bytes_after-none before)
-text_shown TooLong s t before after f g h not_done not_fault = h
-text_shown (BadOrder place) s t before after f g h not_done not_fault = h
+-- what was taken is the whole input where it is no longer than the limit
+whole_input : (input : List ℕ) (left rest : Option (List ℕ)) → IsTaken input left rest → length input ≤ input_limit → IsInput input left rest
+whole_input input left rest taken short = elim taken.ended [ inl e ↦ record { taken = taken.front; end = e.1; within = short } | inr e ↦ absurd (omega (arith, e, short)) ]
 
--- what an answer tells of its input, where the command's text was due
-pub done_tells : (command : Command) (input said text : List ℕ) (r : Status) (before after : Option (List ℕ)) (f g : ℕ) → length input ≤ input_limit → said ≡ text → IsTextOf command input text → Says said Done r before after f g → Tells command input r before after
-done_tells command input said text r before after f g short same is h =
-    let P : Status → Type 0 = λ s. Tells command input s before after in
-    let here : IsTextOf command input said = subst (IsTextOf command input) (sym same) is in
-    elim h [ inl e ↦ subst P (sym e.0) (short, said, here, e.1) | inr e ↦ subst P (sym e.0) tt ]
+-- an answer that is no stop is the outcome on what was taken, and its text was written whole
+came : (command : Command) (q r : Status) (left rest : Option (List ℕ)) (s t : ℕ) (before after : Option (List ℕ)) (f g : ℕ) → Answered command r left rest s t before after f g → is_stop q ≡ false → r ≡ q
+    → (input : List ℕ) × IsTaken input left rest × (text : List ℕ) × IsOutcome command input q text × (after ≡ bytes_after before text)
+came command q r left rest s t before after f g h goes is = elim h.outcome [ inl e ↦ served e e.said | inr e ↦ absurd (elim e [ inl d ↦ stopped ReadFault refl d.0 | inr d ↦ stopped NoMemory refl d ]) ]
+  where
+    stopped : (p : Status) → is_stop p ≡ true → r ≡ p → ⊥
+    stopped p stops e = true≢false (sym stops ∙ ap is_stop (sym e ∙ is) ∙ goes)
 
--- the same where the order's first bad place was due
-stopped_tells : (command : Command) (input : List ℕ) (r : Status) (before after : Option (List ℕ)) → IsTrue (is_stop r) → Tells command input r before after
-stopped_tells command input Done before after h = absurd (false≢true h)
-stopped_tells command input (Refused line reason) before after h = absurd (false≢true h)
-stopped_tells command input Usage before after h = absurd (false≢true h)
-stopped_tells command input ReadFault before after h = tt
-stopped_tells command input WriteFault before after h = tt
-stopped_tells command input NoMemory before after h = tt
-stopped_tells command input TooLong before after h = absurd (false≢true h)
-stopped_tells command input (BadOrder place) before after h = absurd (false≢true h)
+    served : (e : Served command r left rest before after f g) → Says e.text e.due r before after f g → (input : List ℕ) × IsTaken input left rest × (text : List ℕ) × IsOutcome command input q text × (after ≡ bytes_after before text)
+    served e (inl d) = (e.input, e.taken, e.text, subst (λ p. IsOutcome command e.input p e.text) (sym d.0 ∙ is) e.outcome, d.1)
+    served e (inr d) = absurd (stopped WriteFault refl d.0)
 
-pub bad_order_tells : (command : Command) (input : List ℕ) (place : ℕ) (r : Status) (before after : Option (List ℕ)) → length input ≤ input_limit → IsBadOrderOf command input place → IsUnlessStopped (BadOrder place) r → Tells command input r before after
-bad_order_tells command input place r before after short bad (inl e) = subst (λ s. Tells command input s before after) (sym e) (short, bad)
-bad_order_tells command input place r before after short bad (inr h) = stopped_tells command input r before after h
+-- the same of all that was left
+came_of_left : (command : Command) (q r : Status) (left rest : Option (List ℕ)) (s t : ℕ) (before after : Option (List ℕ)) (f g : ℕ) → Answered command r left rest s t before after f g → is_stop q ≡ false → r ≡ q
+    → IfSome left (λ input. (text : List ℕ) × IsOutcome command input q text × (after ≡ bytes_after before text))
+came_of_left command q r None rest s t before after f g h goes is = tt
+came_of_left command q r (Some left) rest s t before after f g h goes is =
+    let k = came command q r (Some left) rest s t before after f g h goes is in
+    (k.2, of_left command k.0 left rest q k.2 k.1 k.3, k.4)
 
--- the usage line was due
-pub usage_said : (said : List ℕ) (r : Status) (before after : Option (List ℕ)) (f g : ℕ) → said ≡ text_of Usage → Says said Usage r before after f g → r ≢ WriteFault → after ≡ bytes_after before (text_of r)
-usage_said said r before after f g same (inl e) not_fault = subst (λ s. after ≡ bytes_after before (text_of s)) (sym e.0) (e.1 ∙ ap (bytes_after before) same)
-usage_said said r before after f g same (inr e) not_fault = absurd (not_fault e.0)
-
--- no script has a text for a command and a bad place of its order, and none has two bad places
-text_or_bad : (command : Command) (script : ScriptInput) (text : List ℕ) (place : ℕ) → IsTextFor command script text → IsBadOrderFor command script place → ⊥
-text_or_bad Run script text place h bad = bad
-text_or_bad Check script text place h bad = bad
-text_or_bad Replay script text place h bad = legal_or_bad script.plan script.order place h.0 bad
-
-due_or_bad : (command : Command) (script : ScriptInput) (place : ℕ) → IsDue command script → IsBadOrderFor command script place → ⊥
-due_or_bad Run script place h bad = bad
-due_or_bad Check script place h bad = bad
-due_or_bad Replay script place h bad = legal_or_bad script.plan script.order place h bad
-
-one_bad_order : (command : Command) (script : ScriptInput) (k m : ℕ) → IsBadOrderFor command script k → IsBadOrderFor command script m → k ≡ m
-one_bad_order Run script k m a b = absurd a
-one_bad_order Check script k m a b = absurd a
-one_bad_order Replay script k m a b = one_bad_place script.plan script.order k m a b
-
--- The same of what an input spells.
-no_bad_of_due : (command : Command) (input : List ℕ) (script : ScriptInput) (place : ℕ) → SpellsInput (reads_with command) input script → IsDue command script → IsBadOrderOf command input place → ⊥
-no_bad_of_due command input script place spelled due bad =
-    let same = one_spelled (reads_with command) input bad.0 script bad.1 spelled in
-    due_or_bad command script place due (subst (λ s. IsBadOrderFor command s place) same bad.2)
-
-no_bad_of_text : (command : Command) (input text : List ℕ) (place : ℕ) → IsTextOf command input text → IsBadOrderOf command input place → ⊥
-no_bad_of_text command input text place is bad =
-    let same = one_spelled (reads_with command) input bad.0 is.0 bad.1 is.1 in
-    text_or_bad command is.0 text place is.2 (subst (λ s. IsBadOrderFor command s place) same bad.2)
-
-one_bad_of : (command : Command) (input : List ℕ) (k m : ℕ) → IsBadOrderOf command input k → IsBadOrderOf command input m → k ≡ m
-one_bad_of command input k m a b =
-    let same = one_spelled (reads_with command) input b.0 a.0 b.1 a.1 in
-    one_bad_order command a.0 k m a.2 (subst (λ s. IsBadOrderFor command s m) same b.2)
-
--- a script whose text is due is done
-done_due : (command : Command) (input : List ℕ) (r : Status) (before after : Option (List ℕ)) → Tells command input r before after → length input ≤ input_limit → (script : ScriptInput) → SpellsInput (reads_with command) input script → IsDue command script → IsUnlessStopped Done r
-done_due command input Done before after h short script spelled due = inl refl
-done_due command input (Refused line reason) before after h short script spelled due = absurd (bad_or_spelled (reads_with command) input line reason script h.1 spelled)
-done_due command input Usage before after h short script spelled due = absurd h
-done_due command input ReadFault before after h short script spelled due = inr refl
-done_due command input WriteFault before after h short script spelled due = inr refl
-done_due command input NoMemory before after h short script spelled due = inr refl
-done_due command input TooLong before after h short script spelled due = absurd (omega arith)
-done_due command input (BadOrder place) before after h short script spelled due = absurd (no_bad_of_due command input script place spelled due h.1)
-
--- a script with a first bad line is refused there
-refused_due : (command : Command) (input : List ℕ) (r : Status) (before after : Option (List ℕ)) → Tells command input r before after → length input ≤ input_limit → (line : ℕ) (reason : Reason) → IsFirstBadIn (reads_with command) (lines input) line reason → IsUnlessStopped (Refused line reason) r
-refused_due command input Done before after h short line reason bad = absurd (bad_or_spelled (reads_with command) input line reason h.2.0 bad h.2.1)
-refused_due command input (Refused m other) before after h short line reason bad =
-    let same = one_bad_line (reads_with command) (lines input) m line other reason h.1 bad in inl cc
-refused_due command input Usage before after h short line reason bad = absurd h
-refused_due command input ReadFault before after h short line reason bad = inr refl
-refused_due command input WriteFault before after h short line reason bad = inr refl
-refused_due command input NoMemory before after h short line reason bad = inr refl
-refused_due command input TooLong before after h short line reason bad = absurd (omega arith)
-refused_due command input (BadOrder place) before after h short line reason bad = absurd (bad_or_spelled (reads_with command) input line reason h.1.0 bad h.1.1)
-
--- a script whose order has a first bad place is told it
-bad_order_due : (command : Command) (input : List ℕ) (r : Status) (before after : Option (List ℕ)) → Tells command input r before after → length input ≤ input_limit → (place : ℕ) → IsBadOrderOf command input place → IsUnlessStopped (BadOrder place) r
-bad_order_due command input Done before after h short place bad = absurd (no_bad_of_text command input h.1 place h.2 bad)
-bad_order_due command input (Refused line reason) before after h short place bad = absurd (bad_or_spelled (reads_with command) input line reason bad.0 h.1 bad.1)
-bad_order_due command input Usage before after h short place bad = absurd h
-bad_order_due command input ReadFault before after h short place bad = inr refl
-bad_order_due command input WriteFault before after h short place bad = inr refl
-bad_order_due command input NoMemory before after h short place bad = inr refl
-bad_order_due command input TooLong before after h short place bad = absurd (omega arith)
-bad_order_due command input (BadOrder other) before after h short place bad = inl (ap BadOrder (one_bad_of command input other place h.1 bad))
-
--- an input past the limit is too long
-too_long_due : (command : Command) (input : List ℕ) (r : Status) (before after : Option (List ℕ)) → Tells command input r before after → input_limit < length input → IsUnlessStopped TooLong r
-too_long_due command input Done before after h long = let short = h.0 in absurd (omega arith)
-too_long_due command input (Refused line reason) before after h long = let short = h.0 in absurd (omega arith)
-too_long_due command input Usage before after h long = absurd h
-too_long_due command input ReadFault before after h long = inr refl
-too_long_due command input WriteFault before after h long = inr refl
-too_long_due command input NoMemory before after h long = inr refl
-too_long_due command input TooLong before after h long = inl refl
-too_long_due command input (BadOrder place) before after h long = let short = h.0 in absurd (omega arith)
-
--- without a fault a command is done, unless memory was wanting
-complete_due : (r : Status) (s t : ℕ) (before after : Option (List ℕ)) (f g : ℕ) → Shows r s t before after f g → (Rose s t → ⊥) → (Rose f g → ⊥) → IsUnlessStopped Done r → (r ≡ Done) ⊎ (r ≡ NoMemory)
-complete_due Done s t before after f g h no_read no_write due = inl refl
-complete_due (Refused line reason) s t before after f g h no_read no_write due = absurd (elim due [ inl e ↦ cc | inr e ↦ cc ])
-complete_due Usage s t before after f g h no_read no_write due = absurd h
-complete_due ReadFault s t before after f g h no_read no_write due = absurd (no_read h.1)
-complete_due WriteFault s t before after f g h no_read no_write due = absurd (no_write h)
-complete_due NoMemory s t before after f g h no_read no_write due = inr refl
-complete_due TooLong s t before after f g h no_read no_write due = absurd (elim due [ inl e ↦ cc | inr e ↦ cc ])
-complete_due (BadOrder place) s t before after f g h no_read no_write due = absurd (elim due [ inl e ↦ cc | inr e ↦ cc ])
+-- the outcome on all that was left comes, unless a stream failed or memory was wanting
+comes : (command : Command) (r : Status) (left rest : Option (List ℕ)) (s t : ℕ) (before after : Option (List ℕ)) (f g : ℕ) → Answered command r left rest s t before after f g
+    → IfSome left (λ input. (due : Status) (text : List ℕ) → IsOutcome command input due text → ((r ≡ due) × (after ≡ bytes_after before text)) ⊎ ((r ≡ WriteFault) × Rose f g) ⊎ ((r ≡ ReadFault) × Rose s t) ⊎ (r ≡ NoMemory))
+comes command r None rest s t before after f g h = tt
+comes command r (Some left) rest s t before after f g h =
+    λ due text w. elim h.outcome [ inl e ↦ served e due text w | inr e ↦ inr (inr e) ]
+  where
+    served : Served command r (Some left) rest before after f g → (due : Status) (text : List ℕ) → IsOutcome command left due text → ((r ≡ due) × (after ≡ bytes_after before text)) ⊎ ((r ≡ WriteFault) × Rose f g) ⊎ ((r ≡ ReadFault) × Rose s t) ⊎ (r ≡ NoMemory)
+    served e due text w =
+        let was = of_left command e.input left rest e.due e.text e.taken e.outcome in
+        elim (said_only command left e.due due r e.text text before after f g was e.said w) [ inl d ↦ inl d | inr d ↦ inr (inl d) ]
 
 -- what is told of an input is told of what a source may tell
 each_told : (P Q : List ℕ → Type 0) → ((input : List ℕ) → P input → Q input) → (told : Option (List ℕ)) → IfSome told P → IfSome told Q
 each_told P Q f None h = tt
 each_told P Q f (Some input) h = f input h
 
--- What serving a command ensures is what its answer promises.
-pub answered : (command : Command) (r : Status) (left rest : Option (List ℕ)) (s t : ℕ) (before after : Option (List ℕ)) (f g : ℕ) → Shows r s t before after f g → IfSome left (λ input. Tells command input r before after) → Took command r left rest before after → TakesAtMost (input_limit + 1) left rest → s ≤ t → f ≤ g → Answered command r left rest s t before after f g
-answered command r left rest s t before after f g shown told took most source_counted sink_counted =
+-- All that each answer tells follows.
+told : (command : Command) (r : Status) (left rest : Option (List ℕ)) (s t : ℕ) (before after : Option (List ℕ)) (f g : ℕ) → Answered command r left rest s t before after f g → ((r ≡ ReadFault) ⊎ (r ≡ NoMemory) → after ≡ before) → Told command r left rest s t before after f g
+told command r left rest s t before after f g h unwritten =
     record {
-      done = λ e. subst (λ q. Took command q left rest before after) e took;
-      done_of_left = λ e. each (λ input. (text : List ℕ) × IsTextOf command input text × (after ≡ bytes_after before text)) (λ input h. let k = subst (λ q. Tells command input q before after) e h in (k.1, k.2, k.3));
-      never_usage = λ e. subst (λ q. Shows q s t before after f g) e shown;
-      read_fault = λ e. (subst (λ q. Shows q s t before after f g) e shown).1;
-      too_long = λ e. each (λ input. input_limit < length input) (λ input h. subst (λ q. Tells command input q before after) e h);
-      refused = λ line reason e. subst (λ q. Took command q left rest before after) e took;
-      refused_of_left = λ line reason e. each (λ input. (length input ≤ input_limit) × IsFirstBadIn (reads_with command) (lines input) line reason) (λ input h. subst (λ q. Tells command input q before after) e h);
-      bad_order = λ place e. subst (λ q. Took command q left rest before after) e took;
-      bad_order_of_left = λ place e. each (λ input. (length input ≤ input_limit) × IsBadOrderOf command input place) (λ input h. subst (λ q. Tells command input q before after) e h);
-      write_fault = λ e. subst (λ q. Shows q s t before after f g) e shown;
-      only_too_long = each (λ input. input_limit < length input → IsUnlessStopped TooLong r) (λ input h. too_long_due command input r before after h);
-      only_refused = each (λ input. length input ≤ input_limit → (line : ℕ) (reason : Reason) → IsFirstBadIn (reads_with command) (lines input) line reason → IsUnlessStopped (Refused line reason) r) (λ input h. refused_due command input r before after h);
-      only_bad_order = each (λ input. length input ≤ input_limit → (place : ℕ) → IsBadOrderOf command input place → IsUnlessStopped (BadOrder place) r) (λ input h. bad_order_due command input r before after h);
-      only_done = each (λ input. length input ≤ input_limit → (script : ScriptInput) → SpellsInput (reads_with command) input script → IsDue command script → IsUnlessStopped Done r) (λ input h. done_due command input r before after h);
-      complete = λ no_read no_write. each (λ input. length input ≤ input_limit → (script : ScriptInput) → SpellsInput (reads_with command) input script → IsDue command script → (r ≡ Done) ⊎ (r ≡ NoMemory)) (λ input h short script spelled due. complete_due r s t before after f g shown no_read no_write (done_due command input r before after h short script spelled due));
-      text = text_shown r s t before after f g shown;
-      taken = most;
-      source_count = source_counted;
-      sink_count = sink_counted;
+      done = λ e. let k = was Done refl e in (k.0, whole_input k.0 left rest k.1 k.3.0, k.2, (k.3.1, k.3.2, k.3.3), k.4);
+      done_of_left = λ e. left_is Done refl e (λ input. (text : List ℕ) × IsTextOf command input text × (after ≡ bytes_after before text)) (λ input k. (k.0, (k.1.1, k.1.2, k.1.3), k.2));
+      never_usage = λ e. let k = was Usage refl e in k.3.3;
+      read_fault = λ e. faults e;
+      too_long = λ e. let k = was TooLong refl e in long k.0 k.1 k.3.0;
+      too_long_of_left = λ e. left_is TooLong refl e (λ input. input_limit < length input) (λ input k. k.1.0);
+      refused = λ line reason e. let k = was (Refused line reason) refl e in (k.0, whole_input k.0 left rest k.1 k.3.0, k.3.1);
+      refused_of_left = λ line reason e. left_is (Refused line reason) refl e (λ input. (length input ≤ input_limit) × IsFirstBadIn (reads_with command) (lines input) line reason) (λ input k. (k.1.0, k.1.1));
+      bad_order = λ place e. let k = was (BadOrder place) refl e in (k.0, whole_input k.0 left rest k.1 k.3.0, (k.3.1, k.3.2, k.3.3.0));
+      bad_order_of_left = λ place e. left_is (BadOrder place) refl e (λ input. (length input ≤ input_limit) × IsBadOrderOf command input place) (λ input k. (k.1.0, (k.1.1, k.1.2, k.1.3.0)));
+      write_fault = λ e. write_faults e;
+      only_too_long = only (λ input. input_limit < length input → IsUnlessStopped TooLong r) (λ input k above. unless TooLong input k (text_of TooLong) (above, refl));
+      only_refused = only (λ input. length input ≤ input_limit → (line : ℕ) (reason : Reason) → IsFirstBadIn (reads_with command) (lines input) line reason → IsUnlessStopped (Refused line reason) r) (λ input k short line reason bad. unless (Refused line reason) input k (text_of (Refused line reason)) (short, bad, refl));
+      only_bad_order = only (λ input. length input ≤ input_limit → (place : ℕ) → IsBadOrderOf command input place → IsUnlessStopped (BadOrder place) r) (λ input k short place bad. unless (BadOrder place) input k (text_of (BadOrder place)) (short, bad.0, bad.1, (bad.2, refl)));
+      only_done = only (λ input. length input ≤ input_limit → (script : ScriptInput) → SpellsInput (reads_with command) input script → IsDue command script → IsUnlessStopped Done r) (λ input k short script spelled due. let text = due_text command script due in unless Done input k text.0 (short, script, spelled, text.1));
+      complete = λ no_read no_write. only (λ input. (due : Status) (text : List ℕ) → IsOutcome command input due text → ((r ≡ due) × (after ≡ bytes_after before text)) ⊎ (r ≡ NoMemory)) (λ input k due text w. elim (k due text w) [ inl e ↦ inl e | inr e ↦ elim e [ inl d ↦ absurd (no_write d.1) | inr d ↦ elim d [ inl b ↦ absurd (no_read b.1) | inr b ↦ inr b ] ] ]);
+      text = λ not_done not_fault. elim h.outcome [ inl e ↦ written e e.said not_done not_fault | inr e ↦ elim e [ inl d ↦ empty d.0 refl (unwritten (inl d.0)) | inr d ↦ empty d refl (unwritten (inr d)) ] ];
     }
   where
-    each : (Q : List ℕ → Type 0) → ((input : List ℕ) → Tells command input r before after → Q input) → IfSome left Q
-    each Q k = each_told (λ input. Tells command input r before after) Q k left told
+    Came : List ℕ → Type 0
+    Came input = (due : Status) (text : List ℕ) → IsOutcome command input due text → ((r ≡ due) × (after ≡ bytes_after before text)) ⊎ ((r ≡ WriteFault) × Rose f g) ⊎ ((r ≡ ReadFault) × Rose s t) ⊎ (r ≡ NoMemory)
+
+    was : (q : Status) → is_stop q ≡ false → r ≡ q → (input : List ℕ) × IsTaken input left rest × (text : List ℕ) × IsOutcome command input q text × (after ≡ bytes_after before text)
+    was q goes e = came command q r left rest s t before after f g h goes e
+
+    left_is : (q : Status) → is_stop q ≡ false → r ≡ q → (Q : List ℕ → Type 0) → ((input : List ℕ) → (text : List ℕ) × IsOutcome command input q text × (after ≡ bytes_after before text) → Q input) → IfSome left Q
+    left_is q goes e Q k = each_told (λ input. (text : List ℕ) × IsOutcome command input q text × (after ≡ bytes_after before text)) Q k left (came_of_left command q r left rest s t before after f g h goes e)
+
+    only : (Q : List ℕ → Type 0) → ((input : List ℕ) → Came input → Q input) → IfSome left Q
+    only Q k = each_told Came Q k left (comes command r left rest s t before after f g h)
+
+    stops : (q : Status) → is_stop q ≡ true → r ≡ q → IsTrue (is_stop r)
+    stops q goes e = ap is_stop e ∙ goes
+
+    unless : (q : Status) (input : List ℕ) → Came input → (text : List ℕ) → IsOutcome command input q text → IsUnlessStopped q r
+    unless q input k text w = elim (k q text w) [ inl e ↦ inl e.0 | inr e ↦ inr (elim e [ inl d ↦ stops WriteFault refl d.0 | inr d ↦ elim d [ inl b ↦ stops ReadFault refl b.0 | inr b ↦ stops NoMemory refl b ] ]) ]
+
+    long : (input : List ℕ) → IsTaken input left rest → input_limit < length input → TakesJust (input_limit + 1) left rest
+    long input taken above = elim taken.ended [ inl e ↦ absurd (omega (arith, e.0, above)) | inr e ↦ (input, e, taken.front) ]
+
+    faults : r ≡ ReadFault → Rose s t
+    faults is = elim h.outcome [ inl e ↦ absurd (said_not_stopped command e.input e.due r e.text before after f g e.outcome e.said (inl is)) | inr e ↦ elim e [ inl d ↦ d.1 | inr d ↦ (let same : NoMemory ≡ ReadFault = sym d ∙ is in absurd (cc)) ] ]
+
+    write_faults : r ≡ WriteFault → Rose f g
+    write_faults is = elim h.outcome [ inl e ↦ failed e e.said | inr e ↦ elim e [ inl d ↦ (let same : ReadFault ≡ WriteFault = sym d.0 ∙ is in absurd (cc)) | inr d ↦ (let same : NoMemory ≡ WriteFault = sym d ∙ is in absurd (cc)) ] ]
+      where
+        failed : (e : Served command r left rest before after f g) → Says e.text e.due r before after f g → Rose f g
+        failed e (inl d) = absurd (true≢false (sym (ap is_stop (sym d.0 ∙ is)) ∙ no_stop command e.input e.due e.text e.outcome))
+        failed e (inr d) = d.2
+
+    empty : {q : Status} → r ≡ q → text_of q ≡ [] → after ≡ before → after ≡ bytes_after before (text_of r)
+    empty e none same = same ∙ sym (ap (bytes_after before) (ap text_of e ∙ none) ∙ bytes_after-none before)
+
+    written : (e : Served command r left rest before after f g) → Says e.text e.due r before after f g → r ≢ Done → r ≢ WriteFault → after ≡ bytes_after before (text_of r)
+    written e (inl d) not_done not_fault = elim (own_text command e.input e.due e.text e.outcome) [ inl k ↦ absurd (not_done (d.0 ∙ k)) | inr k ↦ d.1 ∙ ap (bytes_after before) (k ∙ ap text_of (sym d.0)) ]
+    written e (inr d) not_done not_fault = absurd (not_fault d.0)
+
+-- What is promised of words is what they tell, be they a command or none.
+none_taken : (left rest : Option (List ℕ)) → rest ≡ left → TakesAtMost (input_limit + 1) left rest
+none_taken left rest same = ([], omega arith, sym (bytes_before-none rest ∙ same))
+  where
+    bytes_before-none : (told : Option (List ℕ)) → bytes_before [] told ≡ told
+    bytes_before-none None = refl
+    bytes_before-none (Some bytes) = refl
+
+pub told_of_words : (asked : Option Command) (r : Status) (left rest : Option (List ℕ)) (s t : ℕ) (before after : Option (List ℕ)) (f g : ℕ) → IfSome asked (λ command. Answered command r left rest s t before after f g) → (asked ≡ None → Says (text_of Usage) Usage r before after f g) → (asked ≡ None → (rest ≡ left) × (t ≡ s)) → ((r ≡ ReadFault) ⊎ (r ≡ NoMemory) → after ≡ before) → ToldOfWords asked r left rest s t before after f g
+told_of_words (Some command) r left rest s t before after f g h usage unread unwritten =
+    let tells = told command r left rest s t before after f g h unwritten in
+    record {
+      told = tells;
+      usage = λ e. absurd (tells.never_usage e);
+      only_usage = λ e. absurd (cc);
+      text = tells.text;
+      taken = h.taken;
+      source_count = h.source_count;
+    }
+told_of_words None r left rest s t before after f g h usage unread unwritten =
+    record {
+      told = tt;
+      usage = λ e. refl;
+      only_usage = λ e. elim (usage refl) [ inl d ↦ inl d.0 | inr d ↦ inr d.0 ];
+      text = λ not_done not_fault. elim (usage refl) [ inl d ↦ d.1 ∙ ap (λ q. bytes_after before (text_of q)) (sym d.0) | inr d ↦ absurd (not_fault d.0) ];
+      taken = none_taken left rest (unread refl).0;
+      source_count = let same = (unread refl).1 in omega (arith, same);
+    }

@@ -2,3 +2,4 @@ mod AnswerLaws
 mod BadPlaces
 mod OneTask
 mod OrderLength
+mod Outcomes

@@ -1,11 +1,11 @@
--- The program's commands: which words each has, what it reads, and what is due for a script (this project's own).
+-- The program's commands: which words each has, what it reads, and what it writes for a script.
 use Rattle.std.specs.Prelude.{◌≡◌, ℕ, true, if◌then◌else◌, List, [], ◌∷◌, codes, bytes_eq, Option, Some, None}
 use Rattle.lw_calls.specs.declared.form.Form.TheVariants.{Plain, Ordered}
 use Rattle.lw_canonical.specs.Canonical.{canonical_text}
 use Rattle.lw_calls.specs.Entries.{only_order}
 use Rattle.lw_calls.specs.Orders.{is_legal, IsBadPlace}
 use Rattle.lw_machine.specs.Report.{run_report}
-use Rattle.lw_grammar.specs.Script.{Setting, ScriptInput, SpellsInput}
+use Rattle.lw_grammar.specs.Script.{Setting, ScriptInput}
 use Rattle.lw_script.specs.Answers.{reading_with}
 use Rattle.lw_top.specs.declared.words.Command.{Command}
 use Rattle.lw_top.specs.declared.words.Command.TheVariants.{Run, Check, Replay}
@@ -39,17 +39,3 @@ abbrev pub IsBadOrderFor : Command → ScriptInput → ℕ → Type 0
 IsBadOrderFor Run script place = ⊥
 IsBadOrderFor Check script place = ⊥
 IsBadOrderFor Replay script place = IsBadPlace script.plan script.order place
-
--- a script for which a command's text is due
-abbrev pub IsDue : Command → ScriptInput → Type 0
-IsDue Run script = Unit {0}
-IsDue Check script = Unit {0}
-IsDue Replay script = is_legal script.plan script.order ≡ true
-
--- the text is what a command writes for the script that the input spells
-abbrev pub IsTextOf : Command → List ℕ → List ℕ → Type 0
-IsTextOf command input text = (script : ScriptInput) × SpellsInput (reads_with command) input script × IsTextFor command script text
-
--- the place is the first bad one of the order in the script that the input spells
-abbrev pub IsBadOrderOf : Command → List ℕ → ℕ → Type 0
-IsBadOrderOf command input place = (script : ScriptInput) × SpellsInput (reads_with command) input script × IsBadOrderFor command script place

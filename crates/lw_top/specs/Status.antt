@@ -1,6 +1,6 @@
 -- What the program's call answers, and what it writes for it (this project's own).
-use Rattle.std.specs.Prelude.{◌≡◌, ℕ, Bool, true, false, ◌⊎◌, IsTrue, List, [], ◌∷◌, ◌++◌, codes, Option}
-use Rattle.lw_io.specs.Streams.{Rose, bytes_after}
+use Rattle.std.specs.Prelude.{◌≡◌, ℕ, ◌⊎◌, List, [], ◌∷◌, ◌++◌, codes, Option}
+use Rattle.lw_io.specs.Streams.{Rose, bytes_after, WritesPrefix}
 use Rattle.lw_calls.specs.declared.reason.Reason.{Reason}
 use Rattle.lw_calls.specs.declared.reason.Reason.TheVariants.{LineTooLong, BadByte, Spacing, Quote, UnknownWord, Misplaced, OneTaskOnly, Form, Range, NoName, DoubleName, Group, TooMany, NoHook, HookUsed, Padding, NotBuilt, Missing}
 use Rattle.lw_calls.specs.Written.{line_of, spaced}
@@ -51,26 +51,12 @@ text_of NoMemory = []
 text_of TooLong = line_of (codes "too long")
 text_of (BadOrder place) = line_of (codes "bad order at" ++ spaced place)
 
--- the answers that a stream's fault or want of memory gives
-abbrev pub is_stop : Status → Bool
-is_stop Done = false
-is_stop (Refused line reason) = false
-is_stop Usage = false
-is_stop ReadFault = true
-is_stop WriteFault = true
-is_stop NoMemory = true
-is_stop TooLong = false
-is_stop (BadOrder place) = false
-
--- The answer is the one that is due, or a fault or want of memory came instead.
-abbrev pub IsUnlessStopped : Status → Status → Type 0
-IsUnlessStopped due result = (result ≡ due) ⊎ IsTrue (is_stop result)
-
 -- the most bytes that an input may have
 abbrev pub input_limit : ℕ
 input_limit = 4194304
 
--- After this text was due with this answer: it was written whole, or the sink failed and its count rose.
+-- A text was written with the answer that is due, whole; or the sink failed, its count of faults rose, and what was written
+-- is a front of the text.
 abbrev pub Says : List ℕ → Status → Status → Option (List ℕ) → Option (List ℕ) → ℕ → ℕ → Type 0
-Says text due result before after faults_before faults_after =
-    ((result ≡ due) × (after ≡ bytes_after before text)) ⊎ ((result ≡ WriteFault) × Rose faults_before faults_after)
+Says text due result before after f g =
+    ((result ≡ due) × (after ≡ bytes_after before text)) ⊎ ((result ≡ WriteFault) × WritesPrefix text before after × Rose f g)

@@ -1,0 +1,135 @@
+ghost use Rattle.std.specs.Prelude.{◌≡◌, ◌<◌, ◌≤◌, length, All, IsTrue, IfOk};
+ghost use Rattle.lw_calls.specs.Built.{is_built};
+ghost use Rattle.lw_grammar.specs.Script.{IsRunnableInput};
+ghost use Rattle.lw_script.specs.Answers.{input_meaning, reading_with};
+ghost use Rattle.lw_top.specs.Commands.{reads_with};
+ghost use Rattle.lw_top.specs.Outcome.{IsOutcome, IsOutcomeFor};
+ghost use Rattle.lw_top.specs.Status.{input_limit, reason_text, text_of};
+
+use crate::report::{report_of, report_of_one};
+use crate::status::Status;
+use crate::words::Command;
+use lw_calls::{Form, Reason, bad_place};
+use lw_print::print;
+use lw_script::{Input, ScriptStop, read};
+use std::alloc::{AllocError, Global};
+
+/// The answer that is due, and its text.
+#[derive(Debug, Drop)]
+pub struct Outcome {
+    pub status: Status,
+    pub text: Vec<u8>,
+}
+
+/// The outcome of a command on an input of no more bytes than the limit.
+pub fn outcome_of(alloc: Global, command: Command, input: &[u8]) -> Result<Outcome, AllocError>
+    requires { length input.now ≤ input_limit }
+    ensures { IfOk result (λ outcome. IsOutcome command input.now outcome.status outcome.text.items) }
+{
+    match read(alloc, input, 0, form_of(command)) {
+        Ok(script) => outcome_for(alloc, command, &script),
+        Err(ScriptStop::Refused { line, reason }) => refusal(alloc, line, reason),
+        Err(ScriptStop::Memory) => Err(AllocError),
+    }
+}
+
+/// What a command's input is beside the script.
+fn form_of(command: Command) -> Form
+    ensures { reading_with 0 result ≡ reads_with command }
+{
+    match command {
+        Command::Run | Command::Check => Form::Plain,
+        Command::Replay => Form::Ordered,
+    }
+}
+
+/// The outcome of a command on a script.
+fn outcome_for(alloc: Global, command: Command, script: &Input) -> Result<Outcome, AllocError>
+    requires runnable { IsRunnableInput (reads_with command) (input_meaning script.now) }
+    requires few { length script.now.order < 4294967296 }
+    ensures { IfOk result (λ outcome.
+        IsOutcomeFor command (input_meaning script.now) outcome.status outcome.text.items) }
+{
+    match command {
+        Command::Run => Ok(done(report_of_one(alloc, &script.plan)?)),
+        Command::Check => Ok(done(print(alloc, &script.plan)?)),
+        Command::Replay => outcome_in_order(alloc, script),
+    }
+}
+
+fn done(text: Vec<u8>) -> Outcome
+    ensures { result ≡ record { status = Status.Done; text = text } }
+{
+    Outcome {
+        status: Status::Done,
+        text,
+    }
+}
+
+/// The report of the machine's run in the order that stands in a script, or the order's first bad place.
+fn outcome_in_order(alloc: Global, script: &Input) -> Result<Outcome, AllocError>
+    requires built { All (λ calls. All (λ call. IsTrue (is_built call)) calls) script.now.plan.calls }
+    requires few { length script.now.order < 4294967296 }
+    ensures { IfOk result (λ outcome.
+        IsOutcomeFor Command.Replay (input_meaning script.now) outcome.status outcome.text.items) }
+{
+    match bad_place(alloc, &script.plan, &script.order)? {
+        Some(place) => {
+            let text = bad_order_line(alloc, place)?;
+            Ok(Outcome {
+                status: Status::BadOrder { place },
+                text,
+            })
+        }
+        None => Ok(done(report_of(alloc, &script.plan, &script.order)?)),
+    }
+}
+
+fn bad_order_line(alloc: Global, place: u32) -> Result<Vec<u8>, AllocError>
+    ensures { IfOk result (λ text. text.items ≡ text_of (Status.BadOrder place)) }
+{
+    Ok(format!(in alloc; "bad order at {place}\n")?.into_bytes())
+}
+
+fn refusal(alloc: Global, line: u32, reason: Reason) -> Result<Outcome, AllocError>
+    ensures { IfOk result (λ outcome. (outcome.status ≡ Status.Refused line reason)
+        × (outcome.text.items ≡ text_of (Status.Refused line reason))) }
+{
+    let text = refusal_line(alloc, line, reason)?;
+    Ok(Outcome {
+        status: Status::Refused { line, reason },
+        text,
+    })
+}
+
+fn refusal_line(alloc: Global, line: u32, reason: Reason) -> Result<Vec<u8>, AllocError>
+    ensures { IfOk result (λ text. text.items ≡ text_of (Status.Refused line reason)) }
+{
+    let word = reason_word(reason);
+    Ok(format!(in alloc; "refused line {line} {word}\n")?.into_bytes())
+}
+
+fn reason_word(reason: Reason) -> &'static str
+    ensures { result.now ≡ reason_text reason }
+{
+    match reason {
+        Reason::LineTooLong => "line-too-long",
+        Reason::BadByte => "bad-byte",
+        Reason::Spacing => "spacing",
+        Reason::Quote => "quote",
+        Reason::UnknownWord => "unknown-word",
+        Reason::Misplaced => "misplaced",
+        Reason::OneTaskOnly => "one-task-only",
+        Reason::Form => "form",
+        Reason::Range => "range",
+        Reason::NoName => "no-name",
+        Reason::DoubleName => "double-name",
+        Reason::Group => "group",
+        Reason::TooMany => "too-many",
+        Reason::NoHook => "no-hook",
+        Reason::HookUsed => "hook-used",
+        Reason::Padding => "padding",
+        Reason::NotBuilt => "not-built",
+        Reason::Missing => "missing",
+    }
+}
