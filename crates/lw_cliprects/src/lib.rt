@@ -1,0 +1,10 @@
+//! The clip rectangles of a layer: its bounds, cut into visible and hidden rectangles (the manual's Layers Library
+//! chapter: the `ClipRect` structure).
+#![tactic(auto)]
+
+mod parts;
+
+pub use parts::Parts;
+
+#[cfg(test)]
+mod tests;

@@ -1,0 +1,103 @@
+use super::Parts;
+use lw_region::{Rect, Region};
+use std::alloc::Global;
+use std::test::Fail;
+
+const LEAST: i16 = -32768;
+
+const GREATEST: i16 = 32767;
+
+// Bounds, the visible rectangles in them, and the hidden ones that are due, each rectangle by its four bounds.
+struct Case {
+    bounds: [i16; 4],
+    visible: &'static [[i16; 4]],
+    hidden: &'static [[i16; 4]],
+}
+
+static CASES: [Case; 8] = [
+    // Wholly hidden, and wholly visible.
+    Case {
+        bounds: [0, 0, 9, 9],
+        visible: &[],
+        hidden: &[[0, 0, 9, 9]],
+    },
+    Case {
+        bounds: [-3, -2, 9, 9],
+        visible: &[[-3, -2, 9, 9]],
+        hidden: &[],
+    },
+    // A hole in the middle, and the middle alone.
+    Case {
+        bounds: [0, 0, 9, 9],
+        visible: &[[0, 0, 9, 2], [0, 3, 2, 6], [7, 3, 9, 6], [0, 7, 9, 9]],
+        hidden: &[[3, 3, 6, 6]],
+    },
+    Case {
+        bounds: [0, 0, 9, 9],
+        visible: &[[3, 3, 6, 6]],
+        hidden: &[[0, 0, 9, 2], [0, 3, 2, 6], [7, 3, 9, 6], [0, 7, 9, 9]],
+    },
+    // Two opposite corners.
+    Case {
+        bounds: [0, 0, 9, 9],
+        visible: &[[0, 0, 3, 3], [6, 6, 9, 9]],
+        hidden: &[[4, 0, 9, 3], [0, 4, 9, 5], [0, 6, 5, 9]],
+    },
+    // One column, one row, and squares that touch at a corner.
+    Case {
+        bounds: [-2, -1, 1, 2],
+        visible: &[[-2, -1, -2, 2]],
+        hidden: &[[-1, -1, 1, 2]],
+    },
+    Case {
+        bounds: [LEAST, LEAST, GREATEST, GREATEST],
+        visible: &[[LEAST, LEAST, GREATEST, LEAST]],
+        hidden: &[[LEAST, -32767, GREATEST, GREATEST]],
+    },
+    Case {
+        bounds: [0, 0, 7, 1],
+        visible: &[[0, 0, 3, 0], [4, 1, 7, 1]],
+        hidden: &[[4, 0, 7, 0], [0, 1, 3, 1]],
+    },
+];
+
+fn rect_of(bounds: [i16; 4]) -> Result<Rect, Fail> {
+    Ok(Rect::new(bounds[0], bounds[1], bounds[2], bounds[3]).ok_or("out of order")?)
+}
+
+// The bounds cut by what lies in them of these rectangles.
+fn parts_of(alloc: Global, bounds: &Rect, rects: &[[i16; 4]]) -> Result<Parts, Fail> {
+    let mut visible = Region::new(alloc);
+    for rect in rects {
+        visible.or_rect(alloc, &rect_of(*rect)?)?;
+    }
+    visible.and_rect(alloc, bounds)?;
+    Ok(Parts::cut(alloc, bounds, &visible)?)
+}
+
+fn are(rects: &[Rect], due: &[[i16; 4]]) -> bool {
+    if rects.len() != due.len() {
+        return false;
+    }
+    for (rect, bounds) in rects.iter().zip(due) {
+        let same_x = rect.min_x() == bounds[0] && rect.max_x() == bounds[2];
+        let same_y = rect.min_y() == bounds[1] && rect.max_y() == bounds[3];
+        if !same_x || !same_y {
+            return false;
+        }
+    }
+    true
+}
+
+#[test]
+fn bounds_are_cut_as_worked_out_by_hand(rt: HostRuntime) -> Result<(), Fail> {
+    let alloc = rt.alloc();
+    for case in &CASES {
+        let bounds = rect_of(case.bounds)?;
+        let parts = parts_of(alloc, &bounds, case.visible)?;
+        assert!(rt; parts.bounds() == bounds);
+        assert!(rt; are(parts.visible(), case.visible));
+        assert!(rt; are(parts.hidden(), case.hidden));
+    }
+    Ok(())
+}

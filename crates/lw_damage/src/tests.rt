@@ -1,0 +1,104 @@
+use super::Damage;
+use lw_region::{Rect, Region};
+use std::alloc::Global;
+use std::test::Fail;
+
+// The inner rectangle, the regions that are added one after another, and the damage that is due, each rectangle by its
+// four bounds.
+struct Case {
+    inner: Option<[i16; 4]>,
+    first: &'static [[i16; 4]],
+    second: &'static [[i16; 4]],
+    due: &'static [[i16; 4]],
+}
+
+static CASES: [Case; 5] = [
+    Case {
+        inner: None,
+        first: &[[0, 0, 9, 9]],
+        second: &[[3, 3, 3, 3]],
+        due: &[],
+    },
+    // Within the inner rectangle, over its edges, and wholly outside.
+    Case {
+        inner: Some([4, 11, 15, 20]),
+        first: &[[5, 12, 6, 12]],
+        second: &[[7, 12, 8, 13]],
+        due: &[[5, 12, 8, 12], [7, 13, 8, 13]],
+    },
+    Case {
+        inner: Some([4, 11, 15, 20]),
+        first: &[[0, 0, 4, 11]],
+        second: &[[15, 20, 30, 30]],
+        due: &[[4, 11, 4, 11], [15, 20, 15, 20]],
+    },
+    Case {
+        inner: Some([4, 11, 15, 20]),
+        first: &[[0, 0, 30, 10]],
+        second: &[[16, 11, 30, 30]],
+        due: &[],
+    },
+    // Two regions that overlap.
+    Case {
+        inner: Some([0, 0, 7, 7]),
+        first: &[[0, 0, 3, 3]],
+        second: &[[2, 2, 9, 5]],
+        due: &[[0, 0, 3, 1], [0, 2, 7, 3], [2, 4, 7, 5]],
+    },
+];
+
+fn rect_of(bounds: [i16; 4]) -> Result<Rect, Fail> {
+    Ok(Rect::new(bounds[0], bounds[1], bounds[2], bounds[3]).ok_or("out of order")?)
+}
+
+fn inner_of(inner: Option<[i16; 4]>) -> Result<Option<Rect>, Fail> {
+    match inner {
+        Some(bounds) => Ok(Some(rect_of(bounds)?)),
+        None => Ok(None),
+    }
+}
+
+fn region_of(alloc: Global, rects: &[[i16; 4]]) -> Result<Region, Fail> {
+    let mut region = Region::new(alloc);
+    for rect in rects {
+        region.or_rect(alloc, &rect_of(*rect)?)?;
+    }
+    Ok(region)
+}
+
+fn are(rects: &[Rect], due: &[[i16; 4]]) -> bool {
+    if rects.len() != due.len() {
+        return false;
+    }
+    for (rect, bounds) in rects.iter().zip(due) {
+        let same_x = rect.min_x() == bounds[0] && rect.max_x() == bounds[2];
+        let same_y = rect.min_y() == bounds[1] && rect.max_y() == bounds[3];
+        if !same_x || !same_y {
+            return false;
+        }
+    }
+    true
+}
+
+#[test]
+fn damage_is_what_was_added_within_the_inner_rectangle(rt: HostRuntime) -> Result<(), Fail> {
+    let alloc = rt.alloc();
+    for case in &CASES {
+        let inner = inner_of(case.inner)?;
+        let mut damage = Damage::new(alloc, inner);
+        damage.add(alloc, &region_of(alloc, case.first)?)?;
+        damage.add(alloc, &region_of(alloc, case.second)?)?;
+        assert!(rt; are(damage.region().rects(), case.due));
+        damage.begin();
+        assert!(rt; damage.updating());
+        damage.end(false);
+        assert!(rt; !damage.updating());
+        assert!(rt; are(damage.region().rects(), case.due));
+        damage.begin();
+        damage.end(true);
+        assert!(rt; !damage.updating());
+        assert!(rt; damage.region().rects().is_empty());
+        assert!(rt; damage.inner() == inner);
+    }
+    Ok(())
+}
