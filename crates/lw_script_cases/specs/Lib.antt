@@ -1,3 +1,4 @@
 pub mod WholeScripts
 pub mod CanonicalTexts
 pub mod LinesBelow
+pub mod Refused

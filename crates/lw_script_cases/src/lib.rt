@@ -4,4 +4,5 @@
 
 pub mod canonical;
 pub mod lines_below;
+pub mod refused;
 pub mod scripts;
