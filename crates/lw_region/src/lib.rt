@@ -7,6 +7,7 @@
 #![tactic(auto)]
 
 mod band;
+mod finding;
 mod laws;
 mod operation;
 mod rect;
