@@ -165,3 +165,15 @@ impl Plan {
         self.calls[task as usize].as_slice()
     }
 }
+
+// A plan and its assets may go to another thread, and threads may share them: the bounds ask for the proofs.
+fn cross_threads() {
+    crosses::<Plan>();
+    crosses::<Assets>();
+    is_shared::<Plan>();
+    is_shared::<Assets>();
+}
+
+fn crosses<T: Send>() {}
+
+fn is_shared<T: Sync>() {}
