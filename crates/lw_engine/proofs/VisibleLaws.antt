@@ -8,13 +8,14 @@ use Rattle.std.proofs.lemmas.Bool.{cases_eq, eq-eqb, ne_eqb, eqb-true, and_parts
 use Rattle.std.proofs.lemmas.Bool.Decides.{nat_tests}
 use Rattle.std.proofs.lemmas.Int.{ints}
 use Rattle.lw_region.specs.Rectangle.{Rectangle, within, has_pixel}
-use Rattle.lw_region.specs.Pixels.{Pixel, is_at, contains_pixel}
+use Rattle.lw_region.specs.Pixels.{Pixel, is_at, contains_pixel, pixels_of, union, difference}
 use Rattle.lw_region.specs.Bands.{bands, covers}
 use Rattle.lw_region.specs.Banded.{IsCanonical}
+use Rattle.lw_region.specs.Regions.{rectangle_set}
 use Rattle.lw_region.proofs.Lists.{any_agree, any_flat_map}
 use Rattle.lw_region.proofs.Numbers.{eq_true, eq_of}
 use Rattle.lw_region.proofs.Canonical.{canonical_is_bands, covers_nil}
-use Rattle.lw_region.proofs.SetOps.{canonical_bands}
+use Rattle.lw_region.proofs.SetOps.{canonical_bands, covers_one, combined_lists}
 use Rattle.lw_machine.specs.Arrangement.{is_on_screen}
 use Rattle.lw_machine.specs.Desk.{is_the}
 use Rattle.lw_machine.specs.Screen.{bounds_have}
@@ -22,7 +23,7 @@ use Rattle.lw_machine.specs.Kept.{holds_at}
 use Rattle.lw_machine.specs.Report.{pixels_where}
 use Rattle.lw_engine.specs.declared.layer.PlainLayer.{PlainLayer}
 use Rattle.lw_engine.specs.Plain.{Plain, layer_at, bounds_in, bounds_at, IsPlain}
-use Rattle.lw_engine.specs.Shown.{first_of, is_on_top, shown_in}
+use Rattle.lw_engine.specs.Shown.{first_of, is_on_top, without, shown_in}
 use Rattle.lw_engine.proofs.PlaceLaws.{fits-at}
 
 -- the number i is among the n numbers from a on
@@ -228,11 +229,11 @@ pub record IsUncovered (p : Plain) (slot : ℕ) (region : List Rectangle) (rest 
   pub top : (x y : ℤ) → is_on_top p slot x y ≡ (covers region x y && is_the (first_of p rest x y) slot)
 
 -- the region of the bounds, where no layer was taken out
-pub uncovered-start : (p : Plain) (slot : ℕ) (bounds : Rectangle) (old region : List Rectangle) (set : List Pixel) → bounds_at p slot ≡ Some bounds → old ≡ [] → region ≡ bands set → ((x y : ℤ) → covers region x y ≡ (covers old x y || has_pixel bounds x y)) → IsUncovered p slot region p.front_to_back
-uncovered-start p slot bounds old region set has empty list pixels =
-    let same : (x y : ℤ) → covers region x y ≡ bounds_have (bounds_at p slot) x y = λ x y. pixels x y ∙ (ap (λ rects. covers rects x y || has_pixel bounds x y) empty ∙ (ap (λ t. t || has_pixel bounds x y) (covers_nil x y) ∙ ap (λ r. bounds_have r x y) (sym has))) in
+pub uncovered-start : (p : Plain) (slot : ℕ) (bounds : Rectangle) (region : List Rectangle) → bounds_at p slot ≡ Some bounds → region ≡ bands (union (pixels_of []) (rectangle_set bounds)) → IsUncovered p slot region p.front_to_back
+uncovered-start p slot bounds region has list =
+    let same : (x y : ℤ) → covers region x y ≡ bounds_have (bounds_at p slot) x y = λ x y. (combined_lists.unions [] (bounds ∷ []) region list).pixels x y ∙ (ap (λ t. t || covers (bounds ∷ []) x y) (covers_nil x y) ∙ (covers_one bounds x y ∙ ap (λ r. bounds_have r x y) (sym has))) in
     record {
-      canonical = subst IsCanonical (sym list) (canonical_bands set);
+      canonical = subst IsCanonical (sym list) (canonical_bands (union (pixels_of []) (rectangle_set bounds)));
       within = λ x y h. sym (same x y) ∙ h;
       top = λ x y. and-implied (is_on_top p slot x y) (covers region x y) (λ h. same x y ∙ find-holds (λ s. bounds_have (bounds_at p s) x y) p.front_to_back slot h);
     }
@@ -243,16 +244,30 @@ front-taken true true front slot r other = ne_eqb front slot other
 front-taken true false front slot r other = refl
 front-taken false t front slot r other = refl
 
+-- the pixels that bounds leave
+without_covers : (o : Option Rectangle) (region : List Rectangle) (x y : ℤ) → covers (without o region) x y ≡ (covers region x y && not (bounds_have o x y))
+without_covers None region x y = sym (and-true (covers region x y))
+without_covers (Some r) region x y = (combined_lists.differences region (r ∷ []) _ refl).pixels x y ∙ ap (λ t. covers region x y && not t) (covers_one r x y)
+
+-- and their list is canonical
+without_canonical : (o : Option Rectangle) (region : List Rectangle) → IsCanonical region → IsCanonical (without o region)
+without_canonical None region is = is
+without_canonical (Some r) region is = canonical_bands (difference (pixels_of region) (rectangle_set r))
+
 -- the region without what one layer more in front of it covers
-pub uncovered-more : (p : Plain) (slot front : ℕ) (region new : List Rectangle) (rest : List ℕ) → front ≢ slot → ((x y : ℤ) → covers new x y ≡ (covers region x y && not (bounds_have (bounds_at p front) x y))) → (IsCanonical region → IsCanonical new) → IsUncovered p slot region (front ∷ rest) → IsUncovered p slot new rest
-uncovered-more p slot front region new rest other pixels canonical was = record {
-  canonical = canonical was.canonical;
-  within = λ x y h. was.within x y (and_parts (covers region x y) (not (bounds_have (bounds_at p front) x y)) (sym (pixels x y) ∙ h)).0;
-  top = λ x y.
-      was.top x y ∙
-      (front-taken (covers region x y) (bounds_have (bounds_at p front) x y) front slot (first_of p rest x y) other ∙
-      ap (λ t. t && is_the (first_of p rest x y) slot) (sym (pixels x y)));
-}
+pub uncovered-more : (p : Plain) (slot front : ℕ) (region new : List Rectangle) (rest : List ℕ) → front ≢ slot → new ≡ without (bounds_at p front) region → IsUncovered p slot region (front ∷ rest) → IsUncovered p slot new rest
+uncovered-more p slot front region new rest other is was =
+    let P : List Rectangle → Type 0 = λ r. IsUncovered p slot r rest in
+    subst P (sym is) (
+    record {
+      canonical = without_canonical (bounds_at p front) region was.canonical;
+      within = λ x y h. was.within x y (and_parts (covers region x y) (not (bounds_have (bounds_at p front) x y)) (sym (without_covers (bounds_at p front) region x y) ∙ h)).0;
+      top = λ x y.
+          was.top x y ∙
+          (front-taken (covers region x y) (bounds_have (bounds_at p front) x y) front slot (first_of p rest x y) other ∙
+          ap (λ t. t && is_the (first_of p rest x y) slot) (sym (without_covers (bounds_at p front) region x y)));
+    }
+    )
 
 -- the layer itself is on its places
 itself-found : (c t : Bool) (slot : ℕ) (r : Option ℕ) → (c ≡ true → t ≡ true) → c ≡ (c && is_the (cond t (Some slot) r) slot)

@@ -10,7 +10,7 @@ loop-front-init c =
     let p = c.args.self.now in
     let all : p.front_to_back ≡ c.deref-front-items.result.now = sym (c.deref-front-items.ensures.value ∙ ap (λ (q : Plain). q.front_to_back) c.self.view_is) in
     let P : List ℕ → Type 0 = λ order. IsUncovered p c.args.slot c.or_rect.new.self order in
-    subst P all (uncovered-start p c.args.slot c.args.bounds.now c.new-region.result c.or_rect.new.self _ c.requires.bounds c.new-region.ensures c.in_ok-or_rect.ensures.list c.in_ok-or_rect.ensures.pixels)
+    subst P all (uncovered-start p c.args.slot c.args.bounds.now c.or_rect.new.self c.requires.bounds (rw c.new-region.ensures at c.in_ok-or_rect.ensures.list))
 
 pub returns-then-front-slot : goal.returns-then-front-slot
 returns-then-front-slot c =
@@ -32,7 +32,7 @@ loop-front-preserved c =
     let front : ℕ = get_or items i 0 in
     let next : drop i items ≡ front ∷ drop (i + 1) items = drop-next items i front 0 (omega arith) refl in
     let P : List ℕ → Type 0 = λ rest. IsUncovered p c.args.slot c.loop-front.region rest in
-    uncovered-more p c.args.slot front c.loop-front.region c.clear_covered.new.region (drop (i + 1) items) c.if-front-slot.false c.in_ok-clear_covered.ensures.pixels c.in_ok-clear_covered.ensures.canonical (subst P next c.loop-front.invariant)
+    uncovered-more p c.args.slot front c.loop-front.region c.clear_covered.new.region (drop (i + 1) items) c.if-front-slot.false c.in_ok-clear_covered.ensures (subst P next c.loop-front.invariant)
 
 pub returns : goal.returns
 returns c =
