@@ -9,8 +9,7 @@ use Rattle.lw_planes.proofs.GridLaws.{map-range-same, grid-at}
 use Rattle.lw_calls.specs.declared.reply.Reply.{Reply}
 use Rattle.lw_machine.specs.Desk.{Desk}
 use Rattle.lw_machine.specs.Screen.{is_shown}
-use Rattle.lw_machine.specs.Report.{pixels_where, shown_set, damage_set}
-use Rattle.lw_machine.specs.Finals.{seen_of}
+use Rattle.lw_machine.specs.Finals.{pixels_where, shown_set, damage_set, seen_of}
 use Rattle.lw_engine.specs.declared.layer.PlainLayer.{PlainLayer}
 use Rattle.lw_engine.specs.Plain.{Plain, layer_at, IsPlain}
 use Rattle.lw_engine.specs.StandsFor.{StandsFor, layer_of, slot_of}

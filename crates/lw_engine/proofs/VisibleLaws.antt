@@ -20,7 +20,7 @@ use Rattle.lw_machine.specs.Arrangement.{is_on_screen}
 use Rattle.lw_machine.specs.Desk.{is_the}
 use Rattle.lw_machine.specs.Screen.{bounds_have}
 use Rattle.lw_machine.specs.Kept.{holds_at}
-use Rattle.lw_machine.specs.Report.{pixels_where}
+use Rattle.lw_machine.specs.Finals.{pixels_where}
 use Rattle.lw_engine.specs.declared.layer.PlainLayer.{PlainLayer}
 use Rattle.lw_engine.specs.Plain.{Plain, layer_at, bounds_in, bounds_at, IsPlain}
 use Rattle.lw_engine.specs.Shown.{first_of, is_on_top, without, shown_in}

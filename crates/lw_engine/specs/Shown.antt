@@ -9,7 +9,7 @@ use Rattle.lw_planes.specs.Bitmap.{Bitmap, bitmap}
 use Rattle.lw_calls.specs.declared.last.Seen.{Seen}
 use Rattle.lw_machine.specs.Desk.{is_the}
 use Rattle.lw_machine.specs.Screen.{bounds_have, pen_on}
-use Rattle.lw_machine.specs.Report.{pixels_where}
+use Rattle.lw_machine.specs.Finals.{pixels_where}
 use Rattle.lw_engine.specs.declared.layer.PlainLayer.{PlainLayer}
 use Rattle.lw_engine.specs.Plain.{Plain, layer_at, bounds_at}
 use Rattle.lw_engine.specs.StandsFor.{slot_of}

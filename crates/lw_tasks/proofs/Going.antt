@@ -8,7 +8,7 @@ use Rattle.lw_calls.specs.declared.reply.Reply.{Reply}
 use Rattle.lw_calls.specs.Plan.{Plan, IsPlan, task_calls}
 use Rattle.lw_calls.specs.Orders.{occurrences, may_come, keeps_groups}
 use Rattle.lw_calls.specs.Entries.{count_of, entries, next_entry}
-use Rattle.lw_machine.specs.Report.{opening_desk}
+use Rattle.lw_machine.specs.Finals.{opening_desk}
 use Rattle.lw_engine.specs.Plain.{Plain}
 use Rattle.lw_tasks.specs.Run.{HasRun, next_of}
 use Rattle.lw_tasks.proofs.Steps.{count_of-push, occurrences-push, length-replies_of}

@@ -11,7 +11,7 @@ use Rattle.lw_machine.specs.Desk.{Desk}
 use Rattle.lw_machine.specs.Step.{after, reply}
 use Rattle.lw_calls.specs.Entries.{count_of, next_entry}
 use Rattle.lw_machine.specs.History.{machine, replies_of}
-use Rattle.lw_machine.specs.Report.{opening_desk}
+use Rattle.lw_machine.specs.Finals.{opening_desk}
 use Rattle.lw_engine.specs.Plain.{Plain}
 use Rattle.lw_engine.specs.StandsFor.{StandsFor}
 use Rattle.lw_tasks.specs.Run.{HasRun, next_of}

@@ -1,7 +1,7 @@
 use Rattle.std.proofs.Common.{[], None, ◌∙◌, ap}
 use Rattle.std.specs.List.{slice_index_or}
 use Rattle.std.proofs.lemmas.List.{get_or_default}
-use Rattle.lw_report.specs.Text.{of_seen}
+use Rattle.lw_machine.specs.Report.{of_seen}
 use Rattle.lw_report.specs.Words.{part_text}
 use Rattle.lw_text.proofs.Pieces.{piece-written}
 use Rattle.lw_report.proofs.layers.push_part.Goals as goal

@@ -8,8 +8,7 @@ pub returns : goal.returns
 returns c = λ d rs stands each.
     let ok : IsPlain c.args.self = subst IsPlain c.self.view_is c.self.invariant in
     let long : length c.args.replies.items ≡ c.args.self.sizes.tasks = omega (arith, c.requires, c.args.replies.ok.0) in
-    record {
-      planes = c.in_ok-planes.ensures ∙ screen-stands c.args.self d ok stands;
-      slots = c.in_ok-slots.ensures ∙ slots-stand c.args.self d ok stands;
-      answers = replies-stand c.args.self d rs c.args.replies.items long each stands;
-    }
+    let planes = c.in_ok-planes.ensures ∙ screen-stands c.args.self d ok stands in
+    let slots = c.in_ok-slots.ensures ∙ slots-stand c.args.self d ok stands in
+    let answers = replies-stand c.args.self d rs c.args.replies.items long each stands in
+    cc
