@@ -6,7 +6,7 @@ use Rattle.lw_region.specs.Rectangle.{within}
 use Rattle.lw_planes.specs.Row.{row_bit}
 use Rattle.lw_planes.specs.Bitmap.{Bitmap, row_bytes, plane_row}
 use Rattle.lw_planes.specs.Storage.{bit_place, stored}
-use Rattle.lw_planes.proofs.BitmapLaws.{row_bytes-wide}
+use Rattle.lw_planes.proofs.BitmapLaws.{row_bytes_wide}
 use Rattle.lw_grammar.specs.LineForms.{LineForm, BitmapLine, RowLine, is_line_in_range}
 use Rattle.lw_grammar.specs.LinesAbove.{rows_due, row_width, bitmaps_above, bitmaps_with}
 use Rattle.lw_grammar.specs.Script.{Setting}
@@ -48,7 +48,7 @@ bit_among : (w : ℕ) (rows : List (List ℕ)) (i x : ℕ) → AreRows w rows �
 unfolding row_bit
 bit_among w rows i x h low left =
     let n : ℕ = row_bytes w in
-    let wide : w ≤ 8 * n = row_bytes-wide w in
+    let wide : w ≤ 8 * n = row_bytes_wide w in
     let inside : x / 8 < n = omega (arith, wide, left) in
     let byte : (8 * (i * n) + x) / 8 ≡ i * n + x / 8 = omega arith in
     let place : (8 * (i * n) + x) % 8 ≡ x % 8 = omega arith in

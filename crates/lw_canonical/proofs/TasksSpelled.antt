@@ -1,7 +1,7 @@
 -- The lines of a script's tasks, over any base of it, are the tasks of a script alone.
 use Rattle.std.proofs.Common.{◌≡◌, ℕ, ◌+◌, ◌<◌, ◌≤◌, ◌==◌, Bool, true, false, ◌||◌, cond, nat_lt, List, [], ◌∷◌, ◌++◌, length, map, filter, reverse, Ok, refl, sym, ap, subst, ◌∙◌, arith, length-append}
 use Rattle.std.specs.List.{list_all, flat_map, range_with_len}
-use Rattle.lw_planes.proofs.GridLaws.{map-range-same}
+use Rattle.lw_planes.proofs.GridLaws.{map_range_same}
 use Rattle.lw_calls.specs.declared.form.Form.TheVariants.{Plain}
 use Rattle.lw_grammar.specs.LineForms.{LineForm, ScreenLine, GlyphLine, BitmapLine, RowLine, TaskLine, EndLine, OrderLine, NumbersLine, ReportLine, CallLine, LockLine, UnlockLine, HoldLine, ReleaseLine}
 use Rattle.lw_grammar.specs.LinesAbove.{Section, ScreenIsDue, AssetsAreDue, CallsAreDue, TasksAreDue, NumbersAreDue, NothingIsDue, section_of, rows_due, tasks_above, glyph_above, order_above, plan_above}
@@ -121,7 +121,7 @@ tasks_spelled one s above base g whole n b k = tasks_over one s above base g (wh
 -- the glyphs of lines that tell the same
 same_glyphs : (above new : List LineForm) → AreAlike above new → map (λ i. glyph_above new (32 + i)) (range_with_len 0 95) ≡ map (λ i. glyph_above above (32 + i)) (range_with_len 0 95)
 same_glyphs above new a =
-    map-range-same 95 (λ i. glyph_above new (32 + i)) (λ i. glyph_above above (32 + i)) (λ i low. a.glyphs (32 + i) (omega arith) (omega (arith, low)))
+    map_range_same 95 (λ i. glyph_above new (32 + i)) (λ i. glyph_above above (32 + i)) (λ i low. a.glyphs (32 + i) (omega arith) (omega (arith, low)))
 
 -- lines that tell the same have the same plan
 same_plan : (hooks : ℕ) (above new : List LineForm) → AreAlike above new → plan_above hooks new ≡ plan_above hooks above

@@ -4,7 +4,7 @@ use Rattle.std.specs.List.{list_all, range_with_len, slice_index_or}
 use Rattle.lw_region.specs.Rectangle.{within}
 use Rattle.lw_planes.specs.Bitmap.{row_bytes}
 use Rattle.lw_planes.specs.Sizes.{AreSizes, IsPlanes}
-use Rattle.lw_planes.proofs.StorageLaws.{IsPlanes-stored}
+use Rattle.lw_planes.proofs.StorageLaws.{IsPlanes_stored}
 use Rattle.lw_calls.specs.declared.reason.Reason.{Reason}
 use Rattle.lw_calls.specs.declared.form.Form.{Form}
 use Rattle.lw_calls.specs.declared.form.Form.TheVariants.{Plain, Ordered, Audited}
@@ -303,7 +303,7 @@ bitmaps_made s [] g rows n = All-nil IsPlanes
 bitmaps_made s (BitmapLine name w h d ∷ above) g rows n =
     let sizes = bitmap_sizes _ _ _ (sizes_range w h d (tests s above (BitmapLine name w h d) g).range) in
     let due : rows_due above ≡ 0 = eqb-true _ 0 (here s above (BitmapLine name w h d) g).0 in
-    All-push IsPlanes (bitmaps_with above []) _ (bitmaps_made s above g.1 [] (none_due above due)) (IsPlanes-stored _ _ _ rows (record { sizes = sizes; long = n }))
+    All-push IsPlanes (bitmaps_with above []) _ (bitmaps_made s above g.1 [] (none_due above due)) (IsPlanes_stored _ _ _ rows (record { sizes = sizes; long = n }))
 bitmaps_made s (RowLine bytes ∷ above) g rows n =
     let h = here s above (RowLine bytes) g in
     bitmaps_made s above g.1 (bytes ++ rows) (length-append bytes rows ∙ row_less (rows_due above) _ _ _ h.0 h.1 n)
