@@ -1,9 +1,8 @@
 -- The hidden rectangles: which pixels they have, and that with the visible ones they divide the bounds.
-use Rattle.std.proofs.Common.{◌≡◌, ℕ, zero, suc, ◌<◌, Bool, true, false, not, ◌&&◌, ◌||◌, List, [], ◌∷◌, ◌++◌, length, get_or, ℤ, refl, ap, sym, ◌∙◌, arith}
+use Rattle.std.proofs.Common.{◌≡◌, zero, suc, Bool, true, false, not, ◌&&◌, ◌||◌, List, [], ◌∷◌, ◌++◌, get_or, ℤ, refl, ap, sym, ◌∙◌, arith}
 use Rattle.std.specs.List.{All, AllPairs}
 use Rattle.std.proofs.lemmas.Bool.{false≢true, false_from_ne_true, and_parts, and_right, or_left, or_right, not_from_true}
 use Rattle.std.proofs.lemmas.List.Elements.{All-from_get_or, All-append}
-use Rattle.std.proofs.lemmas.List.Folds.{list_any_at}
 use Rattle.std.proofs.lemmas.List.Kept.{AllPairs-cons}
 use Rattle.lw_region.specs.Rectangle.{Rectangle, has_pixel, AreApart}
 use Rattle.lw_region.specs.Pixels.{pixels_of, difference, symmetric_difference}
@@ -12,7 +11,7 @@ use Rattle.lw_region.specs.Banded.{IsCanonical}
 use Rattle.lw_region.specs.Regions.{rectangle_set}
 use Rattle.lw_region.proofs.Canonical.{covers_cons, one_canonical}
 use Rattle.lw_region.proofs.SetOps.{covers_one, canonical_bands, combined_lists}
-use Rattle.lw_region.proofs.Disjoint.{canonical_disjoint}
+use Rattle.lw_region.proofs.Disjoint.{canonical_disjoint, has_at}
 use Rattle.lw_cliprects.specs.Parts.{hidden_of, LieIn, AreDivided}
 
 -- the hidden rectangles have the pixels of the bounds that are not visible
@@ -48,18 +47,13 @@ made_hidden bounds visible inside =
     ∙ (ap (λ w. (covers visible x y && not w) || (w && not (covers visible x y))) (covers_one bounds x y)
     ∙ (part_taken_out (covers visible x y) (has_pixel bounds x y) (inside x y) ∙ sym (covers_hidden bounds visible x y))))
 
--- a list has each pixel of each of its rectangles
-covers_at : (rects : List Rectangle) (k : ℕ) (d : Rectangle) (x y : ℤ) → k < length rects → has_pixel (get_or rects k d) x y ≡ true → covers rects x y ≡ true
-unfolding covers
-covers_at rects k d x y l h = list_any_at (λ r. has_pixel r x y) rects k d l h
-
 -- a rectangle of which a list has no pixel is apart from each of the list
 apart_from_each : (r : Rectangle) (rects : List Rectangle) → ((x y : ℤ) → has_pixel r x y ≡ true → covers rects x y ≡ false) → All (AreApart r) rects
 apart_from_each r rects h =
     All-from_get_or (AreApart r) rects r (λ k l x y.
     false_from_ne_true _ (λ t.
     let p = and_parts (has_pixel r x y) (has_pixel (get_or rects k r) x y) t in
-    false≢true (sym (h x y p.0) ∙ covers_at rects k r x y l p.1)))
+    false≢true (sym (h x y p.0) ∙ has_at rects k r x y l p.1)))
 
 -- two lists of rectangles that are apart, and that have no pixel in common, are one such list
 apart_append : (rs ss : List Rectangle) → AllPairs AreApart rs → AllPairs AreApart ss → ((x y : ℤ) → covers rs x y ≡ true → covers ss x y ≡ false)

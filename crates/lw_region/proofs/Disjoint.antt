@@ -49,7 +49,7 @@ flat_disjoint (b ∷ bs) h =
     (flat_disjoint bs h.2))
 
 -- what a rectangle of the list has, the list has
-has_at : (rs : List Rectangle) (k : ℕ) (d : Rectangle) (x y : ℤ) → k < length rs → has_pixel (get_or rs k d) x y ≡ true → covers rs x y ≡ true
+pub has_at : (rs : List Rectangle) (k : ℕ) (d : Rectangle) (x y : ℤ) → k < length rs → has_pixel (get_or rs k d) x y ≡ true → covers rs x y ≡ true
 has_at [] k d x y l h = absurd (omega arith)
 has_at (r ∷ rs) zero d x y l h = covers_cons r rs x y ∙ or_left (has_pixel r x y) (covers rs x y) h
 has_at (r ∷ rs) (suc k) d x y l h = covers_cons r rs x y ∙ or_right (has_pixel r x y) (covers rs x y) (has_at rs k d x y (omega arith) h)

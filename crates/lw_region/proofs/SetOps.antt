@@ -1,5 +1,6 @@
 -- What the operations on regions do to sets and lists, and the laws of canonical lists.
 use Rattle.std.proofs.Common.{◌≡◌, ◌↔◌, false, ◌||◌, List, [], ◌∷◌, ℤ, refl, ap, sym, subst, ◌∙◌}
+use Rattle.std.proofs.Math.Bool.{or-false}
 use Rattle.lw_region.specs.declared.operation.Operation.{Operation}
 use Rattle.lw_region.specs.declared.operation.Operation.TheVariants.{Union, Intersection, SymmetricDifference, Difference}
 use Rattle.lw_region.specs.Rectangle.{Rectangle, has_pixel, IsOrdered}
@@ -9,7 +10,6 @@ use Rattle.lw_region.specs.Bands.{Run, Band, bands, covers}
 use Rattle.lw_region.specs.Banded.{IsCanonical, IsBanded, flat}
 use Rattle.lw_region.specs.Operations.{holds, combined}
 use Rattle.lw_region.specs.Regions.{IsListOf, CombinedListsLaw}
-use Rattle.lw_region.proofs.Order.{or_none}
 use Rattle.lw_region.proofs.Reading.{one_set, ordered_pixels, ordered_union, ordered_intersection, ordered_difference, ordered_symmetric, contains_union, contains_intersection, contains_difference, contains_symmetric, contains_pixels_of}
 use Rattle.lw_region.proofs.Canonical.{flat_nil, covers_nil, covers_cons, canonical_is_bands, covers_bands, bands_flat, band_list, are_band_list, flat_canonical, one_canonical}
 
@@ -38,7 +38,7 @@ canonical_one r h =
 
 -- the pixels of one rectangle
 pub covers_one : (r : Rectangle) (x y : ℤ) → covers (r ∷ []) x y ≡ has_pixel r x y
-covers_one r x y = covers_cons r [] x y ∙ (ap (λ w. has_pixel r x y || w) (covers_nil x y) ∙ or_none (has_pixel r x y))
+covers_one r x y = covers_cons r [] x y ∙ (ap (λ w. has_pixel r x y || w) (covers_nil x y) ∙ or-false (has_pixel r x y))
 
 -- the bands of a set are canonical
 pub canonical_bands : (s : List Pixel) → IsCanonical (bands s)
