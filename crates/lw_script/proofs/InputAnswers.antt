@@ -1,11 +1,11 @@
 -- What reading a script answers, given that it gives the outcome of its bytes.
-use Rattle.std.proofs.Common.{◌≡◌, ℕ, min, length, List, Result, Ok, Err, IfOk, MatchResult, sym, ap, subst, ◌∙◌}
+use Rattle.std.proofs.Common.{◌≡◌, ℕ, min, length, List, Result, Ok, Err, IfOk, sym, ap, subst, ◌∙◌}
 use Rattle.lw_calls.specs.declared.reason.Reason.{Reason}
 use Rattle.lw_grammar.specs.Demands.{◌>>=◌}
 use Rattle.lw_grammar.specs.Lines.{lines}
 use Rattle.lw_grammar.specs.Told.{told}
 use Rattle.lw_grammar.specs.Script.{Setting, ScriptInput, input_from, outcome_of, SpellsInput, IsFirstBadIn, IsRunnableInput}
-use Rattle.lw_grammar.proofs.ScriptOutcome.{reads_decide, refused_outcome}
+use Rattle.lw_grammar.proofs.ScriptOutcome.{refused_outcome}
 use Rattle.lw_grammar.proofs.ScriptRunnable.{spelled_runnable}
 use Rattle.lw_script.specs.declared.input.Input.{Input}
 use Rattle.lw_script.specs.declared.input.ScriptStop.{ScriptStop}

@@ -1,5 +1,5 @@
 -- Reading a line by what the reader knows gives what the grammar gives below the lines that it has read.
-use Rattle.std.proofs.Common.{◌≡◌, ℕ, ◌+◌, Bool, not, cond, nat_lt, List, [], ◌∷◌, ◌++◌, ℤ, unsigned_abs, Option, Some, None, Result, Ok, Err, refl, sym, ap, subst, ◌∙◌, length}
+use Rattle.std.proofs.Common.{◌≡◌, ℕ, ◌+◌, Bool, not, cond, List, [], ◌∷◌, ◌++◌, ℤ, unsigned_abs, Option, Some, None, Result, Ok, Err, refl, ap, subst, ◌∙◌}
 use Rattle.lw_grammar.specs.Told.{and_name, and_names, asks_super, hook_on, after, told}
 use Rattle.lw_grammar.specs.Script.{Setting, lacks_name, gives_again, are_few, is_no_hook, is_used, has_padding, is_unbuilt, words_read, form_read, form_tested, line_read}
 use Rattle.lw_calls.specs.declared.reason.Reason.{Reason}

@@ -1,5 +1,5 @@
 -- The outcome of lines, a line at a time, and the place behind the lines that were read.
-use Rattle.std.proofs.Common.{◌≡◌, ℕ, ◌+◌, ◌-◌, ◌<◌, ◌≤◌, Bool, true, false, cond, min, List, [], ◌∷◌, length, Result, Ok, Err, IfOk, ⊎_elim, ◌⊎◌, refl, sym, ap, subst, ◌∙◌, arith}
+use Rattle.std.proofs.Common.{◌≡◌, ℕ, ◌+◌, ◌-◌, ◌<◌, ◌≤◌, Bool, true, false, min, List, [], ◌∷◌, length, Result, Ok, Err, IfOk, ⊎_elim, ◌⊎◌, refl, sym, ap, subst, ◌∙◌, arith}
 use Rattle.lw_grammar.specs.Told.{told}
 use Rattle.lw_grammar.specs.Script.{Setting, is_nothing_due, forms_with, Reached, with_line, at_number, may_end, end_read, lines_read, ScriptInput, input_from, AreGoodLines}
 use Rattle.lw_calls.specs.declared.reason.Reason.{Reason}
@@ -9,7 +9,6 @@ use Rattle.lw_grammar.specs.Lines.{lines}
 use Rattle.lw_grammar.specs.LineForms.{LineForm}
 use Rattle.lw_grammar.proofs.ScriptOutcome.{with_good}
 use Rattle.lw_words.specs.Cuts.{IsCutLine}
-use Rattle.lw_script.specs.declared.input.Input.{Input}
 use Rattle.lw_script.specs.declared.input.ScriptStop.{ScriptStop}
 use Rattle.lw_script.specs.declared.input.ScriptStop.TheVariants.{Refused, Memory}
 use Rattle.lw_script.specs.declared.state.Reader.{Reader}

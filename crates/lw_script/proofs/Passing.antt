@@ -1,12 +1,12 @@
 -- Lines that leave what the reader has read: of glyphs and bitmaps, or of tasks.
-use Rattle.std.proofs.Common.{◌≡◌, ℕ, ◌==◌, Bool, true, false, List, [], ◌∷◌, ◌++◌, Result, Ok, Err, OnOk, ℤ, refl, ap, subst, ◌∙◌, arith}
+use Rattle.std.proofs.Common.{◌≡◌, ℕ, ◌==◌, Bool, true, false, List, ◌∷◌, Result, Ok, Err, OnOk, ℤ, subst, ◌∙◌}
 use Rattle.lw_grammar.specs.LineForms.{LineForm, ScreenLine, GlyphLine, BitmapLine, RowLine, TaskLine, EndLine, OrderLine, NumbersLine, ReportLine, CallLine, LockLine, UnlockLine, HoldLine, ReleaseLine}
 use Rattle.lw_grammar.specs.Told.{told}
 use Rattle.lw_grammar.specs.Script.{Setting}
 use Rattle.lw_script.specs.declared.state.AssetsRead.{AssetsRead}
 use Rattle.lw_script.specs.declared.state.TasksRead.{TasksRead}
 use Rattle.lw_script.specs.declared.state.Reader.{Reader}
-use Rattle.lw_script.specs.Represents.{Represents, AssetsRepresent, TasksRepresent, unfinished}
+use Rattle.lw_script.specs.Represents.{Represents, AssetsRepresent, TasksRepresent}
 use Rattle.std.proofs.lemmas.Bool.{eqb-true, false≢true}
 
 -- the line is no glyph, no bitmap and no row

@@ -4,8 +4,6 @@ use Rattle.std.specs.List.{range_with_len}
 use Rattle.lw_planes.specs.Bitmap.{Bitmap}
 use Rattle.lw_calls.specs.declared.call.Call.{Call}
 use Rattle.lw_calls.specs.declared.group.Group.{Group}
-use Rattle.lw_calls.specs.declared.form.Form.{Form}
-use Rattle.lw_calls.specs.declared.form.Form.TheVariants.{Plain, Ordered, Audited}
 use Rattle.lw_calls.specs.declared.sizes.Sizes.{Sizes}
 use Rattle.lw_calls.specs.Assets.{Assets}
 use Rattle.lw_calls.specs.Plan.{Plan, IsPlan}

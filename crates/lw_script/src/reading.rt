@@ -4,7 +4,6 @@ ghost use Rattle.lw_grammar.specs.LineForms.{LineForm as FormValue};
 ghost use Rattle.lw_grammar.specs.Told.{told};
 ghost use Rattle.lw_grammar.specs.Script.{Setting, line_read};
 ghost use Rattle.lw_words.specs.Cuts.{targets};
-ghost use Rattle.lw_lines.specs.SectionMeaning.{section_meaning};
 ghost use Rattle.lw_lines.specs.LineReading.{Reads};
 ghost use Rattle.lw_script.specs.ReaderKnows.{known, setting_of, words_known};
 ghost use Rattle.lw_script.specs.Represents.{Represents};

@@ -7,7 +7,7 @@ use Rattle.lw_calls.specs.declared.reason.Reason.{Reason}
 use Rattle.lw_calls.specs.declared.reason.Reason.TheVariants.{Form as FormReason}
 use Rattle.lw_grammar.specs.Demands.{◌>>=◌}
 use Rattle.lw_grammar.specs.Lines.{lines}
-use Rattle.lw_grammar.specs.Tokens.{Token, NumberToken, token_of, tokens}
+use Rattle.lw_grammar.specs.Tokens.{Token, NumberToken, token_of}
 use Rattle.lw_grammar.specs.LineForms.{LineForm, NumbersLine, all_numbers, numbers_line, numbers_limit, row_line}
 use Rattle.lw_grammar.specs.Told.{told}
 use Rattle.lw_grammar.specs.Script.{Setting, is_skipped, are_numbers_due, is_nothing_due, words_read, verb_read, form_read, form_tested, line_read, forms_with, Reached, at_the_top, with_line, at_number, end_read, lines_read, ScriptInput, SpellsInput, AreGoodLines}
