@@ -1,6 +1,4 @@
-ghost use Rattle.std.specs.Prelude.{◌≡◌, ◌<◌, ◌↔◌, ℤ, IfOk, OnOk, IsNone};
-ghost use Rattle.lw_region.specs.Rectangle.{has_pixel};
-ghost use Rattle.lw_region.specs.Bands.{covers};
+ghost use Rattle.std.specs.Prelude.{◌≡◌, ◌<◌, ◌↔◌, IfOk, OnOk, IsNone};
 ghost use Rattle.lw_bench_c.specs.Wanted.{wanted};
 
 use lw_region::{Rect, Region, and_region, clear_region, or_region, xor_region};
@@ -41,8 +39,7 @@ pub(crate) fn combined(
     b: &Region,
     hole: &Rect,
 ) -> Result<Region, AllocError>
-    ensures { IfOk result (λ made. (x y : ℤ) → covers made x y
-        ≡ wanted operation (covers a.now x y) (covers b.now x y) (has_pixel hole.now x y)) }
+    ensures { IfOk result (λ made. made ≡ wanted operation a.now b.now hole.now) }
 {
     let mut made = a.copy(alloc)?;
     apply(alloc, operation, b, hole, &mut made)?;
@@ -56,8 +53,7 @@ fn apply(
     hole: &Rect,
     made: &mut Region,
 ) -> Result<(), AllocError>
-    ensures { OnOk result ((x y : ℤ) → covers made.new x y
-        ≡ wanted operation (covers made.old x y) (covers b.now x y) (has_pixel hole.now x y)) }
+    ensures { OnOk result (made.new ≡ wanted operation made.old b.now hole.now) }
 {
     match operation {
         Operation::Copied => Ok(()),

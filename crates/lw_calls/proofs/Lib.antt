@@ -1,3 +1,4 @@
 pub mod OrderGroups
 pub mod OrdersComplete
 pub mod OrderReading
+pub mod TwoTasks

@@ -8,3 +8,4 @@ pub mod Touches
 pub mod Orders
 pub mod Plan
 pub mod Code
+pub mod Final

@@ -2,6 +2,7 @@ use crate::message::Messages;
 use crate::reply::Replies;
 use lw_planes::Planes;
 use lw_region::Region;
+use std::marker::Model;
 
 /// A live layer as a report shows it (this project's own).
 #[derive(Debug, Drop)]
@@ -23,4 +24,12 @@ pub struct Final {
     pub slots: Vec<Option<Seen>>,
     /// The replies of each task.
     pub replies: Vec<Replies>,
+}
+
+impl Model for Final {
+    ghost use Rattle.lw_calls.specs.Final.{Final as FinalView};
+
+    ghost Value = { FinalView };
+
+    ghost view = { λ f. record { planes = f.planes; slots = f.slots.items; replies = f.replies.items } };
 }

@@ -1,5 +1,5 @@
-ghost use Rattle.std.specs.Prelude.{◌≡◌, ◌<◌, map};
-ghost use Rattle.lw_calls.specs.Plan.{Plan as PlanView, task_calls, task_groups, IsPlan};
+ghost use Rattle.std.specs.Prelude.{◌≡◌, ◌<◌};
+ghost use Rattle.lw_calls.specs.Plan.{task_calls, task_groups, IsPlan};
 
 use crate::assets::Assets;
 use crate::call::Call;
@@ -25,22 +25,9 @@ pub struct PlanParts {
     pub assets: Assets,
 }
 
-/// What a script says to do: the sizes, the names, the calls and the groups of each task in their order, and what the
-/// script hands in (this project's own).
-#[derive(Debug, Drop)]
-pub struct Plan {
-    sizes: Sizes,
-    slot_names: Vec<Text>,
-    task_names: Vec<Text>,
-    bitmap_names: Vec<Text>,
-    calls: Vec<Vec<Call>>,
-    groups: Vec<Vec<Group>>,
-    assets: Assets,
-}
-
-impl Model for Plan {
+impl Model for PlanParts {
     ghost use Rattle.std.specs.Prelude.{map};
-    ghost use Rattle.lw_calls.specs.Plan.{Plan as PlanView, IsPlan};
+    ghost use Rattle.lw_calls.specs.Plan.{Plan as PlanView};
 
     ghost Value = { PlanView };
 
@@ -53,100 +40,74 @@ impl Model for Plan {
       groups = map (λ gs. gs.items) p.groups.items;
       assets = p.assets;
     } };
+}
 
-    ghost invariant = { λ p. IsPlan (record {
-      sizes = p.sizes;
-      slot_names = p.slot_names.items;
-      task_names = p.task_names.items;
-      bitmap_names = p.bitmap_names.items;
-      calls = map (λ cs. cs.items) p.calls.items;
-      groups = map (λ gs. gs.items) p.groups.items;
-      assets = p.assets;
-    }) };
+/// What a script says to do: the sizes, the names, the calls and the groups of each task in their order, and what the
+/// script hands in (this project's own).
+#[derive(Debug, Drop)]
+pub struct Plan {
+    parts: PlanParts,
+}
+
+impl Model for Plan {
+    ghost use Rattle.lw_calls.specs.Plan.{Plan as PlanView, IsPlan};
+
+    ghost Value = { PlanView };
+
+    ghost view = { λ p. p.parts };
+
+    ghost invariant = { λ p. IsPlan p.parts };
 }
 
 impl Plan {
     /// The plan of these parts.
     pub fn new(parts: PlanParts) -> Plan
-        requires { IsPlan (record {
-          sizes = parts.sizes;
-          slot_names = parts.slot_names.items;
-          task_names = parts.task_names.items;
-          bitmap_names = parts.bitmap_names.items;
-          calls = map (λ cs. cs.items) parts.calls.items;
-          groups = map (λ gs. gs.items) parts.groups.items;
-          assets = parts.assets;
-        }) }
-        ensures { result ≡ record {
-          sizes = parts.sizes;
-          slot_names = parts.slot_names.items;
-          task_names = parts.task_names.items;
-          bitmap_names = parts.bitmap_names.items;
-          calls = map (λ cs. cs.items) parts.calls.items;
-          groups = map (λ gs. gs.items) parts.groups.items;
-          assets = parts.assets;
-        } }
+        requires { IsPlan parts }
+        ensures { result ≡ parts }
     {
-        let PlanParts {
-            sizes,
-            slot_names,
-            task_names,
-            bitmap_names,
-            calls,
-            groups,
-            assets,
-        } = parts;
-        Plan {
-            sizes,
-            slot_names,
-            task_names,
-            bitmap_names,
-            calls,
-            groups,
-            assets,
-        }
+        Plan { parts }
     }
 
     pub fn sizes(&self) -> &Sizes
         ensures value { result.now ≡ self.now.sizes }
         ensures plan { IsPlan self.now }
     {
-        &self.sizes
+        &self.parts.sizes
     }
 
     /// The layers' names, by slot.
     pub fn slot_names(&self) -> &[Text]
         ensures { result.now ≡ self.now.slot_names }
     {
-        self.slot_names.as_slice()
+        self.parts.slot_names.as_slice()
     }
 
     /// The tasks' names, by number.
     pub fn task_names(&self) -> &[Text]
         ensures { result.now ≡ self.now.task_names }
     {
-        self.task_names.as_slice()
+        self.parts.task_names.as_slice()
     }
 
     /// The script's version.
     pub fn version(&self) -> u32
         ensures { result ≡ self.now.sizes.version }
     {
-        self.sizes.version
+        self.parts.sizes.version
     }
 
     /// The bitmaps' names, by number.
     pub fn bitmap_names(&self) -> &[Text]
         ensures { result.now ≡ self.now.bitmap_names }
     {
-        self.bitmap_names.as_slice()
+        self.parts.bitmap_names.as_slice()
     }
 
     /// The glyphs and bitmaps that the script hands in.
     pub fn assets(&self) -> &Assets
         ensures { result.now ≡ self.now.assets }
     {
-        &self.assets
+        &self.parts.assets
     }
 
     /// The groups of a task in rising order.
@@ -154,7 +115,7 @@ impl Plan {
         requires { task < self.now.sizes.tasks }
         ensures { result.now ≡ task_groups self.now task }
     {
-        self.groups[task as usize].as_slice()
+        self.parts.groups[task as usize].as_slice()
     }
 
     /// The calls of a task in their order.
@@ -162,6 +123,18 @@ impl Plan {
         requires { task < self.now.sizes.tasks }
         ensures { result.now ≡ task_calls self.now task }
     {
-        self.calls[task as usize].as_slice()
+        self.parts.calls[task as usize].as_slice()
     }
 }
+
+// A plan and its assets may go to another thread, and threads may share them: the bounds ask for the proofs.
+fn cross_threads() {
+    crosses::<Plan>();
+    crosses::<Assets>();
+    is_shared::<Plan>();
+    is_shared::<Assets>();
+}
+
+fn crosses<T: Send>() {}
+
+fn is_shared<T: Sync>() {}

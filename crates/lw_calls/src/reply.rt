@@ -1,5 +1,6 @@
 use crate::message::Message;
 use lw_region::Region;
+use std::alloc::AllocError;
 use std::marker::Model;
 
 /// What a call answers. The answers from `NotOpen` on refuse the call, which then leaves all as it was (this project's
@@ -58,7 +59,7 @@ impl Model for Replies {
 }
 
 impl Replies {
-    ghost use Rattle.std.specs.Prelude.{◌≡◌};
+    ghost use Rattle.std.specs.Prelude.{◌≡◌, [], ◌∷◌, ◌++◌, length, OnOk, OnErr};
 
     pub fn new(replies: Vec<Reply>) -> Replies
         ensures { result ≡ replies.items }
@@ -70,5 +71,14 @@ impl Replies {
         ensures { result.now ≡ self.now }
     {
         self.replies.as_slice()
+    }
+
+    /// A reply more, to the task's next call. After an error the list is as before.
+    pub fn push(&mut self, reply: Reply) -> Result<(), AllocError>
+        ensures ok { OnOk result (self.new ≡ self.old ++ reply ∷ []) }
+        ensures err { OnErr result (self.new ≡ self.old) }
+    {
+        self.replies.push(reply)?;
+        Ok(())
     }
 }

@@ -3,11 +3,10 @@
 use Rattle.std.proofs.Common.{◌≡◌, ℕ, ◌+◌, ◌-◌, ◌≤◌, ◌==◌, true, ◌&&◌, List, [], ◌∷◌, ℤ, pos, unsigned_abs, refl, sym, ap, subst, ◌∙◌, arith}
 use Rattle.lw_region.specs.Rectangle.{within}
 use Rattle.lw_grammar.specs.LineForms.{LineForm, ScreenLine, TaskLine, EndLine, OrderLine, ReportLine}
-use Rattle.lw_grammar.specs.LinesAbove.{Section, ScreenIsDue, AssetsAreDue, CallsAreDue, TasksAreDue, NumbersAreDue, NothingIsDue, section_of, rows_due, width_above, height_above, depth_above, glyph_above}
-use Rattle.lw_grammar.specs.Script.{Setting, is_screen_due, is_whole}
-use Rattle.lw_grammar.specs.ScriptReading.{AreGoodLines}
+use Rattle.lw_grammar.specs.Told.{Section, ScreenIsDue, AssetsAreDue, CallsAreDue, TasksAreDue, NumbersAreDue, NothingIsDue, told}
+use Rattle.lw_grammar.specs.Script.{Setting, is_screen_due, may_end, AreGoodLines}
 use Rattle.lw_canonical.specs.Spelling.{spelled}
-use Rattle.lw_grammar.proofs.ScriptAnswer.{rows_in_assets}
+use Rattle.lw_grammar.proofs.ScriptOutcome.{rows_in_assets}
 use Rattle.lw_grammar.proofs.ScriptSizes.{IsFormTested, here, tests, When, when, has_screen, in_assets_or_tasks, in_calls, in_tasks, whole_ends, none_due}
 use Rattle.lw_canonical.proofs.ReadsAgain.{verb_forms, spelled_again, tests_pass, isnt_passed}
 use Rattle.lw_canonical.proofs.BitmapsKept.{IsBare, bare_kept, IsWithoutBitmaps, kept, glyph_kept, names_kept, due_kept, made_kept}
@@ -30,18 +29,18 @@ record IsScreenRead (s : Setting) (w h d : ℕ) : Type 0 where
   depth : d ≡ unsigned_abs z
 
 -- so it does where any section but the first has begun
-screen_read : (s : Setting) (above : List LineForm) → AreGoodLines s above → When (has_screen (section_of above)) (IsScreenRead s (width_above above) (height_above above) (depth_above above))
+screen_read : (s : Setting) (above : List LineForm) → AreGoodLines s above → When (has_screen (told above).section) (IsScreenRead s (told above).width (told above).height (told above).depth)
 screen_read s [] g = tt
 screen_read s (ScreenLine w h d ∷ above) g =
     record { x = w; y = h; z = d; below = above; good = g; width = refl; height = refl; depth = refl }
 screen_read s (TaskLine name ∷ above) g =
-    when _ _ (in_assets_or_tasks (section_of above) (here s above (TaskLine name) g).1) (screen_read s above g.1)
+    when _ _ (in_assets_or_tasks (told above).section (here s above (TaskLine name) g).1) (screen_read s above g.1)
 screen_read s (EndLine ∷ above) g =
-    when _ _ (ap has_screen (in_calls (section_of above) (here s above EndLine g).1)) (screen_read s above g.1)
+    when _ _ (ap has_screen (in_calls (told above).section (here s above EndLine g).1)) (screen_read s above g.1)
 screen_read s (OrderLine ∷ above) g =
-    when _ _ (ap has_screen (in_tasks (section_of above) (and_parts _ _ (here s above OrderLine g).1).0)) (screen_read s above g.1)
+    when _ _ (ap has_screen (in_tasks (told above).section (and_parts _ _ (here s above OrderLine g).1).0)) (screen_read s above g.1)
 screen_read s (ReportLine ∷ above) g =
-    when _ _ (ap has_screen (in_tasks (section_of above) (and_parts _ _ (here s above ReportLine g).1).0)) (screen_read s above g.1)
+    when _ _ (ap has_screen (in_tasks (told above).section (and_parts _ _ (here s above ReportLine g).1).0)) (screen_read s above g.1)
 screen_read s (f ∷ above) g = screen_read s above g.1
 
 -- a number from 1 on is what it counts
@@ -79,14 +78,14 @@ screen_same s w h d k =
     ap (λ v. ScreenLine v k.y k.z) x ∙ (ap (λ v. ScreenLine (pos w) v k.z) y ∙ ap (λ v. ScreenLine (pos w) (pos h) v) z)
 
 -- the screen reads again, where its line stands among the good ones
-screen_spelled : HasOneSpelling → (s t : Setting) (above : List LineForm) → AreGoodLines s above → has_screen (section_of above) ≡ true → AreSpelled t (screen_line_of above ∷ [])
+screen_spelled : HasOneSpelling → (s t : Setting) (above : List LineForm) → AreGoodLines s above → has_screen (told above).section ≡ true → AreSpelled t (screen_line_of above ∷ [])
 screen_spelled one s t above g screen =
     let k = when _ _ screen (screen_read s above g) in
     let P : LineForm → Type 0 = λ f. AreSpelled t (f ∷ []) in
-    subst P (screen_same s (width_above above) (height_above above) (depth_above above) k) (first_again one s t k.x k.y k.z k.below k.good)
+    subst P (screen_same s (told above).width (told above).height (told above).depth k) (first_again one s t k.x k.y k.z k.below k.good)
 
 -- what it tells
-screen_bare : (above : List LineForm) → IsBare (width_above above) (height_above above) (depth_above above) (screen_line_of above ∷ [])
+screen_bare : (above : List LineForm) → IsBare (told above).width (told above).height (told above).depth (screen_line_of above ∷ [])
 screen_bare above =
     record { section = refl; width = refl; height = refl; depth = refl; tasks = refl; names = refl; supers = refl; hooks = refl; group = refl; so_far = refl; began = refl; calls = refl; groups = refl }
 
@@ -102,11 +101,11 @@ base_parts : (above : List LineForm) → kept above (glyphs_of above) ≡ base_o
 base_parts above = ap (kept above) (sym (glyphs_ordered above (screen_line_of above ∷ [])))
 
 -- The base of good lines below a screen's reads in its one spelling, in each setting.
-pub screened_base_spelled : HasOneSpelling → (s t : Setting) (above : List LineForm) → AreGoodLines s above → has_screen (section_of above) ≡ true → AreSpelled t (base_of above)
+pub screened_base_spelled : HasOneSpelling → (s t : Setting) (above : List LineForm) → AreGoodLines s above → has_screen (told above).section ≡ true → AreSpelled t (base_of above)
 screened_base_spelled one s t above g has =
-    let w = width_above above in
-    let h = height_above above in
-    let d = depth_above above in
+    let w = (told above).width in
+    let h = (told above).height in
+    let d = (told above).depth in
     let screen : List LineForm = screen_line_of above ∷ [] in
     let glyphs : AreSpelled t (glyphs_of above) =
     over_spelled one s t above screen g w h d (screen_bare above) (screen_alone above) refl (screen_spelled one s t above g has) 95 in
@@ -115,27 +114,27 @@ screened_base_spelled one s t above g has =
     subst (AreSpelled t) (base_parts above) all
 
 -- So does that of whole ones in a script alone.
-pub base_spelled : HasOneSpelling → (s : Setting) (above : List LineForm) → AreGoodLines s above → is_whole s.form above ≡ true → AreSpelled (alone s) (base_of above)
+pub base_spelled : HasOneSpelling → (s : Setting) (above : List LineForm) → AreGoodLines s above → may_end s.form (told above).section ≡ true → AreSpelled (alone s) (base_of above)
 base_spelled one s above g whole = screened_base_spelled one s (alone s) above g (whole_ends s.form above whole).screen
 
 -- Where an input may end, no rows are due.
-pub none_at_end : (s : Setting) (above : List LineForm) → AreGoodLines s above → is_whole s.form above ≡ true → rows_due above ≡ 0
+pub none_at_end : (s : Setting) (above : List LineForm) → AreGoodLines s above → may_end s.form (told above).section ≡ true → (told above).rows_due ≡ 0
 none_at_end s above g whole =
-    eqb-true _ 0 (true_from_ne_false (rows_due above == 0) (λ e. true≢false (sym (rows_in_assets s above g e) ∙ (whole_ends s.form above whole).assets)))
+    eqb-true _ 0 (true_from_ne_false ((told above).rows_due == 0) (λ e. true≢false (sym (rows_in_assets s above g e) ∙ (whole_ends s.form above whole).assets)))
 
 -- the glyph of a code in its range
-glyph_of_base : (s : Setting) (above : List LineForm) → AreGoodLines s above → (code : ℕ) → 32 ≤ code → code ≤ 126 → glyph_above (kept above (glyphs_of above)) code ≡ glyph_above above code
+glyph_of_base : (s : Setting) (above : List LineForm) → AreGoodLines s above → (code : ℕ) → 32 ≤ code → code ≤ 126 → (told (kept above (glyphs_of above))).glyphs code ≡ (told above).glyphs code
 glyph_of_base s above g code low high =
-    let P : ℕ → Type 0 = λ c. glyph_above (glyphs_of above) c ≡ glyph_above above c in
+    let P : ℕ → Type 0 = λ c. (told (glyphs_of above)).glyphs c ≡ (told above).glyphs c in
     let number : 32 + (code - 32) ≡ code = omega (arith, low) in
     glyph_kept above (glyphs_of above) code ∙ subst P number (glyph_over s above (screen_line_of above ∷ []) g (λ c. refl) 95 (code - 32) (omega (arith, low, high)))
 
 -- the same of the lines put together
-is_kept_base : (s : Setting) (above : List LineForm) → AreGoodLines s above → rows_due above ≡ 0 → IsBaseOf above (kept above (glyphs_of above))
+is_kept_base : (s : Setting) (above : List LineForm) → AreGoodLines s above → (told above).rows_due ≡ 0 → IsBaseOf above (kept above (glyphs_of above))
 is_kept_base s above g none =
     let screen : List LineForm = screen_line_of above ∷ [] in
     let b = unmapped_over above screen 95 (screen_alone above) in
-    let k = bare_kept (width_above above) (height_above above) (depth_above above) above (glyphs_of above) (bare_over above screen (width_above above) (height_above above) (depth_above above) 95 (screen_bare above)) in
+    let k = bare_kept (told above).width (told above).height (told above).depth above (glyphs_of above) (bare_over above screen (told above).width (told above).height (told above).depth 95 (screen_bare above)) in
     record {
       section = k.section;
       due = due_kept (glyphs_of above) b s above g ∙ none;
@@ -157,9 +156,9 @@ is_kept_base s above g none =
     }
 
 -- The base of good lines below which no rows are due tells of screen, glyphs and bitmaps what they tell, and of nothing else.
-pub base_is : (s : Setting) (above : List LineForm) → AreGoodLines s above → rows_due above ≡ 0 → IsBaseOf above (base_of above)
+pub base_is : (s : Setting) (above : List LineForm) → AreGoodLines s above → (told above).rows_due ≡ 0 → IsBaseOf above (base_of above)
 base_is s above g none = subst (IsBaseOf above) (base_parts above) (is_kept_base s above g none)
 
 -- So does that of whole ones.
-pub whole_base_is : (s : Setting) (above : List LineForm) → AreGoodLines s above → is_whole s.form above ≡ true → IsBaseOf above (base_of above)
+pub whole_base_is : (s : Setting) (above : List LineForm) → AreGoodLines s above → may_end s.form (told above).section ≡ true → IsBaseOf above (base_of above)
 whole_base_is s above g whole = base_is s above g (none_at_end s above g whole)

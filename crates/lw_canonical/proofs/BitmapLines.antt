@@ -6,11 +6,10 @@ use Rattle.lw_region.specs.Rectangle.{within}
 use Rattle.lw_planes.specs.Row.{row_bit}
 use Rattle.lw_planes.specs.Bitmap.{Bitmap, row_bytes, plane_row}
 use Rattle.lw_planes.specs.Storage.{bit_place, stored}
-use Rattle.lw_planes.proofs.BitmapLaws.{row_bytes-wide}
+use Rattle.lw_planes.proofs.BitmapLaws.{row_bytes_wide}
 use Rattle.lw_grammar.specs.LineForms.{LineForm, BitmapLine, RowLine, is_line_in_range}
-use Rattle.lw_grammar.specs.LinesAbove.{rows_due, row_width, bitmaps_above, bitmaps_with}
-use Rattle.lw_grammar.specs.Script.{Setting}
-use Rattle.lw_grammar.specs.ScriptReading.{AreGoodLines}
+use Rattle.lw_grammar.specs.Told.{told}
+use Rattle.lw_grammar.specs.Script.{Setting, AreGoodLines}
 use Rattle.lw_canonical.specs.Canonical.{enumerated, lines_of_bitmap}
 use Rattle.lw_canonical.proofs.Rearranged.{is_of_bitmaps}
 use Rattle.lw_grammar.proofs.ScriptSizes.{here, tests, bitmaps_named}
@@ -48,7 +47,7 @@ bit_among : (w : ℕ) (rows : List (List ℕ)) (i x : ℕ) → AreRows w rows �
 unfolding row_bit
 bit_among w rows i x h low left =
     let n : ℕ = row_bytes w in
-    let wide : w ≤ 8 * n = row_bytes-wide w in
+    let wide : w ≤ 8 * n = row_bytes_wide w in
     let inside : x / 8 < n = omega (arith, wide, left) in
     let byte : (8 * (i * n) + x) / 8 ≡ i * n + x / 8 = omega arith in
     let place : (8 * (i * n) + x) % 8 ≡ x % 8 = omega arith in
@@ -156,28 +155,26 @@ abbrev pub bitmaps_told : List LineForm → List LineForm
 bitmaps_told above = reverse (filter is_of_bitmaps above)
 
 -- Good lines give their bitmaps back, where these rows stand behind the nearest one.
-bitmaps_back : (s : Setting) (above : List LineForm) → AreGoodLines s above → (rows : List (List ℕ)) → length rows ≡ rows_due above → AreRows (row_width above) rows → all_bitmap_lines (bitmaps_above above) (bitmaps_with above (concat rows)) ≡ bitmaps_told above ++ map (λ r. RowLine r) rows
+bitmaps_back : (s : Setting) (above : List LineForm) → AreGoodLines s above → (rows : List (List ℕ)) → length rows ≡ (told above).rows_due → AreRows (told above).row_width rows → all_bitmap_lines (told above).bitmap_names ((told above).bitmaps (concat rows)) ≡ bitmaps_told above ++ map (λ r. RowLine r) rows
 bitmaps_back s [] g rows n r = ap (λ (t : List (List ℕ)). map (λ (k : List ℕ). RowLine k) t) (sym (no_rows rows n))
 bitmaps_back s (BitmapLine name w h d ∷ above) g rows n r =
-    let due : rows_due above ≡ 0 = eqb-true _ 0 (here s above (BitmapLine name w h d) g).0 in
+    let due : (told above).rows_due ≡ 0 = eqb-true _ 0 (here s above (BitmapLine name w h d) g).0 in
     let b : Bitmap = stored (unsigned_abs w) (unsigned_abs h) (unsigned_abs d) (concat rows) in
     let own : lines_of_bitmap name b ≡ BitmapLine name w h d ∷ map (λ (k : List ℕ). RowLine k) rows = ap₂ (λ (x : LineForm) (t : List LineForm). x ∷ t) (bitmap_line_back name w h d (tests s above (BitmapLine name w h d) g).range) (planes_back (unsigned_abs w) (unsigned_abs h) (unsigned_abs d) rows r n) in
-    let before : all_bitmap_lines (bitmaps_above above) (bitmaps_with above []) ≡ bitmaps_told above = bitmaps_back s above g.1 [] (sym due) tt ∙ append-nil (bitmaps_told above) in
+    let before : all_bitmap_lines (told above).bitmap_names ((told above).bitmaps []) ≡ bitmaps_told above = bitmaps_back s above g.1 [] (sym due) tt ∙ append-nil (bitmaps_told above) in
     let line : bitmaps_told (BitmapLine name w h d ∷ above) ≡ bitmaps_told above ++ BitmapLine name w h d ∷ [] = reverse-append (BitmapLine name w h d ∷ []) (filter is_of_bitmaps above) in
-    bitmaps_pushed (bitmaps_above above) (bitmaps_with above []) name b (bitmaps_named above []) ∙ ap₂ (λ (x y : List LineForm). x ++ y) before own ∙
+    bitmaps_pushed (told above).bitmap_names ((told above).bitmaps []) name b (bitmaps_named above []) ∙ ap₂ (λ (x y : List LineForm). x ++ y) before own ∙
     sym (append_assoc (bitmaps_told above) (BitmapLine name w h d ∷ []) (map (λ (k : List ℕ). RowLine k) rows)) ∙ ap (λ (t : List LineForm). t ++ map (λ (k : List ℕ). RowLine k) rows) (sym line)
 bitmaps_back s (RowLine bytes ∷ above) g rows n r =
     let h = here s above (RowLine bytes) g in
-    let row : IsRow (row_width above) bytes = row_made (row_width above) bytes h.1 (row_are_bytes s above bytes h.0 g.0) (tests s above (RowLine bytes) g).padding in
-    let more : length (bytes ∷ rows) ≡ rows_due above = row_more (rows_due above) (length rows) h.0 n in
+    let row : IsRow (told above).row_width bytes = row_made (told above).row_width bytes h.1 (row_are_bytes s above bytes h.0 g.0) (tests s above (RowLine bytes) g).padding in
+    let more : length (bytes ∷ rows) ≡ (told above).rows_due = row_more (told above).rows_due (length rows) h.0 n in
     let line : bitmaps_told (RowLine bytes ∷ above) ≡ bitmaps_told above ++ RowLine bytes ∷ [] = reverse-append (RowLine bytes ∷ []) (filter is_of_bitmaps above) in
     bitmaps_back s above g.1 (bytes ∷ rows) more (row, r) ∙ sym (append_assoc (bitmaps_told above) (RowLine bytes ∷ []) (map (λ (k : List ℕ). RowLine k) rows)) ∙
     ap (λ (t : List LineForm). t ++ map (λ (k : List ℕ). RowLine k) rows) (sym line)
-bitmaps_back s (f ∷ above) g rows n r =
-    let due : rows_due above ≡ 0 = eqb-true _ 0 (here s above f g).0 in
-    bitmaps_back s above g.1 [] (sym due) tt ∙ ap (λ (t : List (List ℕ)). bitmaps_told above ++ map (λ (k : List ℕ). RowLine k) t) (sym (no_rows rows n))
+bitmaps_back s (f ∷ above) g rows n r = bitmaps_back s above g.1 rows n r
 
 -- The lines of the bitmaps of good lines, where no rows are due.
-pub bitmaps_given : (s : Setting) (above : List LineForm) → AreGoodLines s above → rows_due above ≡ 0 → flat_map (λ b. lines_of_bitmap (slice_index_or (bitmaps_above above) b.0 []) b.1) (enumerated 0 (bitmaps_with above [])) ≡ reverse (filter is_of_bitmaps above)
+pub bitmaps_given : (s : Setting) (above : List LineForm) → AreGoodLines s above → (told above).rows_due ≡ 0 → flat_map (λ b. lines_of_bitmap (slice_index_or (told above).bitmap_names b.0 []) b.1) (enumerated 0 ((told above).bitmaps [])) ≡ reverse (filter is_of_bitmaps above)
 bitmaps_given s above g due =
-    bitmaps_by_number (bitmaps_above above) (bitmaps_with above []) (bitmaps_named above []) ∙ bitmaps_back s above g [] (sym due) tt ∙ append-nil (bitmaps_told above)
+    bitmaps_by_number (told above).bitmap_names ((told above).bitmaps []) (bitmaps_named above []) ∙ bitmaps_back s above g [] (sym due) tt ∙ append-nil (bitmaps_told above)

@@ -1,50 +1,49 @@
 -- What lines tell of which only the bitmaps with their rows are kept, over others: the same of bitmaps, and else nothing more.
-use Rattle.std.proofs.Common.{◌≡◌, ℕ, zero, suc, ◌+◌, ◌-◌, ◌*◌, ◌==◌, false, List, [], ◌∷◌, ◌++◌, length, filter, None, refl, ap, ◌∙◌, arith, length-append, zero-mul, suc-mul, ℤ, unsigned_abs}
+use Rattle.std.proofs.Common.{◌≡◌, ℕ, zero, suc, ◌+◌, ◌-◌, ◌*◌, ◌==◌, false, List, [], ◌∷◌, ◌++◌, length, filter, None, refl, ap, ◌∙◌, arith, length-append, suc-mul, ℤ, unsigned_abs}
 use Rattle.lw_planes.specs.Bitmap.{row_bytes}
 use Rattle.lw_planes.specs.Storage.{stored}
 use Rattle.lw_grammar.specs.LineForms.{LineForm, GlyphLine, BitmapLine, RowLine}
-use Rattle.lw_grammar.specs.LinesAbove.{AssetsAreDue, section_of, rows_due, row_width, width_above, height_above, depth_above, tasks_above, bitmaps_above, names_above, supers_above, hooks_above, group_above, calls_so_far, began_at, calls_above, groups_above, glyph_above, bitmaps_with}
-use Rattle.lw_grammar.specs.Script.{Setting}
-use Rattle.lw_grammar.specs.ScriptReading.{AreGoodLines}
+use Rattle.lw_grammar.specs.Told.{AssetsAreDue, nothing_told, told}
+use Rattle.lw_grammar.specs.Script.{Setting, AreGoodLines}
 use Rattle.lw_grammar.proofs.ScriptSizes.{here, none_due}
 use Rattle.lw_canonical.proofs.Rearranged.{is_of_bitmaps}
 use Rattle.std.proofs.lemmas.Bool.{true≢false, eqb-true}
 
 -- Lines of a screen of these sizes, and of glyphs and bitmaps: of nothing else do they tell anything.
 pub record IsBare (w h d : ℕ) (lines : List LineForm) : Type 0 where
-  pub section : section_of lines ≡ AssetsAreDue
-  pub width : width_above lines ≡ w
-  pub height : height_above lines ≡ h
-  pub depth : depth_above lines ≡ d
-  pub tasks : tasks_above lines ≡ []
-  pub names : names_above lines ≡ []
-  pub supers : supers_above lines ≡ 0
-  pub hooks : hooks_above lines ≡ []
-  pub group : group_above lines ≡ None
-  pub so_far : calls_so_far lines ≡ 0
-  pub began : began_at lines ≡ 0
-  pub calls : calls_above lines ≡ []
-  pub groups : groups_above lines ≡ []
+  pub section : (told lines).section ≡ AssetsAreDue
+  pub width : (told lines).width ≡ w
+  pub height : (told lines).height ≡ h
+  pub depth : (told lines).depth ≡ d
+  pub tasks : (told lines).tasks ≡ []
+  pub names : (told lines).names ≡ []
+  pub supers : (told lines).supers ≡ 0
+  pub hooks : (told lines).used ≡ nothing_told.used
+  pub group : (told lines).group ≡ None
+  pub so_far : (told lines).so_far ≡ 0
+  pub began : (told lines).began ≡ 0
+  pub calls : (told lines).calls ≡ []
+  pub groups : (told lines).groups ≡ []
 
 -- so do they with a further glyph, bitmap or row
 pub bare_glyph : (w h d : ℕ) (lines : List LineForm) (code : ℕ) (rows : List ℕ) → IsBare w h d lines → IsBare w h d (GlyphLine code rows ∷ lines)
 bare_glyph w h d lines code rows k =
-    record { section = k.section; width = k.width; height = k.height; depth = k.depth; tasks = k.tasks; names = k.names; supers = omega (arith, k.supers); hooks = k.hooks; group = k.group; so_far = k.so_far; began = k.began; calls = k.calls; groups = k.groups }
+    record { section = k.section; width = k.width; height = k.height; depth = k.depth; tasks = k.tasks; names = k.names; supers = k.supers; hooks = k.hooks; group = k.group; so_far = k.so_far; began = k.began; calls = k.calls; groups = k.groups }
 
 bare_bitmap : (w h d : ℕ) (lines : List LineForm) (name : List ℕ) (x y z : ℤ) → IsBare w h d lines → IsBare w h d (BitmapLine name x y z ∷ lines)
 bare_bitmap w h d lines name x y z k =
-    record { section = k.section; width = k.width; height = k.height; depth = k.depth; tasks = k.tasks; names = k.names; supers = omega (arith, k.supers); hooks = k.hooks; group = k.group; so_far = k.so_far; began = k.began; calls = k.calls; groups = k.groups }
+    record { section = k.section; width = k.width; height = k.height; depth = k.depth; tasks = k.tasks; names = k.names; supers = k.supers; hooks = k.hooks; group = k.group; so_far = k.so_far; began = k.began; calls = k.calls; groups = k.groups }
 
 bare_row : (w h d : ℕ) (lines : List LineForm) (bytes : List ℕ) → IsBare w h d lines → IsBare w h d (RowLine bytes ∷ lines)
 bare_row w h d lines bytes k =
-    record { section = k.section; width = k.width; height = k.height; depth = k.depth; tasks = k.tasks; names = k.names; supers = omega (arith, k.supers); hooks = k.hooks; group = k.group; so_far = k.so_far; began = k.began; calls = k.calls; groups = k.groups }
+    record { section = k.section; width = k.width; height = k.height; depth = k.depth; tasks = k.tasks; names = k.names; supers = k.supers; hooks = k.hooks; group = k.group; so_far = k.so_far; began = k.began; calls = k.calls; groups = k.groups }
 
 -- Lines without bitmaps.
 pub record IsWithoutBitmaps (lines : List LineForm) : Type 0 where
-  pub due : rows_due lines ≡ 0
-  pub width : row_width lines ≡ 0
-  pub names : bitmaps_above lines ≡ []
-  pub made : (rows : List ℕ) → bitmaps_with lines rows ≡ []
+  pub due : (told lines).rows_due ≡ 0
+  pub width : (told lines).row_width ≡ 0
+  pub names : (told lines).bitmap_names ≡ []
+  pub made : (rows : List ℕ) → (told lines).bitmaps rows ≡ []
 
 -- the bitmaps and rows alone of the lines above, over other lines
 abbrev pub kept : List LineForm → List LineForm → List LineForm
@@ -57,7 +56,7 @@ bare_kept w h d (RowLine bytes ∷ above) base k = bare_row w h d (kept above ba
 bare_kept w h d (f ∷ above) base k = bare_kept w h d above base k
 
 -- glyphs are those of the lines below
-pub glyph_kept : (above base : List LineForm) (code : ℕ) → glyph_above (kept above base) code ≡ glyph_above base code
+pub glyph_kept : (above base : List LineForm) (code : ℕ) → (told (kept above base)).glyphs code ≡ (told base).glyphs code
 glyph_kept [] base code = refl
 glyph_kept (BitmapLine name x y z ∷ above) base code = glyph_kept above base code
 glyph_kept (RowLine bytes ∷ above) base code = glyph_kept above base code
@@ -79,35 +78,32 @@ row_less (suc due) n bytes rows e h k =
 -- What is kept of good lines, over lines without bitmaps.
 module _ (base : List LineForm) (b : IsWithoutBitmaps base) where
   -- the bitmaps' names, and the width of the nearest one
-  pub names_kept : (above : List LineForm) → bitmaps_above (kept above base) ≡ bitmaps_above above
+  pub names_kept : (above : List LineForm) → (told (kept above base)).bitmap_names ≡ (told above).bitmap_names
   names_kept [] = b.names
   names_kept (BitmapLine name x y z ∷ above) = ap (λ names. names ++ name ∷ []) (names_kept above)
   names_kept (RowLine bytes ∷ above) = names_kept above
   names_kept (f ∷ above) = names_kept above
 
-  pub width_kept : (above : List LineForm) → row_width (kept above base) ≡ row_width above
+  pub width_kept : (above : List LineForm) → (told (kept above base)).row_width ≡ (told above).row_width
   width_kept [] = b.width
   width_kept (BitmapLine name x y z ∷ above) = refl
   width_kept (RowLine bytes ∷ above) = width_kept above
   width_kept (f ∷ above) = width_kept above
 
   -- as many rows are due: other lines stand only where none are
-  pub due_kept : (s : Setting) (above : List LineForm) → AreGoodLines s above → rows_due (kept above base) ≡ rows_due above
+  pub due_kept : (s : Setting) (above : List LineForm) → AreGoodLines s above → (told (kept above base)).rows_due ≡ (told above).rows_due
   due_kept s [] g = b.due
   due_kept s (BitmapLine name x y z ∷ above) g = refl
   due_kept s (RowLine bytes ∷ above) g = ap (λ n. n - 1) (due_kept s above g.1)
-  due_kept s (f ∷ above) g = due_kept s above g.1 ∙ eqb-true _ 0 (here s above f g).0
+  due_kept s (f ∷ above) g = due_kept s above g.1
 
   -- the bitmaps themselves, where no rows are due but those behind
-  pub made_kept : (s : Setting) (above : List LineForm) → AreGoodLines s above → (rows : List ℕ) → length rows ≡ rows_due above * row_bytes (row_width above) → bitmaps_with (kept above base) rows ≡ bitmaps_with above rows
+  pub made_kept : (s : Setting) (above : List LineForm) → AreGoodLines s above → (rows : List ℕ) → length rows ≡ (told above).rows_due * row_bytes (told above).row_width → (told (kept above base)).bitmaps rows ≡ (told above).bitmaps rows
   made_kept s [] g rows n = b.made rows
   made_kept s (BitmapLine name x y z ∷ above) g rows n =
-      let due : rows_due above ≡ 0 = eqb-true _ 0 (here s above (BitmapLine name x y z) g).0 in
+      let due : (told above).rows_due ≡ 0 = eqb-true _ 0 (here s above (BitmapLine name x y z) g).0 in
       ap (λ bitmaps. bitmaps ++ stored (unsigned_abs x) (unsigned_abs y) (unsigned_abs z) rows ∷ []) (made_kept s above g.1 [] (none_due above due))
   made_kept s (RowLine bytes ∷ above) g rows n =
       let h = here s above (RowLine bytes) g in
-      made_kept s above g.1 (bytes ++ rows) (length-append bytes rows ∙ row_less (rows_due above) _ _ _ h.0 h.1 n)
-  made_kept s (f ∷ above) g rows n =
-      let due : rows_due above ≡ 0 = eqb-true _ 0 (here s above f g).0 in
-      let none : rows ≡ [] = no_rows rows (n ∙ zero-mul (row_bytes (row_width above))) in
-      ap (bitmaps_with (kept above base)) none ∙ made_kept s above g.1 [] (none_due above due)
+      made_kept s above g.1 (bytes ++ rows) (length-append bytes rows ∙ row_less (told above).rows_due _ _ _ h.0 h.1 n)
+  made_kept s (f ∷ above) g rows n = made_kept s above g.1 rows n

@@ -2,9 +2,8 @@
 use Rattle.std.proofs.Common.{◌≡◌, ℕ, ◌≤◌, ◌==◌, true, false, List, [], ◌∷◌, length, bytes_eq, ℤ, Ok, refl, sym, ap, subst, ◌∙◌}
 use Rattle.std.specs.List.{list_any}
 use Rattle.lw_grammar.specs.LineForms.{LineForm, BitmapLine, RowLine}
-use Rattle.lw_grammar.specs.LinesAbove.{Section, ScreenIsDue, AssetsAreDue, CallsAreDue, TasksAreDue, NumbersAreDue, NothingIsDue, section_of, rows_due, tasks_above, bitmaps_above, names_above, supers_above, calls_so_far}
-use Rattle.lw_grammar.specs.Script.{Setting, are_assets_due, is_nothing_due, are_few, has_padding}
-use Rattle.lw_grammar.specs.ScriptReading.{line_read, AreGoodLines}
+use Rattle.lw_grammar.specs.Told.{Section, ScreenIsDue, AssetsAreDue, CallsAreDue, TasksAreDue, NumbersAreDue, NothingIsDue, told}
+use Rattle.lw_grammar.specs.Script.{Setting, are_assets_due, is_nothing_due, are_few, has_padding, line_read, AreGoodLines}
 use Rattle.lw_canonical.specs.Spelling.{spelled}
 use Rattle.lw_grammar.proofs.ScriptSizes.{IsFormTested, here, tests, counted}
 use Rattle.lw_canonical.proofs.ReadsAgain.{verb_forms, row_forms, spelled_again, tests_pass, few_by_bitmaps, isnt_passed, row_stands}
@@ -22,37 +21,37 @@ assets_by NumbersAreDue e = absurd (false≢true e)
 assets_by NothingIsDue e = absurd (false≢true e)
 
 -- lines that tell of few bitmaps and of nothing else are few
-pub few_bare : (w h d : ℕ) (lines : List LineForm) → IsBare w h d lines → length (bitmaps_above lines) ≤ 16 → are_few lines ≡ true
+pub few_bare : (w h d : ℕ) (lines : List LineForm) → IsBare w h d lines → length (told lines).bitmap_names ≤ 16 → are_few (told lines) ≡ true
 few_bare w h d lines k n =
-    few_by_bitmaps (tasks_above lines) (bitmaps_above lines) (names_above lines) (supers_above lines) (calls_so_far lines) k.tasks n k.names k.supers k.so_far
+    few_by_bitmaps (told lines).tasks (told lines).bitmap_names (told lines).names (told lines).supers (told lines).so_far k.tasks n k.names k.supers k.so_far
 
 -- behind them something is due
-pub due_bare : (w h d : ℕ) (lines : List LineForm) → IsBare w h d lines → is_nothing_due (section_of lines) ≡ false
+pub due_bare : (w h d : ℕ) (lines : List LineForm) → IsBare w h d lines → is_nothing_due (told lines).section ≡ false
 due_bare w h d lines k = ap is_nothing_due k.section
 
 module _ (one : HasOneSpelling) (s t : Setting) (w h d : ℕ) (base : List LineForm) (bare : IsBare w h d base) (b : IsWithoutBitmaps base) where
   -- what is kept of a further good line is few
-  few_kept : (f : LineForm) (above : List LineForm) → AreGoodLines s (f ∷ above) → are_few (kept (f ∷ above) base) ≡ true
+  few_kept : (f : LineForm) (above : List LineForm) → AreGoodLines s (f ∷ above) → are_few (told (kept (f ∷ above) base)) ≡ true
   few_kept f above g =
       let P : List (List ℕ) → Type 0 = λ names. length names ≤ 16 in
       few_bare w h d (kept (f ∷ above) base) (bare_kept w h d (f ∷ above) base bare) (subst P (sym (names_kept base b (f ∷ above))) (counted s (f ∷ above) g).bitmaps)
 
   -- a bitmap's line, and a row
-  bitmap_again : (name : List ℕ) (x y z : ℤ) (above : List LineForm) → AreGoodLines s (BitmapLine name x y z ∷ above) → line_read t (kept above base) (spelled (BitmapLine name x y z)) ≡ Ok (BitmapLine name x y z)
+  bitmap_again : (name : List ℕ) (x y z : ℤ) (above : List LineForm) → AreGoodLines s (BitmapLine name x y z ∷ above) → line_read t (told (kept above base)) (spelled (BitmapLine name x y z)) ≡ Ok (BitmapLine name x y z)
   bitmap_again name x y z above g =
       let f : LineForm = BitmapLine name x y z in
       let at = here s above (BitmapLine name x y z) g in
       let k = tests s above (BitmapLine name x y z) g in
-      let none : rows_due (kept above base) ≡ 0 = due_kept base b s above g.1 ∙ eqb-true _ 0 at.0 in
+      let none : (told (kept above base)).rows_due ≡ 0 = due_kept base b s above g.1 ∙ eqb-true _ 0 at.0 in
       let tested : IsFormTested t (kept above base) (BitmapLine name x y z) =
       record { range = k.range; named = refl; new = ap (list_any (bytes_eq name)) (names_kept base b above) ∙ k.new; group = refl; few = few_kept f above g; hook = refl; unused = refl; padding = refl; built = refl } in
       spelled_again one s t above (kept above base) f g.0 (verb_forms s t above (kept above base) AssetsAreDue at.0 (eq-eqb _ 0 none) (assets_by _ at.1) (bare_kept w h d above base bare).section refl) (tests_pass t (kept above base) f tested)
 
-  row_again : (bytes : List ℕ) (above : List LineForm) → AreGoodLines s (RowLine bytes ∷ above) → line_read t (kept above base) (spelled (RowLine bytes)) ≡ Ok (RowLine bytes)
+  row_again : (bytes : List ℕ) (above : List LineForm) → AreGoodLines s (RowLine bytes ∷ above) → line_read t (told (kept above base)) (spelled (RowLine bytes)) ≡ Ok (RowLine bytes)
   row_again bytes above g =
       let at = here s above (RowLine bytes) g in
       let k = tests s above (RowLine bytes) g in
-      let some : (rows_due (kept above base) == 0) ≡ false = ap (λ n. n == 0) (due_kept base b s above g.1) ∙ at.0 in
+      let some : ((told (kept above base)).rows_due == 0) ≡ false = ap (λ n. n == 0) (due_kept base b s above g.1) ∙ at.0 in
       let tested : IsFormTested t (kept above base) (RowLine bytes) =
       record { range = k.range; named = refl; new = refl; group = refl; few = few_kept (RowLine bytes) above g; hook = refl; unused = refl; padding = ap (λ width. has_padding width (RowLine bytes)) (width_kept base b above) ∙ k.padding; built = refl } in
       spelled_again one s t above (kept above base) (RowLine bytes) g.0 (row_forms s t above (kept above base) at.0 some (sym (width_kept base b above))) (tests_pass t (kept above base) (RowLine bytes) tested)

@@ -1,7 +1,7 @@
 -- Lists that are gathered number by number.
 use Rattle.std.proofs.Common.{◌≡◌, ℕ, zero, suc, ◌+◌, ◌<◌, ◌≤◌, Bool, true, false, not, cond, ◌||◌, List, [], ◌∷◌, ◌++◌, map, flat_map, slice_index_or, bytes_eq, refl, sym, ap, ap₂, ◌∙◌, arith, add-one, one-add, zero-add}
 use Rattle.std.specs.List.{list_any, range_with_len}
-use Rattle.lw_grammar.specs.LinesAbove.{place_among}
+use Rattle.lw_grammar.specs.Told.{place_among}
 use Rattle.lw_grammar.proofs.ScriptNames.{equal_names}
 use Rattle.std.proofs.lemmas.Bool.{false≢true}
 use Rattle.std.proofs.lemmas.List.FromFn.{get_or-map-range_with_len}

@@ -5,7 +5,7 @@ use Rattle.lw_calls.specs.declared.make.Kind.{Kind}
 use Rattle.lw_calls.specs.declared.make.Kind.TheVariants.{Simple, Smart, SuperBitmap}
 use Rattle.lw_calls.specs.Limits.{rect_fits}
 use Rattle.lw_grammar.specs.LineForms.{Asked, Act, RegRectAct, RegPairAct, RegClearAct, CreateAct, OpenAct, InFrontAct, WhichAct, APenAct, BPenAct, ModeAct, MaskAct, SetRastAct, PutAct, BlitAct, ClipAct, CallLine, four, is_hook_number, is_own_size, is_asked_in_range, is_box, is_act_in_range}
-use Rattle.lw_grammar.specs.LinesAbove.{place_among, created_make, opened_make, spelled_call}
+use Rattle.lw_grammar.specs.Told.{place_among, created_make, opened_make, spelled_call}
 use Rattle.lw_canonical.specs.Canonical.{created_asked, opened_asked, line_of_call}
 use Rattle.lw_grammar.proofs.ScriptForms.{IsAskedOf, IsFormMade}
 use Rattle.std.proofs.lemmas.Int.{ints}

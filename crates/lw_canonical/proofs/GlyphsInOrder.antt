@@ -1,11 +1,10 @@
 -- The glyphs of good lines in the order of their codes, over other lines: what they tell, and that they read again in their
 -- one spelling.
 use Rattle.std.proofs.Common.{◌≡◌, ℕ, zero, suc, ◌+◌, ◌<◌, ◌≤◌, ◌==◌, Bool, true, false, cond, List, [], ◌∷◌, ◌++◌, length, replicate, reverse, Ok, refl, sym, ap, subst, ◌∙◌, inl, inr, ◌⊎◌, ⊎_elim, arith, append_assoc, append-nil}
-use Rattle.std.specs.List.{list_any, list_all, flat_map, range_with_len}
+use Rattle.std.specs.List.{list_all, flat_map, range_with_len}
 use Rattle.lw_grammar.specs.LineForms.{LineForm, GlyphLine}
-use Rattle.lw_grammar.specs.LinesAbove.{AssetsAreDue, bitmaps_above, codes_above, glyph_above}
-use Rattle.lw_grammar.specs.Script.{Setting}
-use Rattle.lw_grammar.specs.ScriptReading.{line_read, AreGoodLines}
+use Rattle.lw_grammar.specs.Told.{AssetsAreDue, nothing_told, told}
+use Rattle.lw_grammar.specs.Script.{Setting, line_read, AreGoodLines}
 use Rattle.lw_canonical.specs.Spelling.{spelled}
 use Rattle.lw_canonical.specs.Canonical.{lines_of_glyph}
 use Rattle.lw_grammar.proofs.ScriptSizes.{IsFormTested, here, tests}
@@ -36,7 +35,7 @@ one_line code rows = step (list_all (λ row. row == 0) rows)
 module _ (above base : List LineForm) where
   -- the glyph of the code with this number
   abbrev rows_at : ℕ → List ℕ
-  rows_at n = glyph_above above (32 + n)
+  rows_at n = (told above).glyphs (32 + n)
 
   -- the glyphs of so many codes with some bit set, the nearest first
   abbrev pub glyphs_over : ℕ → List LineForm
@@ -74,37 +73,37 @@ module _ (above base : List LineForm) where
 
   pub unmapped_over : (n : ℕ) → IsWithoutBitmaps base → IsWithoutBitmaps (glyphs_over n)
   unmapped_over n k =
-      over_keeps IsWithoutBitmaps (λ code rows lines k. record { due = refl; width = k.width; names = k.names; made = λ behind. k.made [] }) k n
+      over_keeps IsWithoutBitmaps (λ code rows lines k. record { due = k.due; width = k.width; names = k.names; made = k.made }) k n
 
   -- a later code is new
-  new_over : codes_above base ≡ [] → (n code : ℕ) → 32 + n ≤ code → list_any (λ c. c == code) (codes_above (glyphs_over n)) ≡ false
-  new_over e zero code h = ap (list_any (λ c. c == code)) e
+  new_over : (told base).given ≡ nothing_told.given → (n code : ℕ) → 32 + n ≤ code → (told (glyphs_over n)).given code ≡ false
+  new_over e zero code h = ap (λ given. given code) e
   new_over e (suc n) code h = step (list_all (λ row. row == 0) (rows_at n)) (new_over e n code (omega (arith, h)))
     where
-      step : (t : Bool) → list_any (λ c. c == code) (codes_above (glyphs_over n)) ≡ false → list_any (λ c. c == code) (codes_above (cond t [] (GlyphLine (32 + n) (rows_at n) ∷ []) ++ glyphs_over n)) ≡ false
+      step : (t : Bool) → (told (glyphs_over n)).given code ≡ false → (told (cond t [] (GlyphLine (32 + n) (rows_at n) ∷ []) ++ glyphs_over n)).given code ≡ false
       step true k = k
       step false k = or_from (32 + n == code) _ (ne_eqb (32 + n) code (λ same. omega (arith, h, same))) k
 
   -- and its glyph is that of the lines below
-  glyph_past : (n code : ℕ) → 32 + n ≤ code → glyph_above (glyphs_over n) code ≡ glyph_above base code
+  glyph_past : (n code : ℕ) → 32 + n ≤ code → (told (glyphs_over n)).glyphs code ≡ (told base).glyphs code
   glyph_past zero code h = refl
   glyph_past (suc n) code h = step (list_all (λ row. row == 0) (rows_at n)) (glyph_past n code (omega (arith, h)))
     where
-      step : (t : Bool) → glyph_above (glyphs_over n) code ≡ glyph_above base code → glyph_above (cond t [] (GlyphLine (32 + n) (rows_at n) ∷ []) ++ glyphs_over n) code ≡ glyph_above base code
+      step : (t : Bool) → (told (glyphs_over n)).glyphs code ≡ (told base).glyphs code → (told (cond t [] (GlyphLine (32 + n) (rows_at n) ∷ []) ++ glyphs_over n)).glyphs code ≡ (told base).glyphs code
       step true k = k
       step false k =
-          let P : Bool → Type 0 = λ b. cond b (rows_at n) (glyph_above (glyphs_over n) code) ≡ glyph_above base code in
+          let P : Bool → Type 0 = λ b. cond b (rows_at n) ((told (glyphs_over n)).glyphs code) ≡ (told base).glyphs code in
           subst P (sym (ne_eqb (32 + n) code (λ same. omega (arith, h, same)))) k
 
 -- A glyph has no bit set, or its line stands among the good lines.
 abbrev IsGlyphRead : Setting → ℕ → List ℕ → Type 0
 IsGlyphRead s code rows = (rows ≡ replicate 8 0) ⊎ ((below : List LineForm) × AreGoodLines s (GlyphLine code rows ∷ below))
 
-glyph_read : (s : Setting) (above : List LineForm) → AreGoodLines s above → (code : ℕ) → IsGlyphRead s code (glyph_above above code)
+glyph_read : (s : Setting) (above : List LineForm) → AreGoodLines s above → (code : ℕ) → IsGlyphRead s code ((told above).glyphs code)
 glyph_read s [] g code = inl refl
 glyph_read s (GlyphLine c rows ∷ above) g code = step (c == code) refl (glyph_read s above g.1 code)
   where
-    step : (t : Bool) → (c == code) ≡ t → IsGlyphRead s code (glyph_above above code) → IsGlyphRead s code (cond t rows (glyph_above above code))
+    step : (t : Bool) → (c == code) ≡ t → IsGlyphRead s code ((told above).glyphs code) → IsGlyphRead s code (cond t rows ((told above).glyphs code))
     step true e rest = let P : ℕ → Type 0 = λ k. AreGoodLines s (GlyphLine k rows ∷ above) in inr (above, subst P (eqb-true c code e) g)
     step false e rest = rest
 glyph_read s (f ∷ above) g code = glyph_read s above g.1 code
@@ -124,9 +123,9 @@ unset_glyph s code rows (inr k) h = zero_rows rows h ∙ ap (λ n. replicate n 0
 
 -- Over lines without a glyph those of good lines give each code's glyph again, and read again.
 module _ (s : Setting) (above base : List LineForm) (g : AreGoodLines s above) where
-  pub glyph_over : ((code : ℕ) → glyph_above base code ≡ replicate 8 0) → (n i : ℕ) → i < n → glyph_above (glyphs_over above base n) (32 + i) ≡ glyph_above above (32 + i)
+  pub glyph_over : ((code : ℕ) → (told base).glyphs code ≡ replicate 8 0) → (n i : ℕ) → i < n → (told (glyphs_over above base n)).glyphs (32 + i) ≡ (told above).glyphs (32 + i)
   glyph_over none zero i h = absurd (omega (arith, h))
-  glyph_over none (suc n) i h = step (list_all (λ row. row == 0) (glyph_above above (32 + n))) refl (32 + n == 32 + i) refl (glyph_over none n i)
+  glyph_over none (suc n) i h = step (list_all (λ row. row == 0) ((told above).glyphs (32 + n))) refl (32 + n == 32 + i) refl (glyph_over none n i)
     where
       at_last : 32 + n ≡ 32 + i → n ≡ i
       at_last e = omega (arith, e)
@@ -134,36 +133,36 @@ module _ (s : Setting) (above base : List LineForm) (g : AreGoodLines s above) w
       earlier : (32 + n == 32 + i) ≡ false → i < n
       earlier e = let apart : 32 + n ≡ 32 + i → ⊥ = eqb-false (32 + n) (32 + i) e in ⊎_elim (λ same. absurd (apart (ap (λ k. 32 + k) (sym same)))) (λ differs. omega (arith, h, differs)) (cases_eq i n)
 
-      step : (t : Bool) → list_all (λ row. row == 0) (glyph_above above (32 + n)) ≡ t → (b : Bool) → (32 + n == 32 + i) ≡ b → (i < n → glyph_above (glyphs_over above base n) (32 + i) ≡ glyph_above above (32 + i)) → glyph_above (cond t [] (GlyphLine (32 + n) (glyph_above above (32 + n)) ∷ []) ++ glyphs_over above base n) (32 + i) ≡ glyph_above above (32 + i)
+      step : (t : Bool) → list_all (λ row. row == 0) ((told above).glyphs (32 + n)) ≡ t → (b : Bool) → (32 + n == 32 + i) ≡ b → (i < n → (told (glyphs_over above base n)).glyphs (32 + i) ≡ (told above).glyphs (32 + i)) → (told (cond t [] (GlyphLine (32 + n) ((told above).glyphs (32 + n)) ∷ []) ++ glyphs_over above base n)).glyphs (32 + i) ≡ (told above).glyphs (32 + i)
       step true e true d k =
           let same = at_last (eqb-true (32 + n) (32 + i) d) in
-          let unset : glyph_above above (32 + n) ≡ replicate 8 0 = unset_glyph s (32 + n) (glyph_above above (32 + n)) (glyph_read s above g (32 + n)) e in
-          glyph_past above base n (32 + i) (omega (arith, same)) ∙ (none (32 + i) ∙ (sym unset ∙ ap (λ k. glyph_above above (32 + k)) same))
+          let unset : (told above).glyphs (32 + n) ≡ replicate 8 0 = unset_glyph s (32 + n) ((told above).glyphs (32 + n)) (glyph_read s above g (32 + n)) e in
+          glyph_past above base n (32 + i) (omega (arith, same)) ∙ (none (32 + i) ∙ (sym unset ∙ ap (λ k. (told above).glyphs (32 + k)) same))
       step true e false d k = k (earlier d)
       step false e b d k =
-          let P : Bool → Type 0 = λ b. cond b (glyph_above above (32 + n)) (glyph_above (glyphs_over above base n) (32 + i)) ≡ glyph_above above (32 + i) in
+          let P : Bool → Type 0 = λ b. cond b ((told above).glyphs (32 + n)) ((told (glyphs_over above base n)).glyphs (32 + i)) ≡ (told above).glyphs (32 + i) in
           subst P (sym d) (at b d)
         where
-          at : (b : Bool) → (32 + n == 32 + i) ≡ b → cond b (glyph_above above (32 + n)) (glyph_above (glyphs_over above base n) (32 + i)) ≡ glyph_above above (32 + i)
-          at true d = ap (λ k. glyph_above above (32 + k)) (at_last (eqb-true (32 + n) (32 + i) d))
+          at : (b : Bool) → (32 + n == 32 + i) ≡ b → cond b ((told above).glyphs (32 + n)) ((told (glyphs_over above base n)).glyphs (32 + i)) ≡ (told above).glyphs (32 + i)
+          at true d = ap (λ k. (told above).glyphs (32 + k)) (at_last (eqb-true (32 + n) (32 + i) d))
           at false d = k (earlier d)
 
 -- a good glyph line reads again over lines that tell of a screen alone, and of other codes
-glyph_again : HasOneSpelling → (s t : Setting) (w h d code : ℕ) (rows : List ℕ) (above lines : List LineForm) → AreGoodLines s (GlyphLine code rows ∷ above) → IsBare w h d lines → IsWithoutBitmaps lines → list_any (λ c. c == code) (codes_above lines) ≡ false → line_read t lines (spelled (GlyphLine code rows)) ≡ Ok (GlyphLine code rows)
+glyph_again : HasOneSpelling → (s t : Setting) (w h d code : ℕ) (rows : List ℕ) (above lines : List LineForm) → AreGoodLines s (GlyphLine code rows ∷ above) → IsBare w h d lines → IsWithoutBitmaps lines → (told lines).given code ≡ false → line_read t (told lines) (spelled (GlyphLine code rows)) ≡ Ok (GlyphLine code rows)
 glyph_again one s t w h d code rows above lines g bare b new =
     let f : LineForm = GlyphLine code rows in
     let at = here s above (GlyphLine code rows) g in
     let k = tests s above (GlyphLine code rows) g in
-    let none : length (bitmaps_above lines) ≡ 0 = ap length b.names in
+    let none : length (told lines).bitmap_names ≡ 0 = ap length b.names in
     let tested : IsFormTested t lines (GlyphLine code rows) =
     record { range = k.range; named = refl; new = new; group = refl; few = few_bare w h d (f ∷ lines) (bare_glyph w h d lines code rows bare) (omega (arith, none)); hook = refl; unused = refl; padding = refl; built = refl } in
     spelled_again one s t above lines f g.0 (verb_forms s t above lines AssetsAreDue at.0 (eq-eqb _ 0 b.due) (assets_by _ at.1) bare.section refl) (tests_pass t lines f tested)
 
 -- So do all glyphs in order.
-pub over_spelled : HasOneSpelling → (s t : Setting) (above base : List LineForm) → AreGoodLines s above → (w h d : ℕ) → IsBare w h d base → IsWithoutBitmaps base → codes_above base ≡ [] → AreSpelled t base → (n : ℕ) → AreSpelled t (glyphs_over above base n)
+pub over_spelled : HasOneSpelling → (s t : Setting) (above base : List LineForm) → AreGoodLines s above → (w h d : ℕ) → IsBare w h d base → IsWithoutBitmaps base → (told base).given ≡ nothing_told.given → AreSpelled t base → (n : ℕ) → AreSpelled t (glyphs_over above base n)
 over_spelled one s t above base g w h d bare b e k zero = k
 over_spelled one s t above base g w h d bare b e k (suc n) =
-    step (list_all (λ row. row == 0) (glyph_above above (32 + n))) refl (over_spelled one s t above base g w h d bare b e k n)
+    step (list_all (λ row. row == 0) ((told above).glyphs (32 + n))) refl (over_spelled one s t above base g w h d bare b e k n)
   where
     below : List LineForm
     below = glyphs_over above base n
@@ -171,12 +170,12 @@ over_spelled one s t above base g w h d bare b e k (suc n) =
     here_bare : IsBare w h d below
     here_bare = bare_over above base w h d n bare
 
-    at : list_all (λ row. row == 0) (glyph_above above (32 + n)) ≡ false → IsGlyphRead s (32 + n) (glyph_above above (32 + n)) → line_read t below (spelled (GlyphLine (32 + n) (glyph_above above (32 + n)))) ≡ Ok (GlyphLine (32 + n) (glyph_above above (32 + n)))
+    at : list_all (λ row. row == 0) ((told above).glyphs (32 + n)) ≡ false → IsGlyphRead s (32 + n) ((told above).glyphs (32 + n)) → line_read t (told below) (spelled (GlyphLine (32 + n) ((told above).glyphs (32 + n)))) ≡ Ok (GlyphLine (32 + n) ((told above).glyphs (32 + n)))
     at set (inl z) = absurd (false≢true (sym set ∙ ap (list_all (λ row. row == 0)) z))
     at set (inr found) =
-        glyph_again one s t w h d (32 + n) (glyph_above above (32 + n)) found.0 below found.1 here_bare (unmapped_over above base n b) (new_over above base e n (32 + n) (omega arith))
+        glyph_again one s t w h d (32 + n) ((told above).glyphs (32 + n)) found.0 below found.1 here_bare (unmapped_over above base n b) (new_over above base e n (32 + n) (omega arith))
 
-    step : (t' : Bool) → list_all (λ row. row == 0) (glyph_above above (32 + n)) ≡ t' → AreSpelled t below → AreSpelled t (cond t' [] (GlyphLine (32 + n) (glyph_above above (32 + n)) ∷ []) ++ below)
+    step : (t' : Bool) → list_all (λ row. row == 0) ((told above).glyphs (32 + n)) ≡ t' → AreSpelled t below → AreSpelled t (cond t' [] (GlyphLine (32 + n) ((told above).glyphs (32 + n)) ∷ []) ++ below)
     step true set rest = rest
     step false set rest =
-        (at set (glyph_read s above g (32 + n)), isnt_passed below (spelled (GlyphLine (32 + n) (glyph_above above (32 + n)))) refl (due_bare w h d below here_bare), rest)
+        (at set (glyph_read s above g (32 + n)), isnt_passed below (spelled (GlyphLine (32 + n) ((told above).glyphs (32 + n)))) refl (due_bare w h d below here_bare), rest)

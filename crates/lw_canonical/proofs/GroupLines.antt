@@ -8,7 +8,7 @@ use Rattle.lw_calls.specs.declared.group.Group.{Group}
 use Rattle.lw_calls.specs.Touches.{slots_of}
 use Rattle.lw_calls.specs.Plan.{Plan, is_one, begins_update, may_be_locked, group_fits, groups_fit}
 use Rattle.lw_grammar.specs.LineForms.{LineForm, LockLine, HoldLine}
-use Rattle.lw_grammar.specs.LinesAbove.{Opened, Locked, Updating, Held}
+use Rattle.lw_grammar.specs.Told.{Opened, Locked, Updating, Held}
 use Rattle.lw_canonical.specs.Canonical.{line_of_call, are_updating, is_update, opening_lines, closing_lines, lines_before, lines_behind, lines_from}
 use Rattle.lw_grammar.proofs.ScriptGroups.{drop_pushed}
 use Rattle.lw_grammar.proofs.ScriptTasks.{IsUpdating}

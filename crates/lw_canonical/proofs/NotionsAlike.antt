@@ -1,12 +1,11 @@
 -- The lines of a script's tasks over a base tell what all its lines tell of tasks.
-use Rattle.std.proofs.Common.{◌≡◌, ℕ, ◌+◌, ◌-◌, ◌≤◌, ◌==◌, Bool, true, false, cond, List, [], ◌∷◌, ◌++◌, map, filter, ℤ, None, refl, arith, sym, ap, subst, ◌∙◌}
+use Rattle.std.proofs.Common.{◌≡◌, ℕ, ◌+◌, ◌-◌, ◌≤◌, ◌==◌, Bool, true, false, cond, List, [], ◌∷◌, ◌++◌, map, filter, ℤ, None, refl, sym, ap, subst, ◌∙◌}
 use Rattle.lw_calls.specs.declared.group.Hold.{Hold}
 use Rattle.lw_calls.specs.declared.group.Hold.TheVariants.{Slot, All as AllLayers}
 use Rattle.lw_grammar.specs.LineForms.{Act, RefreshAct, EndRefreshAct, LineForm, ScreenLine, GlyphLine, BitmapLine, RowLine, TaskLine, EndLine, OrderLine, NumbersLine, ReportLine, CallLine, LockLine, UnlockLine, HoldLine, ReleaseLine}
-use Rattle.lw_grammar.specs.LinesAbove.{Section, ScreenIsDue, AssetsAreDue, CallsAreDue, TasksAreDue, NumbersAreDue, NothingIsDue, section_of, rows_due, width_above, height_above, depth_above, tasks_above, bitmaps_above, and_names, layers_on, names_above, place_among, asks_super, supers_above, hook_on, listed, hooks_above, opened_by, group_above, calls_so_far, began_at, spelled_call, call_below, onto_last, calls_above, group_from, groups_above, glyph_above, bitmaps_with}
-use Rattle.lw_grammar.specs.Script.{Setting, are_assets_due, are_calls_due, are_tasks_due, are_numbers_due}
-use Rattle.lw_grammar.specs.ScriptReading.{AreGoodLines}
-use Rattle.lw_grammar.proofs.ScriptAnswer.{rows_in_assets}
+use Rattle.lw_grammar.specs.Told.{Section, ScreenIsDue, AssetsAreDue, CallsAreDue, TasksAreDue, NumbersAreDue, NothingIsDue, nothing_told, and_name, and_names, place_among, onto_last, spelled_call, call_below, asks_super, hook_on, and_hook, opened_by, group_from, told}
+use Rattle.lw_grammar.specs.Script.{Setting, are_assets_due, are_calls_due, are_tasks_due, are_numbers_due, AreGoodLines}
+use Rattle.lw_grammar.proofs.ScriptOutcome.{rows_in_assets}
 use Rattle.lw_grammar.proofs.ScriptSizes.{here, has_begun, has_screen, in_screen, in_calls, in_tasks, in_assets_or_tasks}
 use Rattle.lw_canonical.proofs.Rearranged.{is_of_tasks, IsBaseOf}
 use Rattle.std.proofs.lemmas.Bool.{true≢false, false≢true, and_parts}
@@ -14,15 +13,15 @@ use Rattle.std.proofs.lemmas.Bool.{true≢false, false≢true, and_parts}
 -- lines that tell nothing of tasks
 pub record AreBare (above : List LineForm) : Type 0 where
   pub of_tasks : filter is_of_tasks above ≡ []
-  pub tasks : tasks_above above ≡ []
-  pub names : names_above above ≡ []
-  pub supers : supers_above above ≡ 0
-  pub hooks : hooks_above above ≡ []
-  pub group : group_above above ≡ None
-  pub so_far : calls_so_far above ≡ 0
-  pub began : began_at above ≡ 0
-  pub calls : calls_above above ≡ []
-  pub groups : groups_above above ≡ []
+  pub tasks : (told above).tasks ≡ []
+  pub names : (told above).names ≡ []
+  pub supers : (told above).supers ≡ 0
+  pub hooks : (told above).used ≡ nothing_told.used
+  pub group : (told above).group ≡ None
+  pub so_far : (told above).so_far ≡ 0
+  pub began : (told above).began ≡ 0
+  pub calls : (told above).calls ≡ []
+  pub groups : (told above).groups ≡ []
 
 -- numbers stand where tasks have begun
 numbers_begun : (c : Section) → are_numbers_due c ≡ true → has_begun c ≡ true
@@ -44,26 +43,26 @@ both_begun c e n = true≢false (sym e ∙ n)
 -- the screen line, a glyph, a bitmap or a row leaves lines bare
 screen_bare : (above : List LineForm) (w h d : ℤ) → AreBare above → AreBare (ScreenLine w h d ∷ above)
 screen_bare above w h d b =
-    record { of_tasks = b.of_tasks; tasks = b.tasks; names = b.names; supers = omega (arith, b.supers); hooks = b.hooks; group = b.group; so_far = b.so_far; began = b.began; calls = b.calls; groups = b.groups }
+    record { of_tasks = b.of_tasks; tasks = b.tasks; names = b.names; supers = b.supers; hooks = b.hooks; group = b.group; so_far = b.so_far; began = b.began; calls = b.calls; groups = b.groups }
 
 glyph_bare : (above : List LineForm) (code : ℕ) (rows : List ℕ) → AreBare above → AreBare (GlyphLine code rows ∷ above)
 glyph_bare above code rows b =
-    record { of_tasks = b.of_tasks; tasks = b.tasks; names = b.names; supers = omega (arith, b.supers); hooks = b.hooks; group = b.group; so_far = b.so_far; began = b.began; calls = b.calls; groups = b.groups }
+    record { of_tasks = b.of_tasks; tasks = b.tasks; names = b.names; supers = b.supers; hooks = b.hooks; group = b.group; so_far = b.so_far; began = b.began; calls = b.calls; groups = b.groups }
 
 bitmap_bare : (above : List LineForm) (name : List ℕ) (w h d : ℤ) → AreBare above → AreBare (BitmapLine name w h d ∷ above)
 bitmap_bare above name w h d b =
-    record { of_tasks = b.of_tasks; tasks = b.tasks; names = b.names; supers = omega (arith, b.supers); hooks = b.hooks; group = b.group; so_far = b.so_far; began = b.began; calls = b.calls; groups = b.groups }
+    record { of_tasks = b.of_tasks; tasks = b.tasks; names = b.names; supers = b.supers; hooks = b.hooks; group = b.group; so_far = b.so_far; began = b.began; calls = b.calls; groups = b.groups }
 
 row_bare : (above : List LineForm) (bytes : List ℕ) → AreBare above → AreBare (RowLine bytes ∷ above)
 row_bare above bytes b =
-    record { of_tasks = b.of_tasks; tasks = b.tasks; names = b.names; supers = omega (arith, b.supers); hooks = b.hooks; group = b.group; so_far = b.so_far; began = b.began; calls = b.calls; groups = b.groups }
+    record { of_tasks = b.of_tasks; tasks = b.tasks; names = b.names; supers = b.supers; hooks = b.hooks; group = b.group; so_far = b.so_far; began = b.began; calls = b.calls; groups = b.groups }
 
 -- Good lines are bare as long as no task has begun.
-pub bare : (s : Setting) (above : List LineForm) → AreGoodLines s above → has_begun (section_of above) ≡ false → AreBare above
+pub bare : (s : Setting) (above : List LineForm) → AreGoodLines s above → has_begun (told above).section ≡ false → AreBare above
 bare s [] g n =
     record { of_tasks = refl; tasks = refl; names = refl; supers = refl; hooks = refl; group = refl; so_far = refl; began = refl; calls = refl; groups = refl }
 bare s (ScreenLine w h d ∷ above) g n =
-    screen_bare above w h d (bare s above g.1 (in_screen (section_of above) (here s above (ScreenLine w h d) g).1))
+    screen_bare above w h d (bare s above g.1 (in_screen (told above).section (here s above (ScreenLine w h d) g).1))
 bare s (GlyphLine code rows ∷ above) g n = glyph_bare above code rows (bare s above g.1 n)
 bare s (BitmapLine name w h d ∷ above) g n = bitmap_bare above name w h d (bare s above g.1 n)
 bare s (RowLine bytes ∷ above) g n = row_bare above bytes (bare s above g.1 n)
@@ -71,12 +70,12 @@ bare s (TaskLine name ∷ above) g n = absurd (true≢false n)
 bare s (EndLine ∷ above) g n = absurd (true≢false n)
 bare s (OrderLine ∷ above) g n = absurd (true≢false n)
 bare s (ReportLine ∷ above) g n = absurd (true≢false n)
-bare s (NumbersLine zs ∷ above) g n = absurd (both_begun (section_of above) (numbers_begun (section_of above) (here s above (NumbersLine zs) g).1) n)
-bare s (CallLine layers act ∷ above) g n = absurd (both_begun (section_of above) (calls_begun (section_of above) (here s above (CallLine layers act) g).1) n)
-bare s (LockLine name ∷ above) g n = absurd (both_begun (section_of above) (calls_begun (section_of above) (here s above (LockLine name) g).1) n)
-bare s (UnlockLine name ∷ above) g n = absurd (both_begun (section_of above) (calls_begun (section_of above) (here s above (UnlockLine name) g).1) n)
-bare s (HoldLine ∷ above) g n = absurd (both_begun (section_of above) (calls_begun (section_of above) (here s above HoldLine g).1) n)
-bare s (ReleaseLine ∷ above) g n = absurd (both_begun (section_of above) (calls_begun (section_of above) (here s above ReleaseLine g).1) n)
+bare s (NumbersLine zs ∷ above) g n = absurd (both_begun (told above).section (numbers_begun (told above).section (here s above (NumbersLine zs) g).1) n)
+bare s (CallLine layers act ∷ above) g n = absurd (both_begun (told above).section (calls_begun (told above).section (here s above (CallLine layers act) g).1) n)
+bare s (LockLine name ∷ above) g n = absurd (both_begun (told above).section (calls_begun (told above).section (here s above (LockLine name) g).1) n)
+bare s (UnlockLine name ∷ above) g n = absurd (both_begun (told above).section (calls_begun (told above).section (here s above (UnlockLine name) g).1) n)
+bare s (HoldLine ∷ above) g n = absurd (both_begun (told above).section (calls_begun (told above).section (here s above HoldLine g).1) n)
+bare s (ReleaseLine ∷ above) g n = absurd (both_begun (told above).section (calls_begun (told above).section (here s above ReleaseLine g).1) n)
 
 -- the section in a script alone: an order and a report aren't there
 abbrev pub section_alone : Section → Section
@@ -89,26 +88,26 @@ section_alone NothingIsDue = TasksAreDue
 
 -- other lines that tell the same, but for an order and a report
 pub record AreAlike (above new : List LineForm) : Type 0 where
-  pub section : section_of new ≡ section_alone (section_of above)
-  pub due : rows_due new ≡ 0
-  pub width : width_above new ≡ width_above above
-  pub height : height_above new ≡ height_above above
-  pub depth : depth_above new ≡ depth_above above
-  pub bitmap_names : bitmaps_above new ≡ bitmaps_above above
-  pub glyphs : (code : ℕ) → 32 ≤ code → code ≤ 126 → glyph_above new code ≡ glyph_above above code
-  pub bitmaps : bitmaps_with new [] ≡ bitmaps_with above []
-  pub tasks : tasks_above new ≡ tasks_above above
-  pub names : names_above new ≡ names_above above
-  pub supers : supers_above new ≡ supers_above above
-  pub hooks : hooks_above new ≡ hooks_above above
-  pub group : group_above new ≡ group_above above
-  pub so_far : calls_so_far new ≡ calls_so_far above
-  pub began : began_at new ≡ began_at above
-  pub calls : calls_above new ≡ calls_above above
-  pub groups : groups_above new ≡ groups_above above
+  pub section : (told new).section ≡ section_alone (told above).section
+  pub due : (told new).rows_due ≡ 0
+  pub width : (told new).width ≡ (told above).width
+  pub height : (told new).height ≡ (told above).height
+  pub depth : (told new).depth ≡ (told above).depth
+  pub bitmap_names : (told new).bitmap_names ≡ (told above).bitmap_names
+  pub glyphs : (code : ℕ) → 32 ≤ code → code ≤ 126 → (told new).glyphs code ≡ (told above).glyphs code
+  pub bitmaps : (told new).bitmaps [] ≡ (told above).bitmaps []
+  pub tasks : (told new).tasks ≡ (told above).tasks
+  pub names : (told new).names ≡ (told above).names
+  pub supers : (told new).supers ≡ (told above).supers
+  pub hooks : (told new).used ≡ (told above).used
+  pub group : (told new).group ≡ (told above).group
+  pub so_far : (told new).so_far ≡ (told above).so_far
+  pub began : (told new).began ≡ (told above).began
+  pub calls : (told new).calls ≡ (told above).calls
+  pub groups : (told new).groups ≡ (told above).groups
 
 -- a base is alike bare lines
-base_alike : (above base : List LineForm) → section_of above ≡ AssetsAreDue → AreBare above → IsBaseOf above base → AreAlike above base
+base_alike : (above base : List LineForm) → (told above).section ≡ AssetsAreDue → AreBare above → IsBaseOf above base → AreAlike above base
 base_alike above base c n b =
     record {
       section = b.section ∙ ap section_alone (sym c);
@@ -131,20 +130,20 @@ base_alike above base c n b =
     }
 
 -- the call of a line below lines that tell of the same names
-pub same_call : (above new : List LineForm) (layers : List (List ℕ)) (act : Act) → AreAlike above new → call_below new layers act ≡ call_below above layers act
+pub same_call : (above new : List LineForm) (layers : List (List ℕ)) (act : Act) → AreAlike above new → call_below (told new) layers act ≡ call_below (told above) layers act
 same_call above new layers act a =
-    ap (λ (ns : List (List ℕ)). spelled_call (bitmaps_above new) act (map (place_among (and_names ns layers)) layers)) a.names
-    ∙ ap (λ (bs : List (List ℕ)). spelled_call bs act (map (place_among (and_names (names_above above) layers)) layers)) a.bitmap_names
+    ap (λ (ns : List (List ℕ)). spelled_call (told new).bitmap_names act (map (place_among (and_names ns layers)) layers)) a.names
+    ∙ ap (λ (bs : List (List ℕ)). spelled_call bs act (map (place_among (and_names (told above).names layers)) layers)) a.bitmap_names
 
 -- the group of a task below such lines
-same_group : (above new : List LineForm) (hold : Hold) (count : ℕ → ℕ) → AreAlike above new → group_from new hold (count (calls_so_far new)) ≡ group_from above hold (count (calls_so_far above))
+same_group : (above new : List LineForm) (hold : Hold) (count : ℕ → ℕ) → AreAlike above new → group_from (told new) hold (count (told new).so_far) ≡ group_from (told above) hold (count (told above).so_far)
 same_group above new hold count a =
-    ap (λ (n : ℕ). group_from new hold (count n)) a.so_far ∙ ap (λ (n : ℕ). record { first = n; last = count (calls_so_far above) - 1; hold = hold }) a.began
+    ap (λ (n : ℕ). group_from (told new) hold (count n)) a.so_far ∙ ap (λ (n : ℕ). record { first = n; last = count (told above).so_far - 1; hold = hold }) a.began
 
 -- the same of one that ends on a layer
-same_slot_group : (above new : List LineForm) (name : List ℕ) (count : ℕ → ℕ) → AreAlike above new → group_from new (Slot (place_among (names_above new) name)) (count (calls_so_far new)) ≡ group_from above (Slot (place_among (names_above above) name)) (count (calls_so_far above))
+same_slot_group : (above new : List LineForm) (name : List ℕ) (count : ℕ → ℕ) → AreAlike above new → group_from (told new) (Slot (place_among (told new).names name)) (count (told new).so_far) ≡ group_from (told above) (Slot (place_among (told above).names name)) (count (told above).so_far)
 same_slot_group above new name count a =
-    ap (λ (ns : List (List ℕ)). group_from new (Slot (place_among ns name)) (count (calls_so_far new))) a.names ∙ same_group above new (Slot (place_among (names_above above) name)) count a
+    ap (λ (ns : List (List ℕ)). group_from (told new) (Slot (place_among ns name)) (count (told new).so_far)) a.names ∙ same_group above new (Slot (place_among (told above).names name)) count a
 
 -- a list's last one with the same put at its end
 onto_same : {A : Type 0} (a b : A) (xs ys : List (List A)) → a ≡ b → xs ≡ ys → onto_last a xs ≡ onto_last b ys
@@ -153,7 +152,7 @@ onto_same a b xs ys e h = ap (λ c. onto_last c xs) e ∙ ap (onto_last b) h
 -- A line of tasks below such lines: notion by notion.
 module _ (above new : List LineForm) (a : AreAlike above new) where
   -- the section
-  more_section : (f : LineForm) → is_of_tasks f ≡ true → section_of (f ∷ new) ≡ section_alone (section_of (f ∷ above))
+  more_section : (f : LineForm) → is_of_tasks f ≡ true → (told (f ∷ new)).section ≡ section_alone (told (f ∷ above)).section
   more_section (ScreenLine w h d) t = refl
   more_section (TaskLine name) t = refl
   more_section EndLine t = refl
@@ -162,47 +161,63 @@ module _ (above new : List LineForm) (a : AreAlike above new) where
   more_section f t = a.section
 
   -- no rows are due
-  more_due : (f : LineForm) → is_of_tasks f ≡ true → rows_due (f ∷ new) ≡ 0
+  more_due : (f : LineForm) → is_of_tasks f ≡ true → (told (f ∷ new)).rows_due ≡ 0
   more_due (BitmapLine name w h d) t = absurd (false≢true t)
   more_due (RowLine bytes) t = absurd (false≢true t)
-  more_due f t = refl
+  more_due f t = a.due
 
   -- the screen's sizes
-  more_width : (f : LineForm) → width_above (f ∷ new) ≡ width_above (f ∷ above)
+  more_width : (f : LineForm) → (told (f ∷ new)).width ≡ (told (f ∷ above)).width
   more_width (ScreenLine w h d) = refl
   more_width f = a.width
 
-  more_height : (f : LineForm) → height_above (f ∷ new) ≡ height_above (f ∷ above)
+  more_height : (f : LineForm) → (told (f ∷ new)).height ≡ (told (f ∷ above)).height
   more_height (ScreenLine w h d) = refl
   more_height f = a.height
 
-  more_depth : (f : LineForm) → depth_above (f ∷ new) ≡ depth_above (f ∷ above)
+  more_depth : (f : LineForm) → (told (f ∷ new)).depth ≡ (told (f ∷ above)).depth
   more_depth (ScreenLine w h d) = refl
   more_depth f = a.depth
 
   -- the bitmaps' names
-  more_bitmap_names : (f : LineForm) → bitmaps_above (f ∷ new) ≡ bitmaps_above (f ∷ above)
+  more_bitmap_names : (f : LineForm) → (told (f ∷ new)).bitmap_names ≡ (told (f ∷ above)).bitmap_names
   more_bitmap_names (BitmapLine name w h d) = ap (λ names. names ++ name ∷ []) a.bitmap_names
   more_bitmap_names f = a.bitmap_names
 
   -- the glyphs
-  more_glyphs : (f : LineForm) (code : ℕ) → 32 ≤ code → code ≤ 126 → glyph_above (f ∷ new) code ≡ glyph_above (f ∷ above) code
+  more_glyphs : (f : LineForm) (code : ℕ) → 32 ≤ code → code ≤ 126 → (told (f ∷ new)).glyphs code ≡ (told (f ∷ above)).glyphs code
   more_glyphs (GlyphLine c rows) code low high = ap (cond (c == code) rows) (a.glyphs code low high)
   more_glyphs f code low high = a.glyphs code low high
 
   -- the bitmaps
-  more_bitmaps : (f : LineForm) → is_of_tasks f ≡ true → bitmaps_with (f ∷ new) [] ≡ bitmaps_with (f ∷ above) []
+  more_bitmaps : (f : LineForm) → is_of_tasks f ≡ true → (told (f ∷ new)).bitmaps [] ≡ (told (f ∷ above)).bitmaps []
   more_bitmaps (BitmapLine name w h d) t = absurd (false≢true t)
   more_bitmaps (RowLine bytes) t = absurd (false≢true t)
   more_bitmaps f t = a.bitmaps
 
   -- the tasks' names
-  more_tasks : (f : LineForm) → tasks_above (f ∷ new) ≡ tasks_above (f ∷ above)
+  more_tasks : (f : LineForm) → (told (f ∷ new)).tasks ≡ (told (f ∷ above)).tasks
   more_tasks (TaskLine name) = ap (λ names. names ++ name ∷ []) a.tasks
   more_tasks f = a.tasks
 
+  -- the layers' names
+  more_names : (f : LineForm) → (told (f ∷ new)).names ≡ (told (f ∷ above)).names
+  more_names (CallLine layers act) = ap (λ names. and_names names layers) a.names
+  more_names (LockLine name) = ap (λ names. and_name names name) a.names
+  more_names (UnlockLine name) = ap (λ names. and_name names name) a.names
+  more_names f = a.names
+
+  -- how many lines ask for a super-bitmap layer, and the hooks that are named
+  more_supers : (f : LineForm) → (told (f ∷ new)).supers ≡ (told (f ∷ above)).supers
+  more_supers (CallLine layers act) = ap (λ n. cond (asks_super (CallLine layers act)) 1 0 + n) a.supers
+  more_supers f = a.supers
+
+  more_hooks : (f : LineForm) → (told (f ∷ new)).used ≡ (told (f ∷ above)).used
+  more_hooks (CallLine layers act) = ap (and_hook (hook_on (CallLine layers act))) a.hooks
+  more_hooks f = a.hooks
+
   -- the group that is open
-  more_group : (f : LineForm) → group_above (f ∷ new) ≡ group_above (f ∷ above)
+  more_group : (f : LineForm) → (told (f ∷ new)).group ≡ (told (f ∷ above)).group
   more_group (LockLine name) = refl
   more_group (UnlockLine name) = refl
   more_group HoldLine = refl
@@ -211,13 +226,13 @@ module _ (above new : List LineForm) (a : AreAlike above new) where
   more_group f = a.group
 
   -- the nearest task's calls so far
-  more_so_far : (f : LineForm) → calls_so_far (f ∷ new) ≡ calls_so_far (f ∷ above)
+  more_so_far : (f : LineForm) → (told (f ∷ new)).so_far ≡ (told (f ∷ above)).so_far
   more_so_far (TaskLine name) = refl
   more_so_far (CallLine layers act) = ap (λ n. n + 1) a.so_far
   more_so_far f = a.so_far
 
   -- where the open group began
-  more_began : (f : LineForm) → began_at (f ∷ new) ≡ began_at (f ∷ above)
+  more_began : (f : LineForm) → (told (f ∷ new)).began ≡ (told (f ∷ above)).began
   more_began (LockLine name) = a.so_far
   more_began HoldLine = a.so_far
   more_began (CallLine layers RefreshAct) = a.so_far
@@ -225,13 +240,13 @@ module _ (above new : List LineForm) (a : AreAlike above new) where
   more_began f = a.began
 
   -- each task's calls
-  more_calls : (f : LineForm) → calls_above (f ∷ new) ≡ calls_above (f ∷ above)
+  more_calls : (f : LineForm) → (told (f ∷ new)).calls ≡ (told (f ∷ above)).calls
   more_calls (TaskLine name) = ap (λ lists. lists ++ [] ∷ []) a.calls
   more_calls (CallLine layers act) = onto_same _ _ _ _ (same_call above new layers act a) a.calls
   more_calls f = a.calls
 
   -- each task's groups
-  more_groups : (f : LineForm) → groups_above (f ∷ new) ≡ groups_above (f ∷ above)
+  more_groups : (f : LineForm) → (told (f ∷ new)).groups ≡ (told (f ∷ above)).groups
   more_groups (TaskLine name) = ap (λ lists. lists ++ [] ∷ []) a.groups
   more_groups (UnlockLine name) = onto_same _ _ _ _ (same_slot_group above new name (λ n. n) a) a.groups
   more_groups ReleaseLine = onto_same _ _ _ _ (same_group above new AllLayers (λ n. n) a) a.groups
@@ -256,9 +271,9 @@ module _ (above new : List LineForm) (a : AreAlike above new) where
         glyphs = more_glyphs f;
         bitmaps = more_bitmaps f t;
         tasks = more_tasks f;
-        names = ap (λ names. and_names names (layers_on f)) a.names;
-        supers = ap (λ n. cond (asks_super f) 1 0 + n) a.supers;
-        hooks = ap (listed (hook_on f)) a.hooks;
+        names = more_names f;
+        supers = more_supers f;
+        hooks = more_hooks f;
         group = more_group f;
         so_far = more_so_far f;
         began = more_began f;
@@ -308,7 +323,7 @@ is_of_end (NumbersLine zs) = true
 is_of_end ReportLine = true
 is_of_end f = false
 
-alike_behind : (above new : List LineForm) (f : LineForm) → is_of_end f ≡ true → section_alone (section_of (f ∷ above)) ≡ section_alone (section_of above) → AreAlike above new → AreAlike (f ∷ above) new
+alike_behind : (above new : List LineForm) (f : LineForm) → is_of_end f ≡ true → section_alone (told (f ∷ above)).section ≡ section_alone (told above).section → AreAlike above new → AreAlike (f ∷ above) new
 alike_behind above new (ScreenLine w h d) t c a = absurd (false≢true t)
 alike_behind above new (GlyphLine code rows) t c a = absurd (false≢true t)
 alike_behind above new (BitmapLine name w h d) t c a = absurd (false≢true t)
@@ -332,7 +347,7 @@ alike_behind above new f t c a =
       bitmaps = a.bitmaps;
       tasks = a.tasks;
       names = a.names;
-      supers = omega (arith, a.supers);
+      supers = a.supers;
       hooks = a.hooks;
       group = a.group;
       so_far = a.so_far;
@@ -367,47 +382,47 @@ tasks_screen : (c : Section) → are_tasks_due c ≡ true → has_screen c ≡ t
 tasks_screen c e = ap has_screen (in_tasks c e)
 
 -- so it does where an order or a report begins
-pub order_screen : (s : Setting) (above : List LineForm) → AreGoodLines s (OrderLine ∷ above) → has_screen (section_of above) ≡ true
-order_screen s above g = tasks_screen (section_of above) (and_parts (are_tasks_due (section_of above)) _ (here s above OrderLine g).1).0
+pub order_screen : (s : Setting) (above : List LineForm) → AreGoodLines s (OrderLine ∷ above) → has_screen (told above).section ≡ true
+order_screen s above g = tasks_screen (told above).section (and_parts (are_tasks_due (told above).section) _ (here s above OrderLine g).1).0
 
-pub report_screen : (s : Setting) (above : List LineForm) → AreGoodLines s (ReportLine ∷ above) → has_screen (section_of above) ≡ true
-report_screen s above g = tasks_screen (section_of above) (and_parts (are_tasks_due (section_of above)) _ (here s above ReportLine g).1).0
+pub report_screen : (s : Setting) (above : List LineForm) → AreGoodLines s (ReportLine ∷ above) → has_screen (told above).section ≡ true
+report_screen s above g = tasks_screen (told above).section (and_parts (are_tasks_due (told above).section) _ (here s above ReportLine g).1).0
 
 -- Where no task has begun, the base alone is alike the lines above.
-pub assets_alike : (s : Setting) (above base : List LineForm) → AreGoodLines s above → section_of above ≡ AssetsAreDue → IsBaseOf above base → AreAlike above (filter is_of_tasks above ++ base)
+pub assets_alike : (s : Setting) (above base : List LineForm) → AreGoodLines s above → (told above).section ≡ AssetsAreDue → IsBaseOf above base → AreAlike above (filter is_of_tasks above ++ base)
 assets_alike s above base g c b =
     let n = bare s above g (ap has_begun c) in
     subst (λ (fs : List LineForm). AreAlike above (fs ++ base)) (sym n.of_tasks) (base_alike above base c n b)
 
 -- The lines of tasks over a base are alike the good lines below the screen.
-pub alike : (s : Setting) (above base : List LineForm) → AreGoodLines s above → has_screen (section_of above) ≡ true → IsBaseOf above base → AreAlike above (filter is_of_tasks above ++ base)
+pub alike : (s : Setting) (above base : List LineForm) → AreGoodLines s above → has_screen (told above).section ≡ true → IsBaseOf above base → AreAlike above (filter is_of_tasks above ++ base)
 alike s [] base g e b = absurd (false≢true e)
 alike s (ScreenLine w h d ∷ above) base g e b = assets_alike s (ScreenLine w h d ∷ above) base g refl b
 alike s (GlyphLine code rows ∷ above) base g e b =
-    assets_alike s (GlyphLine code rows ∷ above) base g (assets_are (section_of above) (here s above (GlyphLine code rows) g).1) b
+    assets_alike s (GlyphLine code rows ∷ above) base g (assets_are (told above).section (here s above (GlyphLine code rows) g).1) b
 alike s (BitmapLine name w h d ∷ above) base g e b =
-    assets_alike s (BitmapLine name w h d ∷ above) base g (assets_are (section_of above) (here s above (BitmapLine name w h d) g).1) b
+    assets_alike s (BitmapLine name w h d ∷ above) base g (assets_are (told above).section (here s above (BitmapLine name w h d) g).1) b
 alike s (RowLine bytes ∷ above) base g e b =
-    assets_alike s (RowLine bytes ∷ above) base g (assets_are (section_of above) (rows_in_assets s above g.1 (here s above (RowLine bytes) g).0)) b
+    assets_alike s (RowLine bytes ∷ above) base g (assets_are (told above).section (rows_in_assets s above g.1 (here s above (RowLine bytes) g).0)) b
 alike s (TaskLine name ∷ above) base g e b =
-    alike_more above _ (alike s above base g.1 (in_assets_or_tasks (section_of above) (here s above (TaskLine name) g).1) (base_below (TaskLine name) above base refl b)) (TaskLine name) refl
+    alike_more above _ (alike s above base g.1 (in_assets_or_tasks (told above).section (here s above (TaskLine name) g).1) (base_below (TaskLine name) above base refl b)) (TaskLine name) refl
 alike s (EndLine ∷ above) base g e b =
-    alike_more above _ (alike s above base g.1 (calls_screen (section_of above) (here s above EndLine g).1) (base_below EndLine above base refl b)) EndLine refl
+    alike_more above _ (alike s above base g.1 (calls_screen (told above).section (here s above EndLine g).1) (base_below EndLine above base refl b)) EndLine refl
 alike s (OrderLine ∷ above) base g e b =
-    let due = (and_parts (are_tasks_due (section_of above)) _ (here s above OrderLine g).1).0 in
-    alike_behind above _ OrderLine refl (sym (ap section_alone (in_tasks (section_of above) due))) (alike s above base g.1 (order_screen s above g) (base_below OrderLine above base refl b))
+    let due = (and_parts (are_tasks_due (told above).section) _ (here s above OrderLine g).1).0 in
+    alike_behind above _ OrderLine refl (sym (ap section_alone (in_tasks (told above).section due))) (alike s above base g.1 (order_screen s above g) (base_below OrderLine above base refl b))
 alike s (NumbersLine zs ∷ above) base g e b =
-    alike_behind above _ (NumbersLine zs) refl refl (alike s above base g.1 (numbers_screen (section_of above) (here s above (NumbersLine zs) g).1) (base_below (NumbersLine zs) above base refl b))
+    alike_behind above _ (NumbersLine zs) refl refl (alike s above base g.1 (numbers_screen (told above).section (here s above (NumbersLine zs) g).1) (base_below (NumbersLine zs) above base refl b))
 alike s (ReportLine ∷ above) base g e b =
-    let due = (and_parts (are_tasks_due (section_of above)) _ (here s above ReportLine g).1).0 in
-    alike_behind above _ ReportLine refl (sym (ap section_alone (in_tasks (section_of above) due))) (alike s above base g.1 (report_screen s above g) (base_below ReportLine above base refl b))
+    let due = (and_parts (are_tasks_due (told above).section) _ (here s above ReportLine g).1).0 in
+    alike_behind above _ ReportLine refl (sym (ap section_alone (in_tasks (told above).section due))) (alike s above base g.1 (report_screen s above g) (base_below ReportLine above base refl b))
 alike s (CallLine layers act ∷ above) base g e b =
-    alike_more above _ (alike s above base g.1 (calls_screen (section_of above) (here s above (CallLine layers act) g).1) (base_below (CallLine layers act) above base refl b)) (CallLine layers act) refl
+    alike_more above _ (alike s above base g.1 (calls_screen (told above).section (here s above (CallLine layers act) g).1) (base_below (CallLine layers act) above base refl b)) (CallLine layers act) refl
 alike s (LockLine name ∷ above) base g e b =
-    alike_more above _ (alike s above base g.1 (calls_screen (section_of above) (here s above (LockLine name) g).1) (base_below (LockLine name) above base refl b)) (LockLine name) refl
+    alike_more above _ (alike s above base g.1 (calls_screen (told above).section (here s above (LockLine name) g).1) (base_below (LockLine name) above base refl b)) (LockLine name) refl
 alike s (UnlockLine name ∷ above) base g e b =
-    alike_more above _ (alike s above base g.1 (calls_screen (section_of above) (here s above (UnlockLine name) g).1) (base_below (UnlockLine name) above base refl b)) (UnlockLine name) refl
+    alike_more above _ (alike s above base g.1 (calls_screen (told above).section (here s above (UnlockLine name) g).1) (base_below (UnlockLine name) above base refl b)) (UnlockLine name) refl
 alike s (HoldLine ∷ above) base g e b =
-    alike_more above _ (alike s above base g.1 (calls_screen (section_of above) (here s above HoldLine g).1) (base_below HoldLine above base refl b)) HoldLine refl
+    alike_more above _ (alike s above base g.1 (calls_screen (told above).section (here s above HoldLine g).1) (base_below HoldLine above base refl b)) HoldLine refl
 alike s (ReleaseLine ∷ above) base g e b =
-    alike_more above _ (alike s above base g.1 (calls_screen (section_of above) (here s above ReleaseLine g).1) (base_below ReleaseLine above base refl b)) ReleaseLine refl
+    alike_more above _ (alike s above base g.1 (calls_screen (told above).section (here s above ReleaseLine g).1) (base_below ReleaseLine above base refl b)) ReleaseLine refl

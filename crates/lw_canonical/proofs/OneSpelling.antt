@@ -14,9 +14,8 @@ use Rattle.lw_grammar.specs.Lines.{lines}
 use Rattle.lw_grammar.specs.Tokens.{on_found, tokens_at, tokens, Token, OddToken, token_of, hex_bytes, spelled_bytes}
 use Rattle.lw_grammar.specs.Verbs.{part_verb, group_verb, region_verb, arrangement_verb, state_verb, drawing_verb, clip_verb, verb_of}
 use Rattle.lw_grammar.specs.LineForms.{CloseAct, FrontAct, BehindAct, MoveAct, SizeAct, BoxAct, ActivateAct, APenAct, BPenAct, ModeAct, MaskAct, AtAct, WriteAct, ReadAct, FillAct, DrawAct, TextAct, SetRastAct, ClipAct, UnclipAct, RefreshAct, ScrollAct, TitleAct, GetMsgAct, LineForm, RowLine, TaskLine, EndLine, OrderLine, ReportLine, LockLine, UnlockLine, HoldLine, ReleaseLine, four, row_line, numbers_limit, numbers_line, form_by, is_line_in_range}
-use Rattle.lw_grammar.specs.LinesAbove.{section_of, rows_due, row_width}
-use Rattle.lw_grammar.specs.Script.{Setting, line_limit, is_skipped, is_printable, are_tasks_due, are_numbers_due, is_plain, stands_in, is_task_verb}
-use Rattle.lw_grammar.specs.ScriptReading.{words_read, verb_read, form_read, form_tested, line_read, IsGoodLine}
+use Rattle.lw_grammar.specs.Told.{told}
+use Rattle.lw_grammar.specs.Script.{Setting, line_limit, is_skipped, is_printable, are_tasks_due, are_numbers_due, is_plain, stands_in, is_task_verb, words_read, verb_read, form_read, form_tested, line_read, IsGoodLine}
 use Rattle.lw_calls.specs.Written.{line_of}
 use Rattle.lw_canonical.specs.Spelling.{joined, words_of, spelled}
 use Rattle.lw_canonical.proofs.Rearranged.{HasOneSpelling}
@@ -102,7 +101,7 @@ by_verb w v ws e None h = tt
 by_verb w v ws e (Some f) h = λ good r. h (tokens_good ws) r ∙ also (sym e) (tokens_back ws good.1)
 
 -- a line that begins with a verb
-verb_words : (s : Setting) (above : List LineForm) (ws : List (List ℕ)) → IfOk (verb_read s above ws) (IsOfWords ws)
+verb_words : (s : Setting) (above : List LineForm) (ws : List (List ℕ)) → IfOk (verb_read s.form (told above).section ws) (IsOfWords ws)
 verb_words s above [] = tt
 verb_words s above (w ∷ ws) = at_verb (verb_of w) (verb_spelled w)
   where
@@ -111,9 +110,9 @@ verb_words s above (w ∷ ws) = at_verb (verb_of w) (verb_spelled w)
     at_tests v e true false = tt
     at_tests v e true true = by_verb w v ws e (form_by v (map token_of ws)) (form_spelt v (map token_of ws))
 
-    at_verb : (o : Option Verb) → IfSome o (IsWordOf w) → IfOk (ok_or o UnknownWord >>= (λ v. demand (stands_in s.form (section_of above) v) Misplaced >>= (λ _. demand (not ((is_plain s.form && are_tasks_due (section_of above)) && is_task_verb v)) OneTaskOnly >>= (λ _. ok_or (form_by v (map token_of ws)) FormReason)))) (IsOfWords (w ∷ ws))
+    at_verb : (o : Option Verb) → IfSome o (IsWordOf w) → IfOk (ok_or o UnknownWord >>= (λ v. demand (stands_in s.form (told above).section v) Misplaced >>= (λ _. demand (not ((is_plain s.form && are_tasks_due (told above).section) && is_task_verb v)) OneTaskOnly >>= (λ _. ok_or (form_by v (map token_of ws)) FormReason)))) (IsOfWords (w ∷ ws))
     at_verb None e = tt
-    at_verb (Some v) e = at_tests v e (stands_in s.form (section_of above) v) (not ((is_plain s.form && are_tasks_due (section_of above)) && is_task_verb v))
+    at_verb (Some v) e = at_tests v e (stands_in s.form (told above).section v) (not ((is_plain s.form && are_tasks_due (told above).section) && is_task_verb v))
 
 -- of two results, each has what it is to have
 either_ok : {A : Type 0} (P : A → Type 0) (b : Bool) (x y : Result A Reason) → IfOk x P → IfOk y P → IfOk (cond b x y) P
@@ -121,9 +120,9 @@ either_ok P true x y h k = h
 either_ok P false x y h k = k
 
 -- the form that is read has the line's words
-form_words : (s : Setting) (above : List LineForm) (ws : List (List ℕ)) → IfOk (form_read s above ws) (IsOfWords ws)
+form_words : (s : Setting) (above : List LineForm) (ws : List (List ℕ)) → IfOk (form_read s.form (told above).section (told above).rows_due (told above).row_width ws) (IsOfWords ws)
 form_words s above ws =
-    either_ok (IsOfWords ws) (not (rows_due above == 0)) _ _ (found_words ws (row_line (row_width above) (map token_of ws)) (row_spelt (row_width above) (map token_of ws))) (either_ok (IsOfWords ws) (are_numbers_due (section_of above)) _ _ (found_words ws (numbers_line (map token_of ws)) (numbers_spelt (map token_of ws))) (verb_words s above ws))
+    either_ok (IsOfWords ws) (not ((told above).rows_due == 0)) _ _ (found_words ws (row_line (told above).row_width (map token_of ws)) (row_spelt (told above).row_width (map token_of ws))) (either_ok (IsOfWords ws) (are_numbers_due (told above).section) _ _ (found_words ws (numbers_line (map token_of ws)) (numbers_spelt (map token_of ws))) (verb_words s above ws))
 
 -- what was handed on, and what it gave
 handed_on : {A B : Type 0} (r : Result A Reason) (f : A → Result B Reason) (b : B) → (r >>= f) ≡ Ok b → (a : A) × (r ≡ Ok a) × (f a ≡ Ok b)
@@ -140,23 +139,23 @@ pub record IsReading (s : Setting) (above : List LineForm) (line : List ℕ) (f 
   pub printable : list_all is_printable line ≡ true
   pub ws : List (List ℕ)
   pub split : tokens line ≡ Ok ws
-  pub form : form_read s above ws ≡ Ok f
+  pub form : form_read s.form (told above).section (told above).rows_due (told above).row_width ws ≡ Ok f
   pub range : is_line_in_range f ≡ true
 
 -- the form that was tested is the one that was told
-told_form : (s : Setting) (above : List LineForm) (g f : LineForm) (h : (form_tested s above g >>= (λ _. Ok g)) ≡ Ok f) → (g ≡ f) × (is_line_in_range f ≡ true)
+told_form : (s : Setting) (above : List LineForm) (g f : LineForm) (h : (form_tested s (told above) g >>= (λ _. Ok g)) ≡ Ok f) → (g ≡ f) × (is_line_in_range f ≡ true)
 told_form s above g f h =
-    let t = handed_on (form_tested s above g) (λ _. Ok g) f h in
+    let t = handed_on (form_tested s (told above) g) (λ _. Ok g) f h in
     let same : g ≡ f = cc in
     let tested = demanded (is_line_in_range g) Range _ _ t.1 in
     (same, subst (λ k. is_line_in_range k ≡ true) same tested.0)
 
-pub reading : (s : Setting) (above : List LineForm) (line : List ℕ) (f : LineForm) → line_read s above line ≡ Ok f → IsReading s above line f
+pub reading : (s : Setting) (above : List LineForm) (line : List ℕ) (f : LineForm) → line_read s (told above) line ≡ Ok f → IsReading s above line f
 reading s above line f e =
     let words = handed_on (words_read line) _ f e in
     let short = demanded (nat_le (length line) line_limit) LineTooLong _ _ words.1 in
     let clean = demanded (list_all is_printable line) BadByte _ _ short.1 in
-    let form = handed_on (form_read s above words.0) _ f words.2 in
+    let form = handed_on (form_read s.form (told above).section (told above).rows_due (told above).row_width words.0) _ f words.2 in
     let told = told_form s above form.0 f form.2 in
     record { printable = clean.0; ws = words.0; split = clean.1; form = form.1 ∙ ap (λ g. Ok g) told.0; range = told.1 }
 
@@ -201,16 +200,16 @@ unfolding verb_of part_verb group_verb region_verb arrangement_verb state_verb d
 no_verb w = refl
 
 -- so no form is read of such words
-no_form : (s : Setting) (above : List LineForm) (w : List ℕ) (ws : List (List ℕ)) → IfOk (form_read s above ((35 ∷ w) ∷ ws)) (λ _. ⊥)
+no_form : (s : Setting) (above : List LineForm) (w : List ℕ) (ws : List (List ℕ)) → IfOk (form_read s.form (told above).section (told above).rows_due (told above).row_width ((35 ∷ w) ∷ ws)) (λ _. ⊥)
 no_form s above w ws =
-    either_ok (λ _. ⊥) (not (rows_due above == 0)) _ _ (found_has (λ _. ⊥) (row_line (row_width above) (map token_of ((35 ∷ w) ∷ ws))) FormReason (no_row (row_width above) w (map token_of ws))) (either_ok (λ _. ⊥) (are_numbers_due (section_of above)) _ _ (found_has (λ _. ⊥) (numbers_line (map token_of ((35 ∷ w) ∷ ws))) FormReason (either_has (λ _. ⊥) (nat_le (length (map token_of ((35 ∷ w) ∷ ws))) numbers_limit) None None tt tt)) (at_verb (verb_of (35 ∷ w)) (no_verb w)))
+    either_ok (λ _. ⊥) (not ((told above).rows_due == 0)) _ _ (found_has (λ _. ⊥) (row_line (told above).row_width (map token_of ((35 ∷ w) ∷ ws))) FormReason (no_row (told above).row_width w (map token_of ws))) (either_ok (λ _. ⊥) (are_numbers_due (told above).section) _ _ (found_has (λ _. ⊥) (numbers_line (map token_of ((35 ∷ w) ∷ ws))) FormReason (either_has (λ _. ⊥) (nat_le (length (map token_of ((35 ∷ w) ∷ ws))) numbers_limit) None None tt tt)) (at_verb (verb_of (35 ∷ w)) (no_verb w)))
   where
-    at_verb : (o : Option Verb) → o ≡ None → IfOk (ok_or o UnknownWord >>= (λ v. demand (stands_in s.form (section_of above) v) Misplaced >>= (λ _. demand (not ((is_plain s.form && are_tasks_due (section_of above)) && is_task_verb v)) OneTaskOnly >>= (λ _. ok_or (form_by v (map token_of ws)) FormReason)))) (λ _. ⊥)
+    at_verb : (o : Option Verb) → o ≡ None → IfOk (ok_or o UnknownWord >>= (λ v. demand (stands_in s.form (told above).section v) Misplaced >>= (λ _. demand (not ((is_plain s.form && are_tasks_due (told above).section) && is_task_verb v)) OneTaskOnly >>= (λ _. ok_or (form_by v (map token_of ws)) FormReason)))) (λ _. ⊥)
     at_verb None e = tt
     at_verb (Some v) e = absurd (cc)
 
 -- A good line isn't skipped.
-pub not_skipped : (s : Setting) (above : List LineForm) (line : List ℕ) (f : LineForm) → line_read s above line ≡ Ok f → is_skipped line ≡ false
+pub not_skipped : (s : Setting) (above : List LineForm) (line : List ℕ) (f : LineForm) → line_read s (told above) line ≡ Ok f → is_skipped line ≡ false
 not_skipped s above [] f e = let r = reading s above [] f e in absurd (IfOk-at_ok (λ _. ⊥) r.split tt)
 not_skipped s above (b ∷ bs) f e = go (b == 35) refl
   where
@@ -220,7 +219,7 @@ not_skipped s above (b ∷ bs) f e = go (b == 35) refl
         let r = reading s above (b ∷ bs) f e in
         let split : tokens (35 ∷ bs) ≡ Ok r.ws = subst (λ c. tokens (c ∷ bs) ≡ Ok r.ws) (eqb-true b 35 h) r.split in
         let remark = IfOk-at_ok IsRemark split (remark_words (tokens_at false bs)) in
-        let form : form_read s above ((35 ∷ remark.0) ∷ remark.1) ≡ Ok f = subst (λ ws. form_read s above ws ≡ Ok f) remark.2 r.form in
+        let form : form_read s.form (told above).section (told above).rows_due (told above).row_width ((35 ∷ remark.0) ∷ remark.1) ≡ Ok f = subst (λ ws. form_read s.form (told above).section (told above).rows_due (told above).row_width ws ≡ Ok f) remark.2 r.form in
         absurd (IfOk-at_ok (λ _. ⊥) form (no_form s above remark.0 remark.1))
 
 -- no byte is a line feed
@@ -242,13 +241,13 @@ printable_line (b ∷ bs) h =
     and_from (not (b == 10)) _ (printable_byte b k.0) (printable_line bs k.1)
 
 -- A good line has no line feed.
-pub no_feed : (s : Setting) (above : List LineForm) (line : List ℕ) (f : LineForm) → line_read s above line ≡ Ok f → list_all (λ b. not (b == 10)) line ≡ true
+pub no_feed : (s : Setting) (above : List LineForm) (line : List ℕ) (f : LineForm) → line_read s (told above) line ≡ Ok f → list_all (λ b. not (b == 10)) line ≡ true
 no_feed s above line f e = let r = reading s above line f e in printable_line line r.printable
 
 -- So the one spelling of a good line's form reads as that form where the line did, isn't skipped, and has no line feed.
-pub good_spelling : (s : Setting) (above : List LineForm) (f : LineForm) → IsGoodLine s above f → (line_read s above (spelled f) ≡ Ok f) × (is_skipped (spelled f) ≡ false) × HasNoFeed (spelled f)
+pub good_spelling : (s : Setting) (above : List LineForm) (f : LineForm) → IsGoodLine s above f → (line_read s (told above) (spelled f) ≡ Ok f) × (is_skipped (spelled f) ≡ false) × HasNoFeed (spelled f)
 good_spelling s above f g =
-    let read : line_read s above (spelled f) ≡ Ok f = subst (λ line. line_read s above line ≡ Ok f) (sym (one_spelling s above g.line f g.read)) g.read in
+    let read : line_read s (told above) (spelled f) ≡ Ok f = subst (λ line. line_read s (told above) line ≡ Ok f) (sym (one_spelling s above g.line f g.read)) g.read in
     (read, not_skipped s above (spelled f) f read, no_feed s above (spelled f) f read)
 
 -- a line with its feed is the first of a text that begins with it

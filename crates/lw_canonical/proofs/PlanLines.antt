@@ -5,9 +5,8 @@ use Rattle.lw_calls.specs.declared.call.Call.{Call}
 use Rattle.lw_calls.specs.declared.group.Group.{Group}
 use Rattle.lw_calls.specs.Plan.{Plan, task_calls, task_groups}
 use Rattle.lw_grammar.specs.LineForms.{LineForm, TaskLine, EndLine}
-use Rattle.lw_grammar.specs.LinesAbove.{bitmaps_above, names_above, tasks_above, calls_above, groups_above, glyph_above, plan_above}
-use Rattle.lw_grammar.specs.Script.{Setting, is_whole}
-use Rattle.lw_grammar.specs.ScriptReading.{AreGoodLines}
+use Rattle.lw_grammar.specs.Told.{told, plan_of}
+use Rattle.lw_grammar.specs.Script.{Setting, may_end, AreGoodLines}
 use Rattle.lw_canonical.specs.Canonical.{lines_of_task, lines_of_glyph, lines_of_plan}
 use Rattle.lw_canonical.proofs.Rearranged.{is_of_tasks, is_of_bitmaps, glyphs_in_order, screen_line_of, arranged}
 use Rattle.lw_grammar.proofs.ScriptSizes.{whole_ends}
@@ -20,8 +19,8 @@ use Rattle.lw_canonical.proofs.TaskLines.{task_lines, all_task_lines, tasks_clos
 use Rattle.std.proofs.lemmas.List.{reverse-append, reverse-reverse}
 
 -- The lines of the plan's glyphs.
-pub plan_glyphs : (hooks : ℕ) (above : List LineForm) → flat_map (λ i. lines_of_glyph (32 + i) (slice_index_or (plan_above hooks above).assets.glyphs i [])) (range_with_len 0 95) ≡ glyphs_in_order above
-plan_glyphs hooks above = gathered_made (λ i rows. lines_of_glyph (32 + i) rows) (λ i. glyph_above above (32 + i)) [] 95
+pub plan_glyphs : (hooks : ℕ) (above : List LineForm) → flat_map (λ i. lines_of_glyph (32 + i) (slice_index_or (plan_of hooks (told above)).assets.glyphs i [])) (range_with_len 0 95) ≡ glyphs_in_order above
+plan_glyphs hooks above = gathered_made (λ i rows. lines_of_glyph (32 + i) rows) (λ i. (told above).glyphs (32 + i)) [] 95
 
 -- the lines of tasks by number are those of their names, calls and groups
 tasks_by_number : (names bitmaps : List (List ℕ)) (ns : List (List ℕ)) (css : List (List Call)) (gss : List (List Group)) → length css ≡ length ns → length gss ≡ length ns → flat_map (λ t. task_lines names bitmaps (slice_index_or ns t []) (slice_index_or css t []) (slice_index_or gss t [])) (range_with_len 0 (length ns)) ≡ all_task_lines names bitmaps ns css gss
@@ -37,13 +36,13 @@ lines_of_one p t =
     ap (λ (ls : List LineForm). TaskLine (slice_index_or p.task_names t []) ∷ ls ++ EndLine ∷ []) (lines_from_woven p (task_calls p t) (task_groups p t) 0 (task_calls p t))
 
 -- The lines of the plan's tasks.
-pub plan_tasks : (s : Setting) (above : List LineForm) → AreGoodLines s above → is_whole s.form above ≡ true → flat_map (lines_of_task (plan_above s.hooks above)) (range_with_len 0 (length (tasks_above above))) ≡ reverse (filter is_of_tasks above)
+pub plan_tasks : (s : Setting) (above : List LineForm) → AreGoodLines s above → may_end s.form (told above).section ≡ true → flat_map (lines_of_task (plan_of s.hooks (told above))) (range_with_len 0 (length (told above).tasks)) ≡ reverse (filter is_of_tasks above)
 plan_tasks s above g w =
-    let names : List (List ℕ) = names_above above in
-    let bitmaps : List (List ℕ) = bitmaps_above above in
-    let p : Plan = plan_above s.hooks above in
-    gathered_same (lines_of_task p) (λ t. task_lines names bitmaps (slice_index_or (tasks_above above) t []) (slice_index_or (calls_above above) t []) (slice_index_or (groups_above above) t [])) 0 (length (tasks_above above)) (λ t low high. lines_of_one p t) ∙
-    tasks_by_number names bitmaps (tasks_above above) (calls_above above) (groups_above above) (calls_listed above) (groups_listed above) ∙
+    let names : List (List ℕ) = (told above).names in
+    let bitmaps : List (List ℕ) = (told above).bitmap_names in
+    let p : Plan = plan_of s.hooks (told above) in
+    gathered_same (lines_of_task p) (λ t. task_lines names bitmaps (slice_index_or (told above).tasks t []) (slice_index_or (told above).calls t []) (slice_index_or (told above).groups t [])) 0 (length (told above).tasks) (λ t low high. lines_of_one p t) ∙
+    tasks_by_number names bitmaps (told above).tasks (told above).calls (told above).groups (calls_listed above) (groups_listed above) ∙
     sym (tasks_closed names bitmaps s above g (whole_ends s.form above w).calls (found_itself names) (found_itself bitmaps))
 
 -- the plan's lines below its screen, and all
@@ -54,7 +53,7 @@ turned tasks bitmaps glyphs screen =
     sym (reverse-append tasks (bitmaps ++ (reverse glyphs ++ screen ∷ [])) ∙ ap (λ (t : List LineForm). t ++ reverse tasks) assets)
 
 -- The lines of the plan of good lines are these lines in the order of the canonical text.
-pub plan_lines : (s : Setting) (above : List LineForm) → AreGoodLines s above → is_whole s.form above ≡ true → lines_of_plan (plan_above s.hooks above) ≡ reverse (arranged above)
+pub plan_lines : (s : Setting) (above : List LineForm) → AreGoodLines s above → may_end s.form (told above).section ≡ true → lines_of_plan (plan_of s.hooks (told above)) ≡ reverse (arranged above)
 plan_lines s above g w =
     let screen : LineForm = screen_line_of above in
     let bitmaps = bitmaps_given s above g (rows_done s above g (whole_ends s.form above w).assets) in

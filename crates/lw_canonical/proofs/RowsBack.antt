@@ -5,18 +5,17 @@ use Rattle.std.specs.Int.{bit_at}
 use Rattle.lw_planes.specs.Row.{row_bit}
 use Rattle.lw_planes.specs.Bitmap.{Bitmap, pen_at, row_bytes, plane_bit, plane_row}
 use Rattle.lw_planes.specs.Storage.{bit_place, stored}
-use Rattle.lw_planes.proofs.PenLaws.{byte_of-same, byte-same}
-use Rattle.lw_planes.proofs.RowLaws.{row_bit-lt, row_bit-at}
-use Rattle.lw_planes.proofs.BitmapLaws.{length-plane_row, plane_row-at}
-use Rattle.lw_planes.proofs.StorageLaws.{bit-stored}
+use Rattle.lw_planes.proofs.PenLaws.{byte_of_same, byte_same}
+use Rattle.lw_planes.proofs.RowLaws.{row_bit_lt, row_bit_at}
+use Rattle.lw_planes.proofs.BitmapLaws.{length_plane_row, plane_row_at}
+use Rattle.lw_planes.proofs.StorageLaws.{bit_stored}
 use Rattle.lw_calls.specs.declared.reason.Reason.{Reason}
 use Rattle.lw_calls.specs.declared.reason.Reason.TheVariants.{Form as FormReason}
 use Rattle.lw_grammar.specs.Tokens.{Token, token_of, bytes_in}
 use Rattle.lw_grammar.specs.LineForms.{LineForm, RowLine, row_line}
-use Rattle.lw_grammar.specs.LinesAbove.{rows_due, row_width}
-use Rattle.lw_grammar.specs.Script.{Setting, has_padding}
+use Rattle.lw_grammar.specs.Told.{told}
+use Rattle.lw_grammar.specs.Script.{Setting, has_padding, words_read, form_read, form_tested, IsGoodLine}
 use Rattle.lw_grammar.specs.Demands.{◌>>=◌}
-use Rattle.lw_grammar.specs.ScriptReading.{words_read, form_read, form_tested, IsGoodLine}
 use Rattle.lw_grammar.proofs.ScriptForms.{AreBytes, AreSoMany, token_spelled}
 use Rattle.std.proofs.lemmas.Bool.{cases_lt, or_parts}
 use Rattle.std.proofs.lemmas.Bool.Decides.{nat_tests}
@@ -36,22 +35,22 @@ row_words width [] = tt
 row_words width (t ∷ []) = spelled_row (bytes_in (row_bytes width) t) (row_bytes width) (token_spelled (row_bytes width) t)
 row_words width (t ∷ u ∷ us) = tt
 
-row_form : (s : Setting) (above : List LineForm) (ws : List (List ℕ)) → (rows_due above == 0) ≡ false → IfOk (form_read s above ws) IsRowRead
-row_form s above ws e = rw e (row_words (row_width above) (map token_of ws))
+row_form : (s : Setting) (above : List LineForm) (ws : List (List ℕ)) → ((told above).rows_due == 0) ≡ false → IfOk (form_read s.form (told above).section (told above).rows_due (told above).row_width ws) IsRowRead
+row_form s above ws e = rw e (row_words (told above).row_width (map token_of ws))
 
 row_tested : (f g : LineForm) (t : Result (Unit {0}) Reason) → (t >>= (λ _. Ok f)) ≡ Ok g → IsRowRead f → IsRowRead g
 row_tested f g (Ok u) d h = let same : f ≡ g = cc in subst IsRowRead same h
 row_tested f g (Err r) d h = absurd (cc)
 
-row_read : (s : Setting) (above : List LineForm) (g : LineForm) (t : Result (List (List ℕ)) Reason) → (rows_due above == 0) ≡ false → (t >>= (λ ws. form_read s above ws >>= (λ f. form_tested s above f >>= (λ _. Ok f)))) ≡ Ok g → IsRowRead g
+row_read : (s : Setting) (above : List LineForm) (g : LineForm) (t : Result (List (List ℕ)) Reason) → ((told above).rows_due == 0) ≡ false → (t >>= (λ ws. form_read s.form (told above).section (told above).rows_due (told above).row_width ws >>= (λ f. form_tested s (told above) f >>= (λ _. Ok f)))) ≡ Ok g → IsRowRead g
 row_read s above g (Err r) e d = absurd (cc)
-row_read s above g (Ok ws) e d = at_form (form_read s above ws) (row_form s above ws e) d
+row_read s above g (Ok ws) e d = at_form (form_read s.form (told above).section (told above).rows_due (told above).row_width ws) (row_form s above ws e) d
   where
-    at_form : (r : Result LineForm Reason) → IfOk r IsRowRead → (r >>= (λ f. form_tested s above f >>= (λ _. Ok f))) ≡ Ok g → IsRowRead g
+    at_form : (r : Result LineForm Reason) → IfOk r IsRowRead → (r >>= (λ f. form_tested s (told above) f >>= (λ _. Ok f))) ≡ Ok g → IsRowRead g
     at_form (Err r) h d = absurd (cc)
-    at_form (Ok f) h d = row_tested f g (form_tested s above f) d h
+    at_form (Ok f) h d = row_tested f g (form_tested s (told above) f) d h
 
-pub row_are_bytes : (s : Setting) (above : List LineForm) (bytes : List ℕ) → (rows_due above == 0) ≡ false → IsGoodLine s above (RowLine bytes) → AreBytes bytes
+pub row_are_bytes : (s : Setting) (above : List LineForm) (bytes : List ℕ) → ((told above).rows_due == 0) ≡ false → IsGoodLine s above (RowLine bytes) → AreBytes bytes
 row_are_bytes s above bytes e g = row_read s above (RowLine bytes) (words_read g.line) e g.read
 
 -- a row of a bitmap of this width: its bytes, without bits in the padding
@@ -80,7 +79,7 @@ row_made w row long bytes h =
     record {
       long = long;
       bytes = bytes;
-      empty = λ x low high. bit_off (row_bit row x) (row_bit-lt row x) (none_passes (λ k. row_bit row k == 1) w (8 * length row - w) h x low (omega (arith, long)));
+      empty = λ x low high. bit_off (row_bit row x) (row_bit_lt row x) (none_passes (λ k. row_bit row k == 1) w (8 * length row - w) h x low (omega (arith, long)));
     }
 
 -- a byte of bytes
@@ -100,7 +99,7 @@ bit_padding b k x y past = let bit : ℕ = bit_at (pen_at b x y) k in grind (ari
 pub row_back : (w h d : ℕ) (bytes : List ℕ) (k y : ℕ) (row : List ℕ) → k < d → y < h → IsRow w row → ((x : ℕ) → x < w → row_bit row x ≡ row_bit bytes (bit_place w h k x y)) → plane_row (stored w h d bytes) k y ≡ row
 row_back w h d bytes k y row deep low r same =
     let b : Bitmap = stored w h d bytes in
-    let long : length (plane_row b k y) ≡ row_bytes w = length-plane_row b k y in
-    let bits : (x : ℕ) → x < 8 * row_bytes w → plane_bit b k x y ≡ row_bit row x = λ x in_row. ⊎_elim (λ (left : x < w). bit_inside b k x y left ∙ bit-stored w h d bytes k x y deep left low ∙ sym (same x left)) (λ (past : w ≤ x). bit_padding b k x y past ∙ sym (r.empty x past in_row)) (cases_lt x w) in
+    let long : length (plane_row b k y) ≡ row_bytes w = length_plane_row b k y in
+    let bits : (x : ℕ) → x < 8 * row_bytes w → plane_bit b k x y ≡ row_bit row x = λ x in_row. ⊎_elim (λ (left : x < w). bit_inside b k x y left ∙ bit_stored w h d bytes k x y deep left low ∙ sym (same x left)) (λ (past : w ≤ x). bit_padding b k x y past ∙ sym (r.empty x past in_row)) (cases_lt x w) in
     same_number_lists (plane_row b k y) row (long ∙ sym r.long) (λ i high. (let inside : i < row_bytes w = omega (arith, long) in
-    plane_row-at b k y i inside ∙ byte_of-same (λ j. plane_bit b k (8 * i + j) y) (λ j. bit_at (slice_index row i) (7 - j)) (λ j few. bits (8 * i + j) (omega (arith, inside, few)) ∙ row_bit-at row i j few) ∙ byte-same (slice_index row i) (byte_small row i r.bytes)))
+    plane_row_at b k y i inside ∙ byte_of_same (λ j. plane_bit b k (8 * i + j) y) (λ j. bit_at (slice_index row i) (7 - j)) (λ j few. bits (8 * i + j) (omega (arith, inside, few)) ∙ row_bit_at row i j few) ∙ byte_same (slice_index row i) (byte_small row i r.bytes)))

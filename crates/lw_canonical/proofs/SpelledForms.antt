@@ -8,7 +8,8 @@ use Rattle.lw_calls.specs.declared.operation.RectOp.{RectOp}
 use Rattle.lw_calls.specs.declared.operation.PairOp.{PairOp}
 use Rattle.lw_grammar.specs.Tokens.{Token, NameToken, NumberToken, TextToken, OddToken, hex_bytes, spelled_bytes, bytes_in}
 use Rattle.lw_calls.specs.Limits.{coordinates_fit, is_extent}
-use Rattle.lw_grammar.specs.LineForms.{Act, LineForm, RowLine, NumbersLine, Blitting, four, screen_line, glyph_of_bytes, glyph_line, bitmap_line, row_line, all_numbers, numbers_limit, numbers_line, name_line, bare_line, layer_line, number_line, pair_line, text_line, rect_line, region_line, clear_line, which_line, infront_line, four_line, scrollraster_line, minterm_of, put_line, blit_line, endrefresh_line, is_blitting, is_act_in_range, is_line_in_range}
+use Rattle.lw_calls.specs.declared.area.Area.{Area}
+use Rattle.lw_grammar.specs.LineForms.{Act, LineForm, RowLine, NumbersLine, four, screen_line, glyph_of_bytes, glyph_line, bitmap_line, row_line, all_numbers, numbers_limit, numbers_line, name_line, bare_line, layer_line, number_line, pair_line, text_line, rect_line, region_line, clear_line, which_line, infront_line, four_line, scrollraster_line, minterm_of, put_line, blit_line, endrefresh_line, is_area_in_range, is_act_in_range, is_line_in_range}
 use Rattle.lw_calls.specs.Written.{hex_byte}
 use Rattle.lw_canonical.specs.Spelling.{hex_word, text_word, four_words, rect_word, pair_word, call_words, words_of}
 use Rattle.lw_grammar.proofs.ScriptForms.{either_has, map_has}
@@ -182,10 +183,10 @@ minterm_spelt word (Some (m ∷ [])) h = found_if (λ k. hex_byte k ≡ word) (m
 minterm_spelt word (Some (m ∷ n ∷ ms)) h = tt
 
 -- each number of a blit
-abbrev AreBlitSmall : Blitting → Type 0
+abbrev AreBlitSmall : Area → Type 0
 AreBlitSmall b = (IsSmall b.sx × IsSmall b.sy) × ((IsSmall b.x × IsSmall b.y) × (IsSmall b.w × IsSmall b.h))
 
-blit_small : (b : Blitting) → is_blitting b ≡ true → AreBlitSmall b
+blit_small : (b : Area) → is_area_in_range b ≡ true → AreBlitSmall b
 blit_small b r =
     let k = and_parts (coordinates_fit b.sx b.sy && coordinates_fit b.x b.y) _ r in
     let places = and_parts (coordinates_fit b.sx b.sy) (coordinates_fit b.x b.y) k.0 in

@@ -10,17 +10,15 @@ use Rattle.lw_calls.specs.declared.reason.Reason.TheVariants.{UnknownWord, Mispl
 use Rattle.lw_grammar.specs.declared.verb.Verb.{Verb}
 use Rattle.lw_grammar.specs.declared.verb.Verb.TheVariants.{Screen as ScreenVerb, Order as OrderVerb, Report as ReportVerb}
 use Rattle.lw_calls.specs.Limits.{name_limit, call_limit, task_limit, bitmap_limit}
-use Rattle.lw_calls.specs.Built.{is_built}
 use Rattle.lw_grammar.specs.Demands.{◌>>=◌, demand}
 use Rattle.lw_grammar.specs.Tokens.{token_of}
 use Rattle.lw_grammar.specs.LineForms.{Act, RegRectAct, RegPairAct, LineForm, GlyphLine, BitmapLine, RowLine, TaskLine, NumbersLine, CallLine, row_line, numbers_line, form_by, is_line_in_range}
-use Rattle.lw_grammar.specs.LinesAbove.{Section, ScreenIsDue, AssetsAreDue, CallsAreDue, TasksAreDue, NumbersAreDue, NothingIsDue, section_of, rows_due, row_width, tasks_above, bitmaps_above, names_above, supers_above, hook_on, hooks_above, Opened, group_above, calls_so_far, began_at}
-use Rattle.lw_grammar.specs.Script.{Setting, is_skipped, are_assets_due, are_calls_due, are_tasks_due, are_numbers_due, is_nothing_due, is_plain, is_ordered, is_audited, stands_in, is_task_verb, verb_on, behind_verb, lacks_name, gives_again, fits_group, super_limit, are_few, is_no_hook, is_used, has_padding, is_unbuilt}
-use Rattle.lw_grammar.specs.ScriptReading.{words_read, form_read, form_tested, line_read}
+use Rattle.lw_grammar.specs.Told.{Section, ScreenIsDue, AssetsAreDue, CallsAreDue, TasksAreDue, NumbersAreDue, NothingIsDue, Opened, hook_on, told}
+use Rattle.lw_grammar.specs.Script.{Setting, is_skipped, are_assets_due, are_calls_due, are_tasks_due, are_numbers_due, is_nothing_due, is_plain, is_ordered, is_audited, stands_in, is_task_verb, verb_on, behind_verb, lacks_name, gives_again, fits_group, super_limit, are_few, is_no_hook, is_used, has_padding, is_unbuilt, words_read, form_read, form_tested, line_read}
 use Rattle.lw_canonical.specs.Spelling.{joined, call_words, words_of, spelled}
 use Rattle.lw_grammar.proofs.ScriptSizes.{IsFormTested}
 use Rattle.lw_canonical.proofs.Rearranged.{is_of_tasks, alone}
-use Rattle.lw_canonical.proofs.NotionsAlike.{section_alone, AreAlike, same_call, alike_more}
+use Rattle.lw_canonical.proofs.NotionsAlike.{section_alone, AreAlike, alike_more}
 use Rattle.std.proofs.lemmas.Bool.{true≢false, false≢true}
 
 -- the first of a line's words
@@ -113,16 +111,16 @@ picked true true x y z e h = absurd (true≢false h)
 picked true false x y z e h = refl
 picked false b x y z e h = absurd (false≢true e)
 
-form_by_verb : (s : Setting) (above : List LineForm) (ws : List (List ℕ)) → (rows_due above == 0) ≡ true → are_numbers_due (section_of above) ≡ false → form_read s above ws ≡ verb_at s.form (section_of above) ws
+form_by_verb : (s : Setting) (above : List LineForm) (ws : List (List ℕ)) → ((told above).rows_due == 0) ≡ true → are_numbers_due (told above).section ≡ false → form_read s.form (told above).section (told above).rows_due (told above).row_width ws ≡ verb_at s.form (told above).section ws
 form_by_verb s above ws e n =
-    picked (rows_due above == 0) (are_numbers_due (section_of above)) (ok_or (row_line (row_width above) (map token_of ws)) FormReason) (ok_or (numbers_line (map token_of ws)) FormReason) (verb_at s.form (section_of above) ws) e n
+    picked ((told above).rows_due == 0) (are_numbers_due (told above).section) (ok_or (row_line (told above).row_width (map token_of ws)) FormReason) (ok_or (numbers_line (map token_of ws)) FormReason) (verb_at s.form (told above).section ws) e n
 
 -- Below lines that tell the same, words have the same form in a script alone.
-form_alone : (s : Setting) (above new : List LineForm) (ws : List (List ℕ)) → (rows_due above == 0) ≡ true → is_inner (section_of above) ≡ true → AreAlike above new → form_read s above ws ≡ form_read (alone s) new ws
+form_alone : (s : Setting) (above new : List LineForm) (ws : List (List ℕ)) → ((told above).rows_due == 0) ≡ true → is_inner (told above).section ≡ true → AreAlike above new → form_read s.form (told above).section (told above).rows_due (told above).row_width ws ≡ form_read (alone s).form (told new).section (told new).rows_due (told new).row_width ws
 form_alone s above new ws e c a =
-    let i = inner (section_of above) c in
-    let same : section_of new ≡ section_of above = a.section ∙ i.same in
-    form_by_verb s above ws e i.numbers ∙ (verb_alone s.form (section_of above) ws i.tasks ∙ (ap (λ (k : Section). verb_at Plain k ws) (sym same) ∙ sym (form_by_verb (alone s) new ws (ap (λ n. n == 0) a.due) (ap are_numbers_due same ∙ i.numbers))))
+    let i = inner (told above).section c in
+    let same : (told new).section ≡ (told above).section = a.section ∙ i.same in
+    form_by_verb s above ws e i.numbers ∙ (verb_alone s.form (told above).section ws i.tasks ∙ (ap (λ (k : Section). verb_at Plain k ws) (sym same) ∙ sym (form_by_verb (alone s) new ws (ap (λ n. n == 0) a.due) (ap are_numbers_due same ∙ i.numbers))))
 
 -- a test that holds doesn't stop the reading
 demanded : (b : Bool) (r : Reason) (t : Result (Unit {0}) Reason) → b ≡ true → t ≡ Ok tt → (demand b r >>= (λ _. t)) ≡ Ok tt
@@ -134,34 +132,29 @@ demanded_last true r e = refl
 demanded_last false r e = absurd (false≢true e)
 
 -- a form that meets each test passes them all
-all_passed : (s : Setting) (above : List LineForm) (f : LineForm) → IsFormTested s above f → form_tested s above f ≡ Ok tt
+all_passed : (s : Setting) (above : List LineForm) (f : LineForm) → IsFormTested s above f → form_tested s (told above) f ≡ Ok tt
 all_passed s above f t =
-    demanded (is_line_in_range f) _ _ t.range (demanded (not (lacks_name (bitmaps_above above) f)) _ _ (ap not t.named) (demanded (not (gives_again above f)) _ _ (ap not t.new) (demanded (fits_group (group_above above) (nat_lt (began_at above) (calls_so_far above)) f) _ _ t.group (demanded (are_few (f ∷ above)) _ _ t.few (demanded (not (is_no_hook s.hooks (hook_on f))) _ _ (ap not t.hook) (demanded (not (is_used (hooks_above above) (hook_on f))) _ _ (ap not t.unused) (demanded (not (has_padding (row_width above) f)) _ _ (ap not t.padding) (demanded_last (not (is_unbuilt above f)) _ (ap not t.built)))))))))
+    demanded (is_line_in_range f) _ _ t.range (demanded (not (lacks_name (told above).bitmap_names f)) _ _ (ap not t.named) (demanded (not (gives_again (told above) f)) _ _ (ap not t.new) (demanded (fits_group (told above).group (nat_lt (told above).began (told above).so_far) f) _ _ t.group (demanded (are_few (told (f ∷ above))) _ _ t.few (demanded (not (is_no_hook s.hooks (hook_on f))) _ _ (ap not t.hook) (demanded (not (is_used (told above).used (hook_on f))) _ _ (ap not t.unused) (demanded (not (has_padding (told above).row_width f)) _ _ (ap not t.padding) (demanded_last (not (is_unbuilt f)) _ (ap not t.built)))))))))
 
 -- the counts of lines are few by themselves
 abbrev few_by : List (List ℕ) → List (List ℕ) → List (List ℕ) → ℕ → ℕ → Bool
 few_by tasks bitmaps names supers calls =
     ((nat_le (length tasks) task_limit && nat_le (length bitmaps) bitmap_limit) && nat_le (length names) name_limit) && (nat_le supers super_limit && nat_le calls call_limit)
 
-same_few : (above new : List LineForm) → AreAlike above new → are_few new ≡ are_few above
+same_few : (above new : List LineForm) → AreAlike above new → are_few (told new) ≡ are_few (told above)
 same_few above new a =
-    ap (λ ts. few_by ts (bitmaps_above new) (names_above new) (supers_above new) (calls_so_far new)) a.tasks
-    ∙ (ap (λ bs. few_by (tasks_above above) bs (names_above new) (supers_above new) (calls_so_far new)) a.bitmap_names
-    ∙ (ap (λ ns. few_by (tasks_above above) (bitmaps_above above) ns (supers_above new) (calls_so_far new)) a.names
-    ∙ (ap (λ n. few_by (tasks_above above) (bitmaps_above above) (names_above above) n (calls_so_far new)) a.supers
-    ∙ ap (λ n. few_by (tasks_above above) (bitmaps_above above) (names_above above) (supers_above above) n) a.so_far)))
+    ap (λ ts. few_by ts (told new).bitmap_names (told new).names (told new).supers (told new).so_far) a.tasks
+    ∙ (ap (λ bs. few_by (told above).tasks bs (told new).names (told new).supers (told new).so_far) a.bitmap_names
+    ∙ (ap (λ ns. few_by (told above).tasks (told above).bitmap_names ns (told new).supers (told new).so_far) a.names
+    ∙ (ap (λ n. few_by (told above).tasks (told above).bitmap_names (told above).names n (told new).so_far) a.supers
+    ∙ ap (λ n. few_by (told above).tasks (told above).bitmap_names (told above).names (told above).supers n) a.so_far)))
 
 -- a task's name is new below such lines if it was
-same_again : (above new : List LineForm) (f : LineForm) → is_of_tasks f ≡ true → AreAlike above new → gives_again new f ≡ gives_again above f
+same_again : (above new : List LineForm) (f : LineForm) → is_of_tasks f ≡ true → AreAlike above new → gives_again (told new) f ≡ gives_again (told above) f
 same_again above new (GlyphLine code rows) t a = absurd (false≢true t)
 same_again above new (BitmapLine name w h d) t a = absurd (false≢true t)
 same_again above new (TaskLine name) t a = ap (list_any (bytes_eq name)) a.tasks
 same_again above new f t a = refl
-
--- a call's step is given below such lines if it was
-same_unbuilt : (above new : List LineForm) (f : LineForm) → AreAlike above new → is_unbuilt new f ≡ is_unbuilt above f
-same_unbuilt above new (CallLine layers act) a = ap (λ c. not (is_built c)) (same_call above new layers act a)
-same_unbuilt above new f a = refl
 
 -- no line of tasks is padded
 not_padded : (width : ℕ) (f : LineForm) → is_of_tasks f ≡ true → has_padding width f ≡ false
@@ -169,10 +162,10 @@ not_padded width (RowLine bytes) t = absurd (false≢true t)
 not_padded width f t = refl
 
 -- a line fits the open group below such lines if it did
-same_fit : (above new : List LineForm) (f : LineForm) → AreAlike above new → fits_group (group_above new) (nat_lt (began_at new) (calls_so_far new)) f ≡ fits_group (group_above above) (nat_lt (began_at above) (calls_so_far above)) f
+same_fit : (above new : List LineForm) (f : LineForm) → AreAlike above new → fits_group (told new).group (nat_lt (told new).began (told new).so_far) f ≡ fits_group (told above).group (nat_lt (told above).began (told above).so_far) f
 same_fit above new f a =
-    ap (λ (g : Option Opened). fits_group g (nat_lt (began_at new) (calls_so_far new)) f) a.group
-    ∙ (ap (λ n. fits_group (group_above above) (nat_lt n (calls_so_far new)) f) a.began ∙ ap (λ n. fits_group (group_above above) (nat_lt (began_at above) n) f) a.so_far)
+    ap (λ (g : Option Opened). fits_group g (nat_lt (told new).began (told new).so_far) f) a.group
+    ∙ (ap (λ n. fits_group (told above).group (nat_lt n (told new).so_far) f) a.began ∙ ap (λ n. fits_group (told above).group (nat_lt (told above).began n) f) a.so_far)
 
 -- Below lines that tell the same, a form of tasks meets the same tests.
 tests_alone : (s : Setting) (above new : List LineForm) (f : LineForm) → is_of_tasks f ≡ true → AreAlike above new → IsFormTested s above f → IsFormTested (alone s) new f
@@ -185,27 +178,27 @@ tests_alone s above new f o a t =
       few = same_few (f ∷ above) (f ∷ new) (alike_more above new a f o) ∙ t.few;
       hook = t.hook;
       unused = ap (λ hooks. is_used hooks (hook_on f)) a.hooks ∙ t.unused;
-      padding = not_padded (row_width new) f o;
-      built = same_unbuilt above new f a ∙ t.built;
+      padding = not_padded (told new).row_width f o;
+      built = t.built;
     }
 
 -- Below lines that tell the same, a line of tasks is read as the same form in a script alone.
-pub read_alone : (s : Setting) (above new : List LineForm) (f : LineForm) (line : List ℕ) → is_of_tasks f ≡ true → (rows_due above == 0) ≡ true → is_inner (section_of above) ≡ true → AreAlike above new → IsFormTested s above f → line_read s above line ≡ Ok f → line_read (alone s) new line ≡ Ok f
+pub read_alone : (s : Setting) (above new : List LineForm) (f : LineForm) (line : List ℕ) → is_of_tasks f ≡ true → ((told above).rows_due == 0) ≡ true → is_inner (told above).section ≡ true → AreAlike above new → IsFormTested s above f → line_read s (told above) line ≡ Ok f → line_read (alone s) (told new) line ≡ Ok f
 read_alone s above new f line o e c a t = at_words (words_read line)
   where
     at_tests : (g : LineForm) (r : Result (Unit {0}) Reason) → (r >>= (λ _. Ok g)) ≡ Ok f → g ≡ f
     at_tests g (Ok u) h = cc
     at_tests g (Err r) h = absurd (cc)
 
-    at_form : (p : Result LineForm Reason) → (p >>= (λ g. form_tested s above g >>= (λ _. Ok g))) ≡ Ok f → (p >>= (λ g. form_tested (alone s) new g >>= (λ _. Ok g))) ≡ Ok f
+    at_form : (p : Result LineForm Reason) → (p >>= (λ g. form_tested s (told above) g >>= (λ _. Ok g))) ≡ Ok f → (p >>= (λ g. form_tested (alone s) (told new) g >>= (λ _. Ok g))) ≡ Ok f
     at_form (Err r) h = absurd (cc)
     at_form (Ok g) h =
-        let P : LineForm → Type 0 = λ g. (form_tested (alone s) new g >>= (λ _. Ok g)) ≡ Ok f in
-        let passed : form_tested (alone s) new f ≡ Ok tt = all_passed (alone s) new f (tests_alone s above new f o a t) in
-        subst P (sym (at_tests g (form_tested s above g) h)) (ap (λ (r : Result (Unit {0}) Reason). r >>= (λ _. Ok f)) passed)
+        let P : LineForm → Type 0 = λ g. (form_tested (alone s) (told new) g >>= (λ _. Ok g)) ≡ Ok f in
+        let passed : form_tested (alone s) (told new) f ≡ Ok tt = all_passed (alone s) new f (tests_alone s above new f o a t) in
+        subst P (sym (at_tests g (form_tested s (told above) g) h)) (ap (λ (r : Result (Unit {0}) Reason). r >>= (λ _. Ok f)) passed)
 
-    at_words : (w : Result (List (List ℕ)) Reason) → (w >>= (λ ws. form_read s above ws >>= (λ g. form_tested s above g >>= (λ _. Ok g)))) ≡ Ok f → (w >>= (λ ws. form_read (alone s) new ws >>= (λ g. form_tested (alone s) new g >>= (λ _. Ok g)))) ≡ Ok f
+    at_words : (w : Result (List (List ℕ)) Reason) → (w >>= (λ ws. form_read s.form (told above).section (told above).rows_due (told above).row_width ws >>= (λ g. form_tested s (told above) g >>= (λ _. Ok g)))) ≡ Ok f → (w >>= (λ ws. form_read (alone s).form (told new).section (told new).rows_due (told new).row_width ws >>= (λ g. form_tested (alone s) (told new) g >>= (λ _. Ok g)))) ≡ Ok f
     at_words (Err r) h = absurd (cc)
     at_words (Ok ws) h =
-        let P : Result LineForm Reason → Type 0 = λ p. (p >>= (λ g. form_tested (alone s) new g >>= (λ _. Ok g))) ≡ Ok f in
-        subst P (form_alone s above new ws e c a) (at_form (form_read s above ws) h)
+        let P : Result LineForm Reason → Type 0 = λ p. (p >>= (λ g. form_tested (alone s) (told new) g >>= (λ _. Ok g))) ≡ Ok f in
+        subst P (form_alone s above new ws e c a) (at_form (form_read s.form (told above).section (told above).rows_due (told above).row_width ws) h)

@@ -6,14 +6,13 @@ use Rattle.lw_calls.specs.declared.call.Call.{Call}
 use Rattle.lw_calls.specs.declared.group.Hold.TheVariants.{Slot, All as AllLayers}
 use Rattle.lw_calls.specs.declared.group.Group.{Group}
 use Rattle.lw_grammar.specs.LineForms.{Act, PutAct, RefreshAct, EndRefreshAct, LineForm, ScreenLine, GlyphLine, BitmapLine, RowLine, TaskLine, EndLine, OrderLine, NumbersLine, ReportLine, CallLine, LockLine, UnlockLine, HoldLine, ReleaseLine}
-use Rattle.lw_grammar.specs.LinesAbove.{Section, ScreenIsDue, AssetsAreDue, CallsAreDue, TasksAreDue, NumbersAreDue, NothingIsDue, section_of, tasks_above, bitmaps_above, and_names, names_above, place_among, Opened, Locked, Updating, Held, group_above, calls_so_far, began_at, call_below, onto_last, calls_above, group_from, groups_above, plan_above}
-use Rattle.lw_grammar.specs.Script.{Setting, is_screen_due, are_assets_due, are_calls_due, are_tasks_due, are_numbers_due, is_beginning, is_ending, is_lock_on, is_hold, lacks_name}
-use Rattle.lw_grammar.specs.ScriptReading.{AreGoodLines}
+use Rattle.lw_grammar.specs.Told.{Section, ScreenIsDue, AssetsAreDue, CallsAreDue, TasksAreDue, NumbersAreDue, NothingIsDue, Opened, Locked, Updating, Held, and_names, place_among, onto_last, call_below, group_from, told, plan_of}
+use Rattle.lw_grammar.specs.Script.{Setting, is_screen_due, are_assets_due, are_calls_due, are_tasks_due, are_numbers_due, lacks_name, is_beginning, is_ending, is_lock_on, is_hold, AreGoodLines}
 use Rattle.lw_canonical.specs.Canonical.{line_of_call, are_updating, is_update, opening_lines, closing_lines}
 use Rattle.lw_canonical.proofs.Rearranged.{is_of_tasks}
 use Rattle.lw_grammar.proofs.ScriptNames.{any_before, place_before, any_kept, place_kept, AreNamed, all_named}
 use Rattle.lw_grammar.proofs.ScriptGroups.{drop_pushed}
-use Rattle.lw_grammar.proofs.ScriptAnswer.{rows_in_assets}
+use Rattle.lw_grammar.proofs.ScriptOutcome.{rows_in_assets}
 use Rattle.lw_grammar.proofs.ScriptSizes.{here, tests, in_calls, in_tasks}
 use Rattle.lw_grammar.proofs.ScriptTasks.{View, view_of, OpenState, HaveBegun, IsNow, AreTasks, tasks_fit, calls_listed, groups_listed, none_open, plain_groups, opens_none, ends_same, unlocks_same, releases_held, onto_pushed}
 use Rattle.lw_canonical.proofs.CallLinesBack.{IsBitmapBack, line_back}
@@ -102,18 +101,18 @@ now_task : (z : Sizes) (v : View) (calls : List Call) (groups : List Group) → 
 now_task z v calls groups h = record { long = h.long; inside = groups_inside calls groups h.fits.grouped; state = h.state }
 
 -- the nearest task of good lines, and that no group is open but in a task
-nearest_task : (s : Setting) (above : List LineForm) → AreGoodLines s above → section_of above ≡ CallsAreDue → (done : List (List Call)) (done_groups : List (List Group)) (calls : List Call) (groups : List Group) → calls_above above ≡ done ++ calls ∷ [] → groups_above above ≡ done_groups ++ groups ∷ [] → IsTask (view_of above) calls groups
+nearest_task : (s : Setting) (above : List LineForm) → AreGoodLines s above → (told above).section ≡ CallsAreDue → (done : List (List Call)) (done_groups : List (List Group)) (calls : List Call) (groups : List Group) → (told above).calls ≡ done ++ calls ∷ [] → (told above).groups ≡ done_groups ++ groups ∷ [] → IsTask (view_of above) calls groups
 nearest_task s above g e done done_groups calls groups a b =
-    let z : Sizes = (plan_above s.hooks above).sizes in
+    let z : Sizes = (plan_of s.hooks (told above)).sizes in
     let P : Section → Type 0 = λ c. AreTasks z c (view_of above) in
     let at : AreTasks z CallsAreDue (view_of above) = subst P e (tasks_fit z s above g refl (omega arith) (omega arith)) in
     let begun : HaveBegun z (view_of above) = at.tasks in
     let Q : List Call → Type 0 = λ cs. IsTask (view_of above) cs groups in
     let R : List Group → Type 0 = λ gs. IsTask (view_of above) begun.calls gs in
-    subst Q (last_same (calls_above above) begun.done done begun.calls calls begun.all_are a) (subst R (last_same (groups_above above) begun.done_groups done_groups begun.groups groups begun.groups_are b) (now_task z (view_of above) begun.calls begun.groups begun.now))
+    subst Q (last_same (told above).calls begun.done done begun.calls calls begun.all_are a) (subst R (last_same (told above).groups begun.done_groups done_groups begun.groups groups begun.groups_are b) (now_task z (view_of above) begun.calls begun.groups begun.now))
 
-none_between : (s : Setting) (above : List LineForm) → AreGoodLines s above → are_calls_due (section_of above) ≡ false → group_above above ≡ None
-none_between s above g e = (tasks_fit (plan_above s.hooks above).sizes s above g refl (omega arith) (omega arith)).closed e
+none_between : (s : Setting) (above : List LineForm) → AreGoodLines s above → are_calls_due (told above).section ≡ false → (told above).group ≡ None
+none_between s above g e = (tasks_fit (plan_of s.hooks (told above)).sizes s above g refl (omega arith) (omega arith)).closed e
 
 -- nothing was opened before a call behind the next one
 opened_behind : (o : Option Opened) (so_far began n : ℕ) (names : List (List ℕ)) (calls : List Call) (groups : List Group) → OpenState o so_far began names calls groups → so_far < n → opened_before o began n ≡ []
@@ -157,7 +156,7 @@ module _ (names bitmaps : List (List ℕ)) where
   -- Where no task is under way, the lines are those of all tasks; and in a task those of the tasks before it and its own so
   -- far.
   abbrev pub AreClosed : List LineForm → Type 0
-  AreClosed above = told_above above ≡ all_task_lines (tasks_above above) (calls_above above) (groups_above above)
+  AreClosed above = told_above above ≡ all_task_lines (told above).tasks (told above).calls (told above).groups
 
   pub record AreTold (above : List LineForm) : Type 0 where
     pub done_names : List (List ℕ)
@@ -166,48 +165,48 @@ module _ (names bitmaps : List (List ℕ)) where
     pub name : List ℕ
     pub calls : List Call
     pub groups : List Group
-    pub names_are : tasks_above above ≡ done_names ++ name ∷ []
-    pub all_are : calls_above above ≡ done ++ calls ∷ []
-    pub groups_are : groups_above above ≡ done_groups ++ groups ∷ []
-    pub told : told_above above ≡ all_task_lines done_names done done_groups ++ TaskLine name ∷ lines_so_far names bitmaps (group_above above) (began_at above) calls groups
+    pub names_are : (told above).tasks ≡ done_names ++ name ∷ []
+    pub all_are : (told above).calls ≡ done ++ calls ∷ []
+    pub groups_are : (told above).groups ≡ done_groups ++ groups ∷ []
+    pub written : told_above above ≡ all_task_lines done_names done done_groups ++ TaskLine name ∷ lines_so_far names bitmaps (told above).group (told above).began calls groups
 
-  abbrev pub Told : Bool → List LineForm → Type 0
-  Told true above = AreTold above
-  Told false above = AreClosed above
+  abbrev pub ToldOrClosed : Bool → List LineForm → Type 0
+  ToldOrClosed true above = AreTold above
+  ToldOrClosed false above = AreClosed above
 
   -- either of the two, by the test
-  told_closed : (b : Bool) (above : List LineForm) → b ≡ false → Told b above → AreClosed above
+  told_closed : (b : Bool) (above : List LineForm) → b ≡ false → ToldOrClosed b above → AreClosed above
   told_closed true above e h = absurd (true≢false e)
   told_closed false above e h = h
 
-  closed_told : (b : Bool) (above : List LineForm) → b ≡ false → AreClosed above → Told b above
+  closed_told : (b : Bool) (above : List LineForm) → b ≡ false → AreClosed above → ToldOrClosed b above
   closed_told true above e h = absurd (true≢false e)
   closed_told false above e h = h
 
   -- a task begins
-  task_told : (s : Setting) (above : List LineForm) (name : List ℕ) → AreGoodLines s above → are_calls_due (section_of above) ≡ false → AreClosed above → AreTold (TaskLine name ∷ above)
+  task_told : (s : Setting) (above : List LineForm) (name : List ℕ) → AreGoodLines s above → are_calls_due (told above).section ≡ false → AreClosed above → AreTold (TaskLine name ∷ above)
   task_told s above name g e h =
-      let P : Option Opened → Type 0 = λ o. told_above (TaskLine name ∷ above) ≡ all_task_lines (tasks_above above) (calls_above above) (groups_above above) ++ TaskLine name ∷ lines_so_far names bitmaps o (began_at above) [] [] in
-      let alone : lines_so_far names bitmaps None (began_at above) [] [] ≡ [] = none_before names bitmaps (began_at above) 0 in
+      let P : Option Opened → Type 0 = λ o. told_above (TaskLine name ∷ above) ≡ all_task_lines (told above).tasks (told above).calls (told above).groups ++ TaskLine name ∷ lines_so_far names bitmaps o (told above).began [] [] in
+      let alone : lines_so_far names bitmaps None (told above).began [] [] ≡ [] = none_before names bitmaps (told above).began 0 in
       let line : told_above (TaskLine name ∷ above) ≡ told_above above ++ TaskLine name ∷ [] = reverse-append (TaskLine name ∷ []) (filter is_of_tasks above) in
       record {
-        done_names = tasks_above above;
-        done = calls_above above;
-        done_groups = groups_above above;
+        done_names = (told above).tasks;
+        done = (told above).calls;
+        done_groups = (told above).groups;
         name = name;
         calls = [];
         groups = [];
         names_are = refl;
         all_are = refl;
         groups_are = refl;
-        told = subst P (sym (none_between s above g e)) (line ∙ ap₂ (λ (x y : List LineForm). x ++ TaskLine name ∷ y) h (sym alone));
+        written = subst P (sym (none_between s above g e)) (line ∙ ap₂ (λ (x y : List LineForm). x ++ TaskLine name ∷ y) h (sym alone));
       }
 
   -- a line inside a task
-  line_told : (above : List LineForm) (f : LineForm) (r : AreTold above) (calls : List Call) (groups : List Group) → tasks_above (f ∷ above) ≡ tasks_above above → calls_above (f ∷ above) ≡ r.done ++ calls ∷ [] → groups_above (f ∷ above) ≡ r.done_groups ++ groups ∷ [] → is_of_tasks f ≡ true → lines_so_far names bitmaps (group_above (f ∷ above)) (began_at (f ∷ above)) calls groups ≡ lines_so_far names bitmaps (group_above above) (began_at above) r.calls r.groups ++ f ∷ [] → AreTold (f ∷ above)
+  line_told : (above : List LineForm) (f : LineForm) (r : AreTold above) (calls : List Call) (groups : List Group) → (told (f ∷ above)).tasks ≡ (told above).tasks → (told (f ∷ above)).calls ≡ r.done ++ calls ∷ [] → (told (f ∷ above)).groups ≡ r.done_groups ++ groups ∷ [] → is_of_tasks f ≡ true → lines_so_far names bitmaps (told (f ∷ above)).group (told (f ∷ above)).began calls groups ≡ lines_so_far names bitmaps (told above).group (told above).began r.calls r.groups ++ f ∷ [] → AreTold (f ∷ above)
   line_told above f r calls groups tasks all grouped e more =
       let before : List LineForm = all_task_lines r.done_names r.done r.done_groups in
-      let old : List LineForm = lines_so_far names bitmaps (group_above above) (began_at above) r.calls r.groups in
+      let old : List LineForm = lines_so_far names bitmaps (told above).group (told above).began r.calls r.groups in
       let here : filter is_of_tasks (f ∷ above) ≡ f ∷ filter is_of_tasks above = ap (λ t. cond t (f ∷ filter is_of_tasks above) (filter is_of_tasks above)) e in
       let line : told_above (f ∷ above) ≡ told_above above ++ f ∷ [] = ap reverse here ∙ reverse-append (f ∷ []) (filter is_of_tasks above) in
       record {
@@ -220,173 +219,173 @@ module _ (names bitmaps : List (List ℕ)) where
         names_are = tasks ∙ r.names_are;
         all_are = all;
         groups_are = grouped;
-        told = line ∙ ap (λ (t : List LineForm). t ++ f ∷ []) r.told ∙ append_assoc before (TaskLine r.name ∷ old) (f ∷ []) ∙ ap (λ (t : List LineForm). before ++ TaskLine r.name ∷ t) (sym more);
+        written = line ∙ ap (λ (t : List LineForm). t ++ f ∷ []) r.written ∙ append_assoc before (TaskLine r.name ∷ old) (f ∷ []) ∙ ap (λ (t : List LineForm). before ++ TaskLine r.name ∷ t) (sym more);
       }
 
   -- a task ends
   end_told : (s : Setting) (above : List LineForm) → AreGoodLines s (EndLine ∷ above) → AreTold above → AreClosed (EndLine ∷ above)
   end_told s above g r =
-      let none : group_above above ≡ None = none_open (group_above above) (tests s above EndLine g).group in
+      let none : (told above).group ≡ None = none_open (told above).group (tests s above EndLine g).group in
       let before : List LineForm = all_task_lines r.done_names r.done r.done_groups in
       let own : List LineForm = closed_lines names bitmaps r.calls r.groups in
-      let closed : lines_so_far names bitmaps (group_above above) (began_at above) r.calls r.groups ≡ own = ap (λ (o : Option Opened). lines_so_far names bitmaps o (began_at above) r.calls r.groups) none ∙ lines_closed names bitmaps (began_at above) r.calls r.groups in
+      let closed : lines_so_far names bitmaps (told above).group (told above).began r.calls r.groups ≡ own = ap (λ (o : Option Opened). lines_so_far names bitmaps o (told above).began r.calls r.groups) none ∙ lines_closed names bitmaps (told above).began r.calls r.groups in
       let line : told_above (EndLine ∷ above) ≡ told_above above ++ EndLine ∷ [] = reverse-append (EndLine ∷ []) (filter is_of_tasks above) in
       let lists : length (r.done ++ r.calls ∷ []) ≡ length (r.done_names ++ r.name ∷ []) = ap length (sym r.all_are) ∙ calls_listed above ∙ ap length r.names_are in
       let grouped : length (r.done_groups ++ r.groups ∷ []) ≡ length (r.done_names ++ r.name ∷ []) = ap length (sym r.groups_are) ∙ groups_listed above ∙ ap length r.names_are in
       let names_more = length-append r.done_names (r.name ∷ []) in
       let pushed = tasks_pushed r.done_names r.done r.done_groups r.name r.calls r.groups (omega (arith, lists, names_more, length-append r.done (r.calls ∷ []))) (omega (arith, grouped, names_more, length-append r.done_groups (r.groups ∷ []))) in
-      let all : all_task_lines (tasks_above above) (calls_above above) (groups_above above) ≡ before ++ task_lines r.name r.calls r.groups = ap (λ (t : List (List ℕ)). all_task_lines t (calls_above above) (groups_above above)) r.names_are ∙ ap₂ (λ (x : List (List Call)) (y : List (List Group)). all_task_lines (r.done_names ++ r.name ∷ []) x y) r.all_are r.groups_are ∙ pushed in
-      line ∙ ap (λ (t : List LineForm). t ++ EndLine ∷ []) (r.told ∙ ap (λ (t : List LineForm). before ++ TaskLine r.name ∷ t) closed) ∙ append_assoc before (TaskLine r.name ∷ own) (EndLine ∷ []) ∙ sym all
+      let all : all_task_lines (told above).tasks (told above).calls (told above).groups ≡ before ++ task_lines r.name r.calls r.groups = ap (λ (t : List (List ℕ)). all_task_lines t (told above).calls (told above).groups) r.names_are ∙ ap₂ (λ (x : List (List Call)) (y : List (List Group)). all_task_lines (r.done_names ++ r.name ∷ []) x y) r.all_are r.groups_are ∙ pushed in
+      line ∙ ap (λ (t : List LineForm). t ++ EndLine ∷ []) (r.written ∙ ap (λ (t : List LineForm). before ++ TaskLine r.name ∷ t) closed) ∙ append_assoc before (TaskLine r.name ∷ own) (EndLine ∷ []) ∙ sym all
 
   -- the line of a good line's call
-  call_back : (s : Setting) (above : List LineForm) (layers : List (List ℕ)) (act : Act) → AreGoodLines s (CallLine layers act ∷ above) → IsFoundIn names (and_names (names_above above) layers) → IsFoundIn bitmaps (bitmaps_above above) → line_of_call names bitmaps (call_below above layers act) ≡ CallLine layers act
+  call_back : (s : Setting) (above : List LineForm) (layers : List (List ℕ)) (act : Act) → AreGoodLines s (CallLine layers act ∷ above) → IsFoundIn names (and_names (told above).names layers) → IsFoundIn bitmaps (told above).bitmap_names → line_of_call names bitmaps (call_below (told above) layers act) ≡ CallLine layers act
   call_back s above layers act g found stored =
       let h = here s above (CallLine layers act) g in
       let t = tests s above (CallLine layers act) g in
-      let more : List (List ℕ) = and_names (names_above above) layers in
-      line_back names bitmaps (bitmaps_above above) layers act h.3 t.range (bitmap_back bitmaps (bitmaps_above above) layers act stored t.named) (map (place_among more) layers) (layers_back names more layers found (all_named (names_above above) layers))
+      let more : List (List ℕ) = and_names (told above).names layers in
+      line_back names bitmaps (told above).bitmap_names layers act h.3 t.range (bitmap_back bitmaps (told above).bitmap_names layers act stored t.named) (map (place_among more) layers) (layers_back names more layers found (all_named (told above).names layers))
 
   -- A line of a task under way.
-  module _ (s : Setting) (above : List LineForm) (good : AreGoodLines s above) (due : section_of above ≡ CallsAreDue) (r : AreTold above) where
+  module _ (s : Setting) (above : List LineForm) (good : AreGoodLines s above) (due : (told above).section ≡ CallsAreDue) (r : AreTold above) where
     -- what is known of the task
     abbrev known : IsTask (view_of above) r.calls r.groups
     known = nearest_task s above good due r.done r.done_groups r.calls r.groups r.all_are r.groups_are
 
     -- the same, where the group that is open is known
-    state_at : (o : Option Opened) → group_above above ≡ o → OpenState o (calls_so_far above) (began_at above) (names_above above) r.calls r.groups
+    state_at : (o : Option Opened) → (told above).group ≡ o → OpenState o (told above).so_far (told above).began (told above).names r.calls r.groups
     state_at o e =
-        let P : Option Opened → Type 0 = λ k. OpenState k (calls_so_far above) (began_at above) (names_above above) r.calls r.groups in
+        let P : Option Opened → Type 0 = λ k. OpenState k (told above).so_far (told above).began (told above).names r.calls r.groups in
         subst P e known.state
 
     -- the task's lines so far, where this group is open
-    lines_at : (o : Option Opened) → group_above above ≡ o → lines_so_far names bitmaps o (began_at above) r.calls r.groups ≡ lines_so_far names bitmaps (group_above above) (began_at above) r.calls r.groups
-    lines_at o e = ap (λ (k : Option Opened). lines_so_far names bitmaps k (began_at above) r.calls r.groups) (sym e)
+    lines_at : (o : Option Opened) → (told above).group ≡ o → lines_so_far names bitmaps o (told above).began r.calls r.groups ≡ lines_so_far names bitmaps (told above).group (told above).began r.calls r.groups
+    lines_at o e = ap (λ (k : Option Opened). lines_so_far names bitmaps k (told above).began r.calls r.groups) (sym e)
 
     -- a call that neither begins nor ends an update
-    plain_told : (layers : List (List ℕ)) (act : Act) → is_beginning act ≡ false → is_ending act ≡ false → line_of_call names bitmaps (call_below above layers act) ≡ CallLine layers act → AreTold (CallLine layers act ∷ above)
+    plain_told : (layers : List (List ℕ)) (act : Act) → is_beginning act ≡ false → is_ending act ≡ false → line_of_call names bitmaps (call_below (told above) layers act) ≡ CallLine layers act → AreTold (CallLine layers act ∷ above)
     plain_told layers act begins ends line =
-        let c : Call = call_below above layers act in
+        let c : Call = call_below (told above) layers act in
         let e = plain_groups above layers act begins ends in
-        let end : opened_before (group_above above) (began_at above) (length r.calls + 1) ≡ [] = opened_behind (group_above above) (calls_so_far above) (began_at above) (length r.calls + 1) (names_above above) r.calls r.groups known.state (omega (arith, known.long)) in
-        let more = call_line names bitmaps (group_above above) (group_above above) (began_at above) (began_at above) r.calls r.groups c (CallLine layers act) known.inside line (λ m low. refl) end in
+        let end : opened_before (told above).group (told above).began (length r.calls + 1) ≡ [] = opened_behind (told above).group (told above).so_far (told above).began (length r.calls + 1) (told above).names r.calls r.groups known.state (omega (arith, known.long)) in
+        let more = call_line names bitmaps (told above).group (told above).group (told above).began (told above).began r.calls r.groups c (CallLine layers act) known.inside line (λ m low. refl) end in
         line_told above (CallLine layers act) r (r.calls ++ c ∷ []) r.groups refl (ap (onto_last c) r.all_are ∙ onto_pushed c r.done r.calls) (e.0 ∙ r.groups_are) refl (ap₂ (λ (o : Option Opened) (n : ℕ). lines_so_far names bitmaps o n (r.calls ++ c ∷ []) r.groups) e.1 e.2 ∙ more)
 
     -- an update begins, and ends
-    refresh_told : (l : List ℕ) → group_above above ≡ None → line_of_call names bitmaps (call_below above (l ∷ []) RefreshAct) ≡ CallLine (l ∷ []) RefreshAct → AreTold (CallLine (l ∷ []) RefreshAct ∷ above)
+    refresh_told : (l : List ℕ) → (told above).group ≡ None → line_of_call names bitmaps (call_below (told above) (l ∷ []) RefreshAct) ≡ CallLine (l ∷ []) RefreshAct → AreTold (CallLine (l ∷ []) RefreshAct ∷ above)
     refresh_told l none line =
         let f : LineForm = CallLine (l ∷ []) RefreshAct in
-        let c : Call = call_below above (l ∷ []) RefreshAct in
-        let so_far : ℕ = calls_so_far above in
-        let more = call_line names bitmaps None (Some (Updating l)) (began_at above) so_far r.calls r.groups c f known.inside line (λ m low. update_before l so_far m ∙ sym (none_before names bitmaps (began_at above) m)) (update_before l so_far (length r.calls + 1)) in
+        let c : Call = call_below (told above) (l ∷ []) RefreshAct in
+        let so_far : ℕ = (told above).so_far in
+        let more = call_line names bitmaps None (Some (Updating l)) (told above).began so_far r.calls r.groups c f known.inside line (λ m low. update_before l so_far m ∙ sym (none_before names bitmaps (told above).began m)) (update_before l so_far (length r.calls + 1)) in
         line_told above f r (r.calls ++ c ∷ []) r.groups refl (ap (onto_last c) r.all_are ∙ onto_pushed c r.done r.calls) r.groups_are refl (more ∙ ap (λ (t : List LineForm). t ++ f ∷ []) (lines_at None none))
 
-    endrefresh_told : (l : List ℕ) (full : Bool) → group_above above ≡ Some (Updating l) → line_of_call names bitmaps (call_below above (l ∷ []) (EndRefreshAct full)) ≡ CallLine (l ∷ []) (EndRefreshAct full) → AreTold (CallLine (l ∷ []) (EndRefreshAct full) ∷ above)
+    endrefresh_told : (l : List ℕ) (full : Bool) → (told above).group ≡ Some (Updating l) → line_of_call names bitmaps (call_below (told above) (l ∷ []) (EndRefreshAct full)) ≡ CallLine (l ∷ []) (EndRefreshAct full) → AreTold (CallLine (l ∷ []) (EndRefreshAct full) ∷ above)
     endrefresh_told l full same line =
         let f : LineForm = CallLine (l ∷ []) (EndRefreshAct full) in
-        let c : Call = call_below above (l ∷ []) (EndRefreshAct full) in
-        let slot : ℕ = place_among (names_above above) l in
-        let group : Group = group_from above (Slot slot) (calls_so_far above + 1) in
-        let state : OpenState (Some (Updating l)) (calls_so_far above) (began_at above) (names_above above) r.calls r.groups = state_at (Some (Updating l)) same in
-        let begins : is_update (r.calls ++ c ∷ []) group ≡ true = ap are_updating (drop_pushed r.calls c (began_at above) (omega (arith, state.0.order, known.long))) ∙ update_begins slot (drop (began_at above) r.calls) c state.2 in
+        let c : Call = call_below (told above) (l ∷ []) (EndRefreshAct full) in
+        let slot : ℕ = place_among (told above).names l in
+        let group : Group = group_from (told above) (Slot slot) ((told above).so_far + 1) in
+        let state : OpenState (Some (Updating l)) (told above).so_far (told above).began (told above).names r.calls r.groups = state_at (Some (Updating l)) same in
+        let begins : is_update (r.calls ++ c ∷ []) group ≡ true = ap are_updating (drop_pushed r.calls c (told above).began (omega (arith, state.0.order, known.long))) ∙ update_begins slot (drop (told above).began r.calls) c state.2 in
         let more = update_line names bitmaps l slot r.calls r.groups group c f known.inside refl begins line in
         line_told above f r (r.calls ++ c ∷ []) (r.groups ++ group ∷ []) refl (ap (onto_last c) r.all_are ∙ onto_pushed c r.done r.calls) (ap (onto_last group) r.groups_are ∙ onto_pushed group r.done_groups r.groups) refl (more ∙ ap (λ (t : List LineForm). t ++ f ∷ []) (lines_at (Some (Updating l)) same))
 
     -- a lock or a hold begins
-    lock_told : (name : List ℕ) → group_above above ≡ None → AreTold (LockLine name ∷ above)
+    lock_told : (name : List ℕ) → (told above).group ≡ None → AreTold (LockLine name ∷ above)
     lock_told name none =
-        let begun = group_begun names bitmaps (Locked name) (began_at above) r.calls r.groups in
+        let begun = group_begun names bitmaps (Locked name) (told above).began r.calls r.groups in
         line_told above (LockLine name) r r.calls r.groups refl r.all_are r.groups_are refl (ap (λ n. lines_so_far names bitmaps (Some (Locked name)) n r.calls r.groups) (sym known.long) ∙ begun ∙ ap (λ (t : List LineForm). t ++ LockLine name ∷ []) (lines_at None none))
 
-    hold_told : group_above above ≡ None → AreTold (HoldLine ∷ above)
+    hold_told : (told above).group ≡ None → AreTold (HoldLine ∷ above)
     hold_told none =
-        let begun = group_begun names bitmaps Held (began_at above) r.calls r.groups in
+        let begun = group_begun names bitmaps Held (told above).began r.calls r.groups in
         line_told above HoldLine r r.calls r.groups refl r.all_are r.groups_are refl (ap (λ n. lines_so_far names bitmaps (Some Held) n r.calls r.groups) (sym known.long) ∙ begun ∙ ap (λ (t : List LineForm). t ++ HoldLine ∷ []) (lines_at None none))
 
     -- a lock or a hold ends
-    unlock_told : (name : List ℕ) → group_above above ≡ Some (Locked name) → began_at above < calls_so_far above → IsFoundIn names (names_above above) → AreTold (UnlockLine name ∷ above)
+    unlock_told : (name : List ℕ) → (told above).group ≡ Some (Locked name) → (told above).began < (told above).so_far → IsFoundIn names (told above).names → AreTold (UnlockLine name ∷ above)
     unlock_told name same some found =
-        let slot : ℕ = place_among (names_above above) name in
-        let group : Group = group_from above (Slot slot) (calls_so_far above) in
-        let state : OpenState (Some (Locked name)) (calls_so_far above) (began_at above) (names_above above) r.calls r.groups = state_at (Some (Locked name)) same in
+        let slot : ℕ = place_among (told above).names name in
+        let group : Group = group_from (told above) (Slot slot) (told above).so_far in
+        let state : OpenState (Some (Locked name)) (told above).so_far (told above).began (told above).names r.calls r.groups = state_at (Some (Locked name)) same in
         let back : slice_index_or names slot [] ≡ name = found name state.1 in
-        let none : is_update r.calls group ≡ false = locked_begin_none slot (drop (began_at above) r.calls) state.2 in
+        let none : is_update r.calls group ≡ false = locked_begin_none slot (drop (told above).began r.calls) state.2 in
         let opening : opening_lines names (Slot slot) (is_update r.calls group) ≡ LockLine name ∷ [] = ap (λ t. opening_lines names (Slot slot) t) none ∙ ap (λ (n : List ℕ). LockLine n ∷ []) back in
         let closing : closing_lines names (Slot slot) (is_update r.calls group) ≡ UnlockLine name ∷ [] = ap (λ t. closing_lines names (Slot slot) t) none ∙ ap (λ (n : List ℕ). UnlockLine n ∷ []) back in
         let ended = group_ended names bitmaps (Some (Locked name)) r.calls r.groups group (UnlockLine name ∷ []) (omega (arith, some, known.long)) (omega (arith, some, known.long)) opening closing in
         line_told above (UnlockLine name) r r.calls (r.groups ++ group ∷ []) refl r.all_are (ap (onto_last group) r.groups_are ∙ onto_pushed group r.done_groups r.groups) refl (ended ∙ ap (λ (t : List LineForm). t ++ UnlockLine name ∷ []) (lines_at (Some (Locked name)) same))
 
-    release_told : group_above above ≡ Some Held → began_at above < calls_so_far above → AreTold (ReleaseLine ∷ above)
+    release_told : (told above).group ≡ Some Held → (told above).began < (told above).so_far → AreTold (ReleaseLine ∷ above)
     release_told same some =
-        let group : Group = group_from above AllLayers (calls_so_far above) in
+        let group : Group = group_from (told above) AllLayers (told above).so_far in
         let ended = group_ended names bitmaps (Some Held) r.calls r.groups group (ReleaseLine ∷ []) (omega (arith, some, known.long)) (omega (arith, some, known.long)) refl refl in
         line_told above ReleaseLine r r.calls (r.groups ++ group ∷ []) refl r.all_are (ap (onto_last group) r.groups_are ∙ onto_pushed group r.done_groups r.groups) refl (ended ∙ ap (λ (t : List LineForm). t ++ ReleaseLine ∷ []) (lines_at (Some Held) same))
 
   -- any call
-  call_told : (s : Setting) (above : List LineForm) (layers : List (List ℕ)) (act : Act) → AreGoodLines s (CallLine layers act ∷ above) → section_of above ≡ CallsAreDue → IsFoundIn names (and_names (names_above above) layers) → IsFoundIn bitmaps (bitmaps_above above) → AreTold above → AreTold (CallLine layers act ∷ above)
+  call_told : (s : Setting) (above : List LineForm) (layers : List (List ℕ)) (act : Act) → AreGoodLines s (CallLine layers act ∷ above) → (told above).section ≡ CallsAreDue → IsFoundIn names (and_names (told above).names layers) → IsFoundIn bitmaps (told above).bitmap_names → AreTold above → AreTold (CallLine layers act ∷ above)
   call_told s above [] RefreshAct g due found stored r = absurd (cc ((here s above (CallLine [] RefreshAct) g).3.0))
   call_told s above (l ∷ []) RefreshAct g due found stored r =
-      refresh_told s above g.1 due r l (opens_none (group_above above) l (tests s above (CallLine (l ∷ []) RefreshAct) g).group) (call_back s above (l ∷ []) RefreshAct g found stored)
+      refresh_told s above g.1 due r l (opens_none (told above).group l (tests s above (CallLine (l ∷ []) RefreshAct) g).group) (call_back s above (l ∷ []) RefreshAct g found stored)
   call_told s above (l ∷ m ∷ ms) RefreshAct g due found stored r = absurd (omega (arith, (here s above (CallLine (l ∷ m ∷ ms) RefreshAct) g).3.0))
   call_told s above [] (EndRefreshAct full) g due found stored r = absurd (cc ((here s above (CallLine [] (EndRefreshAct full)) g).3.0))
   call_told s above (l ∷ []) (EndRefreshAct full) g due found stored r =
-      endrefresh_told s above g.1 due r l full (ends_same (group_above above) l full (tests s above (CallLine (l ∷ []) (EndRefreshAct full)) g).group) (call_back s above (l ∷ []) (EndRefreshAct full) g found stored)
+      endrefresh_told s above g.1 due r l full (ends_same (told above).group l full (tests s above (CallLine (l ∷ []) (EndRefreshAct full)) g).group) (call_back s above (l ∷ []) (EndRefreshAct full) g found stored)
   call_told s above (l ∷ m ∷ ms) (EndRefreshAct full) g due found stored r = absurd (omega (arith, (here s above (CallLine (l ∷ m ∷ ms) (EndRefreshAct full)) g).3.0))
   call_told s above layers act g due found stored r = plain_told s above g.1 due r layers act refl refl (call_back s above layers act g found stored)
 
   -- a line inside a task, where it stands
-  inside_told : (c : Section) (above : List LineForm) (f : LineForm) → c ≡ CallsAreDue → (AreTold above → AreTold (f ∷ above)) → Told (are_calls_due c) above → Told (are_calls_due c) (f ∷ above)
+  inside_told : (c : Section) (above : List LineForm) (f : LineForm) → c ≡ CallsAreDue → (AreTold above → AreTold (f ∷ above)) → ToldOrClosed (are_calls_due c) above → ToldOrClosed (are_calls_due c) (f ∷ above)
   inside_told c above f e go h =
-      let P : Section → Type 0 = λ k. Told (are_calls_due k) above in
-      let Q : Section → Type 0 = λ k. Told (are_calls_due k) (f ∷ above) in
+      let P : Section → Type 0 = λ k. ToldOrClosed (are_calls_due k) above in
+      let Q : Section → Type 0 = λ k. ToldOrClosed (are_calls_due k) (f ∷ above) in
       let before : AreTold above = subst P e h in
       subst Q (sym e) (go before)
 
   -- Good lines tell their tasks.
-  pub tasks_told : (s : Setting) (above : List LineForm) → AreGoodLines s above → IsFoundIn names (names_above above) → IsFoundIn bitmaps (bitmaps_above above) → Told (are_calls_due (section_of above)) above
+  pub tasks_told : (s : Setting) (above : List LineForm) → AreGoodLines s above → IsFoundIn names (told above).names → IsFoundIn bitmaps (told above).bitmap_names → ToldOrClosed (are_calls_due (told above).section) above
   tasks_told s [] g found stored = refl
   tasks_told s (ScreenLine w h d ∷ above) g found stored =
-      told_closed (are_calls_due (section_of above)) above (no_calls_in_screen (section_of above) (here s above (ScreenLine w h d) g).1) (tasks_told s above g.1 found stored)
+      told_closed (are_calls_due (told above).section) above (no_calls_in_screen (told above).section (here s above (ScreenLine w h d) g).1) (tasks_told s above g.1 found stored)
   tasks_told s (GlyphLine code rows ∷ above) g found stored =
-      let off = no_calls_in_assets (section_of above) (here s above (GlyphLine code rows) g).1 in
-      closed_told (are_calls_due (section_of above)) (GlyphLine code rows ∷ above) off (told_closed (are_calls_due (section_of above)) above off (tasks_told s above g.1 found stored))
+      let off = no_calls_in_assets (told above).section (here s above (GlyphLine code rows) g).1 in
+      closed_told (are_calls_due (told above).section) (GlyphLine code rows ∷ above) off (told_closed (are_calls_due (told above).section) above off (tasks_told s above g.1 found stored))
   tasks_told s (BitmapLine name w h d ∷ above) g found stored =
-      let off = no_calls_in_assets (section_of above) (here s above (BitmapLine name w h d) g).1 in
-      closed_told (are_calls_due (section_of above)) (BitmapLine name w h d ∷ above) off (told_closed (are_calls_due (section_of above)) above off (tasks_told s above g.1 found (found_pushed bitmaps (bitmaps_above above) name stored)))
+      let off = no_calls_in_assets (told above).section (here s above (BitmapLine name w h d) g).1 in
+      closed_told (are_calls_due (told above).section) (BitmapLine name w h d ∷ above) off (told_closed (are_calls_due (told above).section) above off (tasks_told s above g.1 found (found_pushed bitmaps (told above).bitmap_names name stored)))
   tasks_told s (RowLine bytes ∷ above) g found stored =
-      let off = no_calls_in_assets (section_of above) (rows_in_assets s above g.1 (here s above (RowLine bytes) g).0) in
-      closed_told (are_calls_due (section_of above)) (RowLine bytes ∷ above) off (told_closed (are_calls_due (section_of above)) above off (tasks_told s above g.1 found stored))
+      let off = no_calls_in_assets (told above).section (rows_in_assets s above g.1 (here s above (RowLine bytes) g).0) in
+      closed_told (are_calls_due (told above).section) (RowLine bytes ∷ above) off (told_closed (are_calls_due (told above).section) above off (tasks_told s above g.1 found stored))
   tasks_told s (TaskLine name ∷ above) g found stored =
-      let off = no_calls_at_task (section_of above) (here s above (TaskLine name) g).1 in
-      task_told s above name g.1 off (told_closed (are_calls_due (section_of above)) above off (tasks_told s above g.1 found stored))
+      let off = no_calls_at_task (told above).section (here s above (TaskLine name) g).1 in
+      task_told s above name g.1 off (told_closed (are_calls_due (told above).section) above off (tasks_told s above g.1 found stored))
   tasks_told s (EndLine ∷ above) g found stored =
-      let P : Section → Type 0 = λ k. Told (are_calls_due k) above in
-      end_told s above g (subst P (in_calls (section_of above) (here s above EndLine g).1) (tasks_told s above g.1 found stored))
+      let P : Section → Type 0 = λ k. ToldOrClosed (are_calls_due k) above in
+      end_told s above g (subst P (in_calls (told above).section (here s above EndLine g).1) (tasks_told s above g.1 found stored))
   tasks_told s (OrderLine ∷ above) g found stored =
-      told_closed (are_calls_due (section_of above)) above (ap are_calls_due (in_tasks (section_of above) (and_parts (are_tasks_due (section_of above)) _ (here s above OrderLine g).1).0)) (tasks_told s above g.1 found stored)
+      told_closed (are_calls_due (told above).section) above (ap are_calls_due (in_tasks (told above).section (and_parts (are_tasks_due (told above).section) _ (here s above OrderLine g).1).0)) (tasks_told s above g.1 found stored)
   tasks_told s (NumbersLine zs ∷ above) g found stored =
-      let off = no_calls_in_numbers (section_of above) (here s above (NumbersLine zs) g).1 in
-      closed_told (are_calls_due (section_of above)) (NumbersLine zs ∷ above) off (told_closed (are_calls_due (section_of above)) above off (tasks_told s above g.1 found stored))
+      let off = no_calls_in_numbers (told above).section (here s above (NumbersLine zs) g).1 in
+      closed_told (are_calls_due (told above).section) (NumbersLine zs ∷ above) off (told_closed (are_calls_due (told above).section) above off (tasks_told s above g.1 found stored))
   tasks_told s (ReportLine ∷ above) g found stored =
-      told_closed (are_calls_due (section_of above)) above (ap are_calls_due (in_tasks (section_of above) (and_parts (are_tasks_due (section_of above)) _ (here s above ReportLine g).1).0)) (tasks_told s above g.1 found stored)
+      told_closed (are_calls_due (told above).section) above (ap are_calls_due (in_tasks (told above).section (and_parts (are_tasks_due (told above).section) _ (here s above ReportLine g).1).0)) (tasks_told s above g.1 found stored)
   tasks_told s (CallLine layers act ∷ above) g found stored =
-      let due = in_calls (section_of above) (here s above (CallLine layers act) g).1 in
-      inside_told (section_of above) above (CallLine layers act) due (call_told s above layers act g due found stored) (tasks_told s above g.1 (found_before names (names_above above) layers found) stored)
+      let due = in_calls (told above).section (here s above (CallLine layers act) g).1 in
+      inside_told (told above).section above (CallLine layers act) due (call_told s above layers act g due found stored) (tasks_told s above g.1 (found_before names (told above).names layers found) stored)
   tasks_told s (LockLine name ∷ above) g found stored =
-      let due = in_calls (section_of above) (here s above (LockLine name) g).1 in
-      inside_told (section_of above) above (LockLine name) due (λ r. lock_told s above g.1 due r name (none_open (group_above above) (tests s above (LockLine name) g).group)) (tasks_told s above g.1 (found_before names (names_above above) (name ∷ []) found) stored)
+      let due = in_calls (told above).section (here s above (LockLine name) g).1 in
+      inside_told (told above).section above (LockLine name) due (λ r. lock_told s above g.1 due r name (none_open (told above).group (tests s above (LockLine name) g).group)) (tasks_told s above g.1 (found_before names (told above).names (name ∷ []) found) stored)
   tasks_told s (UnlockLine name ∷ above) g found stored =
-      let due = in_calls (section_of above) (here s above (UnlockLine name) g).1 in
-      let t = and_parts (is_lock_on name (group_above above)) _ (tests s above (UnlockLine name) g).group in
-      let before = found_before names (names_above above) (name ∷ []) found in
-      inside_told (section_of above) above (UnlockLine name) due (λ r. unlock_told s above g.1 due r name (unlocks_same (group_above above) name t.0) (ltb-true _ _ t.1) before) (tasks_told s above g.1 before stored)
+      let due = in_calls (told above).section (here s above (UnlockLine name) g).1 in
+      let t = and_parts (is_lock_on name (told above).group) _ (tests s above (UnlockLine name) g).group in
+      let before = found_before names (told above).names (name ∷ []) found in
+      inside_told (told above).section above (UnlockLine name) due (λ r. unlock_told s above g.1 due r name (unlocks_same (told above).group name t.0) (ltb-true _ _ t.1) before) (tasks_told s above g.1 before stored)
   tasks_told s (HoldLine ∷ above) g found stored =
-      let due = in_calls (section_of above) (here s above HoldLine g).1 in
-      inside_told (section_of above) above HoldLine due (λ r. hold_told s above g.1 due r (none_open (group_above above) (tests s above HoldLine g).group)) (tasks_told s above g.1 found stored)
+      let due = in_calls (told above).section (here s above HoldLine g).1 in
+      inside_told (told above).section above HoldLine due (λ r. hold_told s above g.1 due r (none_open (told above).group (tests s above HoldLine g).group)) (tasks_told s above g.1 found stored)
   tasks_told s (ReleaseLine ∷ above) g found stored =
-      let due = in_calls (section_of above) (here s above ReleaseLine g).1 in
-      let t = and_parts (is_hold (group_above above)) _ (tests s above ReleaseLine g).group in
-      inside_told (section_of above) above ReleaseLine due (λ r. release_told s above g.1 due r (releases_held (group_above above) t.0) (ltb-true _ _ t.1)) (tasks_told s above g.1 found stored)
+      let due = in_calls (told above).section (here s above ReleaseLine g).1 in
+      let t = and_parts (is_hold (told above).group) _ (tests s above ReleaseLine g).group in
+      inside_told (told above).section above ReleaseLine due (λ r. release_told s above g.1 due r (releases_held (told above).group t.0) (ltb-true _ _ t.1)) (tasks_told s above g.1 found stored)
 
   -- So they are those of all tasks where no task is under way.
-  pub tasks_closed : (s : Setting) (above : List LineForm) → AreGoodLines s above → are_calls_due (section_of above) ≡ false → IsFoundIn names (names_above above) → IsFoundIn bitmaps (bitmaps_above above) → AreClosed above
-  tasks_closed s above g e found stored = told_closed (are_calls_due (section_of above)) above e (tasks_told s above g found stored)
+  pub tasks_closed : (s : Setting) (above : List LineForm) → AreGoodLines s above → are_calls_due (told above).section ≡ false → IsFoundIn names (told above).names → IsFoundIn bitmaps (told above).bitmap_names → AreClosed above
+  tasks_closed s above g e found stored = told_closed (are_calls_due (told above).section) above e (tasks_told s above g found stored)

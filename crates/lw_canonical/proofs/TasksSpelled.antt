@@ -1,15 +1,14 @@
 -- The lines of a script's tasks, over any base of it, are the tasks of a script alone.
 use Rattle.std.proofs.Common.{◌≡◌, ℕ, ◌+◌, ◌<◌, ◌≤◌, ◌==◌, Bool, true, false, ◌||◌, cond, nat_lt, List, [], ◌∷◌, ◌++◌, length, map, filter, reverse, Ok, refl, sym, ap, subst, ◌∙◌, arith, length-append}
 use Rattle.std.specs.List.{list_all, flat_map, range_with_len}
-use Rattle.lw_planes.proofs.GridLaws.{map-range-same}
+use Rattle.lw_planes.proofs.GridLaws.{map_range_same}
 use Rattle.lw_calls.specs.declared.form.Form.TheVariants.{Plain}
 use Rattle.lw_grammar.specs.LineForms.{LineForm, ScreenLine, GlyphLine, BitmapLine, RowLine, TaskLine, EndLine, OrderLine, NumbersLine, ReportLine, CallLine, LockLine, UnlockLine, HoldLine, ReleaseLine}
-use Rattle.lw_grammar.specs.LinesAbove.{Section, ScreenIsDue, AssetsAreDue, CallsAreDue, TasksAreDue, NumbersAreDue, NothingIsDue, section_of, rows_due, tasks_above, glyph_above, order_above, plan_above}
-use Rattle.lw_grammar.specs.Script.{Setting, is_skipped, are_assets_due, are_calls_due, are_tasks_due, is_nothing_due, is_whole}
-use Rattle.lw_grammar.specs.ScriptReading.{line_read, IsGoodLine, AreGoodLines}
+use Rattle.lw_grammar.specs.Told.{Section, ScreenIsDue, AssetsAreDue, CallsAreDue, TasksAreDue, NumbersAreDue, NothingIsDue, told, plan_of}
+use Rattle.lw_grammar.specs.Script.{Setting, is_skipped, are_assets_due, are_calls_due, are_tasks_due, is_nothing_due, line_read, may_end, IsGoodLine, AreGoodLines}
 use Rattle.lw_canonical.specs.Spelling.{spelled}
 use Rattle.lw_canonical.specs.Canonical.{lines_of_glyph}
-use Rattle.lw_grammar.proofs.ScriptAnswer.{rows_in_assets}
+use Rattle.lw_grammar.proofs.ScriptOutcome.{rows_in_assets}
 use Rattle.lw_grammar.proofs.ScriptSizes.{here, tests, has_begun, has_screen, begun_tasks, MayEnd, whole_ends}
 use Rattle.lw_canonical.proofs.Rearranged.{is_of_tasks, is_of_bitmaps, glyphs_in_order, screen_line_of, base_of, alone, AreSpelled, HasOneSpelling, IsBaseOf}
 use Rattle.lw_canonical.proofs.NotionsAlike.{bare, section_alone, AreAlike, base_below, assets_are, calls_screen, numbers_screen, order_screen, report_screen, alike}
@@ -24,14 +23,14 @@ neither true b e h = absurd (true≢false e)
 neither false b e h = h
 
 -- a good line of tasks is spelled over what stands below it
-one_more : HasOneSpelling → (s : Setting) (above new : List LineForm) (f : LineForm) → AreGoodLines s (f ∷ above) → is_of_tasks f ≡ true → (rows_due above == 0) ≡ true → is_inner (section_of above) ≡ true → AreAlike above new → AreSpelled (alone s) new → AreSpelled (alone s) (f ∷ new)
+one_more : HasOneSpelling → (s : Setting) (above new : List LineForm) (f : LineForm) → AreGoodLines s (f ∷ above) → is_of_tasks f ≡ true → ((told above).rows_due == 0) ≡ true → is_inner (told above).section ≡ true → AreAlike above new → AreSpelled (alone s) new → AreSpelled (alone s) (f ∷ new)
 one_more one s above new f g o e c a spelled_below =
     let good : IsGoodLine s above f = g.0 in
     let same : spelled f ≡ good.line = one s above good.line f good.read in
-    let read : line_read s above (spelled f) ≡ Ok f = ap (line_read s above) same ∙ good.read in
-    let i = inner (section_of above) c in
-    let section : section_of new ≡ section_of above = a.section ∙ i.same in
-    let here_too : is_nothing_due (section_of new) ≡ false = ap is_nothing_due section ∙ i.nothing in
+    let read : line_read s (told above) (spelled f) ≡ Ok f = ap (line_read s (told above)) same ∙ good.read in
+    let i = inner (told above).section c in
+    let section : (told new).section ≡ (told above).section = a.section ∙ i.same in
+    let here_too : is_nothing_due (told new).section ≡ false = ap is_nothing_due section ∙ i.nothing in
     (read_alone s above new f (spelled f) o e c a (tests s above f g) read, neither (is_skipped (spelled f)) _ (task_not_skipped f o) here_too, spelled_below)
 
 -- where a line of a task stands, calls are due
@@ -53,78 +52,78 @@ first_inner NumbersAreDue tasks e b n = absurd (false≢true e)
 first_inner NothingIsDue tasks e b n = absurd (false≢true e)
 
 -- one task is the first one
-first_here : (s : Setting) (above : List LineForm) (name : List ℕ) → AreGoodLines s (TaskLine name ∷ above) → length (tasks_above (TaskLine name ∷ above)) ≤ 1 → (is_inner (section_of above) ≡ true) × (has_screen (section_of above) ≡ true)
+first_here : (s : Setting) (above : List LineForm) (name : List ℕ) → AreGoodLines s (TaskLine name ∷ above) → length (told (TaskLine name ∷ above)).tasks ≤ 1 → (is_inner (told above).section ≡ true) × (has_screen (told above).section ≡ true)
 first_here s above name g few =
-    first_inner (section_of above) (length (tasks_above above)) (here s above (TaskLine name) g).1 (begun_tasks s above g.1) (omega (arith, few, length-append (tasks_above above) (name ∷ [])))
+    first_inner (told above).section (length (told above).tasks) (here s above (TaskLine name) g).1 (begun_tasks s above g.1) (omega (arith, few, length-append (told above).tasks (name ∷ [])))
 
 -- before the first task nothing but the base is spelled
-assets_over : (s : Setting) (above base : List LineForm) → AreGoodLines s above → section_of above ≡ AssetsAreDue → AreSpelled (alone s) base → AreSpelled (alone s) (filter is_of_tasks above ++ base)
+assets_over : (s : Setting) (above base : List LineForm) → AreGoodLines s above → (told above).section ≡ AssetsAreDue → AreSpelled (alone s) base → AreSpelled (alone s) (filter is_of_tasks above ++ base)
 assets_over s above base g c k =
     subst (λ (fs : List LineForm). AreSpelled (alone s) (fs ++ base)) (sym (bare s above g (ap has_begun c)).of_tasks) k
 
 -- The lines of at most one task are spelled over a spelled base.
-tasks_over : HasOneSpelling → (s : Setting) (above base : List LineForm) → AreGoodLines s above → has_screen (section_of above) ≡ true → length (tasks_above above) ≤ 1 → IsBaseOf above base → AreSpelled (alone s) base → AreSpelled (alone s) (filter is_of_tasks above ++ base)
+tasks_over : HasOneSpelling → (s : Setting) (above base : List LineForm) → AreGoodLines s above → has_screen (told above).section ≡ true → length (told above).tasks ≤ 1 → IsBaseOf above base → AreSpelled (alone s) base → AreSpelled (alone s) (filter is_of_tasks above ++ base)
 tasks_over one s [] base g e few b k = absurd (false≢true e)
 tasks_over one s (ScreenLine w h d ∷ above) base g e few b k = assets_over s (ScreenLine w h d ∷ above) base g refl k
 tasks_over one s (GlyphLine code rows ∷ above) base g e few b k =
-    assets_over s (GlyphLine code rows ∷ above) base g (assets_are (section_of above) (here s above (GlyphLine code rows) g).1) k
+    assets_over s (GlyphLine code rows ∷ above) base g (assets_are (told above).section (here s above (GlyphLine code rows) g).1) k
 tasks_over one s (BitmapLine name w h d ∷ above) base g e few b k =
-    assets_over s (BitmapLine name w h d ∷ above) base g (assets_are (section_of above) (here s above (BitmapLine name w h d) g).1) k
+    assets_over s (BitmapLine name w h d ∷ above) base g (assets_are (told above).section (here s above (BitmapLine name w h d) g).1) k
 tasks_over one s (RowLine bytes ∷ above) base g e few b k =
-    assets_over s (RowLine bytes ∷ above) base g (assets_are (section_of above) (rows_in_assets s above g.1 (here s above (RowLine bytes) g).0)) k
+    assets_over s (RowLine bytes ∷ above) base g (assets_are (told above).section (rows_in_assets s above g.1 (here s above (RowLine bytes) g).0)) k
 tasks_over one s (TaskLine name ∷ above) base g e few b k =
     let h = here s above (TaskLine name) g in
     let first = first_here s above name g few in
     let below = base_below (TaskLine name) above base refl b in
-    one_more one s above _ (TaskLine name) g refl h.0 first.0 (alike s above base g.1 first.1 below) (tasks_over one s above base g.1 first.1 (omega (arith, few, length-append (tasks_above above) (name ∷ []))) below k)
+    one_more one s above _ (TaskLine name) g refl h.0 first.0 (alike s above base g.1 first.1 below) (tasks_over one s above base g.1 first.1 (omega (arith, few, length-append (told above).tasks (name ∷ []))) below k)
 tasks_over one s (EndLine ∷ above) base g e few b k =
     let h = here s above EndLine g in
-    let screen = calls_screen (section_of above) h.1 in
+    let screen = calls_screen (told above).section h.1 in
     let below = base_below EndLine above base refl b in
-    one_more one s above _ EndLine g refl h.0 (calls_inner (section_of above) h.1) (alike s above base g.1 screen below) (tasks_over one s above base g.1 screen few below k)
+    one_more one s above _ EndLine g refl h.0 (calls_inner (told above).section h.1) (alike s above base g.1 screen below) (tasks_over one s above base g.1 screen few below k)
 tasks_over one s (OrderLine ∷ above) base g e few b k =
     tasks_over one s above base g.1 (order_screen s above g) few (base_below OrderLine above base refl b) k
 tasks_over one s (NumbersLine zs ∷ above) base g e few b k =
-    tasks_over one s above base g.1 (numbers_screen (section_of above) (here s above (NumbersLine zs) g).1) few (base_below (NumbersLine zs) above base refl b) k
+    tasks_over one s above base g.1 (numbers_screen (told above).section (here s above (NumbersLine zs) g).1) few (base_below (NumbersLine zs) above base refl b) k
 tasks_over one s (ReportLine ∷ above) base g e few b k =
     tasks_over one s above base g.1 (report_screen s above g) few (base_below ReportLine above base refl b) k
 tasks_over one s (CallLine layers act ∷ above) base g e few b k =
     let h = here s above (CallLine layers act) g in
-    let screen = calls_screen (section_of above) h.1 in
+    let screen = calls_screen (told above).section h.1 in
     let below = base_below (CallLine layers act) above base refl b in
-    one_more one s above _ (CallLine layers act) g refl h.0 (calls_inner (section_of above) h.1) (alike s above base g.1 screen below) (tasks_over one s above base g.1 screen few below k)
+    one_more one s above _ (CallLine layers act) g refl h.0 (calls_inner (told above).section h.1) (alike s above base g.1 screen below) (tasks_over one s above base g.1 screen few below k)
 tasks_over one s (LockLine name ∷ above) base g e few b k =
     let h = here s above (LockLine name) g in
-    let screen = calls_screen (section_of above) h.1 in
+    let screen = calls_screen (told above).section h.1 in
     let below = base_below (LockLine name) above base refl b in
-    one_more one s above _ (LockLine name) g refl h.0 (calls_inner (section_of above) h.1) (alike s above base g.1 screen below) (tasks_over one s above base g.1 screen few below k)
+    one_more one s above _ (LockLine name) g refl h.0 (calls_inner (told above).section h.1) (alike s above base g.1 screen below) (tasks_over one s above base g.1 screen few below k)
 tasks_over one s (UnlockLine name ∷ above) base g e few b k =
     let h = here s above (UnlockLine name) g in
-    let screen = calls_screen (section_of above) h.1 in
+    let screen = calls_screen (told above).section h.1 in
     let below = base_below (UnlockLine name) above base refl b in
-    one_more one s above _ (UnlockLine name) g refl h.0 (calls_inner (section_of above) h.1) (alike s above base g.1 screen below) (tasks_over one s above base g.1 screen few below k)
+    one_more one s above _ (UnlockLine name) g refl h.0 (calls_inner (told above).section h.1) (alike s above base g.1 screen below) (tasks_over one s above base g.1 screen few below k)
 tasks_over one s (HoldLine ∷ above) base g e few b k =
     let h = here s above HoldLine g in
-    let screen = calls_screen (section_of above) h.1 in
+    let screen = calls_screen (told above).section h.1 in
     let below = base_below HoldLine above base refl b in
-    one_more one s above _ HoldLine g refl h.0 (calls_inner (section_of above) h.1) (alike s above base g.1 screen below) (tasks_over one s above base g.1 screen few below k)
+    one_more one s above _ HoldLine g refl h.0 (calls_inner (told above).section h.1) (alike s above base g.1 screen below) (tasks_over one s above base g.1 screen few below k)
 tasks_over one s (ReleaseLine ∷ above) base g e few b k =
     let h = here s above ReleaseLine g in
-    let screen = calls_screen (section_of above) h.1 in
+    let screen = calls_screen (told above).section h.1 in
     let below = base_below ReleaseLine above base refl b in
-    one_more one s above _ ReleaseLine g refl h.0 (calls_inner (section_of above) h.1) (alike s above base g.1 screen below) (tasks_over one s above base g.1 screen few below k)
+    one_more one s above _ ReleaseLine g refl h.0 (calls_inner (told above).section h.1) (alike s above base g.1 screen below) (tasks_over one s above base g.1 screen few below k)
 
 -- The lines of a whole script's one task are spelled over each spelled base of it.
-pub tasks_spelled : HasOneSpelling → (s : Setting) (above base : List LineForm) → AreGoodLines s above → is_whole s.form above ≡ true → length (tasks_above above) ≡ 1 → IsBaseOf above base → AreSpelled (alone s) base → AreSpelled (alone s) (filter is_of_tasks above ++ base)
+pub tasks_spelled : HasOneSpelling → (s : Setting) (above base : List LineForm) → AreGoodLines s above → may_end s.form (told above).section ≡ true → length (told above).tasks ≡ 1 → IsBaseOf above base → AreSpelled (alone s) base → AreSpelled (alone s) (filter is_of_tasks above ++ base)
 tasks_spelled one s above base g whole n b k = tasks_over one s above base g (whole_ends s.form above whole).screen (omega (arith, n)) b k
 
 -- the glyphs of lines that tell the same
-same_glyphs : (above new : List LineForm) → AreAlike above new → map (λ i. glyph_above new (32 + i)) (range_with_len 0 95) ≡ map (λ i. glyph_above above (32 + i)) (range_with_len 0 95)
+same_glyphs : (above new : List LineForm) → AreAlike above new → map (λ i. (told new).glyphs (32 + i)) (range_with_len 0 95) ≡ map (λ i. (told above).glyphs (32 + i)) (range_with_len 0 95)
 same_glyphs above new a =
-    map-range-same 95 (λ i. glyph_above new (32 + i)) (λ i. glyph_above above (32 + i)) (λ i low. a.glyphs (32 + i) (omega arith) (omega (arith, low)))
+    map_range_same 95 (λ i. (told new).glyphs (32 + i)) (λ i. (told above).glyphs (32 + i)) (λ i low. a.glyphs (32 + i) (omega arith) (omega (arith, low)))
 
 -- lines that tell the same have the same plan
-same_plan : (hooks : ℕ) (above new : List LineForm) → AreAlike above new → plan_above hooks new ≡ plan_above hooks above
+same_plan : (hooks : ℕ) (above new : List LineForm) → AreAlike above new → plan_of hooks (told new) ≡ plan_of hooks (told above)
 same_plan hooks above new a =
     let width = a.width in
     let height = a.height in
@@ -139,7 +138,7 @@ same_plan hooks above new a =
     cc
 
 -- The lines of a whole script's tasks over a base of it have its plan.
-pub tasks_plan : (s : Setting) (above base : List LineForm) → AreGoodLines s above → is_whole s.form above ≡ true → IsBaseOf above base → plan_above s.hooks (filter is_of_tasks above ++ base) ≡ plan_above s.hooks above
+pub tasks_plan : (s : Setting) (above base : List LineForm) → AreGoodLines s above → may_end s.form (told above).section ≡ true → IsBaseOf above base → plan_of s.hooks (told (filter is_of_tasks above ++ base)) ≡ plan_of s.hooks (told above)
 tasks_plan s above base g whole b = same_plan s.hooks above (filter is_of_tasks above ++ base) (alike s above base g (whole_ends s.form above whole).screen b)
 
 -- where a script may end, a script alone may end
@@ -152,22 +151,22 @@ ends_alone NumbersAreDue h = refl
 ends_alone NothingIsDue h = refl
 
 -- They are a whole script alone.
-pub tasks_whole : (s : Setting) (above base : List LineForm) → AreGoodLines s above → is_whole s.form above ≡ true → IsBaseOf above base → is_whole Plain (filter is_of_tasks above ++ base) ≡ true
+pub tasks_whole : (s : Setting) (above base : List LineForm) → AreGoodLines s above → may_end s.form (told above).section ≡ true → IsBaseOf above base → may_end Plain (told (filter is_of_tasks above ++ base)).section ≡ true
 tasks_whole s above base g whole b =
     let ends = whole_ends s.form above whole in
-    ap are_tasks_due (alike s above base g ends.screen b).section ∙ ends_alone (section_of above) ends
+    ap are_tasks_due (alike s above base g ends.screen b).section ∙ ends_alone (told above).section ends
 
 -- lines of tasks have no numbers of an order
-order_over : (above base : List LineForm) → order_above base ≡ [] → order_above (filter is_of_tasks above ++ base) ≡ []
+order_over : (above base : List LineForm) → (told base).order ≡ [] → (told (filter is_of_tasks above ++ base)).order ≡ []
 order_over [] base h = h
 order_over (f ∷ above) base h = step f (order_over above base h)
   where
-    step : (f : LineForm) → order_above (filter is_of_tasks above ++ base) ≡ [] → order_above (filter is_of_tasks (f ∷ above) ++ base) ≡ []
+    step : (f : LineForm) → (told (filter is_of_tasks above ++ base)).order ≡ [] → (told (filter is_of_tasks (f ∷ above) ++ base)).order ≡ []
     step (NumbersLine zs) k = k
     step f k = k
 
 -- They have no order, if the base has none.
-pub tasks_order : (s : Setting) (above base : List LineForm) → AreGoodLines s above → is_whole s.form above ≡ true → IsBaseOf above base → order_above base ≡ [] → order_above (filter is_of_tasks above ++ base) ≡ []
+pub tasks_order : (s : Setting) (above base : List LineForm) → AreGoodLines s above → may_end s.form (told above).section ≡ true → IsBaseOf above base → (told base).order ≡ [] → (told (filter is_of_tasks above ++ base)).order ≡ []
 tasks_order s above base g whole b h = order_over above base h
 
 -- a line that has no numbers of an order
@@ -176,11 +175,11 @@ has_no_numbers (NumbersLine zs) = false
 has_no_numbers f = true
 
 -- of such lines there is no order
-order_none : (fs : List LineForm) → list_all has_no_numbers fs ≡ true → order_above fs ≡ []
+order_none : (fs : List LineForm) → list_all has_no_numbers fs ≡ true → (told fs).order ≡ []
 order_none [] h = refl
 order_none (f ∷ fs) h = step f h (order_none fs)
   where
-    step : (f : LineForm) → list_all has_no_numbers (f ∷ fs) ≡ true → (list_all has_no_numbers fs ≡ true → order_above fs ≡ []) → order_above (f ∷ fs) ≡ []
+    step : (f : LineForm) → list_all has_no_numbers (f ∷ fs) ≡ true → (list_all has_no_numbers fs ≡ true → (told fs).order ≡ []) → (told (f ∷ fs)).order ≡ []
     step (NumbersLine zs) k go = absurd (false≢true k)
     step f k go = go k
 
@@ -211,11 +210,11 @@ glyph_none code rows = step (list_all (λ row. row == 0) rows)
     step true = refl
     step false = refl
 
-glyphs_none : (above : List LineForm) (ns : List ℕ) → list_all has_no_numbers (flat_map (λ i. lines_of_glyph (32 + i) (glyph_above above (32 + i))) ns) ≡ true
+glyphs_none : (above : List LineForm) (ns : List ℕ) → list_all has_no_numbers (flat_map (λ i. lines_of_glyph (32 + i) ((told above).glyphs (32 + i))) ns) ≡ true
 glyphs_none above [] = refl
-glyphs_none above (i ∷ ns) = both_none (lines_of_glyph (32 + i) (glyph_above above (32 + i))) _ (glyph_none (32 + i) (glyph_above above (32 + i))) (glyphs_none above ns)
+glyphs_none above (i ∷ ns) = both_none (lines_of_glyph (32 + i) ((told above).glyphs (32 + i))) _ (glyph_none (32 + i) ((told above).glyphs (32 + i))) (glyphs_none above ns)
 
 -- Below the tasks no order stands.
-pub base_order : (above : List LineForm) → order_above (base_of above) ≡ []
+pub base_order : (above : List LineForm) → (told (base_of above)).order ≡ []
 base_order above =
     order_none (base_of above) (both_none (filter is_of_bitmaps above) _ (bitmaps_none above) (both_none (reverse (glyphs_in_order above)) (screen_line_of above ∷ []) (reverse_none (glyphs_in_order above) (glyphs_none above (range_with_len 0 95))) refl))

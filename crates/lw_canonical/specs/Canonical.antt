@@ -4,7 +4,6 @@ use Rattle.std.specs.Prelude.{ℕ, ◌+◌, ◌==◌, Bool, true, false, if◌th
 use Rattle.std.specs.List.{list_all, flat_map, range_with_len}
 use Rattle.lw_planes.specs.Bitmap.{Bitmap, plane_row}
 use Rattle.lw_calls.specs.declared.make.Make.{Make}
-use Rattle.lw_calls.specs.declared.area.Area.{Area}
 use Rattle.lw_calls.specs.declared.call.Call.{Call}
 use Rattle.lw_calls.specs.declared.call.Call.TheVariants.{RegRect, RegPair, RegClear, Create, OpenWindow, Close, ToFront, ToBack, InFrontOf, MoveBy, SizeBy, SetBox, Activate, Which, SetA, SetB, SetMode, SetMask, At, WritePixel, ReadPixel, Fill, DrawTo, Letters, SetRast, ScrollRaster, Put, Blit, Clip, Unclip, BeginRefresh, EndRefresh, Scroll, SetTitle, TakeMessage}
 use Rattle.lw_calls.specs.declared.group.Hold.{Hold}
@@ -13,7 +12,7 @@ use Rattle.lw_calls.specs.declared.group.Group.{Group}
 use Rattle.lw_calls.specs.declared.form.Form.TheVariants.{Plain}
 use Rattle.lw_calls.specs.Plan.{Plan, task_calls, task_groups, begins_update}
 use Rattle.lw_calls.specs.Written.{line_of}
-use Rattle.lw_grammar.specs.LineForms.{Asked, Blitting, Act, RegRectAct, RegPairAct, RegClearAct, CreateAct, OpenAct, CloseAct, FrontAct, BehindAct, InFrontAct, MoveAct, SizeAct, BoxAct, ActivateAct, WhichAct, APenAct, BPenAct, ModeAct, MaskAct, AtAct, WriteAct, ReadAct, FillAct, DrawAct, TextAct, SetRastAct, ScrollRasterAct, PutAct, BlitAct, ClipAct, UnclipAct, RefreshAct, EndRefreshAct, ScrollAct, TitleAct, GetMsgAct, LineForm, ScreenLine, GlyphLine, BitmapLine, RowLine, TaskLine, EndLine, CallLine, LockLine, UnlockLine, HoldLine, ReleaseLine, four}
+use Rattle.lw_grammar.specs.LineForms.{Asked, Act, RegRectAct, RegPairAct, RegClearAct, CreateAct, OpenAct, CloseAct, FrontAct, BehindAct, InFrontAct, MoveAct, SizeAct, BoxAct, ActivateAct, WhichAct, APenAct, BPenAct, ModeAct, MaskAct, AtAct, WriteAct, ReadAct, FillAct, DrawAct, TextAct, SetRastAct, ScrollRasterAct, PutAct, BlitAct, ClipAct, UnclipAct, RefreshAct, EndRefreshAct, ScrollAct, TitleAct, GetMsgAct, LineForm, ScreenLine, GlyphLine, BitmapLine, RowLine, TaskLine, EndLine, CallLine, LockLine, UnlockLine, HoldLine, ReleaseLine, four}
 use Rattle.lw_grammar.specs.Script.{Setting, ScriptInput, SpellsInput}
 use Rattle.lw_canonical.specs.Spelling.{spelled}
 
@@ -40,10 +39,6 @@ created_asked m = asked_of m ((m.x +ℤ m.w) -ℤ pos 1) ((m.y +ℤ m.h) -ℤ po
 
 abbrev pub opened_asked : Make → Asked
 opened_asked m = asked_of m m.w m.h
-
--- a blit's numbers
-abbrev pub blitting_of : Area → Blitting
-blitting_of a = record { sx = a.sx; sy = a.sy; x = a.x; y = a.y; w = a.w; h = a.h; minterm = a.minterm }
 
 -- the line of a call on one layer, of this name
 abbrev pub on_layer : List (List ℕ) → ℕ → Act → LineForm
@@ -77,8 +72,8 @@ line_of_call names bitmaps (DrawTo s x y) = on_layer names s (DrawAct x y)
 line_of_call names bitmaps (Letters s text) = on_layer names s (TextAct text)
 line_of_call names bitmaps (SetRast s p) = on_layer names s (SetRastAct (pos p))
 line_of_call names bitmaps (ScrollRaster s dx dy rect) = on_layer names s (ScrollRasterAct dx dy rect)
-line_of_call names bitmaps (Put b s area) = on_layer names s (PutAct (slice_index_or bitmaps b []) (blitting_of area))
-line_of_call names bitmaps (Blit s t area) = CallLine (slice_index_or names s [] ∷ slice_index_or names t [] ∷ []) (BlitAct (blitting_of area))
+line_of_call names bitmaps (Put b s area) = on_layer names s (PutAct (slice_index_or bitmaps b []) area)
+line_of_call names bitmaps (Blit s t area) = CallLine (slice_index_or names s [] ∷ slice_index_or names t [] ∷ []) (BlitAct area)
 line_of_call names bitmaps (Clip s r) = on_layer names s (ClipAct (pos r))
 line_of_call names bitmaps (Unclip s) = on_layer names s UnclipAct
 line_of_call names bitmaps (BeginRefresh s) = on_layer names s RefreshAct

@@ -7,7 +7,7 @@ use Rattle.lw_machine.specs.Layer.{Slot, Unopened, Live, Closed}
 use Rattle.lw_calls.specs.Plan.{Plan}
 use Rattle.lw_calls.specs.Entries.{entries, only_order}
 use Rattle.lw_machine.specs.History.{machine}
-use Rattle.lw_machine.specs.Report.{opening_desk}
+use Rattle.lw_machine.specs.Finals.{opening_desk}
 use Rattle.lw_cases.specs.Windows.{frame_widened}
 use Rattle.lw_cases.specs.Plans.{text, one_task, further, with_glyph, create, open_window, fill}
 

@@ -1,12 +1,12 @@
 -- Damage that is told by the history, beside the damage that the machine keeps.
-use Rattle.std.specs.Prelude.{◌≡◌, ℕ, false, List, []}
+use Rattle.std.specs.Prelude.{◌≡◌, ℕ, List, []}
 use Rattle.lw_region.specs.Pixels.{Pixel}
 use Rattle.lw_machine.specs.Hook.{Hook}
 use Rattle.lw_machine.specs.Layer.{Slot, Unopened, Live, Closed}
 use Rattle.lw_calls.specs.Plan.{Plan}
 use Rattle.lw_calls.specs.Entries.{entries}
 use Rattle.lw_machine.specs.History.{machine}
-use Rattle.lw_machine.specs.Report.{pixels_where, damage_set, opening_desk}
+use Rattle.lw_machine.specs.Finals.{pixels_where, damage_set, opening_desk}
 use Rattle.lw_machine.specs.Hurt.{is_hurt}
 
 -- The pixels that are hurt in a slot by the history of a run, from nothing hurt on. They are looked for in a table as large

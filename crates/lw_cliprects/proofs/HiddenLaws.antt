@@ -1,35 +1,25 @@
 -- The hidden rectangles: which pixels they have, and that with the visible ones they divide the bounds.
-use Rattle.std.proofs.Common.{◌≡◌, ℕ, zero, suc, ◌<◌, Bool, true, false, not, ◌&&◌, ◌||◌, List, [], ◌∷◌, ◌++◌, length, get_or, ℤ, refl, ap, sym, ◌∙◌, arith}
+use Rattle.std.proofs.Common.{◌≡◌, zero, suc, Bool, true, false, not, ◌&&◌, ◌||◌, List, [], ◌∷◌, ◌++◌, get_or, ℤ, refl, ap, sym, ◌∙◌, arith}
 use Rattle.std.specs.List.{All, AllPairs}
 use Rattle.std.proofs.lemmas.Bool.{false≢true, false_from_ne_true, and_parts, and_right, or_left, or_right, not_from_true}
 use Rattle.std.proofs.lemmas.List.Elements.{All-from_get_or, All-append}
-use Rattle.std.proofs.lemmas.List.Folds.{list_any_at}
 use Rattle.std.proofs.lemmas.List.Kept.{AllPairs-cons}
 use Rattle.lw_region.specs.Rectangle.{Rectangle, has_pixel, AreApart}
-use Rattle.lw_region.specs.Pixels.{contains_pixel, pixels_of, difference}
-use Rattle.lw_region.specs.Bands.{covers}
+use Rattle.lw_region.specs.Pixels.{pixels_of, difference, symmetric_difference}
+use Rattle.lw_region.specs.Bands.{bands, covers}
 use Rattle.lw_region.specs.Banded.{IsCanonical}
 use Rattle.lw_region.specs.Regions.{rectangle_set}
-use Rattle.lw_region.proofs.Reading.{contains_pixels_of, contains_difference}
-use Rattle.lw_region.proofs.Canonical.{covers_cons, covers_bands, canonical_is_bands}
-use Rattle.lw_region.proofs.SetOps.{covers_one, canonical_bands}
-use Rattle.lw_region.proofs.Disjoint.{canonical_disjoint}
+use Rattle.lw_region.proofs.Canonical.{covers_cons, one_canonical}
+use Rattle.lw_region.proofs.SetOps.{covers_one, canonical_bands, combined_lists}
+use Rattle.lw_region.proofs.Disjoint.{canonical_disjoint, has_at}
 use Rattle.lw_cliprects.specs.Parts.{hidden_of, LieIn, AreDivided}
-
--- the pixels that the visible ones leave of the bounds
-contains_rest : (bounds : Rectangle) (visible : List Rectangle) (x y : ℤ)
-    → contains_pixel (difference (rectangle_set bounds) (pixels_of visible)) x y ≡ (has_pixel bounds x y && not (covers visible x y))
-contains_rest bounds visible x y =
-    contains_difference (rectangle_set bounds) (pixels_of visible) x y
-    ∙ (ap (λ w. w && not (contains_pixel (pixels_of visible) x y)) (contains_pixels_of (bounds ∷ []) x y ∙ covers_one bounds x y)
-    ∙ ap (λ w. has_pixel bounds x y && not w) (contains_pixels_of visible x y))
 
 -- the hidden rectangles have the pixels of the bounds that are not visible
 pub covers_hidden : (bounds : Rectangle) (visible : List Rectangle) (x y : ℤ)
     → covers (hidden_of bounds visible) x y ≡ (has_pixel bounds x y && not (covers visible x y))
 unfolding hidden_of
 covers_hidden bounds visible x y =
-    covers_bands (difference (rectangle_set bounds) (pixels_of visible)) x y ∙ contains_rest bounds visible x y
+    (combined_lists.differences (bounds ∷ []) visible _ refl).pixels x y ∙ ap (λ w. w && not (covers visible x y)) (covers_one bounds x y)
 
 -- the hidden rectangles are a canonical list
 pub canonical_hidden : (bounds : Rectangle) (visible : List Rectangle) → IsCanonical (hidden_of bounds visible)
@@ -48,19 +38,14 @@ part_put_back true whole h = sym (h refl)
 part_put_back false true h = refl
 part_put_back false false h = refl
 
--- a canonical list of the pixels that only one of the visible list and the bounds has is that of the hidden rectangles
-pub made_hidden : (bounds : Rectangle) (visible made : List Rectangle) → LieIn bounds visible → IsCanonical made
-    → ((x y : ℤ) → covers made x y ≡ ((covers visible x y && not (has_pixel bounds x y)) || (has_pixel bounds x y && not (covers visible x y))))
-    → made ≡ hidden_of bounds visible
-unfolding hidden_of
-made_hidden bounds visible made inside canonical pixels =
-    canonical_is_bands made (difference (rectangle_set bounds) (pixels_of visible)) canonical
-    (λ x y. pixels x y ∙ (part_taken_out (covers visible x y) (has_pixel bounds x y) (inside x y) ∙ sym (contains_rest bounds visible x y)))
-
--- a list has each pixel of each of its rectangles
-covers_at : (rects : List Rectangle) (k : ℕ) (d : Rectangle) (x y : ℤ) → k < length rects → has_pixel (get_or rects k d) x y ≡ true → covers rects x y ≡ true
-unfolding covers
-covers_at rects k d x y l h = list_any_at (λ r. has_pixel r x y) rects k d l h
+-- what only one of the visible list and the bounds has is the hidden rectangles
+pub made_hidden : (bounds : Rectangle) (visible : List Rectangle) → LieIn bounds visible
+    → bands (symmetric_difference (pixels_of visible) (rectangle_set bounds)) ≡ hidden_of bounds visible
+made_hidden bounds visible inside =
+    one_canonical _ (hidden_of bounds visible) (canonical_bands _) (canonical_hidden bounds visible)
+    (λ x y. (combined_lists.symmetric visible (bounds ∷ []) _ refl).pixels x y
+    ∙ (ap (λ w. (covers visible x y && not w) || (w && not (covers visible x y))) (covers_one bounds x y)
+    ∙ (part_taken_out (covers visible x y) (has_pixel bounds x y) (inside x y) ∙ sym (covers_hidden bounds visible x y))))
 
 -- a rectangle of which a list has no pixel is apart from each of the list
 apart_from_each : (r : Rectangle) (rects : List Rectangle) → ((x y : ℤ) → has_pixel r x y ≡ true → covers rects x y ≡ false) → All (AreApart r) rects
@@ -68,7 +53,7 @@ apart_from_each r rects h =
     All-from_get_or (AreApart r) rects r (λ k l x y.
     false_from_ne_true _ (λ t.
     let p = and_parts (has_pixel r x y) (has_pixel (get_or rects k r) x y) t in
-    false≢true (sym (h x y p.0) ∙ covers_at rects k r x y l p.1)))
+    false≢true (sym (h x y p.0) ∙ has_at rects k r x y l p.1)))
 
 -- two lists of rectangles that are apart, and that have no pixel in common, are one such list
 apart_append : (rs ss : List Rectangle) → AllPairs AreApart rs → AllPairs AreApart ss → ((x y : ℤ) → covers rs x y ≡ true → covers ss x y ≡ false)

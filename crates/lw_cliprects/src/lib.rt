@@ -2,8 +2,10 @@
 //! chapter: the `ClipRect` structure).
 #![tactic(auto)]
 
+mod laws;
 mod parts;
 
+pub use laws::one_cover_law;
 pub use parts::Parts;
 
 #[cfg(test)]

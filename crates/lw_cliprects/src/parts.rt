@@ -56,6 +56,13 @@ impl Parts {
         self.visible.rects()
     }
 
+    /// The visible rectangles as a region.
+    pub fn visible_region(&self) -> &Region
+        ensures { result.now ≡ self.now.visible }
+    {
+        &self.visible
+    }
+
     /// The hidden rectangles: the canonical list of what the visible ones leave of the bounds.
     pub fn hidden(&self) -> &[Rect]
         ensures value { result.now ≡ hidden_of self.now.bounds self.now.visible }

@@ -14,7 +14,7 @@ struct Case {
     hidden: &'static [[i16; 4]],
 }
 
-static CASES: [Case; 8] = [
+static CASES: [Case; 9] = [
     // Wholly hidden, and wholly visible.
     Case {
         bounds: [0, 0, 9, 9],
@@ -25,6 +25,12 @@ static CASES: [Case; 8] = [
         bounds: [-3, -2, 9, 9],
         visible: &[[-3, -2, 9, 9]],
         hidden: &[],
+    },
+    // One cover in the middle.
+    Case {
+        bounds: [0, 0, 7, 3],
+        visible: &[[0, 0, 7, 0], [0, 1, 2, 2], [5, 1, 7, 2], [0, 3, 7, 3]],
+        hidden: &[[3, 1, 4, 2]],
     },
     // A hole in the middle, and the middle alone.
     Case {

@@ -19,39 +19,39 @@ abbrev pub empty : Sizes → Plain
 empty s = record { sizes = s; front_to_back = []; layers = replicate s.slots None; registers = replicate s.tasks (replicate 8 []) }
 
 -- no slot has a layer
-no-layer : (s : Sizes) (k : ℕ) → k < s.slots → layer_at (empty s) k ≡ None
-no-layer s k low = get_or-replicate s.slots k None None low
+no_layer : (s : Sizes) (k : ℕ) → k < s.slots → layer_at (empty s) k ≡ None
+no_layer s k low = get_or-replicate s.slots k None None low
 
 -- a task has empty registers
-no-registers : (s : Sizes) (t : ℕ) → t < s.tasks → registers_at (empty s) t ≡ replicate 8 []
-no-registers s t low = get_or-replicate s.tasks t (replicate 8 []) [] low
+no_registers : (s : Sizes) (t : ℕ) → t < s.tasks → registers_at (empty s) t ≡ replicate 8 []
+no_registers s t low = get_or-replicate s.tasks t (replicate 8 []) [] low
 
 -- it is a plain desk
-pub IsPlain-empty : (s : Sizes) → IsWithinLimits s → IsPlain (empty s)
-IsPlain-empty s limits = record {
+pub IsPlain_empty : (s : Sizes) → IsWithinLimits s → IsPlain (empty s)
+IsPlain_empty s limits = record {
   limits = limits;
   layers = length-replicate s.slots None;
   front_to_back = All-nil (λ k. k < s.slots);
   fit = λ k low.
       let P : Option PlainLayer → Type 0 = λ o. IsFitting s o in
-      subst P (sym (no-layer s k low)) tt;
+      subst P (sym (no_layer s k low)) tt;
   registers = length-replicate s.tasks (replicate 8 []);
-  eight = λ t low. ap length (no-registers s t low);
+  eight = λ t low. ap length (no_registers s t low);
 }
 
 -- an empty register has the empty set
-empty-set : (s : Sizes) (t r : ℕ) → t < s.tasks → r < 8 → pixels_of (register_at (empty s) t r) ≡ []
-empty-set s t r low small =
-    ap (λ regs. pixels_of (get_or regs r [])) (no-registers s t low) ∙ (ap pixels_of (get_or-replicate 8 r [] [] small) ∙ set_of_nil)
+empty_set : (s : Sizes) (t r : ℕ) → t < s.tasks → r < 8 → pixels_of (register_at (empty s) t r) ≡ []
+empty_set s t r low small =
+    ap (λ regs. pixels_of (get_or regs r [])) (no_registers s t low) ∙ (ap pixels_of (get_or-replicate 8 r [] [] small) ∙ set_of_nil)
 
 -- it stands for the desk before the first call, whatever was handed in
-pub stands-empty : (s : Sizes) (assets : Assets) (shelf : ℕ → Option Hook) → StandsFor (empty s) (empty_desk s assets shelf)
-stands-empty s assets shelf = record {
+pub stands_empty : (s : Sizes) (assets : Assets) (shelf : ℕ → Option Hook) → StandsFor (empty s) (empty_desk s assets shelf)
+stands_empty s assets shelf = record {
   sizes = refl;
   front_to_back = refl;
-  bounds = λ k low. ap bounds_in (sym (no-layer s k low));
-  slots = λ k low. ap slot_of (sym (no-layer s k low));
-  registers = λ t r low small. sym (empty-set s t r low small);
+  bounds = λ k low. ap bounds_in (sym (no_layer s k low));
+  slots = λ k low. ap slot_of (sym (no_layer s k low));
+  registers = λ t r low small. sym (empty_set s t r low small);
 }
 
 -- a plain desk by its parts
@@ -59,6 +59,6 @@ abbrev pub plain_of : Sizes → List ℕ → List (Option PlainLayer) → List (
 plain_of s order layers registers = record { sizes = s; front_to_back = order; layers = layers; registers = registers }
 
 -- a plain desk whose parts are empty
-pub parts-empty : (s : Sizes) (order : List ℕ) (layers : List (Option PlainLayer)) (registers : List (List (List Rectangle))) → order ≡ [] → layers ≡ replicate s.slots None → registers ≡ replicate s.tasks (replicate 8 []) → plain_of s order layers registers ≡ empty s
-parts-empty s order layers registers no-order none clear =
+pub parts_empty : (s : Sizes) (order : List ℕ) (layers : List (Option PlainLayer)) (registers : List (List (List Rectangle))) → order ≡ [] → layers ≡ replicate s.slots None → registers ≡ replicate s.tasks (replicate 8 []) → plain_of s order layers registers ≡ empty s
+parts_empty s order layers registers no-order none clear =
     ap (λ o. plain_of s o layers registers) no-order ∙ (ap (λ l. plain_of s [] l registers) none ∙ ap (λ r. plain_of s [] (replicate s.slots None) r) clear)

@@ -19,14 +19,14 @@ abbrev pub may_be_made : Desk → Make → Bool
 may_be_made d make = may_have_bounds d.sizes false make.kind 0 0 make.bits_w make.bits_h (bounds_of make)
 
 -- what a creation answers
-pub reply-create : (d : Desk) (task slot : ℕ) (make : Make) (u o : Bool) → is_unopened (d.slot slot) ≡ u → may_be_made d make ≡ o → reply d task (Create slot make) ≡ reply_or (create_refusal u o) Done
+pub reply_create : (d : Desk) (task slot : ℕ) (make : Make) (u o : Bool) → is_unopened (d.slot slot) ≡ u → may_be_made d make ≡ o → reply d task (Create slot make) ≡ reply_or (create_refusal u o) Done
 unfolding reply
-reply-create d task slot make u o e f =
+reply_create d task slot make u o e f =
     ap (λ t. reply_or (create_refusal t (may_be_made d make)) Done) e ∙ ap (λ t. reply_or (create_refusal u t) Done) f
 
 -- what a creation does
-pub after-create : (d : Desk) (task slot : ℕ) (make : Make) (u o : Bool) → is_unopened (d.slot slot) ≡ u → may_be_made d make ≡ o → after d task (Create slot make) ≡ changed_unless (create_refusal u o) d (settled d (create_layer d slot make None))
+pub after_create : (d : Desk) (task slot : ℕ) (make : Make) (u o : Bool) → is_unopened (d.slot slot) ≡ u → may_be_made d make ≡ o → after d task (Create slot make) ≡ changed_unless (create_refusal u o) d (settled d (create_layer d slot make None))
 unfolding after
-after-create d task slot make u o e f =
+after_create d task slot make u o e f =
     ap (λ t. changed_unless (create_refusal t (may_be_made d make)) d (settled d (create_layer d slot make None))) e ∙
     ap (λ t. changed_unless (create_refusal u t) d (settled d (create_layer d slot make None))) f

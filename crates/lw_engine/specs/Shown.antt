@@ -2,13 +2,14 @@
 use Rattle.std.specs.Prelude.{ℕ, ◌==◌, Bool, ◌&&◌, ◌||◌, nat_lt, if◌then◌else◌, ℤ, pos, List, [], Option, Some, None}
 use Rattle.std.specs.List.{find}
 use Rattle.lw_region.specs.Rectangle.{Rectangle}
-use Rattle.lw_region.specs.Pixels.{Pixel}
+use Rattle.lw_region.specs.Pixels.{Pixel, pixels_of, difference}
 use Rattle.lw_region.specs.Bands.{bands}
+use Rattle.lw_region.specs.Regions.{rectangle_set}
 use Rattle.lw_planes.specs.Bitmap.{Bitmap, bitmap}
 use Rattle.lw_calls.specs.declared.last.Seen.{Seen}
 use Rattle.lw_machine.specs.Desk.{is_the}
 use Rattle.lw_machine.specs.Screen.{bounds_have, pen_on}
-use Rattle.lw_machine.specs.Report.{pixels_where}
+use Rattle.lw_machine.specs.Finals.{pixels_where}
 use Rattle.lw_engine.specs.declared.layer.PlainLayer.{PlainLayer}
 use Rattle.lw_engine.specs.Plain.{Plain, layer_at, bounds_at}
 use Rattle.lw_engine.specs.StandsFor.{slot_of}
@@ -42,6 +43,11 @@ screen_of p = bitmap p.sizes.width p.sizes.height p.sizes.depth (λ x y. pen_sho
 abbrev pub shown_before : Plain → ℕ → ℕ → Bitmap
 shown_before p x y =
     bitmap p.sizes.width p.sizes.height p.sizes.depth (λ i j. if nat_lt j y || (j == y && nat_lt i x) then pen_shown p i j else 0)
+
+-- what these bounds, if there are any, leave of a list of rectangles
+abbrev pub without : Option Rectangle → List Rectangle → List Rectangle
+without None rects = rects
+without (Some r) rects = bands (difference (pixels_of rects) (rectangle_set r))
 
 -- the places of the screen on which a slot's layer is the top
 unfoldable pub shown_in : Plain → ℕ → List Pixel

@@ -1,14 +1,12 @@
-ghost use Rattle.std.specs.Prelude.{◌≡◌, ℕ, ◌+◌, ◌<◌, ◌&&◌, not, [], List, Some, map, IfOk, OnOk, ℤ, vec_len};
+ghost use Rattle.std.specs.Prelude.{◌≡◌, ℕ, ◌+◌, ◌<◌, [], List, Some, map, IfOk, OnOk, vec_len};
 ghost use Rattle.std.specs.List.{range_with_len, slice_index_or};
-ghost use Rattle.lw_region.specs.Bands.{bands, covers};
-ghost use Rattle.lw_region.specs.Banded.{IsCanonical};
+ghost use Rattle.lw_region.specs.Bands.{bands};
 ghost use Rattle.lw_calls.specs.declared.reply.Reply.{Reply as AnyReply};
 ghost use Rattle.lw_machine.specs.Desk.{Desk};
-ghost use Rattle.lw_machine.specs.Screen.{bounds_have};
-ghost use Rattle.lw_machine.specs.Finals.{IsFinalOf};
+ghost use Rattle.lw_machine.specs.Finals.{final_of};
 ghost use Rattle.lw_engine.specs.Plain.{bounds_at};
 ghost use Rattle.lw_engine.specs.StandsFor.{StandsFor};
-ghost use Rattle.lw_engine.specs.Shown.{screen_of, shown_before, shown_in, seen_in};
+ghost use Rattle.lw_engine.specs.Shown.{screen_of, shown_before, without, shown_in, seen_in};
 
 use crate::plain_desk::PlainDesk;
 use lw_calls::{Final, Replies, Seen};
@@ -22,7 +20,7 @@ impl PlainDesk {
     /// and the replies. It fails for want of memory alone.
     pub fn finish(self, alloc: Global, replies: Vec<Replies>) -> Result<Final, AllocError>
         requires { vec_len replies ≡ self.sizes.tasks }
-        ensures { IfOk result (λ last. (d : Desk) (rs : ℕ → List AnyReply) → StandsFor self d → ((t : ℕ) → t < self.sizes.tasks → slice_index_or replies.items t [] ≡ rs t) → IsFinalOf d rs last) }
+        ensures { IfOk result (λ last. (d : Desk) (rs : ℕ → List AnyReply) → StandsFor self d → ((t : ℕ) → t < self.sizes.tasks → slice_index_or replies.items t [] ≡ rs t) → last ≡ final_of d rs) }
     {
         let planes = self.screen(alloc)?;
         let slots = self.slots_seen(alloc)?;
@@ -111,8 +109,7 @@ impl PlainDesk {
         region: &mut Region,
     ) -> Result<(), AllocError>
         requires { front < self.now.sizes.slots }
-        ensures pixels { OnOk result ((x y : ℤ) → covers region.new x y ≡ (covers region.old x y && not (bounds_have (bounds_at self.now front) x y))) }
-        ensures canonical { OnOk result (IsCanonical region.old → IsCanonical region.new) }
+        ensures { OnOk result (region.new ≡ without (bounds_at self.now front) region.old) }
     {
         match &self.layers[front as usize] {
             None => Ok(()),

@@ -154,3 +154,13 @@ fn joined_with_region(
     }
     Ok(made)
 }
+
+// Registers may go to another thread, and threads may share them: the bounds ask for the proofs.
+fn cross_threads() {
+    crosses::<Regs>();
+    is_shared::<Regs>();
+}
+
+fn crosses<T: Send>() {}
+
+fn is_shared<T: Sync>() {}

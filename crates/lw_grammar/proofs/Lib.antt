@@ -1,5 +1,5 @@
 pub mod ScriptForms
-pub mod ScriptAnswer
+pub mod ScriptOutcome
 pub mod ScriptNames
 pub mod ScriptCalls
 pub mod ScriptGroups

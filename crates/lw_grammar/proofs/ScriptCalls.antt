@@ -8,7 +8,7 @@ use Rattle.lw_calls.specs.declared.sizes.Sizes.{Sizes}
 use Rattle.lw_calls.specs.Limits.{is_coordinate, hook_fits, kind_fits, make_fits, axis_fits, rect_fits, is_byte, window_fits, call_fits, is_extent}
 use Rattle.lw_calls.specs.Kinds.{is_super}
 use Rattle.lw_grammar.specs.LineForms.{Asked, Act, RegRectAct, RegPairAct, RegClearAct, CreateAct, OpenAct, CloseAct, FrontAct, BehindAct, InFrontAct, MoveAct, SizeAct, BoxAct, ActivateAct, WhichAct, APenAct, BPenAct, ModeAct, MaskAct, AtAct, WriteAct, ReadAct, FillAct, DrawAct, TextAct, SetRastAct, ScrollRasterAct, PutAct, BlitAct, ClipAct, UnclipAct, RefreshAct, EndRefreshAct, ScrollAct, TitleAct, GetMsgAct, CallLine, is_hook_number, is_own_size, is_asked_in_range, is_box, is_act_in_range, layers_of}
-use Rattle.lw_grammar.specs.LinesAbove.{place_among, hook_on, make_of, created_make, opened_make, spelled_call}
+use Rattle.lw_grammar.specs.Told.{place_among, make_of, created_make, opened_make, spelled_call, hook_on}
 use Rattle.lw_grammar.specs.Script.{lacks_name, is_no_hook}
 use Rattle.lw_grammar.proofs.ScriptForms.{IsAskedOf, IsActMade}
 use Rattle.lw_grammar.proofs.ScriptNames.{place_below}

@@ -19,10 +19,9 @@ use Rattle.lw_calls.specs.Limits.{is_minterm}
 use Rattle.lw_calls.specs.Kinds.{is_super}
 use Rattle.lw_grammar.specs.Tokens.{Token, NameToken, NumberToken, TextToken, OddToken, token_of, is_hex, hex_value, hex_bytes, spelled_bytes, bytes_in}
 use Rattle.lw_grammar.specs.LineForms.{layers_of, Asked, Act, RegRectAct, RegPairAct, RegClearAct, CreateAct, OpenAct, CloseAct, FrontAct, BehindAct, InFrontAct, ActivateAct, WhichAct, ScrollRasterAct, PutAct, BlitAct, UnclipAct, RefreshAct, EndRefreshAct, GetMsgAct, LineForm, ScreenLine, GlyphLine, BitmapLine, RowLine, TaskLine, EndLine, OrderLine, NumbersLine, ReportLine, CallLine, LockLine, UnlockLine, HoldLine, ReleaseLine, four, screen_line, glyph_of_bytes, glyph_line, bitmap_line, row_line, all_numbers, numbers_limit, numbers_line, name_line, bare_line, layer_line, number_line, pair_line, text_line, rect_line, region_line, clear_line, which_line, infront_line, four_line, scrollraster_line, minterm_of, put_line, blit_line, endrefresh_line, kind_of, place_of, flag, hook_option, class_of, classes_from, asked_classes, ask_option, at_end, create_super, create_kind, titled_line, open_super, open_kind, asked_line, form_by}
-use Rattle.lw_grammar.specs.LinesAbove.{Section, section_of, rows_due, row_width}
-use Rattle.lw_grammar.specs.Script.{Setting, is_screen_due, are_assets_due, are_calls_due, are_tasks_due, are_numbers_due, is_ordered, is_audited, is_plain, stands_in, is_task_verb, verb_on, behind_verb}
+use Rattle.lw_grammar.specs.Told.{Section, told}
+use Rattle.lw_grammar.specs.Script.{Setting, is_screen_due, are_assets_due, are_calls_due, are_tasks_due, are_numbers_due, is_plain, is_ordered, is_audited, stands_in, is_task_verb, verb_on, behind_verb, verb_read, form_read}
 use Rattle.lw_grammar.specs.Demands.{◌>>=◌, demand}
-use Rattle.lw_grammar.specs.ScriptReading.{verb_read, form_read}
 use Rattle.std.proofs.lemmas.Bool.{false≢true, eqb-true, leb-true, le-leb, and_parts, and_from, and_right}
 use Rattle.std.proofs.lemmas.Bool.Decides.{nat_tests}
 
@@ -410,16 +409,16 @@ verb_made form s GetMsgVerb ts = layer_made form s GetMsgAct refl tt ts
 
 -- no further task may begin here
 abbrev pub is_task_refused : Setting → List LineForm → Bool
-is_task_refused s above = is_plain s.form && are_tasks_due (section_of above)
+is_task_refused s above = is_plain s.form && are_tasks_due (told above).section
 
 -- What a line of this form was good for, below lines of these forms.
 abbrev pub IsFormHere : Setting → List LineForm → LineForm → Type 0
-IsFormHere s above (RowLine bytes) = ((rows_due above == 0) ≡ false) × (length bytes ≡ row_bytes (row_width above))
-IsFormHere s above (NumbersLine zs) = ((rows_due above == 0) ≡ true) × (are_numbers_due (section_of above) ≡ true)
-IsFormHere s above f = ((rows_due above == 0) ≡ true) × (stands_at s.form (section_of above) f ≡ true) × ((is_task_refused s above && begins_task f) ≡ false) × IsFormMade f
+IsFormHere s above (RowLine bytes) = (((told above).rows_due == 0) ≡ false) × (length bytes ≡ row_bytes (told above).row_width)
+IsFormHere s above (NumbersLine zs) = (((told above).rows_due == 0) ≡ true) × (are_numbers_due (told above).section ≡ true)
+IsFormHere s above f = (((told above).rows_due == 0) ≡ true) × (stands_at s.form (told above).section f ≡ true) × ((is_task_refused s above && begins_task f) ≡ false) × IsFormMade f
 
 -- a form of a verb is good for this, where its lines stand
-verb_here : (s : Setting) (above : List LineForm) → (rows_due above == 0) ≡ true → (stands task : Bool) → stands ≡ true → (is_task_refused s above && task) ≡ false → (f : LineForm) → IsVerbForm s.form (section_of above) stands task f → IsFormHere s above f
+verb_here : (s : Setting) (above : List LineForm) → ((told above).rows_due == 0) ≡ true → (stands task : Bool) → stands ≡ true → (is_task_refused s above && task) ≡ false → (f : LineForm) → IsVerbForm s.form (told above).section stands task f → IsFormHere s above f
 verb_here s above e stands task h a (RowLine bytes) k = absurd (false≢true (k.place h))
 verb_here s above e stands task h a (NumbersLine zs) k = absurd (false≢true (k.place h))
 verb_here s above e stands task h a f k = (e, k.place h, ap (λ b. is_task_refused s above && b) k.begins ∙ a, k.made)
@@ -430,30 +429,30 @@ found_has P None r h = tt
 found_has P (Some a) r h = h
 
 -- the same of each line with a verb
-verb_line_here : (s : Setting) (above : List LineForm) → (rows_due above == 0) ≡ true → (ws : List (List ℕ)) → IfOk (verb_read s above ws) (IsFormHere s above)
+verb_line_here : (s : Setting) (above : List LineForm) → ((told above).rows_due == 0) ≡ true → (ws : List (List ℕ)) → IfOk (verb_read s.form (told above).section ws) (IsFormHere s above)
 verb_line_here s above e ws = at_verb (verb_on ws)
   where
-    at_form : (v : Verb) → stands_in s.form (section_of above) v ≡ true → (is_task_refused s above && is_task_verb v) ≡ false → (o : Option LineForm) → IfSome o (IsVerbForm s.form (section_of above) (stands_in s.form (section_of above) v) (is_task_verb v)) → IfOk (ok_or o FormReason) (IsFormHere s above)
+    at_form : (v : Verb) → stands_in s.form (told above).section v ≡ true → (is_task_refused s above && is_task_verb v) ≡ false → (o : Option LineForm) → IfSome o (IsVerbForm s.form (told above).section (stands_in s.form (told above).section v) (is_task_verb v)) → IfOk (ok_or o FormReason) (IsFormHere s above)
     at_form v h a None k = tt
     at_form v h a (Some f) k = verb_here s above e _ _ h a f k
 
-    at_tests : (v : Verb) (b c : Bool) → stands_in s.form (section_of above) v ≡ b → (is_task_refused s above && is_task_verb v) ≡ c → IfOk (demand b Misplaced >>= (λ _. demand (not c) OneTaskOnly >>= (λ _. ok_or (form_by v (map token_of (behind_verb ws))) FormReason))) (IsFormHere s above)
+    at_tests : (v : Verb) (b c : Bool) → stands_in s.form (told above).section v ≡ b → (is_task_refused s above && is_task_verb v) ≡ c → IfOk (demand b Misplaced >>= (λ _. demand (not c) OneTaskOnly >>= (λ _. ok_or (form_by v (map token_of (behind_verb ws))) FormReason))) (IsFormHere s above)
     at_tests v false c h a = tt
     at_tests v true true h a = tt
-    at_tests v true false h a = at_form v h a (form_by v (map token_of (behind_verb ws))) (verb_made s.form (section_of above) v (map token_of (behind_verb ws)))
+    at_tests v true false h a = at_form v h a (form_by v (map token_of (behind_verb ws))) (verb_made s.form (told above).section v (map token_of (behind_verb ws)))
 
-    at_verb : (o : Option Verb) → IfOk (ok_or o UnknownWord >>= (λ v. demand (stands_in s.form (section_of above) v) Misplaced >>= (λ _. demand (not ((is_plain s.form && are_tasks_due (section_of above)) && is_task_verb v)) OneTaskOnly >>= (λ _. ok_or (form_by v (map token_of (behind_verb ws))) FormReason)))) (IsFormHere s above)
+    at_verb : (o : Option Verb) → IfOk (ok_or o UnknownWord >>= (λ v. demand (stands_in s.form (told above).section v) Misplaced >>= (λ _. demand (not ((is_plain s.form && are_tasks_due (told above).section) && is_task_verb v)) OneTaskOnly >>= (λ _. ok_or (form_by v (map token_of (behind_verb ws))) FormReason)))) (IsFormHere s above)
     at_verb None = tt
-    at_verb (Some v) = at_tests v (stands_in s.form (section_of above) v) (is_task_refused s above && is_task_verb v) refl refl
+    at_verb (Some v) = at_tests v (stands_in s.form (told above).section v) (is_task_refused s above && is_task_verb v) refl refl
 
 -- a row of a bitmap
-row_here : (s : Setting) (above : List LineForm) → (rows_due above == 0) ≡ false → (ts : List Token) → IfSome (row_line (row_width above) ts) (IsFormHere s above)
+row_here : (s : Setting) (above : List LineForm) → ((told above).rows_due == 0) ≡ false → (ts : List Token) → IfSome (row_line (told above).row_width ts) (IsFormHere s above)
 row_here s above e (t ∷ []) =
-    map_has (AreSoMany (row_bytes (row_width above))) (IsFormHere s above) _ (bytes_in (row_bytes (row_width above)) t) (token_spelled _ t) (λ bytes k. (e, k.0))
+    map_has (AreSoMany (row_bytes (told above).row_width)) (IsFormHere s above) _ (bytes_in (row_bytes (told above).row_width) t) (token_spelled _ t) (λ bytes k. (e, k.0))
 row_here s above e _ = tt
 
 -- numbers of an order
-numbers_here : (s : Setting) (above : List LineForm) → (rows_due above == 0) ≡ true → are_numbers_due (section_of above) ≡ true → (ts : List Token) → IfSome (numbers_line ts) (IsFormHere s above)
+numbers_here : (s : Setting) (above : List LineForm) → ((told above).rows_due == 0) ≡ true → are_numbers_due (told above).section ≡ true → (ts : List Token) → IfSome (numbers_line ts) (IsFormHere s above)
 numbers_here s above e d ts =
     either_has (IsFormHere s above) (nat_le (length ts) numbers_limit) _ None (map_has (λ zs. Unit {0}) (IsFormHere s above) _ (all_numbers ts) (some_has (all_numbers ts)) (λ zs k. (e, d))) tt
   where
@@ -462,13 +461,13 @@ numbers_here s above e d ts =
     some_has (Some zs) = tt
 
 -- The form that is read is good for what a line of it is good for here.
-pub form_here : (s : Setting) (above : List LineForm) (ws : List (List ℕ)) → IfOk (form_read s above ws) (IsFormHere s above)
-form_here s above ws = at_rows (rows_due above == 0) refl
+pub form_here : (s : Setting) (above : List LineForm) (ws : List (List ℕ)) → IfOk (form_read s.form (told above).section (told above).rows_due (told above).row_width ws) (IsFormHere s above)
+form_here s above ws = at_rows ((told above).rows_due == 0) refl
   where
-    at_numbers : (t : Bool) → are_numbers_due (section_of above) ≡ t → (rows_due above == 0) ≡ true → IfOk (cond t (ok_or (numbers_line (map token_of ws)) FormReason) (verb_read s above ws)) (IsFormHere s above)
+    at_numbers : (t : Bool) → are_numbers_due (told above).section ≡ t → ((told above).rows_due == 0) ≡ true → IfOk (cond t (ok_or (numbers_line (map token_of ws)) FormReason) (verb_read s.form (told above).section ws)) (IsFormHere s above)
     at_numbers true d e = found_has (IsFormHere s above) _ FormReason (numbers_here s above e d (map token_of ws))
     at_numbers false d e = verb_line_here s above e ws
 
-    at_rows : (t : Bool) → (rows_due above == 0) ≡ t → IfOk (cond (not t) (ok_or (row_line (row_width above) (map token_of ws)) FormReason) (cond (are_numbers_due (section_of above)) (ok_or (numbers_line (map token_of ws)) FormReason) (verb_read s above ws))) (IsFormHere s above)
-    at_rows true e = at_numbers (are_numbers_due (section_of above)) refl e
+    at_rows : (t : Bool) → ((told above).rows_due == 0) ≡ t → IfOk (cond (not t) (ok_or (row_line (told above).row_width (map token_of ws)) FormReason) (cond (are_numbers_due (told above).section) (ok_or (numbers_line (map token_of ws)) FormReason) (verb_read s.form (told above).section ws))) (IsFormHere s above)
+    at_rows true e = at_numbers (are_numbers_due (told above).section) refl e
     at_rows false e = found_has (IsFormHere s above) _ FormReason (row_here s above e (map token_of ws))

@@ -9,7 +9,7 @@ use Rattle.lw_calls.specs.declared.touch.Slots.TheVariants.{One, Two}
 use Rattle.lw_calls.specs.Touches.{slots_of}
 use Rattle.lw_calls.specs.Plan.{is_one, is_all, begins_update, ends_update, may_be_locked, end_an_update, may_stand, group_calls, group_fits, groups_fit}
 use Rattle.lw_grammar.specs.LineForms.{Act, RegRectAct, RegPairAct, RegClearAct, CreateAct, OpenAct, CloseAct, FrontAct, BehindAct, InFrontAct, MoveAct, SizeAct, BoxAct, ActivateAct, WhichAct, BlitAct, RefreshAct, EndRefreshAct, layers_of}
-use Rattle.lw_grammar.specs.LinesAbove.{place_among, spelled_call}
+use Rattle.lw_grammar.specs.Told.{place_among, spelled_call}
 use Rattle.lw_grammar.specs.Script.{is_arranging, is_beginning, is_ending, are_all, is_on_one}
 use Rattle.lw_grammar.proofs.ScriptNames.{equal_names}
 use Rattle.std.proofs.lemmas.Bool.{true≢false, false≢true, lt-ltb, le-leb, ltb-true, leb-true, eq-eqb, and_parts, and_from, or_left, or_right, not-true}

@@ -1,7 +1,7 @@
 -- Names in the order of their first appearance, and their places.
 use Rattle.std.proofs.Common.{◌≡◌, ℕ, zero, suc, ◌+◌, ◌<◌, ◌≤◌, Bool, true, false, not, cond, ◌||◌, List, [], ◌∷◌, ◌++◌, length, map, slice_index, bytes_eq, refl, ap, ◌∙◌, arith, length-append}
 use Rattle.std.specs.List.{list_any, position_or_len}
-use Rattle.lw_grammar.specs.LinesAbove.{and_name, and_names, place_among}
+use Rattle.lw_grammar.specs.Told.{and_name, and_names, place_among}
 use Rattle.std.proofs.lemmas.Bool.{false≢true, or_right}
 use Rattle.std.proofs.lemmas.Slice.Eq.{bytes_eq-Decides}
 

@@ -3,33 +3,31 @@ use Rattle.std.proofs.Common.{◌≡◌, ℕ, ◌<◌, ◌≤◌, ◌==◌, Bool
 use Rattle.lw_calls.specs.declared.sizes.Sizes.{Sizes}
 use Rattle.lw_calls.specs.Limits.{call_limit, call_fits}
 use Rattle.lw_calls.specs.Built.{is_built}
-use Rattle.lw_grammar.specs.Lines.{lines}
 use Rattle.lw_grammar.specs.LineForms.{LineForm}
-use Rattle.lw_grammar.specs.LinesAbove.{section_of, rows_due, tasks_above, plan_above}
-use Rattle.lw_grammar.specs.Script.{Setting, ScriptInput, are_assets_due, with_lines, is_whole, SpellsInput, IsRunnableInput}
-use Rattle.lw_grammar.specs.ScriptReading.{input_from, AreGoodLines}
-use Rattle.lw_grammar.proofs.ScriptAnswer.{rows_in_assets, spelled_lines_good}
+use Rattle.lw_grammar.specs.Told.{told, plan_of}
+use Rattle.lw_grammar.specs.Script.{Setting, are_assets_due, may_end, ScriptInput, input_from, SpellsInput, IsRunnableInput, AreGoodLines}
+use Rattle.lw_grammar.proofs.ScriptOutcome.{rows_in_assets, of_lines}
 use Rattle.lw_grammar.proofs.ScriptSizes.{counted, has_screen, when, sized, begun_tasks, one_task, whole_ends, all_glyphs, none_due, bitmaps_made, bitmaps_named, order_small}
 use Rattle.lw_grammar.proofs.ScriptTasks.{view_of, IsTaskFit, HaveBegun, TasksAre, tasks_fit, calls_listed, groups_listed, zip_at, zip_first, every_task, no_task}
 use Rattle.std.proofs.lemmas.Bool.{eqb-true, ltb-true}
 
 -- no rows are due where no bitmap may stand
-pub rows_done : (s : Setting) (above : List LineForm) → AreGoodLines s above → are_assets_due (section_of above) ≡ false → rows_due above ≡ 0
-rows_done s above g e = go (rows_due above == 0) refl
+pub rows_done : (s : Setting) (above : List LineForm) → AreGoodLines s above → are_assets_due (told above).section ≡ false → (told above).rows_due ≡ 0
+rows_done s above g e = go ((told above).rows_due == 0) refl
   where
-    go : (t : Bool) → (rows_due above == 0) ≡ t → rows_due above ≡ 0
+    go : (t : Bool) → ((told above).rows_due == 0) ≡ t → (told above).rows_due ≡ 0
     go true d = eqb-true _ 0 d
     go false d = let due = rows_in_assets s above g d in absurd (cc)
 
 -- The plan of good lines below which an input may end may be run.
-pub runs_from_good : (s : Setting) (above : List LineForm) (place : ℕ) → AreGoodLines s above → is_whole s.form above ≡ true → IsRunnableInput s (input_from s above place)
+pub runs_from_good : (s : Setting) (above : List LineForm) (place : ℕ) → AreGoodLines s above → may_end s.form (told above).section ≡ true → IsRunnableInput s (input_from s (told above) place)
 runs_from_good s above place g e =
     let ends = whole_ends s.form above e in
     let counts = counted s above g in
-    let size = when (has_screen (section_of above)) _ ends.screen (sized s above g) in
-    let P : Bool → Type 0 = λ b. cond b (nat_lt 0 (length (tasks_above above))) (length (tasks_above above) == 0) ≡ true in
-    let some : 0 < length (tasks_above above) = ltb-true _ _ (subst P ends.begun (begun_tasks s above g)) in
-    let z : Sizes = (plan_above s.hooks above).sizes in
+    let size = when (has_screen (told above).section) _ ends.screen (sized s above g) in
+    let P : Bool → Type 0 = λ b. cond b (nat_lt 0 (length (told above).tasks)) (length (told above).tasks == 0) ≡ true in
+    let some : 0 < length (told above).tasks = ltb-true _ _ (subst P ends.begun (begun_tasks s above g)) in
+    let z : Sizes = (plan_of s.hooks (told above)).sizes in
     let Q : Bool → Type 0 = λ b. TasksAre b z (view_of above) in
     let begun : HaveBegun z (view_of above) = subst Q ends.begun (tasks_fit z s above g refl (omega arith) (omega arith)).tasks in
     let fits = every_task z (view_of above) begun in
@@ -72,5 +70,5 @@ runs_from_good s above place g e =
 -- Every input that bytes spell may be run.
 pub spelled_runnable : (s : Setting) (bytes : List ℕ) (input : ScriptInput) → SpellsInput s bytes input → IsRunnableInput s input
 spelled_runnable s bytes input k =
-    let g = spelled_lines_good s bytes input k in
-    subst (λ (p : ScriptInput). IsRunnableInput s p) (sym k.spelled) (runs_from_good s (with_lines [] (lines bytes)) _ g.0 g.1)
+    let l = of_lines s bytes input k in
+    subst (λ (p : ScriptInput). IsRunnableInput s p) (sym l.is) (runs_from_good s l.reached.forms _ l.read.good l.read.ended)

@@ -4,18 +4,17 @@ use Rattle.std.specs.List.{list_all, range_with_len, slice_index_or}
 use Rattle.lw_region.specs.Rectangle.{within}
 use Rattle.lw_planes.specs.Bitmap.{row_bytes}
 use Rattle.lw_planes.specs.Sizes.{AreSizes, IsPlanes}
-use Rattle.lw_planes.proofs.StorageLaws.{IsPlanes-stored}
+use Rattle.lw_planes.proofs.StorageLaws.{IsPlanes_stored}
 use Rattle.lw_calls.specs.declared.reason.Reason.{Reason}
 use Rattle.lw_calls.specs.declared.form.Form.{Form}
 use Rattle.lw_calls.specs.declared.form.Form.TheVariants.{Plain, Ordered, Audited}
 use Rattle.lw_calls.specs.Limits.{name_limit, call_limit, task_limit, bitmap_limit}
 use Rattle.lw_grammar.specs.Demands.{◌>>=◌, demand}
 use Rattle.lw_grammar.specs.LineForms.{LineForm, ScreenLine, GlyphLine, BitmapLine, RowLine, TaskLine, EndLine, OrderLine, NumbersLine, ReportLine, is_line_in_range}
-use Rattle.lw_grammar.specs.LinesAbove.{Section, ScreenIsDue, AssetsAreDue, CallsAreDue, TasksAreDue, NumbersAreDue, NothingIsDue, section_of, rows_due, row_width, width_above, height_above, depth_above, tasks_above, bitmaps_above, names_above, supers_above, hook_on, hooks_above, group_above, calls_so_far, began_at, glyph_above, bitmaps_with, order_above}
-use Rattle.lw_grammar.specs.Script.{Setting, is_screen_due, are_assets_due, are_calls_due, are_tasks_due, are_numbers_due, is_nothing_due, is_plain, lacks_name, gives_again, fits_group, super_limit, are_few, is_no_hook, is_used, has_padding, is_unbuilt, is_whole}
-use Rattle.lw_grammar.specs.ScriptReading.{form_tested, AreGoodLines}
+use Rattle.lw_grammar.specs.Told.{Section, ScreenIsDue, AssetsAreDue, CallsAreDue, TasksAreDue, NumbersAreDue, NothingIsDue, hook_on, told}
+use Rattle.lw_grammar.specs.Script.{Setting, is_screen_due, are_assets_due, are_calls_due, are_tasks_due, are_numbers_due, is_nothing_due, is_plain, lacks_name, gives_again, fits_group, super_limit, are_few, is_no_hook, is_used, has_padding, is_unbuilt, form_tested, may_end, AreGoodLines}
 use Rattle.lw_grammar.proofs.ScriptForms.{IsFormHere}
-use Rattle.lw_grammar.proofs.ScriptAnswer.{good_line}
+use Rattle.lw_grammar.proofs.ScriptOutcome.{good_line}
 use Rattle.lw_grammar.proofs.ScriptCalls.{in_range, size_range}
 use Rattle.std.proofs.lemmas.Bool.{true≢false, false≢true, not-true, eqb-true, leb-true, lt-ltb, and_parts}
 use Rattle.std.proofs.lemmas.List.Elements.{All-nil, All-cons, All-append, All-push, All-map}
@@ -23,14 +22,14 @@ use Rattle.std.proofs.lemmas.List.Elements.{All-nil, All-cons, All-append, All-p
 -- each test of a good line's form
 pub record IsFormTested (s : Setting) (above : List LineForm) (f : LineForm) : Type 0 where
   pub range : is_line_in_range f ≡ true
-  pub named : lacks_name (bitmaps_above above) f ≡ false
-  pub new : gives_again above f ≡ false
-  pub group : fits_group (group_above above) (nat_lt (began_at above) (calls_so_far above)) f ≡ true
-  pub few : are_few (f ∷ above) ≡ true
+  pub named : lacks_name (told above).bitmap_names f ≡ false
+  pub new : gives_again (told above) f ≡ false
+  pub group : fits_group (told above).group (nat_lt (told above).began (told above).so_far) f ≡ true
+  pub few : are_few (told (f ∷ above)) ≡ true
   pub hook : is_no_hook s.hooks (hook_on f) ≡ false
-  pub unused : is_used (hooks_above above) (hook_on f) ≡ false
-  pub padding : has_padding (row_width above) f ≡ false
-  pub built : is_unbuilt above f ≡ false
+  pub unused : is_used (told above).used (hook_on f) ≡ false
+  pub padding : has_padding (told above).row_width f ≡ false
+  pub built : is_unbuilt f ≡ false
 
 -- a test that was passed holds, and those behind it were passed
 passed : (b : Bool) (r : Reason) (t : Result (Unit {0}) Reason) → (demand b r >>= (λ _. t)) ≡ Ok tt → (b ≡ true) × (t ≡ Ok tt)
@@ -43,17 +42,17 @@ passed_last true r h = refl
 passed_last false r h = absurd (cc)
 
 -- the tests of a form that has passed them
-tests_passed : (s : Setting) (above : List LineForm) (f : LineForm) → form_tested s above f ≡ Ok tt → IsFormTested s above f
+tests_passed : (s : Setting) (above : List LineForm) (f : LineForm) → form_tested s (told above) f ≡ Ok tt → IsFormTested s above f
 tests_passed s above f h =
     let a = passed (is_line_in_range f) _ _ h in
-    let b = passed (not (lacks_name (bitmaps_above above) f)) _ _ a.1 in
-    let c = passed (not (gives_again above f)) _ _ b.1 in
-    let d = passed (fits_group (group_above above) (nat_lt (began_at above) (calls_so_far above)) f) _ _ c.1 in
-    let e = passed (are_few (f ∷ above)) _ _ d.1 in
+    let b = passed (not (lacks_name (told above).bitmap_names f)) _ _ a.1 in
+    let c = passed (not (gives_again (told above) f)) _ _ b.1 in
+    let d = passed (fits_group (told above).group (nat_lt (told above).began (told above).so_far) f) _ _ c.1 in
+    let e = passed (are_few (told (f ∷ above))) _ _ d.1 in
     let g = passed (not (is_no_hook s.hooks (hook_on f))) _ _ e.1 in
-    let i = passed (not (is_used (hooks_above above) (hook_on f))) _ _ g.1 in
-    let j = passed (not (has_padding (row_width above) f)) _ _ i.1 in
-    let k = passed_last (not (is_unbuilt above f)) _ j.1 in
+    let i = passed (not (is_used (told above).used (hook_on f))) _ _ g.1 in
+    let j = passed (not (has_padding (told above).row_width f)) _ _ i.1 in
+    let k = passed_last (not (is_unbuilt f)) _ j.1 in
     record {
       range = a.0;
       named = not-true _ b.0;
@@ -75,19 +74,19 @@ tests s above f g = tests_passed s above f (good_line s above f g.0).1
 
 -- the counts of lines
 pub record AreCounted (above : List LineForm) : Type 0 where
-  pub tasks : length (tasks_above above) ≤ 16
-  pub bitmaps : length (bitmaps_above above) ≤ 16
-  pub names : length (names_above above) ≤ name_limit
-  pub calls : calls_so_far above ≤ call_limit
+  pub tasks : length (told above).tasks ≤ 16
+  pub bitmaps : length (told above).bitmap_names ≤ 16
+  pub names : length (told above).names ≤ name_limit
+  pub calls : (told above).so_far ≤ call_limit
 
 -- good lines are few
 pub counted : (s : Setting) (above : List LineForm) → AreGoodLines s above → AreCounted above
 counted s [] g = record { tasks = omega arith; bitmaps = omega arith; names = omega arith; calls = omega arith }
 counted s (f ∷ above) g =
-    let halves = and_parts ((nat_le (length (tasks_above (f ∷ above))) task_limit && nat_le (length (bitmaps_above (f ∷ above))) bitmap_limit) && nat_le (length (names_above (f ∷ above))) name_limit) _ (tests s above f g).few in
-    let three = and_parts (nat_le (length (tasks_above (f ∷ above))) task_limit && nat_le (length (bitmaps_above (f ∷ above))) bitmap_limit) _ halves.0 in
-    let two = and_parts (nat_le (length (tasks_above (f ∷ above))) task_limit) _ three.0 in
-    let last = and_parts (nat_le (supers_above (f ∷ above)) super_limit) _ halves.1 in
+    let halves = and_parts ((nat_le (length (told (f ∷ above)).tasks) task_limit && nat_le (length (told (f ∷ above)).bitmap_names) bitmap_limit) && nat_le (length (told (f ∷ above)).names) name_limit) _ (tests s above f g).few in
+    let three = and_parts (nat_le (length (told (f ∷ above)).tasks) task_limit && nat_le (length (told (f ∷ above)).bitmap_names) bitmap_limit) _ halves.0 in
+    let two = and_parts (nat_le (length (told (f ∷ above)).tasks) task_limit) _ three.0 in
+    let last = and_parts (nat_le (told (f ∷ above)).supers super_limit) _ halves.1 in
     record { tasks = leb-true _ _ two.0; bitmaps = leb-true _ _ two.1; names = leb-true _ _ three.1; calls = leb-true _ _ last.1 }
 
 -- a fact that is known where a test holds
@@ -172,35 +171,35 @@ sizes_range w h d e =
     record { columns = size_range w 1024 sides.0; rows = size_range h 1024 sides.1; planes = size_range d 8 halves.1 }
 
 -- below the screen line good lines give the sizes of a screen
-pub sized : (s : Setting) (above : List LineForm) → AreGoodLines s above → When (has_screen (section_of above)) (IsScreen (width_above above) (height_above above) (depth_above above))
+pub sized : (s : Setting) (above : List LineForm) → AreGoodLines s above → When (has_screen (told above).section) (IsScreen (told above).width (told above).height (told above).depth)
 sized s [] g = tt
 sized s (ScreenLine w h d ∷ above) g = sizes_range w h d (tests s above (ScreenLine w h d) g).range
 sized s (TaskLine name ∷ above) g =
-    when _ _ (in_assets_or_tasks (section_of above) (here s above (TaskLine name) g).1) (sized s above g.1)
+    when _ _ (in_assets_or_tasks (told above).section (here s above (TaskLine name) g).1) (sized s above g.1)
 sized s (EndLine ∷ above) g =
-    when _ _ (ap has_screen (in_calls (section_of above) (here s above EndLine g).1)) (sized s above g.1)
+    when _ _ (ap has_screen (in_calls (told above).section (here s above EndLine g).1)) (sized s above g.1)
 sized s (OrderLine ∷ above) g =
-    when _ _ (ap has_screen (in_tasks (section_of above) (and_parts _ _ (here s above OrderLine g).1).0)) (sized s above g.1)
+    when _ _ (ap has_screen (in_tasks (told above).section (and_parts _ _ (here s above OrderLine g).1).0)) (sized s above g.1)
 sized s (ReportLine ∷ above) g =
-    when _ _ (ap has_screen (in_tasks (section_of above) (and_parts _ _ (here s above ReportLine g).1).0)) (sized s above g.1)
+    when _ _ (ap has_screen (in_tasks (told above).section (and_parts _ _ (here s above ReportLine g).1).0)) (sized s above g.1)
 sized s (f ∷ above) g = sized s above g.1
 
 -- no task has begun above a screen line, a glyph or a bitmap, and at least one has behind a task line
-pub begun_tasks : (s : Setting) (above : List LineForm) → AreGoodLines s above → cond (has_begun (section_of above)) (nat_lt 0 (length (tasks_above above))) (length (tasks_above above) == 0) ≡ true
+pub begun_tasks : (s : Setting) (above : List LineForm) → AreGoodLines s above → cond (has_begun (told above).section) (nat_lt 0 (length (told above).tasks)) (length (told above).tasks == 0) ≡ true
 begun_tasks s [] g = refl
 begun_tasks s (ScreenLine w h d ∷ above) g =
-    let P : Bool → Type 0 = λ b. cond b (nat_lt 0 (length (tasks_above above))) (length (tasks_above above) == 0) ≡ true in
-    subst P (in_screen (section_of above) (here s above (ScreenLine w h d) g).1) (begun_tasks s above g.1)
-begun_tasks s (TaskLine name ∷ above) g = lt-ltb 0 _ (omega (arith, length-append (tasks_above above) (name ∷ [])))
+    let P : Bool → Type 0 = λ b. cond b (nat_lt 0 (length (told above).tasks)) (length (told above).tasks == 0) ≡ true in
+    subst P (in_screen (told above).section (here s above (ScreenLine w h d) g).1) (begun_tasks s above g.1)
+begun_tasks s (TaskLine name ∷ above) g = lt-ltb 0 _ (omega (arith, length-append (told above).tasks (name ∷ [])))
 begun_tasks s (EndLine ∷ above) g =
-    let P : Section → Type 0 = λ c. cond (has_begun c) (nat_lt 0 (length (tasks_above above))) (length (tasks_above above) == 0) ≡ true in
-    subst P (in_calls (section_of above) (here s above EndLine g).1) (begun_tasks s above g.1)
+    let P : Section → Type 0 = λ c. cond (has_begun c) (nat_lt 0 (length (told above).tasks)) (length (told above).tasks == 0) ≡ true in
+    subst P (in_calls (told above).section (here s above EndLine g).1) (begun_tasks s above g.1)
 begun_tasks s (OrderLine ∷ above) g =
-    let P : Section → Type 0 = λ c. cond (has_begun c) (nat_lt 0 (length (tasks_above above))) (length (tasks_above above) == 0) ≡ true in
-    subst P (in_tasks (section_of above) (and_parts _ _ (here s above OrderLine g).1).0) (begun_tasks s above g.1)
+    let P : Section → Type 0 = λ c. cond (has_begun c) (nat_lt 0 (length (told above).tasks)) (length (told above).tasks == 0) ≡ true in
+    subst P (in_tasks (told above).section (and_parts _ _ (here s above OrderLine g).1).0) (begun_tasks s above g.1)
 begun_tasks s (ReportLine ∷ above) g =
-    let P : Section → Type 0 = λ c. cond (has_begun c) (nat_lt 0 (length (tasks_above above))) (length (tasks_above above) == 0) ≡ true in
-    subst P (in_tasks (section_of above) (and_parts _ _ (here s above ReportLine g).1).0) (begun_tasks s above g.1)
+    let P : Section → Type 0 = λ c. cond (has_begun c) (nat_lt 0 (length (told above).tasks)) (length (told above).tasks == 0) ≡ true in
+    subst P (in_tasks (told above).section (and_parts _ _ (here s above ReportLine g).1).0) (begun_tasks s above g.1)
 begun_tasks s (f ∷ above) g = begun_tasks s above g.1
 
 -- where no further task may begin, assets are due if a task begins
@@ -214,14 +213,14 @@ first_task true NumbersAreDue p e a = absurd (false≢true e)
 first_task true NothingIsDue p e a = absurd (false≢true e)
 
 -- a script alone has at most one task
-pub one_task : (s : Setting) (above : List LineForm) → is_plain s.form ≡ true → AreGoodLines s above → length (tasks_above above) ≤ 1
+pub one_task : (s : Setting) (above : List LineForm) → is_plain s.form ≡ true → AreGoodLines s above → length (told above).tasks ≤ 1
 one_task s [] p g = omega arith
 one_task s (TaskLine name ∷ above) p g =
     let h = here s above (TaskLine name) g in
-    let P : Bool → Type 0 = λ b. cond b (nat_lt 0 (length (tasks_above above))) (length (tasks_above above) == 0) ≡ true in
-    let none : (length (tasks_above above) == 0) ≡ true = subst P (first_task (is_plain s.form) (section_of above) p h.1 h.2) (begun_tasks s above g.1) in
-    let zero_tasks : length (tasks_above above) ≡ 0 = eqb-true _ 0 none in
-    omega (arith, length-append (tasks_above above) (name ∷ []))
+    let P : Bool → Type 0 = λ b. cond b (nat_lt 0 (length (told above).tasks)) (length (told above).tasks == 0) ≡ true in
+    let none : (length (told above).tasks == 0) ≡ true = subst P (first_task (is_plain s.form) (told above).section p h.1 h.2) (begun_tasks s above g.1) in
+    let zero_tasks : length (told above).tasks ≡ 0 = eqb-true _ 0 none in
+    omega (arith, length-append (told above).tasks (name ∷ []))
 one_task s (f ∷ above) p g = one_task s above p g.1
 
 -- a section below which an input may end
@@ -256,25 +255,25 @@ end_by_nothing NumbersAreDue e = absurd (false≢true e)
 end_by_nothing NothingIsDue e = record { begun = refl; screen = refl; assets = refl; calls = refl }
 
 -- where an input may end, its section is one of these
-pub whole_ends : (form : Form) (above : List LineForm) → is_whole form above ≡ true → MayEnd (section_of above)
-whole_ends Plain above e = end_by_tasks (section_of above) e
-whole_ends Ordered above e = end_by_numbers (section_of above) e
-whole_ends Audited above e = end_by_nothing (section_of above) e
+pub whole_ends : (form : Form) (above : List LineForm) → may_end form (told above).section ≡ true → MayEnd (told above).section
+whole_ends Plain above e = end_by_tasks (told above).section e
+whole_ends Ordered above e = end_by_numbers (told above).section e
+whole_ends Audited above e = end_by_nothing (told above).section e
 
 -- the rows of a glyph are eight
-glyph_rows : (s : Setting) (above : List LineForm) → AreGoodLines s above → (code : ℕ) → length (glyph_above above code) ≡ 8
+glyph_rows : (s : Setting) (above : List LineForm) → AreGoodLines s above → (code : ℕ) → length ((told above).glyphs code) ≡ 8
 glyph_rows s [] g code = refl
 glyph_rows s (GlyphLine c rows ∷ above) g code = step (c == code) (glyph_rows s above g.1 code)
   where
-    step : (t : Bool) → length (glyph_above above code) ≡ 8 → length (cond t rows (glyph_above above code)) ≡ 8
+    step : (t : Bool) → length ((told above).glyphs code) ≡ 8 → length (cond t rows ((told above).glyphs code)) ≡ 8
     step true rest = (here s above (GlyphLine c rows) g).3
     step false rest = rest
 glyph_rows s (f ∷ above) g code = glyph_rows s above g.1 code
 
 -- so are those of all glyphs
-pub all_glyphs : (s : Setting) (above : List LineForm) → AreGoodLines s above → All (λ rows. length rows ≡ 8) (map (λ i. glyph_above above (32 + i)) (range_with_len 0 95))
+pub all_glyphs : (s : Setting) (above : List LineForm) → AreGoodLines s above → All (λ rows. length rows ≡ 8) (map (λ i. (told above).glyphs (32 + i)) (range_with_len 0 95))
 all_glyphs s above g =
-    All-map (λ rows. length rows ≡ 8) (λ i. glyph_above above (32 + i)) (range_with_len 0 95) (λ k d low. glyph_rows s above g (32 + slice_index_or (range_with_len 0 95) k d))
+    All-map (λ rows. length rows ≡ 8) (λ i. (told above).glyphs (32 + i)) (range_with_len 0 95) (λ k d low. glyph_rows s above g (32 + slice_index_or (range_with_len 0 95) k d))
 
 -- a bitmap's sizes, which a script has
 bitmap_sizes : (w h d : ℕ) → IsScreen w h d → AreSizes w h d
@@ -286,8 +285,8 @@ bitmap_sizes w h d s =
     }
 
 -- where no rows are due, none are needed
-pub none_due : (above : List LineForm) → rows_due above ≡ 0 → 0 ≡ rows_due above * row_bytes (row_width above)
-none_due above e = sym (zero-mul (row_bytes (row_width above))) ∙ ap (λ k. k * row_bytes (row_width above)) (sym e)
+pub none_due : (above : List LineForm) → (told above).rows_due ≡ 0 → 0 ≡ (told above).rows_due * row_bytes (told above).row_width
+none_due above e = sym (zero-mul (row_bytes (told above).row_width)) ∙ ap (λ k. k * row_bytes (told above).row_width) (sym e)
 
 -- a row less is due
 row_less : (due n bytes rows : ℕ) → (due == 0) ≡ false → bytes ≡ n → rows ≡ (due - 1) * n → bytes + rows ≡ due * n
@@ -298,26 +297,24 @@ row_less (suc due) n bytes rows e h k =
     omega (arith, suc-mul due n)
 
 -- Where no rows are due but those behind, the bitmaps above are planes.
-pub bitmaps_made : (s : Setting) (above : List LineForm) → AreGoodLines s above → (rows : List ℕ) → length rows ≡ rows_due above * row_bytes (row_width above) → All IsPlanes (bitmaps_with above rows)
+pub bitmaps_made : (s : Setting) (above : List LineForm) → AreGoodLines s above → (rows : List ℕ) → length rows ≡ (told above).rows_due * row_bytes (told above).row_width → All IsPlanes ((told above).bitmaps rows)
 bitmaps_made s [] g rows n = All-nil IsPlanes
 bitmaps_made s (BitmapLine name w h d ∷ above) g rows n =
     let sizes = bitmap_sizes _ _ _ (sizes_range w h d (tests s above (BitmapLine name w h d) g).range) in
-    let due : rows_due above ≡ 0 = eqb-true _ 0 (here s above (BitmapLine name w h d) g).0 in
-    All-push IsPlanes (bitmaps_with above []) _ (bitmaps_made s above g.1 [] (none_due above due)) (IsPlanes-stored _ _ _ rows (record { sizes = sizes; long = n }))
+    let due : (told above).rows_due ≡ 0 = eqb-true _ 0 (here s above (BitmapLine name w h d) g).0 in
+    All-push IsPlanes ((told above).bitmaps []) _ (bitmaps_made s above g.1 [] (none_due above due)) (IsPlanes_stored _ _ _ rows (record { sizes = sizes; long = n }))
 bitmaps_made s (RowLine bytes ∷ above) g rows n =
     let h = here s above (RowLine bytes) g in
-    bitmaps_made s above g.1 (bytes ++ rows) (length-append bytes rows ∙ row_less (rows_due above) _ _ _ h.0 h.1 n)
-bitmaps_made s (f ∷ above) g rows n =
-    let due : rows_due above ≡ 0 = eqb-true _ 0 (here s above f g).0 in
-    bitmaps_made s above g.1 [] (none_due above due)
+    bitmaps_made s above g.1 (bytes ++ rows) (length-append bytes rows ∙ row_less (told above).rows_due _ _ _ h.0 h.1 n)
+bitmaps_made s (f ∷ above) g rows n = bitmaps_made s above g.1 rows n
 
 -- there are as many bitmaps as names of them
-pub bitmaps_named : (above : List LineForm) (rows : List ℕ) → length (bitmaps_with above rows) ≡ length (bitmaps_above above)
+pub bitmaps_named : (above : List LineForm) (rows : List ℕ) → length ((told above).bitmaps rows) ≡ length (told above).bitmap_names
 bitmaps_named [] rows = refl
 bitmaps_named (BitmapLine name w h d ∷ above) rows =
-    length-append (bitmaps_with above []) _ ∙ ap (λ k. k + 1) (bitmaps_named above []) ∙ sym (length-append (bitmaps_above above) (name ∷ []))
+    length-append ((told above).bitmaps []) _ ∙ ap (λ k. k + 1) (bitmaps_named above []) ∙ sym (length-append (told above).bitmap_names (name ∷ []))
 bitmaps_named (RowLine bytes ∷ above) rows = bitmaps_named above (bytes ++ rows)
-bitmaps_named (f ∷ above) rows = bitmaps_named above []
+bitmaps_named (f ∷ above) rows = bitmaps_named above rows
 
 -- each number of an order is below 16
 numbers_small : (zs : List ℤ) → list_all (λ z. within (pos 0) z (pos 15)) zs ≡ true → All (λ task. task ≤ 15) (map unsigned_abs zs)
@@ -327,8 +324,8 @@ numbers_small (z ∷ zs) h =
     All-cons (λ task. task ≤ 15) (unsigned_abs z) (map unsigned_abs zs) (in_range z 15 halves.0) (numbers_small zs halves.1)
 
 -- so is each of an order's lines
-pub order_small : (s : Setting) (above : List LineForm) → AreGoodLines s above → All (λ task. task ≤ 15) (order_above above)
+pub order_small : (s : Setting) (above : List LineForm) → AreGoodLines s above → All (λ task. task ≤ 15) (told above).order
 order_small s [] g = All-nil (λ task. task ≤ 15)
 order_small s (NumbersLine zs ∷ above) g =
-    All-append (λ task. task ≤ 15) (order_above above) _ (order_small s above g.1) (numbers_small zs (tests s above (NumbersLine zs) g).range)
+    All-append (λ task. task ≤ 15) (told above).order _ (order_small s above g.1) (numbers_small zs (tests s above (NumbersLine zs) g).range)
 order_small s (f ∷ above) g = order_small s above g.1

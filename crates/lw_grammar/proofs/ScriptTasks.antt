@@ -1,5 +1,5 @@
 -- Below good lines each task's calls fit, and so do its groups.
-use Rattle.std.proofs.Common.{◌≡◌, ℕ, zero, suc, ◌+◌, ◌-◌, ◌<◌, ◌≤◌, Bool, true, false, not, ◌&&◌, ◌||◌, List, [], ◌∷◌, ◌++◌, length, map, drop, bytes_eq, Option, Some, None, IsTrue, All, refl, sym, ap, subst, ◌∙◌, arith, length-append, length-drop, ltb-true}
+use Rattle.std.proofs.Common.{◌≡◌, ℕ, zero, suc, ◌+◌, ◌-◌, ◌<◌, ◌≤◌, Bool, true, false, not, ◌&&◌, ◌||◌, List, [], ◌∷◌, ◌++◌, length, map, drop, bytes_eq, Option, Some, None, is_none, IsTrue, All, refl, sym, ap, subst, ◌∙◌, arith, length-append, length-drop, ltb-true}
 use Rattle.std.specs.List.{list_any, list_all, AllZip, slice_index_or}
 use Rattle.lw_calls.specs.declared.sizes.Sizes.{Sizes}
 use Rattle.lw_calls.specs.declared.call.Call.{Call}
@@ -10,10 +10,9 @@ use Rattle.lw_calls.specs.Limits.{call_limit, call_fits}
 use Rattle.lw_calls.specs.Touches.{slots_of}
 use Rattle.lw_calls.specs.Plan.{is_one, is_all, begins_update, ends_update, may_be_locked, may_stand, group_fits, groups_fit}
 use Rattle.lw_calls.specs.Built.{is_built}
-use Rattle.lw_grammar.specs.LineForms.{Act, RefreshAct, EndRefreshAct, LineForm, ScreenLine, BitmapLine, TaskLine, EndLine, OrderLine, ReportLine, CallLine, LockLine, UnlockLine, HoldLine, ReleaseLine, layers_of}
-use Rattle.lw_grammar.specs.LinesAbove.{Section, ScreenIsDue, AssetsAreDue, CallsAreDue, TasksAreDue, NumbersAreDue, NothingIsDue, section_of, tasks_above, bitmaps_above, and_names, names_above, place_among, hook_on, Opened, Locked, Updating, Held, opened_by, group_above, calls_so_far, began_at, spelled_call, call_below, onto_last, calls_above, group_from, groups_above}
-use Rattle.lw_grammar.specs.Script.{Setting, is_screen_due, are_assets_due, are_calls_due, are_tasks_due, is_beginning, is_ending, is_on_one, call_may_stand, is_lock_on, is_hold, is_missing, is_no_hook}
-use Rattle.lw_grammar.specs.ScriptReading.{AreGoodLines}
+use Rattle.lw_grammar.specs.LineForms.{Act, CloseAct, RefreshAct, EndRefreshAct, LineForm, ScreenLine, BitmapLine, TaskLine, EndLine, OrderLine, ReportLine, CallLine, LockLine, UnlockLine, HoldLine, ReleaseLine, layers_of}
+use Rattle.lw_grammar.specs.Told.{Section, ScreenIsDue, AssetsAreDue, CallsAreDue, TasksAreDue, NumbersAreDue, NothingIsDue, Opened, Locked, Updating, Held, and_names, place_among, onto_last, spelled_call, call_below, hook_on, opened_by, group_from, told}
+use Rattle.lw_grammar.specs.Script.{Setting, is_screen_due, are_assets_due, are_calls_due, are_tasks_due, is_beginning, is_ending, is_on_one, call_may_stand, is_lock_on, is_hold, is_no_hook, AreGoodLines}
 use Rattle.lw_grammar.proofs.ScriptNames.{equal_names, names_grow, any_kept, place_kept, all_named, places_below}
 use Rattle.lw_grammar.proofs.ScriptCalls.{act_fits}
 use Rattle.lw_grammar.proofs.ScriptGroups.{begins_so, ends_so, arranges, on_one, EndBefore, end_later, end_pushed, groups_kept, groups_pushed, to_the_end, all_pushed, update_stands, locked_stands, drop_pushed}
@@ -22,11 +21,11 @@ use Rattle.std.proofs.lemmas.Bool.{true≢false, false≢true, not-false, eq-eqb
 use Rattle.std.proofs.lemmas.List.{drop_all, drop_at}
 use Rattle.std.proofs.lemmas.List.Elements.{All-nil, All-cons, All-push}
 
--- what the lines above tell of the tasks: their calls and groups, and of the nearest task how many calls it has, the group
--- that is open and where that began; and the layers' names
+-- what lines tell of the tasks: their calls and groups, and of the nearest task how many calls it has, the group that is
+-- open and where that began; and the layers' names
 pub record View : Type 0 where
-  pub all : List (List Call)
-  pub all_groups : List (List Group)
+  pub calls : List (List Call)
+  pub groups : List (List Group)
   pub so_far : ℕ
   pub group : Option Opened
   pub began : ℕ
@@ -35,12 +34,12 @@ pub record View : Type 0 where
 abbrev pub view_of : List LineForm → View
 view_of above =
     record {
-      all = calls_above above;
-      all_groups = groups_above above;
-      so_far = calls_so_far above;
-      group = group_above above;
-      began = began_at above;
-      names = names_above above;
+      calls = (told above).calls;
+      groups = (told above).groups;
+      so_far = (told above).so_far;
+      group = (told above).group;
+      began = (told above).began;
+      names = (told above).names;
     }
 
 -- the calls of one task fit, and so do its groups
@@ -84,15 +83,15 @@ pub record HaveBegun (z : Sizes) (v : View) : Type 0 where
   pub done_groups : List (List Group)
   pub calls : List Call
   pub groups : List Group
-  pub all_are : v.all ≡ done ++ calls ∷ []
-  pub groups_are : v.all_groups ≡ done_groups ++ groups ∷ []
+  pub all_are : v.calls ≡ done ++ calls ∷ []
+  pub groups_are : v.groups ≡ done_groups ++ groups ∷ []
   pub done_fit : AllZip (IsTaskFit z) done done_groups
   pub now : IsNow z v calls groups
 
 -- the same where tasks have begun, and else there are none
 abbrev pub TasksAre : Bool → Sizes → View → Type 0
 TasksAre true z v = HaveBegun z v
-TasksAre false z v = (v.all ≡ []) × (v.all_groups ≡ [])
+TasksAre false z v = (v.calls ≡ []) × (v.groups ≡ [])
 
 -- no group is open but in a task
 pub record AreTasks (z : Sizes) (c : Section) (v : View) : Type 0 where
@@ -119,7 +118,7 @@ zip_pushed R (a ∷ as') [] x y h k = absurd h
 zip_pushed R (a ∷ as') (b ∷ bs) x y h k = (h.0, zip_pushed R as' bs x y h.1 k)
 
 -- a missing group
-pub none_open : (o : Option Opened) → is_missing o ≡ true → o ≡ None
+pub none_open : (o : Option Opened) → is_none o ≡ true → o ≡ None
 none_open None h = refl
 none_open (Some g) h = absurd (false≢true h)
 
@@ -134,7 +133,7 @@ task_now z v e n =
     record { long = sym e; fits = nothing_fits z; state = subst P (sym n) tt }
 
 -- a task begins behind others
-task_more : (z : Sizes) (v : View) (w : View) → w.all ≡ v.all ++ [] ∷ [] → w.all_groups ≡ v.all_groups ++ [] ∷ [] → w.so_far ≡ 0 → w.group ≡ None → HaveBegun z v → HaveBegun z w
+task_more : (z : Sizes) (v : View) (w : View) → w.calls ≡ v.calls ++ [] ∷ [] → w.groups ≡ v.groups ++ [] ∷ [] → w.so_far ≡ 0 → w.group ≡ None → HaveBegun z v → HaveBegun z w
 task_more z v w a g e n b =
     record {
       done = b.done ++ b.calls ∷ [];
@@ -148,7 +147,7 @@ task_more z v w a g e n b =
     }
 
 -- the first task begins
-task_first : (z : Sizes) (v : View) (w : View) → w.all ≡ v.all ++ [] ∷ [] → w.all_groups ≡ v.all_groups ++ [] ∷ [] → w.so_far ≡ 0 → w.group ≡ None → (v.all ≡ []) × (v.all_groups ≡ []) → HaveBegun z w
+task_first : (z : Sizes) (v : View) (w : View) → w.calls ≡ v.calls ++ [] ∷ [] → w.groups ≡ v.groups ++ [] ∷ [] → w.so_far ≡ 0 → w.group ≡ None → (v.calls ≡ []) × (v.groups ≡ []) → HaveBegun z w
 task_first z v w a g e n h =
     record {
       done = [];
@@ -162,7 +161,7 @@ task_first z v w a g e n h =
     }
 
 -- a task begins
-task_begins : (z : Sizes) (c : Section) (v w : View) → (are_assets_due c || are_tasks_due c) ≡ true → w.all ≡ v.all ++ [] ∷ [] → w.all_groups ≡ v.all_groups ++ [] ∷ [] → w.so_far ≡ 0 → w.group ≡ v.group → AreTasks z c v → HaveBegun z w
+task_begins : (z : Sizes) (c : Section) (v w : View) → (are_assets_due c || are_tasks_due c) ≡ true → w.calls ≡ v.calls ++ [] ∷ [] → w.groups ≡ v.groups ++ [] ∷ [] → w.so_far ≡ 0 → w.group ≡ v.group → AreTasks z c v → HaveBegun z w
 task_begins z ScreenIsDue v w p a g e n h = absurd (false≢true p)
 task_begins z AssetsAreDue v w p a g e n h = task_first z v w a g e (n ∙ h.closed refl) h.tasks
 task_begins z CallsAreDue v w p a g e n h = absurd (false≢true p)
@@ -243,7 +242,7 @@ task_grouped z calls groups g before fits h =
     record { few = h.few; fit = h.fit; built = h.built; grouped = groups_pushed calls groups g h.grouped before fits }
 
 -- what a line that is no beginning and no end leaves of groups
-pub plain_groups : (above : List LineForm) (layers : List (List ℕ)) (act : Act) → is_beginning act ≡ false → is_ending act ≡ false → (groups_above (CallLine layers act ∷ above) ≡ groups_above above) × (opened_by layers act (group_above above) ≡ group_above above) × (began_at (CallLine layers act ∷ above) ≡ began_at above)
+pub plain_groups : (above : List LineForm) (layers : List (List ℕ)) (act : Act) → is_beginning act ≡ false → is_ending act ≡ false → ((told (CallLine layers act ∷ above)).groups ≡ (told above).groups) × (opened_by layers act (told above).group ≡ (told above).group) × ((told (CallLine layers act ∷ above)).began ≡ (told above).began)
 plain_groups above [] RefreshAct b e = absurd (true≢false b)
 plain_groups above (l ∷ []) RefreshAct b e = absurd (true≢false b)
 plain_groups above (l ∷ m ∷ ms) RefreshAct b e = absurd (true≢false b)
@@ -252,31 +251,36 @@ plain_groups above (l ∷ []) (EndRefreshAct full) b e = absurd (true≢false e)
 plain_groups above (l ∷ m ∷ ms) (EndRefreshAct full) b e = absurd (true≢false e)
 plain_groups above layers act b e = (refl, refl, refl)
 
+-- whether an act's call can be made doesn't hang on its slots and bitmaps
+built_so : (bitmaps : List (List ℕ)) (act : Act) (slots : List ℕ) → is_built (spelled_call bitmaps act slots) ≡ is_built (spelled_call [] act [])
+built_so bitmaps CloseAct slots = refl
+built_so bitmaps act slots = refl
+
 -- the call of a good line fits, and its step is given
-call_sound : (z : Sizes) (s : Setting) (above : List LineForm) (layers : List (List ℕ)) (act : Act) → AreGoodLines s (CallLine layers act ∷ above) → z.hooks ≡ s.hooks → length (names_above (CallLine layers act ∷ above)) ≤ z.slots → length (bitmaps_above above) ≤ z.bitmaps → (call_fits z (call_below above layers act) ≡ true) × (is_built (call_below above layers act) ≡ true)
+call_sound : (z : Sizes) (s : Setting) (above : List LineForm) (layers : List (List ℕ)) (act : Act) → AreGoodLines s (CallLine layers act ∷ above) → z.hooks ≡ s.hooks → length (told (CallLine layers act ∷ above)).names ≤ z.slots → length (told above).bitmap_names ≤ z.bitmaps → (call_fits z (call_below (told above) layers act) ≡ true) × (is_built (call_below (told above) layers act) ≡ true)
 call_sound z s above layers act g hooks slots bitmaps =
     let h = here s above (CallLine layers act) g in
     let t = tests s above (CallLine layers act) g in
-    let more : List (List ℕ) = and_names (names_above above) layers in
-    let low = places_below more layers (all_named (names_above above) layers) in
+    let more : List (List ℕ) = and_names (told above).names layers in
+    let low = places_below more layers (all_named (told above).names layers) in
     let P : ℕ → Type 0 = λ n. is_no_hook n (hook_on (CallLine layers act)) ≡ false in
-    (act_fits z (bitmaps_above above) bitmaps (map (place_among more) layers) layers act h.3.1 t.range t.named (subst P (sym hooks) t.hook) (λ i k. omega (arith, low i (omega (arith, h.3.0, k)), slots)), not-false _ t.built)
+    (act_fits z (told above).bitmap_names bitmaps (map (place_among more) layers) layers act h.3.1 t.range t.named (subst P (sym hooks) t.hook) (λ i k. omega (arith, low i (omega (arith, h.3.0, k)), slots)), built_so (told above).bitmap_names act (map (place_among more) layers) ∙ not-false _ t.built)
 
 -- the tasks with a call and groups more in the nearest one
-module _ (z : Sizes) (s : Setting) (above : List LineForm) (layers : List (List ℕ)) (act : Act) (good : AreGoodLines s (CallLine layers act ∷ above)) (hooks : z.hooks ≡ s.hooks) (slots : length (names_above (CallLine layers act ∷ above)) ≤ z.slots) (bitmaps : length (bitmaps_above above) ≤ z.bitmaps) where
+module _ (z : Sizes) (s : Setting) (above : List LineForm) (layers : List (List ℕ)) (act : Act) (good : AreGoodLines s (CallLine layers act ∷ above)) (hooks : z.hooks ≡ s.hooks) (slots : length (told (CallLine layers act ∷ above)).names ≤ z.slots) (bitmaps : length (told above).bitmap_names ≤ z.bitmaps) where
   -- the call
   abbrev the_call : Call
-  the_call = call_below above layers act
+  the_call = call_below (told above) layers act
 
   -- the nearest task's calls with it
-  call_fits_now : (calls : List Call) (groups : List Group) → length calls ≡ calls_so_far above → IsTaskFit z calls groups → IsTaskFit z (calls ++ the_call ∷ []) groups
+  call_fits_now : (calls : List Call) (groups : List Group) → length calls ≡ (told above).so_far → IsTaskFit z calls groups → IsTaskFit z (calls ++ the_call ∷ []) groups
   call_fits_now calls groups long h =
       let sound = call_sound z s above layers act good hooks slots bitmaps in
       let few = (counted s (CallLine layers act ∷ above) good).calls in
       task_longer z calls groups the_call (omega (arith, few, long)) sound.0 sound.1 h
 
   -- the tasks with it
-  with_call : (b : HaveBegun z (view_of above)) (groups : List Group) → groups_above (CallLine layers act ∷ above) ≡ b.done_groups ++ groups ∷ [] → IsTaskFit z (b.calls ++ the_call ∷ []) groups → OpenState (group_above (CallLine layers act ∷ above)) (calls_so_far above + 1) (began_at (CallLine layers act ∷ above)) (and_names (names_above above) layers) (b.calls ++ the_call ∷ []) groups → HaveBegun z (view_of (CallLine layers act ∷ above))
+  with_call : (b : HaveBegun z (view_of above)) (groups : List Group) → (told (CallLine layers act ∷ above)).groups ≡ b.done_groups ++ groups ∷ [] → IsTaskFit z (b.calls ++ the_call ∷ []) groups → OpenState (told (CallLine layers act ∷ above)).group ((told above).so_far + 1) (told (CallLine layers act ∷ above)).began (and_names (told above).names layers) (b.calls ++ the_call ∷ []) groups → HaveBegun z (view_of (CallLine layers act ∷ above))
   with_call b groups are fits state =
       record {
         done = b.done;
@@ -295,12 +299,12 @@ module _ (z : Sizes) (s : Setting) (above : List LineForm) (layers : List (List 
       let h = here s above (CallLine layers act) good in
       let t = tests s above (CallLine layers act) good in
       let e = plain_groups above layers act begins ends in
-      let more : List (List ℕ) = and_names (names_above above) layers in
+      let more : List (List ℕ) = and_names (told above).names layers in
       let calls : List Call = b.calls ++ the_call ∷ [] in
-      let later = names_later (group_above above) (calls_so_far above) (began_at above) (names_above above) layers b.calls b.groups b.now.state in
-      let plain = plain_state (group_above above) (calls_so_far above) (began_at above) (names_above above) layers act (bitmaps_above above) b.calls b.groups b.now.long h.3.0 begins ends t.group later in
-      let P : Option Opened → Type 0 = λ o. OpenState o (calls_so_far above + 1) (began_at (CallLine layers act ∷ above)) more calls b.groups in
-      let Q : ℕ → Type 0 = λ k. OpenState (group_above above) (calls_so_far above + 1) k more calls b.groups in
+      let later = names_later (told above).group (told above).so_far (told above).began (told above).names layers b.calls b.groups b.now.state in
+      let plain = plain_state (told above).group (told above).so_far (told above).began (told above).names layers act (told above).bitmap_names b.calls b.groups b.now.long h.3.0 begins ends t.group later in
+      let P : Option Opened → Type 0 = λ o. OpenState o ((told above).so_far + 1) (told (CallLine layers act ∷ above)).began more calls b.groups in
+      let Q : ℕ → Type 0 = λ k. OpenState (told above).group ((told above).so_far + 1) k more calls b.groups in
       with_call b b.groups (e.0 ∙ b.groups_are) (call_fits_now b.calls b.groups b.now.long b.now.fits) (subst P (sym e.1) (subst Q (sym e.2) plain))
 
 -- an update begins where no group is open
@@ -326,34 +330,34 @@ update_whole slot [] c h k = absurd h
 update_whole slot (b ∷ cs) c h k = update_stands slot b cs c h.0 h.1 k
 
 -- an update begins
-refresh_call : (z : Sizes) (s : Setting) (above : List LineForm) (l : List ℕ) → AreGoodLines s (CallLine (l ∷ []) RefreshAct ∷ above) → z.hooks ≡ s.hooks → length (names_above (CallLine (l ∷ []) RefreshAct ∷ above)) ≤ z.slots → length (bitmaps_above above) ≤ z.bitmaps → HaveBegun z (view_of above) → HaveBegun z (view_of (CallLine (l ∷ []) RefreshAct ∷ above))
+refresh_call : (z : Sizes) (s : Setting) (above : List LineForm) (l : List ℕ) → AreGoodLines s (CallLine (l ∷ []) RefreshAct ∷ above) → z.hooks ≡ s.hooks → length (told (CallLine (l ∷ []) RefreshAct ∷ above)).names ≤ z.slots → length (told above).bitmap_names ≤ z.bitmaps → HaveBegun z (view_of above) → HaveBegun z (view_of (CallLine (l ∷ []) RefreshAct ∷ above))
 refresh_call z s above l g hooks slots bitmaps b =
     let t = tests s above (CallLine (l ∷ []) RefreshAct) g in
-    let so_far : ℕ = calls_so_far above in
-    let more : List (List ℕ) = and_names (names_above above) (l ∷ []) in
-    let c : Call = call_below above (l ∷ []) RefreshAct in
-    let P : Option Opened → Type 0 = λ o. OpenState o so_far (began_at above) (names_above above) b.calls b.groups in
-    let before : EndBefore b.groups so_far = subst P (opens_none (group_above above) l t.group) b.now.state in
+    let so_far : ℕ = (told above).so_far in
+    let more : List (List ℕ) = and_names (told above).names (l ∷ []) in
+    let c : Call = call_below (told above) (l ∷ []) RefreshAct in
+    let P : Option Opened → Type 0 = λ o. OpenState o so_far (told above).began (told above).names b.calls b.groups in
+    let before : EndBefore b.groups so_far = subst P (opens_none (told above).group l t.group) b.now.state in
     let Q : List Call → Type 0 = λ cs. IsUpdating (place_among more l) cs in
     let alone : drop so_far (b.calls ++ c ∷ []) ≡ c ∷ [] = drop_at b.calls (c ∷ []) so_far b.now.long in
     let begun : IsUpdating (place_among more l) (c ∷ []) = (and_from _ _ (eq-eqb (place_among more l) _ refl) refl, refl) in
     with_call z s above (l ∷ []) RefreshAct g hooks slots bitmaps b b.groups b.groups_are (call_fits_now z s above (l ∷ []) RefreshAct g hooks slots bitmaps b.calls b.groups b.now.long b.now.fits)
-    (record { before = before; order = omega arith }, (all_named (names_above above) (l ∷ [])).0, subst Q (sym alone) begun)
+    (record { before = before; order = omega arith }, (all_named (told above).names (l ∷ [])).0, subst Q (sym alone) begun)
 
 -- an update ends
-endrefresh_call : (z : Sizes) (s : Setting) (above : List LineForm) (l : List ℕ) (full : Bool) → AreGoodLines s (CallLine (l ∷ []) (EndRefreshAct full) ∷ above) → z.hooks ≡ s.hooks → length (names_above (CallLine (l ∷ []) (EndRefreshAct full) ∷ above)) ≤ z.slots → length (bitmaps_above above) ≤ z.bitmaps → HaveBegun z (view_of above) → HaveBegun z (view_of (CallLine (l ∷ []) (EndRefreshAct full) ∷ above))
+endrefresh_call : (z : Sizes) (s : Setting) (above : List LineForm) (l : List ℕ) (full : Bool) → AreGoodLines s (CallLine (l ∷ []) (EndRefreshAct full) ∷ above) → z.hooks ≡ s.hooks → length (told (CallLine (l ∷ []) (EndRefreshAct full) ∷ above)).names ≤ z.slots → length (told above).bitmap_names ≤ z.bitmaps → HaveBegun z (view_of above) → HaveBegun z (view_of (CallLine (l ∷ []) (EndRefreshAct full) ∷ above))
 endrefresh_call z s above l full g hooks slots bitmaps b =
     let t = tests s above (CallLine (l ∷ []) (EndRefreshAct full)) g in
-    let so_far : ℕ = calls_so_far above in
-    let began : ℕ = began_at above in
-    let slot : ℕ = place_among (names_above above) l in
-    let c : Call = call_below above (l ∷ []) (EndRefreshAct full) in
+    let so_far : ℕ = (told above).so_far in
+    let began : ℕ = (told above).began in
+    let slot : ℕ = place_among (told above).names l in
+    let c : Call = call_below (told above) (l ∷ []) (EndRefreshAct full) in
     let calls : List Call = b.calls ++ c ∷ [] in
-    let group : Group = group_from above (Slot slot) (so_far + 1) in
-    let P : Option Opened → Type 0 = λ o. OpenState o so_far began (names_above above) b.calls b.groups in
-    let state : OpenState (Some (Updating l)) so_far began (names_above above) b.calls b.groups = subst P (ends_same (group_above above) l full t.group) b.now.state in
+    let group : Group = group_from (told above) (Slot slot) (so_far + 1) in
+    let P : Option Opened → Type 0 = λ o. OpenState o so_far began (told above).names b.calls b.groups in
+    let state : OpenState (Some (Updating l)) so_far began (told above).names b.calls b.groups = subst P (ends_same (told above).group l full t.group) b.now.state in
     let long : length calls ≡ so_far + 1 = length-append b.calls (c ∷ []) ∙ ap (λ k. k + 1) b.now.long in
-    let same : place_among (and_names (names_above above) (l ∷ [])) l ≡ slot = place_kept (bytes_eq l) (names_above above) (l ∷ []) state.1 in
+    let same : place_among (and_names (told above).names (l ∷ [])) l ≡ slot = place_kept (bytes_eq l) (told above).names (l ∷ []) state.1 in
     let ends : (is_one slot (slots_of c) && ends_update c) ≡ true = and_from _ _ (eq-eqb _ slot same) refl in
     let whole = update_whole slot (drop began b.calls) c state.2 ends in
     let stands : may_stand (Slot slot) (drop began calls) ≡ true = ap (may_stand (Slot slot)) (drop_pushed b.calls c began (omega (arith, b.now.long, state.0.order))) ∙ whole in
@@ -362,7 +366,7 @@ endrefresh_call z s above l full g hooks slots bitmaps b =
     (end_pushed b.groups group (so_far + 1) (omega arith))
 
 -- any call
-any_call : (z : Sizes) (s : Setting) (above : List LineForm) (layers : List (List ℕ)) (act : Act) → AreGoodLines s (CallLine layers act ∷ above) → z.hooks ≡ s.hooks → length (names_above (CallLine layers act ∷ above)) ≤ z.slots → length (bitmaps_above above) ≤ z.bitmaps → HaveBegun z (view_of above) → HaveBegun z (view_of (CallLine layers act ∷ above))
+any_call : (z : Sizes) (s : Setting) (above : List LineForm) (layers : List (List ℕ)) (act : Act) → AreGoodLines s (CallLine layers act ∷ above) → z.hooks ≡ s.hooks → length (told (CallLine layers act ∷ above)).names ≤ z.slots → length (told above).bitmap_names ≤ z.bitmaps → HaveBegun z (view_of above) → HaveBegun z (view_of (CallLine layers act ∷ above))
 any_call z s above [] RefreshAct g hooks slots bitmaps b = absurd (cc ((here s above (CallLine [] RefreshAct) g).3.0))
 any_call z s above (l ∷ []) RefreshAct g hooks slots bitmaps b = refresh_call z s above l g hooks slots bitmaps b
 any_call z s above (l ∷ m ∷ ms) RefreshAct g hooks slots bitmaps b = absurd (omega (arith, (here s above (CallLine (l ∷ m ∷ ms) RefreshAct) g).3.0))
@@ -372,7 +376,7 @@ any_call z s above (l ∷ m ∷ ms) (EndRefreshAct full) g hooks slots bitmaps b
 any_call z s above layers act g hooks slots bitmaps b = plain_call z s above layers act g hooks slots bitmaps refl refl b
 
 -- the tasks with no further call, and these groups in the nearest one
-grouped : (z : Sizes) (v w : View) (b : HaveBegun z v) (groups : List Group) → w.all ≡ v.all → w.so_far ≡ v.so_far → w.all_groups ≡ b.done_groups ++ groups ∷ [] → IsTaskFit z b.calls groups → OpenState w.group w.so_far w.began w.names b.calls groups → HaveBegun z w
+grouped : (z : Sizes) (v w : View) (b : HaveBegun z v) (groups : List Group) → w.calls ≡ v.calls → w.so_far ≡ v.so_far → w.groups ≡ b.done_groups ++ groups ∷ [] → IsTaskFit z b.calls groups → OpenState w.group w.so_far w.began w.names b.calls groups → HaveBegun z w
 grouped z v w b groups all so_far are fits state =
     record {
       done = b.done;
@@ -393,20 +397,20 @@ none_behind z v b = drop_all v.so_far b.calls (omega (arith, b.now.long))
 lock_begins : (z : Sizes) (s : Setting) (above : List LineForm) (name : List ℕ) → AreGoodLines s (LockLine name ∷ above) → HaveBegun z (view_of above) → HaveBegun z (view_of (LockLine name ∷ above))
 lock_begins z s above name g b =
     let t = tests s above (LockLine name) g in
-    let so_far : ℕ = calls_so_far above in
-    let more : List (List ℕ) = and_names (names_above above) (name ∷ []) in
-    let P : Option Opened → Type 0 = λ o. OpenState o so_far (began_at above) (names_above above) b.calls b.groups in
-    let before : EndBefore b.groups so_far = subst P (none_open (group_above above) t.group) b.now.state in
+    let so_far : ℕ = (told above).so_far in
+    let more : List (List ℕ) = and_names (told above).names (name ∷ []) in
+    let P : Option Opened → Type 0 = λ o. OpenState o so_far (told above).began (told above).names b.calls b.groups in
+    let before : EndBefore b.groups so_far = subst P (none_open (told above).group t.group) b.now.state in
     let Q : List Call → Type 0 = λ cs. list_all (may_be_locked (place_among more name)) cs ≡ true in
     grouped z (view_of above) (view_of (LockLine name ∷ above)) b b.groups refl refl b.groups_are b.now.fits
-    (record { before = before; order = omega arith }, (all_named (names_above above) (name ∷ [])).0, subst Q (sym (none_behind z (view_of above) b)) refl)
+    (record { before = before; order = omega arith }, (all_named (told above).names (name ∷ [])).0, subst Q (sym (none_behind z (view_of above) b)) refl)
 
 hold_begins : (z : Sizes) (s : Setting) (above : List LineForm) → AreGoodLines s (HoldLine ∷ above) → HaveBegun z (view_of above) → HaveBegun z (view_of (HoldLine ∷ above))
 hold_begins z s above g b =
     let t = tests s above HoldLine g in
-    let so_far : ℕ = calls_so_far above in
-    let P : Option Opened → Type 0 = λ o. OpenState o so_far (began_at above) (names_above above) b.calls b.groups in
-    let before : EndBefore b.groups so_far = subst P (none_open (group_above above) t.group) b.now.state in
+    let so_far : ℕ = (told above).so_far in
+    let P : Option Opened → Type 0 = λ o. OpenState o so_far (told above).began (told above).names b.calls b.groups in
+    let before : EndBefore b.groups so_far = subst P (none_open (told above).group t.group) b.now.state in
     let Q : List Call → Type 0 = λ cs. are_held cs ≡ true in
     grouped z (view_of above) (view_of (HoldLine ∷ above)) b b.groups refl refl b.groups_are b.now.fits (record { before = before; order = omega arith }, subst Q (sym (none_behind z (view_of above) b)) refl)
 
@@ -424,33 +428,33 @@ releases_held (Some (Updating m)) h = absurd (false≢true h)
 releases_held (Some Held) h = refl
 
 -- the group that ends with the last call
-ended_group : (z : Sizes) (above : List LineForm) (b : HaveBegun z (view_of above)) (hold : Hold) → began_at above < calls_so_far above → EndBefore b.groups (began_at above) → may_stand hold (drop (began_at above) b.calls) ≡ true → IsTaskFit z b.calls (b.groups ++ group_from above hold (calls_so_far above) ∷ [])
+ended_group : (z : Sizes) (above : List LineForm) (b : HaveBegun z (view_of above)) (hold : Hold) → (told above).began < (told above).so_far → EndBefore b.groups (told above).began → may_stand hold (drop (told above).began b.calls) ≡ true → IsTaskFit z b.calls (b.groups ++ group_from (told above) hold (told above).so_far ∷ [])
 ended_group z above b hold some before stands =
-    let fits = to_the_end b.calls (began_at above) (calls_so_far above - 1) hold (omega arith) (omega (arith, b.now.long, some)) stands in
-    task_grouped z b.calls b.groups (group_from above hold (calls_so_far above)) before fits b.now.fits
+    let fits = to_the_end b.calls (told above).began ((told above).so_far - 1) hold (omega arith) (omega (arith, b.now.long, some)) stands in
+    task_grouped z b.calls b.groups (group_from (told above) hold (told above).so_far) before fits b.now.fits
 
 unlock_ends : (z : Sizes) (s : Setting) (above : List LineForm) (name : List ℕ) → AreGoodLines s (UnlockLine name ∷ above) → HaveBegun z (view_of above) → HaveBegun z (view_of (UnlockLine name ∷ above))
 unlock_ends z s above name g b =
-    let t = and_parts (is_lock_on name (group_above above)) _ (tests s above (UnlockLine name) g).group in
-    let some : began_at above < calls_so_far above = ltb-true _ _ t.1 in
-    let slot : ℕ = place_among (names_above above) name in
-    let group : Group = group_from above (Slot slot) (calls_so_far above) in
-    let P : Option Opened → Type 0 = λ o. OpenState o (calls_so_far above) (began_at above) (names_above above) b.calls b.groups in
-    let state : OpenState (Some (Locked name)) (calls_so_far above) (began_at above) (names_above above) b.calls b.groups = subst P (unlocks_same (group_above above) name t.0) b.now.state in
-    let long : length (drop (began_at above) b.calls) ≡ length b.calls - began_at above = length-drop (began_at above) b.calls in
-    let stands = locked_stands slot (drop (began_at above) b.calls) (omega (arith, long, some, b.now.long)) state.2 in
+    let t = and_parts (is_lock_on name (told above).group) _ (tests s above (UnlockLine name) g).group in
+    let some : (told above).began < (told above).so_far = ltb-true _ _ t.1 in
+    let slot : ℕ = place_among (told above).names name in
+    let group : Group = group_from (told above) (Slot slot) (told above).so_far in
+    let P : Option Opened → Type 0 = λ o. OpenState o (told above).so_far (told above).began (told above).names b.calls b.groups in
+    let state : OpenState (Some (Locked name)) (told above).so_far (told above).began (told above).names b.calls b.groups = subst P (unlocks_same (told above).group name t.0) b.now.state in
+    let long : length (drop (told above).began b.calls) ≡ length b.calls - (told above).began = length-drop (told above).began b.calls in
+    let stands = locked_stands slot (drop (told above).began b.calls) (omega (arith, long, some, b.now.long)) state.2 in
     grouped z (view_of above) (view_of (UnlockLine name ∷ above)) b (b.groups ++ group ∷ []) refl refl (ap (onto_last group) b.groups_are ∙ onto_pushed group b.done_groups b.groups) (ended_group z above b (Slot slot) some state.0.before stands)
-    (end_pushed b.groups group (calls_so_far above) (omega (arith, some)))
+    (end_pushed b.groups group (told above).so_far (omega (arith, some)))
 
 release_ends : (z : Sizes) (s : Setting) (above : List LineForm) → AreGoodLines s (ReleaseLine ∷ above) → HaveBegun z (view_of above) → HaveBegun z (view_of (ReleaseLine ∷ above))
 release_ends z s above g b =
-    let t = and_parts (is_hold (group_above above)) _ (tests s above ReleaseLine g).group in
-    let some : began_at above < calls_so_far above = ltb-true _ _ t.1 in
-    let group : Group = group_from above AllLayers (calls_so_far above) in
-    let P : Option Opened → Type 0 = λ o. OpenState o (calls_so_far above) (began_at above) (names_above above) b.calls b.groups in
-    let state : OpenState (Some Held) (calls_so_far above) (began_at above) (names_above above) b.calls b.groups = subst P (releases_held (group_above above) t.0) b.now.state in
+    let t = and_parts (is_hold (told above).group) _ (tests s above ReleaseLine g).group in
+    let some : (told above).began < (told above).so_far = ltb-true _ _ t.1 in
+    let group : Group = group_from (told above) AllLayers (told above).so_far in
+    let P : Option Opened → Type 0 = λ o. OpenState o (told above).so_far (told above).began (told above).names b.calls b.groups in
+    let state : OpenState (Some Held) (told above).so_far (told above).began (told above).names b.calls b.groups = subst P (releases_held (told above).group t.0) b.now.state in
     grouped z (view_of above) (view_of (ReleaseLine ∷ above)) b (b.groups ++ group ∷ []) refl refl (ap (onto_last group) b.groups_are ∙ onto_pushed group b.done_groups b.groups) (ended_group z above b AllLayers some state.0.before state.1)
-    (end_pushed b.groups group (calls_so_far above) (omega (arith, some)))
+    (end_pushed b.groups group (told above).so_far (omega (arith, some)))
 
 -- the screen line leaves no tasks
 screen_tasks : (z : Sizes) (c : Section) (v : View) → is_screen_due c ≡ true → AreTasks z c v → AreTasks z AssetsAreDue v
@@ -476,48 +480,48 @@ after_tasks z c v e h =
     (record { closed = λ d. at.closed refl; tasks = at.tasks }, record { closed = λ d. at.closed refl; tasks = at.tasks })
 
 -- Good lines give tasks whose calls and groups fit sizes that have their names.
-pub tasks_fit : (z : Sizes) (s : Setting) (above : List LineForm) → AreGoodLines s above → z.hooks ≡ s.hooks → length (names_above above) ≤ z.slots → length (bitmaps_above above) ≤ z.bitmaps → AreTasks z (section_of above) (view_of above)
+pub tasks_fit : (z : Sizes) (s : Setting) (above : List LineForm) → AreGoodLines s above → z.hooks ≡ s.hooks → length (told above).names ≤ z.slots → length (told above).bitmap_names ≤ z.bitmaps → AreTasks z (told above).section (view_of above)
 tasks_fit z s [] g hooks slots bitmaps = record { closed = λ d. refl; tasks = (refl, refl) }
 tasks_fit z s (ScreenLine w h d ∷ above) g hooks slots bitmaps =
-    screen_tasks z (section_of above) (view_of above) (here s above (ScreenLine w h d) g).1 (tasks_fit z s above g.1 hooks slots bitmaps)
+    screen_tasks z (told above).section (view_of above) (here s above (ScreenLine w h d) g).1 (tasks_fit z s above g.1 hooks slots bitmaps)
 tasks_fit z s (BitmapLine name w h d ∷ above) g hooks slots bitmaps =
-    tasks_fit z s above g.1 hooks slots (omega (arith, length-append (bitmaps_above above) (name ∷ []), bitmaps))
+    tasks_fit z s above g.1 hooks slots (omega (arith, length-append (told above).bitmap_names (name ∷ []), bitmaps))
 tasks_fit z s (TaskLine name ∷ above) g hooks slots bitmaps =
     record {
       closed = λ d. absurd (true≢false d);
-      tasks = task_begins z (section_of above) (view_of above) (view_of (TaskLine name ∷ above)) (here s above (TaskLine name) g).1 refl refl refl refl (tasks_fit z s above g.1 hooks slots bitmaps);
+      tasks = task_begins z (told above).section (view_of above) (view_of (TaskLine name ∷ above)) (here s above (TaskLine name) g).1 refl refl refl refl (tasks_fit z s above g.1 hooks slots bitmaps);
     }
 tasks_fit z s (EndLine ∷ above) g hooks slots bitmaps =
-    end_tasks z (section_of above) (view_of above) (here s above EndLine g).1 (none_open (group_above above) (tests s above EndLine g).group) (tasks_fit z s above g.1 hooks slots bitmaps)
+    end_tasks z (told above).section (view_of above) (here s above EndLine g).1 (none_open (told above).group (tests s above EndLine g).group) (tasks_fit z s above g.1 hooks slots bitmaps)
 tasks_fit z s (OrderLine ∷ above) g hooks slots bitmaps =
-    (after_tasks z (section_of above) (view_of above) (and_parts (are_tasks_due (section_of above)) _ (here s above OrderLine g).1).0 (tasks_fit z s above g.1 hooks slots bitmaps)).0
+    (after_tasks z (told above).section (view_of above) (and_parts (are_tasks_due (told above).section) _ (here s above OrderLine g).1).0 (tasks_fit z s above g.1 hooks slots bitmaps)).0
 tasks_fit z s (ReportLine ∷ above) g hooks slots bitmaps =
-    (after_tasks z (section_of above) (view_of above) (and_parts (are_tasks_due (section_of above)) _ (here s above ReportLine g).1).0 (tasks_fit z s above g.1 hooks slots bitmaps)).1
+    (after_tasks z (told above).section (view_of above) (and_parts (are_tasks_due (told above).section) _ (here s above ReportLine g).1).0 (tasks_fit z s above g.1 hooks slots bitmaps)).1
 tasks_fit z s (CallLine layers act ∷ above) g hooks slots bitmaps =
-    inside z (section_of above) (view_of above) (view_of (CallLine layers act ∷ above)) (in_calls (section_of above) (here s above (CallLine layers act) g).1) (any_call z s above layers act g hooks slots bitmaps) (tasks_fit z s above g.1 hooks (omega (arith, names_grow (names_above above) layers, slots)) bitmaps)
+    inside z (told above).section (view_of above) (view_of (CallLine layers act ∷ above)) (in_calls (told above).section (here s above (CallLine layers act) g).1) (any_call z s above layers act g hooks slots bitmaps) (tasks_fit z s above g.1 hooks (omega (arith, names_grow (told above).names layers, slots)) bitmaps)
 tasks_fit z s (LockLine name ∷ above) g hooks slots bitmaps =
-    inside z (section_of above) (view_of above) (view_of (LockLine name ∷ above)) (in_calls (section_of above) (here s above (LockLine name) g).1) (lock_begins z s above name g) (tasks_fit z s above g.1 hooks (omega (arith, names_grow (names_above above) (name ∷ []), slots)) bitmaps)
+    inside z (told above).section (view_of above) (view_of (LockLine name ∷ above)) (in_calls (told above).section (here s above (LockLine name) g).1) (lock_begins z s above name g) (tasks_fit z s above g.1 hooks (omega (arith, names_grow (told above).names (name ∷ []), slots)) bitmaps)
 tasks_fit z s (UnlockLine name ∷ above) g hooks slots bitmaps =
-    inside z (section_of above) (view_of above) (view_of (UnlockLine name ∷ above)) (in_calls (section_of above) (here s above (UnlockLine name) g).1) (unlock_ends z s above name g) (tasks_fit z s above g.1 hooks (omega (arith, names_grow (names_above above) (name ∷ []), slots)) bitmaps)
+    inside z (told above).section (view_of above) (view_of (UnlockLine name ∷ above)) (in_calls (told above).section (here s above (UnlockLine name) g).1) (unlock_ends z s above name g) (tasks_fit z s above g.1 hooks (omega (arith, names_grow (told above).names (name ∷ []), slots)) bitmaps)
 tasks_fit z s (HoldLine ∷ above) g hooks slots bitmaps =
-    inside z (section_of above) (view_of above) (view_of (HoldLine ∷ above)) (in_calls (section_of above) (here s above HoldLine g).1) (hold_begins z s above g) (tasks_fit z s above g.1 hooks slots bitmaps)
+    inside z (told above).section (view_of above) (view_of (HoldLine ∷ above)) (in_calls (told above).section (here s above HoldLine g).1) (hold_begins z s above g) (tasks_fit z s above g.1 hooks slots bitmaps)
 tasks_fit z s (ReleaseLine ∷ above) g hooks slots bitmaps =
-    inside z (section_of above) (view_of above) (view_of (ReleaseLine ∷ above)) (in_calls (section_of above) (here s above ReleaseLine g).1) (release_ends z s above g) (tasks_fit z s above g.1 hooks slots bitmaps)
+    inside z (told above).section (view_of above) (view_of (ReleaseLine ∷ above)) (in_calls (told above).section (here s above ReleaseLine g).1) (release_ends z s above g) (tasks_fit z s above g.1 hooks slots bitmaps)
 tasks_fit z s (f ∷ above) g hooks slots bitmaps = tasks_fit z s above g.1 hooks slots bitmaps
 
 -- there are as many lists of calls as tasks, and as many lists of groups
-pub calls_listed : (above : List LineForm) → length (calls_above above) ≡ length (tasks_above above)
+pub calls_listed : (above : List LineForm) → length (told above).calls ≡ length (told above).tasks
 calls_listed [] = refl
-calls_listed (TaskLine name ∷ above) = length-append (calls_above above) ([] ∷ []) ∙ ap (λ k. k + 1) (calls_listed above) ∙ sym (length-append (tasks_above above) (name ∷ []))
-calls_listed (CallLine layers act ∷ above) = length_onto (call_below above layers act) (calls_above above) ∙ calls_listed above
+calls_listed (TaskLine name ∷ above) = length-append (told above).calls ([] ∷ []) ∙ ap (λ k. k + 1) (calls_listed above) ∙ sym (length-append (told above).tasks (name ∷ []))
+calls_listed (CallLine layers act ∷ above) = length_onto (call_below (told above) layers act) (told above).calls ∙ calls_listed above
 calls_listed (f ∷ above) = calls_listed above
 
-pub groups_listed : (above : List LineForm) → length (groups_above above) ≡ length (tasks_above above)
+pub groups_listed : (above : List LineForm) → length (told above).groups ≡ length (told above).tasks
 groups_listed [] = refl
-groups_listed (TaskLine name ∷ above) = length-append (groups_above above) ([] ∷ []) ∙ ap (λ k. k + 1) (groups_listed above) ∙ sym (length-append (tasks_above above) (name ∷ []))
-groups_listed (UnlockLine name ∷ above) = length_onto _ (groups_above above) ∙ groups_listed above
-groups_listed (ReleaseLine ∷ above) = length_onto _ (groups_above above) ∙ groups_listed above
-groups_listed (CallLine (l ∷ []) (EndRefreshAct full) ∷ above) = length_onto _ (groups_above above) ∙ groups_listed above
+groups_listed (TaskLine name ∷ above) = length-append (told above).groups ([] ∷ []) ∙ ap (λ k. k + 1) (groups_listed above) ∙ sym (length-append (told above).tasks (name ∷ []))
+groups_listed (UnlockLine name ∷ above) = length_onto _ (told above).groups ∙ groups_listed above
+groups_listed (ReleaseLine ∷ above) = length_onto _ (told above).groups ∙ groups_listed above
+groups_listed (CallLine (l ∷ []) (EndRefreshAct full) ∷ above) = length_onto _ (told above).groups ∙ groups_listed above
 groups_listed (f ∷ above) = groups_listed above
 
 -- what holds of each pair holds at each place, and of each first one
@@ -534,9 +538,9 @@ zip_first R P (x ∷ xs) [] f h = absurd h
 zip_first R P (x ∷ xs) (y ∷ ys) f h = All-cons P x xs (f x y h.0) (zip_first R P xs ys f h.1)
 
 -- every task of tasks that have begun fits
-pub every_task : (z : Sizes) (v : View) → HaveBegun z v → AllZip (IsTaskFit z) v.all v.all_groups
+pub every_task : (z : Sizes) (v : View) → HaveBegun z v → AllZip (IsTaskFit z) v.calls v.groups
 every_task z v b =
-    let P : List (List Call) → Type 0 = λ lists. AllZip (IsTaskFit z) lists v.all_groups in
+    let P : List (List Call) → Type 0 = λ lists. AllZip (IsTaskFit z) lists v.groups in
     let Q : List (List Group) → Type 0 = λ lists. AllZip (IsTaskFit z) (b.done ++ b.calls ∷ []) lists in
     subst P (sym b.all_are) (subst Q (sym b.groups_are) (zip_pushed (IsTaskFit z) b.done b.done_groups b.calls b.groups b.done_fit b.now.fits))
 

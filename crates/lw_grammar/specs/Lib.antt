@@ -3,6 +3,5 @@ pub mod Demands
 pub mod Tokens
 pub mod Verbs
 pub mod LineForms
-pub mod LinesAbove
+pub mod Told
 pub mod Script
-pub mod ScriptReading

@@ -11,6 +11,7 @@ use Rattle.lw_calls.specs.declared.make.Kind.{Kind}
 use Rattle.lw_calls.specs.declared.make.Kind.TheVariants.{Simple, Smart, SuperBitmap}
 use Rattle.lw_calls.specs.declared.make.Place.{Place}
 use Rattle.lw_calls.specs.declared.make.Place.TheVariants.{Front, Behind}
+use Rattle.lw_calls.specs.declared.area.Area.{Area}
 use Rattle.lw_grammar.specs.declared.verb.Verb.{Verb}
 use Rattle.lw_grammar.specs.declared.verb.Verb.TheVariants.{Screen as ScreenVerb, Glyph as GlyphVerb, Bitmap as BitmapVerb, Task as TaskVerb, End as EndVerb, Order as OrderVerb, Report as ReportVerb, Lock as LockVerb, Unlock as UnlockVerb, Hold as HoldVerb, Release as ReleaseVerb, OrRect as OrRectVerb, AndRect as AndRectVerb, XorRect as XorRectVerb, ClearRect as ClearRectVerb, OrRegion as OrRegionVerb, AndRegion as AndRegionVerb, XorRegion as XorRegionVerb, ClearRegion as ClearRegionVerb, Create as CreateVerb, Open as OpenVerb, Close as CloseVerb, Front as FrontVerb, Behind as BehindVerb, InFront as InFrontVerb, Move as MoveVerb, Size as SizeVerb, Box as BoxVerb, Activate as ActivateVerb, Which as WhichVerb, APen as APenVerb, BPen as BPenVerb, Mode as ModeVerb, Mask as MaskVerb, At as AtVerb, Write as WriteVerb, Read as ReadVerb, Fill as FillVerb, Draw as DrawVerb, Text as TextVerb, SetRast as SetRastVerb, ScrollRaster as ScrollRasterVerb, Put as PutVerb, Blit as BlitVerb, Clip as ClipVerb, Unclip as UnclipVerb, Refresh as RefreshVerb, EndRefresh as EndRefreshVerb, Scroll as ScrollVerb, Title as TitleVerb, GetMsg as GetMsgVerb}
 use Rattle.lw_calls.specs.Limits.{rect_fits, coordinates_fit, is_extent}
@@ -26,16 +27,6 @@ pub record Asked : Type 0 where
   pub hook : Option ℤ
   pub bits_w : ℤ
   pub bits_h : ℤ
-
--- a blit's places and sizes, and its minterm
-pub record Blitting : Type 0 where
-  pub sx : ℤ
-  pub sy : ℤ
-  pub x : ℤ
-  pub y : ℤ
-  pub w : ℤ
-  pub h : ℤ
-  pub minterm : ℕ
 
 -- What the line of a call asks for, without the layers that it names.
 pub data Act : Type 0 where
@@ -65,8 +56,8 @@ pub data Act : Type 0 where
   TextAct : List ℕ → Act
   SetRastAct : ℤ → Act
   ScrollRasterAct : ℤ → ℤ → Rectangle → Act
-  PutAct : List ℕ → Blitting → Act
-  BlitAct : Blitting → Act
+  PutAct : List ℕ → Area → Act
+  BlitAct : Area → Act
   ClipAct : ℤ → Act
   UnclipAct : Act
   RefreshAct : Act
@@ -418,8 +409,8 @@ abbrev pub is_box : Rectangle → Bool
 is_box r = coordinates_fit r.min_x r.min_y && (is_extent r.max_x && is_extent r.max_y)
 
 -- a blit's numbers
-abbrev pub is_blitting : Blitting → Bool
-is_blitting b = (coordinates_fit b.sx b.sy && coordinates_fit b.x b.y) && (is_extent b.w && is_extent b.h)
+abbrev pub is_area_in_range : Area → Bool
+is_area_in_range a = (coordinates_fit a.sx a.sy && coordinates_fit a.x a.y) && (is_extent a.w && is_extent a.h)
 
 -- every number of the act is in its range, and no maximum is below its minimum
 abbrev pub is_act_in_range : Act → Bool
@@ -443,8 +434,8 @@ is_act_in_range (FillAct rect) = rect_fits rect
 is_act_in_range (DrawAct x y) = coordinates_fit x y
 is_act_in_range (SetRastAct p) = within (pos 0) p (pos 255)
 is_act_in_range (ScrollRasterAct dx dy rect) = coordinates_fit dx dy && rect_fits rect
-is_act_in_range (PutAct bm blitting) = is_blitting blitting
-is_act_in_range (BlitAct blitting) = is_blitting blitting
+is_act_in_range (PutAct bm area) = is_area_in_range area
+is_act_in_range (BlitAct area) = is_area_in_range area
 is_act_in_range (ClipAct r) = within (pos 0) r (pos 7)
 is_act_in_range (ScrollAct dx dy) = coordinates_fit dx dy
 is_act_in_range act = true

@@ -1,22 +1,24 @@
--- The grammar of scripts: which line is a script's first bad one and for which reason, and which plan a script without
--- a bad line spells (this project's own format; docs/FORMATS.md has it with an example).
-use Rattle.std.specs.Prelude.{◌≡◌, ℕ, ◌+◌, ◌-◌, ◌*◌, ◌<◌, ◌≤◌, ◌==◌, zero, suc, Bool, true, false, not, ◌&&◌, ◌||◌, nat_le, nat_lt, min, if◌then◌else◌, List, [], ◌∷◌, length, map, take, ℤ, unsigned_abs, Option, Some, None, option_and_then, Result, Ok, Err, slice_get, find, bytes_eq, ◌⊎◌, All, IsTrue}
+-- The grammar of scripts (this project's own format; docs/FORMATS.md has it with an example): the rule of a line, by what the
+-- lines above it tell, and the outcome of lines read from the first to the last, which is an input, or the first bad line with
+-- its first reason.
+use Rattle.std.specs.Prelude.{◌≡◌, ℕ, ◌+◌, ◌-◌, ◌*◌, ◌≤◌, ◌==◌, Bool, true, false, not, ◌&&◌, ◌||◌, nat_le, nat_lt, min, if◌then◌else◌, List, [], ◌∷◌, length, map, ℤ, unsigned_abs, Option, Some, None, is_none, Result, Ok, Err, ok_or, bytes_eq, ◌⊎◌, All, IsTrue}
 use Rattle.std.specs.List.{list_any, list_all, range_with_len}
 use Rattle.lw_planes.specs.Row.{row_bit}
 use Rattle.lw_calls.specs.declared.form.Form.{Form}
 use Rattle.lw_calls.specs.declared.form.Form.TheVariants.{Plain, Ordered, Audited}
 use Rattle.lw_calls.specs.declared.reason.Reason.{Reason}
-use Rattle.lw_calls.specs.declared.reason.Reason.TheVariants.{LineTooLong, BadByte, Spacing, Quote, UnknownWord, Misplaced, OneTaskOnly, Form as FormReason, Range, NoName, DoubleName, Group, TooMany, NoHook, HookUsed, Padding, NotBuilt, Missing}
+use Rattle.lw_calls.specs.declared.reason.Reason.TheVariants.{LineTooLong, BadByte, UnknownWord, Misplaced, OneTaskOnly, Form as FormReason, Range, NoName, DoubleName, Group, TooMany, NoHook, HookUsed, Padding, NotBuilt, Missing}
 use Rattle.lw_grammar.specs.declared.verb.Verb.{Verb}
 use Rattle.lw_grammar.specs.declared.verb.Verb.TheVariants.{Screen as ScreenVerb, Glyph as GlyphVerb, Bitmap as BitmapVerb, Task as TaskVerb, Order as OrderVerb, Report as ReportVerb}
 use Rattle.lw_calls.specs.Limits.{name_limit, task_limit, bitmap_limit, call_limit}
 use Rattle.lw_calls.specs.Plan.{Plan, IsPlan}
 use Rattle.lw_calls.specs.Built.{is_built}
 use Rattle.lw_grammar.specs.Lines.{lines}
+use Rattle.lw_grammar.specs.Demands.{◌>>=◌, demand}
 use Rattle.lw_grammar.specs.Tokens.{tokens, token_of}
 use Rattle.lw_grammar.specs.Verbs.{verb_of}
 use Rattle.lw_grammar.specs.LineForms.{Act, CreateAct, OpenAct, CloseAct, FrontAct, BehindAct, InFrontAct, MoveAct, SizeAct, BoxAct, ActivateAct, PutAct, RefreshAct, EndRefreshAct, LineForm, GlyphLine, BitmapLine, RowLine, TaskLine, EndLine, CallLine, LockLine, UnlockLine, HoldLine, ReleaseLine, row_line, numbers_line, form_by, is_line_in_range}
-use Rattle.lw_grammar.specs.LinesAbove.{Section, ScreenIsDue, AssetsAreDue, CallsAreDue, TasksAreDue, NumbersAreDue, NothingIsDue, section_of, rows_due, row_width, tasks_above, bitmaps_above, codes_above, names_above, supers_above, hook_on, hooks_above, Opened, Locked, Updating, Held, group_above, calls_so_far, began_at, call_below, order_above, plan_above}
+use Rattle.lw_grammar.specs.Told.{Section, ScreenIsDue, AssetsAreDue, CallsAreDue, TasksAreDue, NumbersAreDue, NothingIsDue, Opened, Locked, Updating, Held, Told, spelled_call, hook_on, after, told, plan_of}
 
 -- What a script is read with: how many hooks are handed in, and what input it stands in.
 pub record Setting : Type 0 where
@@ -92,10 +94,6 @@ abbrev pub is_task_verb : Verb → Bool
 is_task_verb TaskVerb = true
 is_task_verb verb = false
 
--- rows of a bitmap are due, or numbers of an order: such a line has no verb
-abbrev pub has_no_verb : List LineForm → Bool
-has_no_verb above = not (rows_due above == 0) || are_numbers_due (section_of above)
-
 -- the verb of a line's words
 abbrev pub verb_on : List (List ℕ) → Option Verb
 verb_on [] = None
@@ -106,35 +104,17 @@ abbrev pub behind_verb : List (List ℕ) → List (List ℕ)
 behind_verb [] = []
 behind_verb (w ∷ ws) = ws
 
--- The form of a line of these words below other lines, if they fit one: where rows are due, a row of the bitmap's width;
--- where numbers are due, numbers; else a form of the verb.
-abbrev pub form_below : List LineForm → List (List ℕ) → Option LineForm
-form_below above ws =
-    if not (rows_due above == 0)
-    then row_line (row_width above) (map token_of ws)
-    else (if are_numbers_due (section_of above) then numbers_line (map token_of ws) else option_and_then (λ v. form_by v (map token_of (behind_verb ws))) (verb_on ws))
-
--- what is found has this property; and what isn't found has it not
-abbrev pub found_with : {A : Type 0} → (A → Bool) → Option A → Bool
-found_with test None = false
-found_with test (Some a) = test a
-
--- nothing is found
-abbrev pub is_missing : {A : Type 0} → Option A → Bool
-is_missing None = true
-is_missing (Some a) = false
-
 -- the bitmap that a line names isn't one of these
 abbrev pub lacks_name : List (List ℕ) → LineForm → Bool
-lacks_name names (CallLine layers (PutAct bm blitting)) = not (list_any (bytes_eq bm) names)
+lacks_name names (CallLine layers (PutAct bm area)) = not (list_any (bytes_eq bm) names)
 lacks_name names form = false
 
 -- the line gives a bitmap, a task or a code that a line above gave
-abbrev pub gives_again : List LineForm → LineForm → Bool
-gives_again above (GlyphLine code rows) = list_any (λ c. c == code) (codes_above above)
-gives_again above (BitmapLine name w h d) = list_any (bytes_eq name) (bitmaps_above above)
-gives_again above (TaskLine name) = list_any (bytes_eq name) (tasks_above above)
-gives_again above form = false
+abbrev pub gives_again : Told → LineForm → Bool
+gives_again t (GlyphLine code rows) = t.given code
+gives_again t (BitmapLine name w h d) = list_any (bytes_eq name) t.bitmap_names
+gives_again t (TaskLine name) = list_any (bytes_eq name) t.tasks
+gives_again t form = false
 
 -- the act is an arrangement
 abbrev pub is_arranging : Act → Bool
@@ -187,9 +167,9 @@ is_hold _ = false
 -- The line may stand where this group is open, or none, in which there are calls, or not.
 abbrev pub fits_group : Option Opened → Bool → LineForm → Bool
 fits_group group some (CallLine layers act) = call_may_stand group layers act
-fits_group group some (LockLine name) = is_missing group
-fits_group group some HoldLine = is_missing group
-fits_group group some EndLine = is_missing group
+fits_group group some (LockLine name) = is_none group
+fits_group group some HoldLine = is_none group
+fits_group group some EndLine = is_none group
 fits_group group some (UnlockLine name) = is_lock_on name group && some
 fits_group group some ReleaseLine = is_hold group && some
 fits_group group some form = true
@@ -198,122 +178,119 @@ fits_group group some form = true
 abbrev pub super_limit : ℕ
 super_limit = 16
 
--- with the nearest line there are no more tasks, bitmaps, layer names, super-bitmap layers and calls of a task than may be
-abbrev pub are_few : List LineForm → Bool
-are_few forms =
-    ((nat_le (length (tasks_above forms)) task_limit && nat_le (length (bitmaps_above forms)) bitmap_limit) && nat_le (length (names_above forms)) name_limit)
-    && (nat_le (supers_above forms) super_limit && nat_le (calls_so_far forms) call_limit)
+-- lines tell of no more tasks, bitmaps, layer names, super-bitmap layers and calls of a task than may be
+abbrev pub are_few : Told → Bool
+are_few t =
+    ((nat_le (length t.tasks) task_limit && nat_le (length t.bitmap_names) bitmap_limit) && nat_le (length t.names) name_limit)
+    && (nat_le t.supers super_limit && nat_le t.so_far call_limit)
 
--- a hook's number isn't below the number of hooks, and stands among these
+-- a hook's number isn't below the number of hooks, and is named above
 abbrev pub is_no_hook : ℕ → Option ℤ → Bool
 is_no_hook hooks None = false
 is_no_hook hooks (Some n) = not (nat_lt (unsigned_abs n) hooks)
 
-abbrev pub is_used : List ℕ → Option ℤ → Bool
+abbrev pub is_used : (ℕ → Bool) → Option ℤ → Bool
 is_used used None = false
-is_used used (Some n) = list_any (λ m. m == unsigned_abs n) used
+is_used used (Some n) = used (unsigned_abs n)
 
 -- a bit of a row behind this width is 1
 abbrev pub has_padding : ℕ → LineForm → Bool
 has_padding width (RowLine bytes) = list_any (λ x. row_bit bytes x == 1) (range_with_len width (8 * length bytes - width))
 has_padding width form = false
 
--- the line is a call that can't be made so far
-abbrev pub is_unbuilt : List LineForm → LineForm → Bool
-is_unbuilt above (CallLine layers act) = not (is_built (call_below above layers act))
-is_unbuilt above form = false
+-- the line is a call that can't be made so far, whichever layers it names
+abbrev pub is_unbuilt : LineForm → Bool
+is_unbuilt (CallLine layers act) = not (is_built (spelled_call [] act []))
+is_unbuilt form = false
 
--- The leftmost fault of a line's words is this one.
-abbrev pub is_spacing : Result (List (List ℕ)) Reason → Bool
-is_spacing (Err Spacing) = true
-is_spacing _ = false
+-- The rule of a line: one demand after another, in the order of the reasons. First the words of a line, or its first reason
+-- that asks for bytes alone.
+abbrev pub words_read : List ℕ → Result (List (List ℕ)) Reason
+words_read line = do
+  _ ← demand (nat_le (length line) line_limit) LineTooLong
+  _ ← demand (list_all is_printable line) BadByte
+  tokens line
 
-abbrev pub is_quote : Result (List (List ℕ)) Reason → Bool
-is_quote (Err Quote) = true
-is_quote _ = false
+-- The form of a line of these words that begins with a verb, in this section of this input, or its first reason.
+abbrev pub verb_read : Form → Section → List (List ℕ) → Result LineForm Reason
+verb_read form section ws = do
+  verb ← ok_or (verb_on ws) UnknownWord
+  _ ← demand (stands_in form section verb) Misplaced
+  _ ← demand (not ((is_plain form && are_tasks_due section) && is_task_verb verb)) OneTaskOnly
+  ok_or (form_by verb (map token_of (behind_verb ws))) FormReason
 
--- the words, where there is no fault
-abbrev pub words_or_none : Result (List (List ℕ)) Reason → List (List ℕ)
-words_or_none (Ok ws) = ws
-words_or_none (Err r) = []
+-- The form of a line of these words: where so many rows of a bitmap of this width are due, a row; where numbers are due,
+-- numbers; and else a line with a verb.
+abbrev pub form_read : Form → Section → ℕ → ℕ → List (List ℕ) → Result LineForm Reason
+form_read form section due width ws =
+    if not (due == 0)
+    then ok_or (row_line width (map token_of ws)) FormReason
+    else (if are_numbers_due section then ok_or (numbers_line (map token_of ws)) FormReason else verb_read form section ws)
 
--- A line of these words is bad for this reason, below lines of these forms.
-abbrev pub are_bad : Setting → List LineForm → List (List ℕ) → Reason → Bool
-are_bad s above ws UnknownWord = not (has_no_verb above) && is_missing (verb_on ws)
-are_bad s above ws Misplaced = not (has_no_verb above) && not (found_with (stands_in s.form (section_of above)) (verb_on ws))
-are_bad s above ws OneTaskOnly = (is_plain s.form && are_tasks_due (section_of above)) && found_with is_task_verb (verb_on ws)
-are_bad s above ws FormReason = is_missing (form_below above ws)
-are_bad s above ws Range = not (found_with is_line_in_range (form_below above ws))
-are_bad s above ws NoName = found_with (lacks_name (bitmaps_above above)) (form_below above ws)
-are_bad s above ws DoubleName = found_with (gives_again above) (form_below above ws)
-are_bad s above ws Group = not (found_with (fits_group (group_above above) (nat_lt (began_at above) (calls_so_far above))) (form_below above ws))
-are_bad s above ws TooMany = found_with (λ form. not (are_few (form ∷ above))) (form_below above ws)
-are_bad s above ws NoHook = found_with (λ form. is_no_hook s.hooks (hook_on form)) (form_below above ws)
-are_bad s above ws HookUsed = found_with (λ form. is_used (hooks_above above) (hook_on form)) (form_below above ws)
-are_bad s above ws Padding = found_with (has_padding (row_width above)) (form_below above ws)
-are_bad s above ws NotBuilt = found_with (is_unbuilt above) (form_below above ws)
-are_bad s above ws _ = false
+-- The first reason for which a line of this form is bad, if it is bad.
+abbrev pub form_tested : Setting → Told → LineForm → Result (Unit {0}) Reason
+form_tested s t form = do
+  _ ← demand (is_line_in_range form) Range
+  _ ← demand (not (lacks_name t.bitmap_names form)) NoName
+  _ ← demand (not (gives_again t form)) DoubleName
+  _ ← demand (fits_group t.group (nat_lt t.began t.so_far) form) Group
+  _ ← demand (are_few (after form t)) TooMany
+  _ ← demand (not (is_no_hook s.hooks (hook_on form))) NoHook
+  _ ← demand (not (is_used t.used (hook_on form))) HookUsed
+  _ ← demand (not (has_padding t.row_width form)) Padding
+  demand (not (is_unbuilt form)) NotBuilt
 
--- The line is bad for this reason, below lines of these forms, where no earlier reason holds of it. `Missing` is a reason of
--- the input's end alone.
-abbrev pub is_bad_line : Setting → List LineForm → List ℕ → Reason → Bool
-is_bad_line s above line LineTooLong = not (nat_le (length line) line_limit)
-is_bad_line s above line BadByte = not (list_all is_printable line)
-is_bad_line s above line Spacing = is_spacing (tokens line)
-is_bad_line s above line Quote = is_quote (tokens line)
-is_bad_line s above line reason = are_bad s above (words_or_none (tokens line)) reason
+-- The form of a line that isn't skipped, below lines that tell this, or its first reason.
+abbrev pub line_read : Setting → Told → List ℕ → Result LineForm Reason
+line_read s t line = do
+  ws ← words_read line
+  form ← form_read s.form t.section t.rows_due t.row_width ws
+  _ ← form_tested s t form
+  Ok form
 
--- the reasons, in the order in which they are asked
-abbrev pub reasons : List Reason
-reasons =
-    LineTooLong ∷ BadByte ∷ Spacing ∷ Quote ∷ UnknownWord ∷ Misplaced ∷ OneTaskOnly ∷ FormReason ∷ Range ∷ NoName ∷ DoubleName ∷ Group ∷ TooMany ∷ NoHook ∷ HookUsed ∷ Padding ∷ NotBuilt ∷ Missing ∷ []
+-- the forms of lines with that of a further line, unless it is skipped; or its first reason
+abbrev pub forms_with : Setting → List LineForm → List ℕ → Result (List LineForm) Reason
+forms_with s above line = if is_skipped line then Ok above else (line_read s (told above) line >>= (λ form. Ok (form ∷ above)))
 
--- the line is no line of the script: it is skipped, or stands behind a line `report`
-abbrev pub is_passed : List LineForm → List ℕ → Bool
-is_passed above line = is_skipped line || is_nothing_due (section_of above)
+-- How far lines were read: the forms of those that aren't skipped, the nearest first; the number of the next line, counted
+-- from 1; and how many bytes the lines have, each with a line feed.
+pub record Reached : Type 0 where
+  pub forms : List LineForm
+  pub number : ℕ
+  pub place : ℕ
 
--- the first reason for which the line is bad, if it is bad
-abbrev pub reason_of : Setting → List LineForm → List ℕ → Option Reason
-reason_of s above line = if is_passed above line then None else find (is_bad_line s above line) reasons
+abbrev pub at_the_top : Reached
+at_the_top = record { forms = []; number = 1; place = 0 }
 
--- the form of a line put on those of the lines above, where it has one and isn't passed over
-abbrev pub put_form : Option LineForm → List LineForm → List LineForm
-put_form None above = above
-put_form (Some form) above = form ∷ above
+-- how far they were read with a further line, where these are the forms with it
+abbrev pub with_line : Reached → List ℕ → List LineForm → Reached
+with_line p line forms = record { forms = forms; number = p.number + 1; place = p.place + (length line + 1) }
 
-abbrev pub with_line : List LineForm → List ℕ → List LineForm
-with_line above line = if is_passed above line then above else put_form (form_below above (words_or_none (tokens line))) above
+-- what is found at a line of this number, or the number with the reason
+abbrev pub at_number : {A : Type 0} → ℕ → Result A Reason → Result A (ℕ × Reason)
+at_number n (Ok a) = Ok a
+at_number n (Err reason) = Err (n, reason)
 
--- the forms of further lines, put on those of the lines above them: the nearest stands first
-abbrev pub with_lines : List LineForm → List (List ℕ) → List LineForm
-with_lines above [] = above
-with_lines above (line ∷ ls) = with_lines (with_line above line) ls
+-- The input may end in this section.
+abbrev pub may_end : Form → Section → Bool
+may_end Plain section = are_tasks_due section
+may_end Ordered section = are_numbers_due section
+may_end Audited section = is_nothing_due section
 
--- the input may end below lines of these forms
-abbrev pub is_whole : Form → List LineForm → Bool
-is_whole Plain above = are_tasks_due (section_of above)
-is_whole Ordered above = are_numbers_due (section_of above)
-is_whole Audited above = is_nothing_due (section_of above)
+-- the end of the lines, below which the input may end or something is missing
+abbrev pub end_read : Setting → Reached → Result Reached (ℕ × Reason)
+end_read s p = do
+  _ ← at_number p.number (demand (may_end s.form (told p.forms).section) Missing)
+  Ok p
 
--- The reason at a line below others, or, where the input ends there, that something is missing.
-abbrev pub reason_or_end : Setting → List LineForm → Option (List ℕ) → Option Reason
-reason_or_end s above (Some line) = reason_of s above line
-reason_or_end s above None = if is_whole s.form above then None else Some Missing
-
--- The reason at line number n, counted from 1. The number behind the last line's is that of the input's end.
-abbrev pub reason_in : Setting → List (List ℕ) → ℕ → Option Reason
-reason_in s ls zero = None
-reason_in s ls (suc i) = reason_or_end s (with_lines [] (take i ls)) (slice_get ls i)
-
--- Line number n is bad, and this is its first reason; or the lines end above it, and something is missing.
-pub record IsBadIn (s : Setting) (ls : List (List ℕ)) (n : ℕ) (reason : Reason) : Type 0 where
-  pub within : n ≤ length ls + 1
-  pub first : reason_in s ls n ≡ Some reason
-
--- Line number n is the first bad line, and this is its first reason.
-pub record IsFirstBadIn (s : Setting) (ls : List (List ℕ)) (n : ℕ) (reason : Reason) : Type 0 where
-  pub bad : IsBadIn s ls n reason
-  pub none_before : (m : ℕ) (other : Reason) → m < n → IsBadIn s ls m other → ⊥
+-- What lines give that stand below others: they are read one after another, up to a line `report` if there is one, or up to
+-- the first bad one, whose number is told with its first reason.
+abbrev pub lines_read : Setting → Reached → List (List ℕ) → Result Reached (ℕ × Reason)
+lines_read s p [] = end_read s p
+lines_read s p (line ∷ ls) =
+    if is_nothing_due (told p.forms).section
+    then end_read s p
+    else (at_number p.number (forms_with s p.forms line) >>= (λ forms. lines_read s (with_line p line forms) ls))
 
 -- What a script gives: its plan, the numbers of its order, and the place behind its line `report`, or the number of
 -- bytes where there is none.
@@ -322,20 +299,22 @@ pub record ScriptInput : Type 0 where
   pub order : List ℕ
   pub rest : ℕ
 
--- how many bytes lines have with their line feeds, up to the one behind which nothing is due
-abbrev pub bytes_through : List LineForm → List (List ℕ) → ℕ
-bytes_through above [] = 0
-bytes_through above (line ∷ ls) = if is_nothing_due (section_of above) then 0 else (length line + 1) + bytes_through (with_line above line) ls
+abbrev pub input_from : Setting → Told → ℕ → ScriptInput
+input_from s t place = record { plan = plan_of s.hooks t; order = t.order; rest = place }
 
--- what lines without a bad one spell, which are those of so many bytes
-abbrev pub input_of : Setting → ℕ → List (List ℕ) → ScriptInput
-input_of s count ls =
-    record { plan = plan_above s.hooks (with_lines [] ls); order = order_above (with_lines [] ls); rest = min count (bytes_through [] ls) }
+-- The outcome of bytes as a script: the input that their lines give, or the first bad line's number, with its first reason.
+abbrev pub outcome_of : Setting → List ℕ → Result ScriptInput (ℕ × Reason)
+outcome_of s bytes = do
+  p ← lines_read s at_the_top (lines bytes)
+  Ok (input_from s (told p.forms) (min (length bytes) p.place))
 
--- The bytes spell the input: no line is bad and nothing is missing, and the input is that of the lines' forms.
-pub record SpellsInput (s : Setting) (bytes : List ℕ) (input : ScriptInput) : Type 0 where
-  pub good : (n : ℕ) (reason : Reason) → IsBadIn s (lines bytes) n reason → ⊥
-  pub spelled : input ≡ input_of s (length bytes) (lines bytes)
+-- The bytes spell this input.
+abbrev pub SpellsInput : Setting → List ℕ → ScriptInput → Type 0
+SpellsInput s bytes input = outcome_of s bytes ≡ Ok input
+
+-- Line number n is the first bad line, and this is its first reason; or the lines end above it, and something is missing.
+abbrev pub IsFirstBadIn : Setting → List (List ℕ) → ℕ → Reason → Type 0
+IsFirstBadIn s ls n reason = lines_read s at_the_top ls ≡ Err (n, reason)
 
 -- Bytes either have a first bad line, with one number and one reason, or they spell an input, and one only.
 pub record IsDecidedIn (s : Setting) (bytes : List ℕ) : Type 0 where
@@ -360,3 +339,12 @@ pub record IsRunnableInput (s : Setting) (input : ScriptInput) : Type 0 where
 -- every input that bytes spell may be run
 abbrev pub SpelledInputsAreRunnable : Type 0
 SpelledInputsAreRunnable = (s : Setting) (bytes : List ℕ) (input : ScriptInput) → SpellsInput s bytes input → IsRunnableInput s input
+
+-- The forms are those of lines that were good where they stood.
+pub record IsGoodLine (s : Setting) (above : List LineForm) (form : LineForm) : Type 0 where
+  pub line : List ℕ
+  pub read : line_read s (told above) line ≡ Ok form
+
+abbrev pub AreGoodLines : Setting → List LineForm → Type 0
+AreGoodLines s [] = Unit {0}
+AreGoodLines s (form ∷ above) = IsGoodLine s above form × AreGoodLines s above

@@ -7,16 +7,12 @@ use Rattle.std.proofs.lemmas.Nat.{shr-shr, pow_pos}
 use Rattle.std.proofs.lemmas.Nat.Bits.{bit_at-lt, bit_at_ones, bit_at_ones_above, bit_at_not, bit_at_and, bit_at_or, bit_at_cat_low, bit_at_cat_high, bit_at-zero, bit_at_above}
 use Rattle.lw_planes.specs.Row.{bit_of, row_bit}
 use Rattle.lw_planes.specs.Minterm.{minterm_bit}
-use Rattle.lw_planes.proofs.BitLaws.{bit-tested}
+use Rattle.lw_planes.proofs.BitLaws.{bit_tested}
 use Rattle.lw_kernels.specs.Kernel.{is_between}
 
--- every bit of the byte of ones is 1
-pub bit_at-all_ones : (i : ℕ) → i < 8 → bit_at 255 i ≡ 1
-bit_at-all_ones i low = bit_at_ones 8 i low
-
 -- a shifted number has the bits from the shift on
-pub bit_at-shr : (n k i : ℕ) → bit_at (n / 2 ^ k) i ≡ bit_at n (k + i)
-bit_at-shr n k i = ap (λ m. m % 2) (shr-shr n k i)
+pub bit_at_shr : (n k i : ℕ) → bit_at (n / 2 ^ k) i ≡ bit_at n (k + i)
+bit_at_shr n k i = ap (λ m. m % 2) (shr-shr n k i)
 
 -- a choice by an order, from both of its cases
 chosen_below : (j n v a b : ℕ) → (j < n → v ≡ a) → (n ≤ j → v ≡ b) → v ≡ (if nat_lt j n then a else b)
@@ -35,15 +31,15 @@ ge_choice : (j n v a b : ℕ) → n ≤ j → v ≡ (if nat_lt j n then a else b
 ge_choice j n v a b high is = grind (arith, nat_tests)
 
 -- the ones that are not before a bit
-pub bit_at-ones_from : (first j : ℕ) → first ≤ 8 → j < 8 → bit_at (255 / 2 ^ first) (7 - j) ≡ (if nat_lt j first then 0 else 1)
-bit_at-ones_from first j most low =
+pub bit_at_ones_from : (first j : ℕ) → first ≤ 8 → j < 8 → bit_at (255 / 2 ^ first) (7 - j) ≡ (if nat_lt j first then 0 else 1)
+bit_at_ones_from first j most low =
     chosen_below j first (bit_at (255 / 2 ^ first) (7 - j)) 0 1
-    (λ before. let high : 8 ≤ first + (7 - j) = omega arith in bit_at-shr 255 first (7 - j) ∙ bit_at_ones_above 8 (first + (7 - j)) high)
-    (λ past. let small : first + (7 - j) < 8 = omega arith in bit_at-shr 255 first (7 - j) ∙ bit_at_ones 8 (first + (7 - j)) small)
+    (λ before. let high : 8 ≤ first + (7 - j) = omega arith in bit_at_shr 255 first (7 - j) ∙ bit_at_ones_above 8 (first + (7 - j)) high)
+    (λ past. let small : first + (7 - j) < 8 = omega arith in bit_at_shr 255 first (7 - j) ∙ bit_at_ones 8 (first + (7 - j)) small)
 
 -- the bits of one byte that another one leaves out
-bit_at-and_not : (a b i : ℕ) → b < 256 → i < 8 → bit_at (bit_and a (255 - b)) i ≡ min (bit_at a i) (1 - bit_at b i)
-bit_at-and_not a b i small low = bit_at_and a (255 - b) i ∙ ap (λ n. min (bit_at a i) n) (bit_at_not w8 b i small low)
+bit_at_and_not : (a b i : ℕ) → b < 256 → i < 8 → bit_at (bit_and a (255 - b)) i ≡ min (bit_at a i) (1 - bit_at b i)
+bit_at_and_not a b i small low = bit_at_and a (255 - b) i ∙ ap (λ n. min (bit_at a i) n) (bit_at_not w8 b i small low)
 
 -- ones from one bit on without those from another on are the bits between
 between_bit : (from end base j first last v a b : ℕ) → j < 8 → first ≡ min (from - base) 8 → last ≡ min (end - base) 8 → a ≡ (if nat_lt j first then 0 else 1) → b ≡ (if nat_lt j last then 0 else 1) → v ≡ min a (1 - b) → v ≡ bit_of (nat_le from (base + j) && nat_lt (base + j) end)
@@ -59,10 +55,10 @@ between_bit from end base j first last v a b low is_first is_last is_a is_b is =
     (cases_lt (base + j) from)
 
 -- a mask has the bits between two bits of the row
-pub bit_at-mask : (from end index first last ones_first ones_last j : ℕ) → ones_last < 256 → j < 8 → first ≡ min (from - 8 * index) 8 → last ≡ min (end - 8 * index) 8 → bit_at ones_first (7 - j) ≡ (if nat_lt j first then 0 else 1) → bit_at ones_last (7 - j) ≡ (if nat_lt j last then 0 else 1) → bit_at (bit_and ones_first (255 - ones_last)) (7 - j) ≡ bit_of (is_between from end (8 * index + j))
-bit_at-mask from end index first last ones_first ones_last j small low is_first is_last a b =
+pub bit_at_mask : (from end index first last ones_first ones_last j : ℕ) → ones_last < 256 → j < 8 → first ≡ min (from - 8 * index) 8 → last ≡ min (end - 8 * index) 8 → bit_at ones_first (7 - j) ≡ (if nat_lt j first then 0 else 1) → bit_at ones_last (7 - j) ≡ (if nat_lt j last then 0 else 1) → bit_at (bit_and ones_first (255 - ones_last)) (7 - j) ≡ bit_of (is_between from end (8 * index + j))
+bit_at_mask from end index first last ones_first ones_last j small low is_first is_last a b =
     between_bit from end (8 * index) j first last (bit_at (bit_and ones_first (255 - ones_last)) (7 - j)) (bit_at ones_first (7 - j)) (bit_at ones_last (7 - j)) low is_first is_last a b
-    (bit_at-and_not ones_first ones_last (7 - j) small (omega arith))
+    (bit_at_and_not ones_first ones_last (7 - j) small (omega arith))
 
 -- one bit of what a mask takes from two bytes
 masked_bit : (t : Bool) (value old m : ℕ) → value < 2 → old < 2 → m ≡ bit_of t → max (min value m) (min old (1 - m)) ≡ (if t then value else old)
@@ -70,29 +66,29 @@ masked_bit true value old m a b is = omega arith
 masked_bit false value old m a b is = omega arith
 
 -- a byte whose named bits are those of another
-pub bit_at-replaced : (t : Bool) (value old mask i : ℕ) → mask < 256 → i < 8 → bit_at mask i ≡ bit_of t → bit_at (bit_or (bit_and value mask) (bit_and old (255 - mask))) i ≡ (if t then bit_at value i else bit_at old i)
-bit_at-replaced t value old mask i small low is =
+pub bit_at_replaced : (t : Bool) (value old mask i : ℕ) → mask < 256 → i < 8 → bit_at mask i ≡ bit_of t → bit_at (bit_or (bit_and value mask) (bit_and old (255 - mask))) i ≡ (if t then bit_at value i else bit_at old i)
+bit_at_replaced t value old mask i small low is =
     bit_at_or (bit_and value mask) (bit_and old (255 - mask)) i ∙
     (ap (λ n. max n (bit_at (bit_and old (255 - mask)) i)) (bit_at_and value mask i) ∙
-    (ap (λ n. max (min (bit_at value i) (bit_at mask i)) n) (bit_at-and_not old mask i small low) ∙
+    (ap (λ n. max (min (bit_at value i) (bit_at mask i)) n) (bit_at_and_not old mask i small low) ∙
     masked_bit t (bit_at value i) (bit_at old i) (bit_at mask i) (bit_at-lt value i) (bit_at-lt old i) is))
 
 -- the low eight bits of a number are its own
-bit_at-low_byte : (n i : ℕ) → i < 8 → bit_at (bit_and n 255) i ≡ bit_at n i
-bit_at-low_byte n i low =
-    let one : bit_at 255 i ≡ 1 = bit_at-all_ones i low in
+bit_at_low_byte : (n i : ℕ) → i < 8 → bit_at (bit_and n 255) i ≡ bit_at n i
+bit_at_low_byte n i low =
+    let one : bit_at 255 i ≡ 1 = bit_at_ones 8 i low in
     let small : bit_at n i < 2 = bit_at-lt n i in
     let both : bit_at (bit_and n 255) i ≡ min (bit_at n i) (bit_at 255 i) = bit_at_and n 255 i in
     omega arith
 
 -- eight bits of a pair of neighbouring bytes
-pub bit_at-pair : (row : List ℕ) (place left right j : ℕ) → right < 256 → j < 8 → left ≡ get_or row (place / 8) 0 → right ≡ get_or row (place / 8 + 1) 0 → bit_at (bit_and ((left * 256 + right) / 2 ^ (8 - place % 8)) 255) (7 - j) ≡ row_bit row (place + j)
+pub bit_at_pair : (row : List ℕ) (place left right j : ℕ) → right < 256 → j < 8 → left ≡ get_or row (place / 8) 0 → right ≡ get_or row (place / 8 + 1) 0 → bit_at (bit_and ((left * 256 + right) / 2 ^ (8 - place % 8)) 255) (7 - j) ≡ row_bit row (place + j)
 unfolding row_bit
-bit_at-pair row place left right j small low is_left is_right =
+bit_at_pair row place left right j small low is_left is_right =
     let i : ℕ = 8 - place % 8 + (7 - j) in
     let in_byte : 7 - j < 8 = omega arith in
-    bit_at-low_byte ((left * 256 + right) / 2 ^ (8 - place % 8)) (7 - j) in_byte ∙
-    (bit_at-shr (left * 256 + right) (8 - place % 8) (7 - j) ∙
+    bit_at_low_byte ((left * 256 + right) / 2 ^ (8 - place % 8)) (7 - j) in_byte ∙
+    (bit_at_shr (left * 256 + right) (8 - place % 8) (7 - j) ∙
     ⊎_elim
     (λ (first : place % 8 + j < 8).
     let high : 8 ≤ i = omega arith in
@@ -107,8 +103,8 @@ bit_at-pair row place left right j small low is_left is_right =
     (cases_lt (place % 8 + j) 8))
 
 -- a byte that is shifted to the left has no bits below the shift, and above it those from its lowest on
-bit_at-shl : (a n i : ℕ) → i < 8 → bit_at ((a * 2 ^ n) % 256) i ≡ (if nat_lt i n then 0 else bit_at a (i - n))
-bit_at-shl a n i low =
+bit_at_shl : (a n i : ℕ) → i < 8 → bit_at ((a * 2 ^ n) % 256) i ≡ (if nat_lt i n then 0 else bit_at a (i - n))
+bit_at_shl a n i low =
     let whole : ℕ = a * 2 ^ n in
     let split : (whole / 256) * 2 ^ 8 + whole % 256 ≡ whole + 0 = omega arith in
     let same : bit_at (whole % 256) i ≡ bit_at (whole + 0) i = sym (bit_at_cat_low (whole / 256) 8 (whole % 256) i low) ∙ ap (λ m. bit_at m i) split in
@@ -118,41 +114,41 @@ bit_at-shl a n i low =
     (λ past. bit_at_cat_high a n 0 i (pow_pos n) past)
 
 -- the greater of two bits of which the second is 0
-max-zero : (a b c : ℕ) → a ≡ c → b ≡ 0 → max a b ≡ c
-max-zero a b c p q = omega arith
+max_zero : (a b c : ℕ) → a ≡ c → b ≡ 0 → max a b ≡ c
+max_zero a b c p q = omega arith
 
 -- the greater of two bits of which the first is 0
-zero-max : (a b c : ℕ) → a ≡ 0 → b ≡ c → max a b ≡ c
-zero-max a b c p q = omega arith
+zero_max : (a b c : ℕ) → a ≡ 0 → b ≡ c → max a b ≡ c
+zero_max a b c p q = omega arith
 
 -- a bit of a pair of bytes that was shifted
-pub bit_at-shifted : (left right shift j : ℕ) → right < 256 → 0 < shift → shift < 8 → j < 8 → bit_at (bit_or ((left * 2 ^ shift) % 256) (right / 2 ^ (8 - shift))) (7 - j) ≡ (if nat_lt (shift + j) 8 then bit_at left (7 - (shift + j)) else bit_at right (15 - (shift + j)))
-bit_at-shifted left right shift j small some few low =
+pub bit_at_shifted : (left right shift j : ℕ) → right < 256 → 0 < shift → shift < 8 → j < 8 → bit_at (bit_or ((left * 2 ^ shift) % 256) (right / 2 ^ (8 - shift))) (7 - j) ≡ (if nat_lt (shift + j) 8 then bit_at left (7 - (shift + j)) else bit_at right (15 - (shift + j)))
+bit_at_shifted left right shift j small some few low =
     let i : ℕ = 7 - j in
     let in_byte : i < 8 = omega arith in
     let first : ℕ = bit_at ((left * 2 ^ shift) % 256) i in
     let second : ℕ = bit_at (right / 2 ^ (8 - shift)) i in
-    let from_right : second ≡ bit_at right (8 - shift + i) = bit_at-shr right (8 - shift) i in
+    let from_right : second ≡ bit_at right (8 - shift + i) = bit_at_shr right (8 - shift) i in
     bit_at_or ((left * 2 ^ shift) % 256) (right / 2 ^ (8 - shift)) i ∙
     chosen_below (shift + j) 8 (max first second) (bit_at left (7 - (shift + j))) (bit_at right (15 - (shift + j)))
     (λ inside.
     let high : 8 ≤ 8 - shift + i = omega arith in
     let reached : shift ≤ i = omega arith in
     let place : i - shift ≡ 7 - (shift + j) = omega arith in
-    max-zero first second (bit_at left (7 - (shift + j)))
-    (ge_choice i shift first 0 (bit_at left (i - shift)) reached (bit_at-shl left shift i in_byte) ∙ ap (λ n. bit_at left n) place)
+    max_zero first second (bit_at left (7 - (shift + j)))
+    (ge_choice i shift first 0 (bit_at left (i - shift)) reached (bit_at_shl left shift i in_byte) ∙ ap (λ n. bit_at left n) place)
     (from_right ∙ bit_at_above right 8 (8 - shift + i) small high))
     (λ past.
     let below : i < shift = omega arith in
     let place : 8 - shift + i ≡ 15 - (shift + j) = omega arith in
-    zero-max first second (bit_at right (15 - (shift + j)))
-    (lt_choice i shift first 0 (bit_at left (i - shift)) below (bit_at-shl left shift i in_byte))
+    zero_max first second (bit_at right (15 - (shift + j)))
+    (lt_choice i shift first 0 (bit_at left (i - shift)) below (bit_at_shl left shift i in_byte))
     (from_right ∙ ap (λ n. bit_at right n) place))
 
 -- a shifted pair of neighbouring bytes of a row
-pub shifted-row : (row : List ℕ) (at left right shift j v : ℕ) → j < 8 → left ≡ get_or row at 0 → right ≡ get_or row (at + 1) 0 → v ≡ (if nat_lt (shift + j) 8 then bit_at left (7 - (shift + j)) else bit_at right (15 - (shift + j))) → shift < 8 → v ≡ row_bit row (8 * at + shift + j)
+pub shifted_row : (row : List ℕ) (at left right shift j v : ℕ) → j < 8 → left ≡ get_or row at 0 → right ≡ get_or row (at + 1) 0 → v ≡ (if nat_lt (shift + j) 8 then bit_at left (7 - (shift + j)) else bit_at right (15 - (shift + j))) → shift < 8 → v ≡ row_bit row (8 * at + shift + j)
 unfolding row_bit
-shifted-row row at left right shift j v low is_left is_right is few =
+shifted_row row at left right shift j v low is_left is_right is few =
     ⊎_elim
     (λ (inside : shift + j < 8).
     let byte : (8 * at + shift + j) / 8 ≡ at = omega arith in
@@ -165,64 +161,64 @@ shifted-row row at left right shift j v low is_left is_right is few =
     (cases_lt (shift + j) 8)
 
 -- eight bits that begin before the byte, moved to their places in it
-pub bit_at-moved : (row : List ℕ) (byte source_bit to_bit base j : ℕ) → j < 8 → base ≤ to_bit → to_bit ≤ base + j → ((i : ℕ) → i < 8 → bit_at byte (7 - i) ≡ row_bit row (source_bit + i)) → bit_at (byte / 2 ^ (to_bit - base)) (7 - j) ≡ row_bit row (source_bit + (base + j - to_bit))
-bit_at-moved row byte source_bit to_bit base j low before inside bits =
+pub bit_at_moved : (row : List ℕ) (byte source_bit to_bit base j : ℕ) → j < 8 → base ≤ to_bit → to_bit ≤ base + j → ((i : ℕ) → i < 8 → bit_at byte (7 - i) ≡ row_bit row (source_bit + i)) → bit_at (byte / 2 ^ (to_bit - base)) (7 - j) ≡ row_bit row (source_bit + (base + j - to_bit))
+bit_at_moved row byte source_bit to_bit base j low before inside bits =
     let i : ℕ = base + j - to_bit in
     let in_byte : i < 8 = omega arith in
     let place : to_bit - base + (7 - j) ≡ 7 - i = omega arith in
-    bit_at-shr byte (to_bit - base) (7 - j) ∙ (ap (λ n. bit_at byte n) place ∙ bits i in_byte)
+    bit_at_shr byte (to_bit - base) (7 - j) ∙ (ap (λ n. bit_at byte n) place ∙ bits i in_byte)
 
 -- one term of a minterm: what a byte has where its minterm bit is 1
 term : Bool → ℕ → ℕ
 term t bit = if t then bit else 0
 
 -- a term of no bits is 0
-term-none : (t : Bool) → term t 0 ≡ 0
+term_none : (t : Bool) → term t 0 ≡ 0
 unfolding term
-term-none true = refl
-term-none false = refl
+term_none true = refl
+term_none false = refl
 
 -- a term of a bit is its minterm bit
-term-one : (t : Bool) → term t 1 ≡ bit_of t
+term_one : (t : Bool) → term t 1 ≡ bit_of t
 unfolding term
-term-one t = refl
+term_one t = refl
 
 -- the greatest of four numbers of which all but the first are 0
-greatest-first : (a b c d : ℕ) → b ≡ 0 → c ≡ 0 → d ≡ 0 → max (max (max a b) c) d ≡ a
-greatest-first a b c d p q r = omega arith
+greatest_first : (a b c d : ℕ) → b ≡ 0 → c ≡ 0 → d ≡ 0 → max (max (max a b) c) d ≡ a
+greatest_first a b c d p q r = omega arith
 
 -- the greatest of four numbers of which all but the second are 0
-greatest-second : (a b c d : ℕ) → a ≡ 0 → c ≡ 0 → d ≡ 0 → max (max (max a b) c) d ≡ b
-greatest-second a b c d p q r = omega arith
+greatest_second : (a b c d : ℕ) → a ≡ 0 → c ≡ 0 → d ≡ 0 → max (max (max a b) c) d ≡ b
+greatest_second a b c d p q r = omega arith
 
 -- the greatest of four numbers of which all but the third are 0
-greatest-third : (a b c d : ℕ) → a ≡ 0 → b ≡ 0 → d ≡ 0 → max (max (max a b) c) d ≡ c
-greatest-third a b c d p q r = omega arith
+greatest_third : (a b c d : ℕ) → a ≡ 0 → b ≡ 0 → d ≡ 0 → max (max (max a b) c) d ≡ c
+greatest_third a b c d p q r = omega arith
 
 -- the greatest of four numbers of which all but the fourth are 0
-greatest-fourth : (a b c d : ℕ) → a ≡ 0 → b ≡ 0 → c ≡ 0 → max (max (max a b) c) d ≡ d
-greatest-fourth a b c d p q r = omega arith
+greatest_fourth : (a b c d : ℕ) → a ≡ 0 → b ≡ 0 → c ≡ 0 → max (max (max a b) c) d ≡ d
+greatest_fourth a b c d p q r = omega arith
 
 -- of the four terms of a minterm the one for the pair of bits counts
 minterm_terms : (t7 t6 t5 t4 : Bool) (m7 m6 m5 m4 b c : ℕ) → b < 2 → c < 2 → bit_of t7 ≡ m7 → bit_of t6 ≡ m6 → bit_of t5 ≡ m5 → bit_of t4 ≡ m4 → max (max (max (term t7 (min b c)) (term t6 (min b (1 - c)))) (term t5 (min (1 - b) c))) (term t4 (min (1 - b) (1 - c))) ≡ (if b == 1 then (if c == 1 then m7 else m6) else (if c == 1 then m5 else m4))
-minterm_terms t7 t6 t5 t4 m7 m6 m5 m4 zero zero l1 l2 h7 h6 h5 h4 = greatest-fourth (term t7 0) (term t6 0) (term t5 0) (term t4 1) (term-none t7) (term-none t6) (term-none t5) ∙ (term-one t4 ∙ h4)
-minterm_terms t7 t6 t5 t4 m7 m6 m5 m4 zero (suc zero) l1 l2 h7 h6 h5 h4 = greatest-third (term t7 0) (term t6 0) (term t5 1) (term t4 0) (term-none t7) (term-none t6) (term-none t4) ∙ (term-one t5 ∙ h5)
-minterm_terms t7 t6 t5 t4 m7 m6 m5 m4 (suc zero) zero l1 l2 h7 h6 h5 h4 = greatest-second (term t7 0) (term t6 1) (term t5 0) (term t4 0) (term-none t7) (term-none t5) (term-none t4) ∙ (term-one t6 ∙ h6)
-minterm_terms t7 t6 t5 t4 m7 m6 m5 m4 (suc zero) (suc zero) l1 l2 h7 h6 h5 h4 = greatest-first (term t7 1) (term t6 0) (term t5 0) (term t4 0) (term-none t6) (term-none t5) (term-none t4) ∙ (term-one t7 ∙ h7)
+minterm_terms t7 t6 t5 t4 m7 m6 m5 m4 zero zero l1 l2 h7 h6 h5 h4 = greatest_fourth (term t7 0) (term t6 0) (term t5 0) (term t4 1) (term_none t7) (term_none t6) (term_none t5) ∙ (term_one t4 ∙ h4)
+minterm_terms t7 t6 t5 t4 m7 m6 m5 m4 zero (suc zero) l1 l2 h7 h6 h5 h4 = greatest_third (term t7 0) (term t6 0) (term t5 1) (term t4 0) (term_none t7) (term_none t6) (term_none t4) ∙ (term_one t5 ∙ h5)
+minterm_terms t7 t6 t5 t4 m7 m6 m5 m4 (suc zero) zero l1 l2 h7 h6 h5 h4 = greatest_second (term t7 0) (term t6 1) (term t5 0) (term t4 0) (term_none t7) (term_none t5) (term_none t4) ∙ (term_one t6 ∙ h6)
+minterm_terms t7 t6 t5 t4 m7 m6 m5 m4 (suc zero) (suc zero) l1 l2 h7 h6 h5 h4 = greatest_first (term t7 1) (term t6 0) (term t5 0) (term t4 0) (term_none t6) (term_none t5) (term_none t4) ∙ (term_one t7 ∙ h7)
 minterm_terms t7 t6 t5 t4 m7 m6 m5 m4 (suc (suc b)) c l1 l2 h7 h6 h5 h4 = absurd (omega arith)
 minterm_terms t7 t6 t5 t4 m7 m6 m5 m4 zero (suc (suc c)) l1 l2 h7 h6 h5 h4 = absurd (omega arith)
 minterm_terms t7 t6 t5 t4 m7 m6 m5 m4 (suc zero) (suc (suc c)) l1 l2 h7 h6 h5 h4 = absurd (omega arith)
 
 -- a bit of four bytes in one
-bit_at-or_four : (p q r s i : ℕ) → bit_at (bit_or (bit_or (bit_or p q) r) s) i ≡ max (max (max (bit_at p i) (bit_at q i)) (bit_at r i)) (bit_at s i)
-bit_at-or_four p q r s i =
+bit_at_or_four : (p q r s i : ℕ) → bit_at (bit_or (bit_or (bit_or p q) r) s) i ≡ max (max (max (bit_at p i) (bit_at q i)) (bit_at r i)) (bit_at s i)
+bit_at_or_four p q r s i =
     bit_at_or (bit_or (bit_or p q) r) s i ∙
     (ap (λ n. max n (bit_at s i)) (bit_at_or (bit_or p q) r i) ∙ ap (λ n. max (max n (bit_at r i)) (bit_at s i)) (bit_at_or p q i))
 
 -- the terms of a minterm, taken from a source byte and an old byte
-pub bit_at-minterm : (minterm source old p q r s i : ℕ) → source < 256 → old < 256 → i < 8 → bit_at p i ≡ (if nat_eq (bit_and (minterm / 128) 1) 1 then bit_at (bit_and source old) i else 0) → bit_at q i ≡ (if nat_eq (bit_and (minterm / 64) 1) 1 then bit_at (bit_and source (255 - old)) i else 0) → bit_at r i ≡ (if nat_eq (bit_and (minterm / 32) 1) 1 then bit_at (bit_and (255 - source) old) i else 0) → bit_at s i ≡ (if nat_eq (bit_and (minterm / 16) 1) 1 then bit_at (bit_and (255 - source) (255 - old)) i else 0) → bit_at (bit_or (bit_or (bit_or p q) r) s) i ≡ minterm_bit minterm (bit_at source i) (bit_at old i)
+pub bit_at_minterm : (minterm source old p q r s i : ℕ) → source < 256 → old < 256 → i < 8 → bit_at p i ≡ (if nat_eq (bit_and (minterm / 128) 1) 1 then bit_at (bit_and source old) i else 0) → bit_at q i ≡ (if nat_eq (bit_and (minterm / 64) 1) 1 then bit_at (bit_and source (255 - old)) i else 0) → bit_at r i ≡ (if nat_eq (bit_and (minterm / 32) 1) 1 then bit_at (bit_and (255 - source) old) i else 0) → bit_at s i ≡ (if nat_eq (bit_and (minterm / 16) 1) 1 then bit_at (bit_and (255 - source) (255 - old)) i else 0) → bit_at (bit_or (bit_or (bit_or p q) r) s) i ≡ minterm_bit minterm (bit_at source i) (bit_at old i)
 unfolding term
-bit_at-minterm minterm source old p q r s i small_source small_old low is_p is_q is_r is_s =
+bit_at_minterm minterm source old p q r s i small_source small_old low is_p is_q is_r is_s =
     let b : ℕ = bit_at source i in
     let c : ℕ = bit_at old i in
     let not_b : bit_at (255 - source) i ≡ 1 - b = bit_at_not w8 source i small_source low in
@@ -231,29 +227,29 @@ bit_at-minterm minterm source old p q r s i small_source small_old low is_p is_q
     let source_alone = is_q ∙ ap (λ n. term (nat_eq (bit_and (minterm / 64) 1) 1) n) (bit_at_and source (255 - old) i ∙ ap (λ n. min b n) not_c) in
     let old_alone = is_r ∙ ap (λ n. term (nat_eq (bit_and (minterm / 32) 1) 1) n) (bit_at_and (255 - source) old i ∙ ap (λ n. min n c) not_b) in
     let neither = is_s ∙ ap (λ n. term (nat_eq (bit_and (minterm / 16) 1) 1) n) (bit_at_and (255 - source) (255 - old) i ∙ (ap (λ n. min n (bit_at (255 - old) i)) not_b ∙ ap (λ n. min (1 - b) n) not_c)) in
-    bit_at-or_four p q r s i ∙
+    bit_at_or_four p q r s i ∙
     (ap (λ n. max (max (max n (bit_at q i)) (bit_at r i)) (bit_at s i)) both ∙
     (ap (λ n. max (max (max (term (nat_eq (bit_and (minterm / 128) 1) 1) (min b c)) n) (bit_at r i)) (bit_at s i)) source_alone ∙
     (ap (λ n. max (max (max (term (nat_eq (bit_and (minterm / 128) 1) 1) (min b c)) (term (nat_eq (bit_and (minterm / 64) 1) 1) (min b (1 - c)))) n) (bit_at s i)) old_alone ∙
     (ap (λ n. max (max (max (term (nat_eq (bit_and (minterm / 128) 1) 1) (min b c)) (term (nat_eq (bit_and (minterm / 64) 1) 1) (min b (1 - c)))) (term (nat_eq (bit_and (minterm / 32) 1) 1) (min (1 - b) c))) n) neither ∙
     minterm_terms (nat_eq (bit_and (minterm / 128) 1) 1) (nat_eq (bit_and (minterm / 64) 1) 1) (nat_eq (bit_and (minterm / 32) 1) 1) (nat_eq (bit_and (minterm / 16) 1) 1)
     (bit_at minterm 7) (bit_at minterm 6) (bit_at minterm 5) (bit_at minterm 4) b c (bit_at-lt source i) (bit_at-lt old i)
-    (bit-tested minterm 7) (bit-tested minterm 6) (bit-tested minterm 5) (bit-tested minterm 4)))))
+    (bit_tested minterm 7) (bit_tested minterm 6) (bit_tested minterm 5) (bit_tested minterm 4)))))
 
 -- a bit of a number of which some bits are tested at once
-tested-bit : (minterm mask value i : ℕ) → bit_and minterm mask ≡ value → bit_at mask i ≡ 1 → bit_at minterm i ≡ bit_at value i
-tested-bit minterm mask value i is one =
+tested_bit : (minterm mask value i : ℕ) → bit_and minterm mask ≡ value → bit_at mask i ≡ 1 → bit_at minterm i ≡ bit_at value i
+tested_bit minterm mask value i is one =
     let both : bit_at (bit_and minterm mask) i ≡ min (bit_at minterm i) (bit_at mask i) = bit_at_and minterm mask i in
     let same : bit_at (bit_and minterm mask) i ≡ bit_at value i = ap (λ n. bit_at n i) is in
     let small : bit_at minterm i < 2 = bit_at-lt minterm i in
     omega arith
 
 -- a choice by two bits that depends on the first alone
-chosen-copies : (m7 m6 m5 m4 b c : ℕ) → b < 2 → m7 ≡ 1 → m6 ≡ 1 → m5 ≡ 0 → m4 ≡ 0 → (if b == 1 then (if c == 1 then m7 else m6) else (if c == 1 then m5 else m4)) ≡ b
-chosen-copies m7 m6 m5 m4 b c small p q r s = grind (arith, nat_tests)
+chosen_copies : (m7 m6 m5 m4 b c : ℕ) → b < 2 → m7 ≡ 1 → m6 ≡ 1 → m5 ≡ 0 → m4 ≡ 0 → (if b == 1 then (if c == 1 then m7 else m6) else (if c == 1 then m5 else m4)) ≡ b
+chosen_copies m7 m6 m5 m4 b c small p q r s = grind (arith, nat_tests)
 
 -- the minterm of a copy has the source bit for its value
-pub minterm-copies : (minterm b c : ℕ) → b < 2 → bit_and minterm 240 ≡ 192 → minterm_bit minterm b c ≡ b
-minterm-copies minterm b c small is =
-    chosen-copies (bit_at minterm 7) (bit_at minterm 6) (bit_at minterm 5) (bit_at minterm 4) b c small
-    (tested-bit minterm 240 192 7 is refl) (tested-bit minterm 240 192 6 is refl) (tested-bit minterm 240 192 5 is refl) (tested-bit minterm 240 192 4 is refl)
+pub minterm_copies : (minterm b c : ℕ) → b < 2 → bit_and minterm 240 ≡ 192 → minterm_bit minterm b c ≡ b
+minterm_copies minterm b c small is =
+    chosen_copies (bit_at minterm 7) (bit_at minterm 6) (bit_at minterm 5) (bit_at minterm 4) b c small
+    (tested_bit minterm 240 192 7 is refl) (tested_bit minterm 240 192 6 is refl) (tested_bit minterm 240 192 5 is refl) (tested_bit minterm 240 192 4 is refl)

@@ -3,43 +3,43 @@ use Rattle.std.proofs.Common.{◌≡◌, ℕ, ◌+◌, ◌-◌, ◌*◌, ◌/◌
 use Rattle.std.specs.Int.{bit_at}
 use Rattle.std.proofs.lemmas.List.{get_or-append_right, get_or_append_left, get_or-take, get_or-drop, length-take-le}
 use Rattle.lw_planes.specs.Row.{row_bit}
-use Rattle.lw_kernels.proofs.RowWriting.{Done, done-each}
+use Rattle.lw_kernels.proofs.RowWriting.{Done, done_each}
 use borrow.Rule.Slice.PartMut.{put_mid}
 
 -- equal bytes have equal bits
-row_bit-same : (row source : List ℕ) (x y : ℕ) → get_or row (x / 8) 0 ≡ get_or source (y / 8) 0 → x % 8 ≡ y % 8 → row_bit row x ≡ row_bit source y
+row_bit_same : (row source : List ℕ) (x y : ℕ) → get_or row (x / 8) 0 ≡ get_or source (y / 8) 0 → x % 8 ≡ y % 8 → row_bit row x ≡ row_bit source y
 unfolding row_bit
-row_bit-same row source x y byte bit = ap (λ n. bit_at n (7 - x % 8)) byte ∙ ap (λ n. bit_at (get_or source (y / 8) 0) (7 - n)) bit
+row_bit_same row source x y byte bit = ap (λ n. bit_at n (7 - x % 8)) byte ∙ ap (λ n. bit_at (get_or source (y / 8) 0) (7 - n)) bit
 
 -- bytes of a row that are those of a source, and the other ones its old ones
-pub copied-bits : (row was source : List ℕ) (first last start : ℕ) → ((i : ℕ) → first ≤ i → i < last → get_or row i 0 ≡ get_or source (start + (i - first)) 0) → ((i : ℕ) → i < first → get_or row i 0 ≡ get_or was i 0) → ((i : ℕ) → last ≤ i → get_or row i 0 ≡ get_or was i 0) → Done row (λ x. row_bit source (8 * start + (x - 8 * first))) (λ x. row_bit was x) (8 * first) (8 * last)
-copied-bits row was source first last start inside below above =
-    done-each row (λ x. row_bit source (8 * start + (x - 8 * first))) (λ x. row_bit was x) (8 * first) (8 * last)
+pub copied_bits : (row was source : List ℕ) (first last start : ℕ) → ((i : ℕ) → first ≤ i → i < last → get_or row i 0 ≡ get_or source (start + (i - first)) 0) → ((i : ℕ) → i < first → get_or row i 0 ≡ get_or was i 0) → ((i : ℕ) → last ≤ i → get_or row i 0 ≡ get_or was i 0) → Done row (λ x. row_bit source (8 * start + (x - 8 * first))) (λ x. row_bit was x) (8 * first) (8 * last)
+copied_bits row was source first last start inside below above =
+    done_each row (λ x. row_bit source (8 * start + (x - 8 * first))) (λ x. row_bit was x) (8 * first) (8 * last)
     (λ x p q.
     let byte : start + (x / 8 - first) ≡ (8 * start + (x - 8 * first)) / 8 = omega arith in
     let bit : x % 8 ≡ (8 * start + (x - 8 * first)) % 8 = omega arith in
-    row_bit-same row source x (8 * start + (x - 8 * first)) (inside (x / 8) (omega arith) (omega arith) ∙ ap (λ n. get_or source n 0) byte) bit)
-    (λ x p. row_bit-same row was x x (below (x / 8) (omega arith)) refl)
-    (λ x p. row_bit-same row was x x (above (x / 8) (omega arith)) refl)
+    row_bit_same row source x (8 * start + (x - 8 * first)) (inside (x / 8) (omega arith) (omega arith) ∙ ap (λ n. get_or source n 0) byte) bit)
+    (λ x p. row_bit_same row was x x (below (x / 8) (omega arith)) refl)
+    (λ x p. row_bit_same row was x x (above (x / 8) (omega arith)) refl)
 
 -- a part of a list that was written anew
-pub mid-inside : (xs ys : List ℕ) (a k i : ℕ) → length ys ≡ k → a + k ≤ length xs → a ≤ i → i < a + k → get_or (put_mid a k xs ys) i 0 ≡ get_or ys (i - a) 0
-mid-inside xs ys a k i long fits p q =
+pub mid_inside : (xs ys : List ℕ) (a k i : ℕ) → length ys ≡ k → a + k ≤ length xs → a ≤ i → i < a + k → get_or (put_mid a k xs ys) i 0 ≡ get_or ys (i - a) 0
+mid_inside xs ys a k i long fits p q =
     let small : a ≤ length xs = omega arith in
     let low : i - a < length ys = omega arith in
     get_or-append_right (take a xs) (ys ++ drop k (drop a xs)) a i 0 (length-take-le a xs small) p ∙ get_or_append_left ys (drop k (drop a xs)) 0 (i - a) low
 
 -- what stands before it
-pub mid-below : (xs ys : List ℕ) (a k i : ℕ) → a + k ≤ length xs → i < a → get_or (put_mid a k xs ys) i 0 ≡ get_or xs i 0
-mid-below xs ys a k i fits p =
+pub mid_below : (xs ys : List ℕ) (a k i : ℕ) → a + k ≤ length xs → i < a → get_or (put_mid a k xs ys) i 0 ≡ get_or xs i 0
+mid_below xs ys a k i fits p =
     let small : a ≤ length xs = omega arith in
     let long : length (take a xs) ≡ a = length-take-le a xs small in
     let low : i < length (take a xs) = omega (arith, long) in
     get_or_append_left (take a xs) (ys ++ drop k (drop a xs)) 0 i low ∙ get_or-take a xs i 0 p
 
 -- what stands behind it
-pub mid-above : (xs ys : List ℕ) (a k i : ℕ) → length ys ≡ k → a + k ≤ length xs → a + k ≤ i → get_or (put_mid a k xs ys) i 0 ≡ get_or xs i 0
-mid-above xs ys a k i long fits p =
+pub mid_above : (xs ys : List ℕ) (a k i : ℕ) → length ys ≡ k → a + k ≤ length xs → a + k ≤ i → get_or (put_mid a k xs ys) i 0 ≡ get_or xs i 0
+mid_above xs ys a k i long fits p =
     let small : a ≤ length xs = omega arith in
     let late : a ≤ i = omega arith in
     let later : k ≤ i - a = omega arith in

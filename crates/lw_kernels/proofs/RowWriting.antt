@@ -4,11 +4,11 @@ use Rattle.std.specs.Int.{bit_at}
 use Rattle.std.specs.List.{range_with_len}
 use Rattle.std.proofs.lemmas.List.{ext_get_or, get_or_past}
 use Rattle.std.proofs.lemmas.List.FromFn.{length-map-range_with_len, get_or-map-range_with_len}
-use Rattle.std.proofs.lemmas.Bool.{cases_lt, cases_eq}
+use Rattle.std.proofs.lemmas.Bool.{cases_lt, cases_eq, and_right, lt-ltb, le-ltb, le-leb, lt-leb}
 use Rattle.std.proofs.lemmas.Bool.Decides.{nat_tests}
 use Rattle.lw_planes.specs.Row.{row_bit, row_bits}
 use Rattle.lw_planes.specs.Minterm.{minterm_bit}
-use Rattle.lw_planes.proofs.RowLaws.{row_bit-at, row_bit-past, row_bits-at, length-row_bits}
+use Rattle.lw_planes.proofs.RowLaws.{row_bit_at, row_bit_past, row_bits_at, length_row_bits}
 use Rattle.lw_kernels.specs.Kernel.{is_between, is_named, with_named}
 
 -- the bits from `from` on, before `end`, are the new ones in the bytes before `index`, and every other bit is the old one
@@ -24,66 +24,43 @@ abbrev pub Done : List ℕ → (ℕ → ℕ) → (ℕ → ℕ) → ℕ → ℕ �
 Done row new old from end = (x : ℕ) → row_bit row x ≡ (if is_between from end x then new x else old x)
 
 -- a choice whose test is true
-if-true : (t : Bool) (v a b : ℕ) → v ≡ (if t then a else b) → t ≡ true → v ≡ a
-if-true true v a b is h = is
-if-true false v a b is h = cc
+if_true : (t : Bool) (v a b : ℕ) → v ≡ (if t then a else b) → t ≡ true → v ≡ a
+if_true true v a b is h = is
+if_true false v a b is h = cc
 
 -- a choice whose test is false
-if-false : (t : Bool) (v a b : ℕ) → v ≡ (if t then a else b) → t ≡ false → v ≡ b
-if-false true v a b is h = cc
-if-false false v a b is h = is
+if_false : (t : Bool) (v a b : ℕ) → v ≡ (if t then a else b) → t ≡ false → v ≡ b
+if_false true v a b is h = cc
+if_false false v a b is h = is
 
 -- a choice by another test of the same value
-if-test : (t u : Bool) (v a b : ℕ) → v ≡ (if t then a else b) → t ≡ u → v ≡ (if u then a else b)
-if-test t u v a b is h = is ∙ ap (λ q. if q then a else b) h
+if_test : (t u : Bool) (v a b : ℕ) → v ≡ (if t then a else b) → t ≡ u → v ≡ (if u then a else b)
+if_test t u v a b is h = is ∙ ap (λ q. if q then a else b) h
 
 -- `and` with a true test
-and-true : (t u : Bool) → u ≡ true → (t && u) ≡ t
-and-true true true h = refl
-and-true false true h = refl
-and-true true false h = cc
-and-true false false h = refl
-
--- `and` with a false test
-and-false : (t u : Bool) → u ≡ false → (t && u) ≡ false
-and-false true true h = cc
-and-false false true h = refl
-and-false true false h = refl
-and-false false false h = refl
-
--- an order that holds, tested
-lt-yes : (a b : ℕ) → a < b → nat_lt a b ≡ true
-lt-yes a b h = grind (arith, nat_tests)
-
--- an order that doesn't hold, tested
-lt-no : (a b : ℕ) → b ≤ a → nat_lt a b ≡ false
-lt-no a b h = grind (arith, nat_tests)
-
--- a weak order that holds, tested
-le-yes : (a b : ℕ) → a ≤ b → nat_le a b ≡ true
-le-yes a b h = grind (arith, nat_tests)
-
--- a weak order that doesn't hold, tested
-le-no : (a b : ℕ) → b < a → nat_le a b ≡ false
-le-no a b h = grind (arith, nat_tests)
+and_true : (t u : Bool) → u ≡ true → (t && u) ≡ t
+and_true true true h = refl
+and_true false true h = refl
+and_true true false h = cc
+and_true false false h = refl
 
 -- what is between two bits is not before the first
-pub between-from : (from end x : ℕ) → is_between from end x ≡ true → from ≤ x
-between-from from end x h = grind (arith, nat_tests)
+pub between_from : (from end x : ℕ) → is_between from end x ≡ true → from ≤ x
+between_from from end x h = grind (arith, nat_tests)
 
 -- a byte that was written
-pub set-here : (row : List ℕ) (index v x : ℕ) → index < length row → x / 8 ≡ index → row_bit (set row index v) x ≡ bit_at v (7 - x % 8)
+pub set_here : (row : List ℕ) (index v x : ℕ) → index < length row → x / 8 ≡ index → row_bit (set row index v) x ≡ bit_at v (7 - x % 8)
 unfolding row_bit
-set-here row index v x inside here = ap (λ p. bit_at p (7 - x % 8)) (rw here (get_or-set_same row index v 0 inside))
+set_here row index v x inside here = ap (λ p. bit_at p (7 - x % 8)) (rw here (get_or-set_same row index v 0 inside))
 
 -- any other byte
-pub set-elsewhere : (row : List ℕ) (index v x : ℕ) → x / 8 ≢ index → row_bit (set row index v) x ≡ row_bit row x
+pub set_elsewhere : (row : List ℕ) (index v x : ℕ) → x / 8 ≢ index → row_bit (set row index v) x ≡ row_bit row x
 unfolding row_bit
-set-elsewhere row index v x apart = ap (λ p. bit_at p (7 - x % 8)) (get_or-set_other row index (x / 8) v 0 apart)
+set_elsewhere row index v x apart = ap (λ p. bit_at p (7 - x % 8)) (get_or-set_other row index (x / 8) v 0 apart)
 
 -- a bit of the byte that is written next, seen in the row
-pub byte-old : (row : List ℕ) (index byte j : ℕ) → j < 8 → byte ≡ get_or row index 0 → bit_at byte (7 - j) ≡ row_bit row (8 * index + j)
-byte-old row index byte j low is = ap (λ p. bit_at p (7 - j)) is ∙ sym (row_bit-at row index j low)
+pub byte_old : (row : List ℕ) (index byte j : ℕ) → j < 8 → byte ≡ get_or row index 0 → bit_at byte (7 - j) ≡ row_bit row (8 * index + j)
+byte_old row index byte j low is = ap (λ p. bit_at p (7 - j)) is ∙ sym (row_bit_at row index j low)
 
 -- before the first byte nothing is done
 pub before_none : (row : List ℕ) (new : ℕ → ℕ) (from end index : ℕ) → 8 * index ≤ from → DoneBefore row new (λ x. row_bit row x) from end index
@@ -97,19 +74,19 @@ before_more row new old from end index v inside done byte = λ x.
     let j : ℕ = x % 8 in
     let low : j < 8 = omega arith in
     let place : 8 * index + j ≡ x = omega arith in
-    let test : nat_lt x (8 * (index + 1)) ≡ true = lt-yes x (8 * (index + 1)) (omega arith) in
+    let test : nat_lt x (8 * (index + 1)) ≡ true = lt-ltb x (8 * (index + 1)) (omega arith) in
     let bit : bit_at v (7 - j) ≡ (if is_between from end x then new x else old x) = subst (λ i. bit_at v (7 - j) ≡ (if is_between from end i then new i else old i)) place (byte j low) in
-    if-test (is_between from end x) (is_between from end x && nat_lt x (8 * (index + 1))) (row_bit (set row index v) x) (new x) (old x)
-    (set-here row index v x inside here ∙ bit) (sym (and-true (is_between from end x) (nat_lt x (8 * (index + 1))) test)))
+    if_test (is_between from end x) (is_between from end x && nat_lt x (8 * (index + 1))) (row_bit (set row index v) x) (new x) (old x)
+    (set_here row index v x inside here ∙ bit) (sym (and_true (is_between from end x) (nat_lt x (8 * (index + 1))) test)))
     (λ (apart : x / 8 ≢ index).
     let same : nat_lt x (8 * index) ≡ nat_lt x (8 * (index + 1)) =
     ⊎_elim
-    (λ (before : x < 8 * index). lt-yes x (8 * index) before ∙ sym (lt-yes x (8 * (index + 1)) (omega arith)))
-    (λ (after : 8 * index ≤ x). lt-no x (8 * index) after ∙ sym (lt-no x (8 * (index + 1)) (omega arith)))
+    (λ (before : x < 8 * index). lt-ltb x (8 * index) before ∙ sym (lt-ltb x (8 * (index + 1)) (omega arith)))
+    (λ (after : 8 * index ≤ x). le-ltb x (8 * index) after ∙ sym (le-ltb x (8 * (index + 1)) (omega arith)))
     (cases_lt x (8 * index))
     in
-    if-test (is_between from end x && nat_lt x (8 * index)) (is_between from end x && nat_lt x (8 * (index + 1))) (row_bit (set row index v) x) (new x) (old x)
-    (set-elsewhere row index v x apart ∙ done x) (ap (λ t. is_between from end x && t) same))
+    if_test (is_between from end x && nat_lt x (8 * index)) (is_between from end x && nat_lt x (8 * (index + 1))) (row_bit (set row index v) x) (new x) (old x)
+    (set_elsewhere row index v x apart ∙ done x) (ap (λ t. is_between from end x && t) same))
     (cases_eq (x / 8) index)
 
 -- the same bytes are done, counted otherwise
@@ -123,7 +100,7 @@ before_all row new old from end index late done = λ x. let is = done x in let a
 -- to the right: what isn't yet done is old
 pub before_old : (row : List ℕ) (new old : ℕ → ℕ) (from end index x : ℕ) → DoneBefore row new old from end index → 8 * index ≤ x → row_bit row x ≡ old x
 before_old row new old from end index x done late =
-    if-false (is_between from end x && nat_lt x (8 * index)) (row_bit row x) (new x) (old x) (done x) (and-false (is_between from end x) (nat_lt x (8 * index)) (lt-no x (8 * index) late))
+    if_false (is_between from end x && nat_lt x (8 * index)) (row_bit row x) (new x) (old x) (done x) (and_right (is_between from end x) (nat_lt x (8 * index)) (le-ltb x (8 * index) late))
 
 -- after the last byte nothing is done
 pub from_none : (row : List ℕ) (new : ℕ → ℕ) (from end index : ℕ) → end ≤ 8 * index → DoneFrom row new (λ x. row_bit row x) from end index
@@ -137,19 +114,19 @@ from_more row new old from end index next v inside is_next done byte = λ x.
     let j : ℕ = x % 8 in
     let low : j < 8 = omega arith in
     let place : 8 * index + j ≡ x = omega arith in
-    let test : nat_le (8 * index) x ≡ true = le-yes (8 * index) x (omega arith) in
+    let test : nat_le (8 * index) x ≡ true = le-leb (8 * index) x (omega arith) in
     let bit : bit_at v (7 - j) ≡ (if is_between from end x then new x else old x) = subst (λ i. bit_at v (7 - j) ≡ (if is_between from end i then new i else old i)) place (byte j low) in
-    if-test (is_between from end x) (is_between from end x && nat_le (8 * index) x) (row_bit (set row index v) x) (new x) (old x)
-    (set-here row index v x inside here ∙ bit) (sym (and-true (is_between from end x) (nat_le (8 * index) x) test)))
+    if_test (is_between from end x) (is_between from end x && nat_le (8 * index) x) (row_bit (set row index v) x) (new x) (old x)
+    (set_here row index v x inside here ∙ bit) (sym (and_true (is_between from end x) (nat_le (8 * index) x) test)))
     (λ (apart : x / 8 ≢ index).
     let same : nat_le (8 * next) x ≡ nat_le (8 * index) x =
     ⊎_elim
-    (λ (before : x < 8 * next). le-no (8 * next) x before ∙ sym (le-no (8 * index) x (omega arith)))
-    (λ (after : 8 * next ≤ x). le-yes (8 * next) x after ∙ sym (le-yes (8 * index) x (omega arith)))
+    (λ (before : x < 8 * next). lt-leb (8 * next) x before ∙ sym (lt-leb (8 * index) x (omega arith)))
+    (λ (after : 8 * next ≤ x). le-leb (8 * next) x after ∙ sym (le-leb (8 * index) x (omega arith)))
     (cases_lt x (8 * next))
     in
-    if-test (is_between from end x && nat_le (8 * next) x) (is_between from end x && nat_le (8 * index) x) (row_bit (set row index v) x) (new x) (old x)
-    (set-elsewhere row index v x apart ∙ done x) (ap (λ t. is_between from end x && t) same))
+    if_test (is_between from end x && nat_le (8 * next) x) (is_between from end x && nat_le (8 * index) x) (row_bit (set row index v) x) (new x) (old x)
+    (set_elsewhere row index v x apart ∙ done x) (ap (λ t. is_between from end x && t) same))
     (cases_eq (x / 8) index)
 
 -- before the first byte all is done
@@ -159,7 +136,7 @@ from_all row new old from end index early done = λ x. let is = done x in let a 
 -- to the left: what isn't yet done is old
 pub from_old : (row : List ℕ) (new old : ℕ → ℕ) (from end index x : ℕ) → DoneFrom row new old from end index → x < 8 * index → row_bit row x ≡ old x
 from_old row new old from end index x done early =
-    if-false (is_between from end x && nat_le (8 * index) x) (row_bit row x) (new x) (old x) (done x) (and-false (is_between from end x) (nat_le (8 * index) x) (le-no (8 * index) x early))
+    if_false (is_between from end x && nat_le (8 * index) x) (row_bit row x) (new x) (old x) (done x) (and_right (is_between from end x) (nat_le (8 * index) x) (lt-leb (8 * index) x early))
 
 -- the byte that is written has new bits where they are between the two, and old ones elsewhere
 pub byte_bit : (t : Bool) (v a b new old : ℕ) → v ≡ (if t then a else b) → (t ≡ true → a ≡ new) → b ≡ old → v ≡ (if t then new else old)
@@ -176,13 +153,13 @@ blitted_bit true v bit minterm now was old is source same = is ∙ minterm_same 
 blitted_bit false v bit minterm now was old is source same = is ∙ same
 
 -- the list of a row's bits has each of them, and none past the row
-pub bits-at : (row : List ℕ) (x : ℕ) → get_or (row_bits row) x 0 ≡ row_bit row x
-bits-at row x =
+pub bits_at : (row : List ℕ) (x : ℕ) → get_or (row_bits row) x 0 ≡ row_bit row x
+bits_at row x =
     ⊎_elim
-    (λ (inside : x < 8 * length row). row_bits-at row x inside)
+    (λ (inside : x < 8 * length row). row_bits_at row x inside)
     (λ (past : 8 * length row ≤ x).
-    let long : length (row_bits row) ≤ x = rw (length-row_bits row) past in
-    get_or_past (row_bits row) x 0 long ∙ sym (row_bit-past row x past))
+    let long : length (row_bits row) ≤ x = rw (length_row_bits row) past in
+    get_or_past (row_bits row) x 0 long ∙ sym (row_bit_past row x past))
     (cases_lt x (8 * length row))
 
 -- a choice of equal values
@@ -191,29 +168,29 @@ chosen_same true v a b c d is p q = is ∙ p
 chosen_same false v a b c d is p q = is ∙ q
 
 -- what holds of each bit of a row holds of the list of its bits
-pub with_named-from_bits : (row was : List ℕ) (from count : ℕ) (new at_place : ℕ → ℕ) → length row ≡ length was → ((x : ℕ) → row_bit row x ≡ (if is_named from count x then at_place x else row_bit was x)) → ((x : ℕ) → at_place x ≡ new x) → row_bits row ≡ with_named (row_bits was) from count new
+pub with_named_from_bits : (row was : List ℕ) (from count : ℕ) (new at_place : ℕ → ℕ) → length row ≡ length was → ((x : ℕ) → row_bit row x ≡ (if is_named from count x then at_place x else row_bit was x)) → ((x : ℕ) → at_place x ≡ new x) → row_bits row ≡ with_named (row_bits was) from count new
 unfolding with_named
-with_named-from_bits row was from count new at_place same each places =
-    let long : length (row_bits row) ≡ length (row_bits was) = length-row_bits row ∙ (ap (λ n. 8 * n) same ∙ sym (length-row_bits was)) in
+with_named_from_bits row was from count new at_place same each places =
+    let long : length (row_bits row) ≡ length (row_bits was) = length_row_bits row ∙ (ap (λ n. 8 * n) same ∙ sym (length_row_bits was)) in
     ext_get_or 0 (row_bits row) (map (λ x. if is_named from count x then new x else get_or (row_bits was) x 0) (range_with_len 0 (length (row_bits was))))
     (long ∙ sym (length-map-range_with_len (λ x. if is_named from count x then new x else get_or (row_bits was) x 0) 0 (length (row_bits was))))
     (λ x inside.
     let low : x < length (row_bits was) = omega (arith, long, inside) in
     chosen_same (is_named from count x) (get_or (row_bits row) x 0) (at_place x) (row_bit was x) (new x) (get_or (row_bits was) x 0)
-    (bits-at row x ∙ each x) (places x) (sym (bits-at was x)) ∙
+    (bits_at row x ∙ each x) (places x) (sym (bits_at was x)) ∙
     sym (get_or-map-range_with_len (λ i. if is_named from count i then new i else get_or (row_bits was) i 0) 0 (length (row_bits was)) x x 0 low (zero-add x)))
 
 -- a bit that is between two
-pub between-yes : (from end x : ℕ) → from ≤ x → x < end → is_between from end x ≡ true
-between-yes from end x p q = grind (arith, nat_tests)
+pub between_yes : (from end x : ℕ) → from ≤ x → x < end → is_between from end x ≡ true
+between_yes from end x p q = grind (arith, nat_tests)
 
 -- a bit before the first of two
-pub between-before : (from end x : ℕ) → x < from → is_between from end x ≡ false
-between-before from end x p = grind (arith, nat_tests)
+pub between_before : (from end x : ℕ) → x < from → is_between from end x ≡ false
+between_before from end x p = grind (arith, nat_tests)
 
 -- a bit that is not before the last of two
-pub between-after : (from end x : ℕ) → end ≤ x → is_between from end x ≡ false
-between-after from end x p = grind (arith, nat_tests)
+pub between_after : (from end x : ℕ) → end ≤ x → is_between from end x ≡ false
+between_after from end x p = grind (arith, nat_tests)
 
 -- a choice, from both of its cases
 chosen : (t : Bool) (v a b : ℕ) → (t ≡ true → v ≡ a) → (t ≡ false → v ≡ b) → v ≡ (if t then a else b)
@@ -221,62 +198,62 @@ chosen true v a b then_is else_is = then_is refl
 chosen false v a b then_is else_is = else_is refl
 
 -- a bit that was to change
-pub done-inside : (row : List ℕ) (new old : ℕ → ℕ) (from end x : ℕ) → Done row new old from end → from ≤ x → x < end → row_bit row x ≡ new x
-done-inside row new old from end x done p q = if-true (is_between from end x) (row_bit row x) (new x) (old x) (done x) (between-yes from end x p q)
+pub done_inside : (row : List ℕ) (new old : ℕ → ℕ) (from end x : ℕ) → Done row new old from end → from ≤ x → x < end → row_bit row x ≡ new x
+done_inside row new old from end x done p q = if_true (is_between from end x) (row_bit row x) (new x) (old x) (done x) (between_yes from end x p q)
 
 -- a bit before those that were to change
-pub done-before : (row : List ℕ) (new old : ℕ → ℕ) (from end x : ℕ) → Done row new old from end → x < from → row_bit row x ≡ old x
-done-before row new old from end x done p = if-false (is_between from end x) (row_bit row x) (new x) (old x) (done x) (between-before from end x p)
+pub done_before : (row : List ℕ) (new old : ℕ → ℕ) (from end x : ℕ) → Done row new old from end → x < from → row_bit row x ≡ old x
+done_before row new old from end x done p = if_false (is_between from end x) (row_bit row x) (new x) (old x) (done x) (between_before from end x p)
 
 -- a bit behind those that were to change
-pub done-after : (row : List ℕ) (new old : ℕ → ℕ) (from end x : ℕ) → Done row new old from end → end ≤ x → row_bit row x ≡ old x
-done-after row new old from end x done p = if-false (is_between from end x) (row_bit row x) (new x) (old x) (done x) (between-after from end x p)
+pub done_after : (row : List ℕ) (new old : ℕ → ℕ) (from end x : ℕ) → Done row new old from end → end ≤ x → row_bit row x ≡ old x
+done_after row new old from end x done p = if_false (is_between from end x) (row_bit row x) (new x) (old x) (done x) (between_after from end x p)
 
 -- each bit by its place
-pub done-each : (row : List ℕ) (new old : ℕ → ℕ) (from end : ℕ) → ((x : ℕ) → from ≤ x → x < end → row_bit row x ≡ new x) → ((x : ℕ) → x < from → row_bit row x ≡ old x) → ((x : ℕ) → end ≤ x → row_bit row x ≡ old x) → Done row new old from end
-done-each row new old from end inside before after = λ x.
+pub done_each : (row : List ℕ) (new old : ℕ → ℕ) (from end : ℕ) → ((x : ℕ) → from ≤ x → x < end → row_bit row x ≡ new x) → ((x : ℕ) → x < from → row_bit row x ≡ old x) → ((x : ℕ) → end ≤ x → row_bit row x ≡ old x) → Done row new old from end
+done_each row new old from end inside before after = λ x.
     ⊎_elim
-    (λ (low : x < from). chosen (is_between from end x) (row_bit row x) (new x) (old x) (λ is. absurd (cc (is, between-before from end x low))) (λ _. before x low))
+    (λ (low : x < from). chosen (is_between from end x) (row_bit row x) (new x) (old x) (λ is. absurd (cc (is, between_before from end x low))) (λ _. before x low))
     (λ (late : from ≤ x).
     ⊎_elim
-    (λ (within : x < end). chosen (is_between from end x) (row_bit row x) (new x) (old x) (λ _. inside x late within) (λ is. absurd (cc (is, between-yes from end x late within))))
-    (λ (past : end ≤ x). chosen (is_between from end x) (row_bit row x) (new x) (old x) (λ is. absurd (cc (is, between-after from end x past))) (λ _. after x past))
+    (λ (within : x < end). chosen (is_between from end x) (row_bit row x) (new x) (old x) (λ _. inside x late within) (λ is. absurd (cc (is, between_yes from end x late within))))
+    (λ (past : end ≤ x). chosen (is_between from end x) (row_bit row x) (new x) (old x) (λ is. absurd (cc (is, between_after from end x past))) (λ _. after x past))
     (cases_lt x end))
     (cases_lt x from)
 
 -- other new bits of the same values
 pub done_same : (row : List ℕ) (first new old : ℕ → ℕ) (from end : ℕ) → Done row first old from end → ((x : ℕ) → from ≤ x → x < end → first x ≡ new x) → Done row new old from end
 done_same row first new old from end done same =
-    done-each row new old from end
-    (λ x p q. done-inside row first old from end x done p q ∙ same x p q)
-    (λ x p. done-before row first old from end x done p)
-    (λ x p. done-after row first old from end x done p)
+    done_each row new old from end
+    (λ x p q. done_inside row first old from end x done p q ∙ same x p q)
+    (λ x p. done_before row first old from end x done p)
+    (λ x p. done_after row first old from end x done p)
 
 -- adjoining ranges, the left one first
 pub join_right : (one two : List ℕ) (new first second old : ℕ → ℕ) (from mid end : ℕ) → from ≤ mid → mid ≤ end → Done one first old from mid → Done two second (λ x. row_bit one x) mid end → ((x : ℕ) → from ≤ x → x < mid → first x ≡ new x) → ((x : ℕ) → mid ≤ x → x < end → second x ≡ new x) → Done two new old from end
 join_right one two new first second old from mid end p q a b left right =
     let was : ℕ → ℕ = λ x. row_bit one x in
-    done-each two new old from end
+    done_each two new old from end
     (λ x late low.
     ⊎_elim
-    (λ (here : x < mid). done-before two second was mid end x b here ∙ (done-inside one first old from mid x a late here ∙ left x late here))
-    (λ (there : mid ≤ x). done-inside two second was mid end x b there low ∙ right x there low)
+    (λ (here : x < mid). done_before two second was mid end x b here ∙ (done_inside one first old from mid x a late here ∙ left x late here))
+    (λ (there : mid ≤ x). done_inside two second was mid end x b there low ∙ right x there low)
     (cases_lt x mid))
-    (λ x low. let under : x < mid = omega arith in done-before two second was mid end x b under ∙ done-before one first old from mid x a low)
-    (λ x late. let over : mid ≤ x = omega arith in done-after two second was mid end x b late ∙ done-after one first old from mid x a over)
+    (λ x low. let under : x < mid = omega arith in done_before two second was mid end x b under ∙ done_before one first old from mid x a low)
+    (λ x late. let over : mid ≤ x = omega arith in done_after two second was mid end x b late ∙ done_after one first old from mid x a over)
 
 -- adjoining ranges, the right one first
 pub join_left : (one two : List ℕ) (new first second old : ℕ → ℕ) (from mid end : ℕ) → from ≤ mid → mid ≤ end → Done one first old mid end → Done two second (λ x. row_bit one x) from mid → ((x : ℕ) → mid ≤ x → x < end → first x ≡ new x) → ((x : ℕ) → from ≤ x → x < mid → second x ≡ new x) → Done two new old from end
 join_left one two new first second old from mid end p q a b right left =
     let was : ℕ → ℕ = λ x. row_bit one x in
-    done-each two new old from end
+    done_each two new old from end
     (λ x late low.
     ⊎_elim
-    (λ (here : x < mid). done-inside two second was from mid x b late here ∙ left x late here)
-    (λ (there : mid ≤ x). done-after two second was from mid x b there ∙ (done-inside one first old mid end x a there low ∙ right x there low))
+    (λ (here : x < mid). done_inside two second was from mid x b late here ∙ left x late here)
+    (λ (there : mid ≤ x). done_after two second was from mid x b there ∙ (done_inside one first old mid end x a there low ∙ right x there low))
     (cases_lt x mid))
-    (λ x low. let under : x < mid = omega arith in done-before two second was from mid x b low ∙ done-before one first old mid end x a under)
-    (λ x late. let over : mid ≤ x = omega arith in done-after two second was from mid x b over ∙ done-after one first old mid end x a late)
+    (λ x low. let under : x < mid = omega arith in done_before two second was from mid x b low ∙ done_before one first old mid end x a under)
+    (λ x late. let over : mid ≤ x = omega arith in done_after two second was from mid x b over ∙ done_after one first old mid end x a late)
 
 -- a range with another name for its first bit
 pub done_starts : (row : List ℕ) (new old : ℕ → ℕ) (from to end : ℕ) → from ≡ to → Done row new old from end → Done row new old to end
@@ -297,11 +274,11 @@ one_byte row new from end index v inside begins ends byte =
 -- no range, no change
 pub done_none : (row : List ℕ) (new : ℕ → ℕ) (from end : ℕ) → end ≤ from → Done row new (λ x. row_bit row x) from end
 done_none row new from end empty =
-    done-each row new (λ x. row_bit row x) from end (λ x p q. absurd (omega arith)) (λ x _. refl) (λ x _. refl)
+    done_each row new (λ x. row_bit row x) from end (λ x p q. absurd (omega arith)) (λ x _. refl) (λ x _. refl)
 
 -- a byte that is written whole
 pub whole_byte : (first last index j v new old : ℕ) → first ≤ index → index < last → j < 8 → v ≡ new → v ≡ (if is_between (8 * first) (8 * last) (8 * index + j) then new else old)
 whole_byte first last index j v new old p q low is =
     let begins : 8 * first ≤ 8 * index + j = omega arith in
     let ends : 8 * index + j < 8 * last = omega arith in
-    chosen (is_between (8 * first) (8 * last) (8 * index + j)) v new old (λ _. is) (λ none. absurd (cc (none, between-yes (8 * first) (8 * last) (8 * index + j) begins ends)))
+    chosen (is_between (8 * first) (8 * last) (8 * index + j)) v new old (λ _. is) (λ none. absurd (cc (none, between_yes (8 * first) (8 * last) (8 * index + j) begins ends)))

@@ -4,7 +4,7 @@ use Rattle.lw_region.specs.Rectangle.{within}
 use Rattle.lw_calls.specs.declared.call.Call.{Call}
 use Rattle.lw_calls.specs.Limits.{is_coordinate, coordinates_fit}
 use Rattle.lw_grammar.specs.LineForms.{is_act_in_range}
-use Rattle.lw_grammar.specs.LinesAbove.{spelled_call}
+use Rattle.lw_grammar.specs.Told.{spelled_call}
 use Rattle.lw_lines.specs.declared.form.Act.{Act}
 use Rattle.lw_lines.specs.declared.form.Act.TheVariants.{Number, Pair}
 use Rattle.lw_lines.specs.declared.form.NumberAct.{NumberAct}

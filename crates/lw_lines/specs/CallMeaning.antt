@@ -1,7 +1,7 @@
 -- The bitmap that an act names, and families of acts.
 use Rattle.std.specs.Prelude.{ℕ, Bool, true, false, List}
 use Rattle.lw_grammar.specs.LineForms.{Act as Meaning, PutAct}
-use Rattle.lw_grammar.specs.LinesAbove.{place_among}
+use Rattle.lw_grammar.specs.Told.{place_among}
 use Rattle.lw_lines.specs.declared.form.Act.{Act}
 use Rattle.lw_lines.specs.declared.form.Act.TheVariants.{RegRect, RegPair, RegClear, Create, InFront, Box, Which, Fill, ScrollRaster, Blit, EndRefresh}
 

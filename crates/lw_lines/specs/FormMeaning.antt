@@ -1,7 +1,8 @@
 -- What a form of the reader means.
 use Rattle.std.specs.Prelude.{ℤ, pos, List, [], ◌∷◌, ℕ}
 use Rattle.lw_region.specs.Rectangle.{Rectangle}
-use Rattle.lw_grammar.specs.LineForms.{Asked as AskedMeaning, Blitting as BlittingMeaning, Act as ActMeaning, RegRectAct, RegPairAct, RegClearAct, CreateAct, OpenAct, CloseAct, FrontAct, BehindAct, InFrontAct, MoveAct, SizeAct, BoxAct, ActivateAct, WhichAct, APenAct, BPenAct, ModeAct, MaskAct, AtAct, WriteAct, ReadAct, FillAct, DrawAct, TextAct as TextActMeaning, SetRastAct, ScrollRasterAct, PutAct, BlitAct, ClipAct, UnclipAct, RefreshAct, EndRefreshAct, ScrollAct, TitleAct, GetMsgAct, LineForm as Meaning, ScreenLine, GlyphLine, BitmapLine, RowLine, TaskLine, EndLine, OrderLine, NumbersLine, ReportLine, CallLine, LockLine, UnlockLine, HoldLine, ReleaseLine, four}
+use Rattle.lw_calls.specs.declared.area.Area.{Area}
+use Rattle.lw_grammar.specs.LineForms.{Asked as AskedMeaning, Act as ActMeaning, RegRectAct, RegPairAct, RegClearAct, CreateAct, OpenAct, CloseAct, FrontAct, BehindAct, InFrontAct, MoveAct, SizeAct, BoxAct, ActivateAct, WhichAct, APenAct, BPenAct, ModeAct, MaskAct, AtAct, WriteAct, ReadAct, FillAct, DrawAct, TextAct as TextActMeaning, SetRastAct, ScrollRasterAct, PutAct, BlitAct, ClipAct, UnclipAct, RefreshAct, EndRefreshAct, ScrollAct, TitleAct, GetMsgAct, LineForm as Meaning, ScreenLine, GlyphLine, BitmapLine, RowLine, TaskLine, EndLine, OrderLine, NumbersLine, ReportLine, CallLine, LockLine, UnlockLine, HoldLine, ReleaseLine, four}
 use Rattle.lw_calls.specs.declared.make.Kind.{Kind}
 use Rattle.lw_calls.specs.declared.make.Kind.TheVariants.{Simple as SimpleMeaning, Smart as SmartMeaning, SuperBitmap}
 use Rattle.lw_lines.specs.declared.form.Corners.{Corners}
@@ -60,8 +61,8 @@ asked_meaning a =
       bits_h = height_meaning a.kind;
     }
 
-abbrev pub blitting_meaning : Blitting → BlittingMeaning
-blitting_meaning b = record { sx = b.sx; sy = b.sy; x = b.x; y = b.y; w = b.w; h = b.h; minterm = b.minterm }
+abbrev pub area_meaning : Blitting → Area
+area_meaning b = record { sx = b.sx; sy = b.sy; x = b.x; y = b.y; w = b.w; h = b.h; minterm = b.minterm }
 
 -- the calls of a layer alone
 abbrev pub bare_meaning : BareAct → ActMeaning
@@ -113,8 +114,8 @@ act_meaning (Pair act x y) = pair_meaning act x y
 act_meaning (Text act t) = text_meaning act t.now
 act_meaning (Fill c) = FillAct (corners_meaning c)
 act_meaning (ScrollRaster dx dy c) = ScrollRasterAct dx dy (corners_meaning c)
-act_meaning (Put bitmap b) = PutAct bitmap.now (blitting_meaning b)
-act_meaning (Blit b) = BlitAct (blitting_meaning b)
+act_meaning (Put bitmap b) = PutAct bitmap.now (area_meaning b)
+act_meaning (Blit b) = BlitAct (area_meaning b)
 act_meaning (EndRefresh full) = EndRefreshAct full
 
 -- the layers' names by their bytes

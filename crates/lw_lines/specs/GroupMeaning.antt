@@ -1,5 +1,5 @@
 -- What a group of the reader means.
-use Rattle.lw_grammar.specs.LinesAbove.{Opened as Meaning, Locked as LockedMeaning, Updating as UpdatingMeaning, Held as HeldMeaning}
+use Rattle.lw_grammar.specs.Told.{Opened as Meaning, Locked as LockedMeaning, Updating as UpdatingMeaning, Held as HeldMeaning}
 use Rattle.lw_lines.specs.declared.acts.Opened.{Opened}
 use Rattle.lw_lines.specs.declared.acts.Opened.TheVariants.{Locked, Updating, Held}
 

@@ -1,9 +1,9 @@
 //! What the grammar asks of a line's act.
-ghost use Rattle.std.specs.Prelude.{◌≡◌, ℕ, List, option_map, unsigned_abs};
+ghost use Rattle.std.specs.Prelude.{◌≡◌, ℕ, List, is_none, option_map, unsigned_abs};
 ghost use Rattle.lw_calls.specs.Built.{is_built, is_plain_make};
 ghost use Rattle.lw_grammar.specs.LineForms.{CallLine};
-ghost use Rattle.lw_grammar.specs.LinesAbove.{asks_super, hook_on, spelled_call};
-ghost use Rattle.lw_grammar.specs.Script.{is_arranging, is_beginning, is_ending, is_on_one, are_all, call_may_stand, is_lock_on, is_hold, is_missing, fits_group};
+ghost use Rattle.lw_grammar.specs.Told.{spelled_call, asks_super, hook_on};
+ghost use Rattle.lw_grammar.specs.Script.{is_arranging, is_beginning, is_ending, are_all, is_on_one, call_may_stand, is_lock_on, is_hold, fits_group};
 ghost use Rattle.lw_lines.specs.FormMeaning.{kind_meaning, act_meaning, layers_meaning, form_meaning};
 ghost use Rattle.lw_lines.specs.GroupMeaning.{opened_meaning};
 
@@ -170,7 +170,7 @@ fn is_hold(group: &Option<Opened<'_>>) -> bool
 
 /// Whether no group is open.
 fn is_closed(group: &Option<Opened<'_>>) -> bool
-    ensures { result ≡ is_missing (option_map opened_meaning group.now) }
+    ensures { result ≡ is_none (option_map opened_meaning group.now) }
 {
     group.is_none()
 }

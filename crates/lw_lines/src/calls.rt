@@ -1,9 +1,9 @@
 //! The calls that acts are.
 ghost use Rattle.std.specs.Prelude.{◌≡◌, ℕ, List, [], ◌∷◌, pos, ◌+ℤ◌, ◌-ℤ◌, IsTrue, IfOk, option_map, unsigned_abs};
 ghost use Rattle.lw_calls.specs.Limits.{axis_fits, rect_fits, coordinates_fit};
-ghost use Rattle.lw_grammar.specs.LineForms.{is_hook_number, is_own_size, is_asked_in_range, is_box, is_blitting, is_act_in_range};
-ghost use Rattle.lw_grammar.specs.LinesAbove.{make_of, created_make, opened_make, area_of, spelled_call};
-ghost use Rattle.lw_lines.specs.FormMeaning.{corners_meaning, kind_meaning, width_meaning, height_meaning, asked_meaning, blitting_meaning, bare_meaning, number_meaning, pair_meaning, text_meaning, act_meaning};
+ghost use Rattle.lw_grammar.specs.LineForms.{is_hook_number, is_own_size, is_asked_in_range, is_box, is_area_in_range, is_act_in_range};
+ghost use Rattle.lw_grammar.specs.Told.{make_of, created_make, opened_make, spelled_call};
+ghost use Rattle.lw_lines.specs.FormMeaning.{corners_meaning, kind_meaning, width_meaning, height_meaning, asked_meaning, area_meaning, bare_meaning, number_meaning, pair_meaning, text_meaning, act_meaning};
 ghost use Rattle.lw_lines.specs.CallMeaning.{bitmap_place, is_apart, is_on_layers};
 
 use crate::converted::{coordinate, extent, hook, mode, own_size, pen, register, step};
@@ -109,8 +109,8 @@ impl Asked {
 
 impl Blitting {
     fn area(&self) -> Area
-        requires { IsTrue (is_blitting (blitting_meaning self.now)) }
-        ensures { result ≡ area_of (blitting_meaning self.now) }
+        requires { IsTrue (is_area_in_range (area_meaning self.now)) }
+        ensures { result ≡ area_meaning self.now }
     {
         Area {
             sx: step(self.sx),

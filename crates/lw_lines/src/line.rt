@@ -4,7 +4,8 @@ ghost use Rattle.lw_calls.specs.declared.reason.Reason.TheVariants.{Form as Form
 ghost use Rattle.lw_words.specs.Cuts.{targets};
 ghost use Rattle.lw_lines.specs.FormMeaning.{form_meaning};
 ghost use Rattle.lw_lines.specs.SectionMeaning.{section_meaning};
-ghost use Rattle.lw_lines.specs.LineReading.{Reads, verb_read_in, form_read_in};
+ghost use Rattle.lw_lines.specs.LineReading.{Reads};
+ghost use Rattle.lw_grammar.specs.Script.{verb_read, form_read};
 
 use crate::form::LineForm;
 use crate::forms_parts::{numbers_form, row_form};
@@ -32,7 +33,7 @@ fn verb_line<'a>(
     first: &'a [u8],
     rest: &[&'a [u8]],
 ) -> Result<LineForm<'a>, Stop>
-    ensures { Reads result (verb_read_in form (section_meaning section) (first.now ∷ targets rest.now)) }
+    ensures { Reads result (verb_read form (section_meaning section) (first.now ∷ targets rest.now)) }
 {
     let Some(verb) = verb_of(first) else {
         return Err(Stop::Refused(Reason::UnknownWord));
@@ -58,7 +59,7 @@ pub fn words_form<'a>(
     words: &[&'a [u8]],
 ) -> Result<LineForm<'a>, Stop>
     requires { width ≤ 1024 }
-    ensures { Reads result (form_read_in form (section_meaning section) due width (targets words.now)) }
+    ensures { Reads result (form_read form (section_meaning section) due width (targets words.now)) }
 {
     if due != 0 {
         let tokens = tokens_of(alloc, words)?;

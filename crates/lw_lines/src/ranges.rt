@@ -2,8 +2,8 @@ ghost use Rattle.std.specs.Prelude.{◌≡◌, ◌&&◌, map, pos};
 ghost use Rattle.std.specs.List.{list_all};
 ghost use Rattle.lw_region.specs.Rectangle.{within};
 ghost use Rattle.lw_calls.specs.Limits.{is_coordinate, axis_fits, rect_fits, coordinates_fit as places_meant, is_extent};
-ghost use Rattle.lw_grammar.specs.LineForms.{is_hook_number, is_own_size, is_asked_in_range, is_box, is_blitting, is_act_in_range, is_line_in_range};
-ghost use Rattle.lw_lines.specs.FormMeaning.{corners_meaning, kind_meaning, width_meaning, height_meaning, asked_meaning, blitting_meaning, number_meaning, act_meaning, form_meaning};
+ghost use Rattle.lw_grammar.specs.LineForms.{is_hook_number, is_own_size, is_asked_in_range, is_box, is_area_in_range, is_act_in_range, is_line_in_range};
+ghost use Rattle.lw_lines.specs.FormMeaning.{corners_meaning, kind_meaning, width_meaning, height_meaning, asked_meaning, area_meaning, number_meaning, act_meaning, form_meaning};
 
 use crate::form::{Act, Asked, AskedKind, Blitting, Corners, LineForm, NumberAct, PlainKind};
 
@@ -94,7 +94,7 @@ impl Asked {
 
 impl Blitting {
     fn is_in_range(&self) -> bool
-        ensures { result ≡ is_blitting (blitting_meaning self.now) }
+        ensures { result ≡ is_area_in_range (area_meaning self.now) }
     {
         (coordinates_fit(self.sx, self.sy) && coordinates_fit(self.x, self.y))
             && (is_extent(self.w) && is_extent(self.h))

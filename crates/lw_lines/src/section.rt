@@ -1,6 +1,6 @@
 ghost use Rattle.std.specs.Prelude.{◌≡◌, ◌&&◌};
-ghost use Rattle.lw_grammar.specs.Script.{is_screen_due, are_assets_due, are_calls_due, are_tasks_due, are_numbers_due, is_nothing_due, is_plain, is_ordered, is_audited, stands_in as stands_meant, is_task_verb};
-ghost use Rattle.lw_lines.specs.SectionMeaning.{section_meaning, may_end as may_end_meant};
+ghost use Rattle.lw_grammar.specs.Script.{is_screen_due, are_assets_due, are_calls_due, are_tasks_due, are_numbers_due, is_nothing_due, is_plain, is_ordered, is_audited, stands_in as stands_meant, is_task_verb, may_end as may_end_meant};
+ghost use Rattle.lw_lines.specs.SectionMeaning.{section_meaning};
 
 use lw_calls::Form;
 use lw_grammar::Verb;

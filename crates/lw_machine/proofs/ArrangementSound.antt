@@ -25,8 +25,8 @@ use Rattle.lw_calls.specs.Plan.{is_all}
 use Rattle.lw_machine.specs.Sound.{IsDesk}
 use Rattle.lw_machine.proofs.LayerCallSound.{not_refused, unless_refused_sound}
 use Rattle.lw_machine.proofs.SettledSound.{IsArranged, settled_sound}
-use Rattle.lw_machine.proofs.ArrangedSound.{desk-arranged, front-arranged, back-arranged, before-arranged, activated, bounds-arranged}
-use Rattle.lw_machine.proofs.CreatedSound.{new-ready, created-arranged, closed-arranged}
+use Rattle.lw_machine.proofs.ArrangedSound.{desk_arranged, front_arranged, back_arranged, before_arranged, activated, bounds_arranged}
+use Rattle.lw_machine.proofs.CreatedSound.{new_ready, created_arranged, closed_arranged}
 
 -- where nothing refuses, the first test doesn't hold, and nothing behind it refuses
 pub unrefused : (t : Bool) (r : Reply) (next : Option Reply) → refuse t r next ≡ None → (t ≡ false) × (next ≡ None)
@@ -57,9 +57,9 @@ made : (d : Desk) (slot : ℕ) (make : Make) (window : Option Window) → IsDesk
 made d slot make window ok fits frameless e =
     let first = not_refused (is_unopened (d.slot slot)) AlreadyOpen _ e in
     let second = not_refused (may_have_bounds d.sizes (is_framed window) make.kind 0 0 make.bits_w make.bits_h (bounds_of make)) OutOfBounds None first.1 in
-    created-arranged d slot make window (desk-arranged d ok) (ltb-true slot d.sizes.slots fits)
+    created_arranged d slot make window (desk_arranged d ok) (ltb-true slot d.sizes.slots fits)
     (unopened (d.slot slot) first.0)
-    (new-ready d.sizes make (hook_from d.shelf make.hook) window (new_may_have d.sizes make (hook_from d.shelf make.hook) window second.0) frameless)
+    (new_ready d.sizes make (hook_from d.shelf make.hook) window (new_may_have d.sizes make (hook_from d.shelf make.hook) window second.0) frameless)
 
 -- no super-bitmap layer that may be asked for is a window with a frame
 frameless : (framed own : Bool) → not (framed && own) ≡ true → own ≡ true → framed ≡ false
@@ -94,39 +94,39 @@ arrangement_sound d task (OpenWindow slot make framed nocare asks title) ok fits
     (made d slot make (Some (new_window task framed nocare asks title)) ok parts.0 (λ own. frameless framed (is_super make.kind) window.0 own) e))
 arrangement_sound d task (Close slot) ok fits all =
     unless_refused_sound (refusal d task (Close slot)) d (effect d task (Close slot)) ok
-    (λ e. settled_sound d (delete_layer d slot) (closed-arranged d slot (desk-arranged d ok) (ltb-true slot d.sizes.slots fits)))
+    (λ e. settled_sound d (delete_layer d slot) (closed_arranged d slot (desk_arranged d ok) (ltb-true slot d.sizes.slots fits)))
 arrangement_sound d task (ToFront slot) ok fits all =
     unless_refused_sound (refusal d task (ToFront slot)) d (effect d task (ToFront slot)) ok
     (λ e. let live = open_slot (d.slot slot) _ e in
     let plain = unrefused (has_backdrop d slot) Backdrop None live.1 in
-    settled_sound d (upfront_layer d slot) (front-arranged d slot (desk-arranged d ok) live.0 plain.0))
+    settled_sound d (upfront_layer d slot) (front_arranged d slot (desk_arranged d ok) live.0 plain.0))
 arrangement_sound d task (ToBack slot) ok fits all =
     unless_refused_sound (refusal d task (ToBack slot)) d (effect d task (ToBack slot)) ok
     (λ e. let live = open_slot (d.slot slot) _ e in
-    settled_sound d (behind_layer d slot) (back-arranged d slot (desk-arranged d ok) live.0))
+    settled_sound d (behind_layer d slot) (back_arranged d slot (desk_arranged d ok) live.0))
 arrangement_sound d task (InFrontOf slot other) ok fits all =
     unless_refused_sound (refusal d task (InFrontOf slot other)) d (effect d task (InFrontOf slot other)) ok
     (λ e. let live = open_slot (d.slot slot) _ e in
     let other_live = open_slot (d.slot other) _ live.1 in
     let plain = unrefused (has_backdrop d slot) Backdrop _ other_live.1 in
     let other_plain = unrefused (has_backdrop d other) Backdrop None plain.1 in
-    settled_sound d (move_layer_in_front_of d slot other) (before-arranged d slot other (desk-arranged d ok) live.0 other_live.0 plain.0 other_plain.0))
+    settled_sound d (move_layer_in_front_of d slot other) (before_arranged d slot other (desk_arranged d ok) live.0 other_live.0 plain.0 other_plain.0))
 arrangement_sound d task (MoveBy slot dx dy) ok fits all =
     unless_refused_sound (refusal d task (MoveBy slot dx dy)) d (effect d task (MoveBy slot dx dy)) ok
     (λ e. settled_sound d (change_bounds d slot (λ r. moved_by r dx dy))
-    (bounds-arranged d slot (λ r. moved_by r dx dy) (desk-arranged d ok) (placed d slot (λ r. moved_by r dx dy) e)))
+    (bounds_arranged d slot (λ r. moved_by r dx dy) (desk_arranged d ok) (placed d slot (λ r. moved_by r dx dy) e)))
 arrangement_sound d task (SizeBy slot dw dh) ok fits all =
     unless_refused_sound (refusal d task (SizeBy slot dw dh)) d (effect d task (SizeBy slot dw dh)) ok
     (λ e. settled_sound d (change_bounds d slot (λ r. sized_by r dw dh))
-    (bounds-arranged d slot (λ r. sized_by r dw dh) (desk-arranged d ok) (placed d slot (λ r. sized_by r dw dh) e)))
+    (bounds_arranged d slot (λ r. sized_by r dw dh) (desk_arranged d ok) (placed d slot (λ r. sized_by r dw dh) e)))
 arrangement_sound d task (SetBox slot x y w h) ok fits all =
     unless_refused_sound (refusal d task (SetBox slot x y w h)) d (effect d task (SetBox slot x y w h)) ok
     (λ e. settled_sound d (change_bounds d slot (λ r. box_at x y w h))
-    (bounds-arranged d slot (λ r. box_at x y w h) (desk-arranged d ok) (placed d slot (λ r. box_at x y w h) e)))
+    (bounds_arranged d slot (λ r. box_at x y w h) (desk_arranged d ok) (placed d slot (λ r. box_at x y w h) e)))
 arrangement_sound d task (Activate slot) ok fits all =
     unless_refused_sound (refusal d task (Activate slot)) d (effect d task (Activate slot)) ok
     (λ e. let live = open_slot (d.slot slot) _ e in
     let window = not_refused (layer_is (λ l. is_window l.window) (d.slot slot)) NotWindow None live.1 in
-    settled_sound d (with_active d slot) (activated d slot (desk-arranged d ok) window.0))
+    settled_sound d (with_active d slot) (activated d slot (desk_arranged d ok) window.0))
 arrangement_sound d task (Blit source slot area) ok fits all = absurd (blit_is_none (source == slot) source slot all)
 arrangement_sound d task call ok fits all = absurd (false≢true all)

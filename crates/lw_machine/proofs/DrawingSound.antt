@@ -9,7 +9,7 @@ use Rattle.lw_region.specs.Pixels.{Pixel}
 use Rattle.lw_planes.specs.Grid.{grid, at}
 use Rattle.lw_planes.specs.Bitmap.{Bitmap, pen_at}
 use Rattle.lw_planes.specs.Minterm.{minterm_bit}
-use Rattle.lw_planes.proofs.PenLaws.{pen_of-lt}
+use Rattle.lw_planes.proofs.PenLaws.{pen_of_lt}
 use Rattle.lw_calls.specs.declared.area.Area.{Area}
 use Rattle.lw_machine.specs.Layer.{Layer, Slot, Unopened, Live, Closed, Raster, Window, is_window, is_framed, changed_window, change_window}
 use Rattle.lw_calls.specs.Kinds.{is_super}
@@ -19,7 +19,7 @@ use Rattle.lw_machine.specs.Shapes.{write_pixel, rect_fill, draw_line, with_curs
 use Rattle.lw_machine.specs.Blits.{blitted, blt_bitmap_rast_port, is_scrolled, scrolled_mark, scroll_raster}
 use Rattle.lw_machine.specs.Step.{clip_blit_from, end_update, set_window_titles, get_msg}
 use Rattle.lw_machine.specs.Sound.{IsKeeping}
-use Rattle.lw_machine.proofs.PaintSound.{IsPainted, is_painted, unpainted, frame_painted, grid-at_true}
+use Rattle.lw_machine.proofs.PaintSound.{IsPainted, is_painted, unpainted, frame_painted, grid_at_true}
 
 -- A layer m that keeps what it should, where it shows the same pixels as the layer l, and is as placed, as far back and as
 -- much of a window as l.
@@ -137,7 +137,7 @@ undamaged_alike planes visible l m w h a =
     damaged_alike planes visible l m (grid w h (λ x y. false)) (λ x y e. absurd (none x y e)) (λ x y e. absurd (none x y e)) a
   where
     none : (x y : ℕ) → at false (grid w h (λ x y. false)) x y ≡ true → ⊥
-    none x y e = let t : false ≡ true = grid-at_true w h (λ x y. false) x y e in cc
+    none x y e = let t : false ≡ true = grid_at_true w h (λ x y. false) x y e in cc
 
 -- a drawable pixel is kept
 pub drawable_kept : (visible : ℕ → ℕ → Bool) (l : Layer) (x y : ℕ) → is_drawable visible l x y ≡ true → is_kept visible l x y ≡ true
@@ -145,10 +145,10 @@ unfolding is_drawable
 drawable_kept visible l x y e = (and_parts (is_kept visible l x y) _ e).0
 
 -- a pen put through a mask has bits in the planes alone
-pub through_mask-lt : (depth mask : ℕ) (candidate : ℕ → ℕ) (old : ℕ) → ((k : ℕ) → candidate k < 2) → through_mask depth mask candidate old < 2 ^ depth
+pub through_mask_lt : (depth mask : ℕ) (candidate : ℕ → ℕ) (old : ℕ) → ((k : ℕ) → candidate k < 2) → through_mask depth mask candidate old < 2 ^ depth
 unfolding through_mask
-through_mask-lt depth mask candidate old bits =
-    pen_of-lt depth (λ k. if bit_at mask k == 1 then candidate k else bit_at old k) (λ k h. pick (bit_at mask k == 1) k)
+through_mask_lt depth mask candidate old bits =
+    pen_of_lt depth (λ k. if bit_at mask k == 1 then candidate k else bit_at old k) (λ k h. pick (bit_at mask k == 1) k)
   where
     pick : (b : Bool) (k : ℕ) → (if b then candidate k else bit_at old k) < 2
     pick true k = bits k
@@ -160,15 +160,15 @@ either_bit true p q h k = h
 either_bit false p q h k = k
 
 -- what a bit becomes is a bit
-candidate_bit-lt : (r : Raster) (foreground : Bool) (k old : ℕ) → old < 2 → candidate_bit r foreground k old < 2
-candidate_bit-lt r foreground k old h =
+candidate_bit_lt : (r : Raster) (foreground : Bool) (k old : ℕ) → old < 2 → candidate_bit r foreground k old < 2
+candidate_bit_lt r foreground k old h =
     either_bit (has_complement r) _ _
     (either_bit foreground (1 - old) old (omega arith) h)
     (either_bit foreground (bit_at r.pen_a k) _ (bit_at-lt r.pen_a k) (either_bit (has_jam2 r) (bit_at r.pen_b k) old (bit_at-lt r.pen_b k) h))
 
 -- a minterm's value is a bit
-minterm_bit-lt : (minterm b c : ℕ) → minterm_bit minterm b c < 2
-minterm_bit-lt minterm b c =
+minterm_bit_lt : (minterm b c : ℕ) → minterm_bit minterm b c < 2
+minterm_bit_lt minterm b c =
     either_bit (b == 1) _ _
     (either_bit (c == 1) _ _ (bit_at-lt minterm 7) (bit_at-lt minterm 6))
     (either_bit (c == 1) _ _ (bit_at-lt minterm 5) (bit_at-lt minterm 4))
@@ -183,13 +183,13 @@ draw_alike : (planes : ℕ) (visible shape : ℕ → ℕ → Bool) (candidate : 
 draw_alike planes visible shape candidate l bits k =
     with_pens_alike planes visible (λ x y. is_drawable visible l x y && shape x y) _ l
     (λ x y e. (and_parts (is_drawable visible l x y) _ e).0)
-    (λ x y. through_mask-lt l.bits.depth l.raster.mask (candidate x y) (pen_at l.bits x y) (bits x y))
+    (λ x y. through_mask_lt l.bits.depth l.raster.mask (candidate x y) (pen_at l.bits x y) (bits x y))
     k
 
 -- painting a shape
 paint_alike : (planes : ℕ) (visible shape foreground : ℕ → ℕ → Bool) (l : Layer) → IsKeeping planes visible l → IsAlike planes visible l (paint_where visible shape foreground l)
 paint_alike planes visible shape foreground l k =
-    draw_alike planes visible shape _ l (λ x y p. candidate_bit-lt l.raster (foreground x y) p (bit_at (pen_at l.bits x y) p) (bit_at-lt (pen_at l.bits x y) p)) k
+    draw_alike planes visible shape _ l (λ x y p. candidate_bit_lt l.raster (foreground x y) p (bit_at (pen_at l.bits x y) p) (bit_at-lt (pen_at l.bits x y) p)) k
 
 -- setting the pens of a shape
 set_alike : (planes : ℕ) (visible shape : ℕ → ℕ → Bool) (pen : ℕ → ℕ → ℕ) (l : Layer) → IsKeeping planes visible l → IsAlike planes visible l (set_where visible shape pen l)
@@ -222,7 +222,7 @@ raster_set_alike planes visible pen l k = set_alike planes visible _ _ l k
 -- a blit
 blit_alike : (planes : ℕ) (visible : ℕ → ℕ → Bool) (has_source : ℤ → ℤ → Bool) (source : Bitmap) (area : Area) (l : Layer) → IsKeeping planes visible l → IsAlike planes visible l (blitted has_source source visible area l)
 blit_alike planes visible has_source source area l k =
-    draw_alike planes visible _ _ l (λ x y p. minterm_bit-lt area.minterm _ (bit_at (pen_at l.bits x y) p)) k
+    draw_alike planes visible _ _ l (λ x y p. minterm_bit_lt area.minterm _ (bit_at (pen_at l.bits x y) p)) k
 
 -- BltBitMapRastPort
 pub put_bitmap_alike : (planes : ℕ) (visible : ℕ → ℕ → Bool) (source : Bitmap) (area : Area) (l : Layer) → IsKeeping planes visible l → IsAlike planes visible l (blt_bitmap_rast_port source visible area l)
@@ -254,7 +254,7 @@ scroll_raster_alike planes visible dx dy rect l k =
     damaged x y = scrolled_mark visible dx dy rect l (at false l.damage) x y && may_be_damaged l x y
 
     marked : (x y : ℕ) → at false (grid l.bits.width l.bits.height damaged) x y ≡ true → (scrolled_mark visible dx dy rect l (at false l.damage) x y ≡ true) × (may_be_damaged l x y ≡ true)
-    marked x y e = and_parts _ _ (grid-at_true l.bits.width l.bits.height damaged x y e)
+    marked x y e = and_parts _ _ (grid_at_true l.bits.width l.bits.height damaged x y e)
 
 -- EndUpdate
 pub update_ended_alike : (planes : ℕ) (visible : ℕ → ℕ → Bool) (full : Bool) (l : Layer) → IsKeeping planes visible l → IsAlike planes visible l (end_update full l)

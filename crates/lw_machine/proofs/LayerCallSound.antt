@@ -45,7 +45,7 @@ with_value_all P n v f here other k =
     go false e = other k
 
 -- a changed layer is live where it was
-live_stays : (change : Layer → Layer) (s : Slot) → is_live (change_layer change s) ≡ is_live s
+pub live_stays : (change : Layer → Layer) (s : Slot) → is_live (change_layer change s) ≡ is_live s
 live_stays change Unopened = refl
 live_stays change (Live l) = refl
 live_stays change Closed = refl
@@ -200,7 +200,7 @@ scrolled_placed sizes dx dy l (Some r) super may p =
     }
 
 -- what a super-bitmap layer keeps doesn't rest on what is visible
-kept_same : (k : Kind) (v w : Bool) → is_super k ≡ true → kept_as k v ≡ kept_as k w
+pub kept_same : (k : Kind) (v w : Bool) → is_super k ≡ true → kept_as k v ≡ kept_as k w
 kept_same Simple v w e = absurd (cc)
 kept_same Smart v w e = refl
 kept_same SuperBitmap v w e = refl

@@ -21,7 +21,7 @@ use Rattle.lw_calls.specs.Plan.{is_all}
 use Rattle.lw_machine.specs.Sound.{IsDesk, IsSlot, IsPlaced, IsKeeping}
 use Rattle.lw_machine.specs.Laws.{IsLossless, NothingIsLost}
 use Rattle.lw_machine.proofs.Settling.{changed_or_not, settled_from, settled_is, revealed_plain, revealed_super, settled_leaves, frameless_bits, revealed_in}
-use Rattle.lw_machine.proofs.CreatedSound.{other-value}
+use Rattle.lw_machine.proofs.CreatedSound.{other_value}
 use Rattle.lw_machine.proofs.ArrangementSound.{unrefused}
 
 -- a layer whose bounds have the size of its bits, unless these are a bitmap of its own, and no frame then
@@ -109,14 +109,14 @@ created_lossless d a slot s v l m true e sound was free slots is =
     let same : s ≡ slot = eqb-true s slot e in
     absurd (true≢false (sym (live_opened l (d.slot s) was) ∙ (ap (λ q. not (is_unopened (d.slot q))) same ∙ free)))
 created_lossless d a slot s v l m false e sound was free slots is =
-    arranged_lossless d a s l m sound was (ap (λ f. f s) slots ∙ (other-value slot s v d.slot e ∙ was)) is
+    arranged_lossless d a s l m sound was (ap (λ f. f s) slots ∙ (other_value slot s v d.slot e ∙ was)) is
 
 -- a deletion leaves the layers of other slots, and none in its own
 closed_lossless : (d a : Desk) (slot s : ℕ) (l m : Layer) (t : Bool) → (s == slot) ≡ t → IsDesk d → d.slot s ≡ Live l → a.slot ≡ with_value slot Closed d.slot → (settled d a).slot s ≡ Live m → IsLossless l m
 closed_lossless d a slot s l m true e sound was slots is =
     absurd (settled_closed d a s m (ap (λ f. f s) slots ∙ this_value slot s Closed d.slot e) is)
 closed_lossless d a slot s l m false e sound was slots is =
-    arranged_lossless d a s l m sound was (ap (λ f. f s) slots ∙ (other-value slot s Closed d.slot e ∙ was)) is
+    arranged_lossless d a s l m sound was (ap (λ f. f s) slots ∙ (other_value slot s Closed d.slot e ∙ was)) is
 
 -- an arrangement of two slots leaves the layers, by whether the slots are one
 moved_slots : (t : Bool) (d a : Desk) → a.slot ≡ d.slot → (if t then d else a).slot ≡ d.slot

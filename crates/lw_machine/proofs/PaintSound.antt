@@ -6,61 +6,57 @@ use Rattle.std.proofs.lemmas.Bool.{cases_lt, and_parts}
 use Rattle.std.proofs.lemmas.Nat.Bits.{bit_at-lt}
 use Rattle.lw_planes.specs.Grid.{grid, at}
 use Rattle.lw_planes.specs.Bitmap.{pen_at}
-use Rattle.lw_planes.proofs.GridLaws.{grid-at, grid-past-column, grid-past-row}
-use Rattle.lw_planes.proofs.BitmapLaws.{IsBitmap-bitmap}
-use Rattle.lw_planes.proofs.PenLaws.{pen_of-lt}
+use Rattle.lw_planes.proofs.GridLaws.{grid_at, grid_past_column, grid_past_row}
+use Rattle.lw_planes.proofs.BitmapLaws.{IsBitmap_bitmap}
+use Rattle.lw_planes.proofs.PenLaws.{pen_of_lt}
 use Rattle.lw_machine.specs.Layer.{Layer, Window}
 use Rattle.lw_machine.specs.Kept.{is_kept}
 use Rattle.lw_machine.specs.Paint.{with_pens, pen_within}
 use Rattle.lw_machine.specs.Reveal.{with_frame, framed_by, framing_pen, in_frame}
 use Rattle.lw_machine.specs.Sound.{IsKeeping}
+use Rattle.lw_planes.proofs.WriteLaws.{chosen_small}
 
 -- what a table has at a place is its default, where the value that was tabulated there is
-pub grid-at_default : {A : Type 0} (w h : ℕ) (f : ℕ → ℕ → A) (d : A) (x y : ℕ) → f x y ≡ d → at d (grid w h f) x y ≡ d
-grid-at_default w h f d x y is =
+pub grid_at_default : {A : Type 0} (w h : ℕ) (f : ℕ → ℕ → A) (d : A) (x y : ℕ) → f x y ≡ d → at d (grid w h f) x y ≡ d
+grid_at_default w h f d x y is =
     ⊎_elim
     (λ (low : y < h). ⊎_elim
-    (λ (left : x < w). grid-at w h f d x y left low ∙ is)
-    (λ (past : w ≤ x). grid-past-column w h f d x y past low)
+    (λ (left : x < w). grid_at w h f d x y left low ∙ is)
+    (λ (past : w ≤ x). grid_past_column w h f d x y past low)
     (cases_lt x w))
-    (λ (past : h ≤ y). grid-past-row w h f d x y past)
+    (λ (past : h ≤ y). grid_past_row w h f d x y past)
     (cases_lt y h)
 
 -- where a table of truth values has true, it was tabulated
-pub grid-at_true : (w h : ℕ) (f : ℕ → ℕ → Bool) (x y : ℕ) → at false (grid w h f) x y ≡ true → f x y ≡ true
-grid-at_true w h f x y has =
+pub grid_at_true : (w h : ℕ) (f : ℕ → ℕ → Bool) (x y : ℕ) → at false (grid w h f) x y ≡ true → f x y ≡ true
+grid_at_true w h f x y has =
     go (f x y) refl
   where
     go : (b : Bool) → f x y ≡ b → f x y ≡ true
     go true e = e
-    go false e = let no : at false (grid w h f) x y ≡ false = grid-at_default w h f false x y e in absurd (cc)
+    go false e = let no : at false (grid w h f) x y ≡ false = grid_at_default w h f false x y e in absurd (cc)
 
 -- a test whose truth entails another's is false where that one is
 pub false_below : (p q : Bool) → (p ≡ true → q ≡ true) → q ≡ false → p ≡ false
 false_below false q h e = refl
 false_below true q h e = let t : q ≡ true = h refl in absurd (cc)
 
--- a choice between two pens that both have bits in the planes alone
-choice-lt : (b : Bool) (p q n : ℕ) → p < n → q < n → (if b then p else q) < n
-choice-lt true p q n h k = h
-choice-lt false p q n h k = k
-
 -- a choice whose test is false
-choice-false : (b : Bool) (p q n : ℕ) → b ≡ false → q ≡ n → (if b then p else q) ≡ n
-choice-false false p q n e h = h
-choice-false true p q n e h = absurd (cc)
+choice_false : (b : Bool) (p q n : ℕ) → b ≡ false → q ≡ n → (if b then p else q) ≡ n
+choice_false false p q n e h = h
+choice_false true p q n e h = absurd (cc)
 
 -- a layer that paints kept pixels alone, with pens in its planes, goes on keeping what it should
 pub painted_keeping : (depth : ℕ) (visible : ℕ → ℕ → Bool) (on : ℕ → ℕ → Bool) (pen : ℕ → ℕ → ℕ) (l : Layer) → IsKeeping depth visible l → ((x y : ℕ) → on x y ≡ true → is_kept visible l x y ≡ true) → ((x y : ℕ) → pen x y < 2 ^ l.bits.depth) → IsKeeping depth visible (with_pens on pen l)
 unfolding with_pens is_kept
 painted_keeping depth visible on pen l k kept small =
     record {
-      bitmap = IsBitmap-bitmap l.bits.width l.bits.height l.bits.depth (λ x y. if on x y then pen x y else pen_at l.bits x y)
-          (λ x y left low. choice-lt (on x y) (pen x y) (pen_at l.bits x y) (2 ^ l.bits.depth) (small x y) (k.bitmap.pens x y left low));
+      bitmap = IsBitmap_bitmap l.bits.width l.bits.height l.bits.depth (λ x y. if on x y then pen x y else pen_at l.bits x y)
+          (λ x y left low. chosen_small (on x y) (pen x y) (pen_at l.bits x y) (2 ^ l.bits.depth) (small x y) (k.bitmap.pens x y left low));
       planes = k.planes;
       frameless = k.frameless;
-      off_kept = λ x y off. grid-at_default l.bits.width l.bits.height (λ a b. if on a b then pen a b else pen_at l.bits a b) 0 x y
-          (choice-false (on x y) (pen x y) (pen_at l.bits x y) 0 (false_below (on x y) (is_kept visible l x y) (kept x y) off) (k.off_kept x y off));
+      off_kept = λ x y off. grid_at_default l.bits.width l.bits.height (λ a b. if on a b then pen a b else pen_at l.bits a b) 0 x y
+          (choice_false (on x y) (pen x y) (pen_at l.bits x y) 0 (false_below (on x y) (is_kept visible l x y) (kept x y) off) (k.off_kept x y off));
       damage_kept = k.damage_kept;
       damage_inner = k.damage_inner;
     }
@@ -124,8 +120,8 @@ is_painted depth visible on pen l k kept small =
     }
 
 -- a pen taken modulo 2 ^ depth has bits in the planes alone
-pub pen_within-lt : (depth pen : ℕ) → pen_within depth pen < 2 ^ depth
-pen_within-lt depth pen = pen_of-lt depth (λ k. bit_at pen k) (λ k h. bit_at-lt pen k)
+pub pen_within_lt : (depth pen : ℕ) → pen_within depth pen < 2 ^ depth
+pen_within_lt depth pen = pen_of_lt depth (λ k. bit_at pen k) (λ k h. bit_at-lt pen k)
 
 -- the frame of a window is painted on kept pixels alone, with pens in the layer's planes
 pub frame_painted : (depth : ℕ) (visible : ℕ → ℕ → Bool) (kept : ℕ → ℕ → Bool) (glyphs : List (List ℕ)) (active : Bool) (l : Layer) → IsKeeping depth visible l → ((x y : ℕ) → kept x y ≡ true → is_kept visible l x y ≡ true) → IsPainted depth visible l (with_frame glyphs kept active l)
@@ -134,7 +130,7 @@ frame_painted depth visible kept glyphs active l k is =
   where
     due : (title : List ℕ) (b : Bool) → IsPainted depth visible l (if b then with_pens (λ x y. kept x y && in_frame l.bits.width l.bits.height x y) (λ x y. pen_within l.bits.depth (framing_pen glyphs title active l.bits.width x y)) l else l)
     due title true =
-        is_painted depth visible _ _ l k (λ x y on. is x y ((and_parts (kept x y) _ on).0)) (λ x y. pen_within-lt l.bits.depth (framing_pen glyphs title active l.bits.width x y))
+        is_painted depth visible _ _ l k (λ x y on. is x y ((and_parts (kept x y) _ on).0)) (λ x y. pen_within_lt l.bits.depth (framing_pen glyphs title active l.bits.width x y))
     due title false = unpainted depth visible l k
 
     go : (o : Option Window) → IsPainted depth visible l (framed_by glyphs kept active o l)

@@ -6,7 +6,7 @@ use Rattle.std.proofs.lemmas.Int.{ints}
 use Rattle.lw_region.specs.Rectangle.{Rectangle, within}
 use Rattle.lw_region.proofs.Within.{within_low, within_high}
 use Rattle.lw_planes.specs.Bitmap.{pen_at}
-use Rattle.lw_planes.proofs.BitmapLaws.{pen_at-bitmap}
+use Rattle.lw_planes.proofs.BitmapLaws.{pen_at_bitmap}
 use Rattle.lw_machine.specs.Layer.{Layer, Slot, Live}
 use Rattle.lw_machine.specs.Desk.{Desk, is_the}
 use Rattle.lw_machine.specs.Screen.{bounds_have, top, distance, pen_on, pen_of_top, screen, is_shown}
@@ -14,6 +14,7 @@ use Rattle.lw_machine.specs.Kept.{screen_place, visible_within, is_visible}
 use Rattle.lw_machine.specs.Arrangement.{is_on_screen}
 use Rattle.lw_machine.specs.Sound.{IsPlaced, IsSlot, IsDesk}
 use Rattle.lw_machine.specs.Laws.{VisiblePixelsAreSeen}
+use Rattle.lw_region.proofs.Columns.{le_true}
 
 -- what is found passes the test
 found_step : {A : Type 0} (test : A → Bool) (x : A) (rest : Option A) (a : A) (b : Bool) → test x ≡ b → (rest ≡ Some a → test a ≡ true) → (if b then Some x else rest) ≡ Some a → test a ≡ true
@@ -39,10 +40,6 @@ place_back edge scroll p right = omega (arith, ints)
 counted : (z : ℤ) → int_le (pos 0) z ≡ true → (n : ℕ) × (z ≡ pos n)
 counted (pos n) e = (n, refl)
 counted (negsuc n) e = absurd (cc)
-
--- what a test of two numbers says, and when it holds
-le_true : (a b : ℤ) → a ≤ℤ b → int_le a b ≡ true
-le_true a b h = grind (arith, ints)
 
 true_le : (a b : ℤ) → int_le a b ≡ true → a ≤ℤ b
 true_le a b e = grind (arith, ints)
@@ -101,7 +98,7 @@ visible_seen d s l r x y ok live bounds visible =
         down = down.is;
         left = across.below;
         low = down.below;
-        pen = pen_at-bitmap d.sizes.width d.sizes.height d.sizes.depth (λ a b. pen_of_top d (top d (pos a) (pos b)) (pos a) (pos b)) across.number down.number across.below down.below
+        pen = pen_at_bitmap d.sizes.width d.sizes.height d.sizes.depth (λ a b. pen_of_top d (top d (pos a) (pos b)) (pos a) (pos b)) across.number down.number across.below down.below
             ∙ (the_pen across.number down.number across.is down.is on_top ∙ pen_there r l x y across.number down.number across.is down.is across.right down.right);
       },
     )

@@ -1,8 +1,9 @@
 -- What an arrangement leaves of the layers' pens.
-use Rattle.std.proofs.Common.{◌≡◌, ℕ, ◌<◌, ◌==◌, Bool, true, false, not, ◌&&◌, ◌||◌, if◌then◌else◌, nat_lt, List, [], ◌∷◌, Option, Some, None, IsTrue, refl, sym, ap, ◌∙◌, ◌⊎◌, inl, inr, ⊎_elim, arith, lt-ltb, eqb-true}
+use Rattle.std.proofs.Common.{◌≡◌, ℕ, ◌<◌, ◌==◌, Bool, true, false, not, ◌&&◌, if◌then◌else◌, nat_lt, List, [], ◌∷◌, Option, Some, None, IsTrue, refl, sym, ap, ◌∙◌, ◌⊎◌, inl, inr, ⊎_elim, arith, lt-ltb, eqb-true}
 use Rattle.std.proofs.lemmas.Bool.Decides.{nat_tests}
+use Rattle.std.proofs.lemmas.Bool.{and_right, and_from, or_left}
 use Rattle.lw_planes.specs.Bitmap.{pen_at}
-use Rattle.lw_planes.proofs.BitmapLaws.{pen_at-bitmap}
+use Rattle.lw_planes.proofs.BitmapLaws.{pen_at_bitmap}
 use Rattle.lw_calls.specs.declared.make.Kind.{Kind}
 use Rattle.lw_calls.specs.declared.make.Kind.TheVariants.{Smart}
 use Rattle.lw_machine.specs.Layer.{Layer, Window, is_framed, changed_window}
@@ -38,11 +39,6 @@ unfolding in_inner
 inner_lies true w h x y inside = grind (arith, nat_tests)
 inner_lies false w h x y inside = grind (arith, nat_tests)
 
--- a test that fails together with another one
-and_false : (a b : Bool) → b ≡ false → (a && b) ≡ false
-and_false true b h = h
-and_false false b h = refl
-
 -- the layer with its window's frame painted
 abbrev pub painted_frame : List (List ℕ) → (ℕ → ℕ → Bool) → Bool → List ℕ → Layer → Layer
 painted_frame glyphs kept active title l =
@@ -53,8 +49,8 @@ painted_leaves : (glyphs : List (List ℕ)) (kept : ℕ → ℕ → Bool) (activ
 unfolding with_pens
 painted_leaves glyphs kept active title l x y inside =
     let lies = inner_lies true l.bits.width l.bits.height x y inside in
-    let off = and_false (kept x y) _ (inner_not_frame l.bits.width l.bits.height x y inside) in
-    pen_at-bitmap l.bits.width l.bits.height l.bits.depth _ x y lies.0 lies.1 ∙
+    let off = and_right (kept x y) _ (inner_not_frame l.bits.width l.bits.height x y inside) in
+    pen_at_bitmap l.bits.width l.bits.height l.bits.depth _ x y lies.0 lies.1 ∙
     ap (λ t. if t then pen_within l.bits.depth (framing_pen glyphs title active l.bits.width x y) else pen_at l.bits x y) off
 
 -- the same, by whether the window has a frame
@@ -72,17 +68,9 @@ maybe_frame_leaves : (t : Bool) (glyphs : List (List ℕ)) (kept : ℕ → ℕ �
 maybe_frame_leaves true glyphs kept active l x y inside = frame_leaves glyphs kept active l.window l x y inside
 maybe_frame_leaves false glyphs kept active l x y inside = refl
 
--- two tests that hold
-both_hold : (a b : Bool) → a ≡ true → b ≡ true → (a && b) ≡ true
-both_hold a b h k = ap (λ t. t && b) h ∙ k
-
--- one of two tests holds
-first_holds : (a b : Bool) → a ≡ true → (a || b) ≡ true
-first_holds a b h = ap (λ t. t || b) h
-
 -- a place in a table of this size
 in_size : (w h x y : ℕ) → x < w → y < h → (nat_lt x w && nat_lt y h) ≡ true
-in_size w h x y left low = both_hold _ _ (lt-ltb x w left) (lt-ltb y h low)
+in_size w h x y left low = and_from _ _ (lt-ltb x w left) (lt-ltb y h low)
 
 -- a smart layer keeps each of its pixels
 smart_keeps : (k : Kind) (visible : Bool) → k ≡ Smart → kept_as k visible ≡ true
@@ -95,13 +83,13 @@ revealed_in c l = with_revealed c l (resized c l)
 -- a smart layer keeps after an arrangement each pixel that it has then
 smart_keeps_now : (c : Across) (l : Layer) (x y : ℕ) → l.kind ≡ Smart → x < width_in c.new_bounds → y < height_in c.new_bounds → keeps c (resized c l) x y ≡ true
 unfolding is_kept
-smart_keeps_now c l x y smart left low = both_hold _ _ (in_size _ _ x y left low) (smart_keeps l.kind _ smart)
+smart_keeps_now c l x y smart left low = and_from _ _ (in_size _ _ x y left low) (smart_keeps l.kind _ smart)
 
 -- of a smart layer that was live each inner pixel counts as kept before
 smart_counts : (c : Across) (l : Layer) (x y : ℕ) → l.kind ≡ Smart → was_live c ≡ true → x < l.bits.width → y < l.bits.height → was_inner c l x y ≡ true → counts_as_kept c l x y ≡ true
 unfolding counts_as_kept is_kept
 smart_counts c l x y smart live left low inner =
-    both_hold _ _ (both_hold _ _ live (both_hold _ _ (in_size _ _ x y left low) (smart_keeps l.kind _ smart))) (first_holds (was_inner c l x y) (not (is_framed l.window && is_inner c l x y)) inner)
+    and_from _ _ (and_from _ _ live (and_from _ _ (in_size _ _ x y left low) (smart_keeps l.kind _ smart))) (or_left (was_inner c l x y) (not (is_framed l.window && is_inner c l x y)) inner)
 
 -- a smart layer that was live keeps the pen of a pixel that was inside it and is inside it now
 revealed_leaves : (c : Across) (l : Layer) (x y : ℕ) → l.kind ≡ Smart → was_live c ≡ true → l.bits.width ≡ width_in c.bounds → l.bits.height ≡ height_in c.bounds → is_inside l x y ≡ true → is_inner c l x y ≡ true → pen_at (revealed_in c l).bits x y ≡ pen_at l.bits x y
@@ -110,7 +98,7 @@ revealed_leaves c l x y smart live wide high before now =
     let is = inner_lies (is_framed l.window) (width_in c.new_bounds) (height_in c.new_bounds) x y now in
     let inner : was_inner c l x y ≡ true =
     ap (λ w. in_inner (is_framed l.window) w (height_in c.bounds) x y) (sym wide) ∙ (ap (λ h. in_inner (is_framed l.window) l.bits.width h x y) (sym high) ∙ before) in
-    pen_at-bitmap (width_in c.new_bounds) (height_in c.new_bounds) l.bits.depth _ x y is.0 is.1 ∙
+    pen_at_bitmap (width_in c.new_bounds) (height_in c.new_bounds) l.bits.depth _ x y is.0 is.1 ∙
     (ap (λ t. if t then (if counts_as_kept c l x y then pen_at l.bits x y else fill_pen l.bits.depth l.hook x y) else 0) (smart_keeps_now c l x y smart is.0 is.1) ∙
     ap (λ t. if t then pen_at l.bits x y else fill_pen l.bits.depth l.hook x y) (smart_counts c l x y smart live was.0 was.1 inner))
 
@@ -153,7 +141,7 @@ framed_size true glyphs kept active l = framed_by_size glyphs kept active l.wind
 framed_size false glyphs kept active l = record { width = refl; height = refl; window = refl }
 
 -- a window that was told has its frame or none as before
-told_framed : (c : Across) (q : Layer) (o : Option Window) → is_framed (changed_window (window_told c q) o) ≡ is_framed o
+pub told_framed : (c : Across) (q : Layer) (o : Option Window) → is_framed (changed_window (window_told c q) o) ≡ is_framed o
 told_framed c q None = refl
 told_framed c q (Some w) = refl
 

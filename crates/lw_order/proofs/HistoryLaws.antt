@@ -67,38 +67,38 @@ pub tasks_prefix : (tasks : ℕ) (roles : List Role) (old new : List Entry) → 
 tasks_prefix tasks roles old new f h = all_front (λ e. e.task < tasks) old f.rest (subst (TasksBelow tasks) f.prefix h)
 
 -- the steps of a task in two histories
-pub count_of-append : (task : ℕ) (xs ys : List Entry) → count_of task (xs ++ ys) ≡ count_of task xs + count_of task ys
-count_of-append task [] ys = omega arith
-count_of-append task (e ∷ xs) ys = let h = count_of-append task xs ys in omega arith
+pub count_of_append : (task : ℕ) (xs ys : List Entry) → count_of task (xs ++ ys) ≡ count_of task xs + count_of task ys
+count_of_append task [] ys = omega arith
+count_of_append task (e ∷ xs) ys = let h = count_of_append task xs ys in omega arith
 
 none_of_task : (task : ℕ) (e : Entry) (es : List Entry) → (e.task == task) ≡ false → count_of task es ≡ 0 → count_of task (e ∷ es) ≡ 0
 none_of_task task e es other none = rw other (omega arith)
 
 -- steps that leave a task's role alone are none of its steps
-pub count_of-quiet : (task : ℕ) (roles : List Role) (es : List Entry) → Contains roles (Task task) → Quiet roles es → count_of task es ≡ 0
-count_of-quiet task roles [] there q = refl
-count_of-quiet task roles (e ∷ es) there q =
+pub count_of_quiet : (task : ℕ) (roles : List Role) (es : List Entry) → Contains roles (Task task) → Quiet roles es → count_of task es ≡ 0
+count_of_quiet task roles [] there q = refl
+count_of_quiet task roles (e ∷ es) there q =
     none_of_task task e es
     (All-contains (λ role. touches_role (touch_of e.task e.call) role ≡ false) roles (Task task) (All-head (LeavesAlone roles) e es q) there)
-    (count_of-quiet task roles es there (All-tail (LeavesAlone roles) e es q))
+    (count_of_quiet task roles es there (All-tail (LeavesAlone roles) e es q))
 
 -- a task whose role is left alone has as many steps in the history that goes on
-pub count_of-follows : (task : ℕ) (roles : List Role) (old new : List Entry) → Contains roles (Task task) → Follows roles old new → count_of task new ≡ count_of task old
-count_of-follows task roles old new there f =
-    let all : count_of task new ≡ count_of task old + count_of task f.rest = ap (count_of task) f.prefix ∙ count_of-append task old f.rest in
-    let none = count_of-quiet task roles f.rest there f.quiet in
+pub count_of_follows : (task : ℕ) (roles : List Role) (old new : List Entry) → Contains roles (Task task) → Follows roles old new → count_of task new ≡ count_of task old
+count_of_follows task roles old new there f =
+    let all : count_of task new ≡ count_of task old + count_of task f.rest = ap (count_of task) f.prefix ∙ count_of_append task old f.rest in
+    let none = count_of_quiet task roles f.rest there f.quiet in
     omega arith
 
 own_step : (task : ℕ) (e : Entry) → e.task ≡ task → count_of task (e ∷ []) ≡ 1
 own_step task e own = rw (eq-eqb e.task task own) (omega arith)
 
 -- a stamp gives its task one step more
-pub count_of-added : (roles : List Role) (old new : List Entry) (task : ℕ) (call : Call) (ticket : ℕ) → Contains roles (Task task) → Added roles old new task call ticket → count_of task new ≡ count_of task old + 1
-count_of-added roles old new task call ticket there a =
+pub count_of_added : (roles : List Role) (old new : List Entry) (task : ℕ) (call : Call) (ticket : ℕ) → Contains roles (Task task) → Added roles old new task call ticket → count_of task new ≡ count_of task old + 1
+count_of_added roles old new task call ticket there a =
     let e : Entry = record { task = task; seq = count_of task (old ++ a.between); call = call } in
-    let all : count_of task new ≡ count_of task (old ++ a.between) + count_of task (e ∷ []) = ap (count_of task) a.history ∙ count_of-append task (old ++ a.between) (e ∷ []) in
-    let front = count_of-append task old a.between in
-    let none = count_of-quiet task roles a.between there a.quiet in
+    let all : count_of task new ≡ count_of task (old ++ a.between) + count_of task (e ∷ []) = ap (count_of task) a.history ∙ count_of_append task (old ++ a.between) (e ∷ []) in
+    let front = count_of_append task old a.between in
+    let none = count_of_quiet task roles a.between there a.quiet in
     let one = own_step task e refl in
     omega arith
 

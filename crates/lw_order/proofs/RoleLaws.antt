@@ -21,10 +21,10 @@ pub all_from_members : {X : Type 0} (P : X → Type 0) (xs : List X) → ((x : X
 all_from_members P xs each = All-weaker (Contains xs) P each xs (All-contains_itself xs)
 
 -- a role is the same as itself
-pub same_role-itself : (role : Role) → same_role role role ≡ true
-same_role-itself (Task a) = eq-eqb a a refl
-same_role-itself (Slot a) = eq-eqb a a refl
-same_role-itself Info = refl
+pub same_role_itself : (role : Role) → same_role role role ≡ true
+same_role_itself (Task a) = eq-eqb a a refl
+same_role_itself (Slot a) = eq-eqb a a refl
+same_role_itself Info = refl
 
 -- what stands among the roles without one stood among them
 pub was_there : (off role : Role) (roles : List Role) → Contains (without off roles) role → Contains roles role
@@ -35,7 +35,7 @@ was_there off role roles h =
 pub not_there : (off : Role) (roles : List Role) → Contains (without off roles) off → ⊥
 not_there off roles h =
     let passes : not (same_role off off) ≡ true = All-contains (λ r. not (same_role off r) ≡ true) (without off roles) off (filter_passes (λ r. not (same_role off r)) roles) h in
-    let fails : not (same_role off off) ≡ false = ap not (same_role-itself off) in
+    let fails : not (same_role off off) ≡ false = ap not (same_role_itself off) in
     cc
 
 -- the only role of a list of one
@@ -77,20 +77,20 @@ contains_below : (n k : ℕ) → k < n → Contains (range_with_len 0 n) k
 contains_below n k below = let same : 0 + k ≡ k = omega arith in subst (Contains (range_with_len 0 n)) same (contains_range 0 n k below)
 
 -- all roles have each task below the number of tasks
-pub all_roles-has_task : (slots tasks t : ℕ) → t < tasks → Contains (all_roles slots tasks) (Task t)
-all_roles-has_task slots tasks t below =
+pub all_roles_has_task : (slots tasks t : ℕ) → t < tasks → Contains (all_roles slots tasks) (Task t)
+all_roles_has_task slots tasks t below =
     Contains-append_left (Info ∷ map (λ k. Task k) (range_with_len 0 tasks)) (map (λ s. Slot s) (range_with_len 0 slots)) (Task t)
     (contains_more Info (Task t) (map (λ k. Task k) (range_with_len 0 tasks)) (contains_map (λ k. Task k) (range_with_len 0 tasks) t (contains_below tasks t below)))
 
 -- all roles have each slot below the number of slots
-pub all_roles-has_slot : (slots tasks s : ℕ) → s < slots → Contains (all_roles slots tasks) (Slot s)
-all_roles-has_slot slots tasks s below =
+pub all_roles_has_slot : (slots tasks s : ℕ) → s < slots → Contains (all_roles slots tasks) (Slot s)
+all_roles_has_slot slots tasks s below =
     Contains-append_right (Info ∷ map (λ k. Task k) (range_with_len 0 tasks)) (map (λ k. Slot k) (range_with_len 0 slots)) (Slot s)
     (contains_map (λ k. Slot k) (range_with_len 0 slots) s (contains_below slots s below))
 
 -- all roles have LayerInfo's
-pub all_roles-has_info : (slots tasks : ℕ) → Contains (all_roles slots tasks) Info
-all_roles-has_info slots tasks = (0, omega arith, refl)
+pub all_roles_has_info : (slots tasks : ℕ) → Contains (all_roles slots tasks) Info
+all_roles_has_info slots tasks = (0, omega arith, refl)
 
 -- the other half of an `||` whose one half fails
 either_test : (a b : Bool) → (a || b) ≡ true → (a ≡ true) ⊎ (b ≡ true)

@@ -23,7 +23,7 @@ use Rattle.lw_order.specs.Promised.{Follows, longer}
 use Rattle.lw_order.specs.Rule.{IsRoleWithin, Stands, KeepsOrder}
 use Rattle.lw_order.specs.Plays.{view_of, first_view, spent_view, old_of, Learned, Stamped}
 use Rattle.lw_order.proofs.RoleLaws.{all_from_members, was_there, only_role, leaves_others, quiet_fewer}
-use Rattle.lw_order.proofs.HistoryLaws.{follows_itself, numbered_push, numbered_prefix, tasks_prefix, count_of-append, count_of-quiet, joins}
+use Rattle.lw_order.proofs.HistoryLaws.{follows_itself, numbered_push, numbered_prefix, tasks_prefix, count_of_append, count_of_quiet, joins}
 use Rattle.lw_order.proofs.Bound.{length_bound}
 use Rattle.lw_order.proofs.ViewLaws.{stands_set, stands_push, not_of_another, held_once_set, held_once_split, held_once_join, held_once_first}
 
@@ -175,7 +175,7 @@ one_more n false most h k = omega arith
 steps_fit_after : (task : ℕ) (call : Call) (whole : List Entry) → count_of task whole < 4294967295 → ((t : ℕ) → count_of t whole ≤ 4294967295) → (t : ℕ) → count_of t (whole ++ step_of task call whole ∷ []) ≤ 4294967295
 steps_fit_after task call whole room fit t =
     let more = one_more (count_of t whole) (task == t) 4294967295 (λ same. subst (λ k. count_of k whole < 4294967295) (eqb-true task t same) room) (fit t) in
-    let sum = count_of-append t whole (step_of task call whole ∷ []) in
+    let sum = count_of_append t whole (step_of task call whole ∷ []) in
     omega arith
 
 follows_more : (roles : List Role) (old whole : List Entry) (e : Entry) → Follows roles old whole → LeavesAlone roles e → Follows roles old (whole ++ e ∷ [])
@@ -208,7 +208,7 @@ stamps numbers words views seat v tasks task call same owns room (whole, k) at =
     let w = view_of new v.roles in
     let before = mine.follows in
     let is_within : task < numbers.tasks = All-contains (IsRoleWithin numbers) v.roles (Task task) mine.roles_fit owns.has_task in
-    let had : count_of task whole ≡ count_of task v.history = ap (count_of task) before.prefix ∙ count_of-append task v.history before.rest ∙ none_more (count_of task v.history) (count_of task before.rest) (count_of-quiet task v.roles before.rest owns.has_task before.quiet) in
+    let had : count_of task whole ≡ count_of task v.history = ap (count_of task) before.prefix ∙ count_of_append task v.history before.rest ∙ none_more (count_of task v.history) (count_of task before.rest) (count_of_quiet task v.roles before.rest owns.has_task before.quiet) in
     let has_room : count_of task whole < 4294967295 = omega arith in
     let numbered : IsNumbered new = numbered_push whole e k.numbered refl in
     let tasks_fit : TasksBelow numbers.tasks new = All-push (λ (x : Entry). x.task < numbers.tasks) whole e k.tasks_fit is_within in (

@@ -8,7 +8,7 @@ use Rattle.std.proofs.lemmas.Nat.{shl_whole, mul-le}
 use Rattle.std.proofs.lemmas.Nat.Bits.{bit_at_set_same, bit_at_set_other, bit_at_clear_same, bit_at_clear_other, bit_at-lt, shr_and_one}
 use Rattle.lw_planes.specs.Pen.{pen_of}
 use Rattle.lw_planes.specs.Row.{bit_of, row_bit}
-use Rattle.lw_planes.proofs.PenLaws.{pen_of-lt}
+use Rattle.lw_planes.proofs.PenLaws.{pen_of_lt}
 
 -- a choice by a place, from both of its cases
 pub chosen_at : (i s v a b : ℕ) → (i ≡ s → v ≡ a) → (i ≢ s → v ≡ b) → v ≡ (if i == s then a else b)
@@ -23,23 +23,23 @@ pub at_other : (i s v a b : ℕ) → v ≡ (if i == s then a else b) → i ≢ s
 at_other i s v a b chosen ne = grind (arith, nat_tests)
 
 -- a byte with one bit set
-pub bit_at-set : (byte s i : ℕ) → s < 8 → bit_at (bit_or byte (1 * 2 ^ s % 256)) i ≡ (if i == s then 1 else bit_at byte i)
-bit_at-set byte s i h =
+pub bit_at_set : (byte s i : ℕ) → s < 8 → bit_at (bit_or byte (1 * 2 ^ s % 256)) i ≡ (if i == s then 1 else bit_at byte i)
+bit_at_set byte s i h =
     chosen_at i s (bit_at (bit_or byte (1 * 2 ^ s % 256)) i) 1 (bit_at byte i)
     (λ e. ap (λ k. bit_at (bit_or byte (1 * 2 ^ s % 256)) k) e ∙ bit_at_set_same w8 byte s h)
     (λ ne. bit_at_set_other w8 byte s h i ne)
 
 -- a byte with one bit cleared
-pub bit_at-clear : (byte s i : ℕ) → s < 8 → i < 8 → bit_at (bit_and byte (255 - 1 * 2 ^ s % 256)) i ≡ (if i == s then 0 else bit_at byte i)
-bit_at-clear byte s i h l =
+pub bit_at_clear : (byte s i : ℕ) → s < 8 → i < 8 → bit_at (bit_and byte (255 - 1 * 2 ^ s % 256)) i ≡ (if i == s then 0 else bit_at byte i)
+bit_at_clear byte s i h l =
     chosen_at i s (bit_at (bit_and byte (255 - 1 * 2 ^ s % 256)) i) 0 (bit_at byte i)
     (λ e. ap (λ k. bit_at (bit_and byte (255 - 1 * 2 ^ s % 256)) k) e ∙ bit_at_clear_same w8 byte s h)
     (λ ne. bit_at_clear_other w8 byte s h i l ne)
 
 -- a row once a byte is written in which one bit is another
-pub row_bit-set : (bytes : List ℕ) (place v b i : ℕ) → place < 8 * length bytes → ((j : ℕ) → j < 8 → bit_at v j ≡ (if j == 7 - place % 8 then b else bit_at (get_or bytes (place / 8) 0) j)) → row_bit (set bytes (place / 8) v) i ≡ (if i == place then b else row_bit bytes i)
+pub row_bit_set : (bytes : List ℕ) (place v b i : ℕ) → place < 8 * length bytes → ((j : ℕ) → j < 8 → bit_at v j ≡ (if j == 7 - place % 8 then b else bit_at (get_or bytes (place / 8) 0) j)) → row_bit (set bytes (place / 8) v) i ≡ (if i == place then b else row_bit bytes i)
 unfolding row_bit
-row_bit-set bytes place v b i inside bits =
+row_bit_set bytes place v b i inside bits =
     ⊎_elim
     (λ (same : i / 8 ≡ place / 8).
     let low : place / 8 < length bytes = omega arith in
@@ -61,46 +61,46 @@ row_bit-set bytes place v b i inside bits =
     (cases_eq (i / 8) (place / 8))
 
 -- a pen of one plane more
-pub pen_of-more : (n : ℕ) (b : ℕ → ℕ) → pen_of (n + 1) b ≡ pen_of n b + b n * 2 ^ n
+pub pen_of_more : (n : ℕ) (b : ℕ → ℕ) → pen_of (n + 1) b ≡ pen_of n b + b n * 2 ^ n
 unfolding pen_of
-pen_of-more n b = rw add-one
+pen_of_more n b = rw add-one
 
 -- a pen of no plane
-pub pen_of-none : (b : ℕ → ℕ) → pen_of 0 b ≡ 0
+pub pen_of_none : (b : ℕ → ℕ) → pen_of 0 b ≡ 0
 unfolding pen_of
-pen_of-none b = refl
+pen_of_none b = refl
 
 -- the shift of a bit into its plane loses nothing
-bit-shifted : (n bit : ℕ) → n < 8 → bit < 2 → bit * 2 ^ n % 256 ≡ bit * 2 ^ n
-bit-shifted n bit h l = shl_whole bit 1 n 8 l (omega arith)
+bit_shifted : (n bit : ℕ) → n < 8 → bit < 2 → bit * 2 ^ n % 256 ≡ bit * 2 ^ n
+bit_shifted n bit h l = shl_whole bit 1 n 8 l (omega arith)
 
 -- one more plane's bit is gathered
 pub gathered_more : (n pen bit : ℕ) (f : ℕ → ℕ) → n < 8 → ((k : ℕ) → f k < 2) → pen ≡ pen_of n f → bit ≡ f n → pen + bit * 2 ^ n % 256 ≡ pen_of (n + 1) f
 gathered_more n pen bit f h bits front last =
     let small : bit < 2 = rw last (bits n) in
-    rw (bit-shifted n bit h small, pen_of-more n f, front, last)
+    rw (bit_shifted n bit h small, pen_of_more n f, front, last)
 
 -- what is gathered fits a byte
 pub gathered_fits : (n pen bit : ℕ) (f : ℕ → ℕ) → n < 8 → ((k : ℕ) → f k < 2) → pen ≡ pen_of n f → bit ≡ f n → pen + bit * 2 ^ n % 256 < 256
 gathered_fits n pen bit f h bits front last =
     let whole = gathered_more n pen bit f h bits front last in
-    let small : pen_of (n + 1) f < 2 ^ (n + 1) = pen_of-lt (n + 1) f (λ k _. bits k) in
+    let small : pen_of (n + 1) f < 2 ^ (n + 1) = pen_of_lt (n + 1) f (λ k _. bits k) in
     let most : 2 ^ (n + 1) ≤ 2 ^ 8 = pow-le-pow_right {n = 2} (omega arith) {i = n + 1} {j = 8} (omega arith) in
     omega arith
 
 -- a bit as the truth value that it is 1, and back
-pub bit-tested : (pen n : ℕ) → bit_of (bit_and (pen / 2 ^ n) 1 == 1) ≡ bit_at pen n
-bit-tested pen n = rw (shr_and_one pen n) (let small : bit_at pen n < 2 = bit_at-lt pen n in grind (arith, nat_tests))
+pub bit_tested : (pen n : ℕ) → bit_of (bit_and (pen / 2 ^ n) 1 == 1) ≡ bit_at pen n
+bit_tested pen n = rw (shr_and_one pen n) (let small : bit_at pen n < 2 = bit_at-lt pen n in grind (arith, nat_tests))
 
 -- two places some steps apart differ
-step-apart : (n k place step : ℕ) → 0 < step → k < n → place + k * step ≢ place + n * step
-step-apart n k place step long low = let more : (k + 1) * step ≤ n * step = mul-le (k + 1) step n step (omega arith) (omega arith) in omega arith
+step_apart : (n k place step : ℕ) → 0 < step → k < n → place + k * step ≢ place + n * step
+step_apart n k place step long low = let more : (k + 1) * step ≤ n * step = mul-le (k + 1) step n step (omega arith) (omega arith) in omega arith
 
 -- one more bit of a pen is scattered: the bits that are written
 pub scattered_more : (n place step pen bit : ℕ) (mid new : ℕ → ℕ) → 0 < step → bit ≡ bit_at pen n → ((k : ℕ) → k < n → mid (place + k * step) ≡ bit_at pen k) → ((i : ℕ) → new i ≡ (if i == place + n * step then bit else mid i)) → (k : ℕ) → k < n + 1 → new (place + k * step) ≡ bit_at pen k
 scattered_more n place step pen bit mid new long is front next k low =
     ⊎_elim
-    (λ (early : k < n). at_other (place + k * step) (place + n * step) (new (place + k * step)) bit (mid (place + k * step)) (next (place + k * step)) (step-apart n k place step long early) ∙ front k early)
+    (λ (early : k < n). at_other (place + k * step) (place + n * step) (new (place + k * step)) bit (mid (place + k * step)) (next (place + k * step)) (step_apart n k place step long early) ∙ front k early)
     (λ (late : n ≤ k).
     let here : k ≡ n = omega arith in
     let place_here : place + k * step ≡ place + n * step = ap (λ i. place + i * step) here in

@@ -7,75 +7,75 @@ use Rattle.std.proofs.lemmas.Nat.Bits.{bit_at-lt, same_from_bits_below}
 use Rattle.lw_planes.specs.Pen.{byte_of}
 use Rattle.lw_planes.specs.Row.{row_bit}
 use Rattle.lw_planes.specs.Bitmap.{Bitmap, IsBitmap, bitmap, pen_at, row_bytes, plane_bit, plane_row}
-use Rattle.lw_planes.proofs.GridLaws.{grid-length, grid-same, grid-row-length, grid-at, grid-of_rows, grid-from_rows}
-use Rattle.lw_planes.proofs.PenLaws.{bit-byte_of, byte_of-lt}
-use Rattle.lw_planes.proofs.RowLaws.{row_bit-at}
+use Rattle.lw_planes.proofs.GridLaws.{grid_length, grid_same, grid_row_length, grid_at, grid_of_rows, grid_from_rows}
+use Rattle.lw_planes.proofs.PenLaws.{bit_byte_of, byte_of_lt}
+use Rattle.lw_planes.proofs.RowLaws.{row_bit_at}
 
 -- a tabulated bitmap whose pens have bits in its planes alone is one
-pub IsBitmap-bitmap : (w h d : ℕ) (f : ℕ → ℕ → ℕ) → ((x y : ℕ) → x < w → y < h → f x y < 2 ^ d) → IsBitmap (bitmap w h d f)
-IsBitmap-bitmap w h d f small = record {
-  rows = grid-length w h f;
-  columns = λ y low. grid-row-length w h f y low;
-  pens = λ x y left low. let pen = grid-at w h f 0 x y left low in let less = small x y left low in omega (arith, pen, less);
+pub IsBitmap_bitmap : (w h d : ℕ) (f : ℕ → ℕ → ℕ) → ((x y : ℕ) → x < w → y < h → f x y < 2 ^ d) → IsBitmap (bitmap w h d f)
+IsBitmap_bitmap w h d f small = record {
+  rows = grid_length w h f;
+  columns = λ y low. grid_row_length w h f y low;
+  pens = λ x y left low. let pen = grid_at w h f 0 x y left low in let less = small x y left low in omega (arith, pen, less);
 }
 
 -- a tabulated bitmap has each pen in its place
-pub pen_at-bitmap : (w h d : ℕ) (f : ℕ → ℕ → ℕ) (x y : ℕ) → x < w → y < h → pen_at (bitmap w h d f) x y ≡ f x y
-pen_at-bitmap w h d f x y left low = grid-at w h f 0 x y left low
+pub pen_at_bitmap : (w h d : ℕ) (f : ℕ → ℕ → ℕ) (x y : ℕ) → x < w → y < h → pen_at (bitmap w h d f) x y ≡ f x y
+pen_at_bitmap w h d f x y left low = grid_at w h f 0 x y left low
 
 -- a bitmap is the table of its pens
-pub bitmap-again : (b : Bitmap) → IsBitmap b → bitmap b.width b.height b.depth (λ x y. pen_at b x y) ≡ b
-bitmap-again b ok = ap (λ rows. record b { rows = rows }) (sym (grid-of_rows b.width b.height 0 b.rows ok.rows ok.columns))
+pub bitmap_again : (b : Bitmap) → IsBitmap b → bitmap b.width b.height b.depth (λ x y. pen_at b x y) ≡ b
+bitmap_again b ok = ap (λ rows. record b { rows = rows }) (sym (grid_of_rows b.width b.height 0 b.rows ok.rows ok.columns))
 
 -- a bitmap whose every pen is the tabulated one is the tabulated bitmap
-pub bitmap-from_pens : (b : Bitmap) (f : ℕ → ℕ → ℕ) → IsBitmap b → ((x y : ℕ) → x < b.width → y < b.height → pen_at b x y ≡ f x y) → b ≡ bitmap b.width b.height b.depth f
-bitmap-from_pens b f ok same = ap (λ rows. record b { rows = rows }) (grid-from_rows b.width b.height f 0 b.rows ok.rows ok.columns same)
+pub bitmap_from_pens : (b : Bitmap) (f : ℕ → ℕ → ℕ) → IsBitmap b → ((x y : ℕ) → x < b.width → y < b.height → pen_at b x y ≡ f x y) → b ≡ bitmap b.width b.height b.depth f
+bitmap_from_pens b f ok same = ap (λ rows. record b { rows = rows }) (grid_from_rows b.width b.height f 0 b.rows ok.rows ok.columns same)
 
 -- a row of whole words has room for every pixel
-pub row_bytes-wide : (w : ℕ) → w ≤ 8 * row_bytes w
-row_bytes-wide w = omega arith
+pub row_bytes_wide : (w : ℕ) → w ≤ 8 * row_bytes w
+row_bytes_wide w = omega arith
 
 -- a row of a plane has whole words
-pub length-plane_row : (b : Bitmap) (k y : ℕ) → length (plane_row b k y) ≡ row_bytes b.width
+pub length_plane_row : (b : Bitmap) (k y : ℕ) → length (plane_row b k y) ≡ row_bytes b.width
 unfolding plane_row
-length-plane_row b k y = length-map-range_with_len _ 0 (row_bytes b.width)
+length_plane_row b k y = length-map-range_with_len _ 0 (row_bytes b.width)
 
 -- a plane's bit is 0 or 1
-pub plane_bit-lt : (b : Bitmap) (k x y : ℕ) → plane_bit b k x y < 2
-plane_bit-lt b k x y = let bit = bit_at-lt (pen_at b x y) k in grind (arith, nat_tests)
+pub plane_bit_lt : (b : Bitmap) (k x y : ℕ) → plane_bit b k x y < 2
+plane_bit_lt b k x y = let bit = bit_at-lt (pen_at b x y) k in grind (arith, nat_tests)
 
 -- byte i of a row of a plane
-pub plane_row-at : (b : Bitmap) (k y i : ℕ) → i < row_bytes b.width → slice_index (plane_row b k y) i ≡ byte_of (λ j. plane_bit b k (8 * i + j) y)
+pub plane_row_at : (b : Bitmap) (k y i : ℕ) → i < row_bytes b.width → slice_index (plane_row b k y) i ≡ byte_of (λ j. plane_bit b k (8 * i + j) y)
 unfolding plane_row
-plane_row-at b k y i h = get_or-map-range_with_len (λ n. byte_of (λ j. plane_bit b k (8 * n + j) y)) 0 (row_bytes b.width) i i 0 h (zero-add i)
+plane_row_at b k y i h = get_or-map-range_with_len (λ n. byte_of (λ j. plane_bit b k (8 * n + j) y)) 0 (row_bytes b.width) i i 0 h (zero-add i)
 
 -- each byte of a row of a plane fits a byte
-pub plane_row-lt : (b : Bitmap) (k y i : ℕ) → i < row_bytes b.width → slice_index (plane_row b k y) i < 256
-plane_row-lt b k y i h =
-    let small : byte_of (λ j. plane_bit b k (8 * i + j) y) < 256 = byte_of-lt (λ j. plane_bit b k (8 * i + j) y) (λ j l. plane_bit-lt b k (8 * i + j) y) in
-    let is = plane_row-at b k y i h in
+pub plane_row_lt : (b : Bitmap) (k y i : ℕ) → i < row_bytes b.width → slice_index (plane_row b k y) i < 256
+plane_row_lt b k y i h =
+    let small : byte_of (λ j. plane_bit b k (8 * i + j) y) < 256 = byte_of_lt (λ j. plane_bit b k (8 * i + j) y) (λ j l. plane_bit_lt b k (8 * i + j) y) in
+    let is = plane_row_at b k y i h in
     omega (arith, is)
 
 -- bit x of a row of a plane is that plane's bit of pixel x, and 0 in the padding
-pub row_bit-plane_row : (b : Bitmap) (k x y : ℕ) → x < 8 * row_bytes b.width → row_bit (plane_row b k y) x ≡ plane_bit b k x y
-row_bit-plane_row b k x y h =
+pub row_bit_plane_row : (b : Bitmap) (k x y : ℕ) → x < 8 * row_bytes b.width → row_bit (plane_row b k y) x ≡ plane_bit b k x y
+row_bit_plane_row b k x y h =
     let i : ℕ = x / 8 in
     let j : ℕ = x % 8 in
     let inside : i < row_bytes b.width = omega arith in
     let small : j < 8 = omega arith in
     let whole : 8 * i + j ≡ x = omega arith in
     ap (λ n. row_bit (plane_row b k y) n) (sym whole) ∙
-    (row_bit-at (plane_row b k y) i j small ∙
-    (ap (λ p. bit_at p (7 - j)) (plane_row-at b k y i inside) ∙
-    (bit-byte_of (λ n. plane_bit b k (8 * i + n) y) j (λ n l. plane_bit-lt b k (8 * i + n) y) small ∙ ap (λ n. plane_bit b k n y) whole)))
+    (row_bit_at (plane_row b k y) i j small ∙
+    (ap (λ p. bit_at p (7 - j)) (plane_row_at b k y i inside) ∙
+    (bit_byte_of (λ n. plane_bit b k (8 * i + n) y) j (λ n l. plane_bit_lt b k (8 * i + n) y) small ∙ ap (λ n. plane_bit b k n y) whole)))
 
 -- tabulated bitmaps are equal where their pens are
-pub bitmap-same : (w h d : ℕ) (f g : ℕ → ℕ → ℕ) → ((x y : ℕ) → x < w → y < h → f x y ≡ g x y) → bitmap w h d f ≡ bitmap w h d g
-bitmap-same w h d f g same = ap (λ rows. record { width = w; height = h; depth = d; rows = rows }) (grid-same w h f g same)
+pub bitmap_same : (w h d : ℕ) (f g : ℕ → ℕ → ℕ) → ((x y : ℕ) → x < w → y < h → f x y ≡ g x y) → bitmap w h d f ≡ bitmap w h d g
+bitmap_same w h d f g same = ap (λ rows. record { width = w; height = h; depth = d; rows = rows }) (grid_same w h f g same)
 
 -- bitmaps of one size whose pens have equal bits in its planes are equal
-pub bitmap-same_bits : (b c : Bitmap) → IsBitmap b → IsBitmap c → b.width ≡ c.width → b.height ≡ c.height → b.depth ≡ c.depth → ((x y k : ℕ) → x < b.width → y < b.height → k < b.depth → bit_at (pen_at b x y) k ≡ bit_at (pen_at c x y) k) → b ≡ c
-bitmap-same_bits b c first second width height depth same =
+pub bitmap_same_bits : (b c : Bitmap) → IsBitmap b → IsBitmap c → b.width ≡ c.width → b.height ≡ c.height → b.depth ≡ c.depth → ((x y k : ℕ) → x < b.width → y < b.height → k < b.depth → bit_at (pen_at b x y) k ≡ bit_at (pen_at c x y) k) → b ≡ c
+bitmap_same_bits b c first second width height depth same =
     let pens : (x y : ℕ) → x < b.width → y < b.height → pen_at b x y ≡ pen_at c x y =
     λ x y left low.
     let small = first.pens x y left low in
@@ -84,8 +84,8 @@ bitmap-same_bits b c first second width height depth same =
     let less : pen_at c x y < 2 ^ b.depth = rw depth (second.pens x y right high) in
     same_from_bits_below b.depth (pen_at b x y) (pen_at c x y) small less (λ k deep. same x y k left low deep)
     in
-    sym (bitmap-again b first) ∙
-    (bitmap-same b.width b.height b.depth (λ x y. pen_at b x y) (λ x y. pen_at c x y) pens ∙
+    sym (bitmap_again b first) ∙
+    (bitmap_same b.width b.height b.depth (λ x y. pen_at b x y) (λ x y. pen_at c x y) pens ∙
     (ap (λ w. bitmap w b.height b.depth (λ x y. pen_at c x y)) width ∙
     (ap (λ h. bitmap c.width h b.depth (λ x y. pen_at c x y)) height ∙
-    (ap (λ d. bitmap c.width c.height d (λ x y. pen_at c x y)) depth ∙ bitmap-again c second))))
+    (ap (λ d. bitmap c.width c.height d (λ x y. pen_at c x y)) depth ∙ bitmap_again c second))))

@@ -11,14 +11,19 @@ use Rattle.lw_planes.specs.Storage.{bit_place}
 abbrev pub with_pen : Bitmap → ℕ → ℕ → ℕ → Bitmap
 with_pen b x y pen = record b { rows = grid b.width b.height (λ i j. if i == x && j == y then pen else pen_at b i j) }
 
--- Plane p's bit at column i and row j, once these bytes were written over those of the planes from row y of plane k on.
-abbrev pub written_bit : Bitmap → ℕ → ℕ → List ℕ → ℕ → ℕ → ℕ → ℕ
-written_bit b k y bytes i j p =
-    let from = bit_place b.width b.height k 0 y in
-    let place = bit_place b.width b.height p i j in
+-- The bit old of plane p at column i and row j of a bitmap w columns wide and h rows high, once these bytes were written over
+-- those of its planes from row y of plane k on.
+abbrev pub overwritten_bit : ℕ → ℕ → ℕ → ℕ → List ℕ → ℕ → ℕ → ℕ → ℕ → ℕ
+overwritten_bit w h k y bytes i j p old =
+    let from = bit_place w h k 0 y in
+    let place = bit_place w h p i j in
     if nat_le from place && nat_lt place (from + 8 * length bytes)
     then row_bit bytes (place - from)
-    else bit_at (pen_at b i j) p
+    else old
+
+-- Plane p's bit at column i and row j, once these bytes were written over those of the planes from row y of plane k on.
+abbrev pub written_bit : Bitmap → ℕ → ℕ → List ℕ → ℕ → ℕ → ℕ → ℕ
+written_bit b k y bytes i j p = overwritten_bit b.width b.height k y bytes i j p (bit_at (pen_at b i j) p)
 
 -- the pens once these bytes were written over those of the planes from row y of plane k on
 unfoldable pub written_rows : Bitmap → ℕ → ℕ → List ℕ → List (List ℕ)

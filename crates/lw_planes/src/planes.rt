@@ -236,3 +236,13 @@ mod tests {
         Ok(())
     }
 }
+
+// Planes may go to another thread, and threads may share them: the bounds ask for the proofs.
+fn cross_threads() {
+    crosses::<Planes>();
+    is_shared::<Planes>();
+}
+
+fn crosses<T: Send>() {}
+
+fn is_shared<T: Sync>() {}

@@ -7,7 +7,7 @@ use Rattle.lw_calls.specs.Assets.{Assets}
 use Rattle.lw_calls.specs.Written.{line_of, hex_byte}
 use Rattle.lw_grammar.specs.LineForms.{LineForm, RowLine}
 use Rattle.lw_canonical.specs.Spelling.{spelled}
-use Rattle.lw_text.proofs.Pieces.{pieces-same}
+use Rattle.lw_text.proofs.Pieces.{pieces_same}
 use Rattle.lw_print.specs.Behind.{text_of_lines}
 
 -- lines behind lines
@@ -45,7 +45,7 @@ text-each f (x ∷ xs) = ap (λ ys. line_of (spelled (f x)) ++ ys) (text-each f 
 pub planes-text : (b : Bitmap) → text_of_lines (flat_map (λ k. map (λ y. RowLine (plane_row b k y)) (range_with_len 0 b.height)) (range_with_len 0 b.depth)) ≡ flat_map (λ k. flat_map (λ y. line_of (flat_map hex_byte (plane_row b k y))) (range_with_len 0 b.height)) (range_with_len 0 b.depth)
 planes-text b =
     text-pieces (λ k. map (λ y. RowLine (plane_row b k y)) (range_with_len 0 b.height)) (range_with_len 0 b.depth) ∙
-    pieces-same b.depth (λ k. text_of_lines (map (λ y. RowLine (plane_row b k y)) (range_with_len 0 b.height))) (λ k. flat_map (λ y. line_of (flat_map hex_byte (plane_row b k y))) (range_with_len 0 b.height))
+    pieces_same b.depth (λ k. text_of_lines (map (λ y. RowLine (plane_row b k y)) (range_with_len 0 b.height))) (λ k. flat_map (λ y. line_of (flat_map hex_byte (plane_row b k y))) (range_with_len 0 b.height))
     (λ k below. text-each (λ y. RowLine (plane_row b k y)) (range_with_len 0 b.height))
 
 -- the text of lines that were written piece by piece

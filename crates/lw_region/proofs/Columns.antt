@@ -4,6 +4,7 @@ use Rattle.std.specs.Prelude.{int_lt, int_le}
 use Rattle.std.proofs.lemmas.Int.{ints, by_lt_z}
 use Rattle.std.proofs.lemmas.List.{append-nil, map-append, take_more}
 use Rattle.std.proofs.lemmas.List.Folds.{list_any-append}
+use Rattle.std.proofs.Math.Bool.{or-false}
 use Rattle.lw_region.specs.declared.operation.Operation.{Operation}
 use Rattle.lw_region.specs.declared.operation.Operation.TheVariants.{Union, Intersection, SymmetricDifference, Difference}
 use Rattle.lw_region.specs.Rectangle.{Rectangle, within}
@@ -13,7 +14,7 @@ use Rattle.lw_region.specs.Operations.{holds}
 use Rattle.lw_region.specs.Columns.{columns, some_run, run_rectangles, IsRowOf}
 use Rattle.lw_region.proofs.Within.{within_below, within_above}
 use Rattle.lw_region.proofs.Meet.{same_bounds}
-use Rattle.lw_region.proofs.Order.{or_none, or_assoc}
+use Rattle.lw_region.proofs.Order.{or_assoc}
 use Rattle.lw_region.proofs.Runs.{in_runs_nil, in_runs_cons}
 
 -- what is in neither set is in no result
@@ -129,7 +130,7 @@ some_added at next first last h k =
       are = (a, tt, tt);
       starts = omega (arith, ints);
       ends = (k a, tt);
-      has = λ x. in_runs_cons (record { first = first; last = last }) [] x ∙ (ap (λ w. within first x last || w) (in_runs_nil x) ∙ or_none (within first x last));
+      has = λ x. in_runs_cons (record { first = first; last = last }) [] x ∙ (ap (λ w. within first x last || w) (in_runs_nil x) ∙ or-false (within first x last));
     }))
 
 -- A merge has come so far: `out` is `before` with runs behind it, each of which leaves the column before `at` free, and the

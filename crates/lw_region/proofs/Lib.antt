@@ -14,4 +14,6 @@ pub mod Rows
 pub mod Flat
 pub mod RegionSweep
 pub mod SetOps
+pub mod Spaced
 pub mod Disjoint
+pub mod FindingLaws

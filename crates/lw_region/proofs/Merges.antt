@@ -4,6 +4,7 @@ use Rattle.std.specs.Prelude.{int_le}
 use Rattle.std.specs.Int.{int_min, int_max}
 use Rattle.std.proofs.lemmas.Int.{ints, clamps, by_lt_z}
 use Rattle.std.proofs.lemmas.Bool.{false≢true, or_from, or_left, or_right, and_left, and_right}
+use Rattle.std.proofs.Math.Bool.{and-true, or-false, and-false}
 use Rattle.lw_region.specs.declared.operation.Operation.TheVariants.{Union, Intersection, Difference}
 use Rattle.lw_region.specs.Rectangle.{Rectangle, within}
 use Rattle.lw_region.specs.Bands.{Run}
@@ -11,7 +12,6 @@ use Rattle.lw_region.specs.Banded.{in_runs, StartsAfter, AreRuns}
 use Rattle.lw_region.specs.Columns.{columns, first_column, first_end, others, some_run, run_rectangles, IsRowOf}
 use Rattle.lw_region.proofs.Within.{within_true, within_below, within_above, within_both}
 use Rattle.lw_region.proofs.Lists.{and_comm}
-use Rattle.lw_region.proofs.Order.{or_none}
 use Rattle.lw_region.proofs.Runs.{in_runs_nil, in_runs_cons, starts_after_less, none_before, in_first, in_rest}
 use Rattle.lw_region.proofs.Columns.{le_true, le_false, within_none, RowState, due_of, row_begin, row_move, row_push, row_end, row_done}
 
@@ -19,7 +19,7 @@ use Rattle.lw_region.proofs.Columns.{le_true, le_false, within_none, RowState, d
 or_comm : (p q : Bool) → (p || q) ≡ (q || p)
 or_comm true true = refl
 or_comm true false = refl
-or_comm false q = sym (or_none q)
+or_comm false q = sym (or-false q)
 
 -- no rectangle has no column
 pub none_in : (a : List Rectangle) (x : ℤ) → length a ≡ 0 → in_runs (columns a) x ≡ false
@@ -325,14 +325,6 @@ apart_bools true true false false w e = ap (λ v. v || false) (sym e)
 apart_bools true true false true w e = ap (λ v. v || false) (sym e)
 apart_bools true false q b w e = ap (λ v. v || (q && not b)) (sym e)
 
-and_true : (p : Bool) → (p && true) ≡ p
-and_true true = refl
-and_true false = refl
-
-and_false : (p : Bool) → (p && false) ≡ false
-and_false true = refl
-and_false false = refl
-
 -- what is due of a run that ends no later than the next one that is taken out
 piece_short : (at first last x : ℤ) (s : Run) (ss : List Run) → last ≤ℤ s.last → AreRuns (s ∷ ss)
     → within (int_max at first) x (int_min last (s.first -ℤ pos 1)) ≡ (int_le at x && (within first x last && not (in_runs (s ∷ ss) x)))
@@ -368,7 +360,7 @@ piece_long at x r s rs ss h m j k =
     (λ d. ap (λ w. int_le at x && (in_runs (r ∷ rs) x && not w)) (in_rest s ss x d)
     ∙ (ap (λ w. w && (in_runs (r ∷ rs) x && not (in_runs ss x))) (le_true at x a ∙ sym (le_true (s.last +ℤ pos 1) x (omega (arith, ints))))
     ∙ ap (λ w. w || (int_le (s.last +ℤ pos 1) x && (in_runs (r ∷ rs) x && not (in_runs ss x)))) (sym (within_above (int_max at r.first) x (int_min r.last (s.first -ℤ pos 1)) (omega (arith, ints, clamps))))))
-    (λ d. and_right (int_le at x) _ (ap (λ w. in_runs (r ∷ rs) x && not w) (in_first s ss x b d) ∙ and_false (in_runs (r ∷ rs) x))
+    (λ d. and_right (int_le at x) _ (ap (λ w. in_runs (r ∷ rs) x && not w) (in_first s ss x b d) ∙ and-false (in_runs (r ∷ rs) x))
     ∙ sym (or_from _ _ (within_above (int_max at r.first) x (int_min r.last (s.first -ℤ pos 1)) (omega (arith, ints, clamps))) (and_left _ _ (le_false (s.last +ℤ pos 1) x (omega (arith, ints))))))))
 
 -- what is due of a run from which nothing more is taken out, and of those behind it
@@ -381,7 +373,7 @@ piece_last at x r rs h k =
     ∙ sym (or_from _ _ (within_below (int_max at r.first) x r.last (omega (arith, ints, clamps)))
     (none_before rs x k.2 (starts_after_less x (r.last +ℤ pos 1) rs (omega (arith, ints)) k.1))))
     (λ a. by_lt_z r.last x
-    (λ b. rw (le_true at x a, in_rest r rs x b, in_runs_nil x, within_above (int_max at r.first) x r.last b) (and_true (in_runs rs x)))
+    (λ b. rw (le_true at x a, in_rest r rs x b, in_runs_nil x, within_above (int_max at r.first) x r.last b) (and-true (in_runs rs x)))
     (λ b. by_lt_z x r.first
     (λ d. and_right (int_le at x) _ (and_left _ _ (none_before (r ∷ rs) x k d))
     ∙ sym (or_from _ _ (within_below (int_max at r.first) x r.last (omega (arith, ints, clamps)))

@@ -1,7 +1,7 @@
 -- Lists that are put in order: what they hold, and that one set of elements has one such list.
 use Rattle.std.proofs.Common.{◌≡◌, Bool, true, false, cond, ◌&&◌, ◌||◌, List, [], ◌∷◌, refl, ap, sym, ◌∙◌}
 use Rattle.std.specs.List.{list_any, filter}
-use Rattle.std.proofs.lemmas.Bool.{false≢true, false_from_ne_true}
+use Rattle.std.proofs.lemmas.Bool.{false≢true, false_from_ne_true, or_left}
 use Rattle.lw_region.specs.Order.{put_in_order, in_order, ComesBefore, IsInOrder}
 
 -- a test on either of two, in the other order
@@ -29,11 +29,6 @@ any_put_step before total p a b bs h false false e f = rw (total a b e f) (or_ag
 pub or_assoc : (p q r : Bool) → ((p || q) || r) ≡ (p || (q || r))
 or_assoc true q r = refl
 or_assoc false q r = refl
-
--- a test or none
-pub or_none : (p : Bool) → (p || false) ≡ p
-or_none true = refl
-or_none false = refl
 
 -- a test within itself
 pub absorbed : (p q : Bool) → (p || (q && p)) ≡ p
@@ -127,10 +122,6 @@ pub none_behind : {A : Type 0} (before : A → A → Bool) (p : A → Bool) (a :
 none_behind before p a h [] k = refl
 none_behind before p a h (b ∷ bs) k = rw (h b k.0) (none_behind before p a h bs k.1)
 
--- a test that passes settles the answer
-true_or : (p q : Bool) → p ≡ true → (p || q) ≡ true
-true_or p q e = rw e
-
 -- a test that fails settles nothing
 or_cancel : (p q r : Bool) → p ≡ false → (p || q) ≡ (p || r) → q ≡ r
 or_cancel p q r e h = rw e at h
@@ -149,7 +140,7 @@ module _ {A : Type 0} (before same : A → A → Bool)
   not_before : (a b : A) (xs ys : List A) → ComesBefore before b ys
       → ((c : A) → list_any (λ z. same z c) (a ∷ xs) ≡ list_any (λ z. same z c) (b ∷ ys)) → before a b ≡ true → ⊥
   not_before a b xs ys k h e =
-      false≢true (sym (absent a (b ∷ ys) (e, before_all before trans a b ys e k)) ∙ (sym (h a) ∙ true_or _ _ (itself a)))
+      false≢true (sym (absent a (b ∷ ys) (e, before_all before trans a b ys e k)) ∙ (sym (h a) ∙ or_left _ _ (itself a)))
 
   -- the rests of two lists with the same elements have the same
   same_tails : (a b : A) (xs ys : List A) → ComesBefore before a xs → ComesBefore before b ys → a ≡ b
@@ -168,8 +159,8 @@ module _ {A : Type 0} (before same : A → A → Bool)
   pub one_order : (xs ys : List A) → IsInOrder before xs → IsInOrder before ys
       → ((c : A) → list_any (λ z. same z c) xs ≡ list_any (λ z. same z c) ys) → xs ≡ ys
   one_order [] [] j k h = refl
-  one_order [] (b ∷ ys) j k h = absurd (false≢true (h b ∙ true_or _ _ (itself b)))
-  one_order (a ∷ xs) [] j k h = absurd (false≢true (sym (h a) ∙ true_or _ _ (itself a)))
+  one_order [] (b ∷ ys) j k h = absurd (false≢true (h b ∙ or_left _ _ (itself b)))
+  one_order (a ∷ xs) [] j k h = absurd (false≢true (sym (h a) ∙ or_left _ _ (itself a)))
   one_order (a ∷ xs) (b ∷ ys) j k h =
       let e : a ≡ b = total a b (false_from_ne_true _ (not_before a b xs ys k.0 h)) (false_from_ne_true _ (not_before b a ys xs j.0 (λ c. sym (h c)))) in
       rw (e, one_order xs ys j.1 k.1 (λ c. same_tails a b xs ys j.0 k.0 e h c (same a c) refl))

@@ -8,6 +8,7 @@ use Rattle.std.proofs.lemmas.Int.{ints, clamps, by_lt_z}
 use Rattle.std.proofs.lemmas.Bool.{false≢true, or_left, or_from, and_left, and_right, and_parts, and_from, lt-ltb, le-ltb}
 use Rattle.std.proofs.lemmas.List.{take_at, drop_at, append-nil, append_assoc, length-append}
 use Rattle.std.proofs.lemmas.Slice.{between_is}
+use Rattle.std.proofs.Math.Bool.{or-false}
 use Rattle.lw_region.specs.declared.operation.Operation.{Operation}
 use Rattle.lw_region.specs.Rectangle.{Rectangle, within}
 use Rattle.lw_region.specs.Pixels.{pixels_of}
@@ -19,7 +20,6 @@ use Rattle.lw_region.specs.Rows.{band_length, first_length, first_row, next_row,
 use Rattle.lw_region.proofs.Within.{within_true, within_below, within_above}
 use Rattle.lw_region.proofs.Meet.{same_bounds}
 use Rattle.lw_region.proofs.Numbers.{eq_true, eq_of, of_lt as lt_true}
-use Rattle.lw_region.proofs.Order.{or_none}
 use Rattle.lw_region.proofs.Runs.{in_runs_nil, one_run_list, same_runs_true, same_runs_itself}
 use Rattle.lw_region.proofs.Columns.{holds_none, le_lt_false as lt_false, kept, kept_second, no_rectangles}
 use Rattle.lw_region.proofs.Merges.{is_none}
@@ -55,7 +55,7 @@ one_flat b = flat_first b [] ∙ (ap (λ w. run_rectangles b.top b.bottom b.runs
 -- the pixels of one band
 in_one : (b : Band) (x y : ℤ) → in_bands (b ∷ []) x y ≡ (within b.top y b.bottom && in_runs b.runs x)
 in_one b x y =
-    in_bands_cons b [] x y ∙ (ap (λ w. (within b.top y b.bottom && in_runs b.runs x) || w) (in_bands_nil x y) ∙ or_none _)
+    in_bands_cons b [] x y ∙ (ap (λ w. (within b.top y b.bottom && in_runs b.runs x) || w) (in_bands_nil x y) ∙ or-false _)
 
 -- no band is joined to none below
 joined_none : (upper : List Rectangle) → joined_bottom upper [] ≡ None
@@ -133,7 +133,7 @@ no_band row next has last out rects l s e j =
       place = n ∙ s.place;
       are = s.are;
       ends = end_lower row next (s.upper ++ s.lowest) (omega (arith, ints)) s.ends;
-      pixels = λ x y. s.pixels x y ∙ (sym (or_none (has x y)) ∙ ap (λ w. has x y || w) (sym (and_right (within row y (next -ℤ pos 1)) (in_runs [] x) (in_runs_nil x))));
+      pixels = λ x y. s.pixels x y ∙ (sym (or-false (has x y)) ∙ ap (λ w. has x y || w) (sym (and_right (within row y (next -ℤ pos 1)) (in_runs [] x) (in_runs_nil x))));
     } in
     rw j m
 
@@ -366,7 +366,7 @@ module _ (operation : Operation) (a₀ b₀ left_a left_b : List Rectangle) (row
       by_lt_z y row
       (λ a. ap (λ w. (w && h) || (within row y (next -ℤ pos 1) && in_runs rs x)) (lt_true y row a)
       ∙ (ap (λ w. h || (w && in_runs rs x)) (within_below row y (next -ℤ pos 1) a)
-      ∙ (or_none h ∙ ap (λ w. w && h) (sym (lt_true y next (omega (arith, ints)))))))
+      ∙ (or-false h ∙ ap (λ w. w && h) (sym (lt_true y next (omega (arith, ints)))))))
       (λ a. ap (λ w. (w && h) || (within row y (next -ℤ pos 1) && in_runs rs x)) (lt_false y row a) ∙ by_lt_z y next
       (λ b. ap (λ w. w && in_runs rs x) (within_true row y (next -ℤ pos 1) a (omega (arith, ints)))
       ∙ (sym (e a b) ∙ ap (λ w. w && h) (sym (lt_true y next b))))
@@ -601,7 +601,7 @@ rest_pixels b bs row x y has h k f =
       lt_true y row a,
       within_below (int_max row b.top) y (b.bottom +ℤ pos 1 -ℤ pos 1) (omega (arith, ints, clamps)),
       none_over bs x y h.2 (starts_below_less y b.bottom bs (omega (arith, ints)) (above_starts b bs h.1)),
-    ) (or_none (has || false) ∙ or_none has))
+    ) (or-false (has || false) ∙ or-false has))
     (λ a. rw (lt_false y row a, f a, e) (ap (λ w. (w && in_runs b.runs x) || in_bands bs x y) (within_from row b.top y b.bottom a) ∙ sym (in_bands_cons b bs x y)))
 
 -- nothing is left

@@ -1,15 +1,15 @@
 -- What the operations on regions do to sets and lists, and the laws of canonical lists.
-use Rattle.std.proofs.Common.{◌≡◌, ◌↔◌, Bool, false, not, ◌&&◌, ◌||◌, List, [], ◌∷◌, ℤ, refl, ap, sym, subst, ◌∙◌}
+use Rattle.std.proofs.Common.{◌≡◌, ◌↔◌, false, ◌||◌, List, [], ◌∷◌, ℤ, refl, ap, sym, subst, ◌∙◌}
+use Rattle.std.proofs.Math.Bool.{or-false}
 use Rattle.lw_region.specs.declared.operation.Operation.{Operation}
 use Rattle.lw_region.specs.declared.operation.Operation.TheVariants.{Union, Intersection, SymmetricDifference, Difference}
 use Rattle.lw_region.specs.Rectangle.{Rectangle, has_pixel, IsOrdered}
 use Rattle.lw_region.specs.Order.{IsInOrder}
-use Rattle.lw_region.specs.Pixels.{Pixel, precedes, contains_pixel, pixels_of, union, intersection, difference, symmetric_difference}
+use Rattle.lw_region.specs.Pixels.{Pixel, precedes, contains_pixel, pixels_of}
 use Rattle.lw_region.specs.Bands.{Run, Band, bands, covers}
 use Rattle.lw_region.specs.Banded.{IsCanonical, IsBanded, flat}
-use Rattle.lw_region.specs.Operations.{holds}
-use Rattle.lw_region.specs.Regions.{IsCombined}
-use Rattle.lw_region.proofs.Order.{or_none}
+use Rattle.lw_region.specs.Operations.{holds, combined}
+use Rattle.lw_region.specs.Regions.{IsListOf, CombinedListsLaw}
 use Rattle.lw_region.proofs.Reading.{one_set, ordered_pixels, ordered_union, ordered_intersection, ordered_difference, ordered_symmetric, contains_union, contains_intersection, contains_difference, contains_symmetric, contains_pixels_of}
 use Rattle.lw_region.proofs.Canonical.{flat_nil, covers_nil, covers_cons, canonical_is_bands, covers_bands, bands_flat, band_list, are_band_list, flat_canonical, one_canonical}
 
@@ -38,60 +38,7 @@ canonical_one r h =
 
 -- the pixels of one rectangle
 pub covers_one : (r : Rectangle) (x y : ℤ) → covers (r ∷ []) x y ≡ has_pixel r x y
-covers_one r x y = covers_cons r [] x y ∙ (ap (λ w. has_pixel r x y || w) (covers_nil x y) ∙ or_none (has_pixel r x y))
-
--- a canonical list with the pixels of a set has this set, and is its bands
-pub set_and_list : (after : List Rectangle) (s : List Pixel) → IsCanonical after → IsInOrder precedes s → ((x y : ℤ) → covers after x y ≡ contains_pixel s x y)
-    → (pixels_of after ≡ s) × (after ≡ bands s)
-set_and_list after s h k e =
-    (one_set (pixels_of after) s (ordered_pixels after) k (λ x y. contains_pixels_of after x y ∙ e x y), canonical_is_bands after s h e)
-
--- pixels of lists and of their sets
-both_covers : (f : Bool → Bool → Bool) (a b : List Rectangle) (x y : ℤ) → f (covers a x y) (covers b x y) ≡ f (contains_pixel (pixels_of a) x y) (contains_pixel (pixels_of b) x y)
-both_covers f a b x y =
-    ap (λ w. f w (covers b x y)) (sym (contains_pixels_of a x y)) ∙ ap (λ w. f (contains_pixel (pixels_of a) x y) w) (sym (contains_pixels_of b x y))
-
--- the set and the list of a union
-pub union_made : (a b after : List Rectangle) → IsCombined Union a b after
-    → (pixels_of after ≡ union (pixels_of a) (pixels_of b)) × (after ≡ bands (union (pixels_of a) (pixels_of b)))
-union_made a b after m =
-    set_and_list after (union (pixels_of a) (pixels_of b)) m.canonical (ordered_union (pixels_of a) (pixels_of b))
-    (λ x y. m.pixels x y ∙ (both_covers ◌||◌ a b x y ∙ sym (contains_union (pixels_of a) (pixels_of b) x y)))
-
--- the set and the list of an intersection
-pub intersection_made : (a b after : List Rectangle) → IsCombined Intersection a b after
-    → (pixels_of after ≡ intersection (pixels_of a) (pixels_of b)) × (after ≡ bands (intersection (pixels_of a) (pixels_of b)))
-intersection_made a b after m =
-    set_and_list after (intersection (pixels_of a) (pixels_of b)) m.canonical (ordered_intersection (pixels_of a) (pixels_of b) (ordered_pixels a))
-    (λ x y. m.pixels x y ∙ (both_covers ◌&&◌ a b x y ∙ sym (contains_intersection (pixels_of a) (pixels_of b) x y)))
-
--- the set and the list of a symmetric difference
-pub symmetric_made : (a b after : List Rectangle) → IsCombined SymmetricDifference a b after
-    → (pixels_of after ≡ symmetric_difference (pixels_of a) (pixels_of b)) × (after ≡ bands (symmetric_difference (pixels_of a) (pixels_of b)))
-symmetric_made a b after m =
-    set_and_list after (symmetric_difference (pixels_of a) (pixels_of b)) m.canonical (ordered_symmetric (pixels_of a) (pixels_of b))
-    (λ x y. m.pixels x y ∙ (both_covers (λ p q. (p && not q) || (q && not p)) a b x y ∙ sym (contains_symmetric (pixels_of a) (pixels_of b) x y)))
-
--- the set and the list of a difference
-pub difference_made : (a b after : List Rectangle) → IsCombined Difference a b after
-    → (pixels_of after ≡ difference (pixels_of a) (pixels_of b)) × (after ≡ bands (difference (pixels_of a) (pixels_of b)))
-difference_made a b after m =
-    set_and_list after (difference (pixels_of a) (pixels_of b)) m.canonical (ordered_difference (pixels_of a) (pixels_of b) (ordered_pixels a))
-    (λ x y. m.pixels x y ∙ (both_covers (λ p q. p && not q) a b x y ∙ sym (contains_difference (pixels_of a) (pixels_of b) x y)))
-
--- the same by the list of one rectangle
-pub with_one : (operation : Operation) (a other after : List Rectangle) (r : Rectangle) → other ≡ r ∷ [] → IsCombined operation a other after → IsCombined operation a (r ∷ []) after
-with_one operation a other after r e m = rw e at m
-
--- the pixels with those of one rectangle
-pub one_pixels : (operation : Operation) (a other after : List Rectangle) (r : Rectangle) → other ≡ r ∷ [] → IsCombined operation a other after
-    → (x y : ℤ) → covers after x y ≡ holds operation (covers a x y) (has_pixel r x y)
-one_pixels operation a other after r e m x y =
-    m.pixels x y ∙ ap (λ w. holds operation (covers a x y) w) (ap (λ w. covers w x y) e ∙ covers_one r x y)
-
--- the same by an equal list
-pub by_list : (operation : Operation) (a other after b : List Rectangle) → other ≡ b → IsCombined operation a other after → IsCombined operation a b after
-by_list operation a other after b e m = rw e at m
+covers_one r x y = covers_cons r [] x y ∙ (ap (λ w. has_pixel r x y || w) (covers_nil x y) ∙ or-false (has_pixel r x y))
 
 -- the bands of a set are canonical
 pub canonical_bands : (s : List Pixel) → IsCanonical (bands s)
@@ -112,7 +59,55 @@ canonical_is_banded rects = (canonical_banded rects, banded_canonical rects)
 
 -- the set of the bands of a set is the set
 pub set_of_bands : (s : List Pixel) → IsInOrder precedes s → pixels_of (bands s) ≡ s
-set_of_bands s h = (set_and_list (bands s) s (canonical_bands s) h (covers_bands s)).0
+set_of_bands s h = one_set (pixels_of (bands s)) s (ordered_pixels (bands s)) h (λ x y. contains_pixels_of (bands s) x y ∙ covers_bands s x y)
+
+-- the pixels of the set that an operation makes
+contains_combined : (operation : Operation) (s t : List Pixel) (x y : ℤ)
+    → contains_pixel (combined operation s t) x y ≡ holds operation (contains_pixel s x y) (contains_pixel t x y)
+contains_combined Union s t x y = contains_union s t x y
+contains_combined Intersection s t x y = contains_intersection s t x y
+contains_combined SymmetricDifference s t x y = contains_symmetric s t x y
+contains_combined Difference s t x y = contains_difference s t x y
+
+-- the same by the pixels of the lists
+contains_lists : (operation : Operation) (a b : List Rectangle) (x y : ℤ)
+    → contains_pixel (combined operation (pixels_of a) (pixels_of b)) x y ≡ holds operation (covers a x y) (covers b x y)
+contains_lists operation a b x y =
+    contains_combined operation (pixels_of a) (pixels_of b) x y
+    ∙ (ap (λ w. holds operation w (contains_pixel (pixels_of b) x y)) (contains_pixels_of a x y) ∙ ap (holds operation (covers a x y)) (contains_pixels_of b x y))
+
+-- the set that an operation makes is in reading order
+ordered_combined : (operation : Operation) (a b : List Rectangle) → IsInOrder precedes (combined operation (pixels_of a) (pixels_of b))
+ordered_combined Union a b = ordered_union (pixels_of a) (pixels_of b)
+ordered_combined Intersection a b = ordered_intersection (pixels_of a) (pixels_of b) (ordered_pixels a)
+ordered_combined SymmetricDifference a b = ordered_symmetric (pixels_of a) (pixels_of b)
+ordered_combined Difference a b = ordered_difference (pixels_of a) (pixels_of b) (ordered_pixels a)
+
+-- a canonical list of the pixels for which the operation holds is the bands of the set that it makes
+pub list_combined : (operation : Operation) (a b after : List Rectangle) → IsCanonical after
+    → ((x y : ℤ) → covers after x y ≡ holds operation (covers a x y) (covers b x y)) → after ≡ bands (combined operation (pixels_of a) (pixels_of b))
+list_combined operation a b after h e =
+    canonical_is_bands after (combined operation (pixels_of a) (pixels_of b)) h (λ x y. e x y ∙ sym (contains_lists operation a b x y))
+
+-- and such bands have that set and those pixels
+bands_combined : (operation : Operation) (a b made : List Rectangle) → made ≡ bands (combined operation (pixels_of a) (pixels_of b))
+    → IsListOf (combined operation (pixels_of a) (pixels_of b)) (λ x y. holds operation (covers a x y) (covers b x y)) made
+bands_combined operation a b made e =
+    let s : List Pixel = combined operation (pixels_of a) (pixels_of b) in
+    record {
+      set = ap pixels_of e ∙ set_of_bands s (ordered_combined operation a b);
+      pixels = λ x y. ap (λ rects. covers rects x y) e ∙ (covers_bands s x y ∙ contains_lists operation a b x y);
+    }
+
+-- what the calls on regions make, by set and by pixel
+pub combined_lists : CombinedListsLaw
+combined_lists = record {
+  unions = bands_combined Union;
+  intersections = bands_combined Intersection;
+  differences = bands_combined Difference;
+  symmetric = bands_combined SymmetricDifference;
+  single = covers_one;
+}
 
 -- a canonical list with no pixel is empty
 pub canonical_empty : (rects : List Rectangle) → IsCanonical rects → ((x y : ℤ) → covers rects x y ≡ false) → rects ≡ []

@@ -5,13 +5,14 @@ use Rattle.std.specs.List.{list_any}
 use Rattle.std.specs.Ordering.{int_eq}
 use Rattle.std.proofs.lemmas.Int.{ints, by_lt_z}
 use Rattle.std.proofs.lemmas.Bool.{false≢true, or_from, and_parts, and_from, and_left}
+use Rattle.std.proofs.Math.Bool.{or-false}
 use Rattle.lw_region.specs.Rectangle.{within}
 use Rattle.lw_region.specs.Order.{ComesBefore, IsInOrder}
 use Rattle.lw_region.specs.Bands.{Run, Band, put_row, tallest_bands, same_runs}
 use Rattle.lw_region.specs.Banded.{in_runs, AreRuns, in_bands, IsAbove, AreBands}
 use Rattle.lw_region.proofs.Within.{within_true, within_below, within_above}
 use Rattle.lw_region.proofs.Numbers.{eq_true, eq_of, eq_is_within, within_cons, lt_of}
-use Rattle.lw_region.proofs.Order.{or_none, absorbed}
+use Rattle.lw_region.proofs.Order.{absorbed}
 use Rattle.lw_region.proofs.Runs.{one_run_list, some_column, same_runs_true, same_runs_itself}
 
 -- in_bands, band by band
@@ -54,7 +55,7 @@ in_top b bs x y h k l =
     in_bands_cons b bs x y ∙
     (ap (λ w. (w && in_runs b.runs x) || in_bands bs x y) (within_true b.top y b.bottom k l)
     ∙ (ap (λ w. in_runs b.runs x || w) (none_over bs x y h.2 (starts_below_less y b.bottom bs l (above_starts b bs h.1)))
-    ∙ or_none (in_runs b.runs x)))
+    ∙ or-false (in_runs b.runs x)))
 
 -- a row below the first band is in the others or in none
 pub in_below : (b : Band) (bs : List Band) (x y : ℤ) → b.bottom <ℤ y → in_bands (b ∷ bs) x y ≡ in_bands bs x y

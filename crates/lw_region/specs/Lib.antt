@@ -7,3 +7,4 @@ pub mod Operations
 pub mod Columns
 pub mod Rows
 pub mod Regions
+pub mod Finding

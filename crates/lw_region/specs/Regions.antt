@@ -1,21 +1,14 @@
 -- What the operations on regions make, and the laws of canonical lists.
-use Rattle.std.specs.Prelude.{◌≡◌, ◌↔◌, ℕ, ◌<◌, false, ◌&&◌, ◌||◌, not, List, [], ◌∷◌, length, slice_index_or, ℤ, pos}
-use Rattle.lw_region.specs.declared.operation.Operation.{Operation}
-use Rattle.lw_region.specs.Rectangle.{Rectangle, AreApart}
+use Rattle.std.specs.Prelude.{◌≡◌, ◌↔◌, ℕ, ◌<◌, Bool, false, ◌&&◌, ◌||◌, not, List, [], ◌∷◌, length, slice_index_or, ℤ, pos}
+use Rattle.lw_region.specs.Rectangle.{Rectangle, has_pixel, AreApart}
 use Rattle.lw_region.specs.Order.{IsInOrder}
 use Rattle.lw_region.specs.Pixels.{Pixel, precedes, contains_pixel, pixels_of, union, intersection, difference, symmetric_difference}
 use Rattle.lw_region.specs.Bands.{bands, covers}
 use Rattle.lw_region.specs.Banded.{IsCanonical, IsBanded}
-use Rattle.lw_region.specs.Operations.{holds}
 
 -- the set of one rectangle
 abbrev pub rectangle_set : Rectangle → List Pixel
 rectangle_set r = pixels_of (r ∷ [])
-
--- A word of this crate's private contracts alone: `after` is the canonical list of the pixels for which the operation holds on the lists a and b
-pub record IsCombined (operation : Operation) (a b after : List Rectangle) : Type 0 where
-  pub canonical : IsCanonical after
-  pub pixels : (x y : ℤ) → covers after x y ≡ holds operation (covers a x y) (covers b x y)
 
 -- a pixel is in the set of a list exactly where some rectangle of the list has it, and sets are in reading order
 abbrev pub SetOfListLaw : Type 0
@@ -71,6 +64,23 @@ OperationOrder =
 -- the operations on sets give sets, with these pixels
 abbrev pub SetOperationsLaw : Type 0
 SetOperationsLaw = OperationPixels × OperationOrder
+
+-- the list has this set, and the pixels for which the test holds
+pub record IsListOf (s : List Pixel) (test : ℤ → ℤ → Bool) (made : List Rectangle) : Type 0 where
+  pub set : pixels_of made ≡ s
+  pub pixels : (x y : ℤ) → covers made x y ≡ test x y
+
+-- What the calls on regions make of lists a and b, by set and by pixel. A rectangle is the list of it alone.
+pub record CombinedListsLaw : Type 0 where
+  pub unions : (a b made : List Rectangle) → made ≡ bands (union (pixels_of a) (pixels_of b))
+      → IsListOf (union (pixels_of a) (pixels_of b)) (λ x y. covers a x y || covers b x y) made
+  pub intersections : (a b made : List Rectangle) → made ≡ bands (intersection (pixels_of a) (pixels_of b))
+      → IsListOf (intersection (pixels_of a) (pixels_of b)) (λ x y. covers a x y && covers b x y) made
+  pub differences : (a b made : List Rectangle) → made ≡ bands (difference (pixels_of a) (pixels_of b))
+      → IsListOf (difference (pixels_of a) (pixels_of b)) (λ x y. covers a x y && not (covers b x y)) made
+  pub symmetric : (a b made : List Rectangle) → made ≡ bands (symmetric_difference (pixels_of a) (pixels_of b))
+      → IsListOf (symmetric_difference (pixels_of a) (pixels_of b)) (λ x y. (covers a x y && not (covers b x y)) || (covers b x y && not (covers a x y))) made
+  pub single : (r : Rectangle) (x y : ℤ) → covers (r ∷ []) x y ≡ has_pixel r x y
 
 -- sets in reading order with the same pixels are one set
 abbrev pub OneSetLaw : Type 0

@@ -1,7 +1,7 @@
 // Laws of pixel sets and of canonical lists, for the crates above: each function does nothing, and its contract
 // is the law.
 
-ghost use Rattle.lw_region.specs.Regions.{SetOfListLaw, BandsLaw, BandedLaw, OneListLaw, EmptyListLaw, DisjointLaw, SetOperationsLaw, OneSetLaw, WorkedExample};
+ghost use Rattle.lw_region.specs.Regions.{SetOfListLaw, BandsLaw, BandedLaw, OneListLaw, EmptyListLaw, DisjointLaw, SetOperationsLaw, CombinedListsLaw, OneSetLaw, WorkedExample};
 
 /// A pixel is in the set of a list exactly where some rectangle of the list has it.
 pub fn set_of_list_law()
@@ -38,6 +38,12 @@ pub fn disjoint_law()
 /// difference are in order where the first set is.
 pub fn set_operations_law()
     ensures { SetOperationsLaw }
+{}
+
+/// What the calls on regions make of two lists has the set that it is the bands of, and pixel by pixel the pixels of both,
+/// in the one or in both, and so on. The list of one rectangle has its pixels.
+pub fn combined_lists_law()
+    ensures { CombinedListsLaw }
 {}
 
 /// Sets in reading order with the same pixels are one set.

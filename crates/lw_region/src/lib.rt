@@ -7,6 +7,7 @@
 #![tactic(auto)]
 
 mod band;
+mod finding;
 mod laws;
 mod operation;
 mod rect;
@@ -15,8 +16,8 @@ mod row;
 mod sweep;
 
 pub use laws::{
-    banded_law, bands_law, disjoint_law, empty_list_law, one_list_law, one_set_law,
-    set_of_list_law, set_operations_law, worked_example_law,
+    banded_law, bands_law, combined_lists_law, disjoint_law, empty_list_law, one_list_law,
+    one_set_law, set_of_list_law, set_operations_law, worked_example_law,
 };
 pub use rect::Rect;
 pub use region::{Region, and_region, clear_region, or_region, xor_region};

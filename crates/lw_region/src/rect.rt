@@ -1,6 +1,7 @@
 ghost use Rattle.std.specs.Prelude.{◌≡◌, ◌&&◌, ◌↔◌, ℤ, ◌+ℤ◌, ◌≤ℤ◌, IfSome, IsNone, [], ◌∷◌};
 ghost use Rattle.std.specs.Option.{SomeIff};
 ghost use Rattle.lw_region.specs.Rectangle.{Rectangle, within, has_pixel, IsOrdered, AreApart, common_part, moved_by, HasWords};
+ghost use Rattle.lw_region.specs.Banded.{IsCanonical};
 ghost use Rattle.lw_region.specs.Rows.{down_to};
 
 use std::marker::Model;
@@ -64,9 +65,9 @@ impl Rect {
     // The list of this rectangle alone.
     pub(crate) fn as_list(&self) -> &[Rect]
         ensures value { result.now ≡ self.now ∷ [] }
-        ensures ordered { IsOrdered self.now }
+        ensures canonical { IsCanonical result.now }
     {
-        // Reading a field is what makes the invariant known to the proof, for `ordered`.
+        // Reading a field is what makes the invariant known to the proof, for `canonical`.
         let _ = &self.min_x;
         slice::from_ref(self)
     }

@@ -22,12 +22,12 @@
 //
 // What a piece adds is joined to the band above where it goes on with the same runs (band.rt).
 
-ghost use Rattle.std.specs.Prelude.{◌≡◌, ◌&&◌, ◌||◌, not, List, [], ◌∷◌, ℤ, IfOk, OnOk, OnErr};
-ghost use Rattle.lw_region.specs.Rectangle.{has_pixel};
+ghost use Rattle.std.specs.Prelude.{◌≡◌, List, [], ◌∷◌, ℤ, IfOk, OnOk, OnErr};
 ghost use Rattle.lw_region.specs.Pixels.{pixels_of, union, intersection, difference, symmetric_difference};
 ghost use Rattle.lw_region.specs.Bands.{bands, covers};
 ghost use Rattle.lw_region.specs.Banded.{IsCanonical};
-ghost use Rattle.lw_region.specs.Regions.{rectangle_set, IsCombined};
+ghost use Rattle.lw_region.specs.Operations.{combined};
+ghost use Rattle.lw_region.specs.Regions.{rectangle_set};
 
 use crate::operation::Operation;
 use crate::rect::Rect;
@@ -100,10 +100,6 @@ impl Region {
     /// Adds the pixels of the rectangle (OrRectRegion). After an error the region is
     /// as before.
     pub fn or_rect(&mut self, alloc: Global, rect: &Rect) -> Result<(), AllocError>
-        ensures pixels { OnOk result
-            ((x y : ℤ) → covers self.new x y ≡ (covers self.old x y || has_pixel rect.now x y)) }
-        ensures set { OnOk result
-            (pixels_of self.new ≡ union (pixels_of self.old) (rectangle_set rect.now)) }
         ensures list { OnOk result
             (self.new ≡ bands (union (pixels_of self.old) (rectangle_set rect.now))) }
         ensures err { OnErr result (self.new ≡ self.old) }
@@ -114,10 +110,6 @@ impl Region {
     /// Keeps the pixels that are in the rectangle (AndRectRegion). After an error the region is
     /// as before.
     pub fn and_rect(&mut self, alloc: Global, rect: &Rect) -> Result<(), AllocError>
-        ensures pixels { OnOk result
-            ((x y : ℤ) → covers self.new x y ≡ (covers self.old x y && has_pixel rect.now x y)) }
-        ensures set { OnOk result
-            (pixels_of self.new ≡ intersection (pixels_of self.old) (rectangle_set rect.now)) }
         ensures list { OnOk result
             (self.new ≡ bands (intersection (pixels_of self.old) (rectangle_set rect.now))) }
         ensures err { OnErr result (self.new ≡ self.old) }
@@ -128,10 +120,6 @@ impl Region {
     /// Adds the pixels of the rectangle that are not in the region, and takes out those that are (XorRectRegion).
     /// After an error the region is as before.
     pub fn xor_rect(&mut self, alloc: Global, rect: &Rect) -> Result<(), AllocError>
-        ensures pixels { OnOk result
-            ((x y : ℤ) → covers self.new x y ≡ ((covers self.old x y && not (has_pixel rect.now x y)) || (has_pixel rect.now x y && not (covers self.old x y)))) }
-        ensures set { OnOk result
-            (pixels_of self.new ≡ symmetric_difference (pixels_of self.old) (rectangle_set rect.now)) }
         ensures list { OnOk result
             (self.new ≡ bands (symmetric_difference (pixels_of self.old) (rectangle_set rect.now))) }
         ensures err { OnErr result (self.new ≡ self.old) }
@@ -142,10 +130,6 @@ impl Region {
     /// Takes the pixels of the rectangle out of the region (ClearRectRegion). After an error the region is
     /// as before.
     pub fn clear_rect(&mut self, alloc: Global, rect: &Rect) -> Result<(), AllocError>
-        ensures pixels { OnOk result
-            ((x y : ℤ) → covers self.new x y ≡ (covers self.old x y && not (has_pixel rect.now x y))) }
-        ensures set { OnOk result
-            (pixels_of self.new ≡ difference (pixels_of self.old) (rectangle_set rect.now)) }
         ensures list { OnOk result
             (self.new ≡ bands (difference (pixels_of self.old) (rectangle_set rect.now))) }
         ensures err { OnErr result (self.new ≡ self.old) }
@@ -161,7 +145,7 @@ impl Region {
         other: &[Rect],
     ) -> Result<(), AllocError>
         requires { IsCanonical other.now }
-        ensures made { OnOk result (IsCombined operation self.old other.now self.new) }
+        ensures list { OnOk result (self.new ≡ bands (combined operation (pixels_of self.old) (pixels_of other.now))) }
         ensures err { OnErr result (self.new ≡ self.old) }
     {
         let made = sweep(alloc, operation, self.rects(), other)?;
@@ -172,10 +156,6 @@ impl Region {
 
 /// Adds the pixels of `from` to `into` (OrRegionRegion). After an error both are as before.
 pub fn or_region(alloc: Global, from: &Region, into: &mut Region) -> Result<(), AllocError>
-    ensures pixels { OnOk result
-        ((x y : ℤ) → covers into.new x y ≡ (covers into.old x y || covers from.now x y)) }
-    ensures set { OnOk result
-        (pixels_of into.new ≡ union (pixels_of into.old) (pixels_of from.now)) }
     ensures list { OnOk result
         (into.new ≡ bands (union (pixels_of into.old) (pixels_of from.now))) }
     ensures err { OnErr result (into.new ≡ into.old) }
@@ -185,10 +165,6 @@ pub fn or_region(alloc: Global, from: &Region, into: &mut Region) -> Result<(), 
 
 /// Keeps the pixels of `into` that are in `from` (AndRegionRegion). After an error both are as before.
 pub fn and_region(alloc: Global, from: &Region, into: &mut Region) -> Result<(), AllocError>
-    ensures pixels { OnOk result
-        ((x y : ℤ) → covers into.new x y ≡ (covers into.old x y && covers from.now x y)) }
-    ensures set { OnOk result
-        (pixels_of into.new ≡ intersection (pixels_of into.old) (pixels_of from.now)) }
     ensures list { OnOk result
         (into.new ≡ bands (intersection (pixels_of into.old) (pixels_of from.now))) }
     ensures err { OnErr result (into.new ≡ into.old) }
@@ -199,10 +175,6 @@ pub fn and_region(alloc: Global, from: &Region, into: &mut Region) -> Result<(),
 /// Adds the pixels of `from` that are not in `into`, and takes out those that are (XorRegionRegion). After an error
 /// both are as before.
 pub fn xor_region(alloc: Global, from: &Region, into: &mut Region) -> Result<(), AllocError>
-    ensures pixels { OnOk result
-        ((x y : ℤ) → covers into.new x y ≡ ((covers into.old x y && not (covers from.now x y)) || (covers from.now x y && not (covers into.old x y)))) }
-    ensures set { OnOk result
-        (pixels_of into.new ≡ symmetric_difference (pixels_of into.old) (pixels_of from.now)) }
     ensures list { OnOk result
         (into.new ≡ bands (symmetric_difference (pixels_of into.old) (pixels_of from.now))) }
     ensures err { OnErr result (into.new ≡ into.old) }
@@ -213,13 +185,19 @@ pub fn xor_region(alloc: Global, from: &Region, into: &mut Region) -> Result<(),
 /// Takes the pixels of `from` out of `into` (this project's own: the manual has the call for a rectangle alone). After an
 /// error both are as before.
 pub fn clear_region(alloc: Global, from: &Region, into: &mut Region) -> Result<(), AllocError>
-    ensures pixels { OnOk result
-        ((x y : ℤ) → covers into.new x y ≡ (covers into.old x y && not (covers from.now x y))) }
-    ensures set { OnOk result
-        (pixels_of into.new ≡ difference (pixels_of into.old) (pixels_of from.now)) }
     ensures list { OnOk result
         (into.new ≡ bands (difference (pixels_of into.old) (pixels_of from.now))) }
     ensures err { OnErr result (into.new ≡ into.old) }
 {
     into.combine(alloc, Operation::Difference, from.rects())
 }
+
+// A region may go to another thread, and threads may share it: the bounds ask for the proofs.
+fn cross_threads() {
+    crosses::<Region>();
+    is_shared::<Region>();
+}
+
+fn crosses<T: Send>() {}
+
+fn is_shared<T: Sync>() {}

@@ -338,6 +338,50 @@ fn region_has_the_pixels_of_its_rectangles(rt: HostRuntime) -> Result<(), Fail> 
 }
 
 #[test]
+fn run_of_a_row_ends_where_its_columns_do(rt: HostRuntime) -> Result<(), Fail> {
+    let region = region_of(rt.alloc(), &STEPPED)?;
+    for (x, y, due) in [
+        (0, 0, Some(7)),
+        (7, 0, Some(7)),
+        (8, 0, None),
+        (1, 1, Some(1)),
+        (2, 1, None),
+        (6, 1, Some(7)),
+        (3, 2, Some(5)),
+        (3, 3, None),
+        (-70000, 0, None),
+        (70000, 2, None),
+        (3, -70000, None),
+        (3, 70000, None),
+    ] {
+        assert_eq!(rt; region.run_end(x, y), due, "at {x}, {y}");
+    }
+    Ok(())
+}
+
+#[test]
+fn next_run_of_a_row_starts_at_its_first_column(rt: HostRuntime) -> Result<(), Fail> {
+    let region = region_of(rt.alloc(), &STEPPED)?;
+    for (x, y, due) in [
+        (5, 0, Some(5)),
+        (8, 0, None),
+        (-1, 1, Some(0)),
+        (2, 1, Some(6)),
+        (8, 1, None),
+        (0, 2, Some(2)),
+        (6, 2, None),
+        (0, 3, None),
+        (-70000, 2, Some(2)),
+        (70000, 0, None),
+        (0, -70000, None),
+        (0, 70000, None),
+    ] {
+        assert_eq!(rt; region.next_start(x, y), due, "at {x}, {y}");
+    }
+    Ok(())
+}
+
+#[test]
 fn rectangles_meet_and_move(rt: HostRuntime) -> Result<(), Fail> {
     let rect = rect_of([-4, 2, 5, 9])?;
     let meet = rect.meet(&rect_of([5, 9, 12, 12])?);

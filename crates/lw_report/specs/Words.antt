@@ -4,11 +4,10 @@ use Rattle.std.specs.List.{flat_map, slice_index_or}
 use Rattle.lw_calls.specs.declared.reply.Reply.{Reply}
 use Rattle.lw_calls.specs.declared.reply.Reply.TheVariants.{Done, Pen, Outside, Nothing, Layer, Rects, Got, NotOpen, AlreadyOpen, NotWindow, NotOwner, Backdrop, NotSuper, InUpdate, NotInUpdate, OutOfBounds, TooManyRects}
 use Rattle.lw_calls.specs.declared.last.Seen.{Seen}
-use Rattle.lw_machine.specs.Report.{message_text}
+use Rattle.lw_machine.specs.Report.{message_text, visible_text, damage_text, messages_text}
 use Rattle.lw_calls.specs.Written.{spaced, spaced_bounds}
 use Rattle.lw_report.specs.declared.layers.Part.{Part}
 use Rattle.lw_report.specs.declared.layers.Part.TheVariants.{Visible, Damage, Messages}
-use Rattle.lw_report.specs.Text.{visible_text, damage_text, messages_text}
 
 -- what a part says of a layer with this name
 abbrev pub part_text : Part → List ℕ → Seen → List ℕ

@@ -3,8 +3,7 @@
 ghost use Rattle.std.specs.Prelude.{◌≡◌, ◌++◌, OnOk};
 ghost use Rattle.std.specs.List.{flat_map};
 ghost use Rattle.lw_calls.specs.Written.{line_of};
-ghost use Rattle.lw_machine.specs.Report.{message_text};
-ghost use Rattle.lw_report.specs.Text.{of_seen, of_slots, message_lines, port_text};
+ghost use Rattle.lw_machine.specs.Report.{of_seen, of_slots, message_text, message_lines, port_text};
 ghost use Rattle.lw_report.specs.Words.{part_text};
 
 use crate::rects::push_rectangles;
@@ -22,7 +21,7 @@ pub enum Part {
 }
 
 /// Writes the piece of each layer, in rising number of its slot. `names` has the layers' names by slot.
-#[tactic(auto, unfolding(crate::specs::Text::of_slots))]
+#[tactic(auto, unfolding(lw_machine::specs::Report::of_slots))]
 pub fn push_part(
     alloc: Global,
     out: &mut Vec<u8>,

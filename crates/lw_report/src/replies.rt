@@ -3,8 +3,7 @@
 ghost use Rattle.std.specs.Prelude.{◌≡◌, ◌++◌, OnOk};
 ghost use Rattle.std.specs.List.{flat_map};
 ghost use Rattle.lw_calls.specs.Written.{line_of};
-ghost use Rattle.lw_machine.specs.Report.{message_text, reply_text, reply_lines};
-ghost use Rattle.lw_report.specs.Text.{replies_text};
+ghost use Rattle.lw_machine.specs.Report.{message_text, reply_text, reply_lines, replies_part};
 ghost use Rattle.lw_report.specs.Words.{reply_word, reply_rest};
 
 use crate::rects::push_rects;
@@ -14,7 +13,7 @@ use std::alloc::{AllocError, Global};
 
 /// Writes each task's name and replies, in rising number of the tasks. `names` has the layers' names by slot, and
 /// `tasks` the tasks'.
-#[tactic(auto, unfolding(crate::specs::Text::replies_text))]
+#[tactic(auto, unfolding(lw_machine::specs::Report::replies_part))]
 pub fn push_replies(
     alloc: Global,
     out: &mut Vec<u8>,
@@ -22,7 +21,7 @@ pub fn push_replies(
     tasks: &[Text],
     replies: &[Replies],
 ) -> Result<(), AllocError>
-    ensures { OnOk result (out.new.items ≡ out.old.items ++ replies_text names.now tasks.now replies.now) }
+    ensures { OnOk result (out.new.items ≡ out.old.items ++ replies_part names.now tasks.now replies.now) }
 {
     for task in 0..replies.len() {
         push_task(

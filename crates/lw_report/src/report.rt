@@ -1,11 +1,7 @@
 //! The whole report.
 
-ghost use Rattle.std.specs.Prelude.{◌≡◌, ℕ, List, IfOk};
-ghost use Rattle.lw_calls.specs.declared.reply.Reply.{Reply};
-ghost use Rattle.lw_machine.specs.Desk.{Desk};
-ghost use Rattle.lw_machine.specs.Finals.{IsFinalOf};
+ghost use Rattle.std.specs.Prelude.{◌≡◌, IfOk};
 ghost use Rattle.lw_machine.specs.Report.{report};
-ghost use Rattle.lw_report.specs.Text.{text_of};
 
 use crate::layers::{Part, push_part};
 use crate::order::push_order;
@@ -23,13 +19,8 @@ pub fn write(
     last: &Final,
     order: &OrderList,
 ) -> Result<Vec<u8>, AllocError>
-    ensures report { IfOk result (λ text. (d : Desk) (rs : ℕ → List Reply) →
-        d.sizes ≡ plan.now.sizes → IsFinalOf d rs last.now →
-        text.items ≡ report plan.now order.now d rs) }
-    ensures text { IfOk result (λ text. text.items ≡ text_of plan.now order.now last.now) }
+    ensures { IfOk result (λ text. text.items ≡ report plan.now order.now last.now) }
 {
-    // The clause of `sizes` tells the proof that the plan has a name for each of its tasks.
-    let _sizes = plan.sizes();
     let mut out = Vec::new(alloc);
     let names = plan.slot_names();
     let slots = last.slots.as_slice();

@@ -4,15 +4,15 @@ use Rattle.std.specs.List.{list_any}
 use Rattle.lw_region.specs.Rectangle.{within}
 use Rattle.lw_planes.specs.Bitmap.{row_bytes}
 use Rattle.lw_grammar.specs.LineForms.{LineForm, ScreenLine, GlyphLine, BitmapLine, RowLine, TaskLine, CallLine, UnlockLine, ReleaseLine, Act, layers_of, is_act_in_range}
-use Rattle.lw_grammar.specs.LinesAbove.{rows_due, tasks_above, names_above, bitmaps_above, supers_above, calls_so_far, began_at, group_above, asks_super}
-use Rattle.lw_calls.specs.Limits.{name_limit, task_limit, bitmap_limit}
+use Rattle.lw_grammar.specs.Told.{asks_super, told}
 use Rattle.lw_grammar.specs.Script.{is_lock_on, is_hold, super_limit}
+use Rattle.lw_calls.specs.Limits.{name_limit, task_limit, bitmap_limit}
 use Rattle.lw_grammar.proofs.ScriptForms.{IsFormHere}
 use Rattle.lw_grammar.proofs.ScriptSizes.{IsFormTested, here, tests, counted}
 use Rattle.lw_words.specs.Cuts.{targets}
 use Rattle.lw_words.proofs.Targets.{length-targets}
 use Rattle.lw_script.specs.declared.state.Reader.{Reader}
-use Rattle.lw_script.specs.Stands.{CanAdd, IsBitmapBegun}
+use Rattle.lw_script.specs.Represents.{CanAdd, IsBitmapBegun}
 use Rattle.lw_script.proofs.Passing.{none_due}
 use Rattle.std.proofs.lemmas.Int.{ints}
 use Rattle.std.proofs.lemmas.Bool.Decides.{nat_tests}
@@ -26,7 +26,7 @@ pub tests_of : (r : Reader) (f : LineForm) (c : CanAdd r f) → IsFormTested c.0
 tests_of r f c = tests c.0 c.1 f c.3
 
 -- no row is due where the line isn't one
-pub due_of : (r : Reader) (f : LineForm) (c : CanAdd r f) → (rows_due c.1 == 0) ≡ true → r.assets.due ≡ 0
+pub due_of : (r : Reader) (f : LineForm) (c : CanAdd r f) → ((told c.1).rows_due == 0) ≡ true → r.assets.due ≡ 0
 due_of r f c e = none_due c.0 r c.1 c.2 e
 
 -- three sizes in their ranges
@@ -62,7 +62,7 @@ rows_8 r code rows c = (here_of r (GlyphLine code rows) c).3
 
 -- a row
 pub row_due : (r : Reader) (bytes : List ℕ) → CanAdd r (RowLine bytes) → 0 < r.assets.due
-row_due r bytes c = go (rows_due c.1) (here_of r (RowLine bytes) c).0 c.2.assets.due
+row_due r bytes c = go (told c.1).rows_due (here_of r (RowLine bytes) c).0 c.2.assets.due
   where
     go : (n : ℕ) → (n == 0) ≡ false → r.assets.due ≡ n → 0 < r.assets.due
     go n e d = omega (arith, eqb-false n 0 e, d)
@@ -80,30 +80,30 @@ task_new r name c = rw (c.2.tasks.tasks) (tests_of r (TaskLine name) c).new
 -- how many names there are
 pub few_names : (r : Reader) (f : LineForm) → CanAdd r f → length r.tasks.layer_names.keys ≤ 64
 few_names r f c =
-    let few : length (names_above c.1) ≤ 64 = (counted c.0 c.1 (c.3).1).names in
-    let same : length (targets r.tasks.layer_names.keys) ≡ length (names_above c.1) = ap length c.2.tasks.names in
+    let few : length (told c.1).names ≤ 64 = (counted c.0 c.1 (c.3).1).names in
+    let same : length (targets r.tasks.layer_names.keys) ≡ length (told c.1).names = ap length c.2.tasks.names in
     let all = length-targets r.tasks.layer_names.keys in
     omega (arith, few, same, all)
 
 pub few_bitmaps : (r : Reader) (f : LineForm) → CanAdd r f → length r.assets.names.keys ≤ 16
 few_bitmaps r f c =
-    let few : length (bitmaps_above c.1) ≤ 16 = (counted c.0 c.1 (c.3).1).bitmaps in
-    let same : length (targets r.assets.names.keys) ≡ length (bitmaps_above c.1) = ap length c.2.assets.names in
+    let few : length (told c.1).bitmap_names ≤ 16 = (counted c.0 c.1 (c.3).1).bitmaps in
+    let same : length (targets r.assets.names.keys) ≡ length (told c.1).bitmap_names = ap length c.2.assets.names in
     let all = length-targets r.assets.names.keys in
     omega (arith, few, same, all)
 
 -- a group's end stands behind a call
 pub some_unlocked : (r : Reader) (name : List ℕ) → CanAdd r (UnlockLine name) → 0 < r.tasks.so_far
 some_unlocked r name c =
-    let t = and_parts (is_lock_on name (group_above c.1)) _ (tests_of r (UnlockLine name) c).group in
-    let lt : began_at c.1 < calls_so_far c.1 = ltb-true _ _ t.1 in
+    let t = and_parts (is_lock_on name (told c.1).group) _ (tests_of r (UnlockLine name) c).group in
+    let lt : (told c.1).began < (told c.1).so_far = ltb-true _ _ t.1 in
     let same = c.2.tasks.so_far in
     omega (arith, lt, same)
 
 pub some_released : (r : Reader) → CanAdd r ReleaseLine → 0 < r.tasks.so_far
 some_released r c =
-    let t = and_parts (is_hold (group_above c.1)) _ (tests_of r ReleaseLine c).group in
-    let lt : began_at c.1 < calls_so_far c.1 = ltb-true _ _ t.1 in
+    let t = and_parts (is_hold (told c.1).group) _ (tests_of r ReleaseLine c).group in
+    let lt : (told c.1).began < (told c.1).so_far = ltb-true _ _ t.1 in
     let same = c.2.tasks.so_far in
     omega (arith, lt, same)
 
@@ -116,16 +116,16 @@ call_made r layers act c = ((here_of r (CallLine layers act) c).3).0
 
 pub call_room : (r : Reader) (layers : List (List ℕ)) (act : Act) → CanAdd r (CallLine layers act) → r.tasks.so_far < 4096
 call_room r layers act c =
-    let few : calls_so_far (CallLine layers act ∷ c.1) ≤ 4096 = (counted c.0 (CallLine layers act ∷ c.1) c.3).calls in
+    let few : (told (CallLine layers act ∷ c.1)).so_far ≤ 4096 = (counted c.0 (CallLine layers act ∷ c.1) c.3).calls in
     let same = c.2.tasks.so_far in
     omega (arith, few, same)
 
 pub call_supers : (r : Reader) (layers : List (List ℕ)) (act : Act) → CanAdd r (CallLine layers act) → r.tasks.supers ≤ 16
 call_supers r layers act c =
     let f = CallLine layers act in
-    let halves = and_parts ((nat_le (length (tasks_above (f ∷ c.1))) task_limit && nat_le (length (bitmaps_above (f ∷ c.1))) bitmap_limit) && nat_le (length (names_above (f ∷ c.1))) name_limit) _ (tests_of r f c).few in
-    let last = and_parts (nat_le (supers_above (f ∷ c.1)) super_limit) _ halves.1 in
-    let few : cond (asks_super f) 1 0 + supers_above c.1 ≤ 16 = leb-true _ _ last.0 in
+    let halves = and_parts ((nat_le (length (told (f ∷ c.1)).tasks) task_limit && nat_le (length (told (f ∷ c.1)).bitmap_names) bitmap_limit) && nat_le (length (told (f ∷ c.1)).names) name_limit) _ (tests_of r f c).few in
+    let last = and_parts (nat_le (told (f ∷ c.1)).supers super_limit) _ halves.1 in
+    let few : cond (asks_super f) 1 0 + (told c.1).supers ≤ 16 = leb-true _ _ last.0 in
     let same = c.2.tasks.supers in
     omega (arith, few, same)
 

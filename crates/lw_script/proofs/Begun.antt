@@ -1,4 +1,4 @@
--- A reader that has read nothing stands for no lines.
+-- A reader that has read nothing represents no lines.
 use Rattle.std.proofs.Common.{◌≡◌, ℕ, ◌≤◌, false, get_or, replicate, ⊎_elim, subst, sym}
 use Rattle.std.proofs.lemmas.Bool.{cases_lt}
 use Rattle.std.proofs.lemmas.List.{length-replicate, get_or-replicate, get_or_past}

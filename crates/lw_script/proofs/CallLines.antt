@@ -5,7 +5,7 @@ use Rattle.lw_calls.specs.declared.call.Call.{Call}
 use Rattle.lw_calls.specs.declared.group.Group.{Group}
 use Rattle.lw_calls.specs.declared.group.Hold.TheVariants.{Slot}
 use Rattle.lw_grammar.specs.LineForms.{Act, RegRectAct, RegPairAct, RegClearAct, CreateAct, OpenAct, InFrontAct, WhichAct, BlitAct, EndRefreshAct, LineForm, CallLine, layers_of, is_hook_number, is_act_in_range}
-use Rattle.lw_grammar.specs.LinesAbove.{and_names, place_among, bitmaps_above, names_above, hook_on, spelled_call, call_below, calls_so_far, began_at, onto_last, calls_above, groups_above}
+use Rattle.lw_grammar.specs.Told.{and_names, place_among, onto_last, spelled_call, call_below, hook_on, told}
 use Rattle.lw_grammar.specs.Script.{is_ending}
 use Rattle.lw_script.specs.CallParts.{first_place, second_place}
 use Rattle.lw_script.proofs.NamesAdded.{place_of_one, places_of_two}
@@ -44,12 +44,12 @@ call_spelled b names (l ∷ m ∷ []) act e = ap (spelled_call b act) (sym (plac
 call_spelled b names (l ∷ m ∷ k ∷ ls) act e = absurd (omega (arith, e, at_most_two act))
 
 -- the groups, where a call ends one or not
-pub groups_with : (above : List LineForm) (ls : List (List ℕ)) (act : Act) → length ls ≡ layers_of act → groups_above (CallLine ls act ∷ above) ≡ cond (is_ending act) (onto_last (record { first = began_at above; last = calls_so_far above; hold = Slot (first_place (names_above above) ls) }) (groups_above above)) (groups_above above)
+pub groups_with : (above : List LineForm) (ls : List (List ℕ)) (act : Act) → length ls ≡ layers_of act → (told (CallLine ls act ∷ above)).groups ≡ cond (is_ending act) (onto_last (record { first = (told above).began; last = (told above).so_far; hold = Slot (first_place (told above).names ls) }) (told above).groups) (told above).groups
 groups_with above [] (EndRefreshAct full) e = absurd (omega (arith, e))
 groups_with above [] act e = refl
 groups_with above (l ∷ []) (EndRefreshAct full) e =
-    let n : (calls_so_far above + 1) - 1 ≡ calls_so_far above = omega arith in
-    ap (λ last. onto_last (record { first = began_at above; last = last; hold = Slot (place_among (names_above above) l) }) (groups_above above)) n
+    let n : ((told above).so_far + 1) - 1 ≡ (told above).so_far = omega arith in
+    ap (λ last. onto_last (record { first = (told above).began; last = last; hold = Slot (place_among (told above).names l) }) (told above).groups) n
 groups_with above (l ∷ []) act e = refl
 groups_with above (l ∷ m ∷ ls) (EndRefreshAct full) e = absurd (omega (arith, e))
 groups_with above (l ∷ m ∷ ls) act e = refl
@@ -66,14 +66,14 @@ hook_fits ls (OpenAct asked framed nocare classes title) h = middle _ _ _ h
 hook_fits ls act h = refl
 
 -- the groups that are kept
-pub groups_kept : (above : List LineForm) (ls : List (List ℕ)) (act : Act) (began so_far s : ℕ) (old new : List (List Group)) → length ls ≡ layers_of act → old ≡ groups_above above → began ≡ began_at above → so_far ≡ calls_so_far above → s ≡ first_place (names_above above) ls → new ≡ cond (is_ending act) (onto_last (record { first = began; last = so_far; hold = Slot s }) old) old → new ≡ groups_above (CallLine ls act ∷ above)
+pub groups_kept : (above : List LineForm) (ls : List (List ℕ)) (act : Act) (began so_far s : ℕ) (old new : List (List Group)) → length ls ≡ layers_of act → old ≡ (told above).groups → began ≡ (told above).began → so_far ≡ (told above).so_far → s ≡ first_place (told above).names ls → new ≡ cond (is_ending act) (onto_last (record { first = began; last = so_far; hold = Slot s }) old) old → new ≡ (told (CallLine ls act ∷ above)).groups
 groups_kept above ls act began so_far s old new m e f g h k =
-    let same : cond (is_ending act) (onto_last (record { first = began; last = so_far; hold = Slot s }) old) old ≡ cond (is_ending act) (onto_last (record { first = began_at above; last = calls_so_far above; hold = Slot (first_place (names_above above) ls) }) (groups_above above)) (groups_above above) = rw (e, f, g, h) refl in
+    let same : cond (is_ending act) (onto_last (record { first = began; last = so_far; hold = Slot s }) old) old ≡ cond (is_ending act) (onto_last (record { first = (told above).began; last = (told above).so_far; hold = Slot (first_place (told above).names ls) }) (told above).groups) (told above).groups = rw (e, f, g, h) refl in
     k ∙ same ∙ sym (groups_with above ls act m)
 
 -- the calls that are kept
-pub calls_kept : (above : List LineForm) (ls : List (List ℕ)) (act : Act) (s o : ℕ) (call : Call) (old new : List (List Call)) → length ls ≡ layers_of act → old ≡ calls_above above → s ≡ first_place (names_above above) ls → o ≡ second_place (names_above above) ls → call ≡ spelled_call (bitmaps_above above) act (s ∷ o ∷ []) → new ≡ onto_last call old → new ≡ calls_above (CallLine ls act ∷ above)
+pub calls_kept : (above : List LineForm) (ls : List (List ℕ)) (act : Act) (s o : ℕ) (call : Call) (old new : List (List Call)) → length ls ≡ layers_of act → old ≡ (told above).calls → s ≡ first_place (told above).names ls → o ≡ second_place (told above).names ls → call ≡ spelled_call (told above).bitmap_names act (s ∷ o ∷ []) → new ≡ onto_last call old → new ≡ (told (CallLine ls act ∷ above)).calls
 calls_kept above ls act s o call old new m e f g h k =
-    let b = bitmaps_above above in
-    let same : call ≡ call_below above ls act = h ∙ ap (λ p. spelled_call b act (p ∷ o ∷ [])) f ∙ ap (λ p. spelled_call b act (first_place (names_above above) ls ∷ p ∷ [])) g ∙ call_spelled b (names_above above) ls act m in
-    k ∙ ap (onto_last call) e ∙ ap (λ c. onto_last c (calls_above above)) same
+    let b = (told above).bitmap_names in
+    let same : call ≡ call_below (told above) ls act = h ∙ ap (λ p. spelled_call b act (p ∷ o ∷ [])) f ∙ ap (λ p. spelled_call b act (first_place (told above).names ls ∷ p ∷ [])) g ∙ call_spelled b (told above).names ls act m in
+    k ∙ ap (onto_last call) e ∙ ap (λ c. onto_last c (told above).calls) same

@@ -3,7 +3,6 @@ mod AssetsAdded
 mod Begun
 mod CallLines
 mod InputAnswers
-mod KnownTests
 mod LinesAlike
 mod ListsOfLists
 mod NamesAdded

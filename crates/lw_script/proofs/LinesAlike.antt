@@ -1,43 +1,85 @@
--- Reading a line by what the reader knows gives what the grammar gives.
-use Rattle.std.proofs.Common.{◌≡◌, ℕ, List, Result, Ok, Err, refl, ap, subst, ◌∙◌}
+-- Reading a line by what the reader knows gives what the grammar gives below the lines that it has read.
+use Rattle.std.proofs.Common.{◌≡◌, ℕ, ◌+◌, Bool, not, cond, List, [], ◌∷◌, ◌++◌, ℤ, unsigned_abs, Option, Some, None, Result, Ok, Err, refl, ap, subst, ◌∙◌}
+use Rattle.lw_grammar.specs.Told.{and_name, and_names, asks_super, hook_on, after, told}
+use Rattle.lw_grammar.specs.Script.{Setting, lacks_name, gives_again, are_few, is_no_hook, is_used, has_padding, is_unbuilt, words_read, form_read, form_tested, line_read}
 use Rattle.lw_calls.specs.declared.reason.Reason.{Reason}
-use Rattle.lw_grammar.specs.Demands.{◌>>=◌}
-use Rattle.lw_grammar.specs.LineForms.{LineForm}
-use Rattle.lw_grammar.specs.Script.{Setting}
-use Rattle.lw_grammar.specs.ScriptReading.{words_read, form_read, form_tested, line_read}
+use Rattle.lw_calls.specs.declared.reason.Reason.TheVariants.{Range, NoName, DoubleName, Group, TooMany, NoHook, HookUsed, Padding, NotBuilt}
+use Rattle.lw_grammar.specs.Demands.{◌>>=◌, demand}
+use Rattle.lw_grammar.specs.LineForms.{LineForm, GlyphLine, BitmapLine, TaskLine, CallLine, LockLine, UnlockLine, is_line_in_range}
 use Rattle.lw_script.specs.declared.state.Reader.{Reader}
 use Rattle.lw_lines.specs.declared.form.LineForm.{LineForm as Form}
 use Rattle.lw_words.specs.declared.stop.Stop.{Stop}
-use Rattle.lw_lines.specs.SectionMeaning.{section_meaning}
-use Rattle.lw_script.specs.Known.{tested_in}
-use Rattle.lw_lines.specs.LineReading.{Reads, form_read_in}
-use Rattle.lw_script.specs.LineReading.{words_read_in, line_read_in}
-use Rattle.lw_script.specs.ReaderKnows.{known}
-use Rattle.lw_script.specs.Stands.{Stands}
-use Rattle.lw_script.proofs.KnownTests.{tests_alike}
+use Rattle.lw_lines.specs.LineReading.{Reads}
+use Rattle.lw_script.specs.ReaderKnows.{known, setting_of}
+use Rattle.lw_script.specs.Represents.{Represents}
 
--- the form of a line's words
-forms_alike : (s : Setting) (r : Reader) (above : List LineForm) → Stands s r above → (ws : List (List ℕ)) → form_read_in r.form (section_meaning r.section) r.assets.due r.assets.width ws ≡ form_read s above ws
-forms_alike s r above k ws = rw (k.form, k.section, k.assets.due, k.assets.width) refl
+-- A reader that represents lines.
+module _ (s : Setting) (r : Reader) (above : List LineForm) (k : Represents s r above) where
+  -- a line that gives something again
+  again : (f : LineForm) → gives_again (known r) f ≡ gives_again (told above) f
+  again (GlyphLine code rows) = k.assets.given code
+  again (BitmapLine name w h d) = rw k.assets.names refl
+  again (TaskLine name) = rw k.tasks.tasks refl
+  again f = refl
 
--- what is read of words
-words_alike : (s : Setting) (r : Reader) (above : List LineForm) → Stands s r above → (ws : List (List ℕ)) → words_read_in (known r) r.form (section_meaning r.section) r.assets.due ws ≡ (form_read s above ws >>= (λ f. form_tested s above f >>= (λ _. Ok f)))
-words_alike s r above k ws =
-    ap (λ o. o >>= (λ f. tested_in (known r) f >>= (λ _. Ok f))) (forms_alike s r above k ws) ∙ go (form_read s above ws)
-  where
-    go : (o : Result LineForm Reason) → (o >>= (λ f. tested_in (known r) f >>= (λ _. Ok f))) ≡ (o >>= (λ f. form_tested s above f >>= (λ _. Ok f)))
-    go (Ok f) = rw (tests_alike s r above k f) refl
-    go (Err e) = refl
+  -- a hook that is used
+  used : (o : Option ℤ) → is_used (known r).used o ≡ is_used (told above).used o
+  used None = refl
+  used (Some n) = k.tasks.used (unsigned_abs n)
 
--- what is read of a line
-pub lines_alike : (s : Setting) (r : Reader) (above : List LineForm) → Stands s r above → (line : List ℕ) → line_read_in (known r) r.form (section_meaning r.section) r.assets.due line ≡ line_read s above line
-lines_alike s r above k line = go (words_read line)
-  where
-    go : (o : Result (List (List ℕ)) Reason) → (o >>= (λ ws. words_read_in (known r) r.form (section_meaning r.section) r.assets.due ws)) ≡ (o >>= (λ ws. form_read s above ws >>= (λ f. form_tested s above f >>= (λ _. Ok f))))
-    go (Ok ws) = words_alike s r above k ws
-    go (Err e) = refl
+  -- the counts with a further line
+  few : (f : LineForm) → are_few (after f (known r)) ≡ are_few (after f (told above))
+  few f = rw (tasks_are f, bitmaps_are f, names_are f, supers_are f, calls_are f) refl
+    where
+      tasks_are : (f : LineForm) → (after f (known r)).tasks ≡ (after f (told above)).tasks
+      tasks_are (TaskLine n) = ap (λ ts. ts ++ n ∷ []) k.tasks.tasks
+      tasks_are f = k.tasks.tasks
 
--- so the reader reads a line as the grammar does
-pub reads_alike : (s : Setting) (r : Reader) (above : List LineForm) (line : List ℕ) (answer : Result Form Stop) → Stands s r above → Reads answer (line_read_in (known r) r.form (section_meaning r.section) r.assets.due line) → Reads answer (line_read s above line)
-reads_alike s r above line answer k h =
-    let P : Result LineForm Reason → Type 0 = λ o. Reads answer o in subst P (lines_alike s r above k line) h
+      bitmaps_are : (f : LineForm) → (after f (known r)).bitmap_names ≡ (after f (told above)).bitmap_names
+      bitmaps_are (BitmapLine n w h d) = ap (λ ts. ts ++ n ∷ []) k.assets.names
+      bitmaps_are f = k.assets.names
+
+      names_are : (f : LineForm) → (after f (known r)).names ≡ (after f (told above)).names
+      names_are (CallLine layers act) = ap (λ ns. and_names ns layers) k.tasks.names
+      names_are (LockLine name) = ap (λ ns. and_name ns name) k.tasks.names
+      names_are (UnlockLine name) = ap (λ ns. and_name ns name) k.tasks.names
+      names_are f = k.tasks.names
+
+      supers_are : (f : LineForm) → (after f (known r)).supers ≡ (after f (told above)).supers
+      supers_are (CallLine layers act) = ap (λ n. cond (asks_super (CallLine layers act)) 1 0 + n) k.tasks.supers
+      supers_are f = k.tasks.supers
+
+      calls_are : (f : LineForm) → (after f (known r)).so_far ≡ (after f (told above)).so_far
+      calls_are (TaskLine n) = refl
+      calls_are (CallLine layers act) = ap (λ n. n + 1) k.tasks.so_far
+      calls_are f = k.tasks.so_far
+
+  -- the tests of a form
+  tests_alike : (f : LineForm) → form_tested (setting_of r) (known r) f ≡ form_tested s (told above) f
+  tests_alike f =
+      chain _ _ _ _ _ _ _ _ _ _ _ _ _ _ (ap (λ ns. lacks_name ns f) k.assets.names) (again f) (rw (k.tasks.group, k.tasks.began, k.tasks.so_far) refl) (few f) (ap (λ n. is_no_hook n (hook_on f)) k.hooks) (used (hook_on f)) (ap (λ n. has_padding n f) k.assets.width)
+    where
+      chain : (b c d e g h i b' c' d' e' g' h' i' : Bool) → b ≡ b' → c ≡ c' → d ≡ d' → e ≡ e' → g ≡ g' → h ≡ h' → i ≡ i' → (demand (is_line_in_range f) Range >>= (λ _. demand (not b) NoName >>= (λ _. demand (not c) DoubleName >>= (λ _. demand d Group >>= (λ _. demand e TooMany >>= (λ _. demand (not g) NoHook >>= (λ _. demand (not h) HookUsed >>= (λ _. demand (not i) Padding >>= (λ _. demand (not (is_unbuilt f)) NotBuilt))))))))) ≡ (demand (is_line_in_range f) Range >>= (λ _. demand (not b') NoName >>= (λ _. demand (not c') DoubleName >>= (λ _. demand d' Group >>= (λ _. demand e' TooMany >>= (λ _. demand (not g') NoHook >>= (λ _. demand (not h') HookUsed >>= (λ _. demand (not i') Padding >>= (λ _. demand (not (is_unbuilt f)) NotBuilt)))))))))
+      chain b c d e g h i b' c' d' e' g' h' i' q r s t u v w = rw (q, r, s, t, u, v, w) refl
+
+  -- what is read of a line
+  lines_alike : (line : List ℕ) → line_read (setting_of r) (known r) line ≡ line_read s (told above) line
+  lines_alike line = at_words (words_read line)
+    where
+      at_form : (o : Result LineForm Reason) → (o >>= (λ f. form_tested (setting_of r) (known r) f >>= (λ _. Ok f))) ≡ (o >>= (λ f. form_tested s (told above) f >>= (λ _. Ok f)))
+      at_form (Ok f) = rw (tests_alike f) refl
+      at_form (Err e) = refl
+
+      Form_of : Result LineForm Reason → Result LineForm Reason
+      Form_of o = o >>= (λ f. form_tested (setting_of r) (known r) f >>= (λ _. Ok f))
+
+      at_words : (o : Result (List (List ℕ)) Reason) → (o >>= (λ ws. Form_of (form_read r.form (known r).section r.assets.due r.assets.width ws))) ≡ (o >>= (λ ws. form_read s.form (told above).section (told above).rows_due (told above).row_width ws >>= (λ f. form_tested s (told above) f >>= (λ _. Ok f))))
+      at_words (Err e) = refl
+      at_words (Ok ws) =
+          let same : form_read r.form (known r).section r.assets.due r.assets.width ws ≡ form_read s.form (told above).section (told above).rows_due (told above).row_width ws = rw (k.form, k.section, k.assets.due, k.assets.width) refl in
+          ap Form_of same ∙ at_form (form_read s.form (told above).section (told above).rows_due (told above).row_width ws)
+
+  -- so the reader reads a line as the grammar does
+  pub reads_alike : (line : List ℕ) (answer : Result Form Stop) → Reads answer (line_read (setting_of r) (known r) line) → Reads answer (line_read s (told above) line)
+  reads_alike line answer h =
+      let P : Result LineForm Reason → Type 0 = λ o. Reads answer o in subst P (lines_alike line) h

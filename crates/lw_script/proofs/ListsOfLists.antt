@@ -1,7 +1,7 @@
 -- Lists of lists that are kept in vectors.
 use Rattle.std.proofs.Common.{◌≡◌, ℕ, zero, suc, List, [], ◌∷◌, ◌++◌, length, map, get_or, set, ap, arith, ◌∙◌}
 use Rattle.std.proofs.lemmas.List.{map-append}
-use Rattle.lw_grammar.specs.LinesAbove.{onto_last}
+use Rattle.lw_grammar.specs.Told.{onto_last}
 
 -- an empty one put at the end
 pub begun : {A B : Type 0} (f : A → List B) (old new : List A) (a : A) (lists : List (List B)) → map f old ≡ lists → new ≡ old ++ a ∷ [] → f a ≡ [] → map f new ≡ lists ++ [] ∷ []

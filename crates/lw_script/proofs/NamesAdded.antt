@@ -1,7 +1,7 @@
 -- Names that are numbered in the order of their first appearance.
 use Rattle.std.proofs.Common.{◌≡◌, ℕ, ◌+◌, Bool, true, false, not, cond, ◌||◌, List, [], ◌∷◌, ◌++◌, length, map, bytes_eq, eqb, Bor, refl, sym, ap, ◌∙◌, arith}
 use Rattle.std.specs.List.{list_any, position_or_len}
-use Rattle.lw_grammar.specs.LinesAbove.{and_name, and_names, place_among}
+use Rattle.lw_grammar.specs.Told.{and_name, and_names, place_among}
 use Rattle.lw_words.specs.Cuts.{targets}
 use Rattle.lw_words.proofs.Targets.{targets_push, any_target}
 use Rattle.std.proofs.lemmas.Bool.{eqb-true}

@@ -1,7 +1,7 @@
 -- How many names there are with further ones.
 use Rattle.std.proofs.Common.{◌≡◌, ℕ, ◌+◌, Bool, true, false, ◌||◌, List, [], ◌∷◌, ◌++◌, length, bytes_eq, refl, sym, ◌∙◌, arith, length-append}
 use Rattle.std.specs.List.{list_any}
-use Rattle.lw_grammar.specs.LinesAbove.{and_name}
+use Rattle.lw_grammar.specs.Told.{and_name}
 
 -- a test of names with one at the end
 any_push : (p : List ℕ → Bool) (ns : List (List ℕ)) (n : List ℕ) → list_any p (ns ++ n ∷ []) ≡ (list_any p ns || p n)

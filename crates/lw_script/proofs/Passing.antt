@@ -1,12 +1,12 @@
 -- Lines that leave what the reader has read: of glyphs and bitmaps, or of tasks.
-use Rattle.std.proofs.Common.{◌≡◌, ℕ, ◌==◌, Bool, true, false, List, [], ◌∷◌, ◌++◌, Result, Ok, Err, OnOk, ℤ, refl, ap, subst, ◌∙◌, arith}
+use Rattle.std.proofs.Common.{◌≡◌, ℕ, ◌==◌, Bool, true, false, List, ◌∷◌, Result, Ok, Err, OnOk, ℤ, subst, ◌∙◌}
 use Rattle.lw_grammar.specs.LineForms.{LineForm, ScreenLine, GlyphLine, BitmapLine, RowLine, TaskLine, EndLine, OrderLine, NumbersLine, ReportLine, CallLine, LockLine, UnlockLine, HoldLine, ReleaseLine}
-use Rattle.lw_grammar.specs.LinesAbove.{rows_due, bitmaps_with}
+use Rattle.lw_grammar.specs.Told.{told}
 use Rattle.lw_grammar.specs.Script.{Setting}
 use Rattle.lw_script.specs.declared.state.AssetsRead.{AssetsRead}
 use Rattle.lw_script.specs.declared.state.TasksRead.{TasksRead}
 use Rattle.lw_script.specs.declared.state.Reader.{Reader}
-use Rattle.lw_script.specs.Stands.{Stands, AssetsStand, TasksStand, unfinished}
+use Rattle.lw_script.specs.Represents.{Represents, AssetsRepresent, TasksRepresent}
 use Rattle.std.proofs.lemmas.Bool.{eqb-true, false≢true}
 
 -- the line is no glyph, no bitmap and no row
@@ -37,32 +37,28 @@ keeps_section (NumbersLine zs) = false
 keeps_section f = true
 
 -- no row is due
-pub none_due : (s : Setting) (r : Reader) (above : List LineForm) → Stands s r above → (rows_due above == 0) ≡ true → r.assets.due ≡ 0
+pub none_due : (s : Setting) (r : Reader) (above : List LineForm) → Represents s r above → ((told above).rows_due == 0) ≡ true → r.assets.due ≡ 0
 none_due s r above k e = k.assets.due ∙ eqb-true _ _ e
 
--- the bitmaps, where no row is due
-bitmaps_stay : (a : AssetsRead) (above : List LineForm) → a.due ≡ 0 → AssetsStand a above → (rows : List ℕ) → (a.due ≡ 0 → rows ≡ []) → a.bitmaps.items ++ unfinished a rows ≡ bitmaps_with above []
-bitmaps_stay a above d k rows h = ap (λ rs. a.bitmaps.items ++ unfinished a rs) (h d) ∙ k.bitmaps [] (λ e. refl)
-
 -- glyphs and bitmaps below such a line
-pub assets_pass : (a : AssetsRead) (above : List LineForm) (f : LineForm) → leaves_assets f ≡ true → a.due ≡ 0 → AssetsStand a above → AssetsStand a (f ∷ above)
-assets_pass a above (GlyphLine code rows) e d k = absurd (false≢true e)
-assets_pass a above (BitmapLine name w h depth) e d k = absurd (false≢true e)
-assets_pass a above (RowLine bytes) e d k = absurd (false≢true e)
-assets_pass a above f e d k =
+pub assets_pass : (a : AssetsRead) (above : List LineForm) (f : LineForm) → leaves_assets f ≡ true → AssetsRepresent a above → AssetsRepresent a (f ∷ above)
+assets_pass a above (GlyphLine code rows) e k = absurd (false≢true e)
+assets_pass a above (BitmapLine name w h depth) e k = absurd (false≢true e)
+assets_pass a above (RowLine bytes) e k = absurd (false≢true e)
+assets_pass a above f e k =
     record {
       given = k.given;
       glyphs = k.glyphs;
       names = k.names;
       width = k.width;
       narrow = k.narrow;
-      due = d;
+      due = k.due;
       begun = k.begun;
-      bitmaps = bitmaps_stay a above d k;
+      bitmaps = k.bitmaps;
     }
 
 -- tasks below such a line
-pub tasks_pass : (t : TasksRead) (above : List LineForm) (f : LineForm) → leaves_tasks f ≡ true → TasksStand t above → TasksStand t (f ∷ above)
+pub tasks_pass : (t : TasksRead) (above : List LineForm) (f : LineForm) → leaves_tasks f ≡ true → TasksRepresent t above → TasksRepresent t (f ∷ above)
 tasks_pass t above (TaskLine name) e k = absurd (false≢true e)
 tasks_pass t above (CallLine layers act) e k = absurd (false≢true e)
 tasks_pass t above (LockLine name) e k = absurd (false≢true e)
@@ -73,7 +69,7 @@ tasks_pass t above f e k =
     record {
       tasks = k.tasks;
       names = k.names;
-      supers = omega (arith, k.supers);
+      supers = k.supers;
       used = k.used;
       group = k.group;
       began = k.began;
@@ -88,7 +84,7 @@ on_done (Ok a) P Q f h = f h
 on_done (Err e) P Q f h = tt
 
 -- the reader below a line that changes its glyphs and bitmaps alone, or its tasks alone
-pub with_assets : (s : Setting) (r : Reader) (above : List LineForm) (f : LineForm) (a : AssetsRead) → keeps_section f ≡ true → leaves_tasks f ≡ true → Stands s r above → AssetsStand a (f ∷ above) → Stands s (record { hooks = r.hooks; form = r.form; section = r.section; width = r.width; height = r.height; depth = r.depth; assets = a; tasks = r.tasks; order = r.order }) (f ∷ above)
+pub with_assets : (s : Setting) (r : Reader) (above : List LineForm) (f : LineForm) (a : AssetsRead) → keeps_section f ≡ true → leaves_tasks f ≡ true → Represents s r above → AssetsRepresent a (f ∷ above) → Represents s (record { hooks = r.hooks; form = r.form; section = r.section; width = r.width; height = r.height; depth = r.depth; assets = a; tasks = r.tasks; order = r.order }) (f ∷ above)
 with_assets s r above (ScreenLine w h d) a e t k new = absurd (false≢true e)
 with_assets s r above (TaskLine name) a e t k new = absurd (false≢true e)
 with_assets s r above EndLine a e t k new = absurd (false≢true e)
@@ -108,14 +104,14 @@ with_assets s r above f a e t k new =
       order = k.order;
     }
 
-pub with_tasks : (s : Setting) (r : Reader) (above : List LineForm) (f : LineForm) (t : TasksRead) → keeps_section f ≡ true → leaves_assets f ≡ true → r.assets.due ≡ 0 → Stands s r above → TasksStand t (f ∷ above) → Stands s (record { hooks = r.hooks; form = r.form; section = r.section; width = r.width; height = r.height; depth = r.depth; assets = r.assets; tasks = t; order = r.order }) (f ∷ above)
-with_tasks s r above (ScreenLine w h d) t e a due k new = absurd (false≢true e)
-with_tasks s r above (TaskLine name) t e a due k new = absurd (false≢true e)
-with_tasks s r above EndLine t e a due k new = absurd (false≢true e)
-with_tasks s r above OrderLine t e a due k new = absurd (false≢true e)
-with_tasks s r above ReportLine t e a due k new = absurd (false≢true e)
-with_tasks s r above (NumbersLine zs) t e a due k new = absurd (false≢true e)
-with_tasks s r above f t e a due k new =
+pub with_tasks : (s : Setting) (r : Reader) (above : List LineForm) (f : LineForm) (t : TasksRead) → keeps_section f ≡ true → leaves_assets f ≡ true → Represents s r above → TasksRepresent t (f ∷ above) → Represents s (record { hooks = r.hooks; form = r.form; section = r.section; width = r.width; height = r.height; depth = r.depth; assets = r.assets; tasks = t; order = r.order }) (f ∷ above)
+with_tasks s r above (ScreenLine w h d) t e a k new = absurd (false≢true e)
+with_tasks s r above (TaskLine name) t e a k new = absurd (false≢true e)
+with_tasks s r above EndLine t e a k new = absurd (false≢true e)
+with_tasks s r above OrderLine t e a k new = absurd (false≢true e)
+with_tasks s r above ReportLine t e a k new = absurd (false≢true e)
+with_tasks s r above (NumbersLine zs) t e a k new = absurd (false≢true e)
+with_tasks s r above f t e a k new =
     record {
       hooks = k.hooks;
       form = k.form;
@@ -123,22 +119,22 @@ with_tasks s r above f t e a due k new =
       width = k.width;
       height = k.height;
       depth = k.depth;
-      assets = assets_pass r.assets above f a due k.assets;
+      assets = assets_pass r.assets above f a k.assets;
       tasks = new;
       order = k.order;
     }
 
 -- lines of the same numbers
-pub same_screen : (s : Setting) (r : Reader) (above : List LineForm) (w h d w' h' d' : ℤ) → w' ≡ w → h' ≡ h → d' ≡ d → Stands s r (ScreenLine w' h' d' ∷ above) → Stands s r (ScreenLine w h d ∷ above)
+pub same_screen : (s : Setting) (r : Reader) (above : List LineForm) (w h d w' h' d' : ℤ) → w' ≡ w → h' ≡ h → d' ≡ d → Represents s r (ScreenLine w' h' d' ∷ above) → Represents s r (ScreenLine w h d ∷ above)
 same_screen s r above w h d w' h' d' a b c k =
-    let P : ℤ → Type 0 = λ x. Stands s r (ScreenLine x h' d' ∷ above) in
-    let Q : ℤ → Type 0 = λ y. Stands s r (ScreenLine w y d' ∷ above) in
-    let R : ℤ → Type 0 = λ z. Stands s r (ScreenLine w h z ∷ above) in
+    let P : ℤ → Type 0 = λ x. Represents s r (ScreenLine x h' d' ∷ above) in
+    let Q : ℤ → Type 0 = λ y. Represents s r (ScreenLine w y d' ∷ above) in
+    let R : ℤ → Type 0 = λ z. Represents s r (ScreenLine w h z ∷ above) in
     subst R c (subst Q b (subst P a k))
 
-pub same_bitmap : {A E : Type 0} (done : Result A E) (s : Setting) (r : Reader) (above : List LineForm) (name : List ℕ) (w h d w' h' d' : ℤ) → w' ≡ w → h' ≡ h → d' ≡ d → OnOk done (Stands s r (BitmapLine name w' h' d' ∷ above)) → OnOk done (Stands s r (BitmapLine name w h d ∷ above))
+pub same_bitmap : {A E : Type 0} (done : Result A E) (s : Setting) (r : Reader) (above : List LineForm) (name : List ℕ) (w h d w' h' d' : ℤ) → w' ≡ w → h' ≡ h → d' ≡ d → OnOk done (Represents s r (BitmapLine name w' h' d' ∷ above)) → OnOk done (Represents s r (BitmapLine name w h d ∷ above))
 same_bitmap done s r above name w h d w' h' d' a b c k =
-    let P : ℤ → Type 0 = λ x. OnOk done (Stands s r (BitmapLine name x h' d' ∷ above)) in
-    let Q : ℤ → Type 0 = λ y. OnOk done (Stands s r (BitmapLine name w y d' ∷ above)) in
-    let R : ℤ → Type 0 = λ z. OnOk done (Stands s r (BitmapLine name w h z ∷ above)) in
+    let P : ℤ → Type 0 = λ x. OnOk done (Represents s r (BitmapLine name x h' d' ∷ above)) in
+    let Q : ℤ → Type 0 = λ y. OnOk done (Represents s r (BitmapLine name w y d' ∷ above)) in
+    let R : ℤ → Type 0 = λ z. OnOk done (Represents s r (BitmapLine name w h z ∷ above)) in
     subst R c (subst Q b (subst P a k))

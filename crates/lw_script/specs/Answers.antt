@@ -1,16 +1,16 @@
 -- What reading lines answers, and what reading a script answers.
-use Rattle.std.specs.Prelude.{◌≡◌, ℕ, if◌then◌else◌, List, ◌∷◌, Result, Ok, Err}
+use Rattle.std.specs.Prelude.{◌≡◌, ℕ, List, ◌∷◌, Result, Ok, Err}
 use Rattle.lw_calls.specs.declared.form.Form.{Form}
 use Rattle.lw_calls.specs.declared.reason.Reason.{Reason}
 use Rattle.lw_grammar.specs.Demands.{◌>>=◌}
 use Rattle.lw_grammar.specs.LineForms.{LineForm}
-use Rattle.lw_grammar.specs.Script.{Setting, ScriptInput, is_skipped}
-use Rattle.lw_grammar.specs.ScriptReading.{line_read, input_from}
+use Rattle.lw_grammar.specs.Told.{told}
+use Rattle.lw_grammar.specs.Script.{Setting, Reached, end_read, ScriptInput, input_from}
 use Rattle.lw_script.specs.declared.input.Input.{Input}
 use Rattle.lw_script.specs.declared.input.ScriptStop.{ScriptStop}
 use Rattle.lw_script.specs.declared.input.ScriptStop.TheVariants.{Refused, Memory}
 use Rattle.lw_script.specs.declared.state.Reader.{Reader}
-use Rattle.lw_script.specs.Stands.{Stands}
+use Rattle.lw_script.specs.Represents.{Represents}
 
 -- how a script is read, where so many hooks are handed in
 abbrev pub reading_with : ℕ → Form → Setting
@@ -20,31 +20,31 @@ reading_with hooks form = record { hooks = hooks; form = form }
 abbrev pub input_meaning : Input → ScriptInput
 input_meaning i = record { plan = i.plan; order = i.order; rest = i.rest }
 
--- After a line below lines of these forms the reader stands for one form more, which is what the grammar gives; or the
+-- After a line below lines of these forms the reader represents one form more, which is what the grammar gives; or the
 -- line's number is told with the grammar's reason; or memory ran out.
 abbrev pub Takes : Setting → Reader → List LineForm → ℕ → Result (Unit {0}) ScriptStop → Result LineForm Reason → Type 0
-Takes s new above n (Ok done) r = (form : LineForm) × (r ≡ Ok form) × Stands s new (form ∷ above)
+Takes s new above n (Ok done) r = (form : LineForm) × (r ≡ Ok form) × Represents s new (form ∷ above)
 Takes s new above n (Err (Refused line reason)) r = (line ≡ n) × (r ≡ Err reason)
 Takes s new above n (Err Memory) r = Unit {0}
 
--- the forms of lines with that of a further line, unless it is skipped; or its first reason
-abbrev pub forms_with : Setting → List LineForm → List ℕ → Result (List LineForm) Reason
-forms_with s above line =
-    if is_skipped line then Ok above else (line_read s above line >>= (λ form. Ok (form ∷ above)))
-
--- After a further line, skipped or not, the reader stands for the forms of the lines with it; or the line's number is told
+-- After a further line, skipped or not, the reader represents the forms of the lines with it; or the line's number is told
 -- with the grammar's reason; or memory ran out.
 abbrev pub Advances : Setting → Reader → ℕ → Result (Unit {0}) ScriptStop → Result (List LineForm) Reason → Type 0
-Advances s new n (Ok done) r = (forms : List LineForm) × (r ≡ Ok forms) × Stands s new forms
+Advances s new n (Ok done) r = (forms : List LineForm) × (r ≡ Ok forms) × Represents s new forms
 Advances s new n (Err (Refused line reason)) r = (line ≡ n) × (r ≡ Err reason)
 Advances s new n (Err Memory) r = Unit {0}
 
--- The input is that of the forms of the lines, with this place behind them; or the refusal is that of the lines; or memory
--- ran out.
-abbrev pub Gives : Setting → ℕ → Result Input ScriptStop → Result (List LineForm) (ℕ × Reason) → Type 0
-Gives s place (Ok input) o = (forms : List LineForm) × (o ≡ Ok forms) × (input_meaning input ≡ input_from s forms place)
-Gives s place (Err (Refused line reason)) o = o ≡ Err (line, reason)
-Gives s place (Err Memory) o = Unit {0}
+-- The answer is the outcome, unless memory ran out.
+abbrev pub Gives : Result Input ScriptStop → Result ScriptInput (ℕ × Reason) → Type 0
+Gives (Ok input) o = o ≡ Ok (input_meaning input)
+Gives (Err (Refused line reason)) o = o ≡ Err (line, reason)
+Gives (Err Memory) o = Unit {0}
+
+-- the outcome at the end of the lines, where what stands behind them has this place
+abbrev pub ended_with : Setting → ℕ → Reached → Result ScriptInput (ℕ × Reason)
+ended_with s place p = do
+  q ← end_read s p
+  Ok (input_from s (told q.forms) place)
 
 -- The answer is this input, and the answer is this refusal, unless memory ran out.
 abbrev pub GivesInput : ScriptInput → Result Input ScriptStop → Type 0

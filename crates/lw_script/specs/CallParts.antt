@@ -1,7 +1,7 @@
 -- What the line of a call tells of the layers and hooks that it names.
-use Rattle.std.specs.Prelude.{◌≡◌, ℕ, ◌==◌, List, [], ◌∷◌}
+use Rattle.std.specs.Prelude.{◌≡◌, ℕ, ◌==◌, Bool, List, [], ◌∷◌}
 use Rattle.std.specs.List.{list_any}
-use Rattle.lw_grammar.specs.LinesAbove.{and_name, place_among}
+use Rattle.lw_grammar.specs.Told.{and_name, place_among}
 
 -- the number of the first layer that a line names, below lines that name these, and 0 where it names none
 abbrev pub first_place : List (List ℕ) → List (List ℕ) → ℕ
@@ -13,6 +13,6 @@ abbrev pub second_place : List (List ℕ) → List (List ℕ) → ℕ
 second_place names (l ∷ m ∷ layers) = place_among (and_name names l) m
 second_place names layers = 0
 
--- the hooks that were noted are those of the lines
-abbrev pub AreNoted : List ℕ → List ℕ → Type 0
-AreNoted noted hooks = (n : ℕ) → list_any (λ m. n == m) noted ≡ list_any (λ m. m == n) hooks
+-- the hooks that were noted are those that are named
+abbrev pub AreNoted : List ℕ → (ℕ → Bool) → Type 0
+AreNoted noted named = (n : ℕ) → list_any (λ m. n == m) noted ≡ named n

@@ -1,7 +1,5 @@
 pub mod Answers
 pub mod CallParts
-pub mod Known
-pub mod LineReading
 pub mod NextLine
 pub mod ReaderKnows
-pub mod Stands
+pub mod Represents

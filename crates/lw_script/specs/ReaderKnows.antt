@@ -1,23 +1,40 @@
--- What the reader knows of the lines that it has read.
-use Rattle.std.specs.Prelude.{◌==◌, nat_lt, get_or, false, option_map}
+-- What the reader knows of the lines that it has read, as far as the rule of a line asks.
+use Rattle.std.specs.Prelude.{ℕ, ◌==◌, get_or, false, List, option_map, Result, Ok}
 use Rattle.std.specs.List.{list_any}
+use Rattle.lw_calls.specs.declared.reason.Reason.{Reason}
+use Rattle.lw_grammar.specs.Demands.{◌>>=◌}
+use Rattle.lw_grammar.specs.LineForms.{LineForm}
+use Rattle.lw_grammar.specs.Told.{Told, nothing_told}
+use Rattle.lw_grammar.specs.Script.{Setting, form_read, form_tested}
 use Rattle.lw_script.specs.declared.state.Reader.{Reader}
 use Rattle.lw_words.specs.Cuts.{targets}
 use Rattle.lw_lines.specs.GroupMeaning.{opened_meaning}
-use Rattle.lw_script.specs.Known.{Known}
+use Rattle.lw_lines.specs.SectionMeaning.{section_meaning}
 
-abbrev pub known : Reader → Known
+abbrev pub known : Reader → Told
 known r =
-    record {
-      hooks = r.hooks;
-      bitmaps = targets r.assets.names.keys;
+    record nothing_told {
+      section = section_meaning r.section;
+      given = λ code. get_or r.assets.given code false;
+      bitmap_names = targets r.assets.names.keys;
+      row_width = r.assets.width;
+      rows_due = r.assets.due;
       tasks = targets r.tasks.task_names.keys;
       names = targets r.tasks.layer_names.keys;
-      given = λ code. get_or r.assets.given code false;
-      group = option_map opened_meaning r.tasks.group;
-      some = nat_lt r.tasks.began r.tasks.so_far;
       supers = r.tasks.supers;
-      so_far = r.tasks.so_far;
       used = λ n. list_any (λ m. n == m) r.tasks.used.keys;
-      width = r.assets.width;
+      group = option_map opened_meaning r.tasks.group;
+      began = r.tasks.began;
+      so_far = r.tasks.so_far;
     }
+
+-- what it reads a script with
+abbrev pub setting_of : Reader → Setting
+setting_of r = record { hooks = r.hooks; form = r.form }
+
+-- the form of a line of these words, by what the reader knows, or its first reason
+abbrev pub words_known : Reader → List (List ℕ) → Result LineForm Reason
+words_known r ws = do
+  form ← form_read r.form (section_meaning r.section) r.assets.due r.assets.width ws
+  _ ← form_tested (setting_of r) (known r) form
+  Ok form

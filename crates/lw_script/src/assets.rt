@@ -6,7 +6,7 @@ ghost use Rattle.lw_planes.specs.Bitmap.{row_bytes};
 ghost use Rattle.lw_grammar.specs.LineForms.{LineForm as FormValue, GlyphLine, BitmapLine, RowLine};
 ghost use Rattle.lw_words.specs.Cuts.{targets};
 ghost use Rattle.lw_words.specs.Digits.{decoded};
-ghost use Rattle.lw_script.specs.Stands.{AssetsStand, IsBitmapBegun};
+ghost use Rattle.lw_script.specs.Represents.{AssetsRepresent, IsBitmapBegun};
 
 use crate::state::AssetsRead;
 use lw_lines::size;
@@ -43,8 +43,8 @@ impl<'a> AssetsRead<'a> {
         requires code { (32 ≤ code) × (code ≤ 126) }
         requires rows { length (decoded digits.now.digits.now) ≡ 8 }
         requires due { self.old.due ≡ 0 }
-        ensures { (above : List FormValue) → AssetsStand self.old above
-            → AssetsStand self.new (GlyphLine code (decoded digits.now.digits.now) ∷ above) }
+        ensures { (above : List FormValue) → AssetsRepresent self.old above
+            → AssetsRepresent self.new (GlyphLine code (decoded digits.now.digits.now) ∷ above) }
     {
         self.given[code as usize] = true;
         self.glyphs[code as usize - 32] = glyph_of(digits);
@@ -64,8 +64,8 @@ impl<'a> AssetsRead<'a> {
         requires depth { IsTrue (within (pos 1) depth (pos 8)) }
         requires due { self.old.due ≡ 0 }
         requires new { list_any (bytes_eq name.now) (targets self.old.names.keys) ≡ false }
-        ensures { (above : List FormValue) → AssetsStand self.old above
-            → OnOk result (AssetsStand self.new (BitmapLine name.entry.now width height depth ∷ above)) }
+        ensures { (above : List FormValue) → AssetsRepresent self.old above
+            → OnOk result (AssetsRepresent self.new (BitmapLine name.entry.now width height depth ∷ above)) }
     {
         self.names.insert(name)?;
         self.width = size(width);
@@ -81,8 +81,8 @@ impl<'a> AssetsRead<'a> {
         requires due { 0 < self.old.due }
         requires begun { IsBitmapBegun self.old }
         requires long { length (decoded digits.now.digits.now) ≡ row_bytes self.old.width }
-        ensures { (above : List FormValue) → AssetsStand self.old above
-            → OnOk result (AssetsStand self.new (RowLine (decoded digits.now.digits.now) ∷ above)) }
+        ensures { (above : List FormValue) → AssetsRepresent self.old above
+            → OnOk result (AssetsRepresent self.new (RowLine (decoded digits.now.digits.now) ∷ above)) }
     {
         push_bytes(&mut self.rows, digits)?;
         self.due -= 1;

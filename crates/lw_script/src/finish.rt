@@ -2,13 +2,12 @@
 ghost use Rattle.std.specs.Prelude.{◌≡◌, ℕ, ◌<◌, IfOk, IsTrue, List, [], map, get_or};
 ghost use Rattle.std.specs.List.{range_with_len};
 ghost use Rattle.lw_grammar.specs.LineForms.{LineForm as FormValue};
-ghost use Rattle.lw_grammar.specs.LinesAbove.{plan_above};
-ghost use Rattle.lw_grammar.specs.Script.{Setting};
-ghost use Rattle.lw_grammar.specs.ScriptReading.{outcome_of, input_from};
+ghost use Rattle.lw_grammar.specs.Told.{told, plan_of};
+ghost use Rattle.lw_grammar.specs.Script.{Setting, Reached, may_end, input_from};
 ghost use Rattle.lw_words.specs.Cuts.{targets};
-ghost use Rattle.lw_lines.specs.SectionMeaning.{section_meaning, may_end};
-ghost use Rattle.lw_script.specs.Stands.{Stands, HasRead};
-ghost use Rattle.lw_script.specs.Answers.{input_meaning, Gives};
+ghost use Rattle.lw_lines.specs.SectionMeaning.{section_meaning};
+ghost use Rattle.lw_script.specs.Represents.{Represents, HasRead};
+ghost use Rattle.lw_script.specs.Answers.{input_meaning, Gives, ended_with};
 
 use crate::input::{Input, ScriptStop};
 use crate::state::{AssetsRead, Reader, TasksRead};
@@ -40,8 +39,8 @@ impl<'a> Reader<'a> {
     /// The sizes of the lines that were read.
     fn sizes(&self) -> Sizes
         requires { HasRead self.now }
-        ensures { (s : Setting) (above : List FormValue) → Stands s self.now above
-            → result ≡ (plan_above s.hooks above).sizes }
+        ensures { (s : Setting) (above : List FormValue) → Represents s self.now above
+            → result ≡ (plan_of s.hooks (told above)).sizes }
     {
         Sizes {
             version: 1,
@@ -59,8 +58,8 @@ impl<'a> Reader<'a> {
     fn input(self, alloc: Global, rest: usize) -> Result<Input, AllocError>
         requires read { HasRead self }
         requires ended { IsTrue (may_end self.form (section_meaning self.section)) }
-        ensures { (s : Setting) (above : List FormValue) → Stands s self.entry above
-            → IfOk result (λ input. input_meaning input ≡ input_from s above rest) }
+        ensures { (s : Setting) (above : List FormValue) → Represents s self.entry above
+            → IfOk result (λ input. input_meaning input ≡ input_from s (told above) rest) }
     {
         let sizes = self.sizes();
         let slot_names = texts_of(alloc, self.tasks.layer_names.as_slice())?;
@@ -98,8 +97,8 @@ impl<'a> Reader<'a> {
     /// `rest`.
     pub fn finish(self, alloc: Global, number: u32, rest: usize) -> Result<Input, ScriptStop>
         requires { HasRead self }
-        ensures { (s : Setting) (above : List FormValue) → Stands s self.entry above
-            → Gives s rest result (outcome_of s number above []) }
+        ensures { (s : Setting) (p : Reached) → p.number ≡ number → Represents s self.entry p.forms
+            → Gives result (ended_with s rest p) }
     {
         if !self.section.may_end(self.form) {
             return Err(ScriptStop::Refused {

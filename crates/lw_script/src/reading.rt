@@ -1,14 +1,12 @@
 //! The form of a line below those read so far.
 ghost use Rattle.std.specs.Prelude.{◌≤◌, List};
 ghost use Rattle.lw_grammar.specs.LineForms.{LineForm as FormValue};
-ghost use Rattle.lw_grammar.specs.Script.{Setting};
-ghost use Rattle.lw_grammar.specs.ScriptReading.{line_read};
+ghost use Rattle.lw_grammar.specs.Told.{told};
+ghost use Rattle.lw_grammar.specs.Script.{Setting, line_read};
 ghost use Rattle.lw_words.specs.Cuts.{targets};
-ghost use Rattle.lw_lines.specs.SectionMeaning.{section_meaning};
 ghost use Rattle.lw_lines.specs.LineReading.{Reads};
-ghost use Rattle.lw_script.specs.LineReading.{words_read_in, line_read_in};
-ghost use Rattle.lw_script.specs.ReaderKnows.{known};
-ghost use Rattle.lw_script.specs.Stands.{Stands};
+ghost use Rattle.lw_script.specs.ReaderKnows.{known, setting_of, words_known};
+ghost use Rattle.lw_script.specs.Represents.{Represents};
 
 use crate::state::Reader;
 use lw_lines::{LineForm, words_form};
@@ -19,7 +17,7 @@ impl<'a> Reader<'a> {
     /// The form of a line of these words, or its first reason.
     fn words_line(&self, alloc: Global, words: &[&'a [u8]]) -> Result<LineForm<'a>, Stop>
         requires { self.now.assets.width ≤ 1024 }
-        ensures { Reads result (words_read_in (known self.now) self.now.form (section_meaning self.now.section) self.now.assets.due (targets words.now)) }
+        ensures { Reads result (words_known self.now (targets words.now)) }
     {
         let due = self.assets.due;
         match words_form(
@@ -41,7 +39,7 @@ impl<'a> Reader<'a> {
     /// The form of a line that isn't passed, or its first reason.
     fn line(&self, alloc: Global, line: &'a [u8]) -> Result<LineForm<'a>, Stop>
         requires { self.now.assets.width ≤ 1024 }
-        ensures { Reads result (line_read_in (known self.now) self.now.form (section_meaning self.now.section) self.now.assets.due line.now) }
+        ensures { Reads result (line_read (setting_of self.now) (known self.now) line.now) }
     {
         match line_words(alloc, line) {
             Err(stop) => Err(stop),
@@ -52,7 +50,7 @@ impl<'a> Reader<'a> {
     /// The form of a line that isn't passed, below the lines that were read, or its first reason.
     pub fn read_line(&self, alloc: Global, line: &'a [u8]) -> Result<LineForm<'a>, Stop>
         requires { self.now.assets.width ≤ 1024 }
-        ensures { (s : Setting) (above : List FormValue) → Stands s self.now above → Reads result (line_read s above line.now) }
+        ensures { (s : Setting) (above : List FormValue) → Represents s self.now above → Reads result (line_read s (told above) line.now) }
     {
         self.line(alloc, line)
     }

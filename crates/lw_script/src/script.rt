@@ -1,9 +1,8 @@
 //! Reads a script from its first line to its last.
-ghost use Rattle.std.specs.Prelude.{◌≡◌, ◌<◌, ℕ, IfOk, Err, [], length, min};
+ghost use Rattle.std.specs.Prelude.{◌≡◌, ◌<◌, ℕ, IfOk, Err, length};
 ghost use Rattle.lw_calls.specs.declared.reason.Reason.{Reason as ReasonValue};
 ghost use Rattle.lw_grammar.specs.Lines.{lines};
-ghost use Rattle.lw_grammar.specs.Script.{ScriptInput, SpellsInput, IsFirstBadIn, IsRunnableInput, bytes_through};
-ghost use Rattle.lw_grammar.specs.ScriptReading.{outcome_of};
+ghost use Rattle.lw_grammar.specs.Script.{ScriptInput, outcome_of, SpellsInput, IsFirstBadIn, IsRunnableInput};
 ghost use Rattle.lw_script.specs.Answers.{reading_with, input_meaning, Gives, GivesInput, RefusesAt};
 
 use crate::input::{Input, ScriptStop};
@@ -14,8 +13,7 @@ use std::alloc::Global;
 /// Reads the lines one after another, up to a line `report` if there is one.
 fn read_lines(alloc: Global, bytes: &[u8], hooks: u32, form: Form) -> Result<Input, ScriptStop>
     requires { length bytes.now < 4294967295 }
-    ensures { Gives (reading_with hooks form) (min (length bytes.now) (bytes_through [] (lines bytes.now))) result
-        (outcome_of (reading_with hooks form) 1 [] (lines bytes.now)) }
+    ensures { Gives result (outcome_of (reading_with hooks form) bytes.now) }
 {
     let mut reader = Reader::new(alloc, hooks, form);
     let mut rest = bytes;

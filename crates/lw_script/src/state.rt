@@ -1,7 +1,7 @@
 //! What was read of a script so far.
 ghost use Rattle.std.specs.Prelude.{◌≡◌, ◌≤◌, ◌==◌, [], length, bytes_eq};
 ghost use Rattle.std.specs.List.{list_any};
-ghost use Rattle.lw_grammar.specs.LinesAbove.{place_among};
+ghost use Rattle.lw_grammar.specs.Told.{place_among};
 ghost use Rattle.lw_words.specs.Cuts.{targets};
 
 use indexmap::IndexSet;
@@ -68,11 +68,11 @@ pub struct Reader<'a> {
 
 impl<'a> Reader<'a> {
     ghost use Rattle.lw_script.specs.Answers.{reading_with};
-    ghost use Rattle.lw_script.specs.Stands.{Stands};
+    ghost use Rattle.lw_script.specs.Represents.{Represents};
 
     /// Nothing was read of a script that is read with so many hooks in this input.
     pub fn new(alloc: Global, hooks: u32, form: Form) -> Reader<'a>
-        ensures { Stands (reading_with hooks form) result [] }
+        ensures { Represents (reading_with hooks form) result [] }
     {
         Reader {
             hooks,

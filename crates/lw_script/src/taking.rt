@@ -1,11 +1,11 @@
 //! A line taken from the bytes that are left.
 ghost use Rattle.std.specs.Prelude.{List};
 ghost use Rattle.lw_grammar.specs.LineForms.{LineForm as FormValue};
-ghost use Rattle.lw_grammar.specs.Script.{Setting, is_nothing_due};
-ghost use Rattle.lw_grammar.specs.ScriptReading.{line_read};
+ghost use Rattle.lw_grammar.specs.Told.{told};
+ghost use Rattle.lw_grammar.specs.Script.{Setting, is_nothing_due, line_read, forms_with};
 ghost use Rattle.lw_lines.specs.SectionMeaning.{section_meaning};
-ghost use Rattle.lw_script.specs.Stands.{Stands, HasRead};
-ghost use Rattle.lw_script.specs.Answers.{Takes, forms_with, Advances};
+ghost use Rattle.lw_script.specs.Represents.{Represents, HasRead};
+ghost use Rattle.lw_script.specs.Answers.{Takes, Advances};
 ghost use Rattle.lw_script.specs.NextLine.{CutsDue};
 
 use crate::input::ScriptStop;
@@ -17,8 +17,8 @@ impl<'a> Reader<'a> {
     /// Reads a line that isn't passed, and adds it.
     pub fn take(&mut self, alloc: Global, number: u32, line: &'a [u8]) -> Result<(), ScriptStop>
         requires { HasRead self.old }
-        ensures { (s : Setting) (above : List FormValue) → Stands s self.old above
-            → Takes s self.new above number result (line_read s above line.entry.now) }
+        ensures { (s : Setting) (above : List FormValue) → Represents s self.old above
+            → Takes s self.new above number result (line_read s (told above) line.entry.now) }
     {
         match self.read_line(alloc, line) {
             Err(Stop::Refused(reason)) => Err(ScriptStop::Refused {
@@ -38,7 +38,7 @@ impl<'a> Reader<'a> {
         line: &'a [u8],
     ) -> Result<(), ScriptStop>
         requires { HasRead self.old }
-        ensures { (s : Setting) (above : List FormValue) → Stands s self.old above
+        ensures { (s : Setting) (above : List FormValue) → Represents s self.old above
             → Advances s self.new number result (forms_with s above line.entry.now) }
     {
         if is_skipped(line) {

@@ -1,15 +1,15 @@
 //! Tasks, groups and calls added to those that were read.
-ghost use Rattle.std.specs.Prelude.{◌≡◌, ℕ, ◌+◌, ◌<◌, ◌≤◌, false, if◌then◌else◌, IsTrue, IfOk, OnOk, List, ◌∷◌, length, map, option_map, bytes_eq};
+ghost use Rattle.std.specs.Prelude.{Bool, ◌≡◌, ℕ, ◌+◌, ◌<◌, ◌≤◌, false, if◌then◌else◌, IsTrue, IfOk, OnOk, List, ◌∷◌, length, map, option_map, bytes_eq};
 ghost use Rattle.std.specs.List.{list_any};
 ghost use Rattle.lw_grammar.specs.LineForms.{LineForm as FormValue, TaskLine, LockLine, UnlockLine, HoldLine, ReleaseLine, CallLine, layers_of, is_hook_number, is_act_in_range};
-ghost use Rattle.lw_grammar.specs.LinesAbove.{bitmaps_above, and_name, and_names, place_among, asks_super, listed, opened_by, calls_so_far, began_at, onto_last};
+ghost use Rattle.lw_grammar.specs.Told.{and_name, and_names, place_among, onto_last, asks_super, and_hook, opened_by, told};
 ghost use Rattle.lw_grammar.specs.Script.{is_ending};
 ghost use Rattle.lw_words.specs.Cuts.{targets};
 ghost use Rattle.lw_lines.specs.FormMeaning.{act_meaning, layers_meaning};
 ghost use Rattle.lw_lines.specs.CallMeaning.{bitmap_place};
 ghost use Rattle.lw_lines.specs.GroupMeaning.{opened_meaning};
 ghost use Rattle.lw_script.specs.CallParts.{first_place, second_place, AreNoted};
-ghost use Rattle.lw_script.specs.Stands.{TasksStand};
+ghost use Rattle.lw_script.specs.Represents.{TasksRepresent};
 
 use crate::state::TasksRead;
 use indexmap::IndexSet;
@@ -64,7 +64,7 @@ fn slots_of<'a>(
 /// Notes the hook that a line names.
 fn note_hook(used: &mut IndexSet<u32>, number: Option<i64>) -> Result<(), AllocError>
     requires { IsTrue (is_hook_number number) }
-    ensures { (hooks : List ℕ) → AreNoted used.old.keys hooks → OnOk result (AreNoted used.new.keys (listed number hooks)) }
+    ensures { (named : ℕ → Bool) → AreNoted used.old.keys named → OnOk result (AreNoted used.new.keys (and_hook number named)) }
 {
     if let Some(number) = number {
         used.insert(hook(number))?;
@@ -108,8 +108,8 @@ fn group_below<'a>(
 
 /// How many calls a task had when the group began that is open below a call.
 fn began_below(began: u32, so_far: u32, act: &Act<'_>) -> u32
-    ensures { (above : List FormValue) → began ≡ began_at above → so_far ≡ calls_so_far above
-        → (layers : List (List ℕ)) → result ≡ began_at (CallLine layers (act_meaning act.now) ∷ above) }
+    ensures { (above : List FormValue) → began ≡ (told above).began → so_far ≡ (told above).so_far
+        → (layers : List (List ℕ)) → result ≡ (told (CallLine layers (act_meaning act.now) ∷ above)).began }
 {
     match act {
         Act::Bare(BareAct::Refresh) => so_far,
@@ -121,8 +121,8 @@ impl<'a> TasksRead<'a> {
     /// Begins a task.
     pub(crate) fn add_task(&mut self, alloc: Global, name: &'a [u8]) -> Result<(), AllocError>
         requires new { list_any (bytes_eq name.now) (targets self.old.task_names.keys) ≡ false }
-        ensures { (above : List FormValue) → TasksStand self.old above
-            → OnOk result (TasksStand self.new (TaskLine name.entry.now ∷ above)) }
+        ensures { (above : List FormValue) → TasksRepresent self.old above
+            → OnOk result (TasksRepresent self.new (TaskLine name.entry.now ∷ above)) }
     {
         self.task_names.insert(name)?;
         self.calls.push(Vec::new(alloc))?;
@@ -134,8 +134,8 @@ impl<'a> TasksRead<'a> {
     /// Begins a lock on a layer.
     pub(crate) fn add_lock(&mut self, name: &'a [u8]) -> Result<(), AllocError>
         requires few { length self.old.layer_names.keys ≤ 64 }
-        ensures { (above : List FormValue) → TasksStand self.old above
-            → OnOk result (TasksStand self.new (LockLine name.entry.now ∷ above)) }
+        ensures { (above : List FormValue) → TasksRepresent self.old above
+            → OnOk result (TasksRepresent self.new (LockLine name.entry.now ∷ above)) }
     {
         numbered(&mut self.layer_names, name)?;
         self.group = Some(Opened::Locked(name));
@@ -145,7 +145,7 @@ impl<'a> TasksRead<'a> {
 
     /// Begins a hold.
     pub(crate) fn add_hold(&mut self)
-        ensures { (above : List FormValue) → TasksStand self.old above → TasksStand self.new (HoldLine ∷ above) }
+        ensures { (above : List FormValue) → TasksRepresent self.old above → TasksRepresent self.new (HoldLine ∷ above) }
     {
         self.group = Some(Opened::Held);
         self.began = self.so_far;
@@ -155,8 +155,8 @@ impl<'a> TasksRead<'a> {
     pub(crate) fn add_unlock(&mut self, name: &'a [u8]) -> Result<(), AllocError>
         requires few { length self.old.layer_names.keys ≤ 64 }
         requires some { 0 < self.old.so_far }
-        ensures { (above : List FormValue) → TasksStand self.old above
-            → OnOk result (TasksStand self.new (UnlockLine name.entry.now ∷ above)) }
+        ensures { (above : List FormValue) → TasksRepresent self.old above
+            → OnOk result (TasksRepresent self.new (UnlockLine name.entry.now ∷ above)) }
     {
         let slot = numbered(&mut self.layer_names, name)?;
         let group = Group {
@@ -172,8 +172,8 @@ impl<'a> TasksRead<'a> {
     /// Ends a hold, which has calls.
     pub(crate) fn add_release(&mut self) -> Result<(), AllocError>
         requires some { 0 < self.old.so_far }
-        ensures { (above : List FormValue) → TasksStand self.old above
-            → OnOk result (TasksStand self.new (ReleaseLine ∷ above)) }
+        ensures { (above : List FormValue) → TasksRepresent self.old above
+            → OnOk result (TasksRepresent self.new (ReleaseLine ∷ above)) }
     {
         let group = Group {
             first: self.began,
@@ -198,9 +198,9 @@ impl<'a> TasksRead<'a> {
         requires few { length self.old.layer_names.keys ≤ 64 }
         requires room { self.old.so_far < 4096 }
         requires supers { self.old.supers ≤ 16 }
-        ensures { (above : List FormValue) → bitmap ≡ bitmap_place (bitmaps_above above) (act_meaning act.entry)
-            → TasksStand self.old above
-            → OnOk result (TasksStand self.new (CallLine (layers_meaning layers.entry) (act_meaning act.entry) ∷ above)) }
+        ensures { (above : List FormValue) → bitmap ≡ bitmap_place (told above).bitmap_names (act_meaning act.entry)
+            → TasksRepresent self.old above
+            → OnOk result (TasksRepresent self.new (CallLine (layers_meaning layers.entry) (act_meaning act.entry) ∷ above)) }
     {
         let (slot, other) = slots_of(&mut self.layer_names, layers)?;
         let call = act.call(alloc, bitmap, slot, other)?;

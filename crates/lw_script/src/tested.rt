@@ -1,12 +1,11 @@
 //! The tests of a line's form by what was read so far.
-ghost use Rattle.std.specs.Prelude.{◌≡◌, nat_le, length, IsTrue};
+ghost use Rattle.std.specs.Prelude.{◌≡◌, nat_le, nat_lt, length, IsTrue};
 ghost use Rattle.lw_calls.specs.Limits.{call_limit};
 ghost use Rattle.lw_grammar.specs.LineForms.{is_line_in_range};
-ghost use Rattle.lw_grammar.specs.LinesAbove.{and_name, hook_on};
-ghost use Rattle.lw_grammar.specs.Script.{lacks_name, super_limit, fits_group, is_no_hook, has_padding};
+ghost use Rattle.lw_grammar.specs.Told.{and_name, hook_on, after};
+ghost use Rattle.lw_grammar.specs.Script.{lacks_name, gives_again, fits_group, super_limit, are_few, is_no_hook, is_used, has_padding, is_unbuilt, form_tested};
 ghost use Rattle.lw_lines.specs.FormMeaning.{form_meaning};
-ghost use Rattle.lw_script.specs.Known.{gives_again_in, tasks_with, bitmaps_with, calls_with, supers_with, names_with, are_few_in, is_used_in, is_unbuilt_in, tested_in};
-ghost use Rattle.lw_script.specs.ReaderKnows.{known};
+ghost use Rattle.lw_script.specs.ReaderKnows.{known, setting_of};
 
 use crate::state::{Reader, has_hook, has_name};
 use lw_calls::Reason;
@@ -27,7 +26,7 @@ const CALL_LIMIT: u32 = 4096;
 impl<'a> Reader<'a> {
     /// Whether the bitmap that the line names doesn't stand above.
     fn lacks_name(&self, form: &LineForm<'a>) -> bool
-        ensures { result ≡ lacks_name (known self.now).bitmaps (form_meaning form.now) }
+        ensures { result ≡ lacks_name (known self.now).bitmap_names (form_meaning form.now) }
     {
         match form {
             LineForm::Call {
@@ -40,7 +39,7 @@ impl<'a> Reader<'a> {
 
     /// Whether the line gives a bitmap, a task or a code again.
     fn gives_again(&self, form: &LineForm<'a>) -> bool
-        ensures { result ≡ gives_again_in (known self.now) (form_meaning form.now) }
+        ensures { result ≡ gives_again (known self.now) (form_meaning form.now) }
     {
         match form {
             LineForm::Glyph { code, .. } => self.assets.given[*code as usize],
@@ -52,7 +51,7 @@ impl<'a> Reader<'a> {
 
     /// How many tasks there are with the line.
     fn tasks_with(&self, form: &LineForm<'a>) -> usize
-        ensures { result ≡ tasks_with (known self.now) (form_meaning form.now) }
+        ensures { result ≡ length (after (form_meaning form.now) (known self.now)).tasks }
     {
         match form {
             LineForm::Task(_) => self.tasks.task_names.len() + 1,
@@ -62,7 +61,7 @@ impl<'a> Reader<'a> {
 
     /// How many bitmaps there are with the line.
     fn bitmaps_with(&self, form: &LineForm<'a>) -> usize
-        ensures { result ≡ bitmaps_with (known self.now) (form_meaning form.now) }
+        ensures { result ≡ length (after (form_meaning form.now) (known self.now)).bitmap_names }
     {
         match form {
             LineForm::Bitmap { .. } => self.assets.names.len() + 1,
@@ -72,7 +71,7 @@ impl<'a> Reader<'a> {
 
     /// Whether the line's call is one too many.
     fn has_room_for_call(&self, form: &LineForm<'a>) -> bool
-        ensures { result ≡ nat_le (calls_with (known self.now) (form_meaning form.now)) call_limit }
+        ensures { result ≡ nat_le (after (form_meaning form.now) (known self.now)).so_far call_limit }
     {
         match form {
             LineForm::Task(_) => true,
@@ -83,12 +82,11 @@ impl<'a> Reader<'a> {
 
     /// Whether the line's super-bitmap layer is one too many.
     fn has_room_for_super(&self, form: &LineForm<'a>) -> bool
-        ensures { result ≡ nat_le (supers_with (known self.now) (form_meaning form.now)) super_limit }
+        ensures { result ≡ nat_le (after (form_meaning form.now) (known self.now)).supers super_limit }
     {
-        if form.asks_super() {
-            self.tasks.supers < SUPER_LIMIT
-        } else {
-            self.tasks.supers <= SUPER_LIMIT
+        match form {
+            LineForm::Call { act, .. } if act.asks_super() => self.tasks.supers < SUPER_LIMIT,
+            _ => self.tasks.supers <= SUPER_LIMIT,
         }
     }
 
@@ -121,7 +119,7 @@ impl<'a> Reader<'a> {
 
     /// How many layer names there are with those of the line.
     fn names_with(&self, form: &LineForm<'a>) -> usize
-        ensures { result ≡ names_with (known self.now) (form_meaning form.now) }
+        ensures { result ≡ length (after (form_meaning form.now) (known self.now)).names }
     {
         match form {
             LineForm::Lock(name) | LineForm::Unlock(name) => self.with_name(name),
@@ -139,7 +137,7 @@ impl<'a> Reader<'a> {
 
     /// Whether nothing of the line is one too many.
     fn has_room(&self, form: &LineForm<'a>) -> bool
-        ensures { result ≡ are_few_in (known self.now) (form_meaning form.now) }
+        ensures { result ≡ are_few (after (form_meaning form.now) (known self.now)) }
     {
         ((self.tasks_with(form) <= TASK_LIMIT && self.bitmaps_with(form) <= BITMAP_LIMIT)
             && self.names_with(form) <= NAME_LIMIT)
@@ -149,7 +147,7 @@ impl<'a> Reader<'a> {
     /// Whether there is no hook of the number that the line names.
     fn is_no_hook(&self, form: &LineForm<'a>) -> bool
         requires { IsTrue (is_line_in_range (form_meaning form.now)) }
-        ensures { result ≡ is_no_hook (known self.now).hooks (hook_on (form_meaning form.now)) }
+        ensures { result ≡ is_no_hook self.now.hooks (hook_on (form_meaning form.now)) }
     {
         match form.hook() {
             None => false,
@@ -160,7 +158,7 @@ impl<'a> Reader<'a> {
     /// Whether the hook that the line names is used.
     fn is_used(&self, form: &LineForm<'a>) -> bool
         requires { IsTrue (is_line_in_range (form_meaning form.now)) }
-        ensures { result ≡ is_used_in (known self.now).used (hook_on (form_meaning form.now)) }
+        ensures { result ≡ is_used (known self.now).used (hook_on (form_meaning form.now)) }
     {
         match form.hook() {
             None => false,
@@ -170,7 +168,7 @@ impl<'a> Reader<'a> {
 
     /// Whether a bit of the row behind the bitmap's width is 1.
     fn has_padding(&self, form: &LineForm<'a>) -> bool
-        ensures { result ≡ has_padding (known self.now).width (form_meaning form.now) }
+        ensures { result ≡ has_padding (known self.now).row_width (form_meaning form.now) }
     {
         match form {
             LineForm::Row(digits) => digits.has_bit_from(self.assets.width),
@@ -180,14 +178,14 @@ impl<'a> Reader<'a> {
 
     /// Whether the open group may have the line.
     fn fits_group(&self, form: &LineForm<'a>) -> bool
-        ensures { result ≡ fits_group (known self.now).group (known self.now).some (form_meaning form.now) }
+        ensures { result ≡ fits_group (known self.now).group (nat_lt self.now.tasks.began self.now.tasks.so_far) (form_meaning form.now) }
     {
         form.fits_group(&self.tasks.group, self.tasks.began < self.tasks.so_far)
     }
 
     /// The first reason for which a line of this form is bad, if it is bad.
     pub fn tested(&self, form: &LineForm<'a>) -> Result<(), Reason>
-        ensures { result ≡ tested_in (known self.now) (form_meaning form.now) }
+        ensures { result ≡ form_tested (setting_of self.now) (known self.now) (form_meaning form.now) }
     {
         if !form.is_in_range() {
             return Err(Reason::Range);
@@ -222,7 +220,7 @@ impl<'a> Reader<'a> {
 
 /// Whether the line is a call that can't be made so far.
 fn is_unbuilt(form: &LineForm<'_>) -> bool
-    ensures { result ≡ is_unbuilt_in (form_meaning form.now) }
+    ensures { result ≡ is_unbuilt (form_meaning form.now) }
 {
     match form {
         LineForm::Call { act, .. } => !act.is_built(),

@@ -1,15 +1,34 @@
 -- Lines below lines whose calls aren't built yet: what stands above them is taken as it is, good or not.
-use Rattle.std.specs.Prelude.{ℕ, List, [], ◌++◌, Option, codes}
+use Rattle.std.specs.Prelude.{ℕ, List, [], ◌∷◌, ◌++◌, Option, Some, None, Result, Ok, Err, codes}
 use Rattle.std.specs.List.{flat_map, range_with_len}
 use Rattle.std.specs.Fmt.{decimal}
+use Rattle.lw_calls.specs.declared.form.Form.{Form}
 use Rattle.lw_calls.specs.declared.reason.Reason.{Reason}
+use Rattle.lw_grammar.specs.Demands.{◌>>=◌}
+use Rattle.lw_grammar.specs.LineForms.{LineForm}
 use Rattle.lw_grammar.specs.Lines.{lines}
-use Rattle.lw_grammar.specs.Script.{Setting, reason_of, with_lines}
+use Rattle.lw_grammar.specs.Told.{told}
+use Rattle.lw_grammar.specs.Script.{Setting, words_read, form_read, line_read}
 use Rattle.lw_script_cases.specs.WholeScripts.{script, in_task_a}
+
+-- the forms of lines whose words fit forms, put on those of the lines above them
+abbrev pub and_form : Result LineForm Reason → List LineForm → List LineForm
+and_form (Ok form) above = form ∷ above
+and_form (Err reason) above = above
+
+abbrev pub forms_below : Form → List LineForm → List (List ℕ) → List LineForm
+forms_below form above [] = above
+forms_below form above (line ∷ ls) =
+    forms_below form (and_form (words_read line >>= (λ ws. form_read form (told above).section (told above).rows_due (told above).row_width ws)) above) ls
+
+-- the first reason, if there is one
+abbrev pub reason_of : Result LineForm Reason → Option Reason
+reason_of (Ok form) = None
+reason_of (Err reason) = Some reason
 
 -- the first reason of a line below the lines of these bytes
 abbrev pub reason_below : Setting → List ℕ → List ℕ → Option Reason
-reason_below s above line = reason_of s (with_lines [] (lines above)) (script line)
+reason_below s above line = reason_of (line_read s (told (forms_below s.form [] (lines above))) (script line))
 
 -- a task with a created layer that names hook 2, and one with an opened window that does
 abbrev pub created_with_hook : List ℕ

@@ -1,17 +1,18 @@
 -- What a loop over a legal order keeps: the steps so far and those that are left are the steps of the order.
-use Rattle.std.proofs.Common.{◌≡◌, ℕ, zero, suc, ◌+◌, ◌<◌, ◌&&◌, Bool, true, false, List, [], ◌∷◌, ◌++◌, length, drop, Option, Some, None, slice_index_or, refl, ap, sym, subst, ◌∙◌, append_assoc, add-one, drop-cons, arith}
+use Rattle.std.proofs.Common.{◌≡◌, ℕ, zero, suc, ◌+◌, ◌<◌, true, List, [], ◌∷◌, ◌++◌, length, drop, Option, Some, None, slice_index_or, refl, ap, sym, subst, ◌∙◌, append_assoc, add-one, drop-cons, arith}
 use Rattle.std.specs.List.{slice_get}
 use Rattle.std.proofs.lemmas.Option.{slice_get_within}
+use Rattle.std.proofs.lemmas.Bool.{and_parts}
 use Rattle.lw_calls.specs.declared.call.Call.{Call}
 use Rattle.lw_calls.specs.declared.entry.Entry.{Entry}
 use Rattle.lw_calls.specs.declared.reply.Reply.{Reply}
 use Rattle.lw_calls.specs.Plan.{Plan, IsPlan, task_calls}
 use Rattle.lw_calls.specs.Orders.{occurrences, may_come, keeps_groups}
 use Rattle.lw_calls.specs.Entries.{count_of, entries, next_entry}
-use Rattle.lw_machine.specs.Report.{opening_desk}
+use Rattle.lw_machine.specs.Finals.{opening_desk}
 use Rattle.lw_engine.specs.Plain.{Plain}
 use Rattle.lw_tasks.specs.Run.{HasRun, next_of}
-use Rattle.lw_tasks.proofs.Steps.{count_of-push, occurrences-push, length-replies_of}
+use Rattle.lw_tasks.proofs.Steps.{count_of_push, occurrences_push, length_replies_of}
 
 -- The numbers before those that are left, which may come after them, and the steps that they stood for.
 pub record IsGoing (plan : Plan) (order left : List ℕ) (desk : Plain) (told : List (List Reply)) : Type 0 where
@@ -21,11 +22,6 @@ pub record IsGoing (plan : Plan) (order left : List ℕ) (desk : Plain) (told : 
   pub counted : (t : ℕ) → count_of t past ≡ occurrences t numbers
   pub whole : past ++ entries plan past left ≡ entries plan [] order
   pub run : HasRun plan past desk told
-
--- both sides of a conjunction
-both : (a b : Bool) → (a && b) ≡ true → (a ≡ true) × (b ≡ true)
-both true b h = (refl, h)
-both false b h = cc
 
 -- what may come is a call
 coming : (plan : Plan) (numbers : List ℕ) (t : ℕ) (o : Option Call) → may_come plan numbers t o ≡ true → (c : Call) × (o ≡ Some c)
@@ -46,7 +42,7 @@ pub record IsDue (plan : Plan) (past : List Entry) (numbers : List ℕ) (t : ℕ
 
 due : (plan : Plan) (past : List Entry) (numbers : List ℕ) (t : ℕ) (ts : List ℕ) → ((u : ℕ) → count_of u past ≡ occurrences u numbers) → keeps_groups plan numbers (t ∷ ts) ≡ true → IsDue plan past numbers t ts
 due plan past numbers t ts counted legal =
-    let h : (may_come plan numbers t (slice_get (task_calls plan t) (occurrences t numbers)) ≡ true) × (keeps_groups plan (numbers ++ t ∷ []) ts ≡ true) = both _ _ legal in
+    let h : (may_come plan numbers t (slice_get (task_calls plan t) (occurrences t numbers)) ≡ true) × (keeps_groups plan (numbers ++ t ∷ []) ts ≡ true) = and_parts _ _ legal in
     let c : (c : Call) × (slice_get (task_calls plan t) (occurrences t numbers) ≡ Some c) = coming plan numbers t _ h.0 in
     record { call = c.0; found = ap (slice_get (task_calls plan t)) (counted t) ∙ c.1; later = h.1 }
 
@@ -68,7 +64,7 @@ pub going_left : (plan : Plan) (order ts : List ℕ) (desk : Plain) (told : List
 going_left plan order ts desk told t is going =
     let it : IsDue plan going.past going.numbers t ts = due plan going.past going.numbers t ts going.counted going.legal in
     let low : count_of t going.past < length (task_calls plan t) = slice_get_within (task_calls plan t) (count_of t going.past) it.call it.found in
-    let made : length (slice_index_or told t []) ≡ count_of t going.past = ap length (going.run.each t (going_task plan order ts desk told t is going)) ∙ length-replies_of (opening_desk plan []) t going.past in
+    let made : length (slice_index_or told t []) ≡ count_of t going.past = ap length (going.run.each t (going_task plan order ts desk told t is going)) ∙ length_replies_of (opening_desk plan []) t going.past in
     omega (arith, low, made)
 
 -- the next number's step is made
@@ -82,7 +78,7 @@ going_next plan order ts desk next told new t made going =
       numbers = going.numbers ++ t ∷ [];
       past = past ++ next_of plan past t;
       legal = it.later;
-      counted = λ u. ap (λ es. count_of u (past ++ es)) one ∙ (count_of-push u past e ∙ (ap (λ n. n + occurrences u (t ∷ [])) (going.counted u) ∙ sym (occurrences-push u going.numbers t)));
+      counted = λ u. ap (λ es. count_of u (past ++ es)) one ∙ (count_of_push u past e ∙ (ap (λ n. n + occurrences u (t ∷ [])) (going.counted u) ∙ sym (occurrences_push u going.numbers t)));
       whole = append_assoc past (next_of plan past t) (entries plan (past ++ next_of plan past t) ts) ∙ going.whole;
       run = made past going.run;
     }

@@ -1,5 +1,4 @@
 mod Going
 mod Next
 pub mod OnlyOrder
-pub mod Reported
 mod Steps

@@ -11,11 +11,11 @@ use Rattle.lw_machine.specs.Desk.{Desk}
 use Rattle.lw_machine.specs.Step.{after, reply}
 use Rattle.lw_calls.specs.Entries.{count_of, next_entry}
 use Rattle.lw_machine.specs.History.{machine, replies_of}
-use Rattle.lw_machine.specs.Report.{opening_desk}
+use Rattle.lw_machine.specs.Finals.{opening_desk}
 use Rattle.lw_engine.specs.Plain.{Plain}
 use Rattle.lw_engine.specs.StandsFor.{StandsFor}
 use Rattle.lw_tasks.specs.Run.{HasRun, next_of}
-use Rattle.lw_tasks.proofs.Steps.{machine-push, replies_of-push, length-replies_of}
+use Rattle.lw_tasks.proofs.Steps.{machine_push, replies_of_push, length_replies_of}
 
 -- a reply more in one task's list, and all other lists as they were
 told_task : (b : Bool) (told : List (List Reply)) (new : List Reply) (task t : ℕ) (r : Reply) → (task == t) ≡ b → task < length told → new ≡ slice_index_or told task [] ++ r ∷ [] → slice_index_or (slice_set told task new) t [] ≡ slice_index_or told t [] ++ (if b then r ∷ [] else [])
@@ -32,7 +32,7 @@ one_reply b r s e = ap (λ x. if b then x ∷ [] else []) e
 pub has_run_next : (plan : Plan) (past : List Entry) (desk next : Plain) (told : List (List Reply)) (new : List Reply) (task : ℕ) (call : Call) (r : Reply) → task < plan.sizes.tasks → slice_get (task_calls plan task) (length (slice_index_or told task [])) ≡ Some call → ((d : Desk) → StandsFor desk d → r ≡ reply d task call) → ((d : Desk) → StandsFor desk d → StandsFor next (after d task call)) → next.sizes ≡ desk.sizes → new ≡ slice_index_or told task [] ++ r ∷ [] → HasRun plan past desk told → HasRun plan (past ++ next_of plan past task) next (slice_set told task new)
 has_run_next plan past desk next told new task call r low got replied stood sizes pushed run =
     let start : Desk = opening_desk plan [] in
-    let made : length (slice_index_or told task []) ≡ count_of task past = ap length (run.each task low) ∙ length-replies_of start task past in
+    let made : length (slice_index_or told task []) ≡ count_of task past = ap length (run.each task low) ∙ length_replies_of start task past in
     let e : Entry = record { task = task; seq = count_of task past; call = call } in
     let G : ℕ → Type 0 = λ n. slice_get (task_calls plan task) n ≡ Some call in
     let found : slice_get (task_calls plan task) (count_of task past) ≡ Some call = subst G made got in
@@ -42,9 +42,9 @@ has_run_next plan past desk next told new task call r low got replied stood size
     let S : Desk → Type 0 = λ d. StandsFor next d in
     subst P (sym one) (
     record {
-      stands = subst S (sym (machine-push start past e)) (stood (machine start past) run.stands);
+      stands = subst S (sym (machine_push start past e)) (stood (machine start past) run.stands);
       sizes = sizes ∙ run.sizes;
       lists = length-set told task new ∙ run.lists;
-      each = λ t under. told_task (task == t) told new task t r refl within pushed ∙ (ap (λ rs. rs ++ (if (task == t) then r ∷ [] else [])) (run.each t under) ∙ (ap (λ rs. replies_of start t past ++ rs) (one_reply (task == t) r (reply (machine start past) task call) (replied (machine start past) run.stands)) ∙ sym (replies_of-push start t past e)));
+      each = λ t under. told_task (task == t) told new task t r refl within pushed ∙ (ap (λ rs. rs ++ (if (task == t) then r ∷ [] else [])) (run.each t under) ∙ (ap (λ rs. replies_of start t past ++ rs) (one_reply (task == t) r (reply (machine start past) task call) (replied (machine start past) run.stands)) ∙ sym (replies_of_push start t past e)));
     }
     )

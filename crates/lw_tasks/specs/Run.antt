@@ -7,7 +7,7 @@ use Rattle.lw_calls.specs.Plan.{Plan, IsPlan, task_calls}
 use Rattle.lw_calls.specs.Orders.{is_legal}
 use Rattle.lw_calls.specs.Entries.{count_of, next_entry, only_order}
 use Rattle.lw_machine.specs.History.{machine, replies_of}
-use Rattle.lw_machine.specs.Report.{opening_desk}
+use Rattle.lw_machine.specs.Finals.{opening_desk}
 use Rattle.lw_engine.specs.Plain.{Plain}
 use Rattle.lw_engine.specs.StandsFor.{StandsFor}
 

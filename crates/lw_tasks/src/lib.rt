@@ -5,7 +5,6 @@ mod laws;
 mod run;
 #[cfg(test)]
 mod tests;
-mod told;
 
 pub use laws::only_order_is_legal;
 pub use run::replay;

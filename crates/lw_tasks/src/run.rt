@@ -1,4 +1,4 @@
-ghost use Rattle.std.specs.Prelude.{◌≡◌, ℕ, ◌<◌, ◌++◌, [], List, length, true, All, IsTrue, IfOk, OnOk, Some};
+ghost use Rattle.std.specs.Prelude.{◌≡◌, ℕ, ◌<◌, ◌++◌, [], List, length, replicate, true, All, IsTrue, IfOk, OnOk, Some};
 ghost use Rattle.std.specs.List.{slice_index_or, slice_get};
 ghost use Rattle.lw_calls.specs.declared.entry.Entry.{Entry};
 ghost use Rattle.lw_calls.specs.declared.reply.Reply.{Reply as AnyReply};
@@ -9,13 +9,11 @@ ghost use Rattle.lw_calls.specs.Built.{is_built};
 ghost use Rattle.lw_calls.specs.Orders.{is_legal, keeps_groups};
 ghost use Rattle.lw_calls.specs.Entries.{entries};
 ghost use Rattle.lw_machine.specs.History.{machine, replies_of};
-ghost use Rattle.lw_machine.specs.Report.{opening_desk};
-ghost use Rattle.lw_machine.specs.Finals.{IsFinalOf};
+ghost use Rattle.lw_machine.specs.Finals.{run_final};
 ghost use Rattle.lw_engine.specs.StandsFor.{StandsFor};
 ghost use Rattle.lw_tasks.specs.Run.{HasRun, next_of};
 
-use crate::told::{Told, all_replies, nothing_told};
-use lw_calls::{Call, Final, OrderList, Plan};
+use lw_calls::{Call, Final, OrderList, Plan, Replies};
 use lw_engine::PlainDesk;
 use std::alloc::{AllocError, Global};
 
@@ -24,19 +22,18 @@ use std::alloc::{AllocError, Global};
 pub fn replay(alloc: Global, plan: &Plan, order: &OrderList) -> Result<Final, AllocError>
     requires legal { is_legal plan.now order.now ≡ true }
     requires built { All (λ calls. All (λ call. IsTrue (is_built call)) calls) plan.now.calls }
-    ensures { IfOk result (λ last. IsFinalOf (machine (opening_desk plan.now []) (entries plan.now [] order.now))
-        (λ t. replies_of (opening_desk plan.now []) t (entries plan.now [] order.now)) last) }
+    ensures { IfOk result (λ last. last ≡ run_final plan.now [] order.now) }
 {
     let mut run = Run::new(alloc, plan)?;
     run.make_all(alloc, plan, order.tasks())?;
-    run.finish(alloc)
+    run.desk.finish(alloc, run.told)
 }
 
 /// A run under way: the desk, and each task's replies so far. So many replies as a task had, so many calls it made.
 #[derive(Debug, Drop)]
 struct Run {
     desk: PlainDesk,
-    told: Vec<Told>,
+    told: Vec<Replies>,
 }
 
 impl Run {
@@ -47,7 +44,7 @@ impl Run {
     {
         let sizes = *plan.sizes();
         let desk = PlainDesk::new(alloc, sizes)?;
-        let told = nothing_told(alloc, sizes.tasks)?;
+        let told = no_replies(alloc, sizes.tasks)?;
         Ok(Run { desk, told })
     }
 
@@ -76,18 +73,9 @@ impl Run {
         ensures { OnOk result ((past : List Entry) → HasRun plan.now past self.old.desk self.old.told.items → HasRun plan.now (past ++ next_of plan.now past task) self.new.desk self.new.told.items) }
     {
         let told = &mut self.told[task as usize];
-        let call = call_of(plan, task, told.len());
+        let call = call_of(plan, task, told.list().len());
         let reply = self.desk.step(alloc, plan.assets(), task, call)?;
         told.push(reply)
-    }
-
-    /// What the run leaves.
-    fn finish(self, alloc: Global) -> Result<Final, AllocError>
-        requires { length self.told.items ≡ self.desk.sizes.tasks }
-        ensures { IfOk result (λ last. (d : Desk) (rs : ℕ → List AnyReply) → StandsFor self.desk d → ((t : ℕ) → t < self.desk.sizes.tasks → slice_index_or self.told.items t [] ≡ rs t) → IsFinalOf d rs last) }
-    {
-        let lists = all_replies(alloc, self.told)?;
-        self.desk.finish(alloc, lists)
     }
 }
 
@@ -102,4 +90,15 @@ fn call_of(plan: &Plan, task: u32, made: usize) -> &Call
     ensures built { IsTrue (is_built result.now) }
 {
     &plan.calls(task)[made]
+}
+
+/// No reply yet, for each of so many tasks.
+fn no_replies(alloc: Global, count: u32) -> Result<Vec<Replies>, AllocError>
+    ensures { IfOk result (λ told. told.items ≡ replicate count []) }
+{
+    let mut told = Vec::new(alloc);
+    for _task in 0..count {
+        told.push(Replies::new(Vec::new(alloc)))?;
+    }
+    Ok(told)
 }

@@ -75,9 +75,9 @@ own_text command input (BadOrder place) text h = inr h.3.1
 own_text command input s text h = absurd h.3
 
 -- nothing more was written
-bytes_after-none : (told : Option (List ℕ)) → bytes_after told [] ≡ told
-bytes_after-none None = refl
-bytes_after-none (Some bytes) = ap Some (append-nil bytes)
+bytes_after_none : (told : Option (List ℕ)) → bytes_after told [] ≡ told
+bytes_after_none None = refl
+bytes_after_none (Some bytes) = ap Some (append-nil bytes)
 
 -- what was taken is the whole input where it is no longer than the limit
 whole_input : (input : List ℕ) (left rest : Option (List ℕ)) → IsTaken input left rest → length input ≤ input_limit → IsInput input left rest
@@ -175,7 +175,7 @@ told command r left rest s t before after f g h unwritten =
         failed e (inr d) = d.2
 
     empty : {q : Status} → r ≡ q → text_of q ≡ [] → after ≡ before → after ≡ bytes_after before (text_of r)
-    empty e none same = same ∙ sym (ap (bytes_after before) (ap text_of e ∙ none) ∙ bytes_after-none before)
+    empty e none same = same ∙ sym (ap (bytes_after before) (ap text_of e ∙ none) ∙ bytes_after_none before)
 
     written : (e : Served command r left rest before after f g) → Says e.text e.due r before after f g → r ≢ Done → r ≢ WriteFault → after ≡ bytes_after before (text_of r)
     written e (inl d) not_done not_fault = elim (own_text command e.input e.due e.text e.outcome) [ inl k ↦ absurd (not_done (d.0 ∙ k)) | inr k ↦ d.1 ∙ ap (bytes_after before) (k ∙ ap text_of (sym d.0)) ]
@@ -183,11 +183,11 @@ told command r left rest s t before after f g h unwritten =
 
 -- What is promised of words is what they tell, be they a command or none.
 none_taken : (left rest : Option (List ℕ)) → rest ≡ left → TakesAtMost (input_limit + 1) left rest
-none_taken left rest same = ([], omega arith, sym (bytes_before-none rest ∙ same))
+none_taken left rest same = ([], omega arith, sym (bytes_before_none rest ∙ same))
   where
-    bytes_before-none : (told : Option (List ℕ)) → bytes_before [] told ≡ told
-    bytes_before-none None = refl
-    bytes_before-none (Some bytes) = refl
+    bytes_before_none : (told : Option (List ℕ)) → bytes_before [] told ≡ told
+    bytes_before_none None = refl
+    bytes_before_none (Some bytes) = refl
 
 pub told_of_words : (asked : Option Command) (r : Status) (left rest : Option (List ℕ)) (s t : ℕ) (before after : Option (List ℕ)) (f g : ℕ) → IfSome asked (λ command. Answered command r left rest s t before after f g) → (asked ≡ None → Says (text_of Usage) Usage r before after f g) → (asked ≡ None → (rest ≡ left) × (t ≡ s)) → ((r ≡ ReadFault) ⊎ (r ≡ NoMemory) → after ≡ before) → ToldOfWords asked r left rest s t before after f g
 told_of_words (Some command) r left rest s t before after f g h usage unread unwritten =

@@ -1,5 +1,5 @@
 -- An order that an input spells has at most 64 numbers for each of the input's lines.
-use Rattle.std.proofs.Common.{◌≡◌, ℕ, suc, ◌+◌, ◌*◌, ◌≤◌, ◌==◌, Bool, true, false, not, cond, nat_le, List, [], ◌∷◌, length, map, ℤ, unsigned_abs, Option, Some, None, option_map, Result, Ok, Err, refl, sym, ap, subst, ◌∙◌, arith, length-append, ok_or}
+use Rattle.std.proofs.Common.{◌≡◌, ℕ, suc, ◌+◌, ◌*◌, ◌≤◌, ◌==◌, Bool, true, false, not, cond, nat_le, List, [], ◌∷◌, length, map, ℤ, unsigned_abs, Option, Some, None, option_map, Result, Ok, Err, IfOk, refl, sym, ap, subst, ◌∙◌, arith, length-append, ok_or}
 use Rattle.std.proofs.lemmas.List.{length-map}
 use Rattle.std.specs.List.{onto_first}
 use Rattle.std.proofs.lemmas.Bool.{leb-true}
@@ -7,13 +7,12 @@ use Rattle.lw_calls.specs.declared.reason.Reason.{Reason}
 use Rattle.lw_calls.specs.declared.reason.Reason.TheVariants.{Form as FormReason}
 use Rattle.lw_grammar.specs.Demands.{◌>>=◌}
 use Rattle.lw_grammar.specs.Lines.{lines}
-use Rattle.lw_grammar.specs.Tokens.{Token, NumberToken, token_of, tokens}
+use Rattle.lw_grammar.specs.Tokens.{Token, NumberToken, token_of}
 use Rattle.lw_grammar.specs.LineForms.{LineForm, NumbersLine, all_numbers, numbers_line, numbers_limit, row_line}
-use Rattle.lw_grammar.specs.LinesAbove.{order_above, section_of, row_width}
-use Rattle.lw_grammar.specs.Script.{Setting, ScriptInput, SpellsInput, are_numbers_due, form_below, is_passed, put_form, with_line, with_lines, words_or_none}
-use Rattle.lw_grammar.specs.ScriptReading.{AreGoodLines, form_read, form_tested, verb_read, words_read}
+use Rattle.lw_grammar.specs.Told.{told}
+use Rattle.lw_grammar.specs.Script.{Setting, is_skipped, are_numbers_due, is_nothing_due, words_read, verb_read, form_read, form_tested, line_read, forms_with, Reached, at_the_top, with_line, at_number, end_read, lines_read, ScriptInput, SpellsInput, AreGoodLines}
 use Rattle.lw_grammar.proofs.ScriptForms.{IsFormHere}
-use Rattle.lw_grammar.proofs.ScriptAnswer.{good_line, spelled_lines_good}
+use Rattle.lw_grammar.proofs.ScriptOutcome.{good_line, end_same, of_lines}
 
 -- the numbers of tokens are as many
 so_many : (ts : List Token) (zs : List ℤ) → all_numbers ts ≡ Some zs → length zs ≡ length ts
@@ -44,15 +43,15 @@ few_numbers ts zs e = at_test (nat_le (length ts) numbers_limit) refl e
     at_test false d e = absurd (cc)
 
 -- where the numbers of an order are read, they are few
-few_read : (s : Setting) (above : List LineForm) (ws : List (List ℕ)) (zs : List ℤ) → IsFormHere s above (NumbersLine zs) → form_read s above ws ≡ Ok (NumbersLine zs) → length zs ≤ 64
+few_read : (s : Setting) (above : List LineForm) (ws : List (List ℕ)) (zs : List ℤ) → IsFormHere s above (NumbersLine zs) → form_read s.form (told above).section (told above).rows_due (told above).row_width ws ≡ Ok (NumbersLine zs) → length zs ≤ 64
 few_read s above ws zs h e =
-    let P : Bool → Type 0 = λ b. cond (not b) (ok_or (row_line (row_width above) (map token_of ws)) FormReason) (cond (are_numbers_due (section_of above)) (ok_or (numbers_line (map token_of ws)) FormReason) (verb_read s above ws)) ≡ Ok (NumbersLine zs) in
-    let Q : Bool → Type 0 = λ b. cond b (ok_or (numbers_line (map token_of ws)) FormReason) (verb_read s above ws) ≡ Ok (NumbersLine zs) in
+    let P : Bool → Type 0 = λ b. cond (not b) (ok_or (row_line (told above).row_width (map token_of ws)) FormReason) (cond (are_numbers_due (told above).section) (ok_or (numbers_line (map token_of ws)) FormReason) (verb_read s.form (told above).section ws)) ≡ Ok (NumbersLine zs) in
+    let Q : Bool → Type 0 = λ b. cond b (ok_or (numbers_line (map token_of ws)) FormReason) (verb_read s.form (told above).section ws) ≡ Ok (NumbersLine zs) in
     few_numbers (map token_of ws) zs (subst Q h.1 (subst P h.0 e))
 
-few_tested : (s : Setting) (above : List LineForm) (ws : List (List ℕ)) (zs : List ℤ) → IsFormHere s above (NumbersLine zs) → (r : Result LineForm Reason) → form_read s above ws ≡ r → (r >>= (λ f. form_tested s above f >>= (λ _. Ok f))) ≡ Ok (NumbersLine zs) → length zs ≤ 64
+few_tested : (s : Setting) (above : List LineForm) (ws : List (List ℕ)) (zs : List ℤ) → IsFormHere s above (NumbersLine zs) → (r : Result LineForm Reason) → form_read s.form (told above).section (told above).rows_due (told above).row_width ws ≡ r → (r >>= (λ f. form_tested s (told above) f >>= (λ _. Ok f))) ≡ Ok (NumbersLine zs) → length zs ≤ 64
 few_tested s above ws zs h (Err q) e d = absurd (cc)
-few_tested s above ws zs h (Ok f) e d = at_test (form_tested s above f) d
+few_tested s above ws zs h (Ok f) e d = at_test (form_tested s (told above) f) d
   where
     at_test : (t : Result (Unit {0}) Reason) → (t >>= (λ _. Ok f)) ≡ Ok (NumbersLine zs) → length zs ≤ 64
     at_test (Err q) d = absurd (cc)
@@ -60,17 +59,17 @@ few_tested s above ws zs h (Ok f) e d = at_test (form_tested s above f) d
         let same : f ≡ NumbersLine zs = cc in
         few_read s above ws zs h (e ∙ ap Ok same)
 
-few_words : (s : Setting) (above : List LineForm) (zs : List ℤ) → IsFormHere s above (NumbersLine zs) → (t : Result (List (List ℕ)) Reason) → (t >>= (λ ws. form_read s above ws >>= (λ f. form_tested s above f >>= (λ _. Ok f)))) ≡ Ok (NumbersLine zs) → length zs ≤ 64
+few_words : (s : Setting) (above : List LineForm) (zs : List ℤ) → IsFormHere s above (NumbersLine zs) → (t : Result (List (List ℕ)) Reason) → (t >>= (λ ws. form_read s.form (told above).section (told above).rows_due (told above).row_width ws >>= (λ f. form_tested s (told above) f >>= (λ _. Ok f)))) ≡ Ok (NumbersLine zs) → length zs ≤ 64
 few_words s above zs h (Err q) e = absurd (cc)
-few_words s above zs h (Ok ws) e = few_tested s above ws zs h (form_read s above ws) refl e
+few_words s above zs h (Ok ws) e = few_tested s above ws zs h (form_read s.form (told above).section (told above).rows_due (told above).row_width ws) refl e
 
 -- an order above has at most 64 for each line
-few_above : (s : Setting) (above : List LineForm) → AreGoodLines s above → length (order_above above) ≤ 64 * length above
+few_above : (s : Setting) (above : List LineForm) → AreGoodLines s above → length (told above).order ≤ 64 * length above
 few_above s [] g = omega arith
 few_above s (NumbersLine zs ∷ above) g =
     let few = few_words s above zs (good_line s above (NumbersLine zs) g.0).0 (words_read g.0.line) g.0.read in
     let rest = few_above s above g.1 in
-    let whole = length-append (order_above above) (map unsigned_abs zs) in
+    let whole = length-append (told above).order (map unsigned_abs zs) in
     let same = length-map zs unsigned_abs in
     omega (arith, few, rest, whole, same)
 few_above s (f ∷ above) g =
@@ -78,20 +77,29 @@ few_above s (f ∷ above) g =
     omega (arith, rest)
 
 -- each line gives one form at most
-one_form : (o : Option LineForm) (above : List LineForm) → length (put_form o above) ≤ suc (length above)
-one_form None above = omega arith
-one_form (Some f) above = omega arith
+one_more : (s : Setting) (above : List LineForm) (line : List ℕ) → IfOk (forms_with s above line) (λ fs. length fs ≤ suc (length above))
+one_more s above line = go (is_skipped line) (line_read s (told above) line)
+  where
+    go : (b : Bool) (r : Result LineForm Reason) → IfOk (cond b (Ok above) (r >>= (λ form. Ok (form ∷ above)))) (λ fs. length fs ≤ suc (length above))
+    go true r = omega arith
+    go false (Ok f) = omega arith
+    go false (Err e) = tt
 
-one_more : (b : Bool) (o : Option LineForm) (above : List LineForm) → length (cond b above (put_form o above)) ≤ suc (length above)
-one_more true o above = omega arith
-one_more false o above = one_form o above
+few_forms : (s : Setting) (p q : Reached) (ls : List (List ℕ)) → lines_read s p ls ≡ Ok q → length q.forms ≤ length p.forms + length ls
+few_forms s p q [] e = subst (λ (r : Reached). length r.forms ≤ length p.forms + 0) (end_same s p q e).0 (omega arith)
+few_forms s p q (line ∷ ls) e =
+    go (is_nothing_due (told p.forms).section) (λ forms d. few_forms s (with_line p line forms) q ls d) e
+  where
+    Next : Type 0
+    Next = (forms : List LineForm) → lines_read s (with_line p line forms) ls ≡ Ok q → length q.forms ≤ length forms + length ls
 
-few_forms : (above : List LineForm) (ls : List (List ℕ)) → length (with_lines above ls) ≤ length above + length ls
-few_forms above [] = omega arith
-few_forms above (line ∷ ls) =
-    let rest = few_forms (with_line above line) ls in
-    let more = one_more (is_passed above line) (form_below above (words_or_none (tokens line))) above in
-    omega (arith, rest, more)
+    at_forms : (r : Result (List LineForm) Reason) → IfOk r (λ fs. length fs ≤ suc (length p.forms)) → Next → (at_number p.number r >>= (λ forms. lines_read s (with_line p line forms) ls)) ≡ Ok q → length q.forms ≤ length p.forms + suc (length ls)
+    at_forms (Ok forms) h next d = let rest = next forms d in omega (arith, h, rest)
+    at_forms (Err r) h next d = absurd (cc)
+
+    go : (b : Bool) → Next → cond b (end_read s p) (at_number p.number (forms_with s p.forms line) >>= (λ forms. lines_read s (with_line p line forms) ls)) ≡ Ok q → length q.forms ≤ length p.forms + suc (length ls)
+    go true next d = subst (λ (r : Reached). length r.forms ≤ length p.forms + suc (length ls)) (end_same s p q d).0 (omega arith)
+    go false next d = at_forms (forms_with s p.forms line) (one_more s p.forms line) next d
 
 -- there are no more lines than bytes
 few_on : (b : ℕ) (ls : List (List ℕ)) → length (onto_first b ls) ≤ suc (length ls)
@@ -112,10 +120,9 @@ few_lines (b ∷ bs) =
 -- An order that bytes spell has at most 64 numbers for each byte.
 pub order_few : (s : Setting) (bytes : List ℕ) (input : ScriptInput) → SpellsInput s bytes input → length input.order ≤ 64 * length bytes
 order_few s bytes input spelled =
-    let good = (spelled_lines_good s bytes input spelled).0 in
-    let order : input.order ≡ order_above (with_lines [] (lines bytes)) = ap (λ i. i.order) spelled.spelled in
-    let many = ap length order in
-    let above = few_above s (with_lines [] (lines bytes)) good in
-    let forms = few_forms [] (lines bytes) in
+    let l = of_lines s bytes input spelled in
+    let many : length input.order ≡ length (told l.reached.forms).order = ap (λ i. length i.order) l.is in
+    let above = few_above s l.reached.forms l.read.good in
+    let forms = few_forms s at_the_top l.reached (lines bytes) l.lines_are in
     let ls = few_lines bytes in
     omega (arith, many, above, forms, ls)

@@ -11,7 +11,7 @@ use Rattle.lw_machine.specs.Report.{run_report}
 use Rattle.lw_canonical.specs.Canonical.{canonical_text}
 use Rattle.lw_grammar.specs.Lines.{lines}
 use Rattle.lw_grammar.specs.Script.{ScriptInput, SpellsInput, IsFirstBadIn}
-use Rattle.lw_grammar.proofs.ScriptAnswer.{input_decided, bad_or_spelled, one_bad_line, one_spelled}
+use Rattle.lw_grammar.proofs.ScriptOutcome.{input_decided, bad_or_spelled, one_bad_line, one_spelled}
 use Rattle.lw_grammar.proofs.ScriptRunnable.{spelled_runnable}
 use Rattle.lw_top.specs.declared.status.Status.{Status}
 use Rattle.lw_top.specs.declared.status.Status.TheVariants.{Done, Refused, TooLong, BadOrder}

@@ -1,8 +1,7 @@
 //! The words of a line, and which lines say nothing.
 ghost use Rattle.std.specs.Prelude.{◌≡◌, IfOk, IfErr, Ok};
 ghost use Rattle.std.specs.List.{list_all};
-ghost use Rattle.lw_grammar.specs.Script.{is_skipped, is_printable};
-ghost use Rattle.lw_grammar.specs.ScriptReading.{words_read};
+ghost use Rattle.lw_grammar.specs.Script.{is_skipped, is_printable, words_read};
 ghost use Rattle.lw_words.specs.Cuts.{targets};
 ghost use Rattle.lw_words.specs.Stops.{Tells};
 

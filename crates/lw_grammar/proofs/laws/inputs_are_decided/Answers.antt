@@ -1,4 +1,4 @@
-use Rattle.lw_grammar.proofs.ScriptAnswer.{input_decided}
+use Rattle.lw_grammar.proofs.ScriptOutcome.{input_decided}
 use Rattle.lw_grammar.proofs.laws.inputs_are_decided.Goals as goal
 
 pub returns : goal.returns

@@ -1,5 +1,5 @@
 use Rattle.lw_kernels.proofs.bytes.spread.Goals as goal
-use Rattle.lw_kernels.proofs.ByteLaws.{bit_at-all_ones}
+use Rattle.std.proofs.lemmas.Nat.Bits.{bit_at_ones}
 
 pub returns-then-bit : goal.returns-then-bit
-returns-then-bit c = λ i low. rw c.if-bit.true (bit_at-all_ones i low)
+returns-then-bit c = λ i low. rw c.if-bit.true (bit_at_ones 8 i low)

@@ -2,7 +2,7 @@ use Rattle.std.proofs.Common.{◌≡◌, ℕ, ◌+◌, ◌-◌, ◌*◌, ◌<◌
 use Rattle.std.specs.Int.{bit_at}
 use Rattle.lw_planes.specs.Row.{row_bit}
 use Rattle.lw_kernels.specs.Kernel.{blit_bit}
-use Rattle.lw_kernels.proofs.RowWriting.{before_none, before_more, before_all, before_old, byte-old, whole_byte, minterm_same}
+use Rattle.lw_kernels.proofs.RowWriting.{before_none, before_more, before_all, before_old, byte_old, whole_byte, minterm_same}
 use Rattle.lw_kernels.proofs.combining.combine_whole.Goals as goal
 
 pub loop-index-init : goal.loop-index-init
@@ -19,8 +19,8 @@ loop-index-preserved c =
     before_more c.loop-index.to new old (8 * c.args.first) (8 * c.args.last) index c.minterm_byte.result inside c.loop-index.invariant
     (λ j low.
     let place : 8 * at + j ≡ 8 * c.args.start + (8 * index + j - 8 * c.args.first) = omega arith in
-    let bits : bit_at (get_or source at 0) (7 - j) ≡ row_bit source (8 * c.args.start + (8 * index + j - 8 * c.args.first)) = byte-old source at (get_or source at 0) j low refl ∙ ap (λ n. row_bit source n) place in
-    let was : bit_at (get_or c.loop-index.to index 0) (7 - j) ≡ old (8 * index + j) = byte-old c.loop-index.to index (get_or c.loop-index.to index 0) j low refl ∙ before_old c.loop-index.to new old (8 * c.args.first) (8 * c.args.last) index (8 * index + j) c.loop-index.invariant (omega arith) in
+    let bits : bit_at (get_or source at 0) (7 - j) ≡ row_bit source (8 * c.args.start + (8 * index + j - 8 * c.args.first)) = byte_old source at (get_or source at 0) j low refl ∙ ap (λ n. row_bit source n) place in
+    let was : bit_at (get_or c.loop-index.to index 0) (7 - j) ≡ old (8 * index + j) = byte_old c.loop-index.to index (get_or c.loop-index.to index 0) j low refl ∙ before_old c.loop-index.to new old (8 * c.args.first) (8 * c.args.last) index (8 * index + j) c.loop-index.invariant (omega arith) in
     whole_byte c.args.first c.args.last index j (bit_at c.minterm_byte.result (7 - j)) (new (8 * index + j)) (old (8 * index + j)) (omega arith) (omega arith) low
     (c.minterm_byte.ensures (7 - j) (omega arith) ∙ minterm_same c.args.minterm _ _ _ _ bits was))
 

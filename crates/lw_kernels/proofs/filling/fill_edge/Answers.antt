@@ -2,7 +2,7 @@ use Rattle.std.proofs.Common.{ℕ, ◌+◌, ◌-◌, ◌*◌, ◌/◌, get_or, r
 use Rattle.std.specs.Int.{bit_at}
 use Rattle.lw_planes.specs.Row.{bit_of, row_bit}
 use Rattle.lw_kernels.specs.Kernel.{is_between}
-use Rattle.lw_kernels.proofs.RowWriting.{byte-old, byte_bit, one_byte, done_none}
+use Rattle.lw_kernels.proofs.RowWriting.{byte_old, byte_bit, one_byte, done_none}
 use Rattle.lw_kernels.proofs.filling.fill_edge.Goals as goal
 
 pub returns-then-from-end : goal.returns-then-from-end
@@ -13,7 +13,7 @@ returns-then-from-end c =
     (λ j low. byte_bit (is_between c.args.from c.args.end (8 * index + j)) (bit_at c.replaced.result (7 - j)) (bit_at c.spread.result (7 - j)) (bit_at (get_or c.args.row.now index 0) (7 - j)) (new (8 * index + j)) (row_bit c.args.row.now (8 * index + j))
     (c.replaced.ensures j low)
     (λ _. c.spread.ensures (7 - j) (omega arith))
-    (byte-old c.args.row.now index (get_or c.args.row.now index 0) j low refl))
+    (byte_old c.args.row.now index (get_or c.args.row.now index 0) j low refl))
 
 pub returns-else-from-end : goal.returns-else-from-end
 returns-else-from-end c = done_none c.args.row.now (λ _. bit_of c.args.bit) c.args.from c.args.end (omega arith)

@@ -1,6 +1,6 @@
 use Rattle.std.proofs.Common.{ℕ, ◌-◌, ◌*◌, ◌/◌, ap, refl, arith}
 use Rattle.lw_planes.specs.Row.{row_bit}
-use Rattle.lw_kernels.proofs.RowWriting.{join_right, done-after}
+use Rattle.lw_kernels.proofs.RowWriting.{join_right, done_after}
 use Rattle.lw_kernels.proofs.RowWriting.{Done}
 use Rattle.lw_kernels.proofs.filling.flip_between.Goals as goal
 
@@ -14,7 +14,7 @@ returns-then-first-last c =
     let stop : ℕ = 8 * (c.args.end / 8) in
     let both : Done two new old c.args.from stop =
     join_right one two new new (λ x. 1 - row_bit one x) old c.args.from mid stop (omega arith) (omega arith) c.flip_edge.ensures c.flip_bytes.ensures (λ x p q. refl)
-    (λ x p q. ap (λ n. 1 - n) (done-after one new old c.args.from mid x c.flip_edge.ensures p))
+    (λ x p q. ap (λ n. 1 - n) (done_after one new old c.args.from mid x c.flip_edge.ensures p))
     in
     join_right two c.flip_edge-then-first-last.new.row new new (λ x. 1 - row_bit two x) old c.args.from stop c.args.end (omega arith) (omega arith) both c.flip_edge-then-first-last.ensures (λ x p q. refl)
-    (λ x p q. ap (λ n. 1 - n) (done-after two new old c.args.from stop x both p))
+    (λ x p q. ap (λ n. 1 - n) (done_after two new old c.args.from stop x both p))

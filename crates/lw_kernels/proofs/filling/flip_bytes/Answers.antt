@@ -2,7 +2,7 @@ use Rattle.std.proofs.Common.{◌≡◌, ℕ, ◌+◌, ◌-◌, ◌*◌, ◌<◌
 use Rattle.std.specs.Int.{bit_at, w8}
 use Rattle.std.proofs.lemmas.Nat.Bits.{bit_at_not}
 use Rattle.lw_planes.specs.Row.{row_bit}
-use Rattle.lw_kernels.proofs.RowWriting.{before_none, before_more, before_all, before_old, byte-old, whole_byte}
+use Rattle.lw_kernels.proofs.RowWriting.{before_none, before_more, before_all, before_old, byte_old, whole_byte}
 use Rattle.lw_kernels.proofs.filling.flip_bytes.Goals as goal
 
 pub loop-index-init : goal.loop-index-init
@@ -18,7 +18,7 @@ loop-index-preserved c =
     (λ j low.
     let byte : ℕ = get_or c.loop-index.row index 0 in
     let small : byte < 256 = omega arith in
-    let was : bit_at byte (7 - j) ≡ old (8 * index + j) = byte-old c.loop-index.row index byte j low refl ∙ before_old c.loop-index.row new old (8 * c.args.first) (8 * c.args.last) index (8 * index + j) c.loop-index.invariant (omega arith) in
+    let was : bit_at byte (7 - j) ≡ old (8 * index + j) = byte_old c.loop-index.row index byte j low refl ∙ before_old c.loop-index.row new old (8 * c.args.first) (8 * c.args.last) index (8 * index + j) c.loop-index.invariant (omega arith) in
     whole_byte c.args.first c.args.last index j (bit_at (255 - byte) (7 - j)) (new (8 * index + j)) (old (8 * index + j)) (omega arith) (omega arith) low
     (bit_at_not w8 byte (7 - j) small (omega arith) ∙ ap (λ n. 1 - n) was))
 

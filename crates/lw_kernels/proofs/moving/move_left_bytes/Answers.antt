@@ -1,7 +1,7 @@
 use Rattle.std.proofs.Common.{◌≡◌, ℕ, ◌+◌, ◌-◌, ◌*◌, ◌<◌, ◌≤◌, length, get_or, ap, refl, ◌∙◌, arith}
 use Rattle.std.specs.Int.{bit_at}
 use Rattle.lw_planes.specs.Row.{row_bit}
-use Rattle.lw_kernels.proofs.ByteLaws.{shifted-row}
+use Rattle.lw_kernels.proofs.ByteLaws.{shifted_row}
 use Rattle.lw_kernels.proofs.RowWriting.{before_none, before_more, before_all, before_old, whole_byte}
 use Rattle.lw_kernels.proofs.moving.move_left_bytes.Goals as goal
 
@@ -20,7 +20,7 @@ loop-index-preserved c =
     (λ j low.
     let place : 8 * at + c.args.shift + j ≡ 8 * c.args.ahead + c.args.shift + (8 * index + j) = omega arith in
     whole_byte c.args.first c.args.last index j (bit_at c.shifted.result (7 - j)) (new (8 * index + j)) (old (8 * index + j)) (omega arith) (omega arith) low
-    (shifted-row row at (get_or row at 0) (get_or row (at + 1) 0) c.args.shift j (bit_at c.shifted.result (7 - j)) low refl refl (c.shifted.ensures j low) c.requires.low ∙
+    (shifted_row row at (get_or row at 0) (get_or row (at + 1) 0) c.args.shift j (bit_at c.shifted.result (7 - j)) low refl refl (c.shifted.ensures j low) c.requires.low ∙
     (before_old row new old (8 * c.args.first) (8 * c.args.last) index (8 * at + c.args.shift + j) c.loop-index.invariant (omega arith) ∙ ap old place)))
 
 pub returns : goal.returns

@@ -2,7 +2,7 @@ use Rattle.std.proofs.Common.{◌≡◌, ℕ, ◌+◌, ◌-◌, ◌*◌, ◌<◌
 use Rattle.std.specs.Int.{bit_at}
 use Rattle.lw_planes.specs.Row.{row_bit}
 use Rattle.lw_kernels.specs.Kernel.{blit_bit}
-use Rattle.lw_kernels.proofs.RowWriting.{before_none, before_more, before_all, before_old, whole_byte, byte-old, minterm_same}
+use Rattle.lw_kernels.proofs.RowWriting.{before_none, before_more, before_all, before_old, whole_byte, byte_old, minterm_same}
 use Rattle.lw_kernels.proofs.within.bytes_forwards.Goals as goal
 
 pub loop-index-init : goal.loop-index-init
@@ -21,7 +21,7 @@ loop-index-preserved c =
     let place : at ≡ c.args.place + (8 * index + j - 8 * c.args.first) = omega arith in
     let bits : bit_at c.eight_bits-bits.result (7 - j) ≡ old (c.args.place + (8 * index + j - 8 * c.args.first)) =
     c.eight_bits-bits.ensures j low ∙ (before_old row new old (8 * c.args.first) (8 * c.args.last) index at c.loop-index.invariant (omega arith) ∙ ap old place) in
-    let was : bit_at (get_or row index 0) (7 - j) ≡ old (8 * index + j) = byte-old row index (get_or row index 0) j low refl ∙ before_old row new old (8 * c.args.first) (8 * c.args.last) index (8 * index + j) c.loop-index.invariant (omega arith) in
+    let was : bit_at (get_or row index 0) (7 - j) ≡ old (8 * index + j) = byte_old row index (get_or row index 0) j low refl ∙ before_old row new old (8 * c.args.first) (8 * c.args.last) index (8 * index + j) c.loop-index.invariant (omega arith) in
     whole_byte c.args.first c.args.last index j (bit_at c.minterm_byte.result (7 - j)) (new (8 * index + j)) (old (8 * index + j)) (omega arith) (omega arith) low
     (c.minterm_byte.ensures (7 - j) (omega arith) ∙ minterm_same c.args.minterm _ _ _ _ bits was))
 

@@ -1,7 +1,7 @@
 use Rattle.std.proofs.Common.{◌≡◌, ℕ, ◌+◌, ◌-◌, ◌*◌, ◌<◌, ap, refl, ◌∙◌, arith}
 use Rattle.lw_planes.specs.Row.{row_bit}
 use Rattle.lw_kernels.specs.Kernel.{blit_bit}
-use Rattle.lw_kernels.proofs.RowWriting.{done-inside, done_same, minterm_same}
+use Rattle.lw_kernels.proofs.RowWriting.{done_inside, done_same, minterm_same}
 use Rattle.lw_kernels.proofs.within.combine_piece.Goals as goal
 
 pub returns : goal.returns
@@ -16,5 +16,5 @@ returns c =
     let same : 0 + at ≡ at = omega arith in
     let back : c.args.place + (at - 0) ≡ c.args.place + at = omega arith in
     minterm_same c.args.minterm _ _ _ _
-    (ap (row_bit fetched) same ∙ (done-inside fetched (λ y. old (c.args.place + (y - 0))) _ 0 (8 * (c.args.last - c.args.first)) at c.copy_bytes.ensures (omega arith) low ∙ ap old back))
+    (ap (row_bit fetched) same ∙ (done_inside fetched (λ y. old (c.args.place + (y - 0))) _ 0 (8 * (c.args.last - c.args.first)) at c.copy_bytes.ensures (omega arith) low ∙ ap old back))
     refl)

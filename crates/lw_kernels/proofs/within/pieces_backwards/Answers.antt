@@ -1,7 +1,7 @@
 use Rattle.std.proofs.Common.{◌≡◌, ℕ, ◌+◌, ◌-◌, ◌*◌, ◌<◌, ◌≤◌, min, ap, refl, ◌∙◌, arith}
 use Rattle.lw_planes.specs.Row.{row_bit}
 use Rattle.lw_kernels.specs.Kernel.{blit_bit}
-use Rattle.lw_kernels.proofs.RowWriting.{Done, join_left, done-before, done_none, done_starts, minterm_same}
+use Rattle.lw_kernels.proofs.RowWriting.{Done, join_left, done_before, done_none, done_starts, minterm_same}
 use Rattle.lw_kernels.proofs.within.pieces_backwards.Goals as goal
 
 pub loop-number-init : goal.loop-number-init
@@ -29,8 +29,8 @@ loop-number-preserved c =
     let same : at_piece + (x - 8 * from) ≡ place + (x - 8 * first) = omega arith in
     let early : at_piece + (x - 8 * from) < end = omega arith in
     minterm_same c.args.minterm _ _ _ _
-    (done-before row new old end (8 * last) (at_piece + (x - 8 * from)) so_far early ∙ ap old same)
-    (done-before row new old end (8 * last) x so_far q)))
+    (done_before row new old end (8 * last) (at_piece + (x - 8 * from)) so_far early ∙ ap old same)
+    (done_before row new old end (8 * last) x so_far q)))
 
 pub returns : goal.returns
 returns c =

@@ -1,7 +1,7 @@
 use Rattle.std.proofs.Common.{◌≡◌, ℕ, ◌+◌, ◌-◌, ◌*◌, ◌≤◌, min, ap, refl, ◌∙◌, arith}
 use Rattle.lw_planes.specs.Row.{row_bit}
 use Rattle.lw_kernels.specs.Kernel.{blit_bit}
-use Rattle.lw_kernels.proofs.RowWriting.{Done, join_right, done-after, done_none, done_ends, minterm_same}
+use Rattle.lw_kernels.proofs.RowWriting.{Done, join_right, done_after, done_none, done_ends, minterm_same}
 use Rattle.lw_kernels.proofs.within.pieces_forwards.Goals as goal
 
 pub loop-number-init : goal.loop-number-init
@@ -29,8 +29,8 @@ loop-number-preserved c =
     let same : at_piece + (x - 8 * from) ≡ place + (x - 8 * first) = omega arith in
     let late : 8 * from ≤ at_piece + (x - 8 * from) = omega arith in
     minterm_same c.args.minterm _ _ _ _
-    (done-after row new old (8 * first) (8 * from) (at_piece + (x - 8 * from)) so_far late ∙ ap old same)
-    (done-after row new old (8 * first) (8 * from) x so_far p)))
+    (done_after row new old (8 * first) (8 * from) (at_piece + (x - 8 * from)) so_far late ∙ ap old same)
+    (done_after row new old (8 * first) (8 * from) x so_far p)))
 
 pub returns : goal.returns
 returns c =

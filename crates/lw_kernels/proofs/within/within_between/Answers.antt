@@ -1,7 +1,7 @@
 use Rattle.std.proofs.Common.{◌≡◌, ℕ, ◌+◌, ◌-◌, ◌*◌, ◌/◌, ◌<◌, ◌≤◌, ap, refl, ◌∙◌, arith}
 use Rattle.lw_planes.specs.Row.{row_bit}
 use Rattle.lw_kernels.specs.Kernel.{blit_bit}
-use Rattle.lw_kernels.proofs.RowWriting.{Done, join_right, join_left, done-after, done-before, minterm_same}
+use Rattle.lw_kernels.proofs.RowWriting.{Done, join_right, join_left, done_after, done_before, minterm_same}
 use Rattle.lw_kernels.proofs.within.within_between.Goals as goal
 
 pub returns-then-from-place : goal.returns-then-from-place
@@ -20,14 +20,14 @@ returns-then-from-place c =
     let at : ℕ = place + (mid - from) + (x - mid) in
     let same : at ≡ place + (x - from) = omega arith in
     let late : mid ≤ at = omega arith in
-    minterm_same c.args.minterm _ _ _ _ (done-after one new old from mid at c.within_edge-then-from-place.ensures late ∙ ap old same) (done-after one new old from mid x c.within_edge-then-from-place.ensures p))
+    minterm_same c.args.minterm _ _ _ _ (done_after one new old from mid at c.within_edge-then-from-place.ensures late ∙ ap old same) (done_after one new old from mid x c.within_edge-then-from-place.ensures p))
     in
     join_right two c.within_edge-then-from-place-2.new.row new new (blit_bit c.args.minterm (row_bit two) (place + (stop - from)) (row_bit two) stop) old from stop c.args.end (omega arith) (omega arith) both c.within_edge-then-from-place-2.ensures (λ x p q. refl)
     (λ x p q.
     let at : ℕ = place + (stop - from) + (x - stop) in
     let same : at ≡ place + (x - from) = omega arith in
     let late : stop ≤ at = omega arith in
-    minterm_same c.args.minterm _ _ _ _ (done-after two new old from stop at both late ∙ ap old same) (done-after two new old from stop x both p))
+    minterm_same c.args.minterm _ _ _ _ (done_after two new old from stop at both late ∙ ap old same) (done_after two new old from stop x both p))
 
 pub returns-else-from-place : goal.returns-else-from-place
 returns-else-from-place c =
@@ -48,10 +48,10 @@ returns-else-from-place c =
     let at : ℕ = place + (mid - from) + (x - mid) in
     let same : at ≡ place + (x - from) = omega arith in
     let early : at < stop = omega arith in
-    minterm_same c.args.minterm _ _ _ _ (done-before one first old stop end at c.within_edge-else-from-place.ensures early ∙ ap old same) (done-before one first old stop end x c.within_edge-else-from-place.ensures q))
+    minterm_same c.args.minterm _ _ _ _ (done_before one first old stop end at c.within_edge-else-from-place.ensures early ∙ ap old same) (done_before one first old stop end x c.within_edge-else-from-place.ensures q))
     in
     join_left two c.within_edge-else-from-place-2.new.row new new (blit_bit c.args.minterm (row_bit two) place (row_bit two) from) old from mid end (omega arith) (omega arith) both c.within_edge-else-from-place-2.ensures (λ x p q. refl)
     (λ x p q.
     let at : ℕ = place + (x - from) in
     let early : at < mid = omega arith in
-    minterm_same c.args.minterm _ _ _ _ (done-before two new old mid end at both early) (done-before two new old mid end x both q))
+    minterm_same c.args.minterm _ _ _ _ (done_before two new old mid end at both early) (done_before two new old mid end x both q))

@@ -2,15 +2,15 @@ use Rattle.std.proofs.Common.{◌≡◌, ◌++◌, ◌∙◌, ap, sym, refl, ari
 use Rattle.std.specs.List.{flat_map, range_with_len}
 use Rattle.lw_planes.specs.Bitmap.{plane_row}
 use Rattle.lw_calls.specs.Written.{line_of, hex_byte}
-use Rattle.lw_text.proofs.Pieces.{piece-written}
+use Rattle.lw_text.proofs.Pieces.{piece_written}
 use Rattle.lw_print.proofs.ManyLines.{planes-text}
 use Rattle.lw_print.proofs.bitmaps.push_planes.Goals as goal
 
 pub loop-plane-preserved : goal.loop-plane-preserved
 loop-plane-preserved c =
     let bitmap = c.args.bitmap.now in
-    piece-written (λ k. flat_map (λ y. line_of (flat_map hex_byte (plane_row bitmap k y))) (range_with_len 0 bitmap.height)) _ _ _ _ c.loop-plane.plane
-    c.loop-plane.invariant c.in_ok-push_rows.ensures refl
+    piece_written (λ k. flat_map (λ y. line_of (flat_map hex_byte (plane_row bitmap k y))) (range_with_len 0 bitmap.height)) _ _ _ _ c.loop-plane.plane
+    c.loop-plane.invariant c.in_ok-push_rows.ensures.ok refl
 
 pub returns : goal.returns
 returns c =

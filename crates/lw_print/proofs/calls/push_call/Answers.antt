@@ -10,4 +10,4 @@ returns c =
     let bitmaps = c.args.bitmaps.now in
     on_ok_weaker c.end_line.result
     (line-written (words_of_call names bitmaps c.args.call.now) c.as_bytes.result.now c.args.out.now.items _ _ _ (c.as_bytes.ensures.value ∙ c.verb_of.ensures names bitmaps) c.in_ok-extend_from_slice.ensures.items c.in_ok-push_rest.ensures)
-    c.end_line.ensures
+    c.end_line.ensures.ok

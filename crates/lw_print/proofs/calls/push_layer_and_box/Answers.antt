@@ -12,7 +12,7 @@ returns-in_ok-push_word-in-SetBox c = λ bitmaps.
     let call = c.in-SetBox in
     rw call.is
     (on_ok_weaker c.push_four.result
-    (λ h. word-more _ _ (four_words (four call.x call.y call.w call.h)) c.args.out.now.items _ _ c.name_of.ensures c.in_ok-push_word-in-SetBox.ensures
+    (λ h. word-more _ _ (four_words (four call.x call.y call.w call.h)) c.args.out.now.items _ _ c.name_of.ensures c.in_ok-push_word-in-SetBox.ensures.ok
     (four-written _ _ _ _ _ _ _ _ _ _ (number-read call.x (search rules)) (number-read call.y (search rules)) (number-read call.w (search rules)) (number-read call.h (search rules)) h))
     c.push_four.ensures)
 
@@ -24,4 +24,4 @@ returns-in_ok-push_placed-in-ScrollRaster c = λ bitmaps.
     (λ h. more-behind (c.name_of-in-ScrollRaster.result.now ∷ signed_decimal call.dx ∷ signed_decimal call.dy ∷ []) (four_words call.rect) c.args.out.now.items _ _
     (placed-written _ _ _ _ _ _ _ (number-read call.dx (search rules)) (number-read call.dy (search rules)) c.in_ok-push_placed-in-ScrollRaster.ensures)
     (bounds-behind call.rect _ _ h))
-    c.push_spaced_bounds-in-ScrollRaster.ensures)
+    c.push_spaced_bounds-in-ScrollRaster.ensures.ok)

@@ -13,7 +13,7 @@ returns-in_ok-push_opened-in-OpenWindow c = λ bitmaps.
     let made : List (List ℕ) = kind_word call.make.kind ∷ place_word call.make.place ∷ four_words asked.box ++ opened_words call.make.kind asked call.framed call.nocare call.asks in
     rw call.is
     (on_ok_weaker c.push_text.result
-    (λ h. word-more _ _ (made ++ text_word call.title ∷ []) c.args.out.now.items _ _ c.name_of-in-OpenWindow.ensures c.in_ok-push_word-in-OpenWindow.ensures
+    (λ h. word-more _ _ (made ++ text_word call.title ∷ []) c.args.out.now.items _ _ c.name_of-in-OpenWindow.ensures c.in_ok-push_word-in-OpenWindow.ensures.ok
     (more-behind made (text_word call.title ∷ []) _ _ _
     c.in_ok-push_opened-in-OpenWindow.ensures
     (h ∙ ap (λ title. c.push_opened.new.out.items ++ behind (text_word title ∷ [])) c.bytes.ensures)))

@@ -1,14 +1,14 @@
 use Rattle.std.proofs.Common.{◌≡◌, ◌+◌, [], refl, arith}
 use Rattle.std.specs.List.{slice_index_or}
 use Rattle.lw_canonical.specs.Canonical.{lines_of_glyph}
-use Rattle.lw_text.proofs.Pieces.{piece-written}
+use Rattle.lw_text.proofs.Pieces.{piece_written}
 use Rattle.lw_print.specs.Behind.{text_of_lines}
 use Rattle.lw_print.proofs.ManyLines.{pieces-text}
 use Rattle.lw_print.proofs.glyphs.push_glyphs.Goals as goal
 
 pub loop-index-preserved : goal.loop-index-preserved
 loop-index-preserved c =
-    piece-written (λ i. text_of_lines (lines_of_glyph (32 + i) (slice_index_or c.args.glyphs.now i []))) _ _ _ _ c.loop-index.index
+    piece_written (λ i. text_of_lines (lines_of_glyph (32 + i) (slice_index_or c.args.glyphs.now i []))) _ _ _ _ c.loop-index.index
     c.loop-index.invariant c.in_ok-push_glyph.ensures refl
 
 pub returns : goal.returns

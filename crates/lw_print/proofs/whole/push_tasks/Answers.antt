@@ -1,14 +1,14 @@
 use Rattle.std.proofs.Common.{◌≡◌, ap, refl, arith}
 use Rattle.lw_calls.specs.declared.sizes.Sizes.{Sizes}
 use Rattle.lw_canonical.specs.Canonical.{lines_of_task}
-use Rattle.lw_text.proofs.Pieces.{piece-written}
+use Rattle.lw_text.proofs.Pieces.{piece_written}
 use Rattle.lw_print.specs.Behind.{text_of_lines}
 use Rattle.lw_print.proofs.ManyLines.{pieces-text}
 use Rattle.lw_print.proofs.whole.push_tasks.Goals as goal
 
 pub loop-task-preserved : goal.loop-task-preserved
 loop-task-preserved c =
-    piece-written (λ t. text_of_lines (lines_of_task c.args.plan.now t)) _ _ _ _ c.loop-task.task c.loop-task.invariant c.in_ok-push_task.ensures refl
+    piece_written (λ t. text_of_lines (lines_of_task c.args.plan.now t)) _ _ _ _ c.loop-task.task c.loop-task.invariant c.in_ok-push_task.ensures refl
 
 pub returns : goal.returns
 returns c =

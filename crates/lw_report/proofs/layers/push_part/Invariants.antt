@@ -1,6 +1,6 @@
 use Rattle.std.proofs.Common.{◌≡◌, ◌++◌, [], None}
 use Rattle.std.specs.List.{flat_map, range_with_len, slice_index_or}
-use Rattle.lw_report.specs.Text.{of_seen}
+use Rattle.lw_machine.specs.Report.{of_seen}
 use Rattle.lw_report.specs.Words.{part_text}
 use Rattle.lw_report.proofs.layers.push_part.Given as goal
 

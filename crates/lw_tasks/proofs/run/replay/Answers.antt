@@ -2,7 +2,7 @@ use Rattle.std.proofs.Common.{◌≡◌, ℕ, ◌<◌, List, [], ap, subst, arit
 use Rattle.std.proofs.lemmas.Result.{IfOk-weaker}
 use Rattle.lw_calls.specs.Entries.{entries}
 use Rattle.lw_machine.specs.History.{machine, replies_of}
-use Rattle.lw_machine.specs.Report.{opening_desk}
+use Rattle.lw_machine.specs.Finals.{opening_desk}
 use Rattle.lw_tasks.specs.Run.{HasRun}
 use Rattle.lw_tasks.proofs.run.replay.Goals as goal
 

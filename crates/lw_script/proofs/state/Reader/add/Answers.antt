@@ -4,14 +4,14 @@ use Rattle.lw_grammar.specs.LineForms.{LineForm as FormValue}
 use Rattle.lw_lines.specs.declared.form.LineForm.{LineForm}
 use Rattle.lw_lines.specs.FormMeaning.{form_meaning}
 use Rattle.lw_script.specs.declared.state.Reader.{Reader}
-use Rattle.lw_script.specs.Stands.{Stands, CanAdd}
+use Rattle.lw_script.specs.Represents.{Represents, CanAdd}
 use Rattle.lw_script.proofs.Addable.{in_64, screen_ranged, bitmap_ranged}
 use Rattle.lw_script.proofs.Passing.{same_screen, same_bitmap, on_done}
 use Rattle.lw_script.proofs.state.Reader.add.Goals as goal
 
--- the reader stands for the form put on the lines above
+-- the reader represents the form put on the lines above
 abbrev Put : Setting → Reader → List FormValue → LineForm → Type 0
-Put s r above f = Stands s r (form_meaning f ∷ above)
+Put s r above f = Represents s r (form_meaning f ∷ above)
 
 pub returns-in-End : goal.returns-in-End
 returns-in-End c = λ s above k. subst (Put s c.add_end.new.self above) (sym c.in-End.is) (c.add_end.ensures s above k)

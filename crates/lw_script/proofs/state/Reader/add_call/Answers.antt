@@ -2,7 +2,7 @@ use Rattle.std.proofs.Common.{refl, ap, ◌∙◌}
 use Rattle.lw_grammar.specs.LineForms.{CallLine}
 use Rattle.lw_lines.specs.FormMeaning.{act_meaning, layers_meaning}
 use Rattle.lw_lines.specs.CallMeaning.{bitmap_place}
-use Rattle.lw_script.proofs.Addable.{here_of, due_of, few_names, few_bitmaps, call_ranged, call_made, call_room, call_supers}
+use Rattle.lw_script.proofs.Addable.{few_names, few_bitmaps, call_ranged, call_made, call_room, call_supers}
 use Rattle.lw_script.proofs.Passing.{with_tasks, on_done}
 use Rattle.lw_script.proofs.state.Reader.add_call.Goals as goal
 
@@ -28,4 +28,4 @@ pub returns : goal.returns
 returns c = λ s above k.
     let f = CallLine (layers_meaning c.args.layers) (act_meaning c.args.act) in
     let r = c.args.self.now in
-    on_done c.add_call.result _ _ (with_tasks s r above f c.add_call.new.self refl refl (due_of r f c.requires (here_of r f c.requires).0) k) (c.add_call.ensures above (c.bitmap_of-bitmap.ensures ∙ ap (λ ns. bitmap_place ns (act_meaning c.args.act)) k.assets.names) k.tasks)
+    on_done c.add_call.result _ _ (with_tasks s r above f c.add_call.new.self refl refl k) (c.add_call.ensures above (c.bitmap_of-bitmap.ensures ∙ ap (λ ns. bitmap_place ns (act_meaning c.args.act)) k.assets.names) k.tasks)

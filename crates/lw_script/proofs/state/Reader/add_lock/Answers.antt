@@ -1,6 +1,6 @@
 use Rattle.std.proofs.Common.{refl}
 use Rattle.lw_grammar.specs.LineForms.{LockLine}
-use Rattle.lw_script.proofs.Addable.{here_of, due_of, few_names}
+use Rattle.lw_script.proofs.Addable.{few_names}
 use Rattle.lw_script.proofs.Passing.{with_tasks, on_done}
 use Rattle.lw_script.proofs.state.Reader.add_lock.Goals as goal
 
@@ -11,4 +11,4 @@ pub returns : goal.returns
 returns c = λ s above k.
     let f = LockLine c.args.name.now in
     let r = c.args.self.now in
-    on_done c.add_lock.result _ _ (with_tasks s r above f c.add_lock.new.self refl refl (due_of r f c.requires (here_of r f c.requires).0) k) (c.add_lock.ensures above k.tasks)
+    on_done c.add_lock.result _ _ (with_tasks s r above f c.add_lock.new.self refl refl k) (c.add_lock.ensures above k.tasks)

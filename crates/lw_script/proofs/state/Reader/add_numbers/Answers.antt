@@ -1,6 +1,6 @@
 use Rattle.std.proofs.Common.{◌++◌, map, unsigned_abs, ◌∙◌, ap, refl}
 use Rattle.lw_grammar.specs.LineForms.{NumbersLine}
-use Rattle.lw_script.proofs.Addable.{here_of, tests_of, due_of}
+use Rattle.lw_script.proofs.Addable.{tests_of}
 use Rattle.lw_script.proofs.Passing.{assets_pass, tasks_pass, on_done}
 use Rattle.lw_script.proofs.state.Reader.add_numbers.Goals as goal
 
@@ -18,7 +18,7 @@ returns c = λ s above k.
       width = k.width;
       height = k.height;
       depth = k.depth;
-      assets = assets_pass c.args.self.now.assets above f refl (due_of c.args.self.now f c.requires (here_of c.args.self.now f c.requires).0) k.assets;
+      assets = assets_pass c.args.self.now.assets above f refl k.assets;
       tasks = tasks_pass c.args.self.now.tasks above f refl k.tasks;
       order = e ∙ ap (λ ns. ns ++ map unsigned_abs c.args.numbers.now) k.order;
     }) c.push_numbers.ensures

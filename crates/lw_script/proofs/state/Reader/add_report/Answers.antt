@@ -1,6 +1,5 @@
 use Rattle.std.proofs.Common.{refl}
 use Rattle.lw_grammar.specs.LineForms.{ReportLine}
-use Rattle.lw_script.proofs.Addable.{here_of, due_of}
 use Rattle.lw_script.proofs.Passing.{assets_pass, tasks_pass}
 use Rattle.lw_script.proofs.state.Reader.add_report.Goals as goal
 
@@ -14,7 +13,7 @@ returns c = λ s above k.
       width = k.width;
       height = k.height;
       depth = k.depth;
-      assets = assets_pass r.assets above ReportLine refl (due_of r ReportLine c.requires (here_of r ReportLine c.requires).0) k.assets;
+      assets = assets_pass r.assets above ReportLine refl k.assets;
       tasks = tasks_pass r.tasks above ReportLine refl k.tasks;
       order = k.order;
     }

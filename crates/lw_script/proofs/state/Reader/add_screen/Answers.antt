@@ -1,6 +1,6 @@
 use Rattle.std.proofs.Common.{refl, ap, ◌∙◌, unsigned_abs, w64}
 use Rattle.lw_grammar.specs.LineForms.{ScreenLine}
-use Rattle.lw_script.proofs.Addable.{screen_ranged, here_of, due_of}
+use Rattle.lw_script.proofs.Addable.{screen_ranged}
 use Rattle.lw_script.proofs.Passing.{assets_pass, tasks_pass}
 use Rattle.std.proofs.lemmas.Int.{to_z-of_z}
 use Rattle.lw_script.proofs.state.Reader.add_screen.Goals as goal
@@ -27,7 +27,7 @@ returns c = λ s above k.
       width = c.size-self.ensures ∙ ap unsigned_abs (to_z-of_z w64 c.args.width c.ranges.width);
       height = c.size-self-2.ensures ∙ ap unsigned_abs (to_z-of_z w64 c.args.height c.ranges.height);
       depth = c.depth-self.ensures ∙ ap unsigned_abs (to_z-of_z w64 c.args.depth c.ranges.depth);
-      assets = assets_pass c.args.self.now.assets above f refl (due_of c.args.self.now f c.requires (here_of c.args.self.now f c.requires).0) k.assets;
+      assets = assets_pass c.args.self.now.assets above f refl k.assets;
       tasks = tasks_pass c.args.self.now.tasks above f refl k.tasks;
       order = k.order;
     }

@@ -1,4 +1,4 @@
-use Rattle.lw_script.proofs.Addable.{task_new, here_of, due_of}
+use Rattle.lw_script.proofs.Addable.{task_new}
 use Rattle.lw_script.proofs.Passing.{assets_pass}
 use Rattle.std.proofs.Common.{refl}
 use Rattle.lw_grammar.specs.LineForms.{TaskLine}
@@ -17,7 +17,7 @@ returns c = λ s above k.
       width = k.width;
       height = k.height;
       depth = k.depth;
-      assets = assets_pass c.args.self.now.assets above f refl (due_of c.args.self.now f c.requires (here_of c.args.self.now f c.requires).0) k.assets;
+      assets = assets_pass c.args.self.now.assets above f refl k.assets;
       tasks = c.in_ok-add_task.ensures above k.tasks;
       order = k.order;
     }

@@ -1,6 +1,6 @@
 use Rattle.std.proofs.Common.{refl}
 use Rattle.lw_grammar.specs.LineForms.{UnlockLine}
-use Rattle.lw_script.proofs.Addable.{here_of, due_of, few_names, some_unlocked}
+use Rattle.lw_script.proofs.Addable.{few_names, some_unlocked}
 use Rattle.lw_script.proofs.Passing.{with_tasks, on_done}
 use Rattle.lw_script.proofs.state.Reader.add_unlock.Goals as goal
 
@@ -14,4 +14,4 @@ pub returns : goal.returns
 returns c = λ s above k.
     let f = UnlockLine c.args.name.now in
     let r = c.args.self.now in
-    on_done c.add_unlock.result _ _ (with_tasks s r above f c.add_unlock.new.self refl refl (due_of r f c.requires (here_of r f c.requires).0) k) (c.add_unlock.ensures above k.tasks)
+    on_done c.add_unlock.result _ _ (with_tasks s r above f c.add_unlock.new.self refl refl k) (c.add_unlock.ensures above k.tasks)

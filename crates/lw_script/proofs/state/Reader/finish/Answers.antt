@@ -1,10 +1,12 @@
-use Rattle.std.proofs.Common.{◌≡◌, true, cond, Ok, Err, sym, ap, ◌∙◌}
+use Rattle.std.proofs.Common.{◌≡◌, true, Ok, sym, ap, ◌∙◌}
+use Rattle.lw_grammar.specs.Told.{told}
+use Rattle.lw_grammar.specs.Script.{at_number, may_end, input_from}
+use Rattle.lw_grammar.specs.Demands.{◌>>=◌, demand}
 use Rattle.lw_calls.specs.declared.reason.Reason.TheVariants.{Missing}
-use Rattle.lw_grammar.specs.Script.{is_whole}
 use Rattle.lw_script.proofs.ReadPlans.{ends_alike}
 use Rattle.lw_script.proofs.state.Reader.finish.Goals as goal
 
 pub returns : goal.returns
-returns c = λ s above k.
-    (let whole : is_whole s.form above ≡ true = sym (ends_alike s c.args.self above k) ∙ sym c.may_end.ensures ∙ c.if-not-may_end.false in
-    (above, ap (λ b. cond b (Ok above) (Err (c.args.number, Missing))) whole, c.in_ok-input.ensures s above k))
+returns c = λ s p n k.
+    (let whole : may_end s.form (told p.forms).section ≡ true = sym (ends_alike s c.args.self p.forms k) ∙ sym c.may_end.ensures ∙ c.if-not-may_end.false in
+    ap (λ b. (at_number p.number (demand b Missing) >>= (λ _. Ok p)) >>= (λ q. Ok (input_from s (told q.forms) c.args.rest))) whole ∙ ap Ok (sym (c.in_ok-input.ensures s p.forms k)))

@@ -1,5 +1,5 @@
 use Rattle.std.proofs.Common.{◌≤◌, length, arith}
-use Rattle.lw_grammar.specs.LinesAbove.{tasks_above, bitmaps_above}
+use Rattle.lw_grammar.specs.Told.{told}
 use Rattle.lw_grammar.proofs.ScriptSizes.{counted}
 use Rattle.lw_script.proofs.ReadPlans.{names_fit}
 use Rattle.lw_script.proofs.state.Reader.sizes.Goals as goal
@@ -12,11 +12,11 @@ overflow_cast-result c =
 pub overflow_cast-result-2 : goal.overflow_cast-result-2
 overflow_cast-result-2 c =
     let h = c.requires in
-    let few : length (tasks_above h.1) ≤ 16 = (counted h.0 h.1 h.3).tasks in
+    let few : length (told h.1).tasks ≤ 16 = (counted h.0 h.1 h.3).tasks in
     names_fit c.args.self.now.tasks.task_names.keys _ c.len-2.result c.len-2.ensures.len h.2.tasks.tasks (omega (arith, few))
 
 pub overflow_cast-result-3 : goal.overflow_cast-result-3
 overflow_cast-result-3 c =
     let h = c.requires in
-    let few : length (bitmaps_above h.1) ≤ 16 = (counted h.0 h.1 h.3).bitmaps in
+    let few : length (told h.1).bitmap_names ≤ 16 = (counted h.0 h.1 h.3).bitmaps in
     names_fit c.args.self.now.assets.names.keys _ c.len-3.result c.len-3.ensures.len h.2.assets.names (omega (arith, few))

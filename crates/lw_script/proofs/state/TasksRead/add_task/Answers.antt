@@ -1,4 +1,4 @@
-use Rattle.std.proofs.Common.{[], ◌∷◌, ◌++◌, refl, ap, arith, ◌∙◌}
+use Rattle.std.proofs.Common.{[], ◌∷◌, ◌++◌, refl, ap, ◌∙◌}
 use Rattle.lw_words.specs.Cuts.{targets}
 use Rattle.lw_script.proofs.ListsOfLists.{begun}
 use Rattle.lw_script.proofs.NamesAdded.{targets_insert, new_name}
@@ -10,7 +10,7 @@ returns c = λ above s.
     record {
       tasks = ap targets c.in_ok-insert.ensures.keys ∙ targets_insert ks c.args.name ∙ new_name ks c.args.name c.requires.new ∙ ap (λ ns. ns ++ c.args.name.now ∷ []) s.tasks;
       names = s.names;
-      supers = omega (arith, s.supers);
+      supers = s.supers;
       used = s.used;
       group = s.group;
       began = s.began;

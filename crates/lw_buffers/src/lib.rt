@@ -1,0 +1,11 @@
+//! Rows of pixels read out of a list of rectangles with a bitmap each, as a layer keeps its pixels in clip rectangles (the
+//! manual's Layers Library chapter; the form is this project's own).
+#![tactic(auto)]
+
+mod copying;
+mod shared;
+
+pub use copying::{copy_over, copy_row};
+
+#[cfg(test)]
+mod tests;

@@ -1,0 +1,5 @@
+pub mod DrawnLaws
+pub mod LineLaws
+pub mod PaintLaws
+pub mod SpanLaws
+pub mod StretchLaws

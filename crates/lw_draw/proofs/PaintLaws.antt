@@ -1,0 +1,179 @@
+-- Laws of painting a layer plane by plane, run by run and row by row.
+use Rattle.std.proofs.Common.{◌≡◌, ℕ, ◌+◌, ◌==◌, ◌<◌, ◌≤◌, ◌^◌, Bool, true, false, ◌&&◌, ◌||◌, nat_lt, if◌then◌else◌, ◌∙◌, sym, refl, ap, subst, arith, pos}
+use Rattle.std.specs.Int.{bit_at}
+use Rattle.std.proofs.lemmas.Bool.Decides.{nat_tests}
+use Rattle.std.proofs.lemmas.Nat.Bits.{bit_at-lt}
+use Rattle.lw_region.specs.Rectangle.{Rectangle, within, has_pixel}
+use Rattle.lw_planes.specs.Pen.{pen_of}
+use Rattle.lw_planes.specs.Bitmap.{IsBitmap, pen_at}
+use Rattle.lw_planes.proofs.PenLaws.{pen_of_same, pen_same}
+use Rattle.lw_kernels.specs.Kernel.{is_between, is_named}
+use Rattle.lw_machine.specs.Layer.{Raster}
+use Rattle.lw_machine.specs.Kept.{is_drawable, is_kept}
+use Rattle.lw_machine.specs.Paint.{candidate_bit, through_mask, with_pens}
+use Rattle.lw_machine.specs.Shapes.{rect_fill}
+use Rattle.lw_layer.specs.View.{LiveView, CellView, shows, draws, with_live, with_layer}
+use Rattle.lw_layer.specs.Runs.{IsRun}
+use Rattle.lw_layer.specs.declared.run.Run.{Run}
+use Rattle.lw_draw.specs.Drawn.{drawn, GivesBits, painted_bit, painted, in_run, in_row, in_rows}
+use Rattle.lw_draw.specs.Stretches.{IsFirst}
+use Rattle.lw_draw.specs.declared.stretch.Stretch.{Stretch}
+use Rattle.lw_draw.proofs.DrawnLaws.{AreMore, drawn_more, drawn_same, drawn_nowhere, repainted_same}
+
+-- a cell drawn on nowhere
+pub cell_nowhere : (v : CellView) (on : ℕ → ℕ → ℕ → Bool) (new : ℕ → ℕ → ℕ → ℕ → ℕ) → IsBitmap v.live.layer.bits → ((p x y : ℕ) → on p x y ≡ false) → v ≡ with_live (λ c. drawn on new c) v
+cell_nowhere v on new ok none = ap (λ q. record v { live = q }) (sym (drawn_nowhere v.live on new ok none))
+
+-- a cell drawn on at the same places
+pub cell_same : (v w : CellView) (on again : ℕ → ℕ → ℕ → Bool) (new : ℕ → ℕ → ℕ → ℕ → ℕ) → w ≡ with_live (λ c. drawn on new c) v → ((p x y : ℕ) → p < v.live.layer.bits.depth → on p x y ≡ again p x y) → w ≡ with_live (λ c. drawn again new c) v
+cell_same v w on again new is same = is ∙ ap (λ q. record v { live = q }) (drawn_same v.live on again new (λ p x y deep _ _. same p x y deep))
+
+-- a cell drawn on twice, at places that are apart
+pub cell_more : (v w u : CellView) (former more both : ℕ → ℕ → ℕ → Bool) (new : ℕ → ℕ → ℕ → ℕ → ℕ) → GivesBits new → AreMore v.live former more both → w ≡ with_live (λ c. drawn former new c) v → u ≡ with_live (λ c. drawn more new c) w → u ≡ with_live (λ c. drawn both new c) v
+cell_more v w u former more both new gives are was is =
+    is ∙ (ap (with_live (λ c. drawn more new c)) was ∙ ap (λ q. record v { live = q }) (drawn_more v.live former more both new gives are))
+
+-- a run stays one
+pub run_stays : (v w : CellView) (on : ℕ → ℕ → ℕ → Bool) (new : ℕ → ℕ → ℕ → ℕ → ℕ) (x y : ℕ) (r : Run) → w ≡ with_live (λ c. drawn on new c) v → IsRun v.live (λ i j. draws v.live i j) x y r → IsRun w.live (λ i j. draws w.live i j) x y r
+unfolding drawn draws is_drawable is_kept
+run_stays v w on new x y r is run =
+    let P : CellView → Type 0 = λ q. IsRun q.live (λ i j. draws q.live i j) x y r in
+    subst P (sym is) (record { some = run.some; there = run.there; holds = run.holds; inside = run.inside; fits = run.fits; bits = run.bits })
+
+-- how many planes there are stays
+pub depth_stays : (v w : CellView) (on : ℕ → ℕ → ℕ → Bool) (new : ℕ → ℕ → ℕ → ℕ → ℕ) → w ≡ with_live (λ c. drawn on new c) v → w.live.layer.bits.depth ≡ v.live.layer.bits.depth
+unfolding drawn
+depth_stays v w on new is = ap (λ (q : CellView). q.live.layer.bits.depth) is
+
+-- which pixels are drawable stays
+pub draws_stays : (v w : CellView) (on : ℕ → ℕ → ℕ → Bool) (new : ℕ → ℕ → ℕ → ℕ → ℕ) (x y : ℕ) → w ≡ with_live (λ c. drawn on new c) v → draws w.live x y ≡ draws v.live x y
+unfolding drawn draws is_drawable is_kept
+draws_stays v w on new x y is = ap (λ (q : CellView). draws q.live x y) is
+
+-- what a bit is painted to is a bit
+pub paints_bits : (raster : Raster) → GivesBits (painted_bit raster)
+paints_bits raster p x y old small =
+    let a = bit_at-lt raster.pen_a p in
+    let b = bit_at-lt raster.pen_b p in
+    grind (arith, nat_tests)
+
+-- the first run of a row that is left is the same
+pub first_stays : (v w : CellView) (on : ℕ → ℕ → ℕ → Bool) (new : ℕ → ℕ → ℕ → ℕ → ℕ) (x y end : ℕ) (s : Stretch) → w ≡ with_live (λ c. drawn on new c) v → IsFirst w.live x y end s → IsFirst v.live x y end s
+unfolding drawn draws is_drawable is_kept
+first_stays v w on new x y end s is first =
+    let P : CellView → Type 0 = λ q. IsFirst q.live x y end s in
+    let there : P (with_live (λ c. drawn on new c) v) = subst P is first in
+    let run = there.run in
+    record {
+      row = there.row;
+      from = there.from;
+      ends = there.ends;
+      before = there.before;
+      run = record { some = run.some; there = run.there; holds = run.holds; inside = run.inside; fits = run.fits; bits = run.bits };
+    }
+
+-- no plane, all planes
+pub no_plane : (p : ℕ) (more : Bool) → (nat_lt p 0 && more) ≡ false
+no_plane p more = grind (arith, nat_tests)
+
+pub all_planes : (p k : ℕ) (more : Bool) → p < k → (nat_lt p k && more) ≡ more
+all_planes p k true deep = grind (arith, nat_tests)
+all_planes p k false deep = grind (arith, nat_tests)
+
+-- no column and no row
+pub no_column : (has row : Bool) (from i : ℕ) (more : Bool) → (has && (row && (is_between from from i && more))) ≡ false
+no_column has row from i more = grind (arith, nat_tests)
+
+pub no_row : (has : Bool) (top j : ℕ) (more : Bool) → (has && (is_between top top j && more)) ≡ false
+no_row has top j more = grind (arith, nat_tests)
+
+-- one plane more, which the mask has
+plane_apart : (p k : ℕ) (has run : Bool) → ((nat_lt p k && (has && run)) && (p == k && run)) ≡ false
+plane_apart p k has run = grind (arith, nat_tests)
+
+plane_whole : (p k : ℕ) (has run : Bool) → (p ≡ k → has ≡ true) → (nat_lt p (k + 1) && (has && run)) ≡ ((nat_lt p k && (has && run)) || (p == k && run))
+plane_whole p k has run masked = grind (arith, nat_tests)
+
+pub next_plane : (c : LiveView) (has : ℕ → Bool) (k : ℕ) (run : ℕ → ℕ → Bool) → has k ≡ true → AreMore c (λ p i j. nat_lt p k && (has p && run i j)) (λ p i j. p == k && run i j) (λ p i j. nat_lt p (k + 1) && (has p && run i j))
+next_plane c has k run masked = record {
+  apart = λ p i j _ _ _. plane_apart p k (has p) (run i j);
+  whole = λ p i j _ _ _. plane_whole p k (has p) (run i j) (λ e. ap has e ∙ masked);
+}
+
+-- one plane more, which the mask leaves out
+pub left_plane : (has : ℕ → Bool) (k : ℕ) (run : Bool) (p : ℕ) → has k ≡ false → (nat_lt p k && (has p && run)) ≡ (nat_lt p (k + 1) && (has p && run))
+left_plane has k run p left = let off : p ≡ k → has p ≡ false = λ e. ap has e ∙ left in let b : Bool = has p in grind (arith, nat_tests)
+
+-- one run more of a row
+run_apart : (has : Bool) (i j y from x column len : ℕ) (drawable : Bool) → x ≤ column → ((has && (j == y && (is_between from x i && drawable))) && (has && (j == y && is_named column len i))) ≡ false
+run_apart has i j y from x column len drawable late = grind (arith, nat_tests)
+
+run_whole : (has : Bool) (i j y from x column len : ℕ) (drawable : Bool) → from ≤ x → x ≤ column → (x ≤ i → i < column → j ≡ y → drawable ≡ false) → (column ≤ i → i < column + len → j ≡ y → drawable ≡ true) → (has && (j == y && (is_between from (column + len) i && drawable))) ≡ ((has && (j == y && (is_between from x i && drawable))) || (has && (j == y && is_named column len i)))
+run_whole has i j y from x column len drawable first late before inside = grind (arith, nat_tests)
+
+pub next_run : (c : LiveView) (has : ℕ → Bool) (y from x end : ℕ) (s : Stretch) → from ≤ x → IsFirst c x y end s → AreMore c (λ p i j. has p && in_row c y from x i j) (λ p i j. has p && in_run s.x s.y s.run.len i j) (λ p i j. has p && in_row c y from (s.x + s.run.len) i j)
+next_run c has y from x end s first is =
+    let P : ℕ → Type 0 = λ v. AreMore c (λ p i j. has p && in_row c y from x i j) (λ p i j. has p && in_run s.x v s.run.len i j) (λ p i j. has p && in_row c y from (s.x + s.run.len) i j) in
+    let at : ℕ → ℕ → Bool = λ i j. draws c i j in
+    subst P (sym is.row) (record {
+      apart = λ p i j _ _ _. run_apart (has p) i j y from x s.x s.run.len (draws c i j) is.from;
+      whole =
+          λ p i j _ _ _. run_whole (has p) i j y from x s.x s.run.len (draws c i j) first is.from
+          (λ late low e. ap (at i) e ∙ is.before i late low)
+          (λ late low e. ap (at i) (e ∙ sym is.row) ∙ is.run.holds i late low);
+    })
+
+-- the end of a row
+row_end : (has row : Bool) (i from x end : ℕ) (drawable : Bool) → from ≤ x → x ≤ end → (x ≤ i → i < end → row ≡ true → drawable ≡ false) → (has && (row && (is_between from x i && drawable))) ≡ (has && (row && (is_between from end i && drawable)))
+row_end has row i from x end drawable first late none = grind (arith, nat_tests)
+
+pub row_done : (c : LiveView) (has : Bool) (y from x end i j : ℕ) → from ≤ x → x ≤ end → ((u : ℕ) → x ≤ u → u < end → draws c u y ≡ false) → (has && in_row c y from x i j) ≡ (has && in_row c y from end i j)
+row_done c has y from x end i j first late none =
+    let at : ℕ → ℕ → Bool = λ u v. draws c u v in
+    row_end has (j == y) i from x end (draws c i j) first late (λ on low same. let e : j ≡ y = grind (arith, nat_tests) in ap (at i) e ∙ none i on low)
+
+-- one row more
+rows_apart : (has inside : Bool) (j top y : ℕ) → ((has && (is_between top y j && inside)) && (has && (j == y && inside))) ≡ false
+rows_apart has inside j top y = grind (arith, nat_tests)
+
+rows_whole : (has inside : Bool) (j top y : ℕ) → top ≤ y → (has && (is_between top (y + 1) j && inside)) ≡ ((has && (is_between top y j && inside)) || (has && (j == y && inside)))
+rows_whole has inside j top y low = grind (arith, nat_tests)
+
+pub next_row : (c : LiveView) (has : ℕ → Bool) (top y from end : ℕ) → top ≤ y → AreMore c (λ p i j. has p && in_rows c top y from end i j) (λ p i j. has p && in_row c y from end i j) (λ p i j. has p && in_rows c top (y + 1) from end i j)
+next_row c has top y from end low = record {
+  apart = λ p i j _ _ _. rows_apart (has p) (is_between from end i && draws c i j) j top y;
+  whole = λ p i j _ _ _. rows_whole (has p) (is_between from end i && draws c i j) j top y low;
+}
+
+-- a plane's bit where the pixel is painted, and where it isn't
+painted_plane : (has : Bool) (a b : ℕ) → (if has && true then a else b) ≡ (if has then a else b)
+painted_plane true a b = refl
+painted_plane false a b = refl
+
+left_bit : (has : Bool) (a b : ℕ) → (if has && false then a else b) ≡ b
+left_bit true a b = refl
+left_bit false a b = refl
+
+-- a pen that is painted through the mask, if it is painted
+painted_pen : (d pen : ℕ) (there on : Bool) (has : ℕ → Bool) (new : ℕ → ℕ) → pen < 2 ^ d → there ≡ on → pen_of d (λ p. if has p && on then new p else bit_at pen p) ≡ (if there then pen_of d (λ p. if has p then new p else bit_at pen p) else pen)
+painted_pen d pen true true has new small is = pen_of_same d _ _ (λ p _. painted_plane (has p) (new p) (bit_at pen p))
+painted_pen d pen false false has new small is = pen_of_same d _ (λ p. bit_at pen p) (λ p _. left_bit (has p) (new p) (bit_at pen p)) ∙ pen_same d pen small
+painted_pen d pen true false has new small is = absurd (cc is)
+painted_pen d pen false true has new small is = absurd (cc is)
+
+-- the tests of a pixel, in another order
+tests_turned : (drawable column row across down : Bool) → column ≡ across → row ≡ down → (drawable && (column && row)) ≡ (down && (across && drawable))
+tests_turned true column row across true first second = grind (arith, nat_tests)
+tests_turned true column row across false first second = grind (arith, nat_tests)
+tests_turned false column row true true first second = refl
+tests_turned false column row false true first second = refl
+tests_turned false column row across false first second = refl
+
+-- A rectangle is filled once its drawable pixels are painted.
+pub rectangle_filled : (c : LiveView) (raster : Raster) (rect : Rectangle) (top bottom from end : ℕ) → IsBitmap c.layer.bits → raster ≡ c.layer.raster → ((u : ℕ) → u < c.layer.bits.width → within rect.min_x (pos u) rect.max_x ≡ is_between from end u) → ((v : ℕ) → v < c.layer.bits.height → within rect.min_y (pos v) rect.max_y ≡ is_between top bottom v) → painted raster (λ i j. in_rows c top bottom from end i j) c ≡ with_layer (λ l. rect_fill (λ x y. shows c x y) rect l) c
+unfolding drawn draws with_pens through_mask
+rectangle_filled c raster rect top bottom from end ok same columns rows =
+    ap (λ r. painted r (λ i j. in_rows c top bottom from end i j) c) same ∙
+    repainted_same c _ _
+    (λ x y left low. painted_pen c.layer.bits.depth (pen_at c.layer.bits x y) (is_drawable (λ i j. shows c i j) c.layer x y && has_pixel rect (pos x) (pos y)) (in_rows c top bottom from end x y) (λ p. bit_at c.layer.raster.mask p == 1) (λ p. candidate_bit c.layer.raster true p (bit_at (pen_at c.layer.bits x y) p)) (ok.pens x y left low)
+    (tests_turned (is_drawable (λ i j. shows c i j) c.layer x y) (within rect.min_x (pos x) rect.max_x) (within rect.min_y (pos y) rect.max_y) (is_between from end x) (is_between top bottom y) (columns x left) (rows y low)))

@@ -1,0 +1,13 @@
+use Rattle.std.proofs.Common.{sym, subst, arith}
+use Rattle.std.proofs.lemmas.Int.{ints}
+use Rattle.lw_layer.specs.View.{draws}
+use Rattle.lw_layer.specs.Runs.{IsRun}
+use Rattle.lw_layer.specs.declared.run.Run.{Run}
+use Rattle.lw_draw.proofs.StretchLaws.{run_cut}
+use Rattle.lw_draw.proofs.stretch.run_before.Goals as goal
+
+pub returns-clause-run : goal.returns-clause-run
+returns-clause-run c =
+    let live = c.args.cell.now.live in
+    let P : Run → Type 0 = λ r. IsRun live (λ i j. draws live i j) c.args.x c.args.y r in
+    subst P (sym c.cut.ensures) (run_cut live (λ i j. draws live i j) c.args.x c.args.y _ _ c.in-Some.run' _ (omega (arith, ints)) (omega (arith, ints)) (omega arith) c.in-Some.ensures)

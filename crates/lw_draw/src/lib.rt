@@ -1,0 +1,13 @@
+//! Drawing into the cell of a layer, run by run and plane by plane (the manual's Graphics Primitives chapter). It stands on
+//! the cell's public calls and knows nothing of how a cell keeps its bits.
+#![tactic(auto)]
+
+mod filling;
+mod painting;
+mod spans;
+mod stretch;
+
+pub use filling::fill;
+
+#[cfg(test)]
+mod tests;

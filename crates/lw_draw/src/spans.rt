@@ -1,0 +1,35 @@
+// A rectangle's columns or rows, as far as the layer has them.
+
+ghost use Rattle.std.specs.Prelude.{◌≡◌, ℕ, ◌<◌, ◌≤◌, pos, ◌≤ℤ◌, int_le};
+ghost use Rattle.lw_region.specs.Rectangle.{within};
+ghost use Rattle.lw_kernels.specs.Kernel.{is_between};
+
+// Places from one on, before another.
+#[derive(Clone, Copy)]
+pub(crate) struct Places {
+    pub from: u32,
+    pub end: u32,
+}
+
+// Of the places from the least to the greatest, both inclusive, those from 0 on and before the extent.
+pub(crate) fn span(least: i16, greatest: i16, extent: u32) -> Places
+    requires ordered { least ≤ℤ greatest }
+    requires near { extent ≤ 2048 }
+    ensures ordered { result.from ≤ result.end }
+    ensures inside { result.end ≤ extent }
+    ensures has { (u : ℕ) → u < extent → within least (pos u) greatest ≡ is_between result.from result.end u }
+{
+    Places {
+        from: edge(i32::from(least), extent),
+        end: edge(i32::from(greatest) + 1, extent),
+    }
+}
+
+// A place, or the nearest one from 0 to the extent.
+fn edge(place: i32, extent: u32) -> u32
+    requires { extent ≤ 2048 }
+    ensures inside { result ≤ extent }
+    ensures from { (u : ℕ) → u < extent → int_le place (pos u) ≡ int_le (pos result) (pos u) }
+{
+    place.clamp(0, extent as i32) as u32
+}

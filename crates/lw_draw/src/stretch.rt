@@ -1,0 +1,68 @@
+// Runs of drawable pixels in a row of a layer, one after another.
+
+ghost use Rattle.std.specs.Prelude.{◌≡◌, ◌+◌, ◌<◌, ◌≤◌, true, min};
+ghost use Rattle.lw_layer.specs.View.{draws};
+ghost use Rattle.lw_layer.specs.Runs.{IsRun};
+ghost use Rattle.lw_draw.specs.Stretches.{IsNextColumn, IsNextStretch};
+
+use lw_layer::{Cell, Run};
+
+// A run with the place of its first pixel.
+#[derive(Clone, Copy)]
+pub(crate) struct Stretch {
+    pub x: u32,
+    pub y: u32,
+    pub run: Run,
+}
+
+// The next run of drawable pixels in row y, from column x on and before another.
+pub(crate) fn next_stretch(cell: &Cell, x: u32, y: u32, end: u32) -> Option<Stretch>
+    requires column { x < 65536 }
+    requires row { y < 65536 }
+    requires end { end < 65536 }
+    ensures { IsNextStretch cell.now.live x y end result }
+{
+    let column = next_column(cell, x, y, end)?;
+    let run = run_before(cell, column, y, end);
+    Some(Stretch { x: column, y, run })
+}
+
+// The first drawable column of row y, from column x on and before another.
+fn next_column(cell: &Cell, x: u32, y: u32, end: u32) -> Option<u32>
+    requires column { x < 65536 }
+    requires row { y < 65536 }
+    requires end { end < 65536 }
+    ensures { IsNextColumn (λ i. draws cell.now.live i y) x end result }
+{
+    match cell.next_drawable(x as i32, y as i32, end as i32 - 1) {
+        None => None,
+        Some(column) => Some(column as u32),
+    }
+}
+
+// A run of drawable pixels from a drawable one on, before another column.
+fn run_before(cell: &Cell, x: u32, y: u32, end: u32) -> Run
+    requires row { y < 65536 }
+    requires drawable { draws cell.now.live x y ≡ true }
+    requires before { x < end }
+    requires end { end < 65536 }
+    ensures run { IsRun cell.now.live (λ i j. draws cell.now.live i j) x y result }
+    ensures ends { x + result.len ≤ end }
+{
+    match cell.run_at(x as i32, y as i32) {
+        None => unreachable!(),
+        Some(run) => cut(run, end - x),
+    }
+}
+
+// The run's first pixels, at most this many.
+fn cut(run: Run, most: u32) -> Run
+    ensures { result ≡ record run { len = min run.len most } }
+{
+    Run {
+        buffer: run.buffer,
+        line: run.line,
+        bit: run.bit,
+        len: run.len.min(most),
+    }
+}

@@ -1,0 +1,258 @@
+ghost use Rattle.std.specs.Prelude.{◌≡◌, ◌<◌, ℤ, true, IfOk};
+ghost use Rattle.lw_region.specs.Bands.{covers};
+ghost use Rattle.lw_damage.specs.Damaged.{may_lie};
+ghost use Rattle.lw_layer.specs.View as view;
+ghost use Rattle.lw_layer.specs.Drafts.{IsDraft, IsLiveDraft, cell_view};
+
+use super::fill;
+use lw_calls::{Kind, Make, Place};
+use lw_damage::Damage;
+use lw_layer::{Cell, Draft, DraftState, LiveDraft, Raster};
+use lw_region::{Rect, Region};
+use std::alloc::Global;
+use std::test::Fail;
+
+// A layer's kind, its pen A, mode and mask, its clip region if that isn't empty, the damage of an update if that isn't empty (of
+// smart layers alone), the rectangle that is filled, and what is due row by row: the digit of each pixel's pen, and a dot for a
+// pixel that isn't kept. Each rectangle is told by its four bounds.
+struct Case {
+    kind: Kind,
+    a: u8,
+    mode: u8,
+    mask: u8,
+    clip: &'static [[i16; 4]],
+    damage: &'static [[i16; 4]],
+    rect: [i16; 4],
+    due: [&'static [u8]; 3],
+}
+
+// The visible pixels of a layer that has the columns 10 to 29 and the rows 5 to 7 of the screen.
+static VISIBLE: [[i16; 4]; 2] = [[12, 5, 17, 6], [20, 6, 29, 7]];
+
+static CASES: [Case; 7] = [
+    // Over visible and hidden rectangles, and above the layer.
+    Case {
+        kind: Kind::Smart,
+        a: 1,
+        mode: 1,
+        mask: 255,
+        clip: &[],
+        damage: &[],
+        rect: [2, -5, 18, 1],
+        due: [
+            b"00111111111111111110",
+            b"00111111111111111110",
+            b"00000000000000000000",
+        ],
+    },
+    // Two rectangles of a clip region, in a rectangle of the widest range.
+    Case {
+        kind: Kind::Smart,
+        a: 3,
+        mode: 0,
+        mask: 255,
+        clip: &[[4, 0, 6, 2], [12, 1, 15, 1]],
+        damage: &[],
+        rect: [-32768, -32768, 32767, 32767],
+        due: [
+            b"00003330000000000000",
+            b"00003330000033330000",
+            b"00003330000000000000",
+        ],
+    },
+    // Inverted, in the second plane alone.
+    Case {
+        kind: Kind::Smart,
+        a: 1,
+        mode: 2,
+        mask: 2,
+        clip: &[],
+        damage: &[],
+        rect: [0, 2, 3, 2],
+        due: [
+            b"00000000000000000000",
+            b"00000000000000000000",
+            b"22220000000000000000",
+        ],
+    },
+    // In an update, what is damaged in the clip region.
+    Case {
+        kind: Kind::Smart,
+        a: 1,
+        mode: 1,
+        mask: 255,
+        clip: &[[0, 0, 9, 1]],
+        damage: &[[3, 1, 14, 9], [1, 0, 1, 0]],
+        rect: [0, 0, 18, 2],
+        due: [
+            b"01000000000000000000",
+            b"00011111110000000000",
+            b"00000000000000000000",
+        ],
+    },
+    // What is hidden isn't kept.
+    Case {
+        kind: Kind::Simple,
+        a: 2,
+        mode: 1,
+        mask: 255,
+        clip: &[],
+        damage: &[],
+        rect: [0, 0, 18, 2],
+        due: [
+            b"..222222............",
+            b"..222222..2222222220",
+            b"..........2222222220",
+        ],
+    },
+    // The mask leaves one plane of the pen.
+    Case {
+        kind: Kind::SuperBitmap,
+        a: 3,
+        mode: 1,
+        mask: 1,
+        clip: &[],
+        damage: &[],
+        rect: [1, 1, 11, 1],
+        due: [
+            b"00000000000000000000",
+            b"01111111111100000000",
+            b"00000000000000000000",
+        ],
+    },
+    // Beside the layer.
+    Case {
+        kind: Kind::SuperBitmap,
+        a: 3,
+        mode: 1,
+        mask: 255,
+        clip: &[],
+        damage: &[],
+        rect: [-9, 0, -1, 2],
+        due: [
+            b"00000000000000000000",
+            b"00000000000000000000",
+            b"00000000000000000000",
+        ],
+    },
+];
+
+fn rect_of(bounds: [i16; 4]) -> Result<Rect, Fail> {
+    Ok(Rect::new(bounds[0], bounds[1], bounds[2], bounds[3]).ok_or("out of order")?)
+}
+
+fn region_of(alloc: Global, rects: &[[i16; 4]]) -> Result<Region, Fail> {
+    let mut region = Region::new(alloc);
+    for rect in rects {
+        region.or_rect(alloc, &rect_of(*rect)?)?;
+    }
+    Ok(region)
+}
+
+// The damage of an update: what of these rectangles lies in the inner rectangle.
+fn damage_of(alloc: Global, inner: Option<Rect>, rects: &[[i16; 4]]) -> Result<Damage, Fail>
+    ensures inner { IfOk result (λ d. d.inner ≡ inner) }
+    ensures inside { IfOk result (λ d. (x y : ℤ) → covers d.rects x y ≡ true → may_lie inner x y ≡ true) }
+{
+    let mut damage = Damage::new(alloc, inner);
+    damage.add(alloc, &region_of(alloc, rects)?)?;
+    damage.begin();
+    let _ = damage.region();
+    Ok(damage)
+}
+
+// The layer in an update with this damage, if it is a smart layer and there is some.
+fn updating(alloc: Global, live: LiveDraft, rects: &[[i16; 4]]) -> Result<LiveDraft, Fail>
+    requires { IsLiveDraft live }
+    ensures { IfOk result (λ d. IsLiveDraft d) }
+{
+    if rects.is_empty() || live.kind != Kind::Smart {
+        return Ok(live);
+    }
+    let mut live = live;
+    live.damage = damage_of(alloc, live.damage.inner(), rects)?;
+    Ok(live)
+}
+
+// A new layer of this kind, of two planes.
+fn draft_of(alloc: Global, kind: Kind, damage: &[[i16; 4]]) -> Result<Draft, Fail>
+    ensures draft { IfOk result (λ d. IsDraft d) }
+    ensures live { IfOk result (λ d. (cell_view d).state ≡ view.Live) }
+{
+    let bounds = Rect::new(10, 5, 29, 7).ok_or("out of order")?;
+    let mut visible = region_of(alloc, &VISIBLE)?;
+    visible.and_rect(alloc, &bounds)?;
+    let make = Make {
+        kind,
+        place: Place::Front,
+        x: 10,
+        y: 5,
+        w: 20,
+        h: 3,
+        backdrop: false,
+        hook: None,
+        bits_w: 20,
+        bits_h: 3,
+    };
+    let live = LiveDraft::new(alloc, &make, 2, &bounds, &visible)?;
+    let live = updating(alloc, live, damage)?;
+    Ok(Draft {
+        slot: 0,
+        state: DraftState::Live(live),
+    })
+}
+
+// The cell of a case before the fill.
+fn cell_of(alloc: Global, case: &Case) -> Result<Cell, Fail>
+    requires { case.now.mode < 8 }
+    ensures { IfOk result (λ c. c.state ≡ view.Live) }
+{
+    let mut cell = Cell::unopened(0);
+    let _ = cell.take_up(draft_of(alloc, case.kind, case.damage)?);
+    cell.set_raster(Raster {
+        a: case.a,
+        b: 0,
+        mode: case.mode,
+        mask: case.mask,
+        x: 0,
+        y: 0,
+    });
+    if !case.clip.is_empty() {
+        let _ = cell.set_clip(Some(region_of(alloc, case.clip)?));
+    }
+    Ok(cell)
+}
+
+// What is due of a pixel.
+fn due_at(row: &[u8], x: u32) -> Option<u8> {
+    match row.get(x as usize) {
+        None => None,
+        Some(b'.') => None,
+        Some(digit) => Some(digit.wrapping_sub(b'0')),
+    }
+}
+
+fn has_row(cell: &Cell, y: u32, row: &[u8]) -> bool
+    requires { y < 3 }
+{
+    for x in 0..20u32 {
+        if cell.kept_at(x as i32, y as i32) != due_at(row, x) {
+            return false;
+        }
+    }
+    true
+}
+
+#[test]
+fn rectangles_are_filled_as_worked_out_by_hand(rt: HostRuntime) -> Result<(), Fail> {
+    let alloc = rt.alloc();
+    for case in &CASES {
+        assert!(rt; case.mode < 8);
+        let mut cell = cell_of(alloc, case)?;
+        fill(&mut cell, &rect_of(case.rect)?);
+        for y in 0..3u32 {
+            assert!(rt; has_row(&cell, y, case.due[y as usize]), "row {y}");
+        }
+    }
+    Ok(())
+}

@@ -1,0 +1,280 @@
+-- What the lines above a line of a script tell (this project's own format): one record, and what each form of line adds to
+-- it. Skipped lines and those behind a line `report` tell nothing. The lines may be taken to be good, since only a script's
+-- first bad line counts.
+use Rattle.std.specs.Prelude.{ℕ, ◌+◌, ◌-◌, ◌*◌, ◌==◌, Bool, false, ◌||◌, if◌then◌else◌, List, [], ◌∷◌, ◌++◌, map, length, ℤ, pos, ◌+ℤ◌, ◌-ℤ◌, unsigned_abs, Option, Some, None, option_map, slice_index, bytes_eq, replicate}
+use Rattle.std.specs.List.{list_any, position_or_len, range_with_len}
+use Rattle.lw_planes.specs.Bitmap.{Bitmap}
+use Rattle.lw_planes.specs.Storage.{stored}
+use Rattle.lw_calls.specs.declared.make.Make.{Make}
+use Rattle.lw_calls.specs.declared.call.Call.{Call}
+use Rattle.lw_calls.specs.declared.call.Call.TheVariants.{RegRect, RegPair, RegClear, Create, OpenWindow, Close, ToFront, ToBack, InFrontOf, MoveBy, SizeBy, SetBox, Activate, Which, SetA, SetB, SetMode, SetMask, At, WritePixel, ReadPixel, Fill, DrawTo, Letters, SetRast, ScrollRaster, Put, Blit, Clip, Unclip, BeginRefresh, EndRefresh, Scroll, SetTitle, TakeMessage}
+use Rattle.lw_calls.specs.declared.group.Hold.{Hold}
+use Rattle.lw_calls.specs.declared.group.Hold.TheVariants.{Slot, All}
+use Rattle.lw_calls.specs.declared.group.Group.{Group}
+use Rattle.lw_calls.specs.Kinds.{is_super}
+use Rattle.lw_calls.specs.Plan.{Plan}
+use Rattle.lw_grammar.specs.LineForms.{Asked, Act, RegRectAct, RegPairAct, RegClearAct, CreateAct, OpenAct, CloseAct, FrontAct, BehindAct, InFrontAct, MoveAct, SizeAct, BoxAct, ActivateAct, WhichAct, APenAct, BPenAct, ModeAct, MaskAct, AtAct, WriteAct, ReadAct, FillAct, DrawAct, TextAct, SetRastAct, ScrollRasterAct, PutAct, BlitAct, ClipAct, UnclipAct, RefreshAct, EndRefreshAct, ScrollAct, TitleAct, GetMsgAct, LineForm, ScreenLine, GlyphLine, BitmapLine, RowLine, TaskLine, EndLine, OrderLine, NumbersLine, ReportLine, CallLine, LockLine, UnlockLine, HoldLine, ReleaseLine}
+
+-- The parts of a script, by what is due in them: the screen; glyphs, bitmaps and the first task; in a task calls, groups or
+-- its end; behind a task a further one, an order or a report; numbers of an order; and nothing more, behind a line `report`.
+pub data Section : Type 0 where
+  ScreenIsDue : Section
+  AssetsAreDue : Section
+  CallsAreDue : Section
+  TasksAreDue : Section
+  NumbersAreDue : Section
+  NothingIsDue : Section
+
+-- A group that is open: a lock on a layer, an update of a layer, or a hold.
+pub data Opened : Type 0 where
+  Locked : List ℕ → Opened
+  Updating : List ℕ → Opened
+  Held : Opened
+
+-- What lines tell: the section in which the next line stands; the screen's sizes; which codes have a glyph line, and the rows
+-- of each code's glyph; the bitmaps' names; the bitmaps, where further rows stand behind those of the nearest one; the width
+-- of the nearest one, and how many of its rows are due; the names of the tasks, and those of the layers in the order of their
+-- first appearance; how many lines ask for a super-bitmap layer; which hooks are named; the group that is open, and how many
+-- calls its task had when it began; how many calls the nearest task has; each task's calls and groups; and the order.
+pub record Told : Type 0 where
+  pub section : Section
+  pub width : ℕ
+  pub height : ℕ
+  pub depth : ℕ
+  pub given : ℕ → Bool
+  pub glyphs : ℕ → List ℕ
+  pub bitmap_names : List (List ℕ)
+  pub bitmaps : List ℕ → List Bitmap
+  pub row_width : ℕ
+  pub rows_due : ℕ
+  pub tasks : List (List ℕ)
+  pub names : List (List ℕ)
+  pub supers : ℕ
+  pub used : ℕ → Bool
+  pub group : Option Opened
+  pub began : ℕ
+  pub so_far : ℕ
+  pub calls : List (List Call)
+  pub groups : List (List Group)
+  pub order : List ℕ
+
+-- no line tells anything: the screen is due, and each code's glyph is empty
+abbrev pub nothing_told : Told
+nothing_told =
+    record {
+      section = ScreenIsDue;
+      width = 0;
+      height = 0;
+      depth = 0;
+      given = λ code. false;
+      glyphs = λ code. replicate 8 0;
+      bitmap_names = [];
+      bitmaps = λ rows. [];
+      row_width = 0;
+      rows_due = 0;
+      tasks = [];
+      names = [];
+      supers = 0;
+      used = λ hook. false;
+      group = None;
+      began = 0;
+      so_far = 0;
+      calls = [];
+      groups = [];
+      order = [];
+    }
+
+-- the names with a further one at their end, unless it is one of them
+abbrev pub and_name : List (List ℕ) → List ℕ → List (List ℕ)
+and_name names name = if list_any (bytes_eq name) names then names else names ++ name ∷ []
+
+-- the names with further ones, from left to right
+abbrev pub and_names : List (List ℕ) → List (List ℕ) → List (List ℕ)
+and_names names [] = names
+and_names names (n ∷ ns) = and_names (and_name names n) ns
+
+-- the place of a name among the names
+abbrev pub place_among : List (List ℕ) → List ℕ → ℕ
+place_among names name = position_or_len (bytes_eq name) names
+
+-- a list of lists with something put at the end of its last one
+abbrev pub onto_last : {A : Type 0} → A → List (List A) → List (List A)
+onto_last a [] = []
+onto_last a (list ∷ []) = (list ++ a ∷ []) ∷ []
+onto_last a (list ∷ next ∷ rest) = list ∷ onto_last a (next ∷ rest)
+
+-- The numbers that a layer is asked for with, as the call has them: a creation's box has its bounds, an opening's its place
+-- and size.
+abbrev pub make_of : Asked → ℤ → ℤ → ℤ → ℤ → Make
+make_of a x y w h =
+    record {
+      kind = a.kind;
+      place = a.place;
+      x = x;
+      y = y;
+      w = w;
+      h = h;
+      backdrop = a.backdrop;
+      hook = option_map unsigned_abs a.hook;
+      bits_w = unsigned_abs a.bits_w;
+      bits_h = unsigned_abs a.bits_h;
+    }
+
+abbrev pub created_make : Asked → Make
+created_make a =
+    make_of a a.box.min_x a.box.min_y ((a.box.max_x -ℤ a.box.min_x) +ℤ pos 1) ((a.box.max_y -ℤ a.box.min_y) +ℤ pos 1)
+
+abbrev pub opened_make : Asked → Make
+opened_make a = make_of a a.box.min_x a.box.min_y a.box.max_x a.box.max_y
+
+-- the call that an act is, on the layers in these slots, where the script has bitmaps of these names
+abbrev pub spelled_call : List (List ℕ) → Act → List ℕ → Call
+spelled_call bitmaps (RegRectAct op r rect) slots = RegRect op (unsigned_abs r) rect
+spelled_call bitmaps (RegPairAct op s r) slots = RegPair op (unsigned_abs s) (unsigned_abs r)
+spelled_call bitmaps (RegClearAct r) slots = RegClear (unsigned_abs r)
+spelled_call bitmaps (CreateAct asked) slots = Create (slice_index slots 0) (created_make asked)
+spelled_call bitmaps (OpenAct asked framed nocare classes title) slots = OpenWindow (slice_index slots 0) (opened_make asked) framed nocare classes title
+spelled_call bitmaps CloseAct slots = Close (slice_index slots 0)
+spelled_call bitmaps FrontAct slots = ToFront (slice_index slots 0)
+spelled_call bitmaps BehindAct slots = ToBack (slice_index slots 0)
+spelled_call bitmaps InFrontAct slots = InFrontOf (slice_index slots 0) (slice_index slots 1)
+spelled_call bitmaps (MoveAct dx dy) slots = MoveBy (slice_index slots 0) dx dy
+spelled_call bitmaps (SizeAct dw dh) slots = SizeBy (slice_index slots 0) dw dh
+spelled_call bitmaps (BoxAct x y w h) slots = SetBox (slice_index slots 0) x y w h
+spelled_call bitmaps ActivateAct slots = Activate (slice_index slots 0)
+spelled_call bitmaps (WhichAct x y) slots = Which x y
+spelled_call bitmaps (APenAct p) slots = SetA (slice_index slots 0) (unsigned_abs p)
+spelled_call bitmaps (BPenAct p) slots = SetB (slice_index slots 0) (unsigned_abs p)
+spelled_call bitmaps (ModeAct k) slots = SetMode (slice_index slots 0) (unsigned_abs k)
+spelled_call bitmaps (MaskAct p) slots = SetMask (slice_index slots 0) (unsigned_abs p)
+spelled_call bitmaps (AtAct x y) slots = At (slice_index slots 0) x y
+spelled_call bitmaps (WriteAct x y) slots = WritePixel (slice_index slots 0) x y
+spelled_call bitmaps (ReadAct x y) slots = ReadPixel (slice_index slots 0) x y
+spelled_call bitmaps (FillAct rect) slots = Fill (slice_index slots 0) rect
+spelled_call bitmaps (DrawAct x y) slots = DrawTo (slice_index slots 0) x y
+spelled_call bitmaps (TextAct text) slots = Letters (slice_index slots 0) text
+spelled_call bitmaps (SetRastAct p) slots = SetRast (slice_index slots 0) (unsigned_abs p)
+spelled_call bitmaps (ScrollRasterAct dx dy rect) slots = ScrollRaster (slice_index slots 0) dx dy rect
+spelled_call bitmaps (PutAct bm area) slots = Put (place_among bitmaps bm) (slice_index slots 0) area
+spelled_call bitmaps (BlitAct area) slots = Blit (slice_index slots 0) (slice_index slots 1) area
+spelled_call bitmaps (ClipAct r) slots = Clip (slice_index slots 0) (unsigned_abs r)
+spelled_call bitmaps UnclipAct slots = Unclip (slice_index slots 0)
+spelled_call bitmaps RefreshAct slots = BeginRefresh (slice_index slots 0)
+spelled_call bitmaps (EndRefreshAct full) slots = EndRefresh (slice_index slots 0) full
+spelled_call bitmaps (ScrollAct dx dy) slots = Scroll (slice_index slots 0) dx dy
+spelled_call bitmaps (TitleAct text) slots = SetTitle (slice_index slots 0) text
+spelled_call bitmaps GetMsgAct slots = TakeMessage (slice_index slots 0)
+
+-- the call of a call line: its layers' slots are the places of their names
+abbrev pub call_below : Told → List (List ℕ) → Act → Call
+call_below t layers act = spelled_call t.bitmap_names act (map (place_among (and_names t.names layers)) layers)
+
+-- the line asks for a layer with a bitmap of its own
+abbrev pub asks_super : LineForm → Bool
+asks_super (CallLine layers (CreateAct asked)) = is_super asked.kind
+asks_super (CallLine layers (OpenAct asked framed nocare classes title)) = is_super asked.kind
+asks_super form = false
+
+-- the hook that a line names
+abbrev pub hook_on : LineForm → Option ℤ
+hook_on (CallLine layers (CreateAct asked)) = asked.hook
+hook_on (CallLine layers (OpenAct asked framed nocare classes title)) = asked.hook
+hook_on form = None
+
+-- which hooks are named, with a further one
+abbrev pub and_hook : Option ℤ → (ℕ → Bool) → ℕ → Bool
+and_hook None used = used
+and_hook (Some n) used = λ hook. (unsigned_abs n == hook) || used hook
+
+-- the group that is open behind an act, and how many calls its task had when it began
+abbrev pub opened_by : List (List ℕ) → Act → Option Opened → Option Opened
+opened_by (l ∷ []) RefreshAct group = Some (Updating l)
+opened_by layers (EndRefreshAct full) group = None
+opened_by layers act group = group
+
+abbrev pub began_by : Act → ℕ → ℕ → ℕ
+began_by RefreshAct so_far began = so_far
+began_by act so_far began = began
+
+-- the group that ends with the last of so many calls of its task
+abbrev pub group_from : Told → Hold → ℕ → Group
+group_from t hold calls = record { first = t.began; last = calls - 1; hold = hold }
+
+-- each task's groups behind an act, which ends an update, or ends none
+abbrev pub ended_by : List (List ℕ) → Act → Told → List (List Group)
+ended_by (l ∷ []) (EndRefreshAct full) t = onto_last (group_from t (Slot (place_among t.names l)) (t.so_far + 1)) t.groups
+ended_by layers act t = t.groups
+
+-- What a line of this form adds to what the lines above it tell.
+abbrev pub after : LineForm → Told → Told
+after (ScreenLine w h d) t =
+    record t { section = AssetsAreDue; width = unsigned_abs w; height = unsigned_abs h; depth = unsigned_abs d }
+after (GlyphLine code rows) t =
+    record t { given = λ c. (code == c) || t.given c; glyphs = λ c. if code == c then rows else t.glyphs c }
+after (BitmapLine name w h d) t =
+    record t {
+      bitmap_names = t.bitmap_names ++ name ∷ [];
+      bitmaps = λ rows. t.bitmaps [] ++ stored (unsigned_abs w) (unsigned_abs h) (unsigned_abs d) rows ∷ [];
+      row_width = unsigned_abs w;
+      rows_due = unsigned_abs d * unsigned_abs h;
+    }
+after (RowLine bytes) t = record t { bitmaps = λ rows. t.bitmaps (bytes ++ rows); rows_due = t.rows_due - 1 }
+after (TaskLine name) t =
+    record t {
+      section = CallsAreDue;
+      tasks = t.tasks ++ name ∷ [];
+      so_far = 0;
+      calls = t.calls ++ [] ∷ [];
+      groups = t.groups ++ [] ∷ [];
+    }
+after EndLine t = record t { section = TasksAreDue }
+after OrderLine t = record t { section = NumbersAreDue }
+after (NumbersLine zs) t = record t { order = t.order ++ map unsigned_abs zs }
+after ReportLine t = record t { section = NothingIsDue }
+after (CallLine layers act) t =
+    record t {
+      names = and_names t.names layers;
+      supers = (if asks_super (CallLine layers act) then 1 else 0) + t.supers;
+      used = and_hook (hook_on (CallLine layers act)) t.used;
+      group = opened_by layers act t.group;
+      began = began_by act t.so_far t.began;
+      so_far = t.so_far + 1;
+      calls = onto_last (call_below t layers act) t.calls;
+      groups = ended_by layers act t;
+    }
+after (LockLine name) t = record t { names = and_name t.names name; group = Some (Locked name); began = t.so_far }
+after (UnlockLine name) t =
+    record t {
+      names = and_name t.names name;
+      group = None;
+      groups = onto_last (group_from t (Slot (place_among t.names name)) t.so_far) t.groups;
+    }
+after HoldLine t = record t { group = Some Held; began = t.so_far }
+after ReleaseLine t = record t { group = None; groups = onto_last (group_from t All t.so_far) t.groups }
+
+-- What lines of these forms tell, the nearest first.
+abbrev pub told : List LineForm → Told
+told [] = nothing_told
+told (form ∷ above) = after form (told above)
+
+-- The plan that the lines of a whole script tell, where so many hooks are handed in.
+abbrev pub plan_of : ℕ → Told → Plan
+plan_of hooks t =
+    record {
+      sizes = record {
+        version = 1;
+        width = t.width;
+        height = t.height;
+        depth = t.depth;
+        slots = length t.names;
+        tasks = length t.tasks;
+        hooks = hooks;
+        bitmaps = length t.bitmap_names;
+      };
+      slot_names = t.names;
+      task_names = t.tasks;
+      bitmap_names = t.bitmap_names;
+      calls = t.calls;
+      groups = t.groups;
+      assets = record { glyphs = map (λ i. t.glyphs (32 + i)) (range_with_len 0 95); bitmaps = t.bitmaps [] };
+    }

@@ -1,0 +1,42 @@
+-- The bits of a live layer are a bitmap of sizes for planes.
+use Rattle.std.proofs.Common.{◌≡◌, ℕ, ◌^◌, ◌<◌, Option, Some, None, ◌∙◌, sym, refl, ap, subst, arith, pow_pos}
+use Rattle.std.specs.List.{slice_index_or}
+use Rattle.lw_planes.specs.Sizes.{IsPlanes}
+use Rattle.lw_planes.proofs.BitmapLaws.{IsBitmap_bitmap}
+use Rattle.lw_layer.specs.View.{CellView}
+use Rattle.lw_layer.specs.View as view
+use Rattle.lw_layer.specs.Pieces.{buffer_at, column_in, line_in}
+use Rattle.lw_layer.specs.Drafts.{IsLiveDraft, IsState, layout, buffers_of, no_bitmap, pen_from, live_view, state_of, live_of, cell_view}
+use Rattle.lw_layer.specs.declared.draft.Draft.{Draft}
+use Rattle.lw_layer.specs.declared.draft.DraftState.{DraftState}
+use Rattle.lw_layer.specs.declared.draft.DraftState.TheVariants.{Unopened, Closed, Live}
+use Rattle.lw_layer.specs.declared.draft.LiveDraft.{LiveDraft}
+use Rattle.lw_layer.proofs.BufferLaws.{buffer_is}
+use Rattle.lw_layer.proofs.ViewLaws.{has_place}
+
+-- a pen in a buffer is one of its planes
+pen_small : (d : LiveDraft) (x y : ℕ) (found : Option ℕ) → IsLiveDraft d → found ≡ buffer_at (layout d) x y → pen_from (buffers_of d) (layout d) found x y < 2 ^ d.depth
+pen_small d x y None ok is = omega (arith, pow_pos d.depth)
+pen_small d x y (Some n) ok is =
+    let place = has_place (layout d) x y n (sym is) in
+    let buffer = buffer_is d n (slice_index_or (buffers_of d) n no_bitmap) ok place.there refl in
+    let left : column_in (layout d) n x < (slice_index_or (buffers_of d) n no_bitmap).width = omega (arith, place.column, buffer.width) in
+    let low : line_in (layout d) n y < (slice_index_or (buffers_of d) n no_bitmap).height = omega (arith, place.line, buffer.height) in
+    let small = buffer.sound.bitmap.pens (column_in (layout d) n x) (line_in (layout d) n y) left low in
+    let P : ℕ → Type 0 = λ q. pen_from (buffers_of d) (layout d) (Some n) x y < 2 ^ q in
+    subst P buffer.planes small
+
+live_bits : (d : LiveDraft) → IsLiveDraft d → IsPlanes (live_view d).layer.bits
+live_bits d ok = record {
+  bitmap = IsBitmap_bitmap (layout d).width (layout d).height d.depth _ (λ x y left low. pen_small d x y (buffer_at (layout d) x y) ok refl);
+  sizes = ok.sizes;
+}
+
+state_bits : (s : DraftState) → IsState s → state_of s ≡ view.Live → IsPlanes (live_of s).layer.bits
+state_bits Unopened ok live = absurd (cc live)
+state_bits Closed ok live = absurd (cc live)
+state_bits (Live d) ok live = live_bits d ok
+
+-- the same, of the cell that a draft stands for
+pub cell_bits : (d : Draft) (c : CellView) → IsState d.state → cell_view d ≡ c → c.state ≡ view.Live → IsPlanes c.live.layer.bits
+cell_bits d c ok is live = let P : CellView → Type 0 = λ v. IsPlanes v.live.layer.bits in subst P is (state_bits d.state ok (ap (λ (v : CellView). v.state) is ∙ live))

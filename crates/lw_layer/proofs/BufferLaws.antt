@@ -1,0 +1,78 @@
+-- Which buffer of a draft has a number.
+use Rattle.std.proofs.Common.{◌≡◌, ℕ, ◌-◌, ◌<◌, ◌≤◌, true, false, nat_lt, List, ◌++◌, length, get_or, Option, Some, ◌∙◌, sym, refl, ap, subst, arith, length-append}
+use Rattle.std.specs.List.{slice_index_or}
+use Rattle.std.specs.Vec.{with_item}
+use Rattle.std.proofs.lemmas.Bool.Decides.{nat_tests}
+use Rattle.std.proofs.lemmas.List.{get_or_append_left, get_or-append_right, get_or_default}
+use Rattle.lw_region.specs.Rectangle.{Rectangle}
+use Rattle.lw_planes.specs.Bitmap.{Bitmap}
+use Rattle.lw_calls.specs.declared.make.Kind.{Kind}
+use Rattle.lw_calls.specs.declared.make.Kind.TheVariants.{Simple, Smart, SuperBitmap}
+use Rattle.lw_cliprects.specs.Parts.{hidden_of}
+use Rattle.lw_layer.specs.Pieces.{pieces, piece, rest_as, whole_of}
+use Rattle.lw_layer.specs.Drafts.{IsLiveDraft, IsBuffer, IsRest, layout, own_list, buffers_of, no_bitmap}
+use Rattle.lw_layer.specs.Written.{changed_own, changed_buffer}
+use Rattle.lw_layer.specs.declared.draft.LiveDraft.{LiveDraft}
+
+-- the buffer of a visible rectangle
+pub shown_buffer : (d : LiveDraft) (n : ℕ) → n < length d.buffers.items → slice_index_or (buffers_of d) n no_bitmap ≡ slice_index_or d.buffers.items n no_bitmap
+shown_buffer d n inside = get_or_append_left d.buffers.items _ no_bitmap n inside
+
+-- the buffer of a hidden rectangle
+pub covered_buffer : (d : LiveDraft) (n k : ℕ) → k ≡ n - length d.buffers.items → length d.buffers.items ≤ n → k < length d.covered.items → slice_index_or (buffers_of d) n no_bitmap ≡ slice_index_or d.covered.items k no_bitmap
+covered_buffer d n k is_k past inside =
+    get_or-append_right d.buffers.items _ _ n no_bitmap refl past ∙
+    (ap (λ i. get_or (d.covered.items ++ own_list d.superbits) i no_bitmap) (sym is_k) ∙ get_or_append_left d.covered.items (own_list d.superbits) no_bitmap k inside)
+
+-- all buffers have been counted but an own bitmap
+pub record HasOwn (d : LiveDraft) (n : ℕ) : Type 0 where
+  pub own : Bitmap
+  pub is : d.superbits ≡ Some own
+  pub at : slice_index_or (buffers_of d) n no_bitmap ≡ own
+
+-- the number of all buffers but an own bitmap
+own_after : (kind : Kind) (hidden covered : ℕ) (own : Option Bitmap) (whole : Rectangle) (hid : List Rectangle) (k : ℕ) → IsRest kind hidden covered own → hidden ≡ length hid → covered ≤ k → k < length (rest_as kind hid whole) → (b : Bitmap) × (own ≡ Some b) × (k ≡ covered)
+own_after Simple hidden covered own whole hid k is long past inside = absurd (omega arith)
+own_after Smart hidden covered own whole hid k is long past inside = absurd (omega (arith, is.0))
+own_after SuperBitmap hidden covered own whole hid k is long past inside = (is.1, is.2, omega (arith, is.0))
+
+pub own_buffer : (d : LiveDraft) (n : ℕ) → IsLiveDraft d → n < length (pieces (layout d)) → length d.buffers.items ≤ n → length d.covered.items ≤ n - length d.buffers.items → HasOwn d n
+own_buffer d n ok inside past late =
+    let k : ℕ = n - length d.buffers.items in
+    let hidden = hidden_of d.bounds d.parts.visible in
+    let long = length-append d.parts.visible (rest_as d.kind hidden (whole_of (layout d))) in
+    let below : k < length (rest_as d.kind hidden (whole_of (layout d))) = omega (arith, ok.shown) in
+    let own = own_after d.kind (length hidden) (length d.covered.items) d.superbits (whole_of (layout d)) hidden k ok.rest refl late below in
+    record {
+      own = own.0;
+      is = own.1;
+      at =
+          get_or-append_right d.buffers.items _ _ n no_bitmap refl past ∙
+          (get_or-append_right d.covered.items _ _ k no_bitmap refl late ∙
+          (ap (λ i. get_or (own_list d.superbits) i no_bitmap) (omega (arith, own.2)) ∙ ap (λ o. get_or (own_list o) 0 no_bitmap) own.1));
+    }
+
+-- each buffer is of its piece's size
+pub buffer_is : (d : LiveDraft) (n : ℕ) (b : Bitmap) → IsLiveDraft d → n < length (pieces (layout d)) → slice_index_or (buffers_of d) n no_bitmap ≡ b → IsBuffer d.depth (piece (layout d) n) b
+buffer_is d n b ok inside is =
+    let P : Bitmap → Type 0 = λ q. IsBuffer d.depth (piece (layout d) n) q in
+    subst P is (ok.buffers.each n inside)
+
+-- what becomes of a draft where one of its buffers was changed
+pub changed_shown : (d : LiveDraft) (n : ℕ) (f : Bitmap → Bitmap) (x : Bitmap) → n < length d.buffers.items → x ≡ slice_index_or d.buffers.items n x → record d { buffers = with_item d.buffers n (f x) } ≡ changed_buffer n f d
+changed_shown d n f x inside is =
+    let here : x ≡ slice_index_or d.buffers.items n no_bitmap = is ∙ get_or_default d.buffers.items n x no_bitmap inside in
+    let test : nat_lt n (length d.buffers.items) ≡ true = grind (arith, nat_tests) in
+    rw test (ap (λ b. record d { buffers = with_item d.buffers n (f b) }) here)
+
+pub changed_covered : (d : LiveDraft) (n k : ℕ) (f : Bitmap → Bitmap) (x : Bitmap) → k ≡ n - length d.buffers.items → length d.buffers.items ≤ n → k < length d.covered.items → x ≡ slice_index_or d.covered.items k no_bitmap → record d { covered = with_item d.covered k (f x) } ≡ changed_buffer n f d
+changed_covered d n k f x is_k past inside here =
+    let first : nat_lt n (length d.buffers.items) ≡ false = grind (arith, nat_tests) in
+    let test : nat_lt k (length d.covered.items) ≡ true = grind (arith, nat_tests) in
+    rw (first, ← is_k) (rw test (ap (λ b. record d { covered = with_item d.covered k (f b) }) here))
+
+pub changed_last : (d : LiveDraft) (n : ℕ) (f : Bitmap → Bitmap) → length d.buffers.items ≤ n → length d.covered.items ≤ n - length d.buffers.items → record d { superbits = changed_own f d.superbits } ≡ changed_buffer n f d
+changed_last d n f past late =
+    let first : nat_lt n (length d.buffers.items) ≡ false = grind (arith, nat_tests) in
+    let test : nat_lt (n - length d.buffers.items) (length d.covered.items) ≡ false = grind (arith, nat_tests) in
+    rw (first, test) refl

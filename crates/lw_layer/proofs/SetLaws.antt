@@ -1,0 +1,60 @@
+-- A draft stays one where its clip region or its raster state is replaced.
+use Rattle.std.proofs.Common.{◌≡◌, ◌<◌, true, ℤ, List, Option}
+use Rattle.lw_region.specs.Rectangle.{Rectangle}
+use Rattle.lw_machine.specs.Kept.{is_kept, holds_at}
+use Rattle.lw_layer.specs.View.{keeps}
+use Rattle.lw_region.specs.Bands.{covers}
+use Rattle.lw_calls.specs.Kinds.{is_super}
+use Rattle.lw_damage.specs.Damaged.{Damaged}
+use Rattle.lw_layer.specs.Pieces.{inner_of}
+use Rattle.lw_layer.specs.Drafts.{IsLiveDraft, layout, live_view}
+use Rattle.lw_layer.specs.declared.raster.Raster.{Raster}
+use Rattle.lw_layer.specs.declared.draft.LiveDraft.{LiveDraft}
+
+pub clip_replaced : (d : LiveDraft) (clip : Option (List Rectangle)) → IsLiveDraft d → IsLiveDraft (record d { clip = clip })
+unfolding keeps is_kept
+clip_replaced d clip ok = record {
+  bounds = ok.bounds;
+  scroll_x = ok.scroll_x;
+  scroll_y = ok.scroll_y;
+  sizes = ok.sizes;
+  scrolled = ok.scrolled;
+  mode = ok.mode;
+  shown = ok.shown;
+  rest = ok.rest;
+  buffers = ok.buffers;
+  inner = ok.inner;
+  damaged = ok.damaged;
+}
+
+pub raster_replaced : (d : LiveDraft) (raster : Raster) → raster.mode < 8 → IsLiveDraft d → IsLiveDraft (record d { raster = raster })
+unfolding keeps is_kept
+raster_replaced d raster mode ok = record {
+  bounds = ok.bounds;
+  scroll_x = ok.scroll_x;
+  scroll_y = ok.scroll_y;
+  sizes = ok.sizes;
+  scrolled = ok.scrolled;
+  mode = mode;
+  shown = ok.shown;
+  rest = ok.rest;
+  buffers = ok.buffers;
+  inner = ok.inner;
+  damaged = ok.damaged;
+}
+
+pub damage_replaced : (d : LiveDraft) (damage : Damaged) → damage.inner ≡ inner_of (is_super d.kind) (layout d).width (layout d).height → ((x y : ℤ) → covers damage.rects x y ≡ true → holds_at (λ i j. keeps (live_view d) i j) x y ≡ true) → IsLiveDraft d → IsLiveDraft (record d { damage = damage })
+unfolding keeps is_kept
+damage_replaced d damage inner kept ok = record {
+  bounds = ok.bounds;
+  scroll_x = ok.scroll_x;
+  scroll_y = ok.scroll_y;
+  sizes = ok.sizes;
+  scrolled = ok.scrolled;
+  mode = ok.mode;
+  shown = ok.shown;
+  rest = ok.rest;
+  buffers = ok.buffers;
+  inner = inner;
+  damaged = kept;
+}

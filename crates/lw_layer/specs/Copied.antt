@@ -1,0 +1,49 @@
+-- What reading a row of one plane of a layer's pixels gives (this project's own).
+use Rattle.std.specs.Prelude.{◌≡◌, ℕ, ◌<◌, List, ◌++◌, ℤ, pos, ◌+ℤ◌, ◌-ℤ◌, Option, Some, None}
+use Rattle.std.specs.Int.{bit_at}
+use Rattle.lw_region.specs.Rectangle.{Rectangle}
+use Rattle.lw_region.specs.Bands.{covers}
+use Rattle.lw_planes.specs.Row.{bit_of, row_bit}
+use Rattle.lw_planes.specs.Bitmap.{Bitmap}
+use Rattle.lw_buffers.specs.Lookup.{pen_in}
+use Rattle.lw_machine.specs.Kept.{holds_at}
+use Rattle.lw_layer.specs.View.{LiveView, keeps, kept_pen}
+use Rattle.lw_layer.specs.Pieces.{Layout}
+use Rattle.lw_layer.specs.Drafts.{own_list}
+use Rattle.lw_layer.specs.declared.draft.LiveDraft.{LiveDraft}
+
+-- a plane's bit of a pen, and 0 of no pen
+abbrev pub bit_in : ℕ → Option ℕ → ℕ
+bit_in plane None = 0
+bit_in plane (Some pen) = bit_at pen plane
+
+-- the plane's bit of the pen of the pixel (x, y), and 0 where the layer doesn't keep that pixel
+unfoldable pub kept_bit : LiveView → ℕ → ℤ → ℤ → ℕ
+kept_bit c plane x y = bit_in plane (kept_pen c x y)
+
+-- The first n bits are the plane's bits of the pixels of row y from column x on, and tell which of them are kept.
+pub record IsRowOf (c : LiveView) (plane : ℕ) (x y : ℤ) (n : ℕ) (bits kept : List ℕ) : Type 0 where
+  pub pens : (i : ℕ) → i < n → row_bit bits i ≡ kept_bit c plane (x +ℤ pos i) y
+  pub there : (i : ℕ) → i < n → row_bit kept i ≡ bit_of (holds_at (λ u v. keeps c u v) (x +ℤ pos i) y)
+
+-- The same of the places of a list of rectangles with a bitmap each, for private contracts.
+pub record HasPlaces (rects : List Rectangle) (buffers : List Bitmap) (plane : ℕ) (x y : ℤ) (n : ℕ) (bits kept : List ℕ) : Type 0 where
+  pub pens : (i : ℕ) → i < n → row_bit bits i ≡ bit_at (pen_in rects buffers (x +ℤ pos i) y) plane
+  pub there : (i : ℕ) → i < n → row_bit kept i ≡ bit_of (covers rects (x +ℤ pos i) y)
+
+-- all bits are 0
+pub record AreClear (bits kept : List ℕ) : Type 0 where
+  pub pens : (i : ℕ) → row_bit bits i ≡ 0
+  pub there : (i : ℕ) → row_bit kept i ≡ 0
+
+-- where the layer's column x lies on the plane of the screen, for any x
+abbrev pub across_at : Layout → ℤ → ℤ
+across_at l x = (l.bounds.min_x +ℤ x) -ℤ pos l.scroll_x
+
+-- the buffers of all pieces but the visible rectangles
+abbrev pub rest_buffers : LiveDraft → List Bitmap
+rest_buffers d = d.covered.items ++ own_list d.superbits
+
+-- all pixels of a bitmap
+abbrev pub area_of : Bitmap → Rectangle
+area_of b = record { min_x = pos 0; min_y = pos 0; max_x = pos b.width -ℤ pos 1; max_y = pos b.height -ℤ pos 1 }

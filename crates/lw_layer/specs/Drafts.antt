@@ -1,0 +1,180 @@
+-- Which slot a draft stands for, and what has to hold of a draft (this project's own).
+use Rattle.std.specs.Prelude.{◌≡◌, ℕ, ◌+◌, ◌<◌, ◌≤◌, true, false, List, [], ◌∷◌, ◌++◌, length, ℤ, pos, ◌≤ℤ◌, unsigned_abs, Option, Some, None}
+use Rattle.std.specs.List.{slice_index_or}
+use Rattle.lw_region.specs.Rectangle.{Rectangle}
+use Rattle.lw_region.specs.Pixels.{Pixel, pixels_of}
+use Rattle.lw_region.specs.Bands.{covers}
+use Rattle.lw_planes.specs.Bitmap.{Bitmap, bitmap, pen_at}
+use Rattle.lw_planes.specs.Sizes.{AreSizes, IsPlanes}
+use Rattle.lw_calls.specs.declared.make.Kind.{Kind}
+use Rattle.lw_calls.specs.declared.make.Kind.TheVariants.{Simple, Smart, SuperBitmap}
+use Rattle.lw_calls.specs.Kinds.{is_super}
+use Rattle.lw_cliprects.specs.Parts.{hidden_of}
+use Rattle.lw_machine.specs.Layer.{Raster, new_raster}
+use Rattle.lw_machine.specs.Kept.{holds_at}
+use Rattle.lw_layer.specs.View.{State, LiveView, CellView, keeps}
+use Rattle.lw_layer.specs.View as view
+use Rattle.lw_layer.specs.Pieces.{Layout, inner_of, damage_table, columns, lines, pieces, buffer_at, column_in, line_in}
+use Rattle.lw_layer.specs.declared.raster.Raster.{Raster as RasterCode}
+use Rattle.lw_layer.specs.declared.draft.Draft.{Draft}
+use Rattle.lw_layer.specs.declared.draft.DraftState.{DraftState}
+use Rattle.lw_layer.specs.declared.draft.DraftState.TheVariants.{Unopened, Closed, Live}
+use Rattle.lw_layer.specs.declared.draft.LiveDraft.{LiveDraft}
+
+abbrev pub raster_of : RasterCode → Raster
+raster_of r = record { pen_a = r.a; pen_b = r.b; mode = r.mode; mask = r.mask; cursor_x = r.x; cursor_y = r.y }
+
+-- the set of pixels of a clip region, if there is one
+abbrev pub clip_set : Option (List Rectangle) → Option (List Pixel)
+clip_set None = None
+clip_set (Some rects) = Some (pixels_of rects)
+
+-- the size of the layer's bits: that of its own bitmap, if it has one, and else that of its bounds
+abbrev pub width_of : Option Bitmap → Rectangle → ℕ
+width_of None bounds = columns bounds
+width_of (Some own) bounds = own.width
+
+abbrev pub height_of : Option Bitmap → Rectangle → ℕ
+height_of None bounds = lines bounds
+height_of (Some own) bounds = own.height
+
+-- where the pixels of the draft's layer lie
+abbrev pub layout : LiveDraft → Layout
+layout d = record {
+  bounds = d.bounds;
+  visible = d.parts.visible;
+  kind = d.kind;
+  scroll_x = unsigned_abs d.scroll_x;
+  scroll_y = unsigned_abs d.scroll_y;
+  width = width_of d.superbits d.bounds;
+  height = height_of d.superbits d.bounds;
+}
+
+-- an own bitmap as a list
+abbrev pub own_list : Option Bitmap → List Bitmap
+own_list None = []
+own_list (Some own) = own ∷ []
+
+-- the buffers of all pieces, in their order
+abbrev pub buffers_of : LiveDraft → List Bitmap
+buffers_of d = d.buffers.items ++ (d.covered.items ++ own_list d.superbits)
+
+-- no pixel
+abbrev pub no_bitmap : Bitmap
+no_bitmap = record { width = 0; height = 0; depth = 0; rows = [] }
+
+-- the pen of the pixel (x, y) in the buffer with a number, or 0 where no buffer has it
+abbrev pub pen_from : List Bitmap → Layout → Option ℕ → ℕ → ℕ → ℕ
+pen_from buffers l None x y = 0
+pen_from buffers l (Some n) x y = pen_at (slice_index_or buffers n no_bitmap) (column_in l n x) (line_in l n y)
+
+-- the pens of a layer that is so laid out, from its buffers
+abbrev pub bits_of : Layout → ℕ → List Bitmap → Bitmap
+bits_of l depth buffers = bitmap l.width l.height depth (λ x y. pen_from buffers l (buffer_at l x y) x y)
+
+-- the live layer of a draft
+abbrev pub live_view : LiveDraft → LiveView
+live_view d =
+    let l = layout d in
+    record {
+      bounds = l.bounds;
+      visible = l.visible;
+      active = false;
+      layer = record {
+        kind = d.kind;
+        backdrop = d.backdrop;
+        scroll_x = l.scroll_x;
+        scroll_y = l.scroll_y;
+        bits = bits_of l d.depth (buffers_of d);
+        damage = damage_table (bits_of l d.depth (buffers_of d)) d.damage.rects;
+        clip = clip_set d.clip;
+        raster = raster_of d.raster;
+        updating = d.damage.updating;
+        hook = None;
+        window = None;
+      };
+    }
+
+-- a buffer of its piece's size, with the layer's planes
+pub record IsBuffer (depth : ℕ) (r : Rectangle) (b : Bitmap) : Type 0 where
+  pub sound : IsPlanes b
+  pub width : b.width ≡ columns r
+  pub height : b.height ≡ lines r
+  pub planes : b.depth ≡ depth
+
+-- each rectangle has its buffer
+pub record AreBuffers (depth : ℕ) (rects : List Rectangle) (buffers : List Bitmap) (none : Rectangle) : Type 0 where
+  pub many : length buffers ≡ length rects
+  pub each : (n : ℕ) → n < length rects → IsBuffer depth (slice_index_or rects n none) (slice_index_or buffers n no_bitmap)
+
+-- what a layer of this kind has beside the buffers of its visible rectangles: a smart layer one for each hidden rectangle, and
+-- a super-bitmap layer its own bitmap
+abbrev pub IsRest : Kind → ℕ → ℕ → Option Bitmap → Type 0
+IsRest Simple hidden covered own = (covered ≡ 0) × (own ≡ None)
+IsRest Smart hidden covered own = (covered ≡ hidden) × (own ≡ None)
+IsRest SuperBitmap hidden covered own = (covered ≡ 0) × (b : Bitmap) × (own ≡ Some b)
+
+-- The portion that is shown lies in the layer's bits, and a layer without an own bitmap isn't scrolled.
+pub record IsScrolled (l : Layout) : Type 0 where
+  pub left : is_super l.kind ≡ false → l.scroll_x ≡ 0
+  pub upper : is_super l.kind ≡ false → l.scroll_y ≡ 0
+  pub right : l.scroll_x + columns l.bounds ≤ l.width
+  pub lower : l.scroll_y + lines l.bounds ≤ l.height
+
+-- What has to hold of the draft of a live layer.
+pub record IsLiveDraft (d : LiveDraft) : Type 0 where
+  pub bounds : d.parts.bounds ≡ d.bounds
+  pub scroll_x : pos 0 ≤ℤ d.scroll_x
+  pub scroll_y : pos 0 ≤ℤ d.scroll_y
+  pub sizes : AreSizes (layout d).width (layout d).height d.depth
+  pub scrolled : IsScrolled (layout d)
+  pub mode : d.raster.mode < 8
+  pub shown : length d.buffers.items ≡ length d.parts.visible
+  pub rest : IsRest d.kind (length (hidden_of d.bounds d.parts.visible)) (length d.covered.items) d.superbits
+  pub buffers : AreBuffers d.depth (pieces (layout d)) (buffers_of d) d.bounds
+  pub inner : d.damage.inner ≡ inner_of (is_super d.kind) (layout d).width (layout d).height
+  pub damaged : (x y : ℤ) → covers d.damage.rects x y ≡ true → holds_at (λ i j. keeps (live_view d) i j) x y ≡ true
+
+-- what has to hold of what a draft says of its slot
+abbrev pub IsState : DraftState → Type 0
+IsState Unopened = Unit {0}
+IsState Closed = Unit {0}
+IsState (Live d) = IsLiveDraft d
+
+abbrev pub IsDraft : Draft → Type 0
+IsDraft d = IsState d.state
+
+-- a layer whose bits have no pixel
+abbrev pub no_layer : LiveView
+no_layer = record {
+  bounds = record { min_x = pos 0; min_y = pos 0; max_x = pos 0; max_y = pos 0 };
+  visible = [];
+  active = false;
+  layer = record {
+    kind = Simple;
+    backdrop = false;
+    scroll_x = 0;
+    scroll_y = 0;
+    bits = no_bitmap;
+    damage = [];
+    clip = None;
+    raster = new_raster;
+    updating = false;
+    hook = None;
+    window = None;
+  };
+}
+
+abbrev pub state_of : DraftState → State
+state_of Unopened = view.Unopened
+state_of Closed = view.Closed
+state_of (Live d) = view.Live
+
+abbrev pub live_of : DraftState → LiveView
+live_of Unopened = no_layer
+live_of Closed = no_layer
+live_of (Live d) = live_view d
+
+-- the slot for which a draft stands
+abbrev pub cell_view : Draft → CellView
+cell_view d = record { number = d.slot; state = state_of d.state; live = live_of d.state }

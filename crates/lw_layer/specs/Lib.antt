@@ -1,0 +1,10 @@
+pub mod View
+pub mod Pieces
+pub mod Drafts
+pub mod Code
+pub mod Written
+pub mod Lending
+pub mod Runs
+pub mod Looks
+pub mod New
+pub mod Copied

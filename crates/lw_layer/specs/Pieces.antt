@@ -1,0 +1,153 @@
+-- Where a live layer's pens lie: in rectangles of the screen's plane, its pieces, each with a buffer of its size (the manual's
+-- Layers Library chapter: the ClipRect structure; which rectangles have a buffer is this project's own).
+use Rattle.std.specs.Prelude.{◌≡◌, ℕ, ◌==◌, ◌<◌, ◌-◌, Bool, true, false, ◌&&◌, nat_lt, if◌then◌else◌, List, [], ◌∷◌, ◌++◌, length, ℤ, pos, ◌+ℤ◌, ◌-ℤ◌, unsigned_abs, Option, Some, None}
+use Rattle.std.specs.Int.{bit_at}
+use Rattle.std.specs.List.{position, slice_index_or}
+use Rattle.lw_region.specs.Rectangle.{Rectangle, has_pixel}
+use Rattle.lw_planes.specs.Pen.{pen_of}
+use Rattle.lw_planes.specs.Row.{row_bit}
+use Rattle.lw_planes.specs.Bitmap.{Bitmap, pen_at}
+use Rattle.lw_planes.specs.Change.{overwritten_bit}
+use Rattle.lw_planes.specs.Grid.{grid}
+use Rattle.lw_region.specs.Bands.{covers}
+use Rattle.lw_calls.specs.Kinds.{is_super}
+use Rattle.lw_damage.specs.Damaged.{Damaged}
+use Rattle.lw_calls.specs.declared.make.Kind.{Kind}
+use Rattle.lw_calls.specs.declared.make.Kind.TheVariants.{Simple, Smart, SuperBitmap}
+use Rattle.lw_cliprects.specs.Parts.{hidden_of}
+use Rattle.lw_machine.specs.Desk.{is_the}
+use Rattle.lw_machine.specs.Screen.{distance}
+use Rattle.lw_machine.specs.Kept.{screen_place, holds_at}
+use Rattle.lw_layer.specs.View.{State, Unopened, Live, Closed, LiveView, CellView, keeps, repainted}
+
+-- Where a layer's pixels lie: its bounds and visible rectangles on the screen, its kind, its scroll, and the size of its bits.
+pub record Layout : Type 0 where
+  pub bounds : Rectangle
+  pub visible : List Rectangle
+  pub kind : Kind
+  pub scroll_x : ℕ
+  pub scroll_y : ℕ
+  pub width : ℕ
+  pub height : ℕ
+
+abbrev pub layout_of : LiveView → Layout
+layout_of c = record {
+  bounds = c.bounds;
+  visible = c.visible;
+  kind = c.layer.kind;
+  scroll_x = c.layer.scroll_x;
+  scroll_y = c.layer.scroll_y;
+  width = c.layer.bits.width;
+  height = c.layer.bits.height;
+}
+
+-- how many columns and lines a rectangle has
+abbrev pub columns : Rectangle → ℕ
+columns r = unsigned_abs ((r.max_x +ℤ pos 1) -ℤ r.min_x)
+
+abbrev pub lines : Rectangle → ℕ
+lines r = unsigned_abs ((r.max_y +ℤ pos 1) -ℤ r.min_y)
+
+-- where all pixels of the layer's bits lie on the screen's plane
+abbrev pub whole_of : Layout → Rectangle
+whole_of l =
+    let left = l.bounds.min_x -ℤ pos l.scroll_x in
+    let upper = l.bounds.min_y -ℤ pos l.scroll_y in
+    record { min_x = left; min_y = upper; max_x = (left +ℤ pos l.width) -ℤ pos 1; max_y = (upper +ℤ pos l.height) -ℤ pos 1 }
+
+-- The rectangles with a buffer beside the visible ones: a simple layer has none, a smart layer its hidden ones, and a
+-- super-bitmap layer its whole bitmap.
+abbrev pub rest_as : Kind → List Rectangle → Rectangle → List Rectangle
+rest_as Simple hidden whole = []
+rest_as Smart hidden whole = hidden
+rest_as SuperBitmap hidden whole = whole ∷ []
+
+abbrev pub rest_of : Layout → List Rectangle
+rest_of l = rest_as l.kind (hidden_of l.bounds l.visible) (whole_of l)
+
+-- the pieces: all rectangles with a buffer, the visible ones first
+abbrev pub pieces : Layout → List Rectangle
+pieces l = l.visible ++ rest_of l
+
+-- the piece with a number
+abbrev pub piece : Layout → ℕ → Rectangle
+piece l n = slice_index_or (pieces l) n l.bounds
+
+-- where the layer's column x and its row y lie on the screen's plane
+abbrev pub across : Layout → ℕ → ℤ
+across l x = screen_place l.bounds.min_x l.scroll_x x
+
+abbrev pub down : Layout → ℕ → ℤ
+down l y = screen_place l.bounds.min_y l.scroll_y y
+
+-- the number of the first of these rectangles on which the pixel (x, y) lies
+abbrev pub found_in : Layout → List Rectangle → ℕ → ℕ → Option ℕ
+found_in l rects x y = position (λ r. has_pixel r (across l x) (down l y)) rects
+
+-- The number of the buffer that has the pen of the pixel (x, y) of the layer's bits: that of the first piece on which the pixel
+-- lies.
+unfoldable pub buffer_at : Layout → ℕ → ℕ → Option ℕ
+buffer_at l x y = if nat_lt x l.width && nat_lt y l.height then found_in l (pieces l) x y else None
+
+-- the column of the layer's column x in a buffer, and the line of the layer's row y
+abbrev pub column_in : Layout → ℕ → ℕ → ℕ
+column_in l n x = distance (piece l n).min_x (across l x)
+
+abbrev pub line_in : Layout → ℕ → ℕ → ℕ
+line_in l n y = distance (piece l n).min_y (down l y)
+
+-- the pen of the pixel (x, y) is in this line of this buffer
+unfoldable pub in_line : Layout → ℕ → ℕ → ℕ → ℕ → Bool
+in_line l n line x y = is_the (buffer_at l x y) n && line_in l n y == line
+
+-- there is this line of this buffer
+pub record HasLine (l : Layout) (n line : ℕ) : Type 0 where
+  pub buffer : n < length (pieces l)
+  pub below : line < lines (piece l n)
+
+-- the bytes have in a plane the bits of the pixels whose pens are in a line of a buffer, by their columns there
+abbrev pub HasLineBits : LiveView → ℕ → ℕ → ℕ → List ℕ → Type 0
+HasLineBits c plane n line row =
+    (x y : ℕ) → in_line (layout_of c) n line x y ≡ true → row_bit row (column_in (layout_of c) n x) ≡ bit_at (pen_at c.layer.bits x y) plane
+
+-- The live layer once these bytes were written over those of a buffer's planes from a line of a plane on.
+unfoldable pub with_bytes : LiveView → ℕ → ℕ → ℕ → List ℕ → LiveView
+with_bytes c plane n line bytes =
+    let l = layout_of c in
+    let r = piece l n in
+    repainted (λ x y. if is_the (buffer_at l x y) n
+    then pen_of c.layer.bits.depth (λ p. overwritten_bit (columns r) (lines r) plane line bytes (column_in l n x) (line_in l n y) p (bit_at (pen_at c.layer.bits x y) p))
+    else pen_at c.layer.bits x y) c
+
+-- The live layer whose pixels with their pens in a line of a buffer have these bits in a plane, by their columns in the buffer;
+-- and all else is as it was.
+abbrev pub with_line : LiveView → ℕ → ℕ → ℕ → (ℕ → ℕ) → LiveView
+with_line c plane n line bits =
+    let l = layout_of c in
+    repainted (λ x y. pen_of c.layer.bits.depth (λ p. if p == plane && in_line l n line x y then bits (column_in l n x) else bit_at (pen_at c.layer.bits x y) p)) c
+
+-- the hidden rectangles, by what the slot holds
+abbrev pub hidden_where : State → LiveView → List Rectangle
+hidden_where Unopened c = []
+hidden_where Live c = hidden_of c.bounds c.visible
+hidden_where Closed c = []
+
+-- the hidden rectangles of a live layer
+abbrev pub hidden_rectangles : CellView → List Rectangle
+hidden_rectangles c = hidden_where c.state c.live
+
+-- where damage may lie: in all of a layer that isn't a super-bitmap layer
+abbrev pub inner_of : Bool → ℕ → ℕ → Option Rectangle
+inner_of true w h = None
+inner_of false w h = Some (record { min_x = pos 0; min_y = pos 0; max_x = pos (w - 1); max_y = pos (h - 1) })
+
+-- which pixels of a layer with these bits are damaged, by the rectangles of its damage
+abbrev pub damage_table : Bitmap → List Rectangle → List (List Bool)
+damage_table bits rects = grid bits.width bits.height (λ x y. covers rects (pos x) (pos y))
+
+-- The damage is that of the layer: its pixels, which are kept and lie in the layer's inner rectangle, and whether an update is on.
+pub record IsDamageOf (c : LiveView) (d : Damaged) : Type 0 where
+  pub pixels : c.layer.damage ≡ damage_table c.layer.bits d.rects
+  pub kept : (x y : ℤ) → covers d.rects x y ≡ true → holds_at (λ i j. keeps c i j) x y ≡ true
+  pub inner : d.inner ≡ inner_of (is_super c.layer.kind) c.layer.bits.width c.layer.bits.height
+  pub updating : d.updating ≡ c.layer.updating

@@ -1,0 +1,81 @@
+-- Words of this crate's private contracts alone: drafts once bytes were written into one of their buffers, and what lends its
+-- rows.
+use Rattle.std.specs.Prelude.{◌≡◌, ℕ, ◌-◌, ◌<◌, nat_lt, if◌then◌else◌, List, length, Option, Some, None}
+use Rattle.std.specs.Borrow.{Lends, MutBor, Fml, Array, u8}
+use Rattle.std.specs.List.{slice_index_or}
+use Rattle.std.specs.Vec.{with_item}
+use Rattle.std.specs.Int.{bit_at}
+use Rattle.lw_planes.specs.Row.{row_bit}
+use Rattle.lw_planes.specs.Bitmap.{Bitmap, pen_at, row_bytes}
+use Rattle.lw_planes.specs.Change.{with_row}
+use Rattle.lw_layer.specs.Drafts.{IsLiveDraft, layout, buffers_of, no_bitmap}
+use Rattle.lw_layer.specs.Pieces.{columns, piece, HasLine}
+use Rattle.lw_layer.specs.declared.draft.DraftState.{DraftState}
+use Rattle.lw_layer.specs.declared.draft.DraftState.TheVariants.{Unopened, Closed, Live}
+use Rattle.lw_layer.specs.declared.draft.LiveDraft.{LiveDraft}
+use Rattle.lw_layer.specs.contracts.draft.LiveDraft as live_draft
+use Rattle.lw_layer.specs.contracts.draft.DraftState as draft_state
+
+-- the bytes have in this plane the bits of a line of a bitmap
+abbrev pub HasBits : Bitmap → ℕ → ℕ → List ℕ → Type 0
+HasBits b plane line row = (x : ℕ) → x < b.width → row_bit row x ≡ bit_at (pen_at b x line) plane
+
+abbrev pub HasOwnBits : Option Bitmap → ℕ → ℕ → List ℕ → Type 0
+HasOwnBits None plane line row = ⊥
+HasOwnBits (Some own) plane line row = HasBits own plane line row
+
+-- the bytes have in this plane the bits of a line of a buffer
+abbrev pub HasBufferBits : LiveDraft → ℕ → ℕ → ℕ → List ℕ → Type 0
+HasBufferBits d plane n line row = HasBits (slice_index_or (buffers_of d) n no_bitmap) plane line row
+
+-- an own bitmap changed, if there is one
+abbrev pub changed_own : (Bitmap → Bitmap) → Option Bitmap → Option Bitmap
+changed_own f None = None
+changed_own f (Some own) = Some (f own)
+
+-- the draft with its buffer of this number changed
+abbrev pub changed_buffer : ℕ → (Bitmap → Bitmap) → LiveDraft → LiveDraft
+changed_buffer n f d =
+    let shown = length d.buffers.items in
+    if nat_lt n shown
+    then record d { buffers = with_item d.buffers n (f (slice_index_or d.buffers.items n no_bitmap)) }
+    else (if nat_lt (n - shown) (length d.covered.items)
+    then record d { covered = with_item d.covered (n - shown) (f (slice_index_or d.covered.items (n - shown) no_bitmap)) }
+    else record d { superbits = changed_own f d.superbits })
+
+-- the draft once these bytes were written from a line of a plane of a buffer on
+abbrev pub with_line_bytes : ℕ → ℕ → ℕ → LiveDraft → List ℕ → LiveDraft
+with_line_bytes plane n line d bytes = changed_buffer n (λ b. with_row b plane line bytes) d
+
+abbrev pub LendsOwn : MutBor LiveDraft → ℕ → ℕ → MutBor (List ℕ) → Fml
+LendsOwn d plane line row = Lends live_draft.the_row (Array u8 0) d row (λ bytes. record d.now { superbits = changed_own (λ b. with_row b plane line bytes) d.now.superbits })
+
+abbrev pub LendsLine : MutBor LiveDraft → ℕ → ℕ → ℕ → MutBor (List ℕ) → Fml
+LendsLine d plane n line row = Lends live_draft.the_row (Array u8 0) d row (with_line_bytes plane n line d.now)
+
+-- what a draft says of its slot, with its live layer changed
+abbrev pub changed_live : (LiveDraft → LiveDraft) → DraftState → DraftState
+changed_live f Unopened = Unopened
+changed_live f Closed = Closed
+changed_live f (Live d) = Live (f d)
+
+-- the slot is live, and of its draft this holds
+abbrev pub WhereLive : (LiveDraft → Type 0) → DraftState → Type 0
+WhereLive P Unopened = ⊥
+WhereLive P Closed = ⊥
+WhereLive P (Live d) = P d
+
+-- a live layer that has this plane and this line of a buffer
+pub record HasPlaneLine (d : LiveDraft) (plane n line : ℕ) : Type 0 where
+  pub sound : IsLiveDraft d
+  pub deep : plane < d.depth
+  pub there : HasLine (layout d) n line
+
+-- the bytes are as long as a row of a buffer and have its bits
+pub record HasRow (d : LiveDraft) (plane n line : ℕ) (row : List ℕ) : Type 0 where
+  pub long : length row ≡ row_bytes (columns (piece (layout d) n))
+  pub bits : HasBufferBits d plane n line row
+
+abbrev pub LendsStateLine : MutBor DraftState → ℕ → ℕ → ℕ → MutBor (List ℕ) → Fml
+LendsStateLine s plane n line row =
+    Lends draft_state.the_row (Array u8 0) s row (λ bytes. changed_live (λ d. with_line_bytes plane n line d bytes) s.now)

@@ -1,0 +1,152 @@
+// Where the pixels of a live layer lie: on the plane of the screen, and in which buffer.
+
+ghost use Rattle.std.specs.Prelude.{◌≡◌, ◌<◌, ◌≤◌, length, pos, ◌+ℤ◌, ◌-ℤ◌, ◌≤ℤ◌};
+ghost use Rattle.lw_layer.specs.Pieces.{across, down, found_in, rest_of, buffer_at, pieces, piece, whole_of};
+ghost use Rattle.lw_layer.specs.Drafts.{IsLiveDraft, layout};
+ghost use Rattle.lw_layer.specs.Code.{IsPiece};
+
+use crate::draft::LiveDraft;
+use lw_calls::Kind;
+use lw_region::Rect;
+
+// The left edge, the top edge and the right edge of a piece, on the plane of the screen.
+#[derive(Clone, Copy)]
+pub(crate) struct Piece {
+    pub left: i32,
+    pub top: i32,
+    pub right: i32,
+}
+
+impl LiveDraft {
+    // The number of columns of the layer's bits.
+    pub(crate) fn width(&self) -> u32
+        requires { IsLiveDraft self.now }
+        ensures { result ≡ (layout self.now).width }
+    {
+        match &self.superbits {
+            None => extent(self.bounds.min_x(), self.bounds.max_x()),
+            Some(own) => own.width(),
+        }
+    }
+
+    // The number of rows of the layer's bits.
+    pub(crate) fn height(&self) -> u32
+        requires { IsLiveDraft self.now }
+        ensures { result ≡ (layout self.now).height }
+    {
+        match &self.superbits {
+            None => extent(self.bounds.min_y(), self.bounds.max_y()),
+            Some(own) => own.height(),
+        }
+    }
+
+    // Where the layer's column lies on the plane of the screen.
+    pub(crate) fn across(&self, x: u32) -> i32
+        requires sound { IsLiveDraft self.now }
+        requires near { x ≤ 2048 }
+        ensures { result ≡ across (layout self.now) x }
+    {
+        i32::from(self.bounds.min_x()) + x as i32 - self.scroll_x
+    }
+
+    // Where the layer's row lies on the plane of the screen.
+    pub(crate) fn down(&self, y: u32) -> i32
+        requires sound { IsLiveDraft self.now }
+        requires near { y ≤ 2048 }
+        ensures { result ≡ down (layout self.now) y }
+    {
+        i32::from(self.bounds.min_y()) + y as i32 - self.scroll_y
+    }
+
+    // The number of the buffer that has the pixel's pen.
+    #[tactic(auto, using(crate::proofs::PieceLaws::found_front, crate::proofs::PieceLaws::found_rest, crate::proofs::PieceLaws::found_nowhere))]
+    pub(crate) fn buffer_at(&self, x: u32, y: u32) -> Option<usize>
+        requires sound { IsLiveDraft self.now }
+        requires column { x < (layout self.now).width }
+        requires row { y < (layout self.now).height }
+        ensures { result ≡ buffer_at (layout self.now) x y }
+    {
+        if let Some(number) = self.find(self.parts.visible(), x, y) {
+            return Some(number);
+        }
+        let number = self.find_rest(x, y)?;
+        Some(self.parts.visible().len() + number)
+    }
+
+    // The number of the first rectangle with a buffer, beside the visible ones, that has the pixel.
+    #[tactic(auto, using(crate::proofs::PieceLaws::found_whole))]
+    fn find_rest(&self, x: u32, y: u32) -> Option<usize>
+        requires sound { IsLiveDraft self.now }
+        requires column { x < (layout self.now).width }
+        requires row { y < (layout self.now).height }
+        ensures { result ≡ found_in (layout self.now) (rest_of (layout self.now)) x y }
+    {
+        match self.kind {
+            Kind::Simple => None,
+            Kind::Smart => self.find(self.parts.hidden(), x, y),
+            Kind::SuperBitmap => Some(0),
+        }
+    }
+
+    // The number of the first rectangle that has the pixel.
+    fn find(&self, rects: &[Rect], x: u32, y: u32) -> Option<usize>
+        requires sound { IsLiveDraft self.now }
+        requires column { x < (layout self.now).width }
+        requires row { y < (layout self.now).height }
+        ensures { result ≡ found_in (layout self.now) rects.now x y }
+    {
+        let column = self.across(x);
+        let row = self.down(y);
+        rects.iter().position(|rect| rect.has(column, row))
+    }
+}
+
+impl LiveDraft {
+    // The edges of a piece.
+    pub(crate) fn piece(&self, number: usize) -> Piece
+        requires sound { IsLiveDraft self.now }
+        requires there { number < length (pieces (layout self.now)) }
+        ensures { IsPiece result (piece (layout self.now) number) }
+    {
+        let shown = self.parts.visible();
+        if number < shown.len() {
+            return edges(&shown[number]);
+        }
+        match self.kind {
+            Kind::Simple => unreachable!(),
+            Kind::Smart => edges(&self.parts.hidden()[number - shown.len()]),
+            Kind::SuperBitmap => self.whole(),
+        }
+    }
+
+    // The edges of the own bitmap.
+    fn whole(&self) -> Piece
+        requires { IsLiveDraft self.now }
+        ensures { IsPiece result (whole_of (layout self.now)) }
+    {
+        Piece {
+            left: self.across(0),
+            top: self.down(0),
+            right: self.across(self.width() - 1),
+        }
+    }
+}
+
+// The edges of a rectangle.
+fn edges(rect: &Rect) -> Piece
+    ensures { IsPiece result rect.now }
+{
+    Piece {
+        left: i32::from(rect.min_x()),
+        top: i32::from(rect.min_y()),
+        right: i32::from(rect.max_x()),
+    }
+}
+
+// How far it is from the least place to the greatest, both inclusive.
+pub(crate) fn extent(least: i16, greatest: i16) -> u32
+    requires { least ≤ℤ greatest }
+    ensures { pos result ≡ (greatest +ℤ pos 1) -ℤ least }
+{
+    (i32::from(greatest) + 1 - i32::from(least)) as u32
+}

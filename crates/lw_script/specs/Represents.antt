@@ -1,0 +1,67 @@
+-- What the reader's state represents.
+use Rattle.std.specs.Prelude.{◌≡◌, ℕ, ◌+◌, ◌*◌, ◌<◌, ◌≤◌, ◌==◌, false, if◌then◌else◌, List, [], ◌∷◌, ◌++◌, length, map, get_or, option_map}
+use Rattle.std.specs.List.{list_any}
+use Rattle.lw_planes.specs.Bitmap.{Bitmap, row_bytes}
+use Rattle.lw_planes.specs.Sizes.{AreSizes}
+use Rattle.lw_planes.specs.Storage.{stored}
+use Rattle.lw_grammar.specs.LineForms.{LineForm}
+use Rattle.lw_grammar.specs.Told.{told}
+use Rattle.lw_grammar.specs.Script.{Setting, AreGoodLines}
+use Rattle.lw_script.specs.declared.state.AssetsRead.{AssetsRead}
+use Rattle.lw_script.specs.declared.state.TasksRead.{TasksRead}
+use Rattle.lw_script.specs.declared.state.Reader.{Reader}
+use Rattle.lw_words.specs.Cuts.{targets}
+use Rattle.lw_lines.specs.GroupMeaning.{opened_meaning}
+use Rattle.lw_lines.specs.SectionMeaning.{section_meaning}
+
+-- the nearest bitmap, where further rows stand behind those that were read; none where no row of it is due
+abbrev pub unfinished : AssetsRead → List ℕ → List Bitmap
+unfinished a rows = if a.due == 0 then [] else stored a.width a.height a.depth (a.rows.items ++ rows) ∷ []
+
+-- Where rows are due, the nearest bitmap has sizes, and its rows so far and those due are all its rows.
+pub record IsBitmapBegun (a : AssetsRead) : Type 0 where
+  pub sizes : AreSizes a.width a.height a.depth
+  pub long : length a.rows.items + a.due * row_bytes a.width ≡ a.depth * a.height * row_bytes a.width
+
+-- glyphs and bitmaps
+pub record AssetsRepresent (a : AssetsRead) (above : List LineForm) : Type 0 where
+  pub given : (code : ℕ) → get_or a.given code false ≡ (told above).given code
+  pub glyphs : (i : ℕ) → i < 95 → get_or a.glyphs i [] ≡ (told above).glyphs (32 + i)
+  pub names : targets a.names.keys ≡ (told above).bitmap_names
+  pub width : a.width ≡ (told above).row_width
+  pub narrow : a.width ≤ 1024
+  pub due : a.due ≡ (told above).rows_due
+  pub begun : 0 < a.due → IsBitmapBegun a
+  pub bitmaps : (rows : List ℕ) → (a.due ≡ 0 → rows ≡ []) → a.bitmaps.items ++ unfinished a rows ≡ (told above).bitmaps rows
+
+-- tasks, their calls and their groups
+pub record TasksRepresent (t : TasksRead) (above : List LineForm) : Type 0 where
+  pub tasks : targets t.task_names.keys ≡ (told above).tasks
+  pub names : targets t.layer_names.keys ≡ (told above).names
+  pub supers : t.supers ≡ (told above).supers
+  pub used : (n : ℕ) → list_any (λ m. n == m) t.used.keys ≡ (told above).used n
+  pub group : option_map opened_meaning t.group ≡ (told above).group
+  pub began : t.began ≡ (told above).began
+  pub so_far : t.so_far ≡ (told above).so_far
+  pub calls : map (λ cs. cs.items) t.calls.items ≡ (told above).calls
+  pub groups : map (λ gs. gs.items) t.groups.items ≡ (told above).groups
+
+-- The reader, with its setting, represents the lines that it has read: it knows of each thing that they tell what they tell.
+pub record Represents (s : Setting) (r : Reader) (above : List LineForm) : Type 0 where
+  pub hooks : r.hooks ≡ s.hooks
+  pub form : r.form ≡ s.form
+  pub section : section_meaning r.section ≡ (told above).section
+  pub width : r.width ≡ (told above).width
+  pub height : r.height ≡ (told above).height
+  pub depth : r.depth ≡ (told above).depth
+  pub assets : AssetsRepresent r.assets above
+  pub tasks : TasksRepresent r.tasks above
+  pub order : r.order.items ≡ (told above).order
+
+-- the reader represents lines that were good where they stood
+abbrev pub HasRead : Reader → Type 0
+HasRead r = (s : Setting) × (above : List LineForm) × Represents s r above × AreGoodLines s above
+
+-- the same, where a line of this form is good below them
+abbrev pub CanAdd : Reader → LineForm → Type 0
+CanAdd r form = (s : Setting) × (above : List LineForm) × Represents s r above × AreGoodLines s (form ∷ above)
