@@ -38,7 +38,7 @@ open_slot : (x : Slot) (next : Option Reply) → refuse_not_open x next ≡ None
 open_slot x next e = not_refused (is_live x) NotOpen next e
 
 -- a slot that is unopened
-unopened : (x : Slot) → is_unopened x ≡ true → x ≡ Unopened
+pub unopened : (x : Slot) → is_unopened x ≡ true → x ≡ Unopened
 unopened Unopened e = refl
 unopened (Live l) e = absurd (false≢true e)
 unopened Closed e = absurd (false≢true e)

@@ -34,7 +34,7 @@ blank_bitmap Simple depth m = all_zero (unsigned_abs m.w) (unsigned_abs m.h) dep
 blank_bitmap Smart depth m = all_zero (unsigned_abs m.w) (unsigned_abs m.h) depth
 blank_bitmap SuperBitmap depth m = all_zero m.bits_w m.bits_h depth
 
-blank_planes : (k : Kind) (depth : ℕ) (m : Make) → (blank k depth m).depth ≡ depth
+pub blank_planes : (k : Kind) (depth : ℕ) (m : Make) → (blank k depth m).depth ≡ depth
 blank_planes Simple depth m = refl
 blank_planes Smart depth m = refl
 blank_planes SuperBitmap depth m = refl

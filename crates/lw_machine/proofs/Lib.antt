@@ -14,3 +14,4 @@ pub mod ArrangedSound
 pub mod CreatedSound
 pub mod ArrangementSound
 pub mod ReachedSound
+pub mod ArrangedStep

@@ -34,7 +34,7 @@ pub record IsArranged (a : Desk) : Type 0 where
   pub active : active_is_window a a.active ≡ true
 
 -- what is changed at each number of a list is changed at one that stands in it
-changed_in : {A : Type 0} (order : List ℕ) (change : ℕ → A → A) (f : ℕ → A) (s : ℕ) → 0 < occurrences s order → change_each order change f s ≡ change s (f s)
+pub changed_in : {A : Type 0} (order : List ℕ) (change : ℕ → A → A) (f : ℕ → A) (s : ℕ) → 0 < occurrences s order → change_each order change f s ≡ change s (f s)
 changed_in [] change f s has = absurd (omega arith)
 changed_in {A} (n ∷ ns) change f s has = step (s == n) refl (λ more. changed_in ns change f s more)
   where

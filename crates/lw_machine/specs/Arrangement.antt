@@ -3,7 +3,7 @@
 -- among backdrop layers, and that closing the active window leaves none active are this project's own).
 use Rattle.std.specs.Prelude.{ℕ, ◌==◌, Bool, true, false, not, ◌&&◌, if◌then◌else◌, List, [], ◌∷◌, ℤ, pos, ◌+ℤ◌, ◌-ℤ◌, int_le, unsigned_abs, Option, Some, None, option_and_then}
 use Rattle.std.specs.List.{filter}
-use Rattle.lw_region.specs.Rectangle.{Rectangle}
+use Rattle.lw_region.specs.Rectangle.{Rectangle, moved_by}
 use Rattle.lw_planes.specs.Grid.{grid}
 use Rattle.lw_planes.specs.Bitmap.{Bitmap, bitmap}
 use Rattle.lw_calls.specs.declared.sizes.Sizes.{Sizes}
@@ -12,6 +12,8 @@ use Rattle.lw_calls.specs.declared.make.Kind.TheVariants.{Simple, Smart, SuperBi
 use Rattle.lw_calls.specs.declared.make.Place.{Place}
 use Rattle.lw_calls.specs.declared.make.Place.TheVariants.{Front, Behind}
 use Rattle.lw_calls.specs.declared.make.Make.{Make}
+use Rattle.lw_calls.specs.declared.call.Call.{Call}
+use Rattle.lw_calls.specs.declared.call.Call.TheVariants.{RegRect, RegPair, RegClear, Create, OpenWindow, Close, ToFront, ToBack, InFrontOf, MoveBy, SizeBy, SetBox, Activate, Which, SetA, SetB, SetMode, SetMask, At, WritePixel, ReadPixel, Fill, DrawTo, Letters, SetRast, ScrollRaster, Put, Blit, Clip, Unclip, BeginRefresh, EndRefresh, Scroll, SetTitle, TakeMessage}
 use Rattle.lw_machine.specs.Hook.{Hook}
 use Rattle.lw_machine.specs.Layer.{Layer, Window, Live, Closed, new_raster, layer_is, is_framed}
 use Rattle.lw_calls.specs.Kinds.{is_super}
@@ -162,3 +164,42 @@ move_layer_in_front_of d slot other = if slot == other then d else reordered d (
 -- the desk with another active window
 abbrev pub with_active : Desk → ℕ → Desk
 with_active d slot = record d { active = Some slot }
+
+-- The desk with the new list, bounds, slots and active window, before any layer is settled; any call that isn't an arrangement
+-- leaves it.
+abbrev pub arranged : Desk → ℕ → Call → Desk
+arranged d task (Create slot make) = create_layer d slot make None
+arranged d task (OpenWindow slot make framed nocare asks title) = create_layer d slot make (Some (new_window task framed nocare asks title))
+arranged d task (Close slot) = delete_layer d slot
+arranged d task (ToFront slot) = upfront_layer d slot
+arranged d task (ToBack slot) = behind_layer d slot
+arranged d task (InFrontOf slot other) = move_layer_in_front_of d slot other
+arranged d task (MoveBy slot dx dy) = change_bounds d slot (λ r. moved_by r dx dy)
+arranged d task (SizeBy slot dw dh) = change_bounds d slot (λ r. sized_by r dw dh)
+arranged d task (SetBox slot x y w h) = change_bounds d slot (λ r. box_at x y w h)
+arranged d task (Activate slot) = with_active d slot
+arranged d task (RegRect op register rect) = d
+arranged d task (RegPair op source into) = d
+arranged d task (RegClear register) = d
+arranged d task (Which x y) = d
+arranged d task (SetA slot pen) = d
+arranged d task (SetB slot pen) = d
+arranged d task (SetMode slot mode) = d
+arranged d task (SetMask slot mask) = d
+arranged d task (At slot x y) = d
+arranged d task (WritePixel slot x y) = d
+arranged d task (ReadPixel slot x y) = d
+arranged d task (Fill slot rect) = d
+arranged d task (DrawTo slot x y) = d
+arranged d task (Letters slot text) = d
+arranged d task (SetRast slot pen) = d
+arranged d task (ScrollRaster slot dx dy rect) = d
+arranged d task (Put bitmap slot area) = d
+arranged d task (Blit source slot area) = d
+arranged d task (Clip slot register) = d
+arranged d task (Unclip slot) = d
+arranged d task (BeginRefresh slot) = d
+arranged d task (EndRefresh slot full) = d
+arranged d task (Scroll slot dx dy) = d
+arranged d task (SetTitle slot title) = d
+arranged d task (TakeMessage slot) = d

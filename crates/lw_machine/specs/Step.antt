@@ -25,7 +25,7 @@ use Rattle.lw_machine.specs.Kept.{is_visible, is_kept, is_drawable, holds_at}
 use Rattle.lw_machine.specs.Shapes.{box_at, write_pixel, rect_fill, draw_line, with_cursor, draw_text, set_rast}
 use Rattle.lw_machine.specs.Blits.{clip_blit, blt_bitmap_rast_port, scroll_raster}
 use Rattle.lw_machine.specs.Registers.{rect_result, pair_result, has_too_many}
-use Rattle.lw_machine.specs.Arrangement.{bounds_of, portion_fits, may_have_bounds, layer_may_have_bounds, new_window, create_layer, delete_layer, sized_by, change_bounds, upfront_layer, behind_layer, move_layer_in_front_of, with_active}
+use Rattle.lw_machine.specs.Arrangement.{bounds_of, portion_fits, may_have_bounds, layer_may_have_bounds, sized_by, arranged}
 use Rattle.lw_machine.specs.Reveal.{with_frame, settled}
 
 -- the refusal with this reply where the test holds, or else the next one
@@ -188,16 +188,16 @@ abbrev pub effect : Desk → ℕ → Call → Desk
 effect d task (RegRect op register rect) = with_register d task register (rect_result op (d.registers task register) rect)
 effect d task (RegPair op source into) = with_register d task into (pair_result op (d.registers task source) (d.registers task into))
 effect d task (RegClear register) = with_register d task register []
-effect d task (Create slot make) = settled d (create_layer d slot make None)
-effect d task (OpenWindow slot make framed nocare asks title) = settled d (create_layer d slot make (Some (new_window task framed nocare asks title)))
-effect d task (Close slot) = settled d (delete_layer d slot)
-effect d task (ToFront slot) = settled d (upfront_layer d slot)
-effect d task (ToBack slot) = settled d (behind_layer d slot)
-effect d task (InFrontOf slot other) = settled d (move_layer_in_front_of d slot other)
-effect d task (MoveBy slot dx dy) = settled d (change_bounds d slot (λ r. moved_by r dx dy))
-effect d task (SizeBy slot dw dh) = settled d (change_bounds d slot (λ r. sized_by r dw dh))
-effect d task (SetBox slot x y w h) = settled d (change_bounds d slot (λ r. box_at x y w h))
-effect d task (Activate slot) = settled d (with_active d slot)
+effect d task (Create slot make) = settled d (arranged d task (Create slot make))
+effect d task (OpenWindow slot make framed nocare asks title) = settled d (arranged d task (OpenWindow slot make framed nocare asks title))
+effect d task (Close slot) = settled d (arranged d task (Close slot))
+effect d task (ToFront slot) = settled d (arranged d task (ToFront slot))
+effect d task (ToBack slot) = settled d (arranged d task (ToBack slot))
+effect d task (InFrontOf slot other) = settled d (arranged d task (InFrontOf slot other))
+effect d task (MoveBy slot dx dy) = settled d (arranged d task (MoveBy slot dx dy))
+effect d task (SizeBy slot dw dh) = settled d (arranged d task (SizeBy slot dw dh))
+effect d task (SetBox slot x y w h) = settled d (arranged d task (SetBox slot x y w h))
+effect d task (Activate slot) = settled d (arranged d task (Activate slot))
 effect d task (Which x y) = d
 effect d task (SetA slot pen) = on_layer d slot (with_pen_a pen)
 effect d task (SetB slot pen) = on_layer d slot (with_pen_b pen)
