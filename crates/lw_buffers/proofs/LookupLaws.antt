@@ -1,5 +1,5 @@
 -- The pixels of a list of rectangles with a bitmap each, copied rectangle by rectangle.
-use Rattle.std.proofs.Common.{◌≡◌, ℕ, ◌+◌, ◌-◌, ◌<◌, ◌≤◌, Bool, true, false, ◌||◌, if◌then◌else◌, List, [], ◌∷◌, length, drop, replicate, get_or, ◌/◌, ◌%◌, inl, inr, ℤ, pos, ◌+ℤ◌, ◌-ℤ◌, refl, ap, sym, ◌∙◌, arith}
+use Rattle.std.proofs.Common.{◌≡◌, ℕ, zero, suc, ◌+◌, ◌-◌, ◌<◌, ◌≤◌, Bool, true, false, ◌||◌, if◌then◌else◌, List, [], ◌∷◌, ◌++◌, length, drop, replicate, get_or, ◌/◌, ◌%◌, inl, inr, ℤ, pos, ◌+ℤ◌, ◌-ℤ◌, refl, ap, sym, ◌∙◌, arith}
 use Rattle.std.specs.Int.{bit_at}
 use Rattle.std.proofs.lemmas.Int.{ints}
 use Rattle.std.proofs.lemmas.Bool.{or_parts, cases_lt}
@@ -140,3 +140,31 @@ zero_step false pen plane old e h = e ∙ sym (ap (λ w. bit_at w plane) (h refl
 -- over zeros the bits are those of the pens
 pub over_zero : (rs : List Rectangle) (bs : List Bitmap) (plane : ℕ) (x y : ℤ) (old : ℕ) → old ≡ 0 → bit_over rs bs plane x y old ≡ bit_at (pen_in rs bs x y) plane
 over_zero rs bs plane x y old e = zero_step (covers rs x y) (pen_in rs bs x y) plane old e (pen_none rs bs x y)
+
+-- a choice in a choice
+join_step : (t c : Bool) (p q r : ℕ) → (if t then p else (if c then q else r)) ≡ (if (t || c) then (if t then p else q) else r)
+join_step true c p q r = refl
+join_step false c p q r = refl
+
+-- the pens of the first list, and where it has none those of the second
+pub pen_in_append : (rs ss : List Rectangle) (bs cs : List Bitmap) (x y : ℤ) → length bs ≡ length rs → pen_in (rs ++ ss) (bs ++ cs) x y ≡ (if covers rs x y then pen_in rs bs x y else pen_in ss cs x y)
+unfolding pen_in
+pen_in_append [] ss [] cs x y many = sym (ap (λ w. if w then 0 else pen_in ss cs x y) (covers_nil x y))
+pen_in_append [] ss (b ∷ bs) cs x y many = absurd (omega arith)
+pen_in_append (r ∷ rs) ss [] cs x y many = absurd (omega arith)
+pen_in_append (r ∷ rs) ss (b ∷ bs) cs x y many =
+    ap (λ w. if has_pixel r x y then pen_from r b x y else w) (pen_in_append rs ss bs cs x y (omega arith)) ∙
+    (join_step (has_pixel r x y) (covers rs x y) (pen_from r b x y) (pen_in rs bs x y) (pen_in ss cs x y) ∙
+    sym (ap (λ w. if w then pen_in (r ∷ rs) (b ∷ bs) x y else pen_in ss cs x y) (covers_cons r rs x y)))
+
+-- the pen of a place that one rectangle has and none before it
+pub pen_in_first : (rs : List Rectangle) (bs : List Bitmap) (n : ℕ) (d : Rectangle) (b : Bitmap) (x y : ℤ) → n < length rs → length bs ≡ length rs → has_pixel (get_or rs n d) x y ≡ true
+    → ((k : ℕ) → k < n → has_pixel (get_or rs k d) x y ≡ false) → pen_in rs bs x y ≡ pen_from (get_or rs n d) (get_or bs n b) x y
+unfolding pen_in
+pen_in_first [] bs n d b x y inside many has before = absurd (omega arith)
+pen_in_first (r ∷ rs) [] n d b x y inside many has before = absurd (omega arith)
+pen_in_first (r ∷ rs) (c ∷ bs) zero d b x y inside many has before = ap (λ w. if w then pen_from r c x y else pen_in rs bs x y) has
+pen_in_first (r ∷ rs) (c ∷ bs) (suc n) d b x y inside many has before =
+    let here : has_pixel r x y ≡ false = before 0 (omega arith) in
+    ap (λ w. if w then pen_from r c x y else pen_in rs bs x y) here ∙
+    pen_in_first rs bs n d b x y (omega arith) (omega arith) has (λ k h. before (suc k) (omega arith))

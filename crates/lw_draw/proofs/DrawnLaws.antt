@@ -3,24 +3,18 @@ use Rattle.std.proofs.Common.{◌≡◌, ℕ, ◌<◌, Bool, true, false, ◌&&�
 use Rattle.std.specs.Int.{bit_at}
 use Rattle.std.proofs.lemmas.Nat.Bits.{bit_at-lt}
 use Rattle.lw_planes.specs.Pen.{pen_of}
-use Rattle.lw_planes.specs.Bitmap.{Bitmap, IsBitmap, pen_at}
+use Rattle.lw_planes.specs.Bitmap.{IsBitmap, pen_at}
 use Rattle.lw_planes.proofs.PenLaws.{pen_of_same, bit_pen_of, pen_same}
 use Rattle.lw_planes.proofs.WriteLaws.{chosen_small}
-use Rattle.lw_planes.proofs.BitmapLaws.{pen_at_bitmap, bitmap_same, bitmap_again}
+use Rattle.lw_planes.proofs.BitmapLaws.{pen_at_bitmap, bitmap_again}
 use Rattle.lw_layer.specs.View.{LiveView, repainted}
+use Rattle.lw_layer.proofs.ViewLaws.{with_bits}
+use Rattle.lw_layer.proofs.LineLaws.{repainted_same}
 use Rattle.lw_draw.specs.Drawn.{drawn, GivesBits}
 
 -- a bit of a layer's pen
 abbrev pub bit_of_layer : LiveView → ℕ → ℕ → ℕ → ℕ
 bit_of_layer c p x y = bit_at (pen_at c.layer.bits x y) p
-
--- the live layer with other bits
-abbrev pub with_bits : LiveView → Bitmap → LiveView
-with_bits c b = record c { layer = record c.layer { bits = b } }
-
--- layers with equal pens are equal
-pub repainted_same : (c : LiveView) (f g : ℕ → ℕ → ℕ) → ((x y : ℕ) → x < c.layer.bits.width → y < c.layer.bits.height → f x y ≡ g x y) → repainted f c ≡ repainted g c
-repainted_same c f g same = ap (with_bits c) (bitmap_same c.layer.bits.width c.layer.bits.height c.layer.bits.depth f g same)
 
 -- layers with equal bits are equal
 pub bits_same : (c : LiveView) (f g : ℕ → ℕ → ℕ → ℕ) → ((p x y : ℕ) → p < c.layer.bits.depth → x < c.layer.bits.width → y < c.layer.bits.height → f p x y ≡ g p x y) → repainted (λ x y. pen_of c.layer.bits.depth (λ p. f p x y)) c ≡ repainted (λ x y. pen_of c.layer.bits.depth (λ p. g p x y)) c

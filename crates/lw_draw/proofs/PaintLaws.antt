@@ -1,7 +1,8 @@
 -- Laws of painting a layer plane by plane, run by run and row by row.
-use Rattle.std.proofs.Common.{◌≡◌, ℕ, ◌+◌, ◌==◌, ◌<◌, ◌≤◌, ◌^◌, Bool, true, false, ◌&&◌, ◌||◌, nat_lt, if◌then◌else◌, ◌∙◌, sym, refl, ap, subst, arith, pos}
+use Rattle.std.proofs.Common.{◌≡◌, ℕ, ◌+◌, ◌==◌, ◌<◌, ◌≤◌, ◌^◌, Bool, true, false, ◌&&◌, ◌||◌, nat_lt, if◌then◌else◌, ◌∙◌, None, sym, refl, ap, subst, arith, pos}
 use Rattle.std.specs.Int.{bit_at}
 use Rattle.std.proofs.lemmas.Bool.Decides.{nat_tests}
+use Rattle.std.proofs.lemmas.Int.{ints}
 use Rattle.std.proofs.lemmas.Nat.Bits.{bit_at-lt}
 use Rattle.lw_region.specs.Rectangle.{Rectangle, within, has_pixel}
 use Rattle.lw_planes.specs.Pen.{pen_of}
@@ -15,10 +16,11 @@ use Rattle.lw_machine.specs.Shapes.{rect_fill}
 use Rattle.lw_layer.specs.View.{LiveView, CellView, shows, draws, with_live, with_layer}
 use Rattle.lw_layer.specs.Runs.{IsRun}
 use Rattle.lw_layer.specs.declared.run.Run.{Run}
-use Rattle.lw_draw.specs.Drawn.{drawn, GivesBits, painted_bit, painted, in_run, in_row, in_rows}
-use Rattle.lw_draw.specs.Stretches.{IsFirst}
+use Rattle.lw_layer.proofs.LineLaws.{repainted_same}
+use Rattle.lw_draw.specs.Drawn.{drawn, GivesBits, painted_bit, painted, in_run, in_rows}
+use Rattle.lw_draw.specs.Stretches.{IsFirstStretch, IsNextStretch}
 use Rattle.lw_draw.specs.declared.stretch.Stretch.{Stretch}
-use Rattle.lw_draw.proofs.DrawnLaws.{AreMore, drawn_more, drawn_same, drawn_nowhere, repainted_same}
+use Rattle.lw_draw.proofs.DrawnLaws.{AreMore, drawn_more, drawn_same, drawn_nowhere}
 
 -- a cell drawn on nowhere
 pub cell_nowhere : (v : CellView) (on : ℕ → ℕ → ℕ → Bool) (new : ℕ → ℕ → ℕ → ℕ → ℕ) → IsBitmap v.live.layer.bits → ((p x y : ℕ) → on p x y ≡ false) → v ≡ with_live (λ c. drawn on new c) v
@@ -58,19 +60,27 @@ paints_bits raster p x y old small =
     grind (arith, nat_tests)
 
 -- the first run of a row that is left is the same
-pub first_stays : (v w : CellView) (on : ℕ → ℕ → ℕ → Bool) (new : ℕ → ℕ → ℕ → ℕ → ℕ) (x y end : ℕ) (s : Stretch) → w ≡ with_live (λ c. drawn on new c) v → IsFirst w.live x y end s → IsFirst v.live x y end s
+pub first_stays : (v w : CellView) (on : ℕ → ℕ → ℕ → Bool) (new : ℕ → ℕ → ℕ → ℕ → ℕ) (x y end : ℕ) (s : Stretch) → w ≡ with_live (λ c. drawn on new c) v → IsFirstStretch w.live x y end s → IsFirstStretch v.live x y end s
 unfolding drawn draws is_drawable is_kept
 first_stays v w on new x y end s is first =
-    let P : CellView → Type 0 = λ q. IsFirst q.live x y end s in
+    let P : CellView → Type 0 = λ q. IsFirstStretch q.live x y end s in
     let there : P (with_live (λ c. drawn on new c) v) = subst P is first in
+    let column = there.column in
     let run = there.run in
     record {
       row = there.row;
-      from = there.from;
+      column = record { reaches = column.reaches; ends = column.ends; holds = column.holds; before = column.before };
       ends = there.ends;
-      before = there.before;
       run = record { some = run.some; there = run.there; holds = run.holds; inside = run.inside; fits = run.fits; bits = run.bits };
     }
+
+-- that no drawable pixel is left stays
+pub none_stays : (v w : CellView) (on : ℕ → ℕ → ℕ → Bool) (new : ℕ → ℕ → ℕ → ℕ → ℕ) (x y end : ℕ) → w ≡ with_live (λ c. drawn on new c) v → IsNextStretch w.live x y end None → IsNextStretch v.live x y end None
+unfolding drawn draws is_drawable is_kept
+none_stays v w on new x y end is none =
+    let P : CellView → Type 0 = λ q. IsNextStretch q.live x y end None in
+    let there : P (with_live (λ c. drawn on new c) v) = subst P is none in
+    λ u late low. there u late low
 
 -- no plane, all planes
 pub no_plane : (p : ℕ) (more : Bool) → (nat_lt p 0 && more) ≡ false
@@ -105,21 +115,22 @@ pub left_plane : (has : ℕ → Bool) (k : ℕ) (run : Bool) (p : ℕ) → has k
 left_plane has k run p left = let off : p ≡ k → has p ≡ false = λ e. ap has e ∙ left in let b : Bool = has p in grind (arith, nat_tests)
 
 -- one run more of a row
-run_apart : (has : Bool) (i j y from x column len : ℕ) (drawable : Bool) → x ≤ column → ((has && (j == y && (is_between from x i && drawable))) && (has && (j == y && is_named column len i))) ≡ false
+run_apart : (has : Bool) (i j y from x column len : ℕ) (drawable : Bool) → x ≤ column → ((has && (is_between y (y + 1) j && (is_between from x i && drawable))) && (has && (j == y && is_named column len i))) ≡ false
 run_apart has i j y from x column len drawable late = grind (arith, nat_tests)
 
-run_whole : (has : Bool) (i j y from x column len : ℕ) (drawable : Bool) → from ≤ x → x ≤ column → (x ≤ i → i < column → j ≡ y → drawable ≡ false) → (column ≤ i → i < column + len → j ≡ y → drawable ≡ true) → (has && (j == y && (is_between from (column + len) i && drawable))) ≡ ((has && (j == y && (is_between from x i && drawable))) || (has && (j == y && is_named column len i)))
+run_whole : (has : Bool) (i j y from x column len : ℕ) (drawable : Bool) → from ≤ x → x ≤ column → (x ≤ i → i < column → j ≡ y → drawable ≡ false) → (column ≤ i → i < column + len → j ≡ y → drawable ≡ true) → (has && (is_between y (y + 1) j && (is_between from (column + len) i && drawable))) ≡ ((has && (is_between y (y + 1) j && (is_between from x i && drawable))) || (has && (j == y && is_named column len i)))
 run_whole has i j y from x column len drawable first late before inside = grind (arith, nat_tests)
 
-pub next_run : (c : LiveView) (has : ℕ → Bool) (y from x end : ℕ) (s : Stretch) → from ≤ x → IsFirst c x y end s → AreMore c (λ p i j. has p && in_row c y from x i j) (λ p i j. has p && in_run s.x s.y s.run.len i j) (λ p i j. has p && in_row c y from (s.x + s.run.len) i j)
+pub next_run : (c : LiveView) (has : ℕ → Bool) (y from x end : ℕ) (s : Stretch) → from ≤ x → IsFirstStretch c x y end s → AreMore c (λ p i j. has p && in_rows c y (y + 1) from x i j) (λ p i j. has p && in_run s.x s.y s.run.len i j) (λ p i j. has p && in_rows c y (y + 1) from (s.x + s.run.len) i j)
 next_run c has y from x end s first is =
-    let P : ℕ → Type 0 = λ v. AreMore c (λ p i j. has p && in_row c y from x i j) (λ p i j. has p && in_run s.x v s.run.len i j) (λ p i j. has p && in_row c y from (s.x + s.run.len) i j) in
+    let P : ℕ → Type 0 = λ v. AreMore c (λ p i j. has p && in_rows c y (y + 1) from x i j) (λ p i j. has p && in_run s.x v s.run.len i j) (λ p i j. has p && in_rows c y (y + 1) from (s.x + s.run.len) i j) in
     let at : ℕ → ℕ → Bool = λ i j. draws c i j in
+    let reaches : x ≤ s.x = let e = is.column.reaches in omega (arith, ints) in
     subst P (sym is.row) (record {
-      apart = λ p i j _ _ _. run_apart (has p) i j y from x s.x s.run.len (draws c i j) is.from;
+      apart = λ p i j _ _ _. run_apart (has p) i j y from x s.x s.run.len (draws c i j) reaches;
       whole =
-          λ p i j _ _ _. run_whole (has p) i j y from x s.x s.run.len (draws c i j) first is.from
-          (λ late low e. ap (at i) e ∙ is.before i late low)
+          λ p i j _ _ _. run_whole (has p) i j y from x s.x s.run.len (draws c i j) first reaches
+          (λ late low e. ap (at i) e ∙ is.column.before (pos i) (omega (arith, ints)) (omega (arith, ints)))
           (λ late low e. ap (at i) (e ∙ sym is.row) ∙ is.run.holds i late low);
     })
 
@@ -127,19 +138,19 @@ next_run c has y from x end s first is =
 row_end : (has row : Bool) (i from x end : ℕ) (drawable : Bool) → from ≤ x → x ≤ end → (x ≤ i → i < end → row ≡ true → drawable ≡ false) → (has && (row && (is_between from x i && drawable))) ≡ (has && (row && (is_between from end i && drawable)))
 row_end has row i from x end drawable first late none = grind (arith, nat_tests)
 
-pub row_done : (c : LiveView) (has : Bool) (y from x end i j : ℕ) → from ≤ x → x ≤ end → ((u : ℕ) → x ≤ u → u < end → draws c u y ≡ false) → (has && in_row c y from x i j) ≡ (has && in_row c y from end i j)
+pub row_done : (c : LiveView) (has : Bool) (y from x end i j : ℕ) → from ≤ x → x ≤ end → IsNextStretch c x y end None → (has && in_rows c y (y + 1) from x i j) ≡ (has && in_rows c y (y + 1) from end i j)
 row_done c has y from x end i j first late none =
     let at : ℕ → ℕ → Bool = λ u v. draws c u v in
-    row_end has (j == y) i from x end (draws c i j) first late (λ on low same. let e : j ≡ y = grind (arith, nat_tests) in ap (at i) e ∙ none i on low)
+    row_end has (is_between y (y + 1) j) i from x end (draws c i j) first late (λ on low same. let e : j ≡ y = grind (arith, nat_tests) in ap (at i) e ∙ none (pos i) (omega (arith, ints)) (omega (arith, ints)))
 
 -- one row more
-rows_apart : (has inside : Bool) (j top y : ℕ) → ((has && (is_between top y j && inside)) && (has && (j == y && inside))) ≡ false
+rows_apart : (has inside : Bool) (j top y : ℕ) → ((has && (is_between top y j && inside)) && (has && (is_between y (y + 1) j && inside))) ≡ false
 rows_apart has inside j top y = grind (arith, nat_tests)
 
-rows_whole : (has inside : Bool) (j top y : ℕ) → top ≤ y → (has && (is_between top (y + 1) j && inside)) ≡ ((has && (is_between top y j && inside)) || (has && (j == y && inside)))
+rows_whole : (has inside : Bool) (j top y : ℕ) → top ≤ y → (has && (is_between top (y + 1) j && inside)) ≡ ((has && (is_between top y j && inside)) || (has && (is_between y (y + 1) j && inside)))
 rows_whole has inside j top y low = grind (arith, nat_tests)
 
-pub next_row : (c : LiveView) (has : ℕ → Bool) (top y from end : ℕ) → top ≤ y → AreMore c (λ p i j. has p && in_rows c top y from end i j) (λ p i j. has p && in_row c y from end i j) (λ p i j. has p && in_rows c top (y + 1) from end i j)
+pub next_row : (c : LiveView) (has : ℕ → Bool) (top y from end : ℕ) → top ≤ y → AreMore c (λ p i j. has p && in_rows c top y from end i j) (λ p i j. has p && in_rows c y (y + 1) from end i j) (λ p i j. has p && in_rows c top (y + 1) from end i j)
 next_row c has top y from end low = record {
   apart = λ p i j _ _ _. rows_apart (has p) (is_between from end i && draws c i j) j top y;
   whole = λ p i j _ _ _. rows_whole (has p) (is_between from end i && draws c i j) j top y low;

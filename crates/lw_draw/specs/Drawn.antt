@@ -34,10 +34,6 @@ in_mask raster p = bit_at raster.mask p == 1
 abbrev pub painted : Raster → (ℕ → ℕ → Bool) → LiveView → LiveView
 painted raster on c = drawn (λ p x y. in_mask raster p && on x y) (painted_bit raster) c
 
--- the drawable pixels of row y, from one column on and before another
-abbrev pub in_row : LiveView → ℕ → ℕ → ℕ → ℕ → ℕ → Bool
-in_row c y from end i j = j == y && (is_between from end i && draws c i j)
-
--- the drawable pixels of some rows, from one row on and before another
+-- the drawable pixels of some rows and columns, from one on and before another
 abbrev pub in_rows : LiveView → ℕ → ℕ → ℕ → ℕ → ℕ → ℕ → Bool
 in_rows c top bottom from end i j = is_between top bottom j && (is_between from end i && draws c i j)

@@ -1,9 +1,9 @@
-ghost use Rattle.std.specs.Prelude.{◌≡◌, ◌<◌, ◌≤◌};
+ghost use Rattle.std.specs.Prelude.{◌≡◌, ◌+◌, ◌<◌, ◌≤◌};
 ghost use Rattle.lw_machine.specs.Shapes.{rect_fill};
 ghost use Rattle.lw_layer.specs.View.{shows, with_live, with_layer};
 ghost use Rattle.lw_layer.specs.View as view;
 ghost use Rattle.lw_layer.specs.Drafts.{raster_of};
-ghost use Rattle.lw_draw.specs.Drawn.{painted, in_row, in_rows};
+ghost use Rattle.lw_draw.specs.Drawn.{painted, in_rows};
 
 use crate::painting::paint_run;
 use crate::spans::{Places, span};
@@ -47,7 +47,7 @@ fn fill_row(cell: &mut Cell, y: u32, columns: Places, raster: Raster)
     requires columns { columns.from ≤ columns.end }
     requires right { columns.end < 65536 }
     ensures { cell.new ≡ with_live
-        (λ c. painted (raster_of raster) (λ i j. in_row c y columns.from columns.end i j) c)
+        (λ c. painted (raster_of raster) (λ i j. in_rows c y (y + 1) columns.from columns.end i j) c)
         cell.old }
 {
     // As above.

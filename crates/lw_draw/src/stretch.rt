@@ -3,7 +3,7 @@
 ghost use Rattle.std.specs.Prelude.{◌≡◌, ◌+◌, ◌<◌, ◌≤◌, true, min};
 ghost use Rattle.lw_layer.specs.View.{draws};
 ghost use Rattle.lw_layer.specs.Runs.{IsRun};
-ghost use Rattle.lw_draw.specs.Stretches.{IsNextColumn, IsNextStretch};
+ghost use Rattle.lw_draw.specs.Stretches.{IsNextStretch};
 
 use lw_layer::{Cell, Run};
 
@@ -22,22 +22,12 @@ pub(crate) fn next_stretch(cell: &Cell, x: u32, y: u32, end: u32) -> Option<Stre
     requires end { end < 65536 }
     ensures { IsNextStretch cell.now.live x y end result }
 {
-    let column = next_column(cell, x, y, end)?;
+    let Some(column) = cell.next_drawable(x as i32, y as i32, end as i32 - 1) else {
+        return None;
+    };
+    let column = column as u32;
     let run = run_before(cell, column, y, end);
     Some(Stretch { x: column, y, run })
-}
-
-// The first drawable column of row y, from column x on and before another.
-fn next_column(cell: &Cell, x: u32, y: u32, end: u32) -> Option<u32>
-    requires column { x < 65536 }
-    requires row { y < 65536 }
-    requires end { end < 65536 }
-    ensures { IsNextColumn (λ i. draws cell.now.live i y) x end result }
-{
-    match cell.next_drawable(x as i32, y as i32, end as i32 - 1) {
-        None => None,
-        Some(column) => Some(column as u32),
-    }
 }
 
 // A run of drawable pixels from a drawable one on, before another column.

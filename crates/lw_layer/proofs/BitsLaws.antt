@@ -26,7 +26,7 @@ pen_small d x y (Some n) ok is =
     let P : ℕ → Type 0 = λ q. pen_from (buffers_of d) (layout d) (Some n) x y < 2 ^ q in
     subst P buffer.planes small
 
-live_bits : (d : LiveDraft) → IsLiveDraft d → IsPlanes (live_view d).layer.bits
+pub live_bits : (d : LiveDraft) → IsLiveDraft d → IsPlanes (live_view d).layer.bits
 live_bits d ok = record {
   bitmap = IsBitmap_bitmap (layout d).width (layout d).height d.depth _ (λ x y left low. pen_small d x y (buffer_at (layout d) x y) ok refl);
   sizes = ok.sizes;

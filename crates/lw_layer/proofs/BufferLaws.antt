@@ -9,7 +9,7 @@ use Rattle.lw_planes.specs.Bitmap.{Bitmap}
 use Rattle.lw_calls.specs.declared.make.Kind.{Kind}
 use Rattle.lw_calls.specs.declared.make.Kind.TheVariants.{Simple, Smart, SuperBitmap}
 use Rattle.lw_cliprects.specs.Parts.{hidden_of}
-use Rattle.lw_layer.specs.Pieces.{pieces, piece, rest_as, whole_of}
+use Rattle.lw_layer.specs.Pieces.{buffered, buffer_rectangle, rest_as, whole_of}
 use Rattle.lw_layer.specs.Drafts.{IsLiveDraft, IsBuffer, IsRest, layout, own_list, buffers_of, no_bitmap}
 use Rattle.lw_layer.specs.Written.{changed_own, changed_buffer}
 use Rattle.lw_layer.specs.declared.draft.LiveDraft.{LiveDraft}
@@ -36,7 +36,7 @@ own_after Simple hidden covered own whole hid k is long past inside = absurd (om
 own_after Smart hidden covered own whole hid k is long past inside = absurd (omega (arith, is.0))
 own_after SuperBitmap hidden covered own whole hid k is long past inside = (is.1, is.2, omega (arith, is.0))
 
-pub own_buffer : (d : LiveDraft) (n : ℕ) → IsLiveDraft d → n < length (pieces (layout d)) → length d.buffers.items ≤ n → length d.covered.items ≤ n - length d.buffers.items → HasOwn d n
+pub own_buffer : (d : LiveDraft) (n : ℕ) → IsLiveDraft d → n < length (buffered (layout d)) → length d.buffers.items ≤ n → length d.covered.items ≤ n - length d.buffers.items → HasOwn d n
 own_buffer d n ok inside past late =
     let k : ℕ = n - length d.buffers.items in
     let hidden = hidden_of d.bounds d.parts.visible in
@@ -52,10 +52,34 @@ own_buffer d n ok inside past late =
           (ap (λ i. get_or (own_list d.superbits) i no_bitmap) (omega (arith, own.2)) ∙ ap (λ o. get_or (own_list o) 0 no_bitmap) own.1));
     }
 
--- each buffer is of its piece's size
-pub buffer_is : (d : LiveDraft) (n : ℕ) (b : Bitmap) → IsLiveDraft d → n < length (pieces (layout d)) → slice_index_or (buffers_of d) n no_bitmap ≡ b → IsBuffer d.depth (piece (layout d) n) b
+-- there are as many buffers as rectangles with one
+rest_many : (kind : Kind) (hid : List Rectangle) (whole : Rectangle) (covered : List Bitmap) (own : Option Bitmap) → IsRest kind (length hid) (length covered) own → length (covered ++ own_list own) ≡ length (rest_as kind hid whole)
+rest_many Simple hid whole covered own is =
+    let long = length-append covered (own_list own) in
+    let none : length (own_list own) ≡ 0 = ap (λ o. length (own_list o)) is.1 in
+    omega (arith, is.0)
+rest_many Smart hid whole covered own is =
+    let long = length-append covered (own_list own) in
+    let none : length (own_list own) ≡ 0 = ap (λ o. length (own_list o)) is.1 in
+    omega (arith, is.0)
+rest_many SuperBitmap hid whole covered own is =
+    let long = length-append covered (own_list own) in
+    let one : length (own_list own) ≡ 1 = ap (λ o. length (own_list o)) is.2 in
+    omega (arith, is.0)
+
+pub as_many_buffers : (d : LiveDraft) → IsLiveDraft d → length (buffers_of d) ≡ length (buffered (layout d))
+as_many_buffers d ok =
+    let hidden = hidden_of d.bounds d.parts.visible in
+    let whole = whole_of (layout d) in
+    let all = length-append d.buffers.items (d.covered.items ++ own_list d.superbits) in
+    let rectangles = length-append d.parts.visible (rest_as d.kind hidden whole) in
+    let rest = rest_many d.kind hidden whole d.covered.items d.superbits ok.rest in
+    omega (arith, ok.shown)
+
+-- each buffer is of its rectangle's size
+pub buffer_is : (d : LiveDraft) (n : ℕ) (b : Bitmap) → IsLiveDraft d → n < length (buffered (layout d)) → slice_index_or (buffers_of d) n no_bitmap ≡ b → IsBuffer d.depth (buffer_rectangle (layout d) n) b
 buffer_is d n b ok inside is =
-    let P : Bitmap → Type 0 = λ q. IsBuffer d.depth (piece (layout d) n) q in
+    let P : Bitmap → Type 0 = λ q. IsBuffer d.depth (buffer_rectangle (layout d) n) q in
     subst P is (ok.buffers.each n inside)
 
 -- what becomes of a draft where one of its buffers was changed

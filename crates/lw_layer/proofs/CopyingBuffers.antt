@@ -19,7 +19,7 @@ use Rattle.lw_buffers.specs.Lookup.{IsBufferOf, AreBuffers, pen_from, pen_in}
 use Rattle.lw_calls.specs.declared.make.Kind.{Kind}
 use Rattle.lw_calls.specs.declared.make.Kind.TheVariants.{Simple, Smart, SuperBitmap}
 use Rattle.lw_cliprects.specs.Parts.{hidden_of}
-use Rattle.lw_layer.specs.Pieces.{Layout, pieces, rest_as, rest_of, whole_of, down}
+use Rattle.lw_layer.specs.Pieces.{Layout, buffered, rest_as, rest_of, whole_of, down}
 use Rattle.lw_layer.specs.Drafts.{IsLiveDraft, IsBuffer, IsRest, layout, width_of, height_of, own_list, no_bitmap}
 use Rattle.lw_layer.specs.Copied.{HasPlaces, AreClear, across_at, rest_buffers, area_of}
 use Rattle.lw_layer.specs.declared.draft.LiveDraft.{LiveDraft}
@@ -67,8 +67,8 @@ covered_each d k r b smart ok inside =
     let l = layout d in
     let hidden = hidden_of d.bounds d.parts.visible in
     let rest = smart_rest d.kind (length hidden) (length d.covered.items) d.superbits smart ok.rest in
-    let all : pieces l ≡ l.visible ++ hidden = ap (λ q. l.visible ++ rest_as q hidden (whole_of l)) smart in
-    let long : length (pieces l) ≡ length l.visible + length hidden = ap (λ q. length q) all ∙ length-append l.visible hidden in
+    let all : buffered l ≡ l.visible ++ hidden = ap (λ q. l.visible ++ rest_as q hidden (whole_of l)) smart in
+    let long : length (buffered l) ≡ length l.visible + length hidden = ap (λ q. length q) all ∙ length-append l.visible hidden in
     let covered : k < length hidden = omega (arith, rest.0) in
     let n : ℕ = length l.visible + k in
     buffer_moved d.depth _ _ _ _

@@ -15,12 +15,12 @@ use Rattle.lw_calls.specs.declared.make.Kind.TheVariants.{Simple, Smart, SuperBi
 use Rattle.lw_cliprects.specs.Parts.{hidden_of, AreDivided}
 use Rattle.lw_machine.specs.Kept.{is_kept, is_drawable, holds_at}
 use Rattle.lw_layer.specs.View.{keeps, draws}
-use Rattle.lw_layer.specs.Pieces.{Layout, columns, lines, pieces, piece, rest_as, rest_of, whole_of, across, down, found_in, buffer_at, line_in, in_line}
+use Rattle.lw_layer.specs.Pieces.{Layout, columns, lines, buffered, buffer_rectangle, rest_as, rest_of, whole_of, across, down, found_in, buffer_at, line_in, in_line}
 use Rattle.lw_layer.specs.Drafts.{IsLiveDraft, IsRest, width_of, height_of, layout, live_view}
 use Rattle.lw_layer.specs.Runs.{IsRun}
 use Rattle.lw_layer.specs.Code.{HasPlace, IsReach, IsKeptReach, lets_draw}
 use Rattle.lw_layer.specs.declared.draft.LiveDraft.{LiveDraft}
-use Rattle.lw_layer.proofs.PieceLaws.{in_bits_found, whole_has}
+use Rattle.lw_layer.proofs.FoundLaws.{in_bits_found, whole_has}
 use Rattle.lw_layer.proofs.Positions.{none_passes}
 use Rattle.lw_layer.proofs.ViewLaws.{has_place, both_true}
 use Rattle.lw_layer.proofs.ReachLaws.{simple_number, join_true}
@@ -49,7 +49,7 @@ keeps_found d x y n found =
     kept_in_bits d x y d.kind refl place.left place.low
     (λ simple.
     let shown : n < length d.parts.visible = simple_number l n simple place.there in
-    let here : piece l n ≡ get_or l.visible n l.bounds = get_or_append_left l.visible (rest_of l) l.bounds n shown in
+    let here : buffer_rectangle l n ≡ get_or l.visible n l.bounds = get_or_append_left l.visible (rest_of l) l.bounds n shown in
     let P : Rectangle → Type 0 = λ r. has_pixel r (across l x) (down l y) ≡ true in
     has_at l.visible n l.bounds (across l x) (down l y) shown (subst P here place.has))
 
@@ -82,18 +82,18 @@ unfolding within
 within_low least z greatest has = grind (arith, ints)
 
 -- a run that is drawn
-pub run_some : (d : LiveDraft) (x y n kept len bit line : ℕ) → buffer_at (layout d) x y ≡ Some n → IsKeptReach (layout d) n x y kept → IsReach (lets_draw d y) x kept len → 0 < len → pos bit ≡ across (layout d) x -ℤ (piece (layout d) n).min_x → pos line ≡ down (layout d) y -ℤ (piece (layout d) n).min_y → IsRun (live_view d) (λ i j. draws (live_view d) i j) x y (record { buffer = n; line = line; bit = bit; len = len })
+pub run_some : (d : LiveDraft) (x y n kept len bit line : ℕ) → buffer_at (layout d) x y ≡ Some n → IsKeptReach (layout d) n x y kept → IsReach (lets_draw d y) x kept len → 0 < len → pos bit ≡ across (layout d) x -ℤ (buffer_rectangle (layout d) n).min_x → pos line ≡ down (layout d) y -ℤ (buffer_rectangle (layout d) n).min_y → IsRun (live_view d) (λ i j. draws (live_view d) i j) x y (record { buffer = n; line = line; bit = bit; len = len })
 unfolding in_line
 run_some d x y n kept len bit line found reach drawn some is_bit is_line =
     let l = layout d in
     let place = has_place l x y n found in
     let halves = both_true _ _ place.has in
     let left = within_low _ _ _ halves.0 in
-    let at_line : line_in l n y ≡ line = distance_is (piece l n).min_y (down l y) line is_line in
+    let at_line : line_in l n y ≡ line = distance_is (buffer_rectangle l n).min_y (down l y) line is_line in
     let end : ℕ = x + (len - 1) in
     let last = has_place l end y n (reach.found end (omega arith) (omega (arith, drawn.upto))) in
-    let last_step = column_step l.bounds.min_x (piece l n).min_x l.scroll_x x end bit left (omega arith) is_bit in
-    let last_inside : bit + len ≤ columns (piece l n) = omega (arith, last.column, last_step) in
+    let last_step = column_step l.bounds.min_x (buffer_rectangle l n).min_x l.scroll_x x end bit left (omega arith) is_bit in
+    let last_inside : bit + len ≤ columns (buffer_rectangle l n) = omega (arith, last.column, last_step) in
     record {
       some = some;
       there = record { buffer = place.there; below = omega (arith, place.line) };
@@ -109,7 +109,7 @@ run_some d x y n kept len bit line found reach drawn some is_bit is_line =
           let even : (line_in l n y == line) ≡ true = grind (arith, nat_tests) in
           rw (here, same, even) refl;
       fits = last_inside;
-      bits = λ u later before. column_step l.bounds.min_x (piece l n).min_x l.scroll_x x u bit left later is_bit;
+      bits = λ u later before. column_step l.bounds.min_x (buffer_rectangle l n).min_x l.scroll_x x u bit left later is_bit;
     }
 
 pub and_false : (a : Bool) → (a && false) ≡ false
@@ -128,32 +128,32 @@ bounds_within : (least greatest : ℤ) (scroll x : ℕ) → scroll ≡ 0 → lea
 unfolding within
 bounds_within least greatest scroll x still ordered inside = grind (arith, ints)
 
--- a smart layer's bits have the size of its bounds
-smart_size : (kind : Kind) (hidden covered : ℕ) (own : Option Bitmap) (bounds : Rectangle) → kind ≡ Smart → IsRest kind hidden covered own → (width_of own bounds ≡ columns bounds) × (height_of own bounds ≡ lines bounds)
-smart_size Simple hidden covered own bounds is rest = absurd (cc is)
-smart_size Smart hidden covered own bounds is rest = (ap (λ o. width_of o bounds) rest.1, ap (λ o. height_of o bounds) rest.1)
-smart_size SuperBitmap hidden covered own bounds is rest = absurd (cc is)
+-- the bits of a layer without an own bitmap have the size of its bounds
+pub plain_size : (kind : Kind) (hidden covered : ℕ) (own : Option Bitmap) (bounds : Rectangle) → is_super kind ≡ false → IsRest kind hidden covered own → (width_of own bounds ≡ columns bounds) × (height_of own bounds ≡ lines bounds)
+plain_size Simple hidden covered own bounds plain rest = (ap (λ o. width_of o bounds) rest.1, ap (λ o. height_of o bounds) rest.1)
+plain_size Smart hidden covered own bounds plain rest = (ap (λ o. width_of o bounds) rest.1, ap (λ o. height_of o bounds) rest.1)
+plain_size SuperBitmap hidden covered own bounds plain rest = absurd (cc plain)
 
 in_bounds : (d : LiveDraft) (x y : ℕ) → d.kind ≡ Smart → IsLiveDraft d → IsOrdered d.bounds → x < (layout d).width → y < (layout d).height → has_pixel d.bounds (across (layout d) x) (down (layout d) y) ≡ true
 in_bounds d x y is ok ordered left low =
-    let size = smart_size d.kind _ _ d.superbits d.bounds is ok.rest in
     let plain : is_super d.kind ≡ false = ap is_super is in
+    let size = plain_size d.kind _ _ d.superbits d.bounds plain ok.rest in
     let still_x = ok.scrolled.left plain in
     let still_y = ok.scrolled.upper plain in
     let column : x < columns d.bounds = omega (arith, size.0) in
     let row : y < lines d.bounds = omega (arith, size.1) in
     join_true _ _ (bounds_within d.bounds.min_x d.bounds.max_x (layout d).scroll_x x still_x ordered.columns column) (bounds_within d.bounds.min_y d.bounds.max_y (layout d).scroll_y y still_y ordered.rows row)
 
--- a pixel of the bits that no piece has isn't kept
+-- a pixel of the bits that has no buffer isn't kept
 pub keeps_missing : (d : LiveDraft) (x y : ℕ) (kind : Kind) → d.kind ≡ kind → IsLiveDraft d → IsOrdered d.bounds → AreDivided d.bounds d.parts.visible (hidden_of d.bounds d.parts.visible) → x < (layout d).width → y < (layout d).height → buffer_at (layout d) x y ≡ None → keeps (live_view d) x y ≡ false
 unfolding keeps is_kept
 keeps_missing d x y Simple is ok ordered divided left low none =
     let l = layout d in
-    let nowhere : found_in l (pieces l) x y ≡ None = sym (in_bits_found l x y left low) ∙ none in
+    let nowhere : found_in l (buffered l) x y ≡ None = sym (in_bits_found l x y left low) ∙ none in
     let long = length-append l.visible (rest_of l) in
     let free : covers l.visible (across l x) (down l y) ≡ false =
     covers_none l.visible l.bounds (across l x) (down l y)
-    (λ k inside. sym (ap (λ r. has_pixel r (across l x) (down l y)) (get_or_append_left l.visible (rest_of l) l.bounds k inside)) ∙ none_passes (λ r. has_pixel r (across l x) (down l y)) (pieces l) k l.bounds nowhere (omega arith))
+    (λ k inside. sym (ap (λ r. has_pixel r (across l x) (down l y)) (get_or_append_left l.visible (rest_of l) l.bounds k inside)) ∙ none_passes (λ r. has_pixel r (across l x) (down l y)) (buffered l) k l.bounds nowhere (omega arith))
     in
     let column : nat_lt x l.width ≡ true = grind (arith, nat_tests) in
     let row : nat_lt y l.height ≡ true = grind (arith, nat_tests) in
@@ -161,7 +161,7 @@ keeps_missing d x y Simple is ok ordered divided left low none =
 keeps_missing d x y Smart is ok ordered divided left low none =
     let l = layout d in
     let hidden = hidden_of l.bounds l.visible in
-    let all : pieces l ≡ l.visible ++ hidden = ap (λ q. l.visible ++ rest_as q hidden (whole_of l)) is in
+    let all : buffered l ≡ l.visible ++ hidden = ap (λ q. l.visible ++ rest_as q hidden (whole_of l)) is in
     let nowhere : found_in l (l.visible ++ hidden) x y ≡ None = ap (λ q. found_in l q x y) (sym all) ∙ (sym (in_bits_found l x y left low) ∙ none) in
     let long = length-append l.visible hidden in
     let test : Rectangle → Bool = λ r. has_pixel r (across l x) (down l y) in
@@ -178,12 +178,12 @@ keeps_missing d x y Smart is ok ordered divided left low none =
     absurd (cc (rw (shown, covered) at split))
 keeps_missing d x y SuperBitmap is ok ordered divided left low none =
     let l = layout d in
-    let nowhere : found_in l (pieces l) x y ≡ None = sym (in_bits_found l x y left low) ∙ none in
+    let nowhere : found_in l (buffered l) x y ≡ None = sym (in_bits_found l x y left low) ∙ none in
     let rest : rest_of l ≡ whole_of l ∷ [] = ap (λ q. rest_as q (hidden_of l.bounds l.visible) (whole_of l)) is in
-    let long : length (pieces l) ≡ length l.visible + 1 = length-append l.visible (rest_of l) ∙ ap (λ q. length l.visible + length q) rest in
-    let last : piece l (length l.visible) ≡ whole_of l = ap (λ q. get_or (l.visible ++ q) (length l.visible) l.bounds) rest ∙ get_or_at l.visible (whole_of l) [] l.bounds (length l.visible) refl in
+    let long : length (buffered l) ≡ length l.visible + 1 = length-append l.visible (rest_of l) ∙ ap (λ q. length l.visible + length q) rest in
+    let last : buffer_rectangle l (length l.visible) ≡ whole_of l = ap (λ q. get_or (l.visible ++ q) (length l.visible) l.bounds) rest ∙ get_or_at l.visible (whole_of l) [] l.bounds (length l.visible) refl in
     let has = whole_has l x y left low in
-    let hasnt = none_passes (λ r. has_pixel r (across l x) (down l y)) (pieces l) (length l.visible) l.bounds nowhere (omega arith) in
+    let hasnt = none_passes (λ r. has_pixel r (across l x) (down l y)) (buffered l) (length l.visible) l.bounds nowhere (omega arith) in
     let P : Rectangle → Type 0 = λ r. has_pixel r (across l x) (down l y) ≡ false in
     let none_there = subst P last hasnt in
     absurd (cc)
@@ -215,9 +215,9 @@ rows_undrawn d (pos x) (pos y) off = unkept_undrawn d x y (row_off d x y (off y 
 rows_undrawn d (pos x) (negsuc y) off = refl
 rows_undrawn d (negsuc x) y off = refl
 
--- a pixel isn't left of its piece, nor above it
-pub left_of_pixel : (l : Layout) (x y n : ℕ) → HasPlace l x y n → (piece l n).min_x ≤ℤ across l x
-left_of_pixel l x y n place = within_low (piece l n).min_x (across l x) (piece l n).max_x ((both_true _ _ place.has).0)
+-- a pixel isn't left of its rectangle, nor above it
+pub left_of_pixel : (l : Layout) (x y n : ℕ) → HasPlace l x y n → (buffer_rectangle l n).min_x ≤ℤ across l x
+left_of_pixel l x y n place = within_low (buffer_rectangle l n).min_x (across l x) (buffer_rectangle l n).max_x ((both_true _ _ place.has).0)
 
-pub above_pixel : (l : Layout) (x y n : ℕ) → HasPlace l x y n → (piece l n).min_y ≤ℤ down l y
-above_pixel l x y n place = within_low (piece l n).min_y (down l y) (piece l n).max_y ((both_true _ _ place.has).1)
+pub above_pixel : (l : Layout) (x y n : ℕ) → HasPlace l x y n → (buffer_rectangle l n).min_y ≤ℤ down l y
+above_pixel l x y n place = within_low (buffer_rectangle l n).min_y (down l y) (buffer_rectangle l n).max_y ((both_true _ _ place.has).1)

@@ -1,5 +1,5 @@
 pub mod Positions
-pub mod PieceLaws
+pub mod FoundLaws
 pub mod BufferLaws
 pub mod ViewLaws
 pub mod WrittenLaws
@@ -18,3 +18,5 @@ pub mod CopyingLaws
 pub mod OrderedLists
 pub mod CopyingBuffers
 pub mod CopyingJoined
+pub mod SoundLaws
+pub mod LineLaws

@@ -22,32 +22,33 @@ use Rattle.lw_layer.specs.New.{blank_buffer, kept_hidden, own_blank, AreBlank, I
 use Rattle.lw_layer.specs.declared.draft.LiveDraft.{LiveDraft}
 
 -- the buffers of two lists are those of both
-joined : (depth : ℕ) (rs ss : List Rectangle) (xs ys : List Bitmap) (other : Rectangle) → AreBuffers depth rs xs other → AreBuffers depth ss ys other → AreBuffers depth (rs ++ ss) (xs ++ ys) other
-joined depth rs ss xs ys other first second =
+joined : (depth : ℕ) (rs ss : List Rectangle) (xs ys : List Bitmap) (other : Rectangle) → length xs ≡ length rs → AreBuffers depth rs xs other → AreBuffers depth ss ys other → AreBuffers depth (rs ++ ss) (xs ++ ys) other
+joined depth rs ss xs ys other many first second =
     let rects = length-append rs ss in
-    let buffers = length-append xs ys in
     record {
-      many = omega (arith, first.many, second.many);
       each =
           λ n inside.
           ⊎_elim
           (λ (early : n < length rs).
           let r = get_or_append_left rs ss other n early in
-          let b = get_or_append_left xs ys no_bitmap n (omega (arith, first.many)) in
+          let b = get_or_append_left xs ys no_bitmap n (omega (arith, many)) in
           rw (r, b) (first.each n early))
           (λ (late : length rs ≤ n).
           let r : get_or (rs ++ ss) n other ≡ get_or ss (n - length rs) other = get_or-append_right rs ss (length rs) n other refl late in
-          let b : get_or (xs ++ ys) n no_bitmap ≡ get_or ys (n - length rs) no_bitmap = get_or-append_right xs ys (length rs) n no_bitmap first.many late in
+          let b : get_or (xs ++ ys) n no_bitmap ≡ get_or ys (n - length rs) no_bitmap = get_or-append_right xs ys (length rs) n no_bitmap many late in
           rw (r, b) (second.each (n - length rs) (omega arith)))
           (cases_lt n (length rs));
     }
 
+-- new buffers are as many as their rectangles
+blank_counted : (depth : ℕ) (rects : List Rectangle) (buffers : List Bitmap) → AreBlank depth rects buffers → length buffers ≡ length rects
+blank_counted depth rects buffers are = ap length are.blank ∙ length-map rects (λ r. blank_buffer depth r)
+
 -- new buffers are buffers of their rectangles
 blank_are : (depth : ℕ) (rects : List Rectangle) (buffers : List Bitmap) (other : Rectangle) → AreBlank depth rects buffers → AreBuffers depth rects buffers other
 blank_are depth rects buffers other are =
-    let many : length buffers ≡ length rects = ap length are.blank ∙ length-map rects (λ r. blank_buffer depth r) in
+    let many = blank_counted depth rects buffers are in
     record {
-      many = many;
       each =
           λ n inside.
           let is : get_or buffers n no_bitmap ≡ blank_buffer depth (get_or rects n other) = ap (λ bs. get_or bs n no_bitmap) are.blank ∙ get_or-map (λ r. blank_buffer depth r) rects n other no_bitmap inside in
@@ -75,7 +76,6 @@ own_each depth l w h other sizes wide high (suc n) inside = absurd (omega arith)
 -- an own bitmap is the buffer of its pixels' place
 own_is : (depth : ℕ) (l : Layout) (w h : ℕ) (other : Rectangle) → AreSizes w h depth → l.width ≡ w → l.height ≡ h → AreBuffers depth (whole_of l ∷ []) (bitmap w h depth (λ x y. 0) ∷ []) other
 own_is depth l w h other sizes wide high = record {
-  many = refl;
   each = λ n inside. own_each depth l w h other sizes wide high n inside;
 }
 
@@ -95,7 +95,7 @@ rest_are SuperBitmap depth l make hidden covered other are sizes own =
 -- as many buffers as the kind has
 rest_counted : (kind : Kind) (depth : ℕ) (make : Make) (hidden : List Rectangle) (covered : List Bitmap) → AreBlank depth (kept_hidden kind hidden) covered → IsRest kind (length hidden) (length covered) (own_blank kind depth make)
 rest_counted Simple depth make hidden covered are = (ap length are.blank, refl)
-rest_counted Smart depth make hidden covered are = (ap length are.blank ∙ length-map hidden (λ r. blank_buffer depth r), refl)
+rest_counted Smart depth make hidden covered are = (blank_counted depth hidden covered are, refl)
 rest_counted SuperBitmap depth make hidden covered are = (ap length are.blank, bitmap make.bits_w make.bits_h depth (λ x y. 0), refl)
 
 -- the size of a new layer's bits
@@ -121,7 +121,7 @@ pub record AllZero (bs : List Bitmap) : Type 0 where
 
 zero_blank : (depth : ℕ) (rects : List Rectangle) (bs : List Bitmap) → AreBlank depth rects bs → AllZero bs
 zero_blank depth rects bs are =
-    let many : length bs ≡ length rects = ap length are.blank ∙ length-map rects (λ r. blank_buffer depth r) in
+    let many = blank_counted depth rects bs are in
     record {
       zero_at =
           λ n i j inside.
@@ -218,11 +218,11 @@ new_sound d kind make depth bounds visible is size shown covered =
       sizes = new_sizes kind make depth bounds is size;
       scrolled = record { left = λ other. refl; upper = λ other. refl; right = right.0; lower = right.1 };
       mode = omega arith;
-      shown = ap length shown.blank ∙ length-map visible (λ r. blank_buffer depth r);
+      shown = blank_counted depth visible d.buffers.items shown;
       rest = rest_counted kind depth make (hidden_of bounds visible) d.covered.items covered;
       buffers =
           joined depth visible (rest_as kind (hidden_of bounds visible) (whole_of (layout q))) d.buffers.items (d.covered.items ++ own_list (own_blank kind depth make)) bounds
-          (blank_are depth visible d.buffers.items bounds shown)
+          (blank_counted depth visible d.buffers.items shown) (blank_are depth visible d.buffers.items bounds shown)
           (rest_are kind depth (layout q) make (hidden_of bounds visible) d.covered.items bounds covered own (new_own kind make depth bounds));
       inner = new_inner kind make depth bounds;
       damaged = λ x y has. absurd (cc (covers_nil x y, has));

@@ -10,20 +10,20 @@ use Rattle.lw_region.proofs.FindingLaws.{covers_none}
 use Rattle.lw_calls.specs.declared.make.Kind.{Kind}
 use Rattle.lw_calls.specs.declared.make.Kind.TheVariants.{Simple, Smart, SuperBitmap}
 use Rattle.lw_cliprects.specs.Parts.{hidden_of, AreDivided}
-use Rattle.lw_layer.specs.Pieces.{Layout, pieces, piece, rest_as, rest_of, whole_of, across, down, buffer_at}
+use Rattle.lw_layer.specs.Pieces.{Layout, buffered, buffer_rectangle, rest_as, rest_of, whole_of, across, down, buffer_at}
 use Rattle.lw_layer.specs.Code.{HasPlace, IsReach, IsKeptReach, lets_draw}
 use Rattle.lw_region.proofs.Reading.{contains_pixels_of}
 use Rattle.lw_machine.specs.Kept.{in_clip}
 use Rattle.lw_layer.specs.Drafts.{clip_set}
 use Rattle.lw_layer.specs.declared.draft.LiveDraft.{LiveDraft}
 use Rattle.lw_layer.proofs.Positions.{position_is}
-use Rattle.lw_layer.proofs.PieceLaws.{in_bits_found, whole_has}
+use Rattle.lw_layer.proofs.FoundLaws.{in_bits_found, whole_has}
 use Rattle.lw_layer.proofs.ViewLaws.{has_place, both_true}
 
--- a pixel that a piece has and none before it has its pen there
-pub found_at : (l : Layout) (x y n : ℕ) → x < l.width → y < l.height → n < length (pieces l) → has_pixel (piece l n) (across l x) (down l y) ≡ true → ((k : ℕ) → k < n → has_pixel (piece l k) (across l x) (down l y) ≡ false) → buffer_at l x y ≡ Some n
+-- a pixel that a rectangle has and none before it has its pen there
+pub found_at : (l : Layout) (x y n : ℕ) → x < l.width → y < l.height → n < length (buffered l) → has_pixel (buffer_rectangle l n) (across l x) (down l y) ≡ true → ((k : ℕ) → k < n → has_pixel (buffer_rectangle l k) (across l x) (down l y) ≡ false) → buffer_at l x y ≡ Some n
 found_at l x y n left low there has before =
-    in_bits_found l x y left low ∙ position_is (λ r. has_pixel r (across l x) (down l y)) (pieces l) n l.bounds there has before
+    in_bits_found l x y left low ∙ position_is (λ r. has_pixel r (across l x) (down l y)) (buffered l) n l.bounds there has before
 
 -- further to the right, up to the right edge, a rectangle has the place too
 more_within : (least greatest z w : ℤ) → within least z greatest ≡ true → z ≤ℤ w → w ≤ℤ greatest → within least w greatest ≡ true
@@ -57,10 +57,10 @@ past_free a b upto other = ⊎_elim (λ (less : a <ℤ b). less) (λ (same : a �
 pub join_true : (a b : Bool) → a ≡ true → b ≡ true → (a && b) ≡ true
 join_true a b p q = rw (p, q) refl
 
-pub still_in_piece : (l : Layout) (x y n u : ℕ) → HasPlace l x y n → x ≤ u → across l u ≤ℤ (piece l n).max_x → has_pixel (piece l n) (across l u) (down l y) ≡ true
-still_in_piece l x y n u place later inside =
+pub still_in_rectangle : (l : Layout) (x y n u : ℕ) → HasPlace l x y n → x ≤ u → across l u ≤ℤ (buffer_rectangle l n).max_x → has_pixel (buffer_rectangle l n) (across l u) (down l y) ≡ true
+still_in_rectangle l x y n u place later inside =
     let halves = both_true _ _ place.has in
-    join_true _ _ (more_within (piece l n).min_x (piece l n).max_x (across l x) (across l u) halves.0 (later_place l.bounds.min_x l.scroll_x x u later) inside) halves.1
+    join_true _ _ (more_within (buffer_rectangle l n).min_x (buffer_rectangle l n).max_x (across l x) (across l u) halves.0 (later_place l.bounds.min_x l.scroll_x x u later) inside) halves.1
 
 -- of two rectangles that are apart the first hasn't what the second has
 apart_first : (a b : Bool) → (a && b) ≡ false → b ≡ true → a ≡ false
@@ -68,45 +68,45 @@ apart_first true true h has = h
 apart_first true false h has = absurd (cc h)
 apart_first false b h has = refl
 
--- no earlier piece overlaps one of the visible or, for a smart layer, the hidden rectangles
-visible_before : (l : Layout) (n k : ℕ) (X Y : ℤ) → AreDivided l.bounds l.visible (hidden_of l.bounds l.visible) → n < length l.visible → k < n → has_pixel (piece l n) X Y ≡ true → has_pixel (piece l k) X Y ≡ false
+-- no earlier rectangle overlaps one of the visible or, for a smart layer, the hidden rectangles
+visible_before : (l : Layout) (n k : ℕ) (X Y : ℤ) → AreDivided l.bounds l.visible (hidden_of l.bounds l.visible) → n < length l.visible → k < n → has_pixel (buffer_rectangle l n) X Y ≡ true → has_pixel (buffer_rectangle l k) X Y ≡ false
 visible_before l n k X Y divided inside before has =
     let hidden = hidden_of l.bounds l.visible in
     let long = length-append l.visible hidden in
     let apart = divided.apart k n l.bounds before (omega arith) X Y in
-    let first : get_or (pieces l) k l.bounds ≡ get_or (l.visible ++ hidden) k l.bounds = get_or_append_left l.visible (rest_of l) l.bounds k (omega arith) ∙ sym (get_or_append_left l.visible hidden l.bounds k (omega arith)) in
-    let second : get_or (pieces l) n l.bounds ≡ get_or (l.visible ++ hidden) n l.bounds = get_or_append_left l.visible (rest_of l) l.bounds n inside ∙ sym (get_or_append_left l.visible hidden l.bounds n inside) in
+    let first : get_or (buffered l) k l.bounds ≡ get_or (l.visible ++ hidden) k l.bounds = get_or_append_left l.visible (rest_of l) l.bounds k (omega arith) ∙ sym (get_or_append_left l.visible hidden l.bounds k (omega arith)) in
+    let second : get_or (buffered l) n l.bounds ≡ get_or (l.visible ++ hidden) n l.bounds = get_or_append_left l.visible (rest_of l) l.bounds n inside ∙ sym (get_or_append_left l.visible hidden l.bounds n inside) in
     let P : Rectangle → Type 0 = λ r. has_pixel r X Y ≡ true in
     rw first (apart_first _ _ apart (subst P second has))
 
-smart_before : (l : Layout) (n k : ℕ) (X Y : ℤ) → l.kind ≡ Smart → AreDivided l.bounds l.visible (hidden_of l.bounds l.visible) → n < length (pieces l) → k < n → has_pixel (piece l n) X Y ≡ true → has_pixel (piece l k) X Y ≡ false
+smart_before : (l : Layout) (n k : ℕ) (X Y : ℤ) → l.kind ≡ Smart → AreDivided l.bounds l.visible (hidden_of l.bounds l.visible) → n < length (buffered l) → k < n → has_pixel (buffer_rectangle l n) X Y ≡ true → has_pixel (buffer_rectangle l k) X Y ≡ false
 smart_before l n k X Y smart divided there before has =
-    let all : pieces l ≡ l.visible ++ hidden_of l.bounds l.visible = ap (λ q. l.visible ++ rest_as q (hidden_of l.bounds l.visible) (whole_of l)) smart in
+    let all : buffered l ≡ l.visible ++ hidden_of l.bounds l.visible = ap (λ q. l.visible ++ rest_as q (hidden_of l.bounds l.visible) (whole_of l)) smart in
     let P : List Rectangle → Type 0 = λ q. n < length q → has_pixel (get_or q n l.bounds) X Y ≡ true → has_pixel (get_or q k l.bounds) X Y ≡ false in
     let known : P (l.visible ++ hidden_of l.bounds l.visible) = λ inside there_has. apart_first _ _ (divided.apart k n l.bounds before inside X Y) there_has in
     subst P (sym all) known there has
 
--- which pieces a number may name
-pub simple_number : (l : Layout) (n : ℕ) → l.kind ≡ Simple → n < length (pieces l) → n < length l.visible
+-- which rectangles a number may name
+pub simple_number : (l : Layout) (n : ℕ) → l.kind ≡ Simple → n < length (buffered l) → n < length l.visible
 simple_number l n simple there =
-    let long : length (pieces l) ≡ length l.visible = ap (λ q. length (l.visible ++ rest_as q (hidden_of l.bounds l.visible) (whole_of l))) simple ∙ (length-append l.visible [] ∙ omega arith) in
+    let long : length (buffered l) ≡ length l.visible = ap (λ q. length (l.visible ++ rest_as q (hidden_of l.bounds l.visible) (whole_of l))) simple ∙ (length-append l.visible [] ∙ omega arith) in
     omega arith
 
-pub none_before : (l : Layout) (n k : ℕ) (X Y : ℤ) (kind : Kind) → l.kind ≡ kind → (l.kind ≡ SuperBitmap → n < length l.visible) → AreDivided l.bounds l.visible (hidden_of l.bounds l.visible) → n < length (pieces l) → k < n → has_pixel (piece l n) X Y ≡ true → has_pixel (piece l k) X Y ≡ false
+pub none_before : (l : Layout) (n k : ℕ) (X Y : ℤ) (kind : Kind) → l.kind ≡ kind → (l.kind ≡ SuperBitmap → n < length l.visible) → AreDivided l.bounds l.visible (hidden_of l.bounds l.visible) → n < length (buffered l) → k < n → has_pixel (buffer_rectangle l n) X Y ≡ true → has_pixel (buffer_rectangle l k) X Y ≡ false
 none_before l n k X Y Simple is shown divided there before has = visible_before l n k X Y divided (simple_number l n is there) before has
 none_before l n k X Y Smart is shown divided there before has = smart_before l n k X Y is divided there before has
 none_before l n k X Y SuperBitmap is shown divided there before has = visible_before l n k X Y divided (shown is) before has
 
--- up to the right edge of its piece, the pixels of a row have their pens in one buffer
-pub piece_reach_is : (l : Layout) (x y n count : ℕ) → buffer_at l x y ≡ Some n → (l.kind ≡ SuperBitmap → n < length l.visible) → AreDivided l.bounds l.visible (hidden_of l.bounds l.visible) → 0 < count → x + count ≤ l.width → ((across l x +ℤ pos count) ≤ℤ ((piece l n).max_x +ℤ pos 1)) → IsKeptReach l n x y count
-piece_reach_is l x y n count found shown divided some wide edge =
+-- up to the right edge of its rectangle, the pixels of a row have their pens in one buffer
+pub rectangle_reach_is : (l : Layout) (x y n count : ℕ) → buffer_at l x y ≡ Some n → (l.kind ≡ SuperBitmap → n < length l.visible) → AreDivided l.bounds l.visible (hidden_of l.bounds l.visible) → 0 < count → x + count ≤ l.width → ((across l x +ℤ pos count) ≤ℤ ((buffer_rectangle l n).max_x +ℤ pos 1)) → IsKeptReach l n x y count
+rectangle_reach_is l x y n count found shown divided some wide edge =
     let place = has_place l x y n found in
     record {
       some = some;
       found =
           λ u later before.
-          let inside : across l u ≤ℤ (piece l n).max_x = last_place l.bounds.min_x l.scroll_x x u count (piece l n).max_x later before edge in
-          let has = still_in_piece l x y n u place later inside in
+          let inside : across l u ≤ℤ (buffer_rectangle l n).max_x = last_place l.bounds.min_x l.scroll_x x u count (buffer_rectangle l n).max_x later before edge in
+          let has = still_in_rectangle l x y n u place later inside in
           found_at l u y n (omega arith) place.low place.there has (λ k earlier. none_before l n k (across l u) (down l y) l.kind refl shown divided place.there earlier has);
     }
 
@@ -125,12 +125,12 @@ none_has (r ∷ rs) (suc k) d X Y free inside = none_has rs k d X Y (either_fals
 pub own_found : (l : Layout) (x y : ℕ) → l.kind ≡ SuperBitmap → x < l.width → y < l.height → covers l.visible (across l x) (down l y) ≡ false → buffer_at l x y ≡ Some (length l.visible)
 own_found l x y super left low free =
     let rest : rest_of l ≡ whole_of l ∷ [] = ap (λ q. rest_as q (hidden_of l.bounds l.visible) (whole_of l)) super in
-    let long : length (pieces l) ≡ length l.visible + 1 = length-append l.visible (rest_of l) ∙ ap (λ q. length l.visible + length q) rest in
-    let last : piece l (length l.visible) ≡ whole_of l = ap (λ q. get_or (l.visible ++ q) (length l.visible) l.bounds) rest ∙ get_or_at l.visible (whole_of l) [] l.bounds (length l.visible) refl in
+    let long : length (buffered l) ≡ length l.visible + 1 = length-append l.visible (rest_of l) ∙ ap (λ q. length l.visible + length q) rest in
+    let last : buffer_rectangle l (length l.visible) ≡ whole_of l = ap (λ q. get_or (l.visible ++ q) (length l.visible) l.bounds) rest ∙ get_or_at l.visible (whole_of l) [] l.bounds (length l.visible) refl in
     let P : Rectangle → Type 0 = λ r. has_pixel r (across l x) (down l y) ≡ true in
     found_at l x y (length l.visible) left low (omega arith) (subst P (sym last) (whole_has l x y left low))
     (λ k before.
-    let first : piece l k ≡ get_or l.visible k l.bounds = get_or_append_left l.visible (rest_of l) l.bounds k before in
+    let first : buffer_rectangle l k ≡ get_or l.visible k l.bounds = get_or_append_left l.visible (rest_of l) l.bounds k before in
     rw first (none_has l.visible k l.bounds (across l x) (down l y) free before))
 
 -- up to the next visible rectangle, the pixels of a row have their pens in an own bitmap
@@ -146,11 +146,11 @@ free_in_own l x y found =
     let place = has_place l x y (length l.visible) found in
     covers_none l.visible l.bounds (across l x) (down l y)
     (λ k inside.
-    let first : piece l k ≡ get_or l.visible k l.bounds = get_or_append_left l.visible (rest_of l) l.bounds k inside in
+    let first : buffer_rectangle l k ≡ get_or l.visible k l.bounds = get_or_append_left l.visible (rest_of l) l.bounds k inside in
     rw (sym first) (place.first k inside))
 
--- the pixel is not past the right edge of its piece
-pub up_to_edge : (l : Layout) (x y n : ℕ) → buffer_at l x y ≡ Some n → across l x ≤ℤ (piece l n).max_x
+-- the pixel is not past the right edge of its rectangle
+pub up_to_edge : (l : Layout) (x y n : ℕ) → buffer_at l x y ≡ Some n → across l x ≤ℤ (buffer_rectangle l n).max_x
 up_to_edge l x y n found = within_high _ _ _ ((both_true _ _ (has_place l x y n found).has).0)
 
 -- an own bitmap's pixel in a row with the next visible pixel, or with none
@@ -193,11 +193,11 @@ own_some l x y all gap p q next rs is_p is_q is_rs begins free is_gap is_all sup
     let short : (across l x +ℤ pos (min (all - x) gap)) ≤ℤ next = short_gap (across l x) next gap (all - x) distance in
     own_reach_next l x y (min (all - x) gap) next super low begins_here (omega arith) (omega arith) short
 
--- up to the right edge of a piece
-pub piece_some : (l : Layout) (x y n all gap : ℕ) (p right : ℤ) → p ≡ across l x → right ≡ (piece l n).max_x → buffer_at l x y ≡ Some n → (l.kind ≡ SuperBitmap → n < length l.visible) → AreDivided l.bounds l.visible (hidden_of l.bounds l.visible) → pos gap ≡ right -ℤ p → all ≡ l.width → x < l.width → IsKeptReach l n x y (min (all - x - 1) gap + 1)
-piece_some l x y n all gap p right is_p is_right found shown divided is_gap is_all left =
-    let distance : pos gap ≡ (piece l n).max_x -ℤ across l x = rw (sym is_p, sym is_right) is_gap in
-    piece_reach_is l x y n (min (all - x - 1) gap + 1) found shown divided (omega arith) (omega arith) (short_edge (across l x) (piece l n).max_x gap (all - x - 1) distance)
+-- up to the right edge of a rectangle
+pub rectangle_reach_some : (l : Layout) (x y n all gap : ℕ) (p right : ℤ) → p ≡ across l x → right ≡ (buffer_rectangle l n).max_x → buffer_at l x y ≡ Some n → (l.kind ≡ SuperBitmap → n < length l.visible) → AreDivided l.bounds l.visible (hidden_of l.bounds l.visible) → pos gap ≡ right -ℤ p → all ≡ l.width → x < l.width → IsKeptReach l n x y (min (all - x - 1) gap + 1)
+rectangle_reach_some l x y n all gap p right is_p is_right found shown divided is_gap is_all left =
+    let distance : pos gap ≡ (buffer_rectangle l n).max_x -ℤ across l x = rw (sym is_p, sym is_right) is_gap in
+    rectangle_reach_is l x y n (min (all - x - 1) gap + 1) found shown divided (omega arith) (omega arith) (short_edge (across l x) (buffer_rectangle l n).max_x gap (all - x - 1) distance)
 
 zero_or_more : (m : ℕ) → (m ≡ 0) ⊎ (0 < m)
 zero_or_more zero = inl refl

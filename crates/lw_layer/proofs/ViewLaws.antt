@@ -15,10 +15,11 @@ use Rattle.lw_planes.proofs.BitmapLaws.{pen_at_bitmap, bitmap_same}
 use Rattle.lw_machine.specs.Desk.{is_the}
 use Rattle.lw_machine.specs.Screen.{distance}
 use Rattle.lw_layer.specs.View.{LiveView}
-use Rattle.lw_layer.specs.Pieces.{Layout, columns, lines, pieces, piece, across, down, found_in, buffer_at, column_in, line_in, with_bytes}
+use Rattle.lw_layer.specs.Pieces.{Layout, columns, lines, buffered, buffer_rectangle, across, down, found_in, buffer_at, column_in, line_in, with_bytes}
 use Rattle.lw_layer.specs.Code.{HasPlace}
 use Rattle.lw_layer.specs.Drafts.{IsLiveDraft, IsBuffer, layout, buffers_of, no_bitmap, pen_from, bits_of, live_view}
 use Rattle.lw_layer.specs.declared.draft.LiveDraft.{LiveDraft}
+use Rattle.lw_layer.proofs.BufferLaws.{as_many_buffers}
 
 -- a place between two edges lies in as many columns as there are between them
 inside_extent : (least greatest z : ℤ) → within least z greatest ≡ true → distance least z < unsigned_abs ((greatest +ℤ pos 1) -ℤ least)
@@ -39,9 +40,9 @@ chosen false o n is = absurd (cc is)
 pub has_place : (l : Layout) (x y n : ℕ) → buffer_at l x y ≡ Some n → HasPlace l x y n
 unfolding buffer_at
 has_place l x y n is =
-    let in_bits = chosen (nat_lt x l.width && nat_lt y l.height) (found_in l (pieces l) x y) n is in
+    let in_bits = chosen (nat_lt x l.width && nat_lt y l.height) (found_in l (buffered l) x y) n is in
     let sides : (nat_lt x l.width ≡ true) × (nat_lt y l.height ≡ true) = both_true _ _ in_bits.0 in
-    let found = position-Some (λ r. has_pixel r (across l x) (down l y)) (pieces l) n l.bounds in_bits.1 in
+    let found = position-Some (λ r. has_pixel r (across l x) (down l y)) (buffered l) n l.bounds in_bits.1 in
     let halves = both_true _ _ found.1 in
     record {
       left = grind (arith, nat_tests);
@@ -69,7 +70,7 @@ pen_written depth r b k line bytes i j is left low =
     ap (λ q. pen_of depth (λ p. overwritten_bit (columns r) q k line bytes i j p (bit_at (pen_at b i j) p))) is.height))
 
 -- the pen of one pixel once bytes were written into buffer n
-pen_changed : (l : Layout) (depth : ℕ) (bs : List Bitmap) (n k line : ℕ) (bytes : List ℕ) (x y : ℕ) (found : Option ℕ) → found ≡ buffer_at l x y → length bs ≡ length (pieces l) → IsBuffer depth (piece l n) (slice_index_or bs n no_bitmap) → n < length (pieces l) → pen_from (set bs n (with_row (slice_index_or bs n no_bitmap) k line bytes)) l found x y ≡ (if is_the found n then pen_of depth (λ p. overwritten_bit (columns (piece l n)) (lines (piece l n)) k line bytes (column_in l n x) (line_in l n y) p (bit_at (pen_from bs l found x y) p)) else pen_from bs l found x y)
+pen_changed : (l : Layout) (depth : ℕ) (bs : List Bitmap) (n k line : ℕ) (bytes : List ℕ) (x y : ℕ) (found : Option ℕ) → found ≡ buffer_at l x y → length bs ≡ length (buffered l) → IsBuffer depth (buffer_rectangle l n) (slice_index_or bs n no_bitmap) → n < length (buffered l) → pen_from (set bs n (with_row (slice_index_or bs n no_bitmap) k line bytes)) l found x y ≡ (if is_the found n then pen_of depth (λ p. overwritten_bit (columns (buffer_rectangle l n)) (lines (buffer_rectangle l n)) k line bytes (column_in l n x) (line_in l n y) p (bit_at (pen_from bs l found x y) p)) else pen_from bs l found x y)
 pen_changed l depth bs n k line bytes x y None is many buffer there = refl
 pen_changed l depth bs n k line bytes x y (Some m) is many buffer there =
     let b = slice_index_or bs n no_bitmap in
@@ -78,7 +79,7 @@ pen_changed l depth bs n k line bytes x y (Some m) is many buffer there =
     let place = has_place l x y n (sym is ∙ ap Some same) in
     let here : get_or (set bs n (with_row b k line bytes)) n no_bitmap ≡ with_row b k line bytes = get_or-set_same bs n _ no_bitmap (omega (arith, many)) in
     let test : (n == n) ≡ true = grind (arith, nat_tests) in
-    rw same (rw (here, test) (pen_written depth (piece l n) b k line bytes (column_in l n x) (line_in l n y) buffer place.column place.line)))
+    rw same (rw (here, test) (pen_written depth (buffer_rectangle l n) b k line bytes (column_in l n x) (line_in l n y) buffer place.column place.line)))
     (λ (other : m ≢ n).
     let here : get_or (set bs n (with_row b k line bytes)) m no_bitmap ≡ get_or bs m no_bitmap = get_or-set_other bs n m _ no_bitmap other in
     let test : (m == n) ≡ false = grind (arith, nat_tests) in
@@ -86,7 +87,7 @@ pen_changed l depth bs n k line bytes x y (Some m) is many buffer there =
     (cases_eq m n)
 
 -- the bits of a layer once bytes were written into buffer n
-pub bits_written : (l : Layout) (depth : ℕ) (bs : List Bitmap) (n k line : ℕ) (bytes : List ℕ) → length bs ≡ length (pieces l) → IsBuffer depth (piece l n) (slice_index_or bs n no_bitmap) → n < length (pieces l) → bits_of l depth (set bs n (with_row (slice_index_or bs n no_bitmap) k line bytes)) ≡ bitmap l.width l.height depth (λ x y. if is_the (buffer_at l x y) n then pen_of depth (λ p. overwritten_bit (columns (piece l n)) (lines (piece l n)) k line bytes (column_in l n x) (line_in l n y) p (bit_at (pen_at (bits_of l depth bs) x y) p)) else pen_at (bits_of l depth bs) x y)
+pub bits_written : (l : Layout) (depth : ℕ) (bs : List Bitmap) (n k line : ℕ) (bytes : List ℕ) → length bs ≡ length (buffered l) → IsBuffer depth (buffer_rectangle l n) (slice_index_or bs n no_bitmap) → n < length (buffered l) → bits_of l depth (set bs n (with_row (slice_index_or bs n no_bitmap) k line bytes)) ≡ bitmap l.width l.height depth (λ x y. if is_the (buffer_at l x y) n then pen_of depth (λ p. overwritten_bit (columns (buffer_rectangle l n)) (lines (buffer_rectangle l n)) k line bytes (column_in l n x) (line_in l n y) p (bit_at (pen_at (bits_of l depth bs) x y) p)) else pen_at (bits_of l depth bs) x y)
 bits_written l depth bs n k line bytes many buffer there =
     bitmap_same l.width l.height depth _ _
     (λ x y left low.
@@ -98,9 +99,9 @@ abbrev pub with_bits : LiveView → Bitmap → LiveView
 with_bits c b = record c { layer = record c.layer { bits = b } }
 
 -- the draft stands for the layer with the bytes written, where its buffers are the old ones with one changed
-pub view_of_set : (d : LiveDraft) (n k line : ℕ) (bytes : List ℕ) (bs : List Bitmap) → IsLiveDraft d → n < length (pieces (layout d)) → bs ≡ set (buffers_of d) n (with_row (slice_index_or (buffers_of d) n no_bitmap) k line bytes) → with_bits (live_view d) (bits_of (layout d) d.depth bs) ≡ with_bytes (live_view d) k n line bytes
+pub view_of_set : (d : LiveDraft) (n k line : ℕ) (bytes : List ℕ) (bs : List Bitmap) → IsLiveDraft d → n < length (buffered (layout d)) → bs ≡ set (buffers_of d) n (with_row (slice_index_or (buffers_of d) n no_bitmap) k line bytes) → with_bits (live_view d) (bits_of (layout d) d.depth bs) ≡ with_bytes (live_view d) k n line bytes
 unfolding with_bytes
 view_of_set d n k line bytes bs ok there is =
     let buffer = ok.buffers.each n there in
     ap (λ b. with_bits (live_view d) (bits_of (layout d) d.depth b)) is ∙
-    ap (with_bits (live_view d)) (bits_written (layout d) d.depth (buffers_of d) n k line bytes ok.buffers.many buffer there)
+    ap (with_bits (live_view d)) (bits_written (layout d) d.depth (buffers_of d) n k line bytes (as_many_buffers d ok) buffer there)

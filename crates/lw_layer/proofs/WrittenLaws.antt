@@ -12,11 +12,11 @@ use Rattle.lw_machine.specs.Kept.{is_kept}
 use Rattle.lw_calls.specs.declared.make.Kind.{Kind}
 use Rattle.lw_calls.specs.declared.make.Kind.TheVariants.{Simple, Smart, SuperBitmap}
 use Rattle.lw_layer.specs.View.{keeps}
-use Rattle.lw_layer.specs.Pieces.{pieces, with_bytes}
+use Rattle.lw_layer.specs.Pieces.{buffered, with_bytes}
 use Rattle.lw_layer.specs.Drafts.{IsLiveDraft, IsBuffer, AreBuffers, IsRest, layout, own_list, buffers_of, no_bitmap, live_view}
 use Rattle.lw_layer.specs.Written.{changed_own, with_line_bytes}
 use Rattle.lw_layer.specs.declared.draft.LiveDraft.{LiveDraft}
-use Rattle.lw_layer.proofs.BufferLaws.{shown_buffer, covered_buffer, own_buffer, changed_shown, changed_covered, changed_last}
+use Rattle.lw_layer.proofs.BufferLaws.{shown_buffer, covered_buffer, own_buffer, as_many_buffers, changed_shown, changed_covered, changed_last}
 use Rattle.lw_layer.proofs.ViewLaws.{view_of_set}
 
 -- a buffer stays one of its size
@@ -29,13 +29,12 @@ buffer_written depth r b k line bytes is = record {
 }
 
 -- all buffers stay such where one is changed into such
-buffers_set : (depth : ℕ) (rects : List Rectangle) (bs : List Bitmap) (none : Rectangle) (n : ℕ) (b : Bitmap) → AreBuffers depth rects bs none → n < length rects → IsBuffer depth (slice_index_or rects n none) b → AreBuffers depth rects (set bs n b) none
-buffers_set depth rects bs none n b are there is = record {
-  many = length-set bs n b ∙ are.many;
+buffers_set : (depth : ℕ) (rects : List Rectangle) (bs : List Bitmap) (none : Rectangle) (n : ℕ) (b : Bitmap) → AreBuffers depth rects bs none → length bs ≡ length rects → n < length rects → IsBuffer depth (slice_index_or rects n none) b → AreBuffers depth rects (set bs n b) none
+buffers_set depth rects bs none n b are many there is = record {
   each =
       λ m inside.
       ⊎_elim
-      (λ (same : m ≡ n). let here : get_or (set bs n b) n no_bitmap ≡ b = get_or-set_same bs n b no_bitmap (omega (arith, are.many)) in rw same (rw here is))
+      (λ (same : m ≡ n). let here : get_or (set bs n b) n no_bitmap ≡ b = get_or-set_same bs n b no_bitmap (omega (arith, many)) in rw same (rw here is))
       (λ (other : m ≢ n). let here : get_or (set bs n b) m no_bitmap ≡ get_or bs m no_bitmap = get_or-set_other bs n m b no_bitmap other in rw here (are.each m inside))
       (cases_eq m n);
 }
@@ -49,13 +48,13 @@ pub record IsWritten (d e : LiveDraft) (n k line : ℕ) (bytes : List ℕ) : Typ
 abbrev written : LiveDraft → ℕ → ℕ → ℕ → List ℕ → Bitmap
 written d n k line bytes = with_row (slice_index_or (buffers_of d) n no_bitmap) k line bytes
 
-all_buffers : (d : LiveDraft) (n k line : ℕ) (bytes : List ℕ) (bs : List Bitmap) → IsLiveDraft d → n < length (pieces (layout d)) → bs ≡ set (buffers_of d) n (written d n k line bytes) → AreBuffers d.depth (pieces (layout d)) bs d.bounds
+all_buffers : (d : LiveDraft) (n k line : ℕ) (bytes : List ℕ) (bs : List Bitmap) → IsLiveDraft d → n < length (buffered (layout d)) → bs ≡ set (buffers_of d) n (written d n k line bytes) → AreBuffers d.depth (buffered (layout d)) bs d.bounds
 all_buffers d n k line bytes bs ok there is =
-    let P : List Bitmap → Type 0 = λ q. AreBuffers d.depth (pieces (layout d)) q d.bounds in
-    subst P (sym is) (buffers_set d.depth (pieces (layout d)) (buffers_of d) d.bounds n _ ok.buffers there (buffer_written d.depth _ _ k line bytes (ok.buffers.each n there)))
+    let P : List Bitmap → Type 0 = λ q. AreBuffers d.depth (buffered (layout d)) q d.bounds in
+    subst P (sym is) (buffers_set d.depth (buffered (layout d)) (buffers_of d) d.bounds n _ ok.buffers (as_many_buffers d ok) there (buffer_written d.depth _ _ k line bytes (ok.buffers.each n there)))
 
 -- into the buffer of a visible rectangle
-written_shown : (d : LiveDraft) (n k line : ℕ) (bytes : List ℕ) → IsLiveDraft d → n < length (pieces (layout d)) → n < length d.buffers.items → IsWritten d (record d { buffers = with_item d.buffers n (written d n k line bytes) }) n k line bytes
+written_shown : (d : LiveDraft) (n k line : ℕ) (bytes : List ℕ) → IsLiveDraft d → n < length (buffered (layout d)) → n < length d.buffers.items → IsWritten d (record d { buffers = with_item d.buffers n (written d n k line bytes) }) n k line bytes
 unfolding keeps is_kept
 written_shown d n k line bytes ok there inside =
     let same : set d.buffers.items n (written d n k line bytes) ++ (d.covered.items ++ own_list d.superbits) ≡ set (buffers_of d) n (written d n k line bytes) = sym (set-append_left d.buffers.items (d.covered.items ++ own_list d.superbits) n _ inside) in
@@ -77,7 +76,7 @@ written_shown d n k line bytes ok there inside =
     }
 
 -- into the buffer of a hidden rectangle
-written_covered : (d : LiveDraft) (n k line : ℕ) (bytes : List ℕ) → IsLiveDraft d → n < length (pieces (layout d)) → length d.buffers.items ≤ n → n - length d.buffers.items < length d.covered.items → IsWritten d (record d { covered = with_item d.covered (n - length d.buffers.items) (written d n k line bytes) }) n k line bytes
+written_covered : (d : LiveDraft) (n k line : ℕ) (bytes : List ℕ) → IsLiveDraft d → n < length (buffered (layout d)) → length d.buffers.items ≤ n → n - length d.buffers.items < length d.covered.items → IsWritten d (record d { covered = with_item d.covered (n - length d.buffers.items) (written d n k line bytes) }) n k line bytes
 unfolding keeps is_kept
 written_covered d n k line bytes ok there past inside =
     let i : ℕ = n - length d.buffers.items in
@@ -120,11 +119,11 @@ rest_written SuperBitmap hidden covered b c is = (is.0, c, refl)
 abbrev with_own : LiveDraft → Option Bitmap → LiveDraft
 with_own d o = record d { superbits = o }
 
-written_own : (d : LiveDraft) (b : Bitmap) (n k line : ℕ) (bytes : List ℕ) → IsLiveDraft (with_own d (Some b)) → n < length (pieces (layout (with_own d (Some b)))) → length d.buffers.items ≤ n → length d.covered.items ≤ n - length d.buffers.items → slice_index_or (buffers_of (with_own d (Some b))) n no_bitmap ≡ b → IsWritten (with_own d (Some b)) (with_own d (Some (with_row b k line bytes))) n k line bytes
+written_own : (d : LiveDraft) (b : Bitmap) (n k line : ℕ) (bytes : List ℕ) → IsLiveDraft (with_own d (Some b)) → n < length (buffered (layout (with_own d (Some b)))) → length d.buffers.items ≤ n → length d.covered.items ≤ n - length d.buffers.items → slice_index_or (buffers_of (with_own d (Some b))) n no_bitmap ≡ b → IsWritten (with_own d (Some b)) (with_own d (Some (with_row b k line bytes))) n k line bytes
 unfolding keeps is_kept written_rows
 written_own d b n k line bytes ok there past late at =
     let q : LiveDraft = with_own d (Some b) in
-    let inside : n < length (d.buffers.items ++ (d.covered.items ++ (b ∷ []))) = omega (arith, ok.buffers.many) in
+    let inside : n < length (d.buffers.items ++ (d.covered.items ++ (b ∷ []))) = omega (arith, as_many_buffers q ok) in
     let same : d.buffers.items ++ (d.covered.items ++ (with_row b k line bytes ∷ [])) ≡ set (buffers_of q) n (written q n k line bytes) =
     last_set d.buffers.items d.covered.items b _ n past late inside ∙ ap (λ w. set (buffers_of q) n (with_row w k line bytes)) (sym at) in
     record {
@@ -145,7 +144,7 @@ written_own d b n k line bytes ok there past late at =
     }
 
 -- into any buffer
-pub written_line : (d : LiveDraft) (k n line : ℕ) (bytes : List ℕ) → IsLiveDraft d → n < length (pieces (layout d)) → IsWritten d (with_line_bytes k n line d bytes) n k line bytes
+pub written_line : (d : LiveDraft) (k n line : ℕ) (bytes : List ℕ) → IsLiveDraft d → n < length (buffered (layout d)) → IsWritten d (with_line_bytes k n line d bytes) n k line bytes
 written_line d k n line bytes ok there =
     let f : Bitmap → Bitmap = λ b. with_row b k line bytes in
     let P : LiveDraft → Type 0 = λ e. IsWritten d e n k line bytes in
@@ -160,8 +159,8 @@ written_line d k n line bytes ok there =
     subst P (changed_covered d n i f (slice_index_or (buffers_of d) n no_bitmap) refl past inside (covered_buffer d n i refl past inside)) (written_covered d n k line bytes ok there past inside))
     (λ (late : length d.covered.items ≤ i).
     let own = own_buffer d n ok there past late in
-    let Q : Option Bitmap → Type 0 = λ o. IsLiveDraft (with_own d o) → n < length (pieces (layout (with_own d o))) → slice_index_or (buffers_of (with_own d o)) n no_bitmap ≡ own.own → IsWritten (with_own d o) (with_own d (changed_own f o)) n k line bytes in
-    let all : Q d.superbits = subst Q (sym own.is) (λ sound in_pieces at. written_own d own.own n k line bytes sound in_pieces past late at) in
+    let Q : Option Bitmap → Type 0 = λ o. IsLiveDraft (with_own d o) → n < length (buffered (layout (with_own d o))) → slice_index_or (buffers_of (with_own d o)) n no_bitmap ≡ own.own → IsWritten (with_own d o) (with_own d (changed_own f o)) n k line bytes in
+    let all : Q d.superbits = subst Q (sym own.is) (λ sound inside at. written_own d own.own n k line bytes sound inside past late at) in
     subst P (changed_last d n f past late) (all ok there own.at))
     (cases_lt i (length d.covered.items)))
     (cases_lt n (length d.buffers.items))

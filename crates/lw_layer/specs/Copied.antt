@@ -40,7 +40,7 @@ pub record AreClear (bits kept : List ℕ) : Type 0 where
 abbrev pub across_at : Layout → ℤ → ℤ
 across_at l x = (l.bounds.min_x +ℤ x) -ℤ pos l.scroll_x
 
--- the buffers of all pieces but the visible rectangles
+-- all buffers but those of the visible rectangles
 abbrev pub rest_buffers : LiveDraft → List Bitmap
 rest_buffers d = d.covered.items ++ own_list d.superbits
 

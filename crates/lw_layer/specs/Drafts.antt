@@ -14,7 +14,7 @@ use Rattle.lw_machine.specs.Layer.{Raster, new_raster}
 use Rattle.lw_machine.specs.Kept.{holds_at}
 use Rattle.lw_layer.specs.View.{State, LiveView, CellView, keeps}
 use Rattle.lw_layer.specs.View as view
-use Rattle.lw_layer.specs.Pieces.{Layout, inner_of, damage_table, columns, lines, pieces, buffer_at, column_in, line_in}
+use Rattle.lw_layer.specs.Pieces.{Layout, inner_of, damage_table, columns, lines, buffered, buffer_at, column_in, line_in}
 use Rattle.lw_layer.specs.declared.raster.Raster.{Raster as RasterCode}
 use Rattle.lw_layer.specs.declared.draft.Draft.{Draft}
 use Rattle.lw_layer.specs.declared.draft.DraftState.{DraftState}
@@ -55,7 +55,7 @@ abbrev pub own_list : Option Bitmap → List Bitmap
 own_list None = []
 own_list (Some own) = own ∷ []
 
--- the buffers of all pieces, in their order
+-- the buffers of all rectangles with one, in their order
 abbrev pub buffers_of : LiveDraft → List Bitmap
 buffers_of d = d.buffers.items ++ (d.covered.items ++ own_list d.superbits)
 
@@ -95,7 +95,7 @@ live_view d =
       };
     }
 
--- a buffer of its piece's size, with the layer's planes
+-- a buffer of its rectangle's size, with the layer's planes
 pub record IsBuffer (depth : ℕ) (r : Rectangle) (b : Bitmap) : Type 0 where
   pub sound : IsPlanes b
   pub width : b.width ≡ columns r
@@ -104,7 +104,6 @@ pub record IsBuffer (depth : ℕ) (r : Rectangle) (b : Bitmap) : Type 0 where
 
 -- each rectangle has its buffer
 pub record AreBuffers (depth : ℕ) (rects : List Rectangle) (buffers : List Bitmap) (none : Rectangle) : Type 0 where
-  pub many : length buffers ≡ length rects
   pub each : (n : ℕ) → n < length rects → IsBuffer depth (slice_index_or rects n none) (slice_index_or buffers n no_bitmap)
 
 -- what a layer of this kind has beside the buffers of its visible rectangles: a smart layer one for each hidden rectangle, and
@@ -131,7 +130,7 @@ pub record IsLiveDraft (d : LiveDraft) : Type 0 where
   pub mode : d.raster.mode < 8
   pub shown : length d.buffers.items ≡ length d.parts.visible
   pub rest : IsRest d.kind (length (hidden_of d.bounds d.parts.visible)) (length d.covered.items) d.superbits
-  pub buffers : AreBuffers d.depth (pieces (layout d)) (buffers_of d) d.bounds
+  pub buffers : AreBuffers d.depth (buffered (layout d)) (buffers_of d) d.bounds
   pub inner : d.damage.inner ≡ inner_of (is_super d.kind) (layout d).width (layout d).height
   pub damaged : (x y : ℤ) → covers d.damage.rects x y ≡ true → holds_at (λ i j. keeps (live_view d) i j) x y ≡ true
 

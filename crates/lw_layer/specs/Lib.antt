@@ -8,3 +8,4 @@ pub mod Runs
 pub mod Looks
 pub mod New
 pub mod Copied
+pub mod StandsFor

@@ -1,4 +1,4 @@
--- Where a live layer's pens lie: in rectangles of the screen's plane, its pieces, each with a buffer of its size (the manual's
+-- Where a live layer's pens lie: in rectangles of the screen's plane, each with a buffer of its size (the manual's
 -- Layers Library chapter: the ClipRect structure; which rectangles have a buffer is this project's own).
 use Rattle.std.specs.Prelude.{◌≡◌, ℕ, ◌==◌, ◌<◌, ◌-◌, Bool, true, false, ◌&&◌, nat_lt, if◌then◌else◌, List, [], ◌∷◌, ◌++◌, length, ℤ, pos, ◌+ℤ◌, ◌-ℤ◌, unsigned_abs, Option, Some, None}
 use Rattle.std.specs.Int.{bit_at}
@@ -65,13 +65,13 @@ rest_as SuperBitmap hidden whole = whole ∷ []
 abbrev pub rest_of : Layout → List Rectangle
 rest_of l = rest_as l.kind (hidden_of l.bounds l.visible) (whole_of l)
 
--- the pieces: all rectangles with a buffer, the visible ones first
-abbrev pub pieces : Layout → List Rectangle
-pieces l = l.visible ++ rest_of l
+-- all rectangles with a buffer, the visible ones first
+abbrev pub buffered : Layout → List Rectangle
+buffered l = l.visible ++ rest_of l
 
--- the piece with a number
-abbrev pub piece : Layout → ℕ → Rectangle
-piece l n = slice_index_or (pieces l) n l.bounds
+-- the rectangle of the buffer with a number
+abbrev pub buffer_rectangle : Layout → ℕ → Rectangle
+buffer_rectangle l n = slice_index_or (buffered l) n l.bounds
 
 -- where the layer's column x and its row y lie on the screen's plane
 abbrev pub across : Layout → ℕ → ℤ
@@ -84,17 +84,17 @@ down l y = screen_place l.bounds.min_y l.scroll_y y
 abbrev pub found_in : Layout → List Rectangle → ℕ → ℕ → Option ℕ
 found_in l rects x y = position (λ r. has_pixel r (across l x) (down l y)) rects
 
--- The number of the buffer that has the pen of the pixel (x, y) of the layer's bits: that of the first piece on which the pixel
--- lies.
+-- The number of the buffer that has the pen of the pixel (x, y) of the layer's bits: that of the first rectangle with a
+-- buffer on which the pixel lies.
 unfoldable pub buffer_at : Layout → ℕ → ℕ → Option ℕ
-buffer_at l x y = if nat_lt x l.width && nat_lt y l.height then found_in l (pieces l) x y else None
+buffer_at l x y = if nat_lt x l.width && nat_lt y l.height then found_in l (buffered l) x y else None
 
 -- the column of the layer's column x in a buffer, and the line of the layer's row y
 abbrev pub column_in : Layout → ℕ → ℕ → ℕ
-column_in l n x = distance (piece l n).min_x (across l x)
+column_in l n x = distance (buffer_rectangle l n).min_x (across l x)
 
 abbrev pub line_in : Layout → ℕ → ℕ → ℕ
-line_in l n y = distance (piece l n).min_y (down l y)
+line_in l n y = distance (buffer_rectangle l n).min_y (down l y)
 
 -- the pen of the pixel (x, y) is in this line of this buffer
 unfoldable pub in_line : Layout → ℕ → ℕ → ℕ → ℕ → Bool
@@ -102,8 +102,8 @@ in_line l n line x y = is_the (buffer_at l x y) n && line_in l n y == line
 
 -- there is this line of this buffer
 pub record HasLine (l : Layout) (n line : ℕ) : Type 0 where
-  pub buffer : n < length (pieces l)
-  pub below : line < lines (piece l n)
+  pub buffer : n < length (buffered l)
+  pub below : line < lines (buffer_rectangle l n)
 
 -- the bytes have in a plane the bits of the pixels whose pens are in a line of a buffer, by their columns there
 abbrev pub HasLineBits : LiveView → ℕ → ℕ → ℕ → List ℕ → Type 0
@@ -114,7 +114,7 @@ HasLineBits c plane n line row =
 unfoldable pub with_bytes : LiveView → ℕ → ℕ → ℕ → List ℕ → LiveView
 with_bytes c plane n line bytes =
     let l = layout_of c in
-    let r = piece l n in
+    let r = buffer_rectangle l n in
     repainted (λ x y. if is_the (buffer_at l x y) n
     then pen_of c.layer.bits.depth (λ p. overwritten_bit (columns r) (lines r) plane line bytes (column_in l n x) (line_in l n y) p (bit_at (pen_at c.layer.bits x y) p))
     else pen_at c.layer.bits x y) c

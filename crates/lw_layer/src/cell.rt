@@ -6,7 +6,7 @@ ghost use Rattle.lw_layer.specs.View.{CellView, keeps, draws, kept_pen, with_lay
 ghost use Rattle.lw_layer.specs.Drafts.{IsDraft, cell_view, raster_of, clip_set, no_layer};
 ghost use Rattle.lw_planes.specs.Sizes.{IsPlanes};
 ghost use Rattle.lw_layer.specs.View as view;
-ghost use Rattle.lw_layer.specs.Pieces.{hidden_rectangles, inner_of, damage_table, IsDamageOf, HasLine, HasLineBits, layout_of, columns, piece};
+ghost use Rattle.lw_layer.specs.Pieces.{hidden_rectangles, inner_of, damage_table, IsDamageOf, HasLine, HasLineBits, layout_of, columns, buffer_rectangle};
 ghost use Rattle.lw_layer.specs.Lending.{LendsRow};
 ghost use Rattle.lw_region.specs.Bands.{covers};
 ghost use Rattle.lw_region.specs.Banded.{IsCanonical};
@@ -14,6 +14,7 @@ ghost use Rattle.lw_cliprects.specs.Parts.{AreDivided};
 ghost use Rattle.lw_calls.specs.Kinds.{is_super};
 ghost use Rattle.lw_machine.specs.Kept.{holds_at};
 ghost use Rattle.lw_layer.specs.Looks.{IsLookAt};
+ghost use Rattle.lw_layer.specs.StandsFor.{IsSound};
 ghost use Rattle.lw_layer.specs.Runs.{IsRunAt, IsNext};
 ghost use Rattle.lw_layer.specs.Copied.{kept_bit};
 
@@ -88,8 +89,8 @@ impl Cell {
         requires plane { plane < self.old.live.layer.bits.depth }
         requires line { HasLine (layout_of self.old.live) buffer line }
         ensures* writes_back { sem 𝓛 (LendsRow self.entry plane buffer line result) }
-        ensures long { length result.now ≡ row_bytes (columns (piece (layout_of self.old.live) buffer)) }
-        ensures wide { columns (piece (layout_of self.old.live) buffer) ≤ 8 * length result.now }
+        ensures long { length result.now ≡ row_bytes (columns (buffer_rectangle (layout_of self.old.live) buffer)) }
+        ensures wide { columns (buffer_rectangle (layout_of self.old.live) buffer) ≤ 8 * length result.now }
         ensures bits { HasLineBits self.old.live plane buffer line result.now }
     {
         let state = &mut self.draft.state;
@@ -178,6 +179,7 @@ impl Cell {
     /// What the live layer looks like; `None` exactly where the slot isn't live.
     pub fn look(&self) -> Option<Look>
         ensures look { IsLookAt self.now.state self.now.live result }
+        ensures sound { self.now.state ≡ view.Live → IsSound self.now.live }
         ensures idle { (self.now.state ≡ view.Live → ⊥) → self.now.live ≡ no_layer }
     {
         match &self.draft.state {

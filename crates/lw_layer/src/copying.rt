@@ -2,7 +2,7 @@
 
 ghost use Rattle.std.specs.Prelude.{◌≡◌, ◌*◌, ◌<◌, [], ◌∷◌, length, pos, negsuc, ◌≤ℤ◌};
 ghost use Rattle.lw_calls.specs.declared.make.Kind.TheVariants.{SuperBitmap};
-ghost use Rattle.lw_layer.specs.Pieces.{down, pieces, rest_of};
+ghost use Rattle.lw_layer.specs.Pieces.{down, buffered, rest_of};
 ghost use Rattle.lw_layer.specs.Drafts.{IsLiveDraft, layout, buffers_of, live_view};
 ghost use Rattle.lw_layer.specs.Copied.{IsRowOf, HasPlaces, AreClear, across_at, rest_buffers, area_of};
 
@@ -60,18 +60,18 @@ impl LiveDraft {
             clear(bits, kept);
             return;
         }
-        self.copy_pieces(plane, x, row, bits, kept);
+        self.copy_buffered(plane, x, row, bits, kept);
     }
 
-    // The same, out of all pieces: a visible rectangle is written over what lies behind it.
-    fn copy_pieces(&self, plane: u32, x: i32, y: u32, bits: &mut [u8], kept: &mut [u8])
+    // The same, out of all buffers: a visible rectangle is written over what lies behind it.
+    fn copy_buffered(&self, plane: u32, x: i32, y: u32, bits: &mut [u8], kept: &mut [u8])
         requires sound { IsLiveDraft self.now }
         requires plane { plane < self.now.depth }
         requires row { y < (layout self.now).height }
         requires equally_long { length kept.old ≡ length bits.old }
         requires left { negsuc 1999999999 ≤ℤ x }
         requires right { x ≤ℤ pos 2048 }
-        ensures { HasPlaces (pieces (layout self.now)) (buffers_of self.now) plane (across_at (layout self.now) x)
+        ensures { HasPlaces (buffered (layout self.now)) (buffers_of self.now) plane (across_at (layout self.now) x)
             (down (layout self.now) y) (8 * length bits.old) bits.new kept.new }
     {
         let shown = self.parts.visible();
@@ -81,7 +81,7 @@ impl LiveDraft {
         copy_over(shown, &self.buffers, plane, column, line, bits, kept);
     }
 
-    // The same, out of the pieces beside the visible rectangles.
+    // The same, out of the buffers beside those of the visible rectangles.
     fn copy_rest(&self, plane: u32, x: i32, y: u32, bits: &mut [u8], kept: &mut [u8])
         requires sound { IsLiveDraft self.now }
         requires plane { plane < self.now.depth }

@@ -1,17 +1,17 @@
 // Where the pixels of a live layer lie: on the plane of the screen, and in which buffer.
 
 ghost use Rattle.std.specs.Prelude.{◌≡◌, ◌<◌, ◌≤◌, length, pos, ◌+ℤ◌, ◌-ℤ◌, ◌≤ℤ◌};
-ghost use Rattle.lw_layer.specs.Pieces.{across, down, found_in, rest_of, buffer_at, pieces, piece, whole_of};
+ghost use Rattle.lw_layer.specs.Pieces.{across, down, found_in, rest_of, buffer_at, buffered, buffer_rectangle, whole_of};
 ghost use Rattle.lw_layer.specs.Drafts.{IsLiveDraft, layout};
-ghost use Rattle.lw_layer.specs.Code.{IsPiece};
+ghost use Rattle.lw_layer.specs.Code.{AreEdges};
 
 use crate::draft::LiveDraft;
 use lw_calls::Kind;
 use lw_region::Rect;
 
-// The left edge, the top edge and the right edge of a piece, on the plane of the screen.
+// The left edge, the top edge and the right edge of a rectangle, on the plane of the screen.
 #[derive(Clone, Copy)]
-pub(crate) struct Piece {
+pub(crate) struct Edges {
     pub left: i32,
     pub top: i32,
     pub right: i32,
@@ -59,7 +59,7 @@ impl LiveDraft {
     }
 
     // The number of the buffer that has the pixel's pen.
-    #[tactic(auto, using(crate::proofs::PieceLaws::found_front, crate::proofs::PieceLaws::found_rest, crate::proofs::PieceLaws::found_nowhere))]
+    #[tactic(auto, using(crate::proofs::FoundLaws::found_front, crate::proofs::FoundLaws::found_rest, crate::proofs::FoundLaws::found_nowhere))]
     pub(crate) fn buffer_at(&self, x: u32, y: u32) -> Option<usize>
         requires sound { IsLiveDraft self.now }
         requires column { x < (layout self.now).width }
@@ -74,7 +74,7 @@ impl LiveDraft {
     }
 
     // The number of the first rectangle with a buffer, beside the visible ones, that has the pixel.
-    #[tactic(auto, using(crate::proofs::PieceLaws::found_whole))]
+    #[tactic(auto, using(crate::proofs::FoundLaws::found_whole))]
     fn find_rest(&self, x: u32, y: u32) -> Option<usize>
         requires sound { IsLiveDraft self.now }
         requires column { x < (layout self.now).width }
@@ -102,29 +102,29 @@ impl LiveDraft {
 }
 
 impl LiveDraft {
-    // The edges of a piece.
-    pub(crate) fn piece(&self, number: usize) -> Piece
+    // The edges of a buffer's rectangle.
+    pub(crate) fn buffer_edges(&self, number: usize) -> Edges
         requires sound { IsLiveDraft self.now }
-        requires there { number < length (pieces (layout self.now)) }
-        ensures { IsPiece result (piece (layout self.now) number) }
+        requires there { number < length (buffered (layout self.now)) }
+        ensures { AreEdges result (buffer_rectangle (layout self.now) number) }
     {
         let shown = self.parts.visible();
         if number < shown.len() {
-            return edges(&shown[number]);
+            return edges_of(&shown[number]);
         }
         match self.kind {
             Kind::Simple => unreachable!(),
-            Kind::Smart => edges(&self.parts.hidden()[number - shown.len()]),
+            Kind::Smart => edges_of(&self.parts.hidden()[number - shown.len()]),
             Kind::SuperBitmap => self.whole(),
         }
     }
 
     // The edges of the own bitmap.
-    fn whole(&self) -> Piece
+    fn whole(&self) -> Edges
         requires { IsLiveDraft self.now }
-        ensures { IsPiece result (whole_of (layout self.now)) }
+        ensures { AreEdges result (whole_of (layout self.now)) }
     {
-        Piece {
+        Edges {
             left: self.across(0),
             top: self.down(0),
             right: self.across(self.width() - 1),
@@ -133,10 +133,10 @@ impl LiveDraft {
 }
 
 // The edges of a rectangle.
-fn edges(rect: &Rect) -> Piece
-    ensures { IsPiece result rect.now }
+fn edges_of(rect: &Rect) -> Edges
+    ensures { AreEdges result rect.now }
 {
-    Piece {
+    Edges {
         left: i32::from(rect.min_x()),
         top: i32::from(rect.min_y()),
         right: i32::from(rect.max_x()),

@@ -4,6 +4,7 @@ ghost use Rattle.std.specs.Prelude.{◌≡◌, ◌<◌, if◌then◌else◌, pos
 ghost use Rattle.lw_calls.specs.Kinds.{is_super};
 ghost use Rattle.lw_layer.specs.View.{kept_pen};
 ghost use Rattle.lw_layer.specs.Looks.{IsLook};
+ghost use Rattle.lw_layer.specs.StandsFor.{IsSound};
 ghost use Rattle.lw_layer.specs.Pieces.{HasLine};
 ghost use Rattle.lw_layer.specs.Drafts.{IsLiveDraft, layout, buffers_of, no_bitmap, live_view};
 ghost use Rattle.std.specs.List.{slice_index_or};
@@ -73,8 +74,13 @@ impl LiveDraft {
     // What the layer looks like.
     pub(crate) fn look(&self) -> Look
         requires { IsLiveDraft self.now }
-        ensures { IsLook (live_view self.now) result }
+        ensures look { IsLook (live_view self.now) result }
+        ensures sound { IsSound (live_view self.now) }
     {
+        // Reading these tells the proof what holds of the bounds and of their parts.
+        let _ = self.bounds.min_x();
+        let _ = self.parts.visible();
+        let _ = self.parts.hidden();
         let (bits_w, bits_h) = self.own_size();
         Look {
             kind: self.kind,

@@ -6,7 +6,7 @@ ghost use Rattle.lw_region.specs.Bands.{covers};
 ghost use Rattle.lw_calls.specs.declared.make.Kind.TheVariants.{SuperBitmap};
 ghost use Rattle.lw_machine.specs.Kept.{in_clip};
 ghost use Rattle.lw_layer.specs.View.{draws};
-ghost use Rattle.lw_layer.specs.Pieces.{across, down, buffer_at, piece};
+ghost use Rattle.lw_layer.specs.Pieces.{across, down, buffer_at, buffer_rectangle};
 ghost use Rattle.lw_layer.specs.Drafts.{IsLiveDraft, layout, clip_set, live_view};
 ghost use Rattle.lw_layer.specs.Runs.{IsRunAt};
 ghost use Rattle.lw_layer.specs.Code.{HasPlace, IsPlaceIn, IsReach, IsKeptReach, lets_draw};
@@ -64,9 +64,9 @@ impl LiveDraft {
         requires sound { IsLiveDraft self.now }
         requires found { buffer_at (layout self.now) x y ≡ Some number }
         requires pixel { HasPlace (layout self.now) x y number }
-        ensures { pos result ≡ across (layout self.now) x -ℤ (piece (layout self.now) number).min_x }
+        ensures { pos result ≡ across (layout self.now) x -ℤ (buffer_rectangle (layout self.now) number).min_x }
     {
-        gap(self.piece(number).left, self.across(x))
+        gap(self.buffer_edges(number).left, self.across(x))
     }
 
     // The line of the pixel in the buffer that has its pen.
@@ -74,9 +74,9 @@ impl LiveDraft {
         requires sound { IsLiveDraft self.now }
         requires found { buffer_at (layout self.now) x y ≡ Some number }
         requires pixel { HasPlace (layout self.now) x y number }
-        ensures { pos result ≡ down (layout self.now) y -ℤ (piece (layout self.now) number).min_y }
+        ensures { pos result ≡ down (layout self.now) y -ℤ (buffer_rectangle (layout self.now) number).min_y }
     {
-        gap(self.piece(number).top, self.down(y))
+        gap(self.buffer_edges(number).top, self.down(y))
     }
 
     // How many pixels from (x, y) on have their pens in the buffer that has the pen of (x, y).
@@ -90,7 +90,7 @@ impl LiveDraft {
         if self.kind == Kind::SuperBitmap && number == self.parts.visible().len() {
             self.own_reach(x, y)
         } else {
-            self.piece_reach(x, y, number)
+            self.rectangle_reach(x, y, number)
         }
     }
 
@@ -113,20 +113,20 @@ impl LiveDraft {
         }
     }
 
-    // The same, for a pixel in another buffer: up to the edge of its piece.
-    #[tactic(auto, using(crate::proofs::ReachLaws::piece_reach_is, crate::proofs::ReachLaws::up_to_edge))]
-    fn piece_reach(&self, x: u32, y: u32, number: usize) -> u32
+    // The same, for a pixel in another buffer: up to the edge of its rectangle.
+    #[tactic(auto, using(crate::proofs::ReachLaws::rectangle_reach_is, crate::proofs::ReachLaws::up_to_edge))]
+    fn rectangle_reach(&self, x: u32, y: u32, number: usize) -> u32
         requires sound { IsLiveDraft self.now }
         requires pixel { HasPlace (layout self.now) x y number }
         requires found { buffer_at (layout self.now) x y ≡ Some number }
-        requires piece { self.now.kind ≡ SuperBitmap → number < length self.now.parts.visible }
+        requires shown { self.now.kind ≡ SuperBitmap → number < length self.now.parts.visible }
         ensures { IsKeptReach (layout self.now) number x y result }
     {
         // Reading the hidden list tells the proof that no two rectangles overlap.
         let _ = self.parts.hidden();
         let all = self.width() - x;
         let place = self.across(x);
-        let right = self.piece(number).right;
+        let right = self.buffer_edges(number).right;
         (all - 1).min(gap(place, right)) + 1
     }
 

@@ -1,14 +1,16 @@
-use Rattle.std.proofs.Common.{ℕ, ◌+◌, ◌==◌, ◌&&◌, Bool, ◌∙◌, sym, arith}
+use Rattle.std.proofs.Common.{ℕ, ◌+◌, ◌&&◌, Bool, pos, ◌≤ℤ◌, arith}
+use Rattle.std.proofs.lemmas.Int.{ints}
+use Rattle.lw_kernels.specs.Kernel.{is_between}
 use Rattle.lw_layer.specs.View.{LiveView, draws}
 use Rattle.lw_layer.specs.Drafts.{raster_of}
 use Rattle.lw_machine.specs.Layer.{Raster}
-use Rattle.lw_draw.specs.Drawn.{in_mask, painted_bit, in_run, in_row}
-use Rattle.lw_draw.proofs.PaintLaws.{cell_nowhere, cell_same, cell_more, draws_stays, first_stays, paints_bits, next_run, no_column, row_done}
+use Rattle.lw_draw.specs.Drawn.{in_mask, painted_bit, in_run, in_rows}
+use Rattle.lw_draw.proofs.PaintLaws.{cell_nowhere, cell_same, cell_more, first_stays, none_stays, paints_bits, next_run, no_column, row_done}
 use Rattle.lw_draw.proofs.filling.fill_row.Goals as goal
 
 -- what is painted of a row before a column
 abbrev so_far : Raster → LiveView → ℕ → ℕ → ℕ → ℕ → ℕ → ℕ → Bool
-so_far raster c y from x p i j = in_mask raster p && in_row c y from x i j
+so_far raster c y from x p i j = in_mask raster p && in_rows c y (y + 1) from x i j
 
 pub loop-stretch-init : goal.loop-stretch-init
 loop-stretch-init c =
@@ -19,7 +21,7 @@ loop-stretch-init c =
       last = c.requires.columns;
       filled =
           cell_nowhere v (so_far (raster_of c.args.raster) v.live c.args.y from from) (painted_bit (raster_of c.args.raster)) c.depth.ensures.bits.bitmap
-          (λ p i j. no_column (in_mask (raster_of c.args.raster) p) (j == c.args.y) from i (draws v.live i j));
+          (λ p i j. no_column (in_mask (raster_of c.args.raster) p) (is_between c.args.y (c.args.y + 1) j) from i (draws v.live i j));
     }
 
 pub loop-stretch-preserved : goal.loop-stretch-preserved
@@ -33,8 +35,9 @@ loop-stretch-preserved c =
     let new = painted_bit raster in
     let done = c.loop-stretch.invariant in
     let next = first_stays v c.loop-stretch.cell (so_far raster v.live c.args.y from x) new x c.args.y end s done.filled c.in-Some.ensures in
+    let reaches : pos x ≤ℤ pos s.x = next.column.reaches in
     record {
-      first = omega (arith, done.first, next.from);
+      first = omega (arith, ints, done.first);
       last = next.ends;
       filled =
           cell_more v c.loop-stretch.cell c.paint_run.new.cell (so_far raster v.live c.args.y from x) (λ p i j. in_mask raster p && in_run s.x s.y s.run.len i j) (so_far raster v.live c.args.y from (s.x + s.run.len)) new (paints_bits raster)
@@ -52,4 +55,4 @@ returns c =
     let done = c.loop-stretch.invariant in
     let on = so_far raster v.live c.args.y from x in
     cell_same v c.loop-stretch.cell on (so_far raster v.live c.args.y from end) new done.filled
-    (λ p i j _. row_done v.live (in_mask raster p) c.args.y from x end i j done.first done.last (λ u late low. sym (draws_stays v c.loop-stretch.cell on new u c.args.y done.filled) ∙ c.in_default.ensures u late low))
+    (λ p i j _. row_done v.live (in_mask raster p) c.args.y from x end i j done.first done.last (none_stays v c.loop-stretch.cell on new x c.args.y end done.filled c.in_default.ensures))

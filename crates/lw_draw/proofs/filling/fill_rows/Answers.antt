@@ -1,9 +1,9 @@
-use Rattle.std.proofs.Common.{◌≡◌, ℕ, ◌+◌, ◌≤◌, ◌==◌, ◌&&◌, Bool, ◌∙◌, ap, arith}
+use Rattle.std.proofs.Common.{◌≡◌, ℕ, ◌+◌, ◌≤◌, ◌&&◌, Bool, ◌∙◌, ap, arith}
 use Rattle.lw_kernels.specs.Kernel.{is_between}
 use Rattle.lw_layer.specs.View.{LiveView, CellView, draws, with_live}
 use Rattle.lw_layer.specs.Drafts.{raster_of}
 use Rattle.lw_machine.specs.Layer.{Raster}
-use Rattle.lw_draw.specs.Drawn.{in_mask, painted, painted_bit, in_row, in_rows}
+use Rattle.lw_draw.specs.Drawn.{in_mask, painted, painted_bit, in_rows}
 use Rattle.lw_draw.proofs.PaintLaws.{cell_nowhere, cell_same, cell_more, draws_stays, paints_bits, next_row, no_row}
 use Rattle.lw_draw.proofs.filling.fill_rows.Goals as goal
 
@@ -34,10 +34,10 @@ loop-y-preserved c =
     let raster = raster_of c.args.raster in
     let new = painted_bit raster in
     let low : top ≤ y = omega arith in
-    let row : CellView → ℕ → ℕ → ℕ → Bool = λ q p i j. in_mask raster p && in_row q.live y from end i j in
+    let row : CellView → ℕ → ℕ → ℕ → Bool = λ q p i j. in_mask raster p && in_rows q.live y (y + 1) from end i j in
     cell_more v w c.fill_row.new.cell (so_far raster v.live from end top y) (row v) (so_far raster v.live from end top (y + 1)) new (paints_bits raster) (next_row v.live (in_mask raster) top y from end low) c.loop-y.invariant
     (cell_same w c.fill_row.new.cell (row w) (row v) new c.fill_row.ensures
-    (λ p i j _. ap (λ t. in_mask raster p && (j == y && (is_between from end i && t))) (draws_stays v w (so_far raster v.live from end top y) new i j c.loop-y.invariant)))
+    (λ p i j _. ap (λ t. in_mask raster p && (is_between y (y + 1) j && (is_between from end i && t))) (draws_stays v w (so_far raster v.live from end top y) new i j c.loop-y.invariant)))
 
 pub returns : goal.returns
 returns c =

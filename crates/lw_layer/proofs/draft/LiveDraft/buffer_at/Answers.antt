@@ -1,7 +1,7 @@
 use Rattle.std.proofs.Common.{◌≡◌, Some, None, sym, ◌∙◌}
 use Rattle.lw_layer.specs.Pieces.{found_in, rest_of}
 use Rattle.lw_layer.specs.Drafts.{layout}
-use Rattle.lw_layer.proofs.PieceLaws.{found_front, found_rest}
+use Rattle.lw_layer.proofs.FoundLaws.{found_front, found_rest}
 use Rattle.lw_layer.proofs.draft.LiveDraft.buffer_at.Goals as goal
 
 pub returns-in-Some : goal.returns-in-Some

@@ -2,7 +2,7 @@ use Rattle.std.proofs.Common.{◌≡◌, ◌*◌, ◌<◌, ◌≤◌, ◌≤ℤ�
 use Rattle.std.specs.Prelude.{int_le}
 use Rattle.std.proofs.lemmas.Int.{ints, to_z-of_z}
 use Rattle.lw_cliprects.specs.Parts.{hidden_of, AreDivided}
-use Rattle.lw_layer.specs.Pieces.{down, pieces}
+use Rattle.lw_layer.specs.Pieces.{down, buffered}
 use Rattle.lw_layer.specs.Drafts.{layout, buffers_of}
 use Rattle.lw_layer.specs.Copied.{HasPlaces, across_at}
 use Rattle.lw_layer.proofs.CopyingLaws.{clear_off_rows, clear_off_columns, row_of_places}
@@ -30,7 +30,7 @@ returns c =
     let row : ℕ = c.in-Some.row in
     let divided : AreDivided d.bounds d.parts.visible (hidden_of d.bounds d.parts.visible) = rw (sym c.requires.sound.bounds) (rw c.hidden.ensures.value at c.hidden.ensures.divided) in
     let low : row < l.height = rw (sym c.height.ensures) c.in-Some.ensures.1 in
-    let P : ℤ → Type 0 = λ z. HasPlaces (pieces l) (buffers_of d) c.args.plane (across_at l z) (down l row) (8 * length c.args.bits.now) c.copy_pieces.new.bits c.copy_pieces.new.kept in
-    row_of_places d c.args.plane c.args.x c.args.y row (8 * length c.args.bits.now) c.copy_pieces.new.bits c.copy_pieces.new.kept
+    let P : ℤ → Type 0 = λ z. HasPlaces (buffered l) (buffers_of d) c.args.plane (across_at l z) (down l row) (8 * length c.args.bits.now) c.copy_buffered.new.bits c.copy_buffered.new.kept in
+    row_of_places d c.args.plane c.args.x c.args.y row (8 * length c.args.bits.now) c.copy_buffered.new.bits c.copy_buffered.new.kept
     (sym (to_z-of_z w32 c.args.y c.ranges.y) ∙ c.in-Some.ensures.0) low c.requires.sound c.min_x.ensures.ordered divided
-    (subst P (to_z-of_z w32 c.args.x c.ranges.x) c.copy_pieces.ensures)
+    (subst P (to_z-of_z w32 c.args.x c.ranges.x) c.copy_buffered.ensures)

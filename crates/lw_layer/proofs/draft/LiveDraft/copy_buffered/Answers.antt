@@ -9,7 +9,7 @@ use Rattle.lw_layer.specs.Drafts.{layout}
 use Rattle.lw_layer.specs.Copied.{HasPlaces, across_at, rest_buffers}
 use Rattle.lw_layer.proofs.CopyingLists.{places_over}
 use Rattle.lw_layer.proofs.CopyingBuffers.{shown_buffers, shown_planes}
-use Rattle.lw_layer.proofs.draft.LiveDraft.copy_pieces.Goals as goal
+use Rattle.lw_layer.proofs.draft.LiveDraft.copy_buffered.Goals as goal
 
 pub copy_over-requires-clause-buffers : goal.copy_over-requires-clause-buffers
 copy_over-requires-clause-buffers c =

@@ -1,14 +1,14 @@
--- Which piece has a pixel.
+-- Which buffer has a pixel.
 use Rattle.std.proofs.Common.{◌≡◌, ℕ, ◌+◌, ◌<◌, true, nat_lt, length, Some, None, ◌∙◌, sym, refl, arith, ℤ, pos, ◌+ℤ◌, ◌-ℤ◌}
 use Rattle.std.proofs.lemmas.Bool.Decides.{nat_tests}
 use Rattle.std.proofs.lemmas.Int.{ints}
 use Rattle.lw_region.specs.Rectangle.{within, has_pixel}
 use Rattle.lw_calls.specs.declared.make.Kind.TheVariants.{SuperBitmap}
-use Rattle.lw_layer.specs.Pieces.{Layout, whole_of, across, down, found_in, rest_of, pieces, buffer_at}
+use Rattle.lw_layer.specs.Pieces.{Layout, whole_of, across, down, found_in, rest_of, buffered, buffer_at}
 use Rattle.lw_layer.proofs.Positions.{position_front, position_rest, position_none}
 
--- a pixel of the bits is looked for in all pieces
-pub in_bits_found : (l : Layout) (x y : ℕ) → x < l.width → y < l.height → buffer_at l x y ≡ found_in l (pieces l) x y
+-- a pixel of the bits is looked for in all rectangles with a buffer
+pub in_bits_found : (l : Layout) (x y : ℕ) → x < l.width → y < l.height → buffer_at l x y ≡ found_in l (buffered l) x y
 unfolding buffer_at
 in_bits_found l x y left low =
     let column : nat_lt x l.width ≡ true = grind (arith, nat_tests) in
@@ -19,11 +19,11 @@ in_bits_found l x y left low =
 pub found_front : (l : Layout) (x y n : ℕ) → x < l.width → y < l.height → found_in l l.visible x y ≡ Some n → Some n ≡ buffer_at l x y
 found_front l x y n left low is = sym (in_bits_found l x y left low ∙ position_front _ l.visible (rest_of l) n is)
 
--- another piece has the pixel
+-- another rectangle has the pixel
 pub found_rest : (l : Layout) (x y n : ℕ) → x < l.width → y < l.height → found_in l l.visible x y ≡ None → found_in l (rest_of l) x y ≡ Some n → Some (length l.visible + n) ≡ buffer_at l x y
 found_rest l x y n left low none is = sym (in_bits_found l x y left low ∙ position_rest _ l.visible (rest_of l) n none is)
 
--- no piece has the pixel
+-- no rectangle has the pixel
 pub found_nowhere : (l : Layout) (x y : ℕ) → x < l.width → y < l.height → found_in l l.visible x y ≡ None → found_in l (rest_of l) x y ≡ None → None ≡ buffer_at l x y
 found_nowhere l x y left low first second = sym (in_bits_found l x y left low ∙ position_none _ l.visible (rest_of l) first second)
 
