@@ -1,0 +1,12 @@
+pub mod PlaceLaws
+pub mod OrderLaws
+pub mod StackLaws
+pub mod RefusalLaws
+pub mod SoundLaws
+pub mod ArrangedLaws
+pub mod SettledLaws
+pub mod CellLaws
+pub mod OpenedLaws
+pub mod StandLaws
+pub mod MayLaws
+pub mod SameLaws

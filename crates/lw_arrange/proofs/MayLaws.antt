@@ -1,0 +1,244 @@
+-- A cell of a desk may be prepared for an arrangement that is done there.
+use Rattle.std.proofs.Common.{◌≡◌, ℕ, ◌+◌, ◌<◌, ◌≤◌, length, Bool, true, false, ◌&&◌, List, [], ◌∷◌, Option, Some, None, refl, sym, ap, subst, ◌∙◌, ⊎_elim, arith, ℤ, pos, ◌+ℤ◌, ◌-ℤ◌, int_le, nat_le, nat_lt, unsigned_abs, IsTrue}
+use Rattle.std.specs.Prelude.{if◌then◌else◌}
+use Rattle.std.proofs.lemmas.Bool.{and_parts, eqb-true}
+use Rattle.std.specs.List.{find}
+use Rattle.std.proofs.lemmas.Bool.Decides.{nat_tests}
+use Rattle.std.proofs.lemmas.Int.{ints}
+use Rattle.lw_region.specs.Rectangle.{Rectangle, has_pixel}
+use Rattle.lw_calls.specs.declared.make.Kind.{Kind}
+use Rattle.lw_calls.specs.declared.make.Kind.TheVariants.{Simple, Smart, SuperBitmap}
+use Rattle.lw_calls.specs.declared.make.Make.{Make}
+use Rattle.lw_calls.specs.declared.call.Call.{Call}
+use Rattle.lw_calls.specs.declared.call.Call.TheVariants.{Create}
+use Rattle.lw_calls.specs.declared.sizes.Sizes.{Sizes}
+use Rattle.lw_calls.specs.Kinds.{is_super}
+use Rattle.lw_calls.specs.Limits.{IsWithinLimits, call_fits, make_fits, hook_fits, kind_fits}
+use Rattle.lw_machine.specs.Layer.{Layer, Slot, Live, is_framed}
+use Rattle.lw_machine.specs.Desk.{Desk, is_the}
+use Rattle.lw_machine.specs.Screen.{bounds_have}
+use Rattle.lw_machine.specs.Arrangement.{bounds_of, blank, new_layer, is_on_screen, is_at_least, portion_fits, may_have_bounds, layer_may_have_bounds, columns_of, rows_of, arranged}
+use Rattle.lw_machine.specs.Reveal.{Across, has_bounds, across, revealed, resized, with_revealed, settled_layer, settled}
+use Rattle.lw_machine.specs.Parts.{slot_part}
+use Rattle.lw_machine.specs.Sound.{IsDesk, IsSlot, IsPlaced}
+use Rattle.lw_cliprects.specs.Parts.{LieIn}
+use Rattle.lw_layer.specs.View.{State, LiveView, CellView}
+use Rattle.lw_layer.specs.View as view
+use Rattle.lw_layer.specs.Pieces.{columns, lines}
+use Rattle.lw_layer.specs.StandsFor.{IsPartOf, StandsFor, IsSound}
+use Rattle.lw_layer.specs.New.{IsNewSize}
+use Rattle.lw_stack.specs.Stack.{bounds_at, first_at, is_first_at}
+use Rattle.lw_reveal.specs.Changed.{MayHave}
+use Rattle.lw_arrange.specs.Plans.{Planned, IsPlanned}
+use Rattle.lw_arrange.specs.Prepared.{asked_for, shown_at, MayBecome, MayBe, MayPrepare}
+use Rattle.lw_arrange.proofs.SettledLaws.{slot_settled, settled_plain}
+use Rattle.lw_arrange.proofs.CellLaws.{Stays, Opens, slot_becomes}
+use Rattle.lw_arrange.proofs.StandLaws.{IsDone, live_part, listed_low, not_opened, gone}
+
+-- along one axis: bounds on the screen that have a place
+axis_size : (low high : ℤ) (n : ℕ) → int_le (pos 0) low ≡ true → int_le (high +ℤ pos 1) (pos n) ≡ true → int_le (pos 1) ((high +ℤ pos 1) -ℤ low) ≡ true → n ≤ 1024 → (1 ≤ unsigned_abs ((high +ℤ pos 1) -ℤ low)) × (unsigned_abs ((high +ℤ pos 1) -ℤ low) ≤ 2048)
+axis_size low high n first last some few = (grind (arith, ints), grind (arith, ints))
+
+-- and a portion of so many places that begins at one
+axis_portion : (low high : ℤ) (x w : ℕ) → int_le (pos x +ℤ ((high +ℤ pos 1) -ℤ low)) (pos w) ≡ true → int_le (pos 1) ((high +ℤ pos 1) -ℤ low) ≡ true → x + unsigned_abs ((high +ℤ pos 1) -ℤ low) ≤ w
+axis_portion low high x w last some = grind (arith, ints)
+
+-- bounds that a layer may have have sizes for planes, and what they show of an own bitmap lies in it
+pub record IsFit (own : Bool) (x y w h : ℕ) (r : Rectangle) : Type 0 where
+  pub wide : (1 ≤ columns r) × (columns r ≤ 2048)
+  pub high : (1 ≤ lines r) × (lines r ≤ 2048)
+  pub right : own ≡ true → x + columns r ≤ w
+  pub lower : own ≡ true → y + lines r ≤ h
+
+pub may_fit : (s : Sizes) (framed : Bool) (k : Kind) (x y w h : ℕ) (r : Rectangle) → IsWithinLimits s → may_have_bounds s framed k x y w h r ≡ true → IsFit (is_super k) x y w h r
+unfolding is_on_screen is_at_least portion_fits
+may_fit s framed k x y w h r limits may =
+    let halves = and_parts _ _ may in
+    let first = and_parts (is_on_screen s r) (is_at_least (pos 1) (pos 1) r) halves.0 in
+    let second = and_parts _ (if is_super k then portion_fits (pos x) (pos y) w h r else true) halves.1 in
+    let sides = and_parts (int_le (pos 0) r.min_x && int_le (r.max_x +ℤ pos 1) (pos s.width)) (int_le (pos 0) r.min_y && int_le (r.max_y +ℤ pos 1) (pos s.height)) first.0 in
+    let across = and_parts (int_le (pos 0) r.min_x) (int_le (r.max_x +ℤ pos 1) (pos s.width)) sides.0 in
+    let down = and_parts (int_le (pos 0) r.min_y) (int_le (r.max_y +ℤ pos 1) (pos s.height)) sides.1 in
+    let some = and_parts (int_le (pos 1) (columns_of r)) (int_le (pos 1) (rows_of r)) first.1 in
+    let portion : is_super k ≡ true → portion_fits (pos x) (pos y) w h r ≡ true = λ own. sym (ap (λ b. if b then portion_fits (pos x) (pos y) w h r else true) own) ∙ second.1 in
+    record {
+      wide = axis_size r.min_x r.max_x s.width across.0 across.1 some.0 limits.columns;
+      high = axis_size r.min_y r.max_y s.height down.0 down.1 some.1 limits.rows;
+      right =
+          λ own.
+          let fits = and_parts (int_le (pos 0) (pos x) && int_le (pos x +ℤ columns_of r) (pos w)) (int_le (pos 0) (pos y) && int_le (pos y +ℤ rows_of r) (pos h)) (portion own) in
+          axis_portion r.min_x r.max_x x w (and_parts (int_le (pos 0) (pos x)) (int_le (pos x +ℤ columns_of r) (pos w)) fits.0).1 some.0;
+      lower =
+          λ own.
+          let fits = and_parts (int_le (pos 0) (pos x) && int_le (pos x +ℤ columns_of r) (pos w)) (int_le (pos 0) (pos y) && int_le (pos y +ℤ rows_of r) (pos h)) (portion own) in
+          axis_portion r.min_y r.max_y y h (and_parts (int_le (pos 0) (pos y)) (int_le (pos y +ℤ rows_of r) (pos h)) fits.1).1 some.1;
+    }
+
+-- what is found passes the test
+find_passes : (test : ℕ → Bool) (ns : List ℕ) (n : ℕ) → find test ns ≡ Some n → test n ≡ true
+find_passes test [] n is = absurd (cc is)
+find_passes test (m ∷ ms) n is = step (test m) refl (λ h. find_passes test ms n h) is
+  where
+    option_or : Option ℕ → ℕ → ℕ
+    option_or None k = k
+    option_or (Some k) j = k
+
+    step : (b : Bool) → test m ≡ b → (find test ms ≡ Some n → test n ≡ true) → (if b then Some m else find test ms) ≡ Some n → test n ≡ true
+    step true e rest h = ap test (sym (ap (λ o. option_or o m) h)) ∙ e
+    step false e rest h = rest h
+
+-- what is shown of a slot lies in its bounds
+pub shown_inside : (a : Planned) (s : ℕ) (r : Rectangle) → IsPlanned a → bounds_at a.stack.bounds s ≡ Some r → LieIn r (shown_at a s)
+unfolding first_at
+shown_inside a s r ok planned x y has =
+    let low : s < length a.stack.bounds = listed_low a.stack.bounds s (ap has_bounds planned) in
+    let first : is_first_at a.stack.bounds a.stack.front_to_back s x y ≡ true = sym (ok.shown.places s x y low) ∙ has in
+    go (first_at a.stack.bounds a.stack.front_to_back x y) refl first
+  where
+    have : (o : Option Rectangle) → o ≡ Some r → bounds_have o x y ≡ true → has_pixel r x y ≡ true
+    have o is h = sym (ap (λ q. bounds_have q x y) is) ∙ h
+
+    go : (o : Option ℕ) → first_at a.stack.bounds a.stack.front_to_back x y ≡ o → is_the o s ≡ true → has_pixel r x y ≡ true
+    go None is h = absurd (cc h)
+    go (Some n) is h =
+        let there : bounds_have (bounds_at a.stack.bounds n) x y ≡ true = find_passes (λ t. bounds_have (bounds_at a.stack.bounds t) x y) a.stack.front_to_back n is in
+        have (bounds_at a.stack.bounds s) planned (ap (λ k. bounds_have (bounds_at a.stack.bounds k) x y) (sym (eqb-true n s h)) ∙ there)
+
+-- what is revealed of a layer has its kind, its scroll, and its bits where they are its own
+record IsSameFrame (l m : Layer) : Type 0 where
+  pub kind : m.kind ≡ l.kind
+  pub scroll_x : m.scroll_x ≡ l.scroll_x
+  pub scroll_y : m.scroll_y ≡ l.scroll_y
+  pub own : is_super l.kind ≡ true → m.bits ≡ l.bits
+
+revealed_frame : (k : Across) (l : Layer) → IsSameFrame l (revealed k l)
+unfolding revealed
+revealed_frame k l = go (is_super l.kind) refl
+  where
+    go : (own : Bool) → is_super l.kind ≡ own → IsSameFrame l (if own then l else with_revealed k l (resized k l))
+    go true is = record { kind = refl; scroll_x = refl; scroll_y = refl; own = λ _. refl }
+    go false is = record { kind = refl; scroll_x = refl; scroll_y = refl; own = λ own. absurd (cc (is, own)) }
+
+-- the layer of a sound desk may have its bounds
+placed_may : (e : Desk) (s : ℕ) (m : Layer) (r : Rectangle) → IsDesk e → e.slot s ≡ Live m → e.bounds s ≡ Some r → layer_may_have_bounds e.sizes m r ≡ true
+placed_may e s m r ok slot bounds =
+    let P : Slot → Type 0 = λ x. IsSlot e s x in
+    let here : IsPlaced e.sizes m (e.bounds s) = (subst P slot (ok.slots s)).0 in
+    let Q : Option Rectangle → Type 0 = λ o. IsPlaced e.sizes m o in
+    (subst Q bounds here).may
+
+-- a layer that stays live may have its new bounds
+stays_may : (d : Desk) (caller : ℕ) (made : Call) (a : Planned) (c : CellView) → IsDone d caller made a → c.state ≡ view.Live → StandsFor c (slot_part d c.number) → IsSound c.live → (r : Rectangle) → bounds_at a.stack.bounds c.number ≡ Some r → Stays d (arranged d caller made) c.number → MayHave c.live r (shown_at a c.number)
+stays_may d caller made a c done live stands sound r planned stays =
+    let s = c.number in
+    let e = arranged d caller made in
+    let l = c.live.layer in
+    let bounds : e.bounds s ≡ Some r = done.plan.info.bounds s ∙ planned in
+    let slot = slot_settled d e s (Live l) done.settled (stays.slot ∙ (live_part c (slot_part d s) live stands).slot) in
+    let plain = slot ∙ ap Live (settled_plain d.assets.glyphs (across d e s) l sound.window) in
+    let m : Layer = revealed (across d e s) l in
+    let frame = revealed_frame (across d e s) l in
+    let fit = may_fit e.sizes (is_framed m.window) m.kind m.scroll_x m.scroll_y m.bits.width m.bits.height r done.settled.limits (placed_may (settled d e) s m r done.settled plain bounds) in
+    record {
+      sizes = record { columns = fit.wide; rows = fit.high; planes = sound.bits.sizes.planes };
+      inside = shown_inside a s r done.planned planned;
+      right = λ own. let h = fit.right (ap is_super frame.kind ∙ own) in let b = frame.own own in omega (arith, h, frame.scroll_x, ap (λ q. q.width) b);
+      lower = λ own. let h = fit.lower (ap is_super frame.kind ∙ own) in let b = frame.own own in omega (arith, h, frame.scroll_y, ap (λ q. q.height) b);
+    }
+
+-- a new super-bitmap layer has the bitmap that is asked for
+own_blank_size : (kind : Kind) (depth : ℕ) (make : Make) → is_super kind ≡ true → ((blank kind depth make).width ≡ make.bits_w) × ((blank kind depth make).height ≡ make.bits_h)
+own_blank_size Simple depth make own = absurd (cc own)
+own_blank_size Smart depth make own = absurd (cc own)
+own_blank_size SuperBitmap depth make own = (refl, refl)
+
+-- a bitmap that may be asked for has sizes for planes
+own_fits : (kind : Kind) (hook : Option ℕ) (w h : ℕ) → kind_fits kind hook w h ≡ true → is_super kind ≡ true → ((1 ≤ w) × (w ≤ 2048)) × ((1 ≤ h) × (h ≤ 2048))
+own_fits Simple hook w h fits own = absurd (cc own)
+own_fits Smart hook w h fits own = absurd (cc own)
+own_fits SuperBitmap None w h fits own =
+    let sides = and_parts (nat_le 1 w && nat_le w 2048) (nat_le 1 h && nat_le h 2048) fits in
+    let across = and_parts (nat_le 1 w) (nat_le w 2048) sides.0 in
+    let down = and_parts (nat_le 1 h) (nat_le h 2048) sides.1 in
+    ((grind (arith, nat_tests), grind (arith, nat_tests)), (grind (arith, nat_tests), grind (arith, nat_tests)))
+own_fits SuperBitmap (Some n) w h fits own = absurd (cc fits)
+
+asked_own : (call : Call) (sizes : Sizes) (make : Make) → asked_for call ≡ Some make → IsTrue (call_fits sizes call) → is_super make.kind ≡ true → ((1 ≤ make.bits_w) × (make.bits_w ≤ 2048)) × ((1 ≤ make.bits_h) × (make.bits_h ≤ 2048))
+asked_own (Create slot m) sizes make asked fits own =
+    let same : m ≡ make = ap (λ o. option_or o m) asked in
+    let parts = and_parts (nat_lt slot sizes.slots) (make_fits sizes m) fits in
+    let inner = and_parts _ (hook_fits sizes.hooks m.hook && kind_fits m.kind m.hook m.bits_w m.bits_h) parts.1 in
+    let last = and_parts (hook_fits sizes.hooks m.hook) (kind_fits m.kind m.hook m.bits_w m.bits_h) inner.1 in
+    let P : Make → Type 0 = λ q. is_super q.kind ≡ true → ((1 ≤ q.bits_w) × (q.bits_w ≤ 2048)) × ((1 ≤ q.bits_h) × (q.bits_h ≤ 2048)) in
+    subst P same (own_fits m.kind m.hook m.bits_w m.bits_h last.1) own
+  where
+    option_or : Option Make → Make → Make
+    option_or None k = k
+    option_or (Some k) j = k
+asked_own call sizes make asked fits own = absurd (cc asked)
+
+-- what a new layer asks of its bounds
+opens_may : (d : Desk) (caller : ℕ) (made : Call) (a : Planned) (s : ℕ) → IsDone d caller made a → (opens : Opens d (arranged d caller made) made s) → IsNewSize opens.make d.sizes.depth (bounds_of opens.make)
+opens_may d caller made a s done opens =
+    let e = arranged d caller made in
+    let make = opens.make in
+    let new : Layer = new_layer d.sizes.depth make None None in
+    let slot = slot_settled d e s (Live new) done.settled opens.slot in
+    let m : Layer = settled_layer d.assets.glyphs (across d e s) new in
+    let plain : m ≡ revealed (across d e s) new = settled_plain d.assets.glyphs (across d e s) new refl in
+    let q : Layer = revealed (across d e s) new in
+    let frame = revealed_frame (across d e s) new in
+    let fit = may_fit e.sizes (is_framed q.window) q.kind q.scroll_x q.scroll_y q.bits.width q.bits.height (bounds_of make) done.settled.limits (placed_may (settled d e) s q (bounds_of make) done.settled (slot ∙ ap Live plain) opens.bounds) in
+    let own = asked_own made d.sizes make opens.asked done.fits in
+    let limits = done.sound.limits in
+    record {
+      place = refl;
+      sizes = record { columns = fit.wide; rows = fit.high; planes = (limits.some_planes, limits.planes) };
+      own = λ super. let sides = own super in record { columns = sides.0; rows = sides.1; planes = (limits.some_planes, limits.planes) };
+      right = λ super. let h = fit.right (ap is_super frame.kind ∙ super) in let b = frame.own super in let w = (own_blank_size make.kind d.sizes.depth make super).0 in omega (arith, h, ap (λ v. v.width) b, w);
+      lower = λ super. let h = fit.lower (ap is_super frame.kind ∙ super) in let b = frame.own super in let w = (own_blank_size make.kind d.sizes.depth make super).1 in omega (arith, h, ap (λ v. v.height) b, w);
+    }
+
+-- A cell of the desk may be prepared.
+pub may_prepare : (d : Desk) (caller : ℕ) (made : Call) (a : Planned) (c : CellView) → IsDone d caller made a → StandsFor c (slot_part d c.number) → (c.state ≡ view.Live → IsSound c.live) → MayPrepare a c
+may_prepare d caller made a c done stands sound =
+    let s = c.number in
+    let e = arranged d caller made in
+    let planned : e.bounds s ≡ bounds_at a.stack.bounds s = done.plan.info.bounds s in
+    let P : Option Rectangle → Type 0 = λ o. MayBe (asked_for a.call) a.stack.sizes.depth (shown_at a s) c o in
+    ⊎_elim (λ stays. by_state c.state refl stays (bounds_at a.stack.bounds s) refl)
+    (λ rest. ⊎_elim (λ opens. opened opens)
+    (λ closes. subst P (sym closes.bounds ∙ planned) tt) rest)
+    (slot_becomes d caller made s done.all done.plain done.unrefused)
+  where
+    opened : Opens d (arranged d caller made) made c.number → MayPrepare a c
+    opened opens =
+        let make = opens.make in
+        let was = not_opened c (slot_part d c.number) stands opens.free in
+        let size = opens_may d caller made a c.number done opens in
+        let R : State → Type 0 = λ q. MayBecome (Some make) d.sizes.depth (bounds_of make) (shown_at a c.number) c q in
+        let first : MayBe (Some make) d.sizes.depth (shown_at a c.number) c (Some (bounds_of make)) = subst R (sym was.0) size in
+        let P : Option Rectangle → Type 0 = λ o. MayBe (Some make) d.sizes.depth (shown_at a c.number) c o in
+        let Q : ℕ → Type 0 = λ n. MayBe (Some make) n (shown_at a c.number) c (bounds_at a.stack.bounds c.number) in
+        let T : Option Make → Type 0 = λ o. MayBe o a.stack.sizes.depth (shown_at a c.number) c (bounds_at a.stack.bounds c.number) in
+        subst T (sym (ap asked_for done.plan.call ∙ opens.asked)) (subst Q (sym (ap (λ z. z.depth) done.sizes)) (subst P (sym opens.bounds ∙ done.plan.info.bounds c.number) first))
+
+    dead : d.bounds c.number ≡ None → Stays d (arranged d caller made) c.number → MayPrepare a c
+    dead none stays =
+        let e = arranged d caller made in
+        let P : Option Rectangle → Type 0 = λ o. MayBe (asked_for a.call) a.stack.sizes.depth (shown_at a c.number) c o in
+        subst P (sym (gone (e.bounds c.number) (stays.bounds ∙ ap has_bounds none)) ∙ done.plan.info.bounds c.number) tt
+
+    part : (q : State) → c.state ≡ q → IsPartOf q c.live (slot_part d c.number)
+    part q is = let P : State → Type 0 = λ t. IsPartOf t c.live (slot_part d c.number) in subst P is stands
+
+    by_state : (q : State) → c.state ≡ q → Stays d (arranged d caller made) c.number → (o : Option Rectangle) → bounds_at a.stack.bounds c.number ≡ o → MayPrepare a c
+    by_state view.Unopened is stays o at = dead (part view.Unopened is).1 stays
+    by_state view.Closed is stays o at = dead (part view.Closed is).1 stays
+    by_state view.Live is stays None at =
+        let P : Option Rectangle → Type 0 = λ q. MayBe (asked_for a.call) a.stack.sizes.depth (shown_at a c.number) c q in
+        subst P (sym at) tt
+    by_state view.Live is stays (Some r) at =
+        let P : Option Rectangle → Type 0 = λ q. MayBe (asked_for a.call) a.stack.sizes.depth (shown_at a c.number) c q in
+        let R : State → Type 0 = λ q. MayBecome (asked_for a.call) a.stack.sizes.depth r (shown_at a c.number) c q in
+        subst P (sym at) (subst R (sym is) (stays_may d caller made a c done is stands (sound is) r at stays))

@@ -1,0 +1,36 @@
+-- What a comparison of rectangles, and of lists of them, tells.
+use Rattle.std.proofs.Common.{◌≡◌, Bool, true, ◌&&◌, List, sym, ap, ◌∙◌}
+use Rattle.std.specs.Bool.{Decides}
+use Rattle.std.specs.Ordering.{int_eq}
+use Rattle.std.specs.Cmp.Lexicographic.{pointwise}
+use Rattle.std.proofs.lemmas.Bool.{and_from}
+use Rattle.std.proofs.lemmas.Slice.Eq.{slice_eq-Decides}
+use Rattle.lw_region.specs.Rectangle.{Rectangle}
+use Rattle.lw_region.proofs.Numbers.{eq_true}
+use Rattle.lw_layer.specs.View.{CellView, with_live}
+use Rattle.lw_layer.specs.Pieces.{IsDamageOf}
+use Rattle.lw_layer.specs.StandsFor.{IsSound}
+use Rattle.lw_damage.specs.Damaged.{Damaged}
+use Rattle.lw_reveal.specs.Changed.{revealed_to}
+use Rattle.lw_reveal.proofs.PairingLaws.{edges_same}
+use Rattle.lw_reveal.proofs.RevealLaws.{revealed_same}
+
+-- the test of two rectangles, edge by edge
+abbrev pub same_edges : Rectangle → Rectangle → Bool
+same_edges r s = int_eq r.min_x s.min_x && (int_eq r.min_y s.min_y && (int_eq r.max_x s.max_x && int_eq r.max_y s.max_y))
+
+edges_decide : (r s : Rectangle) → Decides (same_edges r s) (r ≡ s)
+edges_decide r s = (
+  edges_same r s,
+  λ is. and_from _ _ (eq_true r.min_x s.min_x (ap (λ q. q.min_x) is)) (and_from _ _ (eq_true r.min_y s.min_y (ap (λ q. q.min_y) is))
+      (and_from _ _ (eq_true r.max_x s.max_x (ap (λ q. q.max_x) is)) (eq_true r.max_y s.max_y (ap (λ q. q.max_y) is)))),
+)
+
+-- A layer whose bounds and visible rectangles are the new ones is revealed as it is.
+pub stays_same : (c : CellView) (d : Damaged) (former bounds : Rectangle) (shown listed visible : List Rectangle) (t u : Bool) → IsSound c.live → IsDamageOf c.live d → former ≡ c.live.bounds → shown ≡ c.live.visible
+    → t ≡ same_edges former bounds → t ≡ true → listed ≡ visible → u ≡ pointwise same_edges shown listed → u ≡ true → with_live (λ q. revealed_to bounds visible q) c ≡ c
+stays_same c d former bounds shown listed visible t u sound damage former_is shown_is t_is t_true listed_is u_is u_true =
+    let place : c.live.bounds ≡ bounds = sym former_is ∙ edges_same former bounds (sym t_is ∙ t_true) in
+    let list : c.live.visible ≡ visible = sym shown_is ∙ ((slice_eq-Decides edges_decide shown listed u u_is).0 u_true ∙ listed_is) in
+    ap (λ b. with_live (λ q. revealed_to b visible q) c) (sym place) ∙
+    (ap (λ v. with_live (λ q. revealed_to c.live.bounds v q) c) (sym list) ∙ ap (λ q. record c { live = q }) (revealed_same c.live d sound damage))

@@ -1,0 +1,7 @@
+pub mod Plans
+pub mod Arranged
+pub mod Places
+pub mod Planning
+pub mod Steps
+pub mod Prepared
+pub mod Made

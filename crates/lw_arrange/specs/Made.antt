@@ -1,0 +1,17 @@
+-- What was prepared for a cell (this project's own).
+use Rattle.std.specs.Prelude.{◌≡◌}
+use Rattle.lw_layer.specs.View.{CellView, with_live}
+use Rattle.lw_layer.specs.View as view
+use Rattle.lw_layer.specs.Drafts.{IsLiveDraft, live_view, no_layer}
+use Rattle.lw_reveal.specs.Changed.{revealed_to}
+use Rattle.lw_reveal.specs.Changes.{IsChange}
+use Rattle.lw_arrange.specs.declared.preparing.Prepared.{Prepared}
+use Rattle.lw_arrange.specs.declared.preparing.Prepared.TheVariants.{Stays, Closes, Opens, Changes}
+
+-- The one cell becomes the other by what was prepared.
+abbrev pub IsPrepared : CellView → CellView → Prepared → Type 0
+IsPrepared from to Stays = to ≡ from
+IsPrepared from to Closes = to ≡ record { number = from.number; state = view.Closed; live = no_layer }
+IsPrepared from to (Opens d) = IsLiveDraft d × (to ≡ record { number = from.number; state = view.Live; live = live_view d })
+IsPrepared from to (Changes k) =
+    (from.state ≡ view.Live) × IsChange from.live k × (to ≡ with_live (λ c. revealed_to k.bounds k.parts.visible c) from)

@@ -1,0 +1,22 @@
+//! Arrangements: the calls that change which layers there are, their order and their bounds, planned, prepared and committed
+//! (the manual's Layers Library chapter).
+#![tactic(auto)]
+
+mod after;
+mod arrangement;
+mod change;
+mod copied;
+mod order;
+mod place;
+mod plan;
+mod prepared_info;
+mod preparing;
+mod refused;
+
+pub use arrangement::{Arrangement, Step};
+pub use plan::plan_step;
+pub use prepared_info::{PreparedInfo, commit_info, prepare_info};
+pub use preparing::{Prepared, commit, prepare};
+
+#[cfg(test)]
+mod tests;

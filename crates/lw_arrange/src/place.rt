@@ -1,0 +1,178 @@
+ghost use Rattle.std.specs.Prelude.{◌≡◌, ◌≤◌, ◌&&◌, true, Some, pos, negsuc, ◌+ℤ◌, ◌-ℤ◌, ◌≤ℤ◌, IsTrue};
+ghost use Rattle.lw_machine.specs.Shapes.{box_at};
+ghost use Rattle.lw_machine.specs.Arrangement.{is_on_screen, is_at_least, portion_fits};
+ghost use Rattle.lw_arrange.specs.Places.{rectangle_of, axis_on, axis_has, axis_shows, frame_has_room, bits_suffice, may_lie, span_fits, IsRect};
+ghost use Rattle.lw_region.specs.Rectangle.{IsWord};
+
+use lw_calls::{Kind, Sizes};
+use lw_region::Rect;
+
+/// Bounds that a call asks for, which may lie off the screen. All four are inclusive.
+#[derive(Clone, Copy, Debug, PartialEq, Eq)]
+pub(crate) struct Edges {
+    pub min_x: i32,
+    pub min_y: i32,
+    pub max_x: i32,
+    pub max_y: i32,
+}
+
+/// What decides which bounds a layer may have, beside the screen (this project's own).
+#[derive(Clone, Copy, Debug, PartialEq, Eq)]
+pub(crate) struct Needs {
+    /// The layer is a window with a frame.
+    pub framed: bool,
+    pub kind: Kind,
+    /// The pixel of a super-bitmap layer's own bitmap that its top left corner shows.
+    pub scroll_x: i32,
+    pub scroll_y: i32,
+    /// The size of a super-bitmap layer's own bitmap.
+    pub bits_w: u32,
+    pub bits_h: u32,
+}
+
+/// The bounds of a box of `w` columns and `h` rows from (x, y) on.
+pub(crate) fn edges_of_box(x: i32, y: i32, w: i32, h: i32) -> Edges
+    requires columns { IsTrue (span_fits x w) }
+    requires rows { IsTrue (span_fits y h) }
+    ensures { rectangle_of result ≡ box_at x y w h }
+{
+    Edges {
+        min_x: x,
+        min_y: y,
+        max_x: last_place(x, w),
+        max_y: last_place(y, h),
+    }
+}
+
+/// The last of `count` places from `from` on.
+#[tactic(auto, using(std::proofs::lemmas::Int::ints), unfolding(lw_region::specs::Rectangle::within))]
+fn last_place(from: i32, count: i32) -> i32
+    requires { IsTrue (span_fits from count) }
+    ensures { result ≡ (from +ℤ count) -ℤ pos 1 }
+{
+    from + count - 1
+}
+
+/// Whether a layer with such needs may have these bounds: all its pixels lie on the screen, it has a column and a row, a framed
+/// window is at least 9 wide and 14 high, and what a super-bitmap layer shows lies in its bitmap.
+pub(crate) fn may_have(sizes: &Sizes, needs: &Needs, edges: &Edges) -> bool
+    ensures { result ≡ may_lie sizes.now needs.now (rectangle_of edges.now) }
+{
+    is_on(sizes, edges)
+        && has_at_least(1, 1, edges)
+        && fits_frame(needs, edges)
+        && fits_bits(needs, edges)
+}
+
+/// Whether all pixels lie on the screen.
+#[tactic(auto, unfolding(lw_machine::specs::Arrangement::is_on_screen, crate::specs::Places::axis_on))]
+fn is_on(sizes: &Sizes, edges: &Edges) -> bool
+    ensures { result ≡ is_on_screen sizes.now (rectangle_of edges.now) }
+{
+    is_axis_on(edges.min_x, edges.max_x, sizes.width)
+        && is_axis_on(edges.min_y, edges.max_y, sizes.height)
+}
+
+#[tactic(auto, using(std::proofs::lemmas::Int::ints), unfolding(crate::specs::Places::axis_on))]
+fn is_axis_on(low: i32, high: i32, limit: u32) -> bool
+    ensures { result ≡ axis_on low high limit }
+{
+    if low < 0 {
+        return false;
+    }
+    i64::from(high) + 1 <= i64::from(limit)
+}
+
+/// Whether there are so many columns and rows.
+#[tactic(auto, unfolding(lw_machine::specs::Arrangement::is_at_least, crate::specs::Places::axis_has))]
+fn has_at_least(w: i32, h: i32, edges: &Edges) -> bool
+    ensures { result ≡ is_at_least w h (rectangle_of edges.now) }
+{
+    axis_has_at_least(w, edges.min_x, edges.max_x) && axis_has_at_least(h, edges.min_y, edges.max_y)
+}
+
+#[tactic(auto, using(std::proofs::lemmas::Int::ints), unfolding(crate::specs::Places::axis_has))]
+fn axis_has_at_least(count: i32, low: i32, high: i32) -> bool
+    ensures { result ≡ axis_has count low high }
+{
+    i64::from(count) <= places(low, high)
+}
+
+/// How many places there are from `low` to `high`, or none or less where these are out of order.
+#[tactic(auto, using(std::proofs::lemmas::Int::ints))]
+fn places(low: i32, high: i32) -> i64
+    ensures count { result ≡ (high +ℤ pos 1) -ℤ low }
+    ensures least { negsuc 4294967295 ≤ℤ result }
+    ensures most { result ≤ℤ pos 4294967296 }
+{
+    i64::from(high) + 1 - i64::from(low)
+}
+
+/// Whether a frame has room, if there is one.
+fn fits_frame(needs: &Needs, edges: &Edges) -> bool
+    ensures { result ≡ frame_has_room needs.now (rectangle_of edges.now) }
+{
+    if needs.framed {
+        return has_at_least(9, 14, edges);
+    }
+    true
+}
+
+/// Whether what a super-bitmap layer shows lies in its bitmap.
+fn fits_bits(needs: &Needs, edges: &Edges) -> bool
+    ensures { result ≡ bits_suffice needs.now (rectangle_of edges.now) }
+{
+    match needs.kind {
+        Kind::Simple | Kind::Smart => true,
+        Kind::SuperBitmap => shows_bits(needs, edges),
+    }
+}
+
+#[tactic(auto, unfolding(lw_machine::specs::Arrangement::portion_fits, crate::specs::Places::axis_shows))]
+fn shows_bits(needs: &Needs, edges: &Edges) -> bool
+    ensures { result ≡ portion_fits needs.now.scroll_x needs.now.scroll_y needs.now.bits_w needs.now.bits_h
+        (rectangle_of edges.now) }
+{
+    is_axis_shown(needs.scroll_x, edges.min_x, edges.max_x, needs.bits_w)
+        && is_axis_shown(needs.scroll_y, edges.min_y, edges.max_y, needs.bits_h)
+}
+
+#[tactic(auto, using(std::proofs::lemmas::Int::ints), unfolding(crate::specs::Places::axis_shows))]
+fn is_axis_shown(from: i32, low: i32, high: i32, limit: u32) -> bool
+    ensures { result ≡ axis_shows from low high limit }
+{
+    if from < 0 {
+        return false;
+    }
+    shown_end(from, low, high) <= i64::from(limit)
+}
+
+/// The first place past the portion that begins at `from`.
+#[tactic(auto, using(std::proofs::lemmas::Int::ints))]
+fn shown_end(from: i32, low: i32, high: i32) -> i64
+    ensures { result ≡ from +ℤ ((high +ℤ pos 1) -ℤ low) }
+{
+    i64::from(from) + places(low, high)
+}
+
+/// The rectangle with these edges.
+pub(crate) fn rect_of(edges: &Edges) -> Option<Rect>
+    requires { IsRect (rectangle_of edges.now) }
+    ensures { result ≡ Some (rectangle_of edges.now) }
+{
+    Rect::new(
+        word(edges.min_x),
+        word(edges.min_y),
+        word(edges.max_x),
+        word(edges.max_y),
+    )
+}
+
+/// A place as a signed word.
+#[tactic(auto, using(std::proofs::lemmas::Int::ints))]
+fn word(place: i32) -> i16
+    requires { IsWord place }
+    ensures { result ≡ place }
+{
+    place as i16
+}

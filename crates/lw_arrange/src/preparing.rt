@@ -1,0 +1,147 @@
+// What an arrangement makes of one cell, in two steps: preparing it takes all the memory, and committing it takes none.
+
+ghost use Rattle.std.specs.Prelude.{◌≡◌, ◌<◌, Some, IfOk};
+ghost use Rattle.lw_cliprects.specs.Parts.{LieIn};
+ghost use Rattle.lw_layer.specs.View as view;
+ghost use Rattle.lw_layer.specs.View.{CellView, with_live};
+ghost use Rattle.lw_layer.specs.Drafts.{IsState, state_of, live_of};
+ghost use Rattle.lw_layer.specs.StandsFor.{IsSound};
+ghost use Rattle.lw_stack.specs.Stack.{bounds_at};
+ghost use Rattle.lw_reveal.specs.Changed.{revealed_to, MayHave};
+ghost use Rattle.lw_arrange.specs.Prepared.{asked_for, opened, without_layer, with_bounds, shown_at, cell_after, MayOpen, MayBecome, MayPrepare};
+ghost use Rattle.lw_arrange.specs.Made.{IsPrepared};
+
+use crate::arrangement::Arrangement;
+use lw_calls::Call;
+use lw_layer::{Cell, Draft, DraftState, LiveDraft};
+use lw_region::{Rect, Region};
+use lw_reveal::{Change, apply};
+use std::alloc::{AllocError, Global};
+
+/// What is ready to be made of one cell (this project's own).
+#[derive(Debug, Drop)]
+pub enum Prepared {
+    /// The cell stays as it is.
+    Stays,
+    /// The layer is deleted.
+    Closes,
+    /// The layer is created.
+    Opens(LiveDraft),
+    /// The layer has other bounds, or another part of it is visible.
+    Changes(Change),
+}
+
+/// Prepares the cell of a slot for the arrangement. It takes all the memory that is needed for the cell, and changes nothing. A
+/// layer whose bounds and visible rectangles stay is not copied.
+pub fn prepare(
+    alloc: Global,
+    cell: &Cell,
+    arrangement: &Arrangement,
+) -> Result<Prepared, AllocError>
+    requires slot { cell.now.number < arrangement.now.stack.sizes.slots }
+    requires may { MayPrepare arrangement.now cell.now }
+    ensures { IfOk result (λ prepared. IsPrepared cell.now (cell_after arrangement.now cell.now) prepared) }
+{
+    let slot = cell.slot();
+    match arrangement.bounds(slot) {
+        None => Ok(without_bounds(cell)),
+        Some(bounds) => with_bounds(alloc, cell, arrangement, &bounds),
+    }
+}
+
+// A cell that has no bounds afterwards: a live layer is deleted.
+fn without_bounds(cell: &Cell) -> Prepared
+    ensures { IsPrepared cell.now (without_layer cell.now cell.now.state) result }
+{
+    match cell.look() {
+        None => Prepared::Stays,
+        Some(_) => Prepared::Closes,
+    }
+}
+
+// A cell that has these bounds afterwards: its layer is a new one, or is changed.
+fn with_bounds(
+    alloc: Global,
+    cell: &Cell,
+    arrangement: &Arrangement,
+    bounds: &Rect,
+) -> Result<Prepared, AllocError>
+    requires slot { cell.now.number < arrangement.now.stack.sizes.slots }
+    requires bounds { bounds_at arrangement.now.stack.bounds cell.now.number ≡ Some bounds.now }
+    requires may { MayBecome (asked_for arrangement.now.call) arrangement.now.stack.sizes.depth bounds.now (shown_at arrangement.now cell.now.number) cell.now cell.now.state }
+    ensures { IfOk result (λ prepared. IsPrepared cell.now (with_bounds (asked_for arrangement.now.call) arrangement.now.stack.sizes.depth bounds.now (shown_at arrangement.now cell.now.number) cell.now cell.now.state) prepared) }
+{
+    // Reading the sizes tells the proof what holds of the plan.
+    let _ = arrangement.sizes();
+    let visible = arrangement.shown(cell.slot());
+    match cell.look() {
+        None => created(alloc, cell, arrangement, bounds, visible),
+        Some(look) => changed(alloc, cell, &look.bounds, bounds, visible),
+    }
+}
+
+// A new layer.
+fn created(
+    alloc: Global,
+    cell: &Cell,
+    arrangement: &Arrangement,
+    bounds: &Rect,
+    visible: &Region,
+) -> Result<Prepared, AllocError>
+    requires may { MayOpen (asked_for arrangement.now.call) arrangement.now.stack.sizes.depth bounds.now }
+    requires inside { LieIn bounds.now visible.now }
+    ensures { IfOk result (λ prepared. IsPrepared cell.now (record { number = cell.now.number; state = view.Live; live = opened (asked_for arrangement.now.call) arrangement.now.stack.sizes.depth bounds.now visible.now }) prepared) }
+{
+    match arrangement.call() {
+        Call::Create { make, .. } => {
+            let depth = arrangement.sizes().depth;
+            let draft = LiveDraft::new(alloc, make, depth, bounds, visible)?;
+            Ok(Prepared::Opens(draft))
+        }
+        _ => unreachable!(),
+    }
+}
+
+// A layer that stays live, from these former bounds to its new ones.
+fn changed(
+    alloc: Global,
+    cell: &Cell,
+    former: &Rect,
+    bounds: &Rect,
+    visible: &Region,
+) -> Result<Prepared, AllocError>
+    requires live { cell.now.state ≡ view.Live }
+    requires former { former.now ≡ cell.now.live.bounds }
+    requires sound { IsSound cell.now.live }
+    requires may { MayHave cell.now.live bounds.now visible.now }
+    ensures { IfOk result (λ prepared. IsPrepared cell.now (with_live (λ c. revealed_to bounds.now visible.now c) cell.now) prepared) }
+{
+    // Reading the damage tells the proof that it lies on kept pixels.
+    let _ = cell.damage();
+    if former == bounds && cell.visible() == visible.rects() {
+        return Ok(Prepared::Stays);
+    }
+    Ok(Prepared::Changes(lw_reveal::prepare(alloc, cell, bounds, visible)?))
+}
+
+/// Makes of the cell what was prepared from it. It takes no memory and can't be refused.
+pub fn commit(cell: &mut Cell, prepared: Prepared)
+    requires { (to : CellView) × IsPrepared cell.old to prepared }
+    ensures { (to : CellView) → IsPrepared cell.old to prepared → cell.new ≡ to }
+{
+    match prepared {
+        Prepared::Stays => {}
+        Prepared::Closes => replace(cell, DraftState::Closed),
+        Prepared::Opens(draft) => replace(cell, DraftState::Live(draft)),
+        Prepared::Changes(change) => apply(cell, change),
+    }
+}
+
+// The cell holds another state from now on.
+fn replace(cell: &mut Cell, state: DraftState)
+    requires { IsState state }
+    ensures { cell.new ≡ record { number = cell.old.number; state = state_of state; live = live_of state } }
+{
+    let slot = cell.slot();
+    cell.take_up(Draft { slot, state });
+}

@@ -1,0 +1,230 @@
+-- A draft with the carried buffers is one, and stands for the revealed layer.
+use Rattle.std.proofs.Common.{◌≡◌, ℕ, ◌<◌, Bool, true, false, if◌then◌else◌, List, length, Option, Some, None, ◌∙◌, sym, refl, ap, subst, arith, ℤ, pos, negsuc, ◌+ℤ◌, ◌-ℤ◌, ◌≤ℤ◌, unsigned_abs}
+use Rattle.std.proofs.lemmas.Int.{ints}
+use Rattle.lw_region.specs.Rectangle.{Rectangle}
+use Rattle.lw_region.specs.Bands.{covers}
+use Rattle.lw_planes.specs.Bitmap.{Bitmap, bitmap, pen_at}
+use Rattle.lw_planes.specs.Sizes.{AreSizes}
+use Rattle.lw_planes.proofs.BitmapLaws.{bitmap_same, pen_at_bitmap}
+use Rattle.lw_calls.specs.declared.make.Kind.{Kind}
+use Rattle.lw_calls.specs.declared.make.Kind.TheVariants.{Simple, Smart, SuperBitmap}
+use Rattle.lw_calls.specs.Kinds.{is_super}
+use Rattle.lw_cliprects.specs.Parts.{hidden_of}
+use Rattle.lw_machine.specs.Layer.{Layer}
+use Rattle.lw_machine.specs.Kept.{is_kept, holds_at}
+use Rattle.lw_machine.specs.Reveal.{Across, revealed, resized, with_revealed, counts_as_kept}
+use Rattle.lw_machine.specs.Reveal as reveal
+use Rattle.lw_layer.specs.View.{LiveView, keeps, kept_pen}
+use Rattle.lw_layer.specs.Pieces.{columns, lines, buffer_rectangle, buffer_at, column_in, line_in, inner_of, damage_table, IsDamageOf}
+use Rattle.lw_layer.specs.Drafts.{IsLiveDraft, IsScrolled, IsRest, layout, buffers_of, pen_from, live_view}
+use Rattle.lw_layer.specs.New.{kept_hidden}
+use Rattle.lw_layer.specs.declared.draft.LiveDraft.{LiveDraft}
+use Rattle.lw_layer.proofs.ViewLaws.{has_place, both_true}
+use Rattle.lw_layer.proofs.KeptLaws.{keeps_found, keeps_missing, within_low}
+use Rattle.lw_reveal.specs.declared.change.Change.{Change}
+use Rattle.lw_reveal.specs.Changed.{across_to, revealed_to}
+use Rattle.lw_reveal.specs.Handing.{own_whole}
+use Rattle.lw_reveal.specs.Changes.{pen_or_zero, layer_place}
+use Rattle.lw_reveal.proofs.RevealLaws.{revealed_super, revealed_plain}
+use Rattle.lw_reveal.proofs.GainedCounts.{counts_kept}
+use Rattle.lw_reveal.proofs.AppliedLaws.{changed_draft, IsMade, plain_size, super_size, super_keeps, made_buffers, rectangle_carried}
+
+-- the live layer with these bounds, visible rectangles and layer
+abbrev seen_as : LiveDraft → Change → Layer → LiveView
+seen_as d k l = record { bounds = k.bounds; visible = k.parts.visible; active = false; layer = l }
+
+abbrev over : LiveDraft → Change → Across
+over d k = across_to (live_view d) k.bounds k.parts.visible
+
+-- what is carried, of a layer that isn't a super-bitmap layer
+abbrev plain_layer : LiveDraft → Change → Layer
+plain_layer d k = with_revealed (over d k) (live_view d).layer (resized (over d k) (live_view d).layer)
+
+-- the damage is that of the revealed layer, by kind
+plain_damage : (d : LiveDraft) (k : Change) → is_super d.kind ≡ false → IsMade d k
+    → IsDamageOf (seen_as d k (plain_layer d k)) k.damage
+plain_damage d k plain made =
+    let P : Layer → Type 0 = λ l. IsDamageOf (seen_as d k l) k.damage in
+    subst P (revealed_plain (over d k) (live_view d).layer plain) made.revealed
+
+super_damage : (d : LiveDraft) (k : Change) → is_super d.kind ≡ true → IsMade d k
+    → IsDamageOf (seen_as d k (live_view d).layer) k.damage
+super_damage d k super made =
+    let P : Layer → Type 0 = λ l. IsDamageOf (seen_as d k l) k.damage in
+    subst P (revealed_super (over d k) (live_view d).layer super) made.revealed
+
+-- which pixels are kept, by kind
+plain_kept : (d : LiveDraft) (k : Change) (x y : ℕ) → is_super d.kind ≡ false → IsLiveDraft d
+    → keeps (seen_as d k (plain_layer d k)) x y ≡ keeps (live_view (changed_draft d k)) x y
+unfolding keeps is_kept
+plain_kept d k x y plain ok = let size = plain_size d k plain ok in rw (size.0, size.1) refl
+
+super_kept : (d : LiveDraft) (k : Change) (x y : ℕ) → is_super d.kind ≡ true
+    → keeps (seen_as d k (live_view d).layer) x y ≡ keeps (live_view (changed_draft d k)) x y
+unfolding keeps is_kept
+super_kept d k x y super = let size = super_size d k super in rw (size.0, size.1) refl
+
+holds_same : (f g : ℕ → ℕ → Bool) (x y : ℤ) → ((i j : ℕ) → f i j ≡ g i j) → holds_at f x y ≡ holds_at g x y
+holds_same f g (pos x) (pos y) same = same x y
+holds_same f g (pos x) (negsuc y) same = refl
+holds_same f g (negsuc x) y same = refl
+
+-- the size of the bits, by kind
+sizes_by : (d : LiveDraft) (k : Change) (t : Bool) → is_super d.kind ≡ t → IsLiveDraft d → IsMade d k
+    → AreSizes (layout (changed_draft d k)).width (layout (changed_draft d k)).height d.depth
+sizes_by d k true super ok made = let size = super_size d k super in rw (size.0, size.1) ok.sizes
+sizes_by d k false plain ok made = let size = plain_size d k plain ok in rw (size.0, size.1) made.size.sizes
+
+scrolled_by : (d : LiveDraft) (k : Change) (t : Bool) → is_super d.kind ≡ t → IsLiveDraft d → IsMade d k
+    → IsScrolled (layout (changed_draft d k))
+scrolled_by d k true super ok made =
+    let size = super_size d k super in
+    record {
+      left = ok.scrolled.left;
+      upper = ok.scrolled.upper;
+      right = omega (arith, size.0, made.size.right super);
+      lower = omega (arith, size.1, made.size.lower super);
+    }
+scrolled_by d k false plain ok made =
+    let size = plain_size d k plain ok in
+    record {
+      left = ok.scrolled.left;
+      upper = ok.scrolled.upper;
+      right = omega (arith, size.0, ok.scrolled.left plain);
+      lower = omega (arith, size.1, ok.scrolled.upper plain);
+    }
+
+inner_by : (d : LiveDraft) (k : Change) (t : Bool) → is_super d.kind ≡ t → IsLiveDraft d → IsMade d k
+    → k.damage.inner ≡ inner_of (is_super d.kind) (layout (changed_draft d k)).width (layout (changed_draft d k)).height
+inner_by d k true super ok made = let size = super_size d k super in rw (size.0, size.1) (super_damage d k super made).inner
+inner_by d k false plain ok made = let size = plain_size d k plain ok in rw (size.0, size.1) (plain_damage d k plain made).inner
+
+damaged_by : (d : LiveDraft) (k : Change) (t : Bool) → is_super d.kind ≡ t → IsLiveDraft d → IsMade d k → (x y : ℤ)
+    → covers k.damage.rects x y ≡ true → holds_at (λ i j. keeps (live_view (changed_draft d k)) i j) x y ≡ true
+damaged_by d k true super ok made x y has = sym (holds_same _ _ x y (λ i j. super_kept d k i j super)) ∙ (super_damage d k super made).kept x y has
+damaged_by d k false plain ok made x y has = sym (holds_same _ _ x y (λ i j. plain_kept d k i j plain ok)) ∙ (plain_damage d k plain made).kept x y has
+
+rest_changed : (kind : Kind) (former covered many : ℕ) (d : LiveDraft) (hidden : List Rectangle)
+    → IsRest kind former covered d.superbits → many ≡ length (kept_hidden kind hidden)
+    → IsRest kind (length hidden) many (own_whole kind d)
+rest_changed Simple former covered many d hidden rest is = (is, rest.1)
+rest_changed Smart former covered many d hidden rest is = (is, rest.1)
+rest_changed SuperBitmap former covered many d hidden rest is = (is, (live_view d).layer.bits, refl)
+
+-- The draft with the carried buffers is one.
+pub changed_sound : (d : LiveDraft) (k : Change) → IsLiveDraft d → IsMade d k → IsLiveDraft (changed_draft d k)
+changed_sound d k ok made = record {
+  bounds = made.cut;
+  scroll_x = ok.scroll_x;
+  scroll_y = ok.scroll_y;
+  sizes = sizes_by d k (is_super d.kind) refl ok made;
+  scrolled = scrolled_by d k (is_super d.kind) refl ok made;
+  mode = ok.mode;
+  shown = made.shown;
+  rest = rest_changed d.kind _ _ _ d (hidden_of k.bounds k.parts.visible) ok.rest made.hidden;
+  buffers = made_buffers d k ok made;
+  inner = inner_by d k (is_super d.kind) refl ok made;
+  damaged = damaged_by d k (is_super d.kind) refl ok made;
+}
+
+-- where a pixel lies in its buffer_rectangle, one axis at a time
+place_in : (edge low : ℤ) (scroll x : ℕ) → edge ≤ℤ ((low +ℤ pos x) -ℤ pos scroll)
+    → layer_place edge low scroll (unsigned_abs (((low +ℤ pos x) -ℤ pos scroll) -ℤ edge)) ≡ pos x
+place_in edge low scroll x from = omega (arith, ints)
+
+-- the pen of one pixel of the changed draft
+found_pen : (d : LiveDraft) (k : Change) (x y : ℕ) (found : Option ℕ) → IsLiveDraft d → IsMade d k
+    → x < (layout (changed_draft d k)).width → y < (layout (changed_draft d k)).height
+    → buffer_at (layout (changed_draft d k)) x y ≡ found
+    → pen_from (buffers_of (changed_draft d k)) (layout (changed_draft d k)) found x y ≡ (if keeps (live_view (changed_draft d k)) x y then pen_or_zero (kept_pen (live_view d) (pos x) (pos y)) else 0)
+found_pen d k x y None ok made left low is =
+    let r = changed_draft d k in
+    let off : keeps (live_view r) x y ≡ false = keeps_missing r x y d.kind refl (changed_sound d k ok made) made.parts.ordered made.parts.divided left low is in
+    rw off refl
+found_pen d k x y (Some n) ok made left low is =
+    let r = changed_draft d k in
+    let l = layout r in
+    let c = live_view d in
+    let kept : keeps (live_view r) x y ≡ true = keeps_found r x y n is in
+    let place = has_place l x y n is in
+    let p : Rectangle = buffer_rectangle l n in
+    let halves = both_true _ _ place.has in
+    let F : ℕ → ℕ → ℕ = λ i j. pen_or_zero (kept_pen c (layer_place p.min_x k.bounds.min_x c.layer.scroll_x i) (layer_place p.min_y k.bounds.min_y c.layer.scroll_y j)) in
+    let at_x : layer_place p.min_x k.bounds.min_x l.scroll_x (column_in l n x) ≡ pos x = place_in p.min_x k.bounds.min_x l.scroll_x x (within_low _ _ _ halves.0) in
+    let at_y : layer_place p.min_y k.bounds.min_y l.scroll_y (line_in l n y) ≡ pos y = place_in p.min_y k.bounds.min_y l.scroll_y y (within_low _ _ _ halves.1) in
+    rw kept
+    (ap (λ b. pen_at b (column_in l n x) (line_in l n y)) (rectangle_carried d k n made place.there) ∙
+    (pen_at_bitmap (columns p) (lines p) d.depth F (column_in l n x) (line_in l n y) place.column place.line ∙
+    (ap (λ q. pen_or_zero (kept_pen c q (layer_place p.min_y k.bounds.min_y l.scroll_y (line_in l n y)))) at_x ∙
+    ap (λ q. pen_or_zero (kept_pen c (pos x) q)) at_y)))
+
+-- the pen of a pixel by whether it was kept
+pen_chosen : (t : Bool) (p : ℕ) → pen_or_zero (if t then Some p else None) ≡ (if t then p else 0)
+pen_chosen true p = refl
+pen_chosen false p = refl
+
+-- the pixels that are kept afterwards, by their definition
+reveal_kept : (d : LiveDraft) (k : Change) (x y : ℕ) → is_super d.kind ≡ false → IsLiveDraft d
+    → reveal.keeps (over d k) (resized (over d k) (live_view d).layer) x y ≡ keeps (live_view (changed_draft d k)) x y
+unfolding keeps is_kept
+reveal_kept d k x y plain ok = let size = plain_size d k plain ok in rw (size.0, size.1) refl
+
+-- the bits, by kind
+plain_bits : (d : LiveDraft) (k : Change) → is_super d.kind ≡ false → IsLiveDraft d → IsMade d k
+    → (live_view (changed_draft d k)).layer.bits ≡ (plain_layer d k).bits
+plain_bits d k plain ok made =
+    let r = changed_draft d k in
+    let l = layout r in
+    let c = live_view d in
+    let size = plain_size d k plain ok in
+    let F : ℕ → ℕ → ℕ = λ x y. pen_from (buffers_of r) l (buffer_at l x y) x y in
+    let G : ℕ → ℕ → ℕ = λ x y. if reveal.keeps (over d k) (resized (over d k) c.layer) x y then (if counts_as_kept (over d k) c.layer x y then pen_at c.layer.bits x y else 0) else 0 in
+    bitmap_same l.width l.height d.depth F G
+    (λ x y left low.
+    let counted = counts_kept c k.bounds k.parts.visible x y refl in
+    let kept : reveal.keeps (over d k) (resized (over d k) c.layer) x y ≡ keeps (live_view r) x y = reveal_kept d k x y plain ok in
+    rw (kept, counted) (found_pen d k x y (buffer_at l x y) ok made left low refl ∙ ap (λ p. if keeps (live_view r) x y then p else 0) (pen_chosen (keeps c x y) (pen_at c.layer.bits x y)))) ∙
+    (ap (λ w. bitmap w l.height d.depth G) size.0 ∙ ap (λ h. bitmap (columns k.bounds) h d.depth G) size.1)
+
+super_bits : (d : LiveDraft) (k : Change) → is_super d.kind ≡ true → IsLiveDraft d → IsMade d k
+    → (live_view (changed_draft d k)).layer.bits ≡ (live_view d).layer.bits
+super_bits d k super ok made =
+    let r = changed_draft d k in
+    let l = layout r in
+    let c = live_view d in
+    let size = super_size d k super in
+    let F : ℕ → ℕ → ℕ = λ x y. pen_from (buffers_of r) l (buffer_at l x y) x y in
+    let G : ℕ → ℕ → ℕ = λ x y. pen_from (buffers_of d) (layout d) (buffer_at (layout d) x y) x y in
+    bitmap_same l.width l.height d.depth F G
+    (λ x y left low.
+    let left_in : x < (layout d).width = omega (arith, size.0) in
+    let low_in : y < (layout d).height = omega (arith, size.1) in
+    let now : keeps (live_view r) x y ≡ true = super_keeps r x y d.kind refl super left low in
+    let before : keeps c x y ≡ true = super_keeps d x y d.kind refl super left_in low_in in
+    found_pen d k x y (buffer_at l x y) ok made left low refl ∙ (rw (now, before) (pen_at_bitmap (layout d).width (layout d).height d.depth G x y left_in low_in))) ∙
+    (ap (λ w. bitmap w l.height d.depth G) size.0 ∙ ap (λ h. bitmap (layout d).width h d.depth G) size.1)
+
+-- the view from its bits, its damage and whether an update is on
+abbrev seen : LiveDraft → Change → Bitmap → List (List Bool) → Bool → LiveView
+seen d k b t u = record (live_view (changed_draft d k)) { layer = record (live_view (changed_draft d k)).layer { bits = b; damage = t; updating = u } }
+
+view_by : (d : LiveDraft) (k : Change) (t : Bool) → is_super d.kind ≡ t → IsLiveDraft d → IsMade d k
+    → live_view (changed_draft d k) ≡ revealed_to k.bounds k.parts.visible (live_view d)
+view_by d k true super ok made =
+    let c = live_view d in
+    let damage = super_damage d k super made in
+    ap (λ b. seen d k b (damage_table b k.damage.rects) k.damage.updating) (super_bits d k super ok made) ∙
+    (ap (λ t. seen d k c.layer.bits t k.damage.updating) (sym damage.pixels) ∙
+    (ap (λ u. seen d k c.layer.bits c.layer.damage u) damage.updating ∙ ap (λ l. seen_as d k l) (sym (revealed_super (over d k) c.layer super))))
+view_by d k false plain ok made =
+    let c = live_view d in
+    let damage = plain_damage d k plain made in
+    let l = plain_layer d k in
+    ap (λ b. seen d k b (damage_table b k.damage.rects) k.damage.updating) (plain_bits d k plain ok made) ∙
+    (ap (λ t. seen d k l.bits t k.damage.updating) (sym damage.pixels) ∙
+    (ap (λ u. seen d k l.bits l.damage u) damage.updating ∙ ap (λ q. seen_as d k q) (sym (revealed_plain (over d k) c.layer plain))))
+
+-- It stands for the revealed layer.
+pub changed_view : (d : LiveDraft) (k : Change) → IsLiveDraft d → IsMade d k
+    → live_view (changed_draft d k) ≡ revealed_to k.bounds k.parts.visible (live_view d)
+changed_view d k ok made = view_by d k (is_super d.kind) refl ok made

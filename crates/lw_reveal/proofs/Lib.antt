@@ -1,0 +1,14 @@
+pub mod RevealLaws
+pub mod HandingLaws
+pub mod CarriedLaws
+pub mod AppliedLaws
+pub mod AppliedView
+pub mod ChangedLaws
+pub mod CarryingLaws
+pub mod PairingLaws
+pub mod PreparedLaws
+pub mod GainedCounts
+pub mod GainedMoves
+pub mod GainedLaws
+pub mod GainedView
+pub mod GainedSteps

@@ -1,0 +1,31 @@
+use Rattle.std.proofs.lemmas.Result.{IfOk-weaker}
+use Rattle.lw_layer.specs.Pieces.{IsDamageOf}
+use Rattle.lw_reveal.specs.Changed.{revealed_to}
+use Rattle.lw_reveal.specs.Gained.{IsDamageWith}
+use Rattle.lw_reveal.proofs.GainedView.{damage_gained}
+use Rattle.lw_reveal.proofs.GainedSteps.{IsRead, made_gained}
+use Rattle.lw_reveal.proofs.damage.damage_after.Goals as goal
+
+pub returns : goal.returns
+returns c =
+    let layer = c.args.cell.now.live in
+    let bounds = c.args.bounds.now in
+    let visible = c.args.visible.now in
+    let look = c.look_of-look.result in
+    let sees = c.look_of-look.ensures.look in
+    let former = c.damage.result.now in
+    let inner = c.inner_rectangle-inner.result in
+    let read : IsRead layer visible former look.kind look.bounds c.visible.result.now c.rects.result.now c.region.result.now look.updating = record {
+      kind_is = sees.kind;
+      bounds_are = sees.bounds;
+      shown_is = c.visible.ensures.value;
+      new_is = c.rects.ensures.value;
+      damaged_is = c.region.ensures.value;
+      updating_is = sees.updating;
+    } in
+    IfOk-weaker c.damage_with.result (λ d. IsDamageWith inner c.in_ok-due.due look.updating d) (λ d. IsDamageOf (revealed_to bounds visible layer) d)
+    (λ d made.
+    damage_gained layer bounds visible former d c.look_of-look.ensures.sound c.in_ok-kept.ensures.ordered c.requires.may.inside c.damage.ensures c.region.ensures.inside
+    (made_gained layer bounds visible former d look.kind look.bounds c.visible.result.now c.rects.result.now c.region.result.now _ _ c.in_ok-due.due inner look.updating
+    read c.in_ok-was.ensures.kept c.in_ok-kept.ensures.kept c.in_ok-due.ensures c.inner_rectangle-inner.ensures made))
+    c.damage_with.ensures

@@ -1,0 +1,6 @@
+pub mod Changed
+pub mod Changes
+pub mod Handing
+pub mod Gained
+pub mod Carrying
+pub mod Pairing

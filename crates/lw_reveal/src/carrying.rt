@@ -1,0 +1,207 @@
+// Carrying the pens that a layer keeps into new buffers, row by row.
+
+ghost use Rattle.std.specs.Prelude.{◌≡◌, ◌==◌, ◌<◌, ◌≤◌, true, false, ◌&&◌, length, pos, negsuc, ◌+ℤ◌, ◌-ℤ◌, ◌≤ℤ◌, IfOk};
+ghost use Rattle.lw_planes.specs.Bitmap.{row_bytes};
+ghost use Rattle.lw_planes.specs.Sizes.{AreSizes};
+ghost use Rattle.lw_layer.specs.View as view;
+ghost use Rattle.lw_layer.specs.Pieces.{columns, lines};
+ghost use Rattle.lw_reveal.specs.Changes.{carried};
+ghost use Rattle.lw_reveal.specs.Carrying.{painted, bits_in, IsPlace, HaveRoom, AreNew, AreBothNew};
+
+use crate::pairing::Pairing;
+use lw_layer::Cell;
+use lw_planes::Planes;
+use lw_region::Rect;
+use std::alloc::{AllocError, Global};
+
+// Where a layer is to lie, and the pixel of its bits that its top left corner shows.
+#[derive(Clone, Copy)]
+pub(crate) struct Place {
+    pub(crate) bounds: Rect,
+    pub(crate) scroll_x: i32,
+    pub(crate) scroll_y: i32,
+}
+
+// The bytes of the longest row of one plane.
+const LONGEST: usize = 256;
+
+// The buffers of all rectangles of which so many are visible, and behind them those of the rest.
+pub(crate) fn all_buffers(
+    alloc: Global,
+    cell: &Cell,
+    place: &Place,
+    pairing: &Pairing,
+    shown: usize,
+) -> Result<(Vec<Planes>, Vec<Planes>), AllocError>
+    requires live { cell.now.state ≡ view.Live }
+    requires place { IsPlace cell.now.live place.now }
+    requires many { length pairing.now.given.items ≡ length pairing.now.news.items }
+    requires shown { shown ≤ length pairing.now.news.items }
+    requires room { HaveRoom cell.now.live.layer.bits.depth pairing.now.news.items 256 }
+    ensures { IfOk result (λ b. AreBothNew cell.now.live place.now.bounds pairing.now.news.items pairing.now.given.items
+        shown b.0.items b.1.items) }
+{
+    let mut kept = [0; LONGEST];
+    let rects = &pairing.news[..shown];
+    let rest = &pairing.news[shown..];
+    let given = &pairing.given[..shown];
+    let rest_given = &pairing.given[shown..];
+    let buffers = new_buffers(alloc, cell, place, rects, given, &mut kept)?;
+    let covered = new_buffers(alloc, cell, place, rest, rest_given, &mut kept)?;
+    Ok((buffers, covered))
+}
+
+// A buffer for each of the rectangles with the pens that the layer keeps there, and a bitmap of one pixel where a buffer is
+// given.
+fn new_buffers(
+    alloc: Global,
+    cell: &Cell,
+    place: &Place,
+    rects: &[Rect],
+    given: &[bool],
+    kept: &mut [u8],
+) -> Result<Vec<Planes>, AllocError>
+    requires live { cell.now.state ≡ view.Live }
+    requires place { IsPlace cell.now.live place.now }
+    requires many { length given.now ≡ length rects.now }
+    requires room { HaveRoom cell.now.live.layer.bits.depth rects.now (length kept.old) }
+    ensures { IfOk result (λ buffers. AreNew cell.now.live place.now.bounds rects.now given.now buffers.items) }
+{
+    let mut buffers = Vec::with_capacity(alloc, rects.len())?;
+    for index in 0..rects.len() {
+        let buffer = new_buffer(alloc, cell, place, &rects[index], given[index], kept)?;
+        buffers.push(buffer)?;
+    }
+    Ok(buffers)
+}
+
+// One of them.
+fn new_buffer(
+    alloc: Global,
+    cell: &Cell,
+    place: &Place,
+    rect: &Rect,
+    given: bool,
+    kept: &mut [u8],
+) -> Result<Planes, AllocError>
+    requires live { cell.now.state ≡ view.Live }
+    requires place { IsPlace cell.now.live place.now }
+    requires sizes { AreSizes (columns rect.now) (lines rect.now) cell.now.live.layer.bits.depth }
+    requires room { row_bytes (columns rect.now) ≤ length kept.old }
+    ensures { IfOk result (λ planes. given ≡ false → planes ≡ carried cell.now.live place.now.bounds rect.now) }
+{
+    if given {
+        return Planes::new(alloc, 1, 1, 1);
+    }
+    carry(alloc, cell, place, rect, kept)
+}
+
+// A buffer of the rectangle's size with the pens that the layer keeps there.
+fn carry(
+    alloc: Global,
+    cell: &Cell,
+    place: &Place,
+    rect: &Rect,
+    kept: &mut [u8],
+) -> Result<Planes, AllocError>
+    requires live { cell.now.state ≡ view.Live }
+    requires place { IsPlace cell.now.live place.now }
+    requires sizes { AreSizes (columns rect.now) (lines rect.now) cell.now.live.layer.bits.depth }
+    requires room { row_bytes (columns rect.now) ≤ length kept.old }
+    ensures { IfOk result (λ planes. planes ≡ carried cell.now.live place.now.bounds rect.now) }
+{
+    let wide = extent(rect.min_x(), rect.max_x());
+    let high = extent(rect.min_y(), rect.max_y());
+    let mut planes = Planes::new(alloc, wide, high, cell.depth())?;
+    copy_planes(cell, place, rect, &mut planes, kept);
+    Ok(planes)
+}
+
+// Copies the pens that the layer keeps in the rectangle.
+fn copy_planes(cell: &Cell, place: &Place, rect: &Rect, planes: &mut Planes, kept: &mut [u8])
+    requires place { IsPlace cell.now.live place.now }
+    requires depth { planes.old.depth ≡ cell.now.live.layer.bits.depth }
+    requires room { row_bytes planes.old.width ≤ length kept.old }
+    ensures { planes.new ≡ painted (λ p j. true) (bits_in cell.now.live place.now.bounds rect.now) planes.old }
+{
+    for plane in 0..planes.depth() {
+        copy_plane(cell, place, rect, plane, planes, kept);
+    }
+}
+
+// Copies one plane of them.
+fn copy_plane(
+    cell: &Cell,
+    place: &Place,
+    rect: &Rect,
+    plane: u32,
+    planes: &mut Planes,
+    kept: &mut [u8],
+)
+    requires place { IsPlace cell.now.live place.now }
+    requires plane { plane < planes.old.depth }
+    requires depth { planes.old.depth ≡ cell.now.live.layer.bits.depth }
+    requires room { row_bytes planes.old.width ≤ length kept.old }
+    ensures { planes.new ≡ painted (λ p j. p == plane) (bits_in cell.now.live place.now.bounds rect.now) planes.old }
+{
+    for line in 0..planes.height() {
+        copy_line(cell, place, rect, plane, line, planes, kept);
+    }
+}
+
+// Copies one plane of one line of them.
+fn copy_line(
+    cell: &Cell,
+    place: &Place,
+    rect: &Rect,
+    plane: u32,
+    line: u32,
+    planes: &mut Planes,
+    kept: &mut [u8],
+)
+    requires place { IsPlace cell.now.live place.now }
+    requires plane { plane < planes.old.depth }
+    requires depth { planes.old.depth ≡ cell.now.live.layer.bits.depth }
+    requires line { line < planes.old.height }
+    requires room { row_bytes planes.old.width ≤ length kept.old }
+    ensures { planes.new ≡ painted (λ p j. p == plane && j == line) (bits_in cell.now.live place.now.bounds rect.now) planes.old }
+{
+    // Reading this tells the proof that the bitmap has sizes for planes.
+    let _ = planes.height();
+    let x = layer_place(rect.min_x(), place.bounds.min_x(), place.scroll_x);
+    let y = layer_place(rect.min_y(), place.bounds.min_y(), place.scroll_y);
+    let row = planes.row_mut(plane, line);
+    let mask = &mut kept[..row.len()];
+    cell.copy_row(plane, x, row_at(y, line), row, mask);
+}
+
+// The row so many rows below another one.
+#[tactic(auto, using(std::proofs::lemmas::Int::ints))]
+fn row_at(y: i32, line: u32) -> i32
+    requires upper { negsuc 199999 ≤ℤ y }
+    requires lower { y ≤ℤ pos 200000 }
+    requires near { line ≤ 2048 }
+    ensures { result ≡ y +ℤ pos line }
+{
+    y + line as i32
+}
+
+// How far it is from the least place to the greatest, both inclusive.
+fn extent(least: i16, greatest: i16) -> u32
+    requires { least ≤ℤ greatest }
+    ensures { pos result ≡ (greatest +ℤ pos 1) -ℤ least }
+{
+    (i32::from(greatest) + 1 - i32::from(least)) as u32
+}
+
+// Which column or row of the layer stands at an edge, where the bounds' edge shows the one at the scroll.
+#[tactic(auto, using(std::proofs::lemmas::Int::ints))]
+fn layer_place(edge: i16, low: i16, scroll: i32) -> i32
+    requires from { pos 0 ≤ℤ scroll }
+    requires upto { scroll ≤ℤ pos 2048 }
+    ensures place { result ≡ (edge -ℤ low) +ℤ scroll }
+    ensures upper { negsuc 99999 ≤ℤ result }
+    ensures lower { result ≤ℤ pos 100000 }
+{
+    i32::from(edge) - i32::from(low) + scroll
+}

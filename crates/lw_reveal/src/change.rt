@@ -1,0 +1,150 @@
+// What an arrangement makes of a layer that stays live, in two steps: making it ready takes all the memory, and applying it
+// takes none.
+
+ghost use Rattle.std.specs.Prelude.{◌≡◌, IfOk};
+ghost use Rattle.lw_layer.specs.View as view;
+ghost use Rattle.lw_layer.specs.View.{with_live};
+ghost use Rattle.lw_layer.specs.Drafts.{IsLiveDraft, IsState, state_of, live_of, live_view};
+ghost use Rattle.lw_reveal.specs.Changed.{revealed_to, MayHave};
+ghost use Rattle.lw_reveal.specs.Changes.{IsChange};
+ghost use Rattle.lw_reveal.specs.Handing.{own_whole};
+
+use crate::carrying::{Place, all_buffers};
+use crate::damage::{damage_after, look_of};
+use crate::handing::hand_all;
+use crate::pairing::find_pairs;
+use lw_calls::Kind;
+use lw_cliprects::Parts;
+use lw_damage::Damage;
+use lw_layer::{Cell, Draft, DraftState, LiveDraft};
+use lw_planes::Planes;
+use lw_region::{Rect, Region};
+use lw_super::write_back;
+use std::alloc::{AllocError, Global};
+
+/// What a live layer is to become once its bounds, or what is visible of it, are others (this project's own).
+#[derive(Debug, Drop)]
+pub struct Change {
+    /// The new bounds on the screen.
+    pub bounds: Rect,
+    /// The new bounds, cut into visible and hidden rectangles.
+    pub parts: Parts,
+    /// The damage of the revealed layer.
+    pub damage: Damage,
+    /// For each new visible rectangle a buffer of its size, or a bitmap of one pixel where a former buffer is handed over.
+    pub buffers: Vec<Planes>,
+    /// The same for each new hidden rectangle of a smart layer; none for other layers.
+    pub covered: Vec<Planes>,
+    /// By the number of each former buffer beside an own bitmap, the visible rectangles' first, the number of the new buffer in
+    /// whose place it is handed over, if it is.
+    pub handed: Vec<Option<usize>>,
+}
+
+/// Makes ready what the live layer becomes once it has these bounds and these visible pixels. The cell stays as it is.
+pub fn prepare(
+    alloc: Global,
+    cell: &Cell,
+    bounds: &Rect,
+    visible: &Region,
+) -> Result<Change, AllocError>
+    requires live { cell.now.state ≡ view.Live }
+    requires may { MayHave cell.now.live bounds.now visible.now }
+    ensures change { IfOk result (λ k. IsChange cell.now.live k) }
+    ensures bounds { IfOk result (λ k. k.bounds ≡ bounds.now) }
+    ensures visible { IfOk result (λ k. k.parts.visible ≡ visible.now) }
+{
+    // Reading this tells the proof that the bounds are ordered.
+    let _ = bounds.min_x();
+    let look = look_of(cell);
+    let parts = Parts::cut(alloc, bounds, visible)?;
+    let damage = damage_after(alloc, cell, bounds, visible)?;
+    let pairing = find_pairs(alloc, cell, &look, bounds, &parts)?;
+    let _ = parts.hidden();
+    let shown = parts.visible().len();
+    let place = Place {
+        bounds: *bounds,
+        scroll_x: look.scroll_x,
+        scroll_y: look.scroll_y,
+    };
+    let (buffers, covered) = all_buffers(alloc, cell, &place, &pairing, shown)?;
+    Ok(Change {
+        bounds: place.bounds,
+        parts,
+        damage,
+        buffers,
+        covered,
+        handed: pairing.handed,
+    })
+}
+
+/// Applies a change to the live layer for which it was made: the layer is then revealed in its new bounds. No memory is taken.
+pub fn apply(cell: &mut Cell, change: Change)
+    requires live { cell.old.state ≡ view.Live }
+    requires change { IsChange cell.old.live change }
+    ensures { cell.new ≡ with_live (revealed_to change.bounds change.parts.visible) cell.old }
+{
+    let slot = cell.slot();
+    let state = DraftState::Closed;
+    let former = cell.take_up(Draft { slot, state });
+    let state = changed_state(former.state, change);
+    cell.take_up(Draft { slot, state });
+}
+
+// What a slot with a live layer holds once the change is applied.
+fn changed_state(former: DraftState, change: Change) -> DraftState
+    requires sound { IsState former }
+    requires live { state_of former ≡ view.Live }
+    requires change { IsChange (live_of former) change }
+    ensures sound { IsState result }
+    ensures live { state_of result ≡ view.Live }
+    ensures layer { live_of result ≡ revealed_to change.bounds change.parts.visible (live_of former) }
+{
+    match former {
+        DraftState::Live(live) => DraftState::Live(changed(live, change)),
+        _ => unreachable!(),
+    }
+}
+
+// The live layer once the change is applied.
+fn changed(live: LiveDraft, change: Change) -> LiveDraft
+    requires sound { IsLiveDraft live }
+    requires change { IsChange (live_view live) change }
+    ensures sound { IsLiveDraft result }
+    ensures layer { live_view result ≡ revealed_to change.bounds change.parts.visible (live_view live) }
+{
+    let mut live = live;
+    let mut change = change;
+    // Reading these tells the proof what holds of the bounds and of their parts.
+    let _ = live.bounds.min_x();
+    let _ = live.parts.visible();
+    let _ = live.parts.hidden();
+    let _ = change.bounds.min_x();
+    let _ = change.parts.visible();
+    let _ = change.parts.hidden();
+    write_whole(&mut live);
+    hand_all(
+        &mut live.buffers,
+        &mut live.covered,
+        &change.handed,
+        &mut change.buffers,
+        &mut change.covered,
+    );
+    live.bounds = change.bounds;
+    live.parts = change.parts;
+    live.damage = change.damage;
+    live.buffers = change.buffers;
+    live.covered = change.covered;
+    live
+}
+
+// A super-bitmap layer's own bitmap gets all pens of the layer.
+fn write_whole(live: &mut LiveDraft)
+    requires { IsLiveDraft live.old }
+    ensures { live.new ≡ record live.old { superbits = own_whole live.old.kind live.old } }
+{
+    match live.kind {
+        Kind::Simple => {}
+        Kind::Smart => {}
+        Kind::SuperBitmap => write_back(live),
+    }
+}

@@ -1,0 +1,110 @@
+-- Which layer of a list is the first at a place, as the list grows at its end, and around one of its entries.
+use Rattle.std.proofs.Common.{◌≡◌, ℕ, ◌+◌, ◌<◌, ◌==◌, Bool, true, false, not, ◌&&◌, ◌||◌, cond, List, [], ◌∷◌, ◌++◌, length, take, drop, get_or, ℤ, Option, Some, None, refl, sym, ap, ◌∙◌}
+use Rattle.std.specs.List.{find}
+use Rattle.std.specs.Option.{option_or, is_some}
+use Rattle.std.proofs.lemmas.Bool.{false≢true, eq-eqb, ne_eqb, and_right}
+use Rattle.std.proofs.lemmas.List.{take-append-drop, drop_more}
+use Rattle.std.proofs.lemmas.List.Folds.{find-append}
+use Rattle.lw_region.specs.Rectangle.{Rectangle}
+use Rattle.lw_machine.specs.Desk.{is_the}
+use Rattle.lw_machine.specs.Screen.{bounds_have}
+use Rattle.lw_stack.specs.Stack.{bounds_at, first_at, is_first_at}
+
+-- the slot's bounds have the place
+abbrev pub has_at : List (Option Rectangle) → ℕ → ℤ → ℤ → Bool
+has_at bounds s x y = bounds_have (bounds_at bounds s) x y
+
+-- some layer of the list has the place
+abbrev pub some_at : List (Option Rectangle) → List ℕ → ℤ → ℤ → Bool
+some_at bounds slots x y = is_some (first_at bounds slots x y)
+
+-- the first of a list and one more is the list's, or else the one more, where that has the place
+or_last : (o : Option ℕ) (has : Bool) (slot s : ℕ)
+    → is_the (option_or o (cond has (Some slot) None)) s ≡ (is_the o s || ((has && not (is_some o)) && (slot == s)))
+or_last None true slot s = refl
+or_last None false slot s = refl
+or_last (Some m) has slot s = by_test (m == s) has
+  where
+    by_test : (b has : Bool) → b ≡ (b || ((has && false) && (slot == s)))
+    by_test true has = refl
+    by_test false true = refl
+    by_test false false = refl
+
+some_or_last : (o : Option ℕ) (has : Bool) (slot : ℕ) → is_some (option_or o (cond has (Some slot) None)) ≡ (is_some o || has)
+some_or_last None true slot = refl
+some_or_last None false slot = refl
+some_or_last (Some m) has slot = refl
+
+-- the first layer at a place, of a list, one more and the rest
+first_among : (bounds : List (Option Rectangle)) (slots : List ℕ) (slot : ℕ) (rest : List ℕ) (x y : ℤ)
+    → first_at bounds (slots ++ slot ∷ rest) x y
+    ≡ option_or (first_at bounds slots x y) (cond (has_at bounds slot x y) (Some slot) (first_at bounds rest x y))
+unfolding first_at
+first_among bounds slots slot rest x y = find-append (λ s. has_at bounds s x y) slots (slot ∷ rest)
+
+-- the same with nothing behind it
+first_behind : (bounds : List (Option Rectangle)) (slots : List ℕ) (slot : ℕ) (x y : ℤ)
+    → first_at bounds (slots ++ slot ∷ []) x y
+    ≡ option_or (first_at bounds slots x y) (cond (has_at bounds slot x y) (Some slot) None)
+unfolding first_at
+first_behind bounds slots slot x y = find-append (λ s. has_at bounds s x y) slots (slot ∷ [])
+
+-- with one more layer at the end, each is the first where it was, and the one more where it has the place and none in front has
+pub shown_behind : (bounds : List (Option Rectangle)) (slots : List ℕ) (slot s : ℕ) (x y : ℤ)
+    → is_first_at bounds (slots ++ slot ∷ []) s x y
+    ≡ (is_first_at bounds slots s x y || ((has_at bounds slot x y && not (some_at bounds slots x y)) && (slot == s)))
+shown_behind bounds slots slot s x y =
+    ap (λ o. is_the o s) (first_behind bounds slots slot x y)
+    ∙ or_last (first_at bounds slots x y) (has_at bounds slot x y) slot s
+
+pub some_behind : (bounds : List (Option Rectangle)) (slots : List ℕ) (slot : ℕ) (x y : ℤ)
+    → some_at bounds (slots ++ slot ∷ []) x y ≡ (some_at bounds slots x y || has_at bounds slot x y)
+some_behind bounds slots slot x y =
+    ap is_some (first_behind bounds slots slot x y) ∙ some_or_last (first_at bounds slots x y) (has_at bounds slot x y) slot
+
+-- a layer that doesn't have the place isn't the first of any list there
+not_first : (bounds : List (Option Rectangle)) (slots : List ℕ) (slot : ℕ) (x y : ℤ) → has_at bounds slot x y ≡ false
+    → is_first_at bounds slots slot x y ≡ false
+unfolding first_at
+not_first bounds [] slot x y outside = refl
+not_first bounds (t ∷ ts) slot x y outside =
+    by_test (has_at bounds t x y) refl (not_first bounds ts slot x y outside)
+  where
+    by_test : (b : Bool) → has_at bounds t x y ≡ b → is_the (find (λ s. has_at bounds s x y) ts) slot ≡ false
+        → is_the (cond b (Some t) (find (λ s. has_at bounds s x y) ts)) slot ≡ false
+    by_test true e rest = ne_eqb t slot (λ same. false≢true (sym outside ∙ (ap (λ s. has_at bounds s x y) (sym same) ∙ e)))
+    by_test false e rest = rest
+
+-- a layer that isn't the first of those in front of it is the first where it has the place and none of these has it
+pub first_where_left : (bounds : List (Option Rectangle)) (slots : List ℕ) (slot : ℕ) (rest : List ℕ) (x y : ℤ)
+    → is_first_at bounds slots slot x y ≡ false
+    → is_first_at bounds (slots ++ slot ∷ rest) slot x y ≡ (has_at bounds slot x y && not (some_at bounds slots x y))
+first_where_left bounds slots slot rest x y never =
+    ap (λ o. is_the o slot) (first_among bounds slots slot rest x y)
+    ∙ by_case (first_at bounds slots x y) (has_at bounds slot x y) (first_at bounds rest x y)
+    (not_first bounds rest slot x y) never
+  where
+    by_case : (o : Option ℕ) (has : Bool) (r : Option ℕ) → (has ≡ false → is_the r slot ≡ false) → is_the o slot ≡ false
+        → is_the (option_or o (cond has (Some slot) r)) slot ≡ (has && not (is_some o))
+    by_case None true r other never = eq-eqb slot slot refl
+    by_case None false r other never = other refl
+    by_case (Some m) has r other never = never ∙ sym (and_right has false refl)
+
+-- where no layer in front has the place and this one has it, it is the first
+pub first_found : (bounds : List (Option Rectangle)) (slots : List ℕ) (slot : ℕ) (rest : List ℕ) (x y : ℤ)
+    → first_at bounds slots x y ≡ None → has_at bounds slot x y ≡ true → first_at bounds (slots ++ slot ∷ rest) x y ≡ Some slot
+first_found bounds slots slot rest x y none has =
+    first_among bounds slots slot rest x y
+    ∙ (ap (λ o. option_or o (cond (has_at bounds slot x y) (Some slot) (first_at bounds rest x y))) none
+    ∙ ap (λ b. cond b (Some slot) (first_at bounds rest x y)) has)
+
+-- where no layer in front has the place and this one hasn't it either, none of them has it
+pub none_found : (bounds : List (Option Rectangle)) (slots : List ℕ) (slot : ℕ) (x y : ℤ)
+    → first_at bounds slots x y ≡ None → has_at bounds slot x y ≡ false → first_at bounds (slots ++ slot ∷ []) x y ≡ None
+none_found bounds slots slot x y none has =
+    first_behind bounds slots slot x y
+    ∙ (ap (λ o. option_or o (cond (has_at bounds slot x y) (Some slot) None)) none ∙ ap (λ b. cond b (Some slot) None) has)
+
+-- a list in three parts: what is in front of an entry, the entry, and the rest
+pub around_entry : (slots : List ℕ) (i : ℕ) → i < length slots → slots ≡ take i slots ++ get_or slots i 0 ∷ drop (i + 1) slots
+around_entry slots i below = sym (take-append-drop i slots) ∙ ap (λ rest. take i slots ++ rest) (drop_more slots i 0 below)

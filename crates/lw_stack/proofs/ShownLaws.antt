@@ -1,0 +1,151 @@
+-- The regions that a pass from front to back keeps: what the layers so far cover, and what of each is shown.
+use Rattle.std.proofs.Common.{◌≡◌, ℕ, ◌+◌, ◌<◌, ◌==◌, Bool, true, false, not, ◌&&◌, ◌||◌, List, [], ◌∷◌, ◌++◌, length, take, drop, get_or, set, replicate, ℤ, Option, None, refl, sym, ap, ◌∙◌, ◌⊎◌, inl, inr}
+use Rattle.std.proofs.lemmas.Bool.{eq-eqb, ne_eqb, and_right, cases_eq}
+use Rattle.std.proofs.lemmas.List.{length-replicate, get_or-replicate, get_or_read, get_or-set_same, get_or-set_other}
+use Rattle.lw_region.specs.Rectangle.{Rectangle, has_pixel}
+use Rattle.lw_region.specs.Pixels.{pixels_of, union, difference}
+use Rattle.lw_region.specs.Bands.{bands, covers}
+use Rattle.lw_region.specs.Regions.{rectangle_set}
+use Rattle.lw_region.proofs.SetOps.{combined_lists, covers_one}
+use Rattle.lw_region.proofs.Canonical.{covers_nil}
+use Rattle.lw_machine.specs.Screen.{bounds_have}
+use Rattle.lw_stack.specs.Stack.{bounds_at, first_at, is_first_at, AreShown}
+use Rattle.lw_stack.proofs.FirstLaws.{has_at, some_at, shown_behind, some_behind, first_where_left, around_entry}
+
+and_true : (b : Bool) → (b && true) ≡ b
+and_true true = refl
+and_true false = refl
+
+pub or_false : (b : Bool) → (b || false) ≡ b
+or_false true = refl
+or_false false = refl
+
+-- an empty list has no pixel
+no_pixel : (rects : List Rectangle) (x y : ℤ) → rects ≡ [] → covers rects x y ≡ false
+no_pixel rects x y e = ap (λ rs. covers rs x y) e ∙ covers_nil x y
+
+-- what was covered, and a rectangle
+pub covers_more : (rect : Rectangle) (covered more : List Rectangle)
+    → more ≡ bands (union (pixels_of covered) (rectangle_set rect))
+    → (x y : ℤ) → covers more x y ≡ (covers covered x y || has_pixel rect x y)
+covers_more rect covered more e x y =
+    (combined_lists.unions covered (rect ∷ []) more e).pixels x y ∙ ap (λ b. covers covered x y || b) (covers_one rect x y)
+
+-- the rectangle without what is covered of it
+pub covers_left : (rect : Rectangle) (covered empty whole left : List Rectangle) → empty ≡ []
+    → whole ≡ bands (union (pixels_of empty) (rectangle_set rect))
+    → left ≡ bands (difference (pixels_of whole) (pixels_of covered))
+    → (x y : ℤ) → covers left x y ≡ (has_pixel rect x y && not (covers covered x y))
+covers_left rect covered empty whole left e f g x y =
+    (combined_lists.differences whole covered left g).pixels x y
+    ∙ ap (λ b. b && not (covers covered x y))
+    (covers_more rect empty whole f x y ∙ ap (λ b. b || has_pixel rect x y) (no_pixel empty x y e))
+
+-- without bounds nothing is left
+pub covers_nothing : (bounds : Option Rectangle) (covered left : List Rectangle) → bounds ≡ None → left ≡ []
+    → (x y : ℤ) → covers left x y ≡ (bounds_have bounds x y && not (covers covered x y))
+covers_nothing bounds covered left e f x y = rw (e, f) (covers_nil x y)
+
+-- a slot's set with more pixels, written back among all sets
+pub set_added : (sets : List (List Rectangle)) (slot s : ℕ) (own more made : List Rectangle) → slot < length sets
+    → own ≡ get_or sets slot own → made ≡ bands (union (pixels_of own) (pixels_of more))
+    → (x y : ℤ) (b : Bool) → covers more x y ≡ b
+    → covers (get_or (set sets slot made) s []) x y ≡ (covers (get_or sets s []) x y || (b && (slot == s)))
+set_added sets slot s own more made h read e x y b added =
+    by_case (cases_eq s slot)
+  where
+    by_case : (s ≡ slot) ⊎ (s ≡ slot → ⊥)
+        → covers (get_or (set sets slot made) s []) x y ≡ (covers (get_or sets s []) x y || (b && (slot == s)))
+    by_case (inl same) =
+        let test : (slot == s) ≡ true = eq-eqb slot s (sym same) in
+        let written : get_or (set sets slot made) s [] ≡ made =
+        ap (λ n. get_or (set sets slot made) n []) same ∙ get_or-set_same sets slot made [] h in
+        let former : get_or sets s [] ≡ own = ap (λ n. get_or sets n []) same ∙ sym (get_or_read sets slot own h read []) in
+        ap (λ rects. covers rects x y) written
+        ∙ ((combined_lists.unions own more made e).pixels x y
+        ∙ (ap (λ c. covers own x y || c) (added ∙ sym (ap (λ t. b && t) test ∙ and_true b))
+        ∙ ap (λ rects. covers rects x y || (b && (slot == s))) (sym former)))
+    by_case (inr other) =
+        let test : (slot == s) ≡ false = ne_eqb slot s (λ e. other (sym e)) in
+        ap (λ rects. covers rects x y) (get_or-set_other sets slot s made [] other)
+        ∙ sym (ap (λ c. covers (get_or sets s []) x y || c) (and_right b (slot == s) test)
+        ∙ or_false (covers (get_or sets s []) x y))
+
+-- the layers that were passed cover these pixels, and of each so much is shown
+pub record ArePassed (bounds : List (Option Rectangle)) (slots : List ℕ) (covered : List Rectangle)
+    (sets : List (List Rectangle)) : Type 0 where
+  pub cover : (x y : ℤ) → covers covered x y ≡ some_at bounds slots x y
+  pub shown : AreShown bounds slots sets
+
+-- nothing is covered yet, and nothing is shown
+pub none_passed : (bounds : List (Option Rectangle)) (covered : List Rectangle) (sets : List (List Rectangle))
+    → covered ≡ [] → sets ≡ replicate (length bounds) [] → ArePassed bounds [] covered sets
+unfolding first_at
+none_passed bounds covered sets e f = record {
+  cover = λ x y. no_pixel covered x y e;
+  shown = record {
+    many = ap length f ∙ length-replicate (length bounds) [];
+    places = λ s x y h.
+        no_pixel (get_or sets s []) x y (ap (λ all. get_or all s []) f ∙ get_or-replicate (length bounds) s [] [] h);
+  };
+}
+
+-- The next layer is passed too: its bounds are covered now, and its set has what wasn't covered of them.
+pub layer_passed : (bounds : List (Option Rectangle)) (slots : List ℕ) (slot : ℕ) (covered new_covered : List Rectangle)
+    (sets new_sets : List (List Rectangle)) → ArePassed bounds slots covered sets → length new_sets ≡ length sets
+    → ((x y : ℤ) → covers new_covered x y ≡ (covers covered x y || has_at bounds slot x y))
+    → ((s : ℕ) (x y : ℤ) → covers (get_or new_sets s []) x y
+    ≡ (covers (get_or sets s []) x y || ((has_at bounds slot x y && not (covers covered x y)) && (slot == s))))
+    → ArePassed bounds (slots ++ slot ∷ []) new_covered new_sets
+layer_passed bounds slots slot covered new_covered sets new_sets h many more added = record {
+  cover = λ x y. more x y ∙ (ap (λ b. b || has_at bounds slot x y) (h.cover x y) ∙ sym (some_behind bounds slots slot x y));
+  shown = record {
+    many = many ∙ h.shown.many;
+    places = λ s x y below. added s x y
+        ∙ (ap (λ b. b || ((has_at bounds slot x y && not (covers covered x y)) && (slot == s))) (h.shown.places s x y below)
+        ∙ (ap (λ b. is_first_at bounds slots s x y || ((has_at bounds slot x y && not b) && (slot == s))) (h.cover x y)
+        ∙ sym (shown_behind bounds slots slot s x y)));
+  };
+}
+
+-- the layers in front of a slot cover these pixels, and the slot's isn't among them
+pub record IsFront (bounds : List (Option Rectangle)) (slots : List ℕ) (slot : ℕ) (covered : List Rectangle) : Type 0 where
+  pub cover : (x y : ℤ) → covers covered x y ≡ some_at bounds slots x y
+  pub never : (x y : ℤ) → is_first_at bounds slots slot x y ≡ false
+
+pub none_in_front : (bounds : List (Option Rectangle)) (slot : ℕ) (covered : List Rectangle)
+    → covered ≡ [] → IsFront bounds [] slot covered
+unfolding first_at
+none_in_front bounds slot covered e = record { cover = λ x y. no_pixel covered x y e; never = λ x y. refl }
+
+-- one more layer in front, which is another
+pub more_in_front : (bounds : List (Option Rectangle)) (slots : List ℕ) (front slot : ℕ) (covered more : List Rectangle)
+    → IsFront bounds slots slot covered → (front == slot) ≡ false
+    → ((x y : ℤ) → covers more x y ≡ (covers covered x y || has_at bounds front x y))
+    → IsFront bounds (slots ++ front ∷ []) slot more
+more_in_front bounds slots front slot covered more h other e = record {
+  cover = λ x y. e x y ∙ (ap (λ b. b || has_at bounds front x y) (h.cover x y) ∙ sym (some_behind bounds slots front x y));
+  never = λ x y. shown_behind bounds slots front slot x y
+      ∙ (ap (λ b. b || ((has_at bounds front x y && not (some_at bounds slots x y)) && (front == slot))) (h.never x y)
+      ∙ and_right (has_at bounds front x y && not (some_at bounds slots x y)) (front == slot) other);
+}
+
+-- what the layers in front leave of a layer is where it is the first
+left_is_first : (bounds : List (Option Rectangle)) (slots : List ℕ) (slot : ℕ) (rest : List ℕ) (covered shown : List Rectangle)
+    → IsFront bounds slots slot covered → ((x y : ℤ) → covers shown x y ≡ (has_at bounds slot x y && not (covers covered x y)))
+    → (x y : ℤ) → covers shown x y ≡ is_first_at bounds (slots ++ slot ∷ rest) slot x y
+left_is_first bounds slots slot rest covered shown h e x y =
+    e x y
+    ∙ (ap (λ b. has_at bounds slot x y && not b) (h.cover x y) ∙ sym (first_where_left bounds slots slot rest x y (h.never x y)))
+
+-- the same of the entry of a list at which the slot was found, and of its bounds as they were read
+pub left_of_entry : (bounds : List (Option Rectangle)) (slots order : List ℕ) (slot i : ℕ) (own : Option Rectangle)
+    (covered shown : List Rectangle) → slots ≡ order → i < length slots → get_or slots i 0 ≡ slot
+    → own ≡ bounds_at bounds (get_or slots i 0) → IsFront bounds (take i slots) slot covered
+    → ((x y : ℤ) → covers shown x y ≡ (bounds_have own x y && not (covers covered x y)))
+    → (x y : ℤ) → covers shown x y ≡ is_first_at bounds order slot x y
+left_of_entry bounds slots order slot i own covered shown same below here read h e x y =
+    left_is_first bounds (take i slots) slot (drop (i + 1) slots) covered shown h
+    (λ u v. e u v ∙ ap (λ o. bounds_have o u v && not (covers covered u v)) (read ∙ ap (bounds_at bounds) here)) x y
+    ∙ ap (λ all. is_first_at bounds all slot x y)
+    (ap (λ s. take i slots ++ s ∷ drop (i + 1) slots) (sym here) ∙ (sym (around_entry slots i below) ∙ same))

@@ -1,0 +1,63 @@
+-- LayerInfo as contracts see it: its part of the desk (the manual's Layers Library chapter: the `Layer_Info` structure; the
+-- active window is this project's own).
+use Rattle.std.specs.Prelude.{◌≡◌, ℕ, ◌<◌, Bool, if◌then◌else◌, List, [], length, ℤ, Option, Some, None, IsTrue}
+use Rattle.std.specs.List.{find, slice_index_or}
+use Rattle.lw_region.specs.Rectangle.{Rectangle, IsOrdered}
+use Rattle.lw_region.specs.Bands.{covers}
+use Rattle.lw_calls.specs.declared.sizes.Sizes.{Sizes}
+use Rattle.lw_calls.specs.Limits.{IsWithinLimits}
+use Rattle.lw_calls.specs.Orders.{occurrences}
+use Rattle.lw_machine.specs.Desk.{is_the}
+use Rattle.lw_machine.specs.Screen.{bounds_have}
+use Rattle.lw_machine.specs.Arrangement.{is_on_screen}
+use Rattle.lw_machine.specs.Reveal.{has_bounds}
+use Rattle.lw_machine.specs.Parts.{InfoPart}
+use Rattle.lw_stack.specs.declared.info.InfoDraft.{InfoDraft}
+
+-- The sizes; the slots of the live layers from front to back; by slot the bounds on the screen, or none where it isn't live; and
+-- the active window.
+pub record Stack : Type 0 where
+  pub sizes : Sizes
+  pub front_to_back : List ℕ
+  pub bounds : List (Option Rectangle)
+  pub active : Option ℕ
+
+-- the bounds of a slot
+abbrev pub bounds_at : List (Option Rectangle) → ℕ → Option Rectangle
+bounds_at bounds s = slice_index_or bounds s None
+
+-- the slot of the first layer of the list whose bounds have the place
+unfoldable pub first_at : List (Option Rectangle) → List ℕ → ℤ → ℤ → Option ℕ
+first_at bounds slots x y = find (λ s. bounds_have (bounds_at bounds s) x y) slots
+
+-- the layer in slot s is the first of the list whose bounds have the place
+abbrev pub is_first_at : List (Option Rectangle) → List ℕ → ℕ → ℤ → ℤ → Bool
+is_first_at bounds slots s x y = is_the (first_at bounds slots x y) s
+
+-- bounds, if there are any, have a pixel, and all their pixels lie on the screen
+abbrev pub IsPlacedOn : Sizes → Option Rectangle → Type 0
+IsPlacedOn sizes None = Unit {0}
+IsPlacedOn sizes (Some r) = IsOrdered r × IsTrue (is_on_screen sizes r)
+
+-- What holds of every list of layers: there are bounds or none for each slot, the list has each slot with bounds once and no
+-- other, and the bounds lie on the screen.
+pub record IsStack (v : Stack) : Type 0 where
+  pub limits : IsWithinLimits v.sizes
+  pub many : length v.bounds ≡ v.sizes.slots
+  pub listed : (s : ℕ) → occurrences s v.front_to_back ≡ (if has_bounds (bounds_at v.bounds s) then 1 else 0)
+  pub placed : (s : ℕ) → IsPlacedOn v.sizes (bounds_at v.bounds s)
+
+-- what a draft says, on a screen of these sizes
+abbrev pub stack_of : Sizes → InfoDraft → Stack
+stack_of sizes d = record { sizes = sizes; front_to_back = d.order.items; bounds = d.bounds.items; active = d.active }
+
+-- It stands for LayerInfo's part of a desk; nothing is said of the shelf of hooks so far.
+pub record StandsForInfo (v : Stack) (p : InfoPart) : Type 0 where
+  pub front_to_back : p.front_to_back ≡ v.front_to_back
+  pub bounds : (s : ℕ) → p.bounds s ≡ bounds_at v.bounds s
+  pub active : p.active ≡ v.active
+
+-- The lists of rectangles have, by slot, the places on which its layer is the first of the list.
+pub record AreShown (bounds : List (Option Rectangle)) (slots : List ℕ) (sets : List (List Rectangle)) : Type 0 where
+  pub many : length sets ≡ length bounds
+  pub places : (s : ℕ) (x y : ℤ) → s < length bounds → covers (slice_index_or sets s []) x y ≡ is_first_at bounds slots s x y

@@ -1,0 +1,14 @@
+//! The list of layers from front to back, and what of each is shown (the manual's Layers Library chapter: the `Layer_Info`
+//! structure).
+#![tactic(auto)]
+
+mod info;
+mod laws;
+mod shown;
+
+pub use info::{Info, InfoDraft};
+pub use laws::list_law;
+pub use shown::visible_sets;
+
+#[cfg(test)]
+mod tests;

@@ -1,0 +1,5 @@
+pub mod BlockLaws
+pub mod ShownLaws
+pub mod WritingLaws
+pub mod PortionLaws
+pub mod ScrollLaws

@@ -1,0 +1,13 @@
+//! Super-bitmap layers: the portion of their bitmap that is shown (the manual's Layers Library chapter: ScrollLayer).
+#![tactic(auto)]
+
+mod block;
+mod scrolling;
+mod shown;
+mod writing;
+
+pub use scrolling::scroll;
+pub use writing::write_back;
+
+#[cfg(test)]
+mod tests;
