@@ -1,8 +1,7 @@
-pub mod Span
-pub mod PlainBitmap
-pub mod Plain
-pub mod StandsFor
-pub mod Shown
-pub mod LayerCalls
-pub mod Place
+pub mod Desks
+pub mod Parts
 pub mod Registers
+pub mod Classes
+pub mod Steps
+pub mod Finished
+pub mod Arranging

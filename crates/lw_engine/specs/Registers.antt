@@ -7,7 +7,6 @@ use Rattle.lw_region.specs.Bands.{bands}
 use Rattle.lw_calls.specs.declared.reply.Reply.{Reply}
 use Rattle.lw_calls.specs.declared.reply.Reply.TheVariants.{Done, TooManyRects}
 use Rattle.lw_machine.specs.Registers.{has_too_many, rect_limit}
-use Rattle.lw_engine.specs.Plain.{Plain, registers_at}
 
 -- the set of pixels in a register
 abbrev pub set_in : List (List Rectangle) → ℕ → List Pixel
@@ -24,7 +23,3 @@ set_reply set = if has_too_many set then TooManyRects else Done
 -- A word of this crate's private contracts alone: the list has no more rectangles than a register may have
 abbrev pub is_short : List Rectangle → Bool
 is_short rects = nat_le (length rects) rect_limit
-
--- the plain desk with a set of pixels in a register of a task, unless it has too many rectangles for a register
-abbrev pub with_set_in : Plain → ℕ → ℕ → List Pixel → Plain
-with_set_in p task reg set = record p { registers = slice_set p.registers task (with_set (registers_at p task) reg set) }

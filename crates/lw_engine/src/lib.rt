@@ -1,19 +1,24 @@
-//! The desk of the machine as code: region registers, and layers that are created, drawn into, clipped and shown (the
-//! manual's Layers Library chapter).
+//! The desk of the machine as code (the manual's Layers Library chapter). A call is made by the function of its class, which is
+//! lent the parts of the desk that such a call touches: the registers of its task, LayerInfo, or the cell of a layer.
 #![tactic(auto)]
 
-mod finish;
-mod layer;
-mod layer_calls;
-mod place;
-mod plain_bitmap;
-mod plain_desk;
-mod register_calls;
+mod all_layers;
+mod class;
+mod composing;
+mod desk;
+mod finishing;
+mod looking;
+mod one_layer;
+mod registers;
 mod regs;
-mod shown;
-mod span;
 
-pub use plain_desk::PlainDesk;
+pub use all_layers::on_all;
+pub use class::{Class, class_of};
+pub use desk::Desk;
+pub use finishing::finish;
+pub use looking::on_info;
+pub use one_layer::on_layer;
+pub use registers::on_registers;
 pub use regs::Regs;
 
 #[cfg(test)]

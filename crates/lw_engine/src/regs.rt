@@ -72,6 +72,8 @@ impl Regs {
         ensures reply { IfOk result (λ r. r ≡ set_reply (rect_result op (set_in self.old reg) rect.now)) }
         ensures regions { OnOk result (self.new ≡ with_set self.old reg (rect_result op (set_in self.old reg) rect.now)) }
         ensures err { OnErr result (self.new ≡ self.old) }
+        ensures before { length self.old ≡ 8 }
+        ensures eight { length self.new ≡ 8 }
     {
         let joined = joined_with_rect(alloc, op, self.region(reg), rect)?;
         Ok(self.put(reg, joined))
@@ -91,6 +93,8 @@ impl Regs {
         ensures reply { IfOk result (λ r. r ≡ set_reply (pair_result op (set_in self.old source) (set_in self.old into))) }
         ensures regions { OnOk result (self.new ≡ with_set self.old into (pair_result op (set_in self.old source) (set_in self.old into))) }
         ensures err { OnErr result (self.new ≡ self.old) }
+        ensures before { length self.old ≡ 8 }
+        ensures eight { length self.new ≡ 8 }
     {
         let joined = joined_with_region(alloc, op, self.region(source), self.region(into))?;
         Ok(self.put(into, joined))
@@ -99,7 +103,9 @@ impl Regs {
     /// Empties a register.
     pub(crate) fn clear(&mut self, reg: u32)
         requires { reg < 8 }
-        ensures { self.new ≡ slice_set self.old reg [] }
+        ensures regions { self.new ≡ slice_set self.old reg [] }
+        ensures before { length self.old ≡ 8 }
+        ensures eight { length self.new ≡ 8 }
     {
         self.regions[reg as usize].clear();
     }

@@ -1,10 +1,8 @@
 ghost use Rattle.std.specs.Prelude.{◌≡◌, ◌≤◌, IsTrue};
 ghost use Rattle.lw_calls.specs.Built.{is_built};
 
-use crate::{PlainDesk, Regs};
-use lw_calls::{
-    Assets, Call, Final, Kind, Make, PairOp, Place, RectOp, Replies, Reply, Seen, Sizes,
-};
+use crate::{Desk, Regs};
+use lw_calls::{Call, Final, Kind, Make, PairOp, Place, RectOp, Replies, Reply, Seen, Sizes};
 use lw_region::{Rect, Region};
 use std::process::Abort;
 use std::test::Fail;
@@ -16,8 +14,10 @@ enum Want {
     Nothing,
     /// The clip region from before, each rectangle by its four bounds.
     Rects(&'static [[i16; 4]]),
+    Layer(u32),
     NotOpen,
     AlreadyOpen,
+    NotSuper,
     OutOfBounds,
 }
 
@@ -45,6 +45,42 @@ fn create(slot: u32, x: i32, y: i32, w: i32, h: i32, want: Want) -> Step {
     };
     Step {
         call: Call::Create { slot, make },
+        want,
+    }
+}
+
+/// The creation of a super-bitmap layer in the screen's top left corner.
+fn create_super(slot: u32, w: i32, h: i32, bits_w: u32, bits_h: u32) -> Step {
+    let make = Make {
+        kind: Kind::SuperBitmap,
+        place: Place::Front,
+        x: 0,
+        y: 0,
+        w,
+        h,
+        backdrop: false,
+        hook: None,
+        bits_w,
+        bits_h,
+    };
+    Step {
+        call: Call::Create { slot, make },
+        want: Want::Done,
+    }
+}
+
+/// A look at a place of the screen.
+fn which(x: i32, y: i32, want: Want) -> Step {
+    Step {
+        call: Call::Which { x, y },
+        want,
+    }
+}
+
+/// Another portion of a super-bitmap layer's bitmap.
+fn scroll(slot: u32, dx: i32, dy: i32, want: Want) -> Step {
+    Step {
+        call: Call::Scroll { slot, dx, dy },
         want,
     }
 }
@@ -109,10 +145,12 @@ fn has_list(region: &Region, due: &[[i16; 4]]) -> bool {
 fn is_wanted(reply: &Reply, want: &Want) -> bool {
     match (reply, want) {
         (Reply::Rects(region), Want::Rects(due)) => has_list(region, due),
+        (Reply::Layer(slot), Want::Layer(due)) => slot == due,
         (Reply::Done, Want::Done)
         | (Reply::Nothing, Want::Nothing)
         | (Reply::NotOpen, Want::NotOpen)
         | (Reply::AlreadyOpen, Want::AlreadyOpen)
+        | (Reply::NotSuper, Want::NotSuper)
         | (Reply::OutOfBounds, Want::OutOfBounds) => true,
         _ => false,
     }
@@ -140,15 +178,11 @@ fn run(
         hooks: 0,
         bitmaps: 0,
     };
-    let assets = Assets {
-        glyphs: [[0; 8]; 95],
-        bitmaps: Vec::new(rt.alloc()),
-    };
-    let mut desk = PlainDesk::new(rt.alloc(), sizes)?;
+    let mut desk = Desk::new(rt.alloc(), sizes)?;
     let mut replies = Vec::new(rt.alloc());
     for step in steps {
         assert!(rt; sizes.fits(&step.call));
-        let reply = desk.step(rt.alloc(), &assets, 0, &step.call)?;
+        let reply = desk.step(rt.alloc(), 0, &step.call)?;
         assert!(rt; is_wanted(&reply, &step.want));
         replies.push(reply)?;
     }
@@ -315,6 +349,36 @@ fn each_region_call_changes_its_register(rt: HostRuntime) -> Result<(), Fail> {
         unclip(1, Want::NotOpen),
     ];
     show(&rt, 4, 2, &steps, &[0; 8])
+}
+
+#[test]
+fn a_look_finds_the_layer_on_top(rt: HostRuntime) -> Result<(), Fail> {
+    let steps = [
+        which(0, 0, Want::Nothing),
+        create(0, 0, 0, 3, 3, Want::Done),
+        create(1, 1, 1, 3, 2, Want::Done),
+        which(0, 0, Want::Layer(0)),
+        which(1, 1, Want::Layer(1)),
+        which(3, 2, Want::Layer(1)),
+        which(3, 0, Want::Nothing),
+        which(-1, 0, Want::Nothing),
+    ];
+    show(&rt, 5, 3, &steps, &[0; 15])
+}
+
+#[test]
+fn a_scroll_shows_another_portion(rt: HostRuntime) -> Result<(), Fail> {
+    let steps = [
+        scroll(0, 1, 0, Want::NotOpen),
+        create_super(0, 2, 1, 4, 2),
+        create(1, 2, 0, 1, 1, Want::Done),
+        fill(&rt, 0, 1, 0, 1, 0, Want::Done),
+        scroll(0, 3, 0, Want::OutOfBounds),
+        scroll(0, 0, -1, Want::OutOfBounds),
+        scroll(1, 0, 0, Want::NotSuper),
+        scroll(0, 1, 0, Want::Done),
+    ];
+    show(&rt, 3, 1, &steps, &[1, 0, 0])
 }
 
 #[test]

@@ -1,16 +1,15 @@
 //! What the grammar asks of a line's act.
 ghost use Rattle.std.specs.Prelude.{◌≡◌, ℕ, List, is_none, option_map, unsigned_abs};
-ghost use Rattle.lw_calls.specs.Built.{is_built, is_plain_make};
+ghost use Rattle.lw_calls.specs.Built.{is_built, is_hookless};
 ghost use Rattle.lw_grammar.specs.LineForms.{CallLine};
 ghost use Rattle.lw_grammar.specs.Told.{spelled_call, asks_super, hook_on};
 ghost use Rattle.lw_grammar.specs.Script.{is_arranging, is_beginning, is_ending, are_all, is_on_one, call_may_stand, is_lock_on, is_hold, fits_group};
-ghost use Rattle.lw_lines.specs.FormMeaning.{kind_meaning, act_meaning, layers_meaning, form_meaning};
+ghost use Rattle.lw_lines.specs.FormMeaning.{act_meaning, layers_meaning, form_meaning};
 ghost use Rattle.lw_lines.specs.GroupMeaning.{opened_meaning};
 
 use crate::form::{
     Act, Asked, AskedKind, BareAct, Layers, LineForm, NumberAct, PairAct, PlainKind,
 };
-use lw_calls::Place;
 use lw_words::is_text;
 
 /// A group that is open.
@@ -65,13 +64,17 @@ impl Act<'_> {
         ensures { (bitmaps : List (List ℕ)) (slots : List ℕ) → result ≡ is_built (spelled_call bitmaps (act_meaning self.now) slots) }
     {
         match self {
-            Act::Create(asked) => asked.is_plain(),
+            Act::Create(asked) => asked.is_hookless(),
             Act::RegRect { .. }
             | Act::RegPair { .. }
             | Act::RegClear(_)
+            | Act::InFront
+            | Act::Box(_)
+            | Act::Which { .. }
             | Act::Fill(_)
+            | Act::Bare(BareAct::Close | BareAct::Front | BareAct::Behind | BareAct::Unclip)
             | Act::Number(NumberAct::Clip, _)
-            | Act::Bare(BareAct::Unclip) => true,
+            | Act::Pair(PairAct::Move | PairAct::Size | PairAct::Scroll, _, _) => true,
             _ => false,
         }
     }
@@ -103,14 +106,11 @@ impl Act<'_> {
 }
 
 impl Asked {
-    /// Whether such a layer can be created so far.
-    fn is_plain(&self) -> bool
-        ensures { result ≡ is_plain_make (kind_meaning self.now.kind) self.now.place self.now.backdrop (option_map unsigned_abs self.now.hook) }
+    /// Whether no hook is asked for.
+    fn is_hookless(&self) -> bool
+        ensures { result ≡ is_hookless (option_map unsigned_abs self.now.hook) }
     {
-        match (self.kind, self.place, self.backdrop, self.hook) {
-            (AskedKind::Plain(PlainKind::Smart), Place::Front, false, None) => true,
-            _ => false,
-        }
+        self.hook.is_none()
     }
 }
 

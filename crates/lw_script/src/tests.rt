@@ -335,13 +335,13 @@ static COUNTED: [Counted; 12] = [
         ],
     },
     Counted {
-        at: (Many::Layers, 64, 70, Reason::NotBuilt),
+        at: (Many::Layers, 64, 71, Reason::Missing),
         behind: &[
             "end\ntask b\nfill n0 0 0 1 1\nfront n63\n", // names that stand in the first task
         ],
     },
     Counted {
-        at: (Many::Calls, 4096, 4101, Reason::NotBuilt),
+        at: (Many::Calls, 4096, 4102, Reason::Missing),
         behind: &[
             "end\ntask b\nwhich 0 0\n", // the first call of the second task
         ],
@@ -506,6 +506,17 @@ orregion 3 4
 andregion 0 0
 xorregion 7 1
 clearregion 5
+create log super behind 1 2 8 9 40 50 backdrop
+create clk simple front 0 0 7 3
+close clk
+front log
+behind clk
+infront clk log
+move log -1 2
+size clk 3 -4
+box log 5 6 7 8
+which 9 -10
+scroll log -11 12
 end
 # between two tasks
 task edit
@@ -526,7 +537,7 @@ order
 15 1
 ";
 
-static CLOCK: [&str; 12] = [
+static CLOCK: [&str; 23] = [
     "create 0 smart front at 10 20 with 120 60 and bits of 0 0",
     "fill 1 from 8 16 to 60 40",
     "clip 1 by 7",
@@ -539,6 +550,17 @@ static CLOCK: [&str; 12] = [
     "and 0 into 0",
     "xor 7 into 1",
     "clear 5",
+    "create 1 super behind backdrop at 1 2 with 8 8 and bits of 40 50",
+    "create 0 simple front at 0 0 with 8 4 and bits of 0 0",
+    "close 0",
+    "front 1",
+    "behind 0",
+    "infront 0 1",
+    "move 1 by -1 2",
+    "size 0 by 3 -4",
+    "box 1 at 5 6 with 7 8",
+    "which 9 -10",
+    "scroll 1 by -11 12",
 ];
 
 static EDIT: [&str; 4] = [
@@ -592,7 +614,25 @@ fn pair_word(op: PairOp) -> &'static str {
     }
 }
 
-// A call in words. Those that can't be run yet are all one.
+// A further call in words. Those that can't be run yet are all one.
+fn told_further(alloc: Global, call: &Call) -> Result<String, AllocError> {
+    match call {
+        Call::Close { slot } => format!(in alloc; "close {slot}"),
+        Call::ToFront { slot } => format!(in alloc; "front {slot}"),
+        Call::ToBack { slot } => format!(in alloc; "behind {slot}"),
+        Call::InFrontOf { slot, other } => format!(in alloc; "infront {slot} {other}"),
+        Call::MoveBy { slot, dx, dy } => format!(in alloc; "move {slot} by {dx} {dy}"),
+        Call::SizeBy { slot, dw, dh } => format!(in alloc; "size {slot} by {dw} {dh}"),
+        Call::SetBox { slot, x, y, w, h } => {
+            format!(in alloc; "box {slot} at {x} {y} with {w} {h}")
+        }
+        Call::Which { x, y } => format!(in alloc; "which {x} {y}"),
+        Call::Scroll { slot, dx, dy } => format!(in alloc; "scroll {slot} by {dx} {dy}"),
+        _ => String::from_str(alloc, "another call"),
+    }
+}
+
+// A call in words.
 fn told(alloc: Global, call: &Call) -> Result<String, AllocError> {
     match call {
         Call::Create { slot, make } => creation(alloc, *slot, make),
@@ -612,7 +652,7 @@ fn told(alloc: Global, call: &Call) -> Result<String, AllocError> {
             format!(in alloc; "{word} {source} into {into}")
         }
         Call::RegClear { reg } => format!(in alloc; "clear {reg}"),
-        _ => String::from_str(alloc, "another call"),
+        _ => told_further(alloc, call),
     }
 }
 

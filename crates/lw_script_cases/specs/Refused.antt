@@ -354,6 +354,7 @@ bad_groups =
     at_line 4 (in_task_a ++ script (codes "lock w/blit v 0 0 w 0 0 1 1 c0/")) ∷
     at_line 4 (in_task_a ++ script (codes "lock w/blit v 0 0 v 0 0 1 1 c0/")) ∷
     at_line 4 (in_task_a ++ script (codes "hold/clip w 0/")) ∷
+    at_line 4 (in_task_a ++ script (codes "hold/scroll w 1 1/")) ∷
     at_line 4 (in_task_a ++ script (codes "hold/unclip w/")) ∷
     at_line 4 (in_task_a ++ script (codes "hold/apen w 1/")) ∷
     at_line 4 (in_task_a ++ script (codes "hold/text w 'a'/")) ∷
@@ -394,6 +395,34 @@ bad_padding =
     at_line 4 (screened ++ script (codes "bitmap b 1 1 2/8000/c000/")) ∷
     at_line 5 (screened ++ script (codes "bitmap b 1 1 1//# note/0100/")) ∷
     at_line 5 (screened ++ script (codes "bitmap a 16 1 1/ffff/bitmap b 9 1 1/ff40/")) ∷ []
+
+-- calls that can't be made so far
+abbrev pub unbuilt : List Refused
+unbuilt =
+    at_line 3 (in_task_a ++ script (codes "open w smart front 0 0 9 14 't'/")) ∷
+    at_line 3 (in_task_a ++ script (codes "open w super behind 0 0 9 14 20 20 backdrop ask rncai ''/")) ∷
+    at_line 3 (in_task_a ++ script (codes "activate w/")) ∷
+    at_line 3 (in_task_a ++ script (codes "apen w 1/")) ∷
+    at_line 3 (in_task_a ++ script (codes "bpen w 255/")) ∷
+    at_line 3 (in_task_a ++ script (codes "mode w 7/")) ∷
+    at_line 3 (in_task_a ++ script (codes "mask w 255/")) ∷
+    at_line 3 (in_task_a ++ script (codes "at w 0 0/")) ∷
+    at_line 3 (in_task_a ++ script (codes "write w 0 0/")) ∷
+    at_line 3 (in_task_a ++ script (codes "read w 0 0/")) ∷
+    at_line 3 (in_task_a ++ script (codes "draw w 0 0/")) ∷
+    at_line 3 (in_task_a ++ script (codes "text w 'a'/")) ∷
+    at_line 3 (in_task_a ++ script (codes "setrast w 1/")) ∷
+    at_line 3 (in_task_a ++ script (codes "scrollraster w 1 1 0 0 7 3/")) ∷
+    at_line 3 (in_task_a ++ script (codes "blit w 0 0 v 0 0 1 1 c0/")) ∷
+    at_line 3 (in_task_a ++ script (codes "refresh w/")) ∷
+    at_line 3 (in_task_a ++ script (codes "title w 't'/")) ∷
+    at_line 3 (in_task_a ++ script (codes "getmsg w/")) ∷
+    at_line 4 (in_task_a ++ script (codes "hold/open w simple front 0 0 9 14 borderless nocare 't'/")) ∷
+    at_line 4 (in_task_a ++ script (codes "lock w/blit w 0 0 w 0 0 1 1 c0/")) ∷
+    at_line 5 (in_task_a ++ script (codes "hold/front w/activate w/")) ∷
+    at_line 5 (in_task_a ++ script (codes "lock w/scroll w 1 1/read w 0 0/")) ∷
+    at_line 5 (screened ++ script (codes "bitmap b 16 1 1/0000/task a/put b 0 0 w 0 0 1 1 c0/")) ∷
+    at_line 10 (created ++ script (codes "close w/behind w/move w 1 1/size w 1 1/box w 0 0 1 1/which 0 0/activate w/")) ∷ []
 
 -- an end before the script's
 abbrev pub unfinished : List Refused

@@ -38,9 +38,12 @@ in_task_a = screened ++ script (codes "task a/")
 abbrev pub created : List ℕ
 created = in_task_a ++ script (codes "create w smart front 0 0 7 3/")
 
--- 64 layers of 64 names, 16 bitmaps, and 16 tasks
+-- 64 layers of 64 names, 16 layers with bitmaps of their own, 16 bitmaps, and 16 tasks
 abbrev pub sixty_four_layers : List ℕ
 sixty_four_layers = flat_map (λ i. script (codes "create n") ++ decimal i ++ script (codes " smart front 0 0 7 3/")) (range_with_len 0 64)
+
+abbrev pub sixteen_supers : List ℕ
+sixteen_supers = flat_map (λ i. script (codes "create s") ++ decimal i ++ script (codes " super front 0 0 7 3 8 4/")) (range_with_len 0 16)
 
 abbrev pub sixteen_bitmaps : List ℕ
 sixteen_bitmaps = flat_map (λ i. script (codes "bitmap b") ++ decimal i ++ script (codes " 1 1 1/0000/")) (range_with_len 0 16)
@@ -264,7 +267,7 @@ abbrev pub hook_of_super : List ℕ
 hook_of_super = in_task_a ++ script (codes "create w super front 0 0 7 3 8 4 hook 1")
 
 abbrev pub super_backdrop : List ℕ
-super_backdrop = in_task_a ++ script (codes "create w super front 0 0 7 3 8 4 backdrop")
+super_backdrop = in_task_a ++ script (codes "create w super front 0 0 7 3 8 4 backdrop/end")
 
 abbrev pub super_of_2049 : List ℕ
 super_of_2049 = in_task_a ++ script (codes "create w super front 0 0 7 3 2049 4")
@@ -375,13 +378,30 @@ abbrev pub which_in_hold : List ℕ
 which_in_hold = created ++ script (codes "hold/which 0 0")
 
 abbrev pub move_in_hold : List ℕ
-move_in_hold = created ++ script (codes "hold/move w 1 1")
+move_in_hold = created ++ script (codes "hold/move w 1 1/release/end")
 
 abbrev pub release_alone : List ℕ
 release_alone = created ++ script (codes "release")
 
 abbrev pub layer_named_front : List ℕ
 layer_named_front = in_task_a ++ script (codes "create front smart front 0 0 7 3/fill front 0 0 1 1/end")
+
+abbrev pub creations : List ℕ
+creations =
+    in_task_a ++ script (codes "create a simple front 0 0 7 3/create b smart behind 0 0 7 3/create c super front 0 0 7 3 8 4/") ++ script (codes "create d simple behind 0 0 7 3 backdrop/create e smart front 0 0 7 3 backdrop/create f super behind 0 0 7 3 9 5 backdrop/end")
+
+abbrev pub arrangements : List ℕ
+arrangements = created ++ script (codes "front w/behind w/infront w v/move w -1 1/size w 2 -2/box w 0 0 4 4/close w/end")
+
+abbrev pub arrangements_in_hold : List ℕ
+arrangements_in_hold =
+    created ++ script (codes "hold/create v super behind 0 0 7 3 8 4/front w/behind w/infront v w/move w -1 1/size w 2 -2/box w 0 0 4 4/close w/release/end")
+
+abbrev pub look_and_scroll : List ℕ
+look_and_scroll = created ++ script (codes "which 0 0/scroll w 1 -1/end")
+
+abbrev pub scroll_in_lock : List ℕ
+scroll_in_lock = created ++ script (codes "lock w/scroll w 0 0/unlock w/end")
 
 abbrev pub name_of_16 : List ℕ
 name_of_16 = in_task_a ++ script (codes "create abcdefghijklmnop smart front 0 0 7 3/end")
@@ -448,6 +468,12 @@ names_65_by_blit = in_task_a ++ sixty_four_layers ++ script (codes "blit n0 0 0 
 
 abbrev pub unlock_before_65 : List ℕ
 unlock_before_65 = in_task_a ++ sixty_four_layers ++ script (codes "unlock x/")
+
+abbrev pub supers_16 : List ℕ
+supers_16 = in_task_a ++ sixteen_supers ++ script (codes "end")
+
+abbrev pub supers_17 : List ℕ
+supers_17 = in_task_a ++ sixteen_supers ++ script (codes "create t super front 0 0 7 3 8 4/")
 
 abbrev pub bitmaps_17 : List ℕ
 bitmaps_17 = screened ++ sixteen_bitmaps ++ script (codes "bitmap c 1 1 1/")

@@ -1,4 +1,4 @@
--- The next call of a task, made on the plain desk, is one more step of the run.
+-- The next call of a task, made on the desk, is one more step of the run.
 use Rattle.std.proofs.Common.{◌≡◌, ℕ, ◌<◌, ◌==◌, Bool, true, false, if◌then◌else◌, List, [], ◌∷◌, ◌++◌, length, Some, slice_index_or, slice_set, refl, ap, sym, subst, ◌∙◌, append-nil, get_or-set_other, arith, length-set}
 use Rattle.std.specs.List.{slice_get}
 use Rattle.std.proofs.lemmas.Bool.{eqb-true, eqb-false}
@@ -12,8 +12,7 @@ use Rattle.lw_machine.specs.Step.{after, reply}
 use Rattle.lw_calls.specs.Entries.{count_of, next_entry}
 use Rattle.lw_machine.specs.History.{machine, replies_of}
 use Rattle.lw_machine.specs.Finals.{opening_desk}
-use Rattle.lw_engine.specs.Plain.{Plain}
-use Rattle.lw_engine.specs.StandsFor.{StandsFor}
+use Rattle.lw_engine.specs.Desks.{Engine, StandsForDesk}
 use Rattle.lw_tasks.specs.Run.{HasRun, next_of}
 use Rattle.lw_tasks.proofs.Steps.{machine_push, replies_of_push, length_replies_of}
 
@@ -29,7 +28,7 @@ told_task false told new task t r e low h =
 pub one_reply : (b : Bool) (r s : Reply) → r ≡ s → (if b then r ∷ [] else []) ≡ (if b then s ∷ [] else [])
 one_reply b r s e = ap (λ x. if b then x ∷ [] else []) e
 
-pub has_run_next : (plan : Plan) (past : List Entry) (desk next : Plain) (told : List (List Reply)) (new : List Reply) (task : ℕ) (call : Call) (r : Reply) → task < plan.sizes.tasks → slice_get (task_calls plan task) (length (slice_index_or told task [])) ≡ Some call → ((d : Desk) → StandsFor desk d → r ≡ reply d task call) → ((d : Desk) → StandsFor desk d → StandsFor next (after d task call)) → next.sizes ≡ desk.sizes → new ≡ slice_index_or told task [] ++ r ∷ [] → HasRun plan past desk told → HasRun plan (past ++ next_of plan past task) next (slice_set told task new)
+pub has_run_next : (plan : Plan) (past : List Entry) (desk next : Engine) (told : List (List Reply)) (new : List Reply) (task : ℕ) (call : Call) (r : Reply) → task < plan.sizes.tasks → slice_get (task_calls plan task) (length (slice_index_or told task [])) ≡ Some call → ((d : Desk) → StandsForDesk desk d → r ≡ reply d task call) → ((d : Desk) → StandsForDesk desk d → StandsForDesk next (after d task call)) → next.stack.sizes ≡ desk.stack.sizes → new ≡ slice_index_or told task [] ++ r ∷ [] → HasRun plan past desk told → HasRun plan (past ++ next_of plan past task) next (slice_set told task new)
 has_run_next plan past desk next told new task call r low got replied stood sizes pushed run =
     let start : Desk = opening_desk plan [] in
     let made : length (slice_index_or told task []) ≡ count_of task past = ap length (run.each task low) ∙ length_replies_of start task past in
@@ -39,7 +38,7 @@ has_run_next plan past desk next told new task call r low got replied stood size
     let one : next_of plan past task ≡ e ∷ [] = ap (next_entry task (count_of task past)) found in
     let within : task < length told = omega (arith, low, run.lists) in
     let P : List Entry → Type 0 = λ es. HasRun plan (past ++ es) next (slice_set told task new) in
-    let S : Desk → Type 0 = λ d. StandsFor next d in
+    let S : Desk → Type 0 = λ d. StandsForDesk next d in
     subst P (sym one) (
     record {
       stands = subst S (sym (machine_push start past e)) (stood (machine start past) run.stands);

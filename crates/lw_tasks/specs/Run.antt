@@ -8,17 +8,16 @@ use Rattle.lw_calls.specs.Orders.{is_legal}
 use Rattle.lw_calls.specs.Entries.{count_of, next_entry, only_order}
 use Rattle.lw_machine.specs.History.{machine, replies_of}
 use Rattle.lw_machine.specs.Finals.{opening_desk}
-use Rattle.lw_engine.specs.Plain.{Plain}
-use Rattle.lw_engine.specs.StandsFor.{StandsFor}
+use Rattle.lw_engine.specs.Desks.{Engine, StandsForDesk}
 
 -- the step that a task's number stands for after the past, if the task has a call left
 abbrev pub next_of : Plan → List Entry → ℕ → List Entry
 next_of plan past task = next_entry task (count_of task past) (slice_get (task_calls plan task) (count_of task past))
 
--- The plain desk stands for the machine after the steps of the past, and each task was told its replies in them.
-pub record HasRun (plan : Plan) (past : List Entry) (desk : Plain) (told : List (List Reply)) : Type 0 where
-  pub stands : StandsFor desk (machine (opening_desk plan []) past)
-  pub sizes : desk.sizes ≡ plan.sizes
+-- The desk of the program stands for the machine after the steps of the past, and each task was told its replies in them.
+pub record HasRun (plan : Plan) (past : List Entry) (desk : Engine) (told : List (List Reply)) : Type 0 where
+  pub stands : StandsForDesk desk (machine (opening_desk plan []) past)
+  pub sizes : desk.stack.sizes ≡ plan.sizes
   pub lists : length told ≡ plan.sizes.tasks
   pub each : (t : ℕ) → t < plan.sizes.tasks → slice_index_or told t [] ≡ replies_of (opening_desk plan []) t past
 

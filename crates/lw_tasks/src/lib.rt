@@ -1,4 +1,4 @@
-//! The machine's run of a plan in an order, on the plain desk and with no lock (this project's own).
+//! The machine's run of a plan in an order, on one desk and with no lock (this project's own).
 #![tactic(auto)]
 
 mod laws;

@@ -10,15 +10,15 @@ ghost use Rattle.lw_calls.specs.Orders.{is_legal, keeps_groups};
 ghost use Rattle.lw_calls.specs.Entries.{entries};
 ghost use Rattle.lw_machine.specs.History.{machine, replies_of};
 ghost use Rattle.lw_machine.specs.Finals.{run_final};
-ghost use Rattle.lw_engine.specs.StandsFor.{StandsFor};
+ghost use Rattle.lw_engine.specs.Desks.{StandsForDesk};
 ghost use Rattle.lw_tasks.specs.Run.{HasRun, next_of};
 
 use lw_calls::{Call, Final, OrderList, Plan, Replies};
-use lw_engine::PlainDesk;
+use lw_engine::Desk;
 use std::alloc::{AllocError, Global};
 
 /// The final state of the machine's run of a plan in a legal order, several tasks included, where each call may be made so far:
-/// each number makes its task's next call on the plain desk. It takes no lock and returns (this project's own).
+/// each number makes its task's next call on the desk. It takes no lock and returns (this project's own).
 pub fn replay(alloc: Global, plan: &Plan, order: &OrderList) -> Result<Final, AllocError>
     requires legal { is_legal plan.now order.now ≡ true }
     requires built { All (λ calls. All (λ call. IsTrue (is_built call)) calls) plan.now.calls }
@@ -26,13 +26,14 @@ pub fn replay(alloc: Global, plan: &Plan, order: &OrderList) -> Result<Final, Al
 {
     let mut run = Run::new(alloc, plan)?;
     run.make_all(alloc, plan, order.tasks())?;
-    run.desk.finish(alloc, run.told)
+    let told = run.told;
+    run.desk.finish(alloc, told)
 }
 
 /// A run under way: the desk, and each task's replies so far. So many replies as a task had, so many calls it made.
 #[derive(Debug, Drop)]
 struct Run {
-    desk: PlainDesk,
+    desk: Desk,
     told: Vec<Replies>,
 }
 
@@ -43,7 +44,7 @@ impl Run {
         ensures plan { IsPlan plan.now }
     {
         let sizes = *plan.sizes();
-        let desk = PlainDesk::new(alloc, sizes)?;
+        let desk = Desk::new(alloc, sizes)?;
         let told = no_replies(alloc, sizes.tasks)?;
         Ok(Run { desk, told })
     }
@@ -66,7 +67,7 @@ impl Run {
     fn make_next(&mut self, alloc: Global, plan: &Plan, task: u32) -> Result<(), AllocError>
         requires plan { IsPlan plan.now }
         requires task { task < plan.now.sizes.tasks }
-        requires sizes { self.old.desk.sizes ≡ plan.now.sizes }
+        requires sizes { self.old.desk.stack.sizes ≡ plan.now.sizes }
         requires lists { length self.old.told.items ≡ plan.now.sizes.tasks }
         requires left { length (slice_index_or self.old.told.items task []) < length (task_calls plan.now task) }
         requires built { All (λ calls. All (λ call. IsTrue (is_built call)) calls) plan.now.calls }
@@ -74,7 +75,7 @@ impl Run {
     {
         let told = &mut self.told[task as usize];
         let call = call_of(plan, task, told.list().len());
-        let reply = self.desk.step(alloc, plan.assets(), task, call)?;
+        let reply = self.desk.step(alloc, task, call)?;
         told.push(reply)
     }
 }

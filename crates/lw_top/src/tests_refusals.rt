@@ -12,10 +12,7 @@ static REASONS: [(&str, &str); 6] = [
         "4 double-name",
     ),
     ("screen 16 4 1\nbitmap b 15 2 1\nfffe\nffff\n", "4 padding"),
-    (
-        "screen 16 4 1\ntask a\ncreate w simple front 0 0 7 3\n",
-        "3 not-built",
-    ),
+    ("screen 16 4 1\ntask a\napen w 1\n", "3 not-built"),
     // An empty line says nothing, and counts as a line.
     ("\n", "2 missing"),
 ];
@@ -74,7 +71,7 @@ static COUNTED: [(Pieces, u32, &str, &str); 17] = [
     // 64 layer names, each of which is new on a line of its own.
     (LAYERS, 64, "lock x\n", "67 too-many"),
     (LAYERS, 64, "lock n63\nfront n0\n", "68 group"),
-    (LAYERS, 63, "infront x x\n", "66 not-built"),
+    (LAYERS, 63, "infront x x\n", "67 missing"),
     (LAYERS, 63, "infront x y\n", "66 too-many"),
     // 16 bitmaps of one row.
     (BITMAPS, 16, "bitmap c 9 9 8\n", "34 too-many"),
@@ -84,7 +81,7 @@ static COUNTED: [(Pieces, u32, &str, &str); 17] = [
     (CALLS, 4096, "which 0 0\n", "4099 too-many"),
     (CALLS, 4096, "lock w\napen w 1\n", "4100 too-many"),
     (CALLS, 4096, "lock w\nwhich 0 0\n", "4100 group"),
-    (CALLS, 4095, "which 0 0\n", "4098 not-built"),
+    (CALLS, 4095, "which 0 0\n", "4099 missing"),
     (CALLS, 4096, "end\nglow\n", "4100 unknown-word"),
 ];
 

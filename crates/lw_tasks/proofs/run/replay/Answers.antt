@@ -14,5 +14,5 @@ returns c =
     let desk = c.make_all.new.self.desk in
     let P : List ℕ → Type 0 = λ order. HasRun plan (entries plan [] order) desk c.make_all.new.self.told.items in
     let run : HasRun plan es desk c.make_all.new.self.told.items = subst P c.tasks.ensures c.in_ok-make_all.ensures in
-    let tasks : desk.sizes.tasks ≡ plan.sizes.tasks = ap (λ s. s.tasks) run.sizes in
+    let tasks : desk.stack.sizes.tasks ≡ plan.sizes.tasks = ap (λ s. s.tasks) run.sizes in
     IfOk-weaker c.finish.result _ _ (λ last left. left (machine start es) (λ t. replies_of start t es) run.stands (λ t low. run.each t (let under : t < plan.sizes.tasks = omega (arith, low, tasks) in under))) c.finish.ensures

@@ -2,13 +2,13 @@ use Rattle.std.proofs.Common.{◌≡◌, ℕ, [], length, replicate, slice_index
 use Rattle.std.proofs.lemmas.List.{get_or-replicate, length-replicate}
 use Rattle.lw_calls.specs.declared.sizes.Sizes.{Sizes}
 use Rattle.lw_machine.specs.Desk.{empty_desk, shelf_of}
-use Rattle.lw_engine.specs.StandsFor.{StandsFor}
+use Rattle.lw_engine.specs.Desks.{StandsForDesk}
 use Rattle.lw_tasks.proofs.run.Run.new.Goals as goal
 
 pub returns-clause-run : goal.returns-clause-run
 returns-clause-run c =
     let plan = c.args.plan.now in
-    let P : Sizes → Type 0 = λ s. StandsFor c.in_ok-desk.desk (empty_desk s plan.assets (shelf_of [])) in
+    let P : Sizes → Type 0 = λ s. StandsForDesk c.in_ok-desk.desk (empty_desk s plan.assets (shelf_of [])) in
     let tasks : ℕ = plan.sizes.tasks in
     let none : c.in_ok-told.told.items ≡ replicate tasks [] = c.in_ok-told.ensures ∙ ap (λ s. replicate s.tasks []) c.sizes-sizes.ensures.value in
     record {

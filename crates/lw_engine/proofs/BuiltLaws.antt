@@ -1,0 +1,40 @@
+-- What a call that is built is, by its class.
+use Rattle.std.proofs.Common.{◌≡◌, ℕ, true, Option, Some, None, IsTrue, refl}
+use Rattle.lw_calls.specs.declared.call.Call.{Call}
+use Rattle.lw_calls.specs.declared.call.Call.TheVariants.{Create, OpenWindow, Close, ToFront, ToBack, InFrontOf, MoveBy, SizeBy, SetBox, Activate, Fill, Clip, Unclip, Scroll, Blit}
+use Rattle.lw_calls.specs.Built.{is_hookless, is_built}
+use Rattle.lw_calls.specs.Touches.{OnLayer, OnLayers, OnAll, class_of}
+use Rattle.lw_arrange.specs.Prepared.{IsPlainCall}
+use Rattle.lw_engine.specs.Parts.{IsBuiltOnLayer}
+
+-- a call on one layer
+pub built_on_layer : (call : Call) (slot : ℕ) → class_of call ≡ OnLayer slot → IsTrue (is_built call) → IsBuiltOnLayer call
+built_on_layer (Fill slot rect) s is built = refl
+built_on_layer (Clip slot register) s is built = refl
+built_on_layer (Unclip slot) s is built = refl
+built_on_layer (Scroll slot dx dy) s is built = refl
+built_on_layer call s is built = absurd (cc (is, built))
+
+-- no call on two layers
+pub no_pair : (call : Call) (source slot : ℕ) → class_of call ≡ OnLayers source slot → IsTrue (is_built call) → ⊥
+no_pair (Blit source slot area) s t is built = cc built
+no_pair call s t is built = cc is
+
+-- no hook is named where none is
+hook_none : (hook : Option ℕ) → is_hookless hook ≡ true → hook ≡ None
+hook_none None bare = refl
+hook_none (Some n) bare = absurd (cc bare)
+
+-- an arrangement
+pub built_plain : (call : Call) → class_of call ≡ OnAll → IsTrue (is_built call) → IsPlainCall call
+built_plain (Create slot make) is built = hook_none make.hook built
+built_plain (OpenWindow slot make framed nocare asks title) is built = absurd (cc built)
+built_plain (Close slot) is built = tt
+built_plain (ToFront slot) is built = tt
+built_plain (ToBack slot) is built = tt
+built_plain (InFrontOf slot other) is built = tt
+built_plain (MoveBy slot dx dy) is built = tt
+built_plain (SizeBy slot dw dh) is built = tt
+built_plain (SetBox slot x y w h) is built = tt
+built_plain (Activate slot) is built = absurd (cc built)
+built_plain call is built = absurd (cc is)

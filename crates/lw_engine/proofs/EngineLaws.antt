@@ -1,0 +1,144 @@
+-- What holds of the desk of the program before the first call and after a call, and what a call makes of it.
+use Rattle.std.proofs.Common.{◌≡◌, ◌≢◌, ℕ, ◌<◌, List, [], length, get_or, set, Result, Ok, Err, IfOk, OnErr, IsTrue, ◌∙◌, sym, ap, subst, ⊎_elim, arith}
+use Rattle.std.proofs.lemmas.Bool.{cases_eq}
+use Rattle.std.proofs.lemmas.List.{get_or-set_same, get_or-set_other, set-get_or, length-set}
+use Rattle.lw_region.specs.Rectangle.{Rectangle}
+use Rattle.lw_calls.specs.declared.sizes.Sizes.{Sizes}
+use Rattle.lw_calls.specs.declared.call.Call.{Call}
+use Rattle.lw_calls.specs.declared.reply.Reply.{Reply}
+use Rattle.lw_calls.specs.Limits.{call_fits}
+use Rattle.lw_calls.specs.Touches.{OnRegisters, OnInfo, OnLayer, OnAll, class_of}
+use Rattle.lw_machine.specs.Desk.{Desk}
+use Rattle.lw_machine.specs.Step.{reply, after}
+use Rattle.lw_machine.specs.Parts.{slot_part, info_part}
+use Rattle.lw_layer.specs.View.{CellView}
+use Rattle.lw_layer.specs.StandsFor.{StandsFor}
+use Rattle.lw_stack.specs.Stack.{Stack, StandsForInfo}
+use Rattle.lw_engine.specs.Desks.{StandForRegisters, cell_at, AreNumbered, AreOfDesk, Engine, registers_at, StandsForDesk, IsEngine}
+use Rattle.lw_engine.specs.Parts.{IsRegistersStep, IsLayerStep}
+use Rattle.lw_engine.specs.Steps.{IsStep, with_registers, with_cell}
+use Rattle.lw_engine.proofs.DeskLaws.{registers_desk, layer_desk, all_desk, after_look}
+
+-- a fact of each entry of a list, where it holds of the one that was set
+set_each : {A : Type 0} (P : A → Type 0) (xs : List A) (n k : ℕ) (x d : A) → n < length xs → P x → P (get_or xs k d) → P (get_or (set xs n x) k d)
+set_each P xs n k x d low here there =
+    ⊎_elim
+    (λ (same : k ≡ n). subst P (sym (ap (λ j. get_or (set xs n x) j d) same ∙ get_or-set_same xs n x d low)) here)
+    (λ (other : k ≢ n). subst P (sym (get_or-set_other xs n k x d other)) there)
+    (cases_eq k n)
+
+-- the desk of the program after a call on registers stands for the desk after it
+pub registers_step : {E : Type 0} (result : Result Reply E) (e : Engine) (task : ℕ) (call : Call) (old new : List (List Rectangle)) → length e.registers ≡ e.stack.sizes.tasks → IsTrue (call_fits e.stack.sizes call) → class_of call ≡ OnRegisters → task < e.stack.sizes.tasks → old ≡ registers_at e task → IfOk result (λ r. IsRegistersStep old call r new) → IfOk result (λ r. IsStep e task call r (with_registers e task new))
+registers_step (Ok r) e task call old new tasks fits class here is step =
+    λ d stands.
+    let P : List (List Rectangle) → Type 0 = λ regs. StandForRegisters regs (d.registers task) in
+    let made = step d task (subst P (sym is) (stands.registers task here)) in
+    (made.0, registers_desk e d task call new fits class (omega (arith, tasks)) stands made.1)
+registers_step (Err x) e task call old new tasks fits class here is step = tt
+
+-- what holds of it then
+registers_sound : (e : Engine) (task : ℕ) (call : Call) (r : Reply) (new : List (List Rectangle)) → IsEngine e → length new ≡ 8 → task < e.stack.sizes.tasks → IsStep e task call r (with_registers e task new) → IsEngine (with_registers e task new)
+registers_sound e task call r new ok eight here step = record {
+  cells = ok.cells;
+  tasks = length-set e.registers task new ∙ ok.tasks;
+  eight = λ t low. set_each (λ (regs : List (List Rectangle)). length regs ≡ 8) e.registers task t new [] (omega (arith, ok.tasks)) eight (ok.eight t low);
+  desk = after ok.desk task call;
+  stands = (step ok.desk ok.stands).1;
+}
+
+-- registers that are as before leave it as it was
+registers_kept : (e : Engine) (task : ℕ) (old new : List (List Rectangle)) → old ≡ registers_at e task → new ≡ old → with_registers e task new ≡ e
+registers_kept e task old new is kept =
+    ap (λ regs. with_registers e task regs) (kept ∙ is) ∙ ap (λ (q : List (List (List Rectangle))). record e { registers = q }) (set-get_or e.registers task [])
+
+pub registers_engine : {E : Type 0} (result : Result Reply E) (e : Engine) (task : ℕ) (call : Call) (old new : List (List Rectangle)) → IsEngine e → IsTrue (call_fits e.stack.sizes call) → class_of call ≡ OnRegisters → task < e.stack.sizes.tasks → old ≡ registers_at e task → length new ≡ 8 → IfOk result (λ r. IsRegistersStep old call r new) → OnErr result (new ≡ old) → IsEngine (with_registers e task new)
+registers_engine (Ok r) e task call old new ok fits class here is eight step kept =
+    let result : Result Reply ℕ = Ok r in
+    registers_sound e task call r new ok eight here (registers_step result e task call old new ok.tasks fits class here is step)
+registers_engine (Err x) e task call old new ok fits class here is eight step kept =
+    subst IsEngine (sym (registers_kept e task old new is kept)) ok
+
+-- the desk of the program after a call on a layer stands for the desk after it
+pub layer_step : {E : Type 0} (result : Result Reply E) (e : Engine) (task slot : ℕ) (call : Call) (old new : CellView) (regs : List (List Rectangle)) → AreNumbered e.stack.sizes.slots e.cells → IsTrue (call_fits e.stack.sizes call) → class_of call ≡ OnLayer slot → slot < e.stack.sizes.slots → task < e.stack.sizes.tasks → old ≡ cell_at e.cells slot → regs ≡ registers_at e task → IfOk result (λ r. IsLayerStep old regs call r new) → IfOk result (λ r. IsStep e task call r (with_cell e slot new))
+layer_step (Ok r) e task slot call old new regs cells fits class low here is read step =
+    λ d stands.
+    let P : CellView → Type 0 = λ c. StandsFor c (slot_part d slot) in
+    let Q : List (List Rectangle) → Type 0 = λ q. StandForRegisters q (d.registers task) in
+    let numbered : old.number ≡ slot = ap (λ (c : CellView). c.number) is ∙ cells.numbers slot low in
+    let R : ℕ → Type 0 = λ n. StandsFor old (slot_part d n) in
+    let S : ℕ → Type 0 = λ n. StandsFor new (slot_part (after d task call) n) in
+    let made = step d task (subst R (sym numbered) (subst P (sym is) (stands.parts.slots slot low))) (subst Q (sym read) (stands.registers task here)) in
+    (made.0, layer_desk e d task slot call new fits class (omega (arith, cells.many)) stands (subst S numbered made.1))
+layer_step (Err x) e task slot call old new regs cells fits class low here is read step = tt
+
+-- the number of a cell that was set
+number_set : (cells : List CellView) (slot s : ℕ) (new : CellView) → slot < length cells → new.number ≡ slot → (cell_at cells s).number ≡ s → (cell_at (set cells slot new) s).number ≡ s
+number_set cells slot s new low is was =
+    ⊎_elim
+    (λ (same : s ≡ slot). ap (λ (k : ℕ). (cell_at (set cells slot new) k).number) same ∙ (ap (λ (c : CellView). c.number) (get_or-set_same cells slot new _ low) ∙ (is ∙ sym same)))
+    (λ (other : s ≢ slot). ap (λ (c : CellView). c.number) (get_or-set_other cells slot s new _ other) ∙ was)
+    (cases_eq s slot)
+
+-- what holds of it then
+layer_sound : (e : Engine) (task slot : ℕ) (call : Call) (r : Reply) (new : CellView) → IsEngine e → slot < e.stack.sizes.slots → new.number ≡ slot → IsStep e task call r (with_cell e slot new) → IsEngine (with_cell e slot new)
+layer_sound e task slot call r new ok low is step = record {
+  cells = record {
+    many = length-set e.cells slot new ∙ ok.cells.many;
+    numbers = λ s small. number_set e.cells slot s new (omega (arith, ok.cells.many)) is (ok.cells.numbers s small);
+  };
+  tasks = ok.tasks;
+  eight = ok.eight;
+  desk = after ok.desk task call;
+  stands = (step ok.desk ok.stands).1;
+}
+
+-- a cell that is as before leaves it as it was
+cell_kept : (e : Engine) (slot : ℕ) (old new : CellView) → old ≡ cell_at e.cells slot → new ≡ old → with_cell e slot new ≡ e
+cell_kept e slot old new is kept =
+    ap (λ c. with_cell e slot c) (kept ∙ is) ∙ ap (λ (q : List CellView). record e { cells = q }) (set-get_or e.cells slot _)
+
+pub layer_engine : {E : Type 0} (result : Result Reply E) (e : Engine) (task slot : ℕ) (call : Call) (old new : CellView) (regs : List (List Rectangle)) → IsEngine e → IsTrue (call_fits e.stack.sizes call) → class_of call ≡ OnLayer slot → slot < e.stack.sizes.slots → task < e.stack.sizes.tasks → old ≡ cell_at e.cells slot → regs ≡ registers_at e task → new.number ≡ old.number → IfOk result (λ r. IsLayerStep old regs call r new) → OnErr result (new ≡ old) → IsEngine (with_cell e slot new)
+layer_engine (Ok r) e task slot call old new regs ok fits class low here is read number step kept =
+    let result : Result Reply ℕ = Ok r in
+    layer_sound e task slot call r new ok low (number ∙ (ap (λ (c : CellView). c.number) is ∙ ok.cells.numbers slot low))
+    (layer_step result e task slot call old new regs ok.cells fits class low here is read step)
+layer_engine (Err x) e task slot call old new regs ok fits class low here is read number step kept =
+    subst IsEngine (sym (cell_kept e slot old new is kept)) ok
+
+-- a look answers the desk's reply and leaves all
+pub look_step : (e : Engine) (task : ℕ) (call : Call) (r : Reply) → class_of call ≡ OnInfo → ((d : Desk) (t : ℕ) → StandsForInfo e.stack (info_part d) → r ≡ reply d t call) → IsStep e task call r e
+look_step e task call r class answers =
+    λ d stands.
+    let P : Desk → Type 0 = StandsForDesk e in
+    (answers d task stands.parts.info, subst P (sym (after_look d task call class)) stands)
+
+-- what an arrangement answers and leaves in every desk of LayerInfo and these cells
+abbrev pub IsArranged : Stack → List CellView → ℕ → Call → Reply → Stack → List CellView → Type 0
+IsArranged old cells task call r v new = (d : Desk) → AreOfDesk old cells d → (r ≡ reply d task call) × AreOfDesk v new (after d task call)
+
+-- the desk of the program after an arrangement
+pub all_step : {E : Type 0} (result : Result Reply E) (e : Engine) (task : ℕ) (call : Call) (v : Stack) (old new : List CellView) → class_of call ≡ OnAll → v.sizes ≡ e.stack.sizes → old ≡ e.cells → IfOk result (λ r. IsArranged e.stack old task call r v new) → IfOk result (λ r. IsStep e task call r (record e { stack = v; cells = new }))
+all_step (Ok r) e task call v old new class same is step =
+    λ d stands.
+    let P : List CellView → Type 0 = λ q. AreOfDesk e.stack q d in
+    let made = step d (subst P (sym is) stands.parts) in
+    (made.0, all_desk e d task call v new class same stands made.1)
+all_step (Err x) e task call v old new class same is step = tt
+
+pub all_engine : {E : Type 0} (result : Result Reply E) (e : Engine) (task : ℕ) (call : Call) (v : Stack) (old new : List CellView) → IsEngine e → class_of call ≡ OnAll → v.sizes ≡ e.stack.sizes → old ≡ e.cells → AreNumbered v.sizes.slots new → IfOk result (λ r. IsArranged e.stack old task call r v new) → OnErr result ((v ≡ e.stack) × (new ≡ old)) → IsEngine (record e { stack = v; cells = new })
+all_engine (Ok r) e task call v old new ok class same is numbered step kept =
+    let result : Result Reply ℕ = Ok r in
+    let made = all_step result e task call v old new class same is step in
+    let P : Sizes → Type 0 = λ s. length e.registers ≡ s.tasks in
+    let Q : Sizes → Type 0 = λ s. (t : ℕ) → t < s.tasks → length (registers_at e t) ≡ 8 in
+    record {
+      cells = numbered;
+      tasks = subst P (sym same) ok.tasks;
+      eight = subst Q (sym same) ok.eight;
+      desk = after ok.desk task call;
+      stands = (made ok.desk ok.stands).1;
+    }
+all_engine (Err x) e task call v old new ok class same is numbered step kept =
+    let P : Stack → Type 0 = λ s. IsEngine (record e { stack = s; cells = new }) in
+    let Q : List CellView → Type 0 = λ q. IsEngine (record e { cells = q }) in
+    subst P (sym kept.0) (subst Q (sym (kept.1 ∙ is)) ok)

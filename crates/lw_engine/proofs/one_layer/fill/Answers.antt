@@ -1,0 +1,14 @@
+use Rattle.std.proofs.Common.{refl}
+use Rattle.lw_calls.specs.declared.call.Call.TheVariants.{Fill}
+use Rattle.lw_engine.proofs.OneLayerLaws.{not_open, no_look, look_live, fill_step}
+use Rattle.lw_engine.proofs.one_layer.fill.Goals as goal
+
+pub returns-in_default-clause-step : goal.returns-in_default-clause-step
+returns-in_default-clause-step c =
+    let cell = c.args.cell.now in
+    not_open cell (Fill cell.number c.args.rect.now) refl (no_look cell c.look.result c.look.ensures.look c.in_default.is)
+
+pub returns-clause-step : goal.returns-clause-step
+returns-clause-step c =
+    let cell = c.args.cell.now in
+    fill_step cell c.fill.new.cell c.args.rect.now (look_live cell c.in-Some.field-0 (c.in-Some.ensures {u = tt}).look) c.fill.ensures

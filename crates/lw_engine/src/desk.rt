@@ -1,0 +1,201 @@
+ghost use Rattle.std.specs.Prelude.{◌≡◌, ℕ, ◌<◌, List, [], map, vec_len, replicate, Option, IfOk, OnOk, OnErr, IsTrue};
+ghost use Rattle.std.specs.List.{range_with_len, slice_index_or};
+ghost use Rattle.lw_calls.specs.Assets.{Assets as AssetsView};
+ghost use Rattle.lw_calls.specs.declared.reply.Reply.{Reply as AnyReply};
+ghost use Rattle.lw_calls.specs.Built.{is_built};
+ghost use Rattle.lw_calls.specs.Limits.{IsWithinLimits, call_fits};
+ghost use Rattle.lw_calls.specs.Touches.{class_of, OnRegisters, OnInfo, OnLayer, OnAll};
+ghost use Rattle.lw_machine.specs.Hook.{Hook};
+ghost use Rattle.lw_machine.specs.Desk.{Desk as MachineDesk, empty_desk};
+ghost use Rattle.lw_machine.specs.Finals.{final_of};
+ghost use Rattle.lw_machine.specs.Step.{after, reply};
+ghost use Rattle.lw_arrange.specs.Prepared.{IsPlainCall};
+ghost use Rattle.lw_engine.specs.Desks.{StandsForDesk};
+ghost use Rattle.lw_engine.specs.Parts.{IsBuiltOnLayer};
+ghost use Rattle.lw_engine.specs.Steps.{IsStep, unopened_cell};
+
+use crate::all_layers::on_all;
+use crate::class::{Class, class_of};
+use crate::finishing::finish;
+use crate::looking::on_info;
+use crate::one_layer::on_layer;
+use crate::registers::on_registers;
+use crate::regs::Regs;
+use lw_calls::{Call, Final, Replies, Reply, Sizes};
+use lw_layer::Cell;
+use lw_stack::Info;
+use std::alloc::{AllocError, Global};
+use std::marker::Model;
+
+/// The desk of the machine (the manual's Layers Library chapter): LayerInfo, the cell of each slot, and the region registers of
+/// each task.
+#[derive(Debug, Drop)]
+pub struct Desk {
+    pub(crate) info: Info,
+    /// By slot, in rising number.
+    pub(crate) cells: Vec<Cell>,
+    /// By task.
+    pub(crate) registers: Vec<Regs>,
+}
+
+impl Model for Desk {
+    ghost use Rattle.lw_engine.specs.Desks.{Engine, IsEngine};
+
+    ghost Value = { Engine };
+
+    ghost view = { λ d. record { stack = d.info; cells = d.cells.items; registers = d.registers.items } };
+
+    ghost invariant = { λ d. IsEngine (record { stack = d.info; cells = d.cells.items; registers = d.registers.items }) };
+}
+
+impl Desk {
+    /// The desk before the first call: no layer was created, and the screen shows pen 0 everywhere. It fails for want of memory
+    /// alone.
+    pub fn new(alloc: Global, sizes: Sizes) -> Result<Desk, AllocError>
+        requires { IsWithinLimits sizes }
+        ensures empty { IfOk result (λ desk. (assets : AssetsView) (shelf : ℕ → Option Hook) → StandsForDesk desk (empty_desk sizes assets shelf)) }
+        ensures sizes { IfOk result (λ desk. desk.stack.sizes ≡ sizes) }
+    {
+        let info = Info::new(alloc, &sizes)?;
+        let cells = unopened_cells(alloc, sizes.slots)?;
+        let registers = empty_registers(alloc, sizes.tasks)?;
+        Ok(Desk {
+            info,
+            cells,
+            registers,
+        })
+    }
+
+    /// Makes one call of a task and gives its reply, as the machine's step says. The call has to fit the desk's sizes. It fails
+    /// for want of memory alone, and the desk is then as it was.
+    pub fn step(&mut self, alloc: Global, task: u32, call: &Call) -> Result<Reply, AllocError>
+        requires fits { IsTrue (call_fits self.old.stack.sizes call.now) }
+        requires task { task < self.old.stack.sizes.tasks }
+        requires built { IsTrue (is_built call.now) }
+        ensures replies { IfOk result (λ r. (d : MachineDesk) → StandsForDesk self.old d → r ≡ reply d task call.now) }
+        ensures stands { OnOk result ((d : MachineDesk) → StandsForDesk self.old d → StandsForDesk self.new (after d task call.now)) }
+        ensures unchanged { OnErr result (self.new ≡ self.old) }
+        ensures sizes { self.new.stack.sizes ≡ self.old.stack.sizes }
+    {
+        self.pick(alloc, task, call)
+    }
+
+    /// What a run leaves whose tasks had these replies, a list for each task: the screen, where each layer is shown with its
+    /// damage, and the replies. It fails for want of memory alone.
+    pub fn finish(&self, alloc: Global, replies: Vec<Replies>) -> Result<Final, AllocError>
+        requires { vec_len replies ≡ self.now.stack.sizes.tasks }
+        ensures { IfOk result (λ last. (d : MachineDesk) (rs : ℕ → List AnyReply)
+            → StandsForDesk self.now d
+            → ((t : ℕ) → t < self.now.stack.sizes.tasks → slice_index_or replies.items t [] ≡ rs t)
+            → last ≡ final_of d rs) }
+    {
+        finish(alloc, &self.info, self.cells.as_slice(), replies)
+    }
+
+    // Makes a call by what it works on.
+    fn pick(&mut self, alloc: Global, task: u32, call: &Call) -> Result<Reply, AllocError>
+        requires fits { IsTrue (call_fits self.old.stack.sizes call.now) }
+        requires task { task < self.old.stack.sizes.tasks }
+        requires built { IsTrue (is_built call.now) }
+        ensures step { IfOk result (λ r. IsStep self.old task call.now r self.new) }
+        ensures unchanged { OnErr result (self.new ≡ self.old) }
+        ensures sizes { self.new.stack.sizes ≡ self.old.stack.sizes }
+    {
+        match class_of(call) {
+            Class::Registers => self.on_registers(alloc, task, call),
+            Class::Info => Ok(self.on_info(call)),
+            Class::Layer(slot) => self.on_layer(alloc, task, slot, call),
+            Class::All => self.on_all(alloc, task, call),
+            // No call on two layers is built.
+            Class::Layers(..) => unreachable!(),
+        }
+    }
+
+    // A call on the registers of its task.
+    fn on_registers(&mut self, alloc: Global, task: u32, call: &Call) -> Result<Reply, AllocError>
+        requires class { class_of call.now ≡ OnRegisters }
+        requires fits { IsTrue (call_fits self.old.stack.sizes call.now) }
+        requires task { task < self.old.stack.sizes.tasks }
+        ensures step { IfOk result (λ r. IsStep self.old task call.now r self.new) }
+        ensures unchanged { OnErr result (self.new ≡ self.old) }
+        ensures sizes { self.new.stack.sizes ≡ self.old.stack.sizes }
+    {
+        on_registers(alloc, &mut self.registers[task as usize], call)
+    }
+
+    // A call that looks at LayerInfo.
+    fn on_info(&self, call: &Call) -> Reply
+        requires class { class_of call.now ≡ OnInfo }
+        ensures { (task : ℕ) → IsStep self.now task call.now result self.now }
+    {
+        on_info(&self.info, call)
+    }
+
+    // A call on one layer.
+    fn on_layer(
+        &mut self,
+        alloc: Global,
+        task: u32,
+        slot: u32,
+        call: &Call,
+    ) -> Result<Reply, AllocError>
+        requires class { class_of call.now ≡ OnLayer slot }
+        requires fits { IsTrue (call_fits self.old.stack.sizes call.now) }
+        requires task { task < self.old.stack.sizes.tasks }
+        requires built { IsBuiltOnLayer call.now }
+        ensures step { IfOk result (λ r. IsStep self.old task call.now r self.new) }
+        ensures unchanged { OnErr result (self.new ≡ self.old) }
+        ensures sizes { self.new.stack.sizes ≡ self.old.stack.sizes }
+    {
+        on_layer(
+            alloc,
+            &mut self.cells[slot as usize],
+            &self.registers[task as usize],
+            call,
+        )
+    }
+
+    // A call that arranges the layers.
+    fn on_all(&mut self, alloc: Global, task: u32, call: &Call) -> Result<Reply, AllocError>
+        requires class { class_of call.now ≡ OnAll }
+        requires fits { IsTrue (call_fits self.old.stack.sizes call.now) }
+        requires plain { IsPlainCall call.now }
+        ensures step { IfOk result (λ r. IsStep self.old task call.now r self.new) }
+        ensures unchanged { OnErr result (self.new ≡ self.old) }
+        ensures sizes { self.new.stack.sizes ≡ self.old.stack.sizes }
+    {
+        on_all(alloc, &mut self.info, self.cells.as_mut_slice(), task, call)
+    }
+}
+
+// The cells of so many slots, of which none was opened.
+fn unopened_cells(alloc: Global, count: u32) -> Result<Vec<Cell>, AllocError>
+    ensures { IfOk result (λ v. v.items ≡ map unopened_cell (range_with_len 0 count)) }
+{
+    let mut cells = Vec::with_capacity(alloc, count as usize)?;
+    for slot in 0..count {
+        cells.push(Cell::unopened(slot))?;
+    }
+    Ok(cells)
+}
+
+// Empty registers for so many tasks.
+fn empty_registers(alloc: Global, count: u32) -> Result<Vec<Regs>, AllocError>
+    ensures { IfOk result (λ v. v.items ≡ replicate count (replicate 8 [])) }
+{
+    let mut registers = Vec::with_capacity(alloc, count as usize)?;
+    for _task in 0..count {
+        registers.push(Regs::new(alloc))?;
+    }
+    Ok(registers)
+}
+
+// The desk may go to another thread, and threads may share it: the bounds ask for the proofs.
+fn cross_threads() {
+    crosses::<Desk>();
+    is_shared::<Desk>();
+}
+
+fn crosses<T: Send>() {}
+
+fn is_shared<T: Sync>() {}
