@@ -1,5 +1,6 @@
 pub mod DrawnLaws
 pub mod LineLaws
 pub mod PaintLaws
+pub mod RastLaws
 pub mod SpanLaws
 pub mod StretchLaws

@@ -11,13 +11,13 @@ use Rattle.lw_planes.proofs.PenLaws.{pen_of_same, pen_same}
 use Rattle.lw_kernels.specs.Kernel.{is_between, is_named}
 use Rattle.lw_machine.specs.Layer.{Raster}
 use Rattle.lw_machine.specs.Kept.{is_drawable, is_kept}
-use Rattle.lw_machine.specs.Paint.{candidate_bit, through_mask, with_pens}
+use Rattle.lw_machine.specs.Paint.{through_mask, with_pens, draw_where, paint_where}
 use Rattle.lw_machine.specs.Shapes.{rect_fill}
 use Rattle.lw_layer.specs.View.{LiveView, CellView, shows, draws, with_live, with_layer}
 use Rattle.lw_layer.specs.Runs.{IsRun}
 use Rattle.lw_layer.specs.declared.run.Run.{Run}
 use Rattle.lw_layer.proofs.LineLaws.{repainted_same}
-use Rattle.lw_draw.specs.Drawn.{drawn, GivesBits, painted_bit, painted, in_run, in_rows}
+use Rattle.lw_draw.specs.Drawn.{drawn, GivesBits, painted_bit, painted, in_mask, in_run, in_rows}
 use Rattle.lw_draw.specs.Stretches.{IsFirstStretch, IsNextStretch}
 use Rattle.lw_draw.specs.declared.stretch.Stretch.{Stretch}
 use Rattle.lw_draw.proofs.DrawnLaws.{AreMore, drawn_more, drawn_same, drawn_nowhere}
@@ -180,11 +180,20 @@ tests_turned false column row true true first second = refl
 tests_turned false column row false true first second = refl
 tests_turned false column row across false first second = refl
 
+-- A shape is drawn once its drawable pixels are drawn in the planes that the mask has.
+pub shape_drawn : (c : LiveView) (shape on : ℕ → ℕ → Bool) (new : ℕ → ℕ → ℕ → ℕ → ℕ) → IsBitmap c.layer.bits → ((x y : ℕ) → x < c.layer.bits.width → y < c.layer.bits.height → (draws c x y && shape x y) ≡ on x y) → drawn (λ p x y. in_mask c.layer.raster p && on x y) new c ≡ with_layer (λ l. draw_where (λ x y. shows c x y) shape (λ x y k. new k x y (bit_at (pen_at l.bits x y) k)) l) c
+unfolding drawn draws with_pens through_mask
+shape_drawn c shape on new ok same =
+    repainted_same c _ _
+    (λ x y left low. painted_pen c.layer.bits.depth (pen_at c.layer.bits x y) (is_drawable (λ i j. shows c i j) c.layer x y && shape x y) (on x y) (λ p. in_mask c.layer.raster p) (λ p. new p x y (bit_at (pen_at c.layer.bits x y) p)) (ok.pens x y left low) (same x y left low))
+
+-- A shape is painted once its drawable pixels are.
+pub shape_painted : (c : LiveView) (raster : Raster) (shape on : ℕ → ℕ → Bool) → IsBitmap c.layer.bits → raster ≡ c.layer.raster → ((x y : ℕ) → x < c.layer.bits.width → y < c.layer.bits.height → (draws c x y && shape x y) ≡ on x y) → painted raster on c ≡ with_layer (λ l. paint_where (λ x y. shows c x y) shape (λ x y. true) l) c
+shape_painted c raster shape on ok is same =
+    ap (λ r. painted r on c) is ∙ shape_drawn c shape on (painted_bit c.layer.raster) ok same
+
 -- A rectangle is filled once its drawable pixels are painted.
 pub rectangle_filled : (c : LiveView) (raster : Raster) (rect : Rectangle) (top bottom from end : ℕ) → IsBitmap c.layer.bits → raster ≡ c.layer.raster → ((u : ℕ) → u < c.layer.bits.width → within rect.min_x (pos u) rect.max_x ≡ is_between from end u) → ((v : ℕ) → v < c.layer.bits.height → within rect.min_y (pos v) rect.max_y ≡ is_between top bottom v) → painted raster (λ i j. in_rows c top bottom from end i j) c ≡ with_layer (λ l. rect_fill (λ x y. shows c x y) rect l) c
-unfolding drawn draws with_pens through_mask
 rectangle_filled c raster rect top bottom from end ok same columns rows =
-    ap (λ r. painted r (λ i j. in_rows c top bottom from end i j) c) same ∙
-    repainted_same c _ _
-    (λ x y left low. painted_pen c.layer.bits.depth (pen_at c.layer.bits x y) (is_drawable (λ i j. shows c i j) c.layer x y && has_pixel rect (pos x) (pos y)) (in_rows c top bottom from end x y) (λ p. bit_at c.layer.raster.mask p == 1) (λ p. candidate_bit c.layer.raster true p (bit_at (pen_at c.layer.bits x y) p)) (ok.pens x y left low)
-    (tests_turned (is_drawable (λ i j. shows c i j) c.layer x y) (within rect.min_x (pos x) rect.max_x) (within rect.min_y (pos y) rect.max_y) (is_between from end x) (is_between top bottom y) (columns x left) (rows y low)))
+    shape_painted c raster (λ x y. has_pixel rect (pos x) (pos y)) (λ i j. in_rows c top bottom from end i j) ok same
+    (λ x y left low. tests_turned (draws c x y) (within rect.min_x (pos x) rect.max_x) (within rect.min_y (pos y) rect.max_y) (is_between from end x) (is_between top bottom y) (columns x left) (rows y low))

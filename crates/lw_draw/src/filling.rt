@@ -23,7 +23,7 @@ pub fn fill(cell: &mut Cell, rect: &Rect)
 }
 
 // Fills the drawable pixels of some rows and columns.
-fn fill_rows(cell: &mut Cell, rows: Places, columns: Places, raster: Raster)
+pub(crate) fn fill_rows(cell: &mut Cell, rows: Places, columns: Places, raster: Raster)
     requires live { cell.old.state ≡ view.Live }
     requires rows { rows.from ≤ rows.end }
     requires bottom { rows.end < 65536 }

@@ -4,10 +4,12 @@
 
 mod filling;
 mod painting;
+mod rast;
 mod spans;
 mod stretch;
 
 pub use filling::fill;
+pub use rast::set_rast;
 
 #[cfg(test)]
 mod tests;
