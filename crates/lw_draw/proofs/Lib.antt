@@ -1,6 +1,7 @@
 pub mod DrawnLaws
 pub mod LineLaws
 pub mod PaintLaws
+pub mod PixelLaws
 pub mod RastLaws
 pub mod SpanLaws
 pub mod StretchLaws

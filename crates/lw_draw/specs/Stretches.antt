@@ -1,5 +1,6 @@
 -- Runs of drawable pixels in a row of a layer, one after another: words of this crate's private contracts.
-use Rattle.std.specs.Prelude.{◌≡◌, ℕ, ◌+◌, ◌≤◌, Bool, pos, ◌-ℤ◌, Option, Some, None}
+use Rattle.std.specs.Prelude.{◌≡◌, ℕ, ◌+◌, ◌≤◌, Bool, false, ℤ, pos, ◌-ℤ◌, Option, Some, None}
+use Rattle.lw_machine.specs.Kept.{holds_at}
 use Rattle.lw_layer.specs.View.{LiveView, draws}
 use Rattle.lw_layer.specs.Runs.{IsRun, IsFirst, IsNext}
 use Rattle.lw_draw.specs.Drawn.{in_run}
@@ -19,3 +20,15 @@ pub record IsFirstStretch (c : LiveView) (x y end : ℕ) (s : Stretch) : Type 0 
 abbrev pub IsNextStretch : LiveView → ℕ → ℕ → ℕ → Option Stretch → Type 0
 IsNextStretch c x y end None = IsNext (λ i j. draws c i j) (pos x) (pos y) (pos end -ℤ pos 1) None
 IsNextStretch c x y end (Some s) = IsFirstStretch c x y end s
+
+-- the one drawable pixel at a column and a row
+pub record IsPixel (c : LiveView) (x y : ℤ) (s : Stretch) : Type 0 where
+  pub column : x ≡ pos s.x
+  pub row : y ≡ pos s.y
+  pub one : s.run.len ≡ 1
+  pub run : IsRun c (λ i j. draws c i j) s.x s.y s.run
+
+-- that pixel, or none where it isn't drawable
+abbrev pub IsPixelAt : LiveView → ℤ → ℤ → Option Stretch → Type 0
+IsPixelAt c x y None = holds_at (λ i j. draws c i j) x y ≡ false
+IsPixelAt c x y (Some s) = IsPixel c x y s

@@ -4,11 +4,13 @@
 
 mod filling;
 mod painting;
+mod pixels;
 mod rast;
 mod spans;
 mod stretch;
 
 pub use filling::fill;
+pub use pixels::{read_pixel, write_pixel};
 pub use rast::set_rast;
 
 #[cfg(test)]

@@ -3,7 +3,7 @@
 ghost use Rattle.std.specs.Prelude.{◌≡◌, ◌+◌, ◌<◌, ◌≤◌, true, min};
 ghost use Rattle.lw_layer.specs.View.{draws};
 ghost use Rattle.lw_layer.specs.Runs.{IsRun};
-ghost use Rattle.lw_draw.specs.Stretches.{IsNextStretch};
+ghost use Rattle.lw_draw.specs.Stretches.{IsNextStretch, IsPixelAt};
 
 use lw_layer::{Cell, Run};
 
@@ -28,6 +28,21 @@ pub(crate) fn next_stretch(cell: &Cell, x: u32, y: u32, end: u32) -> Option<Stre
     let column = column as u32;
     let run = run_before(cell, column, y, end);
     Some(Stretch { x: column, y, run })
+}
+
+// The one pixel at column x and row y, if it is drawable.
+pub(crate) fn pixel_at(cell: &Cell, x: i32, y: i32) -> Option<Stretch>
+    ensures { IsPixelAt cell.now.live x y result }
+{
+    let Some(run) = cell.run_at(x, y) else {
+        return None;
+    };
+    let run = cut(run, 1);
+    Some(Stretch {
+        x: x as u32,
+        y: y as u32,
+        run,
+    })
 }
 
 // A run of drawable pixels from a drawable one on, before another column.
