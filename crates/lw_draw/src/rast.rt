@@ -20,16 +20,11 @@ pub fn set_rast(cell: &mut Cell, pen: u8)
         from: 0,
         end: cell.height(),
     };
-    fill_rows(cell, rows, columns, solid(cell.raster(), pen));
-}
-
-// The raster state that fills with a pen, and inverts nothing.
-fn solid(raster: Raster, pen: u8) -> Raster
-    ensures { result ≡ record raster { a = pen; mode = 0 } }
-{
-    Raster {
+    // This mode inverts nothing.
+    let solid = Raster {
         a: pen,
         mode: 0,
-        ..raster
-    }
+        ..cell.raster()
+    };
+    fill_rows(cell, rows, columns, solid);
 }

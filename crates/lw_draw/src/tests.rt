@@ -4,7 +4,7 @@ ghost use Rattle.lw_damage.specs.Damaged.{may_lie};
 ghost use Rattle.lw_layer.specs.View as view;
 ghost use Rattle.lw_layer.specs.Drafts.{IsDraft, IsLiveDraft, cell_view};
 
-use super::fill;
+use super::{fill, read_pixel, set_rast, write_pixel};
 use lw_calls::{Kind, Make, Place};
 use lw_damage::Damage;
 use lw_layer::{Cell, Draft, DraftState, LiveDraft, Raster};
@@ -12,9 +12,18 @@ use lw_region::{Rect, Region};
 use std::alloc::Global;
 use std::test::Fail;
 
+// A call: the rectangle that is filled; the place of a pixel that is written, with the answer that is due; or the pen that all
+// takes.
+#[derive(Clone, Copy)]
+enum Draw {
+    Fill([i16; 4]),
+    Pixel(i32, i32, bool),
+    Rast(u8),
+}
+
 // A layer's kind, its pen A, mode and mask, its clip region if that isn't empty, the damage of an update if that isn't empty (of
-// smart layers alone), the rectangle that is filled, and what is due row by row: the digit of each pixel's pen, and a dot for a
-// pixel that isn't kept. Each rectangle is told by its four bounds.
+// smart layers alone), the call, and what is due row by row: the digit of each pixel's pen, and a dot for a pixel that isn't
+// kept. Each rectangle is told by its four bounds.
 struct Case {
     kind: Kind,
     a: u8,
@@ -22,14 +31,14 @@ struct Case {
     mask: u8,
     clip: &'static [[i16; 4]],
     damage: &'static [[i16; 4]],
-    rect: [i16; 4],
+    call: Draw,
     due: [&'static [u8]; 3],
 }
 
 // The visible pixels of a layer that has the columns 10 to 29 and the rows 5 to 7 of the screen.
 static VISIBLE: [[i16; 4]; 2] = [[12, 5, 17, 6], [20, 6, 29, 7]];
 
-static CASES: [Case; 7] = [
+static CASES: [Case; 16] = [
     // Over visible and hidden rectangles, and above the layer.
     Case {
         kind: Kind::Smart,
@@ -38,7 +47,7 @@ static CASES: [Case; 7] = [
         mask: 255,
         clip: &[],
         damage: &[],
-        rect: [2, -5, 18, 1],
+        call: Draw::Fill([2, -5, 18, 1]),
         due: [
             b"00111111111111111110",
             b"00111111111111111110",
@@ -53,7 +62,7 @@ static CASES: [Case; 7] = [
         mask: 255,
         clip: &[[4, 0, 6, 2], [12, 1, 15, 1]],
         damage: &[],
-        rect: [-32768, -32768, 32767, 32767],
+        call: Draw::Fill([-32768, -32768, 32767, 32767]),
         due: [
             b"00003330000000000000",
             b"00003330000033330000",
@@ -68,7 +77,7 @@ static CASES: [Case; 7] = [
         mask: 2,
         clip: &[],
         damage: &[],
-        rect: [0, 2, 3, 2],
+        call: Draw::Fill([0, 2, 3, 2]),
         due: [
             b"00000000000000000000",
             b"00000000000000000000",
@@ -83,7 +92,7 @@ static CASES: [Case; 7] = [
         mask: 255,
         clip: &[[0, 0, 9, 1]],
         damage: &[[3, 1, 14, 9], [1, 0, 1, 0]],
-        rect: [0, 0, 18, 2],
+        call: Draw::Fill([0, 0, 18, 2]),
         due: [
             b"01000000000000000000",
             b"00011111110000000000",
@@ -98,7 +107,7 @@ static CASES: [Case; 7] = [
         mask: 255,
         clip: &[],
         damage: &[],
-        rect: [0, 0, 18, 2],
+        call: Draw::Fill([0, 0, 18, 2]),
         due: [
             b"..222222............",
             b"..222222..2222222220",
@@ -113,7 +122,7 @@ static CASES: [Case; 7] = [
         mask: 1,
         clip: &[],
         damage: &[],
-        rect: [1, 1, 11, 1],
+        call: Draw::Fill([1, 1, 11, 1]),
         due: [
             b"00000000000000000000",
             b"01111111111100000000",
@@ -128,7 +137,142 @@ static CASES: [Case; 7] = [
         mask: 255,
         clip: &[],
         damage: &[],
-        rect: [-9, 0, -1, 2],
+        call: Draw::Fill([-9, 0, -1, 2]),
+        due: [
+            b"00000000000000000000",
+            b"00000000000000000000",
+            b"00000000000000000000",
+        ],
+    },
+    // A pixel in the corner of a clip region.
+    Case {
+        kind: Kind::Smart,
+        a: 3,
+        mode: 0,
+        mask: 255,
+        clip: &[[4, 0, 6, 2], [12, 1, 15, 1]],
+        damage: &[],
+        call: Draw::Pixel(6, 2, true),
+        due: [
+            b"00000000000000000000",
+            b"00000000000000000000",
+            b"00000030000000000000",
+        ],
+    },
+    // A pixel beside a clip region.
+    Case {
+        kind: Kind::Smart,
+        a: 3,
+        mode: 0,
+        mask: 255,
+        clip: &[[4, 0, 6, 2], [12, 1, 15, 1]],
+        damage: &[],
+        call: Draw::Pixel(7, 2, false),
+        due: [
+            b"00000000000000000000",
+            b"00000000000000000000",
+            b"00000000000000000000",
+        ],
+    },
+    // A pixel inverted, in the second plane alone.
+    Case {
+        kind: Kind::SuperBitmap,
+        a: 1,
+        mode: 2,
+        mask: 2,
+        clip: &[],
+        damage: &[],
+        call: Draw::Pixel(19, 0, true),
+        due: [
+            b"00000000000000000002",
+            b"00000000000000000000",
+            b"00000000000000000000",
+        ],
+    },
+    // A hidden pixel of a simple layer.
+    Case {
+        kind: Kind::Simple,
+        a: 1,
+        mode: 0,
+        mask: 255,
+        clip: &[],
+        damage: &[],
+        call: Draw::Pixel(8, 1, false),
+        due: [
+            b"..000000............",
+            b"..000000..0000000000",
+            b"..........0000000000",
+        ],
+    },
+    // A pixel beside the layer.
+    Case {
+        kind: Kind::Smart,
+        a: 1,
+        mode: 0,
+        mask: 255,
+        clip: &[],
+        damage: &[],
+        call: Draw::Pixel(-1, 0, false),
+        due: [
+            b"00000000000000000000",
+            b"00000000000000000000",
+            b"00000000000000000000",
+        ],
+    },
+    // All of a clip region takes a pen, and not pen A.
+    Case {
+        kind: Kind::Smart,
+        a: 1,
+        mode: 0,
+        mask: 255,
+        clip: &[[4, 0, 6, 2], [12, 1, 15, 1]],
+        damage: &[],
+        call: Draw::Rast(2),
+        due: [
+            b"00002220000000000000",
+            b"00002220000022220000",
+            b"00002220000000000000",
+        ],
+    },
+    // The mask leaves one plane of the pen that all takes.
+    Case {
+        kind: Kind::SuperBitmap,
+        a: 2,
+        mode: 0,
+        mask: 1,
+        clip: &[],
+        damage: &[],
+        call: Draw::Rast(255),
+        due: [
+            b"11111111111111111111",
+            b"11111111111111111111",
+            b"11111111111111111111",
+        ],
+    },
+    // All that a simple layer shows takes the pen under COMPLEMENT too.
+    Case {
+        kind: Kind::Simple,
+        a: 2,
+        mode: 2,
+        mask: 255,
+        clip: &[],
+        damage: &[],
+        call: Draw::Rast(1),
+        due: [
+            b"..111111............",
+            b"..111111..1111111111",
+            b"..........1111111111",
+        ],
+    },
+    // A clip region beside the layer.
+    Case {
+        kind: Kind::Smart,
+        a: 1,
+        mode: 0,
+        mask: 255,
+        clip: &[[20, 0, 29, 2]],
+        damage: &[],
+        call: Draw::Rast(3),
         due: [
             b"00000000000000000000",
             b"00000000000000000000",
@@ -202,7 +346,7 @@ fn draft_of(alloc: Global, kind: Kind, damage: &[[i16; 4]]) -> Result<Draft, Fai
     })
 }
 
-// The cell of a case before the fill.
+// The cell of a case before the call.
 fn cell_of(alloc: Global, case: &Case) -> Result<Cell, Fail>
     requires { case.now.mode < 8 }
     ensures { IfOk result (λ c. c.state ≡ view.Live) }
@@ -223,33 +367,51 @@ fn cell_of(alloc: Global, case: &Case) -> Result<Cell, Fail>
     Ok(cell)
 }
 
-// What is due of a pixel.
+// What is due of the pixel before column x.
 fn due_at(row: &[u8], x: u32) -> Option<u8> {
-    match row.get(x as usize) {
+    match row.get((x as usize).wrapping_sub(1)) {
         None => None,
         Some(b'.') => None,
         Some(digit) => Some(digit.wrapping_sub(b'0')),
     }
 }
 
+// The row has the pens that are due, and there is no pixel to its left or to its right.
 fn has_row(cell: &Cell, y: u32, row: &[u8]) -> bool
     requires { y < 3 }
 {
-    for x in 0..20u32 {
-        if cell.kept_at(x as i32, y as i32) != due_at(row, x) {
+    for x in 0..22u32 {
+        if read_pixel(cell, x as i32 - 1, y as i32) != due_at(row, x) {
             return false;
         }
     }
     true
 }
 
+// Makes the call, and tells whether its answer is the one that is due.
+fn answers(cell: &mut Cell, call: Draw) -> Result<bool, Fail>
+    requires { cell.old.state ≡ view.Live }
+{
+    match call {
+        Draw::Fill(bounds) => {
+            fill(cell, &rect_of(bounds)?);
+            Ok(true)
+        }
+        Draw::Pixel(x, y, due) => Ok(write_pixel(cell, x, y) == due),
+        Draw::Rast(pen) => {
+            set_rast(cell, pen);
+            Ok(true)
+        }
+    }
+}
+
 #[test]
-fn rectangles_are_filled_as_worked_out_by_hand(rt: HostRuntime) -> Result<(), Fail> {
+fn calls_draw_as_worked_out_by_hand(rt: HostRuntime) -> Result<(), Fail> {
     let alloc = rt.alloc();
     for case in &CASES {
         assert!(rt; case.mode < 8);
         let mut cell = cell_of(alloc, case)?;
-        fill(&mut cell, &rect_of(case.rect)?);
+        assert!(rt; answers(&mut cell, case.call)?);
         for y in 0..3u32 {
             assert!(rt; has_row(&cell, y, case.due[y as usize]), "row {y}");
         }

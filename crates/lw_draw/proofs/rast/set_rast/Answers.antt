@@ -1,6 +1,5 @@
 use Rattle.std.proofs.Common.{◌∙◌, ap}
 use Rattle.lw_layer.specs.View.{LiveView}
-use Rattle.lw_layer.specs.Drafts.{raster_of}
 use Rattle.lw_draw.proofs.RastLaws.{rast_set, solid_of}
 use Rattle.lw_draw.proofs.rast.set_rast.Goals as goal
 
@@ -8,6 +7,4 @@ pub returns : goal.returns
 returns c =
     c.fill_rows.ensures ∙
     ap (λ (q : LiveView). record c.args.cell.now { live = q })
-    (rast_set c.args.cell.now.live (raster_of c.solid.result) c.args.pen c.width.result c.height.result c.width.ensures.bits.bitmap
-    (ap (λ r. raster_of r) c.solid.ensures ∙ ap (λ r. solid_of r c.args.pen) c.raster.ensures.value)
-    c.width.ensures.value c.height.ensures.value)
+    (rast_set c.args.cell.now.live _ c.args.pen c.width.result c.height.result c.width.ensures.bits.bitmap (ap (λ r. solid_of r c.args.pen) c.raster.ensures.value) c.width.ensures.value c.height.ensures.value)
