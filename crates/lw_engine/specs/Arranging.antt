@@ -1,4 +1,5 @@
--- What a call makes of LayerInfo and all cells, and what is prepared for it (this project's own).
+-- What a call makes of LayerInfo and all cells (`IsAllStep`), and words of this crate's private contracts on what is prepared for it
+-- (this project's own).
 use Rattle.std.specs.Prelude.{◌≡◌, ◌↔◌, ℕ, ◌<◌, ◌≤◌, Bool, List, length, IsTrue, Option, None}
 use Rattle.std.specs.List.{slice_index_or}
 use Rattle.lw_calls.specs.declared.call.Call.{Call}

@@ -1,4 +1,5 @@
--- What a run leaves, made from the list of layers and the cells of all slots (this project's own).
+-- Words of this crate's private contracts: what a run leaves, made from the list of layers and the cells of all slots (this
+-- project's own).
 use Rattle.std.specs.Prelude.{◌≡◌, ℕ, ◌+◌, ◌*◌, ◌<◌, ◌≤◌, ◌==◌, Bool, ◌&&◌, nat_lt, int_le, if◌then◌else◌, List, length, ℤ, pos, ◌+ℤ◌, ◌≤ℤ◌, Option, Some, None}
 use Rattle.std.specs.Int.{bit_at}
 use Rattle.lw_region.specs.Pixels.{Pixel}

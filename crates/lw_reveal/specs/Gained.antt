@@ -1,5 +1,5 @@
--- The damage of a layer that gets other bounds or another visible region, pixel by pixel in layer coordinates (the manual's Layers
--- Library chapter: the damage list).
+-- Words of this crate's private contracts: the damage of a layer that gets other bounds or another visible region, pixel by pixel
+-- in layer coordinates (the manual's Layers Library chapter: the damage list).
 use Rattle.std.specs.Prelude.{◌≡◌, Bool, true, false, not, ◌&&◌, List, ℤ, ◌+ℤ◌, ◌-ℤ◌, Option}
 use Rattle.lw_region.specs.Rectangle.{Rectangle, has_pixel, IsWord}
 use Rattle.lw_region.specs.Bands.{covers}
