@@ -1,7 +1,10 @@
 pub mod DrawnLaws
+pub mod DrawnLines
 pub mod LineLaws
 pub mod PaintLaws
 pub mod PixelLaws
 pub mod RastLaws
+pub mod RowSpanLaws
 pub mod SpanLaws
+pub mod StepLaws
 pub mod StretchLaws

@@ -150,11 +150,16 @@ rows_apart has inside j top y = grind (arith, nat_tests)
 rows_whole : (has inside : Bool) (j top y : ℕ) → top ≤ y → (has && (is_between top (y + 1) j && inside)) ≡ ((has && (is_between top y j && inside)) || (has && (is_between y (y + 1) j && inside)))
 rows_whole has inside j top y low = grind (arith, nat_tests)
 
-pub next_row : (c : LiveView) (has : ℕ → Bool) (top y from end : ℕ) → top ≤ y → AreMore c (λ p i j. has p && in_rows c top y from end i j) (λ p i j. has p && in_rows c y (y + 1) from end i j) (λ p i j. has p && in_rows c top (y + 1) from end i j)
-next_row c has top y from end low = record {
-  apart = λ p i j _ _ _. rows_apart (has p) (is_between from end i && draws c i j) j top y;
-  whole = λ p i j _ _ _. rows_whole (has p) (is_between from end i && draws c i j) j top y low;
+-- of any shape
+pub next_row_of : (c : LiveView) (has : ℕ → Bool) (shape : ℕ → ℕ → Bool) (top y : ℕ) → top ≤ y → AreMore c (λ p i j. has p && (is_between top y j && shape i j)) (λ p i j. has p && (is_between y (y + 1) j && shape i j)) (λ p i j. has p && (is_between top (y + 1) j && shape i j))
+next_row_of c has shape top y low = record {
+  apart = λ p i j _ _ _. rows_apart (has p) (shape i j) j top y;
+  whole = λ p i j _ _ _. rows_whole (has p) (shape i j) j top y low;
 }
+
+-- of some columns
+pub next_row : (c : LiveView) (has : ℕ → Bool) (top y from end : ℕ) → top ≤ y → AreMore c (λ p i j. has p && in_rows c top y from end i j) (λ p i j. has p && in_rows c y (y + 1) from end i j) (λ p i j. has p && in_rows c top (y + 1) from end i j)
+next_row c has top y from end low = next_row_of c has (λ i j. is_between from end i && draws c i j) top y low
 
 -- a plane's bit where the pixel is painted, and where it isn't
 painted_plane : (has : Bool) (a b : ℕ) → (if has && true then a else b) ≡ (if has then a else b)

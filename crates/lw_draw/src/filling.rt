@@ -41,7 +41,7 @@ pub(crate) fn fill_rows(cell: &mut Cell, rows: Places, columns: Places, raster: 
 }
 
 // Fills the drawable pixels of some columns of a row, run by run.
-fn fill_row(cell: &mut Cell, y: u32, columns: Places, raster: Raster)
+pub(crate) fn fill_row(cell: &mut Cell, y: u32, columns: Places, raster: Raster)
     requires live { cell.old.state ≡ view.Live }
     requires row { y < 65536 }
     requires columns { columns.from ≤ columns.end }

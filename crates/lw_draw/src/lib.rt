@@ -3,13 +3,16 @@
 #![tactic(auto)]
 
 mod filling;
+mod lines;
 mod painting;
 mod pixels;
 mod rast;
+mod row_spans;
 mod spans;
 mod stretch;
 
 pub use filling::fill;
+pub use lines::line;
 pub use pixels::{read_pixel, write_pixel};
 pub use rast::set_rast;
 

@@ -26,7 +26,7 @@ pub(crate) fn span(least: i16, greatest: i16, extent: u32) -> Places
 }
 
 // A place, or the nearest one from 0 to the extent.
-fn edge(place: i32, extent: u32) -> u32
+pub(crate) fn edge(place: i32, extent: u32) -> u32
     requires { extent ≤ 2048 }
     ensures inside { result ≤ extent }
     ensures from { (u : ℕ) → u < extent → int_le place (pos u) ≡ int_le (pos result) (pos u) }

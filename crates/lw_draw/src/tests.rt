@@ -4,7 +4,7 @@ ghost use Rattle.lw_damage.specs.Damaged.{may_lie};
 ghost use Rattle.lw_layer.specs.View as view;
 ghost use Rattle.lw_layer.specs.Drafts.{IsDraft, IsLiveDraft, cell_view};
 
-use super::{fill, read_pixel, set_rast, write_pixel};
+use super::{fill, line, read_pixel, set_rast, write_pixel};
 use lw_calls::{Kind, Make, Place};
 use lw_damage::Damage;
 use lw_layer::{Cell, Draft, DraftState, LiveDraft, Raster};
@@ -412,6 +412,148 @@ fn calls_draw_as_worked_out_by_hand(rt: HostRuntime) -> Result<(), Fail> {
         assert!(rt; case.mode < 8);
         let mut cell = cell_of(alloc, case)?;
         assert!(rt; answers(&mut cell, case.call)?);
+        for y in 0..3u32 {
+            assert!(rt; has_row(&cell, y, case.due[y as usize]), "row {y}");
+        }
+    }
+    Ok(())
+}
+
+// How a line is drawn on a smart layer: the mode and mask, the clip region if that isn't empty, its two ends, and what is due
+// row by row, as above. Pen A is 3.
+struct LineCase {
+    mode: u8,
+    mask: u8,
+    clip: &'static [[i16; 4]],
+    from: [i16; 2],
+    to: [i16; 2],
+    due: [&'static [u8]; 3],
+}
+
+static LINES: [LineCase; 7] = [
+    // Two steps to the right and one down: the half is rounded up.
+    LineCase {
+        mode: 1,
+        mask: 1,
+        clip: &[],
+        from: [0, 0],
+        to: [2, 1],
+        due: [
+            b"10000000000000000000",
+            b"01100000000000000000",
+            b"00000000000000000000",
+        ],
+    },
+    // The other way round it has other pixels.
+    LineCase {
+        mode: 1,
+        mask: 1,
+        clip: &[],
+        from: [2, 1],
+        to: [0, 0],
+        due: [
+            b"11000000000000000000",
+            b"00100000000000000000",
+            b"00000000000000000000",
+        ],
+    },
+    // Straight up, out of the layer.
+    LineCase {
+        mode: 0,
+        mask: 255,
+        clip: &[],
+        from: [5, 2],
+        to: [5, -3],
+        due: [
+            b"00000300000000000000",
+            b"00000300000000000000",
+            b"00000300000000000000",
+        ],
+    },
+    // One pixel.
+    LineCase {
+        mode: 1,
+        mask: 255,
+        clip: &[],
+        from: [3, 1],
+        to: [3, 1],
+        due: [
+            b"00000000000000000000",
+            b"00030000000000000000",
+            b"00000000000000000000",
+        ],
+    },
+    // Over the whole layer from one side to the other: it has moved 1 at the steps 2 and 3, 2 at 4 to 6, and 3 at 7 and 8.
+    LineCase {
+        mode: 1,
+        mask: 255,
+        clip: &[],
+        from: [-3, -1],
+        to: [7, 3],
+        due: [
+            b"30000000000000000000",
+            b"03330000000000000000",
+            b"00003300000000000000",
+        ],
+    },
+    // Two steps up and one to the left.
+    LineCase {
+        mode: 1,
+        mask: 255,
+        clip: &[],
+        from: [4, 2],
+        to: [3, 0],
+        due: [
+            b"00030000000000000000",
+            b"00030000000000000000",
+            b"00003000000000000000",
+        ],
+    },
+    // Inverted in the second plane, in a clip region.
+    LineCase {
+        mode: 2,
+        mask: 2,
+        clip: &[[2, 0, 4, 2]],
+        from: [9, 1],
+        to: [0, 1],
+        due: [
+            b"00000000000000000000",
+            b"00222000000000000000",
+            b"00000000000000000000",
+        ],
+    },
+];
+
+// The cell of a case before the line.
+fn cell_of_line(alloc: Global, case: &LineCase) -> Result<Cell, Fail>
+    requires { case.now.mode < 8 }
+    ensures { IfOk result (λ c. c.state ≡ view.Live) }
+{
+    let mut cell = Cell::unopened(0);
+    let _ = cell.take_up(draft_of(alloc, Kind::Smart, &[])?);
+    cell.set_raster(Raster {
+        a: 3,
+        b: 0,
+        mode: case.mode,
+        mask: case.mask,
+        x: case.from[0],
+        y: case.from[1],
+    });
+    if !case.clip.is_empty() {
+        let _ = cell.set_clip(Some(region_of(alloc, case.clip)?));
+    }
+    Ok(cell)
+}
+
+#[test]
+fn lines_are_drawn_as_worked_out_by_hand(rt: HostRuntime) -> Result<(), Fail> {
+    let alloc = rt.alloc();
+    for case in &LINES {
+        assert!(rt; case.mode < 8);
+        let mut cell = cell_of_line(alloc, case)?;
+        line(&mut cell, case.to[0], case.to[1]);
+        let raster = cell.raster();
+        assert!(rt; raster.x == case.to[0] && raster.y == case.to[1], "cursor");
         for y in 0..3u32 {
             assert!(rt; has_row(&cell, y, case.due[y as usize]), "row {y}");
         }

@@ -1,0 +1,50 @@
+use Rattle.std.proofs.Common.{◌≡◌, ℕ, ◌+◌, ◌≤◌, ◌&&◌, Bool, pos, ◌∙◌, ap, arith}
+use Rattle.lw_kernels.specs.Kernel.{is_between}
+use Rattle.lw_layer.specs.View.{LiveView, CellView, draws, with_live}
+use Rattle.lw_layer.specs.Drafts.{raster_of}
+use Rattle.lw_machine.specs.Layer.{Raster}
+use Rattle.lw_machine.specs.Shapes.{is_on_line}
+use Rattle.lw_draw.specs.Drawn.{in_mask, painted, painted_bit}
+use Rattle.lw_draw.specs.LineSpans.{on_line_rows}
+use Rattle.lw_draw.specs.declared.row_spans.Line.{Line}
+use Rattle.lw_draw.proofs.PaintLaws.{cell_nowhere, cell_same, cell_more, draws_stays, paints_bits, next_row_of, no_row}
+use Rattle.lw_draw.proofs.lines.line_rows.Goals as goal
+
+-- what is painted of the line before a row
+abbrev so_far : Raster → LiveView → Line → ℕ → ℕ → ℕ → ℕ → ℕ → Bool
+so_far raster c line top y p i j = in_mask raster p && on_line_rows c line top y i j
+
+-- the pixel is on the line
+abbrev on_it : Line → ℕ → ℕ → Bool
+on_it l i j = is_on_line l.x0 l.y0 l.x1 l.y1 (pos i) (pos j)
+
+pub loop-y-init : goal.loop-y-init
+loop-y-init c =
+    let v = c.args.cell.now in
+    let top = c.args.rows.from in
+    cell_nowhere v (so_far (raster_of c.args.raster) v.live c.args.line top top) (painted_bit (raster_of c.args.raster)) c.depth.ensures.bits.bitmap
+    (λ p i j. no_row (in_mask (raster_of c.args.raster) p) top j (on_it c.args.line i j && draws v.live i j))
+
+pub line_row-requires-clause-live : goal.line_row-requires-clause-live
+line_row-requires-clause-live c = ap (λ (q : CellView). q.state) c.loop-y.invariant ∙ c.requires.live
+
+pub loop-y-preserved : goal.loop-y-preserved
+loop-y-preserved c =
+    let v = c.args.cell.now in
+    let w = c.loop-y.cell in
+    let l = c.args.line in
+    let top = c.args.rows.from in
+    let y = c.loop-y.y in
+    let raster = raster_of c.args.raster in
+    let new = painted_bit raster in
+    let low : top ≤ y = omega arith in
+    let row : CellView → ℕ → ℕ → ℕ → Bool = λ q p i j. in_mask raster p && on_line_rows q.live l y (y + 1) i j in
+    cell_more v w c.line_row.new.cell (so_far raster v.live l top y) (row v) (so_far raster v.live l top (y + 1)) new (paints_bits raster) (next_row_of v.live (in_mask raster) (λ i j. on_it l i j && draws v.live i j) top y low) c.loop-y.invariant
+    (cell_same w c.line_row.new.cell (row w) (row v) new c.line_row.ensures
+    (λ p i j _. ap (λ t. in_mask raster p && (is_between y (y + 1) j && (on_it l i j && t))) (draws_stays v w (so_far raster v.live l top y) new i j c.loop-y.invariant)))
+
+pub returns : goal.returns
+returns c =
+    let bottom : c.loop-y.y ≡ c.args.rows.end = omega arith in
+    c.loop-y.invariant ∙
+    ap (λ k. with_live (λ q. painted (raster_of c.args.raster) (λ i j. on_line_rows q c.args.line c.args.rows.from k i j) q) c.args.cell.now) bottom

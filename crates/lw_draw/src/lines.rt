@@ -1,0 +1,81 @@
+ghost use Rattle.std.specs.Prelude.{◌≡◌, ℕ, ◌+◌, ◌<◌, ◌≤◌, pos, true};
+ghost use Rattle.lw_kernels.specs.Kernel.{is_between};
+ghost use Rattle.lw_machine.specs.Shapes.{draw_line};
+ghost use Rattle.lw_layer.specs.View.{shows, with_live, with_layer};
+ghost use Rattle.lw_layer.specs.View as view;
+ghost use Rattle.lw_layer.specs.Drafts.{raster_of};
+ghost use Rattle.lw_draw.specs.Drawn.{painted};
+ghost use Rattle.lw_draw.specs.LineSpans.{has_row, in_reach, on_line_rows};
+
+use crate::filling::fill_row;
+use crate::row_spans::{Line, Reach, row_span};
+use crate::spans::{Places, edge, span};
+use lw_layer::{Cell, Raster};
+
+/// Draws a line from the layer's cursor to (x, y), each drawable pixel once, with the layer's pen A, or inverts it under
+/// COMPLEMENT, in the planes that the mask has. The cursor then stands at its end (`Draw`). No memory is taken.
+pub fn line(cell: &mut Cell, x: i16, y: i16)
+    requires { cell.old.state ≡ view.Live }
+    ensures { cell.new ≡ with_live (λ c. with_layer (λ l. draw_line (λ i j. shows c i j) x y l) c) cell.old }
+{
+    let raster = cell.raster();
+    let line = Line {
+        x0: raster.x,
+        y0: raster.y,
+        x1: x,
+        y1: y,
+    };
+    let rows = span(raster.y.min(y), raster.y.max(y), cell.height());
+    line_rows(cell, rows, line, raster);
+    cell.set_raster(Raster {
+        a: raster.a,
+        b: raster.b,
+        mode: raster.mode,
+        mask: raster.mask,
+        x,
+        y,
+    });
+}
+
+// Draws the pixels that a line has in some of its rows.
+fn line_rows(cell: &mut Cell, rows: Places, line: Line, raster: Raster)
+    requires live { cell.old.state ≡ view.Live }
+    requires rows { rows.from ≤ rows.end }
+    requires bottom { rows.end < 65536 }
+    requires inside { (j : ℕ) → is_between rows.from rows.end j ≡ true → has_row line (pos j) ≡ true }
+    ensures { cell.new ≡ with_live
+        (λ c. painted (raster_of raster) (λ i j. on_line_rows c line rows.from rows.end i j) c)
+        cell.old }
+{
+    // Reading this tells the proof that the layer has only pens of its depth.
+    let _ = cell.depth();
+    for y in rows.from..rows.end {
+        line_row(cell, y, line, raster);
+    }
+}
+
+// Draws the pixels that a line has in one of its rows.
+fn line_row(cell: &mut Cell, y: u32, line: Line, raster: Raster)
+    requires live { cell.old.state ≡ view.Live }
+    requires row { y < 65536 }
+    requires inside { has_row line (pos y) ≡ true }
+    ensures { cell.new ≡ with_live (λ c. painted (raster_of raster) (λ i j. on_line_rows c line y (y + 1) i j) c) cell.old }
+{
+    let columns = within_extent(row_span(line, y as i32), cell.width());
+    fill_row(cell, y, columns, raster);
+}
+
+// Of some columns those from 0 on and before the extent.
+fn within_extent(reach: Reach, extent: u32) -> Places
+    requires { extent ≤ 2048 }
+    ensures ordered { result.from ≤ result.end }
+    ensures inside { result.end ≤ extent }
+    ensures has { (u : ℕ) → u < extent → in_reach reach (pos u) ≡ is_between result.from result.end u }
+{
+    let from = edge(reach.from, extent);
+    let end = edge(reach.end, extent);
+    Places {
+        from,
+        end: end.max(from),
+    }
+}
