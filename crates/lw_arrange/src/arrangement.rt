@@ -84,10 +84,12 @@ impl Arrangement {
 
     /// The bounds of a slot's layer after it; `None` exactly where the slot isn't live then.
     pub fn bounds(&self, slot: u32) -> Option<Rect>
-        requires { slot < self.now.stack.sizes.slots }
         ensures { result ≡ bounds_at self.now.stack.bounds slot }
     {
-        self.after.bounds[slot as usize]
+        match self.after.bounds.get(slot as usize) {
+            Some(bounds) => *bounds,
+            None => None,
+        }
     }
 
     /// The bounds of all slots after it.

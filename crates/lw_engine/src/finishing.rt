@@ -57,7 +57,6 @@ fn slots_seen(alloc: Global, info: &Info, cells: &[Cell]) -> Result<Vec<Option<S
 
 // What is seen of the cell's layer: where it is shown, and its damage. No layer is a window so far.
 fn seen(alloc: Global, info: &Info, cell: &Cell) -> Result<Option<Seen>, AllocError>
-    requires { cell.now.number < info.now.sizes.slots }
     ensures { IfOk result (λ seen. seen ≡ seen_in info.now cell.now) }
 {
     if cell.look().is_none() {
@@ -74,7 +73,6 @@ fn seen(alloc: Global, info: &Info, cell: &Cell) -> Result<Option<Seen>, AllocEr
 
 // Where on the screen the slot's layer is shown.
 fn visible(alloc: Global, info: &Info, slot: u32) -> Result<Region, AllocError>
-    requires { slot < info.now.sizes.slots }
     ensures { IfOk result (λ region. region ≡ bands (first_set info.now slot)) }
 {
     // Reading these two tells the proof that the bounds lie on the screen, and that the region's list is canonical.

@@ -79,10 +79,12 @@ impl Info {
 
     /// The bounds of a slot's layer on the screen; `None` exactly where the slot isn't live.
     pub fn bounds(&self, slot: u32) -> Option<Rect>
-        requires { slot < self.now.sizes.slots }
         ensures { result ≡ bounds_at self.now.bounds slot }
     {
-        self.draft.bounds[slot as usize]
+        match self.draft.bounds.get(slot as usize) {
+            Some(bounds) => *bounds,
+            None => None,
+        }
     }
 
     /// The slot of the active window; `None` exactly where no window is active.
@@ -108,7 +110,6 @@ impl Info {
 
     /// Where on the screen the slot's layer is shown: the places at which it is on top. A slot that isn't live is shown nowhere.
     pub fn visible_of(&self, alloc: Global, slot: u32) -> Result<Region, AllocError>
-        requires { slot < self.now.sizes.slots }
         ensures { IfOk result
             (λ region. (x y : ℤ) → covers region x y ≡ is_first_at self.now.bounds self.now.front_to_back slot x y) }
     {

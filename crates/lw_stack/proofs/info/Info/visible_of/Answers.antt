@@ -1,25 +1,17 @@
-use Rattle.std.proofs.Common.{◌≡◌, not, ◌&&◌, ◌<◌, List, ℤ, get_or, take, sym, ap, ◌∙◌}
+use Rattle.std.proofs.Common.{◌≡◌, not, ◌&&◌, List, ℤ, get_or, take, sym, ap, ◌∙◌}
 use Rattle.std.proofs.lemmas.Bool.{ne_eqb}
 use Rattle.std.proofs.lemmas.List.{take_all, take_more}
-use Rattle.std.proofs.lemmas.List.Elements.{All-get_or}
 use Rattle.std.proofs.lemmas.Result.{IfOk-weaker}
 use Rattle.lw_region.specs.Rectangle.{Rectangle}
 use Rattle.lw_region.specs.Bands.{covers}
 use Rattle.lw_region.proofs.Canonical.{covers_nil}
 use Rattle.lw_machine.specs.Screen.{bounds_have}
 use Rattle.lw_stack.specs.Stack.{is_first_at}
-use Rattle.lw_stack.proofs.ListLaws.{entries_are_slots}
 use Rattle.lw_stack.proofs.ShownLaws.{none_in_front, more_in_front, left_of_entry}
 use Rattle.lw_stack.proofs.info.Info.visible_of.Goals as goal
 
 pub loop-front-init : goal.loop-front-init
 loop-front-init c = none_in_front c.args.self.now.bounds c.args.slot c.new-covered.result c.new-covered.ensures
-
-pub bounds-bounds-requires : goal.bounds-bounds-requires
-bounds-bounds-requires c =
-    rw c.order-order.ensures.value
-    (All-get_or (λ s. s < c.args.self.now.sizes.slots) c.args.self.now.front_to_back c.loop-front.front-index 0
-    (rw c.order-order.ensures.value at c.loop-front-test.true) (entries_are_slots c.args.self.now c.order-order.ensures.stack))
 
 pub loop-front-preserved : goal.loop-front-preserved
 loop-front-preserved c =

@@ -1,21 +1,13 @@
-use Rattle.std.proofs.Common.{◌+◌, ◌<◌, w32, get_or, take, drop, refl, sym, ap, ◌∙◌}
+use Rattle.std.proofs.Common.{◌+◌, w32, get_or, take, drop, refl, sym, ap, ◌∙◌}
 use Rattle.std.proofs.lemmas.Int.{to_z-of_z}
 use Rattle.std.proofs.lemmas.List.{take_more}
-use Rattle.std.proofs.lemmas.List.Elements.{All-get_or}
 use Rattle.lw_stack.specs.Stack.{first_at}
-use Rattle.lw_stack.proofs.ListLaws.{entries_are_slots}
 use Rattle.lw_stack.proofs.FirstLaws.{around_entry, first_found, none_found}
 use Rattle.lw_stack.proofs.info.Info.which.Goals as goal
 
 pub loop-slot-init : goal.loop-slot-init
 unfolding first_at
 loop-slot-init c = refl
-
-pub bounds-requires : goal.bounds-requires
-bounds-requires c =
-    rw c.order-order.ensures.value
-    (All-get_or (λ s. s < c.args.self.now.sizes.slots) c.args.self.now.front_to_back c.loop-slot.slot-index 0
-    (rw c.order-order.ensures.value at c.loop-slot-test.true) (entries_are_slots c.args.self.now c.order-order.ensures.stack))
 
 pub returns-then-bounds_have : goal.returns-then-bounds_have
 returns-then-bounds_have c =
