@@ -182,7 +182,6 @@ fn with_change(
 }
 
 fn changed_bounds(info: &Info, slot: u32, change: Change) -> Option<Rect>
-    requires low { slot < info.now.sizes.slots }
     requires fits { IsTrue (change_fits change) }
     requires placed { IsChangeRect change (bounds_at info.now.bounds slot) }
     ensures { result ≡ changed_bounds change (bounds_at info.now.bounds slot) }

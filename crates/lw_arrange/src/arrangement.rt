@@ -75,14 +75,15 @@ impl Arrangement {
         &self.call
     }
 
-    /// The slots of the live layers after it, from front to back.
+    /// The numbers of the live layers' slots after it, each once, from front to back.
     pub fn order(&self) -> &[u32]
         ensures { result.now ≡ self.now.stack.front_to_back }
     {
         self.after.order.as_slice()
     }
 
-    /// The bounds of a slot's layer after it; `None` exactly where the slot isn't live then.
+    /// The bounds of a slot's layer after it, in pixels of the screen, their edges included; `None` exactly where no slot of this
+    /// number is live then.
     pub fn bounds(&self, slot: u32) -> Option<Rect>
         ensures { result ≡ bounds_at self.now.stack.bounds slot }
     {

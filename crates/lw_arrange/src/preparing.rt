@@ -32,7 +32,7 @@ pub enum Prepared {
 }
 
 /// Prepares the cell of a slot for the arrangement. It takes all the memory that is needed for the cell, and changes nothing. A
-/// layer whose bounds and visible rectangles stay is not copied.
+/// layer whose bounds and visible rectangles stay is not copied. It fails for want of memory alone.
 pub fn prepare(
     alloc: Global,
     cell: &Cell,

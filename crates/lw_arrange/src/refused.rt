@@ -67,7 +67,6 @@ pub(crate) fn refused(
 
 /// Whether a slot was never opened: none that has bounds is fresh.
 fn is_free(info: &Info, fresh: bool, slot: u32) -> bool
-    requires { slot < info.now.sizes.slots }
     ensures { result ≡ is_free_at info.now fresh slot }
 {
     fresh && info.bounds(slot).is_none()
@@ -86,8 +85,7 @@ fn live(info: &Info, looks: &[Option<Look>], slot: u32) -> Option<Look>
 }
 
 fn creation_refused(info: &Info, fresh: bool, slot: u32, make: &Make, framed: bool) -> Option<Reply>
-    requires low { slot < info.now.sizes.slots }
-    requires spans { IsTrue (make_spans make.now) }
+    requires { IsTrue (make_spans make.now) }
     ensures { result ≡ creation_refused info.now fresh slot make.now framed }
 {
     if !is_free(info, fresh, slot) {

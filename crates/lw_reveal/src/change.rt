@@ -40,7 +40,8 @@ pub struct Change {
     pub handed: Vec<Option<usize>>,
 }
 
-/// Makes ready what the live layer becomes once it has these bounds and these visible pixels. The cell stays as it is.
+/// Makes ready what the live layer becomes once it has these bounds and these visible pixels, both in pixels of the screen. The
+/// cell stays as it is. It fails for want of memory alone.
 pub fn prepare(
     alloc: Global,
     cell: &Cell,

@@ -14,11 +14,11 @@ use std::mem;
 /// What LayerInfo has beside its sizes, as a value that an arrangement fills and `Info` takes up (this project's own).
 #[derive(Debug, Drop)]
 pub struct InfoDraft {
-    /// The slots of the live layers, from front to back.
+    /// The numbers of the live layers' slots, each once, from front to back.
     pub order: Vec<u32>,
-    /// By slot the layer's bounds on the screen; `None` where the slot isn't live.
+    /// By slot the layer's bounds in pixels of the screen; `None` where the slot isn't live.
     pub bounds: Vec<Option<Rect>>,
-    /// The slot of the active window.
+    /// The slot of the active window; `None` where no window is active.
     pub active: Option<u32>,
 }
 
@@ -41,7 +41,7 @@ impl Model for Info {
 }
 
 impl Info {
-    /// The list of a desk on which nothing was created so far.
+    /// The list of a desk on which nothing was created so far. It fails for want of memory alone.
     pub fn new(alloc: Global, sizes: &Sizes) -> Result<Info, AllocError>
         requires { IsWithinLimits sizes.now }
         ensures { IfOk result
@@ -69,7 +69,7 @@ impl Info {
         &self.sizes
     }
 
-    /// The slots of the live layers, from front to back.
+    /// The numbers of the live layers' slots, each once, from front to back.
     pub fn order(&self) -> &[u32]
         ensures value { result.now ≡ self.now.front_to_back }
         ensures stack { IsStack self.now }
@@ -77,7 +77,8 @@ impl Info {
         self.draft.order.as_slice()
     }
 
-    /// The bounds of a slot's layer on the screen; `None` exactly where the slot isn't live.
+    /// The bounds of a slot's layer in pixels of the screen, their edges included; `None` exactly where no slot of this number is
+    /// live.
     pub fn bounds(&self, slot: u32) -> Option<Rect>
         ensures { result ≡ bounds_at self.now.bounds slot }
     {
@@ -95,7 +96,7 @@ impl Info {
     }
 
     /// The slot of the layer that is on top at column `x` and row `y` of the screen; `None` exactly where no layer has the
-    /// pixel (WhichLayer).
+    /// pixel (WhichLayer). Any place may be asked for.
     pub fn which(&self, x: i32, y: i32) -> Option<u32>
         ensures { result ≡ first_at self.now.bounds self.now.front_to_back x y }
     {
@@ -108,7 +109,8 @@ impl Info {
         None
     }
 
-    /// Where on the screen the slot's layer is shown: the places at which it is on top. A slot that isn't live is shown nowhere.
+    /// Where on the screen the slot's layer is shown: the pixels of the screen at which it is on top. A slot that isn't live is
+    /// shown nowhere. It fails for want of memory alone.
     pub fn visible_of(&self, alloc: Global, slot: u32) -> Result<Region, AllocError>
         ensures { IfOk result
             (λ region. (x y : ℤ) → covers region x y ≡ is_first_at self.now.bounds self.now.front_to_back slot x y) }
