@@ -1,5 +1,6 @@
 //! The desk of the machine as code (the manual's Layers Library chapter). A call is made by the function of its class, which is
-//! lent the parts of the desk that such a call touches: the registers of its task, LayerInfo, or the cell of a layer.
+//! lent the parts of the desk that such a call touches: the registers of its task; LayerInfo; the cell of a layer and the
+//! registers; or LayerInfo and all cells, which it arranges. No call on two layers may be made so far.
 #![tactic(auto)]
 
 mod all_layers;

@@ -3,7 +3,7 @@ use crate::tests::answer_to;
 use std::test::Fail;
 
 // Scripts that create, arrange, scroll, look for and close layers, and their reports.
-static ARRANGED: [(&[u8], &[u8]); 8] = [
+static ARRANGED: [(&[u8], &[u8]); 9] = [
     // A simple layer moves, and is damaged where it shows what another layer hid.
     (
         b"screen 16 2 1
@@ -242,6 +242,49 @@ ok
 layer x
 layer y
 layer d
+done
+",
+    ),
+    // A layer goes in front of another one, and gets another place and size at once. What would leave the screen, or no pixel, is
+    // refused.
+    (
+        b"screen 16 1 1
+task a
+create x smart front 0 0 3 0
+create y smart front 2 0 5 0
+fill x 0 0 3 0
+which 2 0
+infront x y
+which 2 0
+box x 4 0 6 1
+move x 7 0
+size x -6 0
+scroll x 1 0
+end
+",
+        b"order 10
+0 0 0 0 0 0 0 0 0 0
+planes 16 1 1
+plane 0
+0f00
+visible x 1
+4 0 9 0
+visible y 1
+2 0 3 0
+damage x 1
+4 0 5 0
+damage y 0
+replies a 10
+ok
+ok
+ok
+layer y
+ok
+layer x
+ok
+out-of-bounds
+out-of-bounds
+not-super
 done
 ",
     ),
