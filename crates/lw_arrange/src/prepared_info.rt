@@ -43,7 +43,7 @@ pub fn prepare_info(
     })
 }
 
-/// LayerInfo as it was prepared.
+/// Makes of LayerInfo what was prepared for it. It takes no memory and can't be refused.
 pub fn commit_info(info: &mut Info, prepared: PreparedInfo)
     requires { prepared.sizes ≡ info.old.sizes }
     ensures { info.new ≡ prepared }

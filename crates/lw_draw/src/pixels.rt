@@ -24,7 +24,8 @@ pub fn write_pixel(cell: &mut Cell, x: i32, y: i32) -> bool
     true
 }
 
-/// The pen of a pixel (`ReadPixel`); `None` exactly where the layer doesn't keep it.
+/// The pen of a pixel (`ReadPixel`); `None` exactly where the layer doesn't keep it. Any place may be asked for. No memory is
+/// taken.
 pub fn read_pixel(cell: &Cell, x: i32, y: i32) -> Option<u8>
     ensures { result ≡ kept_pen cell.now.live x y }
 {

@@ -78,7 +78,8 @@ pub fn prepare(
     })
 }
 
-/// Applies a change to the live layer for which it was made: the layer is then revealed in its new bounds. No memory is taken.
+/// Applies a change to the live layer for which it was made: the layer is then revealed in its new bounds. It takes no memory and
+/// can't be refused.
 pub fn apply(cell: &mut Cell, change: Change)
     requires live { cell.old.state ≡ view.Live }
     requires change { IsChange cell.old.live change }
