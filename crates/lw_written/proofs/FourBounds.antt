@@ -4,7 +4,7 @@ use Rattle.std.specs.Fmt.{signed_decimal}
 use Rattle.std.proofs.lemmas.Int.{ints}
 use Rattle.lw_region.specs.Rectangle.{Rectangle}
 use Rattle.lw_calls.specs.Written.{spaced_signed}
-use Rattle.lw_text.specs.Words.{bounds_text}
+use Rattle.lw_written.specs.Words.{bounds_text}
 
 -- four pieces, one after another
 four_written : {A : Type 0} (a b c d start p q r s : List A) → p ≡ start ++ a → q ≡ p ++ b → r ≡ q ++ c → s ≡ r ++ d → s ≡ start ++ (a ++ b ++ c ++ d)

@@ -2,11 +2,11 @@ use Rattle.std.proofs.Common.{ap, rules}
 use Rattle.std.specs.List.{flat_map}
 use Rattle.lw_planes.specs.Bitmap.{plane_row}
 use Rattle.lw_calls.specs.Written.{line_of, hex_byte}
-use Rattle.lw_text.specs.Words.{Keeps}
-use Rattle.lw_text.proofs.Kept.{kept_after}
-use Rattle.lw_text.proofs.Pieces.{piece_written}
-use Rattle.lw_text.proofs.Padded.{padded_row}
-use Rattle.lw_text.proofs.row.push_rows.Goals as goal
+use Rattle.lw_written.specs.Words.{Keeps}
+use Rattle.lw_written.proofs.Kept.{kept_after}
+use Rattle.lw_written.proofs.Pieces.{piece_written}
+use Rattle.lw_written.proofs.Padded.{padded_row}
+use Rattle.lw_written.proofs.row.push_rows.Goals as goal
 
 pub loop-y-preserved : goal.loop-y-preserved
 loop-y-preserved c =

@@ -11,7 +11,7 @@ use Rattle.lw_planes.specs.Row.{row_bit}
 use Rattle.lw_planes.specs.Bitmap.{Bitmap, pen_at, row_bytes, plane_bit, plane_row}
 use Rattle.lw_planes.proofs.PenLaws.{byte_same, byte_of_same}
 use Rattle.lw_planes.proofs.RowLaws.{row_bit_at}
-use Rattle.lw_text.specs.Padding.{leftmost_bits, without_padding}
+use Rattle.lw_written.specs.Padding.{leftmost_bits, without_padding}
 use Rattle.lw_planes.proofs.DefinitionLaws.{plane_bit_inside, plane_bit_padding}
 
 -- bit j from the left of a byte of which the leftmost bits are kept

@@ -1,9 +1,9 @@
 use Rattle.std.proofs.Common.{◌≡◌, ◌++◌, drop}
 use Rattle.std.specs.List.{flat_map}
 use Rattle.lw_calls.specs.Written.{hex_byte}
-use Rattle.lw_text.specs.Padding.{without_padding}
-use Rattle.lw_text.specs.Words.{Keeps}
-use Rattle.lw_text.proofs.row.push_bytes.Given as goal
+use Rattle.lw_written.specs.Padding.{without_padding}
+use Rattle.lw_written.specs.Words.{Keeps}
+use Rattle.lw_written.proofs.row.push_bytes.Given as goal
 
 abbrev pub invariant-loop-byte : goal.invariant-loop-byte
 invariant-loop-byte l =

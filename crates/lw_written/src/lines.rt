@@ -4,7 +4,7 @@ ghost use Rattle.std.specs.Prelude.{◌≡◌, ◌<◌, ◌++◌, ◌∷◌, [],
 ghost use Rattle.std.specs.List.{slice_index_or};
 ghost use Rattle.std.specs.Fmt.{decimal, signed_decimal};
 ghost use Rattle.lw_calls.specs.Written.{line_of, spaced, spaced_signed, hex_digit, hex_byte};
-ghost use Rattle.lw_text.specs.Words.{Keeps};
+ghost use Rattle.lw_written.specs.Words.{Keeps};
 
 use lw_calls::Text;
 use std::alloc::{AllocError, Global};

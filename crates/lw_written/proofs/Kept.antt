@@ -1,7 +1,7 @@
 -- What was written before stays a prefix, step by step.
 use Rattle.std.proofs.Common.{◌≡◌, ℕ, ◌≤◌, List, ◌++◌, length, take, ap, sym, ◌∙◌, length-append, arith}
 use Rattle.std.proofs.lemmas.List.{take-append-le, take_all, take-take}
-use Rattle.lw_text.specs.Words.{Keeps}
+use Rattle.lw_written.specs.Words.{Keeps}
 
 -- something was written, and then what stood there was kept
 pub kept_after : (old more mid new : List ℕ) → mid ≡ old ++ more → Keeps mid new → Keeps old new

@@ -1,9 +1,9 @@
 use Rattle.std.proofs.Common.{rules}
 use Rattle.std.proofs.lemmas.Result.{on_ok_weaker, on_err_weaker}
-use Rattle.lw_text.specs.Words.{Keeps}
-use Rattle.lw_text.proofs.Kept.{kept_after}
-use Rattle.lw_text.proofs.FourBounds.{bound_read, bounds_written}
-use Rattle.lw_text.proofs.bounds.push_bounds.Goals as goal
+use Rattle.lw_written.specs.Words.{Keeps}
+use Rattle.lw_written.proofs.Kept.{kept_after}
+use Rattle.lw_written.proofs.FourBounds.{bound_read, bounds_written}
+use Rattle.lw_written.proofs.bounds.push_bounds.Goals as goal
 
 pub returns-clause-ok : goal.returns-clause-ok
 returns-clause-ok c =

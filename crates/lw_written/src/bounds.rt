@@ -2,7 +2,7 @@
 
 ghost use Rattle.std.specs.Prelude.{◌≡◌, ◌++◌, OnOk, OnErr};
 ghost use Rattle.lw_calls.specs.Written.{spaced_bounds};
-ghost use Rattle.lw_text.specs.Words.{bounds_text, Keeps};
+ghost use Rattle.lw_written.specs.Words.{bounds_text, Keeps};
 
 use crate::lines::{push_signed, push_spaced_signed};
 use lw_region::Rect;

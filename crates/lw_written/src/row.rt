@@ -4,8 +4,8 @@ ghost use Rattle.std.specs.Prelude.{◌≡◌, ◌<◌, ◌++◌, OnOk, OnErr};
 ghost use Rattle.std.specs.List.{flat_map, range_with_len};
 ghost use Rattle.lw_planes.specs.Bitmap.{plane_row};
 ghost use Rattle.lw_calls.specs.Written.{line_of, hex_byte};
-ghost use Rattle.lw_text.specs.Padding.{leftmost_bits, without_padding};
-ghost use Rattle.lw_text.specs.Words.{Keeps};
+ghost use Rattle.lw_written.specs.Padding.{leftmost_bits, without_padding};
+ghost use Rattle.lw_written.specs.Words.{Keeps};
 
 use crate::lines::{end_line, push_hex_byte};
 use lw_planes::Planes;
