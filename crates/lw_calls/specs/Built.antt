@@ -7,8 +7,8 @@ use Rattle.lw_calls.specs.declared.call.Call.TheVariants.{RegRect, RegPair, RegC
 abbrev pub is_hookless : Option ℕ → Bool
 is_hookless hook = is_none hook
 
--- The calls that a script may make so far: those on region registers, the creation of a layer without a hook, the arrangements
--- of layers that there are, WhichLayer, RectFill, ScrollLayer, and those that install a clip region or take it away.
+-- The calls that a script may make so far: all but the creation of a layer with a hook, and those on windows, updates and blits and
+-- ScrollRaster.
 abbrev pub is_built : Call → Bool
 is_built (Create slot make) = is_hookless make.hook
 is_built (Close slot) = true
@@ -26,18 +26,18 @@ is_built (RegClear register) = true
 is_built (Clip slot register) = true
 is_built (Unclip slot) = true
 is_built (Scroll slot dx dy) = true
+is_built (SetA slot pen) = true
+is_built (SetB slot pen) = true
+is_built (SetMode slot mode) = true
+is_built (SetMask slot mask) = true
+is_built (At slot x y) = true
+is_built (WritePixel slot x y) = true
+is_built (ReadPixel slot x y) = true
+is_built (DrawTo slot x y) = true
+is_built (Letters slot text) = true
+is_built (SetRast slot pen) = true
 is_built (OpenWindow slot make framed nocare asks title) = false
 is_built (Activate slot) = false
-is_built (SetA slot pen) = false
-is_built (SetB slot pen) = false
-is_built (SetMode slot mode) = false
-is_built (SetMask slot mask) = false
-is_built (At slot x y) = false
-is_built (WritePixel slot x y) = false
-is_built (ReadPixel slot x y) = false
-is_built (DrawTo slot x y) = false
-is_built (Letters slot text) = false
-is_built (SetRast slot pen) = false
 is_built (ScrollRaster slot dx dy rect) = false
 is_built (Put bitmap slot area) = false
 is_built (Blit source slot area) = false
