@@ -13,6 +13,8 @@ mod tests;
 #[cfg(test)]
 mod tests_commands;
 #[cfg(test)]
+mod tests_drawing;
+#[cfg(test)]
 mod tests_layers;
 #[cfg(test)]
 mod tests_refusals;

@@ -24,7 +24,7 @@ unclip w
 end
 ";
 
-const CLIPPED_REPORT: &[u8] = b"order 10
+pub const CLIPPED_REPORT: &[u8] = b"order 10
 0 0 0 0 0 0 0 0 0 0
 planes 16 4 1
 plane 0

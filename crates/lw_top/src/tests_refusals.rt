@@ -12,7 +12,7 @@ static REASONS: [(&str, &str); 6] = [
         "4 double-name",
     ),
     ("screen 16 4 1\nbitmap b 15 2 1\nfffe\nffff\n", "4 padding"),
-    ("screen 16 4 1\ntask a\napen w 1\n", "3 not-built"),
+    ("screen 16 4 1\ntask a\nactivate w\n", "3 not-built"),
     // An empty line says nothing, and counts as a line.
     ("\n", "2 missing"),
 ];
