@@ -7,9 +7,7 @@ ghost use Rattle.lw_grammar.specs.Script.{is_arranging, is_beginning, is_ending,
 ghost use Rattle.lw_lines.specs.FormMeaning.{act_meaning, layers_meaning, form_meaning};
 ghost use Rattle.lw_lines.specs.GroupMeaning.{opened_meaning};
 
-use crate::form::{
-    Act, Asked, AskedKind, BareAct, Layers, LineForm, NumberAct, PairAct, PlainKind,
-};
+use crate::form::{Act, Asked, AskedKind, BareAct, Layers, LineForm, PairAct, PlainKind, TextAct};
 use lw_words::is_text;
 
 /// A group that is open.
@@ -65,17 +63,14 @@ impl Act<'_> {
     {
         match self {
             Act::Create(asked) => asked.is_hookless(),
-            Act::RegRect { .. }
-            | Act::RegPair { .. }
-            | Act::RegClear(_)
-            | Act::InFront
-            | Act::Box(_)
-            | Act::Which { .. }
-            | Act::Fill(_)
-            | Act::Bare(BareAct::Close | BareAct::Front | BareAct::Behind | BareAct::Unclip)
-            | Act::Number(NumberAct::Clip, _)
-            | Act::Pair(PairAct::Move | PairAct::Size | PairAct::Scroll, _, _) => true,
-            _ => false,
+            Act::Open { .. }
+            | Act::ScrollRaster { .. }
+            | Act::Put { .. }
+            | Act::Blit(_)
+            | Act::EndRefresh { .. }
+            | Act::Bare(BareAct::Activate | BareAct::Refresh | BareAct::GetMsg)
+            | Act::Text(TextAct::Title, _) => false,
+            _ => true,
         }
     }
 }
