@@ -129,7 +129,7 @@ abbrev pub text_as_verb : List ℕ
 text_as_verb = created ++ script (codes "'text w'")
 
 abbrev pub empty_text : List ℕ
-empty_text = created ++ script (codes "text w ''")
+empty_text = created ++ script (codes "text w ''/end")
 
 abbrev pub text_as_row : List ℕ
 text_as_row = screened ++ script (codes "bitmap b 16 1 1/'0000'")
@@ -403,6 +403,17 @@ look_and_scroll = created ++ script (codes "which 0 0/scroll w 1 -1/end")
 abbrev pub scroll_in_lock : List ℕ
 scroll_in_lock = created ++ script (codes "lock w/scroll w 0 0/unlock w/end")
 
+abbrev pub raster_changes : List ℕ
+raster_changes = created ++ script (codes "apen w 0/apen w 255/bpen w 0/bpen w 255/mode w 0/mode w 7/mask w 0/mask w 255/at w -32768 32767/at w 32767 -32768/end")
+
+abbrev pub drawing : List ℕ
+drawing =
+    created ++ script (codes "write w -32768 32767/write w 32767 -32768/read w -32768 32767/read w 32767 -32768/draw w -32768 32767/draw w 32767 -32768/") ++ script (codes "text w 'a  b'/setrast w 0/setrast w 255/end")
+
+abbrev pub drawing_in_lock : List ℕ
+drawing_in_lock =
+    created ++ script (codes "lock w/apen w 1/bpen w 1/mode w 1/mask w 1/at w 0 0/write w 0 0/read w 0 0/draw w 1 1/text w 'a'/setrast w 1/unlock w/end")
+
 abbrev pub name_of_16 : List ℕ
 name_of_16 = in_task_a ++ script (codes "create abcdefghijklmnop smart front 0 0 7 3/end")
 
@@ -449,7 +460,7 @@ abbrev pub mask_256 : List ℕ
 mask_256 = created ++ script (codes "mask w 256")
 
 abbrev pub mask_255 : List ℕ
-mask_255 = created ++ script (codes "mask w 255")
+mask_255 = created ++ script (codes "mask w 255/end")
 
 abbrev pub register_8 : List ℕ
 register_8 = created ++ script (codes "orrect 8 0 0 1 1")

@@ -3,7 +3,7 @@
 ghost use Rattle.lw_calls.specs.declared.reason.Reason.TheVariants.{LineTooLong, BadByte, Spacing, Quote, UnknownWord, Misplaced, OneTaskOnly, Form as FormReason, Range, NoName, DoubleName, Group, TooMany, NoHook, Padding, NotBuilt, Missing};
 ghost use Rattle.lw_grammar.specs.Lines.{lines};
 ghost use Rattle.lw_grammar.specs.Script.{IsFirstBadIn, SpellsInput};
-ghost use Rattle.lw_script_cases.specs.WholeScripts.{IsSpelled, alone, with_order, with_report, first_fill_script, first_fill_input, all_parts, hook_0_of_none, simple_layer, comment_in_task, two_spaces, word_behind_end, task_missing, line_feed, empty, carriage_return, one_space, long_comment, line_of_512, line_of_513, second_task, second_task_apart, task_in_task, text_with_spaces, text_then_space, text_then_word, space_before_text, spaces_before_quote, quote_in_word, quote_alone, space_at_end, text_as_verb, empty_text, text_as_row, row, row_too_short, row_of_32, padding_bit, rows_apart, rows_missing, row_in_capitals, bitmap_again, bitmap_of_9_planes, bitmap_without_columns, glyph_in_capitals, glyph_of_7f, glyph_again, glyph_too_short, order_in_plain, order_before_task, order_in_task, order_again, order_missing, numbers_64, numbers_65, number_16, number_below_0, no_numbers, order_in_audited, report, report_missing, report_in_task, unlock_between, endrefresh_between, form_before_range, number_too_large, number_of_101_digits, maximum_below_minimum, leading_zero, minus_zero, negative_number, hook_above_32_bits, hook_below_0, hook_2_of_2, hook_1_of_2, hook_of_super, super_backdrop, super_of_2049, hook_before_backdrop, open_with_all, open_out_of_order, set_out_of_order, set_with_one_twice, super_borderless, super_with_set, open_of_no_columns, bitmap_unknown, minterm_c1, minterm_in_capitals, put_of_a_bitmap, put_of_no_columns, lock_of_nothing, lock_of_a_fill, lock_of_another, lock_in_lock, hold_in_lock, end_in_lock, end_with_a_word, unlock_of_another, unlock_alone, which_in_lock, region_in_lock, blit_in_lock, blit_of_two_in_lock, refresh_in_lock, endrefresh_in_lock, endrefresh_alone, endrefresh_fully, create_in_lock, hold_of_a_create, hold_of_nothing, fill_in_hold, which_in_hold, move_in_hold, release_alone, creations, arrangements, arrangements_in_hold, look_and_scroll, scroll_in_lock, layer_named_front, name_of_16, name_of_17, name_with_underscore, name_from_a_digit, screen_of_1025, screen_again, task_before_screen, end_before_task, end_missing, two_tasks, task_again, verb_in_capitals, mode_8, mask_256, mask_255, register_8, regions_joined, names_64, names_65, names_65_by_blit, unlock_before_65, supers_16, supers_17, bitmaps_17, tasks_17, screened, plus_sign, zeros_before_7, maximum_of_5_below_9, maximum_of_40000, zero_apart, text_before_a_word, unknown_verb, glyph_in_task, blit_by_c1, put_without_bitmap, unlock_at_once, hook_6, lock_and_unlock};
+ghost use Rattle.lw_script_cases.specs.WholeScripts.{IsSpelled, alone, with_order, with_report, first_fill_script, first_fill_input, all_parts, hook_0_of_none, simple_layer, comment_in_task, two_spaces, word_behind_end, task_missing, line_feed, empty, carriage_return, one_space, long_comment, line_of_512, line_of_513, second_task, second_task_apart, task_in_task, text_with_spaces, text_then_space, text_then_word, space_before_text, spaces_before_quote, quote_in_word, quote_alone, space_at_end, text_as_verb, empty_text, text_as_row, row, row_too_short, row_of_32, padding_bit, rows_apart, rows_missing, row_in_capitals, bitmap_again, bitmap_of_9_planes, bitmap_without_columns, glyph_in_capitals, glyph_of_7f, glyph_again, glyph_too_short, order_in_plain, order_before_task, order_in_task, order_again, order_missing, numbers_64, numbers_65, number_16, number_below_0, no_numbers, order_in_audited, report, report_missing, report_in_task, unlock_between, endrefresh_between, form_before_range, number_too_large, number_of_101_digits, maximum_below_minimum, leading_zero, minus_zero, negative_number, hook_above_32_bits, hook_below_0, hook_2_of_2, hook_1_of_2, hook_of_super, super_backdrop, super_of_2049, hook_before_backdrop, open_with_all, open_out_of_order, set_out_of_order, set_with_one_twice, super_borderless, super_with_set, open_of_no_columns, bitmap_unknown, minterm_c1, minterm_in_capitals, put_of_a_bitmap, put_of_no_columns, lock_of_nothing, lock_of_a_fill, lock_of_another, lock_in_lock, hold_in_lock, end_in_lock, end_with_a_word, unlock_of_another, unlock_alone, which_in_lock, region_in_lock, blit_in_lock, blit_of_two_in_lock, refresh_in_lock, endrefresh_in_lock, endrefresh_alone, endrefresh_fully, create_in_lock, hold_of_a_create, hold_of_nothing, fill_in_hold, which_in_hold, move_in_hold, release_alone, creations, arrangements, arrangements_in_hold, look_and_scroll, scroll_in_lock, raster_changes, drawing, drawing_in_lock, layer_named_front, name_of_16, name_of_17, name_with_underscore, name_from_a_digit, screen_of_1025, screen_again, task_before_screen, end_before_task, end_missing, two_tasks, task_again, verb_in_capitals, mode_8, mask_256, mask_255, register_8, regions_joined, names_64, names_65, names_65_by_blit, unlock_before_65, supers_16, supers_17, bitmaps_17, tasks_17, screened, plus_sign, zeros_before_7, maximum_of_5_below_9, maximum_of_40000, zero_apart, text_before_a_word, unknown_verb, glyph_in_task, blit_by_c1, put_without_bitmap, unlock_at_once, hook_6, lock_and_unlock};
 
 /// The script of the first fill spells its plan.
 pub fn first_fill_is_spelled()
@@ -34,7 +34,7 @@ pub fn lines_and_words()
     ensures two_spaces { IsFirstBadIn (alone 0) (lines two_spaces) 4 Spacing }
     ensures space_at_end { IsFirstBadIn (alone 0) (lines space_at_end) 4 Spacing }
     ensures text_as_verb { IsFirstBadIn (alone 0) (lines text_as_verb) 4 UnknownWord }
-    ensures empty_text { IsFirstBadIn (alone 0) (lines empty_text) 4 NotBuilt }
+    ensures empty_text { IsSpelled (alone 0) empty_text }
     ensures text_as_row { IsFirstBadIn (alone 0) (lines text_as_row) 3 FormReason }
 {}
 
@@ -154,6 +154,14 @@ pub fn layers_are_arranged()
     ensures scroll_in_lock { IsSpelled (alone 0) scroll_in_lock }
 {}
 
+/// Pens, modes, masks and cursors, and the calls that draw with them or read a pixel, alone and in a lock, each number at both
+/// ends of its range.
+pub fn layers_are_drawn_on()
+    ensures raster_changes { IsSpelled (alone 0) raster_changes }
+    ensures drawing { IsSpelled (alone 0) drawing }
+    ensures drawing_in_lock { IsSpelled (alone 0) drawing_in_lock }
+{}
+
 /// Names, and the parts of a script.
 pub fn names_and_parts()
     ensures layer_named_front { IsSpelled (alone 0) layer_named_front }
@@ -177,7 +185,7 @@ pub fn names_and_parts()
 pub fn limits_of_counts()
     ensures mode_8 { IsFirstBadIn (alone 0) (lines mode_8) 4 Range }
     ensures mask_256 { IsFirstBadIn (alone 0) (lines mask_256) 4 Range }
-    ensures mask_255 { IsFirstBadIn (alone 0) (lines mask_255) 4 NotBuilt }
+    ensures mask_255 { IsSpelled (alone 0) mask_255 }
     ensures register_8 { IsFirstBadIn (alone 0) (lines register_8) 4 Range }
     ensures regions_joined { IsFirstBadIn (alone 0) (lines regions_joined) 5 Missing }
     ensures names_64 { IsSpelled (alone 0) names_64 }
