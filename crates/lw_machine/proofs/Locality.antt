@@ -358,7 +358,7 @@ unless_stays f None d a h = h
 unless_stays f (Some reply) d a h = refl
 
 -- a step leaves what the script handed in
-after_assets : (d : Desk) (task : ℕ) (call : Call) → (after d task call).assets ≡ d.assets
+pub after_assets : (d : Desk) (task : ℕ) (call : Call) → (after d task call).assets ≡ d.assets
 unfolding after
 after_assets d task call =
     unless_stays (λ a. a.assets) (refusal d task call) d (effect d task call) (assets_stay d task call)
