@@ -517,6 +517,16 @@ size clk 3 -4
 box log 5 6 7 8
 which 9 -10
 scroll log -11 12
+apen clk 1
+bpen clk 254
+mode log 5
+mask clk 127
+at log -32768 3
+write log -4 5
+read clk 6 -7
+draw clk 32767 -32768
+text log \"a b\"
+setrast clk 200
 end
 # between two tasks
 task edit
@@ -537,7 +547,7 @@ order
 15 1
 ";
 
-static CLOCK: [&str; 23] = [
+static CLOCK: [&str; 33] = [
     "create 0 smart front at 10 20 with 120 60 and bits of 0 0",
     "fill 1 from 8 16 to 60 40",
     "clip 1 by 7",
@@ -561,6 +571,16 @@ static CLOCK: [&str; 23] = [
     "box 1 at 5 6 with 7 8",
     "which 9 -10",
     "scroll 1 by -11 12",
+    "pen a of 0 is 1",
+    "pen b of 0 is 254",
+    "mode of 1 is 5",
+    "mask of 0 is 127",
+    "at -32768 3 of 1",
+    "write 1 at -4 5",
+    "read 0 at 6 -7",
+    "draw 0 to 32767 -32768",
+    "text 1 with 97 32 98",
+    "setrast 0 to 200",
 ];
 
 static EDIT: [&str; 4] = [
@@ -614,7 +634,30 @@ fn pair_word(op: PairOp) -> &'static str {
     }
 }
 
-// A further call in words. Those that can't be run yet are all one.
+// A call that draws in words, a text by its bytes. Those that can't be run yet are all one.
+fn told_drawing(alloc: Global, call: &Call) -> Result<String, AllocError> {
+    match call {
+        Call::SetA { slot, pen } => format!(in alloc; "pen a of {slot} is {pen}"),
+        Call::SetB { slot, pen } => format!(in alloc; "pen b of {slot} is {pen}"),
+        Call::SetMode { slot, mode } => format!(in alloc; "mode of {slot} is {mode}"),
+        Call::SetMask { slot, mask } => format!(in alloc; "mask of {slot} is {mask}"),
+        Call::At { slot, x, y } => format!(in alloc; "at {x} {y} of {slot}"),
+        Call::WritePixel { slot, x, y } => format!(in alloc; "write {slot} at {x} {y}"),
+        Call::ReadPixel { slot, x, y } => format!(in alloc; "read {slot} at {x} {y}"),
+        Call::DrawTo { slot, x, y } => format!(in alloc; "draw {slot} to {x} {y}"),
+        Call::Letters { slot, text } => {
+            let mut words = format!(in alloc; "text {slot} with")?;
+            for byte in text.bytes() {
+                words.push_str(format!(in alloc; " {byte}")?.as_str())?;
+            }
+            Ok(words)
+        }
+        Call::SetRast { slot, pen } => format!(in alloc; "setrast {slot} to {pen}"),
+        _ => String::from_str(alloc, "another call"),
+    }
+}
+
+// A further call in words.
 fn told_further(alloc: Global, call: &Call) -> Result<String, AllocError> {
     match call {
         Call::Close { slot } => format!(in alloc; "close {slot}"),
@@ -628,7 +671,7 @@ fn told_further(alloc: Global, call: &Call) -> Result<String, AllocError> {
         }
         Call::Which { x, y } => format!(in alloc; "which {x} {y}"),
         Call::Scroll { slot, dx, dy } => format!(in alloc; "scroll {slot} by {dx} {dy}"),
-        _ => String::from_str(alloc, "another call"),
+        _ => told_drawing(alloc, call),
     }
 }
 
