@@ -29,6 +29,18 @@ drawn_same c on again new same =
     bits_same c (λ p x y. if on p x y then new p x y (bit_of_layer c p x y) else bit_of_layer c p x y) (λ p x y. if again p x y then new p x y (bit_of_layer c p x y) else bit_of_layer c p x y)
     (λ p x y deep left low. ap (λ t. if t then new p x y (bit_of_layer c p x y) else bit_of_layer c p x y) (same p x y deep left low))
 
+-- a bit that becomes the same by two ways
+chosen_alike : (on : Bool) (f g : ℕ → ℕ) (old : ℕ) → (on ≡ true → f old ≡ g old) → (if on then f old else old) ≡ (if on then g old else old)
+chosen_alike true f g old same = same refl
+chosen_alike false f g old same = refl
+
+-- drawn with what gives the same bits there
+pub drawn_alike : (c : LiveView) (on : ℕ → ℕ → ℕ → Bool) (new again : ℕ → ℕ → ℕ → ℕ → ℕ) → ((p x y old : ℕ) → p < c.layer.bits.depth → x < c.layer.bits.width → y < c.layer.bits.height → on p x y ≡ true → old < 2 → new p x y old ≡ again p x y old) → drawn on new c ≡ drawn on again c
+unfolding drawn
+drawn_alike c on new again same =
+    bits_same c (λ p x y. if on p x y then new p x y (bit_of_layer c p x y) else bit_of_layer c p x y) (λ p x y. if on p x y then again p x y (bit_of_layer c p x y) else bit_of_layer c p x y)
+    (λ p x y deep left low. chosen_alike (on p x y) (new p x y) (again p x y) (bit_of_layer c p x y) (λ has. same p x y (bit_of_layer c p x y) deep left low has (bit_at-lt (pen_at c.layer.bits x y) p)))
+
 -- drawn nowhere
 pub drawn_nowhere : (c : LiveView) (on : ℕ → ℕ → ℕ → Bool) (new : ℕ → ℕ → ℕ → ℕ → ℕ) → IsBitmap c.layer.bits → ((p x y : ℕ) → on p x y ≡ false) → drawn on new c ≡ c
 unfolding drawn

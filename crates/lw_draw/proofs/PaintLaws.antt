@@ -20,7 +20,7 @@ use Rattle.lw_layer.proofs.LineLaws.{repainted_same}
 use Rattle.lw_draw.specs.Drawn.{drawn, GivesBits, painted_bit, painted, in_mask, in_run, in_rows}
 use Rattle.lw_draw.specs.Stretches.{IsFirstStretch, IsNextStretch}
 use Rattle.lw_draw.specs.declared.stretch.Stretch.{Stretch}
-use Rattle.lw_draw.proofs.DrawnLaws.{AreMore, drawn_more, drawn_same, drawn_nowhere}
+use Rattle.lw_draw.proofs.DrawnLaws.{AreMore, drawn_more, drawn_same, drawn_alike, drawn_nowhere}
 
 -- a cell drawn on nowhere
 pub cell_nowhere : (v : CellView) (on : ℕ → ℕ → ℕ → Bool) (new : ℕ → ℕ → ℕ → ℕ → ℕ) → IsBitmap v.live.layer.bits → ((p x y : ℕ) → on p x y ≡ false) → v ≡ with_live (λ c. drawn on new c) v
@@ -29,6 +29,10 @@ cell_nowhere v on new ok none = ap (λ q. record v { live = q }) (sym (drawn_now
 -- a cell drawn on at the same places
 pub cell_same : (v w : CellView) (on again : ℕ → ℕ → ℕ → Bool) (new : ℕ → ℕ → ℕ → ℕ → ℕ) → w ≡ with_live (λ c. drawn on new c) v → ((p x y : ℕ) → p < v.live.layer.bits.depth → on p x y ≡ again p x y) → w ≡ with_live (λ c. drawn again new c) v
 cell_same v w on again new is same = is ∙ ap (λ q. record v { live = q }) (drawn_same v.live on again new (λ p x y deep _ _. same p x y deep))
+
+-- a cell drawn on with what gives the same bits there
+pub cell_alike : (v w : CellView) (on : ℕ → ℕ → ℕ → Bool) (new again : ℕ → ℕ → ℕ → ℕ → ℕ) → w ≡ with_live (λ c. drawn on new c) v → ((p x y old : ℕ) → p < v.live.layer.bits.depth → x < v.live.layer.bits.width → y < v.live.layer.bits.height → on p x y ≡ true → old < 2 → new p x y old ≡ again p x y old) → w ≡ with_live (λ c. drawn on again c) v
+cell_alike v w on new again is same = is ∙ ap (λ q. record v { live = q }) (drawn_alike v.live on new again same)
 
 -- a cell drawn on twice, at places that are apart
 pub cell_more : (v w u : CellView) (former more both : ℕ → ℕ → ℕ → Bool) (new : ℕ → ℕ → ℕ → ℕ → ℕ) → GivesBits new → AreMore v.live former more both → w ≡ with_live (λ c. drawn former new c) v → u ≡ with_live (λ c. drawn more new c) w → u ≡ with_live (λ c. drawn both new c) v
@@ -178,7 +182,7 @@ painted_pen d pen true false has new small is = absurd (cc is)
 painted_pen d pen false true has new small is = absurd (cc is)
 
 -- the tests of a pixel, in another order
-tests_turned : (drawable column row across down : Bool) → column ≡ across → row ≡ down → (drawable && (column && row)) ≡ (down && (across && drawable))
+pub tests_turned : (drawable column row across down : Bool) → column ≡ across → row ≡ down → (drawable && (column && row)) ≡ (down && (across && drawable))
 tests_turned true column row across true first second = grind (arith, nat_tests)
 tests_turned true column row across false first second = grind (arith, nat_tests)
 tests_turned false column row true true first second = refl

@@ -13,8 +13,11 @@ mod stretch;
 
 pub use filling::fill;
 pub use lines::line;
+pub use painting::has_bit;
 pub use pixels::{read_pixel, write_pixel};
 pub use rast::set_rast;
+pub use spans::{Places, edge, span};
+pub use stretch::{Stretch, next_stretch};
 
 #[cfg(test)]
 mod tests;

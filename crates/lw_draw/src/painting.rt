@@ -59,9 +59,9 @@ fn paint_bits(row: &mut [u8], plane: u32, run: Run, raster: Raster)
     }
 }
 
-// The byte has this bit.
+/// The byte has this bit, 0 to 7 from its least.
 #[tactic(auto, using(std::proofs::lemmas::Nat::Bits::shr_and_one))]
-fn has_bit(byte: u8, place: u32) -> bool
+pub fn has_bit(byte: u8, place: u32) -> bool
     requires { place < 8 }
     ensures { result ≡ (bit_at byte place == 1) }
 {

@@ -1,18 +1,20 @@
-// A rectangle's columns or rows, as far as the layer has them.
+// The columns or rows of a shape, as far as the layer has them.
 
 ghost use Rattle.std.specs.Prelude.{◌≡◌, ℕ, ◌<◌, ◌≤◌, pos, ◌≤ℤ◌, int_le};
 ghost use Rattle.lw_region.specs.Rectangle.{within};
 ghost use Rattle.lw_kernels.specs.Kernel.{is_between};
 
-// Places from one on, before another.
+/// Columns or rows of a layer, from one on and before another.
 #[derive(Clone, Copy)]
-pub(crate) struct Places {
+pub struct Places {
+    /// The first of them.
     pub from: u32,
+    /// The one behind the last.
     pub end: u32,
 }
 
-// Of the places from the least to the greatest, both inclusive, those from 0 on and before the extent.
-pub(crate) fn span(least: i16, greatest: i16, extent: u32) -> Places
+/// Of the places from the least to the greatest, both inclusive, those from 0 on and before the extent, which is at most 2048.
+pub fn span(least: i16, greatest: i16, extent: u32) -> Places
     requires ordered { least ≤ℤ greatest }
     requires near { extent ≤ 2048 }
     ensures ordered { result.from ≤ result.end }
@@ -25,8 +27,8 @@ pub(crate) fn span(least: i16, greatest: i16, extent: u32) -> Places
     }
 }
 
-// A place, or the nearest one from 0 to the extent.
-pub(crate) fn edge(place: i32, extent: u32) -> u32
+/// A place, or the nearest one from 0 to the extent, which is at most 2048.
+pub fn edge(place: i32, extent: u32) -> u32
     requires { extent ≤ 2048 }
     ensures inside { result ≤ extent }
     ensures from { (u : ℕ) → u < extent → int_le place (pos u) ≡ int_le (pos result) (pos u) }

@@ -7,16 +7,20 @@ ghost use Rattle.lw_draw.specs.Stretches.{IsNextStretch, IsPixelAt};
 
 use lw_layer::{Cell, Run};
 
-// A run with the place of its first pixel.
+/// A run of pixels of a layer with the place of its first pixel, in layer coordinates.
 #[derive(Clone, Copy)]
-pub(crate) struct Stretch {
+pub struct Stretch {
+    /// The first pixel's column.
     pub x: u32,
+    /// The run's row.
     pub y: u32,
+    /// Where the pens of its pixels lie.
     pub run: Run,
 }
 
-// The next run of drawable pixels in row y, from column x on and before another.
-pub(crate) fn next_stretch(cell: &Cell, x: u32, y: u32, end: u32) -> Option<Stretch>
+/// The next run of drawable pixels in row `y`, from column `x` on and before column `end`; `None` exactly where there is no
+/// drawable pixel. The run need not be the longest one.
+pub fn next_stretch(cell: &Cell, x: u32, y: u32, end: u32) -> Option<Stretch>
     requires column { x < 65536 }
     requires row { y < 65536 }
     requires end { end < 65536 }

@@ -1,0 +1,161 @@
+ghost use Rattle.std.specs.Prelude.{◌≡◌, ℕ, ◌+◌, ◌*◌, ◌<◌, ◌≤◌, not, ◌&&◌, true, if◌then◌else◌, length, ℤ, pos, ◌+ℤ◌, ◌-ℤ◌, ◌≤ℤ◌, int_le, unsigned_abs};
+ghost use Rattle.lw_kernels.specs.Kernel.{is_between};
+ghost use Rattle.lw_machine.specs.Shapes.{draw_text, in_cells};
+ghost use Rattle.lw_layer.specs.View.{shows, with_live, with_layer};
+ghost use Rattle.lw_layer.specs.View as view;
+ghost use Rattle.lw_layer.specs.Drafts.{raster_of};
+ghost use Rattle.lw_draw.specs.Drawn.{in_rows};
+ghost use Rattle.lw_text.specs.Templates.{stamped, text_has, text_painted};
+
+use crate::glyphs::glyph_row;
+use crate::template::{Origin, template_row};
+use lw_calls::{Assets, Text};
+use lw_draw::{Places, edge};
+use lw_layer::{Cell, Raster};
+
+// As many bytes as a row of a layer can show characters of, one of them in part at each end: a layer is at most 2048 columns wide.
+const MOST: usize = 257;
+
+/// Paints one cell of 8 by 8 pixels for each character, from the cursor's column on and in its rows y - 6 to y + 1, with the
+/// glyphs that the script handed in, in the layer's pens, mode and mask, and moves the cursor behind them (`Text`). False exactly
+/// where the cursor's column would pass 32767, and then nothing changes. No memory is taken.
+pub fn letters(cell: &mut Cell, assets: &Assets, text: &Text) -> bool
+    requires { cell.old.state ≡ view.Live }
+    ensures answer { result ≡ int_le (cell.old.live.layer.raster.cursor_x +ℤ pos (8 * length text.now)) (pos 32767) }
+    ensures cell { cell.new ≡ (if result
+        then with_live (λ c. with_layer (λ l. draw_text assets.now.glyphs (λ x y. shows c x y) text.now l) c) cell.old
+        else cell.old) }
+{
+    let raster = cell.raster();
+    let text = text.bytes();
+    if !fits(raster.x, text.len()) {
+        return false;
+    }
+    paint_text(cell, &assets.glyphs, text, raster);
+    cell.set_raster(Raster {
+        a: raster.a,
+        b: raster.b,
+        mode: raster.mode,
+        mask: raster.mask,
+        x: (i32::from(raster.x) + 8 * text.len() as i32) as i16,
+        y: raster.y,
+    });
+    true
+}
+
+// The cursor can move behind so many characters.
+fn fits(x: i16, count: usize) -> bool
+    ensures { result ≡ int_le (x +ℤ pos (8 * count)) (pos 32767) }
+{
+    count <= (i32::from(i16::MAX) - i32::from(x)) as usize / 8
+}
+
+// Paints the characters, and leaves the cursor.
+fn paint_text(cell: &mut Cell, glyphs: &[[u8; 8]; 95], text: &[u8], raster: Raster)
+    requires live { cell.old.state ≡ view.Live }
+    requires raster { raster_of raster ≡ cell.old.live.layer.raster }
+    requires few { length text.now < 8192 }
+    ensures { cell.new ≡ with_live (λ c. text_painted glyphs.now text.now (raster_of raster) c) cell.old }
+{
+    let left = i32::from(raster.x);
+    let top = i32::from(raster.y) - 6;
+    let columns = places(left, left + 8 * text.len() as i32, cell.width());
+    let rows = places(top, top + 8, cell.height());
+    letter_rows(cell, rows, columns, glyphs, text, raster);
+}
+
+// Of the places from one on and before another, those from 0 on and before the extent.
+fn places(from: i32, end: i32, extent: u32) -> Places
+    requires { extent ≤ 2048 }
+    ensures ordered { result.from ≤ result.end }
+    ensures inside { result.end ≤ extent }
+    ensures has { (u : ℕ) → u < extent → (int_le from (pos u) && not (int_le end (pos u))) ≡
+        is_between result.from result.end u }
+{
+    let from = edge(from, extent);
+    let end = edge(end, extent);
+    Places {
+        from,
+        end: end.max(from),
+    }
+}
+
+// Paints some rows of the characters.
+fn letter_rows(
+    cell: &mut Cell,
+    rows: Places,
+    columns: Places,
+    glyphs: &[[u8; 8]; 95],
+    text: &[u8],
+    raster: Raster,
+)
+    requires live { cell.old.state ≡ view.Live }
+    requires rows { rows.from ≤ rows.end }
+    requires bottom { rows.end < 65536 }
+    requires columns { columns.from ≤ columns.end }
+    requires right { columns.end ≤ 2048 }
+    requires starts { columns.from < columns.end → raster.x ≤ℤ pos columns.from }
+    requires upper { rows.from < rows.end → raster.y ≤ℤ pos (rows.from + 6) }
+    requires lower { rows.from < rows.end → pos rows.end ≤ℤ (raster.y +ℤ pos 2) }
+    ensures { cell.new ≡ with_live
+        (λ c. stamped (raster_of raster) (text_has glyphs.now text.now (raster_of raster)) (λ i j. in_rows c rows.from rows.end columns.from columns.end i j) c)
+        cell.old }
+{
+    // Reading this tells the proof that the layer has only pens of its depth.
+    let _ = cell.depth();
+    for y in rows.from..rows.end {
+        letter_row(cell, y, columns, glyphs, text, raster);
+    }
+}
+
+// Paints one row of the characters: their glyphs' rows side by side, from the first on that reaches these columns.
+fn letter_row(
+    cell: &mut Cell,
+    y: u32,
+    columns: Places,
+    glyphs: &[[u8; 8]; 95],
+    text: &[u8],
+    raster: Raster,
+)
+    requires live { cell.old.state ≡ view.Live }
+    requires row { y < 65536 }
+    requires columns { columns.from ≤ columns.end }
+    requires right { columns.end ≤ 2048 }
+    requires starts { columns.from < columns.end → raster.x ≤ℤ pos columns.from }
+    requires upper { raster.y ≤ℤ pos (y + 6) }
+    requires lower { pos y ≤ℤ (raster.y +ℤ pos 1) }
+    ensures { cell.new ≡ with_live
+        (λ c. stamped (raster_of raster) (text_has glyphs.now text.now (raster_of raster)) (λ i j. in_rows c y (y + 1) columns.from columns.end i j) c)
+        cell.old }
+{
+    let mut bytes = [0; MOST];
+    let row = row_in_cells(y, raster.y);
+    let before = columns_before(columns.from, raster.x);
+    let origin = Origin {
+        column: columns.from,
+        bit: before % 8,
+    };
+    let count = (origin.bit + (columns.end - columns.from)).div_ceil(8) as usize;
+    glyph_row(&mut bytes, count, glyphs, text, (before / 8) as usize, row);
+    template_row(cell, y, columns, &bytes, origin, raster);
+}
+
+// Which row of the characters' cells a row of the layer is, with the cursor in this row.
+fn row_in_cells(y: u32, cursor: i16) -> usize
+    requires row { y < 65536 }
+    requires upper { cursor ≤ℤ pos (y + 6) }
+    requires lower { pos y ≤ℤ (cursor +ℤ pos 1) }
+    ensures inside { result < 8 }
+    ensures value { unsigned_abs (pos y -ℤ (cursor -ℤ pos 6)) ≡ result }
+{
+    (y as i32 + 6 - i32::from(cursor)) as usize
+}
+
+// How many columns of the characters' cells are left of a column, with the cursor in this column.
+fn columns_before(column: u32, cursor: i16) -> u32
+    requires { column < 65536 }
+    ensures near { result < 131072 }
+    ensures value { cursor ≤ℤ pos column → pos column -ℤ cursor ≡ pos result }
+{
+    (column as i32 - i32::from(cursor)).max(0) as u32
+}
