@@ -1,6 +1,6 @@
 ghost use Rattle.std.specs.Prelude.{◌≡◌, ℕ, ◌+◌, ◌*◌, ◌<◌, ◌≤◌, not, ◌&&◌, true, if◌then◌else◌, length, ℤ, pos, ◌+ℤ◌, ◌-ℤ◌, ◌≤ℤ◌, int_le, unsigned_abs};
 ghost use Rattle.lw_kernels.specs.Kernel.{is_between};
-ghost use Rattle.lw_machine.specs.Shapes.{draw_text, in_cells};
+ghost use Rattle.lw_machine.specs.Shapes.{draw_text};
 ghost use Rattle.lw_layer.specs.View.{shows, with_live, with_layer};
 ghost use Rattle.lw_layer.specs.View as view;
 ghost use Rattle.lw_layer.specs.Drafts.{raster_of};
