@@ -26,6 +26,10 @@ int main(int count, char **words) {
     }
     if (all || strcmp(words[1], "rows") == 0) {
         disagreements += bench_rows();
+        puts("");
+    }
+    if (all || strcmp(words[1], "drawing") == 0) {
+        bench_drawing();
     }
     print_load();
     if (disagreements > 0) {

@@ -1,6 +1,6 @@
 #!/bin/sh
-# Builds the static library and the benchmarks, and runs them. An argument, `regions` or `rows`, runs one of the
-# two alone.
+# Builds the static library and the benchmarks, and runs them. An argument, `regions`, `rows` or `drawing`,
+# runs one of the three alone.
 set -eu
 
 bench=$(cd "$(dirname "$0")" && pwd)

@@ -5,6 +5,7 @@
 ghost use Rattle.std.specs.Prelude.{◌≡◌, ◌<◌, ◌≤ℤ◌, negsuc};
 
 mod boxes;
+mod drawing;
 mod generator;
 mod operation;
 mod regions;
@@ -50,4 +51,24 @@ pub extern "C" fn lw_bench_row(
     seed: u32,
 ) -> u32 {
     rows::repeated(kernel, bytes.min(4096), bit % 8, minterm, repetitions, seed)
+}
+
+/// A number made of the bytes of the screen, after drawing calls were made `repetitions` times on a desk with one layer of 640 by 512
+/// pixels and `planes` planes, of which 1 to 8 count. Shape 0 is the fill of a square of `side` by `side` pixels, whose left edge is
+/// 3 columns off a byte's; shape 1 is two lines, from the corner to column 99 and row `side` and back; any other is a text of 80
+/// letters with the call that puts the cursor before it. It is -1 where the square isn't one and where memory is wanting.
+#[unsafe(no_mangle)]
+pub extern "C" fn lw_bench_drawing(
+    alloc: Global,
+    shape: u32,
+    side: i16,
+    planes: u32,
+    repetitions: u32,
+) -> i64
+    ensures { negsuc 0 ≤ℤ result }
+{
+    match drawing::repeated(alloc, shape, side, planes.clamp(1, 8), repetitions) {
+        Some(sum) => i64::from(sum),
+        None => -1,
+    }
 }

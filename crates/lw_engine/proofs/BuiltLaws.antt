@@ -1,19 +1,10 @@
 -- What a call that is built is, by its class.
 use Rattle.std.proofs.Common.{◌≡◌, ℕ, true, Option, Some, None, IsTrue, refl}
 use Rattle.lw_calls.specs.declared.call.Call.{Call}
-use Rattle.lw_calls.specs.declared.call.Call.TheVariants.{Create, OpenWindow, Close, ToFront, ToBack, InFrontOf, MoveBy, SizeBy, SetBox, Activate, Fill, Clip, Unclip, Scroll, Blit}
+use Rattle.lw_calls.specs.declared.call.Call.TheVariants.{Create, OpenWindow, Close, ToFront, ToBack, InFrontOf, MoveBy, SizeBy, SetBox, Activate, Blit}
 use Rattle.lw_calls.specs.Built.{is_hookless, is_built}
-use Rattle.lw_calls.specs.Touches.{OnLayer, OnLayers, OnAll, class_of}
+use Rattle.lw_calls.specs.Touches.{OnLayers, OnAll, class_of}
 use Rattle.lw_arrange.specs.Prepared.{IsPlainCall}
-use Rattle.lw_engine.specs.Parts.{IsBuiltOnLayer}
-
--- a call on one layer
-pub built_on_layer : (call : Call) (slot : ℕ) → class_of call ≡ OnLayer slot → IsTrue (is_built call) → IsBuiltOnLayer call
-built_on_layer (Fill slot rect) s is built = refl
-built_on_layer (Clip slot register) s is built = refl
-built_on_layer (Unclip slot) s is built = refl
-built_on_layer (Scroll slot dx dy) s is built = refl
-built_on_layer call s is built = absurd (cc (is, built))
 
 -- no call on two layers
 pub no_pair : (call : Call) (source slot : ℕ) → class_of call ≡ OnLayers source slot → IsTrue (is_built call) → ⊥

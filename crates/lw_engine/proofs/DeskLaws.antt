@@ -7,7 +7,7 @@ use Rattle.lw_region.specs.Rectangle.{Rectangle}
 use Rattle.lw_region.specs.Pixels.{Pixel}
 use Rattle.lw_calls.specs.declared.sizes.Sizes.{Sizes}
 use Rattle.lw_calls.specs.declared.call.Call.{Call}
-use Rattle.lw_calls.specs.declared.call.Call.TheVariants.{RegRect, RegPair, RegClear, InFrontOf, Which, Fill, Clip, Unclip, Scroll}
+use Rattle.lw_calls.specs.declared.call.Call.TheVariants.{RegRect, RegPair, RegClear, InFrontOf, Which, SetA, SetB, SetMode, SetMask, At, WritePixel, ReadPixel, Fill, DrawTo, Letters, SetRast, ScrollRaster, Put, Clip, Unclip, BeginRefresh, EndRefresh, Scroll, SetTitle, TakeMessage}
 use Rattle.lw_calls.specs.declared.reply.Reply.{Reply}
 use Rattle.lw_calls.specs.declared.touch.Role.TheVariants.{Task, Slot as SlotRole, Info}
 use Rattle.lw_calls.specs.Limits.{call_fits}
@@ -21,7 +21,6 @@ use Rattle.lw_layer.specs.View.{CellView}
 use Rattle.lw_layer.specs.StandsFor.{StandsFor}
 use Rattle.lw_stack.specs.Stack.{Stack, StandsForInfo}
 use Rattle.lw_engine.specs.Desks.{StandForRegisters, cell_at, AreOfDesk, Engine, registers_at, StandsForDesk}
-use Rattle.lw_engine.specs.Parts.{IsBuiltOnLayer}
 use Rattle.lw_engine.specs.Steps.{with_registers, with_cell}
 
 -- a call that isn't on registers leaves them all
@@ -133,9 +132,25 @@ small n m q fits = let parts = and_parts (nat_lt n m) q fits in let first = part
 named_fits : (s : Sizes) (call : Call) (slot n : ℕ) → class_of call ≡ OnLayer slot → class_of call ≡ OnLayer n → n < s.slots → slot < s.slots
 named_fits s call slot n class is low = let P : ℕ → Type 0 = λ k. k < s.slots in subst P (ap named (sym is ∙ class)) low
 
-pub slot_fits : (s : Sizes) (call : Call) (slot : ℕ) → IsBuiltOnLayer call → class_of call ≡ OnLayer slot → IsTrue (call_fits s call) → slot < s.slots
-slot_fits s (Fill n rect) slot built class fits = named_fits s (Fill n rect) slot n class refl (small n s.slots _ fits)
-slot_fits s (Clip n reg) slot built class fits = named_fits s (Clip n reg) slot n class refl (small n s.slots _ fits)
-slot_fits s (Unclip n) slot built class fits = named_fits s (Unclip n) slot n class refl (grind (arith, nat_tests))
-slot_fits s (Scroll n dx dy) slot built class fits = named_fits s (Scroll n dx dy) slot n class refl (small n s.slots _ fits)
-slot_fits s call slot built class fits = absurd (false≢true built)
+pub slot_fits : (s : Sizes) (call : Call) (slot : ℕ) → class_of call ≡ OnLayer slot → IsTrue (call_fits s call) → slot < s.slots
+slot_fits s (SetA n pen) slot class fits = named_fits s (SetA n pen) slot n class refl (small n s.slots _ fits)
+slot_fits s (SetB n pen) slot class fits = named_fits s (SetB n pen) slot n class refl (small n s.slots _ fits)
+slot_fits s (SetMode n mode) slot class fits = named_fits s (SetMode n mode) slot n class refl (small n s.slots _ fits)
+slot_fits s (SetMask n mask) slot class fits = named_fits s (SetMask n mask) slot n class refl (small n s.slots _ fits)
+slot_fits s (At n x y) slot class fits = named_fits s (At n x y) slot n class refl (small n s.slots _ fits)
+slot_fits s (WritePixel n x y) slot class fits = named_fits s (WritePixel n x y) slot n class refl (small n s.slots _ fits)
+slot_fits s (ReadPixel n x y) slot class fits = named_fits s (ReadPixel n x y) slot n class refl (small n s.slots _ fits)
+slot_fits s (Fill n rect) slot class fits = named_fits s (Fill n rect) slot n class refl (small n s.slots _ fits)
+slot_fits s (DrawTo n x y) slot class fits = named_fits s (DrawTo n x y) slot n class refl (small n s.slots _ fits)
+slot_fits s (Letters n text) slot class fits = named_fits s (Letters n text) slot n class refl (grind (arith, nat_tests))
+slot_fits s (SetRast n pen) slot class fits = named_fits s (SetRast n pen) slot n class refl (small n s.slots _ fits)
+slot_fits s (ScrollRaster n dx dy rect) slot class fits = named_fits s (ScrollRaster n dx dy rect) slot n class refl (small n s.slots _ fits)
+slot_fits s (Put bitmap n area) slot class fits = named_fits s (Put bitmap n area) slot n class refl (small n s.slots _ (and_parts (nat_lt bitmap s.bitmaps) _ fits).1)
+slot_fits s (Clip n reg) slot class fits = named_fits s (Clip n reg) slot n class refl (small n s.slots _ fits)
+slot_fits s (Unclip n) slot class fits = named_fits s (Unclip n) slot n class refl (grind (arith, nat_tests))
+slot_fits s (BeginRefresh n) slot class fits = named_fits s (BeginRefresh n) slot n class refl (grind (arith, nat_tests))
+slot_fits s (EndRefresh n full) slot class fits = named_fits s (EndRefresh n full) slot n class refl (grind (arith, nat_tests))
+slot_fits s (Scroll n dx dy) slot class fits = named_fits s (Scroll n dx dy) slot n class refl (small n s.slots _ fits)
+slot_fits s (SetTitle n title) slot class fits = named_fits s (SetTitle n title) slot n class refl (grind (arith, nat_tests))
+slot_fits s (TakeMessage n) slot class fits = named_fits s (TakeMessage n) slot n class refl (grind (arith, nat_tests))
+slot_fits s call slot class fits = absurd (cc class)

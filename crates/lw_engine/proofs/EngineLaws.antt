@@ -1,14 +1,19 @@
 -- What holds of the desk of the program before the first call and after a call, and what a call makes of it.
-use Rattle.std.proofs.Common.{◌≡◌, ◌≢◌, ℕ, ◌<◌, List, [], length, get_or, set, Result, Ok, Err, IfOk, OnErr, IsTrue, ◌∙◌, sym, ap, subst, ⊎_elim, arith}
+use Rattle.std.proofs.Common.{◌≡◌, ◌≢◌, ℕ, ◌<◌, true, List, [], length, get_or, set, Option, Some, None, Result, Ok, Err, IfOk, OnErr, IsTrue, ◌∙◌, sym, refl, ap, subst, ⊎_elim, arith}
 use Rattle.std.proofs.lemmas.Bool.{cases_eq}
 use Rattle.std.proofs.lemmas.List.{get_or-set_same, get_or-set_other, set-get_or, length-set}
 use Rattle.lw_region.specs.Rectangle.{Rectangle}
+use Rattle.lw_calls.specs.Assets.{Assets}
 use Rattle.lw_calls.specs.declared.sizes.Sizes.{Sizes}
 use Rattle.lw_calls.specs.declared.call.Call.{Call}
 use Rattle.lw_calls.specs.declared.reply.Reply.{Reply}
 use Rattle.lw_calls.specs.Limits.{call_fits}
 use Rattle.lw_calls.specs.Touches.{OnRegisters, OnInfo, OnLayer, OnAll, class_of}
+use Rattle.lw_machine.specs.Layer.{Slot, Unopened, Live, Closed}
 use Rattle.lw_machine.specs.Desk.{Desk}
+use Rattle.lw_machine.specs.Screen.{top}
+use Rattle.lw_machine.specs.Kept.{is_visible}
+use Rattle.lw_machine.specs.Sound.{IsSlot, active_is_window}
 use Rattle.lw_machine.specs.Step.{reply, after}
 use Rattle.lw_machine.specs.Parts.{slot_part, info_part}
 use Rattle.lw_layer.specs.View.{CellView}
@@ -16,7 +21,7 @@ use Rattle.lw_layer.specs.StandsFor.{StandsFor}
 use Rattle.lw_stack.specs.Stack.{Stack, StandsForInfo}
 use Rattle.lw_engine.specs.Desks.{StandForRegisters, cell_at, AreNumbered, AreOfDesk, Engine, registers_at, StandsForDesk, IsEngine}
 use Rattle.lw_engine.specs.Parts.{IsRegistersStep, IsLayerStep}
-use Rattle.lw_engine.specs.Steps.{IsStep, with_registers, with_cell}
+use Rattle.lw_engine.specs.Steps.{IsStep, IsStepWith, with_registers, with_cell}
 use Rattle.lw_engine.proofs.DeskLaws.{registers_desk, layer_desk, all_desk, after_look}
 
 -- a fact of each entry of a list, where it holds of the one that was set
@@ -59,17 +64,53 @@ registers_engine (Err x) e task call old new ok fits class here is eight step ke
     subst IsEngine (sym (registers_kept e task old new is kept)) ok
 
 -- the desk of the program after a call on a layer stands for the desk after it
-pub layer_step : {E : Type 0} (result : Result Reply E) (e : Engine) (task slot : ℕ) (call : Call) (old new : CellView) (regs : List (List Rectangle)) → AreNumbered e.stack.sizes.slots e.cells → IsTrue (call_fits e.stack.sizes call) → class_of call ≡ OnLayer slot → slot < e.stack.sizes.slots → task < e.stack.sizes.tasks → old ≡ cell_at e.cells slot → regs ≡ registers_at e task → IfOk result (λ r. IsLayerStep old regs call r new) → IfOk result (λ r. IsStep e task call r (with_cell e slot new))
-layer_step (Ok r) e task slot call old new regs cells fits class low here is read step =
-    λ d stands.
+pub layer_step : {E : Type 0} (result : Result Reply E) (e : Engine) (task slot : ℕ) (call : Call) (old new : CellView) (regs : List (List Rectangle)) (assets : Assets) → AreNumbered e.stack.sizes.slots e.cells → IsTrue (call_fits e.stack.sizes call) → class_of call ≡ OnLayer slot → slot < e.stack.sizes.slots → task < e.stack.sizes.tasks → old ≡ cell_at e.cells slot → regs ≡ registers_at e task → IfOk result (λ r. IsLayerStep old regs assets call r new) → IfOk result (λ r. IsStepWith assets e task call r (with_cell e slot new))
+layer_step (Ok r) e task slot call old new regs assets cells fits class low here is read step =
+    λ d stands handed.
     let P : CellView → Type 0 = λ c. StandsFor c (slot_part d slot) in
     let Q : List (List Rectangle) → Type 0 = λ q. StandForRegisters q (d.registers task) in
     let numbered : old.number ≡ slot = ap (λ (c : CellView). c.number) is ∙ cells.numbers slot low in
     let R : ℕ → Type 0 = λ n. StandsFor old (slot_part d n) in
     let S : ℕ → Type 0 = λ n. StandsFor new (slot_part (after d task call) n) in
-    let made = step d task (subst R (sym numbered) (subst P (sym is) (stands.parts.slots slot low))) (subst Q (sym read) (stands.registers task here)) in
+    let made = step d task (subst R (sym numbered) (subst P (sym is) (stands.parts.slots slot low))) (subst Q (sym read) (stands.registers task here)) handed in
     (made.0, layer_desk e d task slot call new fits class (omega (arith, cells.many)) stands (subst S numbered made.1))
-layer_step (Err x) e task slot call old new regs cells fits class low here is read step = tt
+layer_step (Err x) e task slot call old new regs assets cells fits class low here is read step = tt
+
+-- the desk to which something else was handed in
+abbrev handed_in : Assets → Desk → Desk
+handed_in assets d = record d { assets = assets }
+
+slot_handed_in : (assets : Assets) (d : Desk) (s : ℕ) (k : Slot) → IsSlot d s k → IsSlot (handed_in assets d) s k
+unfolding is_visible top
+slot_handed_in assets d s Unopened ok = ok
+slot_handed_in assets d s (Live l) ok = ok
+slot_handed_in assets d s Closed ok = ok
+
+window_handed_in : (assets : Assets) (d : Desk) (o : Option ℕ) → active_is_window d o ≡ true → active_is_window (handed_in assets d) o ≡ true
+window_handed_in assets d None ok = ok
+window_handed_in assets d (Some s) ok = ok
+
+-- the desk of the program stands for it too
+stands_handed_in : (assets : Assets) (e : Engine) (d : Desk) → StandsForDesk e d → StandsForDesk e (handed_in assets d)
+unfolding top
+stands_handed_in assets e d stands =
+    let ok = stands.parts.sound in
+    record {
+      parts = record {
+        sound = record {
+          limits = ok.limits;
+          beyond = ok.beyond;
+          listed = ok.listed;
+          backdrops = ok.backdrops;
+          slots = λ s. slot_handed_in assets d s (d.slot s) (ok.slots s);
+          active = window_handed_in assets d d.active ok.active;
+        };
+        sizes = stands.parts.sizes;
+        info = stands.parts.info;
+        slots = stands.parts.slots;
+      };
+      registers = stands.registers;
+    }
 
 -- the number of a cell that was set
 number_set : (cells : List CellView) (slot s : ℕ) (new : CellView) → slot < length cells → new.number ≡ slot → (cell_at cells s).number ≡ s → (cell_at (set cells slot new) s).number ≡ s
@@ -80,16 +121,16 @@ number_set cells slot s new low is was =
     (cases_eq s slot)
 
 -- what holds of it then
-layer_sound : (e : Engine) (task slot : ℕ) (call : Call) (r : Reply) (new : CellView) → IsEngine e → slot < e.stack.sizes.slots → new.number ≡ slot → IsStep e task call r (with_cell e slot new) → IsEngine (with_cell e slot new)
-layer_sound e task slot call r new ok low is step = record {
+layer_sound : (e : Engine) (task slot : ℕ) (call : Call) (r : Reply) (new : CellView) (assets : Assets) → IsEngine e → slot < e.stack.sizes.slots → new.number ≡ slot → IsStepWith assets e task call r (with_cell e slot new) → IsEngine (with_cell e slot new)
+layer_sound e task slot call r new assets ok low is step = record {
   cells = record {
     many = length-set e.cells slot new ∙ ok.cells.many;
     numbers = λ s small. number_set e.cells slot s new (omega (arith, ok.cells.many)) is (ok.cells.numbers s small);
   };
   tasks = ok.tasks;
   eight = ok.eight;
-  desk = after ok.desk task call;
-  stands = (step ok.desk ok.stands).1;
+  desk = after (handed_in assets ok.desk) task call;
+  stands = (step (handed_in assets ok.desk) (stands_handed_in assets e ok.desk ok.stands) refl).1;
 }
 
 -- a cell that is as before leaves it as it was
@@ -97,12 +138,12 @@ cell_kept : (e : Engine) (slot : ℕ) (old new : CellView) → old ≡ cell_at e
 cell_kept e slot old new is kept =
     ap (λ c. with_cell e slot c) (kept ∙ is) ∙ ap (λ (q : List CellView). record e { cells = q }) (set-get_or e.cells slot _)
 
-pub layer_engine : {E : Type 0} (result : Result Reply E) (e : Engine) (task slot : ℕ) (call : Call) (old new : CellView) (regs : List (List Rectangle)) → IsEngine e → IsTrue (call_fits e.stack.sizes call) → class_of call ≡ OnLayer slot → slot < e.stack.sizes.slots → task < e.stack.sizes.tasks → old ≡ cell_at e.cells slot → regs ≡ registers_at e task → new.number ≡ old.number → IfOk result (λ r. IsLayerStep old regs call r new) → OnErr result (new ≡ old) → IsEngine (with_cell e slot new)
-layer_engine (Ok r) e task slot call old new regs ok fits class low here is read number step kept =
+pub layer_engine : {E : Type 0} (result : Result Reply E) (e : Engine) (task slot : ℕ) (call : Call) (old new : CellView) (regs : List (List Rectangle)) (assets : Assets) → IsEngine e → IsTrue (call_fits e.stack.sizes call) → class_of call ≡ OnLayer slot → slot < e.stack.sizes.slots → task < e.stack.sizes.tasks → old ≡ cell_at e.cells slot → regs ≡ registers_at e task → new.number ≡ old.number → IfOk result (λ r. IsLayerStep old regs assets call r new) → OnErr result (new ≡ old) → IsEngine (with_cell e slot new)
+layer_engine (Ok r) e task slot call old new regs assets ok fits class low here is read number step kept =
     let result : Result Reply ℕ = Ok r in
-    layer_sound e task slot call r new ok low (number ∙ (ap (λ (c : CellView). c.number) is ∙ ok.cells.numbers slot low))
-    (layer_step result e task slot call old new regs ok.cells fits class low here is read step)
-layer_engine (Err x) e task slot call old new regs ok fits class low here is read number step kept =
+    layer_sound e task slot call r new assets ok low (number ∙ (ap (λ (c : CellView). c.number) is ∙ ok.cells.numbers slot low))
+    (layer_step result e task slot call old new regs assets ok.cells fits class low here is read step)
+layer_engine (Err x) e task slot call old new regs assets ok fits class low here is read number step kept =
     subst IsEngine (sym (cell_kept e slot old new is kept)) ok
 
 -- a look answers the desk's reply and leaves all

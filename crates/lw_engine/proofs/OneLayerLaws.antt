@@ -1,25 +1,27 @@
 -- What a call on one layer answers and leaves, in every desk for whose slot the cell stands.
-use Rattle.std.proofs.Common.{◌≡◌, ℕ, ◌<◌, Bool, true, false, not, if◌then◌else◌, ℤ, List, [], Option, Some, None, ◌∙◌, sym, refl, ap, subst}
+use Rattle.std.proofs.Common.{◌≡◌, ℕ, ◌*◌, ◌<◌, Bool, true, false, not, if◌then◌else◌, ℤ, pos, negsuc, ◌+ℤ◌, int_le, unsigned_abs, List, [], length, Option, Some, None, Result, Ok, Err, IfOk, ◌∙◌, sym, refl, ap, subst}
 use Rattle.std.specs.List.{slice_index_or}
 use Rattle.std.proofs.Math.Path.{fun_ext}
 use Rattle.std.proofs.lemmas.Bool.{eq-eqb}
 use Rattle.lw_region.specs.Rectangle.{Rectangle}
 use Rattle.lw_region.specs.Pixels.{Pixel, pixels_of}
+use Rattle.lw_planes.specs.Bitmap.{pen_at}
+use Rattle.lw_calls.specs.Assets.{Assets}
 use Rattle.lw_calls.specs.declared.call.Call.{Call}
-use Rattle.lw_calls.specs.declared.call.Call.TheVariants.{Fill, Clip, Unclip, Scroll}
+use Rattle.lw_calls.specs.declared.call.Call.TheVariants.{WritePixel, ReadPixel, Letters, Clip, Unclip, Scroll}
 use Rattle.lw_calls.specs.declared.reply.Reply.{Reply}
-use Rattle.lw_calls.specs.declared.reply.Reply.TheVariants.{Done, NotOpen, NotSuper, InUpdate, OutOfBounds}
+use Rattle.lw_calls.specs.declared.reply.Reply.TheVariants.{Done, Pen, Outside, NotOpen, NotSuper, InUpdate, OutOfBounds}
 use Rattle.lw_calls.specs.Kinds.{is_super}
 use Rattle.lw_calls.specs.Touches.{CallClass, OnLayer, class_of}
 use Rattle.lw_machine.specs.Layer.{Layer, Slot, is_live, layer_is, change_layer}
 use Rattle.lw_machine.specs.Layer as layer
 use Rattle.lw_machine.specs.Desk.{Desk}
 use Rattle.lw_machine.specs.Screen.{top, is_shown}
-use Rattle.lw_machine.specs.Kept.{visible_within, screen_place, is_visible}
-use Rattle.lw_machine.specs.Shapes.{rect_fill}
+use Rattle.lw_machine.specs.Kept.{visible_within, screen_place, is_visible, is_kept, is_drawable, holds_at}
+use Rattle.lw_machine.specs.Shapes.{write_pixel, draw_text}
 use Rattle.lw_machine.specs.Parts.{SlotPart, slot_part}
-use Rattle.lw_machine.specs.Step.{refuse, refuse_unless_open, further_refusal, refusal, on_layer, effect, from_layer, clip_answer, may_scroll, scroll_layer, answer, changed_unless, reply_or, after, reply}
-use Rattle.lw_layer.specs.View.{State, LiveView, CellView, shows, with_layer, with_live}
+use Rattle.lw_machine.specs.Step.{refuse, refuse_unless_open, further_refusal, refusal, on_layer, drawn_on, effect, from_layer, clip_answer, may_scroll, scroll_layer, answer, changed_unless, reply_or, after, reply}
+use Rattle.lw_layer.specs.View.{State, LiveView, CellView, shows, keeps, draws, kept_pen, with_layer, with_live}
 use Rattle.lw_layer.specs.View as view
 use Rattle.lw_layer.specs.StandsFor.{IsLivePart, IsPartOf, StandsFor}
 use Rattle.lw_layer.specs.Looks.{IsLook, IsLookAt}
@@ -84,16 +86,114 @@ visible_is d n c live x y =
     ap (λ b. visible_within (is_shown d n) b c.layer.scroll_x c.layer.scroll_y x y) live.bounds ∙
     live.shown (screen_place c.bounds.min_x c.layer.scroll_x x) (screen_place c.bounds.min_y c.layer.scroll_y y)
 
--- a filled rectangle
-pub fill_step : (c new : CellView) (rect : Rectangle) → c.state ≡ view.Live → new ≡ with_live (λ k. with_layer (λ l. rect_fill (λ x y. shows k x y) rect l) k) c → IsCellStep c (Fill c.number rect) Done new
-fill_step c new rect is leaves =
+-- the pixels that the machine shows are those of the cell
+shown_same : (d : Desk) (n : ℕ) (c : LiveView) → IsLivePart c (slot_part d n) → let machine : ℕ → ℕ → Bool = λ x y. is_visible d n c.layer x y in let cell : ℕ → ℕ → Bool = λ x y. shows c x y in machine ≡ cell
+shown_same d n c live = fun_ext (λ x. fun_ext (λ y. visible_is d n c live x y))
+
+-- A call that isn't refused on an open layer and changes it, told the pixels that it shows.
+pub drawn_step : (d : Desk) (task : ℕ) (call : Call) (r : Reply) (c new : CellView) (g : (ℕ → ℕ → Bool) → Layer → Layer) → class_of call ≡ OnLayer c.number → c.state ≡ view.Live → StandsFor c (slot_part d c.number) → further_refusal d task call ≡ None → effect d task call ≡ drawn_on d c.number g → r ≡ answer d task call → new ≡ with_live (λ k. with_layer (λ l. g (λ x y. shows k x y) l) k) c → IsSlotStep d task c.number call r new
+drawn_step d task call r c new g class is stands passes does answers leaves =
+    let live : IsLivePart c.live (slot_part d c.number) = live_slot c (slot_part d c.number) is stands in
+    let P : CellView → Type 0 = IsSlotStep d task c.number call r in
+    subst P (sym leaves)
+    (changed_step d task call r c (λ l. g (λ x y. is_visible d c.number l x y) l) (λ l. g (λ x y. shows c.live x y) l) live is
+    (open_refusal d task c.number call c.live.layer class live.slot ∙ passes) answers does (ap (λ (v : ℕ → ℕ → Bool). g v c.live.layer) (shown_same d c.number c.live live)))
+
+-- what WritePixel answers
+write_answer : (d : Desk) (c : CellView) (x y : ℤ) (done : Bool) → IsLivePart c.live (slot_part d c.number) → done ≡ holds_at (λ i j. draws c.live i j) x y → (if done then Done else Outside) ≡ from_layer (λ l. if holds_at (is_drawable (is_visible d c.number l) l) x y then Done else Outside) (d.slot c.number)
+unfolding draws
+write_answer d c x y done live answers =
+    ap (λ t. if t then Done else Outside) answers ∙
+    sym (ap (λ (s : Slot). from_layer (λ l. if holds_at (is_drawable (is_visible d c.number l) l) x y then Done else Outside) s) live.slot ∙
+    ap (λ (v : ℕ → ℕ → Bool). if holds_at (is_drawable v c.live.layer) x y then Done else Outside) (shown_same d c.number c.live live))
+
+-- a pixel that was painted, or isn't drawable
+pub write_step : (c new : CellView) (x y told_x told_y : ℤ) (done : Bool) (r : Reply) → told_x ≡ x → told_y ≡ y → c.state ≡ view.Live → done ≡ holds_at (λ i j. draws c.live i j) told_x told_y → new ≡ with_live (λ k. with_layer (λ l. write_pixel (λ i j. shows k i j) told_x told_y l) k) c → r ≡ (if done then Done else Outside) → IsCellStep c (WritePixel c.number x y) r new
+write_step c new x y told_x told_y done r same_x same_y is answers leaves says =
     λ d task stands.
     let live : IsLivePart c.live (slot_part d c.number) = live_slot c (slot_part d c.number) is stands in
-    let same : (λ x y. is_visible d c.number c.live.layer x y) ≡ (λ x y. shows c.live x y) = fun_ext (λ x. fun_ext (λ y. visible_is d c.number c.live live x y)) in
-    let P : CellView → Type 0 = IsSlotStep d task c.number (Fill c.number rect) Done in
-    subst P (sym leaves)
-    (changed_step d task (Fill c.number rect) Done c (λ l. rect_fill (is_visible d c.number l) rect l) (λ l. rect_fill (λ x y. shows c.live x y) rect l) live is
-    (open_refusal d task c.number (Fill c.number rect) c.live.layer refl live.slot) refl refl (ap (λ (v : ℕ → ℕ → Bool). rect_fill v rect c.live.layer) same))
+    let drawn : ℤ → ℤ → CellView = λ u v. with_live (λ k. with_layer (λ l. write_pixel (λ i j. shows k i j) u v l) k) c in
+    let holds : ℤ → ℤ → Bool = λ u v. holds_at (λ i j. draws c.live i j) u v in
+    drawn_step d task (WritePixel c.number x y) r c new (λ visible. write_pixel visible x y) refl is stands refl refl
+    (says ∙ write_answer d c x y done live (answers ∙ (ap (λ u. holds u told_y) same_x ∙ ap (λ v. holds x v) same_y)))
+    (leaves ∙ (ap (λ u. drawn u told_y) same_x ∙ ap (λ v. drawn x v) same_y))
+
+-- the answer to a pen that was read, or to none
+abbrev pub read_reply : Option ℕ → Reply
+read_reply None = Outside
+read_reply (Some pen) = Pen pen
+
+read_told : (b : Bool) (pen : ℕ) → read_reply (if b then Some pen else None) ≡ (if b then Pen pen else Outside)
+read_told true pen = refl
+read_told false pen = refl
+
+kept_told : (c : LiveView) (x y : ℤ) → read_reply (kept_pen c x y) ≡ (if holds_at (is_kept (λ i j. shows c i j) c.layer) x y then Pen (pen_at c.layer.bits (unsigned_abs x) (unsigned_abs y)) else Outside)
+unfolding keeps
+kept_told c (pos x) (pos y) = read_told (is_kept (λ i j. shows c i j) c.layer x y) (pen_at c.layer.bits x y)
+kept_told c (pos x) (negsuc y) = refl
+kept_told c (negsuc x) y = refl
+
+-- ReadPixel changes nothing
+pub read_step : (c : CellView) (x y told_x told_y : ℤ) (found : Option ℕ) (r : Reply) → told_x ≡ x → told_y ≡ y → c.state ≡ view.Live → found ≡ kept_pen c.live told_x told_y → r ≡ read_reply found → IsCellStep c (ReadPixel c.number x y) r c
+unfolding after reply
+read_step c x y told_x told_y found r same_x same_y is finds says =
+    λ d task stands.
+    let live : IsLivePart c.live (slot_part d c.number) = live_slot c (slot_part d c.number) is stands in
+    let call : Call = ReadPixel c.number x y in
+    let passes : refusal d task call ≡ None = open_refusal d task c.number call c.live.layer refl live.slot in
+    let P : Desk → Type 0 = λ e. StandsFor c (slot_part e c.number) in
+    let told : r ≡ read_reply (kept_pen c.live x y) = says ∙ ap read_reply (finds ∙ (ap (λ u. kept_pen c.live u told_y) same_x ∙ ap (λ v. kept_pen c.live x v) same_y)) in
+    let answers : r ≡ answer d task call =
+    told ∙ kept_told c.live x y ∙
+    sym (ap (λ (s : Slot). from_layer (λ l. if holds_at (is_kept (is_visible d c.number l) l) x y then Pen (pen_at l.bits (unsigned_abs x) (unsigned_abs y)) else Outside) s) live.slot ∙
+    ap (λ (v : ℕ → ℕ → Bool). if holds_at (is_kept v c.live.layer) x y then Pen (pen_at c.live.layer.bits (unsigned_abs x) (unsigned_abs y)) else Outside) (shown_same d c.number c.live live)) in
+    (answers ∙ sym (ap (λ o. reply_or o (answer d task call)) passes), subst P (sym (ap (λ o. changed_unless o d (effect d task call)) passes)) stands)
+
+-- whether the cursor would pass the last column
+letters_refusal : (d : Desk) (slot : ℕ) (l : Layer) (text : List ℕ) (inside : Bool) → d.slot slot ≡ layer.Live l → inside ≡ int_le (l.raster.cursor_x +ℤ pos (8 * length text)) (pos 32767) → refuse (layer_is (λ k. not (int_le (k.raster.cursor_x +ℤ pos (8 * length text)) (pos 32767))) (d.slot slot)) OutOfBounds None ≡ refuse (not inside) OutOfBounds None
+letters_refusal d slot l text inside is told =
+    ap (λ (s : Slot). refuse (layer_is (λ k. not (int_le (k.raster.cursor_x +ℤ pos (8 * length text)) (pos 32767))) s) OutOfBounds None) is ∙
+    ap (λ t. refuse (not t) OutOfBounds None) (sym told)
+
+-- letters that were drawn, or refused
+pub letters_step : (c new : CellView) (assets : Assets) (text : List ℕ) (inside done : Bool) (r : Reply) → c.state ≡ view.Live → inside ≡ done → inside ≡ int_le (c.live.layer.raster.cursor_x +ℤ pos (8 * length text)) (pos 32767) → new ≡ (if inside then with_live (λ k. with_layer (λ l. draw_text assets.glyphs (λ x y. shows k x y) text l) k) c else c) → r ≡ (if done then Done else OutOfBounds) → (regs : List (List Rectangle)) → IsLayerStep c regs assets (Letters c.number text) r new
+letters_step c new assets text inside true r is did told leaves says regs =
+    λ d task stands registers handed.
+    let live : IsLivePart c.live (slot_part d c.number) = live_slot c (slot_part d c.number) is stands in
+    let drawn : List (List ℕ) → CellView = λ glyphs. with_live (λ k. with_layer (λ l. draw_text glyphs (λ x y. shows k x y) text l) k) c in
+    let made : new ≡ drawn assets.glyphs = leaves ∙ ap (λ t. if t then drawn assets.glyphs else c) did in
+    drawn_step d task (Letters c.number text) r c new (λ visible. draw_text d.assets.glyphs visible text) refl is stands
+    (letters_refusal d c.number c.live.layer text inside live.slot told ∙ ap (λ t. refuse (not t) OutOfBounds None) did) refl says
+    (made ∙ ap (λ (a : Assets). drawn a.glyphs) (sym handed))
+letters_step c new assets text inside false r is did told leaves says regs =
+    λ d task stands registers handed.
+    let live : IsLivePart c.live (slot_part d c.number) = live_slot c (slot_part d c.number) is stands in
+    let drawn : CellView = with_live (λ k. with_layer (λ l. draw_text assets.glyphs (λ x y. shows k x y) text l) k) c in
+    let kept : new ≡ c = leaves ∙ ap (λ t. if t then drawn else c) did in
+    let P : CellView → Type 0 = IsSlotStep d task c.number (Letters c.number text) r in
+    let Q : Reply → Type 0 = λ q. IsSlotStep d task c.number (Letters c.number text) q c in
+    subst P (sym kept) (subst Q (sym says)
+    (refused_step d task c.number (Letters c.number text) OutOfBounds c
+    (open_refusal d task c.number (Letters c.number text) c.live.layer refl live.slot ∙
+    (letters_refusal d c.number c.live.layer text inside live.slot told ∙ ap (λ t. refuse (not t) OutOfBounds None) did)) stands))
+
+-- a call on a layer is on the slot of the cell that it is lent
+pub read_made : (c : CellView) (call : Call) (slot : ℕ) (x y told_x told_y : ℤ) (r : Reply) → class_of call ≡ OnLayer c.number → call ≡ ReadPixel slot x y → told_x ≡ x → told_y ≡ y → IsCellStep c (ReadPixel c.number told_x told_y) r c → IsCellStep c call r c
+read_made c call slot x y told_x told_y r class is same_x same_y step =
+    λ d task stands.
+    let slot_is : OnLayer c.number ≡ OnLayer slot = sym class ∙ ap class_of is in
+    let number : c.number ≡ slot = cc slot_is in
+    let call_is : call ≡ ReadPixel c.number told_x told_y = is ∙ sym (ap (λ n. ReadPixel n told_x told_y) number ∙ (ap (λ u. ReadPixel slot u told_y) same_x ∙ ap (λ v. ReadPixel slot x v) same_y)) in
+    let P : Call → Type 0 = λ k. IsSlotStep d task c.number k r c in
+    subst P (sym call_is) (step d task stands)
+
+pub clip_made : {E : Type 0} (result : Result Reply E) (c new : CellView) (regs : List (List Rectangle)) (assets : Assets) (call : Call) (slot reg : ℕ) → class_of call ≡ OnLayer c.number → call ≡ Clip slot reg → IfOk result (λ r. (handed : Assets) → IsLayerStep c regs handed (Clip c.number reg) r new) → IfOk result (λ r. IsLayerStep c regs assets call r new)
+clip_made (Ok r) c new regs assets call slot reg class is step =
+    let slot_is : OnLayer c.number ≡ OnLayer slot = sym class ∙ ap class_of is in
+    let number : c.number ≡ slot = cc slot_is in
+    let P : Call → Type 0 = λ k. IsLayerStep c regs assets k r new in
+    subst P (sym (is ∙ ap (λ n. Clip n reg) (sym number))) (step assets)
+clip_made (Err x) c new regs assets call slot reg class is step = tt
 
 -- the further refusal of a call that installs a clip region or takes it away
 clip_refusal : (d : Desk) (slot : ℕ) (l : Layer) (updating : Bool) → d.slot slot ≡ layer.Live l → l.updating ≡ updating → refuse (layer_is (λ k. k.updating) (d.slot slot)) InUpdate None ≡ refuse updating InUpdate None
@@ -120,9 +220,9 @@ clip_told : (d : Desk) (slot : ℕ) (l : Layer) (r : Reply) → d.slot slot ≡ 
 clip_told d slot l r is answers = answers ∙ sym (ap (λ (s : Slot). from_layer (λ k. clip_answer k.clip) s) is)
 
 -- a copy of a register as clip region
-pub clip_step : (c new : CellView) (regs : List (List Rectangle)) (reg : ℕ) (made : List Rectangle) (r : Reply) → reg < 8 → c.state ≡ view.Live → c.live.layer.updating ≡ false → made ≡ slice_index_or regs reg [] → r ≡ clip_answer c.live.layer.clip → new ≡ with_live (λ k. with_layer (λ l. record l { clip = Some (pixels_of made) }) k) c → IsLayerStep c regs (Clip c.number reg) r new
-clip_step c new regs reg made r small is idle copied answers leaves =
-    λ d task stands registers.
+pub clip_step : (c new : CellView) (regs : List (List Rectangle)) (reg : ℕ) (made : List Rectangle) (r : Reply) → reg < 8 → c.state ≡ view.Live → c.live.layer.updating ≡ false → made ≡ slice_index_or regs reg [] → r ≡ clip_answer c.live.layer.clip → new ≡ with_live (λ k. with_layer (λ l. record l { clip = Some (pixels_of made) }) k) c → (assets : Assets) → IsLayerStep c regs assets (Clip c.number reg) r new
+clip_step c new regs reg made r small is idle copied answers leaves assets =
+    λ d task stands registers handed.
     let live : IsLivePart c.live (slot_part d c.number) = live_slot c (slot_part d c.number) is stands in
     let same : d.registers task reg ≡ pixels_of made = registers.sets reg small ∙ ap pixels_of (sym copied) in
     let P : CellView → Type 0 = IsSlotStep d task c.number (Clip c.number reg) r in

@@ -46,7 +46,8 @@ pub record Engine : Type 0 where
 abbrev pub registers_at : Engine → ℕ → List (List Rectangle)
 registers_at e t = slice_index_or e.registers t []
 
--- It stands for a desk. What was handed in and the shelf of hooks may be anything: no call that is built reads them.
+-- It stands for a desk. The shelf of hooks may be anything, since no call that is built reads it, and so may what was handed in,
+-- which each call is lent.
 pub record StandsForDesk (e : Engine) (d : Desk) : Type 0 where
   pub parts : AreOfDesk e.stack e.cells d
   pub registers : (t : ℕ) → t < e.stack.sizes.tasks → StandForRegisters (registers_at e t) (d.registers t)

@@ -1,8 +1,8 @@
 -- What a call makes of the parts that it touches, and what it answers, in every desk with these parts (this project's own).
-use Rattle.std.specs.Prelude.{◌≡◌, ℕ, Bool, true, false, List, IsTrue}
+use Rattle.std.specs.Prelude.{◌≡◌, ℕ, List}
 use Rattle.lw_region.specs.Rectangle.{Rectangle}
+use Rattle.lw_calls.specs.Assets.{Assets}
 use Rattle.lw_calls.specs.declared.call.Call.{Call}
-use Rattle.lw_calls.specs.declared.call.Call.TheVariants.{Fill, Clip, Unclip, Scroll}
 use Rattle.lw_calls.specs.declared.reply.Reply.{Reply}
 use Rattle.lw_machine.specs.Desk.{Desk}
 use Rattle.lw_machine.specs.Parts.{slot_part}
@@ -10,17 +10,6 @@ use Rattle.lw_machine.specs.Step.{after, reply}
 use Rattle.lw_layer.specs.View.{CellView}
 use Rattle.lw_layer.specs.StandsFor.{StandsFor}
 use Rattle.lw_engine.specs.Desks.{StandForRegisters}
-
--- The calls on one layer that can be made so far.
-abbrev pub is_built_on_layer : Call → Bool
-is_built_on_layer (Fill slot rect) = true
-is_built_on_layer (Clip slot register) = true
-is_built_on_layer (Unclip slot) = true
-is_built_on_layer (Scroll slot dx dy) = true
-is_built_on_layer call = false
-
-abbrev pub IsBuiltOnLayer : Call → Type 0
-IsBuiltOnLayer call = IsTrue (is_built_on_layer call)
 
 -- a call on the registers of its task
 abbrev pub IsRegistersStep : List (List Rectangle) → Call → Reply → List (List Rectangle) → Type 0
@@ -31,11 +20,13 @@ IsRegistersStep old call r new =
 abbrev pub IsSlotStep : Desk → ℕ → ℕ → Call → Reply → CellView → Type 0
 IsSlotStep d task slot call r new = (r ≡ reply d task call) × StandsFor new (slot_part (after d task call) slot)
 
--- a call on a layer that doesn't read the registers
+-- a call on a layer that reads nothing else
 abbrev pub IsCellStep : CellView → Call → Reply → CellView → Type 0
 IsCellStep old call r new = (d : Desk) (task : ℕ) → StandsFor old (slot_part d old.number) → IsSlotStep d task old.number call r new
 
--- a call on a layer that reads the registers of its task
-abbrev pub IsLayerStep : CellView → List (List Rectangle) → Call → Reply → CellView → Type 0
-IsLayerStep old regs call r new =
-    (d : Desk) (task : ℕ) → StandsFor old (slot_part d old.number) → StandForRegisters regs (d.registers task) → IsSlotStep d task old.number call r new
+-- a call on a layer that may read the registers of its task and what a script hands in
+abbrev pub IsLayerStep : CellView → List (List Rectangle) → Assets → Call → Reply → CellView → Type 0
+IsLayerStep old regs assets call r new =
+    (d : Desk) (task : ℕ)
+    → StandsFor old (slot_part d old.number) → StandForRegisters regs (d.registers task) → d.assets ≡ assets
+    → IsSlotStep d task old.number call r new

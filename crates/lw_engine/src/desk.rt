@@ -8,11 +8,9 @@ ghost use Rattle.lw_calls.specs.Touches.{class_of, OnRegisters, OnInfo, OnLayer,
 ghost use Rattle.lw_machine.specs.Hook.{Hook};
 ghost use Rattle.lw_machine.specs.Desk.{Desk as MachineDesk, empty_desk};
 ghost use Rattle.lw_machine.specs.Finals.{final_of};
-ghost use Rattle.lw_machine.specs.Step.{after, reply};
 ghost use Rattle.lw_arrange.specs.Prepared.{IsPlainCall};
 ghost use Rattle.lw_engine.specs.Desks.{StandsForDesk};
-ghost use Rattle.lw_engine.specs.Parts.{IsBuiltOnLayer};
-ghost use Rattle.lw_engine.specs.Steps.{IsStep, unopened_cell};
+ghost use Rattle.lw_engine.specs.Steps.{IsStep, IsStepWith, unopened_cell};
 
 use crate::all_layers::on_all;
 use crate::class::{Class, class_of};
@@ -21,7 +19,7 @@ use crate::looking::on_info;
 use crate::one_layer::on_layer;
 use crate::registers::on_registers;
 use crate::regs::Regs;
-use lw_calls::{Call, Final, Replies, Reply, Sizes};
+use lw_calls::{Assets, Call, Final, Replies, Reply, Sizes};
 use lw_layer::Cell;
 use lw_stack::Info;
 use std::alloc::{AllocError, Global};
@@ -66,18 +64,30 @@ impl Desk {
         })
     }
 
-    /// Makes one call of a task and gives its reply, as the machine's step says. The call has to fit the desk's sizes. It fails
-    /// for want of memory alone, and the desk is then as it was.
-    pub fn step(&mut self, alloc: Global, task: u32, call: &Call) -> Result<Reply, AllocError>
+    /// Makes one call of a task and gives its reply, as the machine's step says of every desk to which this was handed in. The call
+    /// has to fit the desk's sizes. It fails for want of memory alone, and the desk is then as it was.
+    pub fn step(
+        &mut self,
+        alloc: Global,
+        assets: &Assets,
+        task: u32,
+        call: &Call,
+    ) -> Result<Reply, AllocError>
         requires fits { IsTrue (call_fits self.old.stack.sizes call.now) }
         requires task { task < self.old.stack.sizes.tasks }
         requires built { IsTrue (is_built call.now) }
-        ensures replies { IfOk result (λ r. (d : MachineDesk) → StandsForDesk self.old d → r ≡ reply d task call.now) }
-        ensures stands { OnOk result ((d : MachineDesk) → StandsForDesk self.old d → StandsForDesk self.new (after d task call.now)) }
+        ensures step { IfOk result (λ r. IsStepWith assets.now self.old task call.now r self.new) }
         ensures unchanged { OnErr result (self.new ≡ self.old) }
         ensures sizes { self.new.stack.sizes ≡ self.old.stack.sizes }
     {
-        self.pick(alloc, task, call)
+        match class_of(call) {
+            Class::Registers => self.on_registers(alloc, task, call),
+            Class::Info => Ok(self.on_info(call)),
+            Class::Layer(slot) => self.on_layer(alloc, assets, task, slot, call),
+            Class::All => self.on_all(alloc, task, call),
+            // No call on two layers is built.
+            Class::Layers(..) => unreachable!(),
+        }
     }
 
     /// What a run leaves whose tasks had these replies, a list for each task: the screen, where each layer is shown with its
@@ -90,25 +100,6 @@ impl Desk {
             → last ≡ final_of d rs) }
     {
         finish(alloc, &self.info, self.cells.as_slice(), replies)
-    }
-
-    // Makes a call by what it works on.
-    fn pick(&mut self, alloc: Global, task: u32, call: &Call) -> Result<Reply, AllocError>
-        requires fits { IsTrue (call_fits self.old.stack.sizes call.now) }
-        requires task { task < self.old.stack.sizes.tasks }
-        requires built { IsTrue (is_built call.now) }
-        ensures step { IfOk result (λ r. IsStep self.old task call.now r self.new) }
-        ensures unchanged { OnErr result (self.new ≡ self.old) }
-        ensures sizes { self.new.stack.sizes ≡ self.old.stack.sizes }
-    {
-        match class_of(call) {
-            Class::Registers => self.on_registers(alloc, task, call),
-            Class::Info => Ok(self.on_info(call)),
-            Class::Layer(slot) => self.on_layer(alloc, task, slot, call),
-            Class::All => self.on_all(alloc, task, call),
-            // No call on two layers is built.
-            Class::Layers(..) => unreachable!(),
-        }
     }
 
     // A call on the registers of its task.
@@ -135,6 +126,7 @@ impl Desk {
     fn on_layer(
         &mut self,
         alloc: Global,
+        assets: &Assets,
         task: u32,
         slot: u32,
         call: &Call,
@@ -142,8 +134,8 @@ impl Desk {
         requires class { class_of call.now ≡ OnLayer slot }
         requires fits { IsTrue (call_fits self.old.stack.sizes call.now) }
         requires task { task < self.old.stack.sizes.tasks }
-        requires built { IsBuiltOnLayer call.now }
-        ensures step { IfOk result (λ r. IsStep self.old task call.now r self.new) }
+        requires built { IsTrue (is_built call.now) }
+        ensures step { IfOk result (λ r. IsStepWith assets.now self.old task call.now r self.new) }
         ensures unchanged { OnErr result (self.new ≡ self.old) }
         ensures sizes { self.new.stack.sizes ≡ self.old.stack.sizes }
     {
@@ -151,6 +143,7 @@ impl Desk {
             alloc,
             &mut self.cells[slot as usize],
             &self.registers[task as usize],
+            assets,
             call,
         )
     }

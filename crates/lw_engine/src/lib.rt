@@ -1,15 +1,18 @@
 //! The desk of the machine as code (the manual's Layers Library chapter). A call is made by the function of its class, which is
 //! lent the parts of the desk that such a call touches: the registers of its task; LayerInfo; the cell of a layer and the
-//! registers; or LayerInfo and all cells, which it arranges. No call on two layers may be made so far.
+//! registers; or LayerInfo and all cells, which it arranges. No call on two layers may be made so far. The glyphs and bitmaps
+//! that a script hands in are lent to the calls on a layer.
 #![tactic(auto)]
 
 mod all_layers;
 mod class;
 mod composing;
 mod desk;
+mod drawing;
 mod finishing;
 mod looking;
 mod one_layer;
+mod raster_state;
 mod registers;
 mod regs;
 

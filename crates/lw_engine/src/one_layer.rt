@@ -1,43 +1,53 @@
-ghost use Rattle.std.specs.Prelude.{◌≡◌, ℕ, ◌<◌, IfOk, OnErr, IsTrue};
+ghost use Rattle.std.specs.Prelude.{◌≡◌, ◌<◌, IfOk, OnErr, IsTrue};
+ghost use Rattle.lw_calls.specs.Assets.{Assets as AssetsView};
+ghost use Rattle.lw_calls.specs.Built.{is_built};
 ghost use Rattle.lw_calls.specs.declared.sizes.Sizes.{Sizes};
-ghost use Rattle.lw_calls.specs.declared.call.Call.TheVariants.{Fill, Clip, Unclip, Scroll};
+ghost use Rattle.lw_calls.specs.declared.call.Call.TheVariants.{Clip, Unclip, Scroll};
 ghost use Rattle.lw_calls.specs.Kinds.{is_super};
 ghost use Rattle.lw_calls.specs.Limits.{call_fits};
 ghost use Rattle.lw_calls.specs.Touches.{class_of, OnLayer};
-ghost use Rattle.lw_machine.specs.Desk.{Desk};
-ghost use Rattle.lw_machine.specs.Parts.{slot_part};
-ghost use Rattle.lw_machine.specs.Step.{after, reply, clip_answer};
+ghost use Rattle.lw_machine.specs.Step.{clip_answer};
 ghost use Rattle.lw_layer.specs.Drafts.{clip_set};
-ghost use Rattle.lw_layer.specs.StandsFor.{StandsFor};
-ghost use Rattle.lw_engine.specs.Desks.{StandForRegisters};
-ghost use Rattle.lw_engine.specs.Parts.{IsBuiltOnLayer, IsCellStep, IsLayerStep};
+ghost use Rattle.lw_engine.specs.Parts.{IsCellStep, IsLayerStep};
 
+use crate::drawing::{draw, fill, letters, read, set_rast, write};
+use crate::raster_state::{at, set_a, set_b, set_mask, set_mode};
 use crate::regs::Regs;
-use lw_calls::{Call, Kind, Reply};
+use lw_calls::{Assets, Call, Kind, Reply};
 use lw_layer::Cell;
-use lw_region::{Rect, Region};
+use lw_region::Region;
 use std::alloc::{AllocError, Global};
 
-/// Makes one call on a layer and gives its reply: RectFill, InstallClipRegion with a copy of a register or with none, and
-/// ScrollLayer, as the machine's step says of every desk whose slot this is and whose registers these are. It fails for want
-/// of memory alone, and the layer is then as before.
+/// Makes one call on a layer and gives its reply, as the machine's step says of every desk whose slot this is, whose registers
+/// these are, and to which this was handed in: those that set how it paints (pens, mode, mask, cursor), those that draw or read
+/// a pixel, InstallClipRegion with a copy of a register or with none, and ScrollLayer. It fails for want of memory alone, and the
+/// layer is then as before.
 pub fn on_layer(
     alloc: Global,
     cell: &mut Cell,
     regs: &Regs,
+    assets: &Assets,
     call: &Call,
 ) -> Result<Reply, AllocError>
     requires class { class_of call.now ≡ OnLayer cell.old.number }
     requires fits { (sizes : Sizes) × IsTrue (call_fits sizes call.now) }
-    requires built { IsBuiltOnLayer call.now }
-    ensures step { IfOk result (λ r. (d : Desk) (task : ℕ) → StandsFor cell.old (slot_part d cell.old.number) →
-        StandForRegisters regs.now (d.registers task) →
-        (r ≡ reply d task call.now) × StandsFor cell.new (slot_part (after d task call.now) cell.old.number)) }
+    requires built { IsTrue (is_built call.now) }
+    ensures step { IfOk result (λ r. IsLayerStep cell.old regs.now assets.now call.now r cell.new) }
     ensures number { cell.new.number ≡ cell.old.number }
     ensures unchanged { OnErr result (cell.new ≡ cell.old) }
 {
     match *call {
-        Call::Fill { rect, .. } => Ok(fill(cell, &rect)),
+        Call::SetA { pen, .. } => Ok(set_a(cell, pen)),
+        Call::SetB { pen, .. } => Ok(set_b(cell, pen)),
+        Call::SetMode { mode, .. } => Ok(set_mode(cell, mode)),
+        Call::SetMask { mask, .. } => Ok(set_mask(cell, mask)),
+        Call::At { x, y, .. } => Ok(at(cell, x, y)),
+        Call::WritePixel { x, y, .. } => Ok(write(cell, x, y)),
+        Call::ReadPixel { x, y, .. } => Ok(read(cell, x, y)),
+        Call::Fill { ref rect, .. } => Ok(fill(cell, rect)),
+        Call::DrawTo { x, y, .. } => Ok(draw(cell, x, y)),
+        Call::Letters { ref text, .. } => Ok(letters(cell, assets, text)),
+        Call::SetRast { pen, .. } => Ok(set_rast(cell, pen)),
         Call::Clip { reg, .. } => clip(alloc, cell, regs, reg),
         Call::Unclip { .. } => Ok(unclip(cell)),
         Call::Scroll { dx, dy, .. } => Ok(scroll(cell, dx, dy)),
@@ -46,22 +56,10 @@ pub fn on_layer(
     }
 }
 
-// Fills a rectangle.
-fn fill(cell: &mut Cell, rect: &Rect) -> Reply
-    ensures step { IsCellStep cell.old (Fill cell.old.number rect.now) result cell.new }
-    ensures number { cell.new.number ≡ cell.old.number }
-{
-    let Some(_) = cell.look() else {
-        return Reply::NotOpen;
-    };
-    lw_draw::fill(cell, rect);
-    Reply::Done
-}
-
 // Installs a copy of a register as clip region, and answers the one from before.
 fn clip(alloc: Global, cell: &mut Cell, regs: &Regs, reg: u32) -> Result<Reply, AllocError>
     requires { reg < 8 }
-    ensures step { IfOk result (λ r. IsLayerStep cell.old regs.now (Clip cell.old.number reg) r cell.new) }
+    ensures step { IfOk result (λ r. (assets : AssetsView) → IsLayerStep cell.old regs.now assets (Clip cell.old.number reg) r cell.new) }
     ensures number { cell.new.number ≡ cell.old.number }
     ensures unchanged { OnErr result (cell.new ≡ cell.old) }
 {

@@ -2,7 +2,7 @@ ghost use Rattle.std.specs.Prelude.{◌≡◌, ◌≤◌, IsTrue};
 ghost use Rattle.lw_calls.specs.Built.{is_built};
 
 use crate::{Desk, Regs};
-use lw_calls::{Call, Final, Kind, Make, PairOp, Place, RectOp, Replies, Reply, Seen, Sizes};
+use lw_calls::{Assets, Call, Final, Kind, Make, PairOp, Place, RectOp, Replies, Reply, Seen, Sizes};
 use lw_region::{Rect, Region};
 use std::process::Abort;
 use std::test::Fail;
@@ -179,10 +179,14 @@ fn run(
         bitmaps: 0,
     };
     let mut desk = Desk::new(rt.alloc(), sizes)?;
+    let assets = Assets {
+        glyphs: [[0; 8]; 95],
+        bitmaps: Vec::new(rt.alloc()),
+    };
     let mut replies = Vec::new(rt.alloc());
     for step in steps {
         assert!(rt; sizes.fits(&step.call));
-        let reply = desk.step(rt.alloc(), 0, &step.call)?;
+        let reply = desk.step(rt.alloc(), &assets, 0, &step.call)?;
         assert!(rt; is_wanted(&reply, &step.want));
         replies.push(reply)?;
     }

@@ -8,13 +8,14 @@ use Rattle.lw_calls.specs.declared.entry.Entry.{Entry}
 use Rattle.lw_calls.specs.declared.reply.Reply.{Reply}
 use Rattle.lw_calls.specs.Plan.{Plan, task_calls}
 use Rattle.lw_machine.specs.Desk.{Desk}
-use Rattle.lw_machine.specs.Step.{after, reply}
+use Rattle.lw_machine.specs.Step.{reply}
 use Rattle.lw_calls.specs.Entries.{count_of, next_entry}
 use Rattle.lw_machine.specs.History.{machine, replies_of}
 use Rattle.lw_machine.specs.Finals.{opening_desk}
 use Rattle.lw_engine.specs.Desks.{Engine, StandsForDesk}
+use Rattle.lw_engine.specs.Steps.{IsStepWith}
 use Rattle.lw_tasks.specs.Run.{HasRun, next_of}
-use Rattle.lw_tasks.proofs.Steps.{machine_push, replies_of_push, length_replies_of}
+use Rattle.lw_tasks.proofs.Steps.{machine_push, machine_assets, replies_of_push, length_replies_of}
 
 -- a reply more in one task's list, and all other lists as they were
 told_task : (b : Bool) (told : List (List Reply)) (new : List Reply) (task t : ℕ) (r : Reply) → (task == t) ≡ b → task < length told → new ≡ slice_index_or told task [] ++ r ∷ [] → slice_index_or (slice_set told task new) t [] ≡ slice_index_or told t [] ++ (if b then r ∷ [] else [])
@@ -28,8 +29,8 @@ told_task false told new task t r e low h =
 pub one_reply : (b : Bool) (r s : Reply) → r ≡ s → (if b then r ∷ [] else []) ≡ (if b then s ∷ [] else [])
 one_reply b r s e = ap (λ x. if b then x ∷ [] else []) e
 
-pub has_run_next : (plan : Plan) (past : List Entry) (desk next : Engine) (told : List (List Reply)) (new : List Reply) (task : ℕ) (call : Call) (r : Reply) → task < plan.sizes.tasks → slice_get (task_calls plan task) (length (slice_index_or told task [])) ≡ Some call → ((d : Desk) → StandsForDesk desk d → r ≡ reply d task call) → ((d : Desk) → StandsForDesk desk d → StandsForDesk next (after d task call)) → next.stack.sizes ≡ desk.stack.sizes → new ≡ slice_index_or told task [] ++ r ∷ [] → HasRun plan past desk told → HasRun plan (past ++ next_of plan past task) next (slice_set told task new)
-has_run_next plan past desk next told new task call r low got replied stood sizes pushed run =
+pub has_run_next : (plan : Plan) (past : List Entry) (desk next : Engine) (told : List (List Reply)) (new : List Reply) (task : ℕ) (call : Call) (r : Reply) → task < plan.sizes.tasks → slice_get (task_calls plan task) (length (slice_index_or told task [])) ≡ Some call → IsStepWith plan.assets desk task call r next → next.stack.sizes ≡ desk.stack.sizes → new ≡ slice_index_or told task [] ++ r ∷ [] → HasRun plan past desk told → HasRun plan (past ++ next_of plan past task) next (slice_set told task new)
+has_run_next plan past desk next told new task call r low got step sizes pushed run =
     let start : Desk = opening_desk plan [] in
     let made : length (slice_index_or told task []) ≡ count_of task past = ap length (run.each task low) ∙ length_replies_of start task past in
     let e : Entry = record { task = task; seq = count_of task past; call = call } in
@@ -39,11 +40,12 @@ has_run_next plan past desk next told new task call r low got replied stood size
     let within : task < length told = omega (arith, low, run.lists) in
     let P : List Entry → Type 0 = λ es. HasRun plan (past ++ es) next (slice_set told task new) in
     let S : Desk → Type 0 = λ d. StandsForDesk next d in
+    let made_step = step (machine start past) run.stands (machine_assets start past) in
     subst P (sym one) (
     record {
-      stands = subst S (sym (machine_push start past e)) (stood (machine start past) run.stands);
+      stands = subst S (sym (machine_push start past e)) made_step.1;
       sizes = sizes ∙ run.sizes;
       lists = length-set told task new ∙ run.lists;
-      each = λ t under. told_task (task == t) told new task t r refl within pushed ∙ (ap (λ rs. rs ++ (if (task == t) then r ∷ [] else [])) (run.each t under) ∙ (ap (λ rs. replies_of start t past ++ rs) (one_reply (task == t) r (reply (machine start past) task call) (replied (machine start past) run.stands)) ∙ sym (replies_of_push start t past e)));
+      each = λ t under. told_task (task == t) told new task t r refl within pushed ∙ (ap (λ rs. rs ++ (if (task == t) then r ∷ [] else [])) (run.each t under) ∙ (ap (λ rs. replies_of start t past ++ rs) (one_reply (task == t) r (reply (machine start past) task call) made_step.0) ∙ sym (replies_of_push start t past e)));
     }
     )

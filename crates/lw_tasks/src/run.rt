@@ -75,7 +75,7 @@ impl Run {
     {
         let told = &mut self.told[task as usize];
         let call = call_of(plan, task, told.list().len());
-        let reply = self.desk.step(alloc, task, call)?;
+        let reply = self.desk.step(alloc, plan.assets(), task, call)?;
         told.push(reply)
     }
 }

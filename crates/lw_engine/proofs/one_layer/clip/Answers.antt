@@ -7,14 +7,14 @@ use Rattle.lw_engine.proofs.one_layer.clip.Goals as goal
 pub returns-in_default-clause-step : goal.returns-in_default-clause-step
 returns-in_default-clause-step c =
     let cell = c.args.cell.now in
-    λ d task stands registers.
+    λ assets d task stands registers handed.
     not_open cell (Clip cell.number c.args.reg) refl (no_look cell c.look.result c.look.ensures.look c.in_default.is) d task stands
 
 pub returns-then-look-clause-step : goal.returns-then-look-clause-step
 returns-then-look-clause-step c =
     let cell = c.args.cell.now in
     let looks = (c.in-Some.ensures {u = tt}).look in
-    λ d task stands registers.
+    λ assets d task stands registers handed.
     clip_in_update cell c.args.reg (look_live cell c.in-Some.look looks) (sym (look_tells cell c.in-Some.look looks).updating ∙ c.if-look.true) d task stands
 
 pub returns-clause-step : goal.returns-clause-step

@@ -1,7 +1,8 @@
 use Rattle.std.proofs.Common.{refl}
 use Rattle.lw_calls.specs.declared.call.Call.TheVariants.{Fill}
-use Rattle.lw_engine.proofs.OneLayerLaws.{not_open, no_look, look_live, fill_step}
-use Rattle.lw_engine.proofs.one_layer.fill.Goals as goal
+use Rattle.lw_machine.specs.Shapes.{rect_fill}
+use Rattle.lw_engine.proofs.OneLayerLaws.{not_open, no_look, look_live, drawn_step}
+use Rattle.lw_engine.proofs.drawing.fill.Goals as goal
 
 pub returns-in_default-clause-step : goal.returns-in_default-clause-step
 returns-in_default-clause-step c =
@@ -11,4 +12,5 @@ returns-in_default-clause-step c =
 pub returns-clause-step : goal.returns-clause-step
 returns-clause-step c =
     let cell = c.args.cell.now in
-    fill_step cell c.fill.new.cell c.args.rect.now (look_live cell c.in-Some.field-0 (c.in-Some.ensures {u = tt}).look) c.fill.ensures
+    λ d task stands.
+    drawn_step d task (Fill cell.number c.args.rect.now) _ cell c.fill.new.cell (λ visible. rect_fill visible c.args.rect.now) refl (look_live cell c.in-Some.field-0 (c.in-Some.ensures {u = tt}).look) stands refl refl refl c.fill.ensures

@@ -1,0 +1,193 @@
+ghost use Rattle.std.specs.Prelude.{◌≡◌, ◌≤◌, ◌<◌};
+ghost use Rattle.lw_calls.specs.Limits.{IsWithinLimits};
+
+use lw_calls::{Assets, Call, Final, Kind, Make, Place, Replies, Sizes, Text, built};
+use lw_engine::Desk;
+use lw_planes::Planes;
+use lw_region::Rect;
+use std::alloc::{AllocError, Global};
+
+// How many letters a text has.
+const LETTERS: usize = 80;
+
+// The sizes of a desk with one layer.
+fn sizes_of(planes: u32) -> Sizes
+    requires some { 1 ≤ planes }
+    requires few { planes ≤ 8 }
+    ensures limits { IsWithinLimits result }
+    ensures task { result.tasks ≡ 1 }
+{
+    Sizes {
+        version: 1,
+        width: 640,
+        height: 512,
+        depth: planes,
+        slots: 1,
+        tasks: 1,
+        hooks: 0,
+        bitmaps: 0,
+    }
+}
+
+// The creation of a layer that covers the screen.
+fn creation() -> Call {
+    let make = Make {
+        kind: Kind::Smart,
+        place: Place::Front,
+        x: 0,
+        y: 0,
+        w: 640,
+        h: 512,
+        backdrop: false,
+        hook: None,
+        bits_w: 0,
+        bits_h: 0,
+    };
+    Call::Create { slot: 0, make }
+}
+
+// The fill of a square whose left edge is in the middle of a byte.
+fn fill_of(side: i16) -> Option<Call> {
+    let end = 2_i16.checked_add(side)?;
+    let rect = Rect::new(3, 3, end, end)?;
+    Some(Call::Fill { slot: 0, rect })
+}
+
+// Letters from the left column on.
+fn letters(alloc: Global) -> Result<Call, AllocError> {
+    let mut text = Vec::new(alloc);
+    for index in 0..LETTERS {
+        text.push(0x41 + (index % 26) as u8)?;
+    }
+    Ok(Call::Letters {
+        slot: 0,
+        text: Text::new(text),
+    })
+}
+
+// The calls of one repetition: a fill; two lines of 100 pixels, there and back; or a text with the call that puts the cursor before
+// it.
+fn calls_of(alloc: Global, shape: u32, side: i16) -> Option<Vec<Call>> {
+    let mut calls = Vec::new(alloc);
+    match shape {
+        0 => calls.push(fill_of(side)?).ok()?,
+        1 => {
+            calls.push(Call::DrawTo { slot: 0, x: 99, y: side }).ok()?;
+            calls.push(Call::DrawTo { slot: 0, x: 0, y: 0 }).ok()?;
+        }
+        _ => {
+            calls.push(Call::At { slot: 0, x: 0, y: 6 }).ok()?;
+            calls.push(letters(alloc).ok()?).ok()?;
+        }
+    }
+    Some(calls)
+}
+
+// Makes one call on the desk, if it may be made.
+fn make(alloc: Global, desk: &mut Desk, assets: &Assets, sizes: &Sizes, call: &Call) -> Option<()>
+    requires sizes { desk.old.stack.sizes ≡ sizes.now }
+    requires task { sizes.now.tasks ≡ 1 }
+    ensures { desk.new.stack.sizes ≡ desk.old.stack.sizes }
+{
+    if !sizes.fits(call) || !built(call) {
+        return None;
+    }
+    let _ = desk.step(alloc, assets, 0, call).ok()?;
+    Some(())
+}
+
+// Makes the calls one after another.
+fn make_each(
+    alloc: Global,
+    desk: &mut Desk,
+    assets: &Assets,
+    sizes: &Sizes,
+    calls: &[Call],
+) -> Option<()>
+    requires sizes { desk.old.stack.sizes ≡ sizes.now }
+    requires task { sizes.now.tasks ≡ 1 }
+    ensures { desk.new.stack.sizes ≡ desk.old.stack.sizes }
+{
+    for call in calls {
+        make(alloc, desk, assets, sizes, call)?;
+    }
+    Some(())
+}
+
+// Makes all of the calls so many times.
+fn make_often(
+    alloc: Global,
+    desk: &mut Desk,
+    assets: &Assets,
+    sizes: &Sizes,
+    calls: &[Call],
+    repetitions: u32,
+) -> Option<()>
+    requires sizes { desk.old.stack.sizes ≡ sizes.now }
+    requires task { sizes.now.tasks ≡ 1 }
+    ensures { desk.new.stack.sizes ≡ desk.old.stack.sizes }
+{
+    for _ in 0..repetitions {
+        make_each(alloc, desk, assets, sizes, calls)?;
+    }
+    Some(())
+}
+
+// The bytes of the screen as one number, so that each of them counts.
+fn digest(planes: &Planes) -> u32 {
+    let mut sum = 0_u32;
+    for plane in 0..planes.depth() {
+        sum = digest_of_plane(planes, plane, sum);
+    }
+    sum
+}
+
+fn digest_of_plane(planes: &Planes, plane: u32, before: u32) -> u32
+    requires { plane < planes.now.depth }
+{
+    let mut sum = before;
+    for y in 0..planes.height() {
+        sum = digest_of_row(planes.row(plane, y), sum);
+    }
+    sum
+}
+
+fn digest_of_row(row: &[u8], before: u32) -> u32 {
+    let mut sum = before;
+    for byte in row {
+        sum = sum.wrapping_mul(31).wrapping_add(u32::from(*byte));
+    }
+    sum
+}
+
+// What the desk shows at the end.
+fn shown(alloc: Global, desk: &Desk) -> Option<Final>
+    requires { desk.now.stack.sizes.tasks ≡ 1 }
+{
+    let mut replies = Vec::new(alloc);
+    replies.push(Replies::new(Vec::new(alloc))).ok()?;
+    desk.finish(alloc, replies).ok()
+}
+
+pub(crate) fn repeated(
+    alloc: Global,
+    shape: u32,
+    side: i16,
+    planes: u32,
+    repetitions: u32,
+) -> Option<u32>
+    requires some { 1 ≤ planes }
+    requires few { planes ≤ 8 }
+{
+    let sizes = sizes_of(planes);
+    let assets = Assets {
+        glyphs: [[0x5a; 8]; 95],
+        bitmaps: Vec::new(alloc),
+    };
+    let mut desk = Desk::new(alloc, sizes).ok()?;
+    make(alloc, &mut desk, &assets, &sizes, &creation())?;
+    let calls = calls_of(alloc, shape, side)?;
+    make_often(alloc, &mut desk, &assets, &sizes, calls.as_slice(), repetitions)?;
+    let last = shown(alloc, &desk)?;
+    Some(digest(&last.planes))
+}
