@@ -3,8 +3,10 @@ pub mod DrawnLines
 pub mod LineLaws
 pub mod PaintLaws
 pub mod PixelLaws
+pub mod QuotientLaws
 pub mod RastLaws
 pub mod RowSpanLaws
 pub mod SpanLaws
 pub mod StepLaws
 pub mod StretchLaws
+pub mod WalkLaws

@@ -1,5 +1,5 @@
 -- Laws of the columns that a line has in a row.
-use Rattle.std.proofs.Common.{◌≡◌, ℕ, ◌+◌, ◌==◌, ◌<◌, ◌≤◌, nat_le, Bool, true, false, not, ◌&&◌, if◌then◌else◌, ◌∙◌, sym, refl, ap, ⊎_elim, inl, inr, ◌⊎◌, subst, arith, ℤ, pos, ◌+ℤ◌, ◌-ℤ◌, ◌≤ℤ◌, ◌<ℤ◌, int_le, unsigned_abs, FitsSigned, w16, w32, to_z, of_z}
+use Rattle.std.proofs.Common.{◌≡◌, ℕ, ◌+◌, ◌==◌, ◌<◌, ◌≤◌, nat_le, Bool, true, false, not, ◌&&◌, if◌then◌else◌, ◌∙◌, sym, refl, ap, ⊎_elim, inl, inr, ◌⊎◌, arith, ℤ, pos, ◌+ℤ◌, ◌-ℤ◌, ◌≤ℤ◌, ◌<ℤ◌, int_le, unsigned_abs, FitsSigned, w16, w32, to_z, of_z}
 use Rattle.std.specs.Int.{int_min, int_max}
 use Rattle.std.specs.Ordering.{int_eq}
 use Rattle.std.proofs.lemmas.Bool.{cases_lt, cases_Bool, and_parts}
@@ -7,14 +7,17 @@ use Rattle.std.proofs.lemmas.Bool.Decides.{nat_tests}
 use Rattle.std.proofs.lemmas.Int.{ints}
 use Rattle.lw_region.specs.Rectangle.{within}
 use Rattle.lw_machine.specs.Shapes.{line_offset, is_on_axes, is_on_line}
+use Rattle.lw_draw.specs.LineSpans.{has_row}
+use Rattle.lw_draw.specs.Walks.{wide, high, rows_before, IsFirstStep}
+use Rattle.lw_draw.specs.declared.row_spans.Line.{Line}
 use Rattle.lw_draw.proofs.StepLaws.{offset_small}
 
 -- a place between two others, in their order
-between_rising : (a b z : ℤ) → a ≤ℤ b → within (int_min a b) z (int_max a b) ≡ within a z b
+pub between_rising : (a b z : ℤ) → a ≤ℤ b → within (int_min a b) z (int_max a b) ≡ within a z b
 unfolding within
 between_rising a b z ordered = grind (arith, ints)
 
-between_falling : (a b z : ℤ) → b <ℤ a → within (int_min a b) z (int_max a b) ≡ within b z a
+pub between_falling : (a b z : ℤ) → b <ℤ a → within (int_min a b) z (int_max a b) ≡ within b z a
 unfolding within
 between_falling a b z ordered = grind (arith, ints)
 
@@ -61,38 +64,33 @@ short_steps from to z d k inside is =
     (order_cases from to)
 
 -- The pixels in a row of a line whose long axis is that of x: to the right.
-pub flat_right : (x0 x1 y0 y1 x y : ℤ) (n m k a b : ℕ) → x0 ≤ℤ x1 → n ≡ unsigned_abs (x1 -ℤ x0) → m ≡ unsigned_abs (y1 -ℤ y0) → k ≡ unsigned_abs (y -ℤ y0) → within (int_min y0 y1) y (int_max y0 y1) ≡ true → b ≤ n + 1 → ((i : ℕ) → i ≤ n → nat_le a i ≡ nat_le k (line_offset n m i)) → ((i : ℕ) → i ≤ n → nat_le b i ≡ nat_le (k + 1) (line_offset n m i)) → is_on_axes x0 x1 y0 y1 x y ≡ (int_le (x0 +ℤ pos a) x && not (int_le (x0 +ℤ pos b) x))
-flat_right x0 x1 y0 y1 x y n m k a b ordered long short row inside near first past =
-    let i = unsigned_abs (x -ℤ x0) in
-    let d = line_offset n m i in
-    let Q : ℕ → ℕ → Type 0 = λ u v. (within (int_min x0 x1) x (int_max x0 x1) && int_eq y (if int_le y0 y1 then y0 +ℤ pos (line_offset u v i) else y0 -ℤ pos (line_offset u v i))) ≡ (int_le (x0 +ℤ pos a) x && not (int_le (x0 +ℤ pos b) x)) in
-    let there : Q n m =
-    ap (λ t. t && int_eq y (if int_le y0 y1 then y0 +ℤ pos d else y0 -ℤ pos d)) (between_rising x0 x1 x ordered) ∙
-    ap (λ t. within x0 x x1 && t) (short_steps y0 y1 y d k inside row) ∙
-    rising_columns x0 x1 x n k a b d i ordered long refl near (first i) (past i) in
-    subst (λ u. Q u (unsigned_abs (y1 -ℤ y0))) long (subst (λ v. Q n v) short there)
+pub flat_right : (l : Line) (x y : ℤ) (a b : ℕ) → l.x0 ≤ℤ l.x1 → has_row l y ≡ true → b ≤ wide l + 1 → IsFirstStep l (rows_before l y) a → IsFirstStep l (rows_before l y + 1) b → is_on_axes l.x0 l.x1 l.y0 l.y1 x y ≡ (int_le (l.x0 +ℤ pos a) x && not (int_le (l.x0 +ℤ pos b) x))
+flat_right l x y a b ordered inside near first past =
+    let i = unsigned_abs (x -ℤ l.x0) in
+    let d = line_offset (wide l) (high l) i in
+    ap (λ t. t && int_eq y (if int_le l.y0 l.y1 then l.y0 +ℤ pos d else l.y0 -ℤ pos d)) (between_rising l.x0 l.x1 x ordered) ∙
+    (ap (λ t. within l.x0 x l.x1 && t) (short_steps l.y0 l.y1 y d (rows_before l y) inside refl) ∙
+    rising_columns l.x0 l.x1 x (wide l) (rows_before l y) a b d i ordered refl refl near (first i) (past i))
 
 -- To the left.
-pub flat_left : (x0 x1 y0 y1 x y : ℤ) (n m k a b : ℕ) → x1 <ℤ x0 → n ≡ unsigned_abs (x1 -ℤ x0) → m ≡ unsigned_abs (y1 -ℤ y0) → k ≡ unsigned_abs (y -ℤ y0) → within (int_min y0 y1) y (int_max y0 y1) ≡ true → b ≤ n + 1 → ((i : ℕ) → i ≤ n → nat_le a i ≡ nat_le k (line_offset n m i)) → ((i : ℕ) → i ≤ n → nat_le b i ≡ nat_le (k + 1) (line_offset n m i)) → is_on_axes x0 x1 y0 y1 x y ≡ (int_le ((x0 -ℤ pos b) +ℤ pos 1) x && not (int_le ((x0 -ℤ pos a) +ℤ pos 1) x))
-flat_left x0 x1 y0 y1 x y n m k a b ordered long short row inside near first past =
-    let i = unsigned_abs (x -ℤ x0) in
-    let d = line_offset n m i in
-    let Q : ℕ → ℕ → Type 0 = λ u v. (within (int_min x0 x1) x (int_max x0 x1) && int_eq y (if int_le y0 y1 then y0 +ℤ pos (line_offset u v i) else y0 -ℤ pos (line_offset u v i))) ≡ (int_le ((x0 -ℤ pos b) +ℤ pos 1) x && not (int_le ((x0 -ℤ pos a) +ℤ pos 1) x)) in
-    let there : Q n m =
-    ap (λ t. t && int_eq y (if int_le y0 y1 then y0 +ℤ pos d else y0 -ℤ pos d)) (between_falling x0 x1 x ordered) ∙
-    ap (λ t. within x1 x x0 && t) (short_steps y0 y1 y d k inside row) ∙
-    falling_columns x0 x1 x n k a b d i ordered long refl near (first i) (past i) in
-    subst (λ u. Q u (unsigned_abs (y1 -ℤ y0))) long (subst (λ v. Q n v) short there)
+pub flat_left : (l : Line) (x y : ℤ) (a b : ℕ) → l.x1 <ℤ l.x0 → has_row l y ≡ true → b ≤ wide l + 1 → IsFirstStep l (rows_before l y) a → IsFirstStep l (rows_before l y + 1) b → is_on_axes l.x0 l.x1 l.y0 l.y1 x y ≡ (int_le ((l.x0 -ℤ pos b) +ℤ pos 1) x && not (int_le ((l.x0 -ℤ pos a) +ℤ pos 1) x))
+flat_left l x y a b ordered inside near first past =
+    let i = unsigned_abs (x -ℤ l.x0) in
+    let d = line_offset (wide l) (high l) i in
+    ap (λ t. t && int_eq y (if int_le l.y0 l.y1 then l.y0 +ℤ pos d else l.y0 -ℤ pos d)) (between_falling l.x0 l.x1 x ordered) ∙
+    (ap (λ t. within l.x1 x l.x0 && t) (short_steps l.y0 l.y1 y d (rows_before l y) inside refl) ∙
+    falling_columns l.x0 l.x1 x (wide l) (rows_before l y) a b d i ordered refl refl near (first i) (past i))
 
 -- the one place
 one_place : (x at : ℤ) → int_eq x at ≡ (int_le at x && not (int_le (at +ℤ pos 1) x))
 one_place x at = grind (arith, ints)
 
 -- The pixel in a row of a line whose long axis is that of y.
-pub steep_one : (x0 x1 y0 y1 x y at : ℤ) (d : ℕ) → within (int_min y0 y1) y (int_max y0 y1) ≡ true → d ≡ line_offset (unsigned_abs (y1 -ℤ y0)) (unsigned_abs (x1 -ℤ x0)) (unsigned_abs (y -ℤ y0)) → at ≡ (if int_le x0 x1 then x0 +ℤ pos d else x0 -ℤ pos d) → is_on_axes y0 y1 x0 x1 y x ≡ (int_le at x && not (int_le (at +ℤ pos 1) x))
-steep_one x0 x1 y0 y1 x y at d inside moved is =
-    ap (λ t. t && int_eq x (if int_le x0 x1 then x0 +ℤ pos (line_offset (unsigned_abs (y1 -ℤ y0)) (unsigned_abs (x1 -ℤ x0)) (unsigned_abs (y -ℤ y0))) else x0 -ℤ pos (line_offset (unsigned_abs (y1 -ℤ y0)) (unsigned_abs (x1 -ℤ x0)) (unsigned_abs (y -ℤ y0))))) inside ∙
-    (ap (λ u. int_eq x (if int_le x0 x1 then x0 +ℤ pos u else x0 -ℤ pos u)) (sym moved) ∙ (ap (λ z. int_eq x z) (sym is) ∙ one_place x at))
+pub steep_one : (l : Line) (x y at : ℤ) (d : ℕ) → has_row l y ≡ true → d ≡ line_offset (high l) (wide l) (rows_before l y) → at ≡ (if int_le l.x0 l.x1 then l.x0 +ℤ pos d else l.x0 -ℤ pos d) → is_on_axes l.y0 l.y1 l.x0 l.x1 y x ≡ (int_le at x && not (int_le (at +ℤ pos 1) x))
+steep_one l x y at d inside moved is =
+    let place : ℕ → ℤ = λ u. if int_le l.x0 l.x1 then l.x0 +ℤ pos u else l.x0 -ℤ pos u in
+    ap (λ t. t && int_eq x (place (line_offset (high l) (wide l) (rows_before l y)))) inside ∙
+    (ap (λ u. int_eq x (place u)) (sym moved) ∙ (ap (λ z. int_eq x z) (sym is) ∙ one_place x at))
 
 -- a place between two others is no further from the first than the second, and as small as the larger one
 rising_near : (from to z : ℤ) → from ≤ℤ to → within from z to ≡ true → unsigned_abs (z -ℤ from) ≤ unsigned_abs (to -ℤ from)
@@ -166,10 +164,6 @@ in_order a b c d is first last = grind (arith, ints)
 pub out_of_order : (a b c d : ℤ) → int_le a b ≡ false → a ≡ c → b ≡ d → d <ℤ c
 out_of_order a b c d is first last = grind (arith, ints)
 
-pub moved_same : (n m i a b e d : ℕ) → d ≡ line_offset n m i → n ≡ a → m ≡ b → i ≡ e → d ≡ line_offset a b e
-moved_same n m i a b e d is long short step =
-    is ∙ (ap (λ t. line_offset t m i) long ∙ (ap (λ t. line_offset a t i) short ∙ ap (λ t. line_offset a b t) step))
-
 pub towards_same : (a b c d at : ℤ) (steps : ℕ) → at ≡ (if int_le a b then a +ℤ pos steps else a -ℤ pos steps) → a ≡ c → b ≡ d → at ≡ (if int_le c d then c +ℤ pos steps else c -ℤ pos steps)
 towards_same a b c d at steps is first last =
     is ∙ (ap (λ z. if int_le z b then z +ℤ pos steps else z -ℤ pos steps) first ∙ ap (λ z. if int_le c z then c +ℤ pos steps else c -ℤ pos steps) last)
@@ -181,8 +175,8 @@ by_axis_same x0 y0 x1 y1 x y flat on is same = ap (λ t. if t then is_on_axes x0
 pub one_further : (r v : ℤ) → FitsSigned w32 r → r <ℤ pos 100000 → r ≡ v → to_z w32 (of_z w32 (to_z w32 (of_z w32 r) +ℤ pos 1)) ≡ v +ℤ pos 1
 one_further r v fits low is = omega (arith, ints)
 
-pub flat_test : (p q a b : ℕ) → p ≤ q → p ≡ a → q ≡ b → nat_le a b ≡ true
-flat_test p q a b flat first second = grind (arith, nat_tests)
+pub flat_test : (a b : ℕ) → a ≤ b → nat_le a b ≡ true
+flat_test a b flat = grind (arith, nat_tests)
 
-pub steep_test : (p q a b : ℕ) → q < p → p ≡ a → q ≡ b → nat_le a b ≡ false
-steep_test p q a b steep first second = grind (arith, nat_tests)
+pub steep_test : (a b : ℕ) → b < a → nat_le a b ≡ false
+steep_test a b steep = grind (arith, nat_tests)

@@ -1,8 +1,8 @@
 -- Laws of how far a line has moved after some steps: a rounded quotient, turned into comparisons of products.
-use Rattle.std.proofs.Common.{◌≡◌, ℕ, suc, ◌+◌, ◌-◌, ◌*◌, ◌/◌, ◌==◌, ◌<◌, ◌≤◌, nat_le, true, false, ◌∙◌, sym, refl, ap, ⊎_elim, subst, arith}
+use Rattle.std.proofs.Common.{◌≡◌, ℕ, suc, ◌+◌, ◌-◌, ◌*◌, ◌/◌, ◌==◌, ◌<◌, ◌≤◌, nat_le, true, false, ◌∙◌, sym, ap, ⊎_elim, arith}
 use Rattle.std.proofs.lemmas.Bool.{cases_lt}
 use Rattle.std.proofs.lemmas.Bool.Decides.{nat_tests}
-use Rattle.std.proofs.Math.Nat.{div-lt_iff_lt-mul, mul_assoc, mul_comm, suc-mul, mul-le-mul_left, mul-le-mul_right}
+use Rattle.std.proofs.Math.Nat.{div-lt_iff_lt-mul, mul_assoc, mul_comm, suc-mul, mul-le-mul_right}
 use Rattle.lw_machine.specs.Shapes.{line_offset}
 
 -- comparisons that hold together
@@ -13,7 +13,7 @@ same_test a b c d one other = grind (arith, nat_tests)
 doubled : (a b : ℕ) → a * (2 * b) ≡ 2 * (a * b)
 doubled a b = sym (mul_assoc a 2 b) ∙ (ap (λ t. t * b) (mul_comm a 2) ∙ mul_assoc 2 a b)
 
-one_more : (a b : ℕ) → (a + 1) * b ≡ a * b + b
+pub one_more : (a b : ℕ) → (a + 1) * b ≡ a * b + b
 one_more a b = let e : a + 1 ≡ suc a = omega arith in ap (λ t. t * b) e ∙ suc-mul a b
 
 spread : (a b : ℕ) → 2 * (a + b) ≡ 2 * a + 2 * b
@@ -41,18 +41,17 @@ offset_test n m i k some =
     (cases_lt ((2 * (i * m) + n) / (2 * n)) k)
 
 -- a step isn't before a quotient that is rounded up
-step_test : (n m k i least : ℕ) → 0 < m → n ≤ 2 * (n * k) → least ≡ 2 * (n * k) - n → nat_le ((least + 2 * m - 1) / (2 * m)) i ≡ nat_le (2 * (n * k)) (2 * (i * m) + n)
-step_test n m k i least some enough is =
-    let both = div-lt_iff_lt-mul {k = 2 * m} {x = least + 2 * m - 1} {y = i + 1} (omega arith) in
+past_test : (n m k i : ℕ) → 0 < m → nat_le ((2 * (k * n) + (n + 2 * m - 1)) / (2 * m)) i ≡ nat_le (2 * (n * (k + 1))) (2 * (i * m) + n)
+past_test n m k i some =
+    let both = div-lt_iff_lt-mul {k = 2 * m} {x = 2 * (k * n) + (n + 2 * m - 1)} {y = i + 1} (omega arith) in
     let product : (i + 1) * (2 * m) ≡ 2 * (i * m) + 2 * m = doubled (i + 1) m ∙ ap (λ t. 2 * t) (one_more i m) ∙ spread (i * m) m in
-    same_test _ _ _ _ (λ less. let low : least + 2 * m - 1 < (i + 1) * (2 * m) = both.0 less in omega (arith, low, product, is, enough, some))
-    (λ high. both.1 (omega (arith, high, product, is, enough, some)))
+    let further : n * (k + 1) ≡ k * n + n = mul_comm n (k + 1) ∙ one_more k n in
+    same_test _ _ _ _ (λ less. let low : 2 * (k * n) + (n + 2 * m - 1) < (i + 1) * (2 * m) = both.0 less in omega (arith, low, product, further, some))
+    (λ high. both.1 (omega (arith, high, product, further, some)))
 
--- The step at which a line has moved so far, by a quotient.
-pub step_found : (n m k i least : ℕ) → 0 < n → 0 < m → 1 ≤ k → least ≡ 2 * (n * k) - n → nat_le ((least + 2 * m - 1) / (2 * m)) i ≡ nat_le k (line_offset n m i)
-step_found n m k i least long wide some is =
-    let grows : n * 1 ≤ n * k = mul-le-mul_left n some in
-    step_test n m k i least wide (omega (arith, grows)) is ∙ sym (offset_test n m i k long)
+-- The step at which a line has moved by one more, by a quotient.
+pub past_found : (n m k i : ℕ) → 0 < n → 0 < m → nat_le ((2 * (k * n) + (n + 2 * m - 1)) / (2 * m)) i ≡ nat_le (k + 1) (line_offset n m i)
+past_found n m k i long some = past_test n m k i some ∙ sym (offset_test n m i (k + 1) long)
 
 -- A line never moves further on its short axis than in all.
 some_small : (n m i : ℕ) → 0 < n → i ≤ n → line_offset n m i ≤ m
@@ -76,14 +75,3 @@ offset_small n m i inside =
 -- no step is further than that
 pub never_reached : (n m k i : ℕ) → m < k → i ≤ n → nat_le (n + 1) i ≡ nat_le k (line_offset n m i)
 never_reached n m k i far inside = let small = offset_small n m i inside in grind (arith, nat_tests)
-
--- the same with the numbers by other names
-pub offset_of : (n m i along across step : ℕ) → along ≡ n → across ≡ m → step ≡ i → 0 < n → (2 * (step * across) + along) / (2 * along) ≡ line_offset n m i
-offset_of n m i along across step long wide steps some =
-    let P : ℕ → ℕ → ℕ → Type 0 = λ a b c. (2 * (c * b) + a) / (2 * a) ≡ line_offset n m i in
-    subst (λ a. P a across step) (sym long) (subst (λ b. P n b step) (sym wide) (subst (λ c. P n m c) (sym steps) (sym (offset_is n m i some))))
-
-pub step_of : (n m k i along across moved : ℕ) → along ≡ n → across ≡ m → moved ≡ k → 0 < n → 0 < m → 1 ≤ k → nat_le ((2 * (along * moved) - along + 2 * across - 1) / (2 * across)) i ≡ nat_le k (line_offset n m i)
-step_of n m k i along across moved long wide far some more first =
-    let P : ℕ → ℕ → ℕ → Type 0 = λ a b c. nat_le ((2 * (a * c) - a + 2 * b - 1) / (2 * b)) i ≡ nat_le k (line_offset n m i) in
-    subst (λ a. P a across moved) (sym long) (subst (λ b. P n b moved) (sym wide) (subst (λ c. P n m c) (sym far) (step_found n m k i _ some more first refl)))

@@ -1,3 +1,5 @@
 pub mod Drawn
 pub mod LineSpans
+pub mod Quotients
 pub mod Stretches
+pub mod Walks

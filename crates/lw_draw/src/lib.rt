@@ -6,10 +6,12 @@ mod filling;
 mod lines;
 mod painting;
 mod pixels;
+mod quotients;
 mod rast;
 mod row_spans;
 mod spans;
 mod stretch;
+mod walks;
 
 pub use filling::fill;
 pub use lines::line;

@@ -6,10 +6,12 @@ ghost use Rattle.lw_layer.specs.View as view;
 ghost use Rattle.lw_layer.specs.Drafts.{raster_of};
 ghost use Rattle.lw_draw.specs.Drawn.{painted};
 ghost use Rattle.lw_draw.specs.LineSpans.{has_row, in_reach, on_line_rows};
+ghost use Rattle.lw_draw.specs.Walks.{IsWalk};
 
 use crate::filling::fill_row;
 use crate::row_spans::{Line, Reach, row_span};
 use crate::spans::{Places, edge, span};
+use crate::walks::{Walk, next_row, walk_at};
 use lw_layer::{Cell, Raster};
 
 /// Draws a line from the layer's cursor to (x, y), each drawable pixel once, with the layer's pen A, or inverts it under
@@ -49,19 +51,26 @@ fn line_rows(cell: &mut Cell, rows: Places, line: Line, raster: Raster)
 {
     // Reading this tells the proof that the layer has only pens of its depth.
     let _ = cell.depth();
+    if rows.from == rows.end {
+        return;
+    }
+    // Only here the line is divided.
+    let mut walk = walk_at(line, rows.from as i32);
     for y in rows.from..rows.end {
-        line_row(cell, y, line, raster);
+        line_row(cell, y, line, walk, raster);
+        walk = next_row(walk, line, y, rows.end);
     }
 }
 
-// Draws the pixels that a line has in one of its rows.
-fn line_row(cell: &mut Cell, y: u32, line: Line, raster: Raster)
+// Draws the pixels that a line has in one of its rows, in which it stands so.
+fn line_row(cell: &mut Cell, y: u32, line: Line, walk: Walk, raster: Raster)
     requires live { cell.old.state ≡ view.Live }
     requires row { y < 65536 }
     requires inside { has_row line (pos y) ≡ true }
+    requires walk { IsWalk line (pos y) walk }
     ensures { cell.new ≡ with_live (λ c. painted (raster_of raster) (λ i j. on_line_rows c line y (y + 1) i j) c) cell.old }
 {
-    let columns = within_extent(row_span(line, y as i32), cell.width());
+    let columns = within_extent(row_span(line, y as i32, walk), cell.width());
     fill_row(cell, y, columns, raster);
 }
 

@@ -1,10 +1,13 @@
-use Rattle.std.proofs.Common.{◌≡◌}
+use Rattle.std.proofs.Common.{◌≡◌, ◌<◌, pos}
 use Rattle.lw_layer.specs.View.{with_live}
 use Rattle.lw_layer.specs.Drafts.{raster_of}
 use Rattle.lw_draw.specs.Drawn.{painted}
 use Rattle.lw_draw.specs.LineSpans.{on_line_rows}
+use Rattle.lw_draw.specs.Walks.{IsWalk}
 use Rattle.lw_draw.proofs.lines.line_rows.Given as goal
 
 abbrev pub invariant-loop-y : goal.invariant-loop-y
-invariant-loop-y l =
-    l.cell ≡ with_live (λ c. painted (raster_of l.raster) (λ i j. on_line_rows c l.line l.fn.rows.from l.y i j) c) l.initial.cell
+invariant-loop-y l = record {
+  drawn : l.cell ≡ with_live (λ c. painted (raster_of l.raster) (λ i j. on_line_rows c l.line l.fn.rows.from l.y i j) c) l.initial.cell;
+  walk : l.y < l.fn.rows.end → IsWalk l.line (pos l.y) l.walk;
+}
