@@ -127,7 +127,7 @@ fn make_often(
     requires task { sizes.now.tasks ≡ 1 }
     ensures { desk.new.stack.sizes ≡ desk.old.stack.sizes }
 {
-    for _ in 0..repetitions {
+    for _turn in 0..repetitions {
         make_each(alloc, desk, assets, sizes, calls)?;
     }
     Some(())
