@@ -72,11 +72,29 @@ fn calls_of(alloc: Global, shape: u32, side: i16) -> Option<Vec<Call>> {
     match shape {
         0 => calls.push(fill_of(side)?).ok()?,
         1 => {
-            calls.push(Call::DrawTo { slot: 0, x: 99, y: side }).ok()?;
-            calls.push(Call::DrawTo { slot: 0, x: 0, y: 0 }).ok()?;
+            calls
+                .push(Call::DrawTo {
+                    slot: 0,
+                    x: 99,
+                    y: side,
+                })
+                .ok()?;
+            calls
+                .push(Call::DrawTo {
+                    slot: 0,
+                    x: 0,
+                    y: 0,
+                })
+                .ok()?;
         }
         _ => {
-            calls.push(Call::At { slot: 0, x: 0, y: 6 }).ok()?;
+            calls
+                .push(Call::At {
+                    slot: 0,
+                    x: 0,
+                    y: 6,
+                })
+                .ok()?;
             calls.push(letters(alloc).ok()?).ok()?;
         }
     }
@@ -187,7 +205,14 @@ pub(crate) fn repeated(
     let mut desk = Desk::new(alloc, sizes).ok()?;
     make(alloc, &mut desk, &assets, &sizes, &creation())?;
     let calls = calls_of(alloc, shape, side)?;
-    make_often(alloc, &mut desk, &assets, &sizes, calls.as_slice(), repetitions)?;
+    make_often(
+        alloc,
+        &mut desk,
+        &assets,
+        &sizes,
+        calls.as_slice(),
+        repetitions,
+    )?;
     let last = shown(alloc, &desk)?;
     Some(digest(&last.planes))
 }

@@ -1,4 +1,4 @@
-ghost use Rattle.std.specs.Prelude.{◌≡◌, ℕ, ◌<◌, List, [], map, vec_len, replicate, Option, IfOk, OnOk, OnErr, IsTrue};
+ghost use Rattle.std.specs.Prelude.{◌≡◌, ℕ, ◌<◌, false, List, [], map, vec_len, replicate, Option, IsOk, IfOk, OnErr, IsTrue};
 ghost use Rattle.std.specs.List.{range_with_len, slice_index_or};
 ghost use Rattle.lw_calls.specs.Assets.{Assets as AssetsView};
 ghost use Rattle.lw_calls.specs.declared.reply.Reply.{Reply as AnyReply};
@@ -10,6 +10,7 @@ ghost use Rattle.lw_machine.specs.Desk.{Desk as MachineDesk, empty_desk};
 ghost use Rattle.lw_machine.specs.Finals.{final_of};
 ghost use Rattle.lw_arrange.specs.Prepared.{IsPlainCall};
 ghost use Rattle.lw_engine.specs.Desks.{StandsForDesk};
+ghost use Rattle.lw_engine.specs.Parts.{takes_memory};
 ghost use Rattle.lw_engine.specs.Steps.{IsStep, IsStepWith, unopened_cell};
 
 use crate::all_layers::on_all;
@@ -65,7 +66,7 @@ impl Desk {
     }
 
     /// Makes one call of a task and gives its reply, as the machine's step says of every desk to which this was handed in. The call
-    /// has to fit the desk's sizes. It fails for want of memory alone, and the desk is then as it was.
+    /// has to fit the desk's sizes. It fails for want of memory alone, which not every call takes, and the desk is then as it was.
     pub fn step(
         &mut self,
         alloc: Global,
@@ -78,6 +79,7 @@ impl Desk {
         requires built { IsTrue (is_built call.now) }
         ensures step { IfOk result (λ r. IsStepWith assets.now self.old task call.now r self.new) }
         ensures unchanged { OnErr result (self.new ≡ self.old) }
+        ensures memory { takes_memory call.now ≡ false → IsOk result }
         ensures sizes { self.new.stack.sizes ≡ self.old.stack.sizes }
     {
         match class_of(call) {
@@ -109,6 +111,7 @@ impl Desk {
         requires task { task < self.old.stack.sizes.tasks }
         ensures step { IfOk result (λ r. IsStep self.old task call.now r self.new) }
         ensures unchanged { OnErr result (self.new ≡ self.old) }
+        ensures memory { takes_memory call.now ≡ false → IsOk result }
         ensures sizes { self.new.stack.sizes ≡ self.old.stack.sizes }
     {
         on_registers(alloc, &mut self.registers[task as usize], call)
@@ -137,6 +140,7 @@ impl Desk {
         requires built { IsTrue (is_built call.now) }
         ensures step { IfOk result (λ r. IsStepWith assets.now self.old task call.now r self.new) }
         ensures unchanged { OnErr result (self.new ≡ self.old) }
+        ensures memory { takes_memory call.now ≡ false → IsOk result }
         ensures sizes { self.new.stack.sizes ≡ self.old.stack.sizes }
     {
         on_layer(

@@ -1,4 +1,4 @@
-ghost use Rattle.std.specs.Prelude.{◌≡◌, ◌<◌, IfOk, OnErr, IsTrue};
+ghost use Rattle.std.specs.Prelude.{◌≡◌, ◌<◌, false, IsOk, IfOk, OnErr, IsTrue};
 ghost use Rattle.lw_calls.specs.Assets.{Assets as AssetsView};
 ghost use Rattle.lw_calls.specs.Built.{is_built};
 ghost use Rattle.lw_calls.specs.declared.sizes.Sizes.{Sizes};
@@ -8,7 +8,7 @@ ghost use Rattle.lw_calls.specs.Limits.{call_fits};
 ghost use Rattle.lw_calls.specs.Touches.{class_of, OnLayer};
 ghost use Rattle.lw_machine.specs.Step.{clip_answer};
 ghost use Rattle.lw_layer.specs.Drafts.{clip_set};
-ghost use Rattle.lw_engine.specs.Parts.{IsCellStep, IsLayerStep};
+ghost use Rattle.lw_engine.specs.Parts.{IsCellStep, IsLayerStep, takes_memory};
 
 use crate::drawing::{draw, fill, letters, read, set_rast, write};
 use crate::raster_state::{at, set_a, set_b, set_mask, set_mode};
@@ -20,8 +20,8 @@ use std::alloc::{AllocError, Global};
 
 /// Makes one call on a layer and gives its reply, as the machine's step says of every desk whose slot this is, whose registers
 /// these are, and to which this was handed in: those that set how it paints (pens, mode, mask, cursor), those that draw or read
-/// a pixel, InstallClipRegion with a copy of a register or with none, and ScrollLayer. It fails for want of memory alone, and the
-/// layer is then as before.
+/// a pixel, InstallClipRegion with a copy of a register or with none, and ScrollLayer. It fails for want of memory alone,
+/// which only the copy of a register takes, and the layer is then as before.
 pub fn on_layer(
     alloc: Global,
     cell: &mut Cell,
@@ -35,6 +35,7 @@ pub fn on_layer(
     ensures step { IfOk result (λ r. IsLayerStep cell.old regs.now assets.now call.now r cell.new) }
     ensures number { cell.new.number ≡ cell.old.number }
     ensures unchanged { OnErr result (cell.new ≡ cell.old) }
+    ensures memory { takes_memory call.now ≡ false → IsOk result }
 {
     match *call {
         Call::SetA { pen, .. } => Ok(set_a(cell, pen)),

@@ -1,4 +1,4 @@
-ghost use Rattle.std.specs.Prelude.{◌≡◌, ℕ, ◌<◌, length, IfOk, OnErr, IsTrue};
+ghost use Rattle.std.specs.Prelude.{◌≡◌, ℕ, ◌<◌, false, length, IsOk, IfOk, OnErr, IsTrue};
 ghost use Rattle.lw_calls.specs.declared.sizes.Sizes.{Sizes};
 ghost use Rattle.lw_calls.specs.declared.call.Call.TheVariants.{RegRect, RegPair, RegClear};
 ghost use Rattle.lw_calls.specs.Limits.{call_fits};
@@ -6,7 +6,7 @@ ghost use Rattle.lw_calls.specs.Touches.{class_of, OnRegisters};
 ghost use Rattle.lw_machine.specs.Desk.{Desk};
 ghost use Rattle.lw_machine.specs.Step.{after, reply};
 ghost use Rattle.lw_engine.specs.Desks.{StandForRegisters};
-ghost use Rattle.lw_engine.specs.Parts.{IsRegistersStep};
+ghost use Rattle.lw_engine.specs.Parts.{IsRegistersStep, takes_memory};
 
 use crate::regs::Regs;
 use lw_calls::{Call, PairOp, RectOp, Reply};
@@ -14,13 +14,15 @@ use lw_region::Rect;
 use std::alloc::{AllocError, Global};
 
 /// Makes one call on the region registers of a task and gives its reply (OrRectRegion and its kin), as the machine's step
-/// says of every desk whose registers these are. It fails for want of memory alone, and the registers are then as before.
+/// says of every desk whose registers these are. It fails for want of memory alone, which ClearRegion takes none of, and the
+/// registers are then as before.
 pub fn on_registers(alloc: Global, regs: &mut Regs, call: &Call) -> Result<Reply, AllocError>
     requires class { class_of call.now ≡ OnRegisters }
     requires fits { (sizes : Sizes) × IsTrue (call_fits sizes call.now) }
     ensures step { IfOk result (λ r. (d : Desk) (task : ℕ) → StandForRegisters regs.old (d.registers task) →
         (r ≡ reply d task call.now) × StandForRegisters regs.new ((after d task call.now).registers task)) }
     ensures unchanged { OnErr result (regs.new ≡ regs.old) }
+    ensures memory { takes_memory call.now ≡ false → IsOk result }
     ensures eight { length regs.new ≡ 8 }
 {
     match *call {

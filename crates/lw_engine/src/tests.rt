@@ -2,7 +2,9 @@ ghost use Rattle.std.specs.Prelude.{◌≡◌, ◌≤◌, IsTrue};
 ghost use Rattle.lw_calls.specs.Built.{is_built};
 
 use crate::{Desk, Regs};
-use lw_calls::{Assets, Call, Final, Kind, Make, PairOp, Place, RectOp, Replies, Reply, Seen, Sizes};
+use lw_calls::{
+    Assets, Call, Final, Kind, Make, PairOp, Place, RectOp, Replies, Reply, Seen, Sizes,
+};
 use lw_region::{Rect, Region};
 use std::process::Abort;
 use std::test::Fail;
