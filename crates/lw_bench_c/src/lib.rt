@@ -1,4 +1,4 @@
-//! The calls of the benchmarks, for a program in C. Each takes numbers alone, makes its operands by the
+//! The calls of the benchmarks, for a program in C. Each takes numbers alone, makes its operands, those of regions and rows by the
 //! generator that docs/BENCHMARKS.md states, and repeats one operation on them (this project's own).
 #![tactic(auto)]
 

@@ -1,4 +1,4 @@
--- Runs of drawable pixels in a row of a layer, one after another: words of this crate's private contracts.
+-- Runs of drawable pixels in a row of a layer, one after another.
 use Rattle.std.specs.Prelude.{◌≡◌, ℕ, ◌+◌, ◌≤◌, Bool, false, ℤ, pos, ◌-ℤ◌, Option, Some, None}
 use Rattle.lw_machine.specs.Kept.{holds_at}
 use Rattle.lw_layer.specs.View.{LiveView, draws}

@@ -239,8 +239,8 @@ ok
 done
 ",
     ),
-    // Of a layer with a bitmap of 8 columns that shows the last 4 of them, pixels are read and written by their places in that
-    // bitmap. Right of it nothing is.
+    // Of a layer with a bitmap of 8 columns that shows the last 4 of them, pixels are read by their places in that bitmap. Right
+    // of it none is read or written.
     (
         b"screen 16 1 1
 task a
