@@ -97,87 +97,6 @@ fn order(alloc: Global, tasks: &[u32]) -> Result<OrderList, AllocError> {
     Ok(OrderList::new(Vec::from_slice(alloc, tasks)?))
 }
 
-#[test]
-fn a_report_has_each_part(rt: HostRuntime) -> Result<(), Fail> {
-    let plan = plan_of_two_tasks(rt.alloc())?;
-    let left = vec![in rt.alloc(); Reply::Done, Reply::OutOfBounds]?;
-    let right = vec![in rt.alloc(); Reply::AlreadyOpen]?;
-    let last = Final {
-        planes: screen(rt.alloc())?,
-        slots: slots(rt.alloc())?,
-        replies: vec![in rt.alloc(); Replies::new(left), Replies::new(right)]?,
-    };
-    let text = write(rt.alloc(), &plan, &last, &order(rt.alloc(), &[0, 1, 0])?)?;
-    let wanted = format!(in rt.alloc();
-        "order 3\n0 1 0\n{PLANES}{LAYERS}replies left 2\nok\nout-of-bounds\nreplies right 1\nalready-open\ndone\n"
-    )?;
-    assert_eq!(rt; text.as_slice(), wanted.as_bytes());
-    Ok(())
-}
-
-/// Replies that tell something beside the word.
-fn telling_replies(alloc: Global) -> Result<Vec<Reply>, AllocError> {
-    Ok(vec![in alloc;
-        Reply::Pen(0),
-        Reply::Pen(255),
-        Reply::Layer(1),
-        Reply::Layer(0),
-        // A slot without a name.
-        Reply::Layer(4),
-        Reply::Rects(region(alloc, &[])?),
-        Reply::Rects(region(alloc, &[(-32768, -32768, 32767, 32767)])?),
-        Reply::Rects(region(alloc, &[(10, -1, 12, 4), (-2, -1, 3, 4)])?),
-        Reply::Got(Message::Refresh),
-        Reply::Got(Message::NewSize),
-        Reply::Got(Message::Change),
-        Reply::Got(Message::Active),
-        Reply::Got(Message::Inactive)
-    ]?)
-}
-
-const TOLD: &str =
-    "pen 0\npen 255\nlayer hidden\nlayer back\nlayer \nregion 0\nregion 1 -32768 -32768 32767 32767\nregion 2 -2 -1 3 4 10 -1 12 4\nmessage refresh\nmessage newsize\nmessage change\nmessage active\nmessage inactive\n";
-
-/// Replies that are one word.
-fn plain_replies(alloc: Global) -> Result<Vec<Reply>, AllocError> {
-    Ok(vec![in alloc;
-        Reply::Done,
-        Reply::Outside,
-        Reply::Nothing,
-        Reply::NotOpen,
-        Reply::AlreadyOpen,
-        Reply::NotWindow,
-        Reply::NotOwner,
-        Reply::Backdrop,
-        Reply::NotSuper,
-        Reply::InUpdate,
-        Reply::NotInUpdate,
-        Reply::OutOfBounds,
-        Reply::TooManyRects,
-    ]?)
-}
-
-const PLAIN: &str =
-    "ok\noutside\nnone\nnot-open\nalready-open\nnot-window\nnot-owner\nbackdrop\nnot-super\nin-update\nnot-in-update\nout-of-bounds\ntoo-many-rects\n";
-
-#[test]
-fn each_reply_is_written_on_its_line(rt: HostRuntime) -> Result<(), Fail> {
-    let plan = plan_of_two_tasks(rt.alloc())?;
-    let left = Replies::new(telling_replies(rt.alloc())?);
-    let right = Replies::new(plain_replies(rt.alloc())?);
-    let last = Final {
-        planes: screen(rt.alloc())?,
-        slots: vec![in rt.alloc(); None, None, None, None]?,
-        replies: vec![in rt.alloc(); left, right]?,
-    };
-    let text = write(rt.alloc(), &plan, &last, &order(rt.alloc(), &[])?)?;
-    let wanted = format!(in rt.alloc();
-        "order 0\n{PLANES}replies left 13\n{TOLD}replies right 13\n{PLAIN}done\n"
-    )?;
-    assert_eq!(rt; text.as_slice(), wanted.as_bytes());
-    Ok(())
-}
-
 /// 65 task numbers, and how they stand on two lines.
 const TASKS: [u32; 65] = [1; 65];
 
@@ -185,24 +104,20 @@ const NUMBERS: &str = "1 1 1 1 1 1 1 1 1 1 1 1 1 1 1 1 1 1 1 1 1 1 1 1 1 1 1 1 1
     1 1 1 1 1 1 1 1 1 1 1 1 1 1 1 1 1 1 1 1 1 1 1 1 1 1 1 1 1 1 1 1\n1\n";
 
 #[test]
-fn an_order_has_sixty_four_numbers_on_a_line(rt: HostRuntime) -> Result<(), Fail> {
+fn a_report_has_each_part(rt: HostRuntime) -> Result<(), Fail> {
     let plan = plan_of_two_tasks(rt.alloc())?;
-    let window = Seen {
-        visible: region(rt.alloc(), &[(-3, -2, -1, 0)])?,
-        damage: Region::new(rt.alloc()),
-        messages: Some(Messages::new(Vec::new(rt.alloc()))),
-    };
+    let clip = region(rt.alloc(), &[(10, -1, 12, 4), (-2, -1, 3, 4)])?;
+    let left = vec![in rt.alloc(); Reply::Pen(255), Reply::Layer(1), Reply::Rects(clip)]?;
+    let right = vec![in rt.alloc(); Reply::Got(Message::NewSize), Reply::OutOfBounds]?;
     let last = Final {
         planes: screen(rt.alloc())?,
-        slots: vec![in rt.alloc(); None, None, Some(window), None]?,
-        replies: vec![in rt.alloc();
-            Replies::new(Vec::new(rt.alloc())),
-            Replies::new(Vec::new(rt.alloc())),
-        ]?,
+        slots: slots(rt.alloc())?,
+        replies: vec![in rt.alloc(); Replies::new(left), Replies::new(right)]?,
     };
     let text = write(rt.alloc(), &plan, &last, &order(rt.alloc(), &TASKS)?)?;
     let wanted = format!(in rt.alloc();
-        "order 65\n{NUMBERS}{PLANES}visible shut 1\n-3 -2 -1 0\ndamage shut 0\nmessages shut 0\nreplies left 0\nreplies right 0\ndone\n"
+        "order 65\n{NUMBERS}{PLANES}{LAYERS}replies left 3\npen 255\nlayer hidden\nregion 2 -2 -1 3 4 10 -1 12 4\n\
+        replies right 2\nmessage newsize\nout-of-bounds\ndone\n"
     )?;
     assert_eq!(rt; text.as_slice(), wanted.as_bytes());
     Ok(())
