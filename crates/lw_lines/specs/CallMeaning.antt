@@ -1,14 +1,14 @@
 -- The bitmap that an act names, and families of acts.
-use Rattle.std.specs.Prelude.{ℕ, Bool, true, false, List}
+use Rattle.std.specs.Prelude.{◌≡◌, ℕ, Bool, true, false, List}
 use Rattle.lw_grammar.specs.LineForms.{Act as Meaning, PutAct}
 use Rattle.lw_grammar.specs.Told.{place_among}
 use Rattle.lw_lines.specs.declared.form.Act.{Act}
 use Rattle.lw_lines.specs.declared.form.Act.TheVariants.{RegRect, RegPair, RegClear, Create, InFront, Box, Which, Fill, ScrollRaster, Blit, EndRefresh}
 
--- the place of the bitmap that the act names among these names, and 0 where it names none
-abbrev pub bitmap_place : List (List ℕ) → Meaning → ℕ
-bitmap_place bitmaps (PutAct bm blitting) = place_among bitmaps bm
-bitmap_place bitmaps act = 0
+-- the bitmap that the act names, if it names one, has this place among these names
+abbrev pub IsBitmapAt : List (List ℕ) → ℕ → Meaning → Type 0
+IsBitmapAt bitmaps place (PutAct bm blitting) = place ≡ place_among bitmaps bm
+IsBitmapAt bitmaps place act = Unit
 
 -- the act names no layer
 abbrev pub is_apart : Act → Bool

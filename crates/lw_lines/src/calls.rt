@@ -4,7 +4,7 @@ ghost use Rattle.lw_calls.specs.Limits.{axis_fits, rect_fits, coordinates_fit};
 ghost use Rattle.lw_grammar.specs.LineForms.{is_hook_number, is_own_size, is_asked_in_range, is_box, is_area_in_range, is_act_in_range};
 ghost use Rattle.lw_grammar.specs.Told.{make_of, created_make, opened_make, spelled_call};
 ghost use Rattle.lw_lines.specs.FormMeaning.{corners_meaning, kind_meaning, width_meaning, height_meaning, asked_meaning, area_meaning, bare_meaning, number_meaning, pair_meaning, text_meaning, act_meaning};
-ghost use Rattle.lw_lines.specs.CallMeaning.{bitmap_place, is_apart, is_on_layers};
+ghost use Rattle.lw_lines.specs.CallMeaning.{IsBitmapAt, is_apart, is_on_layers};
 
 use crate::converted::{coordinate, extent, hook, mode, own_size, pen, register, step};
 use crate::form::{
@@ -296,7 +296,8 @@ impl Act<'_> {
         }
     }
 
-    /// The call, where the layers that it names have these slots, and the bitmap that it names this number.
+    /// The call, where the layers that it names have these slots, and the bitmap that a line `put` names this number: no
+    /// other act reads the number.
     pub fn call(
         &self,
         alloc: Global,
@@ -305,7 +306,7 @@ impl Act<'_> {
         other: u32,
     ) -> Result<Call, AllocError>
         requires { IsTrue (is_act_in_range (act_meaning self.now)) }
-        ensures { (bitmaps : List (List ℕ)) → bitmap ≡ bitmap_place bitmaps (act_meaning self.now) →
+        ensures { (bitmaps : List (List ℕ)) → IsBitmapAt bitmaps bitmap (act_meaning self.now) →
             IfOk result (λ call. call ≡ spelled_call bitmaps (act_meaning self.now) (slot ∷ other ∷ [])) }
     {
         match self {

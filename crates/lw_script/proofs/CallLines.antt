@@ -4,10 +4,11 @@ use Rattle.std.specs.Bool.{IsTrue}
 use Rattle.lw_calls.specs.declared.call.Call.{Call}
 use Rattle.lw_calls.specs.declared.group.Group.{Group}
 use Rattle.lw_calls.specs.declared.group.Hold.TheVariants.{Slot}
-use Rattle.lw_grammar.specs.LineForms.{Act, RegRectAct, RegPairAct, RegClearAct, CreateAct, OpenAct, InFrontAct, WhichAct, BlitAct, EndRefreshAct, LineForm, CallLine, layers_of, is_hook_number, is_act_in_range}
+use Rattle.lw_grammar.specs.LineForms.{Act, RegRectAct, RegPairAct, RegClearAct, CreateAct, OpenAct, InFrontAct, WhichAct, PutAct, BlitAct, EndRefreshAct, LineForm, CallLine, layers_of, is_hook_number, is_act_in_range}
 use Rattle.lw_grammar.specs.Told.{and_names, place_among, onto_last, spelled_call, call_below, hook_on, told}
 use Rattle.lw_grammar.specs.Script.{is_ending}
-use Rattle.lw_script.specs.CallParts.{first_place, second_place}
+use Rattle.lw_lines.specs.CallMeaning.{IsBitmapAt}
+use Rattle.lw_script.specs.CallParts.{first_place, second_place, bitmap_place}
 use Rattle.lw_script.proofs.NamesAdded.{place_of_one, places_of_two}
 
 -- an act that names no layer doesn't look at slots
@@ -70,6 +71,11 @@ pub groups_kept : (above : List LineForm) (ls : List (List ℕ)) (act : Act) (be
 groups_kept above ls act began so_far s old new m e f g h k =
     let same : cond (is_ending act) (onto_last (record { first = began; last = so_far; hold = Slot s }) old) old ≡ cond (is_ending act) (onto_last (record { first = (told above).began; last = (told above).so_far; hold = Slot (first_place (told above).names ls) }) (told above).groups) (told above).groups = rw (e, f, g, h) refl in
     k ∙ same ∙ sym (groups_with above ls act m)
+
+-- the number of the bitmap that an act names, or 0, is its place
+pub bitmap_stands : (bitmaps : List (List ℕ)) (place : ℕ) (act : Act) → place ≡ bitmap_place bitmaps act → IsBitmapAt bitmaps place act
+bitmap_stands bitmaps place (PutAct bm blitting) e = e
+bitmap_stands bitmaps place act e = tt
 
 -- the calls that are kept
 pub calls_kept : (above : List LineForm) (ls : List (List ℕ)) (act : Act) (s o : ℕ) (call : Call) (old new : List (List Call)) → length ls ≡ layers_of act → old ≡ (told above).calls → s ≡ first_place (told above).names ls → o ≡ second_place (told above).names ls → call ≡ spelled_call (told above).bitmap_names act (s ∷ o ∷ []) → new ≡ onto_last call old → new ≡ (told (CallLine ls act ∷ above)).calls

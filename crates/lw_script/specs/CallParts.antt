@@ -1,6 +1,7 @@
--- What the line of a call tells of the layers and hooks that it names.
+-- What the line of a call tells of the layers, the bitmap and the hooks that it names.
 use Rattle.std.specs.Prelude.{◌≡◌, ℕ, ◌==◌, Bool, List, [], ◌∷◌}
 use Rattle.std.specs.List.{list_any}
+use Rattle.lw_grammar.specs.LineForms.{Act, PutAct}
 use Rattle.lw_grammar.specs.Told.{and_name, place_among}
 
 -- the number of the first layer that a line names, below lines that name these, and 0 where it names none
@@ -12,6 +13,11 @@ first_place names (l ∷ layers) = place_among names l
 abbrev pub second_place : List (List ℕ) → List (List ℕ) → ℕ
 second_place names (l ∷ m ∷ layers) = place_among (and_name names l) m
 second_place names layers = 0
+
+-- the number of the bitmap that an act names, where the bitmaps have these names, and 0 where it names none
+abbrev pub bitmap_place : List (List ℕ) → Act → ℕ
+bitmap_place bitmaps (PutAct bm blitting) = place_among bitmaps bm
+bitmap_place bitmaps act = 0
 
 -- the hooks that were noted are those that are named
 abbrev pub AreNoted : List ℕ → (ℕ → Bool) → Type 0

@@ -7,7 +7,7 @@ ghost use Rattle.lw_words.specs.Digits.{decoded};
 ghost use Rattle.lw_grammar.specs.Script.{Setting};
 ghost use Rattle.lw_words.specs.Cuts.{targets};
 ghost use Rattle.lw_lines.specs.FormMeaning.{form_meaning, act_meaning, layers_meaning};
-ghost use Rattle.lw_lines.specs.CallMeaning.{bitmap_place};
+ghost use Rattle.lw_script.specs.CallParts.{bitmap_place};
 ghost use Rattle.lw_script.specs.Represents.{Represents, CanAdd};
 
 use crate::state::{Reader, place_of_name};

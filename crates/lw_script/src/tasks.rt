@@ -6,7 +6,7 @@ ghost use Rattle.lw_grammar.specs.Told.{and_name, and_names, place_among, onto_l
 ghost use Rattle.lw_grammar.specs.Script.{is_ending};
 ghost use Rattle.lw_words.specs.Cuts.{targets};
 ghost use Rattle.lw_lines.specs.FormMeaning.{act_meaning, layers_meaning};
-ghost use Rattle.lw_lines.specs.CallMeaning.{bitmap_place};
+ghost use Rattle.lw_lines.specs.CallMeaning.{IsBitmapAt};
 ghost use Rattle.lw_lines.specs.GroupMeaning.{opened_meaning};
 ghost use Rattle.lw_script.specs.CallParts.{first_place, second_place, AreNoted};
 ghost use Rattle.lw_script.specs.Represents.{TasksRepresent};
@@ -198,7 +198,7 @@ impl<'a> TasksRead<'a> {
         requires few { length self.old.layer_names.keys ≤ 64 }
         requires room { self.old.so_far < 4096 }
         requires supers { self.old.supers ≤ 16 }
-        ensures { (above : List FormValue) → bitmap ≡ bitmap_place (told above).bitmap_names (act_meaning act.entry)
+        ensures { (above : List FormValue) → IsBitmapAt (told above).bitmap_names bitmap (act_meaning act.entry)
             → TasksRepresent self.old above
             → OnOk result (TasksRepresent self.new (CallLine (layers_meaning layers.entry) (act_meaning act.entry) ∷ above)) }
     {

@@ -1,8 +1,10 @@
-use Rattle.std.proofs.Common.{refl, ap, ◌∙◌}
+use Rattle.std.proofs.Common.{List, ℕ, refl, subst}
 use Rattle.lw_grammar.specs.LineForms.{CallLine}
+use Rattle.lw_words.specs.Cuts.{targets}
 use Rattle.lw_lines.specs.FormMeaning.{act_meaning, layers_meaning}
-use Rattle.lw_lines.specs.CallMeaning.{bitmap_place}
+use Rattle.lw_lines.specs.CallMeaning.{IsBitmapAt}
 use Rattle.lw_script.proofs.Addable.{few_names, few_bitmaps, call_ranged, call_made, call_room, call_supers}
+use Rattle.lw_script.proofs.CallLines.{bitmap_stands}
 use Rattle.lw_script.proofs.Passing.{with_tasks, on_done}
 use Rattle.lw_script.proofs.state.Reader.add_call.Goals as goal
 
@@ -28,4 +30,7 @@ pub returns : goal.returns
 returns c = λ s above k.
     let f = CallLine (layers_meaning c.args.layers) (act_meaning c.args.act) in
     let r = c.args.self.now in
-    on_done c.add_call.result _ _ (with_tasks s r above f c.add_call.new.self refl refl k) (c.add_call.ensures above (c.bitmap_of-bitmap.ensures ∙ ap (λ ns. bitmap_place ns (act_meaning c.args.act)) k.assets.names) k.tasks)
+    let act = act_meaning c.args.act in
+    let P : List (List ℕ) → Type 0 = λ ns. IsBitmapAt ns c.bitmap_of-bitmap.result act in
+    let stands = subst P k.assets.names (bitmap_stands (targets r.assets.names.keys) c.bitmap_of-bitmap.result act c.bitmap_of-bitmap.ensures) in
+    on_done c.add_call.result _ _ (with_tasks s r above f c.add_call.new.self refl refl k) (c.add_call.ensures above stands k.tasks)
