@@ -3,18 +3,18 @@
 use Rattle.std.proofs.Common.{◌≡◌, ℕ, ◌+◌, ◌-◌, ◌≤◌, ◌==◌, true, ◌&&◌, List, [], ◌∷◌, ℤ, pos, unsigned_abs, refl, sym, ap, subst, ◌∙◌, arith}
 use Rattle.lw_region.specs.Rectangle.{within}
 use Rattle.lw_grammar.specs.LineForms.{LineForm, ScreenLine, TaskLine, EndLine, OrderLine, ReportLine}
-use Rattle.lw_grammar.specs.Told.{Section, ScreenIsDue, AssetsAreDue, CallsAreDue, TasksAreDue, NumbersAreDue, NothingIsDue, told}
-use Rattle.lw_grammar.specs.Script.{Setting, is_screen_due, may_end, AreGoodLines}
+use Rattle.lw_grammar.specs.Told.{ScreenIsDue, told}
+use Rattle.lw_grammar.specs.Script.{Setting, may_end, AreGoodLines}
 use Rattle.lw_canonical.specs.Spelling.{spelled}
 use Rattle.lw_grammar.proofs.ScriptOutcome.{rows_in_assets}
-use Rattle.lw_grammar.proofs.ScriptSizes.{IsFormTested, here, tests, When, when, has_screen, in_assets_or_tasks, in_calls, in_tasks, whole_ends, none_due}
-use Rattle.lw_canonical.proofs.ReadsAgain.{verb_forms, spelled_again, tests_pass, isnt_passed}
+use Rattle.lw_grammar.proofs.ScriptSizes.{IsFormTested, tests_pass, here, tests, When, when, has_screen, in_screen, in_assets_or_tasks, in_calls, in_tasks, whole_ends, none_due}
+use Rattle.lw_canonical.proofs.ReadsAgain.{verb_forms, spelled_again, isnt_passed}
 use Rattle.lw_canonical.proofs.BitmapsKept.{IsBare, bare_kept, IsWithoutBitmaps, kept, glyph_kept, names_kept, due_kept, made_kept}
 use Rattle.lw_canonical.proofs.BitmapsSpelled.{kept_spelled}
 use Rattle.lw_canonical.proofs.GlyphsInOrder.{glyphs_over, glyphs_ordered, bare_over, unmapped_over, glyph_over, over_spelled}
 use Rattle.lw_canonical.proofs.Rearranged.{screen_line_of, base_of, alone, AreSpelled, HasOneSpelling, IsBaseOf}
 use Rattle.std.proofs.lemmas.Int.{ints}
-use Rattle.std.proofs.lemmas.Bool.{true≢false, false≢true, eqb-true, and_parts, true_from_ne_false}
+use Rattle.std.proofs.lemmas.Bool.{true≢false, eqb-true, and_parts, true_from_ne_false}
 use Rattle.std.proofs.lemmas.Bool.Decides.{nat_tests}
 
 -- The screen's line stands among the good lines, with these numbers.
@@ -48,15 +48,6 @@ from_one : (z : ℤ) (m : ℕ) → within (pos 1) z (pos m) ≡ true → pos (un
 unfolding within
 from_one z m h = grind (arith, ints, nat_tests)
 
--- the section by its test
-screen_by : (c : Section) → is_screen_due c ≡ true → c ≡ ScreenIsDue
-screen_by ScreenIsDue e = refl
-screen_by AssetsAreDue e = absurd (false≢true e)
-screen_by CallsAreDue e = absurd (false≢true e)
-screen_by TasksAreDue e = absurd (false≢true e)
-screen_by NumbersAreDue e = absurd (false≢true e)
-screen_by NothingIsDue e = absurd (false≢true e)
-
 -- a good line of a screen reads again as the first line
 first_again : HasOneSpelling → (s t : Setting) (x y z : ℤ) (above : List LineForm) → AreGoodLines s (ScreenLine x y z ∷ above) → AreSpelled t (ScreenLine x y z ∷ [])
 first_again one s t x y z above g =
@@ -65,7 +56,7 @@ first_again one s t x y z above g =
     let k = tests s above (ScreenLine x y z) g in
     let tested : IsFormTested t [] (ScreenLine x y z) =
     record { range = k.range; named = refl; new = refl; group = refl; few = refl; hook = refl; unused = refl; padding = refl; built = refl } in
-    (spelled_again one s t above [] f g.0 (verb_forms s t above [] ScreenIsDue at.0 refl (screen_by _ at.1) refl refl) (tests_pass t [] f tested), isnt_passed [] (spelled (ScreenLine x y z)) refl refl, tt)
+    (spelled_again one s t above [] f g.0 (verb_forms s t above [] ScreenIsDue at.0 refl (in_screen _ at.1) refl refl) (tests_pass t [] f tested), isnt_passed [] (spelled (ScreenLine x y z)) refl refl, tt)
 
 -- it has the numbers that the lines above tell
 screen_same : (s : Setting) (w h d : ℕ) (k : IsScreenRead s w h d) → ScreenLine k.x k.y k.z ≡ ScreenLine (pos w) (pos h) (pos d)

@@ -18,7 +18,7 @@ use Rattle.lw_canonical.proofs.ByNumber.{gathered_same}
 use Rattle.lw_canonical.proofs.RowsBack.{IsRow, row_made, row_are_bytes, row_back}
 use Rattle.std.proofs.lemmas.Bool.{true≢false, eqb-true, and_parts}
 use Rattle.std.proofs.lemmas.Nat.{mul-le}
-use Rattle.std.proofs.lemmas.List.{get_or_append_left, get_or-append-add, get_or-map, length-map, reverse-append}
+use Rattle.std.proofs.lemmas.List.{nil_from_length, get_or_append_left, get_or-append-add, get_or-map, length-map, reverse-append}
 use Rattle.std.proofs.lemmas.List.FromFn.{fill_by_all}
 
 -- rows of a bitmap of this width
@@ -145,18 +145,13 @@ row_more : (due n : ℕ) → (due == 0) ≡ false → n ≡ due - 1 → suc n �
 row_more zero n e h = absurd (true≢false e)
 row_more (suc due) n e h = omega arith
 
--- no rows
-no_rows : (rows : List (List ℕ)) → length rows ≡ 0 → rows ≡ []
-no_rows [] h = refl
-no_rows (r ∷ rs) h = absurd (omega arith)
-
 -- the lines of bitmaps above, the first one first
 abbrev pub bitmaps_told : List LineForm → List LineForm
 bitmaps_told above = reverse (filter is_of_bitmaps above)
 
 -- Good lines give their bitmaps back, where these rows stand behind the nearest one.
 bitmaps_back : (s : Setting) (above : List LineForm) → AreGoodLines s above → (rows : List (List ℕ)) → length rows ≡ (told above).rows_due → AreRows (told above).row_width rows → all_bitmap_lines (told above).bitmap_names ((told above).bitmaps (concat rows)) ≡ bitmaps_told above ++ map (λ r. RowLine r) rows
-bitmaps_back s [] g rows n r = ap (λ (t : List (List ℕ)). map (λ (k : List ℕ). RowLine k) t) (sym (no_rows rows n))
+bitmaps_back s [] g rows n r = ap (λ (t : List (List ℕ)). map (λ (k : List ℕ). RowLine k) t) (sym (nil_from_length rows n))
 bitmaps_back s (BitmapLine name w h d ∷ above) g rows n r =
     let due : (told above).rows_due ≡ 0 = eqb-true _ 0 (here s above (BitmapLine name w h d) g).0 in
     let b : Bitmap = stored (unsigned_abs w) (unsigned_abs h) (unsigned_abs d) (concat rows) in

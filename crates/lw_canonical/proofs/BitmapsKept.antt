@@ -1,13 +1,13 @@
 -- What lines tell of which only the bitmaps with their rows are kept, over others: the same of bitmaps, and else nothing more.
-use Rattle.std.proofs.Common.{◌≡◌, ℕ, zero, suc, ◌+◌, ◌-◌, ◌*◌, ◌==◌, false, List, [], ◌∷◌, ◌++◌, length, filter, None, refl, ap, ◌∙◌, arith, length-append, suc-mul, ℤ, unsigned_abs}
+use Rattle.std.proofs.Common.{◌≡◌, ℕ, ◌-◌, ◌*◌, List, [], ◌∷◌, ◌++◌, length, filter, None, refl, ap, ◌∙◌, length-append, ℤ, unsigned_abs}
 use Rattle.lw_planes.specs.Bitmap.{row_bytes}
 use Rattle.lw_planes.specs.Storage.{stored}
 use Rattle.lw_grammar.specs.LineForms.{LineForm, GlyphLine, BitmapLine, RowLine}
 use Rattle.lw_grammar.specs.Told.{AssetsAreDue, nothing_told, told}
 use Rattle.lw_grammar.specs.Script.{Setting, AreGoodLines}
-use Rattle.lw_grammar.proofs.ScriptSizes.{here, none_due}
+use Rattle.lw_grammar.proofs.ScriptSizes.{here, none_due, row_less}
 use Rattle.lw_canonical.proofs.Rearranged.{is_of_bitmaps}
-use Rattle.std.proofs.lemmas.Bool.{true≢false, eqb-true}
+use Rattle.std.proofs.lemmas.Bool.{eqb-true}
 
 -- Lines of a screen of these sizes, and of glyphs and bitmaps: of nothing else do they tell anything.
 pub record IsBare (w h d : ℕ) (lines : List LineForm) : Type 0 where
@@ -61,19 +61,6 @@ glyph_kept [] base code = refl
 glyph_kept (BitmapLine name x y z ∷ above) base code = glyph_kept above base code
 glyph_kept (RowLine bytes ∷ above) base code = glyph_kept above base code
 glyph_kept (f ∷ above) base code = glyph_kept above base code
-
--- no rows, by their number
-no_rows : (rows : List ℕ) → length rows ≡ 0 → rows ≡ []
-no_rows [] n = refl
-no_rows (b ∷ bs) n = absurd (omega (arith, n))
-
--- a row less is due
-row_less : (due n bytes rows : ℕ) → (due == 0) ≡ false → bytes ≡ n → rows ≡ (due - 1) * n → bytes + rows ≡ due * n
-row_less zero n bytes rows e h k = absurd (true≢false e)
-row_less (suc due) n bytes rows e h k =
-    let less : suc due - 1 ≡ due = omega arith in
-    let rest : rows ≡ due * n = rw less at k in
-    omega (arith, suc-mul due n)
 
 -- What is kept of good lines, over lines without bitmaps.
 module _ (base : List LineForm) (b : IsWithoutBitmaps base) where

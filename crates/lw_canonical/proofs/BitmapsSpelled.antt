@@ -2,23 +2,14 @@
 use Rattle.std.proofs.Common.{◌≡◌, ℕ, ◌≤◌, ◌==◌, true, false, List, [], ◌∷◌, length, bytes_eq, ℤ, Ok, refl, sym, ap, subst, ◌∙◌}
 use Rattle.std.specs.List.{list_any}
 use Rattle.lw_grammar.specs.LineForms.{LineForm, BitmapLine, RowLine}
-use Rattle.lw_grammar.specs.Told.{Section, ScreenIsDue, AssetsAreDue, CallsAreDue, TasksAreDue, NumbersAreDue, NothingIsDue, told}
-use Rattle.lw_grammar.specs.Script.{Setting, are_assets_due, is_nothing_due, are_few, has_padding, line_read, AreGoodLines}
+use Rattle.lw_grammar.specs.Told.{AssetsAreDue, told}
+use Rattle.lw_grammar.specs.Script.{Setting, is_nothing_due, are_few, has_padding, line_read, AreGoodLines}
 use Rattle.lw_canonical.specs.Spelling.{spelled}
-use Rattle.lw_grammar.proofs.ScriptSizes.{IsFormTested, here, tests, counted}
-use Rattle.lw_canonical.proofs.ReadsAgain.{verb_forms, row_forms, spelled_again, tests_pass, few_by_bitmaps, isnt_passed, row_stands}
+use Rattle.lw_grammar.proofs.ScriptSizes.{IsFormTested, tests_pass, here, tests, in_assets, counted}
+use Rattle.lw_canonical.proofs.ReadsAgain.{verb_forms, row_forms, spelled_again, few_by_bitmaps, isnt_passed, row_stands}
 use Rattle.lw_canonical.proofs.BitmapsKept.{IsBare, bare_kept, IsWithoutBitmaps, kept, names_kept, width_kept, due_kept}
 use Rattle.lw_canonical.proofs.Rearranged.{AreSpelled, HasOneSpelling}
-use Rattle.std.proofs.lemmas.Bool.{false≢true, eqb-true, eq-eqb}
-
--- the section by its test
-pub assets_by : (c : Section) → are_assets_due c ≡ true → c ≡ AssetsAreDue
-assets_by ScreenIsDue e = absurd (false≢true e)
-assets_by AssetsAreDue e = refl
-assets_by CallsAreDue e = absurd (false≢true e)
-assets_by TasksAreDue e = absurd (false≢true e)
-assets_by NumbersAreDue e = absurd (false≢true e)
-assets_by NothingIsDue e = absurd (false≢true e)
+use Rattle.std.proofs.lemmas.Bool.{eqb-true, eq-eqb}
 
 -- lines that tell of few bitmaps and of nothing else are few
 pub few_bare : (w h d : ℕ) (lines : List LineForm) → IsBare w h d lines → length (told lines).bitmap_names ≤ 16 → are_few (told lines) ≡ true
@@ -45,7 +36,7 @@ module _ (one : HasOneSpelling) (s t : Setting) (w h d : ℕ) (base : List LineF
       let none : (told (kept above base)).rows_due ≡ 0 = due_kept base b s above g.1 ∙ eqb-true _ 0 at.0 in
       let tested : IsFormTested t (kept above base) (BitmapLine name x y z) =
       record { range = k.range; named = refl; new = ap (list_any (bytes_eq name)) (names_kept base b above) ∙ k.new; group = refl; few = few_kept f above g; hook = refl; unused = refl; padding = refl; built = refl } in
-      spelled_again one s t above (kept above base) f g.0 (verb_forms s t above (kept above base) AssetsAreDue at.0 (eq-eqb _ 0 none) (assets_by _ at.1) (bare_kept w h d above base bare).section refl) (tests_pass t (kept above base) f tested)
+      spelled_again one s t above (kept above base) f g.0 (verb_forms s t above (kept above base) AssetsAreDue at.0 (eq-eqb _ 0 none) (in_assets _ at.1) (bare_kept w h d above base bare).section refl) (tests_pass t (kept above base) f tested)
 
   row_again : (bytes : List ℕ) (above : List LineForm) → AreGoodLines s (RowLine bytes ∷ above) → line_read t (told (kept above base)) (spelled (RowLine bytes)) ≡ Ok (RowLine bytes)
   row_again bytes above g =

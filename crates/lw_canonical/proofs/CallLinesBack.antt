@@ -10,6 +10,7 @@ use Rattle.lw_canonical.specs.Canonical.{created_asked, opened_asked, line_of_ca
 use Rattle.lw_grammar.proofs.ScriptForms.{IsAskedOf, IsFormMade}
 use Rattle.std.proofs.lemmas.Int.{ints}
 use Rattle.std.proofs.lemmas.Bool.{false≢true, and_parts}
+use Rattle.std.proofs.lemmas.List.{nil_from_length}
 
 -- a number in a range that begins at 0 or above is what its distance from 0 counts
 pub number_back : (low : ℕ) (z : ℤ) (high : ℕ) → within (pos low) z (pos high) ≡ true → pos (unsigned_abs z) ≡ z
@@ -34,10 +35,6 @@ two_back names (s ∷ t ∷ u ∷ us) layers e n =
     let more : List (List ℕ) = map (λ (k : ℕ). slice_index_or names k []) us in
     let long : suc (suc (suc (length more))) ≡ suc (suc zero) = ap length e ∙ n in
     absurd (omega arith)
-
-no_layers : (layers : List (List ℕ)) → length layers ≡ 0 → [] ≡ layers
-no_layers [] n = refl
-no_layers (l ∷ ls) n = absurd (omega arith)
 
 -- the hook of a layer that is asked for
 hook_back : (hook : Option ℤ) → is_hook_number hook ≡ true → option_map pos (option_map unsigned_abs hook) ≡ hook
@@ -89,13 +86,13 @@ IsBitmapBack bitmaps among act = Unit {0}
 pub line_back : (names bitmaps among layers : List (List ℕ)) (act : Act) → IsFormMade (CallLine layers act) → is_act_in_range act ≡ true → IsBitmapBack bitmaps among act → (slots : List ℕ) → map (λ s. slice_index_or names s []) slots ≡ layers → line_of_call names bitmaps (spelled_call among act slots) ≡ CallLine layers act
 line_back names bitmaps among layers (RegRectAct op r rect) m h b slots e =
     let halves = and_parts (within (pos 0) r (pos 7)) _ h in
-    ap (λ z. CallLine [] (RegRectAct op z rect)) (number_back 0 r 7 halves.0) ∙ ap (λ ls. CallLine ls (RegRectAct op r rect)) (no_layers layers m.0)
+    ap (λ z. CallLine [] (RegRectAct op z rect)) (number_back 0 r 7 halves.0) ∙ ap (λ ls. CallLine ls (RegRectAct op r rect)) (sym (nil_from_length layers m.0))
 line_back names bitmaps among layers (RegPairAct op s r) m h b slots e =
     let halves = and_parts (within (pos 0) s (pos 7)) _ h in
-    ap (λ z. CallLine [] (RegPairAct op z (pos (unsigned_abs r)))) (number_back 0 s 7 halves.0) ∙ ap (λ z. CallLine [] (RegPairAct op s z)) (number_back 0 r 7 halves.1) ∙ ap (λ ls. CallLine ls (RegPairAct op s r)) (no_layers layers m.0)
+    ap (λ z. CallLine [] (RegPairAct op z (pos (unsigned_abs r)))) (number_back 0 s 7 halves.0) ∙ ap (λ z. CallLine [] (RegPairAct op s z)) (number_back 0 r 7 halves.1) ∙ ap (λ ls. CallLine ls (RegPairAct op s r)) (sym (nil_from_length layers m.0))
 line_back names bitmaps among layers (RegClearAct r) m h b slots e =
-    ap (λ z. CallLine [] (RegClearAct z)) (number_back 0 r 7 h) ∙ ap (λ ls. CallLine ls (RegClearAct r)) (no_layers layers m.0)
-line_back names bitmaps among layers (WhichAct x y) m h b slots e = ap (λ ls. CallLine ls (WhichAct x y)) (no_layers layers m.0)
+    ap (λ z. CallLine [] (RegClearAct z)) (number_back 0 r 7 h) ∙ ap (λ ls. CallLine ls (RegClearAct r)) (sym (nil_from_length layers m.0))
+line_back names bitmaps among layers (WhichAct x y) m h b slots e = ap (λ ls. CallLine ls (WhichAct x y)) (sym (nil_from_length layers m.0))
 line_back names bitmaps among layers InFrontAct m h b slots e = ap (λ ls. CallLine ls InFrontAct) (two_back names slots layers e m.0)
 line_back names bitmaps among layers (BlitAct g) m h b slots e = ap (λ ls. CallLine ls (BlitAct g)) (two_back names slots layers e m.0)
 line_back names bitmaps among layers (CreateAct a) m h b slots e =

@@ -1,5 +1,5 @@
 -- The canonical text of a plan of one task that an input spells, spells that plan as a script alone.
-use Rattle.std.proofs.Common.{◌≡◌, ℕ, ◌+◌, Bool, true, false, ◌||◌, min, List, [], ◌∷◌, ◌++◌, map, reverse, length, Ok, refl, sym, ap, ap₂, subst, ◌∙◌, arith, append_assoc, append-nil, length-append}
+use Rattle.std.proofs.Common.{◌≡◌, ℕ, ◌+◌, true, false, min, List, [], ◌∷◌, ◌++◌, map, reverse, length, Ok, refl, sym, ap, ap₂, subst, ◌∙◌, arith, append_assoc, append-nil, length-append}
 use Rattle.std.specs.List.{flat_map}
 use Rattle.lw_calls.specs.Plan.{Plan}
 use Rattle.lw_grammar.specs.Lines.{lines}
@@ -14,7 +14,7 @@ use Rattle.lw_canonical.proofs.Rearranged.{arranged, alone, AreSpelled, is_passe
 use Rattle.lw_canonical.proofs.OneSpelling.{one_spelling, no_feed, HasNoFeed, HaveNoFeed, lines_of_text}
 use Rattle.lw_canonical.proofs.PlanLines.{plan_lines}
 use Rattle.lw_canonical.proofs.BaseSpelled.{base_spelled, whole_base_is}
-use Rattle.std.proofs.lemmas.Bool.{true≢false}
+use Rattle.std.proofs.lemmas.Bool.{or_parts}
 use Rattle.std.proofs.lemmas.Int.{clamps}
 use Rattle.lw_grammar.specs.Demands.{◌>>=◌}
 use Rattle.std.proofs.lemmas.List.{map_push}
@@ -59,15 +59,10 @@ text_more (g ∷ fs) f =
 abbrev reached_at : List LineForm → Reached
 reached_at forms = record { forms = forms; number = length forms + 1; place = length (text_of (reverse forms)) }
 
--- of two tests that don't hold
-neither : (a b : Bool) → (a || b) ≡ false → (a ≡ false) × (b ≡ false)
-neither true b e = absurd (true≢false e)
-neither false b e = (refl, e)
-
 -- lines that are spelled are read one after another
 read_on : (t : Setting) (p : Reached) (f : LineForm) (ls : List (List ℕ)) → is_passed p.forms (spelled f) ≡ false → line_read t (told p.forms) (spelled f) ≡ Ok f → lines_read t p (spelled f ∷ ls) ≡ lines_read t (with_line p (spelled f) (f ∷ p.forms)) ls
 read_on t p f ls e d =
-    let b = neither (is_skipped (spelled f)) (is_nothing_due (told p.forms).section) e in
+    let b = or_parts (is_skipped (spelled f)) (is_nothing_due (told p.forms).section) e in
     rw (b.1, b.0, d) refl
 
 runs : (t : Setting) (forms : List LineForm) (ls : List (List ℕ)) → AreSpelled t forms → lines_read t at_the_top (map spelled (reverse forms) ++ ls) ≡ lines_read t (reached_at forms) ls

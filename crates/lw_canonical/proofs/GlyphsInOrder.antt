@@ -7,10 +7,10 @@ use Rattle.lw_grammar.specs.Told.{AssetsAreDue, nothing_told, told}
 use Rattle.lw_grammar.specs.Script.{Setting, line_read, AreGoodLines}
 use Rattle.lw_canonical.specs.Spelling.{spelled}
 use Rattle.lw_canonical.specs.Canonical.{lines_of_glyph}
-use Rattle.lw_grammar.proofs.ScriptSizes.{IsFormTested, here, tests}
-use Rattle.lw_canonical.proofs.ReadsAgain.{verb_forms, spelled_again, tests_pass, isnt_passed}
+use Rattle.lw_grammar.proofs.ScriptSizes.{IsFormTested, tests_pass, here, tests, in_assets}
+use Rattle.lw_canonical.proofs.ReadsAgain.{verb_forms, spelled_again, isnt_passed}
 use Rattle.lw_canonical.proofs.BitmapsKept.{IsBare, bare_glyph, IsWithoutBitmaps}
-use Rattle.lw_canonical.proofs.BitmapsSpelled.{assets_by, few_bare, due_bare}
+use Rattle.lw_canonical.proofs.BitmapsSpelled.{few_bare, due_bare}
 use Rattle.lw_canonical.proofs.Rearranged.{glyphs_in_order, AreSpelled, HasOneSpelling}
 use Rattle.std.proofs.lemmas.Bool.{false≢true, eqb-true, eqb-false, eq-eqb, ne_eqb, and_parts, or_from, cases_eq}
 use Rattle.std.proofs.lemmas.List.{reverse-append}
@@ -156,7 +156,7 @@ glyph_again one s t w h d code rows above lines g bare b new =
     let none : length (told lines).bitmap_names ≡ 0 = ap length b.names in
     let tested : IsFormTested t lines (GlyphLine code rows) =
     record { range = k.range; named = refl; new = new; group = refl; few = few_bare w h d (f ∷ lines) (bare_glyph w h d lines code rows bare) (omega (arith, none)); hook = refl; unused = refl; padding = refl; built = refl } in
-    spelled_again one s t above lines f g.0 (verb_forms s t above lines AssetsAreDue at.0 (eq-eqb _ 0 b.due) (assets_by _ at.1) bare.section refl) (tests_pass t lines f tested)
+    spelled_again one s t above lines f g.0 (verb_forms s t above lines AssetsAreDue at.0 (eq-eqb _ 0 b.due) (in_assets _ at.1) bare.section refl) (tests_pass t lines f tested)
 
 -- So do all glyphs in order.
 pub over_spelled : HasOneSpelling → (s t : Setting) (above base : List LineForm) → AreGoodLines s above → (w h d : ℕ) → IsBare w h d base → IsWithoutBitmaps base → (told base).given ≡ nothing_told.given → AreSpelled t base → (n : ℕ) → AreSpelled t (glyphs_over above base n)

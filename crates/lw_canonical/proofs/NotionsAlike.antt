@@ -4,9 +4,9 @@ use Rattle.lw_calls.specs.declared.group.Hold.{Hold}
 use Rattle.lw_calls.specs.declared.group.Hold.TheVariants.{Slot, All as AllLayers}
 use Rattle.lw_grammar.specs.LineForms.{Act, RefreshAct, EndRefreshAct, LineForm, ScreenLine, GlyphLine, BitmapLine, RowLine, TaskLine, EndLine, OrderLine, NumbersLine, ReportLine, CallLine, LockLine, UnlockLine, HoldLine, ReleaseLine}
 use Rattle.lw_grammar.specs.Told.{Section, ScreenIsDue, AssetsAreDue, CallsAreDue, TasksAreDue, NumbersAreDue, NothingIsDue, nothing_told, and_name, and_names, place_among, onto_last, spelled_call, call_below, asks_super, hook_on, and_hook, opened_by, group_from, told}
-use Rattle.lw_grammar.specs.Script.{Setting, are_assets_due, are_calls_due, are_tasks_due, are_numbers_due, AreGoodLines}
+use Rattle.lw_grammar.specs.Script.{Setting, are_calls_due, are_tasks_due, are_numbers_due, AreGoodLines}
 use Rattle.lw_grammar.proofs.ScriptOutcome.{rows_in_assets}
-use Rattle.lw_grammar.proofs.ScriptSizes.{here, has_begun, has_screen, in_screen, in_calls, in_tasks, in_assets_or_tasks}
+use Rattle.lw_grammar.proofs.ScriptSizes.{here, has_begun, has_screen, in_screen, in_assets, in_calls, in_tasks, in_numbers, in_assets_or_tasks}
 use Rattle.lw_canonical.proofs.Rearranged.{is_of_tasks, IsBaseOf}
 use Rattle.std.proofs.lemmas.Bool.{true≢false, false≢true, and_parts}
 
@@ -25,12 +25,7 @@ pub record AreBare (above : List LineForm) : Type 0 where
 
 -- numbers stand where tasks have begun
 numbers_begun : (c : Section) → are_numbers_due c ≡ true → has_begun c ≡ true
-numbers_begun ScreenIsDue e = absurd (false≢true e)
-numbers_begun AssetsAreDue e = absurd (false≢true e)
-numbers_begun CallsAreDue e = absurd (false≢true e)
-numbers_begun TasksAreDue e = absurd (false≢true e)
-numbers_begun NumbersAreDue e = refl
-numbers_begun NothingIsDue e = absurd (false≢true e)
+numbers_begun c e = ap has_begun (in_numbers c e)
 
 -- a line of a task too
 calls_begun : (c : Section) → are_calls_due c ≡ true → has_begun c ≡ true
@@ -62,7 +57,7 @@ pub bare : (s : Setting) (above : List LineForm) → AreGoodLines s above → ha
 bare s [] g n =
     record { of_tasks = refl; tasks = refl; names = refl; supers = refl; hooks = refl; group = refl; so_far = refl; began = refl; calls = refl; groups = refl }
 bare s (ScreenLine w h d ∷ above) g n =
-    screen_bare above w h d (bare s above g.1 (in_screen (told above).section (here s above (ScreenLine w h d) g).1))
+    screen_bare above w h d (bare s above g.1 (ap has_begun (in_screen (told above).section (here s above (ScreenLine w h d) g).1)))
 bare s (GlyphLine code rows ∷ above) g n = glyph_bare above code rows (bare s above g.1 n)
 bare s (BitmapLine name w h d ∷ above) g n = bitmap_bare above name w h d (bare s above g.1 n)
 bare s (RowLine bytes ∷ above) g n = row_bare above bytes (bare s above g.1 n)
@@ -356,23 +351,9 @@ alike_behind above new f t c a =
       groups = a.groups;
     }
 
--- where glyphs and bitmaps are due
-pub assets_are : (c : Section) → are_assets_due c ≡ true → c ≡ AssetsAreDue
-assets_are ScreenIsDue e = absurd (false≢true e)
-assets_are AssetsAreDue e = refl
-assets_are CallsAreDue e = absurd (false≢true e)
-assets_are TasksAreDue e = absurd (false≢true e)
-assets_are NumbersAreDue e = absurd (false≢true e)
-assets_are NothingIsDue e = absurd (false≢true e)
-
 -- where numbers are due, the screen stands above
 pub numbers_screen : (c : Section) → are_numbers_due c ≡ true → has_screen c ≡ true
-numbers_screen ScreenIsDue e = absurd (false≢true e)
-numbers_screen AssetsAreDue e = absurd (false≢true e)
-numbers_screen CallsAreDue e = absurd (false≢true e)
-numbers_screen TasksAreDue e = absurd (false≢true e)
-numbers_screen NumbersAreDue e = refl
-numbers_screen NothingIsDue e = absurd (false≢true e)
+numbers_screen c e = ap has_screen (in_numbers c e)
 
 -- where lines of a task or of its end stand, it does too
 pub calls_screen : (c : Section) → are_calls_due c ≡ true → has_screen c ≡ true
@@ -399,11 +380,11 @@ pub alike : (s : Setting) (above base : List LineForm) → AreGoodLines s above 
 alike s [] base g e b = absurd (false≢true e)
 alike s (ScreenLine w h d ∷ above) base g e b = assets_alike s (ScreenLine w h d ∷ above) base g refl b
 alike s (GlyphLine code rows ∷ above) base g e b =
-    assets_alike s (GlyphLine code rows ∷ above) base g (assets_are (told above).section (here s above (GlyphLine code rows) g).1) b
+    assets_alike s (GlyphLine code rows ∷ above) base g (in_assets (told above).section (here s above (GlyphLine code rows) g).1) b
 alike s (BitmapLine name w h d ∷ above) base g e b =
-    assets_alike s (BitmapLine name w h d ∷ above) base g (assets_are (told above).section (here s above (BitmapLine name w h d) g).1) b
+    assets_alike s (BitmapLine name w h d ∷ above) base g (in_assets (told above).section (here s above (BitmapLine name w h d) g).1) b
 alike s (RowLine bytes ∷ above) base g e b =
-    assets_alike s (RowLine bytes ∷ above) base g (assets_are (told above).section (rows_in_assets s above g.1 (here s above (RowLine bytes) g).0)) b
+    assets_alike s (RowLine bytes ∷ above) base g (in_assets (told above).section (rows_in_assets s above g.1 (here s above (RowLine bytes) g).0)) b
 alike s (TaskLine name ∷ above) base g e b =
     alike_more above _ (alike s above base g.1 (in_assets_or_tasks (told above).section (here s above (TaskLine name) g).1) (base_below (TaskLine name) above base refl b)) (TaskLine name) refl
 alike s (EndLine ∷ above) base g e b =

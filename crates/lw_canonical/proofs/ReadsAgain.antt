@@ -10,22 +10,16 @@ use Rattle.lw_grammar.specs.Demands.{◌>>=◌, demand}
 use Rattle.lw_grammar.specs.Tokens.{token_of}
 use Rattle.lw_grammar.specs.LineForms.{LineForm, RowLine, row_line, numbers_line, form_by}
 use Rattle.lw_grammar.specs.Told.{Section, told}
-use Rattle.lw_grammar.specs.Script.{Setting, is_skipped, are_tasks_due, are_numbers_due, is_nothing_due, is_plain, stands_in, is_task_verb, verb_on, behind_verb, super_limit, words_read, form_read, form_tested, line_read, IsGoodLine}
+use Rattle.lw_grammar.specs.Script.{Setting, is_skipped, are_tasks_due, are_numbers_due, is_nothing_due, is_plain, stands_in, is_task_verb, verb_on, behind_verb, super_limit, words_read, verb_read, form_read, form_tested, line_read, IsGoodLine}
 use Rattle.lw_calls.specs.Written.{hex_digit}
 use Rattle.lw_canonical.specs.Spelling.{spelled}
-use Rattle.lw_grammar.proofs.ScriptSizes.{IsFormTested}
 use Rattle.lw_canonical.proofs.Rearranged.{HasOneSpelling, is_passed}
-use Rattle.std.proofs.lemmas.Bool.{false≢true, not_from_false, and_left, and_right, and_from, or_from, le-leb, ne_eqb}
-
--- the form of a line with a verb, in a section of an input
-abbrev verb_at : Form → Section → List (List ℕ) → Result LineForm Reason
-verb_at form c ws =
-    ok_or (verb_on ws) UnknownWord >>= (λ verb. demand (stands_in form c verb) Misplaced >>= (λ _. demand (not ((is_plain form && are_tasks_due c) && is_task_verb verb)) OneTaskOnly >>= (λ _. ok_or (form_by verb (map token_of (behind_verb ws))) FormReason)))
+use Rattle.std.proofs.lemmas.Bool.{and_left, and_right, and_from, or_from, le-leb, ne_eqb}
 
 -- the form of a line, where no rows are due or some are
 abbrev form_at : Bool → ℕ → Form → Section → List (List ℕ) → Result LineForm Reason
 form_at bare width form c ws =
-    cond (not bare) (ok_or (row_line width (map token_of ws)) FormReason) (cond (are_numbers_due c) (ok_or (numbers_line (map token_of ws)) FormReason) (verb_at form c ws))
+    cond (not bare) (ok_or (row_line width (map token_of ws)) FormReason) (cond (are_numbers_due c) (ok_or (numbers_line (map token_of ws)) FormReason) (verb_read form c ws))
 
 -- where no task may begin behind another, a verb's lines stand in each input or in none
 stands_same : (a b : Form) (c : Section) (v : Verb) → are_tasks_due c ≡ false → stands_in a c v ≡ stands_in b c v
@@ -34,7 +28,7 @@ stands_same a b c ReportVerb e = and_left _ _ e ∙ sym (and_left _ _ e)
 stands_same a b c v e = refl
 
 -- so the same form is read in each input
-verb_same : (a b : Form) (c : Section) → are_tasks_due c ≡ false → (ws : List (List ℕ)) → verb_at a c ws ≡ verb_at b c ws
+verb_same : (a b : Form) (c : Section) → are_tasks_due c ≡ false → (ws : List (List ℕ)) → verb_read a c ws ≡ verb_read b c ws
 verb_same a b c e ws = at_verb (verb_on ws)
   where
     behind : Bool → Bool → Verb → Result LineForm Reason
@@ -69,7 +63,7 @@ row_forms s t above below some_rows some_below width ws = from s above some_rows
     from u lines d = ap (λ b. form_at b (told lines).row_width u.form (told lines).section ws) d
 
 -- a line of which the same form is read is good again, where this form passes its tests
-read_again : (s t : Setting) (above below : List LineForm) (line : List ℕ) (f : LineForm) → ((ws : List (List ℕ)) → form_read s.form (told above).section (told above).rows_due (told above).row_width ws ≡ form_read t.form (told below).section (told below).rows_due (told below).row_width ws) → form_tested t (told below) f ≡ Ok tt → line_read s (told above) line ≡ Ok f → line_read t (told below) line ≡ Ok f
+pub read_again : (s t : Setting) (above below : List LineForm) (line : List ℕ) (f : LineForm) → ((ws : List (List ℕ)) → form_read s.form (told above).section (told above).rows_due (told above).row_width ws ≡ form_read t.form (told below).section (told below).rows_due (told below).row_width ws) → form_tested t (told below) f ≡ Ok tt → line_read s (told above) line ≡ Ok f → line_read t (told below) line ≡ Ok f
 read_again s t above below line f same tested read = at_words (words_read line) read
   where
     at_test : (g : LineForm) (r : Result (Unit {0}) Reason) → (r >>= (λ _. Ok g)) ≡ Ok f → (let o : Result LineForm Reason = Ok g in o ≡ Ok f)
@@ -96,20 +90,6 @@ pub spelled_again : HasOneSpelling → (s t : Setting) (above below : List LineF
 spelled_again one s t above below f g same tested =
     let P : List ℕ → Type 0 = λ line. line_read t (told below) line ≡ Ok f in
     subst P (sym (one s above g.line f g.read)) (read_again s t above below g.line f same tested g.read)
-
--- a test that holds is passed
-pass : (b : Bool) (r : Reason) (t : Result (Unit {0}) Reason) → b ≡ true → t ≡ Ok tt → (demand b r >>= (λ _. t)) ≡ Ok tt
-pass true r t e h = h
-pass false r t e h = absurd (false≢true e)
-
-pass_last : (b : Bool) (r : Reason) → b ≡ true → demand b r ≡ Ok tt
-pass_last true r e = refl
-pass_last false r e = absurd (false≢true e)
-
--- A form of which each test holds passes them.
-pub tests_pass : (s : Setting) (above : List LineForm) (f : LineForm) → IsFormTested s above f → form_tested s (told above) f ≡ Ok tt
-tests_pass s above f k =
-    pass _ _ _ k.range (pass _ _ _ (not_from_false _ k.named) (pass _ _ _ (not_from_false _ k.new) (pass _ _ _ k.group (pass _ _ _ k.few (pass _ _ _ (not_from_false _ k.hook) (pass _ _ _ (not_from_false _ k.unused) (pass _ _ _ (not_from_false _ k.padding) (pass_last _ _ (not_from_false _ k.built)))))))))
 
 -- Counts of which all but one are none are few.
 pub few_by_bitmaps : (tasks bitmaps names : List (List ℕ)) (supers calls : ℕ) → tasks ≡ [] → length bitmaps ≤ 16 → names ≡ [] → supers ≡ 0 → calls ≡ 0 → (((nat_le (length tasks) task_limit && nat_le (length bitmaps) bitmap_limit) && nat_le (length names) name_limit) && (nat_le supers super_limit && nat_le calls call_limit)) ≡ true

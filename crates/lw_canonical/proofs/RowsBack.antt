@@ -3,12 +3,13 @@ use Rattle.std.proofs.Common.{◌≡◌, ℕ, zero, suc, ◌+◌, ◌-◌, ◌*�
 use Rattle.std.specs.List.{list_any, range_with_len}
 use Rattle.std.specs.Int.{bit_at}
 use Rattle.lw_planes.specs.Row.{row_bit}
-use Rattle.lw_planes.specs.Bitmap.{Bitmap, pen_at, row_bytes, plane_bit, plane_row}
+use Rattle.lw_planes.specs.Bitmap.{Bitmap, row_bytes, plane_bit, plane_row}
 use Rattle.lw_planes.specs.Storage.{bit_place, stored}
 use Rattle.lw_planes.proofs.PenLaws.{byte_of_same, byte_same}
 use Rattle.lw_planes.proofs.RowLaws.{row_bit_lt, row_bit_at}
 use Rattle.lw_planes.proofs.BitmapLaws.{length_plane_row, plane_row_at}
 use Rattle.lw_planes.proofs.StorageLaws.{bit_stored}
+use Rattle.lw_planes.proofs.DefinitionLaws.{plane_bit_inside, plane_bit_padding}
 use Rattle.lw_calls.specs.declared.reason.Reason.{Reason}
 use Rattle.lw_calls.specs.declared.reason.Reason.TheVariants.{Form as FormReason}
 use Rattle.lw_grammar.specs.Tokens.{Token, token_of, bytes_in}
@@ -88,18 +89,11 @@ byte_small [] i h = omega arith
 byte_small (b ∷ bs) zero h = let small : b ≤ 255 = h.0 in omega arith
 byte_small (b ∷ bs) (suc i) h = byte_small bs i h.1
 
--- a plane's bit in the columns and in the padding
-bit_inside : (b : Bitmap) (k x y : ℕ) → x < b.width → plane_bit b k x y ≡ bit_at (pen_at b x y) k
-bit_inside b k x y left = let bit : ℕ = bit_at (pen_at b x y) k in grind (arith, nat_tests)
-
-bit_padding : (b : Bitmap) (k x y : ℕ) → b.width ≤ x → plane_bit b k x y ≡ 0
-bit_padding b k x y past = let bit : ℕ = bit_at (pen_at b x y) k in grind (arith, nat_tests)
-
 -- A row of a plane of stored bytes is the row whose bits stand there.
 pub row_back : (w h d : ℕ) (bytes : List ℕ) (k y : ℕ) (row : List ℕ) → k < d → y < h → IsRow w row → ((x : ℕ) → x < w → row_bit row x ≡ row_bit bytes (bit_place w h k x y)) → plane_row (stored w h d bytes) k y ≡ row
 row_back w h d bytes k y row deep low r same =
     let b : Bitmap = stored w h d bytes in
     let long : length (plane_row b k y) ≡ row_bytes w = length_plane_row b k y in
-    let bits : (x : ℕ) → x < 8 * row_bytes w → plane_bit b k x y ≡ row_bit row x = λ x in_row. ⊎_elim (λ (left : x < w). bit_inside b k x y left ∙ bit_stored w h d bytes k x y deep left low ∙ sym (same x left)) (λ (past : w ≤ x). bit_padding b k x y past ∙ sym (r.empty x past in_row)) (cases_lt x w) in
+    let bits : (x : ℕ) → x < 8 * row_bytes w → plane_bit b k x y ≡ row_bit row x = λ x in_row. ⊎_elim (λ (left : x < w). plane_bit_inside b k x y left ∙ bit_stored w h d bytes k x y deep left low ∙ sym (same x left)) (λ (past : w ≤ x). plane_bit_padding b k x y past ∙ sym (r.empty x past in_row)) (cases_lt x w) in
     same_number_lists (plane_row b k y) row (long ∙ sym r.long) (λ i high. (let inside : i < row_bytes w = omega (arith, long) in
     plane_row_at b k y i inside ∙ byte_of_same (λ j. plane_bit b k (8 * i + j) y) (λ j. bit_at (slice_index row i) (7 - j)) (λ j few. bits (8 * i + j) (omega (arith, inside, few)) ∙ row_bit_at row i j few) ∙ byte_same (slice_index row i) (byte_small row i r.bytes)))

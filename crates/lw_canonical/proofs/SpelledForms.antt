@@ -13,7 +13,8 @@ use Rattle.lw_grammar.specs.LineForms.{Act, LineForm, RowLine, NumbersLine, four
 use Rattle.lw_calls.specs.Written.{hex_byte}
 use Rattle.lw_canonical.specs.Spelling.{hex_word, text_word, four_words, rect_word, pair_word, call_words, words_of}
 use Rattle.lw_grammar.proofs.ScriptForms.{either_has, map_has}
-use Rattle.lw_canonical.proofs.SpelledNumbers.{is_text, hex_written, found_if}
+use Rattle.lw_grammar.proofs.ScriptNames.{equal_names}
+use Rattle.lw_canonical.proofs.SpelledNumbers.{hex_written, found_if}
 use Rattle.lw_canonical.proofs.SpelledWords.{token_word, AreTokens}
 use Rattle.lw_canonical.proofs.SpelledRanges.{IsSmall, places_small, size_small, register_small, task_small, side_small, depth_small, AreSmall, rect_small, also}
 use Rattle.std.proofs.lemmas.Bool.{and_parts}
@@ -172,7 +173,7 @@ scrollraster_spelt _ = tt
 -- endrefresh L full, endrefresh L part
 pub endrefresh_spelt : (ts : List Token) → IfSome (endrefresh_line ts) (IsSpelt (codes "endrefresh") ts)
 endrefresh_spelt (NameToken l ∷ NameToken how ∷ []) =
-    found_if (IsSpelt (codes "endrefresh") (NameToken l ∷ NameToken how ∷ [])) (bytes_eq how (codes "full")) _ _ (λ e t r. also refl (also refl (also (sym (is_text how (codes "full") e)) refl))) (found_if (IsSpelt (codes "endrefresh") (NameToken l ∷ NameToken how ∷ [])) (bytes_eq how (codes "part")) _ None (λ e t r. also refl (also refl (also (sym (is_text how (codes "part") e)) refl))) tt)
+    found_if (IsSpelt (codes "endrefresh") (NameToken l ∷ NameToken how ∷ [])) (bytes_eq how (codes "full")) _ _ (λ e t r. also refl (also refl (also (sym (equal_names how (codes "full") e)) refl))) (found_if (IsSpelt (codes "endrefresh") (NameToken l ∷ NameToken how ∷ [])) (bytes_eq how (codes "part")) _ None (λ e t r. also refl (also refl (also (sym (equal_names how (codes "part") e)) refl))) tt)
 endrefresh_spelt _ = tt
 
 -- a minterm is written as it was read

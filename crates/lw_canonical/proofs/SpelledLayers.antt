@@ -9,7 +9,8 @@ use Rattle.lw_calls.specs.Limits.{rect_fits}
 use Rattle.lw_grammar.specs.Tokens.{is_a_name, Token, NameToken, NumberToken, TextToken, OddToken}
 use Rattle.lw_grammar.specs.LineForms.{Asked, CreateAct, OpenAct, LineForm, CallLine, four, kind_of, place_of, flag, hook_option, classes_from, asked_classes, ask_option, at_end, asked_plain, create_plain, create_super, create_kind, titled_line, open_plain, open_super, open_kind, asked_line, is_hook_number, is_box, is_line_in_range}
 use Rattle.lw_canonical.specs.Spelling.{text_word, four_words, kind_word, place_word, flag_words, hook_words, set_word, ask_words, words_of}
-use Rattle.lw_canonical.proofs.SpelledNumbers.{is_text, found_if, IsSetOf, set_spelled}
+use Rattle.lw_grammar.proofs.ScriptNames.{equal_names}
+use Rattle.lw_canonical.proofs.SpelledNumbers.{found_if, IsSetOf, set_spelled}
 use Rattle.lw_canonical.proofs.SpelledWords.{token_word, AreTokens}
 use Rattle.lw_canonical.proofs.SpelledRanges.{AreSmall, hook_small, own_small, rect_small, box_small, also}
 use Rattle.lw_canonical.proofs.SpelledForms.{IsSpelt}
@@ -28,7 +29,7 @@ flag_taken w (NameToken n ∷ ts) t = step (bytes_eq n w) refl
     P = λ p. IsTaken (NameToken n ∷ ts) (flag_words w p.0) p.1
 
     step : (b : Bool) → bytes_eq n w ≡ b → P (cond b (true, ts) (false, NameToken n ∷ ts))
-    step true e = (also (is_text n w e) refl, t.1)
+    step true e = (also (equal_names n w e) refl, t.1)
     step false e = (refl, t)
 flag_taken w (NumberToken a z ∷ ts) t = (refl, t)
 flag_taken w (TextToken a ∷ ts) t = (refl, t)
@@ -44,7 +45,7 @@ hook_taken (NameToken n ∷ NumberToken a z ∷ ts) t r = step (bytes_eq n (code
     P = λ p. is_hook_number p.0 ≡ true → IsTaken (NameToken n ∷ NumberToken a z ∷ ts) (hook_words p.0) p.1
 
     step : (b : Bool) → bytes_eq n (codes "hook") ≡ b → P (cond b (Some z, ts) (None, NameToken n ∷ NumberToken a z ∷ ts))
-    step true e k = (also (is_text n (codes "hook") e) (also (sym (t.1.0 (hook_small z k))) refl), t.1.1)
+    step true e k = (also (equal_names n (codes "hook") e) (also (sym (t.1.0 (hook_small z k))) refl), t.1.1)
     step false e k = (refl, t)
 hook_taken (NameToken n ∷ NameToken a ∷ ts) t r = (refl, t)
 hook_taken (NameToken n ∷ TextToken a ∷ ts) t r = (refl, t)
@@ -64,7 +65,7 @@ ask_taken (NameToken n ∷ NameToken set ∷ ts) t = step (bytes_eq n (codes "as
 
     written : bytes_eq n (codes "ask") ≡ true → (c : ℕ) → set_word c ≡ set → (b : Bool) → (c == 0) ≡ b → n ∷ set ∷ map token_word ts ≡ cond b [] (codes "ask" ∷ set_word c ∷ []) ++ map token_word ts
     written e c s true z = absurd (false≢true (ap is_a_name (ap set_word (sym (eqb-true c 0 z)) ∙ s) ∙ t.1.0))
-    written e c s false z = also (is_text n (codes "ask") e) (also (sym s) refl)
+    written e c s false z = also (equal_names n (codes "ask") e) (also (sym s) refl)
 
     found : bytes_eq n (codes "ask") ≡ true → (o : Option ℕ) → IfSome o (IsSetOf 0 set) → P (asked_classes o ts (NameToken n ∷ NameToken set ∷ ts))
     found e None h = (refl, t)
@@ -194,12 +195,12 @@ opened_spelt l place box ts SuperBitmap = super_opened l place box ts
 kind_spelt : (w : List ℕ) → IfSome (kind_of w) (λ kind. w ≡ kind_word kind)
 kind_spelt w =
     let P : Kind → Type 0 = λ kind. w ≡ kind_word kind in
-    found_if P (bytes_eq w (codes "simple")) Simple _ (is_text w (codes "simple")) (found_if P (bytes_eq w (codes "smart")) Smart _ (is_text w (codes "smart")) (found_if P (bytes_eq w (codes "super")) SuperBitmap None (is_text w (codes "super")) tt))
+    found_if P (bytes_eq w (codes "simple")) Simple _ (equal_names w (codes "simple")) (found_if P (bytes_eq w (codes "smart")) Smart _ (equal_names w (codes "smart")) (found_if P (bytes_eq w (codes "super")) SuperBitmap None (equal_names w (codes "super")) tt))
 
 place_spelt : (w : List ℕ) → IfSome (place_of w) (λ place. w ≡ place_word place)
 place_spelt w =
     let P : Place → Type 0 = λ place. w ≡ place_word place in
-    found_if P (bytes_eq w (codes "front")) Front _ (is_text w (codes "front")) (found_if P (bytes_eq w (codes "behind")) Behind None (is_text w (codes "behind")) tt)
+    found_if P (bytes_eq w (codes "front")) Front _ (equal_names w (codes "front")) (found_if P (bytes_eq w (codes "behind")) Behind None (equal_names w (codes "behind")) tt)
 
 -- what is found first, and then next
 then_by : {A B : Type 0} (Q : A → Type 0) (P : B → Type 0) (g : A → Option B) (o : Option A) → IfSome o Q → ((a : A) → Q a → IfSome (g a) P) → IfSome (option_and_then g o) P

@@ -1,5 +1,5 @@
 -- Numbers, hexadecimal digits and sets of classes have one spelling each.
-use Rattle.std.proofs.Common.{◌≡◌, ℕ, zero, suc, ◌+◌, ◌*◌, ◌/◌, ◌%◌, ◌^◌, ◌<◌, ◌≤◌, ◌==◌, min, Bool, true, false, not, ◌&&◌, ◌||◌, cond, nat_le, nat_lt, List, [], ◌∷◌, ◌++◌, ℤ, pos, neg_ℤ, unsigned_abs, codes, bytes_eq, Option, Some, None, option_map, option_and_then, IfSome, refl, sym, ap, ◌∙◌, inl, inr, arith}
+use Rattle.std.proofs.Common.{◌≡◌, ℕ, zero, suc, ◌+◌, ◌*◌, ◌/◌, ◌%◌, ◌^◌, ◌<◌, ◌≤◌, ◌==◌, min, Bool, true, false, not, ◌&&◌, ◌||◌, cond, nat_le, nat_lt, List, [], ◌∷◌, ◌++◌, ℤ, pos, neg_ℤ, unsigned_abs, codes, bytes_eq, Option, Some, None, option_map, option_and_then, IfSome, refl, sym, ap, ◌∙◌, arith}
 use Rattle.std.specs.List.{list_all, range_with_len}
 use Rattle.std.specs.Fmt.{decimal, signed_decimal}
 use Rattle.std.specs.Str.Parse.{digits_value}
@@ -11,10 +11,12 @@ use Rattle.lw_canonical.specs.Spelling.{hex_word, set_word}
 use Rattle.std.proofs.lemmas.Int.{ints}
 use Rattle.std.proofs.lemmas.Fmt.{decimal-digits_value, decimal_digit}
 use Rattle.std.proofs.lemmas.Str.Parse.{IsDigitsTest, numerals_by_value}
-use Rattle.std.specs.Cmp.Lexicographic.{same_text}
-use Rattle.std.proofs.lemmas.Bool.{false≢true, eqb-true, leb-true, ltb-true, le-leb, and_parts, and_from, cases_lt}
+use Rattle.std.proofs.lemmas.Bool.{false≢true, eqb-true, leb-true, ltb-true, le-leb, and_parts, and_from}
 use Rattle.std.proofs.lemmas.Bool.Decides.{nat_tests}
-use Rattle.lw_grammar.proofs.ScriptForms.{map_has}
+use Rattle.lw_calls.proofs.OrdersComplete.{all_below}
+use Rattle.lw_grammar.proofs.ScriptForms.{map_has, hex_small}
+use Rattle.lw_grammar.proofs.ScriptNames.{equal_names}
+use Rattle.std.proofs.Math.Bool.{or-false}
 
 -- each of these is a decimal digit
 abbrev AreDigits : List ℕ → Type 0
@@ -53,15 +55,6 @@ abs_minus : (n : ℕ) → unsigned_abs (neg_ℤ (pos n)) ≡ n
 abs_minus zero = refl
 abs_minus (suc n) = refl
 
--- bytes that the test finds equal are
-pub is_text : (w v : List ℕ) → bytes_eq w v ≡ true → w ≡ v
-is_text w v e = same_text w v (sym e)
-
--- a test that holds, or one that doesn't
-or_none : (b : Bool) → (b || false) ≡ true → b ≡ true
-or_none true e = refl
-or_none false e = e
-
 -- The number that a word counts is written so, where it lies below the cap.
 pub number_spelled : (w : List ℕ) → is_a_number w ≡ true → unsigned_abs (value_of_number w) < cap → signed_decimal (value_of_number w) ≡ w
 number_spelled [] e small = absurd (false≢true e)
@@ -74,9 +67,9 @@ number_spelled (b ∷ ds) e small = at_minus (is_below_zero (b ∷ ds)) refl sma
 
     zero_or : (t : Bool) → bytes_eq (b ∷ ds) (codes "0") ≡ t → (t || (is_above_zero (b ∷ ds) || false)) ≡ true → capped (b ∷ ds) < cap → decimal (capped (b ∷ ds)) ≡ b ∷ ds
     zero_or true z h low =
-        let is : b ∷ ds ≡ codes "0" = is_text (b ∷ ds) (codes "0") z in
+        let is : b ∷ ds ≡ codes "0" = equal_names (b ∷ ds) (codes "0") z in
         ap (λ w. decimal (capped w)) is ∙ (decimal_digit 0 (omega arith) ∙ sym is)
-    zero_or false z h low = above (or_none (is_above_zero (b ∷ ds)) h) low
+    zero_or false z h low = above (sym (or-false (is_above_zero (b ∷ ds))) ∙ h) low
 
     at_minus : (t : Bool) → is_below_zero (b ∷ ds) ≡ t → unsigned_abs (cond t (neg_ℤ (pos (capped ds))) (pos (capped (b ∷ ds)))) < cap → signed_decimal (cond t (neg_ℤ (pos (capped ds))) (pos (capped (b ∷ ds)))) ≡ b ∷ ds
     at_minus true m low =
@@ -96,10 +89,6 @@ small_in low z high h a b = grind (arith, ints, nat_tests)
 hex_digit_spelled : (b : ℕ) → is_hex b ≡ true → hex_digit (hex_value b) ≡ b
 hex_digit_spelled b h = grind (arith, nat_tests)
 
--- a hexadecimal digit counts at most 15
-hex_low : (b : ℕ) → is_hex b ≡ true → hex_value b ≤ 15
-hex_low b h = grind (arith, nat_tests)
-
 -- two digits of a byte
 quotient : (x y : ℕ) → y ≤ 15 → ((x * 16) + y) / 16 ≡ x
 quotient x y h = omega arith
@@ -110,7 +99,7 @@ remainder x y h = omega arith
 byte_spelled : (a b : ℕ) → (is_hex a && is_hex b) ≡ true → hex_byte ((hex_value a * 16) + hex_value b) ≡ a ∷ b ∷ []
 byte_spelled a b h =
     let k = and_parts (is_hex a) (is_hex b) h in
-    let low = hex_low b k.1 in
+    let low = hex_small b k.1 in
     rw (quotient (hex_value a) (hex_value b) low, remainder (hex_value a) (hex_value b) low, hex_digit_spelled a k.0, hex_digit_spelled b k.1) refl
 
 -- The bytes that digits spell are written so.
@@ -144,16 +133,6 @@ all_go_before = refl
 all_empty : list_all (λ least. 0 % 2 ^ least == 0) (range_with_len 0 6) ≡ true
 all_empty = refl
 
--- what holds of all numbers of a range holds of each
-of_range : (test : ℕ → Bool) (a n i : ℕ) → list_all test (range_with_len a n) ≡ true → a ≤ i → i < a + n → test i ≡ true
-of_range test a zero i e low high = absurd (omega arith)
-of_range test a (suc n) i e low high =
-    let k = and_parts (test a) (list_all test (range_with_len (a + 1) n)) e in
-    elim (cases_lt a i) [
-      | inl more ↦ of_range test (a + 1) n i k.1 (omega arith) (omega arith)
-      | inr same ↦ let is : a ≡ i = omega arith in ap test (sym is) ∙ k.0
-    ]
-
 -- of two tests of which the first fails, the second holds
 second : (b c : Bool) → (not b || c) ≡ true → b ≡ true → c ≡ true
 second true c e h = e
@@ -166,14 +145,14 @@ IsSetOf least letters c = (c < 32) × ((c % 2 ^ least == 0) ≡ true) × (set_wo
 -- a set with one class more
 with_class : (least k b c : ℕ) (bs : List ℕ) → least ≤ k → k < 5 → letter k ≡ b → IsSetOf (k + 1) bs c → IsSetOf least (b ∷ bs) (2 ^ k + c)
 with_class least k b c bs low high is h =
-    let row = of_range (λ j. list_all (goes_before j) (range_with_len 0 32)) 0 5 k all_go_before (omega arith) (omega arith) in
-    let one = of_range (goes_before k) 0 32 c row (omega arith) (omega (arith, h.0)) in
+    let row = all_below (λ j. list_all (goes_before j) (range_with_len 0 32)) 5 k all_go_before high in
+    let one = all_below (goes_before k) 32 c row h.0 in
     let told = second (c % 2 ^ (k + 1) == 0) _ one h.1 in
     let parts = and_parts (bytes_eq (set_word (2 ^ k + c)) (letter k ∷ set_word c)) _ told in
     let rest = and_parts (nat_lt (2 ^ k + c) 32) _ parts.1 in (
       ltb-true (2 ^ k + c) 32 rest.0,
-      of_range (λ j. (2 ^ k + c) % 2 ^ j == 0) 0 (k + 1) least rest.1 (omega arith) (omega arith),
-      is_text (set_word (2 ^ k + c)) (letter k ∷ set_word c) parts.0 ∙ (ap (λ l. l ∷ set_word c) is ∙ ap (λ l. b ∷ l) h.2),
+      all_below (λ j. (2 ^ k + c) % 2 ^ j == 0) (k + 1) least rest.1 (omega arith),
+      equal_names (set_word (2 ^ k + c)) (letter k ∷ set_word c) parts.0 ∙ (ap (λ l. l ∷ set_word c) is ∙ ap (λ l. b ∷ l) h.2),
     )
 
 -- what a test finds has what holds of it where the test does
@@ -191,7 +170,7 @@ class_spelled b =
 
 -- The set that letters stand for is written so.
 pub set_spelled : (least : ℕ) (bs : List ℕ) → least ≤ 5 → IfSome (classes_from least bs) (IsSetOf least bs)
-set_spelled least [] h = (omega arith, of_range (λ j. 0 % 2 ^ j == 0) 0 6 least all_empty (omega arith) (omega arith), refl)
+set_spelled least [] h = (omega arith, all_below (λ j. 0 % 2 ^ j == 0) 6 least all_empty (omega arith), refl)
 set_spelled least (b ∷ bs) h = at_class (class_of b) (class_spelled b) (λ k small. set_spelled (k + 1) bs (omega (arith, small)))
   where
     at_class : (o : Option ℕ) → IfSome o (IsLetter b) → ((k : ℕ) → k < 5 → IfSome (classes_from (k + 1) bs) (IsSetOf (k + 1) bs)) → IfSome (option_and_then (λ k. cond (nat_le least k) (option_map (λ rest. 2 ^ k + rest) (classes_from (k + 1) bs)) None) o) (IsSetOf least (b ∷ bs))

@@ -3,7 +3,8 @@ use Rattle.std.proofs.Common.{◌≡◌, ℕ, List, codes, bytes_eq, cond, Optio
 use Rattle.lw_grammar.specs.declared.verb.Verb.{Verb}
 use Rattle.lw_grammar.specs.declared.verb.Verb.TheVariants.{Screen as ScreenVerb, Glyph as GlyphVerb, Bitmap as BitmapVerb, Task as TaskVerb, End as EndVerb, Order as OrderVerb, Report as ReportVerb, Lock as LockVerb, Unlock as UnlockVerb, Hold as HoldVerb, Release as ReleaseVerb, Refresh as RefreshVerb, EndRefresh as EndRefreshVerb, OrRect as OrRectVerb, AndRect as AndRectVerb, XorRect as XorRectVerb, ClearRect as ClearRectVerb, OrRegion as OrRegionVerb, AndRegion as AndRegionVerb, XorRegion as XorRegionVerb, ClearRegion as ClearRegionVerb, Create as CreateVerb, Open as OpenVerb, Close as CloseVerb, Front as FrontVerb, Behind as BehindVerb, InFront as InFrontVerb, Move as MoveVerb, Size as SizeVerb, Box as BoxVerb, Activate as ActivateVerb, Which as WhichVerb, Title as TitleVerb, GetMsg as GetMsgVerb, APen as APenVerb, BPen as BPenVerb, Mode as ModeVerb, Mask as MaskVerb, At as AtVerb, Write as WriteVerb, Read as ReadVerb, Fill as FillVerb, Draw as DrawVerb, Text as TextVerb, SetRast as SetRastVerb, ScrollRaster as ScrollRasterVerb, Put as PutVerb, Blit as BlitVerb, Clip as ClipVerb, Unclip as UnclipVerb, Scroll as ScrollVerb}
 use Rattle.lw_grammar.specs.Verbs.{or_next, part_verb, group_verb, region_verb, arrangement_verb, state_verb, drawing_verb, clip_verb, verb_of}
-use Rattle.lw_canonical.proofs.SpelledNumbers.{is_text, found_if}
+use Rattle.lw_grammar.proofs.ScriptNames.{equal_names}
+use Rattle.lw_canonical.proofs.SpelledNumbers.{found_if}
 
 -- the word of a verb
 abbrev pub verb_word : Verb → List ℕ
@@ -65,7 +66,7 @@ IsWordOf w v = w ≡ verb_word v
 
 -- a word that is a verb's, or else what is found behind
 this_or : (w : List ℕ) (v : Verb) (o : Option Verb) → IfSome o (IsWordOf w) → IfSome (cond (bytes_eq w (verb_word v)) (Some v) o) (IsWordOf w)
-this_or w v o h = found_if (IsWordOf w) (bytes_eq w (verb_word v)) v o (is_text w (verb_word v)) h
+this_or w v o h = found_if (IsWordOf w) (bytes_eq w (verb_word v)) v o (equal_names w (verb_word v)) h
 
 -- what is found, or else what is found next
 next_has : {A : Type 0} (P : A → Type 0) (o next : Option A) → IfSome o P → IfSome next P → IfSome (or_next o next) P

@@ -5,22 +5,18 @@ use Rattle.lw_planes.proofs.GridLaws.{map_range_same}
 use Rattle.lw_calls.specs.declared.form.Form.TheVariants.{Plain}
 use Rattle.lw_grammar.specs.LineForms.{LineForm, ScreenLine, GlyphLine, BitmapLine, RowLine, TaskLine, EndLine, OrderLine, NumbersLine, ReportLine, CallLine, LockLine, UnlockLine, HoldLine, ReleaseLine}
 use Rattle.lw_grammar.specs.Told.{Section, ScreenIsDue, AssetsAreDue, CallsAreDue, TasksAreDue, NumbersAreDue, NothingIsDue, told, plan_of}
-use Rattle.lw_grammar.specs.Script.{Setting, is_skipped, are_assets_due, are_calls_due, are_tasks_due, is_nothing_due, line_read, may_end, IsGoodLine, AreGoodLines}
+use Rattle.lw_grammar.specs.Script.{Setting, are_assets_due, are_calls_due, are_tasks_due, is_nothing_due, line_read, may_end, IsGoodLine, AreGoodLines}
 use Rattle.lw_canonical.specs.Spelling.{spelled}
 use Rattle.lw_canonical.specs.Canonical.{lines_of_glyph}
 use Rattle.lw_grammar.proofs.ScriptOutcome.{rows_in_assets}
-use Rattle.lw_grammar.proofs.ScriptSizes.{here, tests, has_begun, has_screen, begun_tasks, MayEnd, whole_ends}
+use Rattle.lw_grammar.proofs.ScriptSizes.{here, tests, has_begun, has_screen, in_assets, begun_tasks, MayEnd, whole_ends}
 use Rattle.lw_canonical.proofs.Rearranged.{is_of_tasks, is_of_bitmaps, glyphs_in_order, screen_line_of, base_of, alone, AreSpelled, HasOneSpelling, IsBaseOf}
-use Rattle.lw_canonical.proofs.NotionsAlike.{bare, section_alone, AreAlike, base_below, assets_are, calls_screen, numbers_screen, order_screen, report_screen, alike}
+use Rattle.lw_canonical.proofs.ReadsAgain.{isnt_passed}
+use Rattle.lw_canonical.proofs.NotionsAlike.{bare, section_alone, AreAlike, base_below, calls_screen, numbers_screen, order_screen, report_screen, alike}
 use Rattle.lw_canonical.proofs.TaskLineAlone.{task_not_skipped, is_inner, inner, read_alone}
 use Rattle.std.proofs.lemmas.Bool.{true≢false, false≢true, ltb-true, and_parts, and_from}
 use Rattle.std.proofs.lemmas.List.Folds.{list_all-append}
 use Rattle.std.proofs.lemmas.Grind.{reverse_onto}
-
--- neither test holds
-neither : (a b : Bool) → a ≡ false → b ≡ false → (a || b) ≡ false
-neither true b e h = absurd (true≢false e)
-neither false b e h = h
 
 -- a good line of tasks is spelled over what stands below it
 one_more : HasOneSpelling → (s : Setting) (above new : List LineForm) (f : LineForm) → AreGoodLines s (f ∷ above) → is_of_tasks f ≡ true → ((told above).rows_due == 0) ≡ true → is_inner (told above).section ≡ true → AreAlike above new → AreSpelled (alone s) new → AreSpelled (alone s) (f ∷ new)
@@ -31,7 +27,7 @@ one_more one s above new f g o e c a spelled_below =
     let i = inner (told above).section c in
     let section : (told new).section ≡ (told above).section = a.section ∙ i.same in
     let here_too : is_nothing_due (told new).section ≡ false = ap is_nothing_due section ∙ i.nothing in
-    (read_alone s above new f (spelled f) o e c a (tests s above f g) read, neither (is_skipped (spelled f)) _ (task_not_skipped f o) here_too, spelled_below)
+    (read_alone s above new f (spelled f) o e c a (tests s above f g) read, isnt_passed new (spelled f) (task_not_skipped f o) here_too, spelled_below)
 
 -- where a line of a task stands, calls are due
 calls_inner : (c : Section) → are_calls_due c ≡ true → is_inner c ≡ true
@@ -66,11 +62,11 @@ tasks_over : HasOneSpelling → (s : Setting) (above base : List LineForm) → A
 tasks_over one s [] base g e few b k = absurd (false≢true e)
 tasks_over one s (ScreenLine w h d ∷ above) base g e few b k = assets_over s (ScreenLine w h d ∷ above) base g refl k
 tasks_over one s (GlyphLine code rows ∷ above) base g e few b k =
-    assets_over s (GlyphLine code rows ∷ above) base g (assets_are (told above).section (here s above (GlyphLine code rows) g).1) k
+    assets_over s (GlyphLine code rows ∷ above) base g (in_assets (told above).section (here s above (GlyphLine code rows) g).1) k
 tasks_over one s (BitmapLine name w h d ∷ above) base g e few b k =
-    assets_over s (BitmapLine name w h d ∷ above) base g (assets_are (told above).section (here s above (BitmapLine name w h d) g).1) k
+    assets_over s (BitmapLine name w h d ∷ above) base g (in_assets (told above).section (here s above (BitmapLine name w h d) g).1) k
 tasks_over one s (RowLine bytes ∷ above) base g e few b k =
-    assets_over s (RowLine bytes ∷ above) base g (assets_are (told above).section (rows_in_assets s above g.1 (here s above (RowLine bytes) g).0)) k
+    assets_over s (RowLine bytes ∷ above) base g (in_assets (told above).section (rows_in_assets s above g.1 (here s above (RowLine bytes) g).0)) k
 tasks_over one s (TaskLine name ∷ above) base g e few b k =
     let h = here s above (TaskLine name) g in
     let first = first_here s above name g few in

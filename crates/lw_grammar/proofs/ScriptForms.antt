@@ -97,7 +97,7 @@ map_has Q P g None q h = tt
 map_has Q P g (Some a) q h = h a q
 
 -- a hexadecimal digit counts at most 15
-hex_small : (b : ℕ) → is_hex b ≡ true → hex_value b ≤ 15
+pub hex_small : (b : ℕ) → is_hex b ≡ true → hex_value b ≤ 15
 hex_small b h = grind (arith, nat_tests)
 
 -- each of these is a byte

@@ -13,6 +13,7 @@ use Rattle.lw_grammar.specs.Told.{place_among, spelled_call}
 use Rattle.lw_grammar.specs.Script.{is_arranging, is_beginning, is_ending, are_all, is_on_one}
 use Rattle.lw_grammar.proofs.ScriptNames.{equal_names}
 use Rattle.std.proofs.lemmas.Bool.{true≢false, false≢true, lt-ltb, le-leb, ltb-true, leb-true, eq-eqb, and_parts, and_from, or_left, or_right, not-true}
+use Rattle.std.proofs.lemmas.List.Folds.{list_all-append}
 use Rattle.std.proofs.lemmas.List.{take_all, take-append-le, drop-append-le}
 
 -- an act begins an update, or ends one, just where its call does
@@ -143,8 +144,7 @@ to_the_end calls first last hold order end stands =
 
 -- of all calls and one more each passes
 pub all_pushed : (p : Call → Bool) (cs : List Call) (c : Call) → list_all p cs ≡ true → p c ≡ true → list_all p (cs ++ c ∷ []) ≡ true
-all_pushed p [] c h k = and_from _ _ k refl
-all_pushed p (d ∷ ds) c h k = let halves = and_parts (p d) _ h in and_from _ _ halves.0 (all_pushed p ds c halves.1 k)
+all_pushed p cs c h k = list_all-append p cs (c ∷ []) ∙ and_from _ _ h (and_from _ _ k refl)
 
 -- calls that may be locked and then an end of the update end it
 update_ends : (s : ℕ) (cs : List Call) (c : Call) → list_all (may_be_locked s) cs ≡ true → (is_one s (slots_of c) && ends_update c) ≡ true → end_an_update s (cs ++ c ∷ []) ≡ true

@@ -2,7 +2,8 @@
 use Rattle.std.proofs.Common.{◌≡◌, ℕ, zero, suc, ◌+◌, ◌<◌, ◌≤◌, Bool, true, false, not, cond, ◌||◌, List, [], ◌∷◌, ◌++◌, length, map, slice_index, bytes_eq, refl, ap, ◌∙◌, arith, length-append}
 use Rattle.std.specs.List.{list_any, position_or_len}
 use Rattle.lw_grammar.specs.Told.{and_name, and_names, place_among}
-use Rattle.std.proofs.lemmas.Bool.{false≢true, or_right}
+use Rattle.std.proofs.lemmas.Bool.{false≢true, or_left, or_right}
+use Rattle.std.proofs.lemmas.List.Folds.{list_any-append}
 use Rattle.std.proofs.lemmas.Slice.Eq.{bytes_eq-Decides}
 
 -- a name is the same as itself, and names that are the same are equal
@@ -25,16 +26,10 @@ place_below p (n ∷ ns) h =
 
 -- a name put at the end is among the names, and those before it are too, at their places
 any_push : (p : List ℕ → Bool) (names : List (List ℕ)) (n : List ℕ) → p n ≡ true → list_any p (names ++ n ∷ []) ≡ true
-any_push p [] n h = rw h refl
-any_push p (m ∷ ms) n h = or_right (p m) _ (any_push p ms n h)
+any_push p names n h = list_any-append p names (n ∷ []) ∙ or_right _ _ (or_left (p n) false h)
 
 pub any_before : (p : List ℕ → Bool) (names more : List (List ℕ)) → list_any p names ≡ true → list_any p (names ++ more) ≡ true
-any_before p [] more h = absurd (false≢true h)
-any_before p (m ∷ ms) more h = step (p m) h (any_before p ms more)
-  where
-    step : (b : Bool) → (b || list_any p ms) ≡ true → (list_any p ms ≡ true → list_any p (ms ++ more) ≡ true) → (b || list_any p (ms ++ more)) ≡ true
-    step true e go = refl
-    step false e go = go e
+any_before p names more h = list_any-append p names more ∙ or_left _ _ h
 
 pub place_before : (p : List ℕ → Bool) (names more : List (List ℕ)) → list_any p names ≡ true → position_or_len p (names ++ more) ≡ position_or_len p names
 place_before p [] more h = absurd (false≢true h)

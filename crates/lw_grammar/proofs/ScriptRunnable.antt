@@ -8,7 +8,7 @@ use Rattle.lw_grammar.specs.Told.{told, plan_of}
 use Rattle.lw_grammar.specs.Script.{Setting, are_assets_due, may_end, ScriptInput, input_from, SpellsInput, IsRunnableInput, AreGoodLines}
 use Rattle.lw_grammar.proofs.ScriptOutcome.{rows_in_assets, of_lines}
 use Rattle.lw_grammar.proofs.ScriptSizes.{counted, has_screen, when, sized, begun_tasks, one_task, whole_ends, all_glyphs, none_due, bitmaps_made, bitmaps_named, order_small}
-use Rattle.lw_grammar.proofs.ScriptTasks.{view_of, IsTaskFit, HaveBegun, TasksAre, tasks_fit, calls_listed, groups_listed, zip_at, zip_first, every_task, no_task}
+use Rattle.lw_grammar.proofs.ScriptTasks.{view_of, IsTaskFit, HaveBegun, TasksAre, tasks_fit, calls_listed, groups_listed, zip_at, zip_first, every_task, nothing_fits}
 use Rattle.std.proofs.lemmas.Bool.{eqb-true, ltb-true}
 
 -- no rows are due where no bitmap may stand
@@ -59,7 +59,7 @@ runs_from_good s above place g e =
         };
         few = zip_first (IsTaskFit z) (λ calls. length calls ≤ call_limit) _ _ (λ calls groups h. h.few) fits;
         fit = zip_first (IsTaskFit z) (λ calls. All (λ c. IsTrue (call_fits z c)) calls) _ _ (λ calls groups h. h.fit) fits;
-        groups = λ task. (zip_at (IsTaskFit z) _ _ [] [] fits (no_task z) task).grouped;
+        groups = λ task. (zip_at (IsTaskFit z) _ _ [] [] fits (nothing_fits z) task).grouped;
       };
       hooks = refl;
       built = zip_first (IsTaskFit z) (λ calls. All (λ c. IsTrue (is_built c)) calls) _ _ (λ calls groups h. h.built) fits;

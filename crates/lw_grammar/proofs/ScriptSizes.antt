@@ -16,7 +16,7 @@ use Rattle.lw_grammar.specs.Script.{Setting, is_screen_due, are_assets_due, are_
 use Rattle.lw_grammar.proofs.ScriptForms.{IsFormHere}
 use Rattle.lw_grammar.proofs.ScriptOutcome.{good_line}
 use Rattle.lw_grammar.proofs.ScriptCalls.{in_range, size_range}
-use Rattle.std.proofs.lemmas.Bool.{true≢false, false≢true, not-true, eqb-true, leb-true, lt-ltb, and_parts}
+use Rattle.std.proofs.lemmas.Bool.{true≢false, false≢true, not-true, not_from_false, eqb-true, leb-true, lt-ltb, and_parts}
 use Rattle.std.proofs.lemmas.List.Elements.{All-nil, All-cons, All-append, All-push, All-map}
 
 -- each test of a good line's form
@@ -64,6 +64,21 @@ tests_passed s above f h =
       padding = not-true _ j.0;
       built = not-true _ k;
     }
+
+-- a test that holds is passed
+pass : (b : Bool) (r : Reason) (t : Result (Unit {0}) Reason) → b ≡ true → t ≡ Ok tt → (demand b r >>= (λ _. t)) ≡ Ok tt
+pass true r t e h = h
+pass false r t e h = absurd (false≢true e)
+
+-- so is the last one
+pass_last : (b : Bool) (r : Reason) → b ≡ true → demand b r ≡ Ok tt
+pass_last true r e = refl
+pass_last false r e = absurd (false≢true e)
+
+-- a form of which each test holds passes them
+pub tests_pass : (s : Setting) (above : List LineForm) (f : LineForm) → IsFormTested s above f → form_tested s (told above) f ≡ Ok tt
+tests_pass s above f k =
+    pass _ _ _ k.range (pass _ _ _ (not_from_false _ k.named) (pass _ _ _ (not_from_false _ k.new) (pass _ _ _ k.group (pass _ _ _ k.few (pass _ _ _ (not_from_false _ k.hook) (pass _ _ _ (not_from_false _ k.unused) (pass _ _ _ (not_from_false _ k.padding) (pass_last _ _ (not_from_false _ k.built)))))))))
 
 -- what the nearest of good lines is good for, and its tests
 pub here : (s : Setting) (above : List LineForm) (f : LineForm) → AreGoodLines s (f ∷ above) → IsFormHere s above f
@@ -117,17 +132,17 @@ has_screen NumbersAreDue = true
 has_screen NothingIsDue = true
 
 -- which section a line stands in, by the test for it
-pub in_screen : (s : Section) → is_screen_due s ≡ true → has_begun s ≡ false
+pub in_screen : (s : Section) → is_screen_due s ≡ true → s ≡ ScreenIsDue
 in_screen ScreenIsDue e = refl
-in_screen AssetsAreDue e = refl
+in_screen AssetsAreDue e = absurd (false≢true e)
 in_screen CallsAreDue e = absurd (false≢true e)
 in_screen TasksAreDue e = absurd (false≢true e)
 in_screen NumbersAreDue e = absurd (false≢true e)
 in_screen NothingIsDue e = absurd (false≢true e)
 
-pub in_assets : (s : Section) → are_assets_due s ≡ true → (has_screen s ≡ true) × (has_begun s ≡ false)
+pub in_assets : (s : Section) → are_assets_due s ≡ true → s ≡ AssetsAreDue
 in_assets ScreenIsDue e = absurd (false≢true e)
-in_assets AssetsAreDue e = (refl, refl)
+in_assets AssetsAreDue e = refl
 in_assets CallsAreDue e = absurd (false≢true e)
 in_assets TasksAreDue e = absurd (false≢true e)
 in_assets NumbersAreDue e = absurd (false≢true e)
@@ -148,6 +163,14 @@ in_tasks CallsAreDue e = absurd (false≢true e)
 in_tasks TasksAreDue e = refl
 in_tasks NumbersAreDue e = absurd (false≢true e)
 in_tasks NothingIsDue e = absurd (false≢true e)
+
+pub in_numbers : (s : Section) → are_numbers_due s ≡ true → s ≡ NumbersAreDue
+in_numbers ScreenIsDue e = absurd (false≢true e)
+in_numbers AssetsAreDue e = absurd (false≢true e)
+in_numbers CallsAreDue e = absurd (false≢true e)
+in_numbers TasksAreDue e = absurd (false≢true e)
+in_numbers NumbersAreDue e = refl
+in_numbers NothingIsDue e = absurd (false≢true e)
 
 pub in_assets_or_tasks : (s : Section) → (are_assets_due s || are_tasks_due s) ≡ true → has_screen s ≡ true
 in_assets_or_tasks ScreenIsDue e = absurd (false≢true e)
@@ -189,7 +212,7 @@ pub begun_tasks : (s : Setting) (above : List LineForm) → AreGoodLines s above
 begun_tasks s [] g = refl
 begun_tasks s (ScreenLine w h d ∷ above) g =
     let P : Bool → Type 0 = λ b. cond b (nat_lt 0 (length (told above).tasks)) (length (told above).tasks == 0) ≡ true in
-    subst P (in_screen (told above).section (here s above (ScreenLine w h d) g).1) (begun_tasks s above g.1)
+    subst P (ap has_begun (in_screen (told above).section (here s above (ScreenLine w h d) g).1)) (begun_tasks s above g.1)
 begun_tasks s (TaskLine name ∷ above) g = lt-ltb 0 _ (omega (arith, length-append (told above).tasks (name ∷ [])))
 begun_tasks s (EndLine ∷ above) g =
     let P : Section → Type 0 = λ c. cond (has_begun c) (nat_lt 0 (length (told above).tasks)) (length (told above).tasks == 0) ≡ true in
@@ -289,7 +312,7 @@ pub none_due : (above : List LineForm) → (told above).rows_due ≡ 0 → 0 ≡
 none_due above e = sym (zero-mul (row_bytes (told above).row_width)) ∙ ap (λ k. k * row_bytes (told above).row_width) (sym e)
 
 -- a row less is due
-row_less : (due n bytes rows : ℕ) → (due == 0) ≡ false → bytes ≡ n → rows ≡ (due - 1) * n → bytes + rows ≡ due * n
+pub row_less : (due n bytes rows : ℕ) → (due == 0) ≡ false → bytes ≡ n → rows ≡ (due - 1) * n → bytes + rows ≡ due * n
 row_less zero n bytes rows e h k = absurd (true≢false e)
 row_less (suc due) n bytes rows e h k =
     let less : suc due - 1 ≡ due = omega arith in

@@ -123,7 +123,7 @@ none_open None h = refl
 none_open (Some g) h = absurd (false≢true h)
 
 -- no calls fit
-nothing_fits : (z : Sizes) → IsTaskFit z [] []
+pub nothing_fits : (z : Sizes) → IsTaskFit z [] []
 nothing_fits z = record { few = omega arith; fit = All-nil _; built = All-nil _; grouped = refl }
 
 -- no calls have been made in a task that has just begun
@@ -543,7 +543,3 @@ every_task z v b =
     let P : List (List Call) → Type 0 = λ lists. AllZip (IsTaskFit z) lists v.groups in
     let Q : List (List Group) → Type 0 = λ lists. AllZip (IsTaskFit z) (b.done ++ b.calls ∷ []) lists in
     subst P (sym b.all_are) (subst Q (sym b.groups_are) (zip_pushed (IsTaskFit z) b.done b.done_groups b.calls b.groups b.done_fit b.now.fits))
-
--- a task that a plan hasn't got fits
-pub no_task : (z : Sizes) → IsTaskFit z [] []
-no_task z = nothing_fits z
