@@ -12,7 +12,7 @@ use Rattle.lw_lines.specs.declared.form.NumberAct.TheVariants.{APen, BPen, Mode,
 use Rattle.lw_lines.specs.declared.form.PairAct.{PairAct}
 use Rattle.lw_lines.specs.declared.form.PairAct.TheVariants.{Move}
 use Rattle.lw_lines.specs.FormMeaning.{number_meaning, pair_meaning, act_meaning}
-use Rattle.lw_words.proofs.HexDigits.{both}
+use Rattle.std.proofs.lemmas.Bool.{and_parts}
 use Rattle.std.proofs.lemmas.Int.{ints}
 use Rattle.std.proofs.lemmas.Bool.Decides.{nat_tests}
 
@@ -55,5 +55,5 @@ pair_call bitmaps act a x y slots call e h d =
     let Q : Act → Type 0 = λ x. call ≡ spelled_call bitmaps (act_meaning x) slots in
     let R : ℤ → Type 0 = λ z. call ≡ spelled_call bitmaps (pair_meaning a z (to_z w64 (of_z w64 y))) slots in
     let S : ℤ → Type 0 = λ z. call ≡ spelled_call bitmaps (pair_meaning a x z) slots in
-    let range = both (is_coordinate x) (is_coordinate y) (pair_places a x y (subst P e h)) in
+    let range = and_parts (is_coordinate x) (is_coordinate y) (pair_places a x y (subst P e h)) in
     subst Q (sym e) (subst S (placed_64 y range.1) (subst R (placed_64 x range.0) d))

@@ -1,32 +1,25 @@
 -- Sets of classes of messages, letter by letter.
-use Rattle.std.proofs.Common.{◌≡◌, ℕ, zero, suc, ◌+◌, ◌*◌, ◌%◌, ◌^◌, ◌<◌, ◌≤◌, nat_le, true, false, List, ◌∷◌, length, drop, get_or, drop-cons, add-one, Option, Some, None, option_map, refl, sym, ap, subst, ◌∙◌, arith}
+use Rattle.std.proofs.Common.{◌≡◌, ℕ, zero, suc, ◌+◌, ◌*◌, ◌%◌, ◌^◌, ◌<◌, ◌≤◌, List, ◌∷◌, length, drop, get_or, drop-cons, add-one, Option, Some, None, option_map, refl, sym, ap, subst, ◌∙◌, arith}
 use Rattle.lw_grammar.specs.LineForms.{class_of, classes_from}
 use native.Mathlib.Numerals.{unary_clauses}
 use Rattle.std.proofs.Math.Pow.{pow_mono}
-use Rattle.std.proofs.lemmas.Bool.Decides.{nat_tests}
+use Rattle.std.proofs.lemmas.Bool.{le-leb, lt-leb}
 
 -- a sum of three
 regroup : (n m : ℕ) (o : Option ℕ) → option_map (λ r. n + r) (option_map (λ r. m + r) o) ≡ option_map (λ r. (n + m) + r) o
 regroup n m None = refl
 regroup n m (Some r) = let e : n + (m + r) ≡ (n + m) + r = omega arith in ap Some e
 
--- a test that holds, and one that doesn't
-holds : (a b : ℕ) → a ≤ b → nat_le a b ≡ true
-holds a b h = grind (arith, nat_tests)
-
-fails : (a b : ℕ) → b < a → nat_le a b ≡ false
-fails a b h = grind (arith, nat_tests)
-
 -- a letter whose class comes next
 more_classes : (n least b k : ℕ) (bs : List ℕ) → class_of b ≡ Some k → least ≤ k → option_map (λ r. n + r) (classes_from least (b ∷ bs)) ≡ option_map (λ r. (n + 2 ^ k) + r) (classes_from (k + 1) bs)
-more_classes n least b k bs e h = rw (e, holds least k h) (regroup n (2 ^ k) (classes_from (k + 1) bs))
+more_classes n least b k bs e h = rw (e, le-leb least k h) (regroup n (2 ^ k) (classes_from (k + 1) bs))
 
 -- a letter without a class, and one whose class came before
 no_class : (n least b : ℕ) (bs : List ℕ) → class_of b ≡ None → option_map (λ r. n + r) (classes_from least (b ∷ bs)) ≡ None
 no_class n least b bs e = rw e refl
 
 late_class : (n least b k : ℕ) (bs : List ℕ) → class_of b ≡ Some k → k < least → option_map (λ r. n + r) (classes_from least (b ∷ bs)) ≡ None
-late_class n least b k bs e h = rw (e, fails least k h) refl
+late_class n least b k bs e h = rw (e, lt-leb least k h) refl
 
 -- a class as one bit of a byte
 bit_of_class : (k : ℕ) → k ≤ 4 → (1 * 2 ^ k) % 256 ≡ 2 ^ k

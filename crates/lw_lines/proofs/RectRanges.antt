@@ -2,7 +2,7 @@
 use Rattle.std.proofs.Common.{◌≡◌, true, ℤ, pos, negsuc, ◌≤ℤ◌, ◌+ℤ◌, ◌-ℤ◌, to_z, of_z, w16, w32, w64, Option, Some, None, SomeIff, IsSome, IsTrue, sym, subst, ◌∙◌, arith, rules}
 use Rattle.lw_region.specs.Rectangle.{Rectangle, IsOrdered, within}
 use Rattle.lw_calls.specs.Limits.{is_coordinate, axis_fits, rect_fits}
-use Rattle.lw_words.proofs.HexDigits.{both}
+use Rattle.std.proofs.lemmas.Bool.{and_parts}
 use Rattle.std.proofs.lemmas.Int.{ints}
 use Rattle.std.proofs.lemmas.Bool.Decides.{nat_tests}
 
@@ -20,7 +20,7 @@ axis low high h =
 -- both axes
 pub axes : (r : Rectangle) → IsTrue (rect_fits r) → IsAxis r.min_x r.max_x × IsAxis r.min_y r.max_y
 axes r h =
-    let k = both (axis_fits r.min_x r.max_x) (axis_fits r.min_y r.max_y) h in
+    let k = and_parts (axis_fits r.min_x r.max_x) (axis_fits r.min_y r.max_y) h in
     (axis r.min_x r.max_x k.0, axis r.min_y r.max_y k.1)
 
 -- a bound is a coordinate in 64 bits too

@@ -1,31 +1,19 @@
 -- The first line of bytes, by the place of its line feed.
-use Rattle.std.proofs.Common.{◌≡◌, ℕ, suc, ◌+◌, ◌-◌, ◌<◌, ◌≤◌, ◌==◌, Bool, true, false, not, cond, List, [], ◌∷◌, length, take, drop, Some, None, position, nat_lt, refl, sym, ap, subst, ◌∙◌, arith, length-drop}
+use Rattle.std.proofs.Common.{◌≡◌, ℕ, suc, ◌+◌, ◌-◌, ◌<◌, ◌≤◌, ◌==◌, Bool, true, false, not, cond, List, [], ◌∷◌, length, take, drop, Some, None, position, refl, sym, ap, subst, ◌∙◌, arith, one-add, length-drop, length-take-le}
 use Rattle.std.specs.List.{onto_first, position_or_len}
 use Rattle.lw_grammar.specs.Lines.{lines}
 use Rattle.lw_words.specs.Cuts.{IsCutLine}
+use Rattle.std.proofs.lemmas.List.{take_rest}
 use Rattle.std.proofs.lemmas.Grind.{common_steps}
 use Rattle.std.proofs.lemmas.Bool.Decides.{nat_tests}
-use Rattle.std.proofs.lemmas.Bool.{ltb-true, ltb-false}
 
 -- where a byte was found
 pub found_at : {X : Type 0} (p : X → Bool) (bs : List X) (i : ℕ) → position p bs ≡ Some i → (i < length bs) × (position_or_len p bs ≡ i)
-found_at p bs i e = go (nat_lt (position_or_len p bs) (length bs)) refl e
-  where
-    go : (b : Bool) → nat_lt (position_or_len p bs) (length bs) ≡ b → cond b (Some (position_or_len p bs)) None ≡ Some i → (i < length bs) × (position_or_len p bs ≡ i)
-    go true t f = let same : position_or_len p bs ≡ i = cc in let below = ltb-true _ _ t in (omega arith, same)
-    go false t f = absurd (cc)
+found_at p bs i e = (grind (arith, common_steps), grind (arith, common_steps))
 
 -- where no byte was found
 pub found_none : {X : Type 0} (p : X → Bool) (bs : List X) → position p bs ≡ None → length bs ≤ position_or_len p bs
-found_none p bs e = go (nat_lt (position_or_len p bs) (length bs)) refl e
-  where
-    go : (b : Bool) → nat_lt (position_or_len p bs) (length bs) ≡ b → cond b (Some (position_or_len p bs)) None ≡ None → length bs ≤ position_or_len p bs
-    go true t f = absurd (cc)
-    go false t f = ltb-false _ _ t
-
--- 1 + k as a successor
-pub one_up : (k : ℕ) → 1 + k ≡ suc k
-one_up k = omega arith
+found_none p bs e = grind (arith, common_steps)
 
 -- 1 + k + 1 as a successor
 pub two_up : (k : ℕ) → (1 + k) + 1 ≡ suc (k + 1)
@@ -41,7 +29,7 @@ lines_step b bs false k h lt =
     let g : P (suc k) (suc (k + 1)) = f in
     let Q : ℕ → Type 0 = λ i. P i (suc (k + 1)) in
     let R : ℕ → Type 0 = λ j. P (1 + k) j in
-    subst R (sym (two_up k)) (subst Q (sym (one_up k)) g)
+    subst R (sym (two_up k)) (subst Q (sym (one-add k)) g)
 
 -- the first line, by the place of its line feed
 lines_at : (bs : List ℕ) → position_or_len (λ b. b == 10) bs < length bs → lines bs ≡ take (position_or_len (λ b. b == 10) bs) bs ∷ lines (drop (position_or_len (λ b. b == 10) bs + 1) bs)
@@ -72,20 +60,12 @@ last_line [] lt e = absurd (omega arith)
 last_line (b ∷ bs) lt e =
     last_step b bs (b == 10) (position_or_len (λ c. c == 10) bs) (onto_last b bs) (found_none (λ c. c == 10) (b ∷ bs) e)
 
--- what a slice from a place on has
-pub tail_of : (bs : List ℕ) (k : ℕ) → take (length bs - k) (drop k bs) ≡ drop k bs
-tail_of bs k = grind (arith, common_steps)
-
--- how many elements stand in front of a place
-length_front : (bs : List ℕ) (i : ℕ) → i < length bs → length (take i bs) ≡ i
-length_front bs i h = grind (arith, common_steps)
-
 -- the bytes behind a line feed
 pub cuts_line : (bs : List ℕ) (i : ℕ) → position (λ b. b == 10) bs ≡ Some i → IsCutLine bs (take i bs) (take (length bs - (i + 1)) (drop (i + 1) bs))
 cuts_line bs i e =
     let f = (found_at (λ b. b == 10) bs i e).0 in
-    let t : take (length bs - (i + 1)) (drop (i + 1) bs) ≡ drop (i + 1) bs = tail_of bs (i + 1) in
-    let n : length (take i bs) ≡ i = length_front bs i f in
+    let t : take (length bs - (i + 1)) (drop (i + 1) bs) ≡ drop (i + 1) bs = take_rest bs (i + 1) in
+    let n : length (take i bs) ≡ i = length-take-le i bs (omega (arith, f)) in
     let P : List ℕ → Type 0 = λ r. IsCutLine bs (take i bs) r in
     subst P (sym t) (record {
       lines = first_line bs i e;

@@ -1,21 +1,15 @@
 -- The first word of a line, by the place of the byte that ends it.
-use Rattle.std.proofs.Common.{◌≡◌, ℕ, zero, suc, ◌+◌, ◌-◌, ◌<◌, ◌≤◌, ◌==◌, Bool, true, false, not, ◌||◌, cond, List, [], ◌∷◌, ◌++◌, append_assoc, Bor, length, take, drop, get_or, Some, None, Result, Ok, Err, position, refl, sym, ap, subst, ◌∙◌, arith, length-drop}
+use Rattle.std.proofs.Common.{◌≡◌, ℕ, zero, suc, ◌+◌, ◌-◌, ◌<◌, ◌≤◌, ◌==◌, Bool, true, false, not, ◌||◌, cond, List, [], ◌∷◌, ◌++◌, append_assoc, Bor, length, take, drop, get_or, Some, None, Result, Ok, Err, position, refl, sym, ap, subst, ◌∙◌, arith, one-add, length-drop}
 use Rattle.std.specs.List.{onto_first, position_or_len}
 use Rattle.lw_calls.specs.declared.reason.Reason.{Reason}
 use Rattle.lw_calls.specs.declared.reason.Reason.TheVariants.{Spacing, Quote}
 use Rattle.lw_grammar.specs.Tokens.{ends_text, on_found, tokens_at, tokens}
 use Rattle.lw_words.specs.Cuts.{is_break, IsWordBegun, targets}
 use Rattle.lw_words.proofs.Targets.{targets_push}
-use Rattle.lw_words.proofs.CutLines.{found_at, found_none, one_up, two_up, tail_of}
-use Rattle.std.proofs.lemmas.Bool.Decides.{nat_tests}
-use Rattle.std.proofs.lemmas.Bool.{eqb-true, false≢true, true≢false}
-
--- numbers that are equal, and that are not
-pub equal : (a b : ℕ) → a ≡ b → (a == b) ≡ true
-equal a b e = grind (arith, nat_tests)
-
-pub unequal : (a b : ℕ) → (a ≡ b → ⊥) → (a == b) ≡ false
-unequal a b e = grind (arith, nat_tests)
+use Rattle.lw_words.proofs.CutLines.{found_at, found_none, two_up}
+use Rattle.std.proofs.lemmas.Bool.{eqb-true, eq-eqb, ne_eqb, false≢true, true≢false}
+use Rattle.std.proofs.lemmas.List.{take_rest}
+use Rattle.std.proofs.lemmas.List.Quantifiers.{position-Some}
 
 -- what a word's end gives: at a space the word and the words behind it, else a fault
 abbrev word_then : Bool → List ℕ → Result (List (List ℕ)) Reason → Result (List (List ℕ)) Reason
@@ -42,7 +36,7 @@ ends_step b bs false false k e h lt =
     let g : P (suc k) (suc (k + 1)) = ap (on_found (onto_first b)) f ∙ onto_word b (take k bs) (get_or bs k 0 == 32) (tokens_at true (drop (k + 1) bs)) in
     let Q : ℕ → Type 0 = λ i. P i (suc (k + 1)) in
     let R : ℕ → Type 0 = λ j. P (1 + k) j in
-    subst R (sym (two_up k)) (subst Q (sym (one_up k)) g)
+    subst R (sym (two_up k)) (subst Q (sym (one-add k)) g)
 
 -- the first word, by the place of the byte that ends it
 ends_at : (bs : List ℕ) → EndsAt bs (position_or_len is_break bs)
@@ -74,7 +68,7 @@ last_word (b ∷ bs) lt q e =
   where
     go : (s : Bool) → (b == 32) ≡ s → suc (length bs) ≤ cond (not (s || (b == 34))) (1 + position_or_len is_break bs) 0 → tokens (b ∷ bs) ≡ Ok ((b ∷ bs) ∷ [])
     go true d le = absurd (omega arith)
-    go false d le = begin_word b bs (b == 32) (b == 34) d (unequal b 34 q) _ _ _ ∙ whole_word (b ∷ bs) (found_none is_break (b ∷ bs) e)
+    go false d le = begin_word b bs (b == 32) (b == 34) d (ne_eqb b 34 q) _ _ _ ∙ whole_word (b ∷ bs) (found_none is_break (b ∷ bs) e)
 
 -- the byte that ends a word
 ended_by : (bs : List ℕ) (i : ℕ) → position is_break bs ≡ Some i → tokens_at false bs ≡ word_then (get_or bs i 0 == 32) (take i bs) (tokens_at true (drop (i + 1) bs))
@@ -86,7 +80,7 @@ ended_by bs i e =
 -- a line that begins with a space
 pub empty_word : (bs : List ℕ) → position is_break bs ≡ Some 0 → IsWordBegun bs → tokens bs ≡ Err Spacing
 empty_word [] e q = refl
-empty_word (b ∷ bs) e q = go (b == 32) (b == 34) (unequal b 34 q) (found_at is_break (b ∷ bs) 0 e).1
+empty_word (b ∷ bs) e q = go (b == 32) (b == 34) (ne_eqb b 34 q) (found_at is_break (b ∷ bs) 0 e).1
   where
     go : (s t : Bool) → t ≡ false → cond (not (s || t)) (1 + position_or_len is_break bs) 0 ≡ 0 → cond s (Err Spacing) (cond t (cond (ends_text bs) (Ok ((b ∷ bs) ∷ [])) (Err Quote)) (on_found (onto_first b) (tokens_at false bs))) ≡ Err Spacing
     go true t d f = refl
@@ -103,21 +97,7 @@ begun (b ∷ bs) i e lt q = go (b == 32) refl (found_at is_break (b ∷ bs) i e)
   where
     go : (s : Bool) → (b == 32) ≡ s → cond (not (s || (b == 34))) (1 + position_or_len is_break bs) 0 ≡ i → tokens (b ∷ bs) ≡ tokens_at false (b ∷ bs)
     go true d f = absurd (omega arith)
-    go false d f = begin_word b bs (b == 32) (b == 34) d (unequal b 34 q) _ _ _
-
--- the byte at a found place is one that is looked for
-found_step : (p : ℕ → Bool) (b : ℕ) (bs : List ℕ) (i k : ℕ) (t : Bool) → p b ≡ t → (k < length bs → p (get_or bs k 0) ≡ true) → i < suc (length bs) → cond (not t) (1 + k) 0 ≡ i → p (get_or (b ∷ bs) i 0) ≡ true
-found_step p b bs i k true d h lt e = let P : ℕ → Type 0 = λ j. p (get_or (b ∷ bs) j 0) ≡ true in subst P e d
-found_step p b bs i k false d h lt e =
-    let P : ℕ → Type 0 = λ j. p (get_or (b ∷ bs) j 0) ≡ true in
-    let up : suc k ≡ i = omega (arith, e) in
-    let g : P (suc k) = h (omega (arith, e)) in
-    subst P up g
-
-is_found : (p : ℕ → Bool) (bs : List ℕ) (i : ℕ) → i < length bs → position_or_len p bs ≡ i → p (get_or bs i 0) ≡ true
-is_found p [] i lt e = absurd (omega arith)
-is_found p (b ∷ bs) i lt e =
-    found_step p b bs i (position_or_len p bs) (p b) refl (λ h. is_found p bs (position_or_len p bs) h refl) lt e
+    go false d f = begin_word b bs (b == 32) (b == 34) d (ne_eqb b 34 q) _ _ _
 
 -- a quote is no space
 quote_only : (b : ℕ) → b ≡ 34 → (b == 32) ≡ false
@@ -143,8 +123,8 @@ quote_inside bs i e q d = go i refl
 pub cuts_word : (bs : List ℕ) (i : ℕ) → position is_break bs ≡ Some i → IsWordBegun bs → (get_or bs i 0 ≡ 34 → ⊥) → (i ≡ 0 → ⊥) → (tokens bs ≡ on_found (λ ws. take i bs ∷ ws) (tokens (take (length bs - (i + 1)) (drop (i + 1) bs)))) × (length (take (length bs - (i + 1)) (drop (i + 1) bs)) + 1 < length bs + 1)
 cuts_word bs i e q d some =
     let f = found_at is_break bs i e in
-    let t : take (length bs - (i + 1)) (drop (i + 1) bs) ≡ drop (i + 1) bs = tail_of bs (i + 1) in
-    let s : (get_or bs i 0 == 32) ≡ true = space_only _ _ (unequal (get_or bs i 0) 34 d) (is_found is_break bs i f.0 f.1) in
+    let t : take (length bs - (i + 1)) (drop (i + 1) bs) ≡ drop (i + 1) bs = take_rest bs (i + 1) in
+    let s : (get_or bs i 0 == 32) ≡ true = space_only _ _ (ne_eqb (get_or bs i 0) 34 d) (position-Some is_break bs i 0 e).1 in
     let g : length (drop (i + 1) bs) + 1 < length bs + 1 = omega (arith, length-drop (i + 1) bs, f.0) in
     let h : tokens bs ≡ on_found (λ ws. take i bs ∷ ws) (tokens (drop (i + 1) bs)) = begun bs i e (omega (arith, some)) q ∙ ended_by bs i e ∙ rw s refl in
     let P : List ℕ → Type 0 = λ r. (tokens bs ≡ on_found (λ ws. take i bs ∷ ws) (tokens r)) × (length r + 1 < length bs + 1) in
@@ -157,8 +137,8 @@ same_test a b c d f g = go (a == b) (c == d) refl refl
     go : (t u : Bool) → (a == b) ≡ t → (c == d) ≡ u → (a == b) ≡ (c == d)
     go true true x y = x ∙ sym y
     go false false x y = x ∙ sym y
-    go true false x y = let e : true ≡ false = sym (equal c d (f (eqb-true _ _ x))) ∙ y in absurd (true≢false e)
-    go false true x y = let e : true ≡ false = sym (equal a b (g (eqb-true _ _ y))) ∙ x in absurd (true≢false e)
+    go true false x y = let e : true ≡ false = sym (eq-eqb c d (f (eqb-true _ _ x))) ∙ y in absurd (true≢false e)
+    go false true x y = let e : true ≡ false = sym (eq-eqb a b (g (eqb-true _ _ y))) ∙ x in absurd (true≢false e)
 
 -- the bytes behind a text's first quote, by the place of the next
 text_step : (q : Bool) (e : Bool) (k n : ℕ) → e ≡ (k + 1 == suc n) → cond q false e ≡ (cond (not q) (1 + k) 0 + 1 == suc (suc n))
@@ -197,13 +177,13 @@ text_end_at bs i e =
 pub text_word : (bs : List ℕ) (t : Bool) → 0 < length bs → get_or bs 0 0 ≡ 34 → t ≡ ends_text (take (length bs - 1) (drop 1 bs)) → tokens bs ≡ cond t (Ok (bs ∷ [])) (Err Quote)
 text_word [] t lt q e = absurd (omega arith)
 text_word (b ∷ bs) t lt q e =
-    let f : take (length (b ∷ bs) - 1) (drop 1 (b ∷ bs)) ≡ bs = tail_of (b ∷ bs) 1 in
+    let f : take (length (b ∷ bs) - 1) (drop 1 (b ∷ bs)) ≡ bs = take_rest (b ∷ bs) 1 in
     let g : t ≡ ends_text bs = e ∙ ap ends_text f in
     go (b == 32) (quote_only b q) ∙ ap (λ c. cond c (Ok ((b ∷ bs) ∷ [])) (Err Quote)) (sym g)
   where
     go : (s : Bool) → s ≡ false → cond s (Err Spacing) (cond (b == 34) (cond (ends_text bs) (Ok ((b ∷ bs) ∷ [])) (Err Quote)) (on_found (onto_first b) (tokens_at false bs))) ≡ cond (ends_text bs) (Ok ((b ∷ bs) ∷ [])) (Err Quote)
     go true d = absurd (true≢false d)
-    go false d = rw (equal b 34 q) refl
+    go false d = rw (eq-eqb b 34 q) refl
 
 -- the words found with a further one
 pub more_words : (words : Result (List (List ℕ)) Reason) (found : List (Bor (List ℕ))) (word : Bor (List ℕ)) (o p : Result (List (List ℕ)) Reason) → words ≡ on_found (λ ws. targets found ++ ws) o → o ≡ on_found (λ ws. word.now ∷ ws) p → words ≡ on_found (λ ws. targets (found ++ word ∷ []) ++ ws) p

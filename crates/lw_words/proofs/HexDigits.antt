@@ -6,8 +6,7 @@ use Rattle.lw_grammar.specs.LineForms.{GlyphLine, glyph_of_bytes, glyph_line}
 use Rattle.lw_words.specs.declared.token.Token.{Token as Reading}
 use Rattle.lw_words.specs.TokenMeaning.{token_meaning}
 use Rattle.lw_words.specs.Digits.{decoded, spelling}
-use Rattle.lw_words.proofs.CutWords.{equal, unequal}
-use Rattle.std.proofs.lemmas.Bool.{eqb-true, false≢true}
+use Rattle.std.proofs.lemmas.Bool.{eqb-true, eq-eqb, ne_eqb, and_parts}
 
 -- two digits more
 hex_step : (a b : ℕ) (p q r : Bool) (o : Option (List ℕ)) (bytes : List ℕ) → o ≡ cond r (Some bytes) None → cond (p && q) (option_map (λ bytes. ((hex_value a * 16) + hex_value b) ∷ bytes) o) None ≡ cond (p && (q && r)) (Some (((hex_value a * 16) + hex_value b) ∷ bytes)) None
@@ -39,7 +38,7 @@ no_bytes (OddToken w) count e = absurd (cc)
 
 -- a word that spells so many bytes, and one that doesn't
 pub spells : (word : List ℕ) (count : ℕ) → length word ≡ 2 * count → list_all is_hex word ≡ true → spelled_bytes count word ≡ Some (decoded word)
-spells word count long hex = rw (equal (length word) (2 * count) long, hex_even word count long, hex) refl
+spells word count long hex = rw (eq-eqb (length word) (2 * count) long, hex_even word count long, hex) refl
 
 pub spells_not : (word : List ℕ) (count : ℕ) → list_all is_hex word ≡ false → spelled_bytes count word ≡ None
 spells_not word count hex = go (length word == 2 * count) refl
@@ -49,19 +48,13 @@ spells_not word count hex = go (length word == 2 * count) refl
     go true e = let long : length word ≡ 2 * count = eqb-true _ _ e in rw (hex_even word count long, hex) refl
 
 pub too_long : (word : List ℕ) (count : ℕ) → (length word ≡ 2 * count → ⊥) → spelled_bytes count word ≡ None
-too_long word count long = rw (unequal (length word) (2 * count) long) refl
-
--- both halves of a test that holds
-pub both : (a b : Bool) → (a && b) ≡ true → (a ≡ true) × (b ≡ true)
-both true true h = (refl, refl)
-both true false h = absurd (false≢true h)
-both false b h = absurd (false≢true h)
+too_long word count long = rw (ne_eqb (length word) (2 * count) long) refl
 
 -- each of digits is one
 pub hex_at : (ds : List ℕ) (i : ℕ) → IsTrue (list_all is_hex ds) → i < length ds → IsTrue (is_hex (get_or ds i 0))
 hex_at [] i h lt = absurd (omega arith)
-hex_at (d ∷ ds) zero h lt = (both (is_hex d) (list_all is_hex ds) h).0
-hex_at (d ∷ ds) (suc i) h lt = hex_at ds i (both (is_hex d) (list_all is_hex ds) h).1 (omega arith)
+hex_at (d ∷ ds) zero h lt = (and_parts (is_hex d) (list_all is_hex ds) h).0
+hex_at (d ∷ ds) (suc i) h lt = hex_at ds i (and_parts (is_hex d) (list_all is_hex ds) h).1 (omega arith)
 
 -- the byte at a place among those that digits spell
 pub decoded_by : (ds : List ℕ) (i : ℕ) → 2 * i + 1 < length ds → (hex_value (get_or ds (2 * i) 0) * 16) + hex_value (get_or ds (2 * i + 1) 0) ≡ get_or (decoded ds) i 0

@@ -1,29 +1,23 @@
 -- What digits count, digit by digit and up to the cap.
-use Rattle.std.proofs.Common.{◌≡◌, ℕ, zero, suc, ◌+◌, ◌-◌, ◌*◌, ◌<◌, ◌≤◌, min, Bool, true, false, ◌&&◌, List, [], ◌∷◌, length, take, drop, get_or, IsTrue, ◌||◌, cond, ℤ, pos, neg_ℤ, ◌-ℤ◌, to_z, of_z, w64, codes, bytes_eq, refl, ap, ◌∙◌, arith}
+use Rattle.std.proofs.Common.{◌≡◌, ℕ, zero, suc, ◌+◌, ◌-◌, ◌*◌, ◌<◌, ◌≤◌, min, Bool, true, false, List, [], ◌∷◌, length, take, drop, get_or, IsTrue, ◌||◌, cond, ℤ, pos, neg_ℤ, ◌-ℤ◌, to_z, of_z, w64, codes, bytes_eq, refl, ap, ◌∙◌, arith}
 use Rattle.std.specs.List.{list_all}
 use Rattle.std.specs.Char.{digit_value}
 use Rattle.std.specs.Str.Parse.{digits_value}
 use Rattle.lw_grammar.specs.Tokens.{NameToken, NumberToken, TextToken, OddToken, is_a_digit, is_a_text, is_a_name, is_above_zero, is_below_zero, cap, capped, token_of, without_last}
 use Rattle.std.proofs.lemmas.Int.{ints}
-use Rattle.std.proofs.lemmas.Grind.{common_steps}
 use Rattle.std.proofs.lemmas.Int.Digits.{digits_value_more}
-use Rattle.std.proofs.lemmas.Bool.{false≢true}
+use Rattle.std.proofs.lemmas.Bool.{and_parts}
+use Rattle.std.proofs.lemmas.List.{take_rest}
 use Rattle.std.proofs.lemmas.Bool.Decides.{nat_tests}
-
--- each of digits is one
-step : (a b : Bool) {P Q : Type 0} → (a ≡ true → P) → (b ≡ true → Q) → (a && b) ≡ true → P × Q
-step true true p q h = (p refl, q refl)
-step true false p q h = absurd (false≢true h)
-step false b p q h = absurd (false≢true h)
 
 -- each byte of digits is one
 pub digit_range : (ds : List ℕ) (i : ℕ) → IsTrue (list_all is_a_digit ds) → i < length ds → (48 ≤ get_or ds i 0) × (get_or ds i 0 ≤ 57)
 digit_range [] i h lt = absurd (omega arith)
 digit_range (d ∷ ds) zero h lt =
-    let k : is_a_digit d ≡ true = (step (is_a_digit d) (list_all is_a_digit ds) {P = is_a_digit d ≡ true} {Q = Unit {0}} (λ e. e) (λ e. tt) h).0 in
+    let k : is_a_digit d ≡ true = (and_parts (is_a_digit d) (list_all is_a_digit ds) h).0 in
     grind (arith, nat_tests)
 digit_range (d ∷ ds) (suc i) h lt =
-    let k : IsTrue (list_all is_a_digit ds) = (step (is_a_digit d) (list_all is_a_digit ds) {P = Unit {0}} {Q = IsTrue (list_all is_a_digit ds)} (λ e. tt) (λ e. e) h).1 in
+    let k : IsTrue (list_all is_a_digit ds) = (and_parts (is_a_digit d) (list_all is_a_digit ds) h).1 in
     digit_range ds i k (omega arith)
 
 -- what a digit counts
@@ -50,10 +44,6 @@ minus m r le e = omega (arith, ints)
 up_to_cap : (m : ℕ) → min m 4294967296 ≤ 4294967296
 up_to_cap m = omega arith
 
--- a slice without its first byte
-behind_one : (w : List ℕ) → take (length w - 1) (drop 1 w) ≡ drop 1 w
-behind_one w = grind (arith, common_steps)
-
 -- what a word is that is a number behind a minus, by its tests
 number_value : (w : List ℕ) (x n p q m : Bool) (z : ℤ) → x ≡ false → n ≡ false → m ≡ true → z ≡ neg_ℤ (pos (capped (drop 1 w))) → NumberToken w z ≡ cond x (TextToken (without_last (drop 1 w))) (cond n (NameToken w) (cond (p || (q || m)) (NumberToken w (cond m (neg_ℤ (pos (capped (drop 1 w)))) (pos (capped w)))) (OddToken w)))
 number_value w x n true q m z d e f g = rw (d, e, f, g) refl
@@ -63,7 +53,7 @@ number_value w x n false false m z d e f g = rw (d, e, f, g) refl
 -- what a word is that is a number behind a minus
 pub negative_value : (w : List ℕ) (r : ℤ) → is_a_text w ≡ false → is_a_name w ≡ false → is_below_zero w ≡ true → r ≡ pos (capped (take (length w - 1) (drop 1 w))) → NumberToken w (to_z w64 (of_z w64 (pos 0 -ℤ to_z w64 (of_z w64 r)))) ≡ token_of w
 negative_value w r t n m e =
-    let f : r ≡ pos (capped (drop 1 w)) = e ∙ ap (λ d. pos (capped d)) (behind_one w) in
+    let f : r ≡ pos (capped (drop 1 w)) = e ∙ ap (λ d. pos (capped d)) (take_rest w 1) in
     number_value w (is_a_text w) (is_a_name w) (bytes_eq w (codes "0")) (is_above_zero w) (is_below_zero w) _ t n m (minus (capped (drop 1 w)) r (up_to_cap (digits_value 10 (drop 1 w))) f)
 
 -- the bytes without the last one, by their number
