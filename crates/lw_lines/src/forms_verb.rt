@@ -146,16 +146,7 @@ pub(crate) fn form_by<'a>(verb: Verb, tokens: &[Token<'a>]) -> Option<LineForm<'
         | Verb::Scroll
         | Verb::Text
         | Verb::Title => pair_or_text_form(verb, tokens),
-        Verb::Screen
-        | Verb::Glyph
-        | Verb::Bitmap
-        | Verb::Task
-        | Verb::End
-        | Verb::Order
-        | Verb::Report
-        | Verb::Lock
-        | Verb::Unlock
-        | Verb::Hold
-        | Verb::Release => part_form(verb, tokens),
+        // Each other verb parts a script or a task.
+        _ => part_form(verb, tokens),
     }
 }

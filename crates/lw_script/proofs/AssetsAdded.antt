@@ -1,6 +1,5 @@
 -- Bitmaps and rows added to those that were read.
-use Rattle.std.proofs.Common.{◌≡◌, ℕ, zero, suc, ◌+◌, ◌-◌, ◌*◌, ◌<◌, ◌≤◌, ◌==◌, true, false, if◌then◌else◌, List, [], ◌∷◌, ◌++◌, length, ℤ, pos, unsigned_abs, to_z, of_z, SFits, Fits, w32, w64, bytes_eq, Bor, refl, sym, ap, ◌∙◌, arith, length-append, append_assoc, append-nil, suc-mul}
-use Rattle.std.specs.List.{list_any}
+use Rattle.std.proofs.Common.{◌≡◌, ℕ, zero, suc, ◌+◌, ◌-◌, ◌*◌, ◌<◌, ◌≤◌, ◌==◌, true, if◌then◌else◌, List, [], ◌∷◌, ◌++◌, length, ℤ, pos, unsigned_abs, to_z, of_z, SFits, Fits, w32, w64, refl, sym, ap, ◌∙◌, arith, length-append, append_assoc, append-nil, suc-mul}
 use Rattle.std.proofs.lemmas.Bool.{ne_eqb}
 use Rattle.std.proofs.lemmas.Int.{ints, to_z-of_z}
 use Rattle.std.proofs.lemmas.Nat.{mul-le}
@@ -9,8 +8,6 @@ use Rattle.lw_planes.specs.Bitmap.{Bitmap}
 use Rattle.lw_planes.specs.Sizes.{AreSizes}
 use Rattle.lw_planes.specs.Storage.{stored}
 use Rattle.lw_grammar.proofs.ScriptCalls.{size_range}
-use Rattle.lw_words.specs.Cuts.{targets}
-use Rattle.lw_words.proofs.Targets.{any_target, targets_push}
 
 -- a depth in 64 bits is in the range of a size
 in_wider : (z : ℤ) → within (pos 1) z (pos 8) ≡ true → within (pos 1) z (pos 1024) ≡ true
@@ -52,10 +49,6 @@ rows_some d h deep high none = let least : 1 * 1 ≤ d * h = mul-le 1 1 d h deep
 -- rows of all planes, as many as there may be
 pub rows_fit : (d h : ℕ) → d ≤ 8 → h ≤ 1024 → Fits w32 (d * h)
 rows_fit d h deep high = let few : d * h ≤ 8 * 1024 = mul-le d h 8 1024 deep high in omega (arith, few)
-
--- a new name goes last
-pub name_added : (ks : List (Bor (List ℕ))) (k : Bor (List ℕ)) → list_any (bytes_eq k.now) (targets ks) ≡ false → targets (if list_any (λ (j : Bor (List ℕ)). bytes_eq k.now j.now) ks then ks else ks ++ k ∷ []) ≡ targets ks ++ k.now ∷ []
-name_added ks k new = rw (any_target (bytes_eq k.now) ks, new) (targets_push ks k)
 
 -- with a bitmap begun, no row of which was read, the bitmaps are one more
 pub bitmap_begun : (due w h d : ℕ) (new rows : List ℕ) (maps above : List Bitmap) → (due ≡ 0 → ⊥) → new ≡ [] → maps ++ [] ≡ above → maps ++ (if due == 0 then [] else stored w h d (new ++ rows) ∷ []) ≡ above ++ stored w h d rows ∷ []

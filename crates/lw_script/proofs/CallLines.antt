@@ -1,5 +1,5 @@
 -- What the line of a call makes of the lines above it.
-use Rattle.std.proofs.Common.{◌≡◌, ℕ, ◌+◌, ◌-◌, ◌≤◌, Bool, true, false, ◌&&◌, cond, List, [], ◌∷◌, length, map, refl, sym, ap, ◌∙◌, arith}
+use Rattle.std.proofs.Common.{◌≡◌, ℕ, ◌+◌, ◌-◌, ◌≤◌, cond, List, [], ◌∷◌, length, map, refl, sym, ap, ◌∙◌, arith}
 use Rattle.std.specs.Bool.{IsTrue}
 use Rattle.lw_calls.specs.declared.call.Call.{Call}
 use Rattle.lw_calls.specs.declared.group.Group.{Group}
@@ -9,6 +9,7 @@ use Rattle.lw_grammar.specs.Told.{and_names, place_among, onto_last, spelled_cal
 use Rattle.lw_grammar.specs.Script.{is_ending}
 use Rattle.lw_lines.specs.CallMeaning.{IsBitmapAt}
 use Rattle.lw_script.specs.CallParts.{first_place, second_place, bitmap_place}
+use Rattle.std.proofs.lemmas.Bool.{and_parts}
 use Rattle.lw_script.proofs.NamesAdded.{place_of_one, places_of_two}
 
 -- an act that names no layer doesn't look at slots
@@ -56,14 +57,9 @@ groups_with above (l ∷ m ∷ ls) (EndRefreshAct full) e = absurd (omega (arith
 groups_with above (l ∷ m ∷ ls) act e = refl
 
 -- a hook's number is in its range where the act's numbers are
-middle : (a b c : Bool) → IsTrue (a && (b && c)) → IsTrue b
-middle true true c h = refl
-middle true false c h = h
-middle false b c h = absurd (cc)
-
 pub hook_fits : (ls : List (List ℕ)) (act : Act) → IsTrue (is_act_in_range act) → IsTrue (is_hook_number (hook_on (CallLine ls act)))
-hook_fits ls (CreateAct asked) h = middle _ _ _ h
-hook_fits ls (OpenAct asked framed nocare classes title) h = middle _ _ _ h
+hook_fits ls (CreateAct asked) h = (and_parts _ _ (and_parts _ _ h).1).0
+hook_fits ls (OpenAct asked framed nocare classes title) h = (and_parts _ _ (and_parts _ _ h).1).0
 hook_fits ls act h = refl
 
 -- the groups that are kept

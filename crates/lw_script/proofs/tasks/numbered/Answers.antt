@@ -1,6 +1,7 @@
 use Rattle.std.proofs.Common.{bytes_eq, ap, ◌∙◌}
 use Rattle.lw_words.specs.Cuts.{targets}
-use Rattle.lw_script.proofs.NamesAdded.{targets_insert, place_of_target}
+use Rattle.lw_words.proofs.Targets.{place_of_target}
+use Rattle.lw_script.proofs.NamesAdded.{targets_insert}
 use Rattle.lw_script.proofs.tasks.numbered.Goals as goal
 
 pub returns-clause-names : goal.returns-clause-names

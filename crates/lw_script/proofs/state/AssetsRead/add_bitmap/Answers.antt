@@ -1,7 +1,8 @@
 use Rattle.std.proofs.Common.{◌*◌, ◌++◌, [], ◌∷◌, unsigned_abs, refl, ap, ◌∙◌}
 use Rattle.lw_planes.specs.Bitmap.{row_bytes}
 use Rattle.lw_words.specs.Cuts.{targets}
-use Rattle.lw_script.proofs.AssetsAdded.{wider, size_read, rows_fit, rows_some, rows_due_all, sizes_of, name_added, none_begun, bitmap_begun, same_bitmap}
+use Rattle.lw_script.proofs.NamesAdded.{name_added}
+use Rattle.lw_script.proofs.AssetsAdded.{wider, size_read, rows_fit, rows_some, rows_due_all, sizes_of, none_begun, bitmap_begun, same_bitmap}
 use Rattle.lw_script.proofs.state.AssetsRead.add_bitmap.Goals as goal
 
 pub size-self-requires-3 : goal.size-self-requires-3

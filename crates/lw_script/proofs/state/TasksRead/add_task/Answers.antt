@@ -1,14 +1,14 @@
 use Rattle.std.proofs.Common.{[], ◌∷◌, ◌++◌, refl, ap, ◌∙◌}
 use Rattle.lw_words.specs.Cuts.{targets}
 use Rattle.lw_script.proofs.ListsOfLists.{begun}
-use Rattle.lw_script.proofs.NamesAdded.{targets_insert, new_name}
+use Rattle.lw_script.proofs.NamesAdded.{name_added}
 use Rattle.lw_script.proofs.state.TasksRead.add_task.Goals as goal
 
 pub returns : goal.returns
 returns c = λ above s.
     let ks = c.args.self.now.task_names.keys in
     record {
-      tasks = ap targets c.in_ok-insert.ensures.keys ∙ targets_insert ks c.args.name ∙ new_name ks c.args.name c.requires.new ∙ ap (λ ns. ns ++ c.args.name.now ∷ []) s.tasks;
+      tasks = ap targets c.in_ok-insert.ensures.keys ∙ name_added ks c.args.name c.requires.new ∙ ap (λ ns. ns ++ c.args.name.now ∷ []) s.tasks;
       names = s.names;
       supers = s.supers;
       used = s.used;
