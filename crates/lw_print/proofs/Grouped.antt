@@ -1,10 +1,11 @@
 -- Groups that ended before a call have no line at it, and of those that are left the first alone can have one.
-use Rattle.std.proofs.Common.{◌≡◌, ℕ, ◌+◌, ◌<◌, ◌≤◌, ◌==◌, ◌≢◌, Bool, true, false, ◌&&◌, nat_le, nat_lt, if◌then◌else◌, List, [], ◌∷◌, ◌++◌, length, append-nil, append_assoc, refl, ap, ◌∙◌, subst, arith}
+use Rattle.std.proofs.Common.{◌≡◌, ℕ, ◌+◌, ◌<◌, ◌≤◌, ◌==◌, ◌≢◌, Bool, true, false, ◌&&◌, nat_lt, if◌then◌else◌, List, [], ◌∷◌, ◌++◌, append-nil, append_assoc, refl, ap, ◌∙◌, subst, arith}
 use Rattle.std.specs.List.{flat_map}
-use Rattle.std.proofs.lemmas.Bool.{true≢false, ltb-true, leb-true, eqb-true, eqb-false, ne_eqb, and_parts}
+use Rattle.std.proofs.lemmas.Bool.{true≢false, ltb-true, eqb-true, eqb-false, ne_eqb, and_parts}
 use Rattle.lw_calls.specs.declared.call.Call.{Call}
 use Rattle.lw_calls.specs.declared.group.Group.{Group}
 use Rattle.lw_calls.specs.Plan.{Plan, group_fits, groups_fit}
+use Rattle.lw_calls.proofs.OrderGroups.{head_fits, rest_fits, has_order}
 use Rattle.lw_grammar.specs.LineForms.{LineForm}
 use Rattle.lw_canonical.specs.Canonical.{line_of_call, is_update, opening_lines, closing_lines, lines_from}
 use Rattle.lw_print.specs.Grouping.{opening_at, closing_at, lines_at, left_behind}
@@ -27,24 +28,6 @@ abbrev at_end_of : (Group → ℕ) → (Group → List LineForm) → ℕ → Lis
 at_end_of edge say n [] = []
 at_end_of edge say n (g ∷ gs) = at_end edge say n g
 
--- a group has its first call not behind its last
-group_order : (calls : List Call) (g : Group) → group_fits calls g ≡ true → g.first ≤ g.last
-group_order calls g h =
-    let parts = and_parts (nat_le g.first g.last && nat_lt g.last (length calls)) _ h in
-    leb-true _ _ (and_parts (nat_le g.first g.last) _ parts.0).0
-
--- so has the first of groups that fit
-first_order : (calls : List Call) (g : Group) (gs : List Group) → groups_fit calls (g ∷ gs) ≡ true → g.first ≤ g.last
-first_order calls g [] h = group_order calls g h
-first_order calls g (j ∷ gs) h =
-    let parts = and_parts (group_fits calls g && nat_lt g.last j.first) _ h in
-    group_order calls g (and_parts (group_fits calls g) _ parts.0).0
-
--- the groups behind one
-others_fit : (calls : List Call) (g : Group) (gs : List Group) → groups_fit calls (g ∷ gs) ≡ true → groups_fit calls gs ≡ true
-others_fit calls g [] h = refl
-others_fit calls g (j ∷ gs) h = (and_parts (group_fits calls g && nat_lt g.last j.first) _ h).1
-
 -- the next group begins behind the end of the first
 apart : (calls : List Call) (g j : Group) (gs : List Group) → groups_fit calls (g ∷ j ∷ gs) ≡ true → g.last < j.first
 apart calls g j gs h =
@@ -64,9 +47,9 @@ elsewhere edge say n g h = not_said edge say n g (edge g == n) refl (ne_eqb (edg
 none_later : (edge : Group → ℕ) (say : Group → List LineForm) (calls : List Call) → IsEnd edge → (g : Group) (gs : List Group) (n : ℕ) → groups_fit calls (g ∷ gs) ≡ true → n ≤ g.last → flat_map (at_end edge say n) gs ≡ []
 none_later edge say calls end g [] n h reach = refl
 none_later edge say calls end g (j ∷ gs) n h reach =
-    let fits : groups_fit calls (j ∷ gs) ≡ true = others_fit calls g (j ∷ gs) h in
+    let fits : groups_fit calls (j ∷ gs) ≡ true = rest_fits calls g (j ∷ gs) h in
     let behind : g.last < j.first = apart calls g j gs h in
-    let order : j.first ≤ j.last = first_order calls j gs fits in
+    let order : j.first ≤ j.last = has_order calls j (head_fits calls j gs fits) in
     let far : j.first ≤ edge j = (end j order).0 in
     ap (λ xs. xs ++ flat_map (at_end edge say n) gs) (elsewhere edge say n j (λ e. absurd (omega (arith, e)))) ∙ none_later edge say calls end j gs n fits (omega arith)
 
@@ -121,14 +104,14 @@ abbrev left_if : Bool → Group → List Group → List Group
 left_if t g gs = if t then gs else g ∷ gs
 
 left_fit_step : (t : Bool) (calls : List Call) (g : Group) (gs : List Group) → groups_fit calls (g ∷ gs) ≡ true → groups_fit calls (left_if t g gs) ≡ true
-left_fit_step true calls g gs h = others_fit calls g gs h
+left_fit_step true calls g gs h = rest_fits calls g gs h
 left_fit_step false calls g gs h = h
 
 next_reaches : (calls : List Call) (g : Group) (gs : List Group) → groups_fit calls (g ∷ gs) ≡ true → Reaches (g.last + 1) gs
 next_reaches calls g [] h = tt
 next_reaches calls g (j ∷ gs) h =
     let behind : g.last < j.first = apart calls g j gs h in
-    let order : j.first ≤ j.last = first_order calls j gs (others_fit calls g (j ∷ gs) h) in
+    let order : j.first ≤ j.last = has_order calls j (head_fits calls j gs (rest_fits calls g (j ∷ gs) h)) in
     omega arith
 
 left_reach_step : (t : Bool) (calls : List Call) (g : Group) (gs : List Group) (n : ℕ) → (g.last == n) ≡ t → groups_fit calls (g ∷ gs) ≡ true → n ≤ g.last → Reaches (n + 1) (left_if t g gs)
@@ -140,7 +123,7 @@ left_reach_step false calls g gs n is h reach =
 left_lines_step : (t : Bool) (p : Plan) (calls : List Call) (g : Group) (gs : List Group) (n : ℕ) (cs : List Call) → (g.last == n) ≡ t → groups_fit calls (g ∷ gs) ≡ true → lines_from p calls (g ∷ gs) (n + 1) cs ≡ lines_from p calls (left_if t g gs) (n + 1) cs
 left_lines_step true p calls g gs n cs is h =
     let here : g.last ≡ n = eqb-true _ _ is in
-    lines_passed p calls g gs (n + 1) cs (first_order calls g gs h) (omega (arith, here))
+    lines_passed p calls g gs (n + 1) cs (has_order calls g (head_fits calls g gs h)) (omega (arith, here))
 left_lines_step false p calls g gs n cs is h = refl
 
 -- the groups that are left behind call number n fit
