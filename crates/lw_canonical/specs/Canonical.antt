@@ -50,7 +50,8 @@ line_of_call names bitmaps (RegRect op r rect) = CallLine [] (RegRectAct op (pos
 line_of_call names bitmaps (RegPair op s r) = CallLine [] (RegPairAct op (pos s) (pos r))
 line_of_call names bitmaps (RegClear r) = CallLine [] (RegClearAct (pos r))
 line_of_call names bitmaps (Create s m) = on_layer names s (CreateAct (created_asked m))
-line_of_call names bitmaps (OpenWindow s m framed nocare classes title) = on_layer names s (OpenAct (opened_asked m) framed nocare classes title)
+line_of_call names bitmaps (OpenWindow s m framed nocare classes title) =
+    on_layer names s (OpenAct (opened_asked m) framed nocare classes title)
 line_of_call names bitmaps (Close s) = on_layer names s CloseAct
 line_of_call names bitmaps (ToFront s) = on_layer names s FrontAct
 line_of_call names bitmaps (ToBack s) = on_layer names s BehindAct
@@ -103,21 +104,25 @@ closing_lines names All updating = ReleaseLine ∷ []
 
 -- the lines before and behind call number n of a task with these calls and groups
 abbrev pub lines_before : List (List ℕ) → List Call → List Group → ℕ → List LineForm
-lines_before names calls groups n = flat_map (λ g. if g.first == n then opening_lines names g.hold (is_update calls g) else []) groups
+lines_before names calls groups n =
+    flat_map (λ g. if g.first == n then opening_lines names g.hold (is_update calls g) else []) groups
 
 abbrev pub lines_behind : List (List ℕ) → List Call → List Group → ℕ → List LineForm
-lines_behind names calls groups n = flat_map (λ g. if g.last == n then closing_lines names g.hold (is_update calls g) else []) groups
+lines_behind names calls groups n =
+    flat_map (λ g. if g.last == n then closing_lines names g.hold (is_update calls g) else []) groups
 
 -- the lines of those of the calls that are left from number n on, with those of groups
 abbrev pub lines_from : Plan → List Call → List Group → ℕ → List Call → List LineForm
 lines_from p calls groups n [] = []
 lines_from p calls groups n (c ∷ cs) =
-    lines_before p.slot_names calls groups n ++ line_of_call p.slot_names p.bitmap_names c ∷ lines_behind p.slot_names calls groups n ++ lines_from p calls groups (n + 1) cs
+    lines_before p.slot_names calls groups n ++ line_of_call p.slot_names p.bitmap_names c ∷
+    lines_behind p.slot_names calls groups n ++ lines_from p calls groups (n + 1) cs
 
 -- the lines of a task
 abbrev pub lines_of_task : Plan → ℕ → List LineForm
 lines_of_task p t =
-    TaskLine (slice_index_or p.task_names t []) ∷ lines_from p (task_calls p t) (task_groups p t) 0 (task_calls p t) ++ EndLine ∷ []
+    TaskLine (slice_index_or p.task_names t []) ∷
+    lines_from p (task_calls p t) (task_groups p t) 0 (task_calls p t) ++ EndLine ∷ []
 
 -- the line of a code's glyph, where some bit of it is set
 abbrev pub lines_of_glyph : ℕ → List ℕ → List LineForm
@@ -126,12 +131,14 @@ lines_of_glyph code rows = if list_all (λ row. row == 0) rows then [] else Glyp
 -- the lines of a bitmap, row by row and plane by plane
 abbrev pub lines_of_bitmap : List ℕ → Bitmap → List LineForm
 lines_of_bitmap name b =
-    BitmapLine name (pos b.width) (pos b.height) (pos b.depth) ∷ flat_map (λ k. map (λ y. RowLine (plane_row b k y)) (range_with_len 0 b.height)) (range_with_len 0 b.depth)
+    BitmapLine name (pos b.width) (pos b.height) (pos b.depth) ∷
+    flat_map (λ k. map (λ y. RowLine (plane_row b k y)) (range_with_len 0 b.height)) (range_with_len 0 b.depth)
 
 -- the lines of a plan
 abbrev pub lines_of_plan : Plan → List LineForm
 lines_of_plan p =
-    ScreenLine (pos p.sizes.width) (pos p.sizes.height) (pos p.sizes.depth) ∷ flat_map (λ i. lines_of_glyph (32 + i) (slice_index_or p.assets.glyphs i [])) (range_with_len 0 95)
+    ScreenLine (pos p.sizes.width) (pos p.sizes.height) (pos p.sizes.depth) ∷
+    flat_map (λ i. lines_of_glyph (32 + i) (slice_index_or p.assets.glyphs i [])) (range_with_len 0 95)
     ++ flat_map (λ b. lines_of_bitmap (slice_index_or p.bitmap_names b.0 []) b.1) (enumerated 0 p.assets.bitmaps)
     ++ flat_map (lines_of_task p) (range_with_len 0 p.sizes.tasks)
 
@@ -147,4 +154,5 @@ canonical_input p = record { plan = p; order = []; rest = length (canonical_text
 -- alone.
 abbrev pub CanonicalTextsReadBack : Type 0
 CanonicalTextsReadBack =
-    (s : Setting) (bytes : List ℕ) (input : ScriptInput) → SpellsInput s bytes input → input.plan.sizes.tasks ≡ 1 → SpellsInput (record { hooks = s.hooks; form = Plain }) (canonical_text input.plan) (canonical_input input.plan)
+    (s : Setting) (bytes : List ℕ) (input : ScriptInput) → SpellsInput s bytes input → input.plan.sizes.tasks ≡ 1
+    → SpellsInput (record { hooks = s.hooks; form = Plain }) (canonical_text input.plan) (canonical_input input.plan)

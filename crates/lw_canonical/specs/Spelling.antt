@@ -72,7 +72,8 @@ class_letter letter classes = if classes % 2 == 1 then letter ∷ [] else []
 -- the letters of a set of classes of messages: r, n, c, a, i for the bits 0 to 4
 abbrev pub set_word : ℕ → List ℕ
 set_word classes =
-    class_letter 114 classes ++ class_letter 110 (classes / 2) ++ class_letter 99 (classes / 4) ++ class_letter 97 (classes / 8) ++ class_letter 105 (classes / 16)
+    class_letter 114 classes ++ class_letter 110 (classes / 2) ++ class_letter 99 (classes / 4)
+    ++ class_letter 97 (classes / 8) ++ class_letter 105 (classes / 16)
 
 -- ask SET, where the set has a class
 abbrev pub ask_words : ℕ → List (List ℕ)
@@ -87,7 +88,8 @@ created_words SuperBitmap a = signed_decimal a.bits_w ∷ signed_decimal a.bits_
 -- the same of a window: BW BH [backdrop] [ask SET], or [backdrop] [borderless] [nocare] [hook N] [ask SET]
 abbrev pub plain_words : Asked → Bool → Bool → ℕ → List (List ℕ)
 plain_words a framed nocare classes =
-    flag_words (codes "backdrop") a.backdrop ++ flag_words (codes "borderless") (not framed) ++ flag_words (codes "nocare") nocare ++ hook_words a.hook ++ ask_words classes
+    flag_words (codes "backdrop") a.backdrop ++ flag_words (codes "borderless") (not framed) ++ flag_words (codes "nocare") nocare
+    ++ hook_words a.hook ++ ask_words classes
 
 abbrev pub opened_words : Kind → Asked → Bool → Bool → ℕ → List (List ℕ)
 opened_words Simple a framed nocare classes = plain_words a framed nocare classes
@@ -100,9 +102,11 @@ abbrev pub call_words : List (List ℕ) → Act → List (List ℕ)
 call_words layers (RegRectAct op r rect) = rect_word op ∷ signed_decimal r ∷ four_words rect
 call_words layers (RegPairAct op s r) = pair_word op ∷ signed_decimal s ∷ signed_decimal r ∷ []
 call_words layers (RegClearAct r) = codes "clearregion" ∷ signed_decimal r ∷ []
-call_words layers (CreateAct a) = codes "create" ∷ layers ++ kind_word a.kind ∷ place_word a.place ∷ four_words a.box ++ created_words a.kind a
+call_words layers (CreateAct a) =
+    codes "create" ∷ layers ++ kind_word a.kind ∷ place_word a.place ∷ four_words a.box ++ created_words a.kind a
 call_words layers (OpenAct a framed nocare classes title) =
-    codes "open" ∷ layers ++ kind_word a.kind ∷ place_word a.place ∷ four_words a.box ++ opened_words a.kind a framed nocare classes ++ text_word title ∷ []
+    codes "open" ∷ layers ++ kind_word a.kind ∷ place_word a.place ∷ four_words a.box
+    ++ opened_words a.kind a framed nocare classes ++ text_word title ∷ []
 call_words layers CloseAct = codes "close" ∷ layers
 call_words layers FrontAct = codes "front" ∷ layers
 call_words layers BehindAct = codes "behind" ∷ layers
@@ -123,11 +127,14 @@ call_words layers (FillAct rect) = codes "fill" ∷ layers ++ four_words rect
 call_words layers (DrawAct x y) = codes "draw" ∷ layers ++ signed_decimal x ∷ signed_decimal y ∷ []
 call_words layers (TextAct text) = codes "text" ∷ layers ++ text_word text ∷ []
 call_words layers (SetRastAct p) = codes "setrast" ∷ layers ++ signed_decimal p ∷ []
-call_words layers (ScrollRasterAct dx dy rect) = codes "scrollraster" ∷ layers ++ signed_decimal dx ∷ signed_decimal dy ∷ four_words rect
+call_words layers (ScrollRasterAct dx dy rect) =
+    codes "scrollraster" ∷ layers ++ signed_decimal dx ∷ signed_decimal dy ∷ four_words rect
 call_words layers (PutAct bm b) =
-    codes "put" ∷ bm ∷ signed_decimal b.sx ∷ signed_decimal b.sy ∷ layers ++ signed_decimal b.x ∷ signed_decimal b.y ∷ signed_decimal b.w ∷ signed_decimal b.h ∷ hex_byte b.minterm ∷ []
+    codes "put" ∷ bm ∷ signed_decimal b.sx ∷ signed_decimal b.sy ∷ layers
+    ++ signed_decimal b.x ∷ signed_decimal b.y ∷ signed_decimal b.w ∷ signed_decimal b.h ∷ hex_byte b.minterm ∷ []
 call_words layers (BlitAct b) =
-    codes "blit" ∷ slice_index_or layers 0 [] ∷ signed_decimal b.sx ∷ signed_decimal b.sy ∷ slice_index_or layers 1 [] ∷ signed_decimal b.x ∷ signed_decimal b.y ∷ signed_decimal b.w ∷ signed_decimal b.h ∷ hex_byte b.minterm ∷ []
+    codes "blit" ∷ slice_index_or layers 0 [] ∷ signed_decimal b.sx ∷ signed_decimal b.sy ∷ slice_index_or layers 1 [] ∷
+    signed_decimal b.x ∷ signed_decimal b.y ∷ signed_decimal b.w ∷ signed_decimal b.h ∷ hex_byte b.minterm ∷ []
 call_words layers (ClipAct r) = codes "clip" ∷ layers ++ signed_decimal r ∷ []
 call_words layers UnclipAct = codes "unclip" ∷ layers
 call_words layers RefreshAct = codes "refresh" ∷ layers

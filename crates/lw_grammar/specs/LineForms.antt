@@ -170,7 +170,8 @@ text_line act _ = None
 
 -- orrect R X0 Y0 X1 Y1, and its kin
 abbrev pub rect_line : RectOp → List Token → Option LineForm
-rect_line op (NumberToken a r ∷ NumberToken b x0 ∷ NumberToken c y0 ∷ NumberToken d x1 ∷ NumberToken e y1 ∷ []) = Some (CallLine [] (RegRectAct op r (four x0 y0 x1 y1)))
+rect_line op (NumberToken a r ∷ NumberToken b x0 ∷ NumberToken c y0 ∷ NumberToken d x1 ∷ NumberToken e y1 ∷ []) =
+    Some (CallLine [] (RegRectAct op r (four x0 y0 x1 y1)))
 rect_line op _ = None
 
 -- orregion S R, and its kin
@@ -195,7 +196,8 @@ infront_line _ = None
 
 -- box L X Y W H, and fill L X0 Y0 X1 Y1
 abbrev pub four_line : (ℤ → ℤ → ℤ → ℤ → Act) → List Token → Option LineForm
-four_line act (NameToken l ∷ NumberToken a x ∷ NumberToken b y ∷ NumberToken c w ∷ NumberToken d h ∷ []) = Some (CallLine (l ∷ []) (act x y w h))
+four_line act (NameToken l ∷ NumberToken a x ∷ NumberToken b y ∷ NumberToken c w ∷ NumberToken d h ∷ []) =
+    Some (CallLine (l ∷ []) (act x y w h))
 four_line act _ = None
 
 -- scrollraster L DX DY X0 Y0 X1 Y1
@@ -212,25 +214,29 @@ minterm_of _ = None
 -- put BM SX SY L X Y W H MM
 abbrev pub put_line : List Token → Option LineForm
 put_line (NameToken bm ∷ NumberToken a sx ∷ NumberToken b sy ∷ NameToken l ∷ NumberToken c x ∷ NumberToken d y ∷ NumberToken e w ∷ NumberToken f h ∷ mm ∷ []) =
-    option_map (λ m. CallLine (l ∷ []) (PutAct bm (record { sx = sx; sy = sy; x = x; y = y; w = w; h = h; minterm = m }))) (minterm_of (bytes_in 1 mm))
+    option_map (λ m. CallLine (l ∷ []) (PutAct bm (record { sx = sx; sy = sy; x = x; y = y; w = w; h = h; minterm = m })))
+    (minterm_of (bytes_in 1 mm))
 put_line _ = None
 
 -- blit L SX SY M X Y W H MM
 abbrev pub blit_line : List Token → Option LineForm
 blit_line (NameToken l ∷ NumberToken a sx ∷ NumberToken b sy ∷ NameToken m ∷ NumberToken c x ∷ NumberToken d y ∷ NumberToken e w ∷ NumberToken f h ∷ mm ∷ []) =
-    option_map (λ k. CallLine (l ∷ m ∷ []) (BlitAct (record { sx = sx; sy = sy; x = x; y = y; w = w; h = h; minterm = k }))) (minterm_of (bytes_in 1 mm))
+    option_map (λ k. CallLine (l ∷ m ∷ []) (BlitAct (record { sx = sx; sy = sy; x = x; y = y; w = w; h = h; minterm = k })))
+    (minterm_of (bytes_in 1 mm))
 blit_line _ = None
 
 -- endrefresh L full, endrefresh L part
 abbrev pub endrefresh_line : List Token → Option LineForm
 endrefresh_line (NameToken l ∷ NameToken how ∷ []) =
-    if bytes_eq how (codes "full") then Some (CallLine (l ∷ []) (EndRefreshAct true)) else (if bytes_eq how (codes "part") then Some (CallLine (l ∷ []) (EndRefreshAct false)) else None)
+    if bytes_eq how (codes "full") then Some (CallLine (l ∷ []) (EndRefreshAct true))
+    else (if bytes_eq how (codes "part") then Some (CallLine (l ∷ []) (EndRefreshAct false)) else None)
 endrefresh_line _ = None
 
 -- the word is one of a layer's kinds
 abbrev pub kind_of : List ℕ → Option Kind
 kind_of w =
-    if bytes_eq w (codes "simple") then Some Simple else (if bytes_eq w (codes "smart") then Some Smart else (if bytes_eq w (codes "super") then Some SuperBitmap else None))
+    if bytes_eq w (codes "simple") then Some Simple
+    else (if bytes_eq w (codes "smart") then Some Smart else (if bytes_eq w (codes "super") then Some SuperBitmap else None))
 
 -- the word is a place
 abbrev pub place_of : List ℕ → Option Place
@@ -244,19 +250,22 @@ flag w (t ∷ ts) = (false, t ∷ ts)
 
 -- optional words hook N, and what stands behind them
 abbrev pub hook_option : List Token → Option ℤ × List Token
-hook_option (NameToken n ∷ NumberToken a z ∷ ts) = if bytes_eq n (codes "hook") then (Some z, ts) else (None, NameToken n ∷ NumberToken a z ∷ ts)
+hook_option (NameToken n ∷ NumberToken a z ∷ ts) =
+    if bytes_eq n (codes "hook") then (Some z, ts) else (None, NameToken n ∷ NumberToken a z ∷ ts)
 hook_option ts = (None, ts)
 
 -- the class of messages that a letter of a set stands for
 abbrev pub class_of : ℕ → Option ℕ
 class_of b =
-    if b == 114 then Some 0 else (if b == 110 then Some 1 else (if b == 99 then Some 2 else (if b == 97 then Some 3 else (if b == 105 then Some 4 else None))))
+    if b == 114 then Some 0 else (if b == 110 then Some 1
+    else (if b == 99 then Some 2 else (if b == 97 then Some 3 else (if b == 105 then Some 4 else None))))
 
 -- the set of classes that letters stand for, in rising order from this class on, each at most once
 abbrev pub classes_from : ℕ → List ℕ → Option ℕ
 classes_from least [] = Some 0
 classes_from least (b ∷ bs) =
-    option_and_then (λ k. if nat_le least k then option_map (λ rest. 2 ^ k + rest) (classes_from (k + 1) bs) else None) (class_of b)
+    option_and_then (λ k. if nat_le least k then option_map (λ rest. 2 ^ k + rest) (classes_from (k + 1) bs) else None)
+    (class_of b)
 
 -- what a set is, or none, with what stands behind
 abbrev pub asked_classes : Option ℕ → List Token → List Token → ℕ × List Token
@@ -266,7 +275,8 @@ asked_classes None behind all = (0, all)
 -- optional words ask SET, and what stands behind them
 abbrev pub ask_option : List Token → ℕ × List Token
 ask_option (NameToken n ∷ NameToken set ∷ ts) =
-    if bytes_eq n (codes "ask") then asked_classes (classes_from 0 set) ts (NameToken n ∷ NameToken set ∷ ts) else (0, NameToken n ∷ NameToken set ∷ ts)
+    if bytes_eq n (codes "ask") then asked_classes (classes_from 0 set) ts (NameToken n ∷ NameToken set ∷ ts)
+    else (0, NameToken n ∷ NameToken set ∷ ts)
 ask_option ts = (0, ts)
 
 -- the form, where no word is left
@@ -303,7 +313,8 @@ create_kind l place box ts SuperBitmap = create_super l place box ts
 
 -- the title, where it is the last word
 abbrev pub titled_line : List ℕ → Asked → Bool → Bool → ℕ → List Token → Option LineForm
-titled_line l asked framed nocare classes (TextToken title ∷ []) = Some (CallLine (l ∷ []) (OpenAct asked framed nocare classes title))
+titled_line l asked framed nocare classes (TextToken title ∷ []) =
+    Some (CallLine (l ∷ []) (OpenAct asked framed nocare classes title))
 titled_line l asked framed nocare classes _ = None
 
 -- what stands behind the four numbers of an opening: [backdrop] [borderless] [nocare] [hook N] [ask SET] "TITLE", or
@@ -444,7 +455,8 @@ is_act_in_range act = true
 abbrev pub is_line_in_range : LineForm → Bool
 is_line_in_range (ScreenLine w h d) = (within (pos 1) w (pos 1024) && within (pos 1) h (pos 1024)) && within (pos 1) d (pos 8)
 is_line_in_range (GlyphLine code rows) = nat_le 32 code && nat_le code 126
-is_line_in_range (BitmapLine name w h d) = (within (pos 1) w (pos 1024) && within (pos 1) h (pos 1024)) && within (pos 1) d (pos 8)
+is_line_in_range (BitmapLine name w h d) =
+    (within (pos 1) w (pos 1024) && within (pos 1) h (pos 1024)) && within (pos 1) d (pos 8)
 is_line_in_range (NumbersLine zs) = list_all (λ z. within (pos 0) z (pos 15)) zs
 is_line_in_range (CallLine layers act) = is_act_in_range act
 is_line_in_range form = true

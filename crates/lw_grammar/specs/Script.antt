@@ -318,9 +318,12 @@ IsFirstBadIn s ls n reason = lines_read s at_the_top ls ≡ Err (n, reason)
 
 -- Bytes either have a first bad line, with one number and one reason, or they spell an input, and one only.
 pub record IsDecidedIn (s : Setting) (bytes : List ℕ) : Type 0 where
-  pub either : ((n : ℕ) × (reason : Reason) × IsFirstBadIn s (lines bytes) n reason) ⊎ ((input : ScriptInput) × SpellsInput s bytes input)
-  pub not_both : (n : ℕ) (reason : Reason) (input : ScriptInput) → IsFirstBadIn s (lines bytes) n reason → SpellsInput s bytes input → ⊥
-  pub one_line : (m n : ℕ) (r q : Reason) → IsFirstBadIn s (lines bytes) m r → IsFirstBadIn s (lines bytes) n q → (m ≡ n) × (r ≡ q)
+  pub either : ((n : ℕ) × (reason : Reason) × IsFirstBadIn s (lines bytes) n reason)
+      ⊎ ((input : ScriptInput) × SpellsInput s bytes input)
+  pub not_both : (n : ℕ) (reason : Reason) (input : ScriptInput)
+      → IsFirstBadIn s (lines bytes) n reason → SpellsInput s bytes input → ⊥
+  pub one_line : (m n : ℕ) (r q : Reason)
+      → IsFirstBadIn s (lines bytes) m r → IsFirstBadIn s (lines bytes) n q → (m ≡ n) × (r ≡ q)
   pub one_input : (p q : ScriptInput) → SpellsInput s bytes p → SpellsInput s bytes q → p ≡ q
 
 -- every input is decided
@@ -338,7 +341,8 @@ pub record IsRunnableInput (s : Setting) (input : ScriptInput) : Type 0 where
 
 -- every input that bytes spell may be run
 abbrev pub SpelledInputsAreRunnable : Type 0
-SpelledInputsAreRunnable = (s : Setting) (bytes : List ℕ) (input : ScriptInput) → SpellsInput s bytes input → IsRunnableInput s input
+SpelledInputsAreRunnable =
+    (s : Setting) (bytes : List ℕ) (input : ScriptInput) → SpellsInput s bytes input → IsRunnableInput s input
 
 -- The forms are those of lines that were good where they stood.
 pub record IsGoodLine (s : Setting) (above : List LineForm) (form : LineForm) : Type 0 where

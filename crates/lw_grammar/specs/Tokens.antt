@@ -30,9 +30,12 @@ abbrev pub tokens_at : Bool → List ℕ → Result (List (List ℕ)) Reason
 tokens_at true [] = Err Spacing
 tokens_at false [] = Ok ([] ∷ [])
 tokens_at true (b ∷ bs) =
-    if b == space then Err Spacing else (if b == quote then (if ends_text bs then Ok ((b ∷ bs) ∷ []) else Err Quote) else on_found (onto_first b) (tokens_at false bs))
+    if b == space then Err Spacing
+    else (if b == quote then (if ends_text bs then Ok ((b ∷ bs) ∷ []) else Err Quote)
+    else on_found (onto_first b) (tokens_at false bs))
 tokens_at false (b ∷ bs) =
-    if b == space then on_found (λ ws. [] ∷ ws) (tokens_at true bs) else (if b == quote then Err Quote else on_found (onto_first b) (tokens_at false bs))
+    if b == space then on_found (λ ws. [] ∷ ws) (tokens_at true bs)
+    else (if b == quote then Err Quote else on_found (onto_first b) (tokens_at false bs))
 
 -- the words of a line, or its leftmost fault of spacing or quotes
 abbrev pub tokens : List ℕ → Result (List (List ℕ)) Reason
@@ -103,7 +106,9 @@ is_a_text (b ∷ bs) = b == quote
 -- what a word is
 abbrev pub token_of : List ℕ → Token
 token_of word =
-    if is_a_text word then TextToken (without_last (drop 1 word)) else (if is_a_name word then NameToken word else (if is_a_number word then NumberToken word (value_of_number word) else OddToken word))
+    if is_a_text word then TextToken (without_last (drop 1 word))
+    else (if is_a_name word then NameToken word
+    else (if is_a_number word then NumberToken word (value_of_number word) else OddToken word))
 
 -- a lower-case hexadecimal digit
 abbrev pub is_hex : ℕ → Bool

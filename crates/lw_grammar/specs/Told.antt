@@ -133,7 +133,8 @@ spelled_call bitmaps (RegRectAct op r rect) slots = RegRect op (unsigned_abs r) 
 spelled_call bitmaps (RegPairAct op s r) slots = RegPair op (unsigned_abs s) (unsigned_abs r)
 spelled_call bitmaps (RegClearAct r) slots = RegClear (unsigned_abs r)
 spelled_call bitmaps (CreateAct asked) slots = Create (slice_index slots 0) (created_make asked)
-spelled_call bitmaps (OpenAct asked framed nocare classes title) slots = OpenWindow (slice_index slots 0) (opened_make asked) framed nocare classes title
+spelled_call bitmaps (OpenAct asked framed nocare classes title) slots =
+    OpenWindow (slice_index slots 0) (opened_make asked) framed nocare classes title
 spelled_call bitmaps CloseAct slots = Close (slice_index slots 0)
 spelled_call bitmaps FrontAct slots = ToFront (slice_index slots 0)
 spelled_call bitmaps BehindAct slots = ToBack (slice_index slots 0)

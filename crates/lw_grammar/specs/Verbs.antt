@@ -38,8 +38,10 @@ unfoldable pub region_verb : List ℕ → Option Verb
 region_verb word =
     looked_up
     (
-    (codes "orrect", OrRectVerb) ∷ (codes "andrect", AndRectVerb) ∷ (codes "xorrect", XorRectVerb) ∷ (codes "clearrect", ClearRectVerb) ∷
-    (codes "orregion", OrRegionVerb) ∷ (codes "andregion", AndRegionVerb) ∷ (codes "xorregion", XorRegionVerb) ∷ (codes "clearregion", ClearRegionVerb) ∷ []
+    (codes "orrect", OrRectVerb) ∷ (codes "andrect", AndRectVerb) ∷ (codes "xorrect", XorRectVerb) ∷
+    (codes "clearrect", ClearRectVerb) ∷
+    (codes "orregion", OrRegionVerb) ∷ (codes "andregion", AndRegionVerb) ∷ (codes "xorregion", XorRegionVerb) ∷
+    (codes "clearregion", ClearRegionVerb) ∷ []
     )
     word
 
@@ -71,7 +73,8 @@ drawing_verb word =
     looked_up
     (
     (codes "write", WriteVerb) ∷ (codes "read", ReadVerb) ∷ (codes "fill", FillVerb) ∷ (codes "draw", DrawVerb) ∷
-    (codes "text", TextVerb) ∷ (codes "setrast", SetRastVerb) ∷ (codes "scrollraster", ScrollRasterVerb) ∷ (codes "put", PutVerb) ∷
+    (codes "text", TextVerb) ∷ (codes "setrast", SetRastVerb) ∷ (codes "scrollraster", ScrollRasterVerb) ∷
+    (codes "put", PutVerb) ∷
     (codes "blit", BlitVerb) ∷ []
     )
     word
@@ -88,4 +91,5 @@ clip_verb word =
 -- The verb that a word is, if it is one.
 unfoldable pub verb_of : List ℕ → Option Verb
 verb_of word =
-    or_next (part_verb word) (or_next (group_verb word) (or_next (region_verb word) (or_next (arrangement_verb word) (or_next (state_verb word) (or_next (drawing_verb word) (clip_verb word))))))
+    or_next (part_verb word) (or_next (group_verb word) (or_next (region_verb word)
+    (or_next (arrangement_verb word) (or_next (state_verb word) (or_next (drawing_verb word) (clip_verb word))))))

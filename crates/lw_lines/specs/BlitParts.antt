@@ -16,19 +16,23 @@ end_taken ts = option_and_then (λ taken. option_map (λ m. (taken.0, m)) (only_
 
 -- what stands before: a name, SX SY, and a name
 abbrev pub begin_line : (List ℕ → ℤ → ℤ → List ℕ → Rectangle → ℕ → LineForm) → List Token → Option LineForm
-begin_line form (NameToken n ∷ NumberToken a sx ∷ NumberToken b sy ∷ NameToken l ∷ ts) = option_map (λ e. form n sx sy l e.0 e.1) (end_taken ts)
+begin_line form (NameToken n ∷ NumberToken a sx ∷ NumberToken b sy ∷ NameToken l ∷ ts) =
+    option_map (λ e. form n sx sy l e.0 e.1) (end_taken ts)
 begin_line form _ = None
 
 -- the form of a bitmap's blit, and that of a blit from a layer
 abbrev pub put_end : List ℕ → ℤ → ℤ → List ℕ → Rectangle → ℕ → LineForm
 put_end bm sx sy l box m =
-    CallLine (l ∷ []) (PutAct bm (record { sx = sx; sy = sy; x = box.min_x; y = box.min_y; w = box.max_x; h = box.max_y; minterm = m }))
+    CallLine (l ∷ [])
+    (PutAct bm (record { sx = sx; sy = sy; x = box.min_x; y = box.min_y; w = box.max_x; h = box.max_y; minterm = m }))
 
 abbrev pub blit_between : List ℕ → ℤ → ℤ → List ℕ → Rectangle → ℕ → LineForm
 blit_between n sx sy l box m =
-    CallLine (n ∷ l ∷ []) (BlitAct (record { sx = sx; sy = sy; x = box.min_x; y = box.min_y; w = box.max_x; h = box.max_y; minterm = m }))
+    CallLine (n ∷ l ∷ [])
+    (BlitAct (record { sx = sx; sy = sy; x = box.min_x; y = box.min_y; w = box.max_x; h = box.max_y; minterm = m }))
 
 -- scrollraster L DX DY, and four numbers
 abbrev pub scroll_parts : List Token → Option LineForm
-scroll_parts (NameToken l ∷ NumberToken a dx ∷ NumberToken b dy ∷ ts) = option_map (λ r. CallLine (l ∷ []) (ScrollRasterAct dx dy r)) (only_numbers ts)
+scroll_parts (NameToken l ∷ NumberToken a dx ∷ NumberToken b dy ∷ ts) =
+    option_map (λ r. CallLine (l ∷ []) (ScrollRasterAct dx dy r)) (only_numbers ts)
 scroll_parts _ = None

@@ -59,7 +59,8 @@ impl Act<'_> {
 
     /// Whether its call can be made so far, whichever layers and bitmaps it names.
     pub fn is_built(&self) -> bool
-        ensures { (bitmaps : List (List ℕ)) (slots : List ℕ) → result ≡ is_built (spelled_call bitmaps (act_meaning self.now) slots) }
+        ensures { (bitmaps : List (List ℕ)) (slots : List ℕ)
+            → result ≡ is_built (spelled_call bitmaps (act_meaning self.now) slots) }
     {
         match self {
             Act::Create(asked) => asked.is_hookless(),

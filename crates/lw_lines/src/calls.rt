@@ -126,7 +126,8 @@ impl Blitting {
 
 impl BareAct {
     fn call(&self, slot: u32) -> Call
-        ensures { (bitmaps : List (List ℕ)) (slots : List ℕ) → result ≡ spelled_call bitmaps (bare_meaning self.now) (slot ∷ slots) }
+        ensures { (bitmaps : List (List ℕ)) (slots : List ℕ)
+            → result ≡ spelled_call bitmaps (bare_meaning self.now) (slot ∷ slots) }
     {
         match self {
             BareAct::Close => Call::Close { slot },
@@ -143,7 +144,8 @@ impl BareAct {
 impl NumberAct {
     fn call(&self, slot: u32, number: i64) -> Call
         requires { IsTrue (is_act_in_range (number_meaning self.now number)) }
-        ensures { (bitmaps : List (List ℕ)) (slots : List ℕ) → result ≡ spelled_call bitmaps (number_meaning self.now number) (slot ∷ slots) }
+        ensures { (bitmaps : List (List ℕ)) (slots : List ℕ)
+            → result ≡ spelled_call bitmaps (number_meaning self.now number) (slot ∷ slots) }
     {
         match self {
             NumberAct::APen => Call::SetA {
@@ -177,7 +179,8 @@ impl NumberAct {
 impl PairAct {
     fn call(&self, slot: u32, x: i64, y: i64) -> Call
         requires { IsTrue (coordinates_fit x y) }
-        ensures { (bitmaps : List (List ℕ)) (slots : List ℕ) → result ≡ spelled_call bitmaps (pair_meaning self.now x y) (slot ∷ slots) }
+        ensures { (bitmaps : List (List ℕ)) (slots : List ℕ)
+            → result ≡ spelled_call bitmaps (pair_meaning self.now x y) (slot ∷ slots) }
     {
         let (dx, dy) = (step(x), step(y));
         match self {
@@ -206,7 +209,8 @@ impl PairAct {
 
 impl TextAct {
     fn call(&self, slot: u32, text: Text) -> Call
-        ensures { (bitmaps : List (List ℕ)) (slots : List ℕ) → result ≡ spelled_call bitmaps (text_meaning self.now text) (slot ∷ slots) }
+        ensures { (bitmaps : List (List ℕ)) (slots : List ℕ)
+            → result ≡ spelled_call bitmaps (text_meaning self.now text) (slot ∷ slots) }
     {
         match self {
             TextAct::Text => Call::Letters { slot, text },

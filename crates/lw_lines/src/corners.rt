@@ -8,7 +8,8 @@ use lw_words::Token;
 
 /// Four numbers, and what stands behind them.
 pub(crate) fn corners_in<'a, 'b>(tokens: &'b [Token<'a>]) -> Option<(Corners, &'b [Token<'a>])>
-    ensures { option_map (λ p. (corners_meaning p.0, map token_meaning p.1.now)) result ≡ numbers_taken (map token_meaning tokens.now) }
+    ensures { option_map (λ p. (corners_meaning p.0, map token_meaning p.1.now)) result
+        ≡ numbers_taken (map token_meaning tokens.now) }
 {
     match tokens {
         [

@@ -130,7 +130,8 @@ fn create_plain<'a>(
     corners: Corners,
     tokens: &[Token<'a>],
 ) -> Option<LineForm<'a>>
-    ensures { option_map form_meaning result ≡ create_plain layer.now (plain_meaning kind) place (corners_meaning corners) (map token_meaning tokens.now) }
+    ensures { option_map form_meaning result
+        ≡ create_plain layer.now (plain_meaning kind) place (corners_meaning corners) (map token_meaning tokens.now) }
 {
     let (backdrop, rest) = flag(b"backdrop", tokens);
     let (hook, rest) = hook_in(rest);
@@ -154,7 +155,8 @@ fn create_super<'a>(
     corners: Corners,
     tokens: &[Token<'a>],
 ) -> Option<LineForm<'a>>
-    ensures { option_map form_meaning result ≡ create_super layer.now place (corners_meaning corners) (map token_meaning tokens.now) }
+    ensures { option_map form_meaning result
+        ≡ create_super layer.now place (corners_meaning corners) (map token_meaning tokens.now) }
 {
     match tokens {
         [
@@ -191,7 +193,8 @@ fn titled<'a>(
     classes: u8,
     tokens: &[Token<'a>],
 ) -> Option<LineForm<'a>>
-    ensures { option_map form_meaning result ≡ titled_line layer.now (asked_meaning asked) framed nocare classes (map token_meaning tokens.now) }
+    ensures { option_map form_meaning result
+        ≡ titled_line layer.now (asked_meaning asked) framed nocare classes (map token_meaning tokens.now) }
 {
     match tokens {
         [Token::Text(title)] => {
@@ -219,7 +222,8 @@ fn open_plain<'a>(
     corners: Corners,
     tokens: &[Token<'a>],
 ) -> Option<LineForm<'a>>
-    ensures { option_map form_meaning result ≡ open_plain layer.now (plain_meaning kind) place (corners_meaning corners) (map token_meaning tokens.now) }
+    ensures { option_map form_meaning result
+        ≡ open_plain layer.now (plain_meaning kind) place (corners_meaning corners) (map token_meaning tokens.now) }
 {
     let (backdrop, rest) = flag(b"backdrop", tokens);
     let (borderless, rest) = flag(b"borderless", rest);
@@ -267,7 +271,8 @@ fn open_super<'a>(
     corners: Corners,
     tokens: &[Token<'a>],
 ) -> Option<LineForm<'a>>
-    ensures { option_map form_meaning result ≡ open_super layer.now place (corners_meaning corners) (map token_meaning tokens.now) }
+    ensures { option_map form_meaning result ≡ open_super layer.now place (corners_meaning corners)
+        (map token_meaning tokens.now) }
 {
     match tokens {
         [
@@ -324,7 +329,8 @@ fn placed_form<'a>(
     tokens: &[Token<'a>],
 ) -> Option<LineForm<'a>>
     ensures { option_map form_meaning result ≡
-        with_words (behind_numbers request) layer.now kind.now place.now (corners_meaning corners) (map token_meaning tokens.now) }
+        with_words (behind_numbers request) layer.now kind.now place.now (corners_meaning corners)
+        (map token_meaning tokens.now) }
 {
     match place_of(place) {
         None => None,

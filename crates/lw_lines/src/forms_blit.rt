@@ -11,7 +11,16 @@ use lw_words::{Token, digits_in};
 
 /// A blit from this place, with these numbers and this minterm behind its names.
 fn blitting(sx: i64, sy: i64, corners: &Corners, minterm: u8) -> Blitting
-    ensures { result ≡ record { sx = sx; sy = sy; x = corners.now.x0; y = corners.now.y0; w = corners.now.x1; h = corners.now.y1; minterm = minterm } }
+    ensures { result
+        ≡ record {
+          sx = sx;
+          sy = sy;
+          x = corners.now.x0;
+          y = corners.now.y0;
+          w = corners.now.x1;
+          h = corners.now.y1;
+          minterm = minterm;
+        } }
 {
     Blitting {
         sx,

@@ -31,7 +31,8 @@ pub(crate) fn screen_form<'a>(tokens: &[Token<'a>]) -> Option<LineForm<'a>>
 
 /// The glyph of a code and of its rows.
 fn glyph_of<'a>(code: &Token<'a>, rows: &Token<'a>) -> Option<LineForm<'a>>
-    ensures { option_map form_meaning result ≡ glyph_of_bytes (bytes_in 1 (token_meaning code.now)) (bytes_in 8 (token_meaning rows.now)) }
+    ensures { option_map form_meaning result
+        ≡ glyph_of_bytes (bytes_in 1 (token_meaning code.now)) (bytes_in 8 (token_meaning rows.now)) }
 {
     match digits_in(1, code) {
         None => None,

@@ -20,7 +20,8 @@ closing_at names calls (g ∷ gs) n = if g.last == n then closing_lines names g.
 -- the lines of call number n, with those of its group
 abbrev pub lines_at : Plan → List Call → List Group → ℕ → Call → List LineForm
 lines_at p calls groups n c =
-    opening_at p.slot_names calls groups n ++ (line_of_call p.slot_names p.bitmap_names c ∷ closing_at p.slot_names calls groups n)
+    opening_at p.slot_names calls groups n
+    ++ (line_of_call p.slot_names p.bitmap_names c ∷ closing_at p.slot_names calls groups n)
 
 -- the groups that are left behind call number n
 abbrev pub left_behind : List Group → ℕ → List Group

@@ -50,7 +50,8 @@ fn push_header(
     name: &[u8],
     bitmap: &Planes,
 ) -> Result<(), AllocError>
-    ensures { OnOk result (out.new.items ≡ out.old.items ++ line_of (spelled (BitmapLine name.now (pos bitmap.now.width) (pos bitmap.now.height) (pos bitmap.now.depth)))) }
+    ensures { OnOk result (out.new.items ≡ out.old.items
+        ++ line_of (spelled (BitmapLine name.now (pos bitmap.now.width) (pos bitmap.now.height) (pos bitmap.now.depth)))) }
 {
     out.extend_from_slice(b"bitmap ")?;
     out.extend_from_slice(name)?;
@@ -62,7 +63,9 @@ fn push_header(
 
 /// Writes the rows of a bitmap plane by plane.
 fn push_planes(out: &mut Vec<u8>, bitmap: &Planes) -> Result<(), AllocError>
-    ensures { OnOk result (out.new.items ≡ out.old.items ++ text_of_lines (flat_map (λ k. map (λ y. RowLine (plane_row bitmap.now k y)) (range_with_len 0 bitmap.now.height)) (range_with_len 0 bitmap.now.depth))) }
+    ensures { OnOk result (out.new.items ≡ out.old.items
+        ++ text_of_lines (flat_map (λ k. map (λ y. RowLine (plane_row bitmap.now k y)) (range_with_len 0 bitmap.now.height))
+        (range_with_len 0 bitmap.now.depth))) }
 {
     for plane in 0..bitmap.depth() {
         push_rows(out, bitmap, plane)?;

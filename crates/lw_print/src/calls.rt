@@ -72,7 +72,10 @@ fn push_blit(
     layer: &[u8],
     area: &Area,
 ) -> Result<(), AllocError>
-    ensures { OnOk result (out.new.items ≡ out.old.items ++ behind (source.now ∷ signed_decimal area.now.sx ∷ signed_decimal area.now.sy ∷ layer.now ∷ signed_decimal area.now.x ∷ signed_decimal area.now.y ∷ signed_decimal area.now.w ∷ signed_decimal area.now.h ∷ hex_byte area.now.minterm ∷ [])) }
+    ensures { OnOk result (out.new.items ≡ out.old.items
+        ++ behind (source.now ∷ signed_decimal area.now.sx ∷ signed_decimal area.now.sy ∷ layer.now ∷
+        signed_decimal area.now.x ∷ signed_decimal area.now.y ∷
+        signed_decimal area.now.w ∷ signed_decimal area.now.h ∷ hex_byte area.now.minterm ∷ [])) }
 {
     push_placed(alloc, out, source, area.sx, area.sy)?;
     push_placed(alloc, out, layer, area.x, area.y)?;

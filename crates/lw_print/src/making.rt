@@ -14,7 +14,9 @@ use std::alloc::{AllocError, Global};
 
 /// Writes what a creation asks for: its kind and place, its bounds and its options.
 pub fn push_created(alloc: Global, out: &mut Vec<u8>, make: &Make) -> Result<(), AllocError>
-    ensures { OnOk result (out.new.items ≡ out.old.items ++ behind (kind_word make.now.kind ∷ place_word make.now.place ∷ four_words (created_asked make.now).box ++ created_words make.now.kind (created_asked make.now))) }
+    ensures { OnOk result (out.new.items ≡ out.old.items
+        ++ behind (kind_word make.now.kind ∷ place_word make.now.place ∷ four_words (created_asked make.now).box
+        ++ created_words make.now.kind (created_asked make.now))) }
 {
     push_kind_and_place(out, make)?;
     push_created_bounds(alloc, out, make)?;
@@ -60,7 +62,9 @@ fn push_created_bounds(alloc: Global, out: &mut Vec<u8>, make: &Make) -> Result<
 
 /// Writes the last column and the last row of a layer that is created.
 fn push_last_corner(alloc: Global, out: &mut Vec<u8>, make: &Make) -> Result<(), AllocError>
-    ensures { OnOk result (out.new.items ≡ out.old.items ++ behind (signed_decimal ((make.now.x +ℤ make.now.w) -ℤ pos 1) ∷ signed_decimal ((make.now.y +ℤ make.now.h) -ℤ pos 1) ∷ [])) }
+    ensures { OnOk result (out.new.items ≡ out.old.items
+        ++ behind (signed_decimal ((make.now.x +ℤ make.now.w) -ℤ pos 1) ∷
+        signed_decimal ((make.now.y +ℤ make.now.h) -ℤ pos 1) ∷ [])) }
 {
     push_last(alloc, out, make.x, make.w)?;
     push_last(alloc, out, make.y, make.h)
@@ -98,7 +102,8 @@ fn push_backdrop(out: &mut Vec<u8>, make: &Make) -> Result<(), AllocError>
 
 /// Writes the width and height of a layer's own bitmap.
 fn push_bits(alloc: Global, out: &mut Vec<u8>, make: &Make) -> Result<(), AllocError>
-    ensures { OnOk result (out.new.items ≡ out.old.items ++ behind (signed_decimal (pos make.now.bits_w) ∷ signed_decimal (pos make.now.bits_h) ∷ [])) }
+    ensures { OnOk result (out.new.items ≡ out.old.items
+        ++ behind (signed_decimal (pos make.now.bits_w) ∷ signed_decimal (pos make.now.bits_h) ∷ [])) }
 {
     push_spaced(alloc, out, make.bits_w as usize)?;
     push_spaced(alloc, out, make.bits_h as usize)
@@ -113,7 +118,9 @@ pub fn push_opened(
     nocare: bool,
     asks: u8,
 ) -> Result<(), AllocError>
-    ensures { OnOk result (out.new.items ≡ out.old.items ++ behind (kind_word make.now.kind ∷ place_word make.now.place ∷ four_words (opened_asked make.now).box ++ opened_words make.now.kind (opened_asked make.now) framed nocare asks)) }
+    ensures { OnOk result (out.new.items ≡ out.old.items
+        ++ behind (kind_word make.now.kind ∷ place_word make.now.place ∷ four_words (opened_asked make.now).box
+        ++ opened_words make.now.kind (opened_asked make.now) framed nocare asks)) }
 {
     push_kind_and_place(out, make)?;
     push_opened_box(alloc, out, make)?;
@@ -136,7 +143,8 @@ fn push_opened_options(
     nocare: bool,
     asks: u8,
 ) -> Result<(), AllocError>
-    ensures { OnOk result (out.new.items ≡ out.old.items ++ behind (opened_words make.now.kind (opened_asked make.now) framed nocare asks)) }
+    ensures { OnOk result (out.new.items ≡ out.old.items
+        ++ behind (opened_words make.now.kind (opened_asked make.now) framed nocare asks)) }
 {
     match make.kind {
         Kind::SuperBitmap => {

@@ -26,7 +26,9 @@ pub fn push_task(alloc: Global, out: &mut Vec<u8>, plan: &Plan, task: u32) -> Re
 /// Writes the lines of a task's calls and groups.
 fn push_calls(alloc: Global, out: &mut Vec<u8>, plan: &Plan, task: u32) -> Result<(), AllocError>
     requires { task < plan.now.sizes.tasks }
-    ensures { OnOk result (out.new.items ≡ out.old.items ++ text_of_lines (lines_from plan.now (task_calls plan.now task) (task_groups plan.now task) 0 (task_calls plan.now task))) }
+    ensures { OnOk result (out.new.items ≡ out.old.items
+        ++ text_of_lines (lines_from plan.now (task_calls plan.now task) (task_groups plan.now task) 0
+        (task_calls plan.now task))) }
 {
     // The clause of `sizes` tells the proof that the groups of the task stand in order.
     let _sizes = plan.sizes();
@@ -49,7 +51,8 @@ fn push_grouped(
     number: usize,
     call: &Call,
 ) -> Result<(), AllocError>
-    ensures { OnOk result (out.new.items ≡ out.old.items ++ text_of_lines (lines_at plan.now calls.now left.now number call.now)) }
+    ensures { OnOk result (out.new.items ≡ out.old.items
+        ++ text_of_lines (lines_at plan.now calls.now left.now number call.now)) }
 {
     push_opening(out, plan.slot_names(), calls, left, number)?;
     push_call(alloc, out, plan.slot_names(), plan.bitmap_names(), call)?;

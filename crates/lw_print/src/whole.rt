@@ -31,7 +31,8 @@ pub fn print(alloc: Global, plan: &Plan) -> Result<Vec<u8>, AllocError>
 
 /// Writes the line with the sizes of the screen.
 fn push_screen(alloc: Global, out: &mut Vec<u8>, plan: &Plan) -> Result<(), AllocError>
-    ensures { OnOk result (out.new.items ≡ out.old.items ++ line_of (spelled (ScreenLine (pos plan.now.sizes.width) (pos plan.now.sizes.height) (pos plan.now.sizes.depth)))) }
+    ensures { OnOk result (out.new.items ≡ out.old.items
+        ++ line_of (spelled (ScreenLine (pos plan.now.sizes.width) (pos plan.now.sizes.height) (pos plan.now.sizes.depth)))) }
 {
     let sizes = plan.sizes();
     out.extend_from_slice(b"screen")?;
@@ -48,7 +49,8 @@ fn push_assets(
     names: &[Text],
     assets: &Assets,
 ) -> Result<(), AllocError>
-    ensures { OnOk result (out.new.items ≡ out.old.items ++ text_of_lines (glyph_lines assets.now.glyphs ++ bitmap_lines names.now assets.now.bitmaps)) }
+    ensures { OnOk result (out.new.items ≡ out.old.items
+        ++ text_of_lines (glyph_lines assets.now.glyphs ++ bitmap_lines names.now assets.now.bitmaps)) }
 {
     push_glyphs(out, &assets.glyphs)?;
     push_bitmaps(alloc, out, names, assets.bitmaps.as_slice())
@@ -56,7 +58,8 @@ fn push_assets(
 
 /// Writes the lines of each task in rising number.
 fn push_tasks(alloc: Global, out: &mut Vec<u8>, plan: &Plan) -> Result<(), AllocError>
-    ensures { OnOk result (out.new.items ≡ out.old.items ++ text_of_lines (flat_map (lines_of_task plan.now) (range_with_len 0 plan.now.sizes.tasks))) }
+    ensures { OnOk result (out.new.items ≡ out.old.items
+        ++ text_of_lines (flat_map (lines_of_task plan.now) (range_with_len 0 plan.now.sizes.tasks))) }
 {
     for task in 0..plan.sizes().tasks {
         push_task(alloc, out, plan, task)?;

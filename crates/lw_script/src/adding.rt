@@ -84,7 +84,8 @@ impl<'a> Reader<'a> {
     /// Adds the beginning of an order.
     fn add_order(&mut self)
         requires { CanAdd self.old OrderLine }
-        ensures { (s : Setting) (above : List FormValue) → Represents s self.old above → Represents s self.new (OrderLine ∷ above) }
+        ensures { (s : Setting) (above : List FormValue) → Represents s self.old above
+            → Represents s self.new (OrderLine ∷ above) }
     {
         self.section = Section::Numbers;
     }
@@ -92,7 +93,8 @@ impl<'a> Reader<'a> {
     /// Adds the line behind which a report stands.
     fn add_report(&mut self)
         requires { CanAdd self.old ReportLine }
-        ensures { (s : Setting) (above : List FormValue) → Represents s self.old above → Represents s self.new (ReportLine ∷ above) }
+        ensures { (s : Setting) (above : List FormValue) → Represents s self.old above
+            → Represents s self.new (ReportLine ∷ above) }
     {
         self.section = Section::Nothing;
     }
@@ -118,7 +120,8 @@ impl<'a> Reader<'a> {
     /// Adds the beginning of a hold.
     fn add_hold(&mut self)
         requires { CanAdd self.old HoldLine }
-        ensures { (s : Setting) (above : List FormValue) → Represents s self.old above → Represents s self.new (HoldLine ∷ above) }
+        ensures { (s : Setting) (above : List FormValue) → Represents s self.old above
+            → Represents s self.new (HoldLine ∷ above) }
     {
         self.tasks.add_hold();
     }

@@ -50,7 +50,8 @@ impl<'a> Reader<'a> {
     /// The form of a line that isn't passed, below the lines that were read, or its first reason.
     pub fn read_line(&self, alloc: Global, line: &'a [u8]) -> Result<LineForm<'a>, Stop>
         requires { self.now.assets.width ≤ 1024 }
-        ensures { (s : Setting) (above : List FormValue) → Represents s self.now above → Reads result (line_read s (told above) line.now) }
+        ensures { (s : Setting) (above : List FormValue) → Represents s self.now above
+            → Reads result (line_read s (told above) line.now) }
     {
         self.line(alloc, line)
     }

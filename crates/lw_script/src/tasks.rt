@@ -97,7 +97,8 @@ fn group_below<'a>(
     layers: Layers<'a>,
     act: &Act<'_>,
 ) -> Option<Opened<'a>>
-    ensures { option_map opened_meaning result ≡ opened_by (layers_meaning layers.entry) (act_meaning act.now) (option_map opened_meaning group.entry) }
+    ensures { option_map opened_meaning result
+        ≡ opened_by (layers_meaning layers.entry) (act_meaning act.now) (option_map opened_meaning group.entry) }
 {
     match (layers, act) {
         (Layers::One(layer), Act::Bare(BareAct::Refresh)) => Some(Opened::Updating(layer)),

@@ -178,7 +178,8 @@ impl<'a> Reader<'a> {
 
     /// Whether the open group may have the line.
     fn fits_group(&self, form: &LineForm<'a>) -> bool
-        ensures { result ≡ fits_group (known self.now).group (nat_lt self.now.tasks.began self.now.tasks.so_far) (form_meaning form.now) }
+        ensures { result
+            ≡ fits_group (known self.now).group (nat_lt self.now.tasks.began self.now.tasks.so_far) (form_meaning form.now) }
     {
         form.fits_group(&self.tasks.group, self.tasks.began < self.tasks.so_far)
     }
