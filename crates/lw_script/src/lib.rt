@@ -16,6 +16,8 @@ mod tested;
 #[cfg(test)]
 mod tests;
 #[cfg(test)]
+mod tests_refused;
+#[cfg(test)]
 mod tests_worked;
 
 pub use input::{Input, ScriptStop};

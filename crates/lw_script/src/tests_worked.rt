@@ -1,4 +1,4 @@
-use crate::tests::refusal_of;
+use crate::tests_refused::refusal_of;
 use lw_calls::{Form, Reason};
 use std::test::Fail;
 
