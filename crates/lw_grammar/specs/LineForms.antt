@@ -202,7 +202,8 @@ four_line act _ = None
 
 -- scrollraster L DX DY X0 Y0 X1 Y1
 abbrev pub scrollraster_line : List Token → Option LineForm
-scrollraster_line (NameToken l ∷ NumberToken a dx ∷ NumberToken b dy ∷ NumberToken c x0 ∷ NumberToken d y0 ∷ NumberToken e x1 ∷ NumberToken f y1 ∷ []) =
+scrollraster_line (NameToken l ∷ NumberToken a dx ∷ NumberToken b dy ∷
+    NumberToken c x0 ∷ NumberToken d y0 ∷ NumberToken e x1 ∷ NumberToken f y1 ∷ []) =
     Some (CallLine (l ∷ []) (ScrollRasterAct dx dy (four x0 y0 x1 y1)))
 scrollraster_line _ = None
 
@@ -213,14 +214,16 @@ minterm_of _ = None
 
 -- put BM SX SY L X Y W H MM
 abbrev pub put_line : List Token → Option LineForm
-put_line (NameToken bm ∷ NumberToken a sx ∷ NumberToken b sy ∷ NameToken l ∷ NumberToken c x ∷ NumberToken d y ∷ NumberToken e w ∷ NumberToken f h ∷ mm ∷ []) =
+put_line (NameToken bm ∷ NumberToken a sx ∷ NumberToken b sy ∷ NameToken l ∷
+    NumberToken c x ∷ NumberToken d y ∷ NumberToken e w ∷ NumberToken f h ∷ mm ∷ []) =
     option_map (λ m. CallLine (l ∷ []) (PutAct bm (record { sx = sx; sy = sy; x = x; y = y; w = w; h = h; minterm = m })))
     (minterm_of (bytes_in 1 mm))
 put_line _ = None
 
 -- blit L SX SY M X Y W H MM
 abbrev pub blit_line : List Token → Option LineForm
-blit_line (NameToken l ∷ NumberToken a sx ∷ NumberToken b sy ∷ NameToken m ∷ NumberToken c x ∷ NumberToken d y ∷ NumberToken e w ∷ NumberToken f h ∷ mm ∷ []) =
+blit_line (NameToken l ∷ NumberToken a sx ∷ NumberToken b sy ∷ NameToken m ∷
+    NumberToken c x ∷ NumberToken d y ∷ NumberToken e w ∷ NumberToken f h ∷ mm ∷ []) =
     option_map (λ k. CallLine (l ∷ m ∷ []) (BlitAct (record { sx = sx; sy = sy; x = x; y = y; w = w; h = h; minterm = k })))
     (minterm_of (bytes_in 1 mm))
 blit_line _ = None
@@ -342,7 +345,8 @@ open_kind l place box ts SuperBitmap = open_super l place box ts
 
 -- create L KIND PLACE X0 Y0 X1 Y1 .., and open L KIND PLACE X Y W H ..
 abbrev pub asked_line : (List ℕ → Place → Rectangle → List Token → Kind → Option LineForm) → List Token → Option LineForm
-asked_line behind (NameToken l ∷ NameToken k ∷ NameToken p ∷ NumberToken a x ∷ NumberToken b y ∷ NumberToken c z ∷ NumberToken d w ∷ ts) =
+asked_line behind (NameToken l ∷ NameToken k ∷ NameToken p ∷
+    NumberToken a x ∷ NumberToken b y ∷ NumberToken c z ∷ NumberToken d w ∷ ts) =
     option_and_then (λ place. option_and_then (behind l place (four x y z w) ts) (kind_of k)) (place_of p)
 asked_line behind _ = None
 

@@ -40,7 +40,9 @@ fn plan_of(
     assets: Assets,
 ) -> Result<Plan, AllocError>
     requires few { length calls.items ≤ 4096 }
-    requires fit { IsTrue (list_all (call_fits (record { version = 1; width = 20; height = 10; depth = 2; slots = 2; tasks = 1; hooks = 2; bitmaps = 1 })) calls.items) }
+    requires fit { IsTrue (list_all
+        (call_fits (record { version = 1; width = 20; height = 10; depth = 2; slots = 2; tasks = 1; hooks = 2; bitmaps = 1 }))
+        calls.items) }
     requires groups { IsTrue (groups_fit calls.items groups.items) }
     requires assets { AreAssets assets }
     requires bitmaps { length assets.bitmaps ≡ 1 }
@@ -122,8 +124,12 @@ const AREA: Area = Area {
 fn calls(alloc: Global, rect: Rect) -> Result<Vec<Call>, AllocError>
     requires { rect ≡ record { min_x = negsuc 0; min_y = pos 0; max_x = pos 5; max_y = pos 2 } }
     ensures few { IfOk result (λ calls. length calls.items ≤ 4096) }
-    ensures fit { IfOk result (λ calls. IsTrue (list_all (call_fits (record { version = 1; width = 20; height = 10; depth = 2; slots = 2; tasks = 1; hooks = 2; bitmaps = 1 })) calls.items)) }
-    ensures groups { IfOk result (λ calls. IsTrue (groups_fit calls.items (record { first = 2; last = 3; hold = AllLayers } ∷ record { first = 4; last = 5; hold = Slot 0 } ∷ record { first = 6; last = 8; hold = Slot 1 } ∷ []))) }
+    ensures fit { IfOk result (λ calls. IsTrue (list_all
+        (call_fits (record { version = 1; width = 20; height = 10; depth = 2; slots = 2; tasks = 1; hooks = 2; bitmaps = 1 }))
+        calls.items)) }
+    ensures groups { IfOk result (λ calls. IsTrue (groups_fit calls.items
+        (record { first = 2; last = 3; hold = AllLayers } ∷ record { first = 4; last = 5; hold = Slot 0 } ∷
+        record { first = 6; last = 8; hold = Slot 1 } ∷ []))) }
 {
     Ok(vec![in alloc;
         Call::RegRect {
@@ -169,7 +175,9 @@ fn calls(alloc: Global, rect: Rect) -> Result<Vec<Call>, AllocError>
 
 /// All layers held for the arrangement, the lower layer locked, and the update.
 fn groups(alloc: Global) -> Result<Vec<Group>, AllocError>
-    ensures { IfOk result (λ groups. groups.items ≡ record { first = 2; last = 3; hold = AllLayers } ∷ record { first = 4; last = 5; hold = Slot 0 } ∷ record { first = 6; last = 8; hold = Slot 1 } ∷ []) }
+    ensures { IfOk result (λ groups. groups.items ≡
+        record { first = 2; last = 3; hold = AllLayers } ∷ record { first = 4; last = 5; hold = Slot 0 } ∷
+        record { first = 6; last = 8; hold = Slot 1 } ∷ []) }
 {
     Ok(vec![in alloc;
         Group {
