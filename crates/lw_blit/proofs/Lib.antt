@@ -1,0 +1,5 @@
+pub mod LoopLaws
+pub mod PaintingLaws
+pub mod PlaceLaws
+pub mod ShapeLaws
+pub mod SourceLaws

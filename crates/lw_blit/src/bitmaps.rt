@@ -1,0 +1,128 @@
+// Blits from a bitmap.
+
+ghost use Rattle.std.specs.Prelude.{◌≡◌, ℕ, ◌+◌, ◌*◌, ◌<◌, ◌≤◌, length, IsTrue};
+ghost use Rattle.std.specs.Int.{bit_at};
+ghost use Rattle.lw_planes.specs.Row.{row_bit};
+ghost use Rattle.lw_planes.specs.Bitmap.{pen_at};
+ghost use Rattle.lw_calls.specs.Limits.{area_fits};
+ghost use Rattle.lw_machine.specs.Blits.{blt_bitmap_rast_port};
+ghost use Rattle.lw_layer.specs.View.{shows, with_live, with_layer};
+ghost use Rattle.lw_layer.specs.View as view;
+ghost use Rattle.lw_draw.specs.Drawn.{drawn};
+ghost use Rattle.lw_blit.specs.Blitting.{from_bits, in_plane, masked, IsNear, LieInBitmap};
+
+use crate::painting::{Origin, paint_plane};
+use crate::places::{columns_of, rows_of, source_index};
+use lw_calls::Area;
+use lw_draw::{Places, has_bit};
+use lw_layer::Cell;
+use lw_planes::Planes;
+
+// The bits of a row in a plane that a bitmap lacks.
+static NO_BITS: [u8; 256] = [0; 256];
+
+/// Combines the drawable pixels of a rectangle of a layer with the pixels of a bitmap that go there, by the minterm and through
+/// the mask (`BltBitMapRastPort`). In planes that the bitmap lacks its bits are 0. No memory is taken.
+pub fn from_bitmap(bitmap: &Planes, cell: &mut Cell, area: &Area)
+    requires live { cell.old.state ≡ view.Live }
+    requires fits { IsTrue (area_fits area.now) }
+    ensures { cell.new ≡ with_live
+        (λ c. with_layer (λ l. blt_bitmap_rast_port bitmap.now (λ i j. shows c i j) area.now l) c)
+        cell.old }
+{
+    let columns = columns_of(area, bitmap.width(), cell.width());
+    let rows = rows_of(area, bitmap.height(), cell.height());
+    let mask = cell.raster().mask;
+    if columns.from < columns.end {
+        bitmap_rows(bitmap, cell, rows, columns, *area, mask);
+    }
+}
+
+// Blits some rows.
+fn bitmap_rows(
+    bitmap: &Planes,
+    cell: &mut Cell,
+    rows: Places,
+    columns: Places,
+    area: Area,
+    mask: u8,
+)
+    requires live { cell.old.state ≡ view.Live }
+    requires rows { rows.from ≤ rows.end }
+    requires bottom { rows.end ≤ 2048 }
+    requires columns { columns.from ≤ columns.end }
+    requires right { columns.end ≤ 2048 }
+    requires near { IsNear area }
+    requires inside { LieInBitmap bitmap.now area rows.from rows.end columns.from columns.end }
+    ensures { cell.new ≡ with_live
+        (λ c. drawn (masked mask c rows.from rows.end columns.from columns.end) (from_bits bitmap.now area) c)
+        cell.old }
+{
+    // Reading this tells the proof that the layer has only pens of its depth.
+    let _ = cell.depth();
+    for y in rows.from..rows.end {
+        bitmap_row(bitmap, cell, y, columns, area, mask);
+    }
+}
+
+// Blits a row, plane by plane.
+fn bitmap_row(bitmap: &Planes, cell: &mut Cell, y: u32, columns: Places, area: Area, mask: u8)
+    requires live { cell.old.state ≡ view.Live }
+    requires row { y < 2048 }
+    requires columns { columns.from ≤ columns.end }
+    requires right { columns.end ≤ 2048 }
+    requires near { IsNear area }
+    requires inside { LieInBitmap bitmap.now area y (y + 1) columns.from columns.end }
+    ensures { cell.new ≡ with_live
+        (λ c. drawn (masked mask c y (y + 1) columns.from columns.end) (from_bits bitmap.now area) c)
+        cell.old }
+{
+    for plane in 0..cell.depth() {
+        if has_bit(mask, plane) {
+            bitmap_plane(bitmap, cell, plane, y, columns, area);
+        }
+    }
+}
+
+// Blits one plane of a row.
+fn bitmap_plane(bitmap: &Planes, cell: &mut Cell, plane: u32, y: u32, columns: Places, area: Area)
+    requires live { cell.old.state ≡ view.Live }
+    requires plane { plane < cell.old.live.layer.bits.depth }
+    requires row { y < 2048 }
+    requires columns { columns.from ≤ columns.end }
+    requires right { columns.end ≤ 2048 }
+    requires near { IsNear area }
+    requires inside { LieInBitmap bitmap.now area y (y + 1) columns.from columns.end }
+    ensures { cell.new ≡ with_live
+        (λ c. drawn (in_plane plane c y columns.from columns.end) (from_bits bitmap.now area) c)
+        cell.old }
+{
+    let bit = source_index(columns.from, area.sx, area.x);
+    let line = source_index(y, area.sy, area.y);
+    let origin = Origin {
+        column: columns.from,
+        bit,
+    };
+    paint_plane(
+        cell,
+        plane,
+        y,
+        columns,
+        row_of(bitmap, plane, line),
+        origin,
+        area.minterm,
+    );
+}
+
+// The bits of one plane of a row of a bitmap; none is set in a plane that the bitmap lacks.
+fn row_of(bitmap: &Planes, plane: u32, y: u32) -> &[u8]
+    requires { y < bitmap.now.height }
+    ensures wide { bitmap.now.width ≤ 8 * length result.now }
+    ensures bits { (x : ℕ) → x < bitmap.now.width → row_bit result.now x ≡ bit_at (pen_at bitmap.now x y) plane }
+{
+    if plane < bitmap.depth() {
+        bitmap.row(plane, y)
+    } else {
+        &NO_BITS
+    }
+}
