@@ -27,7 +27,9 @@ pub fn between(source: &Cell, to: &mut Cell, area: &Area)
     let columns = columns_of(area, source.width(), to.width());
     let rows = rows_of(area, source.height(), to.height());
     let mask = to.raster().mask;
-    between_rows(source, to, rows, columns, *area, mask);
+    if columns.from < columns.end {
+        between_rows(source, to, rows, columns, *area, mask);
+    }
 }
 
 // Blits some rows, from the top down.

@@ -26,10 +26,27 @@ pub fn within(cell: &mut Cell, area: &Area)
     let columns = columns_of(area, cell.width(), cell.width());
     let rows = rows_of(area, cell.height(), cell.height());
     let mask = cell.raster().mask;
+    if columns.from < columns.end {
+        within_rows(cell, rows, columns, *area, mask);
+    }
+}
+
+// Blits some rows, in an order in which none is read after it was written.
+fn within_rows(cell: &mut Cell, rows: Places, columns: Places, area: Area, mask: u8)
+    requires live { cell.old.state ≡ view.Live }
+    requires rows { rows.from ≤ rows.end }
+    requires bottom { rows.end ≤ 2048 }
+    requires columns { columns.from ≤ columns.end }
+    requires right { columns.end ≤ 2048 }
+    requires near { IsNear area }
+    ensures { cell.new ≡ with_live
+        (λ c. drawn (masked mask c rows.from rows.end columns.from columns.end) (from_layer c area) c)
+        cell.old }
+{
     if area.sy >= area.y {
-        rows_down(cell, rows, columns, *area, mask);
+        rows_down(cell, rows, columns, area, mask);
     } else {
-        rows_up(cell, rows, columns, *area, mask);
+        rows_up(cell, rows, columns, area, mask);
     }
 }
 
