@@ -12,3 +12,6 @@ mod within_layer;
 pub use between_layers::between;
 pub use bitmaps::from_bitmap;
 pub use within_layer::within;
+
+#[cfg(test)]
+mod tests;
