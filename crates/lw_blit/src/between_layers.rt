@@ -15,13 +15,15 @@ use lw_draw::{Places, has_bit};
 use lw_layer::Cell;
 
 /// Combines the drawable pixels of a rectangle of a layer with the pixels of another layer that go there, by the minterm and
-/// through the mask (`ClipBlit`). A pixel whose source that layer doesn't keep stays as it was. No memory is taken.
+/// through the mask of the former (`ClipBlit`). A pixel whose source that other layer doesn't keep stays as it was (this
+/// project's own). No memory is taken.
 pub fn between(source: &Cell, to: &mut Cell, area: &Area)
     requires source { source.now.state ≡ view.Live }
     requires to { to.old.state ≡ view.Live }
     requires fits { IsTrue (area_fits area.now) }
     ensures { to.new ≡ with_live
-        (λ c. with_layer (λ l. clip_blit (λ i j. shows source.now.live i j) source.now.live.layer (λ i j. shows c i j) area.now l) c)
+        (λ c. with_layer
+        (λ l. clip_blit (λ i j. shows source.now.live i j) source.now.live.layer (λ i j. shows c i j) area.now l) c)
         to.old }
 {
     let columns = columns_of(area, source.width(), to.width());
