@@ -12,7 +12,7 @@ use Rattle.lw_grammar.specs.declared.verb.Verb.TheVariants.{Screen as ScreenVerb
 use Rattle.lw_grammar.specs.Demands.{◌>>=◌, demand}
 use Rattle.lw_grammar.specs.Lines.{lines}
 use Rattle.lw_grammar.specs.Tokens.{on_found, tokens_at, tokens, Token, OddToken, token_of, hex_bytes, spelled_bytes}
-use Rattle.lw_grammar.specs.Verbs.{part_verb, group_verb, region_verb, arrangement_verb, state_verb, drawing_verb, clip_verb, verb_of}
+use Rattle.lw_grammar.specs.Verbs.{verb_word, verb_of}
 use Rattle.lw_grammar.specs.LineForms.{CloseAct, FrontAct, BehindAct, MoveAct, SizeAct, BoxAct, ActivateAct, APenAct, BPenAct, ModeAct, MaskAct, AtAct, WriteAct, ReadAct, FillAct, DrawAct, TextAct, SetRastAct, ClipAct, UnclipAct, RefreshAct, ScrollAct, TitleAct, GetMsgAct, LineForm, RowLine, TaskLine, EndLine, OrderLine, ReportLine, LockLine, UnlockLine, HoldLine, ReleaseLine, four, row_line, numbers_limit, numbers_line, form_by, is_line_in_range}
 use Rattle.lw_grammar.specs.Told.{told}
 use Rattle.lw_grammar.specs.Script.{Setting, line_limit, is_skipped, is_printable, are_tasks_due, are_numbers_due, is_plain, stands_in, is_task_verb, words_read, verb_read, form_read, form_tested, line_read, IsGoodLine}
@@ -20,7 +20,7 @@ use Rattle.lw_calls.specs.Written.{line_of}
 use Rattle.lw_canonical.specs.Spelling.{joined, words_of, spelled}
 use Rattle.lw_canonical.proofs.Rearranged.{HasOneSpelling}
 use Rattle.lw_grammar.proofs.ScriptForms.{either_has, found_has}
-use Rattle.lw_canonical.proofs.SpelledVerbs.{verb_word, IsWordOf, verb_spelled}
+use Rattle.lw_canonical.proofs.SpelledVerbs.{IsWordOf, verb_spelled}
 use Rattle.lw_canonical.proofs.SpelledWords.{AreWords, AreWordsOf, words_joined, token_word, tokens_back, tokens_good}
 use Rattle.lw_canonical.proofs.SpelledRanges.{register_small, pen_small, rect_small, box_small, also}
 use Rattle.lw_canonical.proofs.SpelledForms.{IsSpelt, HasWords, screen_spelt, glyph_spelt, bitmap_spelt, row_spelt, numbers_spelt, name_spelt, bare_spelt, layer_spelt, number_spelt, pair_spelt, text_spelt, four_spelt, rect_spelt, region_spelt, clear_spelt, which_spelt, infront_spelt, scrollraster_spelt, endrefresh_spelt, put_spelt, blit_spelt}
@@ -196,7 +196,7 @@ no_row width w (t ∷ ts) = tt
 
 -- and no verb
 no_verb : (w : List ℕ) → verb_of (35 ∷ w) ≡ None
-unfolding verb_of part_verb group_verb region_verb arrangement_verb state_verb drawing_verb clip_verb
+unfolding verb_of
 no_verb w = refl
 
 -- so no form is read of such words

@@ -6,7 +6,7 @@ use Rattle.lw_planes.specs.Grid.{grid, at}
 use Rattle.lw_planes.specs.Pen.{pen_of, byte_of}
 use Rattle.lw_planes.specs.Bitmap.{plane_row}
 use Rattle.lw_calls.specs.Limits.{axis_fits}
-use Rattle.lw_grammar.specs.Verbs.{part_verb, group_verb, region_verb, arrangement_verb, state_verb, drawing_verb, clip_verb, verb_of}
+use Rattle.lw_grammar.specs.Verbs.{verb_of}
 
 unfoldable pub computing : Unit {0}
 unfolding digits within grid at pen_of byte_of plane_row
@@ -14,5 +14,5 @@ computing = tt
 
 -- the same for lines of a script
 unfoldable pub reading : Unit {0}
-unfolding digits within row_bit axis_fits verb_of part_verb group_verb region_verb arrangement_verb state_verb drawing_verb clip_verb
+unfolding digits within row_bit axis_fits verb_of
 reading = tt
