@@ -287,28 +287,31 @@ abbrev pub at_end : LineForm → List Token → Option LineForm
 at_end form [] = Some form
 at_end form (t ∷ ts) = None
 
--- a layer that is asked for without a bitmap of its own, and with one
+-- a layer that is asked for without a bitmap of its own
 abbrev pub asked_plain : Kind → Place → Rectangle → Bool → Option ℤ → Asked
 asked_plain kind place box backdrop hook =
     record { kind = kind; place = place; box = box; backdrop = backdrop; hook = hook; bits_w = pos 0; bits_h = pos 0 }
 
+-- a layer that is asked for with a bitmap of its own
 abbrev pub asked_super : Place → Rectangle → Bool → ℤ → ℤ → Asked
 asked_super place box backdrop w h =
     record { kind = SuperBitmap; place = place; box = box; backdrop = backdrop; hook = None; bits_w = w; bits_h = h }
 
--- what stands behind the four numbers of a creation: [backdrop] [hook N], or BW BH [backdrop]
+-- what stands behind the four numbers of a creation without a bitmap of its own: [backdrop] [hook N]
 abbrev pub create_plain : List ℕ → Kind → Place → Rectangle → List Token → Option LineForm
 create_plain l kind place box ts =
     let backdrop = flag (codes "backdrop") ts in
     let hook = hook_option backdrop.1 in
     at_end (CallLine (l ∷ []) (CreateAct (asked_plain kind place box backdrop.0 hook.0))) hook.1
 
+-- what stands behind those of a creation with one: BW BH [backdrop]
 abbrev pub create_super : List ℕ → Place → Rectangle → List Token → Option LineForm
 create_super l place box (NumberToken a w ∷ NumberToken b h ∷ ts) =
     let backdrop = flag (codes "backdrop") ts in
     at_end (CallLine (l ∷ []) (CreateAct (asked_super place box backdrop.0 w h))) backdrop.1
 create_super l place box _ = None
 
+-- what stands behind those of a creation of this kind
 abbrev pub create_kind : List ℕ → Place → Rectangle → List Token → Kind → Option LineForm
 create_kind l place box ts Simple = create_plain l Simple place box ts
 create_kind l place box ts Smart = create_plain l Smart place box ts
@@ -320,8 +323,8 @@ titled_line l asked framed nocare classes (TextToken title ∷ []) =
     Some (CallLine (l ∷ []) (OpenAct asked framed nocare classes title))
 titled_line l asked framed nocare classes _ = None
 
--- what stands behind the four numbers of an opening: [backdrop] [borderless] [nocare] [hook N] [ask SET] "TITLE", or
--- BW BH [backdrop] [ask SET] "TITLE"
+-- what stands behind the four numbers of an opening without a bitmap of its own: [backdrop] [borderless] [nocare] [hook N]
+-- [ask SET] "TITLE"
 abbrev pub open_plain : List ℕ → Kind → Place → Rectangle → List Token → Option LineForm
 open_plain l kind place box ts =
     let backdrop = flag (codes "backdrop") ts in
@@ -331,6 +334,7 @@ open_plain l kind place box ts =
     let ask = ask_option hook.1 in
     titled_line l (asked_plain kind place box backdrop.0 hook.0) (not borderless.0) nocare.0 ask.0 ask.1
 
+-- what stands behind those of an opening with one: BW BH [backdrop] [ask SET] "TITLE"
 abbrev pub open_super : List ℕ → Place → Rectangle → List Token → Option LineForm
 open_super l place box (NumberToken a w ∷ NumberToken b h ∷ ts) =
     let backdrop = flag (codes "backdrop") ts in
@@ -338,6 +342,7 @@ open_super l place box (NumberToken a w ∷ NumberToken b h ∷ ts) =
     titled_line l (asked_super place box backdrop.0 w h) false false ask.0 ask.1
 open_super l place box _ = None
 
+-- what stands behind those of an opening of this kind
 abbrev pub open_kind : List ℕ → Place → Rectangle → List Token → Kind → Option LineForm
 open_kind l place box ts Simple = open_plain l Simple place box ts
 open_kind l place box ts Smart = open_plain l Smart place box ts

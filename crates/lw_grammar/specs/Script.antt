@@ -104,7 +104,7 @@ abbrev pub behind_verb : List (List ℕ) → List (List ℕ)
 behind_verb [] = []
 behind_verb (w ∷ ws) = ws
 
--- the bitmap that a line names isn't one of these
+-- the line is a `put` whose bitmap isn't one of these
 abbrev pub lacks_name : List (List ℕ) → LineForm → Bool
 lacks_name names (CallLine layers (PutAct bm area)) = not (list_any (bytes_eq bm) names)
 lacks_name names form = false
@@ -130,11 +130,12 @@ is_arranging (BoxAct x y w h) = true
 is_arranging ActivateAct = true
 is_arranging act = false
 
--- the act begins an update, or ends one
+-- the act begins an update
 abbrev pub is_beginning : Act → Bool
 is_beginning RefreshAct = true
 is_beginning act = false
 
+-- the act ends an update
 abbrev pub is_ending : Act → Bool
 is_ending (EndRefreshAct full) = true
 is_ending act = false
@@ -155,11 +156,12 @@ call_may_stand (Some (Locked l)) layers act = is_on_one l layers act && (not (is
 call_may_stand (Some (Updating l)) layers act = is_on_one l layers act && not (is_beginning act)
 call_may_stand (Some Held) layers act = is_arranging act
 
--- the group is a lock on this layer, and is a hold
+-- the group is a lock on this layer
 abbrev pub is_lock_on : List ℕ → Option Opened → Bool
 is_lock_on l (Some (Locked m)) = bytes_eq l m
 is_lock_on l _ = false
 
+-- the group is a hold
 abbrev pub is_hold : Option Opened → Bool
 is_hold (Some Held) = true
 is_hold _ = false
@@ -184,11 +186,12 @@ are_few t =
     ((nat_le (length t.tasks) task_limit && nat_le (length t.bitmap_names) bitmap_limit) && nat_le (length t.names) name_limit)
     && (nat_le t.supers super_limit && nat_le t.so_far call_limit)
 
--- a hook's number isn't below the number of hooks, and is named above
+-- there is a hook's number, and it isn't below the number of hooks
 abbrev pub is_no_hook : ℕ → Option ℤ → Bool
 is_no_hook hooks None = false
 is_no_hook hooks (Some n) = not (nat_lt (unsigned_abs n) hooks)
 
+-- there is a hook's number, and it is among the used ones
 abbrev pub is_used : (ℕ → Bool) → Option ℤ → Bool
 is_used used None = false
 is_used used (Some n) = used (unsigned_abs n)

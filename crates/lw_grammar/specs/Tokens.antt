@@ -5,10 +5,11 @@ use Rattle.std.specs.Str.Parse.{digits_value}
 use Rattle.lw_calls.specs.declared.reason.Reason.{Reason}
 use Rattle.lw_calls.specs.declared.reason.Reason.TheVariants.{Spacing, Quote}
 
--- the byte that divides words, and the one that begins and ends a text
+-- the byte that divides words
 abbrev pub space : ℕ
 space = 32
 
+-- the byte that begins and ends a text
 abbrev pub quote : ℕ
 quote = 34
 

@@ -18,13 +18,13 @@ is_apart (RegClear register) = true
 is_apart (Which x y) = true
 is_apart act = false
 
--- the act is an arrangement but an opening, or one without kin
-abbrev pub is_on_layers : Act → Bool
-is_on_layers (Create asked) = true
-is_on_layers InFront = true
-is_on_layers (Box corners) = true
-is_on_layers (Fill corners) = true
-is_on_layers (ScrollRaster dx dy corners) = true
-is_on_layers (Blit blitting) = true
-is_on_layers (EndRefresh full) = true
-is_on_layers act = false
+-- the act names a layer, has no kin that share its variant, and hands its call neither a text nor a bitmap
+abbrev pub is_single_on_layers : Act → Bool
+is_single_on_layers (Create asked) = true
+is_single_on_layers InFront = true
+is_single_on_layers (Box corners) = true
+is_single_on_layers (Fill corners) = true
+is_single_on_layers (ScrollRaster dx dy corners) = true
+is_single_on_layers (Blit blitting) = true
+is_single_on_layers (EndRefresh full) = true
+is_single_on_layers act = false

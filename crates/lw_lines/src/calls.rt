@@ -4,7 +4,7 @@ ghost use Rattle.lw_calls.specs.Limits.{axis_fits, rect_fits, coordinates_fit};
 ghost use Rattle.lw_grammar.specs.LineForms.{is_hook_number, is_own_size, is_asked_in_range, is_box, is_area_in_range, is_act_in_range};
 ghost use Rattle.lw_grammar.specs.Told.{make_of, created_make, opened_make, spelled_call};
 ghost use Rattle.lw_lines.specs.FormMeaning.{corners_meaning, kind_meaning, width_meaning, height_meaning, asked_meaning, area_meaning, bare_meaning, number_meaning, pair_meaning, text_meaning, act_meaning};
-ghost use Rattle.lw_lines.specs.CallMeaning.{IsBitmapAt, is_apart, is_on_layers};
+ghost use Rattle.lw_lines.specs.CallMeaning.{IsBitmapAt, is_apart, is_single_on_layers};
 
 use crate::converted::{coordinate, extent, hook, mode, own_size, pen, register, step};
 use crate::form::{
@@ -260,9 +260,9 @@ impl Act<'_> {
         }
     }
 
-    /// The call of an arrangement but an opening, and of what has no kin.
+    /// The call of an act that names a layer, has no kin that share its variant, and has neither a text nor a bitmap.
     fn call_on(&self, slot: u32, other: u32) -> Call
-        requires alone { IsTrue (is_on_layers self.now) }
+        requires alone { IsTrue (is_single_on_layers self.now) }
         requires range { IsTrue (is_act_in_range (act_meaning self.now)) }
         ensures { (bitmaps : List (List ℕ)) → result ≡ spelled_call bitmaps (act_meaning self.now) (slot ∷ other ∷ []) }
     {

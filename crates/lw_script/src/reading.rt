@@ -36,7 +36,7 @@ impl<'a> Reader<'a> {
         }
     }
 
-    /// The form of a line that isn't passed, or its first reason.
+    /// The form of a line that isn't skipped, or its first reason.
     fn line(&self, alloc: Global, line: &'a [u8]) -> Result<LineForm<'a>, Stop>
         requires { self.now.assets.width ≤ 1024 }
         ensures { Reads result (line_read (setting_of self.now) (known self.now) line.now) }
@@ -47,7 +47,7 @@ impl<'a> Reader<'a> {
         }
     }
 
-    /// The form of a line that isn't passed, below the lines that were read, or its first reason.
+    /// The form of a line that isn't skipped, below the lines that were read, or its first reason.
     pub fn read_line(&self, alloc: Global, line: &'a [u8]) -> Result<LineForm<'a>, Stop>
         requires { self.now.assets.width ≤ 1024 }
         ensures { (s : Setting) (above : List FormValue) → Represents s self.now above

@@ -14,7 +14,7 @@ use lw_words::{Stop, cut_line, is_skipped};
 use std::alloc::Global;
 
 impl<'a> Reader<'a> {
-    /// Reads a line that isn't passed, and adds it.
+    /// Reads a line that isn't skipped, and adds it.
     pub fn take(&mut self, alloc: Global, number: u32, line: &'a [u8]) -> Result<(), ScriptStop>
         requires { HasRead self.old }
         ensures { (s : Setting) (above : List FormValue) → Represents s self.old above

@@ -24,7 +24,7 @@ const SUPER_LIMIT: u32 = 16;
 const CALL_LIMIT: u32 = 4096;
 
 impl<'a> Reader<'a> {
-    /// Whether the bitmap that the line names doesn't stand above.
+    /// Whether it is a line `put` whose bitmap doesn't stand above.
     fn lacks_name(&self, form: &LineForm<'a>) -> bool
         ensures { result ≡ lacks_name (known self.now).bitmap_names (form_meaning form.now) }
     {
