@@ -51,25 +51,25 @@ own_back SuperBitmap a m h =
 
 -- a layer that is asked for, by its parts
 abbrev asked_with : Asked → Rectangle → Option ℤ → ℤ → ℤ → Asked
-asked_with a box hook w h = record { kind = a.kind; place = a.place; box = box; backdrop = a.backdrop; hook = hook; bits_w = w; bits_h = h }
+asked_with a numbers hook w h = record { kind = a.kind; place = a.place; numbers = numbers; backdrop = a.backdrop; hook = hook; bits_w = w; bits_h = h }
 
-asked_same : (a : Asked) (box : Rectangle) (hook : Option ℤ) (w h : ℤ) → box ≡ a.box → hook ≡ a.hook → w ≡ a.bits_w → h ≡ a.bits_h → asked_with a box hook w h ≡ a
-asked_same a box hook w h b k c d =
-    ap (λ (q : Rectangle). asked_with a q hook w h) b ∙ ap (λ (q : Option ℤ). asked_with a a.box q w h) k ∙ ap (λ (q : ℤ). asked_with a a.box a.hook q h) c ∙ ap (λ (q : ℤ). asked_with a a.box a.hook a.bits_w q) d
+asked_same : (a : Asked) (numbers : Rectangle) (hook : Option ℤ) (w h : ℤ) → numbers ≡ a.numbers → hook ≡ a.hook → w ≡ a.bits_w → h ≡ a.bits_h → asked_with a numbers hook w h ≡ a
+asked_same a numbers hook w h b k c d =
+    ap (λ (q : Rectangle). asked_with a q hook w h) b ∙ ap (λ (q : Option ℤ). asked_with a a.numbers q w h) k ∙ ap (λ (q : ℤ). asked_with a a.numbers a.hook q h) c ∙ ap (λ (q : ℤ). asked_with a a.numbers a.hook a.bits_w q) d
 
 -- its bounds
 bound_back : (low high : ℤ) → (low +ℤ ((high -ℤ low) +ℤ pos 1)) -ℤ pos 1 ≡ high
 bound_back low high = omega (arith, ints)
 
-box_same : (r : Rectangle) (c d : ℤ) → c ≡ r.max_x → d ≡ r.max_y → four r.min_x r.min_y c d ≡ r
-box_same r c d e f = ap (λ (q : ℤ). four r.min_x r.min_y q d) e ∙ ap (λ (q : ℤ). four r.min_x r.min_y r.max_x q) f
+numbers_same : (r : Rectangle) (c d : ℤ) → c ≡ r.max_x → d ≡ r.max_y → four r.min_x r.min_y c d ≡ r
+numbers_same r c d e f = ap (λ (q : ℤ). four r.min_x r.min_y q d) e ∙ ap (λ (q : ℤ). four r.min_x r.min_y r.max_x q) f
 
 -- what a creation asks for, and what an opening does
 created_back : (a : Asked) → IsAskedOf a.kind a → is_asked_in_range a ≡ true → created_asked (created_make a) ≡ a
 created_back a m h =
     let halves = and_parts (is_hook_number a.hook) _ h in
     let own = own_back a.kind a m halves.1 in
-    asked_same a _ _ _ _ (box_same a.box _ _ (bound_back a.box.min_x a.box.max_x) (bound_back a.box.min_y a.box.max_y)) (hook_back a.hook halves.0) own.0 own.1
+    asked_same a _ _ _ _ (numbers_same a.numbers _ _ (bound_back a.numbers.min_x a.numbers.max_x) (bound_back a.numbers.min_y a.numbers.max_y)) (hook_back a.hook halves.0) own.0 own.1
 
 opened_back : (a : Asked) → IsAskedOf a.kind a → is_asked_in_range a ≡ true → opened_asked (opened_make a) ≡ a
 opened_back a m h =
@@ -96,10 +96,10 @@ line_back names bitmaps among layers (WhichAct x y) m h b slots e = ap (λ ls. C
 line_back names bitmaps among layers InFrontAct m h b slots e = ap (λ ls. CallLine ls InFrontAct) (two_back names slots layers e m.0)
 line_back names bitmaps among layers (BlitAct g) m h b slots e = ap (λ ls. CallLine ls (BlitAct g)) (two_back names slots layers e m.0)
 line_back names bitmaps among layers (CreateAct a) m h b slots e =
-    let halves = and_parts (rect_fits a.box) _ h in
+    let halves = and_parts (rect_fits a.numbers) _ h in
     ap (λ k. CallLine (slice_index_or names (slice_index slots 0) [] ∷ []) (CreateAct k)) (created_back a m.1 halves.1) ∙ ap (λ ls. CallLine ls (CreateAct a)) (one_back names slots layers e m.0)
 line_back names bitmaps among layers (OpenAct a framed nocare classes title) m h b slots e =
-    let halves = and_parts (is_box a.box) _ h in
+    let halves = and_parts (is_box a.numbers) _ h in
     ap (λ k. CallLine (slice_index_or names (slice_index slots 0) [] ∷ []) (OpenAct k framed nocare classes title)) (opened_back a m.1.0 halves.1) ∙ ap (λ ls. CallLine ls (OpenAct a framed nocare classes title)) (one_back names slots layers e m.0)
 line_back names bitmaps among layers (APenAct p) m h b slots e =
     ap (λ z. CallLine (slice_index_or names (slice_index slots 0) [] ∷ []) (APenAct z)) (number_back 0 p 255 h) ∙ ap (λ ls. CallLine ls (APenAct p)) (one_back names slots layers e m.0)

@@ -93,45 +93,45 @@ titled_has P l asked framed nocare classes _ h = tt
 
 -- What stands behind four numbers: with these words, and with the four numbers in range.
 abbrev IsAskedSpelt : List ℕ → List ℕ → Place → Rectangle → Kind → List Token → LineForm → Type 0
-IsAskedSpelt word l place box kind ts f = AreTokens ts → is_line_in_range f ≡ true → AreSmall box × (words_of f ≡ word ∷ l ∷ kind_word kind ∷ place_word place ∷ (four_words box ++ map token_word ts))
+IsAskedSpelt word l place numbers kind ts f = AreTokens ts → is_line_in_range f ≡ true → AreSmall numbers × (words_of f ≡ word ∷ l ∷ kind_word kind ∷ place_word place ∷ (four_words numbers ++ map token_word ts))
 
 -- the words in front of what stands behind four numbers
 abbrev in_front : List ℕ → List ℕ → Kind → Place → Rectangle → List (List ℕ) → List (List ℕ)
-in_front word l kind place box rest = word ∷ l ∷ kind_word kind ∷ place_word place ∷ (four_words box ++ rest)
+in_front word l kind place numbers rest = word ∷ l ∷ kind_word kind ∷ place_word place ∷ (four_words numbers ++ rest)
 
 -- [backdrop] [hook N]
-plain_created : (l : List ℕ) (kind : Kind) (place : Place) (box : Rectangle) (ts : List Token) → ((backdrop : Bool) (hook : Option ℤ) → words_of (CallLine (l ∷ []) (CreateAct (asked_plain kind place box backdrop hook))) ≡ in_front (codes "create") l kind place box (flag_words (codes "backdrop") backdrop ++ hook_words hook)) → IfSome (create_plain l kind place box ts) (IsAskedSpelt (codes "create") l place box kind ts)
-plain_created l kind place box ts w =
+plain_created : (l : List ℕ) (kind : Kind) (place : Place) (numbers : Rectangle) (ts : List Token) → ((backdrop : Bool) (hook : Option ℤ) → words_of (CallLine (l ∷ []) (CreateAct (asked_plain kind place numbers backdrop hook))) ≡ in_front (codes "create") l kind place numbers (flag_words (codes "backdrop") backdrop ++ hook_words hook)) → IfSome (create_plain l kind place numbers ts) (IsAskedSpelt (codes "create") l place numbers kind ts)
+plain_created l kind place numbers ts w =
     let backdrop = flag (codes "backdrop") ts in
     let hook = hook_option backdrop.1 in
-    end_has (IsAskedSpelt (codes "create") l place box kind ts) _ hook.1 (λ e t r.
-    let k = and_parts (rect_fits box) _ r in
+    end_has (IsAskedSpelt (codes "create") l place numbers kind ts) _ hook.1 (λ e t r.
+    let k = and_parts (rect_fits numbers) _ r in
     let m = and_parts (is_hook_number hook.0) _ k.1 in
     let one = flag_taken (codes "backdrop") ts t in
     let two = hook_taken backdrop.1 one.1 m.0 in
     let end : map token_word backdrop.1 ≡ hook_words hook.0 = two.0 ∙ (ap (λ rest. hook_words hook.0 ++ map token_word rest) e ∙ append-nil (hook_words hook.0)) in (
-      rect_small box k.0,
-      w backdrop.0 hook.0 ∙ ap (in_front (codes "create") l kind place box) (ap (λ rest. flag_words (codes "backdrop") backdrop.0 ++ rest) (sym end) ∙ sym one.0),
+      rect_small numbers k.0,
+      w backdrop.0 hook.0 ∙ ap (in_front (codes "create") l kind place numbers) (ap (λ rest. flag_words (codes "backdrop") backdrop.0 ++ rest) (sym end) ∙ sym one.0),
     ))
 
 -- BW BH [backdrop]
-super_created : (l : List ℕ) (place : Place) (box : Rectangle) (ts : List Token) → IfSome (create_super l place box ts) (IsAskedSpelt (codes "create") l place box SuperBitmap ts)
-super_created l place box (NumberToken a w ∷ NumberToken b h ∷ ts) =
+super_created : (l : List ℕ) (place : Place) (numbers : Rectangle) (ts : List Token) → IfSome (create_super l place numbers ts) (IsAskedSpelt (codes "create") l place numbers SuperBitmap ts)
+super_created l place numbers (NumberToken a w ∷ NumberToken b h ∷ ts) =
     let backdrop = flag (codes "backdrop") ts in
-    end_has (IsAskedSpelt (codes "create") l place box SuperBitmap (NumberToken a w ∷ NumberToken b h ∷ ts)) _ backdrop.1 (λ e t r.
-    let k = and_parts (rect_fits box) _ r in
+    end_has (IsAskedSpelt (codes "create") l place numbers SuperBitmap (NumberToken a w ∷ NumberToken b h ∷ ts)) _ backdrop.1 (λ e t r.
+    let k = and_parts (rect_fits numbers) _ r in
     let m = and_parts (within (pos 1) w (pos 2048)) _ k.1 in
     let one = flag_taken (codes "backdrop") ts t.1.1 in
     let end : flag_words (codes "backdrop") backdrop.0 ≡ map token_word ts = sym (one.0 ∙ (ap (λ rest. flag_words (codes "backdrop") backdrop.0 ++ map token_word rest) e ∙ append-nil (flag_words (codes "backdrop") backdrop.0))) in (
-      rect_small box k.0,
-      ap (in_front (codes "create") l SuperBitmap place box) (also (t.0 (own_small w m.0)) (also (t.1.0 (own_small h m.1)) end)),
+      rect_small numbers k.0,
+      ap (in_front (codes "create") l SuperBitmap place numbers) (also (t.0 (own_small w m.0)) (also (t.1.0 (own_small h m.1)) end)),
     ))
-super_created l place box _ = tt
+super_created l place numbers _ = tt
 
-created_spelt : (l : List ℕ) (place : Place) (box : Rectangle) (ts : List Token) (kind : Kind) → IfSome (create_kind l place box ts kind) (IsAskedSpelt (codes "create") l place box kind ts)
-created_spelt l place box ts Simple = plain_created l Simple place box ts (λ b h. refl)
-created_spelt l place box ts Smart = plain_created l Smart place box ts (λ b h. refl)
-created_spelt l place box ts SuperBitmap = super_created l place box ts
+created_spelt : (l : List ℕ) (place : Place) (numbers : Rectangle) (ts : List Token) (kind : Kind) → IfSome (create_kind l place numbers ts kind) (IsAskedSpelt (codes "create") l place numbers kind ts)
+created_spelt l place numbers ts Simple = plain_created l Simple place numbers ts (λ b h. refl)
+created_spelt l place numbers ts Smart = plain_created l Smart place numbers ts (λ b h. refl)
+created_spelt l place numbers ts SuperBitmap = super_created l place numbers ts
 
 -- what has no frame has no word of it, and what has the word has none
 not_twice : (b : Bool) → not (not b) ≡ b
@@ -139,15 +139,15 @@ not_twice true = refl
 not_twice false = refl
 
 -- [backdrop] [borderless] [nocare] [hook N] [ask SET] "TITLE"
-plain_opened : (l : List ℕ) (kind : Kind) (place : Place) (box : Rectangle) (ts : List Token) → ((backdrop : Bool) (hook : Option ℤ) (framed nocare : Bool) (classes : ℕ) (title : List ℕ) → words_of (CallLine (l ∷ []) (OpenAct (asked_plain kind place box backdrop hook) framed nocare classes title)) ≡ in_front (codes "open") l kind place box (((((flag_words (codes "backdrop") backdrop ++ flag_words (codes "borderless") (not framed)) ++ flag_words (codes "nocare") nocare) ++ hook_words hook) ++ ask_words classes) ++ text_word title ∷ [])) → IfSome (open_plain l kind place box ts) (IsAskedSpelt (codes "open") l place box kind ts)
-plain_opened l kind place box ts w =
+plain_opened : (l : List ℕ) (kind : Kind) (place : Place) (numbers : Rectangle) (ts : List Token) → ((backdrop : Bool) (hook : Option ℤ) (framed nocare : Bool) (classes : ℕ) (title : List ℕ) → words_of (CallLine (l ∷ []) (OpenAct (asked_plain kind place numbers backdrop hook) framed nocare classes title)) ≡ in_front (codes "open") l kind place numbers (((((flag_words (codes "backdrop") backdrop ++ flag_words (codes "borderless") (not framed)) ++ flag_words (codes "nocare") nocare) ++ hook_words hook) ++ ask_words classes) ++ text_word title ∷ [])) → IfSome (open_plain l kind place numbers ts) (IsAskedSpelt (codes "open") l place numbers kind ts)
+plain_opened l kind place numbers ts w =
     let backdrop = flag (codes "backdrop") ts in
     let borderless = flag (codes "borderless") backdrop.1 in
     let nocare = flag (codes "nocare") borderless.1 in
     let hook = hook_option nocare.1 in
     let ask = ask_option hook.1 in
-    titled_has (IsAskedSpelt (codes "open") l place box kind ts) l _ _ _ _ ask.1 (λ title e t r.
-    let k = and_parts (is_box box) _ r in
+    titled_has (IsAskedSpelt (codes "open") l place numbers kind ts) l _ _ _ _ ask.1 (λ title e t r.
+    let k = and_parts (is_box numbers) _ r in
     let m = and_parts (is_hook_number hook.0) _ k.1 in
     let one = flag_taken (codes "backdrop") ts t in
     let two = flag_taken (codes "borderless") backdrop.1 one.1 in
@@ -160,36 +160,36 @@ plain_opened l kind place box ts w =
     let last : map token_word hook.1 ≡ ask_words ask.0 ++ text_word title ∷ [] = five.0 ∙ ap (λ rest. ask_words ask.0 ++ rest) e in
     let all : map token_word ts ≡ f1 ++ (f2 ++ (f3 ++ (hook_words hook.0 ++ (ask_words ask.0 ++ text_word title ∷ [])))) =
     one.0 ∙ ap (λ rest. f1 ++ rest) (two.0 ∙ ap (λ rest. f2 ++ rest) (three.0 ∙ ap (λ rest. f3 ++ rest) (four.0 ∙ ap (λ rest. hook_words hook.0 ++ rest) last))) in (
-      box_small box k.0,
+      box_small numbers k.0,
       w backdrop.0 hook.0 (not borderless.0) nocare.0 ask.0 title
-          ∙ (ap (λ b. in_front (codes "open") l kind place box (((((f1 ++ flag_words (codes "borderless") b) ++ f3) ++ hook_words hook.0) ++ ask_words ask.0) ++ text_word title ∷ [])) (not_twice borderless.0)
-          ∙ ap (in_front (codes "open") l kind place box) (five_append f1 f2 f3 (hook_words hook.0) (ask_words ask.0) (text_word title ∷ []) ∙ sym all)),
+          ∙ (ap (λ b. in_front (codes "open") l kind place numbers (((((f1 ++ flag_words (codes "borderless") b) ++ f3) ++ hook_words hook.0) ++ ask_words ask.0) ++ text_word title ∷ [])) (not_twice borderless.0)
+          ∙ ap (in_front (codes "open") l kind place numbers) (five_append f1 f2 f3 (hook_words hook.0) (ask_words ask.0) (text_word title ∷ []) ∙ sym all)),
     ))
   where
     five_append : (a b c d e f : List (List ℕ)) → ((((a ++ b) ++ c) ++ d) ++ e) ++ f ≡ a ++ (b ++ (c ++ (d ++ (e ++ f))))
     five_append a b c d e f = simp append_assoc
 
 -- BW BH [backdrop] [ask SET] "TITLE"
-super_opened : (l : List ℕ) (place : Place) (box : Rectangle) (ts : List Token) → IfSome (open_super l place box ts) (IsAskedSpelt (codes "open") l place box SuperBitmap ts)
-super_opened l place box (NumberToken a w ∷ NumberToken b h ∷ ts) =
+super_opened : (l : List ℕ) (place : Place) (numbers : Rectangle) (ts : List Token) → IfSome (open_super l place numbers ts) (IsAskedSpelt (codes "open") l place numbers SuperBitmap ts)
+super_opened l place numbers (NumberToken a w ∷ NumberToken b h ∷ ts) =
     let backdrop = flag (codes "backdrop") ts in
     let ask = ask_option backdrop.1 in
-    titled_has (IsAskedSpelt (codes "open") l place box SuperBitmap (NumberToken a w ∷ NumberToken b h ∷ ts)) l _ _ _ _ ask.1 (λ title e t r.
-    let k = and_parts (is_box box) _ r in
+    titled_has (IsAskedSpelt (codes "open") l place numbers SuperBitmap (NumberToken a w ∷ NumberToken b h ∷ ts)) l _ _ _ _ ask.1 (λ title e t r.
+    let k = and_parts (is_box numbers) _ r in
     let m = and_parts (within (pos 1) w (pos 2048)) _ k.1 in
     let one = flag_taken (codes "backdrop") ts t.1.1 in
     let two = ask_taken backdrop.1 one.1 in
     let f1 = flag_words (codes "backdrop") backdrop.0 in
     let all : map token_word ts ≡ f1 ++ (ask_words ask.0 ++ text_word title ∷ []) = one.0 ∙ ap (λ rest. f1 ++ rest) (two.0 ∙ ap (λ rest. ask_words ask.0 ++ rest) e) in (
-      box_small box k.0,
-      ap (in_front (codes "open") l SuperBitmap place box) (also (t.0 (own_small w m.0)) (also (t.1.0 (own_small h m.1)) (append_assoc f1 (ask_words ask.0) (text_word title ∷ []) ∙ sym all))),
+      box_small numbers k.0,
+      ap (in_front (codes "open") l SuperBitmap place numbers) (also (t.0 (own_small w m.0)) (also (t.1.0 (own_small h m.1)) (append_assoc f1 (ask_words ask.0) (text_word title ∷ []) ∙ sym all))),
     ))
-super_opened l place box _ = tt
+super_opened l place numbers _ = tt
 
-opened_spelt : (l : List ℕ) (place : Place) (box : Rectangle) (ts : List Token) (kind : Kind) → IfSome (open_kind l place box ts kind) (IsAskedSpelt (codes "open") l place box kind ts)
-opened_spelt l place box ts Simple = plain_opened l Simple place box ts (λ b h f n c t. refl)
-opened_spelt l place box ts Smart = plain_opened l Smart place box ts (λ b h f n c t. refl)
-opened_spelt l place box ts SuperBitmap = super_opened l place box ts
+opened_spelt : (l : List ℕ) (place : Place) (numbers : Rectangle) (ts : List Token) (kind : Kind) → IfSome (open_kind l place numbers ts kind) (IsAskedSpelt (codes "open") l place numbers kind ts)
+opened_spelt l place numbers ts Simple = plain_opened l Simple place numbers ts (λ b h f n c t. refl)
+opened_spelt l place numbers ts Smart = plain_opened l Smart place numbers ts (λ b h f n c t. refl)
+opened_spelt l place numbers ts SuperBitmap = super_opened l place numbers ts
 
 -- a kind and a place have one word each
 kind_spelt : (w : List ℕ) → IfSome (kind_of w) (λ kind. w ≡ kind_word kind)
@@ -208,7 +208,7 @@ then_by Q P g None q h = tt
 then_by Q P g (Some a) q h = h a q
 
 -- create L KIND PLACE X0 Y0 X1 Y1 .., and open L KIND PLACE X Y W H ..
-asked_spelt : (word : List ℕ) (behind : List ℕ → Place → Rectangle → List Token → Kind → Option LineForm) → ((l : List ℕ) (place : Place) (box : Rectangle) (ts : List Token) (kind : Kind) → IfSome (behind l place box ts kind) (IsAskedSpelt word l place box kind ts)) → (ts : List Token) → IfSome (asked_line behind ts) (IsSpelt word ts)
+asked_spelt : (word : List ℕ) (behind : List ℕ → Place → Rectangle → List Token → Kind → Option LineForm) → ((l : List ℕ) (place : Place) (numbers : Rectangle) (ts : List Token) (kind : Kind) → IfSome (behind l place numbers ts kind) (IsAskedSpelt word l place numbers kind ts)) → (ts : List Token) → IfSome (asked_line behind ts) (IsSpelt word ts)
 asked_spelt word behind made (NameToken l ∷ NameToken k ∷ NameToken p ∷ NumberToken a x ∷ NumberToken b y ∷ NumberToken c z ∷ NumberToken d w ∷ ts) =
     then_by (λ place. p ≡ place_word place) P _ (place_of p) (place_spelt p) (λ place e. then_by (λ kind. k ≡ kind_word kind) P _ (kind_of k) (kind_spelt k) (λ kind f. at_form place kind e f (behind l place (four x y z w) ts kind) (made l place (four x y z w) ts kind)))
   where

@@ -27,7 +27,7 @@ asked_of m a b =
     record {
       kind = m.kind;
       place = m.place;
-      box = four m.x m.y a b;
+      numbers = four m.x m.y a b;
       backdrop = m.backdrop;
       hook = option_map pos m.hook;
       bits_w = pos m.bits_w;

@@ -103,9 +103,9 @@ call_words layers (RegRectAct op r rect) = rect_word op ∷ signed_decimal r ∷
 call_words layers (RegPairAct op s r) = pair_word op ∷ signed_decimal s ∷ signed_decimal r ∷ []
 call_words layers (RegClearAct r) = codes "clearregion" ∷ signed_decimal r ∷ []
 call_words layers (CreateAct a) =
-    codes "create" ∷ layers ++ kind_word a.kind ∷ place_word a.place ∷ four_words a.box ++ created_words a.kind a
+    codes "create" ∷ layers ++ kind_word a.kind ∷ place_word a.place ∷ four_words a.numbers ++ created_words a.kind a
 call_words layers (OpenAct a framed nocare classes title) =
-    codes "open" ∷ layers ++ kind_word a.kind ∷ place_word a.place ∷ four_words a.box
+    codes "open" ∷ layers ++ kind_word a.kind ∷ place_word a.place ∷ four_words a.numbers
     ++ opened_words a.kind a framed nocare classes ++ text_word title ∷ []
 call_words layers CloseAct = codes "close" ∷ layers
 call_words layers FrontAct = codes "front" ∷ layers

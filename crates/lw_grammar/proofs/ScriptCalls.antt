@@ -70,20 +70,20 @@ make_made z a x y w h m r k cx cy sw sh =
     and_from _ _ (and_from _ _ (and_from _ _ cx cy) (and_from _ _ sw sh)) (and_from _ _ (asked_hook_fits z.hooks a.hook k) (asked_kind_fits a.kind a m own.1))
 
 -- of a creation, and of an opening
-created_fits : (z : Sizes) (a : Asked) → IsAskedOf a.kind a → (rect_fits a.box && is_asked_in_range a) ≡ true → is_no_hook z.hooks a.hook ≡ false → make_fits z (created_make a) ≡ true
+created_fits : (z : Sizes) (a : Asked) → IsAskedOf a.kind a → (rect_fits a.numbers && is_asked_in_range a) ≡ true → is_no_hook z.hooks a.hook ≡ false → make_fits z (created_make a) ≡ true
 created_fits z a m r k =
-    let parts = and_parts (rect_fits a.box) (is_asked_in_range a) r in
-    let axes = and_parts (axis_fits a.box.min_x a.box.max_x) (axis_fits a.box.min_y a.box.max_y) parts.0 in
-    let x = span_fits a.box.min_x a.box.max_x axes.0 in
-    let y = span_fits a.box.min_y a.box.max_y axes.1 in
+    let parts = and_parts (rect_fits a.numbers) (is_asked_in_range a) r in
+    let axes = and_parts (axis_fits a.numbers.min_x a.numbers.max_x) (axis_fits a.numbers.min_y a.numbers.max_y) parts.0 in
+    let x = span_fits a.numbers.min_x a.numbers.max_x axes.0 in
+    let y = span_fits a.numbers.min_y a.numbers.max_y axes.1 in
     make_made z a _ _ _ _ m parts.1 k x.0 y.0 x.1 y.1
 
-opened_fits : (z : Sizes) (a : Asked) → IsAskedOf a.kind a → (is_box a.box && is_asked_in_range a) ≡ true → is_no_hook z.hooks a.hook ≡ false → make_fits z (opened_make a) ≡ true
+opened_fits : (z : Sizes) (a : Asked) → IsAskedOf a.kind a → (is_box a.numbers && is_asked_in_range a) ≡ true → is_no_hook z.hooks a.hook ≡ false → make_fits z (opened_make a) ≡ true
 opened_fits z a m r k =
-    let parts = and_parts (is_box a.box) (is_asked_in_range a) r in
-    let halves = and_parts (is_coordinate a.box.min_x && is_coordinate a.box.min_y) _ parts.0 in
-    let place = and_parts (is_coordinate a.box.min_x) _ halves.0 in
-    let size = and_parts (is_extent a.box.max_x) _ halves.1 in
+    let parts = and_parts (is_box a.numbers) (is_asked_in_range a) r in
+    let halves = and_parts (is_coordinate a.numbers.min_x && is_coordinate a.numbers.min_y) _ parts.0 in
+    let place = and_parts (is_coordinate a.numbers.min_x) _ halves.0 in
+    let size = and_parts (is_extent a.numbers.max_x) _ halves.1 in
     make_made z a _ _ _ _ m parts.1 k place.0 place.1 (box_fits _ size.0) (box_fits _ size.1)
 
 -- a window that is asked for

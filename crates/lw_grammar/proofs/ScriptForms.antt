@@ -322,14 +322,14 @@ module _ (form : Form) (s : Section) where
   end_made f h (t ∷ ts) = tt
 
   -- what stands behind a creation's four numbers
-  create_super_made : (l : List ℕ) (place : Place) (box : Rectangle) (ts : List Token) → IfSome (create_super l place box ts) (IsVerbForm form s (are_calls_due s) false)
-  create_super_made l place box (NumberToken a w ∷ NumberToken b h ∷ ts) = end_made _ (call_so form s (l ∷ []) _ refl refl) _
-  create_super_made l place box _ = tt
+  create_super_made : (l : List ℕ) (place : Place) (numbers : Rectangle) (ts : List Token) → IfSome (create_super l place numbers ts) (IsVerbForm form s (are_calls_due s) false)
+  create_super_made l place numbers (NumberToken a w ∷ NumberToken b h ∷ ts) = end_made _ (call_so form s (l ∷ []) _ refl refl) _
+  create_super_made l place numbers _ = tt
 
-  create_made : (l : List ℕ) (place : Place) (box : Rectangle) (ts : List Token) (kind : Kind) → IfSome (create_kind l place box ts kind) (IsVerbForm form s (are_calls_due s) false)
-  create_made l place box ts Simple = end_made _ (call_so form s (l ∷ []) _ refl (refl, refl)) _
-  create_made l place box ts Smart = end_made _ (call_so form s (l ∷ []) _ refl (refl, refl)) _
-  create_made l place box ts SuperBitmap = create_super_made l place box ts
+  create_made : (l : List ℕ) (place : Place) (numbers : Rectangle) (ts : List Token) (kind : Kind) → IfSome (create_kind l place numbers ts kind) (IsVerbForm form s (are_calls_due s) false)
+  create_made l place numbers ts Simple = end_made _ (call_so form s (l ∷ []) _ refl (refl, refl)) _
+  create_made l place numbers ts Smart = end_made _ (call_so form s (l ∷ []) _ refl (refl, refl)) _
+  create_made l place numbers ts SuperBitmap = create_super_made l place numbers ts
 
   -- the form at the title
   titled_made : (l : List ℕ) (asked : Asked) (framed nocare : Bool) (classes : ℕ) → IsAskedOf asked.kind asked → (framed && is_super asked.kind) ≡ false → classes < 32 → (ts : List Token) → IfSome (titled_line l asked framed nocare classes ts) (IsVerbForm form s (are_calls_due s) false)
@@ -338,17 +338,17 @@ module _ (form : Form) (s : Section) where
   titled_made l asked framed nocare classes a f c _ = tt
 
   -- what stands behind an opening's four numbers
-  open_super_made : (l : List ℕ) (place : Place) (box : Rectangle) (ts : List Token) → IfSome (open_super l place box ts) (IsVerbForm form s (are_calls_due s) false)
-  open_super_made l place box (NumberToken a w ∷ NumberToken b h ∷ ts) = titled_made l _ false false _ refl refl (asked_small ((flag (codes "backdrop") ts).1)) _
-  open_super_made l place box _ = tt
+  open_super_made : (l : List ℕ) (place : Place) (numbers : Rectangle) (ts : List Token) → IfSome (open_super l place numbers ts) (IsVerbForm form s (are_calls_due s) false)
+  open_super_made l place numbers (NumberToken a w ∷ NumberToken b h ∷ ts) = titled_made l _ false false _ refl refl (asked_small ((flag (codes "backdrop") ts).1)) _
+  open_super_made l place numbers _ = tt
 
-  open_made : (l : List ℕ) (place : Place) (box : Rectangle) (ts : List Token) (kind : Kind) → IfSome (open_kind l place box ts kind) (IsVerbForm form s (are_calls_due s) false)
-  open_made l place box ts Simple = titled_made l _ _ _ _ (refl, refl) (and_right _ false refl) (asked_small (behind_hook ts)) _
-  open_made l place box ts Smart = titled_made l _ _ _ _ (refl, refl) (and_right _ false refl) (asked_small (behind_hook ts)) _
-  open_made l place box ts SuperBitmap = open_super_made l place box ts
+  open_made : (l : List ℕ) (place : Place) (numbers : Rectangle) (ts : List Token) (kind : Kind) → IfSome (open_kind l place numbers ts kind) (IsVerbForm form s (are_calls_due s) false)
+  open_made l place numbers ts Simple = titled_made l _ _ _ _ (refl, refl) (and_right _ false refl) (asked_small (behind_hook ts)) _
+  open_made l place numbers ts Smart = titled_made l _ _ _ _ (refl, refl) (and_right _ false refl) (asked_small (behind_hook ts)) _
+  open_made l place numbers ts SuperBitmap = open_super_made l place numbers ts
 
   -- create L KIND PLACE X0 Y0 X1 Y1 .., and open L KIND PLACE X Y W H ..
-  asked_made : (behind : List ℕ → Place → Rectangle → List Token → Kind → Option LineForm) → ((l : List ℕ) (place : Place) (box : Rectangle) (ts : List Token) (kind : Kind) → IfSome (behind l place box ts kind) (IsVerbForm form s (are_calls_due s) false)) → (ts : List Token) → IfSome (asked_line behind ts) (IsVerbForm form s (are_calls_due s) false)
+  asked_made : (behind : List ℕ → Place → Rectangle → List Token → Kind → Option LineForm) → ((l : List ℕ) (place : Place) (numbers : Rectangle) (ts : List Token) (kind : Kind) → IfSome (behind l place numbers ts kind) (IsVerbForm form s (are_calls_due s) false)) → (ts : List Token) → IfSome (asked_line behind ts) (IsVerbForm form s (are_calls_due s) false)
   asked_made behind made (NameToken l ∷ NameToken k ∷ NameToken p ∷ NumberToken a x ∷ NumberToken b y ∷ NumberToken c z ∷ NumberToken d w ∷ ts) =
       then_has (IsVerbForm form s (are_calls_due s) false) _ (place_of p) (λ place. then_has (IsVerbForm form s (are_calls_due s) false) _ (kind_of k) (λ kind. made l place (four x y z w) ts kind))
   asked_made behind made _ = tt

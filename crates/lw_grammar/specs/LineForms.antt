@@ -17,12 +17,12 @@ use Rattle.lw_grammar.specs.declared.verb.Verb.TheVariants.{Screen as ScreenVerb
 use Rattle.lw_calls.specs.Limits.{rect_fits, coordinates_fit, is_extent}
 use Rattle.lw_grammar.specs.Tokens.{Token, NameToken, NumberToken, TextToken, bytes_in}
 
--- A layer as a line asks for it: its kind and place, four numbers for its bounds or its box, whether it is a backdrop layer,
--- its hook, and the size of a bitmap of its own, or 0 and 0.
+-- A layer as a line asks for it: its kind and place, its four numbers (the bounds of a creation, or the place and size of an
+-- opening), whether it is a backdrop layer, its hook, and the size of a bitmap of its own, or 0 and 0.
 pub record Asked : Type 0 where
   pub kind : Kind
   pub place : Place
-  pub box : Rectangle
+  pub numbers : Rectangle
   pub backdrop : Bool
   pub hook : Option ℤ
   pub bits_w : ℤ
@@ -289,33 +289,33 @@ at_end form (t ∷ ts) = None
 
 -- a layer that is asked for without a bitmap of its own
 abbrev pub asked_plain : Kind → Place → Rectangle → Bool → Option ℤ → Asked
-asked_plain kind place box backdrop hook =
-    record { kind = kind; place = place; box = box; backdrop = backdrop; hook = hook; bits_w = pos 0; bits_h = pos 0 }
+asked_plain kind place numbers backdrop hook =
+    record { kind = kind; place = place; numbers = numbers; backdrop = backdrop; hook = hook; bits_w = pos 0; bits_h = pos 0 }
 
 -- a layer that is asked for with a bitmap of its own
 abbrev pub asked_super : Place → Rectangle → Bool → ℤ → ℤ → Asked
-asked_super place box backdrop w h =
-    record { kind = SuperBitmap; place = place; box = box; backdrop = backdrop; hook = None; bits_w = w; bits_h = h }
+asked_super place numbers backdrop w h =
+    record { kind = SuperBitmap; place = place; numbers = numbers; backdrop = backdrop; hook = None; bits_w = w; bits_h = h }
 
 -- what stands behind the four numbers of a creation without a bitmap of its own: [backdrop] [hook N]
 abbrev pub create_plain : List ℕ → Kind → Place → Rectangle → List Token → Option LineForm
-create_plain l kind place box ts =
+create_plain l kind place numbers ts =
     let backdrop = flag (codes "backdrop") ts in
     let hook = hook_option backdrop.1 in
-    at_end (CallLine (l ∷ []) (CreateAct (asked_plain kind place box backdrop.0 hook.0))) hook.1
+    at_end (CallLine (l ∷ []) (CreateAct (asked_plain kind place numbers backdrop.0 hook.0))) hook.1
 
 -- what stands behind those of a creation with one: BW BH [backdrop]
 abbrev pub create_super : List ℕ → Place → Rectangle → List Token → Option LineForm
-create_super l place box (NumberToken a w ∷ NumberToken b h ∷ ts) =
+create_super l place numbers (NumberToken a w ∷ NumberToken b h ∷ ts) =
     let backdrop = flag (codes "backdrop") ts in
-    at_end (CallLine (l ∷ []) (CreateAct (asked_super place box backdrop.0 w h))) backdrop.1
-create_super l place box _ = None
+    at_end (CallLine (l ∷ []) (CreateAct (asked_super place numbers backdrop.0 w h))) backdrop.1
+create_super l place numbers _ = None
 
 -- what stands behind those of a creation of this kind
 abbrev pub create_kind : List ℕ → Place → Rectangle → List Token → Kind → Option LineForm
-create_kind l place box ts Simple = create_plain l Simple place box ts
-create_kind l place box ts Smart = create_plain l Smart place box ts
-create_kind l place box ts SuperBitmap = create_super l place box ts
+create_kind l place numbers ts Simple = create_plain l Simple place numbers ts
+create_kind l place numbers ts Smart = create_plain l Smart place numbers ts
+create_kind l place numbers ts SuperBitmap = create_super l place numbers ts
 
 -- the title, where it is the last word
 abbrev pub titled_line : List ℕ → Asked → Bool → Bool → ℕ → List Token → Option LineForm
@@ -326,27 +326,27 @@ titled_line l asked framed nocare classes _ = None
 -- what stands behind the four numbers of an opening without a bitmap of its own: [backdrop] [borderless] [nocare] [hook N]
 -- [ask SET] "TITLE"
 abbrev pub open_plain : List ℕ → Kind → Place → Rectangle → List Token → Option LineForm
-open_plain l kind place box ts =
+open_plain l kind place numbers ts =
     let backdrop = flag (codes "backdrop") ts in
     let borderless = flag (codes "borderless") backdrop.1 in
     let nocare = flag (codes "nocare") borderless.1 in
     let hook = hook_option nocare.1 in
     let ask = ask_option hook.1 in
-    titled_line l (asked_plain kind place box backdrop.0 hook.0) (not borderless.0) nocare.0 ask.0 ask.1
+    titled_line l (asked_plain kind place numbers backdrop.0 hook.0) (not borderless.0) nocare.0 ask.0 ask.1
 
 -- what stands behind those of an opening with one: BW BH [backdrop] [ask SET] "TITLE"
 abbrev pub open_super : List ℕ → Place → Rectangle → List Token → Option LineForm
-open_super l place box (NumberToken a w ∷ NumberToken b h ∷ ts) =
+open_super l place numbers (NumberToken a w ∷ NumberToken b h ∷ ts) =
     let backdrop = flag (codes "backdrop") ts in
     let ask = ask_option backdrop.1 in
-    titled_line l (asked_super place box backdrop.0 w h) false false ask.0 ask.1
-open_super l place box _ = None
+    titled_line l (asked_super place numbers backdrop.0 w h) false false ask.0 ask.1
+open_super l place numbers _ = None
 
 -- what stands behind those of an opening of this kind
 abbrev pub open_kind : List ℕ → Place → Rectangle → List Token → Kind → Option LineForm
-open_kind l place box ts Simple = open_plain l Simple place box ts
-open_kind l place box ts Smart = open_plain l Smart place box ts
-open_kind l place box ts SuperBitmap = open_super l place box ts
+open_kind l place numbers ts Simple = open_plain l Simple place numbers ts
+open_kind l place numbers ts Smart = open_plain l Smart place numbers ts
+open_kind l place numbers ts SuperBitmap = open_super l place numbers ts
 
 -- create L KIND PLACE X0 Y0 X1 Y1 .., and open L KIND PLACE X Y W H ..
 abbrev pub asked_line : (List ℕ → Place → Rectangle → List Token → Kind → Option LineForm) → List Token → Option LineForm
@@ -420,7 +420,7 @@ is_own_size Simple w h = true
 is_own_size Smart w h = true
 is_own_size SuperBitmap w h = within (pos 1) w (pos 2048) && within (pos 1) h (pos 2048)
 
--- the numbers of a layer that is asked for, besides those of its box
+-- the numbers of a layer that is asked for, besides its four
 abbrev pub is_asked_in_range : Asked → Bool
 is_asked_in_range a = is_hook_number a.hook && is_own_size a.kind a.bits_w a.bits_h
 
@@ -437,8 +437,8 @@ abbrev pub is_act_in_range : Act → Bool
 is_act_in_range (RegRectAct op r rect) = within (pos 0) r (pos 7) && rect_fits rect
 is_act_in_range (RegPairAct op s r) = within (pos 0) s (pos 7) && within (pos 0) r (pos 7)
 is_act_in_range (RegClearAct r) = within (pos 0) r (pos 7)
-is_act_in_range (CreateAct asked) = rect_fits asked.box && is_asked_in_range asked
-is_act_in_range (OpenAct asked framed nocare classes title) = is_box asked.box && is_asked_in_range asked
+is_act_in_range (CreateAct asked) = rect_fits asked.numbers && is_asked_in_range asked
+is_act_in_range (OpenAct asked framed nocare classes title) = is_box asked.numbers && is_asked_in_range asked
 is_act_in_range (MoveAct dx dy) = coordinates_fit dx dy
 is_act_in_range (SizeAct dw dh) = coordinates_fit dw dh
 is_act_in_range (BoxAct x y w h) = is_box (four x y w h)

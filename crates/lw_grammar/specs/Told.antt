@@ -103,7 +103,7 @@ onto_last a [] = []
 onto_last a (list ∷ []) = (list ++ a ∷ []) ∷ []
 onto_last a (list ∷ next ∷ rest) = list ∷ onto_last a (next ∷ rest)
 
--- The numbers that a layer is asked for with, as the call has them: a creation's box has its bounds, an opening's its place
+-- The numbers that a layer is asked for with, as the call has them: a creation's four are its bounds, an opening's its place
 -- and size.
 abbrev pub make_of : Asked → ℤ → ℤ → ℤ → ℤ → Make
 make_of a x y w h =
@@ -122,10 +122,11 @@ make_of a x y w h =
 
 abbrev pub created_make : Asked → Make
 created_make a =
-    make_of a a.box.min_x a.box.min_y ((a.box.max_x -ℤ a.box.min_x) +ℤ pos 1) ((a.box.max_y -ℤ a.box.min_y) +ℤ pos 1)
+    make_of a a.numbers.min_x a.numbers.min_y ((a.numbers.max_x -ℤ a.numbers.min_x) +ℤ pos 1)
+    ((a.numbers.max_y -ℤ a.numbers.min_y) +ℤ pos 1)
 
 abbrev pub opened_make : Asked → Make
-opened_make a = make_of a a.box.min_x a.box.min_y a.box.max_x a.box.max_y
+opened_make a = make_of a a.numbers.min_x a.numbers.min_y a.numbers.max_x a.numbers.max_y
 
 -- the call that an act is, on the layers in these slots, where the script has bitmaps of these names
 abbrev pub spelled_call : List (List ℕ) → Act → List ℕ → Call

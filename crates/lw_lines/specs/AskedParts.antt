@@ -19,7 +19,8 @@ behind_numbers Opening = open_kind
 
 -- the same, where these words are to be the kind and the place
 abbrev pub with_words : Behind → List ℕ → List ℕ → List ℕ → Rectangle → List Token → Option LineForm
-with_words behind l k p box ts = option_and_then (λ place. option_and_then (behind l place box ts) (kind_of k)) (place_of p)
+with_words behind l k p numbers ts =
+    option_and_then (λ place. option_and_then (behind l place numbers ts) (kind_of k)) (place_of p)
 
 -- four numbers, and what stands behind them
 abbrev pub with_numbers : (Rectangle → List Token → Option LineForm) → List Token → Option LineForm

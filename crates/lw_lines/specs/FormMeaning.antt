@@ -54,7 +54,7 @@ asked_meaning a =
     record {
       kind = kind_meaning a.kind;
       place = a.place;
-      box = corners_meaning a.corners;
+      numbers = corners_meaning a.numbers;
       backdrop = a.backdrop;
       hook = a.hook;
       bits_w = width_meaning a.kind;

@@ -78,31 +78,31 @@ impl Asked {
 
     /// The layer of a creation, with these bounds.
     fn created(&self) -> Make
-        requires bounds { IsTrue (rect_fits (corners_meaning self.now.corners)) }
+        requires bounds { IsTrue (rect_fits (corners_meaning self.now.numbers)) }
         requires range { IsTrue (is_asked_in_range (asked_meaning self.now)) }
         ensures { result ≡ created_make (asked_meaning self.now) }
     {
-        let corners = self.corners;
+        let numbers = self.numbers;
         self.make(
-            step(corners.x0),
-            step(corners.y0),
-            spread(corners.x0, corners.x1),
-            spread(corners.y0, corners.y1),
+            step(numbers.x0),
+            step(numbers.y0),
+            spread(numbers.x0, numbers.x1),
+            spread(numbers.y0, numbers.y1),
         )
     }
 
     /// The layer of an opening, with this place and size.
     fn opened(&self) -> Make
-        requires bounds { IsTrue (is_box (corners_meaning self.now.corners)) }
+        requires bounds { IsTrue (is_box (corners_meaning self.now.numbers)) }
         requires range { IsTrue (is_asked_in_range (asked_meaning self.now)) }
         ensures { result ≡ opened_make (asked_meaning self.now) }
     {
-        let corners = self.corners;
+        let numbers = self.numbers;
         self.make(
-            step(corners.x0),
-            step(corners.y0),
-            extent(corners.x1),
-            extent(corners.y1),
+            step(numbers.x0),
+            step(numbers.y0),
+            extent(numbers.x1),
+            extent(numbers.y1),
         )
     }
 }

@@ -31,7 +31,7 @@ pub struct Asked {
     pub kind: AskedKind,
     pub place: Place,
     /// The bounds of a creation, or the place and size of an opening.
-    pub corners: Corners,
+    pub numbers: Corners,
     pub backdrop: bool,
     pub hook: Option<i64>,
 }

@@ -127,11 +127,11 @@ fn create_plain<'a>(
     layer: &'a [u8],
     kind: PlainKind,
     place: Place,
-    corners: Corners,
+    numbers: Corners,
     tokens: &[Token<'a>],
 ) -> Option<LineForm<'a>>
     ensures { option_map form_meaning result
-        ≡ create_plain layer.now (plain_meaning kind) place (corners_meaning corners) (map token_meaning tokens.now) }
+        ≡ create_plain layer.now (plain_meaning kind) place (corners_meaning numbers) (map token_meaning tokens.now) }
 {
     let (backdrop, rest) = flag(b"backdrop", tokens);
     let (hook, rest) = hook_in(rest);
@@ -141,7 +141,7 @@ fn create_plain<'a>(
     let asked = Asked {
         kind: AskedKind::Plain(kind),
         place,
-        corners,
+        numbers,
         backdrop,
         hook,
     };
@@ -152,11 +152,11 @@ fn create_plain<'a>(
 fn create_super<'a>(
     layer: &'a [u8],
     place: Place,
-    corners: Corners,
+    numbers: Corners,
     tokens: &[Token<'a>],
 ) -> Option<LineForm<'a>>
     ensures { option_map form_meaning result
-        ≡ create_super layer.now place (corners_meaning corners) (map token_meaning tokens.now) }
+        ≡ create_super layer.now place (corners_meaning numbers) (map token_meaning tokens.now) }
 {
     match tokens {
         [
@@ -174,7 +174,7 @@ fn create_super<'a>(
                     bits_h: *bits_h,
                 },
                 place,
-                corners,
+                numbers,
                 backdrop,
                 hook: None,
             };
@@ -219,11 +219,11 @@ fn open_plain<'a>(
     layer: &'a [u8],
     kind: PlainKind,
     place: Place,
-    corners: Corners,
+    numbers: Corners,
     tokens: &[Token<'a>],
 ) -> Option<LineForm<'a>>
     ensures { option_map form_meaning result
-        ≡ open_plain layer.now (plain_meaning kind) place (corners_meaning corners) (map token_meaning tokens.now) }
+        ≡ open_plain layer.now (plain_meaning kind) place (corners_meaning numbers) (map token_meaning tokens.now) }
 {
     let (backdrop, rest) = flag(b"backdrop", tokens);
     let (borderless, rest) = flag(b"borderless", rest);
@@ -233,7 +233,7 @@ fn open_plain<'a>(
     let asked = Asked {
         kind: AskedKind::Plain(kind),
         place,
-        corners,
+        numbers,
         backdrop,
         hook,
     };
@@ -244,12 +244,12 @@ fn open_plain<'a>(
 fn open_sized<'a>(
     layer: &'a [u8],
     place: Place,
-    corners: Corners,
+    numbers: Corners,
     bits_w: i64,
     bits_h: i64,
     tokens: &[Token<'a>],
 ) -> Option<LineForm<'a>>
-    ensures { option_map form_meaning result ≡ open_super layer.now place (corners_meaning corners)
+    ensures { option_map form_meaning result ≡ open_super layer.now place (corners_meaning numbers)
         (NumberToken [] bits_w ∷ NumberToken [] bits_h ∷ map token_meaning tokens.now) }
 {
     let (backdrop, rest) = flag(b"backdrop", tokens);
@@ -257,7 +257,7 @@ fn open_sized<'a>(
     let asked = Asked {
         kind: AskedKind::Super { bits_w, bits_h },
         place,
-        corners,
+        numbers,
         backdrop,
         hook: None,
     };
@@ -268,10 +268,10 @@ fn open_sized<'a>(
 fn open_super<'a>(
     layer: &'a [u8],
     place: Place,
-    corners: Corners,
+    numbers: Corners,
     tokens: &[Token<'a>],
 ) -> Option<LineForm<'a>>
-    ensures { option_map form_meaning result ≡ open_super layer.now place (corners_meaning corners)
+    ensures { option_map form_meaning result ≡ open_super layer.now place (corners_meaning numbers)
         (map token_meaning tokens.now) }
 {
     match tokens {
@@ -279,7 +279,7 @@ fn open_super<'a>(
             Token::Number(_, bits_w),
             Token::Number(_, bits_h),
             rest @ ..,
-        ] => { open_sized(layer, place, corners, *bits_w, *bits_h, rest) }
+        ] => { open_sized(layer, place, numbers, *bits_w, *bits_h, rest) }
         _ => None,
     }
 }
@@ -299,22 +299,22 @@ fn kind_form<'a>(
     layer: &'a [u8],
     kind: Kind,
     place: Place,
-    corners: Corners,
+    numbers: Corners,
     tokens: &[Token<'a>],
 ) -> Option<LineForm<'a>>
     ensures { option_map form_meaning result ≡
-        behind_numbers request layer.now place (corners_meaning corners) (map token_meaning tokens.now) kind }
+        behind_numbers request layer.now place (corners_meaning numbers) (map token_meaning tokens.now) kind }
 {
     match request {
         Request::Creation => match kind {
-            Kind::Simple => create_plain(layer, PlainKind::Simple, place, corners, tokens),
-            Kind::Smart => create_plain(layer, PlainKind::Smart, place, corners, tokens),
-            Kind::SuperBitmap => create_super(layer, place, corners, tokens),
+            Kind::Simple => create_plain(layer, PlainKind::Simple, place, numbers, tokens),
+            Kind::Smart => create_plain(layer, PlainKind::Smart, place, numbers, tokens),
+            Kind::SuperBitmap => create_super(layer, place, numbers, tokens),
         },
         Request::Opening => match kind {
-            Kind::Simple => open_plain(layer, PlainKind::Simple, place, corners, tokens),
-            Kind::Smart => open_plain(layer, PlainKind::Smart, place, corners, tokens),
-            Kind::SuperBitmap => open_super(layer, place, corners, tokens),
+            Kind::Simple => open_plain(layer, PlainKind::Simple, place, numbers, tokens),
+            Kind::Smart => open_plain(layer, PlainKind::Smart, place, numbers, tokens),
+            Kind::SuperBitmap => open_super(layer, place, numbers, tokens),
         },
     }
 }
@@ -325,18 +325,18 @@ fn placed_form<'a>(
     layer: &'a [u8],
     kind: &[u8],
     place: &[u8],
-    corners: Corners,
+    numbers: Corners,
     tokens: &[Token<'a>],
 ) -> Option<LineForm<'a>>
     ensures { option_map form_meaning result ≡
-        with_words (behind_numbers request) layer.now kind.now place.now (corners_meaning corners)
+        with_words (behind_numbers request) layer.now kind.now place.now (corners_meaning numbers)
         (map token_meaning tokens.now) }
 {
     match place_of(place) {
         None => None,
         Some(place) => match kind_of(kind) {
             None => None,
-            Some(kind) => kind_form(request, layer, kind, place, corners, tokens),
+            Some(kind) => kind_form(request, layer, kind, place, numbers, tokens),
         },
     }
 }
@@ -354,7 +354,7 @@ fn named_form<'a>(
 {
     match corners_in(tokens) {
         None => None,
-        Some((corners, rest)) => placed_form(request, layer, kind, place, corners, rest),
+        Some((numbers, rest)) => placed_form(request, layer, kind, place, numbers, rest),
     }
 }
 

@@ -130,8 +130,8 @@ impl Act<'_> {
                 is_between(0, *source, 7) && is_between(0, *into, 7)
             }
             Act::RegClear(register) => is_between(0, *register, 7),
-            Act::Create(asked) => asked.corners.fit() && asked.is_in_range(),
-            Act::Open { asked, .. } => asked.corners.are_box() && asked.is_in_range(),
+            Act::Create(asked) => asked.numbers.fit() && asked.is_in_range(),
+            Act::Open { asked, .. } => asked.numbers.are_box() && asked.is_in_range(),
             Act::Box(corners) => corners.are_box(),
             Act::Which { x, y } | Act::Pair(_, x, y) => coordinates_fit(*x, *y),
             Act::Number(act, number) => act.is_in_range(*number),

@@ -15,7 +15,7 @@ use std::alloc::{AllocError, Global};
 /// Writes what a creation asks for: its kind and place, its bounds and its options.
 pub fn push_created(alloc: Global, out: &mut Vec<u8>, make: &Make) -> Result<(), AllocError>
     ensures { OnOk result (out.new.items ≡ out.old.items
-        ++ behind (kind_word make.now.kind ∷ place_word make.now.place ∷ four_words (created_asked make.now).box
+        ++ behind (kind_word make.now.kind ∷ place_word make.now.place ∷ four_words (created_asked make.now).numbers
         ++ created_words make.now.kind (created_asked make.now))) }
 {
     push_kind_and_place(out, make)?;
@@ -54,7 +54,7 @@ fn place_word(place: Place) -> &'static str
 
 /// Writes the bounds of a layer that is created.
 fn push_created_bounds(alloc: Global, out: &mut Vec<u8>, make: &Make) -> Result<(), AllocError>
-    ensures { OnOk result (out.new.items ≡ out.old.items ++ behind (four_words (created_asked make.now).box)) }
+    ensures { OnOk result (out.new.items ≡ out.old.items ++ behind (four_words (created_asked make.now).numbers)) }
 {
     push_pair(alloc, out, make.x, make.y)?;
     push_last_corner(alloc, out, make)
@@ -119,7 +119,7 @@ pub fn push_opened(
     asks: u8,
 ) -> Result<(), AllocError>
     ensures { OnOk result (out.new.items ≡ out.old.items
-        ++ behind (kind_word make.now.kind ∷ place_word make.now.place ∷ four_words (opened_asked make.now).box
+        ++ behind (kind_word make.now.kind ∷ place_word make.now.place ∷ four_words (opened_asked make.now).numbers
         ++ opened_words make.now.kind (opened_asked make.now) framed nocare asks)) }
 {
     push_kind_and_place(out, make)?;
@@ -129,7 +129,7 @@ pub fn push_opened(
 
 /// Writes the place of a window on the screen and its size.
 fn push_opened_box(alloc: Global, out: &mut Vec<u8>, make: &Make) -> Result<(), AllocError>
-    ensures { OnOk result (out.new.items ≡ out.old.items ++ behind (four_words (opened_asked make.now).box)) }
+    ensures { OnOk result (out.new.items ≡ out.old.items ++ behind (four_words (opened_asked make.now).numbers)) }
 {
     push_four(alloc, out, make.x, make.y, make.w, make.h)
 }

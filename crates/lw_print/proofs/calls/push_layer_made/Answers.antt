@@ -10,7 +10,7 @@ pub returns-in_ok-push_opened-in-OpenWindow : goal.returns-in_ok-push_opened-in-
 returns-in_ok-push_opened-in-OpenWindow c = λ bitmaps.
     let call = c.in-OpenWindow in
     let asked = opened_asked call.make in
-    let made : List (List ℕ) = kind_word call.make.kind ∷ place_word call.make.place ∷ four_words asked.box ++ opened_words call.make.kind asked call.framed call.nocare call.asks in
+    let made : List (List ℕ) = kind_word call.make.kind ∷ place_word call.make.place ∷ four_words asked.numbers ++ opened_words call.make.kind asked call.framed call.nocare call.asks in
     rw call.is
     (on_ok_weaker c.push_text.result
     (λ h. word-more _ _ (made ++ text_word call.title ∷ []) c.args.out.now.items _ _ c.name_of-in-OpenWindow.ensures c.in_ok-push_word-in-OpenWindow.ensures.ok
