@@ -7,7 +7,7 @@ use Rattle.lw_calls.specs.declared.make.Place.{Place}
 use Rattle.lw_calls.specs.declared.make.Place.TheVariants.{Front, Behind}
 use Rattle.lw_calls.specs.Limits.{rect_fits}
 use Rattle.lw_grammar.specs.Tokens.{is_a_name, Token, NameToken, NumberToken, TextToken, OddToken}
-use Rattle.lw_grammar.specs.LineForms.{Asked, CreateAct, OpenAct, LineForm, CallLine, four, kind_of, place_of, flag, hook_option, classes_from, asked_classes, ask_option, at_end, asked_plain, create_plain, create_super, create_kind, titled_line, open_plain, open_super, open_kind, asked_line, is_hook_number, is_box, is_line_in_range}
+use Rattle.lw_grammar.specs.LineForms.{Asked, CreateAct, OpenAct, LineForm, CallLine, four, kind_of, place_of, flag, hook_option, classes_from, asked_classes, ask_option, at_end, asked_without_bitmap, create_without_bitmap, create_super, create_kind, titled_line, open_without_bitmap, open_super, open_kind, asked_line, is_hook_number, is_box, is_line_in_range}
 use Rattle.lw_canonical.specs.Spelling.{text_word, four_words, kind_word, place_word, flag_words, hook_words, set_word, ask_words, words_of}
 use Rattle.lw_grammar.proofs.ScriptNames.{equal_names}
 use Rattle.lw_canonical.proofs.SpelledNumbers.{found_if, IsSetOf, set_spelled}
@@ -100,8 +100,8 @@ abbrev in_front : List ℕ → List ℕ → Kind → Place → Rectangle → Lis
 in_front word l kind place numbers rest = word ∷ l ∷ kind_word kind ∷ place_word place ∷ (four_words numbers ++ rest)
 
 -- [backdrop] [hook N]
-plain_created : (l : List ℕ) (kind : Kind) (place : Place) (numbers : Rectangle) (ts : List Token) → ((backdrop : Bool) (hook : Option ℤ) → words_of (CallLine (l ∷ []) (CreateAct (asked_plain kind place numbers backdrop hook))) ≡ in_front (codes "create") l kind place numbers (flag_words (codes "backdrop") backdrop ++ hook_words hook)) → IfSome (create_plain l kind place numbers ts) (IsAskedSpelt (codes "create") l place numbers kind ts)
-plain_created l kind place numbers ts w =
+created_without_bitmap : (l : List ℕ) (kind : Kind) (place : Place) (numbers : Rectangle) (ts : List Token) → ((backdrop : Bool) (hook : Option ℤ) → words_of (CallLine (l ∷ []) (CreateAct (asked_without_bitmap kind place numbers backdrop hook))) ≡ in_front (codes "create") l kind place numbers (flag_words (codes "backdrop") backdrop ++ hook_words hook)) → IfSome (create_without_bitmap l kind place numbers ts) (IsAskedSpelt (codes "create") l place numbers kind ts)
+created_without_bitmap l kind place numbers ts w =
     let backdrop = flag (codes "backdrop") ts in
     let hook = hook_option backdrop.1 in
     end_has (IsAskedSpelt (codes "create") l place numbers kind ts) _ hook.1 (λ e t r.
@@ -129,8 +129,8 @@ super_created l place numbers (NumberToken a w ∷ NumberToken b h ∷ ts) =
 super_created l place numbers _ = tt
 
 created_spelt : (l : List ℕ) (place : Place) (numbers : Rectangle) (ts : List Token) (kind : Kind) → IfSome (create_kind l place numbers ts kind) (IsAskedSpelt (codes "create") l place numbers kind ts)
-created_spelt l place numbers ts Simple = plain_created l Simple place numbers ts (λ b h. refl)
-created_spelt l place numbers ts Smart = plain_created l Smart place numbers ts (λ b h. refl)
+created_spelt l place numbers ts Simple = created_without_bitmap l Simple place numbers ts (λ b h. refl)
+created_spelt l place numbers ts Smart = created_without_bitmap l Smart place numbers ts (λ b h. refl)
 created_spelt l place numbers ts SuperBitmap = super_created l place numbers ts
 
 -- what has no frame has no word of it, and what has the word has none
@@ -139,8 +139,8 @@ not_twice true = refl
 not_twice false = refl
 
 -- [backdrop] [borderless] [nocare] [hook N] [ask SET] "TITLE"
-plain_opened : (l : List ℕ) (kind : Kind) (place : Place) (numbers : Rectangle) (ts : List Token) → ((backdrop : Bool) (hook : Option ℤ) (framed nocare : Bool) (classes : ℕ) (title : List ℕ) → words_of (CallLine (l ∷ []) (OpenAct (asked_plain kind place numbers backdrop hook) framed nocare classes title)) ≡ in_front (codes "open") l kind place numbers (((((flag_words (codes "backdrop") backdrop ++ flag_words (codes "borderless") (not framed)) ++ flag_words (codes "nocare") nocare) ++ hook_words hook) ++ ask_words classes) ++ text_word title ∷ [])) → IfSome (open_plain l kind place numbers ts) (IsAskedSpelt (codes "open") l place numbers kind ts)
-plain_opened l kind place numbers ts w =
+opened_without_bitmap : (l : List ℕ) (kind : Kind) (place : Place) (numbers : Rectangle) (ts : List Token) → ((backdrop : Bool) (hook : Option ℤ) (framed nocare : Bool) (classes : ℕ) (title : List ℕ) → words_of (CallLine (l ∷ []) (OpenAct (asked_without_bitmap kind place numbers backdrop hook) framed nocare classes title)) ≡ in_front (codes "open") l kind place numbers (((((flag_words (codes "backdrop") backdrop ++ flag_words (codes "borderless") (not framed)) ++ flag_words (codes "nocare") nocare) ++ hook_words hook) ++ ask_words classes) ++ text_word title ∷ [])) → IfSome (open_without_bitmap l kind place numbers ts) (IsAskedSpelt (codes "open") l place numbers kind ts)
+opened_without_bitmap l kind place numbers ts w =
     let backdrop = flag (codes "backdrop") ts in
     let borderless = flag (codes "borderless") backdrop.1 in
     let nocare = flag (codes "nocare") borderless.1 in
@@ -187,8 +187,8 @@ super_opened l place numbers (NumberToken a w ∷ NumberToken b h ∷ ts) =
 super_opened l place numbers _ = tt
 
 opened_spelt : (l : List ℕ) (place : Place) (numbers : Rectangle) (ts : List Token) (kind : Kind) → IfSome (open_kind l place numbers ts kind) (IsAskedSpelt (codes "open") l place numbers kind ts)
-opened_spelt l place numbers ts Simple = plain_opened l Simple place numbers ts (λ b h f n c t. refl)
-opened_spelt l place numbers ts Smart = plain_opened l Smart place numbers ts (λ b h f n c t. refl)
+opened_spelt l place numbers ts Simple = opened_without_bitmap l Simple place numbers ts (λ b h f n c t. refl)
+opened_spelt l place numbers ts Smart = opened_without_bitmap l Smart place numbers ts (λ b h f n c t. refl)
 opened_spelt l place numbers ts SuperBitmap = super_opened l place numbers ts
 
 -- a kind and a place have one word each

@@ -85,15 +85,16 @@ created_words Simple a = flag_words (codes "backdrop") a.backdrop ++ hook_words 
 created_words Smart a = flag_words (codes "backdrop") a.backdrop ++ hook_words a.hook
 created_words SuperBitmap a = signed_decimal a.bits_w ∷ signed_decimal a.bits_h ∷ flag_words (codes "backdrop") a.backdrop
 
--- the same of a window: BW BH [backdrop] [ask SET], or [backdrop] [borderless] [nocare] [hook N] [ask SET]
-abbrev pub plain_words : Asked → Bool → Bool → ℕ → List (List ℕ)
-plain_words a framed nocare classes =
+-- what a window without a bitmap of its own is asked for with there: [backdrop] [borderless] [nocare] [hook N] [ask SET]
+abbrev pub opened_words_without_bitmap : Asked → Bool → Bool → ℕ → List (List ℕ)
+opened_words_without_bitmap a framed nocare classes =
     flag_words (codes "backdrop") a.backdrop ++ flag_words (codes "borderless") (not framed) ++ flag_words (codes "nocare") nocare
     ++ hook_words a.hook ++ ask_words classes
 
+-- what a window is asked for with there: the same, or BW BH [backdrop] [ask SET]
 abbrev pub opened_words : Kind → Asked → Bool → Bool → ℕ → List (List ℕ)
-opened_words Simple a framed nocare classes = plain_words a framed nocare classes
-opened_words Smart a framed nocare classes = plain_words a framed nocare classes
+opened_words Simple a framed nocare classes = opened_words_without_bitmap a framed nocare classes
+opened_words Smart a framed nocare classes = opened_words_without_bitmap a framed nocare classes
 opened_words SuperBitmap a framed nocare classes =
     signed_decimal a.bits_w ∷ signed_decimal a.bits_h ∷ flag_words (codes "backdrop") a.backdrop ++ ask_words classes
 

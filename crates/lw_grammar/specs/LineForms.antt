@@ -288,8 +288,8 @@ at_end form [] = Some form
 at_end form (t ∷ ts) = None
 
 -- a layer that is asked for without a bitmap of its own
-abbrev pub asked_plain : Kind → Place → Rectangle → Bool → Option ℤ → Asked
-asked_plain kind place numbers backdrop hook =
+abbrev pub asked_without_bitmap : Kind → Place → Rectangle → Bool → Option ℤ → Asked
+asked_without_bitmap kind place numbers backdrop hook =
     record { kind = kind; place = place; numbers = numbers; backdrop = backdrop; hook = hook; bits_w = pos 0; bits_h = pos 0 }
 
 -- a layer that is asked for with a bitmap of its own
@@ -298,11 +298,11 @@ asked_super place numbers backdrop w h =
     record { kind = SuperBitmap; place = place; numbers = numbers; backdrop = backdrop; hook = None; bits_w = w; bits_h = h }
 
 -- what stands behind the four numbers of a creation without a bitmap of its own: [backdrop] [hook N]
-abbrev pub create_plain : List ℕ → Kind → Place → Rectangle → List Token → Option LineForm
-create_plain l kind place numbers ts =
+abbrev pub create_without_bitmap : List ℕ → Kind → Place → Rectangle → List Token → Option LineForm
+create_without_bitmap l kind place numbers ts =
     let backdrop = flag (codes "backdrop") ts in
     let hook = hook_option backdrop.1 in
-    at_end (CallLine (l ∷ []) (CreateAct (asked_plain kind place numbers backdrop.0 hook.0))) hook.1
+    at_end (CallLine (l ∷ []) (CreateAct (asked_without_bitmap kind place numbers backdrop.0 hook.0))) hook.1
 
 -- what stands behind those of a creation with one: BW BH [backdrop]
 abbrev pub create_super : List ℕ → Place → Rectangle → List Token → Option LineForm
@@ -313,8 +313,8 @@ create_super l place numbers _ = None
 
 -- what stands behind those of a creation of this kind
 abbrev pub create_kind : List ℕ → Place → Rectangle → List Token → Kind → Option LineForm
-create_kind l place numbers ts Simple = create_plain l Simple place numbers ts
-create_kind l place numbers ts Smart = create_plain l Smart place numbers ts
+create_kind l place numbers ts Simple = create_without_bitmap l Simple place numbers ts
+create_kind l place numbers ts Smart = create_without_bitmap l Smart place numbers ts
 create_kind l place numbers ts SuperBitmap = create_super l place numbers ts
 
 -- the title, where it is the last word
@@ -325,14 +325,14 @@ titled_line l asked framed nocare classes _ = None
 
 -- what stands behind the four numbers of an opening without a bitmap of its own: [backdrop] [borderless] [nocare] [hook N]
 -- [ask SET] "TITLE"
-abbrev pub open_plain : List ℕ → Kind → Place → Rectangle → List Token → Option LineForm
-open_plain l kind place numbers ts =
+abbrev pub open_without_bitmap : List ℕ → Kind → Place → Rectangle → List Token → Option LineForm
+open_without_bitmap l kind place numbers ts =
     let backdrop = flag (codes "backdrop") ts in
     let borderless = flag (codes "borderless") backdrop.1 in
     let nocare = flag (codes "nocare") borderless.1 in
     let hook = hook_option nocare.1 in
     let ask = ask_option hook.1 in
-    titled_line l (asked_plain kind place numbers backdrop.0 hook.0) (not borderless.0) nocare.0 ask.0 ask.1
+    titled_line l (asked_without_bitmap kind place numbers backdrop.0 hook.0) (not borderless.0) nocare.0 ask.0 ask.1
 
 -- what stands behind those of an opening with one: BW BH [backdrop] [ask SET] "TITLE"
 abbrev pub open_super : List ℕ → Place → Rectangle → List Token → Option LineForm
@@ -344,8 +344,8 @@ open_super l place numbers _ = None
 
 -- what stands behind those of an opening of this kind
 abbrev pub open_kind : List ℕ → Place → Rectangle → List Token → Kind → Option LineForm
-open_kind l place numbers ts Simple = open_plain l Simple place numbers ts
-open_kind l place numbers ts Smart = open_plain l Smart place numbers ts
+open_kind l place numbers ts Simple = open_without_bitmap l Simple place numbers ts
+open_kind l place numbers ts Smart = open_without_bitmap l Smart place numbers ts
 open_kind l place numbers ts SuperBitmap = open_super l place numbers ts
 
 -- create L KIND PLACE X0 Y0 X1 Y1 .., and open L KIND PLACE X Y W H ..

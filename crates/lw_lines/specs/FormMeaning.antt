@@ -6,10 +6,10 @@ use Rattle.lw_grammar.specs.LineForms.{Asked as AskedMeaning, Act as ActMeaning,
 use Rattle.lw_calls.specs.declared.make.Kind.{Kind}
 use Rattle.lw_calls.specs.declared.make.Kind.TheVariants.{Simple as SimpleMeaning, Smart as SmartMeaning, SuperBitmap}
 use Rattle.lw_lines.specs.declared.form.Corners.{Corners}
-use Rattle.lw_lines.specs.declared.form.PlainKind.{PlainKind}
-use Rattle.lw_lines.specs.declared.form.PlainKind.TheVariants.{Simple, Smart}
+use Rattle.lw_lines.specs.declared.form.KindWithoutBitmap.{KindWithoutBitmap}
+use Rattle.lw_lines.specs.declared.form.KindWithoutBitmap.TheVariants.{Simple, Smart}
 use Rattle.lw_lines.specs.declared.form.AskedKind.{AskedKind}
-use Rattle.lw_lines.specs.declared.form.AskedKind.TheVariants.{Plain, Super}
+use Rattle.lw_lines.specs.declared.form.AskedKind.TheVariants.{WithoutBitmap, Super}
 use Rattle.lw_lines.specs.declared.form.Asked.{Asked}
 use Rattle.lw_lines.specs.declared.form.Blitting.{Blitting}
 use Rattle.lw_lines.specs.declared.form.BareAct.{BareAct}
@@ -32,21 +32,24 @@ use Rattle.lw_words.specs.Digits.{decoded}
 abbrev pub corners_meaning : Corners → Rectangle
 corners_meaning c = four c.x0 c.y0 c.x1 c.y1
 
--- the kinds of layers, and the size of a bitmap of a layer's own
-abbrev pub plain_meaning : PlainKind → Kind
-plain_meaning Simple = SimpleMeaning
-plain_meaning Smart = SmartMeaning
+-- the kinds of layers without a bitmap of their own
+abbrev pub without_bitmap_meaning : KindWithoutBitmap → Kind
+without_bitmap_meaning Simple = SimpleMeaning
+without_bitmap_meaning Smart = SmartMeaning
 
+-- the kinds of layers
 abbrev pub kind_meaning : AskedKind → Kind
-kind_meaning (Plain kind) = plain_meaning kind
+kind_meaning (WithoutBitmap kind) = without_bitmap_meaning kind
 kind_meaning (Super w h) = SuperBitmap
 
+-- the width of a bitmap of a layer's own, or 0
 abbrev pub width_meaning : AskedKind → ℤ
-width_meaning (Plain kind) = pos 0
+width_meaning (WithoutBitmap kind) = pos 0
 width_meaning (Super w h) = w
 
+-- the height of a bitmap of a layer's own, or 0
 abbrev pub height_meaning : AskedKind → ℤ
-height_meaning (Plain kind) = pos 0
+height_meaning (WithoutBitmap kind) = pos 0
 height_meaning (Super w h) = h
 
 abbrev pub asked_meaning : Asked → AskedMeaning

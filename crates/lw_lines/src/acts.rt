@@ -7,7 +7,9 @@ ghost use Rattle.lw_grammar.specs.Script.{is_arranging, is_beginning, is_ending,
 ghost use Rattle.lw_lines.specs.FormMeaning.{act_meaning, layers_meaning, form_meaning};
 ghost use Rattle.lw_lines.specs.GroupMeaning.{opened_meaning};
 
-use crate::form::{Act, Asked, AskedKind, BareAct, Layers, LineForm, PairAct, PlainKind, TextAct};
+use crate::form::{
+    Act, Asked, AskedKind, BareAct, KindWithoutBitmap, Layers, LineForm, PairAct, TextAct,
+};
 use lw_words::is_text;
 
 /// A group that is open.
@@ -84,7 +86,8 @@ impl Act<'_> {
         match self {
             Act::Create(asked) | Act::Open { asked, .. } => match asked.kind {
                 AskedKind::Super { .. } => true,
-                AskedKind::Plain(PlainKind::Simple) | AskedKind::Plain(PlainKind::Smart) => false,
+                AskedKind::WithoutBitmap(KindWithoutBitmap::Simple)
+                | AskedKind::WithoutBitmap(KindWithoutBitmap::Smart) => false,
             },
             _ => false,
         }

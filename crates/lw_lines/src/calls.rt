@@ -8,7 +8,7 @@ ghost use Rattle.lw_lines.specs.CallMeaning.{IsBitmapAt, is_apart, is_single_on_
 
 use crate::converted::{coordinate, extent, hook, mode, own_size, pen, register, step};
 use crate::form::{
-    Act, Asked, AskedKind, BareAct, Blitting, NumberAct, PairAct, PlainKind, TextAct,
+    Act, Asked, AskedKind, BareAct, Blitting, KindWithoutBitmap, NumberAct, PairAct, TextAct,
 };
 use lw_calls::{Area, Call, Kind, Make, Text};
 use std::alloc::{AllocError, Global};
@@ -37,8 +37,8 @@ impl AskedKind {
         ensures { result ≡ kind_meaning self.now }
     {
         match self {
-            AskedKind::Plain(PlainKind::Simple) => Kind::Simple,
-            AskedKind::Plain(PlainKind::Smart) => Kind::Smart,
+            AskedKind::WithoutBitmap(KindWithoutBitmap::Simple) => Kind::Simple,
+            AskedKind::WithoutBitmap(KindWithoutBitmap::Smart) => Kind::Smart,
             AskedKind::Super { .. } => Kind::SuperBitmap,
         }
     }
@@ -49,7 +49,7 @@ impl AskedKind {
         ensures { result ≡ (unsigned_abs (width_meaning self.now), unsigned_abs (height_meaning self.now)) }
     {
         match self {
-            AskedKind::Plain(_) => (0, 0),
+            AskedKind::WithoutBitmap(_) => (0, 0),
             AskedKind::Super { bits_w, bits_h } => (own_size(*bits_w), own_size(*bits_h)),
         }
     }

@@ -12,7 +12,7 @@ pub struct Corners {
 
 /// The kinds of layers that have no bitmap of their own.
 #[derive(Clone, Copy)]
-pub enum PlainKind {
+pub enum KindWithoutBitmap {
     Simple,
     Smart,
 }
@@ -20,7 +20,7 @@ pub enum PlainKind {
 /// The kind of a layer that is asked for.
 #[derive(Clone, Copy)]
 pub enum AskedKind {
-    Plain(PlainKind),
+    WithoutBitmap(KindWithoutBitmap),
     /// A layer with a bitmap of its own of this size.
     Super { bits_w: i64, bits_h: i64 },
 }

@@ -1,12 +1,12 @@
 ghost use Rattle.std.specs.Prelude.{◌≡◌, ◌≤◌, IfSome, map, option_map, [], ◌∷◌};
-ghost use Rattle.lw_grammar.specs.LineForms.{kind_of, place_of, flag as flag_meant, hook_option, class_of, classes_from, ask_option, create_plain, create_super, titled_line, open_plain, open_super, asked_line};
+ghost use Rattle.lw_grammar.specs.LineForms.{kind_of, place_of, flag as flag_meant, hook_option, class_of, classes_from, ask_option, create_without_bitmap, create_super, titled_line, open_without_bitmap, open_super, asked_line};
 ghost use Rattle.lw_grammar.specs.Tokens.{NumberToken};
 ghost use Rattle.lw_words.specs.TokenMeaning.{token_meaning};
-ghost use Rattle.lw_lines.specs.FormMeaning.{form_meaning, corners_meaning, plain_meaning, asked_meaning};
+ghost use Rattle.lw_lines.specs.FormMeaning.{form_meaning, corners_meaning, without_bitmap_meaning, asked_meaning};
 ghost use Rattle.lw_lines.specs.AskedParts.{behind_numbers, with_words, with_numbers, with_names};
 
 use crate::corners::corners_in;
-use crate::form::{Act, Asked, AskedKind, Corners, LineForm, PlainKind};
+use crate::form::{Act, Asked, AskedKind, Corners, KindWithoutBitmap, LineForm};
 use lw_calls::{Kind, Place};
 use lw_words::{Token, is_text};
 
@@ -123,15 +123,16 @@ fn asks_in<'a, 'b>(tokens: &'b [Token<'a>]) -> (u8, &'b [Token<'a>])
 }
 
 /// What stands behind the four numbers of a creation: `[backdrop] [hook N]`
-fn create_plain<'a>(
+fn create_without_bitmap<'a>(
     layer: &'a [u8],
-    kind: PlainKind,
+    kind: KindWithoutBitmap,
     place: Place,
     numbers: Corners,
     tokens: &[Token<'a>],
 ) -> Option<LineForm<'a>>
     ensures { option_map form_meaning result
-        ≡ create_plain layer.now (plain_meaning kind) place (corners_meaning numbers) (map token_meaning tokens.now) }
+        ≡ create_without_bitmap layer.now (without_bitmap_meaning kind) place (corners_meaning numbers)
+        (map token_meaning tokens.now) }
 {
     let (backdrop, rest) = flag(b"backdrop", tokens);
     let (hook, rest) = hook_in(rest);
@@ -139,7 +140,7 @@ fn create_plain<'a>(
         return None;
     }
     let asked = Asked {
-        kind: AskedKind::Plain(kind),
+        kind: AskedKind::WithoutBitmap(kind),
         place,
         numbers,
         backdrop,
@@ -215,15 +216,16 @@ fn titled<'a>(
 }
 
 /// What stands behind the four numbers of an opening: `[backdrop] [borderless] [nocare] [hook N] [ask SET] "TITLE"`
-fn open_plain<'a>(
+fn open_without_bitmap<'a>(
     layer: &'a [u8],
-    kind: PlainKind,
+    kind: KindWithoutBitmap,
     place: Place,
     numbers: Corners,
     tokens: &[Token<'a>],
 ) -> Option<LineForm<'a>>
     ensures { option_map form_meaning result
-        ≡ open_plain layer.now (plain_meaning kind) place (corners_meaning numbers) (map token_meaning tokens.now) }
+        ≡ open_without_bitmap layer.now (without_bitmap_meaning kind) place (corners_meaning numbers)
+        (map token_meaning tokens.now) }
 {
     let (backdrop, rest) = flag(b"backdrop", tokens);
     let (borderless, rest) = flag(b"borderless", rest);
@@ -231,7 +233,7 @@ fn open_plain<'a>(
     let (hook, rest) = hook_in(rest);
     let (classes, rest) = asks_in(rest);
     let asked = Asked {
-        kind: AskedKind::Plain(kind),
+        kind: AskedKind::WithoutBitmap(kind),
         place,
         numbers,
         backdrop,
@@ -307,13 +309,37 @@ fn kind_form<'a>(
 {
     match request {
         Request::Creation => match kind {
-            Kind::Simple => create_plain(layer, PlainKind::Simple, place, numbers, tokens),
-            Kind::Smart => create_plain(layer, PlainKind::Smart, place, numbers, tokens),
+            Kind::Simple => create_without_bitmap(
+                layer,
+                KindWithoutBitmap::Simple,
+                place,
+                numbers,
+                tokens,
+            ),
+            Kind::Smart => create_without_bitmap(
+                layer,
+                KindWithoutBitmap::Smart,
+                place,
+                numbers,
+                tokens,
+            ),
             Kind::SuperBitmap => create_super(layer, place, numbers, tokens),
         },
         Request::Opening => match kind {
-            Kind::Simple => open_plain(layer, PlainKind::Simple, place, numbers, tokens),
-            Kind::Smart => open_plain(layer, PlainKind::Smart, place, numbers, tokens),
+            Kind::Simple => open_without_bitmap(
+                layer,
+                KindWithoutBitmap::Simple,
+                place,
+                numbers,
+                tokens,
+            ),
+            Kind::Smart => open_without_bitmap(
+                layer,
+                KindWithoutBitmap::Smart,
+                place,
+                numbers,
+                tokens,
+            ),
             Kind::SuperBitmap => open_super(layer, place, numbers, tokens),
         },
     }

@@ -5,7 +5,9 @@ ghost use Rattle.lw_calls.specs.Limits.{is_coordinate, axis_fits, rect_fits, coo
 ghost use Rattle.lw_grammar.specs.LineForms.{is_hook_number, is_own_size, is_asked_in_range, is_box, is_area_in_range, is_act_in_range, is_line_in_range};
 ghost use Rattle.lw_lines.specs.FormMeaning.{corners_meaning, kind_meaning, width_meaning, height_meaning, asked_meaning, area_meaning, number_meaning, act_meaning, form_meaning};
 
-use crate::form::{Act, Asked, AskedKind, Blitting, Corners, LineForm, NumberAct, PlainKind};
+use crate::form::{
+    Act, Asked, AskedKind, Blitting, Corners, KindWithoutBitmap, LineForm, NumberAct,
+};
 
 #[tactic(auto, using(std::proofs::lemmas::Int::ints), unfolding(lw_region::specs::Rectangle::within))]
 fn is_between(low: i64, number: i64, high: i64) -> bool
@@ -75,7 +77,8 @@ impl AskedKind {
         ensures { result ≡ is_own_size (kind_meaning self.now) (width_meaning self.now) (height_meaning self.now) }
     {
         match self {
-            AskedKind::Plain(PlainKind::Simple) | AskedKind::Plain(PlainKind::Smart) => true,
+            AskedKind::WithoutBitmap(KindWithoutBitmap::Simple)
+            | AskedKind::WithoutBitmap(KindWithoutBitmap::Smart) => true,
             AskedKind::Super { bits_w, bits_h } => {
                 is_between(1, *bits_w, 2048) && is_between(1, *bits_h, 2048)
             }

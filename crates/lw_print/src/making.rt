@@ -4,7 +4,7 @@ ghost use Rattle.std.specs.Prelude.{codes, ◌≡◌, ◌++◌, ◌∷◌, [], O
 ghost use Rattle.std.specs.Fmt.{signed_decimal};
 ghost use Rattle.lw_canonical.specs.Canonical.{created_asked, opened_asked};
 ghost use Rattle.lw_calls.specs.Written.{spaced_signed};
-ghost use Rattle.lw_canonical.specs.Spelling.{kind_word, place_word, four_words, flag_words, hook_words, class_letter, set_word, ask_words, created_words, plain_words, opened_words};
+ghost use Rattle.lw_canonical.specs.Spelling.{kind_word, place_word, four_words, flag_words, hook_words, class_letter, set_word, ask_words, created_words, opened_words_without_bitmap, opened_words};
 ghost use Rattle.lw_print.specs.Behind.{behind};
 
 use crate::words::{push_flag, push_four, push_hook, push_pair};
@@ -152,12 +152,14 @@ fn push_opened_options(
             push_backdrop(out, make)?;
             push_asks(out, asks)
         }
-        Kind::Simple | Kind::Smart => push_plain_options(alloc, out, make, framed, nocare, asks),
+        Kind::Simple | Kind::Smart => push_options_without_bitmap(
+            alloc, out, make, framed, nocare, asks,
+        ),
     }
 }
 
 /// Writes the options of a window without a bitmap of its own.
-fn push_plain_options(
+fn push_options_without_bitmap(
     alloc: Global,
     out: &mut Vec<u8>,
     make: &Make,
@@ -165,7 +167,8 @@ fn push_plain_options(
     nocare: bool,
     asks: u8,
 ) -> Result<(), AllocError>
-    ensures { OnOk result (out.new.items ≡ out.old.items ++ behind (plain_words (opened_asked make.now) framed nocare asks)) }
+    ensures { OnOk result (out.new.items
+        ≡ out.old.items ++ behind (opened_words_without_bitmap (opened_asked make.now) framed nocare asks)) }
 {
     push_backdrop(out, make)?;
     push_flag(out, b"borderless", !framed)?;

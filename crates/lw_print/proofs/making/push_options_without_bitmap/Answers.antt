@@ -2,7 +2,7 @@ use Rattle.std.proofs.Common.{◌++◌, ℕ, List, codes, not, option_map, pos}
 use Rattle.std.proofs.lemmas.Result.{on_ok_weaker}
 use Rattle.lw_canonical.specs.Spelling.{flag_words, hook_words, ask_words}
 use Rattle.lw_print.proofs.Joined.{more-behind}
-use Rattle.lw_print.proofs.making.push_plain_options.Goals as goal
+use Rattle.lw_print.proofs.making.push_options_without_bitmap.Goals as goal
 
 pub returns : goal.returns
 returns c =
