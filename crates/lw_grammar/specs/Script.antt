@@ -166,15 +166,19 @@ abbrev pub is_hold : Option Opened → Bool
 is_hold (Some Held) = true
 is_hold _ = false
 
--- The line may stand where this group is open, or none, in which there are calls, or not.
+-- the group that lines left open has a call
+abbrev pub group_has_calls : Told → Bool
+group_has_calls t = nat_lt t.began t.so_far
+
+-- The line may stand where this group is open, or none, and has calls, or not.
 abbrev pub fits_group : Option Opened → Bool → LineForm → Bool
-fits_group group some (CallLine layers act) = call_may_stand group layers act
-fits_group group some (LockLine name) = is_none group
-fits_group group some HoldLine = is_none group
-fits_group group some EndLine = is_none group
-fits_group group some (UnlockLine name) = is_lock_on name group && some
-fits_group group some ReleaseLine = is_hold group && some
-fits_group group some form = true
+fits_group group has_calls (CallLine layers act) = call_may_stand group layers act
+fits_group group has_calls (LockLine name) = is_none group
+fits_group group has_calls HoldLine = is_none group
+fits_group group has_calls EndLine = is_none group
+fits_group group has_calls (UnlockLine name) = is_lock_on name group && has_calls
+fits_group group has_calls ReleaseLine = is_hold group && has_calls
+fits_group group has_calls form = true
 
 -- how many lines ask for a super-bitmap layer at most
 abbrev pub super_limit : ℕ
@@ -236,7 +240,7 @@ form_tested s t form = do
   _ ← demand (is_line_in_range form) Range
   _ ← demand (not (lacks_name t.bitmap_names form)) NoName
   _ ← demand (not (gives_again t form)) DoubleName
-  _ ← demand (fits_group t.group (nat_lt t.began t.so_far) form) Group
+  _ ← demand (fits_group t.group (group_has_calls t) form) Group
   _ ← demand (are_few (after form t)) TooMany
   _ ← demand (not (is_no_hook s.hooks (hook_on form))) NoHook
   _ ← demand (not (is_used t.used (hook_on form))) HookUsed

@@ -175,15 +175,15 @@ fn is_closed(group: &Option<Opened<'_>>) -> bool
 }
 
 impl LineForm<'_> {
-    /// Whether the line may stand where this group is open, or none, in which there are calls, or not.
-    pub fn fits_group(&self, group: &Option<Opened<'_>>, some: bool) -> bool
-        ensures { result ≡ fits_group (option_map opened_meaning group.now) some (form_meaning self.now) }
+    /// Whether the line may stand where this group is open, or none, and has calls, or not.
+    pub fn fits_group(&self, group: &Option<Opened<'_>>, has_calls: bool) -> bool
+        ensures { result ≡ fits_group (option_map opened_meaning group.now) has_calls (form_meaning self.now) }
     {
         match self {
             LineForm::Call { layers, act } => call_may_stand(group, layers, act),
             LineForm::Lock(_) | LineForm::Hold | LineForm::End => is_closed(group),
-            LineForm::Unlock(layer) => is_lock_on(*layer, group) && some,
-            LineForm::Release => is_hold(group) && some,
+            LineForm::Unlock(layer) => is_lock_on(*layer, group) && has_calls,
+            LineForm::Release => is_hold(group) && has_calls,
             LineForm::Screen { .. }
             | LineForm::Glyph { .. }
             | LineForm::Bitmap { .. }

@@ -1,9 +1,9 @@
 //! The tests of a line's form by what was read so far.
-ghost use Rattle.std.specs.Prelude.{◌≡◌, nat_le, nat_lt, length, IsTrue};
+ghost use Rattle.std.specs.Prelude.{◌≡◌, nat_le, length, IsTrue};
 ghost use Rattle.lw_calls.specs.Limits.{call_limit};
 ghost use Rattle.lw_grammar.specs.LineForms.{is_line_in_range};
 ghost use Rattle.lw_grammar.specs.Told.{and_name, hook_on, after};
-ghost use Rattle.lw_grammar.specs.Script.{lacks_name, gives_again, fits_group, super_limit, are_few, is_no_hook, is_used, has_padding, is_unbuilt, form_tested};
+ghost use Rattle.lw_grammar.specs.Script.{lacks_name, gives_again, group_has_calls, fits_group, super_limit, are_few, is_no_hook, is_used, has_padding, is_unbuilt, form_tested};
 ghost use Rattle.lw_lines.specs.FormMeaning.{form_meaning};
 ghost use Rattle.lw_script.specs.ReaderKnows.{known, setting_of};
 
@@ -179,7 +179,7 @@ impl<'a> Reader<'a> {
     /// Whether the open group may have the line.
     fn fits_group(&self, form: &LineForm<'a>) -> bool
         ensures { result
-            ≡ fits_group (known self.now).group (nat_lt self.now.tasks.began self.now.tasks.so_far) (form_meaning form.now) }
+            ≡ fits_group (known self.now).group (group_has_calls (known self.now)) (form_meaning form.now) }
     {
         form.fits_group(&self.tasks.group, self.tasks.began < self.tasks.so_far)
     }
