@@ -2,7 +2,7 @@
 -- the good lines tell.
 use Rattle.std.proofs.Common.{◌≡◌, ℕ, ◌+◌, ◌-◌, ◌≤◌, ◌==◌, true, ◌&&◌, List, [], ◌∷◌, ℤ, pos, unsigned_abs, refl, sym, ap, subst, ◌∙◌, arith}
 use Rattle.lw_region.specs.Rectangle.{within}
-use Rattle.lw_grammar.specs.LineForms.{LineForm, ScreenLine, TaskLine, EndLine, OrderLine, ReportLine}
+use Rattle.lw_grammar.specs.LineForms.{Statement, ScreenLine, TaskLine, EndLine, OrderLine, ReportLine}
 use Rattle.lw_grammar.specs.Told.{ScreenIsDue, told}
 use Rattle.lw_grammar.specs.Script.{Setting, may_end, AreGoodLines}
 use Rattle.lw_canonical.specs.Spelling.{spelled}
@@ -22,14 +22,14 @@ record IsScreenRead (s : Setting) (w h d : ℕ) : Type 0 where
   x : ℤ
   y : ℤ
   z : ℤ
-  below : List LineForm
+  below : List Statement
   good : AreGoodLines s (ScreenLine x y z ∷ below)
   width : w ≡ unsigned_abs x
   height : h ≡ unsigned_abs y
   depth : d ≡ unsigned_abs z
 
 -- so it does where any section but the first has begun
-screen_read : (s : Setting) (above : List LineForm) → AreGoodLines s above → When (has_screen (told above).section) (IsScreenRead s (told above).width (told above).height (told above).depth)
+screen_read : (s : Setting) (above : List Statement) → AreGoodLines s above → When (has_screen (told above).section) (IsScreenRead s (told above).width (told above).height (told above).depth)
 screen_read s [] g = tt
 screen_read s (ScreenLine w h d ∷ above) g =
     record { x = w; y = h; z = d; below = above; good = g; width = refl; height = refl; depth = refl }
@@ -49,9 +49,9 @@ unfolding within
 from_one z m h = grind (arith, ints, nat_tests)
 
 -- a good line of a screen reads again as the first line
-first_again : HasOneSpelling → (s t : Setting) (x y z : ℤ) (above : List LineForm) → AreGoodLines s (ScreenLine x y z ∷ above) → AreSpelled t (ScreenLine x y z ∷ [])
+first_again : HasOneSpelling → (s t : Setting) (x y z : ℤ) (above : List Statement) → AreGoodLines s (ScreenLine x y z ∷ above) → AreSpelled t (ScreenLine x y z ∷ [])
 first_again one s t x y z above g =
-    let f : LineForm = ScreenLine x y z in
+    let f : Statement = ScreenLine x y z in
     let at = here s above (ScreenLine x y z) g in
     let k = tests s above (ScreenLine x y z) g in
     let tested : IsFormTested t [] (ScreenLine x y z) =
@@ -69,35 +69,35 @@ screen_same s w h d k =
     ap (λ v. ScreenLine v k.y k.z) x ∙ (ap (λ v. ScreenLine (pos w) v k.z) y ∙ ap (λ v. ScreenLine (pos w) (pos h) v) z)
 
 -- the screen reads again, where its line stands among the good ones
-screen_spelled : HasOneSpelling → (s t : Setting) (above : List LineForm) → AreGoodLines s above → has_screen (told above).section ≡ true → AreSpelled t (screen_line_of above ∷ [])
+screen_spelled : HasOneSpelling → (s t : Setting) (above : List Statement) → AreGoodLines s above → has_screen (told above).section ≡ true → AreSpelled t (screen_line_of above ∷ [])
 screen_spelled one s t above g screen =
     let k = when _ _ screen (screen_read s above g) in
-    let P : LineForm → Type 0 = λ f. AreSpelled t (f ∷ []) in
+    let P : Statement → Type 0 = λ f. AreSpelled t (f ∷ []) in
     subst P (screen_same s (told above).width (told above).height (told above).depth k) (first_again one s t k.x k.y k.z k.below k.good)
 
 -- what it tells
-screen_bare : (above : List LineForm) → IsBare (told above).width (told above).height (told above).depth (screen_line_of above ∷ [])
+screen_bare : (above : List Statement) → IsBare (told above).width (told above).height (told above).depth (screen_line_of above ∷ [])
 screen_bare above =
     record { section = refl; width = refl; height = refl; depth = refl; tasks = refl; names = refl; supers = refl; hooks = refl; group = refl; so_far = refl; began = refl; calls = refl; groups = refl }
 
-screen_alone : (above : List LineForm) → IsWithoutBitmaps (screen_line_of above ∷ [])
+screen_alone : (above : List Statement) → IsWithoutBitmaps (screen_line_of above ∷ [])
 screen_alone above = record { due = refl; width = refl; names = refl; made = λ rows. refl }
 
 -- the glyphs over it
-abbrev glyphs_of : List LineForm → List LineForm
+abbrev glyphs_of : List Statement → List Statement
 glyphs_of above = glyphs_over above (screen_line_of above ∷ []) 95
 
 -- the base is what is kept of the bitmaps over these
-base_parts : (above : List LineForm) → kept above (glyphs_of above) ≡ base_of above
+base_parts : (above : List Statement) → kept above (glyphs_of above) ≡ base_of above
 base_parts above = ap (kept above) (sym (glyphs_ordered above (screen_line_of above ∷ [])))
 
 -- The base of good lines below a screen's reads in its one spelling, in each setting.
-pub screened_base_spelled : HasOneSpelling → (s t : Setting) (above : List LineForm) → AreGoodLines s above → has_screen (told above).section ≡ true → AreSpelled t (base_of above)
+pub screened_base_spelled : HasOneSpelling → (s t : Setting) (above : List Statement) → AreGoodLines s above → has_screen (told above).section ≡ true → AreSpelled t (base_of above)
 screened_base_spelled one s t above g has =
     let w = (told above).width in
     let h = (told above).height in
     let d = (told above).depth in
-    let screen : List LineForm = screen_line_of above ∷ [] in
+    let screen : List Statement = screen_line_of above ∷ [] in
     let glyphs : AreSpelled t (glyphs_of above) =
     over_spelled one s t above screen g w h d (screen_bare above) (screen_alone above) refl (screen_spelled one s t above g has) 95 in
     let all : AreSpelled t (kept above (glyphs_of above)) =
@@ -105,25 +105,25 @@ screened_base_spelled one s t above g has =
     subst (AreSpelled t) (base_parts above) all
 
 -- So does that of whole ones in a script alone.
-pub base_spelled : HasOneSpelling → (s : Setting) (above : List LineForm) → AreGoodLines s above → may_end s.form (told above).section ≡ true → AreSpelled (alone s) (base_of above)
+pub base_spelled : HasOneSpelling → (s : Setting) (above : List Statement) → AreGoodLines s above → may_end s.form (told above).section ≡ true → AreSpelled (alone s) (base_of above)
 base_spelled one s above g whole = screened_base_spelled one s (alone s) above g (whole_ends s.form above whole).screen
 
 -- Where an input may end, no rows are due.
-pub none_at_end : (s : Setting) (above : List LineForm) → AreGoodLines s above → may_end s.form (told above).section ≡ true → (told above).rows_due ≡ 0
+pub none_at_end : (s : Setting) (above : List Statement) → AreGoodLines s above → may_end s.form (told above).section ≡ true → (told above).rows_due ≡ 0
 none_at_end s above g whole =
     eqb-true _ 0 (true_from_ne_false ((told above).rows_due == 0) (λ e. true≢false (sym (rows_in_assets s above g e) ∙ (whole_ends s.form above whole).assets)))
 
 -- the glyph of a code in its range
-glyph_of_base : (s : Setting) (above : List LineForm) → AreGoodLines s above → (code : ℕ) → 32 ≤ code → code ≤ 126 → (told (kept above (glyphs_of above))).glyphs code ≡ (told above).glyphs code
+glyph_of_base : (s : Setting) (above : List Statement) → AreGoodLines s above → (code : ℕ) → 32 ≤ code → code ≤ 126 → (told (kept above (glyphs_of above))).glyphs code ≡ (told above).glyphs code
 glyph_of_base s above g code low high =
     let P : ℕ → Type 0 = λ c. (told (glyphs_of above)).glyphs c ≡ (told above).glyphs c in
     let number : 32 + (code - 32) ≡ code = omega (arith, low) in
     glyph_kept above (glyphs_of above) code ∙ subst P number (glyph_over s above (screen_line_of above ∷ []) g (λ c. refl) 95 (code - 32) (omega (arith, low, high)))
 
 -- the same of the lines put together
-is_kept_base : (s : Setting) (above : List LineForm) → AreGoodLines s above → (told above).rows_due ≡ 0 → IsBaseOf above (kept above (glyphs_of above))
+is_kept_base : (s : Setting) (above : List Statement) → AreGoodLines s above → (told above).rows_due ≡ 0 → IsBaseOf above (kept above (glyphs_of above))
 is_kept_base s above g none =
-    let screen : List LineForm = screen_line_of above ∷ [] in
+    let screen : List Statement = screen_line_of above ∷ [] in
     let b = unmapped_over above screen 95 (screen_alone above) in
     let k = bare_kept (told above).width (told above).height (told above).depth above (glyphs_of above) (bare_over above screen (told above).width (told above).height (told above).depth 95 (screen_bare above)) in
     record {
@@ -147,9 +147,9 @@ is_kept_base s above g none =
     }
 
 -- The base of good lines below which no rows are due tells of screen, glyphs and bitmaps what they tell, and of nothing else.
-pub base_is : (s : Setting) (above : List LineForm) → AreGoodLines s above → (told above).rows_due ≡ 0 → IsBaseOf above (base_of above)
+pub base_is : (s : Setting) (above : List Statement) → AreGoodLines s above → (told above).rows_due ≡ 0 → IsBaseOf above (base_of above)
 base_is s above g none = subst (IsBaseOf above) (base_parts above) (is_kept_base s above g none)
 
 -- So does that of whole ones.
-pub whole_base_is : (s : Setting) (above : List LineForm) → AreGoodLines s above → may_end s.form (told above).section ≡ true → IsBaseOf above (base_of above)
+pub whole_base_is : (s : Setting) (above : List Statement) → AreGoodLines s above → may_end s.form (told above).section ≡ true → IsBaseOf above (base_of above)
 whole_base_is s above g whole = base_is s above g (none_at_end s above g whole)

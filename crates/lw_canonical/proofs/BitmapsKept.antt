@@ -2,7 +2,7 @@
 use Rattle.std.proofs.Common.{◌≡◌, ℕ, ◌-◌, ◌*◌, List, [], ◌∷◌, ◌++◌, length, filter, None, refl, ap, ◌∙◌, length-append, ℤ, unsigned_abs}
 use Rattle.lw_planes.specs.Bitmap.{row_bytes}
 use Rattle.lw_planes.specs.Storage.{stored}
-use Rattle.lw_grammar.specs.LineForms.{LineForm, GlyphLine, BitmapLine, RowLine}
+use Rattle.lw_grammar.specs.LineForms.{Statement, GlyphLine, BitmapLine, RowLine}
 use Rattle.lw_grammar.specs.Told.{AssetsAreDue, nothing_told, told}
 use Rattle.lw_grammar.specs.Script.{Setting, AreGoodLines}
 use Rattle.lw_grammar.proofs.ScriptSizes.{here, none_due, row_less}
@@ -10,7 +10,7 @@ use Rattle.lw_canonical.proofs.Rearranged.{is_of_bitmaps}
 use Rattle.std.proofs.lemmas.Bool.{eqb-true}
 
 -- Lines of a screen of these sizes, and of glyphs and bitmaps: of nothing else do they tell anything.
-pub record IsBare (w h d : ℕ) (lines : List LineForm) : Type 0 where
+pub record IsBare (w h d : ℕ) (lines : List Statement) : Type 0 where
   pub section : (told lines).section ≡ AssetsAreDue
   pub width : (told lines).width ≡ w
   pub height : (told lines).height ≡ h
@@ -26,66 +26,66 @@ pub record IsBare (w h d : ℕ) (lines : List LineForm) : Type 0 where
   pub groups : (told lines).groups ≡ []
 
 -- so do they with a further glyph, bitmap or row
-pub bare_glyph : (w h d : ℕ) (lines : List LineForm) (code : ℕ) (rows : List ℕ) → IsBare w h d lines → IsBare w h d (GlyphLine code rows ∷ lines)
+pub bare_glyph : (w h d : ℕ) (lines : List Statement) (code : ℕ) (rows : List ℕ) → IsBare w h d lines → IsBare w h d (GlyphLine code rows ∷ lines)
 bare_glyph w h d lines code rows k =
     record { section = k.section; width = k.width; height = k.height; depth = k.depth; tasks = k.tasks; names = k.names; supers = k.supers; hooks = k.hooks; group = k.group; so_far = k.so_far; began = k.began; calls = k.calls; groups = k.groups }
 
-bare_bitmap : (w h d : ℕ) (lines : List LineForm) (name : List ℕ) (x y z : ℤ) → IsBare w h d lines → IsBare w h d (BitmapLine name x y z ∷ lines)
+bare_bitmap : (w h d : ℕ) (lines : List Statement) (name : List ℕ) (x y z : ℤ) → IsBare w h d lines → IsBare w h d (BitmapLine name x y z ∷ lines)
 bare_bitmap w h d lines name x y z k =
     record { section = k.section; width = k.width; height = k.height; depth = k.depth; tasks = k.tasks; names = k.names; supers = k.supers; hooks = k.hooks; group = k.group; so_far = k.so_far; began = k.began; calls = k.calls; groups = k.groups }
 
-bare_row : (w h d : ℕ) (lines : List LineForm) (bytes : List ℕ) → IsBare w h d lines → IsBare w h d (RowLine bytes ∷ lines)
+bare_row : (w h d : ℕ) (lines : List Statement) (bytes : List ℕ) → IsBare w h d lines → IsBare w h d (RowLine bytes ∷ lines)
 bare_row w h d lines bytes k =
     record { section = k.section; width = k.width; height = k.height; depth = k.depth; tasks = k.tasks; names = k.names; supers = k.supers; hooks = k.hooks; group = k.group; so_far = k.so_far; began = k.began; calls = k.calls; groups = k.groups }
 
 -- Lines without bitmaps.
-pub record IsWithoutBitmaps (lines : List LineForm) : Type 0 where
+pub record IsWithoutBitmaps (lines : List Statement) : Type 0 where
   pub due : (told lines).rows_due ≡ 0
   pub width : (told lines).row_width ≡ 0
   pub names : (told lines).bitmap_names ≡ []
   pub made : (rows : List ℕ) → (told lines).bitmaps rows ≡ []
 
 -- the bitmaps and rows alone of the lines above, over other lines
-abbrev pub kept : List LineForm → List LineForm → List LineForm
+abbrev pub kept : List Statement → List Statement → List Statement
 kept above base = filter is_of_bitmaps above ++ base
 
-pub bare_kept : (w h d : ℕ) (above base : List LineForm) → IsBare w h d base → IsBare w h d (kept above base)
+pub bare_kept : (w h d : ℕ) (above base : List Statement) → IsBare w h d base → IsBare w h d (kept above base)
 bare_kept w h d [] base k = k
 bare_kept w h d (BitmapLine name x y z ∷ above) base k = bare_bitmap w h d (kept above base) name x y z (bare_kept w h d above base k)
 bare_kept w h d (RowLine bytes ∷ above) base k = bare_row w h d (kept above base) bytes (bare_kept w h d above base k)
 bare_kept w h d (f ∷ above) base k = bare_kept w h d above base k
 
 -- glyphs are those of the lines below
-pub glyph_kept : (above base : List LineForm) (code : ℕ) → (told (kept above base)).glyphs code ≡ (told base).glyphs code
+pub glyph_kept : (above base : List Statement) (code : ℕ) → (told (kept above base)).glyphs code ≡ (told base).glyphs code
 glyph_kept [] base code = refl
 glyph_kept (BitmapLine name x y z ∷ above) base code = glyph_kept above base code
 glyph_kept (RowLine bytes ∷ above) base code = glyph_kept above base code
 glyph_kept (f ∷ above) base code = glyph_kept above base code
 
 -- What is kept of good lines, over lines without bitmaps.
-module _ (base : List LineForm) (b : IsWithoutBitmaps base) where
+module _ (base : List Statement) (b : IsWithoutBitmaps base) where
   -- the bitmaps' names, and the width of the nearest one
-  pub names_kept : (above : List LineForm) → (told (kept above base)).bitmap_names ≡ (told above).bitmap_names
+  pub names_kept : (above : List Statement) → (told (kept above base)).bitmap_names ≡ (told above).bitmap_names
   names_kept [] = b.names
   names_kept (BitmapLine name x y z ∷ above) = ap (λ names. names ++ name ∷ []) (names_kept above)
   names_kept (RowLine bytes ∷ above) = names_kept above
   names_kept (f ∷ above) = names_kept above
 
-  pub width_kept : (above : List LineForm) → (told (kept above base)).row_width ≡ (told above).row_width
+  pub width_kept : (above : List Statement) → (told (kept above base)).row_width ≡ (told above).row_width
   width_kept [] = b.width
   width_kept (BitmapLine name x y z ∷ above) = refl
   width_kept (RowLine bytes ∷ above) = width_kept above
   width_kept (f ∷ above) = width_kept above
 
   -- as many rows are due: other lines stand only where none are
-  pub due_kept : (s : Setting) (above : List LineForm) → AreGoodLines s above → (told (kept above base)).rows_due ≡ (told above).rows_due
+  pub due_kept : (s : Setting) (above : List Statement) → AreGoodLines s above → (told (kept above base)).rows_due ≡ (told above).rows_due
   due_kept s [] g = b.due
   due_kept s (BitmapLine name x y z ∷ above) g = refl
   due_kept s (RowLine bytes ∷ above) g = ap (λ n. n - 1) (due_kept s above g.1)
   due_kept s (f ∷ above) g = due_kept s above g.1
 
   -- the bitmaps themselves, where no rows are due but those behind
-  pub made_kept : (s : Setting) (above : List LineForm) → AreGoodLines s above → (rows : List ℕ) → length rows ≡ (told above).rows_due * row_bytes (told above).row_width → (told (kept above base)).bitmaps rows ≡ (told above).bitmaps rows
+  pub made_kept : (s : Setting) (above : List Statement) → AreGoodLines s above → (rows : List ℕ) → length rows ≡ (told above).rows_due * row_bytes (told above).row_width → (told (kept above base)).bitmaps rows ≡ (told above).bitmaps rows
   made_kept s [] g rows n = b.made rows
   made_kept s (BitmapLine name x y z ∷ above) g rows n =
       let due : (told above).rows_due ≡ 0 = eqb-true _ 0 (here s above (BitmapLine name x y z) g).0 in

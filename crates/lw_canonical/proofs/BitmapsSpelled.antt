@@ -1,7 +1,7 @@
 -- The bitmaps and rows of good lines, in their one spelling, read again over lines of a screen and glyphs.
 use Rattle.std.proofs.Common.{◌≡◌, ℕ, ◌≤◌, ◌==◌, true, false, List, [], ◌∷◌, length, bytes_eq, ℤ, Ok, refl, sym, ap, subst, ◌∙◌}
 use Rattle.std.specs.List.{list_any}
-use Rattle.lw_grammar.specs.LineForms.{LineForm, BitmapLine, RowLine}
+use Rattle.lw_grammar.specs.LineForms.{Statement, BitmapLine, RowLine}
 use Rattle.lw_grammar.specs.Told.{AssetsAreDue, told}
 use Rattle.lw_grammar.specs.Script.{Setting, is_nothing_due, are_few, has_padding, line_read, AreGoodLines}
 use Rattle.lw_canonical.specs.Spelling.{spelled}
@@ -12,25 +12,25 @@ use Rattle.lw_canonical.proofs.Rearranged.{AreSpelled, HasOneSpelling}
 use Rattle.std.proofs.lemmas.Bool.{eqb-true, eq-eqb}
 
 -- lines that tell of few bitmaps and of nothing else are few
-pub few_bare : (w h d : ℕ) (lines : List LineForm) → IsBare w h d lines → length (told lines).bitmap_names ≤ 16 → are_few (told lines) ≡ true
+pub few_bare : (w h d : ℕ) (lines : List Statement) → IsBare w h d lines → length (told lines).bitmap_names ≤ 16 → are_few (told lines) ≡ true
 few_bare w h d lines k n =
     few_by_bitmaps (told lines).tasks (told lines).bitmap_names (told lines).names (told lines).supers (told lines).so_far k.tasks n k.names k.supers k.so_far
 
 -- behind them something is due
-pub due_bare : (w h d : ℕ) (lines : List LineForm) → IsBare w h d lines → is_nothing_due (told lines).section ≡ false
+pub due_bare : (w h d : ℕ) (lines : List Statement) → IsBare w h d lines → is_nothing_due (told lines).section ≡ false
 due_bare w h d lines k = ap is_nothing_due k.section
 
-module _ (one : HasOneSpelling) (s t : Setting) (w h d : ℕ) (base : List LineForm) (bare : IsBare w h d base) (b : IsWithoutBitmaps base) where
+module _ (one : HasOneSpelling) (s t : Setting) (w h d : ℕ) (base : List Statement) (bare : IsBare w h d base) (b : IsWithoutBitmaps base) where
   -- what is kept of a further good line is few
-  few_kept : (f : LineForm) (above : List LineForm) → AreGoodLines s (f ∷ above) → are_few (told (kept (f ∷ above) base)) ≡ true
+  few_kept : (f : Statement) (above : List Statement) → AreGoodLines s (f ∷ above) → are_few (told (kept (f ∷ above) base)) ≡ true
   few_kept f above g =
       let P : List (List ℕ) → Type 0 = λ names. length names ≤ 16 in
       few_bare w h d (kept (f ∷ above) base) (bare_kept w h d (f ∷ above) base bare) (subst P (sym (names_kept base b (f ∷ above))) (counted s (f ∷ above) g).bitmaps)
 
   -- a bitmap's line, and a row
-  bitmap_again : (name : List ℕ) (x y z : ℤ) (above : List LineForm) → AreGoodLines s (BitmapLine name x y z ∷ above) → line_read t (told (kept above base)) (spelled (BitmapLine name x y z)) ≡ Ok (BitmapLine name x y z)
+  bitmap_again : (name : List ℕ) (x y z : ℤ) (above : List Statement) → AreGoodLines s (BitmapLine name x y z ∷ above) → line_read t (told (kept above base)) (spelled (BitmapLine name x y z)) ≡ Ok (BitmapLine name x y z)
   bitmap_again name x y z above g =
-      let f : LineForm = BitmapLine name x y z in
+      let f : Statement = BitmapLine name x y z in
       let at = here s above (BitmapLine name x y z) g in
       let k = tests s above (BitmapLine name x y z) g in
       let none : (told (kept above base)).rows_due ≡ 0 = due_kept base b s above g.1 ∙ eqb-true _ 0 at.0 in
@@ -38,7 +38,7 @@ module _ (one : HasOneSpelling) (s t : Setting) (w h d : ℕ) (base : List LineF
       record { range = k.range; named = refl; new = ap (list_any (bytes_eq name)) (names_kept base b above) ∙ k.new; group = refl; few = few_kept f above g; hook = refl; unused = refl; padding = refl; built = refl } in
       spelled_again one s t above (kept above base) f g.0 (verb_forms s t above (kept above base) AssetsAreDue at.0 (eq-eqb _ 0 none) (in_assets _ at.1) (bare_kept w h d above base bare).section refl) (tests_pass t (kept above base) f tested)
 
-  row_again : (bytes : List ℕ) (above : List LineForm) → AreGoodLines s (RowLine bytes ∷ above) → line_read t (told (kept above base)) (spelled (RowLine bytes)) ≡ Ok (RowLine bytes)
+  row_again : (bytes : List ℕ) (above : List Statement) → AreGoodLines s (RowLine bytes ∷ above) → line_read t (told (kept above base)) (spelled (RowLine bytes)) ≡ Ok (RowLine bytes)
   row_again bytes above g =
       let at = here s above (RowLine bytes) g in
       let k = tests s above (RowLine bytes) g in
@@ -48,7 +48,7 @@ module _ (one : HasOneSpelling) (s t : Setting) (w h d : ℕ) (base : List LineF
       spelled_again one s t above (kept above base) (RowLine bytes) g.0 (row_forms s t above (kept above base) at.0 some (sym (width_kept base b above))) (tests_pass t (kept above base) (RowLine bytes) tested)
 
   -- Each of them reads again where those below the kept lines do.
-  pub kept_spelled : (above : List LineForm) → AreGoodLines s above → AreSpelled t base → AreSpelled t (kept above base)
+  pub kept_spelled : (above : List Statement) → AreGoodLines s above → AreSpelled t base → AreSpelled t (kept above base)
   kept_spelled [] g k = k
   kept_spelled (BitmapLine name x y z ∷ above) g k =
       (bitmap_again name x y z above g, isnt_passed (kept above base) (spelled (BitmapLine name x y z)) refl (due_bare w h d _ (bare_kept w h d above base bare)), kept_spelled above g.1 k)

@@ -3,7 +3,7 @@ use Rattle.std.proofs.Common.{◌≡◌, ℕ, ◌+◌, true, false, min, List, [
 use Rattle.std.specs.List.{flat_map}
 use Rattle.lw_calls.specs.Plan.{Plan}
 use Rattle.lw_grammar.specs.Lines.{lines}
-use Rattle.lw_grammar.specs.LineForms.{LineForm}
+use Rattle.lw_grammar.specs.LineForms.{Statement}
 use Rattle.lw_grammar.specs.Told.{told, plan_of}
 use Rattle.lw_grammar.specs.Script.{Setting, is_skipped, is_nothing_due, line_read, Reached, at_the_top, with_line, may_end, lines_read, input_from, SpellsInput, AreGoodLines}
 use Rattle.lw_calls.specs.Written.{line_of}
@@ -22,29 +22,29 @@ use Rattle.std.proofs.lemmas.Grind.{reverse_onto}
 use Rattle.lw_canonical.proofs.TasksSpelled.{tasks_spelled, tasks_plan, tasks_whole, tasks_order, base_order}
 
 -- spelled lines are good, and have no line feed
-good : (t : Setting) (forms : List LineForm) → AreSpelled t forms → AreGoodLines t forms
+good : (t : Setting) (forms : List Statement) → AreSpelled t forms → AreGoodLines t forms
 good t [] h = tt
 good t (f ∷ forms) h = (record { line = spelled f; read = h.0 }, good t forms h.2)
 
-feedless_more : (fs : List LineForm) (f : LineForm) → HaveNoFeed fs → HasNoFeed (spelled f) → HaveNoFeed (fs ++ f ∷ [])
+feedless_more : (fs : List Statement) (f : Statement) → HaveNoFeed fs → HasNoFeed (spelled f) → HaveNoFeed (fs ++ f ∷ [])
 feedless_more [] f h k = (k, tt)
 feedless_more (g ∷ fs) f h k = (h.0, feedless_more fs f h.1 k)
 
-feedless : (t : Setting) (forms : List LineForm) → AreSpelled t forms → HaveNoFeed (reverse forms)
+feedless : (t : Setting) (forms : List Statement) → AreSpelled t forms → HaveNoFeed (reverse forms)
 feedless t [] h = tt
 feedless t (f ∷ forms) h =
     subst HaveNoFeed (sym (reverse_onto forms f [])) (feedless_more (reverse forms) f (feedless t forms h.2) (no_feed t forms (spelled f) f h.0))
 
 -- a further line of lines that are spelled in their order
-unrolled : (f : LineForm) (forms : List LineForm) (ls : List (List ℕ)) → map spelled (reverse (f ∷ forms)) ++ ls ≡ map spelled (reverse forms) ++ (spelled f ∷ ls)
+unrolled : (f : Statement) (forms : List Statement) (ls : List (List ℕ)) → map spelled (reverse (f ∷ forms)) ++ ls ≡ map spelled (reverse forms) ++ (spelled f ∷ ls)
 unrolled f forms ls =
     ap (λ fs. map spelled fs ++ ls) (reverse_onto forms f []) ∙ ap (λ ws. ws ++ ls) (map_push spelled (reverse forms) f) ∙ append_assoc (map spelled (reverse forms)) (spelled f ∷ []) ls
 
 -- the text of lines in their order
-abbrev text_of : List LineForm → List ℕ
+abbrev text_of : List Statement → List ℕ
 text_of fs = flat_map (λ form. line_of (spelled form)) fs
 
-text_more : (fs : List LineForm) (f : LineForm) → length (text_of (fs ++ f ∷ [])) ≡ length (text_of fs) + (length (spelled f) + 1)
+text_more : (fs : List Statement) (f : Statement) → length (text_of (fs ++ f ∷ [])) ≡ length (text_of fs) + (length (spelled f) + 1)
 text_more [] f =
     let a : length (line_of (spelled f) ++ []) ≡ length (line_of (spelled f)) + 0 = length-append (line_of (spelled f)) [] in
     let b : length (line_of (spelled f)) ≡ length (spelled f) + 1 = length-append (spelled f) (10 ∷ []) in
@@ -56,16 +56,16 @@ text_more (g ∷ fs) f =
     omega (arith, a, b, c)
 
 -- how far lines of these forms are read that are spelled in their order
-abbrev reached_at : List LineForm → Reached
+abbrev reached_at : List Statement → Reached
 reached_at forms = record { forms = forms; number = length forms + 1; place = length (text_of (reverse forms)) }
 
 -- lines that are spelled are read one after another
-read_on : (t : Setting) (p : Reached) (f : LineForm) (ls : List (List ℕ)) → is_passed p.forms (spelled f) ≡ false → line_read t (told p.forms) (spelled f) ≡ Ok f → lines_read t p (spelled f ∷ ls) ≡ lines_read t (with_line p (spelled f) (f ∷ p.forms)) ls
+read_on : (t : Setting) (p : Reached) (f : Statement) (ls : List (List ℕ)) → is_passed p.forms (spelled f) ≡ false → line_read t (told p.forms) (spelled f) ≡ Ok f → lines_read t p (spelled f ∷ ls) ≡ lines_read t (with_line p (spelled f) (f ∷ p.forms)) ls
 read_on t p f ls e d =
     let b = or_parts (is_skipped (spelled f)) (is_nothing_due (told p.forms).section) e in
     rw (b.1, b.0, d) refl
 
-runs : (t : Setting) (forms : List LineForm) (ls : List (List ℕ)) → AreSpelled t forms → lines_read t at_the_top (map spelled (reverse forms) ++ ls) ≡ lines_read t (reached_at forms) ls
+runs : (t : Setting) (forms : List Statement) (ls : List (List ℕ)) → AreSpelled t forms → lines_read t at_the_top (map spelled (reverse forms) ++ ls) ≡ lines_read t (reached_at forms) ls
 runs t [] ls h = refl
 runs t (f ∷ forms) ls h =
     let e : (length forms + 1) + 1 ≡ length (f ∷ forms) + 1 = omega arith in
@@ -73,29 +73,29 @@ runs t (f ∷ forms) ls h =
     ap (lines_read t at_the_top) (unrolled f forms ls) ∙ runs t forms (spelled f ∷ ls) h.2 ∙ read_on t (reached_at forms) f ls h.1 h.0 ∙ ap₂ (λ n m. lines_read t (record { forms = f ∷ forms; number = n; place = m }) ls) e c
 
 -- what is answered to the text of such lines, where the input may end behind them
-answered : (t : Setting) (forms : List LineForm) → AreSpelled t forms → may_end t.form (told forms).section ≡ true → lines_read t at_the_top (lines (text_of (reverse forms))) ≡ Ok (reached_at forms)
+answered : (t : Setting) (forms : List Statement) → AreSpelled t forms → may_end t.form (told forms).section ≡ true → lines_read t at_the_top (lines (text_of (reverse forms))) ≡ Ok (reached_at forms)
 answered t forms h w =
     let e : lines (text_of (reverse forms)) ≡ map spelled (reverse forms) ++ [] = lines_of_text (reverse forms) (feedless t forms h) ∙ sym (append-nil (map spelled (reverse forms))) in
     ap (lines_read t at_the_top) e ∙ runs t forms [] h ∙ rw w refl
 
 -- the text spells the input of the lines
-spells : (t : Setting) (forms : List LineForm) → AreSpelled t forms → may_end t.form (told forms).section ≡ true → SpellsInput t (text_of (reverse forms)) (input_from t (told forms) (length (text_of (reverse forms))))
+spells : (t : Setting) (forms : List Statement) → AreSpelled t forms → may_end t.form (told forms).section ≡ true → SpellsInput t (text_of (reverse forms)) (input_from t (told forms) (length (text_of (reverse forms))))
 spells t forms h w =
     let text = text_of (reverse forms) in
     let place : min (length text) (length text) ≡ length text = omega (arith, clamps) in
     ap (λ r. r >>= (λ p. Ok (input_from t (told p.forms) (min (length text) p.place)))) (answered t forms h w) ∙ ap (λ n. Ok (input_from t (told forms) n)) place
 
 -- the text of a plan whose lines are these
-text_is : (p : Plan) (forms : List LineForm) → lines_of_plan p ≡ reverse forms → text_of (reverse forms) ≡ canonical_text p
+text_is : (p : Plan) (forms : List Statement) → lines_of_plan p ≡ reverse forms → text_of (reverse forms) ≡ canonical_text p
 unfolding canonical_text
 text_is p forms e = ap text_of (sym e)
 
 -- an input by its plan, without an order
-without_order : (t : Setting) (forms : List LineForm) (p : Plan) (n : ℕ) → plan_of t.hooks (told forms) ≡ p → (told forms).order ≡ [] → input_from t (told forms) n ≡ record { plan = p; order = []; rest = n }
+without_order : (t : Setting) (forms : List Statement) (p : Plan) (n : ℕ) → plan_of t.hooks (told forms) ≡ p → (told forms).order ≡ [] → input_from t (told forms) n ≡ record { plan = p; order = []; rest = n }
 without_order t forms p n e d = rw (e, d) refl
 
 -- the canonical text of the plan that good lines tell
-of_good : (s : Setting) (above : List LineForm) → AreGoodLines s above → may_end s.form (told above).section ≡ true → length (told above).tasks ≡ 1 → lines_of_plan (plan_of s.hooks (told above)) ≡ reverse (arranged above) → SpellsInput (alone s) (canonical_text (plan_of s.hooks (told above))) (canonical_input (plan_of s.hooks (told above)))
+of_good : (s : Setting) (above : List Statement) → AreGoodLines s above → may_end s.form (told above).section ≡ true → length (told above).tasks ≡ 1 → lines_of_plan (plan_of s.hooks (told above)) ≡ reverse (arranged above) → SpellsInput (alone s) (canonical_text (plan_of s.hooks (told above))) (canonical_input (plan_of s.hooks (told above)))
 of_good s above good whole one ls =
     let p = plan_of s.hooks (told above) in
     let base = base_of above in
@@ -109,7 +109,7 @@ of_good s above good whole one ls =
     subst (SpellsInput (alone s) (canonical_text p)) (without_order (alone s) (arranged above) p (length (canonical_text p)) plan order) (subst P text spelt)
 
 -- the canonical text of a plan of one task that an input spells
-reads_back : ((s : Setting) (above : List LineForm) → AreGoodLines s above → may_end s.form (told above).section ≡ true → lines_of_plan (plan_of s.hooks (told above)) ≡ reverse (arranged above)) → CanonicalTextsReadBack
+reads_back : ((s : Setting) (above : List Statement) → AreGoodLines s above → may_end s.form (told above).section ≡ true → lines_of_plan (plan_of s.hooks (told above)) ≡ reverse (arranged above)) → CanonicalTextsReadBack
 reads_back plan_lines s bytes input h one =
     let l = of_lines s bytes input h in
     let above = l.reached.forms in

@@ -2,7 +2,7 @@
 -- one spelling.
 use Rattle.std.proofs.Common.{◌≡◌, ℕ, zero, suc, ◌+◌, ◌<◌, ◌≤◌, ◌==◌, Bool, true, false, cond, List, [], ◌∷◌, ◌++◌, length, replicate, reverse, Ok, refl, sym, ap, subst, ◌∙◌, inl, inr, ◌⊎◌, ⊎_elim, arith, append_assoc, append-nil}
 use Rattle.std.specs.List.{list_all, flat_map, range_with_len}
-use Rattle.lw_grammar.specs.LineForms.{LineForm, GlyphLine}
+use Rattle.lw_grammar.specs.LineForms.{Statement, GlyphLine}
 use Rattle.lw_grammar.specs.Told.{AssetsAreDue, nothing_told, told}
 use Rattle.lw_grammar.specs.Script.{Setting, line_read, AreGoodLines}
 use Rattle.lw_canonical.specs.Spelling.{spelled}
@@ -27,18 +27,18 @@ range_more a (suc n) =
 one_line : (code : ℕ) (rows : List ℕ) → reverse (lines_of_glyph code rows) ≡ lines_of_glyph code rows
 one_line code rows = step (list_all (λ row. row == 0) rows)
   where
-    step : (t : Bool) → (let list : List LineForm = cond t [] (GlyphLine code rows ∷ []) in reverse list ≡ list)
+    step : (t : Bool) → (let list : List Statement = cond t [] (GlyphLine code rows ∷ []) in reverse list ≡ list)
     step true = refl
     step false = refl
 
 -- The lines above, and those over which their glyphs stand.
-module _ (above base : List LineForm) where
+module _ (above base : List Statement) where
   -- the glyph of the code with this number
   abbrev rows_at : ℕ → List ℕ
   rows_at n = (told above).glyphs (32 + n)
 
   -- the glyphs of so many codes with some bit set, the nearest first
-  abbrev pub glyphs_over : ℕ → List LineForm
+  abbrev pub glyphs_over : ℕ → List Statement
   glyphs_over zero = base
   glyphs_over (suc n) = lines_of_glyph (32 + n) (rows_at n) ++ glyphs_over n
 
@@ -46,7 +46,7 @@ module _ (above base : List LineForm) where
   over_in_order : (n : ℕ) → reverse (flat_map (λ i. lines_of_glyph (32 + i) (rows_at i)) (range_with_len 0 n)) ++ base ≡ glyphs_over n
   over_in_order zero = refl
   over_in_order (suc n) =
-      let f : ℕ → List LineForm = λ i. lines_of_glyph (32 + i) (rows_at i) in
+      let f : ℕ → List Statement = λ i. lines_of_glyph (32 + i) (rows_at i) in
       let last : 0 + n ≡ n = omega arith in
       let more : range_with_len 0 (suc n) ≡ range_with_len 0 n ++ n ∷ [] = range_more 0 n ∙ ap (λ i. range_with_len 0 n ++ i ∷ []) last in
       let parts : flat_map f (range_with_len 0 (suc n)) ≡ flat_map f (range_with_len 0 n) ++ f n =
@@ -59,7 +59,7 @@ module _ (above base : List LineForm) where
   glyphs_ordered = over_in_order 95
 
   -- what holds of the lines below the glyphs holds with them, where it holds with a further glyph
-  over_keeps : (P : List LineForm → Type 0) → ((code : ℕ) (rows : List ℕ) (lines : List LineForm) → P lines → P (GlyphLine code rows ∷ lines)) → P base → (n : ℕ) → P (glyphs_over n)
+  over_keeps : (P : List Statement → Type 0) → ((code : ℕ) (rows : List ℕ) (lines : List Statement) → P lines → P (GlyphLine code rows ∷ lines)) → P base → (n : ℕ) → P (glyphs_over n)
   over_keeps P more h zero = h
   over_keeps P more h (suc n) = step (list_all (λ row. row == 0) (rows_at n)) (over_keeps P more h n)
     where
@@ -97,9 +97,9 @@ module _ (above base : List LineForm) where
 
 -- A glyph has no bit set, or its line stands among the good lines.
 abbrev IsGlyphRead : Setting → ℕ → List ℕ → Type 0
-IsGlyphRead s code rows = (rows ≡ replicate 8 0) ⊎ ((below : List LineForm) × AreGoodLines s (GlyphLine code rows ∷ below))
+IsGlyphRead s code rows = (rows ≡ replicate 8 0) ⊎ ((below : List Statement) × AreGoodLines s (GlyphLine code rows ∷ below))
 
-glyph_read : (s : Setting) (above : List LineForm) → AreGoodLines s above → (code : ℕ) → IsGlyphRead s code ((told above).glyphs code)
+glyph_read : (s : Setting) (above : List Statement) → AreGoodLines s above → (code : ℕ) → IsGlyphRead s code ((told above).glyphs code)
 glyph_read s [] g code = inl refl
 glyph_read s (GlyphLine c rows ∷ above) g code = step (c == code) refl (glyph_read s above g.1 code)
   where
@@ -122,7 +122,7 @@ unset_glyph s code rows (inl e) h = e
 unset_glyph s code rows (inr k) h = zero_rows rows h ∙ ap (λ n. replicate n 0) (here s k.0 (GlyphLine code rows) k.1).3
 
 -- Over lines without a glyph those of good lines give each code's glyph again, and read again.
-module _ (s : Setting) (above base : List LineForm) (g : AreGoodLines s above) where
+module _ (s : Setting) (above base : List Statement) (g : AreGoodLines s above) where
   pub glyph_over : ((code : ℕ) → (told base).glyphs code ≡ replicate 8 0) → (n i : ℕ) → i < n → (told (glyphs_over above base n)).glyphs (32 + i) ≡ (told above).glyphs (32 + i)
   glyph_over none zero i h = absurd (omega (arith, h))
   glyph_over none (suc n) i h = step (list_all (λ row. row == 0) ((told above).glyphs (32 + n))) refl (32 + n == 32 + i) refl (glyph_over none n i)
@@ -148,9 +148,9 @@ module _ (s : Setting) (above base : List LineForm) (g : AreGoodLines s above) w
           at false d = k (earlier d)
 
 -- a good glyph line reads again over lines that tell of a screen alone, and of other codes
-glyph_again : HasOneSpelling → (s t : Setting) (w h d code : ℕ) (rows : List ℕ) (above lines : List LineForm) → AreGoodLines s (GlyphLine code rows ∷ above) → IsBare w h d lines → IsWithoutBitmaps lines → (told lines).given code ≡ false → line_read t (told lines) (spelled (GlyphLine code rows)) ≡ Ok (GlyphLine code rows)
+glyph_again : HasOneSpelling → (s t : Setting) (w h d code : ℕ) (rows : List ℕ) (above lines : List Statement) → AreGoodLines s (GlyphLine code rows ∷ above) → IsBare w h d lines → IsWithoutBitmaps lines → (told lines).given code ≡ false → line_read t (told lines) (spelled (GlyphLine code rows)) ≡ Ok (GlyphLine code rows)
 glyph_again one s t w h d code rows above lines g bare b new =
-    let f : LineForm = GlyphLine code rows in
+    let f : Statement = GlyphLine code rows in
     let at = here s above (GlyphLine code rows) g in
     let k = tests s above (GlyphLine code rows) g in
     let none : length (told lines).bitmap_names ≡ 0 = ap length b.names in
@@ -159,12 +159,12 @@ glyph_again one s t w h d code rows above lines g bare b new =
     spelled_again one s t above lines f g.0 (verb_forms s t above lines AssetsAreDue at.0 (eq-eqb _ 0 b.due) (in_assets _ at.1) bare.section refl) (tests_pass t lines f tested)
 
 -- So do all glyphs in order.
-pub over_spelled : HasOneSpelling → (s t : Setting) (above base : List LineForm) → AreGoodLines s above → (w h d : ℕ) → IsBare w h d base → IsWithoutBitmaps base → (told base).given ≡ nothing_told.given → AreSpelled t base → (n : ℕ) → AreSpelled t (glyphs_over above base n)
+pub over_spelled : HasOneSpelling → (s t : Setting) (above base : List Statement) → AreGoodLines s above → (w h d : ℕ) → IsBare w h d base → IsWithoutBitmaps base → (told base).given ≡ nothing_told.given → AreSpelled t base → (n : ℕ) → AreSpelled t (glyphs_over above base n)
 over_spelled one s t above base g w h d bare b e k zero = k
 over_spelled one s t above base g w h d bare b e k (suc n) =
     step (list_all (λ row. row == 0) ((told above).glyphs (32 + n))) refl (over_spelled one s t above base g w h d bare b e k n)
   where
-    below : List LineForm
+    below : List Statement
     below = glyphs_over above base n
 
     here_bare : IsBare w h d below

@@ -2,7 +2,7 @@
 use Rattle.std.proofs.Common.{◌≡◌, ℕ, ◌+◌, ◌-◌, ◌≤◌, ◌==◌, Bool, true, false, cond, List, [], ◌∷◌, ◌++◌, map, filter, ℤ, None, refl, sym, ap, subst, ◌∙◌}
 use Rattle.lw_calls.specs.declared.group.Hold.{Hold}
 use Rattle.lw_calls.specs.declared.group.Hold.TheVariants.{Slot, All as AllLayers}
-use Rattle.lw_grammar.specs.LineForms.{Act, RefreshAct, EndRefreshAct, LineForm, ScreenLine, GlyphLine, BitmapLine, RowLine, TaskLine, EndLine, OrderLine, NumbersLine, ReportLine, CallLine, LockLine, UnlockLine, HoldLine, ReleaseLine}
+use Rattle.lw_grammar.specs.LineForms.{Act, RefreshAct, EndRefreshAct, Statement, ScreenLine, GlyphLine, BitmapLine, RowLine, TaskLine, EndLine, OrderLine, NumbersLine, ReportLine, CallLine, LockLine, UnlockLine, HoldLine, ReleaseLine}
 use Rattle.lw_grammar.specs.Told.{Section, ScreenIsDue, AssetsAreDue, CallsAreDue, TasksAreDue, NumbersAreDue, NothingIsDue, nothing_told, and_name, and_names, place_among, onto_last, spelled_call, call_below, asks_super, hook_on, and_hook, opened_by, group_from, told}
 use Rattle.lw_grammar.specs.Script.{Setting, are_calls_due, are_tasks_due, are_numbers_due, AreGoodLines}
 use Rattle.lw_grammar.proofs.ScriptOutcome.{rows_in_assets}
@@ -11,7 +11,7 @@ use Rattle.lw_canonical.proofs.Rearranged.{is_of_tasks, IsBaseOf}
 use Rattle.std.proofs.lemmas.Bool.{true≢false, false≢true, and_parts}
 
 -- lines that tell nothing of tasks
-pub record AreBare (above : List LineForm) : Type 0 where
+pub record AreBare (above : List Statement) : Type 0 where
   pub of_tasks : filter is_of_tasks above ≡ []
   pub tasks : (told above).tasks ≡ []
   pub names : (told above).names ≡ []
@@ -36,24 +36,24 @@ both_begun : (c : Section) → has_begun c ≡ true → has_begun c ≡ false �
 both_begun c e n = true≢false (sym e ∙ n)
 
 -- the screen line, a glyph, a bitmap or a row leaves lines bare
-screen_bare : (above : List LineForm) (w h d : ℤ) → AreBare above → AreBare (ScreenLine w h d ∷ above)
+screen_bare : (above : List Statement) (w h d : ℤ) → AreBare above → AreBare (ScreenLine w h d ∷ above)
 screen_bare above w h d b =
     record { of_tasks = b.of_tasks; tasks = b.tasks; names = b.names; supers = b.supers; hooks = b.hooks; group = b.group; so_far = b.so_far; began = b.began; calls = b.calls; groups = b.groups }
 
-glyph_bare : (above : List LineForm) (code : ℕ) (rows : List ℕ) → AreBare above → AreBare (GlyphLine code rows ∷ above)
+glyph_bare : (above : List Statement) (code : ℕ) (rows : List ℕ) → AreBare above → AreBare (GlyphLine code rows ∷ above)
 glyph_bare above code rows b =
     record { of_tasks = b.of_tasks; tasks = b.tasks; names = b.names; supers = b.supers; hooks = b.hooks; group = b.group; so_far = b.so_far; began = b.began; calls = b.calls; groups = b.groups }
 
-bitmap_bare : (above : List LineForm) (name : List ℕ) (w h d : ℤ) → AreBare above → AreBare (BitmapLine name w h d ∷ above)
+bitmap_bare : (above : List Statement) (name : List ℕ) (w h d : ℤ) → AreBare above → AreBare (BitmapLine name w h d ∷ above)
 bitmap_bare above name w h d b =
     record { of_tasks = b.of_tasks; tasks = b.tasks; names = b.names; supers = b.supers; hooks = b.hooks; group = b.group; so_far = b.so_far; began = b.began; calls = b.calls; groups = b.groups }
 
-row_bare : (above : List LineForm) (bytes : List ℕ) → AreBare above → AreBare (RowLine bytes ∷ above)
+row_bare : (above : List Statement) (bytes : List ℕ) → AreBare above → AreBare (RowLine bytes ∷ above)
 row_bare above bytes b =
     record { of_tasks = b.of_tasks; tasks = b.tasks; names = b.names; supers = b.supers; hooks = b.hooks; group = b.group; so_far = b.so_far; began = b.began; calls = b.calls; groups = b.groups }
 
 -- Good lines are bare as long as no task has begun.
-pub bare : (s : Setting) (above : List LineForm) → AreGoodLines s above → has_begun (told above).section ≡ false → AreBare above
+pub bare : (s : Setting) (above : List Statement) → AreGoodLines s above → has_begun (told above).section ≡ false → AreBare above
 bare s [] g n =
     record { of_tasks = refl; tasks = refl; names = refl; supers = refl; hooks = refl; group = refl; so_far = refl; began = refl; calls = refl; groups = refl }
 bare s (ScreenLine w h d ∷ above) g n =
@@ -82,7 +82,7 @@ section_alone NumbersAreDue = TasksAreDue
 section_alone NothingIsDue = TasksAreDue
 
 -- other lines that tell the same, but for an order and a report
-pub record AreAlike (above new : List LineForm) : Type 0 where
+pub record AreAlike (above new : List Statement) : Type 0 where
   pub section : (told new).section ≡ section_alone (told above).section
   pub due : (told new).rows_due ≡ 0
   pub width : (told new).width ≡ (told above).width
@@ -102,7 +102,7 @@ pub record AreAlike (above new : List LineForm) : Type 0 where
   pub groups : (told new).groups ≡ (told above).groups
 
 -- a base is alike bare lines
-base_alike : (above base : List LineForm) → (told above).section ≡ AssetsAreDue → AreBare above → IsBaseOf above base → AreAlike above base
+base_alike : (above base : List Statement) → (told above).section ≡ AssetsAreDue → AreBare above → IsBaseOf above base → AreAlike above base
 base_alike above base c n b =
     record {
       section = b.section ∙ ap section_alone (sym c);
@@ -125,18 +125,18 @@ base_alike above base c n b =
     }
 
 -- the call of a line below lines that tell of the same names
-pub same_call : (above new : List LineForm) (layers : List (List ℕ)) (act : Act) → AreAlike above new → call_below (told new) layers act ≡ call_below (told above) layers act
+pub same_call : (above new : List Statement) (layers : List (List ℕ)) (act : Act) → AreAlike above new → call_below (told new) layers act ≡ call_below (told above) layers act
 same_call above new layers act a =
     ap (λ (ns : List (List ℕ)). spelled_call (told new).bitmap_names act (map (place_among (and_names ns layers)) layers)) a.names
     ∙ ap (λ (bs : List (List ℕ)). spelled_call bs act (map (place_among (and_names (told above).names layers)) layers)) a.bitmap_names
 
 -- the group of a task below such lines
-same_group : (above new : List LineForm) (hold : Hold) (count : ℕ → ℕ) → AreAlike above new → group_from (told new) hold (count (told new).so_far) ≡ group_from (told above) hold (count (told above).so_far)
+same_group : (above new : List Statement) (hold : Hold) (count : ℕ → ℕ) → AreAlike above new → group_from (told new) hold (count (told new).so_far) ≡ group_from (told above) hold (count (told above).so_far)
 same_group above new hold count a =
     ap (λ (n : ℕ). group_from (told new) hold (count n)) a.so_far ∙ ap (λ (n : ℕ). record { first = n; last = count (told above).so_far - 1; hold = hold }) a.began
 
 -- the same of one that ends on a layer
-same_slot_group : (above new : List LineForm) (name : List ℕ) (count : ℕ → ℕ) → AreAlike above new → group_from (told new) (Slot (place_among (told new).names name)) (count (told new).so_far) ≡ group_from (told above) (Slot (place_among (told above).names name)) (count (told above).so_far)
+same_slot_group : (above new : List Statement) (name : List ℕ) (count : ℕ → ℕ) → AreAlike above new → group_from (told new) (Slot (place_among (told new).names name)) (count (told new).so_far) ≡ group_from (told above) (Slot (place_among (told above).names name)) (count (told above).so_far)
 same_slot_group above new name count a =
     ap (λ (ns : List (List ℕ)). group_from (told new) (Slot (place_among ns name)) (count (told new).so_far)) a.names ∙ same_group above new (Slot (place_among (told above).names name)) count a
 
@@ -145,9 +145,9 @@ onto_same : {A : Type 0} (a b : A) (xs ys : List (List A)) → a ≡ b → xs �
 onto_same a b xs ys e h = ap (λ c. onto_last c xs) e ∙ ap (onto_last b) h
 
 -- A line of tasks below such lines: notion by notion.
-module _ (above new : List LineForm) (a : AreAlike above new) where
+module _ (above new : List Statement) (a : AreAlike above new) where
   -- the section
-  more_section : (f : LineForm) → is_of_tasks f ≡ true → (told (f ∷ new)).section ≡ section_alone (told (f ∷ above)).section
+  more_section : (f : Statement) → is_of_tasks f ≡ true → (told (f ∷ new)).section ≡ section_alone (told (f ∷ above)).section
   more_section (ScreenLine w h d) t = refl
   more_section (TaskLine name) t = refl
   more_section EndLine t = refl
@@ -156,63 +156,63 @@ module _ (above new : List LineForm) (a : AreAlike above new) where
   more_section f t = a.section
 
   -- no rows are due
-  more_due : (f : LineForm) → is_of_tasks f ≡ true → (told (f ∷ new)).rows_due ≡ 0
+  more_due : (f : Statement) → is_of_tasks f ≡ true → (told (f ∷ new)).rows_due ≡ 0
   more_due (BitmapLine name w h d) t = absurd (false≢true t)
   more_due (RowLine bytes) t = absurd (false≢true t)
   more_due f t = a.due
 
   -- the screen's sizes
-  more_width : (f : LineForm) → (told (f ∷ new)).width ≡ (told (f ∷ above)).width
+  more_width : (f : Statement) → (told (f ∷ new)).width ≡ (told (f ∷ above)).width
   more_width (ScreenLine w h d) = refl
   more_width f = a.width
 
-  more_height : (f : LineForm) → (told (f ∷ new)).height ≡ (told (f ∷ above)).height
+  more_height : (f : Statement) → (told (f ∷ new)).height ≡ (told (f ∷ above)).height
   more_height (ScreenLine w h d) = refl
   more_height f = a.height
 
-  more_depth : (f : LineForm) → (told (f ∷ new)).depth ≡ (told (f ∷ above)).depth
+  more_depth : (f : Statement) → (told (f ∷ new)).depth ≡ (told (f ∷ above)).depth
   more_depth (ScreenLine w h d) = refl
   more_depth f = a.depth
 
   -- the bitmaps' names
-  more_bitmap_names : (f : LineForm) → (told (f ∷ new)).bitmap_names ≡ (told (f ∷ above)).bitmap_names
+  more_bitmap_names : (f : Statement) → (told (f ∷ new)).bitmap_names ≡ (told (f ∷ above)).bitmap_names
   more_bitmap_names (BitmapLine name w h d) = ap (λ names. names ++ name ∷ []) a.bitmap_names
   more_bitmap_names f = a.bitmap_names
 
   -- the glyphs
-  more_glyphs : (f : LineForm) (code : ℕ) → 32 ≤ code → code ≤ 126 → (told (f ∷ new)).glyphs code ≡ (told (f ∷ above)).glyphs code
+  more_glyphs : (f : Statement) (code : ℕ) → 32 ≤ code → code ≤ 126 → (told (f ∷ new)).glyphs code ≡ (told (f ∷ above)).glyphs code
   more_glyphs (GlyphLine c rows) code low high = ap (cond (c == code) rows) (a.glyphs code low high)
   more_glyphs f code low high = a.glyphs code low high
 
   -- the bitmaps
-  more_bitmaps : (f : LineForm) → is_of_tasks f ≡ true → (told (f ∷ new)).bitmaps [] ≡ (told (f ∷ above)).bitmaps []
+  more_bitmaps : (f : Statement) → is_of_tasks f ≡ true → (told (f ∷ new)).bitmaps [] ≡ (told (f ∷ above)).bitmaps []
   more_bitmaps (BitmapLine name w h d) t = absurd (false≢true t)
   more_bitmaps (RowLine bytes) t = absurd (false≢true t)
   more_bitmaps f t = a.bitmaps
 
   -- the tasks' names
-  more_tasks : (f : LineForm) → (told (f ∷ new)).tasks ≡ (told (f ∷ above)).tasks
+  more_tasks : (f : Statement) → (told (f ∷ new)).tasks ≡ (told (f ∷ above)).tasks
   more_tasks (TaskLine name) = ap (λ names. names ++ name ∷ []) a.tasks
   more_tasks f = a.tasks
 
   -- the layers' names
-  more_names : (f : LineForm) → (told (f ∷ new)).names ≡ (told (f ∷ above)).names
+  more_names : (f : Statement) → (told (f ∷ new)).names ≡ (told (f ∷ above)).names
   more_names (CallLine layers act) = ap (λ names. and_names names layers) a.names
   more_names (LockLine name) = ap (λ names. and_name names name) a.names
   more_names (UnlockLine name) = ap (λ names. and_name names name) a.names
   more_names f = a.names
 
   -- how many lines ask for a super-bitmap layer, and the hooks that are named
-  more_supers : (f : LineForm) → (told (f ∷ new)).supers ≡ (told (f ∷ above)).supers
+  more_supers : (f : Statement) → (told (f ∷ new)).supers ≡ (told (f ∷ above)).supers
   more_supers (CallLine layers act) = ap (λ n. cond (asks_super (CallLine layers act)) 1 0 + n) a.supers
   more_supers f = a.supers
 
-  more_hooks : (f : LineForm) → (told (f ∷ new)).used ≡ (told (f ∷ above)).used
+  more_hooks : (f : Statement) → (told (f ∷ new)).used ≡ (told (f ∷ above)).used
   more_hooks (CallLine layers act) = ap (and_hook (hook_on (CallLine layers act))) a.hooks
   more_hooks f = a.hooks
 
   -- the group that is open
-  more_group : (f : LineForm) → (told (f ∷ new)).group ≡ (told (f ∷ above)).group
+  more_group : (f : Statement) → (told (f ∷ new)).group ≡ (told (f ∷ above)).group
   more_group (LockLine name) = refl
   more_group (UnlockLine name) = refl
   more_group HoldLine = refl
@@ -221,13 +221,13 @@ module _ (above new : List LineForm) (a : AreAlike above new) where
   more_group f = a.group
 
   -- the nearest task's calls so far
-  more_so_far : (f : LineForm) → (told (f ∷ new)).so_far ≡ (told (f ∷ above)).so_far
+  more_so_far : (f : Statement) → (told (f ∷ new)).so_far ≡ (told (f ∷ above)).so_far
   more_so_far (TaskLine name) = refl
   more_so_far (CallLine layers act) = ap (λ n. n + 1) a.so_far
   more_so_far f = a.so_far
 
   -- where the open group began
-  more_began : (f : LineForm) → (told (f ∷ new)).began ≡ (told (f ∷ above)).began
+  more_began : (f : Statement) → (told (f ∷ new)).began ≡ (told (f ∷ above)).began
   more_began (LockLine name) = a.so_far
   more_began HoldLine = a.so_far
   more_began (CallLine layers RefreshAct) = a.so_far
@@ -235,13 +235,13 @@ module _ (above new : List LineForm) (a : AreAlike above new) where
   more_began f = a.began
 
   -- each task's calls
-  more_calls : (f : LineForm) → (told (f ∷ new)).calls ≡ (told (f ∷ above)).calls
+  more_calls : (f : Statement) → (told (f ∷ new)).calls ≡ (told (f ∷ above)).calls
   more_calls (TaskLine name) = ap (λ lists. lists ++ [] ∷ []) a.calls
   more_calls (CallLine layers act) = onto_same _ _ _ _ (same_call above new layers act a) a.calls
   more_calls f = a.calls
 
   -- each task's groups
-  more_groups : (f : LineForm) → (told (f ∷ new)).groups ≡ (told (f ∷ above)).groups
+  more_groups : (f : Statement) → (told (f ∷ new)).groups ≡ (told (f ∷ above)).groups
   more_groups (TaskLine name) = ap (λ lists. lists ++ [] ∷ []) a.groups
   more_groups (UnlockLine name) = onto_same _ _ _ _ (same_slot_group above new name (λ n. n) a) a.groups
   more_groups ReleaseLine = onto_same _ _ _ _ (same_group above new AllLayers (λ n. n) a) a.groups
@@ -254,7 +254,7 @@ module _ (above new : List LineForm) (a : AreAlike above new) where
   more_groups f = a.groups
 
   -- all together
-  pub alike_more : (f : LineForm) → is_of_tasks f ≡ true → AreAlike (f ∷ above) (f ∷ new)
+  pub alike_more : (f : Statement) → is_of_tasks f ≡ true → AreAlike (f ∷ above) (f ∷ new)
   alike_more f t =
       record {
         section = more_section f t;
@@ -277,7 +277,7 @@ module _ (above new : List LineForm) (a : AreAlike above new) where
       }
 
 -- the line stands behind all glyphs and bitmaps
-abbrev pub is_behind : LineForm → Bool
+abbrev pub is_behind : Statement → Bool
 is_behind (ScreenLine w h d) = false
 is_behind (GlyphLine code rows) = false
 is_behind (BitmapLine name w h d) = false
@@ -285,7 +285,7 @@ is_behind (RowLine bytes) = false
 is_behind f = true
 
 -- without such a line the lines have the same base
-pub base_below : (f : LineForm) (above base : List LineForm) → is_behind f ≡ true → IsBaseOf (f ∷ above) base → IsBaseOf above base
+pub base_below : (f : Statement) (above base : List Statement) → is_behind f ≡ true → IsBaseOf (f ∷ above) base → IsBaseOf above base
 base_below (ScreenLine w h d) above base t b = absurd (false≢true t)
 base_below (GlyphLine code rows) above base t b = absurd (false≢true t)
 base_below (BitmapLine name w h d) above base t b = absurd (false≢true t)
@@ -312,13 +312,13 @@ base_below f above base t b =
     }
 
 -- an order, its numbers or a report tells nothing of tasks
-abbrev is_of_end : LineForm → Bool
+abbrev is_of_end : Statement → Bool
 is_of_end OrderLine = true
 is_of_end (NumbersLine zs) = true
 is_of_end ReportLine = true
 is_of_end f = false
 
-alike_behind : (above new : List LineForm) (f : LineForm) → is_of_end f ≡ true → section_alone (told (f ∷ above)).section ≡ section_alone (told above).section → AreAlike above new → AreAlike (f ∷ above) new
+alike_behind : (above new : List Statement) (f : Statement) → is_of_end f ≡ true → section_alone (told (f ∷ above)).section ≡ section_alone (told above).section → AreAlike above new → AreAlike (f ∷ above) new
 alike_behind above new (ScreenLine w h d) t c a = absurd (false≢true t)
 alike_behind above new (GlyphLine code rows) t c a = absurd (false≢true t)
 alike_behind above new (BitmapLine name w h d) t c a = absurd (false≢true t)
@@ -363,20 +363,20 @@ tasks_screen : (c : Section) → are_tasks_due c ≡ true → has_screen c ≡ t
 tasks_screen c e = ap has_screen (in_tasks c e)
 
 -- so it does where an order or a report begins
-pub order_screen : (s : Setting) (above : List LineForm) → AreGoodLines s (OrderLine ∷ above) → has_screen (told above).section ≡ true
+pub order_screen : (s : Setting) (above : List Statement) → AreGoodLines s (OrderLine ∷ above) → has_screen (told above).section ≡ true
 order_screen s above g = tasks_screen (told above).section (and_parts (are_tasks_due (told above).section) _ (here s above OrderLine g).1).0
 
-pub report_screen : (s : Setting) (above : List LineForm) → AreGoodLines s (ReportLine ∷ above) → has_screen (told above).section ≡ true
+pub report_screen : (s : Setting) (above : List Statement) → AreGoodLines s (ReportLine ∷ above) → has_screen (told above).section ≡ true
 report_screen s above g = tasks_screen (told above).section (and_parts (are_tasks_due (told above).section) _ (here s above ReportLine g).1).0
 
 -- Where no task has begun, the base alone is alike the lines above.
-pub assets_alike : (s : Setting) (above base : List LineForm) → AreGoodLines s above → (told above).section ≡ AssetsAreDue → IsBaseOf above base → AreAlike above (filter is_of_tasks above ++ base)
+pub assets_alike : (s : Setting) (above base : List Statement) → AreGoodLines s above → (told above).section ≡ AssetsAreDue → IsBaseOf above base → AreAlike above (filter is_of_tasks above ++ base)
 assets_alike s above base g c b =
     let n = bare s above g (ap has_begun c) in
-    subst (λ (fs : List LineForm). AreAlike above (fs ++ base)) (sym n.of_tasks) (base_alike above base c n b)
+    subst (λ (fs : List Statement). AreAlike above (fs ++ base)) (sym n.of_tasks) (base_alike above base c n b)
 
 -- The lines of tasks over a base are alike the good lines below the screen.
-pub alike : (s : Setting) (above base : List LineForm) → AreGoodLines s above → has_screen (told above).section ≡ true → IsBaseOf above base → AreAlike above (filter is_of_tasks above ++ base)
+pub alike : (s : Setting) (above base : List Statement) → AreGoodLines s above → has_screen (told above).section ≡ true → IsBaseOf above base → AreAlike above (filter is_of_tasks above ++ base)
 alike s [] base g e b = absurd (false≢true e)
 alike s (ScreenLine w h d ∷ above) base g e b = assets_alike s (ScreenLine w h d ∷ above) base g refl b
 alike s (GlyphLine code rows ∷ above) base g e b =

@@ -13,7 +13,7 @@ use Rattle.lw_grammar.specs.Demands.{◌>>=◌, demand}
 use Rattle.lw_grammar.specs.Lines.{lines}
 use Rattle.lw_grammar.specs.Tokens.{on_found, tokens_at, tokens, Token, OddToken, token_of, hex_bytes, spelled_bytes}
 use Rattle.lw_grammar.specs.Verbs.{verb_word, verb_of}
-use Rattle.lw_grammar.specs.LineForms.{CloseAct, FrontAct, BehindAct, MoveAct, SizeAct, BoxAct, ActivateAct, APenAct, BPenAct, ModeAct, MaskAct, AtAct, WriteAct, ReadAct, FillAct, DrawAct, TextAct, SetRastAct, ClipAct, UnclipAct, RefreshAct, ScrollAct, TitleAct, GetMsgAct, LineForm, RowLine, TaskLine, EndLine, OrderLine, ReportLine, LockLine, UnlockLine, HoldLine, ReleaseLine, four, row_line, numbers_limit, numbers_line, form_by, is_line_in_range}
+use Rattle.lw_grammar.specs.LineForms.{CloseAct, FrontAct, BehindAct, MoveAct, SizeAct, BoxAct, ActivateAct, APenAct, BPenAct, ModeAct, MaskAct, AtAct, WriteAct, ReadAct, FillAct, DrawAct, TextAct, SetRastAct, ClipAct, UnclipAct, RefreshAct, ScrollAct, TitleAct, GetMsgAct, Statement, RowLine, TaskLine, EndLine, OrderLine, ReportLine, LockLine, UnlockLine, HoldLine, ReleaseLine, four, row_line, numbers_limit, numbers_line, form_by, is_line_in_range}
 use Rattle.lw_grammar.specs.Told.{told}
 use Rattle.lw_grammar.specs.Script.{Setting, line_limit, is_skipped, is_printable, are_tasks_due, are_numbers_due, is_plain, stands_in, is_task_verb, words_read, verb_read, form_read, form_tested, line_read, IsGoodLine}
 use Rattle.lw_calls.specs.Written.{line_of}
@@ -83,25 +83,25 @@ form_spelt TitleVerb ts = text_spelt (codes "title") (λ t. TitleAct t) (λ l t.
 form_spelt GetMsgVerb ts = layer_spelt (codes "getmsg") GetMsgAct (λ l. refl) ts
 
 -- The form's words are these, where it is in range and the words are good ones.
-abbrev IsOfWords : List (List ℕ) → LineForm → Type 0
+abbrev IsOfWords : List (List ℕ) → Statement → Type 0
 IsOfWords ws f = AreWords ws → is_line_in_range f ≡ true → words_of f ≡ ws
 
 -- a form without a verb, by what its words are
-by_tokens : (ws : List (List ℕ)) (f : LineForm) → HasWords (map token_word (map token_of ws)) (map token_of ws) f → IsOfWords ws f
+by_tokens : (ws : List (List ℕ)) (f : Statement) → HasWords (map token_word (map token_of ws)) (map token_of ws) f → IsOfWords ws f
 by_tokens ws f h good r = h (tokens_good ws) r ∙ tokens_back ws good
 
 -- the same of a form that is found, or not
-found_words : (ws : List (List ℕ)) (o : Option LineForm) → IfSome o (HasWords (map token_word (map token_of ws)) (map token_of ws)) → IfOk (ok_or o FormReason) (IsOfWords ws)
+found_words : (ws : List (List ℕ)) (o : Option Statement) → IfSome o (HasWords (map token_word (map token_of ws)) (map token_of ws)) → IfOk (ok_or o FormReason) (IsOfWords ws)
 found_words ws None h = tt
 found_words ws (Some f) h = by_tokens ws f h
 
 -- a form with a verb
-by_verb : (w : List ℕ) (v : Verb) (ws : List (List ℕ)) → IsWordOf w v → (o : Option LineForm) → IfSome o (IsSpelt (verb_word v) (map token_of ws)) → IfOk (ok_or o FormReason) (IsOfWords (w ∷ ws))
+by_verb : (w : List ℕ) (v : Verb) (ws : List (List ℕ)) → IsWordOf w v → (o : Option Statement) → IfSome o (IsSpelt (verb_word v) (map token_of ws)) → IfOk (ok_or o FormReason) (IsOfWords (w ∷ ws))
 by_verb w v ws e None h = tt
 by_verb w v ws e (Some f) h = λ good r. h (tokens_good ws) r ∙ also (sym e) (tokens_back ws good.1)
 
 -- a line that begins with a verb
-verb_words : (s : Setting) (above : List LineForm) (ws : List (List ℕ)) → IfOk (verb_read s.form (told above).section ws) (IsOfWords ws)
+verb_words : (s : Setting) (above : List Statement) (ws : List (List ℕ)) → IfOk (verb_read s.form (told above).section ws) (IsOfWords ws)
 verb_words s above [] = tt
 verb_words s above (w ∷ ws) = at_verb (verb_of w) (verb_spelled w)
   where
@@ -120,7 +120,7 @@ either_ok P true x y h k = h
 either_ok P false x y h k = k
 
 -- the form that is read has the line's words
-form_words : (s : Setting) (above : List LineForm) (ws : List (List ℕ)) → IfOk (form_read s.form (told above).section (told above).rows_due (told above).row_width ws) (IsOfWords ws)
+form_words : (s : Setting) (above : List Statement) (ws : List (List ℕ)) → IfOk (form_read s.form (told above).section (told above).rows_due (told above).row_width ws) (IsOfWords ws)
 form_words s above ws =
     either_ok (IsOfWords ws) (not ((told above).rows_due == 0)) _ _ (found_words ws (row_line (told above).row_width (map token_of ws)) (row_spelt (told above).row_width (map token_of ws))) (either_ok (IsOfWords ws) (are_numbers_due (told above).section) _ _ (found_words ws (numbers_line (map token_of ws)) (numbers_spelt (map token_of ws))) (verb_words s above ws))
 
@@ -135,7 +135,7 @@ demanded true q f b e = (refl, e)
 demanded false q f b e = absurd (cc)
 
 -- What a line that was read went through.
-pub record IsReading (s : Setting) (above : List LineForm) (line : List ℕ) (f : LineForm) : Type 0 where
+pub record IsReading (s : Setting) (above : List Statement) (line : List ℕ) (f : Statement) : Type 0 where
   pub printable : list_all is_printable line ≡ true
   pub ws : List (List ℕ)
   pub split : tokens line ≡ Ok ws
@@ -143,14 +143,14 @@ pub record IsReading (s : Setting) (above : List LineForm) (line : List ℕ) (f 
   pub range : is_line_in_range f ≡ true
 
 -- the form that was tested is the one that was told
-told_form : (s : Setting) (above : List LineForm) (g f : LineForm) (h : (form_tested s (told above) g >>= (λ _. Ok g)) ≡ Ok f) → (g ≡ f) × (is_line_in_range f ≡ true)
+told_form : (s : Setting) (above : List Statement) (g f : Statement) (h : (form_tested s (told above) g >>= (λ _. Ok g)) ≡ Ok f) → (g ≡ f) × (is_line_in_range f ≡ true)
 told_form s above g f h =
     let t = handed_on (form_tested s (told above) g) (λ _. Ok g) f h in
     let same : g ≡ f = cc in
     let tested = demanded (is_line_in_range g) Range _ _ t.1 in
     (same, subst (λ k. is_line_in_range k ≡ true) same tested.0)
 
-pub reading : (s : Setting) (above : List LineForm) (line : List ℕ) (f : LineForm) → line_read s (told above) line ≡ Ok f → IsReading s above line f
+pub reading : (s : Setting) (above : List Statement) (line : List ℕ) (f : Statement) → line_read s (told above) line ≡ Ok f → IsReading s above line f
 reading s above line f e =
     let words = handed_on (words_read line) _ f e in
     let short = demanded (nat_le (length line) line_limit) LineTooLong _ _ words.1 in
@@ -200,7 +200,7 @@ unfolding verb_of
 no_verb w = refl
 
 -- so no form is read of such words
-no_form : (s : Setting) (above : List LineForm) (w : List ℕ) (ws : List (List ℕ)) → IfOk (form_read s.form (told above).section (told above).rows_due (told above).row_width ((35 ∷ w) ∷ ws)) (λ _. ⊥)
+no_form : (s : Setting) (above : List Statement) (w : List ℕ) (ws : List (List ℕ)) → IfOk (form_read s.form (told above).section (told above).rows_due (told above).row_width ((35 ∷ w) ∷ ws)) (λ _. ⊥)
 no_form s above w ws =
     either_ok (λ _. ⊥) (not ((told above).rows_due == 0)) _ _ (found_has (λ _. ⊥) (row_line (told above).row_width (map token_of ((35 ∷ w) ∷ ws))) FormReason (no_row (told above).row_width w (map token_of ws))) (either_ok (λ _. ⊥) (are_numbers_due (told above).section) _ _ (found_has (λ _. ⊥) (numbers_line (map token_of ((35 ∷ w) ∷ ws))) FormReason (either_has (λ _. ⊥) (nat_le (length (map token_of ((35 ∷ w) ∷ ws))) numbers_limit) None None tt tt)) (at_verb (verb_of (35 ∷ w)) (no_verb w)))
   where
@@ -209,7 +209,7 @@ no_form s above w ws =
     at_verb (Some v) e = absurd (cc)
 
 -- A good line isn't skipped.
-pub not_skipped : (s : Setting) (above : List LineForm) (line : List ℕ) (f : LineForm) → line_read s (told above) line ≡ Ok f → is_skipped line ≡ false
+pub not_skipped : (s : Setting) (above : List Statement) (line : List ℕ) (f : Statement) → line_read s (told above) line ≡ Ok f → is_skipped line ≡ false
 not_skipped s above [] f e = let r = reading s above [] f e in absurd (IfOk-at_ok (λ _. ⊥) r.split tt)
 not_skipped s above (b ∷ bs) f e = go (b == 35) refl
   where
@@ -241,11 +241,11 @@ printable_line (b ∷ bs) h =
     and_from (not (b == 10)) _ (printable_byte b k.0) (printable_line bs k.1)
 
 -- A good line has no line feed.
-pub no_feed : (s : Setting) (above : List LineForm) (line : List ℕ) (f : LineForm) → line_read s (told above) line ≡ Ok f → list_all (λ b. not (b == 10)) line ≡ true
+pub no_feed : (s : Setting) (above : List Statement) (line : List ℕ) (f : Statement) → line_read s (told above) line ≡ Ok f → list_all (λ b. not (b == 10)) line ≡ true
 no_feed s above line f e = let r = reading s above line f e in printable_line line r.printable
 
 -- So the one spelling of a good line's form reads as that form where the line did, isn't skipped, and has no line feed.
-pub good_spelling : (s : Setting) (above : List LineForm) (f : LineForm) → IsGoodLine s above f → (line_read s (told above) (spelled f) ≡ Ok f) × (is_skipped (spelled f) ≡ false) × HasNoFeed (spelled f)
+pub good_spelling : (s : Setting) (above : List Statement) (f : Statement) → IsGoodLine s above f → (line_read s (told above) (spelled f) ≡ Ok f) × (is_skipped (spelled f) ≡ false) × HasNoFeed (spelled f)
 good_spelling s above f g =
     let read : line_read s (told above) (spelled f) ≡ Ok f = subst (λ line. line_read s (told above) line ≡ Ok f) (sym (one_spelling s above g.line f g.read)) g.read in
     (read, not_skipped s above (spelled f) f read, no_feed s above (spelled f) f read)
@@ -262,12 +262,12 @@ first_line (b ∷ bs) rest h =
     go false n ih = ap (onto_first b) ih
 
 -- none of these forms is spelled with a line feed
-abbrev pub HaveNoFeed : List LineForm → Type 0
+abbrev pub HaveNoFeed : List Statement → Type 0
 HaveNoFeed [] = Unit {0}
 HaveNoFeed (f ∷ fs) = HasNoFeed (spelled f) × HaveNoFeed fs
 
 -- The lines of a text of spelled forms are their spellings.
-pub lines_of_text : (fs : List LineForm) → HaveNoFeed fs → lines (flat_map (λ f. line_of (spelled f)) fs) ≡ map spelled fs
+pub lines_of_text : (fs : List Statement) → HaveNoFeed fs → lines (flat_map (λ f. line_of (spelled f)) fs) ≡ map spelled fs
 lines_of_text [] h = refl
 lines_of_text (f ∷ fs) h =
     ap lines (append_assoc (spelled f) (10 ∷ []) (flat_map (λ g. line_of (spelled g)) fs))

@@ -4,7 +4,7 @@ use Rattle.std.specs.List.{range_with_len}
 use Rattle.lw_calls.specs.declared.call.Call.{Call}
 use Rattle.lw_calls.specs.declared.group.Group.{Group}
 use Rattle.lw_calls.specs.Plan.{Plan, task_calls, task_groups}
-use Rattle.lw_grammar.specs.LineForms.{LineForm, TaskLine, EndLine}
+use Rattle.lw_grammar.specs.LineForms.{Statement, TaskLine, EndLine}
 use Rattle.lw_grammar.specs.Told.{told, plan_of}
 use Rattle.lw_grammar.specs.Script.{Setting, may_end, AreGoodLines}
 use Rattle.lw_canonical.specs.Canonical.{lines_of_task, lines_of_glyph, lines_of_plan}
@@ -19,7 +19,7 @@ use Rattle.lw_canonical.proofs.TaskLines.{task_lines, all_task_lines, tasks_clos
 use Rattle.std.proofs.lemmas.List.{reverse-append, reverse-reverse}
 
 -- The lines of the plan's glyphs.
-pub plan_glyphs : (hooks : ℕ) (above : List LineForm) → flat_map (λ i. lines_of_glyph (32 + i) (slice_index_or (plan_of hooks (told above)).assets.glyphs i [])) (range_with_len 0 95) ≡ glyphs_in_order above
+pub plan_glyphs : (hooks : ℕ) (above : List Statement) → flat_map (λ i. lines_of_glyph (32 + i) (slice_index_or (plan_of hooks (told above)).assets.glyphs i [])) (range_with_len 0 95) ≡ glyphs_in_order above
 plan_glyphs hooks above = gathered_made (λ i rows. lines_of_glyph (32 + i) rows) (λ i. (told above).glyphs (32 + i)) [] 95
 
 -- the lines of tasks by number are those of their names, calls and groups
@@ -28,15 +28,15 @@ tasks_by_number names bitmaps [] css gss h k = refl
 tasks_by_number names bitmaps (n ∷ ns) [] gss h k = absurd (omega arith)
 tasks_by_number names bitmaps (n ∷ ns) (cs ∷ css) [] h k = absurd (omega arith)
 tasks_by_number names bitmaps (n ∷ ns) (cs ∷ css) (gs ∷ gss) h k =
-    ap (λ (t : List LineForm). task_lines names bitmaps n cs gs ++ t) (gathered_next (λ t. task_lines names bitmaps (slice_index_or (n ∷ ns) t []) (slice_index_or (cs ∷ css) t []) (slice_index_or (gs ∷ gss) t [])) 0 (length ns) ∙ tasks_by_number names bitmaps ns css gss (omega arith) (omega arith))
+    ap (λ (t : List Statement). task_lines names bitmaps n cs gs ++ t) (gathered_next (λ t. task_lines names bitmaps (slice_index_or (n ∷ ns) t []) (slice_index_or (cs ∷ css) t []) (slice_index_or (gs ∷ gss) t [])) 0 (length ns) ∙ tasks_by_number names bitmaps ns css gss (omega arith) (omega arith))
 
 -- the lines of a plan's task
 lines_of_one : (p : Plan) (t : ℕ) → lines_of_task p t ≡ task_lines p.slot_names p.bitmap_names (slice_index_or p.task_names t []) (task_calls p t) (task_groups p t)
 lines_of_one p t =
-    ap (λ (ls : List LineForm). TaskLine (slice_index_or p.task_names t []) ∷ ls ++ EndLine ∷ []) (lines_from_woven p (task_calls p t) (task_groups p t) 0 (task_calls p t))
+    ap (λ (ls : List Statement). TaskLine (slice_index_or p.task_names t []) ∷ ls ++ EndLine ∷ []) (lines_from_woven p (task_calls p t) (task_groups p t) 0 (task_calls p t))
 
 -- The lines of the plan's tasks.
-pub plan_tasks : (s : Setting) (above : List LineForm) → AreGoodLines s above → may_end s.form (told above).section ≡ true → flat_map (lines_of_task (plan_of s.hooks (told above))) (range_with_len 0 (length (told above).tasks)) ≡ reverse (filter is_of_tasks above)
+pub plan_tasks : (s : Setting) (above : List Statement) → AreGoodLines s above → may_end s.form (told above).section ≡ true → flat_map (lines_of_task (plan_of s.hooks (told above))) (range_with_len 0 (length (told above).tasks)) ≡ reverse (filter is_of_tasks above)
 plan_tasks s above g w =
     let names : List (List ℕ) = (told above).names in
     let bitmaps : List (List ℕ) = (told above).bitmap_names in
@@ -46,16 +46,16 @@ plan_tasks s above g w =
     sym (tasks_closed names bitmaps s above g (whole_ends s.form above w).calls (found_itself names) (found_itself bitmaps))
 
 -- the plan's lines below its screen, and all
-turned : (tasks bitmaps glyphs : List LineForm) (screen : LineForm) → screen ∷ glyphs ++ reverse bitmaps ++ reverse tasks ≡ reverse (tasks ++ (bitmaps ++ (reverse glyphs ++ screen ∷ [])))
+turned : (tasks bitmaps glyphs : List Statement) (screen : Statement) → screen ∷ glyphs ++ reverse bitmaps ++ reverse tasks ≡ reverse (tasks ++ (bitmaps ++ (reverse glyphs ++ screen ∷ [])))
 turned tasks bitmaps glyphs screen =
-    let base : reverse (reverse glyphs ++ screen ∷ []) ≡ screen ∷ glyphs = reverse-append (reverse glyphs) (screen ∷ []) ∙ ap (λ (t : List LineForm). screen ∷ t) (reverse-reverse glyphs) in
-    let assets : reverse (bitmaps ++ (reverse glyphs ++ screen ∷ [])) ≡ screen ∷ glyphs ++ reverse bitmaps = reverse-append bitmaps (reverse glyphs ++ screen ∷ []) ∙ ap (λ (t : List LineForm). t ++ reverse bitmaps) base in
-    sym (reverse-append tasks (bitmaps ++ (reverse glyphs ++ screen ∷ [])) ∙ ap (λ (t : List LineForm). t ++ reverse tasks) assets)
+    let base : reverse (reverse glyphs ++ screen ∷ []) ≡ screen ∷ glyphs = reverse-append (reverse glyphs) (screen ∷ []) ∙ ap (λ (t : List Statement). screen ∷ t) (reverse-reverse glyphs) in
+    let assets : reverse (bitmaps ++ (reverse glyphs ++ screen ∷ [])) ≡ screen ∷ glyphs ++ reverse bitmaps = reverse-append bitmaps (reverse glyphs ++ screen ∷ []) ∙ ap (λ (t : List Statement). t ++ reverse bitmaps) base in
+    sym (reverse-append tasks (bitmaps ++ (reverse glyphs ++ screen ∷ [])) ∙ ap (λ (t : List Statement). t ++ reverse tasks) assets)
 
 -- The lines of the plan of good lines are these lines in the order of the canonical text.
-pub plan_lines : (s : Setting) (above : List LineForm) → AreGoodLines s above → may_end s.form (told above).section ≡ true → lines_of_plan (plan_of s.hooks (told above)) ≡ reverse (arranged above)
+pub plan_lines : (s : Setting) (above : List Statement) → AreGoodLines s above → may_end s.form (told above).section ≡ true → lines_of_plan (plan_of s.hooks (told above)) ≡ reverse (arranged above)
 plan_lines s above g w =
-    let screen : LineForm = screen_line_of above in
+    let screen : Statement = screen_line_of above in
     let bitmaps = bitmaps_given s above g (rows_done s above g (whole_ends s.form above w).assets) in
-    ap₂ (λ (x y : List LineForm). x ++ y) (ap₂ (λ (x y : List LineForm). screen ∷ x ++ y) (plan_glyphs s.hooks above) bitmaps) (plan_tasks s above g w) ∙
+    ap₂ (λ (x y : List Statement). x ++ y) (ap₂ (λ (x y : List Statement). screen ∷ x ++ y) (plan_glyphs s.hooks above) bitmaps) (plan_tasks s above g w) ∙
     turned (filter is_of_tasks above) (filter is_of_bitmaps above) (glyphs_in_order above) screen

@@ -3,14 +3,14 @@
 use Rattle.std.proofs.Common.{◌||◌, ◌≡◌, ℕ, ◌+◌, ◌≤◌, Bool, true, false, List, [], ◌∷◌, ◌++◌, filter, reverse, pos, None, Ok}
 use Rattle.std.specs.List.{flat_map, range_with_len}
 use Rattle.lw_calls.specs.declared.form.Form.TheVariants.{Plain}
-use Rattle.lw_grammar.specs.LineForms.{LineForm, ScreenLine, BitmapLine, RowLine, TaskLine, EndLine, CallLine, LockLine, UnlockLine, HoldLine, ReleaseLine}
+use Rattle.lw_grammar.specs.LineForms.{Statement, ScreenLine, BitmapLine, RowLine, TaskLine, EndLine, CallLine, LockLine, UnlockLine, HoldLine, ReleaseLine}
 use Rattle.lw_grammar.specs.Told.{AssetsAreDue, nothing_told, told}
 use Rattle.lw_grammar.specs.Script.{Setting, is_skipped, is_nothing_due, line_read}
 use Rattle.lw_canonical.specs.Spelling.{spelled}
 use Rattle.lw_canonical.specs.Canonical.{lines_of_glyph}
 
 -- the line stands in a task, or begins or ends one
-abbrev pub is_of_tasks : LineForm → Bool
+abbrev pub is_of_tasks : Statement → Bool
 is_of_tasks (TaskLine name) = true
 is_of_tasks EndLine = true
 is_of_tasks (CallLine layers act) = true
@@ -21,24 +21,24 @@ is_of_tasks ReleaseLine = true
 is_of_tasks f = false
 
 -- the line is a bitmap or a row of one
-abbrev pub is_of_bitmaps : LineForm → Bool
+abbrev pub is_of_bitmaps : Statement → Bool
 is_of_bitmaps (BitmapLine name w h d) = true
 is_of_bitmaps (RowLine bytes) = true
 is_of_bitmaps f = false
 
 -- the glyphs with some bit set, in the order of their codes
-abbrev pub glyphs_in_order : List LineForm → List LineForm
+abbrev pub glyphs_in_order : List Statement → List Statement
 glyphs_in_order above = flat_map (λ i. lines_of_glyph (32 + i) ((told above).glyphs (32 + i))) (range_with_len 0 95)
 
 -- the screen's line
-abbrev pub screen_line_of : List LineForm → LineForm
+abbrev pub screen_line_of : List Statement → Statement
 screen_line_of above = ScreenLine (pos (told above).width) (pos (told above).height) (pos (told above).depth)
 
 -- what stands below the tasks, and all
-abbrev pub base_of : List LineForm → List LineForm
+abbrev pub base_of : List Statement → List Statement
 base_of above = filter is_of_bitmaps above ++ (reverse (glyphs_in_order above) ++ screen_line_of above ∷ [])
 
-abbrev pub arranged : List LineForm → List LineForm
+abbrev pub arranged : List Statement → List Statement
 arranged above = filter is_of_tasks above ++ base_of above
 
 -- how the canonical text is read
@@ -46,20 +46,20 @@ abbrev pub alone : Setting → Setting
 alone s = record { hooks = s.hooks; form = Plain }
 
 -- the line is no line of the script: it is skipped, or stands behind a line `report`
-abbrev pub is_passed : List LineForm → List ℕ → Bool
+abbrev pub is_passed : List Statement → List ℕ → Bool
 is_passed above line = is_skipped line || is_nothing_due (told above).section
 
 -- each line reads, in its one spelling, as its form below the others, and isn't passed
-abbrev pub AreSpelled : Setting → List LineForm → Type 0
+abbrev pub AreSpelled : Setting → List Statement → Type 0
 AreSpelled t [] = Unit {0}
 AreSpelled t (f ∷ above) = (line_read t (told above) (spelled f) ≡ Ok f) × (is_passed above (spelled f) ≡ false) × AreSpelled t above
 
 -- each good line has one spelling, in which it isn't skipped
 abbrev pub HasOneSpelling : Type 0
-HasOneSpelling = (s : Setting) (above : List LineForm) (line : List ℕ) (f : LineForm) → line_read s (told above) line ≡ Ok f → spelled f ≡ line
+HasOneSpelling = (s : Setting) (above : List Statement) (line : List ℕ) (f : Statement) → line_read s (told above) line ≡ Ok f → spelled f ≡ line
 
 -- lines that tell of screen, glyphs and bitmaps what those above tell, and of nothing else
-pub record IsBaseOf (above base : List LineForm) : Type 0 where
+pub record IsBaseOf (above base : List Statement) : Type 0 where
   pub section : (told base).section ≡ AssetsAreDue
   pub due : (told base).rows_due ≡ 0
   pub width : (told base).width ≡ (told above).width

@@ -9,7 +9,7 @@ use Rattle.lw_calls.specs.declared.operation.PairOp.{PairOp}
 use Rattle.lw_grammar.specs.Tokens.{Token, NameToken, NumberToken, TextToken, OddToken, hex_bytes, spelled_bytes, bytes_in}
 use Rattle.lw_calls.specs.Limits.{coordinates_fit, is_extent}
 use Rattle.lw_calls.specs.declared.area.Area.{Area}
-use Rattle.lw_grammar.specs.LineForms.{Act, LineForm, RowLine, NumbersLine, four, screen_line, glyph_of_bytes, glyph_line, bitmap_line, row_line, all_numbers, numbers_limit, numbers_line, name_line, bare_line, layer_line, number_line, pair_line, text_line, rect_line, region_line, clear_line, which_line, infront_line, four_line, scrollraster_line, minterm_of, put_line, blit_line, endrefresh_line, is_area_in_range, is_act_in_range, is_line_in_range}
+use Rattle.lw_grammar.specs.LineForms.{Act, Statement, RowLine, NumbersLine, four, screen_line, glyph_of_bytes, glyph_line, bitmap_line, row_line, all_numbers, numbers_limit, numbers_line, name_line, bare_line, layer_line, number_line, pair_line, text_line, rect_line, region_line, clear_line, which_line, infront_line, four_line, scrollraster_line, minterm_of, put_line, blit_line, endrefresh_line, is_area_in_range, is_act_in_range, is_line_in_range}
 use Rattle.lw_calls.specs.Written.{hex_byte}
 use Rattle.lw_canonical.specs.Spelling.{hex_word, text_word, four_words, rect_word, pair_word, call_words, words_of}
 use Rattle.lw_grammar.proofs.ScriptForms.{either_has, map_has}
@@ -20,11 +20,11 @@ use Rattle.lw_canonical.proofs.SpelledRanges.{IsSmall, places_small, size_small,
 use Rattle.std.proofs.lemmas.Bool.{and_parts}
 
 -- The form's words are these, where the words are good for what they are and the form is in range.
-abbrev pub HasWords : List (List ℕ) → List Token → LineForm → Type 0
+abbrev pub HasWords : List (List ℕ) → List Token → Statement → Type 0
 HasWords words ts f = AreTokens ts → is_line_in_range f ≡ true → words_of f ≡ words
 
 -- the same of the words behind a verb
-abbrev pub IsSpelt : List ℕ → List Token → LineForm → Type 0
+abbrev pub IsSpelt : List ℕ → List Token → Statement → Type 0
 IsSpelt word ts f = HasWords (word ∷ map token_word ts) ts f
 
 -- the bytes that a word spells are written so
@@ -91,12 +91,12 @@ numbers_spelt ts =
 -- The lines of each family of verbs, by the verb's word.
 module _ (word : List ℕ) where
   -- a verb with a name
-  pub name_spelt : (f : List ℕ → LineForm) → ((n : List ℕ) → words_of (f n) ≡ word ∷ n ∷ []) → (ts : List Token) → IfSome (name_line f ts) (IsSpelt word ts)
+  pub name_spelt : (f : List ℕ → Statement) → ((n : List ℕ) → words_of (f n) ≡ word ∷ n ∷ []) → (ts : List Token) → IfSome (name_line f ts) (IsSpelt word ts)
   name_spelt f h (NameToken n ∷ []) = λ t r. h n
   name_spelt f h _ = tt
 
   -- a verb alone
-  pub bare_spelt : (f : LineForm) → words_of f ≡ word ∷ [] → (ts : List Token) → IfSome (bare_line f ts) (IsSpelt word ts)
+  pub bare_spelt : (f : Statement) → words_of f ≡ word ∷ [] → (ts : List Token) → IfSome (bare_line f ts) (IsSpelt word ts)
   bare_spelt f h [] = λ t r. h
   bare_spelt f h _ = tt
 

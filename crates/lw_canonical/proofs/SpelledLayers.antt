@@ -7,7 +7,7 @@ use Rattle.lw_calls.specs.declared.make.Place.{Place}
 use Rattle.lw_calls.specs.declared.make.Place.TheVariants.{Front, Behind}
 use Rattle.lw_calls.specs.Limits.{rect_fits}
 use Rattle.lw_grammar.specs.Tokens.{is_a_name, Token, NameToken, NumberToken, TextToken, OddToken}
-use Rattle.lw_grammar.specs.LineForms.{Asked, CreateAct, OpenAct, LineForm, CallLine, four, kind_of, place_of, flag, hook_option, classes_from, asked_classes, ask_option, at_end, asked_without_bitmap, create_without_bitmap, create_super, create_kind, titled_line, open_without_bitmap, open_super, open_kind, asked_line, is_hook_number, is_box, is_line_in_range}
+use Rattle.lw_grammar.specs.LineForms.{Asked, CreateAct, OpenAct, Statement, CallLine, four, kind_of, place_of, flag, hook_option, classes_from, asked_classes, ask_option, at_end, asked_without_bitmap, create_without_bitmap, create_super, create_kind, titled_line, open_without_bitmap, open_super, open_kind, asked_line, is_hook_number, is_box, is_line_in_range}
 use Rattle.lw_canonical.specs.Spelling.{text_word, four_words, kind_word, place_word, flag_words, hook_words, set_word, ask_words, words_of}
 use Rattle.lw_grammar.proofs.ScriptNames.{equal_names}
 use Rattle.lw_canonical.proofs.SpelledNumbers.{found_if, IsSetOf, set_spelled}
@@ -82,17 +82,17 @@ ask_taken (TextToken a ∷ ts) t = (refl, t)
 ask_taken (OddToken a ∷ ts) t = (refl, t)
 
 -- what is found where no word is left
-end_has : (P : LineForm → Type 0) (f : LineForm) (ts : List Token) → (ts ≡ [] → P f) → IfSome (at_end f ts) P
+end_has : (P : Statement → Type 0) (f : Statement) (ts : List Token) → (ts ≡ [] → P f) → IfSome (at_end f ts) P
 end_has P f [] h = h refl
 end_has P f (t ∷ ts) h = tt
 
 -- what is found where the title is left
-titled_has : (P : LineForm → Type 0) (l : List ℕ) (asked : Asked) (framed nocare : Bool) (classes : ℕ) (ts : List Token) → ((title : List ℕ) → map token_word ts ≡ text_word title ∷ [] → P (CallLine (l ∷ []) (OpenAct asked framed nocare classes title))) → IfSome (titled_line l asked framed nocare classes ts) P
+titled_has : (P : Statement → Type 0) (l : List ℕ) (asked : Asked) (framed nocare : Bool) (classes : ℕ) (ts : List Token) → ((title : List ℕ) → map token_word ts ≡ text_word title ∷ [] → P (CallLine (l ∷ []) (OpenAct asked framed nocare classes title))) → IfSome (titled_line l asked framed nocare classes ts) P
 titled_has P l asked framed nocare classes (TextToken title ∷ []) h = h title refl
 titled_has P l asked framed nocare classes _ h = tt
 
 -- What stands behind four numbers: with these words, and with the four numbers in range.
-abbrev IsAskedSpelt : List ℕ → List ℕ → Place → Rectangle → Kind → List Token → LineForm → Type 0
+abbrev IsAskedSpelt : List ℕ → List ℕ → Place → Rectangle → Kind → List Token → Statement → Type 0
 IsAskedSpelt word l place numbers kind ts f = AreTokens ts → is_line_in_range f ≡ true → AreSmall numbers × (words_of f ≡ word ∷ l ∷ kind_word kind ∷ place_word place ∷ (four_words numbers ++ map token_word ts))
 
 -- the words in front of what stands behind four numbers
@@ -208,14 +208,14 @@ then_by Q P g None q h = tt
 then_by Q P g (Some a) q h = h a q
 
 -- create L KIND PLACE X0 Y0 X1 Y1 .., and open L KIND PLACE X Y W H ..
-asked_spelt : (word : List ℕ) (behind : List ℕ → Place → Rectangle → List Token → Kind → Option LineForm) → ((l : List ℕ) (place : Place) (numbers : Rectangle) (ts : List Token) (kind : Kind) → IfSome (behind l place numbers ts kind) (IsAskedSpelt word l place numbers kind ts)) → (ts : List Token) → IfSome (asked_line behind ts) (IsSpelt word ts)
+asked_spelt : (word : List ℕ) (behind : List ℕ → Place → Rectangle → List Token → Kind → Option Statement) → ((l : List ℕ) (place : Place) (numbers : Rectangle) (ts : List Token) (kind : Kind) → IfSome (behind l place numbers ts kind) (IsAskedSpelt word l place numbers kind ts)) → (ts : List Token) → IfSome (asked_line behind ts) (IsSpelt word ts)
 asked_spelt word behind made (NameToken l ∷ NameToken k ∷ NameToken p ∷ NumberToken a x ∷ NumberToken b y ∷ NumberToken c z ∷ NumberToken d w ∷ ts) =
     then_by (λ place. p ≡ place_word place) P _ (place_of p) (place_spelt p) (λ place e. then_by (λ kind. k ≡ kind_word kind) P _ (kind_of k) (kind_spelt k) (λ kind f. at_form place kind e f (behind l place (four x y z w) ts kind) (made l place (four x y z w) ts kind)))
   where
-    P : LineForm → Type 0
+    P : Statement → Type 0
     P = IsSpelt word (NameToken l ∷ NameToken k ∷ NameToken p ∷ NumberToken a x ∷ NumberToken b y ∷ NumberToken c z ∷ NumberToken d w ∷ ts)
 
-    at_form : (place : Place) (kind : Kind) → p ≡ place_word place → k ≡ kind_word kind → (o : Option LineForm) → IfSome o (IsAskedSpelt word l place (four x y z w) kind ts) → IfSome o P
+    at_form : (place : Place) (kind : Kind) → p ≡ place_word place → k ≡ kind_word kind → (o : Option Statement) → IfSome o (IsAskedSpelt word l place (four x y z w) kind ts) → IfSome o P
     at_form place kind e f None h = tt
     at_form place kind e f (Some g) h = λ t r.
         let got = h t.1.1.1.1.1.1.1 r in

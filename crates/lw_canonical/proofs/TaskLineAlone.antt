@@ -4,7 +4,7 @@ use Rattle.std.specs.List.{list_any}
 use Rattle.lw_calls.specs.declared.operation.RectOp.TheVariants.{Or as OrR, And as AndR, Xor as XorR, Clear as ClearR}
 use Rattle.lw_calls.specs.declared.operation.PairOp.TheVariants.{Or as OrP, And as AndP, Xor as XorP}
 use Rattle.lw_calls.specs.Limits.{name_limit, call_limit, task_limit, bitmap_limit}
-use Rattle.lw_grammar.specs.LineForms.{Act, RegRectAct, RegPairAct, LineForm, GlyphLine, BitmapLine, RowLine, TaskLine, NumbersLine, CallLine}
+use Rattle.lw_grammar.specs.LineForms.{Act, RegRectAct, RegPairAct, Statement, GlyphLine, BitmapLine, RowLine, TaskLine, NumbersLine, CallLine}
 use Rattle.lw_grammar.specs.Told.{Section, ScreenIsDue, AssetsAreDue, CallsAreDue, TasksAreDue, NumbersAreDue, NothingIsDue, Opened, hook_on, told}
 use Rattle.lw_grammar.specs.Script.{Setting, is_skipped, are_assets_due, are_calls_due, are_tasks_due, are_numbers_due, is_nothing_due, lacks_name, gives_again, fits_group, super_limit, are_few, is_used, has_padding, form_read, line_read}
 use Rattle.lw_canonical.specs.Spelling.{joined, call_words, words_of, spelled}
@@ -38,13 +38,13 @@ call_kept layers (RegPairAct XorP s r) = refl
 call_kept layers act = refl
 
 -- neither is another line of tasks
-task_kept : (f : LineForm) → is_of_tasks f ≡ true → is_skipped (first_word (words_of f)) ≡ false
+task_kept : (f : Statement) → is_of_tasks f ≡ true → is_skipped (first_word (words_of f)) ≡ false
 task_kept (RowLine bytes) t = absurd (false≢true t)
 task_kept (NumbersLine zs) t = absurd (false≢true t)
 task_kept (CallLine layers act) t = call_kept layers act
 task_kept f t = refl
 
-pub task_not_skipped : (f : LineForm) → is_of_tasks f ≡ true → is_skipped (spelled f) ≡ false
+pub task_not_skipped : (f : Statement) → is_of_tasks f ≡ true → is_skipped (spelled f) ≡ false
 task_not_skipped f t = first_kept (words_of f) (task_kept f t)
 
 -- where glyphs, bitmaps and the first task are due, or calls
@@ -67,7 +67,7 @@ inner NumbersAreDue e = absurd (false≢true e)
 inner NothingIsDue e = absurd (false≢true e)
 
 -- Below lines that tell the same, words have the same form in a script alone.
-form_alone : (s : Setting) (above new : List LineForm) (ws : List (List ℕ)) → ((told above).rows_due == 0) ≡ true → is_inner (told above).section ≡ true → AreAlike above new → form_read s.form (told above).section (told above).rows_due (told above).row_width ws ≡ form_read (alone s).form (told new).section (told new).rows_due (told new).row_width ws
+form_alone : (s : Setting) (above new : List Statement) (ws : List (List ℕ)) → ((told above).rows_due == 0) ≡ true → is_inner (told above).section ≡ true → AreAlike above new → form_read s.form (told above).section (told above).rows_due (told above).row_width ws ≡ form_read (alone s).form (told new).section (told new).rows_due (told new).row_width ws
 form_alone s above new ws e c a =
     let i = inner (told above).section c in
     verb_forms s (alone s) above new (told above).section e (ap (λ n. n == 0) a.due) refl (a.section ∙ i.same) i.tasks ws
@@ -77,7 +77,7 @@ abbrev few_by : List (List ℕ) → List (List ℕ) → List (List ℕ) → ℕ 
 few_by tasks bitmaps names supers calls =
     ((nat_le (length tasks) task_limit && nat_le (length bitmaps) bitmap_limit) && nat_le (length names) name_limit) && (nat_le supers super_limit && nat_le calls call_limit)
 
-same_few : (above new : List LineForm) → AreAlike above new → are_few (told new) ≡ are_few (told above)
+same_few : (above new : List Statement) → AreAlike above new → are_few (told new) ≡ are_few (told above)
 same_few above new a =
     ap (λ ts. few_by ts (told new).bitmap_names (told new).names (told new).supers (told new).so_far) a.tasks
     ∙ (ap (λ bs. few_by (told above).tasks bs (told new).names (told new).supers (told new).so_far) a.bitmap_names
@@ -86,25 +86,25 @@ same_few above new a =
     ∙ ap (λ n. few_by (told above).tasks (told above).bitmap_names (told above).names (told above).supers n) a.so_far)))
 
 -- a task's name is new below such lines if it was
-same_again : (above new : List LineForm) (f : LineForm) → is_of_tasks f ≡ true → AreAlike above new → gives_again (told new) f ≡ gives_again (told above) f
+same_again : (above new : List Statement) (f : Statement) → is_of_tasks f ≡ true → AreAlike above new → gives_again (told new) f ≡ gives_again (told above) f
 same_again above new (GlyphLine code rows) t a = absurd (false≢true t)
 same_again above new (BitmapLine name w h d) t a = absurd (false≢true t)
 same_again above new (TaskLine name) t a = ap (list_any (bytes_eq name)) a.tasks
 same_again above new f t a = refl
 
 -- no line of tasks is padded
-not_padded : (width : ℕ) (f : LineForm) → is_of_tasks f ≡ true → has_padding width f ≡ false
+not_padded : (width : ℕ) (f : Statement) → is_of_tasks f ≡ true → has_padding width f ≡ false
 not_padded width (RowLine bytes) t = absurd (false≢true t)
 not_padded width f t = refl
 
 -- a line fits the open group below such lines if it did
-same_fit : (above new : List LineForm) (f : LineForm) → AreAlike above new → fits_group (told new).group (nat_lt (told new).began (told new).so_far) f ≡ fits_group (told above).group (nat_lt (told above).began (told above).so_far) f
+same_fit : (above new : List Statement) (f : Statement) → AreAlike above new → fits_group (told new).group (nat_lt (told new).began (told new).so_far) f ≡ fits_group (told above).group (nat_lt (told above).began (told above).so_far) f
 same_fit above new f a =
     ap (λ (g : Option Opened). fits_group g (nat_lt (told new).began (told new).so_far) f) a.group
     ∙ (ap (λ n. fits_group (told above).group (nat_lt n (told new).so_far) f) a.began ∙ ap (λ n. fits_group (told above).group (nat_lt (told above).began n) f) a.so_far)
 
 -- Below lines that tell the same, a form of tasks meets the same tests.
-tests_alone : (s : Setting) (above new : List LineForm) (f : LineForm) → is_of_tasks f ≡ true → AreAlike above new → IsFormTested s above f → IsFormTested (alone s) new f
+tests_alone : (s : Setting) (above new : List Statement) (f : Statement) → is_of_tasks f ≡ true → AreAlike above new → IsFormTested s above f → IsFormTested (alone s) new f
 tests_alone s above new f o a t =
     record {
       range = t.range;
@@ -119,6 +119,6 @@ tests_alone s above new f o a t =
     }
 
 -- Below lines that tell the same, a line of tasks is read as the same form in a script alone.
-pub read_alone : (s : Setting) (above new : List LineForm) (f : LineForm) (line : List ℕ) → is_of_tasks f ≡ true → ((told above).rows_due == 0) ≡ true → is_inner (told above).section ≡ true → AreAlike above new → IsFormTested s above f → line_read s (told above) line ≡ Ok f → line_read (alone s) (told new) line ≡ Ok f
+pub read_alone : (s : Setting) (above new : List Statement) (f : Statement) (line : List ℕ) → is_of_tasks f ≡ true → ((told above).rows_due == 0) ≡ true → is_inner (told above).section ≡ true → AreAlike above new → IsFormTested s above f → line_read s (told above) line ≡ Ok f → line_read (alone s) (told new) line ≡ Ok f
 read_alone s above new f line o e c a t read =
     read_again s (alone s) above new line f (λ ws. form_alone s above new ws e c a) (tests_pass (alone s) new f (tests_alone s above new f o a t)) read

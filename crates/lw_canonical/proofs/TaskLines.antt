@@ -5,7 +5,7 @@ use Rattle.lw_calls.specs.declared.sizes.Sizes.{Sizes}
 use Rattle.lw_calls.specs.declared.call.Call.{Call}
 use Rattle.lw_calls.specs.declared.group.Hold.TheVariants.{Slot, All as AllLayers}
 use Rattle.lw_calls.specs.declared.group.Group.{Group}
-use Rattle.lw_grammar.specs.LineForms.{Act, PutAct, RefreshAct, EndRefreshAct, LineForm, ScreenLine, GlyphLine, BitmapLine, RowLine, TaskLine, EndLine, OrderLine, NumbersLine, ReportLine, CallLine, LockLine, UnlockLine, HoldLine, ReleaseLine}
+use Rattle.lw_grammar.specs.LineForms.{Act, PutAct, RefreshAct, EndRefreshAct, Statement, ScreenLine, GlyphLine, BitmapLine, RowLine, TaskLine, EndLine, OrderLine, NumbersLine, ReportLine, CallLine, LockLine, UnlockLine, HoldLine, ReleaseLine}
 use Rattle.lw_grammar.specs.Told.{Section, ScreenIsDue, AssetsAreDue, CallsAreDue, TasksAreDue, NumbersAreDue, NothingIsDue, Opened, Locked, Updating, Held, and_names, place_among, onto_last, call_below, group_from, told, plan_of}
 use Rattle.lw_grammar.specs.Script.{Setting, is_screen_due, are_assets_due, are_calls_due, are_tasks_due, are_numbers_due, lacks_name, is_beginning, is_ending, is_lock_on, is_hold, AreGoodLines}
 use Rattle.lw_canonical.specs.Canonical.{line_of_call, are_updating, is_update, opening_lines, closing_lines}
@@ -101,7 +101,7 @@ now_task : (z : Sizes) (v : View) (calls : List Call) (groups : List Group) → 
 now_task z v calls groups h = record { long = h.long; inside = groups_inside calls groups h.fits.grouped; state = h.state }
 
 -- the nearest task of good lines, and that no group is open but in a task
-nearest_task : (s : Setting) (above : List LineForm) → AreGoodLines s above → (told above).section ≡ CallsAreDue → (done : List (List Call)) (done_groups : List (List Group)) (calls : List Call) (groups : List Group) → (told above).calls ≡ done ++ calls ∷ [] → (told above).groups ≡ done_groups ++ groups ∷ [] → IsTask (view_of above) calls groups
+nearest_task : (s : Setting) (above : List Statement) → AreGoodLines s above → (told above).section ≡ CallsAreDue → (done : List (List Call)) (done_groups : List (List Group)) (calls : List Call) (groups : List Group) → (told above).calls ≡ done ++ calls ∷ [] → (told above).groups ≡ done_groups ++ groups ∷ [] → IsTask (view_of above) calls groups
 nearest_task s above g e done done_groups calls groups a b =
     let z : Sizes = (plan_of s.hooks (told above)).sizes in
     let P : Section → Type 0 = λ c. AreTasks z c (view_of above) in
@@ -111,7 +111,7 @@ nearest_task s above g e done done_groups calls groups a b =
     let R : List Group → Type 0 = λ gs. IsTask (view_of above) begun.calls gs in
     subst Q (last_same (told above).calls begun.done done begun.calls calls begun.all_are a) (subst R (last_same (told above).groups begun.done_groups done_groups begun.groups groups begun.groups_are b) (now_task z (view_of above) begun.calls begun.groups begun.now))
 
-none_between : (s : Setting) (above : List LineForm) → AreGoodLines s above → are_calls_due (told above).section ≡ false → (told above).group ≡ None
+none_between : (s : Setting) (above : List Statement) → AreGoodLines s above → are_calls_due (told above).section ≡ false → (told above).group ≡ None
 none_between s above g e = (tasks_fit (plan_of s.hooks (told above)).sizes s above g refl (omega arith) (omega arith)).closed e
 
 -- nothing was opened before a call behind the next one
@@ -130,10 +130,10 @@ update_before l began m = none_before [] [] began m
 -- The lines of tasks, where the layers have these names by slot and the bitmaps these by number.
 module _ (names bitmaps : List (List ℕ)) where
   -- the lines of one task, and of tasks with these names, calls and groups
-  abbrev pub task_lines : List ℕ → List Call → List Group → List LineForm
+  abbrev pub task_lines : List ℕ → List Call → List Group → List Statement
   task_lines name calls groups = TaskLine name ∷ closed_lines names bitmaps calls groups ++ EndLine ∷ []
 
-  abbrev pub all_task_lines : List (List ℕ) → List (List Call) → List (List Group) → List LineForm
+  abbrev pub all_task_lines : List (List ℕ) → List (List Call) → List (List Group) → List Statement
   all_task_lines [] css gss = []
   all_task_lines (n ∷ ns) [] gss = []
   all_task_lines (n ∷ ns) (cs ∷ css) [] = []
@@ -147,18 +147,18 @@ module _ (names bitmaps : List (List ℕ)) where
   tasks_pushed (m ∷ ns) [] gss n cs gs h k = absurd (omega arith)
   tasks_pushed (m ∷ ns) (c ∷ css) [] n cs gs h k = absurd (omega arith)
   tasks_pushed (m ∷ ns) (c ∷ css) (g ∷ gss) n cs gs h k =
-      ap (λ (t : List LineForm). task_lines m c g ++ t) (tasks_pushed ns css gss n cs gs (omega arith) (omega arith)) ∙ sym (append_assoc (task_lines m c g) (all_task_lines ns css gss) (task_lines n cs gs))
+      ap (λ (t : List Statement). task_lines m c g ++ t) (tasks_pushed ns css gss n cs gs (omega arith) (omega arith)) ∙ sym (append_assoc (task_lines m c g) (all_task_lines ns css gss) (task_lines n cs gs))
 
   -- the lines of tasks above, the first one first
-  abbrev pub told_above : List LineForm → List LineForm
+  abbrev pub told_above : List Statement → List Statement
   told_above above = reverse (filter is_of_tasks above)
 
   -- Where no task is under way, the lines are those of all tasks; and in a task those of the tasks before it and its own so
   -- far.
-  abbrev pub AreClosed : List LineForm → Type 0
+  abbrev pub AreClosed : List Statement → Type 0
   AreClosed above = told_above above ≡ all_task_lines (told above).tasks (told above).calls (told above).groups
 
-  pub record AreTold (above : List LineForm) : Type 0 where
+  pub record AreTold (above : List Statement) : Type 0 where
     pub done_names : List (List ℕ)
     pub done : List (List Call)
     pub done_groups : List (List Group)
@@ -170,21 +170,21 @@ module _ (names bitmaps : List (List ℕ)) where
     pub groups_are : (told above).groups ≡ done_groups ++ groups ∷ []
     pub written : told_above above ≡ all_task_lines done_names done done_groups ++ TaskLine name ∷ lines_so_far names bitmaps (told above).group (told above).began calls groups
 
-  abbrev pub ToldOrClosed : Bool → List LineForm → Type 0
+  abbrev pub ToldOrClosed : Bool → List Statement → Type 0
   ToldOrClosed true above = AreTold above
   ToldOrClosed false above = AreClosed above
 
   -- either of the two, by the test
-  told_closed : (b : Bool) (above : List LineForm) → b ≡ false → ToldOrClosed b above → AreClosed above
+  told_closed : (b : Bool) (above : List Statement) → b ≡ false → ToldOrClosed b above → AreClosed above
   told_closed true above e h = absurd (true≢false e)
   told_closed false above e h = h
 
-  closed_told : (b : Bool) (above : List LineForm) → b ≡ false → AreClosed above → ToldOrClosed b above
+  closed_told : (b : Bool) (above : List Statement) → b ≡ false → AreClosed above → ToldOrClosed b above
   closed_told true above e h = absurd (true≢false e)
   closed_told false above e h = h
 
   -- a task begins
-  task_told : (s : Setting) (above : List LineForm) (name : List ℕ) → AreGoodLines s above → are_calls_due (told above).section ≡ false → AreClosed above → AreTold (TaskLine name ∷ above)
+  task_told : (s : Setting) (above : List Statement) (name : List ℕ) → AreGoodLines s above → are_calls_due (told above).section ≡ false → AreClosed above → AreTold (TaskLine name ∷ above)
   task_told s above name g e h =
       let P : Option Opened → Type 0 = λ o. told_above (TaskLine name ∷ above) ≡ all_task_lines (told above).tasks (told above).calls (told above).groups ++ TaskLine name ∷ lines_so_far names bitmaps o (told above).began [] [] in
       let alone : lines_so_far names bitmaps None (told above).began [] [] ≡ [] = none_before names bitmaps (told above).began 0 in
@@ -199,14 +199,14 @@ module _ (names bitmaps : List (List ℕ)) where
         names_are = refl;
         all_are = refl;
         groups_are = refl;
-        written = subst P (sym (none_between s above g e)) (line ∙ ap₂ (λ (x y : List LineForm). x ++ TaskLine name ∷ y) h (sym alone));
+        written = subst P (sym (none_between s above g e)) (line ∙ ap₂ (λ (x y : List Statement). x ++ TaskLine name ∷ y) h (sym alone));
       }
 
   -- a line inside a task
-  line_told : (above : List LineForm) (f : LineForm) (r : AreTold above) (calls : List Call) (groups : List Group) → (told (f ∷ above)).tasks ≡ (told above).tasks → (told (f ∷ above)).calls ≡ r.done ++ calls ∷ [] → (told (f ∷ above)).groups ≡ r.done_groups ++ groups ∷ [] → is_of_tasks f ≡ true → lines_so_far names bitmaps (told (f ∷ above)).group (told (f ∷ above)).began calls groups ≡ lines_so_far names bitmaps (told above).group (told above).began r.calls r.groups ++ f ∷ [] → AreTold (f ∷ above)
+  line_told : (above : List Statement) (f : Statement) (r : AreTold above) (calls : List Call) (groups : List Group) → (told (f ∷ above)).tasks ≡ (told above).tasks → (told (f ∷ above)).calls ≡ r.done ++ calls ∷ [] → (told (f ∷ above)).groups ≡ r.done_groups ++ groups ∷ [] → is_of_tasks f ≡ true → lines_so_far names bitmaps (told (f ∷ above)).group (told (f ∷ above)).began calls groups ≡ lines_so_far names bitmaps (told above).group (told above).began r.calls r.groups ++ f ∷ [] → AreTold (f ∷ above)
   line_told above f r calls groups tasks all grouped e more =
-      let before : List LineForm = all_task_lines r.done_names r.done r.done_groups in
-      let old : List LineForm = lines_so_far names bitmaps (told above).group (told above).began r.calls r.groups in
+      let before : List Statement = all_task_lines r.done_names r.done r.done_groups in
+      let old : List Statement = lines_so_far names bitmaps (told above).group (told above).began r.calls r.groups in
       let here : filter is_of_tasks (f ∷ above) ≡ f ∷ filter is_of_tasks above = ap (λ t. cond t (f ∷ filter is_of_tasks above) (filter is_of_tasks above)) e in
       let line : told_above (f ∷ above) ≡ told_above above ++ f ∷ [] = ap reverse here ∙ reverse-append (f ∷ []) (filter is_of_tasks above) in
       record {
@@ -219,15 +219,15 @@ module _ (names bitmaps : List (List ℕ)) where
         names_are = tasks ∙ r.names_are;
         all_are = all;
         groups_are = grouped;
-        written = line ∙ ap (λ (t : List LineForm). t ++ f ∷ []) r.written ∙ append_assoc before (TaskLine r.name ∷ old) (f ∷ []) ∙ ap (λ (t : List LineForm). before ++ TaskLine r.name ∷ t) (sym more);
+        written = line ∙ ap (λ (t : List Statement). t ++ f ∷ []) r.written ∙ append_assoc before (TaskLine r.name ∷ old) (f ∷ []) ∙ ap (λ (t : List Statement). before ++ TaskLine r.name ∷ t) (sym more);
       }
 
   -- a task ends
-  end_told : (s : Setting) (above : List LineForm) → AreGoodLines s (EndLine ∷ above) → AreTold above → AreClosed (EndLine ∷ above)
+  end_told : (s : Setting) (above : List Statement) → AreGoodLines s (EndLine ∷ above) → AreTold above → AreClosed (EndLine ∷ above)
   end_told s above g r =
       let none : (told above).group ≡ None = none_open (told above).group (tests s above EndLine g).group in
-      let before : List LineForm = all_task_lines r.done_names r.done r.done_groups in
-      let own : List LineForm = closed_lines names bitmaps r.calls r.groups in
+      let before : List Statement = all_task_lines r.done_names r.done r.done_groups in
+      let own : List Statement = closed_lines names bitmaps r.calls r.groups in
       let closed : lines_so_far names bitmaps (told above).group (told above).began r.calls r.groups ≡ own = ap (λ (o : Option Opened). lines_so_far names bitmaps o (told above).began r.calls r.groups) none ∙ lines_closed names bitmaps (told above).began r.calls r.groups in
       let line : told_above (EndLine ∷ above) ≡ told_above above ++ EndLine ∷ [] = reverse-append (EndLine ∷ []) (filter is_of_tasks above) in
       let lists : length (r.done ++ r.calls ∷ []) ≡ length (r.done_names ++ r.name ∷ []) = ap length (sym r.all_are) ∙ calls_listed above ∙ ap length r.names_are in
@@ -235,10 +235,10 @@ module _ (names bitmaps : List (List ℕ)) where
       let names_more = length-append r.done_names (r.name ∷ []) in
       let pushed = tasks_pushed r.done_names r.done r.done_groups r.name r.calls r.groups (omega (arith, lists, names_more, length-append r.done (r.calls ∷ []))) (omega (arith, grouped, names_more, length-append r.done_groups (r.groups ∷ []))) in
       let all : all_task_lines (told above).tasks (told above).calls (told above).groups ≡ before ++ task_lines r.name r.calls r.groups = ap (λ (t : List (List ℕ)). all_task_lines t (told above).calls (told above).groups) r.names_are ∙ ap₂ (λ (x : List (List Call)) (y : List (List Group)). all_task_lines (r.done_names ++ r.name ∷ []) x y) r.all_are r.groups_are ∙ pushed in
-      line ∙ ap (λ (t : List LineForm). t ++ EndLine ∷ []) (r.written ∙ ap (λ (t : List LineForm). before ++ TaskLine r.name ∷ t) closed) ∙ append_assoc before (TaskLine r.name ∷ own) (EndLine ∷ []) ∙ sym all
+      line ∙ ap (λ (t : List Statement). t ++ EndLine ∷ []) (r.written ∙ ap (λ (t : List Statement). before ++ TaskLine r.name ∷ t) closed) ∙ append_assoc before (TaskLine r.name ∷ own) (EndLine ∷ []) ∙ sym all
 
   -- the line of a good line's call
-  call_back : (s : Setting) (above : List LineForm) (layers : List (List ℕ)) (act : Act) → AreGoodLines s (CallLine layers act ∷ above) → IsFoundIn names (and_names (told above).names layers) → IsFoundIn bitmaps (told above).bitmap_names → line_of_call names bitmaps (call_below (told above) layers act) ≡ CallLine layers act
+  call_back : (s : Setting) (above : List Statement) (layers : List (List ℕ)) (act : Act) → AreGoodLines s (CallLine layers act ∷ above) → IsFoundIn names (and_names (told above).names layers) → IsFoundIn bitmaps (told above).bitmap_names → line_of_call names bitmaps (call_below (told above) layers act) ≡ CallLine layers act
   call_back s above layers act g found stored =
       let h = here s above (CallLine layers act) g in
       let t = tests s above (CallLine layers act) g in
@@ -246,7 +246,7 @@ module _ (names bitmaps : List (List ℕ)) where
       line_back names bitmaps (told above).bitmap_names layers act h.3 t.range (bitmap_back bitmaps (told above).bitmap_names layers act stored t.named) (map (place_among more) layers) (layers_back names more layers found (all_named (told above).names layers))
 
   -- A line of a task under way.
-  module _ (s : Setting) (above : List LineForm) (good : AreGoodLines s above) (due : (told above).section ≡ CallsAreDue) (r : AreTold above) where
+  module _ (s : Setting) (above : List Statement) (good : AreGoodLines s above) (due : (told above).section ≡ CallsAreDue) (r : AreTold above) where
     -- what is known of the task
     abbrev known : IsTask (view_of above) r.calls r.groups
     known = nearest_task s above good due r.done r.done_groups r.calls r.groups r.all_are r.groups_are
@@ -273,33 +273,33 @@ module _ (names bitmaps : List (List ℕ)) where
     -- an update begins, and ends
     refresh_told : (l : List ℕ) → (told above).group ≡ None → line_of_call names bitmaps (call_below (told above) (l ∷ []) RefreshAct) ≡ CallLine (l ∷ []) RefreshAct → AreTold (CallLine (l ∷ []) RefreshAct ∷ above)
     refresh_told l none line =
-        let f : LineForm = CallLine (l ∷ []) RefreshAct in
+        let f : Statement = CallLine (l ∷ []) RefreshAct in
         let c : Call = call_below (told above) (l ∷ []) RefreshAct in
         let so_far : ℕ = (told above).so_far in
         let more = call_line names bitmaps None (Some (Updating l)) (told above).began so_far r.calls r.groups c f known.inside line (λ m low. update_before l so_far m ∙ sym (none_before names bitmaps (told above).began m)) (update_before l so_far (length r.calls + 1)) in
-        line_told above f r (r.calls ++ c ∷ []) r.groups refl (ap (onto_last c) r.all_are ∙ onto_pushed c r.done r.calls) r.groups_are refl (more ∙ ap (λ (t : List LineForm). t ++ f ∷ []) (lines_at None none))
+        line_told above f r (r.calls ++ c ∷ []) r.groups refl (ap (onto_last c) r.all_are ∙ onto_pushed c r.done r.calls) r.groups_are refl (more ∙ ap (λ (t : List Statement). t ++ f ∷ []) (lines_at None none))
 
     endrefresh_told : (l : List ℕ) (full : Bool) → (told above).group ≡ Some (Updating l) → line_of_call names bitmaps (call_below (told above) (l ∷ []) (EndRefreshAct full)) ≡ CallLine (l ∷ []) (EndRefreshAct full) → AreTold (CallLine (l ∷ []) (EndRefreshAct full) ∷ above)
     endrefresh_told l full same line =
-        let f : LineForm = CallLine (l ∷ []) (EndRefreshAct full) in
+        let f : Statement = CallLine (l ∷ []) (EndRefreshAct full) in
         let c : Call = call_below (told above) (l ∷ []) (EndRefreshAct full) in
         let slot : ℕ = place_among (told above).names l in
         let group : Group = group_from (told above) (Slot slot) ((told above).so_far + 1) in
         let state : OpenState (Some (Updating l)) (told above).so_far (told above).began (told above).names r.calls r.groups = state_at (Some (Updating l)) same in
         let begins : is_update (r.calls ++ c ∷ []) group ≡ true = ap are_updating (drop_pushed r.calls c (told above).began (omega (arith, state.0.order, known.long))) ∙ update_begins slot (drop (told above).began r.calls) c state.2 in
         let more = update_line names bitmaps l slot r.calls r.groups group c f known.inside refl begins line in
-        line_told above f r (r.calls ++ c ∷ []) (r.groups ++ group ∷ []) refl (ap (onto_last c) r.all_are ∙ onto_pushed c r.done r.calls) (ap (onto_last group) r.groups_are ∙ onto_pushed group r.done_groups r.groups) refl (more ∙ ap (λ (t : List LineForm). t ++ f ∷ []) (lines_at (Some (Updating l)) same))
+        line_told above f r (r.calls ++ c ∷ []) (r.groups ++ group ∷ []) refl (ap (onto_last c) r.all_are ∙ onto_pushed c r.done r.calls) (ap (onto_last group) r.groups_are ∙ onto_pushed group r.done_groups r.groups) refl (more ∙ ap (λ (t : List Statement). t ++ f ∷ []) (lines_at (Some (Updating l)) same))
 
     -- a lock or a hold begins
     lock_told : (name : List ℕ) → (told above).group ≡ None → AreTold (LockLine name ∷ above)
     lock_told name none =
         let begun = group_begun names bitmaps (Locked name) (told above).began r.calls r.groups in
-        line_told above (LockLine name) r r.calls r.groups refl r.all_are r.groups_are refl (ap (λ n. lines_so_far names bitmaps (Some (Locked name)) n r.calls r.groups) (sym known.long) ∙ begun ∙ ap (λ (t : List LineForm). t ++ LockLine name ∷ []) (lines_at None none))
+        line_told above (LockLine name) r r.calls r.groups refl r.all_are r.groups_are refl (ap (λ n. lines_so_far names bitmaps (Some (Locked name)) n r.calls r.groups) (sym known.long) ∙ begun ∙ ap (λ (t : List Statement). t ++ LockLine name ∷ []) (lines_at None none))
 
     hold_told : (told above).group ≡ None → AreTold (HoldLine ∷ above)
     hold_told none =
         let begun = group_begun names bitmaps Held (told above).began r.calls r.groups in
-        line_told above HoldLine r r.calls r.groups refl r.all_are r.groups_are refl (ap (λ n. lines_so_far names bitmaps (Some Held) n r.calls r.groups) (sym known.long) ∙ begun ∙ ap (λ (t : List LineForm). t ++ HoldLine ∷ []) (lines_at None none))
+        line_told above HoldLine r r.calls r.groups refl r.all_are r.groups_are refl (ap (λ n. lines_so_far names bitmaps (Some Held) n r.calls r.groups) (sym known.long) ∙ begun ∙ ap (λ (t : List Statement). t ++ HoldLine ∷ []) (lines_at None none))
 
     -- a lock or a hold ends
     unlock_told : (name : List ℕ) → (told above).group ≡ Some (Locked name) → (told above).began < (told above).so_far → IsFoundIn names (told above).names → AreTold (UnlockLine name ∷ above)
@@ -312,16 +312,16 @@ module _ (names bitmaps : List (List ℕ)) where
         let opening : opening_lines names (Slot slot) (is_update r.calls group) ≡ LockLine name ∷ [] = ap (λ t. opening_lines names (Slot slot) t) none ∙ ap (λ (n : List ℕ). LockLine n ∷ []) back in
         let closing : closing_lines names (Slot slot) (is_update r.calls group) ≡ UnlockLine name ∷ [] = ap (λ t. closing_lines names (Slot slot) t) none ∙ ap (λ (n : List ℕ). UnlockLine n ∷ []) back in
         let ended = group_ended names bitmaps (Some (Locked name)) r.calls r.groups group (UnlockLine name ∷ []) (omega (arith, some, known.long)) (omega (arith, some, known.long)) opening closing in
-        line_told above (UnlockLine name) r r.calls (r.groups ++ group ∷ []) refl r.all_are (ap (onto_last group) r.groups_are ∙ onto_pushed group r.done_groups r.groups) refl (ended ∙ ap (λ (t : List LineForm). t ++ UnlockLine name ∷ []) (lines_at (Some (Locked name)) same))
+        line_told above (UnlockLine name) r r.calls (r.groups ++ group ∷ []) refl r.all_are (ap (onto_last group) r.groups_are ∙ onto_pushed group r.done_groups r.groups) refl (ended ∙ ap (λ (t : List Statement). t ++ UnlockLine name ∷ []) (lines_at (Some (Locked name)) same))
 
     release_told : (told above).group ≡ Some Held → (told above).began < (told above).so_far → AreTold (ReleaseLine ∷ above)
     release_told same some =
         let group : Group = group_from (told above) AllLayers (told above).so_far in
         let ended = group_ended names bitmaps (Some Held) r.calls r.groups group (ReleaseLine ∷ []) (omega (arith, some, known.long)) (omega (arith, some, known.long)) refl refl in
-        line_told above ReleaseLine r r.calls (r.groups ++ group ∷ []) refl r.all_are (ap (onto_last group) r.groups_are ∙ onto_pushed group r.done_groups r.groups) refl (ended ∙ ap (λ (t : List LineForm). t ++ ReleaseLine ∷ []) (lines_at (Some Held) same))
+        line_told above ReleaseLine r r.calls (r.groups ++ group ∷ []) refl r.all_are (ap (onto_last group) r.groups_are ∙ onto_pushed group r.done_groups r.groups) refl (ended ∙ ap (λ (t : List Statement). t ++ ReleaseLine ∷ []) (lines_at (Some Held) same))
 
   -- any call
-  call_told : (s : Setting) (above : List LineForm) (layers : List (List ℕ)) (act : Act) → AreGoodLines s (CallLine layers act ∷ above) → (told above).section ≡ CallsAreDue → IsFoundIn names (and_names (told above).names layers) → IsFoundIn bitmaps (told above).bitmap_names → AreTold above → AreTold (CallLine layers act ∷ above)
+  call_told : (s : Setting) (above : List Statement) (layers : List (List ℕ)) (act : Act) → AreGoodLines s (CallLine layers act ∷ above) → (told above).section ≡ CallsAreDue → IsFoundIn names (and_names (told above).names layers) → IsFoundIn bitmaps (told above).bitmap_names → AreTold above → AreTold (CallLine layers act ∷ above)
   call_told s above [] RefreshAct g due found stored r = absurd (cc ((here s above (CallLine [] RefreshAct) g).3.0))
   call_told s above (l ∷ []) RefreshAct g due found stored r =
       refresh_told s above g.1 due r l (opens_none (told above).group l (tests s above (CallLine (l ∷ []) RefreshAct) g).group) (call_back s above (l ∷ []) RefreshAct g found stored)
@@ -333,7 +333,7 @@ module _ (names bitmaps : List (List ℕ)) where
   call_told s above layers act g due found stored r = plain_told s above g.1 due r layers act refl refl (call_back s above layers act g found stored)
 
   -- a line inside a task, where it stands
-  inside_told : (c : Section) (above : List LineForm) (f : LineForm) → c ≡ CallsAreDue → (AreTold above → AreTold (f ∷ above)) → ToldOrClosed (are_calls_due c) above → ToldOrClosed (are_calls_due c) (f ∷ above)
+  inside_told : (c : Section) (above : List Statement) (f : Statement) → c ≡ CallsAreDue → (AreTold above → AreTold (f ∷ above)) → ToldOrClosed (are_calls_due c) above → ToldOrClosed (are_calls_due c) (f ∷ above)
   inside_told c above f e go h =
       let P : Section → Type 0 = λ k. ToldOrClosed (are_calls_due k) above in
       let Q : Section → Type 0 = λ k. ToldOrClosed (are_calls_due k) (f ∷ above) in
@@ -341,7 +341,7 @@ module _ (names bitmaps : List (List ℕ)) where
       subst Q (sym e) (go before)
 
   -- Good lines tell their tasks.
-  pub tasks_told : (s : Setting) (above : List LineForm) → AreGoodLines s above → IsFoundIn names (told above).names → IsFoundIn bitmaps (told above).bitmap_names → ToldOrClosed (are_calls_due (told above).section) above
+  pub tasks_told : (s : Setting) (above : List Statement) → AreGoodLines s above → IsFoundIn names (told above).names → IsFoundIn bitmaps (told above).bitmap_names → ToldOrClosed (are_calls_due (told above).section) above
   tasks_told s [] g found stored = refl
   tasks_told s (ScreenLine w h d ∷ above) g found stored =
       told_closed (are_calls_due (told above).section) above (no_calls_in_screen (told above).section (here s above (ScreenLine w h d) g).1) (tasks_told s above g.1 found stored)
@@ -387,5 +387,5 @@ module _ (names bitmaps : List (List ℕ)) where
       inside_told (told above).section above ReleaseLine due (λ r. release_told s above g.1 due r (releases_held (told above).group t.0) (ltb-true _ _ t.1)) (tasks_told s above g.1 found stored)
 
   -- So they are those of all tasks where no task is under way.
-  pub tasks_closed : (s : Setting) (above : List LineForm) → AreGoodLines s above → are_calls_due (told above).section ≡ false → IsFoundIn names (told above).names → IsFoundIn bitmaps (told above).bitmap_names → AreClosed above
+  pub tasks_closed : (s : Setting) (above : List Statement) → AreGoodLines s above → are_calls_due (told above).section ≡ false → IsFoundIn names (told above).names → IsFoundIn bitmaps (told above).bitmap_names → AreClosed above
   tasks_closed s above g e found stored = told_closed (are_calls_due (told above).section) above e (tasks_told s above g found stored)

@@ -3,7 +3,7 @@ use Rattle.std.proofs.Common.{◌≡◌, ℕ, ◌+◌, ◌<◌, ◌≤◌, ◌==
 use Rattle.std.specs.List.{list_all, flat_map, range_with_len}
 use Rattle.lw_planes.proofs.GridLaws.{map_range_same}
 use Rattle.lw_calls.specs.declared.form.Form.TheVariants.{Plain}
-use Rattle.lw_grammar.specs.LineForms.{LineForm, ScreenLine, GlyphLine, BitmapLine, RowLine, TaskLine, EndLine, OrderLine, NumbersLine, ReportLine, CallLine, LockLine, UnlockLine, HoldLine, ReleaseLine}
+use Rattle.lw_grammar.specs.LineForms.{Statement, ScreenLine, GlyphLine, BitmapLine, RowLine, TaskLine, EndLine, OrderLine, NumbersLine, ReportLine, CallLine, LockLine, UnlockLine, HoldLine, ReleaseLine}
 use Rattle.lw_grammar.specs.Told.{Section, ScreenIsDue, AssetsAreDue, CallsAreDue, TasksAreDue, NumbersAreDue, NothingIsDue, told, plan_of}
 use Rattle.lw_grammar.specs.Script.{Setting, are_assets_due, are_calls_due, are_tasks_due, is_nothing_due, line_read, may_end, IsGoodLine, AreGoodLines}
 use Rattle.lw_canonical.specs.Spelling.{spelled}
@@ -19,7 +19,7 @@ use Rattle.std.proofs.lemmas.List.Folds.{list_all-append}
 use Rattle.std.proofs.lemmas.Grind.{reverse_onto}
 
 -- a good line of tasks is spelled over what stands below it
-one_more : HasOneSpelling → (s : Setting) (above new : List LineForm) (f : LineForm) → AreGoodLines s (f ∷ above) → is_of_tasks f ≡ true → ((told above).rows_due == 0) ≡ true → is_inner (told above).section ≡ true → AreAlike above new → AreSpelled (alone s) new → AreSpelled (alone s) (f ∷ new)
+one_more : HasOneSpelling → (s : Setting) (above new : List Statement) (f : Statement) → AreGoodLines s (f ∷ above) → is_of_tasks f ≡ true → ((told above).rows_due == 0) ≡ true → is_inner (told above).section ≡ true → AreAlike above new → AreSpelled (alone s) new → AreSpelled (alone s) (f ∷ new)
 one_more one s above new f g o e c a spelled_below =
     let good : IsGoodLine s above f = g.0 in
     let same : spelled f ≡ good.line = one s above good.line f good.read in
@@ -48,17 +48,17 @@ first_inner NumbersAreDue tasks e b n = absurd (false≢true e)
 first_inner NothingIsDue tasks e b n = absurd (false≢true e)
 
 -- one task is the first one
-first_here : (s : Setting) (above : List LineForm) (name : List ℕ) → AreGoodLines s (TaskLine name ∷ above) → length (told (TaskLine name ∷ above)).tasks ≤ 1 → (is_inner (told above).section ≡ true) × (has_screen (told above).section ≡ true)
+first_here : (s : Setting) (above : List Statement) (name : List ℕ) → AreGoodLines s (TaskLine name ∷ above) → length (told (TaskLine name ∷ above)).tasks ≤ 1 → (is_inner (told above).section ≡ true) × (has_screen (told above).section ≡ true)
 first_here s above name g few =
     first_inner (told above).section (length (told above).tasks) (here s above (TaskLine name) g).1 (begun_tasks s above g.1) (omega (arith, few, length-append (told above).tasks (name ∷ [])))
 
 -- before the first task nothing but the base is spelled
-assets_over : (s : Setting) (above base : List LineForm) → AreGoodLines s above → (told above).section ≡ AssetsAreDue → AreSpelled (alone s) base → AreSpelled (alone s) (filter is_of_tasks above ++ base)
+assets_over : (s : Setting) (above base : List Statement) → AreGoodLines s above → (told above).section ≡ AssetsAreDue → AreSpelled (alone s) base → AreSpelled (alone s) (filter is_of_tasks above ++ base)
 assets_over s above base g c k =
-    subst (λ (fs : List LineForm). AreSpelled (alone s) (fs ++ base)) (sym (bare s above g (ap has_begun c)).of_tasks) k
+    subst (λ (fs : List Statement). AreSpelled (alone s) (fs ++ base)) (sym (bare s above g (ap has_begun c)).of_tasks) k
 
 -- The lines of at most one task are spelled over a spelled base.
-tasks_over : HasOneSpelling → (s : Setting) (above base : List LineForm) → AreGoodLines s above → has_screen (told above).section ≡ true → length (told above).tasks ≤ 1 → IsBaseOf above base → AreSpelled (alone s) base → AreSpelled (alone s) (filter is_of_tasks above ++ base)
+tasks_over : HasOneSpelling → (s : Setting) (above base : List Statement) → AreGoodLines s above → has_screen (told above).section ≡ true → length (told above).tasks ≤ 1 → IsBaseOf above base → AreSpelled (alone s) base → AreSpelled (alone s) (filter is_of_tasks above ++ base)
 tasks_over one s [] base g e few b k = absurd (false≢true e)
 tasks_over one s (ScreenLine w h d ∷ above) base g e few b k = assets_over s (ScreenLine w h d ∷ above) base g refl k
 tasks_over one s (GlyphLine code rows ∷ above) base g e few b k =
@@ -110,16 +110,16 @@ tasks_over one s (ReleaseLine ∷ above) base g e few b k =
     one_more one s above _ ReleaseLine g refl h.0 (calls_inner (told above).section h.1) (alike s above base g.1 screen below) (tasks_over one s above base g.1 screen few below k)
 
 -- The lines of a whole script's one task are spelled over each spelled base of it.
-pub tasks_spelled : HasOneSpelling → (s : Setting) (above base : List LineForm) → AreGoodLines s above → may_end s.form (told above).section ≡ true → length (told above).tasks ≡ 1 → IsBaseOf above base → AreSpelled (alone s) base → AreSpelled (alone s) (filter is_of_tasks above ++ base)
+pub tasks_spelled : HasOneSpelling → (s : Setting) (above base : List Statement) → AreGoodLines s above → may_end s.form (told above).section ≡ true → length (told above).tasks ≡ 1 → IsBaseOf above base → AreSpelled (alone s) base → AreSpelled (alone s) (filter is_of_tasks above ++ base)
 tasks_spelled one s above base g whole n b k = tasks_over one s above base g (whole_ends s.form above whole).screen (omega (arith, n)) b k
 
 -- the glyphs of lines that tell the same
-same_glyphs : (above new : List LineForm) → AreAlike above new → map (λ i. (told new).glyphs (32 + i)) (range_with_len 0 95) ≡ map (λ i. (told above).glyphs (32 + i)) (range_with_len 0 95)
+same_glyphs : (above new : List Statement) → AreAlike above new → map (λ i. (told new).glyphs (32 + i)) (range_with_len 0 95) ≡ map (λ i. (told above).glyphs (32 + i)) (range_with_len 0 95)
 same_glyphs above new a =
     map_range_same 95 (λ i. (told new).glyphs (32 + i)) (λ i. (told above).glyphs (32 + i)) (λ i low. a.glyphs (32 + i) (omega arith) (omega (arith, low)))
 
 -- lines that tell the same have the same plan
-same_plan : (hooks : ℕ) (above new : List LineForm) → AreAlike above new → plan_of hooks (told new) ≡ plan_of hooks (told above)
+same_plan : (hooks : ℕ) (above new : List Statement) → AreAlike above new → plan_of hooks (told new) ≡ plan_of hooks (told above)
 same_plan hooks above new a =
     let width = a.width in
     let height = a.height in
@@ -134,7 +134,7 @@ same_plan hooks above new a =
     cc
 
 -- The lines of a whole script's tasks over a base of it have its plan.
-pub tasks_plan : (s : Setting) (above base : List LineForm) → AreGoodLines s above → may_end s.form (told above).section ≡ true → IsBaseOf above base → plan_of s.hooks (told (filter is_of_tasks above ++ base)) ≡ plan_of s.hooks (told above)
+pub tasks_plan : (s : Setting) (above base : List Statement) → AreGoodLines s above → may_end s.form (told above).section ≡ true → IsBaseOf above base → plan_of s.hooks (told (filter is_of_tasks above ++ base)) ≡ plan_of s.hooks (told above)
 tasks_plan s above base g whole b = same_plan s.hooks above (filter is_of_tasks above ++ base) (alike s above base g (whole_ends s.form above whole).screen b)
 
 -- where a script may end, a script alone may end
@@ -147,53 +147,53 @@ ends_alone NumbersAreDue h = refl
 ends_alone NothingIsDue h = refl
 
 -- They are a whole script alone.
-pub tasks_whole : (s : Setting) (above base : List LineForm) → AreGoodLines s above → may_end s.form (told above).section ≡ true → IsBaseOf above base → may_end Plain (told (filter is_of_tasks above ++ base)).section ≡ true
+pub tasks_whole : (s : Setting) (above base : List Statement) → AreGoodLines s above → may_end s.form (told above).section ≡ true → IsBaseOf above base → may_end Plain (told (filter is_of_tasks above ++ base)).section ≡ true
 tasks_whole s above base g whole b =
     let ends = whole_ends s.form above whole in
     ap are_tasks_due (alike s above base g ends.screen b).section ∙ ends_alone (told above).section ends
 
 -- lines of tasks have no numbers of an order
-order_over : (above base : List LineForm) → (told base).order ≡ [] → (told (filter is_of_tasks above ++ base)).order ≡ []
+order_over : (above base : List Statement) → (told base).order ≡ [] → (told (filter is_of_tasks above ++ base)).order ≡ []
 order_over [] base h = h
 order_over (f ∷ above) base h = step f (order_over above base h)
   where
-    step : (f : LineForm) → (told (filter is_of_tasks above ++ base)).order ≡ [] → (told (filter is_of_tasks (f ∷ above) ++ base)).order ≡ []
+    step : (f : Statement) → (told (filter is_of_tasks above ++ base)).order ≡ [] → (told (filter is_of_tasks (f ∷ above) ++ base)).order ≡ []
     step (NumbersLine zs) k = k
     step f k = k
 
 -- They have no order, if the base has none.
-pub tasks_order : (s : Setting) (above base : List LineForm) → AreGoodLines s above → may_end s.form (told above).section ≡ true → IsBaseOf above base → (told base).order ≡ [] → (told (filter is_of_tasks above ++ base)).order ≡ []
+pub tasks_order : (s : Setting) (above base : List Statement) → AreGoodLines s above → may_end s.form (told above).section ≡ true → IsBaseOf above base → (told base).order ≡ [] → (told (filter is_of_tasks above ++ base)).order ≡ []
 tasks_order s above base g whole b h = order_over above base h
 
 -- a line that has no numbers of an order
-abbrev has_no_numbers : LineForm → Bool
+abbrev has_no_numbers : Statement → Bool
 has_no_numbers (NumbersLine zs) = false
 has_no_numbers f = true
 
 -- of such lines there is no order
-order_none : (fs : List LineForm) → list_all has_no_numbers fs ≡ true → (told fs).order ≡ []
+order_none : (fs : List Statement) → list_all has_no_numbers fs ≡ true → (told fs).order ≡ []
 order_none [] h = refl
 order_none (f ∷ fs) h = step f h (order_none fs)
   where
-    step : (f : LineForm) → list_all has_no_numbers (f ∷ fs) ≡ true → (list_all has_no_numbers fs ≡ true → (told fs).order ≡ []) → (told (f ∷ fs)).order ≡ []
+    step : (f : Statement) → list_all has_no_numbers (f ∷ fs) ≡ true → (list_all has_no_numbers fs ≡ true → (told fs).order ≡ []) → (told (f ∷ fs)).order ≡ []
     step (NumbersLine zs) k go = absurd (false≢true k)
     step f k go = go k
 
 -- such lines end to end, backwards, and picked
-both_none : (fs gs : List LineForm) → list_all has_no_numbers fs ≡ true → list_all has_no_numbers gs ≡ true → list_all has_no_numbers (fs ++ gs) ≡ true
+both_none : (fs gs : List Statement) → list_all has_no_numbers fs ≡ true → list_all has_no_numbers gs ≡ true → list_all has_no_numbers (fs ++ gs) ≡ true
 both_none fs gs h k = list_all-append has_no_numbers fs gs ∙ and_from (list_all has_no_numbers fs) (list_all has_no_numbers gs) h k
 
-reverse_none : (fs : List LineForm) → list_all has_no_numbers fs ≡ true → list_all has_no_numbers (reverse fs) ≡ true
+reverse_none : (fs : List Statement) → list_all has_no_numbers fs ≡ true → list_all has_no_numbers (reverse fs) ≡ true
 reverse_none [] h = refl
 reverse_none (f ∷ fs) h =
     let halves = and_parts (has_no_numbers f) (list_all has_no_numbers fs) h in
     ap (list_all has_no_numbers) (reverse_onto fs f []) ∙ both_none (reverse fs) (f ∷ []) (reverse_none fs halves.1) (and_from (has_no_numbers f) true halves.0 refl)
 
-bitmaps_none : (above : List LineForm) → list_all has_no_numbers (filter is_of_bitmaps above) ≡ true
+bitmaps_none : (above : List Statement) → list_all has_no_numbers (filter is_of_bitmaps above) ≡ true
 bitmaps_none [] = refl
 bitmaps_none (f ∷ above) = step f (bitmaps_none above)
   where
-    step : (f : LineForm) → list_all has_no_numbers (filter is_of_bitmaps above) ≡ true → list_all has_no_numbers (filter is_of_bitmaps (f ∷ above)) ≡ true
+    step : (f : Statement) → list_all has_no_numbers (filter is_of_bitmaps above) ≡ true → list_all has_no_numbers (filter is_of_bitmaps (f ∷ above)) ≡ true
     step (BitmapLine name w h d) k = k
     step (RowLine bytes) k = k
     step f k = k
@@ -206,11 +206,11 @@ glyph_none code rows = step (list_all (λ row. row == 0) rows)
     step true = refl
     step false = refl
 
-glyphs_none : (above : List LineForm) (ns : List ℕ) → list_all has_no_numbers (flat_map (λ i. lines_of_glyph (32 + i) ((told above).glyphs (32 + i))) ns) ≡ true
+glyphs_none : (above : List Statement) (ns : List ℕ) → list_all has_no_numbers (flat_map (λ i. lines_of_glyph (32 + i) ((told above).glyphs (32 + i))) ns) ≡ true
 glyphs_none above [] = refl
 glyphs_none above (i ∷ ns) = both_none (lines_of_glyph (32 + i) ((told above).glyphs (32 + i))) _ (glyph_none (32 + i) ((told above).glyphs (32 + i))) (glyphs_none above ns)
 
 -- Below the tasks no order stands.
-pub base_order : (above : List LineForm) → (told (base_of above)).order ≡ []
+pub base_order : (above : List Statement) → (told (base_of above)).order ≡ []
 base_order above =
     order_none (base_of above) (both_none (filter is_of_bitmaps above) _ (bitmaps_none above) (both_none (reverse (glyphs_in_order above)) (screen_line_of above ∷ []) (reverse_none (glyphs_in_order above) (glyphs_none above (range_with_len 0 95))) refl))

@@ -12,7 +12,7 @@ use Rattle.lw_calls.specs.declared.group.Group.{Group}
 use Rattle.lw_calls.specs.declared.form.Form.TheVariants.{Plain}
 use Rattle.lw_calls.specs.Plan.{Plan, task_calls, task_groups, begins_update}
 use Rattle.lw_calls.specs.Written.{line_of}
-use Rattle.lw_grammar.specs.LineForms.{Asked, Act, RegRectAct, RegPairAct, RegClearAct, CreateAct, OpenAct, CloseAct, FrontAct, BehindAct, InFrontAct, MoveAct, SizeAct, BoxAct, ActivateAct, WhichAct, APenAct, BPenAct, ModeAct, MaskAct, AtAct, WriteAct, ReadAct, FillAct, DrawAct, TextAct, SetRastAct, ScrollRasterAct, PutAct, BlitAct, ClipAct, UnclipAct, RefreshAct, EndRefreshAct, ScrollAct, TitleAct, GetMsgAct, LineForm, ScreenLine, GlyphLine, BitmapLine, RowLine, TaskLine, EndLine, CallLine, LockLine, UnlockLine, HoldLine, ReleaseLine, four}
+use Rattle.lw_grammar.specs.LineForms.{Asked, Act, RegRectAct, RegPairAct, RegClearAct, CreateAct, OpenAct, CloseAct, FrontAct, BehindAct, InFrontAct, MoveAct, SizeAct, BoxAct, ActivateAct, WhichAct, APenAct, BPenAct, ModeAct, MaskAct, AtAct, WriteAct, ReadAct, FillAct, DrawAct, TextAct, SetRastAct, ScrollRasterAct, PutAct, BlitAct, ClipAct, UnclipAct, RefreshAct, EndRefreshAct, ScrollAct, TitleAct, GetMsgAct, Statement, ScreenLine, GlyphLine, BitmapLine, RowLine, TaskLine, EndLine, CallLine, LockLine, UnlockLine, HoldLine, ReleaseLine, four}
 use Rattle.lw_grammar.specs.Script.{Setting, ScriptInput, SpellsInput}
 use Rattle.lw_canonical.specs.Spelling.{spelled}
 
@@ -41,11 +41,11 @@ abbrev pub opened_asked : Make → Asked
 opened_asked m = asked_of m m.w m.h
 
 -- the line of a call on one layer, of this name
-abbrev pub on_layer : List (List ℕ) → ℕ → Act → LineForm
+abbrev pub on_layer : List (List ℕ) → ℕ → Act → Statement
 on_layer names slot act = CallLine (slice_index_or names slot [] ∷ []) act
 
 -- The line of a call, where the layers have these names by slot, and the bitmaps these by number.
-abbrev pub line_of_call : List (List ℕ) → List (List ℕ) → Call → LineForm
+abbrev pub line_of_call : List (List ℕ) → List (List ℕ) → Call → Statement
 line_of_call names bitmaps (RegRect op r rect) = CallLine [] (RegRectAct op (pos r) rect)
 line_of_call names bitmaps (RegPair op s r) = CallLine [] (RegPairAct op (pos s) (pos r))
 line_of_call names bitmaps (RegClear r) = CallLine [] (RegClearAct (pos r))
@@ -92,50 +92,50 @@ abbrev pub is_update : List Call → Group → Bool
 is_update calls g = are_updating (drop g.first calls)
 
 -- The lines that begin and end a group: an update has none but its calls.
-abbrev pub opening_lines : List (List ℕ) → Hold → Bool → List LineForm
+abbrev pub opening_lines : List (List ℕ) → Hold → Bool → List Statement
 opening_lines names (Slot s) true = []
 opening_lines names (Slot s) false = LockLine (slice_index_or names s []) ∷ []
 opening_lines names All updating = HoldLine ∷ []
 
-abbrev pub closing_lines : List (List ℕ) → Hold → Bool → List LineForm
+abbrev pub closing_lines : List (List ℕ) → Hold → Bool → List Statement
 closing_lines names (Slot s) true = []
 closing_lines names (Slot s) false = UnlockLine (slice_index_or names s []) ∷ []
 closing_lines names All updating = ReleaseLine ∷ []
 
 -- the lines before and behind call number n of a task with these calls and groups
-abbrev pub lines_before : List (List ℕ) → List Call → List Group → ℕ → List LineForm
+abbrev pub lines_before : List (List ℕ) → List Call → List Group → ℕ → List Statement
 lines_before names calls groups n =
     flat_map (λ g. if g.first == n then opening_lines names g.hold (is_update calls g) else []) groups
 
-abbrev pub lines_behind : List (List ℕ) → List Call → List Group → ℕ → List LineForm
+abbrev pub lines_behind : List (List ℕ) → List Call → List Group → ℕ → List Statement
 lines_behind names calls groups n =
     flat_map (λ g. if g.last == n then closing_lines names g.hold (is_update calls g) else []) groups
 
 -- the lines of those of the calls that are left from number n on, with those of groups
-abbrev pub lines_from : Plan → List Call → List Group → ℕ → List Call → List LineForm
+abbrev pub lines_from : Plan → List Call → List Group → ℕ → List Call → List Statement
 lines_from p calls groups n [] = []
 lines_from p calls groups n (c ∷ cs) =
     lines_before p.slot_names calls groups n ++ line_of_call p.slot_names p.bitmap_names c ∷
     lines_behind p.slot_names calls groups n ++ lines_from p calls groups (n + 1) cs
 
 -- the lines of a task
-abbrev pub lines_of_task : Plan → ℕ → List LineForm
+abbrev pub lines_of_task : Plan → ℕ → List Statement
 lines_of_task p t =
     TaskLine (slice_index_or p.task_names t []) ∷
     lines_from p (task_calls p t) (task_groups p t) 0 (task_calls p t) ++ EndLine ∷ []
 
 -- the line of a code's glyph, where some bit of it is set
-abbrev pub lines_of_glyph : ℕ → List ℕ → List LineForm
+abbrev pub lines_of_glyph : ℕ → List ℕ → List Statement
 lines_of_glyph code rows = if list_all (λ row. row == 0) rows then [] else GlyphLine code rows ∷ []
 
 -- the lines of a bitmap, row by row and plane by plane
-abbrev pub lines_of_bitmap : List ℕ → Bitmap → List LineForm
+abbrev pub lines_of_bitmap : List ℕ → Bitmap → List Statement
 lines_of_bitmap name b =
     BitmapLine name (pos b.width) (pos b.height) (pos b.depth) ∷
     flat_map (λ k. map (λ y. RowLine (plane_row b k y)) (range_with_len 0 b.height)) (range_with_len 0 b.depth)
 
 -- the lines of a plan
-abbrev pub lines_of_plan : Plan → List LineForm
+abbrev pub lines_of_plan : Plan → List Statement
 lines_of_plan p =
     ScreenLine (pos p.sizes.width) (pos p.sizes.height) (pos p.sizes.depth) ∷
     flat_map (λ i. lines_of_glyph (32 + i) (slice_index_or p.assets.glyphs i [])) (range_with_len 0 95)

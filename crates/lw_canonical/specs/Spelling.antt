@@ -12,7 +12,7 @@ use Rattle.lw_calls.specs.declared.make.Kind.TheVariants.{Simple, Smart, SuperBi
 use Rattle.lw_calls.specs.declared.make.Place.{Place}
 use Rattle.lw_calls.specs.declared.make.Place.TheVariants.{Front, Behind}
 use Rattle.lw_grammar.specs.Tokens.{space, quote}
-use Rattle.lw_grammar.specs.LineForms.{Asked, Act, RegRectAct, RegPairAct, RegClearAct, CreateAct, OpenAct, CloseAct, FrontAct, BehindAct, InFrontAct, MoveAct, SizeAct, BoxAct, ActivateAct, WhichAct, APenAct, BPenAct, ModeAct, MaskAct, AtAct, WriteAct, ReadAct, FillAct, DrawAct, TextAct, SetRastAct, ScrollRasterAct, PutAct, BlitAct, ClipAct, UnclipAct, RefreshAct, EndRefreshAct, ScrollAct, TitleAct, GetMsgAct, LineForm, ScreenLine, GlyphLine, BitmapLine, RowLine, TaskLine, EndLine, OrderLine, NumbersLine, ReportLine, CallLine, LockLine, UnlockLine, HoldLine, ReleaseLine, four}
+use Rattle.lw_grammar.specs.LineForms.{Asked, Act, RegRectAct, RegPairAct, RegClearAct, CreateAct, OpenAct, CloseAct, FrontAct, BehindAct, InFrontAct, MoveAct, SizeAct, BoxAct, ActivateAct, WhichAct, APenAct, BPenAct, ModeAct, MaskAct, AtAct, WriteAct, ReadAct, FillAct, DrawAct, TextAct, SetRastAct, ScrollRasterAct, PutAct, BlitAct, ClipAct, UnclipAct, RefreshAct, EndRefreshAct, ScrollAct, TitleAct, GetMsgAct, Statement, ScreenLine, GlyphLine, BitmapLine, RowLine, TaskLine, EndLine, OrderLine, NumbersLine, ReportLine, CallLine, LockLine, UnlockLine, HoldLine, ReleaseLine, four}
 use Rattle.lw_calls.specs.Written.{hex_byte}
 
 -- words with single spaces between them
@@ -145,7 +145,7 @@ call_words layers (TitleAct text) = codes "title" ∷ layers ++ text_word text �
 call_words layers GetMsgAct = codes "getmsg" ∷ layers
 
 -- the words of a line
-abbrev pub words_of : LineForm → List (List ℕ)
+abbrev pub words_of : Statement → List (List ℕ)
 words_of (ScreenLine w h d) = codes "screen" ∷ signed_decimal w ∷ signed_decimal h ∷ signed_decimal d ∷ []
 words_of (GlyphLine code rows) = codes "glyph" ∷ hex_byte code ∷ hex_word rows ∷ []
 words_of (BitmapLine name w h d) = codes "bitmap" ∷ name ∷ signed_decimal w ∷ signed_decimal h ∷ signed_decimal d ∷ []
@@ -162,5 +162,5 @@ words_of HoldLine = codes "hold" ∷ []
 words_of ReleaseLine = codes "release" ∷ []
 
 -- the bytes of a line without its line feed
-abbrev pub spelled : LineForm → List ℕ
+abbrev pub spelled : Statement → List ℕ
 spelled form = joined (words_of form)

@@ -18,7 +18,7 @@ use Rattle.lw_grammar.specs.declared.verb.Verb.TheVariants.{Screen as ScreenVerb
 use Rattle.lw_calls.specs.Limits.{is_minterm}
 use Rattle.lw_calls.specs.Kinds.{is_super}
 use Rattle.lw_grammar.specs.Tokens.{Token, NameToken, NumberToken, TextToken, OddToken, token_of, is_hex, hex_value, hex_bytes, spelled_bytes, bytes_in}
-use Rattle.lw_grammar.specs.LineForms.{layers_of, Asked, Act, RegRectAct, RegPairAct, RegClearAct, CreateAct, OpenAct, CloseAct, FrontAct, BehindAct, InFrontAct, ActivateAct, WhichAct, ScrollRasterAct, PutAct, BlitAct, UnclipAct, RefreshAct, EndRefreshAct, GetMsgAct, LineForm, ScreenLine, GlyphLine, BitmapLine, RowLine, TaskLine, EndLine, OrderLine, NumbersLine, ReportLine, CallLine, LockLine, UnlockLine, HoldLine, ReleaseLine, four, screen_line, glyph_of_bytes, glyph_line, bitmap_line, row_line, all_numbers, numbers_limit, numbers_line, name_line, bare_line, layer_line, number_line, pair_line, text_line, rect_line, region_line, clear_line, which_line, infront_line, four_line, scrollraster_line, minterm_of, put_line, blit_line, endrefresh_line, kind_of, place_of, flag, hook_option, class_of, classes_from, asked_classes, ask_option, at_end, create_super, create_kind, titled_line, open_super, open_kind, asked_line, form_by}
+use Rattle.lw_grammar.specs.LineForms.{layers_of, Asked, Act, RegRectAct, RegPairAct, RegClearAct, CreateAct, OpenAct, CloseAct, FrontAct, BehindAct, InFrontAct, ActivateAct, WhichAct, ScrollRasterAct, PutAct, BlitAct, UnclipAct, RefreshAct, EndRefreshAct, GetMsgAct, Statement, ScreenLine, GlyphLine, BitmapLine, RowLine, TaskLine, EndLine, OrderLine, NumbersLine, ReportLine, CallLine, LockLine, UnlockLine, HoldLine, ReleaseLine, four, screen_line, glyph_of_bytes, glyph_line, bitmap_line, row_line, all_numbers, numbers_limit, numbers_line, name_line, bare_line, layer_line, number_line, pair_line, text_line, rect_line, region_line, clear_line, which_line, infront_line, four_line, scrollraster_line, minterm_of, put_line, blit_line, endrefresh_line, kind_of, place_of, flag, hook_option, class_of, classes_from, asked_classes, ask_option, at_end, create_super, create_kind, titled_line, open_super, open_kind, asked_line, form_by}
 use Rattle.lw_grammar.specs.Told.{Section, told}
 use Rattle.lw_grammar.specs.Script.{Setting, is_screen_due, are_assets_due, are_calls_due, are_tasks_due, are_numbers_due, is_plain, is_ordered, is_audited, stands_in, is_task_verb, verb_on, behind_verb, verb_read, form_read}
 use Rattle.lw_grammar.specs.Demands.{◌>>=◌, demand}
@@ -26,7 +26,7 @@ use Rattle.std.proofs.lemmas.Bool.{false≢true, eqb-true, leb-true, le-leb, and
 use Rattle.std.proofs.lemmas.Bool.Decides.{nat_tests}
 
 -- A line of this form, which begins with a verb, stands in this section of this input.
-abbrev pub stands_at : Form → Section → LineForm → Bool
+abbrev pub stands_at : Form → Section → Statement → Bool
 stands_at form s (ScreenLine w h d) = is_screen_due s
 stands_at form s (GlyphLine code rows) = are_assets_due s
 stands_at form s (BitmapLine name w h d) = are_assets_due s
@@ -57,24 +57,24 @@ IsActMade (BlitAct b) = is_minterm b.minterm ≡ true
 IsActMade act = Unit {0}
 
 -- the same of a line
-abbrev pub IsFormMade : LineForm → Type 0
+abbrev pub IsFormMade : Statement → Type 0
 IsFormMade (GlyphLine code rows) = length rows ≡ 8
 IsFormMade (CallLine layers act) = (length layers ≡ layers_of act) × IsActMade act
 IsFormMade form = Unit {0}
 
 -- the line begins a task
-abbrev pub begins_task : LineForm → Bool
+abbrev pub begins_task : Statement → Bool
 begins_task (TaskLine name) = true
 begins_task form = false
 
 -- The form is made of words behind a verb whose lines stand here or not, and which begins a task or not.
-pub record IsVerbForm (form : Form) (s : Section) (stands task : Bool) (f : LineForm) : Type 0 where
+pub record IsVerbForm (form : Form) (s : Section) (stands task : Bool) (f : Statement) : Type 0 where
   pub place : stands ≡ true → stands_at form s f ≡ true
   pub begins : begins_task f ≡ task
   pub made : IsFormMade f
 
 -- a form whose lines stand where the verb's do
-stands_so : (form : Form) (s : Section) (f : LineForm) → IsFormMade f → IsVerbForm form s (stands_at form s f) (begins_task f) f
+stands_so : (form : Form) (s : Section) (f : Statement) → IsFormMade f → IsVerbForm form s (stands_at form s f) (begins_task f) f
 stands_so form s f h = record { place = λ e. e; begins = refl; made = h }
 
 -- the form of a call, which stands where calls are due
@@ -231,12 +231,12 @@ module _ (form : Form) (s : Section) where
   bitmap_made _ = tt
 
   -- a verb with a name
-  name_made : (f : List ℕ → LineForm) (stands task : Bool) → ((n : List ℕ) → IsVerbForm form s stands task (f n)) → (ts : List Token) → IfSome (name_line f ts) (IsVerbForm form s stands task)
+  name_made : (f : List ℕ → Statement) (stands task : Bool) → ((n : List ℕ) → IsVerbForm form s stands task (f n)) → (ts : List Token) → IfSome (name_line f ts) (IsVerbForm form s stands task)
   name_made f stands task h (NameToken n ∷ []) = h n
   name_made f stands task h _ = tt
 
   -- a verb alone
-  bare_made : (f : LineForm) (stands task : Bool) → IsVerbForm form s stands task f → (ts : List Token) → IfSome (bare_line f ts) (IsVerbForm form s stands task)
+  bare_made : (f : Statement) (stands task : Bool) → IsVerbForm form s stands task f → (ts : List Token) → IfSome (bare_line f ts) (IsVerbForm form s stands task)
   bare_made f stands task h [] = h
   bare_made f stands task h _ = tt
 
@@ -317,7 +317,7 @@ module _ (form : Form) (s : Section) where
   endrefresh_made _ = tt
 
   -- the form at the end of a creation's words
-  end_made : (f : LineForm) → IsVerbForm form s (are_calls_due s) false f → (ts : List Token) → IfSome (at_end f ts) (IsVerbForm form s (are_calls_due s) false)
+  end_made : (f : Statement) → IsVerbForm form s (are_calls_due s) false f → (ts : List Token) → IfSome (at_end f ts) (IsVerbForm form s (are_calls_due s) false)
   end_made f h [] = h
   end_made f h (t ∷ ts) = tt
 
@@ -348,7 +348,7 @@ module _ (form : Form) (s : Section) where
   open_made l place numbers ts SuperBitmap = open_super_made l place numbers ts
 
   -- create L KIND PLACE X0 Y0 X1 Y1 .., and open L KIND PLACE X Y W H ..
-  asked_made : (behind : List ℕ → Place → Rectangle → List Token → Kind → Option LineForm) → ((l : List ℕ) (place : Place) (numbers : Rectangle) (ts : List Token) (kind : Kind) → IfSome (behind l place numbers ts kind) (IsVerbForm form s (are_calls_due s) false)) → (ts : List Token) → IfSome (asked_line behind ts) (IsVerbForm form s (are_calls_due s) false)
+  asked_made : (behind : List ℕ → Place → Rectangle → List Token → Kind → Option Statement) → ((l : List ℕ) (place : Place) (numbers : Rectangle) (ts : List Token) (kind : Kind) → IfSome (behind l place numbers ts kind) (IsVerbForm form s (are_calls_due s) false)) → (ts : List Token) → IfSome (asked_line behind ts) (IsVerbForm form s (are_calls_due s) false)
   asked_made behind made (NameToken l ∷ NameToken k ∷ NameToken p ∷ NumberToken a x ∷ NumberToken b y ∷ NumberToken c z ∷ NumberToken d w ∷ ts) =
       then_has (IsVerbForm form s (are_calls_due s) false) _ (place_of p) (λ place. then_has (IsVerbForm form s (are_calls_due s) false) _ (kind_of k) (λ kind. made l place (four x y z w) ts kind))
   asked_made behind made _ = tt
@@ -408,17 +408,17 @@ verb_made form s TitleVerb ts = text_made form s _ (λ t. refl) (λ t. tt) ts
 verb_made form s GetMsgVerb ts = layer_made form s GetMsgAct refl tt ts
 
 -- no further task may begin here
-abbrev pub is_task_refused : Setting → List LineForm → Bool
+abbrev pub is_task_refused : Setting → List Statement → Bool
 is_task_refused s above = is_plain s.form && are_tasks_due (told above).section
 
 -- What a line of this form was good for, below lines of these forms.
-abbrev pub IsFormHere : Setting → List LineForm → LineForm → Type 0
+abbrev pub IsFormHere : Setting → List Statement → Statement → Type 0
 IsFormHere s above (RowLine bytes) = (((told above).rows_due == 0) ≡ false) × (length bytes ≡ row_bytes (told above).row_width)
 IsFormHere s above (NumbersLine zs) = (((told above).rows_due == 0) ≡ true) × (are_numbers_due (told above).section ≡ true)
 IsFormHere s above f = (((told above).rows_due == 0) ≡ true) × (stands_at s.form (told above).section f ≡ true) × ((is_task_refused s above && begins_task f) ≡ false) × IsFormMade f
 
 -- a form of a verb is good for this, where its lines stand
-verb_here : (s : Setting) (above : List LineForm) → ((told above).rows_due == 0) ≡ true → (stands task : Bool) → stands ≡ true → (is_task_refused s above && task) ≡ false → (f : LineForm) → IsVerbForm s.form (told above).section stands task f → IsFormHere s above f
+verb_here : (s : Setting) (above : List Statement) → ((told above).rows_due == 0) ≡ true → (stands task : Bool) → stands ≡ true → (is_task_refused s above && task) ≡ false → (f : Statement) → IsVerbForm s.form (told above).section stands task f → IsFormHere s above f
 verb_here s above e stands task h a (RowLine bytes) k = absurd (false≢true (k.place h))
 verb_here s above e stands task h a (NumbersLine zs) k = absurd (false≢true (k.place h))
 verb_here s above e stands task h a f k = (e, k.place h, ap (λ b. is_task_refused s above && b) k.begins ∙ a, k.made)
@@ -429,10 +429,10 @@ found_has P None r h = tt
 found_has P (Some a) r h = h
 
 -- the same of each line with a verb
-verb_line_here : (s : Setting) (above : List LineForm) → ((told above).rows_due == 0) ≡ true → (ws : List (List ℕ)) → IfOk (verb_read s.form (told above).section ws) (IsFormHere s above)
+verb_line_here : (s : Setting) (above : List Statement) → ((told above).rows_due == 0) ≡ true → (ws : List (List ℕ)) → IfOk (verb_read s.form (told above).section ws) (IsFormHere s above)
 verb_line_here s above e ws = at_verb (verb_on ws)
   where
-    at_form : (v : Verb) → stands_in s.form (told above).section v ≡ true → (is_task_refused s above && is_task_verb v) ≡ false → (o : Option LineForm) → IfSome o (IsVerbForm s.form (told above).section (stands_in s.form (told above).section v) (is_task_verb v)) → IfOk (ok_or o FormReason) (IsFormHere s above)
+    at_form : (v : Verb) → stands_in s.form (told above).section v ≡ true → (is_task_refused s above && is_task_verb v) ≡ false → (o : Option Statement) → IfSome o (IsVerbForm s.form (told above).section (stands_in s.form (told above).section v) (is_task_verb v)) → IfOk (ok_or o FormReason) (IsFormHere s above)
     at_form v h a None k = tt
     at_form v h a (Some f) k = verb_here s above e _ _ h a f k
 
@@ -446,13 +446,13 @@ verb_line_here s above e ws = at_verb (verb_on ws)
     at_verb (Some v) = at_tests v (stands_in s.form (told above).section v) (is_task_refused s above && is_task_verb v) refl refl
 
 -- a row of a bitmap
-row_here : (s : Setting) (above : List LineForm) → ((told above).rows_due == 0) ≡ false → (ts : List Token) → IfSome (row_line (told above).row_width ts) (IsFormHere s above)
+row_here : (s : Setting) (above : List Statement) → ((told above).rows_due == 0) ≡ false → (ts : List Token) → IfSome (row_line (told above).row_width ts) (IsFormHere s above)
 row_here s above e (t ∷ []) =
     map_has (AreSoMany (row_bytes (told above).row_width)) (IsFormHere s above) _ (bytes_in (row_bytes (told above).row_width) t) (token_spelled _ t) (λ bytes k. (e, k.0))
 row_here s above e _ = tt
 
 -- numbers of an order
-numbers_here : (s : Setting) (above : List LineForm) → ((told above).rows_due == 0) ≡ true → are_numbers_due (told above).section ≡ true → (ts : List Token) → IfSome (numbers_line ts) (IsFormHere s above)
+numbers_here : (s : Setting) (above : List Statement) → ((told above).rows_due == 0) ≡ true → are_numbers_due (told above).section ≡ true → (ts : List Token) → IfSome (numbers_line ts) (IsFormHere s above)
 numbers_here s above e d ts =
     either_has (IsFormHere s above) (nat_le (length ts) numbers_limit) _ None (map_has (λ zs. Unit {0}) (IsFormHere s above) _ (all_numbers ts) (some_has (all_numbers ts)) (λ zs k. (e, d))) tt
   where
@@ -461,7 +461,7 @@ numbers_here s above e d ts =
     some_has (Some zs) = tt
 
 -- The form that is read is good for what a line of it is good for here.
-pub form_here : (s : Setting) (above : List LineForm) (ws : List (List ℕ)) → IfOk (form_read s.form (told above).section (told above).rows_due (told above).row_width ws) (IsFormHere s above)
+pub form_here : (s : Setting) (above : List Statement) (ws : List (List ℕ)) → IfOk (form_read s.form (told above).section (told above).rows_due (told above).row_width ws) (IsFormHere s above)
 form_here s above ws = at_rows ((told above).rows_due == 0) refl
   where
     at_numbers : (t : Bool) → are_numbers_due (told above).section ≡ t → ((told above).rows_due == 0) ≡ true → IfOk (cond t (ok_or (numbers_line (map token_of ws)) FormReason) (verb_read s.form (told above).section ws)) (IsFormHere s above)

@@ -5,45 +5,45 @@ use Rattle.lw_calls.specs.declared.reason.Reason.{Reason}
 use Rattle.lw_calls.specs.declared.reason.Reason.TheVariants.{Missing}
 use Rattle.lw_grammar.specs.Demands.{◌>>=◌, demand}
 use Rattle.lw_grammar.specs.Lines.{lines}
-use Rattle.lw_grammar.specs.LineForms.{LineForm, BitmapLine, RowLine}
+use Rattle.lw_grammar.specs.LineForms.{Statement, BitmapLine, RowLine}
 use Rattle.lw_grammar.specs.Told.{told}
 use Rattle.lw_grammar.specs.Script.{Setting, is_skipped, are_assets_due, is_nothing_due, words_read, form_read, form_tested, line_read, forms_with, Reached, at_the_top, with_line, at_number, may_end, end_read, lines_read, ScriptInput, input_from, outcome_of, SpellsInput, IsFirstBadIn, IsDecidedIn, IsGoodLine, AreGoodLines}
 use Rattle.lw_grammar.proofs.ScriptForms.{IsFormHere, form_here}
 use Rattle.std.proofs.lemmas.Bool.{true≢false}
 
 -- What a line that was read is good for: its words have the form, and the form's tests hold.
-abbrev IsRead : Setting → List LineForm → LineForm → Type 0
+abbrev IsRead : Setting → List Statement → Statement → Type 0
 IsRead s above f = IsFormHere s above f × (form_tested s (told above) f ≡ Ok tt)
 
 -- a form that is told has passed its tests
-read_tests : (s : Setting) (above : List LineForm) (f g : LineForm) → IsFormHere s above f → (t : Result (Unit {0}) Reason) → form_tested s (told above) f ≡ t → (t >>= (λ _. Ok f)) ≡ Ok g → IsRead s above g
+read_tests : (s : Setting) (above : List Statement) (f g : Statement) → IsFormHere s above f → (t : Result (Unit {0}) Reason) → form_tested s (told above) f ≡ t → (t >>= (λ _. Ok f)) ≡ Ok g → IsRead s above g
 read_tests s above f g h (Ok u) e d =
     let same : f ≡ g = cc in
-    subst (λ (k : LineForm). IsRead s above k) same (h, e)
+    subst (λ (k : Statement). IsRead s above k) same (h, e)
 read_tests s above f g h (Err r) e d = absurd (cc)
 
 -- the same of the words that a line has, or has not
-read_words : (s : Setting) (above : List LineForm) (g : LineForm) (t : Result (List (List ℕ)) Reason) → (t >>= (λ ws. form_read s.form (told above).section (told above).rows_due (told above).row_width ws >>= (λ f. form_tested s (told above) f >>= (λ _. Ok f)))) ≡ Ok g → IsRead s above g
+read_words : (s : Setting) (above : List Statement) (g : Statement) (t : Result (List (List ℕ)) Reason) → (t >>= (λ ws. form_read s.form (told above).section (told above).rows_due (told above).row_width ws >>= (λ f. form_tested s (told above) f >>= (λ _. Ok f)))) ≡ Ok g → IsRead s above g
 read_words s above g (Err r) e = absurd (cc)
 read_words s above g (Ok ws) e = at_form (form_read s.form (told above).section (told above).rows_due (told above).row_width ws) (form_here s above ws) e
   where
-    at_form : (r : Result LineForm Reason) → IfOk r (IsFormHere s above) → (r >>= (λ f. form_tested s (told above) f >>= (λ _. Ok f))) ≡ Ok g → IsRead s above g
+    at_form : (r : Result Statement Reason) → IfOk r (IsFormHere s above) → (r >>= (λ f. form_tested s (told above) f >>= (λ _. Ok f))) ≡ Ok g → IsRead s above g
     at_form (Err r) h d = absurd (cc)
     at_form (Ok f) h d = read_tests s above f g h (form_tested s (told above) f) refl d
 
 -- a good line's form is good for this
-pub good_line : (s : Setting) (above : List LineForm) (f : LineForm) → IsGoodLine s above f → IsRead s above f
+pub good_line : (s : Setting) (above : List Statement) (f : Statement) → IsGoodLine s above f → IsRead s above f
 good_line s above f g = read_words s above f (words_read g.line) g.read
 
 -- rows of a bitmap are due where glyphs and bitmaps are
-pub rows_in_assets : (s : Setting) (above : List LineForm) → AreGoodLines s above → ((told above).rows_due == 0) ≡ false → are_assets_due (told above).section ≡ true
+pub rows_in_assets : (s : Setting) (above : List Statement) → AreGoodLines s above → ((told above).rows_due == 0) ≡ false → are_assets_due (told above).section ≡ true
 rows_in_assets s [] g e = absurd (true≢false e)
 rows_in_assets s (BitmapLine name w h d ∷ above) g e = (good_line s above (BitmapLine name w h d) g.0).0.1
 rows_in_assets s (RowLine bytes ∷ above) g e = rows_in_assets s above g.1 (good_line s above (RowLine bytes) g.0).0.0
 rows_in_assets s (f ∷ above) g e = absurd (true≢false (sym (good_line s above f g.0).0.0 ∙ e))
 
 -- What good lines give that were read to their end: they are good, and the input may end below them.
-pub record AreRead (s : Setting) (above : List LineForm) : Type 0 where
+pub record AreRead (s : Setting) (above : List Statement) : Type 0 where
   pub good : AreGoodLines s above
   pub ended : may_end s.form (told above).section ≡ true
 
@@ -60,10 +60,10 @@ ends_read s p q g e =
     let h = end_same s p q e in subst (λ (r : Reached). AreRead s r.forms) h.0 (record { good = g; ended = h.1 })
 
 -- a further line is good, or skipped
-pub with_good : (s : Setting) (above : List LineForm) (line : List ℕ) → AreGoodLines s above → IfOk (forms_with s above line) (AreGoodLines s)
+pub with_good : (s : Setting) (above : List Statement) (line : List ℕ) → AreGoodLines s above → IfOk (forms_with s above line) (AreGoodLines s)
 with_good s above line g = go (is_skipped line)
   where
-    at_read : (r : Result LineForm Reason) → line_read s (told above) line ≡ r → IfOk (r >>= (λ form. Ok (form ∷ above))) (AreGoodLines s)
+    at_read : (r : Result Statement Reason) → line_read s (told above) line ≡ r → IfOk (r >>= (λ form. Ok (form ∷ above))) (AreGoodLines s)
     at_read (Ok f) e = (record { line = line; read = e }, g)
     at_read (Err r) e = tt
 
@@ -78,9 +78,9 @@ lines_good s p q (line ∷ ls) g e =
     go (is_nothing_due (told p.forms).section) (λ forms h d. lines_good s (with_line p line forms) q ls h d) e
   where
     Next : Type 0
-    Next = (forms : List LineForm) → AreGoodLines s forms → lines_read s (with_line p line forms) ls ≡ Ok q → AreRead s q.forms
+    Next = (forms : List Statement) → AreGoodLines s forms → lines_read s (with_line p line forms) ls ≡ Ok q → AreRead s q.forms
 
-    at_forms : (r : Result (List LineForm) Reason) → IfOk r (AreGoodLines s) → Next → (at_number p.number r >>= (λ forms. lines_read s (with_line p line forms) ls)) ≡ Ok q → AreRead s q.forms
+    at_forms : (r : Result (List Statement) Reason) → IfOk r (AreGoodLines s) → Next → (at_number p.number r >>= (λ forms. lines_read s (with_line p line forms) ls)) ≡ Ok q → AreRead s q.forms
     at_forms (Ok forms) h next d = next forms h d
     at_forms (Err r) h next d = absurd (cc)
 

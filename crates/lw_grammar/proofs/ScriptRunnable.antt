@@ -3,7 +3,7 @@ use Rattle.std.proofs.Common.{◌≡◌, ℕ, ◌<◌, ◌≤◌, ◌==◌, Bool
 use Rattle.lw_calls.specs.declared.sizes.Sizes.{Sizes}
 use Rattle.lw_calls.specs.Limits.{call_limit, call_fits}
 use Rattle.lw_calls.specs.Built.{is_built}
-use Rattle.lw_grammar.specs.LineForms.{LineForm}
+use Rattle.lw_grammar.specs.LineForms.{Statement}
 use Rattle.lw_grammar.specs.Told.{told, plan_of}
 use Rattle.lw_grammar.specs.Script.{Setting, are_assets_due, may_end, ScriptInput, input_from, SpellsInput, IsRunnableInput, AreGoodLines}
 use Rattle.lw_grammar.proofs.ScriptOutcome.{rows_in_assets, of_lines}
@@ -12,7 +12,7 @@ use Rattle.lw_grammar.proofs.ScriptTasks.{view_of, IsTaskFit, HaveBegun, TasksAr
 use Rattle.std.proofs.lemmas.Bool.{eqb-true, ltb-true}
 
 -- no rows are due where no bitmap may stand
-pub rows_done : (s : Setting) (above : List LineForm) → AreGoodLines s above → are_assets_due (told above).section ≡ false → (told above).rows_due ≡ 0
+pub rows_done : (s : Setting) (above : List Statement) → AreGoodLines s above → are_assets_due (told above).section ≡ false → (told above).rows_due ≡ 0
 rows_done s above g e = go ((told above).rows_due == 0) refl
   where
     go : (t : Bool) → ((told above).rows_due == 0) ≡ t → (told above).rows_due ≡ 0
@@ -20,7 +20,7 @@ rows_done s above g e = go ((told above).rows_due == 0) refl
     go false d = let due = rows_in_assets s above g d in absurd (cc)
 
 -- The plan of good lines below which an input may end may be run.
-pub runs_from_good : (s : Setting) (above : List LineForm) (place : ℕ) → AreGoodLines s above → may_end s.form (told above).section ≡ true → IsRunnableInput s (input_from s (told above) place)
+pub runs_from_good : (s : Setting) (above : List Statement) (place : ℕ) → AreGoodLines s above → may_end s.form (told above).section ≡ true → IsRunnableInput s (input_from s (told above) place)
 runs_from_good s above place g e =
     let ends = whole_ends s.form above e in
     let counts = counted s above g in

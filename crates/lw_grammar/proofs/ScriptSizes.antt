@@ -10,7 +10,7 @@ use Rattle.lw_calls.specs.declared.form.Form.{Form}
 use Rattle.lw_calls.specs.declared.form.Form.TheVariants.{Plain, Ordered, Audited}
 use Rattle.lw_calls.specs.Limits.{name_limit, call_limit, task_limit, bitmap_limit}
 use Rattle.lw_grammar.specs.Demands.{◌>>=◌, demand}
-use Rattle.lw_grammar.specs.LineForms.{LineForm, ScreenLine, GlyphLine, BitmapLine, RowLine, TaskLine, EndLine, OrderLine, NumbersLine, ReportLine, is_line_in_range}
+use Rattle.lw_grammar.specs.LineForms.{Statement, ScreenLine, GlyphLine, BitmapLine, RowLine, TaskLine, EndLine, OrderLine, NumbersLine, ReportLine, is_line_in_range}
 use Rattle.lw_grammar.specs.Told.{Section, ScreenIsDue, AssetsAreDue, CallsAreDue, TasksAreDue, NumbersAreDue, NothingIsDue, hook_on, told}
 use Rattle.lw_grammar.specs.Script.{Setting, is_screen_due, are_assets_due, are_calls_due, are_tasks_due, are_numbers_due, is_nothing_due, is_plain, lacks_name, gives_again, fits_group, super_limit, are_few, is_no_hook, is_used, has_padding, is_unbuilt, form_tested, may_end, AreGoodLines}
 use Rattle.lw_grammar.proofs.ScriptForms.{IsFormHere}
@@ -20,7 +20,7 @@ use Rattle.std.proofs.lemmas.Bool.{true≢false, false≢true, not-true, not_fro
 use Rattle.std.proofs.lemmas.List.Elements.{All-nil, All-cons, All-append, All-push, All-map}
 
 -- each test of a good line's form
-pub record IsFormTested (s : Setting) (above : List LineForm) (f : LineForm) : Type 0 where
+pub record IsFormTested (s : Setting) (above : List Statement) (f : Statement) : Type 0 where
   pub range : is_line_in_range f ≡ true
   pub named : lacks_name (told above).bitmap_names f ≡ false
   pub new : gives_again (told above) f ≡ false
@@ -42,7 +42,7 @@ passed_last true r h = refl
 passed_last false r h = absurd (cc)
 
 -- the tests of a form that has passed them
-tests_passed : (s : Setting) (above : List LineForm) (f : LineForm) → form_tested s (told above) f ≡ Ok tt → IsFormTested s above f
+tests_passed : (s : Setting) (above : List Statement) (f : Statement) → form_tested s (told above) f ≡ Ok tt → IsFormTested s above f
 tests_passed s above f h =
     let a = passed (is_line_in_range f) _ _ h in
     let b = passed (not (lacks_name (told above).bitmap_names f)) _ _ a.1 in
@@ -76,26 +76,26 @@ pass_last true r e = refl
 pass_last false r e = absurd (false≢true e)
 
 -- a form of which each test holds passes them
-pub tests_pass : (s : Setting) (above : List LineForm) (f : LineForm) → IsFormTested s above f → form_tested s (told above) f ≡ Ok tt
+pub tests_pass : (s : Setting) (above : List Statement) (f : Statement) → IsFormTested s above f → form_tested s (told above) f ≡ Ok tt
 tests_pass s above f k =
     pass _ _ _ k.range (pass _ _ _ (not_from_false _ k.named) (pass _ _ _ (not_from_false _ k.new) (pass _ _ _ k.group (pass _ _ _ k.few (pass _ _ _ (not_from_false _ k.hook) (pass _ _ _ (not_from_false _ k.unused) (pass _ _ _ (not_from_false _ k.padding) (pass_last _ _ (not_from_false _ k.built)))))))))
 
 -- what the nearest of good lines is good for, and its tests
-pub here : (s : Setting) (above : List LineForm) (f : LineForm) → AreGoodLines s (f ∷ above) → IsFormHere s above f
+pub here : (s : Setting) (above : List Statement) (f : Statement) → AreGoodLines s (f ∷ above) → IsFormHere s above f
 here s above f g = (good_line s above f g.0).0
 
-pub tests : (s : Setting) (above : List LineForm) (f : LineForm) → AreGoodLines s (f ∷ above) → IsFormTested s above f
+pub tests : (s : Setting) (above : List Statement) (f : Statement) → AreGoodLines s (f ∷ above) → IsFormTested s above f
 tests s above f g = tests_passed s above f (good_line s above f g.0).1
 
 -- the counts of lines
-pub record AreCounted (above : List LineForm) : Type 0 where
+pub record AreCounted (above : List Statement) : Type 0 where
   pub tasks : length (told above).tasks ≤ 16
   pub bitmaps : length (told above).bitmap_names ≤ 16
   pub names : length (told above).names ≤ name_limit
   pub calls : (told above).so_far ≤ call_limit
 
 -- good lines are few
-pub counted : (s : Setting) (above : List LineForm) → AreGoodLines s above → AreCounted above
+pub counted : (s : Setting) (above : List Statement) → AreGoodLines s above → AreCounted above
 counted s [] g = record { tasks = omega arith; bitmaps = omega arith; names = omega arith; calls = omega arith }
 counted s (f ∷ above) g =
     let halves = and_parts ((nat_le (length (told (f ∷ above)).tasks) task_limit && nat_le (length (told (f ∷ above)).bitmap_names) bitmap_limit) && nat_le (length (told (f ∷ above)).names) name_limit) _ (tests s above f g).few in
@@ -194,7 +194,7 @@ sizes_range w h d e =
     record { columns = size_range w 1024 sides.0; rows = size_range h 1024 sides.1; planes = size_range d 8 halves.1 }
 
 -- below the screen line good lines give the sizes of a screen
-pub sized : (s : Setting) (above : List LineForm) → AreGoodLines s above → When (has_screen (told above).section) (IsScreen (told above).width (told above).height (told above).depth)
+pub sized : (s : Setting) (above : List Statement) → AreGoodLines s above → When (has_screen (told above).section) (IsScreen (told above).width (told above).height (told above).depth)
 sized s [] g = tt
 sized s (ScreenLine w h d ∷ above) g = sizes_range w h d (tests s above (ScreenLine w h d) g).range
 sized s (TaskLine name ∷ above) g =
@@ -208,7 +208,7 @@ sized s (ReportLine ∷ above) g =
 sized s (f ∷ above) g = sized s above g.1
 
 -- no task has begun above a screen line, a glyph or a bitmap, and at least one has behind a task line
-pub begun_tasks : (s : Setting) (above : List LineForm) → AreGoodLines s above → cond (has_begun (told above).section) (nat_lt 0 (length (told above).tasks)) (length (told above).tasks == 0) ≡ true
+pub begun_tasks : (s : Setting) (above : List Statement) → AreGoodLines s above → cond (has_begun (told above).section) (nat_lt 0 (length (told above).tasks)) (length (told above).tasks == 0) ≡ true
 begun_tasks s [] g = refl
 begun_tasks s (ScreenLine w h d ∷ above) g =
     let P : Bool → Type 0 = λ b. cond b (nat_lt 0 (length (told above).tasks)) (length (told above).tasks == 0) ≡ true in
@@ -236,7 +236,7 @@ first_task true NumbersAreDue p e a = absurd (false≢true e)
 first_task true NothingIsDue p e a = absurd (false≢true e)
 
 -- a script alone has at most one task
-pub one_task : (s : Setting) (above : List LineForm) → is_plain s.form ≡ true → AreGoodLines s above → length (told above).tasks ≤ 1
+pub one_task : (s : Setting) (above : List Statement) → is_plain s.form ≡ true → AreGoodLines s above → length (told above).tasks ≤ 1
 one_task s [] p g = omega arith
 one_task s (TaskLine name ∷ above) p g =
     let h = here s above (TaskLine name) g in
@@ -278,13 +278,13 @@ end_by_nothing NumbersAreDue e = absurd (false≢true e)
 end_by_nothing NothingIsDue e = record { begun = refl; screen = refl; assets = refl; calls = refl }
 
 -- where an input may end, its section is one of these
-pub whole_ends : (form : Form) (above : List LineForm) → may_end form (told above).section ≡ true → MayEnd (told above).section
+pub whole_ends : (form : Form) (above : List Statement) → may_end form (told above).section ≡ true → MayEnd (told above).section
 whole_ends Plain above e = end_by_tasks (told above).section e
 whole_ends Ordered above e = end_by_numbers (told above).section e
 whole_ends Audited above e = end_by_nothing (told above).section e
 
 -- the rows of a glyph are eight
-glyph_rows : (s : Setting) (above : List LineForm) → AreGoodLines s above → (code : ℕ) → length ((told above).glyphs code) ≡ 8
+glyph_rows : (s : Setting) (above : List Statement) → AreGoodLines s above → (code : ℕ) → length ((told above).glyphs code) ≡ 8
 glyph_rows s [] g code = refl
 glyph_rows s (GlyphLine c rows ∷ above) g code = step (c == code) (glyph_rows s above g.1 code)
   where
@@ -294,7 +294,7 @@ glyph_rows s (GlyphLine c rows ∷ above) g code = step (c == code) (glyph_rows 
 glyph_rows s (f ∷ above) g code = glyph_rows s above g.1 code
 
 -- so are those of all glyphs
-pub all_glyphs : (s : Setting) (above : List LineForm) → AreGoodLines s above → All (λ rows. length rows ≡ 8) (map (λ i. (told above).glyphs (32 + i)) (range_with_len 0 95))
+pub all_glyphs : (s : Setting) (above : List Statement) → AreGoodLines s above → All (λ rows. length rows ≡ 8) (map (λ i. (told above).glyphs (32 + i)) (range_with_len 0 95))
 all_glyphs s above g =
     All-map (λ rows. length rows ≡ 8) (λ i. (told above).glyphs (32 + i)) (range_with_len 0 95) (λ k d low. glyph_rows s above g (32 + slice_index_or (range_with_len 0 95) k d))
 
@@ -308,7 +308,7 @@ bitmap_sizes w h d s =
     }
 
 -- where no rows are due, none are needed
-pub none_due : (above : List LineForm) → (told above).rows_due ≡ 0 → 0 ≡ (told above).rows_due * row_bytes (told above).row_width
+pub none_due : (above : List Statement) → (told above).rows_due ≡ 0 → 0 ≡ (told above).rows_due * row_bytes (told above).row_width
 none_due above e = sym (zero-mul (row_bytes (told above).row_width)) ∙ ap (λ k. k * row_bytes (told above).row_width) (sym e)
 
 -- a row less is due
@@ -320,7 +320,7 @@ row_less (suc due) n bytes rows e h k =
     omega (arith, suc-mul due n)
 
 -- Where no rows are due but those behind, the bitmaps above are planes.
-pub bitmaps_made : (s : Setting) (above : List LineForm) → AreGoodLines s above → (rows : List ℕ) → length rows ≡ (told above).rows_due * row_bytes (told above).row_width → All IsPlanes ((told above).bitmaps rows)
+pub bitmaps_made : (s : Setting) (above : List Statement) → AreGoodLines s above → (rows : List ℕ) → length rows ≡ (told above).rows_due * row_bytes (told above).row_width → All IsPlanes ((told above).bitmaps rows)
 bitmaps_made s [] g rows n = All-nil IsPlanes
 bitmaps_made s (BitmapLine name w h d ∷ above) g rows n =
     let sizes = bitmap_sizes _ _ _ (sizes_range w h d (tests s above (BitmapLine name w h d) g).range) in
@@ -332,7 +332,7 @@ bitmaps_made s (RowLine bytes ∷ above) g rows n =
 bitmaps_made s (f ∷ above) g rows n = bitmaps_made s above g.1 rows n
 
 -- there are as many bitmaps as names of them
-pub bitmaps_named : (above : List LineForm) (rows : List ℕ) → length ((told above).bitmaps rows) ≡ length (told above).bitmap_names
+pub bitmaps_named : (above : List Statement) (rows : List ℕ) → length ((told above).bitmaps rows) ≡ length (told above).bitmap_names
 bitmaps_named [] rows = refl
 bitmaps_named (BitmapLine name w h d ∷ above) rows =
     length-append ((told above).bitmaps []) _ ∙ ap (λ k. k + 1) (bitmaps_named above []) ∙ sym (length-append (told above).bitmap_names (name ∷ []))
@@ -347,7 +347,7 @@ numbers_small (z ∷ zs) h =
     All-cons (λ task. task ≤ 15) (unsigned_abs z) (map unsigned_abs zs) (in_range z 15 halves.0) (numbers_small zs halves.1)
 
 -- so is each of an order's lines
-pub order_small : (s : Setting) (above : List LineForm) → AreGoodLines s above → All (λ task. task ≤ 15) (told above).order
+pub order_small : (s : Setting) (above : List Statement) → AreGoodLines s above → All (λ task. task ≤ 15) (told above).order
 order_small s [] g = All-nil (λ task. task ≤ 15)
 order_small s (NumbersLine zs ∷ above) g =
     All-append (λ task. task ≤ 15) (told above).order _ (order_small s above g.1) (numbers_small zs (tests s above (NumbersLine zs) g).range)

@@ -10,7 +10,7 @@ use Rattle.lw_calls.specs.Limits.{call_limit, call_fits}
 use Rattle.lw_calls.specs.Touches.{slots_of}
 use Rattle.lw_calls.specs.Plan.{is_one, is_all, begins_update, ends_update, may_be_locked, may_stand, group_fits, groups_fit}
 use Rattle.lw_calls.specs.Built.{is_built}
-use Rattle.lw_grammar.specs.LineForms.{Act, CloseAct, RefreshAct, EndRefreshAct, LineForm, ScreenLine, BitmapLine, TaskLine, EndLine, OrderLine, ReportLine, CallLine, LockLine, UnlockLine, HoldLine, ReleaseLine, layers_of}
+use Rattle.lw_grammar.specs.LineForms.{Act, CloseAct, RefreshAct, EndRefreshAct, Statement, ScreenLine, BitmapLine, TaskLine, EndLine, OrderLine, ReportLine, CallLine, LockLine, UnlockLine, HoldLine, ReleaseLine, layers_of}
 use Rattle.lw_grammar.specs.Told.{Section, ScreenIsDue, AssetsAreDue, CallsAreDue, TasksAreDue, NumbersAreDue, NothingIsDue, Opened, Locked, Updating, Held, and_names, place_among, onto_last, spelled_call, call_below, hook_on, opened_by, group_from, told}
 use Rattle.lw_grammar.specs.Script.{Setting, is_screen_due, are_assets_due, are_calls_due, are_tasks_due, is_beginning, is_ending, is_on_one, call_may_stand, is_lock_on, is_hold, is_no_hook, AreGoodLines}
 use Rattle.lw_grammar.proofs.ScriptNames.{equal_names, names_grow, any_kept, place_kept, all_named, places_below}
@@ -31,7 +31,7 @@ pub record View : Type 0 where
   pub began : ℕ
   pub names : List (List ℕ)
 
-abbrev pub view_of : List LineForm → View
+abbrev pub view_of : List Statement → View
 view_of above =
     record {
       calls = (told above).calls;
@@ -242,7 +242,7 @@ task_grouped z calls groups g before fits h =
     record { few = h.few; fit = h.fit; built = h.built; grouped = groups_pushed calls groups g h.grouped before fits }
 
 -- what a line that is no beginning and no end leaves of groups
-pub plain_groups : (above : List LineForm) (layers : List (List ℕ)) (act : Act) → is_beginning act ≡ false → is_ending act ≡ false → ((told (CallLine layers act ∷ above)).groups ≡ (told above).groups) × (opened_by layers act (told above).group ≡ (told above).group) × ((told (CallLine layers act ∷ above)).began ≡ (told above).began)
+pub plain_groups : (above : List Statement) (layers : List (List ℕ)) (act : Act) → is_beginning act ≡ false → is_ending act ≡ false → ((told (CallLine layers act ∷ above)).groups ≡ (told above).groups) × (opened_by layers act (told above).group ≡ (told above).group) × ((told (CallLine layers act ∷ above)).began ≡ (told above).began)
 plain_groups above [] RefreshAct b e = absurd (true≢false b)
 plain_groups above (l ∷ []) RefreshAct b e = absurd (true≢false b)
 plain_groups above (l ∷ m ∷ ms) RefreshAct b e = absurd (true≢false b)
@@ -257,7 +257,7 @@ built_so bitmaps CloseAct slots = refl
 built_so bitmaps act slots = refl
 
 -- the call of a good line fits, and its step is given
-call_sound : (z : Sizes) (s : Setting) (above : List LineForm) (layers : List (List ℕ)) (act : Act) → AreGoodLines s (CallLine layers act ∷ above) → z.hooks ≡ s.hooks → length (told (CallLine layers act ∷ above)).names ≤ z.slots → length (told above).bitmap_names ≤ z.bitmaps → (call_fits z (call_below (told above) layers act) ≡ true) × (is_built (call_below (told above) layers act) ≡ true)
+call_sound : (z : Sizes) (s : Setting) (above : List Statement) (layers : List (List ℕ)) (act : Act) → AreGoodLines s (CallLine layers act ∷ above) → z.hooks ≡ s.hooks → length (told (CallLine layers act ∷ above)).names ≤ z.slots → length (told above).bitmap_names ≤ z.bitmaps → (call_fits z (call_below (told above) layers act) ≡ true) × (is_built (call_below (told above) layers act) ≡ true)
 call_sound z s above layers act g hooks slots bitmaps =
     let h = here s above (CallLine layers act) g in
     let t = tests s above (CallLine layers act) g in
@@ -267,7 +267,7 @@ call_sound z s above layers act g hooks slots bitmaps =
     (act_fits z (told above).bitmap_names bitmaps (map (place_among more) layers) layers act h.3.1 t.range t.named (subst P (sym hooks) t.hook) (λ i k. omega (arith, low i (omega (arith, h.3.0, k)), slots)), built_so (told above).bitmap_names act (map (place_among more) layers) ∙ not-false _ t.built)
 
 -- the tasks with a call and groups more in the nearest one
-module _ (z : Sizes) (s : Setting) (above : List LineForm) (layers : List (List ℕ)) (act : Act) (good : AreGoodLines s (CallLine layers act ∷ above)) (hooks : z.hooks ≡ s.hooks) (slots : length (told (CallLine layers act ∷ above)).names ≤ z.slots) (bitmaps : length (told above).bitmap_names ≤ z.bitmaps) where
+module _ (z : Sizes) (s : Setting) (above : List Statement) (layers : List (List ℕ)) (act : Act) (good : AreGoodLines s (CallLine layers act ∷ above)) (hooks : z.hooks ≡ s.hooks) (slots : length (told (CallLine layers act ∷ above)).names ≤ z.slots) (bitmaps : length (told above).bitmap_names ≤ z.bitmaps) where
   -- the call
   abbrev the_call : Call
   the_call = call_below (told above) layers act
@@ -330,7 +330,7 @@ update_whole slot [] c h k = absurd h
 update_whole slot (b ∷ cs) c h k = update_stands slot b cs c h.0 h.1 k
 
 -- an update begins
-refresh_call : (z : Sizes) (s : Setting) (above : List LineForm) (l : List ℕ) → AreGoodLines s (CallLine (l ∷ []) RefreshAct ∷ above) → z.hooks ≡ s.hooks → length (told (CallLine (l ∷ []) RefreshAct ∷ above)).names ≤ z.slots → length (told above).bitmap_names ≤ z.bitmaps → HaveBegun z (view_of above) → HaveBegun z (view_of (CallLine (l ∷ []) RefreshAct ∷ above))
+refresh_call : (z : Sizes) (s : Setting) (above : List Statement) (l : List ℕ) → AreGoodLines s (CallLine (l ∷ []) RefreshAct ∷ above) → z.hooks ≡ s.hooks → length (told (CallLine (l ∷ []) RefreshAct ∷ above)).names ≤ z.slots → length (told above).bitmap_names ≤ z.bitmaps → HaveBegun z (view_of above) → HaveBegun z (view_of (CallLine (l ∷ []) RefreshAct ∷ above))
 refresh_call z s above l g hooks slots bitmaps b =
     let t = tests s above (CallLine (l ∷ []) RefreshAct) g in
     let so_far : ℕ = (told above).so_far in
@@ -345,7 +345,7 @@ refresh_call z s above l g hooks slots bitmaps b =
     (record { before = before; order = omega arith }, (all_named (told above).names (l ∷ [])).0, subst Q (sym alone) begun)
 
 -- an update ends
-endrefresh_call : (z : Sizes) (s : Setting) (above : List LineForm) (l : List ℕ) (full : Bool) → AreGoodLines s (CallLine (l ∷ []) (EndRefreshAct full) ∷ above) → z.hooks ≡ s.hooks → length (told (CallLine (l ∷ []) (EndRefreshAct full) ∷ above)).names ≤ z.slots → length (told above).bitmap_names ≤ z.bitmaps → HaveBegun z (view_of above) → HaveBegun z (view_of (CallLine (l ∷ []) (EndRefreshAct full) ∷ above))
+endrefresh_call : (z : Sizes) (s : Setting) (above : List Statement) (l : List ℕ) (full : Bool) → AreGoodLines s (CallLine (l ∷ []) (EndRefreshAct full) ∷ above) → z.hooks ≡ s.hooks → length (told (CallLine (l ∷ []) (EndRefreshAct full) ∷ above)).names ≤ z.slots → length (told above).bitmap_names ≤ z.bitmaps → HaveBegun z (view_of above) → HaveBegun z (view_of (CallLine (l ∷ []) (EndRefreshAct full) ∷ above))
 endrefresh_call z s above l full g hooks slots bitmaps b =
     let t = tests s above (CallLine (l ∷ []) (EndRefreshAct full)) g in
     let so_far : ℕ = (told above).so_far in
@@ -366,7 +366,7 @@ endrefresh_call z s above l full g hooks slots bitmaps b =
     (end_pushed b.groups group (so_far + 1) (omega arith))
 
 -- any call
-any_call : (z : Sizes) (s : Setting) (above : List LineForm) (layers : List (List ℕ)) (act : Act) → AreGoodLines s (CallLine layers act ∷ above) → z.hooks ≡ s.hooks → length (told (CallLine layers act ∷ above)).names ≤ z.slots → length (told above).bitmap_names ≤ z.bitmaps → HaveBegun z (view_of above) → HaveBegun z (view_of (CallLine layers act ∷ above))
+any_call : (z : Sizes) (s : Setting) (above : List Statement) (layers : List (List ℕ)) (act : Act) → AreGoodLines s (CallLine layers act ∷ above) → z.hooks ≡ s.hooks → length (told (CallLine layers act ∷ above)).names ≤ z.slots → length (told above).bitmap_names ≤ z.bitmaps → HaveBegun z (view_of above) → HaveBegun z (view_of (CallLine layers act ∷ above))
 any_call z s above [] RefreshAct g hooks slots bitmaps b = absurd (cc ((here s above (CallLine [] RefreshAct) g).3.0))
 any_call z s above (l ∷ []) RefreshAct g hooks slots bitmaps b = refresh_call z s above l g hooks slots bitmaps b
 any_call z s above (l ∷ m ∷ ms) RefreshAct g hooks slots bitmaps b = absurd (omega (arith, (here s above (CallLine (l ∷ m ∷ ms) RefreshAct) g).3.0))
@@ -394,7 +394,7 @@ none_behind : (z : Sizes) (v : View) (b : HaveBegun z v) → drop v.so_far b.cal
 none_behind z v b = drop_all v.so_far b.calls (omega (arith, b.now.long))
 
 -- a group begins where none is open
-lock_begins : (z : Sizes) (s : Setting) (above : List LineForm) (name : List ℕ) → AreGoodLines s (LockLine name ∷ above) → HaveBegun z (view_of above) → HaveBegun z (view_of (LockLine name ∷ above))
+lock_begins : (z : Sizes) (s : Setting) (above : List Statement) (name : List ℕ) → AreGoodLines s (LockLine name ∷ above) → HaveBegun z (view_of above) → HaveBegun z (view_of (LockLine name ∷ above))
 lock_begins z s above name g b =
     let t = tests s above (LockLine name) g in
     let so_far : ℕ = (told above).so_far in
@@ -405,7 +405,7 @@ lock_begins z s above name g b =
     grouped z (view_of above) (view_of (LockLine name ∷ above)) b b.groups refl refl b.groups_are b.now.fits
     (record { before = before; order = omega arith }, (all_named (told above).names (name ∷ [])).0, subst Q (sym (none_behind z (view_of above) b)) refl)
 
-hold_begins : (z : Sizes) (s : Setting) (above : List LineForm) → AreGoodLines s (HoldLine ∷ above) → HaveBegun z (view_of above) → HaveBegun z (view_of (HoldLine ∷ above))
+hold_begins : (z : Sizes) (s : Setting) (above : List Statement) → AreGoodLines s (HoldLine ∷ above) → HaveBegun z (view_of above) → HaveBegun z (view_of (HoldLine ∷ above))
 hold_begins z s above g b =
     let t = tests s above HoldLine g in
     let so_far : ℕ = (told above).so_far in
@@ -428,12 +428,12 @@ releases_held (Some (Updating m)) h = absurd (false≢true h)
 releases_held (Some Held) h = refl
 
 -- the group that ends with the last call
-ended_group : (z : Sizes) (above : List LineForm) (b : HaveBegun z (view_of above)) (hold : Hold) → (told above).began < (told above).so_far → EndBefore b.groups (told above).began → may_stand hold (drop (told above).began b.calls) ≡ true → IsTaskFit z b.calls (b.groups ++ group_from (told above) hold (told above).so_far ∷ [])
+ended_group : (z : Sizes) (above : List Statement) (b : HaveBegun z (view_of above)) (hold : Hold) → (told above).began < (told above).so_far → EndBefore b.groups (told above).began → may_stand hold (drop (told above).began b.calls) ≡ true → IsTaskFit z b.calls (b.groups ++ group_from (told above) hold (told above).so_far ∷ [])
 ended_group z above b hold some before stands =
     let fits = to_the_end b.calls (told above).began ((told above).so_far - 1) hold (omega arith) (omega (arith, b.now.long, some)) stands in
     task_grouped z b.calls b.groups (group_from (told above) hold (told above).so_far) before fits b.now.fits
 
-unlock_ends : (z : Sizes) (s : Setting) (above : List LineForm) (name : List ℕ) → AreGoodLines s (UnlockLine name ∷ above) → HaveBegun z (view_of above) → HaveBegun z (view_of (UnlockLine name ∷ above))
+unlock_ends : (z : Sizes) (s : Setting) (above : List Statement) (name : List ℕ) → AreGoodLines s (UnlockLine name ∷ above) → HaveBegun z (view_of above) → HaveBegun z (view_of (UnlockLine name ∷ above))
 unlock_ends z s above name g b =
     let t = and_parts (is_lock_on name (told above).group) _ (tests s above (UnlockLine name) g).group in
     let some : (told above).began < (told above).so_far = ltb-true _ _ t.1 in
@@ -446,7 +446,7 @@ unlock_ends z s above name g b =
     grouped z (view_of above) (view_of (UnlockLine name ∷ above)) b (b.groups ++ group ∷ []) refl refl (ap (onto_last group) b.groups_are ∙ onto_pushed group b.done_groups b.groups) (ended_group z above b (Slot slot) some state.0.before stands)
     (end_pushed b.groups group (told above).so_far (omega (arith, some)))
 
-release_ends : (z : Sizes) (s : Setting) (above : List LineForm) → AreGoodLines s (ReleaseLine ∷ above) → HaveBegun z (view_of above) → HaveBegun z (view_of (ReleaseLine ∷ above))
+release_ends : (z : Sizes) (s : Setting) (above : List Statement) → AreGoodLines s (ReleaseLine ∷ above) → HaveBegun z (view_of above) → HaveBegun z (view_of (ReleaseLine ∷ above))
 release_ends z s above g b =
     let t = and_parts (is_hold (told above).group) _ (tests s above ReleaseLine g).group in
     let some : (told above).began < (told above).so_far = ltb-true _ _ t.1 in
@@ -480,7 +480,7 @@ after_tasks z c v e h =
     (record { closed = λ d. at.closed refl; tasks = at.tasks }, record { closed = λ d. at.closed refl; tasks = at.tasks })
 
 -- Good lines give tasks whose calls and groups fit sizes that have their names.
-pub tasks_fit : (z : Sizes) (s : Setting) (above : List LineForm) → AreGoodLines s above → z.hooks ≡ s.hooks → length (told above).names ≤ z.slots → length (told above).bitmap_names ≤ z.bitmaps → AreTasks z (told above).section (view_of above)
+pub tasks_fit : (z : Sizes) (s : Setting) (above : List Statement) → AreGoodLines s above → z.hooks ≡ s.hooks → length (told above).names ≤ z.slots → length (told above).bitmap_names ≤ z.bitmaps → AreTasks z (told above).section (view_of above)
 tasks_fit z s [] g hooks slots bitmaps = record { closed = λ d. refl; tasks = (refl, refl) }
 tasks_fit z s (ScreenLine w h d ∷ above) g hooks slots bitmaps =
     screen_tasks z (told above).section (view_of above) (here s above (ScreenLine w h d) g).1 (tasks_fit z s above g.1 hooks slots bitmaps)
@@ -510,13 +510,13 @@ tasks_fit z s (ReleaseLine ∷ above) g hooks slots bitmaps =
 tasks_fit z s (f ∷ above) g hooks slots bitmaps = tasks_fit z s above g.1 hooks slots bitmaps
 
 -- there are as many lists of calls as tasks, and as many lists of groups
-pub calls_listed : (above : List LineForm) → length (told above).calls ≡ length (told above).tasks
+pub calls_listed : (above : List Statement) → length (told above).calls ≡ length (told above).tasks
 calls_listed [] = refl
 calls_listed (TaskLine name ∷ above) = length-append (told above).calls ([] ∷ []) ∙ ap (λ k. k + 1) (calls_listed above) ∙ sym (length-append (told above).tasks (name ∷ []))
 calls_listed (CallLine layers act ∷ above) = length_onto (call_below (told above) layers act) (told above).calls ∙ calls_listed above
 calls_listed (f ∷ above) = calls_listed above
 
-pub groups_listed : (above : List LineForm) → length (told above).groups ≡ length (told above).tasks
+pub groups_listed : (above : List Statement) → length (told above).groups ≡ length (told above).tasks
 groups_listed [] = refl
 groups_listed (TaskLine name ∷ above) = length-append (told above).groups ([] ∷ []) ∙ ap (λ k. k + 1) (groups_listed above) ∙ sym (length-append (told above).tasks (name ∷ []))
 groups_listed (UnlockLine name ∷ above) = length_onto _ (told above).groups ∙ groups_listed above

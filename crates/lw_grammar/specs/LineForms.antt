@@ -76,51 +76,51 @@ layers_of InFrontAct = 2
 layers_of (BlitAct b) = 2
 layers_of act = 1
 
--- A line that isn't skipped: the screen; a glyph by its code and its rows; a bitmap, whose rows then follow; a row of a
--- bitmap; a task's beginning and its end; the beginnings of an order and of a report; numbers of an order; a call with the
--- layers that it names from left to right; and the beginnings and ends of groups.
-pub data LineForm : Type 0 where
-  ScreenLine : ℤ → ℤ → ℤ → LineForm
-  GlyphLine : ℕ → List ℕ → LineForm
-  BitmapLine : List ℕ → ℤ → ℤ → ℤ → LineForm
-  RowLine : List ℕ → LineForm
-  TaskLine : List ℕ → LineForm
-  EndLine : LineForm
-  OrderLine : LineForm
-  NumbersLine : List ℤ → LineForm
-  ReportLine : LineForm
-  CallLine : List (List ℕ) → Act → LineForm
-  LockLine : List ℕ → LineForm
-  UnlockLine : List ℕ → LineForm
-  HoldLine : LineForm
-  ReleaseLine : LineForm
+-- What a line says, if it isn't skipped: the screen; a glyph by its code and its rows; a bitmap, whose rows then follow; a
+-- row of a bitmap; a task's beginning and its end; the beginnings of an order and of a report; numbers of an order; a call
+-- with the layers that it names from left to right; and the beginnings and ends of groups.
+pub data Statement : Type 0 where
+  ScreenLine : ℤ → ℤ → ℤ → Statement
+  GlyphLine : ℕ → List ℕ → Statement
+  BitmapLine : List ℕ → ℤ → ℤ → ℤ → Statement
+  RowLine : List ℕ → Statement
+  TaskLine : List ℕ → Statement
+  EndLine : Statement
+  OrderLine : Statement
+  NumbersLine : List ℤ → Statement
+  ReportLine : Statement
+  CallLine : List (List ℕ) → Act → Statement
+  LockLine : List ℕ → Statement
+  UnlockLine : List ℕ → Statement
+  HoldLine : Statement
+  ReleaseLine : Statement
 
 -- four numbers as the bounds of a rectangle, or in its place
 abbrev pub four : ℤ → ℤ → ℤ → ℤ → Rectangle
 four a b c d = record { min_x = a; min_y = b; max_x = c; max_y = d }
 
 -- screen W H D
-abbrev pub screen_line : List Token → Option LineForm
+abbrev pub screen_line : List Token → Option Statement
 screen_line (NumberToken a w ∷ NumberToken b h ∷ NumberToken c d ∷ []) = Some (ScreenLine w h d)
 screen_line _ = None
 
 -- the glyph line of a code, which is one byte, and of its rows
-abbrev pub glyph_of_bytes : Option (List ℕ) → Option (List ℕ) → Option LineForm
+abbrev pub glyph_of_bytes : Option (List ℕ) → Option (List ℕ) → Option Statement
 glyph_of_bytes (Some (code ∷ [])) (Some rows) = Some (GlyphLine code rows)
 glyph_of_bytes _ _ = None
 
 -- glyph CC HHHHHHHHHHHHHHHH
-abbrev pub glyph_line : List Token → Option LineForm
+abbrev pub glyph_line : List Token → Option Statement
 glyph_line (code ∷ rows ∷ []) = glyph_of_bytes (bytes_in 1 code) (bytes_in 8 rows)
 glyph_line _ = None
 
 -- bitmap NAME W H D
-abbrev pub bitmap_line : List Token → Option LineForm
+abbrev pub bitmap_line : List Token → Option Statement
 bitmap_line (NameToken n ∷ NumberToken a w ∷ NumberToken b h ∷ NumberToken c d ∷ []) = Some (BitmapLine n w h d)
 bitmap_line _ = None
 
 -- a row of a bitmap of this width: one word of the digits of the row's bytes
-abbrev pub row_line : ℕ → List Token → Option LineForm
+abbrev pub row_line : ℕ → List Token → Option Statement
 row_line width (t ∷ []) = option_map (λ bytes. RowLine bytes) (bytes_in (row_bytes width) t)
 row_line width _ = None
 
@@ -135,73 +135,73 @@ abbrev pub numbers_limit : ℕ
 numbers_limit = 64
 
 -- numbers of an order
-abbrev pub numbers_line : List Token → Option LineForm
+abbrev pub numbers_line : List Token → Option Statement
 numbers_line ts = if nat_le (length ts) numbers_limit then option_map (λ zs. NumbersLine zs) (all_numbers ts) else None
 
 -- a verb with a name, as task NAME
-abbrev pub name_line : (List ℕ → LineForm) → List Token → Option LineForm
+abbrev pub name_line : (List ℕ → Statement) → List Token → Option Statement
 name_line f (NameToken n ∷ []) = Some (f n)
 name_line f _ = None
 
 -- a verb alone, as end
-abbrev pub bare_line : LineForm → List Token → Option LineForm
+abbrev pub bare_line : Statement → List Token → Option Statement
 bare_line form [] = Some form
 bare_line form _ = None
 
 -- a verb with a layer, as close L
-abbrev pub layer_line : Act → List Token → Option LineForm
+abbrev pub layer_line : Act → List Token → Option Statement
 layer_line act (NameToken l ∷ []) = Some (CallLine (l ∷ []) act)
 layer_line act _ = None
 
 -- a verb with a layer and a number, as apen L P
-abbrev pub number_line : (ℤ → Act) → List Token → Option LineForm
+abbrev pub number_line : (ℤ → Act) → List Token → Option Statement
 number_line act (NameToken l ∷ NumberToken a z ∷ []) = Some (CallLine (l ∷ []) (act z))
 number_line act _ = None
 
 -- a verb with a layer and two numbers, as move L DX DY
-abbrev pub pair_line : (ℤ → ℤ → Act) → List Token → Option LineForm
+abbrev pub pair_line : (ℤ → ℤ → Act) → List Token → Option Statement
 pair_line act (NameToken l ∷ NumberToken a x ∷ NumberToken b y ∷ []) = Some (CallLine (l ∷ []) (act x y))
 pair_line act _ = None
 
 -- a verb with a layer and a text, as title L "TEXT"
-abbrev pub text_line : (List ℕ → Act) → List Token → Option LineForm
+abbrev pub text_line : (List ℕ → Act) → List Token → Option Statement
 text_line act (NameToken l ∷ TextToken text ∷ []) = Some (CallLine (l ∷ []) (act text))
 text_line act _ = None
 
 -- orrect R X0 Y0 X1 Y1, and its kin
-abbrev pub rect_line : RectOp → List Token → Option LineForm
+abbrev pub rect_line : RectOp → List Token → Option Statement
 rect_line op (NumberToken a r ∷ NumberToken b x0 ∷ NumberToken c y0 ∷ NumberToken d x1 ∷ NumberToken e y1 ∷ []) =
     Some (CallLine [] (RegRectAct op r (four x0 y0 x1 y1)))
 rect_line op _ = None
 
 -- orregion S R, and its kin
-abbrev pub region_line : PairOp → List Token → Option LineForm
+abbrev pub region_line : PairOp → List Token → Option Statement
 region_line op (NumberToken a s ∷ NumberToken b r ∷ []) = Some (CallLine [] (RegPairAct op s r))
 region_line op _ = None
 
 -- clearregion R
-abbrev pub clear_line : List Token → Option LineForm
+abbrev pub clear_line : List Token → Option Statement
 clear_line (NumberToken a r ∷ []) = Some (CallLine [] (RegClearAct r))
 clear_line _ = None
 
 -- which X Y
-abbrev pub which_line : List Token → Option LineForm
+abbrev pub which_line : List Token → Option Statement
 which_line (NumberToken a x ∷ NumberToken b y ∷ []) = Some (CallLine [] (WhichAct x y))
 which_line _ = None
 
 -- infront L M
-abbrev pub infront_line : List Token → Option LineForm
+abbrev pub infront_line : List Token → Option Statement
 infront_line (NameToken l ∷ NameToken m ∷ []) = Some (CallLine (l ∷ m ∷ []) InFrontAct)
 infront_line _ = None
 
 -- box L X Y W H, and fill L X0 Y0 X1 Y1
-abbrev pub four_line : (ℤ → ℤ → ℤ → ℤ → Act) → List Token → Option LineForm
+abbrev pub four_line : (ℤ → ℤ → ℤ → ℤ → Act) → List Token → Option Statement
 four_line act (NameToken l ∷ NumberToken a x ∷ NumberToken b y ∷ NumberToken c w ∷ NumberToken d h ∷ []) =
     Some (CallLine (l ∷ []) (act x y w h))
 four_line act _ = None
 
 -- scrollraster L DX DY X0 Y0 X1 Y1
-abbrev pub scrollraster_line : List Token → Option LineForm
+abbrev pub scrollraster_line : List Token → Option Statement
 scrollraster_line (NameToken l ∷ NumberToken a dx ∷ NumberToken b dy ∷
     NumberToken c x0 ∷ NumberToken d y0 ∷ NumberToken e x1 ∷ NumberToken f y1 ∷ []) =
     Some (CallLine (l ∷ []) (ScrollRasterAct dx dy (four x0 y0 x1 y1)))
@@ -213,7 +213,7 @@ minterm_of (Some (m ∷ [])) = if m % 16 == 0 then Some m else None
 minterm_of _ = None
 
 -- put BM SX SY L X Y W H MM
-abbrev pub put_line : List Token → Option LineForm
+abbrev pub put_line : List Token → Option Statement
 put_line (NameToken bm ∷ NumberToken a sx ∷ NumberToken b sy ∷ NameToken l ∷
     NumberToken c x ∷ NumberToken d y ∷ NumberToken e w ∷ NumberToken f h ∷ mm ∷ []) =
     option_map (λ m. CallLine (l ∷ []) (PutAct bm (record { sx = sx; sy = sy; x = x; y = y; w = w; h = h; minterm = m })))
@@ -221,7 +221,7 @@ put_line (NameToken bm ∷ NumberToken a sx ∷ NumberToken b sy ∷ NameToken l
 put_line _ = None
 
 -- blit L SX SY M X Y W H MM
-abbrev pub blit_line : List Token → Option LineForm
+abbrev pub blit_line : List Token → Option Statement
 blit_line (NameToken l ∷ NumberToken a sx ∷ NumberToken b sy ∷ NameToken m ∷
     NumberToken c x ∷ NumberToken d y ∷ NumberToken e w ∷ NumberToken f h ∷ mm ∷ []) =
     option_map (λ k. CallLine (l ∷ m ∷ []) (BlitAct (record { sx = sx; sy = sy; x = x; y = y; w = w; h = h; minterm = k })))
@@ -229,7 +229,7 @@ blit_line (NameToken l ∷ NumberToken a sx ∷ NumberToken b sy ∷ NameToken m
 blit_line _ = None
 
 -- endrefresh L full, endrefresh L part
-abbrev pub endrefresh_line : List Token → Option LineForm
+abbrev pub endrefresh_line : List Token → Option Statement
 endrefresh_line (NameToken l ∷ NameToken how ∷ []) =
     if bytes_eq how (codes "full") then Some (CallLine (l ∷ []) (EndRefreshAct true))
     else (if bytes_eq how (codes "part") then Some (CallLine (l ∷ []) (EndRefreshAct false)) else None)
@@ -283,7 +283,7 @@ ask_option (NameToken n ∷ NameToken set ∷ ts) =
 ask_option ts = (0, ts)
 
 -- the form, where no word is left
-abbrev pub at_end : LineForm → List Token → Option LineForm
+abbrev pub at_end : Statement → List Token → Option Statement
 at_end form [] = Some form
 at_end form (t ∷ ts) = None
 
@@ -298,34 +298,34 @@ asked_super place numbers backdrop w h =
     record { kind = SuperBitmap; place = place; numbers = numbers; backdrop = backdrop; hook = None; bits_w = w; bits_h = h }
 
 -- what stands behind the four numbers of a creation without a bitmap of its own: [backdrop] [hook N]
-abbrev pub create_without_bitmap : List ℕ → Kind → Place → Rectangle → List Token → Option LineForm
+abbrev pub create_without_bitmap : List ℕ → Kind → Place → Rectangle → List Token → Option Statement
 create_without_bitmap l kind place numbers ts =
     let backdrop = flag (codes "backdrop") ts in
     let hook = hook_option backdrop.1 in
     at_end (CallLine (l ∷ []) (CreateAct (asked_without_bitmap kind place numbers backdrop.0 hook.0))) hook.1
 
 -- what stands behind those of a creation with one: BW BH [backdrop]
-abbrev pub create_super : List ℕ → Place → Rectangle → List Token → Option LineForm
+abbrev pub create_super : List ℕ → Place → Rectangle → List Token → Option Statement
 create_super l place numbers (NumberToken a w ∷ NumberToken b h ∷ ts) =
     let backdrop = flag (codes "backdrop") ts in
     at_end (CallLine (l ∷ []) (CreateAct (asked_super place numbers backdrop.0 w h))) backdrop.1
 create_super l place numbers _ = None
 
 -- what stands behind those of a creation of this kind
-abbrev pub create_kind : List ℕ → Place → Rectangle → List Token → Kind → Option LineForm
+abbrev pub create_kind : List ℕ → Place → Rectangle → List Token → Kind → Option Statement
 create_kind l place numbers ts Simple = create_without_bitmap l Simple place numbers ts
 create_kind l place numbers ts Smart = create_without_bitmap l Smart place numbers ts
 create_kind l place numbers ts SuperBitmap = create_super l place numbers ts
 
 -- the title, where it is the last word
-abbrev pub titled_line : List ℕ → Asked → Bool → Bool → ℕ → List Token → Option LineForm
+abbrev pub titled_line : List ℕ → Asked → Bool → Bool → ℕ → List Token → Option Statement
 titled_line l asked framed nocare classes (TextToken title ∷ []) =
     Some (CallLine (l ∷ []) (OpenAct asked framed nocare classes title))
 titled_line l asked framed nocare classes _ = None
 
 -- what stands behind the four numbers of an opening without a bitmap of its own: [backdrop] [borderless] [nocare] [hook N]
 -- [ask SET] "TITLE"
-abbrev pub open_without_bitmap : List ℕ → Kind → Place → Rectangle → List Token → Option LineForm
+abbrev pub open_without_bitmap : List ℕ → Kind → Place → Rectangle → List Token → Option Statement
 open_without_bitmap l kind place numbers ts =
     let backdrop = flag (codes "backdrop") ts in
     let borderless = flag (codes "borderless") backdrop.1 in
@@ -335,7 +335,7 @@ open_without_bitmap l kind place numbers ts =
     titled_line l (asked_without_bitmap kind place numbers backdrop.0 hook.0) (not borderless.0) nocare.0 ask.0 ask.1
 
 -- what stands behind those of an opening with one: BW BH [backdrop] [ask SET] "TITLE"
-abbrev pub open_super : List ℕ → Place → Rectangle → List Token → Option LineForm
+abbrev pub open_super : List ℕ → Place → Rectangle → List Token → Option Statement
 open_super l place numbers (NumberToken a w ∷ NumberToken b h ∷ ts) =
     let backdrop = flag (codes "backdrop") ts in
     let ask = ask_option backdrop.1 in
@@ -343,20 +343,20 @@ open_super l place numbers (NumberToken a w ∷ NumberToken b h ∷ ts) =
 open_super l place numbers _ = None
 
 -- what stands behind those of an opening of this kind
-abbrev pub open_kind : List ℕ → Place → Rectangle → List Token → Kind → Option LineForm
+abbrev pub open_kind : List ℕ → Place → Rectangle → List Token → Kind → Option Statement
 open_kind l place numbers ts Simple = open_without_bitmap l Simple place numbers ts
 open_kind l place numbers ts Smart = open_without_bitmap l Smart place numbers ts
 open_kind l place numbers ts SuperBitmap = open_super l place numbers ts
 
 -- create L KIND PLACE X0 Y0 X1 Y1 .., and open L KIND PLACE X Y W H ..
-abbrev pub asked_line : (List ℕ → Place → Rectangle → List Token → Kind → Option LineForm) → List Token → Option LineForm
+abbrev pub asked_line : (List ℕ → Place → Rectangle → List Token → Kind → Option Statement) → List Token → Option Statement
 asked_line behind (NameToken l ∷ NameToken k ∷ NameToken p ∷
     NumberToken a x ∷ NumberToken b y ∷ NumberToken c z ∷ NumberToken d w ∷ ts) =
     option_and_then (λ place. option_and_then (behind l place (four x y z w) ts) (kind_of k)) (place_of p)
 asked_line behind _ = None
 
 -- The form of a line with this verb, if the words behind it fit one.
-abbrev pub form_by : Verb → List Token → Option LineForm
+abbrev pub form_by : Verb → List Token → Option Statement
 form_by ScreenVerb ts = screen_line ts
 form_by GlyphVerb ts = glyph_line ts
 form_by BitmapVerb ts = bitmap_line ts
@@ -461,7 +461,7 @@ is_act_in_range (ScrollAct dx dy) = coordinates_fit dx dy
 is_act_in_range act = true
 
 -- Every number of the line is in its range, and no maximum is below its minimum.
-abbrev pub is_line_in_range : LineForm → Bool
+abbrev pub is_line_in_range : Statement → Bool
 is_line_in_range (ScreenLine w h d) = (within (pos 1) w (pos 1024) && within (pos 1) h (pos 1024)) && within (pos 1) d (pos 8)
 is_line_in_range (GlyphLine code rows) = nat_le 32 code && nat_le code 126
 is_line_in_range (BitmapLine name w h d) =

@@ -17,7 +17,7 @@ use Rattle.lw_grammar.specs.Lines.{lines}
 use Rattle.lw_grammar.specs.Demands.{◌>>=◌, demand}
 use Rattle.lw_grammar.specs.Tokens.{tokens, token_of}
 use Rattle.lw_grammar.specs.Verbs.{verb_of}
-use Rattle.lw_grammar.specs.LineForms.{Act, CreateAct, OpenAct, CloseAct, FrontAct, BehindAct, InFrontAct, MoveAct, SizeAct, BoxAct, ActivateAct, PutAct, RefreshAct, EndRefreshAct, LineForm, GlyphLine, BitmapLine, RowLine, TaskLine, EndLine, CallLine, LockLine, UnlockLine, HoldLine, ReleaseLine, row_line, numbers_line, form_by, is_line_in_range}
+use Rattle.lw_grammar.specs.LineForms.{Act, CreateAct, OpenAct, CloseAct, FrontAct, BehindAct, InFrontAct, MoveAct, SizeAct, BoxAct, ActivateAct, PutAct, RefreshAct, EndRefreshAct, Statement, GlyphLine, BitmapLine, RowLine, TaskLine, EndLine, CallLine, LockLine, UnlockLine, HoldLine, ReleaseLine, row_line, numbers_line, form_by, is_line_in_range}
 use Rattle.lw_grammar.specs.Told.{Section, ScreenIsDue, AssetsAreDue, CallsAreDue, TasksAreDue, NumbersAreDue, NothingIsDue, Opened, Locked, Updating, Held, Told, spelled_call, hook_on, after, told, plan_of}
 
 -- What a script is read with: how many hooks are handed in, and what input it stands in.
@@ -105,12 +105,12 @@ behind_verb [] = []
 behind_verb (w ∷ ws) = ws
 
 -- the line is a `put` whose bitmap isn't one of these
-abbrev pub lacks_name : List (List ℕ) → LineForm → Bool
+abbrev pub lacks_name : List (List ℕ) → Statement → Bool
 lacks_name names (CallLine layers (PutAct bm area)) = not (list_any (bytes_eq bm) names)
 lacks_name names form = false
 
 -- the line gives a bitmap, a task or a code that a line above gave
-abbrev pub gives_again : Told → LineForm → Bool
+abbrev pub gives_again : Told → Statement → Bool
 gives_again t (GlyphLine code rows) = t.given code
 gives_again t (BitmapLine name w h d) = list_any (bytes_eq name) t.bitmap_names
 gives_again t (TaskLine name) = list_any (bytes_eq name) t.tasks
@@ -171,7 +171,7 @@ abbrev pub group_has_calls : Told → Bool
 group_has_calls t = nat_lt t.began t.so_far
 
 -- The line may stand where this group is open, or none, and has calls, or not.
-abbrev pub fits_group : Option Opened → Bool → LineForm → Bool
+abbrev pub fits_group : Option Opened → Bool → Statement → Bool
 fits_group group has_calls (CallLine layers act) = call_may_stand group layers act
 fits_group group has_calls (LockLine name) = is_none group
 fits_group group has_calls HoldLine = is_none group
@@ -201,12 +201,12 @@ is_used used None = false
 is_used used (Some n) = used (unsigned_abs n)
 
 -- a bit of a row behind this width is 1
-abbrev pub has_padding : ℕ → LineForm → Bool
+abbrev pub has_padding : ℕ → Statement → Bool
 has_padding width (RowLine bytes) = list_any (λ x. row_bit bytes x == 1) (range_with_len width (8 * length bytes - width))
 has_padding width form = false
 
 -- the line is a call that can't be made so far, whichever layers it names
-abbrev pub is_unbuilt : LineForm → Bool
+abbrev pub is_unbuilt : Statement → Bool
 is_unbuilt (CallLine layers act) = not (is_built (spelled_call [] act []))
 is_unbuilt form = false
 
@@ -219,7 +219,7 @@ words_read line = do
   tokens line
 
 -- The form of a line of these words that begins with a verb, in this section of this input, or its first reason.
-abbrev pub verb_read : Form → Section → List (List ℕ) → Result LineForm Reason
+abbrev pub verb_read : Form → Section → List (List ℕ) → Result Statement Reason
 verb_read form section ws = do
   verb ← ok_or (verb_on ws) UnknownWord
   _ ← demand (stands_in form section verb) Misplaced
@@ -228,14 +228,14 @@ verb_read form section ws = do
 
 -- The form of a line of these words: where so many rows of a bitmap of this width are due, a row; where numbers are due,
 -- numbers; and else a line with a verb.
-abbrev pub form_read : Form → Section → ℕ → ℕ → List (List ℕ) → Result LineForm Reason
+abbrev pub form_read : Form → Section → ℕ → ℕ → List (List ℕ) → Result Statement Reason
 form_read form section due width ws =
     if not (due == 0)
     then ok_or (row_line width (map token_of ws)) FormReason
     else (if are_numbers_due section then ok_or (numbers_line (map token_of ws)) FormReason else verb_read form section ws)
 
 -- The first reason for which a line of this form is bad, if it is bad.
-abbrev pub form_tested : Setting → Told → LineForm → Result (Unit {0}) Reason
+abbrev pub form_tested : Setting → Told → Statement → Result (Unit {0}) Reason
 form_tested s t form = do
   _ ← demand (is_line_in_range form) Range
   _ ← demand (not (lacks_name t.bitmap_names form)) NoName
@@ -248,7 +248,7 @@ form_tested s t form = do
   demand (not (is_unbuilt form)) NotBuilt
 
 -- The form of a line that isn't skipped, below lines that tell this, or its first reason.
-abbrev pub line_read : Setting → Told → List ℕ → Result LineForm Reason
+abbrev pub line_read : Setting → Told → List ℕ → Result Statement Reason
 line_read s t line = do
   ws ← words_read line
   form ← form_read s.form t.section t.rows_due t.row_width ws
@@ -256,13 +256,13 @@ line_read s t line = do
   Ok form
 
 -- the forms of lines with that of a further line, unless it is skipped; or its first reason
-abbrev pub forms_with : Setting → List LineForm → List ℕ → Result (List LineForm) Reason
+abbrev pub forms_with : Setting → List Statement → List ℕ → Result (List Statement) Reason
 forms_with s above line = if is_skipped line then Ok above else (line_read s (told above) line >>= (λ form. Ok (form ∷ above)))
 
 -- How far lines were read: the forms of those that aren't skipped, the nearest first; the number of the next line, counted
 -- from 1; and how many bytes the lines have, each with a line feed.
 pub record Reached : Type 0 where
-  pub forms : List LineForm
+  pub forms : List Statement
   pub number : ℕ
   pub place : ℕ
 
@@ -270,7 +270,7 @@ abbrev pub at_the_top : Reached
 at_the_top = record { forms = []; number = 1; place = 0 }
 
 -- how far they were read with a further line, where these are the forms with it
-abbrev pub with_line : Reached → List ℕ → List LineForm → Reached
+abbrev pub with_line : Reached → List ℕ → List Statement → Reached
 with_line p line forms = record { forms = forms; number = p.number + 1; place = p.place + (length line + 1) }
 
 -- what is found at a line of this number, or the number with the reason
@@ -352,10 +352,10 @@ SpelledInputsAreRunnable =
     (s : Setting) (bytes : List ℕ) (input : ScriptInput) → SpellsInput s bytes input → IsRunnableInput s input
 
 -- The forms are those of lines that were good where they stood.
-pub record IsGoodLine (s : Setting) (above : List LineForm) (form : LineForm) : Type 0 where
+pub record IsGoodLine (s : Setting) (above : List Statement) (form : Statement) : Type 0 where
   pub line : List ℕ
   pub read : line_read s (told above) line ≡ Ok form
 
-abbrev pub AreGoodLines : Setting → List LineForm → Type 0
+abbrev pub AreGoodLines : Setting → List Statement → Type 0
 AreGoodLines s [] = Unit {0}
 AreGoodLines s (form ∷ above) = IsGoodLine s above form × AreGoodLines s above

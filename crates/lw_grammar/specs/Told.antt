@@ -13,7 +13,7 @@ use Rattle.lw_calls.specs.declared.group.Hold.TheVariants.{Slot, All}
 use Rattle.lw_calls.specs.declared.group.Group.{Group}
 use Rattle.lw_calls.specs.Kinds.{is_super}
 use Rattle.lw_calls.specs.Plan.{Plan}
-use Rattle.lw_grammar.specs.LineForms.{Asked, Act, RegRectAct, RegPairAct, RegClearAct, CreateAct, OpenAct, CloseAct, FrontAct, BehindAct, InFrontAct, MoveAct, SizeAct, BoxAct, ActivateAct, WhichAct, APenAct, BPenAct, ModeAct, MaskAct, AtAct, WriteAct, ReadAct, FillAct, DrawAct, TextAct, SetRastAct, ScrollRasterAct, PutAct, BlitAct, ClipAct, UnclipAct, RefreshAct, EndRefreshAct, ScrollAct, TitleAct, GetMsgAct, LineForm, ScreenLine, GlyphLine, BitmapLine, RowLine, TaskLine, EndLine, OrderLine, NumbersLine, ReportLine, CallLine, LockLine, UnlockLine, HoldLine, ReleaseLine}
+use Rattle.lw_grammar.specs.LineForms.{Asked, Act, RegRectAct, RegPairAct, RegClearAct, CreateAct, OpenAct, CloseAct, FrontAct, BehindAct, InFrontAct, MoveAct, SizeAct, BoxAct, ActivateAct, WhichAct, APenAct, BPenAct, ModeAct, MaskAct, AtAct, WriteAct, ReadAct, FillAct, DrawAct, TextAct, SetRastAct, ScrollRasterAct, PutAct, BlitAct, ClipAct, UnclipAct, RefreshAct, EndRefreshAct, ScrollAct, TitleAct, GetMsgAct, Statement, ScreenLine, GlyphLine, BitmapLine, RowLine, TaskLine, EndLine, OrderLine, NumbersLine, ReportLine, CallLine, LockLine, UnlockLine, HoldLine, ReleaseLine}
 
 -- The parts of a script, by what is due in them: the screen; glyphs, bitmaps and the first task; in a task calls, groups or
 -- its end; behind a task a further one, an order or a report; numbers of an order; and nothing more, behind a line `report`.
@@ -172,13 +172,13 @@ abbrev pub call_below : Told → List (List ℕ) → Act → Call
 call_below t layers act = spelled_call t.bitmap_names act (map (place_among (and_names t.names layers)) layers)
 
 -- the line asks for a layer with a bitmap of its own
-abbrev pub asks_super : LineForm → Bool
+abbrev pub asks_super : Statement → Bool
 asks_super (CallLine layers (CreateAct asked)) = is_super asked.kind
 asks_super (CallLine layers (OpenAct asked framed nocare classes title)) = is_super asked.kind
 asks_super form = false
 
 -- the hook that a line names
-abbrev pub hook_on : LineForm → Option ℤ
+abbrev pub hook_on : Statement → Option ℤ
 hook_on (CallLine layers (CreateAct asked)) = asked.hook
 hook_on (CallLine layers (OpenAct asked framed nocare classes title)) = asked.hook
 hook_on form = None
@@ -208,7 +208,7 @@ ended_by (l ∷ []) (EndRefreshAct full) t = onto_last (group_from t (Slot (plac
 ended_by layers act t = t.groups
 
 -- What a line of this form adds to what the lines above it tell.
-abbrev pub after : LineForm → Told → Told
+abbrev pub after : Statement → Told → Told
 after (ScreenLine w h d) t =
     record t { section = AssetsAreDue; width = unsigned_abs w; height = unsigned_abs h; depth = unsigned_abs d }
 after (GlyphLine code rows) t =
@@ -255,7 +255,7 @@ after HoldLine t = record t { group = Some Held; began = t.so_far }
 after ReleaseLine t = record t { group = None; groups = onto_last (group_from t All t.so_far) t.groups }
 
 -- What lines of these forms tell, the nearest first.
-abbrev pub told : List LineForm → Told
+abbrev pub told : List Statement → Told
 told [] = nothing_told
 told (form ∷ above) = after form (told above)
 

@@ -4,29 +4,29 @@ use Rattle.lw_region.specs.Rectangle.{Rectangle}
 use Rattle.lw_calls.specs.declared.make.Kind.{Kind}
 use Rattle.lw_calls.specs.declared.make.Place.{Place}
 use Rattle.lw_grammar.specs.Tokens.{Token, NameToken}
-use Rattle.lw_grammar.specs.LineForms.{LineForm, kind_of, place_of, create_kind, open_kind}
+use Rattle.lw_grammar.specs.LineForms.{Statement, kind_of, place_of, create_kind, open_kind}
 use Rattle.lw_lines.specs.NumbersTaken.{numbers_taken}
 use Rattle.lw_lines.specs.declared.forms_asked.Request.{Request}
 use Rattle.lw_lines.specs.declared.forms_asked.Request.TheVariants.{Creation, Opening}
 
 -- what stands behind the numbers of a layer that is asked for
 abbrev pub Behind : Type 0
-Behind = List ℕ → Place → Rectangle → List Token → Kind → Option LineForm
+Behind = List ℕ → Place → Rectangle → List Token → Kind → Option Statement
 
 abbrev pub behind_numbers : Request → Behind
 behind_numbers Creation = create_kind
 behind_numbers Opening = open_kind
 
 -- the same, where these words are to be the kind and the place
-abbrev pub with_words : Behind → List ℕ → List ℕ → List ℕ → Rectangle → List Token → Option LineForm
+abbrev pub with_words : Behind → List ℕ → List ℕ → List ℕ → Rectangle → List Token → Option Statement
 with_words behind l k p numbers ts =
     option_and_then (λ place. option_and_then (behind l place numbers ts) (kind_of k)) (place_of p)
 
 -- four numbers, and what stands behind them
-abbrev pub with_numbers : (Rectangle → List Token → Option LineForm) → List Token → Option LineForm
+abbrev pub with_numbers : (Rectangle → List Token → Option Statement) → List Token → Option Statement
 with_numbers form ts = option_and_then (λ taken. form taken.0 taken.1) (numbers_taken ts)
 
 -- three names, and what stands behind them
-abbrev pub with_names : Behind → List Token → Option LineForm
+abbrev pub with_names : Behind → List Token → Option Statement
 with_names behind (NameToken l ∷ NameToken k ∷ NameToken p ∷ ts) = with_numbers (with_words behind l k p) ts
 with_names behind _ = None

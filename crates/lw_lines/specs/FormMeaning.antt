@@ -2,7 +2,7 @@
 use Rattle.std.specs.Prelude.{ℤ, pos, List, [], ◌∷◌, ℕ}
 use Rattle.lw_region.specs.Rectangle.{Rectangle}
 use Rattle.lw_calls.specs.declared.area.Area.{Area}
-use Rattle.lw_grammar.specs.LineForms.{Asked as AskedMeaning, Act as ActMeaning, RegRectAct, RegPairAct, RegClearAct, CreateAct, OpenAct, CloseAct, FrontAct, BehindAct, InFrontAct, MoveAct, SizeAct, BoxAct, ActivateAct, WhichAct, APenAct, BPenAct, ModeAct, MaskAct, AtAct, WriteAct, ReadAct, FillAct, DrawAct, TextAct as TextActMeaning, SetRastAct, ScrollRasterAct, PutAct, BlitAct, ClipAct, UnclipAct, RefreshAct, EndRefreshAct, ScrollAct, TitleAct, GetMsgAct, LineForm as Meaning, ScreenLine, GlyphLine, BitmapLine, RowLine, TaskLine, EndLine, OrderLine, NumbersLine, ReportLine, CallLine, LockLine, UnlockLine, HoldLine, ReleaseLine, four}
+use Rattle.lw_grammar.specs.LineForms.{Asked as AskedMeaning, Act as ActMeaning, RegRectAct, RegPairAct, RegClearAct, CreateAct, OpenAct, CloseAct, FrontAct, BehindAct, InFrontAct, MoveAct, SizeAct, BoxAct, ActivateAct, WhichAct, APenAct, BPenAct, ModeAct, MaskAct, AtAct, WriteAct, ReadAct, FillAct, DrawAct, TextAct as TextActMeaning, SetRastAct, ScrollRasterAct, PutAct, BlitAct, ClipAct, UnclipAct, RefreshAct, EndRefreshAct, ScrollAct, TitleAct, GetMsgAct, Statement as Meaning, ScreenLine, GlyphLine, BitmapLine, RowLine, TaskLine, EndLine, OrderLine, NumbersLine, ReportLine, CallLine, LockLine, UnlockLine, HoldLine, ReleaseLine, four}
 use Rattle.lw_calls.specs.declared.make.Kind.{Kind}
 use Rattle.lw_calls.specs.declared.make.Kind.TheVariants.{Simple as SimpleMeaning, Smart as SmartMeaning, SuperBitmap}
 use Rattle.lw_lines.specs.declared.form.Corners.{Corners}
@@ -24,8 +24,8 @@ use Rattle.lw_lines.specs.declared.form.Act.{Act}
 use Rattle.lw_lines.specs.declared.form.Act.TheVariants.{RegRect, RegPair, RegClear, Create, Open, InFront, Box, Which, Bare, Number, Pair, Text, Fill, ScrollRaster, Put, Blit, EndRefresh}
 use Rattle.lw_lines.specs.declared.form.Layers.{Layers}
 use Rattle.lw_lines.specs.declared.form.Layers.TheVariants.{Nothing, One, Two}
-use Rattle.lw_lines.specs.declared.form.LineForm.{LineForm}
-use Rattle.lw_lines.specs.declared.form.LineForm.TheVariants.{Screen, Glyph, Bitmap, Row, Task, End, Order, Numbers, Report, Call, Lock, Unlock, Hold, Release}
+use Rattle.lw_lines.specs.declared.form.Statement.{Statement}
+use Rattle.lw_lines.specs.declared.form.Statement.TheVariants.{Screen, Glyph, Bitmap, Row, Task, End, Order, Numbers, Report, Call, Lock, Unlock, Hold, Release}
 use Rattle.lw_words.specs.Digits.{decoded}
 
 -- the four numbers as bounds
@@ -128,7 +128,7 @@ layers_meaning (One l) = l.now ∷ []
 layers_meaning (Two l m) = l.now ∷ m.now ∷ []
 
 -- names by their bytes, digits by what they spell, and all else as it stands
-abbrev pub form_meaning : LineForm → Meaning
+abbrev pub form_meaning : Statement → Meaning
 form_meaning (Screen w h d) = ScreenLine w h d
 form_meaning (Glyph code digits) = GlyphLine code (decoded digits.digits.now)
 form_meaning (Bitmap name w h d) = BitmapLine name.now w h d

@@ -8,7 +8,7 @@ ghost use Rattle.lw_lines.specs.FormMeaning.{act_meaning, layers_meaning, form_m
 ghost use Rattle.lw_lines.specs.GroupMeaning.{opened_meaning};
 
 use crate::form::{
-    Act, Asked, AskedKind, BareAct, KindWithoutBitmap, Layers, LineForm, PairAct, TextAct,
+    Act, Asked, AskedKind, BareAct, KindWithoutBitmap, Layers, PairAct, Statement, TextAct,
 };
 use lw_words::is_text;
 
@@ -174,24 +174,24 @@ fn is_closed(group: &Option<Opened<'_>>) -> bool
     group.is_none()
 }
 
-impl LineForm<'_> {
+impl Statement<'_> {
     /// Whether the line may stand where this group is open, or none, and has calls, or not.
     pub fn fits_group(&self, group: &Option<Opened<'_>>, has_calls: bool) -> bool
         ensures { result ≡ fits_group (option_map opened_meaning group.now) has_calls (form_meaning self.now) }
     {
         match self {
-            LineForm::Call { layers, act } => call_may_stand(group, layers, act),
-            LineForm::Lock(_) | LineForm::Hold | LineForm::End => is_closed(group),
-            LineForm::Unlock(layer) => is_lock_on(*layer, group) && has_calls,
-            LineForm::Release => is_hold(group) && has_calls,
-            LineForm::Screen { .. }
-            | LineForm::Glyph { .. }
-            | LineForm::Bitmap { .. }
-            | LineForm::Row(_)
-            | LineForm::Task(_)
-            | LineForm::Order
-            | LineForm::Numbers(_)
-            | LineForm::Report => true,
+            Statement::Call { layers, act } => call_may_stand(group, layers, act),
+            Statement::Lock(_) | Statement::Hold | Statement::End => is_closed(group),
+            Statement::Unlock(layer) => is_lock_on(*layer, group) && has_calls,
+            Statement::Release => is_hold(group) && has_calls,
+            Statement::Screen { .. }
+            | Statement::Glyph { .. }
+            | Statement::Bitmap { .. }
+            | Statement::Row(_)
+            | Statement::Task(_)
+            | Statement::Order
+            | Statement::Numbers(_)
+            | Statement::Report => true,
         }
     }
 
@@ -200,7 +200,7 @@ impl LineForm<'_> {
         ensures { result ≡ asks_super (form_meaning self.now) }
     {
         match self {
-            LineForm::Call { act, .. } => act.asks_super(),
+            Statement::Call { act, .. } => act.asks_super(),
             _ => false,
         }
     }
@@ -210,7 +210,7 @@ impl LineForm<'_> {
         ensures { result ≡ hook_on (form_meaning self.now) }
     {
         match self {
-            LineForm::Call { act, .. } => act.hook(),
+            Statement::Call { act, .. } => act.hook(),
             _ => None,
         }
     }

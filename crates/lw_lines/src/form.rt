@@ -151,9 +151,9 @@ pub enum Layers<'a> {
     Two(&'a [u8], &'a [u8]),
 }
 
-/// A line of a script that isn't skipped. Names, texts and digits stand in the input.
+/// What a line of a script says, if it isn't skipped. Names, texts and digits stand in the input.
 #[derive(Drop)]
-pub enum LineForm<'a> {
+pub enum Statement<'a> {
     Screen {
         width: i64,
         height: i64,
@@ -193,26 +193,26 @@ pub enum LineForm<'a> {
     Release,
 }
 
-impl<'a> LineForm<'a> {
+impl<'a> Statement<'a> {
     ghost use Rattle.std.specs.Prelude.{◌≡◌, [], ◌∷◌};
     ghost use Rattle.lw_grammar.specs.LineForms.{CallLine};
     ghost use Rattle.lw_lines.specs.FormMeaning.{form_meaning, act_meaning};
 
     /// A call that names no layer.
-    pub fn apart(act: Act<'a>) -> LineForm<'a>
+    pub fn apart(act: Act<'a>) -> Statement<'a>
         ensures { form_meaning result ≡ CallLine [] (act_meaning act.entry) }
     {
-        LineForm::Call {
+        Statement::Call {
             layers: Layers::Nothing,
             act,
         }
     }
 
     /// A call on one layer.
-    pub fn on(layer: &'a [u8], act: Act<'a>) -> LineForm<'a>
+    pub fn on(layer: &'a [u8], act: Act<'a>) -> Statement<'a>
         ensures { form_meaning result ≡ CallLine (layer.entry.now ∷ []) (act_meaning act.entry) }
     {
-        LineForm::Call {
+        Statement::Call {
             layers: Layers::One(layer),
             act,
         }

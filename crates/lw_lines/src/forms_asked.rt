@@ -6,7 +6,7 @@ ghost use Rattle.lw_lines.specs.FormMeaning.{form_meaning, corners_meaning, with
 ghost use Rattle.lw_lines.specs.AskedParts.{behind_numbers, with_words, with_numbers, with_names};
 
 use crate::corners::corners_in;
-use crate::form::{Act, Asked, AskedKind, Corners, KindWithoutBitmap, LineForm};
+use crate::form::{Act, Asked, AskedKind, Corners, KindWithoutBitmap, Statement};
 use lw_calls::{Kind, Place};
 use lw_words::{Token, is_text};
 
@@ -129,7 +129,7 @@ fn create_without_bitmap<'a>(
     place: Place,
     numbers: Corners,
     tokens: &[Token<'a>],
-) -> Option<LineForm<'a>>
+) -> Option<Statement<'a>>
     ensures { option_map form_meaning result
         ≡ create_without_bitmap layer.now (without_bitmap_meaning kind) place (corners_meaning numbers)
         (map token_meaning tokens.now) }
@@ -146,7 +146,7 @@ fn create_without_bitmap<'a>(
         backdrop,
         hook,
     };
-    Some(LineForm::on(layer, Act::Create(asked)))
+    Some(Statement::on(layer, Act::Create(asked)))
 }
 
 /// `BW BH [backdrop]`
@@ -155,7 +155,7 @@ fn create_super<'a>(
     place: Place,
     numbers: Corners,
     tokens: &[Token<'a>],
-) -> Option<LineForm<'a>>
+) -> Option<Statement<'a>>
     ensures { option_map form_meaning result
         ≡ create_super layer.now place (corners_meaning numbers) (map token_meaning tokens.now) }
 {
@@ -179,7 +179,7 @@ fn create_super<'a>(
                 backdrop,
                 hook: None,
             };
-            Some(LineForm::on(layer, Act::Create(asked)))
+            Some(Statement::on(layer, Act::Create(asked)))
         }
         _ => None,
     }
@@ -193,14 +193,14 @@ fn titled<'a>(
     nocare: bool,
     classes: u8,
     tokens: &[Token<'a>],
-) -> Option<LineForm<'a>>
+) -> Option<Statement<'a>>
     ensures { option_map form_meaning result
         ≡ titled_line layer.now (asked_meaning asked) framed nocare classes (map token_meaning tokens.now) }
 {
     match tokens {
         [Token::Text(title)] => {
             let title = *title;
-            Some(LineForm::on(
+            Some(Statement::on(
                 layer,
                 Act::Open {
                     asked,
@@ -222,7 +222,7 @@ fn open_without_bitmap<'a>(
     place: Place,
     numbers: Corners,
     tokens: &[Token<'a>],
-) -> Option<LineForm<'a>>
+) -> Option<Statement<'a>>
     ensures { option_map form_meaning result
         ≡ open_without_bitmap layer.now (without_bitmap_meaning kind) place (corners_meaning numbers)
         (map token_meaning tokens.now) }
@@ -250,7 +250,7 @@ fn open_sized<'a>(
     bits_w: i64,
     bits_h: i64,
     tokens: &[Token<'a>],
-) -> Option<LineForm<'a>>
+) -> Option<Statement<'a>>
     ensures { option_map form_meaning result ≡ open_super layer.now place (corners_meaning numbers)
         (NumberToken [] bits_w ∷ NumberToken [] bits_h ∷ map token_meaning tokens.now) }
 {
@@ -272,7 +272,7 @@ fn open_super<'a>(
     place: Place,
     numbers: Corners,
     tokens: &[Token<'a>],
-) -> Option<LineForm<'a>>
+) -> Option<Statement<'a>>
     ensures { option_map form_meaning result ≡ open_super layer.now place (corners_meaning numbers)
         (map token_meaning tokens.now) }
 {
@@ -303,7 +303,7 @@ fn kind_form<'a>(
     place: Place,
     numbers: Corners,
     tokens: &[Token<'a>],
-) -> Option<LineForm<'a>>
+) -> Option<Statement<'a>>
     ensures { option_map form_meaning result ≡
         behind_numbers request layer.now place (corners_meaning numbers) (map token_meaning tokens.now) kind }
 {
@@ -353,7 +353,7 @@ fn placed_form<'a>(
     place: &[u8],
     numbers: Corners,
     tokens: &[Token<'a>],
-) -> Option<LineForm<'a>>
+) -> Option<Statement<'a>>
     ensures { option_map form_meaning result ≡
         with_words (behind_numbers request) layer.now kind.now place.now (corners_meaning numbers)
         (map token_meaning tokens.now) }
@@ -374,7 +374,7 @@ fn named_form<'a>(
     kind: &[u8],
     place: &[u8],
     tokens: &[Token<'a>],
-) -> Option<LineForm<'a>>
+) -> Option<Statement<'a>>
     ensures { option_map form_meaning result ≡
         with_numbers (with_words (behind_numbers request) layer.now kind.now place.now) (map token_meaning tokens.now) }
 {
@@ -385,7 +385,7 @@ fn named_form<'a>(
 }
 
 /// A request's words, in parts.
-fn asked_parts<'a>(request: Request, tokens: &[Token<'a>]) -> Option<LineForm<'a>>
+fn asked_parts<'a>(request: Request, tokens: &[Token<'a>]) -> Option<Statement<'a>>
     ensures { option_map form_meaning result ≡ with_names (behind_numbers request) (map token_meaning tokens.now) }
 {
     match tokens {
@@ -400,7 +400,7 @@ fn asked_parts<'a>(request: Request, tokens: &[Token<'a>]) -> Option<LineForm<'a
 }
 
 /// `create L KIND PLACE X0 Y0 X1 Y1 ..`, and `open L KIND PLACE X Y W H ..`
-pub(crate) fn asked_form<'a>(request: Request, tokens: &[Token<'a>]) -> Option<LineForm<'a>>
+pub(crate) fn asked_form<'a>(request: Request, tokens: &[Token<'a>]) -> Option<Statement<'a>>
     ensures { option_map form_meaning result ≡ asked_line (behind_numbers request) (map token_meaning tokens.now) }
 {
     asked_parts(request, tokens)

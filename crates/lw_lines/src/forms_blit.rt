@@ -6,7 +6,7 @@ ghost use Rattle.lw_lines.specs.FormMeaning.{form_meaning, corners_meaning};
 ghost use Rattle.lw_lines.specs.BlitParts.{only_minterm, end_taken, begin_line, put_end, blit_between, scroll_parts};
 
 use crate::corners::{corners_in, only_corners};
-use crate::form::{Act, Blitting, Corners, Layers, LineForm};
+use crate::form::{Act, Blitting, Corners, Layers, Statement};
 use lw_words::{Token, digits_in};
 
 /// A blit from this place, with these numbers and this minterm behind its names.
@@ -74,7 +74,7 @@ fn blit_end(tokens: &[Token<'_>]) -> Option<(Corners, u8)>
 }
 
 /// `put BM SX SY L X Y W H MM`, in two parts
-fn put_parts<'a>(tokens: &[Token<'a>]) -> Option<LineForm<'a>>
+fn put_parts<'a>(tokens: &[Token<'a>]) -> Option<Statement<'a>>
     ensures { option_map form_meaning result ≡ begin_line put_end (map token_meaning tokens.now) }
 {
     match tokens {
@@ -91,7 +91,7 @@ fn put_parts<'a>(tokens: &[Token<'a>]) -> Option<LineForm<'a>>
                 let bitmap = *bitmap;
                 let act = Act::Put { bitmap, blitting };
                 let layers = Layers::One(*layer);
-                Some(LineForm::Call { layers, act })
+                Some(Statement::Call { layers, act })
             }
         },
         _ => None,
@@ -99,14 +99,14 @@ fn put_parts<'a>(tokens: &[Token<'a>]) -> Option<LineForm<'a>>
 }
 
 /// `put BM SX SY L X Y W H MM`
-pub(crate) fn put_form<'a>(tokens: &[Token<'a>]) -> Option<LineForm<'a>>
+pub(crate) fn put_form<'a>(tokens: &[Token<'a>]) -> Option<Statement<'a>>
     ensures { option_map form_meaning result ≡ put_line (map token_meaning tokens.now) }
 {
     put_parts(tokens)
 }
 
 /// `blit L SX SY M X Y W H MM`, in two parts
-fn blit_parts<'a>(tokens: &[Token<'a>]) -> Option<LineForm<'a>>
+fn blit_parts<'a>(tokens: &[Token<'a>]) -> Option<Statement<'a>>
     ensures { option_map form_meaning result ≡ begin_line blit_between (map token_meaning tokens.now) }
 {
     match tokens {
@@ -121,7 +121,7 @@ fn blit_parts<'a>(tokens: &[Token<'a>]) -> Option<LineForm<'a>>
             Some((corners, minterm)) => {
                 let act = Act::Blit(blitting(*sx, *sy, &corners, minterm));
                 let layers = Layers::Two(*source, *layer);
-                Some(LineForm::Call { layers, act })
+                Some(Statement::Call { layers, act })
             }
         },
         _ => None,
@@ -129,14 +129,14 @@ fn blit_parts<'a>(tokens: &[Token<'a>]) -> Option<LineForm<'a>>
 }
 
 /// `blit L SX SY M X Y W H MM`
-pub(crate) fn blit_form<'a>(tokens: &[Token<'a>]) -> Option<LineForm<'a>>
+pub(crate) fn blit_form<'a>(tokens: &[Token<'a>]) -> Option<Statement<'a>>
     ensures { option_map form_meaning result ≡ blit_line (map token_meaning tokens.now) }
 {
     blit_parts(tokens)
 }
 
 /// `scrollraster L DX DY X0 Y0 X1 Y1`, in two parts
-fn scrollraster_parts<'a>(tokens: &[Token<'a>]) -> Option<LineForm<'a>>
+fn scrollraster_parts<'a>(tokens: &[Token<'a>]) -> Option<Statement<'a>>
     ensures { option_map form_meaning result ≡ scroll_parts (map token_meaning tokens.now) }
 {
     match tokens {
@@ -154,7 +154,7 @@ fn scrollraster_parts<'a>(tokens: &[Token<'a>]) -> Option<LineForm<'a>>
                     corners,
                 };
                 let layers = Layers::One(*layer);
-                Some(LineForm::Call { layers, act })
+                Some(Statement::Call { layers, act })
             }
         },
         _ => None,
@@ -162,7 +162,7 @@ fn scrollraster_parts<'a>(tokens: &[Token<'a>]) -> Option<LineForm<'a>>
 }
 
 /// `scrollraster L DX DY X0 Y0 X1 Y1`
-pub(crate) fn scrollraster_form<'a>(tokens: &[Token<'a>]) -> Option<LineForm<'a>>
+pub(crate) fn scrollraster_form<'a>(tokens: &[Token<'a>]) -> Option<Statement<'a>>
     ensures { option_map form_meaning result ≡ scrollraster_line (map token_meaning tokens.now) }
 {
     scrollraster_parts(tokens)

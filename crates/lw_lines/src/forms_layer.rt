@@ -3,60 +3,60 @@ ghost use Rattle.lw_grammar.specs.LineForms.{layer_line, number_line, pair_line,
 ghost use Rattle.lw_words.specs.TokenMeaning.{token_meaning};
 ghost use Rattle.lw_lines.specs.FormMeaning.{form_meaning, bare_meaning, number_meaning, pair_meaning, text_meaning};
 
-use crate::form::{Act, BareAct, Corners, Layers, LineForm, NumberAct, PairAct, TextAct};
+use crate::form::{Act, BareAct, Corners, Layers, NumberAct, PairAct, Statement, TextAct};
 use lw_calls::{PairOp, RectOp};
 use lw_words::{Token, is_text};
 
 /// A layer alone, as `close L`
-pub(crate) fn layer_form<'a>(act: BareAct, tokens: &[Token<'a>]) -> Option<LineForm<'a>>
+pub(crate) fn layer_form<'a>(act: BareAct, tokens: &[Token<'a>]) -> Option<Statement<'a>>
     ensures { option_map form_meaning result ≡ layer_line (bare_meaning act) (map token_meaning tokens.now) }
 {
     match tokens {
-        [Token::Name(layer)] => Some(LineForm::on(*layer, Act::Bare(act))),
+        [Token::Name(layer)] => Some(Statement::on(*layer, Act::Bare(act))),
         _ => None,
     }
 }
 
 /// A layer and a number, as `apen L P`
-pub(crate) fn number_form<'a>(act: NumberAct, tokens: &[Token<'a>]) -> Option<LineForm<'a>>
+pub(crate) fn number_form<'a>(act: NumberAct, tokens: &[Token<'a>]) -> Option<Statement<'a>>
     ensures { option_map form_meaning result ≡ number_line (number_meaning act) (map token_meaning tokens.now) }
 {
     match tokens {
         [Token::Name(layer), Token::Number(_, number)] => {
-            Some(LineForm::on(*layer, Act::Number(act, *number)))
+            Some(Statement::on(*layer, Act::Number(act, *number)))
         }
         _ => None,
     }
 }
 
 /// A layer and two numbers, as `move L DX DY`
-pub(crate) fn pair_form<'a>(act: PairAct, tokens: &[Token<'a>]) -> Option<LineForm<'a>>
+pub(crate) fn pair_form<'a>(act: PairAct, tokens: &[Token<'a>]) -> Option<Statement<'a>>
     ensures { option_map form_meaning result ≡ pair_line (pair_meaning act) (map token_meaning tokens.now) }
 {
     match tokens {
         [Token::Name(layer), Token::Number(_, x), Token::Number(_, y)] => {
             let act = Act::Pair(act, *x, *y);
             let layers = Layers::One(*layer);
-            Some(LineForm::Call { layers, act })
+            Some(Statement::Call { layers, act })
         }
         _ => None,
     }
 }
 
 /// A layer and a text, as `title L "TEXT"`
-pub(crate) fn text_form<'a>(act: TextAct, tokens: &[Token<'a>]) -> Option<LineForm<'a>>
+pub(crate) fn text_form<'a>(act: TextAct, tokens: &[Token<'a>]) -> Option<Statement<'a>>
     ensures { option_map form_meaning result ≡ text_line (text_meaning act) (map token_meaning tokens.now) }
 {
     match tokens {
         [Token::Name(layer), Token::Text(text)] => {
-            Some(LineForm::on(*layer, Act::Text(act, *text)))
+            Some(Statement::on(*layer, Act::Text(act, *text)))
         }
         _ => None,
     }
 }
 
 /// `orrect R X0 Y0 X1 Y1`, and its kin
-pub(crate) fn rect_form<'a>(op: RectOp, tokens: &[Token<'a>]) -> Option<LineForm<'a>>
+pub(crate) fn rect_form<'a>(op: RectOp, tokens: &[Token<'a>]) -> Option<Statement<'a>>
     ensures { option_map form_meaning result ≡ rect_line op (map token_meaning tokens.now) }
 {
     match tokens {
@@ -79,19 +79,19 @@ pub(crate) fn rect_form<'a>(op: RectOp, tokens: &[Token<'a>]) -> Option<LineForm
                 corners,
             };
             let layers = Layers::Nothing;
-            Some(LineForm::Call { layers, act })
+            Some(Statement::Call { layers, act })
         }
         _ => None,
     }
 }
 
 /// `orregion S R`, and its kin
-pub(crate) fn region_form<'a>(op: PairOp, tokens: &[Token<'a>]) -> Option<LineForm<'a>>
+pub(crate) fn region_form<'a>(op: PairOp, tokens: &[Token<'a>]) -> Option<Statement<'a>>
     ensures { option_map form_meaning result ≡ region_line op (map token_meaning tokens.now) }
 {
     match tokens {
         [Token::Number(_, source), Token::Number(_, into)] => {
-            Some(LineForm::apart(Act::RegPair {
+            Some(Statement::apart(Act::RegPair {
                 op,
                 source: *source,
                 into: *into,
@@ -102,33 +102,33 @@ pub(crate) fn region_form<'a>(op: PairOp, tokens: &[Token<'a>]) -> Option<LineFo
 }
 
 /// `clearregion R`
-pub(crate) fn clear_form<'a>(tokens: &[Token<'a>]) -> Option<LineForm<'a>>
+pub(crate) fn clear_form<'a>(tokens: &[Token<'a>]) -> Option<Statement<'a>>
     ensures { option_map form_meaning result ≡ clear_line (map token_meaning tokens.now) }
 {
     match tokens {
-        [Token::Number(_, register)] => Some(LineForm::apart(Act::RegClear(*register))),
+        [Token::Number(_, register)] => Some(Statement::apart(Act::RegClear(*register))),
         _ => None,
     }
 }
 
 /// `which X Y`
-pub(crate) fn which_form<'a>(tokens: &[Token<'a>]) -> Option<LineForm<'a>>
+pub(crate) fn which_form<'a>(tokens: &[Token<'a>]) -> Option<Statement<'a>>
     ensures { option_map form_meaning result ≡ which_line (map token_meaning tokens.now) }
 {
     match tokens {
         [Token::Number(_, x), Token::Number(_, y)] => {
-            Some(LineForm::apart(Act::Which { x: *x, y: *y }))
+            Some(Statement::apart(Act::Which { x: *x, y: *y }))
         }
         _ => None,
     }
 }
 
 /// `infront L M`
-pub(crate) fn infront_form<'a>(tokens: &[Token<'a>]) -> Option<LineForm<'a>>
+pub(crate) fn infront_form<'a>(tokens: &[Token<'a>]) -> Option<Statement<'a>>
     ensures { option_map form_meaning result ≡ infront_line (map token_meaning tokens.now) }
 {
     match tokens {
-        [Token::Name(layer), Token::Name(other)] => Some(LineForm::Call {
+        [Token::Name(layer), Token::Name(other)] => Some(Statement::Call {
             layers: Layers::Two(*layer, *other),
             act: Act::InFront,
         }),
@@ -137,7 +137,7 @@ pub(crate) fn infront_form<'a>(tokens: &[Token<'a>]) -> Option<LineForm<'a>>
 }
 
 /// `box L X Y W H`
-pub(crate) fn box_form<'a>(tokens: &[Token<'a>]) -> Option<LineForm<'a>>
+pub(crate) fn box_form<'a>(tokens: &[Token<'a>]) -> Option<Statement<'a>>
     ensures { option_map form_meaning result ≡ four_line (λ x y w h. BoxAct x y w h) (map token_meaning tokens.now) }
 {
     match tokens {
@@ -154,14 +154,14 @@ pub(crate) fn box_form<'a>(tokens: &[Token<'a>]) -> Option<LineForm<'a>>
                 x1: *x1,
                 y1: *y1,
             };
-            Some(LineForm::on(*layer, Act::Box(corners)))
+            Some(Statement::on(*layer, Act::Box(corners)))
         }
         _ => None,
     }
 }
 
 /// `fill L X0 Y0 X1 Y1`
-pub(crate) fn fill_form<'a>(tokens: &[Token<'a>]) -> Option<LineForm<'a>>
+pub(crate) fn fill_form<'a>(tokens: &[Token<'a>]) -> Option<Statement<'a>>
     ensures { option_map form_meaning result ≡ four_line (λ a b c d. FillAct (four a b c d)) (map token_meaning tokens.now) }
 {
     match tokens {
@@ -178,22 +178,22 @@ pub(crate) fn fill_form<'a>(tokens: &[Token<'a>]) -> Option<LineForm<'a>>
                 x1: *x1,
                 y1: *y1,
             };
-            Some(LineForm::on(*layer, Act::Fill(corners)))
+            Some(Statement::on(*layer, Act::Fill(corners)))
         }
         _ => None,
     }
 }
 
 /// `endrefresh L full`, `endrefresh L part`
-pub(crate) fn endrefresh_form<'a>(tokens: &[Token<'a>]) -> Option<LineForm<'a>>
+pub(crate) fn endrefresh_form<'a>(tokens: &[Token<'a>]) -> Option<Statement<'a>>
     ensures { option_map form_meaning result ≡ endrefresh_line (map token_meaning tokens.now) }
 {
     match tokens {
         [Token::Name(layer), Token::Name(how)] => {
             if is_text(*how, b"full") {
-                Some(LineForm::on(*layer, Act::EndRefresh { full: true }))
+                Some(Statement::on(*layer, Act::EndRefresh { full: true }))
             } else if is_text(*how, b"part") {
-                Some(LineForm::on(*layer, Act::EndRefresh { full: false }))
+                Some(Statement::on(*layer, Act::EndRefresh { full: false }))
             } else {
                 None
             }

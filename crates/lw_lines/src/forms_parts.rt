@@ -1,10 +1,10 @@
 ghost use Rattle.std.specs.Prelude.{◌≡◌, ◌≤◌, ℕ, List, ◌∷◌, map, option_map, IfOk};
-ghost use Rattle.lw_grammar.specs.LineForms.{LineForm as FormValue, screen_line, glyph_of_bytes, glyph_line, bitmap_line, row_line, numbers_line, all_numbers, name_line, bare_line};
+ghost use Rattle.lw_grammar.specs.LineForms.{Statement as FormValue, screen_line, glyph_of_bytes, glyph_line, bitmap_line, row_line, numbers_line, all_numbers, name_line, bare_line};
 ghost use Rattle.lw_grammar.specs.Tokens.{bytes_in};
 ghost use Rattle.lw_words.specs.TokenMeaning.{token_meaning};
 ghost use Rattle.lw_lines.specs.FormMeaning.{form_meaning};
 
-use crate::form::LineForm;
+use crate::form::Statement;
 use lw_words::{Token, digits_in};
 use std::alloc::{AllocError, Global};
 
@@ -12,7 +12,7 @@ use std::alloc::{AllocError, Global};
 const NUMBERS_LIMIT: usize = 64;
 
 /// `screen W H D`
-pub(crate) fn screen_form<'a>(tokens: &[Token<'a>]) -> Option<LineForm<'a>>
+pub(crate) fn screen_form<'a>(tokens: &[Token<'a>]) -> Option<Statement<'a>>
     ensures { option_map form_meaning result ≡ screen_line (map token_meaning tokens.now) }
 {
     match tokens {
@@ -20,7 +20,7 @@ pub(crate) fn screen_form<'a>(tokens: &[Token<'a>]) -> Option<LineForm<'a>>
             Token::Number(_, width),
             Token::Number(_, height),
             Token::Number(_, depth),
-        ] => Some(LineForm::Screen {
+        ] => Some(Statement::Screen {
             width: *width,
             height: *height,
             depth: *depth,
@@ -30,7 +30,7 @@ pub(crate) fn screen_form<'a>(tokens: &[Token<'a>]) -> Option<LineForm<'a>>
 }
 
 /// The glyph of a code and of its rows.
-fn glyph_of<'a>(code: &Token<'a>, rows: &Token<'a>) -> Option<LineForm<'a>>
+fn glyph_of<'a>(code: &Token<'a>, rows: &Token<'a>) -> Option<Statement<'a>>
     ensures { option_map form_meaning result
         ≡ glyph_of_bytes (bytes_in 1 (token_meaning code.now)) (bytes_in 8 (token_meaning rows.now)) }
 {
@@ -40,14 +40,14 @@ fn glyph_of<'a>(code: &Token<'a>, rows: &Token<'a>) -> Option<LineForm<'a>>
             None => None,
             Some(digits) => {
                 let code = code.byte(0);
-                Some(LineForm::Glyph { code, digits })
+                Some(Statement::Glyph { code, digits })
             }
         },
     }
 }
 
 /// The glyph of a code and of what stands behind it.
-fn glyph_behind<'a>(code: &Token<'a>, tokens: &[Token<'a>]) -> Option<LineForm<'a>>
+fn glyph_behind<'a>(code: &Token<'a>, tokens: &[Token<'a>]) -> Option<Statement<'a>>
     ensures { option_map form_meaning result ≡ glyph_line (token_meaning code.now ∷ map token_meaning tokens.now) }
 {
     match tokens {
@@ -58,7 +58,7 @@ fn glyph_behind<'a>(code: &Token<'a>, tokens: &[Token<'a>]) -> Option<LineForm<'
 }
 
 /// `glyph CC HHHHHHHHHHHHHHHH`
-pub(crate) fn glyph_form<'a>(tokens: &[Token<'a>]) -> Option<LineForm<'a>>
+pub(crate) fn glyph_form<'a>(tokens: &[Token<'a>]) -> Option<Statement<'a>>
     ensures { option_map form_meaning result ≡ glyph_line (map token_meaning tokens.now) }
 {
     match tokens {
@@ -68,7 +68,7 @@ pub(crate) fn glyph_form<'a>(tokens: &[Token<'a>]) -> Option<LineForm<'a>>
 }
 
 /// `bitmap NAME W H D`
-pub(crate) fn bitmap_form<'a>(tokens: &[Token<'a>]) -> Option<LineForm<'a>>
+pub(crate) fn bitmap_form<'a>(tokens: &[Token<'a>]) -> Option<Statement<'a>>
     ensures { option_map form_meaning result ≡ bitmap_line (map token_meaning tokens.now) }
 {
     match tokens {
@@ -77,7 +77,7 @@ pub(crate) fn bitmap_form<'a>(tokens: &[Token<'a>]) -> Option<LineForm<'a>>
             Token::Number(_, width),
             Token::Number(_, height),
             Token::Number(_, depth),
-        ] => Some(LineForm::Bitmap {
+        ] => Some(Statement::Bitmap {
             name: *name,
             width: *width,
             height: *height,
@@ -88,13 +88,13 @@ pub(crate) fn bitmap_form<'a>(tokens: &[Token<'a>]) -> Option<LineForm<'a>>
 }
 
 /// A row of a bitmap of this width.
-pub(crate) fn row_form<'a>(width: u32, tokens: &[Token<'a>]) -> Option<LineForm<'a>>
+pub(crate) fn row_form<'a>(width: u32, tokens: &[Token<'a>]) -> Option<Statement<'a>>
     requires { width ≤ 1024 }
     ensures { option_map form_meaning result ≡ row_line width (map token_meaning tokens.now) }
 {
     match tokens {
         [row] => match digits_in((width as usize + 15) / 16 * 2, row) {
-            Some(digits) => Some(LineForm::Row(digits)),
+            Some(digits) => Some(Statement::Row(digits)),
             None => None,
         },
         _ => None,
@@ -119,7 +119,7 @@ fn numbers_of(alloc: Global, tokens: &[Token<'_>]) -> Result<Option<Vec<i64>>, A
 pub(crate) fn numbers_form<'a>(
     alloc: Global,
     tokens: &[Token<'a>],
-) -> Result<Option<LineForm<'a>>, AllocError>
+) -> Result<Option<Statement<'a>>, AllocError>
     ensures { IfOk result (λ form. option_map form_meaning form ≡ numbers_line (map token_meaning tokens.now)) }
 {
     if tokens.len() > NUMBERS_LIMIT {
@@ -127,7 +127,7 @@ pub(crate) fn numbers_form<'a>(
     }
     match numbers_of(alloc, tokens)? {
         None => Ok(None),
-        Some(numbers) => Ok(Some(LineForm::Numbers(numbers))),
+        Some(numbers) => Ok(Some(Statement::Numbers(numbers))),
     }
 }
 
@@ -142,7 +142,7 @@ pub(crate) fn only_name<'a>(tokens: &[Token<'a>]) -> Option<&'a [u8]>
 }
 
 /// A line that is its verb alone.
-pub(crate) fn alone<'a>(form: LineForm<'a>, tokens: &[Token<'a>]) -> Option<LineForm<'a>>
+pub(crate) fn alone<'a>(form: Statement<'a>, tokens: &[Token<'a>]) -> Option<Statement<'a>>
     ensures { option_map form_meaning result ≡ bare_line (form_meaning form.entry) (map token_meaning tokens.now) }
 {
     match tokens {

@@ -4,7 +4,7 @@ ghost use Rattle.lw_words.specs.TokenMeaning.{token_meaning};
 ghost use Rattle.lw_lines.specs.FormMeaning.{form_meaning};
 ghost use Rattle.lw_lines.specs.VerbFamilies.{parts_script, is_on_registers, is_short, has_pair_or_text};
 
-use crate::form::{BareAct, LineForm, NumberAct, PairAct, TextAct};
+use crate::form::{BareAct, NumberAct, PairAct, Statement, TextAct};
 use crate::forms_asked::{Request, asked_form};
 use crate::forms_blit::{blit_form, put_form, scrollraster_form};
 use crate::forms_layer::{
@@ -17,7 +17,7 @@ use lw_grammar::Verb;
 use lw_words::Token;
 
 /// The form of a line that parts a script or a task.
-fn part_form<'a>(verb: Verb, tokens: &[Token<'a>]) -> Option<LineForm<'a>>
+fn part_form<'a>(verb: Verb, tokens: &[Token<'a>]) -> Option<Statement<'a>>
     requires { IsTrue (parts_script verb) }
     ensures { option_map form_meaning result ≡ form_meant verb (map token_meaning tokens.now) }
 {
@@ -25,21 +25,21 @@ fn part_form<'a>(verb: Verb, tokens: &[Token<'a>]) -> Option<LineForm<'a>>
         Verb::Screen => screen_form(tokens),
         Verb::Glyph => glyph_form(tokens),
         Verb::Bitmap => bitmap_form(tokens),
-        Verb::Task => only_name(tokens).map(|name| LineForm::Task(name)),
-        Verb::End => alone(LineForm::End, tokens),
-        Verb::Order => alone(LineForm::Order, tokens),
-        Verb::Report => alone(LineForm::Report, tokens),
-        Verb::Lock => only_name(tokens).map(|name| LineForm::Lock(name)),
-        Verb::Unlock => only_name(tokens).map(|name| LineForm::Unlock(name)),
-        Verb::Hold => alone(LineForm::Hold, tokens),
-        Verb::Release => alone(LineForm::Release, tokens),
+        Verb::Task => only_name(tokens).map(|name| Statement::Task(name)),
+        Verb::End => alone(Statement::End, tokens),
+        Verb::Order => alone(Statement::Order, tokens),
+        Verb::Report => alone(Statement::Report, tokens),
+        Verb::Lock => only_name(tokens).map(|name| Statement::Lock(name)),
+        Verb::Unlock => only_name(tokens).map(|name| Statement::Unlock(name)),
+        Verb::Hold => alone(Statement::Hold, tokens),
+        Verb::Release => alone(Statement::Release, tokens),
         // No other verb parts a script or a task.
         _ => unreachable!(),
     }
 }
 
 /// The form of a call on registers.
-fn register_form<'a>(verb: Verb, tokens: &[Token<'a>]) -> Option<LineForm<'a>>
+fn register_form<'a>(verb: Verb, tokens: &[Token<'a>]) -> Option<Statement<'a>>
     requires { IsTrue (is_on_registers verb) }
     ensures { option_map form_meaning result ≡ form_meant verb (map token_meaning tokens.now) }
 {
@@ -58,7 +58,7 @@ fn register_form<'a>(verb: Verb, tokens: &[Token<'a>]) -> Option<LineForm<'a>>
 }
 
 /// The form of a call whose line has a layer alone, or a layer and a number.
-fn short_form<'a>(verb: Verb, tokens: &[Token<'a>]) -> Option<LineForm<'a>>
+fn short_form<'a>(verb: Verb, tokens: &[Token<'a>]) -> Option<Statement<'a>>
     requires { IsTrue (is_short verb) }
     ensures { option_map form_meaning result ≡ form_meant verb (map token_meaning tokens.now) }
 {
@@ -82,7 +82,7 @@ fn short_form<'a>(verb: Verb, tokens: &[Token<'a>]) -> Option<LineForm<'a>>
 }
 
 /// The form of a call whose line has a layer with two numbers or a text.
-fn pair_or_text_form<'a>(verb: Verb, tokens: &[Token<'a>]) -> Option<LineForm<'a>>
+fn pair_or_text_form<'a>(verb: Verb, tokens: &[Token<'a>]) -> Option<Statement<'a>>
     requires { IsTrue (has_pair_or_text verb) }
     ensures { option_map form_meaning result ≡ form_meant verb (map token_meaning tokens.now) }
 {
@@ -102,7 +102,7 @@ fn pair_or_text_form<'a>(verb: Verb, tokens: &[Token<'a>]) -> Option<LineForm<'a
 }
 
 /// The form of a line with this verb, if the words behind it fit one.
-pub(crate) fn form_by<'a>(verb: Verb, tokens: &[Token<'a>]) -> Option<LineForm<'a>>
+pub(crate) fn form_by<'a>(verb: Verb, tokens: &[Token<'a>]) -> Option<Statement<'a>>
     ensures { option_map form_meaning result ≡ form_meant verb (map token_meaning tokens.now) }
 {
     match verb {

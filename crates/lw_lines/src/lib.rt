@@ -21,8 +21,8 @@ mod tests;
 pub use acts::Opened;
 pub use converted::{depth, hook, size, task_number};
 pub use form::{
-    Act, Asked, AskedKind, BareAct, Blitting, Corners, KindWithoutBitmap, Layers, LineForm,
-    NumberAct, PairAct, TextAct,
+    Act, Asked, AskedKind, BareAct, Blitting, Corners, KindWithoutBitmap, Layers, NumberAct,
+    PairAct, Statement, TextAct,
 };
 pub use line::words_form;
 pub use section::{Section, is_second_task, stands_in};

@@ -7,7 +7,7 @@ ghost use Rattle.lw_lines.specs.SectionMeaning.{section_meaning};
 ghost use Rattle.lw_lines.specs.LineReading.{Reads};
 ghost use Rattle.lw_grammar.specs.Script.{verb_read, form_read};
 
-use crate::form::LineForm;
+use crate::form::Statement;
 use crate::forms_parts::{numbers_form, row_form};
 use crate::forms_verb::form_by;
 use crate::section::{Section, is_second_task, stands_in};
@@ -16,7 +16,7 @@ use lw_words::{Stop, tokens_of, verb_of};
 use std::alloc::Global;
 
 /// The form that was found, or the reason `Form`.
-fn found(form: Option<LineForm<'_>>) -> Result<LineForm<'_>, Stop>
+fn found(form: Option<Statement<'_>>) -> Result<Statement<'_>, Stop>
     ensures { Reads result (ok_or (option_map form_meaning form.entry) FormReason) }
 {
     match form {
@@ -32,7 +32,7 @@ fn verb_line<'a>(
     section: Section,
     first: &'a [u8],
     rest: &[&'a [u8]],
-) -> Result<LineForm<'a>, Stop>
+) -> Result<Statement<'a>, Stop>
     ensures { Reads result (verb_read form (section_meaning section) (first.now ∷ targets rest.now)) }
 {
     let Some(verb) = verb_of(first) else {
@@ -57,7 +57,7 @@ pub fn words_form<'a>(
     due: u32,
     width: u32,
     words: &[&'a [u8]],
-) -> Result<LineForm<'a>, Stop>
+) -> Result<Statement<'a>, Stop>
     requires { width ≤ 1024 }
     ensures { Reads result (form_read form (section_meaning section) due width (targets words.now)) }
 {

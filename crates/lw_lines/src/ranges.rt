@@ -6,7 +6,7 @@ ghost use Rattle.lw_grammar.specs.LineForms.{is_hook_number, is_own_size, is_ask
 ghost use Rattle.lw_lines.specs.FormMeaning.{corners_meaning, kind_meaning, width_meaning, height_meaning, asked_meaning, area_meaning, number_meaning, act_meaning, form_meaning};
 
 use crate::form::{
-    Act, Asked, AskedKind, Blitting, Corners, KindWithoutBitmap, LineForm, NumberAct,
+    Act, Asked, AskedKind, Blitting, Corners, KindWithoutBitmap, NumberAct, Statement,
 };
 
 #[tactic(auto, using(std::proofs::lemmas::Int::ints), unfolding(lw_region::specs::Rectangle::within))]
@@ -158,35 +158,35 @@ fn are_sizes(width: i64, height: i64, depth: i64) -> bool
     (is_between(1, width, 1024) && is_between(1, height, 1024)) && is_between(1, depth, 8)
 }
 
-impl LineForm<'_> {
+impl Statement<'_> {
     /// Whether every number is in its range, and no maximum is below its minimum.
     pub fn is_in_range(&self) -> bool
         ensures { result ≡ is_line_in_range (form_meaning self.now) }
     {
         match self {
-            LineForm::Screen {
+            Statement::Screen {
                 width,
                 height,
                 depth,
             }
-            | LineForm::Bitmap {
+            | Statement::Bitmap {
                 width,
                 height,
                 depth,
                 ..
             } => are_sizes(*width, *height, *depth),
-            LineForm::Glyph { code, .. } => 32 <= *code && *code <= 126,
-            LineForm::Numbers(numbers) => are_tasks(numbers.as_slice()),
-            LineForm::Call { act, .. } => act.is_in_range(),
-            LineForm::Row(_)
-            | LineForm::Task(_)
-            | LineForm::End
-            | LineForm::Order
-            | LineForm::Report
-            | LineForm::Lock(_)
-            | LineForm::Unlock(_)
-            | LineForm::Hold
-            | LineForm::Release => true,
+            Statement::Glyph { code, .. } => 32 <= *code && *code <= 126,
+            Statement::Numbers(numbers) => are_tasks(numbers.as_slice()),
+            Statement::Call { act, .. } => act.is_in_range(),
+            Statement::Row(_)
+            | Statement::Task(_)
+            | Statement::End
+            | Statement::Order
+            | Statement::Report
+            | Statement::Lock(_)
+            | Statement::Unlock(_)
+            | Statement::Hold
+            | Statement::Release => true,
         }
     }
 }

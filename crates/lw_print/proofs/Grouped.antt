@@ -6,7 +6,7 @@ use Rattle.lw_calls.specs.declared.call.Call.{Call}
 use Rattle.lw_calls.specs.declared.group.Group.{Group}
 use Rattle.lw_calls.specs.Plan.{Plan, group_fits, groups_fit}
 use Rattle.lw_calls.proofs.OrderGroups.{head_fits, rest_fits, has_order}
-use Rattle.lw_grammar.specs.LineForms.{LineForm}
+use Rattle.lw_grammar.specs.LineForms.{Statement}
 use Rattle.lw_canonical.specs.Canonical.{line_of_call, is_update, opening_lines, closing_lines, lines_from}
 use Rattle.lw_print.specs.Grouping.{opening_at, closing_at, lines_at, left_behind}
 
@@ -20,11 +20,11 @@ abbrev IsEnd : (Group → ℕ) → Type 0
 IsEnd edge = (g : Group) → g.first ≤ g.last → (g.first ≤ edge g) × (edge g ≤ g.last)
 
 -- what is said of a group at its end
-abbrev at_end : (Group → ℕ) → (Group → List LineForm) → ℕ → Group → List LineForm
+abbrev at_end : (Group → ℕ) → (Group → List Statement) → ℕ → Group → List Statement
 at_end edge say n g = if edge g == n then say g else []
 
 -- what is said of the first group that is left, at its end
-abbrev at_end_of : (Group → ℕ) → (Group → List LineForm) → ℕ → List Group → List LineForm
+abbrev at_end_of : (Group → ℕ) → (Group → List Statement) → ℕ → List Group → List Statement
 at_end_of edge say n [] = []
 at_end_of edge say n (g ∷ gs) = at_end edge say n g
 
@@ -35,16 +35,16 @@ apart calls g j gs h =
     ltb-true _ _ (and_parts (group_fits calls g) _ parts.0).1
 
 -- nothing is said of a group whose end is elsewhere
-not_said : (edge : Group → ℕ) (say : Group → List LineForm) (n : ℕ) (g : Group) (t : Bool) → (edge g == n) ≡ t → t ≡ false → at_end edge say n g ≡ []
+not_said : (edge : Group → ℕ) (say : Group → List Statement) (n : ℕ) (g : Group) (t : Bool) → (edge g == n) ≡ t → t ≡ false → at_end edge say n g ≡ []
 not_said edge say n g true is h = absurd (true≢false h)
 not_said edge say n g false is h = rw is refl
 
 -- a number is not another
-elsewhere : (edge : Group → ℕ) (say : Group → List LineForm) (n : ℕ) (g : Group) → edge g ≢ n → at_end edge say n g ≡ []
+elsewhere : (edge : Group → ℕ) (say : Group → List Statement) (n : ℕ) (g : Group) → edge g ≢ n → at_end edge say n g ≡ []
 elsewhere edge say n g h = not_said edge say n g (edge g == n) refl (ne_eqb (edge g) n h)
 
 -- nothing is said of the groups behind one that doesn't end before n
-none_later : (edge : Group → ℕ) (say : Group → List LineForm) (calls : List Call) → IsEnd edge → (g : Group) (gs : List Group) (n : ℕ) → groups_fit calls (g ∷ gs) ≡ true → n ≤ g.last → flat_map (at_end edge say n) gs ≡ []
+none_later : (edge : Group → ℕ) (say : Group → List Statement) (calls : List Call) → IsEnd edge → (g : Group) (gs : List Group) (n : ℕ) → groups_fit calls (g ∷ gs) ≡ true → n ≤ g.last → flat_map (at_end edge say n) gs ≡ []
 none_later edge say calls end g [] n h reach = refl
 none_later edge say calls end g (j ∷ gs) n h reach =
     let fits : groups_fit calls (j ∷ gs) ≡ true = rest_fits calls g (j ∷ gs) h in
@@ -54,13 +54,13 @@ none_later edge say calls end g (j ∷ gs) n h reach =
     ap (λ xs. xs ++ flat_map (at_end edge say n) gs) (elsewhere edge say n j (λ e. absurd (omega (arith, e)))) ∙ none_later edge say calls end j gs n fits (omega arith)
 
 -- of groups of which the first doesn't end before n it alone can be said
-first_alone : (edge : Group → ℕ) (say : Group → List LineForm) (calls : List Call) → IsEnd edge → (gs : List Group) (n : ℕ) → groups_fit calls gs ≡ true → Reaches n gs → flat_map (at_end edge say n) gs ≡ at_end_of edge say n gs
+first_alone : (edge : Group → ℕ) (say : Group → List Statement) (calls : List Call) → IsEnd edge → (gs : List Group) (n : ℕ) → groups_fit calls gs ≡ true → Reaches n gs → flat_map (at_end edge say n) gs ≡ at_end_of edge say n gs
 first_alone edge say calls end [] n h reach = refl
 first_alone edge say calls end (g ∷ gs) n h reach =
     ap (λ xs. at_end edge say n g ++ xs) (none_later edge say calls end g gs n h reach) ∙ append-nil (at_end edge say n g)
 
 -- a group that ended before n may be left out
-passed : (edge : Group → ℕ) (say : Group → List LineForm) → IsEnd edge → (g : Group) (gs : List Group) (n : ℕ) → g.first ≤ g.last → g.last < n → flat_map (at_end edge say n) (g ∷ gs) ≡ flat_map (at_end edge say n) gs
+passed : (edge : Group → ℕ) (say : Group → List Statement) → IsEnd edge → (g : Group) (gs : List Group) (n : ℕ) → g.first ≤ g.last → g.last < n → flat_map (at_end edge say n) (g ∷ gs) ≡ flat_map (at_end edge say n) gs
 passed edge say end g gs n order ended =
     let near : edge g ≤ g.last = (end g order).1 in
     ap (λ xs. xs ++ flat_map (at_end edge say n) gs) (elsewhere edge say n g (λ e. absurd (omega (arith, e))))
@@ -73,11 +73,11 @@ is_last : IsEnd (λ g. g.last)
 is_last g order = (order, omega arith)
 
 -- the lines around a call, from equal parts
-around-same : (before before' : List LineForm) (line : LineForm) (behind behind' rest rest' : List LineForm) → before ≡ before' → behind ≡ behind' → rest ≡ rest' → before ++ line ∷ behind ++ rest ≡ before' ++ line ∷ behind' ++ rest'
+around-same : (before before' : List Statement) (line : Statement) (behind behind' rest rest' : List Statement) → before ≡ before' → behind ≡ behind' → rest ≡ rest' → before ++ line ∷ behind ++ rest ≡ before' ++ line ∷ behind' ++ rest'
 around-same before before' line behind behind' rest rest' e f g = rw (e, f, g) refl
 
 -- the lines around a call, and those behind them
-around-split : (before : List LineForm) (line : LineForm) (behind rest : List LineForm) → before ++ line ∷ behind ++ rest ≡ (before ++ (line ∷ behind)) ++ rest
+around-split : (before : List Statement) (line : Statement) (behind rest : List Statement) → before ++ line ∷ behind ++ rest ≡ (before ++ (line ∷ behind)) ++ rest
 around-split before line behind rest = simp append_assoc
 
 -- the lines of the calls from number n on, without a group that ended before it

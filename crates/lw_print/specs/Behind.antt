@@ -3,7 +3,7 @@ use Rattle.std.specs.Prelude.{ℕ, List, [], ◌∷◌, ◌++◌}
 use Rattle.std.specs.List.{flat_map}
 use Rattle.lw_calls.specs.declared.call.Call.{Call}
 use Rattle.lw_calls.specs.Written.{line_of}
-use Rattle.lw_grammar.specs.LineForms.{LineForm}
+use Rattle.lw_grammar.specs.LineForms.{Statement}
 use Rattle.lw_canonical.specs.Spelling.{words_of, spelled}
 use Rattle.lw_canonical.specs.Canonical.{line_of_call}
 
@@ -31,5 +31,5 @@ abbrev pub rest_of_call : List (List ℕ) → List (List ℕ) → Call → List 
 rest_of_call names bitmaps call = behind (other_words (words_of_call names bitmaps call))
 
 -- lines, each with a line feed behind it
-abbrev pub text_of_lines : List LineForm → List ℕ
+abbrev pub text_of_lines : List Statement → List ℕ
 text_of_lines forms = flat_map (λ form. line_of (spelled form)) forms

@@ -3,7 +3,7 @@ use Rattle.std.proofs.Common.{◌≡◌, ℕ, ◌+◌, ◌<◌, ◌≤◌, ◌==
 use Rattle.std.specs.List.{list_any}
 use Rattle.lw_region.specs.Rectangle.{within}
 use Rattle.lw_planes.specs.Bitmap.{row_bytes}
-use Rattle.lw_grammar.specs.LineForms.{LineForm, ScreenLine, GlyphLine, BitmapLine, RowLine, TaskLine, CallLine, UnlockLine, ReleaseLine, Act, layers_of, is_act_in_range}
+use Rattle.lw_grammar.specs.LineForms.{Statement, ScreenLine, GlyphLine, BitmapLine, RowLine, TaskLine, CallLine, UnlockLine, ReleaseLine, Act, layers_of, is_act_in_range}
 use Rattle.lw_grammar.specs.Told.{asks_super, told}
 use Rattle.lw_grammar.specs.Script.{is_lock_on, is_hold, super_limit}
 use Rattle.lw_calls.specs.Limits.{name_limit, task_limit, bitmap_limit}
@@ -19,14 +19,14 @@ use Rattle.std.proofs.lemmas.Bool.Decides.{nat_tests}
 use Rattle.std.proofs.lemmas.Bool.{eqb-false, leb-true, ltb-true, and_parts}
 
 -- what the line is good for, and its tests
-pub here_of : (r : Reader) (f : LineForm) (c : CanAdd r f) → IsFormHere c.0 c.1 f
+pub here_of : (r : Reader) (f : Statement) (c : CanAdd r f) → IsFormHere c.0 c.1 f
 here_of r f c = here c.0 c.1 f c.3
 
-pub tests_of : (r : Reader) (f : LineForm) (c : CanAdd r f) → IsFormTested c.0 c.1 f
+pub tests_of : (r : Reader) (f : Statement) (c : CanAdd r f) → IsFormTested c.0 c.1 f
 tests_of r f c = tests c.0 c.1 f c.3
 
 -- no row is due where the line isn't one
-pub due_of : (r : Reader) (f : LineForm) (c : CanAdd r f) → ((told c.1).rows_due == 0) ≡ true → r.assets.due ≡ 0
+pub due_of : (r : Reader) (f : Statement) (c : CanAdd r f) → ((told c.1).rows_due == 0) ≡ true → r.assets.due ≡ 0
 due_of r f c e = none_due c.0 r c.1 c.2 e
 
 -- three sizes in their ranges
@@ -78,14 +78,14 @@ pub task_new : (r : Reader) (name : List ℕ) → CanAdd r (TaskLine name) → l
 task_new r name c = rw (c.2.tasks.tasks) (tests_of r (TaskLine name) c).new
 
 -- how many names there are
-pub few_names : (r : Reader) (f : LineForm) → CanAdd r f → length r.tasks.layer_names.keys ≤ 64
+pub few_names : (r : Reader) (f : Statement) → CanAdd r f → length r.tasks.layer_names.keys ≤ 64
 few_names r f c =
     let few : length (told c.1).names ≤ 64 = (counted c.0 c.1 (c.3).1).names in
     let same : length (targets r.tasks.layer_names.keys) ≡ length (told c.1).names = ap length c.2.tasks.names in
     let all = length-targets r.tasks.layer_names.keys in
     omega (arith, few, same, all)
 
-pub few_bitmaps : (r : Reader) (f : LineForm) → CanAdd r f → length r.assets.names.keys ≤ 16
+pub few_bitmaps : (r : Reader) (f : Statement) → CanAdd r f → length r.assets.names.keys ≤ 16
 few_bitmaps r f c =
     let few : length (told c.1).bitmap_names ≤ 16 = (counted c.0 c.1 (c.3).1).bitmaps in
     let same : length (targets r.assets.names.keys) ≡ length (told c.1).bitmap_names = ap length c.2.assets.names in

@@ -4,7 +4,7 @@ use Rattle.std.specs.Bool.{IsTrue}
 use Rattle.lw_calls.specs.declared.call.Call.{Call}
 use Rattle.lw_calls.specs.declared.group.Group.{Group}
 use Rattle.lw_calls.specs.declared.group.Hold.TheVariants.{Slot}
-use Rattle.lw_grammar.specs.LineForms.{Act, RegRectAct, RegPairAct, RegClearAct, CreateAct, OpenAct, InFrontAct, WhichAct, PutAct, BlitAct, EndRefreshAct, LineForm, CallLine, layers_of, is_hook_number, is_act_in_range}
+use Rattle.lw_grammar.specs.LineForms.{Act, RegRectAct, RegPairAct, RegClearAct, CreateAct, OpenAct, InFrontAct, WhichAct, PutAct, BlitAct, EndRefreshAct, Statement, CallLine, layers_of, is_hook_number, is_act_in_range}
 use Rattle.lw_grammar.specs.Told.{and_names, place_among, onto_last, spelled_call, call_below, hook_on, told}
 use Rattle.lw_grammar.specs.Script.{is_ending}
 use Rattle.lw_lines.specs.CallMeaning.{IsBitmapAt}
@@ -46,7 +46,7 @@ call_spelled b names (l ∷ m ∷ []) act e = ap (spelled_call b act) (sym (plac
 call_spelled b names (l ∷ m ∷ k ∷ ls) act e = absurd (omega (arith, e, at_most_two act))
 
 -- the groups, where a call ends one or not
-pub groups_with : (above : List LineForm) (ls : List (List ℕ)) (act : Act) → length ls ≡ layers_of act → (told (CallLine ls act ∷ above)).groups ≡ cond (is_ending act) (onto_last (record { first = (told above).began; last = (told above).so_far; hold = Slot (first_place (told above).names ls) }) (told above).groups) (told above).groups
+pub groups_with : (above : List Statement) (ls : List (List ℕ)) (act : Act) → length ls ≡ layers_of act → (told (CallLine ls act ∷ above)).groups ≡ cond (is_ending act) (onto_last (record { first = (told above).began; last = (told above).so_far; hold = Slot (first_place (told above).names ls) }) (told above).groups) (told above).groups
 groups_with above [] (EndRefreshAct full) e = absurd (omega (arith, e))
 groups_with above [] act e = refl
 groups_with above (l ∷ []) (EndRefreshAct full) e =
@@ -63,7 +63,7 @@ hook_fits ls (OpenAct asked framed nocare classes title) h = (and_parts _ _ (and
 hook_fits ls act h = refl
 
 -- the groups that are kept
-pub groups_kept : (above : List LineForm) (ls : List (List ℕ)) (act : Act) (began so_far s : ℕ) (old new : List (List Group)) → length ls ≡ layers_of act → old ≡ (told above).groups → began ≡ (told above).began → so_far ≡ (told above).so_far → s ≡ first_place (told above).names ls → new ≡ cond (is_ending act) (onto_last (record { first = began; last = so_far; hold = Slot s }) old) old → new ≡ (told (CallLine ls act ∷ above)).groups
+pub groups_kept : (above : List Statement) (ls : List (List ℕ)) (act : Act) (began so_far s : ℕ) (old new : List (List Group)) → length ls ≡ layers_of act → old ≡ (told above).groups → began ≡ (told above).began → so_far ≡ (told above).so_far → s ≡ first_place (told above).names ls → new ≡ cond (is_ending act) (onto_last (record { first = began; last = so_far; hold = Slot s }) old) old → new ≡ (told (CallLine ls act ∷ above)).groups
 groups_kept above ls act began so_far s old new m e f g h k =
     let same : cond (is_ending act) (onto_last (record { first = began; last = so_far; hold = Slot s }) old) old ≡ cond (is_ending act) (onto_last (record { first = (told above).began; last = (told above).so_far; hold = Slot (first_place (told above).names ls) }) (told above).groups) (told above).groups = rw (e, f, g, h) refl in
     k ∙ same ∙ sym (groups_with above ls act m)
@@ -74,7 +74,7 @@ bitmap_stands bitmaps place (PutAct bm blitting) e = e
 bitmap_stands bitmaps place act e = tt
 
 -- the calls that are kept
-pub calls_kept : (above : List LineForm) (ls : List (List ℕ)) (act : Act) (s o : ℕ) (call : Call) (old new : List (List Call)) → length ls ≡ layers_of act → old ≡ (told above).calls → s ≡ first_place (told above).names ls → o ≡ second_place (told above).names ls → call ≡ spelled_call (told above).bitmap_names act (s ∷ o ∷ []) → new ≡ onto_last call old → new ≡ (told (CallLine ls act ∷ above)).calls
+pub calls_kept : (above : List Statement) (ls : List (List ℕ)) (act : Act) (s o : ℕ) (call : Call) (old new : List (List Call)) → length ls ≡ layers_of act → old ≡ (told above).calls → s ≡ first_place (told above).names ls → o ≡ second_place (told above).names ls → call ≡ spelled_call (told above).bitmap_names act (s ∷ o ∷ []) → new ≡ onto_last call old → new ≡ (told (CallLine ls act ∷ above)).calls
 calls_kept above ls act s o call old new m e f g h k =
     let b = (told above).bitmap_names in
     let same : call ≡ call_below (told above) ls act = h ∙ ap (λ p. spelled_call b act (p ∷ o ∷ [])) f ∙ ap (λ p. spelled_call b act (first_place (told above).names ls ∷ p ∷ [])) g ∙ call_spelled b (told above).names ls act m in

@@ -5,18 +5,18 @@ use Rattle.lw_grammar.specs.Script.{Setting, lacks_name, gives_again, are_few, i
 use Rattle.lw_calls.specs.declared.reason.Reason.{Reason}
 use Rattle.lw_calls.specs.declared.reason.Reason.TheVariants.{Range, NoName, DoubleName, Group, TooMany, NoHook, HookUsed, Padding, NotBuilt}
 use Rattle.lw_grammar.specs.Demands.{◌>>=◌, demand}
-use Rattle.lw_grammar.specs.LineForms.{LineForm, GlyphLine, BitmapLine, TaskLine, CallLine, LockLine, UnlockLine, is_line_in_range}
+use Rattle.lw_grammar.specs.LineForms.{Statement, GlyphLine, BitmapLine, TaskLine, CallLine, LockLine, UnlockLine, is_line_in_range}
 use Rattle.lw_script.specs.declared.state.Reader.{Reader}
-use Rattle.lw_lines.specs.declared.form.LineForm.{LineForm as Form}
+use Rattle.lw_lines.specs.declared.form.Statement.{Statement as Form}
 use Rattle.lw_words.specs.declared.stop.Stop.{Stop}
 use Rattle.lw_lines.specs.LineReading.{Reads}
 use Rattle.lw_script.specs.ReaderKnows.{known, setting_of}
 use Rattle.lw_script.specs.Represents.{Represents}
 
 -- A reader that represents lines.
-module _ (s : Setting) (r : Reader) (above : List LineForm) (k : Represents s r above) where
+module _ (s : Setting) (r : Reader) (above : List Statement) (k : Represents s r above) where
   -- a line that gives something again
-  again : (f : LineForm) → gives_again (known r) f ≡ gives_again (told above) f
+  again : (f : Statement) → gives_again (known r) f ≡ gives_again (told above) f
   again (GlyphLine code rows) = k.assets.given code
   again (BitmapLine name w h d) = rw k.assets.names refl
   again (TaskLine name) = rw k.tasks.tasks refl
@@ -28,34 +28,34 @@ module _ (s : Setting) (r : Reader) (above : List LineForm) (k : Represents s r 
   used (Some n) = k.tasks.used (unsigned_abs n)
 
   -- the counts with a further line
-  few : (f : LineForm) → are_few (after f (known r)) ≡ are_few (after f (told above))
+  few : (f : Statement) → are_few (after f (known r)) ≡ are_few (after f (told above))
   few f = rw (tasks_are f, bitmaps_are f, names_are f, supers_are f, calls_are f) refl
     where
-      tasks_are : (f : LineForm) → (after f (known r)).tasks ≡ (after f (told above)).tasks
+      tasks_are : (f : Statement) → (after f (known r)).tasks ≡ (after f (told above)).tasks
       tasks_are (TaskLine n) = ap (λ ts. ts ++ n ∷ []) k.tasks.tasks
       tasks_are f = k.tasks.tasks
 
-      bitmaps_are : (f : LineForm) → (after f (known r)).bitmap_names ≡ (after f (told above)).bitmap_names
+      bitmaps_are : (f : Statement) → (after f (known r)).bitmap_names ≡ (after f (told above)).bitmap_names
       bitmaps_are (BitmapLine n w h d) = ap (λ ts. ts ++ n ∷ []) k.assets.names
       bitmaps_are f = k.assets.names
 
-      names_are : (f : LineForm) → (after f (known r)).names ≡ (after f (told above)).names
+      names_are : (f : Statement) → (after f (known r)).names ≡ (after f (told above)).names
       names_are (CallLine layers act) = ap (λ ns. and_names ns layers) k.tasks.names
       names_are (LockLine name) = ap (λ ns. and_name ns name) k.tasks.names
       names_are (UnlockLine name) = ap (λ ns. and_name ns name) k.tasks.names
       names_are f = k.tasks.names
 
-      supers_are : (f : LineForm) → (after f (known r)).supers ≡ (after f (told above)).supers
+      supers_are : (f : Statement) → (after f (known r)).supers ≡ (after f (told above)).supers
       supers_are (CallLine layers act) = ap (λ n. cond (asks_super (CallLine layers act)) 1 0 + n) k.tasks.supers
       supers_are f = k.tasks.supers
 
-      calls_are : (f : LineForm) → (after f (known r)).so_far ≡ (after f (told above)).so_far
+      calls_are : (f : Statement) → (after f (known r)).so_far ≡ (after f (told above)).so_far
       calls_are (TaskLine n) = refl
       calls_are (CallLine layers act) = ap (λ n. n + 1) k.tasks.so_far
       calls_are f = k.tasks.so_far
 
   -- the tests of a form
-  tests_alike : (f : LineForm) → form_tested (setting_of r) (known r) f ≡ form_tested s (told above) f
+  tests_alike : (f : Statement) → form_tested (setting_of r) (known r) f ≡ form_tested s (told above) f
   tests_alike f =
       chain _ _ _ _ _ _ _ _ _ _ _ _ _ _ (ap (λ ns. lacks_name ns f) k.assets.names) (again f) (rw (k.tasks.group, k.tasks.began, k.tasks.so_far) refl) (few f) (ap (λ n. is_no_hook n (hook_on f)) k.hooks) (used (hook_on f)) (ap (λ n. has_padding n f) k.assets.width)
     where
@@ -66,11 +66,11 @@ module _ (s : Setting) (r : Reader) (above : List LineForm) (k : Represents s r 
   lines_alike : (line : List ℕ) → line_read (setting_of r) (known r) line ≡ line_read s (told above) line
   lines_alike line = at_words (words_read line)
     where
-      at_form : (o : Result LineForm Reason) → (o >>= (λ f. form_tested (setting_of r) (known r) f >>= (λ _. Ok f))) ≡ (o >>= (λ f. form_tested s (told above) f >>= (λ _. Ok f)))
+      at_form : (o : Result Statement Reason) → (o >>= (λ f. form_tested (setting_of r) (known r) f >>= (λ _. Ok f))) ≡ (o >>= (λ f. form_tested s (told above) f >>= (λ _. Ok f)))
       at_form (Ok f) = rw (tests_alike f) refl
       at_form (Err e) = refl
 
-      Form_of : Result LineForm Reason → Result LineForm Reason
+      Form_of : Result Statement Reason → Result Statement Reason
       Form_of o = o >>= (λ f. form_tested (setting_of r) (known r) f >>= (λ _. Ok f))
 
       at_words : (o : Result (List (List ℕ)) Reason) → (o >>= (λ ws. Form_of (form_read r.form (known r).section r.assets.due r.assets.width ws))) ≡ (o >>= (λ ws. form_read s.form (told above).section (told above).rows_due (told above).row_width ws >>= (λ f. form_tested s (told above) f >>= (λ _. Ok f))))
@@ -82,4 +82,4 @@ module _ (s : Setting) (r : Reader) (above : List LineForm) (k : Represents s r 
   -- so the reader reads a line as the grammar does
   pub reads_alike : (line : List ℕ) (answer : Result Form Stop) → Reads answer (line_read (setting_of r) (known r) line) → Reads answer (line_read s (told above) line)
   reads_alike line answer h =
-      let P : Result LineForm Reason → Type 0 = λ o. Reads answer o in subst P (lines_alike line) h
+      let P : Result Statement Reason → Type 0 = λ o. Reads answer o in subst P (lines_alike line) h

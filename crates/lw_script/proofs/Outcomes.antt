@@ -6,7 +6,7 @@ use Rattle.lw_calls.specs.declared.reason.Reason.{Reason}
 use Rattle.lw_calls.specs.declared.reason.Reason.TheVariants.{Missing}
 use Rattle.lw_grammar.specs.Demands.{◌>>=◌, demand}
 use Rattle.lw_grammar.specs.Lines.{lines}
-use Rattle.lw_grammar.specs.LineForms.{LineForm}
+use Rattle.lw_grammar.specs.LineForms.{Statement}
 use Rattle.lw_grammar.proofs.ScriptOutcome.{with_good}
 use Rattle.lw_words.specs.Cuts.{IsCutLine}
 use Rattle.lw_script.specs.declared.input.ScriptStop.{ScriptStop}
@@ -16,13 +16,13 @@ use Rattle.lw_script.specs.Answers.{Advances, Gives}
 use Rattle.std.proofs.lemmas.Int.{clamps}
 
 -- what lines give where a further one is read
-pub step : (s : Setting) (p : Reached) (line : List ℕ) (ls : List (List ℕ)) (forms : List LineForm) → is_nothing_due (told p.forms).section ≡ false → forms_with s p.forms line ≡ Ok forms → lines_read s p (line ∷ ls) ≡ lines_read s (with_line p line forms) ls
+pub step : (s : Setting) (p : Reached) (line : List ℕ) (ls : List (List ℕ)) (forms : List Statement) → is_nothing_due (told p.forms).section ≡ false → forms_with s p.forms line ≡ Ok forms → lines_read s p (line ∷ ls) ≡ lines_read s (with_line p line forms) ls
 step s p line ls forms due e = rw (due, e) refl
 
 -- the forms with it are those of good lines
-pub step_good : (s : Setting) (above : List LineForm) (line : List ℕ) (forms : List LineForm) → AreGoodLines s above → forms_with s above line ≡ Ok forms → AreGoodLines s forms
+pub step_good : (s : Setting) (above : List Statement) (line : List ℕ) (forms : List Statement) → AreGoodLines s above → forms_with s above line ≡ Ok forms → AreGoodLines s forms
 step_good s above line forms g e =
-    let P : Result (List LineForm) Reason → Type 0 = λ r. IfOk r (AreGoodLines s) in subst P e (with_good s above line g)
+    let P : Result (List Statement) Reason → Type 0 = λ r. IfOk r (AreGoodLines s) in subst P e (with_good s above line g)
 
 -- what they give at the end
 pub at_end : (s : Setting) (p : Reached) (rest : List ℕ) → (is_nothing_due (told p.forms).section ≡ true) ⊎ (rest ≡ []) → lines_read s p (lines rest) ≡ end_read s p

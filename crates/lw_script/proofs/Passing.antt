@@ -1,6 +1,6 @@
 -- Lines that leave what the reader has read: of glyphs and bitmaps, or of tasks.
 use Rattle.std.proofs.Common.{◌≡◌, ℕ, ◌==◌, Bool, true, false, List, ◌∷◌, Result, Ok, Err, OnOk, ℤ, subst, ◌∙◌}
-use Rattle.lw_grammar.specs.LineForms.{LineForm, ScreenLine, GlyphLine, BitmapLine, RowLine, TaskLine, EndLine, OrderLine, NumbersLine, ReportLine, CallLine, LockLine, UnlockLine, HoldLine, ReleaseLine}
+use Rattle.lw_grammar.specs.LineForms.{Statement, ScreenLine, GlyphLine, BitmapLine, RowLine, TaskLine, EndLine, OrderLine, NumbersLine, ReportLine, CallLine, LockLine, UnlockLine, HoldLine, ReleaseLine}
 use Rattle.lw_grammar.specs.Told.{told}
 use Rattle.lw_grammar.specs.Script.{Setting}
 use Rattle.lw_script.specs.declared.state.AssetsRead.{AssetsRead}
@@ -10,14 +10,14 @@ use Rattle.lw_script.specs.Represents.{Represents, AssetsRepresent, TasksReprese
 use Rattle.std.proofs.lemmas.Bool.{eqb-true, false≢true}
 
 -- the line is no glyph, no bitmap and no row
-abbrev pub leaves_assets : LineForm → Bool
+abbrev pub leaves_assets : Statement → Bool
 leaves_assets (GlyphLine code rows) = false
 leaves_assets (BitmapLine name w h d) = false
 leaves_assets (RowLine bytes) = false
 leaves_assets f = true
 
 -- the line begins or ends no task or group, and is no call
-abbrev pub leaves_tasks : LineForm → Bool
+abbrev pub leaves_tasks : Statement → Bool
 leaves_tasks (TaskLine name) = false
 leaves_tasks (CallLine layers act) = false
 leaves_tasks (LockLine name) = false
@@ -27,7 +27,7 @@ leaves_tasks ReleaseLine = false
 leaves_tasks f = true
 
 -- the line is no screen, no numbers, and begins or ends no task, order or report
-abbrev pub keeps_section : LineForm → Bool
+abbrev pub keeps_section : Statement → Bool
 keeps_section (ScreenLine w h d) = false
 keeps_section (TaskLine name) = false
 keeps_section EndLine = false
@@ -37,11 +37,11 @@ keeps_section (NumbersLine zs) = false
 keeps_section f = true
 
 -- no row is due
-pub none_due : (s : Setting) (r : Reader) (above : List LineForm) → Represents s r above → ((told above).rows_due == 0) ≡ true → r.assets.due ≡ 0
+pub none_due : (s : Setting) (r : Reader) (above : List Statement) → Represents s r above → ((told above).rows_due == 0) ≡ true → r.assets.due ≡ 0
 none_due s r above k e = k.assets.due ∙ eqb-true _ _ e
 
 -- glyphs and bitmaps below such a line
-pub assets_pass : (a : AssetsRead) (above : List LineForm) (f : LineForm) → leaves_assets f ≡ true → AssetsRepresent a above → AssetsRepresent a (f ∷ above)
+pub assets_pass : (a : AssetsRead) (above : List Statement) (f : Statement) → leaves_assets f ≡ true → AssetsRepresent a above → AssetsRepresent a (f ∷ above)
 assets_pass a above (GlyphLine code rows) e k = absurd (false≢true e)
 assets_pass a above (BitmapLine name w h depth) e k = absurd (false≢true e)
 assets_pass a above (RowLine bytes) e k = absurd (false≢true e)
@@ -58,7 +58,7 @@ assets_pass a above f e k =
     }
 
 -- tasks below such a line
-pub tasks_pass : (t : TasksRead) (above : List LineForm) (f : LineForm) → leaves_tasks f ≡ true → TasksRepresent t above → TasksRepresent t (f ∷ above)
+pub tasks_pass : (t : TasksRead) (above : List Statement) (f : Statement) → leaves_tasks f ≡ true → TasksRepresent t above → TasksRepresent t (f ∷ above)
 tasks_pass t above (TaskLine name) e k = absurd (false≢true e)
 tasks_pass t above (CallLine layers act) e k = absurd (false≢true e)
 tasks_pass t above (LockLine name) e k = absurd (false≢true e)
@@ -84,7 +84,7 @@ on_done (Ok a) P Q f h = f h
 on_done (Err e) P Q f h = tt
 
 -- the reader below a line that changes its glyphs and bitmaps alone, or its tasks alone
-pub with_assets : (s : Setting) (r : Reader) (above : List LineForm) (f : LineForm) (a : AssetsRead) → keeps_section f ≡ true → leaves_tasks f ≡ true → Represents s r above → AssetsRepresent a (f ∷ above) → Represents s (record { hooks = r.hooks; form = r.form; section = r.section; width = r.width; height = r.height; depth = r.depth; assets = a; tasks = r.tasks; order = r.order }) (f ∷ above)
+pub with_assets : (s : Setting) (r : Reader) (above : List Statement) (f : Statement) (a : AssetsRead) → keeps_section f ≡ true → leaves_tasks f ≡ true → Represents s r above → AssetsRepresent a (f ∷ above) → Represents s (record { hooks = r.hooks; form = r.form; section = r.section; width = r.width; height = r.height; depth = r.depth; assets = a; tasks = r.tasks; order = r.order }) (f ∷ above)
 with_assets s r above (ScreenLine w h d) a e t k new = absurd (false≢true e)
 with_assets s r above (TaskLine name) a e t k new = absurd (false≢true e)
 with_assets s r above EndLine a e t k new = absurd (false≢true e)
@@ -104,7 +104,7 @@ with_assets s r above f a e t k new =
       order = k.order;
     }
 
-pub with_tasks : (s : Setting) (r : Reader) (above : List LineForm) (f : LineForm) (t : TasksRead) → keeps_section f ≡ true → leaves_assets f ≡ true → Represents s r above → TasksRepresent t (f ∷ above) → Represents s (record { hooks = r.hooks; form = r.form; section = r.section; width = r.width; height = r.height; depth = r.depth; assets = r.assets; tasks = t; order = r.order }) (f ∷ above)
+pub with_tasks : (s : Setting) (r : Reader) (above : List Statement) (f : Statement) (t : TasksRead) → keeps_section f ≡ true → leaves_assets f ≡ true → Represents s r above → TasksRepresent t (f ∷ above) → Represents s (record { hooks = r.hooks; form = r.form; section = r.section; width = r.width; height = r.height; depth = r.depth; assets = r.assets; tasks = t; order = r.order }) (f ∷ above)
 with_tasks s r above (ScreenLine w h d) t e a k new = absurd (false≢true e)
 with_tasks s r above (TaskLine name) t e a k new = absurd (false≢true e)
 with_tasks s r above EndLine t e a k new = absurd (false≢true e)
@@ -125,14 +125,14 @@ with_tasks s r above f t e a k new =
     }
 
 -- lines of the same numbers
-pub same_screen : (s : Setting) (r : Reader) (above : List LineForm) (w h d w' h' d' : ℤ) → w' ≡ w → h' ≡ h → d' ≡ d → Represents s r (ScreenLine w' h' d' ∷ above) → Represents s r (ScreenLine w h d ∷ above)
+pub same_screen : (s : Setting) (r : Reader) (above : List Statement) (w h d w' h' d' : ℤ) → w' ≡ w → h' ≡ h → d' ≡ d → Represents s r (ScreenLine w' h' d' ∷ above) → Represents s r (ScreenLine w h d ∷ above)
 same_screen s r above w h d w' h' d' a b c k =
     let P : ℤ → Type 0 = λ x. Represents s r (ScreenLine x h' d' ∷ above) in
     let Q : ℤ → Type 0 = λ y. Represents s r (ScreenLine w y d' ∷ above) in
     let R : ℤ → Type 0 = λ z. Represents s r (ScreenLine w h z ∷ above) in
     subst R c (subst Q b (subst P a k))
 
-pub same_bitmap : {A E : Type 0} (done : Result A E) (s : Setting) (r : Reader) (above : List LineForm) (name : List ℕ) (w h d w' h' d' : ℤ) → w' ≡ w → h' ≡ h → d' ≡ d → OnOk done (Represents s r (BitmapLine name w' h' d' ∷ above)) → OnOk done (Represents s r (BitmapLine name w h d ∷ above))
+pub same_bitmap : {A E : Type 0} (done : Result A E) (s : Setting) (r : Reader) (above : List Statement) (name : List ℕ) (w h d w' h' d' : ℤ) → w' ≡ w → h' ≡ h → d' ≡ d → OnOk done (Represents s r (BitmapLine name w' h' d' ∷ above)) → OnOk done (Represents s r (BitmapLine name w h d ∷ above))
 same_bitmap done s r above name w h d w' h' d' a b c k =
     let P : ℤ → Type 0 = λ x. OnOk done (Represents s r (BitmapLine name x h' d' ∷ above)) in
     let Q : ℤ → Type 0 = λ y. OnOk done (Represents s r (BitmapLine name w y d' ∷ above)) in

@@ -7,7 +7,7 @@ use Rattle.lw_calls.specs.declared.group.Group.{Group}
 use Rattle.lw_calls.specs.declared.sizes.Sizes.{Sizes}
 use Rattle.lw_calls.specs.Assets.{Assets}
 use Rattle.lw_calls.specs.Plan.{Plan, IsPlan}
-use Rattle.lw_grammar.specs.LineForms.{LineForm}
+use Rattle.lw_grammar.specs.LineForms.{Statement}
 use Rattle.lw_grammar.specs.Told.{told, plan_of}
 use Rattle.lw_grammar.specs.Script.{Setting, may_end, ScriptInput, input_from}
 use Rattle.lw_grammar.proofs.ScriptOutcome.{rows_in_assets}
@@ -26,7 +26,7 @@ names_fit keys names n e d few =
     let same : length keys ≡ length names = sym (length-targets keys) ∙ ap length d in omega arith
 
 -- the reader's test of the input's end is that of the grammar
-pub ends_alike : (s : Setting) (r : Reader) (above : List LineForm) → Represents s r above → may_end r.form (section_meaning r.section) ≡ may_end s.form (told above).section
+pub ends_alike : (s : Setting) (r : Reader) (above : List Statement) → Represents s r above → may_end r.form (section_meaning r.section) ≡ may_end s.form (told above).section
 ends_alike s r above k =
     ap (λ f. may_end f (section_meaning r.section)) k.form ∙ ap (may_end s.form) k.section
 
@@ -37,7 +37,7 @@ none_due r h e = go ((told above).rows_due == 0) refl
     s : Setting
     s = h.0
 
-    above : List LineForm
+    above : List Statement
     above = h.1
 
     go : (t : Bool) → ((told above).rows_due == 0) ≡ t → r.assets.due ≡ 0
@@ -48,7 +48,7 @@ none_due r h e = go ((told above).rows_due == 0) refl
         absurd (cc)
 
 -- there the bitmaps are all that were read
-bitmaps_are : (s : Setting) (r : Reader) (above : List LineForm) → Represents s r above → r.assets.due ≡ 0 → r.assets.bitmaps.items ≡ (told above).bitmaps []
+bitmaps_are : (s : Setting) (r : Reader) (above : List Statement) → Represents s r above → r.assets.due ≡ 0 → r.assets.bitmaps.items ≡ (told above).bitmaps []
 bitmaps_are s r above k e =
     let finished : unfinished r.assets [] ≡ [] = rw e refl in
     sym (append-nil r.assets.bitmaps.items) ∙ ap (λ bs. r.assets.bitmaps.items ++ bs) (sym finished) ∙ k.assets.bitmaps [] (λ d. refl)
@@ -59,11 +59,11 @@ plan_with sizes slots tasks bitmaps calls groups assets =
     record { sizes = sizes; slot_names = slots; task_names = tasks; bitmap_names = bitmaps; calls = calls; groups = groups; assets = assets }
 
 -- a plan whose parts are those of lines is the plan of the lines
-same_plan : (z : Sizes) (ss ts bs : List (List ℕ)) (cs : List (List Call)) (gs : List (List Group)) (glyphs : List (List ℕ)) (bitmaps : List Bitmap) (hooks : ℕ) (above : List LineForm) → z ≡ (plan_of hooks (told above)).sizes → ss ≡ (told above).names → ts ≡ (told above).tasks → bs ≡ (told above).bitmap_names → cs ≡ (told above).calls → gs ≡ (told above).groups → glyphs ≡ ((plan_of 0 (told above)).assets).glyphs → bitmaps ≡ ((plan_of 0 (told above)).assets).bitmaps → plan_with z ss ts bs cs gs (record { glyphs = glyphs; bitmaps = bitmaps }) ≡ plan_of hooks (told above)
+same_plan : (z : Sizes) (ss ts bs : List (List ℕ)) (cs : List (List Call)) (gs : List (List Group)) (glyphs : List (List ℕ)) (bitmaps : List Bitmap) (hooks : ℕ) (above : List Statement) → z ≡ (plan_of hooks (told above)).sizes → ss ≡ (told above).names → ts ≡ (told above).tasks → bs ≡ (told above).bitmap_names → cs ≡ (told above).calls → gs ≡ (told above).groups → glyphs ≡ ((plan_of 0 (told above)).assets).glyphs → bitmaps ≡ ((plan_of 0 (told above)).assets).bitmaps → plan_with z ss ts bs cs gs (record { glyphs = glyphs; bitmaps = bitmaps }) ≡ plan_of hooks (told above)
 same_plan z ss ts bs cs gs glyphs bitmaps hooks above a b c d e f g h = rw (a, b, c, d, e, f, g, h) refl
 
 -- so is one whose parts are the reader's, where no rows are due
-pub plan_is : (s : Setting) (r : Reader) (above : List LineForm) → Represents s r above → r.assets.due ≡ 0 → (z : Sizes) (ss ts bs : List (List ℕ)) (x : Assets) → z ≡ (plan_of s.hooks (told above)).sizes → ss ≡ targets r.tasks.layer_names.keys → ts ≡ targets r.tasks.task_names.keys → bs ≡ targets r.assets.names.keys → x.glyphs ≡ map (λ i. (told above).glyphs (32 + i)) (range_with_len 0 95) → x.bitmaps ≡ r.assets.bitmaps.items → plan_with z ss ts bs (map (λ cs. cs.items) r.tasks.calls.items) (map (λ gs. gs.items) r.tasks.groups.items) x ≡ plan_of s.hooks (told above)
+pub plan_is : (s : Setting) (r : Reader) (above : List Statement) → Represents s r above → r.assets.due ≡ 0 → (z : Sizes) (ss ts bs : List (List ℕ)) (x : Assets) → z ≡ (plan_of s.hooks (told above)).sizes → ss ≡ targets r.tasks.layer_names.keys → ts ≡ targets r.tasks.task_names.keys → bs ≡ targets r.assets.names.keys → x.glyphs ≡ map (λ i. (told above).glyphs (32 + i)) (range_with_len 0 95) → x.bitmaps ≡ r.assets.bitmaps.items → plan_with z ss ts bs (map (λ cs. cs.items) r.tasks.calls.items) (map (λ gs. gs.items) r.tasks.groups.items) x ≡ plan_of s.hooks (told above)
 plan_is s r above k due z ss ts bs x a b c d g h =
     same_plan z ss ts bs _ _ x.glyphs x.bitmaps s.hooks above a (b ∙ k.tasks.names) (c ∙ k.tasks.tasks) (d ∙ k.assets.names) k.tasks.calls k.tasks.groups g (h ∙ bitmaps_are s r above k due)
 
@@ -76,5 +76,5 @@ plan_runs r h e p same =
 abbrev input_with : Plan → List ℕ → ℕ → ScriptInput
 input_with plan order place = record { plan = plan; order = order; rest = place }
 
-pub input_is : (s : Setting) (above : List LineForm) (place : ℕ) (plan : Plan) (order : List ℕ) → plan ≡ plan_of s.hooks (told above) → order ≡ (told above).order → input_with plan order place ≡ input_from s (told above) place
+pub input_is : (s : Setting) (above : List Statement) (place : ℕ) (plan : Plan) (order : List ℕ) → plan ≡ plan_of s.hooks (told above) → order ≡ (told above).order → input_with plan order place ≡ input_from s (told above) place
 input_is s above place plan order a b = rw (a, b) refl

@@ -3,7 +3,7 @@ use Rattle.std.specs.Prelude.{◌≡◌, ℕ, List, ◌∷◌, Result, Ok, Err}
 use Rattle.lw_calls.specs.declared.form.Form.{Form}
 use Rattle.lw_calls.specs.declared.reason.Reason.{Reason}
 use Rattle.lw_grammar.specs.Demands.{◌>>=◌}
-use Rattle.lw_grammar.specs.LineForms.{LineForm}
+use Rattle.lw_grammar.specs.LineForms.{Statement}
 use Rattle.lw_grammar.specs.Told.{told}
 use Rattle.lw_grammar.specs.Script.{Setting, Reached, end_read, ScriptInput, input_from}
 use Rattle.lw_script.specs.declared.input.Input.{Input}
@@ -22,15 +22,15 @@ input_meaning i = record { plan = i.plan; order = i.order; rest = i.rest }
 
 -- After a line below lines of these forms the reader represents one form more, which is what the grammar gives; or the
 -- line's number is told with the grammar's reason; or memory ran out.
-abbrev pub Takes : Setting → Reader → List LineForm → ℕ → Result (Unit {0}) ScriptStop → Result LineForm Reason → Type 0
-Takes s new above n (Ok done) r = (form : LineForm) × (r ≡ Ok form) × Represents s new (form ∷ above)
+abbrev pub Takes : Setting → Reader → List Statement → ℕ → Result (Unit {0}) ScriptStop → Result Statement Reason → Type 0
+Takes s new above n (Ok done) r = (form : Statement) × (r ≡ Ok form) × Represents s new (form ∷ above)
 Takes s new above n (Err (Refused line reason)) r = (line ≡ n) × (r ≡ Err reason)
 Takes s new above n (Err Memory) r = Unit {0}
 
 -- After a further line, skipped or not, the reader represents the forms of the lines with it; or the line's number is told
 -- with the grammar's reason; or memory ran out.
-abbrev pub Advances : Setting → Reader → ℕ → Result (Unit {0}) ScriptStop → Result (List LineForm) Reason → Type 0
-Advances s new n (Ok done) r = (forms : List LineForm) × (r ≡ Ok forms) × Represents s new forms
+abbrev pub Advances : Setting → Reader → ℕ → Result (Unit {0}) ScriptStop → Result (List Statement) Reason → Type 0
+Advances s new n (Ok done) r = (forms : List Statement) × (r ≡ Ok forms) × Represents s new forms
 Advances s new n (Err (Refused line reason)) r = (line ≡ n) × (r ≡ Err reason)
 Advances s new n (Err Memory) r = Unit {0}
 

@@ -4,7 +4,7 @@ use Rattle.std.specs.List.{list_any}
 use Rattle.lw_planes.specs.Bitmap.{Bitmap, row_bytes}
 use Rattle.lw_planes.specs.Sizes.{AreSizes}
 use Rattle.lw_planes.specs.Storage.{stored}
-use Rattle.lw_grammar.specs.LineForms.{LineForm}
+use Rattle.lw_grammar.specs.LineForms.{Statement}
 use Rattle.lw_grammar.specs.Told.{told}
 use Rattle.lw_grammar.specs.Script.{Setting, AreGoodLines}
 use Rattle.lw_script.specs.declared.state.AssetsRead.{AssetsRead}
@@ -24,7 +24,7 @@ pub record IsBitmapBegun (a : AssetsRead) : Type 0 where
   pub long : length a.rows.items + a.due * row_bytes a.width ≡ a.depth * a.height * row_bytes a.width
 
 -- glyphs and bitmaps
-pub record AssetsRepresent (a : AssetsRead) (above : List LineForm) : Type 0 where
+pub record AssetsRepresent (a : AssetsRead) (above : List Statement) : Type 0 where
   pub given : (code : ℕ) → get_or a.given code false ≡ (told above).given code
   pub glyphs : (i : ℕ) → i < 95 → get_or a.glyphs i [] ≡ (told above).glyphs (32 + i)
   pub names : targets a.names.keys ≡ (told above).bitmap_names
@@ -35,7 +35,7 @@ pub record AssetsRepresent (a : AssetsRead) (above : List LineForm) : Type 0 whe
   pub bitmaps : (rows : List ℕ) → (a.due ≡ 0 → rows ≡ []) → a.bitmaps.items ++ unfinished a rows ≡ (told above).bitmaps rows
 
 -- tasks, their calls and their groups
-pub record TasksRepresent (t : TasksRead) (above : List LineForm) : Type 0 where
+pub record TasksRepresent (t : TasksRead) (above : List Statement) : Type 0 where
   pub tasks : targets t.task_names.keys ≡ (told above).tasks
   pub names : targets t.layer_names.keys ≡ (told above).names
   pub supers : t.supers ≡ (told above).supers
@@ -47,7 +47,7 @@ pub record TasksRepresent (t : TasksRead) (above : List LineForm) : Type 0 where
   pub groups : map (λ gs. gs.items) t.groups.items ≡ (told above).groups
 
 -- The reader, with its setting, represents the lines that it has read: it knows of each thing that they tell what they tell.
-pub record Represents (s : Setting) (r : Reader) (above : List LineForm) : Type 0 where
+pub record Represents (s : Setting) (r : Reader) (above : List Statement) : Type 0 where
   pub hooks : r.hooks ≡ s.hooks
   pub form : r.form ≡ s.form
   pub section : section_meaning r.section ≡ (told above).section
@@ -60,8 +60,8 @@ pub record Represents (s : Setting) (r : Reader) (above : List LineForm) : Type 
 
 -- the reader represents lines that were good where they stood
 abbrev pub HasRead : Reader → Type 0
-HasRead r = (s : Setting) × (above : List LineForm) × Represents s r above × AreGoodLines s above
+HasRead r = (s : Setting) × (above : List Statement) × Represents s r above × AreGoodLines s above
 
 -- the same, where a line of this form is good below them
-abbrev pub CanAdd : Reader → LineForm → Type 0
-CanAdd r form = (s : Setting) × (above : List LineForm) × Represents s r above × AreGoodLines s (form ∷ above)
+abbrev pub CanAdd : Reader → Statement → Type 0
+CanAdd r form = (s : Setting) × (above : List Statement) × Represents s r above × AreGoodLines s (form ∷ above)

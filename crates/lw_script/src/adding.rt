@@ -2,7 +2,7 @@
 ghost use Rattle.std.specs.Prelude.{◌≡◌, ◌≤◌, ◌++◌, pos, unsigned_abs, IsTrue, OnOk, List, ◌∷◌, length, map};
 ghost use Rattle.std.specs.List.{list_all};
 ghost use Rattle.lw_region.specs.Rectangle.{within};
-ghost use Rattle.lw_grammar.specs.LineForms.{LineForm as FormValue, ScreenLine, GlyphLine, BitmapLine, RowLine, TaskLine, EndLine, OrderLine, NumbersLine, ReportLine, CallLine, LockLine, UnlockLine, HoldLine, ReleaseLine};
+ghost use Rattle.lw_grammar.specs.LineForms.{Statement as FormValue, ScreenLine, GlyphLine, BitmapLine, RowLine, TaskLine, EndLine, OrderLine, NumbersLine, ReportLine, CallLine, LockLine, UnlockLine, HoldLine, ReleaseLine};
 ghost use Rattle.lw_words.specs.Digits.{decoded};
 ghost use Rattle.lw_grammar.specs.Script.{Setting};
 ghost use Rattle.lw_words.specs.Cuts.{targets};
@@ -11,7 +11,7 @@ ghost use Rattle.lw_script.specs.CallParts.{bitmap_place};
 ghost use Rattle.lw_script.specs.Represents.{Represents, CanAdd};
 
 use crate::state::{Reader, place_of_name};
-use lw_lines::{Act, Layers, LineForm, Section, depth as depth_of, size, task_number};
+use lw_lines::{Act, Layers, Section, Statement, depth as depth_of, size, task_number};
 use lw_words::Digits;
 use std::alloc::{AllocError, Global};
 
@@ -182,13 +182,13 @@ impl<'a> Reader<'a> {
     }
 
     /// Adds a line below those that were read, where it is good.
-    pub fn add(&mut self, alloc: Global, form: LineForm<'a>) -> Result<(), AllocError>
+    pub fn add(&mut self, alloc: Global, form: Statement<'a>) -> Result<(), AllocError>
         requires { CanAdd self.old (form_meaning form) }
         ensures { (s : Setting) (above : List FormValue) → Represents s self.old above
             → OnOk result (Represents s self.new (form_meaning form.entry ∷ above)) }
     {
         match form {
-            LineForm::Screen {
+            Statement::Screen {
                 width,
                 height,
                 depth,
@@ -196,39 +196,39 @@ impl<'a> Reader<'a> {
                 self.add_screen(width, height, depth);
                 Ok(())
             }
-            LineForm::Glyph { code, digits } => {
+            Statement::Glyph { code, digits } => {
                 self.add_glyph(code, &digits);
                 Ok(())
             }
-            LineForm::Bitmap {
+            Statement::Bitmap {
                 name,
                 width,
                 height,
                 depth,
             } => self.add_bitmap(alloc, name, width, height, depth),
-            LineForm::Row(digits) => self.add_row(alloc, &digits),
-            LineForm::Task(name) => self.add_task(alloc, name),
-            LineForm::End => {
+            Statement::Row(digits) => self.add_row(alloc, &digits),
+            Statement::Task(name) => self.add_task(alloc, name),
+            Statement::End => {
                 self.add_end();
                 Ok(())
             }
-            LineForm::Order => {
+            Statement::Order => {
                 self.add_order();
                 Ok(())
             }
-            LineForm::Numbers(numbers) => self.add_numbers(numbers.as_slice()),
-            LineForm::Report => {
+            Statement::Numbers(numbers) => self.add_numbers(numbers.as_slice()),
+            Statement::Report => {
                 self.add_report();
                 Ok(())
             }
-            LineForm::Call { layers, act } => self.add_call(alloc, layers, act),
-            LineForm::Lock(name) => self.add_lock(name),
-            LineForm::Unlock(name) => self.add_unlock(name),
-            LineForm::Hold => {
+            Statement::Call { layers, act } => self.add_call(alloc, layers, act),
+            Statement::Lock(name) => self.add_lock(name),
+            Statement::Unlock(name) => self.add_unlock(name),
+            Statement::Hold => {
                 self.add_hold();
                 Ok(())
             }
-            LineForm::Release => self.add_release(),
+            Statement::Release => self.add_release(),
         }
     }
 }

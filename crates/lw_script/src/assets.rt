@@ -3,7 +3,7 @@ ghost use Rattle.std.specs.Prelude.{◌≡◌, ◌<◌, ◌≤◌, pos, false, I
 ghost use Rattle.std.specs.List.{list_any};
 ghost use Rattle.lw_region.specs.Rectangle.{within};
 ghost use Rattle.lw_planes.specs.Bitmap.{row_bytes};
-ghost use Rattle.lw_grammar.specs.LineForms.{LineForm as FormValue, GlyphLine, BitmapLine, RowLine};
+ghost use Rattle.lw_grammar.specs.LineForms.{Statement as FormValue, GlyphLine, BitmapLine, RowLine};
 ghost use Rattle.lw_words.specs.Cuts.{targets};
 ghost use Rattle.lw_words.specs.Digits.{decoded};
 ghost use Rattle.lw_script.specs.Represents.{AssetsRepresent, IsBitmapBegun};

@@ -1,7 +1,7 @@
 //! What a script gives that was read to its end.
 ghost use Rattle.std.specs.Prelude.{◌≡◌, ℕ, ◌<◌, IfOk, IsTrue, List, [], map, get_or};
 ghost use Rattle.std.specs.List.{range_with_len};
-ghost use Rattle.lw_grammar.specs.LineForms.{LineForm as FormValue};
+ghost use Rattle.lw_grammar.specs.LineForms.{Statement as FormValue};
 ghost use Rattle.lw_grammar.specs.Told.{told, plan_of};
 ghost use Rattle.lw_grammar.specs.Script.{Setting, Reached, may_end, input_from};
 ghost use Rattle.lw_words.specs.Cuts.{targets};

@@ -1,6 +1,6 @@
 //! A line taken from the bytes that are left.
 ghost use Rattle.std.specs.Prelude.{List};
-ghost use Rattle.lw_grammar.specs.LineForms.{LineForm as FormValue};
+ghost use Rattle.lw_grammar.specs.LineForms.{Statement as FormValue};
 ghost use Rattle.lw_grammar.specs.Told.{told};
 ghost use Rattle.lw_grammar.specs.Script.{Setting, is_nothing_due, line_read, forms_with};
 ghost use Rattle.lw_lines.specs.SectionMeaning.{section_meaning};

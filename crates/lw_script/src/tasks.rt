@@ -1,7 +1,7 @@
 //! Tasks, groups and calls added to those that were read.
 ghost use Rattle.std.specs.Prelude.{Bool, ◌≡◌, ℕ, ◌+◌, ◌<◌, ◌≤◌, false, if◌then◌else◌, IsTrue, IfOk, OnOk, List, ◌∷◌, length, map, option_map, bytes_eq};
 ghost use Rattle.std.specs.List.{list_any};
-ghost use Rattle.lw_grammar.specs.LineForms.{LineForm as FormValue, TaskLine, LockLine, UnlockLine, HoldLine, ReleaseLine, CallLine, layers_of, is_hook_number, is_act_in_range};
+ghost use Rattle.lw_grammar.specs.LineForms.{Statement as FormValue, TaskLine, LockLine, UnlockLine, HoldLine, ReleaseLine, CallLine, layers_of, is_hook_number, is_act_in_range};
 ghost use Rattle.lw_grammar.specs.Told.{and_name, and_names, place_among, onto_last, asks_super, and_hook, opened_by, told};
 ghost use Rattle.lw_grammar.specs.Script.{is_ending};
 ghost use Rattle.lw_words.specs.Cuts.{targets};

@@ -9,7 +9,7 @@ ghost use Rattle.lw_script.specs.ReaderKnows.{known, setting_of};
 
 use crate::state::{Reader, has_hook, has_name};
 use lw_calls::Reason;
-use lw_lines::{Act, Layers, LineForm, hook};
+use lw_lines::{Act, Layers, Statement, hook};
 use lw_words::is_text;
 
 /// How many tasks, bitmaps, layer names, lines that ask for a super-bitmap layer, and calls of a task a script has at most.
@@ -25,11 +25,11 @@ const CALL_LIMIT: u32 = 4096;
 
 impl<'a> Reader<'a> {
     /// Whether it is a line `put` whose bitmap doesn't stand above.
-    fn lacks_name(&self, form: &LineForm<'a>) -> bool
+    fn lacks_name(&self, form: &Statement<'a>) -> bool
         ensures { result ≡ lacks_name (known self.now).bitmap_names (form_meaning form.now) }
     {
         match form {
-            LineForm::Call {
+            Statement::Call {
                 act: Act::Put { bitmap, .. },
                 ..
             } => !has_name(&self.assets.names, bitmap),
@@ -38,54 +38,54 @@ impl<'a> Reader<'a> {
     }
 
     /// Whether the line gives a bitmap, a task or a code again.
-    fn gives_again(&self, form: &LineForm<'a>) -> bool
+    fn gives_again(&self, form: &Statement<'a>) -> bool
         ensures { result ≡ gives_again (known self.now) (form_meaning form.now) }
     {
         match form {
-            LineForm::Glyph { code, .. } => self.assets.given[*code as usize],
-            LineForm::Bitmap { name, .. } => has_name(&self.assets.names, name),
-            LineForm::Task(name) => has_name(&self.tasks.task_names, name),
+            Statement::Glyph { code, .. } => self.assets.given[*code as usize],
+            Statement::Bitmap { name, .. } => has_name(&self.assets.names, name),
+            Statement::Task(name) => has_name(&self.tasks.task_names, name),
             _ => false,
         }
     }
 
     /// How many tasks there are with the line.
-    fn tasks_with(&self, form: &LineForm<'a>) -> usize
+    fn tasks_with(&self, form: &Statement<'a>) -> usize
         ensures { result ≡ length (after (form_meaning form.now) (known self.now)).tasks }
     {
         match form {
-            LineForm::Task(_) => self.tasks.task_names.len() + 1,
+            Statement::Task(_) => self.tasks.task_names.len() + 1,
             _ => self.tasks.task_names.len(),
         }
     }
 
     /// How many bitmaps there are with the line.
-    fn bitmaps_with(&self, form: &LineForm<'a>) -> usize
+    fn bitmaps_with(&self, form: &Statement<'a>) -> usize
         ensures { result ≡ length (after (form_meaning form.now) (known self.now)).bitmap_names }
     {
         match form {
-            LineForm::Bitmap { .. } => self.assets.names.len() + 1,
+            Statement::Bitmap { .. } => self.assets.names.len() + 1,
             _ => self.assets.names.len(),
         }
     }
 
     /// Whether the line's call is one too many.
-    fn has_room_for_call(&self, form: &LineForm<'a>) -> bool
+    fn has_room_for_call(&self, form: &Statement<'a>) -> bool
         ensures { result ≡ nat_le (after (form_meaning form.now) (known self.now)).so_far call_limit }
     {
         match form {
-            LineForm::Task(_) => true,
-            LineForm::Call { .. } => self.tasks.so_far < CALL_LIMIT,
+            Statement::Task(_) => true,
+            Statement::Call { .. } => self.tasks.so_far < CALL_LIMIT,
             _ => self.tasks.so_far <= CALL_LIMIT,
         }
     }
 
     /// Whether the line's super-bitmap layer is one too many.
-    fn has_room_for_super(&self, form: &LineForm<'a>) -> bool
+    fn has_room_for_super(&self, form: &Statement<'a>) -> bool
         ensures { result ≡ nat_le (after (form_meaning form.now) (known self.now)).supers super_limit }
     {
         match form {
-            LineForm::Call { act, .. } if act.asks_super() => self.tasks.supers < SUPER_LIMIT,
+            Statement::Call { act, .. } if act.asks_super() => self.tasks.supers < SUPER_LIMIT,
             _ => self.tasks.supers <= SUPER_LIMIT,
         }
     }
@@ -118,16 +118,16 @@ impl<'a> Reader<'a> {
     }
 
     /// How many layer names there are with those of the line.
-    fn names_with(&self, form: &LineForm<'a>) -> usize
+    fn names_with(&self, form: &Statement<'a>) -> usize
         ensures { result ≡ length (after (form_meaning form.now) (known self.now)).names }
     {
         match form {
-            LineForm::Lock(name) | LineForm::Unlock(name) => self.with_name(name),
-            LineForm::Call {
+            Statement::Lock(name) | Statement::Unlock(name) => self.with_name(name),
+            Statement::Call {
                 layers: Layers::One(name),
                 ..
             } => self.with_name(name),
-            LineForm::Call {
+            Statement::Call {
                 layers: Layers::Two(first, second),
                 ..
             } => self.with_two(first, second),
@@ -136,7 +136,7 @@ impl<'a> Reader<'a> {
     }
 
     /// Whether nothing of the line is one too many.
-    fn has_room(&self, form: &LineForm<'a>) -> bool
+    fn has_room(&self, form: &Statement<'a>) -> bool
         ensures { result ≡ are_few (after (form_meaning form.now) (known self.now)) }
     {
         ((self.tasks_with(form) <= TASK_LIMIT && self.bitmaps_with(form) <= BITMAP_LIMIT)
@@ -145,7 +145,7 @@ impl<'a> Reader<'a> {
     }
 
     /// Whether there is no hook of the number that the line names.
-    fn is_no_hook(&self, form: &LineForm<'a>) -> bool
+    fn is_no_hook(&self, form: &Statement<'a>) -> bool
         requires { IsTrue (is_line_in_range (form_meaning form.now)) }
         ensures { result ≡ is_no_hook self.now.hooks (hook_on (form_meaning form.now)) }
     {
@@ -156,7 +156,7 @@ impl<'a> Reader<'a> {
     }
 
     /// Whether the hook that the line names is used.
-    fn is_used(&self, form: &LineForm<'a>) -> bool
+    fn is_used(&self, form: &Statement<'a>) -> bool
         requires { IsTrue (is_line_in_range (form_meaning form.now)) }
         ensures { result ≡ is_used (known self.now).used (hook_on (form_meaning form.now)) }
     {
@@ -167,17 +167,17 @@ impl<'a> Reader<'a> {
     }
 
     /// Whether a bit of the row behind the bitmap's width is 1.
-    fn has_padding(&self, form: &LineForm<'a>) -> bool
+    fn has_padding(&self, form: &Statement<'a>) -> bool
         ensures { result ≡ has_padding (known self.now).row_width (form_meaning form.now) }
     {
         match form {
-            LineForm::Row(digits) => digits.has_bit_from(self.assets.width),
+            Statement::Row(digits) => digits.has_bit_from(self.assets.width),
             _ => false,
         }
     }
 
     /// Whether the open group may have the line.
-    fn fits_group(&self, form: &LineForm<'a>) -> bool
+    fn fits_group(&self, form: &Statement<'a>) -> bool
         ensures { result
             ≡ fits_group (known self.now).group (group_has_calls (known self.now)) (form_meaning form.now) }
     {
@@ -185,7 +185,7 @@ impl<'a> Reader<'a> {
     }
 
     /// The first reason for which a line of this form is bad, if it is bad.
-    pub fn tested(&self, form: &LineForm<'a>) -> Result<(), Reason>
+    pub fn tested(&self, form: &Statement<'a>) -> Result<(), Reason>
         ensures { result ≡ form_tested (setting_of self.now) (known self.now) (form_meaning form.now) }
     {
         if !form.is_in_range() {
@@ -220,11 +220,11 @@ impl<'a> Reader<'a> {
 }
 
 /// Whether the line is a call that can't be made so far.
-fn is_unbuilt(form: &LineForm<'_>) -> bool
+fn is_unbuilt(form: &Statement<'_>) -> bool
     ensures { result ≡ is_unbuilt (form_meaning form.now) }
 {
     match form {
-        LineForm::Call { act, .. } => !act.is_built(),
+        Statement::Call { act, .. } => !act.is_built(),
         _ => false,
     }
 }

@@ -5,24 +5,24 @@ use Rattle.std.specs.Fmt.{decimal}
 use Rattle.lw_calls.specs.declared.form.Form.{Form}
 use Rattle.lw_calls.specs.declared.reason.Reason.{Reason}
 use Rattle.lw_grammar.specs.Demands.{◌>>=◌}
-use Rattle.lw_grammar.specs.LineForms.{LineForm}
+use Rattle.lw_grammar.specs.LineForms.{Statement}
 use Rattle.lw_grammar.specs.Lines.{lines}
 use Rattle.lw_grammar.specs.Told.{told}
 use Rattle.lw_grammar.specs.Script.{Setting, words_read, form_read, line_read}
 use Rattle.lw_script_cases.specs.WholeScripts.{script, in_task_a}
 
 -- the forms of lines whose words fit forms, put on those of the lines above them
-abbrev pub and_form : Result LineForm Reason → List LineForm → List LineForm
+abbrev pub and_form : Result Statement Reason → List Statement → List Statement
 and_form (Ok form) above = form ∷ above
 and_form (Err reason) above = above
 
-abbrev pub forms_below : Form → List LineForm → List (List ℕ) → List LineForm
+abbrev pub forms_below : Form → List Statement → List (List ℕ) → List Statement
 forms_below form above [] = above
 forms_below form above (line ∷ ls) =
     forms_below form (and_form (words_read line >>= (λ ws. form_read form (told above).section (told above).rows_due (told above).row_width ws)) above) ls
 
 -- the first reason, if there is one
-abbrev pub reason_of : Result LineForm Reason → Option Reason
+abbrev pub reason_of : Result Statement Reason → Option Reason
 reason_of (Ok form) = None
 reason_of (Err reason) = Some reason
 

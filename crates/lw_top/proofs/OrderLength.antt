@@ -8,7 +8,7 @@ use Rattle.lw_calls.specs.declared.reason.Reason.TheVariants.{Form as FormReason
 use Rattle.lw_grammar.specs.Demands.{◌>>=◌}
 use Rattle.lw_grammar.specs.Lines.{lines}
 use Rattle.lw_grammar.specs.Tokens.{Token, NumberToken, token_of}
-use Rattle.lw_grammar.specs.LineForms.{LineForm, NumbersLine, all_numbers, numbers_line, numbers_limit, row_line}
+use Rattle.lw_grammar.specs.LineForms.{Statement, NumbersLine, all_numbers, numbers_line, numbers_limit, row_line}
 use Rattle.lw_grammar.specs.Told.{told}
 use Rattle.lw_grammar.specs.Script.{Setting, is_skipped, are_numbers_due, is_nothing_due, words_read, verb_read, form_read, form_tested, line_read, forms_with, Reached, at_the_top, with_line, at_number, end_read, lines_read, ScriptInput, SpellsInput, AreGoodLines}
 use Rattle.lw_grammar.proofs.ScriptForms.{IsFormHere}
@@ -43,13 +43,13 @@ few_numbers ts zs e = at_test (nat_le (length ts) numbers_limit) refl e
     at_test false d e = absurd (cc)
 
 -- where the numbers of an order are read, they are few
-few_read : (s : Setting) (above : List LineForm) (ws : List (List ℕ)) (zs : List ℤ) → IsFormHere s above (NumbersLine zs) → form_read s.form (told above).section (told above).rows_due (told above).row_width ws ≡ Ok (NumbersLine zs) → length zs ≤ 64
+few_read : (s : Setting) (above : List Statement) (ws : List (List ℕ)) (zs : List ℤ) → IsFormHere s above (NumbersLine zs) → form_read s.form (told above).section (told above).rows_due (told above).row_width ws ≡ Ok (NumbersLine zs) → length zs ≤ 64
 few_read s above ws zs h e =
     let P : Bool → Type 0 = λ b. cond (not b) (ok_or (row_line (told above).row_width (map token_of ws)) FormReason) (cond (are_numbers_due (told above).section) (ok_or (numbers_line (map token_of ws)) FormReason) (verb_read s.form (told above).section ws)) ≡ Ok (NumbersLine zs) in
     let Q : Bool → Type 0 = λ b. cond b (ok_or (numbers_line (map token_of ws)) FormReason) (verb_read s.form (told above).section ws) ≡ Ok (NumbersLine zs) in
     few_numbers (map token_of ws) zs (subst Q h.1 (subst P h.0 e))
 
-few_tested : (s : Setting) (above : List LineForm) (ws : List (List ℕ)) (zs : List ℤ) → IsFormHere s above (NumbersLine zs) → (r : Result LineForm Reason) → form_read s.form (told above).section (told above).rows_due (told above).row_width ws ≡ r → (r >>= (λ f. form_tested s (told above) f >>= (λ _. Ok f))) ≡ Ok (NumbersLine zs) → length zs ≤ 64
+few_tested : (s : Setting) (above : List Statement) (ws : List (List ℕ)) (zs : List ℤ) → IsFormHere s above (NumbersLine zs) → (r : Result Statement Reason) → form_read s.form (told above).section (told above).rows_due (told above).row_width ws ≡ r → (r >>= (λ f. form_tested s (told above) f >>= (λ _. Ok f))) ≡ Ok (NumbersLine zs) → length zs ≤ 64
 few_tested s above ws zs h (Err q) e d = absurd (cc)
 few_tested s above ws zs h (Ok f) e d = at_test (form_tested s (told above) f) d
   where
@@ -59,12 +59,12 @@ few_tested s above ws zs h (Ok f) e d = at_test (form_tested s (told above) f) d
         let same : f ≡ NumbersLine zs = cc in
         few_read s above ws zs h (e ∙ ap Ok same)
 
-few_words : (s : Setting) (above : List LineForm) (zs : List ℤ) → IsFormHere s above (NumbersLine zs) → (t : Result (List (List ℕ)) Reason) → (t >>= (λ ws. form_read s.form (told above).section (told above).rows_due (told above).row_width ws >>= (λ f. form_tested s (told above) f >>= (λ _. Ok f)))) ≡ Ok (NumbersLine zs) → length zs ≤ 64
+few_words : (s : Setting) (above : List Statement) (zs : List ℤ) → IsFormHere s above (NumbersLine zs) → (t : Result (List (List ℕ)) Reason) → (t >>= (λ ws. form_read s.form (told above).section (told above).rows_due (told above).row_width ws >>= (λ f. form_tested s (told above) f >>= (λ _. Ok f)))) ≡ Ok (NumbersLine zs) → length zs ≤ 64
 few_words s above zs h (Err q) e = absurd (cc)
 few_words s above zs h (Ok ws) e = few_tested s above ws zs h (form_read s.form (told above).section (told above).rows_due (told above).row_width ws) refl e
 
 -- an order above has at most 64 for each line
-few_above : (s : Setting) (above : List LineForm) → AreGoodLines s above → length (told above).order ≤ 64 * length above
+few_above : (s : Setting) (above : List Statement) → AreGoodLines s above → length (told above).order ≤ 64 * length above
 few_above s [] g = omega arith
 few_above s (NumbersLine zs ∷ above) g =
     let few = few_words s above zs (good_line s above (NumbersLine zs) g.0).0 (words_read g.0.line) g.0.read in
@@ -77,10 +77,10 @@ few_above s (f ∷ above) g =
     omega (arith, rest)
 
 -- each line gives one form at most
-one_more : (s : Setting) (above : List LineForm) (line : List ℕ) → IfOk (forms_with s above line) (λ fs. length fs ≤ suc (length above))
+one_more : (s : Setting) (above : List Statement) (line : List ℕ) → IfOk (forms_with s above line) (λ fs. length fs ≤ suc (length above))
 one_more s above line = go (is_skipped line) (line_read s (told above) line)
   where
-    go : (b : Bool) (r : Result LineForm Reason) → IfOk (cond b (Ok above) (r >>= (λ form. Ok (form ∷ above)))) (λ fs. length fs ≤ suc (length above))
+    go : (b : Bool) (r : Result Statement Reason) → IfOk (cond b (Ok above) (r >>= (λ form. Ok (form ∷ above)))) (λ fs. length fs ≤ suc (length above))
     go true r = omega arith
     go false (Ok f) = omega arith
     go false (Err e) = tt
@@ -91,9 +91,9 @@ few_forms s p q (line ∷ ls) e =
     go (is_nothing_due (told p.forms).section) (λ forms d. few_forms s (with_line p line forms) q ls d) e
   where
     Next : Type 0
-    Next = (forms : List LineForm) → lines_read s (with_line p line forms) ls ≡ Ok q → length q.forms ≤ length forms + length ls
+    Next = (forms : List Statement) → lines_read s (with_line p line forms) ls ≡ Ok q → length q.forms ≤ length forms + length ls
 
-    at_forms : (r : Result (List LineForm) Reason) → IfOk r (λ fs. length fs ≤ suc (length p.forms)) → Next → (at_number p.number r >>= (λ forms. lines_read s (with_line p line forms) ls)) ≡ Ok q → length q.forms ≤ length p.forms + suc (length ls)
+    at_forms : (r : Result (List Statement) Reason) → IfOk r (λ fs. length fs ≤ suc (length p.forms)) → Next → (at_number p.number r >>= (λ forms. lines_read s (with_line p line forms) ls)) ≡ Ok q → length q.forms ≤ length p.forms + suc (length ls)
     at_forms (Ok forms) h next d = let rest = next forms d in omega (arith, h, rest)
     at_forms (Err r) h next d = absurd (cc)
 

@@ -1,7 +1,7 @@
 use Rattle.std.proofs.Common.{sym, subst, ◌∷◌, arith, List}
 use Rattle.lw_grammar.specs.Script.{Setting}
-use Rattle.lw_grammar.specs.LineForms.{LineForm as FormValue}
-use Rattle.lw_lines.specs.declared.form.LineForm.{LineForm}
+use Rattle.lw_grammar.specs.LineForms.{Statement as FormValue}
+use Rattle.lw_lines.specs.declared.form.Statement.{Statement}
 use Rattle.lw_lines.specs.FormMeaning.{form_meaning}
 use Rattle.lw_script.specs.declared.state.Reader.{Reader}
 use Rattle.lw_script.specs.Represents.{Represents, CanAdd}
@@ -10,7 +10,7 @@ use Rattle.lw_script.proofs.Passing.{same_screen, same_bitmap, on_done}
 use Rattle.lw_script.proofs.state.Reader.add.Goals as goal
 
 -- the reader represents the form put on the lines above
-abbrev Put : Setting → Reader → List FormValue → LineForm → Type 0
+abbrev Put : Setting → Reader → List FormValue → Statement → Type 0
 Put s r above f = Represents s r (form_meaning f ∷ above)
 
 pub returns-in-End : goal.returns-in-End
@@ -29,7 +29,7 @@ pub returns-in-Glyph : goal.returns-in-Glyph
 returns-in-Glyph c = λ s above k. subst (Put s c.add_glyph.new.self above) (sym c.in-Glyph.is) (c.add_glyph.ensures s above k)
 
 -- a line that can be added, by the form that was read
-abbrev Adds : Reader → LineForm → Type 0
+abbrev Adds : Reader → Statement → Type 0
 Adds r f = CanAdd r (form_meaning f)
 
 pub returns-in-Screen : goal.returns-in-Screen
