@@ -2,3 +2,4 @@ pub mod OrderGroups
 pub mod OrdersComplete
 pub mod OrderReading
 pub mod TwoTasks
+pub mod BlitClass

@@ -7,8 +7,8 @@ use Rattle.lw_calls.specs.declared.call.Call.TheVariants.{RegRect, RegPair, RegC
 abbrev pub is_hookless : Option ℕ → Bool
 is_hookless hook = is_none hook
 
--- The calls that a script may make so far: all but the creation of a layer with a hook, and those on windows, updates and blits and
--- ScrollRaster.
+-- The calls that a script may make so far: all but the creation of a layer with a hook, those that open, activate or name a window
+-- or take its messages, and updates.
 abbrev pub is_built : Call → Bool
 is_built (Create slot make) = is_hookless make.hook
 is_built (Close slot) = true
@@ -36,11 +36,11 @@ is_built (ReadPixel slot x y) = true
 is_built (DrawTo slot x y) = true
 is_built (Letters slot text) = true
 is_built (SetRast slot pen) = true
+is_built (ScrollRaster slot dx dy rect) = true
+is_built (Put bitmap slot area) = true
+is_built (Blit source slot area) = true
 is_built (OpenWindow slot make framed nocare asks title) = false
 is_built (Activate slot) = false
-is_built (ScrollRaster slot dx dy rect) = false
-is_built (Put bitmap slot area) = false
-is_built (Blit source slot area) = false
 is_built (BeginRefresh slot) = false
 is_built (EndRefresh slot full) = false
 is_built (SetTitle slot title) = false

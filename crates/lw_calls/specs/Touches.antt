@@ -9,7 +9,7 @@ use Rattle.lw_calls.specs.declared.touch.Slots.TheVariants.{Nothing, One, Two, A
 use Rattle.lw_calls.specs.declared.touch.Touch.{Touch}
 
 -- What a call works on, and with it what it locks: the registers of its task; LayerInfo, at which it looks; one layer; two
--- layers, which may be one; or all of them, which it arranges.
+-- different layers; or all of them, which it arranges.
 pub data CallClass : Type 0 where
   OnRegisters : CallClass
   OnInfo : CallClass
@@ -45,7 +45,7 @@ class_of (Letters slot text) = OnLayer slot
 class_of (SetRast slot pen) = OnLayer slot
 class_of (ScrollRaster slot dx dy rect) = OnLayer slot
 class_of (Put bitmap slot area) = OnLayer slot
-class_of (Blit source slot area) = OnLayers source slot
+class_of (Blit source slot area) = if source == slot then OnLayer slot else OnLayers source slot
 class_of (Clip slot register) = OnLayer slot
 class_of (Unclip slot) = OnLayer slot
 class_of (BeginRefresh slot) = OnLayer slot
@@ -59,7 +59,7 @@ abbrev pub slots_in : CallClass → Slots
 slots_in OnRegisters = Nothing
 slots_in OnInfo = Nothing
 slots_in (OnLayer slot) = One slot
-slots_in (OnLayers source slot) = if source == slot then One slot else Two source slot
+slots_in (OnLayers source slot) = Two source slot
 slots_in OnAll = All
 
 abbrev pub slots_of : Call → Slots

@@ -3,8 +3,8 @@ ghost use Rattle.lw_calls.specs.Built.{is_built};
 
 use crate::call::Call;
 
-/// Whether a script may make such a call so far: each but the creation of a layer with a hook, and those on windows, updates and
-/// blits and ScrollRaster (this project's own).
+/// Whether a script may make such a call so far: each but the creation of a layer with a hook, those that open, activate or name
+/// a window or take its messages, and updates (this project's own).
 pub fn built(call: &Call) -> bool
     ensures { result ≡ is_built call.now }
 {
@@ -12,9 +12,6 @@ pub fn built(call: &Call) -> bool
         Call::Create { make, .. } => make.hook.is_none(),
         Call::OpenWindow { .. }
         | Call::Activate { .. }
-        | Call::ScrollRaster { .. }
-        | Call::Put { .. }
-        | Call::Blit { .. }
         | Call::BeginRefresh { .. }
         | Call::EndRefresh { .. }
         | Call::SetTitle { .. }

@@ -1,11 +1,11 @@
-ghost use Rattle.std.specs.Prelude.{◌≡◌};
-ghost use Rattle.lw_calls.specs.Touches.{class_of};
+ghost use Rattle.std.specs.Prelude.{◌≡◌, ◌==◌, if◌then◌else◌};
+ghost use Rattle.lw_calls.specs.Touches.{class_of, OnLayer, OnLayers};
 ghost use Rattle.lw_engine.specs.Classes.{told_class};
 
 use lw_calls::Call;
 
-/// What a call works on: the registers of its task; LayerInfo, at which it looks; the layer of a slot; two layers; or all
-/// layers, which it arranges (this project's own).
+/// What a call works on: the registers of its task; LayerInfo, at which it looks; the layer of a slot; two different
+/// layers; or all layers, which it arranges (this project's own).
 #[derive(Clone, Copy, Debug, PartialEq, Eq)]
 pub enum Class {
     Registers,
@@ -52,6 +52,15 @@ pub fn class_of(call: &Call) -> Class
         | Call::Scroll { slot, .. }
         | Call::SetTitle { slot, .. }
         | Call::TakeMessage { slot } => Class::Layer(*slot),
-        Call::Blit { source, slot, .. } => Class::Layers(*source, *slot),
+        Call::Blit { source, slot, .. } => blit_class(*source, *slot),
     }
+}
+
+fn blit_class(source: u32, slot: u32) -> Class
+    ensures { told_class result ≡ (if source == slot then OnLayer slot else OnLayers source slot) }
+{
+    if source == slot {
+        return Class::Layer(slot);
+    }
+    Class::Layers(source, slot)
 }

@@ -1,8 +1,10 @@
 -- An arrangement that isn't refused settles the desk that it arranged.
-use Rattle.std.proofs.Common.{◌≡◌, ℕ, None, refl, ap, ◌∙◌}
+use Rattle.std.proofs.Common.{◌≡◌, ℕ, ◌==◌, None, refl, ap, ◌∙◌}
 use Rattle.lw_calls.specs.declared.call.Call.{Call}
-use Rattle.lw_calls.specs.declared.call.Call.TheVariants.{Create, OpenWindow, Close, ToFront, ToBack, InFrontOf, MoveBy, SizeBy, SetBox, Activate}
-use Rattle.lw_calls.specs.Touches.{OnAll, class_of}
+use Rattle.lw_calls.specs.declared.call.Call.TheVariants.{Create, OpenWindow, Close, ToFront, ToBack, InFrontOf, MoveBy, SizeBy, SetBox, Activate, Blit}
+use Rattle.lw_calls.specs.Touches.{OnAll, class_of, slots_in}
+use Rattle.lw_calls.specs.Plan.{is_all}
+use Rattle.lw_calls.proofs.BlitClass.{blit_not_all}
 use Rattle.lw_machine.specs.Desk.{Desk}
 use Rattle.lw_machine.specs.Arrangement.{arranged}
 use Rattle.lw_machine.specs.Reveal.{settled}
@@ -20,6 +22,7 @@ effect_is d task (MoveBy slot dx dy) all = refl
 effect_is d task (SizeBy slot dw dh) all = refl
 effect_is d task (SetBox slot x y w h) all = refl
 effect_is d task (Activate slot) all = refl
+effect_is d task (Blit source slot area) all = absurd (blit_not_all (source == slot) source slot (ap (λ k. is_all (slots_in k)) all))
 effect_is d task call all = absurd (cc all)
 
 -- the desk after it

@@ -1,6 +1,5 @@
 -- An arrangement leaves a sound desk sound.
 use Rattle.std.proofs.Common.{◌≡◌, ℕ, ◌==◌, Bool, true, false, not, ◌&&◌, nat_lt, Option, Some, None, IsTrue, refl}
-use Rattle.std.specs.Prelude.{if◌then◌else◌}
 use Rattle.std.proofs.lemmas.Bool.{ltb-true, and_parts, false≢true}
 use Rattle.lw_region.specs.Rectangle.{Rectangle, moved_by}
 use Rattle.lw_calls.specs.declared.sizes.Sizes.{Sizes}
@@ -9,7 +8,6 @@ use Rattle.lw_calls.specs.declared.make.Kind.TheVariants.{Simple, Smart, SuperBi
 use Rattle.lw_calls.specs.declared.make.Make.{Make}
 use Rattle.lw_calls.specs.declared.call.Call.{Call}
 use Rattle.lw_calls.specs.declared.call.Call.TheVariants.{Create, OpenWindow, Close, ToFront, ToBack, InFrontOf, MoveBy, SizeBy, SetBox, Activate, Blit}
-use Rattle.lw_calls.specs.declared.touch.Slots.TheVariants.{One, Two}
 use Rattle.lw_calls.specs.declared.reply.Reply.{Reply}
 use Rattle.lw_calls.specs.declared.reply.Reply.TheVariants.{NotOpen, NotWindow, AlreadyOpen, Backdrop, OutOfBounds}
 use Rattle.lw_machine.specs.Hook.{Hook}
@@ -22,6 +20,7 @@ use Rattle.lw_machine.specs.Arrangement.{bounds_of, blank, sized_by, new_layer, 
 use Rattle.lw_machine.specs.Step.{refuse, refuse_not_open, change_refusal, creation_refusal, may_change_bounds, refusal, effect, after}
 use Rattle.lw_calls.specs.Touches.{slots_of}
 use Rattle.lw_calls.specs.Plan.{is_all}
+use Rattle.lw_calls.proofs.BlitClass.{blit_not_all}
 use Rattle.lw_machine.specs.Sound.{IsDesk}
 use Rattle.lw_machine.proofs.LayerCallSound.{not_refused, unless_refused_sound}
 use Rattle.lw_machine.proofs.SettledSound.{IsArranged, settled_sound}
@@ -73,11 +72,6 @@ placed d slot change e =
     let plain = unrefused (layer_is (λ l. l.backdrop) (d.slot slot)) Backdrop _ live.1 in
     (not_refused (may_change_bounds d slot change (d.bounds slot)) OutOfBounds None plain.1).0
 
--- a blit is no arrangement
-blit_is_none : (b : Bool) (source slot : ℕ) → is_all (if b then One slot else Two source slot) ≡ true → ⊥
-blit_is_none true source slot e = false≢true e
-blit_is_none false source slot e = false≢true e
-
 -- An arrangement leaves a sound desk sound.
 pub arrangement_sound : (d : Desk) (task : ℕ) (call : Call) → IsDesk d → IsTrue (call_fits d.sizes call) → IsTrue (is_all (slots_of call)) → IsDesk (after d task call)
 unfolding after
@@ -128,5 +122,5 @@ arrangement_sound d task (Activate slot) ok fits all =
     (λ e. let live = open_slot (d.slot slot) _ e in
     let window = not_refused (layer_is (λ l. is_window l.window) (d.slot slot)) NotWindow None live.1 in
     settled_sound d (with_active d slot) (activated d slot (desk_arranged d ok) window.0))
-arrangement_sound d task (Blit source slot area) ok fits all = absurd (blit_is_none (source == slot) source slot all)
+arrangement_sound d task (Blit source slot area) ok fits all = absurd (blit_not_all (source == slot) source slot all)
 arrangement_sound d task call ok fits all = absurd (false≢true all)

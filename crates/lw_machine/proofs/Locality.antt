@@ -1,7 +1,6 @@
 -- A call's reply, and what it touches after it, are functions of what it touches before it.
-use Rattle.std.proofs.Common.{◌≡◌, ℕ, ◌==◌, ◌*◌, ◌<◌, ◌≤◌, Bool, true, false, not, ◌&&◌, ◌||◌, if◌then◌else◌, List, [], length, ℤ, pos, ◌+ℤ◌, int_le, unsigned_abs, Option, Some, None, slice_index_or, find, nat_lt, IsTrue, refl, sym, ap, ap₂, subst, ◌∙◌, ⊎_elim, arith, eq-eqb}
+use Rattle.std.proofs.Common.{◌≡◌, ℕ, ◌==◌, ◌*◌, ◌<◌, ◌≤◌, Bool, true, false, not, ◌&&◌, if◌then◌else◌, List, [], length, ℤ, pos, ◌+ℤ◌, int_le, unsigned_abs, Option, Some, None, slice_index_or, find, nat_lt, IsTrue, refl, sym, ap, ap₂, subst, ◌∙◌, ⊎_elim, arith, eq-eqb}
 use Rattle.std.proofs.lemmas.Bool.{false≢true, cases_lt, ltb-true}
-use Rattle.std.proofs.lemmas.Bool.Decides.{nat_tests}
 use Rattle.lw_region.specs.Pixels.{Pixel}
 use Rattle.lw_planes.specs.Bitmap.{pen_at}
 use Rattle.lw_calls.specs.declared.call.Call.{Call}
@@ -11,7 +10,7 @@ use Rattle.lw_calls.specs.declared.reply.Reply.TheVariants.{Done, Pen, Outside, 
 use Rattle.lw_calls.specs.declared.sizes.Sizes.{Sizes}
 use Rattle.lw_calls.specs.declared.touch.Role.{Role}
 use Rattle.lw_calls.specs.declared.touch.Role.TheVariants.{Task, Slot as SlotRole, Info}
-use Rattle.lw_calls.specs.declared.touch.Slots.TheVariants.{One, Two, All}
+use Rattle.lw_calls.specs.declared.touch.Slots.TheVariants.{One, All}
 use Rattle.lw_calls.specs.declared.touch.Touch.{Touch}
 use Rattle.lw_calls.specs.declared.area.Area.{Area}
 use Rattle.lw_calls.specs.Limits.{call_fits}
@@ -24,8 +23,9 @@ use Rattle.lw_machine.specs.Shapes.{write_pixel, rect_fill, draw_line, draw_text
 use Rattle.lw_machine.specs.Blits.{blt_bitmap_rast_port, scroll_raster}
 use Rattle.lw_machine.specs.Registers.{rect_result, pair_result, has_too_many}
 use Rattle.lw_machine.specs.Reveal.{settled}
-use Rattle.lw_machine.specs.Step.{refuse, refuse_not_open, refuse_not_owner, refuse_not_window, may_scroll, refusal, on_layer, with_register, clip_blit_from, set_window_titles, no_bitmap, effect, found, from_layer, clip_answer, window_answer, answer, changed_unless, reply_or, after, reply}
+use Rattle.lw_machine.specs.Step.{refuse, refuse_not_open, refuse_not_owner, refuse_not_window, refuse_unless_open, may_scroll, refusal, on_layer, with_register, clip_blit_from, set_window_titles, no_bitmap, effect, found, from_layer, clip_answer, window_answer, answer, changed_unless, reply_or, after, reply}
 use Rattle.lw_calls.specs.Touches.{has_slot, slots_of, touch_of}
+use Rattle.lw_calls.proofs.BlitClass.{blit_class, touches_source, touches_destination}
 use Rattle.lw_calls.specs.Plan.{is_all}
 use Rattle.lw_machine.specs.Parts.{slot_part, InfoPart, info_part, HaveSame, IsRoleOf, AgreeOn}
 use Rattle.lw_machine.specs.Sound.{IsDesk}
@@ -100,19 +100,11 @@ top_at p x y = find (λ s. bounds_have (p.bounds s) x y) p.front_to_back
 own_registers : (d e : Desk) (task : ℕ) (call : Call) → AgreeOn (touch_of task call) d e → d.registers task ≡ e.registers task
 own_registers d e task call a = a.parts (Task task) (eq-eqb task task refl) tt
 
--- a blit touches its source
-touches_source : (source slot : ℕ) (same : Bool) → (source == slot) ≡ same → has_slot (if same then One slot else Two source slot) source ≡ true
-touches_source source slot true h = grind (arith, nat_tests)
-touches_source source slot false h = rw (eq-eqb source source refl) refl
-
--- a blit touches its destination
-touches_destination : (source slot : ℕ) (same : Bool) → has_slot (if same then One slot else Two source slot) slot ≡ true
-touches_destination source slot true = eq-eqb slot slot refl
-touches_destination source slot false = last (source == slot) (slot == slot) (eq-eqb slot slot refl)
-  where
-    last : (a b : Bool) → b ≡ true → (a || b) ≡ true
-    last true b h = refl
-    last false b h = h
+-- a blit is refused alike where its layers are the same
+blit_refused : (d e : Desk) (source slot : ℕ) (same : Bool) → d.slot source ≡ e.slot source → d.slot slot ≡ e.slot slot
+    → refuse_unless_open d (blit_class same source slot) None ≡ refuse_unless_open e (blit_class same source slot) None
+blit_refused d e source slot true from to = λ i. refuse_not_open (to i) None
+blit_refused d e source slot false from to = λ i. refuse_not_open (from i) (refuse_not_open (to i) None)
 
 -- what a blit reads of its source, or of its destination, is the same where two desks agree on what it touches
 seen_blit : (d e : Desk) (task source slot s : ℕ) (area : Area) → AgreeOn (touch_of task (Blit source slot area)) d e → has_slot (slots_of (Blit source slot area)) s ≡ true → nat_lt s d.sizes.slots ≡ true → IsSeen d e task s
@@ -340,7 +332,7 @@ same_call d e task (Blit source slot area) sound other fits a =
     let v = seen_blit d e task source slot source area a (touches_source source slot (source == slot) refl) (first _ _ fits) in
     let w = seen_blit d e task source slot slot area a (touches_destination source slot (source == slot)) (first _ _ (second _ _ fits)) in
     record {
-      refuses = λ i. refuse_not_open (v.state i) (refuse_not_open (w.state i) None);
+      refuses = blit_refused d e source slot (source == slot) v.state w.state;
       answers = refl;
       parts = layer_changed d e slot _ _ w.state (λ i l. clip_blit_from (v.state i) (v.visible i) (w.visible i l) area l);
     }

@@ -5,7 +5,6 @@ use Rattle.lw_planes.specs.Bitmap.{pen_at}
 use Rattle.lw_region.specs.Rectangle.{Rectangle, moved_by}
 use Rattle.lw_calls.specs.declared.call.Call.{Call}
 use Rattle.lw_calls.specs.declared.call.Call.TheVariants.{RegRect, RegPair, RegClear, Create, OpenWindow, Close, ToFront, ToBack, InFrontOf, MoveBy, SizeBy, SetBox, Activate, Which, SetA, SetB, SetMode, SetMask, At, WritePixel, ReadPixel, Fill, DrawTo, Letters, SetRast, ScrollRaster, Put, Blit, Clip, Unclip, BeginRefresh, EndRefresh, Scroll, SetTitle, TakeMessage}
-use Rattle.lw_calls.specs.declared.touch.Slots.TheVariants.{One, Two}
 use Rattle.lw_calls.specs.declared.reply.Reply.{Reply}
 use Rattle.lw_calls.specs.declared.reply.Reply.TheVariants.{AlreadyOpen}
 use Rattle.lw_machine.specs.Layer.{Layer, Slot, Unopened, Live, Closed, is_unopened, is_live, is_framed, change_layer}
@@ -17,6 +16,7 @@ use Rattle.lw_machine.specs.Arrangement.{sized_by, new_window, create_layer, del
 use Rattle.lw_machine.specs.Reveal.{Across, across, has_bounds, was_live, width_in, height_in, settled_layer, settled}
 use Rattle.lw_machine.specs.Step.{refusal, effect, after, changed_unless}
 use Rattle.lw_calls.specs.Touches.{slots_of}
+use Rattle.lw_calls.proofs.BlitClass.{blit_not_all}
 use Rattle.lw_calls.specs.Plan.{is_all}
 use Rattle.lw_machine.specs.Sound.{IsDesk, IsSlot, IsPlaced, IsKeeping}
 use Rattle.lw_machine.specs.Laws.{IsLossless, NothingIsLost}
@@ -122,11 +122,6 @@ closed_lossless d a slot s l m false e sound was slots is =
 moved_slots : (t : Bool) (d a : Desk) → a.slot ≡ d.slot → (if t then d else a).slot ≡ d.slot
 moved_slots true d a e = refl
 moved_slots false d a e = e
-
--- a blit doesn't touch all slots
-blit_not_all : (t : Bool) (source slot : ℕ) → IsTrue (is_all (if t then One slot else Two source slot)) → ⊥
-blit_not_all true source slot h = false≢true h
-blit_not_all false source slot h = false≢true h
 
 -- An arrangement that isn't refused loses nothing.
 effect_lossless : (d : Desk) (task : ℕ) (call : Call) (s : ℕ) (l m : Layer) → IsDesk d → IsTrue (is_all (slots_of call)) → d.slot s ≡ Live l → refusal d task call ≡ None → (effect d task call).slot s ≡ Live m → IsLossless l m

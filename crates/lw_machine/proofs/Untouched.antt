@@ -1,18 +1,18 @@
 -- A step leaves each part of the desk that its call doesn't touch.
-use Rattle.std.proofs.Common.{◌≡◌, ℕ, ◌==◌, Bool, true, false, ◌||◌, if◌then◌else◌, List, Option, Some, None, refl, arith, true≢false}
+use Rattle.std.proofs.Common.{◌≡◌, ℕ, ◌==◌, Bool, true, false, if◌then◌else◌, List, Option, Some, None, refl, arith, true≢false}
 use Rattle.std.proofs.lemmas.Bool.Decides.{nat_tests}
 use Rattle.lw_calls.specs.declared.call.Call.{Call}
 use Rattle.lw_calls.specs.declared.call.Call.TheVariants.{RegRect, RegPair, RegClear, Create, OpenWindow, Close, ToFront, ToBack, InFrontOf, MoveBy, SizeBy, SetBox, Activate, Which, ReadPixel, Blit}
 use Rattle.lw_calls.specs.declared.reply.Reply.{Reply}
 use Rattle.lw_calls.specs.declared.touch.Role.{Role}
 use Rattle.lw_calls.specs.declared.touch.Role.TheVariants.{Task, Slot as SlotRole, Info}
-use Rattle.lw_calls.specs.declared.touch.Slots.TheVariants.{One, Two}
 use Rattle.lw_machine.specs.Layer.{Slot}
 use Rattle.lw_machine.specs.Desk.{Desk, with_value}
 use Rattle.lw_machine.specs.Screen.{top}
 use Rattle.lw_machine.specs.Reveal.{settled}
 use Rattle.lw_machine.specs.Step.{refusal, effect, changed_unless, after}
 use Rattle.lw_calls.specs.Touches.{has_slot, slots_of, touches_info, touch_of, touches_role}
+use Rattle.lw_calls.proofs.BlitClass.{not_blitted}
 use Rattle.lw_machine.specs.Parts.{slot_part, info_part, HaveSame}
 
 -- two numbers differ in either order
@@ -41,15 +41,6 @@ registers_left d task call t h = refl
 beside : (d : Desk) (slot s : ℕ) (v : Slot) → (slot == s) ≡ false → slot_part d s ≡ slot_part (record d { slot = with_value slot v d.slot }) s
 unfolding top
 beside d slot s v h = rw (differ_back slot s h) refl
-
--- a slot that a blit doesn't touch isn't its destination
-not_blitted : (source slot s : ℕ) (same : Bool) → has_slot (if same then One slot else Two source slot) s ≡ false → (slot == s) ≡ false
-not_blitted source slot s true h = h
-not_blitted source slot s false h = last (source == s) (slot == s) h
-  where
-    last : (a b : Bool) → (a || b) ≡ false → b ≡ false
-    last true b h = absurd (true≢false h)
-    last false b h = h
 
 -- a call leaves the slots that it doesn't touch
 slot_left : (d : Desk) (task : ℕ) (call : Call) (s : ℕ) → has_slot (slots_of call) s ≡ false → slot_part d s ≡ slot_part (effect d task call) s

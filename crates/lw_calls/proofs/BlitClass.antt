@@ -1,0 +1,36 @@
+-- The class of a blit, by whether its two layers are one.
+use Rattle.std.proofs.Common.{◌≡◌, ℕ, ◌==◌, Bool, true, false, ◌||◌, if◌then◌else◌, refl, sym}
+use Rattle.lw_calls.specs.Touches.{CallClass, OnLayer, OnLayers, slots_in, has_slot}
+use Rattle.lw_calls.specs.Plan.{is_all}
+use Rattle.std.proofs.lemmas.Bool.{true≢false, false≢true, eq-eqb, eqb-true}
+
+abbrev pub blit_class : Bool → ℕ → ℕ → CallClass
+blit_class same source slot = if same then OnLayer slot else OnLayers source slot
+
+-- a blit is no arrangement
+pub blit_not_all : (same : Bool) (source slot : ℕ) → is_all (slots_in (blit_class same source slot)) ≡ true → ⊥
+blit_not_all true source slot h = false≢true h
+blit_not_all false source slot h = false≢true h
+
+-- a blit touches its source
+pub touches_source : (source slot : ℕ) (same : Bool) → (source == slot) ≡ same → has_slot (slots_in (blit_class same source slot)) source ≡ true
+touches_source source slot true h = eq-eqb slot source (sym (eqb-true source slot h))
+touches_source source slot false h = rw (eq-eqb source source refl) refl
+
+-- a blit touches its destination
+pub touches_destination : (source slot : ℕ) (same : Bool) → has_slot (slots_in (blit_class same source slot)) slot ≡ true
+touches_destination source slot true = eq-eqb slot slot refl
+touches_destination source slot false = last (source == slot) (slot == slot) (eq-eqb slot slot refl)
+  where
+    last : (a b : Bool) → b ≡ true → (a || b) ≡ true
+    last true b h = refl
+    last false b h = h
+
+-- a slot that a blit doesn't touch isn't its destination
+pub not_blitted : (source slot s : ℕ) (same : Bool) → has_slot (slots_in (blit_class same source slot)) s ≡ false → (slot == s) ≡ false
+not_blitted source slot s true h = h
+not_blitted source slot s false h = last (source == s) (slot == s) h
+  where
+    last : (a b : Bool) → (a || b) ≡ false → b ≡ false
+    last true b h = absurd (true≢false h)
+    last false b h = h
