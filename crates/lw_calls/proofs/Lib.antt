@@ -3,3 +3,4 @@ pub mod OrdersComplete
 pub mod OrderReading
 pub mod TwoTasks
 pub mod BlitClass
+pub mod Ranges

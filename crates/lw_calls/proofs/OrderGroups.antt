@@ -41,7 +41,7 @@ rest_fits calls g [] fit = refl
 rest_fits calls g (h ∷ gs) fit = (and_parts _ (groups_fit calls (h ∷ gs)) fit).1
 
 -- the next group begins behind the last call of this one
-follows_on : (calls : List Call) (g h : Group) (gs : List Group) → groups_fit calls (g ∷ h ∷ gs) ≡ true → g.last < h.first
+pub follows_on : (calls : List Call) (g h : Group) (gs : List Group) → groups_fit calls (g ∷ h ∷ gs) ≡ true → g.last < h.first
 follows_on calls g h gs fit = ltb-true g.last h.first (and_parts (group_fits calls g) _ (and_parts _ (groups_fit calls (h ∷ gs)) fit).0).1
 
 -- a group that fits isn't empty, and ends within its task

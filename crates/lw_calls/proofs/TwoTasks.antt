@@ -25,7 +25,8 @@ each_fits first second groups h zero = h
 each_fits first second groups h (suc zero) = refl
 each_fits first second groups h (suc (suc task)) = refl
 
-abbrev plan_with : Sizes → List (List ℕ) → List (List ℕ) → List (List ℕ) → List (List Call) → List (List Group) → Assets → Plan
+-- a plan of these parts
+abbrev pub plan_with : Sizes → List (List ℕ) → List (List ℕ) → List (List ℕ) → List (List Call) → List (List Group) → Assets → Plan
 plan_with sizes slots tasks bitmaps calls groups assets = record {
   sizes = sizes;
   slot_names = slots;
