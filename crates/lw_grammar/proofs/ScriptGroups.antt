@@ -1,12 +1,12 @@
 -- The groups of a task grow with its calls, and the calls that may stand in them.
-use Rattle.std.proofs.Common.{◌≡◌, ℕ, zero, suc, ◌+◌, ◌-◌, ◌<◌, ◌≤◌, ◌==◌, Bool, true, false, cond, ◌&&◌, nat_le, nat_lt, List, [], ◌∷◌, ◌++◌, length, map, take, drop, slice_index, bytes_eq, refl, sym, ap, ◌∙◌, arith, length-append, length-drop}
+use Rattle.std.proofs.Common.{◌≡◌, ℕ, zero, suc, ◌+◌, ◌-◌, ◌<◌, ◌≤◌, ◌==◌, Bool, true, false, ◌&&◌, nat_le, nat_lt, List, [], ◌∷◌, ◌++◌, length, map, take, drop, slice_index, bytes_eq, refl, sym, ap, ◌∙◌, arith, length-append, length-drop}
 use Rattle.std.specs.List.{list_all}
 use Rattle.lw_calls.specs.declared.call.Call.{Call}
 use Rattle.lw_calls.specs.declared.group.Hold.{Hold}
 use Rattle.lw_calls.specs.declared.group.Hold.TheVariants.{Slot}
 use Rattle.lw_calls.specs.declared.group.Group.{Group}
-use Rattle.lw_calls.specs.declared.touch.Slots.TheVariants.{One, Two}
-use Rattle.lw_calls.specs.Touches.{slots_of}
+use Rattle.lw_calls.specs.Touches.{slots_in, slots_of}
+use Rattle.lw_calls.proofs.BlitClass.{blit_class}
 use Rattle.lw_calls.specs.Plan.{is_one, is_all, begins_update, ends_update, may_be_locked, end_an_update, may_stand, group_calls, group_fits, groups_fit}
 use Rattle.lw_grammar.specs.LineForms.{Act, RegRectAct, RegPairAct, RegClearAct, CreateAct, OpenAct, CloseAct, FrontAct, BehindAct, InFrontAct, MoveAct, SizeAct, BoxAct, ActivateAct, WhichAct, BlitAct, RefreshAct, EndRefreshAct, layers_of}
 use Rattle.lw_grammar.specs.Told.{place_among, spelled_call}
@@ -60,7 +60,7 @@ touches_one bitmaps (BlitAct b) slots s h k e =
     let second = e 1 (omega arith) in
     step (slice_index slots 0 == slice_index slots 1) (eq-eqb _ _ (first ∙ sym second)) (eq-eqb _ s second)
   where
-    step : (t : Bool) → t ≡ true → (slice_index slots 1 == s) ≡ true → is_one s (cond t (One (slice_index slots 1)) (Two (slice_index slots 0) (slice_index slots 1))) ≡ true
+    step : (t : Bool) → t ≡ true → (slice_index slots 1 == s) ≡ true → is_one s (slots_in (blit_class t (slice_index slots 0) (slice_index slots 1))) ≡ true
     step true e d = d
     step false e d = absurd (false≢true e)
 touches_one bitmaps act slots s h k e = eq-eqb _ s (e 0 (omega arith))

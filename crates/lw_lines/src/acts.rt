@@ -67,9 +67,6 @@ impl Act<'_> {
         match self {
             Act::Create(asked) => asked.is_hookless(),
             Act::Open { .. }
-            | Act::ScrollRaster { .. }
-            | Act::Put { .. }
-            | Act::Blit(_)
             | Act::EndRefresh { .. }
             | Act::Bare(BareAct::Activate | BareAct::Refresh | BareAct::GetMsg)
             | Act::Text(TextAct::Title, _) => false,

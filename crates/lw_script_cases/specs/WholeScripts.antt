@@ -306,7 +306,7 @@ abbrev pub minterm_in_capitals : List ℕ
 minterm_in_capitals = created ++ script (codes "put b 0 0 w 0 0 4 4 C0")
 
 abbrev pub put_of_a_bitmap : List ℕ
-put_of_a_bitmap = screened ++ script (codes "bitmap b 16 1 1/0000/task a/put b 0 0 w 0 0 4 4 c0")
+put_of_a_bitmap = screened ++ script (codes "bitmap b 16 1 1/0000/task a/put b 0 0 w 0 0 4 4 c0/end")
 
 abbrev pub put_of_no_columns : List ℕ
 put_of_no_columns = screened ++ script (codes "bitmap b 16 1 1/0000/task a/put b 0 0 w 0 0 0 4 c0")
@@ -345,7 +345,7 @@ abbrev pub region_in_lock : List ℕ
 region_in_lock = created ++ script (codes "lock w/orrect 0 0 0 1 1")
 
 abbrev pub blit_in_lock : List ℕ
-blit_in_lock = created ++ script (codes "lock w/blit w 0 0 w 0 0 1 1 c0")
+blit_in_lock = created ++ script (codes "lock w/blit w 0 0 w 0 0 1 1 c0/unlock w/end")
 
 abbrev pub blit_of_two_in_lock : List ℕ
 blit_of_two_in_lock = created ++ script (codes "lock w/blit w 0 0 v 0 0 1 1 c0")

@@ -38,7 +38,7 @@ pub fn updates_have_their_calls()
     ensures which { reason_below (alone 0) updating (codes "which 0 0") ≡ Some Group }
     ensures region { reason_below (alone 0) updating (codes "clearregion 0") ≡ Some Group }
     ensures two { reason_below (alone 0) updating (codes "blit w 0 0 v 0 0 1 1 c0") ≡ Some Group }
-    ensures itself { reason_below (alone 0) updating (codes "blit w 0 0 w 0 0 1 1 c0") ≡ Some NotBuilt }
+    ensures itself { reason_below (alone 0) updating (codes "blit w 0 0 w 0 0 1 1 c0") ≡ None }
 {}
 
 /// A script asks for at most 16 super-bitmap layers, created or opened.

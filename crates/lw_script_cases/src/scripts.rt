@@ -113,7 +113,7 @@ pub fn bitmaps_and_minterms()
     ensures bitmap_unknown { IsFirstBadIn (alone 0) (lines bitmap_unknown) 4 NoName }
     ensures minterm_c1 { IsFirstBadIn (alone 0) (lines minterm_c1) 4 FormReason }
     ensures minterm_in_capitals { IsFirstBadIn (alone 0) (lines minterm_in_capitals) 4 FormReason }
-    ensures put_of_a_bitmap { IsFirstBadIn (alone 0) (lines put_of_a_bitmap) 5 NotBuilt }
+    ensures put_of_a_bitmap { IsSpelled (alone 0) put_of_a_bitmap }
     ensures put_of_no_columns { IsFirstBadIn (alone 0) (lines put_of_no_columns) 5 Range }
 {}
 
@@ -130,7 +130,7 @@ pub fn groups_of_calls()
     ensures unlock_alone { IsFirstBadIn (alone 0) (lines unlock_alone) 4 Group }
     ensures which_in_lock { IsFirstBadIn (alone 0) (lines which_in_lock) 5 Group }
     ensures region_in_lock { IsFirstBadIn (alone 0) (lines region_in_lock) 5 Group }
-    ensures blit_in_lock { IsFirstBadIn (alone 0) (lines blit_in_lock) 5 NotBuilt }
+    ensures blit_in_lock { IsSpelled (alone 0) blit_in_lock }
     ensures blit_of_two_in_lock { IsFirstBadIn (alone 0) (lines blit_of_two_in_lock) 5 Group }
     ensures refresh_in_lock { IsFirstBadIn (alone 0) (lines refresh_in_lock) 5 Group }
     ensures endrefresh_in_lock { IsFirstBadIn (alone 0) (lines endrefresh_in_lock) 5 Group }
