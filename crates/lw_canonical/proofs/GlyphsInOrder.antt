@@ -2,6 +2,7 @@
 -- one spelling.
 use Rattle.std.proofs.Common.{◌≡◌, ℕ, zero, suc, ◌+◌, ◌<◌, ◌≤◌, ◌==◌, Bool, true, false, cond, List, [], ◌∷◌, ◌++◌, length, replicate, reverse, Ok, refl, sym, ap, subst, ◌∙◌, inl, inr, ◌⊎◌, ⊎_elim, arith, append_assoc, append-nil}
 use Rattle.std.specs.List.{list_all, flat_map, range_with_len}
+use Rattle.lw_calls.proofs.Ranges.{range_last}
 use Rattle.lw_grammar.specs.LineForms.{Statement, GlyphLine}
 use Rattle.lw_grammar.specs.Told.{AssetsAreDue, nothing_told, told}
 use Rattle.lw_grammar.specs.Script.{Setting, line_read, AreGoodLines}
@@ -15,13 +16,6 @@ use Rattle.lw_canonical.proofs.Rearranged.{glyphs_in_order, AreSpelled, HasOneSp
 use Rattle.std.proofs.lemmas.Bool.{false≢true, eqb-true, eqb-false, eq-eqb, ne_eqb, and_parts, or_from, cases_eq}
 use Rattle.std.proofs.lemmas.List.{reverse-append}
 use Rattle.std.proofs.lemmas.Grind.{flat_map-append}
-
--- a range has its last number at the end
-range_more : (a n : ℕ) → range_with_len a (suc n) ≡ range_with_len a n ++ (a + n) ∷ []
-range_more a zero = let last : a ≡ a + 0 = omega arith in ap (λ i. i ∷ []) last
-range_more a (suc n) =
-    let last : (a + 1) + n ≡ a + suc n = omega arith in
-    ap (λ xs. a ∷ xs) (range_more (a + 1) n ∙ ap (λ i. range_with_len (a + 1) n ++ i ∷ []) last)
 
 -- a glyph has one line or none
 one_line : (code : ℕ) (rows : List ℕ) → reverse (lines_of_glyph code rows) ≡ lines_of_glyph code rows
@@ -47,10 +41,8 @@ module _ (above base : List Statement) where
   over_in_order zero = refl
   over_in_order (suc n) =
       let f : ℕ → List Statement = λ i. lines_of_glyph (32 + i) (rows_at i) in
-      let last : 0 + n ≡ n = omega arith in
-      let more : range_with_len 0 (suc n) ≡ range_with_len 0 n ++ n ∷ [] = range_more 0 n ∙ ap (λ i. range_with_len 0 n ++ i ∷ []) last in
       let parts : flat_map f (range_with_len 0 (suc n)) ≡ flat_map f (range_with_len 0 n) ++ f n =
-      ap (flat_map f) more ∙ (flat_map-append f (range_with_len 0 n) (n ∷ []) ∙ ap (λ l. flat_map f (range_with_len 0 n) ++ l) (append-nil (f n))) in
+      ap (flat_map f) (range_last n) ∙ (flat_map-append f (range_with_len 0 n) (n ∷ []) ∙ ap (λ l. flat_map f (range_with_len 0 n) ++ l) (append-nil (f n))) in
       let turned : reverse (flat_map f (range_with_len 0 (suc n))) ≡ f n ++ reverse (flat_map f (range_with_len 0 n)) =
       ap reverse parts ∙ (reverse-append (flat_map f (range_with_len 0 n)) (f n) ∙ ap (λ l. l ++ reverse (flat_map f (range_with_len 0 n))) (one_line (32 + n) (rows_at n))) in
       ap (λ l. l ++ base) turned ∙ (append_assoc (f n) (reverse (flat_map f (range_with_len 0 n))) base ∙ ap (λ l. f n ++ l) (over_in_order n))

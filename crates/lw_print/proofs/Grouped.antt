@@ -1,11 +1,11 @@
 -- Groups that ended before a call have no line at it, and of those that are left the first alone can have one.
-use Rattle.std.proofs.Common.{◌≡◌, ℕ, ◌+◌, ◌<◌, ◌≤◌, ◌==◌, ◌≢◌, Bool, true, false, ◌&&◌, nat_lt, if◌then◌else◌, List, [], ◌∷◌, ◌++◌, append-nil, append_assoc, refl, ap, ◌∙◌, subst, arith}
+use Rattle.std.proofs.Common.{◌≡◌, ℕ, ◌+◌, ◌<◌, ◌≤◌, ◌==◌, ◌≢◌, Bool, true, false, if◌then◌else◌, List, [], ◌∷◌, ◌++◌, append-nil, append_assoc, refl, ap, ◌∙◌, subst, arith}
 use Rattle.std.specs.List.{flat_map}
-use Rattle.std.proofs.lemmas.Bool.{true≢false, ltb-true, eqb-true, eqb-false, ne_eqb, and_parts}
+use Rattle.std.proofs.lemmas.Bool.{true≢false, eqb-true, eqb-false, ne_eqb}
 use Rattle.lw_calls.specs.declared.call.Call.{Call}
 use Rattle.lw_calls.specs.declared.group.Group.{Group}
-use Rattle.lw_calls.specs.Plan.{Plan, group_fits, groups_fit}
-use Rattle.lw_calls.proofs.OrderGroups.{head_fits, rest_fits, has_order}
+use Rattle.lw_calls.specs.Plan.{Plan, groups_fit}
+use Rattle.lw_calls.proofs.OrderGroups.{follows_on, head_fits, rest_fits, has_order}
 use Rattle.lw_grammar.specs.LineForms.{Statement}
 use Rattle.lw_canonical.specs.Canonical.{line_of_call, is_update, opening_lines, closing_lines, lines_from}
 use Rattle.lw_print.specs.Grouping.{opening_at, closing_at, lines_at, left_behind}
@@ -28,12 +28,6 @@ abbrev at_end_of : (Group → ℕ) → (Group → List Statement) → ℕ → Li
 at_end_of edge say n [] = []
 at_end_of edge say n (g ∷ gs) = at_end edge say n g
 
--- the next group begins behind the end of the first
-apart : (calls : List Call) (g j : Group) (gs : List Group) → groups_fit calls (g ∷ j ∷ gs) ≡ true → g.last < j.first
-apart calls g j gs h =
-    let parts = and_parts (group_fits calls g && nat_lt g.last j.first) _ h in
-    ltb-true _ _ (and_parts (group_fits calls g) _ parts.0).1
-
 -- nothing is said of a group whose end is elsewhere
 not_said : (edge : Group → ℕ) (say : Group → List Statement) (n : ℕ) (g : Group) (t : Bool) → (edge g == n) ≡ t → t ≡ false → at_end edge say n g ≡ []
 not_said edge say n g true is h = absurd (true≢false h)
@@ -48,7 +42,7 @@ none_later : (edge : Group → ℕ) (say : Group → List Statement) (calls : Li
 none_later edge say calls end g [] n h reach = refl
 none_later edge say calls end g (j ∷ gs) n h reach =
     let fits : groups_fit calls (j ∷ gs) ≡ true = rest_fits calls g (j ∷ gs) h in
-    let behind : g.last < j.first = apart calls g j gs h in
+    let behind : g.last < j.first = follows_on calls g j gs h in
     let order : j.first ≤ j.last = has_order calls j (head_fits calls j gs fits) in
     let far : j.first ≤ edge j = (end j order).0 in
     ap (λ xs. xs ++ flat_map (at_end edge say n) gs) (elsewhere edge say n j (λ e. absurd (omega (arith, e)))) ∙ none_later edge say calls end j gs n fits (omega arith)
@@ -110,7 +104,7 @@ left_fit_step false calls g gs h = h
 next_reaches : (calls : List Call) (g : Group) (gs : List Group) → groups_fit calls (g ∷ gs) ≡ true → Reaches (g.last + 1) gs
 next_reaches calls g [] h = tt
 next_reaches calls g (j ∷ gs) h =
-    let behind : g.last < j.first = apart calls g j gs h in
+    let behind : g.last < j.first = follows_on calls g j gs h in
     let order : j.first ≤ j.last = has_order calls j (head_fits calls j gs (rest_fits calls g (j ∷ gs) h)) in
     omega arith
 

@@ -1,21 +1,14 @@
 -- Lists that are written piece by piece.
-use Rattle.std.proofs.Common.{◌≡◌, ℕ, zero, suc, ◌+◌, ◌<◌, List, [], ◌∷◌, ◌++◌, map, ◌∙◌, sym, refl, ap, add-one, arith}
+use Rattle.std.proofs.Common.{◌≡◌, ℕ, ◌+◌, ◌<◌, List, [], ◌∷◌, ◌++◌, map, ◌∙◌, sym, refl, ap, add-one}
 use Rattle.std.specs.List.{flat_map, range_with_len}
 use Rattle.std.proofs.lemmas.List.{flat_map_more}
 use Rattle.lw_planes.proofs.GridLaws.{map_range_same}
-
--- a range has its last number at the end
-range_more : (a n : ℕ) → range_with_len a (suc n) ≡ range_with_len a n ++ (a + n) ∷ []
-range_more a zero = let last : a ≡ a + 0 = omega arith in ap (λ i. i ∷ []) last
-range_more a (suc n) =
-    let last : (a + 1) + n ≡ a + suc n = omega arith in
-    ap (λ xs. a ∷ xs) (range_more (a + 1) n ∙ ap (λ i. range_with_len (a + 1) n ++ i ∷ []) last)
+use Rattle.lw_calls.proofs.Ranges.{range_last}
 
 -- one more piece, by its number
 pieces_more : {A : Type 0} (f : ℕ → List A) (bs : List A) (n : ℕ) → (bs ++ flat_map f (range_with_len 0 n)) ++ f n ≡ bs ++ flat_map f (range_with_len 0 (n + 1))
 pieces_more f bs n =
-    let last : 0 + n ≡ n = omega arith in
-    let longer : range_with_len 0 n ++ n ∷ [] ≡ range_with_len 0 (n + 1) = ap (λ i. range_with_len 0 n ++ i ∷ []) (sym last) ∙ (sym (range_more 0 n) ∙ ap (range_with_len 0) (sym (add-one n))) in
+    let longer : range_with_len 0 n ++ n ∷ [] ≡ range_with_len 0 (n + 1) = sym (range_last n) ∙ ap (range_with_len 0) (sym (add-one n)) in
     flat_map_more f bs (range_with_len 0 n) n ∙ ap (λ xs. bs ++ flat_map f xs) longer
 
 -- the pieces of mapped values
