@@ -7,6 +7,7 @@ use Rattle.lw_calls.specs.declared.group.Group.{Group}
 use Rattle.lw_calls.specs.declared.sizes.Sizes.{Sizes}
 use Rattle.lw_calls.specs.Assets.{Assets}
 use Rattle.lw_calls.specs.Plan.{Plan, IsPlan}
+use Rattle.lw_calls.proofs.TwoTasks.{plan_with}
 use Rattle.lw_grammar.specs.LineForms.{Statement}
 use Rattle.lw_grammar.specs.Told.{told, plan_of}
 use Rattle.lw_grammar.specs.Script.{Setting, may_end, ScriptInput, input_from}
@@ -52,11 +53,6 @@ bitmaps_are : (s : Setting) (r : Reader) (above : List Statement) → Represents
 bitmaps_are s r above k e =
     let finished : unfinished r.assets [] ≡ [] = rw e refl in
     sym (append-nil r.assets.bitmaps.items) ∙ ap (λ bs. r.assets.bitmaps.items ++ bs) (sym finished) ∙ k.assets.bitmaps [] (λ d. refl)
-
--- a plan of these parts
-abbrev plan_with : Sizes → List (List ℕ) → List (List ℕ) → List (List ℕ) → List (List Call) → List (List Group) → Assets → Plan
-plan_with sizes slots tasks bitmaps calls groups assets =
-    record { sizes = sizes; slot_names = slots; task_names = tasks; bitmap_names = bitmaps; calls = calls; groups = groups; assets = assets }
 
 -- a plan whose parts are those of lines is the plan of the lines
 same_plan : (z : Sizes) (ss ts bs : List (List ℕ)) (cs : List (List Call)) (gs : List (List Group)) (glyphs : List (List ℕ)) (bitmaps : List Bitmap) (hooks : ℕ) (above : List Statement) → z ≡ (plan_of hooks (told above)).sizes → ss ≡ (told above).names → ts ≡ (told above).tasks → bs ≡ (told above).bitmap_names → cs ≡ (told above).calls → gs ≡ (told above).groups → glyphs ≡ ((plan_of 0 (told above)).assets).glyphs → bitmaps ≡ ((plan_of 0 (told above)).assets).bitmaps → plan_with z ss ts bs cs gs (record { glyphs = glyphs; bitmaps = bitmaps }) ≡ plan_of hooks (told above)
