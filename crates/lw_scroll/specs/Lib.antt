@@ -1,0 +1,3 @@
+pub mod Blocks
+pub mod Scrolled
+pub mod Marks

@@ -1,0 +1,176 @@
+// The damage of a layer after a scroll.
+
+ghost use Rattle.std.specs.Prelude.{◌≡◌, true, false, ℤ, None, pos, negsuc, ◌-ℤ◌, ◌≤ℤ◌, IfOk};
+ghost use Rattle.lw_region.specs.Rectangle.{has_pixel, IsWord};
+ghost use Rattle.lw_calls.specs.Kinds.{is_super};
+ghost use Rattle.lw_layer.specs.View as view;
+ghost use Rattle.lw_layer.specs.Pieces.{IsDamageOf};
+ghost use Rattle.lw_layer.specs.Looks.{IsLook};
+ghost use Rattle.lw_layer.specs.StandsFor.{IsSound};
+ghost use Rattle.lw_scroll.specs.Marks.{AreKept, IsWhole, AreDrawable, LeadToHurt, AreDue, IsDamageWith, IsDamageAfter, IsMovedDamage, AreShifted};
+
+use crate::block::{block_of, brought_block, rect_of};
+use crate::stubs::{kept_region, meet_clip, moved_region};
+use lw_calls::Kind;
+use lw_damage::Damage;
+use lw_layer::{Cell, Look};
+use lw_region::{Rect, Region, and_region, clear_region, or_region};
+use std::alloc::{AllocError, Global};
+
+// The damage of the live layer once its pixels were scrolled; `None` where it is as before.
+pub(crate) fn damage_after(
+    alloc: Global,
+    cell: &Cell,
+    rect: &Rect,
+    dx: i32,
+    dy: i32,
+) -> Result<Option<Damage>, AllocError>
+    requires live { cell.now.state ≡ view.Live }
+    requires left { negsuc 65535 ≤ℤ dx }
+    requires right { dx ≤ℤ pos 65535 }
+    requires up { negsuc 65535 ≤ℤ dy }
+    requires down { dy ≤ℤ pos 65535 }
+    ensures { IfOk result (λ d. IsDamageAfter cell.now.live rect.now dx dy d) }
+{
+    let former = cell.damage();
+    if is_whole(cell, former) {
+        return Ok(None);
+    }
+    let block = block_of(cell, rect);
+    let Some(target) = rect_of(brought_block(block, dx, dy)) else {
+        return Ok(None);
+    };
+    let Some(source) = rect_of(brought_block(block, -dx, -dy)) else {
+        return Ok(None);
+    };
+    let damage = moved_damage(alloc, cell, former, &target, &source, dx, dy)?;
+    Ok(Some(damage))
+}
+
+// Whether the layer keeps all its pixels and none is damaged, so that a scroll leaves it so.
+fn is_whole(cell: &Cell, former: &Damage) -> bool
+    requires live { cell.now.state ≡ view.Live }
+    requires former { IsDamageOf cell.now.live former.now }
+    ensures whole { result ≡ true → IsWhole cell.now.live }
+    ensures other { result ≡ false → is_super cell.now.live.layer.kind ≡ false }
+    ensures window { cell.now.live.layer.window ≡ None }
+{
+    let damaged = former.region();
+    match look_of(cell).kind {
+        Kind::Simple => false,
+        Kind::Smart => damaged.rects().is_empty(),
+        Kind::SuperBitmap => true,
+    }
+}
+
+// What the live layer looks like.
+fn look_of(cell: &Cell) -> Look
+    requires { cell.now.state ≡ view.Live }
+    ensures look { IsLook cell.now.live result }
+    ensures sound { IsSound cell.now.live }
+{
+    match cell.look() {
+        Some(look) => look,
+        None => unreachable!(),
+    }
+}
+
+// The damage once the pixels of the target took that of the source.
+fn moved_damage(
+    alloc: Global,
+    cell: &Cell,
+    former: &Damage,
+    target: &Rect,
+    source: &Rect,
+    dx: i32,
+    dy: i32,
+) -> Result<Damage, AllocError>
+    requires live { cell.now.state ≡ view.Live }
+    requires former { IsDamageOf cell.now.live former.now }
+    requires other { is_super cell.now.live.layer.kind ≡ false }
+    requires shifted { AreShifted target.now source.now dx dy }
+    ensures { IfOk result (λ d. IsMovedDamage cell.now.live target.now dx dy d) }
+{
+    let kept = kept_region(alloc, cell)?;
+    let reached = drawable_in(alloc, cell, former, &kept, target)?;
+    let hurt = hurt_region(alloc, kept, former.region(), source, dx, dy)?;
+    let due = due_region(alloc, former.region(), reached, &hurt)?;
+    damage_with(alloc, former.inner(), &due, former.updating())
+}
+
+// The drawable pixels of a rectangle.
+fn drawable_in(
+    alloc: Global,
+    cell: &Cell,
+    former: &Damage,
+    kept: &Region,
+    target: &Rect,
+) -> Result<Region, AllocError>
+    requires live { cell.now.state ≡ view.Live }
+    requires former { IsDamageOf cell.now.live former.now }
+    requires kept { AreKept cell.now.live kept.now }
+    ensures { IfOk result (λ made. AreDrawable cell.now.live target.now made) }
+{
+    let mut reached = Region::new(alloc);
+    reached.or_rect(alloc, target)?;
+    and_region(alloc, kept, &mut reached)?;
+    meet_clip(alloc, cell, &mut reached)?;
+    if former.updating() {
+        and_region(alloc, former.region(), &mut reached)?;
+    }
+    Ok(reached)
+}
+
+// The pixels that lead to one of the source that is damaged or isn't kept.
+fn hurt_region(
+    alloc: Global,
+    kept: Region,
+    former: &Region,
+    source: &Rect,
+    dx: i32,
+    dy: i32,
+) -> Result<Region, AllocError>
+    requires words { (x y : ℤ) → has_pixel source.now x y ≡ true → IsWord (x -ℤ dx) × IsWord (y -ℤ dy) }
+    ensures { IfOk result (λ made. LeadToHurt kept former.now source.now dx dy made) }
+{
+    let mut sound = kept;
+    clear_region(alloc, former, &mut sound)?;
+    let mut hurt = Region::new(alloc);
+    hurt.or_rect(alloc, source)?;
+    clear_region(alloc, &sound, &mut hurt)?;
+    moved_region(alloc, hurt.rects(), -dx, -dy)
+}
+
+// The damage of the pixels that something is brought to, and the former damage of the others.
+fn due_region(
+    alloc: Global,
+    former: &Region,
+    reached: Region,
+    hurt: &Region,
+) -> Result<Region, AllocError>
+    ensures { IfOk result (λ due. AreDue former.now reached hurt.now due) }
+{
+    let mut due = former.copy(alloc)?;
+    clear_region(alloc, &reached, &mut due)?;
+    let mut brought = reached;
+    and_region(alloc, hurt, &mut brought)?;
+    or_region(alloc, &brought, &mut due)?;
+    Ok(due)
+}
+
+// The damage of what of these pixels lies in the inner rectangle, if there is one.
+fn damage_with(
+    alloc: Global,
+    inner: Option<Rect>,
+    due: &Region,
+    updating: bool,
+) -> Result<Damage, AllocError>
+    ensures { IfOk result (λ d. IsDamageWith inner due.now updating d) }
+{
+    let mut damage = Damage::new(alloc, inner);
+    damage.add(alloc, due)?;
+    if updating {
+        damage.begin();
+    }
+    Ok(damage)
+}

@@ -1,0 +1,10 @@
+//! Scrolling a rectangle of a layer within the cell of the layer (the manual's Graphics Primitives chapter: ScrollRaster). The
+//! damage moves with the pens.
+#![tactic(auto)]
+
+mod block;
+mod damage;
+mod scrolling;
+mod stubs;
+
+pub use scrolling::scroll_raster;

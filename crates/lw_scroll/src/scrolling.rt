@@ -1,0 +1,67 @@
+ghost use Rattle.std.specs.Prelude.{◌≡◌, pos, negsuc, ◌≤ℤ◌, OnOk, OnErr};
+ghost use Rattle.lw_machine.specs.Blits.{scroll_raster as with_raster_scrolled};
+ghost use Rattle.lw_layer.specs.View.{shows, with_live, with_layer};
+ghost use Rattle.lw_layer.specs.View as view;
+ghost use Rattle.lw_scroll.specs.Scrolled.{pens_scrolled};
+
+use crate::block::{Block, beside, block_of, brought_block};
+use crate::damage::damage_after;
+use crate::stubs::{fill_rows, shift_rows};
+use lw_layer::{Cell, Raster};
+use lw_region::Rect;
+use std::alloc::{AllocError, Global};
+
+/// Moves what lies in a rectangle of the layer by `dx` columns to the left and `dy` rows up, in the planes that the mask has
+/// (`ScrollRaster`). Each drawable pixel of the rectangle takes the pen of the pixel `dx` columns to the right and `dy` rows down,
+/// as it was before the call, if that lies in the rectangle too, and pen B if not. From a pixel that isn't kept it takes pen 0.
+/// With its pen a pixel takes the damage, and from one that isn't kept it takes damage (how damage moves is this project's own). The
+/// steps are from -65535 to 65535. After an error the cell is as before.
+pub fn scroll_raster(
+    alloc: Global,
+    cell: &mut Cell,
+    dx: i32,
+    dy: i32,
+    rect: &Rect,
+) -> Result<(), AllocError>
+    requires live { cell.old.state ≡ view.Live }
+    requires left { negsuc 65535 ≤ℤ dx }
+    requires right { dx ≤ℤ pos 65535 }
+    requires up { negsuc 65535 ≤ℤ dy }
+    requires down { dy ≤ℤ pos 65535 }
+    ensures done { OnOk result (cell.new ≡ with_live
+        (λ c. with_layer (λ l. with_raster_scrolled (λ i j. shows c i j) dx dy rect.now l) c)
+        cell.old) }
+    ensures err { OnErr result (cell.new ≡ cell.old) }
+{
+    let damage = damage_after(alloc, cell, rect, dx, dy)?;
+    scroll_pens(cell, rect, dx, dy);
+    if let Some(damage) = damage {
+        cell.set_damage(damage);
+    }
+    Ok(())
+}
+
+// Scrolls the pens: the pixels that take another one's first, and then those that take pen B.
+fn scroll_pens(cell: &mut Cell, rect: &Rect, dx: i32, dy: i32)
+    requires live { cell.old.state ≡ view.Live }
+    requires left { negsuc 65535 ≤ℤ dx }
+    requires right { dx ≤ℤ pos 65535 }
+    requires up { negsuc 65535 ≤ℤ dy }
+    requires down { dy ≤ℤ pos 65535 }
+    ensures { cell.new ≡ with_live
+        (λ c. with_layer (λ l. pens_scrolled (λ i j. shows c i j) rect.now dx dy l) c)
+        cell.old }
+{
+    let block = block_of(cell, rect);
+    let target = brought_block(block, dx, dy);
+    let raster = cell.raster();
+    shift_rows(cell, target.rows, target.columns, dx, dy, raster.mask);
+    // This mode inverts nothing.
+    let solid = Raster {
+        a: raster.b,
+        mode: 0,
+        ..raster
+    };
+    fill_rows(cell, beside(block.rows, target.rows), block.columns, solid);
+    fill_rows(cell, target.rows, beside(block.columns, target.columns), solid);
+}
