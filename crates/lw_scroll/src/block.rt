@@ -2,6 +2,7 @@
 
 ghost use Rattle.std.specs.Prelude.{◌≡◌, ℕ, ◌≤◌, false, not, ◌&&◌, ℤ, pos, negsuc, ◌+ℤ◌, ◌≤ℤ◌, MatchOption};
 ghost use Rattle.lw_region.specs.Rectangle.{has_pixel};
+ghost use Rattle.lw_planes.specs.Sizes.{IsPlanes};
 ghost use Rattle.lw_kernels.specs.Kernel.{is_between};
 ghost use Rattle.lw_layer.specs.View as view;
 ghost use Rattle.lw_scroll.specs.Blocks.{LiesIn, IsBlockOf, IsAtSide, AreBrought, IsBrought, in_block};
@@ -21,6 +22,7 @@ pub(crate) fn block_of(cell: &Cell, rect: &Rect) -> Block
     requires { cell.now.state ≡ view.Live }
     ensures lies { LiesIn cell.now.live.layer.bits.width cell.now.live.layer.bits.height result }
     ensures has { IsBlockOf cell.now.live rect.now result }
+    ensures bits { IsPlanes cell.now.live.layer.bits }
     ensures wide { cell.now.live.layer.bits.width ≤ 2048 }
     ensures high { cell.now.live.layer.bits.height ≤ 2048 }
 {
@@ -33,9 +35,9 @@ pub(crate) fn block_of(cell: &Cell, rect: &Rect) -> Block
 // The pixels of the block that lead to one of them again, `dx` columns to the right and `dy` rows down.
 pub(crate) fn brought_block(block: Block, dx: i32, dy: i32) -> Block
     requires lies { LiesIn 2048 2048 block }
-    requires left { negsuc 65535 ≤ℤ dx }
+    requires left { negsuc 65534 ≤ℤ dx }
     requires right { dx ≤ℤ pos 65535 }
-    requires up { negsuc 65535 ≤ℤ dy }
+    requires up { negsuc 65534 ≤ℤ dy }
     requires down { dy ≤ℤ pos 65535 }
     ensures { IsBrought block dx dy result }
 {
@@ -49,7 +51,7 @@ pub(crate) fn brought_block(block: Block, dx: i32, dy: i32) -> Block
 fn brought_places(places: Places, step: i32) -> Places
     requires ordered { places.from ≤ places.end }
     requires near { places.end ≤ 2048 }
-    requires low { negsuc 65535 ≤ℤ step }
+    requires low { negsuc 65534 ≤ℤ step }
     requires high { step ≤ℤ pos 65535 }
     ensures { AreBrought places step result }
 {

@@ -26,9 +26,9 @@ pub(crate) fn damage_after(
     dy: i32,
 ) -> Result<Option<Damage>, AllocError>
     requires live { cell.now.state ≡ view.Live }
-    requires left { negsuc 65535 ≤ℤ dx }
+    requires left { negsuc 65534 ≤ℤ dx }
     requires right { dx ≤ℤ pos 65535 }
-    requires up { negsuc 65535 ≤ℤ dy }
+    requires up { negsuc 65534 ≤ℤ dy }
     requires down { dy ≤ℤ pos 65535 }
     ensures { IfOk result (λ d. IsDamageAfter cell.now.live rect.now dx dy d) }
 {
@@ -88,6 +88,10 @@ fn moved_damage(
     requires live { cell.now.state ≡ view.Live }
     requires former { IsDamageOf cell.now.live former.now }
     requires other { is_super cell.now.live.layer.kind ≡ false }
+    requires left { negsuc 65534 ≤ℤ dx }
+    requires right { dx ≤ℤ pos 65535 }
+    requires up { negsuc 65534 ≤ℤ dy }
+    requires down { dy ≤ℤ pos 65535 }
     requires shifted { AreShifted target.now source.now dx dy }
     ensures { IfOk result (λ d. IsMovedDamage cell.now.live target.now dx dy d) }
 {
@@ -130,6 +134,10 @@ fn hurt_region(
     dx: i32,
     dy: i32,
 ) -> Result<Region, AllocError>
+    requires left { negsuc 65534 ≤ℤ dx }
+    requires right { dx ≤ℤ pos 65535 }
+    requires up { negsuc 65534 ≤ℤ dy }
+    requires down { dy ≤ℤ pos 65535 }
     requires words { (x y : ℤ) → has_pixel source.now x y ≡ true → IsWord (x -ℤ dx) × IsWord (y -ℤ dy) }
     ensures { IfOk result (λ made. LeadToHurt kept former.now source.now dx dy made) }
 {

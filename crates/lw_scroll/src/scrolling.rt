@@ -24,9 +24,9 @@ pub fn scroll_raster(
     rect: &Rect,
 ) -> Result<(), AllocError>
     requires live { cell.old.state ≡ view.Live }
-    requires left { negsuc 65535 ≤ℤ dx }
+    requires left { negsuc 65534 ≤ℤ dx }
     requires right { dx ≤ℤ pos 65535 }
-    requires up { negsuc 65535 ≤ℤ dy }
+    requires up { negsuc 65534 ≤ℤ dy }
     requires down { dy ≤ℤ pos 65535 }
     ensures done { OnOk result (cell.new ≡ with_live
         (λ c. with_layer (λ l. with_raster_scrolled (λ i j. shows c i j) dx dy rect.now l) c)
@@ -44,9 +44,9 @@ pub fn scroll_raster(
 // Scrolls the pens: the pixels that take another one's first, and then those that take pen B.
 fn scroll_pens(cell: &mut Cell, rect: &Rect, dx: i32, dy: i32)
     requires live { cell.old.state ≡ view.Live }
-    requires left { negsuc 65535 ≤ℤ dx }
+    requires left { negsuc 65534 ≤ℤ dx }
     requires right { dx ≤ℤ pos 65535 }
-    requires up { negsuc 65535 ≤ℤ dy }
+    requires up { negsuc 65534 ≤ℤ dy }
     requires down { dy ≤ℤ pos 65535 }
     ensures { cell.new ≡ with_live
         (λ c. with_layer (λ l. pens_scrolled (λ i j. shows c i j) rect.now dx dy l) c)
@@ -63,5 +63,10 @@ fn scroll_pens(cell: &mut Cell, rect: &Rect, dx: i32, dy: i32)
         ..raster
     };
     fill_rows(cell, beside(block.rows, target.rows), block.columns, solid);
-    fill_rows(cell, target.rows, beside(block.columns, target.columns), solid);
+    fill_rows(
+        cell,
+        target.rows,
+        beside(block.columns, target.columns),
+        solid,
+    );
 }

@@ -17,7 +17,12 @@ use lw_layer::{Cell, Raster};
 use lw_region::{Rect, Region};
 use std::alloc::{AllocError, Global};
 
-pub(crate) fn moved_region(alloc: Global, rects: &[Rect], dx: i32, dy: i32) -> Result<Region, AllocError>
+pub(crate) fn moved_region(
+    alloc: Global,
+    rects: &[Rect],
+    dx: i32,
+    dy: i32,
+) -> Result<Region, AllocError>
     requires canonical { IsCanonical rects.now }
     requires words { (x y : ℤ) → covers rects.now x y ≡ true → IsWord (x +ℤ dx) × IsWord (y +ℤ dy) }
     ensures list { IfOk result (λ made. made ≡ map (λ r. moved_by r dx dy) rects.now) }
@@ -54,10 +59,9 @@ pub(crate) fn shift_rows(cell: &mut Cell, rows: Places, columns: Places, dx: i32
     requires dy_high { dy ≤ℤ pos 65535 }
     ensures { cell.new ≡ with_live
         (λ c. drawn (λ p i j. bit_at mask p == 1 && in_rows c rows.from rows.end columns.from columns.end i j)
-                    (λ p i j old. kept_bit c p (pos i +ℤ dx) (pos j +ℤ dy)) c)
+        (λ p i j old. kept_bit c p (pos i +ℤ dx) (pos j +ℤ dy)) c)
         cell.old }
-{
-}
+{}
 
 pub(crate) fn fill_rows(cell: &mut Cell, rows: Places, columns: Places, raster: Raster)
     requires stub { ⊥ }
@@ -69,5 +73,4 @@ pub(crate) fn fill_rows(cell: &mut Cell, rows: Places, columns: Places, raster: 
     ensures { cell.new ≡ with_live
         (λ c. painted (raster_of raster) (λ i j. in_rows c rows.from rows.end columns.from columns.end i j) c)
         cell.old }
-{
-}
+{}
