@@ -13,7 +13,7 @@ mod spans;
 mod stretch;
 mod walks;
 
-pub use filling::fill;
+pub use filling::{fill, fill_rows};
 pub use lines::line;
 pub use painting::has_bit;
 pub use pixels::{read_pixel, write_pixel};
