@@ -1,3 +1,4 @@
+pub mod CombineLaws
 pub mod DrawnLaws
 pub mod DrawnLines
 pub mod LineLaws

@@ -1,3 +1,4 @@
+pub mod Combined
 pub mod Drawn
 pub mod LineSpans
 pub mod Quotients

@@ -2,6 +2,7 @@
 //! the cell's public calls and knows nothing of how a cell keeps its bits.
 #![tactic(auto)]
 
+mod combining;
 mod filling;
 mod lines;
 mod painting;
@@ -13,6 +14,7 @@ mod spans;
 mod stretch;
 mod walks;
 
+pub use combining::{Origin, combine_run};
 pub use filling::{fill, fill_rows};
 pub use lines::line;
 pub use painting::has_bit;

@@ -8,7 +8,7 @@ use Rattle.lw_machine.specs.Paint.{candidate_bit, has_inversvid, paint_where}
 use Rattle.lw_machine.specs.Shapes.{cell_has, differ, in_cells}
 use Rattle.lw_layer.specs.View.{LiveView, shows, with_layer}
 use Rattle.lw_draw.specs.Drawn.{drawn, in_mask}
-use Rattle.lw_text.specs.declared.template.Origin.{Origin}
+use Rattle.lw_draw.specs.declared.combining.Origin.{Origin}
 
 -- a plane's bit where the template has this pixel or not: under INVERSVID what it has is the background
 abbrev pub stamped_bit : Raster → (ℕ → ℕ → Bool) → ℕ → ℕ → ℕ → ℕ → ℕ

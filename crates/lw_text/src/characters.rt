@@ -8,9 +8,9 @@ ghost use Rattle.lw_draw.specs.Drawn.{in_rows};
 ghost use Rattle.lw_text.specs.Templates.{stamped, text_has, text_painted};
 
 use crate::glyphs::glyph_row;
-use crate::template::{Origin, template_row};
+use crate::template::template_row;
 use lw_calls::{Assets, Text};
-use lw_draw::{Places, edge};
+use lw_draw::{Origin, Places, edge};
 use lw_layer::{Cell, Raster};
 
 // As many bytes as a row of a layer can show characters of, one of them in part at each end: a layer is at most 2048 columns wide.

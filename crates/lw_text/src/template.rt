@@ -10,16 +10,8 @@ ghost use Rattle.lw_draw.specs.Stretches.{in_stretch};
 ghost use Rattle.lw_text.specs.Templates.{stamped, stamped_bit, row_has};
 
 use crate::minterms::minterm_of;
-use lw_draw::{Places, Stretch, has_bit, next_stretch};
-use lw_kernels::combine;
+use lw_draw::{Origin, Places, Stretch, combine_run, has_bit, next_stretch};
 use lw_layer::{Cell, Raster};
-
-// Where a row of bits lies: this bit of it, from its left, at this column of the layer.
-#[derive(Clone, Copy)]
-pub(crate) struct Origin {
-    pub column: u32,
-    pub bit: u32,
-}
 
 // Paints the drawable pixels of some columns of a row, run by run.
 pub(crate) fn template_row(
@@ -89,17 +81,14 @@ fn template_plane(
         (λ c. drawn (λ p i j. p == plane && in_stretch stretch i j) (stamped_bit (raster_of raster) (row_has bits.now origin)) c)
         cell.old }
 {
-    // Reading this tells the proof that the layer has at most eight planes and only pens of its depth.
+    // Reading this tells the proof that the layer has at most eight planes.
     let _ = cell.depth();
-    let run = stretch.run;
-    let place = origin.bit + (stretch.x - origin.column);
-    let row = cell.line_mut(plane, run.buffer, run.line);
-    combine(
-        row,
-        run.bit,
+    combine_run(
+        cell,
+        plane,
+        stretch,
         bits,
-        place,
-        run.len,
+        origin,
         minterm_of(raster, plane),
     );
 }

@@ -1,0 +1,9 @@
+use Rattle.std.proofs.Common.{◌∙◌, refl, ap}
+use Rattle.lw_layer.specs.View.{LiveView}
+use Rattle.lw_draw.proofs.CombineLaws.{run_combined}
+use Rattle.lw_draw.proofs.combining.combine_run.Goals as goal
+
+pub returns : goal.returns
+returns c =
+    ap (λ (q : LiveView). record c.args.cell.now { live = q })
+    (run_combined c.args.cell.now.live c.args.plane c.args.minterm _ c.args.stretch c.args.bits.now c.line_mut-row.result.now c.combine.new.to c.args.origin c.depth.ensures.bits.bitmap c.requires.plane (c.combine.auto.to ∙ c.line_mut-row.ensures.long) c.requires.run c.line_mut-row.ensures.bits refl c.requires.starts c.combine.ensures.each)
