@@ -1,5 +1,6 @@
 pub mod LoopLaws
 pub mod PaintingLaws
 pub mod PlaceLaws
+pub mod RunLaws
 pub mod ShapeLaws
 pub mod SourceLaws

@@ -1,5 +1,5 @@
--- Laws of a blit plane by plane and row by row.
-use Rattle.std.proofs.Common.{◌≡◌, ℕ, ◌+◌, ◌==◌, ◌<◌, ◌≤◌, nat_lt, Bool, true, false, ◌&&◌, ◌||◌, if◌then◌else◌, Some, None, ◌∙◌, sym, refl, ap, subst, arith, ℤ, pos, negsuc, ◌≤ℤ◌}
+-- Laws of a blit row by row.
+use Rattle.std.proofs.Common.{◌≡◌, ℕ, ◌+◌, ◌==◌, ◌<◌, ◌≤◌, Bool, true, false, ◌&&◌, ◌||◌, if◌then◌else◌, Some, None, ◌∙◌, sym, refl, ap, subst, arith, ℤ, pos, negsuc, ◌≤ℤ◌}
 use Rattle.std.specs.Int.{bit_at}
 use Rattle.std.proofs.lemmas.Bool.Decides.{nat_tests}
 use Rattle.std.proofs.lemmas.Int.{ints}
@@ -7,51 +7,26 @@ use Rattle.lw_planes.specs.Bitmap.{Bitmap, IsBitmap, pen_at}
 use Rattle.lw_kernels.specs.Kernel.{is_between}
 use Rattle.lw_calls.specs.declared.area.Area.{Area}
 use Rattle.lw_machine.specs.Kept.{holds_at, is_kept}
-use Rattle.lw_machine.specs.Blits.{source_column, source_row, source_pen}
+use Rattle.lw_machine.specs.Blits.{source_pen}
 use Rattle.lw_layer.specs.View.{LiveView, CellView, keeps, draws, with_live}
 use Rattle.lw_layer.specs.Copied.{bit_in, kept_bit}
 use Rattle.lw_draw.specs.Drawn.{drawn, GivesBits, in_rows}
+use Rattle.lw_draw.proofs.CombineLaws.{minterm_small}
 use Rattle.lw_draw.proofs.DrawnLaws.{bit_of_layer, bit_drawn}
-use Rattle.lw_draw.proofs.PaintLaws.{cell_nowhere, cell_same, cell_alike, cell_more, draws_stays, depth_stays, next_plane, left_plane, no_plane, all_planes, next_row, no_row}
-use Rattle.lw_blit.specs.Blitting.{blended, from_layer, from_bits, in_plane, masked, planes_before}
-use Rattle.lw_blit.proofs.PaintingLaws.{minterm_small}
-use Rattle.lw_blit.proofs.SourceLaws.{kept_place, pixel_at}
+use Rattle.lw_draw.proofs.PaintLaws.{cell_nowhere, cell_same, cell_alike, cell_more, draws_stays, depth_stays, next_row, no_row}
+use Rattle.lw_blit.specs.Blitting.{blended, has_source, source_bit, from_layer, from_bits, masked, taken_column, taken_row}
+use Rattle.lw_blit.specs.declared.transfers.Transfer.{Transfer}
+use Rattle.lw_blit.proofs.PaintingLaws.{blended_small}
+use Rattle.lw_blit.proofs.SourceLaws.{kept_place, pixel_in}
 
--- a blit gives bits
-blended_small : (m : ℕ) (there : Bool) (source old : ℕ) → old < 2 → blended m there source old < 2
-blended_small m true source old small = minterm_small m source old
-blended_small m false source old small = small
-
-pub layer_gives_bits : (source : LiveView) (a : Area) → GivesBits (from_layer source a)
+-- what a layer gives are bits
+pub layer_gives_bits : (source : LiveView) (t : Transfer) → GivesBits (from_layer source t)
 unfolding from_layer
-layer_gives_bits source a p x y old small = blended_small a.minterm (holds_at (λ i j. keeps source i j) (source_column a x) (source_row a y)) (kept_bit source p (source_column a x) (source_row a y)) old small
-
--- no plane so far
-pub no_planes : (v : CellView) (mask y from end : ℕ) (new : ℕ → ℕ → ℕ → ℕ → ℕ) → IsBitmap v.live.layer.bits → v ≡ with_live (λ c. drawn (planes_before mask 0 c y from end) new c) v
-no_planes v mask y from end new ok = cell_nowhere v (planes_before mask 0 v.live y from end) new ok (λ p i j. no_plane p (masked mask v.live y (y + 1) from end p i j))
+layer_gives_bits source t p x y old small = blended_small t.minterm (t.clears || has_source source t x y) (source_bit source t p x y) old small
 
 -- the drawable pixels of some rows and columns are the same once the layer was drawn on
 rows_stay : (v w : CellView) (on : ℕ → ℕ → ℕ → Bool) (new : ℕ → ℕ → ℕ → ℕ → ℕ) (top bottom from end i j : ℕ) → w ≡ with_live (λ c. drawn on new c) v → in_rows w.live top bottom from end i j ≡ in_rows v.live top bottom from end i j
 rows_stay v w on new top bottom from end i j is = ap (λ t. is_between top bottom j && (is_between from end i && t)) (draws_stays v w on new i j is)
-
--- one plane more
-pub plane_painted : (v w u : CellView) (mask k y from end : ℕ) (new : ℕ → ℕ → ℕ → ℕ → ℕ) → GivesBits new → (bit_at mask k == 1) ≡ true → w ≡ with_live (λ c. drawn (planes_before mask k c y from end) new c) v → u ≡ with_live (λ c. drawn (in_plane k c y from end) new c) w → u ≡ with_live (λ c. drawn (planes_before mask (k + 1) c y from end) new c) v
-plane_painted v w u mask k y from end new gives has was is =
-    cell_more v w u (planes_before mask k v.live y from end) (in_plane k v.live y from end) (planes_before mask (k + 1) v.live y from end) new gives
-    (next_plane v.live (λ p. bit_at mask p == 1) k (λ i j. in_rows v.live y (y + 1) from end i j) has) was
-    (cell_same w u (in_plane k w.live y from end) (in_plane k v.live y from end) new is
-    (λ p i j _. ap (λ t. p == k && t) (rows_stay v w (planes_before mask k v.live y from end) new y (y + 1) from end i j was)))
-
-pub plane_left : (v w : CellView) (mask k y from end : ℕ) (new : ℕ → ℕ → ℕ → ℕ → ℕ) → (bit_at mask k == 1) ≡ false → w ≡ with_live (λ c. drawn (planes_before mask k c y from end) new c) v → w ≡ with_live (λ c. drawn (planes_before mask (k + 1) c y from end) new c) v
-plane_left v w mask k y from end new has was =
-    cell_same v w (planes_before mask k v.live y from end) (planes_before mask (k + 1) v.live y from end) new was
-    (λ p i j _. left_plane (λ q. bit_at mask q == 1) k (in_rows v.live y (y + 1) from end i j) p has)
-
--- all planes
-pub planes_done : (v w : CellView) (mask k y from end : ℕ) (new : ℕ → ℕ → ℕ → ℕ → ℕ) → v.live.layer.bits.depth ≤ k → w ≡ with_live (λ c. drawn (planes_before mask k c y from end) new c) v → w ≡ with_live (λ c. drawn (masked mask c y (y + 1) from end) new c) v
-planes_done v w mask k y from end new enough was =
-    cell_same v w (planes_before mask k v.live y from end) (masked mask v.live y (y + 1) from end) new was
-    (λ p i j deep. let below : p < k = omega (arith, deep, enough) in all_planes p k (masked mask v.live y (y + 1) from end p i j) below)
 
 -- no row so far
 pub no_rows : (v : CellView) (mask top from end : ℕ) (new : ℕ → ℕ → ℕ → ℕ → ℕ) → IsBitmap v.live.layer.bits → v ≡ with_live (λ c. drawn (masked mask c top top from end) new c) v
@@ -113,52 +88,34 @@ bit_stays v w on new p (pos x) (negsuc y) gives is deep off = refl
 bit_stays v w on new p (negsuc x) y gives is deep off = refl
 
 -- What a layer gives is the same as before, from pixels that weren't painted so far.
-pub source_stays : (v w : CellView) (on : ℕ → ℕ → ℕ → Bool) (new : ℕ → ℕ → ℕ → ℕ → ℕ) (a : Area) (p x y old : ℕ) → GivesBits new → w ≡ with_live (λ c. drawn on new c) v → p < v.live.layer.bits.depth → ((i j : ℕ) → source_column a x ≡ pos i → source_row a y ≡ pos j → on p i j ≡ false) → from_layer w.live a p x y old ≡ from_layer v.live a p x y old
+pub source_stays : (v w : CellView) (on : ℕ → ℕ → ℕ → Bool) (new : ℕ → ℕ → ℕ → ℕ → ℕ) (t : Transfer) (p x y old : ℕ) → GivesBits new → w ≡ with_live (λ c. drawn on new c) v → p < v.live.layer.bits.depth → ((i j : ℕ) → taken_column t x ≡ pos i → taken_row t y ≡ pos j → on p i j ≡ false) → from_layer w.live t p x y old ≡ from_layer v.live t p x y old
 unfolding from_layer
-source_stays v w on new a p x y old gives is deep off =
-    ap (λ t. blended a.minterm t (kept_bit w.live p (source_column a x) (source_row a y)) old) (kept_stays v w on new (source_column a x) (source_row a y) is) ∙
-    ap (λ b. blended a.minterm (holds_at (λ i j. keeps v.live i j) (source_column a x) (source_row a y)) b old) (bit_stays v w on new p (source_column a x) (source_row a y) gives is deep off)
+source_stays v w on new t p x y old gives is deep off =
+    ap (λ h. blended t.minterm (t.clears || h) (source_bit w.live t p x y) old) (kept_stays v w on new (taken_column t x) (taken_row t y) is) ∙
+    ap (λ b. blended t.minterm (t.clears || has_source v.live t x y) b old) (bit_stays v w on new p (taken_column t x) (taken_row t y) gives is deep off)
 
 pub bitmap_gives_bits : (source : Bitmap) (a : Area) → GivesBits (from_bits source a)
 bitmap_gives_bits source a p x y old small = minterm_small a.minterm (bit_at (source_pen source a x y) p) old
 
--- A plane of a row that is painted from the layer as it is by then is painted from the layer before, where planes before that one
--- were painted so far,
-plane_off : (p k : ℕ) (more : Bool) → p ≡ k → (nat_lt p k && more) ≡ false
-plane_off p k more is = grind (arith, nat_tests)
-
-pub plane_as_before : (v w u : CellView) (mask k y from end : ℕ) (a : Area) → w ≡ with_live (λ c. drawn (planes_before mask k c y from end) (from_layer c a) c) v → u ≡ with_live (λ c. drawn (in_plane k c y from end) (from_layer c a) c) w → u ≡ with_live (λ c. drawn (in_plane k c y from end) (from_layer v.live a) c) w
-plane_as_before v w u mask k y from end a was is =
-    let before = planes_before mask k v.live y from end in
-    cell_alike w u (in_plane k w.live y from end) (from_layer w.live a) (from_layer v.live a) is
-    (λ p i j old deep _ _ on _.
-    let at = pixel_at w.live k y from end p i j on in
-    source_stays v w before (from_layer v.live a) a p i j old (layer_gives_bits v.live a) was
-    (subst (λ n. p < n) (depth_stays v w before (from_layer v.live a) was) deep)
-    (λ x z _ _. plane_off p k (masked mask v.live y (y + 1) from end p x z) at.deep))
-
--- and so is a row, where its sources weren't painted.
+-- A row that is painted from the layer as it is by then is painted from the layer before, where its sources weren't painted so far.
 row_off : (has inside down : Bool) → down ≡ false → (has && (down && inside)) ≡ false
 row_off true inside false off = refl
 row_off false inside false off = refl
 row_off has inside true off = absurd (cc off)
 
-the_row : (has : Bool) (y j : ℕ) (inside : Bool) → (has && (is_between y (y + 1) j && inside)) ≡ true → j ≡ y
-the_row has y j inside on = grind (arith, nat_tests)
-
-pub row_as_before : (v w u : CellView) (mask top bottom y from end : ℕ) (a : Area) → ((j : ℕ) → source_row a y ≡ pos j → is_between top bottom j ≡ false) → w ≡ with_live (λ c. drawn (masked mask c top bottom from end) (from_layer c a) c) v → u ≡ with_live (λ c. drawn (masked mask c y (y + 1) from end) (from_layer c a) c) w → u ≡ with_live (λ c. drawn (masked mask c y (y + 1) from end) (from_layer v.live a) c) w
-row_as_before v w u mask top bottom y from end a off was is =
+pub row_as_before : (v w u : CellView) (mask top bottom y from end : ℕ) (t : Transfer) → ((j : ℕ) → taken_row t y ≡ pos j → is_between top bottom j ≡ false) → w ≡ with_live (λ c. drawn (masked mask c top bottom from end) (from_layer c t) c) v → u ≡ with_live (λ c. drawn (masked mask c y (y + 1) from end) (from_layer c t) c) w → u ≡ with_live (λ c. drawn (masked mask c y (y + 1) from end) (from_layer v.live t) c) w
+row_as_before v w u mask top bottom y from end t off was is =
     let before = masked mask v.live top bottom from end in
-    cell_alike w u (masked mask w.live y (y + 1) from end) (from_layer w.live a) (from_layer v.live a) is
+    cell_alike w u (masked mask w.live y (y + 1) from end) (from_layer w.live t) (from_layer v.live t) is
     (λ p i j old deep _ _ on _.
-    let down = the_row (bit_at mask p == 1) y j (is_between from end i && draws w.live i j) on in
-    source_stays v w before (from_layer v.live a) a p i j old (layer_gives_bits v.live a) was
-    (subst (λ n. p < n) (depth_stays v w before (from_layer v.live a) was) deep)
-    (λ x z _ row. row_off (bit_at mask p == 1) (is_between from end x && draws v.live x z) (is_between top bottom z) (off z (ap (source_row a) (sym down) ∙ row))))
+    let at = pixel_in mask from end y p i j (draws w.live i j) on in
+    source_stays v w before (from_layer v.live t) t p i j old (layer_gives_bits v.live t) was
+    (subst (λ n. p < n) (depth_stays v w before (from_layer v.live t) was) deep)
+    (λ x z _ row. row_off (bit_at mask p == 1) (is_between from end x && draws v.live x z) (is_between top bottom z) (off z (ap (taken_row t) (sym at.down) ∙ row))))
 
 -- The sources of a row are no higher, or no lower.
-pub source_below : (a : Area) (top y j : ℕ) → a.y ≤ℤ a.sy → source_row a y ≡ pos j → is_between top y j ≡ false
-source_below a top y j order is = let low : y ≤ j = omega (arith, ints, order, is) in grind (arith, nat_tests)
+pub source_below : (t : Transfer) (top y j : ℕ) → pos 0 ≤ℤ t.dy → taken_row t y ≡ pos j → is_between top y j ≡ false
+source_below t top y j order is = let low : y ≤ j = omega (arith, ints, order, is) in grind (arith, nat_tests)
 
-pub source_above : (a : Area) (y next bottom j : ℕ) → next ≡ y + 1 → a.sy ≤ℤ a.y → source_row a y ≡ pos j → is_between next bottom j ≡ false
-source_above a y next bottom j after order is = let low : j ≤ y = omega (arith, ints, order, is) in grind (arith, nat_tests)
+pub source_above : (t : Transfer) (y next bottom j : ℕ) → next ≡ y + 1 → t.dy ≤ℤ pos 0 → taken_row t y ≡ pos j → is_between next bottom j ≡ false
+source_above t y next bottom j after order is = let low : j ≤ y = omega (arith, ints, order, is) in grind (arith, nat_tests)

@@ -1,43 +1,117 @@
--- Laws of painting a row of bits by a minterm.
-use Rattle.std.proofs.Common.{◌≡◌, ℕ, ◌+◌, ◌-◌, ◌==◌, ◌<◌, ◌≤◌, ◌&&◌, if◌then◌else◌, List, length, ap, arith}
+-- Laws of painting a run from rows that were read.
+use Rattle.std.proofs.Common.{◌≡◌, ℕ, zero, suc, ◌+◌, ◌-◌, ◌<◌, ◌≤◌, ◌==◌, min, max, Bool, true, false, ◌&&◌, ◌||◌, if◌then◌else◌, List, bit_and, bit_or, ◌∙◌, sym, refl, ap, arith}
+use Rattle.std.specs.Int.{bit_at}
 use Rattle.std.proofs.lemmas.Bool.Decides.{nat_tests}
-use Rattle.std.proofs.lemmas.Nat.Bits.{bit_at-lt}
+use Rattle.std.proofs.lemmas.Nat.Bits.{bit_at-lt, bit_at_and, bit_at_or}
 use Rattle.lw_planes.specs.Row.{row_bit}
 use Rattle.lw_planes.specs.Minterm.{minterm_bit}
-use Rattle.lw_planes.specs.Bitmap.{IsBitmap, row_bytes}
-use Rattle.lw_kernels.specs.Kernel.{is_named, blit_bit}
-use Rattle.lw_layer.specs.View.{LiveView, draws}
-use Rattle.lw_layer.specs.Pieces.{layout_of, columns, buffer_rectangle, column_in, HasLineBits, with_bytes}
-use Rattle.lw_layer.specs.Runs.{IsRun}
+use Rattle.lw_planes.proofs.RowLaws.{row_bit_lt}
+use Rattle.lw_kernels.specs.Kernel.{is_named}
+use Rattle.lw_layer.specs.View.{LiveView, CellView, with_live}
 use Rattle.lw_draw.specs.Drawn.{drawn, GivesBits}
+use Rattle.lw_draw.specs.Combined.{combined_bit}
 use Rattle.lw_draw.specs.Stretches.{in_stretch}
+use Rattle.lw_draw.specs.declared.combining.Origin.{Origin}
 use Rattle.lw_draw.specs.declared.stretch.Stretch.{Stretch}
-use Rattle.lw_draw.proofs.LineLaws.{run_drawn}
-use Rattle.lw_blit.specs.Blitting.{from_row}
-use Rattle.lw_blit.specs.declared.painting.Origin.{Origin}
+use Rattle.lw_draw.proofs.CombineLaws.{minterm_small, combined_gives_bits}
+use Rattle.lw_draw.proofs.DrawnLaws.{bits_same, bit_of_layer, bit_drawn}
+use Rattle.lw_draw.proofs.PaintLaws.{cell_alike}
+use Rattle.lw_blit.specs.Blitting.{blended, from_rows, plane_of, takes}
+use Rattle.lw_blit.specs.declared.sources.SourceRows.{SourceRows}
+use Rattle.lw_blit.proofs.RunLaws.{pixel_of}
 
--- a minterm's value is a bit
-pub minterm_small : (m b c : ℕ) → minterm_bit m b c < 2
-minterm_small m b c =
-    let both = bit_at-lt m 7 in
-    let source = bit_at-lt m 6 in
-    let old = bit_at-lt m 5 in
-    let neither = bit_at-lt m 4 in
+-- a bit of a byte that a mask cuts and 0x20 is joined to
+cut_bit : (m k : ℕ) → bit_at (bit_or (bit_and m 192) 32) k ≡ max (min (bit_at m k) (bit_at 192 k)) (bit_at 32 k)
+cut_bit m k = bit_at_or (bit_and m 192) 32 k ∙ ap (λ b. max b (bit_at 32 k)) (bit_at_and m 192 k)
+
+-- the values of such a minterm
+pub cut_values : (m b c : ℕ) → c < 2 → minterm_bit (bit_or (bit_and m 192) 32) b c ≡ (if b == 1 then (if c == 1 then bit_at m 7 else bit_at m 6) else c)
+cut_values m b c small =
+    let seven : bit_at (bit_or (bit_and m 192) 32) 7 ≡ bit_at m 7 = let some = bit_at-lt m 7 in cut_bit m 7 ∙ omega (arith, some) in
+    let six : bit_at (bit_or (bit_and m 192) 32) 6 ≡ bit_at m 6 = let some = bit_at-lt m 6 in cut_bit m 6 ∙ omega (arith, some) in
+    let five : bit_at (bit_or (bit_and m 192) 32) 5 ≡ 1 = let some = bit_at-lt m 5 in cut_bit m 5 ∙ omega (arith, some) in
+    let four : bit_at (bit_or (bit_and m 192) 32) 4 ≡ 0 = let some = bit_at-lt m 4 in cut_bit m 4 ∙ omega (arith, some) in
     grind (arith, nat_tests)
 
-pub row_gives_bits : (m : ℕ) (bits : List ℕ) (o : Origin) → GivesBits (from_row m bits o)
-row_gives_bits m bits o p x y old small = minterm_small m (row_bit bits (o.bit + (x - o.column))) old
+-- what is blended is a bit
+pub blended_small : (m : ℕ) (takes : Bool) (source old : ℕ) → old < 2 → blended m takes source old < 2
+blended_small m true source old small = minterm_small m source old
+blended_small m false source old small = small
 
--- What a minterm makes of a row of bits in a run, in a line that was lent for a plane.
-pub run_painted : (c : LiveView) (k m place : ℕ) (s : Stretch) (bits old bytes : List ℕ) (o : Origin) → IsBitmap c.layer.bits → k < c.layer.bits.depth → length bytes ≡ row_bytes (columns (buffer_rectangle (layout_of c) s.run.buffer)) → IsRun c (λ i j. draws c i j) s.x s.y s.run → HasLineBits c k s.run.buffer s.run.line old → place ≡ o.bit + (s.x - o.column) → o.column ≤ s.x → ((i : ℕ) → row_bit bytes i ≡ (if is_named s.run.bit s.run.len i then blit_bit m (row_bit bits) place (row_bit old) s.run.bit i else row_bit old i)) → with_bytes c k s.run.buffer s.run.line bytes ≡ drawn (λ p i j. p == k && in_stretch s i j) (from_row m bits o) c
-run_painted c k m place s bits old bytes o ok deep long run has starts first each =
-    run_drawn c (λ i j. draws c i j) k s.x s.y s.run old bytes (from_row m bits o) ok deep long run has
-    (record {
-      value = λ i b. minterm_bit m (row_bit bits (place + (i - s.run.bit))) b;
-      each = each;
-      same =
-          λ u b late low.
-          let along : column_in (layout_of c) s.run.buffer u + s.x ≡ s.run.bit + u = run.bits u late low in
-          let bit : place + (column_in (layout_of c) s.run.buffer u - s.run.bit) ≡ o.bit + (u - o.column) = omega (arith, along, starts, first, late) in
-          ap (λ n. minterm_bit m (row_bit bits n) b) bit;
-    })
+pub rows_give_bits : (m : ℕ) (r : SourceRows) (first : ℕ) → GivesBits (from_rows m r first)
+rows_give_bits m r first p x y old small = blended_small m (takes r p (x - first)) (row_bit (plane_of r p) (x - first)) old small
+
+-- a layer drawn on twice at the same places
+chosen_again : (on : Bool) (f g : ℕ → ℕ) (old : ℕ) → (if on then g (if on then f old else old) else (if on then f old else old)) ≡ (if on then g (f old) else old)
+chosen_again true f g old = refl
+chosen_again false f g old = refl
+
+pub drawn_again : (c : LiveView) (on : ℕ → ℕ → ℕ → Bool) (f g : ℕ → ℕ → ℕ → ℕ → ℕ) → GivesBits f → drawn on g (drawn on f c) ≡ drawn on (λ p x y old. g p x y (f p x y old)) c
+unfolding drawn
+drawn_again c on f g gives =
+    bits_same c (λ p x y. if on p x y then g p x y (bit_of_layer (drawn on f c) p x y) else bit_of_layer (drawn on f c) p x y) (λ p x y. if on p x y then g p x y (f p x y (bit_of_layer c p x y)) else bit_of_layer c p x y)
+    (λ p x y deep left low.
+    ap (λ b. if on p x y then g p x y b else b) (bit_drawn c on f p x y gives deep left low) ∙
+    chosen_again (on p x y) (f p x y) (g p x y) (bit_of_layer c p x y))
+
+-- Pixels that all take their sources.
+full_value : (m : ℕ) (all rest : Bool) (b old : ℕ) → all ≡ true → minterm_bit m b old ≡ blended m (all || rest) b old
+full_value m true rest b old is = refl
+full_value m false rest b old is = absurd (cc is)
+
+pub plane_full : (v w : CellView) (k m first : ℕ) (s : Stretch) (r : SourceRows) → r.all ≡ true → w ≡ with_live (λ c. drawn (λ p i j. p == k && in_stretch s i j) (combined_bit m (plane_of r k) (record { column = first; bit = 0 })) c) v → w ≡ with_live (λ c. drawn (λ p i j. p == k && in_stretch s i j) (from_rows m r first) c) v
+plane_full v w k m first s r all is =
+    cell_alike v w (λ p i j. p == k && in_stretch s i j) (combined_bit m (plane_of r k) (record { column = first; bit = 0 })) (from_rows m r first) is
+    (λ p i j old _ _ _ on _.
+    let at = pixel_of k s p i j on in
+    let none : 0 + (i - first) ≡ i - first = omega arith in
+    ap (λ n. minterm_bit m (row_bit (plane_of r k) n) old) none ∙
+    (ap (λ q. minterm_bit m (row_bit (plane_of r q) (i - first)) old) (sym at.deep) ∙
+    full_value m r.all (row_bit (plane_of r p) (i - first) == 1 || row_bit r.kept (i - first) == 1) (row_bit (plane_of r p) (i - first)) old all))
+
+-- what is told of the two minterms
+pub record AreParts (m set clear : ℕ) : Type 0 where
+  pub of_set : (c : ℕ) → c < 2 → minterm_bit set 1 c ≡ minterm_bit m 1 c
+  pub kept : (c : ℕ) → c < 2 → minterm_bit set 0 c ≡ c
+  pub of_clear : (c : ℕ) → c < 2 → minterm_bit clear 1 c ≡ minterm_bit m 0 c
+  pub left : (c : ℕ) → c < 2 → minterm_bit clear 0 c ≡ c
+
+-- A bit that is painted where its source is set and then where it isn't.
+two_values : (m set clear b t old : ℕ) → AreParts m set clear → b < 2 → t < 2 → old < 2 → minterm_bit clear (minterm_bit 32 b t) (minterm_bit set b old) ≡ blended m (b == 1 || t == 1) b old
+two_values m set clear zero zero old are bit there small = are.left (minterm_bit set 0 old) (minterm_small set 0 old) ∙ are.kept old small
+two_values m set clear zero (suc zero) old are bit there small = are.of_clear (minterm_bit set 0 old) (minterm_small set 0 old) ∙ ap (λ c. minterm_bit m 0 c) (are.kept old small)
+two_values m set clear zero (suc (suc t)) old are bit there small = absurd (omega (arith, there))
+two_values m set clear (suc zero) zero old are bit there small = are.left (minterm_bit set 1 old) (minterm_small set 1 old) ∙ are.of_set old small
+two_values m set clear (suc zero) (suc zero) old are bit there small = are.left (minterm_bit set 1 old) (minterm_small set 1 old) ∙ are.of_set old small
+two_values m set clear (suc zero) (suc (suc t)) old are bit there small = absurd (omega (arith, there))
+two_values m set clear (suc (suc b)) t old are bit there small = absurd (omega (arith, bit))
+
+some_value : (m : ℕ) (all rest : Bool) (b old : ℕ) → all ≡ false → blended m rest b old ≡ blended m (all || rest) b old
+some_value m true rest b old is = absurd (cc is)
+some_value m false rest b old is = refl
+
+pub plane_in_parts : (v w u : CellView) (k m set clear first place : ℕ) (s : Stretch) (r : SourceRows) (unset : List ℕ) → AreParts m set clear → r.all ≡ false → first ≤ s.x → place ≡ s.x - first → ((n : ℕ) → row_bit unset n ≡ (if is_named place s.run.len n then minterm_bit 32 (row_bit (plane_of r k) (place + (n - place))) (row_bit r.kept n) else row_bit r.kept n)) → w ≡ with_live (λ c. drawn (λ p i j. p == k && in_stretch s i j) (combined_bit set (plane_of r k) (record { column = first; bit = 0 })) c) v → u ≡ with_live (λ c. drawn (λ p i j. p == k && in_stretch s i j) (combined_bit clear unset (record { column = first; bit = 0 })) c) w → u ≡ with_live (λ c. drawn (λ p i j. p == k && in_stretch s i j) (from_rows m r first) c) v
+plane_in_parts v w u k m set clear first place s r unset are some starts along left was is =
+    let o : Origin = record { column = first; bit = 0 } in
+    let f = combined_bit set (plane_of r k) o in
+    let g = combined_bit clear unset o in
+    let on : ℕ → ℕ → ℕ → Bool = λ p i j. p == k && in_stretch s i j in
+    cell_alike v u on (λ p x y old. g p x y (f p x y old)) (from_rows m r first)
+    (is ∙ (ap (with_live (λ c. drawn on g c)) was ∙ ap (λ q. record v { live = q }) (drawn_again v.live on f g (combined_gives_bits set (plane_of r k) o))))
+    (λ p i j old _ _ _ inside small.
+    let at = pixel_of k s p i j inside in
+    let from : s.x ≤ i = at.first in
+    let before : i < s.x + s.run.len = at.last in
+    let n = i - first in
+    let zero_more : 0 + n ≡ n = omega arith in
+    let low : place ≤ n = omega (arith, along, starts, from) in
+    let high : n < place + s.run.len = omega (arith, along, starts, from, before) in
+    let same : place + (n - place) ≡ n = omega (arith, low) in
+    let named : is_named place s.run.len n ≡ true = grind (arith, nat_tests) in
+    let second : row_bit unset (0 + n) ≡ minterm_bit 32 (row_bit (plane_of r k) n) (row_bit r.kept n) =
+    ap (row_bit unset) zero_more ∙ (left n ∙ (ap (λ t. if t then minterm_bit 32 (row_bit (plane_of r k) (place + (n - place))) (row_bit r.kept n) else row_bit r.kept n) named ∙ ap (λ q. minterm_bit 32 (row_bit (plane_of r k) q) (row_bit r.kept n)) same)) in
+    ap (λ b. minterm_bit clear b (minterm_bit set (row_bit (plane_of r k) (0 + n)) old)) second ∙
+    (ap (λ q. minterm_bit clear (minterm_bit 32 (row_bit (plane_of r k) n) (row_bit r.kept n)) (minterm_bit set (row_bit (plane_of r k) q) old)) zero_more ∙
+    (two_values m set clear (row_bit (plane_of r k) n) (row_bit r.kept n) old are (row_bit_lt (plane_of r k) n) (row_bit_lt r.kept n) small ∙
+    (some_value m r.all (row_bit (plane_of r k) n == 1 || row_bit r.kept n == 1) (row_bit (plane_of r k) n) old some ∙
+    ap (λ q. blended m (takes r q n) (row_bit (plane_of r q) n) old) (sym at.deep)))))

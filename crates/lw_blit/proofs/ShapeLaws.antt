@@ -1,11 +1,11 @@
 -- Laws of blits as wholes: what is drawn in the rows and columns that they reach is the blit.
-use Rattle.std.proofs.Common.{◌≡◌, ℕ, ◌+◌, ◌-◌, ◌/◌, ◌%◌, ◌==◌, ◌<◌, ◌≤◌, nat_lt, Bool, true, false, ◌&&◌, if◌then◌else◌, List, replicate, Some, None, ◌∙◌, sym, refl, ap, arith, ℤ, pos, negsuc, ◌+ℤ◌, ◌-ℤ◌, ◌≤ℤ◌, unsigned_abs, IsTrue}
+use Rattle.std.proofs.Common.{◌≡◌, ℕ, zero, suc, ◌+◌, ◌-◌, ◌/◌, ◌%◌, ◌==◌, ◌<◌, ◌≤◌, nat_lt, Bool, true, false, ◌&&◌, ◌||◌, if◌then◌else◌, List, replicate, Option, Some, None, ◌∙◌, sym, refl, ap, subst, arith, ℤ, pos, negsuc, ◌+ℤ◌, ◌-ℤ◌, ◌≤ℤ◌, unsigned_abs, IsTrue}
 use Rattle.std.specs.Int.{bit_at}
 use Rattle.std.proofs.lemmas.Bool.{and_parts}
 use Rattle.std.proofs.lemmas.Bool.Decides.{nat_tests}
 use Rattle.std.proofs.lemmas.Int.{ints}
 use Rattle.std.proofs.lemmas.List.{get_or-replicate}
-use Rattle.std.proofs.lemmas.Nat.Bits.{bit_at-zero, bit_at_above}
+use Rattle.std.proofs.lemmas.Nat.Bits.{bit_at-lt, bit_at-zero, bit_at_above}
 use Rattle.lw_region.specs.Rectangle.{within, has_pixel}
 use Rattle.lw_planes.specs.Row.{row_bit}
 use Rattle.lw_planes.specs.Bitmap.{Bitmap, IsBitmap, pen_at}
@@ -16,13 +16,18 @@ use Rattle.lw_calls.specs.declared.area.Area.{Area}
 use Rattle.lw_machine.specs.Kept.{holds_at}
 use Rattle.lw_machine.specs.Blits.{source_column, source_row, source_pen, clip_blit, blt_bitmap_rast_port}
 use Rattle.lw_machine.specs.Shapes.{box_at}
-use Rattle.lw_layer.specs.View.{LiveView, CellView, shows, keeps, draws, with_layer, with_live}
+use Rattle.lw_layer.specs.View.{LiveView, CellView, shows, keeps, draws, kept_pen, with_layer, with_live}
 use Rattle.lw_layer.specs.Copied.{bit_in, kept_bit}
 use Rattle.lw_draw.specs.Drawn.{drawn, in_mask, in_rows}
+use Rattle.lw_draw.specs.Combined.{combined_bit}
+use Rattle.lw_draw.specs.Stretches.{in_stretch}
+use Rattle.lw_draw.specs.declared.stretch.Stretch.{Stretch}
 use Rattle.lw_draw.proofs.DrawnLaws.{bits_same, bit_of_layer}
 use Rattle.lw_draw.proofs.PaintLaws.{cell_alike, cell_nowhere, shape_drawn}
-use Rattle.lw_blit.specs.Blitting.{has_place, blended, from_row, from_layer, from_bits, in_plane, masked, IsNear, LieInBitmap}
-use Rattle.lw_blit.proofs.SourceLaws.{kept_place, pixel_at}
+use Rattle.lw_blit.specs.Blitting.{has_place, blended, blit_by, has_source, source_bit, from_layer, from_bits, masked, IsNear, LieInBitmap}
+use Rattle.lw_blit.specs.declared.transfers.Transfer.{Transfer}
+use Rattle.lw_blit.proofs.RunLaws.{pixel_of}
+use Rattle.lw_blit.proofs.SourceLaws.{kept_place}
 
 -- coordinates and sizes are far from the ends of the numbers
 word_low : (low z high : ℤ) → within low z high ≡ true → low ≤ℤ z
@@ -118,15 +123,15 @@ all_turned : (drawable across down column row from to : Bool) → (across && col
 all_turned drawable across down column row from to columns rows = grind (arith, nat_tests)
 
 -- A layer is blitted from a layer once the rows and columns that are reached are painted.
-pub layer_blitted : (c source : LiveView) (a : Area) (mask top bottom from end : ℕ) → IsBitmap c.layer.bits → mask ≡ c.layer.raster.mask → AreReached a source.layer.bits.width source.layer.bits.height c.layer.bits.width c.layer.bits.height top bottom from end → drawn (masked mask c top bottom from end) (from_layer source a) c ≡ with_layer (λ l. clip_blit (λ i j. shows source i j) source.layer (λ i j. shows c i j) a l) c
+pub layer_blitted : (c source : LiveView) (a : Area) (mask top bottom from end : ℕ) → IsBitmap c.layer.bits → mask ≡ c.layer.raster.mask → AreReached a source.layer.bits.width source.layer.bits.height c.layer.bits.width c.layer.bits.height top bottom from end → drawn (masked mask c top bottom from end) (from_layer source (blit_by a)) c ≡ with_layer (λ l. clip_blit (λ i j. shows source i j) source.layer (λ i j. shows c i j) a l) c
 unfolding drawn from_layer keeps
 layer_blitted c source a mask top bottom from end ok same are =
     let there : ℕ → ℕ → Bool = λ x y. holds_at (λ i j. keeps source i j) (source_column a x) (source_row a y) in
     let on : ℕ → ℕ → Bool = λ x y. in_rows c top bottom from end x y && there x y in
-    bits_same c (λ p x y. if masked mask c top bottom from end p x y then from_layer source a p x y (bit_of_layer c p x y) else bit_of_layer c p x y)
+    bits_same c (λ p x y. if masked mask c top bottom from end p x y then from_layer source (blit_by a) p x y (bit_of_layer c p x y) else bit_of_layer c p x y)
     (λ p x y. if in_mask c.layer.raster p && on x y then from_bits source.layer.bits a p x y (bit_of_layer c p x y) else bit_of_layer c p x y)
     (λ p x y _ _ _.
-    ap (λ m. if bit_at m p == 1 && in_rows c top bottom from end x y then from_layer source a p x y (bit_of_layer c p x y) else bit_of_layer c p x y) same ∙
+    ap (λ m. if bit_at m p == 1 && in_rows c top bottom from end x y then from_layer source (blit_by a) p x y (bit_of_layer c p x y) else bit_of_layer c p x y) same ∙
     blended_there (in_mask c.layer.raster p) (in_rows c top bottom from end x y) (there x y) a.minterm (kept_bit source p (source_column a x) (source_row a y)) (bit_at (source_pen source.layer.bits a x y) p) (bit_of_layer c p x y)
     (λ is. kept_pen_bit source p (source_column a x) (source_row a y) is)) ∙
     shape_drawn c (λ x y. has_pixel (box_at a.x a.y a.w a.h) (pos x) (pos y) && there x y) on (from_bits source.layer.bits a) ok
@@ -199,6 +204,19 @@ row_lies b a top bottom from end y are low high =
       lower = λ some. omega (arith, ints);
     }
 
+-- and each run of such a row
+pub run_lies : (b : Bitmap) (a : Area) (from end y : ℕ) (s : Stretch) → LieInBitmap b a y (y + 1) from end → s.y ≡ y → from ≤ s.x → s.x + s.run.len ≤ end → LieInBitmap b a s.y (s.y + 1) s.x (s.x + s.run.len)
+run_lies b a from end y s are row first last =
+    let P : ℕ → Type 0 = λ j. LieInBitmap b a j (j + 1) s.x (s.x + s.run.len) in
+    let left = are.left in
+    let right = are.right in
+    subst P (sym row) (record {
+      left = omega (arith, ints, left, first);
+      right = omega (arith, ints, right, last);
+      upper = are.upper;
+      lower = are.lower;
+    })
+
 -- and each of its bits in the row's
 pub line_inside : (a : Area) (y n line : ℕ) → pos line ≡ source_row a y → source_row a (y + 1) ≤ℤ pos n → line < n
 line_inside a y n line is low = omega (arith, ints)
@@ -222,20 +240,50 @@ no_bits n x low = ap (λ b. bit_at b (7 - x % 8)) (get_or-replicate n (x / 8) 0 
 pub lacked_bit : (b : Bitmap) (x y plane : ℕ) → IsBitmap b → x < b.width → y < b.height → b.depth ≤ plane → bit_at (pen_at b x y) plane ≡ 0
 lacked_bit b x y plane ok left low past = bit_at_above (pen_at b x y) b.depth plane (ok.pens x y left low) past
 
--- A plane of a row that is painted with a row of a bitmap is painted with the bitmap.
+-- A plane of a run that is painted with a row of a bitmap is painted with the bitmap.
 column_on : (a : Area) (from bit i : ℕ) → source_column a from ≡ pos bit → from ≤ i → unsigned_abs (source_column a i) ≡ bit + (i - from)
 column_on a from bit i is first = omega (arith, ints, is, first)
 
 column_inside : (a : Area) (from end bit i n : ℕ) → source_column a from ≡ pos bit → source_column a end ≤ℤ pos n → from ≤ i → i < end → bit + (i - from) < n
 column_inside a from end bit i n is inside first last = omega (arith, ints, is, inside, first, last)
 
-pub row_as_bitmap : (v w : CellView) (b : Bitmap) (a : Area) (k y from end bit line : ℕ) (bits : List ℕ) → source_column a end ≤ℤ pos b.width → source_column a from ≡ pos bit → source_row a y ≡ pos line → ((x : ℕ) → x < b.width → row_bit bits x ≡ bit_at (pen_at b x line) k) → w ≡ with_live (λ c. drawn (in_plane k c y from end) (from_row a.minterm bits (record { column = from; bit = bit })) c) v → w ≡ with_live (λ c. drawn (in_plane k c y from end) (from_bits b a) c) v
-row_as_bitmap v w b a k y from end bit line bits inside column row are is =
-    cell_alike v w (in_plane k v.live y from end) (from_row a.minterm bits (record { column = from; bit = bit })) (from_bits b a) is
+pub run_as_bitmap : (v w : CellView) (b : Bitmap) (a : Area) (k bit line : ℕ) (s : Stretch) (bits : List ℕ) → source_column a (s.x + s.run.len) ≤ℤ pos b.width → source_column a s.x ≡ pos bit → source_row a s.y ≡ pos line → ((x : ℕ) → x < b.width → row_bit bits x ≡ bit_at (pen_at b x line) k) → w ≡ with_live (λ c. drawn (λ p i j. p == k && in_stretch s i j) (combined_bit a.minterm bits (record { column = s.x; bit = bit })) c) v → w ≡ with_live (λ c. drawn (λ p i j. p == k && in_stretch s i j) (from_bits b a) c) v
+run_as_bitmap v w b a k bit line s bits inside column row are is =
+    cell_alike v w (λ p i j. p == k && in_stretch s i j) (combined_bit a.minterm bits (record { column = s.x; bit = bit })) (from_bits b a) is
     (λ p i j old _ _ _ on _.
-    let at = pixel_at v.live k y from end p i j on in
+    let at = pixel_of k s p i j on in
     let value : ℕ → ℕ → ℕ → ℕ = λ d x z. minterm_bit a.minterm (bit_at (pen_at b x z) d) old in
-    ap (λ n. minterm_bit a.minterm n old) (are (bit + (i - from)) (column_inside a from end bit i b.width column inside at.first at.last)) ∙
-    (ap (λ x. value k x line) (sym (column_on a from bit i column at.first)) ∙
+    ap (λ n. minterm_bit a.minterm n old) (are (bit + (i - s.x)) (column_inside a s.x (s.x + s.run.len) bit i b.width column inside at.first at.last)) ∙
+    (ap (λ x. value k x line) (sym (column_on a s.x bit i column at.first)) ∙
     (ap (λ z. value k (unsigned_abs (source_column a i)) (unsigned_abs z)) (sym row ∙ ap (source_row a) (sym at.down)) ∙
     ap (λ d. value d (unsigned_abs (source_column a i)) (unsigned_abs (source_row a j))) (sym at.deep))))
+
+-- a layer's bit is one
+bit_in_small : (p : ℕ) (pen : Option ℕ) → bit_in p pen < 2
+bit_in_small p None = omega arith
+bit_in_small p (Some pen) = bit_at-lt pen p
+
+kept_small : (c : LiveView) (p : ℕ) (x y : ℤ) → kept_bit c p x y < 2
+unfolding kept_bit
+kept_small c p x y = bit_in_small p (kept_pen c x y)
+
+-- what the minterm of B gives
+copied : (b old : ℕ) → b < 2 → old < 2 → minterm_bit 192 b old ≡ b
+copied zero zero source small = refl
+copied zero (suc zero) source small = refl
+copied (suc zero) zero source small = refl
+copied (suc zero) (suc zero) source small = refl
+copied zero (suc (suc old)) source small = absurd (omega (arith, small))
+copied (suc zero) (suc (suc old)) source small = absurd (omega (arith, small))
+copied (suc (suc b)) old source small = absurd (omega (arith, source))
+
+-- A layer whose rows are shifted takes the bits of its own pixels.
+pub layer_shifted : (v w : CellView) (t : Transfer) (dx dy : ℤ) (on : LiveView → ℕ → ℕ → ℕ → Bool) → t.dx ≡ dx → t.dy ≡ dy → t.minterm ≡ 192 → t.clears ≡ true → w ≡ with_live (λ c. drawn (on c) (from_layer c t) c) v → w ≡ with_live (λ c. drawn (on c) (λ p i j old. kept_bit c p (pos i +ℤ dx) (pos j +ℤ dy)) c) v
+unfolding from_layer
+layer_shifted v w t dx dy on across down copy clears is =
+    cell_alike v w (on v.live) (from_layer v.live t) (λ p i j old. kept_bit v.live p (pos i +ℤ dx) (pos j +ℤ dy)) is
+    (λ p i j old _ _ _ _ small.
+    ap (λ m. blended m (t.clears || has_source v.live t i j) (source_bit v.live t p i j) old) copy ∙
+    (ap (λ q. blended 192 (q || has_source v.live t i j) (source_bit v.live t p i j) old) clears ∙
+    (copied (source_bit v.live t p i j) old (kept_small v.live p (pos i +ℤ t.dx) (pos j +ℤ t.dy)) small ∙
+    (ap (λ z. kept_bit v.live p (pos i +ℤ z) (pos j +ℤ t.dy)) across ∙ ap (λ z. kept_bit v.live p (pos i +ℤ dx) (pos j +ℤ z)) down))))

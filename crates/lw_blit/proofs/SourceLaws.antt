@@ -1,42 +1,22 @@
 -- Laws of rows of a layer as sources.
-use Rattle.std.proofs.Common.{◌≡◌, ℕ, zero, suc, ◌+◌, ◌-◌, ◌*◌, ◌/◌, ◌%◌, ◌<◌, ◌≤◌, ◌==◌, min, max, nat_lt, Bool, true, false, ◌&&◌, if◌then◌else◌, List, ◌++◌, take, length, slice_index, bit_and, bit_or, Some, None, ⊎_elim, ◌∙◌, sym, refl, ap, arith, ℤ, pos, negsuc, ◌+ℤ◌}
+use Rattle.std.proofs.Common.{◌≡◌, ◌≢◌, ℕ, ◌+◌, ◌-◌, ◌*◌, ◌/◌, ◌%◌, ◌<◌, ◌≤◌, ◌==◌, nat_lt, Bool, true, false, ◌&&◌, ◌||◌, if◌then◌else◌, List, [], ◌++◌, take, set, length, slice_index, Some, None, ⊎_elim, ◌∙◌, sym, refl, ap, arith, ℤ, pos, negsuc, ◌+ℤ◌}
 use Rattle.std.specs.Int.{bit_at}
-use Rattle.std.proofs.lemmas.Bool.{cases_Bool, and_parts}
+use Rattle.std.proofs.lemmas.Bool.{cases_Bool, cases_eq, and_parts}
 use Rattle.std.proofs.lemmas.Bool.Decides.{nat_tests}
-use Rattle.std.proofs.Math.Nat.{suc-ne-zero}
-use Rattle.std.proofs.lemmas.List.{length-take-le, get_or-take, get_or_append_left}
+use Rattle.std.proofs.lemmas.List.{length-take-le, get_or-take, get_or_append_left, get_or-set_same, get_or-set_other}
 use Rattle.std.proofs.lemmas.Int.{ints}
-use Rattle.std.proofs.lemmas.Nat.Bits.{bit_at-lt, bit_at_ones, bit_at_above, bit_at_and, bit_at_or}
+use Rattle.std.proofs.lemmas.Nat.Bits.{bit_at_ones, bit_at_above}
 use Rattle.lw_planes.specs.Row.{bit_of, row_bit}
 use Rattle.lw_planes.specs.Bitmap.{IsBitmap, pen_at}
-use Rattle.lw_planes.specs.Minterm.{minterm_bit}
-use Rattle.lw_planes.proofs.RowLaws.{row_bit_lt}
 use Rattle.lw_kernels.specs.Kernel.{is_between, is_named}
-use Rattle.lw_calls.specs.declared.area.Area.{Area}
 use Rattle.lw_machine.specs.Kept.{holds_at, is_kept}
-use Rattle.lw_machine.specs.Blits.{source_column, source_row}
 use Rattle.lw_layer.specs.View.{LiveView, CellView, keeps, draws, with_live}
 use Rattle.lw_layer.specs.Copied.{bit_in, kept_bit}
-use Rattle.lw_draw.specs.Drawn.{drawn, GivesBits}
-use Rattle.lw_draw.proofs.DrawnLaws.{bits_same, bit_of_layer, bit_drawn}
-use Rattle.lw_draw.proofs.PaintLaws.{cell_alike, cell_same, draws_stays}
-use Rattle.lw_blit.specs.Blitting.{blended, from_row, from_row_where, from_layer, in_plane, IsSourceRow}
-use Rattle.lw_blit.specs.declared.painting.Origin.{Origin}
-use Rattle.lw_blit.specs.declared.sources.SourceRow.{SourceRow}
-use Rattle.lw_blit.proofs.PaintingLaws.{minterm_small, row_gives_bits}
-
--- a bit of a byte that a mask cuts and 0x20 is joined to
-cut_bit : (m k : ℕ) → bit_at (bit_or (bit_and m 192) 32) k ≡ max (min (bit_at m k) (bit_at 192 k)) (bit_at 32 k)
-cut_bit m k = bit_at_or (bit_and m 192) 32 k ∙ ap (λ b. max b (bit_at 32 k)) (bit_at_and m 192 k)
-
--- the values of such a minterm
-pub cut_values : (m b c : ℕ) → c < 2 → minterm_bit (bit_or (bit_and m 192) 32) b c ≡ (if b == 1 then (if c == 1 then bit_at m 7 else bit_at m 6) else c)
-cut_values m b c small =
-    let seven : bit_at (bit_or (bit_and m 192) 32) 7 ≡ bit_at m 7 = let some = bit_at-lt m 7 in cut_bit m 7 ∙ omega (arith, some) in
-    let six : bit_at (bit_or (bit_and m 192) 32) 6 ≡ bit_at m 6 = let some = bit_at-lt m 6 in cut_bit m 6 ∙ omega (arith, some) in
-    let five : bit_at (bit_or (bit_and m 192) 32) 5 ≡ 1 = let some = bit_at-lt m 5 in cut_bit m 5 ∙ omega (arith, some) in
-    let four : bit_at (bit_or (bit_and m 192) 32) 4 ≡ 0 = let some = bit_at-lt m 4 in cut_bit m 4 ∙ omega (arith, some) in
-    grind (arith, nat_tests)
+use Rattle.lw_draw.specs.Drawn.{drawn}
+use Rattle.lw_draw.proofs.PaintLaws.{cell_alike}
+use Rattle.lw_blit.specs.Blitting.{blended, from_rows, from_layer, masked, plane_of, has_source, source_bit, taken_column, taken_row, AreRead, AreSources}
+use Rattle.lw_blit.specs.declared.sources.SourceRows.{SourceRows}
+use Rattle.lw_blit.specs.declared.transfers.Transfer.{Transfer}
 
 -- all bits of full bytes are set
 pub full_bit : (bytes : List ℕ) (i : ℕ) → slice_index bytes (i / 8) ≡ 255 → row_bit bytes i ≡ 1
@@ -61,6 +41,12 @@ all_set row whole count bytes long few filled full i low =
     let near : i / 8 < bytes = omega (arith, low, few) in
     let inside : i / 8 < length (take bytes whole) = rw (length-take-le bytes whole (omega (arith, long))) near in
     sym (ap (λ t. if t then 1 else row_bit row i) before) ∙ (sym (filled i) ∙ (sym (bit_of_first whole bytes i near) ∙ full_bit (take bytes whole) i (full (i / 8) inside)))
+
+-- and the bits in front of them are as they were
+pub front_stays : (row whole : List ℕ) (count more i : ℕ) → ((x : ℕ) → row_bit whole x ≡ (if is_named count more x then 1 else row_bit row x)) → i < count → row_bit whole i ≡ row_bit row i
+front_stays row whole count more i filled low =
+    let before : is_named count more i ≡ false = grind (arith, nat_tests) in
+    filled i ∙ ap (λ t. if t then 1 else row_bit row i) before
 
 -- a layer's bit is 0 where it keeps no pixel
 pub kept_off : (c : LiveView) (p : ℕ) (x y : ℤ) → holds_at (λ i j. keeps c i j) x y ≡ false → kept_bit c p x y ≡ 0
@@ -102,123 +88,104 @@ is_bit false = refl
 pub cleared : (row : List ℕ) (count i old : ℕ) → row_bit row i ≡ (if is_named 0 count i then 0 else old) → i < count → row_bit row i ≡ 0
 cleared row count i old is low = is ∙ (let named : is_named 0 count i ≡ true = grind (arith, nat_tests) in ap (λ t. if t then 0 else old) named)
 
--- Rows with these first bytes are the row of a layer.
-pub row_copied : (c : LiveView) (a : Area) (plane y from end n : ℕ) (x line : ℤ) (bits there more other : List ℕ) → length bits ≡ n → length there ≡ n → end - from ≤ 8 * n → x ≡ source_column a from → line ≡ source_row a y → ((i : ℕ) → i < 8 * n → row_bit bits i ≡ kept_bit c plane (x +ℤ pos i) line) → ((i : ℕ) → i < 8 * n → row_bit there i ≡ bit_of (holds_at (λ u v. keeps c u v) (x +ℤ pos i) line)) → IsSourceRow c a plane y from end (record { bits = bits ++ more; there = there ++ other })
-row_copied c a plane y from end n x line bits there more other long equally enough column row pens kept =
-    let along : (i : ℕ) → x +ℤ pos i ≡ source_column a (from + i) = λ i. omega (arith, ints, column) in
+-- transfers with the same sources
+abbrev transfer : ℤ → ℤ → ℕ → Bool → Transfer
+transfer dx dy m clears = record { dx = dx; dy = dy; minterm = m; clears = clears }
+
+pub transfer_same : (dx dy ex ey : ℤ) (m : ℕ) (clears : Bool) → dx ≡ ex → dy ≡ ey → transfer dx dy m clears ≡ transfer ex ey m clears
+transfer_same dx dy ex ey m clears across down = ap (λ x. transfer x dy m clears) across ∙ ap (λ y. transfer ex y m clears) down
+
+-- no plane was read so far
+pub none_read : (c : LiveView) (mask : ℕ) (x y : ℤ) (n : ℕ) (r : SourceRows) → AreRead c mask 0 x y n r
+none_read c mask x y n r = record { pens = λ p i below _ _. absurd (omega (arith, below)); kept = λ p i below _ _. absurd (omega (arith, below)) }
+
+-- one plane more
+pub plane_read : (c : LiveView) (mask k : ℕ) (x y : ℤ) (n : ℕ) (r : SourceRows) (bits kept : List ℕ) → k < length r.bits → ((i : ℕ) → i < n → row_bit bits i ≡ kept_bit c k (x +ℤ pos i) y) → ((i : ℕ) → i < n → row_bit kept i ≡ bit_of (holds_at (λ u v. keeps c u v) (x +ℤ pos i) y)) → AreRead c mask k x y n r → AreRead c mask (k + 1) x y n (record r { bits = set r.bits k bits; kept = kept })
+plane_read c mask k x y n r bits kept there new which are = record {
+  pens =
+      λ p i below has low.
+      ⊎_elim
+      (λ (same : p ≡ k).
+      ap (λ q. row_bit (plane_of (record r { bits = set r.bits k bits; kept = kept }) q) i) same ∙
+      (ap (λ b. row_bit b i) (get_or-set_same r.bits k bits [] there) ∙ (new i low ∙ ap (λ q. kept_bit c q (x +ℤ pos i) y) (sym same))))
+      (λ (other : p ≢ k).
+      let before : p < k = omega (arith, below, other) in
+      ap (λ b. row_bit b i) (get_or-set_other r.bits k p bits [] other) ∙ are.pens p i before has low)
+      (cases_eq p k);
+  kept = λ p i _ _ low. which i low;
+}
+
+pub plane_skipped : (c : LiveView) (mask k : ℕ) (x y : ℤ) (n : ℕ) (r : SourceRows) → (bit_at mask k == 1) ≡ false → AreRead c mask k x y n r → AreRead c mask (k + 1) x y n r
+plane_skipped c mask k x y n r left are =
+    let earlier : (p : ℕ) → p < k + 1 → (bit_at mask p == 1) ≡ true → p < k =
+    λ p below has.
+    ⊎_elim (λ (same : p ≡ k). absurd (cc (sym has ∙ (ap (λ q. bit_at mask q == 1) same ∙ left)))) (λ (other : p ≢ k). omega (arith, below, other)) (cases_eq p k) in
     record {
-      pens =
-          λ i low.
-          let inside : i / 8 < length bits = omega (arith, low, enough, long) in
-          bit_in_front bits more i inside ∙
-          (pens i (omega (arith, low, enough)) ∙ (ap (λ z. kept_bit c plane z line) (along i) ∙ ap (λ z. kept_bit c plane (source_column a (from + i)) z) row));
-      kept =
-          λ i low.
-          let inside : i / 8 < length there = omega (arith, low, enough, equally) in
-          bit_in_front there other i inside ∙
-          (kept i (omega (arith, low, enough)) ∙ (ap (λ z. bit_of (holds_at (λ u v. keeps c u v) z line)) (along i) ∙ ap (λ z. bit_of (holds_at (λ u v. keeps c u v) (source_column a (from + i)) z)) row));
+      pens = λ p i below has low. are.pens p i (earlier p below has) has low;
+      kept = λ p i below has low. are.kept p i (earlier p below has) has low;
     }
 
--- A row of a layer has no bit without a pixel.
-pub row_clear : (c : LiveView) (a : Area) (plane y from end : ℕ) (r : SourceRow) → IsSourceRow c a plane y from end r → (i : ℕ) → i < end - from → row_bit r.there i ≡ 0 → row_bit r.bits i ≡ 0
-row_clear c a plane y from end r is i low none =
-    is.pens i low ∙ kept_off c plane (source_column a (from + i)) (source_row a y) (no_bit _ (sym (is.kept i low) ∙ none))
+-- What was read are the sources.
+pub sources_read : (c : LiveView) (t : Transfer) (mask planes y from end : ℕ) (x line : ℤ) (r : SourceRows) (kept : List ℕ) (all : Bool) → x ≡ taken_column t from → line ≡ taken_row t y → AreRead c mask planes x line (end - from) r → ((i : ℕ) → i < end - from → row_bit kept i ≡ row_bit r.kept i) → ((i : ℕ) → i < end - from → (all || row_bit kept i == 1) ≡ (t.clears || row_bit kept i == 1)) → AreSources c t mask planes y from end (record r { kept = kept; all = all })
+sources_read c t mask planes y from end x line r kept all column row are same which =
+    let along : (i : ℕ) → x +ℤ pos i ≡ taken_column t (from + i) = λ i. omega (arith, ints, column) in
+    record {
+      pens =
+          λ p i deep has low.
+          are.pens p i deep has low ∙ (ap (λ z. kept_bit c p z line) (along i) ∙ ap (λ z. kept_bit c p (taken_column t (from + i)) z) row);
+      kept =
+          λ p i deep has low.
+          same i low ∙
+          (are.kept p i deep has low ∙
+          (ap (λ z. bit_of (holds_at (λ u v. keeps c u v) z line)) (along i) ∙ ap (λ z. bit_of (holds_at (λ u v. keeps c u v) (taken_column t (from + i)) z)) row));
+      all = which;
+    }
 
--- a layer drawn on twice at the same places
-chosen_again : (on : Bool) (f g : ℕ → ℕ) (old : ℕ) → (if on then g (if on then f old else old) else (if on then f old else old)) ≡ (if on then g (f old) else old)
-chosen_again true f g old = refl
-chosen_again false f g old = refl
-
-pub drawn_again : (c : LiveView) (on : ℕ → ℕ → ℕ → Bool) (f g : ℕ → ℕ → ℕ → ℕ → ℕ) → GivesBits f → drawn on g (drawn on f c) ≡ drawn on (λ p x y old. g p x y (f p x y old)) c
-unfolding drawn
-drawn_again c on f g gives =
-    bits_same c (λ p x y. if on p x y then g p x y (bit_of_layer (drawn on f c) p x y) else bit_of_layer (drawn on f c) p x y) (λ p x y. if on p x y then g p x y (f p x y (bit_of_layer c p x y)) else bit_of_layer c p x y)
-    (λ p x y deep left low.
-    ap (λ b. if on p x y then g p x y b else b) (bit_drawn c on f p x y gives deep left low) ∙
-    chosen_again (on p x y) (f p x y) (g p x y) (bit_of_layer c p x y))
+-- whether all pixels take their sources
+pub all_taken : (all : Bool) (k : ℕ) → (all ≡ true → k ≡ 1) → (all || k == 1) ≡ (false || k == 1)
+all_taken true k is = sym (ap (λ n. n == 1) (is refl))
+all_taken false k is = refl
 
 -- what is told of a pixel in some columns of a row
-pub record IsAt (plane from end row p i j : ℕ) : Type 0 where
-  pub deep : p ≡ plane
+pub record IsIn (mask from end row p i j : ℕ) : Type 0 where
+  pub has : (bit_at mask p == 1) ≡ true
   pub first : from ≤ i
   pub last : i < end
   pub down : j ≡ row
 
-pub pixel_at : (c : LiveView) (plane y from end p i j : ℕ) → in_plane plane c y from end p i j ≡ true → IsAt plane from end y p i j
-pixel_at c plane y from end p i j on =
-    let drawable : Bool = draws c i j in
-    record { deep = grind (arith, nat_tests); first = grind (arith, nat_tests); last = grind (arith, nat_tests); down = grind (arith, nat_tests) }
+first_test : (has rest : Bool) → (has && rest) ≡ true → has ≡ true
+first_test true rest on = refl
+first_test false rest on = on
 
--- Bits that all have a source.
-pub full_values : (m t b old : ℕ) → t ≡ 1 → minterm_bit m b old ≡ blended m (t == 1) b old
-full_values m t b old full = ap (λ n. blended m (n == 1) b old) (sym full)
+pub pixel_in : (mask from end row p i j : ℕ) (drawable : Bool) → (bit_at mask p == 1 && (is_between row (row + 1) j && (is_between from end i && drawable))) ≡ true → IsIn mask from end row p i j
+pixel_in mask from end row p i j drawable on = record {
+  has = first_test (bit_at mask p == 1) (is_between row (row + 1) j && (is_between from end i && drawable)) on;
+  first = grind (arith, nat_tests);
+  last = grind (arith, nat_tests);
+  down = grind (arith, nat_tests);
+}
 
-pub row_full : (v w : CellView) (k m y from end : ℕ) (r : SourceRow) → ((i : ℕ) → i < end - from → row_bit r.there i ≡ 1) → w ≡ with_live (λ c. drawn (in_plane k c y from end) (from_row m r.bits (record { column = from; bit = 0 })) c) v → w ≡ with_live (λ c. drawn (in_plane k c y from end) (from_row_where m r from) c) v
-row_full v w k m y from end r full is =
-    cell_alike v w (in_plane k v.live y from end) (from_row m r.bits (record { column = from; bit = 0 })) (from_row_where m r from) is
-    (λ p i j old _ _ _ on _.
-    let at = pixel_at v.live k y from end p i j on in
-    let first : from ≤ i = at.first in
-    let last : i < end = at.last in
-    let none : 0 + (i - from) ≡ i - from = omega arith in
-    ap (λ n. minterm_bit m (row_bit r.bits n) old) none ∙ full_values m (row_bit r.there (i - from)) (row_bit r.bits (i - from)) old (full (i - from) (omega (arith, first, last))))
+-- a pixel takes its source as the layer has it
+taken_alike : (all clears there : Bool) (b k : ℕ) → k ≡ bit_of there → (there ≡ false → b ≡ 0) → (all || k == 1) ≡ (clears || k == 1) → (all || (b == 1 || k == 1)) ≡ (clears || there)
+taken_alike all clears true b k is none same = let one : k ≡ 1 = is in grind (arith, nat_tests)
+taken_alike all clears false b k is none same = let zero : k ≡ 0 = is in let clear : b ≡ 0 = none refl in grind (arith, nat_tests)
 
--- what is told of the two minterms
-pub record AreParts (m set clear : ℕ) : Type 0 where
-  pub of_set : (c : ℕ) → c < 2 → minterm_bit set 1 c ≡ minterm_bit m 1 c
-  pub kept : (c : ℕ) → c < 2 → minterm_bit set 0 c ≡ c
-  pub of_clear : (c : ℕ) → c < 2 → minterm_bit clear 1 c ≡ minterm_bit m 0 c
-  pub left : (c : ℕ) → c < 2 → minterm_bit clear 0 c ≡ c
-
--- A bit that is painted where its source is set and then where it isn't.
-two_values : (m set clear t b old : ℕ) → AreParts m set clear → t < 2 → b < 2 → old < 2 → (t ≡ 0 → b ≡ 0) → minterm_bit clear (minterm_bit 64 t b) (minterm_bit set b old) ≡ blended m (t == 1) b old
-two_values m set clear zero zero old are there bit small none = are.left (minterm_bit set 0 old) (minterm_small set 0 old) ∙ are.kept old small
-two_values m set clear zero (suc b) old are there bit small none = absurd (suc-ne-zero b (none refl))
-two_values m set clear (suc zero) zero old are there bit small none = are.of_clear (minterm_bit set 0 old) (minterm_small set 0 old) ∙ ap (λ c. minterm_bit m 0 c) (are.kept old small)
-two_values m set clear (suc zero) (suc zero) old are there bit small none = are.left (minterm_bit set 1 old) (minterm_small set 1 old) ∙ are.of_set old small
-two_values m set clear (suc zero) (suc (suc b)) old are there bit small none = absurd (omega (arith, bit))
-two_values m set clear (suc (suc t)) b old are there bit small none = absurd (omega (arith, there))
-
-pub row_in_parts : (v w u : CellView) (k m set clear y from end : ℕ) (r : SourceRow) (bits : List ℕ) → AreParts m set clear → ((i : ℕ) → i < end - from → row_bit r.there i ≡ 0 → row_bit r.bits i ≡ 0) → ((i : ℕ) → row_bit bits i ≡ (if is_named 0 (end - from) i then minterm_bit 64 (row_bit r.there (0 + (i - 0))) (row_bit r.bits i) else row_bit r.bits i)) → w ≡ with_live (λ c. drawn (in_plane k c y from end) (from_row set r.bits (record { column = from; bit = 0 })) c) v → u ≡ with_live (λ c. drawn (in_plane k c y from end) (from_row clear bits (record { column = from; bit = 0 })) c) w → u ≡ with_live (λ c. drawn (in_plane k c y from end) (from_row_where m r from) c) v
-row_in_parts v w u k m set clear y from end r bits are none left was is =
-    let o : Origin = record { column = from; bit = 0 } in
-    let f = from_row set r.bits o in
-    let g = from_row clear bits o in
-    let on = in_plane k v.live y from end in
-    let there : u ≡ with_live (λ c. drawn on g c) w =
-    cell_same w u (in_plane k w.live y from end) on g is (λ p i j _. ap (λ t. p == k && (is_between y (y + 1) j && (is_between from end i && t))) (draws_stays v w on f i j was)) in
-    cell_alike v u on (λ p x y old. g p x y (f p x y old)) (from_row_where m r from)
-    (there ∙ (ap (with_live (λ c. drawn on g c)) was ∙ ap (λ q. record v { live = q }) (drawn_again v.live on f g (row_gives_bits set r.bits o))))
-    (λ p i j old _ _ _ inside small.
-    let at = pixel_at v.live k y from end p i j inside in
+-- A row that is painted from its sources is painted from the layer.
+pub row_as_layer : (v w : CellView) (source : LiveView) (t : Transfer) (mask planes y from end : ℕ) (r : SourceRows) → AreSources source t mask planes y from end r → v.live.layer.bits.depth ≤ planes → w ≡ with_live (λ c. drawn (masked mask c y (y + 1) from end) (from_rows t.minterm r from) c) v → w ≡ with_live (λ c. drawn (masked mask c y (y + 1) from end) (from_layer source t) c) v
+unfolding from_layer
+row_as_layer v w source t mask planes y from end r are enough is =
+    cell_alike v w (masked mask v.live y (y + 1) from end) (from_rows t.minterm r from) (from_layer source t) is
+    (λ p i j old deep _ _ on _.
+    let at = pixel_in mask from end y p i j (draws v.live i j) on in
     let first : from ≤ i = at.first in
     let last : i < end = at.last in
     let n = i - from in
-    let zero_more : 0 + n ≡ n = omega arith in
     let low : n < end - from = omega (arith, first, last) in
-    let named : is_named 0 (end - from) n ≡ true = grind (arith, nat_tests) in
-    let second : row_bit bits (0 + n) ≡ minterm_bit 64 (row_bit r.there n) (row_bit r.bits n) =
-    ap (row_bit bits) zero_more ∙ (left n ∙ (ap (λ t. if t then minterm_bit 64 (row_bit r.there (0 + (n - 0))) (row_bit r.bits n) else row_bit r.bits n) named ∙ ap (λ q. minterm_bit 64 (row_bit r.there q) (row_bit r.bits n)) (omega arith))) in
-    ap (λ b. minterm_bit clear b (minterm_bit set (row_bit r.bits (0 + n)) old)) second ∙
-    (ap (λ q. minterm_bit clear (minterm_bit 64 (row_bit r.there n) (row_bit r.bits n)) (minterm_bit set (row_bit r.bits q) old)) zero_more ∙
-    two_values m set clear (row_bit r.there n) (row_bit r.bits n) old are (row_bit_lt r.there n) (row_bit_lt r.bits n) small (none n low)))
-
--- A plane of a row that is painted with a row of a layer is painted with the layer.
-pub row_as_layer : (v w : CellView) (source : LiveView) (a : Area) (k y from end : ℕ) (r : SourceRow) → IsSourceRow source a k y from end r → w ≡ with_live (λ c. drawn (in_plane k c y from end) (from_row_where a.minterm r from) c) v → w ≡ with_live (λ c. drawn (in_plane k c y from end) (from_layer source a) c) v
-unfolding from_layer
-row_as_layer v w source a k y from end r are is =
-    cell_alike v w (in_plane k v.live y from end) (from_row_where a.minterm r from) (from_layer source a) is
-    (λ p i j old _ _ _ on _.
-    let at = pixel_at v.live k y from end p i j on in
-    let first : from ≤ i = at.first in
-    let last : i < end = at.last in
-    let low : i - from < end - from = omega (arith, first, last) in
-    let column : from + (i - from) ≡ i = omega (arith, first) in
-    let there : ℕ → ℕ → Bool = λ u q. holds_at (λ x z. keeps source x z) (source_column a u) (source_row a q) in
-    let bit : ℕ → ℕ → ℕ → ℕ = λ d u q. kept_bit source d (source_column a u) (source_row a q) in
-    ap (λ t. blended a.minterm (t == 1) (row_bit r.bits (i - from)) old) (are.kept (i - from) low) ∙
-    (ap (λ t. blended a.minterm t (row_bit r.bits (i - from)) old) (is_bit (there (from + (i - from)) y)) ∙
-    (ap (λ b. blended a.minterm (there (from + (i - from)) y) b old) (are.pens (i - from) low) ∙
-    (ap (λ u. blended a.minterm (there u y) (bit k u y) old) column ∙
-    (ap (λ q. blended a.minterm (there i q) (bit k i q) old) (sym at.down) ∙
-    ap (λ d. blended a.minterm (there i j) (bit d i j) old) (sym at.deep))))))
+    let below : p < planes = omega (arith, deep, enough) in
+    let column : from + n ≡ i = omega (arith, first) in
+    let bit : row_bit (plane_of r p) n ≡ source_bit source t p i j = are.pens p n below at.has low ∙ (ap (λ u. source_bit source t p u y) column ∙ ap (λ q. source_bit source t p i q) (sym at.down)) in
+    let there : row_bit r.kept n ≡ bit_of (has_source source t i j) = are.kept p n below at.has low ∙ (ap (λ u. bit_of (has_source source t u y)) column ∙ ap (λ q. bit_of (has_source source t i q)) (sym at.down)) in
+    ap (λ q. blended t.minterm q (row_bit (plane_of r p) n) old)
+    (taken_alike r.all t.clears (has_source source t i j) (row_bit (plane_of r p) n) (row_bit r.kept n) there
+    (λ off. bit ∙ kept_off source p (taken_column t i) (taken_row t j) off) (are.all n low)) ∙
+    ap (λ b. blended t.minterm (t.clears || has_source source t i j) b old) bit)

@@ -1,6 +1,7 @@
 -- What a blit makes of a layer's bits (the manual's Graphics Primitives chapter). Words of this crate's private contracts.
-use Rattle.std.specs.Prelude.{◌≡◌, ℕ, ◌+◌, ◌-◌, ◌<◌, Bool, nat_lt, ◌==◌, not, ◌&&◌, if◌then◌else◌, List, ℤ, pos, negsuc, ◌≤ℤ◌, int_le}
+use Rattle.std.specs.Prelude.{◌≡◌, ℕ, ◌+◌, ◌-◌, ◌<◌, Bool, true, false, nat_lt, ◌==◌, not, ◌&&◌, ◌||◌, if◌then◌else◌, List, [], ℤ, pos, negsuc, ◌+ℤ◌, ◌-ℤ◌, ◌≤ℤ◌, int_le}
 use Rattle.std.specs.Int.{bit_at}
+use Rattle.std.specs.List.{slice_index_or}
 use Rattle.lw_planes.specs.Row.{bit_of, row_bit}
 use Rattle.lw_planes.specs.Bitmap.{Bitmap}
 use Rattle.lw_planes.specs.Minterm.{minterm_bit}
@@ -10,29 +11,53 @@ use Rattle.lw_machine.specs.Blits.{source_column, source_row, source_pen}
 use Rattle.lw_layer.specs.View.{LiveView, keeps}
 use Rattle.lw_layer.specs.Copied.{kept_bit}
 use Rattle.lw_draw.specs.Drawn.{in_rows}
-use Rattle.lw_blit.specs.declared.painting.Origin.{Origin}
-use Rattle.lw_blit.specs.declared.sources.SourceRow.{SourceRow}
+use Rattle.lw_draw.specs.Stretches.{in_stretch}
+use Rattle.lw_draw.specs.declared.stretch.Stretch.{Stretch}
+use Rattle.lw_blit.specs.declared.sources.SourceRows.{SourceRows}
+use Rattle.lw_blit.specs.declared.transfers.Transfer.{Transfer}
 
 -- a place is one of those from 0 on, before the extent
 abbrev pub has_place : ℕ → ℤ → Bool
 has_place extent z = int_le (pos 0) z && not (int_le (pos extent) z)
 
--- the minterm's value where a pixel has a source, and its old bit where it has none
+-- the minterm's value where a pixel takes its source, and its old bit where it takes none
 abbrev pub blended : ℕ → Bool → ℕ → ℕ → ℕ
-blended minterm there source old = if there then minterm_bit minterm source old else old
+blended minterm takes source old = if takes then minterm_bit minterm source old else old
 
--- what a plane's bit becomes, with a row of bits as sources
-abbrev pub from_row : ℕ → List ℕ → Origin → ℕ → ℕ → ℕ → ℕ → ℕ
-from_row minterm bits o p x y old = minterm_bit minterm (row_bit bits (o.bit + (x - o.column))) old
+-- the sources of a blit
+abbrev pub blit_by : Area → Transfer
+blit_by a = record { dx = a.sx -ℤ a.x; dy = a.sy -ℤ a.y; minterm = a.minterm; clears = false }
 
--- what it becomes with a row of bits of which those have a source that another row has, from the column `first` on
-abbrev pub from_row_where : ℕ → SourceRow → ℕ → ℕ → ℕ → ℕ → ℕ → ℕ
-from_row_where minterm r first p x y old = blended minterm (row_bit r.there (x - first) == 1) (row_bit r.bits (x - first)) old
+-- where the source of a column lies, and of a row
+abbrev pub taken_column : Transfer → ℕ → ℤ
+taken_column t x = pos x +ℤ t.dx
 
--- what it becomes with the kept pixels of a layer as sources
-unfoldable pub from_layer : LiveView → Area → ℕ → ℕ → ℕ → ℕ → ℕ
-from_layer source a p x y old =
-    blended a.minterm (holds_at (λ i j. keeps source i j) (source_column a x) (source_row a y)) (kept_bit source p (source_column a x) (source_row a y)) old
+abbrev pub taken_row : Transfer → ℕ → ℤ
+taken_row t y = pos y +ℤ t.dy
+
+-- the layer keeps the source of a pixel
+abbrev pub has_source : LiveView → Transfer → ℕ → ℕ → Bool
+has_source source t x y = holds_at (λ i j. keeps source i j) (taken_column t x) (taken_row t y)
+
+-- a plane's bit of that source, and 0 where the layer doesn't keep it
+abbrev pub source_bit : LiveView → Transfer → ℕ → ℕ → ℕ → ℕ
+source_bit source t p x y = kept_bit source p (taken_column t x) (taken_row t y)
+
+-- what a plane's bit becomes with the pixels of a layer as sources
+unfoldable pub from_layer : LiveView → Transfer → ℕ → ℕ → ℕ → ℕ → ℕ
+from_layer source t p x y old = blended t.minterm (t.clears || has_source source t x y) (source_bit source t p x y) old
+
+-- one plane of rows that were read
+abbrev pub plane_of : SourceRows → ℕ → List ℕ
+plane_of r p = slice_index_or r.bits p []
+
+-- the n-th pixel takes its source in this plane
+abbrev pub takes : SourceRows → ℕ → ℕ → Bool
+takes r p n = r.all || (row_bit (plane_of r p) n == 1 || row_bit r.kept n == 1)
+
+-- what it becomes with the rows that were read, which go to the columns from `first` on
+abbrev pub from_rows : ℕ → SourceRows → ℕ → ℕ → ℕ → ℕ → ℕ → ℕ
+from_rows minterm r first p x y old = blended minterm (takes r p (x - first)) (row_bit (plane_of r p) (x - first)) old
 
 -- what it becomes with all pixels of a bitmap as sources
 abbrev pub from_bits : Bitmap → Area → ℕ → ℕ → ℕ → ℕ → ℕ
@@ -42,18 +67,23 @@ from_bits source a p x y old = minterm_bit a.minterm (bit_at (source_pen source 
 abbrev pub masked : ℕ → LiveView → ℕ → ℕ → ℕ → ℕ → ℕ → ℕ → ℕ → Bool
 masked mask c top bottom from end p i j = bit_at mask p == 1 && in_rows c top bottom from end i j
 
--- the same of one row, in one plane
-abbrev pub in_plane : ℕ → LiveView → ℕ → ℕ → ℕ → ℕ → ℕ → ℕ → Bool
-in_plane plane c y from end p i j = p == plane && in_rows c y (y + 1) from end i j
+-- the pixels of a run in the planes of a mask, and in those before one of them
+abbrev pub masked_run : ℕ → Stretch → ℕ → ℕ → ℕ → Bool
+masked_run mask s p i j = bit_at mask p == 1 && in_stretch s i j
 
--- of one row, in the planes of a mask before one of them
-abbrev pub planes_before : ℕ → ℕ → LiveView → ℕ → ℕ → ℕ → ℕ → ℕ → ℕ → Bool
-planes_before mask k c y from end p i j = nat_lt p k && masked mask c y (y + 1) from end p i j
+abbrev pub planes_before : ℕ → ℕ → Stretch → ℕ → ℕ → ℕ → Bool
+planes_before mask k s p i j = nat_lt p k && masked_run mask s p i j
 
--- The row has one plane's bits of a layer's pixels that go to some columns of a row, and tells which of them are kept.
-pub record IsSourceRow (c : LiveView) (a : Area) (plane y from end : ℕ) (r : SourceRow) : Type 0 where
-  pub pens : (i : ℕ) → i < end - from → row_bit r.bits i ≡ kept_bit c plane (source_column a (from + i)) (source_row a y)
-  pub kept : (i : ℕ) → i < end - from → row_bit r.there i ≡ bit_of (holds_at (λ u v. keeps c u v) (source_column a (from + i)) (source_row a y))
+-- The planes of a mask before one of them were read, from this place of a layer on, and which pixels it keeps.
+pub record AreRead (c : LiveView) (mask k : ℕ) (x y : ℤ) (n : ℕ) (r : SourceRows) : Type 0 where
+  pub pens : (p i : ℕ) → p < k → (bit_at mask p == 1) ≡ true → i < n → row_bit (plane_of r p) i ≡ kept_bit c p (x +ℤ pos i) y
+  pub kept : (p i : ℕ) → p < k → (bit_at mask p == 1) ≡ true → i < n → row_bit r.kept i ≡ bit_of (holds_at (λ u v. keeps c u v) (x +ℤ pos i) y)
+
+-- The rows are the sources of some columns of a row, in the first planes that the mask has.
+pub record AreSources (c : LiveView) (t : Transfer) (mask planes y from end : ℕ) (r : SourceRows) : Type 0 where
+  pub pens : (p i : ℕ) → p < planes → (bit_at mask p == 1) ≡ true → i < end - from → row_bit (plane_of r p) i ≡ source_bit c t p (from + i) y
+  pub kept : (p i : ℕ) → p < planes → (bit_at mask p == 1) ≡ true → i < end - from → row_bit r.kept i ≡ bit_of (has_source c t (from + i) y)
+  pub all : (i : ℕ) → i < end - from → (r.all || row_bit r.kept i == 1) ≡ (t.clears || row_bit r.kept i == 1)
 
 -- the places and sizes of a blit are far from the ends of the numbers
 pub record IsNear (a : Area) : Type 0 where
@@ -69,6 +99,13 @@ pub record IsNear (a : Area) : Type 0 where
   pub w_high : a.w ≤ℤ pos 65535
   pub h_low : pos 0 ≤ℤ a.h
   pub h_high : a.h ≤ℤ pos 65535
+
+-- and so are the sources of a transfer
+pub record AreNear (t : Transfer) : Type 0 where
+  pub dx_low : negsuc 131071 ≤ℤ t.dx
+  pub dx_high : t.dx ≤ℤ pos 131071
+  pub dy_low : negsuc 131071 ≤ℤ t.dy
+  pub dy_high : t.dy ≤ℤ pos 131071
 
 -- what goes to some rows and columns lies in a bitmap
 pub record LieInBitmap (b : Bitmap) (a : Area) (top bottom from end : ℕ) : Type 0 where

@@ -1,20 +1,21 @@
 // Blits from a bitmap.
 
-ghost use Rattle.std.specs.Prelude.{◌≡◌, ℕ, ◌+◌, ◌*◌, ◌<◌, ◌≤◌, length, IsTrue};
+ghost use Rattle.std.specs.Prelude.{◌≡◌, ℕ, ◌==◌, ◌+◌, ◌*◌, ◌<◌, ◌≤◌, ◌&&◌, length, IsTrue};
 ghost use Rattle.std.specs.Int.{bit_at};
 ghost use Rattle.lw_planes.specs.Row.{row_bit};
 ghost use Rattle.lw_planes.specs.Bitmap.{pen_at};
 ghost use Rattle.lw_calls.specs.Limits.{area_fits};
 ghost use Rattle.lw_machine.specs.Blits.{blt_bitmap_rast_port};
-ghost use Rattle.lw_layer.specs.View.{shows, with_live, with_layer};
+ghost use Rattle.lw_layer.specs.View.{draws, shows, with_live, with_layer};
 ghost use Rattle.lw_layer.specs.View as view;
+ghost use Rattle.lw_layer.specs.Runs.{IsRun};
 ghost use Rattle.lw_draw.specs.Drawn.{drawn};
-ghost use Rattle.lw_blit.specs.Blitting.{from_bits, in_plane, masked, IsNear, LieInBitmap};
+ghost use Rattle.lw_draw.specs.Stretches.{in_stretch};
+ghost use Rattle.lw_blit.specs.Blitting.{from_bits, masked, masked_run, IsNear, LieInBitmap};
 
-use crate::painting::{Origin, paint_plane};
 use crate::places::{columns_of, rows_of, source_index};
 use lw_calls::Area;
-use lw_draw::{Places, has_bit};
+use lw_draw::{Origin, Places, Stretch, combine_run, has_bit, next_stretch};
 use lw_layer::Cell;
 use lw_planes::Planes;
 
@@ -65,7 +66,7 @@ fn bitmap_rows(
     }
 }
 
-// Blits a row, plane by plane.
+// Blits a row, run by run.
 fn bitmap_row(bitmap: &Planes, cell: &mut Cell, y: u32, columns: Places, area: Area, mask: u8)
     requires live { cell.old.state ≡ view.Live }
     requires row { y < 2048 }
@@ -77,41 +78,55 @@ fn bitmap_row(bitmap: &Planes, cell: &mut Cell, y: u32, columns: Places, area: A
         (λ c. drawn (masked mask c y (y + 1) columns.from columns.end) (from_bits bitmap.now area) c)
         cell.old }
 {
+    // As above.
+    let _ = cell.depth();
+    let mut x = columns.from;
+    while let Some(stretch) = next_stretch(cell, x, y, columns.end) {
+        bitmap_run(bitmap, cell, stretch, area, mask);
+        x = stretch.x + stretch.run.len;
+    }
+}
+
+// Blits a run, plane by plane.
+fn bitmap_run(bitmap: &Planes, cell: &mut Cell, stretch: Stretch, area: Area, mask: u8)
+    requires live { cell.old.state ≡ view.Live }
+    requires run { IsRun cell.old.live (λ i j. draws cell.old.live i j) stretch.x stretch.y stretch.run }
+    requires row { stretch.y < 2048 }
+    requires right { stretch.x + stretch.run.len ≤ 2048 }
+    requires near { IsNear area }
+    requires inside { LieInBitmap bitmap.now area stretch.y (stretch.y + 1) stretch.x (stretch.x + stretch.run.len) }
+    ensures { cell.new ≡ with_live
+        (λ c. drawn (masked_run mask stretch) (from_bits bitmap.now area) c)
+        cell.old }
+{
     for plane in 0..cell.depth() {
         if has_bit(mask, plane) {
-            bitmap_plane(bitmap, cell, plane, y, columns, area);
+            bitmap_plane(bitmap, cell, plane, stretch, area);
         }
     }
 }
 
-// Blits one plane of a row.
-fn bitmap_plane(bitmap: &Planes, cell: &mut Cell, plane: u32, y: u32, columns: Places, area: Area)
+// Blits one plane of a run.
+fn bitmap_plane(bitmap: &Planes, cell: &mut Cell, plane: u32, stretch: Stretch, area: Area)
     requires live { cell.old.state ≡ view.Live }
     requires plane { plane < cell.old.live.layer.bits.depth }
-    requires row { y < 2048 }
-    requires columns { columns.from ≤ columns.end }
-    requires right { columns.end ≤ 2048 }
+    requires run { IsRun cell.old.live (λ i j. draws cell.old.live i j) stretch.x stretch.y stretch.run }
+    requires row { stretch.y < 2048 }
+    requires right { stretch.x + stretch.run.len ≤ 2048 }
     requires near { IsNear area }
-    requires inside { LieInBitmap bitmap.now area y (y + 1) columns.from columns.end }
+    requires inside { LieInBitmap bitmap.now area stretch.y (stretch.y + 1) stretch.x (stretch.x + stretch.run.len) }
     ensures { cell.new ≡ with_live
-        (λ c. drawn (in_plane plane c y columns.from columns.end) (from_bits bitmap.now area) c)
+        (λ c. drawn (λ p i j. p == plane && in_stretch stretch i j) (from_bits bitmap.now area) c)
         cell.old }
 {
-    let bit = source_index(columns.from, area.sx, area.x);
-    let line = source_index(y, area.sy, area.y);
+    let bit = source_index(stretch.x, area.sx, area.x);
+    let line = source_index(stretch.y, area.sy, area.y);
     let origin = Origin {
-        column: columns.from,
+        column: stretch.x,
         bit,
     };
-    paint_plane(
-        cell,
-        plane,
-        y,
-        columns,
-        row_of(bitmap, plane, line),
-        origin,
-        area.minterm,
-    );
+    let bits = row_of(bitmap, plane, line);
+    combine_run(cell, plane, stretch, bits, origin, area.minterm);
 }
 
 // The bits of one plane of a row of a bitmap; none is set in a plane that the bitmap lacks.

@@ -1,5 +1,5 @@
-//! Blits into the cell of a layer (the manual's Graphics Primitives chapter: BltBitMapRastPort, ClipBlit), row by row and plane by
-//! plane.
+//! Blits into the cell of a layer (the manual's Graphics Primitives chapter: BltBitMapRastPort, ClipBlit) and shifts of rows within a
+//! layer, row by row, run by run and plane by plane.
 #![tactic(auto)]
 
 mod between_layers;
@@ -7,11 +7,12 @@ mod bitmaps;
 mod painting;
 mod places;
 mod sources;
+mod transfers;
 mod within_layer;
 
 pub use between_layers::between;
 pub use bitmaps::from_bitmap;
-pub use within_layer::within;
+pub use within_layer::{shift_rows, within};
 
 #[cfg(test)]
 mod tests;

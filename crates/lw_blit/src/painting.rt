@@ -1,79 +1,119 @@
-// Painting bits onto a plane of a row of a layer, run by run.
+// Painting a row of a layer from rows that were read, run by run and plane by plane.
 
-ghost use Rattle.std.specs.Prelude.{◌≡◌, ◌==◌, ◌+◌, ◌-◌, ◌*◌, ◌^◌, ◌<◌, ◌≤◌, ◌&&◌, length};
+ghost use Rattle.std.specs.Prelude.{◌≡◌, ℕ, ◌==◌, ◌+◌, ◌<◌, ◌≤◌, ◌&&◌};
+ghost use Rattle.lw_planes.specs.Minterm.{minterm_bit};
 ghost use Rattle.lw_layer.specs.View.{draws, with_live};
 ghost use Rattle.lw_layer.specs.View as view;
 ghost use Rattle.lw_layer.specs.Runs.{IsRun};
 ghost use Rattle.lw_draw.specs.Drawn.{drawn};
 ghost use Rattle.lw_draw.specs.Stretches.{in_stretch};
-ghost use Rattle.lw_blit.specs.Blitting.{from_row, in_plane};
+ghost use Rattle.lw_blit.specs.Blitting.{from_rows, masked, masked_run};
 
-use lw_draw::{Places, Stretch, next_stretch};
+use crate::sources::SourceRows;
+use lw_draw::{Origin, Places, Stretch, combine_run, has_bit, next_stretch};
 use lw_kernels::combine;
 use lw_layer::Cell;
 
-// Where a row of bits goes: this bit of it, from its left, to this column of the layer.
-#[derive(Clone, Copy)]
-pub(crate) struct Origin {
-    pub column: u32,
-    pub bit: u32,
-}
-
-// Gives the drawable pixels of some columns of a row in one plane the minterm's values of the bits and of their own.
-pub(crate) fn paint_plane(
+// Gives the drawable pixels of some columns of a row the minterm's values of their sources and of their own bits. The sources go to
+// the columns from the first on.
+pub(crate) fn paint_row(
     cell: &mut Cell,
-    plane: u32,
     y: u32,
     columns: Places,
-    bits: &[u8],
-    origin: Origin,
+    rows: &SourceRows,
+    mask: u8,
     minterm: u8,
 )
     requires live { cell.old.state ≡ view.Live }
-    requires plane { plane < cell.old.live.layer.bits.depth }
     requires row { y < 65536 }
     requires columns { columns.from ≤ columns.end }
-    requires right { columns.end < 65536 }
-    requires starts { origin.column ≤ columns.from }
-    requires near { origin.bit < 2 ^ 20 }
-    requires inside { origin.bit + (columns.end - origin.column) ≤ 8 * length bits.now }
+    requires right { columns.end ≤ 2048 }
     ensures { cell.new ≡ with_live
-        (λ c. drawn (in_plane plane c y columns.from columns.end) (from_row minterm bits.now origin) c)
+        (λ c. drawn (masked mask c y (y + 1) columns.from columns.end) (from_rows minterm rows.now columns.from) c)
         cell.old }
 {
     // Reading this tells the proof that the layer has only pens of its depth.
     let _ = cell.depth();
     let mut x = columns.from;
     while let Some(stretch) = next_stretch(cell, x, y, columns.end) {
-        paint_run(cell, plane, stretch, bits, origin, minterm);
+        paint_run(cell, stretch, rows, columns.from, mask, minterm);
         x = stretch.x + stretch.run.len;
     }
 }
 
-// The same of a run.
+// The same of a run, with the sources from this column on.
 fn paint_run(
+    cell: &mut Cell,
+    stretch: Stretch,
+    rows: &SourceRows,
+    first: u32,
+    mask: u8,
+    minterm: u8,
+)
+    requires live { cell.old.state ≡ view.Live }
+    requires run { IsRun cell.old.live (λ i j. draws cell.old.live i j) stretch.x stretch.y stretch.run }
+    requires right { stretch.x + stretch.run.len ≤ 2048 }
+    requires starts { first ≤ stretch.x }
+    ensures { cell.new ≡ with_live
+        (λ c. drawn (masked_run mask stretch) (from_rows minterm rows.now first) c)
+        cell.old }
+{
+    for plane in 0..cell.depth() {
+        if has_bit(mask, plane) {
+            paint_plane(cell, plane, stretch, rows, first, minterm);
+        }
+    }
+}
+
+// The same in one plane.
+fn paint_plane(
     cell: &mut Cell,
     plane: u32,
     stretch: Stretch,
-    bits: &[u8],
-    origin: Origin,
+    rows: &SourceRows,
+    first: u32,
     minterm: u8,
 )
     requires live { cell.old.state ≡ view.Live }
     requires plane { plane < cell.old.live.layer.bits.depth }
     requires run { IsRun cell.old.live (λ i j. draws cell.old.live i j) stretch.x stretch.y stretch.run }
-    requires right { stretch.x + stretch.run.len < 65536 }
-    requires starts { origin.column ≤ stretch.x }
-    requires near { origin.bit < 2 ^ 20 }
-    requires inside { origin.bit + (stretch.x + stretch.run.len - origin.column) ≤ 8 * length bits.now }
+    requires right { stretch.x + stretch.run.len ≤ 2048 }
+    requires starts { first ≤ stretch.x }
     ensures { cell.new ≡ with_live
-        (λ c. drawn (λ p i j. p == plane && in_stretch stretch i j) (from_row minterm bits.now origin) c)
+        (λ c. drawn (λ p i j. p == plane && in_stretch stretch i j) (from_rows minterm rows.now first) c)
         cell.old }
 {
-    // As above.
+    // Reading this tells the proof that the layer has at most eight planes.
     let _ = cell.depth();
-    let run = stretch.run;
-    let place = origin.bit + (stretch.x - origin.column);
-    let row = cell.line_mut(plane, run.buffer, run.line);
-    combine(row, run.bit, bits, place, run.len, minterm);
+    let bits = &rows.bits[plane as usize];
+    let origin = Origin {
+        column: first,
+        bit: 0,
+    };
+    if rows.all {
+        combine_run(cell, plane, stretch, bits, origin, minterm);
+    } else {
+        combine_run(cell, plane, stretch, bits, origin, where_set(minterm));
+        // What is left are the pixels with a source that lack the bit.
+        let mut unset = rows.kept;
+        let place = stretch.x - first;
+        combine(&mut unset, place, bits, place, stretch.run.len, 0x20);
+        combine_run(cell, plane, stretch, &unset, origin, where_clear(minterm));
+    }
+}
+
+// The minterm whose value, where B is set, is the given one's, and where it isn't the old bit.
+fn where_set(minterm: u8) -> u8
+    ensures set { (c : ℕ) → c < 2 → minterm_bit result 1 c ≡ minterm_bit minterm 1 c }
+    ensures clear { (c : ℕ) → c < 2 → minterm_bit result 0 c ≡ c }
+{
+    (minterm & 0xc0) | 0x20
+}
+
+// The minterm whose value, where B is set, is the given one's where it isn't, and elsewhere the old bit.
+fn where_clear(minterm: u8) -> u8
+    ensures set { (c : ℕ) → c < 2 → minterm_bit result 1 c ≡ minterm_bit minterm 0 c }
+    ensures clear { (c : ℕ) → c < 2 → minterm_bit result 0 c ≡ c }
+{
+    ((minterm << 2) & 0xc0) | 0x20
 }

@@ -11,24 +11,24 @@ use lw_draw::{Places, edge};
 
 // Of `count` places from one on, those that lie in the layer and whose sources lie in the source, in which the first one's is at
 // `source`. Both extents are at most 2048.
-fn reached(place: i32, count: i32, source: i32, from: u32, to: u32) -> Places
+fn reached(place: i32, count: i32, source: i32, source_extent: u32, extent: u32) -> Places
     requires place_low { negsuc 65535 ≤ℤ place }
     requires place_high { place ≤ℤ pos 65535 }
     requires source_low { negsuc 65535 ≤ℤ source }
     requires source_high { source ≤ℤ pos 65535 }
     requires count_low { pos 0 ≤ℤ count }
     requires count_high { count ≤ℤ pos 65535 }
-    requires from { from ≤ 2048 }
-    requires to { to ≤ 2048 }
+    requires source_extent { source_extent ≤ 2048 }
+    requires extent { extent ≤ 2048 }
     ensures ordered { result.from ≤ result.end }
-    ensures inside { result.end ≤ to }
-    ensures has { (u : ℕ) → u < to →
-        (within place (pos u) ((place +ℤ count) -ℤ pos 1) && has_place from (pos u +ℤ (source -ℤ place))) ≡
+    ensures inside { result.end ≤ extent }
+    ensures has { (u : ℕ) → u < extent →
+        (within place (pos u) ((place +ℤ count) -ℤ pos 1) && has_place source_extent (pos u +ℤ (source -ℤ place))) ≡
         is_between result.from result.end u }
 {
     let shift = place - source;
-    let first = edge(place.max(shift), to);
-    let end = edge((place + count).min(shift + from as i32), to);
+    let first = edge(place.max(shift), extent);
+    let end = edge((place + count).min(shift + source_extent as i32), extent);
     Places {
         from: first,
         end: end.max(first),
@@ -36,46 +36,44 @@ fn reached(place: i32, count: i32, source: i32, from: u32, to: u32) -> Places
 }
 
 // The layer's columns that a blit reaches, from a source of this width.
-pub(crate) fn columns_of(area: &Area, from: u32, to: u32) -> Places
+pub(crate) fn columns_of(area: &Area, source_extent: u32, extent: u32) -> Places
     requires near { IsNear area.now }
-    requires from { from ≤ 2048 }
-    requires to { to ≤ 2048 }
+    requires source_extent { source_extent ≤ 2048 }
+    requires extent { extent ≤ 2048 }
     ensures ordered { result.from ≤ result.end }
-    ensures inside { result.end ≤ to }
-    ensures has { (u : ℕ) → u < to →
-        (within area.now.x (pos u) ((area.now.x +ℤ area.now.w) -ℤ pos 1) && has_place from (source_column area.now u)) ≡
+    ensures inside { result.end ≤ extent }
+    ensures has { (u : ℕ) → u < extent →
+        (within area.now.x (pos u) ((area.now.x +ℤ area.now.w) -ℤ pos 1) && has_place source_extent (source_column area.now u)) ≡
         is_between result.from result.end u }
 {
-    reached(area.x, area.w, area.sx, from, to)
+    reached(area.x, area.w, area.sx, source_extent, extent)
 }
 
 // Its rows that a blit reaches, from a source of this height.
-pub(crate) fn rows_of(area: &Area, from: u32, to: u32) -> Places
+pub(crate) fn rows_of(area: &Area, source_extent: u32, extent: u32) -> Places
     requires near { IsNear area.now }
-    requires from { from ≤ 2048 }
-    requires to { to ≤ 2048 }
+    requires source_extent { source_extent ≤ 2048 }
+    requires extent { extent ≤ 2048 }
     ensures ordered { result.from ≤ result.end }
-    ensures inside { result.end ≤ to }
-    ensures has { (u : ℕ) → u < to →
-        (within area.now.y (pos u) ((area.now.y +ℤ area.now.h) -ℤ pos 1) && has_place from (source_row area.now u)) ≡
+    ensures inside { result.end ≤ extent }
+    ensures has { (u : ℕ) → u < extent →
+        (within area.now.y (pos u) ((area.now.y +ℤ area.now.h) -ℤ pos 1) && has_place source_extent (source_row area.now u)) ≡
         is_between result.from result.end u }
 {
-    reached(area.y, area.h, area.sy, from, to)
+    reached(area.y, area.h, area.sy, source_extent, extent)
 }
 
-// The column of the source that goes to a column, or the row that goes to a row.
-pub(crate) fn source_place(place: u32, source: i32, to: i32) -> i32
+// The column of the source of a column, or the row of that of a row.
+pub(crate) fn source_place(place: u32, shift: i32) -> i32
     requires near { place ≤ 65536 }
-    requires source_low { negsuc 65535 ≤ℤ source }
-    requires source_high { source ≤ℤ pos 65535 }
-    requires to_low { negsuc 65535 ≤ℤ to }
-    requires to_high { to ≤ℤ pos 65535 }
-    ensures { result ≡ pos place +ℤ (source -ℤ to) }
+    requires low { negsuc 131071 ≤ℤ shift }
+    requires high { shift ≤ℤ pos 131071 }
+    ensures { result ≡ pos place +ℤ shift }
 {
-    place as i32 + (source - to)
+    place as i32 + shift
 }
 
-// The same where the source has that column or row.
+// The same of a blit, where the source has that column or row.
 pub(crate) fn source_index(place: u32, source: i32, to: i32) -> u32
     requires near { place ≤ 65536 }
     requires source_low { negsuc 65535 ≤ℤ source }
@@ -86,5 +84,5 @@ pub(crate) fn source_index(place: u32, source: i32, to: i32) -> u32
     ensures value { pos result ≡ pos place +ℤ (source -ℤ to) }
     ensures near { result < 2 ^ 20 }
 {
-    source_place(place, source, to) as u32
+    (place as i32 + (source - to)) as u32
 }

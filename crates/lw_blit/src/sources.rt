@@ -1,127 +1,136 @@
-// Rows of a layer as sources, and what they give to a plane of a row.
+// Rows of a layer as sources.
 
 ghost use Rattle.std.specs.Prelude.{◌≡◌, ℕ, ◌+◌, ◌-◌, ◌*◌, ◌<◌, ◌≤◌, true, length, slice_index, pos, ◌+ℤ◌};
 ghost use Rattle.lw_planes.specs.Row.{bit_of, row_bit};
-ghost use Rattle.lw_planes.specs.Minterm.{minterm_bit};
 ghost use Rattle.lw_machine.specs.Kept.{holds_at};
-ghost use Rattle.lw_layer.specs.View.{keeps, with_live};
+ghost use Rattle.lw_layer.specs.View.{keeps};
 ghost use Rattle.lw_layer.specs.View as view;
 ghost use Rattle.lw_layer.specs.Copied.{kept_bit};
-ghost use Rattle.lw_draw.specs.Drawn.{drawn};
-ghost use Rattle.lw_blit.specs.Blitting.{from_row_where, in_plane, IsSourceRow, IsNear};
+ghost use Rattle.lw_blit.specs.Blitting.{plane_of, AreRead, AreSources, AreNear};
 
-use crate::painting::{Origin, paint_plane};
 use crate::places::source_place;
-use lw_calls::Area;
-use lw_draw::Places;
-use lw_kernels::{combine, fill};
+use crate::transfers::Transfer;
+use lw_draw::{Places, has_bit};
+use lw_kernels::fill;
 use lw_layer::Cell;
 
 // A row of a layer is at most 2048 pixels wide.
-const MOST: usize = 256;
+pub(crate) const MOST: usize = 256;
 
-// One plane's bits of pixels side by side, and a bit for each that the layer keeps.
+// The bits of pixels side by side, plane by plane, and a bit for each that the layer keeps.
 #[derive(Drop)]
-pub(crate) struct SourceRow {
-    pub bits: [u8; MOST],
-    pub there: [u8; MOST],
+pub(crate) struct SourceRows {
+    pub bits: [[u8; MOST]; 8],
+    pub kept: [u8; MOST],
+    // All pixels take their sources, whatever is kept.
+    pub all: bool,
 }
 
-// Reads one plane of the pixels that go to some columns of a row.
-pub(crate) fn source_row(
+// Rows in which nothing was read so far.
+pub(crate) fn no_sources() -> SourceRows {
+    SourceRows {
+        bits: [[0; MOST]; 8],
+        kept: [0; MOST],
+        all: false,
+    }
+}
+
+// Reads the sources of some columns of a row, in the first planes, as far as the mask has them.
+pub(crate) fn read_sources(
     source: &Cell,
-    plane: u32,
+    planes: u32,
     y: u32,
     columns: Places,
-    area: Area,
-) -> SourceRow
+    transfer: Transfer,
+    mask: u8,
+    rows: &mut SourceRows,
+)
     requires live { source.now.state ≡ view.Live }
+    requires planes { planes ≤ 8 }
     requires row { y < 65536 }
     requires columns { columns.from ≤ columns.end }
     requires right { columns.end ≤ 2048 }
-    requires near { IsNear area }
-    ensures { IsSourceRow source.now.live area plane y columns.from columns.end result }
+    requires near { AreNear transfer }
+    ensures { AreSources source.now.live transfer mask planes y columns.from columns.end rows.new }
 {
-    let x = source_place(columns.from, area.sx, area.x);
-    let line = source_place(y, area.sy, area.y);
-    let mut bits = [0; MOST];
-    let mut there = [0; MOST];
-    let bytes = (columns.end - columns.from).div_ceil(8) as usize;
-    copy_pixels(
-        source,
-        plane,
-        x,
-        line,
-        &mut bits[..bytes],
-        &mut there[..bytes],
-    );
-    SourceRow { bits, there }
+    let x = source_place(columns.from, transfer.dx);
+    let line = source_place(y, transfer.dy);
+    let count = columns.end - columns.from;
+    read_planes(source, planes, x, line, count, mask, rows);
+    rows.all = transfer.clears || has_all(&mut rows.kept, count);
+}
+
+// Reads so many pixels of a row of a layer, from column x on.
+fn read_planes(
+    source: &Cell,
+    planes: u32,
+    x: i32,
+    y: i32,
+    count: u32,
+    mask: u8,
+    rows: &mut SourceRows,
+)
+    requires live { source.now.state ≡ view.Live }
+    requires planes { planes ≤ 8 }
+    requires few { count ≤ 2048 }
+    ensures { AreRead source.now.live mask planes x y count rows.new }
+{
+    let bytes = count.div_ceil(8) as usize;
+    for plane in 0..planes {
+        if has_bit(mask, plane) {
+            let bits = &mut rows.bits[plane as usize];
+            read_plane(source, plane, x, y, bytes, bits, &mut rows.kept);
+        }
+    }
+}
+
+// Reads the bits of one plane in the first bytes of a row, and which pixels are kept.
+fn read_plane(
+    source: &Cell,
+    plane: u32,
+    x: i32,
+    y: i32,
+    bytes: usize,
+    bits: &mut [u8; MOST],
+    kept: &mut [u8; MOST],
+)
+    requires live { source.now.state ≡ view.Live }
+    requires few { bytes ≤ 256 }
+    ensures bits { (i : ℕ) → i < 8 * bytes → row_bit bits.new i ≡ kept_bit source.now.live plane (x +ℤ pos i) y }
+    ensures kept { (i : ℕ) → i < 8 * bytes → row_bit kept.new i ≡
+        bit_of (holds_at (λ u v. keeps source.now.live u v) (x +ℤ pos i) y) }
+{
+    copy_pixels(source, plane, x, y, &mut bits[..bytes], &mut kept[..bytes]);
 }
 
 // As `Cell::copy_row`, for any plane: one that the layer lacks has no bits.
-fn copy_pixels(source: &Cell, plane: u32, x: i32, y: i32, bits: &mut [u8], there: &mut [u8])
+fn copy_pixels(source: &Cell, plane: u32, x: i32, y: i32, bits: &mut [u8], kept: &mut [u8])
     requires live { source.now.state ≡ view.Live }
-    requires equally_long { length there.old ≡ length bits.old }
+    requires equally_long { length kept.old ≡ length bits.old }
     requires few { length bits.old ≤ 256 }
     ensures long { length bits.new ≡ length bits.old }
-    ensures long_there { length there.new ≡ length there.old }
+    ensures long_kept { length kept.new ≡ length kept.old }
     ensures bits { (i : ℕ) → i < 8 * length bits.new → row_bit bits.new i ≡ kept_bit source.now.live plane (x +ℤ pos i) y }
-    ensures there { (i : ℕ) → i < 8 * length there.new → row_bit there.new i ≡
+    ensures kept { (i : ℕ) → i < 8 * length kept.new → row_bit kept.new i ≡
         bit_of (holds_at (λ u v. keeps source.now.live u v) (x +ℤ pos i) y) }
 {
     if plane < source.depth() {
-        source.copy_row(plane, x, y, bits, there);
+        source.copy_row(plane, x, y, bits, kept);
     } else {
-        source.copy_row(0, x, y, bits, there);
+        source.copy_row(0, x, y, bits, kept);
         fill(bits, 0, 8 * bits.len() as u32, false);
     }
 }
 
-// Gives the drawable pixels of some columns of a row in one plane, where they have a source, the minterm's values of their
-// sources and of their own bits. The sources go to the columns from the first on.
-pub(crate) fn blend_plane(
-    cell: &mut Cell,
-    plane: u32,
-    y: u32,
-    columns: Places,
-    row: SourceRow,
-    minterm: u8,
-)
-    requires live { cell.old.state ≡ view.Live }
-    requires plane { plane < cell.old.live.layer.bits.depth }
-    requires row { y < 65536 }
-    requires columns { columns.from ≤ columns.end }
-    requires right { columns.end ≤ 2048 }
-    requires clear { (i : ℕ) → i < columns.end - columns.from → row_bit row.there i ≡ 0 → row_bit row.bits i ≡ 0 }
-    ensures { cell.new ≡ with_live
-        (λ c. drawn (in_plane plane c y columns.from columns.end) (from_row_where minterm row columns.from) c)
-        cell.old }
-{
-    let origin = Origin {
-        column: columns.from,
-        bit: 0,
-    };
-    let count = columns.end - columns.from;
-    let mut bits = row.bits;
-    if has_all(row.there, count) {
-        paint_plane(cell, plane, y, columns, &bits, origin, minterm);
-    } else {
-        paint_plane(cell, plane, y, columns, &bits, origin, where_set(minterm));
-        // What is left are the pixels with a source that lack the bit.
-        combine(&mut bits, 0, &row.there, 0, count, 0x40);
-        paint_plane(cell, plane, y, columns, &bits, origin, where_clear(minterm));
-    }
-}
-
-// The first bits of a row are all set.
-fn has_all(row: [u8; MOST], count: u32) -> bool
+// The first bits of a row are all set; of its bits behind them some are set.
+fn has_all(row: &mut [u8; MOST], count: u32) -> bool
     requires { count ≤ 2048 }
-    ensures { result ≡ true → (i : ℕ) → i < count → row_bit row i ≡ 1 }
+    ensures all { result ≡ true → (i : ℕ) → i < count → row_bit row.new i ≡ 1 }
+    ensures same { (i : ℕ) → i < count → row_bit row.new i ≡ row_bit row.old i }
 {
-    let mut whole = row;
     let bytes = count.div_ceil(8);
-    fill(&mut whole, count, 8 * bytes - count, true);
-    are_full(&whole[..bytes as usize])
+    fill(row, count, 8 * bytes - count, true);
+    are_full(&row[..bytes as usize])
 }
 
 // All bits are set.
@@ -134,20 +143,4 @@ fn are_full(bytes: &[u8]) -> bool
         }
     }
     true
-}
-
-// The minterm whose value, where B is set, is the given one's, and where it isn't the old bit.
-fn where_set(minterm: u8) -> u8
-    ensures set { (c : ℕ) → c < 2 → minterm_bit result 1 c ≡ minterm_bit minterm 1 c }
-    ensures clear { (c : ℕ) → c < 2 → minterm_bit result 0 c ≡ c }
-{
-    (minterm & 0xc0) | 0x20
-}
-
-// The minterm whose value, where B is set, is the given one's where it isn't, and elsewhere the old bit.
-fn where_clear(minterm: u8) -> u8
-    ensures set { (c : ℕ) → c < 2 → minterm_bit result 1 c ≡ minterm_bit minterm 0 c }
-    ensures clear { (c : ℕ) → c < 2 → minterm_bit result 0 c ≡ c }
-{
-    ((minterm << 2) & 0xc0) | 0x20
 }

@@ -1,18 +1,25 @@
-// Blits within a layer, whose sources are its pixels before the call.
+// Blits and shifts within a layer: the sources are its pixels before the call.
 
-ghost use Rattle.std.specs.Prelude.{◌≡◌, ◌+◌, ◌<◌, ◌≤◌, ◌≤ℤ◌, IsTrue};
+ghost use Rattle.std.specs.Prelude.{◌≡◌, ◌==◌, ◌+◌, ◌<◌, ◌≤◌, ◌&&◌, pos, negsuc, ◌+ℤ◌, ◌≤ℤ◌, IsTrue};
+ghost use Rattle.std.specs.Int.{bit_at};
 ghost use Rattle.lw_calls.specs.Limits.{area_fits};
 ghost use Rattle.lw_machine.specs.Blits.{clip_blit};
 ghost use Rattle.lw_layer.specs.View.{shows, with_live, with_layer};
 ghost use Rattle.lw_layer.specs.View as view;
-ghost use Rattle.lw_draw.specs.Drawn.{drawn};
-ghost use Rattle.lw_blit.specs.Blitting.{from_layer, in_plane, masked, IsNear};
+ghost use Rattle.lw_layer.specs.Copied.{kept_bit};
+ghost use Rattle.lw_draw.specs.Drawn.{drawn, in_rows};
+ghost use Rattle.lw_blit.specs.Blitting.{from_layer, masked, AreNear};
 
+use crate::painting::paint_row;
 use crate::places::{columns_of, rows_of};
-use crate::sources::{blend_plane, source_row};
+use crate::sources::{SourceRows, no_sources, read_sources};
+use crate::transfers::{Transfer, transfer_of};
 use lw_calls::Area;
-use lw_draw::{Places, has_bit};
+use lw_draw::Places;
 use lw_layer::Cell;
+
+// The minterm of B.
+const COPY: u8 = 0xc0;
 
 /// Combines the drawable pixels of a rectangle of a layer with the layer's own pixels that go there, by the minterm and through
 /// the mask (`ClipBlit`). The rectangles may overlap: the sources are as before the call. A pixel whose source isn't kept stays as
@@ -28,99 +35,117 @@ pub fn within(cell: &mut Cell, area: &Area)
     let rows = rows_of(area, cell.height(), cell.height());
     let mask = cell.raster().mask;
     if columns.from < columns.end {
-        within_rows(cell, rows, columns, *area, mask);
+        transfer_rows(cell, rows, columns, transfer_of(area), mask);
     }
 }
 
-// Blits some rows, in an order in which none is read after it was written.
-fn within_rows(cell: &mut Cell, rows: Places, columns: Places, area: Area, mask: u8)
+/// Gives the drawable pixels of some rows and columns of a layer, in the planes that the mask has, the bits of the layer's own
+/// pixels `dx` columns to the right and `dy` rows down, as they were before the call, and 0 where that pixel isn't kept. No memory
+/// is taken.
+pub fn shift_rows(cell: &mut Cell, rows: Places, columns: Places, dx: i32, dy: i32, mask: u8)
     requires live { cell.old.state ≡ view.Live }
     requires rows { rows.from ≤ rows.end }
     requires bottom { rows.end ≤ 2048 }
     requires columns { columns.from ≤ columns.end }
     requires right { columns.end ≤ 2048 }
-    requires near { IsNear area }
+    requires dx_low { negsuc 65535 ≤ℤ dx }
+    requires dx_high { dx ≤ℤ pos 65535 }
+    requires dy_low { negsuc 65535 ≤ℤ dy }
+    requires dy_high { dy ≤ℤ pos 65535 }
     ensures { cell.new ≡ with_live
-        (λ c. drawn (masked mask c rows.from rows.end columns.from columns.end) (from_layer c area) c)
+        (λ c. drawn (λ p i j. bit_at mask p == 1 && in_rows c rows.from rows.end columns.from columns.end i j)
+        (λ p i j old. kept_bit c p (pos i +ℤ dx) (pos j +ℤ dy)) c)
         cell.old }
 {
-    if area.sy >= area.y {
-        rows_down(cell, rows, columns, area, mask);
-    } else {
-        rows_up(cell, rows, columns, area, mask);
-    }
+    let transfer = Transfer {
+        dx,
+        dy,
+        minterm: COPY,
+        clears: true,
+    };
+    transfer_rows(cell, rows, columns, transfer, mask);
 }
 
-// Blits some rows from the top down: each source row lies no higher than where it goes, so that it wasn't written so far.
-fn rows_down(cell: &mut Cell, rows: Places, columns: Places, area: Area, mask: u8)
+// Transfers some rows, in an order in which none is read after it was written.
+fn transfer_rows(cell: &mut Cell, rows: Places, columns: Places, transfer: Transfer, mask: u8)
     requires live { cell.old.state ≡ view.Live }
     requires rows { rows.from ≤ rows.end }
     requires bottom { rows.end ≤ 2048 }
     requires columns { columns.from ≤ columns.end }
     requires right { columns.end ≤ 2048 }
-    requires near { IsNear area }
-    requires order { area.y ≤ℤ area.sy }
+    requires near { AreNear transfer }
     ensures { cell.new ≡ with_live
-        (λ c. drawn (masked mask c rows.from rows.end columns.from columns.end) (from_layer c area) c)
+        (λ c. drawn (masked mask c rows.from rows.end columns.from columns.end) (from_layer c transfer) c)
+        cell.old }
+{
+    if transfer.dy >= 0 {
+        rows_down(cell, rows, columns, transfer, mask);
+    } else {
+        rows_up(cell, rows, columns, transfer, mask);
+    }
+}
+
+// Transfers some rows from the top down: each source row lies no higher than where it goes, so that it wasn't written so far.
+fn rows_down(cell: &mut Cell, rows: Places, columns: Places, transfer: Transfer, mask: u8)
+    requires live { cell.old.state ≡ view.Live }
+    requires rows { rows.from ≤ rows.end }
+    requires bottom { rows.end ≤ 2048 }
+    requires columns { columns.from ≤ columns.end }
+    requires right { columns.end ≤ 2048 }
+    requires near { AreNear transfer }
+    requires order { pos 0 ≤ℤ transfer.dy }
+    ensures { cell.new ≡ with_live
+        (λ c. drawn (masked mask c rows.from rows.end columns.from columns.end) (from_layer c transfer) c)
         cell.old }
 {
     // Reading this tells the proof that the layer has only pens of its depth.
     let _ = cell.depth();
+    let mut sources = no_sources();
     for y in rows.from..rows.end {
-        within_row(cell, y, columns, area, mask);
+        transfer_row(cell, y, columns, transfer, mask, &mut sources);
     }
 }
 
-// Blits some rows from the bottom up: each source row lies no lower than where it goes.
-fn rows_up(cell: &mut Cell, rows: Places, columns: Places, area: Area, mask: u8)
+// Transfers some rows from the bottom up: each source row lies no lower than where it goes.
+fn rows_up(cell: &mut Cell, rows: Places, columns: Places, transfer: Transfer, mask: u8)
     requires live { cell.old.state ≡ view.Live }
     requires rows { rows.from ≤ rows.end }
     requires bottom { rows.end ≤ 2048 }
     requires columns { columns.from ≤ columns.end }
     requires right { columns.end ≤ 2048 }
-    requires near { IsNear area }
-    requires order { area.sy ≤ℤ area.y }
+    requires near { AreNear transfer }
+    requires order { transfer.dy ≤ℤ pos 0 }
     ensures { cell.new ≡ with_live
-        (λ c. drawn (masked mask c rows.from rows.end columns.from columns.end) (from_layer c area) c)
+        (λ c. drawn (masked mask c rows.from rows.end columns.from columns.end) (from_layer c transfer) c)
         cell.old }
 {
     // As above.
     let _ = cell.depth();
+    let mut sources = no_sources();
     for y in (rows.from..rows.end).rev() {
-        within_row(cell, y, columns, area, mask);
+        transfer_row(cell, y, columns, transfer, mask, &mut sources);
     }
 }
 
-// Blits a row, plane by plane.
-fn within_row(cell: &mut Cell, y: u32, columns: Places, area: Area, mask: u8)
+// Transfers a row, once all of its sources are read.
+fn transfer_row(
+    cell: &mut Cell,
+    y: u32,
+    columns: Places,
+    transfer: Transfer,
+    mask: u8,
+    sources: &mut SourceRows,
+)
     requires live { cell.old.state ≡ view.Live }
     requires row { y < 2048 }
     requires columns { columns.from ≤ columns.end }
     requires right { columns.end ≤ 2048 }
-    requires near { IsNear area }
+    requires near { AreNear transfer }
     ensures { cell.new ≡ with_live
-        (λ c. drawn (masked mask c y (y + 1) columns.from columns.end) (from_layer c area) c)
+        (λ c. drawn (masked mask c y (y + 1) columns.from columns.end) (from_layer c transfer) c)
         cell.old }
 {
-    for plane in 0..cell.depth() {
-        if has_bit(mask, plane) {
-            within_plane(cell, plane, y, columns, area);
-        }
-    }
-}
-
-// Blits one plane of a row, once all of its sources are read.
-fn within_plane(cell: &mut Cell, plane: u32, y: u32, columns: Places, area: Area)
-    requires live { cell.old.state ≡ view.Live }
-    requires plane { plane < cell.old.live.layer.bits.depth }
-    requires row { y < 2048 }
-    requires columns { columns.from ≤ columns.end }
-    requires right { columns.end ≤ 2048 }
-    requires near { IsNear area }
-    ensures { cell.new ≡ with_live
-        (λ c. drawn (in_plane plane c y columns.from columns.end) (from_layer c area) c)
-        cell.old }
-{
-    let row = source_row(cell, plane, y, columns, area);
-    blend_plane(cell, plane, y, columns, row, area.minterm);
+    let planes = cell.depth();
+    read_sources(cell, planes, y, columns, transfer, mask, sources);
+    paint_row(cell, y, columns, sources, mask, transfer.minterm);
 }

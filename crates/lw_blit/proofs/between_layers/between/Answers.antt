@@ -1,7 +1,8 @@
 use Rattle.std.proofs.Common.{◌∙◌, ap, arith}
 use Rattle.lw_layer.specs.View.{LiveView}
 use Rattle.lw_machine.specs.Layer.{Raster}
-use Rattle.lw_blit.specs.Blitting.{from_layer}
+use Rattle.lw_draw.specs.Drawn.{drawn}
+use Rattle.lw_blit.specs.Blitting.{blit_by, from_layer, masked}
 use Rattle.lw_blit.proofs.ShapeLaws.{area_near, layer_blitted, reached_by, nothing_reached}
 use Rattle.lw_blit.proofs.between_layers.between.Goals as goal
 
@@ -11,8 +12,8 @@ columns_of-columns-requires-clause-near c = area_near c.args.area.now c.requires
 pub rows_of-rows-requires-clause-near : goal.rows_of-rows-requires-clause-near
 rows_of-rows-requires-clause-near c = area_near c.args.area.now c.requires.fits
 
-pub between_rows-requires-clause-near : goal.between_rows-requires-clause-near
-between_rows-requires-clause-near c = area_near c.args.area.now c.requires.fits
+pub transfer_of-requires : goal.transfer_of-requires
+transfer_of-requires c = area_near c.args.area.now c.requires.fits
 
 pub returns-then-columns : goal.returns-then-columns
 returns-then-columns c =
@@ -22,8 +23,9 @@ returns-then-columns c =
     let columns = c.columns_of-columns.result in
     c.between_rows.ensures ∙
     ap (λ (q : LiveView). record v { live = q })
+    (ap (λ t. drawn (masked c.raster-mask.result.mask v.live rows.from rows.end columns.from columns.end) (from_layer u t) v.live) c.transfer_of.ensures.value ∙
     (layer_blitted v.live u c.args.area.now _ rows.from rows.end columns.from columns.end c.width-2.ensures.bits.bitmap (ap (λ (r : Raster). r.mask) c.raster-mask.ensures.value)
-    (reached_by c.args.area.now u.layer.bits.width u.layer.bits.height v.live.layer.bits.width v.live.layer.bits.height _ _ _ _ rows.from rows.end columns.from columns.end c.width.ensures.value c.height.ensures.value c.width-2.ensures.value c.height-2.ensures.value c.columns_of-columns.ensures.has c.rows_of-rows.ensures.has))
+    (reached_by c.args.area.now u.layer.bits.width u.layer.bits.height v.live.layer.bits.width v.live.layer.bits.height _ _ _ _ rows.from rows.end columns.from columns.end c.width.ensures.value c.height.ensures.value c.width-2.ensures.value c.height-2.ensures.value c.columns_of-columns.ensures.has c.rows_of-rows.ensures.has)))
 
 pub returns-else-columns : goal.returns-else-columns
 returns-else-columns c =
@@ -31,7 +33,7 @@ returns-else-columns c =
     let u = c.args.source.now.live in
     let rows = c.rows_of-rows.result in
     let columns = c.columns_of-columns.result in
-    nothing_reached v c.raster-mask.result.mask rows.from rows.end columns.from columns.end (from_layer u c.args.area.now) c.width-2.ensures.bits.bitmap (omega arith) ∙
+    nothing_reached v c.raster-mask.result.mask rows.from rows.end columns.from columns.end (from_layer u (blit_by c.args.area.now)) c.width-2.ensures.bits.bitmap (omega arith) ∙
     ap (λ (q : LiveView). record v { live = q })
     (layer_blitted v.live u c.args.area.now _ rows.from rows.end columns.from columns.end c.width-2.ensures.bits.bitmap (ap (λ (r : Raster). r.mask) c.raster-mask.ensures.value)
     (reached_by c.args.area.now u.layer.bits.width u.layer.bits.height v.live.layer.bits.width v.live.layer.bits.height _ _ _ _ rows.from rows.end columns.from columns.end c.width.ensures.value c.height.ensures.value c.width-2.ensures.value c.height-2.ensures.value c.columns_of-columns.ensures.has c.rows_of-rows.ensures.has))

@@ -1,30 +1,7 @@
-use Rattle.std.proofs.Common.{◌∙◌, sym, arith}
-use Rattle.lw_draw.proofs.PaintLaws.{depth_stays}
-use Rattle.lw_blit.specs.Blitting.{from_layer, planes_before}
-use Rattle.lw_blit.proofs.LoopLaws.{layer_gives_bits, no_planes, plane_painted, plane_left, planes_done}
+use Rattle.std.proofs.Common.{arith}
+use Rattle.lw_blit.proofs.SourceLaws.{row_as_layer}
 use Rattle.lw_blit.proofs.between_layers.between_row.Goals as goal
-use Rattle.lw_blit.proofs.between_layers.between_row.Goals.{then-has_bit, else-has_bit}
-
-pub loop-plane-init : goal.loop-plane-init
-loop-plane-init c = no_planes c.args.to.now c.args.mask c.args.y c.args.columns.from c.args.columns.end (from_layer c.args.source.now.live c.args.area) c.depth-plane-end.ensures.bits.bitmap
-
-pub between_plane-requires-clause-plane : goal.between_plane-requires-clause-plane
-between_plane-requires-clause-plane c =
-    let same = depth_stays c.args.to.now c.loop-plane.to (planes_before c.args.mask c.loop-plane.plane c.args.to.now.live c.args.y c.args.columns.from c.args.columns.end) (from_layer c.args.source.now.live c.args.area) c.loop-plane.invariant in
-    omega (arith, same, c.depth-plane-end.ensures.value)
-
-pub loop-plane-preserved : goal.loop-plane-preserved
-loop-plane-preserved c =
-    let v = c.args.to.now in
-    let k = c.loop-plane.plane in
-    let from = c.args.columns.from in
-    let end = c.args.columns.end in
-    let new = from_layer c.args.source.now.live c.args.area in
-    elim c.if-has_bit.branch [
-      | then-has_bit w ↦ w.to-is ∙ plane_painted v c.loop-plane.to w.between_plane.new.to c.args.mask k c.args.y from end new (layer_gives_bits c.args.source.now.live c.args.area) (sym c.has_bit.ensures ∙ w.if-has_bit.true) c.loop-plane.invariant w.between_plane.ensures
-      | else-has_bit w ↦ w.to-is ∙ plane_left v c.loop-plane.to c.args.mask k c.args.y from end new (sym c.has_bit.ensures ∙ w.if-has_bit.false) c.loop-plane.invariant
-    ]
 
 pub returns : goal.returns
 returns c =
-    planes_done c.args.to.now c.loop-plane.to c.args.mask c.loop-plane.plane c.args.y c.args.columns.from c.args.columns.end (from_layer c.args.source.now.live c.args.area) (omega (arith, c.depth-plane-end.ensures.value)) c.loop-plane.invariant
+    row_as_layer c.args.to.now c.paint_row.new.cell c.args.source.now.live c.args.transfer c.args.mask c.depth-planes.result c.args.y c.args.columns.from c.args.columns.end c.read_sources.new.rows c.read_sources.ensures (omega (arith, c.depth-planes.ensures.value)) c.paint_row.ensures

@@ -5,4 +5,4 @@ use Rattle.lw_blit.specs.Blitting.{from_layer, masked}
 use Rattle.lw_blit.proofs.between_layers.between_rows.Given as goal
 
 abbrev pub invariant-loop-y : goal.invariant-loop-y
-invariant-loop-y l = l.to ≡ with_live (λ c. drawn (masked l.mask c l.fn.rows.from l.y l.columns.from l.columns.end) (from_layer l.source.live l.area) c) l.initial.to
+invariant-loop-y l = l.to ≡ with_live (λ c. drawn (masked l.mask c l.fn.rows.from l.y l.columns.from l.columns.end) (from_layer l.source.live l.transfer) c) l.initial.to

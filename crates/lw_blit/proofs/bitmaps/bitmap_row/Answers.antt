@@ -1,30 +1,47 @@
-use Rattle.std.proofs.Common.{◌∙◌, sym, arith}
-use Rattle.lw_draw.proofs.PaintLaws.{depth_stays}
-use Rattle.lw_blit.specs.Blitting.{from_bits, planes_before}
-use Rattle.lw_blit.proofs.LoopLaws.{bitmap_gives_bits, no_planes, plane_painted, plane_left, planes_done}
+use Rattle.std.proofs.Common.{◌+◌, pos, ◌≤ℤ◌, arith}
+use Rattle.std.proofs.lemmas.Int.{ints}
+use Rattle.lw_draw.proofs.PaintLaws.{first_stays}
+use Rattle.lw_blit.specs.Blitting.{from_bits, masked}
+use Rattle.lw_blit.proofs.LoopLaws.{bitmap_gives_bits}
+use Rattle.lw_blit.proofs.RunLaws.{no_runs, run_more, runs_done}
+use Rattle.lw_blit.proofs.ShapeLaws.{run_lies}
 use Rattle.lw_blit.proofs.bitmaps.bitmap_row.Goals as goal
-use Rattle.lw_blit.proofs.bitmaps.bitmap_row.Goals.{then-has_bit, else-has_bit}
 
-pub loop-plane-init : goal.loop-plane-init
-loop-plane-init c = no_planes c.args.cell.now c.args.mask c.args.y c.args.columns.from c.args.columns.end (from_bits c.args.bitmap.now c.args.area) c.depth-plane-end.ensures.bits.bitmap
+pub loop-stretch-init : goal.loop-stretch-init
+loop-stretch-init c = record {
+  first = omega arith;
+  last = c.requires.columns;
+  painted = no_runs c.args.cell.now c.args.mask c.args.y c.args.columns.from (from_bits c.args.bitmap.now c.args.area) c.depth.ensures.bits.bitmap;
+}
 
-pub bitmap_plane-requires-clause-plane : goal.bitmap_plane-requires-clause-plane
-bitmap_plane-requires-clause-plane c =
-    let same = depth_stays c.args.cell.now c.loop-plane.cell (planes_before c.args.mask c.loop-plane.plane c.args.cell.now.live c.args.y c.args.columns.from c.args.columns.end) (from_bits c.args.bitmap.now c.args.area) c.loop-plane.invariant in
-    omega (arith, same, c.depth-plane-end.ensures.value)
-
-pub loop-plane-preserved : goal.loop-plane-preserved
-loop-plane-preserved c =
+pub loop-stretch-preserved : goal.loop-stretch-preserved
+loop-stretch-preserved c =
     let v = c.args.cell.now in
-    let k = c.loop-plane.plane in
     let from = c.args.columns.from in
     let end = c.args.columns.end in
+    let x = c.loop-stretch.x in
+    let y = c.args.y in
+    let s = c.in-Some.stretch in
     let new = from_bits c.args.bitmap.now c.args.area in
-    elim c.if-has_bit.branch [
-      | then-has_bit w ↦ w.cell-is ∙ plane_painted v c.loop-plane.cell w.bitmap_plane.new.cell c.args.mask k c.args.y from end new (bitmap_gives_bits c.args.bitmap.now c.args.area) (sym c.has_bit.ensures ∙ w.if-has_bit.true) c.loop-plane.invariant w.bitmap_plane.ensures
-      | else-has_bit w ↦ w.cell-is ∙ plane_left v c.loop-plane.cell c.args.mask k c.args.y from end new (sym c.has_bit.ensures ∙ w.if-has_bit.false) c.loop-plane.invariant
-    ]
+    let done = c.loop-stretch.invariant in
+    let next = first_stays v c.loop-stretch.cell (masked c.args.mask v.live y (y + 1) from x) new x y end s done.painted c.in-Some.ensures in
+    let reaches : pos x ≤ℤ pos s.x = next.column.reaches in
+    record {
+      first = omega (arith, ints, done.first);
+      last = next.ends;
+      painted = run_more v c.loop-stretch.cell c.bitmap_run.new.cell c.args.mask y from x end s new (bitmap_gives_bits c.args.bitmap.now c.args.area) done.first next done.painted c.bitmap_run.ensures;
+    }
 
 pub returns : goal.returns
 returns c =
-    planes_done c.args.cell.now c.loop-plane.cell c.args.mask c.loop-plane.plane c.args.y c.args.columns.from c.args.columns.end (from_bits c.args.bitmap.now c.args.area) (omega (arith, c.depth-plane-end.ensures.value)) c.loop-plane.invariant
+    let done = c.loop-stretch.invariant in
+    let from = c.args.columns.from in
+    runs_done c.args.cell.now c.loop-stretch.cell c.args.mask c.args.y from c.loop-stretch.x c.args.columns.end (from_bits c.args.bitmap.now c.args.area) done.first done.last done.painted c.in_default.ensures
+
+pub bitmap_run-requires-clause-inside : goal.bitmap_run-requires-clause-inside
+bitmap_run-requires-clause-inside c =
+    let x = c.loop-stretch.x in
+    let s = c.in-Some.stretch in
+    let done = c.loop-stretch.invariant in
+    let reaches : pos x ≤ℤ pos s.x = c.in-Some.ensures.column.reaches in
+    run_lies c.args.bitmap.now c.args.area c.args.columns.from c.args.columns.end c.args.y s c.requires.inside c.in-Some.ensures.row (omega (arith, ints, done.first)) c.in-Some.ensures.ends

@@ -1,8 +1,15 @@
-use Rattle.std.proofs.Common.{◌≡◌}
+use Rattle.std.proofs.Common.{◌≡◌, ◌+◌, ◌≤◌, ◌-◌}
 use Rattle.lw_layer.specs.View.{with_live}
 use Rattle.lw_draw.specs.Drawn.{drawn}
-use Rattle.lw_blit.specs.Blitting.{from_bits, planes_before}
+use Rattle.lw_blit.specs.Blitting.{from_bits, masked}
 use Rattle.lw_blit.proofs.bitmaps.bitmap_row.Given as goal
 
-abbrev pub invariant-loop-plane : goal.invariant-loop-plane
-invariant-loop-plane l = l.cell ≡ with_live (λ c. drawn (planes_before l.mask l.plane c l.y l.columns.from l.columns.end) (from_bits l.bitmap l.area) c) l.initial.cell
+abbrev pub invariant-loop-stretch : goal.invariant-loop-stretch
+invariant-loop-stretch l = record {
+  first : l.columns.from ≤ l.x;
+  last : l.x ≤ l.columns.end;
+  painted : l.cell ≡ with_live (λ c. drawn (masked l.mask c l.y (l.y + 1) l.columns.from l.x) (from_bits l.bitmap l.area) c) l.initial.cell;
+}
+
+abbrev pub decreases-loop-stretch : goal.decreases-loop-stretch
+decreases-loop-stretch l = l.columns.end - l.x

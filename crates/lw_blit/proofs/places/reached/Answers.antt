@@ -17,8 +17,8 @@ returns-clause-has c u inside =
     let to : word place ≡ place = search rules in
     let by : moved ≡ shift = omega (arith, ints) in
     let all : word (word place +ℤ word c.args.count) ≡ place +ℤ c.args.count = omega (arith, ints) in
-    let behind : word (moved +ℤ to_z w32 c.args.from) ≡ shift +ℤ pos c.args.from = omega (arith, ints) in
-    places_reached place c.args.count c.args.source _ _ c.args.from c.edge-first.result c.edge-end.result _ u
+    let behind : word (moved +ℤ to_z w32 c.args.source_extent) ≡ shift +ℤ pos c.args.source_extent = omega (arith, ints) in
+    places_reached place c.args.count c.args.source _ _ c.args.source_extent c.edge-first.result c.edge-end.result _ u
     (first ∙ greater_is (word place) moved place shift c.max.result c.max.ensures.value to by)
-    (past ∙ lesser_is (word (word place +ℤ word c.args.count)) (word (moved +ℤ to_z w32 c.args.from)) (place +ℤ c.args.count) (shift +ℤ pos c.args.from) c.min.result c.min.ensures.value all behind)
+    (past ∙ lesser_is (word (word place +ℤ word c.args.count)) (word (moved +ℤ to_z w32 c.args.source_extent)) (place +ℤ c.args.count) (shift +ℤ pos c.args.source_extent) c.min.result c.min.ensures.value all behind)
     (omega (arith, c.max-2.ensures)) (c.edge-first.ensures.from u inside) (c.edge-end.ensures.from u inside)

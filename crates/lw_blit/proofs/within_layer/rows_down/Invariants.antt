@@ -5,4 +5,4 @@ use Rattle.lw_blit.specs.Blitting.{from_layer, masked}
 use Rattle.lw_blit.proofs.within_layer.rows_down.Given as goal
 
 abbrev pub invariant-loop-y : goal.invariant-loop-y
-invariant-loop-y l = l.cell ≡ with_live (λ c. drawn (masked l.mask c l.fn.rows.from l.y l.columns.from l.columns.end) (from_layer c l.area) c) l.initial.cell
+invariant-loop-y l = l.cell ≡ with_live (λ c. drawn (masked l.mask c l.fn.rows.from l.y l.columns.from l.columns.end) (from_layer c l.transfer) c) l.initial.cell

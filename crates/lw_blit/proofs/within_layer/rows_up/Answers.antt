@@ -8,11 +8,11 @@ use Rattle.lw_blit.proofs.within_layer.rows_up.Goals as goal
 pub loop-y-init : goal.loop-y-init
 loop-y-init c = record {
   low = c.requires.rows;
-  painted = no_rows c.args.cell.now c.args.mask c.args.rows.end c.args.columns.from c.args.columns.end (from_layer c.args.cell.now.live c.args.area) c.depth.ensures.bits.bitmap;
+  painted = no_rows c.args.cell.now c.args.mask c.args.rows.end c.args.columns.from c.args.columns.end (from_layer c.args.cell.now.live c.args.transfer) c.depth.ensures.bits.bitmap;
 }
 
-pub within_row-requires-clause-live : goal.within_row-requires-clause-live
-within_row-requires-clause-live c = ap (λ (q : CellView). q.state) c.loop-y.invariant.painted ∙ c.requires.live
+pub transfer_row-requires-clause-live : goal.transfer_row-requires-clause-live
+transfer_row-requires-clause-live c = ap (λ (q : CellView). q.state) c.loop-y.invariant.painted ∙ c.requires.live
 
 pub loop-y-preserved : goal.loop-y-preserved
 loop-y-preserved c =
@@ -23,16 +23,16 @@ loop-y-preserved c =
     let after : next ≡ y + 1 = omega arith in
     let from = c.args.columns.from in
     let end = c.args.columns.end in
-    let a = c.args.area in
+    let t = c.args.transfer in
     record {
       low = omega arith;
       painted =
-          row_above v c.loop-y.cell c.within_row.new.cell c.args.mask y next bottom from end (from_layer v.live a) (layer_gives_bits v.live a) after (omega arith) c.loop-y.invariant.painted
-          (row_as_before v c.loop-y.cell c.within_row.new.cell c.args.mask next bottom y from end a (λ j is. source_above a y next bottom j after c.requires.order is) c.loop-y.invariant.painted c.within_row.ensures);
+          row_above v c.loop-y.cell c.transfer_row.new.cell c.args.mask y next bottom from end (from_layer v.live t) (layer_gives_bits v.live t) after (omega arith) c.loop-y.invariant.painted
+          (row_as_before v c.loop-y.cell c.transfer_row.new.cell c.args.mask next bottom y from end t (λ j is. source_above t y next bottom j after c.requires.order is) c.loop-y.invariant.painted c.transfer_row.ensures);
     }
 
 pub returns : goal.returns
 returns c =
     let top : c.loop-y.y ≡ c.args.rows.from = omega arith in
     c.loop-y.invariant.painted ∙
-    ap (λ k. with_live (λ q. drawn (masked c.args.mask q k c.args.rows.end c.args.columns.from c.args.columns.end) (from_layer q c.args.area) q) c.args.cell.now) top
+    ap (λ k. with_live (λ q. drawn (masked c.args.mask q k c.args.rows.end c.args.columns.from c.args.columns.end) (from_layer q c.args.transfer) q) c.args.cell.now) top

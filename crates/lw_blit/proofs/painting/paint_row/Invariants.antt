@@ -1,14 +1,14 @@
-use Rattle.std.proofs.Common.{◌≡◌, ◌≤◌, ◌-◌}
+use Rattle.std.proofs.Common.{◌≡◌, ◌+◌, ◌≤◌, ◌-◌}
 use Rattle.lw_layer.specs.View.{with_live}
 use Rattle.lw_draw.specs.Drawn.{drawn}
-use Rattle.lw_blit.specs.Blitting.{from_row, in_plane}
-use Rattle.lw_blit.proofs.painting.paint_plane.Given as goal
+use Rattle.lw_blit.specs.Blitting.{from_rows, masked}
+use Rattle.lw_blit.proofs.painting.paint_row.Given as goal
 
 abbrev pub invariant-loop-stretch : goal.invariant-loop-stretch
 invariant-loop-stretch l = record {
   first : l.columns.from ≤ l.x;
   last : l.x ≤ l.columns.end;
-  painted : l.cell ≡ with_live (λ c. drawn (in_plane l.plane c l.y l.columns.from l.x) (from_row l.minterm l.bits l.origin) c) l.initial.cell;
+  painted : l.cell ≡ with_live (λ c. drawn (masked l.mask c l.y (l.y + 1) l.columns.from l.x) (from_rows l.minterm l.rows l.columns.from) c) l.initial.cell;
 }
 
 abbrev pub decreases-loop-stretch : goal.decreases-loop-stretch

@@ -1,7 +1,7 @@
 use Rattle.std.proofs.Common.{◌≡◌, ◌*◌, ◌%◌, ◌==◌, if◌then◌else◌, ◌∙◌, ap, arith}
 use Rattle.std.specs.Int.{bit_at}
-use Rattle.lw_blit.proofs.SourceLaws.{cut_values}
-use Rattle.lw_blit.proofs.sources.where_clear.Goals as goal
+use Rattle.lw_blit.proofs.PaintingLaws.{cut_values}
+use Rattle.lw_blit.proofs.painting.where_clear.Goals as goal
 
 pub returns-clause-set : goal.returns-clause-set
 returns-clause-set c old small =
