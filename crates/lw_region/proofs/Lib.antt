@@ -17,3 +17,4 @@ pub mod SetOps
 pub mod Spaced
 pub mod Disjoint
 pub mod FindingLaws
+pub mod Moving

@@ -1,6 +1,6 @@
 -- What the operations on regions make, and the laws of canonical lists.
-use Rattle.std.specs.Prelude.{◌≡◌, ◌↔◌, ℕ, ◌<◌, Bool, false, ◌&&◌, ◌||◌, not, List, [], ◌∷◌, length, slice_index_or, ℤ, pos}
-use Rattle.lw_region.specs.Rectangle.{Rectangle, has_pixel, AreApart}
+use Rattle.std.specs.Prelude.{◌≡◌, ◌↔◌, ℕ, ◌<◌, Bool, true, false, ◌&&◌, ◌||◌, not, List, [], ◌∷◌, length, slice_index_or, map, ℤ, pos, ◌+ℤ◌, ◌-ℤ◌}
+use Rattle.lw_region.specs.Rectangle.{Rectangle, has_pixel, AreApart, moved_by, IsWord}
 use Rattle.lw_region.specs.Order.{IsInOrder}
 use Rattle.lw_region.specs.Pixels.{Pixel, precedes, contains_pixel, pixels_of, union, intersection, difference, symmetric_difference}
 use Rattle.lw_region.specs.Bands.{bands, covers}
@@ -81,6 +81,20 @@ pub record CombinedListsLaw : Type 0 where
   pub symmetric : (a b made : List Rectangle) → made ≡ bands (symmetric_difference (pixels_of a) (pixels_of b))
       → IsListOf (symmetric_difference (pixels_of a) (pixels_of b)) (λ x y. (covers a x y && not (covers b x y)) || (covers b x y && not (covers a x y))) made
   pub single : (r : Rectangle) (x y : ℤ) → covers (r ∷ []) x y ≡ has_pixel r x y
+
+-- each pixel of the list still has coordinates of 16 bits when it is moved by dx columns to the right and dy rows down
+abbrev pub MayMove : List Rectangle → ℤ → ℤ → Type 0
+MayMove rects dx dy = (x y : ℤ) → covers rects x y ≡ true → IsWord (x +ℤ dx) × IsWord (y +ℤ dy)
+
+-- the list with each rectangle moved by dx columns to the right and dy rows down
+abbrev pub moved_list : List Rectangle → ℤ → ℤ → List Rectangle
+moved_list rects dx dy = map (λ r. moved_by r dx dy) rects
+
+-- a pixel is in the moved list exactly where its former place is in the list, and what is moved of a canonical list is canonical
+abbrev pub MovedListLaw : Type 0
+MovedListLaw =
+    ((rects : List Rectangle) (dx dy x y : ℤ) → covers (moved_list rects dx dy) x y ≡ covers rects (x -ℤ dx) (y -ℤ dy))
+    × ((rects : List Rectangle) (dx dy : ℤ) → IsCanonical rects → IsCanonical (moved_list rects dx dy))
 
 -- sets in reading order with the same pixels are one set
 abbrev pub OneSetLaw : Type 0

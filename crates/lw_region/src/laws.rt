@@ -1,7 +1,7 @@
 // Laws of pixel sets and of canonical lists, for the crates above: each function does nothing, and its contract
 // is the law.
 
-ghost use Rattle.lw_region.specs.Regions.{SetOfListLaw, BandsLaw, BandedLaw, OneListLaw, EmptyListLaw, DisjointLaw, SetOperationsLaw, CombinedListsLaw, OneSetLaw, WorkedExample};
+ghost use Rattle.lw_region.specs.Regions.{SetOfListLaw, BandsLaw, BandedLaw, OneListLaw, EmptyListLaw, DisjointLaw, SetOperationsLaw, CombinedListsLaw, MovedListLaw, OneSetLaw, WorkedExample};
 
 /// A pixel is in the set of a list exactly where some rectangle of the list has it.
 pub fn set_of_list_law()
@@ -44,6 +44,12 @@ pub fn set_operations_law()
 /// in the one or in both, and so on. The list of one rectangle has its pixels.
 pub fn combined_lists_law()
     ensures { CombinedListsLaw }
+{}
+
+/// A pixel is in a moved list exactly where its former place is in the list, and a canonical list stays canonical when it is
+/// moved.
+pub fn moved_list_law()
+    ensures { MovedListLaw }
 {}
 
 /// Sets in reading order with the same pixels are one set.

@@ -16,11 +16,11 @@ mod row;
 mod sweep;
 
 pub use laws::{
-    banded_law, bands_law, combined_lists_law, disjoint_law, empty_list_law, one_list_law,
-    one_set_law, set_of_list_law, set_operations_law, worked_example_law,
+    banded_law, bands_law, combined_lists_law, disjoint_law, empty_list_law, moved_list_law,
+    one_list_law, one_set_law, set_of_list_law, set_operations_law, worked_example_law,
 };
 pub use rect::Rect;
-pub use region::{Region, and_region, clear_region, or_region, xor_region};
+pub use region::{Region, and_region, clear_region, moved_region, or_region, xor_region};
 
 #[cfg(test)]
 mod tests;

@@ -1,6 +1,6 @@
-ghost use Rattle.std.specs.Prelude.{◌≡◌, ◌&&◌, ◌↔◌, ℤ, ◌+ℤ◌, ◌≤ℤ◌, IfSome, IsNone, [], ◌∷◌};
+ghost use Rattle.std.specs.Prelude.{◌≡◌, true, ◌&&◌, ◌↔◌, ℤ, ◌+ℤ◌, ◌≤ℤ◌, IfSome, IsNone, [], ◌∷◌};
 ghost use Rattle.std.specs.Option.{SomeIff};
-ghost use Rattle.lw_region.specs.Rectangle.{Rectangle, within, has_pixel, IsOrdered, AreApart, common_part, moved_by, HasWords};
+ghost use Rattle.lw_region.specs.Rectangle.{Rectangle, within, has_pixel, IsOrdered, AreApart, common_part, moved_by, IsWord, HasWords};
 ghost use Rattle.lw_region.specs.Banded.{IsCanonical};
 ghost use Rattle.lw_region.specs.Rows.{down_to};
 
@@ -150,6 +150,19 @@ impl Rect {
         let x1 = moved_place(self.max_x(), dx);
         let y1 = moved_place(self.max_y(), dy);
         from_places(x0, y0, x1, y1)
+    }
+
+    // The rectangle moved likewise, where the caller knows that each pixel still has coordinates of 16 bits.
+    pub(crate) fn moved_within(&self, dx: i32, dy: i32) -> Rect
+        requires { (x y : ℤ) → has_pixel self.now x y ≡ true → IsWord (x +ℤ dx) × IsWord (y +ℤ dy) }
+        ensures { result ≡ moved_by self.now dx dy }
+    {
+        // Reading a field is what makes the invariant known to the proof.
+        let _ = &self.min_x;
+        match self.moved(dx, dy) {
+            Some(moved) => moved,
+            None => unreachable!(),
+        }
     }
 }
 

@@ -27,7 +27,7 @@ ghost use Rattle.lw_region.specs.Pixels.{pixels_of, union, intersection, differe
 ghost use Rattle.lw_region.specs.Bands.{bands, covers};
 ghost use Rattle.lw_region.specs.Banded.{IsCanonical};
 ghost use Rattle.lw_region.specs.Operations.{combined};
-ghost use Rattle.lw_region.specs.Regions.{rectangle_set};
+ghost use Rattle.lw_region.specs.Regions.{rectangle_set, MayMove, moved_list};
 
 use crate::operation::Operation;
 use crate::rect::Rect;
@@ -190,6 +190,21 @@ pub fn clear_region(alloc: Global, from: &Region, into: &mut Region) -> Result<(
     ensures err { OnErr result (into.new ≡ into.old) }
 {
     into.combine(alloc, Operation::Difference, from.rects())
+}
+
+/// The region of a canonical list of rectangles, moved by `dx` columns to the right and `dy` rows down (this project's own).
+/// Each of its pixels has coordinates of 16 bits after that too. No rectangle is compared with another: what is moved of a
+/// canonical list is canonical.
+pub fn moved_region(alloc: Global, rects: &[Rect], dx: i32, dy: i32) -> Result<Region, AllocError>
+    requires canonical { IsCanonical rects.now }
+    requires words { MayMove rects.now dx dy }
+    ensures { IfOk result (λ made. made ≡ moved_list rects.now dx dy) }
+{
+    let mut made = Vec::with_capacity(alloc, rects.len())?;
+    for rect in rects {
+        made.push(rect.moved_within(dx, dy))?;
+    }
+    Ok(Region { rects: made })
 }
 
 // A region may go to another thread, and threads may share it: the bounds ask for the proofs.

@@ -1,4 +1,4 @@
-use super::{Rect, Region, and_region, clear_region, or_region, xor_region};
+use super::{Rect, Region, and_region, clear_region, moved_region, or_region, xor_region};
 use std::alloc::Global;
 use std::mem;
 use std::test::Fail;
@@ -395,6 +395,24 @@ fn rectangles_meet_and_move(rt: HostRuntime) -> Result<(), Fail> {
 
 // A plain set of pixels: for each of 16 rows from -8 on, which of the 16 columns from -8 on are in it.
 type Rows = [u16; 16];
+
+#[test]
+fn moved_region_has_each_rectangle_moved(rt: HostRuntime) -> Result<(), Fail> {
+    let alloc = rt.alloc();
+    let stepped = region_of(alloc, &STEPPED)?;
+    let there = moved_region(alloc, stepped.rects(), 3, -2)?;
+    let due = [
+        [3, -2, 10, -2],
+        [3, -1, 4, -1],
+        [9, -1, 10, -1],
+        [5, 0, 8, 0],
+    ];
+    assert!(rt; has_list(&there, &due));
+    let first = region_of(alloc, &[[LEAST, LEAST, LEAST, LEAST]])?;
+    let last = moved_region(alloc, first.rects(), 65535, 65535)?;
+    assert!(rt; has_list(&last, &[[GREATEST, GREATEST, GREATEST, GREATEST]]));
+    Ok(())
+}
 
 fn has_column(row: u16, column: usize) -> bool {
     (u32::from(row) >> (column % 16)) % 2 == 1
