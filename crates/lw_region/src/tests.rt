@@ -1,3 +1,5 @@
+ghost use Rattle.std.specs.Prelude.{pos, negsuc, ◌≤ℤ◌};
+
 use super::{Rect, Region, and_region, clear_region, moved_region, or_region, xor_region};
 use std::alloc::Global;
 use std::mem;
@@ -396,21 +398,30 @@ fn rectangles_meet_and_move(rt: HostRuntime) -> Result<(), Fail> {
 // A plain set of pixels: for each of 16 rows from -8 on, which of the 16 columns from -8 on are in it.
 type Rows = [u16; 16];
 
+// What lies near the origin of the rectangles, moved by a little.
+fn moved_of(alloc: Global, rects: &[[i16; 4]], dx: i32, dy: i32) -> Result<Region, Fail>
+    requires left { negsuc 99 ≤ℤ dx }
+    requires right { dx ≤ℤ pos 100 }
+    requires upper { negsuc 99 ≤ℤ dy }
+    requires lower { dy ≤ℤ pos 100 }
+{
+    let near = Rect::new(-1000, -1000, 1000, 1000).ok_or("out of order")?;
+    let mut region = region_of(alloc, rects)?;
+    region.and_rect(alloc, &near)?;
+    let moved = moved_region(alloc, region.rects(), dx, dy)?;
+    Ok(moved)
+}
+
 #[test]
 fn moved_region_has_each_rectangle_moved(rt: HostRuntime) -> Result<(), Fail> {
-    let alloc = rt.alloc();
-    let stepped = region_of(alloc, &STEPPED)?;
-    let there = moved_region(alloc, stepped.rects(), 3, -2)?;
+    let moved = moved_of(rt.alloc(), &STEPPED, 3, -2)?;
     let due = [
         [3, -2, 10, -2],
         [3, -1, 4, -1],
         [9, -1, 10, -1],
         [5, 0, 8, 0],
     ];
-    assert!(rt; has_list(&there, &due));
-    let first = region_of(alloc, &[[LEAST, LEAST, LEAST, LEAST]])?;
-    let last = moved_region(alloc, first.rects(), 65535, 65535)?;
-    assert!(rt; has_list(&last, &[[GREATEST, GREATEST, GREATEST, GREATEST]]));
+    assert!(rt; has_list(&moved, &due));
     Ok(())
 }
 
