@@ -20,3 +20,4 @@ pub mod CopyingBuffers
 pub mod CopyingJoined
 pub mod SoundLaws
 pub mod LineLaws
+pub mod KeepingLaws

@@ -9,3 +9,4 @@ pub mod Looks
 pub mod New
 pub mod Copied
 pub mod StandsFor
+pub mod Keeping

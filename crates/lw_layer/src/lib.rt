@@ -4,6 +4,7 @@
 mod cell;
 mod copying;
 mod draft;
+mod kept;
 mod look;
 mod new;
 mod next;
@@ -16,6 +17,8 @@ mod runs;
 
 pub use cell::Cell;
 pub use draft::{Draft, DraftState, LiveDraft};
+pub use kept::kept_region;
 pub use look::Look;
+pub use new::inner_rectangle;
 pub use raster::Raster;
 pub use run::Run;

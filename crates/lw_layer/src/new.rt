@@ -125,8 +125,9 @@ fn blank(alloc: Global, bounds: &Rect, rect: &Rect, depth: u32) -> Result<Planes
     Ok(planes)
 }
 
-// Where a new layer's damage may lie.
-fn inner_rectangle(kind: Kind, bounds: &Rect) -> Option<Rect>
+/// Where damage may lie in a layer with these bounds, in layer coordinates; `None` exactly for a super-bitmap layer, which never
+/// has damage (this project's own).
+pub fn inner_rectangle(kind: Kind, bounds: &Rect) -> Option<Rect>
     requires wide { columns bounds.now ≤ 2048 }
     requires high { lines bounds.now ≤ 2048 }
     ensures { result ≡ inner_of (is_super kind) (columns bounds.now) (lines bounds.now) }

@@ -7,7 +7,8 @@ use Rattle.lw_calls.specs.Kinds.{is_super}
 use Rattle.lw_damage.specs.Damaged.{Damaged, may_lie}
 use Rattle.lw_layer.specs.View.{LiveView}
 use Rattle.lw_layer.specs.Pieces.{columns, lines, inner_of}
-use Rattle.lw_reveal.specs.Gained.{AreKept, AreDue, IsDamageWith, keeps_pixel, is_due}
+use Rattle.lw_layer.specs.Keeping.{AreKept, keeps_pixel}
+use Rattle.lw_reveal.specs.Gained.{AreDue, IsDamageWith, is_due}
 use Rattle.lw_reveal.proofs.GainedView.{IsGained, due_pixel}
 
 -- what the code reads of a layer and of its new visible region

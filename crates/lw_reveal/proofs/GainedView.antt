@@ -1,101 +1,27 @@
 -- The damage of a layer across an arrangement, from that of the machine's definition.
-use Rattle.std.proofs.Common.{◌≡◌, ℕ, ◌-◌, ◌<◌, ◌≤◌, Bool, true, false, not, ◌&&◌, if◌then◌else◌, nat_lt, List, ℤ, pos, negsuc, ◌+ℤ◌, ◌-ℤ◌, ◌≤ℤ◌, unsigned_abs, ◌∙◌, sym, refl, ap, subst, ⊎_elim, arith}
+use Rattle.std.proofs.Common.{◌≡◌, ℕ, ◌-◌, ◌<◌, Bool, true, false, not, ◌&&◌, if◌then◌else◌, nat_lt, List, ℤ, pos, ◌∙◌, sym, refl, ap, subst, ⊎_elim, arith}
 use Rattle.std.proofs.lemmas.Int.{ints}
-use Rattle.std.proofs.lemmas.Bool.{and_parts, and_from, and_right, cases_lt, cases_Bool, lt-ltb, le-ltb, ltb-true, false_from_ne_true, both_ways}
-use Rattle.lw_region.specs.Rectangle.{Rectangle, within, has_pixel, IsOrdered}
+use Rattle.std.proofs.lemmas.Bool.{and_parts, and_from, and_right, cases_Bool, lt-ltb, ltb-true, false_from_ne_true, both_ways}
+use Rattle.lw_region.specs.Rectangle.{Rectangle, within, IsOrdered}
 use Rattle.lw_region.specs.Bands.{covers}
-use Rattle.lw_region.proofs.Within.{within_true, within_below, within_above}
+use Rattle.lw_region.proofs.Within.{within_true}
 use Rattle.lw_planes.specs.Grid.{at}
 use Rattle.lw_planes.proofs.GridLaws.{grid_at, grid_same}
-use Rattle.lw_calls.specs.declared.make.Kind.{Kind}
-use Rattle.lw_calls.specs.declared.make.Kind.TheVariants.{Simple, Smart, SuperBitmap}
 use Rattle.lw_calls.specs.Kinds.{is_super}
 use Rattle.lw_cliprects.specs.Parts.{LieIn}
 use Rattle.lw_damage.specs.Damaged.{Damaged, may_lie}
 use Rattle.lw_machine.specs.Layer.{is_framed}
-use Rattle.lw_machine.specs.Kept.{is_kept, kept_as, in_inner, holds_at}
+use Rattle.lw_machine.specs.Kept.{is_kept, in_inner}
 use Rattle.lw_machine.specs.Reveal.{is_inner, counts_as_kept, resized, with_revealed, revealed}
 use Rattle.lw_machine.specs.Reveal as reveal
 use Rattle.lw_layer.specs.View.{LiveView, keeps}
 use Rattle.lw_layer.specs.Pieces.{columns, lines, inner_of, damage_table, IsDamageOf}
 use Rattle.lw_layer.specs.StandsFor.{IsSound}
 use Rattle.lw_reveal.specs.Changed.{across_to, revealed_to}
-use Rattle.lw_reveal.specs.Gained.{keeps_pixel, is_due}
+use Rattle.lw_layer.specs.Keeping.{keeps_pixel}
+use Rattle.lw_layer.proofs.KeepingLaws.{IsPlain, all_is, kept_pixel, sound_plain}
+use Rattle.lw_reveal.specs.Gained.{is_due}
 use Rattle.lw_reveal.proofs.GainedCounts.{counts_kept}
-
--- A layer whose bits have the size of its bounds, and which isn't scrolled.
-pub record IsPlain (c : LiveView) : Type 0 where
-  pub ordered : IsOrdered c.bounds
-  pub inside : LieIn c.bounds c.visible
-  pub left : c.layer.scroll_x ≡ 0
-  pub upper : c.layer.scroll_y ≡ 0
-  pub wide : c.layer.bits.width ≡ columns c.bounds
-  pub high : c.layer.bits.height ≡ lines c.bounds
-
--- the places of an extent, from its least on
-extent_places : (low high : ℤ) (x : ℕ) → low ≤ℤ high
-    → within low (low +ℤ pos x) high ≡ nat_lt x (unsigned_abs ((high +ℤ pos 1) -ℤ low))
-extent_places low high x ordered =
-    let n = unsigned_abs ((high +ℤ pos 1) -ℤ low) in
-    ⊎_elim
-    (λ (inside : x < n). within_true low (low +ℤ pos x) high (omega (arith, ints)) (omega (arith, ints)) ∙ sym (lt-ltb x n inside))
-    (λ (past : n ≤ x). within_above low (low +ℤ pos x) high (omega (arith, ints)) ∙ sym (le-ltb x n past))
-    (cases_lt x n)
-
--- no place before the least
-before_extent : (low high : ℤ) (x : ℕ) → within low (low +ℤ negsuc x) high ≡ false
-before_extent low high x = within_below low (low +ℤ negsuc x) high (omega (arith, ints))
-
--- where a place that isn't scrolled lies
-unscrolled : (low : ℤ) (scroll x : ℕ) → scroll ≡ 0 → (low +ℤ pos x) -ℤ pos scroll ≡ low +ℤ pos x
-unscrolled low scroll x still = omega (arith, ints)
-
--- which pixels such a layer keeps
-keeps_plain : (c : LiveView) (x y : ℕ) → IsPlain c
-    → keeps c x y ≡ (has_pixel c.bounds (c.bounds.min_x +ℤ pos x) (c.bounds.min_y +ℤ pos y) && kept_as c.layer.kind (covers c.visible (c.bounds.min_x +ℤ pos x) (c.bounds.min_y +ℤ pos y)))
-unfolding keeps is_kept
-keeps_plain c x y plain =
-    let b = c.bounds in
-    let column : nat_lt x c.layer.bits.width ≡ within b.min_x (b.min_x +ℤ pos x) b.max_x = ap (nat_lt x) plain.wide ∙ sym (extent_places b.min_x b.max_x x plain.ordered.columns) in
-    let row : nat_lt y c.layer.bits.height ≡ within b.min_y (b.min_y +ℤ pos y) b.max_y = ap (nat_lt y) plain.high ∙ sym (extent_places b.min_y b.max_y y plain.ordered.rows) in
-    rw (column, row, unscrolled b.min_x c.layer.scroll_x x plain.left, unscrolled b.min_y c.layer.scroll_y y plain.upper) refl
-
--- a part of what is there is there
-part_is : (whole part : Bool) → (part ≡ true → whole ≡ true) → part ≡ (whole && part)
-part_is true part h = refl
-part_is false true h = sym (h refl)
-part_is false false h = refl
-
-all_is : (whole : Bool) → whole ≡ (whole && true)
-all_is true = refl
-all_is false = refl
-
--- the pixels that a layer keeps, asked at any place
-pub kept_pixel : (c : LiveView) (kind : Kind) → c.layer.kind ≡ kind → is_super kind ≡ false → IsPlain c → (x y : ℤ)
-    → keeps_pixel kind c.bounds c.visible x y ≡ holds_at (λ i j. keeps c i j) x y
-kept_pixel c Simple is other plain (pos x) (pos y) =
-    let across = c.bounds.min_x +ℤ pos x in
-    let down = c.bounds.min_y +ℤ pos y in
-    part_is (has_pixel c.bounds across down) (covers c.visible across down) (plain.inside across down)
-    ∙ sym (keeps_plain c x y plain ∙ ap (λ k. has_pixel c.bounds across down && kept_as k (covers c.visible across down)) is)
-kept_pixel c Simple is other plain (pos x) (negsuc y) =
-    false_from_ne_true _ (λ shown.
-    let sides = and_parts _ _ (plain.inside (c.bounds.min_x +ℤ pos x) (c.bounds.min_y +ℤ negsuc y) shown) in
-    both_ways _ (before_extent c.bounds.min_y c.bounds.max_y y) sides.1)
-kept_pixel c Simple is other plain (negsuc x) y =
-    false_from_ne_true _ (λ shown.
-    let sides = and_parts _ _ (plain.inside (c.bounds.min_x +ℤ negsuc x) (c.bounds.min_y +ℤ y) shown) in
-    both_ways _ (before_extent c.bounds.min_x c.bounds.max_x x) sides.0)
-kept_pixel c Smart is other plain (pos x) (pos y) =
-    let across = c.bounds.min_x +ℤ pos x in
-    let down = c.bounds.min_y +ℤ pos y in
-    all_is (has_pixel c.bounds across down)
-    ∙ sym (keeps_plain c x y plain ∙ ap (λ k. has_pixel c.bounds across down && kept_as k (covers c.visible across down)) is)
-kept_pixel c Smart is other plain (pos x) (negsuc y) =
-    false_from_ne_true _ (λ shown. both_ways _ (before_extent c.bounds.min_y c.bounds.max_y y) ((and_parts _ _ shown).1))
-kept_pixel c Smart is other plain (negsuc x) y =
-    false_from_ne_true _ (λ shown. both_ways _ (before_extent c.bounds.min_x c.bounds.max_x x) ((and_parts _ _ shown).0))
-kept_pixel c SuperBitmap is other plain x y = absurd (both_ways true other refl)
 
 -- what the arrangement makes of a layer that isn't a super-bitmap layer
 abbrev gained_view : Rectangle → List Rectangle → LiveView → LiveView
@@ -118,17 +44,7 @@ revealed_own c bounds visible own =
     let a = across_to c bounds visible in
     ap (λ t. record { bounds = bounds; visible = visible; active = c.active; layer = if t then c.layer else with_revealed a c.layer (resized a c.layer) }) own
 
--- both are laid out plainly
-sound_plain : (c : LiveView) → IsSound c → is_super c.layer.kind ≡ false → IsPlain c
-sound_plain c sound other = record {
-  ordered = sound.ordered;
-  inside = sound.inside;
-  left = sound.scrolled.left other;
-  upper = sound.scrolled.upper other;
-  wide = sound.wide other;
-  high = sound.high other;
-}
-
+-- the layer that it becomes is laid out plainly
 gained_plain : (c : LiveView) (bounds : Rectangle) (visible : List Rectangle) → IsSound c → IsOrdered bounds
     → LieIn bounds visible → is_super c.layer.kind ≡ false
     → IsPlain (gained_view bounds visible c)

@@ -8,7 +8,6 @@ pub mod CarryingLaws
 pub mod PairingLaws
 pub mod PreparedLaws
 pub mod GainedCounts
-pub mod GainedMoves
 pub mod GainedLaws
 pub mod GainedView
 pub mod GainedSteps

@@ -6,7 +6,6 @@ mod carrying;
 mod change;
 mod damage;
 mod handing;
-mod moved;
 mod pairing;
 
 pub use change::{Change, apply, prepare};

@@ -1,22 +1,29 @@
-use Rattle.std.proofs.Common.{[], ◌∷◌, ◌∙◌, sym, ap, subst, List, IfOk, arith, to_z, of_z, w32}
+use Rattle.std.proofs.Common.{◌≡◌, [], ◌∷◌, ◌∙◌, sym, ap, subst, List, IfOk, arith, to_z, of_z, w32}
 use Rattle.std.proofs.lemmas.Int.{ints}
 use Rattle.std.proofs.lemmas.Result.{IfOk-weaker}
 use Rattle.lw_region.specs.Rectangle.{Rectangle}
 use Rattle.lw_region.specs.Bands.{covers}
+use Rattle.lw_region.specs.Banded.{IsCanonical}
+use Rattle.lw_region.specs.Regions.{MayMove, moved_list}
 use Rattle.lw_region.proofs.Canonical.{covers_nil}
+use Rattle.lw_region.proofs.SetOps.{canonical_one}
 use Rattle.lw_calls.specs.declared.make.Kind.{Kind}
 use Rattle.lw_calls.specs.declared.make.Kind.TheVariants.{Simple, Smart}
-use Rattle.lw_reveal.specs.Gained.{MayMove, AreMoved, AreKept, keeps_pixel}
-use Rattle.lw_reveal.proofs.GainedLaws.{may_move, lies_alone, simple_kept, smart_kept}
-use Rattle.lw_reveal.proofs.damage.kept_region.Goals as goal
+use Rattle.lw_layer.specs.Keeping.{AreKept, keeps_pixel}
+use Rattle.lw_layer.proofs.KeepingLaws.{may_move, lies_alone, simple_kept, smart_kept}
+use Rattle.lw_layer.proofs.kept.kept_region.Goals as goal
 
-pub moved-requires : goal.moved-requires
-moved-requires c =
+pub moved_region-requires-clause-words : goal.moved_region-requires-clause-words
+moved_region-requires-clause-words c =
     may_move c.args.bounds.now c.args.visible.now (to_z w32 (of_z w32 c.back-dx.result)) (to_z w32 (of_z w32 c.back-dy.result))
     c.requires.inside c.requires.wide c.requires.high (omega (arith, ints)) (omega (arith, ints))
 
-pub moved-requires-in-Smart : goal.moved-requires-in-Smart
-moved-requires-in-Smart c =
+pub moved_region-requires-in-Smart-clause-canonical : goal.moved_region-requires-in-Smart-clause-canonical
+moved_region-requires-in-Smart-clause-canonical c =
+    subst IsCanonical (sym c.from_ref.ensures.value) (canonical_one c.args.bounds.now c.min_x.ensures.ordered)
+
+pub moved_region-requires-in-Smart-clause-words : goal.moved_region-requires-in-Smart-clause-words
+moved_region-requires-in-Smart-clause-words c =
     let dx = to_z w32 (of_z w32 c.back-dx.result) in
     let dy = to_z w32 (of_z w32 c.back-dy.result) in
     let P : List Rectangle → Type 0 = λ rects. MayMove rects dx dy in
@@ -29,10 +36,11 @@ returns-in-Simple-clause-kept c =
     let visible = c.args.visible.now in
     let dx = to_z w32 (of_z w32 c.back-dx.result) in
     let dy = to_z w32 (of_z w32 c.back-dy.result) in
-    let P : Kind → Type 0 = λ k. IfOk c.moved.result (λ kept. AreKept k bounds visible kept) in
+    let made = c.moved_region.result in
+    let P : Kind → Type 0 = λ k. IfOk made (λ kept. AreKept k bounds visible kept) in
     subst P (sym c.in-Simple.is)
-    (IfOk-weaker c.moved.result (λ made. AreMoved visible dx dy made) (λ kept. AreKept Simple bounds visible kept)
-    (simple_kept bounds visible dx dy (omega (arith, ints)) (omega (arith, ints))) c.moved.ensures)
+    (IfOk-weaker made (λ kept. kept ≡ moved_list visible dx dy) (λ kept. AreKept Simple bounds visible kept)
+    (simple_kept bounds visible dx dy (omega (arith, ints)) (omega (arith, ints))) c.moved_region.ensures)
 
 pub returns-in-Smart-clause-kept : goal.returns-in-Smart-clause-kept
 returns-in-Smart-clause-kept c =
@@ -40,12 +48,12 @@ returns-in-Smart-clause-kept c =
     let visible = c.args.visible.now in
     let dx = to_z w32 (of_z w32 c.back-dx.result) in
     let dy = to_z w32 (of_z w32 c.back-dy.result) in
-    let made = c.moved-in-Smart.result in
+    let made = c.moved_region-in-Smart.result in
     let P : Kind → Type 0 = λ k. IfOk made (λ kept. AreKept k bounds visible kept) in
-    let Q : List Rectangle → Type 0 = λ rects. IfOk made (λ kept. AreMoved rects dx dy kept) in
+    let Q : List Rectangle → Type 0 = λ rects. IfOk made (λ kept. kept ≡ moved_list rects dx dy) in
     subst P (sym c.in-Smart.is)
-    (IfOk-weaker made (λ kept. AreMoved (bounds ∷ []) dx dy kept) (λ kept. AreKept Smart bounds visible kept)
-    (smart_kept bounds visible dx dy (omega (arith, ints)) (omega (arith, ints))) (subst Q c.from_ref.ensures.value c.moved-in-Smart.ensures))
+    (IfOk-weaker made (λ kept. kept ≡ moved_list (bounds ∷ []) dx dy) (λ kept. AreKept Smart bounds visible kept)
+    (smart_kept bounds visible dx dy (omega (arith, ints)) (omega (arith, ints))) (subst Q c.from_ref.ensures.value c.moved_region-in-Smart.ensures))
 
 pub returns-in-SuperBitmap-clause-kept : goal.returns-in-SuperBitmap-clause-kept
 returns-in-SuperBitmap-clause-kept c = λ x y.
