@@ -1,4 +1,4 @@
-ghost use Rattle.std.specs.Prelude.{◌≡◌, ℕ, ◌*◌, ◌<◌, ◌≤◌, ◌↔◌, length, ℤ, pos, ◌+ℤ◌, true, IsTrue};
+ghost use Rattle.std.specs.Prelude.{◌≡◌, ℕ, ◌*◌, ◌<◌, ◌≤◌, ◌↔◌, length, ℤ, pos, ◌+ℤ◌, true, IsTrue, Some, None, MatchOption};
 ghost use Rattle.std.specs.Borrow.{sem};
 ghost use Rattle.lw_planes.specs.Row.{bit_of, row_bit};
 ghost use Rattle.lw_planes.specs.Bitmap.{row_bytes};
@@ -8,6 +8,7 @@ ghost use Rattle.lw_planes.specs.Sizes.{IsPlanes};
 ghost use Rattle.lw_layer.specs.View as view;
 ghost use Rattle.lw_layer.specs.Pieces.{hidden_rectangles, inner_of, damage_table, IsDamageOf, HasLine, HasLineBits, layout_of, columns, buffer_rectangle};
 ghost use Rattle.lw_layer.specs.Lending.{LendsRow};
+ghost use Rattle.lw_region.specs.Pixels.{pixels_of};
 ghost use Rattle.lw_region.specs.Bands.{covers};
 ghost use Rattle.lw_region.specs.Banded.{IsCanonical};
 ghost use Rattle.lw_cliprects.specs.Parts.{AreDivided};
@@ -245,6 +246,19 @@ impl Cell {
     {
         match &self.draft.state {
             DraftState::Live(live) => &live.damage,
+            _ => unreachable!(),
+        }
+    }
+
+    /// The clip region, in layer coordinates; `None` exactly where none is installed.
+    pub fn clip(&self) -> Option<&Region>
+        requires { self.now.state ≡ view.Live }
+        ensures { MatchOption result
+            (self.now.live.layer.clip ≡ None)
+            (λ region. self.now.live.layer.clip ≡ Some (pixels_of region.now)) }
+    {
+        match &self.draft.state {
+            DraftState::Live(live) => live.clip.as_ref(),
             _ => unreachable!(),
         }
     }
