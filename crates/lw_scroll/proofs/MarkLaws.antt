@@ -5,10 +5,11 @@ use Rattle.std.proofs.lemmas.Bool.Decides.{nat_tests}
 use Rattle.std.proofs.lemmas.Int.{ints}
 use Rattle.lw_region.specs.Rectangle.{Rectangle, within, has_pixel}
 use Rattle.lw_region.specs.Bands.{bands, covers}
-use Rattle.lw_region.specs.Pixels.{pixels_of, union}
+use Rattle.lw_region.specs.Pixels.{Pixel, pixels_of, union}
 use Rattle.lw_region.specs.Regions.{rectangle_set}
 use Rattle.lw_region.proofs.SetOps.{combined_lists, covers_one}
 use Rattle.lw_region.proofs.Within.{within_true}
+use Rattle.lw_region.proofs.Reading.{contains_pixels_of}
 use Rattle.lw_region.proofs.Canonical.{covers_nil}
 use Rattle.lw_planes.specs.Grid.{grid, at}
 use Rattle.lw_planes.proofs.GridLaws.{grid_at, grid_same, grid_past_column, grid_past_row}
@@ -21,7 +22,7 @@ use Rattle.lw_machine.specs.Blits.{in_scroll_area, brought_if, brought_mark, bro
 use Rattle.lw_layer.specs.View.{LiveView, shows, keeps, draws, with_layer}
 use Rattle.lw_layer.specs.Pieces.{inner_of, damage_table, IsDamageOf}
 use Rattle.lw_scroll.specs.Scrolled.{scrolled_damage}
-use Rattle.lw_scroll.specs.Marks.{IsWhole, AreDrawable, is_hurt, LeadToHurt, AreDue, IsDamageWith, is_damaged, moved_mark, IsMovedDamage}
+use Rattle.lw_scroll.specs.Marks.{clip_has, IsWhole, AreDrawable, is_hurt, LeadToHurt, AreDue, IsDamageWith, is_damaged, moved_mark, IsMovedDamage}
 
 -- what is kept has its place in the layer's bits
 pub kept_place : (c : LiveView) (x y : ℕ) → keeps c x y ≡ true → (x < c.layer.bits.width) × (y < c.layer.bits.height)
@@ -64,14 +65,37 @@ alone_pixel before made r x y none is =
     (combined_lists.unions before (r ∷ []) made is).pixels x y
     ∙ (ap (λ l. covers l x y || covers (r ∷ []) x y) none ∙ (ap (λ t. t || covers (r ∷ []) x y) (covers_nil x y) ∙ covers_one r x y))
 
+-- a test that holds takes nothing away
+all_and : (a may : Bool) → may ≡ true → (a && may) ≡ a
+all_and true true is = refl
+all_and false may is = refl
+all_and true false is = absurd (both_ways false refl is)
+
+-- the clip region, asked at a place of the layer
+clip_at : (o : Option (List Pixel)) (x y : ℕ) → in_clip o x y ≡ clip_has o (pos x) (pos y)
+clip_at None x y = refl
+clip_at (Some set) x y = refl
+
 -- the drawable pixels among those that are kept
 pub drawable_is : (c : LiveView) (x y : ℤ)
     → holds_at (λ i j. draws c i j) x y
-    ≡ (holds_at (λ i j. keeps c i j) x y && (holds_at (λ i j. in_clip c.layer.clip i j) x y && (not c.layer.updating || is_damaged c x y)))
+    ≡ (holds_at (λ i j. keeps c i j) x y && (clip_has c.layer.clip x y && (not c.layer.updating || is_damaged c x y)))
 unfolding draws keeps is_drawable
-drawable_is c (pos x) (pos y) = refl
+drawable_is c (pos x) (pos y) =
+    ap (λ t. keeps c x y && (t && (not c.layer.updating || at false c.layer.damage x y))) (clip_at c.layer.clip x y)
 drawable_is c (pos x) (negsuc y) = refl
 drawable_is c (negsuc x) y = refl
+
+-- what a clip region leaves of some pixels, and what stays where there is none
+pub clip_met : (before made : List Rectangle) (clip : Option (List Pixel)) (region : List Rectangle) (x y : ℤ)
+    → clip ≡ Some (pixels_of region) → covers made x y ≡ (covers before x y && covers region x y)
+    → covers made x y ≡ (covers before x y && clip_has clip x y)
+clip_met before made clip region x y is both =
+    both ∙ ap (λ t. covers before x y && t) (sym (contains_pixels_of region x y) ∙ ap (λ o. clip_has o x y) (sym is))
+
+pub clip_none : (before : List Rectangle) (clip : Option (List Pixel)) (x y : ℤ) → clip ≡ None
+    → covers before x y ≡ (covers before x y && clip_has clip x y)
+clip_none before clip x y is = sym (all_and (covers before x y) (clip_has clip x y) (ap (λ o. clip_has o x y) is))
 
 -- the tests of a pixel in another order, as an update is on or not
 pub drawn_updating : (made cut target kept clip on damaged draws : Bool) → on ≡ true → cut ≡ ((target && kept) && clip)
@@ -200,11 +224,6 @@ may_pixel false w h x y other left low = and_from _ _ (place_inside x w left) (p
 
 both_all : (a b may lie : Bool) → a ≡ b → may ≡ true → lie ≡ true → (a && may) ≡ (b && lie)
 both_all a b may lie same first second = rw (same, first, second) refl
-
-all_and : (a may : Bool) → may ≡ true → (a && may) ≡ a
-all_and true true is = refl
-all_and false may is = refl
-all_and true false is = absurd (both_ways false refl is)
 
 -- Where no pixel of the rectangle leads to one of it, the damage stays.
 pub marks_stay : (c : LiveView) (d : Damaged) (rect : Rectangle) (dx dy : ℤ) → is_super c.layer.kind ≡ false → c.layer.window ≡ None

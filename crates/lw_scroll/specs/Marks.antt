@@ -2,6 +2,7 @@
 use Rattle.std.specs.Prelude.{◌≡◌, ℕ, ◌<◌, Bool, true, false, not, ◌&&◌, if◌then◌else◌, List, ◌∷◌, [], ℤ, ◌+ℤ◌, ◌-ℤ◌, Option, Some, None}
 use Rattle.lw_planes.specs.Grid.{grid, at}
 use Rattle.lw_region.specs.Rectangle.{Rectangle, has_pixel, IsWord}
+use Rattle.lw_region.specs.Pixels.{Pixel, contains_pixel}
 use Rattle.lw_region.specs.Bands.{covers}
 use Rattle.lw_calls.specs.Kinds.{is_super}
 use Rattle.lw_damage.specs.Damaged.{Damaged, may_lie}
@@ -18,6 +19,15 @@ AreKept c kept = (x y : ℤ) → covers kept x y ≡ holds_at (λ i j. keeps c i
 pub record IsWhole (c : LiveView) : Type 0 where
   pub kept : (x y : ℕ) → x < c.layer.bits.width → y < c.layer.bits.height → keeps c x y ≡ true
   pub sound : c.layer.damage ≡ grid c.layer.bits.width c.layer.bits.height (λ x y. false)
+
+-- the clip region, if there is one, has the pixel at column x and row y
+abbrev pub clip_has : Option (List Pixel) → ℤ → ℤ → Bool
+clip_has None x y = true
+clip_has (Some set) x y = contains_pixel set x y
+
+-- they have the pixels of others that the clip region has
+abbrev pub AreClipped : LiveView → List Rectangle → List Rectangle → Type 0
+AreClipped c before made = (x y : ℤ) → covers made x y ≡ (covers before x y && clip_has c.layer.clip x y)
 
 -- they have the drawable pixels of a rectangle
 abbrev pub AreDrawable : LiveView → Rectangle → List Rectangle → Type 0

@@ -1,20 +1,19 @@
 // The damage of a layer after a scroll.
 
-ghost use Rattle.std.specs.Prelude.{◌≡◌, true, false, ℤ, None, pos, negsuc, ◌-ℤ◌, ◌≤ℤ◌, IfOk};
+ghost use Rattle.std.specs.Prelude.{◌≡◌, true, false, ℤ, None, pos, negsuc, ◌-ℤ◌, ◌≤ℤ◌, IfOk, OnOk};
 ghost use Rattle.lw_region.specs.Rectangle.{has_pixel, IsWord};
 ghost use Rattle.lw_calls.specs.Kinds.{is_super};
 ghost use Rattle.lw_layer.specs.View as view;
 ghost use Rattle.lw_layer.specs.Pieces.{IsDamageOf};
 ghost use Rattle.lw_layer.specs.Looks.{IsLook};
 ghost use Rattle.lw_layer.specs.StandsFor.{IsSound};
-ghost use Rattle.lw_scroll.specs.Marks.{AreKept, IsWhole, AreDrawable, LeadToHurt, AreDue, IsDamageWith, IsDamageAfter, IsMovedDamage, AreShifted};
+ghost use Rattle.lw_scroll.specs.Marks.{AreKept, AreClipped, IsWhole, AreDrawable, LeadToHurt, AreDue, IsDamageWith, IsDamageAfter, IsMovedDamage, AreShifted};
 
 use crate::block::{block_of, brought_block, rect_of};
-use crate::stubs::{kept_region, meet_clip, moved_region};
 use lw_calls::Kind;
 use lw_damage::Damage;
-use lw_layer::{Cell, Look};
-use lw_region::{Rect, Region, and_region, clear_region, or_region};
+use lw_layer::{Cell, Look, kept_region};
+use lw_region::{Rect, Region, and_region, clear_region, moved_region, or_region};
 use std::alloc::{AllocError, Global};
 
 // The damage of the live layer once its pixels were scrolled; `None` where it is as before.
@@ -95,11 +94,21 @@ fn moved_damage(
     requires shifted { AreShifted target.now source.now dx dy }
     ensures { IfOk result (λ d. IsMovedDamage cell.now.live target.now dx dy d) }
 {
-    let kept = kept_region(alloc, cell)?;
+    let kept = kept_of(alloc, cell)?;
     let reached = drawable_in(alloc, cell, former, &kept, target)?;
     let hurt = hurt_region(alloc, kept, former.region(), source, dx, dy)?;
     let due = due_region(alloc, former.region(), reached, &hurt)?;
     damage_with(alloc, former.inner(), &due, former.updating())
+}
+
+// The pixels that the layer keeps.
+fn kept_of(alloc: Global, cell: &Cell) -> Result<Region, AllocError>
+    requires live { cell.now.state ≡ view.Live }
+    requires other { is_super cell.now.live.layer.kind ≡ false }
+    ensures { IfOk result (λ kept. AreKept cell.now.live kept) }
+{
+    let look = look_of(cell);
+    kept_region(alloc, look.kind, &look.bounds, cell.visible())
 }
 
 // The drawable pixels of a rectangle.
@@ -123,6 +132,17 @@ fn drawable_in(
         and_region(alloc, former.region(), &mut reached)?;
     }
     Ok(reached)
+}
+
+// Leaves those pixels that lie in the clip region, if there is one.
+fn meet_clip(alloc: Global, cell: &Cell, into: &mut Region) -> Result<(), AllocError>
+    requires { cell.now.state ≡ view.Live }
+    ensures { OnOk result (AreClipped cell.now.live into.old into.new) }
+{
+    if let Some(clip) = cell.clip() {
+        and_region(alloc, clip, into)?;
+    }
+    Ok(())
 }
 
 // The pixels that lead to one of the source that is damaged or isn't kept.

@@ -5,6 +5,8 @@
 mod block;
 mod damage;
 mod scrolling;
-mod stubs;
 
 pub use scrolling::scroll_raster;
+
+#[cfg(test)]
+mod tests;

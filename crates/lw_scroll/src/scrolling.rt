@@ -4,9 +4,10 @@ ghost use Rattle.lw_layer.specs.View.{shows, with_live, with_layer};
 ghost use Rattle.lw_layer.specs.View as view;
 ghost use Rattle.lw_scroll.specs.Scrolled.{pens_scrolled};
 
-use crate::block::{Block, beside, block_of, brought_block};
+use crate::block::{beside, block_of, brought_block};
 use crate::damage::damage_after;
-use crate::stubs::{fill_rows, shift_rows};
+use lw_blit::shift_rows;
+use lw_draw::fill_rows;
 use lw_layer::{Cell, Raster};
 use lw_region::Rect;
 use std::alloc::{AllocError, Global};
@@ -62,11 +63,8 @@ fn scroll_pens(cell: &mut Cell, rect: &Rect, dx: i32, dy: i32)
         mode: 0,
         ..raster
     };
-    fill_rows(cell, beside(block.rows, target.rows), block.columns, solid);
-    fill_rows(
-        cell,
-        target.rows,
-        beside(block.columns, target.columns),
-        solid,
-    );
+    let rows = beside(block.rows, target.rows);
+    let columns = beside(block.columns, target.columns);
+    fill_rows(cell, rows, block.columns, solid);
+    fill_rows(cell, target.rows, columns, solid);
 }

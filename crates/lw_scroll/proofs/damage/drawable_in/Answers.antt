@@ -3,9 +3,9 @@ use Rattle.lw_region.specs.Rectangle.{Rectangle, has_pixel}
 use Rattle.lw_region.specs.Bands.{covers}
 use Rattle.lw_region.proofs.SetOps.{combined_lists, covers_one}
 use Rattle.lw_region.proofs.Canonical.{covers_nil}
-use Rattle.lw_machine.specs.Kept.{holds_at, in_clip}
+use Rattle.lw_machine.specs.Kept.{holds_at}
 use Rattle.lw_layer.specs.View.{keeps, draws}
-use Rattle.lw_scroll.specs.Marks.{is_damaged}
+use Rattle.lw_scroll.specs.Marks.{clip_has, is_damaged}
 use Rattle.lw_scroll.proofs.MarkLaws.{former_marks, drawable_is, drawn_updating, drawn_idle, alone_pixel}
 use Rattle.lw_scroll.proofs.damage.drawable_in.Goals as goal
 use Rattle.lw_scroll.proofs.damage.drawable_in.Goals.{then-updating+in_ok-and_region-2, else-updating}
@@ -16,7 +16,7 @@ returns c = λ x y.
     let target = c.args.target.now in
     let former = c.args.former.now in
     let kept : Bool = holds_at (λ i j. keeps v i j) x y in
-    let clip : Bool = holds_at (λ i j. in_clip v.layer.clip i j) x y in
+    let clip : Bool = clip_has v.layer.clip x y in
     let alone = alone_pixel c.new-reached.result _ target x y c.new-reached.ensures c.in_ok-or_rect.ensures.list in
     let met = (combined_lists.intersections _ c.args.kept.now _ c.in_ok-and_region.ensures.list).pixels x y in
     let cut =

@@ -4,6 +4,8 @@ use Rattle.std.proofs.lemmas.Bool.{and_parts}
 use Rattle.std.proofs.lemmas.Result.{IfOk-weaker}
 use Rattle.lw_region.specs.Rectangle.{Rectangle, has_pixel, IsWord}
 use Rattle.lw_region.specs.Bands.{covers}
+use Rattle.lw_region.specs.Regions.{moved_list}
+use Rattle.lw_region.proofs.Moving.{moved_lists}
 use Rattle.lw_region.proofs.SetOps.{combined_lists}
 use Rattle.lw_scroll.specs.Marks.{LeadToHurt}
 use Rattle.lw_scroll.proofs.MarkLaws.{alone_pixel}
@@ -34,7 +36,7 @@ returns c =
     let former = c.args.former.now in
     let back_x = to_z w32 (of_z w32 (pos 0 -ℤ to_z w32 (of_z w32 c.args.dx))) in
     let back_y = to_z w32 (of_z w32 (pos 0 -ℤ to_z w32 (of_z w32 c.args.dy))) in
-    IfOk-weaker c.moved_region.result (λ made. (x y : ℤ) → covers made x y ≡ covers c.rects.result.now (x -ℤ back_x) (y -ℤ back_y))
+    IfOk-weaker c.moved_region.result (λ made. made ≡ moved_list c.rects.result.now back_x back_y)
     (λ made. LeadToHurt kept former source c.args.dx c.args.dy made)
     (λ made is x y.
     let column : x -ℤ back_x ≡ x +ℤ c.args.dx = omega (arith, ints) in
@@ -44,9 +46,10 @@ returns c =
     let sound = (combined_lists.differences kept former _ c.in_ok-clear_region.ensures.list).pixels across down in
     let alone = alone_pixel c.new-hurt.result _ source across down c.new-hurt.ensures c.in_ok-or_rect.ensures.list in
     let left = (combined_lists.differences _ _ _ c.in_ok-clear_region-2.ensures.list).pixels across down in
-    is x y
+    ap (λ (l : List Rectangle). covers l x y) is
+    ∙ (moved_lists.0 c.rects.result.now back_x back_y x y
     ∙ (ap (λ u. covers c.rects.result.now u (y -ℤ back_y)) column
     ∙ (ap (λ w. covers c.rects.result.now across w) row
     ∙ (ap (λ l. covers l across down) c.rects.ensures.value
-    ∙ hurt_is c.clear_region.new.into c.or_rect.new.self kept former c.clear_region-2.new.into source across down sound alone left))))
-    c.moved_region.ensures.pixels
+    ∙ hurt_is c.clear_region.new.into c.or_rect.new.self kept former c.clear_region-2.new.into source across down sound alone left)))))
+    c.moved_region.ensures

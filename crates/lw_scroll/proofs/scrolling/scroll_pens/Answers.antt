@@ -23,15 +23,6 @@ abbrev IsShift : CellView → CellView → Places → Places → Raster → ℤ 
 IsShift v w rows columns raster dx dy =
     w ≡ with_live (λ c. drawn (λ p i j. masked raster c rows columns p i j) (λ p i j old. kept_bit c p (pos i +ℤ dx) (pos j +ℤ dy)) c) v
 
-pub shift_rows-requires-clause-stub : goal.shift_rows-requires-clause-stub
-shift_rows-requires-clause-stub c = ?
-
-pub fill_rows-requires-clause-stub : goal.fill_rows-requires-clause-stub
-fill_rows-requires-clause-stub c = ?
-
-pub fill_rows-requires-2-clause-stub : goal.fill_rows-requires-2-clause-stub
-fill_rows-requires-2-clause-stub c = ?
-
 pub returns : goal.returns
 returns c =
     let v = c.args.cell.now in
@@ -41,8 +32,8 @@ returns c =
     let dy = c.args.dy in
     let block = c.block_of-block.result in
     let target = c.brought_block-target.result in
-    let rows = c.beside.result in
-    let columns = c.beside-2.result in
+    let rows = c.beside-rows.result in
+    let columns = c.beside-columns.result in
     let raster = raster_of c.raster-raster.result in
     let solid : Raster = record raster { pen_a = raster.pen_b; mode = 0 } in
     let new = brought_bit u rect dx dy in
@@ -62,23 +53,23 @@ returns c =
     in
     let second =
     filled_as v c.shift_rows.new.cell c.fill_rows.new.cell shift_on new solid rows.from rows.end block.columns.from block.columns.end first c.fill_rows.ensures
-    (λ p i j old on. pen_b p i j old ∙ bit_outside u rect dx dy p i j old (row_beside u rect block target rows dx dy has are c.beside.ensures.has (in_mask raster p) (draws u i j) i j on))
+    (λ p i j old on. pen_b p i j old ∙ bit_outside u rect dx dy p i j old (row_beside u rect block target rows dx dy has are c.beside-rows.ensures.has (in_mask raster p) (draws u i j) i j on))
     in
     let so_far : c.fill_rows.new.cell ≡ with_live (λ q. drawn both new q) v =
     cell_more v c.shift_rows.new.cell c.fill_rows.new.cell shift_on rows_on both new (brought_bits u rect dx dy)
     (record {
-      apart = λ p i j _ _ _. part_apart (in_mask raster p) (draws u i j) (is_between block.rows.from block.rows.end j) (is_between block.columns.from block.columns.end i) _ _ _ (c.beside.ensures.has j);
+      apart = λ p i j _ _ _. part_apart (in_mask raster p) (draws u i j) (is_between block.rows.from block.rows.end j) (is_between block.columns.from block.columns.end i) _ _ _ (c.beside-rows.ensures.has j);
       whole = λ p i j _ _ _. refl;
     }) first second
     in
     let third =
     filled_as v c.fill_rows.new.cell c.fill_rows-2.new.cell both new solid target.rows.from target.rows.end columns.from columns.end so_far c.fill_rows-2.ensures
-    (λ p i j old on. pen_b p i j old ∙ bit_outside u rect dx dy p i j old (column_beside u rect block target columns dx dy has are c.beside-2.ensures.has (in_mask raster p) (draws u i j) i j on))
+    (λ p i j old on. pen_b p i j old ∙ bit_outside u rect dx dy p i j old (column_beside u rect block target columns dx dy has are c.beside-columns.ensures.has (in_mask raster p) (draws u i j) i j on))
     in
     cell_more v c.fill_rows.new.cell c.fill_rows-2.new.cell both columns_on (masked raster u block.rows block.columns) new (brought_bits u rect dx dy)
     (record {
-      apart = λ p i j _ _ _. last_apart (in_mask raster p) (draws u i j) (is_between block.rows.from block.rows.end j) (is_between block.columns.from block.columns.end i) _ _ _ _ (c.beside.ensures.has j) (c.beside-2.ensures.has i);
-      whole = λ p i j _ _ _. last_whole (in_mask raster p) (draws u i j) _ _ _ _ _ _ (c.beside.ensures.has j) (c.beside-2.ensures.has i)
+      apart = λ p i j _ _ _. last_apart (in_mask raster p) (draws u i j) (is_between block.rows.from block.rows.end j) (is_between block.columns.from block.columns.end i) _ _ _ _ (c.beside-rows.ensures.has j) (c.beside-columns.ensures.has i);
+      whole = λ p i j _ _ _. last_whole (in_mask raster p) (draws u i j) _ _ _ _ _ _ (c.beside-rows.ensures.has j) (c.beside-columns.ensures.has i)
           (part_inside block.rows target.rows are.rows.at_side j) (part_inside block.columns target.columns are.columns.at_side i);
     }) so_far third
     ∙ ap (λ (q : LiveView). record v { live = q }) (pens_drawn u rect dx dy raster block c.block_of-block.ensures.bits.bitmap c.raster-raster.ensures.value has)

@@ -1,0 +1,318 @@
+ghost use Rattle.std.specs.Prelude.{◌≡◌, ◌<◌, IfOk};
+ghost use Rattle.lw_layer.specs.View as view;
+ghost use Rattle.lw_layer.specs.Drafts.{IsDraft, cell_view};
+
+use super::scroll_raster;
+use lw_calls::{Kind, Make, Place};
+use lw_draw::write_pixel;
+use lw_layer::{Cell, Draft, DraftState, LiveDraft, Raster};
+use lw_region::{Rect, Region};
+use std::alloc::Global;
+use std::test::Fail;
+
+// A scroll after the earlier ones of a layer of 8 by 4 pixels and four planes: the pens of each row that are due then, a digit for
+// each pixel and 0 where it isn't kept, and the damaged pixels of each row, a bit for each pixel.
+struct Step {
+    mask: u8,
+    dx: i16,
+    dy: i16,
+    rect: [i16; 4],
+    pens: [u32; 4],
+    damage: [u8; 4],
+}
+
+const WHOLE: [i16; 4] = [0, 0, 7, 3];
+
+// The pens with which each layer begins, as far as it keeps them. Pen B is 9.
+const FIRST: [u32; 4] = [0x01234567, 0x89abcdef, 0x11223344, 0x55667788];
+
+// A smart layer, of which the columns 2 to 5 are visible.
+static SMART: [Step; 5] = [
+    // One column to the left.
+    Step {
+        mask: 255,
+        dx: 1,
+        dy: 0,
+        rect: WHOLE,
+        pens: [0x12345679, 0x9abcdef9, 0x12233449, 0x56677889],
+        damage: [0, 0, 0, 0],
+    },
+    // Two to the right, in some rows and columns.
+    Step {
+        mask: 255,
+        dx: -2,
+        dy: 0,
+        rect: [2, 1, 6, 2],
+        pens: [0x12345679, 0x9a99bcd9, 0x12992339, 0x56677889],
+        damage: [0, 0, 0, 0],
+    },
+    // One row up, in the columns 0 to 3.
+    Step {
+        mask: 255,
+        dx: 0,
+        dy: 1,
+        rect: [0, 0, 3, 3],
+        pens: [0x9a995679, 0x1299bcd9, 0x56672339, 0x99997889],
+        damage: [0, 0, 0, 0],
+    },
+    // Three columns to the left and one row down, in two planes and in a rectangle that reaches out of the layer.
+    Step {
+        mask: 3,
+        dx: 3,
+        dy: -1,
+        rect: [-5, 0, 40, 2],
+        pens: [0x99995559, 0x11ab9dd9, 0x57451119, 0x99997889],
+        damage: [0, 0, 0, 0],
+    },
+    // So far that nothing of the layer stays.
+    Step {
+        mask: 255,
+        dx: -32768,
+        dy: 1,
+        rect: WHOLE,
+        pens: [0x99999999, 0x99999999, 0x99999999, 0x99999999],
+        damage: [0, 0, 0, 0],
+    },
+];
+
+// A simple layer, of which these columns are visible.
+static SIMPLE: [Step; 3] = [
+    // What comes in from hidden pixels is damaged.
+    Step {
+        mask: 255,
+        dx: 1,
+        dy: 0,
+        rect: WHOLE,
+        pens: [0x00345000, 0x00bcd000, 0x00233000, 0x00677000],
+        damage: [0x04, 0x04, 0x04, 0x04],
+    },
+    // Damage moves along, and stays on a pixel that takes pen B.
+    Step {
+        mask: 255,
+        dx: 1,
+        dy: 0,
+        rect: [3, 1, 5, 2],
+        pens: [0x00345000, 0x00bd0900, 0x00230900, 0x00677000],
+        damage: [0x04, 0x0c, 0x0c, 0x04],
+    },
+    // A pixel to which an undamaged one comes loses its damage.
+    Step {
+        mask: 255,
+        dx: -1,
+        dy: 0,
+        rect: [4, 0, 5, 3],
+        pens: [0x00349500, 0x00bd9000, 0x00239000, 0x00679700],
+        damage: [0, 0x0c, 0x0c, 0],
+    },
+];
+
+// The same layer with a clip region, which has row 1 alone.
+static CLIPPED: [Step; 1] = [Step {
+    mask: 255,
+    dx: 0,
+    dy: -1,
+    rect: WHOLE,
+    pens: [0x00349500, 0x00349500, 0x00239000, 0x00679700],
+    damage: [0, 0, 0x0c, 0],
+}];
+
+// The same layer without the clip region, in an update.
+static UPDATING: [Step; 1] = [Step {
+    mask: 255,
+    dx: -1,
+    dy: 0,
+    rect: [3, 0, 5, 3],
+    pens: [0x00349500, 0x00349500, 0x00233900, 0x00679700],
+    damage: [0, 0, 0x04, 0],
+}];
+
+// A super-bitmap layer, of which these columns are visible.
+static OWN: [Step; 2] = [
+    // Two rows down.
+    Step {
+        mask: 255,
+        dx: 0,
+        dy: -2,
+        rect: WHOLE,
+        pens: [0x99999999, 0x99999999, 0x01234567, 0x89abcdef],
+        damage: [0, 0, 0, 0],
+    },
+    // One row up and one column to the right, from columns that are hidden too.
+    Step {
+        mask: 255,
+        dx: -1,
+        dy: 1,
+        rect: [1, 1, 6, 3],
+        pens: [0x99999999, 0x99123459, 0x099abcd7, 0x8999999f],
+        damage: [0, 0, 0, 0],
+    },
+];
+
+// A new layer of this kind, of which the columns 2 to 5 are visible.
+fn draft_of(alloc: Global, kind: Kind) -> Result<Draft, Fail>
+    ensures draft { IfOk result (λ d. IsDraft d) }
+    ensures live { IfOk result (λ d. (cell_view d).state ≡ view.Live) }
+{
+    let bounds = Rect::new(10, 5, 17, 8).ok_or("out of order")?;
+    let mut visible = Region::new(alloc);
+    visible.or_rect(alloc, &Rect::new(12, 5, 15, 8).ok_or("out of order")?)?;
+    visible.and_rect(alloc, &bounds)?;
+    let make = Make {
+        kind,
+        place: Place::Front,
+        x: 10,
+        y: 5,
+        w: 8,
+        h: 4,
+        backdrop: false,
+        hook: None,
+        bits_w: 8,
+        bits_h: 4,
+    };
+    let live = LiveDraft::new(alloc, &make, 4, &bounds, &visible)?;
+    Ok(Draft {
+        slot: 0,
+        state: DraftState::Live(live),
+    })
+}
+
+// The digit of a row that stands for its pixel x.
+fn digit(row: u32, x: u32) -> u8
+    requires { x < 8 }
+{
+    ((row >> (28 - 4 * x)) & 15) as u8
+}
+
+fn paint_row(cell: &mut Cell, y: usize, raster: Raster)
+    requires live { cell.old.state ≡ view.Live }
+    requires row { y < 4 }
+    requires mode { raster.mode < 8 }
+    ensures { cell.new.state ≡ view.Live }
+{
+    for x in 0..8u32 {
+        cell.set_raster(Raster {
+            a: digit(FIRST[y], x),
+            ..raster
+        });
+        let _ = write_pixel(cell, x as i32, y as i32);
+    }
+}
+
+// A layer of this kind with its first pens.
+fn layer_of(alloc: Global, kind: Kind) -> Result<Cell, Fail>
+    ensures { IfOk result (λ c. c.state ≡ view.Live) }
+{
+    let mut cell = Cell::unopened(0);
+    let _ = cell.take_up(draft_of(alloc, kind)?);
+    let raster = cell.raster();
+    for y in 0..4usize {
+        paint_row(&mut cell, y, raster);
+    }
+    Ok(cell)
+}
+
+// The row has these pens and this damage.
+fn has_row(cell: &Cell, y: usize, pens: u32, damage: u8) -> bool
+    requires live { cell.now.state ≡ view.Live }
+    requires row { y < 4 }
+{
+    for x in 0..8u32 {
+        let pen = match cell.kept_at(x as i32, y as i32) {
+            Some(pen) => pen,
+            None => 0,
+        };
+        let damaged = cell.damage().region().has(x as i32, y as i32);
+        if pen != digit(pens, x) || damaged != (damage & (0x80 >> x) != 0) {
+            return false;
+        }
+    }
+    true
+}
+
+fn has_rows(cell: &Cell, step: &Step) -> bool
+    requires { cell.now.state ≡ view.Live }
+{
+    for y in 0..4usize {
+        if !has_row(cell, y, step.pens[y], step.damage[y]) {
+            return false;
+        }
+    }
+    true
+}
+
+fn scroll(alloc: Global, cell: &mut Cell, step: &Step) -> Result<(), Fail>
+    requires { cell.old.state ≡ view.Live }
+    ensures { cell.new.state ≡ view.Live }
+{
+    let raster = cell.raster();
+    cell.set_raster(Raster {
+        b: 9,
+        mask: step.mask,
+        ..raster
+    });
+    let rect = Rect::new(step.rect[0], step.rect[1], step.rect[2], step.rect[3]);
+    let rect = rect.ok_or("out of order")?;
+    scroll_raster(alloc, cell, i32::from(step.dx), i32::from(step.dy), &rect)?;
+    Ok(())
+}
+
+// The layer is as is due after each of the steps.
+fn all_scroll(alloc: Global, cell: &mut Cell, steps: &[Step]) -> Result<bool, Fail>
+    requires { cell.old.state ≡ view.Live }
+    ensures { cell.new.state ≡ view.Live }
+{
+    for step in steps {
+        scroll(alloc, cell, step)?;
+        if !has_rows(cell, step) {
+            return Ok(false);
+        }
+    }
+    Ok(true)
+}
+
+// Begins an update of the layer.
+fn begin(cell: &mut Cell)
+    requires { cell.old.state ≡ view.Live }
+    ensures { cell.new.state ≡ view.Live }
+{
+    let former = cell.take_up(Draft {
+        slot: 0,
+        state: DraftState::Unopened,
+    });
+    match former.state {
+        DraftState::Live(live) => {
+            let mut live = live;
+            live.damage.begin();
+            let _ = cell.take_up(Draft {
+                slot: former.slot,
+                state: DraftState::Live(live),
+            });
+        }
+        _ => unreachable!(),
+    }
+}
+
+#[test]
+fn pens_are_scrolled_as_worked_out_by_hand(rt: HostRuntime) -> Result<(), Fail> {
+    let alloc = rt.alloc();
+    let mut cell = layer_of(alloc, Kind::Smart)?;
+    assert!(rt; all_scroll(alloc, &mut cell, &SMART)?);
+    let mut cell = layer_of(alloc, Kind::SuperBitmap)?;
+    assert!(rt; all_scroll(alloc, &mut cell, &OWN)?);
+    Ok(())
+}
+
+#[test]
+fn damage_is_scrolled_as_worked_out_by_hand(rt: HostRuntime) -> Result<(), Fail> {
+    let alloc = rt.alloc();
+    let mut cell = layer_of(alloc, Kind::Simple)?;
+    assert!(rt; all_scroll(alloc, &mut cell, &SIMPLE)?);
+    let mut clip = Region::new(alloc);
+    clip.or_rect(alloc, &Rect::new(0, 1, 7, 1).ok_or("out of order")?)?;
+    let _ = cell.set_clip(Some(clip));
+    assert!(rt; all_scroll(alloc, &mut cell, &CLIPPED)?);
+    let _ = cell.set_clip(None);
+    begin(&mut cell);
+    assert!(rt; all_scroll(alloc, &mut cell, &UPDATING)?);
+    Ok(())
+}
