@@ -6,10 +6,12 @@ use Rattle.std.proofs.lemmas.Bool.{and_parts, ltb-true}
 use Rattle.lw_region.specs.Rectangle.{Rectangle}
 use Rattle.lw_calls.specs.declared.make.Make.{Make}
 use Rattle.lw_calls.specs.declared.call.Call.{Call}
-use Rattle.lw_calls.specs.declared.call.Call.TheVariants.{Create, OpenWindow, Close, ToFront, ToBack, InFrontOf, MoveBy, SizeBy, SetBox, Activate}
+use Rattle.lw_calls.specs.declared.call.Call.TheVariants.{Create, OpenWindow, Close, ToFront, ToBack, InFrontOf, MoveBy, SizeBy, SetBox, Activate, Blit}
 use Rattle.lw_calls.specs.Limits.{call_fits, make_fits, coordinates_fit, is_extent, window_fits}
 use Rattle.lw_calls.specs.Orders.{occurrences}
-use Rattle.lw_calls.specs.Touches.{OnAll, class_of}
+use Rattle.lw_calls.specs.Touches.{CallClass, OnAll, class_of, slots_in}
+use Rattle.lw_calls.specs.Plan.{is_all}
+use Rattle.lw_calls.proofs.BlitClass.{blit_not_all}
 use Rattle.lw_machine.specs.Layer.{Window}
 use Rattle.lw_machine.specs.Desk.{Desk, with_value}
 use Rattle.lw_machine.specs.Parts.{info_part}
@@ -144,4 +146,5 @@ after_stands d v looks fresh task (SetBox slot x y w h) ok all fits are =
     change_stands d v slot (Box x y w h) are.info (entry_low v slot (coordinates_fit x y && (is_extent w && is_extent h)) ok fits)
 after_stands d v looks fresh task (Activate slot) ok all fits are =
     record { front_to_back = are.info.front_to_back; bounds = are.info.bounds; active = refl }
+after_stands d v looks fresh task (Blit source slot area) ok all fits are = absurd (blit_not_all (source == slot) source slot (ap (λ (k : CallClass). is_all (slots_in k)) all))
 after_stands d v looks fresh task call ok all fits are = absurd (cc)

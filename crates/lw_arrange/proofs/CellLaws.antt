@@ -5,8 +5,10 @@ use Rattle.std.proofs.lemmas.Bool.{eqb-true}
 use Rattle.lw_region.specs.Rectangle.{Rectangle, moved_by}
 use Rattle.lw_calls.specs.declared.make.Make.{Make}
 use Rattle.lw_calls.specs.declared.call.Call.{Call}
-use Rattle.lw_calls.specs.declared.call.Call.TheVariants.{Create, OpenWindow, Close, ToFront, ToBack, InFrontOf, MoveBy, SizeBy, SetBox, Activate}
-use Rattle.lw_calls.specs.Touches.{OnAll, class_of}
+use Rattle.lw_calls.specs.declared.call.Call.TheVariants.{Create, OpenWindow, Close, ToFront, ToBack, InFrontOf, MoveBy, SizeBy, SetBox, Activate, Blit}
+use Rattle.lw_calls.specs.Touches.{CallClass, OnAll, class_of, slots_in}
+use Rattle.lw_calls.specs.Plan.{is_all}
+use Rattle.lw_calls.proofs.BlitClass.{blit_not_all}
 use Rattle.lw_machine.specs.Layer.{Unopened, Live, Closed, is_live, is_unopened}
 use Rattle.lw_machine.specs.Desk.{Desk, is_the}
 use Rattle.lw_machine.specs.Shapes.{box_at}
@@ -91,6 +93,7 @@ slot_becomes d task (MoveBy slot dx dy) s all plain done = inl (record { slot = 
 slot_becomes d task (SizeBy slot dw dh) s all plain done = inl (record { slot = refl; bounds = bounds_there d slot s (λ r. sized_by r dw dh) })
 slot_becomes d task (SetBox slot x y w h) s all plain done = inl (record { slot = refl; bounds = bounds_there d slot s (λ r. box_at x y w h) })
 slot_becomes d task (Activate slot) s all plain done = absurd plain
+slot_becomes d task (Blit source slot area) s all plain done = absurd (blit_not_all (source == slot) source slot (ap (λ (k : CallClass). is_all (slots_in k)) all))
 slot_becomes d task call s all plain done = absurd (cc all)
 
 -- a slot that isn't active isn't it afterwards
@@ -116,4 +119,5 @@ idle_after d task (MoveBy slot dx dy) s all plain idle = idle
 idle_after d task (SizeBy slot dw dh) s all plain idle = idle
 idle_after d task (SetBox slot x y w h) s all plain idle = idle
 idle_after d task (Activate slot) s all plain idle = absurd plain
+idle_after d task (Blit source slot area) s all plain idle = absurd (blit_not_all (source == slot) source slot (ap (λ (k : CallClass). is_all (slots_in k)) all))
 idle_after d task call s all plain idle = absurd (cc all)

@@ -1,5 +1,5 @@
 -- What planning refuses is what the machine refuses.
-use Rattle.std.proofs.Common.{◌≡◌, ℕ, ◌<◌, Bool, true, false, not, ◌&&◌, nat_lt, ℤ, pos, List, Option, Some, None, IsTrue, refl, sym, ap, ◌∙◌}
+use Rattle.std.proofs.Common.{◌≡◌, ℕ, ◌<◌, ◌==◌, Bool, true, false, not, ◌&&◌, nat_lt, ℤ, pos, List, Option, Some, None, IsTrue, refl, sym, ap, ◌∙◌}
 use Rattle.std.specs.Prelude.{if◌then◌else◌}
 use Rattle.std.specs.List.{slice_index_or}
 use Rattle.std.proofs.lemmas.Bool.{and_parts, ltb-true, false≢true}
@@ -9,12 +9,14 @@ use Rattle.lw_calls.specs.declared.make.Kind.{Kind}
 use Rattle.lw_calls.specs.declared.make.Kind.TheVariants.{Simple, Smart, SuperBitmap}
 use Rattle.lw_calls.specs.declared.make.Make.{Make}
 use Rattle.lw_calls.specs.declared.call.Call.{Call}
-use Rattle.lw_calls.specs.declared.call.Call.TheVariants.{Create, OpenWindow, Close, ToFront, ToBack, InFrontOf, MoveBy, SizeBy, SetBox, Activate}
+use Rattle.lw_calls.specs.declared.call.Call.TheVariants.{Create, OpenWindow, Close, ToFront, ToBack, InFrontOf, MoveBy, SizeBy, SetBox, Activate, Blit}
 use Rattle.lw_calls.specs.declared.reply.Reply.{Reply}
 use Rattle.lw_calls.specs.declared.reply.Reply.TheVariants.{NotOpen, AlreadyOpen, NotWindow, NotOwner, Backdrop, OutOfBounds}
 use Rattle.lw_calls.specs.Kinds.{is_super}
 use Rattle.lw_calls.specs.Limits.{call_fits, make_fits, coordinates_fit, is_extent, window_fits}
-use Rattle.lw_calls.specs.Touches.{OnAll, class_of}
+use Rattle.lw_calls.specs.Touches.{CallClass, OnAll, class_of, slots_in}
+use Rattle.lw_calls.specs.Plan.{is_all}
+use Rattle.lw_calls.proofs.BlitClass.{blit_not_all}
 use Rattle.lw_machine.specs.Layer.{Layer, Window, Slot, Unopened, Live, Closed, is_live, is_unopened, layer_is, is_window, is_foreign, is_framed}
 use Rattle.lw_machine.specs.Desk.{Desk}
 use Rattle.lw_machine.specs.Reveal.{has_bounds}
@@ -231,4 +233,5 @@ refused_is_refusal d v looks fresh task (SetBox slot x y w h) all fits are =
     (slot_low slot v.sizes.slots (coordinates_fit x y && (is_extent w && is_extent h)) fits)
 refused_is_refusal d v looks fresh task (Activate slot) all fits are =
     activation_is d v looks fresh (Activate slot) slot are (ltb-true slot v.sizes.slots fits)
+refused_is_refusal d v looks fresh task (Blit source slot area) all fits are = absurd (blit_not_all (source == slot) source slot (ap (λ (k : CallClass). is_all (slots_in k)) all))
 refused_is_refusal d v looks fresh task call all fits are = absurd (cc)

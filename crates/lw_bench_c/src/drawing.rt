@@ -1,6 +1,7 @@
 ghost use Rattle.std.specs.Prelude.{◌≡◌, ◌≤◌, ◌<◌};
 ghost use Rattle.lw_calls.specs.Limits.{IsWithinLimits};
 
+use crate::blits::{put_of, blit_of, scroll_of};
 use lw_calls::{Assets, Call, Final, Kind, Make, Place, Replies, Sizes, Text, built};
 use lw_engine::Desk;
 use lw_planes::Planes;
@@ -10,7 +11,7 @@ use std::alloc::{AllocError, Global};
 // How many letters a text has.
 const LETTERS: usize = 80;
 
-// The sizes of a desk with one layer.
+// The sizes of a desk with two layers and a bitmap.
 fn sizes_of(planes: u32) -> Sizes
     requires some { 1 ≤ planes }
     requires few { planes ≤ 8 }
@@ -22,15 +23,15 @@ fn sizes_of(planes: u32) -> Sizes
         width: 640,
         height: 512,
         depth: planes,
-        slots: 1,
+        slots: 2,
         tasks: 1,
         hooks: 0,
-        bitmaps: 0,
+        bitmaps: 1,
     }
 }
 
-// The creation of a layer that covers the screen.
-fn creation() -> Call {
+// The creation of a layer that covers the screen, in front of the other one.
+fn creation(slot: u32) -> Call {
     let make = Make {
         kind: Kind::Smart,
         place: Place::Front,
@@ -43,7 +44,7 @@ fn creation() -> Call {
         bits_w: 0,
         bits_h: 0,
     };
-    Call::Create { slot: 0, make }
+    Call::Create { slot, make }
 }
 
 // The fill of a square whose left edge is in the middle of a byte.
@@ -65,28 +66,23 @@ fn letters(alloc: Global) -> Result<Call, AllocError> {
     })
 }
 
-// The calls of one repetition: a fill; two lines of 100 pixels, there and back; or a text with the call that puts the cursor before
-// it.
+// The calls of one repetition: a fill; two lines of 100 pixels, there and back; a scroll by 1 column, by 1 row, or by 7 columns and 3
+// rows the other way; a blit from the bitmap, from the layer behind, or within the layer; or a text with the call that puts the
+// cursor before it.
 fn calls_of(alloc: Global, shape: u32, side: i16) -> Option<Vec<Call>> {
     let mut calls = Vec::new(alloc);
     match shape {
         0 => calls.push(fill_of(side)?).ok()?,
         1 => {
-            calls
-                .push(Call::DrawTo {
-                    slot: 0,
-                    x: 99,
-                    y: side,
-                })
-                .ok()?;
-            calls
-                .push(Call::DrawTo {
-                    slot: 0,
-                    x: 0,
-                    y: 0,
-                })
-                .ok()?;
+            calls.push(line_to(99, side)).ok()?;
+            calls.push(line_to(0, 0)).ok()?;
         }
+        2 => calls.push(scroll_of(side, 1, 0)?).ok()?,
+        3 => calls.push(scroll_of(side, 0, 1)?).ok()?,
+        4 => calls.push(scroll_of(side, -7, -3)?).ok()?,
+        5 => calls.push(put_of(side)).ok()?,
+        6 => calls.push(blit_of(1, side)).ok()?,
+        7 => calls.push(blit_of(0, side)).ok()?,
         _ => {
             calls
                 .push(Call::At {
@@ -99,6 +95,10 @@ fn calls_of(alloc: Global, shape: u32, side: i16) -> Option<Vec<Call>> {
         }
     }
     Some(calls)
+}
+
+fn line_to(x: i16, y: i16) -> Call {
+    Call::DrawTo { slot: 0, x, y }
 }
 
 // Makes one call on the desk, if it may be made.
@@ -198,12 +198,15 @@ pub(crate) fn repeated(
     requires few { planes ≤ 8 }
 {
     let sizes = sizes_of(planes);
+    let mut bitmaps = Vec::new(alloc);
+    bitmaps.push(Planes::new(alloc, 640, 512, planes).ok()?).ok()?;
     let assets = Assets {
         glyphs: [[0x5a; 8]; 95],
-        bitmaps: Vec::new(alloc),
+        bitmaps,
     };
     let mut desk = Desk::new(alloc, sizes).ok()?;
-    make(alloc, &mut desk, &assets, &sizes, &creation())?;
+    make(alloc, &mut desk, &assets, &sizes, &creation(1))?;
+    make(alloc, &mut desk, &assets, &sizes, &creation(0))?;
     let calls = calls_of(alloc, shape, side)?;
     make_often(
         alloc,

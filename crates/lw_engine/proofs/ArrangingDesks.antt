@@ -4,7 +4,7 @@ use Rattle.std.specs.List.{slice_index_or}
 use Rattle.std.proofs.lemmas.Bool.{and_parts, ltb-true}
 use Rattle.lw_region.specs.Rectangle.{Rectangle}
 use Rattle.lw_calls.specs.declared.call.Call.{Call}
-use Rattle.lw_calls.specs.declared.call.Call.TheVariants.{Create, OpenWindow, Close, ToFront, ToBack, InFrontOf, MoveBy, SizeBy, SetBox, Activate}
+use Rattle.lw_calls.specs.declared.call.Call.TheVariants.{Create, OpenWindow, Close, ToFront, ToBack, InFrontOf, MoveBy, SizeBy, SetBox, Activate, Blit}
 use Rattle.lw_calls.specs.declared.reply.Reply.{Reply}
 use Rattle.lw_calls.specs.declared.reply.Reply.TheVariants.{Done}
 use Rattle.lw_calls.specs.declared.sizes.Sizes.{Sizes}
@@ -125,6 +125,7 @@ answers_done d task (MoveBy slot dx dy) all = refl
 answers_done d task (SizeBy slot dw dh) all = refl
 answers_done d task (SetBox slot x y w h) all = refl
 answers_done d task (Activate slot) all = refl
+answers_done d task (Blit source slot area) all = refl
 answers_done d task call all = absurd (cc all)
 
 reply_done : (d : Desk) (task : ℕ) (call : Call) → class_of call ≡ OnAll → refusal d task call ≡ None → Done ≡ reply d task call

@@ -1,15 +1,12 @@
 -- What a call that is built is, by its class.
-use Rattle.std.proofs.Common.{◌≡◌, ℕ, true, Option, Some, None, IsTrue, refl}
+use Rattle.std.proofs.Common.{◌≡◌, ℕ, ◌==◌, true, Option, Some, None, IsTrue, refl, ap}
 use Rattle.lw_calls.specs.declared.call.Call.{Call}
 use Rattle.lw_calls.specs.declared.call.Call.TheVariants.{Create, OpenWindow, Close, ToFront, ToBack, InFrontOf, MoveBy, SizeBy, SetBox, Activate, Blit}
 use Rattle.lw_calls.specs.Built.{is_hookless, is_built}
-use Rattle.lw_calls.specs.Touches.{OnLayers, OnAll, class_of}
+use Rattle.lw_calls.specs.Touches.{CallClass, OnAll, class_of, slots_in}
+use Rattle.lw_calls.specs.Plan.{is_all}
+use Rattle.lw_calls.proofs.BlitClass.{blit_not_all}
 use Rattle.lw_arrange.specs.Prepared.{IsPlainCall}
-
--- no call on two layers
-pub no_pair : (call : Call) (source slot : ℕ) → class_of call ≡ OnLayers source slot → IsTrue (is_built call) → ⊥
-no_pair (Blit source slot area) s t is built = cc built
-no_pair call s t is built = cc is
 
 -- no hook is named where none is
 hook_none : (hook : Option ℕ) → is_hookless hook ≡ true → hook ≡ None
@@ -28,4 +25,5 @@ built_plain (MoveBy slot dx dy) is built = tt
 built_plain (SizeBy slot dw dh) is built = tt
 built_plain (SetBox slot x y w h) is built = tt
 built_plain (Activate slot) is built = absurd (cc built)
+built_plain (Blit source slot area) is built = absurd (blit_not_all (source == slot) source slot (ap (λ (k : CallClass). is_all (slots_in k)) is))
 built_plain call is built = absurd (cc is)

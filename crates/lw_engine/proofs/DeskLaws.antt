@@ -1,5 +1,5 @@
 -- What a call leaves of a whole desk, from what it leaves of the parts that it touches.
-use Rattle.std.proofs.Common.{◌≡◌, ◌≢◌, ℕ, ◌<◌, ◌==◌, Bool, true, false, ◌&&◌, nat_lt, List, [], length, get_or, set, Option, Some, None, IsTrue, ◌∙◌, sym, refl, ap, subst, ⊎_elim, arith}
+use Rattle.std.proofs.Common.{◌≡◌, ◌≢◌, ℕ, ◌<◌, ◌==◌, Bool, true, false, ◌&&◌, ◌||◌, nat_lt, List, [], length, get_or, set, Option, Some, None, IsTrue, ◌∙◌, sym, refl, ap, subst, ⊎_elim, arith}
 use Rattle.std.proofs.lemmas.Bool.{cases_eq, eq-eqb, ne_eqb, false≢true, eqb-true, and_parts}
 use Rattle.std.proofs.lemmas.Bool.Decides.{nat_tests}
 use Rattle.std.proofs.lemmas.List.{get_or-set_same, get_or-set_other}
@@ -7,7 +7,7 @@ use Rattle.lw_region.specs.Rectangle.{Rectangle}
 use Rattle.lw_region.specs.Pixels.{Pixel}
 use Rattle.lw_calls.specs.declared.sizes.Sizes.{Sizes}
 use Rattle.lw_calls.specs.declared.call.Call.{Call}
-use Rattle.lw_calls.specs.declared.call.Call.TheVariants.{RegRect, RegPair, RegClear, InFrontOf, Which, SetA, SetB, SetMode, SetMask, At, WritePixel, ReadPixel, Fill, DrawTo, Letters, SetRast, ScrollRaster, Put, Clip, Unclip, BeginRefresh, EndRefresh, Scroll, SetTitle, TakeMessage}
+use Rattle.lw_calls.specs.declared.call.Call.TheVariants.{RegRect, RegPair, RegClear, InFrontOf, Which, SetA, SetB, SetMode, SetMask, At, WritePixel, ReadPixel, Fill, DrawTo, Letters, SetRast, ScrollRaster, Put, Blit, Clip, Unclip, BeginRefresh, EndRefresh, Scroll, SetTitle, TakeMessage}
 use Rattle.lw_calls.specs.declared.reply.Reply.{Reply}
 use Rattle.lw_calls.specs.declared.touch.Role.TheVariants.{Task, Slot as SlotRole, Info}
 use Rattle.lw_calls.specs.Limits.{call_fits}
@@ -22,6 +22,7 @@ use Rattle.lw_layer.specs.StandsFor.{StandsFor}
 use Rattle.lw_stack.specs.Stack.{Stack, StandsForInfo}
 use Rattle.lw_engine.specs.Desks.{StandForRegisters, cell_at, AreOfDesk, Engine, registers_at, StandsForDesk}
 use Rattle.lw_engine.specs.Steps.{with_registers, with_cell}
+use Rattle.lw_engine.proofs.BlittingLaws.{look_apart, alone_told, pair_told}
 
 -- a call that isn't on registers leaves them all
 effect_registers : (d : Desk) (task : ℕ) (call : Call) → (class_of call ≡ OnRegisters → ⊥) → (effect d task call).registers ≡ d.registers
@@ -43,6 +44,7 @@ after_registers d task call other = unless_registers (refusal d task call) d (ef
 pub after_look : (d : Desk) (task : ℕ) (call : Call) → class_of call ≡ OnInfo → after d task call ≡ d
 unfolding after
 after_look d task (Which x y) is = refl
+after_look d task (Blit source slot area) is = absurd (look_apart source slot area is)
 after_look d task call is = absurd (cc is)
 
 -- the parts of the desk where a call leaves LayerInfo, and each slot or this cell of it
@@ -108,6 +110,38 @@ layer_desk e d task slot call c fits class here stands step =
     touch : (s : ℕ) → has_slot (slots_of call) s ≡ (slot == s)
     touch s = ap (λ (k : CallClass). has_slot (slots_in k) s) class
 
+-- after a call on two layers, of which it leaves the first as it is
+pub pair_desk : (e : Engine) (d : Desk) (task source slot : ℕ) (call : Call) (c : CellView) → IsTrue (call_fits e.stack.sizes call) → class_of call ≡ OnLayers source slot → slot < length e.cells → StandsForDesk e d → StandsFor (cell_at e.cells source) (slot_part (after d task call) source) → StandsFor c (slot_part (after d task call) slot) → StandsForDesk (with_cell e slot c) (after d task call)
+pair_desk e d task source slot call c fits class here stands from step =
+    record {
+      parts = parts_after e.stack e.cells (set e.cells slot c) d task call fits (ap is_on_info class) stands.parts
+          (λ s has. get_or-set_other e.cells slot s c _ (λ same. absurd (false≢true (sym has ∙ (touch s ∙ either_right (source == s) (slot == s) (eq-eqb slot s (sym same)))))))
+          (λ s has.
+          ⊎_elim
+          (λ (same : s ≡ slot).
+          let P : ℕ → Type 0 = λ k. StandsFor (cell_at (set e.cells slot c) k) (slot_part (after d task call) k) in
+          let Q : CellView → Type 0 = λ k. StandsFor k (slot_part (after d task call) slot) in
+          subst P (sym same) (subst Q (sym (get_or-set_same e.cells slot c _ here)) step))
+          (λ (other : s ≢ slot).
+          let first : source ≡ s = eqb-true source s (left_of (source == s) (slot == s) (sym (touch s) ∙ has) (ne_eqb slot s (λ back. other (sym back)))) in
+          let P : ℕ → Type 0 = λ k. StandsFor (cell_at e.cells k) (slot_part (after d task call) k) in
+          let Q : CellView → Type 0 = λ k. StandsFor k (slot_part (after d task call) s) in
+          subst Q (sym (get_or-set_other e.cells slot s c _ other)) (subst P first from))
+          (cases_eq s slot));
+      registers = registers_after e d task call (λ other. absurd (cc (class, other))) stands;
+    }
+  where
+    touch : (s : ℕ) → has_slot (slots_of call) s ≡ ((source == s) || (slot == s))
+    touch s = ap (λ (k : CallClass). has_slot (slots_in k) s) class
+
+    either_right : (a b : Bool) → b ≡ true → (a || b) ≡ true
+    either_right true b is = refl
+    either_right false b is = is
+
+    left_of : (a b : Bool) → (a || b) ≡ true → b ≡ false → a ≡ true
+    left_of true b either off = refl
+    left_of false b either off = sym off ∙ either
+
 -- and after an arrangement
 pub all_desk : (e : Engine) (d : Desk) (task : ℕ) (call : Call) (v : Stack) (cells : List CellView) → class_of call ≡ OnAll → v.sizes ≡ e.stack.sizes → StandsForDesk e d → AreOfDesk v cells (after d task call) → StandsForDesk (record e { stack = v; cells = cells }) (after d task call)
 all_desk e d task call v cells class same stands parts =
@@ -146,6 +180,9 @@ slot_fits s (Letters n text) slot class fits = named_fits s (Letters n text) slo
 slot_fits s (SetRast n pen) slot class fits = named_fits s (SetRast n pen) slot n class refl (small n s.slots _ fits)
 slot_fits s (ScrollRaster n dx dy rect) slot class fits = named_fits s (ScrollRaster n dx dy rect) slot n class refl (small n s.slots _ fits)
 slot_fits s (Put bitmap n area) slot class fits = named_fits s (Put bitmap n area) slot n class refl (small n s.slots _ (and_parts (nat_lt bitmap s.bitmaps) _ fits).1)
+slot_fits s (Blit source n area) slot class fits =
+    let P : ℕ → Type 0 = λ k. k < s.slots in
+    subst P (alone_told source n slot area class).1 (small n s.slots _ (and_parts (nat_lt source s.slots) _ fits).1)
 slot_fits s (Clip n reg) slot class fits = named_fits s (Clip n reg) slot n class refl (small n s.slots _ fits)
 slot_fits s (Unclip n) slot class fits = named_fits s (Unclip n) slot n class refl (grind (arith, nat_tests))
 slot_fits s (BeginRefresh n) slot class fits = named_fits s (BeginRefresh n) slot n class refl (grind (arith, nat_tests))
@@ -154,3 +191,12 @@ slot_fits s (Scroll n dx dy) slot class fits = named_fits s (Scroll n dx dy) slo
 slot_fits s (SetTitle n title) slot class fits = named_fits s (SetTitle n title) slot n class refl (grind (arith, nat_tests))
 slot_fits s (TakeMessage n) slot class fits = named_fits s (TakeMessage n) slot n class refl (grind (arith, nat_tests))
 slot_fits s call slot class fits = absurd (cc class)
+
+-- and so are the slots of a call on two layers
+pub pair_fits : (s : Sizes) (call : Call) (source slot : ℕ) → class_of call ≡ OnLayers source slot → IsTrue (call_fits s call) → (source < s.slots) × (slot < s.slots)
+pair_fits s (Blit m n area) source slot class fits =
+    let told = pair_told m n source slot area class in
+    let parts = and_parts (nat_lt m s.slots) _ fits in
+    let P : ℕ → Type 0 = λ k. k < s.slots in
+    (subst P told.from (small m s.slots _ fits), subst P told.to (small n s.slots _ parts.1))
+pair_fits s call source slot class fits = absurd (cc class)

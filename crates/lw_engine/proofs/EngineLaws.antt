@@ -8,7 +8,7 @@ use Rattle.lw_calls.specs.declared.sizes.Sizes.{Sizes}
 use Rattle.lw_calls.specs.declared.call.Call.{Call}
 use Rattle.lw_calls.specs.declared.reply.Reply.{Reply}
 use Rattle.lw_calls.specs.Limits.{call_fits}
-use Rattle.lw_calls.specs.Touches.{OnRegisters, OnInfo, OnLayer, OnAll, class_of}
+use Rattle.lw_calls.specs.Touches.{OnRegisters, OnInfo, OnLayer, OnLayers, OnAll, class_of}
 use Rattle.lw_machine.specs.Layer.{Slot, Unopened, Live, Closed}
 use Rattle.lw_machine.specs.Desk.{Desk}
 use Rattle.lw_machine.specs.Screen.{top}
@@ -20,9 +20,9 @@ use Rattle.lw_layer.specs.View.{CellView}
 use Rattle.lw_layer.specs.StandsFor.{StandsFor}
 use Rattle.lw_stack.specs.Stack.{Stack, StandsForInfo}
 use Rattle.lw_engine.specs.Desks.{StandForRegisters, cell_at, AreNumbered, AreOfDesk, Engine, registers_at, StandsForDesk, IsEngine}
-use Rattle.lw_engine.specs.Parts.{IsRegistersStep, IsLayerStep}
+use Rattle.lw_engine.specs.Parts.{IsRegistersStep, IsLayerStep, IsPairStep}
 use Rattle.lw_engine.specs.Steps.{IsStep, IsStepWith, with_registers, with_cell}
-use Rattle.lw_engine.proofs.DeskLaws.{registers_desk, layer_desk, all_desk, after_look}
+use Rattle.lw_engine.proofs.DeskLaws.{registers_desk, layer_desk, pair_desk, all_desk, after_look}
 
 -- a fact of each entry of a list, where it holds of the one that was set
 set_each : {A : Type 0} (P : A → Type 0) (xs : List A) (n k : ℕ) (x d : A) → n < length xs → P x → P (get_or xs k d) → P (get_or (set xs n x) k d)
@@ -145,6 +145,24 @@ layer_engine (Ok r) e task slot call old new regs assets ok fits class low here 
     (layer_step result e task slot call old new regs assets ok.cells fits class low here is read step)
 layer_engine (Err x) e task slot call old new regs assets ok fits class low here is read number step kept =
     subst IsEngine (sym (cell_kept e slot old new is kept)) ok
+
+-- the desk of the program after a call on two layers stands for the desk after it
+pub pair_step : (e : Engine) (task source slot : ℕ) (call : Call) (r : Reply) (new : CellView) → AreNumbered e.stack.sizes.slots e.cells → IsTrue (call_fits e.stack.sizes call) → class_of call ≡ OnLayers source slot → source < e.stack.sizes.slots → slot < e.stack.sizes.slots → IsPairStep (cell_at e.cells source) (cell_at e.cells slot) call r new → IsStep e task call r (with_cell e slot new)
+pair_step e task source slot call r new cells fits class from low step =
+    λ d stands.
+    let first : (cell_at e.cells source).number ≡ source = cells.numbers source from in
+    let second : (cell_at e.cells slot).number ≡ slot = cells.numbers slot low in
+    let P : ℕ → Type 0 = λ n. StandsFor (cell_at e.cells source) (slot_part d n) in
+    let Q : ℕ → Type 0 = λ n. StandsFor (cell_at e.cells slot) (slot_part d n) in
+    let R : ℕ → Type 0 = λ n. StandsFor (cell_at e.cells source) (slot_part (after d task call) n) in
+    let S : ℕ → Type 0 = λ n. StandsFor new (slot_part (after d task call) n) in
+    let made = step d task (subst P (sym first) (stands.parts.slots source from)) (subst Q (sym second) (stands.parts.slots slot low)) in
+    (made.1.0, pair_desk e d task source slot call new fits class (omega (arith, cells.many)) stands (subst R first made.0) (subst S second made.1.1))
+
+pub pair_engine : (e : Engine) (task source slot : ℕ) (call : Call) (r : Reply) (new : CellView) → IsEngine e → IsTrue (call_fits e.stack.sizes call) → class_of call ≡ OnLayers source slot → source < e.stack.sizes.slots → slot < e.stack.sizes.slots → new.number ≡ slot → IsPairStep (cell_at e.cells source) (cell_at e.cells slot) call r new → IsEngine (with_cell e slot new)
+pair_engine e task source slot call r new ok fits class from low number step =
+    let made = pair_step e task source slot call r new ok.cells fits class from low step in
+    layer_sound e task slot call r new ok.desk.assets ok low number (λ d stands handed. made d stands)
 
 -- a look answers the desk's reply and leaves all
 pub look_step : (e : Engine) (task : ℕ) (call : Call) (r : Reply) → class_of call ≡ OnInfo → ((d : Desk) (t : ℕ) → StandsForInfo e.stack (info_part d) → r ≡ reply d t call) → IsStep e task call r e

@@ -1,3 +1,4 @@
+pub mod PairLaws
 pub mod RegisterLaws
 pub mod RegisterSteps
 pub mod LookingLaws
@@ -13,4 +14,5 @@ pub mod FinishedDesk
 pub mod FinishedLast
 pub mod ArrangingLists
 pub mod ArrangingDesks
+pub mod BlittingLaws
 pub mod BuiltLaws

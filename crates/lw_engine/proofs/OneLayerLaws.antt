@@ -29,7 +29,7 @@ use Rattle.lw_layer.specs.declared.look.Look.{Look}
 use Rattle.lw_engine.specs.Parts.{IsSlotStep, IsCellStep, IsLayerStep}
 
 -- the slot of a cell that isn't live has no layer
-dead_slot : (c : CellView) (p : SlotPart) → (c.state ≡ view.Live → ⊥) → StandsFor c p → is_live p.slot ≡ false
+pub dead_slot : (c : CellView) (p : SlotPart) → (c.state ≡ view.Live → ⊥) → StandsFor c p → is_live p.slot ≡ false
 dead_slot c p idle stands = go c.state refl stands
   where
     go : (s : State) → c.state ≡ s → IsPartOf s c.live p → is_live p.slot ≡ false
@@ -38,11 +38,11 @@ dead_slot c p idle stands = go c.state refl stands
     go view.Closed e h = ap is_live h.0
 
 -- the slot of a live cell has its layer
-live_slot : (c : CellView) (p : SlotPart) → c.state ≡ view.Live → StandsFor c p → IsLivePart c.live p
+pub live_slot : (c : CellView) (p : SlotPart) → c.state ≡ view.Live → StandsFor c p → IsLivePart c.live p
 live_slot c p is stands = let P : State → Type 0 = λ s. IsPartOf s c.live p in subst P is stands
 
 -- a call that is refused answers its refusal and leaves all
-refused_step : (d : Desk) (task slot : ℕ) (call : Call) (r : Reply) (c : CellView) → refusal d task call ≡ Some r → StandsFor c (slot_part d slot) → IsSlotStep d task slot call r c
+pub refused_step : (d : Desk) (task slot : ℕ) (call : Call) (r : Reply) (c : CellView) → refusal d task call ≡ Some r → StandsFor c (slot_part d slot) → IsSlotStep d task slot call r c
 unfolding after reply
 refused_step d task slot call r c refused stands =
     let P : Desk → Type 0 = λ e. StandsFor c (slot_part e slot) in
@@ -58,13 +58,13 @@ not_open c call class idle =
     stands
 
 -- a call on a layer that is open is refused by its further refusals
-open_refusal : (d : Desk) (task slot : ℕ) (call : Call) (l : Layer) → class_of call ≡ OnLayer slot → d.slot slot ≡ layer.Live l → refusal d task call ≡ further_refusal d task call
+pub open_refusal : (d : Desk) (task slot : ℕ) (call : Call) (l : Layer) → class_of call ≡ OnLayer slot → d.slot slot ≡ layer.Live l → refusal d task call ≡ further_refusal d task call
 open_refusal d task slot call l class is =
     ap (λ (k : CallClass). refuse_unless_open d k (further_refusal d task call)) class ∙
     ap (λ (s : Slot). refuse (not (is_live s)) NotOpen (further_refusal d task call)) is
 
 -- a call that isn't refused and changes the layer so
-changed_step : (d : Desk) (task : ℕ) (call : Call) (r : Reply) (c : CellView) (f g : Layer → Layer) → IsLivePart c.live (slot_part d c.number) → c.state ≡ view.Live → refusal d task call ≡ None → r ≡ answer d task call → effect d task call ≡ on_layer d c.number f → f c.live.layer ≡ g c.live.layer → IsSlotStep d task c.number call r (with_live (λ k. with_layer g k) c)
+pub changed_step : (d : Desk) (task : ℕ) (call : Call) (r : Reply) (c : CellView) (f g : Layer → Layer) → IsLivePart c.live (slot_part d c.number) → c.state ≡ view.Live → refusal d task call ≡ None → r ≡ answer d task call → effect d task call ≡ on_layer d c.number f → f c.live.layer ≡ g c.live.layer → IsSlotStep d task c.number call r (with_live (λ k. with_layer g k) c)
 unfolding after reply top
 changed_step d task call r c f g live is passes answers does same =
     let n : ℕ = c.number in
@@ -87,7 +87,7 @@ visible_is d n c live x y =
     live.shown (screen_place c.bounds.min_x c.layer.scroll_x x) (screen_place c.bounds.min_y c.layer.scroll_y y)
 
 -- the pixels that the machine shows are those of the cell
-shown_same : (d : Desk) (n : ℕ) (c : LiveView) → IsLivePart c (slot_part d n) → let machine : ℕ → ℕ → Bool = λ x y. is_visible d n c.layer x y in let cell : ℕ → ℕ → Bool = λ x y. shows c x y in machine ≡ cell
+pub shown_same : (d : Desk) (n : ℕ) (c : LiveView) → IsLivePart c (slot_part d n) → let machine : ℕ → ℕ → Bool = λ x y. is_visible d n c.layer x y in let cell : ℕ → ℕ → Bool = λ x y. shows c x y in machine ≡ cell
 shown_same d n c live = fun_ext (λ x. fun_ext (λ y. visible_is d n c live x y))
 
 -- A call that isn't refused on an open layer and changes it, told the pixels that it shows.

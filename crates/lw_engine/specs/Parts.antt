@@ -3,7 +3,7 @@ use Rattle.std.specs.Prelude.{◌≡◌, ℕ, Bool, true, false, List}
 use Rattle.lw_region.specs.Rectangle.{Rectangle}
 use Rattle.lw_calls.specs.Assets.{Assets}
 use Rattle.lw_calls.specs.declared.call.Call.{Call}
-use Rattle.lw_calls.specs.declared.call.Call.TheVariants.{RegRect, RegPair, Clip}
+use Rattle.lw_calls.specs.declared.call.Call.TheVariants.{RegRect, RegPair, ScrollRaster, Clip}
 use Rattle.lw_calls.specs.declared.reply.Reply.{Reply}
 use Rattle.lw_calls.specs.Touches.{CallClass, OnRegisters, OnInfo, OnLayer, OnLayers, OnAll, class_of}
 use Rattle.lw_machine.specs.Desk.{Desk}
@@ -21,10 +21,12 @@ is_on_all (OnLayer slot) = false
 is_on_all (OnLayers source slot) = false
 is_on_all OnAll = true
 
--- The calls that take memory, and so may fail for want of it: those that make a region, and arrangements.
+-- The calls that take memory, and so may fail for want of it: those that make a region, ScrollRaster for its damage, and
+-- arrangements.
 abbrev pub takes_memory : Call → Bool
 takes_memory (RegRect op register rect) = true
 takes_memory (RegPair op source into) = true
+takes_memory (ScrollRaster slot dx dy rect) = true
 takes_memory (Clip slot register) = true
 takes_memory call = is_on_all (class_of call)
 
@@ -47,3 +49,10 @@ IsLayerStep old regs assets call r new =
     (d : Desk) (task : ℕ)
     → StandsFor old (slot_part d old.number) → StandForRegisters regs (d.registers task) → d.assets ≡ assets
     → IsSlotStep d task old.number call r new
+
+-- a call on two layers, of which it reads the first alone and leaves it as it is
+abbrev pub IsPairStep : CellView → CellView → Call → Reply → CellView → Type 0
+IsPairStep source old call r new =
+    (d : Desk) (task : ℕ)
+    → StandsFor source (slot_part d source.number) → StandsFor old (slot_part d old.number)
+    → StandsFor source (slot_part (after d task call) source.number) × IsSlotStep d task old.number call r new

@@ -4,7 +4,7 @@ ghost use Rattle.lw_calls.specs.Assets.{Assets as AssetsView};
 ghost use Rattle.lw_calls.specs.declared.reply.Reply.{Reply as AnyReply};
 ghost use Rattle.lw_calls.specs.Built.{is_built};
 ghost use Rattle.lw_calls.specs.Limits.{IsWithinLimits, call_fits};
-ghost use Rattle.lw_calls.specs.Touches.{class_of, OnRegisters, OnInfo, OnLayer, OnAll};
+ghost use Rattle.lw_calls.specs.Touches.{class_of, OnRegisters, OnInfo, OnLayer, OnLayers, OnAll};
 ghost use Rattle.lw_machine.specs.Hook.{Hook};
 ghost use Rattle.lw_machine.specs.Desk.{Desk as MachineDesk, empty_desk};
 ghost use Rattle.lw_machine.specs.Finals.{final_of};
@@ -20,6 +20,7 @@ use crate::looking::on_info;
 use crate::one_layer::on_layer;
 use crate::registers::on_registers;
 use crate::regs::Regs;
+use crate::two_layers::on_two;
 use lw_calls::{Assets, Call, Final, Replies, Reply, Sizes};
 use lw_layer::Cell;
 use lw_stack::Info;
@@ -86,9 +87,8 @@ impl Desk {
             Class::Registers => self.on_registers(alloc, task, call),
             Class::Info => Ok(self.on_info(call)),
             Class::Layer(slot) => self.on_layer(alloc, assets, task, slot, call),
+            Class::Layers(source, slot) => Ok(self.on_layers(source, slot, call)),
             Class::All => self.on_all(alloc, task, call),
-            // No call on two layers is built.
-            Class::Layers(..) => unreachable!(),
         }
     }
 
@@ -150,6 +150,16 @@ impl Desk {
             assets,
             call,
         )
+    }
+
+    // A call on two layers.
+    fn on_layers(&mut self, source: u32, slot: u32, call: &Call) -> Reply
+        requires class { class_of call.now ≡ OnLayers source slot }
+        requires fits { IsTrue (call_fits self.old.stack.sizes call.now) }
+        ensures step { (task : ℕ) → IsStep self.old task call.now result self.new }
+        ensures sizes { self.new.stack.sizes ≡ self.old.stack.sizes }
+    {
+        on_two(self.cells.as_mut_slice(), source, slot, call)
     }
 
     // A call that arranges the layers.

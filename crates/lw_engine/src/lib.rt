@@ -1,10 +1,11 @@
 //! The desk of the machine as code (the manual's Layers Library chapter). A call is made by the function of its class, which is
 //! lent the parts of the desk that such a call touches: the registers of its task; LayerInfo; the cell of a layer and the
-//! registers; or LayerInfo and all cells, which it arranges. No call on two layers may be made so far. The glyphs and bitmaps
-//! that a script hands in are lent to the calls on a layer.
+//! registers; the cells of two layers; or LayerInfo and all cells, which it arranges. The glyphs and bitmaps that a script hands
+//! in are lent to the calls on a layer.
 #![tactic(auto)]
 
 mod all_layers;
+mod blitting;
 mod class;
 mod composing;
 mod desk;
@@ -15,6 +16,7 @@ mod one_layer;
 mod raster_state;
 mod registers;
 mod regs;
+mod two_layers;
 
 pub use all_layers::on_all;
 pub use class::{Class, class_of};
@@ -24,6 +26,7 @@ pub use looking::on_info;
 pub use one_layer::on_layer;
 pub use registers::on_registers;
 pub use regs::Regs;
+pub use two_layers::on_layers;
 
 #[cfg(test)]
 mod tests;

@@ -10,6 +10,7 @@ ghost use Rattle.lw_machine.specs.Step.{clip_answer};
 ghost use Rattle.lw_layer.specs.Drafts.{clip_set};
 ghost use Rattle.lw_engine.specs.Parts.{IsCellStep, IsLayerStep, takes_memory};
 
+use crate::blitting::{blit, put, scroll_raster};
 use crate::drawing::{draw, fill, letters, read, set_rast, write};
 use crate::raster_state::{at, set_a, set_b, set_mask, set_mode};
 use crate::regs::Regs;
@@ -20,8 +21,9 @@ use std::alloc::{AllocError, Global};
 
 /// Makes one call on a layer and gives its reply, as the machine's step says of every desk whose slot this is, whose registers
 /// these are, and to which this was handed in: those that set how it paints (pens, mode, mask, cursor), those that draw or read
-/// a pixel, InstallClipRegion with a copy of a register or with none, and ScrollLayer. It fails for want of memory alone,
-/// which only the copy of a register takes, and the layer is then as before.
+/// a pixel, blits from a bitmap or from the layer itself, ScrollRaster, InstallClipRegion with a copy of a register or with none,
+/// and ScrollLayer. It fails for want of memory alone, which only the copy of a register and the damage of ScrollRaster take, and
+/// the layer is then as before.
 pub fn on_layer(
     alloc: Global,
     cell: &mut Cell,
@@ -49,6 +51,13 @@ pub fn on_layer(
         Call::DrawTo { x, y, .. } => Ok(draw(cell, x, y)),
         Call::Letters { ref text, .. } => Ok(letters(cell, assets, text)),
         Call::SetRast { pen, .. } => Ok(set_rast(cell, pen)),
+        Call::ScrollRaster {
+            dx, dy, ref rect, ..
+        } => scroll_raster(alloc, cell, dx, dy, rect),
+        Call::Put {
+            bitmap, ref area, ..
+        } => Ok(put(cell, assets, bitmap, area)),
+        Call::Blit { ref area, .. } => Ok(blit(cell, area)),
         Call::Clip { reg, .. } => clip(alloc, cell, regs, reg),
         Call::Unclip { .. } => Ok(unclip(cell)),
         Call::Scroll { dx, dy, .. } => Ok(scroll(cell, dx, dy)),

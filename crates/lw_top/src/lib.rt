@@ -11,6 +11,8 @@ mod status;
 #[cfg(test)]
 mod tests;
 #[cfg(test)]
+mod tests_blits;
+#[cfg(test)]
 mod tests_commands;
 #[cfg(test)]
 mod tests_drawing;

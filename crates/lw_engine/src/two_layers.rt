@@ -1,0 +1,54 @@
+ghost use Rattle.std.specs.Prelude.{◌≡◌, ◌<◌, length, slice_set, IsTrue};
+ghost use Rattle.lw_calls.specs.declared.sizes.Sizes.{Sizes};
+ghost use Rattle.lw_calls.specs.Limits.{call_fits};
+ghost use Rattle.lw_calls.specs.Touches.{class_of, OnLayers};
+ghost use Rattle.lw_engine.specs.Desks.{AreNumbered, cell_at};
+ghost use Rattle.lw_engine.specs.Parts.{IsPairStep};
+
+use lw_blit::between;
+use lw_calls::{Call, Reply};
+use lw_layer::Cell;
+
+/// Makes one call on two layers and gives its reply, as the machine's step says of every desk whose slots these are: ClipBlit
+/// from one layer to another. It takes no memory.
+pub fn on_layers(source: &Cell, to: &mut Cell, call: &Call) -> Reply
+    requires class { class_of call.now ≡ OnLayers source.now.number to.old.number }
+    requires fits { (sizes : Sizes) × IsTrue (call_fits sizes call.now) }
+    ensures step { IsPairStep source.now to.old call.now result to.new }
+    ensures number { to.new.number ≡ to.old.number }
+{
+    let Call::Blit { ref area, .. } = *call else {
+        // No other call is on two layers.
+        unreachable!();
+    };
+    let Some(_) = source.look() else {
+        return Reply::NotOpen;
+    };
+    let Some(_) = to.look() else {
+        return Reply::NotOpen;
+    };
+    between(source, to, area);
+    Reply::Done
+}
+
+// The same call on two of the cells of all slots.
+pub(crate) fn on_two(cells: &mut [Cell], source: u32, slot: u32, call: &Call) -> Reply
+    requires class { class_of call.now ≡ OnLayers source slot }
+    requires fits { (sizes : Sizes) × IsTrue (call_fits sizes call.now) }
+    requires cells { AreNumbered (length cells.old) cells.old }
+    requires source { source < length cells.old }
+    requires slot { slot < length cells.old }
+    ensures step { IsPairStep (cell_at cells.old source) (cell_at cells.old slot) call.now result (cell_at cells.new slot) }
+    ensures number { (cell_at cells.new slot).number ≡ slot }
+    ensures rest { cells.new ≡ slice_set cells.old slot (cell_at cells.new slot) }
+{
+    let source = source as usize;
+    let slot = slot as usize;
+    if source < slot {
+        let (front, back) = cells.split_at_mut(slot);
+        on_layers(&front[source], &mut back[0], call)
+    } else {
+        let (front, back) = cells.split_at_mut(source);
+        on_layers(&back[0], &mut front[slot], call)
+    }
+}
