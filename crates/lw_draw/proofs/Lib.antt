@@ -10,4 +10,5 @@ pub mod RowSpanLaws
 pub mod SpanLaws
 pub mod StepLaws
 pub mod StretchLaws
+pub mod UpdateLaws
 pub mod WalkLaws
