@@ -107,17 +107,17 @@ kept_pen_bit c p (pos x) (pos y) is = ap (λ t. bit_in p (if t then Some (pen_at
 kept_pen_bit c p (pos x) (negsuc y) is = absurd (cc is)
 kept_pen_bit c p (negsuc x) y is = absurd (cc is)
 
--- a bit that is blended where it has a source, and one that is painted there
-blended_there : (has area there : Bool) (m source pen old : ℕ) → (there ≡ true → source ≡ pen) → (if has && area then blended m there source old else old) ≡ (if has && (area && there) then minterm_bit m pen old else old)
-blended_there true true true m source pen old same = ap (λ b. minterm_bit m b old) (same refl)
-blended_there true true false m source pen old same = refl
-blended_there true false there m source pen old same = refl
-blended_there false area there m source pen old same = refl
+-- a bit that is blended where it has a source, and one that is painted where it is kept
+blended_kept : (has area kept : Bool) (m source pen old : ℕ) → (kept ≡ true → source ≡ pen) → (if has && area then blended m kept source old else old) ≡ (if has && (area && kept) then minterm_bit m pen old else old)
+blended_kept true true true m source pen old same = ap (λ b. minterm_bit m b old) (same refl)
+blended_kept true true false m source pen old same = refl
+blended_kept true false kept m source pen old same = refl
+blended_kept false area kept m source pen old same = refl
 
 -- the tests of a pixel, in another order
-there_turned : (drawable across down column row there from to : Bool) → (across && column) ≡ from → (down && row) ≡ to → (there ≡ true → column ≡ true) → (there ≡ true → row ≡ true) → (drawable && ((across && down) && there)) ≡ ((to && (from && drawable)) && there)
-there_turned drawable across down column row true from to columns rows left low = let first : column ≡ true = left refl in let second : row ≡ true = low refl in grind (arith, nat_tests)
-there_turned drawable across down column row false from to columns rows left low = grind (arith, nat_tests)
+kept_turned : (drawable across down column row kept from to : Bool) → (across && column) ≡ from → (down && row) ≡ to → (kept ≡ true → column ≡ true) → (kept ≡ true → row ≡ true) → (drawable && ((across && down) && kept)) ≡ ((to && (from && drawable)) && kept)
+kept_turned drawable across down column row true from to columns rows left low = let first : column ≡ true = left refl in let second : row ≡ true = low refl in grind (arith, nat_tests)
+kept_turned drawable across down column row false from to columns rows left low = grind (arith, nat_tests)
 
 all_turned : (drawable across down column row from to : Bool) → (across && column) ≡ from → (down && row) ≡ to → (drawable && ((across && down) && (column && row))) ≡ (to && (from && drawable))
 all_turned drawable across down column row from to columns rows = grind (arith, nat_tests)
@@ -126,17 +126,17 @@ all_turned drawable across down column row from to columns rows = grind (arith, 
 pub layer_blitted : (c source : LiveView) (a : Area) (mask top bottom from end : ℕ) → IsBitmap c.layer.bits → mask ≡ c.layer.raster.mask → AreReached a source.layer.bits.width source.layer.bits.height c.layer.bits.width c.layer.bits.height top bottom from end → drawn (masked mask c top bottom from end) (from_layer source (blit_by a)) c ≡ with_layer (λ l. clip_blit (λ i j. shows source i j) source.layer (λ i j. shows c i j) a l) c
 unfolding drawn from_layer keeps
 layer_blitted c source a mask top bottom from end ok same are =
-    let there : ℕ → ℕ → Bool = λ x y. holds_at (λ i j. keeps source i j) (source_column a x) (source_row a y) in
-    let on : ℕ → ℕ → Bool = λ x y. in_rows c top bottom from end x y && there x y in
+    let kept : ℕ → ℕ → Bool = λ x y. holds_at (λ i j. keeps source i j) (source_column a x) (source_row a y) in
+    let on : ℕ → ℕ → Bool = λ x y. in_rows c top bottom from end x y && kept x y in
     bits_same c (λ p x y. if masked mask c top bottom from end p x y then from_layer source (blit_by a) p x y (bit_of_layer c p x y) else bit_of_layer c p x y)
     (λ p x y. if in_mask c.layer.raster p && on x y then from_bits source.layer.bits a p x y (bit_of_layer c p x y) else bit_of_layer c p x y)
     (λ p x y _ _ _.
     ap (λ m. if bit_at m p == 1 && in_rows c top bottom from end x y then from_layer source (blit_by a) p x y (bit_of_layer c p x y) else bit_of_layer c p x y) same ∙
-    blended_there (in_mask c.layer.raster p) (in_rows c top bottom from end x y) (there x y) a.minterm (kept_bit source p (source_column a x) (source_row a y)) (bit_at (source_pen source.layer.bits a x y) p) (bit_of_layer c p x y)
+    blended_kept (in_mask c.layer.raster p) (in_rows c top bottom from end x y) (kept x y) a.minterm (kept_bit source p (source_column a x) (source_row a y)) (bit_at (source_pen source.layer.bits a x y) p) (bit_of_layer c p x y)
     (λ is. kept_pen_bit source p (source_column a x) (source_row a y) is)) ∙
-    shape_drawn c (λ x y. has_pixel (box_at a.x a.y a.w a.h) (pos x) (pos y) && there x y) on (from_bits source.layer.bits a) ok
+    shape_drawn c (λ x y. has_pixel (box_at a.x a.y a.w a.h) (pos x) (pos y) && kept x y) on (from_bits source.layer.bits a) ok
     (λ x y left low.
-    there_turned (draws c x y) (within a.x (pos x) ((a.x +ℤ a.w) -ℤ pos 1)) (within a.y (pos y) ((a.y +ℤ a.h) -ℤ pos 1)) (has_place source.layer.bits.width (source_column a x)) (has_place source.layer.bits.height (source_row a y)) (there x y) (is_between from end x) (is_between top bottom y) (are.columns x left) (are.rows y low)
+    kept_turned (draws c x y) (within a.x (pos x) ((a.x +ℤ a.w) -ℤ pos 1)) (within a.y (pos y) ((a.y +ℤ a.h) -ℤ pos 1)) (has_place source.layer.bits.width (source_column a x)) (has_place source.layer.bits.height (source_row a y)) (kept x y) (is_between from end x) (is_between top bottom y) (are.columns x left) (are.rows y low)
     (λ is. kept_column source (source_column a x) (source_row a y) is) (λ is. kept_row source (source_column a x) (source_row a y) is))
 
 -- all pixels of a bitmap
