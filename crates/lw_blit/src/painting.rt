@@ -14,8 +14,8 @@ use lw_draw::{Origin, Places, Stretch, combine_run, has_bit, next_stretch};
 use lw_kernels::combine;
 use lw_layer::Cell;
 
-// Gives the drawable pixels of some columns of a row the minterm's values of their sources and of their own bits. The sources go to
-// the columns from the first on.
+// Gives the drawable pixels of some columns of a row the minterm's values of their sources and of their own bits. The sources go
+// to the columns from the first on.
 pub(crate) fn paint_row(
     cell: &mut Cell,
     y: u32,

@@ -303,8 +303,8 @@ enum Way {
     Blit,
 }
 
-// A shift of a layer's pixels or a blit within it, from so many columns to the right and so many rows down, and the bits of each row
-// that are due then in plane 0 and in plane 1. Before that the drawable pixels have the bitmap's bits in plane 0 and ones in
+// A shift of a layer's pixels or a blit within it, from so many columns to the right and so many rows down, and the bits of each
+// row that are due then in plane 0 and in plane 1. Before that the drawable pixels have the bitmap's bits in plane 0 and ones in
 // plane 1, and others have none; they are all pixels, or in an update the damaged ones (of smart layers alone).
 struct Move {
     kind: Kind,

@@ -22,8 +22,8 @@ use lw_layer::Cell;
 const COPY: u8 = 0xc0;
 
 /// Combines the drawable pixels of a rectangle of a layer with the layer's own pixels that go there, by the minterm and through
-/// the mask (`ClipBlit`). The rectangles may overlap: the sources are as before the call. A pixel whose source isn't kept stays as
-/// it was (this project's own). No memory is taken.
+/// the mask (`ClipBlit`). The rectangles may overlap: the sources are as before the call. A pixel whose source isn't kept stays
+/// as it was (this project's own). No memory is taken.
 pub fn within(cell: &mut Cell, area: &Area)
     requires live { cell.old.state ≡ view.Live }
     requires fits { IsTrue (area_fits area.now) }
@@ -40,8 +40,8 @@ pub fn within(cell: &mut Cell, area: &Area)
 }
 
 /// Gives the drawable pixels of some rows and columns of a layer, in the planes that the mask has, the bits of the layer's own
-/// pixels `dx` columns to the right and `dy` rows down, as they were before the call, and 0 where that pixel isn't kept. No memory
-/// is taken.
+/// pixels `dx` columns to the right and `dy` rows down, as they were before the call, and 0 where that pixel isn't kept. No
+/// memory is taken.
 pub fn shift_rows(cell: &mut Cell, rows: Places, columns: Places, dx: i32, dy: i32, mask: u8)
     requires live { cell.old.state ≡ view.Live }
     requires rows { rows.from ≤ rows.end }

@@ -22,8 +22,8 @@ pub fn fill(cell: &mut Cell, rect: &Rect)
     fill_rows(cell, rows, columns, cell.raster());
 }
 
-/// Fills the drawable pixels of some rows and columns as `raster` says: with its pen A, or inverting them under COMPLEMENT, in the
-/// planes that its mask has. No memory is taken.
+/// Fills the drawable pixels of some rows and columns as `raster` says: with its pen A, or inverting them under COMPLEMENT, in
+/// the planes that its mask has. No memory is taken.
 pub fn fill_rows(cell: &mut Cell, rows: Places, columns: Places, raster: Raster)
     requires live { cell.old.state ≡ view.Live }
     requires rows { rows.from ≤ rows.end }
