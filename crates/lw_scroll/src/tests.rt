@@ -1,6 +1,6 @@
 ghost use Rattle.std.specs.Prelude.{◌≡◌, ◌<◌, IfOk};
 ghost use Rattle.lw_layer.specs.View as view;
-ghost use Rattle.lw_layer.specs.Drafts.{IsDraft, cell_view};
+ghost use Rattle.lw_layer.specs.Drafts.{IsDraft, IsLiveDraft, cell_view};
 
 use super::scroll_raster;
 use lw_calls::{Kind, Make, Place};
@@ -270,6 +270,16 @@ fn all_scroll(alloc: Global, cell: &mut Cell, steps: &[Step]) -> Result<bool, Fa
     Ok(true)
 }
 
+// The layer in an update.
+fn begun(live: LiveDraft) -> LiveDraft
+    requires { IsLiveDraft live }
+    ensures { IsLiveDraft result }
+{
+    let mut live = live;
+    live.damage.begin();
+    live
+}
+
 // Begins an update of the layer.
 fn begin(cell: &mut Cell)
     requires { cell.old.state ≡ view.Live }
@@ -279,17 +289,14 @@ fn begin(cell: &mut Cell)
         slot: 0,
         state: DraftState::Unopened,
     });
-    match former.state {
-        DraftState::Live(live) => {
-            let mut live = live;
-            live.damage.begin();
-            let _ = cell.take_up(Draft {
-                slot: former.slot,
-                state: DraftState::Live(live),
-            });
-        }
-        _ => unreachable!(),
-    }
+    let state = former.state;
+    let DraftState::Live(live) = state else {
+        unreachable!();
+    };
+    let _ = cell.take_up(Draft {
+        slot: 0,
+        state: DraftState::Live(begun(live)),
+    });
 }
 
 #[test]
