@@ -229,18 +229,24 @@ done_same row first new old from end done same =
     (λ x p. done_before row first old from end x done p)
     (λ x p. done_after row first old from end x done p)
 
--- adjoining ranges, the left one first
-pub join_right : (one two : List ℕ) (new first second old : ℕ → ℕ) (from mid end : ℕ) → from ≤ mid → mid ≤ end → Done one first old from mid → Done two second (λ x. row_bit one x) mid end → ((x : ℕ) → from ≤ x → x < mid → first x ≡ new x) → ((x : ℕ) → mid ≤ x → x < end → second x ≡ new x) → Done two new old from end
-join_right one two new first second old from mid end p q a b left right =
+-- ranges that adjoin or overlap, the left one first
+pub join_over : (one two : List ℕ) (new first second old : ℕ → ℕ) (from mid stop end : ℕ) → from ≤ mid → mid ≤ stop → stop ≤ end → Done one first old from stop → Done two second (λ x. row_bit one x) mid end → ((x : ℕ) → from ≤ x → x < mid → first x ≡ new x) → ((x : ℕ) → mid ≤ x → x < end → second x ≡ new x) → Done two new old from end
+join_over one two new first second old from mid stop end p q r a b left right =
     let was : ℕ → ℕ = λ x. row_bit one x in
     done_each two new old from end
     (λ x late low.
     ⊎_elim
-    (λ (here : x < mid). done_before two second was mid end x b here ∙ (done_inside one first old from mid x a late here ∙ left x late here))
+    (λ (here : x < mid). let within : x < stop = omega arith in done_before two second was mid end x b here ∙ (done_inside one first old from stop x a late within ∙ left x late here))
     (λ (there : mid ≤ x). done_inside two second was mid end x b there low ∙ right x there low)
     (cases_lt x mid))
-    (λ x low. let under : x < mid = omega arith in done_before two second was mid end x b under ∙ done_before one first old from mid x a low)
-    (λ x late. let over : mid ≤ x = omega arith in done_after two second was mid end x b late ∙ done_after one first old from mid x a over)
+    (λ x low. let under : x < mid = omega arith in done_before two second was mid end x b under ∙ done_before one first old from stop x a low)
+    (λ x late. let over : stop ≤ x = omega arith in done_after two second was mid end x b late ∙ done_after one first old from stop x a over)
+
+-- adjoining ranges, the left one first
+pub join_right : (one two : List ℕ) (new first second old : ℕ → ℕ) (from mid end : ℕ) → from ≤ mid → mid ≤ end → Done one first old from mid → Done two second (λ x. row_bit one x) mid end → ((x : ℕ) → from ≤ x → x < mid → first x ≡ new x) → ((x : ℕ) → mid ≤ x → x < end → second x ≡ new x) → Done two new old from end
+join_right one two new first second old from mid end p q a b left right =
+    let same : mid ≤ mid = omega arith in
+    join_over one two new first second old from mid mid end p same q a b left right
 
 -- adjoining ranges, the right one first
 pub join_left : (one two : List ℕ) (new first second old : ℕ → ℕ) (from mid end : ℕ) → from ≤ mid → mid ≤ end → Done one first old mid end → Done two second (λ x. row_bit one x) from mid → ((x : ℕ) → mid ≤ x → x < end → first x ≡ new x) → ((x : ℕ) → from ≤ x → x < mid → second x ≡ new x) → Done two new old from end
@@ -282,3 +288,9 @@ whole_byte first last index j v new old p q low is =
     let begins : 8 * first ≤ 8 * index + j = omega arith in
     let ends : 8 * index + j < 8 * last = omega arith in
     chosen (is_between (8 * first) (8 * last) (8 * index + j)) v new old (λ _. is) (λ none. absurd (cc (none, between_yes (8 * first) (8 * last) (8 * index + j) begins ends)))
+
+-- bits that were made in a block, and then put into a row
+pub done_put : (row block : List ℕ) (new made none old : ℕ → ℕ) (from size end : ℕ) → Done block made none 0 size → Done row (λ x. row_bit block (x - from)) old from end → end ≤ from + size → ((x : ℕ) → from ≤ x → x < end → made (x - from) ≡ new x) → Done row new old from end
+done_put row block new made none old from size end a b fits same =
+    done_same row (λ x. row_bit block (x - from)) new old from end b
+    (λ x p q. let low : x - from < size = omega arith in let least : 0 ≤ x - from = omega arith in done_inside block made none 0 size (x - from) a least low ∙ same x p q)

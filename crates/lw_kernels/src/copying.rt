@@ -8,7 +8,7 @@ use crate::bytes::shifted;
 
 // From this many bytes on each shift has a loop of its own: vectors of bytes are shifted fast only by a constant, but
 // for fewer bytes the way to the loop is dearer.
-const MANY: usize = 16;
+const MANY: usize = 4;
 
 // Gives the bytes from `first` on, before `last`, the bits of the source from `place` on.
 #[inline(always)]
@@ -60,7 +60,7 @@ fn copy_unshifted(to: &mut [u8], first: usize, last: usize, source: &[u8], start
 
 // As `copy_unshifted`.
 #[inline(always)]
-fn copy_whole(to: &mut [u8], first: usize, last: usize, source: &[u8], start: usize)
+pub(crate) fn copy_whole(to: &mut [u8], first: usize, last: usize, source: &[u8], start: usize)
     requires ordered { first ≤ last }
     requires inside { last ≤ length to.old }
     requires source_inside { start + (last - first) ≤ length source.now }
@@ -73,10 +73,16 @@ fn copy_whole(to: &mut [u8], first: usize, last: usize, source: &[u8], start: us
 
 // From bit `shift` of byte `start` of the source on.
 #[inline(always)]
-fn copy_shifted(to: &mut [u8], first: usize, last: usize, source: &[u8], start: usize, shift: usize)
+pub(crate) fn copy_shifted(
+    to: &mut [u8],
+    first: usize,
+    last: usize,
+    source: &[u8],
+    start: usize,
+    shift: usize,
+)
     requires some { 0 < shift }
     requires low { shift < 8 }
-    requires near { start < 2 ^ 60 }
     requires ordered { first ≤ last }
     requires inside { last ≤ length to.old }
     requires source_inside { start + (last - first) < length source.now }
@@ -90,25 +96,126 @@ fn copy_shifted(to: &mut [u8], first: usize, last: usize, source: &[u8], start: 
     }
 }
 
+// As `copy_shifted`, by blocks of a fixed number of bytes at the ends, some of whose bytes may be written twice.
+#[inline(always)]
+fn copy_blocks(to: &mut [u8], first: usize, last: usize, source: &[u8], start: usize, shift: usize)
+    requires some { 0 < shift }
+    requires low { shift < 8 }
+    requires ordered { first ≤ last }
+    requires inside { last ≤ length to.old }
+    requires source_inside { start + (last - first) < length source.now }
+    requires many { 4 ≤ last - first }
+    ensures { (x : ℕ) → row_bit to.new x ≡ (if is_between (8 * first) (8 * last) x
+        then row_bit source.now (8 * start + shift + (x - 8 * first))
+        else row_bit to.old x) }
+{
+    let count = last - first;
+    if count > 64 {
+        copy_shifted(
+            to,
+            first,
+            first + (count - 1) / 32 * 32,
+            source,
+            start,
+            shift,
+        );
+        copy_block(to, last - 32, source, start + count - 32, shift, 32);
+    } else if count >= 32 {
+        copy_ends(to, first, last, source, start, shift, 32);
+    } else if count >= 16 {
+        copy_ends(to, first, last, source, start, shift, 16);
+    } else if count >= 8 {
+        copy_ends(to, first, last, source, start, shift, 8);
+    } else {
+        copy_ends(to, first, last, source, start, shift, 4);
+    }
+}
+
+// As `copy_shifted`: two blocks of as many bytes.
+#[inline(always)]
+fn copy_ends(
+    to: &mut [u8],
+    first: usize,
+    last: usize,
+    source: &[u8],
+    start: usize,
+    shift: usize,
+    size: usize,
+)
+    requires some { 0 < shift }
+    requires low { shift < 8 }
+    requires ordered { first ≤ last }
+    requires inside { last ≤ length to.old }
+    requires source_inside { start + (last - first) < length source.now }
+    requires few { size ≤ 32 }
+    requires one_inside { size ≤ last - first }
+    requires two_cover { last - first ≤ 2 * size }
+    ensures { (x : ℕ) → row_bit to.new x ≡ (if is_between (8 * first) (8 * last) x
+        then row_bit source.now (8 * start + shift + (x - 8 * first))
+        else row_bit to.old x) }
+{
+    copy_block(to, first, source, start, shift, size);
+    copy_block(
+        to,
+        last - size,
+        source,
+        start + (last - first) - size,
+        shift,
+        size,
+    );
+}
+
+// As many bytes from `first` on. They are made beside the row: so the compiler, which can't know that the two rows
+// lie apart, still makes vectors of them.
+#[inline(always)]
+fn copy_block(to: &mut [u8], first: usize, source: &[u8], start: usize, shift: usize, size: usize)
+    requires some { 0 < shift }
+    requires low { shift < 8 }
+    requires few { size ≤ 32 }
+    requires inside { first + size ≤ length to.old }
+    requires source_inside { start + size < length source.now }
+    ensures { (x : ℕ) → row_bit to.new x ≡ (if is_between (8 * first) (8 * (first + size)) x
+        then row_bit source.now (8 * start + shift + (x - 8 * first))
+        else row_bit to.old x) }
+{
+    let mut block = [0; 32];
+    copy_shifted(&mut block, 0, size, source, start, shift);
+    put_block(to, first, &block, size);
+}
+
+// The first bytes of a block, put into a row from byte `first` on. The compiler makes one store of a fixed number of bytes.
+#[inline(always)]
+pub(crate) fn put_block(to: &mut [u8], first: usize, block: &[u8], size: usize)
+    requires inside { first + size ≤ length to.old }
+    requires source_inside { size ≤ length block.now }
+    ensures { (x : ℕ) → row_bit to.new x ≡ (if is_between (8 * first) (8 * (first + size)) x
+        then row_bit block.now (x - 8 * first)
+        else row_bit to.old x) }
+{
+    for index in 0..size {
+        to[first + index] = block[index];
+    }
+}
+
 // As `copy_shifted`.
 fn copy_many(to: &mut [u8], first: usize, last: usize, source: &[u8], start: usize, shift: usize)
     requires some { 0 < shift }
     requires low { shift < 8 }
-    requires near { start < 2 ^ 60 }
     requires ordered { first ≤ last }
     requires inside { last ≤ length to.old }
     requires source_inside { start + (last - first) < length source.now }
+    requires many { 4 ≤ last - first }
     ensures { (x : ℕ) → row_bit to.new x ≡ (if is_between (8 * first) (8 * last) x
         then row_bit source.now (8 * start + shift + (x - 8 * first))
         else row_bit to.old x) }
 {
     match shift {
-        1 => copy_shifted(to, first, last, source, start, 1),
-        2 => copy_shifted(to, first, last, source, start, 2),
-        3 => copy_shifted(to, first, last, source, start, 3),
-        4 => copy_shifted(to, first, last, source, start, 4),
-        5 => copy_shifted(to, first, last, source, start, 5),
-        6 => copy_shifted(to, first, last, source, start, 6),
-        _ => copy_shifted(to, first, last, source, start, 7),
+        1 => copy_blocks(to, first, last, source, start, 1),
+        2 => copy_blocks(to, first, last, source, start, 2),
+        3 => copy_blocks(to, first, last, source, start, 3),
+        4 => copy_blocks(to, first, last, source, start, 4),
+        5 => copy_blocks(to, first, last, source, start, 5),
+        6 => copy_blocks(to, first, last, source, start, 6),
+        _ => copy_blocks(to, first, last, source, start, 7),
     }
 }

@@ -3,6 +3,7 @@ ghost use Rattle.lw_planes.specs.Row.{bit_of, row_bit, row_bits};
 ghost use Rattle.lw_kernels.specs.Kernel.{is_between, is_named, with_named};
 
 use crate::bytes::{replaced, spread};
+use crate::copying::{copy_whole, put_block};
 
 /// Gives the `count` bits of the row from bit `from` on this value. All of them are in the row, and
 /// each other bit stays as it was.
@@ -108,7 +109,7 @@ fn flip_between(row: &mut [u8], from: usize, end: usize)
     let last = end / 8;
     if first <= last {
         flip_edge(row, from, 8 * first);
-        flip_bytes(row, first, last);
+        flip_whole(row, first, last);
         flip_edge(row, 8 * last, end);
     } else {
         flip_edge(row, from, end);
@@ -132,6 +133,46 @@ fn flip_edge(row: &mut [u8], from: usize, end: usize)
 }
 
 // The bytes from `first` on, before `last`.
+fn flip_whole(row: &mut [u8], first: usize, last: usize)
+    requires ordered { first ≤ last }
+    requires inside { last ≤ length row.old }
+    ensures { (x : ℕ) → row_bit row.new x ≡ (if is_between (8 * first) (8 * last) x
+        then 1 - row_bit row.old x
+        else row_bit row.old x) }
+{
+    let count = last - first;
+    if count >= 16 {
+        flip_blocks(row, first, last, 16);
+    } else if count >= 8 {
+        flip_blocks(row, first, last, 8);
+    } else if count >= 4 {
+        flip_blocks(row, first, last, 4);
+    } else {
+        flip_bytes(row, first, last);
+    }
+}
+
+// Blocks of as many bytes, and as many last ones: these are inverted beside the row first, so that bytes of both are
+// inverted once.
+#[inline(always)]
+fn flip_blocks(row: &mut [u8], first: usize, last: usize, size: usize)
+    requires some { 0 < size }
+    requires few { size ≤ 16 }
+    requires ordered { first + size ≤ last }
+    requires inside { last ≤ length row.old }
+    ensures { (x : ℕ) → row_bit row.new x ≡ (if is_between (8 * first) (8 * last) x
+        then 1 - row_bit row.old x
+        else row_bit row.old x) }
+{
+    let mut tail = [0; 16];
+    copy_whole(&mut tail, 0, size, row, last - size);
+    flip_bytes(&mut tail, 0, size);
+    flip_bytes(row, first, first + (last - first - 1) / size * size);
+    put_block(row, last - size, &tail, size);
+}
+
+// One byte after another.
+#[inline(always)]
 fn flip_bytes(row: &mut [u8], first: usize, last: usize)
     requires ordered { first ≤ last }
     requires inside { last ≤ length row.old }

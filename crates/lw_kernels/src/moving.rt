@@ -5,10 +5,11 @@ ghost use Rattle.lw_planes.specs.Row.{row_bit};
 ghost use Rattle.lw_kernels.specs.Kernel.{is_between};
 
 use crate::bytes::shifted;
+use crate::copying::{copy_shifted, put_block};
 
 // Gives the bytes from `first` on, before `last`, the bits of the row from `place` on, as they were before.
 pub(crate) fn move_bytes(row: &mut [u8], first: usize, last: usize, place: usize)
-    requires near { place < 2 ^ 60 }
+    requires near { place < 2 ^ 50 }
     requires ordered { first ≤ last }
     requires inside { last ≤ length row.old }
     requires source_inside { place + 8 * (last - first) ≤ 8 * length row.old }
@@ -20,10 +21,10 @@ pub(crate) fn move_bytes(row: &mut [u8], first: usize, last: usize, place: usize
     let shift = place % 8;
     if shift == 0 {
         move_whole(row, first, last, start);
-    } else if first <= start {
-        move_left(row, first, last, start - first, shift);
+    } else if last - first < 4 {
+        move_block(row, first, start, shift, last - first);
     } else {
-        move_right(row, first, last, first - start, shift);
+        move_many(row, first, last, start, shift);
     }
 }
 
@@ -40,32 +41,150 @@ fn move_whole(row: &mut [u8], first: usize, last: usize, start: usize)
     row.copy_within(start..start + (last - first), first);
 }
 
-// From bit `shift` of the byte on that stands `ahead` bytes to the right. Each shift has a loop of its own, since
-// vectors of bytes are shifted fast only by a constant.
-fn move_left(row: &mut [u8], first: usize, last: usize, ahead: usize, shift: usize)
+// From bit `shift` of byte `start` on. Each shift has code of its own, since vectors of bytes are shifted fast only by
+// a constant.
+fn move_many(row: &mut [u8], first: usize, last: usize, start: usize, shift: usize)
     requires some { 0 < shift }
     requires low { shift < 8 }
-    requires near { ahead < 2 ^ 60 }
+    requires near { start < 2 ^ 50 }
     requires ordered { first ≤ last }
-    requires source_inside { ahead + last < length row.old }
+    requires inside { last ≤ length row.old }
+    requires source_inside { start + (last - first) < length row.old }
+    requires many { 4 ≤ last - first }
     ensures { (x : ℕ) → row_bit row.new x ≡ (if is_between (8 * first) (8 * last) x
-        then row_bit row.old (8 * ahead + shift + x)
+        then row_bit row.old (8 * start + shift + (x - 8 * first))
         else row_bit row.old x) }
 {
     match shift {
-        1 => move_left_by(row, first, last, ahead, 1),
-        2 => move_left_by(row, first, last, ahead, 2),
-        3 => move_left_by(row, first, last, ahead, 3),
-        4 => move_left_by(row, first, last, ahead, 4),
-        5 => move_left_by(row, first, last, ahead, 5),
-        6 => move_left_by(row, first, last, ahead, 6),
-        _ => move_left_by(row, first, last, ahead, 7),
+        1 => move_blocks(row, first, last, start, 1),
+        2 => move_blocks(row, first, last, start, 2),
+        3 => move_blocks(row, first, last, start, 3),
+        4 => move_blocks(row, first, last, start, 4),
+        5 => move_blocks(row, first, last, start, 5),
+        6 => move_blocks(row, first, last, start, 6),
+        _ => move_blocks(row, first, last, start, 7),
     }
 }
 
-// A move by less than a byte has a loop of its own, which the compiler sees to read no byte after it is written.
+// As `move_many`, by blocks of a fixed number of bytes at the ends, some of whose bytes may be written twice.
 #[inline(always)]
-fn move_left_by(row: &mut [u8], first: usize, last: usize, ahead: usize, shift: usize)
+fn move_blocks(row: &mut [u8], first: usize, last: usize, start: usize, shift: usize)
+    requires some { 0 < shift }
+    requires low { shift < 8 }
+    requires near { start < 2 ^ 50 }
+    requires ordered { first ≤ last }
+    requires inside { last ≤ length row.old }
+    requires source_inside { start + (last - first) < length row.old }
+    requires many { 4 ≤ last - first }
+    ensures { (x : ℕ) → row_bit row.new x ≡ (if is_between (8 * first) (8 * last) x
+        then row_bit row.old (8 * start + shift + (x - 8 * first))
+        else row_bit row.old x) }
+{
+    let count = last - first;
+    if count > 64 {
+        move_long(row, first, last, start, shift);
+    } else if count >= 32 {
+        move_ends(row, first, last, start, shift, 32);
+    } else if count >= 16 {
+        move_ends(row, first, last, start, shift, 16);
+    } else if count >= 8 {
+        move_ends(row, first, last, start, shift, 8);
+    } else {
+        move_ends(row, first, last, start, shift, 4);
+    }
+}
+
+// Two blocks of as many bytes. Both are made beside the row before one of them is written.
+#[inline(always)]
+fn move_ends(row: &mut [u8], first: usize, last: usize, start: usize, shift: usize, size: usize)
+    requires some { 0 < shift }
+    requires low { shift < 8 }
+    requires near { start < 2 ^ 50 }
+    requires ordered { first ≤ last }
+    requires inside { last ≤ length row.old }
+    requires source_inside { start + (last - first) < length row.old }
+    requires few { size ≤ 32 }
+    requires one_inside { size ≤ last - first }
+    requires two_cover { last - first ≤ 2 * size }
+    ensures { (x : ℕ) → row_bit row.new x ≡ (if is_between (8 * first) (8 * last) x
+        then row_bit row.old (8 * start + shift + (x - 8 * first))
+        else row_bit row.old x) }
+{
+    let mut tail = [0; 32];
+    copy_shifted(
+        &mut tail,
+        0,
+        size,
+        row,
+        start + (last - first) - size,
+        shift,
+    );
+    move_block(row, first, start, shift, size);
+    put_block(row, last - size, &tail, size);
+}
+
+// One block, made beside the row before it is written.
+#[inline(always)]
+fn move_block(row: &mut [u8], first: usize, start: usize, shift: usize, size: usize)
+    requires some { 0 < shift }
+    requires low { shift < 8 }
+    requires few { size ≤ 32 }
+    requires inside { first + size ≤ length row.old }
+    requires source_inside { start + size < length row.old }
+    ensures { (x : ℕ) → row_bit row.new x ≡ (if is_between (8 * first) (8 * (first + size)) x
+        then row_bit row.old (8 * start + shift + (x - 8 * first))
+        else row_bit row.old x) }
+{
+    let mut block = [0; 32];
+    copy_shifted(&mut block, 0, size, row, start, shift);
+    put_block(row, first, &block, size);
+}
+
+// The last bytes are made beside the row before any is written, so that the loop goes by whole vectors.
+#[inline(always)]
+fn move_long(row: &mut [u8], first: usize, last: usize, start: usize, shift: usize)
+    requires some { 0 < shift }
+    requires low { shift < 8 }
+    requires near { start < 2 ^ 50 }
+    requires ordered { first ≤ last }
+    requires inside { last ≤ length row.old }
+    requires source_inside { start + (last - first) < length row.old }
+    requires many { 32 < last - first }
+    ensures { (x : ℕ) → row_bit row.new x ≡ (if is_between (8 * first) (8 * last) x
+        then row_bit row.old (8 * start + shift + (x - 8 * first))
+        else row_bit row.old x) }
+{
+    let count = last - first;
+    let mut tail = [0; 32];
+    copy_shifted(&mut tail, 0, 32, row, start + count - 32, shift);
+    move_main(row, first, first + (count - 1) / 32 * 32, start, shift);
+    put_block(row, last - 32, &tail, 32);
+}
+
+// Byte after byte.
+#[inline(always)]
+fn move_main(row: &mut [u8], first: usize, last: usize, start: usize, shift: usize)
+    requires some { 0 < shift }
+    requires low { shift < 8 }
+    requires near { start < 2 ^ 50 }
+    requires ordered { first ≤ last }
+    requires inside { last ≤ length row.old }
+    requires source_inside { start + (last - first) < length row.old }
+    ensures { (x : ℕ) → row_bit row.new x ≡ (if is_between (8 * first) (8 * last) x
+        then row_bit row.old (8 * start + shift + (x - 8 * first))
+        else row_bit row.old x) }
+{
+    if first <= start {
+        move_left(row, first, last, start - first, shift);
+    } else {
+        move_right(row, first, last, first - start, shift);
+    }
+}
+
+// From bit `shift` of the byte on that stands `ahead` bytes to the right. A move by less than a byte has a loop of its
+// own, which the compiler sees to read no byte after it is written.
+#[inline(always)]
+fn move_left(row: &mut [u8], first: usize, last: usize, ahead: usize, shift: usize)
     requires some { 0 < shift }
     requires low { shift < 8 }
     requires near { ahead < 2 ^ 60 }
@@ -99,32 +218,9 @@ fn move_left_bytes(row: &mut [u8], first: usize, last: usize, ahead: usize, shif
     }
 }
 
-// From bit `shift` of the byte on that stands `behind` bytes to the left.
-fn move_right(row: &mut [u8], first: usize, last: usize, behind: usize, shift: usize)
-    requires some { 0 < shift }
-    requires low { shift < 8 }
-    requires apart { 0 < behind }
-    requires ordered { first ≤ last }
-    requires inside { last ≤ length row.old }
-    requires source_inside { behind ≤ first }
-    ensures { (x : ℕ) → row_bit row.new x ≡ (if is_between (8 * first) (8 * last) x
-        then row_bit row.old (x - 8 * behind + shift)
-        else row_bit row.old x) }
-{
-    match shift {
-        1 => move_right_by(row, first, last, behind, 1),
-        2 => move_right_by(row, first, last, behind, 2),
-        3 => move_right_by(row, first, last, behind, 3),
-        4 => move_right_by(row, first, last, behind, 4),
-        5 => move_right_by(row, first, last, behind, 5),
-        6 => move_right_by(row, first, last, behind, 6),
-        _ => move_right_by(row, first, last, behind, 7),
-    }
-}
-
-// As `move_left_by`.
+// From bit `shift` of the byte on that stands `behind` bytes to the left. As `move_left`.
 #[inline(always)]
-fn move_right_by(row: &mut [u8], first: usize, last: usize, behind: usize, shift: usize)
+fn move_right(row: &mut [u8], first: usize, last: usize, behind: usize, shift: usize)
     requires some { 0 < shift }
     requires low { shift < 8 }
     requires apart { 0 < behind }

@@ -12,8 +12,11 @@ use crate::moving::move_bytes;
 // The bytes that a blit other than a copy fetches at a time.
 const PIECE: usize = 256;
 
+// No more bytes than this are one piece, with less room.
+const SHORT: usize = 64;
+
 // Fewer bytes go one by one.
-const MANY: usize = 8;
+const MANY: usize = 4;
 
 /// Blits `count` bits of a row from `source_bit` on onto those of the same row from `to_bit` on, as
 /// `combine` does. The sources are the bits as they were before the call. All bits named are in the row,
@@ -89,8 +92,9 @@ fn within_bytes(row: &mut [u8], first: usize, last: usize, place: usize, minterm
         then blit_bit minterm (row_bit row.old) place (row_bit row.old) (8 * first) x
         else row_bit row.old x) }
 {
-    let is_whole_copy = minterm & 0xf0 == 0xc0 && place % 8 == 0;
-    if is_whole_copy || last - first >= MANY {
+    if minterm & 0xf0 == 0xc0 {
+        move_bytes(row, first, last, place);
+    } else if last - first >= MANY {
         within_many(row, first, last, place, minterm);
     } else if 8 * first <= place {
         bytes_forwards(row, first, last, place, minterm);
@@ -110,13 +114,28 @@ fn within_many(row: &mut [u8], first: usize, last: usize, place: usize, minterm:
         then blit_bit minterm (row_bit row.old) place (row_bit row.old) (8 * first) x
         else row_bit row.old x) }
 {
-    if minterm & 0xf0 == 0xc0 {
-        move_bytes(row, first, last, place);
+    if last - first <= SHORT {
+        within_short(row, first, last, place, minterm);
     } else if 8 * first <= place {
         pieces_forwards(row, first, last, place, minterm);
     } else {
         pieces_backwards(row, first, last, place, minterm);
     }
+}
+
+// As `within_bytes`, for one piece with little room.
+fn within_short(row: &mut [u8], first: usize, last: usize, place: usize, minterm: u8)
+    requires near { place < 2 ^ 42 }
+    requires ordered { first ≤ last }
+    requires short { last - first ≤ 64 }
+    requires inside { last ≤ length row.old }
+    requires source_inside { place + 8 * (last - first) ≤ 8 * length row.old }
+    ensures { (x : ℕ) → row_bit row.new x ≡ (if is_between (8 * first) (8 * last) x
+        then blit_bit minterm (row_bit row.old) place (row_bit row.old) (8 * first) x
+        else row_bit row.old x) }
+{
+    let mut fetched = [0; SHORT];
+    combine_piece(row, first, last, place, minterm, &mut fetched);
 }
 
 // Byte after byte to the right: no source stands left of its destination.

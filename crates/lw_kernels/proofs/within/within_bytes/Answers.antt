@@ -4,7 +4,7 @@ use Rattle.lw_planes.proofs.RowLaws.{row_bit_lt}
 use Rattle.lw_kernels.specs.Kernel.{blit_bit}
 use Rattle.lw_kernels.proofs.ByteLaws.{minterm_copies}
 use Rattle.lw_kernels.proofs.RowWriting.{done_same}
-use Rattle.lw_kernels.proofs.within.within_many.Goals as goal
+use Rattle.lw_kernels.proofs.within.within_bytes.Goals as goal
 
 pub returns-then-minterm-eq192 : goal.returns-then-minterm-eq192
 returns-then-minterm-eq192 c =
