@@ -8,7 +8,7 @@ use Rattle.lw_calls.specs.declared.group.Group.{Group}
 use Rattle.lw_calls.specs.Touches.{slots_of}
 use Rattle.lw_calls.specs.Plan.{Plan, is_one, begins_update, may_be_locked, group_fits, groups_fit}
 use Rattle.lw_grammar.specs.LineForms.{Statement, LockLine, HoldLine}
-use Rattle.lw_grammar.specs.Told.{Opened, Locked, Updating, Held}
+use Rattle.lw_grammar.specs.Told.{OpenGroup, Locked, Updating, Held}
 use Rattle.lw_canonical.specs.Canonical.{line_of_call, are_updating, is_update, opening_lines, closing_lines, lines_before, lines_behind, lines_from}
 use Rattle.lw_grammar.proofs.ScriptGroups.{drop_pushed}
 use Rattle.lw_grammar.proofs.ScriptTasks.{IsUpdating}
@@ -101,15 +101,15 @@ update_begins s [] c h = absurd h
 update_begins s (x ∷ xs) c h = (and_parts (is_one s (slots_of x)) _ h.0).1
 
 -- the lines that opened the group that is open: an update has none but its calls
-abbrev pub opened_lines : Option Opened → List Statement
-opened_lines None = []
-opened_lines (Some (Locked l)) = LockLine l ∷ []
-opened_lines (Some (Updating l)) = []
-opened_lines (Some Held) = HoldLine ∷ []
+abbrev pub open_group_lines : Option OpenGroup → List Statement
+open_group_lines None = []
+open_group_lines (Some (Locked l)) = LockLine l ∷ []
+open_group_lines (Some (Updating l)) = []
+open_group_lines (Some Held) = HoldLine ∷ []
 
 -- those before call number n
-abbrev pub opened_before : Option Opened → ℕ → ℕ → List Statement
-opened_before o began n = cond (began == n) (opened_lines o) []
+abbrev pub open_group_before : Option OpenGroup → ℕ → ℕ → List Statement
+open_group_before o began n = cond (began == n) (open_group_lines o) []
 
 -- the same lines, whatever the test
 cond_none : (t : Bool) (xs : List Statement) → cond t xs xs ≡ xs
@@ -124,9 +124,9 @@ module _ (names bitmaps : List (List ℕ)) where
       woven (lines_before names calls groups) (lines_behind names calls groups) 0 (map (line_of_call names bitmaps) calls)
 
   -- a task's lines so far, where this group is open and began before its call of this number, or none is
-  abbrev pub lines_so_far : Option Opened → ℕ → List Call → List Group → List Statement
+  abbrev pub lines_so_far : Option OpenGroup → ℕ → List Call → List Group → List Statement
   lines_so_far o began calls groups =
-      woven (λ m. lines_before names calls groups m ++ opened_before o began m) (lines_behind names calls groups) 0 (map (line_of_call names bitmaps) calls) ++ opened_before o began (length calls)
+      woven (λ m. lines_before names calls groups m ++ open_group_before o began m) (lines_behind names calls groups) 0 (map (line_of_call names bitmaps) calls) ++ open_group_before o began (length calls)
 
   -- a further call leaves what stands before and behind the others
   before_kept : (calls : List Call) (c : Call) (gs : List Group) (m : ℕ) → AreInside (length calls) gs → lines_before names (calls ++ c ∷ []) gs m ≡ lines_before names calls gs m
@@ -162,61 +162,61 @@ module _ (names bitmaps : List (List ℕ)) where
       flat_map-append (λ k. cond (k.last == m) (closing_lines names k.hold (is_update calls k)) []) gs (g ∷ []) ∙ ap (λ (t : List Statement). lines_behind names calls gs m ++ t) (append-nil _)
 
   -- nothing was opened where no group is open
-  pub none_before : (began m : ℕ) → opened_before None began m ≡ []
+  pub none_before : (began m : ℕ) → open_group_before None began m ≡ []
   none_before began m = cond_none (began == m) []
 
   -- The lines of one call more, where what stands at the others is the same.
-  more_line : (o p : Option Opened) (began now : ℕ) (calls : List Call) (groups gs : List Group) (c : Call) (f : Statement) → line_of_call names bitmaps c ≡ f → ((m : ℕ) → m < length calls → lines_before names (calls ++ c ∷ []) gs m ++ opened_before p now m ≡ lines_before names calls groups m ++ opened_before o began m) → lines_before names (calls ++ c ∷ []) gs (length calls) ++ opened_before p now (length calls) ≡ opened_before o began (length calls) → ((m : ℕ) → m < length calls → lines_behind names (calls ++ c ∷ []) gs m ≡ lines_behind names calls groups m) → lines_behind names (calls ++ c ∷ []) gs (length calls) ≡ [] → opened_before p now (length calls + 1) ≡ [] → lines_so_far p now (calls ++ c ∷ []) gs ≡ lines_so_far o began calls groups ++ f ∷ []
+  more_line : (o p : Option OpenGroup) (began now : ℕ) (calls : List Call) (groups gs : List Group) (c : Call) (f : Statement) → line_of_call names bitmaps c ≡ f → ((m : ℕ) → m < length calls → lines_before names (calls ++ c ∷ []) gs m ++ open_group_before p now m ≡ lines_before names calls groups m ++ open_group_before o began m) → lines_before names (calls ++ c ∷ []) gs (length calls) ++ open_group_before p now (length calls) ≡ open_group_before o began (length calls) → ((m : ℕ) → m < length calls → lines_behind names (calls ++ c ∷ []) gs m ≡ lines_behind names calls groups m) → lines_behind names (calls ++ c ∷ []) gs (length calls) ≡ [] → open_group_before p now (length calls + 1) ≡ [] → lines_so_far p now (calls ++ c ∷ []) gs ≡ lines_so_far o began calls groups ++ f ∷ []
   more_line o p began now calls groups gs c f line before first behind last end =
       let told : List Statement = map (line_of_call names bitmaps) calls in
       let long : length told ≡ length calls = length-map calls (line_of_call names bitmaps) in
-      let a : ℕ → List Statement = λ m. lines_before names (calls ++ c ∷ []) gs m ++ opened_before p now m in
-      let b : ℕ → List Statement = λ m. lines_before names calls groups m ++ opened_before o began m in
+      let a : ℕ → List Statement = λ m. lines_before names (calls ++ c ∷ []) gs m ++ open_group_before p now m in
+      let b : ℕ → List Statement = λ m. lines_before names calls groups m ++ open_group_before o began m in
       let old : List Statement = woven b (lines_behind names calls groups) 0 told in
-      let opened : List Statement = opened_before o began (length calls) in
+      let opened : List Statement = open_group_before o began (length calls) in
       let pushed = ap (λ (ls : List Statement). woven a (lines_behind names (calls ++ c ∷ []) gs) 0 ls) (map-append (line_of_call names bitmaps) calls (c ∷ [])) ∙ woven_push a (lines_behind names (calls ++ c ∷ []) gs) 0 told (line_of_call names bitmaps c) (length calls) (omega (arith, long)) in
       let same : woven a (lines_behind names (calls ++ c ∷ []) gs) 0 told ≡ old = woven_same a b (lines_behind names (calls ++ c ∷ []) gs) (lines_behind names calls groups) 0 told (λ m low high. before m (omega (arith, long))) (λ m low high. behind m (omega (arith, long))) in
       let here : a (length calls) ++ line_of_call names bitmaps c ∷ lines_behind names (calls ++ c ∷ []) gs (length calls) ≡ opened ++ f ∷ [] = ap₂ (λ (x y : List Statement). x ++ y) first (ap₂ (λ (x : Statement) (y : List Statement). x ∷ y) line last) in
-      let tail : opened_before p now (length (calls ++ c ∷ [])) ≡ [] = ap (opened_before p now) (length-append calls (c ∷ [])) ∙ end in
+      let tail : open_group_before p now (length (calls ++ c ∷ [])) ≡ [] = ap (open_group_before p now) (length-append calls (c ∷ [])) ∙ end in
       ap₂ (λ (x y : List Statement). x ++ y) (pushed ∙ ap₂ (λ (x y : List Statement). x ++ y) same here) tail ∙ append-nil (old ++ (opened ++ f ∷ [])) ∙ sym (append_assoc old opened (f ∷ []))
 
   -- A group begins at the next call.
-  pub group_begun : (l : Opened) (began : ℕ) (calls : List Call) (groups : List Group) → lines_so_far (Some l) (length calls) calls groups ≡ lines_so_far None began calls groups ++ opened_lines (Some l)
+  pub group_begun : (l : OpenGroup) (began : ℕ) (calls : List Call) (groups : List Group) → lines_so_far (Some l) (length calls) calls groups ≡ lines_so_far None began calls groups ++ open_group_lines (Some l)
   group_begun l began calls groups =
       let told : List Statement = map (line_of_call names bitmaps) calls in
       let long : length told ≡ length calls = length-map calls (line_of_call names bitmaps) in
-      let a : ℕ → List Statement = λ m. lines_before names calls groups m ++ opened_before (Some l) (length calls) m in
-      let b : ℕ → List Statement = λ m. lines_before names calls groups m ++ opened_before None began m in
+      let a : ℕ → List Statement = λ m. lines_before names calls groups m ++ open_group_before (Some l) (length calls) m in
+      let b : ℕ → List Statement = λ m. lines_before names calls groups m ++ open_group_before None began m in
       let old : List Statement = woven b (lines_behind names calls groups) 0 told in
-      let same : woven a (lines_behind names calls groups) 0 told ≡ old = woven_same a b (lines_behind names calls groups) (lines_behind names calls groups) 0 told (λ m low high. ap (λ (t : List Statement). lines_before names calls groups m ++ t) (if_apart (length calls) m (opened_lines (Some l)) (λ e. omega (arith, long)) ∙ sym (none_before began m))) (λ m low high. refl) in
-      ap₂ (λ (x y : List Statement). x ++ y) same (if_same (length calls) (length calls) (opened_lines (Some l)) refl) ∙ ap (λ (t : List Statement). t ++ opened_lines (Some l)) (sym (ap (λ (t : List Statement). old ++ t) (none_before began (length calls)) ∙ append-nil old))
+      let same : woven a (lines_behind names calls groups) 0 told ≡ old = woven_same a b (lines_behind names calls groups) (lines_behind names calls groups) 0 told (λ m low high. ap (λ (t : List Statement). lines_before names calls groups m ++ t) (if_apart (length calls) m (open_group_lines (Some l)) (λ e. omega (arith, long)) ∙ sym (none_before began m))) (λ m low high. refl) in
+      ap₂ (λ (x y : List Statement). x ++ y) same (if_same (length calls) (length calls) (open_group_lines (Some l)) refl) ∙ ap (λ (t : List Statement). t ++ open_group_lines (Some l)) (sym (ap (λ (t : List Statement). old ++ t) (none_before began (length calls)) ∙ append-nil old))
 
   -- The open group ends with the last call.
-  pub group_ended : (o : Option Opened) (calls : List Call) (groups : List Group) (g : Group) (more : List Statement) → suc g.last ≡ length calls → g.first < length calls → opening_lines names g.hold (is_update calls g) ≡ opened_lines o → closing_lines names g.hold (is_update calls g) ≡ more → lines_so_far None g.first calls (groups ++ g ∷ []) ≡ lines_so_far o g.first calls groups ++ more
+  pub group_ended : (o : Option OpenGroup) (calls : List Call) (groups : List Group) (g : Group) (more : List Statement) → suc g.last ≡ length calls → g.first < length calls → opening_lines names g.hold (is_update calls g) ≡ open_group_lines o → closing_lines names g.hold (is_update calls g) ≡ more → lines_so_far None g.first calls (groups ++ g ∷ []) ≡ lines_so_far o g.first calls groups ++ more
   group_ended o calls groups g more end low opening closing =
       let told : List Statement = map (line_of_call names bitmaps) calls in
       let long : length told ≡ length calls = length-map calls (line_of_call names bitmaps) in
-      let a : ℕ → List Statement = λ m. lines_before names calls (groups ++ g ∷ []) m ++ opened_before None g.first m in
-      let b : ℕ → List Statement = λ m. lines_before names calls groups m ++ opened_before o g.first m in
+      let a : ℕ → List Statement = λ m. lines_before names calls (groups ++ g ∷ []) m ++ open_group_before None g.first m in
+      let b : ℕ → List Statement = λ m. lines_before names calls groups m ++ open_group_before o g.first m in
       let c : ℕ → List Statement = λ m. lines_behind names calls groups m ++ cond (g.last == m) more [] in
       let old : List Statement = woven b (lines_behind names calls groups) 0 told in
       let before : (m : ℕ) → a m ≡ b m = λ m. ap₂ (λ (x y : List Statement). x ++ y) (before_pushed calls groups g m ∙ ap (λ (t : List Statement). lines_before names calls groups m ++ cond (g.first == m) t []) opening) (none_before g.first m) ∙ append-nil (b m) in
       let behind : (m : ℕ) → lines_behind names calls (groups ++ g ∷ []) m ≡ c m = λ m. behind_pushed calls groups g m ∙ ap (λ (t : List Statement). lines_behind names calls groups m ++ cond (g.last == m) t []) closing in
       let same = woven_same a b (lines_behind names calls (groups ++ g ∷ [])) c 0 told (λ m u v. before m) (λ m u v. behind m) in
       let last = woven_last b (lines_behind names calls groups) 0 told more g.last (omega (arith, long)) (omega (arith, long)) in
-      let off : opened_before o g.first (length calls) ≡ [] = if_apart g.first (length calls) (opened_lines o) (λ e. omega arith) in
+      let off : open_group_before o g.first (length calls) ≡ [] = if_apart g.first (length calls) (open_group_lines o) (λ e. omega arith) in
       ap₂ (λ (x y : List Statement). x ++ y) (same ∙ last) (none_before g.first (length calls)) ∙ append-nil (old ++ more) ∙ ap (λ (t : List Statement). t ++ more) (sym (ap (λ (t : List Statement). old ++ t) off ∙ append-nil old))
 
   -- Where no group is open, the lines so far are those of the calls and groups.
   pub lines_closed : (began : ℕ) (calls : List Call) (groups : List Group) → lines_so_far None began calls groups ≡ closed_lines calls groups
   lines_closed began calls groups =
       let told : List Statement = map (line_of_call names bitmaps) calls in
-      let a : ℕ → List Statement = λ m. lines_before names calls groups m ++ opened_before None began m in
+      let a : ℕ → List Statement = λ m. lines_before names calls groups m ++ open_group_before None began m in
       let same = woven_same a (lines_before names calls groups) (lines_behind names calls groups) (lines_behind names calls groups) 0 told (λ m low high. ap (λ (t : List Statement). lines_before names calls groups m ++ t) (none_before began m) ∙ append-nil _) (λ m low high. refl) in
       ap₂ (λ (x y : List Statement). x ++ y) same (none_before began (length calls)) ∙ append-nil _
 
   -- A call that leaves the open group open, or begins an update.
-  pub call_line : (o p : Option Opened) (began now : ℕ) (calls : List Call) (groups : List Group) (c : Call) (f : Statement) → AreInside (length calls) groups → line_of_call names bitmaps c ≡ f → ((m : ℕ) → m ≤ length calls → opened_before p now m ≡ opened_before o began m) → opened_before p now (length calls + 1) ≡ [] → lines_so_far p now (calls ++ c ∷ []) groups ≡ lines_so_far o began calls groups ++ f ∷ []
+  pub call_line : (o p : Option OpenGroup) (began now : ℕ) (calls : List Call) (groups : List Group) (c : Call) (f : Statement) → AreInside (length calls) groups → line_of_call names bitmaps c ≡ f → ((m : ℕ) → m ≤ length calls → open_group_before p now m ≡ open_group_before o began m) → open_group_before p now (length calls + 1) ≡ [] → lines_so_far p now (calls ++ c ∷ []) groups ≡ lines_so_far o began calls groups ++ f ∷ []
   call_line o p began now calls groups c f inside line same end =
       more_line o p began now calls groups groups c f line
       (λ m low. ap₂ (λ (x y : List Statement). x ++ y) (before_kept calls c groups m inside) (same m (omega arith)))
@@ -234,8 +234,8 @@ module _ (names bitmaps : List (List ℕ)) where
       let before : (m : ℕ) → lines_before names more (groups ++ g ∷ []) m ≡ lines_before names calls groups m = λ m. before_pushed more groups g m ∙ ap₂ (λ (x y : List Statement). x ++ y) (before_kept calls c groups m inside) (ap (λ (t : List Statement). cond (g.first == m) t []) opening ∙ cond_none (g.first == m) []) ∙ append-nil _ in
       let behind : (m : ℕ) → lines_behind names more (groups ++ g ∷ []) m ≡ lines_behind names calls groups m = λ m. behind_pushed more groups g m ∙ ap₂ (λ (x y : List Statement). x ++ y) (behind_kept calls c groups m inside) (ap (λ (t : List Statement). cond (g.last == m) t []) closing ∙ cond_none (g.last == m) []) ∙ append-nil _ in
       more_line (Some (Updating l)) None g.first g.first calls groups (groups ++ g ∷ []) c f line
-      (λ m low. ap (λ (t : List Statement). t ++ opened_before None g.first m) (before m))
-      (ap (λ (t : List Statement). t ++ opened_before None g.first (length calls)) (before (length calls) ∙ before_none calls groups (length calls) (length calls) inside (omega arith)))
+      (λ m low. ap (λ (t : List Statement). t ++ open_group_before None g.first m) (before m))
+      (ap (λ (t : List Statement). t ++ open_group_before None g.first (length calls)) (before (length calls) ∙ before_none calls groups (length calls) (length calls) inside (omega arith)))
       (λ m low. behind m)
       (behind (length calls) ∙ behind_none calls groups (length calls) (length calls) inside (omega arith))
       (none_before g.first (length calls + 1))

@@ -3,7 +3,7 @@ use Rattle.std.proofs.Common.{◌≡◌, ℕ, ◌+◌, ◌-◌, ◌≤◌, ◌==
 use Rattle.lw_calls.specs.declared.group.Hold.{Hold}
 use Rattle.lw_calls.specs.declared.group.Hold.TheVariants.{Slot, All as AllLayers}
 use Rattle.lw_grammar.specs.LineForms.{Act, RefreshAct, EndRefreshAct, Statement, ScreenLine, GlyphLine, BitmapLine, RowLine, TaskLine, EndLine, OrderLine, NumbersLine, ReportLine, CallLine, LockLine, UnlockLine, HoldLine, ReleaseLine}
-use Rattle.lw_grammar.specs.Told.{Section, ScreenIsDue, AssetsAreDue, CallsAreDue, TasksAreDue, NumbersAreDue, NothingIsDue, nothing_told, and_name, and_names, place_among, onto_last, spelled_call, call_below, asks_super, hook_on, and_hook, opened_by, group_from, told}
+use Rattle.lw_grammar.specs.Told.{Section, ScreenIsDue, AssetsAreDue, CallsAreDue, TasksAreDue, NumbersAreDue, NothingIsDue, nothing_told, and_name, and_names, place_among, onto_last, spelled_call, call_below, asks_super, hook_on, and_hook, left_open_by, group_from, told}
 use Rattle.lw_grammar.specs.Script.{Setting, are_calls_due, are_tasks_due, are_numbers_due, AreGoodLines}
 use Rattle.lw_grammar.proofs.ScriptOutcome.{rows_in_assets}
 use Rattle.lw_grammar.proofs.ScriptSizes.{here, has_begun, has_screen, in_screen, in_assets, in_calls, in_tasks, in_numbers, in_assets_or_tasks}
@@ -217,7 +217,7 @@ module _ (above new : List Statement) (a : AreAlike above new) where
   more_group (UnlockLine name) = refl
   more_group HoldLine = refl
   more_group ReleaseLine = refl
-  more_group (CallLine layers act) = ap (opened_by layers act) a.group
+  more_group (CallLine layers act) = ap (left_open_by layers act) a.group
   more_group f = a.group
 
   -- the nearest task's calls so far

@@ -7,7 +7,7 @@ use Rattle.lw_calls.specs.declared.make.Place.{Place}
 use Rattle.lw_calls.specs.declared.make.Place.TheVariants.{Front, Behind}
 use Rattle.lw_calls.specs.Limits.{rect_fits}
 use Rattle.lw_grammar.specs.Tokens.{is_a_name, Token, NameToken, NumberToken, TextToken, OddToken}
-use Rattle.lw_grammar.specs.LineForms.{Asked, CreateAct, OpenAct, Statement, CallLine, four, kind_of, place_of, flag, hook_option, classes_from, asked_classes, ask_option, at_end, asked_without_bitmap, create_without_bitmap, create_super, create_kind, titled_line, open_without_bitmap, open_super, open_kind, asked_line, is_hook_number, is_box, is_line_in_range}
+use Rattle.lw_grammar.specs.LineForms.{AskedLayer, CreateAct, OpenAct, Statement, CallLine, four, kind_of, place_of, flag, hook_option, classes_from, asked_classes, ask_option, at_end, asked_without_bitmap, create_without_bitmap, create_super, create_kind, titled_line, open_without_bitmap, open_super, open_kind, asked_line, is_hook_number, is_box, is_line_in_range}
 use Rattle.lw_canonical.specs.Spelling.{text_word, four_words, kind_word, place_word, flag_words, hook_words, set_word, ask_words, words_of}
 use Rattle.lw_grammar.proofs.ScriptNames.{equal_names}
 use Rattle.lw_canonical.proofs.SpelledNumbers.{found_if, IsSetOf, set_spelled}
@@ -87,7 +87,7 @@ end_has P f [] h = h refl
 end_has P f (t ∷ ts) h = tt
 
 -- what is found where the title is left
-titled_has : (P : Statement → Type 0) (l : List ℕ) (asked : Asked) (framed nocare : Bool) (classes : ℕ) (ts : List Token) → ((title : List ℕ) → map token_word ts ≡ text_word title ∷ [] → P (CallLine (l ∷ []) (OpenAct asked framed nocare classes title))) → IfSome (titled_line l asked framed nocare classes ts) P
+titled_has : (P : Statement → Type 0) (l : List ℕ) (asked : AskedLayer) (framed nocare : Bool) (classes : ℕ) (ts : List Token) → ((title : List ℕ) → map token_word ts ≡ text_word title ∷ [] → P (CallLine (l ∷ []) (OpenAct asked framed nocare classes title))) → IfSome (titled_line l asked framed nocare classes ts) P
 titled_has P l asked framed nocare classes (TextToken title ∷ []) h = h title refl
 titled_has P l asked framed nocare classes _ h = tt
 

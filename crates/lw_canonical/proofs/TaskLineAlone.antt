@@ -5,7 +5,7 @@ use Rattle.lw_calls.specs.declared.operation.RectOp.TheVariants.{Or as OrR, And 
 use Rattle.lw_calls.specs.declared.operation.PairOp.TheVariants.{Or as OrP, And as AndP, Xor as XorP}
 use Rattle.lw_calls.specs.Limits.{name_limit, call_limit, task_limit, bitmap_limit}
 use Rattle.lw_grammar.specs.LineForms.{Act, RegRectAct, RegPairAct, Statement, GlyphLine, BitmapLine, RowLine, TaskLine, NumbersLine, CallLine}
-use Rattle.lw_grammar.specs.Told.{Section, ScreenIsDue, AssetsAreDue, CallsAreDue, TasksAreDue, NumbersAreDue, NothingIsDue, Opened, hook_on, told}
+use Rattle.lw_grammar.specs.Told.{Section, ScreenIsDue, AssetsAreDue, CallsAreDue, TasksAreDue, NumbersAreDue, NothingIsDue, OpenGroup, hook_on, told}
 use Rattle.lw_grammar.specs.Script.{Setting, is_skipped, are_assets_due, are_calls_due, are_tasks_due, are_numbers_due, is_nothing_due, lacks_name, gives_again, fits_group, super_limit, are_few, is_used, has_padding, form_read, line_read}
 use Rattle.lw_canonical.specs.Spelling.{joined, call_words, words_of, spelled}
 use Rattle.lw_grammar.proofs.ScriptSizes.{IsFormTested, tests_pass}
@@ -100,7 +100,7 @@ not_padded width f t = refl
 -- a line fits the open group below such lines if it did
 same_fit : (above new : List Statement) (f : Statement) → AreAlike above new → fits_group (told new).group (nat_lt (told new).began (told new).so_far) f ≡ fits_group (told above).group (nat_lt (told above).began (told above).so_far) f
 same_fit above new f a =
-    ap (λ (g : Option Opened). fits_group g (nat_lt (told new).began (told new).so_far) f) a.group
+    ap (λ (g : Option OpenGroup). fits_group g (nat_lt (told new).began (told new).so_far) f) a.group
     ∙ (ap (λ n. fits_group (told above).group (nat_lt n (told new).so_far) f) a.began ∙ ap (λ n. fits_group (told above).group (nat_lt (told above).began n) f) a.so_far)
 
 -- Below lines that tell the same, a form of tasks meets the same tests.

@@ -6,7 +6,7 @@ use Rattle.lw_calls.specs.declared.call.Call.{Call}
 use Rattle.lw_calls.specs.declared.group.Hold.TheVariants.{Slot, All as AllLayers}
 use Rattle.lw_calls.specs.declared.group.Group.{Group}
 use Rattle.lw_grammar.specs.LineForms.{Act, PutAct, RefreshAct, EndRefreshAct, Statement, ScreenLine, GlyphLine, BitmapLine, RowLine, TaskLine, EndLine, OrderLine, NumbersLine, ReportLine, CallLine, LockLine, UnlockLine, HoldLine, ReleaseLine}
-use Rattle.lw_grammar.specs.Told.{Section, ScreenIsDue, AssetsAreDue, CallsAreDue, TasksAreDue, NumbersAreDue, NothingIsDue, Opened, Locked, Updating, Held, and_names, place_among, onto_last, call_below, group_from, told, plan_of}
+use Rattle.lw_grammar.specs.Told.{Section, ScreenIsDue, AssetsAreDue, CallsAreDue, TasksAreDue, NumbersAreDue, NothingIsDue, OpenGroup, Locked, Updating, Held, and_names, place_among, onto_last, call_below, group_from, told, plan_of}
 use Rattle.lw_grammar.specs.Script.{Setting, is_screen_due, are_assets_due, are_calls_due, are_tasks_due, are_numbers_due, lacks_name, is_beginning, is_ending, is_lock_on, is_hold, AreGoodLines}
 use Rattle.lw_canonical.specs.Canonical.{line_of_call, are_updating, is_update, opening_lines, closing_lines}
 use Rattle.lw_canonical.proofs.Rearranged.{is_of_tasks}
@@ -16,7 +16,7 @@ use Rattle.lw_grammar.proofs.ScriptOutcome.{rows_in_assets}
 use Rattle.lw_grammar.proofs.ScriptSizes.{here, tests, in_calls, in_tasks}
 use Rattle.lw_grammar.proofs.ScriptTasks.{View, view_of, OpenState, HaveBegun, IsNow, AreTasks, tasks_fit, calls_listed, groups_listed, none_open, plain_groups, opens_none, ends_same, unlocks_same, releases_held, onto_pushed}
 use Rattle.lw_canonical.proofs.CallLinesBack.{IsBitmapBack, line_back}
-use Rattle.lw_canonical.proofs.GroupLines.{AreInside, groups_inside, opened_before, locked_begin_none, update_begins, closed_lines, lines_so_far, none_before, group_begun, group_ended, lines_closed, call_line, update_line}
+use Rattle.lw_canonical.proofs.GroupLines.{AreInside, groups_inside, open_group_before, locked_begin_none, update_begins, closed_lines, lines_so_far, none_before, group_begun, group_ended, lines_closed, call_line, update_line}
 use Rattle.std.proofs.lemmas.Bool.{true≢false, false≢true, not-false, ne_eqb, ltb-true, and_parts}
 use Rattle.std.proofs.lemmas.List.{reverse-append}
 
@@ -115,16 +115,16 @@ none_between : (s : Setting) (above : List Statement) → AreGoodLines s above �
 none_between s above g e = (tasks_fit (plan_of s.hooks (told above)).sizes s above g refl (omega arith) (omega arith)).closed e
 
 -- nothing was opened before a call behind the next one
-opened_behind : (o : Option Opened) (so_far began n : ℕ) (names : List (List ℕ)) (calls : List Call) (groups : List Group) → OpenState o so_far began names calls groups → so_far < n → opened_before o began n ≡ []
-opened_behind None so_far began n names calls groups h low = none_before [] [] began n
-opened_behind (Some (Locked l)) so_far began n names calls groups h low =
+open_group_behind : (o : Option OpenGroup) (so_far began n : ℕ) (names : List (List ℕ)) (calls : List Call) (groups : List Group) → OpenState o so_far began names calls groups → so_far < n → open_group_before o began n ≡ []
+open_group_behind None so_far began n names calls groups h low = none_before [] [] began n
+open_group_behind (Some (Locked l)) so_far began n names calls groups h low =
     let order : began ≤ so_far = h.0.order in ap (λ t. cond t (LockLine l ∷ []) []) (ne_eqb began n (λ e. omega arith))
-opened_behind (Some (Updating l)) so_far began n names calls groups h low = none_before [] [] began n
-opened_behind (Some Held) so_far began n names calls groups h low =
+open_group_behind (Some (Updating l)) so_far began n names calls groups h low = none_before [] [] began n
+open_group_behind (Some Held) so_far began n names calls groups h low =
     let order : began ≤ so_far = h.0.order in ap (λ t. cond t (HoldLine ∷ []) []) (ne_eqb began n (λ e. omega arith))
 
 -- what opens an update has no lines
-update_before : (l : List ℕ) (began m : ℕ) → opened_before (Some (Updating l)) began m ≡ []
+update_before : (l : List ℕ) (began m : ℕ) → open_group_before (Some (Updating l)) began m ≡ []
 update_before l began m = none_before [] [] began m
 
 -- The lines of tasks, where the layers have these names by slot and the bitmaps these by number.
@@ -186,7 +186,7 @@ module _ (names bitmaps : List (List ℕ)) where
   -- a task begins
   task_told : (s : Setting) (above : List Statement) (name : List ℕ) → AreGoodLines s above → are_calls_due (told above).section ≡ false → AreClosed above → AreTold (TaskLine name ∷ above)
   task_told s above name g e h =
-      let P : Option Opened → Type 0 = λ o. told_above (TaskLine name ∷ above) ≡ all_task_lines (told above).tasks (told above).calls (told above).groups ++ TaskLine name ∷ lines_so_far names bitmaps o (told above).began [] [] in
+      let P : Option OpenGroup → Type 0 = λ o. told_above (TaskLine name ∷ above) ≡ all_task_lines (told above).tasks (told above).calls (told above).groups ++ TaskLine name ∷ lines_so_far names bitmaps o (told above).began [] [] in
       let alone : lines_so_far names bitmaps None (told above).began [] [] ≡ [] = none_before names bitmaps (told above).began 0 in
       let line : told_above (TaskLine name ∷ above) ≡ told_above above ++ TaskLine name ∷ [] = reverse-append (TaskLine name ∷ []) (filter is_of_tasks above) in
       record {
@@ -228,7 +228,7 @@ module _ (names bitmaps : List (List ℕ)) where
       let none : (told above).group ≡ None = none_open (told above).group (tests s above EndLine g).group in
       let before : List Statement = all_task_lines r.done_names r.done r.done_groups in
       let own : List Statement = closed_lines names bitmaps r.calls r.groups in
-      let closed : lines_so_far names bitmaps (told above).group (told above).began r.calls r.groups ≡ own = ap (λ (o : Option Opened). lines_so_far names bitmaps o (told above).began r.calls r.groups) none ∙ lines_closed names bitmaps (told above).began r.calls r.groups in
+      let closed : lines_so_far names bitmaps (told above).group (told above).began r.calls r.groups ≡ own = ap (λ (o : Option OpenGroup). lines_so_far names bitmaps o (told above).began r.calls r.groups) none ∙ lines_closed names bitmaps (told above).began r.calls r.groups in
       let line : told_above (EndLine ∷ above) ≡ told_above above ++ EndLine ∷ [] = reverse-append (EndLine ∷ []) (filter is_of_tasks above) in
       let lists : length (r.done ++ r.calls ∷ []) ≡ length (r.done_names ++ r.name ∷ []) = ap length (sym r.all_are) ∙ calls_listed above ∙ ap length r.names_are in
       let grouped : length (r.done_groups ++ r.groups ∷ []) ≡ length (r.done_names ++ r.name ∷ []) = ap length (sym r.groups_are) ∙ groups_listed above ∙ ap length r.names_are in
@@ -252,23 +252,23 @@ module _ (names bitmaps : List (List ℕ)) where
     known = nearest_task s above good due r.done r.done_groups r.calls r.groups r.all_are r.groups_are
 
     -- the same, where the group that is open is known
-    state_at : (o : Option Opened) → (told above).group ≡ o → OpenState o (told above).so_far (told above).began (told above).names r.calls r.groups
+    state_at : (o : Option OpenGroup) → (told above).group ≡ o → OpenState o (told above).so_far (told above).began (told above).names r.calls r.groups
     state_at o e =
-        let P : Option Opened → Type 0 = λ k. OpenState k (told above).so_far (told above).began (told above).names r.calls r.groups in
+        let P : Option OpenGroup → Type 0 = λ k. OpenState k (told above).so_far (told above).began (told above).names r.calls r.groups in
         subst P e known.state
 
     -- the task's lines so far, where this group is open
-    lines_at : (o : Option Opened) → (told above).group ≡ o → lines_so_far names bitmaps o (told above).began r.calls r.groups ≡ lines_so_far names bitmaps (told above).group (told above).began r.calls r.groups
-    lines_at o e = ap (λ (k : Option Opened). lines_so_far names bitmaps k (told above).began r.calls r.groups) (sym e)
+    lines_at : (o : Option OpenGroup) → (told above).group ≡ o → lines_so_far names bitmaps o (told above).began r.calls r.groups ≡ lines_so_far names bitmaps (told above).group (told above).began r.calls r.groups
+    lines_at o e = ap (λ (k : Option OpenGroup). lines_so_far names bitmaps k (told above).began r.calls r.groups) (sym e)
 
     -- a call that neither begins nor ends an update
     plain_told : (layers : List (List ℕ)) (act : Act) → is_beginning act ≡ false → is_ending act ≡ false → line_of_call names bitmaps (call_below (told above) layers act) ≡ CallLine layers act → AreTold (CallLine layers act ∷ above)
     plain_told layers act begins ends line =
         let c : Call = call_below (told above) layers act in
         let e = plain_groups above layers act begins ends in
-        let end : opened_before (told above).group (told above).began (length r.calls + 1) ≡ [] = opened_behind (told above).group (told above).so_far (told above).began (length r.calls + 1) (told above).names r.calls r.groups known.state (omega (arith, known.long)) in
+        let end : open_group_before (told above).group (told above).began (length r.calls + 1) ≡ [] = open_group_behind (told above).group (told above).so_far (told above).began (length r.calls + 1) (told above).names r.calls r.groups known.state (omega (arith, known.long)) in
         let more = call_line names bitmaps (told above).group (told above).group (told above).began (told above).began r.calls r.groups c (CallLine layers act) known.inside line (λ m low. refl) end in
-        line_told above (CallLine layers act) r (r.calls ++ c ∷ []) r.groups refl (ap (onto_last c) r.all_are ∙ onto_pushed c r.done r.calls) (e.0 ∙ r.groups_are) refl (ap₂ (λ (o : Option Opened) (n : ℕ). lines_so_far names bitmaps o n (r.calls ++ c ∷ []) r.groups) e.1 e.2 ∙ more)
+        line_told above (CallLine layers act) r (r.calls ++ c ∷ []) r.groups refl (ap (onto_last c) r.all_are ∙ onto_pushed c r.done r.calls) (e.0 ∙ r.groups_are) refl (ap₂ (λ (o : Option OpenGroup) (n : ℕ). lines_so_far names bitmaps o n (r.calls ++ c ∷ []) r.groups) e.1 e.2 ∙ more)
 
     -- an update begins, and ends
     refresh_told : (l : List ℕ) → (told above).group ≡ None → line_of_call names bitmaps (call_below (told above) (l ∷ []) RefreshAct) ≡ CallLine (l ∷ []) RefreshAct → AreTold (CallLine (l ∷ []) RefreshAct ∷ above)

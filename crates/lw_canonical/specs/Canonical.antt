@@ -12,7 +12,7 @@ use Rattle.lw_calls.specs.declared.group.Group.{Group}
 use Rattle.lw_calls.specs.declared.form.Form.TheVariants.{Plain}
 use Rattle.lw_calls.specs.Plan.{Plan, task_calls, task_groups, begins_update}
 use Rattle.lw_calls.specs.Written.{line_of}
-use Rattle.lw_grammar.specs.LineForms.{Asked, Act, RegRectAct, RegPairAct, RegClearAct, CreateAct, OpenAct, CloseAct, FrontAct, BehindAct, InFrontAct, MoveAct, SizeAct, BoxAct, ActivateAct, WhichAct, APenAct, BPenAct, ModeAct, MaskAct, AtAct, WriteAct, ReadAct, FillAct, DrawAct, TextAct, SetRastAct, ScrollRasterAct, PutAct, BlitAct, ClipAct, UnclipAct, RefreshAct, EndRefreshAct, ScrollAct, TitleAct, GetMsgAct, Statement, ScreenLine, GlyphLine, BitmapLine, RowLine, TaskLine, EndLine, CallLine, LockLine, UnlockLine, HoldLine, ReleaseLine, four}
+use Rattle.lw_grammar.specs.LineForms.{AskedLayer, Act, RegRectAct, RegPairAct, RegClearAct, CreateAct, OpenAct, CloseAct, FrontAct, BehindAct, InFrontAct, MoveAct, SizeAct, BoxAct, ActivateAct, WhichAct, APenAct, BPenAct, ModeAct, MaskAct, AtAct, WriteAct, ReadAct, FillAct, DrawAct, TextAct, SetRastAct, ScrollRasterAct, PutAct, BlitAct, ClipAct, UnclipAct, RefreshAct, EndRefreshAct, ScrollAct, TitleAct, GetMsgAct, Statement, ScreenLine, GlyphLine, BitmapLine, RowLine, TaskLine, EndLine, CallLine, LockLine, UnlockLine, HoldLine, ReleaseLine, four}
 use Rattle.lw_grammar.specs.Script.{Setting, ScriptInput, SpellsInput}
 use Rattle.lw_canonical.specs.Spelling.{spelled}
 
@@ -22,7 +22,7 @@ enumerated n [] = []
 enumerated n (a ∷ as') = (n, a) ∷ enumerated (n + 1) as'
 
 -- what a line asks for of which a call with this layer was made: a creation by its bounds, an opening by its place and size
-abbrev pub asked_of : Make → ℤ → ℤ → Asked
+abbrev pub asked_of : Make → ℤ → ℤ → AskedLayer
 asked_of m a b =
     record {
       kind = m.kind;
@@ -34,10 +34,10 @@ asked_of m a b =
       bits_h = pos m.bits_h;
     }
 
-abbrev pub created_asked : Make → Asked
+abbrev pub created_asked : Make → AskedLayer
 created_asked m = asked_of m ((m.x +ℤ m.w) -ℤ pos 1) ((m.y +ℤ m.h) -ℤ pos 1)
 
-abbrev pub opened_asked : Make → Asked
+abbrev pub opened_asked : Make → AskedLayer
 opened_asked m = asked_of m m.w m.h
 
 -- the line of a call on one layer, of this name

@@ -12,7 +12,7 @@ use Rattle.lw_calls.specs.declared.make.Kind.TheVariants.{Simple, Smart, SuperBi
 use Rattle.lw_calls.specs.declared.make.Place.{Place}
 use Rattle.lw_calls.specs.declared.make.Place.TheVariants.{Front, Behind}
 use Rattle.lw_grammar.specs.Tokens.{space, quote}
-use Rattle.lw_grammar.specs.LineForms.{Asked, Act, RegRectAct, RegPairAct, RegClearAct, CreateAct, OpenAct, CloseAct, FrontAct, BehindAct, InFrontAct, MoveAct, SizeAct, BoxAct, ActivateAct, WhichAct, APenAct, BPenAct, ModeAct, MaskAct, AtAct, WriteAct, ReadAct, FillAct, DrawAct, TextAct, SetRastAct, ScrollRasterAct, PutAct, BlitAct, ClipAct, UnclipAct, RefreshAct, EndRefreshAct, ScrollAct, TitleAct, GetMsgAct, Statement, ScreenLine, GlyphLine, BitmapLine, RowLine, TaskLine, EndLine, OrderLine, NumbersLine, ReportLine, CallLine, LockLine, UnlockLine, HoldLine, ReleaseLine, four}
+use Rattle.lw_grammar.specs.LineForms.{AskedLayer, Act, RegRectAct, RegPairAct, RegClearAct, CreateAct, OpenAct, CloseAct, FrontAct, BehindAct, InFrontAct, MoveAct, SizeAct, BoxAct, ActivateAct, WhichAct, APenAct, BPenAct, ModeAct, MaskAct, AtAct, WriteAct, ReadAct, FillAct, DrawAct, TextAct, SetRastAct, ScrollRasterAct, PutAct, BlitAct, ClipAct, UnclipAct, RefreshAct, EndRefreshAct, ScrollAct, TitleAct, GetMsgAct, Statement, ScreenLine, GlyphLine, BitmapLine, RowLine, TaskLine, EndLine, OrderLine, NumbersLine, ReportLine, CallLine, LockLine, UnlockLine, HoldLine, ReleaseLine, four}
 use Rattle.lw_calls.specs.Written.{hex_byte}
 
 -- words with single spaces between them
@@ -80,19 +80,19 @@ abbrev pub ask_words : ℕ → List (List ℕ)
 ask_words classes = if classes == 0 then [] else codes "ask" ∷ set_word classes ∷ []
 
 -- what a layer is asked for with behind its four numbers: BW BH [backdrop], or [backdrop] [hook N]
-abbrev pub created_words : Kind → Asked → List (List ℕ)
+abbrev pub created_words : Kind → AskedLayer → List (List ℕ)
 created_words Simple a = flag_words (codes "backdrop") a.backdrop ++ hook_words a.hook
 created_words Smart a = flag_words (codes "backdrop") a.backdrop ++ hook_words a.hook
 created_words SuperBitmap a = signed_decimal a.bits_w ∷ signed_decimal a.bits_h ∷ flag_words (codes "backdrop") a.backdrop
 
 -- what a window without a bitmap of its own is asked for with there: [backdrop] [borderless] [nocare] [hook N] [ask SET]
-abbrev pub opened_words_without_bitmap : Asked → Bool → Bool → ℕ → List (List ℕ)
+abbrev pub opened_words_without_bitmap : AskedLayer → Bool → Bool → ℕ → List (List ℕ)
 opened_words_without_bitmap a framed nocare classes =
     flag_words (codes "backdrop") a.backdrop ++ flag_words (codes "borderless") (not framed) ++ flag_words (codes "nocare") nocare
     ++ hook_words a.hook ++ ask_words classes
 
 -- what a window is asked for with there: the same, or BW BH [backdrop] [ask SET]
-abbrev pub opened_words : Kind → Asked → Bool → Bool → ℕ → List (List ℕ)
+abbrev pub opened_words : Kind → AskedLayer → Bool → Bool → ℕ → List (List ℕ)
 opened_words Simple a framed nocare classes = opened_words_without_bitmap a framed nocare classes
 opened_words Smart a framed nocare classes = opened_words_without_bitmap a framed nocare classes
 opened_words SuperBitmap a framed nocare classes =

@@ -7,7 +7,7 @@ use Rattle.lw_calls.specs.declared.make.Kind.TheVariants.{Simple, Smart, SuperBi
 use Rattle.lw_calls.specs.declared.sizes.Sizes.{Sizes}
 use Rattle.lw_calls.specs.Limits.{is_coordinate, hook_fits, kind_fits, make_fits, axis_fits, rect_fits, is_byte, window_fits, call_fits, is_extent}
 use Rattle.lw_calls.specs.Kinds.{is_super}
-use Rattle.lw_grammar.specs.LineForms.{Asked, Act, RegRectAct, RegPairAct, RegClearAct, CreateAct, OpenAct, CloseAct, FrontAct, BehindAct, InFrontAct, MoveAct, SizeAct, BoxAct, ActivateAct, WhichAct, APenAct, BPenAct, ModeAct, MaskAct, AtAct, WriteAct, ReadAct, FillAct, DrawAct, TextAct, SetRastAct, ScrollRasterAct, PutAct, BlitAct, ClipAct, UnclipAct, RefreshAct, EndRefreshAct, ScrollAct, TitleAct, GetMsgAct, CallLine, is_hook_number, is_own_size, is_asked_in_range, is_box, is_act_in_range, layers_of}
+use Rattle.lw_grammar.specs.LineForms.{AskedLayer, Act, RegRectAct, RegPairAct, RegClearAct, CreateAct, OpenAct, CloseAct, FrontAct, BehindAct, InFrontAct, MoveAct, SizeAct, BoxAct, ActivateAct, WhichAct, APenAct, BPenAct, ModeAct, MaskAct, AtAct, WriteAct, ReadAct, FillAct, DrawAct, TextAct, SetRastAct, ScrollRasterAct, PutAct, BlitAct, ClipAct, UnclipAct, RefreshAct, EndRefreshAct, ScrollAct, TitleAct, GetMsgAct, CallLine, is_hook_number, is_own_size, is_asked_in_range, is_box, is_act_in_range, layers_of}
 use Rattle.lw_grammar.specs.Told.{place_among, make_of, created_make, opened_make, spelled_call, hook_on}
 use Rattle.lw_grammar.specs.Script.{lacks_name, is_no_hook}
 use Rattle.lw_grammar.proofs.ScriptForms.{IsAskedOf, IsActMade}
@@ -55,7 +55,7 @@ asked_hook_fits hooks None h = refl
 asked_hook_fits hooks (Some n) h = not-false (nat_lt (unsigned_abs n) hooks) h
 
 -- the kind of a layer that is asked for
-asked_kind_fits : (kind : Kind) (a : Asked) → IsAskedOf kind a → is_own_size kind a.bits_w a.bits_h ≡ true → kind_fits kind (option_map unsigned_abs a.hook) (unsigned_abs a.bits_w) (unsigned_abs a.bits_h) ≡ true
+asked_kind_fits : (kind : Kind) (a : AskedLayer) → IsAskedOf kind a → is_own_size kind a.bits_w a.bits_h ≡ true → kind_fits kind (option_map unsigned_abs a.hook) (unsigned_abs a.bits_w) (unsigned_abs a.bits_h) ≡ true
 asked_kind_fits Simple a m h = and_from _ _ (eq-eqb _ 0 (ap unsigned_abs m.0)) (eq-eqb _ 0 (ap unsigned_abs m.1))
 asked_kind_fits Smart a m h = and_from _ _ (eq-eqb _ 0 (ap unsigned_abs m.0)) (eq-eqb _ 0 (ap unsigned_abs m.1))
 asked_kind_fits SuperBitmap a m h =
@@ -64,13 +64,13 @@ asked_kind_fits SuperBitmap a m h =
     subst P (sym m) (and_from _ _ (own_fits a.bits_w sides.0) (own_fits a.bits_h sides.1))
 
 -- the numbers of a layer that is asked for
-make_made : (z : Sizes) (a : Asked) (x y w h : ℤ) → IsAskedOf a.kind a → is_asked_in_range a ≡ true → is_no_hook z.hooks a.hook ≡ false → is_coordinate x ≡ true → is_coordinate y ≡ true → within (pos 1) w (pos 65536) ≡ true → within (pos 1) h (pos 65536) ≡ true → make_fits z (make_of a x y w h) ≡ true
+make_made : (z : Sizes) (a : AskedLayer) (x y w h : ℤ) → IsAskedOf a.kind a → is_asked_in_range a ≡ true → is_no_hook z.hooks a.hook ≡ false → is_coordinate x ≡ true → is_coordinate y ≡ true → within (pos 1) w (pos 65536) ≡ true → within (pos 1) h (pos 65536) ≡ true → make_fits z (make_of a x y w h) ≡ true
 make_made z a x y w h m r k cx cy sw sh =
     let own = and_parts (is_hook_number a.hook) _ r in
     and_from _ _ (and_from _ _ (and_from _ _ cx cy) (and_from _ _ sw sh)) (and_from _ _ (asked_hook_fits z.hooks a.hook k) (asked_kind_fits a.kind a m own.1))
 
 -- of a creation, and of an opening
-created_fits : (z : Sizes) (a : Asked) → IsAskedOf a.kind a → (rect_fits a.numbers && is_asked_in_range a) ≡ true → is_no_hook z.hooks a.hook ≡ false → make_fits z (created_make a) ≡ true
+created_fits : (z : Sizes) (a : AskedLayer) → IsAskedOf a.kind a → (rect_fits a.numbers && is_asked_in_range a) ≡ true → is_no_hook z.hooks a.hook ≡ false → make_fits z (created_make a) ≡ true
 created_fits z a m r k =
     let parts = and_parts (rect_fits a.numbers) (is_asked_in_range a) r in
     let axes = and_parts (axis_fits a.numbers.min_x a.numbers.max_x) (axis_fits a.numbers.min_y a.numbers.max_y) parts.0 in
@@ -78,7 +78,7 @@ created_fits z a m r k =
     let y = span_fits a.numbers.min_y a.numbers.max_y axes.1 in
     make_made z a _ _ _ _ m parts.1 k x.0 y.0 x.1 y.1
 
-opened_fits : (z : Sizes) (a : Asked) → IsAskedOf a.kind a → (is_box a.numbers && is_asked_in_range a) ≡ true → is_no_hook z.hooks a.hook ≡ false → make_fits z (opened_make a) ≡ true
+opened_fits : (z : Sizes) (a : AskedLayer) → IsAskedOf a.kind a → (is_box a.numbers && is_asked_in_range a) ≡ true → is_no_hook z.hooks a.hook ≡ false → make_fits z (opened_make a) ≡ true
 opened_fits z a m r k =
     let parts = and_parts (is_box a.numbers) (is_asked_in_range a) r in
     let halves = and_parts (is_coordinate a.numbers.min_x && is_coordinate a.numbers.min_y) _ parts.0 in
@@ -87,7 +87,7 @@ opened_fits z a m r k =
     make_made z a _ _ _ _ m parts.1 k place.0 place.1 (box_fits _ size.0) (box_fits _ size.1)
 
 -- a window that is asked for
-asked_window_fits : (z : Sizes) (a : Asked) (framed : Bool) (classes : ℕ) → (framed && is_super a.kind) ≡ false → classes < 32 → window_fits (opened_make a) framed classes ≡ true
+asked_window_fits : (z : Sizes) (a : AskedLayer) (framed : Bool) (classes : ℕ) → (framed && is_super a.kind) ≡ false → classes < 32 → window_fits (opened_make a) framed classes ≡ true
 asked_window_fits z a framed classes f c = and_from _ _ (ap not f) (lt-ltb classes 32 c)
 
 -- The call of an act fits sizes that have its slots, its bitmap and its hook.

@@ -18,7 +18,7 @@ use Rattle.lw_grammar.specs.declared.verb.Verb.TheVariants.{Screen as ScreenVerb
 use Rattle.lw_calls.specs.Limits.{is_minterm}
 use Rattle.lw_calls.specs.Kinds.{is_super}
 use Rattle.lw_grammar.specs.Tokens.{Token, NameToken, NumberToken, TextToken, OddToken, token_of, is_hex, hex_value, hex_bytes, spelled_bytes, bytes_in}
-use Rattle.lw_grammar.specs.LineForms.{layers_of, Asked, Act, RegRectAct, RegPairAct, RegClearAct, CreateAct, OpenAct, CloseAct, FrontAct, BehindAct, InFrontAct, ActivateAct, WhichAct, ScrollRasterAct, PutAct, BlitAct, UnclipAct, RefreshAct, EndRefreshAct, GetMsgAct, Statement, ScreenLine, GlyphLine, BitmapLine, RowLine, TaskLine, EndLine, OrderLine, NumbersLine, ReportLine, CallLine, LockLine, UnlockLine, HoldLine, ReleaseLine, four, screen_line, glyph_of_bytes, glyph_line, bitmap_line, row_line, all_numbers, numbers_limit, numbers_line, name_line, bare_line, layer_line, number_line, pair_line, text_line, rect_line, region_line, clear_line, which_line, infront_line, four_line, scrollraster_line, minterm_of, put_line, blit_line, endrefresh_line, kind_of, place_of, flag, hook_option, class_of, classes_from, asked_classes, ask_option, at_end, create_super, create_kind, titled_line, open_super, open_kind, asked_line, form_by}
+use Rattle.lw_grammar.specs.LineForms.{layers_of, AskedLayer, Act, RegRectAct, RegPairAct, RegClearAct, CreateAct, OpenAct, CloseAct, FrontAct, BehindAct, InFrontAct, ActivateAct, WhichAct, ScrollRasterAct, PutAct, BlitAct, UnclipAct, RefreshAct, EndRefreshAct, GetMsgAct, Statement, ScreenLine, GlyphLine, BitmapLine, RowLine, TaskLine, EndLine, OrderLine, NumbersLine, ReportLine, CallLine, LockLine, UnlockLine, HoldLine, ReleaseLine, four, screen_line, glyph_of_bytes, glyph_line, bitmap_line, row_line, all_numbers, numbers_limit, numbers_line, name_line, bare_line, layer_line, number_line, pair_line, text_line, rect_line, region_line, clear_line, which_line, infront_line, four_line, scrollraster_line, minterm_of, put_line, blit_line, endrefresh_line, kind_of, place_of, flag, hook_option, class_of, classes_from, asked_classes, ask_option, at_end, create_super, create_kind, titled_line, open_super, open_kind, asked_line, form_by}
 use Rattle.lw_grammar.specs.Told.{Section, told}
 use Rattle.lw_grammar.specs.Script.{Setting, is_screen_due, are_assets_due, are_calls_due, are_tasks_due, are_numbers_due, is_plain, is_ordered, is_audited, stands_in, is_task_verb, verb_on, behind_verb, verb_read, form_read}
 use Rattle.lw_grammar.specs.Demands.{◌>>=◌, demand}
@@ -43,7 +43,7 @@ stands_at form s HoldLine = are_calls_due s
 stands_at form s ReleaseLine = are_calls_due s
 
 -- a layer with a bitmap of its own has no hook, and no other has the size of one
-abbrev pub IsAskedOf : Kind → Asked → Type 0
+abbrev pub IsAskedOf : Kind → AskedLayer → Type 0
 IsAskedOf Simple a = (a.bits_w ≡ pos 0) × (a.bits_h ≡ pos 0)
 IsAskedOf Smart a = (a.bits_w ≡ pos 0) × (a.bits_h ≡ pos 0)
 IsAskedOf SuperBitmap a = a.hook ≡ None
@@ -332,7 +332,7 @@ module _ (form : Form) (s : Section) where
   create_made l place numbers ts SuperBitmap = create_super_made l place numbers ts
 
   -- the form at the title
-  titled_made : (l : List ℕ) (asked : Asked) (framed nocare : Bool) (classes : ℕ) → IsAskedOf asked.kind asked → (framed && is_super asked.kind) ≡ false → classes < 32 → (ts : List Token) → IfSome (titled_line l asked framed nocare classes ts) (IsVerbForm form s (are_calls_due s) false)
+  titled_made : (l : List ℕ) (asked : AskedLayer) (framed nocare : Bool) (classes : ℕ) → IsAskedOf asked.kind asked → (framed && is_super asked.kind) ≡ false → classes < 32 → (ts : List Token) → IfSome (titled_line l asked framed nocare classes ts) (IsVerbForm form s (are_calls_due s) false)
   titled_made l asked framed nocare classes a f c (TextToken title ∷ []) =
       call_so form s (l ∷ []) (OpenAct asked framed nocare classes title) refl (a, f, c)
   titled_made l asked framed nocare classes a f c _ = tt

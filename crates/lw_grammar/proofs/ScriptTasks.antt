@@ -11,7 +11,7 @@ use Rattle.lw_calls.specs.Touches.{slots_of}
 use Rattle.lw_calls.specs.Plan.{is_one, is_all, begins_update, ends_update, may_be_locked, may_stand, group_fits, groups_fit}
 use Rattle.lw_calls.specs.Built.{is_built}
 use Rattle.lw_grammar.specs.LineForms.{Act, CloseAct, RefreshAct, EndRefreshAct, Statement, ScreenLine, BitmapLine, TaskLine, EndLine, OrderLine, ReportLine, CallLine, LockLine, UnlockLine, HoldLine, ReleaseLine, layers_of}
-use Rattle.lw_grammar.specs.Told.{Section, ScreenIsDue, AssetsAreDue, CallsAreDue, TasksAreDue, NumbersAreDue, NothingIsDue, Opened, Locked, Updating, Held, and_names, place_among, onto_last, spelled_call, call_below, hook_on, opened_by, group_from, told}
+use Rattle.lw_grammar.specs.Told.{Section, ScreenIsDue, AssetsAreDue, CallsAreDue, TasksAreDue, NumbersAreDue, NothingIsDue, OpenGroup, Locked, Updating, Held, and_names, place_among, onto_last, spelled_call, call_below, hook_on, left_open_by, group_from, told}
 use Rattle.lw_grammar.specs.Script.{Setting, is_screen_due, are_assets_due, are_calls_due, are_tasks_due, is_beginning, is_ending, is_on_one, call_may_stand, is_lock_on, is_hold, is_no_hook, AreGoodLines}
 use Rattle.lw_grammar.proofs.ScriptNames.{equal_names, names_grow, any_kept, place_kept, all_named, places_below}
 use Rattle.lw_grammar.proofs.ScriptCalls.{act_fits}
@@ -27,7 +27,7 @@ pub record View : Type 0 where
   pub calls : List (List Call)
   pub groups : List (List Group)
   pub so_far : ℕ
-  pub group : Option Opened
+  pub group : Option OpenGroup
   pub began : ℕ
   pub names : List (List ℕ)
 
@@ -64,7 +64,7 @@ abbrev pub are_held : List Call → Bool
 are_held calls = list_all (λ c. is_all (slots_of c)) calls
 
 -- what is known of the open group of a task with so many calls so far
-abbrev pub OpenState : Option Opened → ℕ → ℕ → List (List ℕ) → List Call → List Group → Type 0
+abbrev pub OpenState : Option OpenGroup → ℕ → ℕ → List (List ℕ) → List Call → List Group → Type 0
 OpenState None so_far began names calls groups = EndBefore groups so_far
 OpenState (Some (Locked l)) so_far began names calls groups =
     IsOpen so_far began groups × (list_any (bytes_eq l) names ≡ true) × (list_all (may_be_locked (place_among names l)) (drop began calls) ≡ true)
@@ -118,7 +118,7 @@ zip_pushed R (a ∷ as') [] x y h k = absurd h
 zip_pushed R (a ∷ as') (b ∷ bs) x y h k = (h.0, zip_pushed R as' bs x y h.1 k)
 
 -- a missing group
-pub none_open : (o : Option Opened) → is_none o ≡ true → o ≡ None
+pub none_open : (o : Option OpenGroup) → is_none o ≡ true → o ≡ None
 none_open None h = refl
 none_open (Some g) h = absurd (false≢true h)
 
@@ -129,7 +129,7 @@ nothing_fits z = record { few = omega arith; fit = All-nil _; built = All-nil _;
 -- no calls have been made in a task that has just begun
 task_now : (z : Sizes) (v : View) → v.so_far ≡ 0 → v.group ≡ None → IsNow z v [] []
 task_now z v e n =
-    let P : Option Opened → Type 0 = λ g. OpenState g v.so_far v.began v.names [] [] in
+    let P : Option OpenGroup → Type 0 = λ g. OpenState g v.so_far v.began v.names [] [] in
     record { long = sym e; fits = nothing_fits z; state = subst P (sym n) tt }
 
 -- a task begins behind others
@@ -186,7 +186,7 @@ slot_later : (P : ℕ → Type 0) (names ns : List (List ℕ)) (l : List ℕ) �
 slot_later P names ns l h p = subst P (sym (place_kept (bytes_eq l) names ns h)) p
 
 -- more names leave the state of a group as it was
-names_later : (o : Option Opened) (so_far began : ℕ) (names ns : List (List ℕ)) (calls : List Call) (groups : List Group) → OpenState o so_far began names calls groups → OpenState o so_far began (and_names names ns) calls groups
+names_later : (o : Option OpenGroup) (so_far began : ℕ) (names ns : List (List ℕ)) (calls : List Call) (groups : List Group) → OpenState o so_far began names calls groups → OpenState o so_far began (and_names names ns) calls groups
 names_later None so_far began names ns calls groups h = h
 names_later (Some (Locked l)) so_far began names ns calls groups h =
     (h.0, any_kept (bytes_eq l) names ns h.1, slot_later (λ s. list_all (may_be_locked s) (drop began calls) ≡ true) names ns l h.1 h.2)
@@ -206,7 +206,7 @@ updating_more s [] c h k = absurd h
 updating_more s (b ∷ cs) c h k = (h.0, all_pushed (may_be_locked s) cs c h.1 k)
 
 -- A call that neither begins nor ends an update leaves the open group open.
-plain_state : (o : Option Opened) (so_far began : ℕ) (names layers : List (List ℕ)) (act : Act) (bitmaps : List (List ℕ)) (calls : List Call) (groups : List Group) → length calls ≡ so_far → length layers ≡ layers_of act → is_beginning act ≡ false → is_ending act ≡ false → call_may_stand o layers act ≡ true → OpenState o so_far began (and_names names layers) calls groups → OpenState o (so_far + 1) began (and_names names layers) (calls ++ spelled_call bitmaps act (map (place_among (and_names names layers)) layers) ∷ []) groups
+plain_state : (o : Option OpenGroup) (so_far began : ℕ) (names layers : List (List ℕ)) (act : Act) (bitmaps : List (List ℕ)) (calls : List Call) (groups : List Group) → length calls ≡ so_far → length layers ≡ layers_of act → is_beginning act ≡ false → is_ending act ≡ false → call_may_stand o layers act ≡ true → OpenState o so_far began (and_names names layers) calls groups → OpenState o (so_far + 1) began (and_names names layers) (calls ++ spelled_call bitmaps act (map (place_among (and_names names layers)) layers) ∷ []) groups
 plain_state None so_far began names layers act bitmaps calls groups long n begins ends stands h = end_later groups so_far (so_far + 1) h (omega arith)
 plain_state (Some (Locked l)) so_far began names layers act bitmaps calls groups long n begins ends stands h =
     let more : List (List ℕ) = and_names names layers in
@@ -242,7 +242,7 @@ task_grouped z calls groups g before fits h =
     record { few = h.few; fit = h.fit; built = h.built; grouped = groups_pushed calls groups g h.grouped before fits }
 
 -- what a line that is no beginning and no end leaves of groups
-pub plain_groups : (above : List Statement) (layers : List (List ℕ)) (act : Act) → is_beginning act ≡ false → is_ending act ≡ false → ((told (CallLine layers act ∷ above)).groups ≡ (told above).groups) × (opened_by layers act (told above).group ≡ (told above).group) × ((told (CallLine layers act ∷ above)).began ≡ (told above).began)
+pub plain_groups : (above : List Statement) (layers : List (List ℕ)) (act : Act) → is_beginning act ≡ false → is_ending act ≡ false → ((told (CallLine layers act ∷ above)).groups ≡ (told above).groups) × (left_open_by layers act (told above).group ≡ (told above).group) × ((told (CallLine layers act ∷ above)).began ≡ (told above).began)
 plain_groups above [] RefreshAct b e = absurd (true≢false b)
 plain_groups above (l ∷ []) RefreshAct b e = absurd (true≢false b)
 plain_groups above (l ∷ m ∷ ms) RefreshAct b e = absurd (true≢false b)
@@ -303,19 +303,19 @@ module _ (z : Sizes) (s : Setting) (above : List Statement) (layers : List (List
       let calls : List Call = b.calls ++ the_call ∷ [] in
       let later = names_later (told above).group (told above).so_far (told above).began (told above).names layers b.calls b.groups b.now.state in
       let plain = plain_state (told above).group (told above).so_far (told above).began (told above).names layers act (told above).bitmap_names b.calls b.groups b.now.long h.3.0 begins ends t.group later in
-      let P : Option Opened → Type 0 = λ o. OpenState o ((told above).so_far + 1) (told (CallLine layers act ∷ above)).began more calls b.groups in
+      let P : Option OpenGroup → Type 0 = λ o. OpenState o ((told above).so_far + 1) (told (CallLine layers act ∷ above)).began more calls b.groups in
       let Q : ℕ → Type 0 = λ k. OpenState (told above).group ((told above).so_far + 1) k more calls b.groups in
       with_call b b.groups (e.0 ∙ b.groups_are) (call_fits_now b.calls b.groups b.now.long b.now.fits) (subst P (sym e.1) (subst Q (sym e.2) plain))
 
 -- an update begins where no group is open
-pub opens_none : (o : Option Opened) (l : List ℕ) → call_may_stand o (l ∷ []) RefreshAct ≡ true → o ≡ None
+pub opens_none : (o : Option OpenGroup) (l : List ℕ) → call_may_stand o (l ∷ []) RefreshAct ≡ true → o ≡ None
 opens_none None l h = refl
 opens_none (Some (Locked m)) l h = absurd (false≢true (and_parts (is_on_one m (l ∷ []) RefreshAct) _ h).1)
 opens_none (Some (Updating m)) l h = absurd (false≢true (and_parts (is_on_one m (l ∷ []) RefreshAct) _ h).1)
 opens_none (Some Held) l h = absurd (false≢true h)
 
 -- an update ends on its layer
-pub ends_same : (o : Option Opened) (l : List ℕ) (full : Bool) → call_may_stand o (l ∷ []) (EndRefreshAct full) ≡ true → o ≡ Some (Updating l)
+pub ends_same : (o : Option OpenGroup) (l : List ℕ) (full : Bool) → call_may_stand o (l ∷ []) (EndRefreshAct full) ≡ true → o ≡ Some (Updating l)
 ends_same None l full h = absurd (false≢true h)
 ends_same (Some (Locked m)) l full h = absurd (false≢true (and_parts (is_on_one m (l ∷ []) (EndRefreshAct full)) _ h).1)
 ends_same (Some (Updating m)) l full h =
@@ -336,7 +336,7 @@ refresh_call z s above l g hooks slots bitmaps b =
     let so_far : ℕ = (told above).so_far in
     let more : List (List ℕ) = and_names (told above).names (l ∷ []) in
     let c : Call = call_below (told above) (l ∷ []) RefreshAct in
-    let P : Option Opened → Type 0 = λ o. OpenState o so_far (told above).began (told above).names b.calls b.groups in
+    let P : Option OpenGroup → Type 0 = λ o. OpenState o so_far (told above).began (told above).names b.calls b.groups in
     let before : EndBefore b.groups so_far = subst P (opens_none (told above).group l t.group) b.now.state in
     let Q : List Call → Type 0 = λ cs. IsUpdating (place_among more l) cs in
     let alone : drop so_far (b.calls ++ c ∷ []) ≡ c ∷ [] = drop_at b.calls (c ∷ []) so_far b.now.long in
@@ -354,7 +354,7 @@ endrefresh_call z s above l full g hooks slots bitmaps b =
     let c : Call = call_below (told above) (l ∷ []) (EndRefreshAct full) in
     let calls : List Call = b.calls ++ c ∷ [] in
     let group : Group = group_from (told above) (Slot slot) (so_far + 1) in
-    let P : Option Opened → Type 0 = λ o. OpenState o so_far began (told above).names b.calls b.groups in
+    let P : Option OpenGroup → Type 0 = λ o. OpenState o so_far began (told above).names b.calls b.groups in
     let state : OpenState (Some (Updating l)) so_far began (told above).names b.calls b.groups = subst P (ends_same (told above).group l full t.group) b.now.state in
     let long : length calls ≡ so_far + 1 = length-append b.calls (c ∷ []) ∙ ap (λ k. k + 1) b.now.long in
     let same : place_among (and_names (told above).names (l ∷ [])) l ≡ slot = place_kept (bytes_eq l) (told above).names (l ∷ []) state.1 in
@@ -399,7 +399,7 @@ lock_begins z s above name g b =
     let t = tests s above (LockLine name) g in
     let so_far : ℕ = (told above).so_far in
     let more : List (List ℕ) = and_names (told above).names (name ∷ []) in
-    let P : Option Opened → Type 0 = λ o. OpenState o so_far (told above).began (told above).names b.calls b.groups in
+    let P : Option OpenGroup → Type 0 = λ o. OpenState o so_far (told above).began (told above).names b.calls b.groups in
     let before : EndBefore b.groups so_far = subst P (none_open (told above).group t.group) b.now.state in
     let Q : List Call → Type 0 = λ cs. list_all (may_be_locked (place_among more name)) cs ≡ true in
     grouped z (view_of above) (view_of (LockLine name ∷ above)) b b.groups refl refl b.groups_are b.now.fits
@@ -409,19 +409,19 @@ hold_begins : (z : Sizes) (s : Setting) (above : List Statement) → AreGoodLine
 hold_begins z s above g b =
     let t = tests s above HoldLine g in
     let so_far : ℕ = (told above).so_far in
-    let P : Option Opened → Type 0 = λ o. OpenState o so_far (told above).began (told above).names b.calls b.groups in
+    let P : Option OpenGroup → Type 0 = λ o. OpenState o so_far (told above).began (told above).names b.calls b.groups in
     let before : EndBefore b.groups so_far = subst P (none_open (told above).group t.group) b.now.state in
     let Q : List Call → Type 0 = λ cs. are_held cs ≡ true in
     grouped z (view_of above) (view_of (HoldLine ∷ above)) b b.groups refl refl b.groups_are b.now.fits (record { before = before; order = omega arith }, subst Q (sym (none_behind z (view_of above) b)) refl)
 
 -- a lock ends on its layer, and a hold ends
-pub unlocks_same : (o : Option Opened) (l : List ℕ) → is_lock_on l o ≡ true → o ≡ Some (Locked l)
+pub unlocks_same : (o : Option OpenGroup) (l : List ℕ) → is_lock_on l o ≡ true → o ≡ Some (Locked l)
 unlocks_same None l h = absurd (false≢true h)
 unlocks_same (Some (Locked m)) l h = ap (λ (k : List ℕ). Some (Locked k)) (sym (equal_names l m h))
 unlocks_same (Some (Updating m)) l h = absurd (false≢true h)
 unlocks_same (Some Held) l h = absurd (false≢true h)
 
-pub releases_held : (o : Option Opened) → is_hold o ≡ true → o ≡ Some Held
+pub releases_held : (o : Option OpenGroup) → is_hold o ≡ true → o ≡ Some Held
 releases_held None h = absurd (false≢true h)
 releases_held (Some (Locked m)) h = absurd (false≢true h)
 releases_held (Some (Updating m)) h = absurd (false≢true h)
@@ -439,7 +439,7 @@ unlock_ends z s above name g b =
     let some : (told above).began < (told above).so_far = ltb-true _ _ t.1 in
     let slot : ℕ = place_among (told above).names name in
     let group : Group = group_from (told above) (Slot slot) (told above).so_far in
-    let P : Option Opened → Type 0 = λ o. OpenState o (told above).so_far (told above).began (told above).names b.calls b.groups in
+    let P : Option OpenGroup → Type 0 = λ o. OpenState o (told above).so_far (told above).began (told above).names b.calls b.groups in
     let state : OpenState (Some (Locked name)) (told above).so_far (told above).began (told above).names b.calls b.groups = subst P (unlocks_same (told above).group name t.0) b.now.state in
     let long : length (drop (told above).began b.calls) ≡ length b.calls - (told above).began = length-drop (told above).began b.calls in
     let stands = locked_stands slot (drop (told above).began b.calls) (omega (arith, long, some, b.now.long)) state.2 in
@@ -451,7 +451,7 @@ release_ends z s above g b =
     let t = and_parts (is_hold (told above).group) _ (tests s above ReleaseLine g).group in
     let some : (told above).began < (told above).so_far = ltb-true _ _ t.1 in
     let group : Group = group_from (told above) AllLayers (told above).so_far in
-    let P : Option Opened → Type 0 = λ o. OpenState o (told above).so_far (told above).began (told above).names b.calls b.groups in
+    let P : Option OpenGroup → Type 0 = λ o. OpenState o (told above).so_far (told above).began (told above).names b.calls b.groups in
     let state : OpenState (Some Held) (told above).so_far (told above).began (told above).names b.calls b.groups = subst P (releases_held (told above).group t.0) b.now.state in
     grouped z (view_of above) (view_of (ReleaseLine ∷ above)) b (b.groups ++ group ∷ []) refl refl (ap (onto_last group) b.groups_are ∙ onto_pushed group b.done_groups b.groups) (ended_group z above b AllLayers some state.0.before state.1)
     (end_pushed b.groups group (told above).so_far (omega (arith, some)))

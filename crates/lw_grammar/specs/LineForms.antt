@@ -18,8 +18,9 @@ use Rattle.lw_calls.specs.Limits.{rect_fits, coordinates_fit, is_extent}
 use Rattle.lw_grammar.specs.Tokens.{Token, NameToken, NumberToken, TextToken, bytes_in}
 
 -- A layer as a line asks for it: its kind and place, its four numbers (the bounds of a creation, or the place and size of an
--- opening), whether it is a backdrop layer, its hook, and the size of a bitmap of its own, or 0 and 0.
-pub record Asked : Type 0 where
+-- opening), whether it is a backdrop layer, its hook, and the size of a bitmap of its own, or 0 and 0. All numbers are the
+-- line's own, in their ranges or not; the call has a `Make` of them, with a corner and a size in any case.
+pub record AskedLayer : Type 0 where
   pub kind : Kind
   pub place : Place
   pub numbers : Rectangle
@@ -33,8 +34,8 @@ pub data Act : Type 0 where
   RegRectAct : RectOp → ℤ → Rectangle → Act
   RegPairAct : PairOp → ℤ → ℤ → Act
   RegClearAct : ℤ → Act
-  CreateAct : Asked → Act
-  OpenAct : Asked → Bool → Bool → ℕ → List ℕ → Act
+  CreateAct : AskedLayer → Act
+  OpenAct : AskedLayer → Bool → Bool → ℕ → List ℕ → Act
   CloseAct : Act
   FrontAct : Act
   BehindAct : Act
@@ -288,12 +289,12 @@ at_end form [] = Some form
 at_end form (t ∷ ts) = None
 
 -- a layer that is asked for without a bitmap of its own
-abbrev pub asked_without_bitmap : Kind → Place → Rectangle → Bool → Option ℤ → Asked
+abbrev pub asked_without_bitmap : Kind → Place → Rectangle → Bool → Option ℤ → AskedLayer
 asked_without_bitmap kind place numbers backdrop hook =
     record { kind = kind; place = place; numbers = numbers; backdrop = backdrop; hook = hook; bits_w = pos 0; bits_h = pos 0 }
 
 -- a layer that is asked for with a bitmap of its own
-abbrev pub asked_super : Place → Rectangle → Bool → ℤ → ℤ → Asked
+abbrev pub asked_super : Place → Rectangle → Bool → ℤ → ℤ → AskedLayer
 asked_super place numbers backdrop w h =
     record { kind = SuperBitmap; place = place; numbers = numbers; backdrop = backdrop; hook = None; bits_w = w; bits_h = h }
 
@@ -318,7 +319,7 @@ create_kind l place numbers ts Smart = create_without_bitmap l Smart place numbe
 create_kind l place numbers ts SuperBitmap = create_super l place numbers ts
 
 -- the title, where it is the last word
-abbrev pub titled_line : List ℕ → Asked → Bool → Bool → ℕ → List Token → Option Statement
+abbrev pub titled_line : List ℕ → AskedLayer → Bool → Bool → ℕ → List Token → Option Statement
 titled_line l asked framed nocare classes (TextToken title ∷ []) =
     Some (CallLine (l ∷ []) (OpenAct asked framed nocare classes title))
 titled_line l asked framed nocare classes _ = None
@@ -421,7 +422,7 @@ is_own_size Smart w h = true
 is_own_size SuperBitmap w h = within (pos 1) w (pos 2048) && within (pos 1) h (pos 2048)
 
 -- the numbers of a layer that is asked for, besides its four
-abbrev pub is_asked_in_range : Asked → Bool
+abbrev pub is_asked_in_range : AskedLayer → Bool
 is_asked_in_range a = is_hook_number a.hook && is_own_size a.kind a.bits_w a.bits_h
 
 -- a box: a place, a width and a height

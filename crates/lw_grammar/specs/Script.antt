@@ -18,7 +18,7 @@ use Rattle.lw_grammar.specs.Demands.{◌>>=◌, demand}
 use Rattle.lw_grammar.specs.Tokens.{tokens, token_of}
 use Rattle.lw_grammar.specs.Verbs.{verb_of}
 use Rattle.lw_grammar.specs.LineForms.{Act, CreateAct, OpenAct, CloseAct, FrontAct, BehindAct, InFrontAct, MoveAct, SizeAct, BoxAct, ActivateAct, PutAct, RefreshAct, EndRefreshAct, Statement, GlyphLine, BitmapLine, RowLine, TaskLine, EndLine, CallLine, LockLine, UnlockLine, HoldLine, ReleaseLine, row_line, numbers_line, form_by, is_line_in_range}
-use Rattle.lw_grammar.specs.Told.{Section, ScreenIsDue, AssetsAreDue, CallsAreDue, TasksAreDue, NumbersAreDue, NothingIsDue, Opened, Locked, Updating, Held, Told, spelled_call, hook_on, after, told, plan_of}
+use Rattle.lw_grammar.specs.Told.{Section, ScreenIsDue, AssetsAreDue, CallsAreDue, TasksAreDue, NumbersAreDue, NothingIsDue, OpenGroup, Locked, Updating, Held, Told, spelled_call, hook_on, told_with, told, plan_of}
 
 -- What a script is read with: how many hooks are handed in, and what input it stands in.
 pub record Setting : Type 0 where
@@ -150,19 +150,19 @@ abbrev pub is_on_one : List ℕ → List (List ℕ) → Act → Bool
 is_on_one l layers act = are_all l layers && not (is_arranging act)
 
 -- Such a call may stand in this group, or in none.
-abbrev pub call_may_stand : Option Opened → List (List ℕ) → Act → Bool
+abbrev pub call_may_stand : Option OpenGroup → List (List ℕ) → Act → Bool
 call_may_stand None layers act = not (is_ending act)
 call_may_stand (Some (Locked l)) layers act = is_on_one l layers act && (not (is_beginning act) && not (is_ending act))
 call_may_stand (Some (Updating l)) layers act = is_on_one l layers act && not (is_beginning act)
 call_may_stand (Some Held) layers act = is_arranging act
 
 -- the group is a lock on this layer
-abbrev pub is_lock_on : List ℕ → Option Opened → Bool
+abbrev pub is_lock_on : List ℕ → Option OpenGroup → Bool
 is_lock_on l (Some (Locked m)) = bytes_eq l m
 is_lock_on l _ = false
 
 -- the group is a hold
-abbrev pub is_hold : Option Opened → Bool
+abbrev pub is_hold : Option OpenGroup → Bool
 is_hold (Some Held) = true
 is_hold _ = false
 
@@ -171,7 +171,7 @@ abbrev pub group_has_calls : Told → Bool
 group_has_calls t = nat_lt t.began t.so_far
 
 -- The line may stand where this group is open, or none, and has calls, or not.
-abbrev pub fits_group : Option Opened → Bool → Statement → Bool
+abbrev pub fits_group : Option OpenGroup → Bool → Statement → Bool
 fits_group group has_calls (CallLine layers act) = call_may_stand group layers act
 fits_group group has_calls (LockLine name) = is_none group
 fits_group group has_calls HoldLine = is_none group
@@ -241,7 +241,7 @@ form_tested s t form = do
   _ ← demand (not (lacks_name t.bitmap_names form)) NoName
   _ ← demand (not (gives_again t form)) DoubleName
   _ ← demand (fits_group t.group (group_has_calls t) form) Group
-  _ ← demand (are_few (after form t)) TooMany
+  _ ← demand (are_few (told_with form t)) TooMany
   _ ← demand (not (is_no_hook s.hooks (hook_on form))) NoHook
   _ ← demand (not (is_used t.used (hook_on form))) HookUsed
   _ ← demand (not (has_padding t.row_width form)) Padding

@@ -13,7 +13,7 @@ use Rattle.lw_calls.specs.declared.group.Hold.TheVariants.{Slot, All}
 use Rattle.lw_calls.specs.declared.group.Group.{Group}
 use Rattle.lw_calls.specs.Kinds.{is_super}
 use Rattle.lw_calls.specs.Plan.{Plan}
-use Rattle.lw_grammar.specs.LineForms.{Asked, Act, RegRectAct, RegPairAct, RegClearAct, CreateAct, OpenAct, CloseAct, FrontAct, BehindAct, InFrontAct, MoveAct, SizeAct, BoxAct, ActivateAct, WhichAct, APenAct, BPenAct, ModeAct, MaskAct, AtAct, WriteAct, ReadAct, FillAct, DrawAct, TextAct, SetRastAct, ScrollRasterAct, PutAct, BlitAct, ClipAct, UnclipAct, RefreshAct, EndRefreshAct, ScrollAct, TitleAct, GetMsgAct, Statement, ScreenLine, GlyphLine, BitmapLine, RowLine, TaskLine, EndLine, OrderLine, NumbersLine, ReportLine, CallLine, LockLine, UnlockLine, HoldLine, ReleaseLine}
+use Rattle.lw_grammar.specs.LineForms.{AskedLayer, Act, RegRectAct, RegPairAct, RegClearAct, CreateAct, OpenAct, CloseAct, FrontAct, BehindAct, InFrontAct, MoveAct, SizeAct, BoxAct, ActivateAct, WhichAct, APenAct, BPenAct, ModeAct, MaskAct, AtAct, WriteAct, ReadAct, FillAct, DrawAct, TextAct, SetRastAct, ScrollRasterAct, PutAct, BlitAct, ClipAct, UnclipAct, RefreshAct, EndRefreshAct, ScrollAct, TitleAct, GetMsgAct, Statement, ScreenLine, GlyphLine, BitmapLine, RowLine, TaskLine, EndLine, OrderLine, NumbersLine, ReportLine, CallLine, LockLine, UnlockLine, HoldLine, ReleaseLine}
 
 -- The parts of a script, by what is due in them: the screen; glyphs, bitmaps and the first task; in a task calls, groups or
 -- its end; behind a task a further one, an order or a report; numbers of an order; and nothing more, behind a line `report`.
@@ -26,10 +26,10 @@ pub data Section : Type 0 where
   NothingIsDue : Section
 
 -- A group that is open: a lock on a layer, an update of a layer, or a hold.
-pub data Opened : Type 0 where
-  Locked : List ℕ → Opened
-  Updating : List ℕ → Opened
-  Held : Opened
+pub data OpenGroup : Type 0 where
+  Locked : List ℕ → OpenGroup
+  Updating : List ℕ → OpenGroup
+  Held : OpenGroup
 
 -- What lines tell: the section in which the next line stands; the screen's sizes; which codes have a glyph line, and the rows
 -- of each code's glyph; the bitmaps' names; the bitmaps, where further rows stand behind those of the nearest one; the width
@@ -51,7 +51,7 @@ pub record Told : Type 0 where
   pub names : List (List ℕ)
   pub supers : ℕ
   pub used : ℕ → Bool
-  pub group : Option Opened
+  pub group : Option OpenGroup
   pub began : ℕ
   pub so_far : ℕ
   pub calls : List (List Call)
@@ -105,7 +105,7 @@ onto_last a (list ∷ next ∷ rest) = list ∷ onto_last a (next ∷ rest)
 
 -- The numbers that a layer is asked for with, as the call has them: a creation's four are its bounds, an opening's its place
 -- and size.
-abbrev pub make_of : Asked → ℤ → ℤ → ℤ → ℤ → Make
+abbrev pub make_of : AskedLayer → ℤ → ℤ → ℤ → ℤ → Make
 make_of a x y w h =
     record {
       kind = a.kind;
@@ -120,12 +120,12 @@ make_of a x y w h =
       bits_h = unsigned_abs a.bits_h;
     }
 
-abbrev pub created_make : Asked → Make
+abbrev pub created_make : AskedLayer → Make
 created_make a =
     make_of a a.numbers.min_x a.numbers.min_y ((a.numbers.max_x -ℤ a.numbers.min_x) +ℤ pos 1)
     ((a.numbers.max_y -ℤ a.numbers.min_y) +ℤ pos 1)
 
-abbrev pub opened_make : Asked → Make
+abbrev pub opened_make : AskedLayer → Make
 opened_make a = make_of a a.numbers.min_x a.numbers.min_y a.numbers.max_x a.numbers.max_y
 
 -- the call that an act is, on the layers in these slots, where the script has bitmaps of these names
@@ -189,10 +189,10 @@ and_hook None used = used
 and_hook (Some n) used = λ hook. (unsigned_abs n == hook) || used hook
 
 -- the group that is open behind an act, and how many calls its task had when it began
-abbrev pub opened_by : List (List ℕ) → Act → Option Opened → Option Opened
-opened_by (l ∷ []) RefreshAct group = Some (Updating l)
-opened_by layers (EndRefreshAct full) group = None
-opened_by layers act group = group
+abbrev pub left_open_by : List (List ℕ) → Act → Option OpenGroup → Option OpenGroup
+left_open_by (l ∷ []) RefreshAct group = Some (Updating l)
+left_open_by layers (EndRefreshAct full) group = None
+left_open_by layers act group = group
 
 abbrev pub began_by : Act → ℕ → ℕ → ℕ
 began_by RefreshAct so_far began = so_far
@@ -208,20 +208,20 @@ ended_by (l ∷ []) (EndRefreshAct full) t = onto_last (group_from t (Slot (plac
 ended_by layers act t = t.groups
 
 -- What a line of this form adds to what the lines above it tell.
-abbrev pub after : Statement → Told → Told
-after (ScreenLine w h d) t =
+abbrev pub told_with : Statement → Told → Told
+told_with (ScreenLine w h d) t =
     record t { section = AssetsAreDue; width = unsigned_abs w; height = unsigned_abs h; depth = unsigned_abs d }
-after (GlyphLine code rows) t =
+told_with (GlyphLine code rows) t =
     record t { given = λ c. (code == c) || t.given c; glyphs = λ c. if code == c then rows else t.glyphs c }
-after (BitmapLine name w h d) t =
+told_with (BitmapLine name w h d) t =
     record t {
       bitmap_names = t.bitmap_names ++ name ∷ [];
       bitmaps = λ rows. t.bitmaps [] ++ stored (unsigned_abs w) (unsigned_abs h) (unsigned_abs d) rows ∷ [];
       row_width = unsigned_abs w;
       rows_due = unsigned_abs d * unsigned_abs h;
     }
-after (RowLine bytes) t = record t { bitmaps = λ rows. t.bitmaps (bytes ++ rows); rows_due = t.rows_due - 1 }
-after (TaskLine name) t =
+told_with (RowLine bytes) t = record t { bitmaps = λ rows. t.bitmaps (bytes ++ rows); rows_due = t.rows_due - 1 }
+told_with (TaskLine name) t =
     record t {
       section = CallsAreDue;
       tasks = t.tasks ++ name ∷ [];
@@ -229,35 +229,35 @@ after (TaskLine name) t =
       calls = t.calls ++ [] ∷ [];
       groups = t.groups ++ [] ∷ [];
     }
-after EndLine t = record t { section = TasksAreDue }
-after OrderLine t = record t { section = NumbersAreDue }
-after (NumbersLine zs) t = record t { order = t.order ++ map unsigned_abs zs }
-after ReportLine t = record t { section = NothingIsDue }
-after (CallLine layers act) t =
+told_with EndLine t = record t { section = TasksAreDue }
+told_with OrderLine t = record t { section = NumbersAreDue }
+told_with (NumbersLine zs) t = record t { order = t.order ++ map unsigned_abs zs }
+told_with ReportLine t = record t { section = NothingIsDue }
+told_with (CallLine layers act) t =
     record t {
       names = and_names t.names layers;
       supers = (if asks_super (CallLine layers act) then 1 else 0) + t.supers;
       used = and_hook (hook_on (CallLine layers act)) t.used;
-      group = opened_by layers act t.group;
+      group = left_open_by layers act t.group;
       began = began_by act t.so_far t.began;
       so_far = t.so_far + 1;
       calls = onto_last (call_below t layers act) t.calls;
       groups = ended_by layers act t;
     }
-after (LockLine name) t = record t { names = and_name t.names name; group = Some (Locked name); began = t.so_far }
-after (UnlockLine name) t =
+told_with (LockLine name) t = record t { names = and_name t.names name; group = Some (Locked name); began = t.so_far }
+told_with (UnlockLine name) t =
     record t {
       names = and_name t.names name;
       group = None;
       groups = onto_last (group_from t (Slot (place_among t.names name)) t.so_far) t.groups;
     }
-after HoldLine t = record t { group = Some Held; began = t.so_far }
-after ReleaseLine t = record t { group = None; groups = onto_last (group_from t All t.so_far) t.groups }
+told_with HoldLine t = record t { group = Some Held; began = t.so_far }
+told_with ReleaseLine t = record t { group = None; groups = onto_last (group_from t All t.so_far) t.groups }
 
 -- What lines of these forms tell, the nearest first.
 abbrev pub told : List Statement → Told
 told [] = nothing_told
-told (form ∷ above) = after form (told above)
+told (form ∷ above) = told_with form (told above)
 
 -- The plan that the lines of a whole script tell, where so many hooks are handed in.
 abbrev pub plan_of : ℕ → Told → Plan

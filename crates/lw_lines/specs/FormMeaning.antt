@@ -2,7 +2,7 @@
 use Rattle.std.specs.Prelude.{ℤ, pos, List, [], ◌∷◌, ℕ}
 use Rattle.lw_region.specs.Rectangle.{Rectangle}
 use Rattle.lw_calls.specs.declared.area.Area.{Area}
-use Rattle.lw_grammar.specs.LineForms.{Asked as AskedMeaning, Act as ActMeaning, RegRectAct, RegPairAct, RegClearAct, CreateAct, OpenAct, CloseAct, FrontAct, BehindAct, InFrontAct, MoveAct, SizeAct, BoxAct, ActivateAct, WhichAct, APenAct, BPenAct, ModeAct, MaskAct, AtAct, WriteAct, ReadAct, FillAct, DrawAct, TextAct as TextActMeaning, SetRastAct, ScrollRasterAct, PutAct, BlitAct, ClipAct, UnclipAct, RefreshAct, EndRefreshAct, ScrollAct, TitleAct, GetMsgAct, Statement as Meaning, ScreenLine, GlyphLine, BitmapLine, RowLine, TaskLine, EndLine, OrderLine, NumbersLine, ReportLine, CallLine, LockLine, UnlockLine, HoldLine, ReleaseLine, four}
+use Rattle.lw_grammar.specs.LineForms.{AskedLayer as AskedMeaning, Act as ActMeaning, RegRectAct, RegPairAct, RegClearAct, CreateAct, OpenAct, CloseAct, FrontAct, BehindAct, InFrontAct, MoveAct, SizeAct, BoxAct, ActivateAct, WhichAct, APenAct, BPenAct, ModeAct, MaskAct, AtAct, WriteAct, ReadAct, FillAct, DrawAct, TextAct as TextActMeaning, SetRastAct, ScrollRasterAct, PutAct, BlitAct, ClipAct, UnclipAct, RefreshAct, EndRefreshAct, ScrollAct, TitleAct, GetMsgAct, Statement as Meaning, ScreenLine, GlyphLine, BitmapLine, RowLine, TaskLine, EndLine, OrderLine, NumbersLine, ReportLine, CallLine, LockLine, UnlockLine, HoldLine, ReleaseLine, four}
 use Rattle.lw_calls.specs.declared.make.Kind.{Kind}
 use Rattle.lw_calls.specs.declared.make.Kind.TheVariants.{Simple as SimpleMeaning, Smart as SmartMeaning, SuperBitmap}
 use Rattle.lw_lines.specs.declared.form.Corners.{Corners}
@@ -10,7 +10,7 @@ use Rattle.lw_lines.specs.declared.form.KindWithoutBitmap.{KindWithoutBitmap}
 use Rattle.lw_lines.specs.declared.form.KindWithoutBitmap.TheVariants.{Simple, Smart}
 use Rattle.lw_lines.specs.declared.form.AskedKind.{AskedKind}
 use Rattle.lw_lines.specs.declared.form.AskedKind.TheVariants.{WithoutBitmap, Super}
-use Rattle.lw_lines.specs.declared.form.Asked.{Asked}
+use Rattle.lw_lines.specs.declared.form.AskedLayer.{AskedLayer}
 use Rattle.lw_lines.specs.declared.form.Blitting.{Blitting}
 use Rattle.lw_lines.specs.declared.form.BareAct.{BareAct}
 use Rattle.lw_lines.specs.declared.form.BareAct.TheVariants.{Close, Front, Behind, Activate, Unclip, Refresh, GetMsg}
@@ -52,7 +52,7 @@ abbrev pub height_meaning : AskedKind → ℤ
 height_meaning (WithoutBitmap kind) = pos 0
 height_meaning (Super w h) = h
 
-abbrev pub asked_meaning : Asked → AskedMeaning
+abbrev pub asked_meaning : AskedLayer → AskedMeaning
 asked_meaning a =
     record {
       kind = kind_meaning a.kind;

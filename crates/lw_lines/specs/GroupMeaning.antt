@@ -1,10 +1,10 @@
 -- What a group of the reader means.
-use Rattle.lw_grammar.specs.Told.{Opened as Meaning, Locked as LockedMeaning, Updating as UpdatingMeaning, Held as HeldMeaning}
-use Rattle.lw_lines.specs.declared.acts.Opened.{Opened}
-use Rattle.lw_lines.specs.declared.acts.Opened.TheVariants.{Locked, Updating, Held}
+use Rattle.lw_grammar.specs.Told.{OpenGroup as Meaning, Locked as LockedMeaning, Updating as UpdatingMeaning, Held as HeldMeaning}
+use Rattle.lw_lines.specs.declared.acts.OpenGroup.{OpenGroup}
+use Rattle.lw_lines.specs.declared.acts.OpenGroup.TheVariants.{Locked, Updating, Held}
 
 -- a layer's name by its bytes
-abbrev pub opened_meaning : Opened → Meaning
-opened_meaning (Locked l) = LockedMeaning l.now
-opened_meaning (Updating l) = UpdatingMeaning l.now
-opened_meaning Held = HeldMeaning
+abbrev pub group_meaning : OpenGroup → Meaning
+group_meaning (Locked l) = LockedMeaning l.now
+group_meaning (Updating l) = UpdatingMeaning l.now
+group_meaning Held = HeldMeaning

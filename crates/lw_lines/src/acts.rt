@@ -5,16 +5,16 @@ ghost use Rattle.lw_grammar.specs.LineForms.{CallLine};
 ghost use Rattle.lw_grammar.specs.Told.{spelled_call, asks_super, hook_on};
 ghost use Rattle.lw_grammar.specs.Script.{is_arranging, is_beginning, is_ending, are_all, is_on_one, call_may_stand, is_lock_on, is_hold, fits_group};
 ghost use Rattle.lw_lines.specs.FormMeaning.{act_meaning, layers_meaning, form_meaning};
-ghost use Rattle.lw_lines.specs.GroupMeaning.{opened_meaning};
+ghost use Rattle.lw_lines.specs.GroupMeaning.{group_meaning};
 
 use crate::form::{
-    Act, Asked, AskedKind, BareAct, KindWithoutBitmap, Layers, PairAct, Statement, TextAct,
+    Act, AskedKind, AskedLayer, BareAct, KindWithoutBitmap, Layers, PairAct, Statement, TextAct,
 };
 use lw_words::is_text;
 
 /// A group that is open.
 #[derive(Clone, Copy)]
-pub enum Opened<'a> {
+pub enum OpenGroup<'a> {
     /// A lock on this layer.
     Locked(&'a [u8]),
     /// An update of this layer.
@@ -101,7 +101,7 @@ impl Act<'_> {
     }
 }
 
-impl Asked {
+impl AskedLayer {
     /// Whether no hook is asked for.
     fn is_hookless(&self) -> bool
         ensures { result ≡ is_hookless (option_map unsigned_abs self.now.hook) }
@@ -131,50 +131,50 @@ fn is_on_one(layer: &[u8], layers: &Layers<'_>, act: &Act<'_>) -> bool
 }
 
 /// Whether such a call may stand in this group, or in none.
-fn call_may_stand(group: &Option<Opened<'_>>, layers: &Layers<'_>, act: &Act<'_>) -> bool
-    ensures { result ≡ call_may_stand (option_map opened_meaning group.now) (layers_meaning layers.now) (act_meaning act.now) }
+fn call_may_stand(group: &Option<OpenGroup<'_>>, layers: &Layers<'_>, act: &Act<'_>) -> bool
+    ensures { result ≡ call_may_stand (option_map group_meaning group.now) (layers_meaning layers.now) (act_meaning act.now) }
 {
     match group {
         None => !act.is_ending(),
-        Some(Opened::Locked(layer)) => {
+        Some(OpenGroup::Locked(layer)) => {
             is_on_one(*layer, layers, act) && (!act.is_beginning() && !act.is_ending())
         }
-        Some(Opened::Updating(layer)) => is_on_one(*layer, layers, act) && !act.is_beginning(),
-        Some(Opened::Held) => act.is_arranging(),
+        Some(OpenGroup::Updating(layer)) => is_on_one(*layer, layers, act) && !act.is_beginning(),
+        Some(OpenGroup::Held) => act.is_arranging(),
     }
 }
 
 /// Whether the group is a lock on this layer.
-fn is_lock_on(layer: &[u8], group: &Option<Opened<'_>>) -> bool
-    ensures { result ≡ is_lock_on layer.now (option_map opened_meaning group.now) }
+fn is_lock_on(layer: &[u8], group: &Option<OpenGroup<'_>>) -> bool
+    ensures { result ≡ is_lock_on layer.now (option_map group_meaning group.now) }
 {
     match group {
-        Some(Opened::Locked(locked)) => is_text(layer, *locked),
+        Some(OpenGroup::Locked(locked)) => is_text(layer, *locked),
         _ => false,
     }
 }
 
 /// Whether the group is a hold.
-fn is_hold(group: &Option<Opened<'_>>) -> bool
-    ensures { result ≡ is_hold (option_map opened_meaning group.now) }
+fn is_hold(group: &Option<OpenGroup<'_>>) -> bool
+    ensures { result ≡ is_hold (option_map group_meaning group.now) }
 {
     match group {
-        Some(Opened::Held) => true,
+        Some(OpenGroup::Held) => true,
         _ => false,
     }
 }
 
 /// Whether no group is open.
-fn is_closed(group: &Option<Opened<'_>>) -> bool
-    ensures { result ≡ is_none (option_map opened_meaning group.now) }
+fn is_closed(group: &Option<OpenGroup<'_>>) -> bool
+    ensures { result ≡ is_none (option_map group_meaning group.now) }
 {
     group.is_none()
 }
 
 impl Statement<'_> {
     /// Whether the line may stand where this group is open, or none, and has calls, or not.
-    pub fn fits_group(&self, group: &Option<Opened<'_>>, has_calls: bool) -> bool
-        ensures { result ≡ fits_group (option_map opened_meaning group.now) has_calls (form_meaning self.now) }
+    pub fn fits_group(&self, group: &Option<OpenGroup<'_>>, has_calls: bool) -> bool
+        ensures { result ≡ fits_group (option_map group_meaning group.now) has_calls (form_meaning self.now) }
     {
         match self {
             Statement::Call { layers, act } => call_may_stand(group, layers, act),

@@ -8,7 +8,7 @@ ghost use Rattle.lw_lines.specs.CallMeaning.{IsBitmapAt, is_apart, is_single_on_
 
 use crate::converted::{coordinate, extent, hook, mode, own_size, pen, register, step};
 use crate::form::{
-    Act, Asked, AskedKind, BareAct, Blitting, KindWithoutBitmap, NumberAct, PairAct, TextAct,
+    Act, AskedKind, AskedLayer, BareAct, Blitting, KindWithoutBitmap, NumberAct, PairAct, TextAct,
 };
 use lw_calls::{Area, Call, Kind, Make, Text};
 use std::alloc::{AllocError, Global};
@@ -55,7 +55,7 @@ impl AskedKind {
     }
 }
 
-impl Asked {
+impl AskedLayer {
     /// The layer with this place and size.
     fn make(&self, x: i32, y: i32, w: i32, h: i32) -> Make
         requires { IsTrue (is_asked_in_range (asked_meaning self.now)) }

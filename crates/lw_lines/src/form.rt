@@ -25,9 +25,9 @@ pub enum AskedKind {
     Super { bits_w: i64, bits_h: i64 },
 }
 
-/// A layer as a line asks for it.
+/// A layer as a line asks for it, in the line's own numbers. The call that the line is has a `Make` of them.
 #[derive(Clone, Copy)]
-pub struct Asked {
+pub struct AskedLayer {
     pub kind: AskedKind,
     pub place: Place,
     /// The bounds of a creation, or the place and size of an opening.
@@ -107,9 +107,9 @@ pub enum Act<'a> {
     },
     /// A register emptied.
     RegClear(i64),
-    Create(Asked),
+    Create(AskedLayer),
     Open {
-        asked: Asked,
+        asked: AskedLayer,
         framed: bool,
         nocare: bool,
         /// The set of the classes of messages: class k is bit k.

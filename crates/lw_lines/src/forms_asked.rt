@@ -6,7 +6,7 @@ ghost use Rattle.lw_lines.specs.FormMeaning.{form_meaning, corners_meaning, with
 ghost use Rattle.lw_lines.specs.AskedParts.{behind_numbers, with_words, with_numbers, with_names};
 
 use crate::corners::corners_in;
-use crate::form::{Act, Asked, AskedKind, Corners, KindWithoutBitmap, Statement};
+use crate::form::{Act, AskedKind, AskedLayer, Corners, KindWithoutBitmap, Statement};
 use lw_calls::{Kind, Place};
 use lw_words::{Token, is_text};
 
@@ -139,7 +139,7 @@ fn create_without_bitmap<'a>(
     if !rest.is_empty() {
         return None;
     }
-    let asked = Asked {
+    let asked = AskedLayer {
         kind: AskedKind::WithoutBitmap(kind),
         place,
         numbers,
@@ -169,7 +169,7 @@ fn create_super<'a>(
             if !rest.is_empty() {
                 return None;
             }
-            let asked = Asked {
+            let asked = AskedLayer {
                 kind: AskedKind::Super {
                     bits_w: *bits_w,
                     bits_h: *bits_h,
@@ -188,7 +188,7 @@ fn create_super<'a>(
 /// An opening, where its title is the last word.
 fn titled<'a>(
     layer: &'a [u8],
-    asked: Asked,
+    asked: AskedLayer,
     framed: bool,
     nocare: bool,
     classes: u8,
@@ -232,7 +232,7 @@ fn open_without_bitmap<'a>(
     let (nocare, rest) = flag(b"nocare", rest);
     let (hook, rest) = hook_in(rest);
     let (classes, rest) = asks_in(rest);
-    let asked = Asked {
+    let asked = AskedLayer {
         kind: AskedKind::WithoutBitmap(kind),
         place,
         numbers,
@@ -256,7 +256,7 @@ fn open_sized<'a>(
 {
     let (backdrop, rest) = flag(b"backdrop", tokens);
     let (classes, rest) = asks_in(rest);
-    let asked = Asked {
+    let asked = AskedLayer {
         kind: AskedKind::Super { bits_w, bits_h },
         place,
         numbers,

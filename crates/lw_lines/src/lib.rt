@@ -18,10 +18,10 @@ mod section;
 #[cfg(test)]
 mod tests;
 
-pub use acts::Opened;
+pub use acts::OpenGroup;
 pub use converted::{depth, hook, size, task_number};
 pub use form::{
-    Act, Asked, AskedKind, BareAct, Blitting, Corners, KindWithoutBitmap, Layers, NumberAct,
+    Act, AskedKind, AskedLayer, BareAct, Blitting, Corners, KindWithoutBitmap, Layers, NumberAct,
     PairAct, Statement, TextAct,
 };
 pub use line::words_form;

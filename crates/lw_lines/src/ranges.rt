@@ -6,7 +6,7 @@ ghost use Rattle.lw_grammar.specs.LineForms.{is_hook_number, is_own_size, is_ask
 ghost use Rattle.lw_lines.specs.FormMeaning.{corners_meaning, kind_meaning, width_meaning, height_meaning, asked_meaning, area_meaning, number_meaning, act_meaning, form_meaning};
 
 use crate::form::{
-    Act, Asked, AskedKind, Blitting, Corners, KindWithoutBitmap, NumberAct, Statement,
+    Act, AskedKind, AskedLayer, Blitting, Corners, KindWithoutBitmap, NumberAct, Statement,
 };
 
 #[tactic(auto, using(std::proofs::lemmas::Int::ints), unfolding(lw_region::specs::Rectangle::within))]
@@ -86,7 +86,7 @@ impl AskedKind {
     }
 }
 
-impl Asked {
+impl AskedLayer {
     /// Whether the numbers besides the four are in their ranges.
     fn is_in_range(&self) -> bool
         ensures { result ≡ is_asked_in_range (asked_meaning self.now) }

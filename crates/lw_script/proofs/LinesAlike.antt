@@ -1,6 +1,6 @@
 -- Reading a line by what the reader knows gives what the grammar gives below the lines that it has read.
 use Rattle.std.proofs.Common.{◌≡◌, ℕ, ◌+◌, Bool, not, cond, List, [], ◌∷◌, ◌++◌, ℤ, unsigned_abs, Option, Some, None, Result, Ok, Err, refl, ap, subst, ◌∙◌}
-use Rattle.lw_grammar.specs.Told.{and_name, and_names, asks_super, hook_on, after, told}
+use Rattle.lw_grammar.specs.Told.{and_name, and_names, asks_super, hook_on, told_with, told}
 use Rattle.lw_grammar.specs.Script.{Setting, lacks_name, gives_again, are_few, is_no_hook, is_used, has_padding, is_unbuilt, words_read, form_read, form_tested, line_read}
 use Rattle.lw_calls.specs.declared.reason.Reason.{Reason}
 use Rattle.lw_calls.specs.declared.reason.Reason.TheVariants.{Range, NoName, DoubleName, Group, TooMany, NoHook, HookUsed, Padding, NotBuilt}
@@ -28,28 +28,28 @@ module _ (s : Setting) (r : Reader) (above : List Statement) (k : Represents s r
   used (Some n) = k.tasks.used (unsigned_abs n)
 
   -- the counts with a further line
-  few : (f : Statement) → are_few (after f (known r)) ≡ are_few (after f (told above))
+  few : (f : Statement) → are_few (told_with f (known r)) ≡ are_few (told_with f (told above))
   few f = rw (tasks_are f, bitmaps_are f, names_are f, supers_are f, calls_are f) refl
     where
-      tasks_are : (f : Statement) → (after f (known r)).tasks ≡ (after f (told above)).tasks
+      tasks_are : (f : Statement) → (told_with f (known r)).tasks ≡ (told_with f (told above)).tasks
       tasks_are (TaskLine n) = ap (λ ts. ts ++ n ∷ []) k.tasks.tasks
       tasks_are f = k.tasks.tasks
 
-      bitmaps_are : (f : Statement) → (after f (known r)).bitmap_names ≡ (after f (told above)).bitmap_names
+      bitmaps_are : (f : Statement) → (told_with f (known r)).bitmap_names ≡ (told_with f (told above)).bitmap_names
       bitmaps_are (BitmapLine n w h d) = ap (λ ts. ts ++ n ∷ []) k.assets.names
       bitmaps_are f = k.assets.names
 
-      names_are : (f : Statement) → (after f (known r)).names ≡ (after f (told above)).names
+      names_are : (f : Statement) → (told_with f (known r)).names ≡ (told_with f (told above)).names
       names_are (CallLine layers act) = ap (λ ns. and_names ns layers) k.tasks.names
       names_are (LockLine name) = ap (λ ns. and_name ns name) k.tasks.names
       names_are (UnlockLine name) = ap (λ ns. and_name ns name) k.tasks.names
       names_are f = k.tasks.names
 
-      supers_are : (f : Statement) → (after f (known r)).supers ≡ (after f (told above)).supers
+      supers_are : (f : Statement) → (told_with f (known r)).supers ≡ (told_with f (told above)).supers
       supers_are (CallLine layers act) = ap (λ n. cond (asks_super (CallLine layers act)) 1 0 + n) k.tasks.supers
       supers_are f = k.tasks.supers
 
-      calls_are : (f : Statement) → (after f (known r)).so_far ≡ (after f (told above)).so_far
+      calls_are : (f : Statement) → (told_with f (known r)).so_far ≡ (told_with f (told above)).so_far
       calls_are (TaskLine n) = refl
       calls_are (CallLine layers act) = ap (λ n. n + 1) k.tasks.so_far
       calls_are f = k.tasks.so_far

@@ -8,7 +8,7 @@ use Rattle.lw_grammar.specs.Told.{Told, nothing_told}
 use Rattle.lw_grammar.specs.Script.{Setting, form_read, form_tested}
 use Rattle.lw_script.specs.declared.state.Reader.{Reader}
 use Rattle.lw_words.specs.Cuts.{targets}
-use Rattle.lw_lines.specs.GroupMeaning.{opened_meaning}
+use Rattle.lw_lines.specs.GroupMeaning.{group_meaning}
 use Rattle.lw_lines.specs.SectionMeaning.{section_meaning}
 
 abbrev pub known : Reader → Told
@@ -23,7 +23,7 @@ known r =
       names = targets r.tasks.layer_names.keys;
       supers = r.tasks.supers;
       used = λ n. list_any (λ m. n == m) r.tasks.used.keys;
-      group = option_map opened_meaning r.tasks.group;
+      group = option_map group_meaning r.tasks.group;
       began = r.tasks.began;
       so_far = r.tasks.so_far;
     }

@@ -11,7 +11,7 @@ use Rattle.lw_script.specs.declared.state.AssetsRead.{AssetsRead}
 use Rattle.lw_script.specs.declared.state.TasksRead.{TasksRead}
 use Rattle.lw_script.specs.declared.state.Reader.{Reader}
 use Rattle.lw_words.specs.Cuts.{targets}
-use Rattle.lw_lines.specs.GroupMeaning.{opened_meaning}
+use Rattle.lw_lines.specs.GroupMeaning.{group_meaning}
 use Rattle.lw_lines.specs.SectionMeaning.{section_meaning}
 
 -- the nearest bitmap, where further rows stand behind those that were read; none where no row of it is due
@@ -40,7 +40,7 @@ pub record TasksRepresent (t : TasksRead) (above : List Statement) : Type 0 wher
   pub names : targets t.layer_names.keys ≡ (told above).names
   pub supers : t.supers ≡ (told above).supers
   pub used : (n : ℕ) → list_any (λ m. n == m) t.used.keys ≡ (told above).used n
-  pub group : option_map opened_meaning t.group ≡ (told above).group
+  pub group : option_map group_meaning t.group ≡ (told above).group
   pub began : t.began ≡ (told above).began
   pub so_far : t.so_far ≡ (told above).so_far
   pub calls : map (λ cs. cs.items) t.calls.items ≡ (told above).calls

@@ -6,7 +6,7 @@ ghost use Rattle.lw_words.specs.Cuts.{targets};
 
 use indexmap::IndexSet;
 use lw_calls::{Call, Form, Group};
-use lw_lines::{Opened, Section};
+use lw_lines::{OpenGroup, Section};
 use lw_planes::Planes;
 use std::alloc::Global;
 
@@ -40,7 +40,7 @@ pub struct TasksRead<'a> {
     /// The hooks that lines named.
     pub used: IndexSet<u32>,
     /// The group that is open.
-    pub group: Option<Opened<'a>>,
+    pub group: Option<OpenGroup<'a>>,
     /// How many calls the task had before the group began.
     pub began: u32,
     /// How many calls the task has.

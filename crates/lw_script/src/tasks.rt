@@ -2,19 +2,19 @@
 ghost use Rattle.std.specs.Prelude.{Bool, ◌≡◌, ℕ, ◌+◌, ◌<◌, ◌≤◌, false, if◌then◌else◌, IsTrue, IfOk, OnOk, List, ◌∷◌, length, map, option_map, bytes_eq};
 ghost use Rattle.std.specs.List.{list_any};
 ghost use Rattle.lw_grammar.specs.LineForms.{Statement as FormValue, TaskLine, LockLine, UnlockLine, HoldLine, ReleaseLine, CallLine, layers_of, is_hook_number, is_act_in_range};
-ghost use Rattle.lw_grammar.specs.Told.{and_name, and_names, place_among, onto_last, asks_super, and_hook, opened_by, told};
+ghost use Rattle.lw_grammar.specs.Told.{and_name, and_names, place_among, onto_last, asks_super, and_hook, left_open_by, told};
 ghost use Rattle.lw_grammar.specs.Script.{is_ending};
 ghost use Rattle.lw_words.specs.Cuts.{targets};
 ghost use Rattle.lw_lines.specs.FormMeaning.{act_meaning, layers_meaning};
 ghost use Rattle.lw_lines.specs.CallMeaning.{IsBitmapAt};
-ghost use Rattle.lw_lines.specs.GroupMeaning.{opened_meaning};
+ghost use Rattle.lw_lines.specs.GroupMeaning.{group_meaning};
 ghost use Rattle.lw_script.specs.CallParts.{first_place, second_place, AreNoted};
 ghost use Rattle.lw_script.specs.Represents.{TasksRepresent};
 
 use crate::state::TasksRead;
 use indexmap::IndexSet;
 use lw_calls::{Group, Hold};
-use lw_lines::{Act, BareAct, Layers, Opened, hook};
+use lw_lines::{Act, BareAct, Layers, OpenGroup, hook};
 use std::alloc::{AllocError, Global};
 
 /// The number of a name among these, where a name that isn't one of them gets the next number.
@@ -93,15 +93,15 @@ fn end_update(groups: &mut Vec<Vec<Group>>, act: &Act<'_>, group: Group) -> Resu
 
 /// The group that is open below a call.
 fn group_below<'a>(
-    group: Option<Opened<'a>>,
+    group: Option<OpenGroup<'a>>,
     layers: Layers<'a>,
     act: &Act<'_>,
-) -> Option<Opened<'a>>
-    ensures { option_map opened_meaning result
-        ≡ opened_by (layers_meaning layers.entry) (act_meaning act.now) (option_map opened_meaning group.entry) }
+) -> Option<OpenGroup<'a>>
+    ensures { option_map group_meaning result
+        ≡ left_open_by (layers_meaning layers.entry) (act_meaning act.now) (option_map group_meaning group.entry) }
 {
     match (layers, act) {
-        (Layers::One(layer), Act::Bare(BareAct::Refresh)) => Some(Opened::Updating(layer)),
+        (Layers::One(layer), Act::Bare(BareAct::Refresh)) => Some(OpenGroup::Updating(layer)),
         (_, Act::EndRefresh { .. }) => None,
         _ => group,
     }
@@ -139,7 +139,7 @@ impl<'a> TasksRead<'a> {
             → OnOk result (TasksRepresent self.new (LockLine name.entry.now ∷ above)) }
     {
         numbered(&mut self.layer_names, name)?;
-        self.group = Some(Opened::Locked(name));
+        self.group = Some(OpenGroup::Locked(name));
         self.began = self.so_far;
         Ok(())
     }
@@ -148,7 +148,7 @@ impl<'a> TasksRead<'a> {
     pub(crate) fn add_hold(&mut self)
         ensures { (above : List FormValue) → TasksRepresent self.old above → TasksRepresent self.new (HoldLine ∷ above) }
     {
-        self.group = Some(Opened::Held);
+        self.group = Some(OpenGroup::Held);
         self.began = self.so_far;
     }
 

@@ -2,7 +2,7 @@
 ghost use Rattle.std.specs.Prelude.{◌≡◌, nat_le, length, IsTrue};
 ghost use Rattle.lw_calls.specs.Limits.{call_limit};
 ghost use Rattle.lw_grammar.specs.LineForms.{is_line_in_range};
-ghost use Rattle.lw_grammar.specs.Told.{and_name, hook_on, after};
+ghost use Rattle.lw_grammar.specs.Told.{and_name, hook_on, told_with};
 ghost use Rattle.lw_grammar.specs.Script.{lacks_name, gives_again, group_has_calls, fits_group, super_limit, are_few, is_no_hook, is_used, has_padding, is_unbuilt, form_tested};
 ghost use Rattle.lw_lines.specs.FormMeaning.{form_meaning};
 ghost use Rattle.lw_script.specs.ReaderKnows.{known, setting_of};
@@ -51,7 +51,7 @@ impl<'a> Reader<'a> {
 
     /// How many tasks there are with the line.
     fn tasks_with(&self, form: &Statement<'a>) -> usize
-        ensures { result ≡ length (after (form_meaning form.now) (known self.now)).tasks }
+        ensures { result ≡ length (told_with (form_meaning form.now) (known self.now)).tasks }
     {
         match form {
             Statement::Task(_) => self.tasks.task_names.len() + 1,
@@ -61,7 +61,7 @@ impl<'a> Reader<'a> {
 
     /// How many bitmaps there are with the line.
     fn bitmaps_with(&self, form: &Statement<'a>) -> usize
-        ensures { result ≡ length (after (form_meaning form.now) (known self.now)).bitmap_names }
+        ensures { result ≡ length (told_with (form_meaning form.now) (known self.now)).bitmap_names }
     {
         match form {
             Statement::Bitmap { .. } => self.assets.names.len() + 1,
@@ -71,7 +71,7 @@ impl<'a> Reader<'a> {
 
     /// Whether the line's call is one too many.
     fn has_room_for_call(&self, form: &Statement<'a>) -> bool
-        ensures { result ≡ nat_le (after (form_meaning form.now) (known self.now)).so_far call_limit }
+        ensures { result ≡ nat_le (told_with (form_meaning form.now) (known self.now)).so_far call_limit }
     {
         match form {
             Statement::Task(_) => true,
@@ -82,7 +82,7 @@ impl<'a> Reader<'a> {
 
     /// Whether the line's super-bitmap layer is one too many.
     fn has_room_for_super(&self, form: &Statement<'a>) -> bool
-        ensures { result ≡ nat_le (after (form_meaning form.now) (known self.now)).supers super_limit }
+        ensures { result ≡ nat_le (told_with (form_meaning form.now) (known self.now)).supers super_limit }
     {
         match form {
             Statement::Call { act, .. } if act.asks_super() => self.tasks.supers < SUPER_LIMIT,
@@ -119,7 +119,7 @@ impl<'a> Reader<'a> {
 
     /// How many layer names there are with those of the line.
     fn names_with(&self, form: &Statement<'a>) -> usize
-        ensures { result ≡ length (after (form_meaning form.now) (known self.now)).names }
+        ensures { result ≡ length (told_with (form_meaning form.now) (known self.now)).names }
     {
         match form {
             Statement::Lock(name) | Statement::Unlock(name) => self.with_name(name),
@@ -137,7 +137,7 @@ impl<'a> Reader<'a> {
 
     /// Whether nothing of the line is one too many.
     fn has_room(&self, form: &Statement<'a>) -> bool
-        ensures { result ≡ are_few (after (form_meaning form.now) (known self.now)) }
+        ensures { result ≡ are_few (told_with (form_meaning form.now) (known self.now)) }
     {
         ((self.tasks_with(form) <= TASK_LIMIT && self.bitmaps_with(form) <= BITMAP_LIMIT)
             && self.names_with(form) <= NAME_LIMIT)

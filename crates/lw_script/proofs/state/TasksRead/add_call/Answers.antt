@@ -1,6 +1,6 @@
 use Rattle.std.proofs.Common.{◌≡◌, ◌+◌, cond, Option, ℤ, sym, ap, subst, ◌∙◌}
 use Rattle.lw_grammar.specs.LineForms.{CallLine, is_hook_number}
-use Rattle.lw_grammar.specs.Told.{and_names, asks_super, and_hook, opened_by, told}
+use Rattle.lw_grammar.specs.Told.{and_names, asks_super, and_hook, left_open_by, told}
 use Rattle.std.specs.Bool.{IsTrue}
 use Rattle.lw_lines.specs.FormMeaning.{act_meaning, layers_meaning}
 use Rattle.lw_script.specs.CallParts.{first_place, second_place, AreNoted}
@@ -25,7 +25,7 @@ returns c = λ above h s.
       names = c.in_ok-slot.ensures.names ∙ ap (λ ns. and_names ns ls) s.names;
       supers = c.supers_with-self.ensures ls ∙ ap (λ n. cond (asks_super (CallLine ls act)) 1 0 + n) s.supers;
       used = subst P (c.hook.ensures ls) (c.in_ok-note_hook.ensures (told above).used s.used);
-      group = c.group_below-self.ensures ∙ ap (opened_by ls act) s.group;
+      group = c.group_below-self.ensures ∙ ap (left_open_by ls act) s.group;
       began = c.began_below-self.ensures above s.began s.so_far ls;
       so_far = ap (λ n. n + 1) s.so_far;
       calls = calls_kept above ls act _ _ _ _ _ c.requires.made s.calls first second (c.in_ok-call.ensures (told above).bitmap_names h) c.in_ok-put_last.ensures;

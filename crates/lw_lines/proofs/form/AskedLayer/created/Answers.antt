@@ -1,6 +1,6 @@
 use Rattle.lw_lines.specs.FormMeaning.{corners_meaning}
 use Rattle.lw_lines.proofs.RectRanges.{axes, lower}
-use Rattle.lw_lines.proofs.form.Asked.created.Goals as goal
+use Rattle.lw_lines.proofs.form.AskedLayer.created.Goals as goal
 
 pub step-requires : goal.step-requires
 step-requires c = lower _ _ (axes (corners_meaning c.args.self.now.numbers) c.requires.bounds).0
