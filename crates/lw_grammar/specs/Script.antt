@@ -11,13 +11,14 @@ use Rattle.lw_calls.specs.declared.reason.Reason.TheVariants.{LineTooLong, BadBy
 use Rattle.lw_grammar.specs.declared.verb.Verb.{Verb}
 use Rattle.lw_grammar.specs.declared.verb.Verb.TheVariants.{Screen as ScreenVerb, Glyph as GlyphVerb, Bitmap as BitmapVerb, Task as TaskVerb, Order as OrderVerb, Report as ReportVerb}
 use Rattle.lw_calls.specs.Limits.{name_limit, task_limit, bitmap_limit, call_limit}
-use Rattle.lw_calls.specs.Plan.{Plan, IsPlan}
+use Rattle.lw_calls.specs.Touches.{slots_of}
+use Rattle.lw_calls.specs.Plan.{Plan, IsPlan, is_all, begins_update, ends_update}
 use Rattle.lw_calls.specs.Built.{is_built}
 use Rattle.lw_grammar.specs.Lines.{lines}
 use Rattle.lw_grammar.specs.Demands.{◌>>=◌, demand}
 use Rattle.lw_grammar.specs.Tokens.{tokens, token_of}
 use Rattle.lw_grammar.specs.Verbs.{verb_of}
-use Rattle.lw_grammar.specs.LineForms.{Act, CreateAct, OpenAct, CloseAct, FrontAct, BehindAct, InFrontAct, MoveAct, SizeAct, BoxAct, ActivateAct, PutAct, RefreshAct, EndRefreshAct, Statement, GlyphLine, BitmapLine, RowLine, TaskLine, EndLine, CallLine, LockLine, UnlockLine, HoldLine, ReleaseLine, row_line, numbers_line, form_by, is_line_in_range}
+use Rattle.lw_grammar.specs.LineForms.{Act, PutAct, Statement, GlyphLine, BitmapLine, RowLine, TaskLine, EndLine, CallLine, LockLine, UnlockLine, HoldLine, ReleaseLine, row_line, numbers_line, form_by, is_line_in_range}
 use Rattle.lw_grammar.specs.Told.{Section, ScreenIsDue, AssetsAreDue, CallsAreDue, TasksAreDue, NumbersAreDue, NothingIsDue, OpenGroup, Locked, Updating, Held, Told, spelled_call, hook_on, told_with, told, plan_of}
 
 -- What a script is read with: how many hooks are handed in, and what input it stands in.
@@ -116,29 +117,16 @@ gives_again t (BitmapLine name w h d) = list_any (bytes_eq name) t.bitmap_names
 gives_again t (TaskLine name) = list_any (bytes_eq name) t.tasks
 gives_again t form = false
 
--- the act is an arrangement
+-- What the call of an act is, whichever layers and bitmaps it names: an arrangement; one that begins an update; one that ends
+-- an update.
 abbrev pub is_arranging : Act → Bool
-is_arranging (CreateAct asked) = true
-is_arranging (OpenAct asked framed nocare classes title) = true
-is_arranging CloseAct = true
-is_arranging FrontAct = true
-is_arranging BehindAct = true
-is_arranging InFrontAct = true
-is_arranging (MoveAct dx dy) = true
-is_arranging (SizeAct dw dh) = true
-is_arranging (BoxAct x y w h) = true
-is_arranging ActivateAct = true
-is_arranging act = false
+is_arranging act = is_all (slots_of (spelled_call [] act []))
 
--- the act begins an update
 abbrev pub is_beginning : Act → Bool
-is_beginning RefreshAct = true
-is_beginning act = false
+is_beginning act = begins_update (spelled_call [] act [])
 
--- the act ends an update
 abbrev pub is_ending : Act → Bool
-is_ending (EndRefreshAct full) = true
-is_ending act = false
+is_ending act = ends_update (spelled_call [] act [])
 
 -- there is a layer among these, and each is this one
 abbrev pub are_all : List ℕ → List (List ℕ) → Bool
