@@ -70,7 +70,7 @@ fn fill_whole(row: &mut [u8], first: usize, last: usize, bit: bool)
 {
     let count = last - first;
     if count > 8 {
-        fill_bytes(row, first, count, bit);
+        fill_many(row, first, last, bit);
     } else if count >= 4 {
         fill_bytes(row, first, 4, bit);
         fill_bytes(row, last - 4, 4, bit);
@@ -79,6 +79,27 @@ fn fill_whole(row: &mut [u8], first: usize, last: usize, bit: bool)
         fill_bytes(row, last - 2, 2, bit);
     } else if count == 1 {
         fill_bytes(row, first, 1, bit);
+    }
+}
+
+// As `fill_whole`.
+#[inline(always)]
+fn fill_many(row: &mut [u8], first: usize, last: usize, bit: bool)
+    requires many { first + 8 ≤ last }
+    requires inside { last ≤ length row.old }
+    ensures { (x : ℕ) → row_bit row.new x ≡ (if is_between (8 * first) (8 * last) x
+        then bit_of bit
+        else row_bit row.old x) }
+{
+    let count = last - first;
+    if count > 32 {
+        fill_bytes(row, first, count, bit);
+    } else if count >= 16 {
+        fill_bytes(row, first, 16, bit);
+        fill_bytes(row, last - 16, 16, bit);
+    } else {
+        fill_bytes(row, first, 8, bit);
+        fill_bytes(row, last - 8, 8, bit);
     }
 }
 
@@ -142,23 +163,24 @@ fn flip_whole(row: &mut [u8], first: usize, last: usize)
 {
     let count = last - first;
     if count >= 16 {
-        flip_blocks(row, first, last, 16);
+        flip_ends(row, first, last, count / 16 * 16, 16);
     } else if count >= 8 {
-        flip_blocks(row, first, last, 8);
+        flip_ends(row, first, last, 8, 8);
     } else if count >= 4 {
-        flip_blocks(row, first, last, 4);
+        flip_ends(row, first, last, 4, 4);
     } else {
         flip_bytes(row, first, last);
     }
 }
 
-// Blocks of as many bytes, and as many last ones: these are inverted beside the row first, so that bytes of both are
-// inverted once.
+// As many first bytes as `wide`, and as many last ones as `size`: these are inverted beside the row before the first
+// are, so that bytes of both are inverted once.
 #[inline(always)]
-fn flip_blocks(row: &mut [u8], first: usize, last: usize, size: usize)
-    requires some { 0 < size }
+fn flip_ends(row: &mut [u8], first: usize, last: usize, wide: usize, size: usize)
     requires few { size ≤ 16 }
-    requires ordered { first + size ≤ last }
+    requires one_inside { first + size ≤ last }
+    requires other_inside { first + wide ≤ last }
+    requires cover { last ≤ first + wide + size }
     requires inside { last ≤ length row.old }
     ensures { (x : ℕ) → row_bit row.new x ≡ (if is_between (8 * first) (8 * last) x
         then 1 - row_bit row.old x
@@ -167,7 +189,7 @@ fn flip_blocks(row: &mut [u8], first: usize, last: usize, size: usize)
     let mut tail = [0; 16];
     copy_whole(&mut tail, 0, size, row, last - size);
     flip_bytes(&mut tail, 0, size);
-    flip_bytes(row, first, first + (last - first - 1) / size * size);
+    flip_bytes(row, first, first + wide);
     put_block(row, last - size, &tail, size);
 }
 
