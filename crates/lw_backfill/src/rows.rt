@@ -5,8 +5,8 @@ ghost use Rattle.lw_machine.specs.Hook.{hook_pen, tile_place};
 use crate::Backfill;
 
 /// The eight pens with which a hook fills row `y` of a layer: column `x` has the one at the remainder of `x` by 8.
-pub fn row_of(held: &dyn Backfill, y: i32) -> [u8; 8]
-    ensures { (x : ℤ) → slice_index_or result (tile_place x) 0 ≡ hook_pen (hook held.now) x y }
+pub fn row_of<B: Backfill>(held: &B, y: i32) -> [u8; 8]
+    ensures { (x : ℤ) → slice_index_or result (tile_place x) 0 ≡ hook_pen (B.hook held.now) x y }
 {
     [
         held.pen_at(0, y),

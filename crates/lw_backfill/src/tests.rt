@@ -50,7 +50,8 @@ fn boxed_hooks_have_their_pens_and_turn(rt: HostRuntime) -> Result<(), Fail> {
 fn a_row_has_eight_pens(rt: HostRuntime) -> Result<(), Fail> {
     let checker = Checker::new(2, 3);
     assert!(rt; row_of(&checker, -3) == [3, 2, 3, 2, 3, 2, 3, 2]);
-    assert!(rt; row_of(&checker, 16) == [2, 3, 2, 3, 2, 3, 2, 3]);
+    let held: Box<dyn Backfill + Send> = Box::new(rt.alloc(), checker)?;
+    assert!(rt; row_of(&held, 16) == [2, 3, 2, 3, 2, 3, 2, 3]);
     Ok(())
 }
 

@@ -5,4 +5,4 @@ use Rattle.lw_backfill.proofs.rows.row_of.Goals as goal
 pub returns : goal.returns
 returns g c =
     row_pens _ c.args.y (to_z w32 (of_z w32 c.args.y)) (to_z-of_z c.ranges.y)
-    c.pen_at.ensures.0 c.pen_at-2.ensures.0 c.pen_at-3.ensures.0 c.pen_at-4.ensures.0 c.pen_at-5.ensures.0 c.pen_at-6.ensures.0 c.pen_at-7.ensures.0 c.pen_at-8.ensures.0
+    c.pen_at.ensures.pen c.pen_at-2.ensures.pen c.pen_at-3.ensures.pen c.pen_at-4.ensures.pen c.pen_at-5.ensures.pen c.pen_at-6.ensures.pen c.pen_at-7.ensures.pen c.pen_at-8.ensures.pen
