@@ -1,6 +1,5 @@
 use Rattle.std.proofs.Common.{[], ◌∷◌, ◌∙◌, sym}
 use Rattle.std.proofs.lemmas.Bool.{and_parts}
-use Rattle.lw_region.specs.Rectangle.{has_pixel}
 use Rattle.lw_region.specs.Bands.{covers}
 use Rattle.lw_region.proofs.SetOps.{combined_lists, covers_one}
 use Rattle.lw_draw.proofs.tests.draft_of.Goals as goal

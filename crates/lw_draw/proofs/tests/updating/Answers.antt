@@ -1,5 +1,5 @@
-use Rattle.std.proofs.Common.{◌≡◌, Bool, true, false, ℤ, Option, Some, None, ◌∙◌, ap, subst, rules}
-use Rattle.lw_region.specs.Rectangle.{Rectangle, has_pixel}
+use Rattle.std.proofs.Common.{◌≡◌, true, false, Option, ◌∙◌, ap, subst, rules}
+use Rattle.lw_region.specs.Rectangle.{Rectangle}
 use Rattle.lw_damage.specs.Damaged.{may_lie}
 use Rattle.lw_calls.specs.declared.make.Kind.TheVariants.{Smart}
 use Rattle.lw_calls.specs.Kinds.{is_super}
