@@ -1,5 +1,5 @@
 -- Laws of blocks of a layer's pixels.
-use Rattle.std.proofs.Common.{◌≡◌, ℕ, ◌<◌, ◌≤◌, nat_lt, Bool, true, false, not, ◌&&◌, ◌⊎◌, ⊎_elim, ℤ, pos, negsuc, ◌+ℤ◌, ◌-ℤ◌, ◌<ℤ◌, ◌≤ℤ◌, int_le, inl, inr, Option, Some, None, MatchOption, ◌∙◌, sym, refl, ap, arith}
+use Rattle.std.proofs.Common.{◌≡◌, ℕ, ◌<◌, ◌≤◌, nat_lt, Bool, true, false, not, ◌&&◌, ⊎_elim, ℤ, pos, negsuc, ◌+ℤ◌, ◌-ℤ◌, ◌<ℤ◌, ◌≤ℤ◌, int_le, inl, inr, Option, Some, None, MatchOption, ◌∙◌, sym, refl, ap, arith}
 use Rattle.std.specs.Option.{SomeIff}
 use Rattle.std.proofs.lemmas.Bool.{and_parts, cases_lt, lt-ltb, le-ltb, false_from_ne_true}
 use Rattle.std.proofs.lemmas.Bool.Decides.{nat_tests}
@@ -27,7 +27,8 @@ extent_place : (p : Places) (low high : ℤ) (extent u : ℕ) → p.end ≤ exte
     → has_place p (pos u) ≡ (nat_lt u extent && within low (pos u) high)
 extent_place p low high extent u last has =
     ⊎_elim
-    (λ (inside : u < extent). place_between p u ∙ (sym (has u inside) ∙ ap (λ t. t && within low (pos u) high) (sym (lt-ltb u extent inside))))
+    (λ (inside : u < extent). place_between p u
+    ∙ (sym (has u inside) ∙ ap (λ t. t && within low (pos u) high) (sym (lt-ltb u extent inside))))
     (λ (past : extent ≤ u). off_places p u (omega arith) ∙ ap (λ t. t && within low (pos u) high) (sym (le-ltb u extent past)))
     (cases_lt u extent)
   where
@@ -45,14 +46,17 @@ and_none true = refl
 and_none false = refl
 
 -- the places of a rectangle on both axes are its block
-pub is_block : (c : LiveView) (rect : Rectangle) (b : Block) → b.columns.end ≤ c.layer.bits.width → b.rows.end ≤ c.layer.bits.height
+pub is_block : (c : LiveView) (rect : Rectangle) (b : Block) → b.columns.end ≤ c.layer.bits.width
+    → b.rows.end ≤ c.layer.bits.height
     → ((u : ℕ) → u < c.layer.bits.width → within rect.min_x (pos u) rect.max_x ≡ is_between b.columns.from b.columns.end u)
     → ((v : ℕ) → v < c.layer.bits.height → within rect.min_y (pos v) rect.max_y ≡ is_between b.rows.from b.rows.end v)
     → IsBlockOf c rect b
 is_block c rect b right bottom columns rows (pos x) (pos y) =
     let across = extent_place b.columns rect.min_x rect.max_x c.layer.bits.width x right columns in
     let down = extent_place b.rows rect.min_y rect.max_y c.layer.bits.height y bottom rows in
-    rw (across, down) (turned (nat_lt x c.layer.bits.width) (within rect.min_x (pos x) rect.max_x) (nat_lt y c.layer.bits.height) (within rect.min_y (pos y) rect.max_y))
+    rw (across, down)
+    (turned (nat_lt x c.layer.bits.width) (within rect.min_x (pos x) rect.max_x) (nat_lt y c.layer.bits.height)
+    (within rect.min_y (pos y) rect.max_y))
 is_block c rect b right bottom columns rows (pos x) (negsuc y) =
     ap (λ t. has_place b.columns (pos x) && t) (no_place_before b.rows y) ∙ and_none (has_place b.columns (pos x))
 is_block c rect b right bottom columns rows (negsuc x) y = ap (λ t. t && has_place b.rows y) (no_place_before b.columns x)
@@ -69,13 +73,15 @@ pub record AreEdges (low high step first last : ℤ) : Type 0 where
 -- a step on
 steps_up : (low high first last step z : ℤ) → low ≤ℤ high → pos 0 ≤ℤ step → first ≡ low
     → ((high -ℤ step) ≤ℤ low → last ≡ low) → (low ≤ℤ (high -ℤ step) → last ≡ high -ℤ step)
-    → (int_le first z && not (int_le last z)) ≡ ((int_le low z && not (int_le high z)) && (int_le low (z +ℤ step) && not (int_le high (z +ℤ step))))
+    → (int_le first z && not (int_le last z))
+    ≡ ((int_le low z && not (int_le high z)) && (int_le low (z +ℤ step) && not (int_le high (z +ℤ step))))
 steps_up low high first last step z ordered up is short long = grind (arith, ints, nat_tests)
 
 -- and a step back
 steps_down : (low high first last step z : ℤ) → low ≤ℤ high → step <ℤ pos 0 → last ≡ high
     → (high ≤ℤ (low -ℤ step) → first ≡ high) → ((low -ℤ step) ≤ℤ high → first ≡ low -ℤ step)
-    → (int_le first z && not (int_le last z)) ≡ ((int_le low z && not (int_le high z)) && (int_le low (z +ℤ step) && not (int_le high (z +ℤ step))))
+    → (int_le first z && not (int_le last z))
+    ≡ ((int_le low z && not (int_le high z)) && (int_le low (z +ℤ step) && not (int_le high (z +ℤ step))))
 steps_down low high first last step z ordered down is short long = grind (arith, ints, nat_tests)
 
 -- such places begin or end with the others
@@ -85,19 +91,44 @@ side_up p part step first last ordered begins ends up are =
     let low = are.first_up up in
     by_lt_z (pos p.end -ℤ step) (pos p.from)
     (λ a. let high = are.short_up up (omega (arith, ints)) in
-    record { first = omega (arith, ints); ordered = omega (arith, ints); last = omega (arith, ints); side = inl (omega (arith, ints)) })
+    record {
+      first = omega (arith, ints);
+      ordered = omega (arith, ints);
+      last = omega (arith, ints);
+      side = inl
+          (omega (arith, ints));
+    })
     (λ a. let high = are.long_up up a in
-    record { first = omega (arith, ints); ordered = omega (arith, ints); last = omega (arith, ints); side = inl (omega (arith, ints)) })
+    record {
+      first = omega (arith, ints);
+      ordered = omega (arith, ints);
+      last = omega (arith, ints);
+      side = inl
+          (omega (arith, ints));
+    })
 
-side_down : (p part : Places) (step first last : ℤ) → p.from ≤ p.end → pos part.from ≡ first → pos part.end ≡ last → step <ℤ pos 0
+side_down : (p part : Places) (step first last : ℤ) → p.from ≤ p.end → pos part.from ≡ first → pos part.end ≡ last
+    → step <ℤ pos 0
     → AreEdges (pos p.from) (pos p.end) step first last → IsAtSide p part
 side_down p part step first last ordered begins ends down are =
     let high = are.last_down down in
     by_lt_z (pos p.end) (pos p.from -ℤ step)
     (λ a. let low = are.short_down down (omega (arith, ints)) in
-    record { first = omega (arith, ints); ordered = omega (arith, ints); last = omega (arith, ints); side = inr (omega (arith, ints)) })
+    record {
+      first = omega (arith, ints);
+      ordered = omega (arith, ints);
+      last = omega (arith, ints);
+      side = inr
+          (omega (arith, ints));
+    })
     (λ a. let low = are.long_down down a in
-    record { first = omega (arith, ints); ordered = omega (arith, ints); last = omega (arith, ints); side = inr (omega (arith, ints)) })
+    record {
+      first = omega (arith, ints);
+      ordered = omega (arith, ints);
+      last = omega (arith, ints);
+      side = inr
+          (omega (arith, ints));
+    })
 
 pub brought_of : (p part : Places) (step first last : ℤ) → p.from ≤ p.end → pos part.from ≡ first → pos part.end ≡ last
     → AreEdges (pos p.from) (pos p.end) step first last → AreBrought p step part
@@ -106,11 +137,14 @@ brought_of p part step first last ordered begins ends are =
     by_lt_z step (pos 0)
     (λ down. record {
       at_side = side_down p part step first last ordered begins ends down are;
-      has = λ z. rw (begins, ends) (steps_down (pos p.from) (pos p.end) first last step z in_order down (are.last_down down) (are.short_down down) (are.long_down down));
+      has = λ z. rw (begins, ends)
+          (steps_down (pos p.from) (pos p.end) first last step z in_order down (are.last_down down) (are.short_down down)
+          (are.long_down down));
     })
     (λ up. record {
       at_side = side_up p part step first last ordered begins ends up are;
-      has = λ z. rw (begins, ends) (steps_up (pos p.from) (pos p.end) first last step z in_order up (are.first_up up) (are.short_up up) (are.long_up up));
+      has = λ z. rw (begins, ends)
+          (steps_up (pos p.from) (pos p.end) first last step z in_order up (are.first_up up) (are.short_up up) (are.long_up up));
     })
 
 -- the pixels of a block that lead to one of it
@@ -170,7 +204,8 @@ place_within : (p : Places) (low high z : ℤ) → low ≡ pos p.from → high +
 unfolding within
 place_within p low high z first last = grind (arith, ints)
 
-edges_ordered : (p : Places) (low high z : ℤ) → low ≡ pos p.from → high +ℤ pos 1 ≡ pos p.end → has_place p z ≡ true → low ≤ℤ high
+edges_ordered : (p : Places) (low high z : ℤ) → low ≡ pos p.from → high +ℤ pos 1 ≡ pos p.end → has_place p z ≡ true
+    → low ≤ℤ high
 edges_ordered p low high z first last has =
     let before = place_low p z has in
     let behind = place_high p z has in
@@ -178,13 +213,17 @@ edges_ordered p low high z first last has =
 
 -- a block as a rectangle, or as none
 pub rect_made : (o : Option Rectangle) (b : Block) (left top right bottom : ℤ)
-    → SomeIff o (IsOrdered (record { min_x = left; min_y = top; max_x = right; max_y = bottom })) (record { min_x = left; min_y = top; max_x = right; max_y = bottom })
+    → SomeIff o (IsOrdered (record { min_x = left; min_y = top; max_x = right; max_y = bottom }))
+    (record { min_x = left; min_y = top; max_x = right; max_y = bottom })
     → left ≡ pos b.columns.from → right +ℤ pos 1 ≡ pos b.columns.end → top ≡ pos b.rows.from → bottom +ℤ pos 1 ≡ pos b.rows.end
     → MatchOption o ((x y : ℤ) → in_block b x y ≡ false) (λ r. (x y : ℤ) → has_pixel r x y ≡ in_block b x y)
 rect_made None b left top right bottom made first last upper lower = λ x y.
     false_from_ne_true _ (λ has.
     let sides = and_parts _ _ has in
-    made (record { columns = edges_ordered b.columns left right x first last sides.0; rows = edges_ordered b.rows top bottom y upper lower sides.1 }))
+    made (record {
+      columns = edges_ordered b.columns left right x first last sides.0;
+      rows = edges_ordered b.rows top bottom y upper lower sides.1;
+    }))
 rect_made (Some r) b left top right bottom made first last upper lower = λ x y.
     ap (λ (q : Rectangle). has_pixel q x y) made.1
     ∙ rw (place_within b.columns left right x first last, place_within b.rows top bottom y upper lower) refl

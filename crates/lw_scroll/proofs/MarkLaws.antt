@@ -1,5 +1,5 @@
 -- Laws of the damage that a scroll moves, pixel by pixel.
-use Rattle.std.proofs.Common.{◌≡◌, ℕ, ◌-◌, ◌==◌, ◌<◌, ◌≤◌, nat_lt, length, Bool, true, false, not, ◌&&◌, ◌||◌, if◌then◌else◌, List, [], ◌∷◌, ⊎_elim, ℤ, pos, negsuc, ◌+ℤ◌, ◌-ℤ◌, unsigned_abs, Option, Some, None, ◌∙◌, sym, refl, ap, subst, arith}
+use Rattle.std.proofs.Common.{◌≡◌, ℕ, ◌-◌, ◌==◌, ◌<◌, ◌≤◌, nat_lt, length, Bool, true, false, not, ◌&&◌, ◌||◌, if◌then◌else◌, List, [], ◌∷◌, ⊎_elim, ℤ, pos, negsuc, ◌+ℤ◌, unsigned_abs, Option, Some, None, ◌∙◌, sym, refl, ap, arith}
 use Rattle.std.proofs.lemmas.Bool.{and_parts, and_from, cases_lt, cases_Bool, lt-ltb, ltb-true, false_from_ne_true, both_ways}
 use Rattle.std.proofs.lemmas.Bool.Decides.{nat_tests}
 use Rattle.std.proofs.lemmas.Int.{ints}
@@ -11,25 +11,19 @@ use Rattle.lw_region.proofs.SetOps.{combined_lists, covers_one}
 use Rattle.lw_region.proofs.Within.{within_true}
 use Rattle.lw_region.proofs.Reading.{contains_pixels_of}
 use Rattle.lw_region.proofs.Canonical.{covers_nil}
-use Rattle.lw_planes.specs.Grid.{grid, at}
+use Rattle.lw_planes.specs.Grid.{at}
 use Rattle.lw_planes.proofs.GridLaws.{grid_at, grid_same, grid_past_column, grid_past_row}
 use Rattle.lw_calls.specs.declared.make.Kind.{Kind}
 use Rattle.lw_calls.specs.Kinds.{is_super}
 use Rattle.lw_damage.specs.Damaged.{Damaged, may_lie, with_more}
 use Rattle.lw_machine.specs.Layer.{is_framed}
 use Rattle.lw_machine.specs.Kept.{holds_at, is_kept, kept_as, is_drawable, in_clip, in_inner, is_inside, may_be_damaged}
-use Rattle.lw_machine.specs.Blits.{in_scroll_area, brought_if, brought_mark, brought_to, is_scrolled, scrolled_mark}
+use Rattle.lw_machine.specs.Blits.{in_scroll_area, brought_if, brought_mark, scrolled_mark}
 use Rattle.lw_layer.specs.View.{LiveView, shows, keeps, draws, with_layer}
 use Rattle.lw_layer.specs.Pieces.{inner_of, damage_table, IsDamageOf}
+use Rattle.lw_blit.proofs.SourceLaws.{kept_place}
 use Rattle.lw_scroll.specs.Scrolled.{scrolled_damage}
-use Rattle.lw_scroll.specs.Marks.{clip_has, IsWhole, AreDrawable, is_hurt, LeadToHurt, AreDue, IsDamageWith, is_damaged, moved_mark, IsMovedDamage}
-
--- what is kept has its place in the layer's bits
-pub kept_place : (c : LiveView) (x y : ℕ) → keeps c x y ≡ true → (x < c.layer.bits.width) × (y < c.layer.bits.height)
-unfolding keeps is_kept
-kept_place c x y is =
-    let bits = and_parts (nat_lt x c.layer.bits.width) (nat_lt y c.layer.bits.height) ((and_parts _ _ is).0) in
-    (ltb-true x c.layer.bits.width bits.0, ltb-true y c.layer.bits.height bits.1)
+use Rattle.lw_scroll.specs.Marks.{clip_has, IsWhole, AreDrawable, LeadToHurt, AreDue, IsDamageWith, is_damaged, moved_mark, IsMovedDamage}
 
 -- which pixels are damaged, by the rectangles of the damage
 pub former_marks : (c : LiveView) (d : Damaged) → IsDamageOf c d → (x y : ℤ) → covers d.rects x y ≡ is_damaged c x y
@@ -42,18 +36,22 @@ former_marks c d is (pos x) (pos y) =
     ∙ ⊎_elim
     (λ (left : x < c.layer.bits.width).
     ⊎_elim (λ (low : y < c.layer.bits.height). grid_at c.layer.bits.width c.layer.bits.height test false x y left low)
-    (λ (past : c.layer.bits.height ≤ y). grid_past_row c.layer.bits.width c.layer.bits.height test false x y past ∙ sym (off (λ _ low. omega arith)))
+    (λ (past : c.layer.bits.height ≤ y). grid_past_row c.layer.bits.width c.layer.bits.height test false x y past
+    ∙ sym (off (λ _ low. omega arith)))
     (cases_lt y c.layer.bits.height))
     (λ (past : c.layer.bits.width ≤ x). no_column past off)
     (cases_lt x c.layer.bits.width))
   where
-    no_column : c.layer.bits.width ≤ x → ((x < c.layer.bits.width → y < c.layer.bits.height → ⊥) → covers d.rects (pos x) (pos y) ≡ false)
+    no_column : c.layer.bits.width ≤ x
+        → ((x < c.layer.bits.width → y < c.layer.bits.height → ⊥) → covers d.rects (pos x) (pos y) ≡ false)
         → at false (damage_table c.layer.bits d.rects) x y ≡ covers d.rects (pos x) (pos y)
     no_column past off =
         let test : ℕ → ℕ → Bool = λ i j. covers d.rects (pos i) (pos j) in
         ⊎_elim
-        (λ (low : y < c.layer.bits.height). grid_past_column c.layer.bits.width c.layer.bits.height test false x y past low ∙ sym (off (λ left _. omega arith)))
-        (λ (below : c.layer.bits.height ≤ y). grid_past_row c.layer.bits.width c.layer.bits.height test false x y below ∙ sym (off (λ left _. omega arith)))
+        (λ (low : y < c.layer.bits.height). grid_past_column c.layer.bits.width c.layer.bits.height test false x y past low
+        ∙ sym (off (λ left _. omega arith)))
+        (λ (below : c.layer.bits.height ≤ y). grid_past_row c.layer.bits.width c.layer.bits.height test false x y below
+        ∙ sym (off (λ left _. omega arith)))
         (cases_lt y c.layer.bits.height)
 former_marks c d is (pos x) (negsuc y) = false_from_ne_true _ (λ has. both_ways false refl (is.kept (pos x) (negsuc y) has))
 former_marks c d is (negsuc x) y = false_from_ne_true _ (λ has. both_ways false refl (is.kept (negsuc x) y has))
@@ -63,7 +61,8 @@ pub alone_pixel : (before made : List Rectangle) (r : Rectangle) (x y : ℤ) →
     → made ≡ bands (union (pixels_of before) (rectangle_set r)) → covers made x y ≡ has_pixel r x y
 alone_pixel before made r x y none is =
     (combined_lists.unions before (r ∷ []) made is).pixels x y
-    ∙ (ap (λ l. covers l x y || covers (r ∷ []) x y) none ∙ (ap (λ t. t || covers (r ∷ []) x y) (covers_nil x y) ∙ covers_one r x y))
+    ∙ (ap (λ l. covers l x y || covers (r ∷ []) x y) none
+    ∙ (ap (λ t. t || covers (r ∷ []) x y) (covers_nil x y) ∙ covers_one r x y))
 
 -- a test that holds takes nothing away
 all_and : (a may : Bool) → may ≡ true → (a && may) ≡ a
@@ -101,9 +100,11 @@ clip_none before clip x y is = sym (all_and (covers before x y) (clip_has clip x
 pub drawn_updating : (made cut target kept clip on damaged draws : Bool) → on ≡ true → cut ≡ ((target && kept) && clip)
     → made ≡ (cut && damaged)
     → draws ≡ (kept && (clip && (not on || damaged))) → made ≡ (draws && target)
-drawn_updating made cut target kept clip on damaged draws is first second whole = rw (second, first, whole, is) (turned target kept clip damaged)
+drawn_updating made cut target kept clip on damaged draws is first second whole =
+    rw (second, first, whole, is) (turned target kept clip damaged)
   where
-    turned : (target kept clip damaged : Bool) → (((target && kept) && clip) && damaged) ≡ ((kept && (clip && damaged)) && target)
+    turned : (target kept clip damaged : Bool)
+        → (((target && kept) && clip) && damaged) ≡ ((kept && (clip && damaged)) && target)
     turned true true true true = refl
     turned true true true false = refl
     turned true true false damaged = refl
@@ -126,7 +127,8 @@ drawn_idle cut target kept clip on damaged draws is first whole = rw (first, who
     turned false false clip = refl
 
 -- what is due of two parts
-pub due_pixel : (former reached hurt : Bool) → ((former && not reached) || (reached && hurt)) ≡ (if reached then hurt else former)
+pub due_pixel : (former reached hurt : Bool)
+    → ((former && not reached) || (reached && hurt)) ≡ (if reached then hurt else former)
 due_pixel true true hurt = refl
 due_pixel false true hurt = refl
 due_pixel true false hurt = refl
@@ -163,7 +165,8 @@ hurt_moved draws true true kept damaged was hurt former reached same first secon
 hurt_moved draws true false kept damaged was hurt former reached same first second third = absurd (both_ways true same refl)
 hurt_moved draws false source kept damaged was hurt former reached same first second third = rw (first, third) (no_target draws)
   where
-    no_target : (draws : Bool) → (if draws && false then hurt else was) ≡ (if draws && false then not (kept && not damaged) else was)
+    no_target : (draws : Bool)
+        → (if draws && false then hurt else was) ≡ (if draws && false then not (kept && not damaged) else was)
     no_target true = refl
     no_target false = refl
 
@@ -200,7 +203,8 @@ scrolled_is c rect dx dy x y =
     let column = pos x +ℤ dx in
     let row = pos y +ℤ dy in
     scroll_mark (draws c x y) (has_pixel rect (pos x) (pos y)) (holds_at (λ i j. in_scroll_area rect c.layer i j) column row)
-    (holds_at (λ i j. keeps c i j) column row) (is_damaged c column row) (at false c.layer.damage) x y (unsigned_abs column) (unsigned_abs row) (λ is. kept_mark c column row is)
+    (holds_at (λ i j. keeps c i j) column row) (is_damaged c column row) (at false c.layer.damage) x y (unsigned_abs column)
+    (unsigned_abs row) (λ is. kept_mark c column row is)
 
 -- Damage may lie on each pixel of a layer's bits, unless the layer is a super-bitmap layer,
 inner_pixel : (framed : Bool) (w h x y : ℕ) → framed ≡ false → x < w → y < h → in_inner framed w h x y ≡ true
@@ -218,7 +222,8 @@ may_damage c x y other plain left low =
 place_inside : (x n : ℕ) → x < n → within (pos 0) (pos x) (pos (n - 1)) ≡ true
 place_inside x n inside = within_true (pos 0) (pos x) (pos (n - 1)) (omega (arith, ints)) (omega (arith, ints))
 
-pub may_pixel : (super : Bool) (w h x y : ℕ) → super ≡ false → x < w → y < h → may_lie (inner_of super w h) (pos x) (pos y) ≡ true
+pub may_pixel : (super : Bool) (w h x y : ℕ) → super ≡ false → x < w → y < h
+    → may_lie (inner_of super w h) (pos x) (pos y) ≡ true
 may_pixel true w h x y other left low = absurd (both_ways true other refl)
 may_pixel false w h x y other left low = and_from _ _ (place_inside x w left) (place_inside y h low)
 
@@ -226,7 +231,8 @@ both_all : (a b may lie : Bool) → a ≡ b → may ≡ true → lie ≡ true �
 both_all a b may lie same first second = rw (same, first, second) refl
 
 -- Where no pixel of the rectangle leads to one of it, the damage stays.
-pub marks_stay : (c : LiveView) (d : Damaged) (rect : Rectangle) (dx dy : ℤ) → is_super c.layer.kind ≡ false → c.layer.window ≡ None
+pub marks_stay : (c : LiveView) (d : Damaged) (rect : Rectangle) (dx dy : ℤ) → is_super c.layer.kind ≡ false
+    → c.layer.window ≡ None
     → IsDamageOf c d
     → ((x y : ℕ) → x < c.layer.bits.width → y < c.layer.bits.height
     → (has_pixel rect (pos x) (pos y) && holds_at (λ i j. in_scroll_area rect c.layer i j) (pos x +ℤ dx) (pos y +ℤ dy)) ≡ false)
@@ -247,14 +253,17 @@ marks_stay c d rect dx dy other plain is none =
 pub all_kept : (c : LiveView) (kind : Kind) → c.layer.kind ≡ kind → ((v : Bool) → kept_as kind v ≡ true) → (x y : ℕ)
     → x < c.layer.bits.width → y < c.layer.bits.height → keeps c x y ≡ true
 unfolding keeps is_kept
-all_kept c kind is all x y left low = rw (lt-ltb x c.layer.bits.width left, lt-ltb y c.layer.bits.height low, is) (all (shows c x y))
+all_kept c kind is all x y left low =
+    rw (lt-ltb x c.layer.bits.width left, lt-ltb y c.layer.bits.height low, is) (all (shows c x y))
 
 pub whole_of : (c : LiveView) (d : Damaged) → IsDamageOf c d
     → ((x y : ℕ) → x < c.layer.bits.width → y < c.layer.bits.height → keeps c x y ≡ true)
     → ((x y : ℤ) → covers d.rects x y ≡ false) → IsWhole c
 whole_of c d is all none = record {
   kept = all;
-  sound = is.pixels ∙ grid_same c.layer.bits.width c.layer.bits.height (λ x y. covers d.rects (pos x) (pos y)) (λ x y. false) (λ x y _ _. none (pos x) (pos y));
+  sound = is.pixels
+      ∙ grid_same c.layer.bits.width c.layer.bits.height (λ x y. covers d.rects (pos x) (pos y)) (λ x y. false)
+      (λ x y _ _. none (pos x) (pos y));
 }
 
 -- no rectangle has no pixel
@@ -280,7 +289,8 @@ whole_stays c rect dx dy whole =
     (λ x y left low.
     ap (λ t. t && may_be_damaged c.layer x y)
     (scrolled_is c rect dx dy x y ∙ unmarked (draws c x y) (has_pixel rect (pos x) (pos y)) _ _ _ _
-    (area_kept c rect whole (pos x +ℤ dx) (pos y +ℤ dy)) (undamaged c whole (pos x +ℤ dx) (pos y +ℤ dy)) (undamaged c whole (pos x) (pos y))))
+    (area_kept c rect whole (pos x +ℤ dx) (pos y +ℤ dy)) (undamaged c whole (pos x +ℤ dx) (pos y +ℤ dy))
+    (undamaged c whole (pos x) (pos y))))
     ∙ sym whole.sound
   where
     unmarked : (drawable has area kept damaged mark : Bool) → (area ≡ true → kept ≡ true) → damaged ≡ false → mark ≡ false
@@ -295,15 +305,19 @@ whole_stays c rect dx dy whole =
         ap (λ t. at false t x y) whole.sound
         ∙ ⊎_elim
         (λ (low : y < c.layer.bits.height).
-        ⊎_elim (λ (left : x < c.layer.bits.width). grid_at c.layer.bits.width c.layer.bits.height (λ i j. false) false x y left low)
-        (λ (past : c.layer.bits.width ≤ x). grid_past_column c.layer.bits.width c.layer.bits.height (λ i j. false) false x y past low)
+        ⊎_elim (λ (left : x < c.layer.bits.width). grid_at c.layer.bits.width c.layer.bits.height
+        (λ i j. false) false x y left low)
+        (λ (past : c.layer.bits.width ≤ x). grid_past_column c.layer.bits.width c.layer.bits.height
+        (λ i j. false) false x y past low)
         (cases_lt x c.layer.bits.width))
-        (λ (below : c.layer.bits.height ≤ y). grid_past_row c.layer.bits.width c.layer.bits.height (λ i j. false) false x y below)
+        (λ (below : c.layer.bits.height ≤ y). grid_past_row c.layer.bits.width c.layer.bits.height
+        (λ i j. false) false x y below)
         (cases_lt y c.layer.bits.height)
     undamaged c whole (pos x) (negsuc y) = refl
     undamaged c whole (negsuc x) y = refl
 
-    area_kept : (c : LiveView) (rect : Rectangle) → IsWhole c → (x y : ℤ) → holds_at (λ i j. in_scroll_area rect c.layer i j) x y ≡ true
+    area_kept : (c : LiveView) (rect : Rectangle) → IsWhole c → (x y : ℤ)
+        → holds_at (λ i j. in_scroll_area rect c.layer i j) x y ≡ true
         → holds_at (λ i j. keeps c i j) x y ≡ true
     area_kept c rect whole (pos x) (pos y) is =
         let bits = and_parts (nat_lt x c.layer.bits.width) (nat_lt y c.layer.bits.height) ((and_parts _ _ is).0) in
@@ -315,7 +329,8 @@ whole_stays c rect dx dy whole =
 pub damage_moved : (c : LiveView) (former d : Damaged) (rect target : Rectangle) (dx dy : ℤ) → is_super c.layer.kind ≡ false
     → c.layer.window ≡ None → IsDamageOf c former
     → ((x y : ℕ) → x < c.layer.bits.width → y < c.layer.bits.height
-    → has_pixel target (pos x) (pos y) ≡ (has_pixel rect (pos x) (pos y) && holds_at (λ i j. in_scroll_area rect c.layer i j) (pos x +ℤ dx) (pos y +ℤ dy)))
+    → has_pixel target (pos x) (pos y)
+    ≡ (has_pixel rect (pos x) (pos y) && holds_at (λ i j. in_scroll_area rect c.layer i j) (pos x +ℤ dx) (pos y +ℤ dy)))
     → IsMovedDamage c target dx dy d → IsDamageOf (with_layer (λ l. record l { damage = scrolled_damage c rect dx dy }) c) d
 unfolding keeps is_kept
 damage_moved c former d rect target dx dy other plain was is moved = record {
@@ -323,9 +338,12 @@ damage_moved c former d rect target dx dy other plain was is moved = record {
       (λ x y left low.
       both_all _ (moved_mark c target dx dy (pos x) (pos y)) _ (may_lie d.inner (pos x) (pos y))
       (scrolled_is c rect dx dy x y
-      ∙ ap (λ t. if draws c x y && t then not (holds_at (λ i j. keeps c i j) (pos x +ℤ dx) (pos y +ℤ dy) && not (is_damaged c (pos x +ℤ dx) (pos y +ℤ dy))) else at false c.layer.damage x y) (sym (is x y left low)))
+      ∙ ap (λ t. if draws c x y && t then not
+      (holds_at (λ i j. keeps c i j) (pos x +ℤ dx) (pos y +ℤ dy) && not
+      (is_damaged c (pos x +ℤ dx) (pos y +ℤ dy))) else at false c.layer.damage x y) (sym (is x y left low)))
       (may_damage c x y other plain left low)
-      (ap (λ o. may_lie o (pos x) (pos y)) moved.inner ∙ may_pixel (is_super c.layer.kind) c.layer.bits.width c.layer.bits.height x y other left low)
+      (ap (λ o. may_lie o (pos x) (pos y)) moved.inner
+      ∙ may_pixel (is_super c.layer.kind) c.layer.bits.width c.layer.bits.height x y other left low)
       ∙ sym (moved.pixels (pos x) (pos y)));
   kept = λ x y has.
       let marked : moved_mark c target dx dy x y ≡ true = (and_parts _ _ (sym (moved.pixels x y) ∙ has)).0 in
@@ -341,13 +359,20 @@ damage_moved c former d rect target dx dy other plain was is moved = record {
         → moved_mark c target dx dy x y ≡ true → holds_at (λ i j. keeps c i j) x y ≡ true
     mark_kept c former target dx dy was x y marked =
         ⊎_elim
-        (λ (taken : (holds_at (λ i j. draws c i j) x y && has_pixel target x y) ≡ true). drawn_kept c x y ((and_parts _ _ taken).0))
+        (λ (taken : (holds_at (λ i j. draws c i j) x y && has_pixel target x y) ≡ true). drawn_kept c x y
+        ((and_parts _ _ taken).0))
         (λ (left : (holds_at (λ i j. draws c i j) x y && has_pixel target x y) ≡ false).
-        was.kept x y (former_marks c former was x y ∙ (sym (ap (λ t. if t then not (holds_at (λ i j. keeps c i j) (x +ℤ dx) (y +ℤ dy) && not (is_damaged c (x +ℤ dx) (y +ℤ dy))) else is_damaged c x y) left) ∙ marked)))
+        was.kept x y
+        (former_marks c former was x y
+        ∙ (sym (ap (λ t. if t
+        then not (holds_at (λ i j. keeps c i j) (x +ℤ dx) (y +ℤ dy) && not (is_damaged c (x +ℤ dx) (y +ℤ dy)))
+        else is_damaged c x y) left)
+        ∙ marked)))
         (cases_Bool _)
 
 -- The steps of the code make it.
-pub steps_moved : (c : LiveView) (former d : Damaged) (target source : Rectangle) (dx dy : ℤ) (kept reached hurt due : List Rectangle)
+pub steps_moved : (c : LiveView) (former d : Damaged) (target source : Rectangle) (dx dy : ℤ)
+    (kept reached hurt due : List Rectangle)
     → IsDamageOf c former → ((x y : ℤ) → covers kept x y ≡ holds_at (λ i j. keeps c i j) x y)
     → ((x y : ℤ) → has_pixel target x y ≡ has_pixel source (x +ℤ dx) (y +ℤ dy))
     → AreDrawable c target reached → LeadToHurt kept former.rects source dx dy hurt → AreDue former.rects reached hurt due
@@ -356,14 +381,16 @@ steps_moved c former d target source dx dy kept reached hurt due was are shifted
   pixels = λ x y.
       let column = x +ℤ dx in
       let row = y +ℤ dy in
-      let same : not (covers kept column row && not (covers former.rects column row)) ≡ not (holds_at (λ i j. keeps c i j) column row && not (is_damaged c column row)) =
+      let same : not (covers kept column row && not (covers former.rects column row))
+      ≡ not (holds_at (λ i j. keeps c i j) column row && not (is_damaged c column row)) =
       ap (λ t. not (t && not (covers former.rects column row))) (are column row)
       ∙ ap (λ t. not (holds_at (λ i j. keeps c i j) column row && not t)) (former_marks c former was column row)
       in
       made.pixels x y
       ∙ (ap (λ t. t && may_lie former.inner x y)
       (is x y ∙ hurt_moved (holds_at (λ i j. draws c i j) x y) (has_pixel target x y) (has_pixel source column row)
-      (holds_at (λ i j. keeps c i j) column row) (is_damaged c column row) (is_damaged c x y) (covers hurt x y) (covers former.rects x y) (covers reached x y)
+      (holds_at (λ i j. keeps c i j) column row) (is_damaged c column row) (is_damaged c x y) (covers hurt x y)
+      (covers former.rects x y) (covers reached x y)
       (shifted x y) (drawn x y) (lead x y ∙ ap (λ t. has_pixel source column row && t) same) (former_marks c former was x y))
       ∙ ap (λ o. moved_mark c target dx dy x y && may_lie o x y) (sym made.inner));
   inner = made.inner ∙ was.inner;

@@ -1,5 +1,5 @@
 -- Laws of the pens that a scroll brings.
-use Rattle.std.proofs.Common.{◌≡◌, ℕ, ◌<◌, ◌==◌, Bool, true, false, not, ◌&&◌, ◌||◌, ◌⊎◌, inl, inr, if◌then◌else◌, List, ℤ, pos, negsuc, ◌+ℤ◌, unsigned_abs, Some, None, ◌∙◌, sym, refl, ap, arith}
+use Rattle.std.proofs.Common.{◌≡◌, ℕ, Bool, true, false, not, ◌&&◌, ◌||◌, ◌⊎◌, inl, inr, if◌then◌else◌, List, ℤ, pos, negsuc, ◌+ℤ◌, unsigned_abs, Some, None, ◌∙◌, sym, refl, ap, arith}
 use Rattle.std.specs.Int.{bit_at}
 use Rattle.std.proofs.lemmas.Bool.{lt-ltb, and_from, and_parts}
 use Rattle.std.proofs.lemmas.Bool.Decides.{nat_tests}
@@ -12,12 +12,11 @@ use Rattle.lw_damage.specs.Damaged.{Damaged}
 use Rattle.lw_machine.specs.Layer.{Raster}
 use Rattle.lw_machine.specs.Kept.{holds_at, is_kept}
 use Rattle.lw_machine.specs.Paint.{with_pens}
-use Rattle.lw_machine.specs.Blits.{in_scroll_area, brought_if, brought_pen, brought_to, scroll_raster}
+use Rattle.lw_machine.specs.Blits.{in_scroll_area, brought_if, brought_pen, scroll_raster}
 use Rattle.lw_layer.specs.View.{LiveView, CellView, shows, keeps, draws, with_layer, with_live}
 use Rattle.lw_layer.specs.Pieces.{inner_of, damage_table}
 use Rattle.lw_layer.specs.Copied.{bit_in, kept_bit}
 use Rattle.lw_draw.specs.Drawn.{drawn, GivesBits, in_mask, in_rows, painted, painted_bit}
-use Rattle.lw_draw.proofs.DrawnLaws.{AreMore}
 use Rattle.lw_draw.proofs.PaintLaws.{cell_same, cell_alike, draws_stays, shape_drawn}
 use Rattle.lw_draw.specs.declared.spans.Places.{Places}
 use Rattle.lw_scroll.specs.declared.block.Block.{Block}
@@ -27,12 +26,14 @@ use Rattle.lw_scroll.proofs.BlockLaws.{place_between, leads_inside}
 
 -- the bit of a pen that is brought from within the rectangle is that of a kept pixel, or 0
 pen_or_none : (c : LiveView) (p x y : ℕ) (kept : Bool)
-    → bit_in p (if kept then Some (pen_at c.layer.bits x y) else None) ≡ bit_at (brought_pen c.layer (brought_if true kept x y)) p
+    → bit_in p (if kept then Some (pen_at c.layer.bits x y) else None)
+    ≡ bit_at (brought_pen c.layer (brought_if true kept x y)) p
 pen_or_none c p x y true = refl
 pen_or_none c p x y false = sym (bit_at-zero p)
 
 kept_brought : (c : LiveView) (p : ℕ) (x y : ℤ)
-    → kept_bit c p x y ≡ bit_at (brought_pen c.layer (brought_if true (holds_at (λ i j. keeps c i j) x y) (unsigned_abs x) (unsigned_abs y))) p
+    → kept_bit c p x y
+    ≡ bit_at (brought_pen c.layer (brought_if true (holds_at (λ i j. keeps c i j) x y) (unsigned_abs x) (unsigned_abs y))) p
 unfolding kept_bit
 kept_brought c p (pos x) (pos y) = pen_or_none c p x y (keeps c x y)
 kept_brought c p (pos x) (negsuc y) = sym (bit_at-zero p)
@@ -47,7 +48,9 @@ bit_inside c rect dx dy p x y old inside =
     let column = pos x +ℤ dx in
     let row = pos y +ℤ dy in
     kept_brought c p column row
-    ∙ ap (λ t. bit_at (brought_pen c.layer (brought_if t (holds_at (λ i j. keeps c i j) column row) (unsigned_abs column) (unsigned_abs row))) p) (sym inside)
+    ∙ ap (λ t. bit_at
+    (brought_pen c.layer (brought_if t (holds_at (λ i j. keeps c i j) column row) (unsigned_abs column) (unsigned_abs row))) p)
+    (sym inside)
 
 -- and pen B's of one that leads out of it.
 pub bit_outside : (c : LiveView) (rect : Rectangle) (dx dy : ℤ) (p x y old : ℕ)
@@ -57,7 +60,9 @@ unfolding brought_bit keeps
 bit_outside c rect dx dy p x y old outside =
     let column = pos x +ℤ dx in
     let row = pos y +ℤ dy in
-    ap (λ t. bit_at (brought_pen c.layer (brought_if t (holds_at (λ i j. keeps c i j) column row) (unsigned_abs column) (unsigned_abs row))) p) (sym outside)
+    ap (λ t. bit_at
+    (brought_pen c.layer (brought_if t (holds_at (λ i j. keeps c i j) column row) (unsigned_abs column) (unsigned_abs row))) p)
+    (sym outside)
 
 -- It is a bit.
 pub brought_bits : (c : LiveView) (rect : Rectangle) (dx dy : ℤ) → GivesBits (brought_bit c rect dx dy)
@@ -76,8 +81,10 @@ last_apart m d rows columns row beside column rest first second = rw (first, sec
 
 pub last_whole : (m d rows columns row beside column rest : Bool) → beside ≡ (rows && not row) → rest ≡ (columns && not column)
     → (row ≡ true → rows ≡ true) → (column ≡ true → columns ≡ true)
-    → (m && (rows && (columns && d))) ≡ (((m && (row && (column && d))) || (m && (beside && (columns && d)))) || (m && (row && (rest && d))))
-last_whole m d rows columns row beside column rest first second inside_rows inside_columns = rw (first, second) (grind (arith, nat_tests))
+    → (m && (rows && (columns && d)))
+    ≡ (((m && (row && (column && d))) || (m && (beside && (columns && d)))) || (m && (row && (rest && d))))
+last_whole m d rows columns row beside column rest first second inside_rows inside_columns =
+    rw (first, second) (grind (arith, nat_tests))
 
 -- what is painted of a block's pixels that lead into the rectangle, and of those that lead out of it
 and_all : (m row column d : Bool) → (m && (row && (column && d))) ≡ true → (row ≡ true) × (column ≡ true)
@@ -87,12 +94,16 @@ and_all true true false d is = absurd (cc is)
 and_all true false column d is = absurd (cc is)
 and_all false row column d is = absurd (cc is)
 
-pub target_leads : (c : LiveView) (rect : Rectangle) (b target : Block) (dx dy : ℤ) → IsBlockOf c rect b → IsBrought b dx dy target
+pub target_leads : (c : LiveView) (rect : Rectangle) (b target : Block) (dx dy : ℤ) → IsBlockOf c rect b
+    → IsBrought b dx dy target
     → (m d : Bool) (i j : ℕ)
-    → (m && (is_between target.rows.from target.rows.end j && (is_between target.columns.from target.columns.end i && d))) ≡ true
+    → (m && (is_between target.rows.from target.rows.end j && (is_between target.columns.from target.columns.end i && d)))
+    ≡ true
     → holds_at (λ u v. in_scroll_area rect c.layer u v) (pos i +ℤ dx) (pos j +ℤ dy) ≡ true
 target_leads c rect b target dx dy is are m d i j on =
-    let sides = and_all m (is_between target.rows.from target.rows.end j) (is_between target.columns.from target.columns.end i) d on in
+    let sides =
+    and_all m (is_between target.rows.from target.rows.end j) (is_between target.columns.from target.columns.end i) d on
+    in
     let inside : in_block target (pos i) (pos j) ≡ true =
     and_from _ _ (place_between target.columns i ∙ sides.1) (place_between target.rows j ∙ sides.0)
     in
@@ -109,18 +120,22 @@ no_and true false off = refl
 no_and true true (inl off) = off
 no_and true true (inr off) = off
 
-pub beside_leads : (c : LiveView) (rect : Rectangle) (b target : Block) (dx dy : ℤ) → IsBlockOf c rect b → IsBrought b dx dy target
+pub beside_leads : (c : LiveView) (rect : Rectangle) (b target : Block) (dx dy : ℤ) → IsBlockOf c rect b
+    → IsBrought b dx dy target
     → (i j : ℕ) → is_between b.rows.from b.rows.end j ≡ true → is_between b.columns.from b.columns.end i ≡ true
     → (is_between target.columns.from target.columns.end i ≡ false) ⊎ (is_between target.rows.from target.rows.end j ≡ false)
     → holds_at (λ u v. in_scroll_area rect c.layer u v) (pos i +ℤ dx) (pos j +ℤ dy) ≡ false
 beside_leads c rect b target dx dy is are i j row column off =
-    let inside : in_block b (pos i) (pos j) ≡ true = and_from _ _ (place_between b.columns i ∙ column) (place_between b.rows j ∙ row) in
+    let inside : in_block b (pos i) (pos j) ≡ true =
+    and_from _ _ (place_between b.columns i ∙ column) (place_between b.rows j ∙ row)
+    in
     let out : in_block target (pos i) (pos j) ≡ false =
     rw (place_between target.columns i, place_between target.rows j)
     (no_and (is_between target.columns.from target.columns.end i) (is_between target.rows.from target.rows.end j) off)
     in
     sym (is (pos i +ℤ dx) (pos j +ℤ dy))
-    ∙ off_and (in_block b (pos i) (pos j)) (in_block b (pos i +ℤ dx) (pos j +ℤ dy)) inside (sym out ∙ leads_inside b target dx dy are (pos i) (pos j))
+    ∙ off_and (in_block b (pos i) (pos j)) (in_block b (pos i +ℤ dx) (pos j +ℤ dy)) inside
+    (sym out ∙ leads_inside b target dx dy are (pos i) (pos j))
 
 -- a part of places is in them, and what is beside it isn't in it
 beside_parts : (whole part rest : Bool) → rest ≡ (whole && not part) → rest ≡ true → (whole ≡ true) × (part ≡ false)
@@ -128,38 +143,49 @@ beside_parts true false rest is on = (refl, refl)
 beside_parts true true rest is on = absurd (cc (sym on ∙ is))
 beside_parts false part rest is on = absurd (cc (sym on ∙ is))
 
-pub part_inside : (p part : Places) → IsAtSide p part → (u : ℕ) → is_between part.from part.end u ≡ true → is_between p.from p.end u ≡ true
+pub part_inside : (p part : Places) → IsAtSide p part → (u : ℕ) → is_between part.from part.end u ≡ true
+    → is_between p.from p.end u ≡ true
 part_inside p part at_side u on = let first = at_side.first in let last = at_side.last in grind (arith, nat_tests)
 
-pub row_beside : (c : LiveView) (rect : Rectangle) (b target : Block) (rest : Places) (dx dy : ℤ) → IsBlockOf c rect b → IsBrought b dx dy target
-    → ((u : ℕ) → is_between rest.from rest.end u ≡ (is_between b.rows.from b.rows.end u && not (is_between target.rows.from target.rows.end u)))
-    → (m d : Bool) (i j : ℕ) → (m && (is_between rest.from rest.end j && (is_between b.columns.from b.columns.end i && d))) ≡ true
+pub row_beside : (c : LiveView) (rect : Rectangle) (b target : Block) (rest : Places) (dx dy : ℤ) → IsBlockOf c rect b
+    → IsBrought b dx dy target
+    → ((u : ℕ) → is_between rest.from rest.end u ≡
+    (is_between b.rows.from b.rows.end u && not (is_between target.rows.from target.rows.end u)))
+    → (m d : Bool) (i j : ℕ)
+    → (m && (is_between rest.from rest.end j && (is_between b.columns.from b.columns.end i && d))) ≡ true
     → holds_at (λ u v. in_scroll_area rect c.layer u v) (pos i +ℤ dx) (pos j +ℤ dy) ≡ false
 row_beside c rect b target rest dx dy is are has m d i j on =
     let sides = and_all m (is_between rest.from rest.end j) (is_between b.columns.from b.columns.end i) d on in
     let parts = beside_parts _ _ _ (has j) sides.0 in
     beside_leads c rect b target dx dy is are i j parts.0 sides.1 (inr parts.1)
 
-pub column_beside : (c : LiveView) (rect : Rectangle) (b target : Block) (rest : Places) (dx dy : ℤ) → IsBlockOf c rect b → IsBrought b dx dy target
-    → ((u : ℕ) → is_between rest.from rest.end u ≡ (is_between b.columns.from b.columns.end u && not (is_between target.columns.from target.columns.end u)))
-    → (m d : Bool) (i j : ℕ) → (m && (is_between target.rows.from target.rows.end j && (is_between rest.from rest.end i && d))) ≡ true
+pub column_beside : (c : LiveView) (rect : Rectangle) (b target : Block) (rest : Places) (dx dy : ℤ) → IsBlockOf c rect b
+    → IsBrought b dx dy target
+    → ((u : ℕ) → is_between rest.from rest.end u ≡
+    (is_between b.columns.from b.columns.end u && not (is_between target.columns.from target.columns.end u)))
+    → (m d : Bool) (i j : ℕ)
+    → (m && (is_between target.rows.from target.rows.end j && (is_between rest.from rest.end i && d))) ≡ true
     → holds_at (λ u v. in_scroll_area rect c.layer u v) (pos i +ℤ dx) (pos j +ℤ dy) ≡ false
 column_beside c rect b target rest dx dy is are has m d i j on =
     let sides = and_all m (is_between target.rows.from target.rows.end j) (is_between rest.from rest.end i) d on in
     let parts = beside_parts _ _ _ (has i) sides.1 in
-    beside_leads c rect b target dx dy is are i j (part_inside b.rows target.rows are.rows.at_side j sides.0) parts.0 (inl parts.1)
+    beside_leads c rect b target dx dy is are i j (part_inside b.rows target.rows are.rows.at_side j sides.0) parts.0
+    (inl parts.1)
 
 -- a cell that was drawn on, once some rows and columns are filled with what they become
-pub filled_as : (v w z : CellView) (done : ℕ → ℕ → ℕ → Bool) (new : ℕ → ℕ → ℕ → ℕ → ℕ) (solid : Raster) (top bottom from end : ℕ)
+pub filled_as : (v w z : CellView) (done : ℕ → ℕ → ℕ → Bool) (new : ℕ → ℕ → ℕ → ℕ → ℕ) (solid : Raster)
+    (top bottom from end : ℕ)
     → w ≡ with_live (λ c. drawn done new c) v
     → z ≡ with_live (λ c. painted solid (λ i j. in_rows c top bottom from end i j) c) w
-    → ((p i j old : ℕ) → (in_mask solid p && in_rows v.live top bottom from end i j) ≡ true → painted_bit solid p i j old ≡ new p i j old)
+    → ((p i j old : ℕ) →
+    (in_mask solid p && in_rows v.live top bottom from end i j) ≡ true → painted_bit solid p i j old ≡ new p i j old)
     → z ≡ with_live (λ c. drawn (λ p i j. in_mask solid p && in_rows v.live top bottom from end i j) new c) w
 filled_as v w z done new solid top bottom from end was filled same =
     let on : CellView → ℕ → ℕ → ℕ → Bool = λ q p i j. in_mask solid p && in_rows q.live top bottom from end i j in
     cell_alike w z (on v) (painted_bit solid) new
     (cell_same w z (on w) (on v) (painted_bit solid) filled
-    (λ p i j _. ap (λ t. in_mask solid p && (is_between top bottom j && (is_between from end i && t))) (draws_stays v w done new i j was)))
+    (λ p i j _. ap (λ t. in_mask solid p && (is_between top bottom j && (is_between from end i && t)))
+    (draws_stays v w done new i j was)))
     (λ p i j old _ _ _ has _. same p i j old has)
 
 -- the tests of a pixel, in another order
@@ -176,15 +202,20 @@ block_turned false has false false is = refl
 -- The pens are scrolled once the drawable pixels of the block have what is brought to them.
 pub pens_drawn : (c : LiveView) (rect : Rectangle) (dx dy : ℤ) (raster : Raster) (b : Block) → IsBitmap c.layer.bits
     → raster ≡ c.layer.raster → IsBlockOf c rect b
-    → drawn (λ p x y. in_mask raster p && in_rows c b.rows.from b.rows.end b.columns.from b.columns.end x y) (brought_bit c rect dx dy) c
+    → drawn (λ p x y. in_mask raster p && in_rows c b.rows.from b.rows.end b.columns.from b.columns.end x y)
+    (brought_bit c rect dx dy) c
     ≡ with_layer (λ l. pens_scrolled (λ i j. shows c i j) rect dx dy l) c
 unfolding brought_bit
 pens_drawn c rect dx dy raster b ok same is =
-    ap (λ r. drawn (λ p x y. in_mask r p && in_rows c b.rows.from b.rows.end b.columns.from b.columns.end x y) (brought_bit c rect dx dy) c) same
-    ∙ shape_drawn c (λ x y. has_pixel rect (pos x) (pos y)) (λ x y. in_rows c b.rows.from b.rows.end b.columns.from b.columns.end x y) (brought_bit c rect dx dy) ok
+    ap (λ r. drawn (λ p x y. in_mask r p && in_rows c b.rows.from b.rows.end b.columns.from b.columns.end x y)
+    (brought_bit c rect dx dy) c) same
+    ∙ shape_drawn c (λ x y. has_pixel rect (pos x) (pos y))
+    (λ x y. in_rows c b.rows.from b.rows.end b.columns.from b.columns.end x y) (brought_bit c rect dx dy) ok
     (λ x y left low.
-    block_turned (draws c x y) (has_pixel rect (pos x) (pos y)) (is_between b.columns.from b.columns.end x) (is_between b.rows.from b.rows.end y)
-    (sym (ap (λ t. t && has_place b.rows (pos y)) (place_between b.columns x) ∙ ap (λ t. is_between b.columns.from b.columns.end x && t) (place_between b.rows y))
+    block_turned (draws c x y) (has_pixel rect (pos x) (pos y)) (is_between b.columns.from b.columns.end x)
+    (is_between b.rows.from b.rows.end y)
+    (sym (ap (λ t. t && has_place b.rows (pos y)) (place_between b.columns x)
+    ∙ ap (λ t. is_between b.columns.from b.columns.end x && t) (place_between b.rows y))
     ∙ (is (pos x) (pos y) ∙ rw (lt-ltb x c.layer.bits.width left, lt-ltb y c.layer.bits.height low) refl)))
 
 -- What a change of the pens leaves of a layer.
@@ -193,7 +224,8 @@ pub pens_inner : (v w : CellView) (rect : Rectangle) (dx dy : ℤ)
     → inner_of (is_super w.live.layer.kind) w.live.layer.bits.width w.live.layer.bits.height
     ≡ inner_of (is_super v.live.layer.kind) v.live.layer.bits.width v.live.layer.bits.height
 unfolding with_pens
-pens_inner v w rect dx dy is = ap (λ (q : CellView). inner_of (is_super q.live.layer.kind) q.live.layer.bits.width q.live.layer.bits.height) is
+pens_inner v w rect dx dy is =
+    ap (λ (q : CellView). inner_of (is_super q.live.layer.kind) q.live.layer.bits.width q.live.layer.bits.height) is
 
 pub pens_updating : (v w : CellView) (rect : Rectangle) (dx dy : ℤ)
     → w ≡ with_live (λ c. with_layer (λ l. pens_scrolled (λ i j. shows c i j) rect dx dy l) c) v
@@ -204,7 +236,8 @@ pens_updating v w rect dx dy is = ap (λ (q : CellView). q.live.layer.updating) 
 pub pens_keep : (v w : CellView) (rect : Rectangle) (dx dy : ℤ)
     → w ≡ with_live (λ c. with_layer (λ l. pens_scrolled (λ i j. shows c i j) rect dx dy l) c) v
     → (table : List (List Bool)) (x y : ℤ)
-    → holds_at (λ i j. keeps w.live i j) x y ≡ holds_at (λ i j. keeps (with_layer (λ l. record l { damage = table }) v.live) i j) x y
+    → holds_at (λ i j. keeps w.live i j) x y
+    ≡ holds_at (λ i j. keeps (with_layer (λ l. record l { damage = table }) v.live) i j) x y
 unfolding with_pens keeps is_kept
 pens_keep v w rect dx dy is table x y = ap (λ (q : CellView). holds_at (λ i j. keeps q.live i j) x y) is
 
@@ -218,7 +251,8 @@ unfolding with_pens
 damage_set v w z rect dx dy d pens set is =
     set
     ∙ (ap (with_live (λ c. with_layer (λ l. record l { damage = damage_table l.bits d.rects }) c)) pens
-    ∙ ap (λ t. with_live (λ c. with_layer (λ l. record (pens_scrolled (λ i j. shows c i j) rect dx dy l) { damage = t }) c) v) (sym is))
+    ∙ ap (λ t. with_live (λ c. with_layer (λ l. record (pens_scrolled (λ i j. shows c i j) rect dx dy l) { damage = t }) c) v)
+    (sym is))
 
 -- or where it stays.
 pub damage_left : (v w : CellView) (rect : Rectangle) (dx dy : ℤ)
@@ -227,4 +261,6 @@ pub damage_left : (v w : CellView) (rect : Rectangle) (dx dy : ℤ)
     → w ≡ with_live (λ c. with_layer (λ l. scroll_raster (λ i j. shows c i j) dx dy rect l) c) v
 unfolding with_pens
 damage_left v w rect dx dy pens is =
-    pens ∙ ap (λ t. with_live (λ c. with_layer (λ l. record (pens_scrolled (λ i j. shows c i j) rect dx dy l) { damage = t }) c) v) (sym is)
+    pens ∙ ap
+    (λ t. with_live (λ c. with_layer (λ l. record (pens_scrolled (λ i j. shows c i j) rect dx dy l) { damage = t }) c) v)
+    (sym is)

@@ -12,11 +12,12 @@ use lw_layer::{Cell, Raster};
 use lw_region::Rect;
 use std::alloc::{AllocError, Global};
 
-/// Moves what lies in a rectangle of the layer by `dx` columns to the left and `dy` rows up, in the planes that the mask has
-/// (`ScrollRaster`). Each drawable pixel of the rectangle takes the pen of the pixel `dx` columns to the right and `dy` rows down,
-/// as it was before the call, if that lies in the rectangle too, and pen B if not. From a pixel that isn't kept it takes pen 0.
-/// With its pen a pixel takes the damage, and from one that isn't kept it takes damage (how damage moves is this project's own). The
-/// steps are from -65535 to 65535. After an error the cell is as before.
+/// Moves what lies in a rectangle of the layer by `dx` columns to the left and `dy` rows up (`ScrollRaster`). Each drawable pixel of
+/// the rectangle takes, in the planes that the mask has, the pen of the pixel `dx` columns to the right and `dy` rows down, and pen
+/// B where that one lies outside the rectangle. From a pixel that isn't kept it takes pen 0. With its pen a pixel takes the damage;
+/// what comes from a pixel that isn't kept is damaged, and what takes pen B keeps its own (how damage moves is this project's own).
+/// All pens and all damage are taken as they were before the call. The steps are from -65535 to 65535. The new damage takes all the
+/// memory, and comes first: after an error the cell is as before.
 pub fn scroll_raster(
     alloc: Global,
     cell: &mut Cell,

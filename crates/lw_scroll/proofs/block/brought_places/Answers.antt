@@ -1,6 +1,5 @@
 use Rattle.std.proofs.Common.{pos, arith}
 use Rattle.std.proofs.lemmas.Int.{ints, clamps}
-use Rattle.lw_scroll.specs.Blocks.{AreBrought}
 use Rattle.lw_scroll.proofs.BlockLaws.{AreEdges, brought_of}
 use Rattle.lw_scroll.proofs.block.brought_places.Goals as goal
 
@@ -16,4 +15,5 @@ returns c =
       short_down = λ down low. omega (arith, ints, clamps);
       long_down = λ down high. omega (arith, ints, clamps);
     } in
-    brought_of c.args.places _ c.args.step c.clamp.result c.clamp-2.result c.requires.ordered (omega (arith, ints, clamps)) (omega (arith, ints, clamps)) are
+    brought_of c.args.places _ c.args.step c.clamp.result c.clamp-2.result c.requires.ordered (omega (arith, ints, clamps))
+    (omega (arith, ints, clamps)) are

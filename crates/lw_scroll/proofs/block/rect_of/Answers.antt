@@ -13,4 +13,5 @@ returns c =
     let bottom = rows.last in
     let wide = c.requires.right in
     let high = c.requires.bottom in
-    rect_made c.new.result c.args.block _ _ _ _ c.new.ensures (omega (arith, ints)) (omega (arith, ints)) (omega (arith, ints)) (omega (arith, ints))
+    rect_made c.new.result c.args.block _ _ _ _ c.new.ensures (omega (arith, ints)) (omega (arith, ints)) (omega (arith, ints))
+    (omega (arith, ints))

@@ -1,8 +1,7 @@
-use Rattle.std.proofs.Common.{Bool, ◌&&◌, List, [], ◌∷◌, ◌∙◌, sym, ap, ℤ}
-use Rattle.lw_region.specs.Rectangle.{Rectangle, has_pixel}
+use Rattle.std.proofs.Common.{Bool, ◌&&◌, ◌∙◌, sym, ap}
+use Rattle.lw_region.specs.Rectangle.{has_pixel}
 use Rattle.lw_region.specs.Bands.{covers}
-use Rattle.lw_region.proofs.SetOps.{combined_lists, covers_one}
-use Rattle.lw_region.proofs.Canonical.{covers_nil}
+use Rattle.lw_region.proofs.SetOps.{combined_lists}
 use Rattle.lw_machine.specs.Kept.{holds_at}
 use Rattle.lw_layer.specs.View.{keeps, draws}
 use Rattle.lw_scroll.specs.Marks.{clip_has, is_damaged}
@@ -20,18 +19,23 @@ returns c = λ x y.
     let alone = alone_pixel c.new-reached.result _ target x y c.new-reached.ensures c.in_ok-or_rect.ensures.list in
     let met = (combined_lists.intersections _ c.args.kept.now _ c.in_ok-and_region.ensures.list).pixels x y in
     let cut =
-    c.in_ok-meet_clip.ensures x y ∙ ap (λ t. t && clip) (met ∙ (ap (λ t. t && covers c.args.kept.now x y) alone ∙ ap (λ t. has_pixel target x y && t) (c.requires.kept x y)))
+    c.in_ok-meet_clip.ensures x y
+    ∙ ap (λ t. t && clip)
+    (met ∙ (ap (λ t. t && covers c.args.kept.now x y) alone ∙ ap (λ t. has_pixel target x y && t) (c.requires.kept x y)))
     in
     elim c.if-updating.branch [
       | then-updating+in_ok-and_region-2 w ↦
           ap (λ l. covers l x y) w.reached-is
-          ∙ drawn_updating _ _ (has_pixel target x y) kept clip v.layer.updating (is_damaged v x y) (holds_at (λ i j. draws v i j) x y)
+          ∙ drawn_updating _ _ (has_pixel target x y) kept clip v.layer.updating (is_damaged v x y)
+          (holds_at (λ i j. draws v i j) x y)
           (sym c.requires.former.updating ∙ (sym c.updating.ensures ∙ w.if-updating.true)) cut
           ((combined_lists.intersections _ _ _ w.in_ok-and_region-2.ensures.list).pixels x y
-          ∙ ap (λ t. covers c.meet_clip.new.into x y && t) (ap (λ l. covers l x y) w.region.ensures.value ∙ former_marks v former c.requires.former x y))
+          ∙ ap (λ t. covers c.meet_clip.new.into x y && t)
+          (ap (λ l. covers l x y) w.region.ensures.value ∙ former_marks v former c.requires.former x y))
           (drawable_is v x y)
       | else-updating w ↦
           ap (λ l. covers l x y) w.reached-is
-          ∙ drawn_idle _ (has_pixel target x y) kept clip v.layer.updating (is_damaged v x y) (holds_at (λ i j. draws v i j) x y)
+          ∙ drawn_idle _ (has_pixel target x y) kept clip v.layer.updating (is_damaged v x y)
+          (holds_at (λ i j. draws v i j) x y)
           (sym c.requires.former.updating ∙ (sym c.updating.ensures ∙ w.if-updating.false)) cut (drawable_is v x y)
     ]

@@ -13,6 +13,7 @@ returns c = λ x y.
     let taken = (combined_lists.intersections reached hurt _ c.in_ok-and_region.ensures.list).pixels x y in
     let both = (combined_lists.unions _ _ _ c.in_ok-or_region.ensures.list).pixels x y in
     both
-    ∙ (ap (λ w. w || covers c.and_region.new.into x y) (left ∙ ap (λ l. covers l x y && not (covers reached x y)) c.in_ok-due.ensures)
+    ∙ (ap (λ w. w || covers c.and_region.new.into x y)
+    (left ∙ ap (λ l. covers l x y && not (covers reached x y)) c.in_ok-due.ensures)
     ∙ (ap (λ w. (covers former x y && not (covers reached x y)) || w) taken
     ∙ due_pixel (covers former x y) (covers reached x y) (covers hurt x y)))

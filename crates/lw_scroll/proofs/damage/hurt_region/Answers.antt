@@ -1,4 +1,4 @@
-use Rattle.std.proofs.Common.{◌≡◌, not, ◌&&◌, true, ℤ, pos, ◌+ℤ◌, ◌-ℤ◌, ◌∙◌, sym, ap, subst, arith, to_z, of_z, w32, List}
+use Rattle.std.proofs.Common.{◌≡◌, not, ◌&&◌, ℤ, pos, ◌+ℤ◌, ◌-ℤ◌, ◌∙◌, sym, ap, subst, arith, to_z, of_z, w32, List}
 use Rattle.std.proofs.lemmas.Int.{ints}
 use Rattle.std.proofs.lemmas.Bool.{and_parts}
 use Rattle.std.proofs.lemmas.Result.{IfOk-weaker}
@@ -17,8 +17,10 @@ word_of_sum z by back is word = let P : ℤ → Type 0 = λ w. IsWord w in subst
 
 -- the pixels of the source that are damaged or not kept
 hurt_is : (a b k f made : List Rectangle) (r : Rectangle) (x y : ℤ) → covers a x y ≡ (covers k x y && not (covers f x y))
-    → covers b x y ≡ has_pixel r x y → covers made x y ≡ (covers b x y && not (covers a x y)) → covers made x y ≡ (has_pixel r x y && not (covers k x y && not (covers f x y)))
-hurt_is a b k f made r x y first second third = third ∙ (ap (λ t. t && not (covers a x y)) second ∙ ap (λ t. has_pixel r x y && not t) first)
+    → covers b x y ≡ has_pixel r x y → covers made x y ≡ (covers b x y && not (covers a x y))
+    → covers made x y ≡ (has_pixel r x y && not (covers k x y && not (covers f x y)))
+hurt_is a b k f made r x y first second third =
+    third ∙ (ap (λ t. t && not (covers a x y)) second ∙ ap (λ t. has_pixel r x y && not t) first)
 
 pub moved_region-requires-clause-words : goal.moved_region-requires-clause-words
 moved_region-requires-clause-words c = λ x y has.

@@ -1,4 +1,4 @@
-use Rattle.std.proofs.Common.{List, length, ◌==◌, true, ◌≡◌, ◌∙◌, sym, refl, ap}
+use Rattle.std.proofs.Common.{List, ◌≡◌, ◌∙◌, sym, refl, ap}
 use Rattle.lw_region.specs.Rectangle.{Rectangle}
 use Rattle.lw_region.specs.Bands.{covers}
 use Rattle.lw_calls.specs.Kinds.{is_super}
@@ -12,7 +12,8 @@ returns-in-Smart-clause-whole c = λ empty.
     let kind : v.layer.kind ≡ Smart = sym c.look_of.ensures.look.kind ∙ c.in-Smart.is in
     let same : c.rects.result.now ≡ c.args.former.now.rects = c.rects.ensures.value ∙ c.region-damaged.ensures.value in
     whole_of v c.args.former.now c.requires.former (λ x y left low. all_kept v Smart kind (λ _. refl) x y left low)
-    (λ x y. ap (λ (l : List Rectangle). covers l x y) (sym same) ∙ empty_nowhere c.rects.result.now x y (sym c.is_empty.ensures ∙ empty))
+    (λ x y. ap (λ (l : List Rectangle). covers l x y) (sym same)
+    ∙ empty_nowhere c.rects.result.now x y (sym c.is_empty.ensures ∙ empty))
 
 pub returns-in-SuperBitmap-clause-whole : goal.returns-in-SuperBitmap-clause-whole
 returns-in-SuperBitmap-clause-whole c = λ _.

@@ -8,6 +8,10 @@ pub returns : goal.returns
 returns c =
     let v = c.args.cell.now.live in
     let look = c.look_of-look.result in
-    IfOk-weaker c.kept_region.result (λ made. keeping.AreKept look.kind look.bounds c.visible.result.now made) (λ made. AreKept v made)
-    (λ made are. kept_sound v look.kind look.bounds c.visible.result.now made c.look_of-look.ensures.look.kind c.look_of-look.ensures.look.bounds c.visible.ensures.value c.look_of-look.ensures.sound c.requires.other are)
+    let sees = c.look_of-look.ensures in
+    IfOk-weaker c.kept_region.result (λ made. keeping.AreKept look.kind look.bounds c.visible.result.now made)
+    (λ made. AreKept v made)
+    (λ made are.
+    kept_sound v look.kind look.bounds c.visible.result.now made sees.look.kind sees.look.bounds c.visible.ensures.value sees.sound
+    c.requires.other are)
     c.kept_region.ensures.kept

@@ -1,4 +1,4 @@
-use Rattle.std.proofs.Common.{◌≡◌, ℕ, ◌==◌, Bool, ◌&&◌, ◌||◌, pos, ◌+ℤ◌, ◌∙◌, refl, ap, to_z, of_z, w32, ℤ, subst}
+use Rattle.std.proofs.Common.{◌≡◌, ℕ, Bool, ◌&&◌, ◌||◌, pos, ◌+ℤ◌, ◌∙◌, refl, ap, w32, ℤ}
 use Rattle.std.specs.Int.{bit_at}
 use Rattle.std.proofs.lemmas.Int.{to_z-of_z}
 use Rattle.lw_kernels.specs.Kernel.{is_between}
@@ -7,7 +7,7 @@ use Rattle.lw_layer.specs.View.{LiveView, CellView, draws, with_live}
 use Rattle.lw_layer.specs.Drafts.{raster_of}
 use Rattle.lw_layer.specs.Copied.{kept_bit}
 use Rattle.lw_draw.specs.declared.spans.Places.{Places}
-use Rattle.lw_draw.specs.Drawn.{drawn, in_mask, in_rows, painted_bit}
+use Rattle.lw_draw.specs.Drawn.{drawn, in_mask, in_rows}
 use Rattle.lw_draw.proofs.PaintLaws.{cell_alike, cell_more}
 use Rattle.lw_scroll.specs.Blocks.{IsBrought}
 use Rattle.lw_scroll.specs.Scrolled.{brought_bit}
@@ -21,7 +21,8 @@ masked raster c rows columns p i j = in_mask raster p && in_rows c rows.from row
 -- the bits that a shift by some numbers brings
 abbrev IsShift : CellView → CellView → Places → Places → Raster → ℤ → ℤ → Type 0
 IsShift v w rows columns raster dx dy =
-    w ≡ with_live (λ c. drawn (λ p i j. masked raster c rows columns p i j) (λ p i j old. kept_bit c p (pos i +ℤ dx) (pos j +ℤ dy)) c) v
+    w ≡ with_live
+    (λ c. drawn (λ p i j. masked raster c rows columns p i j) (λ p i j old. kept_bit c p (pos i +ℤ dx) (pos j +ℤ dy)) c) v
 
 pub returns : goal.returns
 returns c =
@@ -38,8 +39,12 @@ returns c =
     let solid : Raster = record raster { pen_a = raster.pen_b; mode = 0 } in
     let new = brought_bit u rect dx dy in
     let has = c.block_of-block.ensures.has in
-    let are : IsBrought block dx dy target = rw (to_z-of_z w32 dx c.ranges.dx, to_z-of_z w32 dy c.ranges.dy) at c.brought_block-target.ensures in
-    let pen_b : (p i j old : ℕ) → bit_at raster.pen_b p ≡ bit_at u.layer.raster.pen_b p = λ p i j old. ap (λ (r : Raster). bit_at r.pen_b p) c.raster-raster.ensures.value in
+    let are : IsBrought block dx dy target =
+    rw (to_z-of_z w32 dx c.ranges.dx, to_z-of_z w32 dy c.ranges.dy) at c.brought_block-target.ensures
+    in
+    let pen_b : (p i j old : ℕ) → bit_at raster.pen_b p ≡ bit_at u.layer.raster.pen_b p =
+    λ p i j old. ap (λ (r : Raster). bit_at r.pen_b p) c.raster-raster.ensures.value
+    in
     let shift_on = masked raster u target.rows target.columns in
     let rows_on = masked raster u rows block.columns in
     let columns_on = masked raster u target.rows columns in
@@ -49,27 +54,42 @@ returns c =
     in
     let first : c.shift_rows.new.cell ≡ with_live (λ q. drawn shift_on new q) v =
     cell_alike v c.shift_rows.new.cell shift_on (λ p i j old. kept_bit u p (pos i +ℤ dx) (pos j +ℤ dy)) new shifted
-    (λ p i j old _ _ _ on _. bit_inside u rect dx dy p i j old (target_leads u rect block target dx dy has are (in_mask raster p) (draws u i j) i j on))
+    (λ p i j old _ _ _ on _. bit_inside u rect dx dy p i j old
+    (target_leads u rect block target dx dy has are (in_mask raster p) (draws u i j) i j on))
     in
     let second =
-    filled_as v c.shift_rows.new.cell c.fill_rows.new.cell shift_on new solid rows.from rows.end block.columns.from block.columns.end first c.fill_rows.ensures
-    (λ p i j old on. pen_b p i j old ∙ bit_outside u rect dx dy p i j old (row_beside u rect block target rows dx dy has are c.beside-rows.ensures.has (in_mask raster p) (draws u i j) i j on))
+    filled_as v c.shift_rows.new.cell c.fill_rows.new.cell shift_on new solid rows.from rows.end block.columns.from
+    block.columns.end first c.fill_rows.ensures
+    (λ p i j old on. pen_b p i j old
+    ∙ bit_outside u rect dx dy p i j old
+    (row_beside u rect block target rows dx dy has are c.beside-rows.ensures.has (in_mask raster p) (draws u i j) i j on))
     in
     let so_far : c.fill_rows.new.cell ≡ with_live (λ q. drawn both new q) v =
     cell_more v c.shift_rows.new.cell c.fill_rows.new.cell shift_on rows_on both new (brought_bits u rect dx dy)
     (record {
-      apart = λ p i j _ _ _. part_apart (in_mask raster p) (draws u i j) (is_between block.rows.from block.rows.end j) (is_between block.columns.from block.columns.end i) _ _ _ (c.beside-rows.ensures.has j);
+      apart = λ p i j _ _ _. part_apart (in_mask raster p) (draws u i j) (is_between block.rows.from block.rows.end j)
+          (is_between block.columns.from block.columns.end i) _ _ _ (c.beside-rows.ensures.has j);
       whole = λ p i j _ _ _. refl;
     }) first second
     in
     let third =
-    filled_as v c.fill_rows.new.cell c.fill_rows-2.new.cell both new solid target.rows.from target.rows.end columns.from columns.end so_far c.fill_rows-2.ensures
-    (λ p i j old on. pen_b p i j old ∙ bit_outside u rect dx dy p i j old (column_beside u rect block target columns dx dy has are c.beside-columns.ensures.has (in_mask raster p) (draws u i j) i j on))
+    filled_as v c.fill_rows.new.cell c.fill_rows-2.new.cell both new solid target.rows.from target.rows.end columns.from
+    columns.end so_far c.fill_rows-2.ensures
+    (λ p i j old on. pen_b p i j old
+    ∙ bit_outside u rect dx dy p i j old
+    (column_beside u rect block target columns dx dy has are c.beside-columns.ensures.has (in_mask raster p)
+    (draws u i j) i j on))
     in
-    cell_more v c.fill_rows.new.cell c.fill_rows-2.new.cell both columns_on (masked raster u block.rows block.columns) new (brought_bits u rect dx dy)
+    cell_more v c.fill_rows.new.cell c.fill_rows-2.new.cell both columns_on (masked raster u block.rows block.columns) new
+    (brought_bits u rect dx dy)
     (record {
-      apart = λ p i j _ _ _. last_apart (in_mask raster p) (draws u i j) (is_between block.rows.from block.rows.end j) (is_between block.columns.from block.columns.end i) _ _ _ _ (c.beside-rows.ensures.has j) (c.beside-columns.ensures.has i);
-      whole = λ p i j _ _ _. last_whole (in_mask raster p) (draws u i j) _ _ _ _ _ _ (c.beside-rows.ensures.has j) (c.beside-columns.ensures.has i)
-          (part_inside block.rows target.rows are.rows.at_side j) (part_inside block.columns target.columns are.columns.at_side i);
+      apart = λ p i j _ _ _. last_apart (in_mask raster p) (draws u i j) (is_between block.rows.from block.rows.end j)
+          (is_between block.columns.from block.columns.end i) _ _ _ _ (c.beside-rows.ensures.has j)
+          (c.beside-columns.ensures.has i);
+      whole = λ p i j _ _ _. last_whole (in_mask raster p) (draws u i j) _ _ _ _ _ _ (c.beside-rows.ensures.has j)
+          (c.beside-columns.ensures.has i)
+          (part_inside block.rows target.rows are.rows.at_side j)
+          (part_inside block.columns target.columns are.columns.at_side i);
     }) so_far third
-    ∙ ap (λ (q : LiveView). record v { live = q }) (pens_drawn u rect dx dy raster block c.block_of-block.ensures.bits.bitmap c.raster-raster.ensures.value has)
+    ∙ ap (λ (q : LiveView). record v { live = q })
+    (pens_drawn u rect dx dy raster block c.block_of-block.ensures.bits.bitmap c.raster-raster.ensures.value has)
