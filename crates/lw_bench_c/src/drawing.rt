@@ -1,7 +1,7 @@
 ghost use Rattle.std.specs.Prelude.{◌≡◌, ◌≤◌, ◌<◌};
 ghost use Rattle.lw_calls.specs.Limits.{IsWithinLimits};
 
-use crate::blits::{put_of, blit_of, scroll_of};
+use crate::blits::{blit_of, put_of, scroll_of};
 use lw_calls::{Assets, Call, Final, Kind, Make, Place, Replies, Sizes, Text, built};
 use lw_engine::Desk;
 use lw_planes::Planes;
@@ -199,7 +199,9 @@ pub(crate) fn repeated(
 {
     let sizes = sizes_of(planes);
     let mut bitmaps = Vec::new(alloc);
-    bitmaps.push(Planes::new(alloc, 640, 512, planes).ok()?).ok()?;
+    bitmaps
+        .push(Planes::new(alloc, 640, 512, planes).ok()?)
+        .ok()?;
     let assets = Assets {
         glyphs: [[0x5a; 8]; 95],
         bitmaps,

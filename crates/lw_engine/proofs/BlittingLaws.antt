@@ -200,9 +200,10 @@ blit_between source to new a r apart class opened is leaves says =
     source_told d s source.live (is_visible d t l) a l live ∙
     ap (λ (v : ℕ → ℕ → Bool). clip_blit (λ i j. shows source.live i j) source.live.layer v a l) (shown_same d t to.live target) in
     let P : CellView → Type 0 = IsSlotStep d task t call r in
-    let Q : Desk → Type 0 = λ e. StandsFor source (slot_part e s) in
-    (subst Q (sym (ap (λ o. changed_unless o d (effect d task call)) passes)) (source_stays d s t f source apart from),
-    subst P (sym leaves) (changed_step d task call r to f g target is passes says refl same))
+    let Q : Desk → Type 0 = λ e. StandsFor source (slot_part e s) in (
+      subst Q (sym (ap (λ o. changed_unless o d (effect d task call)) passes)) (source_stays d s t f source apart from),
+      subst P (sym leaves) (changed_step d task call r to f g target is passes says refl same),
+    )
 
 pub between_step : (source to new : CellView) (call : Call) (m n : ℕ) (a : Area) (r : Reply) → class_of call ≡ OnLayers source.number to.number → call ≡ Blit m n a → source.state ≡ view.Live → to.state ≡ view.Live → new ≡ with_live (λ k. with_layer (λ l. clip_blit (λ i j. shows source.live i j) source.live.layer (λ i j. shows k i j) a l) k) to → r ≡ Done → IsPairStep source to call r new
 between_step source to new call m n a r class call_is opened is leaves says =

@@ -52,10 +52,15 @@ pub fn on_layer(
         Call::Letters { ref text, .. } => Ok(letters(cell, assets, text)),
         Call::SetRast { pen, .. } => Ok(set_rast(cell, pen)),
         Call::ScrollRaster {
-            dx, dy, ref rect, ..
+            dx,
+            dy,
+            ref rect,
+            ..
         } => scroll_raster(alloc, cell, dx, dy, rect),
         Call::Put {
-            bitmap, ref area, ..
+            bitmap,
+            ref area,
+            ..
         } => Ok(put(cell, assets, bitmap, area)),
         Call::Blit { ref area, .. } => Ok(blit(cell, area)),
         Call::Clip { reg, .. } => clip(alloc, cell, regs, reg),
