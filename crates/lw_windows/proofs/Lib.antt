@@ -1,0 +1,2 @@
+mod FramePixels
+mod InnerPixels
