@@ -1,4 +1,4 @@
-ghost use Rattle.std.specs.Prelude.{◌≡◌, ◌≤◌, ◌<◌};
+ghost use Rattle.std.specs.Prelude.{◌≡◌, ◌≤◌, ◌<◌, IfSome};
 ghost use Rattle.lw_calls.specs.Limits.{IsWithinLimits};
 
 use crate::blits::{blit_of, put_of, scroll_of};
@@ -187,6 +187,33 @@ fn shown(alloc: Global, desk: &Desk) -> Option<Final>
     desk.finish(alloc, replies).ok()
 }
 
+// The glyphs, of which each is the same, and a bitmap of the screen's size.
+fn assets_of(alloc: Global, planes: u32) -> Option<Assets>
+    requires some { 1 ≤ planes }
+    requires few { planes ≤ 8 }
+{
+    let mut bitmaps = Vec::new(alloc);
+    bitmaps
+        .push(Planes::new(alloc, 640, 512, planes).ok()?)
+        .ok()?;
+    Some(Assets {
+        glyphs: [[0x5a; 8]; 95],
+        bitmaps,
+    })
+}
+
+// A desk with two layers that cover the screen.
+fn desk_of(alloc: Global, assets: &Assets, sizes: &Sizes) -> Option<Desk>
+    requires limits { IsWithinLimits sizes.now }
+    requires task { sizes.now.tasks ≡ 1 }
+    ensures { IfSome result (λ desk. desk.stack.sizes ≡ sizes.now) }
+{
+    let mut desk = Desk::new(alloc, *sizes).ok()?;
+    let both = [creation(1), creation(0)];
+    make_each(alloc, &mut desk, assets, sizes, &both)?;
+    Some(desk)
+}
+
 pub(crate) fn repeated(
     alloc: Global,
     shape: u32,
@@ -198,17 +225,8 @@ pub(crate) fn repeated(
     requires few { planes ≤ 8 }
 {
     let sizes = sizes_of(planes);
-    let mut bitmaps = Vec::new(alloc);
-    bitmaps
-        .push(Planes::new(alloc, 640, 512, planes).ok()?)
-        .ok()?;
-    let assets = Assets {
-        glyphs: [[0x5a; 8]; 95],
-        bitmaps,
-    };
-    let mut desk = Desk::new(alloc, sizes).ok()?;
-    make(alloc, &mut desk, &assets, &sizes, &creation(1))?;
-    make(alloc, &mut desk, &assets, &sizes, &creation(0))?;
+    let assets = assets_of(alloc, planes)?;
+    let mut desk = desk_of(alloc, &assets, &sizes)?;
     let calls = calls_of(alloc, shape, side)?;
     make_often(
         alloc,
