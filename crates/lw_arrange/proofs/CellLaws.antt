@@ -12,14 +12,15 @@ use Rattle.lw_calls.proofs.BlitClass.{blit_not_all}
 use Rattle.lw_machine.specs.Layer.{Unopened, Live, Closed, is_live, is_unopened}
 use Rattle.lw_machine.specs.Desk.{Desk, is_the}
 use Rattle.lw_machine.specs.Shapes.{box_at}
-use Rattle.lw_machine.specs.Arrangement.{bounds_of, new_layer, sized_by, active_without, change_bounds, arranged}
+use Rattle.lw_machine.specs.Arrangement.{bounds_of, hook_from, new_layer, sized_by, active_without, change_bounds, arranged}
 use Rattle.lw_machine.specs.Reveal.{has_bounds}
 use Rattle.lw_machine.specs.Step.{refusal}
 use Rattle.lw_machine.proofs.ArrangementSound.{unopened}
 use Rattle.lw_machine.proofs.LayerCallSound.{not_refused}
 use Rattle.lw_arrange.specs.Prepared.{IsPlainCall, asked_for}
 
--- What an arrangement does to one slot before the layers are settled: it leaves its layer, or opens it, or closes it.
+-- What an arrangement does to one slot before the layers are settled: it leaves its layer, or opens it, with the hook from the
+-- shelf that is asked for, or closes it.
 pub record Stays (d a : Desk) (s : ℕ) : Type 0 where
   pub slot : a.slot s ≡ d.slot s
   pub bounds : has_bounds (a.bounds s) ≡ has_bounds (d.bounds s)
@@ -28,7 +29,7 @@ pub record Opens (d a : Desk) (call : Call) (s : ℕ) : Type 0 where
   pub make : Make
   pub asked : asked_for call ≡ Some make
   pub free : d.slot s ≡ Unopened
-  pub slot : a.slot s ≡ Live (new_layer d.sizes.depth make None None)
+  pub slot : a.slot s ≡ Live (new_layer d.sizes.depth make (hook_from d.shelf make.hook) None)
   pub bounds : a.bounds s ≡ Some (bounds_of make)
 
 pub record Closes (d a : Desk) (s : ℕ) : Type 0 where
@@ -53,20 +54,20 @@ either_way : (d : Desk) (same : Bool) (order : List ℕ) (s : ℕ) → Stays d (
 either_way d true order s = record { slot = refl; bounds = refl }
 either_way d false order s = record { slot = refl; bounds = refl }
 
-opens : (d : Desk) (task slot s : ℕ) (make : Make) → make.hook ≡ None → refusal d task (Create slot make) ≡ None → Becomes d (arranged d task (Create slot make)) (Create slot make) s
-opens d task slot s make bare done = go (s == slot) refl
+opens : (d : Desk) (task slot s : ℕ) (make : Make) → refusal d task (Create slot make) ≡ None
+    → Becomes d (arranged d task (Create slot make)) (Create slot make) s
+opens d task slot s make done = go (s == slot) refl
   where
     free : d.slot slot ≡ Unopened
     free = unopened (d.slot slot) (not_refused (is_unopened (d.slot slot)) _ _ done).0
 
     go : (b : Bool) → (s == slot) ≡ b → Becomes d (arranged d task (Create slot make)) (Create slot make) s
     go true e =
-        let new : new_layer d.sizes.depth make (option_and_then d.shelf make.hook) None ≡ new_layer d.sizes.depth make None None = ap (λ h. new_layer d.sizes.depth make (option_and_then d.shelf h) None) bare in
         inr (inl (record {
           make = make;
           asked = refl;
           free = ap d.slot (eqb-true s slot e) ∙ free;
-          slot = rw e (ap Live new);
+          slot = rw e refl;
           bounds = rw e refl;
         }))
     go false e = inl (record { slot = rw e refl; bounds = rw e refl })
@@ -83,7 +84,7 @@ closes d task slot s done = go (s == slot) refl
 
 -- each slot stays, is opened or is closed
 pub slot_becomes : (d : Desk) (task : ℕ) (call : Call) (s : ℕ) → class_of call ≡ OnAll → IsPlainCall call → refusal d task call ≡ None → Becomes d (arranged d task call) call s
-slot_becomes d task (Create slot make) s all plain done = opens d task slot s make plain done
+slot_becomes d task (Create slot make) s all plain done = opens d task slot s make done
 slot_becomes d task (OpenWindow slot make framed nocare asks title) s all plain done = absurd plain
 slot_becomes d task (Close slot) s all plain done = closes d task slot s done
 slot_becomes d task (ToFront slot) s all plain done = inl (record { slot = refl; bounds = refl })

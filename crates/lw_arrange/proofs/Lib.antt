@@ -10,3 +10,6 @@ pub mod OpenedLaws
 pub mod StandLaws
 pub mod MayLaws
 pub mod SameLaws
+pub mod FilledLaws
+pub mod GainsLaws
+pub mod GainedRegions

@@ -14,15 +14,16 @@ use Rattle.lw_calls.specs.declared.call.Call.TheVariants.{Create}
 use Rattle.lw_calls.specs.declared.sizes.Sizes.{Sizes}
 use Rattle.lw_calls.specs.Kinds.{is_super}
 use Rattle.lw_calls.specs.Limits.{IsWithinLimits, call_fits, make_fits, hook_fits, kind_fits}
+use Rattle.lw_machine.specs.Hook.{Hook}
 use Rattle.lw_machine.specs.Layer.{Layer, Slot, Live, is_framed}
 use Rattle.lw_machine.specs.Desk.{Desk, is_the}
 use Rattle.lw_machine.specs.Screen.{bounds_have}
-use Rattle.lw_machine.specs.Arrangement.{bounds_of, blank, new_layer, is_on_screen, is_at_least, portion_fits, may_have_bounds, layer_may_have_bounds, columns_of, rows_of, arranged}
+use Rattle.lw_machine.specs.Arrangement.{bounds_of, hook_from, blank, new_layer, is_on_screen, is_at_least, portion_fits, may_have_bounds, layer_may_have_bounds, columns_of, rows_of, arranged}
 use Rattle.lw_machine.specs.Reveal.{Across, has_bounds, across, revealed, resized, with_revealed, settled_layer, settled}
 use Rattle.lw_machine.specs.Parts.{slot_part}
 use Rattle.lw_machine.specs.Sound.{IsDesk, IsSlot, IsPlaced}
 use Rattle.lw_cliprects.specs.Parts.{LieIn}
-use Rattle.lw_layer.specs.View.{State, LiveView, CellView}
+use Rattle.lw_layer.specs.View.{State, LiveView, CellView, hooked}
 use Rattle.lw_layer.specs.View as view
 use Rattle.lw_layer.specs.Pieces.{columns, lines}
 use Rattle.lw_layer.specs.StandsFor.{IsPartOf, StandsFor, IsSound}
@@ -128,13 +129,17 @@ placed_may e s m r ok slot bounds =
     (subst Q bounds here).may
 
 -- a layer that stays live may have its new bounds
-stays_may : (d : Desk) (caller : ℕ) (made : Call) (a : Planned) (c : CellView) → IsDone d caller made a → c.state ≡ view.Live → StandsFor c (slot_part d c.number) → IsSound c.live → (r : Rectangle) → bounds_at a.stack.bounds c.number ≡ Some r → Stays d (arranged d caller made) c.number → MayHave c.live r (shown_at a c.number)
-stays_may d caller made a c done live stands sound r planned stays =
+stays_may : (d : Desk) (caller : ℕ) (made : Call) (a : Planned) (c : CellView) (h : Option Hook) → IsDone d caller made a
+    → c.state ≡ view.Live → StandsFor (hooked h c) (slot_part d c.number) → IsSound c.live → (r : Rectangle)
+    → bounds_at a.stack.bounds c.number ≡ Some r → Stays d (arranged d caller made) c.number
+    → MayHave c.live r (shown_at a c.number)
+stays_may d caller made a c h done live stands sound r planned stays =
     let s = c.number in
     let e = arranged d caller made in
-    let l = c.live.layer in
+    let l : Layer = record c.live.layer { hook = h } in
     let bounds : e.bounds s ≡ Some r = done.plan.info.bounds s ∙ planned in
-    let slot = slot_settled d e s (Live l) done.settled (stays.slot ∙ (live_part c (slot_part d s) live stands).slot) in
+    let slot = slot_settled d e s (Live l) done.settled
+    (stays.slot ∙ (live_part (hooked h c) (slot_part d s) live stands).slot) in
     let plain = slot ∙ ap Live (settled_plain d.assets.glyphs (across d e s) l sound.window) in
     let m : Layer = revealed (across d e s) l in
     let frame = revealed_frame (across d e s) l in
@@ -182,7 +187,7 @@ opens_may : (d : Desk) (caller : ℕ) (made : Call) (a : Planned) (s : ℕ) → 
 opens_may d caller made a s done opens =
     let e = arranged d caller made in
     let make = opens.make in
-    let new : Layer = new_layer d.sizes.depth make None None in
+    let new : Layer = new_layer d.sizes.depth make (hook_from d.shelf make.hook) None in
     let slot = slot_settled d e s (Live new) done.settled opens.slot in
     let m : Layer = settled_layer d.assets.glyphs (across d e s) new in
     let plain : m ≡ revealed (across d e s) new = settled_plain d.assets.glyphs (across d e s) new refl in
@@ -199,9 +204,10 @@ opens_may d caller made a s done opens =
       lower = λ super. let h = fit.lower (ap is_super frame.kind ∙ super) in let b = frame.own super in let w = (own_blank_size make.kind d.sizes.depth make super).1 in omega (arith, h, ap (λ v. v.height) b, w);
     }
 
--- A cell of the desk may be prepared.
-pub may_prepare : (d : Desk) (caller : ℕ) (made : Call) (a : Planned) (c : CellView) → IsDone d caller made a → StandsFor c (slot_part d c.number) → (c.state ≡ view.Live → IsSound c.live) → MayPrepare a c
-may_prepare d caller made a c done stands sound =
+-- A cell of the desk may be prepared, whatever hook its layer has.
+pub may_prepare : (d : Desk) (caller : ℕ) (made : Call) (a : Planned) (c : CellView) (h : Option Hook) → IsDone d caller made a
+    → StandsFor (hooked h c) (slot_part d c.number) → (c.state ≡ view.Live → IsSound c.live) → MayPrepare a c
+may_prepare d caller made a c h done stands sound =
     let s = c.number in
     let e = arranged d caller made in
     let planned : e.bounds s ≡ bounds_at a.stack.bounds s = done.plan.info.bounds s in
@@ -214,7 +220,7 @@ may_prepare d caller made a c done stands sound =
     opened : Opens d (arranged d caller made) made c.number → MayPrepare a c
     opened opens =
         let make = opens.make in
-        let was = not_opened c (slot_part d c.number) stands opens.free in
+        let was = not_opened (hooked h c) (slot_part d c.number) stands opens.free in
         let size = opens_may d caller made a c.number done opens in
         let R : State → Type 0 = λ q. MayBecome (Some make) d.sizes.depth (bounds_of make) (shown_at a c.number) c q in
         let first : MayBe (Some make) d.sizes.depth (shown_at a c.number) c (Some (bounds_of make)) = subst R (sym was.0) size in
@@ -229,8 +235,8 @@ may_prepare d caller made a c done stands sound =
         let P : Option Rectangle → Type 0 = λ o. MayBe (asked_for a.call) a.stack.sizes.depth (shown_at a c.number) c o in
         subst P (sym (gone (e.bounds c.number) (stays.bounds ∙ ap has_bounds none)) ∙ done.plan.info.bounds c.number) tt
 
-    part : (q : State) → c.state ≡ q → IsPartOf q c.live (slot_part d c.number)
-    part q is = let P : State → Type 0 = λ t. IsPartOf t c.live (slot_part d c.number) in subst P is stands
+    part : (q : State) → c.state ≡ q → IsPartOf q (hooked h c).live (slot_part d c.number)
+    part q is = let P : State → Type 0 = λ t. IsPartOf t (hooked h c).live (slot_part d c.number) in subst P is stands
 
     by_state : (q : State) → c.state ≡ q → Stays d (arranged d caller made) c.number → (o : Option Rectangle) → bounds_at a.stack.bounds c.number ≡ o → MayPrepare a c
     by_state view.Unopened is stays o at = dead (part view.Unopened is).1 stays
@@ -241,4 +247,4 @@ may_prepare d caller made a c done stands sound =
     by_state view.Live is stays (Some r) at =
         let P : Option Rectangle → Type 0 = λ q. MayBe (asked_for a.call) a.stack.sizes.depth (shown_at a c.number) c q in
         let R : State → Type 0 = λ q. MayBecome (asked_for a.call) a.stack.sizes.depth r (shown_at a c.number) c q in
-        subst P (sym at) (subst R (sym is) (stays_may d caller made a c done is stands (sound is) r at stays))
+        subst P (sym at) (subst R (sym is) (stays_may d caller made a c h done is stands (sound is) r at stays))

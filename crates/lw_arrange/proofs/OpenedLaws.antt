@@ -16,11 +16,11 @@ use Rattle.lw_machine.specs.Reveal.{Across, has_bounds, width_in, height_in, was
 use Rattle.lw_machine.proofs.Settling.{revealed_plain, revealed_super}
 
 -- an extent of n places has n
-extent : (x n : ℤ) → ((((x +ℤ n) -ℤ pos 1) +ℤ pos 1) -ℤ x) ≡ n
+pub extent : (x n : ℤ) → ((((x +ℤ n) -ℤ pos 1) +ℤ pos 1) -ℤ x) ≡ n
 extent x n = omega (arith, ints)
 
 -- of a layer that wasn't live no pixel counts as kept before
-uncounted : (k : Across) (l : Layer) (x y : ℕ) → was_live k ≡ false → counts_as_kept k l x y ≡ false
+pub uncounted : (k : Across) (l : Layer) (x y : ℕ) → was_live k ≡ false → counts_as_kept k l x y ≡ false
 unfolding counts_as_kept
 uncounted k l x y dead = rw dead refl
 

@@ -26,11 +26,15 @@ edges_decide r s = (
       (and_from _ _ (eq_true r.max_x s.max_x (ap (λ q. q.max_x) is)) (eq_true r.max_y s.max_y (ap (λ q. q.max_y) is)))),
 )
 
+-- lists of rectangles that a comparison finds equal are
+pub same_list : (shown listed : List Rectangle) (u : Bool) → u ≡ pointwise same_edges shown listed → u ≡ true → shown ≡ listed
+same_list shown listed u u_is u_true = (slice_eq-Decides edges_decide shown listed u u_is).0 u_true
+
 -- A layer whose bounds and visible rectangles are the new ones is revealed as it is.
 pub stays_same : (c : CellView) (d : Damaged) (former bounds : Rectangle) (shown listed visible : List Rectangle) (t u : Bool) → IsSound c.live → IsDamageOf c.live d → former ≡ c.live.bounds → shown ≡ c.live.visible
     → t ≡ same_edges former bounds → t ≡ true → listed ≡ visible → u ≡ pointwise same_edges shown listed → u ≡ true → with_live (λ q. revealed_to bounds visible q) c ≡ c
 stays_same c d former bounds shown listed visible t u sound damage former_is shown_is t_is t_true listed_is u_is u_true =
     let place : c.live.bounds ≡ bounds = sym former_is ∙ edges_same former bounds (sym t_is ∙ t_true) in
-    let list : c.live.visible ≡ visible = sym shown_is ∙ ((slice_eq-Decides edges_decide shown listed u u_is).0 u_true ∙ listed_is) in
+    let list : c.live.visible ≡ visible = sym shown_is ∙ (same_list shown listed u u_is u_true ∙ listed_is) in
     ap (λ b. with_live (λ q. revealed_to b visible q) c) (sym place) ∙
     (ap (λ v. with_live (λ q. revealed_to c.live.bounds v q) c) (sym list) ∙ ap (λ q. record c { live = q }) (revealed_same c.live d sound damage))

@@ -1,4 +1,5 @@
--- A cell after a planned arrangement stands for its slot's part of the desk after it.
+-- A cell after a planned arrangement stands for its slot's part of the desk after it, once its hook, if it has one, has filled
+-- what it gains.
 use Rattle.std.proofs.Common.{◌≡◌, ℕ, zero, suc, ◌<◌, ◌==◌, Bool, true, false, List, [], ◌∷◌, length, arith, Option, Some, None, refl, sym, ap, subst, ◌∙◌, ⊎_elim, ℤ, IsTrue}
 use Rattle.std.specs.List.{find}
 use Rattle.std.proofs.Math.Path.{fun_ext}
@@ -8,24 +9,27 @@ use Rattle.lw_region.specs.Bands.{covers}
 use Rattle.lw_calls.specs.declared.call.Call.{Call}
 use Rattle.lw_calls.specs.Limits.{call_fits}
 use Rattle.lw_calls.specs.Touches.{OnAll, class_of}
+use Rattle.lw_machine.specs.Hook.{Hook}
 use Rattle.lw_machine.specs.Layer.{Layer, Slot, Unopened, Live, Closed, is_live, layer_is, is_window}
 use Rattle.lw_machine.specs.Desk.{Desk, is_the}
 use Rattle.lw_machine.specs.Screen.{bounds_have, top, is_shown}
-use Rattle.lw_machine.specs.Arrangement.{bounds_of, new_layer, arranged}
+use Rattle.lw_machine.specs.Arrangement.{bounds_of, hook_from, new_layer, arranged}
 use Rattle.lw_machine.specs.Reveal.{has_bounds, revealed, across, settled}
 use Rattle.lw_machine.specs.Parts.{SlotPart, slot_part}
 use Rattle.lw_machine.specs.Step.{refusal}
 use Rattle.lw_machine.specs.Sound.{IsDesk, active_is_window}
-use Rattle.lw_layer.specs.View.{State, LiveView, CellView, with_live}
+use Rattle.lw_layer.specs.View.{State, LiveView, CellView, with_live, hooked}
 use Rattle.lw_layer.specs.View as view
 use Rattle.lw_layer.specs.Drafts.{no_layer}
-use Rattle.lw_layer.specs.New.{new_live}
 use Rattle.lw_layer.specs.StandsFor.{IsLivePart, IsPartOf, StandsFor, IsSound}
 use Rattle.lw_stack.specs.Stack.{Stack, bounds_at, first_at, is_first_at, StandsForInfo}
 use Rattle.lw_reveal.specs.Changed.{across_to, revealed_to}
 use Rattle.lw_arrange.specs.Plans.{Planned, IsPlanned}
 use Rattle.lw_arrange.specs.Arranged.{IsPlanOf}
 use Rattle.lw_arrange.specs.Prepared.{IsPlainCall, asked_for, becomes, with_bounds, without_layer, shown_at, cell_after}
+use Rattle.lw_arrange.specs.Filled.{gains, gains_some, filled_layer, filled_by, hook_asked, hook_of_slot}
+use Rattle.lw_arrange.proofs.FilledLaws.{revealed_filled}
+use Rattle.lw_arrange.proofs.GainsLaws.{stayed, created, gains_stayed, some_stayed, gains_created, some_created, new_bitmap}
 use Rattle.lw_arrange.proofs.SettledLaws.{slot_settled, settled_plain, across_is}
 use Rattle.lw_arrange.proofs.OpenedLaws.{new_revealed}
 use Rattle.lw_arrange.proofs.CellLaws.{Stays, Opens, Closes, slot_becomes, idle_after}
@@ -50,6 +54,14 @@ there (Some r) has = (r, refl)
 pub gone : (o : Option Rectangle) → has_bounds o ≡ false → o ≡ None
 gone None has = refl
 gone (Some r) has = absurd (cc has)
+
+-- What the cell of a slot stands for after an arrangement, with the hook that its layer then has: what it gains is filled.
+abbrev pub StandsFilled : CellView → CellView → Option Hook → SlotPart → Type 0
+StandsFilled from to g p = StandsFor (filled_by g (λ x y. gains from to x y) (gains_some from to) to) p
+
+-- The hook is that of the slot's layer before it fills, if the slot is live afterwards.
+abbrev pub IsHookOf : Desk → Call → Option Hook → CellView → CellView → Option Hook → Type 0
+IsHookOf d made h from to g = to.state ≡ view.Live → g ≡ hook_of_slot d.shelf made h from.state
 
 -- what a cell stands for, by its state
 pub live_part : (c : CellView) (p : SlotPart) → c.state ≡ view.Live → StandsFor c p → IsLivePart c.live p
@@ -79,42 +91,60 @@ shown_after d caller made a s x y done has =
     shown_is a.stack (arranged d caller made) s x y done.plan.info ∙ sym (done.planned.shown.places s x y (listed_low a.stack.bounds s has))
 
 -- The cell of a live layer that stays live.
-stays_live : (d : Desk) (caller : ℕ) (made : Call) (a : Planned) (c : CellView) → IsDone d caller made a → c.state ≡ view.Live → StandsFor c (slot_part d c.number) → IsSound c.live → Stays d (arranged d caller made) c.number → StandsFor (cell_after a c) (slot_part (settled d (arranged d caller made)) c.number)
-stays_live d caller made a c done live stands sound stays =
+stays_live : (d : Desk) (caller : ℕ) (made : Call) (a : Planned) (c : CellView) (h g : Option Hook) → IsDone d caller made a
+    → c.state ≡ view.Live → StandsFor (hooked h c) (slot_part d c.number) → IsSound c.live
+    → Stays d (arranged d caller made) c.number
+    → IsHookOf d made h c (cell_after a c) g
+    → StandsFilled c (cell_after a c) g (slot_part (settled d (arranged d caller made)) c.number)
+stays_live d caller made a c h g done live stands sound stays hook =
     let s = c.number in
     let e = arranged d caller made in
-    let part = live_part c (slot_part d s) live stands in
+    let l = c.live.layer in
+    let part = live_part (hooked h c) (slot_part d s) live stands in
     let has : has_bounds (e.bounds s) ≡ true = stays.bounds ∙ ap has_bounds part.bounds in
     let place = there (e.bounds s) has in
     let r = place.0 in
     let visible = shown_at a s in
+    let k = across_to c.live r visible in
+    let to = stayed c r visible in
+    let on : ℕ → ℕ → Bool = λ x y. gains c to x y in
     let planned : bounds_at a.stack.bounds s ≡ Some r = sym (done.plan.info.bounds s) ∙ place.1 in
     let idle : is_the d.active s ≡ false = part.active ∙ sound.idle in
     let later : is_the e.active s ≡ false = idle_after d caller made s done.all done.plain idle in
-    let same : across d e s ≡ across_to c.live r visible =
+    let same : across d e s ≡ k =
     across_is d e s c.live r visible part.bounds place.1 part.shown (λ x y. shown_after d caller made a s x y done (ap has_bounds planned)) part.active (later ∙ sym sound.idle)
     in
-    let slot : (settled d e).slot s ≡ Live (revealed (across_to c.live r visible) c.live.layer) =
-    slot_settled d e s (Live c.live.layer) done.settled (stays.slot ∙ part.slot) ∙
-    ap Live (settled_plain d.assets.glyphs (across d e s) c.live.layer sound.window ∙ ap (λ k. revealed k c.live.layer) same)
+    let with_hook : Layer = record l { hook = h } in
+    let slot : (settled d e).slot s ≡ Live (revealed k with_hook) =
+    slot_settled d e s (Live with_hook) done.settled (stays.slot ∙ part.slot) ∙
+    ap Live (settled_plain d.assets.glyphs (across d e s) with_hook sound.window ∙ ap (λ q. revealed q with_hook) same)
     in
-    let after : cell_after a c ≡ record { number = s; state = view.Live; live = revealed_to r visible c.live } =
+    let filled : revealed k with_hook ≡ filled_layer h on (gains_some c to) (revealed k l) =
+    revealed_filled k l h on (gains_some c to) sound.hook sound.bits.bitmap
+    (λ x y. gains_stayed c r visible x y live sound.window) (some_stayed c r visible)
+    in
+    let after : cell_after a c ≡ to =
     ap (becomes (asked_for a.call) a.stack.sizes.depth visible c) planned ∙
     (ap (with_bounds (asked_for a.call) a.stack.sizes.depth r visible c) live ∙
     ap (λ q. record { number = s; state = q; live = revealed_to r visible c.live }) live)
     in
-    let P : CellView → Type 0 = λ v. StandsFor v (slot_part (settled d e) s) in
+    let own : g ≡ h = hook (ap (λ (v : CellView). v.state) after) ∙ ap (hook_of_slot d.shelf made h) live in
+    let P : CellView → Type 0 = λ v. StandsFilled c v g (slot_part (settled d e) s) in
+    let Q : Option Hook → Type 0 = λ q. StandsFilled c to q (slot_part (settled d e) s) in
     subst P (sym after)
+    (subst Q (sym own)
     (record {
-      slot = slot;
+      slot = slot ∙ ap Live filled;
       bounds = place.1;
       shown = λ x y. shown_settled d e s x y ∙ shown_after d caller made a s x y done (ap has_bounds planned);
       active = later ∙ sym sound.idle;
-    })
+    }))
 
 -- The cell of a slot that stays without a layer.
-stays_dead : (d : Desk) (caller : ℕ) (made : Call) (a : Planned) (c : CellView) → IsDone d caller made a → (c.state ≡ view.Live → ⊥) → StandsFor c (slot_part d c.number) → Stays d (arranged d caller made) c.number → StandsFor (cell_after a c) (slot_part (settled d (arranged d caller made)) c.number)
-stays_dead d caller made a c done dead stands stays =
+stays_dead : (d : Desk) (caller : ℕ) (made : Call) (a : Planned) (c : CellView) (h g : Option Hook) → IsDone d caller made a
+    → (c.state ≡ view.Live → ⊥) → StandsFor (hooked h c) (slot_part d c.number) → Stays d (arranged d caller made) c.number
+    → StandsFilled c (cell_after a c) g (slot_part (settled d (arranged d caller made)) c.number)
+stays_dead d caller made a c h g done dead stands stays =
     go c.state refl
   where
     e : Desk
@@ -129,25 +159,31 @@ stays_dead d caller made a c done dead stands stays =
         let has : has_bounds (e.bounds s) ≡ false = stays.bounds ∙ ap has_bounds none in
         ap (becomes (asked_for a.call) a.stack.sizes.depth (shown_at a s) c) (sym (done.plan.info.bounds s) ∙ gone (e.bounds s) has)
 
-    part : (q : State) → c.state ≡ q → IsPartOf q c.live (slot_part d s)
-    part q is = let P : State → Type 0 = λ t. IsPartOf t c.live (slot_part d s) in subst P is stands
+    part : (q : State) → c.state ≡ q → IsPartOf q (hooked h c).live (slot_part d s)
+    part q is = let P : State → Type 0 = λ t. IsPartOf t (hooked h c).live (slot_part d s) in subst P is stands
 
-    go : (q : State) → c.state ≡ q → StandsFor (cell_after a c) (slot_part (settled d e) s)
+    -- what a slot that isn't live stands for doesn't depend on its layer
+    left : (q : State) → c.state ≡ q → cell_after a c ≡ c
+        → IsPartOf q (filled_by g (λ x y. gains c c x y) (gains_some c c) c).live (slot_part (settled d e) s)
+        → StandsFilled c (cell_after a c) g (slot_part (settled d e) s)
+    left q is here holds =
+        let P : CellView → Type 0 = λ v. StandsFilled c v g (slot_part (settled d e) s) in
+        let Q : State → Type 0 = λ t. IsPartOf t (filled_by g (λ x y. gains c c x y) (gains_some c c) c).live
+        (slot_part (settled d e) s) in
+        subst P (sym here) (subst Q (sym is) holds)
+
+    go : (q : State) → c.state ≡ q → StandsFilled c (cell_after a c) g (slot_part (settled d e) s)
     go view.Unopened is =
         let was = part view.Unopened is in
         let has : has_bounds (e.bounds s) ≡ false = stays.bounds ∙ ap has_bounds was.1 in
-        let here : cell_after a c ≡ c = same was.1 ∙ ap (without_layer c) is in
-        let P : CellView → Type 0 = λ v. StandsFor v (slot_part (settled d e) s) in
-        let Q : State → Type 0 = λ t. IsPartOf t c.live (slot_part (settled d e) s) in
-        subst P (sym here) (subst Q (sym is) (slot_settled d e s Unopened done.settled (stays.slot ∙ was.0), gone (e.bounds s) has))
+        left view.Unopened is (same was.1 ∙ ap (without_layer c) is)
+        (slot_settled d e s Unopened done.settled (stays.slot ∙ was.0), gone (e.bounds s) has)
     go view.Live is = absurd (dead is)
     go view.Closed is =
         let was = part view.Closed is in
         let has : has_bounds (e.bounds s) ≡ false = stays.bounds ∙ ap has_bounds was.1 in
-        let here : cell_after a c ≡ c = same was.1 ∙ ap (without_layer c) is in
-        let P : CellView → Type 0 = λ v. StandsFor v (slot_part (settled d e) s) in
-        let Q : State → Type 0 = λ t. IsPartOf t c.live (slot_part (settled d e) s) in
-        subst P (sym here) (subst Q (sym is) (slot_settled d e s Closed done.settled (stays.slot ∙ was.0), gone (e.bounds s) has))
+        left view.Closed is (same was.1 ∙ ap (without_layer c) is)
+        (slot_settled d e s Closed done.settled (stays.slot ∙ was.0), gone (e.bounds s) has)
 
 -- what a cell stands for says whether it is live
 pub not_dead : (c : CellView) (p : SlotPart) → StandsFor c p → is_live p.slot ≡ true → c.state ≡ view.Live
@@ -167,44 +203,68 @@ not_opened c p stands free = go c.state stands
     go view.Closed part = absurd (cc (part.0, free))
 
 -- The cell of a layer that is deleted.
-closes_cell : (d : Desk) (caller : ℕ) (made : Call) (a : Planned) (c : CellView) → IsDone d caller made a → StandsFor c (slot_part d c.number) → Closes d (arranged d caller made) c.number → StandsFor (cell_after a c) (slot_part (settled d (arranged d caller made)) c.number)
-closes_cell d caller made a c done stands closes =
+closes_cell : (d : Desk) (caller : ℕ) (made : Call) (a : Planned) (c : CellView) (h g : Option Hook) → IsDone d caller made a
+    → StandsFor (hooked h c) (slot_part d c.number) → Closes d (arranged d caller made) c.number
+    → StandsFilled c (cell_after a c) g (slot_part (settled d (arranged d caller made)) c.number)
+closes_cell d caller made a c h g done stands closes =
     let s = c.number in
     let e = arranged d caller made in
-    let live : c.state ≡ view.Live = not_dead c (slot_part d s) stands closes.was in
+    let live : c.state ≡ view.Live = not_dead (hooked h c) (slot_part d s) stands closes.was in
     let after : cell_after a c ≡ record { number = s; state = view.Closed; live = no_layer } =
     ap (becomes (asked_for a.call) a.stack.sizes.depth (shown_at a s) c) (sym (done.plan.info.bounds s) ∙ closes.bounds) ∙ ap (without_layer c) live
     in
-    let P : CellView → Type 0 = λ v. StandsFor v (slot_part (settled d e) s) in
+    let P : CellView → Type 0 = λ v. StandsFilled c v g (slot_part (settled d e) s) in
     subst P (sym after) (slot_settled d e s Closed done.settled closes.slot, closes.bounds)
 
 -- The cell of a layer that is created.
-opens_cell : (d : Desk) (caller : ℕ) (made : Call) (a : Planned) (c : CellView) → IsDone d caller made a → StandsFor c (slot_part d c.number) → is_the d.active c.number ≡ false → Opens d (arranged d caller made) made c.number → StandsFor (cell_after a c) (slot_part (settled d (arranged d caller made)) c.number)
-opens_cell d caller made a c done stands idle opens =
+opens_cell : (d : Desk) (caller : ℕ) (made : Call) (a : Planned) (c : CellView) (h g : Option Hook) → IsDone d caller made a
+    → StandsFor (hooked h c) (slot_part d c.number) → is_the d.active c.number ≡ false
+    → Opens d (arranged d caller made) made c.number
+    → IsHookOf d made h c (cell_after a c) g
+    → StandsFilled c (cell_after a c) g (slot_part (settled d (arranged d caller made)) c.number)
+opens_cell d caller made a c h g done stands idle opens hook =
     let s = c.number in
     let e = arranged d caller made in
-    let new : Layer = new_layer d.sizes.depth opens.make None None in
-    let r = bounds_of opens.make in
+    let make = opens.make in
+    let depth = d.sizes.depth in
+    let given = hook_from d.shelf make.hook in
+    let bare : Layer = new_layer depth make None None in
+    let new : Layer = new_layer depth make given None in
+    let r = bounds_of make in
     let visible = shown_at a s in
-    let was = not_opened c (slot_part d s) stands opens.free in
+    let k = across d e s in
+    let to = created c make depth visible in
+    let on : ℕ → ℕ → Bool = λ x y. gains c to x y in
+    let was = not_opened (hooked h c) (slot_part d s) stands opens.free in
     let planned : bounds_at a.stack.bounds s ≡ Some r = sym (done.plan.info.bounds s) ∙ opens.bounds in
-    let slot : (settled d e).slot s ≡ Live new =
-    slot_settled d e s (Live new) done.settled opens.slot ∙
-    ap Live (settled_plain d.assets.glyphs (across d e s) new refl ∙ new_revealed (across d e s) d.sizes.depth opens.make was.1 opens.bounds)
+    let filled : revealed k new ≡ filled_layer given on (gains_some c to) bare =
+    revealed_filled k bare given on (gains_some c to) refl (new_bitmap make.kind depth make)
+    (λ x y. gains_created c k depth make visible x y was.0 was.1 opens.bounds
+    (λ i j. shown_after d caller made a s i j done (ap has_bounds planned)))
+    (some_created c k depth make visible opens.bounds)
+    ∙ ap (λ q. filled_layer given on (gains_some c to) q) (new_revealed k depth make was.1 opens.bounds)
     in
-    let after : cell_after a c ≡ record { number = s; state = view.Live; live = new_live opens.make d.sizes.depth r visible } =
+    let slot : (settled d e).slot s ≡ Live (revealed k new) =
+    slot_settled d e s (Live new) done.settled opens.slot ∙ ap Live (settled_plain d.assets.glyphs k new refl)
+    in
+    let after : cell_after a c ≡ to =
     ap (λ o. becomes o a.stack.sizes.depth visible c (bounds_at a.stack.bounds s)) (ap asked_for done.plan.call ∙ opens.asked) ∙
-    (ap (λ n. becomes (Some opens.make) n visible c (bounds_at a.stack.bounds s)) (ap (λ z. z.depth) done.sizes) ∙
-    (ap (becomes (Some opens.make) d.sizes.depth visible c) planned ∙ ap (with_bounds (Some opens.make) d.sizes.depth r visible c) was.0))
+    (ap (λ n. becomes (Some make) n visible c (bounds_at a.stack.bounds s)) (ap (λ z. z.depth) done.sizes) ∙
+    (ap (becomes (Some make) depth visible c) planned ∙ ap (with_bounds (Some make) depth r visible c) was.0))
     in
-    let P : CellView → Type 0 = λ v. StandsFor v (slot_part (settled d e) s) in
+    let own : g ≡ given =
+    hook (ap (λ (v : CellView). v.state) after) ∙ (ap (hook_of_slot d.shelf made h) was.0 ∙ ap (hook_asked d.shelf) opens.asked)
+    in
+    let P : CellView → Type 0 = λ v. StandsFilled c v g (slot_part (settled d e) s) in
+    let Q : Option Hook → Type 0 = λ q. StandsFilled c to q (slot_part (settled d e) s) in
     subst P (sym after)
+    (subst Q (sym own)
     (record {
-      slot = slot;
+      slot = slot ∙ ap Live filled;
       bounds = opens.bounds;
       shown = λ x y. shown_settled d e s x y ∙ shown_after d caller made a s x y done (ap has_bounds planned);
       active = idle_after d caller made s done.all done.plain idle;
-    })
+    }))
 
 -- no slot without a layer is the active window
 idle_slot : (d : Desk) (s : ℕ) → IsDesk d → is_live (d.slot s) ≡ false → is_the d.active s ≡ false
@@ -223,14 +283,21 @@ idle_slot d s ok dead = go d.active ok.active
     go None h = refl
     go (Some n) h = step n (n == s) refl (window_live (d.slot n) h)
 
--- A cell after a planned arrangement stands for its slot of the desk after it.
-pub cell_stands : (d : Desk) (caller : ℕ) (made : Call) (a : Planned) (c : CellView) → IsDone d caller made a → StandsFor c (slot_part d c.number) → (c.state ≡ view.Live → IsSound c.live) → StandsFor (cell_after a c) (slot_part (settled d (arranged d caller made)) c.number)
-cell_stands d caller made a c done stands sound =
+-- A cell after a planned arrangement, once its hook has filled what it gains, stands for its slot of the desk after it. The hook h
+-- is the layer's before, and g the one that it fills with; of a slot that isn't live afterwards g may be any.
+pub cell_stands : (d : Desk) (caller : ℕ) (made : Call) (a : Planned) (c : CellView) (h g : Option Hook) → IsDone d caller made a
+    → StandsFor (hooked h c) (slot_part d c.number) → (c.state ≡ view.Live → IsSound c.live)
+    → IsHookOf d made h c (cell_after a c) g
+    → StandsFilled c (cell_after a c) g (slot_part (settled d (arranged d caller made)) c.number)
+cell_stands d caller made a c h g done stands sound hook =
     ⊎_elim (λ stays. by_state c.state refl stays)
-    (λ rest. ⊎_elim (λ opens. opens_cell d caller made a c done stands (idle_slot d c.number done.sound (ap is_live opens.free)) opens) (λ closes. closes_cell d caller made a c done stands closes) rest)
+    (λ rest. ⊎_elim (λ opens. opens_cell d caller made a c h g done stands
+    (idle_slot d c.number done.sound (ap is_live opens.free)) opens hook)
+    (λ closes. closes_cell d caller made a c h g done stands closes) rest)
     (slot_becomes d caller made c.number done.all done.plain done.unrefused)
   where
-    by_state : (q : State) → c.state ≡ q → Stays d (arranged d caller made) c.number → StandsFor (cell_after a c) (slot_part (settled d (arranged d caller made)) c.number)
-    by_state view.Unopened is stays = stays_dead d caller made a c done (λ live. cc (is, live)) stands stays
-    by_state view.Live is stays = stays_live d caller made a c done is stands (sound is) stays
-    by_state view.Closed is stays = stays_dead d caller made a c done (λ live. cc (is, live)) stands stays
+    by_state : (q : State) → c.state ≡ q → Stays d (arranged d caller made) c.number
+        → StandsFilled c (cell_after a c) g (slot_part (settled d (arranged d caller made)) c.number)
+    by_state view.Unopened is stays = stays_dead d caller made a c h g done (λ live. cc (is, live)) stands stays
+    by_state view.Live is stays = stays_live d caller made a c h g done is stands (sound is) stays hook
+    by_state view.Closed is stays = stays_dead d caller made a c h g done (λ live. cc (is, live)) stands stays

@@ -4,4 +4,5 @@ pub mod Places
 pub mod Planning
 pub mod Steps
 pub mod Prepared
+pub mod Filled
 pub mod Made

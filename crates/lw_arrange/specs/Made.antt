@@ -11,7 +11,8 @@ use Rattle.lw_arrange.specs.declared.preparing.Prepared.TheVariants.{Stays, Clos
 -- The one cell becomes the other by what was prepared.
 abbrev pub IsPrepared : CellView → CellView → Prepared → Type 0
 IsPrepared from to Stays = to ≡ from
-IsPrepared from to Closes = to ≡ record { number = from.number; state = view.Closed; live = no_layer }
-IsPrepared from to (Opens d) = IsLiveDraft d × (to ≡ record { number = from.number; state = view.Live; live = live_view d })
+IsPrepared from to Closes = (from.state ≡ view.Live) × (to ≡ record { number = from.number; state = view.Closed; live = no_layer })
+IsPrepared from to (Opens d) =
+    (from.state ≡ view.Unopened) × IsLiveDraft d × (to ≡ record { number = from.number; state = view.Live; live = live_view d })
 IsPrepared from to (Changes k) =
     (from.state ≡ view.Live) × IsChange from.live k × (to ≡ with_live (λ c. revealed_to k.bounds k.parts.visible c) from)

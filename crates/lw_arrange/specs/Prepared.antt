@@ -1,5 +1,5 @@
 -- What an arrangement makes of the cell of a slot, and what is prepared for it (this project's own).
-use Rattle.std.specs.Prelude.{◌≡◌, ℕ, List, [], Option, Some, None}
+use Rattle.std.specs.Prelude.{ℕ, List, [], Option, Some, None}
 use Rattle.std.specs.List.{slice_index_or}
 use Rattle.lw_region.specs.Rectangle.{Rectangle}
 use Rattle.lw_calls.specs.declared.make.Make.{Make}
@@ -13,9 +13,8 @@ use Rattle.lw_stack.specs.Stack.{bounds_at}
 use Rattle.lw_reveal.specs.Changed.{revealed_to, MayHave}
 use Rattle.lw_arrange.specs.Plans.{Planned}
 
--- The call is no creation with a hook and has nothing to do with windows: all others can be prepared so far.
+-- The call has nothing to do with windows: all others can be prepared so far.
 abbrev pub IsPlainCall : Call → Type 0
-IsPlainCall (Create slot make) = make.hook ≡ None
 IsPlainCall (OpenWindow slot make framed nocare asks title) = ⊥
 IsPlainCall (Activate slot) = ⊥
 IsPlainCall call = Unit {0}

@@ -6,6 +6,7 @@ mod after;
 mod arrangement;
 mod change;
 mod copied;
+mod gaining;
 mod order;
 mod place;
 mod plan;
@@ -14,6 +15,7 @@ mod preparing;
 mod refused;
 
 pub use arrangement::{Arrangement, Step};
+pub use gaining::gained;
 pub use plan::plan_step;
 pub use prepared_info::{PreparedInfo, commit_info, prepare_info};
 pub use preparing::{Prepared, commit, prepare};

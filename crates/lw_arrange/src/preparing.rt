@@ -90,6 +90,7 @@ fn created(
 ) -> Result<Prepared, AllocError>
     requires may { MayOpen (asked_for arrangement.now.call) arrangement.now.stack.sizes.depth bounds.now }
     requires inside { LieIn bounds.now visible.now }
+    requires fresh { cell.now.state ≡ view.Unopened }
     ensures { IfOk result (λ prepared. IsPrepared cell.now (record { number = cell.now.number; state = view.Live; live = opened (asked_for arrangement.now.call) arrangement.now.stack.sizes.depth bounds.now visible.now }) prepared) }
 {
     match arrangement.call() {

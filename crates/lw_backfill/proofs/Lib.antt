@@ -1,1 +1,2 @@
 mod Tiles
+pub mod ShelfLaws

@@ -7,6 +7,7 @@ mod boxed;
 mod checker;
 mod cycle;
 mod rows;
+mod shelf;
 mod solid;
 mod tile;
 
@@ -14,6 +15,7 @@ pub use backfill::Backfill;
 pub use checker::Checker;
 pub use cycle::Cycle;
 pub use rows::row_of;
+pub use shelf::Shelf;
 pub use solid::Solid;
 pub use tile::tile_place;
 

@@ -2,6 +2,7 @@ ghost use Rattle.std.specs.Prelude.{◌≡◌, ◌≤◌, ◌<◌, IfSome};
 ghost use Rattle.lw_calls.specs.Limits.{IsWithinLimits};
 
 use crate::blits::{blit_of, put_of, scroll_of};
+use lw_backfill::Solid;
 use lw_calls::{Assets, Call, Final, Kind, Make, Place, Replies, Sizes, Text, built};
 use lw_engine::Desk;
 use lw_planes::Planes;
@@ -102,7 +103,13 @@ fn line_to(x: i16, y: i16) -> Call {
 }
 
 // Makes one call on the desk, if it may be made.
-fn make(alloc: Global, desk: &mut Desk, assets: &Assets, sizes: &Sizes, call: &Call) -> Option<()>
+fn make(
+    alloc: Global,
+    desk: &mut Desk<Solid>,
+    assets: &Assets,
+    sizes: &Sizes,
+    call: &Call,
+) -> Option<()>
     requires sizes { desk.old.stack.sizes ≡ sizes.now }
     requires task { sizes.now.tasks ≡ 1 }
     ensures { desk.new.stack.sizes ≡ desk.old.stack.sizes }
@@ -117,7 +124,7 @@ fn make(alloc: Global, desk: &mut Desk, assets: &Assets, sizes: &Sizes, call: &C
 // Makes the calls one after another.
 fn make_each(
     alloc: Global,
-    desk: &mut Desk,
+    desk: &mut Desk<Solid>,
     assets: &Assets,
     sizes: &Sizes,
     calls: &[Call],
@@ -135,7 +142,7 @@ fn make_each(
 // Makes all of the calls so many times.
 fn make_often(
     alloc: Global,
-    desk: &mut Desk,
+    desk: &mut Desk<Solid>,
     assets: &Assets,
     sizes: &Sizes,
     calls: &[Call],
@@ -179,7 +186,7 @@ fn digest_of_row(row: &[u8], before: u32) -> u32 {
 }
 
 // What the desk shows at the end.
-fn shown(alloc: Global, desk: &Desk) -> Option<Final>
+fn shown(alloc: Global, desk: &Desk<Solid>) -> Option<Final>
     requires { desk.now.stack.sizes.tasks ≡ 1 }
 {
     let mut replies = Vec::new(alloc);
@@ -202,13 +209,13 @@ fn assets_of(alloc: Global, planes: u32) -> Option<Assets>
     })
 }
 
-// A desk with two layers that cover the screen.
-fn desk_of(alloc: Global, assets: &Assets, sizes: &Sizes) -> Option<Desk>
+// A desk with two layers that cover the screen, and no hook.
+fn desk_of(alloc: Global, assets: &Assets, sizes: &Sizes) -> Option<Desk<Solid>>
     requires limits { IsWithinLimits sizes.now }
     requires task { sizes.now.tasks ≡ 1 }
     ensures { IfSome result (λ desk. desk.stack.sizes ≡ sizes.now) }
 {
-    let mut desk = Desk::new(alloc, *sizes).ok()?;
+    let mut desk = Desk::new(alloc, *sizes, Vec::<Solid>::new(alloc)).ok()?;
     let both = [creation(1), creation(0)];
     make_each(alloc, &mut desk, assets, sizes, &both)?;
     Some(desk)

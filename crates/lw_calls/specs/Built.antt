@@ -1,16 +1,11 @@
 -- Which calls a script may make so far (this project's own).
-use Rattle.std.specs.Prelude.{ℕ, Bool, true, false, Option, is_none}
+use Rattle.std.specs.Prelude.{Bool, true, false}
 use Rattle.lw_calls.specs.declared.call.Call.{Call}
 use Rattle.lw_calls.specs.declared.call.Call.TheVariants.{RegRect, RegPair, RegClear, Create, OpenWindow, Close, ToFront, ToBack, InFrontOf, MoveBy, SizeBy, SetBox, Activate, Which, SetA, SetB, SetMode, SetMask, At, WritePixel, ReadPixel, Fill, DrawTo, Letters, SetRast, ScrollRaster, Put, Blit, Clip, Unclip, BeginRefresh, EndRefresh, Scroll, SetTitle, TakeMessage}
 
--- no hook is asked for
-abbrev pub is_hookless : Option ℕ → Bool
-is_hookless hook = is_none hook
-
--- The calls that a script may make so far: all but the creation of a layer with a hook, those that open, activate or name a window
--- or take its messages, and updates.
+-- The calls that a script may make so far: all but those that open, activate or name a window or take its messages.
 abbrev pub is_built : Call → Bool
-is_built (Create slot make) = is_hookless make.hook
+is_built (Create slot make) = true
 is_built (Close slot) = true
 is_built (ToFront slot) = true
 is_built (ToBack slot) = true
@@ -25,6 +20,8 @@ is_built (RegPair op source into) = true
 is_built (RegClear register) = true
 is_built (Clip slot register) = true
 is_built (Unclip slot) = true
+is_built (BeginRefresh slot) = true
+is_built (EndRefresh slot full) = true
 is_built (Scroll slot dx dy) = true
 is_built (SetA slot pen) = true
 is_built (SetB slot pen) = true
@@ -41,7 +38,5 @@ is_built (Put bitmap slot area) = true
 is_built (Blit source slot area) = true
 is_built (OpenWindow slot make framed nocare asks title) = false
 is_built (Activate slot) = false
-is_built (BeginRefresh slot) = false
-is_built (EndRefresh slot full) = false
 is_built (SetTitle slot title) = false
 is_built (TakeMessage slot) = false

@@ -3,17 +3,14 @@ ghost use Rattle.lw_calls.specs.Built.{is_built};
 
 use crate::call::Call;
 
-/// Whether a script may make such a call so far: each but the creation of a layer with a hook, those that open, activate or name
-/// a window or take its messages, and updates (this project's own).
+/// Whether a script may make such a call so far: each but those that open, activate or name a window or take its messages (this
+/// project's own).
 pub fn built(call: &Call) -> bool
     ensures { result ≡ is_built call.now }
 {
     match call {
-        Call::Create { make, .. } => make.hook.is_none(),
         Call::OpenWindow { .. }
         | Call::Activate { .. }
-        | Call::BeginRefresh { .. }
-        | Call::EndRefresh { .. }
         | Call::SetTitle { .. }
         | Call::TakeMessage { .. } => false,
         _ => true,

@@ -1,13 +1,11 @@
--- Lists of cells and of what is ready for them, one by one.
+-- Lists of slots and of what is ready for them, one by one.
 use Rattle.std.proofs.Common.{◌≡◌, ℕ, ◌+◌, ◌<◌, ◌≤◌, List, [], ◌∷◌, ◌++◌, length, take, get_or, set, ◌≢◌, refl, sym, ap, subst, ◌∙◌, arith, length-append, ⊎_elim}
 use Rattle.std.proofs.lemmas.Bool.{cases_eq, cases_lt}
 use Rattle.std.proofs.lemmas.List.{take_all, take_more, get_or_append_left, get_or_at, get_or-set_same, get_or-set_other, get_or_default, length-set}
 use Rattle.lw_layer.specs.View.{CellView}
-use Rattle.lw_arrange.specs.declared.preparing.Prepared.{Prepared}
-use Rattle.lw_arrange.specs.declared.preparing.Prepared.TheVariants.{Stays}
-use Rattle.lw_arrange.specs.Made.{IsPrepared}
 use Rattle.lw_engine.specs.Desks.{no_cell, cell_at}
-use Rattle.lw_engine.specs.Arranging.{ForEach, ArePrepared, AreChanged, AreUnder}
+use Rattle.lw_engine.specs.Slots.{ReadyView, IsSettled, nothing_ready}
+use Rattle.lw_engine.specs.Arranging.{ForEach, AreSettled, AreChanged, AreUnder}
 
 -- nothing holds of each pair of no pairs
 pub for_none : {A B : Type 0} (P : A → B → Type 0) (a : A) (b : B) → ForEach P a b [] []
@@ -43,20 +41,20 @@ for_more {A} P a b xs ys k y all below one =
 pub for_all : {A B : Type 0} (P : A → B → Type 0) (a : A) (b : B) (xs : List A) (ys : List B) (k : ℕ) → ForEach P a b (take k xs) ys → length xs ≤ k → ForEach P a b xs ys
 for_all {A} P a b xs ys k all past = let Q : List A → Type 0 = λ l. ForEach P a b l ys in subst Q (take_all k xs past) all
 
--- what is ready for the next cell, where the first k were committed
-pub commit_ready : (becomes : CellView → CellView) (k : ℕ) (cells now : List CellView) (made ready : List Prepared) (c : CellView) (p : Prepared) → ArePrepared becomes cells made → AreUnder becomes k cells now made ready → k < length cells
-    → IsPrepared (get_or now k c) (becomes (cell_at cells k)) (get_or ready k p)
-commit_ready becomes k cells now made ready c p all under below =
+-- what is ready for the next slot, where the first k were settled
+pub settle_ready : (becomes : CellView → CellView) (k : ℕ) (cells now : List CellView) (made ready : List ReadyView) (c : CellView) (p : ReadyView) → AreSettled becomes cells made → AreUnder becomes k cells now made ready → k < length cells
+    → IsSettled (get_or now k c) (becomes (cell_at cells k)) (get_or ready k p)
+settle_ready becomes k cells now made ready c p all under below =
     let cell : get_or now k c ≡ cell_at cells k = get_or_default now k c no_cell (omega (arith, under.many)) ∙ under.left k (omega arith) in
-    let one : get_or ready k p ≡ get_or made k Stays = get_or_default ready k p Stays (omega (arith, under.as_many, all.many)) ∙ under.still k (omega arith) in
-    let P : CellView → Type 0 = λ v. IsPrepared v (becomes (cell_at cells k)) (get_or ready k p) in
-    let Q : Prepared → Type 0 = λ q. IsPrepared (cell_at cells k) (becomes (cell_at cells k)) q in
+    let one : get_or ready k p ≡ get_or made k nothing_ready = get_or_default ready k p nothing_ready (omega (arith, under.as_many, all.many)) ∙ under.still k (omega arith) in
+    let P : CellView → Type 0 = λ v. IsSettled v (becomes (cell_at cells k)) (get_or ready k p) in
+    let Q : ReadyView → Type 0 = λ q. IsSettled (cell_at cells k) (becomes (cell_at cells k)) q in
     subst P (sym cell) (subst Q (sym one) (all.each k below))
 
--- and once it was committed too
-pub commit_step : (becomes : CellView → CellView) (k : ℕ) (cells now : List CellView) (made ready : List Prepared) (c : CellView) (p : Prepared) → AreUnder becomes k cells now made ready → k < length cells → c ≡ becomes (cell_at cells k)
+-- and once it was settled too
+pub settle_step : (becomes : CellView → CellView) (k : ℕ) (cells now : List CellView) (made ready : List ReadyView) (c : CellView) (p : ReadyView) → AreUnder becomes k cells now made ready → k < length cells → c ≡ becomes (cell_at cells k)
     → AreUnder becomes (k + 1) cells (set now k c) made (set ready k p)
-commit_step becomes k cells now made ready c p under below is =
+settle_step becomes k cells now made ready c p under below is =
     let inside : k < length now = omega (arith, under.many) in
     record {
       many = length-set now k c ∙ under.many;
@@ -70,9 +68,9 @@ commit_step becomes k cells now made ready c p under below is =
           (λ (other : s ≢ k). get_or-set_other now k s c no_cell other ∙ under.done s (omega (arith, other)))
           (cases_eq s k);
       left = λ s past. get_or-set_other now k s c no_cell (λ same. absurd (omega (arith, same, past))) ∙ under.left s (omega arith);
-      still = λ s past. get_or-set_other ready k s p Stays (λ same. absurd (omega (arith, same, past))) ∙ under.still s (omega arith);
+      still = λ s past. get_or-set_other ready k s p nothing_ready (λ same. absurd (omega (arith, same, past))) ∙ under.still s (omega arith);
     }
 
--- all cells, once so many were committed
-pub commit_end : (becomes : CellView → CellView) (k : ℕ) (cells now : List CellView) (made ready : List Prepared) → AreUnder becomes k cells now made ready → length cells ≤ k → AreChanged becomes cells now
-commit_end becomes k cells now made ready under past = record { many = under.many; each = λ s below. under.done s (omega arith) }
+-- all slots, once so many were settled
+pub settle_end : (becomes : CellView → CellView) (k : ℕ) (cells now : List CellView) (made ready : List ReadyView) → AreUnder becomes k cells now made ready → length cells ≤ k → AreChanged becomes cells now
+settle_end becomes k cells now made ready under past = record { many = under.many; each = λ s below. under.done s (omega arith) }

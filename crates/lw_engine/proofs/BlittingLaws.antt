@@ -1,5 +1,5 @@
 -- What blits and ScrollRaster answer and leave, in every desk for whose slots the cells stand.
-use Rattle.std.proofs.Common.{arith, IsTrue, ◌≤ℤ◌, ◌≡◌, ℕ, ◌==◌, Bool, true, false, not, ◌&&◌, nat_lt, if◌then◌else◌, ℤ, pos, negsuc, List, Option, Some, None, ◌∙◌, sym, refl, ap, subst}
+use Rattle.std.proofs.Common.{arith, IsTrue, ◌≤ℤ◌, ◌≡◌, ℕ, ◌==◌, Bool, true, false, not, ◌&&◌, nat_lt, if◌then◌else◌, ℤ, pos, negsuc, List, Some, None, ◌∙◌, sym, refl, ap, subst}
 use Rattle.std.specs.List.{slice_index_or}
 use Rattle.std.proofs.lemmas.Bool.{eq-eqb, eqb-true, and_parts, false≢true}
 use Rattle.std.proofs.lemmas.Bool.Decides.{nat_tests}
@@ -19,13 +19,13 @@ use Rattle.lw_machine.specs.Desk.{Desk}
 use Rattle.lw_machine.specs.Screen.{top}
 use Rattle.lw_machine.specs.Kept.{is_visible, holds_at}
 use Rattle.lw_machine.specs.Shapes.{box_at}
-use Rattle.lw_machine.specs.Blits.{source_column, source_row, source_pen, blit_candidate, clip_blit, blt_bitmap_rast_port, scroll_raster}
+use Rattle.lw_machine.specs.Blits.{source_column, source_row, blit_candidate, clip_blit, blt_bitmap_rast_port, scroll_raster}
 use Rattle.lw_machine.specs.Parts.{SlotPart, slot_part}
-use Rattle.lw_machine.specs.Step.{refuse, refuse_not_open, refuse_unless_open, further_refusal, refusal, on_layer, clip_blit_from, no_bitmap, effect, changed_unless, answer, after, reply}
+use Rattle.lw_machine.specs.Step.{refuse, refuse_not_open, refuse_unless_open, further_refusal, refusal, on_layer, clip_blit_from, no_bitmap, effect, changed_unless, after}
 use Rattle.lw_layer.specs.View.{LiveView, CellView, shows, draws, with_layer, with_live}
 use Rattle.lw_layer.specs.View as view
 use Rattle.lw_layer.specs.StandsFor.{IsLivePart, StandsFor, IsSound}
-use Rattle.lw_draw.specs.Drawn.{drawn, in_mask}
+use Rattle.lw_draw.specs.Drawn.{in_mask}
 use Rattle.lw_draw.proofs.DrawnLaws.{drawn_nowhere}
 use Rattle.lw_draw.proofs.PaintLaws.{shape_drawn}
 use Rattle.lw_engine.specs.Parts.{IsSlotStep, IsCellStep, IsLayerStep, IsPairStep}

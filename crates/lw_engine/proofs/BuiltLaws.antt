@@ -1,21 +1,16 @@
 -- What a call that is built is, by its class.
-use Rattle.std.proofs.Common.{◌≡◌, ℕ, ◌==◌, true, Option, Some, None, IsTrue, refl, ap}
+use Rattle.std.proofs.Common.{◌≡◌, ◌==◌, IsTrue, ap}
 use Rattle.lw_calls.specs.declared.call.Call.{Call}
 use Rattle.lw_calls.specs.declared.call.Call.TheVariants.{Create, OpenWindow, Close, ToFront, ToBack, InFrontOf, MoveBy, SizeBy, SetBox, Activate, Blit}
-use Rattle.lw_calls.specs.Built.{is_hookless, is_built}
+use Rattle.lw_calls.specs.Built.{is_built}
 use Rattle.lw_calls.specs.Touches.{CallClass, OnAll, class_of, slots_in}
 use Rattle.lw_calls.specs.Plan.{is_all}
 use Rattle.lw_calls.proofs.BlitClass.{blit_not_all}
 use Rattle.lw_arrange.specs.Prepared.{IsPlainCall}
 
--- no hook is named where none is
-hook_none : (hook : Option ℕ) → is_hookless hook ≡ true → hook ≡ None
-hook_none None bare = refl
-hook_none (Some n) bare = absurd (cc bare)
-
 -- an arrangement
 pub built_plain : (call : Call) → class_of call ≡ OnAll → IsTrue (is_built call) → IsPlainCall call
-built_plain (Create slot make) is built = hook_none make.hook built
+built_plain (Create slot make) is built = tt
 built_plain (OpenWindow slot make framed nocare asks title) is built = absurd (cc built)
 built_plain (Close slot) is built = tt
 built_plain (ToFront slot) is built = tt

@@ -12,6 +12,7 @@ use Rattle.lw_calls.specs.declared.reply.Reply.{Reply}
 use Rattle.lw_calls.specs.declared.touch.Role.TheVariants.{Task, Slot as SlotRole, Info}
 use Rattle.lw_calls.specs.Limits.{call_fits}
 use Rattle.lw_calls.specs.Touches.{CallClass, OnRegisters, OnInfo, OnLayer, OnLayers, OnAll, class_of, slots_in, slots_of, is_on_info, touches_info, has_slot}
+use Rattle.lw_machine.specs.Hook.{Hook}
 use Rattle.lw_machine.specs.Desk.{Desk}
 use Rattle.lw_machine.specs.Step.{refusal, effect, changed_unless, after}
 use Rattle.lw_machine.specs.Parts.{SlotPart, InfoPart, slot_part}
@@ -20,7 +21,7 @@ use Rattle.lw_machine.proofs.ReachedSound.{step_sound, after_sizes}
 use Rattle.lw_layer.specs.View.{CellView}
 use Rattle.lw_layer.specs.StandsFor.{StandsFor}
 use Rattle.lw_stack.specs.Stack.{Stack, StandsForInfo}
-use Rattle.lw_engine.specs.Desks.{StandForRegisters, cell_at, AreOfDesk, Engine, registers_at, StandsForDesk}
+use Rattle.lw_engine.specs.Desks.{StandForRegisters, cell_at, AreOfDesk, AreOnShelf, Engine, registers_at, StandsForDesk}
 use Rattle.lw_engine.specs.Steps.{with_registers, with_cell}
 use Rattle.lw_engine.proofs.BlittingLaws.{look_apart, alone_told, pair_told}
 
@@ -64,12 +65,17 @@ parts_after v old new d task call fits apart parts kept touched =
         let Q : CellView → Type 0 = λ c. StandsFor c (slot_part d s) in
         subst P (leaves_the_rest d task call (SlotRole s) has) (subst Q (sym (kept s has)) (parts.slots s low))
 
+-- the shelf where a call leaves LayerInfo
+hooks_after : (shelf : List (Option Hook)) (d : Desk) (task : ℕ) (call : Call) → touches_info call ≡ false → AreOnShelf shelf d → AreOnShelf shelf (after d task call)
+hooks_after shelf d task call apart hooks = λ n. ap (λ (p : InfoPart). p.shelf n) (sym (leaves_the_rest d task call Info apart)) ∙ hooks n
+
 -- the desk after a call on the registers of its task
 pub registers_desk : (e : Engine) (d : Desk) (task : ℕ) (call : Call) (regs : List (List Rectangle)) → IsTrue (call_fits e.stack.sizes call) → class_of call ≡ OnRegisters → task < length e.registers → StandsForDesk e d → StandForRegisters regs ((after d task call).registers task) → StandsForDesk (with_registers e task regs) (after d task call)
 registers_desk e d task call regs fits class here stands step =
     record {
       parts = parts_after e.stack e.cells e.cells d task call fits (ap is_on_info class) stands.parts (λ s has. refl)
           (λ s has. absurd (false≢true (sym (ap (λ (k : CallClass). has_slot (slots_in k) s) class) ∙ has)));
+      hooks = hooks_after e.shelf d task call (ap is_on_info class) stands.hooks;
       registers = λ t low.
           ⊎_elim
           (λ (same : t ≡ task).
@@ -104,6 +110,7 @@ layer_desk e d task slot call c fits class here stands step =
           let P : ℕ → Type 0 = λ k. StandsFor (cell_at (set e.cells slot c) k) (slot_part (after d task call) k) in
           let Q : CellView → Type 0 = λ k. StandsFor k (slot_part (after d task call) slot) in
           subst P same (subst Q (sym (get_or-set_same e.cells slot c _ here)) step));
+      hooks = hooks_after e.shelf d task call (ap is_on_info class) stands.hooks;
       registers = registers_after e d task call (layer_apart call slot class) stands;
     }
   where
@@ -128,6 +135,7 @@ pair_desk e d task source slot call c fits class here stands from step =
           let Q : CellView → Type 0 = λ k. StandsFor k (slot_part (after d task call) s) in
           subst Q (sym (get_or-set_other e.cells slot s c _ other)) (subst P first from))
           (cases_eq s slot));
+      hooks = hooks_after e.shelf d task call (ap is_on_info class) stands.hooks;
       registers = registers_after e d task call (λ other. absurd (cc (class, other))) stands;
     }
   where
@@ -143,10 +151,12 @@ pair_desk e d task source slot call c fits class here stands from step =
     left_of false b either off = sym off ∙ either
 
 -- and after an arrangement
-pub all_desk : (e : Engine) (d : Desk) (task : ℕ) (call : Call) (v : Stack) (cells : List CellView) → class_of call ≡ OnAll → v.sizes ≡ e.stack.sizes → StandsForDesk e d → AreOfDesk v cells (after d task call) → StandsForDesk (record e { stack = v; cells = cells }) (after d task call)
-all_desk e d task call v cells class same stands parts =
+pub all_desk : (e : Engine) (d : Desk) (task : ℕ) (call : Call) (v : Stack) (shelf : List (Option Hook)) (cells : List CellView) → class_of call ≡ OnAll → v.sizes ≡ e.stack.sizes → StandsForDesk e d → AreOfDesk v cells (after d task call) → AreOnShelf shelf (after d task call)
+    → StandsForDesk (record e { stack = v; shelf = shelf; cells = cells }) (after d task call)
+all_desk e d task call v shelf cells class same stands parts hooks =
     record {
       parts = parts;
+      hooks = hooks;
       registers = λ t low.
           let P : Sizes → Type 0 = λ s. t < s.tasks in
           registers_after e d task call (λ other. absurd (cc (class, other))) stands t (subst P same low);

@@ -10,6 +10,7 @@ use Rattle.lw_calls.specs.declared.reply.Reply.{Reply}
 use Rattle.lw_calls.specs.Limits.{call_fits}
 use Rattle.lw_calls.specs.Touches.{OnRegisters, OnInfo, OnLayer, OnLayers, OnAll, class_of}
 use Rattle.lw_machine.specs.Layer.{Slot, Unopened, Live, Closed}
+use Rattle.lw_machine.specs.Hook.{Hook}
 use Rattle.lw_machine.specs.Desk.{Desk}
 use Rattle.lw_machine.specs.Screen.{top}
 use Rattle.lw_machine.specs.Kept.{is_visible}
@@ -19,6 +20,7 @@ use Rattle.lw_machine.specs.Parts.{slot_part, info_part}
 use Rattle.lw_layer.specs.View.{CellView}
 use Rattle.lw_layer.specs.StandsFor.{StandsFor}
 use Rattle.lw_stack.specs.Stack.{Stack, StandsForInfo}
+use Rattle.lw_engine.specs.Arranging.{IsAllStep}
 use Rattle.lw_engine.specs.Desks.{StandForRegisters, cell_at, AreNumbered, AreOfDesk, Engine, registers_at, StandsForDesk, IsEngine}
 use Rattle.lw_engine.specs.Parts.{IsRegistersStep, IsLayerStep, IsPairStep}
 use Rattle.lw_engine.specs.Steps.{IsStep, IsStepWith, with_registers, with_cell}
@@ -109,6 +111,7 @@ stands_handed_in assets e d stands =
         info = stands.parts.info;
         slots = stands.parts.slots;
       };
+      hooks = stands.hooks;
       registers = stands.registers;
     }
 
@@ -171,23 +174,21 @@ look_step e task call r class answers =
     let P : Desk → Type 0 = StandsForDesk e in
     (answers d task stands.parts.info, subst P (sym (after_look d task call class)) stands)
 
--- what an arrangement answers and leaves in every desk of LayerInfo and these cells
-abbrev pub IsArranged : Stack → List CellView → ℕ → Call → Reply → Stack → List CellView → Type 0
-IsArranged old cells task call r v new = (d : Desk) → AreOfDesk old cells d → (r ≡ reply d task call) × AreOfDesk v new (after d task call)
-
 -- the desk of the program after an arrangement
-pub all_step : {E : Type 0} (result : Result Reply E) (e : Engine) (task : ℕ) (call : Call) (v : Stack) (old new : List CellView) → class_of call ≡ OnAll → v.sizes ≡ e.stack.sizes → old ≡ e.cells → IfOk result (λ r. IsArranged e.stack old task call r v new) → IfOk result (λ r. IsStep e task call r (record e { stack = v; cells = new }))
-all_step (Ok r) e task call v old new class same is step =
+pub all_step : {E : Type 0} (result : Result Reply E) (e : Engine) (task : ℕ) (call : Call) (v : Stack) (shelf : List (Option Hook)) (old new : List CellView) → class_of call ≡ OnAll → v.sizes ≡ e.stack.sizes → old ≡ e.cells
+    → IfOk result (λ r. IsAllStep e.stack e.shelf old task call r v shelf new) → IfOk result (λ r. IsStep e task call r (record e { stack = v; shelf = shelf; cells = new }))
+all_step (Ok r) e task call v shelf old new class same is step =
     λ d stands.
     let P : List CellView → Type 0 = λ q. AreOfDesk e.stack q d in
-    let made = step d (subst P (sym is) stands.parts) in
-    (made.0, all_desk e d task call v new class same stands made.1)
-all_step (Err x) e task call v old new class same is step = tt
+    let made = step d (subst P (sym is) stands.parts) stands.hooks in
+    (made.0, all_desk e d task call v shelf new class same stands made.1 made.2)
+all_step (Err x) e task call v shelf old new class same is step = tt
 
-pub all_engine : {E : Type 0} (result : Result Reply E) (e : Engine) (task : ℕ) (call : Call) (v : Stack) (old new : List CellView) → IsEngine e → class_of call ≡ OnAll → v.sizes ≡ e.stack.sizes → old ≡ e.cells → AreNumbered v.sizes.slots new → IfOk result (λ r. IsArranged e.stack old task call r v new) → OnErr result ((v ≡ e.stack) × (new ≡ old)) → IsEngine (record e { stack = v; cells = new })
-all_engine (Ok r) e task call v old new ok class same is numbered step kept =
+pub all_engine : {E : Type 0} (result : Result Reply E) (e : Engine) (task : ℕ) (call : Call) (v : Stack) (shelf : List (Option Hook)) (old new : List CellView) → IsEngine e → class_of call ≡ OnAll → v.sizes ≡ e.stack.sizes → old ≡ e.cells → AreNumbered v.sizes.slots new
+    → IfOk result (λ r. IsAllStep e.stack e.shelf old task call r v shelf new) → OnErr result ((v ≡ e.stack) × (shelf ≡ e.shelf) × (new ≡ old)) → IsEngine (record e { stack = v; shelf = shelf; cells = new })
+all_engine (Ok r) e task call v shelf old new ok class same is numbered step kept =
     let result : Result Reply ℕ = Ok r in
-    let made = all_step result e task call v old new class same is step in
+    let made = all_step result e task call v shelf old new class same is step in
     let P : Sizes → Type 0 = λ s. length e.registers ≡ s.tasks in
     let Q : Sizes → Type 0 = λ s. (t : ℕ) → t < s.tasks → length (registers_at e t) ≡ 8 in
     record {
@@ -197,7 +198,8 @@ all_engine (Ok r) e task call v old new ok class same is numbered step kept =
       desk = after ok.desk task call;
       stands = (made ok.desk ok.stands).1;
     }
-all_engine (Err x) e task call v old new ok class same is numbered step kept =
-    let P : Stack → Type 0 = λ s. IsEngine (record e { stack = s; cells = new }) in
+all_engine (Err x) e task call v shelf old new ok class same is numbered step kept =
+    let P : Stack → Type 0 = λ s. IsEngine (record e { stack = s; shelf = shelf; cells = new }) in
+    let R : List (Option Hook) → Type 0 = λ h. IsEngine (record e { shelf = h; cells = new }) in
     let Q : List CellView → Type 0 = λ q. IsEngine (record e { cells = q }) in
-    subst P (sym kept.0) (subst Q (sym (kept.1 ∙ is)) ok)
+    subst P (sym kept.0) (subst R (sym kept.1) (subst Q (sym (kept.2 ∙ is)) ok))

@@ -3,9 +3,13 @@ pub mod RegisterLaws
 pub mod RegisterSteps
 pub mod LookingLaws
 pub mod OneLayerLaws
+pub mod UpdatingLaws
 pub mod DeskLaws
 pub mod EngineLaws
 pub mod EmptyDesk
+pub mod HookedLaws
+pub mod SettlingLaws
+pub mod ReadyLists
 pub mod FinishedTables
 pub mod FinishedSeen
 pub mod FinishedRows
@@ -15,4 +19,5 @@ pub mod FinishedLast
 pub mod ArrangingLists
 pub mod ArrangingDesks
 pub mod BlittingLaws
+pub mod HookLaws
 pub mod BuiltLaws

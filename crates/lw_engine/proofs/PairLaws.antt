@@ -1,8 +1,9 @@
 -- Two cells of one list, of which one is lent to be read and the other to be changed.
-use Rattle.std.proofs.Common.{◌≡◌, ℕ, ◌+◌, ◌-◌, ◌<◌, ◌≤◌, List, ◌++◌, length, get_or, set, ◌∙◌, sym, ap, subst, arith}
+use Rattle.std.proofs.Common.{◌≡◌, ℕ, ◌+◌, ◌-◌, ◌<◌, List, ◌++◌, length, get_or, set, ◌∙◌, sym, ap, subst, arith}
 use Rattle.std.proofs.lemmas.List.{get_or_read, get_or_append_left, get_or-append-add, get_or-set_same, length-append, set-append_left, set-append_right}
 use Rattle.lw_calls.specs.declared.call.Call.{Call}
 use Rattle.lw_calls.specs.declared.reply.Reply.{Reply}
+use Rattle.lw_calls.specs.Touches.{OnLayers, class_of}
 use Rattle.lw_layer.specs.View.{CellView}
 use Rattle.lw_engine.specs.Desks.{no_cell, cell_at}
 use Rattle.lw_engine.specs.Parts.{IsPairStep}
@@ -48,3 +49,7 @@ pair_told_of a b x source to new call r first second after step =
     let Q : CellView → Type 0 = λ c. IsPairStep source c call r x in
     let R : CellView → Type 0 = λ c. IsPairStep source to call r c in
     subst R (sym after) (subst Q second (subst P first step))
+
+-- the class of a call on cells with these numbers
+pub numbered_class : (call : Call) (m n source slot : ℕ) → class_of call ≡ OnLayers source slot → m ≡ source → n ≡ slot → class_of call ≡ OnLayers m n
+numbered_class call m n source slot class first second = class ∙ (ap (λ k. OnLayers k slot) (sym first) ∙ ap (λ k. OnLayers m k) (sym second))

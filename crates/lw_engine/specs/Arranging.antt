@@ -1,11 +1,13 @@
--- What a call makes of LayerInfo and all cells (`IsAllStep`), and words of this crate's private contracts on what is prepared for it
--- (this project's own).
-use Rattle.std.specs.Prelude.{◌≡◌, ◌↔◌, ℕ, ◌<◌, ◌≤◌, Bool, List, length, IsTrue, Option, None}
+-- What a call makes of LayerInfo, the shelf of hooks and all slots (`IsAllStep`, `DropHooks`), and words of this crate's private
+-- contracts on what is prepared for it (this project's own).
+use Rattle.std.specs.Prelude.{◌≡◌, ◌↔◌, ℕ, ◌<◌, ◌≤◌, Bool, List, length, slice_set, IsTrue, Option, None}
 use Rattle.std.specs.List.{slice_index_or}
 use Rattle.lw_calls.specs.declared.call.Call.{Call}
 use Rattle.lw_calls.specs.declared.call.Call.TheVariants.{Create, OpenWindow}
 use Rattle.lw_calls.specs.declared.reply.Reply.{Reply}
+use Rattle.lw_machine.specs.Hook.{Hook}
 use Rattle.lw_machine.specs.Desk.{Desk}
+use Rattle.lw_machine.specs.Arrangement.{hook_from}
 use Rattle.lw_machine.specs.Step.{after, reply}
 use Rattle.lw_layer.specs.View.{State, CellView}
 use Rattle.lw_layer.specs.View as view
@@ -13,20 +15,25 @@ use Rattle.lw_layer.specs.Looks.{IsLookAt}
 use Rattle.lw_layer.specs.StandsFor.{IsSound}
 use Rattle.lw_layer.specs.declared.look.Look.{Look}
 use Rattle.lw_stack.specs.Stack.{Stack}
-use Rattle.lw_arrange.specs.declared.preparing.Prepared.{Prepared}
-use Rattle.lw_arrange.specs.declared.preparing.Prepared.TheVariants.{Stays}
-use Rattle.lw_arrange.specs.Made.{IsPrepared}
-use Rattle.lw_engine.specs.Desks.{AreOfDesk, no_cell, cell_at}
+use Rattle.lw_arrange.specs.Plans.{Planned}
+use Rattle.lw_engine.specs.Desks.{AreOfDesk, AreOnShelf, hook_at, no_cell, cell_at}
+use Rattle.lw_engine.specs.Slots.{hook_in, bare, ReadyView, IsSettled, IsReadyFor, nothing_ready}
 
--- What a call on all layers answers and leaves in each desk with these parts.
-abbrev pub IsAllStep : Stack → List CellView → ℕ → Call → Reply → Stack → List CellView → Type 0
-IsAllStep v cells task call r new_v new_cells =
-    (d : Desk) → AreOfDesk v cells d → (r ≡ reply d task call) × AreOfDesk new_v new_cells (after d task call)
+-- What a call on all layers answers and leaves in each desk with these parts and this shelf of hooks.
+abbrev pub IsAllStep : Stack → List (Option Hook) → List CellView → ℕ → Call → Reply → Stack → List (Option Hook) → List CellView → Type 0
+IsAllStep v shelf cells task call r new_v new_shelf new_cells =
+    (d : Desk) → AreOfDesk v cells d → AreOnShelf shelf d
+    → (r ≡ reply d task call) × AreOfDesk new_v new_cells (after d task call) × AreOnShelf new_shelf (after d task call)
 
--- what is told of a cell is so, and a live one is sound
+-- a layer that was deleted has dropped its hook
+abbrev pub DropHooks : List CellView → List CellView → Type 0
+DropHooks slots new =
+    (s : ℕ) → s < length slots → (cell_at slots s).state ≡ view.Live → (cell_at new s).state ≡ view.Closed → hook_in (cell_at new s) ≡ None
+
+-- what is told of a slot's cell is so, and a live one is sound, its hook aside
 pub record IsTruth (c : CellView) (k : Option Look) : Type 0 where
   pub look : IsLookAt c.state c.live k
-  pub sound : c.state ≡ view.Live → IsSound c.live
+  pub sound : c.state ≡ view.Live → IsSound (bare c).live
 
 -- Two lists are as long, and this holds of each pair.
 pub record ForEach {A B : Type 0} (P : A → B → Type 0) (a : A) (b : B) (xs : List A) (ys : List B) : Type 0 where
@@ -49,18 +56,28 @@ HasSlot many (Create slot make) = slot < many
 HasSlot many (OpenWindow slot make framed nocare asks title) = slot < many
 HasSlot many call = Unit {0}
 
--- what is ready for each cell makes of it what is told
-abbrev pub ArePrepared : (CellView → CellView) → List CellView → List Prepared → Type 0
-ArePrepared becomes cells made = ForEach (λ c p. IsPrepared c (becomes c) p) no_cell Stays cells made
+-- something is ready for each slot
+abbrev pub AreReady : Planned → List (Option Hook) → List CellView → List ReadyView → Type 0
+AreReady a shelf slots made = ForEach (λ c r. IsReadyFor a shelf c r) no_cell nothing_ready slots made
+
+-- what is ready for each slot makes of it what is told
+abbrev pub AreSettled : (CellView → CellView) → List CellView → List ReadyView → Type 0
+AreSettled after slots ready = ForEach (λ c r. IsSettled c (after c) r) no_cell nothing_ready slots ready
+
+-- what is ready, once the hook that a call asks for was taken from the shelf for the slot of its new layer
+abbrev pub with_taken : List (Option Hook) → Call → List ReadyView → List ReadyView
+with_taken shelf (Create slot make) ready =
+    slice_set ready slot (record (slice_index_or ready slot nothing_ready) { taken = hook_from (hook_at shelf) make.hook })
+with_taken shelf call ready = ready
 
 -- each cell has become what is told
 abbrev pub AreChanged : (CellView → CellView) → List CellView → List CellView → Type 0
 AreChanged becomes cells changed = ForEach (λ c e. e ≡ becomes c) no_cell no_cell cells changed
 
--- the first k cells were committed, and what is ready for the others is still there
-pub record AreUnder (becomes : CellView → CellView) (k : ℕ) (cells now : List CellView) (made ready : List Prepared) : Type 0 where
-  pub many : length now ≡ length cells
+-- the first k slots were settled, and what is ready for the others is still there
+pub record AreUnder (becomes : CellView → CellView) (k : ℕ) (slots now : List CellView) (made ready : List ReadyView) : Type 0 where
+  pub many : length now ≡ length slots
   pub as_many : length ready ≡ length made
-  pub done : (s : ℕ) → s < k → cell_at now s ≡ becomes (cell_at cells s)
-  pub left : (s : ℕ) → k ≤ s → cell_at now s ≡ cell_at cells s
-  pub still : (s : ℕ) → k ≤ s → slice_index_or ready s Stays ≡ slice_index_or made s Stays
+  pub done : (s : ℕ) → s < k → cell_at now s ≡ becomes (cell_at slots s)
+  pub left : (s : ℕ) → k ≤ s → cell_at now s ≡ cell_at slots s
+  pub still : (s : ℕ) → k ≤ s → slice_index_or ready s nothing_ready ≡ slice_index_or made s nothing_ready

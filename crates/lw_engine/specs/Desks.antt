@@ -1,8 +1,9 @@
 -- Which desks LayerInfo, the cells and the registers stand for, part by part and together (this project's own).
-use Rattle.std.specs.Prelude.{◌≡◌, ℕ, ◌<◌, List, [], length}
+use Rattle.std.specs.Prelude.{◌≡◌, ℕ, ◌<◌, List, [], length, Option, None}
 use Rattle.std.specs.List.{slice_index_or}
 use Rattle.lw_region.specs.Rectangle.{Rectangle}
 use Rattle.lw_region.specs.Pixels.{Pixel, pixels_of}
+use Rattle.lw_machine.specs.Hook.{Hook}
 use Rattle.lw_machine.specs.Desk.{Desk}
 use Rattle.lw_machine.specs.Parts.{slot_part, info_part}
 use Rattle.lw_machine.specs.Sound.{IsDesk}
@@ -29,16 +30,26 @@ pub record AreNumbered (slots : ℕ) (cells : List CellView) : Type 0 where
   pub many : length cells ≡ slots
   pub numbers : (s : ℕ) → s < slots → (cell_at cells s).number ≡ s
 
--- LayerInfo and the cells of all slots stand for the parts of a sound desk.
+-- LayerInfo and the cells of all slots, with the hooks of their layers, stand for the parts of a sound desk.
 pub record AreOfDesk (v : Stack) (cells : List CellView) (d : Desk) : Type 0 where
   pub sound : IsDesk d
   pub sizes : d.sizes ≡ v.sizes
   pub info : StandsForInfo v (info_part d)
   pub slots : (s : ℕ) → s < v.sizes.slots → StandsFor (cell_at cells s) (slot_part d s)
 
--- What the desk of the program keeps: LayerInfo with the sizes, the cells of all slots, and by task its registers.
+-- the hook of a number on the shelf, if it is there
+abbrev pub hook_at : List (Option Hook) → ℕ → Option Hook
+hook_at shelf n = slice_index_or shelf n None
+
+-- the desk has these hooks on its shelf, by their numbers
+abbrev pub AreOnShelf : List (Option Hook) → Desk → Type 0
+AreOnShelf shelf d = (n : ℕ) → d.shelf n ≡ hook_at shelf n
+
+-- What the desk of the program keeps: LayerInfo with the sizes, the shelf of hooks that no call took, the cells of all slots with
+-- the hooks of their layers, and by task its registers.
 pub record Engine : Type 0 where
   pub stack : Stack
+  pub shelf : List (Option Hook)
   pub cells : List CellView
   pub registers : List (List (List Rectangle))
 
@@ -46,10 +57,10 @@ pub record Engine : Type 0 where
 abbrev pub registers_at : Engine → ℕ → List (List Rectangle)
 registers_at e t = slice_index_or e.registers t []
 
--- It stands for a desk. The shelf of hooks may be anything, since no call that is built reads it, and so may what was handed in,
--- which each call is lent.
+-- It stands for a desk. What was handed in may be anything, since each call is lent it.
 pub record StandsForDesk (e : Engine) (d : Desk) : Type 0 where
   pub parts : AreOfDesk e.stack e.cells d
+  pub hooks : AreOnShelf e.shelf d
   pub registers : (t : ℕ) → t < e.stack.sizes.tasks → StandForRegisters (registers_at e t) (d.registers t)
 
 -- What holds of every desk of the program: it stands for some desk.

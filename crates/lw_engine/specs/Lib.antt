@@ -3,5 +3,6 @@ pub mod Parts
 pub mod Registers
 pub mod Classes
 pub mod Steps
+pub mod Slots
 pub mod Finished
 pub mod Arranging

@@ -1,129 +1,162 @@
-ghost use Rattle.std.specs.Prelude.{◌≡◌, ℕ, ◌<◌, length, IfOk, OnErr, IsTrue};
+ghost use Rattle.std.specs.Prelude.{◌≡◌, ℕ, ◌<◌, length, option_map, IfOk, OnErr, IsTrue};
 ghost use Rattle.lw_calls.specs.Limits.{call_fits};
 ghost use Rattle.lw_calls.specs.Touches.{OnAll, class_of};
+ghost use Rattle.lw_machine.specs.Arrangement.{hook_from};
 ghost use Rattle.lw_machine.specs.Desk.{Desk};
 ghost use Rattle.lw_layer.specs.View.{CellView};
-ghost use Rattle.lw_arrange.specs.Prepared.{IsPlainCall, cell_after, MayPrepare};
-ghost use Rattle.lw_arrange.specs.Made.{IsPrepared};
-ghost use Rattle.lw_engine.specs.Desks.{AreNumbered, AreOfDesk, cell_at};
-ghost use Rattle.lw_engine.specs.Arranging.{AreLooks, HasSlot, IsFreshSlot, ArePrepared, AreChanged, IsAllStep};
+ghost use Rattle.lw_arrange.specs.Prepared.{IsPlainCall, MayPrepare};
+ghost use Rattle.lw_engine.specs.Desks.{AreNumbered, AreOfDesk, hook_at, cell_at};
+ghost use Rattle.lw_engine.specs.Slots.{bare, shelf_without, shelf_after, slot_after, IsSettled};
+ghost use Rattle.lw_engine.specs.Arranging.{AreLooks, HasSlot, IsFreshSlot, AreReady, AreSettled, with_taken, AreChanged, IsAllStep, DropHooks};
 
-use lw_arrange::{
-    Arrangement, Prepared, Step, commit, commit_info, plan_step, prepare, prepare_info,
-};
+use crate::ready::Ready;
+use crate::slot::Slot;
+use lw_arrange::{Arrangement, Step, commit_info, plan_step, prepare_info};
+use lw_backfill::{Backfill, Shelf};
 use lw_calls::{Call, Reply};
-use lw_layer::{Cell, Look};
+use lw_layer::Look;
 use lw_stack::Info;
 use std::alloc::{AllocError, Global};
 use std::mem;
 
-/// Makes a call that arranges layers, on LayerInfo and the cells of all slots in rising number: it is planned, everything is
-/// prepared, and only then anything is committed. It fails for want of memory alone, and all is then as it was.
-pub fn on_all(
+/// Makes a call that arranges layers, on LayerInfo, the shelf of hooks and all slots in rising number: it is planned, everything is
+/// prepared, and only then anything is changed. It fails for want of memory alone, and all is then as it was.
+pub fn on_all<B: Backfill>(
     alloc: Global,
     info: &mut Info,
-    cells: &mut [Cell],
+    shelf: &mut Shelf<B>,
+    slots: &mut [Slot<B>],
     task: u32,
     call: &Call,
 ) -> Result<Reply, AllocError>
     requires all { class_of call.now ≡ OnAll }
     requires fits { IsTrue (call_fits info.old.sizes call.now) }
     requires plain { IsPlainCall call.now }
-    requires cells { AreNumbered info.old.sizes.slots cells.old }
-    requires desk { (d : Desk) × AreOfDesk info.old cells.old d }
-    ensures step { IfOk result (λ r. IsAllStep info.old cells.old task call.now r info.new cells.new) }
+    requires cells { AreNumbered info.old.sizes.slots slots.old }
+    requires desk { (d : Desk) × AreOfDesk info.old slots.old d }
+    ensures step { IfOk result (λ r. IsAllStep info.old shelf.old slots.old task call.now r info.new shelf.new slots.new) }
     ensures sizes { info.new.sizes ≡ info.old.sizes }
-    ensures cells { AreNumbered info.new.sizes.slots cells.new }
-    ensures unchanged { OnErr result ((info.new ≡ info.old) × (cells.new ≡ cells.old)) }
+    ensures cells { AreNumbered info.new.sizes.slots slots.new }
+    ensures dropped { DropHooks slots.old slots.new }
+    ensures unchanged { OnErr result ((info.new ≡ info.old) × (shelf.new ≡ shelf.old) × (slots.new ≡ slots.old)) }
 {
-    let looks = looks_of(alloc, cells)?;
-    let fresh = is_fresh(cells, call);
+    let looks = looks_of(alloc, slots)?;
+    let fresh = is_fresh(slots, call);
     match plan_step(alloc, info, &looks, fresh, task, call)? {
         Step::Refused(reply) => Ok(reply),
         Step::Arranged(arrangement) => {
             // Reading the sizes tells the proof what holds of the plan.
             let _ = arrangement.sizes();
-            arrange(alloc, info, cells, &arrangement)
+            arrange(alloc, info, shelf, slots, &arrangement)
         }
     }
 }
 
-// Does what was planned: all is prepared before anything is committed.
-fn arrange(
+// Does what was planned: all is ready before anything is changed.
+fn arrange<B: Backfill>(
     alloc: Global,
     info: &mut Info,
-    cells: &mut [Cell],
+    shelf: &mut Shelf<B>,
+    slots: &mut [Slot<B>],
     arrangement: &Arrangement,
 ) -> Result<Reply, AllocError>
     requires sizes { arrangement.now.stack.sizes ≡ info.old.sizes }
-    requires cells { AreNumbered info.old.sizes.slots cells.old }
-    requires may { (s : ℕ) → s < length cells.old → MayPrepare arrangement.now (cell_at cells.old s) }
+    requires cells { AreNumbered info.old.sizes.slots slots.old }
+    requires call { HasSlot (length slots.old) arrangement.now.call }
+    requires may { (s : ℕ) → s < length slots.old → MayPrepare arrangement.now (bare (cell_at slots.old s)) }
     ensures reply { IfOk result (λ r. r ≡ Reply.Done) }
     ensures info { IfOk result (λ r. info.new ≡ arrangement.now.stack) }
-    ensures cells { IfOk result (λ r. AreChanged (cell_after arrangement.now) cells.old cells.new) }
-    ensures unchanged { OnErr result ((info.new ≡ info.old) × (cells.new ≡ cells.old)) }
+    ensures shelf { IfOk result (λ r. shelf.new ≡ shelf_after arrangement.now.call shelf.old) }
+    ensures cells { IfOk result (λ r. AreChanged (slot_after arrangement.now shelf.old) slots.old slots.new) }
+    ensures unchanged { OnErr result ((info.new ≡ info.old) × (shelf.new ≡ shelf.old) × (slots.new ≡ slots.old)) }
 {
-    let mut prepared = prepare_all(alloc, cells, arrangement)?;
+    let mut ready = prepare_all(alloc, slots, shelf, arrangement)?;
     let next = prepare_info(alloc, info, arrangement)?;
-    commit_all(cells, prepared.as_mut_slice());
+    let ready = ready.as_mut_slice();
+    take_hook(shelf, ready, arrangement.call());
+    settle_all(alloc, slots, ready);
     commit_info(info, next);
     Ok(Reply::Done)
 }
 
 // What is told of each slot's layer.
-fn looks_of(alloc: Global, cells: &[Cell]) -> Result<Vec<Option<Look>>, AllocError>
-    ensures { IfOk result (λ looks. AreLooks cells.now looks.items) }
+fn looks_of<B: Backfill>(alloc: Global, slots: &[Slot<B>]) -> Result<Vec<Option<Look>>, AllocError>
+    ensures { IfOk result (λ looks. AreLooks slots.now looks.items) }
 {
-    let mut looks = Vec::with_capacity(alloc, cells.len())?;
-    for cell in cells {
-        looks.push(cell.look())?;
+    let mut looks = Vec::with_capacity(alloc, slots.len())?;
+    for slot in slots {
+        looks.push(slot.cell().look())?;
     }
     Ok(looks)
 }
 
 // Whether the slot in which a call creates or opens a layer is unopened.
-fn is_fresh(cells: &[Cell], call: &Call) -> bool
-    requires { HasSlot (length cells.now) call.now }
-    ensures { IsFreshSlot cells.now call.now result }
+fn is_fresh<B: Backfill>(slots: &[Slot<B>], call: &Call) -> bool
+    requires { HasSlot (length slots.now) call.now }
+    ensures { IsFreshSlot slots.now call.now result }
 {
     match call {
-        Call::Create { slot, .. } => cells[*slot as usize].fresh(),
-        Call::OpenWindow { slot, .. } => cells[*slot as usize].fresh(),
+        Call::Create { slot, .. } => slots[*slot as usize].cell().fresh(),
+        Call::OpenWindow { slot, .. } => slots[*slot as usize].cell().fresh(),
         _ => false,
     }
 }
 
-// Prepares every cell.
-fn prepare_all(
+// Makes everything ready, slot by slot.
+fn prepare_all<B: Backfill>(
     alloc: Global,
-    cells: &[Cell],
+    slots: &[Slot<B>],
+    shelf: &Shelf<B>,
     arrangement: &Arrangement,
-) -> Result<Vec<Prepared>, AllocError>
-    requires cells { AreNumbered arrangement.now.stack.sizes.slots cells.now }
-    requires may { (s : ℕ) → s < length cells.now → MayPrepare arrangement.now (cell_at cells.now s) }
-    ensures { IfOk result (λ made. ArePrepared (cell_after arrangement.now) cells.now made.items) }
+) -> Result<Vec<Ready<B>>, AllocError>
+    requires cells { AreNumbered arrangement.now.stack.sizes.slots slots.now }
+    requires may { (s : ℕ) → s < length slots.now → MayPrepare arrangement.now (bare (cell_at slots.now s)) }
+    ensures { IfOk result (λ made. AreReady arrangement.now shelf.now slots.now made.items) }
 {
-    let mut made = Vec::with_capacity(alloc, cells.len())?;
-    for cell in cells {
-        made.push(prepare(alloc, cell, arrangement)?)?;
+    let mut made = Vec::with_capacity(alloc, slots.len())?;
+    for slot in slots {
+        made.push(slot.prepare(alloc, shelf, arrangement)?)?;
     }
     Ok(made)
 }
 
-// Commits every cell.
-fn commit_all(cells: &mut [Cell], prepared: &mut [Prepared])
-    requires { (after : CellView → CellView) × ArePrepared after cells.old prepared.old }
-    ensures { (after : CellView → CellView) → ArePrepared after cells.old prepared.old → AreChanged after cells.old cells.new }
+// Takes the hook that the call asks for from the shelf, for the slot of its new layer.
+fn take_hook<B: Backfill>(shelf: &mut Shelf<B>, ready: &mut [Ready<B>], call: &Call)
+    requires { HasSlot (length ready.old) call.now }
+    ensures shelf { shelf.new ≡ shelf_after call.now shelf.old }
+    ensures ready { ready.new ≡ with_taken shelf.old call.now ready.old }
 {
-    for slot in 0..cells.len() {
-        commit_one(&mut cells[slot], &mut prepared[slot]);
+    if let Call::Create { slot, make } = call {
+        let taken = take(shelf, make.hook);
+        ready[*slot as usize].receive(taken);
     }
 }
 
-// Commits one cell.
-fn commit_one(cell: &mut Cell, prepared: &mut Prepared)
-    requires { (to : CellView) × IsPrepared cell.old to prepared.old }
-    ensures { (to : CellView) → IsPrepared cell.old to prepared.old → cell.new ≡ to }
+// Takes the hook of this number from the shelf, if one is asked for.
+fn take<B: Backfill>(shelf: &mut Shelf<B>, hook: Option<u32>) -> Option<B>
+    ensures hook { option_map B.hook result ≡ hook_from (hook_at shelf.old) hook }
+    ensures shelf { shelf.new ≡ shelf_without hook shelf.old }
 {
-    commit(cell, mem::replace(prepared, Prepared::Stays));
+    match hook {
+        Some(hook) => shelf.take(hook),
+        None => None,
+    }
+}
+
+// Settles every slot.
+fn settle_all<B: Backfill>(alloc: Global, slots: &mut [Slot<B>], ready: &mut [Ready<B>])
+    requires { (after : CellView → CellView) × AreSettled after slots.old ready.old }
+    ensures { (after : CellView → CellView) → AreSettled after slots.old ready.old → AreChanged after slots.old slots.new }
+{
+    for slot in 0..slots.len() {
+        settle_one(alloc, &mut slots[slot], &mut ready[slot]);
+    }
+}
+
+// Settles one slot.
+fn settle_one<B: Backfill>(alloc: Global, slot: &mut Slot<B>, ready: &mut Ready<B>)
+    requires { (to : CellView) × IsSettled slot.old to ready.old }
+    ensures { (to : CellView) → IsSettled slot.old to ready.old → slot.new ≡ to }
+{
+    slot.settle(mem::replace(ready, Ready::stays(alloc)));
 }

@@ -11,6 +11,8 @@ ghost use Rattle.lw_machine.specs.Screen.{screen};
 ghost use Rattle.lw_engine.specs.Finished.{pen_shown, with_bits, with_pens, with_layer_shown};
 ghost use Rattle.lw_engine.specs.Finished.{MayLieOn, IsPartOn, AreRowsFor, in_line, in_rectangle, AreSlotsOf};
 
+use crate::slot::Slot;
+use lw_backfill::Backfill;
 use lw_calls::Sizes;
 use lw_kernels::combine;
 use lw_layer::Cell;
@@ -22,10 +24,14 @@ use std::alloc::{AllocError, Global};
 const COPY: u8 = 0xc0;
 
 /// What the screen shows.
-pub(crate) fn screen(alloc: Global, sizes: &Sizes, cells: &[Cell]) -> Result<Planes, AllocError>
-    requires many { length cells.now ≡ sizes.now.slots }
-    requires desk { (d : Desk) × AreSlotsOf sizes.now cells.now d }
-    ensures { IfOk result (λ planes. (d : Desk) → AreSlotsOf sizes.now cells.now d → planes ≡ screen d) }
+pub(crate) fn screen<B: Backfill>(
+    alloc: Global,
+    sizes: &Sizes,
+    slots: &[Slot<B>],
+) -> Result<Planes, AllocError>
+    requires many { length slots.now ≡ sizes.now.slots }
+    requires desk { (d : Desk) × AreSlotsOf sizes.now slots.now d }
+    ensures { IfOk result (λ planes. (d : Desk) → AreSlotsOf sizes.now slots.now d → planes ≡ screen d) }
 {
     let mut planes = Planes::new(alloc, sizes.width, sizes.height, sizes.depth)?;
     // A bit for each column of the screen.
@@ -34,8 +40,8 @@ pub(crate) fn screen(alloc: Global, sizes: &Sizes, cells: &[Cell]) -> Result<Pla
     let mut kept = vec![in alloc; 0; bytes]?;
     let bits = bits.as_mut_slice();
     let kept = kept.as_mut_slice();
-    for cell in cells {
-        show_layer(&mut planes, cell, bits, kept);
+    for slot in slots {
+        show_layer(&mut planes, slot.cell(), bits, kept);
     }
     Ok(planes)
 }

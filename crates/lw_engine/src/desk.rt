@@ -5,8 +5,7 @@ ghost use Rattle.lw_calls.specs.declared.reply.Reply.{Reply as AnyReply};
 ghost use Rattle.lw_calls.specs.Built.{is_built};
 ghost use Rattle.lw_calls.specs.Limits.{IsWithinLimits, call_fits};
 ghost use Rattle.lw_calls.specs.Touches.{class_of, OnRegisters, OnInfo, OnLayer, OnLayers, OnAll};
-ghost use Rattle.lw_machine.specs.Hook.{Hook};
-ghost use Rattle.lw_machine.specs.Desk.{Desk as MachineDesk, empty_desk};
+ghost use Rattle.lw_machine.specs.Desk.{Desk as MachineDesk, empty_desk, shelf_of};
 ghost use Rattle.lw_machine.specs.Finals.{final_of};
 ghost use Rattle.lw_arrange.specs.Prepared.{IsPlainCall};
 ghost use Rattle.lw_engine.specs.Desks.{StandsForDesk};
@@ -17,51 +16,55 @@ use crate::all_layers::on_all;
 use crate::class::{Class, class_of};
 use crate::finishing::finish;
 use crate::looking::on_info;
-use crate::one_layer::on_layer;
 use crate::registers::on_registers;
 use crate::regs::Regs;
+use crate::slot::Slot;
 use crate::two_layers::on_two;
+use lw_backfill::{Backfill, Shelf};
 use lw_calls::{Assets, Call, Final, Replies, Reply, Sizes};
-use lw_layer::Cell;
 use lw_stack::Info;
 use std::alloc::{AllocError, Global};
 use std::marker::Model;
 
-/// The desk of the machine (the manual's Layers Library chapter): LayerInfo, the cell of each slot, and the region registers of
-/// each task.
-#[derive(Debug, Drop)]
-pub struct Desk {
+/// The desk of the machine (the manual's Layers Library chapter): LayerInfo, the hooks that no call took, the slots, and the region
+/// registers of each task.
+#[derive(Drop)]
+pub struct Desk<B: Backfill> {
     pub(crate) info: Info,
-    /// By slot, in rising number.
-    pub(crate) cells: Vec<Cell>,
+    pub(crate) shelf: Shelf<B>,
+    /// In rising number.
+    pub(crate) slots: Vec<Slot<B>>,
     /// By task.
     pub(crate) registers: Vec<Regs>,
 }
 
-impl Model for Desk {
+impl<B: Backfill> Model for Desk<B> {
     ghost use Rattle.lw_engine.specs.Desks.{Engine, IsEngine};
 
     ghost Value = { Engine };
 
-    ghost view = { λ d. record { stack = d.info; cells = d.cells.items; registers = d.registers.items } };
+    ghost view = { λ d. record { stack = d.info; shelf = d.shelf; cells = d.slots.items; registers = d.registers.items } };
 
-    ghost invariant = { λ d. IsEngine (record { stack = d.info; cells = d.cells.items; registers = d.registers.items }) };
+    ghost invariant = { λ d. IsEngine (record { stack = d.info; shelf = d.shelf; cells = d.slots.items; registers = d.registers.items }) };
 }
 
-impl Desk {
-    /// The desk before the first call: no layer was created, and the screen shows pen 0 everywhere. It fails for want of memory
-    /// alone.
-    pub fn new(alloc: Global, sizes: Sizes) -> Result<Desk, AllocError>
+impl<B: Backfill> Desk<B> {
+    /// The desk before the first call: no layer was created, the screen shows pen 0 everywhere, and the hooks are on the shelf, in
+    /// their order. It fails for want of memory alone.
+    pub fn new(alloc: Global, sizes: Sizes, hooks: Vec<B>) -> Result<Desk<B>, AllocError>
         requires { IsWithinLimits sizes }
-        ensures empty { IfOk result (λ desk. (assets : AssetsView) (shelf : ℕ → Option Hook) → StandsForDesk desk (empty_desk sizes assets shelf)) }
+        ensures empty { IfOk result (λ desk. (assets : AssetsView)
+            → StandsForDesk desk (empty_desk sizes assets (shelf_of (map B.hook hooks.items)))) }
         ensures sizes { IfOk result (λ desk. desk.stack.sizes ≡ sizes) }
     {
         let info = Info::new(alloc, &sizes)?;
-        let cells = unopened_cells(alloc, sizes.slots)?;
+        let shelf = Shelf::new(alloc, hooks)?;
+        let slots = unopened_slots(alloc, sizes.slots)?;
         let registers = empty_registers(alloc, sizes.tasks)?;
         Ok(Desk {
             info,
-            cells,
+            shelf,
+            slots,
             registers,
         })
     }
@@ -101,7 +104,7 @@ impl Desk {
             → ((t : ℕ) → t < self.now.stack.sizes.tasks → slice_index_or replies.items t [] ≡ rs t)
             → last ≡ final_of d rs) }
     {
-        finish(alloc, &self.info, self.cells.as_slice(), replies)
+        finish(alloc, &self.info, self.slots.as_slice(), replies)
     }
 
     // A call on the registers of its task.
@@ -143,13 +146,8 @@ impl Desk {
         ensures memory { takes_memory call.now ≡ false → IsOk result }
         ensures sizes { self.new.stack.sizes ≡ self.old.stack.sizes }
     {
-        on_layer(
-            alloc,
-            &mut self.cells[slot as usize],
-            &self.registers[task as usize],
-            assets,
-            call,
-        )
+        let regs = &self.registers[task as usize];
+        self.slots[slot as usize].on_layer(alloc, regs, assets, call)
     }
 
     // A call on two layers.
@@ -159,7 +157,7 @@ impl Desk {
         ensures step { (task : ℕ) → IsStep self.old task call.now result self.new }
         ensures sizes { self.new.stack.sizes ≡ self.old.stack.sizes }
     {
-        on_two(self.cells.as_mut_slice(), source, slot, call)
+        on_two(self.slots.as_mut_slice(), source, slot, call)
     }
 
     // A call that arranges the layers.
@@ -171,19 +169,26 @@ impl Desk {
         ensures unchanged { OnErr result (self.new ≡ self.old) }
         ensures sizes { self.new.stack.sizes ≡ self.old.stack.sizes }
     {
-        on_all(alloc, &mut self.info, self.cells.as_mut_slice(), task, call)
+        on_all(
+            alloc,
+            &mut self.info,
+            &mut self.shelf,
+            self.slots.as_mut_slice(),
+            task,
+            call,
+        )
     }
 }
 
-// The cells of so many slots, of which none was opened.
-fn unopened_cells(alloc: Global, count: u32) -> Result<Vec<Cell>, AllocError>
+// So many slots, of which none was opened.
+fn unopened_slots<B: Backfill>(alloc: Global, count: u32) -> Result<Vec<Slot<B>>, AllocError>
     ensures { IfOk result (λ v. v.items ≡ map unopened_cell (range_with_len 0 count)) }
 {
-    let mut cells = Vec::with_capacity(alloc, count as usize)?;
+    let mut slots = Vec::with_capacity(alloc, count as usize)?;
     for slot in 0..count {
-        cells.push(Cell::unopened(slot))?;
+        slots.push(Slot::unopened(slot))?;
     }
-    Ok(cells)
+    Ok(slots)
 }
 
 // Empty registers for so many tasks.
@@ -197,12 +202,9 @@ fn empty_registers(alloc: Global, count: u32) -> Result<Vec<Regs>, AllocError>
     Ok(registers)
 }
 
-// The desk may go to another thread, and threads may share it: the bounds ask for the proofs.
-fn cross_threads() {
-    crosses::<Desk>();
-    is_shared::<Desk>();
+// The desk may go to another thread where its hooks may: the bounds ask for the proofs.
+fn cross_threads<B: Backfill + Send>() {
+    crosses::<Desk<B>>();
 }
 
 fn crosses<T: Send>() {}
-
-fn is_shared<T: Sync>() {}

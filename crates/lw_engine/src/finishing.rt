@@ -11,6 +11,8 @@ ghost use Rattle.lw_engine.specs.Desks.{cell_at, AreNumbered, AreOfDesk};
 ghost use Rattle.lw_engine.specs.Finished.{first_set, seen_in};
 
 use crate::composing::screen;
+use crate::slot::Slot;
+use lw_backfill::Backfill;
 use lw_calls::{Final, Replies, Seen};
 use lw_layer::Cell;
 use lw_region::Region;
@@ -18,23 +20,23 @@ use lw_stack::Info;
 use std::alloc::{AllocError, Global};
 
 /// What a run leaves whose tasks had these replies, a list for each task: the screen, where each layer is shown with its
-/// damage, and the replies. There is a cell for each slot. It fails for want of memory alone.
-pub fn finish(
+/// damage, and the replies. It is given all slots. It fails for want of memory alone.
+pub fn finish<B: Backfill>(
     alloc: Global,
     info: &Info,
-    cells: &[Cell],
+    slots: &[Slot<B>],
     replies: Vec<Replies>,
 ) -> Result<Final, AllocError>
-    requires cells { AreNumbered info.now.sizes.slots cells.now }
+    requires cells { AreNumbered info.now.sizes.slots slots.now }
     requires tasks { vec_len replies ≡ info.now.sizes.tasks }
-    requires desk { (d : Desk) × AreOfDesk info.now cells.now d }
+    requires desk { (d : Desk) × AreOfDesk info.now slots.now d }
     ensures { IfOk result (λ last. (d : Desk) (rs : ℕ → List AnyReply)
-        → AreOfDesk info.now cells.now d
+        → AreOfDesk info.now slots.now d
         → ((t : ℕ) → t < info.now.sizes.tasks → slice_index_or replies.items t [] ≡ rs t)
         → last ≡ final_of d rs) }
 {
-    let planes = screen(alloc, info.sizes(), cells)?;
-    let slots = slots_seen(alloc, info, cells)?;
+    let planes = screen(alloc, info.sizes(), slots)?;
+    let slots = slots_seen(alloc, info, slots)?;
     Ok(Final {
         planes,
         slots,
@@ -43,16 +45,20 @@ pub fn finish(
 }
 
 // What is seen of each slot.
-fn slots_seen(alloc: Global, info: &Info, cells: &[Cell]) -> Result<Vec<Option<Seen>>, AllocError>
-    requires { AreNumbered info.now.sizes.slots cells.now }
-    ensures { IfOk result (λ slots.
-        slots.items ≡ map (λ s. seen_in info.now (cell_at cells.now s)) (range_with_len 0 info.now.sizes.slots)) }
+fn slots_seen<B: Backfill>(
+    alloc: Global,
+    info: &Info,
+    slots: &[Slot<B>],
+) -> Result<Vec<Option<Seen>>, AllocError>
+    requires { AreNumbered info.now.sizes.slots slots.now }
+    ensures { IfOk result (λ all.
+        all.items ≡ map (λ s. seen_in info.now (cell_at slots.now s)) (range_with_len 0 info.now.sizes.slots)) }
 {
-    let mut slots = Vec::new(alloc);
-    for cell in cells {
-        slots.push(seen(alloc, info, cell)?)?;
+    let mut all = Vec::new(alloc);
+    for slot in slots {
+        all.push(seen(alloc, info, slot.cell())?)?;
     }
-    Ok(slots)
+    Ok(all)
 }
 
 // What is seen of the cell's layer: where it is shown, and its damage. No layer is a window so far.

@@ -14,6 +14,7 @@ use crate::blitting::{blit, put, scroll_raster};
 use crate::drawing::{draw, fill, letters, read, set_rast, write};
 use crate::raster_state::{at, set_a, set_b, set_mask, set_mode};
 use crate::regs::Regs;
+use crate::updating::{begin_refresh, end_refresh};
 use lw_calls::{Assets, Call, Kind, Reply};
 use lw_layer::Cell;
 use lw_region::Region;
@@ -22,8 +23,8 @@ use std::alloc::{AllocError, Global};
 /// Makes one call on a layer and gives its reply, as the machine's step says of every desk whose slot this is, whose registers
 /// these are, and to which this was handed in: those that set how it paints (pens, mode, mask, cursor), those that draw or read
 /// a pixel, blits from a bitmap or from the layer itself, ScrollRaster, InstallClipRegion with a copy of a register or with none,
-/// and ScrollLayer. It fails for want of memory alone, which only the copy of a register and the damage of ScrollRaster take, and
-/// the layer is then as before.
+/// BeginUpdate, EndUpdate, and ScrollLayer. It fails for want of memory alone, which only the copy of a register and the damage
+/// of ScrollRaster take, and the layer is then as before.
 pub fn on_layer(
     alloc: Global,
     cell: &mut Cell,
@@ -65,6 +66,8 @@ pub fn on_layer(
         Call::Blit { ref area, .. } => Ok(blit(cell, area)),
         Call::Clip { reg, .. } => clip(alloc, cell, regs, reg),
         Call::Unclip { .. } => Ok(unclip(cell)),
+        Call::BeginRefresh { .. } => Ok(begin_refresh(cell)),
+        Call::EndRefresh { full, .. } => Ok(end_refresh(cell, full)),
         Call::Scroll { dx, dy, .. } => Ok(scroll(cell, dx, dy)),
         // No other call is built.
         _ => unreachable!(),

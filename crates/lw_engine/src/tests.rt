@@ -2,6 +2,7 @@ ghost use Rattle.std.specs.Prelude.{◌≡◌, ◌≤◌, IsTrue};
 ghost use Rattle.lw_calls.specs.Built.{is_built};
 
 use crate::{Desk, Regs};
+use lw_backfill::Solid;
 use lw_calls::{
     Assets, Call, Final, Kind, Make, PairOp, Place, RectOp, Replies, Reply, Seen, Sizes,
 };
@@ -180,7 +181,8 @@ fn run(
         hooks: 0,
         bitmaps: 0,
     };
-    let mut desk = Desk::new(rt.alloc(), sizes)?;
+    let none: Vec<Solid> = Vec::new(rt.alloc());
+    let mut desk = Desk::new(rt.alloc(), sizes, none)?;
     let assets = Assets {
         glyphs: [[0; 8]; 95],
         bitmaps: Vec::new(rt.alloc()),

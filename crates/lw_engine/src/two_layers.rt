@@ -5,6 +5,8 @@ ghost use Rattle.lw_calls.specs.Touches.{class_of, OnLayers};
 ghost use Rattle.lw_engine.specs.Desks.{AreNumbered, cell_at};
 ghost use Rattle.lw_engine.specs.Parts.{IsPairStep};
 
+use crate::slot::Slot;
+use lw_backfill::Backfill;
 use lw_blit::between;
 use lw_calls::{Call, Reply};
 use lw_layer::Cell;
@@ -31,24 +33,29 @@ pub fn on_layers(source: &Cell, to: &mut Cell, call: &Call) -> Reply
     Reply::Done
 }
 
-// The same call on two of the cells of all slots.
-pub(crate) fn on_two(cells: &mut [Cell], source: u32, slot: u32, call: &Call) -> Reply
+// The same call on two of all slots.
+pub(crate) fn on_two<B: Backfill>(
+    slots: &mut [Slot<B>],
+    source: u32,
+    slot: u32,
+    call: &Call,
+) -> Reply
     requires class { class_of call.now ≡ OnLayers source slot }
     requires fits { (sizes : Sizes) × IsTrue (call_fits sizes call.now) }
-    requires cells { AreNumbered (length cells.old) cells.old }
-    requires source { source < length cells.old }
-    requires slot { slot < length cells.old }
-    ensures step { IsPairStep (cell_at cells.old source) (cell_at cells.old slot) call.now result (cell_at cells.new slot) }
-    ensures number { (cell_at cells.new slot).number ≡ slot }
-    ensures rest { cells.new ≡ slice_set cells.old slot (cell_at cells.new slot) }
+    requires cells { AreNumbered (length slots.old) slots.old }
+    requires source { source < length slots.old }
+    requires slot { slot < length slots.old }
+    ensures step { IsPairStep (cell_at slots.old source) (cell_at slots.old slot) call.now result (cell_at slots.new slot) }
+    ensures number { (cell_at slots.new slot).number ≡ slot }
+    ensures rest { slots.new ≡ slice_set slots.old slot (cell_at slots.new slot) }
 {
     let source = source as usize;
     let slot = slot as usize;
     if source < slot {
-        let (front, back) = cells.split_at_mut(slot);
-        on_layers(&front[source], &mut back[0], call)
+        let (front, back) = slots.split_at_mut(slot);
+        back[0].with_source(&front[source], call)
     } else {
-        let (front, back) = cells.split_at_mut(source);
-        on_layers(&back[0], &mut front[slot], call)
+        let (front, back) = slots.split_at_mut(source);
+        front[slot].with_source(&back[0], call)
     }
 }

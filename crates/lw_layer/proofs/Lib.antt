@@ -11,6 +11,7 @@ pub mod CellLaws
 pub mod BitsLaws
 pub mod ReadLaws
 pub mod SetLaws
+pub mod UpdateLaws
 pub mod NewLaws
 pub mod NewDraftLaws
 pub mod CopyingLists

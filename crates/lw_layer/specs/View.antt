@@ -3,6 +3,7 @@ use Rattle.std.specs.Prelude.{ℕ, Bool, List, ℤ, pos, negsuc, Option, Some, N
 use Rattle.lw_region.specs.Rectangle.{Rectangle}
 use Rattle.lw_region.specs.Bands.{covers}
 use Rattle.lw_planes.specs.Bitmap.{bitmap, pen_at}
+use Rattle.lw_machine.specs.Hook.{Hook}
 use Rattle.lw_machine.specs.Layer.{Layer}
 use Rattle.lw_machine.specs.Kept.{visible_within, is_kept, is_drawable}
 
@@ -51,6 +52,10 @@ with_layer f c = record c { layer = f c.layer }
 -- the cell with its live layer changed
 abbrev pub with_live : (LiveView → LiveView) → CellView → CellView
 with_live f c = record c { live = f c.live }
+
+-- the cell with this hook on its layer; a cell has none itself, its hook lies beside it
+abbrev pub hooked : Option Hook → CellView → CellView
+hooked h c = with_live (λ k. with_layer (λ l. record l { hook = h }) k) c
 
 -- the live layer with the pen f x y at each pixel (x, y) of its bits
 abbrev pub repainted : (ℕ → ℕ → ℕ) → LiveView → LiveView

@@ -14,6 +14,7 @@ ghost use Rattle.lw_region.specs.Banded.{IsCanonical};
 ghost use Rattle.lw_cliprects.specs.Parts.{AreDivided};
 ghost use Rattle.lw_calls.specs.Kinds.{is_super};
 ghost use Rattle.lw_machine.specs.Kept.{holds_at};
+ghost use Rattle.lw_machine.specs.Step.{end_update};
 ghost use Rattle.lw_layer.specs.Looks.{IsLookAt};
 ghost use Rattle.lw_layer.specs.StandsFor.{IsSound};
 ghost use Rattle.lw_layer.specs.Runs.{IsRunAt, IsNext};
@@ -283,6 +284,28 @@ impl Cell {
     {
         match &mut self.draft.state {
             DraftState::Live(live) => mem::replace(&mut live.clip, clip),
+            _ => unreachable!(),
+        }
+    }
+
+    /// Begins an update: only damaged pixels are drawable until it ends (BeginUpdate).
+    pub fn begin_update(&mut self)
+        requires { self.old.state ≡ view.Live }
+        ensures { self.new ≡ with_live (λ c. with_layer (λ l. record l { updating = true }) c) self.old }
+    {
+        match &mut self.draft.state {
+            DraftState::Live(live) => live.damage.begin(),
+            _ => unreachable!(),
+        }
+    }
+
+    /// Ends an update. A full end takes all damage away, a partial one leaves it (EndUpdate).
+    pub fn end_update(&mut self, full: bool)
+        requires { self.old.state ≡ view.Live }
+        ensures { self.new ≡ with_live (λ c. with_layer (λ l. end_update full l) c) self.old }
+    {
+        match &mut self.draft.state {
+            DraftState::Live(live) => live.damage.end(full),
             _ => unreachable!(),
         }
     }

@@ -1,6 +1,6 @@
 //! What the grammar asks of a line's act.
-ghost use Rattle.std.specs.Prelude.{◌≡◌, ℕ, List, is_none, option_map, unsigned_abs};
-ghost use Rattle.lw_calls.specs.Built.{is_built, is_hookless};
+ghost use Rattle.std.specs.Prelude.{◌≡◌, ℕ, List, is_none, option_map};
+ghost use Rattle.lw_calls.specs.Built.{is_built};
 ghost use Rattle.lw_grammar.specs.LineForms.{CallLine};
 ghost use Rattle.lw_grammar.specs.Told.{spelled_call, asks_super, hook_on};
 ghost use Rattle.lw_grammar.specs.Script.{is_arranging, is_beginning, is_ending, are_all, is_on_one, call_may_stand, is_lock_on, is_hold, fits_group};
@@ -8,7 +8,7 @@ ghost use Rattle.lw_lines.specs.FormMeaning.{act_meaning, layers_meaning, form_m
 ghost use Rattle.lw_lines.specs.GroupMeaning.{group_meaning};
 
 use crate::form::{
-    Act, AskedKind, AskedLayer, BareAct, KindWithoutBitmap, Layers, PairAct, Statement, TextAct,
+    Act, AskedKind, BareAct, KindWithoutBitmap, Layers, PairAct, Statement, TextAct,
 };
 use lw_words::is_text;
 
@@ -65,10 +65,8 @@ impl Act<'_> {
             → result ≡ is_built (spelled_call bitmaps (act_meaning self.now) slots) }
     {
         match self {
-            Act::Create(asked) => asked.is_hookless(),
             Act::Open { .. }
-            | Act::EndRefresh { .. }
-            | Act::Bare(BareAct::Activate | BareAct::Refresh | BareAct::GetMsg)
+            | Act::Bare(BareAct::Activate | BareAct::GetMsg)
             | Act::Text(TextAct::Title, _) => false,
             _ => true,
         }
@@ -98,15 +96,6 @@ impl Act<'_> {
             Act::Create(asked) | Act::Open { asked, .. } => asked.hook,
             _ => None,
         }
-    }
-}
-
-impl AskedLayer {
-    /// Whether no hook is asked for.
-    fn is_hookless(&self) -> bool
-        ensures { result ≡ is_hookless (option_map unsigned_abs self.now.hook) }
-    {
-        self.hook.is_none()
     }
 }
 

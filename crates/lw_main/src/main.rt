@@ -1,8 +1,11 @@
-//! The program `layers`: standard input and output as source and sink, and the exit status of its answer.
+//! The program `layers`: standard input and output as source and sink, six hooks for scripts to name, and the exit status of its
+//! answer.
 #![tactic(auto)]
 
-use lw_io::{StdSink, StdSource};
+use lw_backfill::{Backfill, Checker, Cycle, Solid};
+use lw_io::{Sink, Source, StdSink, StdSource};
 use lw_top::{Status, layers};
+use std::alloc::{AllocError, Global};
 use std::io::ErrorKind;
 use std::process::ExitCode;
 use std::rt::Env;
@@ -18,13 +21,38 @@ fn words(rt: &(impl Env + AllocGlobal)) -> io::Result<Option<Vec<String>>> {
     }
 }
 
+/// Does what the words say, with the hooks that scripts may name: two of one pen, two of two pens like a chessboard's fields, and
+/// two whose pens take turns.
+fn answer<S: Source, K: Sink>(
+    alloc: Global,
+    words: &[String],
+    source: &mut S,
+    sink: &mut K,
+) -> Result<Status, AllocError> {
+    let Some(three_pens) = Cycle::new(vec![in alloc; 1, 2, 3]?) else {
+        unreachable!()
+    };
+    let Some(two_pens) = Cycle::new(vec![in alloc; 3, 0]?) else {
+        unreachable!()
+    };
+    let mut hooks: Vec<Box<dyn Backfill + Send>> = Vec::new(alloc);
+    hooks.push(Box::new(alloc, Solid::new(1))?)?;
+    hooks.push(Box::new(alloc, Solid::new(2))?)?;
+    hooks.push(Box::new(alloc, Checker::new(0, 1))?)?;
+    hooks.push(Box::new(alloc, Checker::new(2, 3))?)?;
+    hooks.push(Box::new(alloc, three_pens)?)?;
+    hooks.push(Box::new(alloc, two_pens)?)?;
+    Ok(layers(alloc, words, source, sink, hooks))
+}
+
 fn main(rt: HostRuntime) -> ExitCode {
     let mut source = StdSource::new(rt.stdin());
     let mut sink = StdSink::new(rt.stdout());
-    let status = match words(&rt) {
-        Ok(Some(words)) => layers(rt.alloc(), words.as_slice(), &mut source, &mut sink),
-        Ok(None) => layers(rt.alloc(), &[], &mut source, &mut sink),
-        Err(_) => Status::NoMemory,
+    let answered = match words(&rt) {
+        Ok(Some(words)) => answer(rt.alloc(), words.as_slice(), &mut source, &mut sink),
+        Ok(None) => answer(rt.alloc(), &[], &mut source, &mut sink),
+        Err(_) => Err(AllocError),
     };
+    let status = answered.unwrap_or(Status::NoMemory);
     ExitCode::from(status.number())
 }

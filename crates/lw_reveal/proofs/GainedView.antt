@@ -24,12 +24,12 @@ use Rattle.lw_reveal.specs.Gained.{is_due}
 use Rattle.lw_reveal.proofs.GainedCounts.{counts_kept}
 
 -- what the arrangement makes of a layer that isn't a super-bitmap layer
-abbrev gained_view : Rectangle → List Rectangle → LiveView → LiveView
+abbrev pub gained_view : Rectangle → List Rectangle → LiveView → LiveView
 gained_view bounds visible c =
     let a = across_to c bounds visible in
     record { bounds = bounds; visible = visible; active = c.active; layer = with_revealed a c.layer (resized a c.layer) }
 
-revealed_plain : (c : LiveView) (bounds : Rectangle) (visible : List Rectangle) → is_super c.layer.kind ≡ false
+pub revealed_plain : (c : LiveView) (bounds : Rectangle) (visible : List Rectangle) → is_super c.layer.kind ≡ false
     → revealed_to bounds visible c ≡ gained_view bounds visible c
 unfolding revealed
 revealed_plain c bounds visible other =
@@ -37,7 +37,7 @@ revealed_plain c bounds visible other =
     ap (λ t. record { bounds = bounds; visible = visible; active = c.active; layer = if t then c.layer else with_revealed a c.layer (resized a c.layer) }) other
 
 -- and of a super-bitmap layer
-revealed_own : (c : LiveView) (bounds : Rectangle) (visible : List Rectangle) → is_super c.layer.kind ≡ true
+pub revealed_own : (c : LiveView) (bounds : Rectangle) (visible : List Rectangle) → is_super c.layer.kind ≡ true
     → revealed_to bounds visible c ≡ record { bounds = bounds; visible = visible; active = c.active; layer = c.layer }
 unfolding revealed
 revealed_own c bounds visible own =
@@ -45,7 +45,7 @@ revealed_own c bounds visible own =
     ap (λ t. record { bounds = bounds; visible = visible; active = c.active; layer = if t then c.layer else with_revealed a c.layer (resized a c.layer) }) own
 
 -- the layer that it becomes is laid out plainly
-gained_plain : (c : LiveView) (bounds : Rectangle) (visible : List Rectangle) → IsSound c → IsOrdered bounds
+pub gained_plain : (c : LiveView) (bounds : Rectangle) (visible : List Rectangle) → IsSound c → IsOrdered bounds
     → LieIn bounds visible → is_super c.layer.kind ≡ false
     → IsPlain (gained_view bounds visible c)
 gained_plain c bounds visible sound ordered inside other = record {

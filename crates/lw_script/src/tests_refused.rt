@@ -10,7 +10,7 @@ struct Refused {
     scripts: &'static [&'static str],
 }
 
-static SCRIPTS: [Refused; 38] = [
+static SCRIPTS: [Refused; 40] = [
     // The input ends before the line `order`.
     Refused {
         at: (Form::Ordered, 0, 1, Reason::Missing),
@@ -204,7 +204,7 @@ static SCRIPTS: [Refused; 38] = [
             "screen 16 4 1\ntask a\nend\nreport \n", // a space behind `report`
         ],
     },
-    // Hooks that are handed in, from 0 on. No call with a hook can be run yet, so none is named a second time.
+    // Hooks that are handed in, from 0 on. A script whose hook is taken is refused behind it, where the line `end` is missing.
     Refused {
         at: (Form::Plain, 3, 3, Reason::NoHook),
         scripts: &[
@@ -214,11 +214,22 @@ static SCRIPTS: [Refused; 38] = [
         ],
     },
     Refused {
-        at: (Form::Plain, 3, 3, Reason::NotBuilt),
+        at: (Form::Plain, 3, 4, Reason::Missing),
         scripts: &[
             "screen 16 4 1\ntask a\ncreate w smart front 0 0 7 3 hook 0\n", // the first of three
             "screen 16 4 1\ntask a\ncreate w smart front 0 0 7 3 hook 2\n", // the last of three
-            "screen 16 4 1\ntask a\nopen w smart front 0 0 9 14 hook 2 ask r \"t\"\n", // a window's
+        ],
+    },
+    Refused {
+        at: (Form::Plain, 3, 3, Reason::NotBuilt),
+        scripts: &[
+            "screen 16 4 1\ntask a\nopen w smart front 0 0 9 14 hook 2 ask r \"t\"\n", // a window's, the last of three
+        ],
+    },
+    Refused {
+        at: (Form::Plain, 3, 4, Reason::HookUsed),
+        scripts: &[
+            "screen 16 4 1\ntask a\ncreate w smart front 0 0 7 3 hook 2\ncreate v simple front 0 0 7 3 hook 2\n", // the last of three again
         ],
     },
     Refused {
@@ -235,7 +246,7 @@ static SCRIPTS: [Refused; 38] = [
         ],
     },
     Refused {
-        at: (Form::Plain, 1, 3, Reason::NotBuilt),
+        at: (Form::Plain, 1, 4, Reason::Missing),
         scripts: &[
             "screen 16 4 1\ntask a\ncreate w smart front 0 0 7 3 hook 0\n", // the only one
         ],
@@ -247,7 +258,7 @@ static SCRIPTS: [Refused; 38] = [
         ],
     },
     Refused {
-        at: (Form::Plain, 4294967295, 3, Reason::NotBuilt),
+        at: (Form::Plain, 4294967295, 4, Reason::Missing),
         scripts: &[
             "screen 16 4 1\ntask a\ncreate w smart front 0 0 7 3 hook 4294967294\n", // the last of the most
         ],
@@ -265,13 +276,13 @@ static SCRIPTS: [Refused; 38] = [
         ],
     },
     Refused {
-        at: (Form::Plain, 3, 4, Reason::NotBuilt),
+        at: (Form::Plain, 3, 5, Reason::Missing),
         scripts: &[
             "screen 16 4 1\ntask a\nhold\ncreate v smart front 0 0 7 3 hook 2\n", // the last of three in a hold
         ],
     },
     Refused {
-        at: (Form::Ordered, 3, 5, Reason::NotBuilt),
+        at: (Form::Ordered, 3, 6, Reason::Missing),
         scripts: &[
             "screen 16 4 1\ntask a\nend\ntask b\ncreate w smart front 0 0 7 3 hook 2\n", // the last of three in a second task
         ],

@@ -402,14 +402,15 @@ unbuilt =
     at_line 3 (in_task_a ++ script (codes "open w smart front 0 0 9 14 't'/")) ∷
     at_line 3 (in_task_a ++ script (codes "open w super behind 0 0 9 14 20 20 backdrop ask rncai ''/")) ∷
     at_line 3 (in_task_a ++ script (codes "activate w/")) ∷
-    at_line 3 (in_task_a ++ script (codes "refresh w/")) ∷
     at_line 3 (in_task_a ++ script (codes "title w 't'/")) ∷
     at_line 3 (in_task_a ++ script (codes "getmsg w/")) ∷
     at_line 4 (in_task_a ++ script (codes "hold/open w simple front 0 0 9 14 borderless nocare 't'/")) ∷
     at_line 4 (in_task_a ++ script (codes "lock w/title w 't'/")) ∷
     at_line 5 (in_task_a ++ script (codes "hold/front w/activate w/")) ∷
     at_line 5 (in_task_a ++ script (codes "lock w/scrollraster w 1 1 0 0 7 3/getmsg w/")) ∷
-    at_line 5 (in_task_a ++ script (codes "scrollraster w 1 1 0 0 7 3/blit w 0 0 v 0 0 1 1 c0/refresh w/")) ∷
+    at_line 4 (in_task_a ++ script (codes "refresh w/getmsg w/")) ∷
+    at_line 5 (in_task_a ++ script (codes "refresh w/endrefresh w full/activate w/")) ∷
+    at_line 5 (in_task_a ++ script (codes "scrollraster w 1 1 0 0 7 3/blit w 0 0 v 0 0 1 1 c0/title w 't'/")) ∷
     at_line 6 (screened ++ script (codes "bitmap b 16 1 1/0000/task a/put b 0 0 w 0 0 1 1 c0/activate w/")) ∷
     at_line 10 (created ++ script (codes "close w/behind w/move w 1 1/size w 1 1/box w 0 0 1 1/which 0 0/activate w/")) ∷ []
 

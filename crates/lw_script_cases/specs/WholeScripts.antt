@@ -261,7 +261,7 @@ abbrev pub hook_2_of_2 : List ℕ
 hook_2_of_2 = in_task_a ++ script (codes "create w smart front 0 0 7 3 hook 2")
 
 abbrev pub hook_1_of_2 : List ℕ
-hook_1_of_2 = in_task_a ++ script (codes "create w smart front 0 0 7 3 hook 1")
+hook_1_of_2 = in_task_a ++ script (codes "create w smart front 0 0 7 3 hook 1/end/")
 
 abbrev pub hook_of_super : List ℕ
 hook_of_super = in_task_a ++ script (codes "create w super front 0 0 7 3 8 4 hook 1")
@@ -361,6 +361,18 @@ endrefresh_alone = created ++ script (codes "endrefresh w full")
 
 abbrev pub endrefresh_fully : List ℕ
 endrefresh_fully = created ++ script (codes "endrefresh w fully")
+
+abbrev pub update_of_a_fill : List ℕ
+update_of_a_fill = created ++ script (codes "refresh w/fill w 0 0 1 1/blit w 0 0 w 1 0 1 1 c0/endrefresh w part/end")
+
+abbrev pub update_of_nothing : List ℕ
+update_of_nothing = created ++ script (codes "refresh w/endrefresh w full/end")
+
+abbrev pub update_in_update : List ℕ
+update_in_update = created ++ script (codes "refresh w/refresh w/")
+
+abbrev pub update_without_end : List ℕ
+update_without_end = created ++ script (codes "refresh w/fill w 0 0 1 1/end")
 
 abbrev pub create_in_lock : List ℕ
 create_in_lock = created ++ script (codes "lock w/create w smart front 0 0 1 1")

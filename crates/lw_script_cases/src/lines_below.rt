@@ -1,4 +1,4 @@
-//! First reasons of lines below calls that aren't built yet, which no whole script reaches so far.
+//! First reasons of lines that stand in an update, or below calls that aren't built yet, which no whole script reaches so far.
 #![tactic(auto, unfolding(crate::proofs::Computing::reading))]
 
 ghost use Rattle.std.specs.Prelude.{◌≡◌, ◌++◌, None, Some, codes};
@@ -16,15 +16,15 @@ pub fn hooks_are_named_once()
     ensures in_another_task { reason_below (with_order 3) hook_of_another_task (codes "create v smart front 0 0 3 3 hook 2") ≡ Some HookUsed }
     ensures greatest { reason_below (alone 4294967296) greatest_hook (codes "create v smart front 0 0 3 3 hook 4294967295") ≡ Some HookUsed }
     ensures same_name { reason_below (alone 3) created_with_hook (codes "create w smart front 0 0 7 3 hook 2") ≡ Some HookUsed }
-    ensures another { reason_below (alone 6) created_with_hook (codes "create v smart front 0 0 3 3 hook 1") ≡ Some NotBuilt }
+    ensures another { reason_below (alone 6) created_with_hook (codes "create v smart front 0 0 3 3 hook 1") ≡ None }
     ensures not_handed_in { reason_below (alone 2) created_with_hook (codes "create v smart front 0 0 3 3 hook 2") ≡ Some NoHook }
 {}
 
 /// In an update of a layer stand calls on it alone, and the end of its own update.
 pub fn updates_have_their_calls()
     ensures fill { reason_below (alone 0) updating (codes "fill w 0 0 1 1") ≡ None }
-    ensures part { reason_below (alone 0) updating (codes "endrefresh w part") ≡ Some NotBuilt }
-    ensures full { reason_below (alone 0) updating (codes "endrefresh w full") ≡ Some NotBuilt }
+    ensures part { reason_below (alone 0) updating (codes "endrefresh w part") ≡ None }
+    ensures full { reason_below (alone 0) updating (codes "endrefresh w full") ≡ None }
     ensures ended_for_another { reason_below (alone 0) updating (codes "endrefresh v full") ≡ Some Group }
     ensures another { reason_below (alone 0) updating (codes "fill v 0 0 1 1") ≡ Some Group }
     ensures again { reason_below (alone 0) updating (codes "refresh w") ≡ Some Group }

@@ -51,7 +51,7 @@ pub record IsStack (v : Stack) : Type 0 where
 abbrev pub stack_of : Sizes → InfoDraft → Stack
 stack_of sizes d = record { sizes = sizes; front_to_back = d.order.items; bounds = d.bounds.items; active = d.active }
 
--- It stands for LayerInfo's part of a desk; nothing is said of the shelf of hooks so far.
+-- It stands for LayerInfo's part of a desk, but for the shelf of hooks, which lies beside it.
 pub record StandsForInfo (v : Stack) (p : InfoPart) : Type 0 where
   pub front_to_back : p.front_to_back ≡ v.front_to_back
   pub bounds : (s : ℕ) → p.bounds s ≡ bounds_at v.bounds s

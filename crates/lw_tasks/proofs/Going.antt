@@ -1,5 +1,5 @@
 -- What a loop over a legal order keeps: the steps so far and those that are left are the steps of the order.
-use Rattle.std.proofs.Common.{◌≡◌, ℕ, zero, suc, ◌+◌, ◌<◌, true, List, [], ◌∷◌, ◌++◌, length, drop, Option, Some, None, slice_index_or, refl, ap, sym, subst, ◌∙◌, append_assoc, add-one, drop-cons, arith}
+use Rattle.std.proofs.Common.{◌≡◌, ℕ, zero, suc, ◌+◌, ◌<◌, true, List, [], ◌∷◌, ◌++◌, length, drop, Option, Some, None, slice_index_or, refl, ap, sym, subst, ◌∙◌, append_assoc, append-nil, add-one, drop-cons, arith}
 use Rattle.std.specs.List.{slice_get}
 use Rattle.std.proofs.lemmas.Option.{slice_get_within}
 use Rattle.std.proofs.lemmas.Bool.{and_parts}
@@ -10,18 +10,19 @@ use Rattle.lw_calls.specs.Plan.{Plan, IsPlan, task_calls}
 use Rattle.lw_calls.specs.Orders.{occurrences, may_come, keeps_groups}
 use Rattle.lw_calls.specs.Entries.{count_of, entries, next_entry}
 use Rattle.lw_machine.specs.Finals.{opening_desk}
+use Rattle.lw_machine.specs.Hook.{Hook}
 use Rattle.lw_engine.specs.Desks.{Engine}
 use Rattle.lw_tasks.specs.Run.{HasRun, next_of}
 use Rattle.lw_tasks.proofs.Steps.{count_of_push, occurrences_push, length_replies_of}
 
 -- The numbers before those that are left, which may come after them, and the steps that they stood for.
-pub record IsGoing (plan : Plan) (order left : List ℕ) (desk : Engine) (told : List (List Reply)) : Type 0 where
+pub record IsGoing (plan : Plan) (hooks : List Hook) (order left : List ℕ) (desk : Engine) (told : List (List Reply)) : Type 0 where
   pub numbers : List ℕ
   pub past : List Entry
   pub legal : keeps_groups plan numbers left ≡ true
   pub counted : (t : ℕ) → count_of t past ≡ occurrences t numbers
   pub whole : past ++ entries plan past left ≡ entries plan [] order
-  pub run : HasRun plan past desk told
+  pub run : HasRun plan hooks past desk told
 
 -- what may come is a call
 coming : (plan : Plan) (numbers : List ℕ) (t : ℕ) (o : Option Call) → may_come plan numbers t o ≡ true → (c : Call) × (o ≡ Some c)
@@ -47,29 +48,29 @@ due plan past numbers t ts counted legal =
     record { call = c.0; found = ap (slice_get (task_calls plan t)) (counted t) ∙ c.1; later = h.1 }
 
 -- the numbers that are left are the next one and the rest
-pub going_turn : (plan : Plan) (order : List ℕ) (i : ℕ) (desk : Engine) (told : List (List Reply)) → i < length order → IsGoing plan order (drop i order) desk told → IsGoing plan order (slice_index_or order i 0 ∷ drop (i + 1) order) desk told
-going_turn plan order i desk told low going =
+pub going_turn : (plan : Plan) (hooks : List Hook) (order : List ℕ) (i : ℕ) (desk : Engine) (told : List (List Reply)) → i < length order → IsGoing plan hooks order (drop i order) desk told → IsGoing plan hooks order (slice_index_or order i 0 ∷ drop (i + 1) order) desk told
+going_turn plan hooks order i desk told low going =
     let whole : drop i order ≡ slice_index_or order i 0 ∷ drop (suc i) order = drop-cons order i 0 low in
-    let P : List ℕ → Type 0 = λ left. IsGoing plan order left desk told in
+    let P : List ℕ → Type 0 = λ left. IsGoing plan hooks order left desk told in
     rw add-one (subst P whole going)
 
 -- the next number is a task's, which has a call left
-pub going_task : (plan : Plan) (order ts : List ℕ) (desk : Engine) (told : List (List Reply)) (t : ℕ) → IsPlan plan → IsGoing plan order (t ∷ ts) desk told → t < plan.sizes.tasks
-going_task plan order ts desk told t is going =
+pub going_task : (plan : Plan) (hooks : List Hook) (order ts : List ℕ) (desk : Engine) (told : List (List Reply)) (t : ℕ) → IsPlan plan → IsGoing plan hooks order (t ∷ ts) desk told → t < plan.sizes.tasks
+going_task plan hooks order ts desk told t is going =
     let it : IsDue plan going.past going.numbers t ts = due plan going.past going.numbers t ts going.counted going.legal in
     let low : t < length plan.calls = in_lists plan.calls t (count_of t going.past) it.call it.found in
     omega (arith, low, is.lists)
 
-pub going_left : (plan : Plan) (order ts : List ℕ) (desk : Engine) (told : List (List Reply)) (t : ℕ) → IsPlan plan → IsGoing plan order (t ∷ ts) desk told → length (slice_index_or told t []) < length (task_calls plan t)
-going_left plan order ts desk told t is going =
+pub going_left : (plan : Plan) (hooks : List Hook) (order ts : List ℕ) (desk : Engine) (told : List (List Reply)) (t : ℕ) → IsPlan plan → IsGoing plan hooks order (t ∷ ts) desk told → length (slice_index_or told t []) < length (task_calls plan t)
+going_left plan hooks order ts desk told t is going =
     let it : IsDue plan going.past going.numbers t ts = due plan going.past going.numbers t ts going.counted going.legal in
     let low : count_of t going.past < length (task_calls plan t) = slice_get_within (task_calls plan t) (count_of t going.past) it.call it.found in
-    let made : length (slice_index_or told t []) ≡ count_of t going.past = ap length (going.run.each t (going_task plan order ts desk told t is going)) ∙ length_replies_of (opening_desk plan []) t going.past in
+    let made : length (slice_index_or told t []) ≡ count_of t going.past = ap length (going.run.each t (going_task plan hooks order ts desk told t is going)) ∙ length_replies_of (opening_desk plan hooks) t going.past in
     omega (arith, low, made)
 
 -- the next number's step is made
-pub going_next : (plan : Plan) (order ts : List ℕ) (desk next : Engine) (told new : List (List Reply)) (t : ℕ) → ((past : List Entry) → HasRun plan past desk told → HasRun plan (past ++ next_of plan past t) next new) → IsGoing plan order (t ∷ ts) desk told → IsGoing plan order ts next new
-going_next plan order ts desk next told new t made going =
+pub going_next : (plan : Plan) (hooks : List Hook) (order ts : List ℕ) (desk next : Engine) (told new : List (List Reply)) (t : ℕ) → ((past : List Entry) → HasRun plan hooks past desk told → HasRun plan hooks (past ++ next_of plan past t) next new) → IsGoing plan hooks order (t ∷ ts) desk told → IsGoing plan hooks order ts next new
+going_next plan hooks order ts desk next told new t made going =
     let past = going.past in
     let it : IsDue plan past going.numbers t ts = due plan past going.numbers t ts going.counted going.legal in
     let e : Entry = record { task = t; seq = count_of t past; call = it.call } in
@@ -82,3 +83,10 @@ going_next plan order ts desk next told new t made going =
       whole = append_assoc past (next_of plan past t) (entries plan (past ++ next_of plan past t) ts) ∙ going.whole;
       run = made past going.run;
     }
+
+-- where no number is left, all steps were made
+pub going_end : (plan : Plan) (hooks : List Hook) (order left : List ℕ) (desk : Engine) (told : List (List Reply)) → left ≡ [] → IsGoing plan hooks order left desk told → HasRun plan hooks (entries plan [] order) desk told
+going_end plan hooks order left desk told none going =
+    let P : List ℕ → Type 0 = λ ts. going.past ++ entries plan going.past ts ≡ entries plan [] order in
+    let H : List Entry → Type 0 = λ es. HasRun plan hooks es desk told in
+    subst H (sym (append-nil going.past) ∙ subst P none going.whole) going.run

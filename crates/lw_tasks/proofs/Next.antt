@@ -8,6 +8,7 @@ use Rattle.lw_calls.specs.declared.entry.Entry.{Entry}
 use Rattle.lw_calls.specs.declared.reply.Reply.{Reply}
 use Rattle.lw_calls.specs.Plan.{Plan, task_calls}
 use Rattle.lw_machine.specs.Desk.{Desk}
+use Rattle.lw_machine.specs.Hook.{Hook}
 use Rattle.lw_machine.specs.Step.{reply}
 use Rattle.lw_calls.specs.Entries.{count_of, next_entry}
 use Rattle.lw_machine.specs.History.{machine, replies_of}
@@ -29,16 +30,16 @@ told_task false told new task t r e low h =
 pub one_reply : (b : Bool) (r s : Reply) → r ≡ s → (if b then r ∷ [] else []) ≡ (if b then s ∷ [] else [])
 one_reply b r s e = ap (λ x. if b then x ∷ [] else []) e
 
-pub has_run_next : (plan : Plan) (past : List Entry) (desk next : Engine) (told : List (List Reply)) (new : List Reply) (task : ℕ) (call : Call) (r : Reply) → task < plan.sizes.tasks → slice_get (task_calls plan task) (length (slice_index_or told task [])) ≡ Some call → IsStepWith plan.assets desk task call r next → next.stack.sizes ≡ desk.stack.sizes → new ≡ slice_index_or told task [] ++ r ∷ [] → HasRun plan past desk told → HasRun plan (past ++ next_of plan past task) next (slice_set told task new)
-has_run_next plan past desk next told new task call r low got step sizes pushed run =
-    let start : Desk = opening_desk plan [] in
+pub has_run_next : (plan : Plan) (hooks : List Hook) (past : List Entry) (desk next : Engine) (told : List (List Reply)) (new : List Reply) (task : ℕ) (call : Call) (r : Reply) → task < plan.sizes.tasks → slice_get (task_calls plan task) (length (slice_index_or told task [])) ≡ Some call → IsStepWith plan.assets desk task call r next → next.stack.sizes ≡ desk.stack.sizes → new ≡ slice_index_or told task [] ++ r ∷ [] → HasRun plan hooks past desk told → HasRun plan hooks (past ++ next_of plan past task) next (slice_set told task new)
+has_run_next plan hooks past desk next told new task call r low got step sizes pushed run =
+    let start : Desk = opening_desk plan hooks in
     let made : length (slice_index_or told task []) ≡ count_of task past = ap length (run.each task low) ∙ length_replies_of start task past in
     let e : Entry = record { task = task; seq = count_of task past; call = call } in
     let G : ℕ → Type 0 = λ n. slice_get (task_calls plan task) n ≡ Some call in
     let found : slice_get (task_calls plan task) (count_of task past) ≡ Some call = subst G made got in
     let one : next_of plan past task ≡ e ∷ [] = ap (next_entry task (count_of task past)) found in
     let within : task < length told = omega (arith, low, run.lists) in
-    let P : List Entry → Type 0 = λ es. HasRun plan (past ++ es) next (slice_set told task new) in
+    let P : List Entry → Type 0 = λ es. HasRun plan hooks (past ++ es) next (slice_set told task new) in
     let S : Desk → Type 0 = λ d. StandsForDesk next d in
     let made_step = step (machine start past) run.stands (machine_assets start past) in
     subst P (sym one) (

@@ -6,6 +6,7 @@ use Rattle.lw_calls.specs.declared.reply.Reply.{Reply}
 use Rattle.lw_calls.specs.Plan.{Plan, IsPlan, task_calls}
 use Rattle.lw_calls.specs.Orders.{is_legal}
 use Rattle.lw_calls.specs.Entries.{count_of, next_entry, only_order}
+use Rattle.lw_machine.specs.Hook.{Hook}
 use Rattle.lw_machine.specs.History.{machine, replies_of}
 use Rattle.lw_machine.specs.Finals.{opening_desk}
 use Rattle.lw_engine.specs.Desks.{Engine, StandsForDesk}
@@ -14,12 +15,13 @@ use Rattle.lw_engine.specs.Desks.{Engine, StandsForDesk}
 abbrev pub next_of : Plan → List Entry → ℕ → List Entry
 next_of plan past task = next_entry task (count_of task past) (slice_get (task_calls plan task) (count_of task past))
 
--- The desk of the program stands for the machine after the steps of the past, and each task was told its replies in them.
-pub record HasRun (plan : Plan) (past : List Entry) (desk : Engine) (told : List (List Reply)) : Type 0 where
-  pub stands : StandsForDesk desk (machine (opening_desk plan []) past)
+-- The desk of the program stands for the machine after the steps of the past, with these hooks handed in, and each task was
+-- told its replies in them.
+pub record HasRun (plan : Plan) (hooks : List Hook) (past : List Entry) (desk : Engine) (told : List (List Reply)) : Type 0 where
+  pub stands : StandsForDesk desk (machine (opening_desk plan hooks) past)
   pub sizes : desk.stack.sizes ≡ plan.sizes
   pub lists : length told ≡ plan.sizes.tasks
-  pub each : (t : ℕ) → t < plan.sizes.tasks → slice_index_or told t [] ≡ replies_of (opening_desk plan []) t past
+  pub each : (t : ℕ) → t < plan.sizes.tasks → slice_index_or told t [] ≡ replies_of (opening_desk plan hooks) t past
 
 -- The only order of a plan of one task is a legal one.
 abbrev pub OnlyOrderIsLegal : Type 0

@@ -4,6 +4,7 @@ ghost use Rattle.lw_calls.specs.Orders.{is_legal};
 ghost use Rattle.lw_calls.specs.Built.{is_built};
 
 use crate::replay;
+use lw_backfill::{Backfill, Solid};
 use lw_calls::{
     Assets, Call, Kind, Make, OrderList, Place, Plan, PlanParts, Replies, Reply, Sizes, Text,
 };
@@ -19,12 +20,17 @@ const SIZES: Sizes = Sizes {
     depth: 1,
     slots: 2,
     tasks: 2,
-    hooks: 0,
+    hooks: 1,
     bitmaps: 0,
 };
 
-/// The calls of a task that creates a layer of four columns from column `x` on, and fills it.
-fn calls_of_task(rt: &(impl Abort + AllocGlobal), slot: u32, x: i32) -> Result<Vec<Call>, Fail>
+/// The calls of a task that creates a layer of four columns from column `x` on, with this hook, and fills its first two.
+fn calls_of_task(
+    rt: &(impl Abort + AllocGlobal),
+    slot: u32,
+    x: i32,
+    hook: Option<u32>,
+) -> Result<Vec<Call>, Fail>
     ensures two { IfOk result (λ calls. length calls.items ≡ 2) }
     ensures fit { IfOk result (λ calls. All (λ call. IsTrue (call_fits SIZES call)) calls.items) }
     ensures built { IfOk result (λ calls. All (λ call. IsTrue (is_built call)) calls.items) }
@@ -37,12 +43,12 @@ fn calls_of_task(rt: &(impl Abort + AllocGlobal), slot: u32, x: i32) -> Result<V
         w: 4,
         h: 1,
         backdrop: false,
-        hook: None,
+        hook,
         bits_w: 0,
         bits_h: 0,
     };
     let create = Call::Create { slot, make };
-    let rect = Rect::new(0, 0, 3, 0).expect(rt, "a rectangle");
+    let rect = Rect::new(0, 0, 1, 0).expect(rt, "a rectangle");
     let fill = Call::Fill { slot, rect };
     assert!(rt; SIZES.fits(&create));
     assert!(rt; SIZES.fits(&fill));
@@ -78,17 +84,23 @@ fn plan_of(alloc: Global, first: Vec<Call>, second: Vec<Call>) -> Result<Plan, A
     Ok(Plan::new(parts))
 }
 
-/// Runs the plan in the order, and looks for both layers' pixels on the screen and for a task's two replies each.
-fn fills_both(rt: &(impl Abort + AllocGlobal), plan: &Plan, numbers: &[u32]) -> Result<(), Fail>
+/// Runs the plan in the order with these hooks, and looks for this row on the screen and for a task's two replies each.
+fn fills_both<B: Backfill>(
+    rt: &(impl Abort + AllocGlobal),
+    plan: &Plan,
+    hooks: Vec<B>,
+    numbers: &[u32],
+    row: &[u8],
+) -> Result<(), Fail>
     requires legal { is_legal plan.now numbers.now ≡ true }
     requires built { All (λ calls. All (λ call. IsTrue (is_built call)) calls) plan.now.calls }
 {
     let order = OrderList::new(Vec::from_slice(rt.alloc(), numbers)?);
-    let last = replay(rt.alloc(), plan, &order)?;
+    let last = replay(rt.alloc(), plan, hooks, &order)?;
     assert_eq!(rt; last.planes.width(), 16);
     assert_eq!(rt; last.planes.height(), 1);
     assert_eq!(rt; last.planes.depth(), 1);
-    assert_eq!(rt; last.planes.row(0, 0), [0xf0, 0xf0].as_slice());
+    assert_eq!(rt; last.planes.row(0, 0), row);
     let [first, second] = last.replies.as_slice() else {
         return Err(Fail::from("two tasks"));
     };
@@ -103,10 +115,25 @@ fn are_done(replies: &Replies) -> bool {
 
 #[test]
 fn two_tasks_fill_their_layers_in_any_order(rt: HostRuntime) -> Result<(), Fail> {
-    let first = calls_of_task(&rt, 0, 0)?;
-    let second = calls_of_task(&rt, 1, 8)?;
-    let plan = plan_of(rt.alloc(), first, second)?;
-    fills_both(&rt, &plan, &[0, 1, 0, 1])?;
-    fills_both(&rt, &plan, &[1, 0, 1, 0])?;
-    fills_both(&rt, &plan, &[1, 1, 0, 0])
+    let alloc = rt.alloc();
+    let first = calls_of_task(&rt, 0, 0, None)?;
+    let second = calls_of_task(&rt, 1, 8, None)?;
+    let plan = plan_of(alloc, first, second)?;
+    let none = Vec::<Solid>::new(alloc);
+    fills_both(&rt, &plan, none, &[0, 1, 0, 1], &[0xc0, 0xc0])?;
+    let none = Vec::<Solid>::new(alloc);
+    fills_both(&rt, &plan, none, &[1, 0, 1, 0], &[0xc0, 0xc0])?;
+    let none = Vec::<Solid>::new(alloc);
+    fills_both(&rt, &plan, none, &[1, 1, 0, 0], &[0xc0, 0xc0])
+}
+
+#[test]
+fn a_boxed_hook_fills_its_layer(rt: HostRuntime) -> Result<(), Fail> {
+    let alloc = rt.alloc();
+    let first = calls_of_task(&rt, 0, 0, None)?;
+    let second = calls_of_task(&rt, 1, 8, Some(0))?;
+    let plan = plan_of(alloc, first, second)?;
+    let mut hooks: Vec<Box<dyn Backfill + Send>> = Vec::new(alloc);
+    hooks.push(Box::new(alloc, Solid::new(1))?)?;
+    fills_both(&rt, &plan, hooks, &[0, 1, 0, 1], &[0xc0, 0xf0])
 }

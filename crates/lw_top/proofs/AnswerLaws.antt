@@ -4,6 +4,7 @@ use Rattle.std.proofs.lemmas.Bool.{true≢false}
 use Rattle.lw_io.specs.Streams.{Rose, bytes_before, bytes_after, TakesJust, TakesAtMost}
 use Rattle.lw_calls.specs.declared.reason.Reason.{Reason}
 use Rattle.lw_calls.specs.Entries.{only_order}
+use Rattle.lw_machine.specs.Hook.{Hook}
 use Rattle.lw_machine.specs.Report.{run_report}
 use Rattle.lw_canonical.specs.Canonical.{canonical_text}
 use Rattle.lw_grammar.specs.Lines.{lines}
@@ -19,29 +20,29 @@ use Rattle.lw_top.specs.Status.{Says, text_of, input_limit}
 use Rattle.lw_top.proofs.Outcomes.{one_outcome}
 
 -- an outcome is no stop, and no usage line
-no_stop : (command : Command) (input : List ℕ) (s : Status) (text : List ℕ) → IsOutcome command input s text → is_stop s ≡ false
-no_stop command input Done text h = refl
-no_stop command input (Refused line reason) text h = refl
-no_stop command input TooLong text h = refl
-no_stop command input (BadOrder place) text h = refl
-no_stop command input Usage text h = refl
-no_stop command input s text h = absurd h.3
+no_stop : (hooks : List Hook) (command : Command) (input : List ℕ) (s : Status) (text : List ℕ) → IsOutcome hooks command input s text → is_stop s ≡ false
+no_stop hooks command input Done text h = refl
+no_stop hooks command input (Refused line reason) text h = refl
+no_stop hooks command input TooLong text h = refl
+no_stop hooks command input (BadOrder place) text h = refl
+no_stop hooks command input Usage text h = refl
+no_stop hooks command input s text h = absurd h.3
 
-no_usage : (command : Command) (input : List ℕ) (s : Status) (text : List ℕ) → IsOutcome command input s text → s ≢ Usage
-no_usage command input Usage text h e = h.3
-no_usage command input s text h e = cc
+no_usage : (hooks : List Hook) (command : Command) (input : List ℕ) (s : Status) (text : List ℕ) → IsOutcome hooks command input s text → s ≢ Usage
+no_usage hooks command input Usage text h e = h.3
+no_usage hooks command input s text h e = cc
 
 -- what was said of an outcome is no fault of the source and no want of memory
-pub said_not_stopped : (command : Command) (input : List ℕ) (due r : Status) (text : List ℕ) (before after : Option (List ℕ)) (f g : ℕ) → IsOutcome command input due text → Says text due r before after f g → (r ≡ ReadFault) ⊎ (r ≡ NoMemory) → ⊥
-said_not_stopped command input due r text before after f g h (inl e) (inl d) = true≢false (sym (ap is_stop (sym e.0 ∙ d)) ∙ no_stop command input due text h)
-said_not_stopped command input due r text before after f g h (inl e) (inr d) = true≢false (sym (ap is_stop (sym e.0 ∙ d)) ∙ no_stop command input due text h)
-said_not_stopped command input due r text before after f g h (inr e) (inl d) = let same : WriteFault ≡ ReadFault = sym e.0 ∙ d in cc
-said_not_stopped command input due r text before after f g h (inr e) (inr d) = let same : WriteFault ≡ NoMemory = sym e.0 ∙ d in cc
+pub said_not_stopped : (hooks : List Hook) (command : Command) (input : List ℕ) (due r : Status) (text : List ℕ) (before after : Option (List ℕ)) (f g : ℕ) → IsOutcome hooks command input due text → Says text due r before after f g → (r ≡ ReadFault) ⊎ (r ≡ NoMemory) → ⊥
+said_not_stopped hooks command input due r text before after f g h (inl e) (inl d) = true≢false (sym (ap is_stop (sym e.0 ∙ d)) ∙ no_stop hooks command input due text h)
+said_not_stopped hooks command input due r text before after f g h (inl e) (inr d) = true≢false (sym (ap is_stop (sym e.0 ∙ d)) ∙ no_stop hooks command input due text h)
+said_not_stopped hooks command input due r text before after f g h (inr e) (inl d) = let same : WriteFault ≡ ReadFault = sym e.0 ∙ d in cc
+said_not_stopped hooks command input due r text before after f g h (inr e) (inr d) = let same : WriteFault ≡ NoMemory = sym e.0 ∙ d in cc
 
 -- The outcome on what was taken is the outcome on all that was left.
-of_left : (command : Command) (input left : List ℕ) (rest : Option (List ℕ)) (due : Status) (text : List ℕ) → IsTaken input (Some left) rest → IsOutcome command input due text → IsOutcome command left due text
-of_left command input left None due text taken h = let e : Some left ≡ None = taken.front in cc
-of_left command input left (Some rest) due text taken h = elim taken.ended [ inl e ↦ subst (λ l. IsOutcome command l due text) (whole e.1) h | inr e ↦ long e due h ]
+of_left : (hooks : List Hook) (command : Command) (input left : List ℕ) (rest : Option (List ℕ)) (due : Status) (text : List ℕ) → IsTaken input (Some left) rest → IsOutcome hooks command input due text → IsOutcome hooks command left due text
+of_left hooks command input left None due text taken h = let e : Some left ≡ None = taken.front in cc
+of_left hooks command input left (Some rest) due text taken h = elim taken.ended [ inl e ↦ subst (λ l. IsOutcome hooks command l due text) (whole e.1) h | inr e ↦ long e due h ]
   where
     all : left ≡ input ++ rest
     all = let e : Some left ≡ Some (input ++ rest) = taken.front in cc
@@ -49,30 +50,30 @@ of_left command input left (Some rest) due text taken h = elim taken.ended [ inl
     whole : rest ≡ [] → input ≡ left
     whole e = sym (all ∙ ap (λ r. input ++ r) e ∙ append-nil input)
 
-    long : length input ≡ input_limit + 1 → (due : Status) → IsOutcome command input due text → IsOutcome command left due text
+    long : length input ≡ input_limit + 1 → (due : Status) → IsOutcome hooks command input due text → IsOutcome hooks command left due text
     long e TooLong h = let most = ap length all ∙ length-append input rest in (omega (arith, most, e), h.1)
     long e due h = let short = h.0 in absurd (omega (arith, short, e))
 
 -- the answer that was due is the outcome, or the sink failed
-said_only : (command : Command) (input : List ℕ) (due wanted r : Status) (text other : List ℕ) (before after : Option (List ℕ)) (f g : ℕ) → IsOutcome command input due text → Says text due r before after f g → IsOutcome command input wanted other → ((r ≡ wanted) × (after ≡ bytes_after before other)) ⊎ ((r ≡ WriteFault) × Rose f g)
-said_only command input due wanted r text other before after f g h (inl e) w =
-    let same = one_outcome command input due wanted text other h w in
+said_only : (hooks : List Hook) (command : Command) (input : List ℕ) (due wanted r : Status) (text other : List ℕ) (before after : Option (List ℕ)) (f g : ℕ) → IsOutcome hooks command input due text → Says text due r before after f g → IsOutcome hooks command input wanted other → ((r ≡ wanted) × (after ≡ bytes_after before other)) ⊎ ((r ≡ WriteFault) × Rose f g)
+said_only hooks command input due wanted r text other before after f g h (inl e) w =
+    let same = one_outcome hooks command input due wanted text other h w in
     inl (e.0 ∙ same.0, e.1 ∙ ap (bytes_after before) same.1)
-said_only command input due wanted r text other before after f g h (inr e) w = inr (e.0, e.2)
+said_only hooks command input due wanted r text other before after f g h (inr e) w = inr (e.0, e.2)
 
 -- what a command tells where its text or its order's bad place is due
-due_text : (command : Command) (script : ScriptInput) → IsDue command script → (text : List ℕ) × IsTextFor command script text
-due_text Run script due = (run_report script.plan [] (only_order script.plan), refl)
-due_text Check script due = (canonical_text script.plan, refl)
-due_text Replay script due = (run_report script.plan [] script.order, (due, refl))
+due_text : (hooks : List Hook) (command : Command) (script : ScriptInput) → IsDue command script → (text : List ℕ) × IsTextFor hooks command script text
+due_text hooks Run script due = (run_report script.plan hooks (only_order script.plan), refl)
+due_text hooks Check script due = (canonical_text script.plan, refl)
+due_text hooks Replay script due = (run_report script.plan hooks script.order, (due, refl))
 
 -- the text of an answer that has one of its own
-own_text : (command : Command) (input : List ℕ) (s : Status) (text : List ℕ) → IsOutcome command input s text → (s ≡ Done) ⊎ (text ≡ text_of s)
-own_text command input Done text h = inl refl
-own_text command input (Refused line reason) text h = inr h.2
-own_text command input TooLong text h = inr h.1
-own_text command input (BadOrder place) text h = inr h.3.1
-own_text command input s text h = absurd h.3
+own_text : (hooks : List Hook) (command : Command) (input : List ℕ) (s : Status) (text : List ℕ) → IsOutcome hooks command input s text → (s ≡ Done) ⊎ (text ≡ text_of s)
+own_text hooks command input Done text h = inl refl
+own_text hooks command input (Refused line reason) text h = inr h.2
+own_text hooks command input TooLong text h = inr h.1
+own_text hooks command input (BadOrder place) text h = inr h.3.1
+own_text hooks command input s text h = absurd h.3
 
 -- nothing more was written
 bytes_after_none : (told : Option (List ℕ)) → bytes_after told [] ≡ told
@@ -84,36 +85,36 @@ whole_input : (input : List ℕ) (left rest : Option (List ℕ)) → IsTaken inp
 whole_input input left rest taken short = elim taken.ended [ inl e ↦ record { taken = taken.front; end = e.1; within = short } | inr e ↦ absurd (omega (arith, e, short)) ]
 
 -- an answer that is no stop is the outcome on what was taken, and its text was written whole
-came : (command : Command) (q r : Status) (left rest : Option (List ℕ)) (s t : ℕ) (before after : Option (List ℕ)) (f g : ℕ) → Answered command r left rest s t before after f g → is_stop q ≡ false → r ≡ q
-    → (input : List ℕ) × IsTaken input left rest × (text : List ℕ) × IsOutcome command input q text × (after ≡ bytes_after before text)
-came command q r left rest s t before after f g h goes is = elim h.outcome [ inl e ↦ served e e.said | inr e ↦ absurd (elim e [ inl d ↦ stopped ReadFault refl d.0 | inr d ↦ stopped NoMemory refl d ]) ]
+came : (hooks : List Hook) (command : Command) (q r : Status) (left rest : Option (List ℕ)) (s t : ℕ) (before after : Option (List ℕ)) (f g : ℕ) → Answered hooks command r left rest s t before after f g → is_stop q ≡ false → r ≡ q
+    → (input : List ℕ) × IsTaken input left rest × (text : List ℕ) × IsOutcome hooks command input q text × (after ≡ bytes_after before text)
+came hooks command q r left rest s t before after f g h goes is = elim h.outcome [ inl e ↦ served e e.said | inr e ↦ absurd (elim e [ inl d ↦ stopped ReadFault refl d.0 | inr d ↦ stopped NoMemory refl d ]) ]
   where
     stopped : (p : Status) → is_stop p ≡ true → r ≡ p → ⊥
     stopped p stops e = true≢false (sym stops ∙ ap is_stop (sym e ∙ is) ∙ goes)
 
-    served : (e : Served command r left rest before after f g) → Says e.text e.due r before after f g → (input : List ℕ) × IsTaken input left rest × (text : List ℕ) × IsOutcome command input q text × (after ≡ bytes_after before text)
-    served e (inl d) = (e.input, e.taken, e.text, subst (λ p. IsOutcome command e.input p e.text) (sym d.0 ∙ is) e.outcome, d.1)
+    served : (e : Served hooks command r left rest before after f g) → Says e.text e.due r before after f g → (input : List ℕ) × IsTaken input left rest × (text : List ℕ) × IsOutcome hooks command input q text × (after ≡ bytes_after before text)
+    served e (inl d) = (e.input, e.taken, e.text, subst (λ p. IsOutcome hooks command e.input p e.text) (sym d.0 ∙ is) e.outcome, d.1)
     served e (inr d) = absurd (stopped WriteFault refl d.0)
 
 -- the same of all that was left
-came_of_left : (command : Command) (q r : Status) (left rest : Option (List ℕ)) (s t : ℕ) (before after : Option (List ℕ)) (f g : ℕ) → Answered command r left rest s t before after f g → is_stop q ≡ false → r ≡ q
-    → IfSome left (λ input. (text : List ℕ) × IsOutcome command input q text × (after ≡ bytes_after before text))
-came_of_left command q r None rest s t before after f g h goes is = tt
-came_of_left command q r (Some left) rest s t before after f g h goes is =
-    let k = came command q r (Some left) rest s t before after f g h goes is in
-    (k.2, of_left command k.0 left rest q k.2 k.1 k.3, k.4)
+came_of_left : (hooks : List Hook) (command : Command) (q r : Status) (left rest : Option (List ℕ)) (s t : ℕ) (before after : Option (List ℕ)) (f g : ℕ) → Answered hooks command r left rest s t before after f g → is_stop q ≡ false → r ≡ q
+    → IfSome left (λ input. (text : List ℕ) × IsOutcome hooks command input q text × (after ≡ bytes_after before text))
+came_of_left hooks command q r None rest s t before after f g h goes is = tt
+came_of_left hooks command q r (Some left) rest s t before after f g h goes is =
+    let k = came hooks command q r (Some left) rest s t before after f g h goes is in
+    (k.2, of_left hooks command k.0 left rest q k.2 k.1 k.3, k.4)
 
 -- the outcome on all that was left comes, unless a stream failed or memory was wanting
-comes : (command : Command) (r : Status) (left rest : Option (List ℕ)) (s t : ℕ) (before after : Option (List ℕ)) (f g : ℕ) → Answered command r left rest s t before after f g
-    → IfSome left (λ input. (due : Status) (text : List ℕ) → IsOutcome command input due text → ((r ≡ due) × (after ≡ bytes_after before text)) ⊎ ((r ≡ WriteFault) × Rose f g) ⊎ ((r ≡ ReadFault) × Rose s t) ⊎ (r ≡ NoMemory))
-comes command r None rest s t before after f g h = tt
-comes command r (Some left) rest s t before after f g h =
+comes : (hooks : List Hook) (command : Command) (r : Status) (left rest : Option (List ℕ)) (s t : ℕ) (before after : Option (List ℕ)) (f g : ℕ) → Answered hooks command r left rest s t before after f g
+    → IfSome left (λ input. (due : Status) (text : List ℕ) → IsOutcome hooks command input due text → ((r ≡ due) × (after ≡ bytes_after before text)) ⊎ ((r ≡ WriteFault) × Rose f g) ⊎ ((r ≡ ReadFault) × Rose s t) ⊎ (r ≡ NoMemory))
+comes hooks command r None rest s t before after f g h = tt
+comes hooks command r (Some left) rest s t before after f g h =
     λ due text w. elim h.outcome [ inl e ↦ served e due text w | inr e ↦ inr (inr e) ]
   where
-    served : Served command r (Some left) rest before after f g → (due : Status) (text : List ℕ) → IsOutcome command left due text → ((r ≡ due) × (after ≡ bytes_after before text)) ⊎ ((r ≡ WriteFault) × Rose f g) ⊎ ((r ≡ ReadFault) × Rose s t) ⊎ (r ≡ NoMemory)
+    served : Served hooks command r (Some left) rest before after f g → (due : Status) (text : List ℕ) → IsOutcome hooks command left due text → ((r ≡ due) × (after ≡ bytes_after before text)) ⊎ ((r ≡ WriteFault) × Rose f g) ⊎ ((r ≡ ReadFault) × Rose s t) ⊎ (r ≡ NoMemory)
     served e due text w =
-        let was = of_left command e.input left rest e.due e.text e.taken e.outcome in
-        elim (said_only command left e.due due r e.text text before after f g was e.said w) [ inl d ↦ inl d | inr d ↦ inr (inl d) ]
+        let was = of_left hooks command e.input left rest e.due e.text e.taken e.outcome in
+        elim (said_only hooks command left e.due due r e.text text before after f g was e.said w) [ inl d ↦ inl d | inr d ↦ inr (inl d) ]
 
 -- what is told of an input is told of what a source may tell
 each_told : (P Q : List ℕ → Type 0) → ((input : List ℕ) → P input → Q input) → (told : Option (List ℕ)) → IfSome told P → IfSome told Q
@@ -121,64 +122,64 @@ each_told P Q f None h = tt
 each_told P Q f (Some input) h = f input h
 
 -- All that each answer tells follows.
-told : (command : Command) (r : Status) (left rest : Option (List ℕ)) (s t : ℕ) (before after : Option (List ℕ)) (f g : ℕ) → Answered command r left rest s t before after f g → ((r ≡ ReadFault) ⊎ (r ≡ NoMemory) → after ≡ before) → Told command r left rest s t before after f g
-told command r left rest s t before after f g h unwritten =
+told : (hooks : List Hook) (command : Command) (r : Status) (left rest : Option (List ℕ)) (s t : ℕ) (before after : Option (List ℕ)) (f g : ℕ) → Answered hooks command r left rest s t before after f g → ((r ≡ ReadFault) ⊎ (r ≡ NoMemory) → after ≡ before) → Told hooks command r left rest s t before after f g
+told hooks command r left rest s t before after f g h unwritten =
     record {
       done = λ e. let k = was Done refl e in (k.0, whole_input k.0 left rest k.1 k.3.0, k.2, (k.3.1, k.3.2, k.3.3), k.4);
-      done_of_left = λ e. left_is Done refl e (λ input. (text : List ℕ) × IsTextOf command input text × (after ≡ bytes_after before text)) (λ input k. (k.0, (k.1.1, k.1.2, k.1.3), k.2));
+      done_of_left = λ e. left_is Done refl e (λ input. (text : List ℕ) × IsTextOf hooks command input text × (after ≡ bytes_after before text)) (λ input k. (k.0, (k.1.1, k.1.2, k.1.3), k.2));
       never_usage = λ e. let k = was Usage refl e in k.3.3;
       read_fault = λ e. faults e;
       too_long = λ e. let k = was TooLong refl e in long k.0 k.1 k.3.0;
       too_long_of_left = λ e. left_is TooLong refl e (λ input. input_limit < length input) (λ input k. k.1.0);
       refused = λ line reason e. let k = was (Refused line reason) refl e in (k.0, whole_input k.0 left rest k.1 k.3.0, k.3.1);
-      refused_of_left = λ line reason e. left_is (Refused line reason) refl e (λ input. (length input ≤ input_limit) × IsFirstBadIn (reads_with command) (lines input) line reason) (λ input k. (k.1.0, k.1.1));
+      refused_of_left = λ line reason e. left_is (Refused line reason) refl e (λ input. (length input ≤ input_limit) × IsFirstBadIn (reads_with (length hooks) command) (lines input) line reason) (λ input k. (k.1.0, k.1.1));
       bad_order = λ place e. let k = was (BadOrder place) refl e in (k.0, whole_input k.0 left rest k.1 k.3.0, (k.3.1, k.3.2, k.3.3.0));
-      bad_order_of_left = λ place e. left_is (BadOrder place) refl e (λ input. (length input ≤ input_limit) × IsBadOrderOf command input place) (λ input k. (k.1.0, (k.1.1, k.1.2, k.1.3.0)));
+      bad_order_of_left = λ place e. left_is (BadOrder place) refl e (λ input. (length input ≤ input_limit) × IsBadOrderOf hooks command input place) (λ input k. (k.1.0, (k.1.1, k.1.2, k.1.3.0)));
       write_fault = λ e. write_faults e;
       only_too_long = only (λ input. input_limit < length input → IsUnlessStopped TooLong r) (λ input k above. unless TooLong input k (text_of TooLong) (above, refl));
-      only_refused = only (λ input. length input ≤ input_limit → (line : ℕ) (reason : Reason) → IsFirstBadIn (reads_with command) (lines input) line reason → IsUnlessStopped (Refused line reason) r) (λ input k short line reason bad. unless (Refused line reason) input k (text_of (Refused line reason)) (short, bad, refl));
-      only_bad_order = only (λ input. length input ≤ input_limit → (place : ℕ) → IsBadOrderOf command input place → IsUnlessStopped (BadOrder place) r) (λ input k short place bad. unless (BadOrder place) input k (text_of (BadOrder place)) (short, bad.0, bad.1, (bad.2, refl)));
-      only_done = only (λ input. length input ≤ input_limit → (script : ScriptInput) → SpellsInput (reads_with command) input script → IsDue command script → IsUnlessStopped Done r) (λ input k short script spelled due. let text = due_text command script due in unless Done input k text.0 (short, script, spelled, text.1));
-      complete = λ no_read no_write. only (λ input. (due : Status) (text : List ℕ) → IsOutcome command input due text → ((r ≡ due) × (after ≡ bytes_after before text)) ⊎ (r ≡ NoMemory)) (λ input k due text w. elim (k due text w) [ inl e ↦ inl e | inr e ↦ elim e [ inl d ↦ absurd (no_write d.1) | inr d ↦ elim d [ inl b ↦ absurd (no_read b.1) | inr b ↦ inr b ] ] ]);
+      only_refused = only (λ input. length input ≤ input_limit → (line : ℕ) (reason : Reason) → IsFirstBadIn (reads_with (length hooks) command) (lines input) line reason → IsUnlessStopped (Refused line reason) r) (λ input k short line reason bad. unless (Refused line reason) input k (text_of (Refused line reason)) (short, bad, refl));
+      only_bad_order = only (λ input. length input ≤ input_limit → (place : ℕ) → IsBadOrderOf hooks command input place → IsUnlessStopped (BadOrder place) r) (λ input k short place bad. unless (BadOrder place) input k (text_of (BadOrder place)) (short, bad.0, bad.1, (bad.2, refl)));
+      only_done = only (λ input. length input ≤ input_limit → (script : ScriptInput) → SpellsInput (reads_with (length hooks) command) input script → IsDue command script → IsUnlessStopped Done r) (λ input k short script spelled due. let text = due_text hooks command script due in unless Done input k text.0 (short, script, spelled, text.1));
+      complete = λ no_read no_write. only (λ input. (due : Status) (text : List ℕ) → IsOutcome hooks command input due text → ((r ≡ due) × (after ≡ bytes_after before text)) ⊎ (r ≡ NoMemory)) (λ input k due text w. elim (k due text w) [ inl e ↦ inl e | inr e ↦ elim e [ inl d ↦ absurd (no_write d.1) | inr d ↦ elim d [ inl b ↦ absurd (no_read b.1) | inr b ↦ inr b ] ] ]);
       text = λ not_done not_fault. elim h.outcome [ inl e ↦ written e e.said not_done not_fault | inr e ↦ elim e [ inl d ↦ empty d.0 refl (unwritten (inl d.0)) | inr d ↦ empty d refl (unwritten (inr d)) ] ];
     }
   where
     Came : List ℕ → Type 0
-    Came input = (due : Status) (text : List ℕ) → IsOutcome command input due text → ((r ≡ due) × (after ≡ bytes_after before text)) ⊎ ((r ≡ WriteFault) × Rose f g) ⊎ ((r ≡ ReadFault) × Rose s t) ⊎ (r ≡ NoMemory)
+    Came input = (due : Status) (text : List ℕ) → IsOutcome hooks command input due text → ((r ≡ due) × (after ≡ bytes_after before text)) ⊎ ((r ≡ WriteFault) × Rose f g) ⊎ ((r ≡ ReadFault) × Rose s t) ⊎ (r ≡ NoMemory)
 
-    was : (q : Status) → is_stop q ≡ false → r ≡ q → (input : List ℕ) × IsTaken input left rest × (text : List ℕ) × IsOutcome command input q text × (after ≡ bytes_after before text)
-    was q goes e = came command q r left rest s t before after f g h goes e
+    was : (q : Status) → is_stop q ≡ false → r ≡ q → (input : List ℕ) × IsTaken input left rest × (text : List ℕ) × IsOutcome hooks command input q text × (after ≡ bytes_after before text)
+    was q goes e = came hooks command q r left rest s t before after f g h goes e
 
-    left_is : (q : Status) → is_stop q ≡ false → r ≡ q → (Q : List ℕ → Type 0) → ((input : List ℕ) → (text : List ℕ) × IsOutcome command input q text × (after ≡ bytes_after before text) → Q input) → IfSome left Q
-    left_is q goes e Q k = each_told (λ input. (text : List ℕ) × IsOutcome command input q text × (after ≡ bytes_after before text)) Q k left (came_of_left command q r left rest s t before after f g h goes e)
+    left_is : (q : Status) → is_stop q ≡ false → r ≡ q → (Q : List ℕ → Type 0) → ((input : List ℕ) → (text : List ℕ) × IsOutcome hooks command input q text × (after ≡ bytes_after before text) → Q input) → IfSome left Q
+    left_is q goes e Q k = each_told (λ input. (text : List ℕ) × IsOutcome hooks command input q text × (after ≡ bytes_after before text)) Q k left (came_of_left hooks command q r left rest s t before after f g h goes e)
 
     only : (Q : List ℕ → Type 0) → ((input : List ℕ) → Came input → Q input) → IfSome left Q
-    only Q k = each_told Came Q k left (comes command r left rest s t before after f g h)
+    only Q k = each_told Came Q k left (comes hooks command r left rest s t before after f g h)
 
     stops : (q : Status) → is_stop q ≡ true → r ≡ q → IsTrue (is_stop r)
     stops q goes e = ap is_stop e ∙ goes
 
-    unless : (q : Status) (input : List ℕ) → Came input → (text : List ℕ) → IsOutcome command input q text → IsUnlessStopped q r
+    unless : (q : Status) (input : List ℕ) → Came input → (text : List ℕ) → IsOutcome hooks command input q text → IsUnlessStopped q r
     unless q input k text w = elim (k q text w) [ inl e ↦ inl e.0 | inr e ↦ inr (elim e [ inl d ↦ stops WriteFault refl d.0 | inr d ↦ elim d [ inl b ↦ stops ReadFault refl b.0 | inr b ↦ stops NoMemory refl b ] ]) ]
 
     long : (input : List ℕ) → IsTaken input left rest → input_limit < length input → TakesJust (input_limit + 1) left rest
     long input taken above = elim taken.ended [ inl e ↦ absurd (omega (arith, e.0, above)) | inr e ↦ (input, e, taken.front) ]
 
     faults : r ≡ ReadFault → Rose s t
-    faults is = elim h.outcome [ inl e ↦ absurd (said_not_stopped command e.input e.due r e.text before after f g e.outcome e.said (inl is)) | inr e ↦ elim e [ inl d ↦ d.1 | inr d ↦ (let same : NoMemory ≡ ReadFault = sym d ∙ is in absurd (cc)) ] ]
+    faults is = elim h.outcome [ inl e ↦ absurd (said_not_stopped hooks command e.input e.due r e.text before after f g e.outcome e.said (inl is)) | inr e ↦ elim e [ inl d ↦ d.1 | inr d ↦ (let same : NoMemory ≡ ReadFault = sym d ∙ is in absurd (cc)) ] ]
 
     write_faults : r ≡ WriteFault → Rose f g
     write_faults is = elim h.outcome [ inl e ↦ failed e e.said | inr e ↦ elim e [ inl d ↦ (let same : ReadFault ≡ WriteFault = sym d.0 ∙ is in absurd (cc)) | inr d ↦ (let same : NoMemory ≡ WriteFault = sym d ∙ is in absurd (cc)) ] ]
       where
-        failed : (e : Served command r left rest before after f g) → Says e.text e.due r before after f g → Rose f g
-        failed e (inl d) = absurd (true≢false (sym (ap is_stop (sym d.0 ∙ is)) ∙ no_stop command e.input e.due e.text e.outcome))
+        failed : (e : Served hooks command r left rest before after f g) → Says e.text e.due r before after f g → Rose f g
+        failed e (inl d) = absurd (true≢false (sym (ap is_stop (sym d.0 ∙ is)) ∙ no_stop hooks command e.input e.due e.text e.outcome))
         failed e (inr d) = d.2
 
     empty : {q : Status} → r ≡ q → text_of q ≡ [] → after ≡ before → after ≡ bytes_after before (text_of r)
     empty e none same = same ∙ sym (ap (bytes_after before) (ap text_of e ∙ none) ∙ bytes_after_none before)
 
-    written : (e : Served command r left rest before after f g) → Says e.text e.due r before after f g → r ≢ Done → r ≢ WriteFault → after ≡ bytes_after before (text_of r)
-    written e (inl d) not_done not_fault = elim (own_text command e.input e.due e.text e.outcome) [ inl k ↦ absurd (not_done (d.0 ∙ k)) | inr k ↦ d.1 ∙ ap (bytes_after before) (k ∙ ap text_of (sym d.0)) ]
+    written : (e : Served hooks command r left rest before after f g) → Says e.text e.due r before after f g → r ≢ Done → r ≢ WriteFault → after ≡ bytes_after before (text_of r)
+    written e (inl d) not_done not_fault = elim (own_text hooks command e.input e.due e.text e.outcome) [ inl k ↦ absurd (not_done (d.0 ∙ k)) | inr k ↦ d.1 ∙ ap (bytes_after before) (k ∙ ap text_of (sym d.0)) ]
     written e (inr d) not_done not_fault = absurd (not_fault d.0)
 
 -- What is promised of words is what they tell, be they a command or none.
@@ -189,9 +190,9 @@ none_taken left rest same = ([], omega arith, sym (bytes_before_none rest ∙ sa
     bytes_before_none None = refl
     bytes_before_none (Some bytes) = refl
 
-pub told_of_words : (asked : Option Command) (r : Status) (left rest : Option (List ℕ)) (s t : ℕ) (before after : Option (List ℕ)) (f g : ℕ) → IfSome asked (λ command. Answered command r left rest s t before after f g) → (asked ≡ None → Says (text_of Usage) Usage r before after f g) → (asked ≡ None → (rest ≡ left) × (t ≡ s)) → ((r ≡ ReadFault) ⊎ (r ≡ NoMemory) → after ≡ before) → ToldOfWords asked r left rest s t before after f g
-told_of_words (Some command) r left rest s t before after f g h usage unread unwritten =
-    let tells = told command r left rest s t before after f g h unwritten in
+pub told_of_words : (hooks : List Hook) (asked : Option Command) (r : Status) (left rest : Option (List ℕ)) (s t : ℕ) (before after : Option (List ℕ)) (f g : ℕ) → IfSome asked (λ command. Answered hooks command r left rest s t before after f g) → (asked ≡ None → Says (text_of Usage) Usage r before after f g) → (asked ≡ None → (rest ≡ left) × (t ≡ s)) → ((r ≡ ReadFault) ⊎ (r ≡ NoMemory) → after ≡ before) → ToldOfWords hooks asked r left rest s t before after f g
+told_of_words hooks (Some command) r left rest s t before after f g h usage unread unwritten =
+    let tells = told hooks command r left rest s t before after f g h unwritten in
     record {
       told = tells;
       usage = λ e. absurd (tells.never_usage e);
@@ -200,7 +201,7 @@ told_of_words (Some command) r left rest s t before after f g h usage unread unw
       taken = h.taken;
       source_count = h.source_count;
     }
-told_of_words None r left rest s t before after f g h usage unread unwritten =
+told_of_words hooks None r left rest s t before after f g h usage unread unwritten =
     record {
       told = tt;
       usage = λ e. refl;

@@ -3,3 +3,4 @@ mod BadPlaces
 mod OneTask
 mod OrderLength
 mod Outcomes
+mod TestHooks

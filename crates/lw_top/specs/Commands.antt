@@ -4,6 +4,7 @@ use Rattle.lw_calls.specs.declared.form.Form.TheVariants.{Plain, Ordered}
 use Rattle.lw_canonical.specs.Canonical.{canonical_text}
 use Rattle.lw_calls.specs.Entries.{only_order}
 use Rattle.lw_calls.specs.Orders.{is_legal, IsBadPlace}
+use Rattle.lw_machine.specs.Hook.{Hook}
 use Rattle.lw_machine.specs.Report.{run_report}
 use Rattle.lw_grammar.specs.Script.{Setting, ScriptInput}
 use Rattle.lw_script.specs.Answers.{reading_with}
@@ -21,18 +22,18 @@ command_of [] = None
 command_of (word ∷ []) = command_named word
 command_of (word ∷ other ∷ words) = None
 
--- How a command reads its input, with no hook handed in: as a script alone, or with an order.
-abbrev pub reads_with : Command → Setting
-reads_with Run = reading_with 0 Plain
-reads_with Check = reading_with 0 Plain
-reads_with Replay = reading_with 0 Ordered
+-- How a command reads its input, where so many hooks are handed in: as a script alone, or with an order.
+abbrev pub reads_with : ℕ → Command → Setting
+reads_with count Run = reading_with count Plain
+reads_with count Check = reading_with count Plain
+reads_with count Replay = reading_with count Ordered
 
--- The text that a command writes for a script: the report of the machine's run of its plan, in the one order of its one
--- task or in the order that stands in it, which is legal then; or the plan's canonical text.
-abbrev pub IsTextFor : Command → ScriptInput → List ℕ → Type 0
-IsTextFor Run script text = text ≡ run_report script.plan [] (only_order script.plan)
-IsTextFor Check script text = text ≡ canonical_text script.plan
-IsTextFor Replay script text = (is_legal script.plan script.order ≡ true) × (text ≡ run_report script.plan [] script.order)
+-- The text that a command writes for a script, where these hooks are handed in: the report of the machine's run of its plan with
+-- them, in the one order of its one task or in the order that stands in it, which is legal then; or the plan's canonical text.
+abbrev pub IsTextFor : List Hook → Command → ScriptInput → List ℕ → Type 0
+IsTextFor hooks Run script text = text ≡ run_report script.plan hooks (only_order script.plan)
+IsTextFor hooks Check script text = text ≡ canonical_text script.plan
+IsTextFor hooks Replay script text = (is_legal script.plan script.order ≡ true) × (text ≡ run_report script.plan hooks script.order)
 
 -- the first bad place of the order that stands in a script, of which only the command `replay` speaks
 abbrev pub IsBadOrderFor : Command → ScriptInput → ℕ → Type 0

@@ -5,6 +5,7 @@ use Rattle.lw_calls.specs.declared.reason.Reason.{Reason}
 use Rattle.lw_calls.specs.Orders.{is_legal}
 use Rattle.lw_grammar.specs.Lines.{lines}
 use Rattle.lw_grammar.specs.Script.{ScriptInput, SpellsInput, IsFirstBadIn}
+use Rattle.lw_machine.specs.Hook.{Hook}
 use Rattle.lw_top.specs.declared.status.Status.{Status}
 use Rattle.lw_top.specs.declared.status.Status.TheVariants.{Done, Refused, Usage, ReadFault, WriteFault, NoMemory, TooLong, BadOrder}
 use Rattle.lw_top.specs.declared.words.Command.{Command}
@@ -13,21 +14,21 @@ use Rattle.lw_top.specs.Commands.{reads_with, IsTextFor, IsBadOrderFor}
 use Rattle.lw_top.specs.Outcome.{IsOutcome, Answered}
 use Rattle.lw_top.specs.Status.{Says, text_of, input_limit}
 
--- A command has an outcome on an input, and one only.
-pub record HasOneOutcome (command : Command) (input : List ℕ) : Type 0 where
-  pub some : (status : Status) × (text : List ℕ) × IsOutcome command input status text
-  pub one : (s q : Status) (a b : List ℕ) → IsOutcome command input s a → IsOutcome command input q b → (s ≡ q) × (a ≡ b)
+-- A command has an outcome on an input, and one only, whatever hooks are handed in.
+pub record HasOneOutcome (hooks : List Hook) (command : Command) (input : List ℕ) : Type 0 where
+  pub some : (status : Status) × (text : List ℕ) × IsOutcome hooks command input status text
+  pub one : (s q : Status) (a b : List ℕ) → IsOutcome hooks command input s a → IsOutcome hooks command input q b → (s ≡ q) × (a ≡ b)
 
 abbrev pub OutcomesAreDecided : Type 0
-OutcomesAreDecided = (command : Command) (input : List ℕ) → HasOneOutcome command input
+OutcomesAreDecided = (hooks : List Hook) (command : Command) (input : List ℕ) → HasOneOutcome hooks command input
 
 -- the text is what a command writes for the script that the input spells
-abbrev pub IsTextOf : Command → List ℕ → List ℕ → Type 0
-IsTextOf command input text = (script : ScriptInput) × SpellsInput (reads_with command) input script × IsTextFor command script text
+abbrev pub IsTextOf : List Hook → Command → List ℕ → List ℕ → Type 0
+IsTextOf hooks command input text = (script : ScriptInput) × SpellsInput (reads_with (length hooks) command) input script × IsTextFor hooks command script text
 
 -- the place is the first bad one of the order in the script that the input spells
-abbrev pub IsBadOrderOf : Command → List ℕ → ℕ → Type 0
-IsBadOrderOf command input place = (script : ScriptInput) × SpellsInput (reads_with command) input script × IsBadOrderFor command script place
+abbrev pub IsBadOrderOf : List Hook → Command → List ℕ → ℕ → Type 0
+IsBadOrderOf hooks command input place = (script : ScriptInput) × SpellsInput (reads_with (length hooks) command) input script × IsBadOrderFor command script place
 
 -- a script for which a command's text is due
 abbrev pub IsDue : Command → ScriptInput → Type 0
@@ -53,31 +54,31 @@ pub record IsInput (input : List ℕ) (left rest : Option (List ℕ)) : Type 0 w
   pub within : length input ≤ input_limit
 
 -- What each answer to a command tells of what was taken, and of what the source had left where it tells that.
-pub record Told (command : Command) (result : Status) (left rest : Option (List ℕ)) (s t : ℕ) (before after : Option (List ℕ)) (f g : ℕ) : Type 0 where
+pub record Told (hooks : List Hook) (command : Command) (result : Status) (left rest : Option (List ℕ)) (s t : ℕ) (before after : Option (List ℕ)) (f g : ℕ) : Type 0 where
   -- what was written with Done, and why each other answer came
-  pub done : result ≡ Done → (input : List ℕ) × IsInput input left rest × (text : List ℕ) × IsTextOf command input text × (after ≡ bytes_after before text)
-  pub done_of_left : result ≡ Done → IfSome left (λ input. (text : List ℕ) × IsTextOf command input text × (after ≡ bytes_after before text))
+  pub done : result ≡ Done → (input : List ℕ) × IsInput input left rest × (text : List ℕ) × IsTextOf hooks command input text × (after ≡ bytes_after before text)
+  pub done_of_left : result ≡ Done → IfSome left (λ input. (text : List ℕ) × IsTextOf hooks command input text × (after ≡ bytes_after before text))
   pub never_usage : result ≡ Usage → ⊥
   pub read_fault : result ≡ ReadFault → Rose s t
   pub too_long : result ≡ TooLong → TakesJust (input_limit + 1) left rest
   pub too_long_of_left : result ≡ TooLong → IfSome left (λ input. input_limit < length input)
-  pub refused : (line : ℕ) (reason : Reason) → result ≡ Refused line reason → (input : List ℕ) × IsInput input left rest × IsFirstBadIn (reads_with command) (lines input) line reason
-  pub refused_of_left : (line : ℕ) (reason : Reason) → result ≡ Refused line reason → IfSome left (λ input. (length input ≤ input_limit) × IsFirstBadIn (reads_with command) (lines input) line reason)
-  pub bad_order : (place : ℕ) → result ≡ BadOrder place → (input : List ℕ) × IsInput input left rest × IsBadOrderOf command input place
-  pub bad_order_of_left : (place : ℕ) → result ≡ BadOrder place → IfSome left (λ input. (length input ≤ input_limit) × IsBadOrderOf command input place)
+  pub refused : (line : ℕ) (reason : Reason) → result ≡ Refused line reason → (input : List ℕ) × IsInput input left rest × IsFirstBadIn (reads_with (length hooks) command) (lines input) line reason
+  pub refused_of_left : (line : ℕ) (reason : Reason) → result ≡ Refused line reason → IfSome left (λ input. (length input ≤ input_limit) × IsFirstBadIn (reads_with (length hooks) command) (lines input) line reason)
+  pub bad_order : (place : ℕ) → result ≡ BadOrder place → (input : List ℕ) × IsInput input left rest × IsBadOrderOf hooks command input place
+  pub bad_order_of_left : (place : ℕ) → result ≡ BadOrder place → IfSome left (λ input. (length input ≤ input_limit) × IsBadOrderOf hooks command input place)
   pub write_fault : result ≡ WriteFault → Rose f g
   -- that it comes, unless a stream failed or memory was wanting
   pub only_too_long : IfSome left (λ input. input_limit < length input → IsUnlessStopped TooLong result)
-  pub only_refused : IfSome left (λ input. length input ≤ input_limit → (line : ℕ) (reason : Reason) → IsFirstBadIn (reads_with command) (lines input) line reason → IsUnlessStopped (Refused line reason) result)
-  pub only_bad_order : IfSome left (λ input. length input ≤ input_limit → (place : ℕ) → IsBadOrderOf command input place → IsUnlessStopped (BadOrder place) result)
-  pub only_done : IfSome left (λ input. length input ≤ input_limit → (script : ScriptInput) → SpellsInput (reads_with command) input script → IsDue command script → IsUnlessStopped Done result)
-  pub complete : (Rose s t → ⊥) → (Rose f g → ⊥) → IfSome left (λ input. (due : Status) (text : List ℕ) → IsOutcome command input due text → ((result ≡ due) × (after ≡ bytes_after before text)) ⊎ (result ≡ NoMemory))
+  pub only_refused : IfSome left (λ input. length input ≤ input_limit → (line : ℕ) (reason : Reason) → IsFirstBadIn (reads_with (length hooks) command) (lines input) line reason → IsUnlessStopped (Refused line reason) result)
+  pub only_bad_order : IfSome left (λ input. length input ≤ input_limit → (place : ℕ) → IsBadOrderOf hooks command input place → IsUnlessStopped (BadOrder place) result)
+  pub only_done : IfSome left (λ input. length input ≤ input_limit → (script : ScriptInput) → SpellsInput (reads_with (length hooks) command) input script → IsDue command script → IsUnlessStopped Done result)
+  pub complete : (Rose s t → ⊥) → (Rose f g → ⊥) → IfSome left (λ input. (due : Status) (text : List ℕ) → IsOutcome hooks command input due text → ((result ≡ due) × (after ≡ bytes_after before text)) ⊎ (result ≡ NoMemory))
   -- the text of each answer, whole
   pub text : result ≢ Done → result ≢ WriteFault → after ≡ bytes_after before (text_of result)
 
 -- What an answer to the words of a command line tells, which are this command, if they are one.
-pub record ToldOfWords (asked : Option Command) (result : Status) (left rest : Option (List ℕ)) (s t : ℕ) (before after : Option (List ℕ)) (f g : ℕ) : Type 0 where
-  pub told : IfSome asked (λ command. Told command result left rest s t before after f g)
+pub record ToldOfWords (hooks : List Hook) (asked : Option Command) (result : Status) (left rest : Option (List ℕ)) (s t : ℕ) (before after : Option (List ℕ)) (f g : ℕ) : Type 0 where
+  pub told : IfSome asked (λ command. Told hooks command result left rest s t before after f g)
   pub usage : result ≡ Usage → asked ≡ None
   pub only_usage : asked ≡ None → (result ≡ Usage) ⊎ (result ≡ WriteFault)
   -- the text of each answer, whole
@@ -89,9 +90,9 @@ pub record ToldOfWords (asked : Option Command) (result : Status) (left rest : O
 -- after a fault of the source or want of memory.
 abbrev pub AnswersTell : Type 0
 AnswersTell =
-    (asked : Option Command) (result : Status) (left rest : Option (List ℕ)) (s t : ℕ) (before after : Option (List ℕ)) (f g : ℕ)
-    → IfSome asked (λ command. Answered command result left rest s t before after f g)
+    (hooks : List Hook) (asked : Option Command) (result : Status) (left rest : Option (List ℕ)) (s t : ℕ) (before after : Option (List ℕ)) (f g : ℕ)
+    → IfSome asked (λ command. Answered hooks command result left rest s t before after f g)
     → (asked ≡ None → Says (text_of Usage) Usage result before after f g)
     → (asked ≡ None → (rest ≡ left) × (t ≡ s))
     → ((result ≡ ReadFault) ⊎ (result ≡ NoMemory) → after ≡ before)
-    → ToldOfWords asked result left rest s t before after f g
+    → ToldOfWords hooks asked result left rest s t before after f g

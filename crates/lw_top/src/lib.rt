@@ -17,9 +17,13 @@ mod tests_commands;
 #[cfg(test)]
 mod tests_drawing;
 #[cfg(test)]
+mod tests_hooks;
+#[cfg(test)]
 mod tests_layers;
 #[cfg(test)]
 mod tests_refusals;
+#[cfg(test)]
+mod tests_updates;
 mod words;
 
 pub use command::layers;

@@ -1,5 +1,6 @@
-ghost use Rattle.std.specs.Prelude.{◌≡◌, ◌<◌, ◌≤◌, length, All, IsTrue, IfOk};
+ghost use Rattle.std.specs.Prelude.{◌≡◌, ℕ, ◌<◌, ◌≤◌, List, length, map, vec_len, All, IsTrue, IfOk};
 ghost use Rattle.lw_calls.specs.Built.{is_built};
+ghost use Rattle.lw_machine.specs.Hook.{Hook};
 ghost use Rattle.lw_grammar.specs.Script.{IsRunnableInput};
 ghost use Rattle.lw_script.specs.Answers.{input_meaning, reading_with};
 ghost use Rattle.lw_top.specs.Commands.{reads_with};
@@ -9,6 +10,7 @@ ghost use Rattle.lw_top.specs.Status.{input_limit, reason_text, text_of};
 use crate::report::{report_of, report_of_one};
 use crate::status::Status;
 use crate::words::Command;
+use lw_backfill::Backfill;
 use lw_calls::{Form, Reason, bad_place};
 use lw_print::print;
 use lw_script::{Input, ScriptStop, read};
@@ -21,13 +23,33 @@ pub struct Outcome {
     pub text: Vec<u8>,
 }
 
-/// The outcome of a command on an input of no more bytes than the limit.
-pub fn outcome_of(alloc: Global, command: Command, input: &[u8]) -> Result<Outcome, AllocError>
-    requires { length input.now ≤ input_limit }
-    ensures { IfOk result (λ outcome. IsOutcome command input.now outcome.status outcome.text.items) }
+/// The outcome of a command that is handed these hooks, on an input of no more bytes than the limit.
+pub fn outcome_of<B: Backfill>(
+    alloc: Global,
+    command: Command,
+    input: &[u8],
+    hooks: Vec<B>,
+) -> Result<Outcome, AllocError>
+    requires short { length input.now ≤ input_limit }
+    requires few { vec_len hooks < 4294967296 }
+    ensures { IfOk result (λ outcome.
+        IsOutcome (map B.hook hooks.items) command input.now outcome.status outcome.text.items) }
 {
-    match read(alloc, input, 0, form_of(command)) {
-        Ok(script) => outcome_for(alloc, command, &script),
+    match read(alloc, input, hooks.len() as u32, form_of(command)) {
+        Ok(script) => outcome_for(alloc, command, &script, hooks),
+        Err(ScriptStop::Refused { line, reason }) => refusal(alloc, line, reason),
+        Err(ScriptStop::Memory) => Err(AllocError),
+    }
+}
+
+/// The outcome of `check` where so many hooks are handed in, on an input of no more bytes than the limit. It needs no hook.
+pub fn check_outcome(alloc: Global, input: &[u8], hooks: u32) -> Result<Outcome, AllocError>
+    requires { length input.now ≤ input_limit }
+    ensures { IfOk result (λ outcome. (given : List Hook) → length given ≡ hooks
+        → IsOutcome given Command.Check input.now outcome.status outcome.text.items) }
+{
+    match read(alloc, input, hooks, Form::Plain) {
+        Ok(script) => Ok(done(print(alloc, &script.plan)?)),
         Err(ScriptStop::Refused { line, reason }) => refusal(alloc, line, reason),
         Err(ScriptStop::Memory) => Err(AllocError),
     }
@@ -35,7 +57,7 @@ pub fn outcome_of(alloc: Global, command: Command, input: &[u8]) -> Result<Outco
 
 /// What a command's input is beside the script.
 fn form_of(command: Command) -> Form
-    ensures { reading_with 0 result ≡ reads_with command }
+    ensures { (count : ℕ) → reading_with count result ≡ reads_with count command }
 {
     match command {
         Command::Run | Command::Check => Form::Plain,
@@ -43,17 +65,22 @@ fn form_of(command: Command) -> Form
     }
 }
 
-/// The outcome of a command on a script.
-fn outcome_for(alloc: Global, command: Command, script: &Input) -> Result<Outcome, AllocError>
-    requires runnable { IsRunnableInput (reads_with command) (input_meaning script.now) }
+/// The outcome of a command on a script, with these hooks.
+fn outcome_for<B: Backfill>(
+    alloc: Global,
+    command: Command,
+    script: &Input,
+    hooks: Vec<B>,
+) -> Result<Outcome, AllocError>
+    requires runnable { IsRunnableInput (reads_with (length (map B.hook hooks.items)) command) (input_meaning script.now) }
     requires few { length script.now.order < 4294967296 }
-    ensures { IfOk result (λ outcome.
-        IsOutcomeFor command (input_meaning script.now) outcome.status outcome.text.items) }
+    ensures { IfOk result (λ outcome. IsOutcomeFor (map B.hook hooks.items) command (input_meaning script.now)
+        outcome.status outcome.text.items) }
 {
     match command {
-        Command::Run => Ok(done(report_of_one(alloc, &script.plan)?)),
+        Command::Run => Ok(done(report_of_one(alloc, &script.plan, hooks)?)),
         Command::Check => Ok(done(print(alloc, &script.plan)?)),
-        Command::Replay => outcome_in_order(alloc, script),
+        Command::Replay => outcome_in_order(alloc, script, hooks),
     }
 }
 
@@ -66,12 +93,16 @@ fn done(text: Vec<u8>) -> Outcome
     }
 }
 
-/// The report of the machine's run in the order that stands in a script, or the order's first bad place.
-fn outcome_in_order(alloc: Global, script: &Input) -> Result<Outcome, AllocError>
+/// The report of the machine's run in the order that stands in a script, with these hooks, or the order's first bad place.
+fn outcome_in_order<B: Backfill>(
+    alloc: Global,
+    script: &Input,
+    hooks: Vec<B>,
+) -> Result<Outcome, AllocError>
     requires built { All (λ calls. All (λ call. IsTrue (is_built call)) calls) script.now.plan.calls }
     requires few { length script.now.order < 4294967296 }
-    ensures { IfOk result (λ outcome.
-        IsOutcomeFor Command.Replay (input_meaning script.now) outcome.status outcome.text.items) }
+    ensures { IfOk result (λ outcome. IsOutcomeFor (map B.hook hooks.items) Command.Replay (input_meaning script.now)
+        outcome.status outcome.text.items) }
 {
     match bad_place(alloc, &script.plan, &script.order)? {
         Some(place) => {
@@ -81,7 +112,7 @@ fn outcome_in_order(alloc: Global, script: &Input) -> Result<Outcome, AllocError
                 text,
             })
         }
-        None => Ok(done(report_of(alloc, &script.plan, &script.order)?)),
+        None => Ok(done(report_of(alloc, &script.plan, hooks, &script.order)?)),
     }
 }
 

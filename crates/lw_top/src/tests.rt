@@ -1,4 +1,7 @@
+ghost use Rattle.std.specs.Prelude.{◌<◌, vec_len};
+
 use crate::{Status, layers};
+use lw_backfill::{Backfill, Checker, Cycle, Solid};
 use lw_io::{MemSink, MemSource};
 use std::alloc::{AllocError, Global};
 use std::test::Fail;
@@ -94,19 +97,55 @@ pub fn word(alloc: Global, text: &str) -> Result<String, AllocError> {
     String::from_str(alloc, text)
 }
 
-/// What the program answers and writes for a command of one word, and a script with what stands after it.
+/// What the program answers and writes for a command of one word, and a script with what stands after it, without hooks.
 pub fn answer_to(
     alloc: Global,
     command: &str,
     script: &[u8],
     after: &[u8],
 ) -> Result<(Status, Vec<u8>), AllocError> {
+    answer_with(alloc, Vec::new(alloc), command, script, after)
+}
+
+/// The same with the six hooks that `main` hands in.
+pub fn answer_with_six(
+    alloc: Global,
+    command: &str,
+    script: &[u8],
+    after: &[u8],
+) -> Result<(Status, Vec<u8>), AllocError> {
+    let Some(three_pens) = Cycle::new(vec![in alloc; 1, 2, 3]?) else {
+        unreachable!()
+    };
+    let Some(two_pens) = Cycle::new(vec![in alloc; 3, 0]?) else {
+        unreachable!()
+    };
+    let mut hooks: Vec<Box<dyn Backfill + Send>> = Vec::new(alloc);
+    hooks.push(Box::new(alloc, Solid::new(1))?)?;
+    hooks.push(Box::new(alloc, Solid::new(2))?)?;
+    hooks.push(Box::new(alloc, Checker::new(0, 1))?)?;
+    hooks.push(Box::new(alloc, Checker::new(2, 3))?)?;
+    hooks.push(Box::new(alloc, three_pens)?)?;
+    hooks.push(Box::new(alloc, two_pens)?)?;
+    answer_with(alloc, hooks, command, script, after)
+}
+
+/// The same with these hooks.
+pub fn answer_with(
+    alloc: Global,
+    hooks: Vec<Box<dyn Backfill + Send>>,
+    command: &str,
+    script: &[u8],
+    after: &[u8],
+) -> Result<(Status, Vec<u8>), AllocError>
+    requires { vec_len hooks < 4294967296 }
+{
     let words = vec![in alloc; word(alloc, command)?]?;
     let mut input = Vec::from_slice(alloc, script)?;
     input.extend_from_slice(after)?;
     let mut source = source_of(alloc, input.as_slice(), 65_536, &[])?;
     let mut sink = sink_of(alloc, 4096, 4096, &[])?;
-    let status = layers(alloc, words.as_slice(), &mut source, &mut sink);
+    let status = layers(alloc, words.as_slice(), &mut source, &mut sink, hooks);
     let text = Vec::from_slice(alloc, sink.bytes())?;
     Ok((status, text))
 }
@@ -156,7 +195,13 @@ fn run_with_faults(
     let words = vec![in alloc; word(alloc, "run")?]?;
     let mut source = source_of(alloc, FIRST_FILL, read_step, &[read_fault])?;
     let mut sink = sink_of(alloc, room, write_step, &[write_fault])?;
-    let status = layers(alloc, words.as_slice(), &mut source, &mut sink);
+    let status = layers(
+        alloc,
+        words.as_slice(),
+        &mut source,
+        &mut sink,
+        Vec::new(alloc),
+    );
     let text = Vec::from_slice(alloc, sink.bytes())?;
     Ok((status, text))
 }
@@ -215,11 +260,23 @@ fn words_that_are_no_command_get_the_usage_line(rt: HostRuntime) -> Result<(), F
         }
         let mut source = source_of(alloc, FIRST_FILL, 4096, &[])?;
         let mut sink = sink_of(alloc, 4096, 4096, &[])?;
-        let answer = layers(alloc, words.as_slice(), &mut source, &mut sink);
+        let answer = layers(
+            alloc,
+            words.as_slice(),
+            &mut source,
+            &mut sink,
+            Vec::new(alloc),
+        );
         assert_eq!(rt; answer, Status::Usage);
         assert_eq!(rt; sink.bytes(), USAGE_LINE);
         let mut full = sink_of(alloc, 3, 4096, &[])?;
-        let answer = layers(alloc, words.as_slice(), &mut source, &mut full);
+        let answer = layers(
+            alloc,
+            words.as_slice(),
+            &mut source,
+            &mut full,
+            Vec::new(alloc),
+        );
         assert_eq!(rt; answer, Status::WriteFault);
         assert_eq!(rt; full.bytes(), b"usa".as_slice());
     }

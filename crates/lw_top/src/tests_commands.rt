@@ -2,6 +2,7 @@ use crate::tests::{
     FIRST_FILL, FIRST_FILL_AT_LENGTH, FIRST_FILL_REPORT, answer_to, sink_of, source_of,
 };
 use crate::{Command, Status, check, replay_cmd, serve};
+use lw_backfill::Solid;
 use std::test::Fail;
 
 // Two tasks, each of which creates a layer and fills it.
@@ -187,22 +188,28 @@ fn commands_are_calls_of_their_own(rt: HostRuntime) -> Result<(), Fail> {
     let alloc = rt.alloc();
     let mut source = source_of(alloc, FIRST_FILL, 50, &[])?;
     let mut sink = sink_of(alloc, 4096, 4096, &[])?;
-    let status = serve(alloc, Command::Run, &mut source, &mut sink);
+    let status = serve(
+        alloc,
+        Command::Run,
+        &mut source,
+        &mut sink,
+        Vec::<Solid>::new(alloc),
+    );
     assert_eq!(rt; status, Status::Done);
     assert_eq!(rt; sink.bytes(), FIRST_FILL_REPORT);
     let mut source = source_of(alloc, FIRST_FILL, 50, &[1])?;
     let mut full = sink_of(alloc, 10, 4, &[])?;
-    let status = check(alloc, &mut source, &mut full);
+    let status = check(alloc, &mut source, &mut full, 0);
     assert_eq!(rt; status, Status::ReadFault);
     assert_eq!(rt; full.bytes().len(), 0);
     // What is left is an input of its own, whose first line is a bad one.
-    let status = check(alloc, &mut source, &mut full);
+    let status = check(alloc, &mut source, &mut full, 0);
     assert_eq!(rt; status, Status::WriteFault);
     assert_eq!(rt; full.bytes(), b"refused li".as_slice());
     // An order that isn't legal, and a sink that fails.
     let mut source = source_of(alloc, TWO_TASKS, 50, &[])?;
     let mut failing = sink_of(alloc, 4096, 4, &[1])?;
-    let status = replay_cmd(alloc, &mut source, &mut failing);
+    let status = replay_cmd(alloc, &mut source, &mut failing, Vec::new(alloc));
     assert_eq!(rt; status, Status::WriteFault);
     assert_eq!(rt; failing.bytes(), b"bad ".as_slice());
     Ok(())

@@ -3,7 +3,7 @@ use crate::tests::{FIRST_FILL, FIRST_FILL_REPORT, answer_to};
 use std::alloc::{AllocError, Global};
 use std::test::Fail;
 
-// Scripts for the reasons that no stated refusal has and no count. No hook is handed in, so none can be used twice.
+// Scripts for the reasons that no stated refusal has and no count. No hook is handed in here, so none can be used twice.
 static REASONS: [(&str, &str); 6] = [
     ("\r\nscreen 16 4 1\n", "1 bad-byte"),
     ("screen 16 4 1\ntask a\nend\ntask 9a\n", "4 one-task-only"),

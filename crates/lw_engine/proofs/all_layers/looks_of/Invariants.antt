@@ -2,5 +2,5 @@ use Rattle.std.proofs.Common.{take}
 use Rattle.lw_engine.specs.Arranging.{AreLooks}
 use Rattle.lw_engine.proofs.all_layers.looks_of.Given as goal
 
-abbrev pub invariant-loop-cell : goal.invariant-loop-cell
-invariant-loop-cell l = AreLooks (take l.cell-index l.cells) l.looks.items
+abbrev pub invariant-loop-slot : goal.invariant-loop-slot
+invariant-loop-slot g l = AreLooks (take l.slot-index l.slots) l.looks.items

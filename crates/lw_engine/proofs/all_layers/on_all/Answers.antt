@@ -1,31 +1,32 @@
-use Rattle.std.proofs.Common.{List, Option, sym, subst}
+use Rattle.std.proofs.Common.{List, length, Option, sym, subst}
+use Rattle.lw_calls.specs.declared.call.Call.{Call}
 use Rattle.lw_calls.specs.declared.reply.Reply.{Reply}
+use Rattle.lw_machine.specs.Hook.{Hook}
 use Rattle.lw_machine.specs.Desk.{Desk}
-use Rattle.lw_layer.specs.View.{CellView}
 use Rattle.lw_layer.specs.declared.look.Look.{Look}
 use Rattle.lw_stack.specs.Stack.{Stack}
 use Rattle.lw_arrange.specs.declared.arrangement.Step.{Step}
 use Rattle.lw_arrange.specs.Arranged.{IsStepOf}
 use Rattle.lw_arrange.specs.Steps.{KeepsSizes}
-use Rattle.lw_engine.specs.Arranging.{AreLooks, IsAllStep}
-use Rattle.lw_engine.proofs.ArrangingDesks.{told_desk, plan_done, refused_step, done_step, cells_may, numbered_after, step_after}
+use Rattle.lw_engine.specs.Arranging.{AreLooks, HasSlot, IsAllStep}
+use Rattle.lw_engine.proofs.ArrangingDesks.{told_desk, plan_done, refused_step, done_step, cells_may, slot_is_there, numbered_after, dropped_after, step_after}
 use Rattle.lw_engine.proofs.all_layers.on_all.Goals as goal
 
 pub returns-in-Refused-clause-step : goal.returns-in-Refused-clause-step
-returns-in-Refused-clause-step c =
-    λ d are.
+returns-in-Refused-clause-step g c =
+    λ d are hooks.
     let v = c.args.info.now in
-    let cells = c.args.cells.now in
+    let cells = c.args.slots.now in
     let L : List (Option Look) → Type 0 = λ l. AreLooks cells l in
     let truth : L c.deref.result.now = subst L (sym c.deref.ensures.value) c.in_ok-looks.ensures in
     let P : Step → Type 0 = λ q. IsStepOf d c.args.task c.args.call.now q in
     let step = c.in_ok-reply.ensures.step d (told_desk d v cells c.deref.result.now c.is_fresh-fresh.result c.args.call.now are c.requires.cells truth c.is_fresh-fresh.ensures c.requires.fits) in
-    refused_step d v cells c.args.task c.args.call.now c.in-Refused.reply are (subst P c.in-Refused.is step)
+    refused_step d v c.args.shelf.now cells c.args.task c.args.call.now c.in-Refused.reply are hooks (subst P c.in-Refused.is step)
 
 pub arrange-requires-clause-may : goal.arrange-requires-clause-may
-arrange-requires-clause-may c =
+arrange-requires-clause-may g c =
     let v = c.args.info.now in
-    let cells = c.args.cells.now in
+    let cells = c.args.slots.now in
     let d : Desk = c.requires.desk.0 in
     let L : List (Option Look) → Type 0 = λ l. AreLooks cells l in
     let truth : L c.deref.result.now = subst L (sym c.deref.ensures.value) c.in_ok-looks.ensures in
@@ -34,23 +35,43 @@ arrange-requires-clause-may c =
     c.requires.all c.requires.fits c.requires.plain c.in_ok-reply.ensures.step c.in_ok-reply.ensures.sizes c.in-Arranged.is c.sizes.ensures.planned)
 
 pub returns-clause-step : goal.returns-clause-step
-returns-clause-step c =
+returns-clause-step g c =
     let v = c.args.info.now in
-    let cells = c.args.cells.now in
+    let shelf = c.args.shelf.now in
+    let cells = c.args.slots.now in
+    let new = c.arrange.new.slots in
     let a = c.in-Arranged.arrangement in
     let L : List (Option Look) → Type 0 = λ l. AreLooks cells l in
     let truth : L c.deref.result.now = subst L (sym c.deref.ensures.value) c.in_ok-looks.ensures in
     let K : Step → Type 0 = λ q. KeepsSizes v.sizes q in
-    let R : Reply → Stack → List CellView → Type 0 = λ r w l. IsAllStep v cells c.args.task c.args.call.now r w l in
-    step_after a c.arrange.new.info cells c.arrange.new.cells c.arrange.result R c.arrange.ensures.reply c.arrange.ensures.info c.arrange.ensures.cells
-    (λ changed d are.
-    done_step d v cells c.arrange.new.cells c.deref.result.now c.args.task c.args.call.now a are c.requires.cells truth
+    let R : Reply → Stack → List (Option Hook) → Type 0 = λ r w l. IsAllStep v shelf cells c.args.task c.args.call.now r w l new in
+    step_after a c.arrange.new.info shelf c.arrange.new.shelf cells new c.arrange.result R c.arrange.ensures.reply c.arrange.ensures.info c.arrange.ensures.shelf c.arrange.ensures.cells
+    (λ changed d are hooks.
+    done_step d v shelf cells new c.deref.result.now c.args.task c.args.call.now a are hooks c.requires.cells truth
     (plan_done d v cells c.deref.result.now c.is_fresh-fresh.result c.args.task c.args.call.now c.in_ok-reply.field-0 a are c.requires.cells truth c.is_fresh-fresh.ensures
     c.requires.all c.requires.fits c.requires.plain c.in_ok-reply.ensures.step c.in_ok-reply.ensures.sizes c.in-Arranged.is c.sizes.ensures.planned)
     (subst K c.in-Arranged.is c.in_ok-reply.ensures.sizes) changed)
 
 pub returns-clause-cells : goal.returns-clause-cells
-returns-clause-cells c =
+returns-clause-cells g c =
     let v = c.args.info.now in
     let K : Step → Type 0 = λ q. KeepsSizes v.sizes q in
-    numbered_after c.in-Arranged.arrangement v c.arrange.new.info c.args.cells.now c.arrange.new.cells c.arrange.result c.requires.cells (subst K c.in-Arranged.is c.in_ok-reply.ensures.sizes) c.arrange.ensures.info c.arrange.ensures.cells c.arrange.ensures.unchanged
+    numbered_after c.in-Arranged.arrangement c.args.shelf.now c.arrange.new.shelf v c.arrange.new.info c.args.slots.now c.arrange.new.slots c.arrange.result c.requires.cells (subst K c.in-Arranged.is c.in_ok-reply.ensures.sizes) c.arrange.ensures.info c.arrange.ensures.cells c.arrange.ensures.unchanged
+
+pub arrange-requires-clause-call : goal.arrange-requires-clause-call
+arrange-requires-clause-call g c =
+    let v = c.args.info.now in
+    let cells = c.args.slots.now in
+    let d : Desk = c.requires.desk.0 in
+    let L : List (Option Look) → Type 0 = λ l. AreLooks cells l in
+    let truth : L c.deref.result.now = subst L (sym c.deref.ensures.value) c.in_ok-looks.ensures in
+    let done =
+    plan_done d v cells c.deref.result.now c.is_fresh-fresh.result c.args.task c.args.call.now c.in_ok-reply.field-0 c.in-Arranged.arrangement c.requires.desk.1 c.requires.cells truth c.is_fresh-fresh.ensures
+    c.requires.all c.requires.fits c.requires.plain c.in_ok-reply.ensures.step c.in_ok-reply.ensures.sizes c.in-Arranged.is c.sizes.ensures.planned
+    in
+    let P : Call → Type 0 = λ q. HasSlot (length cells) q in
+    subst P (sym done.plan.call) (slot_is_there v.sizes c.args.call.now (length cells) c.requires.cells.many c.requires.fits)
+
+pub returns-clause-dropped : goal.returns-clause-dropped
+returns-clause-dropped g c =
+    dropped_after c.in-Arranged.arrangement c.args.shelf.now c.arrange.new.shelf c.args.info.now c.arrange.new.info c.args.slots.now c.arrange.new.slots c.arrange.result c.arrange.ensures.cells c.arrange.ensures.unchanged

@@ -1,6 +1,5 @@
-use Rattle.std.proofs.Common.{◌≡◌, ℤ, ◌∙◌, sym, refl, ap, to_z-of_z}
+use Rattle.std.proofs.Common.{sym, refl, ap, to_z-of_z}
 use Rattle.lw_calls.specs.declared.call.Call.TheVariants.{ReadPixel}
-use Rattle.lw_layer.specs.View.{kept_pen}
 use Rattle.lw_engine.proofs.OneLayerLaws.{not_open, no_look, look_live, read_reply, read_step}
 use Rattle.lw_engine.proofs.drawing.read.Goals as goal
 

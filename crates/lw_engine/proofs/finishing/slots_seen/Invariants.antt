@@ -4,5 +4,5 @@ use Rattle.lw_engine.specs.Desks.{cell_at}
 use Rattle.lw_engine.specs.Finished.{seen_in}
 use Rattle.lw_engine.proofs.finishing.slots_seen.Given as goal
 
-abbrev pub invariant-loop-cell : goal.invariant-loop-cell
-invariant-loop-cell l = l.slots.items ≡ map (λ s. seen_in l.info (cell_at l.cells s)) (range_with_len 0 l.cell-index)
+abbrev pub invariant-loop-slot : goal.invariant-loop-slot
+invariant-loop-slot g l = l.all.items ≡ map (λ s. seen_in l.info (cell_at l.slots s)) (range_with_len 0 l.slot-index)

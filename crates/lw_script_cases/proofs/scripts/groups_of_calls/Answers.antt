@@ -4,7 +4,7 @@ use Rattle.lw_planes.specs.Row.{row_bit}
 use Rattle.lw_calls.specs.Limits.{axis_fits}
 use Rattle.lw_grammar.specs.Verbs.{verb_of}
 use Rattle.lw_script_cases.proofs.Decided.{decided}
-use Rattle.lw_script_cases.specs.WholeScripts.{alone, lock_of_nothing, lock_of_a_fill, lock_of_another, lock_in_lock, hold_in_lock, end_in_lock, end_with_a_word, unlock_of_another, unlock_alone, which_in_lock, region_in_lock, blit_in_lock, blit_of_two_in_lock, refresh_in_lock, endrefresh_in_lock, endrefresh_alone, endrefresh_fully, create_in_lock, hold_of_a_create, hold_of_nothing, fill_in_hold, which_in_hold, move_in_hold, release_alone}
+use Rattle.lw_script_cases.specs.WholeScripts.{alone, lock_of_nothing, lock_of_a_fill, lock_of_another, lock_in_lock, hold_in_lock, end_in_lock, end_with_a_word, unlock_of_another, unlock_alone, which_in_lock, region_in_lock, blit_in_lock, blit_of_two_in_lock, refresh_in_lock, endrefresh_in_lock, endrefresh_alone, endrefresh_fully, update_of_a_fill, update_of_nothing, update_in_update, update_without_end, create_in_lock, hold_of_a_create, hold_of_nothing, fill_in_hold, which_in_hold, move_in_hold, release_alone}
 use Rattle.lw_script_cases.proofs.scripts.groups_of_calls.Goals as goal
 
 pub returns-clause-lock_of_nothing : goal.returns-clause-lock_of_nothing
@@ -74,6 +74,22 @@ returns-clause-endrefresh_alone c = decided (alone 0) endrefresh_alone
 pub returns-clause-endrefresh_fully : goal.returns-clause-endrefresh_fully
 unfolding digits within row_bit axis_fits verb_of
 returns-clause-endrefresh_fully c = decided (alone 0) endrefresh_fully
+
+pub returns-clause-update_of_a_fill : goal.returns-clause-update_of_a_fill
+unfolding digits within row_bit axis_fits verb_of
+returns-clause-update_of_a_fill c = decided (alone 0) update_of_a_fill
+
+pub returns-clause-update_of_nothing : goal.returns-clause-update_of_nothing
+unfolding digits within row_bit axis_fits verb_of
+returns-clause-update_of_nothing c = decided (alone 0) update_of_nothing
+
+pub returns-clause-update_in_update : goal.returns-clause-update_in_update
+unfolding digits within row_bit axis_fits verb_of
+returns-clause-update_in_update c = decided (alone 0) update_in_update
+
+pub returns-clause-update_without_end : goal.returns-clause-update_without_end
+unfolding digits within row_bit axis_fits verb_of
+returns-clause-update_without_end c = decided (alone 0) update_without_end
 
 pub returns-clause-create_in_lock : goal.returns-clause-create_in_lock
 unfolding digits within row_bit axis_fits verb_of

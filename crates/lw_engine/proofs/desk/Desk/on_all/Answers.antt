@@ -9,29 +9,31 @@ use Rattle.lw_engine.proofs.EngineLaws.{all_step, all_engine}
 use Rattle.lw_engine.proofs.desk.Desk.on_all.Goals as goal
 
 pub invariant_of-self : goal.invariant_of-self
-invariant_of-self c =
+invariant_of-self g c =
     let a = c.args in
     let f = c.self.inside in
     let all = c.on_all.ensures in
     let v = c.on_all.new.info in
-    let new = c.on_all.new.cells in
-    let e : Engine = record { stack = f.info; cells = f.cells.items; registers = f.registers.items } in
-    let long : length new ≡ f.cells.len = all.cells.many ∙ (ap (λ (s : Sizes). s.slots) all.sizes ∙ (sym c.self.invariant.cells.many ∙ sym f.cells.ok.0)) in
-    let Kept : List CellView → Type 0 = λ q. IsEngine (record e { stack = v; cells = q }) in
-    subst Kept (sym (with_items_is f.cells new long))
-    (all_engine c.on_all.result e a.task a.call.now v c.as_mut_slice.result.now new c.self.invariant c.requires.class all.sizes c.as_mut_slice.ensures.value all.cells all.step all.unchanged)
+    let shelf = c.on_all.new.shelf in
+    let new = c.on_all.new.slots in
+    let e : Engine = record { stack = f.info; shelf = f.shelf; cells = f.slots.items; registers = f.registers.items } in
+    let long : length new ≡ f.slots.len = all.cells.many ∙ (ap (λ (s : Sizes). s.slots) all.sizes ∙ (sym c.self.invariant.cells.many ∙ sym f.slots.ok.0)) in
+    let Kept : List CellView → Type 0 = λ q. IsEngine (record e { stack = v; shelf = shelf; cells = q }) in
+    subst Kept (sym (with_items_is f.slots new long))
+    (all_engine c.on_all.result e a.task a.call.now v shelf c.as_mut_slice.result.now new c.self.invariant c.requires.class all.sizes c.as_mut_slice.ensures.value all.cells all.step all.unchanged)
 
 pub returns-clause-step : goal.returns-clause-step
-returns-clause-step c =
+returns-clause-step g c =
     let a = c.args in
     let f = c.self.inside in
     let all = c.on_all.ensures in
     let v = c.on_all.new.info in
-    let new = c.on_all.new.cells in
-    let e : Engine = record { stack = f.info; cells = f.cells.items; registers = f.registers.items } in
-    let long : length new ≡ f.cells.len = all.cells.many ∙ (ap (λ (s : Sizes). s.slots) all.sizes ∙ (sym c.self.invariant.cells.many ∙ sym f.cells.ok.0)) in
-    let Left : List CellView → Type 0 = λ q. IfOk c.on_all.result (λ r. IsStep e a.task a.call.now r (record e { stack = v; cells = q })) in
-    let Step : Engine → Type 0 = λ q. IfOk c.on_all.result (λ r. IsStep q a.task a.call.now r (record e { stack = v; cells = (with_items f.cells new).items })) in
+    let shelf = c.on_all.new.shelf in
+    let new = c.on_all.new.slots in
+    let e : Engine = record { stack = f.info; shelf = f.shelf; cells = f.slots.items; registers = f.registers.items } in
+    let long : length new ≡ f.slots.len = all.cells.many ∙ (ap (λ (s : Sizes). s.slots) all.sizes ∙ (sym c.self.invariant.cells.many ∙ sym f.slots.ok.0)) in
+    let Left : List CellView → Type 0 = λ q. IfOk c.on_all.result (λ r. IsStep e a.task a.call.now r (record e { stack = v; shelf = shelf; cells = q })) in
+    let Step : Engine → Type 0 = λ q. IfOk c.on_all.result (λ r. IsStep q a.task a.call.now r (record e { stack = v; shelf = shelf; cells = (with_items f.slots new).items })) in
     subst Step c.self.view_is
-    (subst Left (sym (with_items_is f.cells new long))
-    (all_step c.on_all.result e a.task a.call.now v c.as_mut_slice.result.now new c.requires.class all.sizes c.as_mut_slice.ensures.value all.step))
+    (subst Left (sym (with_items_is f.slots new long))
+    (all_step c.on_all.result e a.task a.call.now v shelf c.as_mut_slice.result.now new c.requires.class all.sizes c.as_mut_slice.ensures.value all.step))

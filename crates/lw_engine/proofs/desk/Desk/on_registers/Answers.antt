@@ -7,10 +7,10 @@ use Rattle.lw_engine.proofs.EngineLaws.{registers_step, registers_engine}
 use Rattle.lw_engine.proofs.desk.Desk.on_registers.Goals as goal
 
 pub invariant_of-self : goal.invariant_of-self
-invariant_of-self c =
+invariant_of-self g c =
     let a = c.args in
     let f = c.self.inside in
-    let e : Engine = record { stack = f.info; cells = f.cells.items; registers = f.registers.items } in
+    let e : Engine = record { stack = f.info; shelf = f.shelf; cells = f.slots.items; registers = f.registers.items } in
     let Fits : Engine → Type 0 = λ q. IsTrue (call_fits q.stack.sizes a.call.now) in
     let IsTask : Engine → Type 0 = λ q. a.task < q.stack.sizes.tasks in
     let here : a.task < e.stack.sizes.tasks = subst IsTask (sym c.self.view_is) c.requires.task in
@@ -19,10 +19,10 @@ invariant_of-self c =
     c.on_registers.ensures.eight c.on_registers.ensures.step c.on_registers.ensures.unchanged
 
 pub returns-clause-step : goal.returns-clause-step
-returns-clause-step c =
+returns-clause-step g c =
     let a = c.args in
     let f = c.self.inside in
-    let e : Engine = record { stack = f.info; cells = f.cells.items; registers = f.registers.items } in
+    let e : Engine = record { stack = f.info; shelf = f.shelf; cells = f.slots.items; registers = f.registers.items } in
     let Fits : Engine → Type 0 = λ q. IsTrue (call_fits q.stack.sizes a.call.now) in
     let IsTask : Engine → Type 0 = λ q. a.task < q.stack.sizes.tasks in
     let here : a.task < e.stack.sizes.tasks = subst IsTask (sym c.self.view_is) c.requires.task in

@@ -1,28 +1,46 @@
-use Rattle.std.proofs.Common.{◌+◌, drop, slice_index_or}
-use Rattle.lw_tasks.proofs.Going.{going_turn, going_task, going_left, going_next}
+use Rattle.std.proofs.Common.{◌+◌, ◌≤◌, List, length, drop, slice_index_or, arith}
+use Rattle.std.proofs.lemmas.List.{drop_all}
+use Rattle.lw_machine.specs.Hook.{Hook}
+use Rattle.lw_tasks.proofs.Going.{going_turn, going_task, going_left, going_next, going_end}
 use Rattle.lw_tasks.proofs.run.Run.make_all.Goals as goal
 
 pub make_next-requires-clause-task : goal.make_next-requires-clause-task
-make_next-requires-clause-task c =
+make_next-requires-clause-task g c =
     let plan = c.args.plan.now in
+    let hooks : List Hook = c.requires.opened.0 in
     let order = c.args.tasks.now in
     let i = c.loop-task.task-index in
     let run = c.loop-task.self in
-    going_task plan order (drop (i + 1) order) run.desk run.told.items (slice_index_or order i 0) c.requires.plan (going_turn plan order i run.desk run.told.items c.loop-task-test.true c.loop-task.invariant)
+    going_task plan hooks order (drop (i + 1) order) run.desk run.told.items (slice_index_or order i 0) c.requires.plan (going_turn plan hooks order i run.desk run.told.items c.loop-task-test.true (c.loop-task.invariant hooks c.requires.opened.1))
 
 pub make_next-requires-clause-left : goal.make_next-requires-clause-left
-make_next-requires-clause-left c =
+make_next-requires-clause-left g c =
     let plan = c.args.plan.now in
+    let hooks : List Hook = c.requires.opened.0 in
     let order = c.args.tasks.now in
     let i = c.loop-task.task-index in
     let run = c.loop-task.self in
-    going_left plan order (drop (i + 1) order) run.desk run.told.items (slice_index_or order i 0) c.requires.plan (going_turn plan order i run.desk run.told.items c.loop-task-test.true c.loop-task.invariant)
+    going_left plan hooks order (drop (i + 1) order) run.desk run.told.items (slice_index_or order i 0) c.requires.plan (going_turn plan hooks order i run.desk run.told.items c.loop-task-test.true (c.loop-task.invariant hooks c.requires.opened.1))
 
 pub loop-task-preserved : goal.loop-task-preserved
-loop-task-preserved c =
+loop-task-preserved g c =
     let plan = c.args.plan.now in
     let order = c.args.tasks.now in
     let i = c.loop-task.task-index in
     let run = c.loop-task.self in
     let next = c.make_next.new.self in
-    going_next plan order (drop (i + 1) order) run.desk next.desk run.told.items next.told.items (slice_index_or order i 0) c.in_ok-make_next.ensures (going_turn plan order i run.desk run.told.items c.loop-task-test.true c.loop-task.invariant)
+    λ hooks opened. going_next plan hooks order (drop (i + 1) order) run.desk next.desk run.told.items next.told.items (slice_index_or order i 0) (c.in_ok-make_next.ensures hooks) (going_turn plan hooks order i run.desk run.told.items c.loop-task-test.true (c.loop-task.invariant hooks opened))
+
+pub make_next-requires-clause-sizes : goal.make_next-requires-clause-sizes
+make_next-requires-clause-sizes g c = (c.loop-task.invariant c.requires.opened.0 c.requires.opened.1).run.sizes
+
+pub make_next-requires-clause-lists : goal.make_next-requires-clause-lists
+make_next-requires-clause-lists g c = (c.loop-task.invariant c.requires.opened.0 c.requires.opened.1).run.lists
+
+pub returns : goal.returns
+returns g c =
+    let order = c.args.tasks.now in
+    let i = c.loop-task.task-index in
+    let run = c.loop-task.self in
+    let done : length order ≤ i = omega (arith, c.loop-task-test.false) in
+    λ hooks opened. going_end c.args.plan.now hooks order (drop i order) run.desk run.told.items (drop_all i order done) (c.loop-task.invariant hooks opened)

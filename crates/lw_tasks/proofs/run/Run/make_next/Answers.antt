@@ -9,7 +9,7 @@ use Rattle.lw_tasks.proofs.Next.{has_run_next}
 use Rattle.lw_tasks.proofs.run.Run.make_next.Goals as goal
 
 pub returns : goal.returns
-returns c =
+returns g c =
     let plan = c.args.plan.now in
     let run = c.args.self.now in
     let task = c.args.task in
@@ -20,4 +20,4 @@ returns c =
     let G : ℕ → Type 0 = λ n. slice_get (task_calls plan task) n ≡ Some call in
     let got : slice_get (task_calls plan task) (length (slice_index_or run.told.items task [])) ≡ Some call = subst G (ap length (c.list.ensures ∙ place)) c.call_of-call.ensures.call in
     let Made : Assets → Type 0 = λ a. IsStepWith a run.desk task call c.in_ok-reply.reply c.step.new.self in
-    on_ok_weaker c.push.result (λ pushed past going. has_run_next plan past run.desk c.step.new.self run.told.items c.push.new.self task call c.in_ok-reply.reply c.requires.task got (subst Made c.assets.ensures (c.in_ok-reply.ensures {u = tt}).step) c.step.ensures.sizes (pushed ∙ ap (λ rs. rs ++ c.in_ok-reply.reply ∷ []) place) going) c.push.ensures.ok
+    on_ok_weaker c.push.result (λ pushed hooks past going. has_run_next plan hooks past run.desk c.step.new.self run.told.items c.push.new.self task call c.in_ok-reply.reply c.requires.task got (subst Made c.assets.ensures (c.in_ok-reply.ensures {u = tt}).step) c.step.ensures.sizes (pushed ∙ ap (λ rs. rs ++ c.in_ok-reply.reply ∷ []) place) going) c.push.ensures.ok

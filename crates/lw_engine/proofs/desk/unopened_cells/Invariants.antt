@@ -1,7 +1,0 @@
-use Rattle.std.proofs.Common.{◌≡◌, map}
-use Rattle.std.specs.List.{range_with_len}
-use Rattle.lw_engine.specs.Steps.{unopened_cell}
-use Rattle.lw_engine.proofs.desk.unopened_cells.Given as goal
-
-abbrev pub invariant-loop-slot : goal.invariant-loop-slot
-invariant-loop-slot l = l.cells.items ≡ map unopened_cell (range_with_len 0 l.slot)

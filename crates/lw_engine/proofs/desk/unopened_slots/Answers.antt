@@ -1,0 +1,6 @@
+use Rattle.lw_engine.proofs.EmptyDesk.{unopened_more}
+use Rattle.lw_engine.proofs.desk.unopened_slots.Goals as goal
+
+pub loop-slot-preserved : goal.loop-slot-preserved
+loop-slot-preserved g c =
+    unopened_more c.loop-slot.slots.items c.push.new.self.items c.unopened.result c.loop-slot.slot c.loop-slot.invariant c.unopened.ensures (c.in_ok-push.ensures {u = tt}).items

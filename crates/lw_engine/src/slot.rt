@@ -1,0 +1,92 @@
+// A slot of the desk: its cell, and beside it the hook of its layer.
+
+ghost use Rattle.std.specs.Prelude.{◌≡◌, false, Option, IsOk, IfOk, OnErr, IsTrue};
+ghost use Rattle.lw_calls.specs.Built.{is_built};
+ghost use Rattle.lw_calls.specs.declared.sizes.Sizes.{Sizes};
+ghost use Rattle.lw_calls.specs.Limits.{call_fits};
+ghost use Rattle.lw_calls.specs.Touches.{class_of, OnLayer, OnLayers};
+ghost use Rattle.lw_layer.specs.View.{hooked};
+ghost use Rattle.lw_engine.specs.Parts.{IsLayerStep, IsPairStep, takes_memory};
+ghost use Rattle.lw_engine.specs.Slots.{hook_in};
+ghost use Rattle.lw_engine.specs.Steps.{unopened_cell};
+
+use crate::one_layer::on_layer;
+use crate::regs::Regs;
+use crate::two_layers::on_layers;
+use lw_backfill::Backfill;
+use lw_calls::{Assets, Call, Reply};
+use lw_layer::Cell;
+use std::alloc::{AllocError, Global};
+use std::marker::Model;
+
+/// A slot of the desk: its cell, and beside it the backfill hook that its layer was created with, if there was one (the manual's
+/// Layers Library chapter). Contracts see the cell with the hook on its layer.
+#[derive(Drop)]
+pub struct Slot<B: Backfill> {
+    pub(crate) cell: Cell,
+    pub(crate) held: Option<B>,
+}
+
+impl<B: Backfill> Model for Slot<B> {
+    ghost use Rattle.std.specs.Prelude.{option_map};
+    ghost use Rattle.lw_layer.specs.View.{CellView, hooked};
+
+    ghost Value = { CellView };
+
+    ghost view = { λ s. hooked (option_map B.hook s.held) s.cell };
+}
+
+impl<B: Backfill> Slot<B> {
+    /// The slot of a layer that was not created so far.
+    pub fn unopened(slot: u32) -> Slot<B>
+        ensures { result ≡ unopened_cell slot }
+    {
+        Slot {
+            cell: Cell::unopened(slot),
+            held: None,
+        }
+    }
+
+    /// The slot's cell, which knows nothing of the hook.
+    pub fn cell(&self) -> &Cell
+        ensures { self.now ≡ hooked (hook_in self.now) result.now }
+    {
+        &self.cell
+    }
+
+    /// Makes one call on the slot's layer, as `on_layer` does.
+    pub fn on_layer(
+        &mut self,
+        alloc: Global,
+        regs: &Regs,
+        assets: &Assets,
+        call: &Call,
+    ) -> Result<Reply, AllocError>
+        requires class { class_of call.now ≡ OnLayer self.old.number }
+        requires fits { (sizes : Sizes) × IsTrue (call_fits sizes call.now) }
+        requires built { IsTrue (is_built call.now) }
+        ensures step { IfOk result (λ r. IsLayerStep self.old regs.now assets.now call.now r self.new) }
+        ensures number { self.new.number ≡ self.old.number }
+        ensures unchanged { OnErr result (self.new ≡ self.old) }
+        ensures memory { takes_memory call.now ≡ false → IsOk result }
+    {
+        on_layer(alloc, &mut self.cell, regs, assets, call)
+    }
+
+    /// Makes one call on this slot's layer and another one's, of which the latter is only read, as `on_layers` does.
+    pub fn with_source(&mut self, source: &Slot<B>, call: &Call) -> Reply
+        requires class { class_of call.now ≡ OnLayers source.now.number self.old.number }
+        requires fits { (sizes : Sizes) × IsTrue (call_fits sizes call.now) }
+        ensures step { IsPairStep source.now self.old call.now result self.new }
+        ensures number { self.new.number ≡ self.old.number }
+    {
+        on_layers(&source.cell, &mut self.cell, call)
+    }
+}
+
+// A slot may go to another thread where its hook may: the bounds ask for the proofs.
+fn cross_threads<B: Backfill + Send>() {
+    crosses::<Slot<B>>();
+}
+
+fn crosses<T: Send>() {}

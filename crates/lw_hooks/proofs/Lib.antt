@@ -1,0 +1,5 @@
+pub mod FillingLaws
+pub mod PaintingLaws
+pub mod RectangleLaws
+pub mod TestLaws
+pub mod TileLaws

@@ -1,0 +1,91 @@
+-- Laws of painting a row with a row of a tile.
+use Rattle.std.proofs.Common.{◌≡◌, ℕ, zero, suc, ◌+◌, ◌-◌, ◌/◌, ◌%◌, ◌==◌, ◌<◌, ◌≤◌, Bool, true, ◌&&◌, nat_lt, List, replicate, None, ◌∙◌, sym, refl, ap, arith}
+use Rattle.std.specs.Int.{bit_at}
+use Rattle.std.specs.List.{slice_index_or}
+use Rattle.std.proofs.lemmas.Bool.Decides.{nat_tests}
+use Rattle.std.proofs.lemmas.List.{get_or-replicate}
+use Rattle.std.proofs.lemmas.Nat.Bits.{bit_at-lt}
+use Rattle.lw_planes.specs.Row.{row_bit}
+use Rattle.lw_planes.specs.Minterm.{minterm_bit}
+use Rattle.lw_planes.specs.Bitmap.{IsBitmap}
+use Rattle.lw_kernels.specs.Kernel.{is_between}
+use Rattle.lw_layer.specs.View.{CellView, draws, with_live}
+use Rattle.lw_draw.specs.Drawn.{drawn, GivesBits, in_rows}
+use Rattle.lw_draw.specs.Combined.{combined_bit}
+use Rattle.lw_draw.specs.Stretches.{in_stretch, IsFirstStretch, IsNextStretch}
+use Rattle.lw_draw.specs.declared.stretch.Stretch.{Stretch}
+use Rattle.lw_draw.proofs.PaintLaws.{cell_nowhere, cell_same, cell_alike, cell_more, none_stays, next_plane, next_run, no_plane, all_planes, no_column, row_done}
+use Rattle.lw_hooks.specs.Filling.{byte_bit, planes_bit}
+
+-- what a row and a tile give are bits
+pub planes_give_bits : (bytes : List ℕ) → GivesBits (planes_bit bytes)
+planes_give_bits bytes p x y old small = bit_at-lt (slice_index_or bytes p 0) (7 - x % 8)
+
+-- the minterm that copies
+copied_bit : (b old : ℕ) → b < 2 → minterm_bit 192 b old ≡ b
+copied_bit zero old small = grind (arith, nat_tests)
+copied_bit (suc zero) old small = grind (arith, nat_tests)
+copied_bit (suc (suc b)) old small = absurd (omega (arith, small))
+
+-- a row of equal bytes
+equal_bytes : (n byte x : ℕ) → x / 8 < n → row_bit (replicate n byte) x ≡ byte_bit byte x
+unfolding row_bit
+equal_bytes n byte x near = ap (λ b. bit_at b (7 - x % 8)) (get_or-replicate n (x / 8) byte 0 near)
+
+-- what is told of a pixel of a run in one plane
+record IsAt (k : ℕ) (s : Stretch) (p i : ℕ) : Type 0 where
+  pub deep : p ≡ k
+  pub last : i < s.x + s.run.len
+
+pixel_of : (k : ℕ) (s : Stretch) (p i j : ℕ) → (p == k && in_stretch s i j) ≡ true → IsAt k s p i
+pixel_of k s p i j on = record { deep = grind (arith, nat_tests); last = grind (arith, nat_tests) }
+
+-- A run has in one plane the bits of a byte once it has those of a row of that byte.
+pub plane_of_byte : (v w : CellView) (k byte : ℕ) (s : Stretch) → s.x + s.run.len ≤ 2048 → w ≡ with_live (λ c. drawn (λ p i j. p == k && in_stretch s i j) (combined_bit 192 (replicate 256 byte) (record { column = 0; bit = 0 })) c) v → w ≡ with_live (λ c. drawn (λ p i j. p == k && in_stretch s i j) (λ p i j old. byte_bit byte i) c) v
+plane_of_byte v w k byte s right is =
+    cell_alike v w (λ p i j. p == k && in_stretch s i j) (combined_bit 192 (replicate 256 byte) (record { column = 0; bit = 0 })) (λ p i j old. byte_bit byte i) is
+    (λ p i j old _ _ _ on _.
+    let at = pixel_of k s p i j on in
+    let place : 0 + (i - 0) ≡ i = omega arith in
+    let near : i / 8 < 256 = omega (arith, at.last, right) in
+    ap (λ n. minterm_bit 192 (row_bit (replicate 256 byte) n) old) place ∙
+    (ap (λ b. minterm_bit 192 b old) (equal_bytes 256 byte i near) ∙ copied_bit (byte_bit byte i) old (bit_at-lt byte (7 - i % 8))))
+
+-- the pixels of a run in the planes before one of them
+abbrev pub planes_before : Stretch → ℕ → ℕ → ℕ → ℕ → Bool
+planes_before s k p i j = nat_lt p k && in_stretch s i j
+
+-- no plane so far
+pub no_planes : (v : CellView) (s : Stretch) (bytes : List ℕ) → IsBitmap v.live.layer.bits → v ≡ with_live (λ c. drawn (planes_before s 0) (planes_bit bytes) c) v
+no_planes v s bytes ok = cell_nowhere v (planes_before s 0) (planes_bit bytes) ok (λ p i j. no_plane p (in_stretch s i j))
+
+-- one plane more
+pub plane_more : (v w u : CellView) (k : ℕ) (s : Stretch) (bytes : List ℕ) → w ≡ with_live (λ c. drawn (planes_before s k) (planes_bit bytes) c) v → u ≡ with_live (λ c. drawn (λ p i j. p == k && in_stretch s i j) (λ p i j old. byte_bit (slice_index_or bytes k 0) i) c) w → u ≡ with_live (λ c. drawn (planes_before s (k + 1)) (planes_bit bytes) c) v
+plane_more v w u k s bytes was is =
+    cell_more v w u (planes_before s k) (λ p i j. p == k && in_stretch s i j) (planes_before s (k + 1)) (planes_bit bytes) (planes_give_bits bytes)
+    (next_plane v.live (λ p. true) k (in_stretch s) refl) was
+    (cell_alike w u (λ p i j. p == k && in_stretch s i j) (λ p i j old. byte_bit (slice_index_or bytes k 0) i) (planes_bit bytes) is
+    (λ p i j old _ _ _ on _. let at = pixel_of k s p i j on in ap (λ q. byte_bit (slice_index_or bytes q 0) i) (sym at.deep)))
+
+-- all planes
+pub planes_done : (v w : CellView) (k : ℕ) (s : Stretch) (bytes : List ℕ) → v.live.layer.bits.depth ≤ k → w ≡ with_live (λ c. drawn (planes_before s k) (planes_bit bytes) c) v → w ≡ with_live (λ c. drawn (λ p i j. in_stretch s i j) (planes_bit bytes) c) v
+planes_done v w k s bytes enough was =
+    cell_same v w (planes_before s k) (λ p i j. in_stretch s i j) (planes_bit bytes) was
+    (λ p i j deep. let below : p < k = omega (arith, deep, enough) in all_planes p k (in_stretch s i j) below)
+
+-- no run so far
+pub no_runs : (v : CellView) (y from : ℕ) (bytes : List ℕ) → IsBitmap v.live.layer.bits → v ≡ with_live (λ c. drawn (λ p i j. in_rows c y (y + 1) from from i j) (planes_bit bytes) c) v
+no_runs v y from bytes ok =
+    cell_nowhere v (λ p i j. in_rows v.live y (y + 1) from from i j) (planes_bit bytes) ok (λ p i j. no_column true (is_between y (y + 1) j) from i (draws v.live i j))
+
+-- one run more
+pub run_more : (v w u : CellView) (y from x end : ℕ) (s : Stretch) (bytes : List ℕ) → from ≤ x → IsFirstStretch v.live x y end s → w ≡ with_live (λ c. drawn (λ p i j. in_rows c y (y + 1) from x i j) (planes_bit bytes) c) v → u ≡ with_live (λ c. drawn (λ p i j. in_stretch s i j) (planes_bit bytes) c) w → u ≡ with_live (λ c. drawn (λ p i j. in_rows c y (y + 1) from (s.x + s.run.len) i j) (planes_bit bytes) c) v
+run_more v w u y from x end s bytes first next was is =
+    cell_more v w u (λ p i j. in_rows v.live y (y + 1) from x i j) (λ p i j. in_stretch s i j) (λ p i j. in_rows v.live y (y + 1) from (s.x + s.run.len) i j) (planes_bit bytes) (planes_give_bits bytes)
+    (next_run v.live (λ p. true) y from x end s first next) was is
+
+-- all runs
+pub runs_done : (v w : CellView) (y from x end : ℕ) (bytes : List ℕ) → from ≤ x → x ≤ end → w ≡ with_live (λ c. drawn (λ p i j. in_rows c y (y + 1) from x i j) (planes_bit bytes) c) v → IsNextStretch w.live x y end None → w ≡ with_live (λ c. drawn (λ p i j. in_rows c y (y + 1) from end i j) (planes_bit bytes) c) v
+runs_done v w y from x end bytes first last was none =
+    cell_same v w (λ p i j. in_rows v.live y (y + 1) from x i j) (λ p i j. in_rows v.live y (y + 1) from end i j) (planes_bit bytes) was
+    (λ p i j _. row_done v.live true y from x end i j first last (none_stays v w (λ q u z. in_rows v.live y (y + 1) from x u z) (planes_bit bytes) x y end was none))

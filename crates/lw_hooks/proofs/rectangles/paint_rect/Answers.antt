@@ -1,0 +1,26 @@
+use Rattle.std.proofs.Common.{◌≡◌, ℤ, pos, to_z, of_z, w16, ◌∙◌, ap, arith}
+use Rattle.std.proofs.lemmas.Int.{ints}
+use Rattle.lw_region.specs.Rectangle.{within}
+use Rattle.lw_layer.specs.View.{LiveView}
+use Rattle.lw_hooks.proofs.RectangleLaws.{rectangle_painted}
+use Rattle.lw_hooks.proofs.rectangles.paint_rect.Goals as goal
+
+-- a place between equal edges
+within_same : (a b c d z : ℤ) → a ≡ c → b ≡ d → within c z d ≡ within a z b
+within_same a b c d z first last = cc
+
+pub returns : goal.returns
+returns c =
+    let v = c.args.cell.now in
+    let rect = c.args.rect.now in
+    let columns = c.span-columns.result in
+    let rows = c.span-rows.result in
+    let left : to_z w16 (of_z w16 c.min_x.result) ≡ rect.min_x = omega (arith, ints) in
+    let right : to_z w16 (of_z w16 c.max_x.result) ≡ rect.max_x = omega (arith, ints) in
+    let top : to_z w16 (of_z w16 c.min_y.result) ≡ rect.min_y = omega (arith, ints) in
+    let bottom : to_z w16 (of_z w16 c.max_y.result) ≡ rect.max_y = omega (arith, ints) in
+    c.paint_rows.ensures ∙
+    ap (λ (q : LiveView). record v { live = q })
+    (rectangle_painted v.live rect c.args.tile.now rows.from rows.end columns.from columns.end
+    (λ i inside. within_same _ _ _ _ (pos i) left right ∙ c.span-columns.ensures.has i (omega (arith, inside, c.width.ensures.value)))
+    (λ j inside. within_same _ _ _ _ (pos j) top bottom ∙ c.span-rows.ensures.has j (omega (arith, inside, c.height.ensures.value))))

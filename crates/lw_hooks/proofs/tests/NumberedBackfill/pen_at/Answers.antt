@@ -1,0 +1,13 @@
+use Rattle.std.proofs.Common.{◌∙◌, ap, to_z-of_z}
+use Rattle.lw_machine.specs.Hook.{tile_place}
+use Rattle.lw_hooks.proofs.TestLaws.{numbered_pen, numbered_is_hook}
+use Rattle.lw_hooks.proofs.tests.NumberedBackfill.pen_at.Goals as goal
+
+pub returns-clause-pen : goal.returns-clause-pen
+returns-clause-pen c =
+    numbered_pen c.tile_place-2.result c.tile_place.result c.args.x c.args.y
+    (c.tile_place-2.ensures.place ∙ ap tile_place (to_z-of_z c.ranges.x))
+    (c.tile_place.ensures.place ∙ ap tile_place (to_z-of_z c.ranges.y))
+
+pub returns-clause-sound : goal.returns-clause-sound
+returns-clause-sound c = numbered_is_hook

@@ -1,0 +1,46 @@
+-- What a fill with a hook makes of a layer's bits (this project's own). Words of this crate's private contracts.
+use Rattle.std.specs.Prelude.{◌≡◌, ℕ, ◌-◌, ◌%◌, ◌<◌, Bool, ◌&&◌, List, [], pos}
+use Rattle.std.specs.Int.{bit_at}
+use Rattle.std.specs.List.{slice_index_or}
+use Rattle.lw_region.specs.Rectangle.{Rectangle, has_pixel}
+use Rattle.lw_region.specs.Bands.{covers}
+use Rattle.lw_machine.specs.Hook.{Hook, hook_pen}
+use Rattle.lw_machine.specs.Paint.{with_pens, pen_within}
+use Rattle.lw_layer.specs.View.{LiveView, CellView, keeps, draws, with_live, with_layer}
+
+-- the bit that column x takes from a byte for eight columns: the byte's most significant bit is its leftmost column, and it comes
+-- again every eight columns
+abbrev pub byte_bit : ℕ → ℕ → ℕ
+byte_bit byte x = bit_at byte (7 - x % 8)
+
+-- the bit that a pixel takes in a plane from a row with a byte for each plane
+abbrev pub planes_bit : List ℕ → ℕ → ℕ → ℕ → ℕ → ℕ
+planes_bit bytes p x y old = byte_bit (slice_index_or bytes p 0) x
+
+-- and from a tile of eight such rows
+abbrev pub tile_bit : List (List ℕ) → ℕ → ℕ → ℕ → ℕ → ℕ
+tile_bit tile p x y old = planes_bit (slice_index_or tile (y % 8) []) p x y old
+
+-- the bits of the tile are those of the hook's pens
+abbrev pub IsTileOf : Hook → List (List ℕ) → Type 0
+IsTileOf h tile = (p x y old : ℕ) → p < 8 → tile_bit tile p x y old ≡ bit_at (hook_pen h (pos x) (pos y)) p
+
+-- the drawable pixels of a rectangle
+abbrev pub in_rectangle : LiveView → Rectangle → ℕ → ℕ → Bool
+in_rectangle c r x y = draws c x y && has_pixel r (pos x) (pos y)
+
+-- and of some rectangles
+abbrev pub in_rectangles : LiveView → List Rectangle → ℕ → ℕ → Bool
+in_rectangles c rects x y = draws c x y && covers rects (pos x) (pos y)
+
+-- the cell with the hook's pens on the pixels of some rectangles that its layer keeps
+abbrev pub filled : Hook → List Rectangle → CellView → CellView
+filled h rects v =
+    with_live
+    (λ c. with_layer
+    (λ l. with_pens
+    (λ x y. keeps c x y && covers rects (pos x) (pos y))
+    (λ x y. pen_within l.bits.depth (hook_pen h (pos x) (pos y)))
+    l)
+    c)
+    v

@@ -1,0 +1,17 @@
+use Rattle.std.proofs.Common.{◌≡◌, List, [], length, replicate, sym, subst}
+use Rattle.std.proofs.lemmas.List.{length-replicate}
+use Rattle.lw_machine.specs.Hook.{Hook}
+use Rattle.lw_top.specs.declared.words.Command.TheVariants.{Check}
+use Rattle.lw_top.specs.Outcome.{IsOutcome}
+use Rattle.lw_top.proofs.AnswerLaws.{said_not_stopped}
+use Rattle.lw_top.proofs.serving.check.Goals as goal
+
+pub returns-in-Ok-check_outcome-clause-untouched : goal.returns-in-Ok-check_outcome-clause-untouched
+returns-in-Ok-check_outcome-clause-untouched g c =
+    let hook : Hook = record { tiles = []; place = 0 } in
+    let given : List Hook = replicate c.args.hooks hook in
+    let many : length given ≡ c.args.hooks = length-replicate c.args.hooks hook in
+    let due = c.in-Ok-check_outcome.checked.status in
+    let text = c.as_slice-in-Ok-check_outcome.result.now in
+    let outcome : IsOutcome given Check c.as_slice.result.now due text = subst (λ t. IsOutcome given Check c.as_slice.result.now due t) (sym c.as_slice-in-Ok-check_outcome.ensures.value) (c.in-Ok-check_outcome.ensures given many) in
+    λ stopped. absurd (said_not_stopped given Check c.as_slice.result.now due c.say.result text (g.K.Sink.written c.args.sink.now) (g.K.Sink.written c.say.new.sink) (g.K.Sink.faults c.args.sink.now) (g.K.Sink.faults c.say.new.sink) outcome c.say.ensures.said stopped)

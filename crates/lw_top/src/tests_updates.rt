@@ -1,0 +1,328 @@
+use crate::Status;
+use crate::tests::answer_to;
+use std::test::Fail;
+
+// Scripts with updates, and their reports.
+static UPDATED: [(&[u8], &[u8]); 7] = [
+    // The columns 2 to 4 of the simple layer were covered when it was filled with pen 1, so they have pen 0 and are damaged
+    // once the cover is gone. In the update a fill of the columns 1 to 3 with pen 2 reaches 2 and 3 alone. After its full end
+    // nothing is damaged, and a fill of the columns 6 and 7 reaches both: the pens are 1 1 2 2 0 1 2 2.
+    (
+        b"screen 16 1 2
+task a
+create s simple front 0 0 7 0
+create c smart front 2 0 4 0
+fill s 0 0 7 0
+close c
+refresh s
+apen s 2
+fill s 1 0 3 0
+endrefresh s full
+fill s 6 0 7 0
+end
+",
+        b"order 9
+0 0 0 0 0 0 0 0 0
+planes 16 1 2
+plane 0
+c400
+plane 1
+3300
+visible s 1
+0 0 7 0
+damage s 0
+replies a 9
+ok
+ok
+ok
+ok
+ok
+ok
+ok
+ok
+ok
+done
+",
+    ),
+    // The same layer: in the update SetRast gives pen 3 to the columns 2 to 4. After its partial end these are still damaged,
+    // but column 6 can be drawn, with pen 2. In a second update it can't be, though it can be read; column 3 can be drawn.
+    // The pens are 1 1 3 2 3 1 2 1.
+    (
+        b"screen 16 1 2
+task a
+create s simple front 0 0 7 0
+create c smart front 2 0 4 0
+fill s 0 0 7 0
+close c
+refresh s
+setrast s 3
+endrefresh s part
+apen s 2
+write s 6 0
+refresh s
+write s 6 0
+read s 6 0
+write s 3 0
+endrefresh s part
+end
+",
+        b"order 14
+0 0 0 0 0 0 0 0 0 0 0 0 0 0
+planes 16 1 2
+plane 0
+ed00
+plane 1
+3a00
+visible s 1
+0 0 7 0
+damage s 1
+2 0 4 0
+replies a 14
+ok
+ok
+ok
+ok
+ok
+ok
+ok
+ok
+ok
+ok
+outside
+pen 2
+ok
+ok
+done
+",
+    ),
+    // The columns 0 to 2 are damaged and 1 to 3 are in the clip region, so 1 and 2 are drawable in the update. The clip
+    // region can't be changed there, and is the same afterwards.
+    (
+        b"screen 16 1 1
+task a
+create s simple front 0 0 3 0
+create c smart front 0 0 2 0
+close c
+orrect 0 1 0 3 0
+clip s 0
+refresh s
+setrast s 1
+unclip s
+clip s 0
+endrefresh s full
+unclip s
+end
+",
+        b"order 11
+0 0 0 0 0 0 0 0 0 0 0
+planes 16 1 1
+plane 0
+6000
+visible s 1
+0 0 3 0
+damage s 0
+replies a 11
+ok
+ok
+ok
+ok
+none
+ok
+ok
+in-update
+in-update
+ok
+region 1 1 0 3 0
+done
+",
+    ),
+    // In an update a scroll by two columns moves the damage of the columns 2 to 4 with the pens that it brings them: 2 gets
+    // pen 0 and the damage of 4, while 3 and 4 get pen 1 and no damage, from 5 and 6. So only column 2 is drawable from then
+    // on, and 3 and 4 keep pen 1.
+    (
+        b"screen 16 1 1
+task a
+create s simple front 0 0 7 0
+create c smart front 2 0 4 0
+fill s 0 0 7 0
+close c
+refresh s
+scrollraster s 2 0 0 0 7 0
+setrast s 0
+endrefresh s part
+end
+",
+        b"order 8
+0 0 0 0 0 0 0 0
+planes 16 1 1
+plane 0
+df00
+visible s 1
+0 0 7 0
+damage s 1
+2 0 2 0
+replies a 8
+ok
+ok
+ok
+ok
+ok
+ok
+ok
+ok
+done
+",
+    ),
+    // A smart layer that grows by four columns is damaged on these alone.
+    (
+        b"screen 16 1 1
+task a
+create w smart front 0 0 3 0
+size w 4 0
+refresh w
+scroll w 0 0
+setrast w 1
+endrefresh w full
+end
+",
+        b"order 6
+0 0 0 0 0 0
+planes 16 1 1
+plane 0
+0f00
+visible w 1
+0 0 7 0
+damage w 0
+replies a 6
+ok
+ok
+ok
+not-super
+ok
+ok
+done
+",
+    ),
+    // A super-bitmap layer is never damaged: in its update nothing is drawable. Afterwards the columns 1 to 5 of its own
+    // bitmap get pen 1, and the layer shows its columns 4 to 7.
+    (
+        b"screen 16 1 1
+task a
+create s super front 0 0 3 0 8 1
+refresh s
+fill s 0 0 3 0
+write s 0 0
+endrefresh s full
+fill s 1 0 5 0
+scroll s 4 0
+end
+",
+        b"order 7
+0 0 0 0 0 0 0
+planes 16 1 1
+plane 0
+c000
+visible s 1
+0 0 3 0
+damage s 0
+replies a 7
+ok
+ok
+ok
+outside
+ok
+ok
+ok
+done
+",
+    ),
+    // A layer that isn't open yet, and one that isn't open any more.
+    (
+        b"screen 16 1 1
+task a
+refresh w
+fill w 0 0 7 0
+endrefresh w part
+create w smart front 0 0 7 0
+close w
+refresh w
+endrefresh w full
+end
+",
+        b"order 7
+0 0 0 0 0 0 0
+planes 16 1 1
+plane 0
+0000
+replies a 7
+not-open
+not-open
+not-open
+ok
+ok
+not-open
+not-open
+done
+",
+    ),
+];
+
+#[test]
+fn updates_are_reported(rt: HostRuntime) -> Result<(), Fail> {
+    for (script, report) in UPDATED.iter() {
+        let (status, text) = answer_to(rt.alloc(), "run", script, b"")?;
+        assert_eq!(rt; status, Status::Done);
+        assert_eq!(rt; text.as_slice(), *report);
+    }
+    Ok(())
+}
+
+// A task that updates a layer, and a task that fills the layer that covers it and then the layer itself.
+const UPDATED_BY_ONE: &[u8] = b"screen 16 1 1
+task a
+create s simple front 0 0 7 0
+create c smart front 4 0 7 0
+refresh s
+endrefresh s part
+end
+task b
+fill c 0 0 3 0
+fill s 0 0 3 0
+end
+order
+";
+
+const UPDATED_BY_ONE_REPORT: &[u8] = b"order 6
+0 0 0 1 0 1
+planes 16 1 1
+plane 0
+ff00
+visible s 1
+0 0 3 0
+visible c 1
+4 0 7 0
+damage s 0
+damage c 0
+replies a 4
+ok
+ok
+ok
+ok
+replies b 2
+ok
+ok
+done
+";
+
+#[test]
+fn update_holds_its_layer_alone(rt: HostRuntime) -> Result<(), Fail> {
+    let alloc = rt.alloc();
+    let (status, text) = answer_to(alloc, "replay", UPDATED_BY_ONE, b"0 0 0 1 0 1\n")?;
+    assert_eq!(rt; status, Status::Done);
+    assert_eq!(rt; text.as_slice(), UPDATED_BY_ONE_REPORT);
+    // The other task's second call touches the layer in the update.
+    let (status, text) = answer_to(alloc, "replay", UPDATED_BY_ONE, b"0 0 0 1 1 0\n")?;
+    assert_eq!(rt; status, Status::BadOrder { place: 4 });
+    assert_eq!(rt; text.as_slice(), b"bad order at 4\n".as_slice());
+    Ok(())
+}
