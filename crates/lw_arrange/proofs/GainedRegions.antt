@@ -1,7 +1,7 @@
 -- The region of the pixels that an arrangement fills.
-use Rattle.std.proofs.Common.{◌≡◌, ℕ, ◌<◌, ◌==◌, Bool, true, false, not, ◌&&◌, nat_lt, List, [], ◌∷◌, length, Option, None, refl, sym, ap, subst, ◌∙◌, ⊎_elim, arith, ℤ, pos, negsuc, unsigned_abs}
+use Rattle.std.proofs.Common.{◌≡◌, ℕ, ◌<◌, ◌==◌, Bool, true, false, not, ◌&&◌, ◌||◌, List, [], ◌∷◌, length, Option, Some, None, refl, sym, ap, subst, ◌∙◌, ⊎_elim, arith, ℤ, pos, negsuc, unsigned_abs}
 use Rattle.std.proofs.Math.Path.{fun_ext}
-use Rattle.std.proofs.lemmas.Bool.{cases_Bool, both_ways, false_from_ne_true, and_parts, and_right, ltb-true}
+use Rattle.std.proofs.lemmas.Bool.{cases_Bool, both_ways, false_from_ne_true, and_right}
 use Rattle.std.proofs.lemmas.Bool.Decides.{nat_tests}
 use Rattle.lw_region.specs.Rectangle.{Rectangle, IsOrdered}
 use Rattle.lw_region.specs.Bands.{covers}
@@ -13,24 +13,30 @@ use Rattle.lw_calls.specs.declared.make.Kind.TheVariants.{Simple, Smart, SuperBi
 use Rattle.lw_calls.specs.declared.make.Make.{Make}
 use Rattle.lw_calls.specs.Kinds.{is_super}
 use Rattle.lw_cliprects.specs.Parts.{LieIn}
+use Rattle.lw_damage.specs.Damaged.{may_lie}
 use Rattle.lw_machine.specs.Hook.{Hook}
+use Rattle.lw_machine.specs.Layer.{Window, is_framed}
 use Rattle.lw_machine.specs.Kept.{is_kept, holds_at}
-use Rattle.lw_layer.specs.View.{State, LiveView, CellView, keeps, with_live}
+use Rattle.lw_machine.specs.Reveal.{Across, counts_as_kept, resized}
+use Rattle.lw_machine.specs.Reveal as reveal
+use Rattle.lw_layer.specs.View.{State, LiveView, CellView, keeps}
 use Rattle.lw_layer.specs.View as view
 use Rattle.lw_layer.specs.Pieces.{columns, lines}
 use Rattle.lw_layer.specs.New.{IsNewSize, new_live}
 use Rattle.lw_layer.specs.StandsFor.{IsSound}
 use Rattle.lw_layer.specs.Keeping.{keeps_pixel, AreKept}
-use Rattle.lw_layer.proofs.KeepingLaws.{IsPlain, kept_pixel, sound_plain}
-use Rattle.lw_reveal.specs.Changed.{revealed_to}
-use Rattle.lw_reveal.proofs.GainedView.{gained_view, gained_plain, revealed_plain, revealed_own}
+use Rattle.lw_layer.proofs.KeepingLaws.{IsPlain, kept_pixel}
+use Rattle.lw_reveal.specs.Changed.{across_to}
+use Rattle.lw_reveal.specs.Counted.{inner_with, counts_pixel, AreCounted}
+use Rattle.lw_reveal.proofs.GainedView.{gained_view, gained_plain, carried_own}
+use Rattle.lw_reveal.proofs.GainedCounts.{counted_pixel}
 use Rattle.lw_stack.specs.Stack.{bounds_at}
 use Rattle.lw_arrange.specs.Plans.{Planned}
-use Rattle.lw_arrange.specs.Prepared.{asked_for, without_layer, becomes, shown_at, cell_after}
-use Rattle.lw_arrange.specs.Filled.{keeps_if_live, gains, gains_some, AreGained, filled_by}
-use Rattle.lw_arrange.proofs.OpenedLaws.{extent}
+use Rattle.lw_arrange.specs.Prepared.{Created, created_by, kind_of, without_layer, becomes, shown_at, cell_after, MayBeNew, MayOpen}
+use Rattle.lw_arrange.specs.Filled.{keeps_if_live, counts_if_live, gains, gains_some, AreGained, filled_by}
 use Rattle.lw_arrange.proofs.FilledLaws.{none_passes, one_passes}
-use Rattle.lw_arrange.proofs.GainsLaws.{new_width, new_height}
+use Rattle.lw_arrange.proofs.GainsLaws.{stayed, none_gained, gains_stayed, gained_inside}
+use Rattle.lw_arrange.proofs.OpenedLaws.{extent, new_width, new_height, created}
 
 -- tests on layer pixels that are the same at each pixel are so at each place
 pub same_at : (f g : ℕ → ℕ → Bool) → ((x y : ℕ) → f x y ≡ g x y) → (x y : ℤ) → holds_at f x y ≡ holds_at g x y
@@ -50,12 +56,7 @@ without_at f g (pos x) (pos y) = refl
 without_at f g (pos x) (negsuc y) = refl
 without_at f g (negsuc x) y = refl
 
--- a super-bitmap layer gains nothing
-none_gained : (from to : CellView) (x y : ℕ) → is_super to.live.layer.kind ≡ true → gains from to x y ≡ false
-none_gained from to x y own = ap (λ t. not t
-    && (keeps_if_live to.state to.live x y && not (keeps_if_live from.state from.live x y))) own
-
--- and none of its pixels counts as kept
+-- no pixel of a super-bitmap layer counts as kept
 own_unkept : (kind : Kind) (bounds : Rectangle) (visible : List Rectangle) (x y : ℤ) → is_super kind ≡ true
     → keeps_pixel kind bounds visible x y ≡ false
 own_unkept Simple bounds visible x y own = absurd (cc own)
@@ -66,7 +67,7 @@ own_unkept SuperBitmap bounds visible x y own = refl
 pub dead_gained : (from to : CellView) → (to.state ≡ view.Live → ⊥) → AreGained from to []
 dead_gained from to dead x y =
     covers_nil x y ∙ sym (never_at (λ i j. gains from to i j)
-    (λ i j. and_right _ _ (ap (λ t. t && not (keeps_if_live from.state from.live i j)) (off i j))) x y)
+    (λ i j. and_right _ _ (ap (λ t. t && not (counts_if_live from.state from.live to.live i j)) (off i j))) x y)
   where
     by_state : (s : State) (i j : ℕ) → to.state ≡ s → keeps_if_live s to.live i j ≡ false
     by_state view.Unopened i j is = refl
@@ -88,15 +89,15 @@ dead_without c = go c.state refl
 pub unbounded_gained : (a : Planned) (c : CellView) → bounds_at a.stack.bounds c.number ≡ None → AreGained c (cell_after a c) []
 unbounded_gained a c none =
     let after : cell_after a c ≡ without_layer c c.state =
-    ap (becomes (asked_for a.call) a.stack.sizes.depth (shown_at a c.number) c) none in
+    ap (becomes (created_by a.task a.call) a.stack.sizes.depth (shown_at a c.number) c) none in
     let P : CellView → Type 0 = λ v. AreGained c v [] in
     subst P (sym after) (dead_gained c (without_layer c c.state) (dead_without c))
 
 -- a new layer is laid out plainly
-new_plain : (make : Make) (depth : ℕ) (bounds : Rectangle) (visible : List Rectangle) → is_super make.kind ≡ false
-    → IsNewSize make depth bounds
-    → IsOrdered bounds → LieIn bounds visible → IsPlain (new_live make depth bounds visible)
-new_plain make depth bounds visible other size ordered inside = record {
+new_plain : (make : Make) (depth : ℕ) (bounds : Rectangle) (visible : List Rectangle) (window : Option Window)
+    → is_super make.kind ≡ false → IsNewSize make depth bounds → IsOrdered bounds → LieIn bounds visible
+    → IsPlain (new_live make depth bounds visible window 0)
+new_plain make depth bounds visible window other size ordered inside = record {
   ordered = ordered;
   inside = inside;
   left = refl;
@@ -109,161 +110,158 @@ new_plain make depth bounds visible other size ordered inside = record {
       ∙ (ap unsigned_abs (sym (extent make.y make.h)) ∙ ap lines (sym size.place));
 }
 
--- what is gained where nothing was kept before, and where something was
-all_new : (own was now : Bool) → own ≡ false → was ≡ false → now ≡ (not own && (now && not was))
-all_new true was now other none = absurd (cc other)
+-- what is gained where nothing was kept before
+all_new : (own counted now : Bool) → own ≡ false → counted ≡ false → now ≡ (not own && (now && not counted))
+all_new true counted now other none = absurd (cc other)
 all_new false true now other none = absurd (cc none)
 all_new false false true other none = refl
 all_new false false false other none = refl
 
-only_new : (own was now was_there now_there : Bool) → own ≡ false → was_there ≡ was → now_there ≡ now
-    → (now && not was) ≡ (not own && (now_there && not was_there))
-only_new own was now was_there now_there other before after = rw (other, before, after) refl
-
 -- A new layer gains the pixels that it keeps, asked at any place.
-new_at : (c : CellView) (make : Make) (depth : ℕ) (bounds : Rectangle) (visible : List Rectangle) (x y : ℤ)
-    → c.state ≡ view.Unopened
-    → IsNewSize make depth bounds → IsOrdered bounds → LieIn bounds visible
-    → keeps_pixel make.kind bounds visible x y
-    ≡ holds_at
-    (λ i j. gains c (record { number = c.number; state = view.Live; live = new_live make depth bounds visible }) i j) x y
-new_at c make depth bounds visible x y fresh size ordered inside = go (is_super make.kind) refl
+new_at : (c : CellView) (n : Created) (depth : ℕ) (bounds : Rectangle) (visible : List Rectangle) (x y : ℤ)
+    → c.state ≡ view.Unopened → IsNewSize n.make depth bounds → IsOrdered bounds → LieIn bounds visible
+    → keeps_pixel n.make.kind bounds visible x y
+    ≡ holds_at (λ i j. gains c (created c n.make depth bounds visible n.window) i j) x y
+new_at c n depth bounds visible x y fresh size ordered inside = go (is_super n.make.kind) refl
   where
+    kind : Kind
+    kind = n.make.kind
+
     new : LiveView
-    new = new_live make depth bounds visible
+    new = new_live n.make depth bounds visible n.window 0
 
     to : CellView
-    to = record { number = c.number; state = view.Live; live = new }
+    to = created c n.make depth bounds visible n.window
 
-    go : (own : Bool) → is_super make.kind ≡ own → keeps_pixel make.kind bounds visible x y ≡ holds_at (λ i j. gains c to i j) x y
+    go : (own : Bool) → is_super kind ≡ own → keeps_pixel kind bounds visible x y ≡ holds_at (λ i j. gains c to i j) x y
     go true own =
-        own_unkept make.kind bounds visible x y own ∙ sym (never_at (λ i j. gains c to i j) (λ i j. none_gained c to i j own) x y)
+        own_unkept kind bounds visible x y own ∙ sym (never_at (λ i j. gains c to i j) (λ i j. none_gained c to i j own) x y)
     go false own =
-        kept_pixel new make.kind refl own (new_plain make depth bounds visible own size ordered inside) x y
+        kept_pixel new kind refl own (new_plain n.make depth bounds visible n.window own size ordered inside) x y
         ∙ same_at (λ i j. keeps new i j) (λ i j. gains c to i j)
-        (λ i j. all_new (is_super make.kind) (keeps_if_live c.state c.live i j) (keeps new i j) own
-        (ap (λ q. keeps_if_live q c.live i j) fresh)) x y
+        (λ i j. all_new (is_super kind) (counts_if_live c.state c.live new i j) (keeps new i j) own
+        (ap (λ q. counts_if_live q c.live new i j) fresh)) x y
 
--- A layer that stays live gains the pixels that it keeps afterwards and didn't keep before.
+-- what the carried layer keeps is what the machine's does
+carried_keeps : (c : LiveView) (bounds : Rectangle) (visible : List Rectangle) (x y : ℕ)
+    → keeps (gained_view bounds visible c) x y
+    ≡ reveal.keeps (across_to c bounds visible) (resized (across_to c bounds visible) c.layer) x y
+unfolding keeps is_kept
+carried_keeps c bounds visible x y = refl
+
+-- A layer that stays live gains the pixels that it keeps afterwards and that don't count as kept before.
 more_at : (c : CellView) (bounds : Rectangle) (visible : List Rectangle) (x y : ℤ) → c.state ≡ view.Live → IsSound c.live
-    → IsOrdered bounds
-    → LieIn bounds visible
-    → (keeps_pixel c.live.layer.kind bounds visible x y && not (keeps_pixel c.live.layer.kind c.live.bounds c.live.visible x y))
-    ≡ holds_at (λ i j. gains c (with_live (λ q. revealed_to bounds visible q) c) i j) x y
+    → IsOrdered bounds → LieIn bounds visible
+    → (keeps_pixel c.live.layer.kind bounds visible x y && not (counts_pixel c.live bounds x y))
+    ≡ holds_at (λ i j. gains c (stayed bounds visible c) i j) x y
 more_at c bounds visible x y live sound ordered inside = go (is_super kind) refl
   where
     kind : Kind
     kind = c.live.layer.kind
 
-    after : LiveView
-    after = revealed_to bounds visible c.live
-
     to : CellView
-    to = with_live (λ q. revealed_to bounds visible q) c
+    to = stayed bounds visible c
+
+    k : Across
+    k = across_to c.live bounds visible
 
     go : (own : Bool) → is_super kind ≡ own
-        → (keeps_pixel kind bounds visible x y && not (keeps_pixel kind c.live.bounds c.live.visible x y))
-        ≡ holds_at (λ i j. gains c to i j) x y
+        → (keeps_pixel kind bounds visible x y && not (counts_pixel c.live bounds x y)) ≡ holds_at (λ i j. gains c to i j) x y
     go true own =
-        let still : is_super after.layer.kind ≡ true =
-        ap (λ (v : LiveView). is_super v.layer.kind) (revealed_own c.live bounds visible own) ∙ own in
-        ap (λ t. t && not (keeps_pixel kind c.live.bounds c.live.visible x y)) (own_unkept kind bounds visible x y own)
+        let still : is_super to.live.layer.kind ≡ true =
+        ap (λ (v : LiveView). is_super v.layer.kind) (carried_own c.live bounds visible own) ∙ own in
+        ap (λ t. t && not (counts_pixel c.live bounds x y)) (own_unkept kind bounds visible x y own)
         ∙ sym (never_at (λ i j. gains c to i j) (λ i j. none_gained c to i j still) x y)
     go false own =
-        let plain = revealed_plain c.live bounds visible own in
-        let still : is_super after.layer.kind ≡ false = ap (λ (v : LiveView). is_super v.layer.kind) plain ∙ own in
-        let now : keeps_pixel kind bounds visible x y ≡ holds_at (λ i j. keeps after i j) x y =
-        kept_pixel (gained_view bounds visible c.live) kind refl own
-        (gained_plain c.live bounds visible sound ordered inside own) x y
-        ∙ ap (λ v. holds_at (λ i j. keeps v i j) x y) (sym plain)
-        in
-        let was : keeps_pixel kind c.live.bounds c.live.visible x y ≡ holds_at (λ i j. keeps c.live i j) x y =
-        kept_pixel c.live kind refl own (sound_plain c.live sound own) x y in
-        ap (λ t. t && not (keeps_pixel kind c.live.bounds c.live.visible x y)) now
-        ∙ (ap (λ t. holds_at (λ i j. keeps after i j) x y && not t) was
-        ∙ (sym (without_at (λ i j. keeps after i j) (λ i j. keeps c.live i j) x y)
-        ∙ same_at (λ i j. keeps after i j && not (keeps c.live i j)) (λ i j. gains c to i j)
+        let g = gained_view bounds visible c.live in
+        let counted : ℕ → ℕ → Bool = λ i j. counts_as_kept k c.live.layer i j in
+        let now : keeps_pixel kind bounds visible x y ≡ holds_at (λ i j. keeps g i j) x y =
+        kept_pixel g kind refl own (gained_plain c.live bounds visible sound ordered inside own) x y in
+        let was : counts_pixel c.live bounds x y ≡ holds_at counted x y = counted_pixel c.live bounds visible x y sound own in
+        ap (λ t. t && not (counts_pixel c.live bounds x y)) now
+        ∙ (ap (λ t. holds_at (λ i j. keeps g i j) x y && not t) was
+        ∙ (sym (without_at (λ i j. keeps g i j) counted x y)
+        ∙ same_at (λ i j. keeps g i j && not (counted i j)) (λ i j. gains c to i j)
         (λ i j.
-        only_new (is_super after.layer.kind) (keeps c.live i j) (keeps after i j) (keeps_if_live c.state c.live i j)
-        (keeps_if_live c.state after i j) still
-        (ap (λ q. keeps_if_live q c.live i j) live) (ap (λ q. keeps_if_live q after i j) live)) x y))
+        ap (λ t. t && not (counted i j)) (carried_keeps c.live bounds visible i j)
+        ∙ sym (gains_stayed c bounds visible c.live.active c.live.active i j live own)) x y))
 
 -- The pixels that a new layer keeps are those that it gains.
-pub anew_gained : (c : CellView) (make : Make) (depth : ℕ) (kind : Kind) (bounds : Rectangle)
-    (listed visible made : List Rectangle)
-    → c.state ≡ view.Unopened → kind ≡ make.kind → listed ≡ visible → IsNewSize make depth bounds → IsOrdered bounds
-    → LieIn bounds visible
-    → AreKept kind bounds listed made
-    → AreGained c (record { number = c.number; state = view.Live; live = new_live make depth bounds visible }) made
-anew_gained c make depth kind bounds listed visible made fresh kinds lists size ordered inside are x y =
+pub anew_gained : (c : CellView) (n : Created) (depth : ℕ) (bounds : Rectangle) (listed visible made : List Rectangle)
+    → c.state ≡ view.Unopened → listed ≡ visible → IsNewSize n.make depth bounds → IsOrdered bounds → LieIn bounds visible
+    → AreKept n.make.kind bounds listed made
+    → AreGained c (created c n.make depth bounds visible n.window) made
+anew_gained c n depth bounds listed visible made fresh lists size ordered inside are x y =
     are x y
-    ∙ (ap (λ k. keeps_pixel k bounds listed x y) kinds
-    ∙ (ap (λ l. keeps_pixel make.kind bounds l x y) lists ∙ new_at c make depth bounds visible x y fresh size ordered inside))
+    ∙ (ap (λ l. keeps_pixel n.make.kind bounds l x y) lists ∙ new_at c n depth bounds visible x y fresh size ordered inside)
 
--- what the code reads of a layer that stays live, of its new visible rectangles, and which rectangles it makes of them
-pub record IsSeen (c : CellView) (kind : Kind) (former : Rectangle) (shown listed visible : List Rectangle) : Type 0 where
+-- what a new layer asks, told of the one that is created
+pub record IsMade (o : Option Created) (depth : ℕ) (bounds : Rectangle) (kind : Kind) : Type 0 where
+  pub created : Created
+  pub is : o ≡ Some created
+  pub may : MayBeNew created depth bounds
+  pub kind_is : kind ≡ created.make.kind
+
+pub made_of : (o : Option Created) (depth : ℕ) (bounds : Rectangle) (kind : Kind) → MayOpen o depth bounds → kind_of o ≡ Some kind
+    → IsMade o depth bounds kind
+made_of None depth bounds kind may is = absurd may
+made_of (Some n) depth bounds kind may is = record {
+  created = n;
+  is = refl;
+  may = may;
+  kind_is = sym (ap (λ o. kind_or o kind) is);
+}
+  where
+    kind_or : Option Kind → Kind → Kind
+    kind_or None k = k
+    kind_or (Some j) k = j
+
+-- what the code reads of a layer that stays live and of its new visible rectangles
+pub record IsSeen (c : CellView) (kind : Kind) (listed visible : List Rectangle) : Type 0 where
   pub live : c.state ≡ view.Live
   pub sound : IsSound c.live
   pub kind_is : kind ≡ c.live.layer.kind
-  pub former_is : former ≡ c.live.bounds
-  pub shown_is : shown ≡ c.live.visible
   pub listed_is : listed ≡ visible
 
--- The pixels that a layer keeps afterwards without those that it kept before are those that it gains.
-pub more_gained : (c : CellView) (kind : Kind) (former bounds : Rectangle)
-    (shown listed visible before after made : List Rectangle)
-    → IsSeen c kind former shown listed visible → IsOrdered bounds → LieIn bounds visible → AreKept kind former shown before
+-- The pixels that a layer keeps afterwards without those that count as kept before are those that it gains.
+pub more_gained : (c : CellView) (kind : Kind) (bounds : Rectangle) (listed visible before after made : List Rectangle)
+    → IsSeen c kind listed visible → IsOrdered bounds → LieIn bounds visible → AreCounted c.live bounds before
     → AreKept kind bounds listed after → ((x y : ℤ) → covers made x y ≡ (covers after x y && not (covers before x y)))
-    → AreGained c (with_live (λ q. revealed_to bounds visible q) c) made
-more_gained c kind former bounds shown listed visible before after made seen ordered inside were are pixels x y =
+    → AreGained c (stayed bounds visible c) made
+more_gained c kind bounds listed visible before after made seen ordered inside were are pixels x y =
     let own = c.live.layer.kind in
-    let earlier : covers before x y ≡ keeps_pixel own c.live.bounds c.live.visible x y =
-    were x y
-    ∙ (ap (λ k. keeps_pixel k former shown x y) seen.kind_is
-    ∙ (ap (λ b. keeps_pixel own b shown x y) seen.former_is ∙ ap (λ v. keeps_pixel own c.live.bounds v x y) seen.shown_is))
-    in
     let now : covers after x y ≡ keeps_pixel own bounds visible x y =
     are x y ∙ (ap (λ k. keeps_pixel k bounds listed x y) seen.kind_is ∙ ap (λ v. keeps_pixel own bounds v x y) seen.listed_is)
     in
     pixels x y
     ∙ (ap (λ t. t && not (covers before x y)) now
-    ∙ (ap (λ t. keeps_pixel own bounds visible x y && not t) earlier
+    ∙ (ap (λ t. keeps_pixel own bounds visible x y && not t) (were x y)
     ∙ more_at c bounds visible x y seen.live seen.sound ordered inside))
 
-none_left : (t : Bool) → (t && not t) ≡ false
-none_left true = refl
-none_left false = refl
+-- where the inner rectangle stays all counts
+none_left : (kept frameless inner : Bool) → (kept && not (kept && (frameless || (inner || not inner)))) ≡ false
+none_left true true inner = refl
+none_left true false true = refl
+none_left true false false = refl
+none_left false frameless inner = refl
 
 -- A layer whose bounds and visible rectangles stay gains nothing.
 pub same_gained : (c : CellView) (kind : Kind) (former bounds : Rectangle) (shown listed visible : List Rectangle)
-    → IsSeen c kind former shown listed visible → former ≡ bounds → shown ≡ listed → LieIn bounds visible
-    → AreGained c (with_live (λ q. revealed_to bounds visible q) c) []
-same_gained c kind former bounds shown listed visible seen places lists inside x y =
-    let own = c.live.layer.kind in
-    let place : c.live.bounds ≡ bounds = sym seen.former_is ∙ places in
-    let list : c.live.visible ≡ visible = sym seen.shown_is ∙ (lists ∙ seen.listed_is) in
-    let same : keeps_pixel own c.live.bounds c.live.visible x y ≡ keeps_pixel own bounds visible x y =
-    ap (λ b. keeps_pixel own b c.live.visible x y) place ∙ ap (λ v. keeps_pixel own bounds v x y) list
+    → IsSeen c kind listed visible → former ≡ c.live.bounds → former ≡ bounds → shown ≡ c.live.visible → shown ≡ listed
+    → LieIn bounds visible → AreGained c (stayed bounds visible c) []
+same_gained c kind former bounds shown listed visible seen former_is places shown_is lists inside x y =
+    let l = c.live in
+    let place : l.bounds ≡ bounds = sym former_is ∙ places in
+    let list : l.visible ≡ visible = sym shown_is ∙ (lists ∙ seen.listed_is) in
+    let kept : keeps_pixel l.layer.kind l.bounds l.visible x y ≡ keeps_pixel l.layer.kind bounds visible x y =
+    ap (λ b. keeps_pixel l.layer.kind b l.visible x y) place ∙ ap (λ v. keeps_pixel l.layer.kind bounds v x y) list
     in
     covers_nil x y
-    ∙ (sym (none_left (keeps_pixel own bounds visible x y))
-    ∙ (ap (λ t. keeps_pixel own bounds visible x y && not t) (sym same)
-    ∙ more_at c bounds visible x y seen.live seen.sound (subst IsOrdered place seen.sound.ordered) inside))
-
--- A pixel that is gained is one of the layer's bits.
-gained_inside : (from to : CellView) (x y : ℕ) → gains from to x y ≡ true
-    → (x < to.live.layer.bits.width) × (y < to.live.layer.bits.height)
-unfolding keeps is_kept
-gained_inside from to x y has =
-    by_state to.state (and_parts _ _ (and_parts (not (is_super to.live.layer.kind)) _ has).1).0
-  where
-    by_state : (s : State) → keeps_if_live s to.live x y ≡ true → (x < to.live.layer.bits.width) × (y < to.live.layer.bits.height)
-    by_state view.Unopened h = absurd (cc h)
-    by_state view.Live h =
-        let l = to.live.layer in
-        let in_bits = and_parts (nat_lt x l.bits.width) (nat_lt y l.bits.height) (and_parts _ _ h).0 in
-        (ltb-true x l.bits.width in_bits.0, ltb-true y l.bits.height in_bits.1)
-    by_state view.Closed h = absurd (cc h)
+    ∙ (sym (none_left (keeps_pixel l.layer.kind l.bounds l.visible x y) (not (is_framed l.layer.window))
+    (may_lie (inner_with l l.bounds) x y))
+    ∙ (ap (λ t. t && not (counts_pixel l l.bounds x y)) kept
+    ∙ (ap (λ b. keeps_pixel l.layer.kind bounds visible x y && not (counts_pixel l b x y)) place
+    ∙ more_at c bounds visible x y seen.live seen.sound (subst IsOrdered place seen.sound.ordered) inside)))
 
 -- The region of the gained pixels has a rectangle exactly where some pixel is gained.
 pub some_rectangle : (from to : CellView) (rects : List Rectangle) → IsCanonical rects → AreGained from to rects
@@ -293,8 +291,8 @@ kept_gained : (from to : CellView) (x y : ℕ) → to.state ≡ view.Live → (k
 kept_gained from to x y live =
     go (keeps to.live x y) (keeps_if_live to.state to.live x y) (ap (λ q. keeps_if_live q to.live x y) live)
   where
-    go : (k t : Bool) → t ≡ k → (k && (not (is_super to.live.layer.kind) && (t && not (keeps_if_live from.state from.live x y))))
-        ≡ (not (is_super to.live.layer.kind) && (t && not (keeps_if_live from.state from.live x y)))
+    go : (k t : Bool) → t ≡ k → (k && (not (is_super to.live.layer.kind) && (t && not (counts_if_live from.state from.live to.live x y))))
+        ≡ (not (is_super to.live.layer.kind) && (t && not (counts_if_live from.state from.live to.live x y)))
     go true t same = refl
     go false t same = rw same (sym (never (not (is_super to.live.layer.kind))))
       where

@@ -1,194 +1,150 @@
--- The pixels that an arrangement fills, as cells have them and as the machine's definitions do.
-use Rattle.std.proofs.Common.{◌≡◌, ℕ, Bool, true, false, not, ◌&&◌, nat_lt, List, Some, None, refl, sym, ap, ◌∙◌, ℤ, unsigned_abs}
+-- The pixels that an arrangement fills in a layer that stays live, as its cells have them and as the machine's definitions do.
+use Rattle.std.proofs.Common.{◌≡◌, ℕ, ◌<◌, nat_lt, Bool, true, false, not, ◌&&◌, List, Option, refl, sym, ap, ◌∙◌, ⊎_elim}
 use Rattle.std.specs.Prelude.{if◌then◌else◌}
+use Rattle.std.proofs.lemmas.Bool.{and_parts, cases_Bool, ltb-true}
 use Rattle.lw_region.specs.Rectangle.{Rectangle}
-use Rattle.lw_region.specs.Bands.{covers}
-use Rattle.lw_planes.specs.Bitmap.{IsBitmap}
-use Rattle.lw_planes.proofs.BitmapLaws.{IsBitmap_bitmap}
-use Rattle.std.proofs.lemmas.Nat.{pow_pos}
-use Rattle.lw_calls.specs.declared.make.Kind.{Kind}
-use Rattle.lw_calls.specs.declared.make.Kind.TheVariants.{Simple, Smart, SuperBitmap}
-use Rattle.lw_calls.specs.declared.make.Make.{Make}
+use Rattle.lw_planes.specs.Bitmap.{pen_at}
 use Rattle.lw_calls.specs.Kinds.{is_super}
+use Rattle.lw_machine.specs.Hook.{Hook}
 use Rattle.lw_machine.specs.Layer.{Layer}
-use Rattle.lw_machine.specs.Kept.{visible_within, is_kept, kept_as, screen_place}
-use Rattle.lw_machine.specs.Arrangement.{bounds_of, blank, new_layer}
-use Rattle.lw_machine.specs.Reveal.{Across, has_bounds, was_live, width_in, height_in, counts_as_kept, resized, fills, some_pixel, some_now, with_revealed, revealed}
+use Rattle.lw_machine.specs.Kept.{is_kept}
+use Rattle.lw_machine.specs.Reveal.{Across, counts_as_kept, resized, fills, fill_pen, some_pixel, some_now, revealed}
 use Rattle.lw_machine.specs.Reveal as reveal
-use Rattle.lw_machine.proofs.Settling.{revealed_plain}
-use Rattle.lw_layer.specs.View.{State, LiveView, CellView, keeps}
+use Rattle.lw_machine.proofs.Settling.{revealed_super}
+use Rattle.lw_layer.specs.View.{State, LiveView, CellView, keeps, with_live}
 use Rattle.lw_layer.specs.View as view
-use Rattle.lw_layer.specs.New.{new_live}
-use Rattle.lw_reveal.specs.Changed.{across_to, revealed_to}
+use Rattle.lw_layer.specs.StandsFor.{IsSound}
+use Rattle.lw_reveal.specs.Changed.{across_to, windowless, carried_to}
+use Rattle.lw_reveal.proofs.GainedView.{gained_view, carried_plain, carried_own}
 use Rattle.lw_reveal.proofs.GainedCounts.{counts_kept}
-use Rattle.lw_arrange.specs.Filled.{keeps_if_live, gains, gains_some}
-use Rattle.lw_arrange.proofs.OpenedLaws.{extent, uncounted}
-use Rattle.lw_arrange.proofs.FilledLaws.{none_passes}
+use Rattle.lw_arrange.specs.Filled.{keeps_if_live, counts_if_live, gains, gains_some, filled_layer}
+use Rattle.lw_arrange.proofs.FilledLaws.{none_passes, with_hook, with_other_pens, AreLeft, revealed_filled, unfilled}
 
--- The cell of a layer that stays live, and of a new one.
-abbrev pub stayed : CellView → Rectangle → List Rectangle → CellView
-stayed c r visible = record { number = c.number; state = view.Live; live = revealed_to r visible c.live }
+-- a super-bitmap layer gains nothing
+pub none_gained : (from to : CellView) (x y : ℕ) → is_super to.live.layer.kind ≡ true → gains from to x y ≡ false
+none_gained from to x y own =
+    ap (λ t. not t && (keeps_if_live to.state to.live x y && not (counts_if_live from.state from.live to.live x y))) own
 
-abbrev pub created : CellView → Make → ℕ → List Rectangle → CellView
-created c make depth visible =
-    record { number = c.number; state = view.Live; live = new_live make depth (bounds_of make) visible }
+-- the cell of a layer that stays live, with these bounds and visible rectangles
+abbrev pub stayed : Rectangle → List Rectangle → CellView → CellView
+stayed r visible c = with_live (λ k. carried_to r visible k) c
 
--- what is revealed of a layer has its kind
-revealed_kind : (k : Across) (l : Layer) → (revealed k l).kind ≡ l.kind
-unfolding revealed
-revealed_kind k l = go (is_super l.kind)
-  where
-    go : (own : Bool) → (if own then l else with_revealed k l (resized k l)).kind ≡ l.kind
-    go true = refl
-    go false = refl
-
--- nothing is gained by a super-bitmap layer, whatever else is
-own_same : (own own_too t u : Bool) → own_too ≡ own → own ≡ true → (not own_too && t) ≡ (not own && u)
-own_same true own_too t u same is = rw same refl
-own_same false own_too t u same is = absurd (cc is)
-
-other_same : (own own_too t u : Bool) → own_too ≡ own → t ≡ u → (not own_too && t) ≡ (not own && u)
-other_same own own_too t u same is = rw (same, is) refl
+-- the layer across an arrangement of such an activity
+abbrev pub across_with : LiveView → Rectangle → List Rectangle → Bool → Bool → Across
+across_with c r visible active new_active = record (across_to c r visible) { active = active; new_active = new_active }
 
 -- What a layer that stays live gains is what the machine fills.
-pub gains_stayed : (c : CellView) (r : Rectangle) (visible : List Rectangle) (x y : ℕ) → c.state ≡ view.Live
-    → c.live.layer.window ≡ None
-    → gains c (stayed c r visible) x y
-    ≡ (not (is_super c.live.layer.kind)
-    && fills (across_to c.live r visible) c.live.layer (resized (across_to c.live r visible) c.live.layer) x y)
-unfolding keeps is_kept
-gains_stayed c r visible x y live plain = go (is_super l.kind) refl
-  where
-    k : Across
-    k = across_to c.live r visible
-
-    l : Layer
-    l = c.live.layer
-
-    kind : is_super (revealed k l).kind ≡ is_super l.kind
-    kind = ap is_super (revealed_kind k l)
-
-    go : (own : Bool) → is_super l.kind ≡ own
-        → gains c (stayed c r visible) x y ≡ (not (is_super l.kind) && fills k l (resized k l) x y)
-    go true own = own_same (is_super l.kind) (is_super (revealed k l).kind) _ _ kind own
-    go false own =
-        let before : keeps_if_live c.state c.live x y ≡ counts_as_kept k l x y =
-        ap (λ q. keeps_if_live q c.live x y) live ∙ sym (counts_kept c.live r visible x y plain) in
-        let after : keeps (revealed_to r visible c.live) x y ≡ reveal.keeps k (resized k l) x y =
-        ap (λ q. keeps (record { bounds = r; visible = visible; active = c.live.active; layer = q }) x y) (revealed_plain k l own)
-        in
-        other_same (is_super l.kind) (is_super (revealed k l).kind) _ _ kind
-        (ap (λ t. t && not (keeps_if_live c.state c.live x y)) after ∙ ap (λ t. reveal.keeps k (resized k l) x y && not t) before)
+pub gains_stayed : (c : CellView) (r : Rectangle) (visible : List Rectangle) (active new_active : Bool) (x y : ℕ)
+    → c.state ≡ view.Live → is_super c.live.layer.kind ≡ false
+    → gains c (stayed r visible c) x y
+    ≡ fills (across_with c.live r visible active new_active) c.live.layer
+    (resized (across_with c.live r visible active new_active) c.live.layer) x y
+unfolding keeps counts_as_kept is_kept
+gains_stayed c r visible active new_active x y live other =
+    let k = across_with c.live r visible active new_active in
+    let l = c.live.layer in
+    let Gains : State → LiveView → Bool =
+    λ s v. not (is_super v.layer.kind) && (keeps_if_live s v x y && not (counts_if_live s c.live v x y)) in
+    ap (λ v. Gains c.state v) (carried_plain c.live r visible other)
+    ∙ (ap (λ s. Gains s (gained_view r visible c.live)) live ∙ ap (λ t. not t && fills k l (resized k l) x y) other)
 
 -- whether something is gained, asked over the machine's size
-pub some_stayed : (c : CellView) (r : Rectangle) (visible : List Rectangle)
-    → gains_some c (stayed c r visible) ≡ some_now (across_to c.live r visible) (λ x y. gains c (stayed c r visible) x y)
-some_stayed c r visible = go (is_super l.kind) refl
+some_stayed : (c : CellView) (r : Rectangle) (visible : List Rectangle) → is_super c.live.layer.kind ≡ false
+    → gains_some c (stayed r visible c) ≡ some_now (across_to c.live r visible) (λ x y. gains c (stayed r visible c) x y)
+some_stayed c r visible other =
+    ap (λ (v : LiveView). some_pixel v.layer.bits.width v.layer.bits.height (λ x y. gains c (stayed r visible c) x y))
+    (carried_plain c.live r visible other)
+
+-- the pens of the layer that is carried, before it is filled
+abbrev pub carried_pen : LiveView → Rectangle → List Rectangle → ℕ → ℕ → ℕ
+carried_pen c r visible x y =
+    let k = across_to c r visible in
+    if reveal.keeps k (resized k c.layer) x y
+    then (if counts_as_kept k (windowless c.layer) x y then pen_at c.layer.bits x y else fill_pen c.layer.bits.depth c.layer.hook x y)
+    else 0
+
+-- what counts as kept before, the layer kept
+counted_kept : (c : LiveView) (r : Rectangle) (visible : List Rectangle) (x y : ℕ)
+    → counts_as_kept (across_to c r visible) c.layer x y ≡ true
+    → counts_as_kept (across_to c r visible) (windowless c.layer) x y ≡ true
+unfolding counts_as_kept keeps
+counted_kept c r visible x y counts = counts_kept c r visible x y ∙ (and_parts (keeps c x y) _ counts).0
+
+carried_left : (c : LiveView) (r : Rectangle) (visible : List Rectangle) (active new_active : Bool)
+    → AreLeft (across_with c r visible active new_active) c.layer (carried_pen c r visible)
+unfolding counts_as_kept
+carried_left c r visible active new_active = record {
+  stays = λ x y kept counts.
+      let k = across_to c r visible in
+      let fill = fill_pen c.layer.bits.depth c.layer.hook x y in
+      let pen = pen_at c.layer.bits x y in
+      ap (λ t. if t then (if counts_as_kept k (windowless c.layer) x y then pen else fill) else 0) kept
+      ∙ ap (λ t. if t then pen else fill) (counted_kept c r visible x y counts);
+  off = λ x y unkept.
+      let k = across_to c r visible in
+      let fill = fill_pen c.layer.bits.depth c.layer.hook x y in
+      ap (λ t. if t then (if counts_as_kept k (windowless c.layer) x y then pen_at c.layer.bits x y else fill) else 0) unkept;
+}
+
+-- the carried layer is the revealed one with other pens
+carried_pens : (c : LiveView) (r : Rectangle) (visible : List Rectangle) (active new_active : Bool)
+    → with_other_pens (across_with c r visible active new_active) c.layer (carried_pen c r visible) (gained_view r visible c).layer.hook
+    ≡ (gained_view r visible c).layer
+unfolding counts_as_kept is_kept
+carried_pens c r visible active new_active = refl
+
+-- What the machine reveals of a live layer, with a hook or without, is the carried layer once what it gains is filled.
+pub live_revealed : (c : CellView) (r : Rectangle) (visible : List Rectangle) (h : Option Hook) (active new_active : Bool)
+    → c.state ≡ view.Live → IsSound c.live
+    → revealed (across_with c.live r visible active new_active) (with_hook h c.live.layer)
+    ≡ filled_layer h (λ x y. gains c (stayed r visible c) x y) (gains_some c (stayed r visible c)) (carried_to r visible c.live).layer
+live_revealed c r visible h active new_active live sound =
+    ⊎_elim (λ (own : is_super c.live.layer.kind ≡ true). whole own) (λ (other : is_super c.live.layer.kind ≡ false). part other)
+    (cases_Bool (is_super c.live.layer.kind))
   where
-    k : Across
-    k = across_to c.live r visible
+    to : CellView
+    to = stayed r visible c
 
     l : Layer
     l = c.live.layer
 
-    go : (own : Bool) → is_super l.kind ≡ own
-        → gains_some c (stayed c r visible) ≡ some_now k (λ x y. gains c (stayed c r visible) x y)
-    go true own =
-        let none : (x y : ℕ) → gains c (stayed c r visible) x y ≡ false =
-        λ x y. own_same (is_super l.kind) (is_super (revealed k l).kind) _ true (ap is_super (revealed_kind k l)) own
-        ∙ ap (λ t. not t && true) own in
-        none_passes (revealed k l).bits.width (revealed k l).bits.height (λ x y. gains c (stayed c r visible) x y) none
-        ∙ sym (none_passes (width_in k.new_bounds) (height_in k.new_bounds) (λ x y. gains c (stayed c r visible) x y) none)
-    go false own =
-        ap (λ (q : Layer). some_pixel q.bits.width q.bits.height (λ x y. gains c (stayed c r visible) x y))
-        (revealed_plain k l own)
+    q : Across
+    q = across_with c.live r visible active new_active
 
--- the size of a new layer that has no bitmap of its own
-pub new_width : (kind : Kind) (depth : ℕ) (make : Make) → is_super kind ≡ false
-    → (blank kind depth make).width ≡ unsigned_abs make.w
-new_width Simple depth make other = refl
-new_width Smart depth make other = refl
-new_width SuperBitmap depth make other = absurd (cc other)
+    on : ℕ → ℕ → Bool
+    on x y = gains c to x y
 
-pub new_height : (kind : Kind) (depth : ℕ) (make : Make) → is_super kind ≡ false
-    → (blank kind depth make).height ≡ unsigned_abs make.h
-new_height Simple depth make other = refl
-new_height Smart depth make other = refl
-new_height SuperBitmap depth make other = absurd (cc other)
+    whole : is_super l.kind ≡ true
+        → revealed q (with_hook h l) ≡ filled_layer h on (gains_some c to) (carried_to r visible c.live).layer
+    whole own =
+        let carried = carried_own c.live r visible own in
+        let none : (x y : ℕ) → on x y ≡ false =
+        λ x y. none_gained c to x y (ap (λ (v : LiveView). is_super v.layer.kind) carried ∙ own) in
+        revealed_super q (with_hook h l) own
+        ∙ (sym (unfilled l h on (gains_some c to) sound.bits.bitmap none
+        (none_passes to.live.layer.bits.width to.live.layer.bits.height on none))
+        ∙ ap (λ (v : LiveView). filled_layer h on (gains_some c to) v.layer) (sym carried))
 
--- the bits of a new layer are a bitmap
-pub new_bitmap : (kind : Kind) (depth : ℕ) (make : Make) → IsBitmap (blank kind depth make)
-new_bitmap Simple depth make = IsBitmap_bitmap _ _ depth (λ x y. 0) (λ x y left low. pow_pos depth)
-new_bitmap Smart depth make = IsBitmap_bitmap _ _ depth (λ x y. 0) (λ x y left low. pow_pos depth)
-new_bitmap SuperBitmap depth make = IsBitmap_bitmap _ _ depth (λ x y. 0) (λ x y left low. pow_pos depth)
+    part : is_super l.kind ≡ false
+        → revealed q (with_hook h l) ≡ filled_layer h on (gains_some c to) (carried_to r visible c.live).layer
+    part other =
+        revealed_filled q l h on (gains_some c to) (carried_pen c.live r visible) (gained_view r visible c.live).layer.hook other
+        (λ x y. gains_stayed c r visible active new_active x y live other) (some_stayed c r visible other)
+        (carried_left c.live r visible active new_active)
+        ∙ (ap (filled_layer h on (gains_some c to)) (carried_pens c.live r visible active new_active)
+        ∙ ap (λ (v : LiveView). filled_layer h on (gains_some c to) v.layer) (sym (carried_plain c.live r visible other)))
 
--- a new layer's size is that of its bounds
-columns_new : (k : Across) (make : Make) → k.new_bounds ≡ Some (bounds_of make) → width_in k.new_bounds ≡ unsigned_abs make.w
-columns_new k make some = ap width_in some ∙ ap unsigned_abs (extent make.x make.w)
-
-rows_new : (k : Across) (make : Make) → k.new_bounds ≡ Some (bounds_of make) → height_in k.new_bounds ≡ unsigned_abs make.h
-rows_new k make some = ap height_in some ∙ ap unsigned_abs (extent make.y make.h)
-
--- a new layer keeps what the machine's does
-kept_new : (k : Across) (depth : ℕ) (make : Make) (visible : List Rectangle) (x y : ℕ) → is_super make.kind ≡ false
-    → k.new_bounds ≡ Some (bounds_of make)
-    → ((i j : ℤ) → k.new_shown i j ≡ covers visible i j)
-    → keeps (new_live make depth (bounds_of make) visible) x y ≡ reveal.keeps k (resized k (new_layer depth make None None)) x y
+-- A pixel that is gained is one of the layer's bits.
+pub gained_inside : (from to : CellView) (x y : ℕ) → gains from to x y ≡ true
+    → (x < to.live.layer.bits.width) × (y < to.live.layer.bits.height)
 unfolding keeps is_kept
-kept_new k depth make visible x y other some shown =
-    let b = blank make.kind depth make in
-    let wide : b.width ≡ width_in k.new_bounds = new_width make.kind depth make other ∙ sym (columns_new k make some) in
-    let high : b.height ≡ height_in k.new_bounds = new_height make.kind depth make other ∙ sym (rows_new k make some) in
-    let r = bounds_of make in
-    let seen : covers visible (screen_place r.min_x 0 x) (screen_place r.min_y 0 y)
-    ≡ visible_within k.new_shown k.new_bounds 0 0 x y =
-    sym (shown (screen_place r.min_x 0 x) (screen_place r.min_y 0 y))
-    ∙ ap (λ o. visible_within k.new_shown o 0 0 x y) (sym some) in
-    ap (λ w. (nat_lt x w && nat_lt y b.height)
-    && kept_as make.kind (covers visible (screen_place r.min_x 0 x) (screen_place r.min_y 0 y))) wide
-    ∙ (ap (λ h. (nat_lt x (width_in k.new_bounds) && nat_lt y h)
-    && kept_as make.kind (covers visible (screen_place r.min_x 0 x) (screen_place r.min_y 0 y))) high
-    ∙ ap (λ v. (nat_lt x (width_in k.new_bounds) && nat_lt y (height_in k.new_bounds)) && kept_as make.kind v) seen)
-
--- What a new layer gains is what the machine fills.
-pub gains_created : (c : CellView) (k : Across) (depth : ℕ) (make : Make) (visible : List Rectangle) (x y : ℕ)
-    → c.state ≡ view.Unopened → k.bounds ≡ None → k.new_bounds ≡ Some (bounds_of make)
-    → ((i j : ℤ) → k.new_shown i j ≡ covers visible i j)
-    → gains c (created c make depth visible) x y
-    ≡ (not (is_super make.kind) && fills k (new_layer depth make None None) (resized k (new_layer depth make None None)) x y)
-gains_created c k depth make visible x y fresh none some shown = go (is_super make.kind) refl
+gained_inside from to x y has =
+    by_state to.state (and_parts _ _ (and_parts (not (is_super to.live.layer.kind)) _ has).1).0
   where
-    l : Layer
-    l = new_layer depth make None None
-
-    go : (own : Bool) → is_super make.kind ≡ own
-        → gains c (created c make depth visible) x y ≡ (not (is_super make.kind) && fills k l (resized k l) x y)
-    go true own = own_same (is_super make.kind) (is_super make.kind) _ _ refl own
-    go false own =
-        let before : keeps_if_live c.state c.live x y ≡ counts_as_kept k l x y =
-        ap (λ q. keeps_if_live q c.live x y) fresh ∙ sym (uncounted k l x y (ap has_bounds none)) in
-        other_same (is_super make.kind) (is_super make.kind) _ _ refl
-        (ap (λ t. t && not (keeps_if_live c.state c.live x y)) (kept_new k depth make visible x y own some shown)
-        ∙ ap (λ t. reveal.keeps k (resized k l) x y && not t) before)
-
-pub some_created : (c : CellView) (k : Across) (depth : ℕ) (make : Make) (visible : List Rectangle)
-    → k.new_bounds ≡ Some (bounds_of make)
-    → gains_some c (created c make depth visible) ≡ some_now k (λ x y. gains c (created c make depth visible) x y)
-some_created c k depth make visible some = go (is_super make.kind) refl
-  where
-    go : (own : Bool) → is_super make.kind ≡ own
-        → gains_some c (created c make depth visible) ≡ some_now k (λ x y. gains c (created c make depth visible) x y)
-    go true own =
-        let none : (x y : ℕ) → gains c (created c make depth visible) x y ≡ false =
-        λ x y. own_same (is_super make.kind) (is_super make.kind) _ true refl own ∙ ap (λ t. not t && true) own in
-        none_passes (blank make.kind depth make).width (blank make.kind depth make).height
-        (λ x y. gains c (created c make depth visible) x y) none
-        ∙ sym (none_passes (width_in k.new_bounds) (height_in k.new_bounds)
-        (λ x y. gains c (created c make depth visible) x y) none)
-    go false own =
-        let wide : (blank make.kind depth make).width ≡ width_in k.new_bounds =
-        new_width make.kind depth make own ∙ sym (columns_new k make some) in
-        let high : (blank make.kind depth make).height ≡ height_in k.new_bounds =
-        new_height make.kind depth make own ∙ sym (rows_new k make some) in
-        ap (λ w. some_pixel w (blank make.kind depth make).height (λ x y. gains c (created c make depth visible) x y)) wide
-        ∙ ap (λ h. some_pixel (width_in k.new_bounds) h (λ x y. gains c (created c make depth visible) x y)) high
+    by_state : (s : State) → keeps_if_live s to.live x y ≡ true → (x < to.live.layer.bits.width) × (y < to.live.layer.bits.height)
+    by_state view.Unopened h = absurd (cc h)
+    by_state view.Live h =
+        let l = to.live.layer in
+        let in_bits = and_parts (nat_lt x l.bits.width) (nat_lt y l.bits.height) (and_parts _ _ h).0 in
+        (ltb-true x l.bits.width in_bits.0, ltb-true y l.bits.height in_bits.1)
+    by_state view.Closed h = absurd (cc h)

@@ -6,10 +6,12 @@ pub mod SoundLaws
 pub mod ArrangedLaws
 pub mod SettledLaws
 pub mod CellLaws
-pub mod OpenedLaws
 pub mod StandLaws
 pub mod MayLaws
 pub mod SameLaws
 pub mod FilledLaws
 pub mod GainsLaws
+pub mod OpenedLaws
+pub mod BareLaws
 pub mod GainedRegions
+pub mod FrameLaws

@@ -1,8 +1,7 @@
 -- A cell of a desk may be prepared for an arrangement that is done there.
-use Rattle.std.proofs.Common.{◌≡◌, ℕ, ◌+◌, ◌<◌, ◌≤◌, length, Bool, true, false, ◌&&◌, List, [], ◌∷◌, Option, Some, None, refl, sym, ap, subst, ◌∙◌, ⊎_elim, arith, ℤ, pos, ◌+ℤ◌, ◌-ℤ◌, int_le, nat_le, nat_lt, unsigned_abs, IsTrue}
+use Rattle.std.proofs.Common.{◌≡◌, ℕ, ◌+◌, ◌<◌, ◌≤◌, length, Bool, true, false, not, ◌&&◌, List, Option, Some, None, refl, sym, ap, subst, ◌∙◌, ⊎_elim, arith, ℤ, pos, ◌+ℤ◌, ◌-ℤ◌, int_le, nat_le, nat_lt, unsigned_abs, IsTrue}
 use Rattle.std.specs.Prelude.{if◌then◌else◌}
-use Rattle.std.proofs.lemmas.Bool.{and_parts, eqb-true}
-use Rattle.std.specs.List.{find}
+use Rattle.std.proofs.lemmas.Bool.{and_parts, eqb-true, ltb-true}
 use Rattle.std.proofs.lemmas.Bool.Decides.{nat_tests}
 use Rattle.std.proofs.lemmas.Int.{ints}
 use Rattle.lw_region.specs.Rectangle.{Rectangle, has_pixel}
@@ -10,31 +9,32 @@ use Rattle.lw_calls.specs.declared.make.Kind.{Kind}
 use Rattle.lw_calls.specs.declared.make.Kind.TheVariants.{Simple, Smart, SuperBitmap}
 use Rattle.lw_calls.specs.declared.make.Make.{Make}
 use Rattle.lw_calls.specs.declared.call.Call.{Call}
-use Rattle.lw_calls.specs.declared.call.Call.TheVariants.{Create}
+use Rattle.lw_calls.specs.declared.call.Call.TheVariants.{Create, OpenWindow}
 use Rattle.lw_calls.specs.declared.sizes.Sizes.{Sizes}
 use Rattle.lw_calls.specs.Kinds.{is_super}
-use Rattle.lw_calls.specs.Limits.{IsWithinLimits, call_fits, make_fits, hook_fits, kind_fits}
+use Rattle.lw_calls.specs.Limits.{IsWithinLimits, call_fits, make_fits, window_fits, hook_fits, kind_fits}
 use Rattle.lw_machine.specs.Hook.{Hook}
-use Rattle.lw_machine.specs.Layer.{Layer, Slot, Live, is_framed}
+use Rattle.lw_machine.specs.Layer.{Layer, Window, Slot, Live, is_framed}
 use Rattle.lw_machine.specs.Desk.{Desk, is_the}
 use Rattle.lw_machine.specs.Screen.{bounds_have}
-use Rattle.lw_machine.specs.Arrangement.{bounds_of, hook_from, blank, new_layer, is_on_screen, is_at_least, portion_fits, may_have_bounds, layer_may_have_bounds, columns_of, rows_of, arranged}
-use Rattle.lw_machine.specs.Reveal.{Across, has_bounds, across, revealed, resized, with_revealed, settled_layer, settled}
+use Rattle.lw_machine.specs.Paint.{with_pens}
+use Rattle.lw_machine.specs.Arrangement.{bounds_of, is_on_screen, is_at_least, portion_fits, may_have_bounds, layer_may_have_bounds, columns_of, rows_of, arranged}
+use Rattle.lw_machine.specs.Reveal.{Across, has_bounds, across, revealed, resized, with_revealed, keeps, framed_by, with_frame, frame_is_due, with_due_frame, with_messages, settled_layer, settled}
 use Rattle.lw_machine.specs.Parts.{slot_part}
 use Rattle.lw_machine.specs.Sound.{IsDesk, IsSlot, IsPlaced}
+use Rattle.lw_machine.proofs.Settling.{told_framed}
 use Rattle.lw_cliprects.specs.Parts.{LieIn}
 use Rattle.lw_layer.specs.View.{State, LiveView, CellView, hooked}
 use Rattle.lw_layer.specs.View as view
-use Rattle.lw_layer.specs.Pieces.{columns, lines}
+use Rattle.lw_layer.specs.Pieces.{columns, lines, HasFrameRoom}
 use Rattle.lw_layer.specs.StandsFor.{IsPartOf, StandsFor, IsSound}
-use Rattle.lw_layer.specs.New.{IsNewSize}
 use Rattle.lw_stack.specs.Stack.{bounds_at, first_at, is_first_at}
 use Rattle.lw_reveal.specs.Changed.{MayHave}
 use Rattle.lw_arrange.specs.Plans.{Planned, IsPlanned}
-use Rattle.lw_arrange.specs.Prepared.{asked_for, shown_at, MayBecome, MayBe, MayPrepare}
-use Rattle.lw_arrange.proofs.SettledLaws.{slot_settled, settled_plain}
+use Rattle.lw_arrange.specs.Prepared.{Created, created_by, shown_at, HasClasses, MayBeNew, MayBecome, MayBe, MayPrepare}
+use Rattle.lw_arrange.proofs.SettledLaws.{each_settled}
 use Rattle.lw_arrange.proofs.CellLaws.{Stays, Opens, slot_becomes}
-use Rattle.lw_arrange.proofs.StandLaws.{IsDone, live_part, listed_low, not_opened, gone}
+use Rattle.lw_arrange.proofs.StandLaws.{IsDone, find_passes, live_part, listed_low, not_opened, created_is, gone}
 
 -- along one axis: bounds on the screen that have a place
 axis_size : (low high : ℤ) (n : ℕ) → int_le (pos 0) low ≡ true → int_le (high +ℤ pos 1) (pos n) ≡ true → int_le (pos 1) ((high +ℤ pos 1) -ℤ low) ≡ true → n ≤ 1024 → (1 ≤ unsigned_abs ((high +ℤ pos 1) -ℤ low)) × (unsigned_abs ((high +ℤ pos 1) -ℤ low) ≤ 2048)
@@ -44,19 +44,25 @@ axis_size low high n first last some few = (grind (arith, ints), grind (arith, i
 axis_portion : (low high : ℤ) (x w : ℕ) → int_le (pos x +ℤ ((high +ℤ pos 1) -ℤ low)) (pos w) ≡ true → int_le (pos 1) ((high +ℤ pos 1) -ℤ low) ≡ true → x + unsigned_abs ((high +ℤ pos 1) -ℤ low) ≤ w
 axis_portion low high x w last some = grind (arith, ints)
 
--- bounds that a layer may have have sizes for planes, and what they show of an own bitmap lies in it
-pub record IsFit (own : Bool) (x y w h : ℕ) (r : Rectangle) : Type 0 where
+-- and so many places at least
+axis_room : (low high : ℤ) (n : ℕ) → int_le (pos n) ((high +ℤ pos 1) -ℤ low) ≡ true → n ≤ unsigned_abs ((high +ℤ pos 1) -ℤ low)
+axis_room low high n some = grind (arith, ints)
+
+-- bounds that a layer may have have sizes for planes, a frame has room in them, and what they show of an own bitmap lies in it
+pub record IsFit (framed own : Bool) (x y w h : ℕ) (r : Rectangle) : Type 0 where
   pub wide : (1 ≤ columns r) × (columns r ≤ 2048)
   pub high : (1 ≤ lines r) × (lines r ≤ 2048)
   pub right : own ≡ true → x + columns r ≤ w
   pub lower : own ≡ true → y + lines r ≤ h
+  pub room : framed ≡ true → HasFrameRoom r
 
-pub may_fit : (s : Sizes) (framed : Bool) (k : Kind) (x y w h : ℕ) (r : Rectangle) → IsWithinLimits s → may_have_bounds s framed k x y w h r ≡ true → IsFit (is_super k) x y w h r
+pub may_fit : (s : Sizes) (framed : Bool) (k : Kind) (x y w h : ℕ) (r : Rectangle) → IsWithinLimits s
+    → may_have_bounds s framed k x y w h r ≡ true → IsFit framed (is_super k) x y w h r
 unfolding is_on_screen is_at_least portion_fits
 may_fit s framed k x y w h r limits may =
     let halves = and_parts _ _ may in
     let first = and_parts (is_on_screen s r) (is_at_least (pos 1) (pos 1) r) halves.0 in
-    let second = and_parts _ (if is_super k then portion_fits (pos x) (pos y) w h r else true) halves.1 in
+    let second = and_parts (if framed then is_at_least (pos 9) (pos 14) r else true) (if is_super k then portion_fits (pos x) (pos y) w h r else true) halves.1 in
     let sides = and_parts (int_le (pos 0) r.min_x && int_le (r.max_x +ℤ pos 1) (pos s.width)) (int_le (pos 0) r.min_y && int_le (r.max_y +ℤ pos 1) (pos s.height)) first.0 in
     let across = and_parts (int_le (pos 0) r.min_x) (int_le (r.max_x +ℤ pos 1) (pos s.width)) sides.0 in
     let down = and_parts (int_le (pos 0) r.min_y) (int_le (r.max_y +ℤ pos 1) (pos s.height)) sides.1 in
@@ -73,20 +79,11 @@ may_fit s framed k x y w h r limits may =
           λ own.
           let fits = and_parts (int_le (pos 0) (pos x) && int_le (pos x +ℤ columns_of r) (pos w)) (int_le (pos 0) (pos y) && int_le (pos y +ℤ rows_of r) (pos h)) (portion own) in
           axis_portion r.min_y r.max_y y h (and_parts (int_le (pos 0) (pos y)) (int_le (pos y +ℤ rows_of r) (pos h)) fits.1).1 some.1;
+      room =
+          λ has.
+          let large = and_parts (int_le (pos 9) (columns_of r)) (int_le (pos 14) (rows_of r)) (sym (ap (λ b. if b then is_at_least (pos 9) (pos 14) r else true) has) ∙ second.0) in
+          record { wide = axis_room r.min_x r.max_x 9 large.0; high = axis_room r.min_y r.max_y 14 large.1 };
     }
-
--- what is found passes the test
-find_passes : (test : ℕ → Bool) (ns : List ℕ) (n : ℕ) → find test ns ≡ Some n → test n ≡ true
-find_passes test [] n is = absurd (cc is)
-find_passes test (m ∷ ms) n is = step (test m) refl (λ h. find_passes test ms n h) is
-  where
-    option_or : Option ℕ → ℕ → ℕ
-    option_or None k = k
-    option_or (Some k) j = k
-
-    step : (b : Bool) → test m ≡ b → (find test ms ≡ Some n → test n ≡ true) → (if b then Some m else find test ms) ≡ Some n → test n ≡ true
-    step true e rest h = ap test (sym (ap (λ o. option_or o m) h)) ∙ e
-    step false e rest h = rest h
 
 -- what is shown of a slot lies in its bounds
 pub shown_inside : (a : Planned) (s : ℕ) (r : Rectangle) → IsPlanned a → bounds_at a.stack.bounds s ≡ Some r → LieIn r (shown_at a s)
@@ -105,20 +102,75 @@ shown_inside a s r ok planned x y has =
         let there : bounds_have (bounds_at a.stack.bounds n) x y ≡ true = find_passes (λ t. bounds_have (bounds_at a.stack.bounds t) x y) a.stack.front_to_back n is in
         have (bounds_at a.stack.bounds s) planned (ap (λ k. bounds_have (bounds_at a.stack.bounds k) x y) (sym (eqb-true n s h)) ∙ there)
 
--- what is revealed of a layer has its kind, its scroll, and its bits where they are its own
+-- what is settled of a layer has its kind, its scroll, a frame as it has, and bits of the same size where they are its own
 record IsSameFrame (l m : Layer) : Type 0 where
   pub kind : m.kind ≡ l.kind
   pub scroll_x : m.scroll_x ≡ l.scroll_x
   pub scroll_y : m.scroll_y ≡ l.scroll_y
-  pub own : is_super l.kind ≡ true → m.bits ≡ l.bits
+  pub framed : is_framed m.window ≡ is_framed l.window
+  pub wide : is_super l.kind ≡ true → m.bits.width ≡ l.bits.width
+  pub high : is_super l.kind ≡ true → m.bits.height ≡ l.bits.height
+
+same_frame : (l : Layer) → IsSameFrame l l
+same_frame l = record { kind = refl; scroll_x = refl; scroll_y = refl; framed = refl; wide = λ _. refl; high = λ _. refl }
+
+then_frame : (l m n : Layer) → IsSameFrame l m → IsSameFrame m n → IsSameFrame l n
+then_frame l m n first second = record {
+  kind = second.kind ∙ first.kind;
+  scroll_x = second.scroll_x ∙ first.scroll_x;
+  scroll_y = second.scroll_y ∙ first.scroll_y;
+  framed = second.framed ∙ first.framed;
+  wide = λ own. second.wide (ap is_super first.kind ∙ own) ∙ first.wide own;
+  high = λ own. second.high (ap is_super first.kind ∙ own) ∙ first.high own;
+}
 
 revealed_frame : (k : Across) (l : Layer) → IsSameFrame l (revealed k l)
 unfolding revealed
 revealed_frame k l = go (is_super l.kind) refl
   where
     go : (own : Bool) → is_super l.kind ≡ own → IsSameFrame l (if own then l else with_revealed k l (resized k l))
-    go true is = record { kind = refl; scroll_x = refl; scroll_y = refl; own = λ _. refl }
-    go false is = record { kind = refl; scroll_x = refl; scroll_y = refl; own = λ own. absurd (cc (is, own)) }
+    go true is = same_frame l
+    go false is = record {
+      kind = refl;
+      scroll_x = refl;
+      scroll_y = refl;
+      framed = refl;
+      wide = λ own. absurd (cc (is, own));
+      high = λ own. absurd (cc (is, own));
+    }
+
+painted_frame_same : (t : Bool) (on : ℕ → ℕ → Bool) (pen : ℕ → ℕ → ℕ) (l : Layer) → IsSameFrame l (if t then with_pens on pen l else l)
+unfolding with_pens
+painted_frame_same true on pen l = record { kind = refl; scroll_x = refl; scroll_y = refl; framed = refl; wide = λ _. refl; high = λ _. refl }
+painted_frame_same false on pen l = same_frame l
+
+framed_by_same : (glyphs : List (List ℕ)) (kept : ℕ → ℕ → Bool) (active : Bool) (o : Option Window) (l : Layer)
+    → IsSameFrame l (framed_by glyphs kept active o l)
+framed_by_same glyphs kept active None l = same_frame l
+framed_by_same glyphs kept active (Some w) l = painted_frame_same w.framed _ _ l
+
+due_same : (due : Bool) (glyphs : List (List ℕ)) (kept : ℕ → ℕ → Bool) (active : Bool) (l : Layer)
+    → IsSameFrame l (if due then with_frame glyphs kept active l else l)
+due_same true glyphs kept active l = framed_by_same glyphs kept active l.window l
+due_same false glyphs kept active l = same_frame l
+
+told_same : (k : Across) (l : Layer) → IsSameFrame l (with_messages k l)
+told_same k l = record {
+  kind = refl;
+  scroll_x = refl;
+  scroll_y = refl;
+  framed = told_framed k l l.window;
+  wide = λ _. refl;
+  high = λ _. refl;
+}
+
+settled_frame : (glyphs : List (List ℕ)) (k : Across) (l : Layer) → IsSameFrame l (settled_layer glyphs k l)
+unfolding settled_layer
+settled_frame glyphs k l =
+    let r = revealed k l in
+    let q = with_due_frame glyphs k l r in
+    then_frame l q (with_messages k q)
+    (then_frame l r q (revealed_frame k l) (due_same (frame_is_due k l r) glyphs (keeps k r) k.new_active r)) (told_same k q)
 
 -- the layer of a sound desk may have its bounds
 placed_may : (e : Desk) (s : ℕ) (m : Layer) (r : Rectangle) → IsDesk e → e.slot s ≡ Live m → e.bounds s ≡ Some r → layer_may_have_bounds e.sizes m r ≡ true
@@ -138,24 +190,23 @@ stays_may d caller made a c h done live stands sound r planned stays =
     let e = arranged d caller made in
     let l : Layer = record c.live.layer { hook = h } in
     let bounds : e.bounds s ≡ Some r = done.plan.info.bounds s ∙ planned in
-    let slot = slot_settled d e s (Live l) done.settled
-    (stays.slot ∙ (live_part (hooked h c) (slot_part d s) live stands).slot) in
-    let plain = slot ∙ ap Live (settled_plain d.assets.glyphs (across d e s) l sound.window) in
-    let m : Layer = revealed (across d e s) l in
-    let frame = revealed_frame (across d e s) l in
-    let fit = may_fit e.sizes (is_framed m.window) m.kind m.scroll_x m.scroll_y m.bits.width m.bits.height r done.settled.limits (placed_may (settled d e) s m r done.settled plain bounds) in
+    let m : Layer = settled_layer d.assets.glyphs (across d e s) l in
+    let slot : (settled d e).slot s ≡ Live m =
+    each_settled d e s (Live l) done.settled (stays.slot ∙ (live_part (hooked h c) (slot_part d s) live stands).slot) in
+    let frame = settled_frame d.assets.glyphs (across d e s) l in
+    let fit =
+    may_fit e.sizes (is_framed m.window) m.kind m.scroll_x m.scroll_y m.bits.width m.bits.height r done.settled.limits
+    (placed_may (settled d e) s m r done.settled slot bounds)
+    in
     record {
       sizes = record { columns = fit.wide; rows = fit.high; planes = sound.bits.sizes.planes };
       inside = shown_inside a s r done.planned planned;
-      right = λ own. let h = fit.right (ap is_super frame.kind ∙ own) in let b = frame.own own in omega (arith, h, frame.scroll_x, ap (λ q. q.width) b);
-      lower = λ own. let h = fit.lower (ap is_super frame.kind ∙ own) in let b = frame.own own in omega (arith, h, frame.scroll_y, ap (λ q. q.height) b);
+      right =
+          λ own. let h = fit.right (ap is_super frame.kind ∙ own) in let w = frame.wide own in omega (arith, h, frame.scroll_x, w);
+      lower =
+          λ own. let h = fit.lower (ap is_super frame.kind ∙ own) in let w = frame.high own in omega (arith, h, frame.scroll_y, w);
+      frame = λ has. fit.room (frame.framed ∙ has);
     }
-
--- a new super-bitmap layer has the bitmap that is asked for
-own_blank_size : (kind : Kind) (depth : ℕ) (make : Make) → is_super kind ≡ true → ((blank kind depth make).width ≡ make.bits_w) × ((blank kind depth make).height ≡ make.bits_h)
-own_blank_size Simple depth make own = absurd (cc own)
-own_blank_size Smart depth make own = absurd (cc own)
-own_blank_size SuperBitmap depth make own = (refl, refl)
 
 -- a bitmap that may be asked for has sizes for planes
 own_fits : (kind : Kind) (hook : Option ℕ) (w h : ℕ) → kind_fits kind hook w h ≡ true → is_super kind ≡ true → ((1 ≤ w) × (w ≤ 2048)) × ((1 ≤ h) × (h ≤ 2048))
@@ -168,40 +219,71 @@ own_fits SuperBitmap None w h fits own =
     ((grind (arith, nat_tests), grind (arith, nat_tests)), (grind (arith, nat_tests), grind (arith, nat_tests)))
 own_fits SuperBitmap (Some n) w h fits own = absurd (cc fits)
 
-asked_own : (call : Call) (sizes : Sizes) (make : Make) → asked_for call ≡ Some make → IsTrue (call_fits sizes call) → is_super make.kind ≡ true → ((1 ≤ make.bits_w) × (make.bits_w ≤ 2048)) × ((1 ≤ make.bits_h) × (make.bits_h ≤ 2048))
-asked_own (Create slot m) sizes make asked fits own =
-    let same : m ≡ make = ap (λ o. option_or o m) asked in
-    let parts = and_parts (nat_lt slot sizes.slots) (make_fits sizes m) fits in
-    let inner = and_parts _ (hook_fits sizes.hooks m.hook && kind_fits m.kind m.hook m.bits_w m.bits_h) parts.1 in
+made_own : (sizes : Sizes) (m : Make) → make_fits sizes m ≡ true → is_super m.kind ≡ true
+    → ((1 ≤ m.bits_w) × (m.bits_w ≤ 2048)) × ((1 ≤ m.bits_h) × (m.bits_h ≤ 2048))
+made_own sizes m fits own =
+    let inner = and_parts _ (hook_fits sizes.hooks m.hook && kind_fits m.kind m.hook m.bits_w m.bits_h) fits in
     let last = and_parts (hook_fits sizes.hooks m.hook) (kind_fits m.kind m.hook m.bits_w m.bits_h) inner.1 in
-    let P : Make → Type 0 = λ q. is_super q.kind ≡ true → ((1 ≤ q.bits_w) × (q.bits_w ≤ 2048)) × ((1 ≤ q.bits_h) × (q.bits_h ≤ 2048)) in
-    subst P same (own_fits m.kind m.hook m.bits_w m.bits_h last.1) own
+    own_fits m.kind m.hook m.bits_w m.bits_h last.1 own
+
+-- no super-bitmap layer that may be asked for is a window with a frame
+frame_fits : (framed own : Bool) → not (framed && own) ≡ true → own ≡ true → framed ≡ false
+frame_fits true own fits is = absurd (cc)
+frame_fits false own fits is = refl
+
+-- what the ranges of a call say of the layer that it creates
+record IsAsked (n : Created) : Type 0 where
+  pub own : is_super n.make.kind ≡ true
+      → ((1 ≤ n.make.bits_w) × (n.make.bits_w ≤ 2048)) × ((1 ≤ n.make.bits_h) × (n.make.bits_h ≤ 2048))
+  pub frameless : is_super n.make.kind ≡ true → is_framed n.window ≡ false
+  pub classes : HasClasses n.window
+
+created_or : {m n : Created} → Some m ≡ Some n → m ≡ n
+created_or {m} {n} is = ap (λ o. or_else o m) is
   where
-    option_or : Option Make → Make → Make
-    option_or None k = k
-    option_or (Some k) j = k
-asked_own call sizes make asked fits own = absurd (cc asked)
+    or_else : Option Created → Created → Created
+    or_else None k = k
+    or_else (Some k) j = k
+
+asked_fits : (task : ℕ) (call : Call) (sizes : Sizes) (n : Created) → created_by task call ≡ Some n → IsTrue (call_fits sizes call)
+    → IsAsked n
+asked_fits task (Create slot m) sizes n asked fits =
+    let parts = and_parts (nat_lt slot sizes.slots) (make_fits sizes m) fits in
+    subst IsAsked (created_or asked)
+    (record { own = made_own sizes m parts.1; frameless = λ _. refl; classes = tt })
+asked_fits task (OpenWindow slot m framed nocare asks title) sizes n asked fits =
+    let parts = and_parts (nat_lt slot sizes.slots) (make_fits sizes m && window_fits m framed asks) fits in
+    let rest = and_parts (make_fits sizes m) (window_fits m framed asks) parts.1 in
+    let window = and_parts (not (framed && is_super m.kind)) (nat_lt asks 32) rest.1 in
+    subst IsAsked (created_or asked)
+    (record {
+      own = made_own sizes m rest.0;
+      frameless = frame_fits framed (is_super m.kind) window.0;
+      classes = ltb-true asks 32 window.1;
+    })
+asked_fits task call sizes n asked fits = absurd (cc asked)
 
 -- what a new layer asks of its bounds
-opens_may : (d : Desk) (caller : ℕ) (made : Call) (a : Planned) (s : ℕ) → IsDone d caller made a → (opens : Opens d (arranged d caller made) made s) → IsNewSize opens.make d.sizes.depth (bounds_of opens.make)
+opens_may : (d : Desk) (caller : ℕ) (made : Call) (a : Planned) (s : ℕ) → IsDone d caller made a
+    → (opens : Opens d (arranged d caller made) caller made s) → MayBeNew opens.created d.sizes.depth (bounds_of opens.created.make)
 opens_may d caller made a s done opens =
-    let e = arranged d caller made in
-    let make = opens.make in
-    let new : Layer = new_layer d.sizes.depth make (hook_from d.shelf make.hook) None in
-    let slot = slot_settled d e s (Live new) done.settled opens.slot in
-    let m : Layer = settled_layer d.assets.glyphs (across d e s) new in
-    let plain : m ≡ revealed (across d e s) new = settled_plain d.assets.glyphs (across d e s) new refl in
-    let q : Layer = revealed (across d e s) new in
-    let frame = revealed_frame (across d e s) new in
-    let fit = may_fit e.sizes (is_framed q.window) q.kind q.scroll_x q.scroll_y q.bits.width q.bits.height (bounds_of make) done.settled.limits (placed_may (settled d e) s q (bounds_of make) done.settled (slot ∙ ap Live plain) opens.bounds) in
-    let own = asked_own made d.sizes make opens.asked done.fits in
+    let n = opens.created in
+    let make = n.make in
+    let fit =
+    may_fit d.sizes (is_framed n.window) make.kind 0 0 make.bits_w make.bits_h (bounds_of make) done.sound.limits opens.may in
+    let asked = asked_fits caller made d.sizes n opens.asked done.fits in
     let limits = done.sound.limits in
     record {
-      place = refl;
-      sizes = record { columns = fit.wide; rows = fit.high; planes = (limits.some_planes, limits.planes) };
-      own = λ super. let sides = own super in record { columns = sides.0; rows = sides.1; planes = (limits.some_planes, limits.planes) };
-      right = λ super. let h = fit.right (ap is_super frame.kind ∙ super) in let b = frame.own super in let w = (own_blank_size make.kind d.sizes.depth make super).0 in omega (arith, h, ap (λ v. v.width) b, w);
-      lower = λ super. let h = fit.lower (ap is_super frame.kind ∙ super) in let b = frame.own super in let w = (own_blank_size make.kind d.sizes.depth make super).1 in omega (arith, h, ap (λ v. v.height) b, w);
+      size = record {
+        place = refl;
+        sizes = record { columns = fit.wide; rows = fit.high; planes = (limits.some_planes, limits.planes) };
+        own = λ super. let sides = asked.own super in record { columns = sides.0; rows = sides.1; planes = (limits.some_planes, limits.planes) };
+        right = λ super. let h = fit.right super in omega (arith, h);
+        lower = λ super. let h = fit.lower super in omega (arith, h);
+      };
+      frameless = asked.frameless;
+      frame = fit.room;
+      classes = asked.classes;
     }
 
 -- A cell of the desk may be prepared, whatever hook its layer has.
@@ -211,28 +293,31 @@ may_prepare d caller made a c h done stands sound =
     let s = c.number in
     let e = arranged d caller made in
     let planned : e.bounds s ≡ bounds_at a.stack.bounds s = done.plan.info.bounds s in
-    let P : Option Rectangle → Type 0 = λ o. MayBe (asked_for a.call) a.stack.sizes.depth (shown_at a s) c o in
+    let P : Option Rectangle → Type 0 = λ o. MayBe (created_by a.task a.call) a.stack.sizes.depth (shown_at a s) c o in
     ⊎_elim (λ stays. by_state c.state refl stays (bounds_at a.stack.bounds s) refl)
     (λ rest. ⊎_elim (λ opens. opened opens)
     (λ closes. subst P (sym closes.bounds ∙ planned) tt) rest)
-    (slot_becomes d caller made s done.all done.plain done.unrefused)
+    (slot_becomes d caller made s done.all done.unrefused)
   where
-    opened : Opens d (arranged d caller made) made c.number → MayPrepare a c
+    opened : Opens d (arranged d caller made) caller made c.number → MayPrepare a c
     opened opens =
-        let make = opens.make in
+        let n = opens.created in
+        let r = bounds_of n.make in
+        let visible = shown_at a c.number in
         let was = not_opened (hooked h c) (slot_part d c.number) stands opens.free in
-        let size = opens_may d caller made a c.number done opens in
-        let R : State → Type 0 = λ q. MayBecome (Some make) d.sizes.depth (bounds_of make) (shown_at a c.number) c q in
-        let first : MayBe (Some make) d.sizes.depth (shown_at a c.number) c (Some (bounds_of make)) = subst R (sym was.0) size in
-        let P : Option Rectangle → Type 0 = λ o. MayBe (Some make) d.sizes.depth (shown_at a c.number) c o in
-        let Q : ℕ → Type 0 = λ n. MayBe (Some make) n (shown_at a c.number) c (bounds_at a.stack.bounds c.number) in
-        let T : Option Make → Type 0 = λ o. MayBe o a.stack.sizes.depth (shown_at a c.number) c (bounds_at a.stack.bounds c.number) in
-        subst T (sym (ap asked_for done.plan.call ∙ opens.asked)) (subst Q (sym (ap (λ z. z.depth) done.sizes)) (subst P (sym opens.bounds ∙ done.plan.info.bounds c.number) first))
+        let R : State → Type 0 = λ q. MayBecome (Some n) d.sizes.depth r visible c q in
+        let first : MayBe (Some n) d.sizes.depth visible c (Some r) = subst R (sym was.0) (opens_may d caller made a c.number done opens) in
+        let P : Option Rectangle → Type 0 = λ o. MayBe (Some n) d.sizes.depth visible c o in
+        let Q : ℕ → Type 0 = λ depth. MayBe (Some n) depth visible c (bounds_at a.stack.bounds c.number) in
+        let T : Option Created → Type 0 = λ o. MayBe o a.stack.sizes.depth visible c (bounds_at a.stack.bounds c.number) in
+        let created : created_by a.task a.call ≡ Some n = created_is d caller made a n done opens.asked in
+        subst T (sym created)
+        (subst Q (sym (ap (λ z. z.depth) done.sizes)) (subst P (sym opens.bounds ∙ done.plan.info.bounds c.number) first))
 
     dead : d.bounds c.number ≡ None → Stays d (arranged d caller made) c.number → MayPrepare a c
     dead none stays =
         let e = arranged d caller made in
-        let P : Option Rectangle → Type 0 = λ o. MayBe (asked_for a.call) a.stack.sizes.depth (shown_at a c.number) c o in
+        let P : Option Rectangle → Type 0 = λ o. MayBe (created_by a.task a.call) a.stack.sizes.depth (shown_at a c.number) c o in
         subst P (sym (gone (e.bounds c.number) (stays.bounds ∙ ap has_bounds none)) ∙ done.plan.info.bounds c.number) tt
 
     part : (q : State) → c.state ≡ q → IsPartOf q (hooked h c).live (slot_part d c.number)
@@ -242,9 +327,9 @@ may_prepare d caller made a c h done stands sound =
     by_state view.Unopened is stays o at = dead (part view.Unopened is).1 stays
     by_state view.Closed is stays o at = dead (part view.Closed is).1 stays
     by_state view.Live is stays None at =
-        let P : Option Rectangle → Type 0 = λ q. MayBe (asked_for a.call) a.stack.sizes.depth (shown_at a c.number) c q in
+        let P : Option Rectangle → Type 0 = λ q. MayBe (created_by a.task a.call) a.stack.sizes.depth (shown_at a c.number) c q in
         subst P (sym at) tt
     by_state view.Live is stays (Some r) at =
-        let P : Option Rectangle → Type 0 = λ q. MayBe (asked_for a.call) a.stack.sizes.depth (shown_at a c.number) c q in
-        let R : State → Type 0 = λ q. MayBecome (asked_for a.call) a.stack.sizes.depth r (shown_at a c.number) c q in
+        let P : Option Rectangle → Type 0 = λ q. MayBe (created_by a.task a.call) a.stack.sizes.depth (shown_at a c.number) c q in
+        let R : State → Type 0 = λ q. MayBecome (created_by a.task a.call) a.stack.sizes.depth r (shown_at a c.number) c q in
         subst P (sym at) (subst R (sym is) (stays_may d caller made a c h done is stands (sound is) r at stays))

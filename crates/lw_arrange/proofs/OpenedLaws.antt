@@ -1,79 +1,197 @@
--- A new layer is settled as it was created: no pixel of it counts as kept before, and without a hook it is filled with pen 0.
-use Rattle.std.proofs.Common.{◌≡◌, ℕ, Bool, true, false, ◌&&◌, Some, None, refl, ap, ◌∙◌, arith, ℤ, pos, ◌+ℤ◌, ◌-ℤ◌, unsigned_abs}
+-- What the machine reveals of a new layer: the layer as it was created, filled wherever it keeps a pixel.
+use Rattle.std.proofs.Common.{◌≡◌, ℕ, ◌<◌, Bool, true, false, not, ◌&&◌, nat_lt, List, Option, Some, None, refl, sym, ap, subst, ◌∙◌, ⊎_elim, arith, ℤ, pos, ◌+ℤ◌, ◌-ℤ◌, unsigned_abs}
 use Rattle.std.specs.Prelude.{if◌then◌else◌}
+use Rattle.std.proofs.lemmas.Bool.{cases_Bool}
 use Rattle.std.proofs.lemmas.Int.{ints}
+use Rattle.std.proofs.lemmas.Nat.{pow_pos}
+use Rattle.lw_region.specs.Rectangle.{Rectangle}
+use Rattle.lw_region.specs.Bands.{covers}
 use Rattle.lw_planes.specs.Grid.{grid, at}
-use Rattle.lw_planes.specs.Bitmap.{bitmap, pen_at}
-use Rattle.lw_planes.proofs.BitmapLaws.{bitmap_same}
+use Rattle.lw_planes.specs.Bitmap.{IsBitmap, bitmap, pen_at}
+use Rattle.lw_planes.proofs.BitmapLaws.{IsBitmap_bitmap}
 use Rattle.lw_planes.proofs.GridLaws.{grid_same}
 use Rattle.lw_calls.specs.declared.make.Kind.{Kind}
 use Rattle.lw_calls.specs.declared.make.Kind.TheVariants.{Simple, Smart, SuperBitmap}
 use Rattle.lw_calls.specs.declared.make.Make.{Make}
 use Rattle.lw_calls.specs.Kinds.{is_super}
-use Rattle.lw_machine.specs.Layer.{Layer}
+use Rattle.lw_machine.specs.Hook.{Hook}
+use Rattle.lw_machine.specs.Layer.{Layer, Window}
+use Rattle.lw_machine.specs.Kept.{is_kept, kept_as, screen_place}
 use Rattle.lw_machine.specs.Arrangement.{bounds_of, blank, new_layer}
-use Rattle.lw_machine.specs.Reveal.{Across, has_bounds, width_in, height_in, was_live, is_inner, counts_as_kept, resized, keeps, with_revealed, revealed}
-use Rattle.lw_machine.proofs.Settling.{revealed_plain, revealed_super}
+use Rattle.lw_machine.specs.Reveal.{Across, width_in, height_in, is_inner, counts_as_kept, resized, fills, some_pixel, some_now, revealed}
+use Rattle.lw_machine.specs.Reveal as reveal
+use Rattle.lw_machine.proofs.Settling.{revealed_super}
+use Rattle.lw_layer.specs.View.{State, LiveView, CellView, keeps}
+use Rattle.lw_layer.specs.View as view
+use Rattle.lw_layer.specs.New.{new_live}
+use Rattle.lw_arrange.specs.Filled.{counts_if_live, gains, gains_some, filled_layer}
+use Rattle.lw_arrange.proofs.FilledLaws.{none_passes, with_hook, revealed_in, with_other_pens, AreLeft, revealed_filled, unfilled}
+use Rattle.lw_arrange.proofs.GainsLaws.{none_gained}
 
 -- an extent of n places has n
 pub extent : (x n : ℤ) → ((((x +ℤ n) -ℤ pos 1) +ℤ pos 1) -ℤ x) ≡ n
 extent x n = omega (arith, ints)
 
+-- the size of a new layer that has no bitmap of its own is that of its bounds
+pub new_width : (kind : Kind) (depth : ℕ) (make : Make) → is_super kind ≡ false
+    → (blank kind depth make).width ≡ unsigned_abs make.w
+new_width Simple depth make other = refl
+new_width Smart depth make other = refl
+new_width SuperBitmap depth make other = absurd (cc other)
+
+pub new_height : (kind : Kind) (depth : ℕ) (make : Make) → is_super kind ≡ false
+    → (blank kind depth make).height ≡ unsigned_abs make.h
+new_height Simple depth make other = refl
+new_height Smart depth make other = refl
+new_height SuperBitmap depth make other = absurd (cc other)
+
+wide : (make : Make) (depth : ℕ) → is_super make.kind ≡ false
+    → (blank make.kind depth make).width ≡ width_in (Some (bounds_of make))
+wide make depth other = new_width make.kind depth make other ∙ sym (ap unsigned_abs (extent make.x make.w))
+
+high : (make : Make) (depth : ℕ) → is_super make.kind ≡ false
+    → (blank make.kind depth make).height ≡ height_in (Some (bounds_of make))
+high make depth other = new_height make.kind depth make other ∙ sym (ap unsigned_abs (extent make.y make.h))
+
+-- the bits of a new layer are a bitmap, with pen 0 everywhere
+pub new_bitmap : (kind : Kind) (depth : ℕ) (make : Make) → IsBitmap (blank kind depth make)
+new_bitmap Simple depth make = IsBitmap_bitmap _ _ depth (λ x y. 0) (λ x y left low. pow_pos depth)
+new_bitmap Smart depth make = IsBitmap_bitmap _ _ depth (λ x y. 0) (λ x y left low. pow_pos depth)
+new_bitmap SuperBitmap depth make = IsBitmap_bitmap _ _ depth (λ x y. 0) (λ x y left low. pow_pos depth)
+
+blank_is : (kind : Kind) (depth : ℕ) (make : Make)
+    → bitmap (blank kind depth make).width (blank kind depth make).height (blank kind depth make).depth (λ x y. 0) ≡ blank kind depth make
+blank_is Simple depth make = refl
+blank_is Smart depth make = refl
+blank_is SuperBitmap depth make = refl
+
+-- a new layer, across the arrangement that creates it
+abbrev pub across_new : Make → (ℤ → ℤ → Bool) → List Rectangle → Bool → Bool → Across
+across_new make shown visible active new_active = record {
+  bounds = None;
+  new_bounds = Some (bounds_of make);
+  shown = shown;
+  new_shown = λ x y. covers visible x y;
+  active = active;
+  new_active = new_active;
+}
+
 -- of a layer that wasn't live no pixel counts as kept before
-pub uncounted : (k : Across) (l : Layer) (x y : ℕ) → was_live k ≡ false → counts_as_kept k l x y ≡ false
+uncounted : (make : Make) (shown : ℤ → ℤ → Bool) (visible : List Rectangle) (active new_active : Bool) (l : Layer) (x y : ℕ)
+    → counts_as_kept (across_new make shown visible active new_active) l x y ≡ false
 unfolding counts_as_kept
-uncounted k l x y dead = rw dead refl
+uncounted make shown visible active new_active l x y = refl
 
--- what is filled without a hook has pen 0
-filled : (kept : Bool) (counted : Bool) (pen : ℕ) → counted ≡ false → (if kept then (if counted then pen else 0) else 0) ≡ 0
-filled true counted pen none = rw none refl
-filled false counted pen none = refl
+-- the cell of a new layer
+abbrev pub created : CellView → Make → ℕ → Rectangle → List Rectangle → Option Window → CellView
+created c make depth r visible window =
+    record { number = c.number; state = view.Live; live = new_live make depth r visible window 0 }
 
--- and what is created isn't damaged
-undamaged : (b counted was live : Bool) → counted ≡ false → live ≡ false → (b && (if counted then was else live)) ≡ false
-undamaged true counted was live none dead = rw (none, dead) refl
-undamaged false counted was live none dead = refl
+-- a new layer keeps what the machine's does
+kept_new : (make : Make) (depth : ℕ) (window : Option Window) (shown : ℤ → ℤ → Bool) (visible : List Rectangle)
+    (active new_active : Bool) (x y : ℕ) → is_super make.kind ≡ false
+    → keeps (new_live make depth (bounds_of make) visible window 0) x y
+    ≡ reveal.keeps (across_new make shown visible active new_active)
+    (resized (across_new make shown visible active new_active) (new_layer depth make None window)) x y
+unfolding keeps is_kept
+kept_new make depth window shown visible active new_active x y other =
+    let r = bounds_of make in
+    let seen = kept_as make.kind (covers visible (screen_place r.min_x 0 x) (screen_place r.min_y 0 y)) in
+    ap (λ w. (nat_lt x w && nat_lt y (blank make.kind depth make).height) && seen) (wide make depth other)
+    ∙ ap (λ h. (nat_lt x (width_in (Some r)) && nat_lt y h) && seen) (high make depth other)
 
--- the bits and the damage of a new layer by the size of its bounds
-blank_by : (kind : Kind) (depth : ℕ) (make : Make) (w h : ℕ) (f : ℕ → ℕ → ℕ) → is_super kind ≡ false → w ≡ unsigned_abs make.w → h ≡ unsigned_abs make.h → ((x y : ℕ) → f x y ≡ 0) → bitmap w h (blank kind depth make).depth f ≡ blank kind depth make
-blank_by Simple depth make w h f own wide high zero = rw (wide, high) (bitmap_same _ _ depth f (λ x y. 0) (λ x y left low. zero x y))
-blank_by Smart depth make w h f own wide high zero = rw (wide, high) (bitmap_same _ _ depth f (λ x y. 0) (λ x y left low. zero x y))
-blank_by SuperBitmap depth make w h f own wide high zero = absurd (cc own)
+-- What a new layer gains is what the machine fills.
+gains_created : (c : CellView) (make : Make) (depth : ℕ) (window : Option Window) (shown : ℤ → ℤ → Bool) (visible : List Rectangle)
+    (active new_active : Bool) (x y : ℕ) → c.state ≡ view.Unopened → is_super make.kind ≡ false
+    → gains c (created c make depth (bounds_of make) visible window) x y
+    ≡ fills (across_new make shown visible active new_active) (new_layer depth make None window)
+    (resized (across_new make shown visible active new_active) (new_layer depth make None window)) x y
+gains_created c make depth window shown visible active new_active x y fresh other =
+    let k = across_new make shown visible active new_active in
+    let l = new_layer depth make None window in
+    let new = new_live make depth (bounds_of make) visible window 0 in
+    ap (λ t. not t && (keeps new x y && not (counts_if_live c.state c.live new x y))) other
+    ∙ (ap (λ t. t && not (counts_if_live c.state c.live new x y)) (kept_new make depth window shown visible active new_active x y other)
+    ∙ (ap (λ s. reveal.keeps k (resized k l) x y && not (counts_if_live s c.live new x y)) fresh
+    ∙ ap (λ t. reveal.keeps k (resized k l) x y && not t) (sym (uncounted make shown visible active new_active l x y))))
 
-undamaged_by : (kind : Kind) (depth : ℕ) (make : Make) (w h : ℕ) (f : ℕ → ℕ → Bool) → is_super kind ≡ false → w ≡ unsigned_abs make.w → h ≡ unsigned_abs make.h → ((x y : ℕ) → f x y ≡ false) → grid w h f ≡ grid (blank kind depth make).width (blank kind depth make).height (λ x y. false)
-undamaged_by Simple depth make w h f own wide high none = rw (wide, high) (grid_same _ _ f (λ x y. false) (λ x y left low. none x y))
-undamaged_by Smart depth make w h f own wide high none = rw (wide, high) (grid_same _ _ f (λ x y. false) (λ x y left low. none x y))
-undamaged_by SuperBitmap depth make w h f own wide high none = absurd (cc own)
+-- whether something is gained, asked over the machine's size
+some_created : (make : Make) (depth : ℕ) (test : ℕ → ℕ → Bool) → is_super make.kind ≡ false
+    → some_pixel (blank make.kind depth make).width (blank make.kind depth make).height test
+    ≡ some_pixel (width_in (Some (bounds_of make))) (height_in (Some (bounds_of make))) test
+some_created make depth test other =
+    ap (λ w. some_pixel w (blank make.kind depth make).height test) (wide make depth other)
+    ∙ ap (λ h. some_pixel (width_in (Some (bounds_of make))) h test) (high make depth other)
 
--- a new layer is revealed as it is
-pub new_revealed : (k : Across) (depth : ℕ) (make : Make) → k.bounds ≡ None → k.new_bounds ≡ Some (bounds_of make) → revealed k (new_layer depth make None None) ≡ new_layer depth make None None
-new_revealed k depth make none some =
-    go (is_super make.kind) refl
+-- what is created isn't damaged
+undamaged : (b counted was : Bool) → counted ≡ false → (b && (if counted then was else false)) ≡ false
+undamaged true counted was none = rw none refl
+undamaged false counted was none = refl
+
+-- the created layer is the revealed one with pen 0 everywhere
+created_pens : (make : Make) (depth : ℕ) (window : Option Window) (shown : ℤ → ℤ → Bool) (visible : List Rectangle)
+    (active new_active : Bool) → is_super make.kind ≡ false
+    → with_other_pens (across_new make shown visible active new_active) (new_layer depth make None window) (λ x y. 0) None
+    ≡ new_layer depth make None window
+created_pens make depth window shown visible active new_active other =
+    let k = across_new make shown visible active new_active in
+    let l = new_layer depth make None window in
+    let b = blank make.kind depth make in
+    let w = width_in (Some (bounds_of make)) in
+    let t = height_in (Some (bounds_of make)) in
+    let bits : bitmap w t b.depth (λ x y. 0) ≡ b =
+    ap (λ n. bitmap n t b.depth (λ x y. 0)) (sym (wide make depth other))
+    ∙ (ap (λ n. bitmap b.width n b.depth (λ x y. 0)) (sym (high make depth other)) ∙ blank_is make.kind depth make) in
+    let damage : (revealed_in k l).damage ≡ l.damage =
+    grid_same w t _ (λ x y. false)
+    (λ x y left low.
+    undamaged (reveal.keeps k (resized k l) x y && is_inner k l x y) (counts_as_kept k l x y) (at false l.damage x y)
+    (uncounted make shown visible active new_active l x y))
+    ∙ (ap (λ n. grid n t (λ x y. false)) (sym (wide make depth other))
+    ∙ ap (λ n. grid b.width n (λ x y. false)) (sym (high make depth other))) in
+    ap (λ q. record l { bits = q; damage = (revealed_in k l).damage }) bits ∙ ap (λ q. record l { damage = q }) damage
+
+-- What the machine reveals of a new layer, with a hook or without, is the created layer once what it gains is filled.
+pub new_revealed : (c : CellView) (make : Make) (depth : ℕ) (r : Rectangle) (visible : List Rectangle) (window : Option Window)
+    (h : Option Hook) (shown : ℤ → ℤ → Bool) (active new_active : Bool) → c.state ≡ view.Unopened → r ≡ bounds_of make
+    → revealed (across_new make shown visible active new_active) (new_layer depth make h window)
+    ≡ filled_layer h (λ x y. gains c (created c make depth r visible window) x y)
+    (gains_some c (created c make depth r visible window)) (new_layer depth make None window)
+new_revealed c make depth r visible window h shown active new_active fresh place =
+    let P : Rectangle → Type 0 = λ r.
+    revealed (across_new make shown visible active new_active) (new_layer depth make h window)
+    ≡ filled_layer h (λ x y. gains c (created c make depth r visible window) x y)
+    (gains_some c (created c make depth r visible window)) (new_layer depth make None window) in
+    subst P (sym place)
+    (⊎_elim (λ (own : is_super make.kind ≡ true). whole own) (λ (other : is_super make.kind ≡ false). part other)
+    (cases_Bool (is_super make.kind)))
   where
+    to : CellView
+    to = created c make depth (bounds_of make) visible window
+
     l : Layer
-    l = new_layer depth make None None
+    l = new_layer depth make None window
 
-    after : Layer
-    after = resized k l
+    q : Across
+    q = across_new make shown visible active new_active
 
-    dead : was_live k ≡ false
-    dead = ap has_bounds none
+    on : ℕ → ℕ → Bool
+    on x y = gains c to x y
 
-    columns : width_in k.new_bounds ≡ unsigned_abs make.w
-    columns = ap width_in some ∙ ap unsigned_abs (extent make.x make.w)
+    whole : is_super make.kind ≡ true → revealed q (with_hook h l) ≡ filled_layer h on (gains_some c to) l
+    whole own =
+        let none : (x y : ℕ) → on x y ≡ false = λ x y. none_gained c to x y own in
+        revealed_super q (with_hook h l) own
+        ∙ sym (unfilled l h on (gains_some c to) (new_bitmap make.kind depth make) none
+        (none_passes l.bits.width l.bits.height on none))
 
-    rows : height_in k.new_bounds ≡ unsigned_abs make.h
-    rows = ap height_in some ∙ ap unsigned_abs (extent make.y make.h)
-
-    go : (own : Bool) → is_super make.kind ≡ own → revealed k l ≡ l
-    go true own = revealed_super k l own
-    go false own =
-        let bits : (with_revealed k l after).bits ≡ l.bits =
-        blank_by make.kind depth make (width_in k.new_bounds) (height_in k.new_bounds) _ own columns rows
-        (λ x y. filled (keeps k after x y) (counts_as_kept k l x y) (pen_at l.bits x y) (uncounted k l x y dead))
-        in
-        let damage : (with_revealed k l after).damage ≡ l.damage =
-        undamaged_by make.kind depth make (width_in k.new_bounds) (height_in k.new_bounds) _ own columns rows
-        (λ x y. undamaged (keeps k after x y && is_inner k l x y) (counts_as_kept k l x y) (at false l.damage x y) (was_live k) (uncounted k l x y dead) dead)
-        in
-        revealed_plain k l own ∙ (ap (λ b. record l { bits = b; damage = (with_revealed k l after).damage }) bits ∙ ap (λ t. record l { damage = t }) damage)
+    part : is_super make.kind ≡ false → revealed q (with_hook h l) ≡ filled_layer h on (gains_some c to) l
+    part other =
+        revealed_filled q l h on (gains_some c to) (λ x y. 0) None other
+        (λ x y. gains_created c make depth window shown visible active new_active x y fresh other)
+        (some_created make depth on other)
+        (record {
+          stays = λ x y kept counts. absurd (cc (uncounted make shown visible active new_active l x y, counts));
+          off = λ x y unkept. refl;
+        })
+        ∙ ap (filled_layer h on (gains_some c to)) (created_pens make depth window shown visible active new_active other)

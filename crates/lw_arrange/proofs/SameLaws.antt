@@ -1,17 +1,18 @@
 -- What a comparison of rectangles, and of lists of them, tells.
-use Rattle.std.proofs.Common.{◌≡◌, Bool, true, ◌&&◌, List, sym, ap, ◌∙◌}
+use Rattle.std.proofs.Common.{◌≡◌, Bool, true, ◌&&◌, List, sym, ap, ◌∙◌, ℤ}
 use Rattle.std.specs.Bool.{Decides}
 use Rattle.std.specs.Ordering.{int_eq}
 use Rattle.std.specs.Cmp.Lexicographic.{pointwise}
 use Rattle.std.proofs.lemmas.Bool.{and_from}
 use Rattle.std.proofs.lemmas.Slice.Eq.{slice_eq-Decides}
 use Rattle.lw_region.specs.Rectangle.{Rectangle}
+use Rattle.lw_region.specs.Bands.{covers}
 use Rattle.lw_region.proofs.Numbers.{eq_true}
 use Rattle.lw_layer.specs.View.{CellView, with_live}
 use Rattle.lw_layer.specs.Pieces.{IsDamageOf}
 use Rattle.lw_layer.specs.StandsFor.{IsSound}
-use Rattle.lw_damage.specs.Damaged.{Damaged}
-use Rattle.lw_reveal.specs.Changed.{revealed_to}
+use Rattle.lw_damage.specs.Damaged.{Damaged, may_lie}
+use Rattle.lw_reveal.specs.Changed.{carried_to}
 use Rattle.lw_reveal.proofs.PairingLaws.{edges_same}
 use Rattle.lw_reveal.proofs.RevealLaws.{revealed_same}
 
@@ -31,10 +32,10 @@ pub same_list : (shown listed : List Rectangle) (u : Bool) → u ≡ pointwise s
 same_list shown listed u u_is u_true = (slice_eq-Decides edges_decide shown listed u u_is).0 u_true
 
 -- A layer whose bounds and visible rectangles are the new ones is revealed as it is.
-pub stays_same : (c : CellView) (d : Damaged) (former bounds : Rectangle) (shown listed visible : List Rectangle) (t u : Bool) → IsSound c.live → IsDamageOf c.live d → former ≡ c.live.bounds → shown ≡ c.live.visible
-    → t ≡ same_edges former bounds → t ≡ true → listed ≡ visible → u ≡ pointwise same_edges shown listed → u ≡ true → with_live (λ q. revealed_to bounds visible q) c ≡ c
-stays_same c d former bounds shown listed visible t u sound damage former_is shown_is t_is t_true listed_is u_is u_true =
+pub stays_same : (c : CellView) (d : Damaged) (former bounds : Rectangle) (shown listed visible : List Rectangle) (t u : Bool) → IsSound c.live → IsDamageOf c.live d → ((x y : ℤ) → covers d.rects x y ≡ true → may_lie d.inner x y ≡ true) → former ≡ c.live.bounds → shown ≡ c.live.visible
+    → t ≡ same_edges former bounds → t ≡ true → listed ≡ visible → u ≡ pointwise same_edges shown listed → u ≡ true → with_live (λ q. carried_to bounds visible q) c ≡ c
+stays_same c d former bounds shown listed visible t u sound damage lies former_is shown_is t_is t_true listed_is u_is u_true =
     let place : c.live.bounds ≡ bounds = sym former_is ∙ edges_same former bounds (sym t_is ∙ t_true) in
     let list : c.live.visible ≡ visible = sym shown_is ∙ (same_list shown listed u u_is u_true ∙ listed_is) in
-    ap (λ b. with_live (λ q. revealed_to b visible q) c) (sym place) ∙
-    (ap (λ v. with_live (λ q. revealed_to c.live.bounds v q) c) (sym list) ∙ ap (λ q. record c { live = q }) (revealed_same c.live d sound damage))
+    ap (λ b. with_live (λ q. carried_to b visible q) c) (sym place) ∙
+    (ap (λ v. with_live (λ q. carried_to c.live.bounds v q) c) (sym list) ∙ ap (λ q. record c { live = q }) (revealed_same c.live d sound damage lies))

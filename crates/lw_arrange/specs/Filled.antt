@@ -1,20 +1,19 @@
 -- What backfill hooks make of an arrangement (the manual's Layers Library chapter: a hook fills what a layer gains; which pixels
 -- these are, and that a hook turns, are this project's own). A cell has no hook of its own: its layer's hook lies beside it.
-use Rattle.std.specs.Prelude.{◌≡◌, ℕ, Bool, false, not, ◌&&◌, List, ℤ, pos, Option, Some, None}
+use Rattle.std.specs.Prelude.{◌≡◌, ℕ, Bool, false, not, ◌&&◌, ◌||◌, List, ℤ, pos, Option, Some, None}
 use Rattle.lw_region.specs.Rectangle.{Rectangle}
 use Rattle.lw_region.specs.Bands.{covers}
-use Rattle.lw_calls.specs.declared.make.Make.{Make}
-use Rattle.lw_calls.specs.declared.call.Call.{Call}
 use Rattle.lw_calls.specs.Kinds.{is_super}
-use Rattle.lw_machine.specs.Hook.{Hook, hook_pen}
-use Rattle.lw_machine.specs.Layer.{Layer}
-use Rattle.lw_machine.specs.Kept.{holds_at}
-use Rattle.lw_machine.specs.Paint.{pen_within, with_pens}
+use Rattle.lw_machine.specs.Hook.{Hook}
+use Rattle.lw_machine.specs.Layer.{Layer, is_framed}
+use Rattle.lw_machine.specs.Kept.{holds_at, in_inner}
+use Rattle.lw_machine.specs.Paint.{with_pens}
 use Rattle.lw_machine.specs.Arrangement.{hook_from}
-use Rattle.lw_machine.specs.Reveal.{some_pixel, hook_after}
+use Rattle.lw_machine.specs.Reveal.{some_pixel, fill_pen, hook_after}
 use Rattle.lw_layer.specs.View.{State, LiveView, CellView, keeps, with_layer, with_live}
 use Rattle.lw_layer.specs.View as view
-use Rattle.lw_arrange.specs.Prepared.{asked_for}
+use Rattle.lw_layer.specs.Pieces.{columns, lines}
+use Rattle.lw_arrange.specs.Prepared.{Created}
 
 -- a live layer keeps the pixel
 abbrev pub keeps_if_live : State → LiveView → ℕ → ℕ → Bool
@@ -22,12 +21,23 @@ keeps_if_live view.Unopened c x y = false
 keeps_if_live view.Live c x y = keeps c x y
 keeps_if_live view.Closed c x y = false
 
--- The layer pixels that an arrangement fills, which makes one cell of the other: those that the layer keeps afterwards and didn't
--- keep before, and none of a super-bitmap layer.
+-- the pixel lies in the live layer's inner rectangle
+abbrev pub is_inside : LiveView → ℕ → ℕ → Bool
+is_inside c x y = in_inner (is_framed c.layer.window) (columns c.bounds) (lines c.bounds) x y
+
+-- The pixel counts as kept before: a live layer kept it, and in a framed window whose size changes it isn't one of the old frame that
+-- lies in the new inner rectangle.
+abbrev pub counts_if_live : State → LiveView → LiveView → ℕ → ℕ → Bool
+counts_if_live view.Unopened c to x y = false
+counts_if_live view.Live c to x y = keeps c x y && (is_inside c x y || not (is_framed c.layer.window && is_inside to x y))
+counts_if_live view.Closed c to x y = false
+
+-- The layer pixels that an arrangement fills, which makes one cell of the other: those that the layer keeps afterwards and that don't
+-- count as kept before, and none of a super-bitmap layer.
 abbrev pub gains : CellView → CellView → ℕ → ℕ → Bool
 gains from to x y =
     not (is_super to.live.layer.kind)
-    && (keeps_if_live to.state to.live x y && not (keeps_if_live from.state from.live x y))
+    && (keeps_if_live to.state to.live x y && not (counts_if_live from.state from.live to.live x y))
 
 -- these rectangles have the pixels that it fills, in layer coordinates
 abbrev pub AreGained : CellView → CellView → List Rectangle → Type 0
@@ -37,27 +47,23 @@ AreGained from to rects = (x y : ℤ) → covers rects x y ≡ holds_at (λ i j.
 abbrev pub gains_some : CellView → CellView → Bool
 gains_some from to = some_pixel to.live.layer.bits.width to.live.layer.bits.height (λ x y. gains from to x y)
 
--- the layer with the hook's pens on these pixels
-abbrev pub with_hook_pens : Hook → (ℕ → ℕ → Bool) → Layer → Layer
-with_hook_pens h on l = with_pens on (λ x y. pen_within l.bits.depth (hook_pen h (pos x) (pos y))) l
-
--- The layer with this hook, once the hook filled these pixels: they have its pens, and if some were filled it is turned.
+-- The layer with this hook, if it has one, once these pixels were filled: they have the hook's pens, or pen 0 without one, and if
+-- some were filled the hook is turned.
 abbrev pub filled_layer : Option Hook → (ℕ → ℕ → Bool) → Bool → Layer → Layer
-filled_layer None on some l = record l { hook = None }
-filled_layer (Some h) on some l = record (with_hook_pens h on l) { hook = hook_after some (Some h) }
+filled_layer h on some l = record (with_pens on (λ x y. fill_pen l.bits.depth h x y) l) { hook = hook_after some h }
 
 -- the cell whose layer has this hook, once the hook filled these pixels
 abbrev pub filled_by : Option Hook → (ℕ → ℕ → Bool) → Bool → CellView → CellView
 filled_by h on some c = with_live (λ k. with_layer (λ l. filled_layer h on some l) k) c
 
 -- the hook on the shelf that a new layer asks for, if a layer is created and asks for one
-abbrev pub hook_asked : (ℕ → Option Hook) → Option Make → Option Hook
+abbrev pub hook_asked : (ℕ → Option Hook) → Option Created → Option Hook
 hook_asked shelf None = None
-hook_asked shelf (Some make) = hook_from shelf make.hook
+hook_asked shelf (Some n) = hook_from shelf n.make.hook
 
 -- The hook of a slot's layer before it fills, by the slot's state and hook before the arrangement: a new layer takes the one from
 -- the shelf that its call asks for, and any other keeps its own.
-abbrev pub hook_of_slot : (ℕ → Option Hook) → Call → Option Hook → State → Option Hook
-hook_of_slot shelf call h view.Unopened = hook_asked shelf (asked_for call)
-hook_of_slot shelf call h view.Live = h
-hook_of_slot shelf call h view.Closed = h
+abbrev pub hook_of_slot : (ℕ → Option Hook) → Option Created → Option Hook → State → Option Hook
+hook_of_slot shelf new h view.Unopened = hook_asked shelf new
+hook_of_slot shelf new h view.Live = h
+hook_of_slot shelf new h view.Closed = h

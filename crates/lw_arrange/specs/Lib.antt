@@ -5,4 +5,6 @@ pub mod Planning
 pub mod Steps
 pub mod Prepared
 pub mod Filled
+pub mod Framed
+pub mod Settled
 pub mod Made

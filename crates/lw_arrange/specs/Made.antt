@@ -3,7 +3,7 @@ use Rattle.std.specs.Prelude.{◌≡◌}
 use Rattle.lw_layer.specs.View.{CellView, with_live}
 use Rattle.lw_layer.specs.View as view
 use Rattle.lw_layer.specs.Drafts.{IsLiveDraft, live_view, no_layer}
-use Rattle.lw_reveal.specs.Changed.{revealed_to}
+use Rattle.lw_reveal.specs.Changed.{carried_to}
 use Rattle.lw_reveal.specs.Changes.{IsChange}
 use Rattle.lw_arrange.specs.declared.preparing.Prepared.{Prepared}
 use Rattle.lw_arrange.specs.declared.preparing.Prepared.TheVariants.{Stays, Closes, Opens, Changes}
@@ -15,4 +15,4 @@ IsPrepared from to Closes = (from.state ≡ view.Live) × (to ≡ record { numbe
 IsPrepared from to (Opens d) =
     (from.state ≡ view.Unopened) × IsLiveDraft d × (to ≡ record { number = from.number; state = view.Live; live = live_view d })
 IsPrepared from to (Changes k) =
-    (from.state ≡ view.Live) × IsChange from.live k × (to ≡ with_live (λ c. revealed_to k.bounds k.parts.visible c) from)
+    (from.state ≡ view.Live) × IsChange from.live k × (to ≡ with_live (λ c. carried_to k.bounds k.parts.visible c) from)

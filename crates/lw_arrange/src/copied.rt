@@ -39,7 +39,8 @@ pub(crate) fn copied(alloc: Global, call: &Call) -> Result<Call, AllocError>
     }
 }
 
-fn copied_text(alloc: Global, text: &Text) -> Result<Text, AllocError>
+/// A copy of a text.
+pub(crate) fn copied_text(alloc: Global, text: &Text) -> Result<Text, AllocError>
     ensures { IfOk result (λ copy. copy ≡ text.now) }
 {
     Ok(Text::new(Vec::from_slice(alloc, text.bytes())?))

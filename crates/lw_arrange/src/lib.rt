@@ -15,7 +15,7 @@ mod preparing;
 mod refused;
 
 pub use arrangement::{Arrangement, Step};
-pub use gaining::gained;
+pub use gaining::{gained, gains_frame};
 pub use plan::plan_step;
 pub use prepared_info::{PreparedInfo, commit_info, prepare_info};
 pub use preparing::{Prepared, commit, prepare};

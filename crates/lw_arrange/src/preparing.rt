@@ -2,18 +2,21 @@
 
 ghost use Rattle.std.specs.Prelude.{◌≡◌, ◌<◌, Some, IfOk};
 ghost use Rattle.lw_cliprects.specs.Parts.{LieIn};
+ghost use Rattle.lw_machine.specs.Arrangement.{new_window};
 ghost use Rattle.lw_layer.specs.View as view;
 ghost use Rattle.lw_layer.specs.View.{CellView, with_live};
-ghost use Rattle.lw_layer.specs.Drafts.{IsState, state_of, live_of};
+ghost use Rattle.lw_layer.specs.Drafts.{IsState, state_of, live_of, window_of, room_of};
 ghost use Rattle.lw_layer.specs.StandsFor.{IsSound};
 ghost use Rattle.lw_stack.specs.Stack.{bounds_at};
-ghost use Rattle.lw_reveal.specs.Changed.{revealed_to, MayHave};
-ghost use Rattle.lw_arrange.specs.Prepared.{asked_for, opened, without_layer, with_bounds, shown_at, cell_after, MayOpen, MayBecome, MayPrepare};
+ghost use Rattle.lw_reveal.specs.Changed.{carried_to, MayHave};
+ghost use Rattle.lw_arrange.specs.Prepared.{created_by, opened, without_layer, with_bounds, shown_at, cell_after, MayOpen, MayBecome, MayPrepare};
 ghost use Rattle.lw_arrange.specs.Made.{IsPrepared};
 
 use crate::arrangement::Arrangement;
-use lw_calls::Call;
-use lw_layer::{Cell, Draft, DraftState, LiveDraft};
+use crate::copied::copied_text;
+use lw_calls::{Call, Text};
+use lw_layer::{Cell, Draft, DraftState, LiveDraft, WindowDraft};
+use lw_ports::{MessageSet, Port};
 use lw_region::{Rect, Region};
 use lw_reveal::{Change, apply};
 use std::alloc::{AllocError, Global};
@@ -68,8 +71,8 @@ fn with_bounds(
 ) -> Result<Prepared, AllocError>
     requires slot { cell.now.number < arrangement.now.stack.sizes.slots }
     requires bounds { bounds_at arrangement.now.stack.bounds cell.now.number ≡ Some bounds.now }
-    requires may { MayBecome (asked_for arrangement.now.call) arrangement.now.stack.sizes.depth bounds.now (shown_at arrangement.now cell.now.number) cell.now cell.now.state }
-    ensures { IfOk result (λ prepared. IsPrepared cell.now (with_bounds (asked_for arrangement.now.call) arrangement.now.stack.sizes.depth bounds.now (shown_at arrangement.now cell.now.number) cell.now cell.now.state) prepared) }
+    requires may { MayBecome (created_by arrangement.now.task arrangement.now.call) arrangement.now.stack.sizes.depth bounds.now (shown_at arrangement.now cell.now.number) cell.now cell.now.state }
+    ensures { IfOk result (λ prepared. IsPrepared cell.now (with_bounds (created_by arrangement.now.task arrangement.now.call) arrangement.now.stack.sizes.depth bounds.now (shown_at arrangement.now cell.now.number) cell.now cell.now.state) prepared) }
 {
     // Reading the sizes tells the proof what holds of the plan.
     let _ = arrangement.sizes();
@@ -88,19 +91,55 @@ fn created(
     bounds: &Rect,
     visible: &Region,
 ) -> Result<Prepared, AllocError>
-    requires may { MayOpen (asked_for arrangement.now.call) arrangement.now.stack.sizes.depth bounds.now }
+    requires may { MayOpen (created_by arrangement.now.task arrangement.now.call) arrangement.now.stack.sizes.depth bounds.now }
     requires inside { LieIn bounds.now visible.now }
     requires fresh { cell.now.state ≡ view.Unopened }
-    ensures { IfOk result (λ prepared. IsPrepared cell.now (record { number = cell.now.number; state = view.Live; live = opened (asked_for arrangement.now.call) arrangement.now.stack.sizes.depth bounds.now visible.now }) prepared) }
+    ensures { IfOk result (λ prepared. IsPrepared cell.now (record { number = cell.now.number; state = view.Live; live = opened (created_by arrangement.now.task arrangement.now.call) arrangement.now.stack.sizes.depth bounds.now visible.now }) prepared) }
 {
+    let depth = arrangement.sizes().depth;
     match arrangement.call() {
         Call::Create { make, .. } => {
-            let depth = arrangement.sizes().depth;
-            let draft = LiveDraft::new(alloc, make, depth, bounds, visible)?;
+            let draft = LiveDraft::new(alloc, make, depth, bounds, visible, None)?;
+            Ok(Prepared::Opens(draft))
+        }
+        Call::OpenWindow {
+            make,
+            framed,
+            nocare,
+            asks,
+            title,
+            ..
+        } => {
+            let window = opened_window(alloc, arrangement.task(), *framed, *nocare, *asks, title)?;
+            let draft = LiveDraft::new(alloc, make, depth, bounds, visible, Some(window))?;
             Ok(Prepared::Opens(draft))
         }
         _ => unreachable!(),
     }
+}
+
+// A window that a task opens, with a copy of its title: nothing was told to its port.
+fn opened_window(
+    alloc: Global,
+    task: u32,
+    framed: bool,
+    nocare: bool,
+    asks: u8,
+    title: &Text,
+) -> Result<WindowDraft, AllocError>
+    requires { asks < 32 }
+    ensures window { IfOk result (λ w. window_of (Some w) ≡ Some (new_window task framed nocare asks title.now)) }
+    ensures room { IfOk result (λ w. room_of (Some w) ≡ 0) }
+{
+    Ok(WindowDraft {
+        owner: task,
+        framed,
+        title: copied_text(alloc, title)?,
+        nocare,
+        set: MessageSet::from_classes(asks),
+        port: Port::new(alloc),
+        asked: false,
+    })
 }
 
 // A layer that stays live, from these former bounds to its new ones.
@@ -115,10 +154,10 @@ fn changed(
     requires former { former.now ≡ cell.now.live.bounds }
     requires sound { IsSound cell.now.live }
     requires may { MayHave cell.now.live bounds.now visible.now }
-    ensures { IfOk result (λ prepared. IsPrepared cell.now (with_live (λ c. revealed_to bounds.now visible.now c) cell.now) prepared) }
+    ensures { IfOk result (λ prepared. IsPrepared cell.now (with_live (λ c. carried_to bounds.now visible.now c) cell.now) prepared) }
 {
-    // Reading the damage tells the proof that it lies on kept pixels.
-    let _ = cell.damage();
+    // Reading the damage tells the proof that it lies on kept pixels of the inner rectangle.
+    let _ = cell.damage().region();
     if former == bounds && cell.visible() == visible.rects() {
         return Ok(Prepared::Stays);
     }
@@ -146,3 +185,6 @@ fn replace(cell: &mut Cell, state: DraftState)
     let slot = cell.slot();
     cell.take_up(Draft { slot, state });
 }
+
+#[cfg(test)]
+mod tests;

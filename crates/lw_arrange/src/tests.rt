@@ -364,6 +364,16 @@ fn windows_are_activated_and_closed_by_their_task(rt: HostRuntime) -> Result<(),
     let alloc = rt.alloc();
     assert!(rt; answers(alloc, 1, &Call::Activate { slot: 0 }, Want::NotWindow)?);
     assert!(rt; answers(alloc, 1, &Call::Activate { slot: 1 }, Want::Active(Some(1)))?);
+    assert!(rt;
+        answers(
+            alloc,
+            1,
+            &Call::Activate { slot: 1 },
+            Want::Order(&[1, 0, 2])
+        )?
+    );
+    let still = Want::Bounds(1, [4, 2, 15, 17]);
+    assert!(rt; answers(alloc, 1, &Call::Activate { slot: 1 }, still)?);
     assert!(rt; answers(alloc, 1, &Call::Close { slot: 1 }, Want::NotOwner)?);
     assert!(rt; answers(alloc, 0, &Call::Close { slot: 1 }, Want::Order(&[0, 2]))?);
     assert!(rt; answers(alloc, 0, &Call::Close { slot: 1 }, Want::Active(None))?);
@@ -409,18 +419,44 @@ fn new_layers_take_their_place(rt: HostRuntime) -> Result<(), Fail> {
     Ok(())
 }
 
-#[test]
-fn a_low_window_with_a_frame_is_refused(rt: HostRuntime) -> Result<(), Fail> {
-    let alloc = rt.alloc();
-    let low = Call::OpenWindow {
+/// A window of 9 columns and `h` rows, with a frame or without.
+fn window(alloc: Global, h: i32, framed: bool) -> Call
+    ensures { class_of result ≡ OnAll }
+{
+    let mut make = make(Place::Front, false, 0, 9);
+    make.h = h;
+    Call::OpenWindow {
         slot: 3,
-        make: make(Place::Front, false, 0, 9),
-        framed: true,
+        make,
+        framed,
         nocare: false,
         asks: 0,
         title: Text::new(Vec::new(alloc)),
-    };
-    assert!(rt; answers(alloc, 1, &low, Want::OutOfBounds)?);
+    }
+}
+
+#[test]
+fn a_low_window_with_a_frame_is_refused(rt: HostRuntime) -> Result<(), Fail> {
+    let alloc = rt.alloc();
+    assert!(rt; answers(alloc, 1, &window(alloc, 13, true), Want::OutOfBounds)?);
+    assert!(rt;
+        answers(
+            alloc,
+            1,
+            &window(alloc, 13, false),
+            Want::Order(&[3, 1, 0, 2])
+        )?
+    );
+    Ok(())
+}
+
+#[test]
+fn a_new_window_is_in_front_and_not_active(rt: HostRuntime) -> Result<(), Fail> {
+    let alloc = rt.alloc();
+    let call = window(alloc, 14, true);
+    assert!(rt; answers(alloc, 1, &call, Want::Order(&[3, 1, 0, 2]))?);
+    assert!(rt; answers(alloc, 1, &call, Want::Bounds(3, [0, 0, 8, 13]))?);
+    assert!(rt; answers(alloc, 1, &call, Want::Active(Some(1)))?);
     Ok(())
 }
 

@@ -216,7 +216,7 @@ fn draft_of(alloc: Global, kind: Kind, damage: &[[i16; 4]]) -> Result<Draft, Fai
         bits_w: 16,
         bits_h: 4,
     };
-    let live = LiveDraft::new(alloc, &make, 2, &bounds, &visible)?;
+    let live = LiveDraft::new(alloc, &make, 2, &bounds, &visible, None)?;
     let live = updating(alloc, live, damage)?;
     Ok(Draft {
         slot: 0,

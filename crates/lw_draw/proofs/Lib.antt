@@ -1,11 +1,13 @@
 pub mod CombineLaws
 pub mod DrawnLaws
 pub mod DrawnLines
+pub mod LimitLaws
 pub mod LineLaws
 pub mod PaintLaws
 pub mod PixelLaws
 pub mod QuotientLaws
 pub mod RastLaws
+pub mod RectangleLaws
 pub mod RowSpanLaws
 pub mod SpanLaws
 pub mod StepLaws

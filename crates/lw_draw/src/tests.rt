@@ -338,7 +338,7 @@ fn draft_of(alloc: Global, kind: Kind, damage: &[[i16; 4]]) -> Result<Draft, Fai
         bits_w: 20,
         bits_h: 3,
     };
-    let live = LiveDraft::new(alloc, &make, 2, &bounds, &visible)?;
+    let live = LiveDraft::new(alloc, &make, 2, &bounds, &visible, None)?;
     let live = updating(alloc, live, damage)?;
     Ok(Draft {
         slot: 0,

@@ -1,8 +1,8 @@
 -- What a call on all layers makes of LayerInfo and the cells, in every desk for which they stand.
-use Rattle.std.proofs.Common.{◌≡◌, ◌↔◌, ℕ, ◌<◌, ◌==◌, Bool, true, false, List, length, Option, Some, None, Result, Ok, Err, IfOk, OnErr, IsTrue, refl, sym, ap, subst, ◌∙◌, arith}
+use Rattle.std.proofs.Common.{◌≡◌, ◌↔◌, ℕ, ◌<◌, ◌==◌, Bool, true, false, List, length, map, Option, Some, None, Result, Ok, Err, IfOk, OnErr, IsTrue, refl, sym, ap, subst, ◌∙◌, arith}
 use Rattle.std.specs.Prelude.{if◌then◌else◌}
 use Rattle.std.specs.List.{slice_index_or}
-use Rattle.std.proofs.lemmas.Bool.{and_parts, ltb-true}
+use Rattle.std.proofs.lemmas.Bool.{and_parts, ltb-true, eqb-true}
 use Rattle.lw_region.specs.Rectangle.{Rectangle}
 use Rattle.lw_calls.specs.declared.call.Call.{Call}
 use Rattle.lw_calls.specs.declared.call.Call.TheVariants.{Create, OpenWindow, Close, ToFront, ToBack, InFrontOf, MoveBy, SizeBy, SetBox, Activate, Blit}
@@ -11,9 +11,11 @@ use Rattle.lw_calls.specs.declared.reply.Reply.TheVariants.{Done}
 use Rattle.lw_calls.specs.declared.sizes.Sizes.{Sizes}
 use Rattle.lw_calls.specs.Limits.{call_fits}
 use Rattle.lw_calls.specs.Plan.{is_all}
-use Rattle.lw_calls.specs.Touches.{OnAll, class_of, slots_in, slots_of}
+use Rattle.lw_calls.specs.Touches.{CallClass, OnAll, class_of, slots_in, slots_of}
+use Rattle.lw_calls.specs.declared.make.Make.{Make}
+use Rattle.lw_calls.proofs.BlitClass.{blit_not_all}
 use Rattle.lw_machine.specs.Layer.{is_live, is_unopened}
-use Rattle.lw_machine.specs.Desk.{Desk}
+use Rattle.lw_machine.specs.Desk.{Desk, is_the}
 use Rattle.lw_machine.specs.Hook.{Hook}
 use Rattle.lw_machine.specs.Arrangement.{bounds_of, hook_from, without, put_before, arranged}
 use Rattle.lw_machine.specs.Arrangement as machine
@@ -22,12 +24,14 @@ use Rattle.lw_machine.specs.Parts.{SlotPart, slot_part, info_part}
 use Rattle.lw_machine.specs.Step.{refusal, answer, after, reply, changed_unless, reply_or, effect}
 use Rattle.lw_machine.specs.Sound.{IsDesk}
 use Rattle.lw_machine.proofs.ArrangedStep.{after_is}
+use Rattle.lw_machine.proofs.LayerCallSound.{not_refused}
 use Rattle.lw_machine.proofs.ReachedSound.{step_sound, after_sizes}
 use Rattle.lw_layer.specs.View.{State, LiveView, CellView}
 use Rattle.lw_layer.specs.View as view
 use Rattle.lw_layer.specs.Looks.{IsLookAt}
 use Rattle.lw_layer.specs.Drafts.{no_layer}
 use Rattle.lw_layer.specs.StandsFor.{IsPartOf, StandsFor, IsSound}
+use Rattle.lw_layer.specs.Windows.{without_room, HasRoom}
 use Rattle.lw_layer.specs.declared.look.Look.{Look}
 use Rattle.lw_stack.specs.Stack.{Stack, bounds_at, StandsForInfo}
 use Rattle.lw_arrange.specs.Plans.{Planned, IsPlanned}
@@ -35,14 +39,16 @@ use Rattle.lw_arrange.specs.declared.arrangement.Step.{Step}
 use Rattle.lw_arrange.specs.declared.arrangement.Step.TheVariants.{Arranged}
 use Rattle.lw_arrange.specs.Arranged.{IsTold, IsFresh, AreOf, IsPlanOf, IsStepOf}
 use Rattle.lw_arrange.specs.Steps.{KeepsSizes}
-use Rattle.lw_arrange.specs.Prepared.{IsPlainCall, asked_for, without_layer, with_bounds, becomes, shown_at, cell_after, MayPrepare}
-use Rattle.lw_arrange.specs.Filled.{hook_asked, hook_of_slot}
-use Rattle.lw_arrange.proofs.StandLaws.{IsDone, cell_stands}
+use Rattle.lw_arrange.specs.Prepared.{created_by, without_layer}
+use Rattle.lw_arrange.specs.Filled.{hook_asked}
+use Rattle.lw_arrange.specs.Settled.{settled_with, settled_by}
+use Rattle.lw_arrange.proofs.StandLaws.{IsDone, IsHookAsked, there, idle_slot, slot_stands}
 use Rattle.lw_backfill.proofs.ShelfLaws.{shelf_after as without_one}
 use Rattle.lw_arrange.proofs.MayLaws.{may_prepare}
-use Rattle.lw_engine.specs.Desks.{cell_at, hook_at, AreNumbered, AreOfDesk, AreOnShelf}
-use Rattle.lw_engine.specs.Slots.{hook_in, bare, asked_hook, shelf_without, shelf_after, filled_from, slot_without, slot_with, slot_by_bounds, slot_after}
+use Rattle.lw_engine.specs.Desks.{cell_at, hook_at, AreNumbered, AreOfDesk, AreAsBefore, AreOnShelf}
+use Rattle.lw_engine.specs.Slots.{hook_in, bare, asked_hook, shelf_without, shelf_after, slot_after, MayBeReady}
 use Rattle.lw_engine.specs.Arranging.{AreLooks, IsFreshSlot, HasSlot, AreChanged, DropHooks}
+use Rattle.lw_engine.proofs.RoomLaws.{same_cell, same_length}
 
 -- what is told of a cell is told of the slot for which it stands
 told_slot : (d : Desk) (s : ℕ) (c : CellView) (k : Option Look) → StandsFor c (slot_part d s) → IsLookAt c.state c.live k → IsTold d s k
@@ -110,16 +116,15 @@ is_on_all : (call : Call) → class_of call ≡ OnAll → IsTrue (is_all (slots_
 is_on_all call all = ap (λ k. is_all (slots_in k)) all
 
 -- A plan of the desk may be done there.
-pub done_desk : (d : Desk) (v : Stack) (cells : List CellView) (task : ℕ) (call : Call) (a : Planned) → AreOfDesk v cells d → class_of call ≡ OnAll → IsTrue (call_fits v.sizes call) → IsPlainCall call → refusal d task call ≡ None → IsPlanOf d task call a → IsPlanned a → a.stack.sizes ≡ v.sizes
+pub done_desk : (d : Desk) (v : Stack) (cells : List CellView) (task : ℕ) (call : Call) (a : Planned) → AreOfDesk v cells d → class_of call ≡ OnAll → IsTrue (call_fits v.sizes call) → refusal d task call ≡ None → IsPlanOf d task call a → IsPlanned a → a.stack.sizes ≡ v.sizes
     → IsDone d task call a
-done_desk d v cells task call a are all fits plain unrefused plan planned sizes =
+done_desk d v cells task call a are all fits unrefused plan planned sizes =
     let here : IsTrue (call_fits d.sizes call) = ap (λ z. call_fits z call) are.sizes ∙ fits in
     record {
       sound = are.sound;
       settled = subst IsDesk (after_is d task call all unrefused) (step_sound d task call are.sound here);
       fits = here;
       all = all;
-      plain = plain;
       unrefused = unrefused;
       planned = planned;
       plan = plan;
@@ -165,118 +170,58 @@ made_here : (here : Bool) (given before : Option Rectangle) (r : Rectangle) → 
 made_here true given before r none some = refl
 made_here false given before r none some = absurd (cc (none, some))
 
-asked_same : (d : Desk) (task : ℕ) (call : Call) (shelf : List (Option Hook)) (n : ℕ) (r : Rectangle) → AreOnShelf shelf d → d.bounds n ≡ None → (arranged d task call).bounds n ≡ Some r → asked_hook shelf call n ≡ hook_asked d.shelf (asked_for call)
-asked_same d task (Create slot make) shelf n r hooks none some =
-    ap (λ t. if t then hook_from (hook_at shelf) make.hook else None) (made_here (n == slot) (Some (bounds_of make)) (d.bounds n) r none some) ∙ from_shelf shelf d make.hook hooks
+asked_at : (d : Desk) (shelf : List (Option Hook)) (slot n : ℕ) (make : Make) (r : Rectangle) → AreOnShelf shelf d → d.bounds n ≡ None
+    → (if n == slot then Some (bounds_of make) else d.bounds n) ≡ Some r
+    → (if n == slot then hook_from (hook_at shelf) make.hook else None) ≡ hook_from d.shelf make.hook
+asked_at d shelf slot n make r hooks none some =
+    ap (λ t. if t then hook_from (hook_at shelf) make.hook else None) (made_here (n == slot) (Some (bounds_of make)) (d.bounds n) r none some)
+    ∙ from_shelf shelf d make.hook hooks
+
+asked_same : (d : Desk) (task : ℕ) (call : Call) (shelf : List (Option Hook)) (n : ℕ) (r : Rectangle) → AreOnShelf shelf d → d.bounds n ≡ None
+    → (arranged d task call).bounds n ≡ Some r → asked_hook shelf call n ≡ hook_asked d.shelf (created_by task call)
+asked_same d task (Create slot make) shelf n r hooks none some = asked_at d shelf slot n make r hooks none some
+asked_same d task (OpenWindow slot make framed nocare asks title) shelf n r hooks none some = asked_at d shelf slot n make r hooks none some
 asked_same d task call shelf n r hooks none some = refl
 
--- what a slot that isn't live stands for doesn't depend on its layer
-dead_stands : (v w : CellView) (p : SlotPart) → v.state ≡ w.state → (v.state ≡ view.Live → ⊥) → StandsFor v p → StandsFor w p
-dead_stands v w p same dead stands = go v.state refl stands
-  where
-    go : (q : State) → v.state ≡ q → IsPartOf q v.live p → StandsFor w p
-    go view.Unopened is part = let P : State → Type 0 = λ t. IsPartOf t w.live p in subst P (sym is ∙ same) part
-    go view.Live is part = absurd (dead is)
-    go view.Closed is part = let P : State → Type 0 = λ t. IsPartOf t w.live p in subst P (sym is ∙ same) part
-
--- A slot after a planned arrangement stands for its part of the desk after it.
-slot_stands : (d : Desk) (task : ℕ) (call : Call) (a : Planned) (shelf : List (Option Hook)) (c : CellView) → IsDone d task call a → AreOnShelf shelf d → StandsFor c (slot_part d c.number) → (c.state ≡ view.Live → IsSound (bare c).live)
-    → StandsFor (slot_after a shelf c) (slot_part (settled d (arranged d task call)) c.number)
-slot_stands d task call a shelf c done hooks before sound = by_cases (bounds_at a.stack.bounds n) refl c.state refl
-  where
-    n : ℕ
-    n = c.number
-
-    b : CellView
-    b = bare c
-
-    e : CellView
-    e = cell_after a b
-
-    p : SlotPart
-    p = slot_part (settled d (arranged d task call)) n
-
-    h : Option Hook
-    h = asked_hook shelf a.call n
-
-    -- the cell and the slot afterwards, by the bounds and the state
-    dead_cell : (s : State) → bounds_at a.stack.bounds n ≡ None → c.state ≡ s → e ≡ without_layer b s
-    dead_cell s bounds state = ap (becomes (asked_for a.call) a.stack.sizes.depth (shown_at a n) b) bounds ∙ ap (without_layer b) state
-
-    live_cell : (r : Rectangle) (s : State) → bounds_at a.stack.bounds n ≡ Some r → c.state ≡ s → e ≡ with_bounds (asked_for a.call) a.stack.sizes.depth r (shown_at a n) b s
-    live_cell r s bounds state =
-        ap (becomes (asked_for a.call) a.stack.sizes.depth (shown_at a n) b) bounds
-        ∙ ap (with_bounds (asked_for a.call) a.stack.sizes.depth r (shown_at a n) b) state
-
-    dead_slot : (s : State) → bounds_at a.stack.bounds n ≡ None → c.state ≡ s → slot_after a shelf c ≡ slot_without c s
-    dead_slot s bounds state = ap (slot_by_bounds a h c) bounds ∙ ap (slot_without c) state
-
-    live_slot : (r : Rectangle) (s : State) → bounds_at a.stack.bounds n ≡ Some r → c.state ≡ s → slot_after a shelf c ≡ slot_with a h c s
-    live_slot r s bounds state = ap (slot_by_bounds a h c) bounds ∙ ap (slot_with a h c) state
-
-    state_as : (v w : CellView) → v ≡ w → v.state ≡ w.state
-    state_as v w is = ap (λ (q : CellView). q.state) is
-
-    -- what the cell stands for with a hook
-    filled : (g : Option Hook) → (e.state ≡ view.Live → g ≡ hook_of_slot d.shelf call (hook_in c) c.state) → StandsFor (filled_from b g e) p
-    filled g hook = cell_stands d task call a b (hook_in c) g done before sound hook
-
-    dead : (w : CellView) → slot_after a shelf c ≡ w → e.state ≡ w.state → (e.state ≡ view.Live → ⊥) → StandsFor (slot_after a shelf c) p
-    dead w is same off =
-        let P : CellView → Type 0 = λ v. StandsFor v p in
-        subst P (sym is) (dead_stands (filled_from b None e) w p same off (filled None (λ live. absurd (off live))))
-
-    fresh_bounds : c.state ≡ view.Unopened → d.bounds n ≡ None
-    fresh_bounds state = let Q : State → Type 0 = λ t. IsPartOf t c.live (slot_part d n) in (subst Q state before).1
-
-    by_cases : (o : Option Rectangle) → bounds_at a.stack.bounds n ≡ o → (s : State) → c.state ≡ s → StandsFor (slot_after a shelf c) p
-    by_cases None bounds view.Unopened state =
-        let is = state_as _ _ (dead_cell view.Unopened bounds state) in
-        dead c (dead_slot view.Unopened bounds state) is (λ live. cc (is, state, live))
-    by_cases None bounds view.Live state =
-        let is = state_as _ _ (dead_cell view.Live bounds state) in
-        dead (record { number = n; state = view.Closed; live = no_layer }) (dead_slot view.Live bounds state) is (λ live. cc (is, live))
-    by_cases None bounds view.Closed state =
-        let is = state_as _ _ (dead_cell view.Closed bounds state) in
-        dead c (dead_slot view.Closed bounds state) is (λ live. cc (is, state, live))
-    by_cases (Some r) bounds view.Unopened state =
-        let none : d.bounds n ≡ None = fresh_bounds state in
-        let asks : h ≡ hook_asked d.shelf (asked_for call) =
-        ap (λ q. asked_hook shelf q n) done.plan.call ∙ asked_same d task call shelf n r hooks none (done.plan.info.bounds n ∙ bounds)
-        in
-        let P : CellView → Type 0 = λ v. StandsFor v p in
-        subst P (sym (live_slot r view.Unopened bounds state)) (filled h (λ live. asks ∙ sym (ap (hook_of_slot d.shelf call (hook_in c)) state)))
-    by_cases (Some r) bounds view.Live state =
-        let P : CellView → Type 0 = λ v. StandsFor v p in
-        subst P (sym (live_slot r view.Live bounds state)) (filled (hook_in c) (λ live. sym (ap (hook_of_slot d.shelf call (hook_in c)) state)))
-    by_cases (Some r) bounds view.Closed state =
-        let is = state_as _ _ (live_cell r view.Closed bounds state) in
-        dead c (live_slot r view.Closed bounds state) is (λ live. cc (is, state, live))
+-- so it is with the hook of a slot that is opened
+asked_of_slot : (d : Desk) (task : ℕ) (call : Call) (a : Planned) (shelf : List (Option Hook)) (c : CellView) → IsDone d task call a → AreOnShelf shelf d
+    → StandsFor c (slot_part d c.number) → IsHookAsked d a c (asked_hook shelf a.call c.number)
+asked_of_slot d task call a shelf c done hooks stands fresh has =
+    let n = c.number in
+    let Q : State → Type 0 = λ t. IsPartOf t c.live (slot_part d n) in
+    let none : d.bounds n ≡ None = (subst Q fresh stands).1 in
+    let place = there (bounds_at a.stack.bounds n) has in
+    let made : created_by task call ≡ created_by a.task a.call = ap (λ t. created_by t call) (sym done.plan.task) ∙ ap (created_by a.task) (sym done.plan.call) in
+    ap (λ q. asked_hook shelf q n) done.plan.call
+    ∙ (asked_same d task call shelf n place.0 hooks none (done.plan.info.bounds n ∙ place.1) ∙ ap (hook_asked d.shelf) made)
 
 -- The shelf after a planned arrangement.
-shelf_stands : (d : Desk) (task : ℕ) (call : Call) (shelf : List (Option Hook)) → IsPlainCall call → AreOnShelf shelf d → AreOnShelf (shelf_after call shelf) (arranged d task call)
-shelf_stands d task (Create slot make) shelf plain hooks n = by_hook make.hook
-  where
-    by_hook : (o : Option ℕ) → machine.shelf_without o d.shelf n ≡ hook_at (shelf_without o shelf) n
-    by_hook None = hooks n
-    by_hook (Some k) = ap (λ q. if n == k then None else q) (hooks n) ∙ sym (without_one shelf k n)
-shelf_stands d task (OpenWindow slot make framed nocare asks title) shelf plain hooks n = absurd plain
-shelf_stands d task (InFrontOf slot other) shelf plain hooks n = either_way (slot == other)
+taken_stands : (d : Desk) (shelf : List (Option Hook)) (o : Option ℕ) → AreOnShelf shelf d → (n : ℕ) → machine.shelf_without o d.shelf n ≡ hook_at (shelf_without o shelf) n
+taken_stands d shelf None hooks n = hooks n
+taken_stands d shelf (Some k) hooks n = ap (λ q. if n == k then None else q) (hooks n) ∙ sym (without_one shelf k n)
+
+shelf_stands : (d : Desk) (task : ℕ) (call : Call) (shelf : List (Option Hook)) → AreOnShelf shelf d → AreOnShelf (shelf_after call shelf) (arranged d task call)
+shelf_stands d task (Create slot make) shelf hooks n = taken_stands d shelf make.hook hooks n
+shelf_stands d task (OpenWindow slot make framed nocare asks title) shelf hooks n = taken_stands d shelf make.hook hooks n
+shelf_stands d task (InFrontOf slot other) shelf hooks n = either_way (slot == other)
   where
     either_way : (same : Bool) → (if same then d else record d { front_to_back = put_before (λ t. t == other) slot (without slot d.front_to_back) }).shelf n ≡ hook_at shelf n
     either_way true = hooks n
     either_way false = hooks n
-shelf_stands d task call shelf plain hooks n = hooks n
+shelf_stands d task call shelf hooks n = hooks n
 
 -- Once everything is settled, LayerInfo, the slots and the shelf stand for the parts of the desk after the call.
-pub done_step : (d : Desk) (v : Stack) (shelf : List (Option Hook)) (cells new : List CellView) (looks : List (Option Look)) (task : ℕ) (call : Call) (a : Planned) → AreOfDesk v cells d → AreOnShelf shelf d → AreNumbered v.sizes.slots cells → AreLooks cells looks → IsDone d task call a → a.stack.sizes ≡ v.sizes → AreChanged (slot_after a shelf) cells new
+pub done_step : (d : Desk) (v : Stack) (shelf : List (Option Hook)) (cells new : List CellView) (task : ℕ) (call : Call) (a : Planned) → AreOfDesk v cells d
+    → AreOnShelf shelf d → AreNumbered v.sizes.slots cells → IsDone d task call a → a.stack.sizes ≡ v.sizes
+    → AreChanged (slot_after d.assets.glyphs a shelf) cells new
     → (Done ≡ reply d task call) × AreOfDesk a.stack new (after d task call) × AreOnShelf (shelf_after a.call shelf) (after d task call)
-done_step d v shelf cells new looks task call a are hooks numbered truth done sizes changed =
+done_step d v shelf cells new task call a are hooks numbered done sizes changed =
     let e = settled d (arranged d task call) in
     let P : Desk → Type 0 = λ q. AreOfDesk a.stack new q in
     let H : Desk → Type 0 = λ q. AreOnShelf (shelf_after a.call shelf) q in
     let G : Call → Type 0 = λ q. AreOnShelf (shelf_after q shelf) e in
-    let info : StandsForInfo a.stack (info_part e) = record { front_to_back = done.plan.info.front_to_back; bounds = done.plan.info.bounds; active = done.plan.info.active } in
+    let info : StandsForInfo a.stack (info_part e) =
+    record { front_to_back = done.plan.info.front_to_back; bounds = done.plan.info.bounds; active = done.plan.info.active } in
     let later : e.sizes ≡ a.stack.sizes =
     sym (ap (λ (q : Desk). q.sizes) (after_is d task call done.all done.unrefused)) ∙ (after_sizes d task call ∙ (are.sizes ∙ sym sizes))
     in (
@@ -288,7 +233,7 @@ done_step d v shelf cells new looks task call a are hooks numbered truth done si
             info = info;
             slots = λ s below. slot_then s (omega (arith, ap (λ (z : Sizes). z.slots) sizes, below));
           }),
-      subst H (sym (after_is d task call done.all done.unrefused)) (subst G (sym done.plan.call) (shelf_stands d task call shelf done.plain hooks)),
+      subst H (sym (after_is d task call done.all done.unrefused)) (subst G (sym done.plan.call) (shelf_stands d task call shelf hooks)),
     )
   where
     slot_then : (s : ℕ) → s < v.sizes.slots → StandsFor (cell_at new s) (slot_part (settled d (arranged d task call)) s)
@@ -296,24 +241,70 @@ done_step d v shelf cells new looks task call a are hooks numbered truth done si
         let c = cell_at cells s in
         let number : c.number ≡ s = numbered.numbers s low in
         let below : s < length cells = omega (arith, numbered.many, low) in
-        let before : StandsFor c (slot_part d c.number) = let P : ℕ → Type 0 = λ n. StandsFor c (slot_part d n) in subst P (sym number) (are.slots s low) in
-        let stands = slot_stands d task call a shelf c done hooks before (truth.each s below).sound in
-        let Q : ℕ → Type 0 = λ n. StandsFor (slot_after a shelf c) (slot_part (settled d (arranged d task call)) n) in
+        let before : StandsFor c (slot_part d c.number) =
+        let P : ℕ → Type 0 = λ n. StandsFor c (slot_part d n) in subst P (sym number) (are.slots s low) in
+        let stands = slot_stands d task call a c (asked_hook shelf a.call c.number) done before (asked_of_slot d task call a shelf c done hooks before) in
+        let Q : ℕ → Type 0 = λ n. StandsFor (slot_after d.assets.glyphs a shelf c) (slot_part (settled d (arranged d task call)) n) in
         let R : CellView → Type 0 = λ q. StandsFor q (slot_part (settled d (arranged d task call)) s) in
         subst R (sym (changed.each s below)) (subst Q number stands)
 
--- Each slot's cell may be prepared.
-pub cells_may : (d : Desk) (v : Stack) (cells : List CellView) (looks : List (Option Look)) (task : ℕ) (call : Call) (a : Planned) → AreOfDesk v cells d → AreNumbered v.sizes.slots cells → AreLooks cells looks → IsDone d task call a → (s : ℕ) → s < length cells → MayPrepare a (bare (cell_at cells s))
-cells_may d v cells looks task call a are numbered truth done s below =
+-- no slot without a layer becomes the active window
+idle_either : (d : Desk) (same : Bool) (order : List ℕ) (n : ℕ) → is_the d.active n ≡ false
+    → is_the (if same then d else record d { front_to_back = order }).active n ≡ false
+idle_either d true order n idle = idle
+idle_either d false order n idle = idle
+
+idle_without : (slot n : ℕ) (active : Option ℕ) (t : Bool) → is_the active n ≡ false → is_the (if t then None else active) n ≡ false
+idle_without slot n active true idle = refl
+idle_without slot n active false idle = idle
+
+idle_arranged : (d : Desk) (task : ℕ) (call : Call) (n : ℕ) → class_of call ≡ OnAll → refusal d task call ≡ None → is_live (d.slot n) ≡ false
+    → is_the d.active n ≡ false → is_the (arranged d task call).active n ≡ false
+idle_arranged d task (Create slot make) n all done dead idle = idle
+idle_arranged d task (OpenWindow slot make framed nocare asks title) n all done dead idle = idle
+idle_arranged d task (Close slot) n all done dead idle = idle_without slot n d.active (is_the d.active slot) idle
+idle_arranged d task (ToFront slot) n all done dead idle = idle
+idle_arranged d task (ToBack slot) n all done dead idle = idle
+idle_arranged d task (InFrontOf slot other) n all done dead idle = idle_either d (slot == other) _ n idle
+idle_arranged d task (MoveBy slot dx dy) n all done dead idle = idle
+idle_arranged d task (SizeBy slot dw dh) n all done dead idle = idle
+idle_arranged d task (SetBox slot x y w h) n all done dead idle = idle
+idle_arranged d task (Activate slot) n all done dead idle = apart (slot == n) refl
+  where
+    live : is_live (d.slot slot) ≡ true
+    live = (not_refused (is_live (d.slot slot)) _ _ done).0
+
+    apart : (t : Bool) → (slot == n) ≡ t → t ≡ false
+    apart true is = absurd (cc (ap (λ k. is_live (d.slot k)) (eqb-true slot n is), live, dead))
+    apart false is = refl
+idle_arranged d task (Blit source slot area) n all done dead idle =
+    absurd (blit_not_all (source == slot) source slot (ap (λ (k : CallClass). is_all (slots_in k)) all))
+idle_arranged d task call n all done dead idle = absurd (cc all)
+
+-- Each slot's cell may be made ready.
+pub cells_may : (d : Desk) (v : Stack) (cells : List CellView) (task : ℕ) (call : Call) (a : Planned) → AreOfDesk v cells d → AreNumbered v.sizes.slots cells
+    → IsDone d task call a → ((s : ℕ) → s < length cells → (cell_at cells s).state ≡ view.Live → IsSound (bare (cell_at cells s)).live)
+    → ((s : ℕ) → s < length cells → HasRoom 5 (cell_at cells s)) → (s : ℕ) → s < length cells → MayBeReady a (cell_at cells s)
+cells_may d v cells task call a are numbered done sound room s below =
     let c = cell_at cells s in
     let low : s < v.sizes.slots = omega (arith, numbered.many, below) in
     let number : c.number ≡ s = numbered.numbers s low in
     let before : StandsFor c (slot_part d c.number) = let P : ℕ → Type 0 = λ n. StandsFor c (slot_part d n) in subst P (sym number) (are.slots s low) in
-    may_prepare d task call a (bare c) (hook_in c) done before (truth.each s below).sound
+    let Q : State → Type 0 = λ t. IsPartOf t c.live (slot_part d c.number) in
+    record {
+      prepare = may_prepare d task call a (bare c) (hook_in c) done before (sound s below);
+      idle =
+          λ fresh.
+          let dead : is_live (d.slot c.number) ≡ false = ap is_live (subst Q fresh before).0 in
+          ap (λ o. is_the o c.number) (sym done.plan.info.active)
+          ∙ idle_arranged d task call c.number done.all done.unrefused dead (idle_slot d c.number done.sound dead);
+      room = room s below;
+    }
 
 -- A slot that was live and is closed has dropped its hook.
-dropped_slot : (a : Planned) (shelf : List (Option Hook)) (c : CellView) → c.state ≡ view.Live → (slot_after a shelf c).state ≡ view.Closed → hook_in (slot_after a shelf c) ≡ None
-dropped_slot a shelf c live closed = by_bounds (bounds_at a.stack.bounds c.number) refl
+dropped_slot : (glyphs : List (List ℕ)) (a : Planned) (shelf : List (Option Hook)) (c : CellView) → c.state ≡ view.Live
+    → (slot_after glyphs a shelf c).state ≡ view.Closed → hook_in (slot_after glyphs a shelf c) ≡ None
+dropped_slot glyphs a shelf c live closed = by_bounds (bounds_at a.stack.bounds c.number) refl
   where
     n : ℕ
     n = c.number
@@ -321,100 +312,93 @@ dropped_slot a shelf c live closed = by_bounds (bounds_at a.stack.bounds c.numbe
     h : Option Hook
     h = asked_hook shelf a.call n
 
-    by_bounds : (o : Option Rectangle) → bounds_at a.stack.bounds n ≡ o → hook_in (slot_after a shelf c) ≡ None
-    by_bounds None bounds = ap hook_in (ap (slot_by_bounds a h c) bounds ∙ ap (slot_without c) live)
+    by_bounds : (o : Option Rectangle) → bounds_at a.stack.bounds n ≡ o → hook_in (slot_after glyphs a shelf c) ≡ None
+    by_bounds None bounds = ap hook_in (ap (settled_by glyphs a h c) bounds ∙ ap (without_layer c) live)
     by_bounds (Some r) bounds =
-        let is : slot_after a shelf c ≡ slot_with a h c view.Live = ap (slot_by_bounds a h c) bounds ∙ ap (slot_with a h c) live in
-        let cell : cell_after a (bare c) ≡ with_bounds (asked_for a.call) a.stack.sizes.depth r (shown_at a n) (bare c) view.Live =
-        ap (becomes (asked_for a.call) a.stack.sizes.depth (shown_at a n) (bare c)) bounds
-        ∙ ap (with_bounds (asked_for a.call) a.stack.sizes.depth r (shown_at a n) (bare c)) live
-        in
-        let after : (slot_after a shelf c).state ≡ (cell_after a (bare c)).state = ap (λ (v : CellView). v.state) is in
-        let stays : (cell_after a (bare c)).state ≡ c.state = ap (λ (v : CellView). v.state) cell in
-        absurd (cc (after, stays, live, closed))
+        let is : slot_after glyphs a shelf c ≡ settled_with glyphs a h c r view.Live =
+        ap (settled_by glyphs a h c) bounds ∙ ap (settled_with glyphs a h c r) live in
+        absurd (cc (ap (λ (v : CellView). v.state) is, closed))
 
-pub dropped_after : {E : Type 0} (a : Planned) (shelf left : List (Option Hook)) (v w : Stack) (cells new : List CellView) (r : Result Reply E) → IfOk r (λ q. AreChanged (slot_after a shelf) cells new) → OnErr r ((w ≡ v) × (left ≡ shelf) × (new ≡ cells))
-    → DropHooks cells new
-dropped_after a shelf left v w cells new (Ok q) changed same =
+pub dropped_after : {E : Type 0} (glyphs : List (List ℕ)) (a : Planned) (shelf left : List (Option Hook)) (v w : Stack) (cells roomy new : List CellView)
+    (r : Result Reply E) → AreAsBefore cells roomy → IfOk r (λ q. AreChanged (slot_after glyphs a shelf) roomy new)
+    → OnErr r ((w ≡ v) × (left ≡ shelf) × (new ≡ roomy)) → DropHooks cells new
+dropped_after glyphs a shelf left v w cells roomy new (Ok q) before changed same =
     λ s below live closed.
-    let is = changed.each s below in
-    let P : CellView → Type 0 = λ c. c.state ≡ view.Closed in
-    ap hook_in is ∙ dropped_slot a shelf (cell_at cells s) live (subst P is closed)
-dropped_after a shelf left v w cells new (Err e) changed same =
-    λ s below live closed. absurd (cc (ap (λ l. (cell_at l s).state) same.2, live, closed))
+    let c = cell_at roomy s in
+    let is = changed.each s (omega (arith, same_length cells roomy before, below)) in
+    let was : c.state ≡ view.Live = ap (λ (u : CellView). u.state) (same_cell cells roomy s before below) ∙ live in
+    let P : CellView → Type 0 = λ u. u.state ≡ view.Closed in
+    ap hook_in is ∙ dropped_slot glyphs a shelf c was (subst P is closed)
+dropped_after glyphs a shelf left v w cells roomy new (Err e) before changed same =
+    λ s below live closed.
+    absurd (cc (ap (λ (u : CellView). u.state) (same_cell cells roomy s before below), ap (λ l. (cell_at l s).state) same.2, live, closed))
+
+-- and so it is where no call was done
+pub dropped_none : (cells new : List CellView) → AreAsBefore cells new → DropHooks cells new
+dropped_none cells new same =
+    λ s below live closed. absurd (cc (ap (λ (u : CellView). u.state) (same_cell cells new s same below), live, closed))
+
+-- after a failure the slots are as before, whatever room ports have
+pub kept_after : {E : Type 0} (v w : Stack) (shelf left : List (Option Hook)) (cells roomy new : List CellView) (r : Result Reply E)
+    → AreAsBefore cells roomy → OnErr r ((w ≡ v) × (left ≡ shelf) × (new ≡ roomy)) → OnErr r ((w ≡ v) × (left ≡ shelf) × AreAsBefore cells new)
+kept_after v w shelf left cells roomy new (Ok q) before same = tt
+kept_after v w shelf left cells roomy new (Err e) before same = (same.0, same.1, ap (map without_room) same.2 ∙ before)
 
 -- an arrangement leaves a slot's number
-number_after : (a : Planned) (shelf : List (Option Hook)) (c : CellView) → (slot_after a shelf c).number ≡ c.number
-number_after a shelf c = by_bounds (bounds_at a.stack.bounds c.number)
+number_after : (glyphs : List (List ℕ)) (a : Planned) (shelf : List (Option Hook)) (c : CellView) → (slot_after glyphs a shelf c).number ≡ c.number
+number_after glyphs a shelf c = by_bounds (bounds_at a.stack.bounds c.number)
   where
-    b : CellView
-    b = bare c
+    h : Option Hook
+    h = asked_hook shelf a.call c.number
 
-    becomes_by : Option Rectangle → State → CellView
-    becomes_by None s = without_layer b s
-    becomes_by (Some r) s = with_bounds (asked_for a.call) a.stack.sizes.depth r (shown_at a c.number) b s
-
-    cell_number : (o : Option Rectangle) (s : State) → (becomes_by o s).number ≡ c.number
-    cell_number None view.Unopened = refl
-    cell_number None view.Live = refl
-    cell_number None view.Closed = refl
-    cell_number (Some r) view.Unopened = refl
-    cell_number (Some r) view.Live = refl
-    cell_number (Some r) view.Closed = refl
-
-    by_option : (o : Option Rectangle) → (becomes (asked_for a.call) a.stack.sizes.depth (shown_at a c.number) b o).number ≡ c.number
-    by_option None = cell_number None c.state
-    by_option (Some r) = cell_number (Some r) c.state
-
-    cell_then : (cell_after a b).number ≡ c.number
-    cell_then = by_option (bounds_at a.stack.bounds c.number)
-
-    dead : (s : State) → (slot_without c s).number ≡ c.number
+    dead : (s : State) → (without_layer c s).number ≡ c.number
     dead view.Unopened = refl
     dead view.Live = refl
     dead view.Closed = refl
 
-    live : (s : State) → (slot_with a (asked_hook shelf a.call c.number) c s).number ≡ c.number
-    live view.Unopened = cell_then
-    live view.Live = cell_then
-    live view.Closed = refl
+    live : (r : Rectangle) (s : State) → (settled_with glyphs a h c r s).number ≡ c.number
+    live r view.Unopened = refl
+    live r view.Live = refl
+    live r view.Closed = refl
 
-    by_bounds : (o : Option Rectangle) → (slot_by_bounds a (asked_hook shelf a.call c.number) c o).number ≡ c.number
+    by_bounds : (o : Option Rectangle) → (settled_by glyphs a h c o).number ≡ c.number
     by_bounds None = dead c.state
-    by_bounds (Some r) = live c.state
+    by_bounds (Some r) = live r c.state
 
 -- The slots are still all slots, whether all was settled or nothing was.
-pub numbered_after : {E : Type 0} (a : Planned) (shelf left : List (Option Hook)) (v w : Stack) (cells new : List CellView) (r : Result Reply E) → AreNumbered v.sizes.slots cells → a.stack.sizes ≡ v.sizes → IfOk r (λ q. w ≡ a.stack) → IfOk r (λ q. AreChanged (slot_after a shelf) cells new)
-    → OnErr r ((w ≡ v) × (left ≡ shelf) × (new ≡ cells)) → AreNumbered w.sizes.slots new
-numbered_after a shelf left v w cells new (Ok q) numbered sizes info changed same =
+pub numbered_after : {E : Type 0} (glyphs : List (List ℕ)) (a : Planned) (shelf left : List (Option Hook)) (v w : Stack) (cells new : List CellView)
+    (r : Result Reply E) → AreNumbered v.sizes.slots cells → a.stack.sizes ≡ v.sizes → IfOk r (λ q. w ≡ a.stack)
+    → IfOk r (λ q. AreChanged (slot_after glyphs a shelf) cells new) → OnErr r ((w ≡ v) × (left ≡ shelf) × (new ≡ cells)) → AreNumbered w.sizes.slots new
+numbered_after glyphs a shelf left v w cells new (Ok q) numbered sizes info changed same =
     let slots : w.sizes.slots ≡ v.sizes.slots = ap (λ (s : Stack). s.sizes.slots) info ∙ ap (λ (z : Sizes). z.slots) sizes in
     record {
       many = changed.many ∙ (numbered.many ∙ sym slots);
       numbers =
           λ s below.
           let low : s < v.sizes.slots = omega (arith, slots, below) in
-          ap (λ (c : CellView). c.number) (changed.each s (omega (arith, numbered.many, low))) ∙ (number_after a shelf (cell_at cells s) ∙ numbered.numbers s low);
+          ap (λ (c : CellView). c.number) (changed.each s (omega (arith, numbered.many, low)))
+          ∙ (number_after glyphs a shelf (cell_at cells s) ∙ numbered.numbers s low);
     }
-numbered_after a shelf left v w cells new (Err e) numbered sizes info changed same =
+numbered_after glyphs a shelf left v w cells new (Err e) numbered sizes info changed same =
     let P : Stack → Type 0 = λ s. AreNumbered s.sizes.slots new in
     let Q : List CellView → Type 0 = λ l. AreNumbered v.sizes.slots l in
     subst P (sym same.0) (subst Q (sym same.2) numbered)
 
 -- What holds of a call that is done holds of its answer.
-pub step_after : {E : Type 0} (a : Planned) (w : Stack) (shelf left : List (Option Hook)) (cells new : List CellView) (r : Result Reply E) (R : Reply → Stack → List (Option Hook) → Type 0) → IfOk r (λ q. q ≡ Done) → IfOk r (λ q. w ≡ a.stack) → IfOk r (λ q. left ≡ shelf_after a.call shelf) → IfOk r (λ q. AreChanged (slot_after a shelf) cells new)
-    → (AreChanged (slot_after a shelf) cells new → R Done a.stack (shelf_after a.call shelf)) → IfOk r (λ q. R q w left)
-step_after a w shelf left cells new (Ok q) R reply info taken changed holds =
+pub step_after : {E : Type 0} (glyphs : List (List ℕ)) (a : Planned) (w : Stack) (shelf left : List (Option Hook)) (cells new : List CellView) (r : Result Reply E) (R : Reply → Stack → List (Option Hook) → Type 0) → IfOk r (λ q. q ≡ Done) → IfOk r (λ q. w ≡ a.stack) → IfOk r (λ q. left ≡ shelf_after a.call shelf) → IfOk r (λ q. AreChanged (slot_after glyphs a shelf) cells new)
+    → (AreChanged (slot_after glyphs a shelf) cells new → R Done a.stack (shelf_after a.call shelf)) → IfOk r (λ q. R q w left)
+step_after glyphs a w shelf left cells new (Ok q) R reply info taken changed holds =
     let P : Reply → Type 0 = λ p. R p w left in
     let Q : Stack → Type 0 = λ s. R Done s left in
     let L : List (Option Hook) → Type 0 = λ l. R Done a.stack l in
     subst P (sym reply) (subst Q (sym info) (subst L (sym taken) (holds changed)))
-step_after a w shelf left cells new (Err e) R reply info taken changed holds = tt
+step_after glyphs a w shelf left cells new (Err e) R reply info taken changed holds = tt
 
 -- What planning answered is done where it is a plan.
 pub plan_done : (d : Desk) (v : Stack) (cells : List CellView) (looks : List (Option Look)) (fresh : Bool) (task : ℕ) (call : Call) (q : Step) (a : Planned) → AreOfDesk v cells d → AreNumbered v.sizes.slots cells → AreLooks cells looks → IsFreshSlot cells call fresh
-    → class_of call ≡ OnAll → IsTrue (call_fits v.sizes call) → IsPlainCall call → ((e : Desk) → AreOf e v looks fresh call → IsStepOf e task call q) → KeepsSizes v.sizes q → q ≡ Arranged a → IsPlanned a → IsDone d task call a
-plan_done d v cells looks fresh task call q a are numbered truth says all fits plain step sizes is planned =
+    → class_of call ≡ OnAll → IsTrue (call_fits v.sizes call) → ((e : Desk) → AreOf e v looks fresh call → IsStepOf e task call q) → KeepsSizes v.sizes q → q ≡ Arranged a → IsPlanned a → IsDone d task call a
+plan_done d v cells looks fresh task call q a are numbered truth says all fits step sizes is planned =
     let P : Step → Type 0 = λ p. IsStepOf d task call p in
     let Q : Step → Type 0 = λ p. KeepsSizes v.sizes p in
     let parts = subst P is (step d (told_desk d v cells looks fresh call are numbered truth says fits)) in
-    done_desk d v cells task call a are all fits plain parts.0 parts.1 planned (subst Q is sizes)
+    done_desk d v cells task call a are all fits parts.0 parts.1 planned (subst Q is sizes)

@@ -42,13 +42,13 @@ pub for_all : {A B : Type 0} (P : A → B → Type 0) (a : A) (b : B) (xs : List
 for_all {A} P a b xs ys k all past = let Q : List A → Type 0 = λ l. ForEach P a b l ys in subst Q (take_all k xs past) all
 
 -- what is ready for the next slot, where the first k were settled
-pub settle_ready : (becomes : CellView → CellView) (k : ℕ) (cells now : List CellView) (made ready : List ReadyView) (c : CellView) (p : ReadyView) → AreSettled becomes cells made → AreUnder becomes k cells now made ready → k < length cells
-    → IsSettled (get_or now k c) (becomes (cell_at cells k)) (get_or ready k p)
-settle_ready becomes k cells now made ready c p all under below =
+pub settle_ready : (glyphs : List (List ℕ)) (becomes : CellView → CellView) (k : ℕ) (cells now : List CellView) (made ready : List ReadyView) (c : CellView) (p : ReadyView) → AreSettled glyphs becomes cells made → AreUnder becomes k cells now made ready → k < length cells
+    → IsSettled glyphs (get_or now k c) (becomes (cell_at cells k)) (get_or ready k p)
+settle_ready glyphs becomes k cells now made ready c p all under below =
     let cell : get_or now k c ≡ cell_at cells k = get_or_default now k c no_cell (omega (arith, under.many)) ∙ under.left k (omega arith) in
     let one : get_or ready k p ≡ get_or made k nothing_ready = get_or_default ready k p nothing_ready (omega (arith, under.as_many, all.many)) ∙ under.still k (omega arith) in
-    let P : CellView → Type 0 = λ v. IsSettled v (becomes (cell_at cells k)) (get_or ready k p) in
-    let Q : ReadyView → Type 0 = λ q. IsSettled (cell_at cells k) (becomes (cell_at cells k)) q in
+    let P : CellView → Type 0 = λ v. IsSettled glyphs v (becomes (cell_at cells k)) (get_or ready k p) in
+    let Q : ReadyView → Type 0 = λ q. IsSettled glyphs (cell_at cells k) (becomes (cell_at cells k)) q in
     subst P (sym cell) (subst Q (sym one) (all.each k below))
 
 -- and once it was settled too

@@ -21,9 +21,10 @@ use Rattle.lw_machine.proofs.ReachedSound.{step_sound, after_sizes}
 use Rattle.lw_layer.specs.View.{CellView}
 use Rattle.lw_layer.specs.StandsFor.{StandsFor}
 use Rattle.lw_stack.specs.Stack.{Stack, StandsForInfo}
-use Rattle.lw_engine.specs.Desks.{StandForRegisters, cell_at, AreOfDesk, AreOnShelf, Engine, registers_at, StandsForDesk}
+use Rattle.lw_parts.specs.Registers.{StandForRegisters}
+use Rattle.lw_parts.proofs.BlittingLaws.{look_apart, alone_told, pair_told}
+use Rattle.lw_engine.specs.Desks.{cell_at, AreOfDesk, AreOnShelf, Engine, registers_at, StandsForDesk}
 use Rattle.lw_engine.specs.Steps.{with_registers, with_cell}
-use Rattle.lw_engine.proofs.BlittingLaws.{look_apart, alone_told, pair_told}
 
 -- a call that isn't on registers leaves them all
 effect_registers : (d : Desk) (task : ℕ) (call : Call) → (class_of call ≡ OnRegisters → ⊥) → (effect d task call).registers ≡ d.registers

@@ -1,5 +1,5 @@
 -- What holds of the desk of the program before the first call and after a call, and what a call makes of it.
-use Rattle.std.proofs.Common.{◌≡◌, ◌≢◌, ℕ, ◌<◌, true, List, [], length, get_or, set, Option, Some, None, Result, Ok, Err, IfOk, OnErr, IsTrue, ◌∙◌, sym, refl, ap, subst, ⊎_elim, arith}
+use Rattle.std.proofs.Common.{◌≡◌, ◌≢◌, ℕ, ◌<◌, true, List, [], length, map, get_or, set, Option, Some, None, Result, Ok, Err, IfOk, OnErr, IsTrue, ◌∙◌, sym, refl, ap, subst, ⊎_elim, arith}
 use Rattle.std.proofs.lemmas.Bool.{cases_eq}
 use Rattle.std.proofs.lemmas.List.{get_or-set_same, get_or-set_other, set-get_or, length-set}
 use Rattle.lw_region.specs.Rectangle.{Rectangle}
@@ -19,11 +19,14 @@ use Rattle.lw_machine.specs.Step.{reply, after}
 use Rattle.lw_machine.specs.Parts.{slot_part, info_part}
 use Rattle.lw_layer.specs.View.{CellView}
 use Rattle.lw_layer.specs.StandsFor.{StandsFor}
+use Rattle.lw_layer.specs.Windows.{without_room}
 use Rattle.lw_stack.specs.Stack.{Stack, StandsForInfo}
+use Rattle.lw_parts.specs.Registers.{StandForRegisters}
+use Rattle.lw_parts.specs.Parts.{IsRegistersStep, IsLayerStep, IsPairStep}
 use Rattle.lw_engine.specs.Arranging.{IsAllStep}
-use Rattle.lw_engine.specs.Desks.{StandForRegisters, cell_at, AreNumbered, AreOfDesk, Engine, registers_at, StandsForDesk, IsEngine}
-use Rattle.lw_engine.specs.Parts.{IsRegistersStep, IsLayerStep, IsPairStep}
-use Rattle.lw_engine.specs.Steps.{IsStep, IsStepWith, with_registers, with_cell}
+use Rattle.lw_engine.specs.Desks.{cell_at, AreNumbered, AreOfDesk, AreAsBefore, Engine, registers_at, StandsForDesk, IsEngine}
+use Rattle.lw_engine.specs.Steps.{IsStep, IsStepWith, with_registers, with_cell, roomless}
+use Rattle.lw_engine.proofs.RoomLaws.{numbered_roomed, of_desk_roomed}
 use Rattle.lw_engine.proofs.DeskLaws.{registers_desk, layer_desk, pair_desk, all_desk, after_look}
 
 -- a fact of each entry of a list, where it holds of the one that was set
@@ -66,7 +69,7 @@ registers_engine (Err x) e task call old new ok fits class here is eight step ke
     subst IsEngine (sym (registers_kept e task old new is kept)) ok
 
 -- the desk of the program after a call on a layer stands for the desk after it
-pub layer_step : {E : Type 0} (result : Result Reply E) (e : Engine) (task slot : ℕ) (call : Call) (old new : CellView) (regs : List (List Rectangle)) (assets : Assets) → AreNumbered e.stack.sizes.slots e.cells → IsTrue (call_fits e.stack.sizes call) → class_of call ≡ OnLayer slot → slot < e.stack.sizes.slots → task < e.stack.sizes.tasks → old ≡ cell_at e.cells slot → regs ≡ registers_at e task → IfOk result (λ r. IsLayerStep old regs assets call r new) → IfOk result (λ r. IsStepWith assets e task call r (with_cell e slot new))
+pub layer_step : {E : Type 0} (result : Result Reply E) (e : Engine) (task slot : ℕ) (call : Call) (old new : CellView) (regs : List (List Rectangle)) (assets : Assets) → AreNumbered e.stack.sizes.slots e.cells → IsTrue (call_fits e.stack.sizes call) → class_of call ≡ OnLayer slot → slot < e.stack.sizes.slots → task < e.stack.sizes.tasks → old ≡ cell_at e.cells slot → regs ≡ registers_at e task → IfOk result (λ r. IsLayerStep task old regs assets call r new) → IfOk result (λ r. IsStepWith assets e task call r (with_cell e slot new))
 layer_step (Ok r) e task slot call old new regs assets cells fits class low here is read step =
     λ d stands handed.
     let P : CellView → Type 0 = λ c. StandsFor c (slot_part d slot) in
@@ -74,7 +77,7 @@ layer_step (Ok r) e task slot call old new regs assets cells fits class low here
     let numbered : old.number ≡ slot = ap (λ (c : CellView). c.number) is ∙ cells.numbers slot low in
     let R : ℕ → Type 0 = λ n. StandsFor old (slot_part d n) in
     let S : ℕ → Type 0 = λ n. StandsFor new (slot_part (after d task call) n) in
-    let made = step d task (subst R (sym numbered) (subst P (sym is) (stands.parts.slots slot low))) (subst Q (sym read) (stands.registers task here)) handed in
+    let made = step d (subst R (sym numbered) (subst P (sym is) (stands.parts.slots slot low))) (subst Q (sym read) (stands.registers task here)) handed in
     (made.0, layer_desk e d task slot call new fits class (omega (arith, cells.many)) stands (subst S numbered made.1))
 layer_step (Err x) e task slot call old new regs assets cells fits class low here is read step = tt
 
@@ -141,7 +144,7 @@ cell_kept : (e : Engine) (slot : ℕ) (old new : CellView) → old ≡ cell_at e
 cell_kept e slot old new is kept =
     ap (λ c. with_cell e slot c) (kept ∙ is) ∙ ap (λ (q : List CellView). record e { cells = q }) (set-get_or e.cells slot _)
 
-pub layer_engine : {E : Type 0} (result : Result Reply E) (e : Engine) (task slot : ℕ) (call : Call) (old new : CellView) (regs : List (List Rectangle)) (assets : Assets) → IsEngine e → IsTrue (call_fits e.stack.sizes call) → class_of call ≡ OnLayer slot → slot < e.stack.sizes.slots → task < e.stack.sizes.tasks → old ≡ cell_at e.cells slot → regs ≡ registers_at e task → new.number ≡ old.number → IfOk result (λ r. IsLayerStep old regs assets call r new) → OnErr result (new ≡ old) → IsEngine (with_cell e slot new)
+pub layer_engine : {E : Type 0} (result : Result Reply E) (e : Engine) (task slot : ℕ) (call : Call) (old new : CellView) (regs : List (List Rectangle)) (assets : Assets) → IsEngine e → IsTrue (call_fits e.stack.sizes call) → class_of call ≡ OnLayer slot → slot < e.stack.sizes.slots → task < e.stack.sizes.tasks → old ≡ cell_at e.cells slot → regs ≡ registers_at e task → new.number ≡ old.number → IfOk result (λ r. IsLayerStep task old regs assets call r new) → OnErr result (new ≡ old) → IsEngine (with_cell e slot new)
 layer_engine (Ok r) e task slot call old new regs assets ok fits class low here is read number step kept =
     let result : Result Reply ℕ = Ok r in
     layer_sound e task slot call r new assets ok low (number ∙ (ap (λ (c : CellView). c.number) is ∙ ok.cells.numbers slot low))
@@ -175,31 +178,53 @@ look_step e task call r class answers =
     (answers d task stands.parts.info, subst P (sym (after_look d task call class)) stands)
 
 -- the desk of the program after an arrangement
-pub all_step : {E : Type 0} (result : Result Reply E) (e : Engine) (task : ℕ) (call : Call) (v : Stack) (shelf : List (Option Hook)) (old new : List CellView) → class_of call ≡ OnAll → v.sizes ≡ e.stack.sizes → old ≡ e.cells
-    → IfOk result (λ r. IsAllStep e.stack e.shelf old task call r v shelf new) → IfOk result (λ r. IsStep e task call r (record e { stack = v; shelf = shelf; cells = new }))
-all_step (Ok r) e task call v shelf old new class same is step =
-    λ d stands.
+pub all_step : {E : Type 0} (result : Result Reply E) (e : Engine) (task : ℕ) (call : Call) (v : Stack) (shelf : List (Option Hook)) (old new : List CellView) (assets : Assets) → class_of call ≡ OnAll → v.sizes ≡ e.stack.sizes → old ≡ e.cells
+    → IfOk result (λ r. IsAllStep assets e.stack e.shelf old task call r v shelf new) → IfOk result (λ r. IsStepWith assets e task call r (record e { stack = v; shelf = shelf; cells = new }))
+all_step (Ok r) e task call v shelf old new assets class same is step =
+    λ d stands handed.
     let P : List CellView → Type 0 = λ q. AreOfDesk e.stack q d in
-    let made = step d (subst P (sym is) stands.parts) stands.hooks in
+    let made = step d (subst P (sym is) stands.parts) stands.hooks handed in
     (made.0, all_desk e d task call v shelf new class same stands made.1 made.2)
-all_step (Err x) e task call v shelf old new class same is step = tt
+all_step (Err x) e task call v shelf old new assets class same is step = tt
 
-pub all_engine : {E : Type 0} (result : Result Reply E) (e : Engine) (task : ℕ) (call : Call) (v : Stack) (shelf : List (Option Hook)) (old new : List CellView) → IsEngine e → class_of call ≡ OnAll → v.sizes ≡ e.stack.sizes → old ≡ e.cells → AreNumbered v.sizes.slots new
-    → IfOk result (λ r. IsAllStep e.stack e.shelf old task call r v shelf new) → OnErr result ((v ≡ e.stack) × (shelf ≡ e.shelf) × (new ≡ old)) → IsEngine (record e { stack = v; shelf = shelf; cells = new })
-all_engine (Ok r) e task call v shelf old new ok class same is numbered step kept =
+pub all_engine : {E : Type 0} (result : Result Reply E) (e : Engine) (task : ℕ) (call : Call) (v : Stack) (shelf : List (Option Hook)) (old new : List CellView) (assets : Assets) → IsEngine e → class_of call ≡ OnAll → v.sizes ≡ e.stack.sizes → old ≡ e.cells → AreNumbered v.sizes.slots new
+    → IfOk result (λ r. IsAllStep assets e.stack e.shelf old task call r v shelf new) → OnErr result ((v ≡ e.stack) × (shelf ≡ e.shelf) × AreAsBefore old new) → IsEngine (record e { stack = v; shelf = shelf; cells = new })
+all_engine (Ok r) e task call v shelf old new assets ok class same is numbered step kept =
     let result : Result Reply ℕ = Ok r in
-    let made = all_step result e task call v shelf old new class same is step in
+    let made = all_step result e task call v shelf old new assets class same is step in
     let P : Sizes → Type 0 = λ s. length e.registers ≡ s.tasks in
     let Q : Sizes → Type 0 = λ s. (t : ℕ) → t < s.tasks → length (registers_at e t) ≡ 8 in
     record {
       cells = numbered;
       tasks = subst P (sym same) ok.tasks;
       eight = subst Q (sym same) ok.eight;
-      desk = after ok.desk task call;
-      stands = (made ok.desk ok.stands).1;
+      desk = after (handed_in assets ok.desk) task call;
+      stands = (made (handed_in assets ok.desk) (stands_handed_in assets e ok.desk ok.stands) refl).1;
     }
-all_engine (Err x) e task call v shelf old new ok class same is numbered step kept =
+all_engine (Err x) e task call v shelf old new assets ok class same is numbered step kept =
     let P : Stack → Type 0 = λ s. IsEngine (record e { stack = s; shelf = shelf; cells = new }) in
     let R : List (Option Hook) → Type 0 = λ h. IsEngine (record e { shelf = h; cells = new }) in
-    let Q : List CellView → Type 0 = λ q. IsEngine (record e { cells = q }) in
-    subst P (sym kept.0) (subst R (sym kept.1) (subst Q (sym (kept.2 ∙ is)) ok))
+    let S : List CellView → Type 0 = λ q. AreAsBefore q new in
+    let before : AreAsBefore e.cells new = subst S is kept.2 in
+    subst P (sym kept.0)
+    (subst R (sym kept.1)
+    (record {
+      cells = numbered_roomed e.stack.sizes.slots e.cells new before ok.cells;
+      tasks = ok.tasks;
+      eight = ok.eight;
+      desk = ok.desk;
+      stands = record {
+        parts = of_desk_roomed e.stack e.cells new ok.desk before ok.cells ok.stands.parts;
+        hooks = ok.stands.hooks;
+        registers = ok.stands.registers;
+      };
+    }))
+
+-- and after a failure it is as it was, whatever room ports have
+pub all_kept : {E : Type 0} (result : Result Reply E) (e : Engine) (v : Stack) (shelf : List (Option Hook)) (old new : List CellView) → old ≡ e.cells
+    → OnErr result ((v ≡ e.stack) × (shelf ≡ e.shelf) × AreAsBefore old new) → OnErr result (roomless (record e { stack = v; shelf = shelf; cells = new }) ≡ roomless e)
+all_kept (Ok r) e v shelf old new is kept = tt
+all_kept (Err x) e v shelf old new is kept =
+    ap (λ s. record e { stack = s; shelf = shelf; cells = map without_room new }) kept.0
+    ∙ (ap (λ h. record e { shelf = h; cells = map without_room new }) kept.1
+    ∙ ap (λ l. record e { cells = l }) (kept.2 ∙ ap (map without_room) is))

@@ -16,8 +16,9 @@ use Rattle.lw_layer.specs.View as view
 use Rattle.lw_layer.specs.StandsFor.{IsPartOf}
 use Rattle.lw_stack.specs.Stack.{Stack, is_first_at}
 use Rattle.lw_stack.proofs.ListLaws.{shown_is_first}
+use Rattle.lw_final.specs.Shown.{first_set, seen_as, seen_in}
 use Rattle.lw_engine.specs.Desks.{cell_at, AreNumbered, AreOfDesk}
-use Rattle.lw_engine.specs.Finished.{first_set, seen_as, seen_in, AreSlotsOf}
+use Rattle.lw_engine.specs.Finished.{AreSlotsOf}
 
 -- the cells stand for the slots
 pub slots_of_desk : (v : Stack) (cells : List CellView) (d : Desk) (sizes : Sizes) → sizes ≡ v.sizes → AreOfDesk v cells d → AreSlotsOf sizes cells d

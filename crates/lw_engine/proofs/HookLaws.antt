@@ -27,8 +27,8 @@ use Rattle.lw_machine.specs.Step.{refuse, refuse_not_open, refuse_unless_open, f
 use Rattle.lw_layer.specs.View.{State, LiveView, CellView, with_layer, hooked}
 use Rattle.lw_layer.specs.View as view
 use Rattle.lw_layer.specs.StandsFor.{IsPartOf, StandsFor}
-use Rattle.lw_engine.specs.Parts.{IsSlotStep, IsLayerStep, IsPairStep}
-use Rattle.lw_engine.proofs.BlittingLaws.{ArePair, pair_told, pair_apart}
+use Rattle.lw_parts.specs.Parts.{IsSlotStep, IsLayerStep, IsPairStep}
+use Rattle.lw_parts.proofs.BlittingLaws.{ArePair, pair_told, pair_apart}
 
 -- the layer with this hook
 abbrev pub with_hook : Option Hook → Layer → Layer
@@ -151,7 +151,7 @@ unfolding with_pens
 framed_if h l on pen true = refl
 framed_if h l on pen false = refl
 
-framed_alike : (h : Option Hook) (glyphs : List (List ℕ)) (kept : ℕ → ℕ → Bool) (active : Bool) (o : Option Window) (l : Layer) → framed_by glyphs kept active o (with_hook h l) ≡ with_hook h (framed_by glyphs kept active o l)
+pub framed_alike : (h : Option Hook) (glyphs : List (List ℕ)) (kept : ℕ → ℕ → Bool) (active : Bool) (o : Option Window) (l : Layer) → framed_by glyphs kept active o (with_hook h l) ≡ with_hook h (framed_by glyphs kept active o l)
 framed_alike h glyphs kept active None l = refl
 framed_alike h glyphs kept active (Some w) l =
     framed_if h l (λ x y. kept x y && in_frame l.bits.width l.bits.height x y) (λ x y. pen_within l.bits.depth (framing_pen glyphs w.title active l.bits.width x y)) w.framed
@@ -443,15 +443,15 @@ rehooked_part h view.Live c p is = record { slot = ap (hooked_slot h) is.slot; b
 rehooked_part h view.Closed c p is = (ap (hooked_slot h) is.0, is.1)
 
 -- What a call on one layer makes of a cell, it makes of the cell with any hook on its layer.
-pub hooked_step : (h : Option Hook) (c new : CellView) (regs : List (List Rectangle)) (assets : Assets) (call : Call) (r : Reply) → class_of call ≡ OnLayer c.number → new.number ≡ c.number → IsLayerStep c regs assets call r new → IsLayerStep (hooked h c) regs assets call r (hooked h new)
+pub hooked_step : (h : Option Hook) (task : ℕ) (c new : CellView) (regs : List (List Rectangle)) (assets : Assets) (call : Call) (r : Reply) → class_of call ≡ OnLayer c.number → new.number ≡ c.number → IsLayerStep task c regs assets call r new → IsLayerStep task (hooked h c) regs assets call r (hooked h new)
 unfolding top
-hooked_step h c new regs assets call r class same step =
-    λ d task stands registers handed.
+hooked_step h task c new regs assets call r class same step =
+    λ d stands registers handed.
     let n : ℕ = c.number in
     let s : Slot = held c.state c.live in
     let e : Desk = filled d s in
     let law : IsLike (hooked_part h) d e task n call = one_layer_unhooked h d task n call s class (hooked_held h c.state c.live (slot_part d n) stands) in
-    let done : IsSlotStep e task n call r new = step e task (unhooked_part h c.state c.live (slot_part d n) stands) registers handed in
+    let done : IsSlotStep e task n call r new = step e (unhooked_part h c.state c.live (slot_part d n) stands) registers handed in
     let P : SlotPart → Type 0 = λ p. StandsFor (hooked h new) p in
     (done.0 ∙ sym law.replies, subst P (sym law.part) (rehooked_part h new.state new.live (slot_part (after e task call) n) done.1))
 

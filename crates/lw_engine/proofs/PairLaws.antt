@@ -5,8 +5,8 @@ use Rattle.lw_calls.specs.declared.call.Call.{Call}
 use Rattle.lw_calls.specs.declared.reply.Reply.{Reply}
 use Rattle.lw_calls.specs.Touches.{OnLayers, class_of}
 use Rattle.lw_layer.specs.View.{CellView}
+use Rattle.lw_parts.specs.Parts.{IsPairStep}
 use Rattle.lw_engine.specs.Desks.{no_cell, cell_at}
-use Rattle.lw_engine.specs.Parts.{IsPairStep}
 
 -- the list after one of its cells was changed, and the changed cell
 pub record IsChangedAt (cells : List CellView) (slot : ℕ) (x : CellView) (new : List CellView) : Type 0 where

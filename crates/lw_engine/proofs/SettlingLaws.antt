@@ -1,28 +1,39 @@
 -- What is ready for a slot makes of it what the arrangement says.
-use Rattle.std.proofs.Common.{◌≡◌, ℕ, ◌==◌, Bool, true, false, not, ◌&&◌, pos, List, [], ◌∷◌, length, Option, Some, None, refl, sym, ap, ◌∙◌, arith}
+use Rattle.std.proofs.Common.{◌≡◌, ℕ, zero, suc, ◌+◌, ◌*◌, ◌==◌, Bool, true, false, not, ◌&&◌, ◌||◌, ℤ, pos, List, [], ◌∷◌, length, get_or, replicate, Option, Some, None, refl, sym, ap, subst, ◌∙◌, arith}
 use Rattle.std.proofs.lemmas.Bool.Decides.{nat_tests}
+use Rattle.std.proofs.Math.Path.{fun_ext}
+use Rattle.std.proofs.lemmas.Nat.{pow_pos}
 use Rattle.lw_region.specs.Rectangle.{Rectangle}
 use Rattle.lw_region.specs.Bands.{covers}
 use Rattle.lw_region.specs.Banded.{IsCanonical}
 use Rattle.lw_region.proofs.Canonical.{covers_nil}
 use Rattle.lw_planes.specs.Bitmap.{IsBitmap}
+use Rattle.lw_planes.proofs.PenLaws.{pen_same}
 use Rattle.lw_calls.specs.Kinds.{is_super}
-use Rattle.lw_machine.specs.Hook.{Hook}
-use Rattle.lw_machine.specs.Layer.{Layer}
-use Rattle.lw_layer.specs.View.{State, CellView, keeps, with_live, hooked}
+use Rattle.lw_machine.specs.Hook.{Hook, tile_place, hook_pen}
+use Rattle.lw_machine.specs.Paint.{with_pens, pen_within}
+use Rattle.lw_backfill.specs.Hooks.{solid}
+use Rattle.lw_machine.specs.Layer.{Layer, is_framed}
+use Rattle.lw_machine.specs.Desk.{is_the}
+use Rattle.lw_layer.specs.View.{State, CellView, keeps, with_layer, with_live, hooked}
 use Rattle.lw_layer.specs.View as view
 use Rattle.lw_layer.specs.Drafts.{no_layer}
 use Rattle.lw_layer.specs.StandsFor.{IsSound}
+use Rattle.lw_frames.specs.Framing.{with_own_frame}
 use Rattle.lw_stack.specs.Stack.{bounds_at}
 use Rattle.lw_arrange.specs.declared.preparing.Prepared.{Prepared}
 use Rattle.lw_arrange.specs.declared.preparing.Prepared.TheVariants.{Stays, Closes, Opens, Changes}
 use Rattle.lw_arrange.specs.Plans.{Planned}
-use Rattle.lw_arrange.specs.Prepared.{asked_for, becomes, with_bounds, without_layer, shown_at, cell_after}
+use Rattle.lw_arrange.specs.Prepared.{Created, created_by, opened, becomes, with_bounds, without_layer, shown_at, cell_after, MayBecome, MayBe, MayOpen}
 use Rattle.lw_arrange.specs.Made.{IsPrepared}
-use Rattle.lw_arrange.specs.Filled.{keeps_if_live, gains, gains_some, AreGained}
+use Rattle.lw_arrange.specs.Filled.{keeps_if_live, counts_if_live, is_inside, gains, gains_some, AreGained}
+use Rattle.lw_arrange.specs.Settled.{new_of, settled_new, settled_with, settled_by}
 use Rattle.lw_arrange.proofs.FilledLaws.{none_passes, unfilled}
 use Rattle.lw_arrange.proofs.GainedRegions.{filled_region}
-use Rattle.lw_engine.specs.Slots.{hook_in, bare, asked_hook, due_hook, filled_from, slot_without, slot_with, slot_by_bounds, slot_after, filled_as, IsSettledBy}
+use Rattle.lw_arrange.proofs.GainsLaws.{stayed}
+use Rattle.lw_engine.specs.declared.window_after.WindowAfter.{WindowAfter}
+use Rattle.lw_engine.specs.Slots.{hook_in, bare, asked_hook, due_hook, filled_from, slot_after, filled_as, across_live, IsWindowAfter, MayBeReady, IsStill, IsSettledBy, followed}
+use Rattle.lw_engine.proofs.SettledLaws.{live_settled, new_settled, live_filled, new_filled, new_undamaged}
 
 -- a cell that was read has no hook of its own
 no_hook : (c : CellView) → (c.state ≡ view.Live → IsSound c.live) → ((c.state ≡ view.Live → ⊥) → c.live ≡ no_layer) → c.live.layer.hook ≡ None
@@ -36,21 +47,29 @@ no_hook c sound idle = go c.state refl
 pub bare_cell : (c : CellView) → (c.state ≡ view.Live → IsSound c.live) → ((c.state ≡ view.Live → ⊥) → c.live ≡ no_layer) → c ≡ hooked None c
 bare_cell c sound idle = ap (λ h. hooked h c) (no_hook c sound idle)
 
--- a layer that filled what it gained
-pub filled_told : (from to : CellView) (h : Option Hook) (gained : List Rectangle) → to.state ≡ view.Live → IsCanonical gained → ((k : Hook) → h ≡ Some k → AreGained from to gained) → filled_from from h to ≡ filled_as h gained to
-filled_told from to None gained live canonical told = refl
-filled_told from to (Some k) gained live canonical told = sym (filled_region (Some k) from to gained live canonical (told k refl))
-
-never_twice : (own kept : Bool) → (not own && (kept && not kept)) ≡ false
-never_twice true kept = refl
-never_twice false true = refl
-never_twice false false = refl
-
 -- nothing is filled where the cell stays
-stays_filled : (c : CellView) → IsBitmap c.live.layer.bits → filled_from (bare c) (hook_in c) (bare c) ≡ c
+never_twice : (own kept counts : Bool) → (kept ≡ true → counts ≡ true) → (not own && (kept && not counts)) ≡ false
+never_twice true kept counts all = refl
+never_twice false true counts all = rw (all refl) refl
+never_twice false false counts all = refl
+
+-- what is kept counts as kept where the layer stays
+all_count : (s : State) (c : CellView) (x y : ℕ) → keeps_if_live s c.live x y ≡ true → counts_if_live s c.live c.live x y ≡ true
+all_count view.Unopened c x y kept = kept
+all_count view.Live c x y kept = rw kept (either (is_inside c.live x y) (is_framed c.live.layer.window))
+  where
+    either : (inside framed : Bool) → (inside || not (framed && inside)) ≡ true
+    either true framed = refl
+    either false true = refl
+    either false false = refl
+all_count view.Closed c x y kept = kept
+
+pub stays_filled : (c : CellView) → IsBitmap c.live.layer.bits → filled_from (bare c) (hook_in c) (bare c) ≡ c
 stays_filled c ok =
     let b : CellView = bare c in
-    let none : (x y : ℕ) → gains b b x y ≡ false = λ x y. never_twice (is_super c.live.layer.kind) (keeps_if_live b.state b.live x y) in
+    let none : (x y : ℕ) → gains b b x y ≡ false =
+    λ x y. never_twice (is_super c.live.layer.kind) (keeps_if_live b.state b.live x y) (counts_if_live b.state b.live b.live x y) (all_count b.state b x y)
+    in
     let never : gains_some b b ≡ false = none_passes b.live.layer.bits.width b.live.layer.bits.height (λ x y. gains b b x y) none in
     ap (λ (q : Layer). record c { live = record c.live { layer = q } })
     (unfilled b.live.layer (hook_in c) (λ x y. gains b b x y) (gains_some b b) ok none never)
@@ -65,7 +84,8 @@ and_none true = refl
 and_none false = refl
 
 -- where no pixel is gained, nothing is filled
-pub none_filled : (c : CellView) (h : Option Hook) (gained : List Rectangle) → IsBitmap c.live.layer.bits → (length gained == 0) ≡ true → hooked h c ≡ filled_as h gained c
+pub none_filled : (c : CellView) (h : Option Hook) (gained : List Rectangle) → IsBitmap c.live.layer.bits → (length gained == 0) ≡ true
+    → hooked h c ≡ filled_as h gained c
 none_filled c h gained ok none =
     let on : ℕ → ℕ → Bool = λ x y. keeps c.live x y && covers gained (pos x) (pos y) in
     let off : (x y : ℕ) → on x y ≡ false =
@@ -76,11 +96,45 @@ none_filled c h gained ok none =
     ap (λ (q : Layer). record c { live = record c.live { layer = q } })
     (sym (unfilled c.live.layer h on (not (length gained == 0)) ok off (ap not none)))
 
-pub ready_settled : (a : Planned) (shelf : List (Option Hook)) (c : CellView) (p : Prepared) (gained : List Rectangle) → (c.state ≡ view.Live → IsSound (bare c).live) → IsCanonical gained → IsPrepared (bare c) (cell_after a (bare c)) p
-    → ((k : Hook) → due_hook a shelf c c.state ≡ Some k → AreGained (bare c) (cell_after a (bare c)) gained)
-    → IsSettledBy c (slot_after a shelf c) gained (asked_hook shelf a.call c.number) p
-ready_settled a shelf c p gained sound canonical ready told = by_cases (bounds_at a.stack.bounds c.number) refl c.state refl p ready
+-- a hook of pen 0 has that pen everywhere
+zeros : (n k : ℕ) → get_or (replicate n zero) k zero ≡ zero
+zeros zero k = refl
+zeros (suc n) zero = refl
+zeros (suc n) (suc k) = zeros n k
+
+zero_pen : (x y : ℤ) → hook_pen (solid 0) x y ≡ 0
+unfolding hook_pen
+zero_pen x y = zeros 64 (8 * tile_place y + tile_place x)
+
+-- what is filled with pen 0
+pub zero_filled : (c e : CellView) (gained : List Rectangle) (h : Hook) → h ≡ solid 0
+    → e ≡ with_live (λ k. with_layer (λ l. with_pens (λ x y. keeps k x y && covers gained (pos x) (pos y))
+    (λ x y. pen_within l.bits.depth (hook_pen h (pos x) (pos y))) l) k) c
+    → hooked None e ≡ filled_as None gained c
+zero_filled c e gained h solid_is is =
+    let l : Layer = c.live.layer in
+    let on : ℕ → ℕ → Bool = λ x y. keeps c.live x y && covers gained (pos x) (pos y) in
+    let Painted : (ℕ → ℕ → ℕ) → CellView = λ f. record c { live = record c.live { layer = record (with_pens on f l) { hook = None } } } in
+    let zero : (x y : ℕ) → pen_within l.bits.depth (hook_pen h (pos x) (pos y)) ≡ 0 =
+    λ x y.
+    ap (λ k. pen_within l.bits.depth (hook_pen k (pos x) (pos y))) solid_is
+    ∙ (ap (pen_within l.bits.depth) (zero_pen (pos x) (pos y)) ∙ pen_same l.bits.depth 0 (pow_pos l.bits.depth))
+    in
+    ap (hooked None) is ∙ ap Painted (fun_ext (λ x. fun_ext (λ y. zero x y)))
+
+-- what is ready for a slot by its bounds and its state
+pub ready_settled : (glyphs : List (List ℕ)) (a : Planned) (shelf : List (Option Hook)) (c : CellView) (p : Prepared) (gained : List Rectangle)
+    (w : WindowAfter) → MayBeReady a c → (c.state ≡ view.Live → IsSound (bare c).live)
+    → IsPrepared (bare c) (cell_after a (bare c)) p
+    → ((cell_after a (bare c)).state ≡ view.Live
+    → filled_from (bare c) (due_hook a shelf c c.state) (cell_after a (bare c)) ≡ filled_as (due_hook a shelf c c.state) gained (cell_after a (bare c)))
+    → (c.state ≡ view.Live → (r : Rectangle) → bounds_at a.stack.bounds c.number ≡ Some r → IsWindowAfter a c r w)
+    → IsSettledBy glyphs c (slot_after glyphs a shelf c) gained (asked_hook shelf a.call c.number) w p
+ready_settled glyphs a shelf c p gained w may sound ready filled after = by_cases (bounds_at a.stack.bounds c.number) refl c.state refl p ready
   where
+    n : ℕ
+    n = c.number
+
     b : CellView
     b = bare c
 
@@ -88,69 +142,119 @@ ready_settled a shelf c p gained sound canonical ready told = by_cases (bounds_a
     e = cell_after a b
 
     h : Option Hook
-    h = asked_hook shelf a.call c.number
+    h = asked_hook shelf a.call n
 
     -- the cell and the slot afterwards, by the bounds and the state
     cell_as : (o : Option Rectangle) (s : State) → CellView
     cell_as None s = without_layer b s
-    cell_as (Some r) s = with_bounds (asked_for a.call) a.stack.sizes.depth r (shown_at a c.number) b s
+    cell_as (Some r) s = with_bounds (created_by a.task a.call) a.stack.sizes.depth r (shown_at a n) b s
 
     slot_as : (o : Option Rectangle) (s : State) → CellView
-    slot_as None s = slot_without c s
-    slot_as (Some r) s = slot_with a h c s
+    slot_as None s = without_layer c s
+    slot_as (Some r) s = settled_with glyphs a h c r s
 
-    cell_is : (o : Option Rectangle) (s : State) → bounds_at a.stack.bounds c.number ≡ o → c.state ≡ s → e ≡ cell_as o s
-    cell_is None s bounds state = ap (becomes (asked_for a.call) a.stack.sizes.depth (shown_at a c.number) b) bounds ∙ ap (without_layer b) state
+    cell_is : (o : Option Rectangle) (s : State) → bounds_at a.stack.bounds n ≡ o → c.state ≡ s → e ≡ cell_as o s
+    cell_is None s bounds state = ap (becomes (created_by a.task a.call) a.stack.sizes.depth (shown_at a n) b) bounds ∙ ap (without_layer b) state
     cell_is (Some r) s bounds state =
-        ap (becomes (asked_for a.call) a.stack.sizes.depth (shown_at a c.number) b) bounds
-        ∙ ap (with_bounds (asked_for a.call) a.stack.sizes.depth r (shown_at a c.number) b) state
+        ap (becomes (created_by a.task a.call) a.stack.sizes.depth (shown_at a n) b) bounds
+        ∙ ap (with_bounds (created_by a.task a.call) a.stack.sizes.depth r (shown_at a n) b) state
 
-    slot_is : (o : Option Rectangle) (s : State) → bounds_at a.stack.bounds c.number ≡ o → c.state ≡ s → slot_after a shelf c ≡ slot_as o s
-    slot_is None s bounds state = ap (slot_by_bounds a h c) bounds ∙ ap (slot_without c) state
-    slot_is (Some r) s bounds state = ap (slot_by_bounds a h c) bounds ∙ ap (slot_with a h c) state
+    slot_is : (o : Option Rectangle) (s : State) → bounds_at a.stack.bounds n ≡ o → c.state ≡ s → slot_after glyphs a shelf c ≡ slot_as o s
+    slot_is None s bounds state = ap (settled_by glyphs a h c) bounds ∙ ap (without_layer c) state
+    slot_is (Some r) s bounds state = ap (settled_by glyphs a h c) bounds ∙ ap (settled_with glyphs a h c r) state
 
-    -- what a new layer fills, and one that stays live
-    opened : (o : Option Rectangle) → c.state ≡ view.Unopened → e.state ≡ view.Live → filled_from b h e ≡ filled_as h gained e
-    opened o fresh live = filled_told b e h gained live canonical (λ k is. told k (ap (due_hook a shelf c) fresh ∙ is))
+    -- what holds of a slot with bounds afterwards
+    may_become : (r : Rectangle) (s : State) → bounds_at a.stack.bounds n ≡ Some r → c.state ≡ s
+        → MayBecome (created_by a.task a.call) a.stack.sizes.depth r (shown_at a n) b s
+    may_become r s bounds state =
+        let P : Option Rectangle → Type 0 = λ o. MayBe (created_by a.task a.call) a.stack.sizes.depth (shown_at a n) b o in
+        let Q : State → Type 0 = λ t. MayBecome (created_by a.task a.call) a.stack.sizes.depth r (shown_at a n) b t in
+        subst Q state (subst P bounds may.prepare)
 
-    changed : c.state ≡ view.Live → e.state ≡ view.Live → filled_from b (hook_in c) e ≡ filled_as (hook_in c) gained e
-    changed was live = filled_told b e (hook_in c) gained live canonical (λ k is. told k (ap (due_hook a shelf c) was ∙ is))
+    -- a layer that stays live, and is what it was once what it gains is filled
+    followed_live : (r : Rectangle) (f : CellView) → bounds_at a.stack.bounds n ≡ Some r → c.state ≡ view.Live
+        → f ≡ filled_from b (hook_in c) (stayed r (shown_at a n) b)
+        → slot_after glyphs a shelf c ≡ followed glyphs w (across_live a c r) f
+    followed_live r f bounds live is =
+        slot_is (Some r) view.Live bounds live
+        ∙ live_settled glyphs a c r w f (is ∙ live_filled a c r live (sound live)) (after live r bounds)
 
-    state_of_cell : (v w : CellView) → v ≡ w → v.state ≡ w.state
-    state_of_cell v w is = ap (λ (q : CellView). q.state) is
+    -- a new layer
+    opened_new : (r : Rectangle) (o : Option Created) → bounds_at a.stack.bounds n ≡ Some r → c.state ≡ view.Unopened
+        → created_by a.task a.call ≡ o → MayOpen o a.stack.sizes.depth r → e.state ≡ view.Live
+        → slot_after glyphs a shelf c ≡ with_own_frame glyphs false (filled_as h gained e)
+    opened_new r None bounds fresh new may_open live = absurd may_open
+    opened_new r (Some k) bounds fresh new may_open live =
+        let depth = a.stack.sizes.depth in
+        let made : CellView = record { number = n; state = view.Live; live = opened (Some k) depth r (shown_at a n) } in
+        let cell : e ≡ made =
+        cell_is (Some r) view.Unopened bounds fresh ∙ ap (λ o. record { number = n; state = view.Live; live = opened o depth r (shown_at a n) }) new
+        in
+        let layer = new_of (Some k) depth h in
+        let P : State → Type 0 = λ s. filled_from b (due_hook a shelf c s) e ≡ filled_as (due_hook a shelf c s) gained e in
+        let right : filled_from b h e ≡ filled_as h gained e = subst P fresh (filled live) in
+        let place = may_open.size.place in
+        slot_is (Some r) view.Unopened bounds fresh
+        ∙ (ap (λ o. record { number = n; state = view.Live; live = settled_new glyphs a n r (new_of o depth h) }) new
+        ∙ new_settled glyphs a n r layer (filled_as h gained e) (may.idle fresh)
+        (sym right ∙ (ap (filled_from b h) cell ∙ new_filled a c r k.make k.window depth h fresh place))
+        (new_undamaged a c r k.make k.window depth h fresh place))
 
-    by_cases : (o : Option Rectangle) → bounds_at a.stack.bounds c.number ≡ o → (s : State) → c.state ≡ s → (p : Prepared) → IsPrepared b e p → IsSettledBy c (slot_after a shelf c) gained h p
-    by_cases None bounds view.Unopened state Stays ready = slot_is None view.Unopened bounds state
+    state_of_cell : (u v : CellView) → u ≡ v → u.state ≡ v.state
+    state_of_cell u v is = ap (λ (q : CellView). q.state) is
+
+    still : (s : State) → c.state ≡ s → IsStill glyphs c (slot_after glyphs a shelf c) w s → IsSettledBy glyphs c (slot_after glyphs a shelf c) gained h w Stays
+    still s state is = let P : State → Type 0 = λ t. IsStill glyphs c (slot_after glyphs a shelf c) w t in subst P (sym state) is
+
+    by_cases : (o : Option Rectangle) → bounds_at a.stack.bounds n ≡ o → (s : State) → c.state ≡ s → (p : Prepared) → IsPrepared b e p
+        → IsSettledBy glyphs c (slot_after glyphs a shelf c) gained h w p
+    by_cases None bounds view.Unopened state Stays ready = still view.Unopened state (slot_is None view.Unopened bounds state)
     by_cases None bounds view.Unopened state Closes ready = absurd (cc (state, ready.0))
     by_cases None bounds view.Unopened state (Opens d) ready = absurd (cc (state_of_cell e b (cell_is None view.Unopened bounds state), state, state_of_cell _ _ ready.2))
     by_cases None bounds view.Unopened state (Changes k) ready = absurd (cc (state, ready.0))
-    by_cases None bounds view.Live state Stays ready = absurd (cc (state_of_cell _ _ (cell_is None view.Live bounds state), state, state_of_cell e b ready))
+    by_cases None bounds view.Live state Stays ready = absurd (cc (state_of_cell _ _ (cell_is None view.Live bounds state), state))
     by_cases None bounds view.Live state Closes ready = (state, slot_is None view.Live bounds state)
     by_cases None bounds view.Live state (Opens d) ready = absurd (cc (state, ready.0))
     by_cases None bounds view.Live state (Changes k) ready = absurd (cc (state_of_cell _ _ (cell_is None view.Live bounds state), state, state_of_cell _ _ ready.2))
-    by_cases None bounds view.Closed state Stays ready = slot_is None view.Closed bounds state
+    by_cases None bounds view.Closed state Stays ready = still view.Closed state (slot_is None view.Closed bounds state)
     by_cases None bounds view.Closed state Closes ready = absurd (cc (state, ready.0))
     by_cases None bounds view.Closed state (Opens d) ready = absurd (cc (state, ready.0))
     by_cases None bounds view.Closed state (Changes k) ready = absurd (cc (state, ready.0))
-    by_cases (Some r) bounds view.Unopened state Stays ready = absurd (cc (state_of_cell _ _ (cell_is (Some r) view.Unopened bounds state), state, state_of_cell e b ready))
+    by_cases (Some r) bounds view.Unopened state Stays ready = absurd (cc (state_of_cell _ _ (cell_is (Some r) view.Unopened bounds state), state))
     by_cases (Some r) bounds view.Unopened state Closes ready = absurd (cc (state, ready.0))
     by_cases (Some r) bounds view.Unopened state (Opens d) ready = (
       state,
       ready.1,
-      slot_is (Some r) view.Unopened bounds state ∙ (opened (Some r) state (state_of_cell _ _ ready.2) ∙ ap (filled_as h gained) ready.2),
+      opened_new r (created_by a.task a.call) bounds state refl (may_become r view.Unopened bounds state) (state_of_cell _ _ ready.2)
+          ∙ ap (λ v. with_own_frame glyphs false (filled_as h gained v)) ready.2,
     )
     by_cases (Some r) bounds view.Unopened state (Changes k) ready = absurd (cc (state, ready.0))
     by_cases (Some r) bounds view.Live state Stays ready =
-        slot_is (Some r) view.Live bounds state ∙ (ap (λ v. filled_from b (hook_in c) v) ready ∙ stays_filled c (sound state).bits.bitmap)
+        still view.Live state (
+          may.room,
+          across_live a c r,
+          (after state r bounds).done,
+          followed_live r c bounds state
+              (sym (stays_filled c (sound state).bits.bitmap)
+              ∙ ap (filled_from b (hook_in c)) (sym ready ∙ cell_is (Some r) view.Live bounds state)),
+        )
     by_cases (Some r) bounds view.Live state Closes ready =
         absurd (cc (state_of_cell _ _ (cell_is (Some r) view.Live bounds state), state, state_of_cell _ _ ready.1))
     by_cases (Some r) bounds view.Live state (Opens d) ready = absurd (cc (state, ready.0))
-    by_cases (Some r) bounds view.Live state (Changes k) ready = (
-      state,
-      ready.1,
-      slot_is (Some r) view.Live bounds state ∙ (changed state (state_of_cell _ _ ready.2 ∙ state) ∙ ap (filled_as (hook_in c) gained) ready.2),
-    )
-    by_cases (Some r) bounds view.Closed state Stays ready = slot_is (Some r) view.Closed bounds state
+    by_cases (Some r) bounds view.Live state (Changes k) ready =
+        let live : e.state ≡ view.Live = state_of_cell _ _ ready.2 ∙ state in
+        let P : State → Type 0 = λ s. filled_from b (due_hook a shelf c s) e ≡ filled_as (due_hook a shelf c s) gained e in
+        let right : filled_from b (hook_in c) e ≡ filled_as (hook_in c) gained e = subst P state (filled live) in (
+          state,
+          may.room,
+          ready.1,
+          across_live a c r,
+          (after state r bounds).done,
+          followed_live r _ bounds state
+              (ap (filled_as (hook_in c) gained) (sym ready.2)
+              ∙ (sym right ∙ ap (filled_from b (hook_in c)) (cell_is (Some r) view.Live bounds state))),
+        )
+    by_cases (Some r) bounds view.Closed state Stays ready = still view.Closed state (slot_is (Some r) view.Closed bounds state)
     by_cases (Some r) bounds view.Closed state Closes ready = absurd (cc (state, ready.0))
     by_cases (Some r) bounds view.Closed state (Opens d) ready = absurd (cc (state, ready.0))
     by_cases (Some r) bounds view.Closed state (Changes k) ready = absurd (cc (state, ready.0))

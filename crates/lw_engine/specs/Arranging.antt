@@ -2,6 +2,7 @@
 -- contracts on what is prepared for it (this project's own).
 use Rattle.std.specs.Prelude.{◌≡◌, ◌↔◌, ℕ, ◌<◌, ◌≤◌, Bool, List, length, slice_set, IsTrue, Option, None}
 use Rattle.std.specs.List.{slice_index_or}
+use Rattle.lw_calls.specs.Assets.{Assets}
 use Rattle.lw_calls.specs.declared.call.Call.{Call}
 use Rattle.lw_calls.specs.declared.call.Call.TheVariants.{Create, OpenWindow}
 use Rattle.lw_calls.specs.declared.reply.Reply.{Reply}
@@ -19,10 +20,10 @@ use Rattle.lw_arrange.specs.Plans.{Planned}
 use Rattle.lw_engine.specs.Desks.{AreOfDesk, AreOnShelf, hook_at, no_cell, cell_at}
 use Rattle.lw_engine.specs.Slots.{hook_in, bare, ReadyView, IsSettled, IsReadyFor, nothing_ready}
 
--- What a call on all layers answers and leaves in each desk with these parts and this shelf of hooks.
-abbrev pub IsAllStep : Stack → List (Option Hook) → List CellView → ℕ → Call → Reply → Stack → List (Option Hook) → List CellView → Type 0
-IsAllStep v shelf cells task call r new_v new_shelf new_cells =
-    (d : Desk) → AreOfDesk v cells d → AreOnShelf shelf d
+-- What a call on all layers answers and leaves in each desk with these parts and this shelf of hooks, to which this was handed in.
+abbrev pub IsAllStep : Assets → Stack → List (Option Hook) → List CellView → ℕ → Call → Reply → Stack → List (Option Hook) → List CellView → Type 0
+IsAllStep assets v shelf cells task call r new_v new_shelf new_cells =
+    (d : Desk) → AreOfDesk v cells d → AreOnShelf shelf d → d.assets ≡ assets
     → (r ≡ reply d task call) × AreOfDesk new_v new_cells (after d task call) × AreOnShelf new_shelf (after d task call)
 
 -- a layer that was deleted has dropped its hook
@@ -61,12 +62,14 @@ abbrev pub AreReady : Planned → List (Option Hook) → List CellView → List 
 AreReady a shelf slots made = ForEach (λ c r. IsReadyFor a shelf c r) no_cell nothing_ready slots made
 
 -- what is ready for each slot makes of it what is told
-abbrev pub AreSettled : (CellView → CellView) → List CellView → List ReadyView → Type 0
-AreSettled after slots ready = ForEach (λ c r. IsSettled c (after c) r) no_cell nothing_ready slots ready
+abbrev pub AreSettled : List (List ℕ) → (CellView → CellView) → List CellView → List ReadyView → Type 0
+AreSettled glyphs after slots ready = ForEach (λ c r. IsSettled glyphs c (after c) r) no_cell nothing_ready slots ready
 
 -- what is ready, once the hook that a call asks for was taken from the shelf for the slot of its new layer
 abbrev pub with_taken : List (Option Hook) → Call → List ReadyView → List ReadyView
 with_taken shelf (Create slot make) ready =
+    slice_set ready slot (record (slice_index_or ready slot nothing_ready) { taken = hook_from (hook_at shelf) make.hook })
+with_taken shelf (OpenWindow slot make framed nocare asks title) ready =
     slice_set ready slot (record (slice_index_or ready slot nothing_ready) { taken = hook_from (hook_at shelf) make.hook })
 with_taken shelf call ready = ready
 

@@ -1,8 +1,7 @@
 -- Which desks LayerInfo, the cells and the registers stand for, part by part and together (this project's own).
-use Rattle.std.specs.Prelude.{◌≡◌, ℕ, ◌<◌, List, [], length, Option, None}
+use Rattle.std.specs.Prelude.{◌≡◌, ℕ, ◌<◌, List, [], map, length, Option, None}
 use Rattle.std.specs.List.{slice_index_or}
 use Rattle.lw_region.specs.Rectangle.{Rectangle}
-use Rattle.lw_region.specs.Pixels.{Pixel, pixels_of}
 use Rattle.lw_machine.specs.Hook.{Hook}
 use Rattle.lw_machine.specs.Desk.{Desk}
 use Rattle.lw_machine.specs.Parts.{slot_part, info_part}
@@ -10,12 +9,10 @@ use Rattle.lw_machine.specs.Sound.{IsDesk}
 use Rattle.lw_layer.specs.View.{CellView}
 use Rattle.lw_layer.specs.View as view
 use Rattle.lw_layer.specs.Drafts.{no_layer}
+use Rattle.lw_layer.specs.Windows.{without_room}
 use Rattle.lw_layer.specs.StandsFor.{StandsFor}
 use Rattle.lw_stack.specs.Stack.{Stack, StandsForInfo}
-
--- a task's registers have these sets of pixels
-pub record StandForRegisters (regs : List (List Rectangle)) (part : ℕ → List Pixel) : Type 0 where
-  pub sets : (r : ℕ) → r < 8 → part r ≡ pixels_of (slice_index_or regs r [])
+use Rattle.lw_parts.specs.Registers.{StandForRegisters}
 
 -- where there is no cell of a slot
 abbrev pub no_cell : CellView
@@ -36,6 +33,10 @@ pub record AreOfDesk (v : Stack) (cells : List CellView) (d : Desk) : Type 0 whe
   pub sizes : d.sizes ≡ v.sizes
   pub info : StandsForInfo v (info_part d)
   pub slots : (s : ℕ) → s < v.sizes.slots → StandsFor (cell_at cells s) (slot_part d s)
+
+-- the cells are as before, whatever room their ports have
+abbrev pub AreAsBefore : List CellView → List CellView → Type 0
+AreAsBefore old new = map without_room new ≡ map without_room old
 
 -- the hook of a number on the shelf, if it is there
 abbrev pub hook_at : List (Option Hook) → ℕ → Option Hook

@@ -1,6 +1,4 @@
 pub mod Desks
-pub mod Parts
-pub mod Registers
 pub mod Classes
 pub mod Steps
 pub mod Slots

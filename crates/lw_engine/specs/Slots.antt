@@ -1,22 +1,31 @@
 -- A slot with the hook of its layer, and what an arrangement makes of it (this project's own).
-use Rattle.std.specs.Prelude.{◌≡◌, ℕ, ◌==◌, not, ◌&&◌, if◌then◌else◌, pos, List, [], length, slice_set, Option, Some, None}
+use Rattle.std.specs.Prelude.{◌≡◌, ℕ, Bool, true, false, ◌==◌, not, ◌&&◌, if◌then◌else◌, pos, List, [], length, slice_set, Option, Some, None}
 use Rattle.lw_region.specs.Rectangle.{Rectangle}
 use Rattle.lw_region.specs.Bands.{covers}
 use Rattle.lw_calls.specs.declared.call.Call.{Call}
-use Rattle.lw_calls.specs.declared.call.Call.TheVariants.{Create}
+use Rattle.lw_calls.specs.declared.call.Call.TheVariants.{Create, OpenWindow}
 use Rattle.lw_machine.specs.Hook.{Hook}
+use Rattle.lw_machine.specs.Layer.{is_framed}
+use Rattle.lw_machine.specs.Desk.{is_the}
 use Rattle.lw_machine.specs.Arrangement.{hook_from}
+use Rattle.lw_machine.specs.Reveal.{Across, width_in, height_in, frame_is_due, revealed}
 use Rattle.lw_layer.specs.View.{State, CellView, keeps, with_live, hooked}
 use Rattle.lw_layer.specs.View as view
 use Rattle.lw_layer.specs.Drafts.{IsLiveDraft, live_view, no_layer}
+use Rattle.lw_layer.specs.Windows.{HasRoom}
+use Rattle.lw_windows.specs.declared.messages.Change.{Change as Told}
+use Rattle.lw_frames.specs.Framing.{with_own_frame}
+use Rattle.lw_frames.specs.Telling.{IsDone, told}
 use Rattle.lw_stack.specs.Stack.{bounds_at}
-use Rattle.lw_reveal.specs.Changed.{revealed_to}
+use Rattle.lw_reveal.specs.Changed.{carried_to}
 use Rattle.lw_reveal.specs.Changes.{IsChange}
 use Rattle.lw_arrange.specs.declared.preparing.Prepared.{Prepared}
 use Rattle.lw_arrange.specs.declared.preparing.Prepared.TheVariants.{Stays, Closes, Opens, Changes}
 use Rattle.lw_arrange.specs.Plans.{Planned}
-use Rattle.lw_arrange.specs.Prepared.{cell_after}
+use Rattle.lw_arrange.specs.Prepared.{MayPrepare}
 use Rattle.lw_arrange.specs.Filled.{gains, gains_some, filled_by}
+use Rattle.lw_arrange.specs.Settled.{across_plan, slot_settled}
+use Rattle.lw_engine.specs.declared.window_after.WindowAfter.{WindowAfter}
 use Rattle.lw_engine.specs.Desks.{hook_at}
 
 -- the hook of a slot's layer, if it has one, and the slot's cell without it
@@ -29,6 +38,7 @@ bare c = hooked None c
 -- the hook that a call asks for the layer in a slot, where it is on the shelf
 abbrev pub asked_hook : List (Option Hook) → Call → ℕ → Option Hook
 asked_hook shelf (Create slot make) n = if n == slot then hook_from (hook_at shelf) make.hook else None
+asked_hook shelf (OpenWindow slot make framed nocare asks title) n = if n == slot then hook_from (hook_at shelf) make.hook else None
 asked_hook shelf call n = None
 
 -- the shelf without a hook that is asked for, and after a call that is done
@@ -38,27 +48,21 @@ shelf_without (Some n) shelf = slice_set shelf n None
 
 abbrev pub shelf_after : Call → List (Option Hook) → List (Option Hook)
 shelf_after (Create slot make) shelf = shelf_without make.hook shelf
+shelf_after (OpenWindow slot make framed nocare asks title) shelf = shelf_without make.hook shelf
 shelf_after call shelf = shelf
 
--- a slot whose cell was made from this one, and whose layer has this hook: it filled what its layer gained
-abbrev pub filled_from : CellView → Option Hook → CellView → CellView
-filled_from c h e = filled_by h (λ x y. gains c e x y) (gains_some c e) e
+-- The slot after a planned arrangement, to which these glyphs were handed in, and before which these hooks are on the shelf.
+abbrev pub slot_after : List (List ℕ) → Planned → List (Option Hook) → CellView → CellView
+slot_after glyphs a shelf c = slot_settled glyphs a (asked_hook shelf a.call c.number) c
 
--- a slot that has no bounds afterwards: a live layer is deleted, and its hook with it
-abbrev pub slot_without : CellView → State → CellView
-slot_without c view.Unopened = c
-slot_without c view.Live = record { number = c.number; state = view.Closed; live = no_layer }
-slot_without c view.Closed = c
+-- Words of this crate's private contracts.
 
--- a slot that has bounds afterwards: a new layer with this hook, or one that keeps its own
-abbrev pub slot_with : Planned → Option Hook → CellView → State → CellView
-slot_with a h c view.Unopened = filled_from (bare c) h (cell_after a (bare c))
-slot_with a h c view.Live = filled_from (bare c) (hook_in c) (cell_after a (bare c))
-slot_with a h c view.Closed = c
-
-abbrev pub slot_by_bounds : Planned → Option Hook → CellView → Option Rectangle → CellView
-slot_by_bounds a h c None = slot_without c c.state
-slot_by_bounds a h c (Some r) = slot_with a h c c.state
+-- a slot may be made ready for the arrangement: its cell may be prepared, it isn't to be the active window before it is opened, and
+-- a window's port has room for all messages that it may be due
+pub record MayBeReady (a : Planned) (c : CellView) : Type 0 where
+  pub prepare : MayPrepare a (bare c)
+  pub idle : c.state ≡ view.Unopened → is_the a.stack.active c.number ≡ false
+  pub room : HasRoom 5 c
 
 -- the hook that a slot's layer fills with, by what the slot holds before
 abbrev pub due_hook : Planned → List (Option Hook) → CellView → State → Option Hook
@@ -66,41 +70,84 @@ due_hook a shelf c view.Unopened = asked_hook shelf a.call c.number
 due_hook a shelf c view.Live = hook_in c
 due_hook a shelf c view.Closed = None
 
--- the slot after a planned arrangement, before which these hooks are on the shelf
-abbrev pub slot_after : Planned → List (Option Hook) → CellView → CellView
-slot_after a shelf c = slot_by_bounds a (asked_hook shelf a.call c.number) c (bounds_at a.stack.bounds c.number)
+-- a slot whose cell was made from this one, and whose layer has this hook: what its layer gained was filled
+abbrev pub filled_from : CellView → Option Hook → CellView → CellView
+filled_from c h e = filled_by h (λ x y. gains c e x y) (gains_some c e) e
 
--- What is ready to be made of a slot: what was prepared for its cell, the pixels that a hook then fills, and the hook of a new
--- layer.
+-- the slot once the pixels of these rectangles that its layer keeps were filled, with its layer's hook or with pen 0
+abbrev pub filled_as : Option Hook → List Rectangle → CellView → CellView
+filled_as h gained c = filled_by h (λ x y. keeps c.live x y && covers gained (pos x) (pos y)) (not (length gained == 0)) c
+
+-- the one rectangle has another number of columns or lines than the other
+abbrev pub is_sized : Rectangle → Rectangle → Bool
+is_sized r s = not ((width_in (Some r) == width_in (Some s)) && (height_in (Some r) == height_in (Some s)))
+
+-- a layer that is live, across the arrangement after which it has these bounds
+abbrev pub across_live : Planned → CellView → Rectangle → Across
+across_live a c r = across_plan a c.number (Some c.live.bounds) c.live r
+
+-- What is known beforehand of a layer that stays live, which then has these bounds: whether it is the active window, and what its
+-- window is told; and of a framed window whether its frame is due.
+pub record IsWindowAfter (a : Planned) (c : CellView) (r : Rectangle) (w : WindowAfter) : Type 0 where
+  pub active : w.active ≡ is_the a.stack.active c.number
+  pub done : IsDone (across_live a c r) w.change
+  pub frame : is_framed c.live.layer.window ≡ true
+      → w.frame ≡ frame_is_due (across_live a c r) c.live.layer (revealed (across_live a c r) c.live.layer)
+
+-- the slot whose layer is the active window or not, with its frame where it is due, and its window told
+abbrev pub with_activity : Bool → CellView → CellView
+with_activity active c = with_live (λ k. record k { active = active }) c
+
+abbrev pub with_frame_if : Bool → List (List ℕ) → Bool → CellView → CellView
+with_frame_if due glyphs active c = if due then with_own_frame glyphs active c else c
+
+abbrev pub followed : List (List ℕ) → WindowAfter → Across → CellView → CellView
+followed glyphs w q c = with_live (told q) (with_frame_if w.frame glyphs w.active (with_activity w.active c))
+
+-- What is ready to be made of a slot: what was prepared for its cell, the pixels that are then filled, the hook of a new layer, and
+-- what becomes of the window of one that stays live.
 pub record ReadyView : Type 0 where
   pub prepared : Prepared
   pub gained : List Rectangle
   pub taken : Option Hook
+  pub window : WindowAfter
 
--- the slot once its layer's hook, if it has one, filled the pixels of these rectangles that it keeps
-abbrev pub filled_as : Option Hook → List Rectangle → CellView → CellView
-filled_as h gained c = filled_by h (λ x y. keeps c.live x y && covers gained (pos x) (pos y)) (not (length gained == 0)) c
+-- the one slot becomes the other, whose layer stays as it is if there is one: its window is told
+abbrev pub IsStill : List (List ℕ) → CellView → CellView → WindowAfter → State → Type 0
+IsStill glyphs from to w view.Unopened = to ≡ from
+IsStill glyphs from to w view.Live = HasRoom 5 from × (q : Across) × IsDone q w.change × (to ≡ followed glyphs w q from)
+IsStill glyphs from to w view.Closed = to ≡ from
 
 -- the one slot becomes the other by what is ready for it
-abbrev pub IsSettledBy : CellView → CellView → List Rectangle → Option Hook → Prepared → Type 0
-IsSettledBy from to gained taken Stays = to ≡ from
-IsSettledBy from to gained taken Closes =
+abbrev pub IsSettledBy : List (List ℕ) → CellView → CellView → List Rectangle → Option Hook → WindowAfter → Prepared → Type 0
+IsSettledBy glyphs from to gained taken w Stays = IsStill glyphs from to w from.state
+IsSettledBy glyphs from to gained taken w Closes =
     (from.state ≡ view.Live) × (to ≡ record { number = from.number; state = view.Closed; live = no_layer })
-IsSettledBy from to gained taken (Opens d) =
+IsSettledBy glyphs from to gained taken w (Opens d) =
     (from.state ≡ view.Unopened) × IsLiveDraft d
-    × (to ≡ filled_as taken gained (record { number = from.number; state = view.Live; live = live_view d }))
-IsSettledBy from to gained taken (Changes k) =
-    (from.state ≡ view.Live) × IsChange (bare from).live k
-    × (to ≡ filled_as (hook_in from) gained (with_live (λ c. revealed_to k.bounds k.parts.visible c) (bare from)))
+    × (to ≡ with_own_frame glyphs false (filled_as taken gained (record { number = from.number; state = view.Live; live = live_view d })))
+IsSettledBy glyphs from to gained taken w (Changes k) =
+    (from.state ≡ view.Live) × HasRoom 5 from × IsChange (bare from).live k × (q : Across) × IsDone q w.change
+    × (to ≡ followed glyphs w q
+    (filled_as (hook_in from) gained (with_live (λ c. carried_to k.bounds k.parts.visible c) (bare from))))
 
-abbrev pub IsSettled : CellView → CellView → ReadyView → Type 0
-IsSettled from to r = IsSettledBy from to r.gained r.taken r.prepared
+abbrev pub IsSettled : List (List ℕ) → CellView → CellView → ReadyView → Type 0
+IsSettled glyphs from to r = IsSettledBy glyphs from to r.gained r.taken r.window r.prepared
 
 -- What is ready for a slot, once a new layer has its hook, makes of it what the arrangement says; the hook isn't taken so far.
 pub record IsReadyFor (a : Planned) (shelf : List (Option Hook)) (c : CellView) (r : ReadyView) : Type 0 where
-  pub settled : IsSettledBy c (slot_after a shelf c) r.gained (asked_hook shelf a.call c.number) r.prepared
+  pub settled : (glyphs : List (List ℕ))
+      → IsSettledBy glyphs c (slot_after glyphs a shelf c) r.gained (asked_hook shelf a.call c.number) r.window r.prepared
   pub untaken : r.taken ≡ None
+
+-- nothing is told of a window
+abbrev pub no_window_after : WindowAfter
+no_window_after = record {
+  frame = false;
+  active = false;
+  change = record { sized = false; changed = false; deactivated = false; activated = false; damaged = false };
+}
 
 -- nothing is ready
 abbrev pub nothing_ready : ReadyView
-nothing_ready = record { prepared = Stays; gained = []; taken = None }
+nothing_ready = record { prepared = Stays; gained = []; taken = None; window = no_window_after }

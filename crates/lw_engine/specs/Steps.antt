@@ -1,5 +1,5 @@
 -- What a call makes of the desk of the program (this project's own).
-use Rattle.std.specs.Prelude.{◌≡◌, ℕ, List, slice_set}
+use Rattle.std.specs.Prelude.{◌≡◌, ℕ, List, map, slice_set}
 use Rattle.lw_region.specs.Rectangle.{Rectangle}
 use Rattle.lw_calls.specs.Assets.{Assets}
 use Rattle.lw_calls.specs.declared.call.Call.{Call}
@@ -9,6 +9,7 @@ use Rattle.lw_machine.specs.Step.{after, reply}
 use Rattle.lw_layer.specs.View.{CellView}
 use Rattle.lw_layer.specs.View as view
 use Rattle.lw_layer.specs.Drafts.{no_layer}
+use Rattle.lw_layer.specs.Windows.{without_room}
 use Rattle.lw_engine.specs.Desks.{Engine, StandsForDesk}
 
 -- what a call of a task answers and leaves, in every desk for which the desk of the program stands
@@ -27,6 +28,10 @@ with_registers e task regs = record e { registers = slice_set e.registers task r
 -- and with another cell of a slot
 abbrev pub with_cell : Engine → ℕ → CellView → Engine
 with_cell e slot c = record e { cells = slice_set e.cells slot c }
+
+-- the desk of the program, whatever room the ports of its windows have
+abbrev pub roomless : Engine → Engine
+roomless e = record e { cells = map without_room e.cells }
 
 -- the cell of a slot that wasn't opened so far
 abbrev pub unopened_cell : ℕ → CellView

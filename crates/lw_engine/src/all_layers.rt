@@ -1,44 +1,45 @@
-ghost use Rattle.std.specs.Prelude.{◌≡◌, ℕ, ◌<◌, length, option_map, IfOk, OnErr, IsTrue};
+ghost use Rattle.std.specs.Prelude.{◌≡◌, ℕ, ◌<◌, length, option_map, IfOk, OnOk, OnErr, IsTrue};
 ghost use Rattle.lw_calls.specs.Limits.{call_fits};
 ghost use Rattle.lw_calls.specs.Touches.{OnAll, class_of};
 ghost use Rattle.lw_machine.specs.Arrangement.{hook_from};
 ghost use Rattle.lw_machine.specs.Desk.{Desk};
 ghost use Rattle.lw_layer.specs.View.{CellView};
-ghost use Rattle.lw_arrange.specs.Prepared.{IsPlainCall, MayPrepare};
-ghost use Rattle.lw_engine.specs.Desks.{AreNumbered, AreOfDesk, hook_at, cell_at};
-ghost use Rattle.lw_engine.specs.Slots.{bare, shelf_without, shelf_after, slot_after, IsSettled};
+ghost use Rattle.lw_layer.specs.Windows.{HasRoom};
+ghost use Rattle.lw_engine.specs.Desks.{AreNumbered, AreOfDesk, AreAsBefore, hook_at, cell_at};
+ghost use Rattle.lw_engine.specs.Slots.{shelf_without, shelf_after, slot_after, IsSettled, MayBeReady};
 ghost use Rattle.lw_engine.specs.Arranging.{AreLooks, HasSlot, IsFreshSlot, AreReady, AreSettled, with_taken, AreChanged, IsAllStep, DropHooks};
 
 use crate::ready::Ready;
 use crate::slot::Slot;
 use lw_arrange::{Arrangement, Step, commit_info, plan_step, prepare_info};
 use lw_backfill::{Backfill, Shelf};
-use lw_calls::{Call, Reply};
+use lw_calls::{Assets, Call, Reply};
 use lw_layer::Look;
 use lw_stack::Info;
 use std::alloc::{AllocError, Global};
 use std::mem;
 
-/// Makes a call that arranges layers, on LayerInfo, the shelf of hooks and all slots in rising number: it is planned, everything is
-/// prepared, and only then anything is changed. It fails for want of memory alone, and all is then as it was.
+/// Makes a call that arranges layers, on LayerInfo, the shelf of hooks and all slots in rising number, as the machine's step says of
+/// every desk to which this was handed in: it is planned, room is reserved in each window's port, everything is prepared, and only
+/// then anything is changed. It fails for want of memory alone, and all is then as it was, whatever room ports have.
 pub fn on_all<B: Backfill>(
     alloc: Global,
     info: &mut Info,
     shelf: &mut Shelf<B>,
     slots: &mut [Slot<B>],
+    assets: &Assets,
     task: u32,
     call: &Call,
 ) -> Result<Reply, AllocError>
     requires all { class_of call.now ≡ OnAll }
     requires fits { IsTrue (call_fits info.old.sizes call.now) }
-    requires plain { IsPlainCall call.now }
     requires cells { AreNumbered info.old.sizes.slots slots.old }
     requires desk { (d : Desk) × AreOfDesk info.old slots.old d }
-    ensures step { IfOk result (λ r. IsAllStep info.old shelf.old slots.old task call.now r info.new shelf.new slots.new) }
+    ensures step { IfOk result (λ r. IsAllStep assets.now info.old shelf.old slots.old task call.now r info.new shelf.new slots.new) }
     ensures sizes { info.new.sizes ≡ info.old.sizes }
     ensures cells { AreNumbered info.new.sizes.slots slots.new }
     ensures dropped { DropHooks slots.old slots.new }
-    ensures unchanged { OnErr result ((info.new ≡ info.old) × (shelf.new ≡ shelf.old) × (slots.new ≡ slots.old)) }
+    ensures unchanged { OnErr result ((info.new ≡ info.old) × (shelf.new ≡ shelf.old) × AreAsBefore slots.old slots.new) }
 {
     let looks = looks_of(alloc, slots)?;
     let fresh = is_fresh(slots, call);
@@ -47,7 +48,8 @@ pub fn on_all<B: Backfill>(
         Step::Arranged(arrangement) => {
             // Reading the sizes tells the proof what holds of the plan.
             let _ = arrangement.sizes();
-            arrange(alloc, info, shelf, slots, &arrangement)
+            reserve_all(alloc, slots)?;
+            arrange(alloc, info, shelf, slots, assets, &arrangement)
         }
     }
 }
@@ -58,25 +60,37 @@ fn arrange<B: Backfill>(
     info: &mut Info,
     shelf: &mut Shelf<B>,
     slots: &mut [Slot<B>],
+    assets: &Assets,
     arrangement: &Arrangement,
 ) -> Result<Reply, AllocError>
     requires sizes { arrangement.now.stack.sizes ≡ info.old.sizes }
     requires cells { AreNumbered info.old.sizes.slots slots.old }
     requires call { HasSlot (length slots.old) arrangement.now.call }
-    requires may { (s : ℕ) → s < length slots.old → MayPrepare arrangement.now (bare (cell_at slots.old s)) }
+    requires may { (s : ℕ) → s < length slots.old → MayBeReady arrangement.now (cell_at slots.old s) }
     ensures reply { IfOk result (λ r. r ≡ Reply.Done) }
     ensures info { IfOk result (λ r. info.new ≡ arrangement.now.stack) }
     ensures shelf { IfOk result (λ r. shelf.new ≡ shelf_after arrangement.now.call shelf.old) }
-    ensures cells { IfOk result (λ r. AreChanged (slot_after arrangement.now shelf.old) slots.old slots.new) }
+    ensures cells { IfOk result (λ r. AreChanged (slot_after assets.now.glyphs arrangement.now shelf.old) slots.old slots.new) }
     ensures unchanged { OnErr result ((info.new ≡ info.old) × (shelf.new ≡ shelf.old) × (slots.new ≡ slots.old)) }
 {
     let mut ready = prepare_all(alloc, slots, shelf, arrangement)?;
     let next = prepare_info(alloc, info, arrangement)?;
     let ready = ready.as_mut_slice();
     take_hook(shelf, ready, arrangement.call());
-    settle_all(alloc, slots, ready);
+    settle_all(alloc, slots, assets, ready);
     commit_info(info, next);
     Ok(Reply::Done)
+}
+
+// Reserves room in each window's port for as many messages as it may be due, so that none can fail to be put.
+fn reserve_all<B: Backfill>(alloc: Global, slots: &mut [Slot<B>]) -> Result<(), AllocError>
+    ensures cells { AreAsBefore slots.old slots.new }
+    ensures room { OnOk result ((s : ℕ) → s < length slots.new → HasRoom 5 (cell_at slots.new s)) }
+{
+    for slot in 0..slots.len() {
+        slots[slot].reserve(alloc)?;
+    }
+    Ok(())
 }
 
 // What is told of each slot's layer.
@@ -110,7 +124,7 @@ fn prepare_all<B: Backfill>(
     arrangement: &Arrangement,
 ) -> Result<Vec<Ready<B>>, AllocError>
     requires cells { AreNumbered arrangement.now.stack.sizes.slots slots.now }
-    requires may { (s : ℕ) → s < length slots.now → MayPrepare arrangement.now (bare (cell_at slots.now s)) }
+    requires may { (s : ℕ) → s < length slots.now → MayBeReady arrangement.now (cell_at slots.now s) }
     ensures { IfOk result (λ made. AreReady arrangement.now shelf.now slots.now made.items) }
 {
     let mut made = Vec::with_capacity(alloc, slots.len())?;
@@ -126,9 +140,12 @@ fn take_hook<B: Backfill>(shelf: &mut Shelf<B>, ready: &mut [Ready<B>], call: &C
     ensures shelf { shelf.new ≡ shelf_after call.now shelf.old }
     ensures ready { ready.new ≡ with_taken shelf.old call.now ready.old }
 {
-    if let Call::Create { slot, make } = call {
-        let taken = take(shelf, make.hook);
-        ready[*slot as usize].receive(taken);
+    match call {
+        Call::Create { slot, make } | Call::OpenWindow { slot, make, .. } => {
+            let taken = take(shelf, make.hook);
+            ready[*slot as usize].receive(taken);
+        }
+        _ => {}
     }
 }
 
@@ -144,19 +161,24 @@ fn take<B: Backfill>(shelf: &mut Shelf<B>, hook: Option<u32>) -> Option<B>
 }
 
 // Settles every slot.
-fn settle_all<B: Backfill>(alloc: Global, slots: &mut [Slot<B>], ready: &mut [Ready<B>])
-    requires { (after : CellView → CellView) × AreSettled after slots.old ready.old }
-    ensures { (after : CellView → CellView) → AreSettled after slots.old ready.old → AreChanged after slots.old slots.new }
+fn settle_all<B: Backfill>(
+    alloc: Global,
+    slots: &mut [Slot<B>],
+    assets: &Assets,
+    ready: &mut [Ready<B>],
+)
+    requires { (after : CellView → CellView) × AreSettled assets.now.glyphs after slots.old ready.old }
+    ensures { (after : CellView → CellView) → AreSettled assets.now.glyphs after slots.old ready.old → AreChanged after slots.old slots.new }
 {
     for slot in 0..slots.len() {
-        settle_one(alloc, &mut slots[slot], &mut ready[slot]);
+        settle_one(alloc, &mut slots[slot], assets, &mut ready[slot]);
     }
 }
 
 // Settles one slot.
-fn settle_one<B: Backfill>(alloc: Global, slot: &mut Slot<B>, ready: &mut Ready<B>)
-    requires { (to : CellView) × IsSettled slot.old to ready.old }
-    ensures { (to : CellView) → IsSettled slot.old to ready.old → slot.new ≡ to }
+fn settle_one<B: Backfill>(alloc: Global, slot: &mut Slot<B>, assets: &Assets, ready: &mut Ready<B>)
+    requires { (to : CellView) × IsSettled assets.now.glyphs slot.old to ready.old }
+    ensures { (to : CellView) → IsSettled assets.now.glyphs slot.old to ready.old → slot.new ≡ to }
 {
-    slot.settle(mem::replace(ready, Ready::stays(alloc)));
+    slot.settle(alloc, assets, mem::replace(ready, Ready::stays(alloc)));
 }

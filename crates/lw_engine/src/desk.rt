@@ -2,26 +2,22 @@ ghost use Rattle.std.specs.Prelude.{◌≡◌, ℕ, ◌<◌, false, List, [], ma
 ghost use Rattle.std.specs.List.{range_with_len, slice_index_or};
 ghost use Rattle.lw_calls.specs.Assets.{Assets as AssetsView};
 ghost use Rattle.lw_calls.specs.declared.reply.Reply.{Reply as AnyReply};
-ghost use Rattle.lw_calls.specs.Built.{is_built};
 ghost use Rattle.lw_calls.specs.Limits.{IsWithinLimits, call_fits};
 ghost use Rattle.lw_calls.specs.Touches.{class_of, OnRegisters, OnInfo, OnLayer, OnLayers, OnAll};
 ghost use Rattle.lw_machine.specs.Desk.{Desk as MachineDesk, empty_desk, shelf_of};
 ghost use Rattle.lw_machine.specs.Finals.{final_of};
-ghost use Rattle.lw_arrange.specs.Prepared.{IsPlainCall};
+ghost use Rattle.lw_parts.specs.Parts.{takes_memory};
 ghost use Rattle.lw_engine.specs.Desks.{StandsForDesk};
-ghost use Rattle.lw_engine.specs.Parts.{takes_memory};
-ghost use Rattle.lw_engine.specs.Steps.{IsStep, IsStepWith, unopened_cell};
+ghost use Rattle.lw_engine.specs.Steps.{IsStep, IsStepWith, roomless, unopened_cell};
 
 use crate::all_layers::on_all;
 use crate::class::{Class, class_of};
 use crate::finishing::finish;
-use crate::looking::on_info;
-use crate::registers::on_registers;
-use crate::regs::Regs;
 use crate::slot::Slot;
 use crate::two_layers::on_two;
 use lw_backfill::{Backfill, Shelf};
 use lw_calls::{Assets, Call, Final, Replies, Reply, Sizes};
+use lw_parts::{Regs, on_info, on_registers};
 use lw_stack::Info;
 use std::alloc::{AllocError, Global};
 use std::marker::Model;
@@ -80,9 +76,8 @@ impl<B: Backfill> Desk<B> {
     ) -> Result<Reply, AllocError>
         requires fits { IsTrue (call_fits self.old.stack.sizes call.now) }
         requires task { task < self.old.stack.sizes.tasks }
-        requires built { IsTrue (is_built call.now) }
         ensures step { IfOk result (λ r. IsStepWith assets.now self.old task call.now r self.new) }
-        ensures unchanged { OnErr result (self.new ≡ self.old) }
+        ensures unchanged { OnErr result (roomless self.new ≡ roomless self.old) }
         ensures memory { takes_memory call.now ≡ false → IsOk result }
         ensures sizes { self.new.stack.sizes ≡ self.old.stack.sizes }
     {
@@ -91,7 +86,7 @@ impl<B: Backfill> Desk<B> {
             Class::Info => Ok(self.on_info(call)),
             Class::Layer(slot) => self.on_layer(alloc, assets, task, slot, call),
             Class::Layers(source, slot) => Ok(self.on_layers(source, slot, call)),
-            Class::All => self.on_all(alloc, task, call),
+            Class::All => self.on_all(alloc, assets, task, call),
         }
     }
 
@@ -140,14 +135,13 @@ impl<B: Backfill> Desk<B> {
         requires class { class_of call.now ≡ OnLayer slot }
         requires fits { IsTrue (call_fits self.old.stack.sizes call.now) }
         requires task { task < self.old.stack.sizes.tasks }
-        requires built { IsTrue (is_built call.now) }
         ensures step { IfOk result (λ r. IsStepWith assets.now self.old task call.now r self.new) }
         ensures unchanged { OnErr result (self.new ≡ self.old) }
         ensures memory { takes_memory call.now ≡ false → IsOk result }
         ensures sizes { self.new.stack.sizes ≡ self.old.stack.sizes }
     {
         let regs = &self.registers[task as usize];
-        self.slots[slot as usize].on_layer(alloc, regs, assets, call)
+        self.slots[slot as usize].on_layer(alloc, regs, assets, task, call)
     }
 
     // A call on two layers.
@@ -161,12 +155,17 @@ impl<B: Backfill> Desk<B> {
     }
 
     // A call that arranges the layers.
-    fn on_all(&mut self, alloc: Global, task: u32, call: &Call) -> Result<Reply, AllocError>
+    fn on_all(
+        &mut self,
+        alloc: Global,
+        assets: &Assets,
+        task: u32,
+        call: &Call,
+    ) -> Result<Reply, AllocError>
         requires class { class_of call.now ≡ OnAll }
         requires fits { IsTrue (call_fits self.old.stack.sizes call.now) }
-        requires plain { IsPlainCall call.now }
-        ensures step { IfOk result (λ r. IsStep self.old task call.now r self.new) }
-        ensures unchanged { OnErr result (self.new ≡ self.old) }
+        ensures step { IfOk result (λ r. IsStepWith assets.now self.old task call.now r self.new) }
+        ensures unchanged { OnErr result (roomless self.new ≡ roomless self.old) }
         ensures sizes { self.new.stack.sizes ≡ self.old.stack.sizes }
     {
         on_all(
@@ -174,6 +173,7 @@ impl<B: Backfill> Desk<B> {
             &mut self.info,
             &mut self.shelf,
             self.slots.as_mut_slice(),
+            assets,
             task,
             call,
         )

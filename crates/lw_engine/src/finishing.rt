@@ -1,21 +1,20 @@
-// What a run leaves, from the list of layers and the cells of all slots.
+// What a run leaves, from the list of layers and all slots.
 
-ghost use Rattle.std.specs.Prelude.{◌≡◌, ℕ, ◌<◌, [], List, map, IfOk, vec_len};
+ghost use Rattle.std.specs.Prelude.{◌≡◌, ℕ, ◌<◌, [], List, length, map, IfOk, vec_len};
 ghost use Rattle.std.specs.List.{range_with_len, slice_index_or};
-ghost use Rattle.lw_region.specs.Bands.{bands};
 ghost use Rattle.lw_calls.specs.declared.reply.Reply.{Reply as AnyReply};
-ghost use Rattle.lw_layer.specs.View as view;
 ghost use Rattle.lw_machine.specs.Desk.{Desk};
-ghost use Rattle.lw_machine.specs.Finals.{damage_set, final_of};
+ghost use Rattle.lw_machine.specs.Finals.{final_of};
+ghost use Rattle.lw_machine.specs.Screen.{screen};
+ghost use Rattle.lw_final.specs.Shown.{seen_in};
 ghost use Rattle.lw_engine.specs.Desks.{cell_at, AreNumbered, AreOfDesk};
-ghost use Rattle.lw_engine.specs.Finished.{first_set, seen_in};
+ghost use Rattle.lw_engine.specs.Finished.{AreSlotsOf};
 
-use crate::composing::screen;
 use crate::slot::Slot;
 use lw_backfill::Backfill;
-use lw_calls::{Final, Replies, Seen};
-use lw_layer::Cell;
-use lw_region::Region;
+use lw_calls::{Final, Replies, Seen, Sizes};
+use lw_final::{seen, show_layer};
+use lw_planes::Planes;
 use lw_stack::Info;
 use std::alloc::{AllocError, Global};
 
@@ -44,6 +43,29 @@ pub fn finish<B: Backfill>(
     })
 }
 
+// What the screen shows.
+fn screen<B: Backfill>(
+    alloc: Global,
+    sizes: &Sizes,
+    slots: &[Slot<B>],
+) -> Result<Planes, AllocError>
+    requires many { length slots.now ≡ sizes.now.slots }
+    requires desk { (d : Desk) × AreSlotsOf sizes.now slots.now d }
+    ensures { IfOk result (λ planes. (d : Desk) → AreSlotsOf sizes.now slots.now d → planes ≡ screen d) }
+{
+    let mut planes = Planes::new(alloc, sizes.width, sizes.height, sizes.depth)?;
+    // A bit for each column of the screen.
+    let bytes = sizes.width as usize / 8 + 1;
+    let mut bits = vec![in alloc; 0; bytes]?;
+    let mut kept = vec![in alloc; 0; bytes]?;
+    let bits = bits.as_mut_slice();
+    let kept = kept.as_mut_slice();
+    for slot in slots {
+        show_layer(&mut planes, slot.cell(), bits, kept);
+    }
+    Ok(planes)
+}
+
 // What is seen of each slot.
 fn slots_seen<B: Backfill>(
     alloc: Global,
@@ -59,42 +81,4 @@ fn slots_seen<B: Backfill>(
         all.push(seen(alloc, info, slot.cell())?)?;
     }
     Ok(all)
-}
-
-// What is seen of the cell's layer: where it is shown, and its damage. No layer is a window so far.
-fn seen(alloc: Global, info: &Info, cell: &Cell) -> Result<Option<Seen>, AllocError>
-    ensures { IfOk result (λ seen. seen ≡ seen_in info.now cell.now) }
-{
-    if cell.look().is_none() {
-        return Ok(None);
-    }
-    let visible = visible(alloc, info, cell.slot())?;
-    let damage = damage(alloc, cell)?;
-    Ok(Some(Seen {
-        visible,
-        damage,
-        messages: None,
-    }))
-}
-
-// Where on the screen the slot's layer is shown.
-fn visible(alloc: Global, info: &Info, slot: u32) -> Result<Region, AllocError>
-    ensures { IfOk result (λ region. region ≡ bands (first_set info.now slot)) }
-{
-    // Reading these two tells the proof that the bounds lie on the screen, and that the region's list is canonical.
-    let _ = info.order();
-    let region = info.visible_of(alloc, slot)?;
-    let _ = region.rects();
-    Ok(region)
-}
-
-// The damaged pixels of the cell's layer.
-fn damage(alloc: Global, cell: &Cell) -> Result<Region, AllocError>
-    requires { cell.now.state ≡ view.Live }
-    ensures { IfOk result (λ region. region ≡ bands (damage_set cell.now.live.layer)) }
-{
-    let region = cell.damage().region();
-    // Reading them tells the proof that their list is canonical.
-    let _ = region.rects();
-    region.copy(alloc)
 }

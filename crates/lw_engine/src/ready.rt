@@ -1,20 +1,28 @@
 // What an arrangement makes of one slot, in two steps: making it ready takes all the memory, and settling it takes none.
 
-ghost use Rattle.std.specs.Prelude.{◌≡◌, ◌<◌, option_map, is_some, Some, IfOk};
+ghost use Rattle.std.specs.Prelude.{◌≡◌, ◌<◌, ◌||◌, option_map, is_some, true, false, if◌then◌else◌, [], IfOk};
+ghost use Rattle.lw_machine.specs.Arrangement.{hook_from};
+ghost use Rattle.lw_machine.specs.Layer.{is_framed};
+ghost use Rattle.lw_machine.specs.Reveal.{Across};
 ghost use Rattle.lw_layer.specs.View as view;
 ghost use Rattle.lw_layer.specs.View.{CellView, with_live, hooked};
 ghost use Rattle.lw_layer.specs.Drafts.{IsLiveDraft, live_view, no_layer};
-ghost use Rattle.lw_reveal.specs.Changed.{revealed_to};
+ghost use Rattle.lw_layer.specs.Windows.{HasRoom};
+ghost use Rattle.lw_frames.specs.Framing.{with_own_frame};
+ghost use Rattle.lw_frames.specs.Telling.{IsDone};
+ghost use Rattle.lw_reveal.specs.Changed.{carried_to};
 ghost use Rattle.lw_reveal.specs.Changes.{IsChange};
 ghost use Rattle.lw_arrange.specs.Prepared.{cell_after, MayPrepare};
 ghost use Rattle.lw_arrange.specs.Filled.{AreGained};
-ghost use Rattle.lw_machine.specs.Hook.{Hook};
-ghost use Rattle.lw_engine.specs.Slots.{asked_hook, bare, due_hook, filled_as, hook_in, nothing_ready, IsSettled, IsReadyFor};
+ghost use Rattle.lw_engine.specs.Desks.{hook_at};
+ghost use Rattle.lw_engine.specs.Slots.{asked_hook, bare, filled_as, followed, hook_in, nothing_ready, IsStill, IsSettled, IsReadyFor, MayBeReady};
 
 use crate::slot::Slot;
+use crate::window_after::{WindowAfter, follow, window_after};
 use lw_arrange::{Arrangement, Prepared, commit, gained, prepare};
-use lw_backfill::{Backfill, Shelf};
-use lw_calls::Call;
+use lw_backfill::{Backfill, Shelf, Solid};
+use lw_calls::{Assets, Call};
+use lw_frames::paint_own_frame;
 use lw_hooks::fill;
 use lw_layer::{Cell, LiveDraft};
 use lw_region::Region;
@@ -22,13 +30,14 @@ use lw_reveal::Change;
 use std::alloc::{AllocError, Global};
 use std::marker::Model;
 
-/// What is ready to be made of one slot: what was prepared for its cell, the pixels that its hook then fills, if its layer has one, and
-/// the hook that a new layer takes from the shelf.
+/// What is ready to be made of one slot: what was prepared for its cell, the pixels that are then filled, the hook that a new layer
+/// takes from the shelf, and what becomes of the window of a layer that stays live.
 #[derive(Drop)]
 pub(crate) struct Ready<B: Backfill> {
     pub(crate) prepared: Prepared,
     pub(crate) gained: Region,
     pub(crate) taken: Option<B>,
+    pub(crate) window: WindowAfter,
 }
 
 impl<B: Backfill> Model for Ready<B> {
@@ -37,7 +46,7 @@ impl<B: Backfill> Model for Ready<B> {
 
     ghost Value = { ReadyView };
 
-    ghost view = { λ r. record { prepared = r.prepared; gained = r.gained; taken = option_map B.hook r.taken } };
+    ghost view = { λ r. record { prepared = r.prepared; gained = r.gained; taken = option_map B.hook r.taken; window = r.window } };
 }
 
 impl<B: Backfill> Ready<B> {
@@ -49,6 +58,7 @@ impl<B: Backfill> Ready<B> {
             prepared: Prepared::Stays,
             gained: Region::new(alloc),
             taken: None,
+            window: WindowAfter::none(),
         }
     }
 
@@ -70,58 +80,60 @@ impl<B: Backfill> Slot<B> {
         arrangement: &Arrangement,
     ) -> Result<Ready<B>, AllocError>
         requires slot { self.now.number < arrangement.now.stack.sizes.slots }
-        requires may { MayPrepare arrangement.now (bare self.now) }
+        requires may { MayBeReady arrangement.now self.now }
         ensures { IfOk result (λ ready. IsReadyFor arrangement.now shelf.now self.now ready) }
     {
         // Reading these tells the proof what holds of the cell, and that the region's list is canonical.
         let _ = self.cell.look();
         let prepared = prepare(alloc, &self.cell, arrangement)?;
-        let gained = self.pixels_gained(alloc, shelf, arrangement)?;
+        let hooked = self.has_hook(shelf, arrangement.call());
+        let gained = pixels_gained(alloc, &self.cell, arrangement, hooked)?;
+        let window = window_after(&self.cell, arrangement, &gained);
+        let gained = pixels_filled(alloc, gained, hooked, window.change.sized);
         let _ = gained.rects();
         Ok(Ready {
             prepared,
             gained,
             taken: None,
+            window,
         })
     }
 
-    // The pixels that the slot's layer gains, if it then has a hook, and else none.
-    fn pixels_gained(
-        &self,
-        alloc: Global,
-        shelf: &Shelf<B>,
-        arrangement: &Arrangement,
-    ) -> Result<Region, AllocError>
-        requires slot { self.now.number < arrangement.now.stack.sizes.slots }
-        requires may { MayPrepare arrangement.now (bare self.now) }
-        ensures { IfOk result (λ region. (k : Hook) → due_hook arrangement.now shelf.now self.now self.now.state ≡ Some k
-            → AreGained (bare self.now) (cell_after arrangement.now (bare self.now)) region) }
+    // Whether the slot's layer has a hook, or is to take one from the shelf.
+    fn has_hook(&self, shelf: &Shelf<B>, call: &Call) -> bool
+        ensures { result ≡ (is_some (hook_in self.now) || is_some (asked_hook shelf.now call.now self.now.number)) }
     {
-        // Reading this tells the proof that the cell has no hook of its own.
-        let _ = self.cell.look();
-        let asks = asks_for_hook(shelf, arrangement.call(), self.cell.slot());
-        if self.held.is_some() || asks {
-            return gained(alloc, &self.cell, arrangement);
-        }
-        Ok(Region::new(alloc))
+        self.held.is_some() || asks_for_hook(shelf, call, self.cell.slot())
     }
 
-    /// Makes of the slot what is ready for it: a layer that is deleted drops its hook, a new layer takes its own, and a hook fills what
-    /// its layer gained and then turns, if that was a pixel. It takes no memory and can't be refused.
-    pub(crate) fn settle(&mut self, ready: Ready<B>)
-        requires { (to : CellView) × IsSettled self.old to ready }
-        ensures { (to : CellView) → IsSettled self.old to ready → self.new ≡ to }
+    /// Makes of the slot what is ready for it: a layer that is deleted drops its hook, a new layer takes its own, what a layer gained is
+    /// filled, by its hook if it has one, which then turns if that was a pixel, and a window's frame is painted and its messages put.
+    /// It takes no memory and can't be refused.
+    pub(crate) fn settle(&mut self, alloc: Global, assets: &Assets, ready: Ready<B>)
+        requires { (to : CellView) × IsSettled assets.now.glyphs self.old to ready }
+        ensures { (to : CellView) → IsSettled assets.now.glyphs self.old to ready → self.new ≡ to }
     {
         let Ready {
             prepared,
             gained,
             taken,
+            window,
         } = ready;
         match prepared {
-            Prepared::Stays => {}
+            Prepared::Stays => self.stay(alloc, assets, &window),
             Prepared::Closes => self.close(),
-            Prepared::Opens(draft) => self.open(draft, taken, &gained),
-            Prepared::Changes(change) => self.change(change, &gained),
+            Prepared::Opens(draft) => self.open(alloc, assets, draft, taken, &gained),
+            Prepared::Changes(change) => self.change(alloc, assets, change, &gained, &window),
+        }
+    }
+
+    // The layer, if there is one, stays as it is, and its window is told.
+    fn stay(&mut self, alloc: Global, assets: &Assets, window: &WindowAfter)
+        requires { (to : CellView) × IsStill assets.now.glyphs self.old to window.now self.old.state }
+        ensures { (to : CellView) → IsStill assets.now.glyphs self.old to window.now self.old.state → self.new ≡ to }
+    {
+        if self.cell.look().is_some() {
+            self.follow(alloc, assets, window);
         }
     }
 
@@ -134,59 +146,147 @@ impl<B: Backfill> Slot<B> {
         self.held = None;
     }
 
-    // The layer is created, with this hook if there is one.
-    fn open(&mut self, draft: LiveDraft, taken: Option<B>, gained: &Region)
+    // The layer is created, with this hook if there is one, and its frame is painted if it has one.
+    fn open(
+        &mut self,
+        alloc: Global,
+        assets: &Assets,
+        draft: LiveDraft,
+        taken: Option<B>,
+        gained: &Region,
+    )
         requires fresh { self.old.state ≡ view.Unopened }
         requires draft { IsLiveDraft draft }
-        ensures { self.new ≡ filled_as (option_map B.hook taken) gained.now
-            (record { number = self.old.number; state = view.Live; live = live_view draft }) }
+        ensures { self.new ≡ with_own_frame assets.now.glyphs false (filled_as (option_map B.hook taken) gained.now
+            (record { number = self.old.number; state = view.Live; live = live_view draft })) }
     {
         commit(&mut self.cell, Prepared::Opens(draft));
         self.held = taken;
         fill_gained(&mut self.cell, &mut self.held, gained);
+        paint_own_frame(alloc, &mut self.cell, assets, false);
     }
 
     // The layer has other bounds, or another part of it is visible.
-    fn change(&mut self, change: Change, gained: &Region)
+    fn change(
+        &mut self,
+        alloc: Global,
+        assets: &Assets,
+        change: Change,
+        gained: &Region,
+        window: &WindowAfter,
+    )
+        requires live { self.old.state ≡ view.Live }
+        requires room { HasRoom 5 self.old }
+        requires change { IsChange (bare self.old).live change }
+        ensures { (q : Across) → IsDone q window.now.change → self.new ≡ followed assets.now.glyphs window.now q
+            (filled_as (hook_in self.old) gained.now (with_live (λ c. carried_to change.bounds change.parts.visible c) (bare self.old))) }
+    {
+        self.reveal(change, gained);
+        self.follow(alloc, assets, window);
+    }
+
+    // The layer has other bounds, or another part of it is visible, and what it gained is filled.
+    fn reveal(&mut self, change: Change, gained: &Region)
         requires live { self.old.state ≡ view.Live }
         requires change { IsChange (bare self.old).live change }
         ensures { self.new ≡ filled_as (hook_in self.old) gained.now
-            (with_live (λ c. revealed_to change.bounds change.parts.visible c) (bare self.old)) }
+            (with_live (λ c. carried_to change.bounds change.parts.visible c) (bare self.old)) }
     {
         // Reading this tells the proof that the cell has no hook of its own.
         let _ = self.cell.look();
         commit(&mut self.cell, Prepared::Changes(change));
         fill_gained(&mut self.cell, &mut self.held, gained);
     }
+
+    // The layer is the active window or not, and its window's frame and messages are as they are due.
+    fn follow(&mut self, alloc: Global, assets: &Assets, window: &WindowAfter)
+        requires live { self.old.state ≡ view.Live }
+        requires room { HasRoom 5 self.old }
+        ensures { (q : Across) → IsDone q window.now.change → self.new ≡ followed assets.now.glyphs window.now q self.old }
+    {
+        follow(alloc, &mut self.cell, assets, window);
+    }
 }
 
-// Whether the call creates a layer in this slot with a hook that is on the shelf.
+// The pixels that the slot's layer gains, where it then has a hook or where it is a framed window already, and else none.
+fn pixels_gained(
+    alloc: Global,
+    cell: &Cell,
+    arrangement: &Arrangement,
+    hooked: bool,
+) -> Result<Region, AllocError>
+    requires slot { cell.now.number < arrangement.now.stack.sizes.slots }
+    requires may { MayPrepare arrangement.now cell.now }
+    ensures hook { IfOk result (λ region. hooked ≡ true → AreGained cell.now (cell_after arrangement.now cell.now) region) }
+    ensures frame { IfOk result (λ region. cell.now.state ≡ view.Live → is_framed cell.now.live.layer.window ≡ true
+        → AreGained cell.now (cell_after arrangement.now cell.now) region) }
+    ensures none { IfOk result (λ region. hooked ≡ false → is_framed cell.now.live.layer.window ≡ false → region ≡ []) }
+{
+    if hooked || has_frame(cell) {
+        return gained(alloc, cell, arrangement);
+    }
+    Ok(Region::new(alloc))
+}
+
+// Whether the slot's layer is a framed window.
+fn has_frame(cell: &Cell) -> bool
+    ensures live { cell.now.state ≡ view.Live → result ≡ is_framed cell.now.live.layer.window }
+    ensures idle { (cell.now.state ≡ view.Live → ⊥) → result ≡ false }
+{
+    match cell.look() {
+        Some(look) => look.framed,
+        None => false,
+    }
+}
+
+// These pixels, where there is a hook or the size changes, so that they are to be filled, and else none.
+fn pixels_filled(alloc: Global, gained: Region, hooked: bool, sized: bool) -> Region
+    ensures { result ≡ (if hooked || sized then gained else []) }
+{
+    if hooked || sized {
+        gained
+    } else {
+        Region::new(alloc)
+    }
+}
+
+// Whether the call creates or opens a layer in this slot with a hook that is on the shelf.
 fn asks_for_hook<B: Backfill>(shelf: &Shelf<B>, call: &Call, number: u32) -> bool
     ensures { result ≡ is_some (asked_hook shelf.now call.now number) }
 {
-    let Call::Create { slot, make } = call else {
-        return false;
-    };
-    if number != *slot {
-        return false;
+    match call {
+        Call::Create { slot, make } | Call::OpenWindow { slot, make, .. } => {
+            number == *slot && is_there(shelf, make.hook)
+        }
+        _ => false,
     }
-    match make.hook {
+}
+
+// Whether a hook is asked for, and is on the shelf.
+fn is_there<B: Backfill>(shelf: &Shelf<B>, hook: Option<u32>) -> bool
+    ensures { result ≡ is_some (hook_from (hook_at shelf.now) hook) }
+{
+    match hook {
         Some(hook) => shelf.get(hook).is_some(),
         None => false,
     }
 }
 
-// Has the layer's hook, if it has one, fill these pixels, and turn if there are some.
+// Has the pixels filled with the layer's hook, if it has one, which then turns if there are some, and else with pen 0.
 fn fill_gained<B: Backfill>(cell: &mut Cell, held: &mut Option<B>, gained: &Region)
     requires { cell.old.state ≡ view.Live }
     ensures { hooked (option_map B.hook held.new) cell.new ≡ filled_as (option_map B.hook held.old) gained.now cell.old }
 {
     // Reading this tells the proof that the layer has only pens of its depth.
     let _ = cell.depth();
-    if let Some(hook) = held {
-        if !gained.rects().is_empty() {
+    if gained.rects().is_empty() {
+        return;
+    }
+    match held {
+        Some(hook) => {
             fill(cell, hook, gained);
             hook.turned();
         }
+        None => fill(cell, &Solid::new(0), gained),
     }
 }

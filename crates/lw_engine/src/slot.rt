@@ -1,21 +1,19 @@
 // A slot of the desk: its cell, and beside it the hook of its layer.
 
-ghost use Rattle.std.specs.Prelude.{◌≡◌, false, Option, IsOk, IfOk, OnErr, IsTrue};
-ghost use Rattle.lw_calls.specs.Built.{is_built};
+ghost use Rattle.std.specs.Prelude.{◌≡◌, false, Option, IsOk, IfOk, OnOk, OnErr, IsTrue};
 ghost use Rattle.lw_calls.specs.declared.sizes.Sizes.{Sizes};
 ghost use Rattle.lw_calls.specs.Limits.{call_fits};
 ghost use Rattle.lw_calls.specs.Touches.{class_of, OnLayer, OnLayers};
 ghost use Rattle.lw_layer.specs.View.{hooked};
-ghost use Rattle.lw_engine.specs.Parts.{IsLayerStep, IsPairStep, takes_memory};
+ghost use Rattle.lw_layer.specs.Windows.{without_room, HasRoom};
+ghost use Rattle.lw_parts.specs.Parts.{IsLayerStep, IsPairStep, takes_memory};
 ghost use Rattle.lw_engine.specs.Slots.{hook_in};
 ghost use Rattle.lw_engine.specs.Steps.{unopened_cell};
 
-use crate::one_layer::on_layer;
-use crate::regs::Regs;
-use crate::two_layers::on_layers;
 use lw_backfill::Backfill;
 use lw_calls::{Assets, Call, Reply};
 use lw_layer::Cell;
+use lw_parts::{Regs, on_layer, on_layers};
 use std::alloc::{AllocError, Global};
 use std::marker::Model;
 
@@ -60,17 +58,25 @@ impl<B: Backfill> Slot<B> {
         alloc: Global,
         regs: &Regs,
         assets: &Assets,
+        task: u32,
         call: &Call,
     ) -> Result<Reply, AllocError>
         requires class { class_of call.now ≡ OnLayer self.old.number }
         requires fits { (sizes : Sizes) × IsTrue (call_fits sizes call.now) }
-        requires built { IsTrue (is_built call.now) }
-        ensures step { IfOk result (λ r. IsLayerStep self.old regs.now assets.now call.now r self.new) }
+        ensures step { IfOk result (λ r. IsLayerStep task self.old regs.now assets.now call.now r self.new) }
         ensures number { self.new.number ≡ self.old.number }
         ensures unchanged { OnErr result (self.new ≡ self.old) }
         ensures memory { takes_memory call.now ≡ false → IsOk result }
     {
-        on_layer(alloc, &mut self.cell, regs, assets, call)
+        on_layer(alloc, &mut self.cell, regs, assets, task, call)
+    }
+
+    // Reserves room in the port of a window for as many messages as it may be due after an arrangement. It changes nothing else.
+    pub(crate) fn reserve(&mut self, alloc: Global) -> Result<(), AllocError>
+        ensures cell { without_room self.new ≡ without_room self.old }
+        ensures room { OnOk result (HasRoom 5 self.new) }
+    {
+        self.cell.reserve(alloc, 5)
     }
 
     /// Makes one call on this slot's layer and another one's, of which the latter is only read, as `on_layers` does.

@@ -1,12 +1,13 @@
-ghost use Rattle.std.specs.Prelude.{◌≡◌, ◌≤◌, IsTrue};
-ghost use Rattle.lw_calls.specs.Built.{is_built};
+ghost use Rattle.std.specs.Prelude.{◌≤◌};
 
-use crate::{Desk, Regs};
+use crate::Desk;
 use lw_backfill::Solid;
 use lw_calls::{
-    Assets, Call, Final, Kind, Make, PairOp, Place, RectOp, Replies, Reply, Seen, Sizes,
+    Assets, Call, Final, Kind, Make, Message, PairOp, Place, RectOp, Replies, Reply, Seen, Sizes,
+    Text,
 };
 use lw_region::{Rect, Region};
+use std::alloc::{AllocError, Global};
 use std::process::Abort;
 use std::test::Fail;
 
@@ -18,6 +19,7 @@ enum Want {
     /// The clip region from before, each rectangle by its four bounds.
     Rects(&'static [[i16; 4]]),
     Layer(u32),
+    Got(Message),
     NotOpen,
     AlreadyOpen,
     NotSuper,
@@ -29,7 +31,6 @@ enum Want {
 struct Step {
     call: Call,
     want: Want,
-    ghost built: { IsTrue (is_built call) },
 }
 
 /// The creation of a layer with its left top corner at (`x`, `y`).
@@ -69,6 +70,72 @@ fn create_super(slot: u32, w: i32, h: i32, bits_w: u32, bits_h: u32) -> Step {
     Step {
         call: Call::Create { slot, make },
         want: Want::Done,
+    }
+}
+
+/// The opening of a framed window 9 wide and 14 high in the screen's top left corner, which asks for these classes of messages.
+fn open_window(
+    alloc: Global,
+    slot: u32,
+    place: Place,
+    nocare: bool,
+    asks: u8,
+) -> Result<Step, AllocError> {
+    let make = Make {
+        kind: Kind::Smart,
+        place,
+        x: 0,
+        y: 0,
+        w: 9,
+        h: 14,
+        backdrop: false,
+        hook: None,
+        bits_w: 0,
+        bits_h: 0,
+    };
+    let title = Text::new(Vec::from_slice(alloc, b"A")?);
+    Ok(Step {
+        call: Call::OpenWindow {
+            slot,
+            make,
+            framed: true,
+            nocare,
+            asks,
+            title,
+        },
+        want: Want::Done,
+    })
+}
+
+/// A window that becomes the active one.
+fn activate(slot: u32) -> Step {
+    Step {
+        call: Call::Activate { slot },
+        want: Want::Done,
+    }
+}
+
+/// A layer that becomes larger or smaller.
+fn size_by(slot: u32, dw: i32, dh: i32) -> Step {
+    Step {
+        call: Call::SizeBy { slot, dw, dh },
+        want: Want::Done,
+    }
+}
+
+/// A layer that is deleted.
+fn close(slot: u32) -> Step {
+    Step {
+        call: Call::Close { slot },
+        want: Want::Done,
+    }
+}
+
+/// The oldest message of a window.
+fn take(slot: u32, want: Want) -> Step {
+    Step {
+        call: Call::TakeMessage { slot },
+        want,
     }
 }
 
@@ -149,6 +216,7 @@ fn is_wanted(reply: &Reply, want: &Want) -> bool {
     match (reply, want) {
         (Reply::Rects(region), Want::Rects(due)) => has_list(region, due),
         (Reply::Layer(slot), Want::Layer(due)) => slot == due,
+        (Reply::Got(message), Want::Got(due)) => message == due,
         (Reply::Done, Want::Done)
         | (Reply::Nothing, Want::Nothing)
         | (Reply::NotOpen, Want::NotOpen)
@@ -183,8 +251,11 @@ fn run(
     };
     let none: Vec<Solid> = Vec::new(rt.alloc());
     let mut desk = Desk::new(rt.alloc(), sizes, none)?;
+    // The glyph of A is its first column.
+    let mut glyphs = [[0; 8]; 95];
+    glyphs[33] = [0x80; 8];
     let assets = Assets {
-        glyphs: [[0; 8]; 95],
+        glyphs,
         bitmaps: Vec::new(rt.alloc()),
     };
     let mut replies = Vec::new(rt.alloc());
@@ -390,25 +461,6 @@ fn a_scroll_shows_another_portion(rt: HostRuntime) -> Result<(), Fail> {
 }
 
 #[test]
-fn a_register_has_at_most_128_rectangles(rt: HostRuntime) -> Result<(), Fail> {
-    let mut regs = Regs::new(rt.alloc());
-    let mut column: i16 = 0;
-    for _pixel in 0..128 {
-        let pixel = Rect::new(column, 0, column, 0).expect(&rt, "a rectangle");
-        let reply = regs.join_rect(rt.alloc(), RectOp::Or, 7, &pixel)?;
-        assert!(rt; matches!(reply, Reply::Done));
-        column = column.wrapping_add(2);
-    }
-    let apart = Rect::new(0, 2, 0, 2).expect(&rt, "a rectangle");
-    let reply = regs.join_rect(rt.alloc(), RectOp::Or, 7, &apart)?;
-    assert!(rt; matches!(reply, Reply::TooManyRects));
-    assert_eq!(rt; regs.region(7).rects().len(), 128);
-    assert!(rt; !regs.region(7).has(0, 2));
-    assert_eq!(rt; regs.region(6).rects().len(), 0);
-    Ok(())
-}
-
-#[test]
 fn what_a_layer_in_front_covers_is_not_visible(rt: HostRuntime) -> Result<(), Fail> {
     let steps = [
         create(0, 0, 0, 3, 3, Want::Done),
@@ -424,6 +476,158 @@ fn what_a_layer_in_front_covers_is_not_visible(rt: HostRuntime) -> Result<(), Fa
         return Err(Fail::from("one task"));
     };
     assert_eq!(rt; replies.list().len(), 2);
+    Ok(())
+}
+
+const IDLE: [u8; 165] = [
+    2, 2, 2, 2, 2, 2, 2, 2, 2, 0, 0, //
+    2, 2, 2, 2, 2, 2, 2, 2, 2, 0, 0, //
+    2, 2, 2, 2, 1, 2, 2, 2, 2, 0, 0, //
+    2, 2, 2, 2, 1, 2, 2, 2, 2, 0, 0, //
+    2, 2, 2, 2, 1, 2, 2, 2, 2, 0, 0, //
+    2, 2, 2, 2, 1, 2, 2, 2, 2, 0, 0, //
+    2, 2, 2, 2, 1, 2, 2, 2, 2, 0, 0, //
+    2, 2, 2, 2, 1, 2, 2, 2, 2, 0, 0, //
+    2, 2, 2, 2, 1, 2, 2, 2, 2, 0, 0, //
+    2, 2, 2, 2, 1, 2, 2, 2, 2, 0, 0, //
+    2, 2, 2, 2, 2, 2, 2, 2, 2, 0, 0, //
+    2, 2, 2, 2, 0, 2, 2, 2, 2, 0, 0, //
+    2, 2, 2, 2, 2, 2, 2, 2, 2, 0, 0, //
+    2, 2, 2, 2, 2, 2, 2, 2, 2, 0, 0, //
+    0, 0, 0, 0, 0, 0, 0, 0, 0, 0, 0,
+];
+
+const ACTIVE: [u8; 165] = [
+    1, 1, 1, 1, 1, 1, 1, 1, 1, 0, 0, //
+    1, 1, 1, 1, 1, 1, 1, 1, 1, 0, 0, //
+    1, 1, 1, 1, 0, 1, 1, 1, 1, 0, 0, //
+    1, 1, 1, 1, 0, 1, 1, 1, 1, 0, 0, //
+    1, 1, 1, 1, 0, 1, 1, 1, 1, 0, 0, //
+    1, 1, 1, 1, 0, 1, 1, 1, 1, 0, 0, //
+    1, 1, 1, 1, 0, 1, 1, 1, 1, 0, 0, //
+    1, 1, 1, 1, 0, 1, 1, 1, 1, 0, 0, //
+    1, 1, 1, 1, 0, 1, 1, 1, 1, 0, 0, //
+    1, 1, 1, 1, 0, 1, 1, 1, 1, 0, 0, //
+    1, 1, 1, 1, 1, 1, 1, 1, 1, 0, 0, //
+    1, 1, 1, 1, 0, 1, 1, 1, 1, 0, 0, //
+    1, 1, 1, 1, 1, 1, 1, 1, 1, 0, 0, //
+    1, 1, 1, 1, 1, 1, 1, 1, 1, 0, 0, //
+    0, 0, 0, 0, 0, 0, 0, 0, 0, 0, 0,
+];
+
+const SIZED: [u8; 165] = [
+    1, 1, 1, 1, 1, 1, 1, 1, 1, 1, 1, //
+    1, 1, 1, 1, 1, 1, 1, 1, 1, 1, 1, //
+    1, 1, 1, 1, 0, 1, 1, 1, 1, 1, 1, //
+    1, 1, 1, 1, 0, 1, 1, 1, 1, 1, 1, //
+    1, 1, 1, 1, 0, 1, 1, 1, 1, 1, 1, //
+    1, 1, 1, 1, 0, 1, 1, 1, 1, 1, 1, //
+    1, 1, 1, 1, 0, 1, 1, 1, 1, 1, 1, //
+    1, 1, 1, 1, 0, 1, 1, 1, 1, 1, 1, //
+    1, 1, 1, 1, 0, 1, 1, 1, 1, 1, 1, //
+    1, 1, 1, 1, 0, 1, 1, 1, 1, 1, 1, //
+    1, 1, 1, 1, 1, 1, 1, 1, 1, 1, 1, //
+    1, 1, 1, 1, 0, 0, 0, 1, 1, 1, 1, //
+    1, 1, 1, 1, 0, 0, 0, 1, 1, 1, 1, //
+    1, 1, 1, 1, 1, 1, 1, 1, 1, 1, 1, //
+    1, 1, 1, 1, 1, 1, 1, 1, 1, 1, 1,
+];
+
+#[test]
+fn a_framed_window_is_opened_activated_sized_and_closed(rt: HostRuntime) -> Result<(), Fail> {
+    let alloc = rt.alloc();
+    let steps = [
+        open_window(alloc, 0, Place::Front, false, 31)?,
+        activate(0),
+        size_by(0, 2, 1),
+        open_window(alloc, 1, Place::Behind, false, 31)?,
+        activate(1),
+        take(0, Want::Got(Message::Active)),
+        take(0, Want::Got(Message::NewSize)),
+        take(0, Want::Got(Message::Change)),
+        take(0, Want::Got(Message::Refresh)),
+        take(0, Want::Got(Message::Inactive)),
+        take(0, Want::Nothing),
+        close(0),
+        take(0, Want::NotOpen),
+        take(1, Want::Got(Message::Active)),
+        take(1, Want::Nothing),
+    ];
+    show(&rt, 11, 15, &steps[..1], &IDLE)?;
+    show(&rt, 11, 15, &steps[..2], &ACTIVE)?;
+    show(&rt, 11, 15, &steps[..3], &SIZED)?;
+    show(&rt, 11, 15, &steps, &ACTIVE)?;
+    let last = run(&rt, 11, 15, &steps[..5])?;
+    let [Some(front), Some(behind)] = last.slots.as_slice() else {
+        return Err(Fail::from("two windows"));
+    };
+    assert!(rt; has_list(&front.visible, &[[0, 0, 10, 14]]));
+    assert!(rt; has_list(&front.damage, &[[5, 11, 6, 11], [4, 12, 6, 12]]));
+    assert!(rt; has_list(&behind.visible, &[]));
+    assert!(rt; has_list(&behind.damage, &[]));
+    Ok(())
+}
+
+/// A window that is activated and sized twice: whether it cares, for which classes of messages it asks, and what it is told.
+struct Told {
+    nocare: bool,
+    asks: u8,
+    due: &'static [Message],
+}
+
+static TOLD: [Told; 5] = [
+    Told {
+        nocare: false,
+        asks: 31,
+        due: &[
+            Message::Active,
+            Message::NewSize,
+            Message::Change,
+            Message::Refresh,
+            Message::NewSize,
+            Message::Change,
+        ],
+    },
+    Told {
+        nocare: false,
+        asks: 1,
+        due: &[Message::Refresh],
+    },
+    Told {
+        nocare: true,
+        asks: 9,
+        due: &[Message::Active],
+    },
+    Told {
+        nocare: true,
+        asks: 20,
+        due: &[Message::Change, Message::Change],
+    },
+    Told {
+        nocare: false,
+        asks: 0,
+        due: &[],
+    },
+];
+
+#[test]
+fn a_window_is_told_what_it_asks_for(rt: HostRuntime) -> Result<(), Fail> {
+    for case in &TOLD {
+        let steps = [
+            open_window(rt.alloc(), 0, Place::Front, case.nocare, case.asks)?,
+            activate(0),
+            size_by(0, 2, 1),
+            size_by(0, 0, -1),
+        ];
+        let last = run(&rt, 11, 15, &steps)?;
+        let [Some(seen), None] = last.slots.as_slice() else {
+            return Err(Fail::from("one window"));
+        };
+        let Some(messages) = &seen.messages else {
+            return Err(Fail::from("a window"));
+        };
+        assert_eq!(rt; messages.list(), case.due, "{}", case.asks);
+    }
     Ok(())
 }
 

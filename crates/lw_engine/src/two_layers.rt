@@ -2,38 +2,14 @@ ghost use Rattle.std.specs.Prelude.{◌≡◌, ◌<◌, length, slice_set, IsTru
 ghost use Rattle.lw_calls.specs.declared.sizes.Sizes.{Sizes};
 ghost use Rattle.lw_calls.specs.Limits.{call_fits};
 ghost use Rattle.lw_calls.specs.Touches.{class_of, OnLayers};
+ghost use Rattle.lw_parts.specs.Parts.{IsPairStep};
 ghost use Rattle.lw_engine.specs.Desks.{AreNumbered, cell_at};
-ghost use Rattle.lw_engine.specs.Parts.{IsPairStep};
 
 use crate::slot::Slot;
 use lw_backfill::Backfill;
-use lw_blit::between;
 use lw_calls::{Call, Reply};
-use lw_layer::Cell;
 
-/// Makes one call on two layers and gives its reply, as the machine's step says of every desk whose slots these are: ClipBlit
-/// from one layer to another. It takes no memory.
-pub fn on_layers(source: &Cell, to: &mut Cell, call: &Call) -> Reply
-    requires class { class_of call.now ≡ OnLayers source.now.number to.old.number }
-    requires fits { (sizes : Sizes) × IsTrue (call_fits sizes call.now) }
-    ensures step { IsPairStep source.now to.old call.now result to.new }
-    ensures number { to.new.number ≡ to.old.number }
-{
-    let Call::Blit { ref area, .. } = *call else {
-        // No other call is on two layers.
-        unreachable!();
-    };
-    let Some(_) = source.look() else {
-        return Reply::NotOpen;
-    };
-    let Some(_) = to.look() else {
-        return Reply::NotOpen;
-    };
-    between(source, to, area);
-    Reply::Done
-}
-
-// The same call on two of all slots.
+// Makes one call on two of all slots, as `with_source` does.
 pub(crate) fn on_two<B: Backfill>(
     slots: &mut [Slot<B>],
     source: u32,

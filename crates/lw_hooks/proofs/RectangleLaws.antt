@@ -1,19 +1,19 @@
 -- Laws of painting rectangles with a tile.
-use Rattle.std.proofs.Common.{◌≡◌, ℕ, ◌+◌, ◌-◌, ◌%◌, ◌<◌, ◌≤◌, Bool, true, false, ◌&&◌, ◌||◌, if◌then◌else◌, List, [], ◌∷◌, get_or, length, take, ◌∙◌, sym, refl, ap, arith, pos}
+use Rattle.std.proofs.Common.{◌≡◌, ℕ, ◌+◌, ◌-◌, ◌%◌, ◌<◌, ◌≤◌, Bool, true, false, ◌&&◌, ◌||◌, if◌then◌else◌, List, [], get_or, length, take, ◌∙◌, sym, refl, ap, arith, pos}
 use Rattle.std.specs.List.{slice_index_or}
 use Rattle.std.proofs.lemmas.Bool.Decides.{nat_tests}
-use Rattle.std.proofs.lemmas.List.{take_more, take_all}
+use Rattle.std.proofs.lemmas.List.{take_all}
 use Rattle.std.proofs.lemmas.Nat.Bits.{bit_at-lt}
 use Rattle.lw_region.specs.Rectangle.{Rectangle, within, has_pixel}
 use Rattle.lw_region.specs.Bands.{covers}
-use Rattle.lw_region.proofs.Canonical.{covers_nil, covers_append}
-use Rattle.lw_region.proofs.SetOps.{covers_one}
+use Rattle.lw_region.proofs.Canonical.{covers_nil}
 use Rattle.lw_planes.specs.Bitmap.{IsBitmap}
 use Rattle.lw_kernels.specs.Kernel.{is_between}
 use Rattle.lw_layer.specs.View.{LiveView, CellView, draws, with_live}
 use Rattle.lw_draw.specs.Drawn.{drawn, GivesBits, in_rows}
 use Rattle.lw_draw.proofs.DrawnLaws.{bits_same, bit_of_layer, bit_drawn, drawn_same}
 use Rattle.lw_draw.proofs.PaintLaws.{cell_nowhere, cell_same, cell_alike, cell_more, draws_stays, next_row, no_row, tests_turned}
+use Rattle.lw_draw.proofs.RectangleLaws.{covers_more}
 use Rattle.lw_hooks.specs.Filling.{planes_bit, tile_bit, in_rectangle, in_rectangles}
 
 -- what a tile gives are bits
@@ -78,13 +78,6 @@ no_rectangles v tile ok =
 joined : (drawable former more both : Bool) → both ≡ (former || more) → (drawable && both) ≡ ((drawable && former) || (drawable && more))
 joined true former more both is = is
 joined false former more both is = refl
-
-covers_more : (rects : List Rectangle) (n : ℕ) (r : Rectangle) → n < length rects → r ≡ get_or rects n r → (x y : ℕ) → covers (take (n + 1) rects) (pos x) (pos y) ≡ (covers (take n rects) (pos x) (pos y) || has_pixel r (pos x) (pos y))
-covers_more rects n r inside is x y =
-    ap (λ rs. covers rs (pos x) (pos y)) (take_more rects n r inside) ∙
-    (covers_append (take n rects) (get_or rects n r ∷ []) (pos x) (pos y) ∙
-    (ap (λ t. covers (take n rects) (pos x) (pos y) || t) (covers_one (get_or rects n r) (pos x) (pos y)) ∙
-    ap (λ q. covers (take n rects) (pos x) (pos y) || has_pixel q (pos x) (pos y)) (sym is)))
 
 pub rectangle_more : (v w u : CellView) (rects : List Rectangle) (n : ℕ) (r : Rectangle) (tile : List (List ℕ)) → n < length rects → r ≡ get_or rects n r → w ≡ with_live (λ c. drawn (λ p i j. in_rectangles c (take n rects) i j) (tile_bit tile) c) v → u ≡ with_live (λ c. drawn (λ p i j. in_rectangle c r i j) (tile_bit tile) c) w → u ≡ with_live (λ c. drawn (λ p i j. in_rectangles c (take (n + 1) rects) i j) (tile_bit tile) c) v
 rectangle_more v w u rects n r tile inside here was is =

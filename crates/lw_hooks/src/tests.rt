@@ -113,7 +113,7 @@ fn draft_of(alloc: Global, kind: Kind, depth: u32, visible: &[[i16; 4]]) -> Resu
         bits_w: 20,
         bits_h: 11,
     };
-    let live = LiveDraft::new(alloc, &make, depth, &bounds, &visible)?;
+    let live = LiveDraft::new(alloc, &make, depth, &bounds, &visible, None)?;
     Ok(Draft {
         slot: 0,
         state: DraftState::Live(live),

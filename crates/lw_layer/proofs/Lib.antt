@@ -12,6 +12,8 @@ pub mod BitsLaws
 pub mod ReadLaws
 pub mod SetLaws
 pub mod UpdateLaws
+pub mod InnerLaws
+pub mod WindowLaws
 pub mod NewLaws
 pub mod NewDraftLaws
 pub mod CopyingLists
@@ -22,3 +24,4 @@ pub mod CopyingJoined
 pub mod SoundLaws
 pub mod LineLaws
 pub mod KeepingLaws
+pub mod PixelTests

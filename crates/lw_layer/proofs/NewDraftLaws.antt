@@ -1,5 +1,5 @@
 -- The draft of a new layer is one, and stands for the layer that the machine creates.
-use Rattle.std.proofs.Common.{◌≡◌, ℕ, zero, suc, ◌+◌, ◌-◌, ◌<◌, ◌≤◌, true, false, List, [], ◌∷◌, ◌++◌, length, get_or, Option, Some, None, ◌∙◌, sym, refl, ap, subst, arith, ⊎_elim, ℤ, pos, ◌+ℤ◌, ◌-ℤ◌, unsigned_abs, length-append, pow_pos}
+use Rattle.std.proofs.Common.{◌≡◌, ℕ, zero, suc, ◌+◌, ◌-◌, ◌<◌, ◌≤◌, true, false, List, [], ◌∷◌, ◌++◌, length, get_or, Option, Some, None, ◌∙◌, sym, refl, ap, subst, arith, ⊎_elim, ℤ, pos, ◌+ℤ◌, ◌-ℤ◌, unsigned_abs, length-append, pow_pos, Bool}
 use Rattle.std.proofs.lemmas.Bool.{cases_lt}
 use Rattle.std.proofs.lemmas.Int.{ints}
 use Rattle.std.proofs.lemmas.List.{get_or_append_left, get_or-append_right, get_or_past, append-nil, get_or-map, length-map}
@@ -16,10 +16,12 @@ use Rattle.lw_calls.specs.declared.make.Make.{Make}
 use Rattle.lw_calls.specs.Kinds.{is_super}
 use Rattle.lw_cliprects.specs.Parts.{hidden_of}
 use Rattle.lw_machine.specs.Arrangement.{bounds_of, blank}
-use Rattle.lw_layer.specs.Pieces.{Layout, columns, lines, inner_of, damage_table, whole_of, rest_as, buffer_at, column_in, line_in}
-use Rattle.lw_layer.specs.Drafts.{IsLiveDraft, IsBuffer, AreBuffers, IsRest, layout, width_of, height_of, own_list, buffers_of, no_bitmap, pen_from, bits_of, live_view}
+use Rattle.lw_layer.specs.Pieces.{Layout, columns, lines, inner_of, damage_table, whole_of, rest_as, buffer_at, column_in, line_in, HasFrameRoom}
+use Rattle.lw_layer.specs.Drafts.{IsLiveDraft, IsBuffer, AreBuffers, IsRest, layout, width_of, height_of, own_list, buffers_of, no_bitmap, pen_from, bits_of, live_view, window_of, room_of}
 use Rattle.lw_layer.specs.New.{blank_buffer, kept_hidden, own_blank, AreBlank, IsNewSize, new_live}
 use Rattle.lw_layer.specs.declared.draft.LiveDraft.{LiveDraft}
+use Rattle.lw_layer.specs.declared.windows.WindowDraft.{WindowDraft}
+use Rattle.lw_machine.specs.Layer.{is_framed}
 
 -- the buffers of two lists are those of both
 joined : (depth : ℕ) (rs ss : List Rectangle) (xs ys : List Bitmap) (other : Rectangle) → length xs ≡ length rs → AreBuffers depth rs xs other → AreBuffers depth ss ys other → AreBuffers depth (rs ++ ss) (xs ++ ys) other
@@ -167,8 +169,8 @@ zero_pen bs l (Some n) x y all =
     (cases_lt n (length bs))
 
 -- The draft of a new layer of this kind, with the buffers of a draft.
-abbrev pub new_draft : LiveDraft → Kind → Make → ℕ → Rectangle → List Rectangle → LiveDraft
-new_draft d kind make depth bounds visible = record d {
+abbrev pub new_draft : LiveDraft → Kind → Make → ℕ → Rectangle → List Rectangle → Option WindowDraft → LiveDraft
+new_draft d kind make depth bounds visible window = record d {
   kind = kind;
   backdrop = make.backdrop;
   bounds = bounds;
@@ -177,9 +179,11 @@ new_draft d kind make depth bounds visible = record d {
   depth = depth;
   raster = record { a = 1; b = 0; mode = 1; mask = 255; x = pos 0; y = pos 0 };
   clip = None;
-  damage = record { inner = inner_of (is_super kind) (columns bounds) (lines bounds); rects = []; updating = false };
+  damage = record { inner = inner_of (is_super kind) (is_framed (window_of window)) (columns bounds) (lines bounds); rects = []; updating = false };
   parts = record { bounds = bounds; visible = visible };
   superbits = own_blank kind depth make;
+  active = false;
+  window = window;
 }
 
 -- its sizes
@@ -194,10 +198,10 @@ new_right Smart make depth bounds is size = (omega arith, omega arith)
 new_right SuperBitmap make depth bounds is size = (omega (arith, size.right (ap is_super is)), omega (arith, size.lower (ap is_super is)))
 
 -- damage lies in all of a layer without an own bitmap
-new_inner : (kind : Kind) (make : Make) (depth : ℕ) (bounds : Rectangle) → inner_of (is_super kind) (columns bounds) (lines bounds) ≡ inner_of (is_super kind) (width_of (own_blank kind depth make) bounds) (height_of (own_blank kind depth make) bounds)
-new_inner Simple make depth bounds = refl
-new_inner Smart make depth bounds = refl
-new_inner SuperBitmap make depth bounds = refl
+new_inner : (kind : Kind) (framed : Bool) (make : Make) (depth : ℕ) (bounds : Rectangle) → inner_of (is_super kind) framed (columns bounds) (lines bounds) ≡ inner_of (is_super kind) framed (width_of (own_blank kind depth make) bounds) (height_of (own_blank kind depth make) bounds)
+new_inner Simple framed make depth bounds = refl
+new_inner Smart framed make depth bounds = refl
+new_inner SuperBitmap framed make depth bounds = refl
 
 -- an own bitmap's size
 new_own : (kind : Kind) (make : Make) (depth : ℕ) (bounds : Rectangle) → is_super kind ≡ true → (width_of (own_blank kind depth make) bounds ≡ make.bits_w) × (height_of (own_blank kind depth make) bounds ≡ make.bits_h)
@@ -206,9 +210,9 @@ new_own Smart make depth bounds is = absurd (cc is)
 new_own SuperBitmap make depth bounds is = (refl, refl)
 
 -- the draft of a new layer is one
-pub new_sound : (d : LiveDraft) (kind : Kind) (make : Make) (depth : ℕ) (bounds : Rectangle) (visible : List Rectangle) → make.kind ≡ kind → IsNewSize make depth bounds → AreBlank depth visible d.buffers.items → AreBlank depth (kept_hidden kind (hidden_of bounds visible)) d.covered.items → IsLiveDraft (new_draft d kind make depth bounds visible)
-new_sound d kind make depth bounds visible is size shown covered =
-    let q : LiveDraft = new_draft d kind make depth bounds visible in
+pub new_sound : (d : LiveDraft) (kind : Kind) (make : Make) (depth : ℕ) (bounds : Rectangle) (visible : List Rectangle) (window : Option WindowDraft) → make.kind ≡ kind → IsNewSize make depth bounds → (is_super kind ≡ true → is_framed (window_of window) ≡ false) → (is_framed (window_of window) ≡ true → HasFrameRoom bounds) → AreBlank depth visible d.buffers.items → AreBlank depth (kept_hidden kind (hidden_of bounds visible)) d.covered.items → IsLiveDraft (new_draft d kind make depth bounds visible window)
+new_sound d kind make depth bounds visible window is size frameless frame shown covered =
+    let q : LiveDraft = new_draft d kind make depth bounds visible window in
     let right = new_right kind make depth bounds is size in
     let own : is_super kind ≡ true → AreSizes make.bits_w make.bits_h depth = λ super. size.own (ap is_super is ∙ super) in
     record {
@@ -224,8 +228,10 @@ new_sound d kind make depth bounds visible is size shown covered =
           joined depth visible (rest_as kind (hidden_of bounds visible) (whole_of (layout q))) d.buffers.items (d.covered.items ++ own_list (own_blank kind depth make)) bounds
           (blank_counted depth visible d.buffers.items shown) (blank_are depth visible d.buffers.items bounds shown)
           (rest_are kind depth (layout q) make (hidden_of bounds visible) d.covered.items bounds covered own (new_own kind make depth bounds));
-      inner = new_inner kind make depth bounds;
+      inner = new_inner kind (is_framed (window_of window)) make depth bounds;
       damaged = λ x y has. absurd (cc (covers_nil x y, has));
+      frameless = frameless;
+      frame = frame;
     }
 
 -- the machine's blank bitmap, by its size
@@ -235,9 +241,9 @@ blank_is Smart depth make w h wide high = ap (λ n. bitmap n h depth (λ x y. 0)
 blank_is SuperBitmap depth make w h wide high = ap (λ n. bitmap n h depth (λ x y. 0)) wide ∙ ap (λ n. bitmap make.bits_w n depth (λ x y. 0)) high
 
 -- it stands for the layer that the machine creates
-pub new_view : (d : LiveDraft) (make : Make) (depth : ℕ) (bounds : Rectangle) (visible : List Rectangle) → IsNewSize make depth bounds → AreBlank depth visible d.buffers.items → AreBlank depth (kept_hidden make.kind (hidden_of bounds visible)) d.covered.items → live_view (new_draft d make.kind make depth bounds visible) ≡ new_live make depth bounds visible
-new_view d make depth bounds visible size shown covered =
-    let q : LiveDraft = new_draft d make.kind make depth bounds visible in
+pub new_view : (d : LiveDraft) (make : Make) (depth : ℕ) (bounds : Rectangle) (visible : List Rectangle) (window : Option WindowDraft) → IsNewSize make depth bounds → AreBlank depth visible d.buffers.items → AreBlank depth (kept_hidden make.kind (hidden_of bounds visible)) d.covered.items → live_view (new_draft d make.kind make depth bounds visible window) ≡ new_live make depth bounds visible (window_of window) (room_of window)
+new_view d make depth bounds visible window size shown covered =
+    let q : LiveDraft = new_draft d make.kind make depth bounds visible window in
     let l = layout q in
     let extent = new_width make.kind depth make bounds refl size.place in
     let all : AllZero (buffers_of q) =

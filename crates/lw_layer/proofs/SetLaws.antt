@@ -4,10 +4,9 @@ use Rattle.lw_region.specs.Rectangle.{Rectangle}
 use Rattle.lw_machine.specs.Kept.{is_kept, holds_at}
 use Rattle.lw_layer.specs.View.{keeps}
 use Rattle.lw_region.specs.Bands.{covers}
-use Rattle.lw_calls.specs.Kinds.{is_super}
 use Rattle.lw_damage.specs.Damaged.{Damaged}
-use Rattle.lw_layer.specs.Pieces.{inner_of}
-use Rattle.lw_layer.specs.Drafts.{IsLiveDraft, layout, live_view}
+use Rattle.lw_layer.specs.Pieces.{inner_in}
+use Rattle.lw_layer.specs.Drafts.{IsLiveDraft, live_view}
 use Rattle.lw_layer.specs.declared.raster.Raster.{Raster}
 use Rattle.lw_layer.specs.declared.draft.LiveDraft.{LiveDraft}
 
@@ -25,6 +24,8 @@ clip_replaced d clip ok = record {
   buffers = ok.buffers;
   inner = ok.inner;
   damaged = ok.damaged;
+  frameless = ok.frameless;
+  frame = ok.frame;
 }
 
 pub raster_replaced : (d : LiveDraft) (raster : Raster) → raster.mode < 8 → IsLiveDraft d → IsLiveDraft (record d { raster = raster })
@@ -41,9 +42,11 @@ raster_replaced d raster mode ok = record {
   buffers = ok.buffers;
   inner = ok.inner;
   damaged = ok.damaged;
+  frameless = ok.frameless;
+  frame = ok.frame;
 }
 
-pub damage_replaced : (d : LiveDraft) (damage : Damaged) → damage.inner ≡ inner_of (is_super d.kind) (layout d).width (layout d).height → ((x y : ℤ) → covers damage.rects x y ≡ true → holds_at (λ i j. keeps (live_view d) i j) x y ≡ true) → IsLiveDraft d → IsLiveDraft (record d { damage = damage })
+pub damage_replaced : (d : LiveDraft) (damage : Damaged) → damage.inner ≡ inner_in (live_view d) → ((x y : ℤ) → covers damage.rects x y ≡ true → holds_at (λ i j. keeps (live_view d) i j) x y ≡ true) → IsLiveDraft d → IsLiveDraft (record d { damage = damage })
 unfolding keeps is_kept
 damage_replaced d damage inner kept ok = record {
   bounds = ok.bounds;
@@ -57,4 +60,6 @@ damage_replaced d damage inner kept ok = record {
   buffers = ok.buffers;
   inner = inner;
   damaged = kept;
+  frameless = ok.frameless;
+  frame = ok.frame;
 }

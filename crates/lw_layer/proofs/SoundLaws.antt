@@ -54,8 +54,8 @@ live_sound d ok ordered canonical divided = record {
   canonical = canonical;
   scrolled = ok.scrolled;
   hook = refl;
-  window = refl;
-  idle = refl;
+  frameless = ok.frameless;
+  frame = ok.frame;
 }
 
 -- the pen where the layer keeps the pixel, and else 0

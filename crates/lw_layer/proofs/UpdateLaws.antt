@@ -1,11 +1,12 @@
 -- A draft stays one where an update begins or ends, and which slot it then stands for.
-use Rattle.std.proofs.Common.{◌≡◌, ℕ, Bool, true, false, ◌∙◌, sym, refl, ap, subst}
+use Rattle.std.proofs.Common.{◌≡◌, Bool, true, false, Option, ◌∙◌, sym, ap, subst}
 use Rattle.lw_region.specs.Bands.{covers}
 use Rattle.lw_machine.specs.Step.{end_update}
 use Rattle.lw_damage.specs.Damaged.{Damaged, ended}
-use Rattle.lw_layer.specs.View.{with_layer, with_live}
-use Rattle.lw_layer.specs.Drafts.{IsLiveDraft, cell_view}
-use Rattle.lw_layer.specs.declared.draft.DraftState.TheVariants.{Live}
+use Rattle.lw_machine.specs.Layer.{changed_window}
+use Rattle.lw_layer.specs.View.{with_layer}
+use Rattle.lw_layer.specs.Drafts.{IsLiveDraft, window_of, room_of, live_view}
+use Rattle.lw_layer.specs.declared.windows.WindowDraft.{WindowDraft}
 use Rattle.lw_layer.specs.declared.draft.LiveDraft.{LiveDraft}
 use Rattle.lw_layer.proofs.SetLaws.{damage_replaced}
 
@@ -26,11 +27,13 @@ update_ended d damage full is ok =
     let P : Damaged → Type 0 = λ m. IsLiveDraft (record d { damage = m }) in
     subst P (sym is) (end_kept d full ok)
 
--- the slot behind the end of an update
-end_viewed : (slot : ℕ) (d : LiveDraft) (full : Bool) → cell_view (record { slot = slot; state = Live (record d { damage = ended d.damage full }) }) ≡ with_live (λ c. with_layer (λ l. end_update full l) c) (cell_view (record { slot = slot; state = Live d }))
+-- the layer behind the full end of an update
+pub full_end_viewed : (d : LiveDraft) (damage : Damaged) (w : Option WindowDraft) (full : Bool) → full ≡ true → damage ≡ ended d.damage full
+    → window_of w ≡ changed_window (λ v. record v { asked = false }) (window_of d.window) → room_of w ≡ room_of d.window
+    → live_view (record d { damage = damage; window = w }) ≡ with_layer (λ l. end_update full l) (live_view d)
 unfolding covers
-end_viewed slot d true = refl
-end_viewed slot d false = refl
-
-pub ended_view : (slot : ℕ) (d : LiveDraft) (damage : Damaged) (full : Bool) → damage ≡ ended d.damage full → cell_view (record { slot = slot; state = Live (record d { damage = damage }) }) ≡ with_live (λ c. with_layer (λ l. end_update full l) c) (cell_view (record { slot = slot; state = Live d }))
-ended_view slot d damage full is = ap (λ m. cell_view (record { slot = slot; state = Live (record d { damage = m }) })) is ∙ end_viewed slot d full
+full_end_viewed d damage w false on is window room = absurd (cc on)
+full_end_viewed d damage w true on is window room =
+    ap (λ m. live_view (record d { damage = m; window = w })) is
+    ∙ (ap (λ v. record (live_view (record d { damage = ended d.damage true; window = w })) { layer = record (live_view (record d { damage = ended d.damage true; window = w })).layer { window = v } }) window
+    ∙ ap (λ n. record (with_layer (λ l. end_update true l) (live_view d)) { room = n }) room)

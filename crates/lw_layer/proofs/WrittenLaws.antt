@@ -71,6 +71,8 @@ written_shown d n k line bytes ok there inside =
         buffers = all_buffers d n k line bytes _ ok there same;
         inner = ok.inner;
         damaged = ok.damaged;
+        frameless = ok.frameless;
+        frame = ok.frame;
       };
       view = view_of_set d n k line bytes _ ok there same;
     }
@@ -95,6 +97,8 @@ written_covered d n k line bytes ok there past inside =
         buffers = all_buffers d n k line bytes _ ok there same;
         inner = ok.inner;
         damaged = ok.damaged;
+        frameless = ok.frameless;
+        frame = ok.frame;
       };
       view = view_of_set d n k line bytes _ ok there same;
     }
@@ -139,6 +143,8 @@ written_own d b n k line bytes ok there past late at =
         buffers = all_buffers q n k line bytes _ ok there same;
         inner = ok.inner;
         damaged = ok.damaged;
+        frameless = ok.frameless;
+        frame = ok.frame;
       };
       view = view_of_set q n k line bytes _ ok there same;
     }

@@ -10,16 +10,18 @@ use Rattle.lw_calls.specs.declared.make.Kind.{Kind}
 use Rattle.lw_calls.specs.declared.make.Kind.TheVariants.{Simple, Smart, SuperBitmap}
 use Rattle.lw_calls.specs.Kinds.{is_super}
 use Rattle.lw_cliprects.specs.Parts.{hidden_of}
-use Rattle.lw_machine.specs.Layer.{Raster, new_raster}
+use Rattle.lw_machine.specs.Layer.{Raster, Window, new_raster, is_framed}
 use Rattle.lw_machine.specs.Kept.{holds_at}
 use Rattle.lw_layer.specs.View.{State, LiveView, CellView, keeps}
 use Rattle.lw_layer.specs.View as view
-use Rattle.lw_layer.specs.Pieces.{Layout, inner_of, damage_table, columns, lines, buffered, buffer_at, column_in, line_in}
+use Rattle.lw_layer.specs.Pieces.{Layout, inner_in, HasFrameRoom, damage_table, columns, lines, buffered, buffer_at, column_in, line_in}
 use Rattle.lw_layer.specs.declared.raster.Raster.{Raster as RasterCode}
 use Rattle.lw_layer.specs.declared.draft.Draft.{Draft}
 use Rattle.lw_layer.specs.declared.draft.DraftState.{DraftState}
 use Rattle.lw_layer.specs.declared.draft.DraftState.TheVariants.{Unopened, Closed, Live}
 use Rattle.lw_layer.specs.declared.draft.LiveDraft.{LiveDraft}
+use Rattle.lw_layer.specs.declared.windows.WindowDraft.{WindowDraft}
+use Rattle.lw_ports.specs.Sets.{classes_of}
 
 abbrev pub raster_of : RasterCode → Raster
 raster_of r = record { pen_a = r.a; pen_b = r.b; mode = r.mode; mask = r.mask; cursor_x = r.x; cursor_y = r.y }
@@ -72,6 +74,23 @@ pen_from buffers l (Some n) x y = pen_at (slice_index_or buffers n no_bitmap) (c
 abbrev pub bits_of : Layout → ℕ → List Bitmap → Bitmap
 bits_of l depth buffers = bitmap l.width l.height depth (λ x y. pen_from buffers l (buffer_at l x y) x y)
 
+-- the window of a draft's layer, if it is one, and the room in its port
+abbrev pub window_of : Option WindowDraft → Option Window
+window_of None = None
+window_of (Some w) = Some (record {
+  owner = w.owner;
+  framed = w.framed;
+  title = w.title;
+  nocare = w.nocare;
+  classes = classes_of w.set;
+  port = w.port.messages;
+  asked = w.asked;
+})
+
+abbrev pub room_of : Option WindowDraft → ℕ
+room_of None = 0
+room_of (Some w) = w.port.spare
+
 -- the live layer of a draft
 abbrev pub live_view : LiveDraft → LiveView
 live_view d =
@@ -79,7 +98,8 @@ live_view d =
     record {
       bounds = l.bounds;
       visible = l.visible;
-      active = false;
+      active = d.active;
+      room = room_of d.window;
       layer = record {
         kind = d.kind;
         backdrop = d.backdrop;
@@ -91,7 +111,7 @@ live_view d =
         raster = raster_of d.raster;
         updating = d.damage.updating;
         hook = None;
-        window = None;
+        window = window_of d.window;
       };
     }
 
@@ -131,8 +151,10 @@ pub record IsLiveDraft (d : LiveDraft) : Type 0 where
   pub shown : length d.buffers.items ≡ length d.parts.visible
   pub rest : IsRest d.kind (length (hidden_of d.bounds d.parts.visible)) (length d.covered.items) d.superbits
   pub buffers : AreBuffers d.depth (buffered (layout d)) (buffers_of d) d.bounds
-  pub inner : d.damage.inner ≡ inner_of (is_super d.kind) (layout d).width (layout d).height
+  pub inner : d.damage.inner ≡ inner_in (live_view d)
   pub damaged : (x y : ℤ) → covers d.damage.rects x y ≡ true → holds_at (λ i j. keeps (live_view d) i j) x y ≡ true
+  pub frameless : is_super d.kind ≡ true → is_framed (window_of d.window) ≡ false
+  pub frame : is_framed (window_of d.window) ≡ true → HasFrameRoom d.bounds
 
 -- what has to hold of what a draft says of its slot
 abbrev pub IsState : DraftState → Type 0
@@ -149,6 +171,7 @@ no_layer = record {
   bounds = record { min_x = pos 0; min_y = pos 0; max_x = pos 0; max_y = pos 0 };
   visible = [];
   active = false;
+  room = 0;
   layer = record {
     kind = Simple;
     backdrop = false;

@@ -9,4 +9,5 @@ pub mod Looks
 pub mod New
 pub mod Copied
 pub mod StandsFor
+pub mod Windows
 pub mod Keeping

@@ -8,6 +8,7 @@ use Rattle.lw_calls.specs.declared.make.Kind.{Kind}
 use Rattle.lw_calls.specs.declared.make.Kind.TheVariants.{Simple, Smart, SuperBitmap}
 use Rattle.lw_calls.specs.declared.make.Make.{Make}
 use Rattle.lw_calls.specs.Kinds.{is_super}
+use Rattle.lw_machine.specs.Layer.{Window}
 use Rattle.lw_machine.specs.Arrangement.{bounds_of, new_layer}
 use Rattle.lw_layer.specs.View.{LiveView}
 use Rattle.lw_layer.specs.Pieces.{columns, lines}
@@ -24,9 +25,10 @@ pub record IsNewSize (make : Make) (depth : ℕ) (bounds : Rectangle) : Type 0 w
   pub right : is_super make.kind ≡ true → columns bounds ≤ make.bits_w
   pub lower : is_super make.kind ≡ true → lines bounds ≤ make.bits_h
 
--- the new layer with these bounds and visible rectangles
-abbrev pub new_live : Make → ℕ → Rectangle → List Rectangle → LiveView
-new_live make depth bounds visible = record { bounds = bounds; visible = visible; active = false; layer = new_layer depth make None None }
+-- the new layer with these bounds and visible rectangles, with this window and this room in its port
+abbrev pub new_live : Make → ℕ → Rectangle → List Rectangle → Option Window → ℕ → LiveView
+new_live make depth bounds visible window room =
+    record { bounds = bounds; visible = visible; active = false; room = room; layer = new_layer depth make None window }
 
 -- the rectangles beside the visible ones for which a layer of this kind has a buffer of its own
 abbrev pub kept_hidden : Kind → List Rectangle → List Rectangle

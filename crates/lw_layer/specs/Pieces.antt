@@ -1,6 +1,6 @@
 -- Where a live layer's pens lie: in rectangles of the screen's plane, each with a buffer of its size (the manual's
 -- Layers Library chapter: the ClipRect structure; which rectangles have a buffer is this project's own).
-use Rattle.std.specs.Prelude.{◌≡◌, ℕ, ◌==◌, ◌<◌, ◌-◌, Bool, true, false, ◌&&◌, nat_lt, if◌then◌else◌, List, [], ◌∷◌, ◌++◌, length, ℤ, pos, ◌+ℤ◌, ◌-ℤ◌, unsigned_abs, Option, Some, None}
+use Rattle.std.specs.Prelude.{◌≡◌, ℕ, ◌==◌, ◌<◌, ◌≤◌, ◌-◌, Bool, true, false, ◌&&◌, nat_lt, if◌then◌else◌, List, [], ◌∷◌, ◌++◌, length, ℤ, pos, ◌+ℤ◌, ◌-ℤ◌, unsigned_abs, Option, Some, None}
 use Rattle.std.specs.Int.{bit_at}
 use Rattle.std.specs.List.{position, slice_index_or}
 use Rattle.lw_region.specs.Rectangle.{Rectangle, has_pixel}
@@ -15,6 +15,7 @@ use Rattle.lw_damage.specs.Damaged.{Damaged}
 use Rattle.lw_calls.specs.declared.make.Kind.{Kind}
 use Rattle.lw_calls.specs.declared.make.Kind.TheVariants.{Simple, Smart, SuperBitmap}
 use Rattle.lw_cliprects.specs.Parts.{hidden_of}
+use Rattle.lw_machine.specs.Layer.{is_framed}
 use Rattle.lw_machine.specs.Desk.{is_the}
 use Rattle.lw_machine.specs.Screen.{distance}
 use Rattle.lw_machine.specs.Kept.{screen_place, holds_at}
@@ -136,10 +137,20 @@ hidden_where Closed c = []
 abbrev pub hidden_rectangles : CellView → List Rectangle
 hidden_rectangles c = hidden_where c.state c.live
 
--- where damage may lie: in all of a layer that isn't a super-bitmap layer
-abbrev pub inner_of : Bool → ℕ → ℕ → Option Rectangle
-inner_of true w h = None
-inner_of false w h = Some (record { min_x = pos 0; min_y = pos 0; max_x = pos (w - 1); max_y = pos (h - 1) })
+-- Where damage may lie in a layer w wide and h high: nowhere in a super-bitmap layer, in what the frame leaves of a framed window,
+-- and in all of any other layer.
+abbrev pub inner_of : Bool → Bool → ℕ → ℕ → Option Rectangle
+inner_of true framed w h = None
+inner_of false true w h = Some (record { min_x = pos 4; min_y = pos 11; max_x = pos (w - 5); max_y = pos (h - 3) })
+inner_of false false w h = Some (record { min_x = pos 0; min_y = pos 0; max_x = pos (w - 1); max_y = pos (h - 1) })
+
+abbrev pub inner_in : LiveView → Option Rectangle
+inner_in c = inner_of (is_super c.layer.kind) (is_framed c.layer.window) c.layer.bits.width c.layer.bits.height
+
+-- a frame has room in bounds that are at least 9 wide and 14 high
+pub record HasFrameRoom (r : Rectangle) : Type 0 where
+  pub wide : 9 ≤ columns r
+  pub high : 14 ≤ lines r
 
 -- which pixels of a layer with these bits are damaged, by the rectangles of its damage
 abbrev pub damage_table : Bitmap → List Rectangle → List (List Bool)
@@ -149,5 +160,5 @@ damage_table bits rects = grid bits.width bits.height (λ x y. covers rects (pos
 pub record IsDamageOf (c : LiveView) (d : Damaged) : Type 0 where
   pub pixels : c.layer.damage ≡ damage_table c.layer.bits d.rects
   pub kept : (x y : ℤ) → covers d.rects x y ≡ true → holds_at (λ i j. keeps c i j) x y ≡ true
-  pub inner : d.inner ≡ inner_of (is_super c.layer.kind) c.layer.bits.width c.layer.bits.height
+  pub inner : d.inner ≡ inner_in c
   pub updating : d.updating ≡ c.layer.updating

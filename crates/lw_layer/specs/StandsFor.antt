@@ -1,5 +1,5 @@
 -- Which part of a desk a cell stands for, and what holds of every live layer (this project's own).
-use Rattle.std.specs.Prelude.{◌≡◌, ℕ, false, ℤ, Some, None}
+use Rattle.std.specs.Prelude.{◌≡◌, ℕ, true, false, ℤ, Some, None}
 use Rattle.lw_region.specs.Rectangle.{IsOrdered}
 use Rattle.lw_region.specs.Bands.{covers}
 use Rattle.lw_region.specs.Banded.{IsCanonical}
@@ -7,11 +7,12 @@ use Rattle.lw_planes.specs.Bitmap.{pen_at}
 use Rattle.lw_planes.specs.Sizes.{IsPlanes}
 use Rattle.lw_calls.specs.Kinds.{is_super}
 use Rattle.lw_cliprects.specs.Parts.{LieIn}
+use Rattle.lw_machine.specs.Layer.{is_framed}
 use Rattle.lw_machine.specs.Layer as layer
 use Rattle.lw_machine.specs.Parts.{SlotPart}
 use Rattle.lw_layer.specs.View.{State, LiveView, CellView, keeps}
 use Rattle.lw_layer.specs.View as view
-use Rattle.lw_layer.specs.Pieces.{layout_of, columns, lines}
+use Rattle.lw_layer.specs.Pieces.{layout_of, columns, lines, HasFrameRoom}
 use Rattle.lw_layer.specs.Drafts.{IsScrolled}
 
 -- The slot has this layer with these bounds, which is shown on the places that the visible rectangles cover.
@@ -33,7 +34,8 @@ StandsFor c p = IsPartOf c.state c.live p
 
 -- What holds of every live layer: its bits are a bitmap with sizes for planes, of the size of its bounds unless it has a bitmap
 -- of its own, with pen 0 off the pixels that it keeps; what is visible lies in its bounds, in canonical form; the portion
--- that is shown lies in its bits; it has no hook, which lies beside the cell; and it isn't a window so far.
+-- that is shown lies in its bits; it has no hook, which lies beside the cell; and a framed window is no super-bitmap layer and has
+-- room for its frame.
 pub record IsSound (c : LiveView) : Type 0 where
   pub bits : IsPlanes c.layer.bits
   pub off_kept : (x y : ℕ) → keeps c x y ≡ false → pen_at c.layer.bits x y ≡ 0
@@ -44,5 +46,5 @@ pub record IsSound (c : LiveView) : Type 0 where
   pub canonical : IsCanonical c.visible
   pub scrolled : IsScrolled (layout_of c)
   pub hook : c.layer.hook ≡ None
-  pub window : c.layer.window ≡ None
-  pub idle : c.active ≡ false
+  pub frameless : is_super c.layer.kind ≡ true → is_framed c.layer.window ≡ false
+  pub frame : is_framed c.layer.window ≡ true → HasFrameRoom c.bounds

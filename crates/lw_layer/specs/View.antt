@@ -13,12 +13,14 @@ pub data State : Type 0 where
   Live : State
   Closed : State
 
--- A live layer with its bounds on the screen, its visible rectangles there, and whether it is the active window. Off the pixels
--- that it keeps the layer's pens are 0.
+-- A live layer with its bounds on the screen, its visible rectangles there, whether it is the active window, and for how many more
+-- messages its window's port has room, which is none of a layer that isn't a window. Off the pixels that it keeps the layer's pens
+-- are 0.
 pub record LiveView : Type 0 where
   pub bounds : Rectangle
   pub visible : List Rectangle
   pub active : Bool
+  pub room : ℕ
   pub layer : Layer
 
 -- A slot's number, what it holds, and its live layer. Where the slot isn't live that is one without any pixel in its bits.

@@ -6,7 +6,7 @@ ghost use Rattle.lw_layer.specs.View.{CellView, keeps, draws, kept_pen, with_lay
 ghost use Rattle.lw_layer.specs.Drafts.{IsDraft, cell_view, raster_of, clip_set, no_layer};
 ghost use Rattle.lw_planes.specs.Sizes.{IsPlanes};
 ghost use Rattle.lw_layer.specs.View as view;
-ghost use Rattle.lw_layer.specs.Pieces.{hidden_rectangles, inner_of, damage_table, IsDamageOf, HasLine, HasLineBits, layout_of, columns, buffer_rectangle};
+ghost use Rattle.lw_layer.specs.Pieces.{hidden_rectangles, inner_in, damage_table, IsDamageOf, HasLine, HasLineBits, layout_of, columns, buffer_rectangle};
 ghost use Rattle.lw_layer.specs.Lending.{LendsRow};
 ghost use Rattle.lw_region.specs.Pixels.{pixels_of};
 ghost use Rattle.lw_region.specs.Bands.{covers};
@@ -35,7 +35,7 @@ use std::mem;
 /// follows from the slot's part.
 #[derive(Debug, Drop)]
 pub struct Cell {
-    draft: Draft,
+    pub(crate) draft: Draft,
 }
 
 impl Model for Cell {
@@ -299,13 +299,14 @@ impl Cell {
         }
     }
 
-    /// Ends an update. A full end takes all damage away, a partial one leaves it (EndUpdate).
+    /// Ends an update. A full end takes all damage away, and a window may then be asked to refresh again; a partial one leaves the
+    /// damage (EndUpdate).
     pub fn end_update(&mut self, full: bool)
         requires { self.old.state ≡ view.Live }
         ensures { self.new ≡ with_live (λ c. with_layer (λ l. end_update full l) c) self.old }
     {
         match &mut self.draft.state {
-            DraftState::Live(live) => live.damage.end(full),
+            DraftState::Live(live) => live.end_update(full),
             _ => unreachable!(),
         }
     }
@@ -313,7 +314,7 @@ impl Cell {
     /// Replaces the damage. It lies on kept pixels of the layer's inner rectangle, and its update is on where the layer's is.
     pub fn set_damage(&mut self, damage: Damage)
         requires live { self.old.state ≡ view.Live }
-        requires inner { damage.inner ≡ inner_of (is_super self.old.live.layer.kind) self.old.live.layer.bits.width self.old.live.layer.bits.height }
+        requires inner { damage.inner ≡ inner_in self.old.live }
         requires updating { damage.updating ≡ self.old.live.layer.updating }
         requires kept { (x y : ℤ) → covers damage.rects x y ≡ true → holds_at (λ i j. keeps self.old.live i j) x y ≡ true }
         ensures { self.new ≡ with_live (λ c. with_layer (λ l. record l { damage = damage_table l.bits damage.rects }) c) self.old }

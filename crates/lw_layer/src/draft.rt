@@ -1,4 +1,10 @@
+ghost use Rattle.std.specs.Prelude.{◌≡◌};
+ghost use Rattle.lw_machine.specs.Step.{end_update};
+ghost use Rattle.lw_layer.specs.View.{with_layer};
+ghost use Rattle.lw_layer.specs.Drafts.{IsLiveDraft, live_view};
+
 use crate::raster::Raster;
+use crate::windows::{WindowDraft, set_asked};
 use lw_calls::Kind;
 use lw_cliprects::Parts;
 use lw_damage::Damage;
@@ -45,4 +51,22 @@ pub struct LiveDraft {
     pub covered: Vec<Planes>,
     /// A super-bitmap layer's own bitmap. What it has where the layer is visible means nothing.
     pub superbits: Option<Planes>,
+    /// The layer is the active window.
+    pub active: bool,
+    /// The window that the layer is, if it is one.
+    pub window: Option<WindowDraft>,
+}
+
+impl LiveDraft {
+    // Ends an update.
+    pub(crate) fn end_update(&mut self, full: bool)
+        requires { IsLiveDraft self.old }
+        ensures sound { IsLiveDraft self.new }
+        ensures view { live_view self.new ≡ with_layer (λ l. end_update full l) (live_view self.old) }
+    {
+        self.damage.end(full);
+        if full {
+            set_asked(&mut self.window, false);
+        }
+    }
 }

@@ -14,6 +14,7 @@ mod reading;
 mod rows;
 mod run;
 mod runs;
+mod windows;
 
 pub use cell::Cell;
 pub use draft::{Draft, DraftState, LiveDraft};
@@ -22,3 +23,4 @@ pub use look::Look;
 pub use new::inner_rectangle;
 pub use raster::Raster;
 pub use run::Run;
+pub use windows::WindowDraft;

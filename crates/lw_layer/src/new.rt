@@ -5,13 +5,15 @@ ghost use Rattle.lw_region.specs.Rectangle.{has_pixel, IsOrdered};
 ghost use Rattle.lw_planes.specs.Sizes.{AreSizes, IsPlanes};
 ghost use Rattle.lw_calls.specs.Kinds.{is_super};
 ghost use Rattle.lw_cliprects.specs.Parts.{LieIn, hidden_of};
-ghost use Rattle.lw_layer.specs.Pieces.{columns, lines, inner_of};
-ghost use Rattle.lw_layer.specs.Drafts.{IsLiveDraft, live_view};
+ghost use Rattle.lw_layer.specs.Pieces.{columns, lines, inner_of, HasFrameRoom};
+ghost use Rattle.lw_machine.specs.Layer.{is_framed};
+ghost use Rattle.lw_layer.specs.Drafts.{IsLiveDraft, window_of, room_of, live_view};
 ghost use Rattle.lw_layer.specs.New.{blank_buffer, kept_hidden, own_blank, AreBlank, IsNewSize, new_live};
 
 use crate::draft::LiveDraft;
 use crate::places::extent;
 use crate::raster::Raster;
+use crate::windows::{WindowDraft, is_framed};
 use lw_calls::{Kind, Make};
 use lw_cliprects::Parts;
 use lw_damage::Damage;
@@ -20,25 +22,29 @@ use lw_region::{Rect, Region};
 use std::alloc::{AllocError, Global};
 
 impl LiveDraft {
-    /// A new layer without a hook and without a window, of which these pixels of the screen are visible (CreateUpfrontLayer,
-    /// CreateBehindLayer): pen 0 everywhere, no damage, no clip region, and nothing scrolled. Bounds and an own bitmap have
-    /// 1 to 2048 columns and rows, and `depth` is 1 to 8.
+    /// A new layer without a hook, which is a window or not, and of which these pixels of the screen are visible (CreateUpfrontLayer,
+    /// CreateBehindLayer, OpenWindow): pen 0 everywhere, no damage, no clip region, and nothing scrolled. Bounds and an own bitmap
+    /// have 1 to 2048 columns and rows, and `depth` is 1 to 8. A framed window has room for its frame and no bitmap of its own.
     pub fn new(
         alloc: Global,
         make: &Make,
         depth: u32,
         bounds: &Rect,
         visible: &Region,
+        window: Option<WindowDraft>,
     ) -> Result<LiveDraft, AllocError>
         requires size { IsNewSize make.now depth bounds.now }
         requires inside { LieIn bounds.now visible.now }
+        requires frameless { is_super make.now.kind ≡ true → is_framed (window_of window) ≡ false }
+        requires frame { is_framed (window_of window) ≡ true → HasFrameRoom bounds.now }
         ensures draft { IfOk result (λ d. IsLiveDraft d) }
-        ensures layer { IfOk result (λ d. live_view d ≡ new_live make.now depth bounds.now visible.now) }
+        ensures layer { IfOk result (λ d. live_view d ≡ new_live make.now depth bounds.now visible.now (window_of window) (room_of window)) }
     {
         let parts = Parts::cut(alloc, bounds, visible)?;
         let buffers = blank_buffers(alloc, bounds, parts.visible(), depth)?;
         let covered = covered_buffers(alloc, make.kind, bounds, &parts, depth)?;
         let superbits = own_bitmap(alloc, make, depth)?;
+        let inner = inner_rectangle(make.kind, is_framed(&window), bounds);
         Ok(LiveDraft {
             kind: make.kind,
             backdrop: make.backdrop,
@@ -55,11 +61,13 @@ impl LiveDraft {
                 y: 0,
             },
             clip: None,
-            damage: Damage::new(alloc, inner_rectangle(make.kind, bounds)),
+            damage: Damage::new(alloc, inner),
             parts,
             buffers,
             covered,
             superbits,
+            active: false,
+            window,
         })
     }
 }
@@ -125,29 +133,35 @@ fn blank(alloc: Global, bounds: &Rect, rect: &Rect, depth: u32) -> Result<Planes
     Ok(planes)
 }
 
-/// Where damage may lie in a layer with these bounds, in layer coordinates; `None` exactly for a super-bitmap layer, which never
-/// has damage (this project's own).
-pub fn inner_rectangle(kind: Kind, bounds: &Rect) -> Option<Rect>
+/// Where damage may lie in a layer with these bounds, in layer coordinates: in a framed window in what its frame leaves; `None`
+/// exactly for a super-bitmap layer, which never has damage (this project's own).
+pub fn inner_rectangle(kind: Kind, framed: bool, bounds: &Rect) -> Option<Rect>
     requires wide { columns bounds.now ≤ 2048 }
     requires high { lines bounds.now ≤ 2048 }
-    ensures { result ≡ inner_of (is_super kind) (columns bounds.now) (lines bounds.now) }
+    requires room { framed ≡ true → HasFrameRoom bounds.now }
+    ensures { result ≡ inner_of (is_super kind) framed (columns bounds.now) (lines bounds.now) }
 {
     match kind {
         Kind::SuperBitmap => None,
-        Kind::Simple => whole_rectangle(bounds),
-        Kind::Smart => whole_rectangle(bounds),
+        Kind::Simple => inner_within(framed, bounds),
+        Kind::Smart => inner_within(framed, bounds),
     }
 }
 
-// The bounds in layer coordinates.
-fn whole_rectangle(bounds: &Rect) -> Option<Rect>
+// What a frame leaves of the bounds, and all of them without one, in layer coordinates.
+fn inner_within(framed: bool, bounds: &Rect) -> Option<Rect>
     requires wide { columns bounds.now ≤ 2048 }
     requires high { lines bounds.now ≤ 2048 }
-    ensures { result ≡ inner_of false (columns bounds.now) (lines bounds.now) }
+    requires room { framed ≡ true → HasFrameRoom bounds.now }
+    ensures { result ≡ inner_of false framed (columns bounds.now) (lines bounds.now) }
 {
     let right = last_place(columns_of(bounds));
     let lower = last_place(lines_of(bounds));
-    Rect::new(0, 0, right, lower)
+    if framed {
+        Rect::new(4, 11, right - 4, lower - 2)
+    } else {
+        Rect::new(0, 0, right, lower)
+    }
 }
 
 // The last of so many places from 0 on.

@@ -3,16 +3,17 @@
 ghost use Rattle.std.specs.Prelude.{◌≡◌, ◌<◌, if◌then◌else◌, pos};
 ghost use Rattle.lw_calls.specs.Kinds.{is_super};
 ghost use Rattle.lw_layer.specs.View.{kept_pen};
-ghost use Rattle.lw_layer.specs.Looks.{IsLook};
+ghost use Rattle.lw_layer.specs.Looks.{IsLook, owner_of};
 ghost use Rattle.lw_layer.specs.StandsFor.{IsSound};
 ghost use Rattle.lw_layer.specs.Pieces.{HasLine};
-ghost use Rattle.lw_layer.specs.Drafts.{IsLiveDraft, layout, buffers_of, no_bitmap, live_view};
+ghost use Rattle.lw_layer.specs.Drafts.{IsLiveDraft, layout, buffers_of, no_bitmap, window_of, live_view};
 ghost use Rattle.std.specs.List.{slice_index_or};
 ghost use Rattle.lw_planes.specs.Bitmap.{pen_at};
 
 use crate::draft::LiveDraft;
 use crate::look::Look;
 use crate::runs::place_in;
+use crate::windows::is_framed;
 use lw_calls::Kind;
 
 impl LiveDraft {
@@ -90,10 +91,20 @@ impl LiveDraft {
             scroll_y: self.scroll_y,
             bits_w,
             bits_h,
-            framed: false,
-            owner: None,
-            active: false,
+            framed: is_framed(&self.window),
+            owner: self.owner(),
+            active: self.active,
             updating: self.damage.updating(),
+        }
+    }
+
+    // The task that opened the window, if the layer is one.
+    fn owner(&self) -> Option<u32>
+        ensures { result ≡ owner_of (window_of self.now.window) }
+    {
+        match &self.window {
+            None => None,
+            Some(window) => Some(window.owner),
         }
     }
 

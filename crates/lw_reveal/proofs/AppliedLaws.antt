@@ -21,7 +21,7 @@ use Rattle.lw_layer.proofs.KeptLaws.{kept_in_bits}
 use Rattle.lw_layer.proofs.BitsLaws.{live_bits}
 use Rattle.lw_layer.proofs.NewLaws.{part_size}
 use Rattle.lw_reveal.specs.declared.change.Change.{Change}
-use Rattle.lw_reveal.specs.Changed.{revealed_to, MayHave}
+use Rattle.lw_reveal.specs.Changed.{carried_to, MayHave}
 use Rattle.lw_reveal.specs.Handing.{own_whole}
 use Rattle.lw_reveal.specs.Changes.{beside_own, pen_or_zero, layer_place, carried, new_rectangle, new_buffer}
 use Rattle.lw_reveal.proofs.CarriedLaws.{number_is, both_ordered, divided_inside, hidden_canonical, AreParts}
@@ -34,7 +34,7 @@ changed_draft d k = record d { bounds = k.bounds; parts = k.parts; damage = k.da
 pub record IsMade (d : LiveDraft) (k : Change) : Type 0 where
   pub cut : k.parts.bounds ≡ k.bounds
   pub size : MayHave (live_view d) k.bounds k.parts.visible
-  pub revealed : IsDamageOf (revealed_to k.bounds k.parts.visible (live_view d)) k.damage
+  pub revealed : IsDamageOf (carried_to k.bounds k.parts.visible (live_view d)) k.damage
   pub shown : length k.buffers.items ≡ length k.parts.visible
   pub hidden : length k.covered.items ≡ length (kept_hidden d.kind (hidden_of k.bounds k.parts.visible))
   pub pens : (i : ℕ) → i < length (beside_own d.kind k.bounds k.parts.visible)

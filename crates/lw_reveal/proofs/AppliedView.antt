@@ -12,55 +12,48 @@ use Rattle.lw_calls.specs.Kinds.{is_super}
 use Rattle.lw_cliprects.specs.Parts.{hidden_of}
 use Rattle.lw_machine.specs.Layer.{Layer}
 use Rattle.lw_machine.specs.Kept.{is_kept, holds_at}
-use Rattle.lw_machine.specs.Reveal.{Across, revealed, resized, with_revealed, counts_as_kept}
+use Rattle.lw_machine.specs.Reveal.{Across, resized, counts_as_kept}
 use Rattle.lw_machine.specs.Reveal as reveal
 use Rattle.lw_layer.specs.View.{LiveView, keeps, kept_pen}
-use Rattle.lw_layer.specs.Pieces.{columns, lines, buffer_rectangle, buffer_at, column_in, line_in, inner_of, damage_table, IsDamageOf}
+use Rattle.lw_layer.specs.Pieces.{columns, lines, buffer_rectangle, buffer_at, column_in, line_in, inner_in, damage_table, IsDamageOf}
 use Rattle.lw_layer.specs.Drafts.{IsLiveDraft, IsScrolled, IsRest, layout, buffers_of, pen_from, live_view}
 use Rattle.lw_layer.specs.New.{kept_hidden}
 use Rattle.lw_layer.specs.declared.draft.LiveDraft.{LiveDraft}
 use Rattle.lw_layer.proofs.ViewLaws.{has_place, both_true}
 use Rattle.lw_layer.proofs.KeptLaws.{keeps_found, keeps_missing, within_low}
 use Rattle.lw_reveal.specs.declared.change.Change.{Change}
-use Rattle.lw_reveal.specs.Changed.{across_to, revealed_to}
+use Rattle.lw_reveal.specs.Changed.{across_to, windowless, carried_to}
 use Rattle.lw_reveal.specs.Handing.{own_whole}
 use Rattle.lw_reveal.specs.Changes.{pen_or_zero, layer_place}
-use Rattle.lw_reveal.proofs.RevealLaws.{revealed_super, revealed_plain}
 use Rattle.lw_reveal.proofs.GainedCounts.{counts_kept}
+use Rattle.lw_reveal.proofs.GainedView.{gained_view, carried_plain, carried_own}
 use Rattle.lw_reveal.proofs.AppliedLaws.{changed_draft, IsMade, plain_size, super_size, super_keeps, made_buffers, rectangle_carried}
-
--- the live layer with these bounds, visible rectangles and layer
-abbrev seen_as : LiveDraft → Change → Layer → LiveView
-seen_as d k l = record { bounds = k.bounds; visible = k.parts.visible; active = false; layer = l }
 
 abbrev over : LiveDraft → Change → Across
 over d k = across_to (live_view d) k.bounds k.parts.visible
 
--- what is carried, of a layer that isn't a super-bitmap layer
-abbrev plain_layer : LiveDraft → Change → Layer
-plain_layer d k = with_revealed (over d k) (live_view d).layer (resized (over d k) (live_view d).layer)
+-- what is carried, by kind
+abbrev plain_view : LiveDraft → Change → LiveView
+plain_view d k = gained_view k.bounds k.parts.visible (live_view d)
+
+abbrev super_view : LiveDraft → Change → LiveView
+super_view d k = record (live_view d) { bounds = k.bounds; visible = k.parts.visible }
 
 -- the damage is that of the revealed layer, by kind
-plain_damage : (d : LiveDraft) (k : Change) → is_super d.kind ≡ false → IsMade d k
-    → IsDamageOf (seen_as d k (plain_layer d k)) k.damage
-plain_damage d k plain made =
-    let P : Layer → Type 0 = λ l. IsDamageOf (seen_as d k l) k.damage in
-    subst P (revealed_plain (over d k) (live_view d).layer plain) made.revealed
+plain_damage : (d : LiveDraft) (k : Change) → is_super d.kind ≡ false → IsMade d k → IsDamageOf (plain_view d k) k.damage
+plain_damage d k plain made = subst (λ c. IsDamageOf c k.damage) (carried_plain (live_view d) k.bounds k.parts.visible plain) made.revealed
 
-super_damage : (d : LiveDraft) (k : Change) → is_super d.kind ≡ true → IsMade d k
-    → IsDamageOf (seen_as d k (live_view d).layer) k.damage
-super_damage d k super made =
-    let P : Layer → Type 0 = λ l. IsDamageOf (seen_as d k l) k.damage in
-    subst P (revealed_super (over d k) (live_view d).layer super) made.revealed
+super_damage : (d : LiveDraft) (k : Change) → is_super d.kind ≡ true → IsMade d k → IsDamageOf (super_view d k) k.damage
+super_damage d k super made = subst (λ c. IsDamageOf c k.damage) (carried_own (live_view d) k.bounds k.parts.visible super) made.revealed
 
 -- which pixels are kept, by kind
 plain_kept : (d : LiveDraft) (k : Change) (x y : ℕ) → is_super d.kind ≡ false → IsLiveDraft d
-    → keeps (seen_as d k (plain_layer d k)) x y ≡ keeps (live_view (changed_draft d k)) x y
+    → keeps (plain_view d k) x y ≡ keeps (live_view (changed_draft d k)) x y
 unfolding keeps is_kept
 plain_kept d k x y plain ok = let size = plain_size d k plain ok in rw (size.0, size.1) refl
 
 super_kept : (d : LiveDraft) (k : Change) (x y : ℕ) → is_super d.kind ≡ true
-    → keeps (seen_as d k (live_view d).layer) x y ≡ keeps (live_view (changed_draft d k)) x y
+    → keeps (super_view d k) x y ≡ keeps (live_view (changed_draft d k)) x y
 unfolding keeps is_kept
 super_kept d k x y super = let size = super_size d k super in rw (size.0, size.1) refl
 
@@ -95,7 +88,7 @@ scrolled_by d k false plain ok made =
     }
 
 inner_by : (d : LiveDraft) (k : Change) (t : Bool) → is_super d.kind ≡ t → IsLiveDraft d → IsMade d k
-    → k.damage.inner ≡ inner_of (is_super d.kind) (layout (changed_draft d k)).width (layout (changed_draft d k)).height
+    → k.damage.inner ≡ inner_in (live_view (changed_draft d k))
 inner_by d k true super ok made = let size = super_size d k super in rw (size.0, size.1) (super_damage d k super made).inner
 inner_by d k false plain ok made = let size = plain_size d k plain ok in rw (size.0, size.1) (plain_damage d k plain made).inner
 
@@ -125,6 +118,8 @@ changed_sound d k ok made = record {
   buffers = made_buffers d k ok made;
   inner = inner_by d k (is_super d.kind) refl ok made;
   damaged = damaged_by d k (is_super d.kind) refl ok made;
+  frameless = ok.frameless;
+  frame = made.size.frame;
 }
 
 -- where a pixel lies in its buffer_rectangle, one axis at a time
@@ -165,24 +160,25 @@ pen_chosen false p = refl
 
 -- the pixels that are kept afterwards, by their definition
 reveal_kept : (d : LiveDraft) (k : Change) (x y : ℕ) → is_super d.kind ≡ false → IsLiveDraft d
-    → reveal.keeps (over d k) (resized (over d k) (live_view d).layer) x y ≡ keeps (live_view (changed_draft d k)) x y
+    → reveal.keeps (over d k) (resized (over d k) (windowless (live_view d).layer)) x y ≡ keeps (live_view (changed_draft d k)) x y
 unfolding keeps is_kept
 reveal_kept d k x y plain ok = let size = plain_size d k plain ok in rw (size.0, size.1) refl
 
 -- the bits, by kind
 plain_bits : (d : LiveDraft) (k : Change) → is_super d.kind ≡ false → IsLiveDraft d → IsMade d k
-    → (live_view (changed_draft d k)).layer.bits ≡ (plain_layer d k).bits
-plain_bits d k plain ok made =
+    → (live_view (changed_draft d k)).layer.bits ≡ (plain_view d k).layer.bits
+plain_bits d k other ok made =
     let r = changed_draft d k in
     let l = layout r in
     let c = live_view d in
-    let size = plain_size d k plain ok in
+    let plain : Layer = windowless c.layer in
+    let size = plain_size d k other ok in
     let F : ℕ → ℕ → ℕ = λ x y. pen_from (buffers_of r) l (buffer_at l x y) x y in
-    let G : ℕ → ℕ → ℕ = λ x y. if reveal.keeps (over d k) (resized (over d k) c.layer) x y then (if counts_as_kept (over d k) c.layer x y then pen_at c.layer.bits x y else 0) else 0 in
+    let G : ℕ → ℕ → ℕ = λ x y. if reveal.keeps (over d k) (resized (over d k) plain) x y then (if counts_as_kept (over d k) plain x y then pen_at c.layer.bits x y else 0) else 0 in
     bitmap_same l.width l.height d.depth F G
     (λ x y left low.
-    let counted = counts_kept c k.bounds k.parts.visible x y refl in
-    let kept : reveal.keeps (over d k) (resized (over d k) c.layer) x y ≡ keeps (live_view r) x y = reveal_kept d k x y plain ok in
+    let counted = counts_kept c k.bounds k.parts.visible x y in
+    let kept : reveal.keeps (over d k) (resized (over d k) plain) x y ≡ keeps (live_view r) x y = reveal_kept d k x y other ok in
     rw (kept, counted) (found_pen d k x y (buffer_at l x y) ok made left low refl ∙ ap (λ p. if keeps (live_view r) x y then p else 0) (pen_chosen (keeps c x y) (pen_at c.layer.bits x y)))) ∙
     (ap (λ w. bitmap w l.height d.depth G) size.0 ∙ ap (λ h. bitmap (columns k.bounds) h d.depth G) size.1)
 
@@ -209,22 +205,22 @@ abbrev seen : LiveDraft → Change → Bitmap → List (List Bool) → Bool → 
 seen d k b t u = record (live_view (changed_draft d k)) { layer = record (live_view (changed_draft d k)).layer { bits = b; damage = t; updating = u } }
 
 view_by : (d : LiveDraft) (k : Change) (t : Bool) → is_super d.kind ≡ t → IsLiveDraft d → IsMade d k
-    → live_view (changed_draft d k) ≡ revealed_to k.bounds k.parts.visible (live_view d)
+    → live_view (changed_draft d k) ≡ carried_to k.bounds k.parts.visible (live_view d)
 view_by d k true super ok made =
     let c = live_view d in
     let damage = super_damage d k super made in
     ap (λ b. seen d k b (damage_table b k.damage.rects) k.damage.updating) (super_bits d k super ok made) ∙
     (ap (λ t. seen d k c.layer.bits t k.damage.updating) (sym damage.pixels) ∙
-    (ap (λ u. seen d k c.layer.bits c.layer.damage u) damage.updating ∙ ap (λ l. seen_as d k l) (sym (revealed_super (over d k) c.layer super))))
+    (ap (λ u. seen d k c.layer.bits c.layer.damage u) damage.updating ∙ sym (carried_own c k.bounds k.parts.visible super)))
 view_by d k false plain ok made =
     let c = live_view d in
     let damage = plain_damage d k plain made in
-    let l = plain_layer d k in
+    let l = (plain_view d k).layer in
     ap (λ b. seen d k b (damage_table b k.damage.rects) k.damage.updating) (plain_bits d k plain ok made) ∙
     (ap (λ t. seen d k l.bits t k.damage.updating) (sym damage.pixels) ∙
-    (ap (λ u. seen d k l.bits l.damage u) damage.updating ∙ ap (λ q. seen_as d k q) (sym (revealed_plain (over d k) c.layer plain))))
+    (ap (λ u. seen d k l.bits l.damage u) damage.updating ∙ sym (carried_plain c k.bounds k.parts.visible plain)))
 
 -- It stands for the revealed layer.
 pub changed_view : (d : LiveDraft) (k : Change) → IsLiveDraft d → IsMade d k
-    → live_view (changed_draft d k) ≡ revealed_to k.bounds k.parts.visible (live_view d)
+    → live_view (changed_draft d k) ≡ carried_to k.bounds k.parts.visible (live_view d)
 changed_view d k ok made = view_by d k (is_super d.kind) refl ok made

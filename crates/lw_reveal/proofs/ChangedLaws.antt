@@ -11,7 +11,7 @@ use Rattle.lw_layer.specs.Drafts.{IsLiveDraft, IsRest, own_list, no_bitmap, live
 use Rattle.lw_layer.specs.New.{kept_hidden}
 use Rattle.lw_layer.specs.declared.draft.LiveDraft.{LiveDraft}
 use Rattle.lw_reveal.specs.declared.change.Change.{Change}
-use Rattle.lw_reveal.specs.Changed.{revealed_to}
+use Rattle.lw_reveal.specs.Changed.{carried_to}
 use Rattle.lw_reveal.specs.Changes.{beside_own, carried, former_rectangle, new_rectangle, IsChange}
 use Rattle.lw_reveal.specs.Handing.{handed_over, own_whole, HavePlaces}
 use Rattle.lw_reveal.proofs.HandingLaws.{StandOrCome, AreWanted, handed_wanted}
@@ -99,7 +99,7 @@ pub applied_sound : (d e : LiveDraft) (m : Change) → IsLiveDraft d → IsMade 
 applied_sound d e m ok made is = let P : LiveDraft → Type 0 = λ q. IsLiveDraft (with_change q m) in subst P (sym is) (changed_sound d m ok made)
 
 pub applied_view : (d e : LiveDraft) (m : Change) → IsLiveDraft d → IsMade d m → e ≡ record d { superbits = own_whole d.kind d }
-    → live_view (with_change e m) ≡ revealed_to m.bounds m.parts.visible (live_view d)
+    → live_view (with_change e m) ≡ carried_to m.bounds m.parts.visible (live_view d)
 applied_view d e m ok made is = ap (λ q. live_view (with_change q m)) is ∙ changed_view d m ok made
 
 -- what the readers of parts tell

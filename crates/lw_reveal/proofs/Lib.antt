@@ -1,4 +1,3 @@
-pub mod RevealLaws
 pub mod HandingLaws
 pub mod CarriedLaws
 pub mod AppliedLaws
@@ -11,3 +10,4 @@ pub mod GainedCounts
 pub mod GainedLaws
 pub mod GainedView
 pub mod GainedSteps
+pub mod RevealLaws

@@ -13,7 +13,7 @@ use Rattle.lw_layer.specs.New.{kept_hidden}
 use Rattle.lw_layer.proofs.NewLaws.{part_size}
 use Rattle.lw_reveal.specs.declared.change.Change.{Change}
 use Rattle.lw_reveal.specs.declared.pairing.Pairing.{Pairing}
-use Rattle.lw_reveal.specs.Changed.{revealed_to, MayHave}
+use Rattle.lw_reveal.specs.Changed.{carried_to, MayHave}
 use Rattle.lw_reveal.specs.Changes.{beside_own, carried, new_rectangle, new_buffer, IsGiven, MayBeHanded, IsChange}
 use Rattle.lw_reveal.specs.Carrying.{HaveRoom, AreBothNew}
 use Rattle.lw_reveal.specs.Pairing.{IsPair, IsPairingOf}
@@ -97,7 +97,7 @@ may_hand c k p n i pairs pair = record {
 pub prepared : (c : LiveView) (k : Change) (p : Pairing) (shown : ℕ) → IsPairingOf c k.bounds k.parts.visible p
     → k.handed.items ≡ p.handed.items → AreBothNew c k.bounds p.news.items p.given.items shown k.buffers.items k.covered.items
     → shown ≡ length k.parts.visible → k.parts.bounds ≡ k.bounds → MayHave c k.bounds k.parts.visible
-    → IsDamageOf (revealed_to k.bounds k.parts.visible c) k.damage → IsChange c k
+    → IsDamageOf (carried_to k.bounds k.parts.visible c) k.damage → IsChange c k
 prepared c k p shown pairs handed new is_shown cut size damage =
     let rects = length-append k.parts.visible (kept_hidden c.layer.kind (hidden_of k.bounds k.parts.visible)) in
     let news = length-append k.buffers.items k.covered.items in

@@ -11,7 +11,7 @@ use Rattle.lw_layer.specs.Pieces.{columns, lines, IsDamageOf}
 use Rattle.lw_layer.specs.Drafts.{no_bitmap}
 use Rattle.lw_layer.specs.New.{kept_hidden}
 use Rattle.lw_reveal.specs.declared.change.Change.{Change}
-use Rattle.lw_reveal.specs.Changed.{revealed_to, MayHave}
+use Rattle.lw_reveal.specs.Changed.{carried_to, MayHave}
 
 -- the rectangles with a buffer beside an own bitmap: the visible ones, and behind them a smart layer's hidden ones
 abbrev pub beside_own : Kind → Rectangle → List Rectangle → List Rectangle
@@ -62,7 +62,7 @@ pub record MayBeHanded (c : LiveView) (k : Change) (n i : ℕ) : Type 0 where
 pub record IsChange (c : LiveView) (k : Change) : Type 0 where
   pub cut : k.parts.bounds ≡ k.bounds
   pub size : MayHave c k.bounds k.parts.visible
-  pub revealed : IsDamageOf (revealed_to k.bounds k.parts.visible c) k.damage
+  pub revealed : IsDamageOf (carried_to k.bounds k.parts.visible c) k.damage
   pub shown : length k.buffers.items ≡ length k.parts.visible
   pub hidden : length k.covered.items ≡ length (kept_hidden c.layer.kind (hidden_of k.bounds k.parts.visible))
   pub former : length k.handed.items ≡ length (beside_own c.layer.kind c.bounds c.visible)

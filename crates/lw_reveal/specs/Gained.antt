@@ -5,13 +5,17 @@ use Rattle.lw_region.specs.Rectangle.{Rectangle}
 use Rattle.lw_region.specs.Bands.{covers}
 use Rattle.lw_damage.specs.Damaged.{Damaged, may_lie}
 
--- a pixel is damaged afterwards: it is kept now, and it wasn't before or was damaged then
-abbrev pub is_due : Bool → Bool → Bool → Bool
-is_due now was damaged = now && not (was && not damaged)
+-- what is left of a set once another one was taken out of it, of which some was spared
+abbrev pub is_left : Bool → Bool → Bool → Bool
+is_left here taken spared = here && not (taken && not spared)
 
--- these rectangles have the pixels that are due, of those that were kept before, the former damage, and those that are kept now
-abbrev pub AreDue : List Rectangle → List Rectangle → List Rectangle → List Rectangle → Type 0
-AreDue was former now made = (x y : ℤ) → covers made x y ≡ is_due (covers now x y) (covers was x y) (covers former x y)
+-- these rectangles have the pixels that are left of the third ones, once the first ones were taken out without the second ones
+abbrev pub AreLeft : List Rectangle → List Rectangle → List Rectangle → List Rectangle → Type 0
+AreLeft taken spared from made = (x y : ℤ) → covers made x y ≡ is_left (covers from x y) (covers taken x y) (covers spared x y)
+
+-- these rectangles have the pixels of the rectangle, if there is one
+abbrev pub AreOf : Option Rectangle → List Rectangle → Type 0
+AreOf place made = (x y : ℤ) → covers made x y ≡ may_lie place x y
 
 -- The damage has what of these rectangles lies where damage may lie, and an update is on or not.
 pub record IsDamageWith (place : Option Rectangle) (due : List Rectangle) (on : Bool) (d : Damaged) : Type 0 where

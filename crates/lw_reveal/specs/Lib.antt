@@ -1,4 +1,5 @@
 pub mod Changed
+pub mod Counted
 pub mod Changes
 pub mod Handing
 pub mod Gained

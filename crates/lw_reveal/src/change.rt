@@ -5,7 +5,7 @@ ghost use Rattle.std.specs.Prelude.{◌≡◌, IfOk};
 ghost use Rattle.lw_layer.specs.View as view;
 ghost use Rattle.lw_layer.specs.View.{with_live};
 ghost use Rattle.lw_layer.specs.Drafts.{IsLiveDraft, IsState, state_of, live_of, live_view};
-ghost use Rattle.lw_reveal.specs.Changed.{revealed_to, MayHave};
+ghost use Rattle.lw_reveal.specs.Changed.{carried_to, MayHave};
 ghost use Rattle.lw_reveal.specs.Changes.{IsChange};
 ghost use Rattle.lw_reveal.specs.Handing.{own_whole};
 
@@ -83,7 +83,7 @@ pub fn prepare(
 pub fn apply(cell: &mut Cell, change: Change)
     requires live { cell.old.state ≡ view.Live }
     requires change { IsChange cell.old.live change }
-    ensures { cell.new ≡ with_live (revealed_to change.bounds change.parts.visible) cell.old }
+    ensures { cell.new ≡ with_live (carried_to change.bounds change.parts.visible) cell.old }
 {
     let slot = cell.slot();
     let state = DraftState::Closed;
@@ -99,7 +99,7 @@ fn changed_state(former: DraftState, change: Change) -> DraftState
     requires change { IsChange (live_of former) change }
     ensures sound { IsState result }
     ensures live { state_of result ≡ view.Live }
-    ensures layer { live_of result ≡ revealed_to change.bounds change.parts.visible (live_of former) }
+    ensures layer { live_of result ≡ carried_to change.bounds change.parts.visible (live_of former) }
 {
     match former {
         DraftState::Live(live) => DraftState::Live(changed(live, change)),
@@ -112,7 +112,7 @@ fn changed(live: LiveDraft, change: Change) -> LiveDraft
     requires sound { IsLiveDraft live }
     requires change { IsChange (live_view live) change }
     ensures sound { IsLiveDraft result }
-    ensures layer { live_view result ≡ revealed_to change.bounds change.parts.visible (live_view live) }
+    ensures layer { live_view result ≡ carried_to change.bounds change.parts.visible (live_view live) }
 {
     let mut live = live;
     let mut change = change;

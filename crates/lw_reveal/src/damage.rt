@@ -1,20 +1,22 @@
 // The damage of a layer that stays live, after an arrangement that gives it other bounds or another visible region.
 
-ghost use Rattle.std.specs.Prelude.{◌≡◌, IfOk};
+ghost use Rattle.std.specs.Prelude.{◌≡◌, ◌≤◌, true, IfOk};
+ghost use Rattle.lw_machine.specs.Layer.{is_framed};
 ghost use Rattle.lw_layer.specs.View as view;
-ghost use Rattle.lw_layer.specs.Pieces.{IsDamageOf};
+ghost use Rattle.lw_layer.specs.Pieces.{columns, lines, HasFrameRoom, IsDamageOf};
 ghost use Rattle.lw_layer.specs.Looks.{IsLook};
 ghost use Rattle.lw_layer.specs.StandsFor.{IsSound};
-ghost use Rattle.lw_reveal.specs.Changed.{revealed_to, MayHave};
-ghost use Rattle.lw_reveal.specs.Gained.{AreDue, IsDamageWith};
+ghost use Rattle.lw_reveal.specs.Changed.{carried_to, MayHave};
+ghost use Rattle.lw_reveal.specs.Counted.{AreCounted};
+ghost use Rattle.lw_reveal.specs.Gained.{AreLeft, AreOf, IsDamageWith};
 
 use lw_damage::Damage;
 use lw_layer::{Cell, Look, inner_rectangle, kept_region};
 use lw_region::{Rect, Region, clear_region};
 use std::alloc::{AllocError, Global};
 
-// The damage of the live layer once it has these bounds and these visible pixels: what it gains that it didn't keep before, and
-// what stays of its former damage.
+// The damage of the live layer once it has these bounds and these visible pixels: what it keeps then and doesn't count as kept
+// before, and what stays of its former damage.
 pub(crate) fn damage_after(
     alloc: Global,
     cell: &Cell,
@@ -23,14 +25,37 @@ pub(crate) fn damage_after(
 ) -> Result<Damage, AllocError>
     requires live { cell.now.state ≡ view.Live }
     requires may { MayHave cell.now.live bounds.now visible.now }
-    ensures { IfOk result (λ d. IsDamageOf (revealed_to bounds.now visible.now cell.now.live) d) }
+    ensures { IfOk result (λ d. IsDamageOf (carried_to bounds.now visible.now cell.now.live) d) }
 {
     let look = look_of(cell);
-    let was = kept_region(alloc, look.kind, &look.bounds, cell.visible())?;
+    let was = counted_region(alloc, cell, bounds)?;
     let kept = kept_region(alloc, look.kind, bounds, visible.rects())?;
-    let due = due_region(alloc, was, cell.damage().region(), kept)?;
-    let inner = inner_rectangle(look.kind, bounds);
+    let due = left_region(alloc, was, cell.damage().region(), kept)?;
+    let inner = inner_rectangle(look.kind, look.framed, bounds);
     damage_with(alloc, inner, &due, look.updating)
+}
+
+/// The pixels that the live layer keeps and that count as kept once it has these bounds, in layer coordinates: in a framed window
+/// whose size changes not those of its old frame that lie in the new inner rectangle. Of a super-bitmap layer there are none, since
+/// none of its pixels is ever damaged or filled (the manual's Layers Library chapter: the damage list; which pixels count is this
+/// project's own). It fails for want of memory alone.
+pub fn counted_region(alloc: Global, cell: &Cell, bounds: &Rect) -> Result<Region, AllocError>
+    requires live { cell.now.state ≡ view.Live }
+    requires wide { columns bounds.now ≤ 2048 }
+    requires high { lines bounds.now ≤ 2048 }
+    requires frame { is_framed cell.now.live.layer.window ≡ true → HasFrameRoom bounds.now }
+    ensures { IfOk result (λ counted. AreCounted cell.now.live bounds.now counted) }
+{
+    let look = look_of(cell);
+    let kept = kept_region(alloc, look.kind, &look.bounds, cell.visible())?;
+    let former = inner_rectangle(look.kind, look.framed, &look.bounds);
+    let new = inner_rectangle(look.kind, look.framed, bounds);
+    if !look.framed || former == new {
+        return Ok(kept);
+    }
+    let gained = region_of(alloc, new)?;
+    let spared = region_of(alloc, former)?;
+    left_region(alloc, gained, &spared, kept)
 }
 
 // What the live layer looks like.
@@ -45,20 +70,31 @@ pub(crate) fn look_of(cell: &Cell) -> Look
     }
 }
 
-// Of the pixels that are kept now those that weren't before, and those that were damaged.
-fn due_region(
-    alloc: Global,
-    was: Region,
-    former: &Region,
-    kept: Region,
-) -> Result<Region, AllocError>
-    ensures { IfOk result (λ due. AreDue was former.now kept due) }
+// The pixels of the rectangle, if there is one.
+fn region_of(alloc: Global, place: Option<Rect>) -> Result<Region, AllocError>
+    ensures { IfOk result (λ made. AreOf place made) }
 {
-    let mut stays = was;
-    clear_region(alloc, former, &mut stays)?;
-    let mut due = kept;
-    clear_region(alloc, &stays, &mut due)?;
-    Ok(due)
+    let mut region = Region::new(alloc);
+    if let Some(rect) = place {
+        region.or_rect(alloc, &rect)?;
+    }
+    Ok(region)
+}
+
+// What is left of a region once these pixels were taken out of it, but for those that are spared.
+fn left_region(
+    alloc: Global,
+    taken: Region,
+    spared: &Region,
+    from: Region,
+) -> Result<Region, AllocError>
+    ensures { IfOk result (λ left. AreLeft taken spared.now from left) }
+{
+    let mut out = taken;
+    clear_region(alloc, spared, &mut out)?;
+    let mut left = from;
+    clear_region(alloc, &out, &mut left)?;
+    Ok(left)
 }
 
 // The damage of what of these pixels lies in the inner rectangle, if there is one.

@@ -6,6 +6,9 @@ mod carrying;
 mod change;
 mod damage;
 mod handing;
+mod laws;
 mod pairing;
 
 pub use change::{Change, apply, prepare};
+pub use damage::counted_region;
+pub use laws::counted_law;

@@ -1,14 +1,12 @@
 -- Laws of the damage that a scroll moves, pixel by pixel.
-use Rattle.std.proofs.Common.{◌≡◌, ℕ, ◌-◌, ◌==◌, ◌<◌, ◌≤◌, nat_lt, length, Bool, true, false, not, ◌&&◌, ◌||◌, if◌then◌else◌, List, [], ◌∷◌, ⊎_elim, ℤ, pos, negsuc, ◌+ℤ◌, unsigned_abs, Option, Some, None, ◌∙◌, sym, refl, ap, arith}
-use Rattle.std.proofs.lemmas.Bool.{and_parts, and_from, cases_lt, cases_Bool, lt-ltb, ltb-true, false_from_ne_true, both_ways}
+use Rattle.std.proofs.Common.{◌≡◌, ℕ, ◌==◌, ◌<◌, ◌≤◌, nat_lt, length, Bool, true, false, not, ◌&&◌, ◌||◌, if◌then◌else◌, List, [], ◌∷◌, ⊎_elim, ℤ, pos, negsuc, ◌+ℤ◌, unsigned_abs, Option, Some, None, ◌∙◌, sym, refl, ap, arith}
+use Rattle.std.proofs.lemmas.Bool.{and_parts, cases_lt, cases_Bool, lt-ltb, ltb-true, false_from_ne_true, both_ways}
 use Rattle.std.proofs.lemmas.Bool.Decides.{nat_tests}
-use Rattle.std.proofs.lemmas.Int.{ints}
-use Rattle.lw_region.specs.Rectangle.{Rectangle, within, has_pixel}
+use Rattle.lw_region.specs.Rectangle.{Rectangle, has_pixel}
 use Rattle.lw_region.specs.Bands.{bands, covers}
 use Rattle.lw_region.specs.Pixels.{Pixel, pixels_of, union}
 use Rattle.lw_region.specs.Regions.{rectangle_set}
 use Rattle.lw_region.proofs.SetOps.{combined_lists, covers_one}
-use Rattle.lw_region.proofs.Within.{within_true}
 use Rattle.lw_region.proofs.Reading.{contains_pixels_of}
 use Rattle.lw_region.proofs.Canonical.{covers_nil}
 use Rattle.lw_planes.specs.Grid.{at}
@@ -17,10 +15,11 @@ use Rattle.lw_calls.specs.declared.make.Kind.{Kind}
 use Rattle.lw_calls.specs.Kinds.{is_super}
 use Rattle.lw_damage.specs.Damaged.{Damaged, may_lie, with_more}
 use Rattle.lw_machine.specs.Layer.{is_framed}
-use Rattle.lw_machine.specs.Kept.{holds_at, is_kept, kept_as, is_drawable, in_clip, in_inner, is_inside, may_be_damaged}
+use Rattle.lw_machine.specs.Kept.{holds_at, is_kept, kept_as, is_drawable, in_clip, is_inside, may_be_damaged}
 use Rattle.lw_machine.specs.Blits.{in_scroll_area, brought_if, brought_mark, scrolled_mark}
 use Rattle.lw_layer.specs.View.{LiveView, shows, keeps, draws, with_layer}
-use Rattle.lw_layer.specs.Pieces.{inner_of, damage_table, IsDamageOf}
+use Rattle.lw_layer.specs.Pieces.{inner_in, damage_table, IsDamageOf}
+use Rattle.lw_layer.proofs.InnerLaws.{may_pixel, none_may}
 use Rattle.lw_blit.proofs.SourceLaws.{kept_place}
 use Rattle.lw_scroll.specs.Scrolled.{scrolled_damage}
 use Rattle.lw_scroll.specs.Marks.{clip_has, IsWhole, AreDrawable, LeadToHurt, AreDue, IsDamageWith, is_damaged, moved_mark, IsMovedDamage}
@@ -64,11 +63,10 @@ alone_pixel before made r x y none is =
     ∙ (ap (λ l. covers l x y || covers (r ∷ []) x y) none
     ∙ (ap (λ t. t || covers (r ∷ []) x y) (covers_nil x y) ∙ covers_one r x y))
 
--- a test that holds takes nothing away
-all_and : (a may : Bool) → may ≡ true → (a && may) ≡ a
-all_and true true is = refl
+-- a test that holds wherever the other does takes nothing away
+all_and : (a may : Bool) → (a ≡ true → may ≡ true) → (a && may) ≡ a
+all_and true may is = is refl
 all_and false may is = refl
-all_and true false is = absurd (both_ways false refl is)
 
 -- the clip region, asked at a place of the layer
 clip_at : (o : Option (List Pixel)) (x y : ℕ) → in_clip o x y ≡ clip_has o (pos x) (pos y)
@@ -94,7 +92,7 @@ clip_met before made clip region x y is both =
 
 pub clip_none : (before : List Rectangle) (clip : Option (List Pixel)) (x y : ℤ) → clip ≡ None
     → covers before x y ≡ (covers before x y && clip_has clip x y)
-clip_none before clip x y is = sym (all_and (covers before x y) (clip_has clip x y) (ap (λ o. clip_has o x y) is))
+clip_none before clip x y is = sym (all_and (covers before x y) (clip_has clip x y) (λ _. ap (λ o. clip_has o x y) is))
 
 -- the tests of a pixel in another order, as an update is on or not
 pub drawn_updating : (made cut target kept clip on damaged draws : Bool) → on ≡ true → cut ≡ ((target && kept) && clip)
@@ -206,43 +204,29 @@ scrolled_is c rect dx dy x y =
     (holds_at (λ i j. keeps c i j) column row) (is_damaged c column row) (at false c.layer.damage) x y (unsigned_abs column)
     (unsigned_abs row) (λ is. kept_mark c column row is)
 
--- Damage may lie on each pixel of a layer's bits, unless the layer is a super-bitmap layer,
-inner_pixel : (framed : Bool) (w h x y : ℕ) → framed ≡ false → x < w → y < h → in_inner framed w h x y ≡ true
-unfolding in_inner
-inner_pixel true w h x y plain left low = absurd (both_ways true plain refl)
-inner_pixel false w h x y plain left low = and_from _ _ (lt-ltb x w left) (lt-ltb y h low)
-
-pub may_damage : (c : LiveView) (x y : ℕ) → is_super c.layer.kind ≡ false → c.layer.window ≡ None → x < c.layer.bits.width
-    → y < c.layer.bits.height → may_be_damaged c.layer x y ≡ true
-may_damage c x y other plain left low =
+-- Damage may lie on the pixels of a layer's bits that its inner rectangle has.
+may_damage : (c : LiveView) (inner : Option Rectangle) (x y : ℕ) → is_super c.layer.kind ≡ false → inner ≡ inner_in c
+    → x < c.layer.bits.width → y < c.layer.bits.height → may_be_damaged c.layer x y ≡ may_lie inner (pos x) (pos y)
+may_damage c inner x y other is left low =
     ap (λ t. not t && is_inside c.layer x y) other
-    ∙ inner_pixel (is_framed c.layer.window) c.layer.bits.width c.layer.bits.height x y (ap is_framed plain) left low
-
--- and so in its inner rectangle.
-place_inside : (x n : ℕ) → x < n → within (pos 0) (pos x) (pos (n - 1)) ≡ true
-place_inside x n inside = within_true (pos 0) (pos x) (pos (n - 1)) (omega (arith, ints)) (omega (arith, ints))
-
-pub may_pixel : (super : Bool) (w h x y : ℕ) → super ≡ false → x < w → y < h
-    → may_lie (inner_of super w h) (pos x) (pos y) ≡ true
-may_pixel true w h x y other left low = absurd (both_ways true other refl)
-may_pixel false w h x y other left low = and_from _ _ (place_inside x w left) (place_inside y h low)
-
-both_all : (a b may lie : Bool) → a ≡ b → may ≡ true → lie ≡ true → (a && may) ≡ (b && lie)
-both_all a b may lie same first second = rw (same, first, second) refl
+    ∙ sym (ap (λ o. may_lie o (pos x) (pos y)) is
+    ∙ may_pixel (is_super c.layer.kind) (is_framed c.layer.window) c.layer.bits.width c.layer.bits.height x y other left low)
 
 -- Where no pixel of the rectangle leads to one of it, the damage stays.
 pub marks_stay : (c : LiveView) (d : Damaged) (rect : Rectangle) (dx dy : ℤ) → is_super c.layer.kind ≡ false
-    → c.layer.window ≡ None
     → IsDamageOf c d
+    → ((x y : ℤ) → covers d.rects x y ≡ true → may_lie d.inner x y ≡ true)
     → ((x y : ℕ) → x < c.layer.bits.width → y < c.layer.bits.height
     → (has_pixel rect (pos x) (pos y) && holds_at (λ i j. in_scroll_area rect c.layer i j) (pos x +ℤ dx) (pos y +ℤ dy)) ≡ false)
     → scrolled_damage c rect dx dy ≡ c.layer.damage
-marks_stay c d rect dx dy other plain is none =
+marks_stay c d rect dx dy other is lies none =
     grid_same c.layer.bits.width c.layer.bits.height _ (λ x y. covers d.rects (pos x) (pos y))
     (λ x y left low.
-    all_and _ _ (may_damage c x y other plain left low)
-    ∙ (scrolled_is c rect dx dy x y
-    ∙ (none_taken (draws c x y) _ _ _ (none x y left low) ∙ sym (former_marks c d is (pos x) (pos y)))))
+    ap (λ t. t && may_be_damaged c.layer x y)
+    (scrolled_is c rect dx dy x y
+    ∙ (none_taken (draws c x y) _ _ _ (none x y left low) ∙ sym (former_marks c d is (pos x) (pos y))))
+    ∙ all_and (covers d.rects (pos x) (pos y)) (may_be_damaged c.layer x y)
+    (λ has. may_damage c d.inner x y other is.inner left low ∙ lies (pos x) (pos y) has))
     ∙ sym is.pixels
   where
     none_taken : (drawable taken a b : Bool) → taken ≡ false → (if drawable && taken then a else b) ≡ b
@@ -276,11 +260,9 @@ pub own_nowhere : (c : LiveView) (d : Damaged) → is_super c.layer.kind ≡ tru
     → ((x y : ℤ) → covers d.rects x y ≡ true → may_lie d.inner x y ≡ true) → (x y : ℤ) → covers d.rects x y ≡ false
 own_nowhere c d own is lies x y =
     false_from_ne_true _ (λ has.
-    both_ways _ (ap (λ o. may_lie o x y) is.inner ∙ none_may (is_super c.layer.kind) own) (lies x y has))
-  where
-    none_may : (super : Bool) → super ≡ true → may_lie (inner_of super c.layer.bits.width c.layer.bits.height) x y ≡ false
-    none_may true owns = refl
-    none_may false owns = absurd (both_ways false refl owns)
+    both_ways _ (ap (λ o. may_lie o x y) is.inner
+    ∙ none_may (is_super c.layer.kind) (is_framed c.layer.window) c.layer.bits.width c.layer.bits.height x y own)
+    (lies x y has))
 
 -- A layer that keeps all and has no damage has none after a scroll.
 pub whole_stays : (c : LiveView) (rect : Rectangle) (dx dy : ℤ) → IsWhole c → scrolled_damage c rect dx dy ≡ c.layer.damage
@@ -327,23 +309,21 @@ whole_stays c rect dx dy whole =
 
 -- The damage that was moved is that of the layer after the scroll.
 pub damage_moved : (c : LiveView) (former d : Damaged) (rect target : Rectangle) (dx dy : ℤ) → is_super c.layer.kind ≡ false
-    → c.layer.window ≡ None → IsDamageOf c former
+    → IsDamageOf c former
     → ((x y : ℕ) → x < c.layer.bits.width → y < c.layer.bits.height
     → has_pixel target (pos x) (pos y)
     ≡ (has_pixel rect (pos x) (pos y) && holds_at (λ i j. in_scroll_area rect c.layer i j) (pos x +ℤ dx) (pos y +ℤ dy)))
     → IsMovedDamage c target dx dy d → IsDamageOf (with_layer (λ l. record l { damage = scrolled_damage c rect dx dy }) c) d
 unfolding keeps is_kept
-damage_moved c former d rect target dx dy other plain was is moved = record {
+damage_moved c former d rect target dx dy other was is moved = record {
   pixels = grid_same c.layer.bits.width c.layer.bits.height _ (λ x y. covers d.rects (pos x) (pos y))
       (λ x y left low.
-      both_all _ (moved_mark c target dx dy (pos x) (pos y)) _ (may_lie d.inner (pos x) (pos y))
+      ap (λ t. t && may_be_damaged c.layer x y)
       (scrolled_is c rect dx dy x y
       ∙ ap (λ t. if draws c x y && t then not
       (holds_at (λ i j. keeps c i j) (pos x +ℤ dx) (pos y +ℤ dy) && not
       (is_damaged c (pos x +ℤ dx) (pos y +ℤ dy))) else at false c.layer.damage x y) (sym (is x y left low)))
-      (may_damage c x y other plain left low)
-      (ap (λ o. may_lie o (pos x) (pos y)) moved.inner
-      ∙ may_pixel (is_super c.layer.kind) c.layer.bits.width c.layer.bits.height x y other left low)
+      ∙ ap (λ t. moved_mark c target dx dy (pos x) (pos y) && t) (may_damage c d.inner x y other moved.inner left low)
       ∙ sym (moved.pixels (pos x) (pos y)));
   kept = λ x y has.
       let marked : moved_mark c target dx dy x y ≡ true = (and_parts _ _ (sym (moved.pixels x y) ∙ has)).0 in

@@ -7,14 +7,13 @@ use Rattle.std.proofs.lemmas.Nat.Bits.{bit_at-zero, bit_at-lt}
 use Rattle.lw_region.specs.Rectangle.{Rectangle, has_pixel}
 use Rattle.lw_planes.specs.Bitmap.{IsBitmap, pen_at}
 use Rattle.lw_kernels.specs.Kernel.{is_between}
-use Rattle.lw_calls.specs.Kinds.{is_super}
 use Rattle.lw_damage.specs.Damaged.{Damaged}
 use Rattle.lw_machine.specs.Layer.{Raster}
 use Rattle.lw_machine.specs.Kept.{holds_at, is_kept}
 use Rattle.lw_machine.specs.Paint.{with_pens}
 use Rattle.lw_machine.specs.Blits.{in_scroll_area, brought_if, brought_pen, scroll_raster}
 use Rattle.lw_layer.specs.View.{LiveView, CellView, shows, keeps, draws, with_layer, with_live}
-use Rattle.lw_layer.specs.Pieces.{inner_of, damage_table}
+use Rattle.lw_layer.specs.Pieces.{inner_in, damage_table}
 use Rattle.lw_layer.specs.Copied.{bit_in, kept_bit}
 use Rattle.lw_draw.specs.Drawn.{drawn, GivesBits, in_mask, in_rows, painted, painted_bit}
 use Rattle.lw_draw.proofs.PaintLaws.{cell_same, cell_alike, draws_stays, shape_drawn}
@@ -221,11 +220,9 @@ pens_drawn c rect dx dy raster b ok same is =
 -- What a change of the pens leaves of a layer.
 pub pens_inner : (v w : CellView) (rect : Rectangle) (dx dy : ℤ)
     → w ≡ with_live (λ c. with_layer (λ l. pens_scrolled (λ i j. shows c i j) rect dx dy l) c) v
-    → inner_of (is_super w.live.layer.kind) w.live.layer.bits.width w.live.layer.bits.height
-    ≡ inner_of (is_super v.live.layer.kind) v.live.layer.bits.width v.live.layer.bits.height
+    → inner_in w.live ≡ inner_in v.live
 unfolding with_pens
-pens_inner v w rect dx dy is =
-    ap (λ (q : CellView). inner_of (is_super q.live.layer.kind) q.live.layer.bits.width q.live.layer.bits.height) is
+pens_inner v w rect dx dy is = ap (λ (q : CellView). inner_in q.live) is
 
 pub pens_updating : (v w : CellView) (rect : Rectangle) (dx dy : ℤ)
     → w ≡ with_live (λ c. with_layer (λ l. pens_scrolled (λ i j. shows c i j) rect dx dy l) c) v

@@ -4,11 +4,10 @@ use Rattle.lw_planes.specs.Grid.{grid, at}
 use Rattle.lw_region.specs.Rectangle.{Rectangle, has_pixel, IsWord}
 use Rattle.lw_region.specs.Pixels.{Pixel, contains_pixel}
 use Rattle.lw_region.specs.Bands.{covers}
-use Rattle.lw_calls.specs.Kinds.{is_super}
 use Rattle.lw_damage.specs.Damaged.{Damaged, may_lie}
 use Rattle.lw_machine.specs.Kept.{holds_at}
 use Rattle.lw_layer.specs.View.{LiveView, keeps, draws, with_layer}
-use Rattle.lw_layer.specs.Pieces.{inner_of, IsDamageOf}
+use Rattle.lw_layer.specs.Pieces.{inner_in, IsDamageOf}
 use Rattle.lw_scroll.specs.Scrolled.{scrolled_damage}
 
 -- the rectangles have the pixels that the layer keeps
@@ -67,7 +66,7 @@ moved_mark c target dx dy x y =
 -- the damage has these pixels, as far as damage may lie there
 pub record IsMovedDamage (c : LiveView) (target : Rectangle) (dx dy : ℤ) (d : Damaged) : Type 0 where
   pub pixels : (x y : ℤ) → covers d.rects x y ≡ (moved_mark c target dx dy x y && may_lie d.inner x y)
-  pub inner : d.inner ≡ inner_of (is_super c.layer.kind) c.layer.bits.width c.layer.bits.height
+  pub inner : d.inner ≡ inner_in c
   pub updating : d.updating ≡ c.layer.updating
 
 -- the damage after a scroll, or none where it is as it was

@@ -1,8 +1,10 @@
 // The damage of a layer after a scroll.
 
-ghost use Rattle.std.specs.Prelude.{◌≡◌, true, false, ℤ, None, pos, negsuc, ◌-ℤ◌, ◌≤ℤ◌, IfOk, OnOk};
+ghost use Rattle.std.specs.Prelude.{◌≡◌, true, false, ℤ, pos, negsuc, ◌-ℤ◌, ◌≤ℤ◌, IfOk, OnOk};
 ghost use Rattle.lw_region.specs.Rectangle.{has_pixel, IsWord};
+ghost use Rattle.lw_region.specs.Bands.{covers};
 ghost use Rattle.lw_calls.specs.Kinds.{is_super};
+ghost use Rattle.lw_damage.specs.Damaged.{may_lie};
 ghost use Rattle.lw_layer.specs.View as view;
 ghost use Rattle.lw_layer.specs.Pieces.{IsDamageOf};
 ghost use Rattle.lw_layer.specs.Looks.{IsLook};
@@ -52,7 +54,7 @@ fn is_whole(cell: &Cell, former: &Damage) -> bool
     requires former { IsDamageOf cell.now.live former.now }
     ensures whole { result ≡ true → IsWhole cell.now.live }
     ensures other { result ≡ false → is_super cell.now.live.layer.kind ≡ false }
-    ensures window { cell.now.live.layer.window ≡ None }
+    ensures inside { (x y : ℤ) → covers former.now.rects x y ≡ true → may_lie former.now.inner x y ≡ true }
 {
     let damaged = former.region();
     match look_of(cell).kind {

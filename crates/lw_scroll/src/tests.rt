@@ -1,11 +1,13 @@
 ghost use Rattle.std.specs.Prelude.{◌≡◌, ◌<◌, IfOk};
+ghost use Rattle.lw_cliprects.specs.Parts.{LieIn};
 ghost use Rattle.lw_layer.specs.View as view;
 ghost use Rattle.lw_layer.specs.Drafts.{IsDraft, IsLiveDraft, cell_view};
 
 use super::scroll_raster;
-use lw_calls::{Kind, Make, Place};
+use lw_calls::{Kind, Make, Place, Text};
 use lw_draw::write_pixel;
-use lw_layer::{Cell, Draft, DraftState, LiveDraft, Raster};
+use lw_layer::{Cell, Draft, DraftState, LiveDraft, Raster, WindowDraft};
+use lw_ports::{MessageSet, Port};
 use lw_region::{Rect, Region};
 use std::alloc::Global;
 use std::test::Fail;
@@ -148,15 +150,56 @@ static OWN: [Step; 2] = [
     },
 ];
 
+// A scroll of all of a framed window of 12 by 16 pixels, and what is damaged then. The columns 0 to 7 of the window are visible, and
+// of these its frame leaves the columns 4 to 7 and the rows 11 to 13.
+struct FrameStep {
+    dx: i16,
+    dy: i16,
+    damaged: [i16; 4],
+}
+
+static FRAMED: [FrameStep; 3] = [
+    // What comes in from hidden pixels is damaged, but for the frame's rows.
+    FrameStep {
+        dx: 1,
+        dy: 0,
+        damaged: [7, 11, 7, 13],
+    },
+    // One row down: what would come onto the frame's row 14 is dropped.
+    FrameStep {
+        dx: 0,
+        dy: -1,
+        damaged: [7, 12, 7, 13],
+    },
+    // Four columns to the left: what would come onto the frame's column 3 is dropped.
+    FrameStep {
+        dx: 4,
+        dy: 0,
+        damaged: [4, 11, 7, 13],
+    },
+];
+
+fn rect_of(bounds: [i16; 4]) -> Result<Rect, Fail> {
+    Ok(Rect::new(bounds[0], bounds[1], bounds[2], bounds[3]).ok_or("out of order")?)
+}
+
+// The pixels of a rectangle that lie in the bounds.
+fn visible_in(alloc: Global, bounds: &Rect, shown: [i16; 4]) -> Result<Region, Fail>
+    ensures { IfOk result (λ visible. LieIn bounds.now visible) }
+{
+    let mut visible = Region::new(alloc);
+    visible.or_rect(alloc, &rect_of(shown)?)?;
+    visible.and_rect(alloc, bounds)?;
+    Ok(visible)
+}
+
 // A new layer of this kind, of which the columns 2 to 5 are visible.
 fn draft_of(alloc: Global, kind: Kind) -> Result<Draft, Fail>
     ensures draft { IfOk result (λ d. IsDraft d) }
     ensures live { IfOk result (λ d. (cell_view d).state ≡ view.Live) }
 {
     let bounds = Rect::new(10, 5, 17, 8).ok_or("out of order")?;
-    let mut visible = Region::new(alloc);
-    visible.or_rect(alloc, &Rect::new(12, 5, 15, 8).ok_or("out of order")?)?;
-    visible.and_rect(alloc, &bounds)?;
+    let visible = visible_in(alloc, &bounds, [12, 5, 15, 8])?;
     let make = Make {
         kind,
         place: Place::Front,
@@ -169,7 +212,7 @@ fn draft_of(alloc: Global, kind: Kind) -> Result<Draft, Fail>
         bits_w: 8,
         bits_h: 4,
     };
-    let live = LiveDraft::new(alloc, &make, 4, &bounds, &visible)?;
+    let live = LiveDraft::new(alloc, &make, 4, &bounds, &visible, None)?;
     Ok(Draft {
         slot: 0,
         state: DraftState::Live(live),
@@ -250,8 +293,7 @@ fn scroll(alloc: Global, cell: &mut Cell, step: &Step) -> Result<(), Fail>
         mask: step.mask,
         ..raster
     });
-    let rect = Rect::new(step.rect[0], step.rect[1], step.rect[2], step.rect[3]);
-    let rect = rect.ok_or("out of order")?;
+    let rect = rect_of(step.rect)?;
     scroll_raster(alloc, cell, i32::from(step.dx), i32::from(step.dy), &rect)?;
     Ok(())
 }
@@ -278,6 +320,66 @@ fn begun(live: LiveDraft) -> LiveDraft
     let mut live = live;
     live.damage.begin();
     live
+}
+
+// The framed window.
+fn framed_window(alloc: Global) -> Result<Cell, Fail>
+    ensures { IfOk result (λ c. c.state ≡ view.Live) }
+{
+    let bounds = Rect::new(10, 5, 21, 20).ok_or("out of order")?;
+    let visible = visible_in(alloc, &bounds, [10, 5, 17, 20])?;
+    let make = Make {
+        kind: Kind::Simple,
+        place: Place::Front,
+        x: 10,
+        y: 5,
+        w: 12,
+        h: 16,
+        backdrop: false,
+        hook: None,
+        bits_w: 12,
+        bits_h: 16,
+    };
+    let window = WindowDraft {
+        owner: 0,
+        framed: true,
+        title: Text::new(Vec::new(alloc)),
+        nocare: false,
+        set: MessageSet::from_classes(0),
+        port: Port::new(alloc),
+        asked: false,
+    };
+    let live = LiveDraft::new(alloc, &make, 4, &bounds, &visible, Some(window))?;
+    let mut cell = Cell::unopened(0);
+    let _ = cell.take_up(Draft {
+        slot: 0,
+        state: DraftState::Live(live),
+    });
+    Ok(cell)
+}
+
+// The rectangle is damaged, and nothing else.
+fn is_damaged(cell: &Cell, rect: &Rect) -> bool
+    requires { cell.now.state ≡ view.Live }
+{
+    match cell.damage().region().rects() {
+        [damaged] => damaged == rect,
+        _ => false,
+    }
+}
+
+// The window's damage is as is due after each of the steps.
+fn damage_stays_inside(alloc: Global, cell: &mut Cell, steps: &[FrameStep]) -> Result<bool, Fail>
+    requires { cell.old.state ≡ view.Live }
+{
+    let whole = rect_of([0, 0, 11, 15])?;
+    for step in steps {
+        scroll_raster(alloc, cell, i32::from(step.dx), i32::from(step.dy), &whole)?;
+        if !is_damaged(cell, &rect_of(step.damaged)?) {
+            return Ok(false);
+        }
+    }
+    Ok(true)
 }
 
 // Begins an update of the layer.
@@ -321,5 +423,7 @@ fn damage_is_scrolled_as_worked_out_by_hand(rt: HostRuntime) -> Result<(), Fail>
     let _ = cell.set_clip(None);
     begin(&mut cell);
     assert!(rt; all_scroll(alloc, &mut cell, &UPDATING)?);
+    let mut window = framed_window(alloc)?;
+    assert!(rt; damage_stays_inside(alloc, &mut window, &FRAMED)?);
     Ok(())
 }

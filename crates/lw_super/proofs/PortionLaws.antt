@@ -131,6 +131,8 @@ scrolled_sound d v x y super ok may = record {
   buffers = scrolled_buffers d v x y super ok may;
   inner = ok.inner;
   damaged = λ i j has. sym (holds_still (λ p q. keeps (live_view d) p q) (λ p q. keeps (live_view (scrolled_to d v x y)) p q) i j (λ p q. keeps_still d v x y p q super)) ∙ ok.damaged i j has;
+  frameless = ok.frameless;
+  frame = ok.frame;
 }
 
 kept_pen : (t : Bool) (a b : ℕ) → (t ≡ true → a ≡ b) → b ≡ (if t then a else b)

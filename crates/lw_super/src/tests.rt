@@ -46,7 +46,7 @@ fn draft_of(alloc: Global) -> Result<Draft, Fail>
         bits_w: 8,
         bits_h: 1,
     };
-    let live = LiveDraft::new(alloc, &make, 2, &bounds, &visible)?;
+    let live = LiveDraft::new(alloc, &make, 2, &bounds, &visible, None)?;
     Ok(Draft {
         slot: 0,
         state: DraftState::Live(live),

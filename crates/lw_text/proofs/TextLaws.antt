@@ -1,23 +1,26 @@
 -- Laws of the pixels of a text.
-use Rattle.std.proofs.Common.{◌≡◌, ℕ, ◌+◌, ◌-◌, ◌*◌, ◌/◌, ◌%◌, ◌==◌, ◌<◌, ◌≤◌, Bool, true, false, not, ◌&&◌, nat_le, if◌then◌else◌, List, [], length, slice_index, set, get_or-set_other, ◌∙◌, sym, refl, ap, ⊎_elim, arith, ℤ, pos, ◌+ℤ◌, ◌-ℤ◌, ◌≤ℤ◌, int_le, unsigned_abs}
+use Rattle.std.proofs.Common.{◌≡◌, ℕ, ◌+◌, ◌-◌, ◌*◌, ◌/◌, ◌%◌, ◌==◌, ◌<◌, ◌≤◌, Bool, true, false, not, ◌&&◌, nat_le, nat_lt, min, if◌then◌else◌, List, [], length, slice_index, set, get_or-set_other, ◌∙◌, sym, refl, ap, ⊎_elim, arith, ℤ, pos, negsuc, ◌+ℤ◌, ◌-ℤ◌, ◌≤ℤ◌, int_le, unsigned_abs}
 use Rattle.std.specs.Int.{bit_at}
 use Rattle.std.specs.List.{slice_index_or}
-use Rattle.std.proofs.lemmas.Bool.{cases_eq}
+use Rattle.std.proofs.lemmas.Bool.{cases_eq, cases_lt}
 use Rattle.std.proofs.lemmas.Bool.Decides.{nat_tests}
 use Rattle.std.proofs.lemmas.Grind.{get_or-set_at}
-use Rattle.std.proofs.lemmas.Int.{ints}
+use Rattle.std.proofs.lemmas.Int.{clamps, ints}
 use Rattle.std.proofs.lemmas.Nat.Bits.{bit_at-zero}
 use Rattle.lw_planes.specs.Row.{row_bit}
-use Rattle.lw_planes.specs.Bitmap.{IsBitmap}
+use Rattle.lw_planes.specs.Bitmap.{IsBitmap, pen_at}
 use Rattle.lw_region.specs.Rectangle.{within}
 use Rattle.lw_kernels.specs.Kernel.{is_between}
 use Rattle.lw_machine.specs.Layer.{Raster}
-use Rattle.lw_machine.specs.Paint.{candidate_bit, has_inversvid, paint_where, with_pens}
+use Rattle.lw_machine.specs.Kept.{is_drawable}
+use Rattle.lw_machine.specs.Paint.{candidate_bit, has_inversvid, paint_where, through_mask, with_pens}
 use Rattle.lw_machine.specs.Shapes.{glyph_has, cell_has, in_cells, differ, draw_text}
 use Rattle.lw_layer.specs.View.{LiveView, CellView, shows, draws, with_layer, with_live}
+use Rattle.lw_layer.proofs.LineLaws.{repainted_same}
 use Rattle.lw_draw.specs.Drawn.{drawn, in_mask, in_rows}
 use Rattle.lw_draw.proofs.PaintLaws.{shape_drawn, tests_turned, cell_alike}
-use Rattle.lw_text.specs.Templates.{glyph_bits, stamped, stamped_bit, row_has, text_has, text_painted}
+use Rattle.lw_text.specs.Letters.{text_before}
+use Rattle.lw_text.specs.Templates.{glyph_bits, stamped, stamped_bit, row_has, text_has}
 
 -- a bit of a glyph's row, where the code has a glyph
 bit_of_known : (known : Bool) (byte place : ℕ) → (bit_at (if known then byte else 0) place == 1) ≡ (known && (bit_at byte place == 1))
@@ -38,26 +41,52 @@ cell_bit glyphs text bytes left top first n row i j column line byte =
     (ap (λ a. has ((8 * first + n) / 8) a row) (sym across) ∙
     (ap (λ u. has (u / 8) (u % 8) row) (sym column) ∙ ap (λ v. has (unsigned_abs (pos i -ℤ left) / 8) (unsigned_abs (pos i -ℤ left) % 8) v) (sym line)))))
 
--- A text is painted once its cells' drawable pixels are.
-pub text_shape : (c : LiveView) (glyphs : List (List ℕ)) (text : List ℕ) (raster : Raster) (upper lower from end : ℕ) → IsBitmap c.layer.bits → raster ≡ c.layer.raster → ((u : ℕ) → u < c.layer.bits.width → (int_le raster.cursor_x (pos u) && int_le (pos u +ℤ pos 1) (raster.cursor_x +ℤ pos (8 * length text))) ≡ is_between from end u) → ((v : ℕ) → v < c.layer.bits.height → within (raster.cursor_y -ℤ pos 6) (pos v) ((raster.cursor_y -ℤ pos 6) +ℤ pos 7) ≡ is_between upper lower v) → stamped raster (text_has glyphs text raster) (λ i j. in_rows c upper lower from end i j) c ≡ text_painted glyphs text raster c
+-- the tests of a pixel of a cell, in another order
+cut_turned : (column row before : Bool) → ((column && row) && before) ≡ ((column && before) && row)
+cut_turned true true true = refl
+cut_turned true true false = refl
+cut_turned true false true = refl
+cut_turned true false false = refl
+cut_turned false row before = refl
+
+-- A text is painted in the columns before one once its cells' drawable pixels there are.
+pub text_shape : (c : LiveView) (glyphs : List (List ℕ)) (text : List ℕ) (raster : Raster) (upper lower from end limit : ℕ) → IsBitmap c.layer.bits → raster ≡ c.layer.raster → ((u : ℕ) → u < c.layer.bits.width → ((int_le raster.cursor_x (pos u) && int_le (pos u +ℤ pos 1) (raster.cursor_x +ℤ pos (8 * length text))) && nat_lt u limit) ≡ is_between from end u) → ((v : ℕ) → v < c.layer.bits.height → within (raster.cursor_y -ℤ pos 6) (pos v) ((raster.cursor_y -ℤ pos 6) +ℤ pos 7) ≡ is_between upper lower v) → stamped raster (text_has glyphs text raster) (λ i j. in_rows c upper lower from end i j) c ≡ with_layer (λ l. text_before glyphs (λ x y. shows c x y) text limit l) c
 unfolding in_cells
-text_shape c glyphs text raster upper lower from end ok same columns rows =
-    let cells : ℕ → ℕ → Bool = λ x y. in_cells raster.cursor_x (raster.cursor_y -ℤ pos 6) (length text) (pos x) (pos y) in
-    ap (λ r. drawn (λ p x y. in_mask r p && in_rows c upper lower from end x y) (λ p x y old. candidate_bit r (differ (has_inversvid r) (text_has glyphs text raster x y)) p old) c) same ∙
-    (shape_drawn c cells (λ i j. in_rows c upper lower from end i j) (λ p x y old. candidate_bit c.layer.raster (differ (has_inversvid c.layer.raster) (text_has glyphs text raster x y)) p old) ok
-    (λ x y left low. tests_turned (draws c x y) _ _ (is_between from end x) (is_between upper lower y) (columns x left) (rows y low)) ∙
-    ap (λ r. with_layer (λ l. paint_where (λ x y. shows c x y) cells (λ x y. differ (has_inversvid r) (text_has glyphs text raster x y)) l) c) (sym same))
+text_shape c glyphs text raster upper lower from end limit ok same columns rows =
+    let r = c.layer.raster in
+    let past : Raster → ℤ = λ q. q.cursor_x +ℤ pos (8 * length text) in
+    let wide : Raster → ℕ → Bool = λ q u. (int_le q.cursor_x (pos u) && int_le (pos u +ℤ pos 1) (past q)) && nat_lt u limit in
+    let high : Raster → ℕ → Bool = λ q v. within (q.cursor_y -ℤ pos 6) (pos v) ((q.cursor_y -ℤ pos 6) +ℤ pos 7) in
+    ap (λ q. drawn (λ p x y. in_mask q p && in_rows c upper lower from end x y) (λ p x y old. candidate_bit q (differ (has_inversvid q) (text_has glyphs text q x y)) p old) c) same ∙
+    shape_drawn c (λ x y. in_cells r.cursor_x (r.cursor_y -ℤ pos 6) (length text) (pos x) (pos y) && nat_lt x limit) (λ i j. in_rows c upper lower from end i j) (λ p x y old. candidate_bit r (differ (has_inversvid r) (text_has glyphs text r x y)) p old) ok
+    (λ x y left low.
+    ap (λ t. draws c x y && t) (cut_turned (int_le r.cursor_x (pos x) && int_le (pos x +ℤ pos 1) (past r)) (high r y) (nat_lt x limit)) ∙
+    tests_turned (draws c x y) _ _ (is_between from end x) (is_between upper lower y) (ap (λ q. wide q x) (sym same) ∙ columns x left) (ap (λ q. high q y) (sym same) ∙ rows y low))
+
+-- A text that ends where the layer does is painted whole.
+text_whole : (c : LiveView) (glyphs : List (List ℕ)) (text : List ℕ) (width : ℕ) → width ≡ c.layer.bits.width → with_layer (λ l. text_before glyphs (λ x y. shows c x y) text width l) c ≡ with_layer (λ l. paint_where (λ x y. shows c x y) (λ x y. in_cells l.raster.cursor_x (l.raster.cursor_y -ℤ pos 6) (length text) (pos x) (pos y)) (λ x y. differ (has_inversvid l.raster) (text_has glyphs text l.raster x y)) l) c
+unfolding with_pens
+text_whole c glyphs text width wide =
+    let r = c.layer.raster in
+    let cells : ℕ → ℕ → Bool = λ x y. in_cells r.cursor_x (r.cursor_y -ℤ pos 6) (length text) (pos x) (pos y) in
+    let pen : ℕ → ℕ → Bool → ℕ = λ x y t. if is_drawable (λ i j. shows c i j) c.layer x y && t then through_mask c.layer.bits.depth r.mask (λ k. candidate_bit r (differ (has_inversvid r) (text_has glyphs text r x y)) k (bit_at (pen_at c.layer.bits x y) k)) (pen_at c.layer.bits x y) else pen_at c.layer.bits x y in
+    repainted_same c (λ x y. pen x y (cells x y && nat_lt x width)) (λ x y. pen x y (cells x y)) (λ x y left _. ap (pen x y) (before_width (cells x y) x width (omega (arith, left, wide))))
+  where
+    before_width : (has : Bool) (x n : ℕ) → x < n → (has && nat_lt x n) ≡ has
+    before_width true x n left = grind (arith, nat_tests)
+    before_width false x n left = refl
 
 -- With its cells painted and the cursor behind them the text is drawn.
-pub text_done : (v w u : CellView) (glyphs drawn_glyphs : List (List ℕ)) (text codes : List ℕ) (raster after : Raster) → drawn_glyphs ≡ glyphs → codes ≡ text → raster ≡ v.live.layer.raster → w ≡ with_live (λ c. text_painted drawn_glyphs codes raster c) v → u ≡ with_live (λ c. with_layer (λ l. record l { raster = after }) c) w → after ≡ record raster { cursor_x = raster.cursor_x +ℤ pos (8 * length codes) } → u ≡ with_live (λ c. with_layer (λ l. draw_text glyphs (λ x y. shows c x y) text l) c) v
+pub text_done : (v w u : CellView) (glyphs drawn_glyphs : List (List ℕ)) (text codes : List ℕ) (width : ℕ) (raster after : Raster) → drawn_glyphs ≡ glyphs → codes ≡ text → width ≡ v.live.layer.bits.width → raster ≡ v.live.layer.raster → w ≡ with_live (λ c. with_layer (λ l. text_before drawn_glyphs (λ x y. shows c x y) codes width l) c) v → u ≡ with_live (λ c. with_layer (λ l. record l { raster = after }) c) w → after ≡ record raster { cursor_x = raster.cursor_x +ℤ pos (8 * length codes) } → u ≡ with_live (λ c. with_layer (λ l. draw_text glyphs (λ x y. shows c x y) text l) c) v
 unfolding with_pens
-text_done v w u glyphs drawn_glyphs text codes raster after same_glyphs same_text same was is ends =
-    let drawn_as : List (List ℕ) → List ℕ → Raster → Raster → CellView = λ g t r a. record v { live = with_layer (λ l. record l { raster = a }) (text_painted g t r v.live) } in
+text_done v w u glyphs drawn_glyphs text codes width raster after same_glyphs same_text wide same was is ends =
+    let moved : LiveView → Raster → CellView = λ c a. record v { live = with_layer (λ l. record l { raster = a }) c } in
     let behind : List ℕ → Raster → Raster = λ t r. record r { cursor_x = r.cursor_x +ℤ pos (8 * length t) } in
+    let drawn_as : List (List ℕ) → List ℕ → CellView = λ g t. with_live (λ c. with_layer (λ l. draw_text g (λ x y. shows c x y) t l) c) v in
     is ∙ (ap (λ (q : CellView). with_live (λ c. with_layer (λ l. record l { raster = after }) c) q) was ∙
-    (ap (λ a. drawn_as drawn_glyphs codes raster a) ends ∙
-    (ap (λ g. drawn_as g codes raster (behind codes raster)) same_glyphs ∙
-    (ap (λ t. drawn_as glyphs t raster (behind t raster)) same_text ∙ ap (λ r. drawn_as glyphs text r (behind text r)) same))))
+    (ap (λ c. moved c after) (text_whole v.live drawn_glyphs codes width wide) ∙
+    (ap (λ a. moved (with_layer (λ l. paint_where (λ x y. shows v.live x y) (λ x y. in_cells l.raster.cursor_x (l.raster.cursor_y -ℤ pos 6) (length codes) (pos x) (pos y)) (λ x y. differ (has_inversvid l.raster) (text_has drawn_glyphs codes l.raster x y)) l) v.live) a) (ends ∙ ap (behind codes) same) ∙
+    (ap (λ g. drawn_as g codes) same_glyphs ∙ ap (λ t. drawn_as glyphs t) same_text))))
 
 -- the cursor has room
 pub room : (x : ℤ) (n : ℕ) (fits : Bool) → fits ≡ int_le (x +ℤ pos n) (pos 32767) → fits ≡ true → (x +ℤ pos n) ≤ℤ pos 32767
@@ -73,8 +102,41 @@ row_starts upper past y from end is places some = grind (arith, ints, nat_tests)
 pub row_ends : (upper past y : ℤ) (from end last : ℕ) → end ≡ last + 1 → past ≡ y +ℤ pos 2 → (int_le upper (pos last) && not (int_le past (pos last))) ≡ is_between from end last → from < end → pos end ≤ℤ (y +ℤ pos 2)
 row_ends upper past y from end last is bound places some = grind (arith, ints, nat_tests)
 
-pub columns_are : (left past x : ℤ) (n from end u : ℕ) → left ≡ x → past ≡ x +ℤ pos n → (int_le left (pos u) && not (int_le past (pos u))) ≡ is_between from end u → (int_le x (pos u) && int_le (pos u +ℤ pos 1) (x +ℤ pos n)) ≡ is_between from end u
+columns_are : (left past x : ℤ) (n from end u : ℕ) → left ≡ x → past ≡ x +ℤ pos n → (int_le left (pos u) && not (int_le past (pos u))) ≡ is_between from end u → (int_le x (pos u) && int_le (pos u +ℤ pos 1) (x +ℤ pos n)) ≡ is_between from end u
 columns_are left past x n from end u first last places = grind (arith, ints, nat_tests)
+
+-- a text cut behind all columns of a layer has the same columns there
+cut_end : (past x : ℤ) (n most width u : ℕ) → negsuc 32767 ≤ℤ x → past ≡ x +ℤ pos (8 * most) → most ≡ min n 8191 → width ≤ 2048 → u < width
+    → int_le (x +ℤ pos (8 * n)) (pos u) ≡ int_le past (pos u)
+cut_end past x n most width u low last cut narrow there =
+    ⊎_elim
+    (λ (few : n < 8192). let same : most ≡ n = omega (arith, clamps, few, cut) in ap (λ k. int_le k (pos u)) (ap (λ k. x +ℤ pos (8 * k)) (sym same) ∙ sym last))
+    (λ (many : 8192 ≤ n).
+    let top : most ≡ 8191 = omega (arith, clamps, many, cut) in
+    both_off past x n u low (last ∙ ap (λ k. x +ℤ pos (8 * k)) top) (omega (arith, there, narrow)) many)
+    (cases_lt n 8192)
+  where
+    both_off : (past x : ℤ) (n u : ℕ) → negsuc 32767 ≤ℤ x → past ≡ x +ℤ pos (8 * 8191) → u < 2048 → 8192 ≤ n
+        → int_le (x +ℤ pos (8 * n)) (pos u) ≡ int_le past (pos u)
+    both_off past x n u low last there many = grind (arith, ints, nat_tests)
+
+pub columns_cut : (left past x : ℤ) (n most from end extent width limit u : ℕ) → negsuc 32767 ≤ℤ x → left ≡ x → past ≡ x +ℤ pos (8 * most) → most ≡ min n 8191 → end ≤ extent → extent ≡ min width limit → width ≤ 2048 → u < width → (u < extent → (int_le left (pos u) && not (int_le past (pos u))) ≡ is_between from end u) → ((int_le x (pos u) && int_le (pos u +ℤ pos 1) (x +ℤ pos (8 * n))) && nat_lt u limit) ≡ is_between from end u
+columns_cut left past x n most from end extent width limit u lowest first last cut inside least narrow there places =
+    ⊎_elim
+    (λ (low : u < limit).
+    still (int_le x (pos u) && int_le (pos u +ℤ pos 1) (x +ℤ pos (8 * n))) low
+    ∙ columns_are left (x +ℤ pos (8 * n)) x (8 * n) from end u first refl
+    (ap (λ t. int_le left (pos u) && not t) (cut_end past x n most width u lowest last cut narrow there)
+    ∙ places (omega (arith, clamps, low, there, least))))
+    (λ (high : limit ≤ u).
+    none (int_le x (pos u) && int_le (pos u +ℤ pos 1) (x +ℤ pos (8 * n))) high (omega (arith, clamps, high, inside, least)))
+    (cases_lt u limit)
+  where
+    still : (has : Bool) → u < limit → (has && nat_lt u limit) ≡ has
+    still has low = grind (arith, nat_tests)
+
+    none : (has : Bool) → limit ≤ u → end ≤ u → (has && nat_lt u limit) ≡ is_between from end u
+    none has high off = grind (arith, nat_tests)
 
 pub rows_are : (upper past y : ℤ) (from end v : ℕ) → upper ≡ y -ℤ pos 6 → past ≡ y +ℤ pos 2 → (int_le upper (pos v) && not (int_le past (pos v))) ≡ is_between from end v → within (y -ℤ pos 6) (pos v) ((y -ℤ pos 6) +ℤ pos 7) ≡ is_between from end v
 unfolding within

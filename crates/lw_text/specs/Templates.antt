@@ -1,12 +1,12 @@
 -- Templates: rows of bits that stand for the foreground of what is painted (the manual's `BltTemplate`), and those that a text has.
 -- Words of this crate's private contracts.
-use Rattle.std.specs.Prelude.{ℕ, ◌+◌, ◌-◌, ◌==◌, Bool, ◌&&◌, nat_le, if◌then◌else◌, List, [], length, pos, ◌-ℤ◌}
+use Rattle.std.specs.Prelude.{ℕ, ◌+◌, ◌-◌, ◌==◌, Bool, ◌&&◌, nat_le, if◌then◌else◌, List, [], pos, ◌-ℤ◌}
 use Rattle.std.specs.List.{slice_index_or}
 use Rattle.lw_planes.specs.Row.{row_bit}
 use Rattle.lw_machine.specs.Layer.{Raster}
-use Rattle.lw_machine.specs.Paint.{candidate_bit, has_inversvid, paint_where}
-use Rattle.lw_machine.specs.Shapes.{cell_has, differ, in_cells}
-use Rattle.lw_layer.specs.View.{LiveView, shows, with_layer}
+use Rattle.lw_machine.specs.Paint.{candidate_bit, has_inversvid}
+use Rattle.lw_machine.specs.Shapes.{cell_has, differ}
+use Rattle.lw_layer.specs.View.{LiveView}
 use Rattle.lw_draw.specs.Drawn.{drawn, in_mask}
 use Rattle.lw_draw.specs.declared.combining.Origin.{Origin}
 
@@ -30,8 +30,3 @@ text_has glyphs text raster x y = cell_has glyphs text raster.cursor_x (raster.c
 unfoldable pub glyph_bits : List (List ℕ) → ℕ → ℕ → ℕ
 glyph_bits glyphs code row =
     if nat_le 32 code && nat_le code 126 then slice_index_or (slice_index_or glyphs (code - 32) []) row 0 else 0
-
--- the live layer with a text painted at the cursor that a raster state has
-abbrev pub text_painted : List (List ℕ) → List ℕ → Raster → LiveView → LiveView
-text_painted glyphs text raster c =
-    with_layer (λ l. paint_where (λ x y. shows c x y) (λ x y. in_cells raster.cursor_x (raster.cursor_y -ℤ pos 6) (length text) (pos x) (pos y)) (λ x y. differ (has_inversvid raster) (text_has glyphs text raster x y)) l) c

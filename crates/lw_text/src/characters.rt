@@ -5,7 +5,8 @@ ghost use Rattle.lw_layer.specs.View.{shows, with_live, with_layer};
 ghost use Rattle.lw_layer.specs.View as view;
 ghost use Rattle.lw_layer.specs.Drafts.{raster_of};
 ghost use Rattle.lw_draw.specs.Drawn.{in_rows};
-ghost use Rattle.lw_text.specs.Templates.{stamped, text_has, text_painted};
+ghost use Rattle.lw_text.specs.Letters.{text_before};
+ghost use Rattle.lw_text.specs.Templates.{stamped, text_has};
 
 use crate::glyphs::glyph_row;
 use crate::template::template_row;
@@ -15,6 +16,9 @@ use lw_layer::{Cell, Raster};
 
 // As many bytes as a row of a layer can show characters of, one of them in part at each end: a layer is at most 2048 columns wide.
 const MOST: usize = 257;
+
+// From column -32768 on so many characters reach behind each column of a layer.
+const REACH: usize = 8191;
 
 /// Paints one cell of 8 by 8 pixels for each character, from the cursor's column on and in its rows y - 6 to y + 1, with the
 /// glyphs that the script handed in, in the layer's pens, mode and mask, and moves the cursor behind them (`Text`). False exactly
@@ -31,7 +35,7 @@ pub fn letters(cell: &mut Cell, assets: &Assets, text: &Text) -> bool
     if !fits(raster.x, text.len()) {
         return false;
     }
-    paint_text(cell, &assets.glyphs, text, raster);
+    paint_text(cell, &assets.glyphs, text, raster, cell.width());
     cell.set_raster(Raster {
         a: raster.a,
         b: raster.b,
@@ -43,6 +47,17 @@ pub fn letters(cell: &mut Cell, assets: &Assets, text: &Text) -> bool
     true
 }
 
+/// Paints the same pixels as `letters`, but in the layer's columns before `end` alone, and leaves the cursor. No memory is taken.
+pub fn letters_before(cell: &mut Cell, assets: &Assets, text: &Text, end: u32)
+    requires { cell.old.state ≡ view.Live }
+    ensures { cell.new ≡ with_live
+        (λ c. with_layer (λ l. text_before assets.now.glyphs (λ x y. shows c x y) text.now end l) c)
+        cell.old }
+{
+    let raster = cell.raster();
+    paint_text(cell, &assets.glyphs, text.bytes(), raster, end);
+}
+
 // The cursor can move behind so many characters.
 fn fits(x: i16, count: usize) -> bool
     ensures { result ≡ int_le (x +ℤ pos (8 * count)) (pos 32767) }
@@ -50,16 +65,18 @@ fn fits(x: i16, count: usize) -> bool
     count <= (i32::from(i16::MAX) - i32::from(x)) as usize / 8
 }
 
-// Paints the characters, and leaves the cursor.
-fn paint_text(cell: &mut Cell, glyphs: &[[u8; 8]; 95], text: &[u8], raster: Raster)
+// Paints the characters in the columns before one, and leaves the cursor.
+fn paint_text(cell: &mut Cell, glyphs: &[[u8; 8]; 95], text: &[u8], raster: Raster, end: u32)
     requires live { cell.old.state ≡ view.Live }
     requires raster { raster_of raster ≡ cell.old.live.layer.raster }
-    requires few { length text.now < 8192 }
-    ensures { cell.new ≡ with_live (λ c. text_painted glyphs.now text.now (raster_of raster) c) cell.old }
+    ensures { cell.new ≡ with_live
+        (λ c. with_layer (λ l. text_before glyphs.now (λ x y. shows c x y) text.now end l) c)
+        cell.old }
 {
     let left = i32::from(raster.x);
     let top = i32::from(raster.y) - 6;
-    let columns = places(left, left + 8 * text.len() as i32, cell.width());
+    let right = left + 8 * text.len().min(REACH) as i32;
+    let columns = places(left, right, cell.width().min(end));
     let rows = places(top, top + 8, cell.height());
     letter_rows(cell, rows, columns, glyphs, text, raster);
 }

@@ -7,7 +7,7 @@ mod glyphs;
 mod minterms;
 mod template;
 
-pub use characters::letters;
+pub use characters::{letters, letters_before};
 
 #[cfg(test)]
 mod tests;

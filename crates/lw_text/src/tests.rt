@@ -128,7 +128,7 @@ fn draft_of(alloc: Global, kind: Kind) -> Result<Draft, Fail>
         bits_w: 16,
         bits_h: 8,
     };
-    let live = LiveDraft::new(alloc, &make, 1, &bounds, &visible)?;
+    let live = LiveDraft::new(alloc, &make, 1, &bounds, &visible, None)?;
     Ok(Draft {
         slot: 0,
         state: DraftState::Live(live),

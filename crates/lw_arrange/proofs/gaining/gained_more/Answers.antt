@@ -1,11 +1,10 @@
 use Rattle.std.proofs.Common.{◌∙◌, sym, subst, List}
 use Rattle.lw_region.specs.Rectangle.{Rectangle}
 use Rattle.lw_region.proofs.SetOps.{combined_lists}
-use Rattle.lw_layer.specs.View.{with_live}
-use Rattle.lw_reveal.specs.Changed.{revealed_to}
 use Rattle.lw_reveal.proofs.PairingLaws.{edges_same}
 use Rattle.lw_arrange.specs.Filled.{AreGained}
 use Rattle.lw_arrange.proofs.SameLaws.{same_list}
+use Rattle.lw_arrange.proofs.GainsLaws.{stayed}
 use Rattle.lw_arrange.proofs.GainedRegions.{IsSeen, more_gained, same_gained}
 use Rattle.lw_arrange.proofs.gaining.gained_more.Goals as goal
 
@@ -17,18 +16,16 @@ returns-then-eq-2 c =
     let visible = c.args.visible.now in
     let shown = c.visible.result.now in
     let listed = c.rects.result.now in
-    let seen : IsSeen cell look.kind look.bounds shown listed visible = record {
+    let seen : IsSeen cell look.kind listed visible = record {
       live = c.requires.live;
       sound = c.requires.sound;
       kind_is = c.requires.look.kind;
-      former_is = c.requires.look.bounds;
-      shown_is = c.visible.ensures.value;
       listed_is = c.rects.ensures.value;
     } in
-    let P : List Rectangle → Type 0 = λ rects. AreGained cell (with_live (λ q. revealed_to bounds visible q) cell) rects in
+    let P : List Rectangle → Type 0 = λ rects. AreGained cell (stayed bounds visible cell) rects in
     subst P (sym c.new.ensures)
-    (same_gained cell look.kind look.bounds bounds shown listed visible seen
-    (edges_same look.bounds bounds (sym c.eq.ensures ∙ c.if-eq.true))
+    (same_gained cell look.kind look.bounds bounds shown listed visible seen c.requires.look.bounds
+    (edges_same look.bounds bounds (sym c.eq.ensures ∙ c.if-eq.true)) c.visible.ensures.value
     (same_list shown listed c.eq-then-eq.result c.eq-then-eq.ensures c.if-eq-2.true) c.requires.may.inside)
 
 pub returns : goal.returns
@@ -37,18 +34,14 @@ returns c =
     let look = c.args.look.now in
     let bounds = c.args.bounds.now in
     let visible = c.args.visible.now in
-    let shown = c.visible-2.result.now in
     let listed = c.rects-2.result.now in
-    let seen : IsSeen cell look.kind look.bounds shown listed visible = record {
+    let seen : IsSeen cell look.kind listed visible = record {
       live = c.requires.live;
       sound = c.requires.sound;
       kind_is = c.requires.look.kind;
-      former_is = c.requires.look.bounds;
-      shown_is = c.visible-2.ensures.value;
       listed_is = c.rects-2.ensures.value;
     } in
-    more_gained cell look.kind look.bounds bounds shown listed visible c.in_ok-before.before c.in_ok-gained.gained
-    c.clear_region.new.into seen
-    c.in_ok-gained.ensures.ordered c.requires.may.inside c.in_ok-before.ensures.kept c.in_ok-gained.ensures.kept
+    more_gained cell look.kind bounds listed visible c.in_ok-before.before c.in_ok-gained.gained c.clear_region.new.into seen
+    c.in_ok-gained.ensures.ordered c.requires.may.inside c.in_ok-before.ensures c.in_ok-gained.ensures.kept
     (combined_lists.differences c.in_ok-gained.gained c.in_ok-before.before c.clear_region.new.into
     c.in_ok-clear_region.ensures.list).pixels

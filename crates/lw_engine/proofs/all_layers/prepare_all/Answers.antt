@@ -1,8 +1,7 @@
 use Rattle.std.proofs.Common.{◌≡◌, ◌<◌, List, take, ◌+◌, ◌∙◌, sym, ap, subst, arith}
 use Rattle.lw_layer.specs.View.{CellView}
-use Rattle.lw_arrange.specs.Prepared.{MayPrepare}
 use Rattle.lw_engine.specs.Desks.{no_cell, cell_at}
-use Rattle.lw_engine.specs.Slots.{bare, ReadyView, IsReadyFor, nothing_ready}
+use Rattle.lw_engine.specs.Slots.{ReadyView, IsReadyFor, MayBeReady, nothing_ready}
 use Rattle.lw_engine.specs.Arranging.{ForEach}
 use Rattle.std.proofs.lemmas.List.{get_or_default}
 use Rattle.lw_engine.proofs.ArrangingLists.{for_more}
@@ -22,7 +21,7 @@ prepare-requires-clause-may g c =
     let slots = c.args.slots.now in
     let k = c.loop-slot.slot-index in
     let here : c.slot-item.result ≡ cell_at slots k = c.slot-item.is ∙ get_or_default slots k c.slot-item.result no_cell c.loop-slot-test.true in
-    let P : CellView → Type 0 = λ v. MayPrepare c.args.arrangement.now (bare v) in
+    let P : CellView → Type 0 = λ v. MayBeReady c.args.arrangement.now v in
     subst P (sym here) (c.requires.may k c.loop-slot-test.true)
 
 pub loop-slot-preserved : goal.loop-slot-preserved

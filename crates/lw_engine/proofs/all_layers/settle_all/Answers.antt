@@ -9,7 +9,7 @@ settle_one-requires g c =
     let becomes : CellView → CellView = c.requires.0 in
     let slot = c.loop-slot.slot in (
       becomes (cell_at c.args.slots.now slot),
-      settle_ready becomes slot c.args.slots.now c.loop-slot.slots c.args.ready.now c.loop-slot.ready c.index-slots-slot.result c.index-ready-slot.result c.requires.1 (c.loop-slot.invariant becomes c.requires.1) c.loop-slot-test.true,
+      settle_ready c.args.assets.now.glyphs becomes slot c.args.slots.now c.loop-slot.slots c.args.ready.now c.loop-slot.ready c.index-slots-slot.result c.index-ready-slot.result c.requires.1 (c.loop-slot.invariant becomes c.requires.1) c.loop-slot-test.true,
     )
 
 pub loop-slot-preserved : goal.loop-slot-preserved
@@ -19,7 +19,7 @@ loop-slot-preserved g c =
     let under : AreUnder becomes slot c.args.slots.now c.loop-slot.slots c.args.ready.now c.loop-slot.ready = c.loop-slot.invariant becomes all in
     settle_step becomes slot c.args.slots.now c.loop-slot.slots c.args.ready.now c.loop-slot.ready c.settle_one.new.slot c.settle_one.new.ready under c.loop-slot-test.true
     (c.settle_one.ensures (becomes (cell_at c.args.slots.now slot))
-    (settle_ready becomes slot c.args.slots.now c.loop-slot.slots c.args.ready.now c.loop-slot.ready c.index-slots-slot.result c.index-ready-slot.result all under c.loop-slot-test.true))
+    (settle_ready c.args.assets.now.glyphs becomes slot c.args.slots.now c.loop-slot.slots c.args.ready.now c.loop-slot.ready c.index-slots-slot.result c.index-ready-slot.result all under c.loop-slot-test.true))
 
 pub returns : goal.returns
 returns g c =

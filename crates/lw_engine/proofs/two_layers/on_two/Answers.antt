@@ -1,8 +1,8 @@
 use Rattle.std.proofs.Common.{◌≡◌, ◌<◌, ◌==◌, false, ◌∙◌, sym, ap, arith}
 use Rattle.std.proofs.lemmas.Bool.Decides.{nat_tests}
 use Rattle.lw_layer.specs.View.{CellView}
+use Rattle.lw_parts.proofs.BlittingLaws.{pair_apart}
 use Rattle.lw_engine.specs.Desks.{cell_at}
-use Rattle.lw_engine.proofs.BlittingLaws.{pair_apart}
 use Rattle.lw_engine.proofs.PairLaws.{changed_first, changed_before, front_read, back_read, pair_told_of, numbered_class}
 use Rattle.lw_engine.proofs.two_layers.on_two.Goals as goal
 

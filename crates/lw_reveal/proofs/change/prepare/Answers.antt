@@ -2,7 +2,7 @@ use Rattle.std.proofs.Common.{◌≡◌, List, length, sym, ap, subst, refl}
 use Rattle.lw_region.specs.Rectangle.{Rectangle}
 use Rattle.lw_cliprects.specs.Parts.{Division}
 use Rattle.lw_layer.specs.Pieces.{IsDamageOf}
-use Rattle.lw_reveal.specs.Changed.{revealed_to, MayHave}
+use Rattle.lw_reveal.specs.Changed.{carried_to, MayHave}
 use Rattle.lw_reveal.proofs.CarriedLaws.{AreParts}
 use Rattle.lw_reveal.proofs.ChangedLaws.{parts_told}
 use Rattle.lw_reveal.proofs.PreparedLaws.{new_room, prepared}
@@ -22,6 +22,6 @@ returns-clause-change c =
     let parts : Division = c.in_ok-parts.parts in
     let shown : parts.visible ≡ c.args.visible.now = ap (λ (q : Division). q.visible) c.in_ok-parts.ensures in
     let M : List Rectangle → Type 0 = λ q. MayHave live bounds q in
-    let D : List Rectangle → Type 0 = λ q. IsDamageOf (revealed_to bounds q live) c.in_ok-damage.damage in
+    let D : List Rectangle → Type 0 = λ q. IsDamageOf (carried_to bounds q live) c.in_ok-damage.damage in
     prepared live _ c.in_ok-pairing.pairing _ c.in_ok-pairing.ensures refl c.in_ok-buffers.ensures (ap length c.visible-shown.ensures.value)
     (ap (λ (q : Division). q.bounds) c.in_ok-parts.ensures) (subst M (sym shown) c.requires.may) (subst D (sym shown) c.in_ok-damage.ensures)

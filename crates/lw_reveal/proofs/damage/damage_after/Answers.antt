@@ -1,6 +1,6 @@
 use Rattle.std.proofs.lemmas.Result.{IfOk-weaker}
 use Rattle.lw_layer.specs.Pieces.{IsDamageOf}
-use Rattle.lw_reveal.specs.Changed.{revealed_to}
+use Rattle.lw_reveal.specs.Changed.{carried_to}
 use Rattle.lw_reveal.specs.Gained.{IsDamageWith}
 use Rattle.lw_reveal.proofs.GainedView.{damage_gained}
 use Rattle.lw_reveal.proofs.GainedSteps.{IsRead, made_gained}
@@ -15,17 +15,16 @@ returns c =
     let sees = c.look_of-look.ensures.look in
     let former = c.damage.result.now in
     let inner = c.inner_rectangle-inner.result in
-    let read : IsRead layer visible former look.kind look.bounds c.visible.result.now c.rects.result.now c.region.result.now look.updating = record {
+    let read : IsRead layer visible former look.kind look.framed c.rects.result.now c.region.result.now look.updating = record {
       kind_is = sees.kind;
-      bounds_are = sees.bounds;
-      shown_is = c.visible.ensures.value;
+      framed_is = sees.framed;
       new_is = c.rects.ensures.value;
       damaged_is = c.region.ensures.value;
       updating_is = sees.updating;
     } in
-    IfOk-weaker c.damage_with.result (λ d. IsDamageWith inner c.in_ok-due.due look.updating d) (λ d. IsDamageOf (revealed_to bounds visible layer) d)
+    IfOk-weaker c.damage_with.result (λ d. IsDamageWith inner c.in_ok-due.due look.updating d) (λ d. IsDamageOf (carried_to bounds visible layer) d)
     (λ d made.
     damage_gained layer bounds visible former d c.look_of-look.ensures.sound c.in_ok-kept.ensures.ordered c.requires.may.inside c.damage.ensures c.region.ensures.inside
-    (made_gained layer bounds visible former d look.kind look.bounds c.visible.result.now c.rects.result.now c.region.result.now _ _ c.in_ok-due.due inner look.updating
-    read c.in_ok-was.ensures.kept c.in_ok-kept.ensures.kept c.in_ok-due.ensures c.inner_rectangle-inner.ensures made))
+    (made_gained layer bounds visible former d look.kind look.framed c.rects.result.now c.region.result.now _ _ c.in_ok-due.due inner look.updating
+    read c.in_ok-was.ensures c.in_ok-kept.ensures.kept c.in_ok-due.ensures c.inner_rectangle-inner.ensures made))
     c.damage_with.ensures

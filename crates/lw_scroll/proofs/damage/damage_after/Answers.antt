@@ -20,7 +20,7 @@ returns-in_default c =
     rw (to_z-of_z w32 c.args.dx c.ranges.dx, to_z-of_z w32 c.args.dy c.ranges.dy) at c.brought_block.ensures
     in
     marks_stay v c.damage-former.result.now c.args.rect.now c.args.dx c.args.dy
-    (c.if-is_whole.ensures.other refl) c.if-is_whole.ensures.window c.damage-former.ensures
+    (c.if-is_whole.ensures.other refl) c.damage-former.ensures c.if-is_whole.ensures.inside
     (λ x y left low.
     sym (leads_to_area v c.args.rect.now block target c.args.dx c.args.dy c.block_of-block.ensures.has are x y left low)
     ∙ c.in_default.ensures (pos x) (pos y))
@@ -41,7 +41,7 @@ returns-in_default-rect_of c =
     rw (to_z-of_z w32 c.args.dx c.ranges.dx, to_z-of_z w32 c.args.dy c.ranges.dy) at c.brought_block.ensures
     in
     marks_stay v c.damage-former.result.now c.args.rect.now c.args.dx c.args.dy
-    (c.if-is_whole.ensures.other refl) c.if-is_whole.ensures.window c.damage-former.ensures
+    (c.if-is_whole.ensures.other refl) c.damage-former.ensures c.if-is_whole.ensures.inside
     (λ x y left low.
     sym (leads_to_area v c.args.rect.now block target c.args.dx c.args.dy c.block_of-block.ensures.has are x y left low)
     ∙ (shifted_blocks block target source c.args.dx c.args.dy _ _ (omega (arith, ints))
@@ -90,7 +90,7 @@ returns c =
     rw (to_z-of_z w32 c.args.dx c.ranges.dx, to_z-of_z w32 c.args.dy c.ranges.dy) at c.in_ok-damage.ensures
     in
     damage_moved v c.damage-former.result.now c.in_ok-damage.damage c.args.rect.now c.in-Some.target c.args.dx c.args.dy
-    (c.if-is_whole.ensures.other refl) c.if-is_whole.ensures.window c.damage-former.ensures
+    (c.if-is_whole.ensures.other refl) c.damage-former.ensures
     (λ x y left low. c.in-Some.ensures (pos x) (pos y)
     ∙ leads_to_area v c.args.rect.now block target c.args.dx c.args.dy c.block_of-block.ensures.has are x y left low)
     moved

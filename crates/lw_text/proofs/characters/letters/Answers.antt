@@ -15,6 +15,6 @@ returns-clause-cell c =
     let fits : (r.x +ℤ pos (8 * length codes)) ≤ℤ pos 32767 = room r.x (8 * length codes) c.fits.result (c.fits.ensures ∙ ap (λ z. int_le (z +ℤ pos (8 * length codes)) (pos 32767)) x) (search rules) in
     let from : c.from.result ≡ r.x = c.from.ensures ∙ x in
     let behind : ℤ → ℤ → Raster = λ u v. record (raster_of r) { cursor_x = u; cursor_y = v } in
-    text_done c.args.cell.now c.paint_text.new.cell c.set_raster.new.self c.args.assets.now.glyphs _ c.args.text.now codes (raster_of r) _
-    (ap (λ (a : Assets). a.glyphs) c.assets.view_is) c.bytes-text.ensures c.raster-raster.ensures.value c.paint_text.ensures c.set_raster.ensures
+    text_done c.args.cell.now c.paint_text.new.cell c.set_raster.new.self c.args.assets.now.glyphs _ c.args.text.now codes c.width.result (raster_of r) _
+    (ap (λ (a : Assets). a.glyphs) c.assets.view_is) c.bytes-text.ensures c.width.ensures.value c.raster-raster.ensures.value c.paint_text.ensures c.set_raster.ensures
     (ap (λ u. behind u (to_z w16 (of_z w16 r.y))) (omega (arith, ints)) ∙ ap (λ v. behind (r.x +ℤ pos (8 * length codes)) v) y)

@@ -3,7 +3,7 @@ use Rattle.std.proofs.lemmas.Result.{IfOk-weaker}
 use Rattle.lw_machine.specs.Hook.{Hook}
 use Rattle.lw_calls.specs.Touches.{OnLayer, class_of}
 use Rattle.lw_layer.specs.View.{CellView, hooked}
-use Rattle.lw_engine.specs.Parts.{IsLayerStep}
+use Rattle.lw_parts.specs.Parts.{IsLayerStep}
 use Rattle.lw_engine.proofs.HookLaws.{hooked_step}
 use Rattle.lw_engine.proofs.slot.Slot.on_layer.Goals as goal
 
@@ -14,7 +14,7 @@ returns-clause-step g c =
     let h : Option Hook = option_map g.B.Backfill.hook f.held in
     let new = c.on_layer.new.cell in
     let Class : CellView → Type 0 = λ v. class_of a.call.now ≡ OnLayer v.number in
-    let Step : CellView → Type 0 = λ v. IfOk c.on_layer.result (λ r. IsLayerStep v a.regs.now a.assets.now a.call.now r (hooked h new)) in
+    let Step : CellView → Type 0 = λ v. IfOk c.on_layer.result (λ r. IsLayerStep a.task v a.regs.now a.assets.now a.call.now r (hooked h new)) in
     subst Step c.self.view_is
-    (IfOk-weaker c.on_layer.result (λ r. IsLayerStep f.cell a.regs.now a.assets.now a.call.now r new) (λ r. IsLayerStep (hooked h f.cell) a.regs.now a.assets.now a.call.now r (hooked h new))
-    (λ r step. hooked_step h f.cell new a.regs.now a.assets.now a.call.now r (subst Class (sym c.self.view_is) c.requires.class) c.on_layer.ensures.number step) c.on_layer.ensures.step)
+    (IfOk-weaker c.on_layer.result (λ r. IsLayerStep a.task f.cell a.regs.now a.assets.now a.call.now r new) (λ r. IsLayerStep a.task (hooked h f.cell) a.regs.now a.assets.now a.call.now r (hooked h new))
+    (λ r step. hooked_step h a.task f.cell new a.regs.now a.assets.now a.call.now r (subst Class (sym c.self.view_is) c.requires.class) c.on_layer.ensures.number step) c.on_layer.ensures.step)

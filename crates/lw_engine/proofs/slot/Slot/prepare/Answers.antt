@@ -1,22 +1,51 @@
-use Rattle.std.proofs.Common.{◌≡◌, ◌∙◌, refl, ap, subst}
+use Rattle.std.proofs.Common.{◌≡◌, Bool, true, false, List, [], ◌||◌, Option, Some, is_some, ◌∙◌, refl, ap, subst}
+use Rattle.lw_region.specs.Rectangle.{Rectangle}
+use Rattle.lw_machine.specs.Hook.{Hook}
+use Rattle.lw_machine.specs.Layer.{is_framed}
 use Rattle.lw_layer.specs.View.{CellView, hooked}
 use Rattle.lw_layer.specs.View as view
+use Rattle.lw_layer.specs.Drafts.{no_layer}
 use Rattle.lw_layer.specs.StandsFor.{IsSound}
-use Rattle.lw_arrange.specs.Prepared.{cell_after}
+use Rattle.lw_stack.specs.Stack.{bounds_at}
+use Rattle.lw_arrange.specs.Prepared.{cell_after, MayPrepare}
 use Rattle.lw_arrange.specs.Made.{IsPrepared}
-use Rattle.lw_engine.specs.Slots.{bare}
+use Rattle.lw_arrange.specs.Filled.{AreGained}
+use Rattle.lw_engine.specs.Slots.{bare, hook_in, asked_hook, IsWindowAfter}
 use Rattle.lw_engine.proofs.SettlingLaws.{bare_cell, ready_settled}
+use Rattle.lw_engine.proofs.FillingLaws.{filled_right}
 use Rattle.lw_engine.proofs.slot.Slot.prepare.Goals as goal
 
 pub returns : goal.returns
 returns g c =
     let a = c.args.arrangement.now in
+    let shelf = c.args.shelf.now in
     let s : CellView = c.args.self.now in
+    let cell : CellView = c.self.inside.cell in
     let p = c.in_ok-prepared.prepared in
-    let same : c.self.inside.cell ≡ bare s = bare_cell c.self.inside.cell c.look.ensures.sound c.look.ensures.idle ∙ ap bare c.self.view_is in
+    let found = c.in_ok-gained.gained in
+    let final = c.pixels_filled-gained.result in
+    let w = c.window_after-window.result in
+    let same : cell ≡ bare s = bare_cell cell c.look.ensures.sound c.look.ensures.idle ∙ ap bare c.self.view_is in
     let Made : CellView → Type 0 = λ v. IsPrepared v (cell_after a v) p in
     let Sound : CellView → Type 0 = λ v. v.state ≡ view.Live → IsSound v.live in
+    let Idle : CellView → Type 0 = λ v. (v.state ≡ view.Live → ⊥) → v.live ≡ no_layer in
+    let Hook_gains : CellView → Type 0 = λ v. c.has_hook-hooked.result ≡ true → AreGained v (cell_after a v) found in
+    let Frame_gains : CellView → Type 0 = λ v. v.state ≡ view.Live → is_framed v.live.layer.window ≡ true → AreGained v (cell_after a v) found in
+    let None_gained : CellView → Type 0 = λ v. c.has_hook-hooked.result ≡ false → is_framed v.live.layer.window ≡ false → found ≡ [] in
+    let After : CellView → Type 0 =
+    λ v. v.state ≡ view.Live → (h : Option Hook) (r : Rectangle) → bounds_at a.stack.bounds v.number ≡ Some r → IsWindowAfter a (hooked h v) r w in
+    let sound = subst Sound same c.look.ensures.sound in
+    let told = c.in_ok-gained.ensures {u = tt} in
+    let after : s.state ≡ view.Live → (r : Rectangle) → bounds_at a.stack.bounds s.number ≡ Some r → IsWindowAfter a s r w =
+    λ live r bounds. subst After same c.window_after-window.ensures live (hook_in s) r bounds
+    in
     record {
-      settled = ready_settled a c.args.shelf.now s p c.in_ok-gained.gained (subst Sound same c.look.ensures.sound) c.rects.ensures.canonical (subst Made same (c.in_ok-prepared.ensures {u = tt})) (c.in_ok-gained.ensures {u = tt});
+      settled = λ glyphs.
+          ready_settled glyphs a shelf s p final w c.requires.may sound (subst Made same (c.in_ok-prepared.ensures {u = tt}))
+          (filled_right a shelf s found final c.has_hook-hooked.result w.change.sized c.requires.may sound (subst Idle same c.look.ensures.idle)
+          c.rects.ensures.canonical c.pixels_filled-gained.ensures
+          (c.has_hook-hooked.ensures ∙ ap (λ q. is_some (hook_in s) || is_some (asked_hook shelf q s.number)) c.call.ensures) (subst Hook_gains same told.hook) (subst Frame_gains same told.frame)
+          (subst None_gained same told.none) (λ live r bounds. (after live r bounds).done.sized))
+          after;
       untaken = refl;
     }

@@ -1,7 +1,0 @@
-use Rattle.std.proofs.Common.{◌≡◌, take, pos}
-use Rattle.lw_region.specs.Bands.{covers}
-use Rattle.lw_engine.specs.Finished.{pen_shown, with_pens}
-use Rattle.lw_engine.proofs.composing.show_layer.Given as goal
-
-abbrev pub invariant-loop-rect : goal.invariant-loop-rect
-invariant-loop-rect l = l.planes ≡ with_pens (λ x y. covers (take l.rect-index l.rect-items) (pos x) (pos y)) (pen_shown l.cell.live) l.initial.planes

@@ -1,0 +1,5 @@
+pub mod SeenTables
+pub mod SeenLaws
+pub mod ShownRows
+pub mod ShownPlaces
+pub mod ShownLayer

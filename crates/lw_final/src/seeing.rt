@@ -1,0 +1,65 @@
+// What is seen of a layer, from its cell and the list of layers.
+
+ghost use Rattle.std.specs.Prelude.{◌≡◌, IfOk};
+ghost use Rattle.lw_region.specs.Bands.{bands};
+ghost use Rattle.lw_layer.specs.View as view;
+ghost use Rattle.lw_machine.specs.Finals.{damage_set, port_of};
+ghost use Rattle.lw_final.specs.Shown.{first_set, seen_in};
+
+use lw_calls::{Messages, Seen};
+use lw_layer::Cell;
+use lw_region::Region;
+use lw_stack::Info;
+use std::alloc::{AllocError, Global};
+
+/// What is seen of the cell's layer: where it is shown, its damage, and the messages of its port exactly where it is a window. It
+/// fails for want of memory alone.
+pub fn seen(alloc: Global, info: &Info, cell: &Cell) -> Result<Option<Seen>, AllocError>
+    ensures { IfOk result (λ seen. seen ≡ seen_in info.now cell.now) }
+{
+    if cell.look().is_none() {
+        return Ok(None);
+    }
+    let visible = visible(alloc, info, cell.slot())?;
+    let damage = damage(alloc, cell)?;
+    let messages = messages(alloc, cell)?;
+    Ok(Some(Seen {
+        visible,
+        damage,
+        messages,
+    }))
+}
+
+// Where on the screen the slot's layer is shown.
+fn visible(alloc: Global, info: &Info, slot: u32) -> Result<Region, AllocError>
+    ensures { IfOk result (λ region. region ≡ bands (first_set info.now slot)) }
+{
+    // Reading these two tells the proof that the bounds lie on the screen, and that the region's list is canonical.
+    let _ = info.order();
+    let region = info.visible_of(alloc, slot)?;
+    let _ = region.rects();
+    Ok(region)
+}
+
+// The damaged pixels of the cell's layer.
+fn damage(alloc: Global, cell: &Cell) -> Result<Region, AllocError>
+    requires { cell.now.state ≡ view.Live }
+    ensures { IfOk result (λ region. region ≡ bands (damage_set cell.now.live.layer)) }
+{
+    let region = cell.damage().region();
+    // Reading them tells the proof that their list is canonical.
+    let _ = region.rects();
+    region.copy(alloc)
+}
+
+// The messages of the window's port, if the cell's layer is a window.
+fn messages(alloc: Global, cell: &Cell) -> Result<Option<Messages>, AllocError>
+    requires { cell.now.state ≡ view.Live }
+    ensures { IfOk result (λ messages. messages ≡ port_of cell.now.live.layer.window) }
+{
+    let Some(window) = cell.window() else {
+        return Ok(None);
+    };
+    let messages = Vec::from_slice(alloc, window.port.messages())?;
+    Ok(Some(Messages::new(messages)))
+}

@@ -1,0 +1,35 @@
+-- Laws of the fills of a frame.
+use Rattle.std.proofs.Common.{◌≡◌, ℕ, ◌+◌, ◌<◌, ◌≤◌, Bool, true, false, ◌&&◌, ◌||◌, List, [], None, take, get_or, length, ◌∙◌, sym, refl, ap, pos}
+use Rattle.std.proofs.lemmas.List.{take_all}
+use Rattle.lw_region.specs.Rectangle.{Rectangle, has_pixel}
+use Rattle.lw_region.specs.Bands.{covers}
+use Rattle.lw_region.proofs.Canonical.{covers_nil}
+use Rattle.lw_planes.specs.Bitmap.{IsBitmap}
+use Rattle.lw_machine.specs.Layer.{Raster}
+use Rattle.lw_machine.specs.Shapes.{rect_fill}
+use Rattle.lw_layer.specs.View.{CellView, shows, with_live, with_layer}
+use Rattle.lw_draw.proofs.RectangleLaws.{covers_more}
+use Rattle.lw_frames.specs.Framing.{solid_raster, overlaid}
+use Rattle.lw_frames.proofs.OverlayLaws.{overlay_begun, overlay_more, overlay_same}
+
+-- no fill so far
+pub no_fills : (v u : CellView) (pen : ℕ) (raster : Raster) → IsBitmap v.live.layer.bits → raster ≡ solid_raster pen → u ≡ with_live (λ c. with_layer (λ l. record l { raster = raster }) c) v → u ≡ overlaid (λ x y. covers [] (pos x) (pos y)) pen v
+no_fills v u pen raster ok same is =
+    overlay_same v u (λ x y. false) (λ x y. covers [] (pos x) (pos y)) pen (overlay_begun v u pen raster ok same is) (λ x y. sym (covers_nil (pos x) (pos y)))
+
+-- one fill more
+pub fill_more : (v w u : CellView) (rects : List Rectangle) (n : ℕ) (r : Rectangle) (pen : ℕ) → IsBitmap v.live.layer.bits → v.live.layer.bits.depth ≤ 8 → v.live.layer.clip ≡ None → v.live.layer.updating ≡ false → n < length rects → r ≡ get_or rects n r → w ≡ overlaid (λ x y. covers (take n rects) (pos x) (pos y)) pen v → u ≡ with_live (λ c. with_layer (λ l. rect_fill (λ x y. shows c x y) r l) c) w → u ≡ overlaid (λ x y. covers (take (n + 1) rects) (pos x) (pos y)) pen v
+fill_more v w u rects n r pen ok deep unclipped idle inside here was is =
+    let former : ℕ → ℕ → Bool = λ x y. covers (take n rects) (pos x) (pos y) in
+    overlay_same v u (λ x y. former x y || (has_pixel r (pos x) (pos y) && true)) (λ x y. covers (take (n + 1) rects) (pos x) (pos y)) pen
+    (overlay_more v u former (λ x y. has_pixel r (pos x) (pos y)) (λ x y. true) pen ok deep unclipped idle
+    (is ∙ ap (with_live (λ c. with_layer (λ l. rect_fill (λ x y. shows c x y) r l) c)) was))
+    (λ x y. ap (λ t. former x y || t) (all (has_pixel r (pos x) (pos y))) ∙ sym (covers_more rects n r inside here x y))
+  where
+    all : (t : Bool) → (t && true) ≡ t
+    all true = refl
+    all false = refl
+
+-- all fills
+pub fills_done : (v u : CellView) (rects : List Rectangle) (n pen : ℕ) → length rects ≤ n → u ≡ overlaid (λ x y. covers (take n rects) (pos x) (pos y)) pen v → u ≡ overlaid (λ x y. covers rects (pos x) (pos y)) pen v
+fills_done v u rects n pen enough is = is ∙ ap (λ rs. overlaid (λ x y. covers rs (pos x) (pos y)) pen v) (take_all n rects enough)

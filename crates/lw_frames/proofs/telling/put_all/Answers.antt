@@ -1,0 +1,13 @@
+use Rattle.std.proofs.Common.{◌≡◌, false, ◌∙◌, sym, ap}
+use Rattle.lw_layer.specs.View.{CellView, with_live}
+use Rattle.lw_windows.specs.Messages.{listed}
+use Rattle.lw_frames.specs.Telling.{with_put, as_asked}
+use Rattle.lw_frames.proofs.TellingLaws.{five_put, as_unasked, as_told}
+use Rattle.lw_frames.proofs.telling.put_all.Goals as goal
+
+pub returns-else-due : goal.returns-else-due
+returns-else-due c =
+    let v = c.args.cell.now in
+    let due = c.args.due.now in
+    five_put v c.put_if.new.cell c.put_if-2.new.cell c.put_if-3.new.cell c.put_if-4.new.cell c.put_if-5.new.cell _ _ _ _ _ c.put_if.ensures c.put_if-2.ensures c.put_if-3.ensures c.put_if-4.ensures c.put_if-5.ensures
+    ∙ ap (λ k. record v { live = k }) (as_unasked (with_put (listed due) v.live) ∙ ap (λ t. as_asked t (with_put (listed due) v.live)) (sym c.if-due.false))

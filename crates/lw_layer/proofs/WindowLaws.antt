@@ -1,0 +1,63 @@
+-- A draft stays one where the window changes that its layer is, and which slot it then stands for.
+use Rattle.std.proofs.Common.{◌≡◌, ℕ, Bool, Option, Some, None, ◌∙◌, sym, refl, ap}
+use Rattle.lw_calls.specs.Kinds.{is_super}
+use Rattle.lw_machine.specs.Kept.{is_kept}
+use Rattle.lw_machine.specs.Layer.{Window, is_framed, changed_window, change_window}
+use Rattle.lw_layer.specs.View.{LiveView, keeps, with_live}
+use Rattle.lw_layer.specs.Pieces.{inner_of}
+use Rattle.lw_layer.specs.Drafts.{IsLiveDraft, layout, window_of, room_of, live_view, cell_view}
+use Rattle.lw_layer.specs.declared.draft.DraftState.TheVariants.{Live}
+use Rattle.lw_layer.specs.declared.draft.LiveDraft.{LiveDraft}
+use Rattle.lw_layer.specs.declared.windows.WindowDraft.{WindowDraft}
+
+-- the window has a frame exactly where the former one had
+pub window_replaced : (d : LiveDraft) (w : Option WindowDraft) → is_framed (window_of w) ≡ is_framed (window_of d.window) → IsLiveDraft d → IsLiveDraft (record d { window = w })
+unfolding keeps is_kept
+window_replaced d w same ok = record {
+  bounds = ok.bounds;
+  scroll_x = ok.scroll_x;
+  scroll_y = ok.scroll_y;
+  sizes = ok.sizes;
+  scrolled = ok.scrolled;
+  mode = ok.mode;
+  shown = ok.shown;
+  rest = ok.rest;
+  buffers = ok.buffers;
+  inner = ok.inner ∙ ap (λ f. inner_of (is_super d.kind) f (layout d).width (layout d).height) (sym same);
+  damaged = ok.damaged;
+  frameless = λ own. same ∙ ok.frameless own;
+  frame = λ framed. ok.frame (sym same ∙ framed);
+}
+
+-- a change of a window that leaves it its frame
+framed_stays : (f : Window → Window) (w : Option Window) → ((v : Window) → (f v).framed ≡ v.framed) → is_framed (changed_window f w) ≡ is_framed w
+framed_stays f None same = refl
+framed_stays f (Some w) same = same w
+
+pub window_changed : (d : LiveDraft) (w : Option WindowDraft) (f : Window → Window) → window_of w ≡ changed_window f (window_of d.window) → ((v : Window) → (f v).framed ≡ v.framed) → IsLiveDraft d → IsLiveDraft (record d { window = w })
+window_changed d w f is same ok = window_replaced d w (ap is_framed is ∙ framed_stays f (window_of d.window) same) ok
+
+-- the slot whose layer's window is changed
+pub window_viewed : (slot : ℕ) (d : LiveDraft) (w : Option WindowDraft) (f : Window → Window) → window_of w ≡ changed_window f (window_of d.window) → cell_view (record { slot = slot; state = Live (record d { window = w }) }) ≡ with_live (λ c. record c { room = room_of w; layer = change_window f c.layer }) (cell_view (record { slot = slot; state = Live d }))
+window_viewed slot d w f is =
+    let seen : Option Window → LiveView = λ v. record (live_view d) { room = room_of w; layer = record (live_view d).layer { window = v } } in
+    ap (λ v. record (cell_view (record { slot = slot; state = Live d })) { live = seen v }) is
+
+-- whether the layer is the active window
+pub active_replaced : (d : LiveDraft) (active : Bool) → IsLiveDraft d → IsLiveDraft (record d { active = active })
+unfolding keeps is_kept
+active_replaced d active ok = record {
+  bounds = ok.bounds;
+  scroll_x = ok.scroll_x;
+  scroll_y = ok.scroll_y;
+  sizes = ok.sizes;
+  scrolled = ok.scrolled;
+  mode = ok.mode;
+  shown = ok.shown;
+  rest = ok.rest;
+  buffers = ok.buffers;
+  inner = ok.inner;
+  damaged = ok.damaged;
+  frameless = ok.frameless;
+  frame = ok.frame;
+}

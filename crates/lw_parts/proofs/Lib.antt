@@ -1,0 +1,8 @@
+pub mod RegisterLaws
+pub mod RegisterSteps
+pub mod LookingLaws
+pub mod OneLayerLaws
+pub mod UpdatingLaws
+pub mod BlittingLaws
+pub mod WindowLaws
+pub mod TestLaws
