@@ -3,7 +3,7 @@ ghost use Rattle.lw_calls.specs.Limits.{IsWithinLimits};
 
 use crate::blits::{blit_of, put_of, scroll_of};
 use lw_backfill::Solid;
-use lw_calls::{Assets, Call, Final, Kind, Make, Place, Replies, Sizes, Text, built};
+use lw_calls::{Assets, Call, Final, Kind, Make, Place, Replies, Sizes, Text};
 use lw_engine::Desk;
 use lw_planes::Planes;
 use lw_region::Rect;
@@ -102,7 +102,7 @@ fn line_to(x: i16, y: i16) -> Call {
     Call::DrawTo { slot: 0, x, y }
 }
 
-// Makes one call on the desk, if it may be made.
+// Makes one call on the desk, if it fits.
 fn make(
     alloc: Global,
     desk: &mut Desk<Solid>,
@@ -114,7 +114,7 @@ fn make(
     requires task { sizes.now.tasks ≡ 1 }
     ensures { desk.new.stack.sizes ≡ desk.old.stack.sizes }
 {
-    if !sizes.fits(call) || !built(call) {
+    if !sizes.fits(call) {
         return None;
     }
     let _ = desk.step(alloc, assets, 0, call).ok()?;

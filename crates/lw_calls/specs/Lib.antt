@@ -1,5 +1,4 @@
 pub mod Kinds
-pub mod Built
 pub mod Written
 pub mod Entries
 pub mod Assets

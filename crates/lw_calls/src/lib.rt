@@ -6,7 +6,6 @@
 
 mod area;
 mod assets;
-mod built_calls;
 mod call;
 mod entry;
 mod form;
@@ -27,7 +26,6 @@ mod touch;
 
 pub use area::Area;
 pub use assets::Assets;
-pub use built_calls::built;
 pub use call::Call;
 pub use entry::Entry;
 pub use form::Form;

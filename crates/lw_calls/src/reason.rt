@@ -34,8 +34,6 @@ pub enum Reason {
     HookUsed,
     /// A padding bit of a bitmap's row is 1.
     Padding,
-    /// The call can't be made so far.
-    NotBuilt,
     /// The input ends before the script does.
     Missing,
 }

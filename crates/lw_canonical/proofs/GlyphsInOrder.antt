@@ -147,7 +147,7 @@ glyph_again one s t w h d code rows above lines g bare b new =
     let k = tests s above (GlyphLine code rows) g in
     let none : length (told lines).bitmap_names ≡ 0 = ap length b.names in
     let tested : IsFormTested t lines (GlyphLine code rows) =
-    record { range = k.range; named = refl; new = new; group = refl; few = few_bare w h d (f ∷ lines) (bare_glyph w h d lines code rows bare) (omega (arith, none)); hook = refl; unused = refl; padding = refl; built = refl } in
+    record { range = k.range; named = refl; new = new; group = refl; few = few_bare w h d (f ∷ lines) (bare_glyph w h d lines code rows bare) (omega (arith, none)); hook = refl; unused = refl; padding = refl } in
     spelled_again one s t above lines f g.0 (verb_forms s t above lines AssetsAreDue at.0 (eq-eqb _ 0 b.due) (in_assets _ at.1) bare.section refl) (tests_pass t lines f tested)
 
 -- So do all glyphs in order.

@@ -115,7 +115,6 @@ tests_alone s above new f o a t =
       hook = t.hook;
       unused = ap (λ hooks. is_used hooks (hook_on f)) a.hooks ∙ t.unused;
       padding = not_padded (told new).row_width f o;
-      built = t.built;
     }
 
 -- Below lines that tell the same, a line of tasks is read as the same form in a script alone.

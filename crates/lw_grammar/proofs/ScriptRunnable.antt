@@ -2,7 +2,6 @@
 use Rattle.std.proofs.Common.{◌≡◌, ℕ, ◌<◌, ◌≤◌, ◌==◌, Bool, true, false, cond, nat_lt, List, [], length, IsTrue, All, refl, sym, subst, arith}
 use Rattle.lw_calls.specs.declared.sizes.Sizes.{Sizes}
 use Rattle.lw_calls.specs.Limits.{call_limit, call_fits}
-use Rattle.lw_calls.specs.Built.{is_built}
 use Rattle.lw_grammar.specs.LineForms.{Statement}
 use Rattle.lw_grammar.specs.Told.{told, plan_of}
 use Rattle.lw_grammar.specs.Script.{Setting, are_assets_due, may_end, ScriptInput, input_from, SpellsInput, IsRunnableInput, AreGoodLines}
@@ -62,7 +61,6 @@ runs_from_good s above place g e =
         groups = λ task. (zip_at (IsTaskFit z) _ _ [] [] fits (nothing_fits z) task).grouped;
       };
       hooks = refl;
-      built = zip_first (IsTaskFit z) (λ calls. All (λ c. IsTrue (is_built c)) calls) _ _ (λ calls groups h. h.built) fits;
       one_task = λ p. (let few = one_task s above p g in omega arith);
       order = order_small s above g;
     }

@@ -12,7 +12,7 @@ use Rattle.lw_calls.specs.Limits.{name_limit, call_limit, task_limit, bitmap_lim
 use Rattle.lw_grammar.specs.Demands.{◌>>=◌, demand}
 use Rattle.lw_grammar.specs.LineForms.{Statement, ScreenLine, GlyphLine, BitmapLine, RowLine, TaskLine, EndLine, OrderLine, NumbersLine, ReportLine, is_line_in_range}
 use Rattle.lw_grammar.specs.Told.{Section, ScreenIsDue, AssetsAreDue, CallsAreDue, TasksAreDue, NumbersAreDue, NothingIsDue, hook_on, told}
-use Rattle.lw_grammar.specs.Script.{Setting, is_screen_due, are_assets_due, are_calls_due, are_tasks_due, are_numbers_due, is_nothing_due, is_plain, lacks_name, gives_again, fits_group, super_limit, are_few, is_no_hook, is_used, has_padding, is_unbuilt, form_tested, may_end, AreGoodLines}
+use Rattle.lw_grammar.specs.Script.{Setting, is_screen_due, are_assets_due, are_calls_due, are_tasks_due, are_numbers_due, is_nothing_due, is_plain, lacks_name, gives_again, fits_group, super_limit, are_few, is_no_hook, is_used, has_padding, form_tested, may_end, AreGoodLines}
 use Rattle.lw_grammar.proofs.ScriptForms.{IsFormHere}
 use Rattle.lw_grammar.proofs.ScriptOutcome.{good_line}
 use Rattle.lw_grammar.proofs.ScriptCalls.{in_range, size_range}
@@ -29,7 +29,6 @@ pub record IsFormTested (s : Setting) (above : List Statement) (f : Statement) :
   pub hook : is_no_hook s.hooks (hook_on f) ≡ false
   pub unused : is_used (told above).used (hook_on f) ≡ false
   pub padding : has_padding (told above).row_width f ≡ false
-  pub built : is_unbuilt f ≡ false
 
 -- a test that was passed holds, and those behind it were passed
 passed : (b : Bool) (r : Reason) (t : Result (Unit {0}) Reason) → (demand b r >>= (λ _. t)) ≡ Ok tt → (b ≡ true) × (t ≡ Ok tt)
@@ -51,8 +50,7 @@ tests_passed s above f h =
     let e = passed (are_few (told (f ∷ above))) _ _ d.1 in
     let g = passed (not (is_no_hook s.hooks (hook_on f))) _ _ e.1 in
     let i = passed (not (is_used (told above).used (hook_on f))) _ _ g.1 in
-    let j = passed (not (has_padding (told above).row_width f)) _ _ i.1 in
-    let k = passed_last (not (is_unbuilt f)) _ j.1 in
+    let j = passed_last (not (has_padding (told above).row_width f)) _ i.1 in
     record {
       range = a.0;
       named = not-true _ b.0;
@@ -61,8 +59,7 @@ tests_passed s above f h =
       few = e.0;
       hook = not-true _ g.0;
       unused = not-true _ i.0;
-      padding = not-true _ j.0;
-      built = not-true _ k;
+      padding = not-true _ j;
     }
 
 -- a test that holds is passed
@@ -78,7 +75,7 @@ pass_last false r e = absurd (false≢true e)
 -- a form of which each test holds passes them
 pub tests_pass : (s : Setting) (above : List Statement) (f : Statement) → IsFormTested s above f → form_tested s (told above) f ≡ Ok tt
 tests_pass s above f k =
-    pass _ _ _ k.range (pass _ _ _ (not_from_false _ k.named) (pass _ _ _ (not_from_false _ k.new) (pass _ _ _ k.group (pass _ _ _ k.few (pass _ _ _ (not_from_false _ k.hook) (pass _ _ _ (not_from_false _ k.unused) (pass _ _ _ (not_from_false _ k.padding) (pass_last _ _ (not_from_false _ k.built)))))))))
+    pass _ _ _ k.range (pass _ _ _ (not_from_false _ k.named) (pass _ _ _ (not_from_false _ k.new) (pass _ _ _ k.group (pass _ _ _ k.few (pass _ _ _ (not_from_false _ k.hook) (pass _ _ _ (not_from_false _ k.unused) (pass_last _ _ (not_from_false _ k.padding))))))))
 
 -- what the nearest of good lines is good for, and its tests
 pub here : (s : Setting) (above : List Statement) (f : Statement) → AreGoodLines s (f ∷ above) → IsFormHere s above f

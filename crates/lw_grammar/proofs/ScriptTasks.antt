@@ -9,15 +9,14 @@ use Rattle.lw_calls.specs.declared.group.Group.{Group}
 use Rattle.lw_calls.specs.Limits.{call_limit, call_fits}
 use Rattle.lw_calls.specs.Touches.{slots_of}
 use Rattle.lw_calls.specs.Plan.{is_one, is_all, begins_update, ends_update, may_be_locked, may_stand, group_fits, groups_fit}
-use Rattle.lw_calls.specs.Built.{is_built}
-use Rattle.lw_grammar.specs.LineForms.{Act, CloseAct, RefreshAct, EndRefreshAct, Statement, ScreenLine, BitmapLine, TaskLine, EndLine, OrderLine, ReportLine, CallLine, LockLine, UnlockLine, HoldLine, ReleaseLine, layers_of}
+use Rattle.lw_grammar.specs.LineForms.{Act, RefreshAct, EndRefreshAct, Statement, ScreenLine, BitmapLine, TaskLine, EndLine, OrderLine, ReportLine, CallLine, LockLine, UnlockLine, HoldLine, ReleaseLine, layers_of}
 use Rattle.lw_grammar.specs.Told.{Section, ScreenIsDue, AssetsAreDue, CallsAreDue, TasksAreDue, NumbersAreDue, NothingIsDue, OpenGroup, Locked, Updating, Held, and_names, place_among, onto_last, spelled_call, call_below, hook_on, left_open_by, group_from, told}
 use Rattle.lw_grammar.specs.Script.{Setting, is_screen_due, are_assets_due, are_calls_due, are_tasks_due, is_beginning, is_ending, is_on_one, call_may_stand, is_lock_on, is_hold, is_no_hook, AreGoodLines}
 use Rattle.lw_grammar.proofs.ScriptNames.{equal_names, names_grow, any_kept, place_kept, all_named, places_below}
 use Rattle.lw_grammar.proofs.ScriptCalls.{act_fits}
 use Rattle.lw_grammar.proofs.ScriptGroups.{begins_so, ends_so, arranges, on_one, EndBefore, end_later, end_pushed, groups_kept, groups_pushed, to_the_end, all_pushed, update_stands, locked_stands, drop_pushed}
 use Rattle.lw_grammar.proofs.ScriptSizes.{here, tests, counted, has_begun, in_calls, in_tasks}
-use Rattle.std.proofs.lemmas.Bool.{true≢false, false≢true, not-false, eq-eqb, and_parts, and_from}
+use Rattle.std.proofs.lemmas.Bool.{true≢false, false≢true, eq-eqb, and_parts, and_from}
 use Rattle.std.proofs.lemmas.List.{drop_all, drop_at}
 use Rattle.std.proofs.lemmas.List.Elements.{All-nil, All-cons, All-push}
 
@@ -46,7 +45,6 @@ view_of above =
 pub record IsTaskFit (z : Sizes) (calls : List Call) (groups : List Group) : Type 0 where
   pub few : length calls ≤ call_limit
   pub fit : All (λ c. IsTrue (call_fits z c)) calls
-  pub built : All (λ c. IsTrue (is_built c)) calls
   pub grouped : groups_fit calls groups ≡ true
 
 -- an open group began behind the groups before it
@@ -124,7 +122,7 @@ none_open (Some g) h = absurd (false≢true h)
 
 -- no calls fit
 pub nothing_fits : (z : Sizes) → IsTaskFit z [] []
-nothing_fits z = record { few = omega arith; fit = All-nil _; built = All-nil _; grouped = refl }
+nothing_fits z = record { few = omega arith; fit = All-nil _; grouped = refl }
 
 -- no calls have been made in a task that has just begun
 task_now : (z : Sizes) (v : View) → v.so_far ≡ 0 → v.group ≡ None → IsNow z v [] []
@@ -227,19 +225,18 @@ plain_state (Some Held) so_far began names layers act bitmaps calls groups long 
     (open_later so_far (so_far + 1) began groups (omega arith) h.0, subst P (sym (drop_pushed calls c began (omega (arith, long, h.0.order)))) (all_pushed (λ c. is_all (slots_of c)) (drop began calls) c h.1 (arranges bitmaps act slots stands)))
 
 -- one call more fits
-task_longer : (z : Sizes) (calls : List Call) (groups : List Group) (c : Call) → length calls + 1 ≤ call_limit → call_fits z c ≡ true → is_built c ≡ true → IsTaskFit z calls groups → IsTaskFit z (calls ++ c ∷ []) groups
-task_longer z calls groups c few fits built h =
+task_longer : (z : Sizes) (calls : List Call) (groups : List Group) (c : Call) → length calls + 1 ≤ call_limit → call_fits z c ≡ true → IsTaskFit z calls groups → IsTaskFit z (calls ++ c ∷ []) groups
+task_longer z calls groups c few fits h =
     record {
       few = omega (arith, few, length-append calls (c ∷ []));
       fit = All-push (λ c. IsTrue (call_fits z c)) calls c h.fit fits;
-      built = All-push (λ c. IsTrue (is_built c)) calls c h.built built;
       grouped = groups_kept calls c groups h.grouped;
     }
 
 -- one group more fits
 task_grouped : (z : Sizes) (calls : List Call) (groups : List Group) (g : Group) → EndBefore groups g.first → group_fits calls g ≡ true → IsTaskFit z calls groups → IsTaskFit z calls (groups ++ g ∷ [])
 task_grouped z calls groups g before fits h =
-    record { few = h.few; fit = h.fit; built = h.built; grouped = groups_pushed calls groups g h.grouped before fits }
+    record { few = h.few; fit = h.fit; grouped = groups_pushed calls groups g h.grouped before fits }
 
 -- what a line that is no beginning and no end leaves of groups
 pub plain_groups : (above : List Statement) (layers : List (List ℕ)) (act : Act) → is_beginning act ≡ false → is_ending act ≡ false → ((told (CallLine layers act ∷ above)).groups ≡ (told above).groups) × (left_open_by layers act (told above).group ≡ (told above).group) × ((told (CallLine layers act ∷ above)).began ≡ (told above).began)
@@ -251,20 +248,15 @@ plain_groups above (l ∷ []) (EndRefreshAct full) b e = absurd (true≢false e)
 plain_groups above (l ∷ m ∷ ms) (EndRefreshAct full) b e = absurd (true≢false e)
 plain_groups above layers act b e = (refl, refl, refl)
 
--- whether an act's call can be made doesn't hang on its slots and bitmaps
-built_so : (bitmaps : List (List ℕ)) (act : Act) (slots : List ℕ) → is_built (spelled_call bitmaps act slots) ≡ is_built (spelled_call [] act [])
-built_so bitmaps CloseAct slots = refl
-built_so bitmaps act slots = refl
-
--- the call of a good line fits, and its step is given
-call_sound : (z : Sizes) (s : Setting) (above : List Statement) (layers : List (List ℕ)) (act : Act) → AreGoodLines s (CallLine layers act ∷ above) → z.hooks ≡ s.hooks → length (told (CallLine layers act ∷ above)).names ≤ z.slots → length (told above).bitmap_names ≤ z.bitmaps → (call_fits z (call_below (told above) layers act) ≡ true) × (is_built (call_below (told above) layers act) ≡ true)
+-- the call of a good line fits
+call_sound : (z : Sizes) (s : Setting) (above : List Statement) (layers : List (List ℕ)) (act : Act) → AreGoodLines s (CallLine layers act ∷ above) → z.hooks ≡ s.hooks → length (told (CallLine layers act ∷ above)).names ≤ z.slots → length (told above).bitmap_names ≤ z.bitmaps → call_fits z (call_below (told above) layers act) ≡ true
 call_sound z s above layers act g hooks slots bitmaps =
     let h = here s above (CallLine layers act) g in
     let t = tests s above (CallLine layers act) g in
     let more : List (List ℕ) = and_names (told above).names layers in
     let low = places_below more layers (all_named (told above).names layers) in
     let P : ℕ → Type 0 = λ n. is_no_hook n (hook_on (CallLine layers act)) ≡ false in
-    (act_fits z (told above).bitmap_names bitmaps (map (place_among more) layers) layers act h.3.1 t.range t.named (subst P (sym hooks) t.hook) (λ i k. omega (arith, low i (omega (arith, h.3.0, k)), slots)), built_so (told above).bitmap_names act (map (place_among more) layers) ∙ not-false _ t.built)
+    act_fits z (told above).bitmap_names bitmaps (map (place_among more) layers) layers act h.3.1 t.range t.named (subst P (sym hooks) t.hook) (λ i k. omega (arith, low i (omega (arith, h.3.0, k)), slots))
 
 -- the tasks with a call and groups more in the nearest one
 module _ (z : Sizes) (s : Setting) (above : List Statement) (layers : List (List ℕ)) (act : Act) (good : AreGoodLines s (CallLine layers act ∷ above)) (hooks : z.hooks ≡ s.hooks) (slots : length (told (CallLine layers act ∷ above)).names ≤ z.slots) (bitmaps : length (told above).bitmap_names ≤ z.bitmaps) where
@@ -277,7 +269,7 @@ module _ (z : Sizes) (s : Setting) (above : List Statement) (layers : List (List
   call_fits_now calls groups long h =
       let sound = call_sound z s above layers act good hooks slots bitmaps in
       let few = (counted s (CallLine layers act ∷ above) good).calls in
-      task_longer z calls groups the_call (omega (arith, few, long)) sound.0 sound.1 h
+      task_longer z calls groups the_call (omega (arith, few, long)) sound h
 
   -- the tasks with it
   with_call : (b : HaveBegun z (view_of above)) (groups : List Group) → (told (CallLine layers act ∷ above)).groups ≡ b.done_groups ++ groups ∷ [] → IsTaskFit z (b.calls ++ the_call ∷ []) groups → OpenState (told (CallLine layers act ∷ above)).group ((told above).so_far + 1) (told (CallLine layers act ∷ above)).began (and_names (told above).names layers) (b.calls ++ the_call ∷ []) groups → HaveBegun z (view_of (CallLine layers act ∷ above))

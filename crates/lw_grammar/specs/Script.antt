@@ -1,19 +1,18 @@
 -- The grammar of scripts (this project's own format; docs/FORMATS.md has it with an example): the rule of a line, by what the
 -- lines above it tell, and the outcome of lines read from the first to the last, which is an input, or the first bad line with
 -- its first reason.
-use Rattle.std.specs.Prelude.{◌≡◌, ℕ, ◌+◌, ◌-◌, ◌*◌, ◌≤◌, ◌==◌, Bool, true, false, not, ◌&&◌, ◌||◌, nat_le, nat_lt, min, if◌then◌else◌, List, [], ◌∷◌, length, map, ℤ, unsigned_abs, Option, Some, None, is_none, Result, Ok, Err, ok_or, bytes_eq, ◌⊎◌, All, IsTrue}
+use Rattle.std.specs.Prelude.{◌≡◌, ℕ, ◌+◌, ◌-◌, ◌*◌, ◌≤◌, ◌==◌, Bool, true, false, not, ◌&&◌, ◌||◌, nat_le, nat_lt, min, if◌then◌else◌, List, [], ◌∷◌, length, map, ℤ, unsigned_abs, Option, Some, None, is_none, Result, Ok, Err, ok_or, bytes_eq, ◌⊎◌, All}
 use Rattle.std.specs.List.{list_any, list_all, range_with_len}
 use Rattle.lw_planes.specs.Row.{row_bit}
 use Rattle.lw_calls.specs.declared.form.Form.{Form}
 use Rattle.lw_calls.specs.declared.form.Form.TheVariants.{Plain, Ordered, Audited}
 use Rattle.lw_calls.specs.declared.reason.Reason.{Reason}
-use Rattle.lw_calls.specs.declared.reason.Reason.TheVariants.{LineTooLong, BadByte, UnknownWord, Misplaced, OneTaskOnly, Form as FormReason, Range, NoName, DoubleName, Group, TooMany, NoHook, HookUsed, Padding, NotBuilt, Missing}
+use Rattle.lw_calls.specs.declared.reason.Reason.TheVariants.{LineTooLong, BadByte, UnknownWord, Misplaced, OneTaskOnly, Form as FormReason, Range, NoName, DoubleName, Group, TooMany, NoHook, HookUsed, Padding, Missing}
 use Rattle.lw_grammar.specs.declared.verb.Verb.{Verb}
 use Rattle.lw_grammar.specs.declared.verb.Verb.TheVariants.{Screen as ScreenVerb, Glyph as GlyphVerb, Bitmap as BitmapVerb, Task as TaskVerb, Order as OrderVerb, Report as ReportVerb}
 use Rattle.lw_calls.specs.Limits.{name_limit, task_limit, bitmap_limit, call_limit}
 use Rattle.lw_calls.specs.Touches.{slots_of}
 use Rattle.lw_calls.specs.Plan.{Plan, IsPlan, is_all, begins_update, ends_update}
-use Rattle.lw_calls.specs.Built.{is_built}
 use Rattle.lw_grammar.specs.Lines.{lines}
 use Rattle.lw_grammar.specs.Demands.{◌>>=◌, demand}
 use Rattle.lw_grammar.specs.Tokens.{tokens, token_of}
@@ -193,11 +192,6 @@ abbrev pub has_padding : ℕ → Statement → Bool
 has_padding width (RowLine bytes) = list_any (λ x. row_bit bytes x == 1) (range_with_len width (8 * length bytes - width))
 has_padding width form = false
 
--- the line is a call that can't be made so far, whichever layers it names
-abbrev pub is_unbuilt : Statement → Bool
-is_unbuilt (CallLine layers act) = not (is_built (spelled_call [] act []))
-is_unbuilt form = false
-
 -- The rule of a line: one demand after another, in the order of the reasons. First the words of a line, or its first reason
 -- that asks for bytes alone.
 abbrev pub words_read : List ℕ → Result (List (List ℕ)) Reason
@@ -232,8 +226,7 @@ form_tested s t form = do
   _ ← demand (are_few (told_with form t)) TooMany
   _ ← demand (not (is_no_hook s.hooks (hook_on form))) NoHook
   _ ← demand (not (is_used t.used (hook_on form))) HookUsed
-  _ ← demand (not (has_padding t.row_width form)) Padding
-  demand (not (is_unbuilt form)) NotBuilt
+  demand (not (has_padding t.row_width form)) Padding
 
 -- The form of a line that isn't skipped, below lines that tell this, or its first reason.
 abbrev pub line_read : Setting → Told → List ℕ → Result Statement Reason
@@ -325,12 +318,11 @@ pub record IsDecidedIn (s : Setting) (bytes : List ℕ) : Type 0 where
 abbrev pub InputsAreDecided : Type 0
 InputsAreDecided = (s : Setting) (bytes : List ℕ) → IsDecidedIn s bytes
 
--- An input that may be run: its plan is one, with the hooks that were handed in and just calls that may be made so far; a
--- script alone has one task; and its order names numbers that tasks may have.
+-- An input that may be run: its plan is one, with the hooks that were handed in; a script alone has one task; and its order
+-- names numbers that tasks may have.
 pub record IsRunnableInput (s : Setting) (input : ScriptInput) : Type 0 where
   pub plan : IsPlan input.plan
   pub hooks : input.plan.sizes.hooks ≡ s.hooks
-  pub built : All (λ calls. All (λ call. IsTrue (is_built call)) calls) input.plan.calls
   pub one_task : is_plain s.form ≡ true → input.plan.sizes.tasks ≡ 1
   pub order : All (λ task. task ≤ 15) input.order
 

@@ -1,15 +1,12 @@
 //! What the grammar asks of a line's act.
 ghost use Rattle.std.specs.Prelude.{◌≡◌, ℕ, List, is_none, option_map};
-ghost use Rattle.lw_calls.specs.Built.{is_built};
 ghost use Rattle.lw_grammar.specs.LineForms.{CallLine};
-ghost use Rattle.lw_grammar.specs.Told.{spelled_call, asks_super, hook_on};
+ghost use Rattle.lw_grammar.specs.Told.{asks_super, hook_on};
 ghost use Rattle.lw_grammar.specs.Script.{is_arranging, is_beginning, is_ending, are_all, is_on_one, call_may_stand, is_lock_on, is_hold, fits_group};
 ghost use Rattle.lw_lines.specs.FormMeaning.{act_meaning, layers_meaning, form_meaning};
 ghost use Rattle.lw_lines.specs.GroupMeaning.{group_meaning};
 
-use crate::form::{
-    Act, AskedKind, BareAct, KindWithoutBitmap, Layers, PairAct, Statement, TextAct,
-};
+use crate::form::{Act, AskedKind, BareAct, KindWithoutBitmap, Layers, PairAct, Statement};
 use lw_words::is_text;
 
 /// A group that is open.
@@ -56,19 +53,6 @@ impl Act<'_> {
         match self {
             Act::EndRefresh { .. } => true,
             _ => false,
-        }
-    }
-
-    /// Whether its call can be made so far, whichever layers and bitmaps it names.
-    pub fn is_built(&self) -> bool
-        ensures { (bitmaps : List (List ℕ)) (slots : List ℕ)
-            → result ≡ is_built (spelled_call bitmaps (act_meaning self.now) slots) }
-    {
-        match self {
-            Act::Open { .. }
-            | Act::Bare(BareAct::Activate | BareAct::GetMsg)
-            | Act::Text(TextAct::Title, _) => false,
-            _ => true,
         }
     }
 }

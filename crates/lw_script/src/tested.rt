@@ -3,7 +3,7 @@ ghost use Rattle.std.specs.Prelude.{◌≡◌, nat_le, length, IsTrue};
 ghost use Rattle.lw_calls.specs.Limits.{call_limit};
 ghost use Rattle.lw_grammar.specs.LineForms.{is_line_in_range};
 ghost use Rattle.lw_grammar.specs.Told.{and_name, hook_on, told_with};
-ghost use Rattle.lw_grammar.specs.Script.{lacks_name, gives_again, group_has_calls, fits_group, super_limit, are_few, is_no_hook, is_used, has_padding, is_unbuilt, form_tested};
+ghost use Rattle.lw_grammar.specs.Script.{lacks_name, gives_again, group_has_calls, fits_group, super_limit, are_few, is_no_hook, is_used, has_padding, form_tested};
 ghost use Rattle.lw_lines.specs.FormMeaning.{form_meaning};
 ghost use Rattle.lw_script.specs.ReaderKnows.{known, setting_of};
 
@@ -212,19 +212,6 @@ impl<'a> Reader<'a> {
         if self.has_padding(form) {
             return Err(Reason::Padding);
         }
-        if is_unbuilt(form) {
-            return Err(Reason::NotBuilt);
-        }
         Ok(())
-    }
-}
-
-/// Whether the line is a call that can't be made so far.
-fn is_unbuilt(form: &Statement<'_>) -> bool
-    ensures { result ≡ is_unbuilt (form_meaning form.now) }
-{
-    match form {
-        Statement::Call { act, .. } => !act.is_built(),
-        _ => false,
     }
 }

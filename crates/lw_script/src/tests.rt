@@ -18,8 +18,8 @@ pub(crate) fn read_short(
     Err(ScriptStop::Memory)
 }
 
-// A script with everything that can be read so far: skipped lines in each part, glyphs, bitmaps, two tasks with groups, and
-// an order that names a task that there isn't.
+// A script with a line for each call: skipped lines in each part, glyphs, bitmaps, two tasks with groups, and an order that names
+// a task that there isn't.
 const WHOLE: &str = "# a script
 screen 640 256 2
 glyph 41 183c66667e666601
@@ -81,6 +81,12 @@ fill clk 0 0 1 1
 lock clk
 unclip clk
 unlock clk
+open Win smart behind 1 2 30 40 backdrop nocare ask rc \"C d\"
+open clk super front -1 0 9 14 7 8 \"\"
+title Win \"\"
+title log \"a b\"
+activate Win
+getmsg log
 end
 
 order
@@ -126,11 +132,17 @@ static CLOCK: [&str; 33] = [
     "setrast 0 to 200",
 ];
 
-static EDIT: [&str; 4] = [
+static EDIT: [&str; 10] = [
     "create 2 smart front at 0 0 with 8 4 and bits of 0 0",
     "create 1 smart front at -5 -6 with 32773 7 and bits of 0 0",
     "fill 0 from 0 0 to 1 1",
     "unclip 0",
+    "create 3 smart behind backdrop at 1 2 with 30 40 and bits of 0 0, framed, not cared for, which asks 5, titled 67 32 100",
+    "create 0 super front at -1 0 with 9 14 and bits of 7 8, which asks 0, titled",
+    "title of 3 is",
+    "title of 1 is 97 32 98",
+    "activate 3",
+    "message of 1",
 ];
 
 fn bounds_of(alloc: Global, rect: &Rect) -> Result<String, AllocError> {
@@ -177,7 +189,41 @@ fn pair_word(op: PairOp) -> &'static str {
     }
 }
 
-// A call that draws in words, a text by its bytes. Those that can't be run yet are all one.
+// Words with a text's bytes behind them.
+fn with_bytes(alloc: Global, mut words: String, text: &Text) -> Result<String, AllocError> {
+    for byte in text.bytes() {
+        words.push_str(format!(in alloc; " {byte}")?.as_str())?;
+    }
+    Ok(words)
+}
+
+// A call on a window in words, a title by its bytes.
+fn told_window(alloc: Global, call: &Call) -> Result<String, AllocError> {
+    match call {
+        Call::OpenWindow {
+            slot,
+            make,
+            framed,
+            nocare,
+            asks,
+            title,
+        } => {
+            let layer = creation(alloc, *slot, make)?;
+            let frame = if *framed { ", framed" } else { "" };
+            let care = if *nocare { ", not cared for" } else { "" };
+            let words = format!(in alloc; "{layer}{frame}{care}, which asks {asks}, titled")?;
+            with_bytes(alloc, words, title)
+        }
+        Call::SetTitle { slot, title } => {
+            with_bytes(alloc, format!(in alloc; "title of {slot} is")?, title)
+        }
+        Call::Activate { slot } => format!(in alloc; "activate {slot}"),
+        Call::TakeMessage { slot } => format!(in alloc; "message of {slot}"),
+        _ => String::from_str(alloc, "another call"),
+    }
+}
+
+// A call that draws in words, a text by its bytes.
 fn told_drawing(alloc: Global, call: &Call) -> Result<String, AllocError> {
     match call {
         Call::SetA { slot, pen } => format!(in alloc; "pen a of {slot} is {pen}"),
@@ -189,14 +235,10 @@ fn told_drawing(alloc: Global, call: &Call) -> Result<String, AllocError> {
         Call::ReadPixel { slot, x, y } => format!(in alloc; "read {slot} at {x} {y}"),
         Call::DrawTo { slot, x, y } => format!(in alloc; "draw {slot} to {x} {y}"),
         Call::Letters { slot, text } => {
-            let mut words = format!(in alloc; "text {slot} with")?;
-            for byte in text.bytes() {
-                words.push_str(format!(in alloc; " {byte}")?.as_str())?;
-            }
-            Ok(words)
+            with_bytes(alloc, format!(in alloc; "text {slot} with")?, text)
         }
         Call::SetRast { slot, pen } => format!(in alloc; "setrast {slot} to {pen}"),
-        _ => String::from_str(alloc, "another call"),
+        _ => told_window(alloc, call),
     }
 }
 
@@ -298,10 +340,10 @@ fn a_script_gives_its_sizes_names_and_calls(rt: HostRuntime) -> Result<(), Fail>
     let sizes = plan.sizes();
     assert_eq!(rt; (sizes.version, plan.version(), sizes.hooks), (1, 1, 3));
     assert_eq!(rt; (sizes.width, sizes.height, sizes.depth), (640, 256, 2));
-    assert_eq!(rt; (sizes.slots, sizes.tasks, sizes.bitmaps), (3, 2, 2));
+    assert_eq!(rt; (sizes.slots, sizes.tasks, sizes.bitmaps), (4, 2, 2));
     assert_eq!(rt;
         joined(alloc, plan.slot_names())?.as_slice(),
-        b"clk log Log ".as_slice()
+        b"clk log Log Win ".as_slice()
     );
     assert_eq!(rt;
         joined(alloc, plan.task_names())?.as_slice(),

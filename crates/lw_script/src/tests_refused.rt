@@ -10,7 +10,7 @@ struct Refused {
     scripts: &'static [&'static str],
 }
 
-static SCRIPTS: [Refused; 40] = [
+static SCRIPTS: [Refused; 39] = [
     // The input ends before the line `order`.
     Refused {
         at: (Form::Ordered, 0, 1, Reason::Missing),
@@ -218,11 +218,6 @@ static SCRIPTS: [Refused; 40] = [
         scripts: &[
             "screen 16 4 1\ntask a\ncreate w smart front 0 0 7 3 hook 0\n", // the first of three
             "screen 16 4 1\ntask a\ncreate w smart front 0 0 7 3 hook 2\n", // the last of three
-        ],
-    },
-    Refused {
-        at: (Form::Plain, 3, 3, Reason::NotBuilt),
-        scripts: &[
             "screen 16 4 1\ntask a\nopen w smart front 0 0 9 14 hook 2 ask r \"t\"\n", // a window's, the last of three
         ],
     },

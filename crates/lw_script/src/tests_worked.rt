@@ -50,17 +50,17 @@ end
 ";
 
 #[test]
-fn a_script_of_all_calls_waits_for_its_first_window(rt: HostRuntime) -> Result<(), Fail> {
-    // The window of line 8 names hook 4, and isn't built so far.
+fn a_script_of_all_calls_wants_its_hooks_and_an_order(rt: HostRuntime) -> Result<(), Fail> {
+    // The window of line 8 names hook 4, line 17 begins a second task, and behind line 44 an order is due.
     let table = [
-        (6, Reason::NotBuilt),
-        (5, Reason::NotBuilt),
-        (4, Reason::NoHook),
-        (0, Reason::NoHook),
+        (6, Form::Plain, (17, Reason::OneTaskOnly)),
+        (5, Form::Ordered, (45, Reason::Missing)),
+        (4, Form::Ordered, (8, Reason::NoHook)),
+        (0, Form::Plain, (8, Reason::NoHook)),
     ];
-    for (hooks, reason) in table {
-        let answer = refusal_of(rt.alloc(), THREE_TASKS.as_bytes(), hooks, Form::Plain)?;
-        assert_eq!(rt; answer, Some((8, reason)));
+    for (hooks, form, due) in table {
+        let answer = refusal_of(rt.alloc(), THREE_TASKS.as_bytes(), hooks, form)?;
+        assert_eq!(rt; answer, Some(due));
     }
     Ok(())
 }

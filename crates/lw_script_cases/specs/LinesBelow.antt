@@ -1,4 +1,4 @@
--- Lines below other lines, whose calls may not be built yet: what stands above them is taken as it is, good or not.
+-- Lines below other lines: what stands above them is taken as it is, good or not.
 use Rattle.std.specs.Prelude.{ℕ, List, [], ◌∷◌, ◌++◌, Option, Some, None, Result, Ok, Err, codes}
 use Rattle.std.specs.List.{flat_map, range_with_len}
 use Rattle.std.specs.Fmt.{decimal}

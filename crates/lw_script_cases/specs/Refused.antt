@@ -396,24 +396,6 @@ bad_padding =
     at_line 5 (screened ++ script (codes "bitmap b 1 1 1//# note/0100/")) ∷
     at_line 5 (screened ++ script (codes "bitmap a 16 1 1/ffff/bitmap b 9 1 1/ff40/")) ∷ []
 
--- calls that can't be made so far
-abbrev pub unbuilt : List Refused
-unbuilt =
-    at_line 3 (in_task_a ++ script (codes "open w smart front 0 0 9 14 't'/")) ∷
-    at_line 3 (in_task_a ++ script (codes "open w super behind 0 0 9 14 20 20 backdrop ask rncai ''/")) ∷
-    at_line 3 (in_task_a ++ script (codes "activate w/")) ∷
-    at_line 3 (in_task_a ++ script (codes "title w 't'/")) ∷
-    at_line 3 (in_task_a ++ script (codes "getmsg w/")) ∷
-    at_line 4 (in_task_a ++ script (codes "hold/open w simple front 0 0 9 14 borderless nocare 't'/")) ∷
-    at_line 4 (in_task_a ++ script (codes "lock w/title w 't'/")) ∷
-    at_line 5 (in_task_a ++ script (codes "hold/front w/activate w/")) ∷
-    at_line 5 (in_task_a ++ script (codes "lock w/scrollraster w 1 1 0 0 7 3/getmsg w/")) ∷
-    at_line 4 (in_task_a ++ script (codes "refresh w/getmsg w/")) ∷
-    at_line 5 (in_task_a ++ script (codes "refresh w/endrefresh w full/activate w/")) ∷
-    at_line 5 (in_task_a ++ script (codes "scrollraster w 1 1 0 0 7 3/blit w 0 0 v 0 0 1 1 c0/title w 't'/")) ∷
-    at_line 6 (screened ++ script (codes "bitmap b 16 1 1/0000/task a/put b 0 0 w 0 0 1 1 c0/activate w/")) ∷
-    at_line 10 (created ++ script (codes "close w/behind w/move w 1 1/size w 1 1/box w 0 0 1 1/which 0 0/activate w/")) ∷ []
-
 -- an end before the script's
 abbrev pub unfinished : List Refused
 unfinished =
@@ -430,12 +412,20 @@ unfinished =
     at_line 4 (screened ++ script (codes "bitmap b 16 1 1/face/")) ∷
     at_line 4 (in_task_a ++ script (codes "fill w 0 0 1 1/")) ∷
     at_line 4 (in_task_a ++ script (codes "lock w/")) ∷
+    at_line 4 (in_task_a ++ script (codes "open w super behind 0 0 9 14 20 20 backdrop ask rncai ''/")) ∷
     at_line 4 (screened ++ script (codes "glyph 20 ffffffffffffffff/glyph 7e ffffffffffffffff/")) ∷
     at_line 5 (screened ++ script (codes "bitmap b 16 1 2/0000/# note")) ∷
     at_line 5 (in_task_a ++ script (codes "lock w/fill w 0 0 1 1")) ∷
     at_line 5 (in_task_a ++ script (codes "hold/create w smart front 0 0 7 3/")) ∷
+    at_line 5 (in_task_a ++ script (codes "hold/open w simple front 0 0 9 14 borderless nocare 't'/")) ∷
+    at_line 5 (in_task_a ++ script (codes "lock w/title w 't'/")) ∷
+    at_line 5 (in_task_a ++ script (codes "refresh w/getmsg w/")) ∷
     at_line 6 (screened ++ script (codes "bitmap b 16 1 1/0000/bitmap B 16 1 1/0000/")) ∷
     at_line 6 (in_task_a ++ script (codes "//# note")) ∷
+    at_line 6 (in_task_a ++ script (codes "activate w/title w 't'/getmsg w/")) ∷
+    at_line 6 (in_task_a ++ script (codes "hold/front w/activate w/")) ∷
+    at_line 6 (in_task_a ++ script (codes "lock w/scrollraster w 1 1 0 0 7 3/getmsg w/")) ∷
+    at_line 6 (in_task_a ++ script (codes "refresh w/endrefresh w full/activate w/")) ∷
     at_line 6 (in_task_a ++ script (codes "fill w -32768 -32768 32767 32767/orrect 7 -32768 -32768 32767 32767/create w smart front -32768 -32768 32767 32767/")) ∷
     at_line 6 (in_task_a ++ script (codes "fill w 5 5 5 5/orrect 0 5 5 5 5/create w smart front 5 5 5 5/")) ∷
     at_line 7 (in_task_a ++ script (codes "orregion 7 7/clearregion 7/clip w 7/xorregion 0 7/")) ∷ []

@@ -276,7 +276,7 @@ abbrev pub hook_before_backdrop : List ℕ
 hook_before_backdrop = in_task_a ++ script (codes "create w smart front 0 0 7 3 hook 1 backdrop")
 
 abbrev pub open_with_all : List ℕ
-open_with_all = in_task_a ++ script (codes "open w smart front 0 0 20 20 backdrop borderless nocare hook 1 ask rnc 't'")
+open_with_all = in_task_a ++ script (codes "open w smart front 0 0 20 20 backdrop borderless nocare hook 1 ask rnc 't'/end/")
 
 abbrev pub open_out_of_order : List ℕ
 open_out_of_order = in_task_a ++ script (codes "open w smart front 0 0 20 20 nocare borderless 't'")
@@ -291,7 +291,7 @@ abbrev pub super_borderless : List ℕ
 super_borderless = in_task_a ++ script (codes "open w super front 0 0 20 20 8 8 borderless 't'")
 
 abbrev pub super_with_set : List ℕ
-super_with_set = in_task_a ++ script (codes "open w super front 0 0 20 20 8 8 backdrop ask i 't'")
+super_with_set = in_task_a ++ script (codes "open w super front 0 0 20 20 8 8 backdrop ask i 't'/end/")
 
 abbrev pub open_of_no_columns : List ℕ
 open_of_no_columns = in_task_a ++ script (codes "open w smart front 0 0 0 20 't'")

@@ -1,8 +1,8 @@
-//! First reasons of lines that stand in an update, or below calls that aren't built yet, which no whole script reaches so far.
+//! First reasons of lines below others: below hooks that are named, in an update, and below many super-bitmap layers.
 #![tactic(auto, unfolding(crate::proofs::Computing::reading))]
 
 ghost use Rattle.std.specs.Prelude.{◌≡◌, ◌++◌, None, Some, codes};
-ghost use Rattle.lw_calls.specs.declared.reason.Reason.TheVariants.{Group, TooMany, NoHook, HookUsed, NotBuilt};
+ghost use Rattle.lw_calls.specs.declared.reason.Reason.TheVariants.{Group, TooMany, NoHook, HookUsed};
 ghost use Rattle.lw_script_cases.specs.WholeScripts.{alone, with_order, script};
 ghost use Rattle.lw_script_cases.specs.LinesBelow.{reason_below, created_with_hook, opened_with_hook, hook_of_another_task, greatest_hook, updating, supers};
 
@@ -43,7 +43,7 @@ pub fn updates_have_their_calls()
 
 /// A script asks for at most 16 super-bitmap layers, created or opened.
 pub fn supers_are_counted()
-    ensures sixteenth { reason_below (alone 0) (supers 7 ++ script (codes "create a super front 0 0 7 3 8 4/")) (codes "open b super front 0 0 8 4 8 4 ''") ≡ Some NotBuilt }
+    ensures sixteenth { reason_below (alone 0) (supers 7 ++ script (codes "create a super front 0 0 7 3 8 4/")) (codes "open b super front 0 0 8 4 8 4 ''") ≡ None }
     ensures created { reason_below (alone 0) (supers 8) (codes "create a super front 0 0 7 3 8 4") ≡ Some TooMany }
     ensures opened { reason_below (alone 0) (supers 8) (codes "open a super front 0 0 8 4 8 4 ''") ≡ Some TooMany }
     ensures again { reason_below (alone 0) (supers 8) (codes "create s0 super front 0 0 7 3 8 4") ≡ Some TooMany }

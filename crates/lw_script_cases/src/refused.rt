@@ -1,7 +1,7 @@
 //! Refused scripts in tables, by their first reasons.
 
-ghost use Rattle.lw_calls.specs.declared.reason.Reason.TheVariants.{BadByte, Spacing, Quote, UnknownWord, Misplaced, OneTaskOnly, Form as FormReason, Range, NoName, DoubleName, Group, NoHook, Padding, NotBuilt, Missing};
-ghost use Rattle.lw_script_cases.specs.Refused.{AreRefused, bad_bytes, bad_spacing, bad_quotes, unknown_words, misplaced, second_tasks, bad_forms, out_of_range, no_names, double_names, bad_groups, no_hooks, bad_padding, unbuilt, unfinished};
+ghost use Rattle.lw_calls.specs.declared.reason.Reason.TheVariants.{BadByte, Spacing, Quote, UnknownWord, Misplaced, OneTaskOnly, Form as FormReason, Range, NoName, DoubleName, Group, NoHook, Padding, Missing};
+ghost use Rattle.lw_script_cases.specs.Refused.{AreRefused, bad_bytes, bad_spacing, bad_quotes, unknown_words, misplaced, second_tasks, bad_forms, out_of_range, no_names, double_names, bad_groups, no_hooks, bad_padding, unfinished};
 
 /// Refused for a byte that stands in no line.
 pub fn bytes_are_printable()
@@ -66,11 +66,6 @@ pub fn hooks_are_handed_in()
 /// Refused for a padding bit of a row that is 1.
 pub fn padding_is_zero()
     ensures { AreRefused Padding bad_padding }
-{}
-
-/// Refused for calls that can't be made so far.
-pub fn calls_can_be_made()
-    ensures { AreRefused NotBuilt unbuilt }
 {}
 
 /// Refused for an end before the script's.

@@ -1,10 +1,9 @@
-ghost use Rattle.std.specs.Prelude.{◌≡◌, ℕ, ◌<◌, ◌++◌, [], List, length, map, replicate, true, All, IsTrue, IfOk, OnOk, Some};
+ghost use Rattle.std.specs.Prelude.{◌≡◌, ℕ, ◌<◌, ◌++◌, [], List, length, map, replicate, true, IsTrue, IfOk, OnOk, Some};
 ghost use Rattle.std.specs.List.{slice_index_or, slice_get};
 ghost use Rattle.lw_calls.specs.declared.entry.Entry.{Entry};
 ghost use Rattle.lw_calls.specs.declared.reply.Reply.{Reply as AnyReply};
 ghost use Rattle.lw_calls.specs.Limits.{call_fits};
 ghost use Rattle.lw_calls.specs.Plan.{IsPlan, task_calls};
-ghost use Rattle.lw_calls.specs.Built.{is_built};
 ghost use Rattle.lw_calls.specs.Orders.{is_legal, keeps_groups};
 ghost use Rattle.lw_calls.specs.Entries.{entries};
 ghost use Rattle.lw_machine.specs.Finals.{run_final};
@@ -16,9 +15,8 @@ use lw_calls::{Call, Final, OrderList, Plan, Replies};
 use lw_engine::Desk;
 use std::alloc::{AllocError, Global};
 
-/// The final state of the machine's run of a plan in a legal order, several tasks included, where each call may be made so far
-/// and these hooks lie on the shelf: each number makes its task's next call on the desk. It takes no lock and returns (this
-/// project's own).
+/// The final state of the machine's run of a plan in a legal order, several tasks included, where these hooks lie on the shelf:
+/// each number makes its task's next call on the desk. It takes no lock and returns (this project's own).
 pub fn replay<B: Backfill>(
     alloc: Global,
     plan: &Plan,
@@ -26,7 +24,6 @@ pub fn replay<B: Backfill>(
     order: &OrderList,
 ) -> Result<Final, AllocError>
     requires legal { is_legal plan.now order.now ≡ true }
-    requires built { All (λ calls. All (λ call. IsTrue (is_built call)) calls) plan.now.calls }
     ensures { IfOk result (λ last. last ≡ run_final plan.now (map B.hook hooks.items) order.now) }
 {
     let mut run = Run::new(alloc, plan, hooks)?;
@@ -58,7 +55,6 @@ impl<B: Backfill> Run<B> {
     fn make_all(&mut self, alloc: Global, plan: &Plan, tasks: &[u32]) -> Result<(), AllocError>
         requires plan { IsPlan plan.now }
         requires legal { keeps_groups plan.now [] tasks.now ≡ true }
-        requires built { All (λ calls. All (λ call. IsTrue (is_built call)) calls) plan.now.calls }
         requires opened { (hooks : List Hook) × HasRun plan.now hooks [] self.old.desk self.old.told.items }
         ensures { OnOk result ((hooks : List Hook) → HasRun plan.now hooks [] self.old.desk self.old.told.items
             → HasRun plan.now hooks (entries plan.now [] tasks.now) self.new.desk self.new.told.items) }
@@ -76,7 +72,6 @@ impl<B: Backfill> Run<B> {
         requires sizes { self.old.desk.stack.sizes ≡ plan.now.sizes }
         requires lists { length self.old.told.items ≡ plan.now.sizes.tasks }
         requires left { length (slice_index_or self.old.told.items task []) < length (task_calls plan.now task) }
-        requires built { All (λ calls. All (λ call. IsTrue (is_built call)) calls) plan.now.calls }
         ensures { OnOk result ((hooks : List Hook) (past : List Entry)
             → HasRun plan.now hooks past self.old.desk self.old.told.items
             → HasRun plan.now hooks (past ++ next_of plan.now past task) self.new.desk self.new.told.items) }
@@ -93,10 +88,8 @@ fn call_of(plan: &Plan, task: u32, made: usize) -> &Call
     requires plan { IsPlan plan.now }
     requires task { task < plan.now.sizes.tasks }
     requires left { made < length (task_calls plan.now task) }
-    requires built { All (λ calls. All (λ call. IsTrue (is_built call)) calls) plan.now.calls }
     ensures call { slice_get (task_calls plan.now task) made ≡ Some result.now }
     ensures fits { IsTrue (call_fits plan.now.sizes result.now) }
-    ensures built { IsTrue (is_built result.now) }
 {
     &plan.calls(task)[made]
 }

@@ -1,7 +1,6 @@
 ghost use Rattle.std.specs.Prelude.{◌≡◌, [], ◌∷◌, true, All, IsTrue, IfOk, length};
 ghost use Rattle.lw_calls.specs.Limits.{call_fits};
 ghost use Rattle.lw_calls.specs.Orders.{is_legal};
-ghost use Rattle.lw_calls.specs.Built.{is_built};
 
 use crate::replay;
 use lw_backfill::{Backfill, Solid};
@@ -33,7 +32,6 @@ fn calls_of_task(
 ) -> Result<Vec<Call>, Fail>
     ensures two { IfOk result (λ calls. length calls.items ≡ 2) }
     ensures fit { IfOk result (λ calls. All (λ call. IsTrue (call_fits SIZES call)) calls.items) }
-    ensures built { IfOk result (λ calls. All (λ call. IsTrue (is_built call)) calls.items) }
 {
     let make = Make {
         kind: Kind::Smart,
@@ -93,7 +91,6 @@ fn fills_both<B: Backfill>(
     row: &[u8],
 ) -> Result<(), Fail>
     requires legal { is_legal plan.now numbers.now ≡ true }
-    requires built { All (λ calls. All (λ call. IsTrue (is_built call)) calls) plan.now.calls }
 {
     let order = OrderList::new(Vec::from_slice(rt.alloc(), numbers)?);
     let last = replay(rt.alloc(), plan, hooks, &order)?;

@@ -24,6 +24,8 @@ mod tests_layers;
 mod tests_refusals;
 #[cfg(test)]
 mod tests_updates;
+#[cfg(test)]
+mod tests_windows;
 mod words;
 
 pub use command::layers;

@@ -1,5 +1,4 @@
-ghost use Rattle.std.specs.Prelude.{◌≡◌, ℕ, ◌<◌, ◌≤◌, List, length, map, vec_len, All, IsTrue, IfOk};
-ghost use Rattle.lw_calls.specs.Built.{is_built};
+ghost use Rattle.std.specs.Prelude.{◌≡◌, ℕ, ◌<◌, ◌≤◌, List, length, map, vec_len, IfOk};
 ghost use Rattle.lw_machine.specs.Hook.{Hook};
 ghost use Rattle.lw_grammar.specs.Script.{IsRunnableInput};
 ghost use Rattle.lw_script.specs.Answers.{input_meaning, reading_with};
@@ -99,7 +98,6 @@ fn outcome_in_order<B: Backfill>(
     script: &Input,
     hooks: Vec<B>,
 ) -> Result<Outcome, AllocError>
-    requires built { All (λ calls. All (λ call. IsTrue (is_built call)) calls) script.now.plan.calls }
     requires few { length script.now.order < 4294967296 }
     ensures { IfOk result (λ outcome. IsOutcomeFor (map B.hook hooks.items) Command.Replay (input_meaning script.now)
         outcome.status outcome.text.items) }
@@ -160,7 +158,6 @@ fn reason_word(reason: Reason) -> &'static str
         Reason::NoHook => "no-hook",
         Reason::HookUsed => "hook-used",
         Reason::Padding => "padding",
-        Reason::NotBuilt => "not-built",
         Reason::Missing => "missing",
     }
 }

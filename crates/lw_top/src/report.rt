@@ -1,5 +1,4 @@
-ghost use Rattle.std.specs.Prelude.{◌≡◌, map, true, All, IsTrue, IfOk};
-ghost use Rattle.lw_calls.specs.Built.{is_built};
+ghost use Rattle.std.specs.Prelude.{◌≡◌, map, true, IfOk};
 ghost use Rattle.lw_calls.specs.Entries.{only_order};
 ghost use Rattle.lw_calls.specs.Orders.{is_legal};
 ghost use Rattle.lw_machine.specs.Report.{run_report};
@@ -17,7 +16,6 @@ pub fn report_of_one<B: Backfill>(
     hooks: Vec<B>,
 ) -> Result<Vec<u8>, AllocError>
     requires one_task { plan.now.sizes.tasks ≡ 1 }
-    requires built { All (λ calls. All (λ call. IsTrue (is_built call)) calls) plan.now.calls }
     ensures { IfOk result (λ text. text.items ≡ run_report plan.now (map B.hook hooks.items) (only_order plan.now)) }
 {
     // What these two calls ensure tells the proof that the order is legal.
@@ -35,7 +33,6 @@ pub fn report_of<B: Backfill>(
     order: &OrderList,
 ) -> Result<Vec<u8>, AllocError>
     requires legal { is_legal plan.now order.now ≡ true }
-    requires built { All (λ calls. All (λ call. IsTrue (is_built call)) calls) plan.now.calls }
     ensures { IfOk result (λ text. text.items ≡ run_report plan.now (map B.hook hooks.items) order.now) }
 {
     let last = replay(alloc, plan, hooks, order)?;

@@ -144,7 +144,7 @@ pub fn answer_with(
     let mut input = Vec::from_slice(alloc, script)?;
     input.extend_from_slice(after)?;
     let mut source = source_of(alloc, input.as_slice(), 65_536, &[])?;
-    let mut sink = sink_of(alloc, 4096, 4096, &[])?;
+    let mut sink = sink_of(alloc, 131_072, 4096, &[])?;
     let status = layers(alloc, words.as_slice(), &mut source, &mut sink, hooks);
     let text = Vec::from_slice(alloc, sink.bytes())?;
     Ok((status, text))

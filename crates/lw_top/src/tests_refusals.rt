@@ -4,7 +4,7 @@ use std::alloc::{AllocError, Global};
 use std::test::Fail;
 
 // Scripts for the reasons that no stated refusal has and no count. No hook is handed in here, so none can be used twice.
-static REASONS: [(&str, &str); 6] = [
+static REASONS: [(&str, &str); 5] = [
     ("\r\nscreen 16 4 1\n", "1 bad-byte"),
     ("screen 16 4 1\ntask a\nend\ntask 9a\n", "4 one-task-only"),
     (
@@ -12,7 +12,6 @@ static REASONS: [(&str, &str); 6] = [
         "4 double-name",
     ),
     ("screen 16 4 1\nbitmap b 15 2 1\nfffe\nffff\n", "4 padding"),
-    ("screen 16 4 1\ntask a\nactivate w\n", "3 not-built"),
     // An empty line says nothing, and counts as a line.
     ("\n", "2 missing"),
 ];

@@ -1,0 +1,609 @@
+use crate::Status;
+use crate::tests::answer_with_six;
+use std::test::Fail;
+
+// Commands, scripts with windows, and their reports.
+static WINDOWED: [(&str, &[u8], &[u8]); 12] = [
+    // A simple window gains a pixel that was covered: it is damaged, and the window is asked to refresh.
+    (
+        "run",
+        b"screen 16 4 1
+task a
+open b simple front 0 0 4 4 borderless ask r \"\"
+create f smart front 3 3 6 3
+front b
+end
+",
+        b"order 3
+0 0 0
+planes 16 4 1
+plane 0
+0000
+0000
+0000
+0000
+visible b 1
+0 0 3 3
+visible f 1
+4 3 6 3
+damage b 1
+3 3 3 3
+damage f 0
+messages b 1
+refresh
+replies a 3
+ok
+ok
+ok
+done
+",
+    ),
+    // Covered again the pixel has no damage, and the message is still there.
+    (
+        "run",
+        b"screen 16 4 1
+task a
+open b simple front 0 0 4 4 borderless ask r \"\"
+create f smart front 3 3 6 3
+front b
+front f
+end
+",
+        b"order 4
+0 0 0 0
+planes 16 4 1
+plane 0
+0000
+0000
+0000
+0000
+visible b 2
+0 0 3 2
+0 3 2 3
+visible f 1
+3 3 6 3
+damage b 0
+damage f 0
+messages b 1
+refresh
+replies a 4
+ok
+ok
+ok
+ok
+done
+",
+    ),
+    // Gained once more it is damaged, but the window was asked and hasn't refreshed: no second message.
+    (
+        "run",
+        b"screen 16 4 1
+task a
+open b simple front 0 0 4 4 borderless ask r \"\"
+create f smart front 3 3 6 3
+front b
+front f
+front b
+end
+",
+        b"order 5
+0 0 0 0 0
+planes 16 4 1
+plane 0
+0000
+0000
+0000
+0000
+visible b 1
+0 0 3 3
+visible f 1
+4 3 6 3
+damage b 1
+3 3 3 3
+damage f 0
+messages b 1
+refresh
+replies a 5
+ok
+ok
+ok
+ok
+ok
+done
+",
+    ),
+    // The frame of an active window has pen 1, and its title pen 0: the one column between the borders, in rows 2 to 9. Its inner
+    // rectangle is the pixel at column 4 and row 11.
+    (
+        "run",
+        b"screen 16 16 1
+glyph 42 ffffffffffffffff
+task a
+open w smart front 0 0 9 14 ask a \"B\"
+activate w
+end
+",
+        b"order 2
+0 0
+planes 16 16 1
+plane 0
+ff80
+ff80
+f780
+f780
+f780
+f780
+f780
+f780
+f780
+f780
+ff80
+f780
+ff80
+ff80
+0000
+0000
+visible w 1
+0 0 8 13
+damage w 0
+messages w 1
+active
+replies a 2
+ok
+ok
+done
+",
+    ),
+    // A window that isn't active has a frame of pen 2, of which one plane shows nothing. Sized it has one more pixel in its inner
+    // rectangle, where the frame was: it is damaged. Nine columns less leave no room for the frame.
+    (
+        "run",
+        b"screen 16 16 1
+task a
+open w smart front 0 0 9 14 \"\"
+size w 1 0
+size w -9 0
+end
+",
+        b"order 3
+0 0 0
+planes 16 16 1
+plane 0
+0000
+0000
+0000
+0000
+0000
+0000
+0000
+0000
+0000
+0000
+0000
+0000
+0000
+0000
+0000
+0000
+visible w 1
+0 0 9 13
+damage w 1
+5 11 5 11
+messages w 0
+replies a 3
+ok
+ok
+out-of-bounds
+done
+",
+    ),
+    // Another size and place are told in this order, and then the damage of the column that is new. The move changes nothing, so
+    // nothing is told. The oldest message is taken.
+    (
+        "run",
+        b"screen 16 1 1
+task a
+open w smart front 0 0 4 1 borderless ask rnc \"\"
+box w 2 0 5 1
+move w 0 0
+getmsg w
+end
+",
+        b"order 4
+0 0 0 0
+planes 16 1 1
+plane 0
+0000
+visible w 1
+2 0 6 0
+damage w 1
+4 0 4 0
+messages w 2
+change
+refresh
+replies a 4
+ok
+ok
+ok
+message newsize
+done
+",
+    ),
+    // The hook fills all with pen 1, and the frame of pen 2 is painted over it. Sized, the hook fills the new column and the pixel of
+    // the old frame that lies in the inner rectangle now, which is damaged; then the whole frame is painted.
+    (
+        "run",
+        b"screen 16 16 2
+task a
+open w smart front 0 0 9 14 hook 0 \"\"
+size w 1 0
+end
+",
+        b"order 2
+0 0
+planes 16 16 2
+plane 0
+0000
+0000
+0000
+0000
+0000
+0000
+0000
+0000
+0000
+0000
+0000
+0c00
+0000
+0000
+0000
+0000
+plane 1
+ffc0
+ffc0
+ffc0
+ffc0
+ffc0
+ffc0
+ffc0
+ffc0
+ffc0
+ffc0
+ffc0
+f3c0
+ffc0
+ffc0
+0000
+0000
+visible w 1
+0 0 9 13
+damage w 1
+5 11 5 11
+messages w 0
+replies a 2
+ok
+ok
+done
+",
+    ),
+    // One window is active at most. The second activation tells both windows; the third changes nothing. The closed window's port is
+    // gone, and then none is active: not the new one, until the first is again.
+    (
+        "run",
+        b"screen 16 2 1
+task a
+open u simple front 0 0 2 1 borderless ask ai \"\"
+open v simple front 4 0 2 1 borderless ask ai \"\"
+activate u
+activate v
+activate v
+close v
+open w simple front 8 0 2 1 borderless ask ai \"\"
+activate u
+end
+",
+        b"order 8
+0 0 0 0 0 0 0 0
+planes 16 2 1
+plane 0
+0000
+0000
+visible u 1
+0 0 1 0
+visible w 1
+8 0 9 0
+damage u 0
+damage w 0
+messages u 3
+active
+inactive
+active
+messages w 0
+replies a 8
+ok
+ok
+ok
+ok
+ok
+ok
+ok
+ok
+done
+",
+    ),
+    // What another task opened it can't refresh, name, ask for messages or close, but move. A layer that was created is no window.
+    (
+        "replay",
+        b"screen 16 1 1
+task a
+open w smart front 0 0 4 1 borderless ask r \"\"
+end
+task b
+create l smart front 8 0 11 0
+refresh w
+endrefresh w full
+title w \"x\"
+getmsg w
+close w
+title l \"x\"
+getmsg l
+title n \"\"
+move w 1 0
+end
+order
+0 1 1 1 1 1 1 1 1 1 1
+",
+        b"order 11
+0 1 1 1 1 1 1 1 1 1 1
+planes 16 1 1
+plane 0
+0000
+visible w 1
+1 0 4 0
+visible l 1
+8 0 11 0
+damage w 0
+damage l 0
+messages w 0
+replies a 1
+ok
+replies b 10
+ok
+not-owner
+not-owner
+not-owner
+not-owner
+not-owner
+not-window
+not-window
+not-open
+ok
+done
+",
+    ),
+    // A title is painted with the whole frame, which SetRast had overwritten; the pixel of the inner rectangle keeps pen 1. A window
+    // without a frame shows no title.
+    (
+        "run",
+        b"screen 16 16 1
+glyph 42 ffffffffffffffff
+task a
+open w smart front 0 0 9 14 \"\"
+open v smart front 10 0 4 1 borderless \"\"
+setrast w 1
+setrast v 1
+title w \"B\"
+title v \"B\"
+end
+",
+        b"order 6
+0 0 0 0 0 0
+planes 16 16 1
+plane 0
+003c
+0000
+0800
+0800
+0800
+0800
+0800
+0800
+0800
+0800
+0000
+0800
+0000
+0000
+0000
+0000
+visible w 1
+0 0 8 13
+visible v 1
+10 0 13 0
+damage w 0
+damage v 0
+messages w 0
+messages v 0
+replies a 6
+ok
+ok
+ok
+ok
+ok
+ok
+done
+",
+    ),
+    // A partial end of an update leaves the window asked; after a full one it is asked again once there is damage.
+    (
+        "run",
+        b"screen 16 1 1
+task a
+open w smart front 0 0 4 1 borderless ask r \"\"
+size w 1 0
+refresh w
+endrefresh w part
+move w 0 0
+refresh w
+endrefresh w full
+move w 0 0
+size w 1 0
+end
+",
+        b"order 9
+0 0 0 0 0 0 0 0 0
+planes 16 1 1
+plane 0
+0000
+visible w 1
+0 0 5 0
+damage w 1
+5 0 5 0
+messages w 2
+refresh
+refresh
+replies a 9
+ok
+ok
+ok
+ok
+ok
+ok
+ok
+ok
+ok
+done
+",
+    ),
+    // A window that doesn't care is never asked to refresh.
+    (
+        "run",
+        b"screen 16 1 1
+task a
+open w simple front 0 0 4 1 borderless nocare ask r \"\"
+create c smart front 0 0 1 0
+close c
+end
+",
+        b"order 3
+0 0 0
+planes 16 1 1
+plane 0
+0000
+visible w 1
+0 0 3 0
+damage w 1
+0 0 1 0
+messages w 0
+replies a 3
+ok
+ok
+ok
+done
+",
+    ),
+];
+
+#[test]
+fn windows_are_reported(rt: HostRuntime) -> Result<(), Fail> {
+    for (command, script, report) in WINDOWED.iter() {
+        let (status, text) = answer_with_six(rt.alloc(), command, script, b"")?;
+        assert_eq!(rt; text.as_slice(), *report);
+        assert_eq!(rt; status, Status::Done);
+    }
+    Ok(())
+}
+
+// Three tasks with windows, which draw in them, scroll, blit and arrange them.
+const REALISTIC: &[u8] = b"screen 640 256 2
+glyph 41 183c66667e666600
+glyph 42 7c66667c66667c00
+bitmap dot 8 2 1
+ff00
+8100
+task clock
+open clk simple front 10 10 120 60 hook 4 ask rnc \"A\"
+open log smart behind 100 40 200 100 ask r \"B\"
+fill clk 8 16 60 40
+refresh clk
+apen clk 2
+fill clk 4 11 115 57
+endrefresh clk full
+getmsg clk
+end
+task edit
+open ed smart front 60 30 300 120 ask rnca \"AB\"
+lock ed
+apen ed 3
+at ed 10 30
+text ed \"AB BA\"
+draw ed 200 90
+unlock ed
+activate ed
+move ed 20 10
+size ed 40 20
+getmsg ed
+end
+task paint
+open pal simple front 300 100 200 90 nocare \"B\"
+open can super behind 20 150 100 80 256 256 ask c \"canvas\"
+put dot 0 0 can 4 4 8 2 c0
+scroll can 16 16
+orrect 0 10 20 100 60
+clip pal 0
+setrast pal 1
+blit pal 10 20 pal 12 22 40 20 60
+hold
+front pal
+infront can pal
+release
+which 320 120
+end
+order
+";
+
+// One task after another: clk has no damage as its task ends, so no message; ed is told first that it became active; and the pixel
+// that is looked at lies in pal.
+const REALISTIC_REPLIES: &[u8] = b"replies clock 8
+ok
+ok
+ok
+ok
+ok
+ok
+ok
+none
+replies edit 9
+ok
+ok
+ok
+ok
+ok
+ok
+ok
+ok
+message active
+replies paint 11
+ok
+ok
+ok
+ok
+ok
+none
+ok
+ok
+ok
+ok
+layer pal
+done
+";
+
+#[test]
+fn windows_of_three_tasks_are_reported(rt: HostRuntime) -> Result<(), Fail> {
+    let order = b"0 0 0 0 0 0 0 0 1 1 1 1 1 1 1 1 1 2 2 2 2 2 2 2 2 2 2 2\n";
+    let (status, text) = answer_with_six(rt.alloc(), "replay", REALISTIC, order)?;
+    assert_eq!(rt; status, Status::Done);
+    assert!(rt; text.as_slice().ends_with(REALISTIC_REPLIES));
+    Ok(())
+}
