@@ -17,8 +17,6 @@ mod tested;
 mod tests;
 #[cfg(test)]
 mod tests_refused;
-#[cfg(test)]
-mod tests_worked;
 
 pub use input::{Input, ScriptStop};
 pub use script::read;

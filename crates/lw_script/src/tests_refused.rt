@@ -415,7 +415,7 @@ fn script_with(alloc: Global, many: Many, count: u32, behind: &str) -> Result<Ve
 }
 
 // The line and the reason for which a script is refused, or nothing where it is read.
-pub(crate) fn refusal_of(
+fn refusal_of(
     alloc: Global,
     script: &[u8],
     hooks: u32,

@@ -14,7 +14,7 @@ use Rattle.lw_top.specs.declared.status.Status.TheVariants.{Done, Refused, Usage
 use Rattle.lw_top.specs.declared.words.Command.{Command}
 use Rattle.lw_top.specs.declared.words.Command.TheVariants.{Run, Check, Replay}
 use Rattle.lw_top.specs.Commands.{reads_with, IsTextFor}
-use Rattle.lw_top.specs.Laws.{IsTextOf, IsBadOrderOf, IsDue, IsUnlessStopped, is_stop, IsInput, Told, ToldOfWords}
+use Rattle.lw_top.specs.Laws.{IsTextOf, IsBadOrderOf, IsDue, IsUnlessStopped, is_stop, IsInput, AnswerTells, ToldOfWords}
 use Rattle.lw_top.specs.Outcome.{IsOutcome, IsTaken, Served, Answered}
 use Rattle.lw_top.specs.Status.{Says, text_of, input_limit}
 use Rattle.lw_top.proofs.Outcomes.{one_outcome}
@@ -122,7 +122,7 @@ each_told P Q f None h = tt
 each_told P Q f (Some input) h = f input h
 
 -- All that each answer tells follows.
-told : (hooks : List Hook) (command : Command) (r : Status) (left rest : Option (List ℕ)) (s t : ℕ) (before after : Option (List ℕ)) (f g : ℕ) → Answered hooks command r left rest s t before after f g → ((r ≡ ReadFault) ⊎ (r ≡ NoMemory) → after ≡ before) → Told hooks command r left rest s t before after f g
+told : (hooks : List Hook) (command : Command) (r : Status) (left rest : Option (List ℕ)) (s t : ℕ) (before after : Option (List ℕ)) (f g : ℕ) → Answered hooks command r left rest s t before after f g → ((r ≡ ReadFault) ⊎ (r ≡ NoMemory) → after ≡ before) → AnswerTells hooks command r left rest s t before after f g
 told hooks command r left rest s t before after f g h unwritten =
     record {
       done = λ e. let k = was Done refl e in (k.0, whole_input k.0 left rest k.1 k.3.0, k.2, (k.3.1, k.3.2, k.3.3), k.4);

@@ -54,7 +54,7 @@ pub record IsInput (input : List ℕ) (left rest : Option (List ℕ)) : Type 0 w
   pub within : length input ≤ input_limit
 
 -- What each answer to a command tells of what was taken, and of what the source had left where it tells that.
-pub record Told (hooks : List Hook) (command : Command) (result : Status) (left rest : Option (List ℕ)) (s t : ℕ) (before after : Option (List ℕ)) (f g : ℕ) : Type 0 where
+pub record AnswerTells (hooks : List Hook) (command : Command) (result : Status) (left rest : Option (List ℕ)) (s t : ℕ) (before after : Option (List ℕ)) (f g : ℕ) : Type 0 where
   -- what was written with Done, and why each other answer came
   pub done : result ≡ Done → (input : List ℕ) × IsInput input left rest × (text : List ℕ) × IsTextOf hooks command input text × (after ≡ bytes_after before text)
   pub done_of_left : result ≡ Done → IfSome left (λ input. (text : List ℕ) × IsTextOf hooks command input text × (after ≡ bytes_after before text))
@@ -78,7 +78,7 @@ pub record Told (hooks : List Hook) (command : Command) (result : Status) (left 
 
 -- What an answer to the words of a command line tells, which are this command, if they are one.
 pub record ToldOfWords (hooks : List Hook) (asked : Option Command) (result : Status) (left rest : Option (List ℕ)) (s t : ℕ) (before after : Option (List ℕ)) (f g : ℕ) : Type 0 where
-  pub told : IfSome asked (λ command. Told hooks command result left rest s t before after f g)
+  pub told : IfSome asked (λ command. AnswerTells hooks command result left rest s t before after f g)
   pub usage : result ≡ Usage → asked ≡ None
   pub only_usage : asked ≡ None → (result ≡ Usage) ⊎ (result ≡ WriteFault)
   -- the text of each answer, whole

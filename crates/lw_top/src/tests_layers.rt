@@ -3,7 +3,7 @@ use crate::tests::answer_to;
 use std::test::Fail;
 
 // Scripts that create, arrange, scroll, look for and close layers, and their reports.
-static ARRANGED: [(&[u8], &[u8]); 9] = [
+static ARRANGED: [(&[u8], &[u8]); 8] = [
     // A simple layer moves, and is damaged where it shows what another layer hid.
     (
         b"screen 16 2 1
@@ -91,32 +91,6 @@ backdrop
 ok
 already-open
 not-open
-done
-",
-    ),
-    // A layer with a bitmap of 8 columns shows the last 4 of them, and can't go on.
-    (
-        b"screen 16 1 1
-task a
-create s super front 0 0 3 0 8 1
-fill s 5 0 6 0
-scroll s 4 0
-scroll s 1 0
-end
-",
-        b"order 4
-0 0 0 0
-planes 16 1 1
-plane 0
-6000
-visible s 1
-0 0 3 0
-damage s 0
-replies a 4
-ok
-ok
-ok
-out-of-bounds
 done
 ",
     ),

@@ -4,7 +4,7 @@ use std::alloc::{AllocError, Global};
 use std::test::Fail;
 
 // Scripts for the reasons that no stated refusal has and no count. No hook is handed in here, so none can be used twice.
-static REASONS: [(&str, &str); 5] = [
+static REASONS: [(&str, &str); 4] = [
     ("\r\nscreen 16 4 1\n", "1 bad-byte"),
     ("screen 16 4 1\ntask a\nend\ntask 9a\n", "4 one-task-only"),
     (
@@ -12,8 +12,6 @@ static REASONS: [(&str, &str); 5] = [
         "4 double-name",
     ),
     ("screen 16 4 1\nbitmap b 15 2 1\nfffe\nffff\n", "4 padding"),
-    // An empty line says nothing, and counts as a line.
-    ("\n", "2 missing"),
 ];
 
 // The stated refusals: what stands after a first line and the beginning of a task, or there alone.
@@ -49,10 +47,6 @@ type Pieces = (&'static str, &'static str);
 
 const BYTES: Pieces = ("", "a");
 
-const NOTES: Pieces = ("#", " ");
-
-const FEEDS: Pieces = ("screen 16 4 1\ntask a\n", "\n");
-
 const CALLS: Pieces = ("screen 16 4 1\ntask a\n", "clearregion 0\n");
 
 const BITMAPS: Pieces = ("screen 16 4 1\n", "bitmap b@ 1 1 1\n8000\n");
@@ -60,28 +54,21 @@ const BITMAPS: Pieces = ("screen 16 4 1\n", "bitmap b@ 1 1 1\n8000\n");
 const LAYERS: Pieces = ("screen 16 4 1\ntask a\n", "create n@ smart front 0 0 7 3\n");
 
 // Pieces, how many there are, what stands after them, and the first bad line with its reason.
-static COUNTED: [(Pieces, u32, &str, &str); 17] = [
-    // A line has 512 bytes at most, its line feed aside. Skipped lines may be longer, and are counted.
+static COUNTED: [(Pieces, u32, &str, &str); 10] = [
+    // A line has 512 bytes at most, its line feed aside.
     (BYTES, 513, "\n", "1 line-too-long"),
     (BYTES, 512, "\n", "1 unknown-word"),
     (BYTES, 512, "\r\n", "1 line-too-long"),
-    (NOTES, 600, "\nglow", "2 unknown-word"),
-    (FEEDS, 5000, "glow\n", "5003 unknown-word"),
     // 64 layer names, each of which is new on a line of its own.
     (LAYERS, 64, "lock x\n", "67 too-many"),
-    (LAYERS, 64, "lock n63\nfront n0\n", "68 group"),
     (LAYERS, 63, "infront x x\n", "67 missing"),
     (LAYERS, 63, "infront x y\n", "66 too-many"),
     // 16 bitmaps of one row.
     (BITMAPS, 16, "bitmap c 9 9 8\n", "34 too-many"),
-    (BITMAPS, 16, "bitmap b0 1 1 1\n", "34 double-name"),
     (BITMAPS, 15, "bitmap c 1 1 1\n", "33 missing"),
     // 4,096 calls of a task.
     (CALLS, 4096, "which 0 0\n", "4099 too-many"),
-    (CALLS, 4096, "lock w\napen w 1\n", "4100 too-many"),
-    (CALLS, 4096, "lock w\nwhich 0 0\n", "4100 group"),
     (CALLS, 4095, "which 0 0\n", "4099 missing"),
-    (CALLS, 4096, "end\nglow\n", "4100 unknown-word"),
 ];
 
 // What `run` answers to a script, where that isn't a refusal of this line for this reason with its text.
@@ -155,35 +142,19 @@ fn bytes_names_bitmaps_and_calls_are_counted(rt: HostRuntime) -> Result<(), Fail
     Ok(())
 }
 
-// What the program answers to a script with so many line feeds after it.
-fn answer_with_feeds(
-    alloc: Global,
-    command: &str,
-    script: &[u8],
-    feeds: usize,
-) -> Result<(Status, Vec<u8>), AllocError> {
+// What `run` answers to the first script with so many line feeds after it.
+fn answer_with_feeds(alloc: Global, feeds: usize) -> Result<(Status, Vec<u8>), AllocError> {
     let after = vec![in alloc; b'\n'; feeds]?;
-    answer_to(alloc, command, script, after.as_slice())
+    answer_to(alloc, "run", FIRST_FILL, after.as_slice())
 }
 
 #[test]
 fn an_input_has_4194304_bytes_at_most(rt: HostRuntime) -> Result<(), Fail> {
     let alloc = rt.alloc();
-    let (status, text) = answer_with_feeds(alloc, "run", FIRST_FILL, 4_194_236)?;
+    let (status, text) = answer_with_feeds(alloc, 4_194_236)?;
     assert_eq!(rt; status, Status::TooLong);
     assert_eq!(rt; text.as_slice(), b"too long\n".as_slice());
-    let (status, text) = answer_with_feeds(alloc, "run", FIRST_FILL, 4_194_235)?;
-    assert_eq!(rt; status, Status::Done);
-    assert_eq!(rt; text.as_slice(), FIRST_FILL_REPORT);
-    Ok(())
-}
-
-#[test]
-fn skipped_lines_may_fill_an_order(rt: HostRuntime) -> Result<(), Fail> {
-    let alloc = rt.alloc();
-    let mut ordered = Vec::from_slice(alloc, FIRST_FILL)?;
-    ordered.extend_from_slice(b"order\n0 0\n")?;
-    let (status, text) = answer_with_feeds(alloc, "replay", ordered.as_slice(), 4_194_225)?;
+    let (status, text) = answer_with_feeds(alloc, 4_194_235)?;
     assert_eq!(rt; status, Status::Done);
     assert_eq!(rt; text.as_slice(), FIRST_FILL_REPORT);
     Ok(())

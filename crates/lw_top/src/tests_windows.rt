@@ -3,7 +3,7 @@ use crate::tests::answer_with_six;
 use std::test::Fail;
 
 // Commands, scripts with windows, and their reports.
-static WINDOWED: [(&str, &[u8], &[u8]); 12] = [
+static WINDOWED: [(&str, &[u8], &[u8]); 13] = [
     // A simple window gains a pixel that was covered: it is damaged, and the window is asked to refresh.
     (
         "run",
@@ -500,6 +500,46 @@ replies a 3
 ok
 ok
 ok
+done
+",
+    ),
+    // A super-bitmap window shows the columns 4 to 7 of its bitmap after the scroll, of which 4 to 6 have pen 1, and its second row
+    // once it is higher. Nothing is damaged, so it isn't asked to refresh; it has no frame, as the active window too, and shows no
+    // title. Its bitmap has no ninth column.
+    (
+        "run",
+        b"screen 16 2 1
+glyph 53 ffffffffffffffff
+task a
+open s super front 2 0 4 1 8 2 ask rna \"S\"
+fill s 3 0 6 1
+scroll s 4 0
+size s 0 1
+activate s
+title s \"S\"
+scroll s 1 0
+end
+",
+        b"order 7
+0 0 0 0 0 0 0
+planes 16 2 1
+plane 0
+3800
+3800
+visible s 1
+2 0 5 1
+damage s 0
+messages s 2
+newsize
+active
+replies a 7
+ok
+ok
+ok
+ok
+ok
+ok
+out-of-bounds
 done
 ",
     ),
