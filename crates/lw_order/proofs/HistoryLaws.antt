@@ -1,23 +1,37 @@
--- Histories that go on from others, their numbers, and how many steps each task has.
+-- Histories that go on from others, what their beginnings keep, and how many steps each task has.
 use Rattle.std.proofs.Common.{◌≡◌, ℕ, ◌+◌, ◌<◌, ◌≤◌, ◌==◌, Bool, true, false, if◌then◌else◌, nat_lt, List, [], ◌∷◌, ◌++◌, length, refl, sym, ap, ◌∙◌, subst, arith, append_assoc, eq-eqb}
-use Rattle.std.specs.Prelude.{All, Contains}
+use Rattle.std.specs.Prelude.{IsTrue, All, Contains}
 use Rattle.std.proofs.lemmas.Bool.{ltb-true, ltb-false}
 use Rattle.std.proofs.lemmas.List.{append-nil}
-use Rattle.std.proofs.lemmas.List.Elements.{All-nil, All-cons, All-head, All-tail, All-contains}
+use Rattle.std.proofs.lemmas.List.Elements.{All-nil, All-cons, All-head, All-tail, All-append, All-contains}
+use Rattle.lw_calls.specs.declared.sizes.Sizes.{Sizes}
 use Rattle.lw_calls.specs.declared.entry.Entry.{Entry}
 use Rattle.lw_calls.specs.declared.call.Call.{Call}
 use Rattle.lw_calls.specs.declared.touch.Role.{Role}
 use Rattle.lw_calls.specs.declared.touch.Role.TheVariants.{Task}
 use Rattle.lw_calls.specs.Touches.{touch_of, touches_role}
+use Rattle.lw_calls.specs.Limits.{call_fits}
 use Rattle.lw_calls.specs.Entries.{count_of}
 use Rattle.lw_order.specs.Roles.{Quiet, LeavesAlone}
-use Rattle.lw_order.specs.Numbered.{Numbered, IsNumbered, TasksBelow}
+use Rattle.lw_order.specs.Numbered.{Numbered, IsNumbered, TasksBelow, CallsFit}
 use Rattle.lw_order.specs.Promised.{Follows, Added, longer}
-use Rattle.lw_order.proofs.RoleLaws.{quiet_front, quiet_end, quiet_both}
+use Rattle.lw_order.proofs.RoleLaws.{quiet_fewer, quiet_front, quiet_end, quiet_both}
 
 -- a history goes on from itself
 pub follows_itself : (roles : List Role) (es : List Entry) → Follows roles es es
 follows_itself roles es = record { rest = []; prefix = sym (append-nil es); quiet = All-nil (LeavesAlone roles) }
+
+-- what goes on from a history that goes on from another, goes on from that one too
+pub follows_on : (roles : List Role) (a b c : List Entry) → Follows roles a b → Follows roles b c → Follows roles a c
+follows_on roles a b c f g = record {
+  rest = f.rest ++ g.rest;
+  prefix = g.prefix ∙ ap (λ l. l ++ g.rest) f.prefix ∙ append_assoc a f.rest g.rest;
+  quiet = All-append (LeavesAlone roles) f.rest g.rest f.quiet g.quiet;
+}
+
+-- for fewer roles a history goes on from the same ones
+pub fewer_follow : (few many : List Role) (old new : List Entry) → ((role : Role) → Contains few role → Contains many role) → Follows many old new → Follows few old new
+fewer_follow few many old new among f = record { rest = f.rest; prefix = f.prefix; quiet = quiet_fewer few many f.rest among f.quiet }
 
 -- two beginnings of one history: the longer goes on from the other
 record Splits (xs ys r s : List Entry) : Type 0 where
@@ -65,6 +79,10 @@ all_front P (x ∷ front) back h = All-cons P x front (All-head P x (front ++ ba
 -- a beginning's tasks are below the number
 pub tasks_prefix : (tasks : ℕ) (roles : List Role) (old new : List Entry) → Follows roles old new → TasksBelow tasks new → TasksBelow tasks old
 tasks_prefix tasks roles old new f h = all_front (λ e. e.task < tasks) old f.rest (subst (TasksBelow tasks) f.prefix h)
+
+-- a beginning's calls fit
+pub calls_prefix : (sizes : Sizes) (roles : List Role) (old new : List Entry) → Follows roles old new → CallsFit sizes new → CallsFit sizes old
+calls_prefix sizes roles old new f h = all_front (λ e. IsTrue (call_fits sizes e.call)) old f.rest (subst (CallsFit sizes) f.prefix h)
 
 -- the steps of a task in two histories
 pub count_of_append : (task : ℕ) (xs ys : List Entry) → count_of task (xs ++ ys) ≡ count_of task xs + count_of task ys

@@ -4,6 +4,7 @@ use Rattle.std.specs.Prelude.{All, Contains, slice_index_or}
 use Rattle.std.specs.List.{range_with_len}
 use Rattle.std.proofs.lemmas.Bool.{eqb-true, false≢true}
 use Rattle.std.proofs.lemmas.List.Elements.{All-nil, All-cons, All-head, All-tail, All-append, All-weaker, All-contains, All-contains_itself, All-filter, filter_passes, Contains-append_left, Contains-append_right}
+use Rattle.lw_calls.specs.declared.sizes.Sizes.{Sizes}
 use Rattle.lw_calls.specs.declared.entry.Entry.{Entry}
 use Rattle.lw_calls.specs.declared.touch.Role.{Role}
 use Rattle.lw_calls.specs.declared.touch.Role.TheVariants.{Task, Slot, Info}
@@ -11,7 +12,6 @@ use Rattle.lw_calls.specs.declared.touch.Slots.{Slots}
 use Rattle.lw_calls.specs.declared.touch.Slots.TheVariants.{Nothing, One, Two, All as Every}
 use Rattle.lw_calls.specs.declared.touch.Touch.{Touch}
 use Rattle.lw_calls.specs.Touches.{has_slot, touch_of, touches_role}
-use Rattle.lw_order.specs.declared.view.Numbers.{Numbers}
 use Rattle.lw_order.specs.Roles.{same_role, all_roles, without, LeavesAlone, Quiet}
 use Rattle.lw_order.specs.Owned.{HasSlots, Owns}
 use Rattle.lw_order.specs.Rule.{IsRoleWithin}
@@ -106,22 +106,22 @@ owned_slot count roles (Two a b) s below has h =
 owned_slot count roles Every s below has h = has s below
 
 -- whoever owns what is touched has each role that is touched and that there is
-pub owned_role : (numbers : Numbers) (roles : List Role) (touch : Touch) (role : Role) → IsRoleWithin numbers role → Owns numbers.slots roles touch → touches_role touch role ≡ true → Contains roles role
-owned_role numbers roles touch (Task t) fits owns h = subst (λ k. Contains roles (Task k)) (eqb-true touch.task t h) owns.has_task
-owned_role numbers roles touch (Slot s) fits owns h = owned_slot numbers.slots roles touch.slots s fits owns.has_slots h
-owned_role numbers roles touch Info fits owns h = owns.has_info h
+pub owned_role : (sizes : Sizes) (roles : List Role) (touch : Touch) (role : Role) → IsRoleWithin sizes role → Owns sizes.slots roles touch → touches_role touch role ≡ true → Contains roles role
+owned_role sizes roles touch (Task t) fits owns h = subst (λ k. Contains roles (Task k)) (eqb-true touch.task t h) owns.has_task
+owned_role sizes roles touch (Slot s) fits owns h = owned_slot sizes.slots roles touch.slots s fits owns.has_slots h
+owned_role sizes roles touch Info fits owns h = owns.has_info h
 
 -- a test either gives true or false
 told : (t : Bool) → (t ≡ true) ⊎ (t ≡ false)
 told true = inl refl
 told false = inr refl
 
--- a call leaves roles alone that its caller doesn't have, if they fit the numbers
-pub leaves_others : (numbers : Numbers) (mine theirs : List Role) (e : Entry) → Owns numbers.slots mine (touch_of e.task e.call) → All (IsRoleWithin numbers) theirs → ((role : Role) → Contains mine role → Contains theirs role → ⊥) → LeavesAlone theirs e
-leaves_others numbers mine theirs e owns fits apart =
+-- a call leaves roles alone that its caller doesn't have, if they fit the sizes
+pub leaves_others : (sizes : Sizes) (mine theirs : List Role) (e : Entry) → Owns sizes.slots mine (touch_of e.task e.call) → All (IsRoleWithin sizes) theirs → ((role : Role) → Contains mine role → Contains theirs role → ⊥) → LeavesAlone theirs e
+leaves_others sizes mine theirs e owns fits apart =
     all_from_members (λ role. touches_role (touch_of e.task e.call) role ≡ false) theirs
     (λ role there. ⊎_elim
-    (λ touched. absurd (apart role (owned_role numbers mine (touch_of e.task e.call) role (All-contains (IsRoleWithin numbers) theirs role fits there) owns touched) there))
+    (λ touched. absurd (apart role (owned_role sizes mine (touch_of e.task e.call) role (All-contains (IsRoleWithin sizes) theirs role fits there) owns touched) there))
     (λ untouched. untouched)
     (told (touches_role (touch_of e.task e.call) role)))
 

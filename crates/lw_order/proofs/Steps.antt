@@ -1,29 +1,30 @@
 -- Each kind of step on an order word keeps its rule.
 use Rattle.std.proofs.Common.{◌≡◌, ◌≢◌, ℕ, zero, suc, ◌+◌, ◌<◌, ◌≤◌, ◌%◌, ◌^◌, ◌==◌, Bool, true, false, if◌then◌else◌, List, [], ◌∷◌, ◌++◌, map, length, set, refl, sym, ap, ◌∙◌, subst, ⊎_elim, arith, append_assoc, length-append}
-use Rattle.std.specs.Prelude.{All, Contains, slice_index}
+use Rattle.std.specs.Prelude.{IsTrue, All, Contains, slice_index}
 use Rattle.std.specs.List.{range_with_len}
 use Rattle.std.proofs.lemmas.Bool.{eqb-true}
 use Rattle.std.proofs.lemmas.List.Elements.{All-nil, All-cons, All-head, All-tail, All-append, All-push, All-map, All-weaker, All-contains, All-filter}
 use mathlib.Core.Option.{some, some-injective, some-ne-none}
 use lib.ListN.{get_elem?}
 use Rattle.atomic_table.proofs.Lists.{at_set}
+use Rattle.lw_calls.specs.declared.sizes.Sizes.{Sizes}
 use Rattle.lw_calls.specs.declared.call.Call.{Call}
 use Rattle.lw_calls.specs.declared.entry.Entry.{Entry}
 use Rattle.lw_calls.specs.declared.touch.Role.{Role}
 use Rattle.lw_calls.specs.declared.touch.Role.TheVariants.{Task, Slot, Info}
 use Rattle.lw_calls.specs.Touches.{touch_of}
+use Rattle.lw_calls.specs.Limits.{call_fits}
 use Rattle.lw_calls.specs.Entries.{count_of}
-use Rattle.lw_order.specs.declared.view.Numbers.{Numbers}
 use Rattle.lw_order.specs.declared.view.Old.{Old}
 use Rattle.lw_order.specs.declared.view.View.{View}
 use Rattle.lw_order.specs.Roles.{all_roles, without, LeavesAlone}
 use Rattle.lw_order.specs.Owned.{Owns}
-use Rattle.lw_order.specs.Numbered.{IsNumbered, TasksBelow}
+use Rattle.lw_order.specs.Numbered.{IsNumbered, TasksBelow, CallsFit}
 use Rattle.lw_order.specs.Promised.{Follows, longer}
 use Rattle.lw_order.specs.Rule.{IsRoleWithin, Stands, KeepsOrder}
 use Rattle.lw_order.specs.Plays.{view_of, first_view, spent_view, old_of, Learned, Stamped}
-use Rattle.lw_order.proofs.RoleLaws.{all_from_members, was_there, only_role, leaves_others, quiet_fewer}
-use Rattle.lw_order.proofs.HistoryLaws.{follows_itself, numbered_push, numbered_prefix, tasks_prefix, count_of_append, count_of_quiet, joins}
+use Rattle.lw_order.proofs.RoleLaws.{all_from_members, was_there, only_role, leaves_others}
+use Rattle.lw_order.proofs.HistoryLaws.{follows_itself, fewer_follow, numbered_push, numbered_prefix, tasks_prefix, calls_prefix, count_of_append, count_of_quiet, joins}
 use Rattle.lw_order.proofs.Bound.{length_bound}
 use Rattle.lw_order.proofs.ViewLaws.{stands_set, stands_push, not_of_another, held_once_set, held_once_split, held_once_join, held_once_first}
 
@@ -37,62 +38,61 @@ range_below a (suc n) =
 below_none : (n : ℕ) → All (λ k. k < n) (range_with_len 0 n)
 below_none n = All-weaker (λ k. k < 0 + n) (λ k. k < n) (λ k h. omega arith) (range_with_len 0 n) (range_below 0 n)
 
-all_roles_fit : (numbers : Numbers) → All (IsRoleWithin numbers) (all_roles numbers.slots numbers.tasks)
-all_roles_fit numbers =
-    All-append (IsRoleWithin numbers) (Info ∷ map (λ t. Task t) (range_with_len 0 numbers.tasks)) (map (λ s. Slot s) (range_with_len 0 numbers.slots))
-    (All-cons (IsRoleWithin numbers) Info (map (λ t. Task t) (range_with_len 0 numbers.tasks)) tt
-    (All-map (IsRoleWithin numbers) (λ t. Task t) (range_with_len 0 numbers.tasks) (below_none numbers.tasks)))
-    (All-map (IsRoleWithin numbers) (λ s. Slot s) (range_with_len 0 numbers.slots) (below_none numbers.slots))
+all_roles_fit : (sizes : Sizes) → All (IsRoleWithin sizes) (all_roles sizes.slots sizes.tasks)
+all_roles_fit sizes =
+    All-append (IsRoleWithin sizes) (Info ∷ map (λ t. Task t) (range_with_len 0 sizes.tasks)) (map (λ s. Slot s) (range_with_len 0 sizes.slots))
+    (All-cons (IsRoleWithin sizes) Info (map (λ t. Task t) (range_with_len 0 sizes.tasks)) tt
+    (All-map (IsRoleWithin sizes) (λ t. Task t) (range_with_len 0 sizes.tasks) (below_none sizes.tasks)))
+    (All-map (IsRoleWithin sizes) (λ s. Slot s) (range_with_len 0 sizes.slots) (below_none sizes.slots))
 
-stands_alone : (numbers : Numbers) (whole : List Entry) (roles : List Role) (history : List Entry) → Follows roles history whole → All (IsRoleWithin numbers) roles → Stands numbers whole (view_of history roles)
-stands_alone numbers whole roles history follows fits =
+stands_alone : (sizes : Sizes) (whole : List Entry) (roles : List Role) (history : List Entry) → Follows roles history whole → All (IsRoleWithin sizes) roles → Stands sizes whole (view_of history roles)
+stands_alone sizes whole roles history follows fits =
     record { follows = follows; roles_fit = fits; olds_follow = All-nil (λ (o : Old). Follows o.roles o.history history) }
 
 -- the start
-pub starts : (numbers : Numbers) → numbers.tasks < 2 ^ 32 → KeepsOrder numbers (0 ∷ []) (first_view numbers ∷ [])
-starts numbers fits = (
+pub starts : (sizes : Sizes) → sizes.tasks < 2 ^ 32 → KeepsOrder sizes (0 ∷ []) (first_view sizes ∷ [])
+starts sizes fits = (
   [],
   record {
     word = refl;
     stands = one;
-    held_once = held_once_first (first_view numbers);
+    held_once = held_once_first (first_view sizes);
     numbered = tt;
-    tasks_fit = All-nil (λ (e : Entry). e.task < numbers.tasks);
+    tasks_fit = All-nil (λ (e : Entry). e.task < sizes.tasks);
+    calls_fit = All-nil (λ (e : Entry). IsTrue (call_fits sizes e.call));
     steps_fit = λ task. omega arith;
-    numbers_fit = fits;
+    few_tasks = fits;
   },
 )
   where
-    first : Stands numbers [] (first_view numbers)
-    first = stands_alone numbers [] (all_roles numbers.slots numbers.tasks) [] (follows_itself (all_roles numbers.slots numbers.tasks) []) (all_roles_fit numbers)
+    first : Stands sizes [] (first_view sizes)
+    first = stands_alone sizes [] (all_roles sizes.slots sizes.tasks) [] (follows_itself (all_roles sizes.slots sizes.tasks) []) (all_roles_fit sizes)
 
-    one : (seat : ℕ) (v : View) → get_elem? (first_view numbers ∷ []) seat ≡ some v → Stands numbers [] v
-    one zero v e = subst (Stands numbers []) (some-injective (first_view numbers) v e) first
+    one : (seat : ℕ) (v : View) → get_elem? (first_view sizes ∷ []) seat ≡ some v → Stands sizes [] v
+    one zero v e = subst (Stands sizes []) (some-injective (first_view sizes) v e) first
     one (suc seat) v e = absurd (some-ne-none v (sym e))
 
-fewer_follow : (few many : List Role) (old new : List Entry) → ((role : Role) → Contains few role → Contains many role) → Follows many old new → Follows few old new
-fewer_follow few many old new among f = record { rest = f.rest; prefix = f.prefix; quiet = quiet_fewer few many f.rest among f.quiet }
-
 -- a split
-pub splits : (numbers : Numbers) (words : List ℕ) (views : List View) (seat : ℕ) (v : View) (off : Role) → Contains v.roles off → KeepsOrder numbers words views → get_elem? views seat ≡ some v
-    → KeepsOrder numbers words (set views seat (view_of v.history (without off v.roles)) ++ view_of v.history (off ∷ []) ∷ [])
-splits numbers words views seat v off there (whole, k) at =
+pub splits : (sizes : Sizes) (words : List ℕ) (views : List View) (seat : ℕ) (v : View) (off : Role) → Contains v.roles off → KeepsOrder sizes words views → get_elem? views seat ≡ some v
+    → KeepsOrder sizes words (set views seat (view_of v.history (without off v.roles)) ++ view_of v.history (off ∷ []) ∷ [])
+splits sizes words views seat v off there (whole, k) at =
     let mine = k.stands seat v at in
     let among : (role : Role) → Contains (off ∷ []) role → Contains v.roles role = λ role h. subst (Contains v.roles) (only_role off role h) there in
     let fewer : (role : Role) → Contains (without off v.roles) role → Contains v.roles role = λ role h. was_there off role v.roles h in
-    let left = stands_alone numbers whole (without off v.roles) v.history (fewer_follow (without off v.roles) v.roles v.history whole fewer mine.follows) (All-filter _ (IsRoleWithin numbers) v.roles mine.roles_fit) in
-    let right = stands_alone numbers whole (off ∷ []) v.history (fewer_follow (off ∷ []) v.roles v.history whole among mine.follows)
-    (all_from_members (IsRoleWithin numbers) (off ∷ []) (λ role h. All-contains (IsRoleWithin numbers) v.roles role mine.roles_fit (among role h))) in (
+    let left = stands_alone sizes whole (without off v.roles) v.history (fewer_follow (without off v.roles) v.roles v.history whole fewer mine.follows) (All-filter _ (IsRoleWithin sizes) v.roles mine.roles_fit) in
+    let right = stands_alone sizes whole (off ∷ []) v.history (fewer_follow (off ∷ []) v.roles v.history whole among mine.follows)
+    (all_from_members (IsRoleWithin sizes) (off ∷ []) (λ role h. All-contains (IsRoleWithin sizes) v.roles role mine.roles_fit (among role h))) in (
       whole,
       record {
         word = k.word;
-        stands = stands_push numbers whole (set views seat (view_of v.history (without off v.roles))) (view_of v.history (off ∷ []))
-            (stands_set numbers whole views seat (view_of v.history (without off v.roles)) (λ j u apart e. k.stands j u e) left) right;
+        stands = stands_push sizes whole (set views seat (view_of v.history (without off v.roles))) (view_of v.history (off ∷ []))
+            (stands_set sizes whole views seat (view_of v.history (without off v.roles)) (λ j u apart e. k.stands j u e) left) right;
         held_once = held_once_split views seat v off k.held_once at there;
         numbered = k.numbered;
         tasks_fit = k.tasks_fit;
+        calls_fit = k.calls_fit;
         steps_fit = k.steps_fit;
-        numbers_fit = k.numbers_fit;
+        few_tasks = k.few_tasks;
       },
     )
 
@@ -101,61 +101,64 @@ abbrev pub joined_view : View → View → View
 joined_view v w = record { history = longer v.history w.history; roles = v.roles ++ w.roles; olds = old_of v ∷ old_of w ∷ [] }
 
 -- a join
-pub joins_seats : (numbers : Numbers) (words : List ℕ) (views : List View) (seat : ℕ) (v : View) (other : ℕ) (w : View) → KeepsOrder numbers words views → get_elem? views seat ≡ some v → ¬ (other ≡ seat) → get_elem? (set views seat (joined_view v w)) other ≡ some w
-    → KeepsOrder numbers words (set (set views seat (joined_view v w)) other spent_view)
-joins_seats numbers words views seat v other w (whole, k) at apart there =
+pub joins_seats : (sizes : Sizes) (words : List ℕ) (views : List View) (seat : ℕ) (v : View) (other : ℕ) (w : View) → KeepsOrder sizes words views → get_elem? views seat ≡ some v → ¬ (other ≡ seat) → get_elem? (set views seat (joined_view v w)) other ≡ some w
+    → KeepsOrder sizes words (set (set views seat (joined_view v w)) other spent_view)
+joins_seats sizes words views seat v other w (whole, k) at apart there =
     let both = joined_view v w in
     let theirs : get_elem? views other ≡ some w = ⊎_elim (λ (t : (other ≡ seat) × (both ≡ w)). absurd (apart t.0)) (λ (t : (other ≢ seat) × (get_elem? views other ≡ some w)). t.1) (at_set views seat other both w there) in
     let mine = k.stands seat v at in
     let other_stands = k.stands other w theirs in
     let learned = joins v.roles w.roles v.history w.history whole mine.follows other_stands.follows in
-    let stands : Stands numbers whole both = record {
+    let stands : Stands sizes whole both = record {
       follows = learned.both;
-      roles_fit = All-append (IsRoleWithin numbers) v.roles w.roles mine.roles_fit other_stands.roles_fit;
+      roles_fit = All-append (IsRoleWithin sizes) v.roles w.roles mine.roles_fit other_stands.roles_fit;
       olds_follow = All-cons (λ (o : Old). Follows o.roles o.history both.history) (old_of v) (old_of w ∷ []) learned.own
           (All-cons (λ (o : Old). Follows o.roles o.history both.history) (old_of w) [] learned.other (All-nil (λ (o : Old). Follows o.roles o.history both.history)));
     } in
-    let spent : Stands numbers whole spent_view = stands_alone numbers whole [] [] (record { rest = whole; prefix = refl; quiet = λ k d below j e none. absurd (omega arith) }) (All-nil (IsRoleWithin numbers)) in (
+    let spent : Stands sizes whole spent_view = stands_alone sizes whole [] [] (record { rest = whole; prefix = refl; quiet = λ k d below j e none. absurd (omega arith) }) (All-nil (IsRoleWithin sizes)) in (
       whole,
       record {
         word = k.word;
-        stands = stands_set numbers whole (set views seat both) other spent_view (λ j u away e. stands_set numbers whole views seat both (λ i x far f. k.stands i x f) stands j u e) spent;
+        stands = stands_set sizes whole (set views seat both) other spent_view (λ j u away e. stands_set sizes whole views seat both (λ i x far f. k.stands i x f) stands j u e) spent;
         held_once = held_once_join views seat other v w both k.held_once at theirs refl;
         numbered = k.numbered;
         tasks_fit = k.tasks_fit;
+        calls_fit = k.calls_fit;
         steps_fit = k.steps_fit;
-        numbers_fit = k.numbers_fit;
+        few_tasks = k.few_tasks;
       },
     )
 
 -- the load after a join, which leaves the word
-pub learns : (numbers : Numbers) (words : List ℕ) (views : List View) (seat : ℕ) (v : View) (tasks : ℕ) → numbers.tasks ≡ tasks → KeepsOrder numbers words views → get_elem? views seat ≡ some v
-    → KeepsOrder numbers (set words 0 (slice_index words 0)) (set views seat (view_of v.history v.roles)) × Learned tasks v (view_of v.history v.roles)
-learns numbers words views seat v tasks same (whole, k) at =
+pub learns : (sizes : Sizes) (words : List ℕ) (views : List View) (seat : ℕ) (v : View) (known : Sizes) → sizes ≡ known → KeepsOrder sizes words views → get_elem? views seat ≡ some v
+    → KeepsOrder sizes (set words 0 (slice_index words 0)) (set views seat (view_of v.history v.roles)) × Learned known v (view_of v.history v.roles)
+learns sizes words views seat v known same (whole, k) at =
     let mine = k.stands seat v at in (
       (
         whole,
         record {
           word = ap (λ ws. set ws 0 (slice_index ws 0)) k.word;
-          stands = stands_set numbers whole views seat (view_of v.history v.roles) (λ j u apart e. k.stands j u e) (stands_alone numbers whole v.roles v.history mine.follows mine.roles_fit);
+          stands = stands_set sizes whole views seat (view_of v.history v.roles) (λ j u apart e. k.stands j u e) (stands_alone sizes whole v.roles v.history mine.follows mine.roles_fit);
           held_once = held_once_set views seat v (view_of v.history v.roles) k.held_once at (λ role h. h);
           numbered = k.numbered;
           tasks_fit = k.tasks_fit;
+          calls_fit = k.calls_fit;
           steps_fit = k.steps_fit;
-          numbers_fit = k.numbers_fit;
+          few_tasks = k.few_tasks;
         },
       ),
       record {
         view = refl;
         olds_follow = mine.olds_follow;
         numbered = numbered_prefix v.roles v.history whole mine.follows k.numbered;
-        tasks_fit = subst (λ n. TasksBelow n v.history) same (tasks_prefix numbers.tasks v.roles v.history whole mine.follows k.tasks_fit);
+        tasks_fit = subst (λ (s : Sizes). TasksBelow s.tasks v.history) same (tasks_prefix sizes.tasks v.roles v.history whole mine.follows k.tasks_fit);
+        calls_fit = subst (λ (s : Sizes). CallsFit s v.history) same (calls_prefix sizes v.roles v.history whole mine.follows k.calls_fit);
       },
     )
 
 -- what was learned after a join, of both former histories
-pub learned_follows : (tasks : ℕ) (v w after : View) → Learned tasks (joined_view v w) after → Follows v.roles v.history after.history × Follows w.roles w.history after.history
-learned_follows tasks v w after l =
+pub learned_follows : (sizes : Sizes) (v w after : View) → Learned sizes (joined_view v w) after → Follows v.roles v.history after.history × Follows w.roles w.history after.history
+learned_follows sizes v w after l =
     let joined = longer v.history w.history in
     let same : joined ≡ after.history = sym (ap (λ (x : View). x.history) l.view) in
     let goes_on : Old → Type 0 = λ o. Follows o.roles o.history joined in
@@ -198,38 +201,40 @@ word_after words whole e is fits =
     ∙ ap (λ n. n ∷ []) (grown (length whole) (length (whole ++ e ∷ [])) fits (length-append whole (e ∷ [])))
 
 -- the stamp
-pub stamps : (numbers : Numbers) (words : List ℕ) (views : List View) (seat : ℕ) (v : View) (tasks task : ℕ) (call : Call) → numbers.tasks ≡ tasks → Owns numbers.slots v.roles (touch_of task call) → count_of task v.history < 4294967295
-    → KeepsOrder numbers words views → get_elem? views seat ≡ some v
-    → (w : View) × KeepsOrder numbers (set words 0 ((slice_index words 0 + 1) % 2 ^ 64)) (set views seat w) × Stamped tasks task call (slice_index words 0) v w
-stamps numbers words views seat v tasks task call same owns room (whole, k) at =
+pub stamps : (sizes : Sizes) (words : List ℕ) (views : List View) (seat : ℕ) (v : View) (known : Sizes) (task : ℕ) (call : Call) → sizes ≡ known → Owns sizes.slots v.roles (touch_of task call) → IsTrue (call_fits sizes call) → count_of task v.history < 4294967295
+    → KeepsOrder sizes words views → get_elem? views seat ≡ some v
+    → (w : View) × KeepsOrder sizes (set words 0 ((slice_index words 0 + 1) % 2 ^ 64)) (set views seat w) × Stamped known task call (slice_index words 0) v w
+stamps sizes words views seat v known task call same owns fits room (whole, k) at =
     let mine = k.stands seat v at in
     let e = step_of task call whole in
     let new = whole ++ e ∷ [] in
     let w = view_of new v.roles in
     let before = mine.follows in
-    let is_within : task < numbers.tasks = All-contains (IsRoleWithin numbers) v.roles (Task task) mine.roles_fit owns.has_task in
+    let is_within : task < sizes.tasks = All-contains (IsRoleWithin sizes) v.roles (Task task) mine.roles_fit owns.has_task in
     let had : count_of task whole ≡ count_of task v.history = ap (count_of task) before.prefix ∙ count_of_append task v.history before.rest ∙ none_more (count_of task v.history) (count_of task before.rest) (count_of_quiet task v.roles before.rest owns.has_task before.quiet) in
     let has_room : count_of task whole < 4294967295 = omega arith in
     let numbered : IsNumbered new = numbered_push whole e k.numbered refl in
-    let tasks_fit : TasksBelow numbers.tasks new = All-push (λ (x : Entry). x.task < numbers.tasks) whole e k.tasks_fit is_within in (
+    let tasks_fit : TasksBelow sizes.tasks new = All-push (λ (x : Entry). x.task < sizes.tasks) whole e k.tasks_fit is_within in
+    let calls_fit : CallsFit sizes new = All-push (λ (x : Entry). IsTrue (call_fits sizes x.call)) whole e k.calls_fit fits in (
       w,
       (
         new,
         record {
-          word = word_after words whole e k.word (length_bound numbers.tasks whole k.numbers_fit k.tasks_fit k.steps_fit);
-          stands = stands_set numbers new views seat w
+          word = word_after words whole e k.word (length_bound sizes.tasks whole k.few_tasks k.tasks_fit k.steps_fit);
+          stands = stands_set sizes new views seat w
               (λ j u apart f. let theirs = k.stands j u f in record {
                 follows = follows_more u.roles u.history whole e theirs.follows
-                    (leaves_others numbers v.roles u.roles e owns theirs.roles_fit (λ role here there. not_of_another views seat j v u role k.held_once at f apart here there));
+                    (leaves_others sizes v.roles u.roles e owns theirs.roles_fit (λ role here there. not_of_another views seat j v u role k.held_once at f apart here there));
                 roles_fit = theirs.roles_fit;
                 olds_follow = theirs.olds_follow;
               })
-              (stands_alone numbers new v.roles new (follows_itself v.roles new) mine.roles_fit);
+              (stands_alone sizes new v.roles new (follows_itself v.roles new) mine.roles_fit);
           held_once = held_once_set views seat v w k.held_once at (λ role h. h);
           numbered = numbered;
           tasks_fit = tasks_fit;
+          calls_fit = calls_fit;
           steps_fit = steps_fit_after task call whole has_room k.steps_fit;
-          numbers_fit = k.numbers_fit;
+          few_tasks = k.few_tasks;
         },
       ),
       record {
@@ -241,6 +246,7 @@ stamps numbers words views seat v tasks task call same owns room (whole, k) at =
           place = ap (λ ws. slice_index ws 0) k.word ∙ ap length before.prefix;
         };
         numbered = numbered;
-        tasks_fit = subst (λ n. TasksBelow n new) same tasks_fit;
+        tasks_fit = subst (λ (s : Sizes). TasksBelow s.tasks new) same tasks_fit;
+        calls_fit = subst (λ (s : Sizes). CallsFit s new) same calls_fit;
       },
     )

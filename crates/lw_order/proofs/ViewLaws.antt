@@ -5,9 +5,9 @@ use Rattle.std.proofs.lemmas.List.Elements.{Contains-append_cases}
 use mathlib.Core.Option.{some, some-injective, some-ne-none}
 use lib.ListN.{get_elem?}
 use Rattle.atomic_table.proofs.Lists.{at_set}
+use Rattle.lw_calls.specs.declared.sizes.Sizes.{Sizes}
 use Rattle.lw_calls.specs.declared.entry.Entry.{Entry}
 use Rattle.lw_calls.specs.declared.touch.Role.{Role}
-use Rattle.lw_order.specs.declared.view.Numbers.{Numbers}
 use Rattle.lw_order.specs.declared.view.View.{View}
 use Rattle.lw_order.specs.Roles.{without}
 use Rattle.lw_order.specs.Rule.{Stands, HeldOnce}
@@ -31,17 +31,17 @@ held_by_one : (views : List View) (i j : ℕ) (role : Role) → HeldOnce views �
 held_by_one views i j role once a b = once i j a.view b.view role a.there b.there a.has b.has
 
 -- each view stands well after one was changed, if it stands well and the others did
-pub stands_set : (numbers : Numbers) (whole : List Entry) (views : List View) (seat : ℕ) (w : View) → ((j : ℕ) (u : View) → j ≢ seat → get_elem? views j ≡ some u → Stands numbers whole u) → Stands numbers whole w → (j : ℕ) (u : View) → get_elem? (set views seat w) j ≡ some u → Stands numbers whole u
-stands_set numbers whole views seat w others mine j u e =
+pub stands_set : (sizes : Sizes) (whole : List Entry) (views : List View) (seat : ℕ) (w : View) → ((j : ℕ) (u : View) → j ≢ seat → get_elem? views j ≡ some u → Stands sizes whole u) → Stands sizes whole w → (j : ℕ) (u : View) → get_elem? (set views seat w) j ≡ some u → Stands sizes whole u
+stands_set sizes whole views seat w others mine j u e =
     ⊎_elim
-    (λ (t : (j ≡ seat) × (w ≡ u)). subst (Stands numbers whole) t.1 mine)
+    (λ (t : (j ≡ seat) × (w ≡ u)). subst (Stands sizes whole) t.1 mine)
     (λ (t : (j ≢ seat) × (get_elem? views j ≡ some u)). others j u t.0 t.1)
     (at_set views seat j w u e)
 
 -- the same, where a view is added
-pub stands_push : (numbers : Numbers) (whole : List Entry) (views : List View) (w : View) → ((j : ℕ) (u : View) → get_elem? views j ≡ some u → Stands numbers whole u) → Stands numbers whole w → (j : ℕ) (u : View) → get_elem? (views ++ w ∷ []) j ≡ some u → Stands numbers whole u
-stands_push numbers whole views w others mine j u e =
-    ⊎_elim (λ was. others j u was) (λ new. subst (Stands numbers whole) new.1 mine) (at_snoc_place views w u j e)
+pub stands_push : (sizes : Sizes) (whole : List Entry) (views : List View) (w : View) → ((j : ℕ) (u : View) → get_elem? views j ≡ some u → Stands sizes whole u) → Stands sizes whole w → (j : ℕ) (u : View) → get_elem? (views ++ w ∷ []) j ≡ some u → Stands sizes whole u
+stands_push sizes whole views w others mine j u e =
+    ⊎_elim (λ was. others j u was) (λ new. subst (Stands sizes whole) new.1 mine) (at_snoc_place views w u j e)
 
 -- a role of one view is in no other
 pub not_of_another : (views : List View) (i j : ℕ) (v w : View) (role : Role) → HeldOnce views → get_elem? views i ≡ some v → get_elem? views j ≡ some w → j ≢ i → Contains v.roles role → Contains w.roles role → ⊥

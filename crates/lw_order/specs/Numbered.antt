@@ -1,6 +1,8 @@
--- Histories in which each task's steps are numbered (this project's own).
-use Rattle.std.specs.Prelude.{◌≡◌, ℕ, ◌<◌, List, [], ◌∷◌, ◌++◌, All}
+-- Histories in which each task's steps are numbered, and whose tasks and calls fit (this project's own).
+use Rattle.std.specs.Prelude.{◌≡◌, ℕ, ◌<◌, List, [], ◌∷◌, ◌++◌, IsTrue, All}
+use Rattle.lw_calls.specs.declared.sizes.Sizes.{Sizes}
 use Rattle.lw_calls.specs.declared.entry.Entry.{Entry}
+use Rattle.lw_calls.specs.Limits.{call_fits}
 use Rattle.lw_calls.specs.Entries.{count_of}
 
 -- after the past, each step's number is that of its task's earlier steps
@@ -15,3 +17,7 @@ IsNumbered es = Numbered [] es
 -- each step is of a task below the number
 abbrev pub TasksBelow : ℕ → List Entry → Type 0
 TasksBelow tasks es = All (λ e. e.task < tasks) es
+
+-- each step's call fits the sizes
+abbrev pub CallsFit : Sizes → List Entry → Type 0
+CallsFit sizes es = All (λ e. IsTrue (call_fits sizes e.call)) es

@@ -2,26 +2,26 @@
 use Rattle.std.specs.Prelude.{◌≡◌, ℕ, ◌<◌, ◌≤◌, ◌^◌, List, [], ◌∷◌, length, All, Contains}
 use mathlib.Core.Option.{some}
 use lib.ListN.{get_elem?}
+use Rattle.lw_calls.specs.declared.sizes.Sizes.{Sizes}
 use Rattle.lw_calls.specs.declared.entry.Entry.{Entry}
 use Rattle.lw_calls.specs.declared.touch.Role.{Role}
 use Rattle.lw_calls.specs.declared.touch.Role.TheVariants.{Task, Slot, Info}
 use Rattle.lw_calls.specs.Entries.{count_of}
-use Rattle.lw_order.specs.declared.view.Numbers.{Numbers}
 use Rattle.lw_order.specs.declared.view.View.{View}
-use Rattle.lw_order.specs.Numbered.{IsNumbered, TasksBelow}
+use Rattle.lw_order.specs.Numbered.{IsNumbered, TasksBelow, CallsFit}
 use Rattle.lw_order.specs.Promised.{Follows}
 
 -- a role of so many slots and tasks
-abbrev pub IsRoleWithin : Numbers → Role → Type 0
-IsRoleWithin numbers (Task t) = t < numbers.tasks
-IsRoleWithin numbers (Slot s) = s < numbers.slots
-IsRoleWithin numbers Info = Unit {0}
+abbrev pub IsRoleWithin : Sizes → Role → Type 0
+IsRoleWithin sizes (Task t) = t < sizes.tasks
+IsRoleWithin sizes (Slot s) = s < sizes.slots
+IsRoleWithin sizes Info = Unit {0}
 
 -- One view stands well in the whole history: its own is a beginning of it, behind which no step touches its roles; its
--- roles are ones of these numbers; and its own history goes on in the same way from each of the former ones.
-pub record Stands (numbers : Numbers) (whole : List Entry) (v : View) : Type 0 where
+-- roles are ones of these sizes; and its own history goes on in the same way from each of the former ones.
+pub record Stands (sizes : Sizes) (whole : List Entry) (v : View) : Type 0 where
   pub follows : Follows v.roles v.history whole
-  pub roles_fit : All (IsRoleWithin numbers) v.roles
+  pub roles_fit : All (IsRoleWithin sizes) v.roles
   pub olds_follow : All (λ o. Follows o.roles o.history v.history) v.olds
 
 -- no two views have a role in common
@@ -29,17 +29,18 @@ abbrev pub HeldOnce : List View → Type 0
 HeldOnce views =
     (i j : ℕ) (v w : View) (role : Role) → get_elem? views i ≡ some v → get_elem? views j ≡ some w → Contains v.roles role → Contains w.roles role → i ≡ j
 
--- This history is the whole one: the word is its length, and each view stands well in it. Its steps are numbered and of
--- tasks below the number of tasks, and no task has more steps than can be numbered.
-pub record Keeps (numbers : Numbers) (words : List ℕ) (views : List View) (whole : List Entry) : Type 0 where
+-- This history is the whole one: the word is its length, and each view stands well in it. Its steps are numbered, of
+-- tasks below the number of tasks and of calls that fit, and no task has more steps than can be numbered.
+pub record Keeps (sizes : Sizes) (words : List ℕ) (views : List View) (whole : List Entry) : Type 0 where
   pub word : words ≡ length whole ∷ []
-  pub stands : (seat : ℕ) (v : View) → get_elem? views seat ≡ some v → Stands numbers whole v
+  pub stands : (seat : ℕ) (v : View) → get_elem? views seat ≡ some v → Stands sizes whole v
   pub held_once : HeldOnce views
   pub numbered : IsNumbered whole
-  pub tasks_fit : TasksBelow numbers.tasks whole
+  pub tasks_fit : TasksBelow sizes.tasks whole
+  pub calls_fit : CallsFit sizes whole
   pub steps_fit : (task : ℕ) → count_of task whole ≤ 4294967295
-  pub numbers_fit : numbers.tasks < 2 ^ 32
+  pub few_tasks : sizes.tasks < 2 ^ 32
 
 -- There is such a history. No code holds it.
-abbrev pub KeepsOrder : Numbers → List ℕ → List View → Type 0
-KeepsOrder numbers words views = (whole : List Entry) × Keeps numbers words views whole
+abbrev pub KeepsOrder : Sizes → List ℕ → List View → Type 0
+KeepsOrder sizes words views = (whole : List Entry) × Keeps sizes words views whole

@@ -1,23 +1,24 @@
-ghost use Rattle.std.specs.Prelude.{◌≡◌, ◌+◌, ◌<◌, [], ◌∷◌, ◌++◌, IfOk, Contains};
+ghost use Rattle.std.specs.Prelude.{◌≡◌, ◌+◌, ◌<◌, [], ◌∷◌, ◌++◌, IsTrue, IfOk, Contains};
 ghost use Rattle.lw_calls.specs.Touches.{touch_of};
+ghost use Rattle.lw_calls.specs.Limits.{call_fits};
 ghost use Rattle.lw_calls.specs.Entries.{count_of};
 ghost use Rattle.lw_order.specs.Roles.{all_roles, without};
 ghost use Rattle.lw_order.specs.Owned.{Owns};
-ghost use Rattle.lw_order.specs.Numbered.{IsNumbered, TasksBelow};
+ghost use Rattle.lw_order.specs.Numbered.{IsNumbered, TasksBelow, CallsFit};
 ghost use Rattle.lw_order.specs.Promised.{Follows, Added, longer};
 ghost use Rattle.lw_order.specs.Plays.{Learned};
 
 use crate::seat::Seat;
-use crate::view::{Both, Law, Learn, Learning, Numbers, Off, Parting, Stamp, Stamping, View};
+use crate::view::{Both, Law, Learn, Learning, Off, Parting, Stamp, Stamping, View};
 use atomic_table::Table;
-use lw_calls::{Call, Role};
+use lw_calls::{Call, Role, Sizes};
 use std::alloc::{AllocError, Global};
 use std::marker::{Brand, Model};
 
-/// One atomic word, the length of the history. Contracts see which word it is, and for how many slots and tasks.
+/// One atomic word, the length of the history. Contracts see which word it is, and for which sizes.
 #[derive(Drop)]
 pub struct Order {
-    table: Table<(), View, Numbers, Law, Global>,
+    table: Table<(), View, Sizes, Law, Global>,
 }
 
 impl Model for Order {
@@ -26,20 +27,22 @@ impl Model for Order {
 
     ghost Value = { SeenOrder };
 
-    ghost view = { λ o. record { word = o.table.shared.table_id; slots = o.table.shared.key.slots; tasks = o.table.shared.key.tasks } };
+    ghost view = { λ o. record { word = o.table.shared.table_id; sizes = o.table.shared.key } };
 
     ghost invariant = { λ o. (o.table.shared.table_id.words ≡ 1) × (o.table.shared.table_id.slots ≡ 0) };
 }
 
 impl Order {
-    /// An order word with an empty history, and a seat with every role of these numbers.
-    pub fn start(alloc: Global, slots: u32, tasks: u32) -> Result<(Order, Seat), AllocError>
-        ensures numbers { IfOk result (λ r. (r.0.slots ≡ slots) × (r.0.tasks ≡ tasks)) }
+    /// An order word with an empty history, and a seat with every role of these sizes.
+    pub fn start(alloc: Global, sizes: &Sizes) -> Result<(Order, Seat), AllocError>
+        ensures sizes { IfOk result (λ r. r.0.sizes ≡ sizes.now) }
         ensures word { IfOk result (λ r. r.1.word ≡ r.0.word) }
         ensures history { IfOk result (λ r. r.1.history ≡ []) }
-        ensures roles { IfOk result (λ r. r.1.roles ≡ all_roles slots tasks) }
+        ensures roles { IfOk result (λ r. r.1.roles ≡ all_roles sizes.now.slots sizes.now.tasks) }
     {
-        let (table, token) = Table::of_words(alloc, &[0], &Numbers { slots, tasks })?;
+        // A proof learns that the number is in its type's range where it is read.
+        let _tasks = sizes.tasks;
+        let (table, token) = Table::of_words(alloc, &[0], sizes)?;
         Ok((Order { table }, Seat { token }))
     }
 
@@ -79,7 +82,8 @@ impl Order {
         ensures follows { Follows seat.old.roles seat.old.history seat.new.history }
         ensures other_follows { Follows other.roles other.history seat.new.history }
         ensures numbered { IsNumbered seat.new.history }
-        ensures tasks { TasksBelow self.now.tasks seat.new.history }
+        ensures tasks { TasksBelow self.now.sizes.tasks seat.new.history }
+        ensures calls { CallsFit self.now.sizes seat.new.history }
     {
         let Seat { token } = other;
         self.table.shared.join_seat::<Both>(&mut seat.token, token);
@@ -90,10 +94,10 @@ impl Order {
     fn learn<N: Learning>(&self, token: &mut atomic_table::Seat<(), View>)
         requires word { token.old.table_id ≡ self.now.word }
         requires slots { token.old.me.1 ≡ [] }
-        requires tasks { self.now.tasks ≡ N.tasks }
+        requires sizes { self.now.sizes ≡ N.sizes }
         ensures word { token.new.table_id ≡ token.old.table_id }
         ensures slots { token.new.me.1 ≡ [] }
-        ensures learned { Learned N.tasks token.old.me.0 token.new.me.0 }
+        ensures learned { Learned N.sizes token.old.me.0 token.new.me.0 }
     {
         self.table.shared.load::<Learn<N>>(token, 0);
     }
@@ -101,28 +105,32 @@ impl Order {
     /// Stamps a call: it is then the last step of the history that the seat knows. The ticket is its place there.
     pub fn stamp(&self, seat: &mut Seat, task: u32, call: &Call) -> u64
         requires word { seat.old.word ≡ self.now.word }
-        requires owns { Owns self.now.slots seat.old.roles (touch_of task call.now) }
+        requires owns { Owns self.now.sizes.slots seat.old.roles (touch_of task call.now) }
+        requires fits { IsTrue (call_fits self.now.sizes call.now) }
         requires room { count_of task seat.old.history < 4294967295 }
         ensures word { seat.new.word ≡ seat.old.word }
         ensures roles { seat.new.roles ≡ seat.old.roles }
         ensures added { Added seat.old.roles seat.old.history seat.new.history task call.now result }
         ensures counted { count_of task seat.new.history ≡ count_of task seat.old.history + 1 }
         ensures numbered { IsNumbered seat.new.history }
-        ensures tasks { TasksBelow self.now.tasks seat.new.history }
+        ensures tasks { TasksBelow self.now.sizes.tasks seat.new.history }
+        ensures calls { CallsFit self.now.sizes seat.new.history }
     {
         self.stamp_as::<Brand>(seat, task, call)
     }
 
     fn stamp_as<N: Stamping>(&self, seat: &mut Seat, task: u32, call: &Call) -> u64
-        requires picked { (N.tasks ≡ self.now.tasks) × (N.task ≡ task) × (N.call ≡ call.now) }
+        requires picked { (N.sizes ≡ self.now.sizes) × (N.task ≡ task) × (N.call ≡ call.now) }
         requires word { seat.old.word ≡ self.now.word }
-        requires owns { Owns self.now.slots seat.old.roles (touch_of N.task N.call) }
+        requires owns { Owns self.now.sizes.slots seat.old.roles (touch_of N.task N.call) }
+        requires fits { IsTrue (call_fits self.now.sizes N.call) }
         requires room { count_of N.task seat.old.history < 4294967295 }
         ensures word { seat.new.word ≡ seat.old.word }
         ensures roles { seat.new.roles ≡ seat.old.roles }
         ensures added { Added seat.old.roles seat.old.history seat.new.history N.task N.call result }
         ensures numbered { IsNumbered seat.new.history }
-        ensures tasks { TasksBelow N.tasks seat.new.history }
+        ensures tasks { TasksBelow N.sizes.tasks seat.new.history }
+        ensures calls { CallsFit N.sizes seat.new.history }
     {
         self.table
             .shared

@@ -2,7 +2,7 @@ ghost use Rattle.std.specs.Prelude.{◌≡◌, ℕ, [], ◌+◌, ◌≤◌, ◌<
 ghost use Rattle.lw_calls.specs.Entries.{count_of};
 
 use super::{Order, Role, Seat};
-use lw_calls::Call;
+use lw_calls::{Call, Sizes};
 use std::alloc::{AllocError, Global};
 use std::process::Abort;
 use std::test::*;
@@ -40,6 +40,22 @@ fn stamp_many(
     Ok(tickets)
 }
 
+// The sizes of a small screen, with so many slots and tasks.
+fn sizes_of(slots: u32, tasks: u32) -> Sizes
+    ensures { (result.slots ≡ slots) × (result.tasks ≡ tasks) }
+{
+    Sizes {
+        version: 1,
+        width: 16,
+        height: 4,
+        depth: 2,
+        slots,
+        tasks,
+        hooks: 0,
+        bitmaps: 0,
+    }
+}
+
 // An order word for two tasks, and a seat for each.
 fn start_two(alloc: Global) -> Result<(Order, Seat, Seat), AllocError>
     ensures words { IfOk result (λ r. (r.1.word ≡ r.0.word) × (r.2.word ≡ r.0.word)) }
@@ -47,7 +63,7 @@ fn start_two(alloc: Global) -> Result<(Order, Seat, Seat), AllocError>
     ensures second { IfOk result (λ r. Contains r.2.roles (Role.Task 1)) }
     ensures new { IfOk result (λ r. (count_of 0 r.1.history ≡ 0) × (count_of 1 r.2.history ≡ 0)) }
 {
-    let (order, mut first) = Order::start(alloc, 0, 2)?;
+    let (order, mut first) = Order::start(alloc, &sizes_of(0, 2))?;
     let second = order.split(&mut first, Role::Task(1));
     Ok((order, first, second))
 }
@@ -141,7 +157,7 @@ fn split_all(
 #[test]
 fn eight_threads_draw_each_number_once(rt: HostRuntime) -> Result<(), Fail> {
     let alloc = rt.alloc();
-    let (order, seat) = Order::start(alloc, 3, 8)?;
+    let (order, seat) = Order::start(alloc, &sizes_of(3, 8))?;
     let jobs = split_all(alloc, &order, seat, 8)?;
     let shared = &order;
     let drawn = thread::map_vec(

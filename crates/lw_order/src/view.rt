@@ -1,15 +1,8 @@
-// What a seat knows, and the steps on the word. Proofs alone see it: but for the numbers no value of these types is made.
+// What a seat knows, and the steps on the word. Proofs alone see it: no value of these types is made.
 use atomic_table::{Join, Play, Split, TableRule};
-use lw_calls::{Entry, Role};
+use lw_calls::{Entry, Role, Sizes};
 use std::collections::LinkedList;
 use std::marker::{Brand, PhantomData};
-
-// How many slots and tasks an order word is for.
-#[derive(Clone, Copy)]
-pub(crate) struct Numbers {
-    pub slots: u32,
-    pub tasks: u32,
-}
 
 // A former history of a seat, and the roles that it had then.
 pub(crate) struct Old {
@@ -27,11 +20,11 @@ pub(crate) struct View {
 // What the word and the views of all seats keep.
 pub(crate) struct Law;
 
-impl TableRule<(), View, Numbers> for Law {
+impl TableRule<(), View, Sizes> for Law {
     ghost use Rattle.lw_order.specs.Rule.{KeepsOrder};
     ghost use Rattle.lw_order.specs.Plays.{first_view};
 
-    ghost holds = { λ numbers s. KeepsOrder numbers s.words s.views };
+    ghost holds = { λ sizes s. KeepsOrder sizes s.words s.views };
 
     ghost first = { first_view };
 }
@@ -75,15 +68,17 @@ impl Join<View> for Both {
     ghost spent = { spent_view };
 }
 
-// For how many tasks the order word is, which a step can't read.
+// For which sizes the order word is, which a step can't read.
 pub(crate) trait Learning {
-    ghost use Rattle.std.specs.Prelude.{ℕ};
+    ghost use Rattle.lw_calls.specs.declared.sizes.Sizes.{Sizes as TheSizes};
 
-    ghost tasks: { ℕ };
+    ghost sizes: { TheSizes };
 }
 
 impl Learning for Brand {
-    ghost tasks = { 0 };
+    ghost use Rattle.lw_order.specs.Plays.{no_sizes};
+
+    ghost sizes = { no_sizes };
 }
 
 // The load after a join.
@@ -93,15 +88,16 @@ impl<N: Learning> Play<(), View> for Learn<N> {
     ghost use Rattle.std.specs.Prelude.{◌≡◌};
     ghost use Rattle.lw_order.specs.Plays.{Learned};
 
-    ghost then = { λ step before found after. (after.1 ≡ before.1) × Learned N.tasks before.0 after.0 };
+    ghost then = { λ step before found after. (after.1 ≡ before.1) × Learned N.sizes before.0 after.0 };
 }
 
-// Which call of which task is stamped, and for how many tasks the order word is.
+// Which call of which task is stamped, and for which sizes the order word is.
 pub(crate) trait Stamping {
     ghost use Rattle.std.specs.Prelude.{ℕ};
+    ghost use Rattle.lw_calls.specs.declared.sizes.Sizes.{Sizes as TheSizes};
     ghost use Rattle.lw_calls.specs.declared.call.Call.{Call as TheCall};
 
-    ghost tasks: { ℕ };
+    ghost sizes: { TheSizes };
 
     ghost task: { ℕ };
 
@@ -109,9 +105,9 @@ pub(crate) trait Stamping {
 }
 
 impl Stamping for Brand {
-    ghost use Rattle.lw_order.specs.Plays.{no_call};
+    ghost use Rattle.lw_order.specs.Plays.{no_call, no_sizes};
 
-    ghost tasks = { 0 };
+    ghost sizes = { no_sizes };
 
     ghost task = { 0 };
 
@@ -125,5 +121,5 @@ impl<N: Stamping> Play<(), View> for Stamp<N> {
     ghost use Rattle.std.specs.Prelude.{◌≡◌};
     ghost use Rattle.lw_order.specs.Plays.{Stamped};
 
-    ghost then = { λ step before found after. (after.1 ≡ before.1) × Stamped N.tasks N.task N.call found before.0 after.0 };
+    ghost then = { λ step before found after. (after.1 ≡ before.1) × Stamped N.sizes N.task N.call found before.0 after.0 };
 }

@@ -13,11 +13,11 @@ join_seat-requires c =
 pub returns-clause-follows : goal.returns-clause-follows
 returns-clause-follows c =
     let after = c.learn.new.token.me.0 in
-    let learned = subst (λ (v : View). Learned c.args.self.now.tasks v after) (ap (λ m. m.0) c.join_seat.ensures.2) c.learn.ensures.learned in
+    let learned = subst (λ (v : View). Learned c.args.self.now.sizes v after) (ap (λ m. m.0) c.join_seat.ensures.2) c.learn.ensures.learned in
     subst (λ (x : SeenSeat). Follows x.roles x.history after.history) c.seat.view_is (learned_follows _ c.seat.inside.token.me.0 c.other.inside.token.me.0 after learned).0
 
 pub returns-clause-other_follows : goal.returns-clause-other_follows
 returns-clause-other_follows c =
     let after = c.learn.new.token.me.0 in
-    let learned = subst (λ (v : View). Learned c.args.self.now.tasks v after) (ap (λ m. m.0) c.join_seat.ensures.2) c.learn.ensures.learned in
+    let learned = subst (λ (v : View). Learned c.args.self.now.sizes v after) (ap (λ m. m.0) c.join_seat.ensures.2) c.learn.ensures.learned in
     subst (λ (x : SeenSeat). Follows x.roles x.history after.history) c.other.view_is (learned_follows _ c.seat.inside.token.me.0 c.other.inside.token.me.0 after learned).1

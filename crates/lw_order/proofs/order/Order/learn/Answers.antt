@@ -8,6 +8,6 @@ load-requires g c = (
   search rules,
   search rules,
   λ s holds homes at fits.
-      let t = learns _ s.words s.views _ _ g.N.Learning.tasks (search rules) holds at in
+      let t = learns _ s.words s.views _ _ g.N.Learning.sizes (search rules) holds at in
       (_, keeps, tt, t.0, (refl, t.1)),
 )

@@ -1,4 +1,4 @@
 use Rattle.lw_order.proofs.order.Order.stamp.Given as goal
 
 abbrev pub ghosts-stamp_as : goal.ghosts-stamp_as
-ghosts-stamp_as a = record { tasks = a.self.now.tasks; task = a.task; call = a.call.now }
+ghosts-stamp_as a = record { sizes = a.self.now.sizes; task = a.task; call = a.call.now }
