@@ -1,0 +1,98 @@
+ghost use Rattle.std.specs.Prelude.{◌≡◌, ℕ, List, IfOk, OnErr, IsTrue};
+ghost use Rattle.lw_region.specs.Pixels.{Pixel};
+ghost use Rattle.lw_calls.specs.Assets.{Assets};
+ghost use Rattle.lw_calls.specs.declared.sizes.Sizes.{Sizes};
+ghost use Rattle.lw_calls.specs.Limits.{call_fits};
+ghost use Rattle.lw_calls.specs.Touches.{class_of, OnRegisters, OnInfo, OnLayer, OnLayers, OnAll};
+ghost use Rattle.lw_machine.specs.Desk.{Desk};
+ghost use Rattle.lw_machine.specs.Parts.{SlotPart, InfoPart};
+ghost use Rattle.lw_steps.specs.Steps.{StandsToo, IsRegsStep, IsLookStep, IsOneStep, IsTwoStep, AreParts, IsAllStep, AreStill};
+
+use lw_calls::{Call, Reply};
+use std::alloc::{AllocError, Global};
+
+/// The step of the machine, by the classes of calls (this project's own). An engine says which values stand for a task's registers,
+/// for a slot and for LayerInfo; each of its functions is lent the values that a call of its class touches, and makes the machine's
+/// step of them in every sound desk for whose parts they stand, with the engine's sizes, and to which its assets were handed in. It
+/// takes no lock and returns. It fails for want of memory alone, and the values then stand for what they stood for.
+pub trait Engine: Drop + Sync {
+    /// What LayerInfo keeps.
+    type Info: Drop + Send;
+    /// A slot.
+    type Cell: Drop + Send;
+    /// A task's registers.
+    type Regs: Drop + Send;
+
+    ghost sizes: { Self → Sizes };
+
+    ghost assets: { Self → Assets };
+    // The number of a cell's slot.
+    ghost number: { Self.Cell → ℕ };
+    // Which values stand for which parts.
+    ghost regs_is: { Self.Regs → (ℕ → List Pixel) → Type 0 };
+
+    ghost cell_is: { Self.Cell → SlotPart → Type 0 };
+
+    ghost info_is: { Sizes → Self.Info → InfoPart → Type 0 };
+
+    /// Makes a call on the registers of its task.
+    fn regs(&self, alloc: Global, regs: &mut Self::Regs, call: &Call) -> Result<Reply, AllocError>
+        requires class { class_of call.now ≡ OnRegisters }
+        requires fits { IsTrue (call_fits (sizes self.now) call.now) }
+        ensures step { IfOk result (λ r. IsRegsStep regs_is (sizes self.now) (assets self.now) regs.old call.now r regs.new) }
+        ensures unchanged { OnErr result (StandsToo regs_is regs.old regs.new) };
+
+    /// Makes a call that looks at LayerInfo.
+    fn look(&self, info: &Self::Info, call: &Call) -> Reply
+        requires class { class_of call.now ≡ OnInfo }
+        requires fits { IsTrue (call_fits (sizes self.now) call.now) }
+        ensures step { IsLookStep (info_is (sizes self.now)) (sizes self.now) (assets self.now) info.now call.now result };
+
+    /// Makes a call of a task with these registers on the layer of a slot.
+    fn one(
+        &self,
+        alloc: Global,
+        cell: &mut Self::Cell,
+        regs: &Self::Regs,
+        task: u32,
+        call: &Call,
+    ) -> Result<Reply, AllocError>
+        requires class { class_of call.now ≡ OnLayer (number cell.old) }
+        requires fits { IsTrue (call_fits (sizes self.now) call.now) }
+        ensures step { IfOk result (λ r.
+            IsOneStep number cell_is regs_is (sizes self.now) (assets self.now) cell.old regs.now task call.now r cell.new) }
+        ensures number { number cell.new ≡ number cell.old }
+        ensures unchanged { OnErr result (StandsToo cell_is cell.old cell.new) };
+
+    /// Makes a call on the layers of two slots, of which it reads the first alone.
+    fn two(
+        &self,
+        alloc: Global,
+        source: &Self::Cell,
+        to: &mut Self::Cell,
+        call: &Call,
+    ) -> Result<Reply, AllocError>
+        requires class { class_of call.now ≡ OnLayers (number source.now) (number to.old) }
+        requires fits { IsTrue (call_fits (sizes self.now) call.now) }
+        ensures step { IfOk result (λ r.
+            IsTwoStep number cell_is (sizes self.now) (assets self.now) source.now to.old call.now r to.new) }
+        ensures number { number to.new ≡ number to.old }
+        ensures unchanged { OnErr result (StandsToo cell_is to.old to.new) };
+
+    /// Makes a call that arranges the layers of all slots, whose cells are given in rising number.
+    fn all(
+        &self,
+        alloc: Global,
+        info: &mut Self::Info,
+        cells: &mut [Self::Cell],
+        task: u32,
+        call: &Call,
+    ) -> Result<Reply, AllocError>
+        requires class { class_of call.now ≡ OnAll }
+        requires fits { IsTrue (call_fits (sizes self.now) call.now) }
+        requires desk { (d : Desk) × AreParts (info_is (sizes self.now)) number cell_is (sizes self.now) (assets self.now) info.old cells.old d }
+        ensures step { IfOk result (λ r.
+            IsAllStep (info_is (sizes self.now)) number cell_is (sizes self.now) (assets self.now) info.old cells.old task call.now r info.new cells.new) }
+        ensures unchanged { OnErr result
+            (AreStill (info_is (sizes self.now)) number cell_is (sizes self.now) (assets self.now) info.old cells.old info.new cells.new) };
+}
