@@ -1,31 +1,58 @@
 -- What lies behind a lock, or with a task: a part that stands for its part of the machine after the history that its seat knows (this
 -- project's own). A relation between values and parts is an argument, as in `lw_steps`.
-use Rattle.std.specs.Prelude.{◌≡◌, ℕ, ◌<◌, List, [], ◌∷◌, ◌++◌, map, length}
-use Rattle.std.specs.List.{range_with_len}
+use Rattle.std.specs.Prelude.{◌≡◌, ℕ, ◌<◌, List, [], ◌∷◌, ◌++◌, map, length, Contains}
 use Rattle.atomic_table.specs.Seated.{TableId}
 use Rattle.lw_region.specs.Pixels.{Pixel}
 use Rattle.lw_calls.specs.declared.entry.Entry.{Entry}
-use Rattle.lw_calls.specs.declared.sizes.Sizes.{Sizes}
 use Rattle.lw_calls.specs.declared.touch.Role.{Role}
 use Rattle.lw_calls.specs.declared.touch.Role.TheVariants.{Task, Slot, Info}
-use Rattle.lw_machine.specs.Desk.{Desk, empty_desk}
+use Rattle.lw_calls.specs.Entries.{count_of}
+use Rattle.lw_machine.specs.Desk.{Desk}
 use Rattle.lw_machine.specs.History.{machine}
 use Rattle.lw_machine.specs.Parts.{SlotPart, slot_part, InfoPart, info_part}
-use Rattle.lw_order.specs.Numbered.{IsNumbered, TasksBelow, CallsFit}
+use Rattle.lw_order.specs.Numbered.{CallsFit}
 use Rattle.lw_order.specs.Seen.{SeenSeat}
-use Rattle.lw_steps.specs.Steps.{AreCells}
 
--- The seat is of this order word and has these roles, and in the history that it knows each call fits.
-pub record IsSeat (name : TableId) (desk : Desk) (has : List Role) (seat : SeenSeat) : Type 0 where
+-- The seat is of this order word, and in the history that it knows each call fits.
+pub record IsSeat (name : TableId) (desk : Desk) (seat : SeenSeat) : Type 0 where
   pub word : seat.word ≡ name
-  pub roles : seat.roles ≡ has
   pub fits : CallsFit desk.sizes seat.history
 
 -- the machine after the history that a seat knows
 abbrev pub desk_at : Desk → SeenSeat → Desk
 desk_at desk seat = machine desk seat.history
 
--- A task has its registers, and a seat with its role.
-pub record IsOwn {R : Type 0} (regs_is : R → (ℕ → List Pixel) → Type 0) (name : TableId) (desk : Desk) (task : ℕ) (seat : SeenSeat) (regs : R) : Type 0 where
-  pub seat : IsSeat name desk (Task task ∷ []) seat
-  pub regs : regs_is regs ((desk_at desk seat).registers task)
+-- Registers stand for those of a task, whose role the seat has.
+pub record AreRegs {R : Type 0} (regs_is : R → (ℕ → List Pixel) → Type 0) (desk : Desk) (task : ℕ) (seat : SeenSeat) (mine : R) : Type 0 where
+  pub has : Contains seat.roles (Task task)
+  pub stand : regs_is mine ((desk_at desk seat).registers task)
+
+-- A cell stands for its slot, whose role the seat has.
+pub record IsCell {C : Type 0} (number : C → ℕ) (cell_is : C → SlotPart → Type 0) (desk : Desk) (seat : SeenSeat) (kept : C) : Type 0 where
+  pub has : Contains seat.roles (Slot (number kept))
+  pub stands : cell_is kept (slot_part (desk_at desk seat) (number kept))
+
+-- LayerInfo stands for its part, whose role the seat has.
+pub record IsInfo {I : Type 0} (info_is : I → InfoPart → Type 0) (desk : Desk) (seat : SeenSeat) (kept : I) : Type 0 where
+  pub has : Contains seat.roles Info
+  pub stands : info_is kept (info_part (desk_at desk seat))
+
+-- A task's own part: its registers, and a seat with its role, which knows as many of its calls as it made.
+pub record IsOwn {R : Type 0} (regs_is : R → (ℕ → List Pixel) → Type 0) (name : TableId) (desk : Desk) (task made : ℕ) (own : SeenSeat) (mine : R) : Type 0 where
+  pub seat : IsSeat name desk own
+  pub roles : own.roles ≡ Task task ∷ []
+  pub regs : AreRegs regs_is desk task own mine
+  pub counted : made ≡ count_of task own.history
+
+-- A slot behind its lock: its cell, and a seat with its role.
+pub record IsLayer {C : Type 0} (number_of : C → ℕ) (cell_is : C → SlotPart → Type 0) (name : TableId) (desk : Desk) (slot : ℕ) (own : SeenSeat) (kept : C) : Type 0 where
+  pub seat : IsSeat name desk own
+  pub roles : own.roles ≡ Slot slot ∷ []
+  pub number : number_of kept ≡ slot
+  pub cell : IsCell number_of cell_is desk own kept
+
+-- LayerInfo behind its lock, and a seat with its role.
+pub record IsLayerInfo {I : Type 0} (info_is : I → InfoPart → Type 0) (name : TableId) (desk : Desk) (own : SeenSeat) (kept : I) : Type 0 where
+  pub seat : IsSeat name desk own
+  pub roles : own.roles ≡ Info ∷ []
+  pub info : IsInfo info_is desk own kept

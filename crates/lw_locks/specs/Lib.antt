@@ -1,2 +1,4 @@
+pub mod Openings
+pub mod Seen
 pub mod Promised
 pub mod Held

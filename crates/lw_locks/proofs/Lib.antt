@@ -1,0 +1,5 @@
+mod Later
+mod Looks
+mod Passes
+mod Seats
+mod Stepping

@@ -1,0 +1,122 @@
+-- What a step on parts and its stamp leave: the parts stand for the machine after the longer history, and the call was answered as the
+-- machine answers at its ticket.
+use Rattle.std.proofs.Common.{◌≡◌, ◌≢◌, ℕ, List, [], ◌∷◌, ◌++◌, refl, sym, ap, subst, ◌∙◌, arith}
+use Rattle.std.specs.Prelude.{Contains, IsTrue}
+use Rattle.lw_region.specs.Pixels.{Pixel}
+use Rattle.lw_calls.specs.declared.call.Call.{Call}
+use Rattle.lw_calls.specs.declared.entry.Entry.{Entry}
+use Rattle.lw_calls.specs.declared.reply.Reply.{Reply}
+use Rattle.lw_calls.specs.declared.touch.Role.{Role}
+use Rattle.lw_calls.specs.declared.touch.Role.TheVariants.{Task, Slot, Info}
+use Rattle.lw_calls.specs.Entries.{count_of}
+use Rattle.lw_calls.specs.Limits.{IsWithinLimits}
+use Rattle.lw_calls.specs.Touches.{OnRegisters, OnInfo, class_of}
+use Rattle.lw_machine.specs.Desk.{Desk, empty_desk}
+use Rattle.lw_machine.specs.History.{machine}
+use Rattle.lw_machine.specs.Parts.{SlotPart, slot_part, InfoPart, info_part}
+use Rattle.lw_machine.specs.Step.{after, reply}
+use Rattle.lw_order.specs.Numbered.{CallsFit}
+use Rattle.lw_order.specs.Promised.{Follows, Added}
+use Rattle.lw_order.proofs.HistoryLaws.{calls_prefix}
+use Rattle.lw_steps.specs.Steps.{IsDeskOf, IsRegsStep, IsLookStep, IsOneStep, IsTwoStep}
+use Rattle.lw_steps.proofs.Histories.{machine_push, reached, registers_stay}
+use Rattle.lw_calls.specs.declared.sizes.Sizes.{Sizes}
+use Rattle.lw_calls.specs.Assets.{Assets}
+use Rattle.lw_order.specs.Seen.{SeenSeat}
+use Rattle.lw_locks.specs.Promised.{Done}
+use Rattle.lw_locks.specs.Held.{AreRegs, IsCell, IsInfo}
+use Rattle.lw_locks.proofs.Later.{later}
+use Rattle.lw_locks.proofs.Looks.{look_leaves}
+
+-- A seat was stamped: what the order word tells of it.
+pub record WasStamped (desk : Desk) (old new : SeenSeat) (task : ℕ) (call : Call) (ticket : ℕ) : Type 0 where
+  pub added : Added old.roles old.history new.history task call ticket
+  pub roles : new.roles ≡ old.roles
+  pub fits : CallsFit desk.sizes new.history
+
+-- What the parts hang on: the machine begins with an empty desk, and these are an engine's sizes and assets.
+pub record IsBegun (desk : Desk) (s : Sizes) (a : Assets) : Type 0 where
+  pub empty : desk ≡ empty_desk desk.sizes desk.assets desk.shelf
+  pub limits : IsWithinLimits desk.sizes
+  pub sizes : s ≡ desk.sizes
+  pub assets : a ≡ desk.assets
+
+-- the history that a call was made after
+abbrev pub past : (old : SeenSeat) (task : ℕ) (call : Call) (ticket : ℕ) (new : SeenSeat) → Added old.roles old.history new.history task call ticket → List Entry
+past old task call ticket new added = old.history ++ added.between
+
+module _ (desk : Desk) (s : Sizes) (a : Assets) (begun : IsBegun desk s a) (old new : SeenSeat) (task : ℕ) (call : Call) (ticket : ℕ) (was : WasStamped desk old new task call ticket) where
+  abbrev before : List Entry
+  before = old.history ++ was.added.between
+
+  goes_on : Follows old.roles old.history before
+  goes_on = record { rest = was.added.between; prefix = refl; quiet = was.added.quiet }
+
+  ends : Follows [] before new.history
+  ends = record {
+    rest = record { task = task; seq = count_of task (old.history ++ was.added.between); call = call } ∷ [];
+    prefix = was.added.history;
+    quiet = λ k d below j e none. absurd (omega arith);
+  }
+
+  -- a sound desk, with the engine's sizes and assets
+  desk_before : IsDeskOf s a (machine desk before)
+  desk_before =
+      let it = reached desk before begun.empty begun.limits (calls_prefix desk.sizes [] before new.history ends was.fits) in
+      record { sound = it.sound; sizes = it.sizes ∙ sym begun.sizes; assets = it.assets ∙ sym begun.assets }
+
+  desk_after : machine desk new.history ≡ after (machine desk before) task call
+  desk_after =
+      ap (machine desk) was.added.history
+      ∙ machine_push desk before (record { task = task; seq = count_of task (old.history ++ was.added.between); call = call })
+
+  still_has : (r : Role) → Contains old.roles r → Contains new.roles r
+  still_has r h = subst (λ rs. Contains rs r) (sym was.roles) h
+
+  done : (r : Reply) → r ≡ reply (machine desk before) task call → Done desk old.roles task old.history new.history call r ticket
+  done r says = record { added = was.added; says = says }
+
+  -- registers before the call, and after one that isn't on them
+  regs_before : {R : Type 0} (regs_is : R → (ℕ → List Pixel) → Type 0) (regs : R) → AreRegs regs_is desk task old regs → regs_is regs ((machine desk before).registers task)
+  regs_before regs_is regs are = subst (regs_is regs) (later desk old.roles (Task task) old.history before are.has goes_on) are.stand
+
+  pub regs_stay : {R : Type 0} (regs_is : R → (ℕ → List Pixel) → Type 0) (regs : R) → class_of call ≢ OnRegisters → AreRegs regs_is desk task old regs → AreRegs regs_is desk task new regs
+  regs_stay regs_is regs other are =
+      let stay : (machine desk new.history).registers task ≡ (machine desk before).registers task = ap (λ d. d.registers task) desk_after ∙ ap (λ f. f task) (registers_stay (machine desk before) task call other) in
+      record { has = still_has (Task task) are.has; stand = subst (regs_is regs) (sym stay) (regs_before regs_is regs are) }
+
+  cell_before : {C : Type 0} (number : C → ℕ) (cell_is : C → SlotPart → Type 0) (cell : C) → IsCell number cell_is desk old cell → cell_is cell (slot_part (machine desk before) (number cell))
+  cell_before number cell_is cell is = subst (cell_is cell) (later desk old.roles (Slot (number cell)) old.history before is.has goes_on) is.stands
+
+  cell_after : {C : Type 0} (number : C → ℕ) (cell_is : C → SlotPart → Type 0) (cell cell_new : C) → number cell_new ≡ number cell → Contains old.roles (Slot (number cell)) → cell_is cell_new (slot_part (after (machine desk before) task call) (number cell)) → IsCell number cell_is desk new cell_new
+  cell_after number cell_is cell cell_new same has stands =
+      let P : ℕ → Type 0 = λ n. Contains new.roles (Slot n) in
+      let Q : ℕ → Type 0 = λ n. cell_is cell_new (slot_part (machine desk new.history) n) in
+      record {
+        has = subst P (sym same) (still_has (Slot (number cell)) has);
+        stands = subst Q (sym same) (subst (λ d. cell_is cell_new (slot_part d (number cell))) (sym desk_after) stands);
+      }
+
+  pub registers_made : {R : Type 0} (regs_is : R → (ℕ → List Pixel) → Type 0) (regs regs_new : R) (r : Reply) → AreRegs regs_is desk task old regs → IsRegsStep regs_is s a regs call r regs_new
+      → Done desk old.roles task old.history new.history call r ticket × AreRegs regs_is desk task new regs_new
+  registers_made regs_is regs regs_new r are made =
+      let now = made (machine desk before) task desk_before (regs_before regs_is regs are) in
+      (done r now.0, record { has = still_has (Task task) are.has; stand = subst (λ d. regs_is regs_new (d.registers task)) (sym desk_after) now.1 })
+
+  pub look_made : {I : Type 0} (info_is : I → InfoPart → Type 0) (info : I) (r : Reply) → IsInfo info_is desk old info → class_of call ≡ OnInfo → IsLookStep info_is s a info call r
+      → Done desk old.roles task old.history new.history call r ticket × IsInfo info_is desk new info
+  look_made info_is info r is class made =
+      let then_ = subst (info_is info) (later desk old.roles Info old.history before is.has goes_on) is.stands in
+      (done r (made (machine desk before) task desk_before then_), record { has = still_has Info is.has; stands = subst (λ d. info_is info (info_part d)) (sym desk_after) (subst (λ d. info_is info (info_part d)) (sym (look_leaves (machine desk before) task call class)) then_) })
+
+  pub one_made : {C R : Type 0} (number : C → ℕ) (cell_is : C → SlotPart → Type 0) (regs_is : R → (ℕ → List Pixel) → Type 0) (cell cell_new : C) (regs : R) (r : Reply) → IsCell number cell_is desk old cell → AreRegs regs_is desk task old regs → number cell_new ≡ number cell
+      → IsOneStep number cell_is regs_is s a cell regs task call r cell_new → Done desk old.roles task old.history new.history call r ticket × IsCell number cell_is desk new cell_new
+  one_made number cell_is regs_is cell cell_new regs r is are same made =
+      let now = made (machine desk before) desk_before (cell_before number cell_is cell is) (regs_before regs_is regs are) in
+      (done r now.0, cell_after number cell_is cell cell_new same is.has now.1)
+
+  pub two_made : {C : Type 0} (number : C → ℕ) (cell_is : C → SlotPart → Type 0) (source cell cell_new : C) (r : Reply) → IsCell number cell_is desk old source → IsCell number cell_is desk old cell → number cell_new ≡ number cell
+      → IsTwoStep number cell_is s a source cell call r cell_new → Done desk old.roles task old.history new.history call r ticket × IsCell number cell_is desk new source × IsCell number cell_is desk new cell_new
+  two_made number cell_is source cell cell_new r from is same made =
+      let now = made (machine desk before) task desk_before (cell_before number cell_is source from) (cell_before number cell_is cell is) in
+      (done r now.0, cell_after number cell_is source source refl from.has now.1, cell_after number cell_is cell cell_new same is.has now.2)

@@ -1,0 +1,85 @@
+-- A look at LayerInfo, between a join and a split of seats.
+use Rattle.std.proofs.Common.{◌≡◌, ◌<◌, ◌++◌, ◌∷◌, [], ◌∙◌, ◌+◌, refl, sym, ap, subst, false, IfOk, append_assoc}
+use Rattle.std.proofs.lemmas.List.Elements.{All-nil, All-cons, Contains-push}
+use Rattle.std.specs.Prelude.{All, Contains, Result, Ok}
+use Rattle.lw_calls.specs.declared.touch.Role.TheVariants.{Task, Slot, Info}
+use Rattle.lw_calls.specs.Entries.{count_of}
+use Rattle.lw_order.specs.Roles.{same_role}
+use Rattle.lw_order.specs.Numbered.{CallsFit}
+use Rattle.lw_steps.proofs.ClassLaws.{pair_apart}
+use Rattle.lw_locks.specs.Held.{IsSeat, AreRegs}
+use Rattle.lw_locks.specs.Seen.{SeenPass}
+use Rattle.lw_locks.specs.declared.answer.Answer.{Answer}
+use Rattle.lw_locks.proofs.Seats.{WasJoined, WasSplit, longer_by, regs_joined, info_joined}
+use Rattle.lw_locks.proofs.Passes.{room_joined, counted_joined, counted_after, own_left, done_out}
+use Rattle.lw_locks.proofs.desk.Desk.look_at.Goals as goal
+
+pub on_info-answer-requires-clause-regs : goal.on_info-answer-requires-clause-regs
+on_info-answer-requires-clause-regs g c κs within =
+    let desk = g.N.Opening.desk in
+    let task = c.pass.inside.task in
+    let mine = c.pass.inside.seat in
+    let theirs = c.info.inside.seat in
+    let both = c.join.new.seat in
+    let joined : WasJoined desk mine theirs both =
+    record { word = c.join.ensures.word; roles = c.join.ensures.roles; follows = c.join.ensures.follows; other_follows = c.join.ensures.other_follows; fits = subst (λ z. CallsFit z both.history) c.args.self.now.steps.sizes c.join.ensures.calls } in
+    regs_joined desk mine theirs both joined g.E.Engine.regs_is task c.pass.inside.regs c.pass.invariant.regs
+
+pub on_info-answer-requires-clause-info : goal.on_info-answer-requires-clause-info
+on_info-answer-requires-clause-info g c κs within =
+    let desk = g.N.Opening.desk in
+    let task = c.pass.inside.task in
+    let mine = c.pass.inside.seat in
+    let theirs = c.info.inside.seat in
+    let both = c.join.new.seat in
+    let joined : WasJoined desk mine theirs both =
+    record { word = c.join.ensures.word; roles = c.join.ensures.roles; follows = c.join.ensures.follows; other_follows = c.join.ensures.other_follows; fits = subst (λ z. CallsFit z both.history) c.args.self.now.steps.sizes c.join.ensures.calls } in
+    info_joined desk mine theirs both joined (g.E.Engine.info_is desk.sizes) c.info.inside.info c.info.invariant.info
+
+pub on_info-answer-requires-clause-room : goal.on_info-answer-requires-clause-room
+on_info-answer-requires-clause-room g c κs within =
+    let desk = g.N.Opening.desk in
+    let task = c.pass.inside.task in
+    let mine = c.pass.inside.seat in
+    let theirs = c.info.inside.seat in
+    let both = c.join.new.seat in
+    let joined : WasJoined desk mine theirs both =
+    record { word = c.join.ensures.word; roles = c.join.ensures.roles; follows = c.join.ensures.follows; other_follows = c.join.ensures.other_follows; fits = subst (λ z. CallsFit z both.history) c.args.self.now.steps.sizes c.join.ensures.calls } in
+    room_joined task mine both (longer_by desk mine theirs both joined) c.pass.invariant.regs.has (subst (λ (v : SeenPass). count_of v.task v.history < 4294967295) (sym c.pass.view_is) c.requires.room)
+
+pub invariant_of-pass : goal.invariant_of-pass
+invariant_of-pass g c =
+    let desk = g.N.Opening.desk in
+    let task = c.pass.inside.task in
+    let mine = c.pass.inside.seat in
+    let theirs = c.info.inside.seat in
+    let both = c.join.new.seat in
+    let joined : WasJoined desk mine theirs both =
+    record { word = c.join.ensures.word; roles = c.join.ensures.roles; follows = c.join.ensures.follows; other_follows = c.join.ensures.other_follows; fits = subst (λ z. CallsFit z both.history) c.args.self.now.steps.sizes c.join.ensures.calls } in
+    let stepped = c.on_info-answer.new.seat in
+    let left = c.split-seat.new.seat.history in
+    let longer = longer_by desk mine theirs both joined in
+    let ok : Result Answer (Unit {0}) = Ok c.on_info-answer.result in
+    let cut : WasSplit (Info) stepped c.split-seat.new.seat c.split-seat.result =
+    record { words = c.split-seat.ensures.words; histories = c.split-seat.ensures.histories; given_roles = c.split-seat.ensures.given; left_roles = c.split-seat.ensures.left } in
+    let roles : stepped.roles ≡ (Task task ∷ []) ++ Info ∷ [] =
+    c.on_info-answer.ensures.roles ∙ (joined.roles ∙ (ap (λ rs. rs ++ theirs.roles) c.pass.invariant.roles ∙ ap (λ rs. (Task task ∷ []) ++ rs) c.info.invariant.roles)) in
+    own_left g.E.Engine.regs_is g.N.Opening.word desk task (c.pass.inside.made + 1) Info stepped c.split-seat.new.seat c.split-seat.result c.pass.inside.regs
+    c.on_info-answer.ensures.seat c.on_info-answer.ensures.regs cut roles refl
+    (counted_after ok desk both.roles task c.pass.inside.made (c.pass.inside.made + 1) both.history stepped.history c.args.call.now (λ (a : Answer). a.reply) (λ (a : Answer). a.ticket) (longer.among (Task task) c.pass.invariant.regs.has)
+    (counted_joined task c.pass.inside.made mine both longer c.pass.invariant.regs.has c.pass.invariant.counted) refl c.on_info-answer.ensures.done tt)
+
+pub returns-clause-done : goal.returns-clause-done
+returns-clause-done g c =
+    let desk = g.N.Opening.desk in
+    let task = c.pass.inside.task in
+    let mine = c.pass.inside.seat in
+    let theirs = c.info.inside.seat in
+    let both = c.join.new.seat in
+    let joined : WasJoined desk mine theirs both =
+    record { word = c.join.ensures.word; roles = c.join.ensures.roles; follows = c.join.ensures.follows; other_follows = c.join.ensures.other_follows; fits = subst (λ z. CallsFit z both.history) c.args.self.now.steps.sizes c.join.ensures.calls } in
+    let stepped = c.on_info-answer.new.seat in
+    let left = c.split-seat.new.seat.history in
+    let longer = longer_by desk mine theirs both joined in
+    let ok : Result Answer (Unit {0}) = Ok c.on_info-answer.result in
+    done_out desk task mine both stepped.history left c.args.pass.now longer c.pass.invariant.roles c.split-seat.ensures.histories.0 c.pass.view_is ok c.args.call.now (λ (a : Answer). a.reply) (λ (a : Answer). a.ticket) c.on_info-answer.ensures.done

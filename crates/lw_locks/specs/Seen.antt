@@ -1,0 +1,8 @@
+-- A pass as contracts see it (this project's own).
+use Rattle.std.specs.Prelude.{ℕ, List}
+use Rattle.lw_calls.specs.declared.entry.Entry.{Entry}
+
+-- its task, and the history that it knows
+pub record SeenPass : Type 0 where
+  pub task : ℕ
+  pub history : List Entry

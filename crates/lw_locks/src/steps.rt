@@ -1,0 +1,144 @@
+//! Each class of calls on the parts that it touches: the machine's step by the engine, and its ticket by the order word. The step that
+//! can fail comes first, so a call that failed has no ticket.
+ghost use Rattle.std.specs.Prelude.{◌≡◌, ◌<◌, IfOk, OnErr, IsTrue};
+ghost use Rattle.lw_calls.specs.Entries.{count_of};
+ghost use Rattle.lw_calls.specs.Limits.{IsWithinLimits, call_fits};
+ghost use Rattle.lw_calls.specs.Touches.{class_of, OnRegisters, OnInfo, OnLayer, OnLayers};
+ghost use Rattle.lw_machine.specs.Desk.{empty_desk};
+ghost use Rattle.lw_locks.specs.Promised.{Done};
+ghost use Rattle.lw_locks.specs.Held.{IsSeat, AreRegs, IsCell, IsInfo};
+
+use crate::answer::Answer;
+use crate::opening::Opening;
+use lw_calls::Call;
+use lw_order::{Order, Seat};
+use lw_steps::Engine;
+use std::alloc::{AllocError, Global};
+use std::marker::PhantomData;
+
+#[derive(Drop)]
+pub(crate) struct Steps<E: Engine, N: Opening> {
+    pub(crate) order: Order,
+    pub(crate) engine: E,
+    pub(crate) of: PhantomData<N>,
+    ghost word: { order.word ≡ N.word },
+    ghost sizes: { order.sizes ≡ N.desk.sizes },
+    ghost engine_sizes: { E.sizes engine ≡ N.desk.sizes },
+    ghost engine_assets: { E.assets engine ≡ N.desk.assets },
+    ghost empty: { N.desk ≡ empty_desk N.desk.sizes N.desk.assets N.desk.shelf },
+    ghost limits: { IsWithinLimits N.desk.sizes },
+}
+
+impl<E: Engine, N: Opening> Steps<E, N> {
+    // A call on the registers of its task.
+    pub(crate) fn on_registers(
+        &self,
+        alloc: Global,
+        seat: &mut Seat,
+        task: u32,
+        regs: &mut E::Regs,
+        call: &Call,
+    ) -> Result<Answer, AllocError>
+        requires class { class_of call.now ≡ OnRegisters }
+        requires fits { IsTrue (call_fits N.desk.sizes call.now) }
+        requires seat { IsSeat N.word N.desk seat.old }
+        requires regs { AreRegs E.regs_is N.desk task seat.old regs.old }
+        requires room { count_of task seat.old.history < 4294967295 }
+        ensures seat { IsSeat N.word N.desk seat.new }
+        ensures roles { seat.new.roles ≡ seat.old.roles }
+        ensures regs { AreRegs E.regs_is N.desk task seat.new regs.new }
+        ensures done { IfOk result (λ a. Done N.desk seat.old.roles task seat.old.history seat.new.history call.now a.reply a.ticket) }
+        ensures same { OnErr result (seat.new.history ≡ seat.old.history) }
+    {
+        let reply = self.engine.regs(alloc, regs, call)?;
+        let ticket = self.order.stamp(seat, task, call);
+        Ok(Answer { reply, ticket })
+    }
+
+    // A look at LayerInfo, of a task with these registers.
+    pub(crate) fn on_info(
+        &self,
+        seat: &mut Seat,
+        task: u32,
+        info: &E::Info,
+        regs: &E::Regs,
+        call: &Call,
+    ) -> Answer
+        requires class { class_of call.now ≡ OnInfo }
+        requires fits { IsTrue (call_fits N.desk.sizes call.now) }
+        requires seat { IsSeat N.word N.desk seat.old }
+        requires regs { AreRegs E.regs_is N.desk task seat.old regs.now }
+        requires info { IsInfo (E.info_is N.desk.sizes) N.desk seat.old info.now }
+        requires room { count_of task seat.old.history < 4294967295 }
+        ensures seat { IsSeat N.word N.desk seat.new }
+        ensures roles { seat.new.roles ≡ seat.old.roles }
+        ensures regs { AreRegs E.regs_is N.desk task seat.new regs.now }
+        ensures info { IsInfo (E.info_is N.desk.sizes) N.desk seat.new info.now }
+        ensures done { Done N.desk seat.old.roles task seat.old.history seat.new.history call.now result.reply result.ticket }
+    {
+        let reply = self.engine.look(info, call);
+        let ticket = self.order.stamp(seat, task, call);
+        Answer { reply, ticket }
+    }
+
+    // A call of a task with these registers on the layer of a slot.
+    pub(crate) fn on_layer(
+        &self,
+        alloc: Global,
+        seat: &mut Seat,
+        task: u32,
+        cell: &mut E::Cell,
+        regs: &E::Regs,
+        call: &Call,
+    ) -> Result<Answer, AllocError>
+        requires class { class_of call.now ≡ OnLayer (E.number cell.old) }
+        requires fits { IsTrue (call_fits N.desk.sizes call.now) }
+        requires seat { IsSeat N.word N.desk seat.old }
+        requires regs { AreRegs E.regs_is N.desk task seat.old regs.now }
+        requires cell { IsCell E.number E.cell_is N.desk seat.old cell.old }
+        requires room { count_of task seat.old.history < 4294967295 }
+        ensures seat { IsSeat N.word N.desk seat.new }
+        ensures roles { seat.new.roles ≡ seat.old.roles }
+        ensures regs { AreRegs E.regs_is N.desk task seat.new regs.now }
+        ensures cell { IsCell E.number E.cell_is N.desk seat.new cell.new }
+        ensures number { E.number cell.new ≡ E.number cell.old }
+        ensures done { IfOk result (λ a. Done N.desk seat.old.roles task seat.old.history seat.new.history call.now a.reply a.ticket) }
+        ensures same { OnErr result (seat.new.history ≡ seat.old.history) }
+    {
+        let reply = self.engine.one(alloc, cell, regs, task, call)?;
+        let ticket = self.order.stamp(seat, task, call);
+        Ok(Answer { reply, ticket })
+    }
+
+    // A call of a task with these registers on two layers.
+    pub(crate) fn on_layers(
+        &self,
+        alloc: Global,
+        seat: &mut Seat,
+        task: u32,
+        source: &E::Cell,
+        to: &mut E::Cell,
+        regs: &E::Regs,
+        call: &Call,
+    ) -> Result<Answer, AllocError>
+        requires class { class_of call.now ≡ OnLayers (E.number source.now) (E.number to.old) }
+        requires fits { IsTrue (call_fits N.desk.sizes call.now) }
+        requires seat { IsSeat N.word N.desk seat.old }
+        requires regs { AreRegs E.regs_is N.desk task seat.old regs.now }
+        requires source { IsCell E.number E.cell_is N.desk seat.old source.now }
+        requires to { IsCell E.number E.cell_is N.desk seat.old to.old }
+        requires room { count_of task seat.old.history < 4294967295 }
+        ensures seat { IsSeat N.word N.desk seat.new }
+        ensures roles { seat.new.roles ≡ seat.old.roles }
+        ensures regs { AreRegs E.regs_is N.desk task seat.new regs.now }
+        ensures source { IsCell E.number E.cell_is N.desk seat.new source.now }
+        ensures to { IsCell E.number E.cell_is N.desk seat.new to.new }
+        ensures number { E.number to.new ≡ E.number to.old }
+        ensures done { IfOk result (λ a. Done N.desk seat.old.roles task seat.old.history seat.new.history call.now a.reply a.ticket) }
+        ensures same { OnErr result (seat.new.history ≡ seat.old.history) }
+    {
+        let reply = self.engine.two(alloc, source, to, call)?;
+        let ticket = self.order.stamp(seat, task, call);
+        Ok(Answer { reply, ticket })
+    }
+}
