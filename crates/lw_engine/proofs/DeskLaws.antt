@@ -23,7 +23,8 @@ use Rattle.lw_layer.specs.StandsFor.{StandsFor}
 use Rattle.lw_stack.specs.Stack.{Stack, StandsForInfo}
 use Rattle.lw_parts.specs.Registers.{StandForRegisters}
 use Rattle.lw_parts.proofs.BlittingLaws.{look_apart, alone_told, pair_told}
-use Rattle.lw_engine.specs.Desks.{cell_at, AreOfDesk, AreOnShelf, Engine, registers_at, StandsForDesk}
+use Rattle.lw_engine.specs.Desks.{cell_at, AreOfDesk, AreOnShelf}
+use Rattle.lw_engine.specs.Whole.{Engine, registers_at, StandsForDesk}
 use Rattle.lw_engine.specs.Steps.{with_registers, with_cell}
 
 -- a call that isn't on registers leaves them all

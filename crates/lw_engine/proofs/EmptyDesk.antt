@@ -1,9 +1,9 @@
 -- The desk of the program before the first call.
-use Rattle.std.proofs.Common.{◌≡◌, ℕ, ◌+◌, ◌<◌, ◌≤◌, ◌⊎◌, inl, inr, List, [], ◌∷◌, ◌++◌, length, get_or, map, replicate, Option, None, IsTrue, ◌∙◌, sym, refl, ap, subst, arith}
+use Rattle.std.proofs.Common.{◌≡◌, ℕ, ◌<◌, ◌≤◌, ◌⊎◌, inl, inr, List, [], length, get_or, map, replicate, Option, None, IsTrue, ◌∙◌, sym, refl, ap, subst, arith}
 use Rattle.std.specs.List.{range_with_len}
 use Rattle.std.proofs.lemmas.Bool.{cases_lt}
 use Rattle.std.proofs.lemmas.List.{get_or_past, length-replicate, get_or-replicate}
-use Rattle.std.proofs.lemmas.List.FromFn.{get_or-map-range_with_len, length-map-range_with_len, map-range_with_len_more}
+use Rattle.std.proofs.lemmas.List.FromFn.{get_or-map-range_with_len, length-map-range_with_len}
 use Rattle.std.proofs.lemmas.List.Elements.{All-nil}
 use Rattle.lw_region.specs.Rectangle.{Rectangle}
 use Rattle.lw_region.specs.Pixels.{pixels_of}
@@ -20,8 +20,9 @@ use Rattle.lw_machine.proofs.ReachedSound.{reached_sound}
 use Rattle.lw_layer.specs.View.{CellView}
 use Rattle.lw_layer.specs.StandsFor.{StandsFor}
 use Rattle.lw_stack.specs.Stack.{Stack, bounds_at}
-use Rattle.lw_engine.specs.Desks.{cell_at, hook_at, Engine, registers_at, StandsForDesk, IsEngine}
-use Rattle.lw_engine.specs.Steps.{unopened_cell}
+use Rattle.lw_engine.specs.Desks.{cell_at, hook_at}
+use Rattle.lw_engine.specs.Whole.{Engine, registers_at, StandsForDesk, IsEngine}
+use Rattle.lw_engine.specs.Desks.{unopened_cell}
 
 -- a list of layers without any
 abbrev pub empty_stack : Sizes → Stack
@@ -86,10 +87,3 @@ engine_of v shelf cells registers = record { stack = v; shelf = shelf; cells = c
 pub parts_empty : (sizes : Sizes) (v : Stack) (shelf : List (Option Hook)) (cells : List CellView) (registers : List (List (List Rectangle))) → v ≡ empty_stack sizes → cells ≡ (empty sizes shelf).cells → registers ≡ (empty sizes shelf).registers → engine_of v shelf cells registers ≡ empty sizes shelf
 parts_empty sizes v shelf cells registers list all_cells all_registers =
     ap (λ s. engine_of s shelf cells registers) list ∙ (ap (λ q. engine_of (empty_stack sizes) shelf q registers) all_cells ∙ ap (λ r. engine_of (empty_stack sizes) shelf (empty sizes shelf).cells r) all_registers)
-
--- one cell more
-pub unopened_more : (cells new : List CellView) (c : CellView) (n : ℕ) → cells ≡ map unopened_cell (range_with_len 0 n) → c ≡ unopened_cell n → new ≡ cells ++ c ∷ [] → new ≡ map unopened_cell (range_with_len 0 (n + 1))
-unopened_more cells new c n before is pushed =
-    pushed ∙
-    (ap (λ (q : List CellView). q ++ c ∷ []) before ∙
-    (ap (λ (k : CellView). map unopened_cell (range_with_len 0 n) ++ k ∷ []) is ∙ sym (map-range_with_len_more unopened_cell 0 n n (omega arith))))

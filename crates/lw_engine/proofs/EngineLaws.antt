@@ -24,7 +24,8 @@ use Rattle.lw_stack.specs.Stack.{Stack, StandsForInfo}
 use Rattle.lw_parts.specs.Registers.{StandForRegisters}
 use Rattle.lw_parts.specs.Parts.{IsRegistersStep, IsLayerStep, IsPairStep}
 use Rattle.lw_engine.specs.Arranging.{IsAllStep}
-use Rattle.lw_engine.specs.Desks.{cell_at, AreNumbered, AreOfDesk, AreAsBefore, Engine, registers_at, StandsForDesk, IsEngine}
+use Rattle.lw_engine.specs.Desks.{cell_at, AreNumbered, AreOfDesk, AreAsBefore}
+use Rattle.lw_engine.specs.Whole.{Engine, registers_at, StandsForDesk, IsEngine}
 use Rattle.lw_engine.specs.Steps.{IsStep, IsStepWith, with_registers, with_cell, roomless}
 use Rattle.lw_engine.proofs.RoomLaws.{numbered_roomed, of_desk_roomed}
 use Rattle.lw_engine.proofs.DeskLaws.{registers_desk, layer_desk, pair_desk, all_desk, after_look}

@@ -3,6 +3,8 @@ pub mod DeskLaws
 pub mod RoomLaws
 pub mod EngineLaws
 pub mod EmptyDesk
+pub mod LayerLaws
+pub mod OpenedLaws
 pub mod HookedLaws
 pub mod SettledLaws
 pub mod SettlingLaws

@@ -1,7 +1,6 @@
--- Which desks LayerInfo, the cells and the registers stand for, part by part and together (this project's own).
-use Rattle.std.specs.Prelude.{◌≡◌, ℕ, ◌<◌, List, [], map, length, Option, None}
+-- Which desks LayerInfo, the cells and the shelf of hooks stand for (this project's own).
+use Rattle.std.specs.Prelude.{◌≡◌, ℕ, ◌<◌, List, map, length, Option, None}
 use Rattle.std.specs.List.{slice_index_or}
-use Rattle.lw_region.specs.Rectangle.{Rectangle}
 use Rattle.lw_machine.specs.Hook.{Hook}
 use Rattle.lw_machine.specs.Desk.{Desk}
 use Rattle.lw_machine.specs.Parts.{slot_part, info_part}
@@ -12,11 +11,14 @@ use Rattle.lw_layer.specs.Drafts.{no_layer}
 use Rattle.lw_layer.specs.Windows.{without_room}
 use Rattle.lw_layer.specs.StandsFor.{StandsFor}
 use Rattle.lw_stack.specs.Stack.{Stack, StandsForInfo}
-use Rattle.lw_parts.specs.Registers.{StandForRegisters}
+
+-- the cell of a slot that wasn't opened so far
+abbrev pub unopened_cell : ℕ → CellView
+unopened_cell s = record { number = s; state = view.Unopened; live = no_layer }
 
 -- where there is no cell of a slot
 abbrev pub no_cell : CellView
-no_cell = record { number = 0; state = view.Unopened; live = no_layer }
+no_cell = unopened_cell 0
 
 -- the cell of a slot
 abbrev pub cell_at : List CellView → ℕ → CellView
@@ -45,29 +47,3 @@ hook_at shelf n = slice_index_or shelf n None
 -- the desk has these hooks on its shelf, by their numbers
 abbrev pub AreOnShelf : List (Option Hook) → Desk → Type 0
 AreOnShelf shelf d = (n : ℕ) → d.shelf n ≡ hook_at shelf n
-
--- What the desk of the program keeps: LayerInfo with the sizes, the shelf of hooks that no call took, the cells of all slots with
--- the hooks of their layers, and by task its registers.
-pub record Engine : Type 0 where
-  pub stack : Stack
-  pub shelf : List (Option Hook)
-  pub cells : List CellView
-  pub registers : List (List (List Rectangle))
-
--- a task's registers
-abbrev pub registers_at : Engine → ℕ → List (List Rectangle)
-registers_at e t = slice_index_or e.registers t []
-
--- It stands for a desk. What was handed in may be anything, since each call is lent it.
-pub record StandsForDesk (e : Engine) (d : Desk) : Type 0 where
-  pub parts : AreOfDesk e.stack e.cells d
-  pub hooks : AreOnShelf e.shelf d
-  pub registers : (t : ℕ) → t < e.stack.sizes.tasks → StandForRegisters (registers_at e t) (d.registers t)
-
--- What holds of every desk of the program: it stands for some desk.
-pub record IsEngine (e : Engine) : Type 0 where
-  pub cells : AreNumbered e.stack.sizes.slots e.cells
-  pub tasks : length e.registers ≡ e.stack.sizes.tasks
-  pub eight : (t : ℕ) → t < e.stack.sizes.tasks → length (registers_at e t) ≡ 8
-  pub desk : Desk
-  pub stands : StandsForDesk e desk

@@ -7,10 +7,8 @@ use Rattle.lw_calls.specs.declared.reply.Reply.{Reply}
 use Rattle.lw_machine.specs.Desk.{Desk}
 use Rattle.lw_machine.specs.Step.{after, reply}
 use Rattle.lw_layer.specs.View.{CellView}
-use Rattle.lw_layer.specs.View as view
-use Rattle.lw_layer.specs.Drafts.{no_layer}
 use Rattle.lw_layer.specs.Windows.{without_room}
-use Rattle.lw_engine.specs.Desks.{Engine, StandsForDesk}
+use Rattle.lw_engine.specs.Whole.{Engine, StandsForDesk}
 
 -- what a call of a task answers and leaves, in every desk for which the desk of the program stands
 abbrev pub IsStep : Engine → ℕ → Call → Reply → Engine → Type 0
@@ -32,7 +30,3 @@ with_cell e slot c = record e { cells = slice_set e.cells slot c }
 -- the desk of the program, whatever room the ports of its windows have
 abbrev pub roomless : Engine → Engine
 roomless e = record e { cells = map without_room e.cells }
-
--- the cell of a slot that wasn't opened so far
-abbrev pub unopened_cell : ℕ → CellView
-unopened_cell s = record { number = s; state = view.Unopened; live = no_layer }

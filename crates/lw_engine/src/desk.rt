@@ -1,5 +1,5 @@
-ghost use Rattle.std.specs.Prelude.{◌≡◌, ℕ, ◌<◌, false, List, [], map, vec_len, replicate, Option, IsOk, IfOk, OnErr, IsTrue};
-ghost use Rattle.std.specs.List.{range_with_len, slice_index_or};
+ghost use Rattle.std.specs.Prelude.{◌≡◌, ℕ, ◌<◌, false, List, [], map, vec_len, Option, IsOk, IfOk, OnErr, IsTrue};
+ghost use Rattle.std.specs.List.{slice_index_or};
 ghost use Rattle.lw_calls.specs.Assets.{Assets as AssetsView};
 ghost use Rattle.lw_calls.specs.declared.reply.Reply.{Reply as AnyReply};
 ghost use Rattle.lw_calls.specs.Limits.{IsWithinLimits, call_fits};
@@ -7,12 +7,13 @@ ghost use Rattle.lw_calls.specs.Touches.{class_of, OnRegisters, OnInfo, OnLayer,
 ghost use Rattle.lw_machine.specs.Desk.{Desk as MachineDesk, empty_desk, shelf_of};
 ghost use Rattle.lw_machine.specs.Finals.{final_of};
 ghost use Rattle.lw_parts.specs.Parts.{takes_memory};
-ghost use Rattle.lw_engine.specs.Desks.{StandsForDesk};
-ghost use Rattle.lw_engine.specs.Steps.{IsStep, IsStepWith, roomless, unopened_cell};
+ghost use Rattle.lw_engine.specs.Whole.{StandsForDesk};
+ghost use Rattle.lw_engine.specs.Steps.{IsStep, IsStepWith, roomless};
 
 use crate::all_layers::on_all;
 use crate::class::{Class, class_of};
 use crate::finishing::finish;
+use crate::opening::{empty_registers, unopened_slots};
 use crate::slot::Slot;
 use crate::two_layers::on_two;
 use lw_backfill::{Backfill, Shelf};
@@ -35,7 +36,7 @@ pub struct Desk<B: Backfill> {
 }
 
 impl<B: Backfill> Model for Desk<B> {
-    ghost use Rattle.lw_engine.specs.Desks.{Engine, IsEngine};
+    ghost use Rattle.lw_engine.specs.Whole.{Engine, IsEngine};
 
     ghost Value = { Engine };
 
@@ -178,28 +179,6 @@ impl<B: Backfill> Desk<B> {
             call,
         )
     }
-}
-
-// So many slots, of which none was opened.
-fn unopened_slots<B: Backfill>(alloc: Global, count: u32) -> Result<Vec<Slot<B>>, AllocError>
-    ensures { IfOk result (λ v. v.items ≡ map unopened_cell (range_with_len 0 count)) }
-{
-    let mut slots = Vec::with_capacity(alloc, count as usize)?;
-    for slot in 0..count {
-        slots.push(Slot::unopened(slot))?;
-    }
-    Ok(slots)
-}
-
-// Empty registers for so many tasks.
-fn empty_registers(alloc: Global, count: u32) -> Result<Vec<Regs>, AllocError>
-    ensures { IfOk result (λ v. v.items ≡ replicate count (replicate 8 [])) }
-{
-    let mut registers = Vec::with_capacity(alloc, count as usize)?;
-    for _task in 0..count {
-        registers.push(Regs::new(alloc))?;
-    }
-    Ok(registers)
 }
 
 // The desk may go to another thread where its hooks may: the bounds ask for the proofs.

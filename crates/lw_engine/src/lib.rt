@@ -8,6 +8,9 @@ mod all_layers;
 mod class;
 mod desk;
 mod finishing;
+mod layer_engine;
+mod layer_info;
+mod opening;
 mod ready;
 mod slot;
 mod two_layers;
@@ -17,6 +20,9 @@ pub use all_layers::on_all;
 pub use class::{Class, class_of};
 pub use desk::Desk;
 pub use finishing::finish;
+pub use layer_engine::LayerEngine;
+pub use layer_info::LayerInfo;
+pub use opening::Opened;
 pub use slot::Slot;
 
 #[cfg(test)]

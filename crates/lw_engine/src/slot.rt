@@ -8,7 +8,7 @@ ghost use Rattle.lw_layer.specs.View.{hooked};
 ghost use Rattle.lw_layer.specs.Windows.{without_room, HasRoom};
 ghost use Rattle.lw_parts.specs.Parts.{IsLayerStep, IsPairStep, takes_memory};
 ghost use Rattle.lw_engine.specs.Slots.{hook_in};
-ghost use Rattle.lw_engine.specs.Steps.{unopened_cell};
+ghost use Rattle.lw_engine.specs.Desks.{unopened_cell};
 
 use lw_backfill::Backfill;
 use lw_calls::{Assets, Call, Reply};

@@ -1,6 +1,6 @@
 use Rattle.std.proofs.Common.{map, sym, subst}
 use Rattle.lw_machine.specs.Desk.{empty_desk, shelf_of}
-use Rattle.lw_engine.specs.Desks.{Engine, StandsForDesk, IsEngine}
+use Rattle.lw_engine.specs.Whole.{Engine, StandsForDesk, IsEngine}
 use Rattle.lw_engine.proofs.EmptyDesk.{parts_empty, empty_engine, stands_empty}
 use Rattle.lw_engine.proofs.desk.Desk.new.Goals as goal
 

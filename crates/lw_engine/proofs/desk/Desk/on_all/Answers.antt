@@ -3,7 +3,7 @@ use Rattle.std.specs.Vec.{with_items}
 use Rattle.std.proofs.lemmas.List.{with_items_is}
 use Rattle.lw_calls.specs.declared.sizes.Sizes.{Sizes}
 use Rattle.lw_layer.specs.View.{CellView}
-use Rattle.lw_engine.specs.Desks.{Engine, IsEngine}
+use Rattle.lw_engine.specs.Whole.{Engine, IsEngine}
 use Rattle.lw_engine.specs.Steps.{IsStepWith, roomless}
 use Rattle.lw_engine.proofs.EngineLaws.{all_step, all_engine, all_kept}
 use Rattle.lw_engine.proofs.desk.Desk.on_all.Goals as goal

@@ -1,5 +1,5 @@
 use Rattle.std.proofs.Common.{subst}
-use Rattle.lw_engine.specs.Desks.{Engine}
+use Rattle.lw_engine.specs.Whole.{Engine}
 use Rattle.lw_engine.specs.Steps.{IsStep}
 use Rattle.lw_engine.proofs.EngineLaws.{look_step}
 use Rattle.lw_engine.proofs.desk.Desk.on_info.Goals as goal

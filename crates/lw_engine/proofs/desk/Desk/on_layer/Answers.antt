@@ -3,7 +3,8 @@ use Rattle.std.proofs.lemmas.List.{get_or_read}
 use Rattle.lw_calls.specs.Limits.{call_fits}
 use Rattle.lw_calls.specs.Touches.{OnLayer}
 use Rattle.lw_layer.specs.View.{CellView}
-use Rattle.lw_engine.specs.Desks.{Engine, registers_at, cell_at}
+use Rattle.lw_engine.specs.Desks.{cell_at}
+use Rattle.lw_engine.specs.Whole.{Engine, registers_at}
 use Rattle.lw_engine.specs.Steps.{IsStepWith, with_cell}
 use Rattle.lw_engine.proofs.DeskLaws.{slot_fits}
 use Rattle.lw_engine.proofs.EngineLaws.{layer_step, layer_engine}

@@ -4,7 +4,8 @@ use Rattle.std.proofs.lemmas.List.{with_items_is, length-set}
 use Rattle.lw_calls.specs.Limits.{call_fits}
 use Rattle.lw_layer.specs.View.{CellView}
 use Rattle.lw_parts.specs.Parts.{IsPairStep}
-use Rattle.lw_engine.specs.Desks.{Engine, cell_at, AreNumbered, IsEngine}
+use Rattle.lw_engine.specs.Desks.{cell_at, AreNumbered}
+use Rattle.lw_engine.specs.Whole.{Engine, IsEngine}
 use Rattle.lw_engine.specs.Steps.{IsStep}
 use Rattle.lw_engine.proofs.DeskLaws.{pair_fits}
 use Rattle.lw_engine.proofs.EngineLaws.{pair_step, pair_engine}

@@ -1,7 +1,7 @@
 use Rattle.std.proofs.Common.{◌≡◌, ◌<◌, [], IfOk, IsTrue, sym, subst, arith}
 use Rattle.std.proofs.lemmas.List.{get_or_read}
 use Rattle.lw_calls.specs.Limits.{call_fits}
-use Rattle.lw_engine.specs.Desks.{Engine, registers_at}
+use Rattle.lw_engine.specs.Whole.{Engine, registers_at}
 use Rattle.lw_engine.specs.Steps.{IsStep, with_registers}
 use Rattle.lw_engine.proofs.EngineLaws.{registers_step, registers_engine}
 use Rattle.lw_engine.proofs.desk.Desk.on_registers.Goals as goal

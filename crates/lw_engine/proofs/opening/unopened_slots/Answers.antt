@@ -1,5 +1,5 @@
-use Rattle.lw_engine.proofs.EmptyDesk.{unopened_more}
-use Rattle.lw_engine.proofs.desk.unopened_slots.Goals as goal
+use Rattle.lw_engine.proofs.OpenedLaws.{unopened_more}
+use Rattle.lw_engine.proofs.opening.unopened_slots.Goals as goal
 
 pub loop-slot-preserved : goal.loop-slot-preserved
 loop-slot-preserved g c =

@@ -1,0 +1,21 @@
+// LayerInfo with the hooks that no call took.
+
+use lw_backfill::{Backfill, Shelf};
+use lw_stack::Info;
+use std::marker::Model;
+
+/// LayerInfo, and beside it the hooks that no call took (the manual's Layers Library chapter: the `Layer_Info` structure; the shelf
+/// of hooks is this project's own). Contracts see the list of layers and the shelf.
+#[derive(Drop)]
+pub struct LayerInfo<B: Backfill> {
+    pub(crate) info: Info,
+    pub(crate) shelf: Shelf<B>,
+}
+
+impl<B: Backfill> Model for LayerInfo<B> {
+    ghost use Rattle.lw_engine.specs.Layers.{InfoView};
+
+    ghost Value = { InfoView };
+
+    ghost view = { λ i. record { stack = i.info; shelf = i.shelf } };
+}
