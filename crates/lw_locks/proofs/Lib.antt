@@ -2,4 +2,5 @@ mod Later
 mod Looks
 mod Passes
 mod Seats
+mod Starting
 mod Stepping

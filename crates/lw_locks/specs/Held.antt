@@ -1,6 +1,7 @@
 -- What lies behind a lock, or with a task: a part that stands for its part of the machine after the history that its seat knows (this
 -- project's own). A relation between values and parts is an argument, as in `lw_steps`.
-use Rattle.std.specs.Prelude.{◌≡◌, ℕ, ◌<◌, List, [], ◌∷◌, ◌++◌, map, length, Contains}
+use Rattle.std.specs.Prelude.{◌≡◌, ℕ, ◌<◌, List, [], ◌∷◌, ◌++◌, map, length, Some, Contains}
+use Rattle.std.specs.List.{slice_get}
 use Rattle.atomic_table.specs.Seated.{TableId}
 use Rattle.lw_region.specs.Pixels.{Pixel}
 use Rattle.lw_calls.specs.declared.entry.Entry.{Entry}
@@ -26,6 +27,10 @@ desk_at desk seat = machine desk seat.history
 pub record AreRegs {R : Type 0} (regs_is : R → (ℕ → List Pixel) → Type 0) (desk : Desk) (task : ℕ) (seat : SeenSeat) (mine : R) : Type 0 where
   pub has : Contains seat.roles (Task task)
   pub stand : regs_is mine ((desk_at desk seat).registers task)
+
+-- the registers of the tasks from 0 on, each of which stand for their task's part of the desk
+abbrev pub AreTasksRegs : {R : Type 0} → (R → (ℕ → List Pixel) → Type 0) → List R → Desk → Type 0
+AreTasksRegs {R = R} regs_is all d = (t : ℕ) (r : R) → slice_get all t ≡ Some r → regs_is r (d.registers t)
 
 -- A cell stands for its slot, whose role the seat has.
 pub record IsCell {C : Type 0} (number : C → ℕ) (cell_is : C → SlotPart → Type 0) (desk : Desk) (seat : SeenSeat) (kept : C) : Type 0 where

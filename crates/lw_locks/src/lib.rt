@@ -12,6 +12,7 @@ mod look;
 mod one_layer;
 mod opening;
 mod pass;
+mod start;
 mod steps;
 mod two_layers;
 
