@@ -1,12 +1,16 @@
 ghost use Rattle.std.specs.Prelude.{◌≡◌, ◌≤◌, ◌<◌, IfSome};
 ghost use Rattle.lw_calls.specs.Limits.{IsWithinLimits};
+ghost use Rattle.lw_machine.specs.Desk.{Desk};
+ghost use Rattle.lw_tasks.specs.Standing.{StandForDesk};
 
 use crate::blits::{blit_of, put_of, scroll_of};
 use lw_backfill::Solid;
-use lw_calls::{Assets, Call, Final, Kind, Make, Place, Replies, Sizes, Text};
-use lw_engine::Desk;
+use lw_calls::{Assets, Call, Kind, Make, Place, Replies, Sizes, Text};
+use lw_engine::LayerEngine;
 use lw_planes::Planes;
 use lw_region::Rect;
+use lw_steps::Engine;
+use lw_tasks::Parts;
 use std::alloc::{AllocError, Global};
 
 // How many letters a text has.
@@ -102,60 +106,92 @@ fn line_to(x: i16, y: i16) -> Call {
     Call::DrawTo { slot: 0, x, y }
 }
 
-// Makes one call on the desk, if it fits.
-fn make(
+// Makes one call on the parts, if it fits.
+fn make<E: Engine>(
     alloc: Global,
-    desk: &mut Desk<Solid>,
-    assets: &Assets,
+    engine: &E,
+    parts: &mut Parts<E>,
     sizes: &Sizes,
     call: &Call,
 ) -> Option<()>
-    requires sizes { desk.old.stack.sizes ≡ sizes.now }
+    requires sizes { E.sizes engine.now ≡ sizes.now }
     requires task { sizes.now.tasks ≡ 1 }
-    ensures { desk.new.stack.sizes ≡ desk.old.stack.sizes }
+    requires desk { (d : Desk) × StandForDesk E.info_is E.number E.cell_is E.regs_is (E.sizes engine.now) (E.assets engine.now)
+        parts.old.info parts.old.cells.items parts.old.registers.items d }
+    ensures { (d : Desk) × StandForDesk E.info_is E.number E.cell_is E.regs_is (E.sizes engine.now) (E.assets engine.now)
+        parts.new.info parts.new.cells.items parts.new.registers.items d }
 {
     if !sizes.fits(call) {
         return None;
     }
-    let _ = desk.step(alloc, assets, 0, call).ok()?;
+    let _ = parts.step(engine, alloc, 0, call).ok()?;
     Some(())
 }
 
 // Makes the calls one after another.
-fn make_each(
+fn make_each<E: Engine>(
     alloc: Global,
-    desk: &mut Desk<Solid>,
-    assets: &Assets,
+    engine: &E,
+    parts: &mut Parts<E>,
     sizes: &Sizes,
     calls: &[Call],
 ) -> Option<()>
-    requires sizes { desk.old.stack.sizes ≡ sizes.now }
+    requires sizes { E.sizes engine.now ≡ sizes.now }
     requires task { sizes.now.tasks ≡ 1 }
-    ensures { desk.new.stack.sizes ≡ desk.old.stack.sizes }
+    requires desk { (d : Desk) × StandForDesk E.info_is E.number E.cell_is E.regs_is (E.sizes engine.now) (E.assets engine.now)
+        parts.old.info parts.old.cells.items parts.old.registers.items d }
+    ensures { (d : Desk) × StandForDesk E.info_is E.number E.cell_is E.regs_is (E.sizes engine.now) (E.assets engine.now)
+        parts.new.info parts.new.cells.items parts.new.registers.items d }
 {
     for call in calls {
-        make(alloc, desk, assets, sizes, call)?;
+        make(alloc, engine, parts, sizes, call)?;
     }
     Some(())
 }
 
 // Makes all of the calls so many times.
-fn make_often(
+fn make_often<E: Engine>(
     alloc: Global,
-    desk: &mut Desk<Solid>,
-    assets: &Assets,
+    engine: &E,
+    parts: &mut Parts<E>,
     sizes: &Sizes,
     calls: &[Call],
     repetitions: u32,
 ) -> Option<()>
-    requires sizes { desk.old.stack.sizes ≡ sizes.now }
+    requires sizes { E.sizes engine.now ≡ sizes.now }
     requires task { sizes.now.tasks ≡ 1 }
-    ensures { desk.new.stack.sizes ≡ desk.old.stack.sizes }
+    requires desk { (d : Desk) × StandForDesk E.info_is E.number E.cell_is E.regs_is (E.sizes engine.now) (E.assets engine.now)
+        parts.old.info parts.old.cells.items parts.old.registers.items d }
+    ensures { (d : Desk) × StandForDesk E.info_is E.number E.cell_is E.regs_is (E.sizes engine.now) (E.assets engine.now)
+        parts.new.info parts.new.cells.items parts.new.registers.items d }
 {
     for _turn in 0..repetitions {
-        make_each(alloc, desk, assets, sizes, calls)?;
+        make_each(alloc, engine, parts, sizes, calls)?;
     }
     Some(())
+}
+
+// The parts once two layers that cover the screen were created, and then all calls made so many times.
+fn drawn<E: Engine>(
+    alloc: Global,
+    engine: &E,
+    parts: Parts<E>,
+    sizes: &Sizes,
+    calls: &[Call],
+    repetitions: u32,
+) -> Option<Parts<E>>
+    requires sizes { E.sizes engine.now ≡ sizes.now }
+    requires task { sizes.now.tasks ≡ 1 }
+    requires desk { (d : Desk) × StandForDesk E.info_is E.number E.cell_is E.regs_is (E.sizes engine.now) (E.assets engine.now)
+        parts.info parts.cells.items parts.registers.items d }
+    ensures { IfSome result (λ made. (d : Desk) × StandForDesk E.info_is E.number E.cell_is E.regs_is (E.sizes engine.now) (E.assets engine.now)
+        made.info made.cells.items made.registers.items d) }
+{
+    let mut parts = parts;
+    let both = [creation(1), creation(0)];
+    make_each(alloc, engine, &mut parts, sizes, &both)?;
+    make_often(alloc, engine, &mut parts, sizes, calls, repetitions)?;
+    Some(parts)
 }
 
 // The bytes of the screen as one number, so that each of them counts.
@@ -185,15 +221,6 @@ fn digest_of_row(row: &[u8], before: u32) -> u32 {
     sum
 }
 
-// What the desk shows at the end.
-fn shown(alloc: Global, desk: &Desk<Solid>) -> Option<Final>
-    requires { desk.now.stack.sizes.tasks ≡ 1 }
-{
-    let mut replies = Vec::new(alloc);
-    replies.push(Replies::new(Vec::new(alloc))).ok()?;
-    desk.finish(alloc, replies).ok()
-}
-
 // The glyphs, of which each is the same, and a bitmap of the screen's size.
 fn assets_of(alloc: Global, planes: u32) -> Option<Assets>
     requires some { 1 ≤ planes }
@@ -209,18 +236,6 @@ fn assets_of(alloc: Global, planes: u32) -> Option<Assets>
     })
 }
 
-// A desk with two layers that cover the screen, and no hook.
-fn desk_of(alloc: Global, assets: &Assets, sizes: &Sizes) -> Option<Desk<Solid>>
-    requires limits { IsWithinLimits sizes.now }
-    requires task { sizes.now.tasks ≡ 1 }
-    ensures { IfSome result (λ desk. desk.stack.sizes ≡ sizes.now) }
-{
-    let mut desk = Desk::new(alloc, *sizes, Vec::<Solid>::new(alloc)).ok()?;
-    let both = [creation(1), creation(0)];
-    make_each(alloc, &mut desk, assets, sizes, &both)?;
-    Some(desk)
-}
-
 pub(crate) fn repeated(
     alloc: Global,
     shape: u32,
@@ -233,16 +248,18 @@ pub(crate) fn repeated(
 {
     let sizes = sizes_of(planes);
     let assets = assets_of(alloc, planes)?;
-    let mut desk = desk_of(alloc, &assets, &sizes)?;
     let calls = calls_of(alloc, shape, side)?;
-    make_often(
-        alloc,
-        &mut desk,
-        &assets,
-        &sizes,
-        calls.as_slice(),
-        repetitions,
-    )?;
-    let last = shown(alloc, &desk)?;
+    let engine = LayerEngine::<Solid>::new(sizes, &assets);
+    let opened = engine.open(alloc, Vec::new(alloc)).ok()?;
+    let parts = Parts {
+        info: opened.info,
+        cells: opened.slots,
+        registers: opened.registers,
+    };
+    let parts = drawn(alloc, &engine, parts, &sizes, calls.as_slice(), repetitions)?;
+    let Parts { info, cells, .. } = parts;
+    let mut replies = Vec::new(alloc);
+    replies.push(Replies::new(Vec::new(alloc))).ok()?;
+    let last = engine.finish(alloc, &info, cells.as_slice(), replies).ok()?;
     Some(digest(&last.planes))
 }

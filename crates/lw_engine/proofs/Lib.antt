@@ -1,8 +1,4 @@
-pub mod PairLaws
-pub mod DeskLaws
 pub mod RoomLaws
-pub mod EngineLaws
-pub mod EmptyDesk
 pub mod LayerLaws
 pub mod OpenedLaws
 pub mod HookedLaws

@@ -1,7 +1,4 @@
 pub mod Desks
-pub mod Whole
-pub mod Classes
-pub mod Steps
 pub mod Layers
 pub mod Slots
 pub mod Finished

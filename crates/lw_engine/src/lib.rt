@@ -1,29 +1,21 @@
-//! The desk of the machine as code (the manual's Layers Library chapter). A call is made by the function of its class, which is
-//! lent the parts of the desk that such a call touches: one of `lw_parts`, or `on_all` where it arranges layers, which is lent
-//! LayerInfo, the shelf of hooks and all slots. A slot is a cell with the hook of its layer. The glyphs and bitmaps that a script
-//! hands in are lent to the calls on a layer and to arrangements, which paint frames.
+//! The machine's step on layers (the manual's Layers Library chapter). A call is made by the function of its class, which is lent the
+//! parts of the desk that such a call touches: one of `lw_parts`, or `on_all` where it arranges layers, which is lent LayerInfo, the
+//! shelf of hooks and all slots. `LayerEngine` has them all, as the trait `Engine` asks. A slot is a cell with the hook of its layer. The
+//! glyphs and bitmaps that a script hands in are lent to the calls on a layer and to arrangements, which paint frames.
 #![tactic(auto)]
 
 mod all_layers;
-mod class;
-mod desk;
 mod finishing;
 mod layer_engine;
 mod layer_info;
 mod opening;
 mod ready;
 mod slot;
-mod two_layers;
 mod window_after;
 
 pub use all_layers::on_all;
-pub use class::{Class, class_of};
-pub use desk::Desk;
 pub use finishing::finish;
 pub use layer_engine::LayerEngine;
 pub use layer_info::LayerInfo;
 pub use opening::Opened;
 pub use slot::Slot;
-
-#[cfg(test)]
-mod tests;

@@ -1,5 +1,5 @@
+mod Apart
 mod Later
-mod Looks
 mod Passes
 mod Seats
 mod Starting

@@ -1,7 +1,6 @@
 -- Seats that were joined or split: what stands for its part at one of them stands for it at the other.
-use Rattle.std.proofs.Common.{◌≡◌, ◌≢◌, ℕ, ◌==◌, Bool, true, false, not, length, List, [], ◌∷◌, ◌++◌, map, filter, cond, refl, sym, ap, subst, ◌∙◌, arith, append_assoc}
+use Rattle.std.proofs.Common.{◌≡◌, ℕ, false, length, List, [], ◌∷◌, ◌++◌, refl, sym, ap, subst, ◌∙◌, append_assoc}
 use Rattle.std.specs.Prelude.{All, Contains}
-use Rattle.std.proofs.lemmas.Bool.{false≢true}
 use Rattle.std.proofs.lemmas.List.Elements.{All-head, All-tail, All-append, Contains-append_left, Contains-append_right}
 use Rattle.atomic_table.specs.Seated.{TableId}
 use Rattle.lw_region.specs.Pixels.{Pixel}
@@ -15,9 +14,9 @@ use Rattle.lw_machine.specs.Desk.{Desk}
 use Rattle.lw_machine.specs.History.{machine}
 use Rattle.lw_machine.specs.Step.{reply}
 use Rattle.lw_machine.specs.Parts.{SlotPart, slot_part, InfoPart, info_part}
-use Rattle.lw_order.specs.Roles.{same_role, without, LeavesAlone, Quiet}
+use Rattle.lw_order.specs.Roles.{same_role, without, LeavesAlone}
 use Rattle.lw_order.specs.Numbered.{CallsFit}
-use Rattle.lw_order.specs.Promised.{Follows, Added}
+use Rattle.lw_order.specs.Promised.{Follows}
 use Rattle.lw_order.specs.Seen.{SeenSeat}
 use Rattle.lw_order.proofs.RoleLaws.{same_role_itself, quiet_fewer}
 use Rattle.lw_order.proofs.HistoryLaws.{follows_on, fewer_follow}

@@ -1,7 +1,7 @@
 -- What a step on parts and its stamp leave: the parts stand for the machine after the longer history, and the call was answered as the
 -- machine answers at its ticket.
 use Rattle.std.proofs.Common.{◌≡◌, ◌≢◌, ℕ, List, [], ◌∷◌, ◌++◌, refl, sym, ap, subst, ◌∙◌, arith}
-use Rattle.std.specs.Prelude.{Contains, IsTrue}
+use Rattle.std.specs.Prelude.{Contains}
 use Rattle.lw_region.specs.Pixels.{Pixel}
 use Rattle.lw_calls.specs.declared.call.Call.{Call}
 use Rattle.lw_calls.specs.declared.entry.Entry.{Entry}
@@ -19,14 +19,14 @@ use Rattle.lw_order.specs.Numbered.{CallsFit}
 use Rattle.lw_order.specs.Promised.{Follows, Added}
 use Rattle.lw_order.proofs.HistoryLaws.{calls_prefix}
 use Rattle.lw_steps.specs.Steps.{IsDeskOf, IsRegsStep, IsLookStep, IsOneStep, IsTwoStep}
-use Rattle.lw_steps.proofs.Histories.{machine_push, reached, registers_stay}
+use Rattle.lw_steps.proofs.ClassLaws.{after_registers, after_look}
+use Rattle.lw_steps.proofs.Histories.{machine_push, reached}
 use Rattle.lw_calls.specs.declared.sizes.Sizes.{Sizes}
 use Rattle.lw_calls.specs.Assets.{Assets}
 use Rattle.lw_order.specs.Seen.{SeenSeat}
 use Rattle.lw_locks.specs.Promised.{Done}
 use Rattle.lw_locks.specs.Held.{AreRegs, IsCell, IsInfo}
 use Rattle.lw_locks.proofs.Later.{later}
-use Rattle.lw_locks.proofs.Looks.{look_leaves}
 
 -- A seat was stamped: what the order word tells of it.
 pub record WasStamped (desk : Desk) (old new : SeenSeat) (task : ℕ) (call : Call) (ticket : ℕ) : Type 0 where
@@ -82,7 +82,7 @@ module _ (desk : Desk) (s : Sizes) (a : Assets) (begun : IsBegun desk s a) (old 
 
   pub regs_stay : {R : Type 0} (regs_is : R → (ℕ → List Pixel) → Type 0) (regs : R) → class_of call ≢ OnRegisters → AreRegs regs_is desk task old regs → AreRegs regs_is desk task new regs
   regs_stay regs_is regs other are =
-      let stay : (machine desk new.history).registers task ≡ (machine desk before).registers task = ap (λ d. d.registers task) desk_after ∙ ap (λ f. f task) (registers_stay (machine desk before) task call other) in
+      let stay : (machine desk new.history).registers task ≡ (machine desk before).registers task = ap (λ d. d.registers task) desk_after ∙ ap (λ f. f task) (after_registers (machine desk before) task call other) in
       record { has = still_has (Task task) are.has; stand = subst (regs_is regs) (sym stay) (regs_before regs_is regs are) }
 
   cell_before : {C : Type 0} (number : C → ℕ) (cell_is : C → SlotPart → Type 0) (cell : C) → IsCell number cell_is desk old cell → cell_is cell (slot_part (machine desk before) (number cell))
@@ -107,7 +107,7 @@ module _ (desk : Desk) (s : Sizes) (a : Assets) (begun : IsBegun desk s a) (old 
       → Done desk old.roles task old.history new.history call r ticket × IsInfo info_is desk new info
   look_made info_is info r is class made =
       let then_ = subst (info_is info) (later desk old.roles Info old.history before is.has goes_on) is.stands in
-      (done r (made (machine desk before) task desk_before then_), record { has = still_has Info is.has; stands = subst (λ d. info_is info (info_part d)) (sym desk_after) (subst (λ d. info_is info (info_part d)) (sym (look_leaves (machine desk before) task call class)) then_) })
+      (done r (made (machine desk before) task desk_before then_), record { has = still_has Info is.has; stands = subst (λ d. info_is info (info_part d)) (sym desk_after) (subst (λ d. info_is info (info_part d)) (sym (after_look (machine desk before) task call class)) then_) })
 
   pub one_made : {C R : Type 0} (number : C → ℕ) (cell_is : C → SlotPart → Type 0) (regs_is : R → (ℕ → List Pixel) → Type 0) (cell cell_new : C) (regs : R) (r : Reply) → IsCell number cell_is desk old cell → AreRegs regs_is desk task old regs → number cell_new ≡ number cell
       → IsOneStep number cell_is regs_is s a cell regs task call r cell_new → Done desk old.roles task old.history new.history call r ticket × IsCell number cell_is desk new cell_new

@@ -1,11 +1,9 @@
 -- What lies behind a lock, or with a task: a part that stands for its part of the machine after the history that its seat knows (this
 -- project's own). A relation between values and parts is an argument, as in `lw_steps`.
-use Rattle.std.specs.Prelude.{◌≡◌, ℕ, ◌<◌, List, [], ◌∷◌, ◌++◌, map, length, Some, Contains}
+use Rattle.std.specs.Prelude.{◌≡◌, ℕ, List, [], ◌∷◌, Some, Contains}
 use Rattle.std.specs.List.{slice_get}
 use Rattle.atomic_table.specs.Seated.{TableId}
 use Rattle.lw_region.specs.Pixels.{Pixel}
-use Rattle.lw_calls.specs.declared.entry.Entry.{Entry}
-use Rattle.lw_calls.specs.declared.touch.Role.{Role}
 use Rattle.lw_calls.specs.declared.touch.Role.TheVariants.{Task, Slot, Info}
 use Rattle.lw_calls.specs.Entries.{count_of}
 use Rattle.lw_machine.specs.Desk.{Desk}

@@ -1,16 +1,28 @@
--- The slots of a call on one layer or two, by its class.
-use Rattle.std.proofs.Common.{◌≡◌, ℕ, ◌<◌, ◌==◌, Bool, true, false, ◌&&◌, if◌then◌else◌, nat_lt, IsTrue, ◌∙◌, sym, refl, ap, subst, arith}
-use Rattle.std.proofs.lemmas.Bool.{eqb-true, and_parts}
+-- What the class of a call says of it, and of a step.
+use Rattle.std.proofs.Common.{◌≡◌, ℕ, ◌<◌, ◌==◌, Bool, true, false, ◌&&◌, nat_lt, if◌then◌else◌, Option, Some, None, IsTrue, ◌∙◌, sym, refl, ap, subst, arith}
+use Rattle.std.proofs.lemmas.Bool.{eqb-true, false≢true, and_parts}
 use Rattle.std.proofs.lemmas.Bool.Decides.{nat_tests}
-use Rattle.lw_calls.specs.declared.area.Area.{Area}
 use Rattle.lw_calls.specs.declared.sizes.Sizes.{Sizes}
+use Rattle.lw_calls.specs.declared.area.Area.{Area}
 use Rattle.lw_calls.specs.declared.call.Call.{Call}
-use Rattle.lw_calls.specs.declared.call.Call.TheVariants.{SetA, SetB, SetMode, SetMask, At, WritePixel, ReadPixel, Fill, DrawTo, Letters, SetRast, ScrollRaster, Put, Blit, Clip, Unclip, BeginRefresh, EndRefresh, Scroll, SetTitle, TakeMessage}
+use Rattle.lw_calls.specs.declared.call.Call.TheVariants.{RegRect, RegPair, RegClear, InFrontOf, Which, SetA, SetB, SetMode, SetMask, At, WritePixel, ReadPixel, Fill, DrawTo, Letters, SetRast, ScrollRaster, Put, Blit, Clip, Unclip, BeginRefresh, EndRefresh, Scroll, SetTitle, TakeMessage}
+use Rattle.lw_calls.specs.declared.reply.Reply.{Reply}
 use Rattle.lw_calls.specs.Limits.{call_fits}
-use Rattle.lw_calls.specs.Touches.{CallClass, OnRegisters, OnInfo, OnLayer, OnLayers, OnAll, class_of}
+use Rattle.lw_calls.specs.Touches.{CallClass, OnRegisters, OnInfo, OnLayer, OnLayers, OnAll, class_of, is_on_info}
+use Rattle.lw_machine.specs.Desk.{Desk}
+use Rattle.lw_machine.specs.Step.{refusal, effect, changed_unless, after}
+use Rattle.lw_machine.proofs.Untouched.{if_in_front}
+
+-- a blit is no look
+blit_no_look : (same : Bool) (source slot : ℕ) → is_on_info (if same then OnLayer slot else OnLayers source slot) ≡ false
+blit_no_look true source slot = refl
+blit_no_look false source slot = refl
+
+look_apart : (source slot : ℕ) (a : Area) → class_of (Blit source slot a) ≡ OnInfo → ⊥
+look_apart source slot a is = false≢true (sym (blit_no_look (source == slot) source slot) ∙ ap is_on_info is)
 
 -- the two layers of a blit that is on two
-pub record ArePair (m n source slot : ℕ) : Type 0 where
+record ArePair (m n source slot : ℕ) : Type 0 where
   pub from : m ≡ source
   pub to : n ≡ slot
   pub apart : (m == n) ≡ false
@@ -19,7 +31,7 @@ pair_by : (t : Bool) (m n source slot : ℕ) → (m == n) ≡ t → (if t then O
 pair_by true m n source slot same is = absurd (cc is)
 pair_by false m n source slot apart is = record { from = cc is; to = cc is; apart = apart }
 
-pub pair_told : (m n source slot : ℕ) (a : Area) → class_of (Blit m n a) ≡ OnLayers source slot → ArePair m n source slot
+pair_told : (m n source slot : ℕ) (a : Area) → class_of (Blit m n a) ≡ OnLayers source slot → ArePair m n source slot
 pair_told m n source slot a is = pair_by (m == n) m n source slot refl is
 
 -- no call on two layers is on one twice
@@ -34,8 +46,31 @@ alone_by : (t : Bool) (m n slot : ℕ) → (m == n) ≡ t → (if t then OnLayer
 alone_by true m n slot same is = let there : n ≡ slot = cc is in (eqb-true m n same ∙ there, there)
 alone_by false m n slot apart is = absurd (cc is)
 
-pub alone_told : (m n slot : ℕ) (a : Area) → class_of (Blit m n a) ≡ OnLayer slot → (m ≡ slot) × (n ≡ slot)
+alone_told : (m n slot : ℕ) (a : Area) → class_of (Blit m n a) ≡ OnLayer slot → (m ≡ slot) × (n ≡ slot)
 alone_told m n slot a is = alone_by (m == n) m n slot refl is
+
+-- a call that isn't on registers leaves them all
+effect_registers : (d : Desk) (task : ℕ) (call : Call) → (class_of call ≡ OnRegisters → ⊥) → (effect d task call).registers ≡ d.registers
+effect_registers d task (RegRect op register rect) other = absurd (other refl)
+effect_registers d task (RegPair op source into) other = absurd (other refl)
+effect_registers d task (RegClear register) other = absurd (other refl)
+effect_registers d task (InFrontOf slot front) other = if_in_front (λ a. a.registers ≡ d.registers) d _ (slot == front) refl refl
+effect_registers d task call other = refl
+
+unless_registers : (refused : Option Reply) (d e : Desk) → e.registers ≡ d.registers → (changed_unless refused d e).registers ≡ d.registers
+unless_registers None d e same = same
+unless_registers (Some r) d e same = refl
+
+pub after_registers : (d : Desk) (task : ℕ) (call : Call) → (class_of call ≡ OnRegisters → ⊥) → (after d task call).registers ≡ d.registers
+unfolding after
+after_registers d task call other = unless_registers (refusal d task call) d (effect d task call) (effect_registers d task call other)
+
+-- a look leaves all
+pub after_look : (d : Desk) (task : ℕ) (call : Call) → class_of call ≡ OnInfo → after d task call ≡ d
+unfolding after
+after_look d task (Which x y) is = refl
+after_look d task (Blit source slot area) is = absurd (look_apart source slot area is)
+after_look d task call is = absurd (cc is)
 
 -- the slot of a call on a layer is one that there is
 abbrev named : CallClass → ℕ

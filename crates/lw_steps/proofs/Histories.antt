@@ -1,19 +1,14 @@
 -- The machine after a history, by the history's parts.
-use Rattle.std.proofs.Common.{◌≡◌, ◌≢◌, ℕ, ◌==◌, List, [], ◌∷◌, ◌++◌, Option, Some, None, refl, sym, subst, ◌∙◌}
+use Rattle.std.proofs.Common.{◌≡◌, List, [], ◌∷◌, ◌++◌, refl, sym, subst, ◌∙◌}
 use Rattle.std.specs.Prelude.{All, IsTrue}
-use Rattle.lw_calls.specs.declared.call.Call.{Call}
-use Rattle.lw_calls.specs.declared.call.Call.TheVariants.{RegRect, RegPair, RegClear, InFrontOf}
 use Rattle.lw_calls.specs.declared.entry.Entry.{Entry}
-use Rattle.lw_calls.specs.declared.reply.Reply.{Reply}
 use Rattle.lw_calls.specs.Limits.{IsWithinLimits, call_fits}
-use Rattle.lw_calls.specs.Touches.{OnRegisters, class_of}
 use Rattle.lw_machine.specs.Desk.{Desk, empty_desk}
 use Rattle.lw_machine.specs.History.{machine}
 use Rattle.lw_machine.specs.Sound.{IsDesk}
-use Rattle.lw_machine.specs.Step.{refusal, effect, changed_unless, after}
+use Rattle.lw_machine.specs.Step.{after}
 use Rattle.lw_machine.proofs.Locality.{after_assets}
 use Rattle.lw_machine.proofs.ReachedSound.{after_sizes, reached_sound}
-use Rattle.lw_machine.proofs.Untouched.{if_in_front}
 use Rattle.lw_steps.specs.Steps.{IsDeskOf}
 
 -- the machine takes one history after another
@@ -43,19 +38,3 @@ reached d es empty limits fits =
       sizes = machine_sizes d es;
       assets = machine_assets d es;
     }
-
--- a call that isn't on registers leaves those of each task
-effect_leaves : (d : Desk) (task : ℕ) (call : Call) → class_of call ≢ OnRegisters → (effect d task call).registers ≡ d.registers
-effect_leaves d task (RegRect op register rect) h = absurd (h refl)
-effect_leaves d task (RegPair op source into) h = absurd (h refl)
-effect_leaves d task (RegClear register) h = absurd (h refl)
-effect_leaves d task (InFrontOf slot other) h = if_in_front (λ a. a.registers ≡ d.registers) d _ (slot == other) refl refl
-effect_leaves d task call h = refl
-
-unless_leaves : (o : Option Reply) (d e : Desk) → e.registers ≡ d.registers → (changed_unless o d e).registers ≡ d.registers
-unless_leaves None d e h = h
-unless_leaves (Some r) d e h = refl
-
-pub registers_stay : (d : Desk) (task : ℕ) (call : Call) → class_of call ≢ OnRegisters → (after d task call).registers ≡ d.registers
-unfolding after
-registers_stay d task call h = unless_leaves (refusal d task call) d (effect d task call) (effect_leaves d task call h)

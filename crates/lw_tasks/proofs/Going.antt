@@ -11,12 +11,12 @@ use Rattle.lw_calls.specs.Orders.{occurrences, may_come, keeps_groups}
 use Rattle.lw_calls.specs.Entries.{count_of, entries, next_entry}
 use Rattle.lw_machine.specs.Finals.{opening_desk}
 use Rattle.lw_machine.specs.Hook.{Hook}
-use Rattle.lw_engine.specs.Desks.{Engine}
+use Rattle.lw_machine.specs.Desk.{Desk}
 use Rattle.lw_tasks.specs.Run.{HasRun, next_of}
 use Rattle.lw_tasks.proofs.Steps.{count_of_push, occurrences_push, length_replies_of}
 
 -- The numbers before those that are left, which may come after them, and the steps that they stood for.
-pub record IsGoing (plan : Plan) (hooks : List Hook) (order left : List ℕ) (desk : Engine) (told : List (List Reply)) : Type 0 where
+pub record IsGoing (plan : Plan) (hooks : List Hook) (order left : List ℕ) (desk : Desk → Type 0) (told : List (List Reply)) : Type 0 where
   pub numbers : List ℕ
   pub past : List Entry
   pub legal : keeps_groups plan numbers left ≡ true
@@ -48,20 +48,20 @@ due plan past numbers t ts counted legal =
     record { call = c.0; found = ap (slice_get (task_calls plan t)) (counted t) ∙ c.1; later = h.1 }
 
 -- the numbers that are left are the next one and the rest
-pub going_turn : (plan : Plan) (hooks : List Hook) (order : List ℕ) (i : ℕ) (desk : Engine) (told : List (List Reply)) → i < length order → IsGoing plan hooks order (drop i order) desk told → IsGoing plan hooks order (slice_index_or order i 0 ∷ drop (i + 1) order) desk told
+pub going_turn : (plan : Plan) (hooks : List Hook) (order : List ℕ) (i : ℕ) (desk : Desk → Type 0) (told : List (List Reply)) → i < length order → IsGoing plan hooks order (drop i order) desk told → IsGoing plan hooks order (slice_index_or order i 0 ∷ drop (i + 1) order) desk told
 going_turn plan hooks order i desk told low going =
     let whole : drop i order ≡ slice_index_or order i 0 ∷ drop (suc i) order = drop-cons order i 0 low in
     let P : List ℕ → Type 0 = λ left. IsGoing plan hooks order left desk told in
     rw add-one (subst P whole going)
 
 -- the next number is a task's, which has a call left
-pub going_task : (plan : Plan) (hooks : List Hook) (order ts : List ℕ) (desk : Engine) (told : List (List Reply)) (t : ℕ) → IsPlan plan → IsGoing plan hooks order (t ∷ ts) desk told → t < plan.sizes.tasks
+pub going_task : (plan : Plan) (hooks : List Hook) (order ts : List ℕ) (desk : Desk → Type 0) (told : List (List Reply)) (t : ℕ) → IsPlan plan → IsGoing plan hooks order (t ∷ ts) desk told → t < plan.sizes.tasks
 going_task plan hooks order ts desk told t is going =
     let it : IsDue plan going.past going.numbers t ts = due plan going.past going.numbers t ts going.counted going.legal in
     let low : t < length plan.calls = in_lists plan.calls t (count_of t going.past) it.call it.found in
     omega (arith, low, is.lists)
 
-pub going_left : (plan : Plan) (hooks : List Hook) (order ts : List ℕ) (desk : Engine) (told : List (List Reply)) (t : ℕ) → IsPlan plan → IsGoing plan hooks order (t ∷ ts) desk told → length (slice_index_or told t []) < length (task_calls plan t)
+pub going_left : (plan : Plan) (hooks : List Hook) (order ts : List ℕ) (desk : Desk → Type 0) (told : List (List Reply)) (t : ℕ) → IsPlan plan → IsGoing plan hooks order (t ∷ ts) desk told → length (slice_index_or told t []) < length (task_calls plan t)
 going_left plan hooks order ts desk told t is going =
     let it : IsDue plan going.past going.numbers t ts = due plan going.past going.numbers t ts going.counted going.legal in
     let low : count_of t going.past < length (task_calls plan t) = slice_get_within (task_calls plan t) (count_of t going.past) it.call it.found in
@@ -69,7 +69,7 @@ going_left plan hooks order ts desk told t is going =
     omega (arith, low, made)
 
 -- the next number's step is made
-pub going_next : (plan : Plan) (hooks : List Hook) (order ts : List ℕ) (desk next : Engine) (told new : List (List Reply)) (t : ℕ) → ((past : List Entry) → HasRun plan hooks past desk told → HasRun plan hooks (past ++ next_of plan past t) next new) → IsGoing plan hooks order (t ∷ ts) desk told → IsGoing plan hooks order ts next new
+pub going_next : (plan : Plan) (hooks : List Hook) (order ts : List ℕ) (desk next : Desk → Type 0) (told new : List (List Reply)) (t : ℕ) → ((past : List Entry) → HasRun plan hooks past desk told → HasRun plan hooks (past ++ next_of plan past t) next new) → IsGoing plan hooks order (t ∷ ts) desk told → IsGoing plan hooks order ts next new
 going_next plan hooks order ts desk next told new t made going =
     let past = going.past in
     let it : IsDue plan past going.numbers t ts = due plan past going.numbers t ts going.counted going.legal in
@@ -85,7 +85,7 @@ going_next plan hooks order ts desk next told new t made going =
     }
 
 -- where no number is left, all steps were made
-pub going_end : (plan : Plan) (hooks : List Hook) (order left : List ℕ) (desk : Engine) (told : List (List Reply)) → left ≡ [] → IsGoing plan hooks order left desk told → HasRun plan hooks (entries plan [] order) desk told
+pub going_end : (plan : Plan) (hooks : List Hook) (order left : List ℕ) (desk : Desk → Type 0) (told : List (List Reply)) → left ≡ [] → IsGoing plan hooks order left desk told → HasRun plan hooks (entries plan [] order) desk told
 going_end plan hooks order left desk told none going =
     let P : List ℕ → Type 0 = λ ts. going.past ++ entries plan going.past ts ≡ entries plan [] order in
     let H : List Entry → Type 0 = λ es. HasRun plan hooks es desk told in

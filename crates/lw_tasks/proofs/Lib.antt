@@ -1,4 +1,7 @@
+mod ListLaws
+mod PartsLaws
 mod Going
 mod Next
+mod Opening
 pub mod OnlyOrder
 mod Steps

@@ -1,5 +1,5 @@
 -- What one more step of a history does to the machine, to each task's replies and to how many steps it made.
-use Rattle.std.proofs.Common.{◌≡◌, ℕ, ◌+◌, ◌==◌, Bool, true, false, if◌then◌else◌, List, [], ◌∷◌, ◌++◌, length, ◌∙◌, refl, ap, sym, zero-add, arith}
+use Rattle.std.proofs.Common.{◌≡◌, ℕ, ◌+◌, ◌==◌, Bool, true, false, if◌then◌else◌, List, [], ◌∷◌, ◌++◌, length, refl, ap, sym, zero-add, arith}
 use Rattle.lw_calls.specs.declared.entry.Entry.{Entry}
 use Rattle.lw_calls.specs.declared.reply.Reply.{Reply}
 use Rattle.lw_machine.specs.Desk.{Desk}
@@ -7,17 +7,6 @@ use Rattle.lw_machine.specs.Step.{after, reply}
 use Rattle.lw_calls.specs.Entries.{count_of}
 use Rattle.lw_machine.specs.History.{machine, replies_of}
 use Rattle.lw_calls.specs.Orders.{occurrences}
-use Rattle.lw_machine.proofs.Locality.{after_assets}
-
--- the machine takes the step
-pub machine_push : (d : Desk) (es : List Entry) (e : Entry) → machine d (es ++ e ∷ []) ≡ after (machine d es) e.task e.call
-machine_push d [] e = refl
-machine_push d (x ∷ es) e = machine_push (after d x.task x.call) es e
-
--- what was handed in stays
-pub machine_assets : (d : Desk) (es : List Entry) → (machine d es).assets ≡ d.assets
-machine_assets d [] = refl
-machine_assets d (x ∷ es) = machine_assets (after d x.task x.call) es ∙ after_assets d x.task x.call
 
 -- a reply that comes first, or doesn't come
 told_more : (b : Bool) (r : Reply) (xs ys zs : List Reply) → xs ≡ ys ++ zs → (if b then r ∷ xs else xs) ≡ (if b then r ∷ ys else ys) ++ zs

@@ -1,10 +1,14 @@
-//! The machine's run of a plan in an order, on one desk and with no lock (this project's own).
+//! The machine's run of a plan in an order, on the parts of one desk and with no lock (this project's own).
 #![tactic(auto)]
 
 mod laws;
+mod parts;
 mod run;
 #[cfg(test)]
 mod tests;
+#[cfg(test)]
+mod tests_desk;
 
 pub use laws::only_order_is_legal;
+pub use parts::Parts;
 pub use run::replay;

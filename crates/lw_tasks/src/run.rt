@@ -6,18 +6,22 @@ ghost use Rattle.lw_calls.specs.Limits.{call_fits};
 ghost use Rattle.lw_calls.specs.Plan.{IsPlan, task_calls};
 ghost use Rattle.lw_calls.specs.Orders.{is_legal, keeps_groups};
 ghost use Rattle.lw_calls.specs.Entries.{entries};
-ghost use Rattle.lw_machine.specs.Finals.{run_final};
+ghost use Rattle.lw_machine.specs.Desk.{Desk};
+ghost use Rattle.lw_machine.specs.Finals.{run_final, opening_desk};
 ghost use Rattle.lw_machine.specs.Hook.{Hook};
 ghost use Rattle.lw_tasks.specs.Run.{HasRun, next_of};
+ghost use Rattle.lw_tasks.specs.Standing.{StandForDesk};
 
+use crate::parts::Parts;
 use lw_backfill::Backfill;
 use lw_calls::{Call, Final, OrderList, Plan, Replies};
-use lw_engine::Desk;
+use lw_engine::LayerEngine;
+use lw_steps::Engine;
 use std::alloc::{AllocError, Global};
 
 /// The final state of the machine's run of a plan in a legal order, several tasks included, where these hooks lie on the shelf:
 /// each number makes its task's next call on the desk. It takes no lock and returns (this project's own).
-pub fn replay<B: Backfill>(
+pub fn replay<B: Backfill + Send>(
     alloc: Global,
     plan: &Plan,
     hooks: Vec<B>,
@@ -26,59 +30,104 @@ pub fn replay<B: Backfill>(
     requires legal { is_legal plan.now order.now ≡ true }
     ensures { IfOk result (λ last. last ≡ run_final plan.now (map B.hook hooks.items) order.now) }
 {
-    let mut run = Run::new(alloc, plan, hooks)?;
-    run.make_all(alloc, plan, order.tasks())?;
-    let told = run.told;
-    run.desk.finish(alloc, told)
+    let engine = LayerEngine::<B>::new(*plan.sizes(), plan.assets());
+    let opened = engine.open(alloc, hooks)?;
+    let parts = Parts {
+        info: opened.info,
+        cells: opened.slots,
+        registers: opened.registers,
+    };
+    let Run { parts, told } = ran(alloc, &engine, plan, parts, order.tasks())?;
+    let Parts { info, cells, .. } = parts;
+    engine.finish(alloc, &info, cells.as_slice(), told)
 }
 
-/// A run under way: the desk, and each task's replies so far. So many replies as a task had, so many calls it made.
+// The run of a plan on these parts, each number making its task's next call.
+fn ran<E: Engine>(
+    alloc: Global,
+    engine: &E,
+    plan: &Plan,
+    parts: Parts<E>,
+    tasks: &[u32],
+) -> Result<Run<E>, AllocError>
+    requires sizes { E.sizes engine.now ≡ plan.now.sizes }
+    requires plan { IsPlan plan.now }
+    requires legal { keeps_groups plan.now [] tasks.now ≡ true }
+    requires opened { (hooks : List Hook) × StandForDesk E.info_is E.number E.cell_is E.regs_is (E.sizes engine.now)
+        (E.assets engine.now) parts.info parts.cells.items parts.registers.items (opening_desk plan.now hooks) }
+    ensures { IfOk result (λ run. (hooks : List Hook)
+        → StandForDesk E.info_is E.number E.cell_is E.regs_is (E.sizes engine.now)
+        (E.assets engine.now) parts.info parts.cells.items parts.registers.items (opening_desk plan.now hooks)
+        → HasRun plan.now hooks (entries plan.now [] tasks.now)
+        (StandForDesk E.info_is E.number E.cell_is E.regs_is (E.sizes engine.now) (E.assets engine.now)
+        run.parts.info run.parts.cells.items run.parts.registers.items) run.told.items) }
+{
+    let told = no_replies(alloc, plan.sizes().tasks)?;
+    let mut run = Run { parts, told };
+    run.make_all(alloc, engine, plan, tasks)?;
+    Ok(run)
+}
+
+/// A run under way: the parts of the desk, and each task's replies so far. So many replies as a task had, so many calls it made.
 #[derive(Drop)]
-struct Run<B: Backfill> {
-    desk: Desk<B>,
+struct Run<E: Engine> {
+    parts: Parts<E>,
     told: Vec<Replies>,
 }
 
-impl<B: Backfill> Run<B> {
-    /// The run before its first call, with these hooks on the shelf.
-    fn new(alloc: Global, plan: &Plan, hooks: Vec<B>) -> Result<Run<B>, AllocError>
-        ensures run { IfOk result (λ run. HasRun plan.now (map B.hook hooks.items) [] run.desk run.told.items) }
-        ensures plan { IsPlan plan.now }
-    {
-        let sizes = *plan.sizes();
-        let desk = Desk::new(alloc, sizes, hooks)?;
-        let told = no_replies(alloc, sizes.tasks)?;
-        Ok(Run { desk, told })
-    }
-
+impl<E: Engine> Run<E> {
     /// Makes the calls that the numbers stand for, one after another.
-    fn make_all(&mut self, alloc: Global, plan: &Plan, tasks: &[u32]) -> Result<(), AllocError>
+    fn make_all(
+        &mut self,
+        alloc: Global,
+        engine: &E,
+        plan: &Plan,
+        tasks: &[u32],
+    ) -> Result<(), AllocError>
+        requires sizes { E.sizes engine.now ≡ plan.now.sizes }
         requires plan { IsPlan plan.now }
         requires legal { keeps_groups plan.now [] tasks.now ≡ true }
-        requires opened { (hooks : List Hook) × HasRun plan.now hooks [] self.old.desk self.old.told.items }
-        ensures { OnOk result ((hooks : List Hook) → HasRun plan.now hooks [] self.old.desk self.old.told.items
-            → HasRun plan.now hooks (entries plan.now [] tasks.now) self.new.desk self.new.told.items) }
+        requires opened { (hooks : List Hook) × HasRun plan.now hooks []
+            (StandForDesk E.info_is E.number E.cell_is E.regs_is (E.sizes engine.now) (E.assets engine.now)
+            self.old.parts.info self.old.parts.cells.items self.old.parts.registers.items) self.old.told.items }
+        ensures { OnOk result ((hooks : List Hook) → HasRun plan.now hooks []
+            (StandForDesk E.info_is E.number E.cell_is E.regs_is (E.sizes engine.now) (E.assets engine.now)
+            self.old.parts.info self.old.parts.cells.items self.old.parts.registers.items) self.old.told.items
+            → HasRun plan.now hooks (entries plan.now [] tasks.now)
+            (StandForDesk E.info_is E.number E.cell_is E.regs_is (E.sizes engine.now) (E.assets engine.now)
+            self.new.parts.info self.new.parts.cells.items self.new.parts.registers.items) self.new.told.items) }
     {
         for task in tasks {
-            self.make_next(alloc, plan, *task)?;
+            self.make_next(alloc, engine, plan, *task)?;
         }
         Ok(())
     }
 
     /// Makes the next call of a task, which has one left.
-    fn make_next(&mut self, alloc: Global, plan: &Plan, task: u32) -> Result<(), AllocError>
+    fn make_next(
+        &mut self,
+        alloc: Global,
+        engine: &E,
+        plan: &Plan,
+        task: u32,
+    ) -> Result<(), AllocError>
+        requires sizes { E.sizes engine.now ≡ plan.now.sizes }
         requires plan { IsPlan plan.now }
         requires task { task < plan.now.sizes.tasks }
-        requires sizes { self.old.desk.stack.sizes ≡ plan.now.sizes }
         requires lists { length self.old.told.items ≡ plan.now.sizes.tasks }
         requires left { length (slice_index_or self.old.told.items task []) < length (task_calls plan.now task) }
-        ensures { OnOk result ((hooks : List Hook) (past : List Entry)
-            → HasRun plan.now hooks past self.old.desk self.old.told.items
-            → HasRun plan.now hooks (past ++ next_of plan.now past task) self.new.desk self.new.told.items) }
+        requires desk { (d : Desk) × StandForDesk E.info_is E.number E.cell_is E.regs_is (E.sizes engine.now)
+            (E.assets engine.now) self.old.parts.info self.old.parts.cells.items self.old.parts.registers.items d }
+        ensures { OnOk result ((hooks : List Hook) (past : List Entry) → HasRun plan.now hooks past
+            (StandForDesk E.info_is E.number E.cell_is E.regs_is (E.sizes engine.now) (E.assets engine.now)
+            self.old.parts.info self.old.parts.cells.items self.old.parts.registers.items) self.old.told.items
+            → HasRun plan.now hooks (past ++ next_of plan.now past task)
+            (StandForDesk E.info_is E.number E.cell_is E.regs_is (E.sizes engine.now) (E.assets engine.now)
+            self.new.parts.info self.new.parts.cells.items self.new.parts.registers.items) self.new.told.items) }
     {
         let told = &mut self.told[task as usize];
         let call = call_of(plan, task, told.list().len());
-        let reply = self.desk.step(alloc, plan.assets(), task, call)?;
+        let reply = self.parts.step(engine, alloc, task, call)?;
         told.push(reply)
     }
 }

@@ -83,7 +83,7 @@ fn plan_of(alloc: Global, first: Vec<Call>, second: Vec<Call>) -> Result<Plan, A
 }
 
 /// Runs the plan in the order with these hooks, and looks for this row on the screen and for a task's two replies each.
-fn fills_both<B: Backfill>(
+fn fills_both<B: Backfill + Send>(
     rt: &(impl Abort + AllocGlobal),
     plan: &Plan,
     hooks: Vec<B>,

@@ -23,7 +23,7 @@ pub struct Outcome {
 }
 
 /// The outcome of a command that is handed these hooks, on an input of no more bytes than the limit.
-pub fn outcome_of<B: Backfill>(
+pub fn outcome_of<B: Backfill + Send>(
     alloc: Global,
     command: Command,
     input: &[u8],
@@ -65,7 +65,7 @@ fn form_of(command: Command) -> Form
 }
 
 /// The outcome of a command on a script, with these hooks.
-fn outcome_for<B: Backfill>(
+fn outcome_for<B: Backfill + Send>(
     alloc: Global,
     command: Command,
     script: &Input,
@@ -93,7 +93,7 @@ fn done(text: Vec<u8>) -> Outcome
 }
 
 /// The report of the machine's run in the order that stands in a script, with these hooks, or the order's first bad place.
-fn outcome_in_order<B: Backfill>(
+fn outcome_in_order<B: Backfill + Send>(
     alloc: Global,
     script: &Input,
     hooks: Vec<B>,

@@ -10,7 +10,7 @@ use lw_tasks::{only_order_is_legal, replay};
 use std::alloc::{AllocError, Global};
 
 /// The report of the machine's run of a plan of one task, in its only order and with these hooks.
-pub fn report_of_one<B: Backfill>(
+pub fn report_of_one<B: Backfill + Send>(
     alloc: Global,
     plan: &Plan,
     hooks: Vec<B>,
@@ -26,7 +26,7 @@ pub fn report_of_one<B: Backfill>(
 }
 
 /// The report of the machine's run of a plan in a legal order, with these hooks.
-pub fn report_of<B: Backfill>(
+pub fn report_of<B: Backfill + Send>(
     alloc: Global,
     plan: &Plan,
     hooks: Vec<B>,

@@ -15,7 +15,7 @@ use std::alloc::Global;
 const INPUT_LIMIT: usize = 4_194_304;
 
 /// Reads the source to its end, or to one byte past the limit, and writes the text of the command's outcome with these hooks.
-pub fn serve<S: Source, K: Sink, B: Backfill>(
+pub fn serve<S: Source, K: Sink, B: Backfill + Send>(
     alloc: Global,
     command: Command,
     source: &mut S,

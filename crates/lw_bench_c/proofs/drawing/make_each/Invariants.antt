@@ -1,5 +1,8 @@
-use Rattle.std.proofs.Common.{◌≡◌}
+use Rattle.lw_machine.specs.Desk.{Desk}
+use Rattle.lw_tasks.specs.Standing.{StandForDesk}
 use Rattle.lw_bench_c.proofs.drawing.make_each.Given as goal
 
 abbrev pub invariant-loop-call : goal.invariant-loop-call
-invariant-loop-call l = l.desk.stack.sizes ≡ l.initial.desk.stack.sizes
+invariant-loop-call g l =
+    let e = g.E.Engine in
+    (d : Desk) × StandForDesk e.info_is e.number e.cell_is e.regs_is (e.sizes l.engine) (e.assets l.engine) l.parts.info l.parts.cells.items l.parts.registers.items d

@@ -1,5 +1,8 @@
-use Rattle.std.proofs.Common.{◌≡◌}
+use Rattle.lw_machine.specs.Desk.{Desk}
+use Rattle.lw_tasks.specs.Standing.{StandForDesk}
 use Rattle.lw_bench_c.proofs.drawing.make_often.Given as goal
 
 abbrev pub invariant-loop-turn : goal.invariant-loop-turn
-invariant-loop-turn l = l.desk.stack.sizes ≡ l.initial.desk.stack.sizes
+invariant-loop-turn g l =
+    let e = g.E.Engine in
+    (d : Desk) × StandForDesk e.info_is e.number e.cell_is e.regs_is (e.sizes l.engine) (e.assets l.engine) l.parts.info l.parts.cells.items l.parts.registers.items d

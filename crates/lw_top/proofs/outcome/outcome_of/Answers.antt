@@ -11,7 +11,7 @@ use Rattle.lw_top.proofs.Outcomes.{outcome_of_script, refused_outcome}
 use Rattle.lw_top.proofs.outcome.outcome_of.Goals as goal
 
 pub outcome_for-requires-clause-runnable : goal.outcome_for-requires-clause-runnable
-outcome_for-requires-clause-runnable g c =
+outcome_for-requires-clause-runnable g c κs within =
     let hooks : List Hook = map (λ b. g.B.Backfill.hook b) c.args.hooks.items in
     let many : c.len.result ≡ length hooks = (let e = length-map c.args.hooks.items (λ b. g.B.Backfill.hook b) in let k = c.args.hooks.ok.0 in let n = c.len.ensures in omega (arith, e, k, n)) in
     let P : Setting → Type 0 = λ s. IsRunnableInput s (input_meaning c.in-Ok.script) in

@@ -1,13 +1,11 @@
 -- A call on two layers, between two joins and two splits of seats.
-use Rattle.std.proofs.Common.{◌≡◌, ◌<◌, ◌++◌, ◌∷◌, [], ◌∙◌, refl, sym, ap, subst, false, IfOk, append_assoc}
+use Rattle.std.proofs.Common.{◌≡◌, ◌<◌, ◌++◌, ◌∷◌, [], ◌∙◌, refl, sym, ap, subst, false}
 use Rattle.std.proofs.lemmas.List.Elements.{All-nil, All-cons, Contains-push, Contains-append_left}
-use Rattle.std.specs.Prelude.{All, Contains, Result, Ok}
-use Rattle.lw_calls.specs.declared.touch.Role.TheVariants.{Task, Slot, Info}
+use Rattle.std.specs.Prelude.{All, Contains}
+use Rattle.lw_calls.specs.declared.touch.Role.TheVariants.{Task, Slot}
 use Rattle.lw_calls.specs.Entries.{count_of}
 use Rattle.lw_order.specs.Roles.{same_role}
 use Rattle.lw_order.specs.Numbered.{CallsFit}
-use Rattle.lw_steps.proofs.ClassLaws.{pair_apart}
-use Rattle.lw_locks.specs.Held.{IsSeat, AreRegs}
 use Rattle.lw_locks.specs.Seen.{SeenPass}
 use Rattle.lw_locks.specs.declared.answer.Answer.{Answer}
 use Rattle.lw_calls.specs.Touches.{OnLayers}

@@ -1,9 +1,9 @@
 -- A look at LayerInfo, made and stamped.
-use Rattle.std.proofs.Common.{◌≡◌, subst}
+use Rattle.std.proofs.Common.{subst}
 use Rattle.lw_calls.specs.Touches.{class_of}
 use Rattle.lw_order.specs.Numbered.{CallsFit}
 use Rattle.lw_steps.specs.Steps.{IsLookStep}
-use Rattle.lw_locks.proofs.Looks.{info_apart}
+use Rattle.lw_locks.proofs.Apart.{info_apart}
 use Rattle.lw_locks.proofs.Stepping.{WasStamped, IsBegun, regs_stay, look_made}
 use Rattle.lw_locks.proofs.steps.Steps.on_info.Goals as goal
 

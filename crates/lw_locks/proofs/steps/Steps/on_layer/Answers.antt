@@ -1,8 +1,8 @@
 -- A call on one layer, made and stamped.
-use Rattle.std.proofs.Common.{◌≡◌, subst}
+use Rattle.std.proofs.Common.{subst}
 use Rattle.lw_calls.specs.Touches.{class_of}
 use Rattle.lw_order.specs.Numbered.{CallsFit}
-use Rattle.lw_locks.proofs.Looks.{layer_apart}
+use Rattle.lw_locks.proofs.Apart.{layer_apart}
 use Rattle.lw_locks.proofs.Stepping.{WasStamped, IsBegun, regs_stay, one_made}
 use Rattle.lw_locks.proofs.steps.Steps.on_layer.Goals as goal
 

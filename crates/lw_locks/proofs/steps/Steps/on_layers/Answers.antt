@@ -1,8 +1,8 @@
 -- A call on two layers, made and stamped.
-use Rattle.std.proofs.Common.{◌≡◌, subst}
+use Rattle.std.proofs.Common.{subst}
 use Rattle.lw_calls.specs.Touches.{class_of}
 use Rattle.lw_order.specs.Numbered.{CallsFit}
-use Rattle.lw_locks.proofs.Looks.{layers_apart}
+use Rattle.lw_locks.proofs.Apart.{layers_apart}
 use Rattle.lw_locks.proofs.Stepping.{WasStamped, IsBegun, regs_stay, two_made}
 use Rattle.lw_locks.proofs.steps.Steps.on_layers.Goals as goal
 

@@ -1,5 +1,5 @@
 -- A call on registers, made and stamped.
-use Rattle.std.proofs.Common.{◌≡◌, subst}
+use Rattle.std.proofs.Common.{subst}
 use Rattle.lw_order.specs.Numbered.{CallsFit}
 use Rattle.lw_locks.proofs.Stepping.{WasStamped, IsBegun, registers_made}
 use Rattle.lw_locks.proofs.steps.Steps.on_registers.Goals as goal

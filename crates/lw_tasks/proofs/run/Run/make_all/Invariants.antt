@@ -1,9 +1,16 @@
 use Rattle.std.proofs.Common.{List, [], drop}
 use Rattle.lw_machine.specs.Hook.{Hook}
 use Rattle.lw_tasks.specs.Run.{HasRun}
+use Rattle.lw_tasks.specs.Standing.{StandForDesk}
 use Rattle.lw_tasks.proofs.Going.{IsGoing}
 use Rattle.lw_tasks.proofs.run.Run.make_all.Given as goal
 
 abbrev pub invariant-loop-task : goal.invariant-loop-task
 invariant-loop-task g l =
-    (hooks : List Hook) → HasRun l.plan hooks [] l.initial.self.desk l.initial.self.told.items → IsGoing l.plan hooks l.tasks (drop l.task-index l.tasks) l.self.desk l.self.told.items
+    let e = g.E.Engine in
+    let old = l.initial.self.parts in
+    let now = l.self.parts in
+    (hooks : List Hook)
+    → HasRun l.plan hooks [] (StandForDesk e.info_is e.number e.cell_is e.regs_is (e.sizes l.engine) (e.assets l.engine) old.info old.cells.items old.registers.items) l.initial.self.told.items
+    → IsGoing l.plan hooks l.tasks (drop l.task-index l.tasks)
+    (StandForDesk e.info_is e.number e.cell_is e.regs_is (e.sizes l.engine) (e.assets l.engine) now.info now.cells.items now.registers.items) l.self.told.items

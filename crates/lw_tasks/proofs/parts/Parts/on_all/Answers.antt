@@ -1,0 +1,24 @@
+use Rattle.std.proofs.Common.{◌≡◌, List, length, IfOk, ◌∙◌, sym, subst}
+use Rattle.std.proofs.lemmas.List.{with_items_is}
+use Rattle.lw_tasks.specs.Standing.{IsStep}
+use Rattle.lw_tasks.proofs.PartsLaws.{all_step}
+use Rattle.lw_tasks.proofs.parts.Parts.on_all.Goals as goal
+
+pub returns-clause-step : goal.returns-clause-step
+returns-clause-step g c =
+    let e = g.E.Engine in
+    let a = c.args in
+    let p = a.self.now in
+    let sizes = e.sizes a.engine.now in
+    let assets = e.assets a.engine.now in
+    let new = c.all.new.cells in
+    let long : length new ≡ p.cells.len = c.all.auto.cells ∙ c.as_mut_slice.ensures.len in
+    let Left : List g.row.E-Cell.Denot → Type 0 = λ q.
+    IfOk c.all.result (λ r. IsStep e.info_is e.number e.cell_is e.regs_is sizes assets p.info q p.registers.items a.task a.call.now r c.all.new.info new p.registers.items)
+    in
+    let Made : List g.row.E-Cell.Denot → Type 0 = λ q.
+    IfOk c.all.result (λ r. IsStep e.info_is e.number e.cell_is e.regs_is sizes assets p.info p.cells.items p.registers.items a.task a.call.now r c.all.new.info q p.registers.items)
+    in
+    subst Made (sym (with_items_is p.cells new long))
+    (subst Left c.as_mut_slice.ensures.value
+    (all_step e.info_is e.number e.cell_is e.regs_is sizes assets c.all.result p.info c.all.new.info c.as_mut_slice.result.now new p.registers.items a.task a.call.now c.requires.class c.all.ensures.step))
