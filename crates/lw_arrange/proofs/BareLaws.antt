@@ -20,7 +20,7 @@ use Rattle.lw_layer.specs.View as view
 use Rattle.lw_layer.specs.Pieces.{columns, lines}
 use Rattle.lw_layer.specs.StandsFor.{IsSound}
 use Rattle.lw_reveal.specs.Changed.{across_to, windowless, carried_to}
-use Rattle.lw_reveal.proofs.GainedView.{gained_view, carried_plain, carried_own}
+use Rattle.lw_reveal.proofs.GainedView.{gained_view, carried_without_bitmap, carried_own}
 use Rattle.lw_reveal.proofs.GainedCounts.{counts_kept}
 use Rattle.lw_arrange.specs.Filled.{gains, filled_layer}
 use Rattle.lw_arrange.proofs.FilledLaws.{with_hook, unfilled_bare}
@@ -96,15 +96,15 @@ gained_blank c r visible x y live sound stays has =
     part other =
         let k = across_to c.live r visible in
         let g = gained_view r visible c.live in
-        let plain = carried_plain c.live r visible other in
+        let carried = carried_without_bitmap c.live r visible other in
         let inside = gained_inside c (stayed r visible c) x y has in
-        let left = subst (λ (v : LiveView). x < v.layer.bits.width) plain inside.0 in
-        let low = subst (λ (v : LiveView). y < v.layer.bits.height) plain inside.1 in
+        let left = subst (λ (v : LiveView). x < v.layer.bits.width) carried inside.0 in
+        let low = subst (λ (v : LiveView). y < v.layer.bits.height) carried inside.1 in
         let filled : (reveal.keeps k (resized k l) x y && not (counts_as_kept k l x y)) ≡ true =
         sym (gains_stayed c r visible c.live.active c.live.active x y live other) ∙ has in
         let same : counts_as_kept k (windowless l) x y ≡ counts_as_kept k l x y =
         counts_kept c.live r visible x y ∙ sym (all_counts c.live r visible x y stays) in
-        ap (λ (v : LiveView). pen_at v.layer.bits x y) plain
+        ap (λ (v : LiveView). pen_at v.layer.bits x y) carried
         ∙ (pens left low
         ∙ (bare_is c.live r visible x y sound
         ∙ zero_pen (reveal.keeps k (resized k l) x y) (counts_as_kept k (windowless l) x y) (counts_as_kept k l x y)
@@ -134,7 +134,7 @@ pub carried_bitmap : (c : LiveView) (r : Rectangle) (visible : List Rectangle) �
 carried_bitmap c r visible sound =
     let P : LiveView → Type 0 = λ v. IsBitmap v.layer.bits in
     ⊎_elim (λ (own : is_super c.layer.kind ≡ true). subst P (sym (carried_own c r visible own)) sound.bits.bitmap)
-    (λ (other : is_super c.layer.kind ≡ false). subst P (sym (carried_plain c r visible other)) gained)
+    (λ (other : is_super c.layer.kind ≡ false). subst P (sym (carried_without_bitmap c r visible other)) gained)
     (cases_Bool (is_super c.layer.kind))
   where
     gained : IsBitmap (gained_view r visible c).layer.bits
@@ -154,7 +154,7 @@ carried_bare c r visible sound =
     ⊎_elim
     (λ (own : is_super c.layer.kind ≡ true). ap (λ (v : LiveView). v.layer.hook) (carried_own c r visible own) ∙ sound.hook)
     (λ (other : is_super c.layer.kind ≡ false).
-    ap (λ (v : LiveView). v.layer.hook) (carried_plain c r visible other) ∙ ap (hook_after _) sound.hook)
+    ap (λ (v : LiveView). v.layer.hook) (carried_without_bitmap c r visible other) ∙ ap (hook_after _) sound.hook)
     (cases_Bool (is_super c.layer.kind))
 
 -- So a live layer without a hook is as it is filled.

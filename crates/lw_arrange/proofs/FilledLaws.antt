@@ -95,11 +95,11 @@ pub revealed_filled : (k : Across) (l : Layer) (h : Option Hook) (on : ℕ → �
     → some ≡ some_now k (λ x y. on x y) → AreLeft k l pen
     → revealed k (with_hook h l) ≡ filled_layer h on some (with_other_pens k l pen other)
 unfolding with_pens counts_as_kept is_kept
-revealed_filled k l h on some pen other plain is any left =
+revealed_filled k l h on some pen other without_bitmap is any left =
     let r = revealed_in k (with_hook h l) in
     let f = filled_layer h on some (with_other_pens k l pen other) in
     let turns : r.hook ≡ hook_after some h = ap (λ b. hook_after b h) (some_filled k l h on is ∙ sym any) in
-    revealed_plain k (with_hook h l) plain
+    revealed_plain k (with_hook h l) without_bitmap
     ∙ (ap (λ b. record r { bits = b }) (bits_filled k l h on some pen other is left) ∙ ap (λ q. record f { hook = q }) turns)
 
 -- a bitmap with some pens given again, that are what they were

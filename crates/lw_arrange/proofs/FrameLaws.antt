@@ -21,7 +21,7 @@ use Rattle.lw_layer.specs.View as view
 use Rattle.lw_layer.specs.Pieces.{columns, lines, inner_of}
 use Rattle.lw_layer.specs.StandsFor.{IsSound}
 use Rattle.lw_layer.proofs.InnerLaws.{may_pixel}
-use Rattle.lw_reveal.proofs.GainedView.{carried_plain}
+use Rattle.lw_reveal.proofs.GainedView.{carried_without_bitmap}
 use Rattle.lw_arrange.specs.Filled.{gains, AreGained}
 use Rattle.lw_arrange.specs.Framed.{lies_inside, IsFrameGained, has_corners}
 use Rattle.lw_arrange.proofs.FilledLaws.{none_passes, one_passes, with_hook}
@@ -198,8 +198,8 @@ frame_gained c r visible h active new_active rects answer live sound framed are 
     inside : (x y : ℕ) → gains c to x y ≡ true → (x < columns r) × (y < lines r)
     inside x y has =
         let place = gained_inside c to x y has in
-        let plain = carried_plain c.live r visible other in
-        (subst (λ (v : LiveView). x < v.layer.bits.width) plain place.0, subst (λ (v : LiveView). y < v.layer.bits.height) plain place.1)
+        let carried = carried_without_bitmap c.live r visible other in
+        (subst (λ (v : LiveView). x < v.layer.bits.width) carried place.0, subst (λ (v : LiveView). y < v.layer.bits.height) carried place.1)
 
     inner : (x y : ℕ) → gains c to x y ≡ true → lies_inside r (pos x) (pos y) ≡ is_inner q l x y
     inner x y has =

@@ -31,7 +31,7 @@ use Rattle.lw_reveal.specs.Counted.{inner_with, counts_pixel, AreCounted}
 use Rattle.lw_reveal.proofs.GainedView.{gained_view, gained_plain, carried_own}
 use Rattle.lw_reveal.proofs.GainedCounts.{counted_pixel}
 use Rattle.lw_stack.specs.Stack.{bounds_at}
-use Rattle.lw_arrange.specs.Plans.{Planned}
+use Rattle.lw_arrange.specs.Arrangements.{ArrangementView}
 use Rattle.lw_arrange.specs.Prepared.{Created, created_by, kind_of, without_layer, becomes, shown_at, cell_after, MayBeNew, MayOpen}
 use Rattle.lw_arrange.specs.Filled.{keeps_if_live, counts_if_live, gains, gains_some, AreGained, filled_by}
 use Rattle.lw_arrange.proofs.FilledLaws.{none_passes, one_passes}
@@ -86,7 +86,7 @@ dead_without c = go c.state refl
     go view.Closed is live = cc (is, live)
 
 -- So nothing is gained where a slot has no bounds afterwards.
-pub unbounded_gained : (a : Planned) (c : CellView) → bounds_at a.stack.bounds c.number ≡ None → AreGained c (cell_after a c) []
+pub unbounded_gained : (a : ArrangementView) (c : CellView) → bounds_at a.stack.bounds c.number ≡ None → AreGained c (cell_after a c) []
 unbounded_gained a c none =
     let after : cell_after a c ≡ without_layer c c.state =
     ap (becomes (created_by a.task a.call) a.stack.sizes.depth (shown_at a c.number) c) none in

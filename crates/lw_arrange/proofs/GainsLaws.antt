@@ -15,7 +15,7 @@ use Rattle.lw_layer.specs.View.{State, LiveView, CellView, keeps, with_live}
 use Rattle.lw_layer.specs.View as view
 use Rattle.lw_layer.specs.StandsFor.{IsSound}
 use Rattle.lw_reveal.specs.Changed.{across_to, windowless, carried_to}
-use Rattle.lw_reveal.proofs.GainedView.{gained_view, carried_plain, carried_own}
+use Rattle.lw_reveal.proofs.GainedView.{gained_view, carried_without_bitmap, carried_own}
 use Rattle.lw_reveal.proofs.GainedCounts.{counts_kept}
 use Rattle.lw_arrange.specs.Filled.{keeps_if_live, counts_if_live, gains, gains_some, filled_layer}
 use Rattle.lw_arrange.proofs.FilledLaws.{none_passes, with_hook, with_other_pens, AreLeft, revealed_filled, unfilled}
@@ -45,7 +45,7 @@ gains_stayed c r visible active new_active x y live other =
     let l = c.live.layer in
     let Gains : State → LiveView → Bool =
     λ s v. not (is_super v.layer.kind) && (keeps_if_live s v x y && not (counts_if_live s c.live v x y)) in
-    ap (λ v. Gains c.state v) (carried_plain c.live r visible other)
+    ap (λ v. Gains c.state v) (carried_without_bitmap c.live r visible other)
     ∙ (ap (λ s. Gains s (gained_view r visible c.live)) live ∙ ap (λ t. not t && fills k l (resized k l) x y) other)
 
 -- whether something is gained, asked over the machine's size
@@ -53,7 +53,7 @@ some_stayed : (c : CellView) (r : Rectangle) (visible : List Rectangle) → is_s
     → gains_some c (stayed r visible c) ≡ some_now (across_to c.live r visible) (λ x y. gains c (stayed r visible c) x y)
 some_stayed c r visible other =
     ap (λ (v : LiveView). some_pixel v.layer.bits.width v.layer.bits.height (λ x y. gains c (stayed r visible c) x y))
-    (carried_plain c.live r visible other)
+    (carried_without_bitmap c.live r visible other)
 
 -- the pens of the layer that is carried, before it is filled
 abbrev pub carried_pen : LiveView → Rectangle → List Rectangle → ℕ → ℕ → ℕ
@@ -132,7 +132,7 @@ live_revealed c r visible h active new_active live sound =
         (λ x y. gains_stayed c r visible active new_active x y live other) (some_stayed c r visible other)
         (carried_left c.live r visible active new_active)
         ∙ (ap (filled_layer h on (gains_some c to)) (carried_pens c.live r visible active new_active)
-        ∙ ap (λ (v : LiveView). filled_layer h on (gains_some c to) v.layer) (sym (carried_plain c.live r visible other)))
+        ∙ ap (λ (v : LiveView). filled_layer h on (gains_some c to) v.layer) (sym (carried_without_bitmap c.live r visible other)))
 
 -- A pixel that is gained is one of the layer's bits.
 pub gained_inside : (from to : CellView) (x y : ℕ) → gains from to x y ≡ true

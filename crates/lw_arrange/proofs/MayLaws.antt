@@ -30,7 +30,7 @@ use Rattle.lw_layer.specs.Pieces.{columns, lines, HasFrameRoom}
 use Rattle.lw_layer.specs.StandsFor.{IsPartOf, StandsFor, IsSound}
 use Rattle.lw_stack.specs.Stack.{bounds_at, first_at, is_first_at}
 use Rattle.lw_reveal.specs.Changed.{MayHave}
-use Rattle.lw_arrange.specs.Plans.{Planned, IsPlanned}
+use Rattle.lw_arrange.specs.Arrangements.{ArrangementView, IsArrangement}
 use Rattle.lw_arrange.specs.Prepared.{Created, created_by, shown_at, HasClasses, MayBeNew, MayBecome, MayBe, MayPrepare}
 use Rattle.lw_arrange.proofs.SettledLaws.{each_settled}
 use Rattle.lw_arrange.proofs.CellLaws.{Stays, Opens, slot_becomes}
@@ -86,7 +86,7 @@ may_fit s framed k x y w h r limits may =
     }
 
 -- what is shown of a slot lies in its bounds
-pub shown_inside : (a : Planned) (s : ℕ) (r : Rectangle) → IsPlanned a → bounds_at a.stack.bounds s ≡ Some r → LieIn r (shown_at a s)
+pub shown_inside : (a : ArrangementView) (s : ℕ) (r : Rectangle) → IsArrangement a → bounds_at a.stack.bounds s ≡ Some r → LieIn r (shown_at a s)
 unfolding first_at
 shown_inside a s r ok planned x y has =
     let low : s < length a.stack.bounds = listed_low a.stack.bounds s (ap has_bounds planned) in
@@ -181,7 +181,7 @@ placed_may e s m r ok slot bounds =
     (subst Q bounds here).may
 
 -- a layer that stays live may have its new bounds
-stays_may : (d : Desk) (caller : ℕ) (made : Call) (a : Planned) (c : CellView) (h : Option Hook) → IsDone d caller made a
+stays_may : (d : Desk) (caller : ℕ) (made : Call) (a : ArrangementView) (c : CellView) (h : Option Hook) → IsDone d caller made a
     → c.state ≡ view.Live → StandsFor (hooked h c) (slot_part d c.number) → IsSound c.live → (r : Rectangle)
     → bounds_at a.stack.bounds c.number ≡ Some r → Stays d (arranged d caller made) c.number
     → MayHave c.live r (shown_at a c.number)
@@ -264,7 +264,7 @@ asked_fits task (OpenWindow slot m framed nocare asks title) sizes n asked fits 
 asked_fits task call sizes n asked fits = absurd (cc asked)
 
 -- what a new layer asks of its bounds
-opens_may : (d : Desk) (caller : ℕ) (made : Call) (a : Planned) (s : ℕ) → IsDone d caller made a
+opens_may : (d : Desk) (caller : ℕ) (made : Call) (a : ArrangementView) (s : ℕ) → IsDone d caller made a
     → (opens : Opens d (arranged d caller made) caller made s) → MayBeNew opens.created d.sizes.depth (bounds_of opens.created.make)
 opens_may d caller made a s done opens =
     let n = opens.created in
@@ -287,7 +287,7 @@ opens_may d caller made a s done opens =
     }
 
 -- A cell of the desk may be prepared, whatever hook its layer has.
-pub may_prepare : (d : Desk) (caller : ℕ) (made : Call) (a : Planned) (c : CellView) (h : Option Hook) → IsDone d caller made a
+pub may_prepare : (d : Desk) (caller : ℕ) (made : Call) (a : ArrangementView) (c : CellView) (h : Option Hook) → IsDone d caller made a
     → StandsFor (hooked h c) (slot_part d c.number) → (c.state ≡ view.Live → IsSound c.live) → MayPrepare a c
 may_prepare d caller made a c h done stands sound =
     let s = c.number in

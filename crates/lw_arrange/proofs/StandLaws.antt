@@ -26,23 +26,23 @@ use Rattle.lw_layer.specs.View as view
 use Rattle.lw_layer.specs.Drafts.{no_layer}
 use Rattle.lw_layer.specs.StandsFor.{IsLivePart, IsPartOf, StandsFor}
 use Rattle.lw_stack.specs.Stack.{Stack, bounds_at, first_at, is_first_at, StandsForInfo}
-use Rattle.lw_arrange.specs.Plans.{Planned, IsPlanned}
-use Rattle.lw_arrange.specs.Arranged.{IsPlanOf}
+use Rattle.lw_arrange.specs.Arrangements.{ArrangementView, IsArrangement}
+use Rattle.lw_arrange.specs.Arranged.{IsArrangementOf}
 use Rattle.lw_arrange.specs.Prepared.{Created, created_by, without_layer, shown_at}
 use Rattle.lw_arrange.specs.Filled.{hook_asked}
-use Rattle.lw_arrange.specs.Settled.{across_plan, settled_live, settled_new, new_of, settled_with, settled_by, slot_settled}
+use Rattle.lw_arrange.specs.Settled.{across_arrangement, settled_live, settled_new, new_of, settled_with, settled_by, slot_settled}
 use Rattle.lw_arrange.proofs.SettledLaws.{each_settled, across_is}
 use Rattle.lw_arrange.proofs.CellLaws.{Stays, Opens, Closes, slot_becomes}
 
 -- A planned arrangement of a sound desk, as it is done.
-pub record IsDone (d : Desk) (caller : ℕ) (made : Call) (a : Planned) : Type 0 where
+pub record IsDone (d : Desk) (caller : ℕ) (made : Call) (a : ArrangementView) : Type 0 where
   pub sound : IsDesk d
   pub settled : IsDesk (settled d (arranged d caller made))
   pub fits : IsTrue (call_fits d.sizes made)
   pub all : class_of made ≡ OnAll
   pub unrefused : refusal d caller made ≡ None
-  pub planned : IsPlanned a
-  pub plan : IsPlanOf d caller made a
+  pub planned : IsArrangement a
+  pub plan : IsArrangementOf d caller made a
   pub sizes : a.stack.sizes ≡ d.sizes
 
 -- bounds that are there
@@ -77,7 +77,7 @@ listed_low (o ∷ os) zero has = omega arith
 listed_low (o ∷ os) (suc s) has = let h = listed_low os s has in omega (arith, h)
 
 -- what is shown of a slot afterwards
-pub shown_after : (d : Desk) (caller : ℕ) (made : Call) (a : Planned) (s : ℕ) (x y : ℤ) → IsDone d caller made a → has_bounds (bounds_at a.stack.bounds s) ≡ true → is_shown (arranged d caller made) s x y ≡ covers (shown_at a s) x y
+pub shown_after : (d : Desk) (caller : ℕ) (made : Call) (a : ArrangementView) (s : ℕ) (x y : ℤ) → IsDone d caller made a → has_bounds (bounds_at a.stack.bounds s) ≡ true → is_shown (arranged d caller made) s x y ≡ covers (shown_at a s) x y
 shown_after d caller made a s x y done has =
     shown_is a.stack (arranged d caller made) s x y done.plan.info ∙ sym (done.planned.shown.places s x y (listed_low a.stack.bounds s has))
 
@@ -142,12 +142,12 @@ shown_nowhere d s x y none = go (find (λ t. bounds_have (d.bounds t) x y) d.fro
     go (Some n) is = step n (n == s) refl (find_passes (λ t. bounds_have (d.bounds t) x y) d.front_to_back n is)
 
 -- what the plan leaves active is the desk's
-active_after : (d : Desk) (caller : ℕ) (made : Call) (a : Planned) (s : ℕ) → IsDone d caller made a
+active_after : (d : Desk) (caller : ℕ) (made : Call) (a : ArrangementView) (s : ℕ) → IsDone d caller made a
     → is_the (arranged d caller made).active s ≡ is_the a.stack.active s
 active_after d caller made a s done = ap (λ o. is_the o s) done.plan.info.active
 
 -- The slot of a layer that stays live.
-stays_live : (d : Desk) (caller : ℕ) (made : Call) (a : Planned) (c : CellView) (h : Option Hook) → IsDone d caller made a
+stays_live : (d : Desk) (caller : ℕ) (made : Call) (a : ArrangementView) (c : CellView) (h : Option Hook) → IsDone d caller made a
     → c.state ≡ view.Live → StandsFor c (slot_part d c.number) → Stays d (arranged d caller made) c.number
     → StandsFor (slot_settled d.assets.glyphs a h c) (slot_part (settled d (arranged d caller made)) c.number)
 stays_live d caller made a c h done live stands stays =
@@ -158,7 +158,7 @@ stays_live d caller made a c h done live stands stays =
     let place = there (e.bounds s) (stays.bounds ∙ ap has_bounds part.bounds) in
     let r = place.0 in
     let planned : bounds_at a.stack.bounds s ≡ Some r = sym (done.plan.info.bounds s) ∙ place.1 in
-    let q = across_plan a s (Some c.live.bounds) c.live r in
+    let q = across_arrangement a s (Some c.live.bounds) c.live r in
     let shown : (x y : ℤ) → is_shown e s x y ≡ covers (shown_at a s) x y =
     λ x y. shown_after d caller made a s x y done (ap has_bounds planned) in
     let same : across d e s ≡ q =
@@ -178,7 +178,7 @@ stays_live d caller made a c h done live stands stays =
     })
 
 -- The slot that stays without a layer.
-stays_dead : (d : Desk) (caller : ℕ) (made : Call) (a : Planned) (c : CellView) (h : Option Hook) → IsDone d caller made a
+stays_dead : (d : Desk) (caller : ℕ) (made : Call) (a : ArrangementView) (c : CellView) (h : Option Hook) → IsDone d caller made a
     → (c.state ≡ view.Live → ⊥) → StandsFor c (slot_part d c.number) → Stays d (arranged d caller made) c.number
     → StandsFor (slot_settled d.assets.glyphs a h c) (slot_part (settled d (arranged d caller made)) c.number)
 stays_dead d caller made a c h done dead stands stays = go c.state refl
@@ -218,7 +218,7 @@ stays_dead d caller made a c h done dead stands stays = go c.state refl
         (each_settled d e s Closed done.settled (stays.slot ∙ was.0), none_after was.1)
 
 -- The slot of a layer that is deleted.
-closes_slot : (d : Desk) (caller : ℕ) (made : Call) (a : Planned) (c : CellView) (h : Option Hook) → IsDone d caller made a
+closes_slot : (d : Desk) (caller : ℕ) (made : Call) (a : ArrangementView) (c : CellView) (h : Option Hook) → IsDone d caller made a
     → StandsFor c (slot_part d c.number) → Closes d (arranged d caller made) c.number
     → StandsFor (slot_settled d.assets.glyphs a h c) (slot_part (settled d (arranged d caller made)) c.number)
 closes_slot d caller made a c h done stands closes =
@@ -231,13 +231,13 @@ closes_slot d caller made a c h done stands closes =
     subst P (sym after) (each_settled d e s Closed done.settled closes.slot, closes.bounds)
 
 -- the layer that the plan creates is the call's
-pub created_is : (d : Desk) (caller : ℕ) (made : Call) (a : Planned) (n : Created) → IsDone d caller made a
+pub created_is : (d : Desk) (caller : ℕ) (made : Call) (a : ArrangementView) (n : Created) → IsDone d caller made a
     → created_by caller made ≡ Some n → created_by a.task a.call ≡ Some n
 created_is d caller made a n done asked =
     ap (λ t. created_by t a.call) done.plan.task ∙ (ap (created_by caller) done.plan.call ∙ asked)
 
 -- The slot of a layer that is created.
-opens_slot : (d : Desk) (caller : ℕ) (made : Call) (a : Planned) (c : CellView) (h : Option Hook) → IsDone d caller made a
+opens_slot : (d : Desk) (caller : ℕ) (made : Call) (a : ArrangementView) (c : CellView) (h : Option Hook) → IsDone d caller made a
     → StandsFor c (slot_part d c.number) → is_the d.active c.number ≡ false → (opens : Opens d (arranged d caller made) caller made c.number)
     → h ≡ hook_asked d.shelf (created_by a.task a.call)
     → StandsFor (slot_settled d.assets.glyphs a h c) (slot_part (settled d (arranged d caller made)) c.number)
@@ -251,7 +251,7 @@ opens_slot d caller made a c h done stands idle opens asked =
     let r = bounds_of n.make in
     let was = not_opened c (slot_part d s) stands opens.free in
     let planned : bounds_at a.stack.bounds s ≡ Some r = sym (done.plan.info.bounds s) ∙ opens.bounds in
-    let q = across_plan a s None no_layer r in
+    let q = across_arrangement a s None no_layer r in
     let shown : (x y : ℤ) → is_shown e s x y ≡ covers (shown_at a s) x y =
     λ x y. shown_after d caller made a s x y done (ap has_bounds planned) in
     let same : across d e s ≡ q =
@@ -277,12 +277,12 @@ opens_slot d caller made a c h done stands idle opens asked =
     })
 
 -- the hook of a new layer is the one that its call asks for, where the slot is opened
-abbrev pub IsHookAsked : Desk → Planned → CellView → Option Hook → Type 0
+abbrev pub IsHookAsked : Desk → ArrangementView → CellView → Option Hook → Type 0
 IsHookAsked d a c h =
     c.state ≡ view.Unopened → has_bounds (bounds_at a.stack.bounds c.number) ≡ true → h ≡ hook_asked d.shelf (created_by a.task a.call)
 
 -- The slot of a cell, which has the hook of its layer, stands after a planned arrangement for its part of the desk that is settled.
-pub slot_stands : (d : Desk) (caller : ℕ) (made : Call) (a : Planned) (c : CellView) (h : Option Hook) → IsDone d caller made a
+pub slot_stands : (d : Desk) (caller : ℕ) (made : Call) (a : ArrangementView) (c : CellView) (h : Option Hook) → IsDone d caller made a
     → StandsFor c (slot_part d c.number) → IsHookAsked d a c h
     → StandsFor (slot_settled d.assets.glyphs a h c) (slot_part (settled d (arranged d caller made)) c.number)
 slot_stands d caller made a c h done stands asked =
@@ -302,7 +302,7 @@ slot_stands d caller made a c h done stands asked =
     by_state view.Closed is stays = stays_dead d caller made a c h done (λ live. cc (is, live)) stands stays
 
 -- So it stands for its part of the desk after the call.
-pub slot_stands_after : (d : Desk) (caller : ℕ) (made : Call) (a : Planned) (c : CellView) (h : Option Hook) → IsDone d caller made a
+pub slot_stands_after : (d : Desk) (caller : ℕ) (made : Call) (a : ArrangementView) (c : CellView) (h : Option Hook) → IsDone d caller made a
     → StandsFor c (slot_part d c.number) → IsHookAsked d a c h
     → StandsFor (slot_settled d.assets.glyphs a h c) (slot_part (after d caller made) c.number)
 slot_stands_after d caller made a c h done stands asked =

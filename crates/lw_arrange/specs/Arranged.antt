@@ -13,7 +13,7 @@ use Rattle.lw_machine.specs.Step.{refusal}
 use Rattle.lw_layer.specs.Looks.{owner_of}
 use Rattle.lw_layer.specs.declared.look.Look.{Look}
 use Rattle.lw_stack.specs.Stack.{Stack, StandsForInfo}
-use Rattle.lw_arrange.specs.Plans.{Planned}
+use Rattle.lw_arrange.specs.Arrangements.{ArrangementView}
 use Rattle.lw_arrange.specs.declared.arrangement.Step.{Step}
 use Rattle.lw_arrange.specs.declared.arrangement.Step.TheVariants.{Refused, Arranged}
 
@@ -48,13 +48,13 @@ pub record AreOf (d : Desk) (v : Stack) (told : List (Option Look)) (free : Bool
   pub looks : (s : ℕ) → s < v.sizes.slots → IsTold d s (slice_index_or told s None)
   pub fresh : IsFresh d call free
 
--- It is the plan of the task's call on the desk.
-pub record IsPlanOf (d : Desk) (caller : ℕ) (made : Call) (a : Planned) : Type 0 where
+-- It is the arrangement of the task's call on the desk.
+pub record IsArrangementOf (d : Desk) (caller : ℕ) (made : Call) (a : ArrangementView) : Type 0 where
   pub task : a.task ≡ caller
   pub call : a.call ≡ made
   pub info : StandsForInfo a.stack (info_part (arranged d caller made))
 
--- What planning answers of a desk: the first refusal that holds, or the plan where none holds.
+-- What planning answers of a desk: the first refusal that holds, or the arrangement where none holds.
 abbrev pub IsStepOf : Desk → ℕ → Call → Step → Type 0
 IsStepOf d task call (Refused r) = refusal d task call ≡ Some r
-IsStepOf d task call (Arranged a) = (refusal d task call ≡ None) × IsPlanOf d task call a
+IsStepOf d task call (Arranged a) = (refusal d task call ≡ None) × IsArrangementOf d task call a

@@ -1,4 +1,4 @@
-pub mod Plans
+pub mod Arrangements
 pub mod Arranged
 pub mod Places
 pub mod Planning

@@ -58,8 +58,8 @@ unless_own task k next = refuse (look_is (λ l. is_of_other task l.owner) k) Not
 abbrev pub unless_window : Option Look → Option Reply → Option Reply
 unless_window k next = refuse (not (look_is (λ l. has_owner l.owner) k)) NotWindow next
 
-abbrev pub unless_plain : Option Look → Option Reply → Option Reply
-unless_plain k next = refuse (look_is (λ l. l.backdrop) k) Backdrop next
+abbrev pub unless_no_backdrop : Option Look → Option Reply → Option Reply
+unless_no_backdrop k next = refuse (look_is (λ l. l.backdrop) k) Backdrop next
 
 -- a slot's bounds, changed so, are such as its layer may have
 abbrev pub may_change : Stack → Option Look → Change → Option Rectangle → Bool
@@ -75,16 +75,16 @@ abbrev pub closing_refused : Stack → List (Option Look) → ℕ → ℕ → Op
 closing_refused v looks task slot = unless_live (live_at v looks slot) (unless_own task (live_at v looks slot) None)
 
 abbrev pub reordering_refused : Stack → List (Option Look) → ℕ → Option Reply
-reordering_refused v looks slot = unless_live (live_at v looks slot) (unless_plain (live_at v looks slot) None)
+reordering_refused v looks slot = unless_live (live_at v looks slot) (unless_no_backdrop (live_at v looks slot) None)
 
 abbrev pub pair_refused : Stack → List (Option Look) → ℕ → ℕ → Option Reply
 pair_refused v looks slot other =
     unless_live (live_at v looks slot) (unless_live (live_at v looks other)
-    (unless_plain (live_at v looks slot) (unless_plain (live_at v looks other) None)))
+    (unless_no_backdrop (live_at v looks slot) (unless_no_backdrop (live_at v looks other) None)))
 
 abbrev pub change_refused : Stack → List (Option Look) → ℕ → Change → Option Reply
 change_refused v looks slot change =
-    unless_live (live_at v looks slot) (unless_plain (live_at v looks slot)
+    unless_live (live_at v looks slot) (unless_no_backdrop (live_at v looks slot)
     (refuse (not (may_change v (live_at v looks slot) change (bounds_at v.bounds slot))) OutOfBounds None))
 
 abbrev pub activation_refused : Stack → List (Option Look) → ℕ → Option Reply

@@ -16,7 +16,7 @@ use Rattle.lw_layer.specs.Drafts.{no_layer}
 use Rattle.lw_layer.specs.New.{IsNewSize, new_live}
 use Rattle.lw_stack.specs.Stack.{bounds_at}
 use Rattle.lw_reveal.specs.Changed.{carried_to, MayHave}
-use Rattle.lw_arrange.specs.Plans.{Planned}
+use Rattle.lw_arrange.specs.Arrangements.{ArrangementView}
 
 -- a layer that a call creates: how it is made, and the window that it is, if it is one
 pub record Created : Type 0 where
@@ -41,9 +41,9 @@ kind_of None = None
 kind_of (Some n) = Some n.make.kind
 
 -- the new layer that is asked for, if one is
-abbrev pub opened : Option Created → ℕ → Rectangle → List Rectangle → LiveView
-opened None depth bounds visible = no_layer
-opened (Some n) depth bounds visible = new_live n.make depth bounds visible n.window 0
+abbrev pub created_live : Option Created → ℕ → Rectangle → List Rectangle → LiveView
+created_live None depth bounds visible = no_layer
+created_live (Some n) depth bounds visible = new_live n.make depth bounds visible n.window 0
 
 -- the cell of a slot that isn't live afterwards: a live layer is deleted
 abbrev pub without_layer : CellView → State → CellView
@@ -53,7 +53,8 @@ without_layer c view.Closed = c
 
 -- the cell of a slot that is live afterwards, with these bounds and visible rectangles: its layer is revealed, or a new one
 abbrev pub with_bounds : Option Created → ℕ → Rectangle → List Rectangle → CellView → State → CellView
-with_bounds new depth bounds visible c view.Unopened = record { number = c.number; state = view.Live; live = opened new depth bounds visible }
+with_bounds new depth bounds visible c view.Unopened =
+    record { number = c.number; state = view.Live; live = created_live new depth bounds visible }
 with_bounds new depth bounds visible c view.Live = with_live (carried_to bounds visible) c
 with_bounds new depth bounds visible c view.Closed = c
 
@@ -63,11 +64,11 @@ becomes new depth visible c None = without_layer c c.state
 becomes new depth visible c (Some r) = with_bounds new depth r visible c c.state
 
 -- the visible rectangles of a slot after a planned arrangement
-abbrev pub shown_at : Planned → ℕ → List Rectangle
+abbrev pub shown_at : ArrangementView → ℕ → List Rectangle
 shown_at a s = slice_index_or a.shown s []
 
 -- the cell after a planned arrangement
-abbrev pub cell_after : Planned → CellView → CellView
+abbrev pub cell_after : ArrangementView → CellView → CellView
 cell_after a c = becomes (created_by a.task a.call) a.stack.sizes.depth (shown_at a c.number) c (bounds_at a.stack.bounds c.number)
 
 -- the classes for which a new window asks, if the layer is one, are of the five that there are
@@ -99,5 +100,5 @@ MayBe new depth visible c None = Unit {0}
 MayBe new depth visible c (Some r) = MayBecome new depth r visible c c.state
 
 -- the cell may be prepared for the planned arrangement
-abbrev pub MayPrepare : Planned → CellView → Type 0
+abbrev pub MayPrepare : ArrangementView → CellView → Type 0
 MayPrepare a c = MayBe (created_by a.task a.call) a.stack.sizes.depth (shown_at a c.number) c (bounds_at a.stack.bounds c.number)

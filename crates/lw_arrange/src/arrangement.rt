@@ -25,20 +25,20 @@ pub struct Arrangement {
 
 impl Model for Arrangement {
     ghost use Rattle.lw_stack.specs.Stack.{stack_of};
-    ghost use Rattle.lw_arrange.specs.Plans.{Planned, IsPlanned};
+    ghost use Rattle.lw_arrange.specs.Arrangements.{ArrangementView, IsArrangement};
 
-    ghost Value = { Planned };
+    ghost Value = { ArrangementView };
 
     ghost view = { λ a. record { task = a.task; call = a.call; stack = stack_of a.sizes a.after; shown = a.shown.items } };
 
-    ghost invariant = { λ a. IsPlanned (record { task = a.task; call = a.call; stack = stack_of a.sizes a.after; shown = a.shown.items }) };
+    ghost invariant = { λ a. IsArrangement (record { task = a.task; call = a.call; stack = stack_of a.sizes a.after; shown = a.shown.items }) };
 }
 
 impl Arrangement {
     ghost use Rattle.std.specs.Prelude.{◌≡◌, ◌<◌, []};
     ghost use Rattle.std.specs.List.{slice_index_or};
     ghost use Rattle.lw_stack.specs.Stack.{bounds_at, stack_of, IsStack, AreShown};
-    ghost use Rattle.lw_arrange.specs.Plans.{IsPlanned};
+    ghost use Rattle.lw_arrange.specs.Arrangements.{IsArrangement};
 
     /// The plan of a task's call that leaves such a list, of which this is shown.
     pub(crate) fn new(
@@ -110,7 +110,7 @@ impl Arrangement {
     /// The sizes of the desk for which it was planned.
     pub fn sizes(&self) -> &Sizes
         ensures value { result.now ≡ self.now.stack.sizes }
-        ensures planned { IsPlanned self.now }
+        ensures planned { IsArrangement self.now }
     {
         &self.sizes
     }

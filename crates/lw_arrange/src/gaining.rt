@@ -10,7 +10,7 @@ ghost use Rattle.lw_layer.specs.Looks.{IsLook};
 ghost use Rattle.lw_layer.specs.StandsFor.{IsSound};
 ghost use Rattle.lw_stack.specs.Stack.{bounds_at};
 ghost use Rattle.lw_reveal.specs.Changed.{carried_to, MayHave};
-ghost use Rattle.lw_arrange.specs.Prepared.{created_by, kind_of, opened, shown_at, with_bounds, cell_after, IsCreation, MayOpen, MayBecome, MayPrepare};
+ghost use Rattle.lw_arrange.specs.Prepared.{created_by, kind_of, created_live, shown_at, with_bounds, cell_after, IsCreation, MayOpen, MayBecome, MayPrepare};
 ghost use Rattle.lw_arrange.specs.Filled.{AreGained};
 ghost use Rattle.lw_arrange.specs.Framed.{IsFrameGained, has_corners};
 
@@ -25,7 +25,7 @@ use std::alloc::{AllocError, Global};
 /// and that don't count as kept before, and none of a super-bitmap layer or of a slot that isn't live afterwards. In a framed window
 /// whose size changes the pixels of the old frame that lie in the new inner rectangle don't count (the manual's Layers Library
 /// chapter: backfill hooks; which pixels a layer keeps, and which count, is this project's own). They are in layer coordinates. It
-/// fails for want of memory alone.
+/// fails only when out of memory.
 pub fn gained(alloc: Global, cell: &Cell, arrangement: &Arrangement) -> Result<Region, AllocError>
     requires slot { cell.now.number < arrangement.now.stack.sizes.slots }
     requires may { MayPrepare arrangement.now cell.now }
@@ -70,7 +70,7 @@ fn gained_anew(
     requires unopened { cell.now.state ≡ view.Unopened }
     requires may { MayOpen (created_by arrangement.now.task arrangement.now.call) arrangement.now.stack.sizes.depth bounds.now }
     requires inside { LieIn bounds.now visible.now }
-    ensures { IfOk result (λ region. AreGained cell.now (record { number = cell.now.number; state = view.Live; live = opened (created_by arrangement.now.task arrangement.now.call) arrangement.now.stack.sizes.depth bounds.now visible.now }) region) }
+    ensures { IfOk result (λ region. AreGained cell.now (record { number = cell.now.number; state = view.Live; live = created_live (created_by arrangement.now.task arrangement.now.call) arrangement.now.stack.sizes.depth bounds.now visible.now }) region) }
 {
     let kind = created_kind(arrangement);
     kept_region(alloc, kind, bounds, visible.rects())

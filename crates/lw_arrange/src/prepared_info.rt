@@ -23,7 +23,7 @@ impl Model for PreparedInfo {
     ghost invariant = { λ p. IsStack (stack_of p.sizes p.draft) };
 }
 
-/// What LayerInfo has after the arrangement. It fails for want of memory alone.
+/// What LayerInfo has after the arrangement. It fails only when out of memory.
 pub fn prepare_info(
     alloc: Global,
     info: &Info,

@@ -9,7 +9,7 @@ ghost use Rattle.lw_layer.specs.Drafts.{IsState, state_of, live_of, window_of, r
 ghost use Rattle.lw_layer.specs.StandsFor.{IsSound};
 ghost use Rattle.lw_stack.specs.Stack.{bounds_at};
 ghost use Rattle.lw_reveal.specs.Changed.{carried_to, MayHave};
-ghost use Rattle.lw_arrange.specs.Prepared.{created_by, opened, without_layer, with_bounds, shown_at, cell_after, MayOpen, MayBecome, MayPrepare};
+ghost use Rattle.lw_arrange.specs.Prepared.{created_by, created_live, without_layer, with_bounds, shown_at, cell_after, MayOpen, MayBecome, MayPrepare};
 ghost use Rattle.lw_arrange.specs.Made.{IsPrepared};
 
 use crate::arrangement::Arrangement;
@@ -35,7 +35,7 @@ pub enum Prepared {
 }
 
 /// Prepares the cell of a slot for the arrangement. It takes all the memory that is needed for the cell, and changes nothing. A
-/// layer whose bounds and visible rectangles stay is not copied. It fails for want of memory alone.
+/// layer whose bounds and visible rectangles stay is not copied. It fails only when out of memory.
 pub fn prepare(
     alloc: Global,
     cell: &Cell,
@@ -94,7 +94,7 @@ fn created(
     requires may { MayOpen (created_by arrangement.now.task arrangement.now.call) arrangement.now.stack.sizes.depth bounds.now }
     requires inside { LieIn bounds.now visible.now }
     requires fresh { cell.now.state ≡ view.Unopened }
-    ensures { IfOk result (λ prepared. IsPrepared cell.now (record { number = cell.now.number; state = view.Live; live = opened (created_by arrangement.now.task arrangement.now.call) arrangement.now.stack.sizes.depth bounds.now visible.now }) prepared) }
+    ensures { IfOk result (λ prepared. IsPrepared cell.now (record { number = cell.now.number; state = view.Live; live = created_live (created_by arrangement.now.task arrangement.now.call) arrangement.now.stack.sizes.depth bounds.now visible.now }) prepared) }
 {
     let depth = arrangement.sizes().depth;
     match arrangement.call() {

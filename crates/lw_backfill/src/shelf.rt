@@ -25,7 +25,7 @@ impl<B: Backfill> Model for Shelf<B> {
 }
 
 impl<B: Backfill> Shelf<B> {
-    /// A shelf with all of these hooks, numbered from 0 in their order. It fails for want of memory alone, and the hooks are lost
+    /// A shelf with all of these hooks, numbered from 0 in their order. It fails only when out of memory, and the hooks are lost
     /// then.
     pub fn new(alloc: Global, hooks: Vec<B>) -> Result<Shelf<B>, AllocError>
         ensures { IfOk result (λ shelf. (n : ℕ) → slice_index_or shelf n None ≡ shelf_of (map B.hook hooks.items) n) }

@@ -19,7 +19,7 @@ use std::alloc::Global;
 /// the generator. Operation 0 copies the first operand, 1 joins the second to it, 2 keeps what is in both, 3
 /// keeps what is in one alone, 4 takes the second from it, and 5 takes one fixed rectangle from it. The
 /// operation is done `repetitions` times, each on a fresh copy; for none the answer is 0. It is -1 for an
-/// unknown operation and where memory is wanting.
+/// unknown operation and where memory runs out.
 #[unsafe(no_mangle)]
 pub extern "C" fn lw_bench_regions(
     alloc: Global,
@@ -59,7 +59,7 @@ pub extern "C" fn lw_bench_row(
 /// edge is 3 columns off a byte's; 1 is two lines, from the corner to column 99 and row `side` and back; 2, 3 and 4 scroll that square
 /// by (1, 0), (0, 1) and (-7, -3); 5, 6 and 7 blit a square, 3 columns to the right in its bytes, from a bitmap, from the layer behind
 /// and within the layer; any other is a text of 80 letters with the call that puts the cursor before it. It is -1 where the square
-/// isn't one and where memory is wanting.
+/// isn't one and where memory runs out.
 #[unsafe(no_mangle)]
 pub extern "C" fn lw_bench_drawing(
     alloc: Global,

@@ -2,13 +2,13 @@
 -- the good lines tell.
 use Rattle.std.proofs.Common.{◌≡◌, ℕ, ◌+◌, ◌-◌, ◌≤◌, ◌==◌, true, ◌&&◌, List, [], ◌∷◌, ℤ, pos, unsigned_abs, refl, sym, ap, subst, ◌∙◌, arith}
 use Rattle.lw_region.specs.Rectangle.{within}
-use Rattle.lw_grammar.specs.LineForms.{Statement, ScreenLine, TaskLine, EndLine, OrderLine, ReportLine}
+use Rattle.lw_grammar.specs.Statements.{Statement, ScreenLine, TaskLine, EndLine, OrderLine, ReportLine}
 use Rattle.lw_grammar.specs.Told.{ScreenIsDue, told}
 use Rattle.lw_grammar.specs.Script.{Setting, may_end, AreGoodLines}
 use Rattle.lw_canonical.specs.Spelling.{spelled}
 use Rattle.lw_grammar.proofs.ScriptOutcome.{rows_in_assets}
-use Rattle.lw_grammar.proofs.ScriptSizes.{IsFormTested, tests_pass, here, tests, When, when, has_screen, in_screen, in_assets_or_tasks, in_calls, in_tasks, whole_ends, none_due}
-use Rattle.lw_canonical.proofs.ReadsAgain.{verb_forms, spelled_again, isnt_passed}
+use Rattle.lw_grammar.proofs.ScriptSizes.{IsStatementTested, tests_pass, here, tests, When, when, has_screen, in_screen, in_assets_or_tasks, in_calls, in_tasks, whole_ends, none_due}
+use Rattle.lw_canonical.proofs.ReadsAgain.{verb_statements, spelled_again, isnt_passed}
 use Rattle.lw_canonical.proofs.BitmapsKept.{IsBare, bare_kept, IsWithoutBitmaps, kept, glyph_kept, names_kept, due_kept, made_kept}
 use Rattle.lw_canonical.proofs.BitmapsSpelled.{kept_spelled}
 use Rattle.lw_canonical.proofs.GlyphsInOrder.{glyphs_over, glyphs_ordered, bare_over, unmapped_over, glyph_over, over_spelled}
@@ -54,9 +54,9 @@ first_again one s t x y z above g =
     let f : Statement = ScreenLine x y z in
     let at = here s above (ScreenLine x y z) g in
     let k = tests s above (ScreenLine x y z) g in
-    let tested : IsFormTested t [] (ScreenLine x y z) =
+    let tested : IsStatementTested t [] (ScreenLine x y z) =
     record { range = k.range; named = refl; new = refl; group = refl; few = refl; hook = refl; unused = refl; padding = refl } in
-    (spelled_again one s t above [] f g.0 (verb_forms s t above [] ScreenIsDue at.0 refl (in_screen _ at.1) refl refl) (tests_pass t [] f tested), isnt_passed [] (spelled (ScreenLine x y z)) refl refl, tt)
+    (spelled_again one s t above [] f g.0 (verb_statements s t above [] ScreenIsDue at.0 refl (in_screen _ at.1) refl refl) (tests_pass t [] f tested), isnt_passed [] (spelled (ScreenLine x y z)) refl refl, tt)
 
 -- it has the numbers that the lines above tell
 screen_same : (s : Setting) (w h d : ℕ) (k : IsScreenRead s w h d) → ScreenLine k.x k.y k.z ≡ ScreenLine (pos w) (pos h) (pos d)

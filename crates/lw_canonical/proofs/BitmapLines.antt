@@ -7,7 +7,7 @@ use Rattle.lw_planes.specs.Row.{row_bit}
 use Rattle.lw_planes.specs.Bitmap.{Bitmap, row_bytes, plane_row}
 use Rattle.lw_planes.specs.Storage.{bit_place, stored}
 use Rattle.lw_planes.proofs.BitmapLaws.{row_bytes_wide}
-use Rattle.lw_grammar.specs.LineForms.{Statement, BitmapLine, RowLine, is_line_in_range}
+use Rattle.lw_grammar.specs.Statements.{Statement, BitmapLine, RowLine, is_line_in_range}
 use Rattle.lw_grammar.specs.Told.{told}
 use Rattle.lw_grammar.specs.Script.{Setting, AreGoodLines}
 use Rattle.lw_canonical.specs.Canonical.{enumerated, lines_of_bitmap}
@@ -67,7 +67,7 @@ plane_back w h d rows k y r long deep low =
     let inside : i < length rows = omega (arith, row_inside h d k y deep low, long) in
     row_back w h d (concat rows) k y (slice_index_or rows i []) deep low (row_at w rows i r inside) (λ x left. bit_among w rows i x r inside left)
 
--- numbers that begin behind others
+-- numbers that begin after others
 counted_on : (f : ℕ → Statement) (s a n : ℕ) → map (λ y. f (s + y)) (range_with_len a n) ≡ map f (range_with_len (s + a) n)
 counted_on f s a zero = refl
 counted_on f s a (suc n) =
@@ -149,7 +149,7 @@ row_more (suc due) n e h = omega arith
 abbrev pub bitmaps_told : List Statement → List Statement
 bitmaps_told above = reverse (filter is_of_bitmaps above)
 
--- Good lines give their bitmaps back, where these rows stand behind the nearest one.
+-- Good lines give their bitmaps back, where these rows stand after the nearest one.
 bitmaps_back : (s : Setting) (above : List Statement) → AreGoodLines s above → (rows : List (List ℕ)) → length rows ≡ (told above).rows_due → AreRows (told above).row_width rows → all_bitmap_lines (told above).bitmap_names ((told above).bitmaps (concat rows)) ≡ bitmaps_told above ++ map (λ r. RowLine r) rows
 bitmaps_back s [] g rows n r = ap (λ (t : List (List ℕ)). map (λ (k : List ℕ). RowLine k) t) (sym (nil_from_length rows n))
 bitmaps_back s (BitmapLine name w h d ∷ above) g rows n r =

@@ -2,7 +2,7 @@
 use Rattle.std.proofs.Common.{◌≡◌, ℕ, ◌-◌, ◌*◌, List, [], ◌∷◌, ◌++◌, length, filter, None, refl, ap, ◌∙◌, length-append, ℤ, unsigned_abs}
 use Rattle.lw_planes.specs.Bitmap.{row_bytes}
 use Rattle.lw_planes.specs.Storage.{stored}
-use Rattle.lw_grammar.specs.LineForms.{Statement, GlyphLine, BitmapLine, RowLine}
+use Rattle.lw_grammar.specs.Statements.{Statement, GlyphLine, BitmapLine, RowLine}
 use Rattle.lw_grammar.specs.Told.{AssetsAreDue, nothing_told, told}
 use Rattle.lw_grammar.specs.Script.{Setting, AreGoodLines}
 use Rattle.lw_grammar.proofs.ScriptSizes.{here, none_due, row_less}
@@ -84,7 +84,7 @@ module _ (base : List Statement) (b : IsWithoutBitmaps base) where
   due_kept s (RowLine bytes ∷ above) g = ap (λ n. n - 1) (due_kept s above g.1)
   due_kept s (f ∷ above) g = due_kept s above g.1
 
-  -- the bitmaps themselves, where no rows are due but those behind
+  -- the bitmaps themselves, where no rows are due but those after
   pub made_kept : (s : Setting) (above : List Statement) → AreGoodLines s above → (rows : List ℕ) → length rows ≡ (told above).rows_due * row_bytes (told above).row_width → (told (kept above base)).bitmaps rows ≡ (told above).bitmaps rows
   made_kept s [] g rows n = b.made rows
   made_kept s (BitmapLine name x y z ∷ above) g rows n =

@@ -1,12 +1,12 @@
 -- The bitmaps and rows of good lines, in their one spelling, read again over lines of a screen and glyphs.
 use Rattle.std.proofs.Common.{◌≡◌, ℕ, ◌≤◌, ◌==◌, true, false, List, [], ◌∷◌, length, bytes_eq, ℤ, Ok, refl, sym, ap, subst, ◌∙◌}
 use Rattle.std.specs.List.{list_any}
-use Rattle.lw_grammar.specs.LineForms.{Statement, BitmapLine, RowLine}
+use Rattle.lw_grammar.specs.Statements.{Statement, BitmapLine, RowLine}
 use Rattle.lw_grammar.specs.Told.{AssetsAreDue, told}
 use Rattle.lw_grammar.specs.Script.{Setting, is_nothing_due, are_few, has_padding, line_read, AreGoodLines}
 use Rattle.lw_canonical.specs.Spelling.{spelled}
-use Rattle.lw_grammar.proofs.ScriptSizes.{IsFormTested, tests_pass, here, tests, in_assets, counted}
-use Rattle.lw_canonical.proofs.ReadsAgain.{verb_forms, row_forms, spelled_again, few_by_bitmaps, isnt_passed, row_stands}
+use Rattle.lw_grammar.proofs.ScriptSizes.{IsStatementTested, tests_pass, here, tests, in_assets, counted}
+use Rattle.lw_canonical.proofs.ReadsAgain.{verb_statements, row_statements, spelled_again, few_by_bitmaps, isnt_passed, row_stands}
 use Rattle.lw_canonical.proofs.BitmapsKept.{IsBare, bare_kept, IsWithoutBitmaps, kept, names_kept, width_kept, due_kept}
 use Rattle.lw_canonical.proofs.Rearranged.{AreSpelled, HasOneSpelling}
 use Rattle.std.proofs.lemmas.Bool.{eqb-true, eq-eqb}
@@ -16,7 +16,7 @@ pub few_bare : (w h d : ℕ) (lines : List Statement) → IsBare w h d lines →
 few_bare w h d lines k n =
     few_by_bitmaps (told lines).tasks (told lines).bitmap_names (told lines).names (told lines).supers (told lines).so_far k.tasks n k.names k.supers k.so_far
 
--- behind them something is due
+-- after them something is due
 pub due_bare : (w h d : ℕ) (lines : List Statement) → IsBare w h d lines → is_nothing_due (told lines).section ≡ false
 due_bare w h d lines k = ap is_nothing_due k.section
 
@@ -34,18 +34,18 @@ module _ (one : HasOneSpelling) (s t : Setting) (w h d : ℕ) (base : List State
       let at = here s above (BitmapLine name x y z) g in
       let k = tests s above (BitmapLine name x y z) g in
       let none : (told (kept above base)).rows_due ≡ 0 = due_kept base b s above g.1 ∙ eqb-true _ 0 at.0 in
-      let tested : IsFormTested t (kept above base) (BitmapLine name x y z) =
+      let tested : IsStatementTested t (kept above base) (BitmapLine name x y z) =
       record { range = k.range; named = refl; new = ap (list_any (bytes_eq name)) (names_kept base b above) ∙ k.new; group = refl; few = few_kept f above g; hook = refl; unused = refl; padding = refl } in
-      spelled_again one s t above (kept above base) f g.0 (verb_forms s t above (kept above base) AssetsAreDue at.0 (eq-eqb _ 0 none) (in_assets _ at.1) (bare_kept w h d above base bare).section refl) (tests_pass t (kept above base) f tested)
+      spelled_again one s t above (kept above base) f g.0 (verb_statements s t above (kept above base) AssetsAreDue at.0 (eq-eqb _ 0 none) (in_assets _ at.1) (bare_kept w h d above base bare).section refl) (tests_pass t (kept above base) f tested)
 
   row_again : (bytes : List ℕ) (above : List Statement) → AreGoodLines s (RowLine bytes ∷ above) → line_read t (told (kept above base)) (spelled (RowLine bytes)) ≡ Ok (RowLine bytes)
   row_again bytes above g =
       let at = here s above (RowLine bytes) g in
       let k = tests s above (RowLine bytes) g in
       let some : ((told (kept above base)).rows_due == 0) ≡ false = ap (λ n. n == 0) (due_kept base b s above g.1) ∙ at.0 in
-      let tested : IsFormTested t (kept above base) (RowLine bytes) =
+      let tested : IsStatementTested t (kept above base) (RowLine bytes) =
       record { range = k.range; named = refl; new = refl; group = refl; few = few_kept (RowLine bytes) above g; hook = refl; unused = refl; padding = ap (λ width. has_padding width (RowLine bytes)) (width_kept base b above) ∙ k.padding } in
-      spelled_again one s t above (kept above base) (RowLine bytes) g.0 (row_forms s t above (kept above base) at.0 some (sym (width_kept base b above))) (tests_pass t (kept above base) (RowLine bytes) tested)
+      spelled_again one s t above (kept above base) (RowLine bytes) g.0 (row_statements s t above (kept above base) at.0 some (sym (width_kept base b above))) (tests_pass t (kept above base) (RowLine bytes) tested)
 
   -- Each of them reads again where those below the kept lines do.
   pub kept_spelled : (above : List Statement) → AreGoodLines s above → AreSpelled t base → AreSpelled t (kept above base)

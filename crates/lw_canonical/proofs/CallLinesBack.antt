@@ -4,10 +4,10 @@ use Rattle.lw_region.specs.Rectangle.{Rectangle, within}
 use Rattle.lw_calls.specs.declared.make.Kind.{Kind}
 use Rattle.lw_calls.specs.declared.make.Kind.TheVariants.{Simple, Smart, SuperBitmap}
 use Rattle.lw_calls.specs.Limits.{rect_fits}
-use Rattle.lw_grammar.specs.LineForms.{AskedLayer, Act, RegRectAct, RegPairAct, RegClearAct, CreateAct, OpenAct, InFrontAct, WhichAct, APenAct, BPenAct, ModeAct, MaskAct, SetRastAct, PutAct, BlitAct, ClipAct, CallLine, four, is_hook_number, is_own_size, is_asked_in_range, is_box, is_act_in_range}
+use Rattle.lw_grammar.specs.Statements.{AskedLayer, Act, RegRectAct, RegPairAct, RegClearAct, CreateAct, OpenAct, InFrontAct, WhichAct, APenAct, BPenAct, ModeAct, MaskAct, SetRastAct, PutAct, BlitAct, ClipAct, CallLine, four, is_hook_number, is_own_size, is_asked_in_range, place_and_size_fit, is_act_in_range}
 use Rattle.lw_grammar.specs.Told.{place_among, created_make, opened_make, spelled_call}
 use Rattle.lw_canonical.specs.Canonical.{created_asked, opened_asked, line_of_call}
-use Rattle.lw_grammar.proofs.ScriptForms.{IsAskedOf, IsFormMade}
+use Rattle.lw_grammar.proofs.ScriptStatements.{IsAskedOf, IsStatementMade}
 use Rattle.std.proofs.lemmas.Int.{ints}
 use Rattle.std.proofs.lemmas.Bool.{false≢true, and_parts}
 use Rattle.std.proofs.lemmas.List.{nil_from_length}
@@ -83,7 +83,7 @@ IsBitmapBack bitmaps among (PutAct bm b) = slice_index_or bitmaps (place_among a
 IsBitmapBack bitmaps among act = Unit {0}
 
 -- The line of a call, where the slots' names are its layers and the bitmaps above the line are found among all.
-pub line_back : (names bitmaps among layers : List (List ℕ)) (act : Act) → IsFormMade (CallLine layers act) → is_act_in_range act ≡ true → IsBitmapBack bitmaps among act → (slots : List ℕ) → map (λ s. slice_index_or names s []) slots ≡ layers → line_of_call names bitmaps (spelled_call among act slots) ≡ CallLine layers act
+pub line_back : (names bitmaps among layers : List (List ℕ)) (act : Act) → IsStatementMade (CallLine layers act) → is_act_in_range act ≡ true → IsBitmapBack bitmaps among act → (slots : List ℕ) → map (λ s. slice_index_or names s []) slots ≡ layers → line_of_call names bitmaps (spelled_call among act slots) ≡ CallLine layers act
 line_back names bitmaps among layers (RegRectAct op r rect) m h b slots e =
     let halves = and_parts (within (pos 0) r (pos 7)) _ h in
     ap (λ z. CallLine [] (RegRectAct op z rect)) (number_back 0 r 7 halves.0) ∙ ap (λ ls. CallLine ls (RegRectAct op r rect)) (sym (nil_from_length layers m.0))
@@ -99,7 +99,7 @@ line_back names bitmaps among layers (CreateAct a) m h b slots e =
     let halves = and_parts (rect_fits a.numbers) _ h in
     ap (λ k. CallLine (slice_index_or names (slice_index slots 0) [] ∷ []) (CreateAct k)) (created_back a m.1 halves.1) ∙ ap (λ ls. CallLine ls (CreateAct a)) (one_back names slots layers e m.0)
 line_back names bitmaps among layers (OpenAct a framed nocare classes title) m h b slots e =
-    let halves = and_parts (is_box a.numbers) _ h in
+    let halves = and_parts (place_and_size_fit a.numbers) _ h in
     ap (λ k. CallLine (slice_index_or names (slice_index slots 0) [] ∷ []) (OpenAct k framed nocare classes title)) (opened_back a m.1.0 halves.1) ∙ ap (λ ls. CallLine ls (OpenAct a framed nocare classes title)) (one_back names slots layers e m.0)
 line_back names bitmaps among layers (APenAct p) m h b slots e =
     ap (λ z. CallLine (slice_index_or names (slice_index slots 0) [] ∷ []) (APenAct z)) (number_back 0 p 255 h) ∙ ap (λ ls. CallLine ls (APenAct p)) (one_back names slots layers e m.0)

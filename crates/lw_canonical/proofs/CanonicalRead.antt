@@ -3,7 +3,7 @@ use Rattle.std.proofs.Common.{◌≡◌, ℕ, ◌+◌, true, false, min, List, [
 use Rattle.std.specs.List.{flat_map}
 use Rattle.lw_calls.specs.Plan.{Plan}
 use Rattle.lw_grammar.specs.Lines.{lines}
-use Rattle.lw_grammar.specs.LineForms.{Statement}
+use Rattle.lw_grammar.specs.Statements.{Statement}
 use Rattle.lw_grammar.specs.Told.{told, plan_of}
 use Rattle.lw_grammar.specs.Script.{Setting, is_skipped, is_nothing_due, line_read, Reached, at_the_top, with_line, may_end, lines_read, input_from, SpellsInput, AreGoodLines}
 use Rattle.lw_calls.specs.Written.{line_of}
@@ -22,27 +22,27 @@ use Rattle.std.proofs.lemmas.Grind.{reverse_onto}
 use Rattle.lw_canonical.proofs.TasksSpelled.{tasks_spelled, tasks_plan, tasks_whole, tasks_order, base_order}
 
 -- spelled lines are good, and have no line feed
-good : (t : Setting) (forms : List Statement) → AreSpelled t forms → AreGoodLines t forms
+good : (t : Setting) (statements : List Statement) → AreSpelled t statements → AreGoodLines t statements
 good t [] h = tt
-good t (f ∷ forms) h = (record { line = spelled f; read = h.0 }, good t forms h.2)
+good t (f ∷ statements) h = (record { line = spelled f; read = h.0 }, good t statements h.2)
 
 feedless_more : (fs : List Statement) (f : Statement) → HaveNoFeed fs → HasNoFeed (spelled f) → HaveNoFeed (fs ++ f ∷ [])
 feedless_more [] f h k = (k, tt)
 feedless_more (g ∷ fs) f h k = (h.0, feedless_more fs f h.1 k)
 
-feedless : (t : Setting) (forms : List Statement) → AreSpelled t forms → HaveNoFeed (reverse forms)
+feedless : (t : Setting) (statements : List Statement) → AreSpelled t statements → HaveNoFeed (reverse statements)
 feedless t [] h = tt
-feedless t (f ∷ forms) h =
-    subst HaveNoFeed (sym (reverse_onto forms f [])) (feedless_more (reverse forms) f (feedless t forms h.2) (no_feed t forms (spelled f) f h.0))
+feedless t (f ∷ statements) h =
+    subst HaveNoFeed (sym (reverse_onto statements f [])) (feedless_more (reverse statements) f (feedless t statements h.2) (no_feed t statements (spelled f) f h.0))
 
 -- a further line of lines that are spelled in their order
-unrolled : (f : Statement) (forms : List Statement) (ls : List (List ℕ)) → map spelled (reverse (f ∷ forms)) ++ ls ≡ map spelled (reverse forms) ++ (spelled f ∷ ls)
-unrolled f forms ls =
-    ap (λ fs. map spelled fs ++ ls) (reverse_onto forms f []) ∙ ap (λ ws. ws ++ ls) (map_push spelled (reverse forms) f) ∙ append_assoc (map spelled (reverse forms)) (spelled f ∷ []) ls
+unrolled : (f : Statement) (statements : List Statement) (ls : List (List ℕ)) → map spelled (reverse (f ∷ statements)) ++ ls ≡ map spelled (reverse statements) ++ (spelled f ∷ ls)
+unrolled f statements ls =
+    ap (λ fs. map spelled fs ++ ls) (reverse_onto statements f []) ∙ ap (λ ws. ws ++ ls) (map_push spelled (reverse statements) f) ∙ append_assoc (map spelled (reverse statements)) (spelled f ∷ []) ls
 
 -- the text of lines in their order
 abbrev text_of : List Statement → List ℕ
-text_of fs = flat_map (λ form. line_of (spelled form)) fs
+text_of fs = flat_map (λ statement. line_of (spelled statement)) fs
 
 text_more : (fs : List Statement) (f : Statement) → length (text_of (fs ++ f ∷ [])) ≡ length (text_of fs) + (length (spelled f) + 1)
 text_more [] f =
@@ -55,44 +55,44 @@ text_more (g ∷ fs) f =
     let c = text_more fs f in
     omega (arith, a, b, c)
 
--- how far lines of these forms are read that are spelled in their order
+-- how far lines with these statements are read that are spelled in their order
 abbrev reached_at : List Statement → Reached
-reached_at forms = record { forms = forms; number = length forms + 1; place = length (text_of (reverse forms)) }
+reached_at statements = record { statements = statements; number = length statements + 1; place = length (text_of (reverse statements)) }
 
 -- lines that are spelled are read one after another
-read_on : (t : Setting) (p : Reached) (f : Statement) (ls : List (List ℕ)) → is_passed p.forms (spelled f) ≡ false → line_read t (told p.forms) (spelled f) ≡ Ok f → lines_read t p (spelled f ∷ ls) ≡ lines_read t (with_line p (spelled f) (f ∷ p.forms)) ls
+read_on : (t : Setting) (p : Reached) (f : Statement) (ls : List (List ℕ)) → is_passed p.statements (spelled f) ≡ false → line_read t (told p.statements) (spelled f) ≡ Ok f → lines_read t p (spelled f ∷ ls) ≡ lines_read t (with_line p (spelled f) (f ∷ p.statements)) ls
 read_on t p f ls e d =
-    let b = or_parts (is_skipped (spelled f)) (is_nothing_due (told p.forms).section) e in
+    let b = or_parts (is_skipped (spelled f)) (is_nothing_due (told p.statements).section) e in
     rw (b.1, b.0, d) refl
 
-runs : (t : Setting) (forms : List Statement) (ls : List (List ℕ)) → AreSpelled t forms → lines_read t at_the_top (map spelled (reverse forms) ++ ls) ≡ lines_read t (reached_at forms) ls
+runs : (t : Setting) (statements : List Statement) (ls : List (List ℕ)) → AreSpelled t statements → lines_read t at_the_top (map spelled (reverse statements) ++ ls) ≡ lines_read t (reached_at statements) ls
 runs t [] ls h = refl
-runs t (f ∷ forms) ls h =
-    let e : (length forms + 1) + 1 ≡ length (f ∷ forms) + 1 = omega arith in
-    let c : length (text_of (reverse forms)) + (length (spelled f) + 1) ≡ length (text_of (reverse (f ∷ forms))) = sym (ap (λ fs. length (text_of fs)) (reverse_onto forms f []) ∙ text_more (reverse forms) f) in
-    ap (lines_read t at_the_top) (unrolled f forms ls) ∙ runs t forms (spelled f ∷ ls) h.2 ∙ read_on t (reached_at forms) f ls h.1 h.0 ∙ ap₂ (λ n m. lines_read t (record { forms = f ∷ forms; number = n; place = m }) ls) e c
+runs t (f ∷ statements) ls h =
+    let e : (length statements + 1) + 1 ≡ length (f ∷ statements) + 1 = omega arith in
+    let c : length (text_of (reverse statements)) + (length (spelled f) + 1) ≡ length (text_of (reverse (f ∷ statements))) = sym (ap (λ fs. length (text_of fs)) (reverse_onto statements f []) ∙ text_more (reverse statements) f) in
+    ap (lines_read t at_the_top) (unrolled f statements ls) ∙ runs t statements (spelled f ∷ ls) h.2 ∙ read_on t (reached_at statements) f ls h.1 h.0 ∙ ap₂ (λ n m. lines_read t (record { statements = f ∷ statements; number = n; place = m }) ls) e c
 
--- what is answered to the text of such lines, where the input may end behind them
-answered : (t : Setting) (forms : List Statement) → AreSpelled t forms → may_end t.form (told forms).section ≡ true → lines_read t at_the_top (lines (text_of (reverse forms))) ≡ Ok (reached_at forms)
-answered t forms h w =
-    let e : lines (text_of (reverse forms)) ≡ map spelled (reverse forms) ++ [] = lines_of_text (reverse forms) (feedless t forms h) ∙ sym (append-nil (map spelled (reverse forms))) in
-    ap (lines_read t at_the_top) e ∙ runs t forms [] h ∙ rw w refl
+-- what is answered to the text of such lines, where the input may end after them
+answered : (t : Setting) (statements : List Statement) → AreSpelled t statements → may_end t.form (told statements).section ≡ true → lines_read t at_the_top (lines (text_of (reverse statements))) ≡ Ok (reached_at statements)
+answered t statements h w =
+    let e : lines (text_of (reverse statements)) ≡ map spelled (reverse statements) ++ [] = lines_of_text (reverse statements) (feedless t statements h) ∙ sym (append-nil (map spelled (reverse statements))) in
+    ap (lines_read t at_the_top) e ∙ runs t statements [] h ∙ rw w refl
 
 -- the text spells the input of the lines
-spells : (t : Setting) (forms : List Statement) → AreSpelled t forms → may_end t.form (told forms).section ≡ true → SpellsInput t (text_of (reverse forms)) (input_from t (told forms) (length (text_of (reverse forms))))
-spells t forms h w =
-    let text = text_of (reverse forms) in
+spells : (t : Setting) (statements : List Statement) → AreSpelled t statements → may_end t.form (told statements).section ≡ true → SpellsInput t (text_of (reverse statements)) (input_from t (told statements) (length (text_of (reverse statements))))
+spells t statements h w =
+    let text = text_of (reverse statements) in
     let place : min (length text) (length text) ≡ length text = omega (arith, clamps) in
-    ap (λ r. r >>= (λ p. Ok (input_from t (told p.forms) (min (length text) p.place)))) (answered t forms h w) ∙ ap (λ n. Ok (input_from t (told forms) n)) place
+    ap (λ r. r >>= (λ p. Ok (input_from t (told p.statements) (min (length text) p.place)))) (answered t statements h w) ∙ ap (λ n. Ok (input_from t (told statements) n)) place
 
 -- the text of a plan whose lines are these
-text_is : (p : Plan) (forms : List Statement) → lines_of_plan p ≡ reverse forms → text_of (reverse forms) ≡ canonical_text p
+text_is : (p : Plan) (statements : List Statement) → lines_of_plan p ≡ reverse statements → text_of (reverse statements) ≡ canonical_text p
 unfolding canonical_text
-text_is p forms e = ap text_of (sym e)
+text_is p statements e = ap text_of (sym e)
 
 -- an input by its plan, without an order
-without_order : (t : Setting) (forms : List Statement) (p : Plan) (n : ℕ) → plan_of t.hooks (told forms) ≡ p → (told forms).order ≡ [] → input_from t (told forms) n ≡ record { plan = p; order = []; rest = n }
-without_order t forms p n e d = rw (e, d) refl
+without_order : (t : Setting) (statements : List Statement) (p : Plan) (n : ℕ) → plan_of t.hooks (told statements) ≡ p → (told statements).order ≡ [] → input_from t (told statements) n ≡ record { plan = p; order = []; rest = n }
+without_order t statements p n e d = rw (e, d) refl
 
 -- the canonical text of the plan that good lines tell
 of_good : (s : Setting) (above : List Statement) → AreGoodLines s above → may_end s.form (told above).section ≡ true → length (told above).tasks ≡ 1 → lines_of_plan (plan_of s.hooks (told above)) ≡ reverse (arranged above) → SpellsInput (alone s) (canonical_text (plan_of s.hooks (told above))) (canonical_input (plan_of s.hooks (told above)))
@@ -112,7 +112,7 @@ of_good s above good whole one ls =
 reads_back : ((s : Setting) (above : List Statement) → AreGoodLines s above → may_end s.form (told above).section ≡ true → lines_of_plan (plan_of s.hooks (told above)) ≡ reverse (arranged above)) → CanonicalTextsReadBack
 reads_back plan_lines s bytes input h one =
     let l = of_lines s bytes input h in
-    let above = l.reached.forms in
+    let above = l.reached.statements in
     let same : input.plan ≡ plan_of s.hooks (told above) = ap (λ i. i.plan) l.is in
     let count : length (told above).tasks ≡ 1 = ap (λ p. p.sizes.tasks) (sym same) ∙ one in
     let P : Plan → Type 0 = λ p. SpellsInput (alone s) (canonical_text p) (canonical_input p) in

@@ -3,13 +3,13 @@
 use Rattle.std.proofs.Common.{◌≡◌, ℕ, zero, suc, ◌+◌, ◌<◌, ◌≤◌, ◌==◌, Bool, true, false, cond, List, [], ◌∷◌, ◌++◌, length, replicate, reverse, Ok, refl, sym, ap, subst, ◌∙◌, inl, inr, ◌⊎◌, ⊎_elim, arith, append_assoc, append-nil}
 use Rattle.std.specs.List.{list_all, flat_map, range_with_len}
 use Rattle.lw_calls.proofs.Ranges.{range_last}
-use Rattle.lw_grammar.specs.LineForms.{Statement, GlyphLine}
+use Rattle.lw_grammar.specs.Statements.{Statement, GlyphLine}
 use Rattle.lw_grammar.specs.Told.{AssetsAreDue, nothing_told, told}
 use Rattle.lw_grammar.specs.Script.{Setting, line_read, AreGoodLines}
 use Rattle.lw_canonical.specs.Spelling.{spelled}
 use Rattle.lw_canonical.specs.Canonical.{lines_of_glyph}
-use Rattle.lw_grammar.proofs.ScriptSizes.{IsFormTested, tests_pass, here, tests, in_assets}
-use Rattle.lw_canonical.proofs.ReadsAgain.{verb_forms, spelled_again, isnt_passed}
+use Rattle.lw_grammar.proofs.ScriptSizes.{IsStatementTested, tests_pass, here, tests, in_assets}
+use Rattle.lw_canonical.proofs.ReadsAgain.{verb_statements, spelled_again, isnt_passed}
 use Rattle.lw_canonical.proofs.BitmapsKept.{IsBare, bare_glyph, IsWithoutBitmaps}
 use Rattle.lw_canonical.proofs.BitmapsSpelled.{few_bare, due_bare}
 use Rattle.lw_canonical.proofs.Rearranged.{glyphs_in_order, AreSpelled, HasOneSpelling}
@@ -146,9 +146,9 @@ glyph_again one s t w h d code rows above lines g bare b new =
     let at = here s above (GlyphLine code rows) g in
     let k = tests s above (GlyphLine code rows) g in
     let none : length (told lines).bitmap_names ≡ 0 = ap length b.names in
-    let tested : IsFormTested t lines (GlyphLine code rows) =
+    let tested : IsStatementTested t lines (GlyphLine code rows) =
     record { range = k.range; named = refl; new = new; group = refl; few = few_bare w h d (f ∷ lines) (bare_glyph w h d lines code rows bare) (omega (arith, none)); hook = refl; unused = refl; padding = refl } in
-    spelled_again one s t above lines f g.0 (verb_forms s t above lines AssetsAreDue at.0 (eq-eqb _ 0 b.due) (in_assets _ at.1) bare.section refl) (tests_pass t lines f tested)
+    spelled_again one s t above lines f g.0 (verb_statements s t above lines AssetsAreDue at.0 (eq-eqb _ 0 b.due) (in_assets _ at.1) bare.section refl) (tests_pass t lines f tested)
 
 -- So do all glyphs in order.
 pub over_spelled : HasOneSpelling → (s t : Setting) (above base : List Statement) → AreGoodLines s above → (w h d : ℕ) → IsBare w h d base → IsWithoutBitmaps base → (told base).given ≡ nothing_told.given → AreSpelled t base → (n : ℕ) → AreSpelled t (glyphs_over above base n)

@@ -7,7 +7,7 @@ use Rattle.lw_calls.specs.declared.group.Hold.TheVariants.{Slot}
 use Rattle.lw_calls.specs.declared.group.Group.{Group}
 use Rattle.lw_calls.specs.Touches.{slots_of}
 use Rattle.lw_calls.specs.Plan.{Plan, is_one, begins_update, may_be_locked, group_fits, groups_fit}
-use Rattle.lw_grammar.specs.LineForms.{Statement, LockLine, HoldLine}
+use Rattle.lw_grammar.specs.Statements.{Statement, LockLine, HoldLine}
 use Rattle.lw_grammar.specs.Told.{OpenGroup, Locked, Updating, Held}
 use Rattle.lw_canonical.specs.Canonical.{line_of_call, are_updating, is_update, opening_lines, closing_lines, lines_before, lines_behind, lines_from}
 use Rattle.lw_grammar.proofs.ScriptGroups.{drop_pushed}
@@ -16,12 +16,12 @@ use Rattle.std.proofs.lemmas.Bool.{not-true, ne_eqb, eq-eqb, leb-true, ltb-true,
 use Rattle.std.proofs.lemmas.List.{map-append, length-map}
 use Rattle.std.proofs.lemmas.Grind.{flat_map-append}
 
--- Lines with what stands before and behind each of them, by their numbers from n on.
+-- Lines with what stands before and after each of them, by their numbers from n on.
 abbrev pub woven : (ℕ → List Statement) → (ℕ → List Statement) → ℕ → List Statement → List Statement
 woven before behind n [] = []
 woven before behind n (l ∷ ls) = before n ++ l ∷ behind n ++ woven before behind (n + 1) ls
 
--- they are the same where the same stands before and behind each
+-- they are the same where the same stands before and after each
 woven_same : (a b c d : ℕ → List Statement) (n : ℕ) (ls : List Statement) → ((m : ℕ) → n ≤ m → m < n + length ls → a m ≡ b m) → ((m : ℕ) → n ≤ m → m < n + length ls → c m ≡ d m) → woven a c n ls ≡ woven b d n ls
 woven_same a b c d n [] h k = refl
 woven_same a b c d n (l ∷ ls) h k =
@@ -45,7 +45,7 @@ if_same a b xs e = ap (λ t. cond t xs []) (eq-eqb a b e)
 if_apart : (a b : ℕ) (xs : List Statement) → (a ≡ b → ⊥) → cond (a == b) xs [] ≡ []
 if_apart a b xs e = ap (λ t. cond t xs []) (ne_eqb a b e)
 
--- more lines behind the last one
+-- more lines after the last one
 woven_last : (a c : ℕ → List Statement) (n : ℕ) (ls more : List Statement) (last : ℕ) → n + length ls ≡ suc last → 0 < length ls → woven a (λ m. c m ++ cond (last == m) more []) n ls ≡ woven a c n ls ++ more
 woven_last a c n [] more last e some = absurd (omega arith)
 woven_last a c n (l ∷ []) more last e some =
@@ -78,7 +78,7 @@ groups_inside calls (g ∷ j ∷ gs) h =
     let one = group_inside calls g (and_parts (group_fits calls g) _ halves.0).0 in
     (one.0, one.1, groups_inside calls (j ∷ gs) halves.1)
 
--- calls begin an update whatever stands behind them
+-- calls begin an update whatever stands after them
 updating_more : (xs : List Call) (c : Call) → 0 < length xs → are_updating (xs ++ c ∷ []) ≡ are_updating xs
 updating_more [] c some = absurd (omega arith)
 updating_more (x ∷ xs) c some = refl
@@ -128,7 +128,7 @@ module _ (names bitmaps : List (List ℕ)) where
   lines_so_far o began calls groups =
       woven (λ m. lines_before names calls groups m ++ open_group_before o began m) (lines_behind names calls groups) 0 (map (line_of_call names bitmaps) calls) ++ open_group_before o began (length calls)
 
-  -- a further call leaves what stands before and behind the others
+  -- a further call leaves what stands before and after the others
   before_kept : (calls : List Call) (c : Call) (gs : List Group) (m : ℕ) → AreInside (length calls) gs → lines_before names (calls ++ c ∷ []) gs m ≡ lines_before names calls gs m
   before_kept calls c [] m h = refl
   before_kept calls c (g ∷ gs) m h =
@@ -139,7 +139,7 @@ module _ (names bitmaps : List (List ℕ)) where
   behind_kept calls c (g ∷ gs) m h =
       ap₂ (λ (x y : List Statement). x ++ y) (ap (λ t. cond (g.last == m) (closing_lines names g.hold t) []) (update_kept calls c g h.0)) (behind_kept calls c gs m h.2)
 
-  -- nothing stands at a call behind all groups
+  -- nothing stands at a call after all groups
   before_none : (calls : List Call) (gs : List Group) (n m : ℕ) → AreInside n gs → n ≤ m → lines_before names calls gs m ≡ []
   before_none calls [] n m h k = refl
   before_none calls (g ∷ gs) n m h k =

@@ -2,7 +2,7 @@ pub mod SpelledNumbers
 pub mod SpelledWords
 pub mod SpelledVerbs
 pub mod SpelledRanges
-pub mod SpelledForms
+pub mod SpelledStatements
 pub mod SpelledLayers
 pub mod OneSpelling
 pub mod ReadsAgain

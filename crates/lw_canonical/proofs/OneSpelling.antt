@@ -13,89 +13,89 @@ use Rattle.lw_grammar.specs.Demands.{◌>>=◌, demand}
 use Rattle.lw_grammar.specs.Lines.{lines}
 use Rattle.lw_grammar.specs.Tokens.{on_found, tokens_at, tokens, Token, OddToken, token_of, hex_bytes, spelled_bytes}
 use Rattle.lw_grammar.specs.Verbs.{verb_word, verb_of}
-use Rattle.lw_grammar.specs.LineForms.{CloseAct, FrontAct, BehindAct, MoveAct, SizeAct, BoxAct, ActivateAct, APenAct, BPenAct, ModeAct, MaskAct, AtAct, WriteAct, ReadAct, FillAct, DrawAct, TextAct, SetRastAct, ClipAct, UnclipAct, RefreshAct, ScrollAct, TitleAct, GetMsgAct, Statement, RowLine, TaskLine, EndLine, OrderLine, ReportLine, LockLine, UnlockLine, HoldLine, ReleaseLine, four, row_line, numbers_limit, numbers_line, form_by, is_line_in_range}
+use Rattle.lw_grammar.specs.Statements.{CloseAct, FrontAct, BehindAct, MoveAct, SizeAct, BoxAct, ActivateAct, APenAct, BPenAct, ModeAct, MaskAct, AtAct, WriteAct, ReadAct, FillAct, DrawAct, TextAct, SetRastAct, ClipAct, UnclipAct, RefreshAct, ScrollAct, TitleAct, GetMsgAct, Statement, RowLine, TaskLine, EndLine, OrderLine, ReportLine, LockLine, UnlockLine, HoldLine, ReleaseLine, four, row_line, numbers_limit, numbers_line, statement_by, is_line_in_range}
 use Rattle.lw_grammar.specs.Told.{told}
-use Rattle.lw_grammar.specs.Script.{Setting, line_limit, is_skipped, is_printable, are_tasks_due, are_numbers_due, is_plain, stands_in, is_task_verb, words_read, verb_read, form_read, form_tested, line_read, IsGoodLine}
+use Rattle.lw_grammar.specs.Script.{Setting, line_limit, is_skipped, is_printable, are_tasks_due, are_numbers_due, is_plain, belongs_in, is_task_verb, words_read, verb_read, statement_read, statement_tested, line_read, IsGoodLine}
 use Rattle.lw_calls.specs.Written.{line_of}
 use Rattle.lw_canonical.specs.Spelling.{joined, words_of, spelled}
 use Rattle.lw_canonical.proofs.Rearranged.{HasOneSpelling}
-use Rattle.lw_grammar.proofs.ScriptForms.{either_has, found_has}
+use Rattle.lw_grammar.proofs.ScriptStatements.{either_has, found_has}
 use Rattle.lw_canonical.proofs.SpelledVerbs.{IsWordOf, verb_spelled}
 use Rattle.lw_canonical.proofs.SpelledWords.{AreWords, AreWordsOf, words_joined, token_word, tokens_back, tokens_good}
-use Rattle.lw_canonical.proofs.SpelledRanges.{register_small, pen_small, rect_small, box_small, also}
-use Rattle.lw_canonical.proofs.SpelledForms.{IsSpelt, HasWords, screen_spelt, glyph_spelt, bitmap_spelt, row_spelt, numbers_spelt, name_spelt, bare_spelt, layer_spelt, number_spelt, pair_spelt, text_spelt, four_spelt, rect_spelt, region_spelt, clear_spelt, which_spelt, infront_spelt, scrollraster_spelt, endrefresh_spelt, put_spelt, blit_spelt}
+use Rattle.lw_canonical.proofs.SpelledRanges.{register_small, pen_small, rect_small, place_and_size_small, also}
+use Rattle.lw_canonical.proofs.SpelledStatements.{IsSpelt, HasWords, screen_spelt, glyph_spelt, bitmap_spelt, row_spelt, numbers_spelt, name_spelt, bare_spelt, layer_spelt, number_spelt, pair_spelt, text_spelt, four_spelt, rect_spelt, region_spelt, clear_spelt, which_spelt, infront_spelt, scrollraster_spelt, endrefresh_spelt, put_spelt, blit_spelt}
 use Rattle.lw_canonical.proofs.SpelledLayers.{create_spelt, open_spelt}
 use Rattle.std.proofs.lemmas.Result.{IfOk-at_ok}
 use Rattle.std.proofs.lemmas.Bool.{false≢true, eqb-true, and_parts, and_from}
 
--- the form of each verb
-form_spelt : (verb : Verb) (ts : List Token) → IfSome (form_by verb ts) (IsSpelt (verb_word verb) ts)
-form_spelt ScreenVerb ts = screen_spelt ts
-form_spelt GlyphVerb ts = glyph_spelt ts
-form_spelt BitmapVerb ts = bitmap_spelt ts
-form_spelt TaskVerb ts = name_spelt (codes "task") (λ n. TaskLine n) (λ n. refl) ts
-form_spelt EndVerb ts = bare_spelt (codes "end") EndLine refl ts
-form_spelt OrderVerb ts = bare_spelt (codes "order") OrderLine refl ts
-form_spelt ReportVerb ts = bare_spelt (codes "report") ReportLine refl ts
-form_spelt LockVerb ts = name_spelt (codes "lock") (λ n. LockLine n) (λ n. refl) ts
-form_spelt UnlockVerb ts = name_spelt (codes "unlock") (λ n. UnlockLine n) (λ n. refl) ts
-form_spelt HoldVerb ts = bare_spelt (codes "hold") HoldLine refl ts
-form_spelt ReleaseVerb ts = bare_spelt (codes "release") ReleaseLine refl ts
-form_spelt OrRectVerb ts = rect_spelt OrR ts
-form_spelt AndRectVerb ts = rect_spelt AndR ts
-form_spelt XorRectVerb ts = rect_spelt XorR ts
-form_spelt ClearRectVerb ts = rect_spelt ClearR ts
-form_spelt OrRegionVerb ts = region_spelt OrP ts
-form_spelt AndRegionVerb ts = region_spelt AndP ts
-form_spelt XorRegionVerb ts = region_spelt XorP ts
-form_spelt ClearRegionVerb ts = clear_spelt ts
-form_spelt CreateVerb ts = create_spelt ts
-form_spelt OpenVerb ts = open_spelt ts
-form_spelt CloseVerb ts = layer_spelt (codes "close") CloseAct (λ l. refl) ts
-form_spelt FrontVerb ts = layer_spelt (codes "front") FrontAct (λ l. refl) ts
-form_spelt BehindVerb ts = layer_spelt (codes "behind") BehindAct (λ l. refl) ts
-form_spelt InFrontVerb ts = infront_spelt ts
-form_spelt MoveVerb ts = pair_spelt (codes "move") (λ x y. MoveAct x y) (λ l x y. refl) (λ x y h. h) ts
-form_spelt SizeVerb ts = pair_spelt (codes "size") (λ x y. SizeAct x y) (λ l x y. refl) (λ x y h. h) ts
-form_spelt BoxVerb ts = four_spelt (codes "box") (λ x y w h. BoxAct x y w h) (λ l x y w h. refl) (λ x y w h r. box_small (four x y w h) r) ts
-form_spelt ActivateVerb ts = layer_spelt (codes "activate") ActivateAct (λ l. refl) ts
-form_spelt WhichVerb ts = which_spelt ts
-form_spelt APenVerb ts = number_spelt (codes "apen") (λ p. APenAct p) (λ l z. refl) pen_small ts
-form_spelt BPenVerb ts = number_spelt (codes "bpen") (λ p. BPenAct p) (λ l z. refl) pen_small ts
-form_spelt ModeVerb ts = number_spelt (codes "mode") (λ k. ModeAct k) (λ l z. refl) register_small ts
-form_spelt MaskVerb ts = number_spelt (codes "mask") (λ p. MaskAct p) (λ l z. refl) pen_small ts
-form_spelt AtVerb ts = pair_spelt (codes "at") (λ x y. AtAct x y) (λ l x y. refl) (λ x y h. h) ts
-form_spelt WriteVerb ts = pair_spelt (codes "write") (λ x y. WriteAct x y) (λ l x y. refl) (λ x y h. h) ts
-form_spelt ReadVerb ts = pair_spelt (codes "read") (λ x y. ReadAct x y) (λ l x y. refl) (λ x y h. h) ts
-form_spelt FillVerb ts = four_spelt (codes "fill") (λ a b c d. FillAct (four a b c d)) (λ l x y w h. refl) (λ x y w h r. rect_small (four x y w h) r) ts
-form_spelt DrawVerb ts = pair_spelt (codes "draw") (λ x y. DrawAct x y) (λ l x y. refl) (λ x y h. h) ts
-form_spelt TextVerb ts = text_spelt (codes "text") (λ t. TextAct t) (λ l t. refl) ts
-form_spelt SetRastVerb ts = number_spelt (codes "setrast") (λ p. SetRastAct p) (λ l z. refl) pen_small ts
-form_spelt ScrollRasterVerb ts = scrollraster_spelt ts
-form_spelt PutVerb ts = put_spelt ts
-form_spelt BlitVerb ts = blit_spelt ts
-form_spelt ClipVerb ts = number_spelt (codes "clip") (λ r. ClipAct r) (λ l z. refl) register_small ts
-form_spelt UnclipVerb ts = layer_spelt (codes "unclip") UnclipAct (λ l. refl) ts
-form_spelt RefreshVerb ts = layer_spelt (codes "refresh") RefreshAct (λ l. refl) ts
-form_spelt EndRefreshVerb ts = endrefresh_spelt ts
-form_spelt ScrollVerb ts = pair_spelt (codes "scroll") (λ x y. ScrollAct x y) (λ l x y. refl) (λ x y h. h) ts
-form_spelt TitleVerb ts = text_spelt (codes "title") (λ t. TitleAct t) (λ l t. refl) ts
-form_spelt GetMsgVerb ts = layer_spelt (codes "getmsg") GetMsgAct (λ l. refl) ts
+-- the statement of each verb
+statement_spelt : (verb : Verb) (ts : List Token) → IfSome (statement_by verb ts) (IsSpelt (verb_word verb) ts)
+statement_spelt ScreenVerb ts = screen_spelt ts
+statement_spelt GlyphVerb ts = glyph_spelt ts
+statement_spelt BitmapVerb ts = bitmap_spelt ts
+statement_spelt TaskVerb ts = name_spelt (codes "task") (λ n. TaskLine n) (λ n. refl) ts
+statement_spelt EndVerb ts = bare_spelt (codes "end") EndLine refl ts
+statement_spelt OrderVerb ts = bare_spelt (codes "order") OrderLine refl ts
+statement_spelt ReportVerb ts = bare_spelt (codes "report") ReportLine refl ts
+statement_spelt LockVerb ts = name_spelt (codes "lock") (λ n. LockLine n) (λ n. refl) ts
+statement_spelt UnlockVerb ts = name_spelt (codes "unlock") (λ n. UnlockLine n) (λ n. refl) ts
+statement_spelt HoldVerb ts = bare_spelt (codes "hold") HoldLine refl ts
+statement_spelt ReleaseVerb ts = bare_spelt (codes "release") ReleaseLine refl ts
+statement_spelt OrRectVerb ts = rect_spelt OrR ts
+statement_spelt AndRectVerb ts = rect_spelt AndR ts
+statement_spelt XorRectVerb ts = rect_spelt XorR ts
+statement_spelt ClearRectVerb ts = rect_spelt ClearR ts
+statement_spelt OrRegionVerb ts = region_spelt OrP ts
+statement_spelt AndRegionVerb ts = region_spelt AndP ts
+statement_spelt XorRegionVerb ts = region_spelt XorP ts
+statement_spelt ClearRegionVerb ts = clear_spelt ts
+statement_spelt CreateVerb ts = create_spelt ts
+statement_spelt OpenVerb ts = open_spelt ts
+statement_spelt CloseVerb ts = layer_spelt (codes "close") CloseAct (λ l. refl) ts
+statement_spelt FrontVerb ts = layer_spelt (codes "front") FrontAct (λ l. refl) ts
+statement_spelt BehindVerb ts = layer_spelt (codes "behind") BehindAct (λ l. refl) ts
+statement_spelt InFrontVerb ts = infront_spelt ts
+statement_spelt MoveVerb ts = pair_spelt (codes "move") (λ x y. MoveAct x y) (λ l x y. refl) (λ x y h. h) ts
+statement_spelt SizeVerb ts = pair_spelt (codes "size") (λ x y. SizeAct x y) (λ l x y. refl) (λ x y h. h) ts
+statement_spelt BoxVerb ts = four_spelt (codes "box") (λ x y w h. BoxAct x y w h) (λ l x y w h. refl) (λ x y w h r. place_and_size_small (four x y w h) r) ts
+statement_spelt ActivateVerb ts = layer_spelt (codes "activate") ActivateAct (λ l. refl) ts
+statement_spelt WhichVerb ts = which_spelt ts
+statement_spelt APenVerb ts = number_spelt (codes "apen") (λ p. APenAct p) (λ l z. refl) pen_small ts
+statement_spelt BPenVerb ts = number_spelt (codes "bpen") (λ p. BPenAct p) (λ l z. refl) pen_small ts
+statement_spelt ModeVerb ts = number_spelt (codes "mode") (λ k. ModeAct k) (λ l z. refl) register_small ts
+statement_spelt MaskVerb ts = number_spelt (codes "mask") (λ p. MaskAct p) (λ l z. refl) pen_small ts
+statement_spelt AtVerb ts = pair_spelt (codes "at") (λ x y. AtAct x y) (λ l x y. refl) (λ x y h. h) ts
+statement_spelt WriteVerb ts = pair_spelt (codes "write") (λ x y. WriteAct x y) (λ l x y. refl) (λ x y h. h) ts
+statement_spelt ReadVerb ts = pair_spelt (codes "read") (λ x y. ReadAct x y) (λ l x y. refl) (λ x y h. h) ts
+statement_spelt FillVerb ts = four_spelt (codes "fill") (λ a b c d. FillAct (four a b c d)) (λ l x y w h. refl) (λ x y w h r. rect_small (four x y w h) r) ts
+statement_spelt DrawVerb ts = pair_spelt (codes "draw") (λ x y. DrawAct x y) (λ l x y. refl) (λ x y h. h) ts
+statement_spelt TextVerb ts = text_spelt (codes "text") (λ t. TextAct t) (λ l t. refl) ts
+statement_spelt SetRastVerb ts = number_spelt (codes "setrast") (λ p. SetRastAct p) (λ l z. refl) pen_small ts
+statement_spelt ScrollRasterVerb ts = scrollraster_spelt ts
+statement_spelt PutVerb ts = put_spelt ts
+statement_spelt BlitVerb ts = blit_spelt ts
+statement_spelt ClipVerb ts = number_spelt (codes "clip") (λ r. ClipAct r) (λ l z. refl) register_small ts
+statement_spelt UnclipVerb ts = layer_spelt (codes "unclip") UnclipAct (λ l. refl) ts
+statement_spelt RefreshVerb ts = layer_spelt (codes "refresh") RefreshAct (λ l. refl) ts
+statement_spelt EndRefreshVerb ts = endrefresh_spelt ts
+statement_spelt ScrollVerb ts = pair_spelt (codes "scroll") (λ x y. ScrollAct x y) (λ l x y. refl) (λ x y h. h) ts
+statement_spelt TitleVerb ts = text_spelt (codes "title") (λ t. TitleAct t) (λ l t. refl) ts
+statement_spelt GetMsgVerb ts = layer_spelt (codes "getmsg") GetMsgAct (λ l. refl) ts
 
--- The form's words are these, where it is in range and the words are good ones.
+-- The statement's words are these, where it is in range and the words are good ones.
 abbrev IsOfWords : List (List ℕ) → Statement → Type 0
 IsOfWords ws f = AreWords ws → is_line_in_range f ≡ true → words_of f ≡ ws
 
--- a form without a verb, by what its words are
+-- a statement without a verb, by what its words are
 by_tokens : (ws : List (List ℕ)) (f : Statement) → HasWords (map token_word (map token_of ws)) (map token_of ws) f → IsOfWords ws f
 by_tokens ws f h good r = h (tokens_good ws) r ∙ tokens_back ws good
 
--- the same of a form that is found, or not
+-- the same of a statement that is found, or not
 found_words : (ws : List (List ℕ)) (o : Option Statement) → IfSome o (HasWords (map token_word (map token_of ws)) (map token_of ws)) → IfOk (ok_or o FormReason) (IsOfWords ws)
 found_words ws None h = tt
 found_words ws (Some f) h = by_tokens ws f h
 
--- a form with a verb
+-- a statement with a verb
 by_verb : (w : List ℕ) (v : Verb) (ws : List (List ℕ)) → IsWordOf w v → (o : Option Statement) → IfSome o (IsSpelt (verb_word v) (map token_of ws)) → IfOk (ok_or o FormReason) (IsOfWords (w ∷ ws))
 by_verb w v ws e None h = tt
 by_verb w v ws e (Some f) h = λ good r. h (tokens_good ws) r ∙ also (sym e) (tokens_back ws good.1)
@@ -105,23 +105,23 @@ verb_words : (s : Setting) (above : List Statement) (ws : List (List ℕ)) → I
 verb_words s above [] = tt
 verb_words s above (w ∷ ws) = at_verb (verb_of w) (verb_spelled w)
   where
-    at_tests : (v : Verb) → IsWordOf w v → (b c : Bool) → IfOk (demand b Misplaced >>= (λ _. demand c OneTaskOnly >>= (λ _. ok_or (form_by v (map token_of ws)) FormReason))) (IsOfWords (w ∷ ws))
+    at_tests : (v : Verb) → IsWordOf w v → (b c : Bool) → IfOk (demand b Misplaced >>= (λ _. demand c OneTaskOnly >>= (λ _. ok_or (statement_by v (map token_of ws)) FormReason))) (IsOfWords (w ∷ ws))
     at_tests v e false c = tt
     at_tests v e true false = tt
-    at_tests v e true true = by_verb w v ws e (form_by v (map token_of ws)) (form_spelt v (map token_of ws))
+    at_tests v e true true = by_verb w v ws e (statement_by v (map token_of ws)) (statement_spelt v (map token_of ws))
 
-    at_verb : (o : Option Verb) → IfSome o (IsWordOf w) → IfOk (ok_or o UnknownWord >>= (λ v. demand (stands_in s.form (told above).section v) Misplaced >>= (λ _. demand (not ((is_plain s.form && are_tasks_due (told above).section) && is_task_verb v)) OneTaskOnly >>= (λ _. ok_or (form_by v (map token_of ws)) FormReason)))) (IsOfWords (w ∷ ws))
+    at_verb : (o : Option Verb) → IfSome o (IsWordOf w) → IfOk (ok_or o UnknownWord >>= (λ v. demand (belongs_in s.form (told above).section v) Misplaced >>= (λ _. demand (not ((is_plain s.form && are_tasks_due (told above).section) && is_task_verb v)) OneTaskOnly >>= (λ _. ok_or (statement_by v (map token_of ws)) FormReason)))) (IsOfWords (w ∷ ws))
     at_verb None e = tt
-    at_verb (Some v) e = at_tests v e (stands_in s.form (told above).section v) (not ((is_plain s.form && are_tasks_due (told above).section) && is_task_verb v))
+    at_verb (Some v) e = at_tests v e (belongs_in s.form (told above).section v) (not ((is_plain s.form && are_tasks_due (told above).section) && is_task_verb v))
 
 -- of two results, each has what it is to have
 either_ok : {A : Type 0} (P : A → Type 0) (b : Bool) (x y : Result A Reason) → IfOk x P → IfOk y P → IfOk (cond b x y) P
 either_ok P true x y h k = h
 either_ok P false x y h k = k
 
--- the form that is read has the line's words
-form_words : (s : Setting) (above : List Statement) (ws : List (List ℕ)) → IfOk (form_read s.form (told above).section (told above).rows_due (told above).row_width ws) (IsOfWords ws)
-form_words s above ws =
+-- the statement that is read has the line's words
+statement_words : (s : Setting) (above : List Statement) (ws : List (List ℕ)) → IfOk (statement_read s.form (told above).section (told above).rows_due (told above).row_width ws) (IsOfWords ws)
+statement_words s above ws =
     either_ok (IsOfWords ws) (not ((told above).rows_due == 0)) _ _ (found_words ws (row_line (told above).row_width (map token_of ws)) (row_spelt (told above).row_width (map token_of ws))) (either_ok (IsOfWords ws) (are_numbers_due (told above).section) _ _ (found_words ws (numbers_line (map token_of ws)) (numbers_spelt (map token_of ws))) (verb_words s above ws))
 
 -- what was handed on, and what it gave
@@ -139,13 +139,13 @@ pub record IsReading (s : Setting) (above : List Statement) (line : List ℕ) (f
   pub printable : list_all is_printable line ≡ true
   pub ws : List (List ℕ)
   pub split : tokens line ≡ Ok ws
-  pub form : form_read s.form (told above).section (told above).rows_due (told above).row_width ws ≡ Ok f
+  pub statement : statement_read s.form (told above).section (told above).rows_due (told above).row_width ws ≡ Ok f
   pub range : is_line_in_range f ≡ true
 
--- the form that was tested is the one that was told
-told_form : (s : Setting) (above : List Statement) (g f : Statement) (h : (form_tested s (told above) g >>= (λ _. Ok g)) ≡ Ok f) → (g ≡ f) × (is_line_in_range f ≡ true)
-told_form s above g f h =
-    let t = handed_on (form_tested s (told above) g) (λ _. Ok g) f h in
+-- the statement that was tested is the one that was told
+told_statement : (s : Setting) (above : List Statement) (g f : Statement) (h : (statement_tested s (told above) g >>= (λ _. Ok g)) ≡ Ok f) → (g ≡ f) × (is_line_in_range f ≡ true)
+told_statement s above g f h =
+    let t = handed_on (statement_tested s (told above) g) (λ _. Ok g) f h in
     let same : g ≡ f = cc in
     let tested = demanded (is_line_in_range g) Range _ _ t.1 in
     (same, subst (λ k. is_line_in_range k ≡ true) same tested.0)
@@ -155,9 +155,9 @@ reading s above line f e =
     let words = handed_on (words_read line) _ f e in
     let short = demanded (nat_le (length line) line_limit) LineTooLong _ _ words.1 in
     let clean = demanded (list_all is_printable line) BadByte _ _ short.1 in
-    let form = handed_on (form_read s.form (told above).section (told above).rows_due (told above).row_width words.0) _ f words.2 in
-    let told = told_form s above form.0 f form.2 in
-    record { printable = clean.0; ws = words.0; split = clean.1; form = form.1 ∙ ap (λ g. Ok g) told.0; range = told.1 }
+    let statement = handed_on (statement_read s.form (told above).section (told above).rows_due (told above).row_width words.0) _ f words.2 in
+    let told = told_statement s above statement.0 f statement.2 in
+    record { printable = clean.0; ws = words.0; split = clean.1; statement = statement.1 ∙ ap (λ g. Ok g) told.0; range = told.1 }
 
 -- words that are those of a line give it back
 joined_line : (line : List ℕ) (ws : List (List ℕ)) → AreWordsOf line ws → (joined ws ≡ line) × AreWords ws
@@ -169,7 +169,7 @@ pub one_spelling : HasOneSpelling
 one_spelling s above line f e =
     let r = reading s above line f e in
     let words = joined_line line r.ws (IfOk-at_ok (AreWordsOf line) r.split (words_joined line)) in
-    ap joined (IfOk-at_ok (IsOfWords r.ws) r.form (form_words s above r.ws) words.1 r.range) ∙ words.0
+    ap joined (IfOk-at_ok (IsOfWords r.ws) r.statement (statement_words s above r.ws) words.1 r.range) ∙ words.0
 
 -- words of which the first begins with #
 abbrev IsRemark : List (List ℕ) → Type 0
@@ -199,12 +199,12 @@ no_verb : (w : List ℕ) → verb_of (35 ∷ w) ≡ None
 unfolding verb_of
 no_verb w = refl
 
--- so no form is read of such words
-no_form : (s : Setting) (above : List Statement) (w : List ℕ) (ws : List (List ℕ)) → IfOk (form_read s.form (told above).section (told above).rows_due (told above).row_width ((35 ∷ w) ∷ ws)) (λ _. ⊥)
-no_form s above w ws =
+-- so no statement is read of such words
+no_statement : (s : Setting) (above : List Statement) (w : List ℕ) (ws : List (List ℕ)) → IfOk (statement_read s.form (told above).section (told above).rows_due (told above).row_width ((35 ∷ w) ∷ ws)) (λ _. ⊥)
+no_statement s above w ws =
     either_ok (λ _. ⊥) (not ((told above).rows_due == 0)) _ _ (found_has (λ _. ⊥) (row_line (told above).row_width (map token_of ((35 ∷ w) ∷ ws))) FormReason (no_row (told above).row_width w (map token_of ws))) (either_ok (λ _. ⊥) (are_numbers_due (told above).section) _ _ (found_has (λ _. ⊥) (numbers_line (map token_of ((35 ∷ w) ∷ ws))) FormReason (either_has (λ _. ⊥) (nat_le (length (map token_of ((35 ∷ w) ∷ ws))) numbers_limit) None None tt tt)) (at_verb (verb_of (35 ∷ w)) (no_verb w)))
   where
-    at_verb : (o : Option Verb) → o ≡ None → IfOk (ok_or o UnknownWord >>= (λ v. demand (stands_in s.form (told above).section v) Misplaced >>= (λ _. demand (not ((is_plain s.form && are_tasks_due (told above).section) && is_task_verb v)) OneTaskOnly >>= (λ _. ok_or (form_by v (map token_of ws)) FormReason)))) (λ _. ⊥)
+    at_verb : (o : Option Verb) → o ≡ None → IfOk (ok_or o UnknownWord >>= (λ v. demand (belongs_in s.form (told above).section v) Misplaced >>= (λ _. demand (not ((is_plain s.form && are_tasks_due (told above).section) && is_task_verb v)) OneTaskOnly >>= (λ _. ok_or (statement_by v (map token_of ws)) FormReason)))) (λ _. ⊥)
     at_verb None e = tt
     at_verb (Some v) e = absurd (cc)
 
@@ -219,8 +219,8 @@ not_skipped s above (b ∷ bs) f e = go (b == 35) refl
         let r = reading s above (b ∷ bs) f e in
         let split : tokens (35 ∷ bs) ≡ Ok r.ws = subst (λ c. tokens (c ∷ bs) ≡ Ok r.ws) (eqb-true b 35 h) r.split in
         let remark = IfOk-at_ok IsRemark split (remark_words (tokens_at false bs)) in
-        let form : form_read s.form (told above).section (told above).rows_due (told above).row_width ((35 ∷ remark.0) ∷ remark.1) ≡ Ok f = subst (λ ws. form_read s.form (told above).section (told above).rows_due (told above).row_width ws ≡ Ok f) remark.2 r.form in
-        absurd (IfOk-at_ok (λ _. ⊥) form (no_form s above remark.0 remark.1))
+        let statement : statement_read s.form (told above).section (told above).rows_due (told above).row_width ((35 ∷ remark.0) ∷ remark.1) ≡ Ok f = subst (λ ws. statement_read s.form (told above).section (told above).rows_due (told above).row_width ws ≡ Ok f) remark.2 r.statement in
+        absurd (IfOk-at_ok (λ _. ⊥) statement (no_statement s above remark.0 remark.1))
 
 -- no byte is a line feed
 abbrev pub HasNoFeed : List ℕ → Type 0
@@ -244,7 +244,7 @@ printable_line (b ∷ bs) h =
 pub no_feed : (s : Setting) (above : List Statement) (line : List ℕ) (f : Statement) → line_read s (told above) line ≡ Ok f → list_all (λ b. not (b == 10)) line ≡ true
 no_feed s above line f e = let r = reading s above line f e in printable_line line r.printable
 
--- So the one spelling of a good line's form reads as that form where the line did, isn't skipped, and has no line feed.
+-- So the one spelling of a good line's statement reads as that statement where the line did, isn't skipped, and has no line feed.
 pub good_spelling : (s : Setting) (above : List Statement) (f : Statement) → IsGoodLine s above f → (line_read s (told above) (spelled f) ≡ Ok f) × (is_skipped (spelled f) ≡ false) × HasNoFeed (spelled f)
 good_spelling s above f g =
     let read : line_read s (told above) (spelled f) ≡ Ok f = subst (λ line. line_read s (told above) line ≡ Ok f) (sym (one_spelling s above g.line f g.read)) g.read in
@@ -261,12 +261,12 @@ first_line (b ∷ bs) rest h =
     go true n ih = absurd (false≢true n)
     go false n ih = ap (onto_first b) ih
 
--- none of these forms is spelled with a line feed
+-- none of these statements is spelled with a line feed
 abbrev pub HaveNoFeed : List Statement → Type 0
 HaveNoFeed [] = Unit {0}
 HaveNoFeed (f ∷ fs) = HasNoFeed (spelled f) × HaveNoFeed fs
 
--- The lines of a text of spelled forms are their spellings.
+-- The lines of a text of spelled statements are their spellings.
 pub lines_of_text : (fs : List Statement) → HaveNoFeed fs → lines (flat_map (λ f. line_of (spelled f)) fs) ≡ map spelled fs
 lines_of_text [] h = refl
 lines_of_text (f ∷ fs) h =

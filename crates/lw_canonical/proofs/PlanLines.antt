@@ -4,7 +4,7 @@ use Rattle.std.specs.List.{range_with_len}
 use Rattle.lw_calls.specs.declared.call.Call.{Call}
 use Rattle.lw_calls.specs.declared.group.Group.{Group}
 use Rattle.lw_calls.specs.Plan.{Plan, task_calls, task_groups}
-use Rattle.lw_grammar.specs.LineForms.{Statement, TaskLine, EndLine}
+use Rattle.lw_grammar.specs.Statements.{Statement, TaskLine, EndLine}
 use Rattle.lw_grammar.specs.Told.{told, plan_of}
 use Rattle.lw_grammar.specs.Script.{Setting, may_end, AreGoodLines}
 use Rattle.lw_canonical.specs.Canonical.{lines_of_task, lines_of_glyph, lines_of_plan}

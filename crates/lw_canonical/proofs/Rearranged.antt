@@ -3,7 +3,7 @@
 use Rattle.std.proofs.Common.{◌||◌, ◌≡◌, ℕ, ◌+◌, ◌≤◌, Bool, true, false, List, [], ◌∷◌, ◌++◌, filter, reverse, pos, None, Ok}
 use Rattle.std.specs.List.{flat_map, range_with_len}
 use Rattle.lw_calls.specs.declared.form.Form.TheVariants.{Plain}
-use Rattle.lw_grammar.specs.LineForms.{Statement, ScreenLine, BitmapLine, RowLine, TaskLine, EndLine, CallLine, LockLine, UnlockLine, HoldLine, ReleaseLine}
+use Rattle.lw_grammar.specs.Statements.{Statement, ScreenLine, BitmapLine, RowLine, TaskLine, EndLine, CallLine, LockLine, UnlockLine, HoldLine, ReleaseLine}
 use Rattle.lw_grammar.specs.Told.{AssetsAreDue, nothing_told, told}
 use Rattle.lw_grammar.specs.Script.{Setting, is_skipped, is_nothing_due, line_read}
 use Rattle.lw_canonical.specs.Spelling.{spelled}
@@ -45,11 +45,11 @@ arranged above = filter is_of_tasks above ++ base_of above
 abbrev pub alone : Setting → Setting
 alone s = record { hooks = s.hooks; form = Plain }
 
--- the line is no line of the script: it is skipped, or stands behind a line `report`
+-- the line is no line of the script: it is skipped, or stands after a line `report`
 abbrev pub is_passed : List Statement → List ℕ → Bool
 is_passed above line = is_skipped line || is_nothing_due (told above).section
 
--- each line reads, in its one spelling, as its form below the others, and isn't passed
+-- each line reads, in its one spelling, as its statement below the others, and isn't passed
 abbrev pub AreSpelled : Setting → List Statement → Type 0
 AreSpelled t [] = Unit {0}
 AreSpelled t (f ∷ above) = (line_read t (told above) (spelled f) ≡ Ok f) × (is_passed above (spelled f) ≡ false) × AreSpelled t above

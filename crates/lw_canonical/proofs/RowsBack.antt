@@ -13,11 +13,11 @@ use Rattle.lw_planes.proofs.DefinitionLaws.{plane_bit_inside, plane_bit_padding}
 use Rattle.lw_calls.specs.declared.reason.Reason.{Reason}
 use Rattle.lw_calls.specs.declared.reason.Reason.TheVariants.{Form as FormReason}
 use Rattle.lw_grammar.specs.Tokens.{Token, token_of, bytes_in}
-use Rattle.lw_grammar.specs.LineForms.{Statement, RowLine, row_line}
+use Rattle.lw_grammar.specs.Statements.{Statement, RowLine, row_line}
 use Rattle.lw_grammar.specs.Told.{told}
-use Rattle.lw_grammar.specs.Script.{Setting, has_padding, words_read, form_read, form_tested, IsGoodLine}
+use Rattle.lw_grammar.specs.Script.{Setting, has_padding, words_read, statement_read, statement_tested, IsGoodLine}
 use Rattle.lw_grammar.specs.Demands.{◌>>=◌}
-use Rattle.lw_grammar.proofs.ScriptForms.{AreBytes, AreSoMany, token_spelled}
+use Rattle.lw_grammar.proofs.ScriptStatements.{AreBytes, AreSoMany, token_spelled}
 use Rattle.std.proofs.lemmas.Bool.{cases_lt, or_parts}
 use Rattle.std.proofs.lemmas.Bool.Decides.{nat_tests}
 use Rattle.std.proofs.lemmas.Grind.{same_number_lists}
@@ -36,20 +36,20 @@ row_words width [] = tt
 row_words width (t ∷ []) = spelled_row (bytes_in (row_bytes width) t) (row_bytes width) (token_spelled (row_bytes width) t)
 row_words width (t ∷ u ∷ us) = tt
 
-row_form : (s : Setting) (above : List Statement) (ws : List (List ℕ)) → ((told above).rows_due == 0) ≡ false → IfOk (form_read s.form (told above).section (told above).rows_due (told above).row_width ws) IsRowRead
-row_form s above ws e = rw e (row_words (told above).row_width (map token_of ws))
+row_statement : (s : Setting) (above : List Statement) (ws : List (List ℕ)) → ((told above).rows_due == 0) ≡ false → IfOk (statement_read s.form (told above).section (told above).rows_due (told above).row_width ws) IsRowRead
+row_statement s above ws e = rw e (row_words (told above).row_width (map token_of ws))
 
 row_tested : (f g : Statement) (t : Result (Unit {0}) Reason) → (t >>= (λ _. Ok f)) ≡ Ok g → IsRowRead f → IsRowRead g
 row_tested f g (Ok u) d h = let same : f ≡ g = cc in subst IsRowRead same h
 row_tested f g (Err r) d h = absurd (cc)
 
-row_read : (s : Setting) (above : List Statement) (g : Statement) (t : Result (List (List ℕ)) Reason) → ((told above).rows_due == 0) ≡ false → (t >>= (λ ws. form_read s.form (told above).section (told above).rows_due (told above).row_width ws >>= (λ f. form_tested s (told above) f >>= (λ _. Ok f)))) ≡ Ok g → IsRowRead g
+row_read : (s : Setting) (above : List Statement) (g : Statement) (t : Result (List (List ℕ)) Reason) → ((told above).rows_due == 0) ≡ false → (t >>= (λ ws. statement_read s.form (told above).section (told above).rows_due (told above).row_width ws >>= (λ f. statement_tested s (told above) f >>= (λ _. Ok f)))) ≡ Ok g → IsRowRead g
 row_read s above g (Err r) e d = absurd (cc)
-row_read s above g (Ok ws) e d = at_form (form_read s.form (told above).section (told above).rows_due (told above).row_width ws) (row_form s above ws e) d
+row_read s above g (Ok ws) e d = at_statement (statement_read s.form (told above).section (told above).rows_due (told above).row_width ws) (row_statement s above ws e) d
   where
-    at_form : (r : Result Statement Reason) → IfOk r IsRowRead → (r >>= (λ f. form_tested s (told above) f >>= (λ _. Ok f))) ≡ Ok g → IsRowRead g
-    at_form (Err r) h d = absurd (cc)
-    at_form (Ok f) h d = row_tested f g (form_tested s (told above) f) d h
+    at_statement : (r : Result Statement Reason) → IfOk r IsRowRead → (r >>= (λ f. statement_tested s (told above) f >>= (λ _. Ok f))) ≡ Ok g → IsRowRead g
+    at_statement (Err r) h d = absurd (cc)
+    at_statement (Ok f) h d = row_tested f g (statement_tested s (told above) f) d h
 
 pub row_are_bytes : (s : Setting) (above : List Statement) (bytes : List ℕ) → ((told above).rows_due == 0) ≡ false → IsGoodLine s above (RowLine bytes) → AreBytes bytes
 row_are_bytes s above bytes e g = row_read s above (RowLine bytes) (words_read g.line) e g.read

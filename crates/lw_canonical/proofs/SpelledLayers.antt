@@ -7,13 +7,13 @@ use Rattle.lw_calls.specs.declared.make.Place.{Place}
 use Rattle.lw_calls.specs.declared.make.Place.TheVariants.{Front, Behind}
 use Rattle.lw_calls.specs.Limits.{rect_fits}
 use Rattle.lw_grammar.specs.Tokens.{is_a_name, Token, NameToken, NumberToken, TextToken, OddToken}
-use Rattle.lw_grammar.specs.LineForms.{AskedLayer, CreateAct, OpenAct, Statement, CallLine, four, kind_of, place_of, flag, hook_option, classes_from, asked_classes, ask_option, at_end, asked_without_bitmap, create_without_bitmap, create_super, create_kind, titled_line, open_without_bitmap, open_super, open_kind, asked_line, is_hook_number, is_box, is_line_in_range}
+use Rattle.lw_grammar.specs.Statements.{AskedLayer, CreateAct, OpenAct, Statement, CallLine, four, kind_of, place_of, flag, hook_option, classes_from, asked_classes, ask_option, at_end, asked_without_bitmap, create_without_bitmap, create_super, create_kind, titled_line, open_without_bitmap, open_super, open_kind, asked_line, is_hook_number, place_and_size_fit, is_line_in_range}
 use Rattle.lw_canonical.specs.Spelling.{text_word, four_words, kind_word, place_word, flag_words, hook_words, set_word, ask_words, words_of}
 use Rattle.lw_grammar.proofs.ScriptNames.{equal_names}
 use Rattle.lw_canonical.proofs.SpelledNumbers.{found_if, IsSetOf, set_spelled}
 use Rattle.lw_canonical.proofs.SpelledWords.{token_word, AreTokens}
-use Rattle.lw_canonical.proofs.SpelledRanges.{AreSmall, hook_small, own_small, rect_small, box_small, also}
-use Rattle.lw_canonical.proofs.SpelledForms.{IsSpelt}
+use Rattle.lw_canonical.proofs.SpelledRanges.{AreSmall, hook_small, own_small, rect_small, place_and_size_small, also}
+use Rattle.lw_canonical.proofs.SpelledStatements.{IsSpelt}
 use Rattle.std.proofs.lemmas.Bool.{false≢true, eqb-true, and_parts}
 
 -- What was taken of words, and what is left of them, give the words back, and the rest is good for what it is.
@@ -91,11 +91,11 @@ titled_has : (P : Statement → Type 0) (l : List ℕ) (asked : AskedLayer) (fra
 titled_has P l asked framed nocare classes (TextToken title ∷ []) h = h title refl
 titled_has P l asked framed nocare classes _ h = tt
 
--- What stands behind four numbers: with these words, and with the four numbers in range.
+-- What stands after four numbers: with these words, and with the four numbers in range.
 abbrev IsAskedSpelt : List ℕ → List ℕ → Place → Rectangle → Kind → List Token → Statement → Type 0
 IsAskedSpelt word l place numbers kind ts f = AreTokens ts → is_line_in_range f ≡ true → AreSmall numbers × (words_of f ≡ word ∷ l ∷ kind_word kind ∷ place_word place ∷ (four_words numbers ++ map token_word ts))
 
--- the words in front of what stands behind four numbers
+-- the words in front of what stands after four numbers
 abbrev in_front : List ℕ → List ℕ → Kind → Place → Rectangle → List (List ℕ) → List (List ℕ)
 in_front word l kind place numbers rest = word ∷ l ∷ kind_word kind ∷ place_word place ∷ (four_words numbers ++ rest)
 
@@ -147,7 +147,7 @@ opened_without_bitmap l kind place numbers ts w =
     let hook = hook_option nocare.1 in
     let ask = ask_option hook.1 in
     titled_has (IsAskedSpelt (codes "open") l place numbers kind ts) l _ _ _ _ ask.1 (λ title e t r.
-    let k = and_parts (is_box numbers) _ r in
+    let k = and_parts (place_and_size_fit numbers) _ r in
     let m = and_parts (is_hook_number hook.0) _ k.1 in
     let one = flag_taken (codes "backdrop") ts t in
     let two = flag_taken (codes "borderless") backdrop.1 one.1 in
@@ -160,7 +160,7 @@ opened_without_bitmap l kind place numbers ts w =
     let last : map token_word hook.1 ≡ ask_words ask.0 ++ text_word title ∷ [] = five.0 ∙ ap (λ rest. ask_words ask.0 ++ rest) e in
     let all : map token_word ts ≡ f1 ++ (f2 ++ (f3 ++ (hook_words hook.0 ++ (ask_words ask.0 ++ text_word title ∷ [])))) =
     one.0 ∙ ap (λ rest. f1 ++ rest) (two.0 ∙ ap (λ rest. f2 ++ rest) (three.0 ∙ ap (λ rest. f3 ++ rest) (four.0 ∙ ap (λ rest. hook_words hook.0 ++ rest) last))) in (
-      box_small numbers k.0,
+      place_and_size_small numbers k.0,
       w backdrop.0 hook.0 (not borderless.0) nocare.0 ask.0 title
           ∙ (ap (λ b. in_front (codes "open") l kind place numbers (((((f1 ++ flag_words (codes "borderless") b) ++ f3) ++ hook_words hook.0) ++ ask_words ask.0) ++ text_word title ∷ [])) (not_twice borderless.0)
           ∙ ap (in_front (codes "open") l kind place numbers) (five_append f1 f2 f3 (hook_words hook.0) (ask_words ask.0) (text_word title ∷ []) ∙ sym all)),
@@ -175,13 +175,13 @@ super_opened l place numbers (NumberToken a w ∷ NumberToken b h ∷ ts) =
     let backdrop = flag (codes "backdrop") ts in
     let ask = ask_option backdrop.1 in
     titled_has (IsAskedSpelt (codes "open") l place numbers SuperBitmap (NumberToken a w ∷ NumberToken b h ∷ ts)) l _ _ _ _ ask.1 (λ title e t r.
-    let k = and_parts (is_box numbers) _ r in
+    let k = and_parts (place_and_size_fit numbers) _ r in
     let m = and_parts (within (pos 1) w (pos 2048)) _ k.1 in
     let one = flag_taken (codes "backdrop") ts t.1.1 in
     let two = ask_taken backdrop.1 one.1 in
     let f1 = flag_words (codes "backdrop") backdrop.0 in
     let all : map token_word ts ≡ f1 ++ (ask_words ask.0 ++ text_word title ∷ []) = one.0 ∙ ap (λ rest. f1 ++ rest) (two.0 ∙ ap (λ rest. ask_words ask.0 ++ rest) e) in (
-      box_small numbers k.0,
+      place_and_size_small numbers k.0,
       ap (in_front (codes "open") l SuperBitmap place numbers) (also (t.0 (own_small w m.0)) (also (t.1.0 (own_small h m.1)) (append_assoc f1 (ask_words ask.0) (text_word title ∷ []) ∙ sym all))),
     ))
 super_opened l place numbers _ = tt
@@ -210,14 +210,14 @@ then_by Q P g (Some a) q h = h a q
 -- create L KIND PLACE X0 Y0 X1 Y1 .., and open L KIND PLACE X Y W H ..
 asked_spelt : (word : List ℕ) (behind : List ℕ → Place → Rectangle → List Token → Kind → Option Statement) → ((l : List ℕ) (place : Place) (numbers : Rectangle) (ts : List Token) (kind : Kind) → IfSome (behind l place numbers ts kind) (IsAskedSpelt word l place numbers kind ts)) → (ts : List Token) → IfSome (asked_line behind ts) (IsSpelt word ts)
 asked_spelt word behind made (NameToken l ∷ NameToken k ∷ NameToken p ∷ NumberToken a x ∷ NumberToken b y ∷ NumberToken c z ∷ NumberToken d w ∷ ts) =
-    then_by (λ place. p ≡ place_word place) P _ (place_of p) (place_spelt p) (λ place e. then_by (λ kind. k ≡ kind_word kind) P _ (kind_of k) (kind_spelt k) (λ kind f. at_form place kind e f (behind l place (four x y z w) ts kind) (made l place (four x y z w) ts kind)))
+    then_by (λ place. p ≡ place_word place) P _ (place_of p) (place_spelt p) (λ place e. then_by (λ kind. k ≡ kind_word kind) P _ (kind_of k) (kind_spelt k) (λ kind f. at_statement place kind e f (behind l place (four x y z w) ts kind) (made l place (four x y z w) ts kind)))
   where
     P : Statement → Type 0
     P = IsSpelt word (NameToken l ∷ NameToken k ∷ NameToken p ∷ NumberToken a x ∷ NumberToken b y ∷ NumberToken c z ∷ NumberToken d w ∷ ts)
 
-    at_form : (place : Place) (kind : Kind) → p ≡ place_word place → k ≡ kind_word kind → (o : Option Statement) → IfSome o (IsAskedSpelt word l place (four x y z w) kind ts) → IfSome o P
-    at_form place kind e f None h = tt
-    at_form place kind e f (Some g) h = λ t r.
+    at_statement : (place : Place) (kind : Kind) → p ≡ place_word place → k ≡ kind_word kind → (o : Option Statement) → IfSome o (IsAskedSpelt word l place (four x y z w) kind ts) → IfSome o P
+    at_statement place kind e f None h = tt
+    at_statement place kind e f (Some g) h = λ t r.
         let got = h t.1.1.1.1.1.1.1 r in
         let s = got.0 in
         got.1 ∙ also refl (also refl (also (sym f) (also (sym e) (also (t.1.1.1.0 s.0) (also (t.1.1.1.1.0 s.1.0) (also (t.1.1.1.1.1.0 s.1.1.0) (also (t.1.1.1.1.1.1.0 s.1.1.1) refl)))))))

@@ -5,7 +5,7 @@ use Rattle.std.specs.Fmt.{decimal, signed_decimal}
 use Rattle.std.specs.Str.Parse.{digits_value}
 use Rattle.lw_region.specs.Rectangle.{within}
 use Rattle.lw_grammar.specs.Tokens.{is_a_digit, is_above_zero, is_below_zero, is_a_number, cap, capped, value_of_number, is_hex, hex_value, hex_bytes}
-use Rattle.lw_grammar.specs.LineForms.{class_of, classes_from}
+use Rattle.lw_grammar.specs.Statements.{message_class_of, classes_from}
 use Rattle.lw_calls.specs.Written.{hex_digit, hex_byte}
 use Rattle.lw_canonical.specs.Spelling.{hex_word, set_word}
 use Rattle.std.proofs.lemmas.Int.{ints}
@@ -14,7 +14,7 @@ use Rattle.std.proofs.lemmas.Str.Parse.{IsDigitsTest, numerals_by_value}
 use Rattle.std.proofs.lemmas.Bool.{false≢true, eqb-true, leb-true, ltb-true, le-leb, and_parts, and_from}
 use Rattle.std.proofs.lemmas.Bool.Decides.{nat_tests}
 use Rattle.lw_calls.proofs.OrdersComplete.{all_below}
-use Rattle.lw_grammar.proofs.ScriptForms.{map_has, hex_small}
+use Rattle.lw_grammar.proofs.ScriptStatements.{map_has, hex_small}
 use Rattle.lw_grammar.proofs.ScriptNames.{equal_names}
 use Rattle.std.proofs.Math.Bool.{or-false}
 
@@ -30,7 +30,7 @@ tells_digits_so = record {
   more = λ c cs r e. and_from (is_a_digit c) (list_all is_a_digit cs) (and_from (nat_le 48 c) (nat_le c 57) (le-leb 48 c r.0) (le-leb c 57 r.1)) e;
 }
 
--- digits behind one from 1 to 9 are what is written of their value
+-- digits after one from 1 to 9 are what is written of their value
 above_zero_spelled : (ds : List ℕ) → is_above_zero ds ≡ true → digits_value 10 ds < cap → decimal (digits_value 10 ds) ≡ ds
 above_zero_spelled [] e small = absurd (false≢true e)
 above_zero_spelled (b ∷ bs) e small =
@@ -164,14 +164,14 @@ found_if P false x o h k = k
 abbrev IsLetter : ℕ → ℕ → Type 0
 IsLetter b k = (k < 5) × (letter k ≡ b)
 
-class_spelled : (b : ℕ) → IfSome (class_of b) (IsLetter b)
+class_spelled : (b : ℕ) → IfSome (message_class_of b) (IsLetter b)
 class_spelled b =
     found_if (IsLetter b) (b == 114) 0 _ (λ e. (omega arith, sym (eqb-true b 114 e))) (found_if (IsLetter b) (b == 110) 1 _ (λ e. (omega arith, sym (eqb-true b 110 e))) (found_if (IsLetter b) (b == 99) 2 _ (λ e. (omega arith, sym (eqb-true b 99 e))) (found_if (IsLetter b) (b == 97) 3 _ (λ e. (omega arith, sym (eqb-true b 97 e))) (found_if (IsLetter b) (b == 105) 4 None (λ e. (omega arith, sym (eqb-true b 105 e))) tt))))
 
 -- The set that letters stand for is written so.
 pub set_spelled : (least : ℕ) (bs : List ℕ) → least ≤ 5 → IfSome (classes_from least bs) (IsSetOf least bs)
 set_spelled least [] h = (omega arith, all_below (λ j. 0 % 2 ^ j == 0) 6 least all_empty (omega arith), refl)
-set_spelled least (b ∷ bs) h = at_class (class_of b) (class_spelled b) (λ k small. set_spelled (k + 1) bs (omega (arith, small)))
+set_spelled least (b ∷ bs) h = at_class (message_class_of b) (class_spelled b) (λ k small. set_spelled (k + 1) bs (omega (arith, small)))
   where
     at_class : (o : Option ℕ) → IfSome o (IsLetter b) → ((k : ℕ) → k < 5 → IfSome (classes_from (k + 1) bs) (IsSetOf (k + 1) bs)) → IfSome (option_and_then (λ k. cond (nat_le least k) (option_map (λ rest. 2 ^ k + rest) (classes_from (k + 1) bs)) None) o) (IsSetOf least (b ∷ bs))
     at_class None l go = tt

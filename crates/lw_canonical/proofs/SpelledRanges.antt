@@ -3,7 +3,7 @@ use Rattle.std.proofs.Common.{◌≡◌, ◌<◌, true, ◌&&◌, List, ◌∷�
 use Rattle.lw_region.specs.Rectangle.{Rectangle, within}
 use Rattle.lw_calls.specs.Limits.{is_coordinate, axis_fits, rect_fits, coordinates_fit, is_extent}
 use Rattle.lw_grammar.specs.Tokens.{cap}
-use Rattle.lw_grammar.specs.LineForms.{is_hook_number, is_box}
+use Rattle.lw_grammar.specs.Statements.{is_hook_number, place_and_size_fit}
 use Rattle.lw_canonical.proofs.SpelledNumbers.{small_in}
 use Rattle.std.proofs.lemmas.Bool.{and_parts}
 
@@ -58,7 +58,7 @@ axis_small low high h =
     let k = and_parts (is_coordinate low && is_coordinate high) _ h in
     places_small low high k.0
 
--- a rectangle, and a box
+-- a rectangle, and a place with a size
 pub rect_small : (r : Rectangle) → rect_fits r ≡ true → AreSmall r
 rect_small r h =
     let k = and_parts (axis_fits r.min_x r.max_x) (axis_fits r.min_y r.max_y) h in
@@ -66,8 +66,8 @@ rect_small r h =
     let y = axis_small r.min_y r.max_y k.1 in
     (x.0, (y.0, (x.1, y.1)))
 
-pub box_small : (r : Rectangle) → is_box r ≡ true → AreSmall r
-box_small r h =
+pub place_and_size_small : (r : Rectangle) → place_and_size_fit r ≡ true → AreSmall r
+place_and_size_small r h =
     let k = and_parts (coordinates_fit r.min_x r.min_y) (is_extent r.max_x && is_extent r.max_y) h in
     let place = places_small r.min_x r.min_y k.0 in
     let size = and_parts (is_extent r.max_x) (is_extent r.max_y) k.1 in

@@ -4,13 +4,13 @@ use Rattle.std.specs.List.{list_any}
 use Rattle.lw_calls.specs.declared.operation.RectOp.TheVariants.{Or as OrR, And as AndR, Xor as XorR, Clear as ClearR}
 use Rattle.lw_calls.specs.declared.operation.PairOp.TheVariants.{Or as OrP, And as AndP, Xor as XorP}
 use Rattle.lw_calls.specs.Limits.{name_limit, call_limit, task_limit, bitmap_limit}
-use Rattle.lw_grammar.specs.LineForms.{Act, RegRectAct, RegPairAct, Statement, GlyphLine, BitmapLine, RowLine, TaskLine, NumbersLine, CallLine}
+use Rattle.lw_grammar.specs.Statements.{Act, RegRectAct, RegPairAct, Statement, GlyphLine, BitmapLine, RowLine, TaskLine, NumbersLine, CallLine}
 use Rattle.lw_grammar.specs.Told.{Section, ScreenIsDue, AssetsAreDue, CallsAreDue, TasksAreDue, NumbersAreDue, NothingIsDue, OpenGroup, hook_on, told}
-use Rattle.lw_grammar.specs.Script.{Setting, is_skipped, are_assets_due, are_calls_due, are_tasks_due, are_numbers_due, is_nothing_due, lacks_name, gives_again, fits_group, super_limit, are_few, is_used, has_padding, form_read, line_read}
+use Rattle.lw_grammar.specs.Script.{Setting, is_skipped, are_assets_due, are_calls_due, are_tasks_due, are_numbers_due, is_nothing_due, lacks_name, gives_again, fits_group, super_limit, are_few, is_used, has_padding, statement_read, line_read}
 use Rattle.lw_canonical.specs.Spelling.{joined, call_words, words_of, spelled}
-use Rattle.lw_grammar.proofs.ScriptSizes.{IsFormTested, tests_pass}
+use Rattle.lw_grammar.proofs.ScriptSizes.{IsStatementTested, tests_pass}
 use Rattle.lw_canonical.proofs.Rearranged.{is_of_tasks, alone}
-use Rattle.lw_canonical.proofs.ReadsAgain.{verb_forms, read_again}
+use Rattle.lw_canonical.proofs.ReadsAgain.{verb_statements, read_again}
 use Rattle.lw_canonical.proofs.NotionsAlike.{section_alone, AreAlike, alike_more}
 use Rattle.std.proofs.lemmas.Bool.{true≢false, false≢true}
 
@@ -66,11 +66,11 @@ inner TasksAreDue e = absurd (false≢true e)
 inner NumbersAreDue e = absurd (false≢true e)
 inner NothingIsDue e = absurd (false≢true e)
 
--- Below lines that tell the same, words have the same form in a script alone.
-form_alone : (s : Setting) (above new : List Statement) (ws : List (List ℕ)) → ((told above).rows_due == 0) ≡ true → is_inner (told above).section ≡ true → AreAlike above new → form_read s.form (told above).section (told above).rows_due (told above).row_width ws ≡ form_read (alone s).form (told new).section (told new).rows_due (told new).row_width ws
-form_alone s above new ws e c a =
+-- Below lines that tell the same, words have the same statement in a script alone.
+statement_alone : (s : Setting) (above new : List Statement) (ws : List (List ℕ)) → ((told above).rows_due == 0) ≡ true → is_inner (told above).section ≡ true → AreAlike above new → statement_read s.form (told above).section (told above).rows_due (told above).row_width ws ≡ statement_read (alone s).form (told new).section (told new).rows_due (told new).row_width ws
+statement_alone s above new ws e c a =
     let i = inner (told above).section c in
-    verb_forms s (alone s) above new (told above).section e (ap (λ n. n == 0) a.due) refl (a.section ∙ i.same) i.tasks ws
+    verb_statements s (alone s) above new (told above).section e (ap (λ n. n == 0) a.due) refl (a.section ∙ i.same) i.tasks ws
 
 -- the counts of lines are few by themselves
 abbrev few_by : List (List ℕ) → List (List ℕ) → List (List ℕ) → ℕ → ℕ → Bool
@@ -103,8 +103,8 @@ same_fit above new f a =
     ap (λ (g : Option OpenGroup). fits_group g (nat_lt (told new).began (told new).so_far) f) a.group
     ∙ (ap (λ n. fits_group (told above).group (nat_lt n (told new).so_far) f) a.began ∙ ap (λ n. fits_group (told above).group (nat_lt (told above).began n) f) a.so_far)
 
--- Below lines that tell the same, a form of tasks meets the same tests.
-tests_alone : (s : Setting) (above new : List Statement) (f : Statement) → is_of_tasks f ≡ true → AreAlike above new → IsFormTested s above f → IsFormTested (alone s) new f
+-- Below lines that tell the same, a statement of tasks meets the same tests.
+tests_alone : (s : Setting) (above new : List Statement) (f : Statement) → is_of_tasks f ≡ true → AreAlike above new → IsStatementTested s above f → IsStatementTested (alone s) new f
 tests_alone s above new f o a t =
     record {
       range = t.range;
@@ -117,7 +117,7 @@ tests_alone s above new f o a t =
       padding = not_padded (told new).row_width f o;
     }
 
--- Below lines that tell the same, a line of tasks is read as the same form in a script alone.
-pub read_alone : (s : Setting) (above new : List Statement) (f : Statement) (line : List ℕ) → is_of_tasks f ≡ true → ((told above).rows_due == 0) ≡ true → is_inner (told above).section ≡ true → AreAlike above new → IsFormTested s above f → line_read s (told above) line ≡ Ok f → line_read (alone s) (told new) line ≡ Ok f
+-- Below lines that tell the same, a line of tasks is read as the same statement in a script alone.
+pub read_alone : (s : Setting) (above new : List Statement) (f : Statement) (line : List ℕ) → is_of_tasks f ≡ true → ((told above).rows_due == 0) ≡ true → is_inner (told above).section ≡ true → AreAlike above new → IsStatementTested s above f → line_read s (told above) line ≡ Ok f → line_read (alone s) (told new) line ≡ Ok f
 read_alone s above new f line o e c a t read =
-    read_again s (alone s) above new line f (λ ws. form_alone s above new ws e c a) (tests_pass (alone s) new f (tests_alone s above new f o a t)) read
+    read_again s (alone s) above new line f (λ ws. statement_alone s above new ws e c a) (tests_pass (alone s) new f (tests_alone s above new f o a t)) read

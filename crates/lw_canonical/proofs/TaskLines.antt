@@ -5,7 +5,7 @@ use Rattle.lw_calls.specs.declared.sizes.Sizes.{Sizes}
 use Rattle.lw_calls.specs.declared.call.Call.{Call}
 use Rattle.lw_calls.specs.declared.group.Hold.TheVariants.{Slot, All as AllLayers}
 use Rattle.lw_calls.specs.declared.group.Group.{Group}
-use Rattle.lw_grammar.specs.LineForms.{Act, PutAct, RefreshAct, EndRefreshAct, Statement, ScreenLine, GlyphLine, BitmapLine, RowLine, TaskLine, EndLine, OrderLine, NumbersLine, ReportLine, CallLine, LockLine, UnlockLine, HoldLine, ReleaseLine}
+use Rattle.lw_grammar.specs.Statements.{Act, PutAct, RefreshAct, EndRefreshAct, Statement, ScreenLine, GlyphLine, BitmapLine, RowLine, TaskLine, EndLine, OrderLine, NumbersLine, ReportLine, CallLine, LockLine, UnlockLine, HoldLine, ReleaseLine}
 use Rattle.lw_grammar.specs.Told.{Section, ScreenIsDue, AssetsAreDue, CallsAreDue, TasksAreDue, NumbersAreDue, NothingIsDue, OpenGroup, Locked, Updating, Held, and_names, place_among, onto_last, call_below, group_from, told, plan_of}
 use Rattle.lw_grammar.specs.Script.{Setting, is_screen_due, are_assets_due, are_calls_due, are_tasks_due, are_numbers_due, lacks_name, is_beginning, is_ending, is_lock_on, is_hold, AreGoodLines}
 use Rattle.lw_canonical.specs.Canonical.{line_of_call, are_updating, is_update, opening_lines, closing_lines}
@@ -114,7 +114,7 @@ nearest_task s above g e done done_groups calls groups a b =
 none_between : (s : Setting) (above : List Statement) → AreGoodLines s above → are_calls_due (told above).section ≡ false → (told above).group ≡ None
 none_between s above g e = (tasks_fit (plan_of s.hooks (told above)).sizes s above g refl (omega arith) (omega arith)).closed e
 
--- nothing was opened before a call behind the next one
+-- nothing was opened before a call after the next one
 open_group_behind : (o : Option OpenGroup) (so_far began n : ℕ) (names : List (List ℕ)) (calls : List Call) (groups : List Group) → OpenState o so_far began names calls groups → so_far < n → open_group_before o began n ≡ []
 open_group_behind None so_far began n names calls groups h low = none_before [] [] began n
 open_group_behind (Some (Locked l)) so_far began n names calls groups h low =

@@ -12,7 +12,7 @@ use Rattle.lw_calls.specs.declared.group.Group.{Group}
 use Rattle.lw_calls.specs.declared.form.Form.TheVariants.{Plain}
 use Rattle.lw_calls.specs.Plan.{Plan, task_calls, task_groups, begins_update}
 use Rattle.lw_calls.specs.Written.{line_of}
-use Rattle.lw_grammar.specs.LineForms.{AskedLayer, Act, RegRectAct, RegPairAct, RegClearAct, CreateAct, OpenAct, CloseAct, FrontAct, BehindAct, InFrontAct, MoveAct, SizeAct, BoxAct, ActivateAct, WhichAct, APenAct, BPenAct, ModeAct, MaskAct, AtAct, WriteAct, ReadAct, FillAct, DrawAct, TextAct, SetRastAct, ScrollRasterAct, PutAct, BlitAct, ClipAct, UnclipAct, RefreshAct, EndRefreshAct, ScrollAct, TitleAct, GetMsgAct, Statement, ScreenLine, GlyphLine, BitmapLine, RowLine, TaskLine, EndLine, CallLine, LockLine, UnlockLine, HoldLine, ReleaseLine, four}
+use Rattle.lw_grammar.specs.Statements.{AskedLayer, Act, RegRectAct, RegPairAct, RegClearAct, CreateAct, OpenAct, CloseAct, FrontAct, BehindAct, InFrontAct, MoveAct, SizeAct, BoxAct, ActivateAct, WhichAct, APenAct, BPenAct, ModeAct, MaskAct, AtAct, WriteAct, ReadAct, FillAct, DrawAct, TextAct, SetRastAct, ScrollRasterAct, PutAct, BlitAct, ClipAct, UnclipAct, RefreshAct, EndRefreshAct, ScrollAct, TitleAct, GetMsgAct, Statement, ScreenLine, GlyphLine, BitmapLine, RowLine, TaskLine, EndLine, CallLine, LockLine, UnlockLine, HoldLine, ReleaseLine, four}
 use Rattle.lw_grammar.specs.Script.{Setting, ScriptInput, SpellsInput}
 use Rattle.lw_canonical.specs.Spelling.{spelled}
 
@@ -102,7 +102,7 @@ closing_lines names (Slot s) true = []
 closing_lines names (Slot s) false = UnlockLine (slice_index_or names s []) ∷ []
 closing_lines names All updating = ReleaseLine ∷ []
 
--- the lines before and behind call number n of a task with these calls and groups
+-- the lines before and after call number n of a task with these calls and groups
 abbrev pub lines_before : List (List ℕ) → List Call → List Group → ℕ → List Statement
 lines_before names calls groups n =
     flat_map (λ g. if g.first == n then opening_lines names g.hold (is_update calls g) else []) groups
@@ -142,15 +142,15 @@ lines_of_plan p =
     ++ flat_map (λ b. lines_of_bitmap (slice_index_or p.bitmap_names b.0 []) b.1) (enumerated 0 p.assets.bitmaps)
     ++ flat_map (lines_of_task p) (range_with_len 0 p.sizes.tasks)
 
--- The canonical text of a plan: its lines, each with a line feed behind it.
+-- The canonical text of a plan: its lines, each with a line feed after it.
 unfoldable pub canonical_text : Plan → List ℕ
-canonical_text p = flat_map (λ form. line_of (spelled form)) (lines_of_plan p)
+canonical_text p = flat_map (λ statement. line_of (spelled statement)) (lines_of_plan p)
 
 -- What a script alone gives of a plan's canonical text, where so many hooks are handed in as the plan has.
 abbrev pub canonical_input : Plan → ScriptInput
 canonical_input p = record { plan = p; order = []; rest = length (canonical_text p) }
 
--- The canonical text of a plan of one task that an input spells, in whatever form it was read, spells that plan as a script
+-- The canonical text of a plan of one task that an input spells, whatever input it was read from, spells that plan as a script
 -- alone.
 abbrev pub CanonicalTextsReadBack : Type 0
 CanonicalTextsReadBack =

@@ -1,4 +1,4 @@
--- The one spelling of each form of a script's lines (this project's own format): its words with single spaces between them.
+-- The one spelling of each statement of a script's lines (this project's own format): its words with single spaces between them.
 use Rattle.std.specs.Prelude.{ℕ, ◌/◌, ◌%◌, ◌==◌, Bool, true, false, not, if◌then◌else◌, List, [], ◌∷◌, ◌++◌, map, ℤ, Option, Some, None, codes, slice_index_or}
 use Rattle.std.specs.List.{flat_map}
 use Rattle.std.specs.Fmt.{signed_decimal}
@@ -12,7 +12,7 @@ use Rattle.lw_calls.specs.declared.make.Kind.TheVariants.{Simple, Smart, SuperBi
 use Rattle.lw_calls.specs.declared.make.Place.{Place}
 use Rattle.lw_calls.specs.declared.make.Place.TheVariants.{Front, Behind}
 use Rattle.lw_grammar.specs.Tokens.{space, quote}
-use Rattle.lw_grammar.specs.LineForms.{AskedLayer, Act, RegRectAct, RegPairAct, RegClearAct, CreateAct, OpenAct, CloseAct, FrontAct, BehindAct, InFrontAct, MoveAct, SizeAct, BoxAct, ActivateAct, WhichAct, APenAct, BPenAct, ModeAct, MaskAct, AtAct, WriteAct, ReadAct, FillAct, DrawAct, TextAct, SetRastAct, ScrollRasterAct, PutAct, BlitAct, ClipAct, UnclipAct, RefreshAct, EndRefreshAct, ScrollAct, TitleAct, GetMsgAct, Statement, ScreenLine, GlyphLine, BitmapLine, RowLine, TaskLine, EndLine, OrderLine, NumbersLine, ReportLine, CallLine, LockLine, UnlockLine, HoldLine, ReleaseLine, four}
+use Rattle.lw_grammar.specs.Statements.{AskedLayer, Act, RegRectAct, RegPairAct, RegClearAct, CreateAct, OpenAct, CloseAct, FrontAct, BehindAct, InFrontAct, MoveAct, SizeAct, BoxAct, ActivateAct, WhichAct, APenAct, BPenAct, ModeAct, MaskAct, AtAct, WriteAct, ReadAct, FillAct, DrawAct, TextAct, SetRastAct, ScrollRasterAct, PutAct, BlitAct, ClipAct, UnclipAct, RefreshAct, EndRefreshAct, ScrollAct, TitleAct, GetMsgAct, Statement, ScreenLine, GlyphLine, BitmapLine, RowLine, TaskLine, EndLine, OrderLine, NumbersLine, ReportLine, CallLine, LockLine, UnlockLine, HoldLine, ReleaseLine, four}
 use Rattle.lw_calls.specs.Written.{hex_byte}
 
 -- words with single spaces between them
@@ -79,7 +79,7 @@ set_word classes =
 abbrev pub ask_words : ℕ → List (List ℕ)
 ask_words classes = if classes == 0 then [] else codes "ask" ∷ set_word classes ∷ []
 
--- what a layer is asked for with behind its four numbers: BW BH [backdrop], or [backdrop] [hook N]
+-- what a layer is asked for with after its four numbers: BW BH [backdrop], or [backdrop] [hook N]
 abbrev pub created_words : Kind → AskedLayer → List (List ℕ)
 created_words Simple a = flag_words (codes "backdrop") a.backdrop ++ hook_words a.hook
 created_words Smart a = flag_words (codes "backdrop") a.backdrop ++ hook_words a.hook
@@ -163,4 +163,4 @@ words_of ReleaseLine = codes "release" ∷ []
 
 -- the bytes of a line without its line feed
 abbrev pub spelled : Statement → List ℕ
-spelled form = joined (words_of form)
+spelled statement = joined (words_of statement)

@@ -34,10 +34,10 @@ use Rattle.lw_layer.specs.StandsFor.{IsPartOf, StandsFor, IsSound}
 use Rattle.lw_layer.specs.Windows.{without_room, HasRoom}
 use Rattle.lw_layer.specs.declared.look.Look.{Look}
 use Rattle.lw_stack.specs.Stack.{Stack, bounds_at, StandsForInfo}
-use Rattle.lw_arrange.specs.Plans.{Planned, IsPlanned}
+use Rattle.lw_arrange.specs.Arrangements.{ArrangementView, IsArrangement}
 use Rattle.lw_arrange.specs.declared.arrangement.Step.{Step}
 use Rattle.lw_arrange.specs.declared.arrangement.Step.TheVariants.{Arranged}
-use Rattle.lw_arrange.specs.Arranged.{IsTold, IsFresh, AreOf, IsPlanOf, IsStepOf}
+use Rattle.lw_arrange.specs.Arranged.{IsTold, IsFresh, AreOf, IsArrangementOf, IsStepOf}
 use Rattle.lw_arrange.specs.Steps.{KeepsSizes}
 use Rattle.lw_arrange.specs.Prepared.{created_by, without_layer}
 use Rattle.lw_arrange.specs.Filled.{hook_asked}
@@ -116,7 +116,7 @@ is_on_all : (call : Call) → class_of call ≡ OnAll → IsTrue (is_all (slots_
 is_on_all call all = ap (λ k. is_all (slots_in k)) all
 
 -- A plan of the desk may be done there.
-pub done_desk : (d : Desk) (v : Stack) (cells : List CellView) (task : ℕ) (call : Call) (a : Planned) → AreOfDesk v cells d → class_of call ≡ OnAll → IsTrue (call_fits v.sizes call) → refusal d task call ≡ None → IsPlanOf d task call a → IsPlanned a → a.stack.sizes ≡ v.sizes
+pub done_desk : (d : Desk) (v : Stack) (cells : List CellView) (task : ℕ) (call : Call) (a : ArrangementView) → AreOfDesk v cells d → class_of call ≡ OnAll → IsTrue (call_fits v.sizes call) → refusal d task call ≡ None → IsArrangementOf d task call a → IsArrangement a → a.stack.sizes ≡ v.sizes
     → IsDone d task call a
 done_desk d v cells task call a are all fits unrefused plan planned sizes =
     let here : IsTrue (call_fits d.sizes call) = ap (λ z. call_fits z call) are.sizes ∙ fits in
@@ -184,7 +184,7 @@ asked_same d task (OpenWindow slot make framed nocare asks title) shelf n r hook
 asked_same d task call shelf n r hooks none some = refl
 
 -- so it is with the hook of a slot that is opened
-asked_of_slot : (d : Desk) (task : ℕ) (call : Call) (a : Planned) (shelf : List (Option Hook)) (c : CellView) → IsDone d task call a → AreOnShelf shelf d
+asked_of_slot : (d : Desk) (task : ℕ) (call : Call) (a : ArrangementView) (shelf : List (Option Hook)) (c : CellView) → IsDone d task call a → AreOnShelf shelf d
     → StandsFor c (slot_part d c.number) → IsHookAsked d a c (asked_hook shelf a.call c.number)
 asked_of_slot d task call a shelf c done hooks stands fresh has =
     let n = c.number in
@@ -211,7 +211,7 @@ shelf_stands d task (InFrontOf slot other) shelf hooks n = either_way (slot == o
 shelf_stands d task call shelf hooks n = hooks n
 
 -- Once everything is settled, LayerInfo, the slots and the shelf stand for the parts of the desk after the call.
-pub done_step : (d : Desk) (v : Stack) (shelf : List (Option Hook)) (cells new : List CellView) (task : ℕ) (call : Call) (a : Planned) → AreOfDesk v cells d
+pub done_step : (d : Desk) (v : Stack) (shelf : List (Option Hook)) (cells new : List CellView) (task : ℕ) (call : Call) (a : ArrangementView) → AreOfDesk v cells d
     → AreOnShelf shelf d → AreNumbered v.sizes.slots cells → IsDone d task call a → a.stack.sizes ≡ v.sizes
     → AreChanged (slot_after d.assets.glyphs a shelf) cells new
     → (Done ≡ reply d task call) × AreOfDesk a.stack new (after d task call) × AreOnShelf (shelf_after a.call shelf) (after d task call)
@@ -282,7 +282,7 @@ idle_arranged d task (Blit source slot area) n all done dead idle =
 idle_arranged d task call n all done dead idle = absurd (cc all)
 
 -- Each slot's cell may be made ready.
-pub cells_may : (d : Desk) (v : Stack) (cells : List CellView) (task : ℕ) (call : Call) (a : Planned) → AreOfDesk v cells d → AreNumbered v.sizes.slots cells
+pub cells_may : (d : Desk) (v : Stack) (cells : List CellView) (task : ℕ) (call : Call) (a : ArrangementView) → AreOfDesk v cells d → AreNumbered v.sizes.slots cells
     → IsDone d task call a → ((s : ℕ) → s < length cells → (cell_at cells s).state ≡ view.Live → IsSound (bare (cell_at cells s)).live)
     → ((s : ℕ) → s < length cells → HasRoom 5 (cell_at cells s)) → (s : ℕ) → s < length cells → MayBeReady a (cell_at cells s)
 cells_may d v cells task call a are numbered done sound room s below =
@@ -302,7 +302,7 @@ cells_may d v cells task call a are numbered done sound room s below =
     }
 
 -- A slot that was live and is closed has dropped its hook.
-dropped_slot : (glyphs : List (List ℕ)) (a : Planned) (shelf : List (Option Hook)) (c : CellView) → c.state ≡ view.Live
+dropped_slot : (glyphs : List (List ℕ)) (a : ArrangementView) (shelf : List (Option Hook)) (c : CellView) → c.state ≡ view.Live
     → (slot_after glyphs a shelf c).state ≡ view.Closed → hook_in (slot_after glyphs a shelf c) ≡ None
 dropped_slot glyphs a shelf c live closed = by_bounds (bounds_at a.stack.bounds c.number) refl
   where
@@ -319,7 +319,7 @@ dropped_slot glyphs a shelf c live closed = by_bounds (bounds_at a.stack.bounds 
         ap (settled_by glyphs a h c) bounds ∙ ap (settled_with glyphs a h c r) live in
         absurd (cc (ap (λ (v : CellView). v.state) is, closed))
 
-pub dropped_after : {E : Type 0} (glyphs : List (List ℕ)) (a : Planned) (shelf left : List (Option Hook)) (v w : Stack) (cells roomy new : List CellView)
+pub dropped_after : {E : Type 0} (glyphs : List (List ℕ)) (a : ArrangementView) (shelf left : List (Option Hook)) (v w : Stack) (cells roomy new : List CellView)
     (r : Result Reply E) → AreAsBefore cells roomy → IfOk r (λ q. AreChanged (slot_after glyphs a shelf) roomy new)
     → OnErr r ((w ≡ v) × (left ≡ shelf) × (new ≡ roomy)) → DropHooks cells new
 dropped_after glyphs a shelf left v w cells roomy new (Ok q) before changed same =
@@ -345,7 +345,7 @@ kept_after v w shelf left cells roomy new (Ok q) before same = tt
 kept_after v w shelf left cells roomy new (Err e) before same = (same.0, same.1, ap (map without_room) same.2 ∙ before)
 
 -- an arrangement leaves a slot's number
-number_after : (glyphs : List (List ℕ)) (a : Planned) (shelf : List (Option Hook)) (c : CellView) → (slot_after glyphs a shelf c).number ≡ c.number
+number_after : (glyphs : List (List ℕ)) (a : ArrangementView) (shelf : List (Option Hook)) (c : CellView) → (slot_after glyphs a shelf c).number ≡ c.number
 number_after glyphs a shelf c = by_bounds (bounds_at a.stack.bounds c.number)
   where
     h : Option Hook
@@ -366,7 +366,7 @@ number_after glyphs a shelf c = by_bounds (bounds_at a.stack.bounds c.number)
     by_bounds (Some r) = live r c.state
 
 -- The slots are still all slots, whether all was settled or nothing was.
-pub numbered_after : {E : Type 0} (glyphs : List (List ℕ)) (a : Planned) (shelf left : List (Option Hook)) (v w : Stack) (cells new : List CellView)
+pub numbered_after : {E : Type 0} (glyphs : List (List ℕ)) (a : ArrangementView) (shelf left : List (Option Hook)) (v w : Stack) (cells new : List CellView)
     (r : Result Reply E) → AreNumbered v.sizes.slots cells → a.stack.sizes ≡ v.sizes → IfOk r (λ q. w ≡ a.stack)
     → IfOk r (λ q. AreChanged (slot_after glyphs a shelf) cells new) → OnErr r ((w ≡ v) × (left ≡ shelf) × (new ≡ cells)) → AreNumbered w.sizes.slots new
 numbered_after glyphs a shelf left v w cells new (Ok q) numbered sizes info changed same =
@@ -385,7 +385,7 @@ numbered_after glyphs a shelf left v w cells new (Err e) numbered sizes info cha
     subst P (sym same.0) (subst Q (sym same.2) numbered)
 
 -- What holds of a call that is done holds of its answer.
-pub step_after : {E : Type 0} (glyphs : List (List ℕ)) (a : Planned) (w : Stack) (shelf left : List (Option Hook)) (cells new : List CellView) (r : Result Reply E) (R : Reply → Stack → List (Option Hook) → Type 0) → IfOk r (λ q. q ≡ Done) → IfOk r (λ q. w ≡ a.stack) → IfOk r (λ q. left ≡ shelf_after a.call shelf) → IfOk r (λ q. AreChanged (slot_after glyphs a shelf) cells new)
+pub step_after : {E : Type 0} (glyphs : List (List ℕ)) (a : ArrangementView) (w : Stack) (shelf left : List (Option Hook)) (cells new : List CellView) (r : Result Reply E) (R : Reply → Stack → List (Option Hook) → Type 0) → IfOk r (λ q. q ≡ Done) → IfOk r (λ q. w ≡ a.stack) → IfOk r (λ q. left ≡ shelf_after a.call shelf) → IfOk r (λ q. AreChanged (slot_after glyphs a shelf) cells new)
     → (AreChanged (slot_after glyphs a shelf) cells new → R Done a.stack (shelf_after a.call shelf)) → IfOk r (λ q. R q w left)
 step_after glyphs a w shelf left cells new (Ok q) R reply info taken changed holds =
     let P : Reply → Type 0 = λ p. R p w left in
@@ -395,8 +395,8 @@ step_after glyphs a w shelf left cells new (Ok q) R reply info taken changed hol
 step_after glyphs a w shelf left cells new (Err e) R reply info taken changed holds = tt
 
 -- What planning answered is done where it is a plan.
-pub plan_done : (d : Desk) (v : Stack) (cells : List CellView) (looks : List (Option Look)) (fresh : Bool) (task : ℕ) (call : Call) (q : Step) (a : Planned) → AreOfDesk v cells d → AreNumbered v.sizes.slots cells → AreLooks cells looks → IsFreshSlot cells call fresh
-    → class_of call ≡ OnAll → IsTrue (call_fits v.sizes call) → ((e : Desk) → AreOf e v looks fresh call → IsStepOf e task call q) → KeepsSizes v.sizes q → q ≡ Arranged a → IsPlanned a → IsDone d task call a
+pub plan_done : (d : Desk) (v : Stack) (cells : List CellView) (looks : List (Option Look)) (fresh : Bool) (task : ℕ) (call : Call) (q : Step) (a : ArrangementView) → AreOfDesk v cells d → AreNumbered v.sizes.slots cells → AreLooks cells looks → IsFreshSlot cells call fresh
+    → class_of call ≡ OnAll → IsTrue (call_fits v.sizes call) → ((e : Desk) → AreOf e v looks fresh call → IsStepOf e task call q) → KeepsSizes v.sizes q → q ≡ Arranged a → IsArrangement a → IsDone d task call a
 plan_done d v cells looks fresh task call q a are numbered truth says all fits step sizes is planned =
     let P : Step → Type 0 = λ p. IsStepOf d task call p in
     let Q : Step → Type 0 = λ p. KeepsSizes v.sizes p in

@@ -14,8 +14,8 @@ use Rattle.lw_layer.specs.View as view
 use Rattle.lw_layer.specs.Drafts.{no_layer}
 use Rattle.lw_layer.specs.StandsFor.{IsSound}
 use Rattle.lw_stack.specs.Stack.{bounds_at}
-use Rattle.lw_arrange.specs.Plans.{Planned}
-use Rattle.lw_arrange.specs.Prepared.{Created, created_by, opened, becomes, with_bounds, without_layer, shown_at, cell_after, MayBecome, MayBe, MayOpen}
+use Rattle.lw_arrange.specs.Arrangements.{ArrangementView}
+use Rattle.lw_arrange.specs.Prepared.{Created, created_by, created_live, becomes, with_bounds, without_layer, shown_at, cell_after, MayBecome, MayBe, MayOpen}
 use Rattle.lw_arrange.specs.Filled.{gains, gains_some, filled_layer, AreGained}
 use Rattle.lw_arrange.proofs.BareLaws.{KeepsFrame, carried_bitmap, carried_bare, live_unfilled, new_unfilled}
 use Rattle.lw_arrange.proofs.OpenedLaws.{new_bitmap}
@@ -37,7 +37,7 @@ no_hook_of None None is = (refl, refl)
 no_hook_of None (Some h) is = absurd (cc is)
 no_hook_of (Some h) p is = absurd (cc is)
 
-none_due : (a : Planned) (shelf : List (Option Hook)) (c : CellView) (s : State) → false ≡ (is_some (hook_in c) || is_some (asked_hook shelf a.call c.number))
+none_due : (a : ArrangementView) (shelf : List (Option Hook)) (c : CellView) (s : State) → false ≡ (is_some (hook_in c) || is_some (asked_hook shelf a.call c.number))
     → due_hook a shelf c s ≡ None
 none_due a shelf c view.Unopened is = (no_hook_of (hook_in c) (asked_hook shelf a.call c.number) is).1
 none_due a shelf c view.Live is = (no_hook_of (hook_in c) (asked_hook shelf a.call c.number) is).0
@@ -57,7 +57,7 @@ same_size r s stays =
     turned true is = refl
     turned false is = absurd (cc is)
 
-pub filled_right : (a : Planned) (shelf : List (Option Hook)) (c : CellView) (gained final : List Rectangle) (held sized : Bool) → MayBeReady a c
+pub filled_right : (a : ArrangementView) (shelf : List (Option Hook)) (c : CellView) (gained final : List Rectangle) (held sized : Bool) → MayBeReady a c
     → (c.state ≡ view.Live → IsSound (bare c).live) → ((c.state ≡ view.Live → ⊥) → (bare c).live ≡ no_layer) → IsCanonical final
     → final ≡ (if held || sized then gained else []) → held ≡ (is_some (hook_in c) || is_some (asked_hook shelf a.call c.number))
     → (held ≡ true → AreGained (bare c) (cell_after a (bare c)) gained)
@@ -120,9 +120,9 @@ filled_right a shelf c gained final held sized may sound idle canonical final_is
     opened_right r None off bounds fresh new may_open = absurd may_open
     opened_right r (Some k) off bounds fresh new may_open =
         let depth = a.stack.sizes.depth in
-        let made : CellView = record { number = n; state = view.Live; live = opened (Some k) depth r (shown_at a n) } in
+        let made : CellView = record { number = n; state = view.Live; live = created_live (Some k) depth r (shown_at a n) } in
         let is : e ≡ made =
-        cell_is (Some r) view.Unopened bounds fresh ∙ ap (λ o. record { number = n; state = view.Live; live = opened o depth r (shown_at a n) }) new
+        cell_is (Some r) view.Unopened bounds fresh ∙ ap (λ o. record { number = n; state = view.Live; live = created_live o depth r (shown_at a n) }) new
         in
         let plain : is_framed c.live.layer.window ≡ false = ap (λ v. is_framed v.layer.window) (idle (λ l. cc (fresh, l))) in
         let P : CellView → Type 0 = λ v. filled_from b None v ≡ filled_as None final v in

@@ -10,7 +10,7 @@ use Rattle.lw_layer.specs.View.{State, LiveView, CellView, keeps, with_live, hoo
 use Rattle.lw_layer.specs.View as view
 use Rattle.lw_layer.specs.Windows.{due_count, RoomWhere, HasRoom}
 use Rattle.lw_frames.specs.Framing.{with_own_frame}
-use Rattle.lw_frames.specs.Telling.{told}
+use Rattle.lw_frames.specs.Telling.{with_window_told}
 use Rattle.lw_engine.specs.declared.window_after.WindowAfter.{WindowAfter}
 use Rattle.lw_engine.specs.Slots.{with_activity, with_frame_if, followed}
 use Rattle.lw_engine.proofs.HookLaws.{framed_alike}
@@ -29,7 +29,7 @@ frame_hooked h true glyphs active c = own_hooked h glyphs active c
 frame_hooked h false glyphs active c = refl
 
 -- messages
-told_hooked : (h : Option Hook) (q : Across) (c : CellView) → with_live (told q) (hooked h c) ≡ hooked h (with_live (told q) c)
+told_hooked : (h : Option Hook) (q : Across) (c : CellView) → with_live (with_window_told q) (hooked h c) ≡ hooked h (with_live (with_window_told q) c)
 unfolding is_damaged
 told_hooked h q c = by_window c.live.layer.window
   where
@@ -54,7 +54,7 @@ told_hooked h q c = by_window c.live.layer.window
 pub followed_hooked : (h : Option Hook) (glyphs : List (List ℕ)) (w : WindowAfter) (q : Across) (c : CellView)
     → followed glyphs w q (hooked h c) ≡ hooked h (followed glyphs w q c)
 followed_hooked h glyphs w q c =
-    ap (with_live (told q)) (frame_hooked h w.frame glyphs w.active (with_activity w.active c))
+    ap (with_live (with_window_told q)) (frame_hooked h w.frame glyphs w.active (with_activity w.active c))
     ∙ told_hooked h q (with_frame_if w.frame glyphs w.active (with_activity w.active c))
 
 -- a port has the room that another one has

@@ -13,7 +13,7 @@ use Rattle.lw_layer.specs.Drafts.{no_layer}
 use Rattle.lw_layer.specs.Looks.{IsLookAt}
 use Rattle.lw_layer.specs.StandsFor.{IsSound}
 use Rattle.lw_layer.specs.declared.look.Look.{Look}
-use Rattle.lw_arrange.specs.Plans.{Planned}
+use Rattle.lw_arrange.specs.Arrangements.{ArrangementView}
 use Rattle.lw_engine.specs.Desks.{cell_at, hook_at, AreNumbered}
 use Rattle.lw_engine.specs.Slots.{hook_in, asked_hook, slot_after, ReadyView, IsSettledBy, IsSettled, IsReadyFor, nothing_ready}
 use Rattle.lw_engine.specs.Arranging.{IsTruth, AreReady, AreSettled, with_taken}
@@ -49,7 +49,7 @@ truth_hooked s c k is look sound idle =
     subst P (sym is) (record { look = look_hooked (hook_in s) c k look; sound = λ live. subst Q (bare_cell c sound idle) (sound live) })
 
 -- What is ready makes of each slot what the arrangement says, once the slot of a new layer has its hook.
-pub ready_taken : (glyphs : List (List ℕ)) (a : Planned) (shelf : List (Option Hook)) (slots : List CellView) (made : List ReadyView)
+pub ready_taken : (glyphs : List (List ℕ)) (a : ArrangementView) (shelf : List (Option Hook)) (slots : List CellView) (made : List ReadyView)
     → AreNumbered a.stack.sizes.slots slots → AreReady a shelf slots made → AreSettled glyphs (slot_after glyphs a shelf) slots (with_taken shelf a.call made)
 ready_taken glyphs a shelf slots made numbered ready = record { many = longer a.call ∙ ready.many; each = λ s below. each s below a.call refl }
   where

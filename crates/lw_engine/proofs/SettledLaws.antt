@@ -23,11 +23,11 @@ use Rattle.lw_layer.specs.StandsFor.{IsSound}
 use Rattle.lw_layer.specs.Windows.{due_count}
 use Rattle.lw_layer.proofs.PixelTests.{none_within}
 use Rattle.lw_frames.specs.Framing.{with_own_frame}
-use Rattle.lw_frames.specs.Telling.{told}
-use Rattle.lw_arrange.specs.Plans.{Planned}
+use Rattle.lw_frames.specs.Telling.{with_window_told}
+use Rattle.lw_arrange.specs.Arrangements.{ArrangementView}
 use Rattle.lw_arrange.specs.Prepared.{shown_at}
 use Rattle.lw_arrange.specs.Filled.{gains, gains_some, filled_layer}
-use Rattle.lw_arrange.specs.Settled.{across_plan, settled_across, settled_live, settled_new}
+use Rattle.lw_arrange.specs.Settled.{across_arrangement, settled_across, settled_live, settled_new}
 use Rattle.lw_arrange.proofs.GainsLaws.{stayed, live_revealed}
 use Rattle.lw_arrange.proofs.OpenedLaws.{created, new_revealed}
 use Rattle.lw_engine.specs.declared.window_after.WindowAfter.{WindowAfter}
@@ -70,7 +70,7 @@ due_frame glyphs q l t due =
     (cases_Bool (is_framed l.window))
 
 -- a slot with these bounds after the arrangement, and this layer
-abbrev placed : Planned → ℕ → Bool → Rectangle → ℕ → Layer → CellView
+abbrev placed : ArrangementView → ℕ → Bool → Rectangle → ℕ → Layer → CellView
 placed a n active r room l = record {
   number = n;
   state = view.Live;
@@ -78,16 +78,16 @@ placed a n active r room l = record {
 }
 
 -- its frame
-framed_placed : (glyphs : List (List ℕ)) (a : Planned) (n : ℕ) (before : Option Rectangle) (c : LiveView) (r : Rectangle) (room : ℕ) (l : Layer) (t : Bool)
+framed_placed : (glyphs : List (List ℕ)) (a : ArrangementView) (n : ℕ) (before : Option Rectangle) (c : LiveView) (r : Rectangle) (room : ℕ) (l : Layer) (t : Bool)
     → with_frame_if t glyphs (is_the a.stack.active n) (placed a n (is_the a.stack.active n) r room l)
     ≡ placed a n (is_the a.stack.active n) r room
-    (if t then with_frame glyphs (reveal.keeps (across_plan a n before c r) l) (is_the a.stack.active n) l else l)
+    (if t then with_frame glyphs (reveal.keeps (across_arrangement a n before c r) l) (is_the a.stack.active n) l else l)
 unfolding keeps
 framed_placed glyphs a n before c r room l true = refl
 framed_placed glyphs a n before c r room l false = refl
 
 -- A live slot that was revealed, then followed, is what the machine settles.
-pub live_settled : (glyphs : List (List ℕ)) (a : Planned) (c : CellView) (r : Rectangle) (w : WindowAfter) (f : CellView)
+pub live_settled : (glyphs : List (List ℕ)) (a : ArrangementView) (c : CellView) (r : Rectangle) (w : WindowAfter) (f : CellView)
     → f ≡ placed a c.number c.live.active r c.live.room (revealed (across_live a c r) c.live.layer)
     → IsWindowAfter a c r w
     → record { number = c.number; state = view.Live; live = settled_live glyphs a c.number c.live r } ≡ followed glyphs w (across_live a c r) f
@@ -97,12 +97,12 @@ live_settled glyphs a c r w f revealed_is after =
     let q = across_live a c r in
     let l = c.live.layer in
     let active = is_the a.stack.active n in
-    let Followed : Bool → CellView → CellView = λ t u. with_live (told q) (with_frame_if w.frame glyphs t (with_activity t u)) in
-    let Told : Layer → CellView = λ k. with_live (told q) (placed a n active r c.live.room k) in
+    let Followed : Bool → CellView → CellView = λ t u. with_live (with_window_told q) (with_frame_if w.frame glyphs t (with_activity t u)) in
+    let Told : Layer → CellView = λ k. with_live (with_window_told q) (placed a n active r c.live.room k) in
     sym
     (ap (Followed w.active) revealed_is
     ∙ (ap (λ t. Followed t (placed a n c.live.active r c.live.room (revealed q l))) after.active
-    ∙ (ap (with_live (told q)) (framed_placed glyphs a n (Some c.live.bounds) c.live r c.live.room (revealed q l) w.frame)
+    ∙ (ap (with_live (with_window_told q)) (framed_placed glyphs a n (Some c.live.bounds) c.live r c.live.room (revealed q l) w.frame)
     ∙ ap Told (due_frame glyphs q l w.frame after.frame))))
 
 -- a layer without damage
@@ -128,11 +128,11 @@ framed_undamaged glyphs kept active (Some w) l none = either w.framed
     either false = undamaged l none
 
 -- a new layer, across the arrangement that creates it, after which it isn't the active window
-abbrev created_across : Planned → ℕ → Rectangle → Bool → Across
-created_across a n r active = record (across_plan a n None no_layer r) { new_active = active }
+abbrev created_across : ArrangementView → ℕ → Rectangle → Bool → Across
+created_across a n r active = record (across_arrangement a n None no_layer r) { new_active = active }
 
 -- Its window is due no message, where it isn't damaged.
-untold : (a : Planned) (n : ℕ) (r : Rectangle) (l : Layer) (o : Option Window) → is_damaged l ≡ false
+untold : (a : ArrangementView) (n : ℕ) (r : Rectangle) (l : Layer) (o : Option Window) → is_damaged l ≡ false
     → changed_window (window_told (created_across a n r false) l) o ≡ o
 untold a n r l None none = refl
 untold a n r l (Some w) none =
@@ -148,7 +148,7 @@ untold a n r l (Some w) none =
     or_false false = refl
 
 -- A new slot that was revealed, then framed, is what the machine settles.
-pub new_settled : (glyphs : List (List ℕ)) (a : Planned) (n : ℕ) (r : Rectangle) (new : Layer) (f : CellView)
+pub new_settled : (glyphs : List (List ℕ)) (a : ArrangementView) (n : ℕ) (r : Rectangle) (new : Layer) (f : CellView)
     → is_the a.stack.active n ≡ false → f ≡ placed a n false r 0 (revealed (created_across a n r false) new)
     → (revealed (created_across a n r false) new).damage
     ≡ grid (revealed (created_across a n r false) new).bits.width (revealed (created_across a n r false) new).bits.height (λ x y. false)
@@ -168,7 +168,7 @@ new_settled glyphs a n r new f idle revealed_is undamaged_is =
     ∙ ap (with_own_frame glyphs false) (sym revealed_is)))
 
 -- What is filled of a layer that stays live is what the machine reveals of it.
-pub live_filled : (a : Planned) (c : CellView) (r : Rectangle) → c.state ≡ view.Live → IsSound (bare c).live
+pub live_filled : (a : ArrangementView) (c : CellView) (r : Rectangle) → c.state ≡ view.Live → IsSound (bare c).live
     → filled_from (bare c) (hook_in c) (stayed r (shown_at a c.number) (bare c))
     ≡ placed a c.number c.live.active r c.live.room (revealed (across_live a c r) c.live.layer)
 live_filled a c r live sound =
@@ -180,7 +180,7 @@ live_filled a c r live sound =
     ∙ ap (λ s. record { number = c.number; state = s; live = record e.live { layer = revealed (across_live a c r) c.live.layer } }) live
 
 -- And so it is with a new layer.
-pub new_filled : (a : Planned) (c : CellView) (r : Rectangle) (make : Make) (window : Option Window) (depth : ℕ) (h : Option Hook) → c.state ≡ view.Unopened
+pub new_filled : (a : ArrangementView) (c : CellView) (r : Rectangle) (make : Make) (window : Option Window) (depth : ℕ) (h : Option Hook) → c.state ≡ view.Unopened
     → r ≡ bounds_of make
     → filled_from (bare c) h (created (bare c) make depth r (shown_at a c.number) window)
     ≡ placed a c.number false r 0 (revealed (created_across a c.number r false) (new_layer depth make h window))
@@ -194,7 +194,7 @@ new_filled a c r make window depth h fresh place =
     ∙ ap Bounds (sym place))
 
 -- its damage is that of the new layer
-pub new_undamaged : (a : Planned) (c : CellView) (r : Rectangle) (make : Make) (window : Option Window) (depth : ℕ) (h : Option Hook) → c.state ≡ view.Unopened
+pub new_undamaged : (a : ArrangementView) (c : CellView) (r : Rectangle) (make : Make) (window : Option Window) (depth : ℕ) (h : Option Hook) → c.state ≡ view.Unopened
     → r ≡ bounds_of make
     → (revealed (created_across a c.number r false) (new_layer depth make h window)).damage
     ≡ grid (revealed (created_across a c.number r false) (new_layer depth make h window)).bits.width

@@ -23,8 +23,8 @@ use Rattle.lw_frames.specs.Framing.{with_own_frame}
 use Rattle.lw_stack.specs.Stack.{bounds_at}
 use Rattle.lw_arrange.specs.declared.preparing.Prepared.{Prepared}
 use Rattle.lw_arrange.specs.declared.preparing.Prepared.TheVariants.{Stays, Closes, Opens, Changes}
-use Rattle.lw_arrange.specs.Plans.{Planned}
-use Rattle.lw_arrange.specs.Prepared.{Created, created_by, opened, becomes, with_bounds, without_layer, shown_at, cell_after, MayBecome, MayBe, MayOpen}
+use Rattle.lw_arrange.specs.Arrangements.{ArrangementView}
+use Rattle.lw_arrange.specs.Prepared.{Created, created_by, created_live, becomes, with_bounds, without_layer, shown_at, cell_after, MayBecome, MayBe, MayOpen}
 use Rattle.lw_arrange.specs.Made.{IsPrepared}
 use Rattle.lw_arrange.specs.Filled.{keeps_if_live, counts_if_live, is_inside, gains, gains_some, AreGained}
 use Rattle.lw_arrange.specs.Settled.{new_of, settled_new, settled_with, settled_by}
@@ -123,7 +123,7 @@ zero_filled c e gained h solid_is is =
     ap (hooked None) is ∙ ap Painted (fun_ext (λ x. fun_ext (λ y. zero x y)))
 
 -- what is ready for a slot by its bounds and its state
-pub ready_settled : (glyphs : List (List ℕ)) (a : Planned) (shelf : List (Option Hook)) (c : CellView) (p : Prepared) (gained : List Rectangle)
+pub ready_settled : (glyphs : List (List ℕ)) (a : ArrangementView) (shelf : List (Option Hook)) (c : CellView) (p : Prepared) (gained : List Rectangle)
     (w : WindowAfter) → MayBeReady a c → (c.state ≡ view.Live → IsSound (bare c).live)
     → IsPrepared (bare c) (cell_after a (bare c)) p
     → ((cell_after a (bare c)).state ≡ view.Live
@@ -186,9 +186,9 @@ ready_settled glyphs a shelf c p gained w may sound ready filled after = by_case
     opened_new r None bounds fresh new may_open live = absurd may_open
     opened_new r (Some k) bounds fresh new may_open live =
         let depth = a.stack.sizes.depth in
-        let made : CellView = record { number = n; state = view.Live; live = opened (Some k) depth r (shown_at a n) } in
+        let made : CellView = record { number = n; state = view.Live; live = created_live (Some k) depth r (shown_at a n) } in
         let cell : e ≡ made =
-        cell_is (Some r) view.Unopened bounds fresh ∙ ap (λ o. record { number = n; state = view.Live; live = opened o depth r (shown_at a n) }) new
+        cell_is (Some r) view.Unopened bounds fresh ∙ ap (λ o. record { number = n; state = view.Live; live = created_live o depth r (shown_at a n) }) new
         in
         let layer = new_of (Some k) depth h in
         let P : State → Type 0 = λ s. filled_from b (due_hook a shelf c s) e ≡ filled_as (due_hook a shelf c s) gained e in

@@ -14,7 +14,7 @@ use Rattle.lw_layer.specs.StandsFor.{IsSound}
 use Rattle.lw_layer.specs.declared.look.Look.{Look}
 use Rattle.lw_stack.specs.Stack.{bounds_at}
 use Rattle.lw_reveal.specs.Changed.{MayHave}
-use Rattle.lw_arrange.specs.Plans.{Planned}
+use Rattle.lw_arrange.specs.Arrangements.{ArrangementView}
 use Rattle.lw_arrange.specs.Prepared.{created_by, becomes, with_bounds, shown_at, cell_after, MayBecome, MayBe, MayPrepare}
 use Rattle.lw_arrange.specs.Filled.{AreGained}
 use Rattle.lw_arrange.specs.Framed.{IsFrameGained}
@@ -34,7 +34,7 @@ pub look_of : (c : CellView) (look : Look) → c.state ≡ view.Live → IsLookA
 look_of c look live is = let P : State → Type 0 = λ s. IsLookAt s c.live (Some look) in subst P live is
 
 -- a layer that stays live may have its new bounds
-pub may_have : (a : Planned) (c : CellView) (r : Rectangle) → MayPrepare a c → c.state ≡ view.Live → bounds_at a.stack.bounds c.number ≡ Some r
+pub may_have : (a : ArrangementView) (c : CellView) (r : Rectangle) → MayPrepare a c → c.state ≡ view.Live → bounds_at a.stack.bounds c.number ≡ Some r
     → MayHave c.live r (shown_at a c.number)
 may_have a c r may live bounds =
     let P : Option Rectangle → Type 0 = λ o. MayBe (created_by a.task a.call) a.stack.sizes.depth (shown_at a c.number) c o in
@@ -42,7 +42,7 @@ may_have a c r may live bounds =
     subst Q live (subst P bounds may)
 
 -- it becomes the layer with these
-stays_live : (a : Planned) (c : CellView) (r : Rectangle) → c.state ≡ view.Live → bounds_at a.stack.bounds c.number ≡ Some r
+stays_live : (a : ArrangementView) (c : CellView) (r : Rectangle) → c.state ≡ view.Live → bounds_at a.stack.bounds c.number ≡ Some r
     → cell_after a c ≡ stayed r (shown_at a c.number) c
 stays_live a c r live bounds =
     ap (becomes (created_by a.task a.call) a.stack.sizes.depth (shown_at a c.number) c) bounds
@@ -56,7 +56,7 @@ turned false true = refl
 turned false false = refl
 
 -- What the code reads of a window.
-pub record IsReadOf (a : Planned) (c : CellView) (look : Look) (bounds : Rectangle) (gained : List Rectangle) (active on_frame : Bool) (w : WindowAfter) :
+pub record IsReadOf (a : ArrangementView) (c : CellView) (look : Look) (bounds : Rectangle) (gained : List Rectangle) (active on_frame : Bool) (w : WindowAfter) :
     Type 0 where
   pub look_is : IsLookAt c.state c.live (Some look)
   pub bounds_are : bounds_at a.stack.bounds c.number ≡ Some bounds
@@ -70,7 +70,7 @@ pub record IsReadOf (a : Planned) (c : CellView) (look : Look) (bounds : Rectang
   pub frame : IsFrameGained gained look.framed bounds on_frame
 
 -- So it is what the machine asks, whatever hook the layer has.
-pub window_read : (a : Planned) (c : CellView) (look : Look) (bounds : Rectangle) (gained : List Rectangle) (active on_frame : Bool) (w : WindowAfter)
+pub window_read : (a : ArrangementView) (c : CellView) (look : Look) (bounds : Rectangle) (gained : List Rectangle) (active on_frame : Bool) (w : WindowAfter)
     (h : Option Hook) (r : Rectangle) → c.state ≡ view.Live → IsSound c.live → bounds_at a.stack.bounds c.number ≡ Some r
     → (is_framed c.live.layer.window ≡ true → AreGained c (cell_after a c) gained) → IsReadOf a c look bounds gained active on_frame w
     → IsWindowAfter a (hooked h c) r w

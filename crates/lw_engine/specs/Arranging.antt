@@ -16,7 +16,7 @@ use Rattle.lw_layer.specs.Looks.{IsLookAt}
 use Rattle.lw_layer.specs.StandsFor.{IsSound}
 use Rattle.lw_layer.specs.declared.look.Look.{Look}
 use Rattle.lw_stack.specs.Stack.{Stack}
-use Rattle.lw_arrange.specs.Plans.{Planned}
+use Rattle.lw_arrange.specs.Arrangements.{ArrangementView}
 use Rattle.lw_engine.specs.Desks.{AreOfDesk, AreOnShelf, hook_at, no_cell, cell_at}
 use Rattle.lw_engine.specs.Slots.{hook_in, bare, ReadyView, IsSettled, IsReadyFor, nothing_ready}
 
@@ -58,7 +58,7 @@ HasSlot many (OpenWindow slot make framed nocare asks title) = slot < many
 HasSlot many call = Unit {0}
 
 -- something is ready for each slot
-abbrev pub AreReady : Planned → List (Option Hook) → List CellView → List ReadyView → Type 0
+abbrev pub AreReady : ArrangementView → List (Option Hook) → List CellView → List ReadyView → Type 0
 AreReady a shelf slots made = ForEach (λ c r. IsReadyFor a shelf c r) no_cell nothing_ready slots made
 
 -- what is ready for each slot makes of it what is told

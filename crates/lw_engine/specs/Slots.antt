@@ -15,16 +15,16 @@ use Rattle.lw_layer.specs.Drafts.{IsLiveDraft, live_view, no_layer}
 use Rattle.lw_layer.specs.Windows.{HasRoom}
 use Rattle.lw_windows.specs.declared.messages.Change.{Change as Told}
 use Rattle.lw_frames.specs.Framing.{with_own_frame}
-use Rattle.lw_frames.specs.Telling.{IsDone, told}
+use Rattle.lw_frames.specs.Telling.{IsDone, with_window_told}
 use Rattle.lw_stack.specs.Stack.{bounds_at}
 use Rattle.lw_reveal.specs.Changed.{carried_to}
 use Rattle.lw_reveal.specs.Changes.{IsChange}
 use Rattle.lw_arrange.specs.declared.preparing.Prepared.{Prepared}
 use Rattle.lw_arrange.specs.declared.preparing.Prepared.TheVariants.{Stays, Closes, Opens, Changes}
-use Rattle.lw_arrange.specs.Plans.{Planned}
+use Rattle.lw_arrange.specs.Arrangements.{ArrangementView}
 use Rattle.lw_arrange.specs.Prepared.{MayPrepare}
 use Rattle.lw_arrange.specs.Filled.{gains, gains_some, filled_by}
-use Rattle.lw_arrange.specs.Settled.{across_plan, slot_settled}
+use Rattle.lw_arrange.specs.Settled.{across_arrangement, slot_settled}
 use Rattle.lw_engine.specs.declared.window_after.WindowAfter.{WindowAfter}
 use Rattle.lw_engine.specs.Desks.{hook_at}
 
@@ -52,20 +52,20 @@ shelf_after (OpenWindow slot make framed nocare asks title) shelf = shelf_withou
 shelf_after call shelf = shelf
 
 -- The slot after a planned arrangement, to which these glyphs were handed in, and before which these hooks are on the shelf.
-abbrev pub slot_after : List (List ℕ) → Planned → List (Option Hook) → CellView → CellView
+abbrev pub slot_after : List (List ℕ) → ArrangementView → List (Option Hook) → CellView → CellView
 slot_after glyphs a shelf c = slot_settled glyphs a (asked_hook shelf a.call c.number) c
 
 -- Words of this crate's private contracts.
 
 -- a slot may be made ready for the arrangement: its cell may be prepared, it isn't to be the active window before it is opened, and
 -- a window's port has room for all messages that it may be due
-pub record MayBeReady (a : Planned) (c : CellView) : Type 0 where
+pub record MayBeReady (a : ArrangementView) (c : CellView) : Type 0 where
   pub prepare : MayPrepare a (bare c)
   pub idle : c.state ≡ view.Unopened → is_the a.stack.active c.number ≡ false
   pub room : HasRoom 5 c
 
 -- the hook that a slot's layer fills with, by what the slot holds before
-abbrev pub due_hook : Planned → List (Option Hook) → CellView → State → Option Hook
+abbrev pub due_hook : ArrangementView → List (Option Hook) → CellView → State → Option Hook
 due_hook a shelf c view.Unopened = asked_hook shelf a.call c.number
 due_hook a shelf c view.Live = hook_in c
 due_hook a shelf c view.Closed = None
@@ -83,12 +83,12 @@ abbrev pub is_sized : Rectangle → Rectangle → Bool
 is_sized r s = not ((width_in (Some r) == width_in (Some s)) && (height_in (Some r) == height_in (Some s)))
 
 -- a layer that is live, across the arrangement after which it has these bounds
-abbrev pub across_live : Planned → CellView → Rectangle → Across
-across_live a c r = across_plan a c.number (Some c.live.bounds) c.live r
+abbrev pub across_live : ArrangementView → CellView → Rectangle → Across
+across_live a c r = across_arrangement a c.number (Some c.live.bounds) c.live r
 
 -- What is known beforehand of a layer that stays live, which then has these bounds: whether it is the active window, and what its
 -- window is told; and of a framed window whether its frame is due.
-pub record IsWindowAfter (a : Planned) (c : CellView) (r : Rectangle) (w : WindowAfter) : Type 0 where
+pub record IsWindowAfter (a : ArrangementView) (c : CellView) (r : Rectangle) (w : WindowAfter) : Type 0 where
   pub active : w.active ≡ is_the a.stack.active c.number
   pub done : IsDone (across_live a c r) w.change
   pub frame : is_framed c.live.layer.window ≡ true
@@ -102,7 +102,7 @@ abbrev pub with_frame_if : Bool → List (List ℕ) → Bool → CellView → Ce
 with_frame_if due glyphs active c = if due then with_own_frame glyphs active c else c
 
 abbrev pub followed : List (List ℕ) → WindowAfter → Across → CellView → CellView
-followed glyphs w q c = with_live (told q) (with_frame_if w.frame glyphs w.active (with_activity w.active c))
+followed glyphs w q c = with_live (with_window_told q) (with_frame_if w.frame glyphs w.active (with_activity w.active c))
 
 -- What is ready to be made of a slot: what was prepared for its cell, the pixels that are then filled, the hook of a new layer, and
 -- what becomes of the window of one that stays live.
@@ -135,7 +135,7 @@ abbrev pub IsSettled : List (List ℕ) → CellView → CellView → ReadyView �
 IsSettled glyphs from to r = IsSettledBy glyphs from to r.gained r.taken r.window r.prepared
 
 -- What is ready for a slot, once a new layer has its hook, makes of it what the arrangement says; the hook isn't taken so far.
-pub record IsReadyFor (a : Planned) (shelf : List (Option Hook)) (c : CellView) (r : ReadyView) : Type 0 where
+pub record IsReadyFor (a : ArrangementView) (shelf : List (Option Hook)) (c : CellView) (r : ReadyView) : Type 0 where
   pub settled : (glyphs : List (List ℕ))
       → IsSettledBy glyphs c (slot_after glyphs a shelf c) r.gained (asked_hook shelf a.call c.number) r.window r.prepared
   pub untaken : r.taken ≡ None

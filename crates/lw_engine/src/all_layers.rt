@@ -21,7 +21,7 @@ use std::mem;
 
 /// Makes a call that arranges layers, on LayerInfo, the shelf of hooks and all slots in rising number, as the machine's step says of
 /// every desk to which this was handed in: it is planned, room is reserved in each window's port, everything is prepared, and only
-/// then anything is changed. It fails for want of memory alone, and all is then as it was, whatever room ports have.
+/// then anything is changed. It fails only when out of memory, and all is then as it was, whatever room ports have.
 pub fn on_all<B: Backfill>(
     alloc: Global,
     info: &mut Info,

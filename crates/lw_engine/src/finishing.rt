@@ -19,7 +19,7 @@ use lw_stack::Info;
 use std::alloc::{AllocError, Global};
 
 /// What a run leaves whose tasks had these replies, a list for each task: the screen, where each layer is shown with its
-/// damage, and the replies. It is given all slots. It fails for want of memory alone.
+/// damage, and the replies. It is given all slots. It fails only when out of memory.
 pub fn finish<B: Backfill>(
     alloc: Global,
     info: &Info,

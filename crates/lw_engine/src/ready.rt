@@ -72,7 +72,7 @@ impl<B: Backfill> Ready<B> {
 
 impl<B: Backfill> Slot<B> {
     /// Prepares the slot for the arrangement, before which these hooks are on the shelf. It changes nothing, and leaves the hook of a
-    /// new layer on the shelf. It fails for want of memory alone.
+    /// new layer on the shelf. It fails only when out of memory.
     pub(crate) fn prepare(
         &self,
         alloc: Global,

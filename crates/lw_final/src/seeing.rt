@@ -13,7 +13,7 @@ use lw_stack::Info;
 use std::alloc::{AllocError, Global};
 
 /// What is seen of the cell's layer: where it is shown, its damage, and the messages of its port exactly where it is a window. It
-/// fails for want of memory alone.
+/// fails only when out of memory.
 pub fn seen(alloc: Global, info: &Info, cell: &Cell) -> Result<Option<Seen>, AllocError>
     ensures { IfOk result (λ seen. seen ≡ seen_in info.now cell.now) }
 {

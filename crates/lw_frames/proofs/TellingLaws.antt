@@ -17,7 +17,7 @@ use Rattle.lw_layer.specs.Windows.{due_count}
 use Rattle.lw_layer.proofs.PixelTests.{some_covered}
 use Rattle.lw_windows.specs.Messages.{one_if, listed}
 use Rattle.lw_windows.specs.declared.messages.Classes.{Classes}
-use Rattle.lw_frames.specs.Telling.{IsDueOf, told, with_put, as_asked, told_all}
+use Rattle.lw_frames.specs.Telling.{IsDueOf, with_window_told, with_put, as_asked, told_all}
 
 -- the room that is left
 room_left : (r : ℕ) (a b : List Message) → (r - length a) - length b ≡ r - length (a ++ b)
@@ -75,7 +75,7 @@ due_of q l w due is messages refresh = let P : Option Window → Type 0 = λ o. 
 
 -- the messages of a set that is due are those that the window is told
 pub all_told : (q : Across) (k : LiveView) (due : Classes) (o : Option Window) → k.layer.window ≡ o → IsDueOf q k.layer o due
-    → told_all due k ≡ told q k
+    → told_all due k ≡ with_window_told q k
 all_told q k due None is due_is = absurd due_is
 all_told q k due (Some w) is due_is =
     let l : Layer = k.layer in
@@ -90,7 +90,7 @@ all_told q k due (Some w) is due_is =
     ∙ (ap (λ r. Put (Some w) (messages_due q l w) r) due_is.1 ∙ ap Told (sym is)))
 
 -- a layer that isn't a window is told nothing
-pub none_told : (q : Across) (k : LiveView) → k.layer.window ≡ None → k ≡ told q k
+pub none_told : (q : Across) (k : LiveView) → k.layer.window ≡ None → k ≡ with_window_told q k
 none_told q k none =
     let l : Layer = k.layer in
     let Told : Option Window → LiveView = λ o. record k { room = k.room - due_count q l o; layer = record l { window = changed_window (window_told q l) o } } in

@@ -19,8 +19,8 @@ pub record IsDone (c : Across) (t : Told) : Type 0 where
   pub activated : t.activated ≡ (c.new_active && not c.active)
 
 -- the live layer once its window was told what it is due
-abbrev pub told : Across → LiveView → LiveView
-told c k = record k { room = k.room - due_count c k.layer k.layer.window; layer = with_messages c k.layer }
+abbrev pub with_window_told : Across → LiveView → LiveView
+with_window_told c k = record k { room = k.room - due_count c k.layer k.layer.window; layer = with_messages c k.layer }
 
 -- Words of this crate's private contracts.
 

@@ -8,7 +8,7 @@ ghost use Rattle.lw_layer.specs.View.{with_live};
 ghost use Rattle.lw_layer.specs.View as view;
 ghost use Rattle.lw_layer.specs.Windows.{HasRoom};
 ghost use Rattle.lw_windows.specs.Messages.{one_if};
-ghost use Rattle.lw_frames.specs.Telling.{IsDone, IsDueOf, told, told_all, with_put};
+ghost use Rattle.lw_frames.specs.Telling.{IsDone, IsDueOf, with_window_told, told_all, with_put};
 
 use lw_calls::Message;
 use lw_layer::{Cell, WindowDraft};
@@ -20,7 +20,7 @@ use lw_windows::{Change, Classes, due};
 pub fn tell(cell: &mut Cell, change: &Change)
     requires live { cell.old.state ≡ view.Live }
     requires room { HasRoom 5 cell.old }
-    ensures { (c : Across) → IsDone c change.now → cell.new ≡ with_live (told c) cell.old }
+    ensures { (c : Across) → IsDone c change.now → cell.new ≡ with_live (with_window_told c) cell.old }
 {
     if let Some(classes) = messages_due(cell, change) {
         put_all(cell, &classes);

@@ -1,4 +1,4 @@
-pub mod ScriptForms
+pub mod ScriptStatements
 pub mod ScriptOutcome
 pub mod ScriptNames
 pub mod ScriptCalls

@@ -7,10 +7,10 @@ use Rattle.lw_calls.specs.declared.make.Kind.TheVariants.{Simple, Smart, SuperBi
 use Rattle.lw_calls.specs.declared.sizes.Sizes.{Sizes}
 use Rattle.lw_calls.specs.Limits.{is_coordinate, hook_fits, kind_fits, make_fits, axis_fits, rect_fits, is_byte, window_fits, call_fits, is_extent}
 use Rattle.lw_calls.specs.Kinds.{is_super}
-use Rattle.lw_grammar.specs.LineForms.{AskedLayer, Act, RegRectAct, RegPairAct, RegClearAct, CreateAct, OpenAct, CloseAct, FrontAct, BehindAct, InFrontAct, MoveAct, SizeAct, BoxAct, ActivateAct, WhichAct, APenAct, BPenAct, ModeAct, MaskAct, AtAct, WriteAct, ReadAct, FillAct, DrawAct, TextAct, SetRastAct, ScrollRasterAct, PutAct, BlitAct, ClipAct, UnclipAct, RefreshAct, EndRefreshAct, ScrollAct, TitleAct, GetMsgAct, CallLine, is_hook_number, is_own_size, is_asked_in_range, is_box, is_act_in_range, layers_of}
+use Rattle.lw_grammar.specs.Statements.{AskedLayer, Act, RegRectAct, RegPairAct, RegClearAct, CreateAct, OpenAct, CloseAct, FrontAct, BehindAct, InFrontAct, MoveAct, SizeAct, BoxAct, ActivateAct, WhichAct, APenAct, BPenAct, ModeAct, MaskAct, AtAct, WriteAct, ReadAct, FillAct, DrawAct, TextAct, SetRastAct, ScrollRasterAct, PutAct, BlitAct, ClipAct, UnclipAct, RefreshAct, EndRefreshAct, ScrollAct, TitleAct, GetMsgAct, CallLine, is_hook_number, is_own_size, is_asked_in_range, place_and_size_fit, is_act_in_range, layers_of}
 use Rattle.lw_grammar.specs.Told.{place_among, make_of, created_make, opened_make, spelled_call, hook_on}
 use Rattle.lw_grammar.specs.Script.{lacks_name, is_no_hook}
-use Rattle.lw_grammar.proofs.ScriptForms.{IsAskedOf, IsActMade}
+use Rattle.lw_grammar.proofs.ScriptStatements.{IsAskedOf, IsActMade}
 use Rattle.lw_grammar.proofs.ScriptNames.{place_below}
 use Rattle.std.proofs.lemmas.Int.{ints}
 use Rattle.std.proofs.lemmas.Bool.{not-false, lt-ltb, le-leb, eq-eqb, and_parts, and_from}
@@ -38,10 +38,10 @@ span_fits : (low high : ℤ) → axis_fits low high ≡ true → (is_coordinate 
 unfolding within axis_fits
 span_fits low high h = grind (arith, ints, nat_tests)
 
--- so is the width or height of a box
-box_fits : (z : ℤ) → is_extent z ≡ true → within (pos 1) z (pos 65536) ≡ true
+-- so is a width or a height
+extent_fits : (z : ℤ) → is_extent z ≡ true → within (pos 1) z (pos 65536) ≡ true
 unfolding within
-box_fits z h = grind (arith, ints, nat_tests)
+extent_fits z h = grind (arith, ints, nat_tests)
 
 -- the size of a bitmap of a layer's own
 own_fits : (z : ℤ) → within (pos 1) z (pos 2048) ≡ true → (nat_le 1 (unsigned_abs z) && nat_le (unsigned_abs z) 2048) ≡ true
@@ -78,13 +78,13 @@ created_fits z a m r k =
     let y = span_fits a.numbers.min_y a.numbers.max_y axes.1 in
     make_made z a _ _ _ _ m parts.1 k x.0 y.0 x.1 y.1
 
-opened_fits : (z : Sizes) (a : AskedLayer) → IsAskedOf a.kind a → (is_box a.numbers && is_asked_in_range a) ≡ true → is_no_hook z.hooks a.hook ≡ false → make_fits z (opened_make a) ≡ true
+opened_fits : (z : Sizes) (a : AskedLayer) → IsAskedOf a.kind a → (place_and_size_fit a.numbers && is_asked_in_range a) ≡ true → is_no_hook z.hooks a.hook ≡ false → make_fits z (opened_make a) ≡ true
 opened_fits z a m r k =
-    let parts = and_parts (is_box a.numbers) (is_asked_in_range a) r in
+    let parts = and_parts (place_and_size_fit a.numbers) (is_asked_in_range a) r in
     let halves = and_parts (is_coordinate a.numbers.min_x && is_coordinate a.numbers.min_y) _ parts.0 in
     let place = and_parts (is_coordinate a.numbers.min_x) _ halves.0 in
     let size = and_parts (is_extent a.numbers.max_x) _ halves.1 in
-    make_made z a _ _ _ _ m parts.1 k place.0 place.1 (box_fits _ size.0) (box_fits _ size.1)
+    make_made z a _ _ _ _ m parts.1 k place.0 place.1 (extent_fits _ size.0) (extent_fits _ size.1)
 
 -- a window that is asked for
 asked_window_fits : (z : Sizes) (a : AskedLayer) (framed : Bool) (classes : ℕ) → (framed && is_super a.kind) ≡ false → classes < 32 → window_fits (opened_make a) framed classes ≡ true

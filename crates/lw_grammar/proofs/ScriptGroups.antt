@@ -8,7 +8,7 @@ use Rattle.lw_calls.specs.declared.group.Group.{Group}
 use Rattle.lw_calls.specs.Touches.{slots_in, slots_of}
 use Rattle.lw_calls.proofs.BlitClass.{blit_class}
 use Rattle.lw_calls.specs.Plan.{is_one, is_all, begins_update, ends_update, may_be_locked, end_an_update, may_stand, group_calls, group_fits, groups_fit}
-use Rattle.lw_grammar.specs.LineForms.{Act, RegRectAct, RegPairAct, RegClearAct, CreateAct, OpenAct, CloseAct, FrontAct, BehindAct, InFrontAct, MoveAct, SizeAct, BoxAct, ActivateAct, WhichAct, BlitAct, RefreshAct, EndRefreshAct, layers_of}
+use Rattle.lw_grammar.specs.Statements.{Act, RegRectAct, RegPairAct, RegClearAct, CreateAct, OpenAct, CloseAct, FrontAct, BehindAct, InFrontAct, MoveAct, SizeAct, BoxAct, ActivateAct, WhichAct, BlitAct, RefreshAct, EndRefreshAct, layers_of}
 use Rattle.lw_grammar.specs.Told.{place_among, spelled_call}
 use Rattle.lw_grammar.specs.Script.{is_arranging, is_beginning, is_ending, are_all, is_on_one}
 use Rattle.lw_grammar.proofs.ScriptNames.{equal_names}
@@ -127,7 +127,7 @@ groups_kept calls c (g ∷ j ∷ gs) h =
     let front = and_parts (group_fits calls g) _ halves.0 in
     and_from _ _ (and_from _ _ (group_kept calls c g front.0) front.1) (groups_kept calls c (j ∷ gs) halves.1)
 
--- a further group behind the last one
+-- a further group after the last one
 pub groups_pushed : (calls : List Call) (gs : List Group) (g : Group) → groups_fit calls gs ≡ true → EndBefore gs g.first → group_fits calls g ≡ true → groups_fit calls (gs ++ g ∷ []) ≡ true
 groups_pushed calls [] g h before fits = fits
 groups_pushed calls (f ∷ []) g h before fits = and_from _ _ (and_from _ _ h (lt-ltb _ _ before)) fits
@@ -163,6 +163,6 @@ pub locked_stands : (s : ℕ) (cs : List Call) → 0 < length cs → list_all (m
 locked_stands s [] some h = absurd (omega arith)
 locked_stands s (c ∷ cs) some h = or_left _ _ h
 
--- behind so many calls a further one stands alone, and behind fewer it stands at the end
+-- after so many calls a further one stands alone, and after fewer it stands at the end
 pub drop_pushed : (calls : List Call) (c : Call) (n : ℕ) → n ≤ length calls → drop n (calls ++ c ∷ []) ≡ drop n calls ++ c ∷ []
 drop_pushed calls c n h = drop-append-le n calls (c ∷ []) h

@@ -2,7 +2,7 @@
 use Rattle.std.proofs.Common.{◌≡◌, ℕ, ◌<◌, ◌≤◌, ◌==◌, Bool, true, false, cond, nat_lt, List, [], length, IsTrue, All, refl, sym, subst, arith}
 use Rattle.lw_calls.specs.declared.sizes.Sizes.{Sizes}
 use Rattle.lw_calls.specs.Limits.{call_limit, call_fits}
-use Rattle.lw_grammar.specs.LineForms.{Statement}
+use Rattle.lw_grammar.specs.Statements.{Statement}
 use Rattle.lw_grammar.specs.Told.{told, plan_of}
 use Rattle.lw_grammar.specs.Script.{Setting, are_assets_due, may_end, ScriptInput, input_from, SpellsInput, IsRunnableInput, AreGoodLines}
 use Rattle.lw_grammar.proofs.ScriptOutcome.{rows_in_assets, of_lines}
@@ -69,4 +69,4 @@ runs_from_good s above place g e =
 pub spelled_runnable : (s : Setting) (bytes : List ℕ) (input : ScriptInput) → SpellsInput s bytes input → IsRunnableInput s input
 spelled_runnable s bytes input k =
     let l = of_lines s bytes input k in
-    subst (λ (p : ScriptInput). IsRunnableInput s p) (sym l.is) (runs_from_good s l.reached.forms _ l.read.good l.read.ended)
+    subst (λ (p : ScriptInput). IsRunnableInput s p) (sym l.is) (runs_from_good s l.reached.statements _ l.read.good l.read.ended)

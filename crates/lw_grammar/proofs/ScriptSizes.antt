@@ -10,17 +10,17 @@ use Rattle.lw_calls.specs.declared.form.Form.{Form}
 use Rattle.lw_calls.specs.declared.form.Form.TheVariants.{Plain, Ordered, Audited}
 use Rattle.lw_calls.specs.Limits.{name_limit, call_limit, task_limit, bitmap_limit}
 use Rattle.lw_grammar.specs.Demands.{◌>>=◌, demand}
-use Rattle.lw_grammar.specs.LineForms.{Statement, ScreenLine, GlyphLine, BitmapLine, RowLine, TaskLine, EndLine, OrderLine, NumbersLine, ReportLine, is_line_in_range}
+use Rattle.lw_grammar.specs.Statements.{Statement, ScreenLine, GlyphLine, BitmapLine, RowLine, TaskLine, EndLine, OrderLine, NumbersLine, ReportLine, is_line_in_range}
 use Rattle.lw_grammar.specs.Told.{Section, ScreenIsDue, AssetsAreDue, CallsAreDue, TasksAreDue, NumbersAreDue, NothingIsDue, hook_on, told}
-use Rattle.lw_grammar.specs.Script.{Setting, is_screen_due, are_assets_due, are_calls_due, are_tasks_due, are_numbers_due, is_nothing_due, is_plain, lacks_name, gives_again, fits_group, super_limit, are_few, is_no_hook, is_used, has_padding, form_tested, may_end, AreGoodLines}
-use Rattle.lw_grammar.proofs.ScriptForms.{IsFormHere}
+use Rattle.lw_grammar.specs.Script.{Setting, is_screen_due, are_assets_due, are_calls_due, are_tasks_due, are_numbers_due, is_nothing_due, is_plain, lacks_name, gives_again, fits_group, super_limit, are_few, is_no_hook, is_used, has_padding, statement_tested, may_end, AreGoodLines}
+use Rattle.lw_grammar.proofs.ScriptStatements.{IsStatementHere}
 use Rattle.lw_grammar.proofs.ScriptOutcome.{good_line}
 use Rattle.lw_grammar.proofs.ScriptCalls.{in_range, size_range}
 use Rattle.std.proofs.lemmas.Bool.{true≢false, false≢true, not-true, not_from_false, eqb-true, leb-true, lt-ltb, and_parts}
 use Rattle.std.proofs.lemmas.List.Elements.{All-nil, All-cons, All-append, All-push, All-map}
 
--- each test of a good line's form
-pub record IsFormTested (s : Setting) (above : List Statement) (f : Statement) : Type 0 where
+-- each test of a good line's statement
+pub record IsStatementTested (s : Setting) (above : List Statement) (f : Statement) : Type 0 where
   pub range : is_line_in_range f ≡ true
   pub named : lacks_name (told above).bitmap_names f ≡ false
   pub new : gives_again (told above) f ≡ false
@@ -30,7 +30,7 @@ pub record IsFormTested (s : Setting) (above : List Statement) (f : Statement) :
   pub unused : is_used (told above).used (hook_on f) ≡ false
   pub padding : has_padding (told above).row_width f ≡ false
 
--- a test that was passed holds, and those behind it were passed
+-- a test that was passed holds, and those after it were passed
 passed : (b : Bool) (r : Reason) (t : Result (Unit {0}) Reason) → (demand b r >>= (λ _. t)) ≡ Ok tt → (b ≡ true) × (t ≡ Ok tt)
 passed true r t h = (refl, h)
 passed false r t h = absurd (cc)
@@ -40,8 +40,8 @@ passed_last : (b : Bool) (r : Reason) → demand b r ≡ Ok tt → b ≡ true
 passed_last true r h = refl
 passed_last false r h = absurd (cc)
 
--- the tests of a form that has passed them
-tests_passed : (s : Setting) (above : List Statement) (f : Statement) → form_tested s (told above) f ≡ Ok tt → IsFormTested s above f
+-- the tests of a statement that has passed them
+tests_passed : (s : Setting) (above : List Statement) (f : Statement) → statement_tested s (told above) f ≡ Ok tt → IsStatementTested s above f
 tests_passed s above f h =
     let a = passed (is_line_in_range f) _ _ h in
     let b = passed (not (lacks_name (told above).bitmap_names f)) _ _ a.1 in
@@ -72,16 +72,16 @@ pass_last : (b : Bool) (r : Reason) → b ≡ true → demand b r ≡ Ok tt
 pass_last true r e = refl
 pass_last false r e = absurd (false≢true e)
 
--- a form of which each test holds passes them
-pub tests_pass : (s : Setting) (above : List Statement) (f : Statement) → IsFormTested s above f → form_tested s (told above) f ≡ Ok tt
+-- a statement of which each test holds passes them
+pub tests_pass : (s : Setting) (above : List Statement) (f : Statement) → IsStatementTested s above f → statement_tested s (told above) f ≡ Ok tt
 tests_pass s above f k =
     pass _ _ _ k.range (pass _ _ _ (not_from_false _ k.named) (pass _ _ _ (not_from_false _ k.new) (pass _ _ _ k.group (pass _ _ _ k.few (pass _ _ _ (not_from_false _ k.hook) (pass _ _ _ (not_from_false _ k.unused) (pass_last _ _ (not_from_false _ k.padding))))))))
 
 -- what the nearest of good lines is good for, and its tests
-pub here : (s : Setting) (above : List Statement) (f : Statement) → AreGoodLines s (f ∷ above) → IsFormHere s above f
+pub here : (s : Setting) (above : List Statement) (f : Statement) → AreGoodLines s (f ∷ above) → IsStatementHere s above f
 here s above f g = (good_line s above f g.0).0
 
-pub tests : (s : Setting) (above : List Statement) (f : Statement) → AreGoodLines s (f ∷ above) → IsFormTested s above f
+pub tests : (s : Setting) (above : List Statement) (f : Statement) → AreGoodLines s (f ∷ above) → IsStatementTested s above f
 tests s above f g = tests_passed s above f (good_line s above f g.0).1
 
 -- the counts of lines
@@ -204,7 +204,7 @@ sized s (ReportLine ∷ above) g =
     when _ _ (ap has_screen (in_tasks (told above).section (and_parts _ _ (here s above ReportLine g).1).0)) (sized s above g.1)
 sized s (f ∷ above) g = sized s above g.1
 
--- no task has begun above a screen line, a glyph or a bitmap, and at least one has behind a task line
+-- no task has begun above a screen line, a glyph or a bitmap, and at least one has after a task line
 pub begun_tasks : (s : Setting) (above : List Statement) → AreGoodLines s above → cond (has_begun (told above).section) (nat_lt 0 (length (told above).tasks)) (length (told above).tasks == 0) ≡ true
 begun_tasks s [] g = refl
 begun_tasks s (ScreenLine w h d ∷ above) g =
@@ -316,7 +316,7 @@ row_less (suc due) n bytes rows e h k =
     let rest : rows ≡ due * n = rw less at k in
     omega (arith, suc-mul due n)
 
--- Where no rows are due but those behind, the bitmaps above are planes.
+-- Where no rows are due but those after, the bitmaps above are planes.
 pub bitmaps_made : (s : Setting) (above : List Statement) → AreGoodLines s above → (rows : List ℕ) → length rows ≡ (told above).rows_due * row_bytes (told above).row_width → All IsPlanes ((told above).bitmaps rows)
 bitmaps_made s [] g rows n = All-nil IsPlanes
 bitmaps_made s (BitmapLine name w h d ∷ above) g rows n =

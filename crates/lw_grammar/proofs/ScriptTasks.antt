@@ -9,7 +9,7 @@ use Rattle.lw_calls.specs.declared.group.Group.{Group}
 use Rattle.lw_calls.specs.Limits.{call_limit, call_fits}
 use Rattle.lw_calls.specs.Touches.{slots_of}
 use Rattle.lw_calls.specs.Plan.{is_one, is_all, begins_update, ends_update, may_be_locked, may_stand, group_fits, groups_fit}
-use Rattle.lw_grammar.specs.LineForms.{Act, RefreshAct, EndRefreshAct, Statement, ScreenLine, BitmapLine, TaskLine, EndLine, OrderLine, ReportLine, CallLine, LockLine, UnlockLine, HoldLine, ReleaseLine, layers_of}
+use Rattle.lw_grammar.specs.Statements.{Act, RefreshAct, EndRefreshAct, Statement, ScreenLine, BitmapLine, TaskLine, EndLine, OrderLine, ReportLine, CallLine, LockLine, UnlockLine, HoldLine, ReleaseLine, layers_of}
 use Rattle.lw_grammar.specs.Told.{Section, ScreenIsDue, AssetsAreDue, CallsAreDue, TasksAreDue, NumbersAreDue, NothingIsDue, OpenGroup, Locked, Updating, Held, and_names, place_among, onto_last, spelled_call, call_below, hook_on, left_open_by, group_from, told}
 use Rattle.lw_grammar.specs.Script.{Setting, is_screen_due, are_assets_due, are_calls_due, are_tasks_due, is_beginning, is_ending, is_on_one, call_may_stand, is_lock_on, is_hold, is_no_hook, AreGoodLines}
 use Rattle.lw_grammar.proofs.ScriptNames.{equal_names, names_grow, any_kept, place_kept, all_named, places_below}
@@ -47,7 +47,7 @@ pub record IsTaskFit (z : Sizes) (calls : List Call) (groups : List Group) : Typ
   pub fit : All (λ c. IsTrue (call_fits z c)) calls
   pub grouped : groups_fit calls groups ≡ true
 
--- an open group began behind the groups before it
+-- an open group began after the groups before it
 pub record IsOpen (so_far began : ℕ) (groups : List Group) : Type 0 where
   pub before : EndBefore groups began
   pub order : began ≤ so_far
@@ -130,7 +130,7 @@ task_now z v e n =
     let P : Option OpenGroup → Type 0 = λ g. OpenState g v.so_far v.began v.names [] [] in
     record { long = sym e; fits = nothing_fits z; state = subst P (sym n) tt }
 
--- a task begins behind others
+-- a task begins after others
 task_more : (z : Sizes) (v : View) (w : View) → w.calls ≡ v.calls ++ [] ∷ [] → w.groups ≡ v.groups ++ [] ∷ [] → w.so_far ≡ 0 → w.group ≡ None → HaveBegun z v → HaveBegun z w
 task_more z v w a g e n b =
     record {

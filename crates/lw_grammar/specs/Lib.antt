@@ -2,6 +2,6 @@ pub mod Lines
 pub mod Demands
 pub mod Tokens
 pub mod Verbs
-pub mod LineForms
+pub mod Statements
 pub mod Told
 pub mod Script

@@ -17,7 +17,7 @@ use Rattle.lw_grammar.specs.Lines.{lines}
 use Rattle.lw_grammar.specs.Demands.{◌>>=◌, demand}
 use Rattle.lw_grammar.specs.Tokens.{tokens, token_of}
 use Rattle.lw_grammar.specs.Verbs.{verb_of}
-use Rattle.lw_grammar.specs.LineForms.{Act, PutAct, Statement, GlyphLine, BitmapLine, RowLine, TaskLine, EndLine, CallLine, LockLine, UnlockLine, HoldLine, ReleaseLine, row_line, numbers_line, form_by, is_line_in_range}
+use Rattle.lw_grammar.specs.Statements.{Act, PutAct, Statement, GlyphLine, BitmapLine, RowLine, TaskLine, EndLine, CallLine, LockLine, UnlockLine, HoldLine, ReleaseLine, row_line, numbers_line, statement_by, is_line_in_range}
 use Rattle.lw_grammar.specs.Told.{Section, ScreenIsDue, AssetsAreDue, CallsAreDue, TasksAreDue, NumbersAreDue, NothingIsDue, OpenGroup, Locked, Updating, Held, Told, spelled_call, hook_on, told_with, told, plan_of}
 
 -- What a script is read with: how many hooks are handed in, and what input it stands in.
@@ -79,15 +79,15 @@ is_audited Plain = false
 is_audited Ordered = false
 is_audited Audited = true
 
--- Lines with this verb stand in this section of this input.
-abbrev pub stands_in : Form → Section → Verb → Bool
-stands_in form s ScreenVerb = is_screen_due s
-stands_in form s GlyphVerb = are_assets_due s
-stands_in form s BitmapVerb = are_assets_due s
-stands_in form s TaskVerb = are_assets_due s || are_tasks_due s
-stands_in form s OrderVerb = are_tasks_due s && is_ordered form
-stands_in form s ReportVerb = are_tasks_due s && is_audited form
-stands_in form s verb = are_calls_due s
+-- Lines with this verb belong in this section of this input.
+abbrev pub belongs_in : Form → Section → Verb → Bool
+belongs_in kind s ScreenVerb = is_screen_due s
+belongs_in kind s GlyphVerb = are_assets_due s
+belongs_in kind s BitmapVerb = are_assets_due s
+belongs_in kind s TaskVerb = are_assets_due s || are_tasks_due s
+belongs_in kind s OrderVerb = are_tasks_due s && is_ordered kind
+belongs_in kind s ReportVerb = are_tasks_due s && is_audited kind
+belongs_in kind s verb = are_calls_due s
 
 -- the verb begins a task
 abbrev pub is_task_verb : Verb → Bool
@@ -99,22 +99,22 @@ abbrev pub verb_on : List (List ℕ) → Option Verb
 verb_on [] = None
 verb_on (w ∷ ws) = verb_of w
 
--- the words behind a line's first
-abbrev pub behind_verb : List (List ℕ) → List (List ℕ)
-behind_verb [] = []
-behind_verb (w ∷ ws) = ws
+-- the words after a line's first
+abbrev pub after_verb : List (List ℕ) → List (List ℕ)
+after_verb [] = []
+after_verb (w ∷ ws) = ws
 
 -- the line is a `put` whose bitmap isn't one of these
 abbrev pub lacks_name : List (List ℕ) → Statement → Bool
 lacks_name names (CallLine layers (PutAct bm area)) = not (list_any (bytes_eq bm) names)
-lacks_name names form = false
+lacks_name names statement = false
 
 -- the line gives a bitmap, a task or a code that a line above gave
 abbrev pub gives_again : Told → Statement → Bool
 gives_again t (GlyphLine code rows) = t.given code
 gives_again t (BitmapLine name w h d) = list_any (bytes_eq name) t.bitmap_names
 gives_again t (TaskLine name) = list_any (bytes_eq name) t.tasks
-gives_again t form = false
+gives_again t statement = false
 
 -- What the call of an act is, whichever layers and bitmaps it names: an arrangement; one that begins an update; one that ends
 -- an update.
@@ -165,7 +165,7 @@ fits_group group has_calls HoldLine = is_none group
 fits_group group has_calls EndLine = is_none group
 fits_group group has_calls (UnlockLine name) = is_lock_on name group && has_calls
 fits_group group has_calls ReleaseLine = is_hold group && has_calls
-fits_group group has_calls form = true
+fits_group group has_calls statement = true
 
 -- how many lines ask for a super-bitmap layer at most
 abbrev pub super_limit : ℕ
@@ -187,10 +187,10 @@ abbrev pub is_used : (ℕ → Bool) → Option ℤ → Bool
 is_used used None = false
 is_used used (Some n) = used (unsigned_abs n)
 
--- a bit of a row behind this width is 1
+-- a bit of a row after this width is 1
 abbrev pub has_padding : ℕ → Statement → Bool
 has_padding width (RowLine bytes) = list_any (λ x. row_bit bytes x == 1) (range_with_len width (8 * length bytes - width))
-has_padding width form = false
+has_padding width statement = false
 
 -- The rule of a line: one demand after another, in the order of the reasons. First the words of a line, or its first reason
 -- that asks for bytes alone.
@@ -200,59 +200,60 @@ words_read line = do
   _ ← demand (list_all is_printable line) BadByte
   tokens line
 
--- The form of a line of these words that begins with a verb, in this section of this input, or its first reason.
+-- The statement of a line of these words that begins with a verb, in this section of this input, or its first reason.
 abbrev pub verb_read : Form → Section → List (List ℕ) → Result Statement Reason
-verb_read form section ws = do
+verb_read kind section ws = do
   verb ← ok_or (verb_on ws) UnknownWord
-  _ ← demand (stands_in form section verb) Misplaced
-  _ ← demand (not ((is_plain form && are_tasks_due section) && is_task_verb verb)) OneTaskOnly
-  ok_or (form_by verb (map token_of (behind_verb ws))) FormReason
+  _ ← demand (belongs_in kind section verb) Misplaced
+  _ ← demand (not ((is_plain kind && are_tasks_due section) && is_task_verb verb)) OneTaskOnly
+  ok_or (statement_by verb (map token_of (after_verb ws))) FormReason
 
--- The form of a line of these words: where so many rows of a bitmap of this width are due, a row; where numbers are due,
+-- The statement of a line of these words: where so many rows of a bitmap of this width are due, a row; where numbers are due,
 -- numbers; and else a line with a verb.
-abbrev pub form_read : Form → Section → ℕ → ℕ → List (List ℕ) → Result Statement Reason
-form_read form section due width ws =
+abbrev pub statement_read : Form → Section → ℕ → ℕ → List (List ℕ) → Result Statement Reason
+statement_read kind section due width ws =
     if not (due == 0)
     then ok_or (row_line width (map token_of ws)) FormReason
-    else (if are_numbers_due section then ok_or (numbers_line (map token_of ws)) FormReason else verb_read form section ws)
+    else (if are_numbers_due section then ok_or (numbers_line (map token_of ws)) FormReason else verb_read kind section ws)
 
--- The first reason for which a line of this form is bad, if it is bad.
-abbrev pub form_tested : Setting → Told → Statement → Result (Unit {0}) Reason
-form_tested s t form = do
-  _ ← demand (is_line_in_range form) Range
-  _ ← demand (not (lacks_name t.bitmap_names form)) NoName
-  _ ← demand (not (gives_again t form)) DoubleName
-  _ ← demand (fits_group t.group (group_has_calls t) form) Group
-  _ ← demand (are_few (told_with form t)) TooMany
-  _ ← demand (not (is_no_hook s.hooks (hook_on form))) NoHook
-  _ ← demand (not (is_used t.used (hook_on form))) HookUsed
-  demand (not (has_padding t.row_width form)) Padding
+-- The first reason for which a line with this statement is bad, if it is bad.
+abbrev pub statement_tested : Setting → Told → Statement → Result (Unit {0}) Reason
+statement_tested s t statement = do
+  _ ← demand (is_line_in_range statement) Range
+  _ ← demand (not (lacks_name t.bitmap_names statement)) NoName
+  _ ← demand (not (gives_again t statement)) DoubleName
+  _ ← demand (fits_group t.group (group_has_calls t) statement) Group
+  _ ← demand (are_few (told_with statement t)) TooMany
+  _ ← demand (not (is_no_hook s.hooks (hook_on statement))) NoHook
+  _ ← demand (not (is_used t.used (hook_on statement))) HookUsed
+  demand (not (has_padding t.row_width statement)) Padding
 
--- The form of a line that isn't skipped, below lines that tell this, or its first reason.
+-- The statement of a line that isn't skipped, below lines that tell this, or its first reason.
 abbrev pub line_read : Setting → Told → List ℕ → Result Statement Reason
 line_read s t line = do
   ws ← words_read line
-  form ← form_read s.form t.section t.rows_due t.row_width ws
-  _ ← form_tested s t form
-  Ok form
+  statement ← statement_read s.form t.section t.rows_due t.row_width ws
+  _ ← statement_tested s t statement
+  Ok statement
 
--- the forms of lines with that of a further line, unless it is skipped; or its first reason
-abbrev pub forms_with : Setting → List Statement → List ℕ → Result (List Statement) Reason
-forms_with s above line = if is_skipped line then Ok above else (line_read s (told above) line >>= (λ form. Ok (form ∷ above)))
+-- the statements of lines with that of a further line, unless it is skipped; or its first reason
+abbrev pub statements_with : Setting → List Statement → List ℕ → Result (List Statement) Reason
+statements_with s above line =
+    if is_skipped line then Ok above else (line_read s (told above) line >>= (λ statement. Ok (statement ∷ above)))
 
--- How far lines were read: the forms of those that aren't skipped, the nearest first; the number of the next line, counted
+-- How far lines were read: the statements of those that aren't skipped, the nearest first; the number of the next line, counted
 -- from 1; and how many bytes the lines have, each with a line feed.
 pub record Reached : Type 0 where
-  pub forms : List Statement
+  pub statements : List Statement
   pub number : ℕ
   pub place : ℕ
 
 abbrev pub at_the_top : Reached
-at_the_top = record { forms = []; number = 1; place = 0 }
+at_the_top = record { statements = []; number = 1; place = 0 }
 
--- how far they were read with a further line, where these are the forms with it
+-- how far they were read with a further line, where these are the statements with it
 abbrev pub with_line : Reached → List ℕ → List Statement → Reached
-with_line p line forms = record { forms = forms; number = p.number + 1; place = p.place + (length line + 1) }
+with_line p line statements = record { statements = statements; number = p.number + 1; place = p.place + (length line + 1) }
 
 -- what is found at a line of this number, or the number with the reason
 abbrev pub at_number : {A : Type 0} → ℕ → Result A Reason → Result A (ℕ × Reason)
@@ -268,7 +269,7 @@ may_end Audited section = is_nothing_due section
 -- the end of the lines, below which the input may end or something is missing
 abbrev pub end_read : Setting → Reached → Result Reached (ℕ × Reason)
 end_read s p = do
-  _ ← at_number p.number (demand (may_end s.form (told p.forms).section) Missing)
+  _ ← at_number p.number (demand (may_end s.form (told p.statements).section) Missing)
   Ok p
 
 -- What lines give that stand below others: they are read one after another, up to a line `report` if there is one, or up to
@@ -276,11 +277,12 @@ end_read s p = do
 abbrev pub lines_read : Setting → Reached → List (List ℕ) → Result Reached (ℕ × Reason)
 lines_read s p [] = end_read s p
 lines_read s p (line ∷ ls) =
-    if is_nothing_due (told p.forms).section
+    if is_nothing_due (told p.statements).section
     then end_read s p
-    else (at_number p.number (forms_with s p.forms line) >>= (λ forms. lines_read s (with_line p line forms) ls))
+    else (at_number p.number (statements_with s p.statements line)
+    >>= (λ statements. lines_read s (with_line p line statements) ls))
 
--- What a script gives: its plan, the numbers of its order, and the place behind its line `report`, or the number of
+-- What a script gives: its plan, the numbers of its order, and the place after its line `report`, or the number of
 -- bytes where there is none.
 pub record ScriptInput : Type 0 where
   pub plan : Plan
@@ -294,7 +296,7 @@ input_from s t place = record { plan = plan_of s.hooks t; order = t.order; rest 
 abbrev pub outcome_of : Setting → List ℕ → Result ScriptInput (ℕ × Reason)
 outcome_of s bytes = do
   p ← lines_read s at_the_top (lines bytes)
-  Ok (input_from s (told p.forms) (min (length bytes) p.place))
+  Ok (input_from s (told p.statements) (min (length bytes) p.place))
 
 -- The bytes spell this input.
 abbrev pub SpellsInput : Setting → List ℕ → ScriptInput → Type 0
@@ -331,11 +333,11 @@ abbrev pub SpelledInputsAreRunnable : Type 0
 SpelledInputsAreRunnable =
     (s : Setting) (bytes : List ℕ) (input : ScriptInput) → SpellsInput s bytes input → IsRunnableInput s input
 
--- The forms are those of lines that were good where they stood.
-pub record IsGoodLine (s : Setting) (above : List Statement) (form : Statement) : Type 0 where
+-- The statements are those of lines that were good where they stood.
+pub record IsGoodLine (s : Setting) (above : List Statement) (statement : Statement) : Type 0 where
   pub line : List ℕ
-  pub read : line_read s (told above) line ≡ Ok form
+  pub read : line_read s (told above) line ≡ Ok statement
 
 abbrev pub AreGoodLines : Setting → List Statement → Type 0
 AreGoodLines s [] = Unit {0}
-AreGoodLines s (form ∷ above) = IsGoodLine s above form × AreGoodLines s above
+AreGoodLines s (statement ∷ above) = IsGoodLine s above statement × AreGoodLines s above

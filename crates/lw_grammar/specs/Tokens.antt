@@ -13,7 +13,7 @@ space = 32
 abbrev pub quote : ℕ
 quote = 34
 
--- what stands behind the first byte of a text: bytes without a quote, and then the quote as the last one
+-- what stands after the first byte of a text: bytes without a quote, and then the quote as the last one
 abbrev pub ends_text : List ℕ → Bool
 ends_text [] = false
 ends_text (b ∷ []) = b == quote
@@ -71,7 +71,7 @@ abbrev pub is_above_zero : List ℕ → Bool
 is_above_zero [] = false
 is_above_zero (b ∷ bs) = (nat_le 49 b && nat_le b 57) && list_all is_a_digit bs
 
--- the same behind a minus
+-- the same after a minus
 abbrev pub is_below_zero : List ℕ → Bool
 is_below_zero [] = false
 is_below_zero (b ∷ bs) = (b == 45) && is_above_zero bs

@@ -1,5 +1,5 @@
--- What the lines above a line of a script tell (this project's own format): one record, and what each form of line adds to
--- it. Skipped lines and those behind a line `report` tell nothing. The lines may be taken to be good, since only a script's
+-- What the lines above a line of a script tell (this project's own format): one record, and what each statement adds to
+-- it. Skipped lines and those after a line `report` tell nothing. The lines may be taken to be good, since only a script's
 -- first bad line counts.
 use Rattle.std.specs.Prelude.{ℕ, ◌+◌, ◌-◌, ◌*◌, ◌==◌, Bool, false, ◌||◌, if◌then◌else◌, List, [], ◌∷◌, ◌++◌, map, length, ℤ, pos, ◌+ℤ◌, ◌-ℤ◌, unsigned_abs, Option, Some, None, option_map, slice_index, bytes_eq, replicate}
 use Rattle.std.specs.List.{list_any, position_or_len, range_with_len}
@@ -13,10 +13,10 @@ use Rattle.lw_calls.specs.declared.group.Hold.TheVariants.{Slot, All}
 use Rattle.lw_calls.specs.declared.group.Group.{Group}
 use Rattle.lw_calls.specs.Kinds.{is_super}
 use Rattle.lw_calls.specs.Plan.{Plan}
-use Rattle.lw_grammar.specs.LineForms.{AskedLayer, Act, RegRectAct, RegPairAct, RegClearAct, CreateAct, OpenAct, CloseAct, FrontAct, BehindAct, InFrontAct, MoveAct, SizeAct, BoxAct, ActivateAct, WhichAct, APenAct, BPenAct, ModeAct, MaskAct, AtAct, WriteAct, ReadAct, FillAct, DrawAct, TextAct, SetRastAct, ScrollRasterAct, PutAct, BlitAct, ClipAct, UnclipAct, RefreshAct, EndRefreshAct, ScrollAct, TitleAct, GetMsgAct, Statement, ScreenLine, GlyphLine, BitmapLine, RowLine, TaskLine, EndLine, OrderLine, NumbersLine, ReportLine, CallLine, LockLine, UnlockLine, HoldLine, ReleaseLine}
+use Rattle.lw_grammar.specs.Statements.{AskedLayer, Act, RegRectAct, RegPairAct, RegClearAct, CreateAct, OpenAct, CloseAct, FrontAct, BehindAct, InFrontAct, MoveAct, SizeAct, BoxAct, ActivateAct, WhichAct, APenAct, BPenAct, ModeAct, MaskAct, AtAct, WriteAct, ReadAct, FillAct, DrawAct, TextAct, SetRastAct, ScrollRasterAct, PutAct, BlitAct, ClipAct, UnclipAct, RefreshAct, EndRefreshAct, ScrollAct, TitleAct, GetMsgAct, Statement, ScreenLine, GlyphLine, BitmapLine, RowLine, TaskLine, EndLine, OrderLine, NumbersLine, ReportLine, CallLine, LockLine, UnlockLine, HoldLine, ReleaseLine}
 
 -- The parts of a script, by what is due in them: the screen; glyphs, bitmaps and the first task; in a task calls, groups or
--- its end; behind a task a further one, an order or a report; numbers of an order; and nothing more, behind a line `report`.
+-- its end; after a task a further one, an order or a report; numbers of an order; and nothing more, after a line `report`.
 pub data Section : Type 0 where
   ScreenIsDue : Section
   AssetsAreDue : Section
@@ -32,7 +32,7 @@ pub data OpenGroup : Type 0 where
   Held : OpenGroup
 
 -- What lines tell: the section in which the next line stands; the screen's sizes; which codes have a glyph line, and the rows
--- of each code's glyph; the bitmaps' names; the bitmaps, where further rows stand behind those of the nearest one; the width
+-- of each code's glyph; the bitmaps' names; the bitmaps, where further rows stand after those of the nearest one; the width
 -- of the nearest one, and how many of its rows are due; the names of the tasks, and those of the layers in the order of their
 -- first appearance; how many lines ask for a super-bitmap layer; which hooks are named; the group that is open, and how many
 -- calls its task had when it began; how many calls the nearest task has; each task's calls and groups; and the order.
@@ -175,20 +175,20 @@ call_below t layers act = spelled_call t.bitmap_names act (map (place_among (and
 abbrev pub asks_super : Statement → Bool
 asks_super (CallLine layers (CreateAct asked)) = is_super asked.kind
 asks_super (CallLine layers (OpenAct asked framed nocare classes title)) = is_super asked.kind
-asks_super form = false
+asks_super statement = false
 
 -- the hook that a line names
 abbrev pub hook_on : Statement → Option ℤ
 hook_on (CallLine layers (CreateAct asked)) = asked.hook
 hook_on (CallLine layers (OpenAct asked framed nocare classes title)) = asked.hook
-hook_on form = None
+hook_on statement = None
 
 -- which hooks are named, with a further one
 abbrev pub and_hook : Option ℤ → (ℕ → Bool) → ℕ → Bool
 and_hook None used = used
 and_hook (Some n) used = λ hook. (unsigned_abs n == hook) || used hook
 
--- the group that is open behind an act, and how many calls its task had when it began
+-- the group that is open after an act, and how many calls its task had when it began
 abbrev pub left_open_by : List (List ℕ) → Act → Option OpenGroup → Option OpenGroup
 left_open_by (l ∷ []) RefreshAct group = Some (Updating l)
 left_open_by layers (EndRefreshAct full) group = None
@@ -202,12 +202,12 @@ began_by act so_far began = began
 abbrev pub group_from : Told → Hold → ℕ → Group
 group_from t hold calls = record { first = t.began; last = calls - 1; hold = hold }
 
--- each task's groups behind an act, which ends an update, or ends none
+-- each task's groups after an act, which ends an update, or ends none
 abbrev pub ended_by : List (List ℕ) → Act → Told → List (List Group)
 ended_by (l ∷ []) (EndRefreshAct full) t = onto_last (group_from t (Slot (place_among t.names l)) (t.so_far + 1)) t.groups
 ended_by layers act t = t.groups
 
--- What a line of this form adds to what the lines above it tell.
+-- What a line with this statement adds to what the lines above it tell.
 abbrev pub told_with : Statement → Told → Told
 told_with (ScreenLine w h d) t =
     record t { section = AssetsAreDue; width = unsigned_abs w; height = unsigned_abs h; depth = unsigned_abs d }
@@ -254,10 +254,10 @@ told_with (UnlockLine name) t =
 told_with HoldLine t = record t { group = Some Held; began = t.so_far }
 told_with ReleaseLine t = record t { group = None; groups = onto_last (group_from t All t.so_far) t.groups }
 
--- What lines of these forms tell, the nearest first.
+-- What lines with these statements tell, the nearest first.
 abbrev pub told : List Statement → Told
 told [] = nothing_told
-told (form ∷ above) = told_with form (told above)
+told (statement ∷ above) = told_with statement (told above)
 
 -- The plan that the lines of a whole script tell, where so many hooks are handed in.
 abbrev pub plan_of : ℕ → Told → Plan

@@ -3,15 +3,15 @@ use Rattle.std.proofs.Common.{◌≡◌, ℕ, ◌≤◌, List, true, ℤ, pos, t
 use Rattle.lw_region.specs.Rectangle.{within}
 use Rattle.lw_calls.specs.declared.call.Call.{Call}
 use Rattle.lw_calls.specs.Limits.{is_coordinate, coordinates_fit}
-use Rattle.lw_grammar.specs.LineForms.{is_act_in_range}
+use Rattle.lw_grammar.specs.Statements.{is_act_in_range}
 use Rattle.lw_grammar.specs.Told.{spelled_call}
-use Rattle.lw_lines.specs.declared.form.Act.{Act}
-use Rattle.lw_lines.specs.declared.form.Act.TheVariants.{Number, Pair}
-use Rattle.lw_lines.specs.declared.form.NumberAct.{NumberAct}
-use Rattle.lw_lines.specs.declared.form.NumberAct.TheVariants.{APen, BPen, Mode, Mask, SetRast, Clip}
-use Rattle.lw_lines.specs.declared.form.PairAct.{PairAct}
-use Rattle.lw_lines.specs.declared.form.PairAct.TheVariants.{Move}
-use Rattle.lw_lines.specs.FormMeaning.{number_meaning, pair_meaning, act_meaning}
+use Rattle.lw_lines.specs.declared.statement.Act.{Act}
+use Rattle.lw_lines.specs.declared.statement.Act.TheVariants.{Number, Pair}
+use Rattle.lw_lines.specs.declared.statement.NumberAct.{NumberAct}
+use Rattle.lw_lines.specs.declared.statement.NumberAct.TheVariants.{APen, BPen, Mode, Mask, SetRast, Clip}
+use Rattle.lw_lines.specs.declared.statement.PairAct.{PairAct}
+use Rattle.lw_lines.specs.declared.statement.PairAct.TheVariants.{Move}
+use Rattle.lw_lines.specs.StatementMeaning.{number_meaning, pair_meaning, act_meaning}
 use Rattle.std.proofs.lemmas.Bool.{and_parts}
 use Rattle.std.proofs.lemmas.Int.{ints}
 use Rattle.std.proofs.lemmas.Bool.Decides.{nat_tests}
@@ -25,7 +25,7 @@ placed_64 : (z : ℤ) → is_coordinate z ≡ true → to_z w64 (of_z w64 z) ≡
 unfolding within
 placed_64 z h = grind (arith, ints, nat_tests)
 
--- the number behind a layer
+-- the number after a layer
 number_64 : (a : NumberAct) (z : ℤ) → is_act_in_range (number_meaning a z) ≡ true → to_z w64 (of_z w64 z) ≡ z
 number_64 APen z h = counted_64 z 255 h (omega arith)
 number_64 BPen z h = counted_64 z 255 h (omega arith)

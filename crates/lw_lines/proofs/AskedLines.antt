@@ -1,7 +1,7 @@
 -- The line of a creation or an opening in parts is the whole line.
 use Rattle.std.proofs.Common.{◌≡◌, List, ◌∷◌, refl}
 use Rattle.lw_grammar.specs.Tokens.{Token, NameToken, NumberToken}
-use Rattle.lw_grammar.specs.LineForms.{asked_line}
+use Rattle.lw_grammar.specs.Statements.{asked_line}
 use Rattle.lw_lines.specs.AskedParts.{Behind, with_names}
 
 pub whole_asked : (behind : Behind) (ts : List Token) → with_names behind ts ≡ asked_line behind ts

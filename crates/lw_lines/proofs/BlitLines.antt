@@ -1,14 +1,14 @@
 -- The lines of blits and of scrollraster in parts are the whole lines.
 use Rattle.std.proofs.Common.{◌≡◌, ℕ, List, [], ◌∷◌, Option, Some, None, option_map, refl}
 use Rattle.lw_grammar.specs.Tokens.{Token, NameToken, NumberToken, bytes_in}
-use Rattle.lw_grammar.specs.LineForms.{Statement, minterm_of, put_line, blit_line, scrollraster_line, four}
+use Rattle.lw_grammar.specs.Statements.{Statement, minterm_of, put_line, blit_line, scrollraster_line, four}
 use Rattle.lw_region.specs.Rectangle.{Rectangle}
 use Rattle.lw_lines.specs.BlitParts.{begin_line, put_end, blit_between, scroll_parts}
 
 -- what is made of a minterm, if it is one, in one step or two
-two_steps : (r : Rectangle) (form : Rectangle → ℕ → Statement) (o : Option ℕ) → option_map (λ (e : Rectangle × ℕ). form e.0 e.1) (option_map (λ m. (r, m)) o) ≡ option_map (form r) o
-two_steps r form None = refl
-two_steps r form (Some m) = refl
+two_steps : (r : Rectangle) (make : Rectangle → ℕ → Statement) (o : Option ℕ) → option_map (λ (e : Rectangle × ℕ). make e.0 e.1) (option_map (λ m. (r, m)) o) ≡ option_map (make r) o
+two_steps r make None = refl
+two_steps r make (Some m) = refl
 
 pub whole_put : (ts : List Token) → begin_line put_end ts ≡ put_line ts
 whole_put (NameToken n ∷ NumberToken a sx ∷ NumberToken b sy ∷ NameToken l ∷ NumberToken c x ∷ NumberToken d y ∷ NumberToken e w ∷ NumberToken f h ∷ mm ∷ []) =

@@ -4,12 +4,12 @@ use Rattle.lw_region.specs.Rectangle.{Rectangle}
 use Rattle.lw_calls.specs.declared.make.Kind.{Kind}
 use Rattle.lw_calls.specs.declared.make.Place.{Place}
 use Rattle.lw_grammar.specs.Tokens.{Token, NameToken}
-use Rattle.lw_grammar.specs.LineForms.{Statement, kind_of, place_of, create_kind, open_kind}
+use Rattle.lw_grammar.specs.Statements.{Statement, kind_of, place_of, create_kind, open_kind}
 use Rattle.lw_lines.specs.NumbersTaken.{numbers_taken}
-use Rattle.lw_lines.specs.declared.forms_asked.Request.{Request}
-use Rattle.lw_lines.specs.declared.forms_asked.Request.TheVariants.{Creation, Opening}
+use Rattle.lw_lines.specs.declared.lines_asked.Request.{Request}
+use Rattle.lw_lines.specs.declared.lines_asked.Request.TheVariants.{Creation, Opening}
 
--- what stands behind the numbers of a layer that is asked for
+-- what stands after the numbers of a layer that is asked for
 abbrev pub Behind : Type 0
 Behind = List ℕ → Place → Rectangle → List Token → Kind → Option Statement
 
@@ -22,11 +22,11 @@ abbrev pub with_words : Behind → List ℕ → List ℕ → List ℕ → Rectan
 with_words behind l k p numbers ts =
     option_and_then (λ place. option_and_then (behind l place numbers ts) (kind_of k)) (place_of p)
 
--- four numbers, and what stands behind them
+-- four numbers, and what stands after them
 abbrev pub with_numbers : (Rectangle → List Token → Option Statement) → List Token → Option Statement
-with_numbers form ts = option_and_then (λ taken. form taken.0 taken.1) (numbers_taken ts)
+with_numbers make ts = option_and_then (λ taken. make taken.0 taken.1) (numbers_taken ts)
 
--- three names, and what stands behind them
+-- three names, and what stands after them
 abbrev pub with_names : Behind → List Token → Option Statement
 with_names behind (NameToken l ∷ NameToken k ∷ NameToken p ∷ ts) = with_numbers (with_words behind l k p) ts
 with_names behind _ = None

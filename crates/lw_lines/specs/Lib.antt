@@ -1,7 +1,7 @@
 pub mod AskedParts
 pub mod BlitParts
 pub mod CallMeaning
-pub mod FormMeaning
+pub mod StatementMeaning
 pub mod GroupMeaning
 pub mod LineReading
 pub mod NumbersTaken

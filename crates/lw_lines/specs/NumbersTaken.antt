@@ -2,14 +2,14 @@
 use Rattle.std.specs.Prelude.{List, [], ◌∷◌, Option, Some, None, option_and_then}
 use Rattle.lw_region.specs.Rectangle.{Rectangle}
 use Rattle.lw_grammar.specs.Tokens.{Token, NumberToken}
-use Rattle.lw_grammar.specs.LineForms.{four}
+use Rattle.lw_grammar.specs.Statements.{four}
 
--- four numbers, and what stands behind them
+-- four numbers, and what stands after them
 abbrev pub numbers_taken : List Token → Option (Rectangle × List Token)
 numbers_taken (NumberToken a x ∷ NumberToken b y ∷ NumberToken c z ∷ NumberToken d w ∷ ts) = Some (four x y z w, ts)
 numbers_taken _ = None
 
--- what is taken, where nothing stands behind it
+-- what is taken, where nothing stands after it
 abbrev pub if_alone : Rectangle → List Token → Option Rectangle
 if_alone r [] = Some r
 if_alone r (t ∷ ts) = None

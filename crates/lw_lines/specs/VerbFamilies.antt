@@ -1,4 +1,4 @@
--- Families of verbs, by what stands behind them.
+-- Families of verbs, by what stands after them.
 use Rattle.std.specs.Prelude.{Bool, true, false}
 use Rattle.lw_grammar.specs.declared.verb.Verb.{Verb}
 use Rattle.lw_grammar.specs.declared.verb.Verb.TheVariants.{Screen as ScreenVerb, Glyph as GlyphVerb, Bitmap as BitmapVerb, Task as TaskVerb, End as EndVerb, Order as OrderVerb, Report as ReportVerb, Lock as LockVerb, Unlock as UnlockVerb, Hold as HoldVerb, Release as ReleaseVerb, OrRect as OrRectVerb, AndRect as AndRectVerb, XorRect as XorRectVerb, ClearRect as ClearRectVerb, OrRegion as OrRegionVerb, AndRegion as AndRegionVerb, XorRegion as XorRegionVerb, ClearRegion as ClearRegionVerb, Close as CloseVerb, Front as FrontVerb, Behind as BehindVerb, Activate as ActivateVerb, Unclip as UnclipVerb, Refresh as RefreshVerb, GetMsg as GetMsgVerb, APen as APenVerb, BPen as BPenVerb, Mode as ModeVerb, Mask as MaskVerb, SetRast as SetRastVerb, Clip as ClipVerb, Move as MoveVerb, Size as SizeVerb, At as AtVerb, Write as WriteVerb, Read as ReadVerb, Draw as DrawVerb, Scroll as ScrollVerb, Text as TextVerb, Title as TitleVerb}
@@ -30,7 +30,7 @@ is_on_registers XorRegionVerb = true
 is_on_registers ClearRegionVerb = true
 is_on_registers verb = false
 
--- the verb has a layer alone behind it, or a layer and a number
+-- the verb has a layer alone after it, or a layer and a number
 abbrev pub is_short : Verb → Bool
 is_short CloseVerb = true
 is_short FrontVerb = true
@@ -47,7 +47,7 @@ is_short SetRastVerb = true
 is_short ClipVerb = true
 is_short verb = false
 
--- the verb has a layer behind it, and two numbers or a text
+-- the verb has a layer after it, and two numbers or a text
 abbrev pub has_pair_or_text : Verb → Bool
 has_pair_or_text MoveVerb = true
 has_pair_or_text SizeVerb = true

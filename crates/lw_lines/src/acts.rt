@@ -1,12 +1,12 @@
 //! What the grammar asks of a line's act.
 ghost use Rattle.std.specs.Prelude.{◌≡◌, ℕ, List, is_none, option_map};
-ghost use Rattle.lw_grammar.specs.LineForms.{CallLine};
+ghost use Rattle.lw_grammar.specs.Statements.{CallLine};
 ghost use Rattle.lw_grammar.specs.Told.{asks_super, hook_on};
 ghost use Rattle.lw_grammar.specs.Script.{is_arranging, is_beginning, is_ending, are_all, is_on_one, call_may_stand, is_lock_on, is_hold, fits_group};
-ghost use Rattle.lw_lines.specs.FormMeaning.{act_meaning, layers_meaning, form_meaning};
+ghost use Rattle.lw_lines.specs.StatementMeaning.{act_meaning, layers_meaning, statement_meaning};
 ghost use Rattle.lw_lines.specs.GroupMeaning.{group_meaning};
 
-use crate::form::{Act, AskedKind, BareAct, KindWithoutBitmap, Layers, PairAct, Statement};
+use crate::statement::{Act, AskedKind, BareAct, KindWithoutBitmap, Layers, PairAct, Statement};
 use lw_words::is_text;
 
 /// A group that is open.
@@ -147,7 +147,7 @@ fn is_closed(group: &Option<OpenGroup<'_>>) -> bool
 impl Statement<'_> {
     /// Whether the line may stand where this group is open, or none, and has calls, or not.
     pub fn fits_group(&self, group: &Option<OpenGroup<'_>>, has_calls: bool) -> bool
-        ensures { result ≡ fits_group (option_map group_meaning group.now) has_calls (form_meaning self.now) }
+        ensures { result ≡ fits_group (option_map group_meaning group.now) has_calls (statement_meaning self.now) }
     {
         match self {
             Statement::Call { layers, act } => call_may_stand(group, layers, act),
@@ -167,7 +167,7 @@ impl Statement<'_> {
 
     /// Whether the line asks for a layer with a bitmap of its own.
     pub fn asks_super(&self) -> bool
-        ensures { result ≡ asks_super (form_meaning self.now) }
+        ensures { result ≡ asks_super (statement_meaning self.now) }
     {
         match self {
             Statement::Call { act, .. } => act.asks_super(),
@@ -177,7 +177,7 @@ impl Statement<'_> {
 
     /// The hook that the line names.
     pub fn hook(&self) -> Option<i64>
-        ensures { result ≡ hook_on (form_meaning self.now) }
+        ensures { result ≡ hook_on (statement_meaning self.now) }
     {
         match self {
             Statement::Call { act, .. } => act.hook(),

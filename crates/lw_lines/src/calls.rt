@@ -1,14 +1,14 @@
 //! The calls that acts are.
 ghost use Rattle.std.specs.Prelude.{◌≡◌, ℕ, List, [], ◌∷◌, pos, ◌+ℤ◌, ◌-ℤ◌, IsTrue, IfOk, option_map, unsigned_abs};
 ghost use Rattle.lw_calls.specs.Limits.{axis_fits, rect_fits, coordinates_fit};
-ghost use Rattle.lw_grammar.specs.LineForms.{is_hook_number, is_own_size, is_asked_in_range, is_box, is_area_in_range, is_act_in_range};
+ghost use Rattle.lw_grammar.specs.Statements.{is_hook_number, is_own_size, is_asked_in_range, place_and_size_fit, is_area_in_range, is_act_in_range};
 ghost use Rattle.lw_grammar.specs.Told.{make_of, created_make, opened_make, spelled_call};
-ghost use Rattle.lw_lines.specs.FormMeaning.{corners_meaning, kind_meaning, width_meaning, height_meaning, asked_meaning, area_meaning, bare_meaning, number_meaning, pair_meaning, text_meaning, act_meaning};
+ghost use Rattle.lw_lines.specs.StatementMeaning.{corners_meaning, kind_meaning, width_meaning, height_meaning, asked_meaning, area_meaning, bare_meaning, number_meaning, pair_meaning, text_meaning, act_meaning};
 ghost use Rattle.lw_lines.specs.CallMeaning.{IsBitmapAt, is_apart, is_single_on_layers};
 
 use crate::converted::{coordinate, extent, hook, mode, own_size, pen, register, step};
-use crate::form::{
-    Act, AskedKind, AskedLayer, BareAct, Blitting, KindWithoutBitmap, NumberAct, PairAct, TextAct,
+use crate::statement::{
+    Act, AskedArea, AskedKind, AskedLayer, BareAct, KindWithoutBitmap, NumberAct, PairAct, TextAct,
 };
 use lw_calls::{Area, Call, Kind, Make, Text};
 use std::alloc::{AllocError, Global};
@@ -93,7 +93,7 @@ impl AskedLayer {
 
     /// The layer of an opening, with this place and size.
     fn opened(&self) -> Make
-        requires bounds { IsTrue (is_box (corners_meaning self.now.numbers)) }
+        requires bounds { IsTrue (place_and_size_fit (corners_meaning self.now.numbers)) }
         requires range { IsTrue (is_asked_in_range (asked_meaning self.now)) }
         ensures { result ≡ opened_make (asked_meaning self.now) }
     {
@@ -107,7 +107,7 @@ impl AskedLayer {
     }
 }
 
-impl Blitting {
+impl AskedArea {
     fn area(&self) -> Area
         requires { IsTrue (is_area_in_range (area_meaning self.now)) }
         ensures { result ≡ area_meaning self.now }
@@ -289,10 +289,10 @@ impl Act<'_> {
                 dy: step(*dy),
                 rect: corners.rect(),
             },
-            Act::Blit(blitting) => Call::Blit {
+            Act::Blit(area) => Call::Blit {
                 source: slot,
                 slot: other,
-                area: blitting.area(),
+                area: area.area(),
             },
             Act::EndRefresh { full } => Call::EndRefresh { slot, full: *full },
             // No other act is one of these.
@@ -332,10 +332,10 @@ impl Act<'_> {
             Act::Number(act, number) => Ok(act.call(slot, *number)),
             Act::Pair(act, x, y) => Ok(act.call(slot, *x, *y)),
             Act::Text(act, text) => Ok(act.call(slot, text_of(alloc, *text)?)),
-            Act::Put { blitting, .. } => Ok(Call::Put {
+            Act::Put { area, .. } => Ok(Call::Put {
                 bitmap,
                 slot,
-                area: blitting.area(),
+                area: area.area(),
             }),
             Act::RegRect { .. } | Act::RegPair { .. } | Act::RegClear(_) | Act::Which { .. } => {
                 Ok(self.call_apart())

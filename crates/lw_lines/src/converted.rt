@@ -2,9 +2,9 @@
 ghost use Rattle.std.specs.Prelude.{◌≡◌, ◌&&◌, pos, IsTrue, unsigned_abs};
 ghost use Rattle.lw_region.specs.Rectangle.{within};
 ghost use Rattle.lw_calls.specs.Limits.{is_coordinate, rect_fits, is_extent};
-ghost use Rattle.lw_lines.specs.FormMeaning.{corners_meaning};
+ghost use Rattle.lw_lines.specs.StatementMeaning.{corners_meaning};
 
-use crate::form::Corners;
+use crate::statement::Corners;
 use lw_region::Rect;
 
 /// A coordinate or a step in 32 bits.

@@ -1,12 +1,12 @@
 ghost use Rattle.std.specs.Prelude.{◌≡◌, map, option_map};
 ghost use Rattle.lw_words.specs.TokenMeaning.{token_meaning};
-ghost use Rattle.lw_lines.specs.FormMeaning.{corners_meaning};
+ghost use Rattle.lw_lines.specs.StatementMeaning.{corners_meaning};
 ghost use Rattle.lw_lines.specs.NumbersTaken.{numbers_taken, only_numbers};
 
-use crate::form::Corners;
+use crate::statement::Corners;
 use lw_words::Token;
 
-/// Four numbers, and what stands behind them.
+/// Four numbers, and what stands after them.
 pub(crate) fn corners_in<'a, 'b>(tokens: &'b [Token<'a>]) -> Option<(Corners, &'b [Token<'a>])>
     ensures { option_map (λ p. (corners_meaning p.0, map token_meaning p.1.now)) result
         ≡ numbers_taken (map token_meaning tokens.now) }
@@ -31,7 +31,7 @@ pub(crate) fn corners_in<'a, 'b>(tokens: &'b [Token<'a>]) -> Option<(Corners, &'
     }
 }
 
-/// Four numbers, behind which nothing stands.
+/// Four numbers, after which nothing stands.
 pub(crate) fn only_corners(tokens: &[Token<'_>]) -> Option<Corners>
     ensures { option_map corners_meaning result ≡ only_numbers (map token_meaning tokens.now) }
 {

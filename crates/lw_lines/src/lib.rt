@@ -1,28 +1,28 @@
-//! The form of a line of a script by its words, and what the form asks for: its ranges, its place in a group and its call
-//! (this project's own format). `lw_grammar` has the grammar as definitions, in `specs/LineForms.antt`.
+//! The statement of a line of a script by its words, and what the statement asks for: its ranges, its place in a group and its
+//! call (this project's own format). `lw_grammar` has the grammar as definitions, in `specs/Statements.antt`.
 #![tactic(auto)]
 
 mod acts;
 mod calls;
 mod converted;
 mod corners;
-mod form;
-mod forms_asked;
-mod forms_blit;
-mod forms_layer;
-mod forms_parts;
-mod forms_verb;
 mod line;
+mod lines_asked;
+mod lines_blit;
+mod lines_layer;
+mod lines_parts;
+mod lines_verb;
 mod ranges;
 mod section;
+mod statement;
 #[cfg(test)]
 mod tests;
 
 pub use acts::OpenGroup;
 pub use converted::{depth, hook, size, task_number};
-pub use form::{
-    Act, AskedKind, AskedLayer, BareAct, Blitting, Corners, KindWithoutBitmap, Layers, NumberAct,
+pub use line::words_statement;
+pub use section::{Section, belongs_in, is_second_task};
+pub use statement::{
+    Act, AskedArea, AskedKind, AskedLayer, BareAct, Corners, KindWithoutBitmap, Layers, NumberAct,
     PairAct, Statement, TextAct,
 };
-pub use line::words_form;
-pub use section::{Section, is_second_task, stands_in};

@@ -2,11 +2,11 @@ ghost use Rattle.std.specs.Prelude.{◌≡◌, ◌&&◌, map, pos};
 ghost use Rattle.std.specs.List.{list_all};
 ghost use Rattle.lw_region.specs.Rectangle.{within};
 ghost use Rattle.lw_calls.specs.Limits.{is_coordinate, axis_fits, rect_fits, coordinates_fit as places_meant, is_extent};
-ghost use Rattle.lw_grammar.specs.LineForms.{is_hook_number, is_own_size, is_asked_in_range, is_box, is_area_in_range, is_act_in_range, is_line_in_range};
-ghost use Rattle.lw_lines.specs.FormMeaning.{corners_meaning, kind_meaning, width_meaning, height_meaning, asked_meaning, area_meaning, number_meaning, act_meaning, form_meaning};
+ghost use Rattle.lw_grammar.specs.Statements.{is_hook_number, is_own_size, is_asked_in_range, place_and_size_fit, is_area_in_range, is_act_in_range, is_line_in_range};
+ghost use Rattle.lw_lines.specs.StatementMeaning.{corners_meaning, kind_meaning, width_meaning, height_meaning, asked_meaning, area_meaning, number_meaning, act_meaning, statement_meaning};
 
-use crate::form::{
-    Act, AskedKind, AskedLayer, Blitting, Corners, KindWithoutBitmap, NumberAct, Statement,
+use crate::statement::{
+    Act, AskedArea, AskedKind, AskedLayer, Corners, KindWithoutBitmap, NumberAct, Statement,
 };
 
 #[tactic(auto, using(std::proofs::lemmas::Int::ints), unfolding(lw_region::specs::Rectangle::within))]
@@ -31,7 +31,7 @@ fn coordinates_fit(x: i64, y: i64) -> bool
     is_coordinate(x) && is_coordinate(y)
 }
 
-/// Whether it is a width or a height of a box or a blit.
+/// Whether it is a width or a height of a window, of `box` or of a blit.
 fn is_extent(number: i64) -> bool
     ensures { result ≡ is_extent number }
 {
@@ -55,8 +55,8 @@ impl Corners {
     }
 
     /// Whether they are a place, a width and a height.
-    fn are_box(&self) -> bool
-        ensures { result ≡ is_box (corners_meaning self.now) }
+    fn are_place_and_size(&self) -> bool
+        ensures { result ≡ place_and_size_fit (corners_meaning self.now) }
     {
         coordinates_fit(self.x0, self.y0) && (is_extent(self.x1) && is_extent(self.y1))
     }
@@ -95,7 +95,7 @@ impl AskedLayer {
     }
 }
 
-impl Blitting {
+impl AskedArea {
     fn is_in_range(&self) -> bool
         ensures { result ≡ is_area_in_range (area_meaning self.now) }
     {
@@ -105,7 +105,7 @@ impl Blitting {
 }
 
 impl NumberAct {
-    /// Whether the number behind the layer is in its range.
+    /// Whether the number after the layer is in its range.
     fn is_in_range(&self, number: i64) -> bool
         ensures { result ≡ is_act_in_range (number_meaning self.now number) }
     {
@@ -134,13 +134,13 @@ impl Act<'_> {
             }
             Act::RegClear(register) => is_between(0, *register, 7),
             Act::Create(asked) => asked.numbers.fit() && asked.is_in_range(),
-            Act::Open { asked, .. } => asked.numbers.are_box() && asked.is_in_range(),
-            Act::Box(corners) => corners.are_box(),
+            Act::Open { asked, .. } => asked.numbers.are_place_and_size() && asked.is_in_range(),
+            Act::Box(corners) => corners.are_place_and_size(),
             Act::Which { x, y } | Act::Pair(_, x, y) => coordinates_fit(*x, *y),
             Act::Number(act, number) => act.is_in_range(*number),
             Act::Fill(corners) => corners.fit(),
             Act::ScrollRaster { dx, dy, corners } => coordinates_fit(*dx, *dy) && corners.fit(),
-            Act::Put { blitting, .. } | Act::Blit(blitting) => blitting.is_in_range(),
+            Act::Put { area, .. } | Act::Blit(area) => area.is_in_range(),
             Act::InFront | Act::Bare(_) | Act::Text(_, _) | Act::EndRefresh { .. } => true,
         }
     }
@@ -161,7 +161,7 @@ fn are_sizes(width: i64, height: i64, depth: i64) -> bool
 impl Statement<'_> {
     /// Whether every number is in its range, and no maximum is below its minimum.
     pub fn is_in_range(&self) -> bool
-        ensures { result ≡ is_line_in_range (form_meaning self.now) }
+        ensures { result ≡ is_line_in_range (statement_meaning self.now) }
     {
         match self {
             Statement::Screen {

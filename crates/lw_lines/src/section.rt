@@ -1,5 +1,5 @@
 ghost use Rattle.std.specs.Prelude.{◌≡◌, ◌&&◌};
-ghost use Rattle.lw_grammar.specs.Script.{is_screen_due, are_assets_due, are_calls_due, are_tasks_due, are_numbers_due, is_nothing_due, is_plain, is_ordered, is_audited, stands_in as stands_meant, is_task_verb, may_end as may_end_meant};
+ghost use Rattle.lw_grammar.specs.Script.{is_screen_due, are_assets_due, are_calls_due, are_tasks_due, are_numbers_due, is_nothing_due, is_plain, is_ordered, is_audited, belongs_in as belongs_meant, is_task_verb, may_end as may_end_meant};
 ghost use Rattle.lw_lines.specs.SectionMeaning.{section_meaning};
 
 use lw_calls::Form;
@@ -90,8 +90,8 @@ fn is_audited(form: Form) -> bool
 }
 
 /// Whether lines with this verb stand in this section of this input.
-pub fn stands_in(form: Form, section: Section, verb: Verb) -> bool
-    ensures { result ≡ stands_meant form (section_meaning section) verb }
+pub fn belongs_in(form: Form, section: Section, verb: Verb) -> bool
+    ensures { result ≡ belongs_meant form (section_meaning section) verb }
 {
     match verb {
         Verb::Screen => section.is_screen(),

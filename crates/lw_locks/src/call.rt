@@ -20,7 +20,7 @@ use std::sync::Wait;
 
 impl<E: Engine, N: Opening> Desk<E, N> {
     /// Makes a call that looks at LayerInfo, or is on one layer or two, under the locks of just these. It may wait, and so promises no
-    /// return. After it failed for want of memory the call isn't in the history.
+    /// return. After it ran out of memory the call isn't in the history.
     pub fn call<R: Wait, G: Gate>(
         &self,
         rt: &R,

@@ -21,7 +21,7 @@ is_on_all (OnLayer slot) = false
 is_on_all (OnLayers source slot) = false
 is_on_all OnAll = true
 
--- The calls that take memory, and so may fail for want of it: those that make a region, ScrollRaster for its damage,
+-- The calls that take memory, and so may run out of it: those that make a region, ScrollRaster for its damage,
 -- SetWindowTitles for a copy of the title, and arrangements.
 abbrev pub takes_memory : Call → Bool
 takes_memory (RegRect op register rect) = true

@@ -23,8 +23,8 @@ use std::alloc::{AllocError, Global};
 /// Makes one call of a task on a layer and gives its reply, as the machine's step says of every desk whose slot this is, in which
 /// these are the task's registers, and to which this was handed in: those that set how it paints (pens, mode, mask, cursor), those
 /// that draw or read a pixel, blits from a bitmap or from the layer itself, ScrollRaster, InstallClipRegion with a copy of a
-/// register or with none, BeginUpdate, EndUpdate, ScrollLayer, SetWindowTitles with a copy of the title, and GetMsg. It fails for
-/// want of memory alone, which only these copies and the damage of ScrollRaster take, and the layer is then as before.
+/// register or with none, BeginUpdate, EndUpdate, ScrollLayer, SetWindowTitles with a copy of the title, and GetMsg. It fails
+/// only when out of memory, which only these copies and the damage of ScrollRaster take, and the layer is then as before.
 pub fn on_layer(
     alloc: Global,
     cell: &mut Cell,

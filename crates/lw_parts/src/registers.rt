@@ -14,7 +14,7 @@ use lw_region::Rect;
 use std::alloc::{AllocError, Global};
 
 /// Makes one call on the region registers of a task and gives its reply (OrRectRegion and its kin), as the machine's step
-/// says of every desk whose registers these are. It fails for want of memory alone, which ClearRegion takes none of, and the
+/// says of every desk whose registers these are. It fails only when out of memory, which ClearRegion takes none of, and the
 /// registers are then as before.
 pub fn on_registers(alloc: Global, regs: &mut Regs, call: &Call) -> Result<Reply, AllocError>
     requires class { class_of call.now ≡ OnRegisters }

@@ -6,7 +6,7 @@ use Rattle.lw_calls.specs.declared.call.Call.{Call}
 use Rattle.lw_calls.specs.declared.group.Group.{Group}
 use Rattle.lw_calls.specs.Plan.{Plan, groups_fit}
 use Rattle.lw_calls.proofs.OrderGroups.{follows_on, head_fits, rest_fits, has_order}
-use Rattle.lw_grammar.specs.LineForms.{Statement}
+use Rattle.lw_grammar.specs.Statements.{Statement}
 use Rattle.lw_canonical.specs.Canonical.{line_of_call, is_update, opening_lines, closing_lines, lines_from}
 use Rattle.lw_print.specs.Grouping.{opening_at, closing_at, lines_at, left_behind}
 
@@ -37,7 +37,7 @@ not_said edge say n g false is h = rw is refl
 elsewhere : (edge : Group → ℕ) (say : Group → List Statement) (n : ℕ) (g : Group) → edge g ≢ n → at_end edge say n g ≡ []
 elsewhere edge say n g h = not_said edge say n g (edge g == n) refl (ne_eqb (edge g) n h)
 
--- nothing is said of the groups behind one that doesn't end before n
+-- nothing is said of the groups after one that doesn't end before n
 none_later : (edge : Group → ℕ) (say : Group → List Statement) (calls : List Call) → IsEnd edge → (g : Group) (gs : List Group) (n : ℕ) → groups_fit calls (g ∷ gs) ≡ true → n ≤ g.last → flat_map (at_end edge say n) gs ≡ []
 none_later edge say calls end g [] n h reach = refl
 none_later edge say calls end g (j ∷ gs) n h reach =
@@ -67,18 +67,18 @@ is_last : IsEnd (λ g. g.last)
 is_last g order = (order, omega arith)
 
 -- the lines around a call, from equal parts
-around-same : (before before' : List Statement) (line : Statement) (behind behind' rest rest' : List Statement) → before ≡ before' → behind ≡ behind' → rest ≡ rest' → before ++ line ∷ behind ++ rest ≡ before' ++ line ∷ behind' ++ rest'
-around-same before before' line behind behind' rest rest' e f g = rw (e, f, g) refl
+around_same : (before before' : List Statement) (line : Statement) (behind behind' rest rest' : List Statement) → before ≡ before' → behind ≡ behind' → rest ≡ rest' → before ++ line ∷ behind ++ rest ≡ before' ++ line ∷ behind' ++ rest'
+around_same before before' line behind behind' rest rest' e f g = rw (e, f, g) refl
 
--- the lines around a call, and those behind them
-around-split : (before : List Statement) (line : Statement) (behind rest : List Statement) → before ++ line ∷ behind ++ rest ≡ (before ++ (line ∷ behind)) ++ rest
-around-split before line behind rest = simp append_assoc
+-- the lines around a call, and those after them
+around_split : (before : List Statement) (line : Statement) (behind rest : List Statement) → before ++ line ∷ behind ++ rest ≡ (before ++ (line ∷ behind)) ++ rest
+around_split before line behind rest = simp append_assoc
 
 -- the lines of the calls from number n on, without a group that ended before it
 lines_passed : (p : Plan) (calls : List Call) (g : Group) (gs : List Group) (n : ℕ) (cs : List Call) → g.first ≤ g.last → g.last < n → lines_from p calls (g ∷ gs) n cs ≡ lines_from p calls gs n cs
 lines_passed p calls g gs n [] order ended = refl
 lines_passed p calls g gs n (c ∷ cs) order ended =
-    around-same _ _ (line_of_call p.slot_names p.bitmap_names c) _ _ _ _
+    around_same _ _ (line_of_call p.slot_names p.bitmap_names c) _ _ _ _
     (passed (λ g. g.first) (λ g. opening_lines p.slot_names g.hold (is_update calls g)) is_first g gs n order ended)
     (passed (λ g. g.last) (λ g. closing_lines p.slot_names g.hold (is_update calls g)) is_last g gs n order ended)
     (lines_passed p calls g gs (n + 1) cs order (omega arith))
@@ -87,11 +87,11 @@ lines_passed p calls g gs n (c ∷ cs) order ended =
 pub lines_next : (p : Plan) (calls : List Call) (gs : List Group) (n : ℕ) (c : Call) (cs : List Call) → groups_fit calls gs ≡ true → Reaches n gs → lines_from p calls gs n (c ∷ cs) ≡ lines_at p calls gs n c ++ lines_from p calls gs (n + 1) cs
 lines_next p calls [] n c cs h reach = refl
 lines_next p calls (g ∷ gs) n c cs h reach =
-    around-same _ (opening_at p.slot_names calls (g ∷ gs) n) (line_of_call p.slot_names p.bitmap_names c) _ (closing_at p.slot_names calls (g ∷ gs) n) _ _
+    around_same _ (opening_at p.slot_names calls (g ∷ gs) n) (line_of_call p.slot_names p.bitmap_names c) _ (closing_at p.slot_names calls (g ∷ gs) n) _ _
     (first_alone (λ g. g.first) (λ g. opening_lines p.slot_names g.hold (is_update calls g)) calls is_first (g ∷ gs) n h reach)
     (first_alone (λ g. g.last) (λ g. closing_lines p.slot_names g.hold (is_update calls g)) calls is_last (g ∷ gs) n h reach)
     refl ∙
-    around-split (opening_at p.slot_names calls (g ∷ gs) n) (line_of_call p.slot_names p.bitmap_names c) (closing_at p.slot_names calls (g ∷ gs) n) (lines_from p calls (g ∷ gs) (n + 1) cs)
+    around_split (opening_at p.slot_names calls (g ∷ gs) n) (line_of_call p.slot_names p.bitmap_names c) (closing_at p.slot_names calls (g ∷ gs) n) (lines_from p calls (g ∷ gs) (n + 1) cs)
 
 -- the groups that are left, by whether the first ends at call number n
 abbrev left_if : Bool → Group → List Group → List Group
@@ -120,7 +120,7 @@ left_lines_step true p calls g gs n cs is h =
     lines_passed p calls g gs (n + 1) cs (has_order calls g (head_fits calls g gs h)) (omega (arith, here))
 left_lines_step false p calls g gs n cs is h = refl
 
--- the groups that are left behind call number n fit
+-- the groups that are left after call number n fit
 pub left_fit : (calls : List Call) (gs : List Group) (n : ℕ) → groups_fit calls gs ≡ true → groups_fit calls (left_behind gs n) ≡ true
 left_fit calls [] n h = refl
 left_fit calls (g ∷ gs) n h = left_fit_step (g.last == n) calls g gs h
@@ -130,7 +130,7 @@ pub left_reach : (calls : List Call) (gs : List Group) (n : ℕ) → groups_fit 
 left_reach calls [] n h reach = tt
 left_reach calls (g ∷ gs) n h reach = left_reach_step (g.last == n) calls g gs n refl h reach
 
--- the lines of the calls behind number n are those with the groups that are left
+-- the lines of the calls after number n are those with the groups that are left
 pub left_lines : (p : Plan) (calls : List Call) (gs : List Group) (n : ℕ) (cs : List Call) → groups_fit calls gs ≡ true → lines_from p calls gs (n + 1) cs ≡ lines_from p calls (left_behind gs n) (n + 1) cs
 left_lines p calls [] n cs h = refl
 left_lines p calls (g ∷ gs) n cs h = left_lines_step (g.last == n) p calls g gs n cs refl h

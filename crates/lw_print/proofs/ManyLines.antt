@@ -5,61 +5,61 @@ use Rattle.std.proofs.lemmas.Grind.{flat_map-append}
 use Rattle.lw_planes.specs.Bitmap.{Bitmap, plane_row}
 use Rattle.lw_calls.specs.Assets.{Assets}
 use Rattle.lw_calls.specs.Written.{line_of, hex_byte}
-use Rattle.lw_grammar.specs.LineForms.{Statement, RowLine}
+use Rattle.lw_grammar.specs.Statements.{Statement, RowLine}
 use Rattle.lw_canonical.specs.Spelling.{spelled}
 use Rattle.lw_written.proofs.Pieces.{pieces_same}
 use Rattle.lw_print.specs.Behind.{text_of_lines}
 
--- lines behind lines
-pub text-append : (fs gs : List Statement) → text_of_lines (fs ++ gs) ≡ text_of_lines fs ++ text_of_lines gs
-text-append fs gs = flat_map-append (λ form. line_of (spelled form)) fs gs
+-- lines after lines
+pub text_append : (fs gs : List Statement) → text_of_lines (fs ++ gs) ≡ text_of_lines fs ++ text_of_lines gs
+text_append fs gs = flat_map-append (λ statement. line_of (spelled statement)) fs gs
 
 -- some lines are written, and then others
-pub more-lines : (fs gs : List Statement) (start p q : List ℕ) → p ≡ start ++ text_of_lines fs → q ≡ p ++ text_of_lines gs → q ≡ start ++ text_of_lines (fs ++ gs)
-more-lines fs gs start p q e f =
-    f ∙ (ap (λ xs. xs ++ text_of_lines gs) e ∙ (append_assoc start (text_of_lines fs) (text_of_lines gs) ∙ ap (λ xs. start ++ xs) (sym (text-append fs gs))))
+pub more_lines : (fs gs : List Statement) (start p q : List ℕ) → p ≡ start ++ text_of_lines fs → q ≡ p ++ text_of_lines gs → q ≡ start ++ text_of_lines (fs ++ gs)
+more_lines fs gs start p q e f =
+    f ∙ (ap (λ xs. xs ++ text_of_lines gs) e ∙ (append_assoc start (text_of_lines fs) (text_of_lines gs) ∙ ap (λ xs. start ++ xs) (sym (text_append fs gs))))
 
 -- one line is written
-pub line-written : (f : Statement) (start p : List ℕ) → p ≡ start ++ line_of (spelled f) → p ≡ start ++ text_of_lines (f ∷ [])
-line-written f start p e = e ∙ ap (λ xs. start ++ xs) (sym (append-nil (line_of (spelled f))))
+pub line_written : (f : Statement) (start p : List ℕ) → p ≡ start ++ line_of (spelled f) → p ≡ start ++ text_of_lines (f ∷ [])
+line_written f start p e = e ∙ ap (λ xs. start ++ xs) (sym (append-nil (line_of (spelled f))))
 
 -- the lines that are still to be written, where some more have been written
-pub fewer-lines : (all these others : List Statement) (start was now : List ℕ) → was ++ text_of_lines all ≡ start → now ≡ was ++ text_of_lines these → all ≡ these ++ others → now ++ text_of_lines others ≡ start
-fewer-lines all these others start was now before step split =
+pub fewer_lines : (all these others : List Statement) (start was now : List ℕ) → was ++ text_of_lines all ≡ start → now ≡ was ++ text_of_lines these → all ≡ these ++ others → now ++ text_of_lines others ≡ start
+fewer_lines all these others start was now before step split =
     ap (λ xs. xs ++ text_of_lines others) step ∙
     (append_assoc was (text_of_lines these) (text_of_lines others) ∙
-    (ap (λ xs. was ++ xs) (sym (text-append these others)) ∙
+    (ap (λ xs. was ++ xs) (sym (text_append these others)) ∙
     (ap (λ fs. was ++ text_of_lines fs) (sym split) ∙ before)))
 
 -- the text of lines that are given piece by piece
-pub text-pieces : {X : Type 0} (f : X → List Statement) (xs : List X) → text_of_lines (flat_map f xs) ≡ flat_map (λ x. text_of_lines (f x)) xs
-text-pieces f [] = refl
-text-pieces f (x ∷ xs) = text-append (f x) (flat_map f xs) ∙ ap (λ ys. text_of_lines (f x) ++ ys) (text-pieces f xs)
+pub text_pieces : {X : Type 0} (f : X → List Statement) (xs : List X) → text_of_lines (flat_map f xs) ≡ flat_map (λ x. text_of_lines (f x)) xs
+text_pieces f [] = refl
+text_pieces f (x ∷ xs) = text_append (f x) (flat_map f xs) ∙ ap (λ ys. text_of_lines (f x) ++ ys) (text_pieces f xs)
 
 -- the text of lines that are given one by one
-pub text-each : {X : Type 0} (f : X → Statement) (xs : List X) → text_of_lines (map f xs) ≡ flat_map (λ x. line_of (spelled (f x))) xs
-text-each f [] = refl
-text-each f (x ∷ xs) = ap (λ ys. line_of (spelled (f x)) ++ ys) (text-each f xs)
+pub text_each : {X : Type 0} (f : X → Statement) (xs : List X) → text_of_lines (map f xs) ≡ flat_map (λ x. line_of (spelled (f x))) xs
+text_each f [] = refl
+text_each f (x ∷ xs) = ap (λ ys. line_of (spelled (f x)) ++ ys) (text_each f xs)
 
 -- the text of a bitmap's rows plane by plane
-pub planes-text : (b : Bitmap) → text_of_lines (flat_map (λ k. map (λ y. RowLine (plane_row b k y)) (range_with_len 0 b.height)) (range_with_len 0 b.depth)) ≡ flat_map (λ k. flat_map (λ y. line_of (flat_map hex_byte (plane_row b k y))) (range_with_len 0 b.height)) (range_with_len 0 b.depth)
-planes-text b =
-    text-pieces (λ k. map (λ y. RowLine (plane_row b k y)) (range_with_len 0 b.height)) (range_with_len 0 b.depth) ∙
+pub planes_text : (b : Bitmap) → text_of_lines (flat_map (λ k. map (λ y. RowLine (plane_row b k y)) (range_with_len 0 b.height)) (range_with_len 0 b.depth)) ≡ flat_map (λ k. flat_map (λ y. line_of (flat_map hex_byte (plane_row b k y))) (range_with_len 0 b.height)) (range_with_len 0 b.depth)
+planes_text b =
+    text_pieces (λ k. map (λ y. RowLine (plane_row b k y)) (range_with_len 0 b.height)) (range_with_len 0 b.depth) ∙
     pieces_same b.depth (λ k. text_of_lines (map (λ y. RowLine (plane_row b k y)) (range_with_len 0 b.height))) (λ k. flat_map (λ y. line_of (flat_map hex_byte (plane_row b k y))) (range_with_len 0 b.height))
-    (λ k below. text-each (λ y. RowLine (plane_row b k y)) (range_with_len 0 b.height))
+    (λ k below. text_each (λ y. RowLine (plane_row b k y)) (range_with_len 0 b.height))
 
 -- the text of lines that were written piece by piece
-pub pieces-text : (f : ℕ → List Statement) (n m : ℕ) (start p : List ℕ) → n ≡ m → p ≡ start ++ flat_map (λ i. text_of_lines (f i)) (range_with_len 0 n) → p ≡ start ++ text_of_lines (flat_map f (range_with_len 0 m))
-pieces-text f n m start p end e =
-    e ∙ (ap (λ k. start ++ flat_map (λ i. text_of_lines (f i)) (range_with_len 0 k)) end ∙ ap (λ xs. start ++ xs) (sym (text-pieces f (range_with_len 0 m))))
+pub pieces_text : (f : ℕ → List Statement) (n m : ℕ) (start p : List ℕ) → n ≡ m → p ≡ start ++ flat_map (λ i. text_of_lines (f i)) (range_with_len 0 n) → p ≡ start ++ text_of_lines (flat_map f (range_with_len 0 m))
+pieces_text f n m start p end e =
+    e ∙ (ap (λ k. start ++ flat_map (λ i. text_of_lines (f i)) (range_with_len 0 k)) end ∙ ap (λ xs. start ++ xs) (sym (text_pieces f (range_with_len 0 m))))
 
 -- glyphs and bitmaps are written as their type shows them
-pub viewed-written : (gs hs : Assets → List Statement) (s t : Assets) (o p q : List ℕ) → s ≡ t → p ≡ o ++ text_of_lines (gs s) → q ≡ p ++ text_of_lines (hs s) → q ≡ o ++ text_of_lines (gs t ++ hs t)
-viewed-written gs hs s t o p q e f h = rw (← e) (more-lines (gs s) (hs s) o p q f h)
+pub viewed_written : (gs hs : Assets → List Statement) (s t : Assets) (o p q : List ℕ) → s ≡ t → p ≡ o ++ text_of_lines (gs s) → q ≡ p ++ text_of_lines (hs s) → q ≡ o ++ text_of_lines (gs t ++ hs t)
+viewed_written gs hs s t o p q e f h = rw (← e) (more_lines (gs s) (hs s) o p q f h)
 
 -- a line is written, and then others in two parts
-pub parts-written : (f : Statement) (gs hs ks : List Statement) (o p q r : List ℕ) → o ≡ [] → p ≡ o ++ line_of (spelled f) → q ≡ p ++ text_of_lines (gs ++ hs) → r ≡ q ++ text_of_lines ks → r ≡ text_of_lines (f ∷ gs ++ hs ++ ks)
-parts-written f gs hs ks o p q r none d e g =
-    more-lines (f ∷ gs ++ hs) ks [] q r
-    (more-lines (f ∷ []) (gs ++ hs) [] p q (line-written f [] p (d ∙ ap (λ xs. xs ++ line_of (spelled f)) none)) e)
+pub parts_written : (f : Statement) (gs hs ks : List Statement) (o p q r : List ℕ) → o ≡ [] → p ≡ o ++ line_of (spelled f) → q ≡ p ++ text_of_lines (gs ++ hs) → r ≡ q ++ text_of_lines ks → r ≡ text_of_lines (f ∷ gs ++ hs ++ ks)
+parts_written f gs hs ks o p q r none d e g =
+    more_lines (f ∷ gs ++ hs) ks [] q r
+    (more_lines (f ∷ []) (gs ++ hs) [] p q (line_written f [] p (d ∙ ap (λ xs. xs ++ line_of (spelled f)) none)) e)
     g

@@ -1,13 +1,13 @@
--- A line as its first word and those behind it, and the text of some lines.
+-- A line as its first word and those after it, and the text of some lines.
 use Rattle.std.specs.Prelude.{ℕ, List, [], ◌∷◌, ◌++◌}
 use Rattle.std.specs.List.{flat_map}
 use Rattle.lw_calls.specs.declared.call.Call.{Call}
 use Rattle.lw_calls.specs.Written.{line_of}
-use Rattle.lw_grammar.specs.LineForms.{Statement}
+use Rattle.lw_grammar.specs.Statements.{Statement}
 use Rattle.lw_canonical.specs.Spelling.{words_of, spelled}
 use Rattle.lw_canonical.specs.Canonical.{line_of_call}
 
--- words that stand behind another, each behind a space
+-- words that stand after another, each after a space
 abbrev pub behind : List (List ℕ) → List ℕ
 behind [] = []
 behind (w ∷ ws) = 32 ∷ w ++ behind ws
@@ -17,7 +17,7 @@ abbrev pub first_word : List (List ℕ) → List ℕ
 first_word [] = []
 first_word (w ∷ ws) = w
 
--- the words behind the first
+-- the words after the first
 abbrev pub other_words : List (List ℕ) → List (List ℕ)
 other_words [] = []
 other_words (w ∷ ws) = ws
@@ -26,10 +26,10 @@ other_words (w ∷ ws) = ws
 abbrev pub words_of_call : List (List ℕ) → List (List ℕ) → Call → List (List ℕ)
 words_of_call names bitmaps call = words_of (line_of_call names bitmaps call)
 
--- what a call's line has behind its first word
+-- what a call's line has after its first word
 abbrev pub rest_of_call : List (List ℕ) → List (List ℕ) → Call → List ℕ
 rest_of_call names bitmaps call = behind (other_words (words_of_call names bitmaps call))
 
--- lines, each with a line feed behind it
+-- lines, each with a line feed after it
 abbrev pub text_of_lines : List Statement → List ℕ
-text_of_lines forms = flat_map (λ form. line_of (spelled form)) forms
+text_of_lines statements = flat_map (λ statement. line_of (spelled statement)) statements

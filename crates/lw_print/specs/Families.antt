@@ -1,4 +1,4 @@
--- Families of calls by what their lines have behind the first word.
+-- Families of calls by what their lines have after the first word.
 use Rattle.std.specs.Prelude.{Bool, true, false}
 use Rattle.lw_calls.specs.declared.call.Call.{Call}
 use Rattle.lw_calls.specs.declared.call.Call.TheVariants.{RegRect, RegPair, RegClear, Create, OpenWindow, Close, ToFront, ToBack, InFrontOf, SetBox, Activate, Which, Fill, Letters, ScrollRaster, Put, Blit, Unclip, BeginRefresh, EndRefresh, SetTitle, TakeMessage}
@@ -42,9 +42,9 @@ makes_a_layer (Create slot make) = true
 makes_a_layer (OpenWindow slot make framed nocare classes title) = true
 makes_a_layer call = false
 
--- one layer comes first, and the numbers end with a box or a rectangle
-abbrev pub has_a_box : Call → Bool
-has_a_box (SetBox slot x y w h) = true
-has_a_box (Fill slot rect) = true
-has_a_box (ScrollRaster slot dx dy rect) = true
-has_a_box call = false
+-- one layer comes first, and the numbers end with a place and a size, or with a rectangle
+abbrev pub ends_with_four_numbers : Call → Bool
+ends_with_four_numbers (SetBox slot x y w h) = true
+ends_with_four_numbers (Fill slot rect) = true
+ends_with_four_numbers (ScrollRaster slot dx dy rect) = true
+ends_with_four_numbers call = false

@@ -4,7 +4,7 @@ use Rattle.std.specs.Prelude.{ℕ, ◌==◌, if◌then◌else◌, List, [], ◌�
 use Rattle.lw_calls.specs.declared.call.Call.{Call}
 use Rattle.lw_calls.specs.declared.group.Group.{Group}
 use Rattle.lw_calls.specs.Plan.{Plan}
-use Rattle.lw_grammar.specs.LineForms.{Statement}
+use Rattle.lw_grammar.specs.Statements.{Statement}
 use Rattle.lw_canonical.specs.Canonical.{line_of_call, is_update, opening_lines, closing_lines}
 
 -- the lines that begin the first of these groups, where it begins at call number n
@@ -23,7 +23,7 @@ lines_at p calls groups n c =
     opening_at p.slot_names calls groups n
     ++ (line_of_call p.slot_names p.bitmap_names c ∷ closing_at p.slot_names calls groups n)
 
--- the groups that are left behind call number n
+-- the groups that are left after call number n
 abbrev pub left_behind : List Group → ℕ → List Group
 left_behind [] n = []
 left_behind (g ∷ gs) n = if g.last == n then gs else g ∷ gs

@@ -2,7 +2,7 @@
 use Rattle.std.specs.Prelude.{ℕ, ◌+◌, List, []}
 use Rattle.std.specs.List.{flat_map, range_with_len, slice_index_or}
 use Rattle.lw_planes.specs.Bitmap.{Bitmap}
-use Rattle.lw_grammar.specs.LineForms.{Statement}
+use Rattle.lw_grammar.specs.Statements.{Statement}
 use Rattle.lw_canonical.specs.Canonical.{enumerated, lines_of_glyph, lines_of_bitmap}
 
 -- the lines of glyphs in the order of their codes

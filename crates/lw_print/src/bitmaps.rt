@@ -4,7 +4,7 @@ ghost use Rattle.std.specs.Prelude.{◌≡◌, ◌++◌, map, pos, OnOk};
 ghost use Rattle.std.specs.List.{flat_map, range_with_len};
 ghost use Rattle.lw_planes.specs.Bitmap.{plane_row};
 ghost use Rattle.lw_canonical.specs.Canonical.{lines_of_bitmap};
-ghost use Rattle.lw_grammar.specs.LineForms.{BitmapLine, RowLine};
+ghost use Rattle.lw_grammar.specs.Statements.{BitmapLine, RowLine};
 ghost use Rattle.lw_calls.specs.Written.{line_of};
 ghost use Rattle.lw_canonical.specs.Spelling.{spelled};
 ghost use Rattle.lw_print.specs.Behind.{text_of_lines};

@@ -3,11 +3,11 @@
 ghost use Rattle.std.specs.Prelude.{◌≡◌, ◌++◌, ◌∷◌, [], List, ℕ, OnOk, IsTrue};
 ghost use Rattle.std.specs.Fmt.{signed_decimal};
 ghost use Rattle.lw_canonical.specs.Canonical.{line_of_call};
-ghost use Rattle.lw_grammar.specs.LineForms.{four};
+ghost use Rattle.lw_grammar.specs.Statements.{four};
 ghost use Rattle.lw_calls.specs.Written.{line_of, hex_byte};
 ghost use Rattle.lw_canonical.specs.Spelling.{spelled, four_words};
 ghost use Rattle.lw_print.specs.Behind.{behind, rest_of_call};
-ghost use Rattle.lw_print.specs.Families.{begins_with_a_layer, has_a_box, has_layer_and_numbers, makes_a_layer};
+ghost use Rattle.lw_print.specs.Families.{begins_with_a_layer, ends_with_four_numbers, has_layer_and_numbers, makes_a_layer};
 
 use crate::making::{push_created, push_opened};
 use crate::verbs::verb_of;
@@ -31,7 +31,7 @@ pub fn push_call(
     end_line(out)
 }
 
-/// Writes what a call's line has behind its first word.
+/// Writes what a call's line has after its first word.
 fn push_rest(
     alloc: Global,
     out: &mut Vec<u8>,
@@ -97,7 +97,7 @@ fn push_placed(
     push_pair(alloc, out, x, y)
 }
 
-/// Writes what the line of a call whose first operand is a layer has behind its first word.
+/// Writes what the line of a call whose first operand is a layer has after its first word.
 fn push_rest_on_layer(
     alloc: Global,
     out: &mut Vec<u8>,
@@ -164,7 +164,7 @@ fn push_layer_made(
     }
 }
 
-/// Writes the layer and the numbers of a call whose line has just these behind its first word.
+/// Writes the layer and the numbers of a call whose line has just these after its first word.
 fn push_layer_and_numbers(
     alloc: Global,
     out: &mut Vec<u8>,
@@ -201,18 +201,18 @@ fn push_layer_and_numbers(
             *x as i32,
             *y as i32,
         ),
-        _ => push_layer_and_box(alloc, out, names, call),
+        _ => push_layer_and_four(alloc, out, names, call),
     }
 }
 
-/// Writes the layer and the numbers of a call that has a box or a rectangle.
-fn push_layer_and_box(
+/// Writes the layer and the numbers of a call that ends with a place and a size, or with a rectangle.
+fn push_layer_and_four(
     alloc: Global,
     out: &mut Vec<u8>,
     names: &[Text],
     call: &Call,
 ) -> Result<(), AllocError>
-    requires { IsTrue (has_a_box call.now) }
+    requires { IsTrue (ends_with_four_numbers call.now) }
     ensures { (bitmaps : List (List ℕ)) → OnOk result (out.new.items ≡ out.old.items ++ rest_of_call names.now bitmaps call.now) }
 {
     match call {
@@ -228,7 +228,7 @@ fn push_layer_and_box(
             push_placed(alloc, out, name_of(names, *slot as usize), *dx, *dy)?;
             push_spaced_bounds(alloc, out, rect)
         }
-        // No other call has a box behind its layer.
+        // No other call ends with a place and a size, or with a rectangle.
         _ => unreachable!(),
     }
 }

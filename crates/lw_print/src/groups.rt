@@ -47,7 +47,7 @@ pub fn push_closing(
     }
 }
 
-/// The groups that are left behind call `number`, of those that were left before it.
+/// The groups that are left after call `number`, of those that were left before it.
 pub fn groups_behind(left: &[Group], number: usize) -> &[Group]
     ensures { result.now ≡ left_behind left.now number }
 {

@@ -1,4 +1,4 @@
-//! What the lines of creations and openings have behind their layer's name.
+//! What the lines of creations and openings have after their layer's name.
 
 ghost use Rattle.std.specs.Prelude.{codes, ◌≡◌, ◌++◌, ◌∷◌, [], OnOk, pos, ◌+ℤ◌, ◌-ℤ◌};
 ghost use Rattle.std.specs.Fmt.{signed_decimal};
@@ -123,12 +123,12 @@ pub fn push_opened(
         ++ opened_words make.now.kind (opened_asked make.now) framed nocare asks)) }
 {
     push_kind_and_place(out, make)?;
-    push_opened_box(alloc, out, make)?;
+    push_place_and_size(alloc, out, make)?;
     push_opened_options(alloc, out, make, framed, nocare, asks)
 }
 
 /// Writes the place of a window on the screen and its size.
-fn push_opened_box(alloc: Global, out: &mut Vec<u8>, make: &Make) -> Result<(), AllocError>
+fn push_place_and_size(alloc: Global, out: &mut Vec<u8>, make: &Make) -> Result<(), AllocError>
     ensures { OnOk result (out.new.items ≡ out.old.items ++ behind (four_words (opened_asked make.now).numbers)) }
 {
     push_four(alloc, out, make.x, make.y, make.w, make.h)

@@ -3,7 +3,7 @@
 ghost use Rattle.std.specs.Prelude.{◌≡◌, ◌++◌, pos, IfOk, OnOk};
 ghost use Rattle.std.specs.List.{flat_map, range_with_len};
 ghost use Rattle.lw_canonical.specs.Canonical.{canonical_text, lines_of_task};
-ghost use Rattle.lw_grammar.specs.LineForms.{ScreenLine};
+ghost use Rattle.lw_grammar.specs.Statements.{ScreenLine};
 ghost use Rattle.lw_calls.specs.Written.{line_of};
 ghost use Rattle.lw_canonical.specs.Spelling.{spelled};
 ghost use Rattle.lw_print.specs.Behind.{text_of_lines};
@@ -18,7 +18,7 @@ use std::alloc::{AllocError, Global};
 
 /// The canonical text of a plan: a script without skipped lines that spells the plan, with each line in its one spelling.
 /// Behind the screen stand the glyphs with some bit set in the order of their codes, the bitmaps with their rows, and the
-/// tasks with their calls. The only error is want of memory (this project's own format).
+/// tasks with their calls. The only error is running out of memory (this project's own format).
 pub fn print(alloc: Global, plan: &Plan) -> Result<Vec<u8>, AllocError>
     ensures { IfOk result (λ text. text.items ≡ canonical_text plan.now) }
 {

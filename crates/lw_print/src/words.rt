@@ -1,8 +1,8 @@
-//! Words behind the first of a line, each behind a space.
+//! Words after the first of a line, each after a space.
 
 ghost use Rattle.std.specs.Prelude.{◌≡◌, ◌++◌, ◌∷◌, [], OnOk, option_map, pos};
 ghost use Rattle.std.specs.Fmt.{signed_decimal};
-ghost use Rattle.lw_grammar.specs.LineForms.{four};
+ghost use Rattle.lw_grammar.specs.Statements.{four};
 ghost use Rattle.lw_calls.specs.Written.{spaced_signed, hex_byte};
 ghost use Rattle.lw_canonical.specs.Spelling.{four_words, flag_words, hook_words, text_word};
 ghost use Rattle.lw_print.specs.Behind.{behind};

@@ -42,11 +42,11 @@ pub record IsMade (d : LiveDraft) (k : Change) : Type 0 where
   pub parts : AreParts k.bounds k.parts.visible
 
 -- the size of the bits, by kind
-pub plain_none : (kind : Kind) (hidden covered : ℕ) (own : Option Bitmap) → is_super kind ≡ false
+pub none_without_bitmap : (kind : Kind) (hidden covered : ℕ) (own : Option Bitmap) → is_super kind ≡ false
     → IsRest kind hidden covered own → own ≡ None
-plain_none Simple hidden covered own plain rest = rest.1
-plain_none Smart hidden covered own plain rest = rest.1
-plain_none SuperBitmap hidden covered own plain rest = absurd (cc plain)
+none_without_bitmap Simple hidden covered own without_bitmap rest = rest.1
+none_without_bitmap Smart hidden covered own without_bitmap rest = rest.1
+none_without_bitmap SuperBitmap hidden covered own without_bitmap rest = absurd (cc without_bitmap)
 
 -- the own bitmap, by kind
 whole_super : (kind : Kind) (d : LiveDraft) → is_super kind ≡ true → own_whole kind d ≡ Some (live_view d).layer.bits
@@ -54,15 +54,15 @@ whole_super Simple d super = absurd (cc super)
 whole_super Smart d super = absurd (cc super)
 whole_super SuperBitmap d super = refl
 
-whole_plain : (kind : Kind) (d : LiveDraft) → is_super kind ≡ false → own_whole kind d ≡ d.superbits
-whole_plain Simple d plain = refl
-whole_plain Smart d plain = refl
-whole_plain SuperBitmap d plain = absurd (cc plain)
+whole_without_bitmap : (kind : Kind) (d : LiveDraft) → is_super kind ≡ false → own_whole kind d ≡ d.superbits
+whole_without_bitmap Simple d without_bitmap = refl
+whole_without_bitmap Smart d without_bitmap = refl
+whole_without_bitmap SuperBitmap d without_bitmap = absurd (cc without_bitmap)
 
-pub plain_size : (d : LiveDraft) (k : Change) → is_super d.kind ≡ false → IsLiveDraft d
+pub size_without_bitmap : (d : LiveDraft) (k : Change) → is_super d.kind ≡ false → IsLiveDraft d
     → ((layout (changed_draft d k)).width ≡ columns k.bounds) × ((layout (changed_draft d k)).height ≡ lines k.bounds)
-plain_size d k plain ok =
-    let none = whole_plain d.kind d plain ∙ plain_none d.kind _ _ d.superbits plain ok.rest in
+size_without_bitmap d k without_bitmap ok =
+    let none = whole_without_bitmap d.kind d without_bitmap ∙ none_without_bitmap d.kind _ _ d.superbits without_bitmap ok.rest in
     (ap (λ o. width_of o k.bounds) none, ap (λ o. height_of o k.bounds) none)
 
 pub super_size : (d : LiveDraft) (k : Change) → is_super d.kind ≡ true

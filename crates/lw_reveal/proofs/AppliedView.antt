@@ -26,31 +26,31 @@ use Rattle.lw_reveal.specs.Changed.{across_to, windowless, carried_to}
 use Rattle.lw_reveal.specs.Handing.{own_whole}
 use Rattle.lw_reveal.specs.Changes.{pen_or_zero, layer_place}
 use Rattle.lw_reveal.proofs.GainedCounts.{counts_kept}
-use Rattle.lw_reveal.proofs.GainedView.{gained_view, carried_plain, carried_own}
-use Rattle.lw_reveal.proofs.AppliedLaws.{changed_draft, IsMade, plain_size, super_size, super_keeps, made_buffers, rectangle_carried}
+use Rattle.lw_reveal.proofs.GainedView.{gained_view, carried_without_bitmap, carried_own}
+use Rattle.lw_reveal.proofs.AppliedLaws.{changed_draft, IsMade, size_without_bitmap, super_size, super_keeps, made_buffers, rectangle_carried}
 
 abbrev over : LiveDraft → Change → Across
 over d k = across_to (live_view d) k.bounds k.parts.visible
 
 -- what is carried, by kind
-abbrev plain_view : LiveDraft → Change → LiveView
-plain_view d k = gained_view k.bounds k.parts.visible (live_view d)
+abbrev view_without_bitmap : LiveDraft → Change → LiveView
+view_without_bitmap d k = gained_view k.bounds k.parts.visible (live_view d)
 
 abbrev super_view : LiveDraft → Change → LiveView
 super_view d k = record (live_view d) { bounds = k.bounds; visible = k.parts.visible }
 
 -- the damage is that of the revealed layer, by kind
-plain_damage : (d : LiveDraft) (k : Change) → is_super d.kind ≡ false → IsMade d k → IsDamageOf (plain_view d k) k.damage
-plain_damage d k plain made = subst (λ c. IsDamageOf c k.damage) (carried_plain (live_view d) k.bounds k.parts.visible plain) made.revealed
+damage_without_bitmap : (d : LiveDraft) (k : Change) → is_super d.kind ≡ false → IsMade d k → IsDamageOf (view_without_bitmap d k) k.damage
+damage_without_bitmap d k without_bitmap made = subst (λ c. IsDamageOf c k.damage) (carried_without_bitmap (live_view d) k.bounds k.parts.visible without_bitmap) made.revealed
 
 super_damage : (d : LiveDraft) (k : Change) → is_super d.kind ≡ true → IsMade d k → IsDamageOf (super_view d k) k.damage
 super_damage d k super made = subst (λ c. IsDamageOf c k.damage) (carried_own (live_view d) k.bounds k.parts.visible super) made.revealed
 
 -- which pixels are kept, by kind
-plain_kept : (d : LiveDraft) (k : Change) (x y : ℕ) → is_super d.kind ≡ false → IsLiveDraft d
-    → keeps (plain_view d k) x y ≡ keeps (live_view (changed_draft d k)) x y
+kept_without_bitmap : (d : LiveDraft) (k : Change) (x y : ℕ) → is_super d.kind ≡ false → IsLiveDraft d
+    → keeps (view_without_bitmap d k) x y ≡ keeps (live_view (changed_draft d k)) x y
 unfolding keeps is_kept
-plain_kept d k x y plain ok = let size = plain_size d k plain ok in rw (size.0, size.1) refl
+kept_without_bitmap d k x y without_bitmap ok = let size = size_without_bitmap d k without_bitmap ok in rw (size.0, size.1) refl
 
 super_kept : (d : LiveDraft) (k : Change) (x y : ℕ) → is_super d.kind ≡ true
     → keeps (super_view d k) x y ≡ keeps (live_view (changed_draft d k)) x y
@@ -66,7 +66,7 @@ holds_same f g (negsuc x) y same = refl
 sizes_by : (d : LiveDraft) (k : Change) (t : Bool) → is_super d.kind ≡ t → IsLiveDraft d → IsMade d k
     → AreSizes (layout (changed_draft d k)).width (layout (changed_draft d k)).height d.depth
 sizes_by d k true super ok made = let size = super_size d k super in rw (size.0, size.1) ok.sizes
-sizes_by d k false plain ok made = let size = plain_size d k plain ok in rw (size.0, size.1) made.size.sizes
+sizes_by d k false without_bitmap ok made = let size = size_without_bitmap d k without_bitmap ok in rw (size.0, size.1) made.size.sizes
 
 scrolled_by : (d : LiveDraft) (k : Change) (t : Bool) → is_super d.kind ≡ t → IsLiveDraft d → IsMade d k
     → IsScrolled (layout (changed_draft d k))
@@ -78,24 +78,24 @@ scrolled_by d k true super ok made =
       right = omega (arith, size.0, made.size.right super);
       lower = omega (arith, size.1, made.size.lower super);
     }
-scrolled_by d k false plain ok made =
-    let size = plain_size d k plain ok in
+scrolled_by d k false without_bitmap ok made =
+    let size = size_without_bitmap d k without_bitmap ok in
     record {
       left = ok.scrolled.left;
       upper = ok.scrolled.upper;
-      right = omega (arith, size.0, ok.scrolled.left plain);
-      lower = omega (arith, size.1, ok.scrolled.upper plain);
+      right = omega (arith, size.0, ok.scrolled.left without_bitmap);
+      lower = omega (arith, size.1, ok.scrolled.upper without_bitmap);
     }
 
 inner_by : (d : LiveDraft) (k : Change) (t : Bool) → is_super d.kind ≡ t → IsLiveDraft d → IsMade d k
     → k.damage.inner ≡ inner_in (live_view (changed_draft d k))
 inner_by d k true super ok made = let size = super_size d k super in rw (size.0, size.1) (super_damage d k super made).inner
-inner_by d k false plain ok made = let size = plain_size d k plain ok in rw (size.0, size.1) (plain_damage d k plain made).inner
+inner_by d k false without_bitmap ok made = let size = size_without_bitmap d k without_bitmap ok in rw (size.0, size.1) (damage_without_bitmap d k without_bitmap made).inner
 
 damaged_by : (d : LiveDraft) (k : Change) (t : Bool) → is_super d.kind ≡ t → IsLiveDraft d → IsMade d k → (x y : ℤ)
     → covers k.damage.rects x y ≡ true → holds_at (λ i j. keeps (live_view (changed_draft d k)) i j) x y ≡ true
 damaged_by d k true super ok made x y has = sym (holds_same _ _ x y (λ i j. super_kept d k i j super)) ∙ (super_damage d k super made).kept x y has
-damaged_by d k false plain ok made x y has = sym (holds_same _ _ x y (λ i j. plain_kept d k i j plain ok)) ∙ (plain_damage d k plain made).kept x y has
+damaged_by d k false without_bitmap ok made x y has = sym (holds_same _ _ x y (λ i j. kept_without_bitmap d k i j without_bitmap ok)) ∙ (damage_without_bitmap d k without_bitmap made).kept x y has
 
 rest_changed : (kind : Kind) (former covered many : ℕ) (d : LiveDraft) (hidden : List Rectangle)
     → IsRest kind former covered d.superbits → many ≡ length (kept_hidden kind hidden)
@@ -162,23 +162,23 @@ pen_chosen false p = refl
 reveal_kept : (d : LiveDraft) (k : Change) (x y : ℕ) → is_super d.kind ≡ false → IsLiveDraft d
     → reveal.keeps (over d k) (resized (over d k) (windowless (live_view d).layer)) x y ≡ keeps (live_view (changed_draft d k)) x y
 unfolding keeps is_kept
-reveal_kept d k x y plain ok = let size = plain_size d k plain ok in rw (size.0, size.1) refl
+reveal_kept d k x y without_bitmap ok = let size = size_without_bitmap d k without_bitmap ok in rw (size.0, size.1) refl
 
 -- the bits, by kind
-plain_bits : (d : LiveDraft) (k : Change) → is_super d.kind ≡ false → IsLiveDraft d → IsMade d k
-    → (live_view (changed_draft d k)).layer.bits ≡ (plain_view d k).layer.bits
-plain_bits d k other ok made =
+bits_without_bitmap : (d : LiveDraft) (k : Change) → is_super d.kind ≡ false → IsLiveDraft d → IsMade d k
+    → (live_view (changed_draft d k)).layer.bits ≡ (view_without_bitmap d k).layer.bits
+bits_without_bitmap d k other ok made =
     let r = changed_draft d k in
     let l = layout r in
     let c = live_view d in
-    let plain : Layer = windowless c.layer in
-    let size = plain_size d k other ok in
+    let unwindowed : Layer = windowless c.layer in
+    let size = size_without_bitmap d k other ok in
     let F : ℕ → ℕ → ℕ = λ x y. pen_from (buffers_of r) l (buffer_at l x y) x y in
-    let G : ℕ → ℕ → ℕ = λ x y. if reveal.keeps (over d k) (resized (over d k) plain) x y then (if counts_as_kept (over d k) plain x y then pen_at c.layer.bits x y else 0) else 0 in
+    let G : ℕ → ℕ → ℕ = λ x y. if reveal.keeps (over d k) (resized (over d k) unwindowed) x y then (if counts_as_kept (over d k) unwindowed x y then pen_at c.layer.bits x y else 0) else 0 in
     bitmap_same l.width l.height d.depth F G
     (λ x y left low.
     let counted = counts_kept c k.bounds k.parts.visible x y in
-    let kept : reveal.keeps (over d k) (resized (over d k) plain) x y ≡ keeps (live_view r) x y = reveal_kept d k x y other ok in
+    let kept : reveal.keeps (over d k) (resized (over d k) unwindowed) x y ≡ keeps (live_view r) x y = reveal_kept d k x y other ok in
     rw (kept, counted) (found_pen d k x y (buffer_at l x y) ok made left low refl ∙ ap (λ p. if keeps (live_view r) x y then p else 0) (pen_chosen (keeps c x y) (pen_at c.layer.bits x y)))) ∙
     (ap (λ w. bitmap w l.height d.depth G) size.0 ∙ ap (λ h. bitmap (columns k.bounds) h d.depth G) size.1)
 
@@ -212,13 +212,13 @@ view_by d k true super ok made =
     ap (λ b. seen d k b (damage_table b k.damage.rects) k.damage.updating) (super_bits d k super ok made) ∙
     (ap (λ t. seen d k c.layer.bits t k.damage.updating) (sym damage.pixels) ∙
     (ap (λ u. seen d k c.layer.bits c.layer.damage u) damage.updating ∙ sym (carried_own c k.bounds k.parts.visible super)))
-view_by d k false plain ok made =
+view_by d k false without_bitmap ok made =
     let c = live_view d in
-    let damage = plain_damage d k plain made in
-    let l = (plain_view d k).layer in
-    ap (λ b. seen d k b (damage_table b k.damage.rects) k.damage.updating) (plain_bits d k plain ok made) ∙
+    let damage = damage_without_bitmap d k without_bitmap made in
+    let l = (view_without_bitmap d k).layer in
+    ap (λ b. seen d k b (damage_table b k.damage.rects) k.damage.updating) (bits_without_bitmap d k without_bitmap ok made) ∙
     (ap (λ t. seen d k l.bits t k.damage.updating) (sym damage.pixels) ∙
-    (ap (λ u. seen d k l.bits l.damage u) damage.updating ∙ sym (carried_plain c k.bounds k.parts.visible plain)))
+    (ap (λ u. seen d k l.bits l.damage u) damage.updating ∙ sym (carried_without_bitmap c k.bounds k.parts.visible without_bitmap)))
 
 -- It stands for the revealed layer.
 pub changed_view : (d : LiveDraft) (k : Change) → IsLiveDraft d → IsMade d k

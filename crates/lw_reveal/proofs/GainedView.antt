@@ -26,13 +26,13 @@ use Rattle.lw_reveal.proofs.GainedCounts.{counted_kept, counted_pixel}
 
 -- what an arrangement carries of a layer, from what is revealed of it without its window, and with it
 abbrev carried_from : Rectangle → List Rectangle → LiveView → Layer → Layer → LiveView
-carried_from bounds visible c plain whole =
+carried_from bounds visible c unwindowed whole =
     record {
       bounds = bounds;
       visible = visible;
       active = c.active;
       room = c.room;
-      layer = record plain { damage = whole.damage; window = c.layer.window };
+      layer = record unwindowed { damage = whole.damage; window = c.layer.window };
     }
 
 -- what the arrangement makes of a layer that isn't a super-bitmap layer
@@ -41,9 +41,9 @@ gained_view bounds visible c =
     let a = across_to c bounds visible in
     carried_from bounds visible c (with_revealed a (windowless c.layer) (resized a (windowless c.layer))) (with_revealed a c.layer (resized a c.layer))
 
-pub carried_plain : (c : LiveView) (bounds : Rectangle) (visible : List Rectangle) → is_super c.layer.kind ≡ false
+pub carried_without_bitmap : (c : LiveView) (bounds : Rectangle) (visible : List Rectangle) → is_super c.layer.kind ≡ false
     → carried_to bounds visible c ≡ gained_view bounds visible c
-carried_plain c bounds visible other =
+carried_without_bitmap c bounds visible other =
     let a = across_to c bounds visible in
     ap (λ l. carried_from bounds visible c l (revealed a c.layer)) (revealed_plain a (windowless c.layer) other)
     ∙ ap (λ l. carried_from bounds visible c (with_revealed a (windowless c.layer) (resized a (windowless c.layer))) l) (revealed_plain a c.layer other)
@@ -184,5 +184,5 @@ damage_gained c bounds visible former d sound ordered inside was lies gained =
     let P : LiveView → Type 0 = λ v. IsDamageOf v d in
     ⊎_elim
     (λ (own : is_super c.layer.kind ≡ true). subst P (sym (carried_own c bounds visible own)) (own_damage c bounds visible former d own was lies gained))
-    (λ (other : is_super c.layer.kind ≡ false). subst P (sym (carried_plain c bounds visible other)) (gained_damage c bounds visible former d sound ordered inside other was gained))
+    (λ (other : is_super c.layer.kind ≡ false). subst P (sym (carried_without_bitmap c bounds visible other)) (gained_damage c bounds visible former d sound ordered inside other was gained))
     (cases_Bool (is_super c.layer.kind))

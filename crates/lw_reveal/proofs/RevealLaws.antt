@@ -18,7 +18,7 @@ use Rattle.lw_layer.specs.StandsFor.{IsSound}
 use Rattle.lw_layer.proofs.InnerLaws.{may_pixel}
 use Rattle.lw_reveal.specs.Changed.{across_to, windowless, carried_to}
 use Rattle.lw_reveal.proofs.GainedCounts.{counts_kept}
-use Rattle.lw_reveal.proofs.GainedView.{gained_view, carried_plain, carried_own}
+use Rattle.lw_reveal.proofs.GainedView.{gained_view, carried_without_bitmap, carried_own}
 
 -- where neither the bounds nor the size change, what the layer keeps afterwards is what it keeps, whatever its window
 kept_after : (c : LiveView) (w : Option Window) (x y : ℕ) → c.layer.bits.width ≡ columns c.bounds
@@ -55,16 +55,16 @@ hook_none t None is = refl
 hook_none t (Some h) is = absurd (cc is)
 
 bits_stay : (c : LiveView) → IsSound c → is_super c.layer.kind ≡ false → (gained_view c.bounds c.visible c).layer.bits ≡ c.layer.bits
-bits_stay c sound plain =
+bits_stay c sound without_bitmap =
     let a = across_to c c.bounds c.visible in
     let l : Layer = windowless c.layer in
     let b = c.layer.bits in
     let F : ℕ → ℕ → ℕ = λ x y. if reveal.keeps a (resized a l) x y then (if counts_as_kept a l x y then pen_at b x y else fill_pen b.depth c.layer.hook x y) else 0 in
-    ap (λ w. bitmap w (lines c.bounds) b.depth F) (sym (sound.wide plain)) ∙
-    (ap (λ h. bitmap b.width h b.depth F) (sym (sound.high plain)) ∙
+    ap (λ w. bitmap w (lines c.bounds) b.depth F) (sym (sound.wide without_bitmap)) ∙
+    (ap (λ h. bitmap b.width h b.depth F) (sym (sound.high without_bitmap)) ∙
     (bitmap_same b.width b.height b.depth F (λ x y. pen_at b x y)
     (λ x y left low.
-    let kept = kept_after c None x y (sound.wide plain) (sound.high plain) in
+    let kept = kept_after c None x y (sound.wide without_bitmap) (sound.high without_bitmap) in
     let counted = counts_kept c c.bounds c.visible x y in
     rw (kept, counted) (pen_stays (keeps c x y) (pen_at b x y) (fill_pen b.depth c.layer.hook x y) (λ off. sound.off_kept x y off))) ∙
     bitmap_again b sound.bits.bitmap))
@@ -72,19 +72,19 @@ bits_stay c sound plain =
 damage_stay : (c : LiveView) (d : Damaged) → IsSound c → IsDamageOf c d
     → ((x y : ℤ) → covers d.rects x y ≡ true → may_lie d.inner x y ≡ true) → is_super c.layer.kind ≡ false
     → (gained_view c.bounds c.visible c).layer.damage ≡ c.layer.damage
-damage_stay c d sound damage lies plain =
+damage_stay c d sound damage lies without_bitmap =
     let a = across_to c c.bounds c.visible in
     let b = c.layer.bits in
     let framed = is_framed c.layer.window in
     let F : ℕ → ℕ → Bool = λ x y. (reveal.keeps a (resized a c.layer) x y && is_inner a c.layer x y) && (if counts_as_kept a c.layer x y then at false c.layer.damage x y else true) in
-    ap (λ w. grid w (lines c.bounds) F) (sym (sound.wide plain)) ∙
-    (ap (λ h. grid b.width h F) (sym (sound.high plain)) ∙
+    ap (λ w. grid w (lines c.bounds) F) (sym (sound.wide without_bitmap)) ∙
+    (ap (λ h. grid b.width h F) (sym (sound.high without_bitmap)) ∙
     (grid_same b.width b.height F (λ x y. covers d.rects (pos x) (pos y))
     (λ x y left low.
-    let kept = kept_after c c.layer.window x y (sound.wide plain) (sound.high plain) in
+    let kept = kept_after c c.layer.window x y (sound.wide without_bitmap) (sound.high without_bitmap) in
     let counted = same_size c x y in
-    let may : may_lie d.inner (pos x) (pos y) ≡ in_inner framed b.width b.height x y = ap (λ o. may_lie o (pos x) (pos y)) damage.inner ∙ may_pixel (is_super c.layer.kind) framed b.width b.height x y plain left low in
-    let inner : may_lie d.inner (pos x) (pos y) ≡ is_inner a c.layer x y = may ∙ (ap (λ w. in_inner framed w b.height x y) (sound.wide plain) ∙ ap (λ h. in_inner framed (columns c.bounds) h x y) (sound.high plain)) in
+    let may : may_lie d.inner (pos x) (pos y) ≡ in_inner framed b.width b.height x y = ap (λ o. may_lie o (pos x) (pos y)) damage.inner ∙ may_pixel (is_super c.layer.kind) framed b.width b.height x y without_bitmap left low in
+    let inner : may_lie d.inner (pos x) (pos y) ≡ is_inner a c.layer x y = may ∙ (ap (λ w. in_inner framed w b.height x y) (sound.wide without_bitmap) ∙ ap (λ h. in_inner framed (columns c.bounds) h x y) (sound.high without_bitmap)) in
     let here : at false c.layer.damage x y ≡ covers d.rects (pos x) (pos y) =
     ap (λ t. at false t x y) damage.pixels ∙ grid_at b.width b.height (λ i j. covers d.rects (pos i) (pos j)) false x y left low in
     rw (kept, counted, here)
@@ -98,7 +98,7 @@ stays_by c d true is sound damage lies = carried_own c c.bounds c.visible is
 stays_by c d false is sound damage lies =
     let r = (gained_view c.bounds c.visible c).layer in
     let seen : Layer → LiveView = λ l. record c { layer = l } in
-    carried_plain c c.bounds c.visible is ∙
+    carried_without_bitmap c c.bounds c.visible is ∙
     (ap (λ b. seen (record c.layer { bits = b; damage = r.damage; hook = r.hook })) (bits_stay c sound is) ∙
     (ap (λ t. seen (record c.layer { damage = t; hook = r.hook })) (damage_stay c d sound damage lies is) ∙
     ap (λ h. seen (record c.layer { hook = h })) (hook_none _ c.layer.hook sound.hook)))

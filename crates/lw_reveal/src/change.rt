@@ -41,7 +41,7 @@ pub struct Change {
 }
 
 /// Makes ready what the live layer becomes once it has these bounds and these visible pixels, both in pixels of the screen. The
-/// cell stays as it is. It fails for want of memory alone.
+/// cell stays as it is. It fails only when out of memory.
 pub fn prepare(
     alloc: Global,
     cell: &Cell,

@@ -3,14 +3,14 @@ use Rattle.std.proofs.Common.{◌≡◌, ℕ, ◌+◌, ◌<◌, ◌≤◌, ◌==
 use Rattle.std.specs.List.{list_any}
 use Rattle.lw_region.specs.Rectangle.{within}
 use Rattle.lw_planes.specs.Bitmap.{row_bytes}
-use Rattle.lw_grammar.specs.LineForms.{Statement, ScreenLine, GlyphLine, BitmapLine, RowLine, TaskLine, CallLine, UnlockLine, ReleaseLine, Act, layers_of, is_act_in_range}
+use Rattle.lw_grammar.specs.Statements.{Statement, ScreenLine, GlyphLine, BitmapLine, RowLine, TaskLine, CallLine, UnlockLine, ReleaseLine, Act, layers_of, is_act_in_range}
 use Rattle.lw_grammar.specs.Told.{asks_super, told}
 use Rattle.lw_grammar.specs.Script.{is_lock_on, is_hold, super_limit}
 use Rattle.lw_calls.specs.Limits.{name_limit, task_limit, bitmap_limit}
-use Rattle.lw_grammar.proofs.ScriptForms.{IsFormHere}
-use Rattle.lw_grammar.proofs.ScriptSizes.{IsFormTested, here, tests, counted}
+use Rattle.lw_grammar.proofs.ScriptStatements.{IsStatementHere}
+use Rattle.lw_grammar.proofs.ScriptSizes.{IsStatementTested, here, tests, counted}
 use Rattle.lw_words.specs.Cuts.{targets}
-use Rattle.lw_words.proofs.Targets.{length-targets}
+use Rattle.lw_words.proofs.Targets.{length_targets}
 use Rattle.lw_script.specs.declared.state.Reader.{Reader}
 use Rattle.lw_script.specs.Represents.{CanAdd, IsBitmapBegun}
 use Rattle.lw_script.proofs.Passing.{none_due}
@@ -19,10 +19,10 @@ use Rattle.std.proofs.lemmas.Bool.Decides.{nat_tests}
 use Rattle.std.proofs.lemmas.Bool.{eqb-false, leb-true, ltb-true, and_parts}
 
 -- what the line is good for, and its tests
-pub here_of : (r : Reader) (f : Statement) (c : CanAdd r f) → IsFormHere c.0 c.1 f
+pub here_of : (r : Reader) (f : Statement) (c : CanAdd r f) → IsStatementHere c.0 c.1 f
 here_of r f c = here c.0 c.1 f c.3
 
-pub tests_of : (r : Reader) (f : Statement) (c : CanAdd r f) → IsFormTested c.0 c.1 f
+pub tests_of : (r : Reader) (f : Statement) (c : CanAdd r f) → IsStatementTested c.0 c.1 f
 tests_of r f c = tests c.0 c.1 f c.3
 
 -- no row is due where the line isn't one
@@ -82,17 +82,17 @@ pub few_names : (r : Reader) (f : Statement) → CanAdd r f → length r.tasks.l
 few_names r f c =
     let few : length (told c.1).names ≤ 64 = (counted c.0 c.1 (c.3).1).names in
     let same : length (targets r.tasks.layer_names.keys) ≡ length (told c.1).names = ap length c.2.tasks.names in
-    let all = length-targets r.tasks.layer_names.keys in
+    let all = length_targets r.tasks.layer_names.keys in
     omega (arith, few, same, all)
 
 pub few_bitmaps : (r : Reader) (f : Statement) → CanAdd r f → length r.assets.names.keys ≤ 16
 few_bitmaps r f c =
     let few : length (told c.1).bitmap_names ≤ 16 = (counted c.0 c.1 (c.3).1).bitmaps in
     let same : length (targets r.assets.names.keys) ≡ length (told c.1).bitmap_names = ap length c.2.assets.names in
-    let all = length-targets r.assets.names.keys in
+    let all = length_targets r.assets.names.keys in
     omega (arith, few, same, all)
 
--- a group's end stands behind a call
+-- a group's end stands after a call
 pub some_unlocked : (r : Reader) (name : List ℕ) → CanAdd r (UnlockLine name) → 0 < r.tasks.so_far
 some_unlocked r name c =
     let t = and_parts (is_lock_on name (told c.1).group) _ (tests_of r (UnlockLine name) c).group in

@@ -63,7 +63,7 @@ none_begun due begun maps above none e = rw none at e
 pub same_bitmap : (w h d v g c : ℕ) (rows : List ℕ) (above : List Bitmap) → w ≡ v → h ≡ g → d ≡ c → above ++ stored w h d rows ∷ [] ≡ above ++ stored v g c rows ∷ []
 same_bitmap w h d v g c rows above a b e = rw (a, b, e) refl
 
--- With a row that isn't the last, the bitmaps are those of the row and the rows behind it.
+-- With a row that isn't the last, the bitmaps are those of the row and the rows after it.
 pub row_added : (due w h d : ℕ) (old new bytes rows : List ℕ) (maps above : List Bitmap) → (due - 1 ≡ 0 → ⊥) → new ≡ old ++ bytes → maps ++ (if due == 0 then [] else stored w h d (old ++ (bytes ++ rows)) ∷ []) ≡ above → maps ++ (if due - 1 == 0 then [] else stored w h d (new ++ rows) ∷ []) ≡ above
 row_added due w h d old new bytes rows maps above some e f =
     let before : maps ++ stored w h d (old ++ (bytes ++ rows)) ∷ [] ≡ above = rw (ne_eqb due 0 (λ none. some (omega (arith, none)))) at f in

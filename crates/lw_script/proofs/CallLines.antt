@@ -4,7 +4,7 @@ use Rattle.std.specs.Bool.{IsTrue}
 use Rattle.lw_calls.specs.declared.call.Call.{Call}
 use Rattle.lw_calls.specs.declared.group.Group.{Group}
 use Rattle.lw_calls.specs.declared.group.Hold.TheVariants.{Slot}
-use Rattle.lw_grammar.specs.LineForms.{Act, RegRectAct, RegPairAct, RegClearAct, CreateAct, OpenAct, InFrontAct, WhichAct, PutAct, BlitAct, EndRefreshAct, Statement, CallLine, layers_of, is_hook_number, is_act_in_range}
+use Rattle.lw_grammar.specs.Statements.{Act, RegRectAct, RegPairAct, RegClearAct, CreateAct, OpenAct, InFrontAct, WhichAct, PutAct, BlitAct, EndRefreshAct, Statement, CallLine, layers_of, is_hook_number, is_act_in_range}
 use Rattle.lw_grammar.specs.Told.{and_names, place_among, onto_last, spelled_call, call_below, hook_on, told}
 use Rattle.lw_grammar.specs.Script.{is_ending}
 use Rattle.lw_lines.specs.CallMeaning.{IsBitmapAt}
@@ -19,13 +19,13 @@ named_none b (RegPairAct op t r) s o e = refl
 named_none b (RegClearAct r) s o e = refl
 named_none b (WhichAct x y) s o e = refl
 named_none b InFrontAct s o e = absurd (omega (arith, e))
-named_none b (BlitAct blitting) s o e = absurd (omega (arith, e))
+named_none b (BlitAct area) s o e = absurd (omega (arith, e))
 named_none b act s o e = absurd (omega (arith, e))
 
 -- one that names one layer doesn't look at further ones
 named_one : (b : List (List ℕ)) (act : Act) (s o : ℕ) → 1 ≡ layers_of act → spelled_call b act (s ∷ o ∷ []) ≡ spelled_call b act (s ∷ [])
 named_one b InFrontAct s o e = absurd (omega (arith, e))
-named_one b (BlitAct blitting) s o e = absurd (omega (arith, e))
+named_one b (BlitAct area) s o e = absurd (omega (arith, e))
 named_one b act s o e = refl
 
 -- no act names three
@@ -35,7 +35,7 @@ at_most_two (RegPairAct op t r) = omega arith
 at_most_two (RegClearAct r) = omega arith
 at_most_two (WhichAct x y) = omega arith
 at_most_two InFrontAct = omega arith
-at_most_two (BlitAct blitting) = omega arith
+at_most_two (BlitAct area) = omega arith
 at_most_two act = omega arith
 
 -- the call, by the numbers of the layers that its line names
@@ -70,7 +70,7 @@ groups_kept above ls act began so_far s old new m e f g h k =
 
 -- the number of the bitmap that an act names, or 0, is its place
 pub bitmap_stands : (bitmaps : List (List ℕ)) (place : ℕ) (act : Act) → place ≡ bitmap_place bitmaps act → IsBitmapAt bitmaps place act
-bitmap_stands bitmaps place (PutAct bm blitting) e = e
+bitmap_stands bitmaps place (PutAct bm area) e = e
 bitmap_stands bitmaps place act e = tt
 
 -- the calls that are kept

@@ -43,7 +43,7 @@ pub only_refused : (s : Setting) (bytes : List ℕ) (r : Result Input ScriptStop
 only_refused s bytes r g line reason b = go r g
   where
     e : outcome_of s bytes ≡ Err (line, reason)
-    e = ap (λ o. o >>= (λ p. Ok (input_from s (told p.forms) (min (length bytes) p.place)))) b
+    e = ap (λ o. o >>= (λ p. Ok (input_from s (told p.statements) (min (length bytes) p.place)))) b
 
     go : (r : Result Input ScriptStop) → Gives r (outcome_of s bytes) → RefusesAt line reason r
     go (Ok input) g = let both : Ok (input_meaning input) ≡ Err (line, reason) = sym g ∙ e in absurd (cc)

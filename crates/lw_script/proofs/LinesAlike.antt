@@ -1,13 +1,13 @@
 -- Reading a line by what the reader knows gives what the grammar gives below the lines that it has read.
 use Rattle.std.proofs.Common.{◌≡◌, ℕ, ◌+◌, Bool, not, cond, List, [], ◌∷◌, ◌++◌, ℤ, unsigned_abs, Option, Some, None, Result, Ok, Err, refl, ap, subst, ◌∙◌}
 use Rattle.lw_grammar.specs.Told.{and_name, and_names, asks_super, hook_on, told_with, told}
-use Rattle.lw_grammar.specs.Script.{Setting, lacks_name, gives_again, are_few, is_no_hook, is_used, has_padding, words_read, form_read, form_tested, line_read}
+use Rattle.lw_grammar.specs.Script.{Setting, lacks_name, gives_again, are_few, is_no_hook, is_used, has_padding, words_read, statement_read, statement_tested, line_read}
 use Rattle.lw_calls.specs.declared.reason.Reason.{Reason}
 use Rattle.lw_calls.specs.declared.reason.Reason.TheVariants.{Range, NoName, DoubleName, Group, TooMany, NoHook, HookUsed, Padding}
 use Rattle.lw_grammar.specs.Demands.{◌>>=◌, demand}
-use Rattle.lw_grammar.specs.LineForms.{Statement, GlyphLine, BitmapLine, TaskLine, CallLine, LockLine, UnlockLine, is_line_in_range}
+use Rattle.lw_grammar.specs.Statements.{Statement, GlyphLine, BitmapLine, TaskLine, CallLine, LockLine, UnlockLine, is_line_in_range}
 use Rattle.lw_script.specs.declared.state.Reader.{Reader}
-use Rattle.lw_lines.specs.declared.form.Statement.{Statement as Form}
+use Rattle.lw_lines.specs.declared.statement.Statement.{Statement as Form}
 use Rattle.lw_words.specs.declared.stop.Stop.{Stop}
 use Rattle.lw_lines.specs.LineReading.{Reads}
 use Rattle.lw_script.specs.ReaderKnows.{known, setting_of}
@@ -54,8 +54,8 @@ module _ (s : Setting) (r : Reader) (above : List Statement) (k : Represents s r
       calls_are (CallLine layers act) = ap (λ n. n + 1) k.tasks.so_far
       calls_are f = k.tasks.so_far
 
-  -- the tests of a form
-  tests_alike : (f : Statement) → form_tested (setting_of r) (known r) f ≡ form_tested s (told above) f
+  -- the tests of a statement
+  tests_alike : (f : Statement) → statement_tested (setting_of r) (known r) f ≡ statement_tested s (told above) f
   tests_alike f =
       chain _ _ _ _ _ _ _ _ _ _ _ _ _ _ (ap (λ ns. lacks_name ns f) k.assets.names) (again f) (rw (k.tasks.group, k.tasks.began, k.tasks.so_far) refl) (few f) (ap (λ n. is_no_hook n (hook_on f)) k.hooks) (used (hook_on f)) (ap (λ n. has_padding n f) k.assets.width)
     where
@@ -66,18 +66,18 @@ module _ (s : Setting) (r : Reader) (above : List Statement) (k : Represents s r
   lines_alike : (line : List ℕ) → line_read (setting_of r) (known r) line ≡ line_read s (told above) line
   lines_alike line = at_words (words_read line)
     where
-      at_form : (o : Result Statement Reason) → (o >>= (λ f. form_tested (setting_of r) (known r) f >>= (λ _. Ok f))) ≡ (o >>= (λ f. form_tested s (told above) f >>= (λ _. Ok f)))
-      at_form (Ok f) = rw (tests_alike f) refl
-      at_form (Err e) = refl
+      at_statement : (o : Result Statement Reason) → (o >>= (λ f. statement_tested (setting_of r) (known r) f >>= (λ _. Ok f))) ≡ (o >>= (λ f. statement_tested s (told above) f >>= (λ _. Ok f)))
+      at_statement (Ok f) = rw (tests_alike f) refl
+      at_statement (Err e) = refl
 
-      Form_of : Result Statement Reason → Result Statement Reason
-      Form_of o = o >>= (λ f. form_tested (setting_of r) (known r) f >>= (λ _. Ok f))
+      Statement_of : Result Statement Reason → Result Statement Reason
+      Statement_of o = o >>= (λ f. statement_tested (setting_of r) (known r) f >>= (λ _. Ok f))
 
-      at_words : (o : Result (List (List ℕ)) Reason) → (o >>= (λ ws. Form_of (form_read r.form (known r).section r.assets.due r.assets.width ws))) ≡ (o >>= (λ ws. form_read s.form (told above).section (told above).rows_due (told above).row_width ws >>= (λ f. form_tested s (told above) f >>= (λ _. Ok f))))
+      at_words : (o : Result (List (List ℕ)) Reason) → (o >>= (λ ws. Statement_of (statement_read r.form (known r).section r.assets.due r.assets.width ws))) ≡ (o >>= (λ ws. statement_read s.form (told above).section (told above).rows_due (told above).row_width ws >>= (λ f. statement_tested s (told above) f >>= (λ _. Ok f))))
       at_words (Err e) = refl
       at_words (Ok ws) =
-          let same : form_read r.form (known r).section r.assets.due r.assets.width ws ≡ form_read s.form (told above).section (told above).rows_due (told above).row_width ws = rw (k.form, k.section, k.assets.due, k.assets.width) refl in
-          ap Form_of same ∙ at_form (form_read s.form (told above).section (told above).rows_due (told above).row_width ws)
+          let same : statement_read r.form (known r).section r.assets.due r.assets.width ws ≡ statement_read s.form (told above).section (told above).rows_due (told above).row_width ws = rw (k.form, k.section, k.assets.due, k.assets.width) refl in
+          ap Statement_of same ∙ at_statement (statement_read s.form (told above).section (told above).rows_due (told above).row_width ws)
 
   -- so the reader reads a line as the grammar does
   pub reads_alike : (line : List ℕ) (answer : Result Form Stop) → Reads answer (line_read (setting_of r) (known r) line) → Reads answer (line_read s (told above) line)

@@ -1,6 +1,6 @@
 -- Lines that leave what the reader has read: of glyphs and bitmaps, or of tasks.
 use Rattle.std.proofs.Common.{◌≡◌, ℕ, ◌==◌, Bool, true, false, List, ◌∷◌, Result, Ok, Err, OnOk, ℤ, subst, ◌∙◌}
-use Rattle.lw_grammar.specs.LineForms.{Statement, ScreenLine, GlyphLine, BitmapLine, RowLine, TaskLine, EndLine, OrderLine, NumbersLine, ReportLine, CallLine, LockLine, UnlockLine, HoldLine, ReleaseLine}
+use Rattle.lw_grammar.specs.Statements.{Statement, ScreenLine, GlyphLine, BitmapLine, RowLine, TaskLine, EndLine, OrderLine, NumbersLine, ReportLine, CallLine, LockLine, UnlockLine, HoldLine, ReleaseLine}
 use Rattle.lw_grammar.specs.Told.{told}
 use Rattle.lw_grammar.specs.Script.{Setting}
 use Rattle.lw_script.specs.declared.state.AssetsRead.{AssetsRead}

@@ -10,7 +10,7 @@ use Rattle.std.proofs.lemmas.List.Sums.{prefix_len-le-length}
 pub found : (p : List ℕ → Bool) (ks : List (Bor (List ℕ))) (i : ℕ) → position (λ k. p k.now) ks ≡ Some i → i ≡ position_or_len p (targets ks)
 found p ks i e = let at : i ≡ position_or_len (λ k. p k.now) ks = grind (arith, common_steps) in at ∙ place_of_target p ks
 
--- where none is found, the place is behind all
+-- where none is found, the place is after all
 pub absent : (p : List ℕ → Bool) (ks : List (Bor (List ℕ))) → position (λ k. p k.now) ks ≡ None → length ks ≡ position_or_len p (targets ks)
 absent p ks e =
     let most : position_or_len (λ k. p k.now) ks ≤ length ks = prefix_len-le-length (λ k. not (p k.now)) ks in

@@ -8,14 +8,14 @@ use Rattle.lw_calls.specs.declared.sizes.Sizes.{Sizes}
 use Rattle.lw_calls.specs.Assets.{Assets}
 use Rattle.lw_calls.specs.Plan.{Plan, IsPlan}
 use Rattle.lw_calls.proofs.TwoTasks.{plan_with}
-use Rattle.lw_grammar.specs.LineForms.{Statement}
+use Rattle.lw_grammar.specs.Statements.{Statement}
 use Rattle.lw_grammar.specs.Told.{told, plan_of}
 use Rattle.lw_grammar.specs.Script.{Setting, may_end, ScriptInput, input_from}
 use Rattle.lw_grammar.proofs.ScriptOutcome.{rows_in_assets}
 use Rattle.lw_grammar.proofs.ScriptSizes.{whole_ends}
 use Rattle.lw_grammar.proofs.ScriptRunnable.{runs_from_good}
 use Rattle.lw_words.specs.Cuts.{targets}
-use Rattle.lw_words.proofs.Targets.{length-targets}
+use Rattle.lw_words.proofs.Targets.{length_targets}
 use Rattle.lw_lines.specs.SectionMeaning.{section_meaning}
 use Rattle.lw_script.specs.declared.state.Reader.{Reader}
 use Rattle.lw_script.specs.Represents.{Represents, HasRead, unfinished}
@@ -24,7 +24,7 @@ use Rattle.std.proofs.lemmas.Bool.{eqb-true}
 -- the number of few names fits 32 bits
 pub names_fit : (keys : List (Bor (List ℕ))) (names : List (List ℕ)) (n : ℕ) → n ≡ length keys → targets keys ≡ names → length names ≤ 64 → Fits w32 n
 names_fit keys names n e d few =
-    let same : length keys ≡ length names = sym (length-targets keys) ∙ ap length d in omega arith
+    let same : length keys ≡ length names = sym (length_targets keys) ∙ ap length d in omega arith
 
 -- the reader's test of the input's end is that of the grammar
 pub ends_alike : (s : Setting) (r : Reader) (above : List Statement) → Represents s r above → may_end r.form (section_meaning r.section) ≡ may_end s.form (told above).section

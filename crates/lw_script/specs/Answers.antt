@@ -3,7 +3,7 @@ use Rattle.std.specs.Prelude.{◌≡◌, ℕ, List, ◌∷◌, Result, Ok, Err}
 use Rattle.lw_calls.specs.declared.form.Form.{Form}
 use Rattle.lw_calls.specs.declared.reason.Reason.{Reason}
 use Rattle.lw_grammar.specs.Demands.{◌>>=◌}
-use Rattle.lw_grammar.specs.LineForms.{Statement}
+use Rattle.lw_grammar.specs.Statements.{Statement}
 use Rattle.lw_grammar.specs.Told.{told}
 use Rattle.lw_grammar.specs.Script.{Setting, Reached, end_read, ScriptInput, input_from}
 use Rattle.lw_script.specs.declared.input.Input.{Input}
@@ -20,17 +20,17 @@ reading_with hooks form = record { hooks = hooks; form = form }
 abbrev pub input_meaning : Input → ScriptInput
 input_meaning i = record { plan = i.plan; order = i.order; rest = i.rest }
 
--- After a line below lines of these forms the reader represents one form more, which is what the grammar gives; or the
--- line's number is told with the grammar's reason; or memory ran out.
+-- After a line below lines with these statements the reader represents one statement more, which is what the grammar gives; or
+-- the line's number is told with the grammar's reason; or memory ran out.
 abbrev pub Takes : Setting → Reader → List Statement → ℕ → Result (Unit {0}) ScriptStop → Result Statement Reason → Type 0
-Takes s new above n (Ok done) r = (form : Statement) × (r ≡ Ok form) × Represents s new (form ∷ above)
+Takes s new above n (Ok done) r = (statement : Statement) × (r ≡ Ok statement) × Represents s new (statement ∷ above)
 Takes s new above n (Err (Refused line reason)) r = (line ≡ n) × (r ≡ Err reason)
 Takes s new above n (Err Memory) r = Unit {0}
 
--- After a further line, skipped or not, the reader represents the forms of the lines with it; or the line's number is told
+-- After a further line, skipped or not, the reader represents the statements of the lines with it; or the line's number is told
 -- with the grammar's reason; or memory ran out.
 abbrev pub Advances : Setting → Reader → ℕ → Result (Unit {0}) ScriptStop → Result (List Statement) Reason → Type 0
-Advances s new n (Ok done) r = (forms : List Statement) × (r ≡ Ok forms) × Represents s new forms
+Advances s new n (Ok done) r = (statements : List Statement) × (r ≡ Ok statements) × Represents s new statements
 Advances s new n (Err (Refused line reason)) r = (line ≡ n) × (r ≡ Err reason)
 Advances s new n (Err Memory) r = Unit {0}
 
@@ -40,11 +40,11 @@ Gives (Ok input) o = o ≡ Ok (input_meaning input)
 Gives (Err (Refused line reason)) o = o ≡ Err (line, reason)
 Gives (Err Memory) o = Unit {0}
 
--- the outcome at the end of the lines, where what stands behind them has this place
+-- the outcome at the end of the lines, where what stands after them has this place
 abbrev pub ended_with : Setting → ℕ → Reached → Result ScriptInput (ℕ × Reason)
 ended_with s place p = do
   q ← end_read s p
-  Ok (input_from s (told q.forms) place)
+  Ok (input_from s (told q.statements) place)
 
 -- The answer is this input, and the answer is this refusal, unless memory ran out.
 abbrev pub GivesInput : ScriptInput → Result Input ScriptStop → Type 0

@@ -1,7 +1,7 @@
 -- What the line of a call tells of the layers, the bitmap and the hooks that it names.
 use Rattle.std.specs.Prelude.{◌≡◌, ℕ, ◌==◌, Bool, List, [], ◌∷◌}
 use Rattle.std.specs.List.{list_any}
-use Rattle.lw_grammar.specs.LineForms.{Act, PutAct}
+use Rattle.lw_grammar.specs.Statements.{Act, PutAct}
 use Rattle.lw_grammar.specs.Told.{and_name, place_among}
 
 -- the number of the first layer that a line names, below lines that name these, and 0 where it names none
@@ -16,7 +16,7 @@ second_place names layers = 0
 
 -- the number of the bitmap that an act names, where the bitmaps have these names, and 0 where it names none
 abbrev pub bitmap_place : List (List ℕ) → Act → ℕ
-bitmap_place bitmaps (PutAct bm blitting) = place_among bitmaps bm
+bitmap_place bitmaps (PutAct bm area) = place_among bitmaps bm
 bitmap_place bitmaps act = 0
 
 -- the hooks that were noted are those that are named

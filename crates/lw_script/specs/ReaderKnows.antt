@@ -3,9 +3,9 @@ use Rattle.std.specs.Prelude.{ℕ, ◌==◌, get_or, false, List, option_map, Re
 use Rattle.std.specs.List.{list_any}
 use Rattle.lw_calls.specs.declared.reason.Reason.{Reason}
 use Rattle.lw_grammar.specs.Demands.{◌>>=◌}
-use Rattle.lw_grammar.specs.LineForms.{Statement}
+use Rattle.lw_grammar.specs.Statements.{Statement}
 use Rattle.lw_grammar.specs.Told.{Told, nothing_told}
-use Rattle.lw_grammar.specs.Script.{Setting, form_read, form_tested}
+use Rattle.lw_grammar.specs.Script.{Setting, statement_read, statement_tested}
 use Rattle.lw_script.specs.declared.state.Reader.{Reader}
 use Rattle.lw_words.specs.Cuts.{targets}
 use Rattle.lw_lines.specs.GroupMeaning.{group_meaning}
@@ -32,9 +32,9 @@ known r =
 abbrev pub setting_of : Reader → Setting
 setting_of r = record { hooks = r.hooks; form = r.form }
 
--- the form of a line of these words, by what the reader knows, or its first reason
+-- the statement of a line of these words, by what the reader knows, or its first reason
 abbrev pub words_known : Reader → List (List ℕ) → Result Statement Reason
 words_known r ws = do
-  form ← form_read r.form (section_meaning r.section) r.assets.due r.assets.width ws
-  _ ← form_tested (setting_of r) (known r) form
-  Ok form
+  statement ← statement_read r.form (section_meaning r.section) r.assets.due r.assets.width ws
+  _ ← statement_tested (setting_of r) (known r) statement
+  Ok statement

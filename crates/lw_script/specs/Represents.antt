@@ -4,7 +4,7 @@ use Rattle.std.specs.List.{list_any}
 use Rattle.lw_planes.specs.Bitmap.{Bitmap, row_bytes}
 use Rattle.lw_planes.specs.Sizes.{AreSizes}
 use Rattle.lw_planes.specs.Storage.{stored}
-use Rattle.lw_grammar.specs.LineForms.{Statement}
+use Rattle.lw_grammar.specs.Statements.{Statement}
 use Rattle.lw_grammar.specs.Told.{told}
 use Rattle.lw_grammar.specs.Script.{Setting, AreGoodLines}
 use Rattle.lw_script.specs.declared.state.AssetsRead.{AssetsRead}
@@ -14,7 +14,7 @@ use Rattle.lw_words.specs.Cuts.{targets}
 use Rattle.lw_lines.specs.GroupMeaning.{group_meaning}
 use Rattle.lw_lines.specs.SectionMeaning.{section_meaning}
 
--- the nearest bitmap, where further rows stand behind those that were read; none where no row of it is due
+-- the nearest bitmap, where further rows stand after those that were read; none where no row of it is due
 abbrev pub unfinished : AssetsRead → List ℕ → List Bitmap
 unfinished a rows = if a.due == 0 then [] else stored a.width a.height a.depth (a.rows.items ++ rows) ∷ []
 
@@ -62,6 +62,6 @@ pub record Represents (s : Setting) (r : Reader) (above : List Statement) : Type
 abbrev pub HasRead : Reader → Type 0
 HasRead r = (s : Setting) × (above : List Statement) × Represents s r above × AreGoodLines s above
 
--- the same, where a line of this form is good below them
+-- the same, where a line with this statement is good below them
 abbrev pub CanAdd : Reader → Statement → Type 0
-CanAdd r form = (s : Setting) × (above : List Statement) × Represents s r above × AreGoodLines s (form ∷ above)
+CanAdd r statement = (s : Setting) × (above : List Statement) × Represents s r above × AreGoodLines s (statement ∷ above)

@@ -2,11 +2,11 @@
 ghost use Rattle.std.specs.Prelude.{◌≡◌, ◌≤◌, ◌++◌, pos, unsigned_abs, IsTrue, OnOk, List, ◌∷◌, length, map};
 ghost use Rattle.std.specs.List.{list_all};
 ghost use Rattle.lw_region.specs.Rectangle.{within};
-ghost use Rattle.lw_grammar.specs.LineForms.{Statement as FormValue, ScreenLine, GlyphLine, BitmapLine, RowLine, TaskLine, EndLine, OrderLine, NumbersLine, ReportLine, CallLine, LockLine, UnlockLine, HoldLine, ReleaseLine};
+ghost use Rattle.lw_grammar.specs.Statements.{Statement as StatementValue, ScreenLine, GlyphLine, BitmapLine, RowLine, TaskLine, EndLine, OrderLine, NumbersLine, ReportLine, CallLine, LockLine, UnlockLine, HoldLine, ReleaseLine};
 ghost use Rattle.lw_words.specs.Digits.{decoded};
 ghost use Rattle.lw_grammar.specs.Script.{Setting};
 ghost use Rattle.lw_words.specs.Cuts.{targets};
-ghost use Rattle.lw_lines.specs.FormMeaning.{form_meaning, act_meaning, layers_meaning};
+ghost use Rattle.lw_lines.specs.StatementMeaning.{statement_meaning, act_meaning, layers_meaning};
 ghost use Rattle.lw_script.specs.CallParts.{bitmap_place};
 ghost use Rattle.lw_script.specs.Represents.{Represents, CanAdd};
 
@@ -30,7 +30,7 @@ impl<'a> Reader<'a> {
     /// Adds the screen's line.
     fn add_screen(&mut self, width: i64, height: i64, depth: i64)
         requires { CanAdd self.old (ScreenLine width height depth) }
-        ensures { (s : Setting) (above : List FormValue) → Represents s self.old above
+        ensures { (s : Setting) (above : List StatementValue) → Represents s self.old above
             → Represents s self.new (ScreenLine width height depth ∷ above) }
     {
         self.width = size(width);
@@ -42,7 +42,7 @@ impl<'a> Reader<'a> {
     /// Adds the glyph of a code.
     fn add_glyph(&mut self, code: u8, digits: &Digits<'a>)
         requires { CanAdd self.old (GlyphLine code (decoded digits.now.digits.now)) }
-        ensures { (s : Setting) (above : List FormValue) → Represents s self.old above
+        ensures { (s : Setting) (above : List StatementValue) → Represents s self.old above
             → Represents s self.new (GlyphLine code (decoded digits.now.digits.now) ∷ above) }
     {
         self.assets.add_glyph(code, digits);
@@ -58,7 +58,7 @@ impl<'a> Reader<'a> {
         depth: i64,
     ) -> Result<(), AllocError>
         requires { CanAdd self.old (BitmapLine name.now width height depth) }
-        ensures { (s : Setting) (above : List FormValue) → Represents s self.old above
+        ensures { (s : Setting) (above : List StatementValue) → Represents s self.old above
             → OnOk result (Represents s self.new (BitmapLine name.entry.now width height depth ∷ above)) }
     {
         self.assets.add_bitmap(alloc, name, width, height, depth)
@@ -67,7 +67,7 @@ impl<'a> Reader<'a> {
     /// Adds a row of the nearest bitmap.
     fn add_row(&mut self, alloc: Global, digits: &Digits<'a>) -> Result<(), AllocError>
         requires { CanAdd self.old (RowLine (decoded digits.now.digits.now)) }
-        ensures { (s : Setting) (above : List FormValue) → Represents s self.old above
+        ensures { (s : Setting) (above : List StatementValue) → Represents s self.old above
             → OnOk result (Represents s self.new (RowLine (decoded digits.now.digits.now) ∷ above)) }
     {
         self.assets.add_row(alloc, digits)
@@ -76,7 +76,8 @@ impl<'a> Reader<'a> {
     /// Adds the end of a task.
     fn add_end(&mut self)
         requires { CanAdd self.old EndLine }
-        ensures { (s : Setting) (above : List FormValue) → Represents s self.old above → Represents s self.new (EndLine ∷ above) }
+        ensures { (s : Setting) (above : List StatementValue) → Represents s self.old above
+            → Represents s self.new (EndLine ∷ above) }
     {
         self.section = Section::Tasks;
     }
@@ -84,16 +85,16 @@ impl<'a> Reader<'a> {
     /// Adds the beginning of an order.
     fn add_order(&mut self)
         requires { CanAdd self.old OrderLine }
-        ensures { (s : Setting) (above : List FormValue) → Represents s self.old above
+        ensures { (s : Setting) (above : List StatementValue) → Represents s self.old above
             → Represents s self.new (OrderLine ∷ above) }
     {
         self.section = Section::Numbers;
     }
 
-    /// Adds the line behind which a report stands.
+    /// Adds the line after which a report stands.
     fn add_report(&mut self)
         requires { CanAdd self.old ReportLine }
-        ensures { (s : Setting) (above : List FormValue) → Represents s self.old above
+        ensures { (s : Setting) (above : List StatementValue) → Represents s self.old above
             → Represents s self.new (ReportLine ∷ above) }
     {
         self.section = Section::Nothing;
@@ -102,7 +103,7 @@ impl<'a> Reader<'a> {
     /// Adds the beginning of a lock on a layer.
     fn add_lock(&mut self, name: &'a [u8]) -> Result<(), AllocError>
         requires { CanAdd self.old (LockLine name.now) }
-        ensures { (s : Setting) (above : List FormValue) → Represents s self.old above
+        ensures { (s : Setting) (above : List StatementValue) → Represents s self.old above
             → OnOk result (Represents s self.new (LockLine name.entry.now ∷ above)) }
     {
         self.tasks.add_lock(name)
@@ -111,7 +112,7 @@ impl<'a> Reader<'a> {
     /// Adds the end of a lock on a layer.
     fn add_unlock(&mut self, name: &'a [u8]) -> Result<(), AllocError>
         requires { CanAdd self.old (UnlockLine name.now) }
-        ensures { (s : Setting) (above : List FormValue) → Represents s self.old above
+        ensures { (s : Setting) (above : List StatementValue) → Represents s self.old above
             → OnOk result (Represents s self.new (UnlockLine name.entry.now ∷ above)) }
     {
         self.tasks.add_unlock(name)
@@ -120,7 +121,7 @@ impl<'a> Reader<'a> {
     /// Adds the beginning of a hold.
     fn add_hold(&mut self)
         requires { CanAdd self.old HoldLine }
-        ensures { (s : Setting) (above : List FormValue) → Represents s self.old above
+        ensures { (s : Setting) (above : List StatementValue) → Represents s self.old above
             → Represents s self.new (HoldLine ∷ above) }
     {
         self.tasks.add_hold();
@@ -129,7 +130,7 @@ impl<'a> Reader<'a> {
     /// Adds the end of a hold.
     fn add_release(&mut self) -> Result<(), AllocError>
         requires { CanAdd self.old ReleaseLine }
-        ensures { (s : Setting) (above : List FormValue) → Represents s self.old above
+        ensures { (s : Setting) (above : List StatementValue) → Represents s self.old above
             → OnOk result (Represents s self.new (ReleaseLine ∷ above)) }
     {
         self.tasks.add_release()
@@ -138,7 +139,7 @@ impl<'a> Reader<'a> {
     /// Adds the beginning of a task.
     fn add_task(&mut self, alloc: Global, name: &'a [u8]) -> Result<(), AllocError>
         requires { CanAdd self.old (TaskLine name.now) }
-        ensures { (s : Setting) (above : List FormValue) → Represents s self.old above
+        ensures { (s : Setting) (above : List StatementValue) → Represents s self.old above
             → OnOk result (Represents s self.new (TaskLine name.entry.now ∷ above)) }
     {
         self.tasks.add_task(alloc, name)?;
@@ -149,7 +150,7 @@ impl<'a> Reader<'a> {
     /// Adds numbers of an order.
     fn add_numbers(&mut self, numbers: &[i64]) -> Result<(), AllocError>
         requires { CanAdd self.old (NumbersLine numbers.now) }
-        ensures { (s : Setting) (above : List FormValue) → Represents s self.old above
+        ensures { (s : Setting) (above : List StatementValue) → Represents s self.old above
             → OnOk result (Represents s self.new (NumbersLine numbers.now ∷ above)) }
     {
         push_numbers(&mut self.order, numbers)
@@ -174,7 +175,7 @@ impl<'a> Reader<'a> {
         act: Act<'a>,
     ) -> Result<(), AllocError>
         requires { CanAdd self.old (CallLine (layers_meaning layers) (act_meaning act)) }
-        ensures { (s : Setting) (above : List FormValue) → Represents s self.old above
+        ensures { (s : Setting) (above : List StatementValue) → Represents s self.old above
             → OnOk result (Represents s self.new (CallLine (layers_meaning layers.entry) (act_meaning act.entry) ∷ above)) }
     {
         let bitmap = self.bitmap_of(&act);
@@ -182,12 +183,12 @@ impl<'a> Reader<'a> {
     }
 
     /// Adds a line below those that were read, where it is good.
-    pub fn add(&mut self, alloc: Global, form: Statement<'a>) -> Result<(), AllocError>
-        requires { CanAdd self.old (form_meaning form) }
-        ensures { (s : Setting) (above : List FormValue) → Represents s self.old above
-            → OnOk result (Represents s self.new (form_meaning form.entry ∷ above)) }
+    pub fn add(&mut self, alloc: Global, statement: Statement<'a>) -> Result<(), AllocError>
+        requires { CanAdd self.old (statement_meaning statement) }
+        ensures { (s : Setting) (above : List StatementValue) → Represents s self.old above
+            → OnOk result (Represents s self.new (statement_meaning statement.entry ∷ above)) }
     {
-        match form {
+        match statement {
             Statement::Screen {
                 width,
                 height,

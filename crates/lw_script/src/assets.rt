@@ -3,7 +3,7 @@ ghost use Rattle.std.specs.Prelude.{◌≡◌, ◌<◌, ◌≤◌, pos, false, I
 ghost use Rattle.std.specs.List.{list_any};
 ghost use Rattle.lw_region.specs.Rectangle.{within};
 ghost use Rattle.lw_planes.specs.Bitmap.{row_bytes};
-ghost use Rattle.lw_grammar.specs.LineForms.{Statement as FormValue, GlyphLine, BitmapLine, RowLine};
+ghost use Rattle.lw_grammar.specs.Statements.{Statement as StatementValue, GlyphLine, BitmapLine, RowLine};
 ghost use Rattle.lw_words.specs.Cuts.{targets};
 ghost use Rattle.lw_words.specs.Digits.{decoded};
 ghost use Rattle.lw_script.specs.Represents.{AssetsRepresent, IsBitmapBegun};
@@ -27,7 +27,7 @@ fn glyph_of(digits: &Digits<'_>) -> [u8; 8]
     rows
 }
 
-/// Puts the bytes that digits spell behind these.
+/// Puts the bytes that digits spell after these.
 fn push_bytes(bytes: &mut Vec<u8>, digits: &Digits<'_>) -> Result<(), AllocError>
     ensures { OnOk result (bytes.new.items ≡ bytes.old.items ++ decoded digits.now.digits.now) }
 {
@@ -43,7 +43,7 @@ impl<'a> AssetsRead<'a> {
         requires code { (32 ≤ code) × (code ≤ 126) }
         requires rows { length (decoded digits.now.digits.now) ≡ 8 }
         requires due { self.old.due ≡ 0 }
-        ensures { (above : List FormValue) → AssetsRepresent self.old above
+        ensures { (above : List StatementValue) → AssetsRepresent self.old above
             → AssetsRepresent self.new (GlyphLine code (decoded digits.now.digits.now) ∷ above) }
     {
         self.given[code as usize] = true;
@@ -64,7 +64,7 @@ impl<'a> AssetsRead<'a> {
         requires depth { IsTrue (within (pos 1) depth (pos 8)) }
         requires due { self.old.due ≡ 0 }
         requires new { list_any (bytes_eq name.now) (targets self.old.names.keys) ≡ false }
-        ensures { (above : List FormValue) → AssetsRepresent self.old above
+        ensures { (above : List StatementValue) → AssetsRepresent self.old above
             → OnOk result (AssetsRepresent self.new (BitmapLine name.entry.now width height depth ∷ above)) }
     {
         self.names.insert(name)?;
@@ -81,7 +81,7 @@ impl<'a> AssetsRead<'a> {
         requires due { 0 < self.old.due }
         requires begun { IsBitmapBegun self.old }
         requires long { length (decoded digits.now.digits.now) ≡ row_bytes self.old.width }
-        ensures { (above : List FormValue) → AssetsRepresent self.old above
+        ensures { (above : List StatementValue) → AssetsRepresent self.old above
             → OnOk result (AssetsRepresent self.new (RowLine (decoded digits.now.digits.now) ∷ above)) }
     {
         push_bytes(&mut self.rows, digits)?;

@@ -1,7 +1,7 @@
 //! What a script gives that was read to its end.
 ghost use Rattle.std.specs.Prelude.{◌≡◌, ℕ, ◌<◌, IfOk, IsTrue, List, [], map, get_or};
 ghost use Rattle.std.specs.List.{range_with_len};
-ghost use Rattle.lw_grammar.specs.LineForms.{Statement as FormValue};
+ghost use Rattle.lw_grammar.specs.Statements.{Statement as StatementValue};
 ghost use Rattle.lw_grammar.specs.Told.{told, plan_of};
 ghost use Rattle.lw_grammar.specs.Script.{Setting, Reached, may_end, input_from};
 ghost use Rattle.lw_words.specs.Cuts.{targets};
@@ -39,7 +39,7 @@ impl<'a> Reader<'a> {
     /// The sizes of the lines that were read.
     fn sizes(&self) -> Sizes
         requires { HasRead self.now }
-        ensures { (s : Setting) (above : List FormValue) → Represents s self.now above
+        ensures { (s : Setting) (above : List StatementValue) → Represents s self.now above
             → result ≡ (plan_of s.hooks (told above)).sizes }
     {
         Sizes {
@@ -58,7 +58,7 @@ impl<'a> Reader<'a> {
     fn input(self, alloc: Global, rest: usize) -> Result<Input, AllocError>
         requires read { HasRead self }
         requires ended { IsTrue (may_end self.form (section_meaning self.section)) }
-        ensures { (s : Setting) (above : List FormValue) → Represents s self.entry above
+        ensures { (s : Setting) (above : List StatementValue) → Represents s self.entry above
             → IfOk result (λ input. input_meaning input ≡ input_from s (told above) rest) }
     {
         let sizes = self.sizes();
@@ -93,11 +93,11 @@ impl<'a> Reader<'a> {
         })
     }
 
-    /// The answer at the input's end, where the next line would have this number and what stands behind the lines begins at
+    /// The answer at the input's end, where the next line would have this number and what stands after the lines begins at
     /// `rest`.
     pub fn finish(self, alloc: Global, number: u32, rest: usize) -> Result<Input, ScriptStop>
         requires { HasRead self }
-        ensures { (s : Setting) (p : Reached) → p.number ≡ number → Represents s self.entry p.forms
+        ensures { (s : Setting) (p : Reached) → p.number ≡ number → Represents s self.entry p.statements
             → Gives result (ended_with s rest p) }
     {
         if !self.section.may_end(self.form) {

@@ -12,7 +12,7 @@ pub struct Input {
     pub plan: Plan,
     /// The numbers of its order, none where the script has none.
     pub order: OrderList,
-    /// Where the bytes behind its line `report` begin, or the number of all bytes where there is no such line.
+    /// Where the bytes after its line `report` begin, or the number of all bytes where there is no such line.
     pub rest: usize,
 }
 

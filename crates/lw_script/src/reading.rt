@@ -1,6 +1,6 @@
-//! The form of a line below those read so far.
+//! The statement of a line below those read so far.
 ghost use Rattle.std.specs.Prelude.{◌≤◌, List};
-ghost use Rattle.lw_grammar.specs.LineForms.{Statement as FormValue};
+ghost use Rattle.lw_grammar.specs.Statements.{Statement as StatementValue};
 ghost use Rattle.lw_grammar.specs.Told.{told};
 ghost use Rattle.lw_grammar.specs.Script.{Setting, line_read};
 ghost use Rattle.lw_words.specs.Cuts.{targets};
@@ -9,18 +9,18 @@ ghost use Rattle.lw_script.specs.ReaderKnows.{known, setting_of, words_known};
 ghost use Rattle.lw_script.specs.Represents.{Represents};
 
 use crate::state::Reader;
-use lw_lines::{Statement, words_form};
+use lw_lines::{Statement, words_statement};
 use lw_words::{Stop, line_words};
 use std::alloc::Global;
 
 impl<'a> Reader<'a> {
-    /// The form of a line of these words, or its first reason.
+    /// The statement of a line of these words, or its first reason.
     fn words_line(&self, alloc: Global, words: &[&'a [u8]]) -> Result<Statement<'a>, Stop>
         requires { self.now.assets.width ≤ 1024 }
         ensures { Reads result (words_known self.now (targets words.now)) }
     {
         let due = self.assets.due;
-        match words_form(
+        match words_statement(
             alloc,
             self.form,
             self.section,
@@ -29,14 +29,14 @@ impl<'a> Reader<'a> {
             words,
         ) {
             Err(stop) => Err(stop),
-            Ok(form) => match self.tested(&form) {
+            Ok(statement) => match self.tested(&statement) {
                 Err(reason) => Err(Stop::Refused(reason)),
-                Ok(()) => Ok(form),
+                Ok(()) => Ok(statement),
             },
         }
     }
 
-    /// The form of a line that isn't skipped, or its first reason.
+    /// The statement of a line that isn't skipped, or its first reason.
     fn line(&self, alloc: Global, line: &'a [u8]) -> Result<Statement<'a>, Stop>
         requires { self.now.assets.width ≤ 1024 }
         ensures { Reads result (line_read (setting_of self.now) (known self.now) line.now) }
@@ -47,10 +47,10 @@ impl<'a> Reader<'a> {
         }
     }
 
-    /// The form of a line that isn't skipped, below the lines that were read, or its first reason.
+    /// The statement of a line that isn't skipped, below the lines that were read, or its first reason.
     pub fn read_line(&self, alloc: Global, line: &'a [u8]) -> Result<Statement<'a>, Stop>
         requires { self.now.assets.width ≤ 1024 }
-        ensures { (s : Setting) (above : List FormValue) → Represents s self.now above
+        ensures { (s : Setting) (above : List StatementValue) → Represents s self.now above
             → Reads result (line_read s (told above) line.now) }
     {
         self.line(alloc, line)

@@ -27,7 +27,7 @@ fn read_lines(alloc: Global, bytes: &[u8], hooks: u32, form: Form) -> Result<Inp
 }
 
 /// Reads a script in this input, where so many hooks are handed in: the plan that its lines spell, the numbers of its order
-/// and the place behind its line `report`; or its first bad line with the first reason. Memory may run out instead. The
+/// and the place after its line `report`; or its first bad line with the first reason. Memory may run out instead. The
 /// bytes are fewer than 4,294,967,295 (this project's own format).
 pub fn read(alloc: Global, bytes: &[u8], hooks: u32, form: Form) -> Result<Input, ScriptStop>
     requires { length bytes.now < 4294967295 }
@@ -36,7 +36,7 @@ pub fn read(alloc: Global, bytes: &[u8], hooks: u32, form: Form) -> Result<Input
     ensures refused { (line : ℕ) (reason : ReasonValue) → result ≡ Err (ScriptStop.Refused line reason)
         → IsFirstBadIn (reading_with hooks form) (lines bytes.now) line reason }
 
-    // What the script is decides the answer, but for want of memory.
+    // What the script is decides the answer, but for running out of memory.
     ensures only_read { (input : ScriptInput) → SpellsInput (reading_with hooks form) bytes.now input
         → GivesInput input result }
     ensures only_refused { (line : ℕ) (reason : ReasonValue)

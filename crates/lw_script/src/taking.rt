@@ -1,8 +1,8 @@
 //! A line taken from the bytes that are left.
 ghost use Rattle.std.specs.Prelude.{List};
-ghost use Rattle.lw_grammar.specs.LineForms.{Statement as FormValue};
+ghost use Rattle.lw_grammar.specs.Statements.{Statement as StatementValue};
 ghost use Rattle.lw_grammar.specs.Told.{told};
-ghost use Rattle.lw_grammar.specs.Script.{Setting, is_nothing_due, line_read, forms_with};
+ghost use Rattle.lw_grammar.specs.Script.{Setting, is_nothing_due, line_read, statements_with};
 ghost use Rattle.lw_lines.specs.SectionMeaning.{section_meaning};
 ghost use Rattle.lw_script.specs.Represents.{Represents, HasRead};
 ghost use Rattle.lw_script.specs.Answers.{Takes, Advances};
@@ -17,7 +17,7 @@ impl<'a> Reader<'a> {
     /// Reads a line that isn't skipped, and adds it.
     pub fn take(&mut self, alloc: Global, number: u32, line: &'a [u8]) -> Result<(), ScriptStop>
         requires { HasRead self.old }
-        ensures { (s : Setting) (above : List FormValue) → Represents s self.old above
+        ensures { (s : Setting) (above : List StatementValue) → Represents s self.old above
             → Takes s self.new above number result (line_read s (told above) line.entry.now) }
     {
         match self.read_line(alloc, line) {
@@ -26,7 +26,7 @@ impl<'a> Reader<'a> {
                 reason,
             }),
             Err(Stop::Memory) => Err(ScriptStop::Memory),
-            Ok(form) => Ok(self.add(alloc, form)?),
+            Ok(statement) => Ok(self.add(alloc, statement)?),
         }
     }
 
@@ -38,8 +38,8 @@ impl<'a> Reader<'a> {
         line: &'a [u8],
     ) -> Result<(), ScriptStop>
         requires { HasRead self.old }
-        ensures { (s : Setting) (above : List FormValue) → Represents s self.old above
-            → Advances s self.new number result (forms_with s above line.entry.now) }
+        ensures { (s : Setting) (above : List StatementValue) → Represents s self.old above
+            → Advances s self.new number result (statements_with s above line.entry.now) }
     {
         if is_skipped(line) {
             return Ok(());
@@ -47,7 +47,7 @@ impl<'a> Reader<'a> {
         self.take(alloc, number, line)
     }
 
-    /// The next line and the bytes behind it, where a further line is read.
+    /// The next line and the bytes after it, where a further line is read.
     pub fn next_line<'b>(&self, rest: &'b [u8]) -> Option<(&'b [u8], &'b [u8])>
         ensures { CutsDue (is_nothing_due (section_meaning self.now.section)) rest.now result }
     {

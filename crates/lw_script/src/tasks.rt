@@ -1,11 +1,11 @@
 //! Tasks, groups and calls added to those that were read.
 ghost use Rattle.std.specs.Prelude.{Bool, ◌≡◌, ℕ, ◌+◌, ◌<◌, ◌≤◌, false, if◌then◌else◌, IsTrue, IfOk, OnOk, List, ◌∷◌, length, map, option_map, bytes_eq};
 ghost use Rattle.std.specs.List.{list_any};
-ghost use Rattle.lw_grammar.specs.LineForms.{Statement as FormValue, TaskLine, LockLine, UnlockLine, HoldLine, ReleaseLine, CallLine, layers_of, is_hook_number, is_act_in_range};
+ghost use Rattle.lw_grammar.specs.Statements.{Statement as StatementValue, TaskLine, LockLine, UnlockLine, HoldLine, ReleaseLine, CallLine, layers_of, is_hook_number, is_act_in_range};
 ghost use Rattle.lw_grammar.specs.Told.{and_name, and_names, place_among, onto_last, asks_super, and_hook, left_open_by, told};
 ghost use Rattle.lw_grammar.specs.Script.{is_ending};
 ghost use Rattle.lw_words.specs.Cuts.{targets};
-ghost use Rattle.lw_lines.specs.FormMeaning.{act_meaning, layers_meaning};
+ghost use Rattle.lw_lines.specs.StatementMeaning.{act_meaning, layers_meaning};
 ghost use Rattle.lw_lines.specs.CallMeaning.{IsBitmapAt};
 ghost use Rattle.lw_lines.specs.GroupMeaning.{group_meaning};
 ghost use Rattle.lw_script.specs.CallParts.{first_place, second_place, AreNoted};
@@ -109,7 +109,7 @@ fn group_below<'a>(
 
 /// How many calls a task had when the group began that is open below a call.
 fn began_below(began: u32, so_far: u32, act: &Act<'_>) -> u32
-    ensures { (above : List FormValue) → began ≡ (told above).began → so_far ≡ (told above).so_far
+    ensures { (above : List StatementValue) → began ≡ (told above).began → so_far ≡ (told above).so_far
         → (layers : List (List ℕ)) → result ≡ (told (CallLine layers (act_meaning act.now) ∷ above)).began }
 {
     match act {
@@ -122,7 +122,7 @@ impl<'a> TasksRead<'a> {
     /// Begins a task.
     pub(crate) fn add_task(&mut self, alloc: Global, name: &'a [u8]) -> Result<(), AllocError>
         requires new { list_any (bytes_eq name.now) (targets self.old.task_names.keys) ≡ false }
-        ensures { (above : List FormValue) → TasksRepresent self.old above
+        ensures { (above : List StatementValue) → TasksRepresent self.old above
             → OnOk result (TasksRepresent self.new (TaskLine name.entry.now ∷ above)) }
     {
         self.task_names.insert(name)?;
@@ -135,7 +135,7 @@ impl<'a> TasksRead<'a> {
     /// Begins a lock on a layer.
     pub(crate) fn add_lock(&mut self, name: &'a [u8]) -> Result<(), AllocError>
         requires few { length self.old.layer_names.keys ≤ 64 }
-        ensures { (above : List FormValue) → TasksRepresent self.old above
+        ensures { (above : List StatementValue) → TasksRepresent self.old above
             → OnOk result (TasksRepresent self.new (LockLine name.entry.now ∷ above)) }
     {
         numbered(&mut self.layer_names, name)?;
@@ -146,7 +146,7 @@ impl<'a> TasksRead<'a> {
 
     /// Begins a hold.
     pub(crate) fn add_hold(&mut self)
-        ensures { (above : List FormValue) → TasksRepresent self.old above → TasksRepresent self.new (HoldLine ∷ above) }
+        ensures { (above : List StatementValue) → TasksRepresent self.old above → TasksRepresent self.new (HoldLine ∷ above) }
     {
         self.group = Some(OpenGroup::Held);
         self.began = self.so_far;
@@ -156,7 +156,7 @@ impl<'a> TasksRead<'a> {
     pub(crate) fn add_unlock(&mut self, name: &'a [u8]) -> Result<(), AllocError>
         requires few { length self.old.layer_names.keys ≤ 64 }
         requires some { 0 < self.old.so_far }
-        ensures { (above : List FormValue) → TasksRepresent self.old above
+        ensures { (above : List StatementValue) → TasksRepresent self.old above
             → OnOk result (TasksRepresent self.new (UnlockLine name.entry.now ∷ above)) }
     {
         let slot = numbered(&mut self.layer_names, name)?;
@@ -173,7 +173,7 @@ impl<'a> TasksRead<'a> {
     /// Ends a hold, which has calls.
     pub(crate) fn add_release(&mut self) -> Result<(), AllocError>
         requires some { 0 < self.old.so_far }
-        ensures { (above : List FormValue) → TasksRepresent self.old above
+        ensures { (above : List StatementValue) → TasksRepresent self.old above
             → OnOk result (TasksRepresent self.new (ReleaseLine ∷ above)) }
     {
         let group = Group {
@@ -199,7 +199,7 @@ impl<'a> TasksRead<'a> {
         requires few { length self.old.layer_names.keys ≤ 64 }
         requires room { self.old.so_far < 4096 }
         requires supers { self.old.supers ≤ 16 }
-        ensures { (above : List FormValue) → IsBitmapAt (told above).bitmap_names bitmap (act_meaning act.entry)
+        ensures { (above : List StatementValue) → IsBitmapAt (told above).bitmap_names bitmap (act_meaning act.entry)
             → TasksRepresent self.old above
             → OnOk result (TasksRepresent self.new (CallLine (layers_meaning layers.entry) (act_meaning act.entry) ∷ above)) }
     {

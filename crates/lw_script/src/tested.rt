@@ -1,10 +1,10 @@
-//! The tests of a line's form by what was read so far.
+//! The tests of a line's statement by what was read so far.
 ghost use Rattle.std.specs.Prelude.{◌≡◌, nat_le, length, IsTrue};
 ghost use Rattle.lw_calls.specs.Limits.{call_limit};
-ghost use Rattle.lw_grammar.specs.LineForms.{is_line_in_range};
+ghost use Rattle.lw_grammar.specs.Statements.{is_line_in_range};
 ghost use Rattle.lw_grammar.specs.Told.{and_name, hook_on, told_with};
-ghost use Rattle.lw_grammar.specs.Script.{lacks_name, gives_again, group_has_calls, fits_group, super_limit, are_few, is_no_hook, is_used, has_padding, form_tested};
-ghost use Rattle.lw_lines.specs.FormMeaning.{form_meaning};
+ghost use Rattle.lw_grammar.specs.Script.{lacks_name, gives_again, group_has_calls, fits_group, super_limit, are_few, is_no_hook, is_used, has_padding, statement_tested};
+ghost use Rattle.lw_lines.specs.StatementMeaning.{statement_meaning};
 ghost use Rattle.lw_script.specs.ReaderKnows.{known, setting_of};
 
 use crate::state::{Reader, has_hook, has_name};
@@ -25,10 +25,10 @@ const CALL_LIMIT: u32 = 4096;
 
 impl<'a> Reader<'a> {
     /// Whether it is a line `put` whose bitmap doesn't stand above.
-    fn lacks_name(&self, form: &Statement<'a>) -> bool
-        ensures { result ≡ lacks_name (known self.now).bitmap_names (form_meaning form.now) }
+    fn lacks_name(&self, statement: &Statement<'a>) -> bool
+        ensures { result ≡ lacks_name (known self.now).bitmap_names (statement_meaning statement.now) }
     {
-        match form {
+        match statement {
             Statement::Call {
                 act: Act::Put { bitmap, .. },
                 ..
@@ -38,10 +38,10 @@ impl<'a> Reader<'a> {
     }
 
     /// Whether the line gives a bitmap, a task or a code again.
-    fn gives_again(&self, form: &Statement<'a>) -> bool
-        ensures { result ≡ gives_again (known self.now) (form_meaning form.now) }
+    fn gives_again(&self, statement: &Statement<'a>) -> bool
+        ensures { result ≡ gives_again (known self.now) (statement_meaning statement.now) }
     {
-        match form {
+        match statement {
             Statement::Glyph { code, .. } => self.assets.given[*code as usize],
             Statement::Bitmap { name, .. } => has_name(&self.assets.names, name),
             Statement::Task(name) => has_name(&self.tasks.task_names, name),
@@ -50,30 +50,30 @@ impl<'a> Reader<'a> {
     }
 
     /// How many tasks there are with the line.
-    fn tasks_with(&self, form: &Statement<'a>) -> usize
-        ensures { result ≡ length (told_with (form_meaning form.now) (known self.now)).tasks }
+    fn tasks_with(&self, statement: &Statement<'a>) -> usize
+        ensures { result ≡ length (told_with (statement_meaning statement.now) (known self.now)).tasks }
     {
-        match form {
+        match statement {
             Statement::Task(_) => self.tasks.task_names.len() + 1,
             _ => self.tasks.task_names.len(),
         }
     }
 
     /// How many bitmaps there are with the line.
-    fn bitmaps_with(&self, form: &Statement<'a>) -> usize
-        ensures { result ≡ length (told_with (form_meaning form.now) (known self.now)).bitmap_names }
+    fn bitmaps_with(&self, statement: &Statement<'a>) -> usize
+        ensures { result ≡ length (told_with (statement_meaning statement.now) (known self.now)).bitmap_names }
     {
-        match form {
+        match statement {
             Statement::Bitmap { .. } => self.assets.names.len() + 1,
             _ => self.assets.names.len(),
         }
     }
 
     /// Whether the line's call is one too many.
-    fn has_room_for_call(&self, form: &Statement<'a>) -> bool
-        ensures { result ≡ nat_le (told_with (form_meaning form.now) (known self.now)).so_far call_limit }
+    fn has_room_for_call(&self, statement: &Statement<'a>) -> bool
+        ensures { result ≡ nat_le (told_with (statement_meaning statement.now) (known self.now)).so_far call_limit }
     {
-        match form {
+        match statement {
             Statement::Task(_) => true,
             Statement::Call { .. } => self.tasks.so_far < CALL_LIMIT,
             _ => self.tasks.so_far <= CALL_LIMIT,
@@ -81,10 +81,10 @@ impl<'a> Reader<'a> {
     }
 
     /// Whether the line's super-bitmap layer is one too many.
-    fn has_room_for_super(&self, form: &Statement<'a>) -> bool
-        ensures { result ≡ nat_le (told_with (form_meaning form.now) (known self.now)).supers super_limit }
+    fn has_room_for_super(&self, statement: &Statement<'a>) -> bool
+        ensures { result ≡ nat_le (told_with (statement_meaning statement.now) (known self.now)).supers super_limit }
     {
-        match form {
+        match statement {
             Statement::Call { act, .. } if act.asks_super() => self.tasks.supers < SUPER_LIMIT,
             _ => self.tasks.supers <= SUPER_LIMIT,
         }
@@ -118,10 +118,10 @@ impl<'a> Reader<'a> {
     }
 
     /// How many layer names there are with those of the line.
-    fn names_with(&self, form: &Statement<'a>) -> usize
-        ensures { result ≡ length (told_with (form_meaning form.now) (known self.now)).names }
+    fn names_with(&self, statement: &Statement<'a>) -> usize
+        ensures { result ≡ length (told_with (statement_meaning statement.now) (known self.now)).names }
     {
-        match form {
+        match statement {
             Statement::Lock(name) | Statement::Unlock(name) => self.with_name(name),
             Statement::Call {
                 layers: Layers::One(name),
@@ -136,80 +136,80 @@ impl<'a> Reader<'a> {
     }
 
     /// Whether nothing of the line is one too many.
-    fn has_room(&self, form: &Statement<'a>) -> bool
-        ensures { result ≡ are_few (told_with (form_meaning form.now) (known self.now)) }
+    fn has_room(&self, statement: &Statement<'a>) -> bool
+        ensures { result ≡ are_few (told_with (statement_meaning statement.now) (known self.now)) }
     {
-        ((self.tasks_with(form) <= TASK_LIMIT && self.bitmaps_with(form) <= BITMAP_LIMIT)
-            && self.names_with(form) <= NAME_LIMIT)
-            && (self.has_room_for_super(form) && self.has_room_for_call(form))
+        ((self.tasks_with(statement) <= TASK_LIMIT && self.bitmaps_with(statement) <= BITMAP_LIMIT)
+            && self.names_with(statement) <= NAME_LIMIT)
+            && (self.has_room_for_super(statement) && self.has_room_for_call(statement))
     }
 
     /// Whether there is no hook of the number that the line names.
-    fn is_no_hook(&self, form: &Statement<'a>) -> bool
-        requires { IsTrue (is_line_in_range (form_meaning form.now)) }
-        ensures { result ≡ is_no_hook self.now.hooks (hook_on (form_meaning form.now)) }
+    fn is_no_hook(&self, statement: &Statement<'a>) -> bool
+        requires { IsTrue (is_line_in_range (statement_meaning statement.now)) }
+        ensures { result ≡ is_no_hook self.now.hooks (hook_on (statement_meaning statement.now)) }
     {
-        match form.hook() {
+        match statement.hook() {
             None => false,
             Some(number) => number.unsigned_abs() >= u64::from(self.hooks),
         }
     }
 
     /// Whether the hook that the line names is used.
-    fn is_used(&self, form: &Statement<'a>) -> bool
-        requires { IsTrue (is_line_in_range (form_meaning form.now)) }
-        ensures { result ≡ is_used (known self.now).used (hook_on (form_meaning form.now)) }
+    fn is_used(&self, statement: &Statement<'a>) -> bool
+        requires { IsTrue (is_line_in_range (statement_meaning statement.now)) }
+        ensures { result ≡ is_used (known self.now).used (hook_on (statement_meaning statement.now)) }
     {
-        match form.hook() {
+        match statement.hook() {
             None => false,
             Some(number) => has_hook(&self.tasks.used, &hook(number)),
         }
     }
 
-    /// Whether a bit of the row behind the bitmap's width is 1.
-    fn has_padding(&self, form: &Statement<'a>) -> bool
-        ensures { result ≡ has_padding (known self.now).row_width (form_meaning form.now) }
+    /// Whether a bit of the row after the bitmap's width is 1.
+    fn has_padding(&self, statement: &Statement<'a>) -> bool
+        ensures { result ≡ has_padding (known self.now).row_width (statement_meaning statement.now) }
     {
-        match form {
+        match statement {
             Statement::Row(digits) => digits.has_bit_from(self.assets.width),
             _ => false,
         }
     }
 
     /// Whether the open group may have the line.
-    fn fits_group(&self, form: &Statement<'a>) -> bool
+    fn fits_group(&self, statement: &Statement<'a>) -> bool
         ensures { result
-            ≡ fits_group (known self.now).group (group_has_calls (known self.now)) (form_meaning form.now) }
+            ≡ fits_group (known self.now).group (group_has_calls (known self.now)) (statement_meaning statement.now) }
     {
-        form.fits_group(&self.tasks.group, self.tasks.began < self.tasks.so_far)
+        statement.fits_group(&self.tasks.group, self.tasks.began < self.tasks.so_far)
     }
 
-    /// The first reason for which a line of this form is bad, if it is bad.
-    pub fn tested(&self, form: &Statement<'a>) -> Result<(), Reason>
-        ensures { result ≡ form_tested (setting_of self.now) (known self.now) (form_meaning form.now) }
+    /// The first reason for which a line with this statement is bad, if it is bad.
+    pub fn tested(&self, statement: &Statement<'a>) -> Result<(), Reason>
+        ensures { result ≡ statement_tested (setting_of self.now) (known self.now) (statement_meaning statement.now) }
     {
-        if !form.is_in_range() {
+        if !statement.is_in_range() {
             return Err(Reason::Range);
         }
-        if self.lacks_name(form) {
+        if self.lacks_name(statement) {
             return Err(Reason::NoName);
         }
-        if self.gives_again(form) {
+        if self.gives_again(statement) {
             return Err(Reason::DoubleName);
         }
-        if !self.fits_group(form) {
+        if !self.fits_group(statement) {
             return Err(Reason::Group);
         }
-        if !self.has_room(form) {
+        if !self.has_room(statement) {
             return Err(Reason::TooMany);
         }
-        if self.is_no_hook(form) {
+        if self.is_no_hook(statement) {
             return Err(Reason::NoHook);
         }
-        if self.is_used(form) {
+        if self.is_used(statement) {
             return Err(Reason::HookUsed);
         }
-        if self.has_padding(form) {
+        if self.has_padding(statement) {
             return Err(Reason::Padding);
         }
         Ok(())

@@ -189,7 +189,7 @@ fn pair_word(op: PairOp) -> &'static str {
     }
 }
 
-// Words with a text's bytes behind them.
+// Words with a text's bytes after them.
 fn with_bytes(alloc: Global, mut words: String, text: &Text) -> Result<String, AllocError> {
     for byte in text.bytes() {
         words.push_str(format!(in alloc; " {byte}")?.as_str())?;
@@ -310,7 +310,7 @@ fn has_groups(plan: &Plan, task: u32, due: &[Group]) -> bool {
     plan.groups(task) == due
 }
 
-// Names with a space behind each.
+// Names with a space after each.
 fn joined(alloc: Global, names: &[Text]) -> Result<Vec<u8>, AllocError> {
     let mut bytes = Vec::new(alloc);
     for name in names {
@@ -410,7 +410,7 @@ fn a_script_gives_its_glyphs_and_bitmaps(rt: HostRuntime) -> Result<(), Fail> {
     Ok(())
 }
 
-// Inputs, and where what stands behind their line `report` begins.
+// Inputs, and where what stands after their line `report` begins.
 static RESTS: [(Form, &str, usize); 9] = [
     (Form::Plain, "screen 1 1 1\ntask a\nend", 23),
     (Form::Plain, "screen 1 1 1\ntask a\nend\n\n# n\n", 29),

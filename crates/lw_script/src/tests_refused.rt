@@ -56,7 +56,7 @@ static SCRIPTS: [Refused; 39] = [
         at: (Form::Ordered, 0, 4, Reason::Misplaced),
         scripts: &[
             "screen 16 4 1\ntask a\nend\nreport\n", // a report where an order is due
-            "screen 16 4 1\ntask a\nend\nfill w 0 0 1 1\n", // a call behind a task
+            "screen 16 4 1\ntask a\nend\nfill w 0 0 1 1\n", // a call after a task
             "screen 16 4 1\ntask a\nlock w\norder\n", // in a group
         ],
     },
@@ -96,13 +96,13 @@ static SCRIPTS: [Refused; 39] = [
     Refused {
         at: (Form::Ordered, 0, 6, Reason::Form),
         scripts: &[
-            "screen 16 4 1\ntask a\nend\norder\n0\norder\n", // a second line `order` behind numbers
+            "screen 16 4 1\ntask a\nend\norder\n0\norder\n", // a second line `order` after numbers
         ],
     },
     Refused {
         at: (Form::Ordered, 0, 5, Reason::Range),
         scripts: &[
-            "screen 16 4 1\ntask a\nend\norder\n16\n", // the number behind the last
+            "screen 16 4 1\ntask a\nend\norder\n16\n", // the number after the last
             "screen 16 4 1\ntask a\nend\norder\n-1\n", // the number before the first
             "screen 16 4 1\ntask a\nend\norder\n0 15 16\n", // the last of three
             "screen 16 4 1\ntask a\nend\norder\n4294967296\n", // 2 to the 32nd
@@ -112,7 +112,7 @@ static SCRIPTS: [Refused; 39] = [
     Refused {
         at: (Form::Ordered, 0, 7, Reason::Range),
         scripts: &[
-            "screen 16 4 1\ntask a\nend\norder\n0 15\n# 16\n16\n", // behind other numbers and a comment
+            "screen 16 4 1\ntask a\nend\norder\n0 15\n# 16\n16\n", // after other numbers and a comment
         ],
     },
     Refused {
@@ -129,7 +129,7 @@ static SCRIPTS: [Refused; 39] = [
         scripts: &[
             "screen 16 4 1\ntask a\nend\norder\n0 \"1\n", // a text without an end
             "screen 16 4 1\ntask a\nend\norder\n\"0\" 1\n", // a text as the first of two words
-            "screen 16 4 1\ntask a\nend\norder\n0\"\n", // a quote behind a number
+            "screen 16 4 1\ntask a\nend\norder\n0\"\n", // a quote after a number
         ],
     },
     Refused {
@@ -149,7 +149,7 @@ static SCRIPTS: [Refused; 39] = [
         at: (Form::Ordered, 0, 6, Reason::DoubleName),
         scripts: &[
             "screen 16 4 1\ntask a\nend\ntask b\nend\ntask b\n", // the second one's name
-            "screen 16 4 1\ntask a\nend\ntask b\nend\ntask a\n", // the first one's name behind another
+            "screen 16 4 1\ntask a\nend\ntask b\nend\ntask a\n", // the first one's name after another
         ],
     },
     Refused {
@@ -201,10 +201,10 @@ static SCRIPTS: [Refused; 39] = [
     Refused {
         at: (Form::Audited, 0, 4, Reason::Spacing),
         scripts: &[
-            "screen 16 4 1\ntask a\nend\nreport \n", // a space behind `report`
+            "screen 16 4 1\ntask a\nend\nreport \n", // a space after `report`
         ],
     },
-    // Hooks that are handed in, from 0 on. A script whose hook is taken is refused behind it, where the line `end` is missing.
+    // Hooks that are handed in, from 0 on. A script whose hook is taken is refused after it, where the line `end` is missing.
     Refused {
         at: (Form::Plain, 3, 3, Reason::NoHook),
         scripts: &[
@@ -249,7 +249,7 @@ static SCRIPTS: [Refused; 39] = [
     Refused {
         at: (Form::Plain, 4294967295, 3, Reason::NoHook),
         scripts: &[
-            "screen 16 4 1\ntask a\ncreate w smart front 0 0 7 3 hook 4294967295\n", // behind the most that can be handed in
+            "screen 16 4 1\ntask a\ncreate w smart front 0 0 7 3 hook 4294967295\n", // after the most that can be handed in
         ],
     },
     Refused {
@@ -300,7 +300,7 @@ enum Many {
     Digits,
 }
 
-// What stands behind so many of them in an input with an order that is refused on this line for this reason.
+// What stands after so many of them in an input with an order that is refused on this line for this reason.
 struct Counted {
     at: (Many, u32, u32, Reason),
     behind: &'static [&'static str],

@@ -15,8 +15,8 @@ Decides s bytes r = MatchResult r (λ p. IsSpelled s bytes) (λ e. IsFirstBadIn 
 pub decided : (s : Setting) (bytes : List ℕ) → Decides s bytes (lines_read s at_the_top (lines bytes))
 decided s bytes = go (lines_read s at_the_top (lines bytes)) (reads_decide s bytes)
   where
-    go : (r : Result Reached (ℕ × Reason)) → MatchResult r (λ p. SpellsInput s bytes (input_from s (told p.forms) (min (length bytes) p.place))) (λ e. IsFirstBadIn s (lines bytes) e.0 e.1) → Decides s bytes r
-    go (Ok p) h = (input_from s (told p.forms) (min (length bytes) p.place), h)
+    go : (r : Result Reached (ℕ × Reason)) → MatchResult r (λ p. SpellsInput s bytes (input_from s (told p.statements) (min (length bytes) p.place))) (λ e. IsFirstBadIn s (lines bytes) e.0 e.1) → Decides s bytes r
+    go (Ok p) h = (input_from s (told p.statements) (min (length bytes) p.place), h)
     go (Err e) h = h
 
 -- the same of each of these scripts, read alone and with no hook

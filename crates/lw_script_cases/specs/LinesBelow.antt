@@ -5,30 +5,31 @@ use Rattle.std.specs.Fmt.{decimal}
 use Rattle.lw_calls.specs.declared.form.Form.{Form}
 use Rattle.lw_calls.specs.declared.reason.Reason.{Reason}
 use Rattle.lw_grammar.specs.Demands.{◌>>=◌}
-use Rattle.lw_grammar.specs.LineForms.{Statement}
+use Rattle.lw_grammar.specs.Statements.{Statement}
 use Rattle.lw_grammar.specs.Lines.{lines}
 use Rattle.lw_grammar.specs.Told.{told}
-use Rattle.lw_grammar.specs.Script.{Setting, words_read, form_read, line_read}
+use Rattle.lw_grammar.specs.Script.{Setting, words_read, statement_read, line_read}
 use Rattle.lw_script_cases.specs.WholeScripts.{script, in_task_a}
 
--- the forms of lines whose words fit forms, put on those of the lines above them
-abbrev pub and_form : Result Statement Reason → List Statement → List Statement
-and_form (Ok form) above = form ∷ above
-and_form (Err reason) above = above
+-- the statements of lines whose words make statements, put on those of the lines above them
+abbrev pub and_statement : Result Statement Reason → List Statement → List Statement
+and_statement (Ok statement) above = statement ∷ above
+and_statement (Err reason) above = above
 
-abbrev pub forms_below : Form → List Statement → List (List ℕ) → List Statement
-forms_below form above [] = above
-forms_below form above (line ∷ ls) =
-    forms_below form (and_form (words_read line >>= (λ ws. form_read form (told above).section (told above).rows_due (told above).row_width ws)) above) ls
+abbrev pub statements_below : Form → List Statement → List (List ℕ) → List Statement
+statements_below form above [] = above
+statements_below form above (line ∷ ls) =
+    statements_below form (and_statement (words_read line
+    >>= (λ ws. statement_read form (told above).section (told above).rows_due (told above).row_width ws)) above) ls
 
 -- the first reason, if there is one
 abbrev pub reason_of : Result Statement Reason → Option Reason
-reason_of (Ok form) = None
+reason_of (Ok statement) = None
 reason_of (Err reason) = Some reason
 
 -- the first reason of a line below the lines of these bytes
 abbrev pub reason_below : Setting → List ℕ → List ℕ → Option Reason
-reason_below s above line = reason_of (line_read s (told (forms_below s.form [] (lines above))) (script line))
+reason_below s above line = reason_of (line_read s (told (statements_below s.form [] (lines above))) (script line))
 
 -- a task with a created layer that names hook 2, and one with an opened window that does
 abbrev pub created_with_hook : List ℕ

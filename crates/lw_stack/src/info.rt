@@ -41,7 +41,7 @@ impl Model for Info {
 }
 
 impl Info {
-    /// The list of a desk on which nothing was created so far. It fails for want of memory alone.
+    /// The list of a desk on which nothing was created so far. It fails only when out of memory.
     pub fn new(alloc: Global, sizes: &Sizes) -> Result<Info, AllocError>
         requires { IsWithinLimits sizes.now }
         ensures { IfOk result
@@ -110,7 +110,7 @@ impl Info {
     }
 
     /// Where on the screen the slot's layer is shown: the pixels of the screen at which it is on top. A slot that isn't live is
-    /// shown nowhere. It fails for want of memory alone.
+    /// shown nowhere. It fails only when out of memory.
     pub fn visible_of(&self, alloc: Global, slot: u32) -> Result<Region, AllocError>
         ensures { IfOk result
             (λ region. (x y : ℤ) → covers region x y ≡ is_first_at self.now.bounds self.now.front_to_back slot x y) }

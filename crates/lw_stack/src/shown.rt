@@ -9,7 +9,7 @@ use std::alloc::{AllocError, Global};
 
 /// What is shown of each layer of a list of slots from front to back, by slot: the places where it is the first of the list
 /// whose bounds have them. A slot that isn't in the list has an empty region. `bounds` has the layers' bounds by slot. (One pass
-/// from the front, as the X server's miComputeClips makes it.) It fails for want of memory alone.
+/// from the front, as the X server's miComputeClips makes it.) It fails only when out of memory.
 pub fn visible_sets(
     alloc: Global,
     order: &[u32],

@@ -14,7 +14,7 @@ use std::alloc::{AllocError, Global};
 /// The step of the machine, by the classes of calls (this project's own). An engine says which values stand for a task's registers,
 /// for a slot and for LayerInfo; each of its functions is lent the values that a call of its class touches, and makes the machine's
 /// step of them in every sound desk for whose parts they stand, with the engine's sizes, and to which its assets were handed in. It
-/// takes no lock and returns. It fails for want of memory alone, and the values then stand for what they stood for.
+/// takes no lock and returns. It fails only when out of memory, and the values then stand for what they stood for.
 pub trait Engine: Drop + Sync {
     /// What LayerInfo keeps.
     type Info: Drop + Send;

@@ -25,7 +25,7 @@ pub struct Parts<E: Engine> {
 
 impl<E: Engine> Parts<E> {
     /// Makes one call of a task and gives its reply, as the machine's step says of every desk for which the parts stand. The call has
-    /// to fit the engine's sizes. It fails for want of memory alone, and the parts then stand for the same desks as before.
+    /// to fit the engine's sizes. It fails only when out of memory, and the parts then stand for the same desks as before.
     pub fn step(
         &mut self,
         engine: &E,

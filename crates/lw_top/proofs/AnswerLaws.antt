@@ -32,7 +32,7 @@ no_usage : (hooks : List Hook) (command : Command) (input : List ℕ) (s : Statu
 no_usage hooks command input Usage text h e = h.3
 no_usage hooks command input s text h e = cc
 
--- what was said of an outcome is no fault of the source and no want of memory
+-- what was said of an outcome is no fault of the source and not running out of memory
 pub said_not_stopped : (hooks : List Hook) (command : Command) (input : List ℕ) (due r : Status) (text : List ℕ) (before after : Option (List ℕ)) (f g : ℕ) → IsOutcome hooks command input due text → Says text due r before after f g → (r ≡ ReadFault) ⊎ (r ≡ NoMemory) → ⊥
 said_not_stopped hooks command input due r text before after f g h (inl e) (inl d) = true≢false (sym (ap is_stop (sym e.0 ∙ d)) ∙ no_stop hooks command input due text h)
 said_not_stopped hooks command input due r text before after f g h (inl e) (inr d) = true≢false (sym (ap is_stop (sym e.0 ∙ d)) ∙ no_stop hooks command input due text h)
@@ -104,7 +104,7 @@ came_of_left hooks command q r (Some left) rest s t before after f g h goes is =
     let k = came hooks command q r (Some left) rest s t before after f g h goes is in
     (k.2, of_left hooks command k.0 left rest q k.2 k.1 k.3, k.4)
 
--- the outcome on all that was left comes, unless a stream failed or memory was wanting
+-- the outcome on all that was left comes, unless a stream failed or memory ran out
 comes : (hooks : List Hook) (command : Command) (r : Status) (left rest : Option (List ℕ)) (s t : ℕ) (before after : Option (List ℕ)) (f g : ℕ) → Answered hooks command r left rest s t before after f g
     → IfSome left (λ input. (due : Status) (text : List ℕ) → IsOutcome hooks command input due text → ((r ≡ due) × (after ≡ bytes_after before text)) ⊎ ((r ≡ WriteFault) × Rose f g) ⊎ ((r ≡ ReadFault) × Rose s t) ⊎ (r ≡ NoMemory))
 comes hooks command r None rest s t before after f g h = tt

@@ -36,14 +36,14 @@ IsDue Run script = Unit {0}
 IsDue Check script = Unit {0}
 IsDue Replay script = is_legal script.plan script.order ≡ true
 
--- the answers that a stream's fault or want of memory gives
+-- the answers that a stream's fault or running out of memory gives
 abbrev pub is_stop : Status → Bool
 is_stop ReadFault = true
 is_stop WriteFault = true
 is_stop NoMemory = true
 is_stop status = false
 
--- The answer is the one that is due, or a fault or want of memory came instead.
+-- The answer is the one that is due, or a fault or running out of memory came instead.
 abbrev pub IsUnlessStopped : Status → Status → Type 0
 IsUnlessStopped due result = (result ≡ due) ⊎ IsTrue (is_stop result)
 
@@ -67,7 +67,7 @@ pub record AnswerTells (hooks : List Hook) (command : Command) (result : Status)
   pub bad_order : (place : ℕ) → result ≡ BadOrder place → (input : List ℕ) × IsInput input left rest × IsBadOrderOf hooks command input place
   pub bad_order_of_left : (place : ℕ) → result ≡ BadOrder place → IfSome left (λ input. (length input ≤ input_limit) × IsBadOrderOf hooks command input place)
   pub write_fault : result ≡ WriteFault → Rose f g
-  -- that it comes, unless a stream failed or memory was wanting
+  -- that it comes, unless a stream failed or memory ran out
   pub only_too_long : IfSome left (λ input. input_limit < length input → IsUnlessStopped TooLong result)
   pub only_refused : IfSome left (λ input. length input ≤ input_limit → (line : ℕ) (reason : Reason) → IsFirstBadIn (reads_with (length hooks) command) (lines input) line reason → IsUnlessStopped (Refused line reason) result)
   pub only_bad_order : IfSome left (λ input. length input ≤ input_limit → (place : ℕ) → IsBadOrderOf hooks command input place → IsUnlessStopped (BadOrder place) result)
@@ -87,7 +87,7 @@ pub record ToldOfWords (hooks : List Hook) (asked : Option Command) (result : St
   pub source_count : s ≤ t
 
 -- What `layers` promises has all this in it: a command's promise, else the usage line and nothing read; and nothing written
--- after a fault of the source or want of memory.
+-- after a fault of the source or running out of memory.
 abbrev pub AnswersTell : Type 0
 AnswersTell =
     (hooks : List Hook) (asked : Option Command) (result : Status) (left rest : Option (List ℕ)) (s t : ℕ) (before after : Option (List ℕ)) (f g : ℕ)

@@ -42,7 +42,7 @@ pub record Served (hooks : List Hook) (command : Command) (result : Status) (lef
   pub outcome : IsOutcome hooks command input due text
   pub said : Says text due result before after f g
 
--- What a command promises that is handed these hooks: the outcome, unless reading failed or memory was wanting. What the source
+-- What a command promises that is handed these hooks: the outcome, unless reading failed or memory ran out. What the source
 -- tells that it has left went from one value to another, its count of faults did, and likewise what the sink tells that was
 -- written, and its count.
 pub record Answered (hooks : List Hook) (command : Command) (result : Status) (left rest : Option (List ℕ)) (s t : ℕ) (before after : Option (List ℕ)) (f g : ℕ) : Type 0 where

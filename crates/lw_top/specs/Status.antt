@@ -38,7 +38,7 @@ reason_text HookUsed = codes "hook-used"
 reason_text Padding = codes "padding"
 reason_text Missing = codes "missing"
 
--- What is written with an answer that has a text of its own: nothing where reading failed or memory was wanting. Done has its
+-- What is written with an answer that has a text of its own: nothing where reading failed or memory ran out. Done has its
 -- command's text, and WriteFault none.
 abbrev pub text_of : Status → List ℕ
 text_of Done = []

@@ -26,7 +26,7 @@ pub fn layers<S: Source, K: Sink>(
 ) -> Status
     requires few { vec_len hooks < 4294967296 }
     // The words' command has one outcome on what was taken from the source, with these hooks. It is the answer, and its text
-    // is written whole, unless reading failed, memory was wanting, or the sink failed after a front of the text.
+    // is written whole, unless reading failed, memory ran out, or the sink failed after a front of the text.
     ensures answered { IfSome (command_of (map string_bytes words.now)) (λ command.
         Answered (map (λ b. hook b) hooks.items) command result (S.left source.old) (S.left source.new)
         (S.faults source.old) (S.faults source.new) (K.written sink.old) (K.written sink.new)
@@ -36,7 +36,7 @@ pub fn layers<S: Source, K: Sink>(
         → Says (text_of Status.Usage) Status.Usage result (K.written sink.old) (K.written sink.new)
         (K.faults sink.old) (K.faults sink.new) }
     ensures unread { command_of (map string_bytes words.now) ≡ None → source.new ≡ source.old }
-    // Nothing is written where reading failed or memory was wanting.
+    // Nothing is written where reading failed or memory ran out.
     ensures untouched { (result ≡ Status.ReadFault) ⊎ (result ≡ Status.NoMemory) → sink.new ≡ sink.old }
     ensures sink_count { K.faults sink.old ≤ K.faults sink.new }
 {

@@ -14,7 +14,7 @@ pub fn outcomes_are_decided()
 {}
 
 /// What `layers` promises tells, of each answer, what it has to do with the input and what was written; of each input, what
-/// comes unless a stream failed or memory was wanting; and both of all that a source had left, where it exposes its bytes.
+/// comes unless a stream failed or memory ran out; and both of all that a source had left, where it exposes its bytes.
 pub fn answers_tell()
     ensures { AnswersTell }
 {}

@@ -16,7 +16,7 @@ pub enum Status {
     ReadFault,
     /// The sink failed.
     WriteFault,
-    /// Memory was wanting. Nothing was written.
+    /// Memory ran out. Nothing was written.
     NoMemory,
     /// The input has more than 4,194,304 bytes.
     TooLong,

@@ -48,7 +48,7 @@ last_step : (b : ℕ) (bs : List ℕ) (c : Bool) (k : ℕ) → (length bs ≤ k 
 last_step b bs true k h le = absurd (omega arith)
 last_step b bs false k h le = h (omega arith)
 
--- the last line behind a byte
+-- the last line after a byte
 onto_last : (b : ℕ) (bs : List ℕ) → length bs ≤ position_or_len (λ c. c == 10) bs → onto_first b (lines bs) ≡ (b ∷ bs) ∷ []
 onto_last b [] h = refl
 onto_last b (d ∷ ds) h =
@@ -60,7 +60,7 @@ last_line [] lt e = absurd (omega arith)
 last_line (b ∷ bs) lt e =
     last_step b bs (b == 10) (position_or_len (λ c. c == 10) bs) (onto_last b bs) (found_none (λ c. c == 10) (b ∷ bs) e)
 
--- the bytes behind a line feed
+-- the bytes after a line feed
 pub cuts_line : (bs : List ℕ) (i : ℕ) → position (λ b. b == 10) bs ≡ Some i → IsCutLine bs (take i bs) (take (length bs - (i + 1)) (drop (i + 1) bs))
 cuts_line bs i e =
     let f = (found_at (λ b. b == 10) bs i e).0 in
@@ -73,7 +73,7 @@ cuts_line bs i e =
       shorter = omega (arith, length-drop (i + 1) bs);
     })
 
--- the last line, where no line feed ends it, and nothing behind it
+-- the last line, where no line feed ends it, and nothing after it
 pub whole_cut : (bs front back : List ℕ) → 0 < length bs → position (λ b. b == 10) bs ≡ None → front ≡ take (length bs) bs → back ≡ drop (length bs) bs → IsCutLine bs front back
 whole_cut bs front back lt e f g =
     let x : take (length bs) bs ≡ bs = grind (arith, common_steps) in

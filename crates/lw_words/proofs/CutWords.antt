@@ -11,7 +11,7 @@ use Rattle.std.proofs.lemmas.Bool.{eqb-true, eq-eqb, ne_eqb, false≢true, true�
 use Rattle.std.proofs.lemmas.List.{take_rest}
 use Rattle.std.proofs.lemmas.List.Quantifiers.{position-Some}
 
--- what a word's end gives: at a space the word and the words behind it, else a fault
+-- what a word's end gives: at a space the word and the words after it, else a fault
 abbrev word_then : Bool → List ℕ → Result (List (List ℕ)) Reason → Result (List (List ℕ)) Reason
 word_then space word behind = cond space (on_found (λ ws. word ∷ ws) behind) (Err Quote)
 
@@ -119,7 +119,7 @@ quote_inside bs i e q d = go i refl
         absurd (q (subst P f d))
     go (suc k) f = begun bs i e (omega (arith, f)) q ∙ ended_by bs i e ∙ rw (quote_only (get_or bs i 0) d) refl
 
--- the first word and what stands behind the space that ends it
+-- the first word and what stands after the space that ends it
 pub cuts_word : (bs : List ℕ) (i : ℕ) → position is_break bs ≡ Some i → IsWordBegun bs → (get_or bs i 0 ≡ 34 → ⊥) → (i ≡ 0 → ⊥) → (tokens bs ≡ on_found (λ ws. take i bs ∷ ws) (tokens (take (length bs - (i + 1)) (drop (i + 1) bs)))) × (length (take (length bs - (i + 1)) (drop (i + 1) bs)) + 1 < length bs + 1)
 cuts_word bs i e q d some =
     let f = found_at is_break bs i e in
@@ -140,7 +140,7 @@ same_test a b c d f g = go (a == b) (c == d) refl refl
     go true false x y = let e : true ≡ false = sym (eq-eqb c d (f (eqb-true _ _ x))) ∙ y in absurd (true≢false e)
     go false true x y = let e : true ≡ false = sym (eq-eqb a b (g (eqb-true _ _ y))) ∙ x in absurd (true≢false e)
 
--- the bytes behind a text's first quote, by the place of the next
+-- the bytes after a text's first quote, by the place of the next
 text_step : (q : Bool) (e : Bool) (k n : ℕ) → e ≡ (k + 1 == suc n) → cond q false e ≡ (cond (not q) (1 + k) 0 + 1 == suc (suc n))
 text_step true e k n h = same_test 0 1 (0 + 1) (suc (suc n)) (λ d. absurd (omega arith)) (λ d. absurd (omega arith))
 text_step false e k n h = h ∙ same_test (k + 1) (suc n) ((1 + k) + 1) (suc (suc n)) (λ d. omega arith) (λ d. omega arith)

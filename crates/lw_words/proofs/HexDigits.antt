@@ -2,7 +2,7 @@
 use Rattle.std.proofs.Common.{◌≡◌, ℕ, zero, suc, ◌+◌, ◌*◌, ◌/◌, ◌<◌, ◌≤◌, map, ◌==◌, Bool, true, false, ◌&&◌, cond, List, [], ◌∷◌, length, get_or, Option, Some, None, option_map, IsTrue, refl, sym, ap, ◌∙◌, arith}
 use Rattle.std.specs.List.{list_all}
 use Rattle.lw_grammar.specs.Tokens.{Token, NameToken, NumberToken, TextToken, OddToken, is_hex, hex_value, hex_bytes, spelled_bytes, bytes_in}
-use Rattle.lw_grammar.specs.LineForms.{GlyphLine, glyph_of_bytes, glyph_line}
+use Rattle.lw_grammar.specs.Statements.{GlyphLine, glyph_of_bytes, glyph_line}
 use Rattle.lw_words.specs.declared.token.Token.{Token as Reading}
 use Rattle.lw_words.specs.TokenMeaning.{token_meaning}
 use Rattle.lw_words.specs.Digits.{decoded, spelling}
@@ -67,11 +67,11 @@ decoded_by (a ∷ b ∷ rest) (suc i) lt =
     rw (f, e) (decoded_by rest i (omega arith))
 
 -- how many bytes digits spell
-pub length-decoded : (ds : List ℕ) (count : ℕ) → length ds ≡ 2 * count → length (decoded ds) ≡ count
-length-decoded [] count e = omega arith
-length-decoded (a ∷ []) count e = absurd (omega arith)
-length-decoded (a ∷ b ∷ rest) zero e = absurd (omega arith)
-length-decoded (a ∷ b ∷ rest) (suc count) e = let h = length-decoded rest count (omega arith) in omega (arith, h)
+pub length_decoded : (ds : List ℕ) (count : ℕ) → length ds ≡ 2 * count → length (decoded ds) ≡ count
+length_decoded [] count e = omega arith
+length_decoded (a ∷ []) count e = absurd (omega arith)
+length_decoded (a ∷ b ∷ rest) zero e = absurd (omega arith)
+length_decoded (a ∷ b ∷ rest) (suc count) e = let h = length_decoded rest count (omega arith) in omega (arith, h)
 
 -- half as many bytes as digits
 pub half : (ds : List ℕ) → length (decoded ds) ≡ length ds / 2
@@ -95,7 +95,7 @@ glyph_made code rows x y b e f long g =
     let h : Some (b ∷ []) ≡ x = ap (λ c. Some (c ∷ [])) g ∙ ap Some (sym (only_one code long)) ∙ e in
     rw (← h, ← f) refl
 
--- behind a glyph's code stands one word
+-- after a glyph's code stands one word
 pub one_word : (code : Token) (ts : List Reading) → 2 ≤ length ts → None ≡ glyph_line (code ∷ map token_meaning ts)
 one_word code [] h = absurd (omega arith)
 one_word code (a ∷ []) h = absurd (omega arith)

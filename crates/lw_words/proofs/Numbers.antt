@@ -36,7 +36,7 @@ capped_more ds i n h lt e =
     let v : digits_value 10 (take (i + 1) ds) ≡ digits_value 10 (take i ds) * 10 + digit_value (get_or ds i 0) = digits_value_more 10 ds i lt in
     capped_late (digits_value 10 (take i ds)) (get_or ds i 0 - 48) n (digits_value 10 (take (i + 1) ds)) e (omega (arith, v, d))
 
--- what a number behind a minus is
+-- what a number after a minus is
 minus : (m : ℕ) (r : ℤ) → m ≤ 4294967296 → r ≡ pos m → to_z w64 (of_z w64 (pos 0 -ℤ to_z w64 (of_z w64 r))) ≡ neg_ℤ (pos m)
 minus m r le e = omega (arith, ints)
 
@@ -44,13 +44,13 @@ minus m r le e = omega (arith, ints)
 up_to_cap : (m : ℕ) → min m 4294967296 ≤ 4294967296
 up_to_cap m = omega arith
 
--- what a word is that is a number behind a minus, by its tests
+-- what a word is that is a number after a minus, by its tests
 number_value : (w : List ℕ) (x n p q m : Bool) (z : ℤ) → x ≡ false → n ≡ false → m ≡ true → z ≡ neg_ℤ (pos (capped (drop 1 w))) → NumberToken w z ≡ cond x (TextToken (without_last (drop 1 w))) (cond n (NameToken w) (cond (p || (q || m)) (NumberToken w (cond m (neg_ℤ (pos (capped (drop 1 w)))) (pos (capped w)))) (OddToken w)))
 number_value w x n true q m z d e f g = rw (d, e, f, g) refl
 number_value w x n false true m z d e f g = rw (d, e, f, g) refl
 number_value w x n false false m z d e f g = rw (d, e, f, g) refl
 
--- what a word is that is a number behind a minus
+-- what a word is that is a number after a minus
 pub negative_value : (w : List ℕ) (r : ℤ) → is_a_text w ≡ false → is_a_name w ≡ false → is_below_zero w ≡ true → r ≡ pos (capped (take (length w - 1) (drop 1 w))) → NumberToken w (to_z w64 (of_z w64 (pos 0 -ℤ to_z w64 (of_z w64 r)))) ≡ token_of w
 negative_value w r t n m e =
     let f : r ≡ pos (capped (drop 1 w)) = e ∙ ap (λ d. pos (capped d)) (take_rest w 1) in

@@ -19,6 +19,6 @@ place_of_target p [] = refl
 place_of_target p (k ∷ ks) = ap (λ n. cond (not (p k.now)) (1 + n) 0) (place_of_target p ks)
 
 -- as many targets as references
-pub length-targets : (ks : List (Bor (List ℕ))) → length (targets ks) ≡ length ks
-length-targets [] = refl
-length-targets (k ∷ ks) = omega (arith, length-targets ks)
+pub length_targets : (ks : List (Bor (List ℕ))) → length (targets ks) ≡ length ks
+length_targets [] = refl
+length_targets (k ∷ ks) = omega (arith, length_targets ks)

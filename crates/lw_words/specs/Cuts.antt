@@ -1,4 +1,4 @@
--- What cutting bytes says: into a first line or a first word, and what stands behind it.
+-- What cutting bytes says: into a first line or a first word, and what stands after it.
 use Rattle.std.specs.Prelude.{◌≡◌, ◌≢◌, ℕ, ◌+◌, ◌-◌, ◌<◌, ◌==◌, Bool, ◌||◌, List, [], ◌∷◌, map, length, get_or, Option, Some, None, Result, Ok, Err}
 use Rattle.lw_calls.specs.declared.reason.Reason.{Reason}
 use Rattle.lw_grammar.specs.Lines.{lines}
@@ -9,13 +9,13 @@ use denote.Ref.{Bor}
 abbrev pub targets : List (Bor (List ℕ)) → List (List ℕ)
 targets = map (λ r. r.now)
 
--- A first line, and the bytes behind its line feed, if it has one.
+-- A first line, and the bytes after its line feed, if it has one.
 pub record IsCutLine (bytes line behind : List ℕ) : Type 0 where
   pub lines : lines bytes ≡ line ∷ lines behind
   pub left : length behind ≡ length bytes - (length line + 1)
   pub shorter : length behind < length bytes
 
--- The first line and the bytes behind its line feed; or nothing, where no line is left.
+-- The first line and the bytes after its line feed; or nothing, where no line is left.
 abbrev pub CutsLine : List ℕ → Option (Bor (List ℕ) × Bor (List ℕ)) → Type 0
 CutsLine bytes None = bytes ≡ []
 CutsLine bytes (Some cut) = IsCutLine bytes cut.0.now cut.1.now
@@ -34,7 +34,7 @@ abbrev pub size_left : Option (Bor (List ℕ)) → ℕ
 size_left None = 0
 size_left (Some bytes) = length bytes.now + 1
 
--- The first word and what stands behind the space that ends it, if one does; or the fault with which the line begins.
+-- The first word and what stands after the space that ends it, if one does; or the fault with which the line begins.
 abbrev pub CutsWord : List ℕ → Result (Bor (List ℕ) × Option (Bor (List ℕ))) Reason → Type 0
 CutsWord line (Err reason) = tokens line ≡ Err reason
 CutsWord line (Ok cut) =

@@ -8,7 +8,7 @@ pub fn place_of(bytes: &[u8], byte: u8) -> Option<usize>
     bytes.iter().position(|b| *b == byte)
 }
 
-/// The first line without its line feed, and the bytes behind the line feed; `None` where no line is left.
+/// The first line without its line feed, and the bytes after the line feed; `None` where no line is left.
 pub fn cut_line(bytes: &[u8]) -> Option<(&[u8], &[u8])>
     ensures { CutsLine bytes.now result }
 {

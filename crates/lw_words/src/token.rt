@@ -24,7 +24,7 @@ pub enum Token<'a> {
 /// range whether it is capped here or not.
 const NUMBER_CAP: u64 = 4_294_967_296;
 
-/// How many bytes a name has at most behind its first.
+/// How many bytes a name has at most after its first.
 const NAME_REST: usize = 15;
 
 fn is_letter(byte: u8) -> bool
@@ -76,7 +76,7 @@ fn is_above_zero(word: &[u8]) -> bool
     }
 }
 
-/// The same behind a minus.
+/// The same after a minus.
 fn is_below_zero(word: &[u8]) -> bool
     ensures { result ≡ is_below_zero word.now }
 {

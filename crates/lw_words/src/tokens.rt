@@ -15,7 +15,7 @@ fn break_of(bytes: &[u8]) -> Option<usize>
     bytes.iter().position(|b| *b == b' ' || *b == b'"')
 }
 
-/// Whether the bytes behind a text's first quote have just one quote, which is their last byte.
+/// Whether the bytes after a text's first quote have just one quote, which is their last byte.
 fn ends_text(bytes: &[u8]) -> bool
     ensures { result ≡ text_end_meant bytes.now }
 {
@@ -25,7 +25,7 @@ fn ends_text(bytes: &[u8]) -> bool
     }
 }
 
-/// The first word of a line whose word ends at this byte, and what stands behind it.
+/// The first word of a line whose word ends at this byte, and what stands after it.
 fn cut_at(line: &[u8], end: usize) -> Result<(&[u8], Option<&[u8]>), Reason>
     requires found { position is_break line.now ≡ Some end }
     requires begun { IsWordBegun line.now }
@@ -42,7 +42,7 @@ fn cut_at(line: &[u8], end: usize) -> Result<(&[u8], Option<&[u8]>), Reason>
     Ok((word, Some(behind)))
 }
 
-/// The first word of a line, and what stands behind the space that ends it, if one does; or the fault with which the
+/// The first word of a line, and what stands after the space that ends it, if one does; or the fault with which the
 /// line begins.
 fn cut_word(line: &[u8]) -> Result<(&[u8], Option<&[u8]>), Reason>
     ensures { CutsWord line.now result }

@@ -4,7 +4,7 @@ use Rattle.lw_region.specs.Rectangle.{Rectangle}
 use Rattle.lw_calls.specs.declared.make.Kind.{Kind}
 use Rattle.lw_layer.specs.View as view
 use Rattle.lw_layer.specs.Keeping.{AreKept}
-use Rattle.lw_arrange.specs.Prepared.{Created, created_by, opened, MayOpen, IsCreation}
+use Rattle.lw_arrange.specs.Prepared.{Created, created_by, created_live, MayOpen, IsCreation}
 use Rattle.lw_arrange.specs.Filled.{AreGained}
 use Rattle.lw_arrange.proofs.GainedRegions.{IsMade, made_of, anew_gained}
 use Rattle.lw_arrange.proofs.gaining.gained_anew.Goals as goal
@@ -42,7 +42,7 @@ returns c =
     let made : IsMade (created_by a.task a.call) depth bounds kind =
     made_of (created_by a.task a.call) depth bounds kind c.requires.may c.created_kind-kind.ensures in
     let Q : Option Created → List Rectangle → Type 0 =
-    λ o region. AreGained cell (record { number = cell.number; state = view.Live; live = opened o depth bounds visible }) region in
+    λ o region. AreGained cell (record { number = cell.number; state = view.Live; live = created_live o depth bounds visible }) region in
     IfOk-weaker c.kept_region.result (λ region. AreKept kind bounds listed region) (λ region. Q (created_by a.task a.call) region)
     (λ region are.
     let R : Option Created → Type 0 = λ o. Q o region in

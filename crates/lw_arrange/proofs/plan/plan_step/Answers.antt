@@ -2,9 +2,9 @@ use Rattle.std.proofs.Common.{length, refl, sym, ap, subst, ◌∙◌}
 use Rattle.lw_calls.specs.declared.sizes.Sizes.{Sizes}
 use Rattle.lw_stack.specs.Stack.{Stack, IsStack, StandsForInfo, stack_of}
 use Rattle.lw_machine.specs.Parts.{info_part}
-use Rattle.lw_arrange.specs.Plans.{Planned}
+use Rattle.lw_arrange.specs.Arrangements.{ArrangementView}
 use Rattle.lw_machine.specs.Arrangement.{arranged}
-use Rattle.lw_arrange.specs.Arranged.{IsPlanOf}
+use Rattle.lw_arrange.specs.Arranged.{IsArrangementOf}
 use Rattle.lw_stack.proofs.ListLaws.{entries_within_bounds}
 use Rattle.lw_arrange.proofs.StackLaws.{below_along}
 use Rattle.lw_arrange.proofs.RefusalLaws.{refused_is_refusal}
@@ -53,7 +53,7 @@ returns-clause-step c = λ d are.
     subst P (sym (c.in_ok-after.ensures {u = tt}))
     (after_stands d a.info.now a.looks.now a.fresh a.task a.call.now c.sizes-sizes.ensures.stack c.requires.all c.requires.fits
     are) in
-    let Q : Planned → Type 0 = λ p. IsPlanOf d a.task a.call.now p in (
+    let Q : ArrangementView → Type 0 = λ p. IsArrangementOf d a.task a.call.now p in (
       sym refusal ∙ (sym c.refused.ensures ∙ c.in_default.is),
       subst Q (sym c.new.ensures)
           (record {

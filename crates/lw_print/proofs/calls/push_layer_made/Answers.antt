@@ -3,7 +3,7 @@ use Rattle.std.proofs.lemmas.Result.{on_ok_weaker}
 use Rattle.lw_canonical.specs.Canonical.{opened_asked}
 use Rattle.lw_canonical.specs.Spelling.{kind_word, place_word, four_words, opened_words, text_word}
 use Rattle.lw_print.specs.Behind.{behind}
-use Rattle.lw_print.proofs.Joined.{more-behind, word-more}
+use Rattle.lw_print.proofs.Joined.{more_behind, word_more}
 use Rattle.lw_print.proofs.calls.push_layer_made.Goals as goal
 
 pub returns-in_ok-push_opened-in-OpenWindow : goal.returns-in_ok-push_opened-in-OpenWindow
@@ -13,8 +13,8 @@ returns-in_ok-push_opened-in-OpenWindow c = λ bitmaps.
     let made : List (List ℕ) = kind_word call.make.kind ∷ place_word call.make.place ∷ four_words asked.numbers ++ opened_words call.make.kind asked call.framed call.nocare call.asks in
     rw call.is
     (on_ok_weaker c.push_text.result
-    (λ h. word-more _ _ (made ++ text_word call.title ∷ []) c.args.out.now.items _ _ c.name_of-in-OpenWindow.ensures c.in_ok-push_word-in-OpenWindow.ensures.ok
-    (more-behind made (text_word call.title ∷ []) _ _ _
+    (λ h. word_more _ _ (made ++ text_word call.title ∷ []) c.args.out.now.items _ _ c.name_of-in-OpenWindow.ensures c.in_ok-push_word-in-OpenWindow.ensures.ok
+    (more_behind made (text_word call.title ∷ []) _ _ _
     c.in_ok-push_opened-in-OpenWindow.ensures
     (h ∙ ap (λ title. c.push_opened.new.out.items ++ behind (text_word title ∷ [])) c.bytes.ensures)))
     c.push_text.ensures)

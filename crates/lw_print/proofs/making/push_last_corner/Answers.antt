@@ -1,15 +1,15 @@
 use Rattle.std.proofs.Common.{rules, [], ◌∷◌, pos, ◌+ℤ◌, ◌-ℤ◌}
 use Rattle.std.specs.Fmt.{signed_decimal}
 use Rattle.std.proofs.lemmas.Result.{on_ok_weaker}
-use Rattle.lw_print.proofs.Joined.{more-behind}
-use Rattle.lw_print.proofs.Numbers.{number-read, last-written}
+use Rattle.lw_print.proofs.Joined.{more_behind}
+use Rattle.lw_print.proofs.Numbers.{number_read, last_written}
 use Rattle.lw_print.proofs.making.push_last_corner.Goals as goal
 
 pub returns : goal.returns
 returns c =
     let make = c.args.make.now in
     on_ok_weaker c.push_last-2.result
-    (λ h. more-behind (signed_decimal ((make.x +ℤ make.w) -ℤ pos 1) ∷ []) (signed_decimal ((make.y +ℤ make.h) -ℤ pos 1) ∷ []) _ _ _
-    (last-written _ _ _ _ _ _ (number-read make.x (search rules)) (number-read make.w (search rules)) c.in_ok-push_last.ensures)
-    (last-written _ _ _ _ _ _ (number-read make.y (search rules)) (number-read make.h (search rules)) h))
+    (λ h. more_behind (signed_decimal ((make.x +ℤ make.w) -ℤ pos 1) ∷ []) (signed_decimal ((make.y +ℤ make.h) -ℤ pos 1) ∷ []) _ _ _
+    (last_written _ _ _ _ _ _ (number_read make.x (search rules)) (number_read make.w (search rules)) c.in_ok-push_last.ensures)
+    (last_written _ _ _ _ _ _ (number_read make.y (search rules)) (number_read make.h (search rules)) h))
     c.push_last-2.ensures

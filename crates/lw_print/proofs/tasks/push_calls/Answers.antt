@@ -5,7 +5,7 @@ use Rattle.lw_canonical.specs.Canonical.{lines_from}
 use Rattle.lw_calls.specs.Plan.{task_calls}
 use Rattle.lw_print.specs.Grouping.{lines_at}
 use Rattle.lw_print.proofs.Grouped.{lines_next, left_fit, left_reach, left_lines}
-use Rattle.lw_print.proofs.ManyLines.{fewer-lines}
+use Rattle.lw_print.proofs.ManyLines.{fewer_lines}
 use Rattle.lw_print.proofs.tasks.push_calls.Goals as goal
 
 pub loop-number-preserved : goal.loop-number-preserved
@@ -28,5 +28,5 @@ loop-number-preserved c =
     record {
       fit = rw now (left_fit all left number c.loop-number.invariant.fit);
       reach = rw now (left_reach all left number c.loop-number.invariant.fit c.loop-number.invariant.reach);
-      written = fewer-lines _ (lines_at plan all left number call) _ _ _ _ c.loop-number.invariant.written (rw c.calls-calls.ensures at c.in_ok-push_grouped.ensures) split;
+      written = fewer_lines _ (lines_at plan all left number call) _ _ _ _ c.loop-number.invariant.written (rw c.calls-calls.ensures at c.in_ok-push_grouped.ensures) split;
     }

@@ -3,7 +3,7 @@ use Rattle.lw_calls.specs.declared.sizes.Sizes.{Sizes}
 use Rattle.lw_canonical.specs.Canonical.{lines_of_task}
 use Rattle.lw_written.proofs.Pieces.{piece_written}
 use Rattle.lw_print.specs.Behind.{text_of_lines}
-use Rattle.lw_print.proofs.ManyLines.{pieces-text}
+use Rattle.lw_print.proofs.ManyLines.{pieces_text}
 use Rattle.lw_print.proofs.whole.push_tasks.Goals as goal
 
 pub loop-task-preserved : goal.loop-task-preserved
@@ -14,4 +14,4 @@ pub returns : goal.returns
 returns c =
     let count : c.sizes.result.now.tasks ≡ c.args.plan.now.sizes.tasks = ap (λ (s : Sizes). s.tasks) c.sizes.ensures.value in
     let end : c.loop-task.task ≡ c.args.plan.now.sizes.tasks = omega (arith, count, c.loop-task-test.false, c.loop-task.auto.task-end) in
-    pieces-text (lines_of_task c.args.plan.now) _ _ _ _ end c.loop-task.invariant
+    pieces_text (lines_of_task c.args.plan.now) _ _ _ _ end c.loop-task.invariant

@@ -26,7 +26,7 @@ loop-line-init c =
 pub take_line-requires : goal.take_line-requires
 take_line-requires c =
     let i = c.loop-line.invariant in
-    (reading_with c.args.hooks c.args.form, i.reached.forms, i.stands, i.good)
+    (reading_with c.args.hooks c.args.form, i.reached.statements, i.stands, i.good)
 
 pub returns-in_err-take_line : goal.returns-in_err-take_line
 returns-in_err-take_line c =
@@ -34,9 +34,9 @@ returns-in_err-take_line c =
     let s = reading_with c.args.hooks c.args.form in
     let all = length c.args.bytes.now in
     let cut = c.in-Some.ensures in
-    let due : is_nothing_due (told i.reached.forms).section ≡ false = ap is_nothing_due (sym i.stands.section) ∙ cut.0 in
+    let due : is_nothing_due (told i.reached.statements).section ≡ false = ap is_nothing_due (sym i.stands.section) ∙ cut.0 in
     let e = err_from_is_err_and c.from_residual.result c.from_residual.ensures.1 in
-    let stop = stopped s c.take_line.new.self all c.loop-line.number i.reached c.in-Some.line.now (lines c.in-Some.behind.now) c.in_err-take_line.field-0.0 i.number due (c.in_err-take_line.ensures s i.reached.forms i.stands) in
+    let stop = stopped s c.take_line.new.self all c.loop-line.number i.reached c.in-Some.line.now (lines c.in-Some.behind.now) c.in_err-take_line.field-0.0 i.number due (c.in_err-take_line.ensures s i.reached.statements i.stands) in
     let G : Result Input ScriptStop → Type 0 = λ r. Gives r (outcome_of s c.args.bytes.now) in
     let H : Result ScriptInput (ℕ × Reason) → Type 0 = λ o. Gives (Err c.in_err-take_line.field-0.0) o in
     subst G (sym (e.1 ∙ ap (λ x. Err x) e.2)) (subst H (sym (ap (inputs_of s all) (i.left ∙ ap (lines_read s i.reached) cut.1.lines))) stop)
@@ -48,12 +48,12 @@ loop-line-preserved c =
     let cut = c.in-Some.ensures in
     let line = c.in-Some.line.now in
     let behind = c.in-Some.behind.now in
-    let due : is_nothing_due (told i.reached.forms).section ≡ false = ap is_nothing_due (sym i.stands.section) ∙ cut.0 in
-    let t = c.in_ok-take_line.ensures s i.reached.forms i.stands in
+    let due : is_nothing_due (told i.reached.statements).section ≡ false = ap is_nothing_due (sym i.stands.section) ∙ cut.0 in
+    let t = c.in_ok-take_line.ensures s i.reached.statements i.stands in
     record {
       reached = with_line i.reached line t.0;
       stands = t.2;
-      good = step_good s i.reached.forms line t.0 i.good t.1;
+      good = step_good s i.reached.statements line t.0 i.good t.1;
       number = ap (λ n. n + 1) i.number;
       left = i.left ∙ ap (lines_read s i.reached) cut.1.lines ∙ step s i.reached line (lines behind) t.0 due t.1;
       place = place_next (length c.args.bytes.now) i.reached.place c.loop-line.rest.now line behind cut.1 i.short i.place;
@@ -64,7 +64,7 @@ loop-line-preserved c =
 pub finish-requires : goal.finish-requires
 finish-requires c =
     let i = c.loop-line.invariant in
-    (reading_with c.args.hooks c.args.form, i.reached.forms, i.stands, i.good)
+    (reading_with c.args.hooks c.args.form, i.reached.statements, i.stands, i.good)
 
 pub returns : goal.returns
 returns c =
@@ -73,7 +73,7 @@ returns c =
     let bytes = c.args.bytes.now in
     let rest = c.loop-line.rest.now in
     let End : Bool → Type 0 = λ b. (b ≡ true) ⊎ (rest ≡ []) in
-    let end : (is_nothing_due (told i.reached.forms).section ≡ true) ⊎ (rest ≡ []) = subst End (ap is_nothing_due i.stands.section) c.in_default.ensures in
+    let end : (is_nothing_due (told i.reached.statements).section ≡ true) ⊎ (rest ≡ []) = subst End (ap is_nothing_due i.stands.section) c.in_default.ensures in
     let all = ap (inputs_of s (length bytes)) (i.left ∙ at_end s i.reached rest end) ∙ ended s (length bytes) _ i.reached i.place in
     let G : Result ScriptInput (ℕ × Reason) → Type 0 = λ o. Gives c.finish.result o in
     subst G (sym all) (c.finish.ensures s i.reached i.number i.stands)

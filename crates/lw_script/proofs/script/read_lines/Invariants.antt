@@ -11,8 +11,8 @@ abbrev pub invariant-loop-line : goal.invariant-loop-line
 invariant-loop-line l =
     record {
       reached : Reached;
-      stands : Represents (reading_with l.fn.hooks l.fn.form) l.reader reached.forms;
-      good : AreGoodLines (reading_with l.fn.hooks l.fn.form) reached.forms;
+      stands : Represents (reading_with l.fn.hooks l.fn.form) l.reader reached.statements;
+      good : AreGoodLines (reading_with l.fn.hooks l.fn.form) reached.statements;
       number : reached.number ≡ l.number;
       left : lines_read (reading_with l.fn.hooks l.fn.form) at_the_top (lines l.bytes) ≡ lines_read (reading_with l.fn.hooks l.fn.form) reached (lines l.rest);
       place : min (length l.bytes) reached.place ≡ length l.bytes - length l.rest;

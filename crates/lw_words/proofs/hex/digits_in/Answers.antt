@@ -1,7 +1,7 @@
 use Rattle.std.proofs.Common.{◌≡◌, ◌∙◌, sym, ap, option_map, Some}
 use Rattle.lw_words.specs.Digits.{spelling}
 use Rattle.lw_words.specs.TokenMeaning.{token_meaning}
-use Rattle.lw_words.proofs.HexDigits.{bytes_of_word, length-decoded, spells, spells_not, too_long}
+use Rattle.lw_words.proofs.HexDigits.{bytes_of_word, length_decoded, spells, spells_not, too_long}
 use Rattle.lw_words.proofs.hex.digits_in.Goals as goal
 
 pub returns-then-word-count-clause-bytes : goal.returns-then-word-count-clause-bytes
@@ -20,4 +20,4 @@ returns-else-not-are_hex-clause-bytes c =
     sym (bytes_of_word (token_meaning c.args.token.now) c.in-Some.word.now c.args.count e ∙ spells c.in-Some.word.now c.args.count c.if-word-count.false (sym c.are_hex.ensures ∙ c.if-not-are_hex.false))
 
 pub returns-else-not-are_hex-clause-long : goal.returns-else-not-are_hex-clause-long
-returns-else-not-are_hex-clause-long c = length-decoded c.in-Some.word.now c.args.count c.if-word-count.false
+returns-else-not-are_hex-clause-long c = length_decoded c.in-Some.word.now c.args.count c.if-word-count.false

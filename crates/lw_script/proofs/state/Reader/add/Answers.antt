@@ -1,17 +1,17 @@
 use Rattle.std.proofs.Common.{sym, subst, ◌∷◌, arith, List}
 use Rattle.lw_grammar.specs.Script.{Setting}
-use Rattle.lw_grammar.specs.LineForms.{Statement as FormValue}
-use Rattle.lw_lines.specs.declared.form.Statement.{Statement}
-use Rattle.lw_lines.specs.FormMeaning.{form_meaning}
+use Rattle.lw_grammar.specs.Statements.{Statement as StatementValue}
+use Rattle.lw_lines.specs.declared.statement.Statement.{Statement}
+use Rattle.lw_lines.specs.StatementMeaning.{statement_meaning}
 use Rattle.lw_script.specs.declared.state.Reader.{Reader}
 use Rattle.lw_script.specs.Represents.{Represents, CanAdd}
 use Rattle.lw_script.proofs.Addable.{in_64, screen_ranged, bitmap_ranged}
 use Rattle.lw_script.proofs.Passing.{same_screen, same_bitmap, on_done}
 use Rattle.lw_script.proofs.state.Reader.add.Goals as goal
 
--- the reader represents the form put on the lines above
-abbrev Put : Setting → Reader → List FormValue → Statement → Type 0
-Put s r above f = Represents s r (form_meaning f ∷ above)
+-- the reader represents the statement put on the lines above
+abbrev Put : Setting → Reader → List StatementValue → Statement → Type 0
+Put s r above f = Represents s r (statement_meaning f ∷ above)
 
 pub returns-in-End : goal.returns-in-End
 returns-in-End c = λ s above k. subst (Put s c.add_end.new.self above) (sym c.in-End.is) (c.add_end.ensures s above k)
@@ -28,9 +28,9 @@ returns-in-Hold c = λ s above k. subst (Put s c.add_hold.new.self above) (sym c
 pub returns-in-Glyph : goal.returns-in-Glyph
 returns-in-Glyph c = λ s above k. subst (Put s c.add_glyph.new.self above) (sym c.in-Glyph.is) (c.add_glyph.ensures s above k)
 
--- a line that can be added, by the form that was read
+-- a line that can be added, by the statement that was read
 abbrev Adds : Reader → Statement → Type 0
-Adds r f = CanAdd r (form_meaning f)
+Adds r f = CanAdd r (statement_meaning f)
 
 pub returns-in-Screen : goal.returns-in-Screen
 returns-in-Screen c = λ s above k.

@@ -1,5 +1,5 @@
 use Rattle.std.proofs.Common.{w64}
-use Rattle.lw_grammar.specs.LineForms.{BitmapLine}
+use Rattle.lw_grammar.specs.Statements.{BitmapLine}
 use Rattle.lw_script.proofs.Addable.{here_of, due_of, bitmap_ranged, bitmap_new}
 use Rattle.std.proofs.lemmas.Int.{to_z-of_z}
 use Rattle.lw_script.proofs.state.Reader.add_bitmap.Goals as goal

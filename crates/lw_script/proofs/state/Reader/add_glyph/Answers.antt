@@ -1,5 +1,5 @@
 use Rattle.std.proofs.Common.{refl}
-use Rattle.lw_grammar.specs.LineForms.{GlyphLine}
+use Rattle.lw_grammar.specs.Statements.{GlyphLine}
 use Rattle.lw_words.specs.Digits.{decoded}
 use Rattle.lw_script.proofs.Addable.{here_of, due_of, code_ranged, rows_8}
 use Rattle.lw_script.proofs.Passing.{with_assets}

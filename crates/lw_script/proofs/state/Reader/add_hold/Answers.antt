@@ -1,5 +1,5 @@
 use Rattle.std.proofs.Common.{refl}
-use Rattle.lw_grammar.specs.LineForms.{HoldLine}
+use Rattle.lw_grammar.specs.Statements.{HoldLine}
 use Rattle.lw_script.proofs.Passing.{with_tasks}
 use Rattle.lw_script.proofs.state.Reader.add_hold.Goals as goal
 

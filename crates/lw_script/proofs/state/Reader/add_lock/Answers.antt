@@ -1,5 +1,5 @@
 use Rattle.std.proofs.Common.{refl}
-use Rattle.lw_grammar.specs.LineForms.{LockLine}
+use Rattle.lw_grammar.specs.Statements.{LockLine}
 use Rattle.lw_script.proofs.Addable.{few_names}
 use Rattle.lw_script.proofs.Passing.{with_tasks, on_done}
 use Rattle.lw_script.proofs.state.Reader.add_lock.Goals as goal

@@ -1,5 +1,5 @@
 use Rattle.std.proofs.Common.{◌++◌, map, unsigned_abs, ◌∙◌, ap, refl}
-use Rattle.lw_grammar.specs.LineForms.{NumbersLine}
+use Rattle.lw_grammar.specs.Statements.{NumbersLine}
 use Rattle.lw_script.proofs.Addable.{tests_of}
 use Rattle.lw_script.proofs.Passing.{assets_pass, tasks_pass, on_done}
 use Rattle.lw_script.proofs.state.Reader.add_numbers.Goals as goal

@@ -1,5 +1,5 @@
 use Rattle.std.proofs.Common.{refl}
-use Rattle.lw_grammar.specs.LineForms.{OrderLine}
+use Rattle.lw_grammar.specs.Statements.{OrderLine}
 use Rattle.lw_script.proofs.Passing.{assets_pass, tasks_pass}
 use Rattle.lw_script.proofs.state.Reader.add_order.Goals as goal
 

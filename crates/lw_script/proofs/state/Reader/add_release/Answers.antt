@@ -1,5 +1,5 @@
 use Rattle.std.proofs.Common.{refl}
-use Rattle.lw_grammar.specs.LineForms.{ReleaseLine}
+use Rattle.lw_grammar.specs.Statements.{ReleaseLine}
 use Rattle.lw_script.proofs.Addable.{some_released}
 use Rattle.lw_script.proofs.Passing.{with_tasks, on_done}
 use Rattle.lw_script.proofs.state.Reader.add_release.Goals as goal

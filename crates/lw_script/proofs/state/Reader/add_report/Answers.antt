@@ -1,5 +1,5 @@
 use Rattle.std.proofs.Common.{refl}
-use Rattle.lw_grammar.specs.LineForms.{ReportLine}
+use Rattle.lw_grammar.specs.Statements.{ReportLine}
 use Rattle.lw_script.proofs.Passing.{assets_pass, tasks_pass}
 use Rattle.lw_script.proofs.state.Reader.add_report.Goals as goal
 

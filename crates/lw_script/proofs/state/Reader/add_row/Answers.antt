@@ -1,5 +1,5 @@
 use Rattle.std.proofs.Common.{refl}
-use Rattle.lw_grammar.specs.LineForms.{RowLine}
+use Rattle.lw_grammar.specs.Statements.{RowLine}
 use Rattle.lw_words.specs.Digits.{decoded}
 use Rattle.lw_script.proofs.Addable.{row_due, row_begun, row_long}
 use Rattle.lw_script.proofs.Passing.{with_assets, on_done}

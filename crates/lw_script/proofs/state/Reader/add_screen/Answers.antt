@@ -1,5 +1,5 @@
 use Rattle.std.proofs.Common.{refl, ap, ◌∙◌, unsigned_abs, w64}
-use Rattle.lw_grammar.specs.LineForms.{ScreenLine}
+use Rattle.lw_grammar.specs.Statements.{ScreenLine}
 use Rattle.lw_script.proofs.Addable.{screen_ranged}
 use Rattle.lw_script.proofs.Passing.{assets_pass, tasks_pass}
 use Rattle.std.proofs.lemmas.Int.{to_z-of_z}

@@ -1,7 +1,7 @@
 use Rattle.lw_script.proofs.Addable.{task_new}
 use Rattle.lw_script.proofs.Passing.{assets_pass}
 use Rattle.std.proofs.Common.{refl}
-use Rattle.lw_grammar.specs.LineForms.{TaskLine}
+use Rattle.lw_grammar.specs.Statements.{TaskLine}
 use Rattle.lw_script.proofs.state.Reader.add_task.Goals as goal
 
 pub add_task-requires : goal.add_task-requires

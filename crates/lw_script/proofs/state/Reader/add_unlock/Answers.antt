@@ -1,5 +1,5 @@
 use Rattle.std.proofs.Common.{refl}
-use Rattle.lw_grammar.specs.LineForms.{UnlockLine}
+use Rattle.lw_grammar.specs.Statements.{UnlockLine}
 use Rattle.lw_script.proofs.Addable.{few_names, some_unlocked}
 use Rattle.lw_script.proofs.Passing.{with_tasks, on_done}
 use Rattle.lw_script.proofs.state.Reader.add_unlock.Goals as goal

@@ -8,5 +8,5 @@ use Rattle.lw_script.proofs.state.Reader.finish.Goals as goal
 
 pub returns : goal.returns
 returns c = λ s p n k.
-    (let whole : may_end s.form (told p.forms).section ≡ true = sym (ends_alike s c.args.self p.forms k) ∙ sym c.may_end.ensures ∙ c.if-not-may_end.false in
-    ap (λ b. (at_number p.number (demand b Missing) >>= (λ _. Ok p)) >>= (λ q. Ok (input_from s (told q.forms) c.args.rest))) whole ∙ ap Ok (sym (c.in_ok-input.ensures s p.forms k)))
+    (let whole : may_end s.form (told p.statements).section ≡ true = sym (ends_alike s c.args.self p.statements k) ∙ sym c.may_end.ensures ∙ c.if-not-may_end.false in
+    ap (λ b. (at_number p.number (demand b Missing) >>= (λ _. Ok p)) >>= (λ q. Ok (input_from s (told q.statements) c.args.rest))) whole ∙ ap Ok (sym (c.in_ok-input.ensures s p.statements k)))

@@ -1,4 +1,4 @@
-use Rattle.lw_lines.specs.FormMeaning.{form_meaning}
+use Rattle.lw_lines.specs.StatementMeaning.{statement_meaning}
 use Rattle.lw_script.proofs.state.Reader.take.Goals as goal
 
 pub add-requires : goal.add-requires
@@ -8,4 +8,4 @@ add-requires c =
 
 pub returns-in_ok-add-in-Ok : goal.returns-in_ok-add-in-Ok
 returns-in_ok-add-in-Ok c = λ s above k.
-    (form_meaning c.in-Ok.form, c.in-Ok.ensures s above k, c.in_ok-add-in-Ok.ensures s above k)
+    (statement_meaning c.in-Ok.statement, c.in-Ok.ensures s above k, c.in_ok-add-in-Ok.ensures s above k)

@@ -1,0 +1,211 @@
+-- The words of each statement are those that it was read from, where its numbers are in their ranges.
+use Rattle.std.proofs.Common.{◌≡◌, ℕ, ◌*◌, ◌%◌, ◌==◌, true, ◌&&◌, nat_le, List, [], ◌∷◌, length, map, ℤ, pos, codes, bytes_eq, Option, Some, None, IfSome, refl, sym, ◌∙◌}
+use Rattle.std.specs.List.{list_all}
+use Rattle.std.specs.Fmt.{signed_decimal}
+use Rattle.lw_region.specs.Rectangle.{within}
+use Rattle.lw_planes.specs.Bitmap.{row_bytes}
+use Rattle.lw_calls.specs.declared.operation.RectOp.{RectOp}
+use Rattle.lw_calls.specs.declared.operation.PairOp.{PairOp}
+use Rattle.lw_grammar.specs.Tokens.{Token, NameToken, NumberToken, TextToken, OddToken, hex_bytes, spelled_bytes, bytes_in}
+use Rattle.lw_calls.specs.Limits.{coordinates_fit, is_extent}
+use Rattle.lw_calls.specs.declared.area.Area.{Area}
+use Rattle.lw_grammar.specs.Statements.{Act, Statement, RowLine, NumbersLine, four, screen_line, glyph_of_bytes, glyph_line, bitmap_line, row_line, all_numbers, numbers_limit, numbers_line, name_line, bare_line, layer_line, number_line, pair_line, text_line, rect_line, region_line, clear_line, which_line, infront_line, four_line, scrollraster_line, minterm_of, put_line, blit_line, endrefresh_line, is_area_in_range, is_act_in_range, is_line_in_range}
+use Rattle.lw_calls.specs.Written.{hex_byte}
+use Rattle.lw_canonical.specs.Spelling.{hex_word, text_word, four_words, rect_word, pair_word, call_words, words_of}
+use Rattle.lw_grammar.proofs.ScriptStatements.{either_has, map_has}
+use Rattle.lw_grammar.proofs.ScriptNames.{equal_names}
+use Rattle.lw_canonical.proofs.SpelledNumbers.{hex_written, found_if}
+use Rattle.lw_canonical.proofs.SpelledWords.{token_word, AreTokens}
+use Rattle.lw_canonical.proofs.SpelledRanges.{IsSmall, places_small, size_small, register_small, task_small, side_small, depth_small, AreSmall, rect_small, also}
+use Rattle.std.proofs.lemmas.Bool.{and_parts}
+
+-- The statement's words are these, where the words are good for what they are and the statement is in range.
+abbrev pub HasWords : List (List ℕ) → List Token → Statement → Type 0
+HasWords words ts f = AreTokens ts → is_line_in_range f ≡ true → words_of f ≡ words
+
+-- the same of the words after a verb
+abbrev pub IsSpelt : List ℕ → List Token → Statement → Type 0
+IsSpelt word ts f = HasWords (word ∷ map token_word ts) ts f
+
+-- the bytes that a word spells are written so
+word_bytes : (count : ℕ) (word : List ℕ) → IfSome (spelled_bytes count word) (λ bytes. hex_word bytes ≡ word)
+word_bytes count word = either_has (λ bytes. hex_word bytes ≡ word) (length word == 2 * count) (hex_bytes word) None (hex_written word) tt
+
+-- the same of what a word is
+pub token_bytes : (count : ℕ) (t : Token) → IfSome (bytes_in count t) (λ bytes. hex_word bytes ≡ token_word t)
+token_bytes count (NameToken word) = word_bytes count word
+token_bytes count (NumberToken word z) = word_bytes count word
+token_bytes count (TextToken text) = tt
+token_bytes count (OddToken word) = word_bytes count word
+
+-- screen W H D
+pub screen_spelt : (ts : List Token) → IfSome (screen_line ts) (IsSpelt (codes "screen") ts)
+screen_spelt (NumberToken a w ∷ NumberToken b h ∷ NumberToken c d ∷ []) = λ t r.
+    let k = and_parts (within (pos 1) w (pos 1024) && within (pos 1) h (pos 1024)) _ r in
+    let s = and_parts (within (pos 1) w (pos 1024)) _ k.0 in
+    also refl (also (t.0 (side_small w s.0)) (also (t.1.0 (side_small h s.1)) (also (t.1.1.0 (depth_small d k.1)) refl)))
+screen_spelt _ = tt
+
+-- a glyph of the bytes that its words spell
+glyph_bytes_spelt : (x y : Token) (code rows : Option (List ℕ)) → IfSome code (λ bytes. hex_word bytes ≡ token_word x) → IfSome rows (λ bytes. hex_word bytes ≡ token_word y) → IfSome (glyph_of_bytes code rows) (IsSpelt (codes "glyph") (x ∷ y ∷ []))
+glyph_bytes_spelt x y (Some (code ∷ [])) (Some rows) h k = λ t r. also refl (also h (also k refl))
+glyph_bytes_spelt x y _ _ h k = tt
+
+-- glyph CC HHHHHHHHHHHHHHHH
+pub glyph_spelt : (ts : List Token) → IfSome (glyph_line ts) (IsSpelt (codes "glyph") ts)
+glyph_spelt (code ∷ rows ∷ []) = glyph_bytes_spelt code rows (bytes_in 1 code) (bytes_in 8 rows) (token_bytes 1 code) (token_bytes 8 rows)
+glyph_spelt _ = tt
+
+-- bitmap NAME W H D
+pub bitmap_spelt : (ts : List Token) → IfSome (bitmap_line ts) (IsSpelt (codes "bitmap") ts)
+bitmap_spelt (NameToken n ∷ NumberToken a w ∷ NumberToken b h ∷ NumberToken c d ∷ []) = λ t r.
+    let k = and_parts (within (pos 1) w (pos 1024) && within (pos 1) h (pos 1024)) _ r in
+    let s = and_parts (within (pos 1) w (pos 1024)) _ k.0 in
+    also refl (also refl (also (t.1.0 (side_small w s.0)) (also (t.1.1.0 (side_small h s.1)) (also (t.1.1.1.0 (depth_small d k.1)) refl))))
+bitmap_spelt _ = tt
+
+-- a row of a bitmap
+pub row_spelt : (width : ℕ) (ts : List Token) → IfSome (row_line width ts) (HasWords (map token_word ts) ts)
+row_spelt width (t ∷ []) =
+    map_has (λ bytes. hex_word bytes ≡ token_word t) (HasWords (token_word t ∷ []) (t ∷ [])) (λ bytes. RowLine bytes) (bytes_in (row_bytes width) t) (token_bytes (row_bytes width) t) (λ bytes e u r. also e refl)
+row_spelt width _ = tt
+
+-- numbers of an order
+abbrev AreNumbers : List Token → List ℤ → Type 0
+AreNumbers ts zs = AreTokens ts → list_all (λ z. within (pos 0) z (pos 15)) zs ≡ true → map signed_decimal zs ≡ map token_word ts
+
+all_spelt : (ts : List Token) → IfSome (all_numbers ts) (AreNumbers ts)
+all_spelt [] = λ t r. refl
+all_spelt (NumberToken a z ∷ ts) =
+    map_has (AreNumbers ts) (AreNumbers (NumberToken a z ∷ ts)) (λ zs. z ∷ zs) (all_numbers ts) (all_spelt ts) (λ zs h t r.
+    let k = and_parts (within (pos 0) z (pos 15)) _ r in
+    also (t.0 (task_small z k.0)) (h t.1 k.1))
+all_spelt (NameToken n ∷ ts) = tt
+all_spelt (TextToken n ∷ ts) = tt
+all_spelt (OddToken n ∷ ts) = tt
+
+pub numbers_spelt : (ts : List Token) → IfSome (numbers_line ts) (HasWords (map token_word ts) ts)
+numbers_spelt ts =
+    either_has (HasWords (map token_word ts) ts) (nat_le (length ts) numbers_limit) _ None (map_has (AreNumbers ts) (HasWords (map token_word ts) ts) (λ zs. NumbersLine zs) (all_numbers ts) (all_spelt ts) (λ zs h. h)) tt
+
+-- The lines of each family of verbs, by the verb's word.
+module _ (word : List ℕ) where
+  -- a verb with a name
+  pub name_spelt : (f : List ℕ → Statement) → ((n : List ℕ) → words_of (f n) ≡ word ∷ n ∷ []) → (ts : List Token) → IfSome (name_line f ts) (IsSpelt word ts)
+  name_spelt f h (NameToken n ∷ []) = λ t r. h n
+  name_spelt f h _ = tt
+
+  -- a verb alone
+  pub bare_spelt : (f : Statement) → words_of f ≡ word ∷ [] → (ts : List Token) → IfSome (bare_line f ts) (IsSpelt word ts)
+  bare_spelt f h [] = λ t r. h
+  bare_spelt f h _ = tt
+
+  -- a verb with a layer
+  pub layer_spelt : (act : Act) → ((l : List ℕ) → call_words (l ∷ []) act ≡ word ∷ l ∷ []) → (ts : List Token) → IfSome (layer_line act ts) (IsSpelt word ts)
+  layer_spelt act h (NameToken l ∷ []) = λ t r. h l
+  layer_spelt act h _ = tt
+
+  -- a verb with a layer and a number
+  pub number_spelt : (act : ℤ → Act) → ((l : List ℕ) (z : ℤ) → call_words (l ∷ []) (act z) ≡ word ∷ l ∷ signed_decimal z ∷ []) → ((z : ℤ) → is_act_in_range (act z) ≡ true → IsSmall z) → (ts : List Token) → IfSome (number_line act ts) (IsSpelt word ts)
+  number_spelt act h small (NameToken l ∷ NumberToken a z ∷ []) = λ t r. h l z ∙ also refl (also refl (also (t.1.0 (small z r)) refl))
+  number_spelt act h small _ = tt
+
+  -- a verb with a layer and two numbers
+  pub pair_spelt : (act : ℤ → ℤ → Act) → ((l : List ℕ) (x y : ℤ) → call_words (l ∷ []) (act x y) ≡ word ∷ l ∷ signed_decimal x ∷ signed_decimal y ∷ []) → ((x y : ℤ) → is_act_in_range (act x y) ≡ true → coordinates_fit x y ≡ true) → (ts : List Token) → IfSome (pair_line act ts) (IsSpelt word ts)
+  pair_spelt act h small (NameToken l ∷ NumberToken a x ∷ NumberToken b y ∷ []) = λ t r.
+      let s = places_small x y (small x y r) in
+      h l x y ∙ also refl (also refl (also (t.1.0 s.0) (also (t.1.1.0 s.1) refl)))
+  pair_spelt act h small _ = tt
+
+  -- a verb with a layer and a text
+  pub text_spelt : (act : List ℕ → Act) → ((l text : List ℕ) → call_words (l ∷ []) (act text) ≡ word ∷ l ∷ text_word text ∷ []) → (ts : List Token) → IfSome (text_line act ts) (IsSpelt word ts)
+  text_spelt act h (NameToken l ∷ TextToken text ∷ []) = λ t r. h l text
+  text_spelt act h _ = tt
+
+  -- a verb with a layer and four numbers
+  pub four_spelt : (act : ℤ → ℤ → ℤ → ℤ → Act) → ((l : List ℕ) (x y w h : ℤ) → call_words (l ∷ []) (act x y w h) ≡ word ∷ l ∷ four_words (four x y w h)) → ((x y w h : ℤ) → is_act_in_range (act x y w h) ≡ true → AreSmall (four x y w h)) → (ts : List Token) → IfSome (four_line act ts) (IsSpelt word ts)
+  four_spelt act k small (NameToken l ∷ NumberToken a x ∷ NumberToken b y ∷ NumberToken c w ∷ NumberToken d h ∷ []) = λ t r.
+      let s = small x y w h r in
+      k l x y w h ∙ also refl (also refl (also (t.1.0 s.0) (also (t.1.1.0 s.1.0) (also (t.1.1.1.0 s.1.1.0) (also (t.1.1.1.1.0 s.1.1.1) refl)))))
+  four_spelt act k small _ = tt
+
+-- orrect R X0 Y0 X1 Y1, and its kin
+pub rect_spelt : (op : RectOp) (ts : List Token) → IfSome (rect_line op ts) (IsSpelt (rect_word op) ts)
+rect_spelt op (NumberToken a r ∷ NumberToken b x0 ∷ NumberToken c y0 ∷ NumberToken d x1 ∷ NumberToken e y1 ∷ []) = λ t k.
+    let m = and_parts (within (pos 0) r (pos 7)) _ k in
+    let s = rect_small (four x0 y0 x1 y1) m.1 in
+    also refl (also (t.0 (register_small r m.0)) (also (t.1.0 s.0) (also (t.1.1.0 s.1.0) (also (t.1.1.1.0 s.1.1.0) (also (t.1.1.1.1.0 s.1.1.1) refl)))))
+rect_spelt op _ = tt
+
+-- orregion S R, and its kin
+pub region_spelt : (op : PairOp) (ts : List Token) → IfSome (region_line op ts) (IsSpelt (pair_word op) ts)
+region_spelt op (NumberToken a s ∷ NumberToken b r ∷ []) = λ t k.
+    let m = and_parts (within (pos 0) s (pos 7)) _ k in
+    also refl (also (t.0 (register_small s m.0)) (also (t.1.0 (register_small r m.1)) refl))
+region_spelt op _ = tt
+
+-- clearregion R
+pub clear_spelt : (ts : List Token) → IfSome (clear_line ts) (IsSpelt (codes "clearregion") ts)
+clear_spelt (NumberToken a r ∷ []) = λ t k. also refl (also (t.0 (register_small r k)) refl)
+clear_spelt _ = tt
+
+-- which X Y
+pub which_spelt : (ts : List Token) → IfSome (which_line ts) (IsSpelt (codes "which") ts)
+which_spelt (NumberToken a x ∷ NumberToken b y ∷ []) = λ t k.
+    let s = places_small x y k in
+    also refl (also (t.0 s.0) (also (t.1.0 s.1) refl))
+which_spelt _ = tt
+
+-- infront L M
+pub infront_spelt : (ts : List Token) → IfSome (infront_line ts) (IsSpelt (codes "infront") ts)
+infront_spelt (NameToken l ∷ NameToken m ∷ []) = λ t k. refl
+infront_spelt _ = tt
+
+-- scrollraster L DX DY X0 Y0 X1 Y1
+pub scrollraster_spelt : (ts : List Token) → IfSome (scrollraster_line ts) (IsSpelt (codes "scrollraster") ts)
+scrollraster_spelt (NameToken l ∷ NumberToken a dx ∷ NumberToken b dy ∷ NumberToken c x0 ∷ NumberToken d y0 ∷ NumberToken e x1 ∷ NumberToken f y1 ∷ []) = λ t k.
+    let m = and_parts (coordinates_fit dx dy) _ k in
+    let p = places_small dx dy m.0 in
+    let s = rect_small (four x0 y0 x1 y1) m.1 in
+    also refl (also refl (also (t.1.0 p.0) (also (t.1.1.0 p.1) (also (t.1.1.1.0 s.0) (also (t.1.1.1.1.0 s.1.0) (also (t.1.1.1.1.1.0 s.1.1.0) (also (t.1.1.1.1.1.1.0 s.1.1.1) refl)))))))
+scrollraster_spelt _ = tt
+
+-- endrefresh L full, endrefresh L part
+pub endrefresh_spelt : (ts : List Token) → IfSome (endrefresh_line ts) (IsSpelt (codes "endrefresh") ts)
+endrefresh_spelt (NameToken l ∷ NameToken how ∷ []) =
+    found_if (IsSpelt (codes "endrefresh") (NameToken l ∷ NameToken how ∷ [])) (bytes_eq how (codes "full")) _ _ (λ e t r. also refl (also refl (also (sym (equal_names how (codes "full") e)) refl))) (found_if (IsSpelt (codes "endrefresh") (NameToken l ∷ NameToken how ∷ [])) (bytes_eq how (codes "part")) _ None (λ e t r. also refl (also refl (also (sym (equal_names how (codes "part") e)) refl))) tt)
+endrefresh_spelt _ = tt
+
+-- a minterm is written as it was read
+minterm_spelt : (word : List ℕ) (o : Option (List ℕ)) → IfSome o (λ bytes. hex_word bytes ≡ word) → IfSome (minterm_of o) (λ m. hex_byte m ≡ word)
+minterm_spelt word None h = tt
+minterm_spelt word (Some []) h = tt
+minterm_spelt word (Some (m ∷ [])) h = found_if (λ k. hex_byte k ≡ word) (m % 16 == 0) m None (λ e. h) tt
+minterm_spelt word (Some (m ∷ n ∷ ms)) h = tt
+
+-- each number of a blit
+abbrev AreBlitSmall : Area → Type 0
+AreBlitSmall b = (IsSmall b.sx × IsSmall b.sy) × ((IsSmall b.x × IsSmall b.y) × (IsSmall b.w × IsSmall b.h))
+
+blit_small : (b : Area) → is_area_in_range b ≡ true → AreBlitSmall b
+blit_small b r =
+    let k = and_parts (coordinates_fit b.sx b.sy && coordinates_fit b.x b.y) _ r in
+    let places = and_parts (coordinates_fit b.sx b.sy) (coordinates_fit b.x b.y) k.0 in
+    let sizes = and_parts (is_extent b.w) (is_extent b.h) k.1 in
+    (places_small b.sx b.sy places.0, (places_small b.x b.y places.1, (size_small b.w sizes.0, size_small b.h sizes.1)))
+
+-- put BM SX SY L X Y W H MM
+pub put_spelt : (ts : List Token) → IfSome (put_line ts) (IsSpelt (codes "put") ts)
+put_spelt (NameToken bm ∷ NumberToken a sx ∷ NumberToken b sy ∷ NameToken l ∷ NumberToken c x ∷ NumberToken d y ∷ NumberToken e w ∷ NumberToken f h ∷ mm ∷ []) =
+    map_has (λ m. hex_byte m ≡ token_word mm) (IsSpelt (codes "put") (NameToken bm ∷ NumberToken a sx ∷ NumberToken b sy ∷ NameToken l ∷ NumberToken c x ∷ NumberToken d y ∷ NumberToken e w ∷ NumberToken f h ∷ mm ∷ [])) _ (minterm_of (bytes_in 1 mm)) (minterm_spelt (token_word mm) (bytes_in 1 mm) (token_bytes 1 mm)) (λ m k t r.
+    let s = blit_small (record { sx = sx; sy = sy; x = x; y = y; w = w; h = h; minterm = m }) r in
+    also refl (also refl (also (t.1.0 s.0.0) (also (t.1.1.0 s.0.1) (also refl (also (t.1.1.1.1.0 s.1.0.0) (also (t.1.1.1.1.1.0 s.1.0.1) (also (t.1.1.1.1.1.1.0 s.1.1.0) (also (t.1.1.1.1.1.1.1.0 s.1.1.1) (also k refl))))))))))
+put_spelt _ = tt
+
+-- blit L SX SY M X Y W H MM
+pub blit_spelt : (ts : List Token) → IfSome (blit_line ts) (IsSpelt (codes "blit") ts)
+blit_spelt (NameToken l ∷ NumberToken a sx ∷ NumberToken b sy ∷ NameToken n ∷ NumberToken c x ∷ NumberToken d y ∷ NumberToken e w ∷ NumberToken f h ∷ mm ∷ []) =
+    map_has (λ m. hex_byte m ≡ token_word mm) (IsSpelt (codes "blit") (NameToken l ∷ NumberToken a sx ∷ NumberToken b sy ∷ NameToken n ∷ NumberToken c x ∷ NumberToken d y ∷ NumberToken e w ∷ NumberToken f h ∷ mm ∷ [])) _ (minterm_of (bytes_in 1 mm)) (minterm_spelt (token_word mm) (bytes_in 1 mm) (token_bytes 1 mm)) (λ m k t r.
+    let s = blit_small (record { sx = sx; sy = sy; x = x; y = y; w = w; h = h; minterm = m }) r in
+    also refl (also refl (also (t.1.0 s.0.0) (also (t.1.1.0 s.0.1) (also refl (also (t.1.1.1.1.0 s.1.0.0) (also (t.1.1.1.1.1.0 s.1.0.1) (also (t.1.1.1.1.1.1.0 s.1.1.0) (also (t.1.1.1.1.1.1.1.0 s.1.1.1) (also k refl))))))))))
+blit_spelt _ = tt

@@ -1,0 +1,473 @@
+-- What the words of a line that has a statement were good for: where the line stands, and how the statement is made.
+use Rattle.std.proofs.Common.{◌≡◌, ℕ, suc, ◌+◌, ◌*◌, ◌%◌, ◌^◌, ◌<◌, ◌≤◌, ◌==◌, Bool, true, false, not, cond, ◌&&◌, ◌||◌, nat_le, List, [], ◌∷◌, length, map, ℤ, pos, codes, bytes_eq, Option, Some, None, option_map, option_and_then, ok_or, IfSome, refl, ap, ◌∙◌, arith, pow_mono, pow-suc, add-one}
+use Rattle.std.specs.Result.{IfOk}
+use Rattle.lw_region.specs.Rectangle.{Rectangle}
+use Rattle.lw_planes.specs.Bitmap.{row_bytes}
+use Rattle.lw_calls.specs.declared.operation.RectOp.{RectOp}
+use Rattle.lw_calls.specs.declared.operation.RectOp.TheVariants.{Or as OrR, And as AndR, Xor as XorR, Clear as ClearR}
+use Rattle.lw_calls.specs.declared.operation.PairOp.{PairOp}
+use Rattle.lw_calls.specs.declared.operation.PairOp.TheVariants.{Or as OrP, And as AndP, Xor as XorP}
+use Rattle.lw_calls.specs.declared.make.Kind.{Kind}
+use Rattle.lw_calls.specs.declared.make.Kind.TheVariants.{Simple, Smart, SuperBitmap}
+use Rattle.lw_calls.specs.declared.make.Place.{Place}
+use Rattle.lw_calls.specs.declared.form.Form.{Form}
+use Rattle.lw_calls.specs.declared.reason.Reason.{Reason}
+use Rattle.lw_calls.specs.declared.reason.Reason.TheVariants.{UnknownWord, Misplaced, OneTaskOnly, Form as FormReason}
+use Rattle.lw_grammar.specs.declared.verb.Verb.{Verb}
+use Rattle.lw_grammar.specs.declared.verb.Verb.TheVariants.{Screen as ScreenVerb, Glyph as GlyphVerb, Bitmap as BitmapVerb, Task as TaskVerb, End as EndVerb, Order as OrderVerb, Report as ReportVerb, Lock as LockVerb, Unlock as UnlockVerb, Hold as HoldVerb, Release as ReleaseVerb, OrRect as OrRectVerb, AndRect as AndRectVerb, XorRect as XorRectVerb, ClearRect as ClearRectVerb, OrRegion as OrRegionVerb, AndRegion as AndRegionVerb, XorRegion as XorRegionVerb, ClearRegion as ClearRegionVerb, Create as CreateVerb, Open as OpenVerb, Close as CloseVerb, Front as FrontVerb, Behind as BehindVerb, InFront as InFrontVerb, Move as MoveVerb, Size as SizeVerb, Box as BoxVerb, Activate as ActivateVerb, Which as WhichVerb, APen as APenVerb, BPen as BPenVerb, Mode as ModeVerb, Mask as MaskVerb, At as AtVerb, Write as WriteVerb, Read as ReadVerb, Fill as FillVerb, Draw as DrawVerb, Text as TextVerb, SetRast as SetRastVerb, ScrollRaster as ScrollRasterVerb, Put as PutVerb, Blit as BlitVerb, Clip as ClipVerb, Unclip as UnclipVerb, Refresh as RefreshVerb, EndRefresh as EndRefreshVerb, Scroll as ScrollVerb, Title as TitleVerb, GetMsg as GetMsgVerb}
+use Rattle.lw_calls.specs.Limits.{is_minterm}
+use Rattle.lw_calls.specs.Kinds.{is_super}
+use Rattle.lw_grammar.specs.Tokens.{Token, NameToken, NumberToken, TextToken, OddToken, token_of, is_hex, hex_value, hex_bytes, spelled_bytes, bytes_in}
+use Rattle.lw_grammar.specs.Statements.{layers_of, AskedLayer, Act, RegRectAct, RegPairAct, RegClearAct, CreateAct, OpenAct, CloseAct, FrontAct, BehindAct, InFrontAct, ActivateAct, WhichAct, ScrollRasterAct, PutAct, BlitAct, UnclipAct, RefreshAct, EndRefreshAct, GetMsgAct, Statement, ScreenLine, GlyphLine, BitmapLine, RowLine, TaskLine, EndLine, OrderLine, NumbersLine, ReportLine, CallLine, LockLine, UnlockLine, HoldLine, ReleaseLine, four, screen_line, glyph_of_bytes, glyph_line, bitmap_line, row_line, all_numbers, numbers_limit, numbers_line, name_line, bare_line, layer_line, number_line, pair_line, text_line, rect_line, region_line, clear_line, which_line, infront_line, four_line, scrollraster_line, minterm_of, put_line, blit_line, endrefresh_line, kind_of, place_of, flag, hook_option, message_class_of, classes_from, asked_classes, ask_option, at_end, create_super, create_kind, titled_line, open_super, open_kind, asked_line, statement_by}
+use Rattle.lw_grammar.specs.Told.{Section, told}
+use Rattle.lw_grammar.specs.Script.{Setting, is_screen_due, are_assets_due, are_calls_due, are_tasks_due, are_numbers_due, is_plain, is_ordered, is_audited, belongs_in, is_task_verb, verb_on, after_verb, verb_read, statement_read}
+use Rattle.lw_grammar.specs.Demands.{◌>>=◌, demand}
+use Rattle.std.proofs.lemmas.Bool.{false≢true, eqb-true, leb-true, le-leb, and_parts, and_from, and_right}
+use Rattle.std.proofs.lemmas.Bool.Decides.{nat_tests}
+
+-- A line with this statement, which begins with a verb, belongs in this section of this input.
+abbrev pub belongs_at : Form → Section → Statement → Bool
+belongs_at form s (ScreenLine w h d) = is_screen_due s
+belongs_at form s (GlyphLine code rows) = are_assets_due s
+belongs_at form s (BitmapLine name w h d) = are_assets_due s
+belongs_at form s (RowLine bytes) = false
+belongs_at form s (TaskLine name) = are_assets_due s || are_tasks_due s
+belongs_at form s EndLine = are_calls_due s
+belongs_at form s OrderLine = are_tasks_due s && is_ordered form
+belongs_at form s (NumbersLine zs) = false
+belongs_at form s ReportLine = are_tasks_due s && is_audited form
+belongs_at form s (CallLine layers act) = are_calls_due s
+belongs_at form s (LockLine name) = are_calls_due s
+belongs_at form s (UnlockLine name) = are_calls_due s
+belongs_at form s HoldLine = are_calls_due s
+belongs_at form s ReleaseLine = are_calls_due s
+
+-- a layer with a bitmap of its own has no hook, and no other has the size of one
+abbrev pub IsAskedOf : Kind → AskedLayer → Type 0
+IsAskedOf Simple a = (a.bits_w ≡ pos 0) × (a.bits_h ≡ pos 0)
+IsAskedOf Smart a = (a.bits_w ≡ pos 0) × (a.bits_h ≡ pos 0)
+IsAskedOf SuperBitmap a = a.hook ≡ None
+
+-- what the words of a call are good for, besides the ranges of its numbers
+abbrev pub IsActMade : Act → Type 0
+IsActMade (CreateAct a) = IsAskedOf a.kind a
+IsActMade (OpenAct a framed nocare classes title) = IsAskedOf a.kind a × ((framed && is_super a.kind) ≡ false) × (classes < 32)
+IsActMade (PutAct bm b) = is_minterm b.minterm ≡ true
+IsActMade (BlitAct b) = is_minterm b.minterm ≡ true
+IsActMade act = Unit {0}
+
+-- the same of a line
+abbrev pub IsStatementMade : Statement → Type 0
+IsStatementMade (GlyphLine code rows) = length rows ≡ 8
+IsStatementMade (CallLine layers act) = (length layers ≡ layers_of act) × IsActMade act
+IsStatementMade statement = Unit {0}
+
+-- the line begins a task
+abbrev pub begins_task : Statement → Bool
+begins_task (TaskLine name) = true
+begins_task statement = false
+
+-- The statement is made of words after a verb whose lines stand here or not, and which begins a task or not.
+pub record IsVerbStatement (form : Form) (s : Section) (stands task : Bool) (f : Statement) : Type 0 where
+  pub place : stands ≡ true → belongs_at form s f ≡ true
+  pub begins : begins_task f ≡ task
+  pub made : IsStatementMade f
+
+-- a statement whose lines stand where the verb's do
+belongs_so : (form : Form) (s : Section) (f : Statement) → IsStatementMade f → IsVerbStatement form s (belongs_at form s f) (begins_task f) f
+belongs_so form s f h = record { place = λ e. e; begins = refl; made = h }
+
+-- the statement of a call, which stands where calls are due
+call_so : (form : Form) (s : Section) (layers : List (List ℕ)) (act : Act) → length layers ≡ layers_of act → IsActMade act → IsVerbStatement form s (are_calls_due s) false (CallLine layers act)
+call_so form s layers act n h = record { place = λ e. e; begins = refl; made = (n, h) }
+
+-- of two options that have a property, each has it
+pub either_has : {A : Type 0} (P : A → Type 0) (b : Bool) (x y : Option A) → IfSome x P → IfSome y P → IfSome (cond b x y) P
+either_has P true x y h k = h
+either_has P false x y h k = k
+
+-- what is made of whatever is found has it
+then_has : {A B : Type 0} (P : B → Type 0) (g : A → Option B) (o : Option A) → ((a : A) → IfSome (g a) P) → IfSome (option_and_then g o) P
+then_has P g None h = tt
+then_has P g (Some a) h = h a
+
+-- what is made of what is found, by what is known of this
+pub map_has : {A B : Type 0} (Q : A → Type 0) (P : B → Type 0) (g : A → B) (o : Option A) → IfSome o Q → ((a : A) → Q a → P (g a)) → IfSome (option_map g o) P
+map_has Q P g None q h = tt
+map_has Q P g (Some a) q h = h a q
+
+-- a hexadecimal digit counts at most 15
+pub hex_small : (b : ℕ) → is_hex b ≡ true → hex_value b ≤ 15
+hex_small b h = grind (arith, nat_tests)
+
+-- each of these is a byte
+abbrev pub AreBytes : List ℕ → Type 0
+AreBytes [] = Unit {0}
+AreBytes (b ∷ bs) = (b ≤ 255) × AreBytes bs
+
+-- bytes that so many digits spell
+abbrev pub AreSpelled : ℕ → List ℕ → Type 0
+AreSpelled digits bytes = (2 * length bytes ≡ digits) × AreBytes bytes
+
+-- one byte more
+hex_more : (a b n : ℕ) → (is_hex a && is_hex b) ≡ true → (bytes : List ℕ) → AreSpelled n bytes → AreSpelled (suc (suc n)) (((hex_value a * 16) + hex_value b) ∷ bytes)
+hex_more a b n h bytes k =
+    let both = and_parts (is_hex a) (is_hex b) h in
+    let first = hex_small a both.0 in
+    let second = hex_small b both.1 in
+    (omega (arith, k.0), (omega arith, k.1))
+
+-- digits spell half as many bytes
+hex_spelled : (word : List ℕ) → IfSome (hex_bytes word) (AreSpelled (length word))
+hex_spelled [] = (refl, tt)
+hex_spelled (a ∷ []) = tt
+hex_spelled (a ∷ b ∷ rest) = step (is_hex a && is_hex b) refl (hex_spelled rest)
+  where
+    step : (t : Bool) → (is_hex a && is_hex b) ≡ t → IfSome (hex_bytes rest) (AreSpelled (length rest)) → IfSome (cond t (option_map (λ bytes. ((hex_value a * 16) + hex_value b) ∷ bytes) (hex_bytes rest)) None) (AreSpelled (suc (suc (length rest))))
+    step true e h = map_has (AreSpelled (length rest)) (AreSpelled (suc (suc (length rest)))) _ (hex_bytes rest) h (λ bytes k. hex_more a b (length rest) e bytes k)
+    step false e h = tt
+
+-- so many bytes
+abbrev pub AreSoMany : ℕ → List ℕ → Type 0
+AreSoMany count bytes = (length bytes ≡ count) × AreBytes bytes
+
+-- a word spells just as many bytes as are asked for
+word_spelled : (count : ℕ) (word : List ℕ) → IfSome (spelled_bytes count word) (AreSoMany count)
+word_spelled count word = step (length word == 2 * count) refl (hex_bytes word) (hex_spelled word)
+  where
+    step : (t : Bool) → (length word == 2 * count) ≡ t → (o : Option (List ℕ)) → IfSome o (AreSpelled (length word)) → IfSome (cond t o None) (AreSoMany count)
+    step false e o h = tt
+    step true e None h = tt
+    step true e (Some bytes) h = let same : length word ≡ 2 * count = eqb-true _ _ e in (omega (arith, h.0, same), h.1)
+
+-- the same of what a word is
+pub token_spelled : (count : ℕ) (t : Token) → IfSome (bytes_in count t) (AreSoMany count)
+token_spelled count (NameToken word) = word_spelled count word
+token_spelled count (NumberToken word z) = word_spelled count word
+token_spelled count (TextToken text) = tt
+token_spelled count (OddToken word) = word_spelled count word
+
+-- one byte whose lower bits are 0 is a minterm
+minterm_made : (o : Option (List ℕ)) → IfSome o (AreSoMany 1) → IfSome (minterm_of o) (λ m. is_minterm m ≡ true)
+minterm_made None h = tt
+minterm_made (Some []) h = tt
+minterm_made (Some (m ∷ [])) h = step (m % 16 == 0) refl
+  where
+    step : (t : Bool) → (m % 16 == 0) ≡ t → IfSome (cond t (Some m) None) (λ k. is_minterm k ≡ true)
+    step true e = and_from (nat_le m 255) (m % 16 == 0) (le-leb m 255 h.1.0) e
+    step false e = tt
+minterm_made (Some (m ∷ n ∷ ms)) h = tt
+
+-- the least power that a class from this one on adds
+class_step : (least k rest : ℕ) → least ≤ k → rest + 2 ^ (k + 1) ≤ 32 → (2 ^ k + rest) + 2 ^ least ≤ 32
+class_step least k rest h r =
+    let power : 2 ^ least ≤ 2 ^ k = pow_mono h in
+    let twice : 2 ^ (k + 1) ≡ 2 ^ k * 2 = ap (λ n. 2 ^ n) (add-one k) ∙ pow-suc 2 k in
+    omega (arith, power, twice, r)
+
+-- a letter stands for one of five classes
+class_small : (b : ℕ) → IfSome (message_class_of b) (λ k. k ≤ 4)
+class_small b =
+    let P : ℕ → Type 0 = λ k. k ≤ 4 in
+    either_has P (b == 114) _ _ (omega arith) (either_has P (b == 110) _ _ (omega arith) (either_has P (b == 99) _ _ (omega arith) (either_has P (b == 97) _ _ (omega arith) (either_has P (b == 105) (Some 4) None (omega arith) tt))))
+
+-- a set of classes lies below 32
+classes_small : (least : ℕ) (bs : List ℕ) → least ≤ 5 → IfSome (classes_from least bs) (λ c. c + 2 ^ least ≤ 32)
+classes_small least [] h = let small : 2 ^ least ≤ 2 ^ 5 = pow_mono h in omega (arith, small)
+classes_small least (b ∷ bs) h = step (message_class_of b) (class_small b) (λ k small. classes_small (k + 1) bs (omega (arith, small)))
+  where
+    step : (o : Option ℕ) → IfSome o (λ k. k ≤ 4) → ((k : ℕ) → k ≤ 4 → IfSome (classes_from (k + 1) bs) (λ c. c + 2 ^ (k + 1) ≤ 32)) → IfSome (option_and_then (λ k. cond (nat_le least k) (option_map (λ rest. 2 ^ k + rest) (classes_from (k + 1) bs)) None) o) (λ c. c + 2 ^ least ≤ 32)
+    step None small go = tt
+    step (Some k) small go = test (nat_le least k) refl
+      where
+        test : (t : Bool) → nat_le least k ≡ t → IfSome (cond t (option_map (λ rest. 2 ^ k + rest) (classes_from (k + 1) bs)) None) (λ c. c + 2 ^ least ≤ 32)
+        test false e = tt
+        test true e = map_has (λ rest. rest + 2 ^ (k + 1) ≤ 32) (λ c. c + 2 ^ least ≤ 32) (λ rest. 2 ^ k + rest) (classes_from (k + 1) bs) (go k small) (λ rest r. class_step least k rest (leb-true least k e) r)
+
+-- so is what words ask for
+asked_small : (ts : List Token) → (ask_option ts).0 < 32
+asked_small [] = omega arith
+asked_small (NameToken n ∷ []) = omega arith
+asked_small (NameToken n ∷ NameToken set ∷ ts) = step (bytes_eq n (codes "ask"))
+  where
+    found : (o : Option ℕ) → IfSome o (λ c. c + 2 ^ 0 ≤ 32) → (asked_classes o ts (NameToken n ∷ NameToken set ∷ ts)).0 < 32
+    found None h = omega arith
+    found (Some c) h = let small : c + 1 ≤ 32 = h in omega arith
+
+    step : (t : Bool) → (cond t (asked_classes (classes_from 0 set) ts (NameToken n ∷ NameToken set ∷ ts)) (0, NameToken n ∷ NameToken set ∷ ts)).0 < 32
+    step true = found (classes_from 0 set) (classes_small 0 set (omega arith))
+    step false = omega arith
+asked_small (NameToken n ∷ NumberToken a z ∷ ts) = omega arith
+asked_small (NameToken n ∷ TextToken a ∷ ts) = omega arith
+asked_small (NameToken n ∷ OddToken a ∷ ts) = omega arith
+asked_small (NumberToken a z ∷ ts) = omega arith
+asked_small (TextToken a ∷ ts) = omega arith
+asked_small (OddToken a ∷ ts) = omega arith
+
+-- what stands after an opening's words up to its hook
+abbrev behind_hook : List Token → List Token
+behind_hook ts = (hook_option (flag (codes "nocare") (flag (codes "borderless") (flag (codes "backdrop") ts).1).1).1).1
+
+-- The lines of each family of verbs.
+module _ (form : Form) (s : Section) where
+  -- screen W H D
+  screen_made : (ts : List Token) → IfSome (screen_line ts) (IsVerbStatement form s (is_screen_due s) false)
+  screen_made (NumberToken a w ∷ NumberToken b h ∷ NumberToken c d ∷ []) = belongs_so form s (ScreenLine w h d) tt
+  screen_made _ = tt
+
+  -- a glyph of the bytes that its words spell
+  glyph_bytes_made : (code rows : Option (List ℕ)) → IfSome rows (AreSoMany 8) → IfSome (glyph_of_bytes code rows) (IsVerbStatement form s (are_assets_due s) false)
+  glyph_bytes_made (Some (code ∷ [])) (Some rows) h = belongs_so form s (GlyphLine code rows) h.0
+  glyph_bytes_made _ _ h = tt
+
+  -- glyph CC HHHHHHHHHHHHHHHH
+  glyph_made : (ts : List Token) → IfSome (glyph_line ts) (IsVerbStatement form s (are_assets_due s) false)
+  glyph_made (code ∷ rows ∷ []) = glyph_bytes_made (bytes_in 1 code) (bytes_in 8 rows) (token_spelled 8 rows)
+  glyph_made _ = tt
+
+  -- bitmap NAME W H D
+  bitmap_made : (ts : List Token) → IfSome (bitmap_line ts) (IsVerbStatement form s (are_assets_due s) false)
+  bitmap_made (NameToken n ∷ NumberToken a w ∷ NumberToken b h ∷ NumberToken c d ∷ []) = belongs_so form s (BitmapLine n w h d) tt
+  bitmap_made _ = tt
+
+  -- a verb with a name
+  name_made : (f : List ℕ → Statement) (stands task : Bool) → ((n : List ℕ) → IsVerbStatement form s stands task (f n)) → (ts : List Token) → IfSome (name_line f ts) (IsVerbStatement form s stands task)
+  name_made f stands task h (NameToken n ∷ []) = h n
+  name_made f stands task h _ = tt
+
+  -- a verb alone
+  bare_made : (f : Statement) (stands task : Bool) → IsVerbStatement form s stands task f → (ts : List Token) → IfSome (bare_line f ts) (IsVerbStatement form s stands task)
+  bare_made f stands task h [] = h
+  bare_made f stands task h _ = tt
+
+  -- a verb with a layer
+  layer_made : (act : Act) → 1 ≡ layers_of act → IsActMade act → (ts : List Token) → IfSome (layer_line act ts) (IsVerbStatement form s (are_calls_due s) false)
+  layer_made act n h (NameToken l ∷ []) = call_so form s (l ∷ []) act n h
+  layer_made act n h _ = tt
+
+  -- a verb with a layer and a number
+  number_made : (act : ℤ → Act) → ((z : ℤ) → 1 ≡ layers_of (act z)) → ((z : ℤ) → IsActMade (act z)) → (ts : List Token) → IfSome (number_line act ts) (IsVerbStatement form s (are_calls_due s) false)
+  number_made act n h (NameToken l ∷ NumberToken a z ∷ []) = call_so form s (l ∷ []) (act z) (n z) (h z)
+  number_made act n h _ = tt
+
+  -- a verb with a layer and two numbers
+  pair_made : (act : ℤ → ℤ → Act) → ((x y : ℤ) → 1 ≡ layers_of (act x y)) → ((x y : ℤ) → IsActMade (act x y)) → (ts : List Token) → IfSome (pair_line act ts) (IsVerbStatement form s (are_calls_due s) false)
+  pair_made act n h (NameToken l ∷ NumberToken a x ∷ NumberToken b y ∷ []) = call_so form s (l ∷ []) (act x y) (n x y) (h x y)
+  pair_made act n h _ = tt
+
+  -- a verb with a layer and a text
+  text_made : (act : List ℕ → Act) → ((t : List ℕ) → 1 ≡ layers_of (act t)) → ((t : List ℕ) → IsActMade (act t)) → (ts : List Token) → IfSome (text_line act ts) (IsVerbStatement form s (are_calls_due s) false)
+  text_made act n h (NameToken l ∷ TextToken text ∷ []) = call_so form s (l ∷ []) (act text) (n text) (h text)
+  text_made act n h _ = tt
+
+  -- a verb with a layer and four numbers
+  four_made : (act : ℤ → ℤ → ℤ → ℤ → Act) → ((x y z w : ℤ) → 1 ≡ layers_of (act x y z w)) → ((x y z w : ℤ) → IsActMade (act x y z w)) → (ts : List Token) → IfSome (four_line act ts) (IsVerbStatement form s (are_calls_due s) false)
+  four_made act n h (NameToken l ∷ NumberToken a x ∷ NumberToken b y ∷ NumberToken c w ∷ NumberToken d z ∷ []) =
+      call_so form s (l ∷ []) (act x y w z) (n x y w z) (h x y w z)
+  four_made act n h _ = tt
+
+  -- orrect R X0 Y0 X1 Y1, and its kin
+  rect_made : (op : RectOp) (ts : List Token) → IfSome (rect_line op ts) (IsVerbStatement form s (are_calls_due s) false)
+  rect_made op (NumberToken a r ∷ NumberToken b x0 ∷ NumberToken c y0 ∷ NumberToken d x1 ∷ NumberToken e y1 ∷ []) =
+      call_so form s [] (RegRectAct op r (four x0 y0 x1 y1)) refl tt
+  rect_made op _ = tt
+
+  -- orregion S R, and its kin
+  region_made : (op : PairOp) (ts : List Token) → IfSome (region_line op ts) (IsVerbStatement form s (are_calls_due s) false)
+  region_made op (NumberToken a r ∷ NumberToken b q ∷ []) = call_so form s [] (RegPairAct op r q) refl tt
+  region_made op _ = tt
+
+  -- clearregion R
+  clear_made : (ts : List Token) → IfSome (clear_line ts) (IsVerbStatement form s (are_calls_due s) false)
+  clear_made (NumberToken a r ∷ []) = call_so form s [] (RegClearAct r) refl tt
+  clear_made _ = tt
+
+  -- which X Y
+  which_made : (ts : List Token) → IfSome (which_line ts) (IsVerbStatement form s (are_calls_due s) false)
+  which_made (NumberToken a x ∷ NumberToken b y ∷ []) = call_so form s [] (WhichAct x y) refl tt
+  which_made _ = tt
+
+  -- infront L M
+  infront_made : (ts : List Token) → IfSome (infront_line ts) (IsVerbStatement form s (are_calls_due s) false)
+  infront_made (NameToken l ∷ NameToken m ∷ []) = call_so form s (l ∷ m ∷ []) InFrontAct refl tt
+  infront_made _ = tt
+
+  -- scrollraster L DX DY X0 Y0 X1 Y1
+  scrollraster_made : (ts : List Token) → IfSome (scrollraster_line ts) (IsVerbStatement form s (are_calls_due s) false)
+  scrollraster_made (NameToken l ∷ NumberToken a dx ∷ NumberToken b dy ∷ NumberToken c x0 ∷ NumberToken d y0 ∷ NumberToken e x1 ∷ NumberToken f y1 ∷ []) =
+      call_so form s (l ∷ []) (ScrollRasterAct dx dy (four x0 y0 x1 y1)) refl tt
+  scrollraster_made _ = tt
+
+  -- put BM SX SY L X Y W H MM
+  put_made : (ts : List Token) → IfSome (put_line ts) (IsVerbStatement form s (are_calls_due s) false)
+  put_made (NameToken bm ∷ NumberToken a sx ∷ NumberToken b sy ∷ NameToken l ∷ NumberToken c x ∷ NumberToken d y ∷ NumberToken e w ∷ NumberToken f h ∷ mm ∷ []) =
+      map_has (λ m. is_minterm m ≡ true) (IsVerbStatement form s (are_calls_due s) false) _ (minterm_of (bytes_in 1 mm)) (minterm_made (bytes_in 1 mm) (token_spelled 1 mm)) (λ m k. call_so form s (l ∷ []) (PutAct bm (record { sx = sx; sy = sy; x = x; y = y; w = w; h = h; minterm = m })) refl k)
+  put_made _ = tt
+
+  -- blit L SX SY M X Y W H MM
+  blit_made : (ts : List Token) → IfSome (blit_line ts) (IsVerbStatement form s (are_calls_due s) false)
+  blit_made (NameToken l ∷ NumberToken a sx ∷ NumberToken b sy ∷ NameToken m ∷ NumberToken c x ∷ NumberToken d y ∷ NumberToken e w ∷ NumberToken f h ∷ mm ∷ []) =
+      map_has (λ m. is_minterm m ≡ true) (IsVerbStatement form s (are_calls_due s) false) _ (minterm_of (bytes_in 1 mm)) (minterm_made (bytes_in 1 mm) (token_spelled 1 mm)) (λ n k. call_so form s (l ∷ m ∷ []) (BlitAct (record { sx = sx; sy = sy; x = x; y = y; w = w; h = h; minterm = n })) refl k)
+  blit_made _ = tt
+
+  -- endrefresh L full, endrefresh L part
+  endrefresh_made : (ts : List Token) → IfSome (endrefresh_line ts) (IsVerbStatement form s (are_calls_due s) false)
+  endrefresh_made (NameToken l ∷ NameToken how ∷ []) =
+      either_has (IsVerbStatement form s (are_calls_due s) false) (bytes_eq how (codes "full")) _ _ (call_so form s (l ∷ []) (EndRefreshAct true) refl tt) (either_has (IsVerbStatement form s (are_calls_due s) false) (bytes_eq how (codes "part")) _ None (call_so form s (l ∷ []) (EndRefreshAct false) refl tt) tt)
+  endrefresh_made _ = tt
+
+  -- the statement at the end of a creation's words
+  end_made : (f : Statement) → IsVerbStatement form s (are_calls_due s) false f → (ts : List Token) → IfSome (at_end f ts) (IsVerbStatement form s (are_calls_due s) false)
+  end_made f h [] = h
+  end_made f h (t ∷ ts) = tt
+
+  -- what stands after a creation's four numbers
+  create_super_made : (l : List ℕ) (place : Place) (numbers : Rectangle) (ts : List Token) → IfSome (create_super l place numbers ts) (IsVerbStatement form s (are_calls_due s) false)
+  create_super_made l place numbers (NumberToken a w ∷ NumberToken b h ∷ ts) = end_made _ (call_so form s (l ∷ []) _ refl refl) _
+  create_super_made l place numbers _ = tt
+
+  create_made : (l : List ℕ) (place : Place) (numbers : Rectangle) (ts : List Token) (kind : Kind) → IfSome (create_kind l place numbers ts kind) (IsVerbStatement form s (are_calls_due s) false)
+  create_made l place numbers ts Simple = end_made _ (call_so form s (l ∷ []) _ refl (refl, refl)) _
+  create_made l place numbers ts Smart = end_made _ (call_so form s (l ∷ []) _ refl (refl, refl)) _
+  create_made l place numbers ts SuperBitmap = create_super_made l place numbers ts
+
+  -- the statement at the title
+  titled_made : (l : List ℕ) (asked : AskedLayer) (framed nocare : Bool) (classes : ℕ) → IsAskedOf asked.kind asked → (framed && is_super asked.kind) ≡ false → classes < 32 → (ts : List Token) → IfSome (titled_line l asked framed nocare classes ts) (IsVerbStatement form s (are_calls_due s) false)
+  titled_made l asked framed nocare classes a f c (TextToken title ∷ []) =
+      call_so form s (l ∷ []) (OpenAct asked framed nocare classes title) refl (a, f, c)
+  titled_made l asked framed nocare classes a f c _ = tt
+
+  -- what stands after an opening's four numbers
+  open_super_made : (l : List ℕ) (place : Place) (numbers : Rectangle) (ts : List Token) → IfSome (open_super l place numbers ts) (IsVerbStatement form s (are_calls_due s) false)
+  open_super_made l place numbers (NumberToken a w ∷ NumberToken b h ∷ ts) = titled_made l _ false false _ refl refl (asked_small ((flag (codes "backdrop") ts).1)) _
+  open_super_made l place numbers _ = tt
+
+  open_made : (l : List ℕ) (place : Place) (numbers : Rectangle) (ts : List Token) (kind : Kind) → IfSome (open_kind l place numbers ts kind) (IsVerbStatement form s (are_calls_due s) false)
+  open_made l place numbers ts Simple = titled_made l _ _ _ _ (refl, refl) (and_right _ false refl) (asked_small (behind_hook ts)) _
+  open_made l place numbers ts Smart = titled_made l _ _ _ _ (refl, refl) (and_right _ false refl) (asked_small (behind_hook ts)) _
+  open_made l place numbers ts SuperBitmap = open_super_made l place numbers ts
+
+  -- create L KIND PLACE X0 Y0 X1 Y1 .., and open L KIND PLACE X Y W H ..
+  asked_made : (behind : List ℕ → Place → Rectangle → List Token → Kind → Option Statement) → ((l : List ℕ) (place : Place) (numbers : Rectangle) (ts : List Token) (kind : Kind) → IfSome (behind l place numbers ts kind) (IsVerbStatement form s (are_calls_due s) false)) → (ts : List Token) → IfSome (asked_line behind ts) (IsVerbStatement form s (are_calls_due s) false)
+  asked_made behind made (NameToken l ∷ NameToken k ∷ NameToken p ∷ NumberToken a x ∷ NumberToken b y ∷ NumberToken c z ∷ NumberToken d w ∷ ts) =
+      then_has (IsVerbStatement form s (are_calls_due s) false) _ (place_of p) (λ place. then_has (IsVerbStatement form s (are_calls_due s) false) _ (kind_of k) (λ kind. made l place (four x y z w) ts kind))
+  asked_made behind made _ = tt
+
+-- so it is for each verb
+verb_made : (form : Form) (s : Section) (verb : Verb) (ts : List Token) → IfSome (statement_by verb ts) (IsVerbStatement form s (belongs_in form s verb) (is_task_verb verb))
+verb_made form s ScreenVerb ts = screen_made form s ts
+verb_made form s GlyphVerb ts = glyph_made form s ts
+verb_made form s BitmapVerb ts = bitmap_made form s ts
+verb_made form s TaskVerb ts = name_made form s _ _ _ (λ n. belongs_so form s (TaskLine n) tt) ts
+verb_made form s EndVerb ts = bare_made form s EndLine _ _ (belongs_so form s EndLine tt) ts
+verb_made form s OrderVerb ts = bare_made form s OrderLine _ _ (belongs_so form s OrderLine tt) ts
+verb_made form s ReportVerb ts = bare_made form s ReportLine _ _ (belongs_so form s ReportLine tt) ts
+verb_made form s LockVerb ts = name_made form s _ _ _ (λ n. belongs_so form s (LockLine n) tt) ts
+verb_made form s UnlockVerb ts = name_made form s _ _ _ (λ n. belongs_so form s (UnlockLine n) tt) ts
+verb_made form s HoldVerb ts = bare_made form s HoldLine _ _ (belongs_so form s HoldLine tt) ts
+verb_made form s ReleaseVerb ts = bare_made form s ReleaseLine _ _ (belongs_so form s ReleaseLine tt) ts
+verb_made form s OrRectVerb ts = rect_made form s OrR ts
+verb_made form s AndRectVerb ts = rect_made form s AndR ts
+verb_made form s XorRectVerb ts = rect_made form s XorR ts
+verb_made form s ClearRectVerb ts = rect_made form s ClearR ts
+verb_made form s OrRegionVerb ts = region_made form s OrP ts
+verb_made form s AndRegionVerb ts = region_made form s AndP ts
+verb_made form s XorRegionVerb ts = region_made form s XorP ts
+verb_made form s ClearRegionVerb ts = clear_made form s ts
+verb_made form s CreateVerb ts = asked_made form s create_kind (create_made form s) ts
+verb_made form s OpenVerb ts = asked_made form s open_kind (open_made form s) ts
+verb_made form s CloseVerb ts = layer_made form s CloseAct refl tt ts
+verb_made form s FrontVerb ts = layer_made form s FrontAct refl tt ts
+verb_made form s BehindVerb ts = layer_made form s BehindAct refl tt ts
+verb_made form s InFrontVerb ts = infront_made form s ts
+verb_made form s MoveVerb ts = pair_made form s _ (λ x y. refl) (λ x y. tt) ts
+verb_made form s SizeVerb ts = pair_made form s _ (λ x y. refl) (λ x y. tt) ts
+verb_made form s BoxVerb ts = four_made form s _ (λ x y w h. refl) (λ x y w h. tt) ts
+verb_made form s ActivateVerb ts = layer_made form s ActivateAct refl tt ts
+verb_made form s WhichVerb ts = which_made form s ts
+verb_made form s APenVerb ts = number_made form s _ (λ z. refl) (λ z. tt) ts
+verb_made form s BPenVerb ts = number_made form s _ (λ z. refl) (λ z. tt) ts
+verb_made form s ModeVerb ts = number_made form s _ (λ z. refl) (λ z. tt) ts
+verb_made form s MaskVerb ts = number_made form s _ (λ z. refl) (λ z. tt) ts
+verb_made form s AtVerb ts = pair_made form s _ (λ x y. refl) (λ x y. tt) ts
+verb_made form s WriteVerb ts = pair_made form s _ (λ x y. refl) (λ x y. tt) ts
+verb_made form s ReadVerb ts = pair_made form s _ (λ x y. refl) (λ x y. tt) ts
+verb_made form s FillVerb ts = four_made form s _ (λ x y w h. refl) (λ x y w h. tt) ts
+verb_made form s DrawVerb ts = pair_made form s _ (λ x y. refl) (λ x y. tt) ts
+verb_made form s TextVerb ts = text_made form s _ (λ t. refl) (λ t. tt) ts
+verb_made form s SetRastVerb ts = number_made form s _ (λ z. refl) (λ z. tt) ts
+verb_made form s ScrollRasterVerb ts = scrollraster_made form s ts
+verb_made form s PutVerb ts = put_made form s ts
+verb_made form s BlitVerb ts = blit_made form s ts
+verb_made form s ClipVerb ts = number_made form s _ (λ z. refl) (λ z. tt) ts
+verb_made form s UnclipVerb ts = layer_made form s UnclipAct refl tt ts
+verb_made form s RefreshVerb ts = layer_made form s RefreshAct refl tt ts
+verb_made form s EndRefreshVerb ts = endrefresh_made form s ts
+verb_made form s ScrollVerb ts = pair_made form s _ (λ x y. refl) (λ x y. tt) ts
+verb_made form s TitleVerb ts = text_made form s _ (λ t. refl) (λ t. tt) ts
+verb_made form s GetMsgVerb ts = layer_made form s GetMsgAct refl tt ts
+
+-- no further task may begin here
+abbrev pub is_task_refused : Setting → List Statement → Bool
+is_task_refused s above = is_plain s.form && are_tasks_due (told above).section
+
+-- What a line with this statement was good for, below lines with these statements.
+abbrev pub IsStatementHere : Setting → List Statement → Statement → Type 0
+IsStatementHere s above (RowLine bytes) = (((told above).rows_due == 0) ≡ false) × (length bytes ≡ row_bytes (told above).row_width)
+IsStatementHere s above (NumbersLine zs) = (((told above).rows_due == 0) ≡ true) × (are_numbers_due (told above).section ≡ true)
+IsStatementHere s above f = (((told above).rows_due == 0) ≡ true) × (belongs_at s.form (told above).section f ≡ true) × ((is_task_refused s above && begins_task f) ≡ false) × IsStatementMade f
+
+-- a statement of a verb is good for this, where its lines stand
+verb_here : (s : Setting) (above : List Statement) → ((told above).rows_due == 0) ≡ true → (stands task : Bool) → stands ≡ true → (is_task_refused s above && task) ≡ false → (f : Statement) → IsVerbStatement s.form (told above).section stands task f → IsStatementHere s above f
+verb_here s above e stands task h a (RowLine bytes) k = absurd (false≢true (k.place h))
+verb_here s above e stands task h a (NumbersLine zs) k = absurd (false≢true (k.place h))
+verb_here s above e stands task h a f k = (e, k.place h, ap (λ b. is_task_refused s above && b) k.begins ∙ a, k.made)
+
+-- what is found is found as a result too
+pub found_has : {A : Type 0} (P : A → Type 0) (o : Option A) (r : Reason) → IfSome o P → IfOk (ok_or o r) P
+found_has P None r h = tt
+found_has P (Some a) r h = h
+
+-- the same of each line with a verb
+verb_line_here : (s : Setting) (above : List Statement) → ((told above).rows_due == 0) ≡ true → (ws : List (List ℕ)) → IfOk (verb_read s.form (told above).section ws) (IsStatementHere s above)
+verb_line_here s above e ws = at_verb (verb_on ws)
+  where
+    at_statement : (v : Verb) → belongs_in s.form (told above).section v ≡ true → (is_task_refused s above && is_task_verb v) ≡ false → (o : Option Statement) → IfSome o (IsVerbStatement s.form (told above).section (belongs_in s.form (told above).section v) (is_task_verb v)) → IfOk (ok_or o FormReason) (IsStatementHere s above)
+    at_statement v h a None k = tt
+    at_statement v h a (Some f) k = verb_here s above e _ _ h a f k
+
+    at_tests : (v : Verb) (b c : Bool) → belongs_in s.form (told above).section v ≡ b → (is_task_refused s above && is_task_verb v) ≡ c → IfOk (demand b Misplaced >>= (λ _. demand (not c) OneTaskOnly >>= (λ _. ok_or (statement_by v (map token_of (after_verb ws))) FormReason))) (IsStatementHere s above)
+    at_tests v false c h a = tt
+    at_tests v true true h a = tt
+    at_tests v true false h a = at_statement v h a (statement_by v (map token_of (after_verb ws))) (verb_made s.form (told above).section v (map token_of (after_verb ws)))
+
+    at_verb : (o : Option Verb) → IfOk (ok_or o UnknownWord >>= (λ v. demand (belongs_in s.form (told above).section v) Misplaced >>= (λ _. demand (not ((is_plain s.form && are_tasks_due (told above).section) && is_task_verb v)) OneTaskOnly >>= (λ _. ok_or (statement_by v (map token_of (after_verb ws))) FormReason)))) (IsStatementHere s above)
+    at_verb None = tt
+    at_verb (Some v) = at_tests v (belongs_in s.form (told above).section v) (is_task_refused s above && is_task_verb v) refl refl
+
+-- a row of a bitmap
+row_here : (s : Setting) (above : List Statement) → ((told above).rows_due == 0) ≡ false → (ts : List Token) → IfSome (row_line (told above).row_width ts) (IsStatementHere s above)
+row_here s above e (t ∷ []) =
+    map_has (AreSoMany (row_bytes (told above).row_width)) (IsStatementHere s above) _ (bytes_in (row_bytes (told above).row_width) t) (token_spelled _ t) (λ bytes k. (e, k.0))
+row_here s above e _ = tt
+
+-- numbers of an order
+numbers_here : (s : Setting) (above : List Statement) → ((told above).rows_due == 0) ≡ true → are_numbers_due (told above).section ≡ true → (ts : List Token) → IfSome (numbers_line ts) (IsStatementHere s above)
+numbers_here s above e d ts =
+    either_has (IsStatementHere s above) (nat_le (length ts) numbers_limit) _ None (map_has (λ zs. Unit {0}) (IsStatementHere s above) _ (all_numbers ts) (some_has (all_numbers ts)) (λ zs k. (e, d))) tt
+  where
+    some_has : (o : Option (List ℤ)) → IfSome o (λ zs. Unit {0})
+    some_has None = tt
+    some_has (Some zs) = tt
+
+-- The statement that is read is good for what a line of it is good for here.
+pub statement_here : (s : Setting) (above : List Statement) (ws : List (List ℕ)) → IfOk (statement_read s.form (told above).section (told above).rows_due (told above).row_width ws) (IsStatementHere s above)
+statement_here s above ws = at_rows ((told above).rows_due == 0) refl
+  where
+    at_numbers : (t : Bool) → are_numbers_due (told above).section ≡ t → ((told above).rows_due == 0) ≡ true → IfOk (cond t (ok_or (numbers_line (map token_of ws)) FormReason) (verb_read s.form (told above).section ws)) (IsStatementHere s above)
+    at_numbers true d e = found_has (IsStatementHere s above) _ FormReason (numbers_here s above e d (map token_of ws))
+    at_numbers false d e = verb_line_here s above e ws
+
+    at_rows : (t : Bool) → ((told above).rows_due == 0) ≡ t → IfOk (cond (not t) (ok_or (row_line (told above).row_width (map token_of ws)) FormReason) (cond (are_numbers_due (told above).section) (ok_or (numbers_line (map token_of ws)) FormReason) (verb_read s.form (told above).section ws))) (IsStatementHere s above)
+    at_rows true e = at_numbers (are_numbers_due (told above).section) refl e
+    at_rows false e = found_has (IsStatementHere s above) _ FormReason (row_here s above e (map token_of ws))

@@ -1,0 +1,472 @@
+-- The statements of a script's lines (this project's own format).
+use Rattle.std.specs.Prelude.{ℕ, ◌+◌, ◌%◌, ◌^◌, ◌==◌, Bool, true, false, not, ◌&&◌, nat_le, if◌then◌else◌, List, [], ◌∷◌, length, ℤ, pos, Option, Some, None, option_map, option_and_then, codes, bytes_eq}
+use Rattle.std.specs.List.{list_all}
+use Rattle.lw_region.specs.Rectangle.{Rectangle, within}
+use Rattle.lw_planes.specs.Bitmap.{row_bytes}
+use Rattle.lw_calls.specs.declared.operation.RectOp.{RectOp}
+use Rattle.lw_calls.specs.declared.operation.RectOp.TheVariants.{Or as OrR, And as AndR, Xor as XorR, Clear as ClearR}
+use Rattle.lw_calls.specs.declared.operation.PairOp.{PairOp}
+use Rattle.lw_calls.specs.declared.operation.PairOp.TheVariants.{Or as OrP, And as AndP, Xor as XorP}
+use Rattle.lw_calls.specs.declared.make.Kind.{Kind}
+use Rattle.lw_calls.specs.declared.make.Kind.TheVariants.{Simple, Smart, SuperBitmap}
+use Rattle.lw_calls.specs.declared.make.Place.{Place}
+use Rattle.lw_calls.specs.declared.make.Place.TheVariants.{Front, Behind}
+use Rattle.lw_calls.specs.declared.area.Area.{Area}
+use Rattle.lw_grammar.specs.declared.verb.Verb.{Verb}
+use Rattle.lw_grammar.specs.declared.verb.Verb.TheVariants.{Screen as ScreenVerb, Glyph as GlyphVerb, Bitmap as BitmapVerb, Task as TaskVerb, End as EndVerb, Order as OrderVerb, Report as ReportVerb, Lock as LockVerb, Unlock as UnlockVerb, Hold as HoldVerb, Release as ReleaseVerb, OrRect as OrRectVerb, AndRect as AndRectVerb, XorRect as XorRectVerb, ClearRect as ClearRectVerb, OrRegion as OrRegionVerb, AndRegion as AndRegionVerb, XorRegion as XorRegionVerb, ClearRegion as ClearRegionVerb, Create as CreateVerb, Open as OpenVerb, Close as CloseVerb, Front as FrontVerb, Behind as BehindVerb, InFront as InFrontVerb, Move as MoveVerb, Size as SizeVerb, Box as BoxVerb, Activate as ActivateVerb, Which as WhichVerb, APen as APenVerb, BPen as BPenVerb, Mode as ModeVerb, Mask as MaskVerb, At as AtVerb, Write as WriteVerb, Read as ReadVerb, Fill as FillVerb, Draw as DrawVerb, Text as TextVerb, SetRast as SetRastVerb, ScrollRaster as ScrollRasterVerb, Put as PutVerb, Blit as BlitVerb, Clip as ClipVerb, Unclip as UnclipVerb, Refresh as RefreshVerb, EndRefresh as EndRefreshVerb, Scroll as ScrollVerb, Title as TitleVerb, GetMsg as GetMsgVerb}
+use Rattle.lw_calls.specs.Limits.{rect_fits, coordinates_fit, is_extent}
+use Rattle.lw_grammar.specs.Tokens.{Token, NameToken, NumberToken, TextToken, bytes_in}
+
+-- A layer as a line asks for it: its kind and place, its four numbers (the bounds of a creation, or the place and size of an
+-- opening), whether it is a backdrop layer, its hook, and the size of a bitmap of its own, or 0 and 0. All numbers are the
+-- line's own, in their ranges or not; the call has a `Make` of them, with a corner and a size in any case.
+pub record AskedLayer : Type 0 where
+  pub kind : Kind
+  pub place : Place
+  pub numbers : Rectangle
+  pub backdrop : Bool
+  pub hook : Option ℤ
+  pub bits_w : ℤ
+  pub bits_h : ℤ
+
+-- What the line of a call asks for, without the layers that it names.
+pub data Act : Type 0 where
+  RegRectAct : RectOp → ℤ → Rectangle → Act
+  RegPairAct : PairOp → ℤ → ℤ → Act
+  RegClearAct : ℤ → Act
+  CreateAct : AskedLayer → Act
+  OpenAct : AskedLayer → Bool → Bool → ℕ → List ℕ → Act
+  CloseAct : Act
+  FrontAct : Act
+  BehindAct : Act
+  InFrontAct : Act
+  MoveAct : ℤ → ℤ → Act
+  SizeAct : ℤ → ℤ → Act
+  BoxAct : ℤ → ℤ → ℤ → ℤ → Act
+  ActivateAct : Act
+  WhichAct : ℤ → ℤ → Act
+  APenAct : ℤ → Act
+  BPenAct : ℤ → Act
+  ModeAct : ℤ → Act
+  MaskAct : ℤ → Act
+  AtAct : ℤ → ℤ → Act
+  WriteAct : ℤ → ℤ → Act
+  ReadAct : ℤ → ℤ → Act
+  FillAct : Rectangle → Act
+  DrawAct : ℤ → ℤ → Act
+  TextAct : List ℕ → Act
+  SetRastAct : ℤ → Act
+  ScrollRasterAct : ℤ → ℤ → Rectangle → Act
+  PutAct : List ℕ → Area → Act
+  BlitAct : Area → Act
+  ClipAct : ℤ → Act
+  UnclipAct : Act
+  RefreshAct : Act
+  EndRefreshAct : Bool → Act
+  ScrollAct : ℤ → ℤ → Act
+  TitleAct : List ℕ → Act
+  GetMsgAct : Act
+
+-- how many layers the line of a call names
+abbrev pub layers_of : Act → ℕ
+layers_of (RegRectAct op r rect) = 0
+layers_of (RegPairAct op s r) = 0
+layers_of (RegClearAct r) = 0
+layers_of (WhichAct x y) = 0
+layers_of InFrontAct = 2
+layers_of (BlitAct b) = 2
+layers_of act = 1
+
+-- What a line says, if it isn't skipped: the screen; a glyph by its code and its rows; a bitmap, whose rows then follow; a
+-- row of a bitmap; a task's beginning and its end; the beginnings of an order and of a report; numbers of an order; a call
+-- with the layers that it names from left to right; and the beginnings and ends of groups.
+pub data Statement : Type 0 where
+  ScreenLine : ℤ → ℤ → ℤ → Statement
+  GlyphLine : ℕ → List ℕ → Statement
+  BitmapLine : List ℕ → ℤ → ℤ → ℤ → Statement
+  RowLine : List ℕ → Statement
+  TaskLine : List ℕ → Statement
+  EndLine : Statement
+  OrderLine : Statement
+  NumbersLine : List ℤ → Statement
+  ReportLine : Statement
+  CallLine : List (List ℕ) → Act → Statement
+  LockLine : List ℕ → Statement
+  UnlockLine : List ℕ → Statement
+  HoldLine : Statement
+  ReleaseLine : Statement
+
+-- four numbers as the bounds of a rectangle, or in its place
+abbrev pub four : ℤ → ℤ → ℤ → ℤ → Rectangle
+four a b c d = record { min_x = a; min_y = b; max_x = c; max_y = d }
+
+-- screen W H D
+abbrev pub screen_line : List Token → Option Statement
+screen_line (NumberToken a w ∷ NumberToken b h ∷ NumberToken c d ∷ []) = Some (ScreenLine w h d)
+screen_line _ = None
+
+-- the glyph line of a code, which is one byte, and of its rows
+abbrev pub glyph_of_bytes : Option (List ℕ) → Option (List ℕ) → Option Statement
+glyph_of_bytes (Some (code ∷ [])) (Some rows) = Some (GlyphLine code rows)
+glyph_of_bytes _ _ = None
+
+-- glyph CC HHHHHHHHHHHHHHHH
+abbrev pub glyph_line : List Token → Option Statement
+glyph_line (code ∷ rows ∷ []) = glyph_of_bytes (bytes_in 1 code) (bytes_in 8 rows)
+glyph_line _ = None
+
+-- bitmap NAME W H D
+abbrev pub bitmap_line : List Token → Option Statement
+bitmap_line (NameToken n ∷ NumberToken a w ∷ NumberToken b h ∷ NumberToken c d ∷ []) = Some (BitmapLine n w h d)
+bitmap_line _ = None
+
+-- a row of a bitmap of this width: one word of the digits of the row's bytes
+abbrev pub row_line : ℕ → List Token → Option Statement
+row_line width (t ∷ []) = option_map (λ bytes. RowLine bytes) (bytes_in (row_bytes width) t)
+row_line width _ = None
+
+-- the numbers of words that are all numbers
+abbrev pub all_numbers : List Token → Option (List ℤ)
+all_numbers [] = Some []
+all_numbers (NumberToken a z ∷ ts) = option_map (λ zs. z ∷ zs) (all_numbers ts)
+all_numbers (_ ∷ ts) = None
+
+-- how many numbers of an order a line has at most
+abbrev pub numbers_limit : ℕ
+numbers_limit = 64
+
+-- numbers of an order
+abbrev pub numbers_line : List Token → Option Statement
+numbers_line ts = if nat_le (length ts) numbers_limit then option_map (λ zs. NumbersLine zs) (all_numbers ts) else None
+
+-- a verb with a name, as task NAME
+abbrev pub name_line : (List ℕ → Statement) → List Token → Option Statement
+name_line f (NameToken n ∷ []) = Some (f n)
+name_line f _ = None
+
+-- a verb alone, as end
+abbrev pub bare_line : Statement → List Token → Option Statement
+bare_line statement [] = Some statement
+bare_line statement _ = None
+
+-- a verb with a layer, as close L
+abbrev pub layer_line : Act → List Token → Option Statement
+layer_line act (NameToken l ∷ []) = Some (CallLine (l ∷ []) act)
+layer_line act _ = None
+
+-- a verb with a layer and a number, as apen L P
+abbrev pub number_line : (ℤ → Act) → List Token → Option Statement
+number_line act (NameToken l ∷ NumberToken a z ∷ []) = Some (CallLine (l ∷ []) (act z))
+number_line act _ = None
+
+-- a verb with a layer and two numbers, as move L DX DY
+abbrev pub pair_line : (ℤ → ℤ → Act) → List Token → Option Statement
+pair_line act (NameToken l ∷ NumberToken a x ∷ NumberToken b y ∷ []) = Some (CallLine (l ∷ []) (act x y))
+pair_line act _ = None
+
+-- a verb with a layer and a text, as title L "TEXT"
+abbrev pub text_line : (List ℕ → Act) → List Token → Option Statement
+text_line act (NameToken l ∷ TextToken text ∷ []) = Some (CallLine (l ∷ []) (act text))
+text_line act _ = None
+
+-- orrect R X0 Y0 X1 Y1, and its kin
+abbrev pub rect_line : RectOp → List Token → Option Statement
+rect_line op (NumberToken a r ∷ NumberToken b x0 ∷ NumberToken c y0 ∷ NumberToken d x1 ∷ NumberToken e y1 ∷ []) =
+    Some (CallLine [] (RegRectAct op r (four x0 y0 x1 y1)))
+rect_line op _ = None
+
+-- orregion S R, and its kin
+abbrev pub region_line : PairOp → List Token → Option Statement
+region_line op (NumberToken a s ∷ NumberToken b r ∷ []) = Some (CallLine [] (RegPairAct op s r))
+region_line op _ = None
+
+-- clearregion R
+abbrev pub clear_line : List Token → Option Statement
+clear_line (NumberToken a r ∷ []) = Some (CallLine [] (RegClearAct r))
+clear_line _ = None
+
+-- which X Y
+abbrev pub which_line : List Token → Option Statement
+which_line (NumberToken a x ∷ NumberToken b y ∷ []) = Some (CallLine [] (WhichAct x y))
+which_line _ = None
+
+-- infront L M
+abbrev pub infront_line : List Token → Option Statement
+infront_line (NameToken l ∷ NameToken m ∷ []) = Some (CallLine (l ∷ m ∷ []) InFrontAct)
+infront_line _ = None
+
+-- box L X Y W H, and fill L X0 Y0 X1 Y1
+abbrev pub four_line : (ℤ → ℤ → ℤ → ℤ → Act) → List Token → Option Statement
+four_line act (NameToken l ∷ NumberToken a x ∷ NumberToken b y ∷ NumberToken c w ∷ NumberToken d h ∷ []) =
+    Some (CallLine (l ∷ []) (act x y w h))
+four_line act _ = None
+
+-- scrollraster L DX DY X0 Y0 X1 Y1
+abbrev pub scrollraster_line : List Token → Option Statement
+scrollraster_line (NameToken l ∷ NumberToken a dx ∷ NumberToken b dy ∷
+    NumberToken c x0 ∷ NumberToken d y0 ∷ NumberToken e x1 ∷ NumberToken f y1 ∷ []) =
+    Some (CallLine (l ∷ []) (ScrollRasterAct dx dy (four x0 y0 x1 y1)))
+scrollraster_line _ = None
+
+-- the minterm that bytes are: one byte whose lower four bits are 0
+abbrev pub minterm_of : Option (List ℕ) → Option ℕ
+minterm_of (Some (m ∷ [])) = if m % 16 == 0 then Some m else None
+minterm_of _ = None
+
+-- put BM SX SY L X Y W H MM
+abbrev pub put_line : List Token → Option Statement
+put_line (NameToken bm ∷ NumberToken a sx ∷ NumberToken b sy ∷ NameToken l ∷
+    NumberToken c x ∷ NumberToken d y ∷ NumberToken e w ∷ NumberToken f h ∷ mm ∷ []) =
+    option_map (λ m. CallLine (l ∷ []) (PutAct bm (record { sx = sx; sy = sy; x = x; y = y; w = w; h = h; minterm = m })))
+    (minterm_of (bytes_in 1 mm))
+put_line _ = None
+
+-- blit L SX SY M X Y W H MM
+abbrev pub blit_line : List Token → Option Statement
+blit_line (NameToken l ∷ NumberToken a sx ∷ NumberToken b sy ∷ NameToken m ∷
+    NumberToken c x ∷ NumberToken d y ∷ NumberToken e w ∷ NumberToken f h ∷ mm ∷ []) =
+    option_map (λ k. CallLine (l ∷ m ∷ []) (BlitAct (record { sx = sx; sy = sy; x = x; y = y; w = w; h = h; minterm = k })))
+    (minterm_of (bytes_in 1 mm))
+blit_line _ = None
+
+-- endrefresh L full, endrefresh L part
+abbrev pub endrefresh_line : List Token → Option Statement
+endrefresh_line (NameToken l ∷ NameToken how ∷ []) =
+    if bytes_eq how (codes "full") then Some (CallLine (l ∷ []) (EndRefreshAct true))
+    else (if bytes_eq how (codes "part") then Some (CallLine (l ∷ []) (EndRefreshAct false)) else None)
+endrefresh_line _ = None
+
+-- the word is one of a layer's kinds
+abbrev pub kind_of : List ℕ → Option Kind
+kind_of w =
+    if bytes_eq w (codes "simple") then Some Simple
+    else (if bytes_eq w (codes "smart") then Some Smart else (if bytes_eq w (codes "super") then Some SuperBitmap else None))
+
+-- the word is a place
+abbrev pub place_of : List ℕ → Option Place
+place_of w = if bytes_eq w (codes "front") then Some Front else (if bytes_eq w (codes "behind") then Some Behind else None)
+
+-- an optional word, and what stands after it
+abbrev pub flag : List ℕ → List Token → Bool × List Token
+flag w [] = (false, [])
+flag w (NameToken n ∷ ts) = if bytes_eq n w then (true, ts) else (false, NameToken n ∷ ts)
+flag w (t ∷ ts) = (false, t ∷ ts)
+
+-- optional words hook N, and what stands after them
+abbrev pub hook_option : List Token → Option ℤ × List Token
+hook_option (NameToken n ∷ NumberToken a z ∷ ts) =
+    if bytes_eq n (codes "hook") then (Some z, ts) else (None, NameToken n ∷ NumberToken a z ∷ ts)
+hook_option ts = (None, ts)
+
+-- the class of messages that a letter of a set stands for
+abbrev pub message_class_of : ℕ → Option ℕ
+message_class_of b =
+    if b == 114 then Some 0 else (if b == 110 then Some 1
+    else (if b == 99 then Some 2 else (if b == 97 then Some 3 else (if b == 105 then Some 4 else None))))
+
+-- the set of classes that letters stand for, in rising order from this class on, each at most once
+abbrev pub classes_from : ℕ → List ℕ → Option ℕ
+classes_from least [] = Some 0
+classes_from least (b ∷ bs) =
+    option_and_then (λ k. if nat_le least k then option_map (λ rest. 2 ^ k + rest) (classes_from (k + 1) bs) else None)
+    (message_class_of b)
+
+-- what a set is, or none, with what stands after
+abbrev pub asked_classes : Option ℕ → List Token → List Token → ℕ × List Token
+asked_classes (Some classes) behind all = (classes, behind)
+asked_classes None behind all = (0, all)
+
+-- optional words ask SET, and what stands after them
+abbrev pub ask_option : List Token → ℕ × List Token
+ask_option (NameToken n ∷ NameToken set ∷ ts) =
+    if bytes_eq n (codes "ask") then asked_classes (classes_from 0 set) ts (NameToken n ∷ NameToken set ∷ ts)
+    else (0, NameToken n ∷ NameToken set ∷ ts)
+ask_option ts = (0, ts)
+
+-- the statement, where no word is left
+abbrev pub at_end : Statement → List Token → Option Statement
+at_end statement [] = Some statement
+at_end statement (t ∷ ts) = None
+
+-- a layer that is asked for without a bitmap of its own
+abbrev pub asked_without_bitmap : Kind → Place → Rectangle → Bool → Option ℤ → AskedLayer
+asked_without_bitmap kind place numbers backdrop hook =
+    record { kind = kind; place = place; numbers = numbers; backdrop = backdrop; hook = hook; bits_w = pos 0; bits_h = pos 0 }
+
+-- a layer that is asked for with a bitmap of its own
+abbrev pub asked_super : Place → Rectangle → Bool → ℤ → ℤ → AskedLayer
+asked_super place numbers backdrop w h =
+    record { kind = SuperBitmap; place = place; numbers = numbers; backdrop = backdrop; hook = None; bits_w = w; bits_h = h }
+
+-- what stands after the four numbers of a creation without a bitmap of its own: [backdrop] [hook N]
+abbrev pub create_without_bitmap : List ℕ → Kind → Place → Rectangle → List Token → Option Statement
+create_without_bitmap l kind place numbers ts =
+    let backdrop = flag (codes "backdrop") ts in
+    let hook = hook_option backdrop.1 in
+    at_end (CallLine (l ∷ []) (CreateAct (asked_without_bitmap kind place numbers backdrop.0 hook.0))) hook.1
+
+-- what stands after those of a creation with one: BW BH [backdrop]
+abbrev pub create_super : List ℕ → Place → Rectangle → List Token → Option Statement
+create_super l place numbers (NumberToken a w ∷ NumberToken b h ∷ ts) =
+    let backdrop = flag (codes "backdrop") ts in
+    at_end (CallLine (l ∷ []) (CreateAct (asked_super place numbers backdrop.0 w h))) backdrop.1
+create_super l place numbers _ = None
+
+-- what stands after those of a creation of this kind
+abbrev pub create_kind : List ℕ → Place → Rectangle → List Token → Kind → Option Statement
+create_kind l place numbers ts Simple = create_without_bitmap l Simple place numbers ts
+create_kind l place numbers ts Smart = create_without_bitmap l Smart place numbers ts
+create_kind l place numbers ts SuperBitmap = create_super l place numbers ts
+
+-- the title, where it is the last word
+abbrev pub titled_line : List ℕ → AskedLayer → Bool → Bool → ℕ → List Token → Option Statement
+titled_line l asked framed nocare classes (TextToken title ∷ []) =
+    Some (CallLine (l ∷ []) (OpenAct asked framed nocare classes title))
+titled_line l asked framed nocare classes _ = None
+
+-- what stands after the four numbers of an opening without a bitmap of its own: [backdrop] [borderless] [nocare] [hook N]
+-- [ask SET] "TITLE"
+abbrev pub open_without_bitmap : List ℕ → Kind → Place → Rectangle → List Token → Option Statement
+open_without_bitmap l kind place numbers ts =
+    let backdrop = flag (codes "backdrop") ts in
+    let borderless = flag (codes "borderless") backdrop.1 in
+    let nocare = flag (codes "nocare") borderless.1 in
+    let hook = hook_option nocare.1 in
+    let ask = ask_option hook.1 in
+    titled_line l (asked_without_bitmap kind place numbers backdrop.0 hook.0) (not borderless.0) nocare.0 ask.0 ask.1
+
+-- what stands after those of an opening with one: BW BH [backdrop] [ask SET] "TITLE"
+abbrev pub open_super : List ℕ → Place → Rectangle → List Token → Option Statement
+open_super l place numbers (NumberToken a w ∷ NumberToken b h ∷ ts) =
+    let backdrop = flag (codes "backdrop") ts in
+    let ask = ask_option backdrop.1 in
+    titled_line l (asked_super place numbers backdrop.0 w h) false false ask.0 ask.1
+open_super l place numbers _ = None
+
+-- what stands after those of an opening of this kind
+abbrev pub open_kind : List ℕ → Place → Rectangle → List Token → Kind → Option Statement
+open_kind l place numbers ts Simple = open_without_bitmap l Simple place numbers ts
+open_kind l place numbers ts Smart = open_without_bitmap l Smart place numbers ts
+open_kind l place numbers ts SuperBitmap = open_super l place numbers ts
+
+-- create L KIND PLACE X0 Y0 X1 Y1 .., and open L KIND PLACE X Y W H ..
+abbrev pub asked_line : (List ℕ → Place → Rectangle → List Token → Kind → Option Statement) → List Token → Option Statement
+asked_line behind (NameToken l ∷ NameToken k ∷ NameToken p ∷
+    NumberToken a x ∷ NumberToken b y ∷ NumberToken c z ∷ NumberToken d w ∷ ts) =
+    option_and_then (λ place. option_and_then (behind l place (four x y z w) ts) (kind_of k)) (place_of p)
+asked_line behind _ = None
+
+-- The statement of a line with this verb, if the words after it make one.
+abbrev pub statement_by : Verb → List Token → Option Statement
+statement_by ScreenVerb ts = screen_line ts
+statement_by GlyphVerb ts = glyph_line ts
+statement_by BitmapVerb ts = bitmap_line ts
+statement_by TaskVerb ts = name_line (λ n. TaskLine n) ts
+statement_by EndVerb ts = bare_line EndLine ts
+statement_by OrderVerb ts = bare_line OrderLine ts
+statement_by ReportVerb ts = bare_line ReportLine ts
+statement_by LockVerb ts = name_line (λ n. LockLine n) ts
+statement_by UnlockVerb ts = name_line (λ n. UnlockLine n) ts
+statement_by HoldVerb ts = bare_line HoldLine ts
+statement_by ReleaseVerb ts = bare_line ReleaseLine ts
+statement_by OrRectVerb ts = rect_line OrR ts
+statement_by AndRectVerb ts = rect_line AndR ts
+statement_by XorRectVerb ts = rect_line XorR ts
+statement_by ClearRectVerb ts = rect_line ClearR ts
+statement_by OrRegionVerb ts = region_line OrP ts
+statement_by AndRegionVerb ts = region_line AndP ts
+statement_by XorRegionVerb ts = region_line XorP ts
+statement_by ClearRegionVerb ts = clear_line ts
+statement_by CreateVerb ts = asked_line create_kind ts
+statement_by OpenVerb ts = asked_line open_kind ts
+statement_by CloseVerb ts = layer_line CloseAct ts
+statement_by FrontVerb ts = layer_line FrontAct ts
+statement_by BehindVerb ts = layer_line BehindAct ts
+statement_by InFrontVerb ts = infront_line ts
+statement_by MoveVerb ts = pair_line (λ x y. MoveAct x y) ts
+statement_by SizeVerb ts = pair_line (λ x y. SizeAct x y) ts
+statement_by BoxVerb ts = four_line (λ x y w h. BoxAct x y w h) ts
+statement_by ActivateVerb ts = layer_line ActivateAct ts
+statement_by WhichVerb ts = which_line ts
+statement_by APenVerb ts = number_line (λ p. APenAct p) ts
+statement_by BPenVerb ts = number_line (λ p. BPenAct p) ts
+statement_by ModeVerb ts = number_line (λ k. ModeAct k) ts
+statement_by MaskVerb ts = number_line (λ p. MaskAct p) ts
+statement_by AtVerb ts = pair_line (λ x y. AtAct x y) ts
+statement_by WriteVerb ts = pair_line (λ x y. WriteAct x y) ts
+statement_by ReadVerb ts = pair_line (λ x y. ReadAct x y) ts
+statement_by FillVerb ts = four_line (λ a b c d. FillAct (four a b c d)) ts
+statement_by DrawVerb ts = pair_line (λ x y. DrawAct x y) ts
+statement_by TextVerb ts = text_line (λ t. TextAct t) ts
+statement_by SetRastVerb ts = number_line (λ p. SetRastAct p) ts
+statement_by ScrollRasterVerb ts = scrollraster_line ts
+statement_by PutVerb ts = put_line ts
+statement_by BlitVerb ts = blit_line ts
+statement_by ClipVerb ts = number_line (λ r. ClipAct r) ts
+statement_by UnclipVerb ts = layer_line UnclipAct ts
+statement_by RefreshVerb ts = layer_line RefreshAct ts
+statement_by EndRefreshVerb ts = endrefresh_line ts
+statement_by ScrollVerb ts = pair_line (λ x y. ScrollAct x y) ts
+statement_by TitleVerb ts = text_line (λ t. TitleAct t) ts
+statement_by GetMsgVerb ts = layer_line GetMsgAct ts
+
+-- a hook's number, if there is one
+abbrev pub is_hook_number : Option ℤ → Bool
+is_hook_number None = true
+is_hook_number (Some n) = within (pos 0) n (pos 4294967295)
+
+-- the size of a bitmap of a layer's own, if it has one
+abbrev pub is_own_size : Kind → ℤ → ℤ → Bool
+is_own_size Simple w h = true
+is_own_size Smart w h = true
+is_own_size SuperBitmap w h = within (pos 1) w (pos 2048) && within (pos 1) h (pos 2048)
+
+-- the numbers of a layer that is asked for, besides its four
+abbrev pub is_asked_in_range : AskedLayer → Bool
+is_asked_in_range a = is_hook_number a.hook && is_own_size a.kind a.bits_w a.bits_h
+
+-- a place, a width and a height
+abbrev pub place_and_size_fit : Rectangle → Bool
+place_and_size_fit r = coordinates_fit r.min_x r.min_y && (is_extent r.max_x && is_extent r.max_y)
+
+-- a blit's numbers
+abbrev pub is_area_in_range : Area → Bool
+is_area_in_range a = (coordinates_fit a.sx a.sy && coordinates_fit a.x a.y) && (is_extent a.w && is_extent a.h)
+
+-- every number of the act is in its range, and no maximum is below its minimum
+abbrev pub is_act_in_range : Act → Bool
+is_act_in_range (RegRectAct op r rect) = within (pos 0) r (pos 7) && rect_fits rect
+is_act_in_range (RegPairAct op s r) = within (pos 0) s (pos 7) && within (pos 0) r (pos 7)
+is_act_in_range (RegClearAct r) = within (pos 0) r (pos 7)
+is_act_in_range (CreateAct asked) = rect_fits asked.numbers && is_asked_in_range asked
+is_act_in_range (OpenAct asked framed nocare classes title) = place_and_size_fit asked.numbers && is_asked_in_range asked
+is_act_in_range (MoveAct dx dy) = coordinates_fit dx dy
+is_act_in_range (SizeAct dw dh) = coordinates_fit dw dh
+is_act_in_range (BoxAct x y w h) = place_and_size_fit (four x y w h)
+is_act_in_range (WhichAct x y) = coordinates_fit x y
+is_act_in_range (APenAct p) = within (pos 0) p (pos 255)
+is_act_in_range (BPenAct p) = within (pos 0) p (pos 255)
+is_act_in_range (ModeAct k) = within (pos 0) k (pos 7)
+is_act_in_range (MaskAct p) = within (pos 0) p (pos 255)
+is_act_in_range (AtAct x y) = coordinates_fit x y
+is_act_in_range (WriteAct x y) = coordinates_fit x y
+is_act_in_range (ReadAct x y) = coordinates_fit x y
+is_act_in_range (FillAct rect) = rect_fits rect
+is_act_in_range (DrawAct x y) = coordinates_fit x y
+is_act_in_range (SetRastAct p) = within (pos 0) p (pos 255)
+is_act_in_range (ScrollRasterAct dx dy rect) = coordinates_fit dx dy && rect_fits rect
+is_act_in_range (PutAct bm area) = is_area_in_range area
+is_act_in_range (BlitAct area) = is_area_in_range area
+is_act_in_range (ClipAct r) = within (pos 0) r (pos 7)
+is_act_in_range (ScrollAct dx dy) = coordinates_fit dx dy
+is_act_in_range act = true
+
+-- Every number of the line is in its range, and no maximum is below its minimum.
+abbrev pub is_line_in_range : Statement → Bool
+is_line_in_range (ScreenLine w h d) = (within (pos 1) w (pos 1024) && within (pos 1) h (pos 1024)) && within (pos 1) d (pos 8)
+is_line_in_range (GlyphLine code rows) = nat_le 32 code && nat_le code 126
+is_line_in_range (BitmapLine name w h d) =
+    (within (pos 1) w (pos 1024) && within (pos 1) h (pos 1024)) && within (pos 1) d (pos 8)
+is_line_in_range (NumbersLine zs) = list_all (λ z. within (pos 0) z (pos 15)) zs
+is_line_in_range (CallLine layers act) = is_act_in_range act
+is_line_in_range statement = true

@@ -1,0 +1,220 @@
+use lw_calls::{PairOp, Place, RectOp};
+use lw_words::Digits;
+
+/// Four numbers of a line: the bounds of a rectangle, or a place and a size.
+#[derive(Clone, Copy)]
+pub struct Corners {
+    pub x0: i64,
+    pub y0: i64,
+    pub x1: i64,
+    pub y1: i64,
+}
+
+/// The kinds of layers that have no bitmap of their own.
+#[derive(Clone, Copy)]
+pub enum KindWithoutBitmap {
+    Simple,
+    Smart,
+}
+
+/// The kind of a layer that is asked for.
+#[derive(Clone, Copy)]
+pub enum AskedKind {
+    WithoutBitmap(KindWithoutBitmap),
+    /// A layer with a bitmap of its own of this size.
+    Super { bits_w: i64, bits_h: i64 },
+}
+
+/// A layer as a line asks for it, in the line's own numbers. The call that the line is has a `Make` of them.
+#[derive(Clone, Copy)]
+pub struct AskedLayer {
+    pub kind: AskedKind,
+    pub place: Place,
+    /// The bounds of a creation, or the place and size of an opening.
+    pub numbers: Corners,
+    pub backdrop: bool,
+    pub hook: Option<i64>,
+}
+
+/// A blit's places and sizes, and its minterm.
+#[derive(Clone, Copy)]
+pub struct AskedArea {
+    pub sx: i64,
+    pub sy: i64,
+    pub x: i64,
+    pub y: i64,
+    pub w: i64,
+    pub h: i64,
+    pub minterm: u8,
+}
+
+/// The calls whose line has a layer alone.
+#[derive(Clone, Copy)]
+pub enum BareAct {
+    Close,
+    Front,
+    Behind,
+    Activate,
+    Unclip,
+    Refresh,
+    GetMsg,
+}
+
+/// The calls whose line has a layer and a number.
+#[derive(Clone, Copy)]
+pub enum NumberAct {
+    APen,
+    BPen,
+    Mode,
+    Mask,
+    SetRast,
+    Clip,
+}
+
+/// The calls whose line has a layer and two numbers.
+#[derive(Clone, Copy)]
+pub enum PairAct {
+    Move,
+    Size,
+    At,
+    Write,
+    Read,
+    Draw,
+    Scroll,
+}
+
+/// The calls whose line has a layer and a text.
+#[derive(Clone, Copy)]
+pub enum TextAct {
+    Text,
+    Title,
+}
+
+/// What the line of a call asks for, without the layers that it names. Names and texts stand in the input.
+#[derive(Clone, Copy)]
+pub enum Act<'a> {
+    /// A rectangle joined to a register.
+    RegRect {
+        op: RectOp,
+        register: i64,
+        corners: Corners,
+    },
+    /// The register `source` joined to the register `into`.
+    RegPair {
+        op: PairOp,
+        source: i64,
+        into: i64,
+    },
+    /// A register emptied.
+    RegClear(i64),
+    Create(AskedLayer),
+    Open {
+        asked: AskedLayer,
+        framed: bool,
+        nocare: bool,
+        /// The set of the classes of messages: class k is bit k.
+        classes: u8,
+        title: &'a [u8],
+    },
+    InFront,
+    /// A place, a width and a height.
+    Box(Corners),
+    Which {
+        x: i64,
+        y: i64,
+    },
+    Bare(BareAct),
+    Number(NumberAct, i64),
+    Pair(PairAct, i64, i64),
+    Text(TextAct, &'a [u8]),
+    Fill(Corners),
+    ScrollRaster {
+        dx: i64,
+        dy: i64,
+        corners: Corners,
+    },
+    Put {
+        bitmap: &'a [u8],
+        area: AskedArea,
+    },
+    Blit(AskedArea),
+    EndRefresh {
+        full: bool,
+    },
+}
+
+/// The layers that a call's line names, from left to right.
+#[derive(Clone, Copy)]
+pub enum Layers<'a> {
+    Nothing,
+    One(&'a [u8]),
+    Two(&'a [u8], &'a [u8]),
+}
+
+/// What a line of a script says, if it isn't skipped. Names, texts and digits stand in the input.
+#[derive(Drop)]
+pub enum Statement<'a> {
+    Screen {
+        width: i64,
+        height: i64,
+        depth: i64,
+    },
+    /// A glyph's code, and the digits of its 8 rows.
+    Glyph {
+        code: u8,
+        digits: Digits<'a>,
+    },
+    /// A bitmap, whose rows then follow.
+    Bitmap {
+        name: &'a [u8],
+        width: i64,
+        height: i64,
+        depth: i64,
+    },
+    /// The digits of a row of a bitmap.
+    Row(Digits<'a>),
+    /// A task begins.
+    Task(&'a [u8]),
+    /// A task ends.
+    End,
+    /// Numbers of an order follow.
+    Order,
+    /// Numbers of an order.
+    Numbers(Vec<i64>),
+    /// A report follows.
+    Report,
+    Call {
+        layers: Layers<'a>,
+        act: Act<'a>,
+    },
+    Lock(&'a [u8]),
+    Unlock(&'a [u8]),
+    Hold,
+    Release,
+}
+
+impl<'a> Statement<'a> {
+    ghost use Rattle.std.specs.Prelude.{◌≡◌, [], ◌∷◌};
+    ghost use Rattle.lw_grammar.specs.Statements.{CallLine};
+    ghost use Rattle.lw_lines.specs.StatementMeaning.{statement_meaning, act_meaning};
+
+    /// A call that names no layer.
+    pub fn apart(act: Act<'a>) -> Statement<'a>
+        ensures { statement_meaning result ≡ CallLine [] (act_meaning act.entry) }
+    {
+        Statement::Call {
+            layers: Layers::Nothing,
+            act,
+        }
+    }
+
+    /// A call on one layer.
+    pub fn on(layer: &'a [u8], act: Act<'a>) -> Statement<'a>
+        ensures { statement_meaning result ≡ CallLine (layer.entry.now ∷ []) (act_meaning act.entry) }
+    {
+        Statement::Call {
+            layers: Layers::One(layer),
+            act,
+        }
+    }
+}
