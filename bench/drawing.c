@@ -1,4 +1,4 @@
-// Drawing calls, made by the desk's step, beside memset or memmove on as many bytes.
+// Drawing calls, made by the step of a run's parts, beside memset or memmove on as many bytes.
 #include "bench.h"
 
 #include <stdio.h>
