@@ -18,10 +18,6 @@ pub record IsDeskOf (all_sizes : Sizes) (handed : Assets) (d : Desk) : Type 0 wh
   pub sizes : d.sizes ≡ all_sizes
   pub assets : d.assets ≡ handed
 
--- Each part for which the one value stands the other stands for too.
-abbrev pub StandsToo : {V P : Type 0} → (V → P → Type 0) → V → V → Type 0
-StandsToo {V = V} {P = P} is old new = (p : P) → is old p → is new p
-
 module _ {R : Type 0} (regs_is : R → (ℕ → List Pixel) → Type 0) where
   -- a call on the registers of its task
   abbrev pub IsRegsStep : Sizes → Assets → R → Call → Reply → R → Type 0

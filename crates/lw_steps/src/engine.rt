@@ -1,4 +1,4 @@
-ghost use Rattle.std.specs.Prelude.{◌≡◌, ℕ, List, IfOk, OnErr, IsTrue};
+ghost use Rattle.std.specs.Prelude.{◌≡◌, ℕ, false, List, IsOk, IfOk, OnErr, IsTrue};
 ghost use Rattle.lw_region.specs.Pixels.{Pixel};
 ghost use Rattle.lw_calls.specs.Assets.{Assets};
 ghost use Rattle.lw_calls.specs.declared.sizes.Sizes.{Sizes};
@@ -6,7 +6,8 @@ ghost use Rattle.lw_calls.specs.Limits.{call_fits};
 ghost use Rattle.lw_calls.specs.Touches.{class_of, OnRegisters, OnInfo, OnLayer, OnLayers, OnAll};
 ghost use Rattle.lw_machine.specs.Desk.{Desk};
 ghost use Rattle.lw_machine.specs.Parts.{SlotPart, InfoPart};
-ghost use Rattle.lw_steps.specs.Steps.{StandsToo, IsRegsStep, IsLookStep, IsOneStep, IsTwoStep, AreParts, IsAllStep, AreStill};
+ghost use Rattle.lw_steps.specs.Memory.{takes_memory};
+ghost use Rattle.lw_steps.specs.Steps.{IsRegsStep, IsLookStep, IsOneStep, IsTwoStep, AreParts, IsAllStep, AreStill};
 
 use lw_calls::{Call, Reply};
 use std::alloc::{AllocError, Global};
@@ -14,7 +15,8 @@ use std::alloc::{AllocError, Global};
 /// The step of the machine, by the classes of calls (this project's own). An engine says which values stand for a task's registers,
 /// for a slot and for LayerInfo; each of its functions is lent the values that a call of its class touches, and makes the machine's
 /// step of them in every sound desk for whose parts they stand, with the engine's sizes, and to which its assets were handed in. It
-/// takes no lock and returns. It fails only when out of memory, and the values then stand for what they stood for.
+/// takes no lock and returns. It fails only when out of memory, which a call that takes none never is, and the values are then as
+/// before; those of all slots stand for the desks that they stood for.
 pub trait Engine: Drop + Sync {
     /// What LayerInfo keeps.
     type Info: Drop + Send;
@@ -40,7 +42,8 @@ pub trait Engine: Drop + Sync {
         requires class { class_of call.now ≡ OnRegisters }
         requires fits { IsTrue (call_fits (sizes self.now) call.now) }
         ensures step { IfOk result (λ r. IsRegsStep regs_is (sizes self.now) (assets self.now) regs.old call.now r regs.new) }
-        ensures unchanged { OnErr result (StandsToo regs_is regs.old regs.new) };
+        ensures unchanged { OnErr result (regs.new ≡ regs.old) }
+        ensures memory { takes_memory call.now ≡ false → IsOk result };
 
     /// Makes a call that looks at LayerInfo.
     fn look(&self, info: &Self::Info, call: &Call) -> Reply
@@ -62,22 +65,15 @@ pub trait Engine: Drop + Sync {
         ensures step { IfOk result (λ r.
             IsOneStep number cell_is regs_is (sizes self.now) (assets self.now) cell.old regs.now task call.now r cell.new) }
         ensures number { number cell.new ≡ number cell.old }
-        ensures unchanged { OnErr result (StandsToo cell_is cell.old cell.new) };
+        ensures unchanged { OnErr result (cell.new ≡ cell.old) }
+        ensures memory { takes_memory call.now ≡ false → IsOk result };
 
-    /// Makes a call on the layers of two slots, of which it reads the first alone.
-    fn two(
-        &self,
-        alloc: Global,
-        source: &Self::Cell,
-        to: &mut Self::Cell,
-        call: &Call,
-    ) -> Result<Reply, AllocError>
+    /// Makes a call on the layers of two slots, of which it reads the first alone. It takes no memory.
+    fn two(&self, source: &Self::Cell, to: &mut Self::Cell, call: &Call) -> Reply
         requires class { class_of call.now ≡ OnLayers (number source.now) (number to.old) }
         requires fits { IsTrue (call_fits (sizes self.now) call.now) }
-        ensures step { IfOk result (λ r.
-            IsTwoStep number cell_is (sizes self.now) (assets self.now) source.now to.old call.now r to.new) }
-        ensures number { number to.new ≡ number to.old }
-        ensures unchanged { OnErr result (StandsToo cell_is to.old to.new) };
+        ensures step { IsTwoStep number cell_is (sizes self.now) (assets self.now) source.now to.old call.now result to.new }
+        ensures number { number to.new ≡ number to.old };
 
     /// Makes a call that arranges the layers of all slots, whose cells are given in rising number.
     fn all(
