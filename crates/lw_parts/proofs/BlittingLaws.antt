@@ -1,7 +1,7 @@
 -- What blits and ScrollRaster answer and leave, in every desk for whose slots the cells stand.
 use Rattle.std.proofs.Common.{arith, IsTrue, ◌≤ℤ◌, ◌≡◌, ℕ, ◌==◌, Bool, true, false, not, ◌&&◌, nat_lt, if◌then◌else◌, ℤ, pos, negsuc, List, Some, None, ◌∙◌, sym, refl, ap, subst}
 use Rattle.std.specs.List.{slice_index_or}
-use Rattle.std.proofs.lemmas.Bool.{eq-eqb, eqb-true, and_parts, false≢true}
+use Rattle.std.proofs.lemmas.Bool.{eq-eqb, and_parts}
 use Rattle.std.proofs.lemmas.Bool.Decides.{nat_tests}
 use Rattle.std.proofs.lemmas.Int.{ints}
 use Rattle.lw_region.specs.Rectangle.{Rectangle, has_pixel, within}
@@ -13,7 +13,7 @@ use Rattle.lw_calls.specs.declared.call.Call.TheVariants.{ScrollRaster, Put, Bli
 use Rattle.lw_calls.specs.Limits.{is_coordinate, coordinates_fit}
 use Rattle.lw_calls.specs.declared.reply.Reply.{Reply}
 use Rattle.lw_calls.specs.declared.reply.Reply.TheVariants.{Done, NotOpen}
-use Rattle.lw_calls.specs.Touches.{CallClass, OnInfo, OnLayer, OnLayers, class_of, is_on_info}
+use Rattle.lw_calls.specs.Touches.{CallClass, OnLayer, OnLayers, class_of}
 use Rattle.lw_machine.specs.Layer.{Layer, Slot, is_live, change_layer}
 use Rattle.lw_machine.specs.Desk.{Desk}
 use Rattle.lw_machine.specs.Screen.{top}
@@ -22,6 +22,7 @@ use Rattle.lw_machine.specs.Shapes.{box_at}
 use Rattle.lw_machine.specs.Blits.{source_column, source_row, blit_candidate, clip_blit, blt_bitmap_rast_port, scroll_raster}
 use Rattle.lw_machine.specs.Parts.{SlotPart, slot_part}
 use Rattle.lw_machine.specs.Step.{refuse, refuse_not_open, refuse_unless_open, further_refusal, refusal, on_layer, clip_blit_from, no_bitmap, effect, changed_unless, after}
+use Rattle.lw_steps.proofs.ClassLaws.{ArePair, pair_told, pair_apart}
 use Rattle.lw_layer.specs.View.{LiveView, CellView, shows, draws, with_layer, with_live}
 use Rattle.lw_layer.specs.View as view
 use Rattle.lw_layer.specs.StandsFor.{IsLivePart, StandsFor, IsSound}
@@ -105,42 +106,6 @@ column_near dx dy fits = coordinate_near dx (and_parts (is_coordinate dx) (is_co
 
 pub row_near : (dx dy : ℤ) → IsTrue (coordinates_fit dx dy) → (negsuc 65534 ≤ℤ dy) × (dy ≤ℤ pos 65535)
 row_near dx dy fits = coordinate_near dy (and_parts (is_coordinate dx) (is_coordinate dy) fits).1
-
--- a blit is no look
-blit_no_look : (same : Bool) (source slot : ℕ) → is_on_info (if same then OnLayer slot else OnLayers source slot) ≡ false
-blit_no_look true source slot = refl
-blit_no_look false source slot = refl
-
-pub look_apart : (source slot : ℕ) (a : Area) → class_of (Blit source slot a) ≡ OnInfo → ⊥
-look_apart source slot a is = false≢true (sym (blit_no_look (source == slot) source slot) ∙ ap is_on_info is)
-
--- the two layers of a blit that is on two
-pub record ArePair (m n source slot : ℕ) : Type 0 where
-  pub from : m ≡ source
-  pub to : n ≡ slot
-  pub apart : (m == n) ≡ false
-
-pair_by : (t : Bool) (m n source slot : ℕ) → (m == n) ≡ t → (if t then OnLayer n else OnLayers m n) ≡ OnLayers source slot → ArePair m n source slot
-pair_by true m n source slot same is = absurd (cc is)
-pair_by false m n source slot apart is = record { from = cc is; to = cc is; apart = apart }
-
-pub pair_told : (m n source slot : ℕ) (a : Area) → class_of (Blit m n a) ≡ OnLayers source slot → ArePair m n source slot
-pair_told m n source slot a is = pair_by (m == n) m n source slot refl is
-
--- no call on two layers is on one twice
-pub pair_apart : (call : Call) (source slot : ℕ) → class_of call ≡ OnLayers source slot → (source == slot) ≡ false
-pair_apart (Blit m n a) source slot is =
-    let told : ArePair m n source slot = pair_told m n source slot a is in
-    sym (ap (λ k. k == n) told.from ∙ ap (λ k. source == k) told.to) ∙ told.apart
-pair_apart call source slot is = absurd (cc is)
-
--- the one layer of a blit that is on one
-alone_by : (t : Bool) (m n slot : ℕ) → (m == n) ≡ t → (if t then OnLayer n else OnLayers m n) ≡ OnLayer slot → (m ≡ slot) × (n ≡ slot)
-alone_by true m n slot same is = let there : n ≡ slot = cc is in (eqb-true m n same ∙ there, there)
-alone_by false m n slot apart is = absurd (cc is)
-
-pub alone_told : (m n slot : ℕ) (a : Area) → class_of (Blit m n a) ≡ OnLayer slot → (m ≡ slot) × (n ≡ slot)
-alone_told m n slot a is = alone_by (m == n) m n slot refl is
 
 -- a call on two layers of which one isn't open
 pair_refused : (source to : CellView) (call : Call) (d : Desk) (task : ℕ) → refusal d task call ≡ Some NotOpen → StandsFor source (slot_part d source.number) → StandsFor to (slot_part d to.number) → StandsFor source (slot_part (after d task call) source.number) × IsSlotStep d task to.number call NotOpen to

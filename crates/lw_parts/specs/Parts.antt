@@ -1,35 +1,15 @@
 -- What a call makes of the parts that it touches, and what it answers, in every desk with these parts (this project's own).
-use Rattle.std.specs.Prelude.{◌≡◌, ℕ, Bool, true, false, List}
+use Rattle.std.specs.Prelude.{◌≡◌, ℕ, List}
 use Rattle.lw_region.specs.Rectangle.{Rectangle}
 use Rattle.lw_calls.specs.Assets.{Assets}
 use Rattle.lw_calls.specs.declared.call.Call.{Call}
-use Rattle.lw_calls.specs.declared.call.Call.TheVariants.{RegRect, RegPair, ScrollRaster, Clip, SetTitle}
 use Rattle.lw_calls.specs.declared.reply.Reply.{Reply}
-use Rattle.lw_calls.specs.Touches.{CallClass, OnRegisters, OnInfo, OnLayer, OnLayers, OnAll, class_of}
 use Rattle.lw_machine.specs.Desk.{Desk}
 use Rattle.lw_machine.specs.Parts.{slot_part}
 use Rattle.lw_machine.specs.Step.{after, reply}
 use Rattle.lw_layer.specs.View.{CellView}
 use Rattle.lw_layer.specs.StandsFor.{StandsFor}
 use Rattle.lw_parts.specs.Registers.{StandForRegisters}
-
--- calls that arrange all layers
-abbrev pub is_on_all : CallClass → Bool
-is_on_all OnRegisters = false
-is_on_all OnInfo = false
-is_on_all (OnLayer slot) = false
-is_on_all (OnLayers source slot) = false
-is_on_all OnAll = true
-
--- The calls that take memory, and so may run out of it: those that make a region, ScrollRaster for its damage,
--- SetWindowTitles for a copy of the title, and arrangements.
-abbrev pub takes_memory : Call → Bool
-takes_memory (RegRect op register rect) = true
-takes_memory (RegPair op source into) = true
-takes_memory (ScrollRaster slot dx dy rect) = true
-takes_memory (Clip slot register) = true
-takes_memory (SetTitle slot title) = true
-takes_memory call = is_on_all (class_of call)
 
 -- a call on the registers of its task
 abbrev pub IsRegistersStep : List (List Rectangle) → Call → Reply → List (List Rectangle) → Type 0

@@ -6,8 +6,9 @@ ghost use Rattle.lw_calls.specs.Kinds.{is_super};
 ghost use Rattle.lw_calls.specs.Limits.{call_fits};
 ghost use Rattle.lw_calls.specs.Touches.{class_of, OnLayer};
 ghost use Rattle.lw_machine.specs.Step.{clip_answer};
+ghost use Rattle.lw_steps.specs.Memory.{takes_memory};
 ghost use Rattle.lw_layer.specs.Drafts.{clip_set};
-ghost use Rattle.lw_parts.specs.Parts.{IsCellStep, IsLayerStep, takes_memory};
+ghost use Rattle.lw_parts.specs.Parts.{IsCellStep, IsLayerStep};
 
 use crate::blitting::{blit, put, scroll_raster};
 use crate::drawing::{draw, fill, letters, read, set_rast, write};

@@ -5,8 +5,9 @@ ghost use Rattle.lw_calls.specs.Limits.{call_fits};
 ghost use Rattle.lw_calls.specs.Touches.{class_of, OnRegisters};
 ghost use Rattle.lw_machine.specs.Desk.{Desk};
 ghost use Rattle.lw_machine.specs.Step.{after, reply};
+ghost use Rattle.lw_steps.specs.Memory.{takes_memory};
 ghost use Rattle.lw_parts.specs.Registers.{StandForRegisters};
-ghost use Rattle.lw_parts.specs.Parts.{IsRegistersStep, takes_memory};
+ghost use Rattle.lw_parts.specs.Parts.{IsRegistersStep};
 
 use crate::regs::Regs;
 use lw_calls::{Call, PairOp, RectOp, Reply};

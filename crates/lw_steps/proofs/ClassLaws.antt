@@ -22,7 +22,7 @@ look_apart : (source slot : ℕ) (a : Area) → class_of (Blit source slot a) �
 look_apart source slot a is = false≢true (sym (blit_no_look (source == slot) source slot) ∙ ap is_on_info is)
 
 -- the two layers of a blit that is on two
-record ArePair (m n source slot : ℕ) : Type 0 where
+pub record ArePair (m n source slot : ℕ) : Type 0 where
   pub from : m ≡ source
   pub to : n ≡ slot
   pub apart : (m == n) ≡ false
@@ -31,7 +31,7 @@ pair_by : (t : Bool) (m n source slot : ℕ) → (m == n) ≡ t → (if t then O
 pair_by true m n source slot same is = absurd (cc is)
 pair_by false m n source slot apart is = record { from = cc is; to = cc is; apart = apart }
 
-pair_told : (m n source slot : ℕ) (a : Area) → class_of (Blit m n a) ≡ OnLayers source slot → ArePair m n source slot
+pub pair_told : (m n source slot : ℕ) (a : Area) → class_of (Blit m n a) ≡ OnLayers source slot → ArePair m n source slot
 pair_told m n source slot a is = pair_by (m == n) m n source slot refl is
 
 -- no call on two layers is on one twice
