@@ -125,14 +125,8 @@ impl<'a, B: Backfill + Send> Engine for LayerEngine<'a, B> {
         cell.on_layer(alloc, regs, self.assets, task, call)
     }
 
-    fn two(
-        &self,
-        _alloc: Global,
-        source: &Slot<B>,
-        to: &mut Slot<B>,
-        call: &Call,
-    ) -> Result<Reply, AllocError> {
-        Ok(to.with_source(source, call))
+    fn two(&self, source: &Slot<B>, to: &mut Slot<B>, call: &Call) -> Reply {
+        to.with_source(source, call)
     }
 
     fn all(

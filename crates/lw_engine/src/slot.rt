@@ -4,9 +4,10 @@ ghost use Rattle.std.specs.Prelude.{◌≡◌, false, Option, IsOk, IfOk, OnOk, 
 ghost use Rattle.lw_calls.specs.declared.sizes.Sizes.{Sizes};
 ghost use Rattle.lw_calls.specs.Limits.{call_fits};
 ghost use Rattle.lw_calls.specs.Touches.{class_of, OnLayer, OnLayers};
+ghost use Rattle.lw_steps.specs.Memory.{takes_memory};
 ghost use Rattle.lw_layer.specs.View.{hooked};
 ghost use Rattle.lw_layer.specs.Windows.{without_room, HasRoom};
-ghost use Rattle.lw_parts.specs.Parts.{IsLayerStep, IsPairStep, takes_memory};
+ghost use Rattle.lw_parts.specs.Parts.{IsLayerStep, IsPairStep};
 ghost use Rattle.lw_engine.specs.Slots.{hook_in};
 ghost use Rattle.lw_engine.specs.Desks.{unopened_cell};
 
