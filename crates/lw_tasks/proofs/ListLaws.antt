@@ -2,7 +2,7 @@
 use Rattle.std.proofs.Common.{◌≡◌, ◌≢◌, ℕ, zero, suc, ◌-◌, ◌<◌, List, [], ◌∷◌, ◌++◌, length, set, get_or, Some, ◌∙◌, sym, refl, ap, subst, ⊎_elim, arith}
 use Rattle.std.specs.List.{slice_get}
 use Rattle.std.proofs.lemmas.Bool.{cases_eq}
-use Rattle.std.proofs.lemmas.List.{set-append_left, set-append_right}
+use Rattle.std.proofs.lemmas.List.{set-append_left, set-append_right, set-get_or}
 use Rattle.std.proofs.lemmas.Option.{slice_get_read, get_or_from_slice_get, same_Some}
 
 -- the one that was set
@@ -18,6 +18,10 @@ set_elsewhere (y ∷ ys) zero zero x other = absurd (other refl)
 set_elsewhere (y ∷ ys) zero (suc k) x other = refl
 set_elsewhere (y ∷ ys) (suc n) zero x other = refl
 set_elsewhere (y ∷ ys) (suc n) (suc k) x other = set_elsewhere ys n k x (λ same. other (ap suc same))
+
+-- an entry that is set to its own value leaves the list as it was
+pub set_back : {A : Type 0} (xs : List A) (n : ℕ) (old new : A) → slice_get xs n ≡ Some old → new ≡ old → set xs n new ≡ xs
+set_back xs n old new got same = ap (λ k. set xs n k) (same ∙ sym (get_or_from_slice_get xs n old old got)) ∙ set-get_or xs n old
 
 -- a fact of each entry
 pub each_set : {A : Type 0} (P : ℕ → A → Type 0) (xs : List A) (n : ℕ) (x : A) → n < length xs → P n x

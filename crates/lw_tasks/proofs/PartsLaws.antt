@@ -18,10 +18,10 @@ use Rattle.lw_machine.specs.Step.{after}
 use Rattle.lw_machine.proofs.Untouched.{leaves_the_rest}
 use Rattle.lw_machine.proofs.ReachedSound.{step_sound, after_sizes}
 use Rattle.lw_machine.proofs.Locality.{after_assets}
-use Rattle.lw_steps.specs.Steps.{IsDeskOf, StandsToo, IsRegsStep, IsLookStep, IsOneStep, IsTwoStep, AreParts, IsAllStep, AreStill}
+use Rattle.lw_steps.specs.Steps.{IsDeskOf, IsRegsStep, IsLookStep, IsOneStep, IsTwoStep, AreParts, IsAllStep, AreStill}
 use Rattle.lw_steps.proofs.ClassLaws.{after_look, after_registers}
 use Rattle.lw_tasks.specs.Standing.{StandForDesk, IsStep, StandStill, IsTwoDone}
-use Rattle.lw_tasks.proofs.ListLaws.{each_set}
+use Rattle.lw_tasks.proofs.ListLaws.{each_set, set_back}
 
 -- a sound desk with these sizes and assets is one after a call, too
 desk_after : (sizes : Sizes) (assets : Assets) (d : Desk) (task : ℕ) (call : Call) → IsTrue (call_fits sizes call) → IsDeskOf sizes assets d → IsDeskOf sizes assets (after d task call)
@@ -89,16 +89,13 @@ module _ {I C R : Type 0} (info_is : Sizes → I → InfoPart → Type 0) (numbe
   regs_step (Err x) info cells regs task call old new fits class got step = tt
 
   pub regs_still : {E : Type 0} (result : Result Reply E) (info : I) (cells : List C) (regs : List R) (task : ℕ) (old new : R)
-      → slice_get regs task ≡ Some old → OnErr result (StandsToo regs_is old new)
+      → slice_get regs task ≡ Some old → OnErr result (new ≡ old)
       → OnErr result (StandStill info_is number cell_is regs_is sizes assets info cells regs info cells (set regs task new))
-  regs_still (Ok r) info cells regs task old new got kept = tt
-  regs_still (Err x) info cells regs task old new got kept =
-      λ d stands. record {
-        layers = stands.layers;
-        tasks = length-set regs task new ∙ stands.tasks;
-        registers = each_set (λ t q. regs_is q (d.registers t)) regs task new (slice_get_within regs task old got) (kept (d.registers task) (stands.registers task old got))
-            (λ t q other there. stands.registers t q there);
-      }
+  regs_still (Ok r) info cells regs task old new got same = tt
+  regs_still (Err x) info cells regs task old new got same =
+      λ d stands.
+      let P : List R → Type 0 = λ q. StandForDesk info_is number cell_is regs_is sizes assets info cells q d in
+      subst P (sym (set_back regs task old new got same)) stands
 
   -- a look at LayerInfo
   pub look_step : (info : I) (cells : List C) (regs : List R) (task : ℕ) (call : Call) (r : Reply) → class_of call ≡ OnInfo
@@ -131,31 +128,21 @@ module _ {I C R : Type 0} (info_is : Sizes → I → InfoPart → Type 0) (numbe
   one_step (Err x) info cells regs task slot call old new held fits class got here same read step = tt
 
   pub one_still : {E : Type 0} (result : Result Reply E) (info : I) (cells : List C) (regs : List R) (slot : ℕ) (old new : C)
-      → slice_get cells slot ≡ Some old → number new ≡ number old → OnErr result (StandsToo cell_is old new)
+      → slice_get cells slot ≡ Some old → OnErr result (new ≡ old)
       → OnErr result (StandStill info_is number cell_is regs_is sizes assets info cells regs info (set cells slot new) regs)
-  one_still (Ok r) info cells regs slot old new got same kept = tt
-  one_still (Err x) info cells regs slot old new got same kept =
+  one_still (Ok r) info cells regs slot old new got same = tt
+  one_still (Err x) info cells regs slot old new got same =
       λ d stands.
-      let was = stands.layers.cells slot old got in
-      record {
-        layers = record {
-          desk = stands.layers.desk;
-          many = length-set cells slot new ∙ stands.layers.many;
-          info = stands.layers.info;
-          cells = each_set (λ s c. (number c ≡ s) × cell_is c (slot_part d s)) cells slot new (slice_get_within cells slot old got)
-              (same ∙ was.0, kept (slot_part d slot) was.1) (λ s c other there. stands.layers.cells s c there);
-        };
-        tasks = stands.tasks;
-        registers = stands.registers;
-      }
+      let P : List C → Type 0 = λ q. StandForDesk info_is number cell_is regs_is sizes assets info q regs d in
+      subst P (sym (set_back cells slot old new got same)) stands
 
   -- a call on two layers
-  pub two_step : {E : Type 0} (result : Result Reply E) (info : I) (cells : List C) (regs : List R) (task from slot : ℕ) (call : Call) (source old new : C)
+  pub two_step : (r : Reply) (info : I) (cells : List C) (regs : List R) (task from slot : ℕ) (call : Call) (source old new : C)
       → IsTrue (call_fits sizes call) → class_of call ≡ OnLayers from slot → slice_get cells from ≡ Some source → number source ≡ from
       → slice_get cells slot ≡ Some old → number old ≡ slot → number new ≡ number old
-      → IfOk result (λ r. IsTwoStep number cell_is sizes assets source old call r new)
-      → IfOk result (λ r. IsStep info_is number cell_is regs_is sizes assets info cells regs task call r info (set cells slot new) regs)
-  two_step (Ok r) info cells regs task from slot call source old new fits class first begins got here same step =
+      → IsTwoStep number cell_is sizes assets source old call r new
+      → IsStep info_is number cell_is regs_is sizes assets info cells regs task call r info (set cells slot new) regs
+  two_step r info cells regs task from slot call source old new fits class first begins got here same step =
       λ d stands.
       let F : ℕ → Type 0 = λ n. cell_is source (slot_part d n) in
       let P : ℕ → Type 0 = λ n. cell_is old (slot_part d n) in
@@ -186,7 +173,6 @@ module _ {I C R : Type 0} (info_is : Sizes → I → InfoPart → Type 0) (numbe
           cell_left cells d task call s c
           (touch_two call from slot s class ∙ not_either (from == s) (slot == s) (ne_eqb from s (λ back. apart (sym back))) (ne_eqb slot s (λ back. other (sym back)))) was)
           (cases_eq s from)
-  two_step (Err x) info cells regs task from slot call source old new fits class first begins got here same step = tt
 
   -- a call that arranges the layers
   pub all_step : {E : Type 0} (result : Result Reply E) (info new_info : I) (cells new : List C) (regs : List R) (task : ℕ) (call : Call) → class_of call ≡ OnAll
@@ -205,10 +191,10 @@ module _ {I C R : Type 0} (info_is : Sizes → I → InfoPart → Type 0) (numbe
   all_still (Err x) info new_info cells new regs kept = λ d stands. record { layers = kept d stands.layers; tasks = stands.tasks; registers = stands.registers }
 
 -- what a call on two cells leaves, where these cells were lent
-pub two_done : {C E : Type 0} (number : C → ℕ) (cell_is : C → SlotPart → Type 0) (sizes : Sizes) (assets : Assets) (source old x y new : C) (call : Call) (result : Result Reply E)
-    → source ≡ x → old ≡ y → number new ≡ number old → IfOk result (λ r. IsTwoStep number cell_is sizes assets source old call r new) → OnErr result (StandsToo cell_is old new)
-    → IsTwoDone number cell_is sizes assets x y call result new
-two_done {C = C} number cell_is sizes assets source old x y new call result first second same step kept =
-    let P : C → Type 0 = λ k. IsTwoDone number cell_is sizes assets k y call result new in
-    let Q : C → Type 0 = λ k. IsTwoDone number cell_is sizes assets source k call result new in
-    subst P first (subst Q second (record { number = same; step = step; unchanged = kept }))
+pub two_done : {C : Type 0} (number : C → ℕ) (cell_is : C → SlotPart → Type 0) (sizes : Sizes) (assets : Assets) (source old x y new : C) (call : Call) (r : Reply)
+    → source ≡ x → old ≡ y → number new ≡ number old → IsTwoStep number cell_is sizes assets source old call r new
+    → IsTwoDone number cell_is sizes assets x y call r new
+two_done {C = C} number cell_is sizes assets source old x y new call r first second same step =
+    let P : C → Type 0 = λ k. IsTwoDone number cell_is sizes assets k y call r new in
+    let Q : C → Type 0 = λ k. IsTwoDone number cell_is sizes assets source k call r new in
+    subst P first (subst Q second (record { number = same; step = step }))

@@ -1,6 +1,6 @@
 -- Which desks the parts that an engine's calls are lent stand for together, and what a call makes of them (this project's own). What
 -- stands for which part is the engine's, and so an argument.
-use Rattle.std.specs.Prelude.{◌≡◌, ℕ, List, length, slice_set, Some, Result, IfOk, OnErr}
+use Rattle.std.specs.Prelude.{◌≡◌, ℕ, List, length, slice_set, Some}
 use Rattle.std.specs.List.{slice_get}
 use Rattle.lw_region.specs.Pixels.{Pixel}
 use Rattle.lw_calls.specs.Assets.{Assets}
@@ -10,7 +10,7 @@ use Rattle.lw_calls.specs.declared.reply.Reply.{Reply}
 use Rattle.lw_machine.specs.Desk.{Desk}
 use Rattle.lw_machine.specs.Parts.{SlotPart, InfoPart}
 use Rattle.lw_machine.specs.Step.{after, reply}
-use Rattle.lw_steps.specs.Steps.{StandsToo, IsTwoStep, AreParts}
+use Rattle.lw_steps.specs.Steps.{IsTwoStep, AreParts}
 
 -- LayerInfo and the cells of all slots stand for their parts of a sound desk with these sizes and assets, and each task's registers
 -- for its part.
@@ -44,8 +44,7 @@ pub record IsSetTo {C : Type 0} (Holds : C → Type 0) (place : ℕ) (old new : 
   pub set : new ≡ slice_set old place value
   pub holds : Holds value
 
--- what a call on two layers, of which it reads the first alone, leaves of the second
-pub record IsTwoDone {C E : Type 0} (of : C → ℕ) (cell_is : C → SlotPart → Type 0) (sizes : Sizes) (assets : Assets) (source old : C) (call : Call) (result : Result Reply E) (new : C) : Type 0 where
+-- what a call on two layers, of which it reads the first alone, answers and leaves of the second
+pub record IsTwoDone {C : Type 0} (of : C → ℕ) (cell_is : C → SlotPart → Type 0) (sizes : Sizes) (assets : Assets) (source old : C) (call : Call) (r : Reply) (new : C) : Type 0 where
   pub number : of new ≡ of old
-  pub step : IfOk result (λ r. IsTwoStep of cell_is sizes assets source old call r new)
-  pub unchanged : OnErr result (StandsToo cell_is old new)
+  pub step : IsTwoStep of cell_is sizes assets source old call r new

@@ -1,10 +1,11 @@
 // The parts of a desk with no lock, and a call on them by its class.
 
-ghost use Rattle.std.specs.Prelude.{◌≡◌, ℕ, ◌<◌, length, Some, IfOk, OnErr, IsTrue};
+ghost use Rattle.std.specs.Prelude.{◌≡◌, ℕ, ◌<◌, false, length, Some, IsOk, IfOk, OnErr, IsTrue};
 ghost use Rattle.std.specs.List.{slice_get};
 ghost use Rattle.lw_calls.specs.Limits.{call_fits};
 ghost use Rattle.lw_calls.specs.Touches.{class_of, OnRegisters, OnInfo, OnLayer, OnLayers, OnAll};
 ghost use Rattle.lw_machine.specs.Desk.{Desk};
+ghost use Rattle.lw_steps.specs.Memory.{takes_memory};
 ghost use Rattle.lw_steps.specs.Steps.{AreParts};
 ghost use Rattle.lw_tasks.specs.Standing.{StandForDesk, IsStep, StandStill, AreNumbered, IsSetTo, IsTwoDone};
 
@@ -25,7 +26,8 @@ pub struct Parts<E: Engine> {
 
 impl<E: Engine> Parts<E> {
     /// Makes one call of a task and gives its reply, as the machine's step says of every desk for which the parts stand. The call has
-    /// to fit the engine's sizes. It fails only when out of memory, and the parts then stand for the same desks as before.
+    /// to fit the engine's sizes. A call that takes no memory can't fail. Any other fails only when out of memory, and the parts then
+    /// stand for the same desks as before.
     pub fn step(
         &mut self,
         engine: &E,
@@ -43,12 +45,13 @@ impl<E: Engine> Parts<E> {
         ensures unchanged { OnErr result (StandStill E.info_is E.number E.cell_is E.regs_is (E.sizes engine.now)
             (E.assets engine.now) self.old.info self.old.cells.items self.old.registers.items
             self.new.info self.new.cells.items self.new.registers.items) }
+        ensures memory { takes_memory call.now ≡ false → IsOk result }
     {
         match class_of(call) {
             Class::Registers => self.on_registers(engine, alloc, task, call),
             Class::Info => Ok(engine.look(&self.info, call)),
             Class::Layer(slot) => self.on_layer(engine, alloc, task, slot, call),
-            Class::Layers(source, slot) => self.on_layers(engine, alloc, source, slot, call),
+            Class::Layers(source, slot) => Ok(self.on_layers(engine, source, slot, call)),
             Class::All => self.on_all(engine, alloc, task, call),
         }
     }
@@ -70,6 +73,7 @@ impl<E: Engine> Parts<E> {
         ensures unchanged { OnErr result (StandStill E.info_is E.number E.cell_is E.regs_is (E.sizes engine.now)
             (E.assets engine.now) self.old.info self.old.cells.items self.old.registers.items
             self.new.info self.new.cells.items self.new.registers.items) }
+        ensures memory { takes_memory call.now ≡ false → IsOk result }
     {
         engine.regs(alloc, &mut self.registers[task as usize], call)
     }
@@ -94,33 +98,24 @@ impl<E: Engine> Parts<E> {
         ensures unchanged { OnErr result (StandStill E.info_is E.number E.cell_is E.regs_is (E.sizes engine.now)
             (E.assets engine.now) self.old.info self.old.cells.items self.old.registers.items
             self.new.info self.new.cells.items self.new.registers.items) }
+        ensures memory { takes_memory call.now ≡ false → IsOk result }
     {
         let held = &self.registers[task as usize];
         engine.one(alloc, &mut self.cells[slot as usize], held, task, call)
     }
 
     // A call on two layers.
-    fn on_layers(
-        &mut self,
-        engine: &E,
-        alloc: Global,
-        source: u32,
-        slot: u32,
-        call: &Call,
-    ) -> Result<Reply, AllocError>
+    fn on_layers(&mut self, engine: &E, source: u32, slot: u32, call: &Call) -> Reply
         requires class { class_of call.now ≡ OnLayers source slot }
         requires fits { IsTrue (call_fits (E.sizes engine.now) call.now) }
         requires source { source < length self.old.cells.items }
         requires slot { slot < length self.old.cells.items }
         requires numbers { AreNumbered E.number self.old.cells.items }
-        ensures step { (task : ℕ) → IfOk result (λ r. IsStep E.info_is E.number E.cell_is E.regs_is (E.sizes engine.now)
-            (E.assets engine.now) self.old.info self.old.cells.items self.old.registers.items task call.now r
-            self.new.info self.new.cells.items self.new.registers.items) }
-        ensures unchanged { OnErr result (StandStill E.info_is E.number E.cell_is E.regs_is (E.sizes engine.now)
-            (E.assets engine.now) self.old.info self.old.cells.items self.old.registers.items
-            self.new.info self.new.cells.items self.new.registers.items) }
+        ensures { (task : ℕ) → IsStep E.info_is E.number E.cell_is E.regs_is (E.sizes engine.now)
+            (E.assets engine.now) self.old.info self.old.cells.items self.old.registers.items task call.now result
+            self.new.info self.new.cells.items self.new.registers.items }
     {
-        on_two(engine, alloc, self.cells.as_mut_slice(), source, slot, call)
+        on_two(engine, self.cells.as_mut_slice(), source, slot, call)
     }
 
     // A call that arranges the layers.
@@ -149,12 +144,11 @@ impl<E: Engine> Parts<E> {
 // Makes a call on two of all cells, of which it reads the first alone.
 fn on_two<E: Engine>(
     engine: &E,
-    alloc: Global,
     cells: &mut [E::Cell],
     source: u32,
     slot: u32,
     call: &Call,
-) -> Result<Reply, AllocError>
+) -> Reply
     requires class { class_of call.now ≡ OnLayers source slot }
     requires fits { IsTrue (call_fits (E.sizes engine.now) call.now) }
     requires source { source < length cells.old }
@@ -168,9 +162,9 @@ fn on_two<E: Engine>(
     let slot = slot as usize;
     if source < slot {
         let (front, back) = cells.split_at_mut(slot);
-        engine.two(alloc, &front[source], &mut back[0], call)
+        engine.two(&front[source], &mut back[0], call)
     } else {
         let (front, back) = cells.split_at_mut(source);
-        engine.two(alloc, &back[0], &mut front[slot], call)
+        engine.two(&back[0], &mut front[slot], call)
     }
 }

@@ -22,7 +22,7 @@ returns-then-source-slot g c =
       holds = two_done e.number e.cell_is (e.sizes a.engine.now) (e.assets a.engine.now) (get_or front a.source c.index-front-source.result) (get_or back 0 c.index-back-0.result) x y two.new.to a.call.now two.result
           (sym c.index-front-source.is ∙ front_is all front back a.source c.index-front-source.result x cut.ensures.value low c.index-front-source.is first)
           (sym c.index-back-0.is ∙ back_is all front back a.slot c.index-back-0.result y cut.ensures.value cut.ensures.front_len c.index-back-0.is second)
-          two.ensures.number two.ensures.step two.ensures.unchanged;
+          two.ensures.number two.ensures.step;
     }
 
 pub returns-else-source-slot : goal.returns-else-source-slot
@@ -44,5 +44,5 @@ returns-else-source-slot g c =
       holds = two_done e.number e.cell_is (e.sizes a.engine.now) (e.assets a.engine.now) (get_or back 0 c.index-back-0-else-source-slot.result) (get_or front a.slot c.index-front-slot.result) x y two.new.to a.call.now two.result
           (sym c.index-back-0-else-source-slot.is ∙ back_is all front back a.source c.index-back-0-else-source-slot.result x cut.ensures.value cut.ensures.front_len c.index-back-0-else-source-slot.is first)
           (sym c.index-front-slot.is ∙ front_is all front back a.slot c.index-front-slot.result y cut.ensures.value low c.index-front-slot.is second)
-          two.ensures.number two.ensures.step two.ensures.unchanged;
+          two.ensures.number two.ensures.step;
     }

@@ -27,4 +27,4 @@ returns-clause-unchanged g c =
     let old = c.index_mut.result.now in
     let got : slice_get cells a.slot ≡ Some old = slice_get_read cells (length cells) a.slot old refl c.requires.slot c.index_mut.ensures.value in
     one_still e.info_is e.number e.cell_is e.regs_is (e.sizes a.engine.now) (e.assets a.engine.now) c.one.result p.info cells p.registers.items a.slot old c.one.new.cell
-    got c.one.ensures.number c.one.ensures.unchanged
+    got c.one.ensures.unchanged
