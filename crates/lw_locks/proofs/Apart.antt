@@ -1,6 +1,6 @@
--- Calls on layers and looks aren't on registers.
+-- Calls on layers, looks and arrangements aren't on registers.
 use Rattle.std.proofs.Common.{◌≡◌, ◌≢◌, ℕ}
-use Rattle.lw_calls.specs.Touches.{CallClass, OnRegisters, OnInfo, OnLayer, OnLayers}
+use Rattle.lw_calls.specs.Touches.{CallClass, OnRegisters, OnInfo, OnLayer, OnLayers, OnAll}
 
 pub info_apart : (k : CallClass) → k ≡ OnInfo → k ≢ OnRegisters
 info_apart k is h = cc
@@ -10,3 +10,6 @@ layer_apart k s is h = cc
 
 pub layers_apart : (k : CallClass) (s t : ℕ) → k ≡ OnLayers s t → k ≢ OnRegisters
 layers_apart k s t is h = cc
+
+pub all_apart : (k : CallClass) → k ≡ OnAll → k ≢ OnRegisters
+all_apart k is h = cc

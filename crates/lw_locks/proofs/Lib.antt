@@ -1,6 +1,9 @@
 mod Apart
+mod Closing
+mod Deeper
 mod Later
 mod Passes
+mod Running
 mod Seats
 mod Starting
 mod Stepping

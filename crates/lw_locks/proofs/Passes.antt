@@ -18,10 +18,13 @@ use Rattle.lw_order.specs.Roles.{same_role, without}
 use Rattle.lw_order.specs.Promised.{Follows}
 use Rattle.lw_order.specs.Seen.{SeenSeat}
 use Rattle.lw_order.proofs.HistoryLaws.{count_of_added, count_of_follows}
-use Rattle.lw_locks.specs.Promised.{Done}
-use Rattle.lw_locks.specs.Held.{IsSeat, AreRegs, IsOwn}
+use Rattle.lw_locks.specs.Promised.{Done, GroupDone}
+use Rattle.lw_locks.specs.Held.{IsSeat, AreRegs, IsHolding, IsOwn}
 use Rattle.lw_locks.specs.Seen.{SeenPass}
-use Rattle.lw_locks.proofs.Seats.{WasSplit, IsLonger, seat_at, regs_at, without_last, done_after}
+use Rattle.lw_locks.specs.declared.answer.Answer.{Answer}
+use Rattle.lw_locks.specs.Joins.{WasJoined, WasSplit, IsLonger}
+use Rattle.lw_locks.proofs.Seats.{longer_by, seat_joined, regs_longer, seat_at, regs_at, without_last, done_after}
+use Rattle.lw_locks.proofs.Running.{group_after}
 
 -- a pass whose task made one call more
 pub own_after : {R : Type 0} (regs_is : R → (ℕ → List Pixel) → Type 0) (name : TableId) (desk : Desk) (task made : ℕ) (old new : SeenSeat) (regs regs_new : R) (call : Call) (r : Reply) (ticket : ℕ) → IsOwn regs_is name desk task made old regs → IsSeat name desk new → new.roles ≡ old.roles → AreRegs regs_is desk task new regs_new
@@ -33,6 +36,12 @@ own_after regs_is name desk task made old new regs regs_new call r ticket own se
       regs = are;
       counted = ap (λ n. n + 1) own.counted ∙ sym (count_of_added old.roles old.history new.history task call ticket own.regs.has done.added);
     }
+
+-- what a task holds after one call more
+pub holding_after : {R : Type 0} (regs_is : R → (ℕ → List Pixel) → Type 0) (name : TableId) (desk : Desk) (task made : ℕ) (old new : SeenSeat) (regs : R) (call : Call) (r : Reply) (ticket : ℕ) → IsHolding regs_is name desk task made old regs → IsSeat name desk new → AreRegs regs_is desk task new regs
+    → Done desk old.roles task old.history new.history call r ticket → IsHolding regs_is name desk task (made + 1) new regs
+holding_after regs_is name desk task made old new regs call r ticket had seat are done =
+    record { seat = seat; regs = are; counted = ap (λ n. n + 1) had.counted ∙ sym (count_of_added old.roles old.history new.history task call ticket had.regs.has done.added) }
 
 -- the room of a pass whose seat was joined with others
 pub room_joined : (task : ℕ) (mine both : SeenSeat) → IsLonger mine both → Contains mine.roles (Task task) → count_of task mine.history < 4294967295 → count_of task both.history < 4294967295
@@ -82,6 +91,34 @@ module _ {A E : Type 0} (desk : Desk) (task : ℕ) (mine both : SeenSeat) (stepp
   failed_out (Err e) h =
       let out : Follows (Task task ∷ []) mine.history left = subst (λ rs. Follows rs mine.history left) roles (subst (Follows mine.roles mine.history) (sym (same ∙ h)) f.follows) in
       subst (λ (v : SeenPass). Follows (Task v.task ∷ []) v.history left) is out
+
+-- A pass while it holds what lay behind a lock whose role is another, and after its calls.
+module _ (name : TableId) (desk : Desk) (task : ℕ) (off : Role) (mine theirs both : SeenSeat) (was : WasJoined desk mine theirs both) (roles : mine.roles ≡ Task task ∷ []) (their_roles : theirs.roles ≡ off ∷ []) where
+  pub holding_joined : {R : Type 0} (regs_is : R → (ℕ → List Pixel) → Type 0) (made : ℕ) (regs : R) → IsOwn regs_is name desk task made mine regs → IsHolding regs_is name desk task made both regs
+  holding_joined regs_is made regs own =
+      record {
+        seat = seat_joined desk mine theirs both was name own.seat;
+        regs = regs_longer desk mine both (longer_by desk mine theirs both was) regs_is task regs own.regs;
+        counted = counted_joined task made mine both (longer_by desk mine theirs both was) own.regs.has own.counted;
+      }
+
+  pub held_both : both.roles ≡ Task task ∷ off ∷ []
+  held_both = was.roles ∙ (ap (λ rs. rs ++ theirs.roles) roles ∙ ap (λ rs. Task task ∷ rs) their_roles)
+
+  module _ (whole left given : SeenSeat) (same : whole.roles ≡ both.roles) where
+    pub has_role : Contains whole.roles off
+    has_role = subst (λ rs. Contains rs off) (sym (same ∙ held_both)) (Contains-push (Task task ∷ []) off)
+
+    pub own_again : {R : Type 0} (regs_is : R → (ℕ → List Pixel) → Type 0) (made : ℕ) (regs : R) → WasSplit off whole left given → same_role off (Task task) ≡ false → IsHolding regs_is name desk task made whole regs → IsOwn regs_is name desk task made left regs
+    own_again regs_is made regs cut apart had = own_left regs_is name desk task made off whole left given regs had.seat had.regs cut (same ∙ held_both) apart had.counted
+
+    pub group_out : (seen : SeenPass) (held : List Role) (calls : List Call) (had has : List Answer) → left.history ≡ whole.history → record { task = task; history = mine.history } ≡ seen → GroupDone desk both.roles (Task task ∷ held) task both.history whole.history calls had has → GroupDone desk (Task seen.task ∷ []) (Task seen.task ∷ held) seen.task seen.history left.history calls had has
+    group_out seen held calls had has after is g =
+        let among : (r : Role) → Contains (Task task ∷ []) r → Contains both.roles r = λ r h. (longer_by desk mine theirs both was).among r (subst (λ rs. Contains rs r) (sym roles) h) in
+        let follows : Follows (Task task ∷ []) mine.history both.history = subst (λ rs. Follows rs mine.history both.history) roles was.follows in
+        let inner = group_after desk (Task task ∷ []) both.roles (Task task ∷ held) task mine.history both.history whole.history calls had has among follows g in
+        subst (λ (v : SeenPass). GroupDone desk (Task v.task ∷ []) (Task v.task ∷ held) v.task v.history left.history calls had has) is
+          (subst (λ h. GroupDone desk (Task task ∷ []) (Task task ∷ held) task mine.history h calls had has) (sym after) inner)
 
 -- of a call on two layers the second slot is another than the first
 pub second_apart : (call : Call) (source slot : ℕ) → class_of call ≡ OnLayers source slot → (slot == source) ≡ false

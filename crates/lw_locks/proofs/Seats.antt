@@ -15,64 +15,16 @@ use Rattle.lw_machine.specs.History.{machine}
 use Rattle.lw_machine.specs.Step.{reply}
 use Rattle.lw_machine.specs.Parts.{SlotPart, slot_part, InfoPart, info_part}
 use Rattle.lw_order.specs.Roles.{same_role, without, LeavesAlone}
-use Rattle.lw_order.specs.Numbered.{CallsFit}
 use Rattle.lw_order.specs.Promised.{Follows}
 use Rattle.lw_order.specs.Seen.{SeenSeat}
 use Rattle.lw_order.proofs.RoleLaws.{same_role_itself, quiet_fewer}
 use Rattle.lw_order.proofs.HistoryLaws.{follows_on, fewer_follow}
+use Rattle.lw_locks.specs.Joins.{IsHistory, WasJoined, IsLonger}
 use Rattle.lw_locks.specs.Promised.{Done}
 use Rattle.lw_locks.specs.Held.{IsSeat, AreRegs, IsCell, IsInfo}
 use Rattle.lw_locks.proofs.Later.{later}
 
--- what the order word tells of a join, and of a split
-pub record WasJoined (desk : Desk) (mine theirs both : SeenSeat) : Type 0 where
-  pub word : both.word ≡ mine.word
-  pub roles : both.roles ≡ mine.roles ++ theirs.roles
-  pub follows : Follows mine.roles mine.history both.history
-  pub other_follows : Follows theirs.roles theirs.history both.history
-  pub fits : CallsFit desk.sizes both.history
-
-pub record WasSplit (off : Role) (whole left given : SeenSeat) : Type 0 where
-  pub words : (left.word ≡ whole.word) × (given.word ≡ whole.word)
-  pub histories : (left.history ≡ whole.history) × (given.history ≡ whole.history)
-  pub given_roles : given.roles ≡ off ∷ []
-  pub left_roles : left.roles ≡ without off whole.roles
-
-module _ (desk : Desk) (mine theirs both : SeenSeat) (was : WasJoined desk mine theirs both) where
-  has_mine : (r : Role) → Contains mine.roles r → Contains both.roles r
-  has_mine r h = subst (λ rs. Contains rs r) (sym was.roles) (Contains-append_left mine.roles theirs.roles r h)
-
-  has_theirs : (r : Role) → Contains theirs.roles r → Contains both.roles r
-  has_theirs r h = subst (λ rs. Contains rs r) (sym was.roles) (Contains-append_right mine.roles theirs.roles r h)
-
-  pub seat_joined : (name : TableId) → IsSeat name desk mine → IsSeat name desk both
-  seat_joined name seat = record { word = was.word ∙ seat.word; fits = was.fits }
-
-  pub regs_joined : {R : Type 0} (regs_is : R → (ℕ → List Pixel) → Type 0) (task : ℕ) (regs : R) → AreRegs regs_is desk task mine regs → AreRegs regs_is desk task both regs
-  regs_joined regs_is task regs are =
-      record { has = has_mine (Task task) are.has; stand = subst (regs_is regs) (later desk mine.roles (Task task) mine.history both.history are.has was.follows) are.stand }
-
-  pub cell_stays : {C : Type 0} (number : C → ℕ) (cell_is : C → SlotPart → Type 0) (cell : C) → IsCell number cell_is desk mine cell → IsCell number cell_is desk both cell
-  cell_stays number cell_is cell is =
-      record { has = has_mine (Slot (number cell)) is.has; stands = subst (cell_is cell) (later desk mine.roles (Slot (number cell)) mine.history both.history is.has was.follows) is.stands }
-
-  pub cell_joined : {C : Type 0} (number : C → ℕ) (cell_is : C → SlotPart → Type 0) (cell : C) → IsCell number cell_is desk theirs cell → IsCell number cell_is desk both cell
-  cell_joined number cell_is cell is =
-      record { has = has_theirs (Slot (number cell)) is.has; stands = subst (cell_is cell) (later desk theirs.roles (Slot (number cell)) theirs.history both.history is.has was.other_follows) is.stands }
-
-  pub info_stays : {I : Type 0} (info_is : I → InfoPart → Type 0) (info : I) → IsInfo info_is desk mine info → IsInfo info_is desk both info
-  info_stays info_is info is =
-      record { has = has_mine Info is.has; stands = subst (info_is info) (later desk mine.roles Info mine.history both.history is.has was.follows) is.stands }
-
-  pub info_joined : {I : Type 0} (info_is : I → InfoPart → Type 0) (info : I) → IsInfo info_is desk theirs info → IsInfo info_is desk both info
-  info_joined info_is info is =
-      record { has = has_theirs Info is.has; stands = subst (info_is info) (later desk theirs.roles Info theirs.history both.history is.has was.other_follows) is.stands }
-
--- A seat knows no less than another, and has its roles too.
-pub record IsLonger (mine both : SeenSeat) : Type 0 where
-  pub among : (r : Role) → Contains mine.roles r → Contains both.roles r
-  pub follows : Follows mine.roles mine.history both.history
-
+-- A seat is no shorter than before a join, or two.
 pub longer_by : (desk : Desk) (mine theirs both : SeenSeat) → WasJoined desk mine theirs both → IsLonger mine both
 longer_by desk mine theirs both was =
     record { among = λ r h. subst (λ rs. Contains rs r) (sym was.roles) (Contains-append_left mine.roles theirs.roles r h); follows = was.follows }
@@ -83,6 +35,28 @@ longer_on a b c f g =
       among = λ r h. g.among r (f.among r h);
       follows = follows_on a.roles a.history b.history c.history f.follows (fewer_follow a.roles b.roles b.history c.history f.among g.follows);
     }
+
+-- What stands for its part at a seat does so at a longer one.
+module _ (desk : Desk) (mine both : SeenSeat) (longer : IsLonger mine both) where
+  pub regs_longer : {R : Type 0} (regs_is : R → (ℕ → List Pixel) → Type 0) (task : ℕ) (regs : R) → AreRegs regs_is desk task mine regs → AreRegs regs_is desk task both regs
+  regs_longer regs_is task regs are =
+      record { has = longer.among (Task task) are.has; stand = subst (regs_is regs) (later desk mine.roles (Task task) mine.history both.history are.has longer.follows) are.stand }
+
+  pub cell_longer : {C : Type 0} (number : C → ℕ) (cell_is : C → SlotPart → Type 0) (cell : C) → IsCell number cell_is desk mine cell → IsCell number cell_is desk both cell
+  cell_longer number cell_is cell is =
+      record { has = longer.among (Slot (number cell)) is.has; stands = subst (cell_is cell) (later desk mine.roles (Slot (number cell)) mine.history both.history is.has longer.follows) is.stands }
+
+  pub info_longer : {I : Type 0} (info_is : I → InfoPart → Type 0) (info : I) → IsInfo info_is desk mine info → IsInfo info_is desk both info
+  info_longer info_is info is =
+      record { has = longer.among Info is.has; stands = subst (info_is info) (later desk mine.roles Info mine.history both.history is.has longer.follows) is.stands }
+
+module _ (desk : Desk) (mine theirs both : SeenSeat) (was : WasJoined desk mine theirs both) where
+  -- the other seat's former history
+  pub their_longer : IsLonger theirs both
+  their_longer = record { among = λ r h. subst (λ rs. Contains rs r) (sym was.roles) (Contains-append_right mine.roles theirs.roles r h); follows = was.other_follows }
+
+  pub seat_joined : (name : TableId) → IsSeat name desk mine → IsSeat name desk both
+  seat_joined name seat = record { word = was.word ∙ seat.word; known = was.known }
 
 -- A seat that has another history's roles, and the same history: what stands for its part still does.
 module _ (desk : Desk) (old new : SeenSeat) (same : new.history ≡ old.history) where
@@ -96,7 +70,7 @@ module _ (desk : Desk) (old new : SeenSeat) (same : new.history ≡ old.history)
   info_at info_is info has is = record { has = has; stands = subst (λ h. info_is info (info_part (machine desk h))) (sym same) is.stands }
 
   pub seat_at : (name : TableId) → new.word ≡ old.word → IsSeat name desk old → IsSeat name desk new
-  seat_at name word seat = record { word = word ∙ seat.word; fits = subst (CallsFit desk.sizes) (sym same) seat.fits }
+  seat_at name word seat = record { word = word ∙ seat.word; known = subst (IsHistory desk.sizes) (sym same) seat.known }
 
 -- a role that was put after others, which don't have it, and taken away again
 pub without_last : (off : Role) (roles : List Role) → All (λ r. same_role off r ≡ false) roles → without off (roles ++ off ∷ []) ≡ roles

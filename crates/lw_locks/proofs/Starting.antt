@@ -16,17 +16,20 @@ use Rattle.lw_machine.specs.Desk.{Desk}
 use Rattle.lw_machine.specs.History.{machine}
 use Rattle.lw_machine.specs.Parts.{SlotPart, slot_part, InfoPart, info_part}
 use Rattle.lw_order.specs.Roles.{all_roles, without}
-use Rattle.lw_order.specs.Numbered.{CallsFit}
 use Rattle.lw_order.specs.Seen.{SeenSeat}
 use Rattle.lw_order.proofs.RoleLaws.{still_there, all_roles_has_slot, all_roles_has_task}
 use Rattle.lw_steps.specs.Steps.{AreCells}
+use Rattle.lw_locks.specs.Joins.{IsHistory}
 use Rattle.lw_locks.specs.Held.{IsSeat, AreTasksRegs, IsOwn, IsLayer, IsLayerInfo}
 use Rattle.lw_locks.specs.Seen.{SeenPass, opening_pass}
 
 -- a seat that knows no step
 seat_at_start : (name : TableId) (desk : Desk) (own : SeenSeat) → own.word ≡ name → own.history ≡ [] → IsSeat name desk own
 seat_at_start name desk own word empty =
-    record { word = word; fits = subst (CallsFit desk.sizes) (sym empty) (All-nil (λ (e : Entry). IsTrue (call_fits desk.sizes e.call))) }
+    record {
+      word = word;
+      known = subst (IsHistory desk.sizes) (sym empty) (record { numbered = tt; tasks = All-nil (λ (e : Entry). e.task < desk.sizes.tasks); fits = All-nil (λ (e : Entry). IsTrue (call_fits desk.sizes e.call)) });
+    }
 
 only : (r : Role) (roles : List Role) → roles ≡ r ∷ [] → Contains roles r
 only r roles is = subst (λ rs. Contains rs r) (sym is) (Contains-push [] r)
@@ -63,12 +66,12 @@ own_at_start regs_is name desk task own mine word empty roles is =
     }
 
 -- what stands in front of a last element, and that element
-get_front : {X : Type 0} (front : List X) (last x : X) (k : ℕ) → slice_get front k ≡ Some x → slice_get (front ++ last ∷ []) k ≡ Some x
+pub get_front : {X : Type 0} (front : List X) (last x : X) (k : ℕ) → slice_get front k ≡ Some x → slice_get (front ++ last ∷ []) k ≡ Some x
 get_front [] last x k h = absurd (cc h)
 get_front (y ∷ front) last x zero h = h
 get_front (y ∷ front) last x (suc k) h = get_front front last x k h
 
-get_last : {X : Type 0} (front : List X) (last : X) → slice_get (front ++ last ∷ []) (length front) ≡ Some last
+pub get_last : {X : Type 0} (front : List X) (last : X) → slice_get (front ++ last ∷ []) (length front) ≡ Some last
 get_last [] last = refl
 get_last (y ∷ front) last = get_last front last
 

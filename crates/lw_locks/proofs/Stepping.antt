@@ -1,7 +1,9 @@
 -- What a step on parts and its stamp leave: the parts stand for the machine after the longer history, and the call was answered as the
 -- machine answers at its ticket.
-use Rattle.std.proofs.Common.{◌≡◌, ◌≢◌, ℕ, List, [], ◌∷◌, ◌++◌, refl, sym, ap, subst, ◌∙◌, arith}
-use Rattle.std.specs.Prelude.{Contains}
+use Rattle.std.proofs.Common.{◌≡◌, ◌≢◌, ◌⊎◌, ℕ, ◌<◌, ◌≤◌, length, List, [], ◌∷◌, ◌++◌, refl, sym, ap, subst, ◌∙◌, get_or, inl, inr, arith}
+use Rattle.std.specs.Prelude.{Contains, Some, None}
+use Rattle.std.specs.List.{slice_get}
+use Rattle.std.proofs.lemmas.Option.{slice_get_cases, slice_get_within}
 use Rattle.lw_region.specs.Pixels.{Pixel}
 use Rattle.lw_calls.specs.declared.call.Call.{Call}
 use Rattle.lw_calls.specs.declared.entry.Entry.{Entry}
@@ -10,29 +12,33 @@ use Rattle.lw_calls.specs.declared.touch.Role.{Role}
 use Rattle.lw_calls.specs.declared.touch.Role.TheVariants.{Task, Slot, Info}
 use Rattle.lw_calls.specs.Entries.{count_of}
 use Rattle.lw_calls.specs.Limits.{IsWithinLimits}
-use Rattle.lw_calls.specs.Touches.{OnRegisters, OnInfo, class_of}
+use Rattle.lw_calls.specs.Touches.{OnRegisters, OnInfo, OnAll, class_of, touch_of, slots_in}
 use Rattle.lw_machine.specs.Desk.{Desk, empty_desk}
 use Rattle.lw_machine.specs.History.{machine}
 use Rattle.lw_machine.specs.Parts.{SlotPart, slot_part, InfoPart, info_part}
 use Rattle.lw_machine.specs.Step.{after, reply}
 use Rattle.lw_order.specs.Numbered.{CallsFit}
-use Rattle.lw_order.specs.Promised.{Follows, Added}
+use Rattle.lw_order.specs.Owned.{HasSlots, Owns}
+use Rattle.lw_order.specs.Promised.{Follows}
 use Rattle.lw_order.proofs.HistoryLaws.{calls_prefix}
-use Rattle.lw_steps.specs.Steps.{IsDeskOf, IsRegsStep, IsLookStep, IsOneStep, IsTwoStep}
+use Rattle.lw_steps.specs.Steps.{IsDeskOf, IsRegsStep, IsLookStep, IsOneStep, IsTwoStep, AreParts, IsAllStep}
 use Rattle.lw_steps.proofs.ClassLaws.{after_registers, after_look}
 use Rattle.lw_steps.proofs.Histories.{machine_push, reached}
 use Rattle.lw_calls.specs.declared.sizes.Sizes.{Sizes}
 use Rattle.lw_calls.specs.Assets.{Assets}
 use Rattle.lw_order.specs.Seen.{SeenSeat}
+use Rattle.lw_locks.specs.Joins.{WasStamped}
 use Rattle.lw_locks.specs.Promised.{Done}
-use Rattle.lw_locks.specs.Held.{AreRegs, IsCell, IsInfo}
+use Rattle.lw_locks.specs.Held.{AreRegs, IsCell, IsInfo, AreHeld}
 use Rattle.lw_locks.proofs.Later.{later}
 
--- A seat was stamped: what the order word tells of it.
-pub record WasStamped (desk : Desk) (old new : SeenSeat) (task : ℕ) (call : Call) (ticket : ℕ) : Type 0 where
-  pub added : Added old.roles old.history new.history task call ticket
-  pub roles : new.roles ≡ old.roles
-  pub fits : CallsFit desk.sizes new.history
+-- the role of each slot whose cell is held
+pub held_slot : {I C : Type 0} (info_is : I → InfoPart → Type 0) (number : C → ℕ) (cell_is : C → SlotPart → Type 0) (desk : Desk) (seat : SeenSeat) (info : I) (cells : List C) → AreHeld info_is number cell_is desk seat info cells → (k : ℕ) → k < length cells → Contains seat.roles (Slot k)
+held_slot {C = C} info_is number cell_is desk seat info cells held k below = from ((slice_get_cases cells k).1)
+  where
+    from : ((c : C) × (k < length cells) × (slice_get cells k ≡ Some c) × (get_or cells k c ≡ c)) ⊎ ((length cells ≤ k) × (slice_get cells k ≡ None)) → Contains seat.roles (Slot k)
+    from (inl there) = let is = held.cells k there.0 there.2 in subst (λ n. Contains seat.roles (Slot n)) is.0 is.1.has
+    from (inr past) = let none = past.0 in absurd (omega (arith, below, none))
 
 -- What the parts hang on: the machine begins with an empty desk, and these are an engine's sizes and assets.
 pub record IsBegun (desk : Desk) (s : Sizes) (a : Assets) : Type 0 where
@@ -41,9 +47,44 @@ pub record IsBegun (desk : Desk) (s : Sizes) (a : Assets) : Type 0 where
   pub sizes : s ≡ desk.sizes
   pub assets : a ≡ desk.assets
 
--- the history that a call was made after
-abbrev pub past : (old : SeenSeat) (task : ℕ) (call : Call) (ticket : ℕ) (new : SeenSeat) → Added old.roles old.history new.history task call ticket → List Entry
-past old task call ticket new added = old.history ++ added.between
+-- LayerInfo and all cells that are held, as parts of the machine's desk.
+module _ {I C : Type 0} (info_is : I → InfoPart → Type 0) (number : C → ℕ) (cell_is : C → SlotPart → Type 0) (desk : Desk) (s : Sizes) (a : Assets) (begun : IsBegun desk s a) (seat : SeenSeat) (fits : CallsFit desk.sizes seat.history) (info : I) (cells : List C) (many : length cells ≡ desk.sizes.slots) (held : AreHeld info_is number cell_is desk seat info cells) where
+  has_each : (k : ℕ) → k < desk.sizes.slots → Contains seat.roles (Slot k)
+  has_each k below = held_slot info_is number cell_is desk seat info cells held k (subst (λ n. k < n) (sym many) below)
+
+  -- whoever has them may stamp a call that arranges the layers
+  pub owns_all : (task : ℕ) (call : Call) → Contains seat.roles (Task task) → class_of call ≡ OnAll → Owns desk.sizes.slots seat.roles (touch_of task call)
+  owns_all task call has class =
+      record {
+        has_task = has;
+        has_info = λ touched. held.info.has;
+        has_slots = subst (λ k. HasSlots desk.sizes.slots seat.roles (slots_in k)) (sym class) has_each;
+      }
+
+  pub parts_held : AreParts info_is number cell_is s a info cells (machine desk seat.history)
+  parts_held =
+      let it = reached desk seat.history begun.empty begun.limits fits in
+      record {
+        desk = record { sound = it.sound; sizes = it.sizes ∙ sym begun.sizes; assets = it.assets ∙ sym begun.assets };
+        many = many ∙ ap (λ z. z.slots) (sym begun.sizes);
+        info = held.info.stands;
+        cells = λ k c at_k. let is = held.cells k c at_k in (is.0, subst (λ n. cell_is c (slot_part (machine desk seat.history) n)) is.0 is.1.stands);
+      }
+
+  -- and after they were changed without a step
+  pub held_still : (info_new : I) (cells_new : List C) → AreParts info_is number cell_is s a info_new cells_new (machine desk seat.history) → AreHeld info_is number cell_is desk seat info_new cells_new
+  held_still info_new cells_new parts =
+      let many_new = parts.many ∙ ap (λ z. z.slots) begun.sizes in
+      record {
+        info = record { has = held.info.has; stands = parts.info };
+        cells = λ k c at_k.
+            let is = parts.cells k c at_k in
+            let below = slice_get_within cells_new k c at_k in
+            (is.0, record {
+              has = subst (λ n. Contains seat.roles (Slot n)) (sym is.0) (has_each k (omega (arith, below, many_new)));
+              stands = subst (λ n. cell_is c (slot_part (machine desk seat.history) n)) (sym is.0) is.1;
+            });
+      }
 
 module _ (desk : Desk) (s : Sizes) (a : Assets) (begun : IsBegun desk s a) (old new : SeenSeat) (task : ℕ) (call : Call) (ticket : ℕ) (was : WasStamped desk old new task call ticket) where
   abbrev before : List Entry
@@ -62,7 +103,7 @@ module _ (desk : Desk) (s : Sizes) (a : Assets) (begun : IsBegun desk s a) (old 
   -- a sound desk, with the engine's sizes and assets
   desk_before : IsDeskOf s a (machine desk before)
   desk_before =
-      let it = reached desk before begun.empty begun.limits (calls_prefix desk.sizes [] before new.history ends was.fits) in
+      let it = reached desk before begun.empty begun.limits (calls_prefix desk.sizes [] before new.history ends was.known.fits) in
       record { sound = it.sound; sizes = it.sizes ∙ sym begun.sizes; assets = it.assets ∙ sym begun.assets }
 
   desk_after : machine desk new.history ≡ after (machine desk before) task call
@@ -120,3 +161,26 @@ module _ (desk : Desk) (s : Sizes) (a : Assets) (begun : IsBegun desk s a) (old 
   two_made number cell_is source cell cell_new r from is same made =
       let now = made (machine desk before) task desk_before (cell_before number cell_is source from) (cell_before number cell_is cell is) in
       (done r now.0, cell_after number cell_is source source refl from.has now.1, cell_after number cell_is cell cell_new same is.has now.2)
+
+  pub all_made : {I C : Type 0} (info_is : I → InfoPart → Type 0) (number : C → ℕ) (cell_is : C → SlotPart → Type 0) (info info_new : I) (cells cells_new : List C) (r : Reply) → length cells ≡ s.slots → AreHeld info_is number cell_is desk old info cells
+      → IsAllStep info_is number cell_is s a info cells task call r info_new cells_new → Done desk old.roles task old.history new.history call r ticket × AreHeld info_is number cell_is desk new info_new cells_new
+  all_made info_is number cell_is info info_new cells cells_new r many held made =
+      let then_ : AreParts info_is number cell_is s a info cells (machine desk before) =
+          record {
+            desk = desk_before;
+            many = many;
+            info = subst (info_is info) (later desk old.roles Info old.history before held.info.has goes_on) held.info.stands;
+            cells = λ k c at_k. let is = held.cells k c at_k in (is.0, subst (λ n. cell_is c (slot_part (machine desk before) n)) is.0 (cell_before number cell_is c is.1));
+          } in
+      let now = made (machine desk before) then_ in
+      let parts = now.1 in
+      (done r now.0, record {
+        info = record { has = still_has Info held.info.has; stands = subst (λ d. info_is info_new (info_part d)) (sym desk_after) parts.info };
+        cells = λ k c at_k.
+            let is = parts.cells k c at_k in
+            let has : Contains old.roles (Slot k) = held_slot info_is number cell_is desk old info cells held k (let below = slice_get_within cells_new k c at_k in let p = parts.many in omega (arith, below, p, many)) in
+            (is.0, record {
+              has = subst (λ n. Contains new.roles (Slot n)) (sym is.0) (still_has (Slot k) has);
+              stands = subst (λ n. cell_is c (slot_part (machine desk new.history) n)) (sym is.0) (subst (λ d. cell_is c (slot_part d k)) (sym desk_after) is.1);
+            });
+      })

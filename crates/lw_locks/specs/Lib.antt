@@ -1,4 +1,6 @@
 pub mod Openings
 pub mod Seen
+pub mod Joins
 pub mod Promised
 pub mod Held
+pub mod Closing

@@ -4,23 +4,25 @@ ghost use Rattle.std.specs.Prelude.{◌≡◌, ◌≢◌, ◌<◌, [], ◌∷◌
 ghost use Rattle.lw_calls.specs.declared.touch.Role.TheVariants.{Task};
 ghost use Rattle.lw_calls.specs.Entries.{count_of};
 ghost use Rattle.lw_calls.specs.Limits.{call_fits};
-ghost use Rattle.lw_calls.specs.Touches.{class_of, OnRegisters, OnInfo, OnLayer, OnLayers, OnAll};
+ghost use Rattle.lw_calls.specs.Touches.{class_of, OnRegisters, OnInfo, OnLayer, OnLayers};
 ghost use Rattle.lw_order.specs.Promised.{Follows};
 ghost use Rattle.lw_locks.specs.Promised.{Done};
 
 use crate::answer::Answer;
 use crate::desk::Desk;
 use crate::gate::{Gate, Spot};
+use crate::held::{Layer, LayerInfo, Place};
 use crate::opening::Opening;
-use crate::pass::Pass;
-use lw_calls::Call;
+use crate::pass::{Pass, made_after};
+use lw_calls::{Call, Role};
 use lw_steps::{Class, Engine, class_of};
 use std::alloc::{AllocError, Global};
+use std::marker::PhantomData;
 use std::sync::Wait;
 
 impl<E: Engine, N: Opening> Desk<E, N> {
-    /// Makes a call that looks at LayerInfo, or is on one layer or two, under the locks of just these. It may wait, and so promises no
-    /// return. After it ran out of memory the call isn't in the history.
+    /// Makes a call under the locks of just what it touches: LayerInfo, at which it looks, one layer, two layers, or all of these, which
+    /// it arranges. It may wait, and so promises no return. After it ran out of memory the call isn't in the history.
     pub fn call<R: Wait, G: Gate>(
         &self,
         rt: &R,
@@ -30,7 +32,6 @@ impl<E: Engine, N: Opening> Desk<E, N> {
         call: &Call,
     ) -> Result<Answer, AllocError>
         requires registers { class_of call.now ≢ OnRegisters }
-        requires all { class_of call.now ≢ OnAll }
         requires fits { IsTrue (call_fits N.desk.sizes call.now) }
         requires room { count_of pass.old.task pass.old.history < 4294967295 }
         ensures task { pass.new.task ≡ pass.old.task }
@@ -54,7 +55,6 @@ impl<E: Engine, N: Opening> Desk<E, N> {
         call: &Call,
     ) -> Result<Answer, AllocError>
         requires registers { class_of call.now ≢ OnRegisters }
-        requires all { class_of call.now ≢ OnAll }
         requires fits { IsTrue (call_fits N.desk.sizes call.now) }
         requires room { count_of pass.old.task pass.old.history < 4294967295 }
         ensures task { pass.new.task ≡ pass.old.task }
@@ -65,13 +65,14 @@ impl<E: Engine, N: Opening> Desk<E, N> {
             Class::Info => Ok(self.under_info(rt, gate, pass, call)),
             Class::Layer(slot) => self.under_layer(rt, alloc, gate, pass, slot, call),
             Class::Layers(source, slot) => {
-                self.under_layers(rt, alloc, gate, pass, source, slot, call)
+                self.under_layers(rt, gate, pass, source, slot, call)
             }
-            Class::Registers | Class::All => unreachable!(),
+            Class::All => self.once_under_all(rt, alloc, gate, pass, call),
+            Class::Registers => unreachable!(),
         }
     }
 
-    // Under the lock of LayerInfo.
+    // Under the lock of LayerInfo, as a step between a join and a split of seats.
     fn under_info<R: Wait, G: Gate>(
         &self,
         rt: &R,
@@ -85,12 +86,30 @@ impl<E: Engine, N: Opening> Desk<E, N> {
         ensures task { pass.new.task ≡ pass.old.task }
         ensures done { Done N.desk (Task pass.old.task ∷ []) pass.old.task pass.old.history pass.new.history call.now result.reply result.ticket }
     {
-        let mut place = self.info.lock(rt);
+        let mut guard = self.info.lock(rt);
         gate.pass(pass.task, pass.made, Spot::Under);
-        self.in_info(&mut place, pass, call)
+        let place = &mut *guard;
+        let Some(info) = place.held.take() else {
+            unreachable!();
+        };
+        let LayerInfo {
+            info,
+            seat: theirs,
+            of,
+        } = info;
+        self.steps.join(&mut pass.seat, theirs);
+        let answer = self
+            .steps
+            .on_info(&mut pass.seat, pass.task, &info, &pass.regs, call);
+        pass.made += 1;
+        let seat = self.steps.split(&mut pass.seat, Role::Info);
+        let back = LayerInfo { info, seat, of };
+        place.held = Some(back);
+        answer
     }
 
-    // Under the lock of one layer.
+    // Under the lock of one layer, as a step between a join and a split of seats. No lock has another slot's layer; if it had, the call
+    // would fail.
     fn under_layer<R: Wait, G: Gate>(
         &self,
         rt: &R,
@@ -107,16 +126,47 @@ impl<E: Engine, N: Opening> Desk<E, N> {
         ensures done { IfOk result (λ a. Done N.desk (Task pass.old.task ∷ []) pass.old.task pass.old.history pass.new.history call.now a.reply a.ticket) }
         ensures failed { OnErr result (Follows (Task pass.old.task ∷ []) pass.old.history pass.new.history) }
     {
-        let mut place = self.layers[slot as usize].lock(rt);
+        let mut guard = self.layers[slot as usize].lock(rt);
         gate.pass(pass.task, pass.made, Spot::Under);
-        self.in_layer(alloc, &mut place, pass, slot, call)
+        let place = &mut *guard;
+        let Some(layer) = place.held.take() else {
+            unreachable!();
+        };
+        if layer.slot != slot {
+            place.held = Some(layer);
+            return Err(AllocError);
+        }
+        let Layer {
+            slot,
+            mut cell,
+            seat: theirs,
+            of,
+        } = layer;
+        self.steps.join(&mut pass.seat, theirs);
+        let answer = self.steps.on_layer(
+            alloc,
+            &mut pass.seat,
+            pass.task,
+            &mut cell,
+            &pass.regs,
+            call,
+        );
+        pass.made = made_after(pass.made, &answer);
+        let seat = self.steps.split(&mut pass.seat, Role::Slot(slot));
+        let back = Layer {
+            slot,
+            cell,
+            seat,
+            of,
+        };
+        place.held = Some(back);
+        answer
     }
 
     // Under the locks of two layers, of which that with the lower number is taken first.
     fn under_layers<R: Wait, G: Gate>(
         &self,
         rt: &R,
-        alloc: Global,
         gate: &G,
         pass: &mut Pass<E, N>,
         source: u32,
@@ -134,11 +184,104 @@ impl<E: Engine, N: Opening> Desk<E, N> {
             let mut from = self.layers[source as usize].lock(rt);
             let mut into = self.layers[slot as usize].lock(rt);
             gate.pass(pass.task, pass.made, Spot::Under);
-            return self.in_layers(alloc, &mut from, &mut into, pass, source, slot, call);
+            return self.in_layers(&mut from, &mut into, pass, source, slot, call);
         }
         let mut into = self.layers[slot as usize].lock(rt);
         let mut from = self.layers[source as usize].lock(rt);
         gate.pass(pass.task, pass.made, Spot::Under);
-        self.in_layers(alloc, &mut from, &mut into, pass, source, slot, call)
+        self.in_layers(&mut from, &mut into, pass, source, slot, call)
+    }
+
+    // A call on the layers behind two locks, as a step between two joins and two splits of seats. No lock has another slot's layer; if it
+    // had, the call would fail.
+    fn in_layers(
+        &self,
+        from: &mut Place<Layer<E, N>>,
+        into: &mut Place<Layer<E, N>>,
+        pass: &mut Pass<E, N>,
+        source: u32,
+        slot: u32,
+        call: &Call,
+    ) -> Result<Answer, AllocError>
+        requires class { class_of call.now ≡ OnLayers source slot }
+        requires fits { IsTrue (call_fits N.desk.sizes call.now) }
+        requires room { count_of pass.old.task pass.old.history < 4294967295 }
+        ensures places { (from.new.held ≡ from.old.held) × (into.new.held ≡ into.old.held) }
+        ensures task { pass.new.task ≡ pass.old.task }
+        ensures done { IfOk result (λ a. Done N.desk (Task pass.old.task ∷ []) pass.old.task pass.old.history pass.new.history call.now a.reply a.ticket) }
+        ensures failed { OnErr result (Follows (Task pass.old.task ∷ []) pass.old.history pass.new.history) }
+    {
+        let Some(first) = from.held.take() else {
+            unreachable!();
+        };
+        let Some(second) = into.held.take() else {
+            unreachable!();
+        };
+        if first.slot != source || second.slot != slot {
+            from.held = Some(first);
+            into.held = Some(second);
+            return Err(AllocError);
+        }
+        let (read, written, answer) = self.make_in_layers(first, second, pass, call);
+        from.held = Some(read);
+        into.held = Some(written);
+        Ok(answer)
+    }
+
+    // A call on two layers, as a step between two joins and two splits of seats.
+    fn make_in_layers(
+        &self,
+        first: Layer<E, N>,
+        second: Layer<E, N>,
+        pass: &mut Pass<E, N>,
+        call: &Call,
+    ) -> (Layer<E, N>, Layer<E, N>, Answer)
+        requires class { class_of call.now ≡ OnLayers first second }
+        requires fits { IsTrue (call_fits N.desk.sizes call.now) }
+        requires room { count_of pass.old.task pass.old.history < 4294967295 }
+        ensures slots { (result.0 ≡ first) × (result.1 ≡ second) }
+        ensures task { pass.new.task ≡ pass.old.task }
+        ensures done { Done N.desk (Task pass.old.task ∷ []) pass.old.task pass.old.history pass.new.history call.now result.2.reply result.2.ticket }
+    {
+        let Layer {
+            slot: source,
+            cell: from,
+            seat: first,
+            of: _,
+        } = first;
+        let Layer {
+            slot,
+            mut cell,
+            seat: second,
+            of,
+        } = second;
+        self.steps.join(&mut pass.seat, first);
+        self.steps.join(&mut pass.seat, second);
+        let answer = self.steps.on_layers(
+            &mut pass.seat,
+            pass.task,
+            &from,
+            &mut cell,
+            &pass.regs,
+            call,
+        );
+        pass.made += 1;
+        let second = self.steps.split(&mut pass.seat, Role::Slot(slot));
+        let first = self.steps.split(&mut pass.seat, Role::Slot(source));
+        (
+            Layer {
+                slot: source,
+                cell: from,
+                seat: first,
+                of: PhantomData,
+            },
+            Layer {
+                slot,
+                cell,
+                seat: second,
+                of,
+            },
+            answer,
+        )
     }
 }

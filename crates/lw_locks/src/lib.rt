@@ -3,20 +3,23 @@
 //! order: LayerInfo's first, and then those of the slots in rising number.
 #![tactic(auto)]
 
+mod all_calls;
+mod all_layers;
 mod answer;
 mod call;
+mod close;
 mod desk;
 mod gate;
+mod group;
 mod held;
-mod look;
-mod one_layer;
+mod layer_calls;
 mod opening;
 mod pass;
 mod start;
 mod steps;
-mod two_layers;
 
 pub use answer::Answer;
+pub use close::{Closed, NotClosed};
 pub use desk::Desk;
 pub use gate::{Gate, OpenGate, Spot};
 pub use opening::Opening;

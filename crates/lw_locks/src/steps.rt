@@ -1,16 +1,18 @@
 //! Each class of calls on the parts that it touches: the machine's step by the engine, and its ticket by the order word. The step that
 //! can fail comes first, so a call that failed has no ticket.
-ghost use Rattle.std.specs.Prelude.{◌≡◌, ◌<◌, IfOk, OnErr, IsTrue};
+ghost use Rattle.std.specs.Prelude.{◌≡◌, ◌<◌, length, IfOk, OnErr, IsTrue, Contains};
 ghost use Rattle.lw_calls.specs.Entries.{count_of};
 ghost use Rattle.lw_calls.specs.Limits.{IsWithinLimits, call_fits};
-ghost use Rattle.lw_calls.specs.Touches.{class_of, OnRegisters, OnInfo, OnLayer, OnLayers};
+ghost use Rattle.lw_calls.specs.Touches.{touch_of, class_of, OnRegisters, OnInfo, OnLayer, OnLayers, OnAll};
 ghost use Rattle.lw_machine.specs.Desk.{empty_desk};
+ghost use Rattle.lw_order.specs.Owned.{Owns};
+ghost use Rattle.lw_locks.specs.Joins.{WasJoined, WasSplit, WasStamped};
 ghost use Rattle.lw_locks.specs.Promised.{Done};
-ghost use Rattle.lw_locks.specs.Held.{IsSeat, AreRegs, IsCell, IsInfo};
+ghost use Rattle.lw_locks.specs.Held.{IsSeat, AreRegs, IsCell, IsInfo, AreHeld};
 
 use crate::answer::Answer;
 use crate::opening::Opening;
-use lw_calls::Call;
+use lw_calls::{Call, Role};
 use lw_order::{Order, Seat};
 use lw_steps::Engine;
 use std::alloc::{AllocError, Global};
@@ -30,6 +32,35 @@ pub(crate) struct Steps<E: Engine, N: Opening> {
 }
 
 impl<E: Engine, N: Opening> Steps<E, N> {
+    // Gives a seat the roles and the history of another.
+    pub(crate) fn join(&self, seat: &mut Seat, theirs: Seat)
+        requires word { seat.old.word ≡ N.word }
+        requires their_word { theirs.word ≡ N.word }
+        ensures { WasJoined N.desk seat.old theirs seat.new }
+    {
+        self.order.join(seat, theirs);
+    }
+
+    // Splits a role off a seat.
+    pub(crate) fn split(&self, seat: &mut Seat, off: Role) -> Seat
+        requires word { seat.old.word ≡ N.word }
+        requires role { Contains seat.old.roles off }
+        ensures { WasSplit off seat.old seat.new result }
+    {
+        self.order.split(seat, off)
+    }
+
+    // Stamps a call, and gives its ticket.
+    fn stamp(&self, seat: &mut Seat, task: u32, call: &Call) -> u64
+        requires word { seat.old.word ≡ N.word }
+        requires owns { Owns N.desk.sizes.slots seat.old.roles (touch_of task call.now) }
+        requires fits { IsTrue (call_fits N.desk.sizes call.now) }
+        requires room { count_of task seat.old.history < 4294967295 }
+        ensures { WasStamped N.desk seat.old seat.new task call.now result }
+    {
+        self.order.stamp(seat, task, call)
+    }
+
     // A call on the registers of its task.
     pub(crate) fn on_registers(
         &self,
@@ -51,7 +82,7 @@ impl<E: Engine, N: Opening> Steps<E, N> {
         ensures same { OnErr result (seat.new.history ≡ seat.old.history) }
     {
         let reply = self.engine.regs(alloc, regs, call)?;
-        let ticket = self.order.stamp(seat, task, call);
+        let ticket = self.stamp(seat, task, call);
         Ok(Answer { reply, ticket })
     }
 
@@ -77,7 +108,7 @@ impl<E: Engine, N: Opening> Steps<E, N> {
         ensures done { Done N.desk seat.old.roles task seat.old.history seat.new.history call.now result.reply result.ticket }
     {
         let reply = self.engine.look(info, call);
-        let ticket = self.order.stamp(seat, task, call);
+        let ticket = self.stamp(seat, task, call);
         Answer { reply, ticket }
     }
 
@@ -106,21 +137,20 @@ impl<E: Engine, N: Opening> Steps<E, N> {
         ensures same { OnErr result (seat.new.history ≡ seat.old.history) }
     {
         let reply = self.engine.one(alloc, cell, regs, task, call)?;
-        let ticket = self.order.stamp(seat, task, call);
+        let ticket = self.stamp(seat, task, call);
         Ok(Answer { reply, ticket })
     }
 
     // A call of a task with these registers on two layers.
     pub(crate) fn on_layers(
         &self,
-        alloc: Global,
         seat: &mut Seat,
         task: u32,
         source: &E::Cell,
         to: &mut E::Cell,
         regs: &E::Regs,
         call: &Call,
-    ) -> Result<Answer, AllocError>
+    ) -> Answer
         requires class { class_of call.now ≡ OnLayers (E.number source.now) (E.number to.old) }
         requires fits { IsTrue (call_fits N.desk.sizes call.now) }
         requires seat { IsSeat N.word N.desk seat.old }
@@ -134,11 +164,41 @@ impl<E: Engine, N: Opening> Steps<E, N> {
         ensures source { IsCell E.number E.cell_is N.desk seat.new source.now }
         ensures to { IsCell E.number E.cell_is N.desk seat.new to.new }
         ensures number { E.number to.new ≡ E.number to.old }
+        ensures done { Done N.desk seat.old.roles task seat.old.history seat.new.history call.now result.reply result.ticket }
+    {
+        let reply = self.engine.two(source, to, call);
+        let ticket = self.stamp(seat, task, call);
+        Answer { reply, ticket }
+    }
+
+    // A call of a task with these registers that arranges the layers of all slots, whose cells are given in rising number.
+    pub(crate) fn on_all(
+        &self,
+        alloc: Global,
+        seat: &mut Seat,
+        task: u32,
+        info: &mut E::Info,
+        cells: &mut [E::Cell],
+        regs: &E::Regs,
+        call: &Call,
+    ) -> Result<Answer, AllocError>
+        requires class { class_of call.now ≡ OnAll }
+        requires fits { IsTrue (call_fits N.desk.sizes call.now) }
+        requires seat { IsSeat N.word N.desk seat.old }
+        requires regs { AreRegs E.regs_is N.desk task seat.old regs.now }
+        requires slots { length cells.old ≡ N.desk.sizes.slots }
+        requires held { AreHeld (E.info_is N.desk.sizes) E.number E.cell_is N.desk seat.old info.old cells.old }
+        requires room { count_of task seat.old.history < 4294967295 }
+        ensures seat { IsSeat N.word N.desk seat.new }
+        ensures roles { seat.new.roles ≡ seat.old.roles }
+        ensures regs { AreRegs E.regs_is N.desk task seat.new regs.now }
+        ensures slots { length cells.new ≡ N.desk.sizes.slots }
+        ensures held { AreHeld (E.info_is N.desk.sizes) E.number E.cell_is N.desk seat.new info.new cells.new }
         ensures done { IfOk result (λ a. Done N.desk seat.old.roles task seat.old.history seat.new.history call.now a.reply a.ticket) }
         ensures same { OnErr result (seat.new.history ≡ seat.old.history) }
     {
-        let reply = self.engine.two(alloc, source, to, call)?;
-        let ticket = self.order.stamp(seat, task, call);
+        let reply = self.engine.all(alloc, info, cells, task, call)?;
+        let ticket = self.stamp(seat, task, call);
         Ok(Answer { reply, ticket })
     }
 }

@@ -1,10 +1,9 @@
 -- A look at LayerInfo, made and stamped.
 use Rattle.std.proofs.Common.{subst}
 use Rattle.lw_calls.specs.Touches.{class_of}
-use Rattle.lw_order.specs.Numbered.{CallsFit}
 use Rattle.lw_steps.specs.Steps.{IsLookStep}
 use Rattle.lw_locks.proofs.Apart.{info_apart}
-use Rattle.lw_locks.proofs.Stepping.{WasStamped, IsBegun, regs_stay, look_made}
+use Rattle.lw_locks.proofs.Stepping.{IsBegun, regs_stay, look_made}
 use Rattle.lw_locks.proofs.steps.Steps.on_info.Goals as goal
 
 pub returns-clause-regs : goal.returns-clause-regs
@@ -19,8 +18,7 @@ returns-clause-regs g c =
     let assets = g.E.Engine.assets c.args.self.now.engine in
     let begun : IsBegun desk sizes assets =
     record { empty = c.args.self.now.empty; limits = c.args.self.now.limits; sizes = c.args.self.now.engine_sizes; assets = c.args.self.now.engine_assets } in
-    let fits : CallsFit desk.sizes new.history = subst (λ z. CallsFit z new.history) c.args.self.now.sizes c.stamp-ticket.ensures.calls in
-    let was : WasStamped desk old new task call ticket = record { added = c.stamp-ticket.ensures.added; roles = c.stamp-ticket.ensures.roles; fits = fits } in
+    let was = c.stamp-ticket.ensures in
     regs_stay desk sizes assets begun old new task call ticket was g.E.Engine.regs_is c.args.regs.now (info_apart (class_of call) c.requires.class) c.requires.regs
 
 pub returns-clause-info : goal.returns-clause-info
@@ -35,8 +33,7 @@ returns-clause-info g c =
     let assets = g.E.Engine.assets c.args.self.now.engine in
     let begun : IsBegun desk sizes assets =
     record { empty = c.args.self.now.empty; limits = c.args.self.now.limits; sizes = c.args.self.now.engine_sizes; assets = c.args.self.now.engine_assets } in
-    let fits : CallsFit desk.sizes new.history = subst (λ z. CallsFit z new.history) c.args.self.now.sizes c.stamp-ticket.ensures.calls in
-    let was : WasStamped desk old new task call ticket = record { added = c.stamp-ticket.ensures.added; roles = c.stamp-ticket.ensures.roles; fits = fits } in
+    let was = c.stamp-ticket.ensures in
     (look_made desk sizes assets begun old new task call ticket was (g.E.Engine.info_is desk.sizes) c.args.info.now c.look-reply.result c.requires.info c.requires.class (subst (λ z. IsLookStep (g.E.Engine.info_is z) sizes assets c.args.info.now call c.look-reply.result) c.args.self.now.engine_sizes c.look-reply.ensures.step)).1
 
 pub returns-clause-done : goal.returns-clause-done
@@ -51,6 +48,5 @@ returns-clause-done g c =
     let assets = g.E.Engine.assets c.args.self.now.engine in
     let begun : IsBegun desk sizes assets =
     record { empty = c.args.self.now.empty; limits = c.args.self.now.limits; sizes = c.args.self.now.engine_sizes; assets = c.args.self.now.engine_assets } in
-    let fits : CallsFit desk.sizes new.history = subst (λ z. CallsFit z new.history) c.args.self.now.sizes c.stamp-ticket.ensures.calls in
-    let was : WasStamped desk old new task call ticket = record { added = c.stamp-ticket.ensures.added; roles = c.stamp-ticket.ensures.roles; fits = fits } in
+    let was = c.stamp-ticket.ensures in
     (look_made desk sizes assets begun old new task call ticket was (g.E.Engine.info_is desk.sizes) c.args.info.now c.look-reply.result c.requires.info c.requires.class (subst (λ z. IsLookStep (g.E.Engine.info_is z) sizes assets c.args.info.now call c.look-reply.result) c.args.self.now.engine_sizes c.look-reply.ensures.step)).0

@@ -1,9 +1,7 @@
 -- A call on one layer, made and stamped.
-use Rattle.std.proofs.Common.{subst}
 use Rattle.lw_calls.specs.Touches.{class_of}
-use Rattle.lw_order.specs.Numbered.{CallsFit}
 use Rattle.lw_locks.proofs.Apart.{layer_apart}
-use Rattle.lw_locks.proofs.Stepping.{WasStamped, IsBegun, regs_stay, one_made}
+use Rattle.lw_locks.proofs.Stepping.{IsBegun, regs_stay, one_made}
 use Rattle.lw_locks.proofs.steps.Steps.on_layer.Goals as goal
 
 pub returns-clause-regs : goal.returns-clause-regs
@@ -18,8 +16,7 @@ returns-clause-regs g c =
     let assets = g.E.Engine.assets c.args.self.now.engine in
     let begun : IsBegun desk sizes assets =
     record { empty = c.args.self.now.empty; limits = c.args.self.now.limits; sizes = c.args.self.now.engine_sizes; assets = c.args.self.now.engine_assets } in
-    let fits : CallsFit desk.sizes new.history = subst (λ z. CallsFit z new.history) c.args.self.now.sizes c.stamp-ticket.ensures.calls in
-    let was : WasStamped desk old new task call ticket = record { added = c.stamp-ticket.ensures.added; roles = c.stamp-ticket.ensures.roles; fits = fits } in
+    let was = c.stamp-ticket.ensures in
     regs_stay desk sizes assets begun old new task call ticket was g.E.Engine.regs_is c.args.regs.now (layer_apart (class_of call) (g.E.Engine.number c.args.cell.now) c.requires.class) c.requires.regs
 
 pub returns-clause-cell : goal.returns-clause-cell
@@ -34,8 +31,7 @@ returns-clause-cell g c =
     let assets = g.E.Engine.assets c.args.self.now.engine in
     let begun : IsBegun desk sizes assets =
     record { empty = c.args.self.now.empty; limits = c.args.self.now.limits; sizes = c.args.self.now.engine_sizes; assets = c.args.self.now.engine_assets } in
-    let fits : CallsFit desk.sizes new.history = subst (λ z. CallsFit z new.history) c.args.self.now.sizes c.stamp-ticket.ensures.calls in
-    let was : WasStamped desk old new task call ticket = record { added = c.stamp-ticket.ensures.added; roles = c.stamp-ticket.ensures.roles; fits = fits } in
+    let was = c.stamp-ticket.ensures in
     (one_made desk sizes assets begun old new task call ticket was g.E.Engine.number g.E.Engine.cell_is g.E.Engine.regs_is c.args.cell.now c.one.new.cell c.args.regs.now c.in_ok-reply.reply c.requires.cell c.requires.regs c.one.ensures.number c.in_ok-reply.ensures.step).1
 
 pub returns-clause-done : goal.returns-clause-done
@@ -50,6 +46,5 @@ returns-clause-done g c =
     let assets = g.E.Engine.assets c.args.self.now.engine in
     let begun : IsBegun desk sizes assets =
     record { empty = c.args.self.now.empty; limits = c.args.self.now.limits; sizes = c.args.self.now.engine_sizes; assets = c.args.self.now.engine_assets } in
-    let fits : CallsFit desk.sizes new.history = subst (λ z. CallsFit z new.history) c.args.self.now.sizes c.stamp-ticket.ensures.calls in
-    let was : WasStamped desk old new task call ticket = record { added = c.stamp-ticket.ensures.added; roles = c.stamp-ticket.ensures.roles; fits = fits } in
+    let was = c.stamp-ticket.ensures in
     (one_made desk sizes assets begun old new task call ticket was g.E.Engine.number g.E.Engine.cell_is g.E.Engine.regs_is c.args.cell.now c.one.new.cell c.args.regs.now c.in_ok-reply.reply c.requires.cell c.requires.regs c.one.ensures.number c.in_ok-reply.ensures.step).0

@@ -1,9 +1,7 @@
 -- A call on two layers, made and stamped.
-use Rattle.std.proofs.Common.{subst}
 use Rattle.lw_calls.specs.Touches.{class_of}
-use Rattle.lw_order.specs.Numbered.{CallsFit}
 use Rattle.lw_locks.proofs.Apart.{layers_apart}
-use Rattle.lw_locks.proofs.Stepping.{WasStamped, IsBegun, regs_stay, two_made}
+use Rattle.lw_locks.proofs.Stepping.{IsBegun, regs_stay, two_made}
 use Rattle.lw_locks.proofs.steps.Steps.on_layers.Goals as goal
 
 pub returns-clause-regs : goal.returns-clause-regs
@@ -18,8 +16,7 @@ returns-clause-regs g c =
     let assets = g.E.Engine.assets c.args.self.now.engine in
     let begun : IsBegun desk sizes assets =
     record { empty = c.args.self.now.empty; limits = c.args.self.now.limits; sizes = c.args.self.now.engine_sizes; assets = c.args.self.now.engine_assets } in
-    let fits : CallsFit desk.sizes new.history = subst (λ z. CallsFit z new.history) c.args.self.now.sizes c.stamp-ticket.ensures.calls in
-    let was : WasStamped desk old new task call ticket = record { added = c.stamp-ticket.ensures.added; roles = c.stamp-ticket.ensures.roles; fits = fits } in
+    let was = c.stamp-ticket.ensures in
     regs_stay desk sizes assets begun old new task call ticket was g.E.Engine.regs_is c.args.regs.now (layers_apart (class_of call) (g.E.Engine.number c.args.source.now) (g.E.Engine.number c.args.to.now) c.requires.class) c.requires.regs
 
 pub returns-clause-source : goal.returns-clause-source
@@ -34,9 +31,8 @@ returns-clause-source g c =
     let assets = g.E.Engine.assets c.args.self.now.engine in
     let begun : IsBegun desk sizes assets =
     record { empty = c.args.self.now.empty; limits = c.args.self.now.limits; sizes = c.args.self.now.engine_sizes; assets = c.args.self.now.engine_assets } in
-    let fits : CallsFit desk.sizes new.history = subst (λ z. CallsFit z new.history) c.args.self.now.sizes c.stamp-ticket.ensures.calls in
-    let was : WasStamped desk old new task call ticket = record { added = c.stamp-ticket.ensures.added; roles = c.stamp-ticket.ensures.roles; fits = fits } in
-    (two_made desk sizes assets begun old new task call ticket was g.E.Engine.number g.E.Engine.cell_is c.args.source.now c.args.to.now c.two.new.to c.in_ok-reply.reply c.requires.source c.requires.to c.two.ensures.number c.in_ok-reply.ensures.step).1
+    let was = c.stamp-ticket.ensures in
+    (two_made desk sizes assets begun old new task call ticket was g.E.Engine.number g.E.Engine.cell_is c.args.source.now c.args.to.now c.two-reply.new.to c.two-reply.result c.requires.source c.requires.to c.two-reply.ensures.number c.two-reply.ensures.step).1
 
 pub returns-clause-to : goal.returns-clause-to
 returns-clause-to g c =
@@ -50,9 +46,8 @@ returns-clause-to g c =
     let assets = g.E.Engine.assets c.args.self.now.engine in
     let begun : IsBegun desk sizes assets =
     record { empty = c.args.self.now.empty; limits = c.args.self.now.limits; sizes = c.args.self.now.engine_sizes; assets = c.args.self.now.engine_assets } in
-    let fits : CallsFit desk.sizes new.history = subst (λ z. CallsFit z new.history) c.args.self.now.sizes c.stamp-ticket.ensures.calls in
-    let was : WasStamped desk old new task call ticket = record { added = c.stamp-ticket.ensures.added; roles = c.stamp-ticket.ensures.roles; fits = fits } in
-    (two_made desk sizes assets begun old new task call ticket was g.E.Engine.number g.E.Engine.cell_is c.args.source.now c.args.to.now c.two.new.to c.in_ok-reply.reply c.requires.source c.requires.to c.two.ensures.number c.in_ok-reply.ensures.step).2
+    let was = c.stamp-ticket.ensures in
+    (two_made desk sizes assets begun old new task call ticket was g.E.Engine.number g.E.Engine.cell_is c.args.source.now c.args.to.now c.two-reply.new.to c.two-reply.result c.requires.source c.requires.to c.two-reply.ensures.number c.two-reply.ensures.step).2
 
 pub returns-clause-done : goal.returns-clause-done
 returns-clause-done g c =
@@ -66,6 +61,5 @@ returns-clause-done g c =
     let assets = g.E.Engine.assets c.args.self.now.engine in
     let begun : IsBegun desk sizes assets =
     record { empty = c.args.self.now.empty; limits = c.args.self.now.limits; sizes = c.args.self.now.engine_sizes; assets = c.args.self.now.engine_assets } in
-    let fits : CallsFit desk.sizes new.history = subst (λ z. CallsFit z new.history) c.args.self.now.sizes c.stamp-ticket.ensures.calls in
-    let was : WasStamped desk old new task call ticket = record { added = c.stamp-ticket.ensures.added; roles = c.stamp-ticket.ensures.roles; fits = fits } in
-    (two_made desk sizes assets begun old new task call ticket was g.E.Engine.number g.E.Engine.cell_is c.args.source.now c.args.to.now c.two.new.to c.in_ok-reply.reply c.requires.source c.requires.to c.two.ensures.number c.in_ok-reply.ensures.step).0
+    let was = c.stamp-ticket.ensures in
+    (two_made desk sizes assets begun old new task call ticket was g.E.Engine.number g.E.Engine.cell_is c.args.source.now c.args.to.now c.two-reply.new.to c.two-reply.result c.requires.source c.requires.to c.two-reply.ensures.number c.two-reply.ensures.step).0

@@ -1,7 +1,5 @@
 -- A call on registers, made and stamped.
-use Rattle.std.proofs.Common.{subst}
-use Rattle.lw_order.specs.Numbered.{CallsFit}
-use Rattle.lw_locks.proofs.Stepping.{WasStamped, IsBegun, registers_made}
+use Rattle.lw_locks.proofs.Stepping.{IsBegun, registers_made}
 use Rattle.lw_locks.proofs.steps.Steps.on_registers.Goals as goal
 
 pub returns-clause-regs : goal.returns-clause-regs
@@ -16,8 +14,7 @@ returns-clause-regs g c =
     let assets = g.E.Engine.assets c.args.self.now.engine in
     let begun : IsBegun desk sizes assets =
     record { empty = c.args.self.now.empty; limits = c.args.self.now.limits; sizes = c.args.self.now.engine_sizes; assets = c.args.self.now.engine_assets } in
-    let fits : CallsFit desk.sizes new.history = subst (λ z. CallsFit z new.history) c.args.self.now.sizes c.stamp-ticket.ensures.calls in
-    let was : WasStamped desk old new task call ticket = record { added = c.stamp-ticket.ensures.added; roles = c.stamp-ticket.ensures.roles; fits = fits } in
+    let was = c.stamp-ticket.ensures in
     (registers_made desk sizes assets begun old new task call ticket was g.E.Engine.regs_is c.args.regs.now c.regs.new.regs c.in_ok-reply.reply c.requires.regs c.in_ok-reply.ensures.step).1
 
 pub returns-clause-done : goal.returns-clause-done
@@ -32,6 +29,5 @@ returns-clause-done g c =
     let assets = g.E.Engine.assets c.args.self.now.engine in
     let begun : IsBegun desk sizes assets =
     record { empty = c.args.self.now.empty; limits = c.args.self.now.limits; sizes = c.args.self.now.engine_sizes; assets = c.args.self.now.engine_assets } in
-    let fits : CallsFit desk.sizes new.history = subst (λ z. CallsFit z new.history) c.args.self.now.sizes c.stamp-ticket.ensures.calls in
-    let was : WasStamped desk old new task call ticket = record { added = c.stamp-ticket.ensures.added; roles = c.stamp-ticket.ensures.roles; fits = fits } in
+    let was = c.stamp-ticket.ensures in
     (registers_made desk sizes assets begun old new task call ticket was g.E.Engine.regs_is c.args.regs.now c.regs.new.regs c.in_ok-reply.reply c.requires.regs c.in_ok-reply.ensures.step).0

@@ -3,12 +3,11 @@ use Rattle.std.proofs.Common.{◌≡◌, ◌<◌, ◌++◌, ◌∷◌, [], ◌�
 use Rattle.std.specs.Prelude.{Result, Ok}
 use Rattle.lw_calls.specs.declared.touch.Role.TheVariants.{Task, Info}
 use Rattle.lw_calls.specs.Entries.{count_of}
-use Rattle.lw_order.specs.Numbered.{CallsFit}
 use Rattle.lw_locks.specs.Seen.{SeenPass}
 use Rattle.lw_locks.specs.declared.answer.Answer.{Answer}
-use Rattle.lw_locks.proofs.Seats.{WasJoined, WasSplit, longer_by, regs_joined, info_joined}
+use Rattle.lw_locks.proofs.Seats.{longer_by, regs_longer, info_longer, their_longer}
 use Rattle.lw_locks.proofs.Passes.{room_joined, counted_joined, counted_after, own_left, done_out}
-use Rattle.lw_locks.proofs.desk.Desk.look_at.Goals as goal
+use Rattle.lw_locks.proofs.desk.Desk.under_info.Goals as goal
 
 pub on_info-answer-requires-clause-regs : goal.on_info-answer-requires-clause-regs
 on_info-answer-requires-clause-regs g c κs within =
@@ -17,9 +16,8 @@ on_info-answer-requires-clause-regs g c κs within =
     let mine = c.pass.inside.seat in
     let theirs = c.info.inside.seat in
     let both = c.join.new.seat in
-    let joined : WasJoined desk mine theirs both =
-    record { word = c.join.ensures.word; roles = c.join.ensures.roles; follows = c.join.ensures.follows; other_follows = c.join.ensures.other_follows; fits = subst (λ z. CallsFit z both.history) c.args.self.now.steps.sizes c.join.ensures.calls } in
-    regs_joined desk mine theirs both joined g.E.Engine.regs_is task c.pass.inside.regs c.pass.invariant.regs
+    let joined = c.join.ensures in
+    regs_longer desk mine both (longer_by desk mine theirs both joined) g.E.Engine.regs_is task c.pass.inside.regs c.pass.invariant.regs
 
 pub on_info-answer-requires-clause-info : goal.on_info-answer-requires-clause-info
 on_info-answer-requires-clause-info g c κs within =
@@ -28,9 +26,8 @@ on_info-answer-requires-clause-info g c κs within =
     let mine = c.pass.inside.seat in
     let theirs = c.info.inside.seat in
     let both = c.join.new.seat in
-    let joined : WasJoined desk mine theirs both =
-    record { word = c.join.ensures.word; roles = c.join.ensures.roles; follows = c.join.ensures.follows; other_follows = c.join.ensures.other_follows; fits = subst (λ z. CallsFit z both.history) c.args.self.now.steps.sizes c.join.ensures.calls } in
-    info_joined desk mine theirs both joined (g.E.Engine.info_is desk.sizes) c.info.inside.info c.info.invariant.info
+    let joined = c.join.ensures in
+    info_longer desk theirs both (their_longer desk mine theirs both joined) (g.E.Engine.info_is desk.sizes) c.info.inside.info c.info.invariant.info
 
 pub on_info-answer-requires-clause-room : goal.on_info-answer-requires-clause-room
 on_info-answer-requires-clause-room g c κs within =
@@ -39,8 +36,7 @@ on_info-answer-requires-clause-room g c κs within =
     let mine = c.pass.inside.seat in
     let theirs = c.info.inside.seat in
     let both = c.join.new.seat in
-    let joined : WasJoined desk mine theirs both =
-    record { word = c.join.ensures.word; roles = c.join.ensures.roles; follows = c.join.ensures.follows; other_follows = c.join.ensures.other_follows; fits = subst (λ z. CallsFit z both.history) c.args.self.now.steps.sizes c.join.ensures.calls } in
+    let joined = c.join.ensures in
     room_joined task mine both (longer_by desk mine theirs both joined) c.pass.invariant.regs.has (subst (λ (v : SeenPass). count_of v.task v.history < 4294967295) (sym c.pass.view_is) c.requires.room)
 
 pub invariant_of-pass : goal.invariant_of-pass
@@ -50,14 +46,12 @@ invariant_of-pass g c =
     let mine = c.pass.inside.seat in
     let theirs = c.info.inside.seat in
     let both = c.join.new.seat in
-    let joined : WasJoined desk mine theirs both =
-    record { word = c.join.ensures.word; roles = c.join.ensures.roles; follows = c.join.ensures.follows; other_follows = c.join.ensures.other_follows; fits = subst (λ z. CallsFit z both.history) c.args.self.now.steps.sizes c.join.ensures.calls } in
+    let joined = c.join.ensures in
     let stepped = c.on_info-answer.new.seat in
     let left = c.split-seat.new.seat.history in
     let longer = longer_by desk mine theirs both joined in
     let ok : Result Answer (Unit {0}) = Ok c.on_info-answer.result in
-    let cut : WasSplit (Info) stepped c.split-seat.new.seat c.split-seat.result =
-    record { words = c.split-seat.ensures.words; histories = c.split-seat.ensures.histories; given_roles = c.split-seat.ensures.given; left_roles = c.split-seat.ensures.left } in
+    let cut = c.split-seat.ensures in
     let roles : stepped.roles ≡ (Task task ∷ []) ++ Info ∷ [] =
     c.on_info-answer.ensures.roles ∙ (joined.roles ∙ (ap (λ rs. rs ++ theirs.roles) c.pass.invariant.roles ∙ ap (λ rs. (Task task ∷ []) ++ rs) c.info.invariant.roles)) in
     own_left g.E.Engine.regs_is g.N.Opening.word desk task (c.pass.inside.made + 1) Info stepped c.split-seat.new.seat c.split-seat.result c.pass.inside.regs
@@ -72,8 +66,7 @@ returns-clause-done g c =
     let mine = c.pass.inside.seat in
     let theirs = c.info.inside.seat in
     let both = c.join.new.seat in
-    let joined : WasJoined desk mine theirs both =
-    record { word = c.join.ensures.word; roles = c.join.ensures.roles; follows = c.join.ensures.follows; other_follows = c.join.ensures.other_follows; fits = subst (λ z. CallsFit z both.history) c.args.self.now.steps.sizes c.join.ensures.calls } in
+    let joined = c.join.ensures in
     let stepped = c.on_info-answer.new.seat in
     let left = c.split-seat.new.seat.history in
     let longer = longer_by desk mine theirs both joined in

@@ -1,0 +1,15 @@
+use Rattle.std.proofs.Common.{◌≡◌, ◌+◌, length, take}
+use Rattle.lw_locks.specs.Promised.{Grown}
+use Rattle.lw_locks.specs.Held.{IsHolding, IsCell}
+use Rattle.lw_locks.proofs.steps.Steps.each_on_layer.Given as goal
+
+abbrev pub invariant-loop-call : goal.invariant-loop-call
+invariant-loop-call g l =
+    let desk = g.N.Opening.desk in
+    (l.seat.roles ≡ l.initial.seat.roles)
+    × (l.made ≡ l.initial.made + l.call-index)
+    × (length l.answers.items ≡ length l.initial.answers.items + l.call-index)
+    × (g.E.Engine.number l.cell ≡ g.E.Engine.number l.initial.cell)
+    × IsCell g.E.Engine.number g.E.Engine.cell_is desk l.seat l.cell
+    × IsHolding g.E.Engine.regs_is g.N.Opening.word desk l.task l.made l.seat l.regs
+    × Grown desk l.initial.seat.roles l.task l.initial.seat.history l.seat.history (take l.call-index l.calls) l.initial.answers.items l.answers.items

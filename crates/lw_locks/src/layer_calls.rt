@@ -1,0 +1,82 @@
+// Calls of a task on one layer, made one after another under its lock.
+
+ghost use Rattle.std.specs.Prelude.{◌≡◌, ◌+◌, ◌<◌, ◌≤◌, ◌∷◌, [], length, All, IfOk, OnErr, IsTrue, MatchResult};
+ghost use Rattle.lw_calls.specs.Limits.{call_fits};
+ghost use Rattle.lw_calls.specs.Touches.{class_of, OnLayer};
+ghost use Rattle.lw_locks.specs.Promised.{Grown};
+ghost use Rattle.lw_locks.specs.Held.{IsHolding, IsCell};
+
+use crate::answer::Answer;
+use crate::gate::{Gate, Spot};
+use crate::opening::Opening;
+use crate::steps::Steps;
+use lw_calls::Call;
+use lw_order::Seat;
+use lw_steps::Engine;
+use std::alloc::{AllocError, Global};
+
+impl<E: Engine, N: Opening> Steps<E, N> {
+    // Makes calls on one layer one after another, and keeps their answers. It ends with the first one that fails.
+    pub(crate) fn each_on_layer<G: Gate>(
+        &self,
+        alloc: Global,
+        gate: &G,
+        cell: &mut E::Cell,
+        seat: &mut Seat,
+        task: u32,
+        made: &mut u32,
+        regs: &E::Regs,
+        calls: &[Call],
+        answers: &mut Vec<Answer>,
+    ) -> Result<(), AllocError>
+        requires class { All (λ c. class_of c ≡ OnLayer (E.number cell.old)) calls.now }
+        requires fits { All (λ c. IsTrue (call_fits N.desk.sizes c)) calls.now }
+        requires room { made.old + length calls.now ≤ 4294967295 }
+        requires holding { IsHolding E.regs_is N.word N.desk task made.old seat.old regs.now }
+        requires stands { IsCell E.number E.cell_is N.desk seat.old cell.old }
+        ensures holding { IsHolding E.regs_is N.word N.desk task made.new seat.new regs.now }
+        ensures roles { seat.new.roles ≡ seat.old.roles }
+        ensures stands { IsCell E.number E.cell_is N.desk seat.new cell.new }
+        ensures number { E.number cell.new ≡ E.number cell.old }
+        ensures grown { Grown N.desk seat.old.roles task seat.old.history seat.new.history calls.now answers.old.items answers.new.items }
+        ensures all { MatchResult result (λ _. length answers.new.items ≡ length answers.old.items + length calls.now) (λ _. length answers.new.items < length answers.old.items + length calls.now) }
+    {
+        for call in calls {
+            gate.pass(task, *made, Spot::Under);
+            self.next_on_layer(alloc, cell, seat, task, made, regs, call, answers)?;
+        }
+        Ok(())
+    }
+
+    // Makes a call on one layer, and keeps its answer, for which there is room before the call is made.
+    fn next_on_layer(
+        &self,
+        alloc: Global,
+        cell: &mut E::Cell,
+        seat: &mut Seat,
+        task: u32,
+        made: &mut u32,
+        regs: &E::Regs,
+        call: &Call,
+        answers: &mut Vec<Answer>,
+    ) -> Result<(), AllocError>
+        requires class { class_of call.now ≡ OnLayer (E.number cell.old) }
+        requires fits { IsTrue (call_fits N.desk.sizes call.now) }
+        requires room { made.old < 4294967295 }
+        requires holding { IsHolding E.regs_is N.word N.desk task made.old seat.old regs.now }
+        requires stands { IsCell E.number E.cell_is N.desk seat.old cell.old }
+        ensures holding { IsHolding E.regs_is N.word N.desk task made.new seat.new regs.now }
+        ensures roles { seat.new.roles ≡ seat.old.roles }
+        ensures stands { IsCell E.number E.cell_is N.desk seat.new cell.new }
+        ensures number { E.number cell.new ≡ E.number cell.old }
+        ensures done { IfOk result (λ _. Grown N.desk seat.old.roles task seat.old.history seat.new.history (call.now ∷ []) answers.old.items answers.new.items) }
+        ensures more { IfOk result (λ _. (length answers.new.items ≡ length answers.old.items + 1) × (made.new ≡ made.old + 1)) }
+        ensures same { OnErr result ((answers.new.items ≡ answers.old.items) × (seat.new.history ≡ seat.old.history)) }
+    {
+        answers.reserve(1)?;
+        let answer = self.on_layer(alloc, seat, task, cell, regs, call)?;
+        *made += 1;
+        answers.push_reserved(answer);
+        Ok(())
+    }
+}
