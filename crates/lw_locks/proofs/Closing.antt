@@ -54,10 +54,10 @@ cells_longer number cell_is desk mine both cells longer had s c at_s = let is = 
 pub regs_more : {R : Type 0} (regs_is : R → (ℕ → List Pixel) → Type 0) (desk : Desk) (task : ℕ) (mine theirs both : SeenSeat) (all : List R) (regs : R) → WasJoined desk mine theirs both → AreAllRegs regs_is desk mine all → task ≡ length all → AreRegs regs_is desk task theirs regs → AreAllRegs regs_is desk both (all ++ regs ∷ [])
 regs_more {R = R} regs_is desk task mine theirs both all regs was had place are t r at_t =
     ⊎_elim
-      (λ (front : slice_get all t ≡ Some r). regs_longer desk mine both (longer_by desk mine theirs both was) regs_is t r (had t r front))
-      (λ (last : (t ≡ length all) × (r ≡ regs)).
-          subst (λ (x : R). AreRegs regs_is desk t both x) (sym last.1) (subst (λ n. AreRegs regs_is desk n both regs) (place ∙ sym last.0) (regs_longer desk theirs both (their_longer desk mine theirs both was) regs_is task regs are)))
-      (get_either all regs r t at_t)
+    (λ (front : slice_get all t ≡ Some r). regs_longer desk mine both (longer_by desk mine theirs both was) regs_is t r (had t r front))
+    (λ (last : (t ≡ length all) × (r ≡ regs)).
+    subst (λ (x : R). AreRegs regs_is desk t both x) (sym last.1) (subst (λ n. AreRegs regs_is desk n both regs) (place ∙ sym last.0) (regs_longer desk theirs both (their_longer desk mine theirs both was) regs_is task regs are)))
+    (get_either all regs r t at_t)
 
 one_of : (r : Role) (roles : List Role) → Contains roles r → (role : Role) → Contains (r ∷ []) role → Contains roles role
 one_of r roles has role there = All-contains (λ x. Contains roles x) (r ∷ []) role (All-cons (λ x. Contains roles x) r [] has (All-nil (λ x. Contains roles x))) there
@@ -69,14 +69,14 @@ followed_more regs_is name desk made mine theirs both whole front last regs was 
     let longer = longer_by desk mine theirs both was in
     let theirs_go = their_longer desk mine theirs both was in
     ⊎_elim
-      (λ (early : slice_get front k ≡ Some p).
-          let old = had k p early in
-          (longer.among (Task p.task) old.0, follows_on (Task p.task ∷ []) p.history mine.history both.history old.1 (fewer_follow (Task p.task ∷ []) mine.roles mine.history both.history (one_of (Task p.task) mine.roles old.0) longer.follows)))
-      (λ (late : (k ≡ length front) × (p ≡ last)).
-          let here : Contains both.roles (Task task) × Follows (Task task ∷ []) theirs.history both.history =
-              (theirs_go.among (Task task) own.regs.has, subst (λ rs. Follows rs theirs.history both.history) own.roles was.other_follows) in
-          subst (λ (v : SeenPass). Contains both.roles (Task v.task) × Follows (Task v.task ∷ []) v.history both.history) (is ∙ sym late.1) here)
-      (get_either front last p k (subst (λ ps. slice_get ps k ≡ Some p) parts at_k))
+    (λ (early : slice_get front k ≡ Some p).
+    let old = had k p early in
+    (longer.among (Task p.task) old.0, follows_on (Task p.task ∷ []) p.history mine.history both.history old.1 (fewer_follow (Task p.task ∷ []) mine.roles mine.history both.history (one_of (Task p.task) mine.roles old.0) longer.follows)))
+    (λ (late : (k ≡ length front) × (p ≡ last)).
+    let here : Contains both.roles (Task task) × Follows (Task task ∷ []) theirs.history both.history =
+    (theirs_go.among (Task task) own.regs.has, subst (λ rs. Follows rs theirs.history both.history) own.roles was.other_follows) in
+    subst (λ (v : SeenPass). Contains both.roles (Task v.task) × Follows (Task v.task ∷ []) v.history both.history) (is ∙ sym late.1) here)
+    (get_either front last p k (subst (λ ps. slice_get ps k ≡ Some p) parts at_k))
 
 -- all parts of a desk at the end
 pub closed : {I C R : Type 0} (info_is : I → InfoPart → Type 0) (number : C → ℕ) (cell_is : C → SlotPart → Type 0) (regs_is : R → (ℕ → List Pixel) → Type 0) (name : TableId) (desk : Desk) (passes : List SeenPass) (info : I) (cells : List C) (regs : List R) (first mid whole : SeenSeat)

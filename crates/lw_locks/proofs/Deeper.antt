@@ -51,10 +51,10 @@ get_either (y ∷ front) last x (suc s) h = ⊎_elim (λ a. inl a) (λ b. inr (a
 pub cells_more : {C : Type 0} (number : C → ℕ) (cell_is : C → SlotPart → Type 0) (desk : Desk) (mine theirs both : SeenSeat) (cells : List C) (cell : C) → WasJoined desk mine theirs both → AreCellsHeld number cell_is desk mine cells → number cell ≡ length cells → IsCell number cell_is desk theirs cell → AreCellsHeld number cell_is desk both (cells ++ cell ∷ [])
 cells_more {C = C} number cell_is desk mine theirs both cells cell was had numbered is s c at_s =
     ⊎_elim
-      (λ (front : slice_get cells s ≡ Some c). let old = had s c front in (old.0, cell_longer desk mine both (longer_by desk mine theirs both was) number cell_is c old.1))
-      (λ (last : (s ≡ length cells) × (c ≡ cell)).
-          (ap number last.1 ∙ (numbered ∙ sym last.0), subst (λ (x : C). IsCell number cell_is desk both x) (sym last.1) (cell_longer desk theirs both (their_longer desk mine theirs both was) number cell_is cell is)))
-      (get_either cells cell c s at_s)
+    (λ (front : slice_get cells s ≡ Some c). let old = had s c front in (old.0, cell_longer desk mine both (longer_by desk mine theirs both was) number cell_is c old.1))
+    (λ (last : (s ≡ length cells) × (c ≡ cell)).
+    (ap number last.1 ∙ (numbered ∙ sym last.0), subst (λ (x : C). IsCell number cell_is desk both x) (sym last.1) (cell_longer desk theirs both (their_longer desk mine theirs both was) number cell_is cell is)))
+    (get_either cells cell c s at_s)
 
 -- LayerInfo alone, with no slot yet
 pub info_held : {I C : Type 0} (info_is : I → InfoPart → Type 0) (number : C → ℕ) (cell_is : C → SlotPart → Type 0) (desk : Desk) (mine theirs both : SeenSeat) (info : I) (cells : List C) → WasJoined desk mine theirs both → length cells ≡ 0 → IsInfo info_is desk theirs info → AreHeld info_is number cell_is desk both info cells

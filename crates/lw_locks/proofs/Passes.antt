@@ -118,7 +118,7 @@ module _ (name : TableId) (desk : Desk) (task : ℕ) (off : Role) (mine theirs b
         let follows : Follows (Task task ∷ []) mine.history both.history = subst (λ rs. Follows rs mine.history both.history) roles was.follows in
         let inner = group_after desk (Task task ∷ []) both.roles (Task task ∷ held) task mine.history both.history whole.history calls had has among follows g in
         subst (λ (v : SeenPass). GroupDone desk (Task v.task ∷ []) (Task v.task ∷ held) v.task v.history left.history calls had has) is
-          (subst (λ h. GroupDone desk (Task task ∷ []) (Task task ∷ held) task mine.history h calls had has) (sym after) inner)
+        (subst (λ h. GroupDone desk (Task task ∷ []) (Task task ∷ held) task mine.history h calls had has) (sym after) inner)
 
 -- of a call on two layers the second slot is another than the first
 pub second_apart : (call : Call) (source slot : ℕ) → class_of call ≡ OnLayers source slot → (slot == source) ≡ false

@@ -79,11 +79,13 @@ module _ {I C : Type 0} (info_is : I → InfoPart → Type 0) (number : C → �
         info = record { has = held.info.has; stands = parts.info };
         cells = λ k c at_k.
             let is = parts.cells k c at_k in
-            let below = slice_get_within cells_new k c at_k in
-            (is.0, record {
-              has = subst (λ n. Contains seat.roles (Slot n)) (sym is.0) (has_each k (omega (arith, below, many_new)));
-              stands = subst (λ n. cell_is c (slot_part (machine desk seat.history) n)) (sym is.0) is.1;
-            });
+            let below = slice_get_within cells_new k c at_k in (
+              is.0,
+              record {
+                has = subst (λ n. Contains seat.roles (Slot n)) (sym is.0) (has_each k (omega (arith, below, many_new)));
+                stands = subst (λ n. cell_is c (slot_part (machine desk seat.history) n)) (sym is.0) is.1;
+              },
+            );
       }
 
 module _ (desk : Desk) (s : Sizes) (a : Assets) (begun : IsBegun desk s a) (old new : SeenSeat) (task : ℕ) (call : Call) (ticket : ℕ) (was : WasStamped desk old new task call ticket) where
@@ -166,21 +168,25 @@ module _ (desk : Desk) (s : Sizes) (a : Assets) (begun : IsBegun desk s a) (old 
       → IsAllStep info_is number cell_is s a info cells task call r info_new cells_new → Done desk old.roles task old.history new.history call r ticket × AreHeld info_is number cell_is desk new info_new cells_new
   all_made info_is number cell_is info info_new cells cells_new r many held made =
       let then_ : AreParts info_is number cell_is s a info cells (machine desk before) =
-          record {
-            desk = desk_before;
-            many = many;
-            info = subst (info_is info) (later desk old.roles Info old.history before held.info.has goes_on) held.info.stands;
-            cells = λ k c at_k. let is = held.cells k c at_k in (is.0, subst (λ n. cell_is c (slot_part (machine desk before) n)) is.0 (cell_before number cell_is c is.1));
-          } in
+      record {
+        desk = desk_before;
+        many = many;
+        info = subst (info_is info) (later desk old.roles Info old.history before held.info.has goes_on) held.info.stands;
+        cells = λ k c at_k. let is = held.cells k c at_k in (is.0, subst (λ n. cell_is c (slot_part (machine desk before) n)) is.0 (cell_before number cell_is c is.1));
+      } in
       let now = made (machine desk before) then_ in
-      let parts = now.1 in
-      (done r now.0, record {
-        info = record { has = still_has Info held.info.has; stands = subst (λ d. info_is info_new (info_part d)) (sym desk_after) parts.info };
-        cells = λ k c at_k.
-            let is = parts.cells k c at_k in
-            let has : Contains old.roles (Slot k) = held_slot info_is number cell_is desk old info cells held k (let below = slice_get_within cells_new k c at_k in let p = parts.many in omega (arith, below, p, many)) in
-            (is.0, record {
-              has = subst (λ n. Contains new.roles (Slot n)) (sym is.0) (still_has (Slot k) has);
-              stands = subst (λ n. cell_is c (slot_part (machine desk new.history) n)) (sym is.0) (subst (λ d. cell_is c (slot_part d k)) (sym desk_after) is.1);
-            });
-      })
+      let parts = now.1 in (
+        done r now.0,
+        record {
+          info = record { has = still_has Info held.info.has; stands = subst (λ d. info_is info_new (info_part d)) (sym desk_after) parts.info };
+          cells = λ k c at_k.
+              let is = parts.cells k c at_k in
+              let has : Contains old.roles (Slot k) = held_slot info_is number cell_is desk old info cells held k (let below = slice_get_within cells_new k c at_k in let p = parts.many in omega (arith, below, p, many)) in (
+                is.0,
+                record {
+                  has = subst (λ n. Contains new.roles (Slot n)) (sym is.0) (still_has (Slot k) has);
+                  stands = subst (λ n. cell_is c (slot_part (machine desk new.history) n)) (sym is.0) (subst (λ d. cell_is c (slot_part d k)) (sym desk_after) is.1);
+                },
+              );
+        },
+      )

@@ -73,9 +73,7 @@ impl<E: Engine, N: Opening> Desk<E, N> {
         let Some(info) = place.held.take() else {
             unreachable!();
         };
-        let (info, done) = self.with_info(
-            rt, alloc, gate, info, &mut cells, pass, calls, answers,
-        );
+        let (info, done) = self.with_info(rt, alloc, gate, info, &mut cells, pass, calls, answers);
         place.held = Some(info);
         done
     }

@@ -64,9 +64,7 @@ impl<E: Engine, N: Opening> Desk<E, N> {
         match class_of(call) {
             Class::Info => Ok(self.under_info(rt, gate, pass, call)),
             Class::Layer(slot) => self.under_layer(rt, alloc, gate, pass, slot, call),
-            Class::Layers(source, slot) => {
-                self.under_layers(rt, gate, pass, source, slot, call)
-            }
+            Class::Layers(source, slot) => { self.under_layers(rt, gate, pass, source, slot, call) }
             Class::All => self.once_under_all(rt, alloc, gate, pass, call),
             Class::Registers => unreachable!(),
         }

@@ -36,11 +36,7 @@ pub struct NotClosed<E: Engine, N: Opening> {
 impl<E: Engine, N: Opening> Desk<E, N> {
     /// Takes a desk apart whose passes are these, of all tasks and in rising number. Only want of memory stops it, and it then gives
     /// all back.
-    pub fn close(
-        self,
-        alloc: Global,
-        passes: Vec<Pass<E, N>>,
-    ) -> Result<Closed<E>, NotClosed<E, N>>
+    pub fn close(self, alloc: Global, passes: Vec<Pass<E, N>>) -> Result<Closed<E>, NotClosed<E, N>>
         requires passes { map task_of passes.items ≡ range_with_len 0 N.desk.sizes.tasks }
         ensures closed { MatchResult result
             (λ c. IsClosed (E.info_is N.desk.sizes) E.number E.cell_is E.regs_is N.word N.desk passes.items c.info c.cells.items c.regs.items c.seat)
@@ -136,7 +132,11 @@ fn join_all<E: Engine, N: Opening>(
     requires passes { map task_of passes.items ≡ range_with_len 0 N.desk.sizes.tasks }
     ensures { IsClosed (E.info_is N.desk.sizes) E.number E.cell_is E.regs_is N.word N.desk passes.items result.info result.cells.items result.regs.items result.seat }
 {
-    let LayerInfo { info, mut seat, of: _ } = info;
+    let LayerInfo {
+        info,
+        mut seat,
+        of: _,
+    } = info;
     join_layers(steps, &mut seat, &mut taken, &mut cells);
     join_passes(steps, &mut seat, &mut passes, &mut regs);
     Closed {

@@ -71,3 +71,13 @@ impl<E: Engine, N: Opening> Desk<E, N> {
         Ok(answer)
     }
 }
+
+// A pass may go to another thread, and threads may share a desk: the bounds ask for the proofs.
+fn cross_threads<E: Engine, N: Opening + Send + Sync>() {
+    crosses::<Pass<E, N>>();
+    is_shared::<Desk<E, N>>();
+}
+
+fn crosses<T: Send>() {}
+
+fn is_shared<T: Sync>() {}

@@ -27,4 +27,4 @@ returns-clause-cells g t c =
     let last = (range_front c.pop.new.self.items c.in-Some.layer (vec_len c.pop.new.self) (sym c.in-Some.ensures.items ∙ (c.requires.layers ∙ ap (range_with_len 0) (sym c.in-Some.ensures.cases)))).1 in
     let many = c.join_layers.ensures.many in
     subst (λ cs. AreCellsHeld e.number e.cell_is desk c.join.new.seat cs) (sym c.push_reserved.ensures.items)
-      (cells_more e.number e.cell_is desk mid own.seat c.join.new.seat all.items own.cell c.join.ensures c.join_layers.ensures.cells (c.layer.invariant.number ∙ (c.layer.view_is ∙ (last ∙ (sym many.0 ∙ all.ok.0)))) c.layer.invariant.cell)
+    (cells_more e.number e.cell_is desk mid own.seat c.join.new.seat all.items own.cell c.join.ensures c.join_layers.ensures.cells (c.layer.invariant.number ∙ (c.layer.view_is ∙ (last ∙ (sym many.0 ∙ all.ok.0)))) c.layer.invariant.cell)

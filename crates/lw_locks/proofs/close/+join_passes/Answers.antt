@@ -26,7 +26,7 @@ returns-clause-regs g t c =
     let many = c.join_passes.ensures.many in
     let place : own.task ≡ length all.items = ap (λ (v : SeenPass). v.task) c.pass.view_is ∙ (last ∙ (sym many.0 ∙ all.ok.0)) in
     subst (λ rs. AreAllRegs g.E.Engine.regs_is desk c.join.new.seat rs) (sym c.push_reserved.ensures.items)
-      (regs_more g.E.Engine.regs_is desk own.task mid own.seat c.join.new.seat all.items own.regs c.join.ensures c.join_passes.ensures.regs place c.pass.invariant.regs)
+    (regs_more g.E.Engine.regs_is desk own.task mid own.seat c.join.new.seat all.items own.regs c.join.ensures c.join_passes.ensures.regs place c.pass.invariant.regs)
 
 pub returns-clause-followed : goal.returns-clause-followed
 returns-clause-followed g t c =

@@ -38,5 +38,5 @@ returns g c =
     let mine = c.join_passes.ensures.many in
     let layers : vec_len taken ≡ desk.sizes.slots = taken.ok.0 ∙ (ap length c.requires.layers ∙ length-range_with_len 0 desk.sizes.slots) in
     closed (e.info_is desk.sizes) e.number e.cell_is e.regs_is g.N.Opening.word desk c.args.passes.items c.info.inside.info cells.items regs.items c.info.inside.seat c.join_layers.new.seat c.join_passes.new.seat
-      steps.empty steps.limits c.join_layers.ensures.longer c.join_passes.ensures.longer c.info.invariant.info c.join_layers.ensures.cells (sym cells.ok.0 ∙ (held.0 ∙ layers))
-      c.join_passes.ensures.seat c.join_passes.ensures.regs (sym regs.ok.0 ∙ (mine.0 ∙ c.args.passes.ok.0)) c.requires.passes c.join_passes.ensures.followed
+    steps.empty steps.limits c.join_layers.ensures.longer c.join_passes.ensures.longer c.info.invariant.info c.join_layers.ensures.cells (sym cells.ok.0 ∙ (held.0 ∙ layers))
+    c.join_passes.ensures.seat c.join_passes.ensures.regs (sym regs.ok.0 ∙ (mine.0 ∙ c.args.passes.ok.0)) c.requires.passes c.join_passes.ensures.followed

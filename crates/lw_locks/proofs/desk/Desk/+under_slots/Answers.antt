@@ -44,7 +44,7 @@ under_slots-done-requires-clause-held g t c κs within =
     let was = c.join.ensures in
     let many = sym c.args.cells.now.ok.0 ∙ c.requires.next in
     subst (λ cs. AreHeld (e.info_is desk.sizes) e.number e.cell_is desk both c.args.info.now cs) (sym c.push_reserved.ensures.items)
-      (held_deeper g.N.Opening.word desk c.args.task c.layer.inside.slot c.args.next mine theirs both was c.if-layer-next.false c.requires.roles c.layer.invariant.roles (e.info_is desk.sizes) e.number e.cell_is c.args.info.now c.args.cells.now.items c.layer.inside.cell many c.requires.held c.layer.invariant.number c.layer.invariant.cell)
+    (held_deeper g.N.Opening.word desk c.args.task c.layer.inside.slot c.args.next mine theirs both was c.if-layer-next.false c.requires.roles c.layer.invariant.roles (e.info_is desk.sizes) e.number e.cell_is c.args.info.now c.args.cells.now.items c.layer.inside.cell many c.requires.held c.layer.invariant.number c.layer.invariant.cell)
 
 pub split-own-requires-clause-role : goal.split-own-requires-clause-role
 split-own-requires-clause-role g t c κs within =
@@ -115,5 +115,5 @@ returns-clause-done g t c =
     let slots = desk.sizes.slots in
     let among : (r : Role) → Contains mine.roles r → Contains both.roles r = λ r h. (longer_by desk mine theirs both was).among r h in
     let inner : GroupDone desk mine.roles (roles_below c.args.task slots) c.args.task mine.history c.under_slots-done.new.seat.history c.args.calls.now c.args.answers.now.items c.under_slots-done.new.answers.items =
-        group_after desk mine.roles both.roles (roles_below c.args.task slots) c.args.task mine.history both.history c.under_slots-done.new.seat.history c.args.calls.now c.args.answers.now.items c.under_slots-done.new.answers.items among was.follows c.under_slots-done.ensures.done in
+    group_after desk mine.roles both.roles (roles_below c.args.task slots) c.args.task mine.history both.history c.under_slots-done.new.seat.history c.args.calls.now c.args.answers.now.items c.under_slots-done.new.answers.items among was.follows c.under_slots-done.ensures.done in
     subst (λ h. GroupDone desk mine.roles (roles_below c.args.task slots) c.args.task mine.history h c.args.calls.now c.args.answers.now.items c.under_slots-done.new.answers.items) (sym c.split-own.ensures.histories.0) inner

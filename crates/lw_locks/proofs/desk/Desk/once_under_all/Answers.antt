@@ -34,5 +34,5 @@ returns-clause-done g c =
     let among : (r : Role) → Contains few r → Contains (Task pass.task ∷ held) r = λ r h. Contains-append_left few held r h in
     let one : length has ≡ length had + 1 = subst (λ (cs : List Call). length has ≡ length had + length cs) c.from_ref-one.ensures.value c.in_ok-under_all.ensures.all in
     let done : GroupDone desk few (Task pass.task ∷ held) pass.task pass.history c.under_all.new.pass.history (c.args.call.now ∷ []) had has =
-        subst (λ (cs : List Call). GroupDone desk few (Task pass.task ∷ held) pass.task pass.history c.under_all.new.pass.history cs had has) c.from_ref-one.ensures.value c.under_all.ensures.done in
+    subst (λ (cs : List Call). GroupDone desk few (Task pass.task ∷ held) pass.task pass.history c.under_all.new.pass.history cs had has) c.from_ref-one.ensures.value c.under_all.ensures.done in
     once_done desk few (Task pass.task ∷ held) pass.task pass.history c.under_all.new.pass.history c.args.call.now had has c.pop.new.self.items c.in-Some.answer among done c.in-Some.ensures.items one

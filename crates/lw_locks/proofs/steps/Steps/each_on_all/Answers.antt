@@ -22,7 +22,7 @@ returns-in_err-next_on_all-clause-grown g c =
     let front : Grown desk roles c.args.task old c.next_on_all.new.seat.history (take i calls) had c.loop-call.answers.items = subst (λ h. Grown desk roles c.args.task old h (take i calls) had c.loop-call.answers.items) (sym same.1) c.loop-call.invariant.5 in
     let kept : Grown desk roles c.args.task old c.next_on_all.new.seat.history (take i calls) had c.next_on_all.new.answers.items = subst (λ (xs : List Answer). Grown desk roles c.args.task old c.next_on_all.new.seat.history (take i calls) had xs) (sym same.0) front in
     subst (λ cs. Grown desk roles c.args.task old c.next_on_all.new.seat.history cs had c.next_on_all.new.answers.items) (take-append-drop i calls)
-      (grown_more desk roles c.args.task old c.next_on_all.new.seat.history (take i calls) (drop i calls) had c.next_on_all.new.answers.items kept)
+    (grown_more desk roles c.args.task old c.next_on_all.new.seat.history (take i calls) (drop i calls) had c.next_on_all.new.answers.items kept)
 
 pub loop-call-preserved : goal.loop-call-preserved
 loop-call-preserved g c =
@@ -48,5 +48,5 @@ loop-call-preserved g c =
     let last : take (i + 1) calls ≡ take i calls ++ call ∷ [] = take_more calls i call below ∙ ap (λ x. take i calls ++ x ∷ []) (sym c.call-item.is) in
     let one : Grown desk roles task mid new (call ∷ []) c.loop-call.answers.items c.next_on_all.new.answers.items = subst (λ rs. Grown desk rs task mid new (call ∷ []) c.loop-call.answers.items c.next_on_all.new.answers.items) inv.0 e.done in
     let grown : Grown desk roles task old new (take i calls ++ call ∷ []) had c.next_on_all.new.answers.items =
-        grown_on desk roles task old mid new (take i calls) (call ∷ []) had c.loop-call.answers.items c.next_on_all.new.answers.items inv.5 (many_before ∙ ap (λ n. length had + n) (sym front)) one in
+    grown_on desk roles task old mid new (take i calls) (call ∷ []) had c.loop-call.answers.items c.next_on_all.new.answers.items inv.5 (many_before ∙ ap (λ n. length had + n) (sym front)) one in
     (e.roles ∙ inv.0, omega (arith, made_before, more_made), omega (arith, many_before, more_answers), e.stands, e.holding, subst (λ cs. Grown desk roles task old new cs had c.next_on_all.new.answers.items) (sym last) grown)

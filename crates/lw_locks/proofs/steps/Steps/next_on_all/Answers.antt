@@ -8,7 +8,7 @@ pub returns-clause-done : goal.returns-clause-done
 returns-clause-done g c =
     let answer = c.in_ok-answer.answer in
     grown_one g.N.Opening.desk c.args.seat.now.roles c.args.task c.args.seat.now.history c.on_all.new.seat.history c.args.call.now answer c.args.answers.now.items c.push_reserved.new.self.items c.in_ok-answer.ensures.done
-      (c.push_reserved.ensures.items ∙ ap (λ xs. xs ++ answer ∷ []) c.reserve.ensures.items)
+    (c.push_reserved.ensures.items ∙ ap (λ xs. xs ++ answer ∷ []) c.reserve.ensures.items)
 
 pub returns-clause-more : goal.returns-clause-more
 returns-clause-more g c =

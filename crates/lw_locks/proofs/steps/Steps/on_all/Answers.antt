@@ -14,9 +14,11 @@ all-requires-clause-desk g c =
     let self = c.args.self.now in
     let sizes = e.sizes self.engine in
     let assets = e.assets self.engine in
-    let begun : IsBegun desk sizes assets = record { empty = self.empty; limits = self.limits; sizes = self.engine_sizes; assets = self.engine_assets } in
-    (machine desk c.args.seat.now.history, subst (λ z. AreParts (e.info_is z) e.number e.cell_is sizes assets c.args.info.now c.args.cells.now (machine desk c.args.seat.now.history)) (sym self.engine_sizes)
-      (parts_held (e.info_is desk.sizes) e.number e.cell_is desk sizes assets begun c.args.seat.now c.requires.seat.known.fits c.args.info.now c.args.cells.now c.requires.slots c.requires.held))
+    let begun : IsBegun desk sizes assets = record { empty = self.empty; limits = self.limits; sizes = self.engine_sizes; assets = self.engine_assets } in (
+      machine desk c.args.seat.now.history,
+      subst (λ z. AreParts (e.info_is z) e.number e.cell_is sizes assets c.args.info.now c.args.cells.now (machine desk c.args.seat.now.history)) (sym self.engine_sizes)
+          (parts_held (e.info_is desk.sizes) e.number e.cell_is desk sizes assets begun c.args.seat.now c.requires.seat.known.fits c.args.info.now c.args.cells.now c.requires.slots c.requires.held),
+    )
 
 pub returns-in_err-reply-clause-held : goal.returns-in_err-reply-clause-held
 returns-in_err-reply-clause-held g c =
@@ -30,7 +32,7 @@ returns-in_err-reply-clause-held g c =
     let had = parts_held (e.info_is desk.sizes) e.number e.cell_is desk sizes assets begun c.args.seat.now c.requires.seat.known.fits c.args.info.now c.args.cells.now c.requires.slots c.requires.held in
     let has = c.in_err-reply.ensures.unchanged at (subst (λ z. AreParts (e.info_is z) e.number e.cell_is sizes assets c.args.info.now c.args.cells.now at) (sym self.engine_sizes) had) in
     held_still (e.info_is desk.sizes) e.number e.cell_is desk sizes assets begun c.args.seat.now c.requires.seat.known.fits c.args.info.now c.args.cells.now c.requires.slots c.requires.held c.all.new.info c.all.new.cells
-      (subst (λ z. AreParts (e.info_is z) e.number e.cell_is sizes assets c.all.new.info c.all.new.cells at) self.engine_sizes has)
+    (subst (λ z. AreParts (e.info_is z) e.number e.cell_is sizes assets c.all.new.info c.all.new.cells at) self.engine_sizes has)
 
 pub stamp-ticket-requires-clause-owns : goal.stamp-ticket-requires-clause-owns
 stamp-ticket-requires-clause-owns g c κs within =
@@ -67,7 +69,7 @@ returns-clause-held g c =
     let old = c.args.seat.now in
     let new = c.stamp-ticket.new.seat in
     (all_made desk sizes assets begun old new c.args.task c.args.call.now c.stamp-ticket.result was (e.info_is desk.sizes) e.number e.cell_is c.args.info.now c.all.new.info c.args.cells.now c.all.new.cells c.in_ok-reply.reply (c.requires.slots ∙ ap (λ z. z.slots) (sym begun.sizes)) c.requires.held
-      (subst (λ z. IsAllStep (e.info_is z) e.number e.cell_is sizes assets c.args.info.now c.args.cells.now c.args.task c.args.call.now c.in_ok-reply.reply c.all.new.info c.all.new.cells) self.engine_sizes c.in_ok-reply.ensures.step)).1
+    (subst (λ z. IsAllStep (e.info_is z) e.number e.cell_is sizes assets c.args.info.now c.args.cells.now c.args.task c.args.call.now c.in_ok-reply.reply c.all.new.info c.all.new.cells) self.engine_sizes c.in_ok-reply.ensures.step)).1
 
 pub returns-clause-done : goal.returns-clause-done
 returns-clause-done g c =
@@ -81,4 +83,4 @@ returns-clause-done g c =
     let old = c.args.seat.now in
     let new = c.stamp-ticket.new.seat in
     (all_made desk sizes assets begun old new c.args.task c.args.call.now c.stamp-ticket.result was (e.info_is desk.sizes) e.number e.cell_is c.args.info.now c.all.new.info c.args.cells.now c.all.new.cells c.in_ok-reply.reply (c.requires.slots ∙ ap (λ z. z.slots) (sym begun.sizes)) c.requires.held
-      (subst (λ z. IsAllStep (e.info_is z) e.number e.cell_is sizes assets c.args.info.now c.args.cells.now c.args.task c.args.call.now c.in_ok-reply.reply c.all.new.info c.all.new.cells) self.engine_sizes c.in_ok-reply.ensures.step)).0
+    (subst (λ z. IsAllStep (e.info_is z) e.number e.cell_is sizes assets c.args.info.now c.args.cells.now c.args.task c.args.call.now c.in_ok-reply.reply c.all.new.info c.all.new.cells) self.engine_sizes c.in_ok-reply.ensures.step)).0
