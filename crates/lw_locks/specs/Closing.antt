@@ -1,5 +1,5 @@
 -- What is left of a desk after its last call (this project's own).
-use Rattle.std.specs.Prelude.{◌≡◌, ℕ, length, List, [], ◌∷◌, Some, Contains}
+use Rattle.std.specs.Prelude.{◌≡◌, ℕ, length, List, [], ◌∷◌, ◌<◌, map, Some, Contains}
 use Rattle.std.specs.List.{slice_get}
 use Rattle.atomic_table.specs.Seated.{TableId}
 use Rattle.lw_region.specs.Pixels.{Pixel}
@@ -17,15 +17,20 @@ use Rattle.lw_locks.specs.Seen.{SeenPass}
 abbrev pub task_of : SeenPass → ℕ
 task_of pass = pass.task
 
+-- the passes have one of each of so many tasks
+abbrev pub HasEach : List SeenPass → ℕ → Type 0
+HasEach passes tasks = (t : ℕ) → t < tasks → Contains (map task_of passes) t
+
 -- the registers of the tasks from 0 on, whose roles the seat has
-abbrev pub AreAllRegs : {R : Type 0} → (R → (ℕ → List Pixel) → Type 0) → Desk → SeenSeat → List R → Type 0
-AreAllRegs {R = R} regs_is desk seat all = (t : ℕ) (r : R) → slice_get all t ≡ Some r → AreRegs regs_is desk t seat r
+abbrev pub AreRegsHeld : {R : Type 0} → (R → (ℕ → List Pixel) → Type 0) → Desk → SeenSeat → List R → Type 0
+AreRegsHeld {R = R} regs_is desk seat all = (t : ℕ) (r : R) → slice_get all t ≡ Some r → AreRegs regs_is desk t seat r
 
--- The seat has the role of each pass, and its history goes on from that of the pass with no further call of its task.
+-- The seat has the role of each pass's task, and its history goes on from that of the pass with no further call of this task.
 abbrev pub AreFollowed : List SeenPass → SeenSeat → Type 0
-AreFollowed passes seat = (k : ℕ) (pass : SeenPass) → slice_get passes k ≡ Some pass → Contains seat.roles (Task pass.task) × Follows (Task pass.task ∷ []) pass.history seat.history
+AreFollowed passes seat = (pass : SeenPass) → Contains passes pass → Contains seat.roles (Task pass.task) × Follows (Task pass.task ∷ []) pass.history seat.history
 
--- All parts stand for the machine's desk after the whole history, in which the calls of each task are those that its pass made.
+-- All parts stand for the machine's desk after the whole history, in which the calls of each of these passes' tasks are those that the
+-- pass made.
 pub record IsClosed {I C R : Type 0} (info_is : I → InfoPart → Type 0) (number : C → ℕ) (cell_is : C → SlotPart → Type 0) (regs_is : R → (ℕ → List Pixel) → Type 0) (name : TableId) (desk : Desk) (passes : List SeenPass) (layers : I) (cells : List C) (all : List R) (whole : SeenSeat) : Type 0 where
   pub seat : IsSeat name desk whole
   pub parts : AreParts info_is number cell_is desk.sizes desk.assets layers cells (machine desk whole.history)

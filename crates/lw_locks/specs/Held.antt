@@ -1,9 +1,10 @@
 -- What lies behind a lock, or with a task: a part that stands for its part of the machine after the history that its seat knows (this
 -- project's own). A relation between values and parts is an argument, as in `lw_steps`.
-use Rattle.std.specs.Prelude.{◌≡◌, ℕ, List, [], ◌∷◌, length, map, Some, Contains}
-use Rattle.std.specs.List.{slice_get, range_with_len}
+use Rattle.std.specs.Prelude.{◌≡◌, ℕ, List, [], ◌∷◌, length, Some, Contains}
+use Rattle.std.specs.List.{slice_get}
 use Rattle.atomic_table.specs.Seated.{TableId}
 use Rattle.lw_region.specs.Pixels.{Pixel}
+use Rattle.lw_calls.specs.declared.group.Hold.TheVariants.{All as AllLayers}
 use Rattle.lw_calls.specs.declared.touch.Role.{Role}
 use Rattle.lw_calls.specs.declared.touch.Role.TheVariants.{Task, Slot, Info}
 use Rattle.lw_calls.specs.Entries.{count_of}
@@ -12,8 +13,9 @@ use Rattle.lw_machine.specs.History.{machine}
 use Rattle.lw_machine.specs.Parts.{SlotPart, slot_part, InfoPart, info_part}
 use Rattle.lw_order.specs.Seen.{SeenSeat}
 use Rattle.lw_locks.specs.Joins.{IsHistory}
+use Rattle.lw_locks.specs.Promised.{held_roles}
 
--- The seat is of this order word, which may have the history that it knows.
+-- The seat is of this order word, and knows a history that it may have.
 pub record IsSeat (name : TableId) (desk : Desk) (seat : SeenSeat) : Type 0 where
   pub word : seat.word ≡ name
   pub known : IsHistory desk.sizes seat.history
@@ -41,7 +43,7 @@ pub record IsInfo {I : Type 0} (info_is : I → InfoPart → Type 0) (desk : Des
   pub has : Contains seat.roles Info
   pub stands : info_is kept (info_part (desk_at desk seat))
 
--- The cells of the slots from 0 on stand for these, whose roles the seat has.
+-- Each cell has its place as its number and stands for that slot, whose role the seat has.
 abbrev pub AreCellsHeld : {C : Type 0} → (C → ℕ) → (C → SlotPart → Type 0) → Desk → SeenSeat → List C → Type 0
 AreCellsHeld {C = C} number cell_is desk seat all = (s : ℕ) (c : C) → slice_get all s ≡ Some c → (number c ≡ s) × IsCell number cell_is desk seat c
 
@@ -50,12 +52,13 @@ pub record AreHeld {I C : Type 0} (info_is : I → InfoPart → Type 0) (number 
   pub info : IsInfo info_is desk seat kept
   pub cells : AreCellsHeld number cell_is desk seat all
 
--- All slots' cells do, and LayerInfo.
+-- LayerInfo and the cells of all slots stand for their parts, whose roles the seat has.
 pub record AreAllHeld {I C : Type 0} (info_is : I → InfoPart → Type 0) (number : C → ℕ) (cell_is : C → SlotPart → Type 0) (desk : Desk) (seat : SeenSeat) (kept : I) (all : List C) : Type 0 where
   pub slots : length all ≡ desk.sizes.slots
   pub held : AreHeld info_is number cell_is desk seat kept all
 
--- A task's part while it holds what else it may: its registers, and a seat with its role, which knows as many of its calls as it made.
+-- A task's part while its seat may have further roles: its registers, and a seat with its role, which knows as many of its calls as it
+-- made.
 pub record IsHolding {R : Type 0} (regs_is : R → (ℕ → List Pixel) → Type 0) (name : TableId) (desk : Desk) (task made : ℕ) (held : SeenSeat) (mine : R) : Type 0 where
   pub seat : IsSeat name desk held
   pub regs : AreRegs regs_is desk task held mine
@@ -83,4 +86,4 @@ pub record IsLayerInfo {I : Type 0} (info_is : I → InfoPart → Type 0) (name 
 
 -- the roles of a task that holds LayerInfo and the slots below a number, in the order in which their locks are taken
 abbrev pub roles_below : ℕ → ℕ → List Role
-roles_below task next = Task task ∷ Info ∷ map (λ s. Slot s) (range_with_len 0 next)
+roles_below task next = Task task ∷ held_roles next AllLayers

@@ -32,7 +32,7 @@ abbrev pub held_roles : ℕ → Hold → List Role
 held_roles slots (OneSlot slot) = Slot slot ∷ []
 held_roles slots AllLayers = Info ∷ map (λ s. Slot s) (range_with_len 0 slots)
 
--- The calls of a task were made one after another, and had these answers. No step between them touches one of the roles.
+-- The calls of a task were made one after another, and had these answers. No step before or between them touches one of the roles.
 abbrev pub Ran : Desk → List Role → ℕ → List Entry → List Entry → List Call → List Answer → Type 0
 Ran desk roles task old new [] [] = new ≡ old
 Ran desk roles task old new (c ∷ cs) (a ∷ rest) = (mid : List Entry) × Done desk roles task old mid c a.reply a.ticket × Ran desk roles task mid new cs rest
@@ -47,9 +47,9 @@ pub record Grown (desk : Desk) (roles : List Role) (task : ℕ) (old new : List 
   pub answers : has ≡ had ++ done
   pub ran : Ran desk roles task old new made done
 
--- The first of a group's calls were made under one holding of its locks. No step before the first one touches one of the few roles that
--- the task had already, and none from there on one of the many that it then had.
-pub record GroupDone (desk : Desk) (few many : List Role) (task : ℕ) (old new : List Entry) (calls : List Call) (had has : List Answer) : Type 0 where
+-- The first of a group's calls were made as under one holding of its locks. No step up to where all were held touches one of the
+-- task's own roles, and no other task's step from there on one of those that it then had.
+pub record GroupDone (desk : Desk) (own held : List Role) (task : ℕ) (old new : List Entry) (calls : List Call) (had has : List Answer) : Type 0 where
   pub start : List Entry
-  pub follows : Follows few old start
-  pub grown : Grown desk many task start new calls had has
+  pub follows : Follows own old start
+  pub grown : Grown desk held task start new calls had has

@@ -1,6 +1,6 @@
 // Calls of a task that arrange all layers, made one after another under all locks.
 
-ghost use Rattle.std.specs.Prelude.{◌≡◌, ◌+◌, ◌<◌, ◌≤◌, ◌∷◌, [], length, All, IfOk, OnErr, IsTrue, MatchResult};
+ghost use Rattle.std.specs.Prelude.{◌≡◌, ◌+◌, ◌<◌, ◌≤◌, ◌∷◌, [], length, vec_len, vec_capacity, All, IfOk, OnErr, IsTrue, MatchResult};
 ghost use Rattle.lw_calls.specs.Limits.{call_fits};
 ghost use Rattle.lw_calls.specs.Touches.{class_of, OnAll};
 ghost use Rattle.lw_locks.specs.Promised.{Grown};
@@ -33,6 +33,7 @@ impl<E: Engine, N: Opening> Steps<E, N> {
         requires class { All (λ c. class_of c ≡ OnAll) calls.now }
         requires fits { All (λ c. IsTrue (call_fits N.desk.sizes c)) calls.now }
         requires room { made.old + length calls.now ≤ 4294967295 }
+        requires space { vec_len answers.old + length calls.now ≤ vec_capacity answers.old }
         requires holding { IsHolding E.regs_is N.word N.desk task made.old seat.old regs.now }
         requires stands { AreAllHeld (E.info_is N.desk.sizes) E.number E.cell_is N.desk seat.old info.old cells.old }
         ensures holding { IsHolding E.regs_is N.word N.desk task made.new seat.new regs.now }
@@ -48,7 +49,7 @@ impl<E: Engine, N: Opening> Steps<E, N> {
         Ok(())
     }
 
-    // Makes a call on all layers, and keeps its answer, for which there is room before the call is made.
+    // Makes a call on all layers, and keeps its answer, for which there is room.
     fn next_on_all(
         &self,
         alloc: Global,
@@ -64,16 +65,17 @@ impl<E: Engine, N: Opening> Steps<E, N> {
         requires class { class_of call.now ≡ OnAll }
         requires fits { IsTrue (call_fits N.desk.sizes call.now) }
         requires room { made.old < 4294967295 }
+        requires space { vec_len answers.old < vec_capacity answers.old }
         requires holding { IsHolding E.regs_is N.word N.desk task made.old seat.old regs.now }
         requires stands { AreAllHeld (E.info_is N.desk.sizes) E.number E.cell_is N.desk seat.old info.old cells.old }
         ensures holding { IsHolding E.regs_is N.word N.desk task made.new seat.new regs.now }
         ensures roles { seat.new.roles ≡ seat.old.roles }
         ensures stands { AreAllHeld (E.info_is N.desk.sizes) E.number E.cell_is N.desk seat.new info.new cells.new }
+        ensures capacity { vec_capacity answers.new ≡ vec_capacity answers.old }
         ensures done { IfOk result (λ _. Grown N.desk seat.old.roles task seat.old.history seat.new.history (call.now ∷ []) answers.old.items answers.new.items) }
         ensures more { IfOk result (λ _. (length answers.new.items ≡ length answers.old.items + 1) × (made.new ≡ made.old + 1)) }
         ensures same { OnErr result ((answers.new.items ≡ answers.old.items) × (seat.new.history ≡ seat.old.history)) }
     {
-        answers.reserve(1)?;
         let answer = self.on_all(alloc, seat, task, info, cells, regs, call)?;
         *made += 1;
         answers.push_reserved(answer);

@@ -62,6 +62,7 @@ impl<E: Engine, N: Opening> Desk<E, N> {
         requires class { All (λ c. class_of c ≡ OnAll) calls.now }
         requires fits { All (λ c. IsTrue (call_fits N.desk.sizes c)) calls.now }
         requires some { 0 < length calls.now }
+        requires space { vec_len answers.old + length calls.now ≤ vec_capacity answers.old }
         requires room { count_of pass.old.task pass.old.history + length calls.now ≤ 4294967295 }
         ensures task { pass.new.task ≡ pass.old.task }
         ensures done { GroupDone N.desk (Task pass.old.task ∷ []) (Task pass.old.task ∷ held_roles N.desk.sizes.slots AllSlots) pass.old.task pass.old.history pass.new.history calls.now answers.old.items answers.new.items }
@@ -95,6 +96,7 @@ impl<E: Engine, N: Opening> Desk<E, N> {
         requires class { All (λ c. class_of c ≡ OnAll) calls.now }
         requires fits { All (λ c. IsTrue (call_fits N.desk.sizes c)) calls.now }
         requires some { 0 < length calls.now }
+        requires space { vec_len answers.old + length calls.now ≤ vec_capacity answers.old }
         requires room { count_of pass.old.task pass.old.history + length calls.now ≤ 4294967295 }
         ensures task { pass.new.task ≡ pass.old.task }
         ensures done { GroupDone N.desk (Task pass.old.task ∷ []) (Task pass.old.task ∷ held_roles N.desk.sizes.slots AllSlots) pass.old.task pass.old.history pass.new.history calls.now answers.old.items answers.new.items }
@@ -147,6 +149,7 @@ impl<E: Engine, N: Opening> Desk<E, N> {
         requires class { All (λ c. class_of c ≡ OnAll) calls.now }
         requires fits { All (λ c. IsTrue (call_fits N.desk.sizes c)) calls.now }
         requires some { 0 < length calls.now }
+        requires space { vec_len answers.old + length calls.now ≤ vec_capacity answers.old }
         requires room { made.old + length calls.now ≤ 4294967295 }
         requires roles { seat.old.roles ≡ roles_below task next }
         requires holding { IsHolding E.regs_is N.word N.desk task made.old seat.old regs.now }

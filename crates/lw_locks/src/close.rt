@@ -1,10 +1,11 @@
 // A desk after its last call.
 
-ghost use Rattle.std.specs.Prelude.{◌≡◌, ◌+◌, ◌≤◌, ◌++◌, true, false, [], map, vec_len, vec_capacity, MatchResult};
-ghost use Rattle.std.specs.List.{range_with_len};
-ghost use Rattle.lw_locks.specs.Closing.{task_of, IsClosed, AreFollowed, AreAllRegs};
+ghost use Rattle.std.specs.Prelude.{◌≡◌, ◌+◌, ◌<◌, ◌≤◌, ◌++◌, true, false, length, map, vec_len, vec_capacity, Contains, MatchResult};
+ghost use Rattle.std.specs.List.{range_with_len, slice_index_or};
+ghost use Rattle.lw_locks.specs.Closing.{task_of, HasEach, IsClosed, AreFollowed, AreRegsHeld};
 ghost use Rattle.lw_locks.specs.Held.{IsSeat, AreCellsHeld};
 ghost use Rattle.lw_locks.specs.Joins.{IsLonger};
+ghost use Rattle.lw_locks.specs.Seen.{SeenPass};
 
 use crate::desk::Desk;
 use crate::held::{Layer, LayerInfo, Place};
@@ -34,10 +35,11 @@ pub struct NotClosed<E: Engine, N: Opening> {
 }
 
 impl<E: Engine, N: Opening> Desk<E, N> {
-    /// Takes a desk apart whose passes are these, of all tasks and in rising number. Only want of memory stops it, and it then gives
-    /// all back.
+    /// Takes a desk apart whose passes are these, of all tasks and in any order. Only want of memory stops it, and it then gives all
+    /// back.
     pub fn close(self, alloc: Global, passes: Vec<Pass<E, N>>) -> Result<Closed<E>, NotClosed<E, N>>
-        requires passes { map task_of passes.items ≡ range_with_len 0 N.desk.sizes.tasks }
+        requires many { vec_len passes ≡ N.desk.sizes.tasks }
+        requires each { HasEach passes.items N.desk.sizes.tasks }
         ensures closed { MatchResult result
             (λ c. IsClosed (E.info_is N.desk.sizes) E.number E.cell_is E.regs_is N.word N.desk passes.items c.info c.cells.items c.regs.items c.seat)
             (λ n. n.passes.items ≡ passes.items) }
@@ -65,7 +67,8 @@ impl<E: Engine, N: Opening> Desk<E, N> {
         requires taken { (vec_len taken ≡ 0) × (N.desk.sizes.slots ≤ vec_capacity taken) }
         requires cells { (vec_len cells ≡ 0) × (N.desk.sizes.slots ≤ vec_capacity cells) }
         requires regs { (vec_len regs ≡ 0) × (vec_len passes ≤ vec_capacity regs) }
-        requires passes { map task_of passes.items ≡ range_with_len 0 N.desk.sizes.tasks }
+        requires many { vec_len passes ≡ N.desk.sizes.tasks }
+        requires each { HasEach passes.items N.desk.sizes.tasks }
         ensures closed { MatchResult result
             (λ c. IsClosed (E.info_is N.desk.sizes) E.number E.cell_is E.regs_is N.word N.desk passes.items c.info c.cells.items c.regs.items c.seat)
             (λ n. n.passes.items ≡ passes.items) }
@@ -129,7 +132,8 @@ fn join_all<E: Engine, N: Opening>(
     requires layers { taken.items ≡ range_with_len 0 N.desk.sizes.slots }
     requires cells { (vec_len cells ≡ 0) × (N.desk.sizes.slots ≤ vec_capacity cells) }
     requires regs { (vec_len regs ≡ 0) × (vec_len passes ≤ vec_capacity regs) }
-    requires passes { map task_of passes.items ≡ range_with_len 0 N.desk.sizes.tasks }
+    requires many { vec_len passes ≡ N.desk.sizes.tasks }
+    requires each { HasEach passes.items N.desk.sizes.tasks }
     ensures { IsClosed (E.info_is N.desk.sizes) E.number E.cell_is E.regs_is N.word N.desk passes.items result.info result.cells.items result.regs.items result.seat }
 {
     let LayerInfo {
@@ -184,17 +188,20 @@ fn join_passes<E: Engine, N: Opening>(
     regs: &mut Vec<E::Regs>,
 )
     requires seat { IsSeat N.word N.desk seat.old }
-    requires passes { map task_of passes.old.items ≡ range_with_len 0 (vec_len passes.old) }
+    requires each { HasEach passes.old.items (vec_len passes.old) }
     requires regs { (vec_len regs.old ≡ 0) × (vec_len passes.old ≤ vec_capacity regs.old) }
     ensures seat { IsSeat N.word N.desk seat.new }
     ensures longer { IsLonger seat.old seat.new }
-    ensures regs { AreAllRegs E.regs_is N.desk seat.new regs.new.items }
+    ensures regs { AreRegsHeld E.regs_is N.desk seat.new regs.new.items }
     ensures followed { AreFollowed passes.old.items seat.new }
     ensures many { (vec_len regs.new ≡ vec_len passes.old) × (vec_capacity regs.new ≡ vec_capacity regs.old) }
 {
-    let Some(pass) = passes.pop() else {
+    let last = passes.len();
+    if last == 0 {
         return;
-    };
+    }
+    let place = place_of(passes.as_slice(), last - 1);
+    let pass = passes.remove(place);
     join_passes(steps, seat, passes, regs);
     let Pass {
         task: _,
@@ -205,4 +212,18 @@ fn join_passes<E: Engine, N: Opening>(
     } = pass;
     steps.join(seat, own);
     regs.push_reserved(mine);
+}
+
+// The place of the pass of a task, which is there.
+fn place_of<E: Engine, N: Opening>(passes: &[Pass<E, N>], task: usize) -> usize
+    requires { Contains (map task_of passes.now) task }
+    ensures place { result < length passes.now }
+    ensures task { (d : SeenPass) → (slice_index_or passes.now result d).task ≡ task }
+{
+    for place in 0..passes.len() {
+        if passes[place].task() as usize == task {
+            return place;
+        }
+    }
+    unreachable!()
 }

@@ -1,6 +1,6 @@
 // Calls of a task under one holding of their locks.
 
-ghost use Rattle.std.specs.Prelude.{◌≡◌, ◌+◌, ◌<◌, ◌≤◌, [], ◌∷◌, length, All, IsTrue, MatchResult};
+ghost use Rattle.std.specs.Prelude.{◌≡◌, ◌+◌, ◌<◌, ◌≤◌, [], ◌∷◌, length, vec_len, vec_capacity, All, IsTrue, MatchResult};
 ghost use Rattle.lw_calls.specs.declared.group.Hold.TheVariants.{Slot as OneSlot};
 ghost use Rattle.lw_calls.specs.declared.touch.Role.TheVariants.{Task};
 ghost use Rattle.lw_calls.specs.Entries.{count_of};
@@ -43,11 +43,37 @@ impl<E: Engine, N: Opening> Desk<E, N> {
     {
         let (task, seq) = (pass.task, pass.made);
         gate.pass(task, seq, Spot::Before);
-        let done = self.under_hold(rt, alloc, gate, pass, hold, calls, answers);
+        let done = self.with_room(rt, alloc, gate, pass, hold, calls, answers);
         for made in seq..pass.made {
             gate.pass(task, made, Spot::After);
         }
+        if done.is_err() {
+            gate.pass(task, pass.made, Spot::After);
+        }
         done
+    }
+
+    // Takes the room for all answers, and makes the calls.
+    fn with_room<R: Wait, G: Gate>(
+        &self,
+        rt: &R,
+        alloc: Global,
+        gate: &G,
+        pass: &mut Pass<E, N>,
+        hold: Hold,
+        calls: &[Call],
+        answers: &mut Vec<Answer>,
+    ) -> Result<(), AllocError>
+        requires class { All (λ c. class_of c ≡ class_under hold) calls.now }
+        requires fits { All (λ c. IsTrue (call_fits N.desk.sizes c)) calls.now }
+        requires some { 0 < length calls.now }
+        requires room { count_of pass.old.task pass.old.history + length calls.now ≤ 4294967295 }
+        ensures task { pass.new.task ≡ pass.old.task }
+        ensures done { GroupDone N.desk (Task pass.old.task ∷ []) (Task pass.old.task ∷ held_roles N.desk.sizes.slots hold) pass.old.task pass.old.history pass.new.history calls.now answers.old.items answers.new.items }
+        ensures all { MatchResult result (λ _. length answers.new.items ≡ length answers.old.items + length calls.now) (λ _. length answers.new.items < length answers.old.items + length calls.now) }
+    {
+        answers.reserve(calls.len())?;
+        self.under_hold(rt, alloc, gate, pass, hold, calls, answers)
     }
 
     fn under_hold<R: Wait, G: Gate>(
@@ -63,6 +89,7 @@ impl<E: Engine, N: Opening> Desk<E, N> {
         requires class { All (λ c. class_of c ≡ class_under hold) calls.now }
         requires fits { All (λ c. IsTrue (call_fits N.desk.sizes c)) calls.now }
         requires some { 0 < length calls.now }
+        requires space { vec_len answers.old + length calls.now ≤ vec_capacity answers.old }
         requires room { count_of pass.old.task pass.old.history + length calls.now ≤ 4294967295 }
         ensures task { pass.new.task ≡ pass.old.task }
         ensures done { GroupDone N.desk (Task pass.old.task ∷ []) (Task pass.old.task ∷ held_roles N.desk.sizes.slots hold) pass.old.task pass.old.history pass.new.history calls.now answers.old.items answers.new.items }
@@ -89,6 +116,7 @@ impl<E: Engine, N: Opening> Desk<E, N> {
         requires class { All (λ c. class_of c ≡ OnLayer slot) calls.now }
         requires fits { All (λ c. IsTrue (call_fits N.desk.sizes c)) calls.now }
         requires some { 0 < length calls.now }
+        requires space { vec_len answers.old + length calls.now ≤ vec_capacity answers.old }
         requires room { count_of pass.old.task pass.old.history + length calls.now ≤ 4294967295 }
         ensures task { pass.new.task ≡ pass.old.task }
         ensures done { GroupDone N.desk (Task pass.old.task ∷ []) (Task pass.old.task ∷ held_roles N.desk.sizes.slots (OneSlot slot)) pass.old.task pass.old.history pass.new.history calls.now answers.old.items answers.new.items }

@@ -1,6 +1,6 @@
 // Calls of a task on one layer, made one after another under its lock.
 
-ghost use Rattle.std.specs.Prelude.{◌≡◌, ◌+◌, ◌<◌, ◌≤◌, ◌∷◌, [], length, All, IfOk, OnErr, IsTrue, MatchResult};
+ghost use Rattle.std.specs.Prelude.{◌≡◌, ◌+◌, ◌<◌, ◌≤◌, ◌∷◌, [], length, vec_len, vec_capacity, All, IfOk, OnErr, IsTrue, MatchResult};
 ghost use Rattle.lw_calls.specs.Limits.{call_fits};
 ghost use Rattle.lw_calls.specs.Touches.{class_of, OnLayer};
 ghost use Rattle.lw_locks.specs.Promised.{Grown};
@@ -32,6 +32,7 @@ impl<E: Engine, N: Opening> Steps<E, N> {
         requires class { All (λ c. class_of c ≡ OnLayer (E.number cell.old)) calls.now }
         requires fits { All (λ c. IsTrue (call_fits N.desk.sizes c)) calls.now }
         requires room { made.old + length calls.now ≤ 4294967295 }
+        requires space { vec_len answers.old + length calls.now ≤ vec_capacity answers.old }
         requires holding { IsHolding E.regs_is N.word N.desk task made.old seat.old regs.now }
         requires stands { IsCell E.number E.cell_is N.desk seat.old cell.old }
         ensures holding { IsHolding E.regs_is N.word N.desk task made.new seat.new regs.now }
@@ -48,7 +49,7 @@ impl<E: Engine, N: Opening> Steps<E, N> {
         Ok(())
     }
 
-    // Makes a call on one layer, and keeps its answer, for which there is room before the call is made.
+    // Makes a call on one layer, and keeps its answer, for which there is room.
     fn next_on_layer(
         &self,
         alloc: Global,
@@ -63,17 +64,18 @@ impl<E: Engine, N: Opening> Steps<E, N> {
         requires class { class_of call.now ≡ OnLayer (E.number cell.old) }
         requires fits { IsTrue (call_fits N.desk.sizes call.now) }
         requires room { made.old < 4294967295 }
+        requires space { vec_len answers.old < vec_capacity answers.old }
         requires holding { IsHolding E.regs_is N.word N.desk task made.old seat.old regs.now }
         requires stands { IsCell E.number E.cell_is N.desk seat.old cell.old }
         ensures holding { IsHolding E.regs_is N.word N.desk task made.new seat.new regs.now }
         ensures roles { seat.new.roles ≡ seat.old.roles }
         ensures stands { IsCell E.number E.cell_is N.desk seat.new cell.new }
         ensures number { E.number cell.new ≡ E.number cell.old }
+        ensures capacity { vec_capacity answers.new ≡ vec_capacity answers.old }
         ensures done { IfOk result (λ _. Grown N.desk seat.old.roles task seat.old.history seat.new.history (call.now ∷ []) answers.old.items answers.new.items) }
         ensures more { IfOk result (λ _. (length answers.new.items ≡ length answers.old.items + 1) × (made.new ≡ made.old + 1)) }
         ensures same { OnErr result ((answers.new.items ≡ answers.old.items) × (seat.new.history ≡ seat.old.history)) }
     {
-        answers.reserve(1)?;
         let answer = self.on_layer(alloc, seat, task, cell, regs, call)?;
         *made += 1;
         answers.push_reserved(answer);

@@ -22,5 +22,6 @@ pub use answer::Answer;
 pub use close::{Closed, NotClosed};
 pub use desk::Desk;
 pub use gate::{Gate, OpenGate, Spot};
+pub use lw_steps::Engine;
 pub use opening::Opening;
 pub use pass::Pass;

@@ -1,5 +1,6 @@
 ghost use Rattle.std.specs.Prelude.{◌≡◌, ◌<◌, ◌+◌, MatchResult};
 ghost use Rattle.lw_calls.specs.Entries.{count_of};
+ghost use Rattle.lw_locks.specs.Joins.{IsHistory};
 
 use crate::answer::Answer;
 use crate::opening::Opening;
@@ -38,9 +39,10 @@ impl<E: Engine, N: Opening> Pass<E, N> {
         self.task
     }
 
-    /// How many calls it made.
+    /// How many calls it made. Their history is one that the desk's order word may have.
     pub fn made(&self) -> u32
-        ensures { result ≡ count_of self.now.task self.now.history }
+        ensures count { result ≡ count_of self.now.task self.now.history }
+        ensures known { IsHistory N.desk.sizes self.now.history }
     {
         self.made
     }

@@ -1,9 +1,8 @@
 -- All seats joined to LayerInfo's.
 use Rattle.std.proofs.Common.{◌≡◌, ◌≤◌, length, vec_len, vec_capacity, sym, ap, subst, ◌∙◌}
 use Rattle.std.specs.List.{range_with_len}
-use Rattle.std.proofs.lemmas.List.{length-map}
 use Rattle.std.proofs.lemmas.List.FromFn.{length-range_with_len}
-use Rattle.lw_locks.specs.Closing.{task_of}
+use Rattle.lw_locks.specs.Closing.{HasEach}
 use Rattle.lw_locks.proofs.Closing.{closed}
 use Rattle.lw_locks.proofs.close.join_all.Goals as goal
 
@@ -20,11 +19,8 @@ join_layers-requires-clause-cells g c κs within =
     let cells = c.requires.cells in
     (cells.0, subst (λ n. n ≤ vec_capacity c.args.cells) (sym many) cells.1)
 
-pub join_passes-requires-clause-passes : goal.join_passes-requires-clause-passes
-join_passes-requires-clause-passes g c κs within =
-    let tasks = g.N.Opening.desk.sizes.tasks in
-    let many : vec_len c.args.passes ≡ tasks = c.args.passes.ok.0 ∙ (sym (length-map c.args.passes.items task_of) ∙ (ap length c.requires.passes ∙ length-range_with_len 0 tasks)) in
-    c.requires.passes ∙ ap (range_with_len 0) (sym many)
+pub join_passes-requires-clause-each : goal.join_passes-requires-clause-each
+join_passes-requires-clause-each g c κs within = subst (HasEach c.args.passes.items) (sym c.requires.many) c.requires.each
 
 pub returns : goal.returns
 returns g c =
@@ -39,4 +35,4 @@ returns g c =
     let layers : vec_len taken ≡ desk.sizes.slots = taken.ok.0 ∙ (ap length c.requires.layers ∙ length-range_with_len 0 desk.sizes.slots) in
     closed (e.info_is desk.sizes) e.number e.cell_is e.regs_is g.N.Opening.word desk c.args.passes.items c.info.inside.info cells.items regs.items c.info.inside.seat c.join_layers.new.seat c.join_passes.new.seat
     steps.empty steps.limits c.join_layers.ensures.longer c.join_passes.ensures.longer c.info.invariant.info c.join_layers.ensures.cells (sym cells.ok.0 ∙ (held.0 ∙ layers))
-    c.join_passes.ensures.seat c.join_passes.ensures.regs (sym regs.ok.0 ∙ (mine.0 ∙ c.args.passes.ok.0)) c.requires.passes c.join_passes.ensures.followed
+    c.join_passes.ensures.seat c.join_passes.ensures.regs (sym regs.ok.0 ∙ (mine.0 ∙ c.requires.many)) c.join_passes.ensures.followed

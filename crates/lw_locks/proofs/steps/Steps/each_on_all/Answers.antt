@@ -8,7 +8,7 @@ use Rattle.lw_locks.proofs.steps.Steps.each_on_all.Goals as goal
 
 pub loop-call-init : goal.loop-call-init
 loop-call-init g c =
-    (refl, omega arith, omega arith, c.requires.stands, c.requires.holding, grown_none g.N.Opening.desk c.args.seat.now.roles c.args.task c.args.seat.now.history [] c.args.answers.now.items)
+    (refl, omega arith, omega arith, c.requires.stands, c.requires.holding, grown_none g.N.Opening.desk c.args.seat.now.roles c.args.task c.args.seat.now.history [] c.args.answers.now.items, refl)
 
 pub returns-in_err-next_on_all-clause-grown : goal.returns-in_err-next_on_all-clause-grown
 returns-in_err-next_on_all-clause-grown g c =
@@ -49,4 +49,4 @@ loop-call-preserved g c =
     let one : Grown desk roles task mid new (call ∷ []) c.loop-call.answers.items c.next_on_all.new.answers.items = subst (λ rs. Grown desk rs task mid new (call ∷ []) c.loop-call.answers.items c.next_on_all.new.answers.items) inv.0 e.done in
     let grown : Grown desk roles task old new (take i calls ++ call ∷ []) had c.next_on_all.new.answers.items =
     grown_on desk roles task old mid new (take i calls) (call ∷ []) had c.loop-call.answers.items c.next_on_all.new.answers.items inv.5 (many_before ∙ ap (λ n. length had + n) (sym front)) one in
-    (e.roles ∙ inv.0, omega (arith, made_before, more_made), omega (arith, many_before, more_answers), e.stands, e.holding, subst (λ cs. Grown desk roles task old new cs had c.next_on_all.new.answers.items) (sym last) grown)
+    (e.roles ∙ inv.0, omega (arith, made_before, more_made), omega (arith, many_before, more_answers), e.stands, e.holding, subst (λ cs. Grown desk roles task old new cs had c.next_on_all.new.answers.items) (sym last) grown, e.capacity ∙ inv.6)

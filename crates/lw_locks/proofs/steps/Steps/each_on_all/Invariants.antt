@@ -1,4 +1,4 @@
-use Rattle.std.proofs.Common.{◌≡◌, ◌+◌, length, take}
+use Rattle.std.proofs.Common.{◌≡◌, ◌+◌, length, take, vec_capacity}
 use Rattle.lw_locks.specs.Promised.{Grown}
 use Rattle.lw_locks.specs.Held.{IsHolding, AreAllHeld}
 use Rattle.lw_locks.proofs.steps.Steps.each_on_all.Given as goal
@@ -12,3 +12,4 @@ invariant-loop-call g l =
     × AreAllHeld (g.E.Engine.info_is desk.sizes) g.E.Engine.number g.E.Engine.cell_is desk l.seat l.info l.cells
     × IsHolding g.E.Engine.regs_is g.N.Opening.word desk l.task l.made l.seat l.regs
     × Grown desk l.initial.seat.roles l.task l.initial.seat.history l.seat.history (take l.call-index l.calls) l.initial.answers.items l.answers.items
+    × (vec_capacity l.answers ≡ vec_capacity l.initial.answers)

@@ -1,4 +1,4 @@
-use Rattle.std.proofs.Common.{◌≡◌, ◌+◌, length, take}
+use Rattle.std.proofs.Common.{◌≡◌, ◌+◌, length, take, vec_capacity}
 use Rattle.lw_locks.specs.Promised.{Grown}
 use Rattle.lw_locks.specs.Held.{IsHolding, IsCell}
 use Rattle.lw_locks.proofs.steps.Steps.each_on_layer.Given as goal
@@ -13,3 +13,4 @@ invariant-loop-call g l =
     × IsCell g.E.Engine.number g.E.Engine.cell_is desk l.seat l.cell
     × IsHolding g.E.Engine.regs_is g.N.Opening.word desk l.task l.made l.seat l.regs
     × Grown desk l.initial.seat.roles l.task l.initial.seat.history l.seat.history (take l.call-index l.calls) l.initial.answers.items l.answers.items
+    × (vec_capacity l.answers ≡ vec_capacity l.initial.answers)
