@@ -27,7 +27,7 @@ pub fn flip(row: &mut [u8], from: u32, count: u32)
     flip_between(row, from, from + count as usize);
 }
 
-// Whole bytes go by a loop of their own, with no mask, which the compiler turns into vector code.
+// Whole bytes go without masks. They come last, so that nothing is kept for later where `memset` writes them.
 fn fill_between(row: &mut [u8], from: usize, end: usize, bit: bool)
     requires near { end < 2 ^ 40 }
     requires ordered { from ≤ end }
@@ -38,8 +38,8 @@ fn fill_between(row: &mut [u8], from: usize, end: usize, bit: bool)
     let last = end / 8;
     if first <= last {
         fill_edge(row, from, 8 * first, bit);
-        fill_whole(row, first, last, bit);
         fill_edge(row, 8 * last, end, bit);
+        fill_whole(row, first, last, bit);
     } else {
         fill_edge(row, from, end, bit);
     }
@@ -92,8 +92,14 @@ fn fill_many(row: &mut [u8], first: usize, last: usize, bit: bool)
         else row_bit row.old x) }
 {
     let count = last - first;
-    if count > 32 {
+    if count > 128 {
         fill_bytes(row, first, count, bit);
+    } else if count > 64 {
+        fill_bytes(row, first, 64, bit);
+        fill_bytes(row, last - 64, 64, bit);
+    } else if count > 32 {
+        fill_bytes(row, first, 32, bit);
+        fill_bytes(row, last - 32, 32, bit);
     } else if count >= 16 {
         fill_bytes(row, first, 16, bit);
         fill_bytes(row, last - 16, 16, bit);
