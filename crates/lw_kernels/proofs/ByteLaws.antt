@@ -61,17 +61,21 @@ bit_at_mask from end index first last ones_first ones_last j small low is_first 
     (bit_at_and_not ones_first ones_last (7 - j) small (omega arith))
 
 -- one bit of what a mask takes from two bytes
-masked_bit : (t : Bool) (value old m : ℕ) → value < 2 → old < 2 → m ≡ bit_of t → max (min value m) (min old (1 - m)) ≡ (if t then value else old)
-masked_bit true value old m a b is = omega arith
-masked_bit false value old m a b is = omega arith
+masked_bit : (value old m : ℕ) → value < 2 → old < 2 → m < 2 → max (min value m) (min old (1 - m)) ≡ (if m == 1 then value else old)
+masked_bit value old m a b c = grind (arith, nat_tests)
 
--- a byte whose named bits are those of another
-pub bit_at_replaced : (t : Bool) (value old mask i : ℕ) → mask < 256 → i < 8 → bit_at mask i ≡ bit_of t → bit_at (bit_or (bit_and value mask) (bit_and old (255 - mask))) i ≡ (if t then bit_at value i else bit_at old i)
-bit_at_replaced t value old mask i small low is =
+-- a byte whose bits under a mask are those of another
+pub bit_at_picked : (value old mask i : ℕ) → mask < 256 → i < 8 → bit_at (bit_or (bit_and value mask) (bit_and old (255 - mask))) i ≡ (if bit_at mask i == 1 then bit_at value i else bit_at old i)
+bit_at_picked value old mask i small low =
     bit_at_or (bit_and value mask) (bit_and old (255 - mask)) i ∙
     (ap (λ n. max n (bit_at (bit_and old (255 - mask)) i)) (bit_at_and value mask i) ∙
     (ap (λ n. max (min (bit_at value i) (bit_at mask i)) n) (bit_at_and_not old mask i small low) ∙
-    masked_bit t (bit_at value i) (bit_at old i) (bit_at mask i) (bit_at-lt value i) (bit_at-lt old i) is))
+    masked_bit (bit_at value i) (bit_at old i) (bit_at mask i) (bit_at-lt value i) (bit_at-lt old i) (bit_at-lt mask i)))
+
+-- a choice by a bit that is a truth value
+pub chosen_by_bit : (t : Bool) (v m a b : ℕ) → m ≡ bit_of t → v ≡ (if m == 1 then a else b) → v ≡ (if t then a else b)
+chosen_by_bit true v m a b is chosen = chosen ∙ ap (λ n. if n == 1 then a else b) is
+chosen_by_bit false v m a b is chosen = chosen ∙ ap (λ n. if n == 1 then a else b) is
 
 -- the low eight bits of a number are its own
 bit_at_low_byte : (n i : ℕ) → i < 8 → bit_at (bit_and n 255) i ≡ bit_at n i
@@ -167,74 +171,6 @@ bit_at_moved row byte source_bit to_bit base j low before inside bits =
     let in_byte : i < 8 = omega arith in
     let place : to_bit - base + (7 - j) ≡ 7 - i = omega arith in
     bit_at_shr byte (to_bit - base) (7 - j) ∙ (ap (λ n. bit_at byte n) place ∙ bits i in_byte)
-
--- one term of a minterm: what a byte has where its minterm bit is 1
-term : Bool → ℕ → ℕ
-term t bit = if t then bit else 0
-
--- a term of no bits is 0
-term_none : (t : Bool) → term t 0 ≡ 0
-unfolding term
-term_none true = refl
-term_none false = refl
-
--- a term of a bit is its minterm bit
-term_one : (t : Bool) → term t 1 ≡ bit_of t
-unfolding term
-term_one t = refl
-
--- the greatest of four numbers of which all but the first are 0
-greatest_first : (a b c d : ℕ) → b ≡ 0 → c ≡ 0 → d ≡ 0 → max (max (max a b) c) d ≡ a
-greatest_first a b c d p q r = omega arith
-
--- the greatest of four numbers of which all but the second are 0
-greatest_second : (a b c d : ℕ) → a ≡ 0 → c ≡ 0 → d ≡ 0 → max (max (max a b) c) d ≡ b
-greatest_second a b c d p q r = omega arith
-
--- the greatest of four numbers of which all but the third are 0
-greatest_third : (a b c d : ℕ) → a ≡ 0 → b ≡ 0 → d ≡ 0 → max (max (max a b) c) d ≡ c
-greatest_third a b c d p q r = omega arith
-
--- the greatest of four numbers of which all but the fourth are 0
-greatest_fourth : (a b c d : ℕ) → a ≡ 0 → b ≡ 0 → c ≡ 0 → max (max (max a b) c) d ≡ d
-greatest_fourth a b c d p q r = omega arith
-
--- of the four terms of a minterm the one for the pair of bits counts
-minterm_terms : (t7 t6 t5 t4 : Bool) (m7 m6 m5 m4 b c : ℕ) → b < 2 → c < 2 → bit_of t7 ≡ m7 → bit_of t6 ≡ m6 → bit_of t5 ≡ m5 → bit_of t4 ≡ m4 → max (max (max (term t7 (min b c)) (term t6 (min b (1 - c)))) (term t5 (min (1 - b) c))) (term t4 (min (1 - b) (1 - c))) ≡ (if b == 1 then (if c == 1 then m7 else m6) else (if c == 1 then m5 else m4))
-minterm_terms t7 t6 t5 t4 m7 m6 m5 m4 zero zero l1 l2 h7 h6 h5 h4 = greatest_fourth (term t7 0) (term t6 0) (term t5 0) (term t4 1) (term_none t7) (term_none t6) (term_none t5) ∙ (term_one t4 ∙ h4)
-minterm_terms t7 t6 t5 t4 m7 m6 m5 m4 zero (suc zero) l1 l2 h7 h6 h5 h4 = greatest_third (term t7 0) (term t6 0) (term t5 1) (term t4 0) (term_none t7) (term_none t6) (term_none t4) ∙ (term_one t5 ∙ h5)
-minterm_terms t7 t6 t5 t4 m7 m6 m5 m4 (suc zero) zero l1 l2 h7 h6 h5 h4 = greatest_second (term t7 0) (term t6 1) (term t5 0) (term t4 0) (term_none t7) (term_none t5) (term_none t4) ∙ (term_one t6 ∙ h6)
-minterm_terms t7 t6 t5 t4 m7 m6 m5 m4 (suc zero) (suc zero) l1 l2 h7 h6 h5 h4 = greatest_first (term t7 1) (term t6 0) (term t5 0) (term t4 0) (term_none t6) (term_none t5) (term_none t4) ∙ (term_one t7 ∙ h7)
-minterm_terms t7 t6 t5 t4 m7 m6 m5 m4 (suc (suc b)) c l1 l2 h7 h6 h5 h4 = absurd (omega arith)
-minterm_terms t7 t6 t5 t4 m7 m6 m5 m4 zero (suc (suc c)) l1 l2 h7 h6 h5 h4 = absurd (omega arith)
-minterm_terms t7 t6 t5 t4 m7 m6 m5 m4 (suc zero) (suc (suc c)) l1 l2 h7 h6 h5 h4 = absurd (omega arith)
-
--- a bit of four bytes in one
-bit_at_or_four : (p q r s i : ℕ) → bit_at (bit_or (bit_or (bit_or p q) r) s) i ≡ max (max (max (bit_at p i) (bit_at q i)) (bit_at r i)) (bit_at s i)
-bit_at_or_four p q r s i =
-    bit_at_or (bit_or (bit_or p q) r) s i ∙
-    (ap (λ n. max n (bit_at s i)) (bit_at_or (bit_or p q) r i) ∙ ap (λ n. max (max n (bit_at r i)) (bit_at s i)) (bit_at_or p q i))
-
--- the terms of a minterm, taken from a source byte and an old byte
-pub bit_at_minterm : (minterm source old p q r s i : ℕ) → source < 256 → old < 256 → i < 8 → bit_at p i ≡ (if nat_eq (bit_and (minterm / 128) 1) 1 then bit_at (bit_and source old) i else 0) → bit_at q i ≡ (if nat_eq (bit_and (minterm / 64) 1) 1 then bit_at (bit_and source (255 - old)) i else 0) → bit_at r i ≡ (if nat_eq (bit_and (minterm / 32) 1) 1 then bit_at (bit_and (255 - source) old) i else 0) → bit_at s i ≡ (if nat_eq (bit_and (minterm / 16) 1) 1 then bit_at (bit_and (255 - source) (255 - old)) i else 0) → bit_at (bit_or (bit_or (bit_or p q) r) s) i ≡ minterm_bit minterm (bit_at source i) (bit_at old i)
-unfolding term
-bit_at_minterm minterm source old p q r s i small_source small_old low is_p is_q is_r is_s =
-    let b : ℕ = bit_at source i in
-    let c : ℕ = bit_at old i in
-    let not_b : bit_at (255 - source) i ≡ 1 - b = bit_at_not w8 source i small_source low in
-    let not_c : bit_at (255 - old) i ≡ 1 - c = bit_at_not w8 old i small_old low in
-    let both = is_p ∙ ap (λ n. term (nat_eq (bit_and (minterm / 128) 1) 1) n) (bit_at_and source old i) in
-    let source_alone = is_q ∙ ap (λ n. term (nat_eq (bit_and (minterm / 64) 1) 1) n) (bit_at_and source (255 - old) i ∙ ap (λ n. min b n) not_c) in
-    let old_alone = is_r ∙ ap (λ n. term (nat_eq (bit_and (minterm / 32) 1) 1) n) (bit_at_and (255 - source) old i ∙ ap (λ n. min n c) not_b) in
-    let neither = is_s ∙ ap (λ n. term (nat_eq (bit_and (minterm / 16) 1) 1) n) (bit_at_and (255 - source) (255 - old) i ∙ (ap (λ n. min n (bit_at (255 - old) i)) not_b ∙ ap (λ n. min (1 - b) n) not_c)) in
-    bit_at_or_four p q r s i ∙
-    (ap (λ n. max (max (max n (bit_at q i)) (bit_at r i)) (bit_at s i)) both ∙
-    (ap (λ n. max (max (max (term (nat_eq (bit_and (minterm / 128) 1) 1) (min b c)) n) (bit_at r i)) (bit_at s i)) source_alone ∙
-    (ap (λ n. max (max (max (term (nat_eq (bit_and (minterm / 128) 1) 1) (min b c)) (term (nat_eq (bit_and (minterm / 64) 1) 1) (min b (1 - c)))) n) (bit_at s i)) old_alone ∙
-    (ap (λ n. max (max (max (term (nat_eq (bit_and (minterm / 128) 1) 1) (min b c)) (term (nat_eq (bit_and (minterm / 64) 1) 1) (min b (1 - c)))) (term (nat_eq (bit_and (minterm / 32) 1) 1) (min (1 - b) c))) n) neither ∙
-    minterm_terms (nat_eq (bit_and (minterm / 128) 1) 1) (nat_eq (bit_and (minterm / 64) 1) 1) (nat_eq (bit_and (minterm / 32) 1) 1) (nat_eq (bit_and (minterm / 16) 1) 1)
-    (bit_at minterm 7) (bit_at minterm 6) (bit_at minterm 5) (bit_at minterm 4) b c (bit_at-lt source i) (bit_at-lt old i)
-    (bit_tested minterm 7) (bit_tested minterm 6) (bit_tested minterm 5) (bit_tested minterm 4)))))
 
 -- a bit of a number of which some bits are tested at once
 tested_bit : (minterm mask value i : ℕ) → bit_and minterm mask ≡ value → bit_at mask i ≡ 1 → bit_at minterm i ≡ bit_at value i

@@ -163,7 +163,7 @@ bits_at row x =
     (cases_lt x (8 * length row))
 
 -- a choice of equal values
-chosen_same : (t : Bool) (v a b c d : ℕ) → v ≡ (if t then a else b) → a ≡ c → b ≡ d → v ≡ (if t then c else d)
+pub chosen_same : (t : Bool) (v a b c d : ℕ) → v ≡ (if t then a else b) → a ≡ c → b ≡ d → v ≡ (if t then c else d)
 chosen_same true v a b c d is p q = is ∙ p
 chosen_same false v a b c d is p q = is ∙ q
 

@@ -33,6 +33,13 @@ fn mask(from: usize, end: usize, index: usize) -> u8
     ones_from(from - 8 * index) & !ones_from(end - 8 * index)
 }
 
+// The bits of one byte where the mask has a 1, and those of the other byte elsewhere.
+fn picked(mask: u8, one: u8, other: u8) -> u8
+    ensures { (i : ℕ) → i < 8 → bit_at result i ≡ (if bit_at mask i == 1 then bit_at one i else bit_at other i) }
+{
+    (one & mask) | (other & !mask)
+}
+
 // Byte `index` of a row, with the bits of `value` in the place of its own from bit `from` of the row on,
 // before bit `end`; both are in the byte, or at its end.
 pub(crate) fn replaced(old: u8, value: u8, from: usize, end: usize, index: usize) -> u8
@@ -44,8 +51,7 @@ pub(crate) fn replaced(old: u8, value: u8, from: usize, end: usize, index: usize
         then bit_at value (7 - j)
         else bit_at old (7 - j)) }
 {
-    let mask = mask(from, end, index);
-    (value & mask) | (old & !mask)
+    picked(mask(from, end, index), value, old)
 }
 
 // Byte `index` of a row, and 0 past its end.
@@ -76,13 +82,6 @@ pub(crate) fn shifted(left: u8, right: u8, shift: usize) -> u8
     (left << shift) | (right >> (8 - shift))
 }
 
-// The byte or no bits.
-fn if_set(chosen: bool, byte: u8) -> u8
-    ensures { (i : ℕ) → bit_at result i ≡ (if chosen then bit_at byte i else 0) }
-{
-    if chosen { byte } else { 0 }
-}
-
 // The minterm's value for each source bit and old bit of two bytes, where the minterm may well be the one of a copy.
 pub(crate) fn blitted_bits(minterm: u8, source: u8, old: u8) -> u8
     ensures { (i : ℕ) → i < 8 → bit_at result i ≡ minterm_bit minterm (bit_at source i) (bit_at old i) }
@@ -98,8 +97,9 @@ pub(crate) fn blitted_bits(minterm: u8, source: u8, old: u8) -> u8
 pub(crate) fn minterm_byte(minterm: u8, source: u8, old: u8) -> u8
     ensures { (i : ℕ) → i < 8 → bit_at result i ≡ minterm_bit minterm (bit_at source i) (bit_at old i) }
 {
-    if_set((minterm >> 7) & 1 == 1, source & old)
-        | if_set((minterm >> 6) & 1 == 1, source & !old)
-        | if_set((minterm >> 5) & 1 == 1, !source & old)
-        | if_set((minterm >> 4) & 1 == 1, !source & !old)
+    picked(
+        source,
+        picked(old, spread((minterm >> 7) & 1 == 1), spread((minterm >> 6) & 1 == 1)),
+        picked(old, spread((minterm >> 5) & 1 == 1), spread((minterm >> 4) & 1 == 1)),
+    )
 }
