@@ -26,9 +26,44 @@ pub fn combine(to: &mut [u8], to_bit: u32, source: &[u8], source_bit: u32, count
     combine_between(to, from, end, source, source_bit as usize, minterm);
 }
 
-// As `combine`, from bit `from` of the destination and bit `place` of the source on. Whole bytes go by loops with no
-// mask, which the compiler turns into vector code.
+// As `combine`, from bit `from` of the destination and bit `place` of the source on. A copy is code of its own, since
+// the compiler leaves out what a known minterm doesn't need.
 fn combine_between(to: &mut [u8], from: usize, end: usize, source: &[u8], place: usize, minterm: u8)
+    requires near { end < 2 ^ 40 }
+    requires near_source { place < 2 ^ 40 }
+    requires ordered { from ≤ end }
+    requires inside { end ≤ 8 * length to.old }
+    requires source_inside { place + (end - from) ≤ 8 * length source.now }
+    ensures { (x : ℕ) → row_bit to.new x ≡ (if is_between from end x
+        then blit_bit minterm (row_bit source.now) place (row_bit to.old) from x
+        else row_bit to.old x) }
+{
+    if minterm & 0xf0 == 0xc0 {
+        combine_parts(to, from, end, source, place, 0xc0);
+    } else {
+        combine_others(to, from, end, source, place, minterm);
+    }
+}
+
+// As `combine_between`.
+#[inline(never)]
+fn combine_others(to: &mut [u8], from: usize, end: usize, source: &[u8], place: usize, minterm: u8)
+    requires near { end < 2 ^ 40 }
+    requires near_source { place < 2 ^ 40 }
+    requires ordered { from ≤ end }
+    requires inside { end ≤ 8 * length to.old }
+    requires source_inside { place + (end - from) ≤ 8 * length source.now }
+    ensures { (x : ℕ) → row_bit to.new x ≡ (if is_between from end x
+        then blit_bit minterm (row_bit source.now) place (row_bit to.old) from x
+        else row_bit to.old x) }
+{
+    combine_parts(to, from, end, source, place, minterm);
+}
+
+// As `combine_between`. Whole bytes go without masks. They come last, so that nothing is kept for later where `memcpy`
+// writes them.
+#[inline(always)]
+fn combine_parts(to: &mut [u8], from: usize, end: usize, source: &[u8], place: usize, minterm: u8)
     requires near { end < 2 ^ 40 }
     requires near_source { place < 2 ^ 40 }
     requires ordered { from ≤ end }
@@ -42,7 +77,6 @@ fn combine_between(to: &mut [u8], from: usize, end: usize, source: &[u8], place:
     let last = end / 8;
     if first <= last {
         combine_edge(to, from, 8 * first, source, place, minterm);
-        combine_bytes(to, first, last, source, place + (8 * first - from), minterm);
         combine_edge(
             to,
             8 * last,
@@ -51,6 +85,7 @@ fn combine_between(to: &mut [u8], from: usize, end: usize, source: &[u8], place:
             place + (8 * last - from),
             minterm,
         );
+        combine_bytes(to, first, last, source, place + (8 * first - from), minterm);
     } else {
         combine_edge(to, from, end, source, place, minterm);
     }

@@ -6,10 +6,6 @@ ghost use Rattle.lw_kernels.specs.Kernel.{is_between};
 
 use crate::bytes::shifted;
 
-// From this many bytes on each shift has a loop of its own: vectors of bytes are shifted fast only by a constant, but
-// for fewer bytes the way to the loop is dearer.
-const MANY: usize = 4;
-
 // Gives the bytes from `first` on, before `last`, the bits of the source from `place` on.
 #[inline(always)]
 pub(crate) fn copy_bytes(to: &mut [u8], first: usize, last: usize, source: &[u8], place: usize)
@@ -25,10 +21,12 @@ pub(crate) fn copy_bytes(to: &mut [u8], first: usize, last: usize, source: &[u8]
     let shift = place % 8;
     if shift == 0 {
         copy_unshifted(to, first, last, source, start);
-    } else if last - first < MANY {
-        copy_shifted(to, first, last, source, start, shift);
-    } else {
+    } else if last - first >= 4 {
         copy_many(to, first, last, source, start, shift);
+    } else if last - first >= 2 {
+        copy_ends(to, first, last, source, start, shift, 2);
+    } else if first < last {
+        copy_block(to, first, source, start, shift, 1);
     }
 }
 
@@ -45,16 +43,39 @@ fn copy_unshifted(to: &mut [u8], first: usize, last: usize, source: &[u8], start
         else row_bit to.old x) }
 {
     let count = last - first;
-    if count > 8 {
+    if count <= 16 {
+        copy_few(to, first, last, source, start);
+    } else if count <= 32 {
+        copy_ends(to, first, last, source, start, 0, 16);
+    } else if count <= 64 {
+        copy_ends(to, first, last, source, start, 0, 32);
+    } else if count <= 128 {
+        copy_ends(to, first, last, source, start, 0, 64);
+    } else {
         copy_whole(to, first, last, source, start);
+    }
+}
+
+// As `copy_unshifted`.
+#[inline(always)]
+fn copy_few(to: &mut [u8], first: usize, last: usize, source: &[u8], start: usize)
+    requires ordered { first ≤ last }
+    requires few { last - first ≤ 16 }
+    requires inside { last ≤ length to.old }
+    requires source_inside { start + (last - first) ≤ length source.now }
+    ensures { (x : ℕ) → row_bit to.new x ≡ (if is_between (8 * first) (8 * last) x
+        then row_bit source.now (8 * start + (x - 8 * first))
+        else row_bit to.old x) }
+{
+    let count = last - first;
+    if count >= 8 {
+        copy_ends(to, first, last, source, start, 0, 8);
     } else if count >= 4 {
-        copy_whole(to, first, first + 4, source, start);
-        copy_whole(to, last - 4, last, source, start + count - 4);
+        copy_ends(to, first, last, source, start, 0, 4);
     } else if count >= 2 {
-        copy_whole(to, first, first + 2, source, start);
-        copy_whole(to, last - 2, last, source, start + count - 2);
+        copy_ends(to, first, last, source, start, 0, 2);
     } else if count == 1 {
-        copy_whole(to, first, first + 1, source, start);
+        copy_block(to, first, source, start, 0, 1);
     }
 }
 
@@ -96,6 +117,24 @@ pub(crate) fn copy_shifted(
     }
 }
 
+// From bit `shift` of byte `start` of the source on, where that may be the first of its byte.
+#[inline(always)]
+fn copy_part(to: &mut [u8], first: usize, last: usize, source: &[u8], start: usize, shift: usize)
+    requires low { shift < 8 }
+    requires ordered { first ≤ last }
+    requires inside { last ≤ length to.old }
+    requires source_inside { 8 * start + shift + 8 * (last - first) ≤ 8 * length source.now }
+    ensures { (x : ℕ) → row_bit to.new x ≡ (if is_between (8 * first) (8 * last) x
+        then row_bit source.now (8 * start + shift + (x - 8 * first))
+        else row_bit to.old x) }
+{
+    if shift == 0 {
+        copy_whole(to, first, last, source, start);
+    } else {
+        copy_shifted(to, first, last, source, start, shift);
+    }
+}
+
 // As `copy_shifted`, by blocks of a fixed number of bytes at the ends, some of whose bytes may be written twice.
 #[inline(always)]
 fn copy_blocks(to: &mut [u8], first: usize, last: usize, source: &[u8], start: usize, shift: usize)
@@ -131,7 +170,7 @@ fn copy_blocks(to: &mut [u8], first: usize, last: usize, source: &[u8], start: u
     }
 }
 
-// As `copy_shifted`: two blocks of as many bytes.
+// As `copy_part`: two blocks of as many bytes.
 #[inline(always)]
 fn copy_ends(
     to: &mut [u8],
@@ -142,12 +181,11 @@ fn copy_ends(
     shift: usize,
     size: usize,
 )
-    requires some { 0 < shift }
     requires low { shift < 8 }
     requires ordered { first ≤ last }
     requires inside { last ≤ length to.old }
-    requires source_inside { start + (last - first) < length source.now }
-    requires few { size ≤ 32 }
+    requires source_inside { 8 * start + shift + 8 * (last - first) ≤ 8 * length source.now }
+    requires few { size ≤ 64 }
     requires one_inside { size ≤ last - first }
     requires two_cover { last - first ≤ 2 * size }
     ensures { (x : ℕ) → row_bit to.new x ≡ (if is_between (8 * first) (8 * last) x
@@ -169,17 +207,16 @@ fn copy_ends(
 // lie apart, still makes vectors of them.
 #[inline(always)]
 fn copy_block(to: &mut [u8], first: usize, source: &[u8], start: usize, shift: usize, size: usize)
-    requires some { 0 < shift }
     requires low { shift < 8 }
-    requires few { size ≤ 32 }
+    requires few { size ≤ 64 }
     requires inside { first + size ≤ length to.old }
-    requires source_inside { start + size < length source.now }
+    requires source_inside { 8 * start + shift + 8 * size ≤ 8 * length source.now }
     ensures { (x : ℕ) → row_bit to.new x ≡ (if is_between (8 * first) (8 * (first + size)) x
         then row_bit source.now (8 * start + shift + (x - 8 * first))
         else row_bit to.old x) }
 {
-    let mut block = [0; 32];
-    copy_shifted(&mut block, 0, size, source, start, shift);
+    let mut block = [0; 64];
+    copy_part(&mut block, 0, size, source, start, shift);
     put_block(to, first, &block, size);
 }
 
@@ -197,7 +234,7 @@ pub(crate) fn put_block(to: &mut [u8], first: usize, block: &[u8], size: usize)
     }
 }
 
-// As `copy_shifted`.
+// As `copy_shifted`. Each shift has a loop of its own: vectors of bytes are shifted fast only by a constant.
 fn copy_many(to: &mut [u8], first: usize, last: usize, source: &[u8], start: usize, shift: usize)
     requires some { 0 < shift }
     requires low { shift < 8 }
