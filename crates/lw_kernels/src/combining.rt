@@ -5,7 +5,7 @@ ghost use Rattle.lw_planes.specs.Minterm.{minterm_bit};
 ghost use Rattle.lw_kernels.specs.Kernel.{blit_bit, is_between, is_named, with_named};
 
 use crate::bytes::{blitted_bits, eight_bits, minterm_byte, replaced, shifted};
-use crate::copying::copy_bytes;
+use crate::copying::{copy_bytes, copy_unshifted};
 
 /// Blits `count` bits of one row onto those of another: each bit from `to_bit` on becomes the minterm's
 /// value for its source bit B, which stands as far from `source_bit` in the source, and its old value
@@ -38,11 +38,28 @@ fn combine_between(to: &mut [u8], from: usize, end: usize, source: &[u8], place:
         then blit_bit minterm (row_bit source.now) place (row_bit to.old) from x
         else row_bit to.old x) }
 {
-    if minterm & 0xf0 == 0xc0 {
-        combine_parts(to, from, end, source, place, 0xc0);
-    } else {
+    if minterm & 0xf0 != 0xc0 {
         combine_others(to, from, end, source, place, minterm);
+    } else if from % 8 == 0 && end % 8 == 0 && place % 8 == 0 {
+        copy_unshifted(to, from / 8, end / 8, source, place / 8);
+    } else {
+        copy_across(to, from, end, source, place);
     }
+}
+
+// As `combine_between`, for the minterm of a copy.
+#[inline(never)]
+fn copy_across(to: &mut [u8], from: usize, end: usize, source: &[u8], place: usize)
+    requires near { end < 2 ^ 40 }
+    requires near_source { place < 2 ^ 40 }
+    requires ordered { from ≤ end }
+    requires inside { end ≤ 8 * length to.old }
+    requires source_inside { place + (end - from) ≤ 8 * length source.now }
+    ensures { (x : ℕ) → row_bit to.new x ≡ (if is_between from end x
+        then row_bit source.now (place + (x - from))
+        else row_bit to.old x) }
+{
+    combine_parts(to, from, end, source, place, 0xc0);
 }
 
 // As `combine_between`.

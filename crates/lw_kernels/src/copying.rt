@@ -32,8 +32,7 @@ pub(crate) fn copy_bytes(to: &mut [u8], first: usize, last: usize, source: &[u8]
 
 // From byte `start` of the source on. The compiler makes one store of a fixed number of bytes, which may be written
 // twice, and a call of `memcpy` of any other.
-#[inline(always)]
-fn copy_unshifted(to: &mut [u8], first: usize, last: usize, source: &[u8], start: usize)
+pub(crate) fn copy_unshifted(to: &mut [u8], first: usize, last: usize, source: &[u8], start: usize)
     requires near { start < 2 ^ 60 }
     requires ordered { first ≤ last }
     requires inside { last ≤ length to.old }
@@ -92,6 +91,21 @@ pub(crate) fn copy_whole(to: &mut [u8], first: usize, last: usize, source: &[u8]
     to[first..last].copy_from_slice(&source[start..start + (last - first)]);
 }
 
+// As many bytes from byte `start` of the source on, byte after byte. The compiler makes one store of a fixed number of
+// bytes of a block.
+#[inline(always)]
+fn copy_plain(to: &mut [u8], first: usize, source: &[u8], start: usize, size: usize)
+    requires inside { first + size ≤ length to.old }
+    requires source_inside { start + size ≤ length source.now }
+    ensures { (x : ℕ) → row_bit to.new x ≡ (if is_between (8 * first) (8 * (first + size)) x
+        then row_bit source.now (8 * start + (x - 8 * first))
+        else row_bit to.old x) }
+{
+    for index in 0..size {
+        to[first + index] = source[start + index];
+    }
+}
+
 // From bit `shift` of byte `start` of the source on.
 #[inline(always)]
 pub(crate) fn copy_shifted(
@@ -129,7 +143,7 @@ fn copy_part(to: &mut [u8], first: usize, last: usize, source: &[u8], start: usi
         else row_bit to.old x) }
 {
     if shift == 0 {
-        copy_whole(to, first, last, source, start);
+        copy_plain(to, first, source, start, last - first);
     } else {
         copy_shifted(to, first, last, source, start, shift);
     }
@@ -220,7 +234,7 @@ fn copy_block(to: &mut [u8], first: usize, source: &[u8], start: usize, shift: u
     put_block(to, first, &block, size);
 }
 
-// The first bytes of a block, put into a row from byte `first` on. The compiler makes one store of a fixed number of bytes.
+// The first bytes of a block, put into a row from byte `first` on.
 #[inline(always)]
 pub(crate) fn put_block(to: &mut [u8], first: usize, block: &[u8], size: usize)
     requires inside { first + size ≤ length to.old }
@@ -229,9 +243,7 @@ pub(crate) fn put_block(to: &mut [u8], first: usize, block: &[u8], size: usize)
         then row_bit block.now (x - 8 * first)
         else row_bit to.old x) }
 {
-    for index in 0..size {
-        to[first + index] = block[index];
-    }
+    copy_plain(to, first, block, 0, size);
 }
 
 // As `copy_shifted`. Each shift has a loop of its own: vectors of bytes are shifted fast only by a constant.

@@ -36,7 +36,9 @@ fn fill_between(row: &mut [u8], from: usize, end: usize, bit: bool)
 {
     let first = from.div_ceil(8);
     let last = end / 8;
-    if first <= last {
+    if from % 8 == 0 && end % 8 == 0 {
+        fill_whole(row, from / 8, last, bit);
+    } else if first <= last {
         fill_edge(row, from, 8 * first, bit);
         fill_edge(row, 8 * last, end, bit);
         fill_whole(row, first, last, bit);

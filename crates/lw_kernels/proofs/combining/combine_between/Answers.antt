@@ -1,18 +1,31 @@
-use Rattle.std.proofs.Common.{ℕ, ◌+◌, ◌-◌, ◌∙◌, refl, sym}
+use Rattle.std.proofs.Common.{◌≡◌, ℕ, ◌+◌, ◌-◌, ◌*◌, ◌/◌, ◌∙◌, ap, sym, arith}
 use Rattle.lw_planes.specs.Row.{row_bit}
 use Rattle.lw_planes.proofs.RowLaws.{row_bit_lt}
 use Rattle.lw_kernels.specs.Kernel.{blit_bit}
 use Rattle.lw_kernels.proofs.ByteLaws.{minterm_copies}
-use Rattle.lw_kernels.proofs.RowWriting.{done_same}
+use Rattle.lw_kernels.proofs.RowWriting.{done_same, done_starts, done_ends}
 use Rattle.lw_kernels.proofs.combining.combine_between.Goals as goal
 
-pub returns-then-minterm-eq192 : goal.returns-then-minterm-eq192
-returns-then-minterm-eq192 c =
+pub returns-then-place-eq0 : goal.returns-then-place-eq0
+returns-then-place-eq0 c =
     let source = c.args.source.now in
     let old : ℕ → ℕ = row_bit c.args.to.now in
-    let blit : ℕ → ℕ → ℕ = λ m x. blit_bit m (row_bit source) c.args.place old c.args.from x in
-    done_same c.combine_parts.new.to (blit 192) (blit c.args.minterm) old c.args.from c.args.end c.combine_parts.ensures
+    let from : ℕ = c.args.from in
+    let new : ℕ → ℕ = blit_bit c.args.minterm (row_bit source) c.args.place old from in
+    let begin : ℕ = 8 * (from / 8) in
+    let stop : ℕ = 8 * (c.args.end / 8) in
+    done_starts c.copy_unshifted.new.to new old begin from c.args.end (omega arith)
+    (done_ends c.copy_unshifted.new.to new old begin stop c.args.end (omega arith)
+    (done_same c.copy_unshifted.new.to (λ x. row_bit source (8 * (c.args.place / 8) + (x - begin))) new old begin stop c.copy_unshifted.ensures
     (λ x p q.
-    let b = row_bit source (c.args.place + (x - c.args.from)) in
-    let small = row_bit_lt source (c.args.place + (x - c.args.from)) in
-    minterm_copies 192 b (old x) small refl ∙ sym (minterm_copies c.args.minterm b (old x) small c.if-minterm-eq192.true))
+    let at : ℕ = c.args.place + (x - from) in
+    let same : 8 * (c.args.place / 8) + (x - begin) ≡ at = omega arith in
+    ap (row_bit source) same ∙ sym (minterm_copies c.args.minterm (row_bit source at) (old x) (row_bit_lt source at) (omega arith)))))
+
+pub returns-else-from-eq0 : goal.returns-else-from-eq0
+returns-else-from-eq0 c =
+    let source = c.args.source.now in
+    let old : ℕ → ℕ = row_bit c.args.to.now in
+    let at : ℕ → ℕ = λ x. c.args.place + (x - c.args.from) in
+    done_same c.copy_across.new.to (λ x. row_bit source (at x)) (blit_bit c.args.minterm (row_bit source) c.args.place old c.args.from) old c.args.from c.args.end c.copy_across.ensures
+    (λ x p q. sym (minterm_copies c.args.minterm (row_bit source (at x)) (old x) (row_bit_lt source (at x)) (omega arith)))

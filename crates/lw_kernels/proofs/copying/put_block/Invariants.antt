@@ -1,7 +1,0 @@
-use Rattle.std.proofs.Common.{◌+◌, ◌-◌, ◌*◌}
-use Rattle.lw_planes.specs.Row.{row_bit}
-use Rattle.lw_kernels.proofs.RowWriting.{DoneBefore}
-use Rattle.lw_kernels.proofs.copying.put_block.Given as goal
-
-abbrev pub invariant-loop-index : goal.invariant-loop-index
-invariant-loop-index l = DoneBefore l.to (λ x. row_bit l.block (x - 8 * l.first)) (λ x. row_bit l.initial.to x) (8 * l.first) (8 * (l.first + l.size)) (l.first + l.index)
