@@ -94,7 +94,7 @@ pub(crate) fn copy_whole(to: &mut [u8], first: usize, last: usize, source: &[u8]
 // As many bytes from byte `start` of the source on, byte after byte. The compiler makes one store of a fixed number of
 // bytes of a block.
 #[inline(always)]
-fn copy_plain(to: &mut [u8], first: usize, source: &[u8], start: usize, size: usize)
+pub(crate) fn copy_plain(to: &mut [u8], first: usize, source: &[u8], start: usize, size: usize)
     requires inside { first + size ≤ length to.old }
     requires source_inside { start + size ≤ length source.now }
     ensures { (x : ℕ) → row_bit to.new x ≡ (if is_between (8 * first) (8 * (first + size)) x

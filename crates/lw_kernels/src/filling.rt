@@ -3,7 +3,7 @@ ghost use Rattle.lw_planes.specs.Row.{bit_of, row_bit, row_bits};
 ghost use Rattle.lw_kernels.specs.Kernel.{is_between, is_named, with_named};
 
 use crate::bytes::{replaced, spread};
-use crate::copying::{copy_whole, put_block};
+use crate::copying::{copy_plain, put_block};
 
 /// Gives the `count` bits of the row from bit `from` on this value. All of them are in the row, and
 /// each other bit stays as it was.
@@ -136,11 +136,17 @@ fn flip_between(row: &mut [u8], from: usize, end: usize)
 {
     let first = from.div_ceil(8);
     let last = end / 8;
-    if first <= last {
-        flip_edge(row, from, 8 * first);
+    if from % 8 == 0 && end % 8 == 0 {
+        flip_whole(row, from / 8, last);
+    } else if first <= last {
+        if from % 8 > 0 {
+            flip_edge(row, from, 8 * (from / 8) + 8);
+        }
         flip_whole(row, first, last);
-        flip_edge(row, 8 * last, end);
-    } else {
+        if end % 8 > 0 {
+            flip_edge(row, 8 * last, end);
+        }
+    } else if from < end {
         flip_edge(row, from, end);
     }
 }
@@ -148,20 +154,19 @@ fn flip_between(row: &mut [u8], from: usize, end: usize)
 // Bits of a single byte.
 fn flip_edge(row: &mut [u8], from: usize, end: usize)
     requires near { end < 2 ^ 41 }
-    requires ordered { from ≤ end }
+    requires some { from < end }
     requires inside { end ≤ 8 * length row.old }
     requires one_byte { end ≤ 8 * (from / 8) + 8 }
     ensures { (x : ℕ) → row_bit row.new x ≡ (if is_between from end x
         then 1 - row_bit row.old x
         else row_bit row.old x) }
 {
-    if from < end {
-        let index = from / 8;
-        row[index] = replaced(row[index], !row[index], from, end, index);
-    }
+    let index = from / 8;
+    row[index] = replaced(row[index], !row[index], from, end, index);
 }
 
 // The bytes from `first` on, before `last`.
+#[inline(always)]
 fn flip_whole(row: &mut [u8], first: usize, last: usize)
     requires ordered { first ≤ last }
     requires inside { last ≤ length row.old }
@@ -170,14 +175,38 @@ fn flip_whole(row: &mut [u8], first: usize, last: usize)
         else row_bit row.old x) }
 {
     let count = last - first;
-    if count >= 16 {
+    if count > 128 {
         flip_ends(row, first, last, count / 16 * 16, 16);
     } else if count >= 8 {
-        flip_ends(row, first, last, 8, 8);
+        flip_many(row, first, last);
     } else if count >= 4 {
         flip_ends(row, first, last, 4, 4);
+    } else if count >= 2 {
+        flip_ends(row, first, last, 2, 2);
+    } else if count == 1 {
+        flip_bytes(row, first, first + 1);
+    }
+}
+
+// As `flip_whole`.
+#[inline(always)]
+fn flip_many(row: &mut [u8], first: usize, last: usize)
+    requires many { first + 8 ≤ last }
+    requires few { last ≤ first + 128 }
+    requires inside { last ≤ length row.old }
+    ensures { (x : ℕ) → row_bit row.new x ≡ (if is_between (8 * first) (8 * last) x
+        then 1 - row_bit row.old x
+        else row_bit row.old x) }
+{
+    let count = last - first;
+    if count <= 16 {
+        flip_ends(row, first, last, 8, 8);
+    } else if count <= 32 {
+        flip_ends(row, first, last, 16, 16);
+    } else if count <= 64 {
+        flip_ends(row, first, last, 32, 32);
     } else {
-        flip_bytes(row, first, last);
+        flip_ends(row, first, last, 64, 64);
     }
 }
 
@@ -185,7 +214,7 @@ fn flip_whole(row: &mut [u8], first: usize, last: usize)
 // are, so that bytes of both are inverted once.
 #[inline(always)]
 fn flip_ends(row: &mut [u8], first: usize, last: usize, wide: usize, size: usize)
-    requires few { size ≤ 16 }
+    requires few { size ≤ 64 }
     requires one_inside { first + size ≤ last }
     requires other_inside { first + wide ≤ last }
     requires cover { last ≤ first + wide + size }
@@ -194,8 +223,8 @@ fn flip_ends(row: &mut [u8], first: usize, last: usize, wide: usize, size: usize
         then 1 - row_bit row.old x
         else row_bit row.old x) }
 {
-    let mut tail = [0; 16];
-    copy_whole(&mut tail, 0, size, row, last - size);
+    let mut tail = [0; 64];
+    copy_plain(&mut tail, 0, row, last - size, size);
     flip_bytes(&mut tail, 0, size);
     flip_bytes(row, first, first + wide);
     put_block(row, last - size, &tail, size);

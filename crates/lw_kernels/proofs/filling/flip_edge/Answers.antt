@@ -3,11 +3,11 @@ use Rattle.std.specs.Int.{bit_at, w8}
 use Rattle.std.proofs.lemmas.Nat.Bits.{bit_at_not}
 use Rattle.lw_planes.specs.Row.{row_bit}
 use Rattle.lw_kernels.specs.Kernel.{is_between}
-use Rattle.lw_kernels.proofs.RowWriting.{byte_old, byte_bit, one_byte, done_none}
+use Rattle.lw_kernels.proofs.RowWriting.{byte_old, byte_bit, one_byte}
 use Rattle.lw_kernels.proofs.filling.flip_edge.Goals as goal
 
-pub returns-then-from-end : goal.returns-then-from-end
-returns-then-from-end c =
+pub returns : goal.returns
+returns c =
     let new : ℕ → ℕ = λ x. 1 - row_bit c.args.row.now x in
     let index : ℕ = c.args.from / 8 in
     one_byte c.args.row.now new c.args.from c.args.end index c.replaced.result (omega arith) (omega arith) (omega arith)
@@ -19,6 +19,3 @@ returns-then-from-end c =
     (c.replaced.ensures j low)
     (λ _. bit_at_not w8 byte (7 - j) small (omega arith) ∙ ap (λ n. 1 - n) was)
     was)
-
-pub returns-else-from-end : goal.returns-else-from-end
-returns-else-from-end c = done_none c.args.row.now (λ x. 1 - row_bit c.args.row.now x) c.args.from c.args.end (omega arith)
