@@ -93,17 +93,15 @@ fn combine_parts(to: &mut [u8], from: usize, end: usize, source: &[u8], place: u
     let first = from.div_ceil(8);
     let last = end / 8;
     if first <= last {
-        combine_edge(to, from, 8 * first, source, place, minterm);
-        combine_edge(
-            to,
-            8 * last,
-            end,
-            source,
-            place + (8 * last - from),
-            minterm,
-        );
+        if from % 8 > 0 {
+            combine_edge(to, from, 8 * (from / 8) + 8, source, place, minterm);
+        }
+        if end % 8 > 0 {
+            let rest = place + (8 * last - from);
+            combine_edge(to, 8 * last, end, source, rest, minterm);
+        }
         combine_bytes(to, first, last, source, place + (8 * first - from), minterm);
-    } else {
+    } else if from < end {
         combine_edge(to, from, end, source, place, minterm);
     }
 }
@@ -112,17 +110,15 @@ fn combine_parts(to: &mut [u8], from: usize, end: usize, source: &[u8], place: u
 fn combine_edge(to: &mut [u8], from: usize, end: usize, source: &[u8], place: usize, minterm: u8)
     requires near { end < 2 ^ 41 }
     requires near_source { place < 2 ^ 42 }
-    requires ordered { from ≤ end }
+    requires some { from < end }
     requires inside { end ≤ 8 * length to.old }
     requires one_byte { end ≤ 8 * (from / 8) + 8 }
     ensures { (x : ℕ) → row_bit to.new x ≡ (if is_between from end x
         then blit_bit minterm (row_bit source.now) place (row_bit to.old) from x
         else row_bit to.old x) }
 {
-    if from < end {
-        let index = from / 8;
-        to[index] = blit_byte(to[index], from, end, source, place, minterm);
-    }
+    let index = from / 8;
+    to[index] = blit_byte(to[index], from, end, source, place, minterm);
 }
 
 // The byte of a destination that has bit `from`, once its bits from that on, before bit `end`, have the minterm's

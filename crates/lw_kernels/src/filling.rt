@@ -39,10 +39,14 @@ fn fill_between(row: &mut [u8], from: usize, end: usize, bit: bool)
     if from % 8 == 0 && end % 8 == 0 {
         fill_whole(row, from / 8, last, bit);
     } else if first <= last {
-        fill_edge(row, from, 8 * first, bit);
-        fill_edge(row, 8 * last, end, bit);
+        if from % 8 > 0 {
+            fill_edge(row, from, 8 * (from / 8) + 8, bit);
+        }
+        if end % 8 > 0 {
+            fill_edge(row, 8 * last, end, bit);
+        }
         fill_whole(row, first, last, bit);
-    } else {
+    } else if from < end {
         fill_edge(row, from, end, bit);
     }
 }
@@ -50,15 +54,13 @@ fn fill_between(row: &mut [u8], from: usize, end: usize, bit: bool)
 // Bits of a single byte.
 fn fill_edge(row: &mut [u8], from: usize, end: usize, bit: bool)
     requires near { end < 2 ^ 41 }
-    requires ordered { from ≤ end }
+    requires some { from < end }
     requires inside { end ≤ 8 * length row.old }
     requires one_byte { end ≤ 8 * (from / 8) + 8 }
     ensures { (x : ℕ) → row_bit row.new x ≡ (if is_between from end x then bit_of bit else row_bit row.old x) }
 {
-    if from < end {
-        let index = from / 8;
-        row[index] = replaced(row[index], spread(bit), from, end, index);
-    }
+    let index = from / 8;
+    row[index] = replaced(row[index], spread(bit), from, end, index);
 }
 
 // The bytes from `first` on, before `last`. The compiler makes one store of a fixed number of bytes, which may be

@@ -2,11 +2,11 @@ use Rattle.std.proofs.Common.{ℕ, ◌+◌, ◌-◌, ◌*◌, ◌/◌, get_or, r
 use Rattle.std.specs.Int.{bit_at}
 use Rattle.lw_planes.specs.Row.{bit_of, row_bit}
 use Rattle.lw_kernels.specs.Kernel.{is_between}
-use Rattle.lw_kernels.proofs.RowWriting.{byte_old, byte_bit, one_byte, done_none}
+use Rattle.lw_kernels.proofs.RowWriting.{byte_old, byte_bit, one_byte}
 use Rattle.lw_kernels.proofs.filling.fill_edge.Goals as goal
 
-pub returns-then-from-end : goal.returns-then-from-end
-returns-then-from-end c =
+pub returns : goal.returns
+returns c =
     let new : ℕ → ℕ = λ _. bit_of c.args.bit in
     let index : ℕ = c.args.from / 8 in
     one_byte c.args.row.now new c.args.from c.args.end index c.replaced.result (omega arith) (omega arith) (omega arith)
@@ -14,6 +14,3 @@ returns-then-from-end c =
     (c.replaced.ensures j low)
     (λ _. c.spread.ensures (7 - j) (omega arith))
     (byte_old c.args.row.now index (get_or c.args.row.now index 0) j low refl))
-
-pub returns-else-from-end : goal.returns-else-from-end
-returns-else-from-end c = done_none c.args.row.now (λ _. bit_of c.args.bit) c.args.from c.args.end (omega arith)
