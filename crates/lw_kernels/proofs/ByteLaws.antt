@@ -189,3 +189,9 @@ pub minterm_copies : (minterm b c : ℕ) → b < 2 → bit_and minterm 240 ≡ 1
 minterm_copies minterm b c small is =
     chosen_copies (bit_at minterm 7) (bit_at minterm 6) (bit_at minterm 5) (bit_at minterm 4) b c small
     (tested_bit minterm 240 192 7 is refl) (tested_bit minterm 240 192 6 is refl) (tested_bit minterm 240 192 5 is refl) (tested_bit minterm 240 192 4 is refl)
+
+-- the lower four bits of a minterm are not read
+pub minterm_high : (m n b c : ℕ) → m / 16 ≡ n / 16 → minterm_bit m b c ≡ minterm_bit n b c
+minterm_high m n b c same =
+    let bit : (k : ℕ) → bit_at m (4 + k) ≡ bit_at n (4 + k) = λ k. sym (bit_at_shr m 4 k) ∙ (ap (λ p. bit_at p k) same ∙ bit_at_shr n 4 k) in
+    rw (bit 0, bit 1, bit 2, bit 3) refl

@@ -164,7 +164,7 @@ fn combine_bytes(to: &mut [u8], first: usize, last: usize, source: &[u8], place:
     }
 }
 
-// From byte `start` of the source on.
+// From byte `start` of the source on. Each minterm has a loop of its own, in which no bit of it is looked at.
 pub(crate) fn combine_whole(
     to: &mut [u8],
     first: usize,
@@ -179,6 +179,37 @@ pub(crate) fn combine_whole(
     requires source_inside { start + (last - first) ≤ length source.now }
     ensures { (x : ℕ) → row_bit to.new x ≡ (if is_between (8 * first) (8 * last) x
         then blit_bit minterm (row_bit source.now) (8 * start) (row_bit to.old) (8 * first) x
+        else row_bit to.old x) }
+{
+    match minterm >> 4 {
+        0 => combine_by(to, first, last, source, start, 0x00),
+        1 => combine_by(to, first, last, source, start, 0x10),
+        2 => combine_by(to, first, last, source, start, 0x20),
+        3 => combine_by(to, first, last, source, start, 0x30),
+        4 => combine_by(to, first, last, source, start, 0x40),
+        5 => combine_by(to, first, last, source, start, 0x50),
+        6 => combine_by(to, first, last, source, start, 0x60),
+        7 => combine_by(to, first, last, source, start, 0x70),
+        8 => combine_by(to, first, last, source, start, 0x80),
+        9 => combine_by(to, first, last, source, start, 0x90),
+        10 => combine_by(to, first, last, source, start, 0xa0),
+        11 => combine_by(to, first, last, source, start, 0xb0),
+        12 => combine_by(to, first, last, source, start, 0xc0),
+        13 => combine_by(to, first, last, source, start, 0xd0),
+        14 => combine_by(to, first, last, source, start, 0xe0),
+        _ => combine_by(to, first, last, source, start, 0xf0),
+    }
+}
+
+// As `combine_whole`, for each minterm with the same upper four bits.
+#[inline(always)]
+fn combine_by(to: &mut [u8], first: usize, last: usize, source: &[u8], start: usize, minterm: u8)
+    requires near { start < 2 ^ 60 }
+    requires ordered { first ≤ last }
+    requires inside { last ≤ length to.old }
+    requires source_inside { start + (last - first) ≤ length source.now }
+    ensures { (m x : ℕ) → m / 16 ≡ minterm / 16 → row_bit to.new x ≡ (if is_between (8 * first) (8 * last) x
+        then blit_bit m (row_bit source.now) (8 * start) (row_bit to.old) (8 * first) x
         else row_bit to.old x) }
 {
     for index in first..last {

@@ -1,9 +1,10 @@
-use Rattle.std.proofs.Common.{◌≡◌, ℕ, ◌+◌, ◌-◌, ◌*◌, ◌<◌, ◌≤◌, length, get_or, ap, refl, ◌∙◌, arith}
+use Rattle.std.proofs.Common.{◌≡◌, ℕ, ◌+◌, ◌-◌, ◌*◌, ◌/◌, ◌<◌, ◌≤◌, length, get_or, ap, refl, sym, ◌∙◌, arith}
 use Rattle.std.specs.Int.{bit_at}
 use Rattle.lw_planes.specs.Row.{row_bit}
 use Rattle.lw_kernels.specs.Kernel.{blit_bit}
-use Rattle.lw_kernels.proofs.RowWriting.{before_none, before_more, before_all, before_old, byte_old, whole_byte, minterm_same}
-use Rattle.lw_kernels.proofs.combining.combine_whole.Goals as goal
+use Rattle.lw_kernels.proofs.ByteLaws.{minterm_high}
+use Rattle.lw_kernels.proofs.RowWriting.{before_none, before_more, before_all, before_old, byte_old, whole_byte, minterm_same, done_same}
+use Rattle.lw_kernels.proofs.combining.combine_by.Goals as goal
 
 pub loop-index-init : goal.loop-index-init
 loop-index-init c = before_none c.args.to.now (blit_bit c.args.minterm (row_bit c.args.source.now) (8 * c.args.start) (row_bit c.args.to.now) (8 * c.args.first)) (8 * c.args.first) (8 * c.args.last) c.args.first (omega arith)
@@ -25,6 +26,12 @@ loop-index-preserved c =
     (c.minterm_byte.ensures (7 - j) (omega arith) ∙ minterm_same c.args.minterm _ _ _ _ bits was))
 
 pub returns : goal.returns
-returns c =
+returns c = λ m x same.
     let late : 8 * c.args.last ≤ 8 * c.loop-index.index = omega arith in
-    before_all c.loop-index.to (blit_bit c.args.minterm (row_bit c.args.source.now) (8 * c.args.start) (row_bit c.args.to.now) (8 * c.args.first)) (row_bit c.args.to.now) (8 * c.args.first) (8 * c.args.last) c.loop-index.index late c.loop-index.invariant
+    let source : ℕ → ℕ = row_bit c.args.source.now in
+    let old : ℕ → ℕ = row_bit c.args.to.now in
+    let from : ℕ = 8 * c.args.first in
+    let new : ℕ → ℕ → ℕ = λ n. blit_bit n source (8 * c.args.start) old from in
+    done_same c.loop-index.to (new c.args.minterm) (new m) old from (8 * c.args.last)
+    (before_all c.loop-index.to (new c.args.minterm) old from (8 * c.args.last) c.loop-index.index late c.loop-index.invariant)
+    (λ y p q. minterm_high c.args.minterm m (source (8 * c.args.start + (y - from))) (old y) (sym same)) x

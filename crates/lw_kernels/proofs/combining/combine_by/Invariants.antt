@@ -2,7 +2,7 @@ use Rattle.std.proofs.Common.{◌*◌}
 use Rattle.lw_planes.specs.Row.{row_bit}
 use Rattle.lw_kernels.specs.Kernel.{blit_bit}
 use Rattle.lw_kernels.proofs.RowWriting.{DoneBefore}
-use Rattle.lw_kernels.proofs.combining.combine_whole.Given as goal
+use Rattle.lw_kernels.proofs.combining.combine_by.Given as goal
 
 abbrev pub invariant-loop-index : goal.invariant-loop-index
 invariant-loop-index l = DoneBefore l.to (blit_bit l.minterm (row_bit l.source) (8 * l.start) (row_bit l.initial.to) (8 * l.first)) (row_bit l.initial.to) (8 * l.first) (8 * l.last) l.index
