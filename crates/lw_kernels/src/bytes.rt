@@ -82,6 +82,20 @@ pub(crate) fn shifted(left: u8, right: u8, shift: usize) -> u8
     (left << shift) | (right >> (8 - shift))
 }
 
+// The eight bits of a row from bit `shift` of byte `at` on, where all of them are in the row.
+#[inline(always)]
+pub(crate) fn byte_from(row: &[u8], at: usize, shift: usize) -> u8
+    requires low { shift < 8 }
+    requires inside { 8 * at + shift + 8 ≤ 8 * length row.now }
+    ensures { (j : ℕ) → j < 8 → bit_at result (7 - j) ≡ row_bit row.now (8 * at + shift + j) }
+{
+    if shift == 0 {
+        row[at]
+    } else {
+        shifted(row[at], row[at + 1], shift)
+    }
+}
+
 // The minterm's value for each source bit and old bit of two bytes, where the minterm may well be the one of a copy.
 pub(crate) fn blitted_bits(minterm: u8, source: u8, old: u8) -> u8
     ensures { (i : ℕ) → i < 8 → bit_at result i ≡ minterm_bit minterm (bit_at source i) (bit_at old i) }
@@ -99,7 +113,15 @@ pub(crate) fn minterm_byte(minterm: u8, source: u8, old: u8) -> u8
 {
     picked(
         source,
-        picked(old, spread((minterm >> 7) & 1 == 1), spread((minterm >> 6) & 1 == 1)),
-        picked(old, spread((minterm >> 5) & 1 == 1), spread((minterm >> 4) & 1 == 1)),
+        picked(
+            old,
+            spread((minterm >> 7) & 1 == 1),
+            spread((minterm >> 6) & 1 == 1),
+        ),
+        picked(
+            old,
+            spread((minterm >> 5) & 1 == 1),
+            spread((minterm >> 4) & 1 == 1),
+        ),
     )
 }

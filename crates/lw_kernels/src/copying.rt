@@ -4,7 +4,7 @@ ghost use Rattle.std.specs.Prelude.{◌≡◌, ℕ, ◌+◌, ◌-◌, ◌*◌, �
 ghost use Rattle.lw_planes.specs.Row.{row_bit};
 ghost use Rattle.lw_kernels.specs.Kernel.{is_between};
 
-use crate::bytes::shifted;
+use crate::bytes::byte_from;
 
 // Gives the bytes from `first` on, before `last`, the bits of the source from `place` on.
 #[inline(always)]
@@ -116,24 +116,6 @@ pub(crate) fn copy_shifted(
     start: usize,
     shift: usize,
 )
-    requires some { 0 < shift }
-    requires low { shift < 8 }
-    requires ordered { first ≤ last }
-    requires inside { last ≤ length to.old }
-    requires source_inside { start + (last - first) < length source.now }
-    ensures { (x : ℕ) → row_bit to.new x ≡ (if is_between (8 * first) (8 * last) x
-        then row_bit source.now (8 * start + shift + (x - 8 * first))
-        else row_bit to.old x) }
-{
-    for index in first..last {
-        let at = start + (index - first);
-        to[index] = shifted(source[at], source[at + 1], shift);
-    }
-}
-
-// From bit `shift` of byte `start` of the source on, where that may be the first of its byte.
-#[inline(always)]
-fn copy_part(to: &mut [u8], first: usize, last: usize, source: &[u8], start: usize, shift: usize)
     requires low { shift < 8 }
     requires ordered { first ≤ last }
     requires inside { last ≤ length to.old }
@@ -142,10 +124,8 @@ fn copy_part(to: &mut [u8], first: usize, last: usize, source: &[u8], start: usi
         then row_bit source.now (8 * start + shift + (x - 8 * first))
         else row_bit to.old x) }
 {
-    if shift == 0 {
-        copy_plain(to, first, source, start, last - first);
-    } else {
-        copy_shifted(to, first, last, source, start, shift);
+    for index in first..last {
+        to[index] = byte_from(source, start + (index - first), shift);
     }
 }
 
@@ -184,7 +164,7 @@ fn copy_blocks(to: &mut [u8], first: usize, last: usize, source: &[u8], start: u
     }
 }
 
-// As `copy_part`: two blocks of as many bytes.
+// As `copy_shifted`: two blocks of as many bytes.
 #[inline(always)]
 fn copy_ends(
     to: &mut [u8],
@@ -230,7 +210,7 @@ fn copy_block(to: &mut [u8], first: usize, source: &[u8], start: usize, shift: u
         else row_bit to.old x) }
 {
     let mut block = [0; 64];
-    copy_part(&mut block, 0, size, source, start, shift);
+    copy_shifted(&mut block, 0, size, source, start, shift);
     put_block(to, first, &block, size);
 }
 

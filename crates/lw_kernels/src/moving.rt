@@ -20,15 +20,63 @@ pub(crate) fn move_bytes(row: &mut [u8], first: usize, last: usize, place: usize
     let start = place / 8;
     let shift = place % 8;
     if shift == 0 {
-        move_whole(row, first, last, start);
-    } else if last - first < 4 {
-        move_block(row, first, start, shift, last - first);
-    } else {
+        move_unshifted(row, first, last, start);
+    } else if last - first >= 4 {
         move_many(row, first, last, start, shift);
+    } else if last - first >= 2 {
+        move_ends(row, first, last, start, shift, 2);
+    } else if first < last {
+        move_block(row, first, start, shift, 1);
     }
 }
 
 // From byte `start` on.
+pub(crate) fn move_unshifted(row: &mut [u8], first: usize, last: usize, start: usize)
+    requires near { start < 2 ^ 50 }
+    requires ordered { first ≤ last }
+    requires inside { last ≤ length row.old }
+    requires source_inside { start + (last - first) ≤ length row.old }
+    ensures { (x : ℕ) → row_bit row.new x ≡ (if is_between (8 * first) (8 * last) x
+        then row_bit row.old (8 * start + (x - 8 * first))
+        else row_bit row.old x) }
+{
+    let count = last - first;
+    if count <= 16 {
+        move_few(row, first, last, start);
+    } else if count <= 32 {
+        move_ends(row, first, last, start, 0, 16);
+    } else if count <= 64 {
+        move_ends(row, first, last, start, 0, 32);
+    } else {
+        move_whole(row, first, last, start);
+    }
+}
+
+// As `move_unshifted`.
+#[inline(always)]
+fn move_few(row: &mut [u8], first: usize, last: usize, start: usize)
+    requires near { start < 2 ^ 50 }
+    requires ordered { first ≤ last }
+    requires few { last - first ≤ 16 }
+    requires inside { last ≤ length row.old }
+    requires source_inside { start + (last - first) ≤ length row.old }
+    ensures { (x : ℕ) → row_bit row.new x ≡ (if is_between (8 * first) (8 * last) x
+        then row_bit row.old (8 * start + (x - 8 * first))
+        else row_bit row.old x) }
+{
+    let count = last - first;
+    if count >= 8 {
+        move_ends(row, first, last, start, 0, 8);
+    } else if count >= 4 {
+        move_ends(row, first, last, start, 0, 4);
+    } else if count >= 2 {
+        move_ends(row, first, last, start, 0, 2);
+    } else if count == 1 {
+        move_block(row, first, start, 0, 1);
+    }
+}
+
+// As `move_unshifted`.
 fn move_whole(row: &mut [u8], first: usize, last: usize, start: usize)
     requires near { start < 2 ^ 60 }
     requires ordered { first ≤ last }
@@ -97,12 +145,11 @@ fn move_blocks(row: &mut [u8], first: usize, last: usize, start: usize, shift: u
 // Two blocks of as many bytes. Both are made beside the row before one of them is written.
 #[inline(always)]
 fn move_ends(row: &mut [u8], first: usize, last: usize, start: usize, shift: usize, size: usize)
-    requires some { 0 < shift }
     requires low { shift < 8 }
     requires near { start < 2 ^ 50 }
     requires ordered { first ≤ last }
     requires inside { last ≤ length row.old }
-    requires source_inside { start + (last - first) < length row.old }
+    requires source_inside { 8 * start + shift + 8 * (last - first) ≤ 8 * length row.old }
     requires few { size ≤ 32 }
     requires one_inside { size ≤ last - first }
     requires two_cover { last - first ≤ 2 * size }
@@ -126,11 +173,10 @@ fn move_ends(row: &mut [u8], first: usize, last: usize, start: usize, shift: usi
 // One block, made beside the row before it is written.
 #[inline(always)]
 fn move_block(row: &mut [u8], first: usize, start: usize, shift: usize, size: usize)
-    requires some { 0 < shift }
     requires low { shift < 8 }
     requires few { size ≤ 32 }
     requires inside { first + size ≤ length row.old }
-    requires source_inside { start + size < length row.old }
+    requires source_inside { 8 * start + shift + 8 * size ≤ 8 * length row.old }
     ensures { (x : ℕ) → row_bit row.new x ≡ (if is_between (8 * first) (8 * (first + size)) x
         then row_bit row.old (8 * start + shift + (x - 8 * first))
         else row_bit row.old x) }

@@ -7,7 +7,7 @@ ghost use Rattle.lw_kernels.specs.Kernel.{blit_bit, is_between, is_named, with_n
 use crate::bytes::{eight_bits, minterm_byte};
 use crate::combining::{blit_byte, combine_whole};
 use crate::copying::copy_bytes;
-use crate::moving::move_bytes;
+use crate::moving::{move_bytes, move_unshifted};
 
 // The bytes that a blit other than a copy fetches at a time.
 const PIECE: usize = 256;
@@ -35,9 +35,60 @@ pub fn combine_within(row: &mut [u8], to_bit: u32, source_bit: u32, count: u32, 
     within_between(row, from, end, source_bit as usize, minterm);
 }
 
+// As `combine_within`, from bit `from` and bit `place` of the row on. A copy is code of its own, as in `combine`.
+fn within_between(row: &mut [u8], from: usize, end: usize, place: usize, minterm: u8)
+    requires near { end < 2 ^ 40 }
+    requires near_source { place < 2 ^ 40 }
+    requires ordered { from ≤ end }
+    requires inside { end ≤ 8 * length row.old }
+    requires source_inside { place + (end - from) ≤ 8 * length row.old }
+    ensures { (x : ℕ) → row_bit row.new x ≡ (if is_between from end x
+        then blit_bit minterm (row_bit row.old) place (row_bit row.old) from x
+        else row_bit row.old x) }
+{
+    if minterm & 0xf0 != 0xc0 {
+        within_others(row, from, end, place, minterm);
+    } else if from % 8 == 0 && end % 8 == 0 && place % 8 == 0 {
+        move_unshifted(row, from / 8, end / 8, place / 8);
+    } else {
+        move_across(row, from, end, place);
+    }
+}
+
+// As `within_between`, for the minterm of a copy.
+#[inline(never)]
+fn move_across(row: &mut [u8], from: usize, end: usize, place: usize)
+    requires near { end < 2 ^ 40 }
+    requires near_source { place < 2 ^ 40 }
+    requires ordered { from ≤ end }
+    requires inside { end ≤ 8 * length row.old }
+    requires source_inside { place + (end - from) ≤ 8 * length row.old }
+    ensures { (x : ℕ) → row_bit row.new x ≡ (if is_between from end x
+        then row_bit row.old (place + (x - from))
+        else row_bit row.old x) }
+{
+    within_parts(row, from, end, place, 0xc0);
+}
+
+// As `within_between`.
+#[inline(never)]
+fn within_others(row: &mut [u8], from: usize, end: usize, place: usize, minterm: u8)
+    requires near { end < 2 ^ 40 }
+    requires near_source { place < 2 ^ 40 }
+    requires ordered { from ≤ end }
+    requires inside { end ≤ 8 * length row.old }
+    requires source_inside { place + (end - from) ≤ 8 * length row.old }
+    ensures { (x : ℕ) → row_bit row.new x ≡ (if is_between from end x
+        then blit_bit minterm (row_bit row.old) place (row_bit row.old) from x
+        else row_bit row.old x) }
+{
+    within_parts(row, from, end, place, minterm);
+}
+
 // The parts of the row are taken from the left where the sources stand to the right of their destinations, and from
 // the right elsewhere, so that no source is written before it is read.
-fn within_between(row: &mut [u8], from: usize, end: usize, place: usize, minterm: u8)
+#[inline(always)]
+fn within_parts(row: &mut [u8], from: usize, end: usize, place: usize, minterm: u8)
     requires near { end < 2 ^ 40 }
     requires near_source { place < 2 ^ 40 }
     requires ordered { from ≤ end }

@@ -23,12 +23,12 @@ returns-after-end-gt0 c =
     let later : ℕ → ℕ = blit_bit minterm source (at mid) was mid in
     let last : ℕ → ℕ = blit_bit minterm source (at stop) was stop in
     let left : Done one new old from mid = elim c.if-from-gt0.branch [
-    | then-from-gt0 w ↦ subst (λ r. Done r new old from mid) (sym w.to-is) (done_ends _ new old from (8 * (from / 8) + 8) mid (omega arith) w.combine_edge.ensures)
-    | else-from-gt0 w ↦ subst (λ r. Done r new old from mid) (sym w.to-is) (done_none c.args.to.now new from mid (omega arith))
+      | then-from-gt0 w ↦ subst (λ r. Done r new old from mid) (sym w.to-is) (done_ends _ new old from (8 * (from / 8) + 8) mid (omega arith) w.combine_edge.ensures)
+      | else-from-gt0 w ↦ subst (λ r. Done r new old from mid) (sym w.to-is) (done_none c.args.to.now new from mid (omega arith))
     ] in
     let right : Done two last was stop end = elim c.if-end-gt0.branch [
-    | then-end-gt0 w ↦ subst (λ r. Done r last was stop end) (sym w.to-is) w.combine_edge-then-end-gt0.ensures
-    | else-end-gt0 w ↦ subst (λ r. Done r last was stop end) (sym w.to-is) (done_none one last stop end (omega arith))
+      | then-end-gt0 w ↦ subst (λ r. Done r last was stop end) (sym w.to-is) w.combine_edge-then-end-gt0.ensures
+      | else-end-gt0 w ↦ subst (λ r. Done r last was stop end) (sym w.to-is) (done_none one last stop end (omega arith))
     ] in
     let rest : Done three later was mid end =
     join_left two three later last (blit_bit minterm source (at mid) (row_bit two) mid) was mid stop end (omega arith) (omega arith) right c.combine_bytes.ensures

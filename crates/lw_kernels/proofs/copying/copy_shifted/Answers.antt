@@ -1,7 +1,6 @@
 use Rattle.std.proofs.Common.{◌≡◌, ℕ, ◌+◌, ◌-◌, ◌*◌, ◌<◌, ◌≤◌, length, get_or, ap, refl, ◌∙◌, arith}
 use Rattle.std.specs.Int.{bit_at}
 use Rattle.lw_planes.specs.Row.{row_bit}
-use Rattle.lw_kernels.proofs.ByteLaws.{shifted_row}
 use Rattle.lw_kernels.proofs.RowWriting.{before_none, before_more, before_all, whole_byte}
 use Rattle.lw_kernels.proofs.copying.copy_shifted.Goals as goal
 
@@ -16,11 +15,11 @@ loop-index-preserved c =
     let index : ℕ = c.loop-index.index in
     let at : ℕ = c.args.start + (index - c.args.first) in
     let inside : index < length c.loop-index.to = omega arith in
-    before_more c.loop-index.to new old (8 * c.args.first) (8 * c.args.last) index c.shifted.result inside c.loop-index.invariant
+    before_more c.loop-index.to new old (8 * c.args.first) (8 * c.args.last) index c.byte_from.result inside c.loop-index.invariant
     (λ j low.
     let place : 8 * at + c.args.shift + j ≡ 8 * c.args.start + c.args.shift + (8 * index + j - 8 * c.args.first) = omega arith in
-    whole_byte c.args.first c.args.last index j (bit_at c.shifted.result (7 - j)) (new (8 * index + j)) (old (8 * index + j)) (omega arith) (omega arith) low
-    (shifted_row source at (get_or source at 0) (get_or source (at + 1) 0) c.args.shift j (bit_at c.shifted.result (7 - j)) low refl refl (c.shifted.ensures j low) c.requires.low ∙ ap (λ n. row_bit source n) place))
+    whole_byte c.args.first c.args.last index j (bit_at c.byte_from.result (7 - j)) (new (8 * index + j)) (old (8 * index + j)) (omega arith) (omega arith) low
+    (c.byte_from.ensures j low ∙ ap (λ n. row_bit source n) place))
 
 pub returns : goal.returns
 returns c =
