@@ -1,5 +1,5 @@
 -- Laws of single bytes, bit by bit from the left.
-use Rattle.std.proofs.Common.{◌≡◌, ℕ, suc, zero, ◌+◌, ◌-◌, ◌*◌, ◌/◌, ◌%◌, ◌^◌, ◌<◌, ◌≤◌, ◌==◌, ◌&&◌, nat_lt, nat_le, nat_eq, min, max, sym, if◌then◌else◌, Bool, true, false, List, get_or, bit_and, bit_or, ap, refl, ◌∙◌, ⊎_elim, arith}
+use Rattle.std.proofs.Common.{◌≡◌, ℕ, ◌+◌, ◌-◌, ◌*◌, ◌/◌, ◌%◌, ◌^◌, ◌<◌, ◌≤◌, ◌==◌, ◌&&◌, nat_lt, nat_le, min, max, sym, if◌then◌else◌, Bool, true, false, List, get_or, bit_and, bit_or, ap, refl, ◌∙◌, ⊎_elim, arith}
 use Rattle.std.specs.Int.{bit_at, w8}
 use Rattle.std.proofs.lemmas.Bool.{cases_lt}
 use Rattle.std.proofs.lemmas.Bool.Decides.{nat_tests}
@@ -7,7 +7,6 @@ use Rattle.std.proofs.lemmas.Nat.{shr-shr, pow_pos}
 use Rattle.std.proofs.lemmas.Nat.Bits.{bit_at-lt, bit_at_ones, bit_at_ones_above, bit_at_not, bit_at_and, bit_at_or, bit_at_cat_low, bit_at_cat_high, bit_at-zero, bit_at_above}
 use Rattle.lw_planes.specs.Row.{bit_of, row_bit}
 use Rattle.lw_planes.specs.Minterm.{minterm_bit}
-use Rattle.lw_planes.proofs.BitLaws.{bit_tested}
 use Rattle.lw_kernels.specs.Kernel.{is_between}
 
 -- a shifted number has the bits from the shift on

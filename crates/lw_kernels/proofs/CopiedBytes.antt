@@ -1,9 +1,12 @@
--- Bytes of a row that were copied whole, as bits.
-use Rattle.std.proofs.Common.{◌≡◌, ℕ, ◌+◌, ◌-◌, ◌*◌, ◌/◌, ◌%◌, ◌<◌, ◌≤◌, List, length, take, drop, ◌++◌, get_or, ap, refl, ◌∙◌, arith}
+-- Bits that were copied, by whole bytes and as the minterm of a copy says.
+use Rattle.std.proofs.Common.{◌≡◌, ℕ, ◌+◌, ◌-◌, ◌*◌, ◌/◌, ◌%◌, ◌<◌, ◌≤◌, List, length, take, drop, ◌++◌, get_or, bit_and, ap, refl, sym, ◌∙◌, arith}
 use Rattle.std.specs.Int.{bit_at}
 use Rattle.std.proofs.lemmas.List.{get_or-append_right, get_or_append_left, get_or-take, get_or-drop, length-take-le}
 use Rattle.lw_planes.specs.Row.{row_bit}
-use Rattle.lw_kernels.proofs.RowWriting.{Done, done_each}
+use Rattle.lw_planes.proofs.RowLaws.{row_bit_lt}
+use Rattle.lw_kernels.specs.Kernel.{blit_bit}
+use Rattle.lw_kernels.proofs.ByteLaws.{minterm_copies}
+use Rattle.lw_kernels.proofs.RowWriting.{Done, done_each, done_same, done_starts, done_ends}
 use borrow.Rule.Slice.PartMut.{put_mid}
 
 -- equal bytes have equal bits
@@ -47,3 +50,24 @@ mid_above xs ys a k i long fits p =
     get_or-append_right (take a xs) (ys ++ drop k (drop a xs)) a i 0 (length-take-le a xs small) late ∙
     (get_or-append_right ys (drop k (drop a xs)) k (i - a) 0 long later ∙
     (get_or-drop k (drop a xs) (i - a - k) 0 ∙ (get_or-drop a xs (k + (i - a - k)) 0 ∙ ap (λ n. get_or xs n 0) place)))
+
+-- a blit by the minterm of a copy gives the source's bits
+pub blit_copies : (source : List ℕ) (old : ℕ → ℕ) (minterm place from x : ℕ) → bit_and minterm 240 ≡ 192 → blit_bit minterm (row_bit source) place old from x ≡ row_bit source (place + (x - from))
+blit_copies source old minterm place from x is = minterm_copies minterm (row_bit source (place + (x - from))) (old x) (row_bit_lt source (place + (x - from))) is
+
+-- copied bits are those of a blit by the minterm of a copy
+pub done_blit : (row source : List ℕ) (old : ℕ → ℕ) (minterm place from end : ℕ) → bit_and minterm 240 ≡ 192 → Done row (λ x. row_bit source (place + (x - from))) old from end → Done row (blit_bit minterm (row_bit source) place old from) old from end
+done_blit row source old minterm place from end is done =
+    done_same row (λ x. row_bit source (place + (x - from))) (blit_bit minterm (row_bit source) place old from) old from end done
+    (λ x p q. sym (blit_copies source old minterm place from x is))
+
+-- places that are whole bytes, by their bits
+pub done_whole : (row source : List ℕ) (old : ℕ → ℕ) (place from end : ℕ) → place % 8 ≡ 0 → from % 8 ≡ 0 → end % 8 ≡ 0 → Done row (λ x. row_bit source (8 * (place / 8) + (x - 8 * (from / 8)))) old (8 * (from / 8)) (8 * (end / 8)) → Done row (λ x. row_bit source (place + (x - from))) old from end
+done_whole row source old place from end a b c done =
+    let new : ℕ → ℕ = λ x. row_bit source (place + (x - from)) in
+    let begin : ℕ = 8 * (from / 8) in
+    let stop : ℕ = 8 * (end / 8) in
+    done_starts row new old begin from end (omega arith)
+    (done_ends row new old begin stop end (omega arith)
+    (done_same row (λ x. row_bit source (8 * (place / 8) + (x - begin))) new old begin stop done
+    (λ x p q. let same : 8 * (place / 8) + (x - begin) ≡ place + (x - from) = omega arith in ap (row_bit source) same)))

@@ -96,17 +96,6 @@ pub(crate) fn byte_from(row: &[u8], at: usize, shift: usize) -> u8
     }
 }
 
-// The minterm's value for each source bit and old bit of two bytes, where the minterm may well be the one of a copy.
-pub(crate) fn blitted_bits(minterm: u8, source: u8, old: u8) -> u8
-    ensures { (i : ℕ) → i < 8 → bit_at result i ≡ minterm_bit minterm (bit_at source i) (bit_at old i) }
-{
-    if minterm & 0xf0 == 0xc0 {
-        source
-    } else {
-        minterm_byte(minterm, source, old)
-    }
-}
-
 // The minterm's value for each source bit and old bit of two bytes.
 pub(crate) fn minterm_byte(minterm: u8, source: u8, old: u8) -> u8
     ensures { (i : ℕ) → i < 8 → bit_at result i ≡ minterm_bit minterm (bit_at source i) (bit_at old i) }

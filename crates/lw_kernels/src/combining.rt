@@ -4,7 +4,7 @@ ghost use Rattle.lw_planes.specs.Row.{row_bit, row_bits};
 ghost use Rattle.lw_planes.specs.Minterm.{minterm_bit};
 ghost use Rattle.lw_kernels.specs.Kernel.{blit_bit, is_between, is_named, with_named};
 
-use crate::bytes::{blitted_bits, eight_bits, minterm_byte, replaced, shifted};
+use crate::bytes::{eight_bits, minterm_byte, replaced, shifted};
 use crate::copying::{copy_bytes, copy_unshifted};
 
 /// Blits `count` bits of one row onto those of another: each bit from `to_bit` on becomes the minterm's
@@ -141,7 +141,7 @@ pub(crate) fn blit_byte(
 {
     let index = from / 8;
     let bits = eight_bits(source, place) >> (from - 8 * index);
-    replaced(old, blitted_bits(minterm, bits, old), from, end, index)
+    replaced(old, minterm_byte(minterm, bits, old), from, end, index)
 }
 
 // The bytes from `first` on, before `last`.

@@ -1,4 +1,4 @@
-use Rattle.std.proofs.Common.{◌≡◌, ℕ, ◌+◌, ◌-◌, ◌*◌, ◌/◌, ◌<◌, ◌≤◌, length, get_or, ap, refl, sym, ◌∙◌, arith}
+use Rattle.std.proofs.Common.{◌≡◌, ℕ, ◌+◌, ◌-◌, ◌*◌, ◌<◌, ◌≤◌, length, get_or, ap, refl, sym, ◌∙◌, arith}
 use Rattle.std.specs.Int.{bit_at}
 use Rattle.lw_planes.specs.Row.{row_bit}
 use Rattle.lw_kernels.specs.Kernel.{blit_bit}

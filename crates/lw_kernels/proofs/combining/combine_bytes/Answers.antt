@@ -1,15 +1,8 @@
-use Rattle.std.proofs.Common.{ℕ, ◌+◌, ◌-◌, ◌*◌, sym}
+use Rattle.std.proofs.Common.{◌*◌}
 use Rattle.lw_planes.specs.Row.{row_bit}
-use Rattle.lw_planes.proofs.RowLaws.{row_bit_lt}
-use Rattle.lw_kernels.specs.Kernel.{blit_bit}
-use Rattle.lw_kernels.proofs.ByteLaws.{minterm_copies}
-use Rattle.lw_kernels.proofs.RowWriting.{done_same}
+use Rattle.lw_kernels.proofs.CopiedBytes.{done_blit}
 use Rattle.lw_kernels.proofs.combining.combine_bytes.Goals as goal
 
 pub returns-then-minterm-eq192 : goal.returns-then-minterm-eq192
 returns-then-minterm-eq192 c =
-    let source = c.args.source.now in
-    let old : ℕ → ℕ = row_bit c.args.to.now in
-    let at : ℕ → ℕ = λ x. c.args.place + (x - 8 * c.args.first) in
-    done_same c.copy_bytes.new.to (λ x. row_bit source (at x)) (blit_bit c.args.minterm (row_bit source) c.args.place old (8 * c.args.first)) old (8 * c.args.first) (8 * c.args.last) c.copy_bytes.ensures
-    (λ x p q. sym (minterm_copies c.args.minterm (row_bit source (at x)) (old x) (row_bit_lt source (at x)) c.if-minterm-eq192.true))
+    done_blit c.copy_bytes.new.to c.args.source.now (row_bit c.args.to.now) c.args.minterm c.args.place (8 * c.args.first) (8 * c.args.last) c.if-minterm-eq192.true c.copy_bytes.ensures
