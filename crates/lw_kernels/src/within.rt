@@ -102,15 +102,51 @@ fn within_parts(row: &mut [u8], from: usize, end: usize, place: usize, minterm: 
     let last = end / 8;
     let middle = place + (8 * first - from);
     if last < first {
-        within_edge(row, from, end, place, minterm);
+        if from < end {
+            within_edge(row, from, end, place, minterm);
+        }
     } else if from <= place {
-        within_edge(row, from, 8 * first, place, minterm);
+        within_start(row, from, first, place, minterm);
         within_bytes(row, first, last, middle, minterm);
-        within_edge(row, 8 * last, end, place + (8 * last - from), minterm);
+        within_rest(row, last, end, place + (8 * last - from), minterm);
     } else {
-        within_edge(row, 8 * last, end, place + (8 * last - from), minterm);
+        within_rest(row, last, end, place + (8 * last - from), minterm);
         within_bytes(row, first, last, middle, minterm);
-        within_edge(row, from, 8 * first, place, minterm);
+        within_start(row, from, first, place, minterm);
+    }
+}
+
+// The bits before byte `first`, up to seven.
+#[inline(always)]
+fn within_start(row: &mut [u8], from: usize, first: usize, place: usize, minterm: u8)
+    requires near { from < 2 ^ 40 }
+    requires near_source { place < 2 ^ 42 }
+    requires ordered { from ≤ 8 * first }
+    requires few { 8 * first < from + 8 }
+    requires inside { first ≤ length row.old }
+    ensures { (x : ℕ) → row_bit row.new x ≡ (if is_between from (8 * first) x
+        then blit_bit minterm (row_bit row.old) place (row_bit row.old) from x
+        else row_bit row.old x) }
+{
+    if from % 8 > 0 {
+        within_edge(row, from, 8 * (from / 8) + 8, place, minterm);
+    }
+}
+
+// The bits from byte `last` on, up to seven.
+#[inline(always)]
+fn within_rest(row: &mut [u8], last: usize, end: usize, place: usize, minterm: u8)
+    requires near { end < 2 ^ 40 }
+    requires near_source { place < 2 ^ 42 }
+    requires ordered { 8 * last ≤ end }
+    requires few { end < 8 * last + 8 }
+    requires inside { end ≤ 8 * length row.old }
+    ensures { (x : ℕ) → row_bit row.new x ≡ (if is_between (8 * last) end x
+        then blit_bit minterm (row_bit row.old) place (row_bit row.old) (8 * last) x
+        else row_bit row.old x) }
+{
+    if end % 8 > 0 {
+        within_edge(row, 8 * last, end, place, minterm);
     }
 }
 
@@ -118,17 +154,15 @@ fn within_parts(row: &mut [u8], from: usize, end: usize, place: usize, minterm: 
 fn within_edge(row: &mut [u8], from: usize, end: usize, place: usize, minterm: u8)
     requires near { end < 2 ^ 41 }
     requires near_source { place < 2 ^ 42 }
-    requires ordered { from ≤ end }
+    requires some { from < end }
     requires inside { end ≤ 8 * length row.old }
     requires one_byte { end ≤ 8 * (from / 8) + 8 }
     ensures { (x : ℕ) → row_bit row.new x ≡ (if is_between from end x
         then blit_bit minterm (row_bit row.old) place (row_bit row.old) from x
         else row_bit row.old x) }
 {
-    if from < end {
-        let index = from / 8;
-        row[index] = blit_byte(row[index], from, end, row, place, minterm);
-    }
+    let index = from / 8;
+    row[index] = blit_byte(row[index], from, end, row, place, minterm);
 }
 
 // The bytes from `first` on, before `last`.
