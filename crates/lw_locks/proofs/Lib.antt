@@ -1,6 +1,7 @@
 mod Apart
 mod Closing
 mod Deeper
+mod Groups
 mod Later
 mod Passes
 mod Running

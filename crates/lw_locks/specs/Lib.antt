@@ -4,3 +4,4 @@ pub mod Joins
 pub mod Promised
 pub mod Held
 pub mod Closing
+pub mod Groups
