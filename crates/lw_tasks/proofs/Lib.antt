@@ -5,3 +5,7 @@ mod Next
 mod Opening
 pub mod OnlyOrder
 mod Steps
+mod MadeLaws
+mod Making
+mod Ahead
+mod Begun

@@ -4,6 +4,7 @@
 mod laws;
 mod parts;
 mod run;
+mod task;
 #[cfg(test)]
 mod tests;
 #[cfg(test)]

@@ -133,7 +133,7 @@ impl<E: Engine> Run<E> {
 }
 
 /// The call of a task that is its call `made`.
-fn call_of(plan: &Plan, task: u32, made: usize) -> &Call
+pub(crate) fn call_of(plan: &Plan, task: u32, made: usize) -> &Call
     requires plan { IsPlan plan.now }
     requires task { task < plan.now.sizes.tasks }
     requires left { made < length (task_calls plan.now task) }
