@@ -14,7 +14,7 @@ use Rattle.lw_calls.specs.Orders.{is_open}
 use Rattle.lw_calls.specs.Plan.{Plan, IsPlan, task_calls, task_groups, is_one, is_all, begins_update, may_be_locked, are_locked, end_an_update, are_an_update, may_stand, group_calls, group_fits, groups_fit}
 use Rattle.lw_calls.specs.Touches.{CallClass, OnRegisters, OnInfo, OnLayer, OnLayers, OnAll, class_of, slots_in, slots_of}
 use Rattle.lw_locks.specs.Promised.{class_under}
-use Rattle.lw_tasks.specs.Made.{IsAhead, IsNext}
+use Rattle.lw_tasks.specs.Made.{IsFree, IsAhead, IsNext}
 
 closed_behind : (made : ℕ) (g : Group) → g.last < made → is_open made g ≡ false
 closed_behind made g h = grind (arith, nat_tests)
@@ -93,6 +93,11 @@ ahead_after calls groups left made g gs begins a =
       fit = tail_fits calls g gs fit;
       within = (let low = order.1 in omega (arith, low));
     }
+
+-- behind all calls
+pub all_over : (calls : List Call) (groups : List Group) → groups_fit calls groups ≡ true → IsFree groups (length calls)
+all_over calls [] fit = All-nil (λ g. is_open (length calls) g ≡ false)
+all_over calls (g ∷ gs) fit = All-cons (λ k. is_open (length calls) k ≡ false) g gs (closed_behind (length calls) g (ordered calls g (head_fits calls g gs fit)).1) (all_over calls gs (tail_fits calls g gs fit))
 
 -- the class of the calls that may stand in a group
 one_class : (s : ℕ) (k : CallClass) → is_one s (slots_in k) ≡ true → k ≡ OnLayer s

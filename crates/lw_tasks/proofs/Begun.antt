@@ -1,6 +1,6 @@
 -- The first calls of a plan's task: how many, one more, those of a group, and all of them.
 use Rattle.std.proofs.Common.{◌≡◌, ◌⊎◌, ℕ, suc, ◌+◌, ◌-◌, ◌<◌, ◌≤◌, false, List, [], ◌∷◌, ◌++◌, length, take, Some, refl, ap, sym, subst, ◌∙◌, ⊎_elim, inl, inr, arith, length-append, length-take-le}
-use Rattle.std.specs.Prelude.{All, Contains, Result, Ok, Err, OnOk, MatchResult}
+use Rattle.std.specs.Prelude.{All, Contains, map, Result, Ok, Err, IfOk, OnOk, MatchResult}
 use Rattle.std.specs.List.{slice_get}
 use Rattle.std.proofs.lemmas.List.Elements.{All-weaker, Contains-append_right}
 use Rattle.std.proofs.lemmas.Option.{slice_get_within, get_or_from_slice_get}
@@ -8,6 +8,7 @@ use Rattle.std.proofs.Math.Seq.{take-suc, take-add}
 use Rattle.lw_calls.specs.declared.call.Call.{Call}
 use Rattle.lw_calls.specs.declared.entry.Entry.{Entry}
 use Rattle.lw_calls.specs.declared.group.Group.{Group}
+use Rattle.lw_calls.specs.declared.reply.Reply.{Reply}
 use Rattle.lw_calls.specs.declared.touch.Role.{Role}
 use Rattle.lw_calls.specs.declared.touch.Role.TheVariants.{Task}
 use Rattle.lw_calls.specs.Entries.{count_of}
@@ -16,7 +17,9 @@ use Rattle.lw_calls.specs.Plan.{Plan, IsPlan, task_calls, task_groups, group_cal
 use Rattle.lw_machine.specs.Desk.{Desk}
 use Rattle.lw_locks.specs.declared.answer.Answer.{Answer}
 use Rattle.lw_locks.specs.Promised.{Done, GroupDone, held_roles}
-use Rattle.lw_tasks.specs.Made.{HasMade, HasBegun, IsFree, IsNext}
+use Rattle.lw_tasks.specs.Made.{HasTold, HasMade, HasBegun, IsFree, IsNext}
+use Rattle.lw_tasks.specs.Whole.{HasAll}
+use Rattle.lw_tasks.specs.declared.told.Told.{Told}
 use Rattle.lw_tasks.proofs.MadeLaws.{length_calls_of}
 use Rattle.lw_tasks.proofs.Making.{Guards, made_more, made_group}
 use Rattle.lw_tasks.proofs.Ahead.{few_calls, group_place, group_long}
@@ -93,3 +96,11 @@ module _ (desk : Desk) (plan : Plan) (task : ℕ) where
   group_begun (Ok u) old new made who calls had has g next at_first same are h done all =
       let D : ℕ → List Call → Type 0 = λ t cs. GroupDone desk (Task t ∷ []) (Task t ∷ held_roles desk.sizes.slots g.hold) t old new (group_calls cs g) had has in
       begun_group old new made had has g next at_first h (subst (λ t. D t (task_calls plan task)) same (subst (λ cs. D who cs) are done)) (all ∙ ap (λ cs. length had + length (group_calls cs g)) are)
+
+  -- what it was told by the answers to all its calls
+  pub told_by : {E : Type 0} (history : List Entry) (answers : List Answer) (o : Result Told E) → HasMade desk (task_groups plan task) task (task_calls plan task) history answers → IfOk o (λ told. told.replies ≡ map (λ a. a.reply) answers) → IfOk o (λ told. told.tickets.items ≡ map (λ a. a.ticket) answers)
+      → IfOk o (λ told. HasAll desk plan task history told)
+  told_by history answers (Err e) h replies tickets = tt
+  told_by history answers (Ok told) h replies tickets =
+      let T : List Reply → List ℕ → Type 0 = HasTold desk (task_groups plan task) task (task_calls plan task) history in
+      subst (λ rs. T rs told.tickets.items) (sym replies) (subst (λ ns. T (map (λ a. a.reply) answers) ns) (sym tickets) h)

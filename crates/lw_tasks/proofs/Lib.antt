@@ -9,3 +9,6 @@ mod MadeLaws
 mod Making
 mod Ahead
 mod Begun
+mod Whole
+mod Placing
+mod Jobs

@@ -12,6 +12,7 @@ use Rattle.lw_calls.specs.declared.entry.Entry.{Entry}
 use Rattle.lw_calls.specs.declared.group.Group.{Group}
 use Rattle.lw_calls.specs.declared.group.Hold.{Hold}
 use Rattle.lw_calls.specs.declared.group.Hold.TheVariants.{Slot as OneSlot, All as AllLayers}
+use Rattle.lw_calls.specs.declared.reply.Reply.{Reply}
 use Rattle.lw_calls.specs.declared.sizes.Sizes.{Sizes}
 use Rattle.lw_calls.specs.declared.touch.Role.{Role}
 use Rattle.lw_calls.specs.declared.touch.Role.TheVariants.{Task, Slot, Info}
@@ -28,7 +29,7 @@ use Rattle.lw_order.proofs.RoleLaws.{all_roles_has_slot}
 use Rattle.lw_steps.proofs.ClassLaws.{slot_fits, pair_fits}
 use Rattle.lw_locks.specs.declared.answer.Answer.{Answer}
 use Rattle.lw_locks.specs.Promised.{Done, Ran, GroupDone, held_roles}
-use Rattle.lw_tasks.specs.Made.{calls_of, places_of, is_within, keeps_apart, HasMade}
+use Rattle.lw_tasks.specs.Made.{calls_of, places_of, is_within, keeps_apart, HasTold, HasMade}
 use Rattle.lw_tasks.proofs.MadeLaws.{calls_of_append, places_of_append, replies_of_append, keeps_apart_append, length_calls_of, Foreign, foreign, no_calls, no_places, no_replies_of, kept_apart, own_call, own_place, own_reply, own_apart}
 
 not_itself : (n : ℕ) → (n == n) ≡ false → ⊥
@@ -96,18 +97,15 @@ both_true false b h k = absurd (cc h)
 
 module _ (desk : Desk) (groups : List Group) (task : ℕ) where
   -- what a task made, and what follows it
-  joined : (made more : List Call) (old rest new : List Entry) (had said : List Answer) → HasMade desk groups task made old had → new ≡ old ++ rest → calls_of task rest ≡ more → map (λ a. a.reply) said ≡ replies_of (machine desk old) task rest → map (λ a. a.ticket) said ≡ places_of task (length old) rest
-      → (CallsFit desk.sizes rest → keeps_apart groups task (length made) rest ≡ true) → HasMade desk groups task (made ++ more) new (had ++ said)
-  joined made more old rest new had said h parts calls replies tickets apart =
+  joined : (made more : List Call) (old rest new : List Entry) (said more_said : List Reply) (places more_places : List ℕ) → HasTold desk groups task made old said places → new ≡ old ++ rest → calls_of task rest ≡ more → more_said ≡ replies_of (machine desk old) task rest → more_places ≡ places_of task (length old) rest
+      → (CallsFit desk.sizes rest → keeps_apart groups task (length made) rest ≡ true) → HasTold desk groups task (made ++ more) new (said ++ more_said) (places ++ more_places)
+  joined made more old rest new said more_said places more_places h parts calls replies tickets apart =
       let many : count_of task old + 0 ≡ length made = (let long = sym (length_calls_of task old) ∙ ap length h.calls in omega (arith, long)) in
       let from : 0 + length old ≡ length old = omega arith in
       record {
         calls = ap (calls_of task) parts ∙ (calls_of_append task old rest ∙ (ap (λ cs. cs ++ calls_of task rest) h.calls ∙ ap (λ cs. made ++ cs) calls));
-        replies = map-append (λ a. a.reply) had said ∙ (ap (λ rs. rs ++ map (λ a. a.reply) said) h.replies ∙ (ap (λ rs. replies_of desk task old ++ rs) replies ∙ (sym (replies_of_append desk task old rest) ∙ ap (replies_of desk task) (sym parts))));
-        tickets =
-            map-append (λ a. a.ticket) had said
-            ∙ (ap (λ ns. ns ++ map (λ a. a.ticket) said) h.tickets
-            ∙ (ap (λ ns. places_of task 0 old ++ ns) (tickets ∙ ap (λ n. places_of task n rest) (sym from)) ∙ (sym (places_of_append task 0 old rest) ∙ ap (places_of task 0) (sym parts))));
+        replies = ap (λ rs. rs ++ more_said) h.replies ∙ (ap (λ rs. replies_of desk task old ++ rs) replies ∙ (sym (replies_of_append desk task old rest) ∙ ap (replies_of desk task) (sym parts)));
+        tickets = ap (λ ns. ns ++ more_places) h.tickets ∙ (ap (λ ns. places_of task 0 old ++ ns) (tickets ∙ ap (λ n. places_of task n rest) (sym from)) ∙ (sym (places_of_append task 0 old rest) ∙ ap (places_of task 0) (sym parts)));
         apart = λ fits.
             ap (keeps_apart groups task 0) parts
             ∙ (keeps_apart_append groups task 0 old rest
@@ -115,27 +113,33 @@ module _ (desk : Desk) (groups : List Group) (task : ℕ) where
       }
 
   -- steps of others
-  pub made_still : (roles : List Role) (made : List Call) (old new : List Entry) (had : List Answer) → Contains roles (Task task) → Guards desk.sizes.slots groups (length made) roles → HasMade desk groups task made old had → Follows roles old new → HasMade desk groups task made new had
-  made_still roles made old new had has guards h f =
+  pub told_still : (roles : List Role) (made : List Call) (old new : List Entry) (said : List Reply) (places : List ℕ) → Contains roles (Task task) → Guards desk.sizes.slots groups (length made) roles → HasTold desk groups task made old said places → Follows roles old new → HasTold desk groups task made new said places
+  told_still roles made old new said places has guards h f =
       let none : Foreign task f.rest = foreign task roles f.rest has f.quiet in
-      let all : HasMade desk groups task (made ++ []) new (had ++ []) =
-      joined made [] old f.rest new had [] h f.prefix (no_calls task f.rest none) (sym (no_replies_of (machine desk old) task f.rest none)) (sym (no_places task (length old) f.rest none))
+      let all : HasTold desk groups task (made ++ []) new (said ++ []) (places ++ []) =
+      joined made [] old f.rest new said [] places [] h f.prefix (no_calls task f.rest none) (sym (no_replies_of (machine desk old) task f.rest none)) (sym (no_places task (length old) f.rest none))
       (λ fits. kept_apart groups task (length made) f.rest none (within_none desk.sizes groups (length made) roles f.rest guards f.quiet fits))
       in
-      subst (λ cs. HasMade desk groups task cs new had) (append-nil made) (subst (λ xs. HasMade desk groups task (made ++ []) new xs) (append-nil had) all)
+      subst (λ cs. HasTold desk groups task cs new said places) (append-nil made) (subst (λ rs. HasTold desk groups task (made ++ []) new rs places) (append-nil said) (subst (λ ns. HasTold desk groups task (made ++ []) new (said ++ []) ns) (append-nil places) all))
 
   -- and a call of the task
   pub made_more : (roles : List Role) (made : List Call) (old new : List Entry) (had : List Answer) (call : Call) (answer : Answer) → Contains roles (Task task) → Guards desk.sizes.slots groups (length made) roles → HasMade desk groups task made old had
       → Done desk roles task old new call answer.reply answer.ticket → HasMade desk groups task (made ++ call ∷ []) new (had ++ answer ∷ [])
   made_more roles made old new had call answer has guards h done =
+      let said : List Answer → List Reply = map (λ a. a.reply) in
+      let places : List Answer → List ℕ = map (λ a. a.ticket) in
       let mid : List Entry = old ++ done.added.between in
       let e : Entry = record { task = task; seq = count_of task mid; call = call } in
       let own : (e.task == task) ≡ true = eq-eqb task task refl in
-      let before : HasMade desk groups task made mid had = made_still roles made old mid had has guards h (record { rest = done.added.between; prefix = refl; quiet = done.added.quiet }) in
-      joined made (call ∷ []) mid (e ∷ []) new had (answer ∷ []) before done.added.history (own_call task e own)
+      let before : HasMade desk groups task made mid had = told_still roles made old mid (said had) (places had) has guards h (record { rest = done.added.between; prefix = refl; quiet = done.added.quiet }) in
+      let all : HasTold desk groups task (made ++ call ∷ []) new (said had ++ answer.reply ∷ []) (places had ++ answer.ticket ∷ []) =
+      joined made (call ∷ []) mid (e ∷ []) new (said had) (answer.reply ∷ []) (places had) (answer.ticket ∷ []) before done.added.history (own_call task e own)
       (ap (λ r. r ∷ []) done.says ∙ sym (own_reply (machine desk mid) task e own))
       (ap (λ n. n ∷ []) done.added.place ∙ sym (own_place task (length mid) e own))
       (λ fits. own_apart groups task (length made) e own)
+      in
+      subst (λ rs. HasTold desk groups task (made ++ call ∷ []) new rs (places (had ++ answer ∷ []))) (sym (map-append (λ a. a.reply) had (answer ∷ [])))
+      (subst (λ ns. HasTold desk groups task (made ++ call ∷ []) new (said had ++ answer.reply ∷ []) ns) (sym (map-append (λ a. a.ticket) had (answer ∷ []))) all)
 
   -- calls of the task one after another
   pub made_ran : (roles : List Role) (made : List Call) (old new : List Entry) (had : List Answer) (calls : List Call) (said : List Answer) → Contains roles (Task task)
@@ -172,6 +176,6 @@ made_group desk groups task few many made old new calls had has own own_too free
     let answers = ap length grown.answers ∙ length-append had grown.done in
     let none : grown.left ≡ [] = is_empty grown.left (omega (arith, lengths, parts, answers, all)) in
     let whole : grown.made ≡ calls = sym (grown.parts ∙ (ap (λ cs. grown.made ++ cs) none ∙ append-nil grown.made)) in
-    let still : HasMade desk groups task made g.start had = made_still desk groups task few made old g.start had own free h g.follows in
+    let still : HasMade desk groups task made g.start had = told_still desk groups task few made old g.start _ _ own free h g.follows in
     let ran : HasMade desk groups task (made ++ calls) new (had ++ grown.done) = made_ran desk groups task many made g.start new had calls grown.done own_too guards still (subst (λ cs. Ran desk many task g.start new cs grown.done) whole grown.ran) in
     subst (λ xs. HasMade desk groups task (made ++ calls) new xs) (sym grown.answers) ran

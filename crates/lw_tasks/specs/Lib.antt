@@ -1,3 +1,4 @@
 pub mod Standing
 pub mod Run
 pub mod Made
+pub mod Whole

@@ -4,6 +4,7 @@ use Rattle.std.specs.List.{list_any}
 use Rattle.lw_calls.specs.declared.call.Call.{Call}
 use Rattle.lw_calls.specs.declared.entry.Entry.{Entry}
 use Rattle.lw_calls.specs.declared.group.Group.{Group}
+use Rattle.lw_calls.specs.declared.reply.Reply.{Reply}
 use Rattle.lw_calls.specs.declared.touch.Touch.{Touch}
 use Rattle.lw_calls.specs.Orders.{meets, is_open}
 use Rattle.lw_calls.specs.Plan.{Plan, task_calls, task_groups, group_fits, groups_fit}
@@ -34,13 +35,17 @@ keeps_apart groups task made [] = true
 keeps_apart groups task made (e ∷ es) =
     ((e.task == task) || not (is_within groups made (touch_of e.task e.call))) && keeps_apart groups task ((if e.task == task then 1 else 0) + made) es
 
--- Just these calls of a task stand in the history, in their order. They had these answers: the machine's replies, and as tickets the
--- places in the history. The task's groups were kept.
-pub record HasMade (desk : Desk) (groups : List Group) (task : ℕ) (made : List Call) (history : List Entry) (answers : List Answer) : Type 0 where
+-- Just these calls of a task stand in the history, in their order. It was told these replies of the machine, and as tickets the places
+-- in the history. Its groups were kept.
+pub record HasTold (desk : Desk) (groups : List Group) (task : ℕ) (made : List Call) (history : List Entry) (said : List Reply) (places : List ℕ) : Type 0 where
   pub calls : calls_of task history ≡ made
-  pub replies : map (λ a. a.reply) answers ≡ replies_of desk task history
-  pub tickets : map (λ a. a.ticket) answers ≡ places_of task 0 history
+  pub replies : said ≡ replies_of desk task history
+  pub tickets : places ≡ places_of task 0 history
   pub apart : CallsFit desk.sizes history → keeps_apart groups task 0 history ≡ true
+
+-- the same where replies and tickets are those of answers
+abbrev pub HasMade : Desk → List Group → ℕ → List Call → List Entry → List Answer → Type 0
+HasMade desk groups task made history answers = HasTold desk groups task made history (map (λ a. a.reply) answers) (map (λ a. a.ticket) answers)
 
 -- Words of this crate's private contracts.
 

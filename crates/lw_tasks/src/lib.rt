@@ -5,6 +5,9 @@ mod laws;
 mod parts;
 mod run;
 mod task;
+mod told;
+mod threads;
+mod tickets;
 #[cfg(test)]
 mod tests;
 #[cfg(test)]
