@@ -12,3 +12,4 @@ mod Begun
 mod Whole
 mod Placing
 mod Jobs
+mod Started

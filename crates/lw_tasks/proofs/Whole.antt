@@ -1,24 +1,19 @@
 -- The history in which each task of a plan made all its calls is that of a legal order.
-use Rattle.std.proofs.Common.{◌≡◌, ℕ, zero, suc, ◌+◌, ◌<◌, ◌==◌, Bool, true, false, not, ◌&&◌, ◌||◌, if◌then◌else◌, List, [], ◌∷◌, ◌++◌, length, map, refl, ap, sym, subst, ◌∙◌, arith, append_assoc, append-nil, eq-eqb, Some}
-use Rattle.std.specs.Prelude.{All, Contains, IsTrue}
-use Rattle.std.specs.List.{list_all, slice_get, slice_index_or, range_with_len}
+use Rattle.std.proofs.Common.{◌≡◌, ℕ, zero, suc, ◌+◌, ◌<◌, ◌==◌, Bool, true, false, not, ◌&&◌, ◌||◌, if◌then◌else◌, List, [], ◌∷◌, ◌++◌, length, refl, ap, sym, subst, ◌∙◌, arith, append_assoc, eq-eqb, Some}
+use Rattle.std.specs.List.{list_all, slice_get, range_with_len}
 use Rattle.std.proofs.lemmas.Bool.{and_parts, eqb-true}
 use Rattle.std.proofs.lemmas.List.{map-append}
-use Rattle.std.proofs.lemmas.List.Elements.{All-head, All-tail, All-weaker}
+use Rattle.std.proofs.lemmas.List.Elements.{All-head, All-tail}
 use Rattle.std.proofs.lemmas.Option.{slice_get_within}
 use Rattle.lw_calls.specs.declared.call.Call.{Call}
 use Rattle.lw_calls.specs.declared.entry.Entry.{Entry}
 use Rattle.lw_calls.specs.declared.group.Group.{Group}
-use Rattle.lw_calls.specs.declared.touch.Role.{Role}
 use Rattle.lw_calls.specs.declared.touch.Role.TheVariants.{Task}
 use Rattle.lw_calls.specs.Entries.{count_of, entries, next_entry}
-use Rattle.lw_calls.specs.Orders.{occurrences, keeps_off, may_come, keeps_groups, is_complete, is_legal, is_open}
-use Rattle.lw_calls.specs.Plan.{Plan, IsPlan, task_calls, task_groups, groups_fit}
+use Rattle.lw_calls.specs.Orders.{occurrences, keeps_off, may_come, keeps_groups, is_complete}
+use Rattle.lw_calls.specs.Plan.{Plan, IsPlan, task_calls, task_groups}
 use Rattle.lw_calls.specs.Touches.{touch_of}
 use Rattle.lw_machine.specs.Desk.{Desk}
-use Rattle.lw_machine.specs.Finals.{run_final, final_of, opening_desk}
-use Rattle.lw_machine.specs.Hook.{Hook}
-use Rattle.lw_machine.specs.History.{machine, replies_of}
 use Rattle.lw_order.specs.Numbered.{Numbered, TasksBelow}
 use Rattle.lw_order.specs.Promised.{Follows}
 use Rattle.lw_tasks.specs.declared.told.Told.{Told}
@@ -26,7 +21,7 @@ use Rattle.lw_order.specs.Seen.{SeenSeat}
 use Rattle.lw_locks.specs.Closing.{AreFollowed}
 use Rattle.lw_locks.specs.Joins.{IsHistory}
 use Rattle.lw_locks.specs.Seen.{SeenPass}
-use Rattle.lw_tasks.specs.Made.{calls_of, is_within, keeps_apart, HasMade}
+use Rattle.lw_tasks.specs.Made.{calls_of, is_within, keeps_apart}
 use Rattle.lw_tasks.specs.Whole.{HasAll, EachHasAll, AllHaveAll, order_of, IsOrdered}
 use Rattle.lw_tasks.proofs.ListLaws.{has_entry}
 use Rattle.lw_tasks.proofs.Ahead.{all_over}

@@ -4,15 +4,17 @@
 mod laws;
 mod parts;
 mod run;
+mod running;
 mod task;
-mod told;
-mod threads;
-mod tickets;
 #[cfg(test)]
 mod tests;
 #[cfg(test)]
 mod tests_desk;
+mod threads;
+mod tickets;
+mod told;
 
 pub use laws::only_order_is_legal;
 pub use parts::Parts;
 pub use run::replay;
+pub use running::{Run, run_tasks};

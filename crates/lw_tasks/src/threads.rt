@@ -1,6 +1,6 @@
 // Tasks on threads, each with its pass, on one desk.
 
-ghost use Rattle.std.specs.Prelude.{◌≡◌, ℕ, ◌<◌, [], map, Some, Ok, vec_len, IfOk};
+ghost use Rattle.std.specs.Prelude.{◌≡◌, ℕ, ◌<◌, [], ◌∷◌, ◌++◌, map, Some, Ok, vec_len, IfOk, OnOk};
 ghost use Rattle.std.specs.List.{slice_get, range_with_len};
 ghost use Rattle.lw_calls.specs.Plan.{IsPlan};
 ghost use Rattle.lw_locks.specs.Seen.{opening_pass};
@@ -92,4 +92,32 @@ fn tell<E: Engine, N: Opening, R: Wait, G: Gate>(
 {
     let answers = run_task(desk, rt, alloc, gate, plan, pass)?;
     Told::of(alloc, answers)
+}
+
+/// The passes of runs, and what their tasks were told. It fails where one of these, or this call, ran out of memory.
+pub(crate) fn parted<E: Engine, N: Opening>(
+    alloc: Global,
+    runs: Vec<TaskRun<E, N>>,
+) -> Result<(Vec<Pass<E, N>>, Vec<Told>), AllocError>
+    ensures passes { IfOk result (λ r. r.0.items ≡ map (λ run. run.pass) runs.items) }
+    ensures told { IfOk result (λ r. map (λ told. Ok told) r.1.items ≡ map (λ run. run.told) runs.items) }
+{
+    let mut passes = Vec::new(alloc);
+    let mut all = Vec::new(alloc);
+    for run in runs {
+        run.part(&mut passes, &mut all)?;
+    }
+    Ok((passes, all))
+}
+
+impl<E: Engine, N: Opening> TaskRun<E, N> {
+    fn part(self, passes: &mut Vec<Pass<E, N>>, all: &mut Vec<Told>) -> Result<(), AllocError>
+        ensures passes { OnOk result (passes.new.items ≡ passes.old.items ++ self.pass ∷ []) }
+        ensures told { OnOk result (map (λ told. Ok told) all.new.items ≡ map (λ told. Ok told) all.old.items ++ self.told ∷ []) }
+    {
+        let TaskRun { pass, told } = self;
+        all.push(told?)?;
+        passes.push(pass)?;
+        Ok(())
+    }
 }

@@ -16,7 +16,11 @@ pub(crate) fn order_by(alloc: Global, all: &[Told]) -> Result<Vec<u32>, AllocErr
 {
     let mut order = zeros(alloc, all)?;
     for task in 0..all.len() {
-        place(order.as_mut_slice(), task as u32, all[task].tickets.as_slice());
+        place(
+            order.as_mut_slice(),
+            task as u32,
+            all[task].tickets.as_slice(),
+        );
     }
     Ok(order)
 }

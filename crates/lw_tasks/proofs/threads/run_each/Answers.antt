@@ -1,4 +1,4 @@
-use Rattle.std.proofs.Common.{rules, ◌≡◌, ℕ, ◌<◌, [], length, ap, sym, subst, ◌∙◌, arith, slice_index_or, vec_len}
+use Rattle.std.proofs.Common.{rules, ◌≡◌, ◌<◌, [], length, ap, sym, subst, ◌∙◌, arith, slice_index_or, vec_len}
 use Rattle.std.specs.Prelude.{IfOk}
 use Rattle.std.proofs.lemmas.Option.{slice_get_within, get_or_from_slice_get}
 use Rattle.lw_tasks.specs.declared.threads.TaskRun.{TaskRun}

@@ -1,6 +1,4 @@
-use Rattle.std.proofs.Common.{List}
 use Rattle.lw_tasks.proofs.Begun.{told_by}
-use Rattle.lw_tasks.proofs.Whole.{ordered, all_have_all}
 use Rattle.lw_tasks.proofs.threads.tell.Goals as goal
 
 pub returns : goal.returns

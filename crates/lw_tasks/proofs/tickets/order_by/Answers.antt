@@ -1,11 +1,10 @@
-use Rattle.std.proofs.Common.{◌≡◌, ℕ, ◌≤◌, List, length, replicate, Some, refl, ap, sym, subst, ◌∙◌, arith}
+use Rattle.std.proofs.Common.{◌≡◌, length, replicate, Some, refl, ap, sym, ◌∙◌, arith}
 use Rattle.std.specs.List.{slice_get}
 use Rattle.std.proofs.lemmas.List.{with_items_is}
 use Rattle.std.proofs.lemmas.Option.{slice_get_read}
 use Rattle.lw_tasks.specs.Whole.{order_below, put}
 use Rattle.lw_tasks.specs.declared.told.Told.{Told}
 use Rattle.lw_tasks.proofs.Placing.{count_below_all, order_below_none, order_below_all, length_put, placed_more, tickets_within}
-use Rattle.lw_tasks.proofs.Whole.{ordered}
 use Rattle.lw_tasks.proofs.tickets.order_by.Goals as goal
 
 pub loop-task-init : goal.loop-task-init

@@ -1,7 +1,6 @@
 use Rattle.std.proofs.Common.{rules, ◌≡◌, ◌++◌, [], length, replicate, Some, refl, ap, sym, ◌∙◌}
 use Rattle.std.specs.List.{slice_get}
 use Rattle.std.proofs.lemmas.Option.{slice_get_read}
-use Rattle.lw_tasks.specs.Whole.{count_below}
 use Rattle.lw_tasks.proofs.Placing.{count_below_none, zeros_more}
 use Rattle.lw_tasks.proofs.tickets.zeros.Goals as goal
 

@@ -1,0 +1,144 @@
+// A plan's run on threads.
+
+ghost use Rattle.std.specs.Prelude.{◌≡◌, [], map, true, vec_len, IfOk};
+ghost use Rattle.lw_calls.specs.Orders.{is_legal};
+ghost use Rattle.lw_calls.specs.Plan.{IsPlan};
+ghost use Rattle.lw_machine.specs.Desk.{empty_desk};
+ghost use Rattle.lw_machine.specs.Finals.{run_final, opening_desk};
+ghost use Rattle.lw_machine.specs.Parts.{info_part};
+ghost use Rattle.lw_order.specs.Roles.{all_roles};
+ghost use Rattle.lw_steps.specs.Steps.{AreCells};
+ghost use Rattle.lw_locks.specs.Held.{AreTasksRegs};
+ghost use Rattle.lw_tasks.specs.Whole.{HaveRun, order_of};
+
+use crate::threads::{parted, run_each};
+use crate::tickets::order_by;
+use crate::told::Told;
+use lw_backfill::Backfill;
+use lw_calls::{Final, OrderList, Plan, Replies};
+use lw_engine::LayerEngine;
+use lw_locks::{Closed, Desk, Gate, Opening};
+use lw_order::{Order, Seat};
+use lw_steps::Engine;
+use std::alloc::{AllocError, Global};
+use std::marker::Brand;
+use std::sync::Wait;
+use std::thread::Threads;
+
+/// What a run leaves: the final state, the order of its calls, and the seat that knows its history.
+#[derive(Drop)]
+pub struct Run {
+    pub last: Final,
+    pub order: OrderList,
+    pub seat: Seat,
+}
+
+/// Runs a plan whose hooks lie on the shelf, each task beside the others where threads can be made. It may wait, and so promises no
+/// return. The order is that of the calls' tickets. It fails only when out of memory, after all tasks ended.
+pub fn run_tasks<B: Backfill + Send, R: Threads + Wait + Sync, G: Gate + Sync>(
+    rt: &R,
+    alloc: Global,
+    plan: &Plan,
+    hooks: Vec<B>,
+    gate: &G,
+) -> Result<Run, AllocError>
+    ensures order { IfOk result (λ run. run.order ≡ order_of run.seat.history) }
+    ensures legal { IfOk result (λ run. is_legal plan.now run.order ≡ true) }
+    ensures last { IfOk result (λ run. run.last ≡ run_final plan.now (map B.hook hooks.items) run.order) }
+{
+    let (order, seat) = Order::start(alloc, plan.sizes())?;
+    run_on::<B, Brand, R, G>(rt, alloc, gate, plan, hooks, order, seat)
+}
+
+// On a desk for which this order word was made.
+fn run_on<B: Backfill + Send, N: Opening + Send + Sync, R: Threads + Wait + Sync, G: Gate + Sync>(
+    rt: &R,
+    alloc: Global,
+    gate: &G,
+    plan: &Plan,
+    hooks: Vec<B>,
+    order: Order,
+    seat: Seat,
+) -> Result<Run, AllocError>
+    requires desk { N.desk ≡ opening_desk plan.now (map B.hook hooks.items) }
+    requires word { order.word ≡ N.word }
+    requires sizes { order.sizes ≡ plan.now.sizes }
+    requires seat_word { seat.word ≡ N.word }
+    requires history { seat.history ≡ [] }
+    requires roles { seat.roles ≡ all_roles plan.now.sizes.slots plan.now.sizes.tasks }
+    ensures order { IfOk result (λ run. run.order ≡ order_of run.seat.history) }
+    ensures legal { IfOk result (λ run. is_legal plan.now run.order ≡ true) }
+    ensures last { IfOk result (λ run. run.last ≡ run_final plan.now (map B.hook hooks.items) run.order) }
+{
+    let engine = LayerEngine::<B>::new(*plan.sizes(), plan.assets());
+    let opened = engine.open(alloc, hooks)?;
+    let (info, cells, regs) = (opened.info, opened.slots, opened.registers);
+    let (closed, all) = run_all::<_, N, R, G>(
+        rt, alloc, gate, plan, order, seat, engine, info, cells, regs,
+    )?;
+    let Closed {
+        info,
+        cells,
+        seat,
+        ..
+    } = closed;
+    let order = order_by(alloc, all.as_slice())?;
+    let replies = replies_of(alloc, all)?;
+    let engine = LayerEngine::<B>::new(*plan.sizes(), plan.assets());
+    let last = engine.finish(alloc, &info, cells.as_slice(), replies)?;
+    Ok(Run {
+        last,
+        order: OrderList::new(order),
+        seat,
+    })
+}
+
+// Runs all tasks on a desk of these parts, and takes it apart.
+fn run_all<E: Engine, N: Opening + Send + Sync, R: Threads + Wait + Sync, G: Gate + Sync>(
+    rt: &R,
+    alloc: Global,
+    gate: &G,
+    plan: &Plan,
+    order: Order,
+    seat: Seat,
+    engine: E,
+    info: E::Info,
+    cells: Vec<E::Cell>,
+    regs: Vec<E::Regs>,
+) -> Result<(Closed<E>, Vec<Told>), AllocError>
+    requires plan { IsPlan plan.now }
+    requires desk_sizes { N.desk.sizes ≡ plan.now.sizes }
+    requires word { order.word ≡ N.word }
+    requires sizes { order.sizes ≡ N.desk.sizes }
+    requires seat_word { seat.word ≡ N.word }
+    requires history { seat.history ≡ [] }
+    requires roles { seat.roles ≡ all_roles N.desk.sizes.slots N.desk.sizes.tasks }
+    requires empty { N.desk ≡ empty_desk N.desk.sizes N.desk.assets N.desk.shelf }
+    requires engine_sizes { E.sizes engine ≡ N.desk.sizes }
+    requires engine_assets { E.assets engine ≡ N.desk.assets }
+    requires info { E.info_is N.desk.sizes info (info_part N.desk) }
+    requires slots { vec_len cells ≡ N.desk.sizes.slots }
+    requires cells { AreCells E.number E.cell_is cells.items N.desk }
+    requires tasks { vec_len regs ≡ N.desk.sizes.tasks }
+    requires regs { AreTasksRegs E.regs_is regs.items N.desk }
+    ensures { IfOk result (λ r. HaveRun (E.info_is N.desk.sizes) E.number E.cell_is N.desk plan.now r.0.info r.0.cells.items r.0.seat.history r.1.items) }
+{
+    let (desk, passes) = Desk::<E, N>::start(alloc, order, seat, engine, info, cells, regs)?;
+    let runs = run_each(rt, alloc, gate, plan, &desk, passes)?;
+    let (passes, all) = parted(alloc, runs)?;
+    let Ok(closed) = desk.close(alloc, passes) else {
+        return Err(AllocError);
+    };
+    Ok((closed, all))
+}
+
+// Each task's replies.
+fn replies_of(alloc: Global, all: Vec<Told>) -> Result<Vec<Replies>, AllocError>
+    ensures { IfOk result (λ replies. replies.items ≡ map (λ told. told.replies) all.items) }
+{
+    let mut replies = Vec::new(alloc);
+    for told in all {
+        replies.push(told.replies)?;
+    }
+    Ok(replies)
+}
