@@ -13,7 +13,8 @@ use Rattle.lw_machine.specs.Finals.{opening_desk}
 use Rattle.lw_machine.specs.Hook.{Hook}
 use Rattle.lw_machine.specs.Desk.{Desk}
 use Rattle.lw_tasks.specs.Run.{HasRun, next_of}
-use Rattle.lw_tasks.proofs.Steps.{count_of_push, occurrences_push, length_replies_of}
+use Rattle.lw_order.proofs.HistoryLaws.{count_of_append}
+use Rattle.lw_tasks.proofs.Steps.{occurrences_push, length_replies_of}
 
 -- The numbers before those that are left, which may come after them, and the steps that they stood for.
 pub record IsGoing (plan : Plan) (hooks : List Hook) (order left : List ℕ) (desk : Desk → Type 0) (told : List (List Reply)) : Type 0 where
@@ -79,7 +80,7 @@ going_next plan hooks order ts desk next told new t made going =
       numbers = going.numbers ++ t ∷ [];
       past = past ++ next_of plan past t;
       legal = it.later;
-      counted = λ u. ap (λ es. count_of u (past ++ es)) one ∙ (count_of_push u past e ∙ (ap (λ n. n + occurrences u (t ∷ [])) (going.counted u) ∙ sym (occurrences_push u going.numbers t)));
+      counted = λ u. ap (λ es. count_of u (past ++ es)) one ∙ (count_of_append u past (e ∷ []) ∙ (ap (λ n. n + occurrences u (t ∷ [])) (going.counted u) ∙ sym (occurrences_push u going.numbers t)));
       whole = append_assoc past (next_of plan past t) (entries plan (past ++ next_of plan past t) ts) ∙ going.whole;
       run = made past going.run;
     }

@@ -2,7 +2,6 @@
 use Rattle.std.proofs.Common.{◌≡◌, ℕ, ◌+◌, ◌==◌, Bool, true, false, not, ◌&&◌, ◌||◌, if◌then◌else◌, List, [], ◌∷◌, ◌++◌, length, refl, ap, ◌∙◌, arith}
 use Rattle.std.specs.Prelude.{All, Contains}
 use Rattle.std.proofs.lemmas.List.Elements.{All-head, All-tail, All-weaker, All-contains}
-use Rattle.lw_calls.specs.declared.call.Call.{Call}
 use Rattle.lw_calls.specs.declared.entry.Entry.{Entry}
 use Rattle.lw_calls.specs.declared.group.Group.{Group}
 use Rattle.lw_calls.specs.declared.touch.Role.{Role}
@@ -13,6 +12,7 @@ use Rattle.lw_machine.specs.Desk.{Desk}
 use Rattle.lw_machine.specs.History.{machine, replies_of}
 use Rattle.lw_machine.specs.Step.{after, reply}
 use Rattle.lw_order.specs.Roles.{LeavesAlone, Quiet}
+use Rattle.lw_tasks.proofs.Steps.{counted}
 use Rattle.lw_tasks.specs.Made.{calls_of, places_of, is_within, keeps_apart}
 
 -- an element that comes first, or doesn't come
@@ -47,13 +47,9 @@ keeps_apart_append groups t made (e ∷ es) fs =
     (keeps_apart_append groups t (one + made) es fs ∙ ap (λ n. keeps_apart groups t (one + made) es && keeps_apart groups t n fs) same)
 
 -- each call in a history is counted
-counted_call : (b : Bool) (c : Call) (cs : List Call) (n : ℕ) → length cs ≡ n → length (if b then c ∷ cs else cs) ≡ (if b then 1 else 0) + n
-counted_call true c cs n h = omega (arith, h)
-counted_call false c cs n h = omega (arith, h)
-
 pub length_calls_of : (t : ℕ) (es : List Entry) → length (calls_of t es) ≡ count_of t es
 length_calls_of t [] = refl
-length_calls_of t (e ∷ es) = counted_call (e.task == t) e.call _ _ (length_calls_of t es)
+length_calls_of t (e ∷ es) = counted (e.task == t) e.call _ _ (length_calls_of t es)
 
 -- none of the steps is the task's
 abbrev pub Foreign : ℕ → List Entry → Type 0

@@ -16,7 +16,8 @@ use Rattle.lw_machine.specs.History.{machine, replies_of}
 use Rattle.lw_machine.specs.Finals.{opening_desk}
 use Rattle.lw_tasks.specs.Run.{HasRun, next_of}
 use Rattle.lw_steps.proofs.Histories.{machine_push}
-use Rattle.lw_tasks.proofs.Steps.{replies_of_push, length_replies_of}
+use Rattle.lw_tasks.proofs.MadeLaws.{replies_of_append}
+use Rattle.lw_tasks.proofs.Steps.{length_replies_of}
 
 -- a reply more in one task's list, and all other lists as they were
 told_task : (b : Bool) (told : List (List Reply)) (new : List Reply) (task t : ℕ) (r : Reply) → (task == t) ≡ b → task < length told → new ≡ slice_index_or told task [] ++ r ∷ [] → slice_index_or (slice_set told task new) t [] ≡ slice_index_or told t [] ++ (if b then r ∷ [] else [])
@@ -45,7 +46,7 @@ has_run_next plan hooks past desk next told new task call r low got step pushed 
     record {
       stands = subst next (sym (machine_push start past e)) made_step.1;
       lists = length-set told task new ∙ run.lists;
-      each = λ t under. told_task (task == t) told new task t r refl within pushed ∙ (ap (λ rs. rs ++ (if (task == t) then r ∷ [] else [])) (run.each t under) ∙ (ap (λ rs. replies_of start t past ++ rs) (one_reply (task == t) r (reply (machine start past) task call) made_step.0) ∙ sym (replies_of_push start t past e)));
+      each = λ t under. told_task (task == t) told new task t r refl within pushed ∙ (ap (λ rs. rs ++ (if (task == t) then r ∷ [] else [])) (run.each t under) ∙ (ap (λ rs. replies_of start t past ++ rs) (one_reply (task == t) r (reply (machine start past) task call) made_step.0) ∙ sym (replies_of_append start t past (e ∷ []))));
     }
     )
 

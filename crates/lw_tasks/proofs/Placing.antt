@@ -9,16 +9,13 @@ use Rattle.lw_calls.specs.declared.entry.Entry.{Entry}
 use Rattle.lw_calls.specs.Entries.{count_of}
 use Rattle.lw_order.specs.Numbered.{TasksBelow}
 use Rattle.lw_tasks.specs.Made.{places_of}
+use Rattle.lw_tasks.proofs.Steps.{counted}
 use Rattle.lw_tasks.specs.Whole.{order_of, count_below, order_below, put}
 
 -- so many places as steps
-counted_place : (b : Bool) (p : ℕ) (ps : List ℕ) (n : ℕ) → length ps ≡ n → length (if b then p ∷ ps else ps) ≡ (if b then 1 else 0) + n
-counted_place true p ps n h = omega (arith, h)
-counted_place false p ps n h = omega (arith, h)
-
 pub length_places_of : (t first : ℕ) (es : List Entry) → length (places_of t first es) ≡ count_of t es
 length_places_of t first [] = refl
-length_places_of t first (e ∷ es) = counted_place (e.task == t) first _ _ (length_places_of t (first + 1) es)
+length_places_of t first (e ∷ es) = counted (e.task == t) first _ _ (length_places_of t (first + 1) es)
 
 placed_or_not : (P : ℕ → Type 0) (b : Bool) (p : ℕ) (ps : List ℕ) → P p → All P ps → All P (if b then p ∷ ps else ps)
 placed_or_not P true p ps h all = All-cons P p ps h all

@@ -1,7 +1,8 @@
 -- The history in which each task of a plan made all its calls is that of a legal order.
 use Rattle.std.proofs.Common.{◌≡◌, ℕ, zero, suc, ◌+◌, ◌<◌, ◌==◌, Bool, true, false, not, ◌&&◌, ◌||◌, if◌then◌else◌, List, [], ◌∷◌, ◌++◌, length, refl, ap, sym, subst, ◌∙◌, arith, append_assoc, eq-eqb, Some}
 use Rattle.std.specs.List.{list_all, slice_get, range_with_len}
-use Rattle.std.proofs.lemmas.Bool.{and_parts, eqb-true}
+use Rattle.std.proofs.lemmas.Bool.{and_parts}
+use Rattle.std.proofs.lemmas.Bool.Decides.{nat_tests}
 use Rattle.std.proofs.lemmas.List.{map-append}
 use Rattle.std.proofs.lemmas.List.Elements.{All-head, All-tail}
 use Rattle.std.proofs.lemmas.Option.{slice_get_within}
@@ -42,33 +43,16 @@ own_first : (b : Bool) (c : Call) (cs : List Call) → b ≡ true → (if b then
 own_first true c cs h = refl
 own_first false c cs h = absurd (cc h)
 
-equal_tests : (a b : ℕ) (t : Bool) → (a == b) ≡ t → t ≡ true → (b == a) ≡ true
-equal_tests a b t h is = eq-eqb b a (sym (eqb-true a b (h ∙ is)))
-
-swapped : (a b : ℕ) (t q : Bool) → (a == b) ≡ t → (t || q) ≡ true → ((b == a) || q) ≡ true
-swapped a b true q h k = first_true (b == a) q (equal_tests a b true h refl)
-  where
-    first_true : (x y : Bool) → x ≡ true → (x || y) ≡ true
-    first_true true y h = refl
-    first_true false y h = absurd (cc h)
-swapped a b false q h k = second_true (b == a) q k
-  where
-    second_true : (x y : Bool) → y ≡ true → (x || y) ≡ true
-    second_true true y h = refl
-    second_true false y h = h
-
-all_in_range : (p : ℕ → Bool) (first n : ℕ) → ((u : ℕ) → u < first + n → p u ≡ true) → list_all p (range_with_len first n) ≡ true
-all_in_range p first zero each = refl
-all_in_range p first (suc n) each =
-    both_true (p first) _ (each first (omega arith)) (all_in_range p (first + 1) n (λ u low. each u (omega (arith, low))))
-  where
-    both_true : (a b : Bool) → a ≡ true → b ≡ true → (a && b) ≡ true
-    both_true true b h k = k
-    both_true false b h k = absurd (cc h)
-
 both : (a b : Bool) → a ≡ true → b ≡ true → (a && b) ≡ true
 both true b h k = k
 both false b h k = absurd (cc h)
+
+same_test : (a b : ℕ) → (a == b) ≡ (b == a)
+same_test a b = grind (arith, nat_tests)
+
+all_in_range : (p : ℕ → Bool) (first n : ℕ) → ((u : ℕ) → u < first + n → p u ≡ true) → list_all p (range_with_len first n) ≡ true
+all_in_range p first zero each = refl
+all_in_range p first (suc n) each = both (p first) _ (each first (omega arith)) (all_in_range p (first + 1) n (λ u low. each u (omega (arith, low))))
 
 module _ (plan : Plan) (desk : Desk) (whole : List Entry) (made : (t : ℕ) → t < plan.sizes.tasks → (said : Told) × HasAll desk plan t whole said) (sizes : desk.sizes ≡ plan.sizes) (known : IsHistory desk.sizes whole) where
   -- the call of a step is its task's next one
@@ -95,7 +79,7 @@ module _ (plan : Plan) (desk : Desk) (whole : List Entry) (made : (t : ℕ) → 
       let here = (and_parts ((t == u) || not (is_within gs (count_of u front + 0) (touch_of t e.call))) _ split.1).0 in
       let many : count_of u front + 0 ≡ occurrences u past = (let same = occurrences_in u front in omega (arith, same)) in
       let P : ℕ → Type 0 = λ n. ((t == u) || not (is_within gs n (touch_of t e.call))) ≡ true in
-      swapped t u (t == u) (not (is_within gs (occurrences u past) (touch_of t e.call))) refl (subst P many here))
+      ap (λ b. b || not (is_within gs (occurrences u past) (touch_of t e.call))) (same_test u t) ∙ subst P many here)
 
   keeps : (front back : List Entry) → whole ≡ front ++ back → TasksBelow plan.sizes.tasks back → keeps_groups plan (order_of front) (order_of back) ≡ true
   keeps front [] parts low = refl

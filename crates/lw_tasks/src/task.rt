@@ -112,15 +112,8 @@ fn make_group<E: Engine, N: Opening, R: Wait, G: Gate>(
     let (first, last) = (group.first as usize, group.last as usize);
     make_up_to(desk, rt, alloc, gate, plan, pass, first, answers)?;
     let calls = plan.calls(pass.task());
-    desk.group(
-        rt,
-        alloc,
-        gate,
-        pass,
-        group.hold,
-        &calls[first..last + 1],
-        answers,
-    )
+    let part = &calls[first..last + 1];
+    desk.group(rt, alloc, gate, pass, group.hold, part, answers)
 }
 
 // Makes the task's calls up to the end of its last group.
