@@ -2,11 +2,12 @@ ghost use Rattle.std.specs.Prelude.{◌≡◌, [], ◌∷◌, true, All, IsTrue,
 ghost use Rattle.lw_calls.specs.Limits.{call_fits};
 ghost use Rattle.lw_calls.specs.Orders.{is_legal};
 
-use crate::replay;
+use crate::{replay, run_tasks};
 use lw_backfill::{Backfill, Solid};
 use lw_calls::{
     Assets, Call, Kind, Make, OrderList, Place, Plan, PlanParts, Replies, Reply, Sizes, Text,
 };
+use lw_locks::OpenGate;
 use lw_region::Rect;
 use std::alloc::{AllocError, Global};
 use std::process::Abort;
@@ -133,4 +134,19 @@ fn a_boxed_hook_fills_its_layer(rt: HostRuntime) -> Result<(), Fail> {
     let mut hooks: Vec<Box<dyn Backfill + Send>> = Vec::new(alloc);
     hooks.push(Box::new(alloc, Solid::new(1))?)?;
     fills_both(&rt, &plan, hooks, &[0, 1, 0, 1], &[0xc0, 0xf0])
+}
+
+#[test]
+fn tasks_on_threads_end_as_their_order_does(rt: HostRuntime) -> Result<(), Fail> {
+    let alloc = rt.alloc();
+    let first = calls_of_task(&rt, 0, 0, None)?;
+    let second = calls_of_task(&rt, 1, 8, None)?;
+    let plan = plan_of(alloc, first, second)?;
+    let none = Vec::<Solid>::new(alloc);
+    let run = run_tasks(&rt, alloc, &plan, none, &OpenGate)?;
+    assert_eq!(rt; run.last.planes.height(), 1);
+    assert_eq!(rt; run.last.planes.depth(), 1);
+    assert_eq!(rt; run.last.planes.row(0, 0), &[0xc0, 0xc0][..]);
+    let none = Vec::<Solid>::new(alloc);
+    fills_both(&rt, &plan, none, run.order.tasks(), &[0xc0, 0xc0])
 }
