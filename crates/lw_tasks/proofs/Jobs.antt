@@ -1,14 +1,14 @@
 -- The passes that tasks begin with.
 use Rattle.std.proofs.Common.{◌≡◌, ℕ, suc, ◌+◌, ◌<◌, length, List, [], ◌∷◌, map, option_map, Some, refl, ap, sym, subst, ◌∙◌, arith}
-use Rattle.std.specs.Prelude.{Result, Ok, IfOk}
+use Rattle.std.specs.Prelude.{Result, Ok, IfOk, Contains}
 use Rattle.std.specs.List.{slice_index_or, slice_get, range_with_len}
 use Rattle.std.proofs.lemmas.List.{length-map}
-use Rattle.std.proofs.lemmas.List.FromFn.{length-range_with_len, get_or-map-range_with_len}
+use Rattle.std.proofs.lemmas.List.FromFn.{length-range_with_len, get_or-range_with_len, get_or-map-range_with_len}
 use Rattle.std.proofs.lemmas.Option.{slice_get-map, slice_get_within, same_Some}
 use Rattle.lw_calls.specs.declared.entry.Entry.{Entry}
 use Rattle.lw_calls.specs.Plan.{Plan}
 use Rattle.lw_machine.specs.Desk.{Desk}
-use Rattle.lw_locks.specs.Closing.{task_of}
+use Rattle.lw_locks.specs.Closing.{task_of, HasEach}
 use Rattle.lw_locks.specs.Seen.{SeenPass, opening_pass}
 use Rattle.lw_tasks.specs.declared.told.Told.{Told}
 use Rattle.lw_tasks.specs.Whole.{HasAll, EachHasAll}
@@ -64,3 +64,10 @@ numbered_from (p ∷ ps) first each =
 -- the passes of all tasks stand in rising number
 pub in_order : (passes : List SeenPass) (n : ℕ) → length passes ≡ n → ((t : ℕ) (p : SeenPass) → slice_get passes t ≡ Some p → p.task ≡ t) → map task_of passes ≡ range_with_len 0 n
 in_order passes n many each = numbered_from passes 0 (λ t p got. let own = each t p got in omega (arith, own)) ∙ ap (range_with_len 0) many
+
+-- and so there is one of each task
+pub each_in_order : (passes : List SeenPass) (n : ℕ) → map task_of passes ≡ range_with_len 0 n → HasEach passes n
+each_in_order passes n are t below =
+    let place : 0 + t ≡ t = omega arith in
+    let row : Contains (range_with_len 0 n) t = (t, subst (λ m. t < m) (sym (length-range_with_len 0 n)) below, get_or-range_with_len 0 n t t below ∙ place) in
+    subst (λ ts. Contains ts t) (sym are) row

@@ -5,7 +5,7 @@ use Rattle.std.proofs.lemmas.Bool.{and_parts}
 use Rattle.std.proofs.lemmas.Bool.Decides.{nat_tests}
 use Rattle.std.proofs.lemmas.List.{map-append}
 use Rattle.std.proofs.lemmas.List.Elements.{All-head, All-tail}
-use Rattle.std.proofs.lemmas.Option.{slice_get_within}
+use Rattle.std.proofs.lemmas.Option.{slice_get_within, get_or_from_slice_get}
 use Rattle.lw_calls.specs.declared.call.Call.{Call}
 use Rattle.lw_calls.specs.declared.entry.Entry.{Entry}
 use Rattle.lw_calls.specs.declared.group.Group.{Group}
@@ -115,7 +115,7 @@ all_have_all plan desk passes whole all is many followed each t told got =
     let low : t < length all = slice_get_within all t told got in
     let p : (p : SeenPass) × (slice_get passes t ≡ Some p) = has_entry passes t (omega (arith, low, many)) in
     let had = each t p.0 told p.1 got in
-    let goes : Follows (Task t ∷ []) p.0.history whole.history = subst (λ n. Follows (Task n ∷ []) p.0.history whole.history) had.0 (followed t p.0 p.1).1 in
+    let goes : Follows (Task t ∷ []) p.0.history whole.history = subst (λ n. Follows (Task n ∷ []) p.0.history whole.history) had.0 (followed p.0 (t, slice_get_within passes t p.0 p.1, get_or_from_slice_get passes t p.0 p.0 p.1)).1 in
     let groups = task_groups plan t in
     let calls = task_calls plan t in
     told_still desk groups t (Task t ∷ []) calls p.0.history whole.history told.replies told.tickets.items (0, omega arith, refl) (guards_free desk.sizes.slots groups (length calls) (Task t ∷ []) (all_over calls groups (is.groups t))) had.1 goes
