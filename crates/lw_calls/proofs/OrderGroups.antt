@@ -9,7 +9,7 @@ use Rattle.lw_calls.specs.declared.group.Hold.{Hold}
 use Rattle.lw_calls.specs.declared.group.Hold.TheVariants.{Slot, All as AllLayers}
 use Rattle.lw_calls.specs.declared.group.Group.{Group}
 use Rattle.lw_calls.specs.Touches.{slots_of}
-use Rattle.lw_calls.specs.Plan.{is_one, is_all, may_be_locked, are_locked, are_an_update, end_an_update, may_stand, group_calls, group_fits, groups_fit}
+use Rattle.lw_calls.specs.Plan.{is_one, is_all, may_be_locked, are_locked, are_an_update, end_an_update, hold_allows, group_calls, group_fits, groups_fit}
 use Rattle.lw_calls.specs.Orders.{meets, is_open}
 use Rattle.lw_calls.specs.Code.OrderState.{groups_over, progress_at, is_held_by, over_more, progress_more}
 use Rattle.std.proofs.lemmas.Bool.{true≢false, false≢true, lt-ltb, le-ltb, lt-leb, ltb-true, ltb-false, leb-true, eqb-true, and_parts}
@@ -46,16 +46,16 @@ follows_on calls g h gs fit = ltb-true g.last h.first (and_parts (group_fits cal
 
 -- a group that fits isn't empty, and ends within its task
 pub has_order : (calls : List Call) (g : Group) → group_fits calls g ≡ true → g.first ≤ g.last
-has_order calls g fit = leb-true g.first g.last (and_parts (nat_le g.first g.last) _ (and_parts _ (may_stand g.hold (group_calls calls g)) fit).0).0
+has_order calls g fit = leb-true g.first g.last (and_parts (nat_le g.first g.last) _ (and_parts _ (hold_allows g.hold (group_calls calls g)) fit).0).0
 
 pub ends_within : (calls : List Call) (g : Group) → group_fits calls g ≡ true → g.last < length calls
-ends_within calls g fit = ltb-true g.last (length calls) (and_parts (nat_le g.first g.last) _ (and_parts _ (may_stand g.hold (group_calls calls g)) fit).0).1
+ends_within calls g fit = ltb-true g.last (length calls) (and_parts (nat_le g.first g.last) _ (and_parts _ (hold_allows g.hold (group_calls calls g)) fit).0).1
 
 -- a group isn't open before its first call was made, nor once its last one was
-not_begun : (made : ℕ) (g : Group) → made ≤ g.first → is_open made g ≡ false
+pub not_begun : (made : ℕ) (g : Group) → made ≤ g.first → is_open made g ≡ false
 not_begun made g low = ap (λ b. b && nat_le made g.last) (le-ltb g.first made low)
 
-is_over : (made : ℕ) (g : Group) → g.last < made → is_open made g ≡ false
+pub is_over : (made : ℕ) (g : Group) → g.last < made → is_open made g ≡ false
 is_over made g high = step (nat_lt g.first made) (nat_le made g.last) (lt-leb made g.last high)
   where
     step : (a b : Bool) → b ≡ false → (a && b) ≡ false
@@ -174,7 +174,7 @@ update_at s (d ∷ e ∷ cs) zero c fit at = search rules
 update_at s (d ∷ e ∷ cs) (suc i) c fit at = update_at s (e ∷ cs) i c (and_parts (may_be_locked s d) _ fit).1 at
 
 -- each call among those that may stand in a group is inside it
-stands_inside : (h : Hold) (cs : List Call) (i : ℕ) (c : Call) → may_stand h cs ≡ true → slice_get cs i ≡ Some c → inside h (slots_of c) ≡ true
+stands_inside : (h : Hold) (cs : List Call) (i : ℕ) (c : Call) → hold_allows h cs ≡ true → slice_get cs i ≡ Some c → inside h (slots_of c) ≡ true
 stands_inside AllLayers cs i c fit at = all_at (λ c. is_all (slots_of c)) cs i c fit at
 stands_inside (Slot s) [] i c fit at = absurd (search rules)
 stands_inside (Slot s) (d ∷ cs) i c fit at = either (are_locked s (d ∷ cs)) refl fit
@@ -204,7 +204,7 @@ get_taken (x ∷ xs) (suc n) (suc i) low = get_taken xs n i (omega arith)
 -- a call from a group's first to its last is inside it
 pub inside_group : (calls : List Call) (g : Group) (i : ℕ) (c : Call) → group_fits calls g ≡ true → g.first ≤ i → i ≤ g.last → slice_get calls i ≡ Some c → inside g.hold (slots_of c) ≡ true
 inside_group calls g i c fit low high at =
-    let stand = (and_parts _ (may_stand g.hold (group_calls calls g)) fit).1 in
+    let stand = (and_parts _ (hold_allows g.hold (group_calls calls g)) fit).1 in
     let there : g.first + (i - g.first) ≡ i = omega arith in
     stands_inside g.hold (group_calls calls g) (i - g.first) c stand
     (get_taken (drop g.first calls) ((g.last + 1) - g.first) (i - g.first) (omega arith) ∙ (get_dropped calls g.first (i - g.first) ∙ (ap (slice_get calls) there ∙ at)))

@@ -76,19 +76,18 @@ abbrev pub are_an_update : ℕ → List Call → Bool
 are_an_update s [] = false
 are_an_update s (c ∷ cs) = (is_one s (slots_of c) && begins_update c) && end_an_update s cs
 
--- Such calls may stand in a group that holds this: calls on the one layer, which are locked or an update of it; or
--- arrangements.
-abbrev pub may_stand : Hold → List Call → Bool
-may_stand (Slot s) calls = are_locked s calls || are_an_update s calls
-may_stand AllLayers calls = list_all (λ c. is_all (slots_of c)) calls
+-- A group that holds this allows these calls: calls on the one layer, which are locked or an update of it; or arrangements.
+abbrev pub hold_allows : Hold → List Call → Bool
+hold_allows (Slot s) calls = are_locked s calls || are_an_update s calls
+hold_allows AllLayers calls = list_all (λ c. is_all (slots_of c)) calls
 
 -- the calls of a group among those of its task
 abbrev pub group_calls : List Call → Group → List Call
 group_calls calls g = take ((g.last + 1) - g.first) (drop g.first calls)
 
--- The group has a first and a last call, and its calls may stand in it.
+-- The group has a first and a last call, and allows its calls.
 abbrev pub group_fits : List Call → Group → Bool
-group_fits calls g = (nat_le g.first g.last && nat_lt g.last (length calls)) && may_stand g.hold (group_calls calls g)
+group_fits calls g = (nat_le g.first g.last && nat_lt g.last (length calls)) && hold_allows g.hold (group_calls calls g)
 
 -- The groups of a task: each fits, and they stand in rising order with no call in two of them.
 abbrev pub groups_fit : List Call → List Group → Bool

@@ -14,8 +14,6 @@ pub enum Reason {
     UnknownWord,
     /// Lines with this first word don't stand in this part of this input.
     Misplaced,
-    /// A second task begins, in a script alone.
-    OneTaskOnly,
     /// The words fit no form of the first word.
     Form,
     /// A number is outside its range, a glyph's code outside 0x20 to 0x7e, or a maximum below its minimum.

@@ -56,7 +56,7 @@ first_again one s t x y z above g =
     let k = tests s above (ScreenLine x y z) g in
     let tested : IsStatementTested t [] (ScreenLine x y z) =
     record { range = k.range; named = refl; new = refl; group = refl; few = refl; hook = refl; unused = refl; padding = refl } in
-    (spelled_again one s t above [] f g.0 (verb_statements s t above [] ScreenIsDue at.0 refl (in_screen _ at.1) refl refl) (tests_pass t [] f tested), isnt_passed [] (spelled (ScreenLine x y z)) refl refl, tt)
+    (spelled_again one s t above [] f g.0 (verb_statements s t above [] ScreenIsDue f at.0 refl (in_screen _ at.1) refl refl) (tests_pass t [] f tested), isnt_passed [] (spelled (ScreenLine x y z)) refl refl, tt)
 
 -- it has the numbers that the lines above tell
 screen_same : (s : Setting) (w h d : ℕ) (k : IsScreenRead s w h d) → ScreenLine k.x k.y k.z ≡ ScreenLine (pos w) (pos h) (pos d)

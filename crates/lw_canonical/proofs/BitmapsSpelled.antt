@@ -36,7 +36,7 @@ module _ (one : HasOneSpelling) (s t : Setting) (w h d : ℕ) (base : List State
       let none : (told (kept above base)).rows_due ≡ 0 = due_kept base b s above g.1 ∙ eqb-true _ 0 at.0 in
       let tested : IsStatementTested t (kept above base) (BitmapLine name x y z) =
       record { range = k.range; named = refl; new = ap (list_any (bytes_eq name)) (names_kept base b above) ∙ k.new; group = refl; few = few_kept f above g; hook = refl; unused = refl; padding = refl } in
-      spelled_again one s t above (kept above base) f g.0 (verb_statements s t above (kept above base) AssetsAreDue at.0 (eq-eqb _ 0 none) (in_assets _ at.1) (bare_kept w h d above base bare).section refl) (tests_pass t (kept above base) f tested)
+      spelled_again one s t above (kept above base) f g.0 (verb_statements s t above (kept above base) AssetsAreDue f at.0 (eq-eqb _ 0 none) (in_assets _ at.1) (bare_kept w h d above base bare).section refl) (tests_pass t (kept above base) f tested)
 
   row_again : (bytes : List ℕ) (above : List Statement) → AreGoodLines s (RowLine bytes ∷ above) → line_read t (told (kept above base)) (spelled (RowLine bytes)) ≡ Ok (RowLine bytes)
   row_again bytes above g =
@@ -45,7 +45,7 @@ module _ (one : HasOneSpelling) (s t : Setting) (w h d : ℕ) (base : List State
       let some : ((told (kept above base)).rows_due == 0) ≡ false = ap (λ n. n == 0) (due_kept base b s above g.1) ∙ at.0 in
       let tested : IsStatementTested t (kept above base) (RowLine bytes) =
       record { range = k.range; named = refl; new = refl; group = refl; few = few_kept (RowLine bytes) above g; hook = refl; unused = refl; padding = ap (λ width. has_padding width (RowLine bytes)) (width_kept base b above) ∙ k.padding } in
-      spelled_again one s t above (kept above base) (RowLine bytes) g.0 (row_statements s t above (kept above base) at.0 some (sym (width_kept base b above))) (tests_pass t (kept above base) (RowLine bytes) tested)
+      spelled_again one s t above (kept above base) (RowLine bytes) g.0 (row_statements s t above (kept above base) at.0 some (sym (width_kept base b above)) (RowLine bytes)) (tests_pass t (kept above base) (RowLine bytes) tested)
 
   -- Each of them reads again where those below the kept lines do.
   pub kept_spelled : (above : List Statement) → AreGoodLines s above → AreSpelled t base → AreSpelled t (kept above base)

@@ -1,4 +1,4 @@
--- The canonical text of a plan of one task that an input spells, spells that plan as a script alone.
+-- The canonical text of a plan that an input spells, spells that plan as a script alone.
 use Rattle.std.proofs.Common.{◌≡◌, ℕ, ◌+◌, true, false, min, List, [], ◌∷◌, ◌++◌, map, reverse, length, Ok, refl, sym, ap, ap₂, subst, ◌∙◌, arith, append_assoc, append-nil, length-append}
 use Rattle.std.specs.List.{flat_map}
 use Rattle.lw_calls.specs.Plan.{Plan}
@@ -95,12 +95,12 @@ without_order : (t : Setting) (statements : List Statement) (p : Plan) (n : ℕ)
 without_order t statements p n e d = rw (e, d) refl
 
 -- the canonical text of the plan that good lines tell
-of_good : (s : Setting) (above : List Statement) → AreGoodLines s above → may_end s.form (told above).section ≡ true → length (told above).tasks ≡ 1 → lines_of_plan (plan_of s.hooks (told above)) ≡ reverse (arranged above) → SpellsInput (alone s) (canonical_text (plan_of s.hooks (told above))) (canonical_input (plan_of s.hooks (told above)))
-of_good s above good whole one ls =
+of_good : (s : Setting) (above : List Statement) → AreGoodLines s above → may_end s.form (told above).section ≡ true → lines_of_plan (plan_of s.hooks (told above)) ≡ reverse (arranged above) → SpellsInput (alone s) (canonical_text (plan_of s.hooks (told above))) (canonical_input (plan_of s.hooks (told above)))
+of_good s above good whole ls =
     let p = plan_of s.hooks (told above) in
     let base = base_of above in
     let is = whole_base_is s above good whole in
-    let all : AreSpelled (alone s) (arranged above) = tasks_spelled one_spelling s above base good whole one is (base_spelled one_spelling s above good whole) in
+    let all : AreSpelled (alone s) (arranged above) = tasks_spelled one_spelling s above base good whole is (base_spelled one_spelling s above good whole) in
     let spelt = spells (alone s) (arranged above) all (tasks_whole s above base good whole is) in
     let text : text_of (reverse (arranged above)) ≡ canonical_text p = text_is p (arranged above) ls in
     let plan : plan_of s.hooks (told (arranged above)) ≡ p = tasks_plan s above base good whole is in
@@ -108,15 +108,14 @@ of_good s above good whole one ls =
     let P : List ℕ → Type 0 = λ bytes. SpellsInput (alone s) bytes (input_from (alone s) (told (arranged above)) (length bytes)) in
     subst (SpellsInput (alone s) (canonical_text p)) (without_order (alone s) (arranged above) p (length (canonical_text p)) plan order) (subst P text spelt)
 
--- the canonical text of a plan of one task that an input spells
+-- the canonical text of a plan that an input spells
 reads_back : ((s : Setting) (above : List Statement) → AreGoodLines s above → may_end s.form (told above).section ≡ true → lines_of_plan (plan_of s.hooks (told above)) ≡ reverse (arranged above)) → CanonicalTextsReadBack
-reads_back plan_lines s bytes input h one =
+reads_back plan_lines s bytes input h =
     let l = of_lines s bytes input h in
     let above = l.reached.statements in
     let same : input.plan ≡ plan_of s.hooks (told above) = ap (λ i. i.plan) l.is in
-    let count : length (told above).tasks ≡ 1 = ap (λ p. p.sizes.tasks) (sym same) ∙ one in
     let P : Plan → Type 0 = λ p. SpellsInput (alone s) (canonical_text p) (canonical_input p) in
-    subst P (sym same) (of_good s above l.read.good l.read.ended count (plan_lines s above l.read.good l.read.ended))
+    subst P (sym same) (of_good s above l.read.good l.read.ended (plan_lines s above l.read.good l.read.ended))
 
 -- so is the canonical text of each
 pub canonical_texts_read_back : CanonicalTextsReadBack

@@ -111,7 +111,7 @@ zero_rows (r ∷ rows) h =
 -- so a glyph without a bit is eight zeros
 unset_glyph : (s : Setting) (code : ℕ) (rows : List ℕ) → IsGlyphRead s code rows → list_all (λ row. row == 0) rows ≡ true → rows ≡ replicate 8 0
 unset_glyph s code rows (inl e) h = e
-unset_glyph s code rows (inr k) h = zero_rows rows h ∙ ap (λ n. replicate n 0) (here s k.0 (GlyphLine code rows) k.1).3
+unset_glyph s code rows (inr k) h = zero_rows rows h ∙ ap (λ n. replicate n 0) (here s k.0 (GlyphLine code rows) k.1).2
 
 -- Over lines without a glyph those of good lines give each code's glyph again, and read again.
 module _ (s : Setting) (above base : List Statement) (g : AreGoodLines s above) where
@@ -148,7 +148,7 @@ glyph_again one s t w h d code rows above lines g bare b new =
     let none : length (told lines).bitmap_names ≡ 0 = ap length b.names in
     let tested : IsStatementTested t lines (GlyphLine code rows) =
     record { range = k.range; named = refl; new = new; group = refl; few = few_bare w h d (f ∷ lines) (bare_glyph w h d lines code rows bare) (omega (arith, none)); hook = refl; unused = refl; padding = refl } in
-    spelled_again one s t above lines f g.0 (verb_statements s t above lines AssetsAreDue at.0 (eq-eqb _ 0 b.due) (in_assets _ at.1) bare.section refl) (tests_pass t lines f tested)
+    spelled_again one s t above lines f g.0 (verb_statements s t above lines AssetsAreDue f at.0 (eq-eqb _ 0 b.due) (in_assets _ at.1) bare.section refl) (tests_pass t lines f tested)
 
 -- So do all glyphs in order.
 pub over_spelled : HasOneSpelling → (s t : Setting) (above base : List Statement) → AreGoodLines s above → (w h d : ℕ) → IsBare w h d base → IsWithoutBitmaps base → (told base).given ≡ nothing_told.given → AreSpelled t base → (n : ℕ) → AreSpelled t (glyphs_over above base n)

@@ -1,12 +1,12 @@
 -- Each good line has one spelling, in which it isn't skipped and has no line feed; and lines so spelled are those of their text.
-use Rattle.std.proofs.Common.{◌≡◌, ℕ, ◌*◌, ◌==◌, Bool, true, false, not, cond, ◌&&◌, nat_le, List, [], ◌∷◌, ◌++◌, length, map, codes, Option, Some, None, Result, Ok, Err, ok_or, option_map, IfSome, refl, sym, ap, subst, ◌∙◌, append_assoc}
+use Rattle.std.proofs.Common.{◌≡◌, ℕ, ◌*◌, ◌==◌, Bool, true, false, not, cond, nat_le, List, [], ◌∷◌, ◌++◌, length, map, codes, Option, Some, None, Result, Ok, Err, ok_or, option_map, IfSome, refl, sym, ap, subst, ◌∙◌, append_assoc}
 use Rattle.std.specs.List.{list_all, flat_map, onto_first}
 use Rattle.std.specs.Result.{IfOk}
 use Rattle.lw_planes.specs.Bitmap.{row_bytes}
 use Rattle.lw_calls.specs.declared.operation.RectOp.TheVariants.{Or as OrR, And as AndR, Xor as XorR, Clear as ClearR}
 use Rattle.lw_calls.specs.declared.operation.PairOp.TheVariants.{Or as OrP, And as AndP, Xor as XorP}
 use Rattle.lw_calls.specs.declared.reason.Reason.{Reason}
-use Rattle.lw_calls.specs.declared.reason.Reason.TheVariants.{LineTooLong, BadByte, UnknownWord, Misplaced, OneTaskOnly, Form as FormReason, Range}
+use Rattle.lw_calls.specs.declared.reason.Reason.TheVariants.{LineTooLong, BadByte, UnknownWord, Misplaced, Form as FormReason, Range}
 use Rattle.lw_grammar.specs.declared.verb.Verb.{Verb}
 use Rattle.lw_grammar.specs.declared.verb.Verb.TheVariants.{Screen as ScreenVerb, Glyph as GlyphVerb, Bitmap as BitmapVerb, Task as TaskVerb, End as EndVerb, Order as OrderVerb, Report as ReportVerb, Lock as LockVerb, Unlock as UnlockVerb, Hold as HoldVerb, Release as ReleaseVerb, OrRect as OrRectVerb, AndRect as AndRectVerb, XorRect as XorRectVerb, ClearRect as ClearRectVerb, OrRegion as OrRegionVerb, AndRegion as AndRegionVerb, XorRegion as XorRegionVerb, ClearRegion as ClearRegionVerb, Create as CreateVerb, Open as OpenVerb, Close as CloseVerb, Front as FrontVerb, Behind as BehindVerb, InFront as InFrontVerb, Move as MoveVerb, Size as SizeVerb, Box as BoxVerb, Activate as ActivateVerb, Which as WhichVerb, APen as APenVerb, BPen as BPenVerb, Mode as ModeVerb, Mask as MaskVerb, At as AtVerb, Write as WriteVerb, Read as ReadVerb, Fill as FillVerb, Draw as DrawVerb, Text as TextVerb, SetRast as SetRastVerb, ScrollRaster as ScrollRasterVerb, Put as PutVerb, Blit as BlitVerb, Clip as ClipVerb, Unclip as UnclipVerb, Refresh as RefreshVerb, EndRefresh as EndRefreshVerb, Scroll as ScrollVerb, Title as TitleVerb, GetMsg as GetMsgVerb}
 use Rattle.lw_grammar.specs.Demands.{◌>>=◌, demand}
@@ -15,7 +15,7 @@ use Rattle.lw_grammar.specs.Tokens.{on_found, tokens_at, tokens, Token, OddToken
 use Rattle.lw_grammar.specs.Verbs.{verb_word, verb_of}
 use Rattle.lw_grammar.specs.Statements.{CloseAct, FrontAct, BehindAct, MoveAct, SizeAct, BoxAct, ActivateAct, APenAct, BPenAct, ModeAct, MaskAct, AtAct, WriteAct, ReadAct, FillAct, DrawAct, TextAct, SetRastAct, ClipAct, UnclipAct, RefreshAct, ScrollAct, TitleAct, GetMsgAct, Statement, RowLine, TaskLine, EndLine, OrderLine, ReportLine, LockLine, UnlockLine, HoldLine, ReleaseLine, four, row_line, numbers_limit, numbers_line, statement_by, is_line_in_range}
 use Rattle.lw_grammar.specs.Told.{told}
-use Rattle.lw_grammar.specs.Script.{Setting, line_limit, is_skipped, is_printable, are_tasks_due, are_numbers_due, is_plain, belongs_in, is_task_verb, words_read, verb_read, statement_read, statement_tested, line_read, IsGoodLine}
+use Rattle.lw_grammar.specs.Script.{Setting, line_limit, is_skipped, is_printable, are_numbers_due, belongs_in, words_read, verb_read, statement_read, statement_tested, line_read, IsGoodLine}
 use Rattle.lw_calls.specs.Written.{line_of}
 use Rattle.lw_canonical.specs.Spelling.{joined, words_of, spelled}
 use Rattle.lw_canonical.proofs.Rearranged.{HasOneSpelling}
@@ -105,14 +105,13 @@ verb_words : (s : Setting) (above : List Statement) (ws : List (List ℕ)) → I
 verb_words s above [] = tt
 verb_words s above (w ∷ ws) = at_verb (verb_of w) (verb_spelled w)
   where
-    at_tests : (v : Verb) → IsWordOf w v → (b c : Bool) → IfOk (demand b Misplaced >>= (λ _. demand c OneTaskOnly >>= (λ _. ok_or (statement_by v (map token_of ws)) FormReason))) (IsOfWords (w ∷ ws))
-    at_tests v e false c = tt
-    at_tests v e true false = tt
-    at_tests v e true true = by_verb w v ws e (statement_by v (map token_of ws)) (statement_spelt v (map token_of ws))
+    at_test : (v : Verb) → IsWordOf w v → (b : Bool) → IfOk (demand b Misplaced >>= (λ _. ok_or (statement_by v (map token_of ws)) FormReason)) (IsOfWords (w ∷ ws))
+    at_test v e false = tt
+    at_test v e true = by_verb w v ws e (statement_by v (map token_of ws)) (statement_spelt v (map token_of ws))
 
-    at_verb : (o : Option Verb) → IfSome o (IsWordOf w) → IfOk (ok_or o UnknownWord >>= (λ v. demand (belongs_in s.form (told above).section v) Misplaced >>= (λ _. demand (not ((is_plain s.form && are_tasks_due (told above).section) && is_task_verb v)) OneTaskOnly >>= (λ _. ok_or (statement_by v (map token_of ws)) FormReason)))) (IsOfWords (w ∷ ws))
+    at_verb : (o : Option Verb) → IfSome o (IsWordOf w) → IfOk (ok_or o UnknownWord >>= (λ v. demand (belongs_in s.form (told above).section v) Misplaced >>= (λ _. ok_or (statement_by v (map token_of ws)) FormReason))) (IsOfWords (w ∷ ws))
     at_verb None e = tt
-    at_verb (Some v) e = at_tests v e (belongs_in s.form (told above).section v) (not ((is_plain s.form && are_tasks_due (told above).section) && is_task_verb v))
+    at_verb (Some v) e = at_test v e (belongs_in s.form (told above).section v)
 
 -- of two results, each has what it is to have
 either_ok : {A : Type 0} (P : A → Type 0) (b : Bool) (x y : Result A Reason) → IfOk x P → IfOk y P → IfOk (cond b x y) P
@@ -204,7 +203,7 @@ no_statement : (s : Setting) (above : List Statement) (w : List ℕ) (ws : List 
 no_statement s above w ws =
     either_ok (λ _. ⊥) (not ((told above).rows_due == 0)) _ _ (found_has (λ _. ⊥) (row_line (told above).row_width (map token_of ((35 ∷ w) ∷ ws))) FormReason (no_row (told above).row_width w (map token_of ws))) (either_ok (λ _. ⊥) (are_numbers_due (told above).section) _ _ (found_has (λ _. ⊥) (numbers_line (map token_of ((35 ∷ w) ∷ ws))) FormReason (either_has (λ _. ⊥) (nat_le (length (map token_of ((35 ∷ w) ∷ ws))) numbers_limit) None None tt tt)) (at_verb (verb_of (35 ∷ w)) (no_verb w)))
   where
-    at_verb : (o : Option Verb) → o ≡ None → IfOk (ok_or o UnknownWord >>= (λ v. demand (belongs_in s.form (told above).section v) Misplaced >>= (λ _. demand (not ((is_plain s.form && are_tasks_due (told above).section) && is_task_verb v)) OneTaskOnly >>= (λ _. ok_or (statement_by v (map token_of ws)) FormReason)))) (λ _. ⊥)
+    at_verb : (o : Option Verb) → o ≡ None → IfOk (ok_or o UnknownWord >>= (λ v. demand (belongs_in s.form (told above).section v) Misplaced >>= (λ _. ok_or (statement_by v (map token_of ws)) FormReason))) (λ _. ⊥)
     at_verb None e = tt
     at_verb (Some v) e = absurd (cc)
 

@@ -2,68 +2,75 @@
 use Rattle.std.proofs.Common.{◌≡◌, ℕ, ◌+◌, ◌/◌, ◌≤◌, ◌==◌, Bool, true, false, not, cond, ◌&&◌, nat_le, nat_lt, List, [], ◌∷◌, length, map, Option, Some, None, Result, Ok, Err, ok_or, refl, sym, ap, subst, ◌∙◌, arith}
 use Rattle.lw_calls.specs.declared.form.Form.{Form}
 use Rattle.lw_calls.specs.declared.reason.Reason.{Reason}
-use Rattle.lw_calls.specs.declared.reason.Reason.TheVariants.{UnknownWord, Misplaced, OneTaskOnly, Form as FormReason}
+use Rattle.lw_calls.specs.declared.reason.Reason.TheVariants.{UnknownWord, Misplaced, Form as FormReason}
 use Rattle.lw_grammar.specs.declared.verb.Verb.{Verb}
 use Rattle.lw_grammar.specs.declared.verb.Verb.TheVariants.{Order as OrderVerb, Report as ReportVerb}
 use Rattle.lw_calls.specs.Limits.{name_limit, call_limit, task_limit, bitmap_limit}
 use Rattle.lw_grammar.specs.Demands.{◌>>=◌, demand}
-use Rattle.lw_grammar.specs.Tokens.{token_of}
-use Rattle.lw_grammar.specs.Statements.{Statement, RowLine, row_line, numbers_line, statement_by}
+use Rattle.lw_grammar.specs.Tokens.{Token, token_of}
+use Rattle.lw_grammar.specs.Statements.{Statement, RowLine, OrderLine, ReportLine, row_line, numbers_line, bare_line, statement_by}
 use Rattle.lw_grammar.specs.Told.{Section, told}
-use Rattle.lw_grammar.specs.Script.{Setting, is_skipped, are_tasks_due, are_numbers_due, is_nothing_due, is_plain, belongs_in, is_task_verb, verb_on, after_verb, super_limit, words_read, verb_read, statement_read, statement_tested, line_read, IsGoodLine}
+use Rattle.lw_grammar.specs.Script.{Setting, is_skipped, are_numbers_due, is_nothing_due, belongs_in, verb_on, after_verb, super_limit, words_read, verb_read, statement_read, statement_tested, line_read, IsGoodLine}
 use Rattle.lw_calls.specs.Written.{hex_digit}
 use Rattle.lw_canonical.specs.Spelling.{spelled}
 use Rattle.lw_canonical.proofs.Rearranged.{HasOneSpelling, is_passed}
-use Rattle.std.proofs.lemmas.Bool.{and_left, and_right, and_from, or_from, le-leb, ne_eqb}
+use Rattle.std.proofs.lemmas.Bool.{false≢true, and_from, or_from, le-leb, ne_eqb}
 
 -- the statement of a line, where no rows are due or some are
 abbrev statement_at : Bool → ℕ → Form → Section → List (List ℕ) → Result Statement Reason
 statement_at bare width form c ws =
     cond (not bare) (ok_or (row_line width (map token_of ws)) FormReason) (cond (are_numbers_due c) (ok_or (numbers_line (map token_of ws)) FormReason) (verb_read form c ws))
 
--- where no task may begin after another, a verb's lines stand in each input or in none
-stands_same : (a b : Form) (c : Section) (v : Verb) → are_tasks_due c ≡ false → belongs_in a c v ≡ belongs_in b c v
-stands_same a b c OrderVerb e = and_left _ _ e ∙ sym (and_left _ _ e)
-stands_same a b c ReportVerb e = and_left _ _ e ∙ sym (and_left _ _ e)
-stands_same a b c v e = refl
+-- the line stands in each input, or in none: it begins neither an order nor a report
+abbrev pub is_in_each : Statement → Bool
+is_in_each OrderLine = false
+is_in_each ReportLine = false
+is_in_each f = true
 
--- so the same statement is read in each input
-verb_same : (a b : Form) (c : Section) → are_tasks_due c ≡ false → (ws : List (List ℕ)) → verb_read a c ws ≡ verb_read b c ws
-verb_same a b c e ws = at_verb (verb_on ws)
+-- no such line is bare words that begin one of the two
+other_words : (stands : Bool) (g f : Statement) (ts : List Token) → is_in_each g ≡ false → is_in_each f ≡ true → (demand stands Misplaced >>= (λ _. ok_or (bare_line g ts) FormReason)) ≡ Ok f → ⊥
+other_words false g f ts g_not f_in e = absurd (cc)
+other_words true g f (t ∷ ts) g_not f_in e = absurd (cc)
+other_words true g f [] g_not f_in e = let same : g ≡ f = cc in absurd (false≢true (sym g_not ∙ (ap is_in_each same ∙ f_in)))
+
+-- so the same statement is read of its words in each input
+verb_kept : (a b : Form) (c : Section) (f : Statement) → is_in_each f ≡ true → (ws : List (List ℕ)) → verb_read a c ws ≡ Ok f → verb_read b c ws ≡ Ok f
+verb_kept a b c f f_in ws e = at_verb (verb_on ws) e
   where
-    behind : Bool → Bool → Verb → Result Statement Reason
-    behind stands task v =
-        demand stands Misplaced >>= (λ _. demand (not (task && is_task_verb v)) OneTaskOnly >>= (λ _. ok_or (statement_by v (map token_of (after_verb ws))) FormReason))
+    at_verb : (o : Option Verb) → (ok_or o UnknownWord >>= (λ v. demand (belongs_in a c v) Misplaced >>= (λ _. ok_or (statement_by v (map token_of (after_verb ws))) FormReason))) ≡ Ok f → (ok_or o UnknownWord >>= (λ v. demand (belongs_in b c v) Misplaced >>= (λ _. ok_or (statement_by v (map token_of (after_verb ws))) FormReason))) ≡ Ok f
+    at_verb None d = absurd (cc)
+    at_verb (Some OrderVerb) d = absurd (other_words _ OrderLine f (map token_of (after_verb ws)) refl f_in d)
+    at_verb (Some ReportVerb) d = absurd (other_words _ ReportLine f (map token_of (after_verb ws)) refl f_in d)
+    at_verb (Some v) d = d
 
-    task : (is_plain a && are_tasks_due c) ≡ (is_plain b && are_tasks_due c)
-    task = and_right _ _ e ∙ sym (and_right _ _ e)
+-- the same where numbers are due, or none
+kept_at : (a b : Form) (c : Section) (n m : ℕ) (f : Statement) → is_in_each f ≡ true → (ws : List (List ℕ)) → statement_at true n a c ws ≡ Ok f → statement_at true m b c ws ≡ Ok f
+kept_at a b c n m f f_in ws e = go (are_numbers_due c) e
+  where
+    go : (t : Bool) → cond t (ok_or (numbers_line (map token_of ws)) FormReason) (verb_read a c ws) ≡ Ok f → cond t (ok_or (numbers_line (map token_of ws)) FormReason) (verb_read b c ws) ≡ Ok f
+    go true d = d
+    go false d = verb_kept a b c f f_in ws d
 
-    at_verb : (o : Option Verb) → (ok_or o UnknownWord >>= (λ v. behind (belongs_in a c v) (is_plain a && are_tasks_due c) v)) ≡ (ok_or o UnknownWord >>= (λ v. behind (belongs_in b c v) (is_plain b && are_tasks_due c) v))
-    at_verb None = refl
-    at_verb (Some v) =
-        ap (λ t. behind t (is_plain a && are_tasks_due c) v) (stands_same a b c v e) ∙ ap (λ t. behind (belongs_in b c v) t v) task
-
--- Where no rows are due below either, the same statement is read in the same section.
-pub verb_statements : (s t : Setting) (above below : List Statement) (c : Section) → ((told above).rows_due == 0) ≡ true → ((told below).rows_due == 0) ≡ true → (told above).section ≡ c → (told below).section ≡ c → are_tasks_due c ≡ false → (ws : List (List ℕ)) → statement_read s.form (told above).section (told above).rows_due (told above).row_width ws ≡ statement_read t.form (told below).section (told below).rows_due (told below).row_width ws
-verb_statements s t above below c no_rows none_below here there e ws = from s above no_rows here ∙ (between ∙ sym (from t below none_below there))
+-- Where no rows are due below either, and the section is the same, such a line's statement is read in each input.
+pub verb_statements : (s t : Setting) (above below : List Statement) (c : Section) (f : Statement) → ((told above).rows_due == 0) ≡ true → ((told below).rows_due == 0) ≡ true → (told above).section ≡ c → (told below).section ≡ c → is_in_each f ≡ true → (ws : List (List ℕ)) → statement_read s.form (told above).section (told above).rows_due (told above).row_width ws ≡ Ok f → statement_read t.form (told below).section (told below).rows_due (told below).row_width ws ≡ Ok f
+verb_statements s t above below c f no_rows none_below here there f_in ws e =
+    from t below none_below there ∙ kept_at s.form t.form c (told above).row_width (told below).row_width f f_in ws (sym (from s above no_rows here) ∙ e)
   where
     from : (u : Setting) (lines : List Statement) → ((told lines).rows_due == 0) ≡ true → (told lines).section ≡ c → statement_read u.form (told lines).section (told lines).rows_due (told lines).row_width ws ≡ statement_at true (told lines).row_width u.form c ws
     from u lines d k =
         let first : statement_read u.form (told lines).section (told lines).rows_due (told lines).row_width ws ≡ statement_at true (told lines).row_width u.form (told lines).section ws = ap (λ b. statement_at b (told lines).row_width u.form (told lines).section ws) d in
         first ∙ ap (λ k. statement_at true (told lines).row_width u.form k ws) k
 
-    between : statement_at true (told above).row_width s.form c ws ≡ statement_at true (told below).row_width t.form c ws
-    between = ap (λ r. cond (are_numbers_due c) (ok_or (numbers_line (map token_of ws)) FormReason) r) (verb_same s.form t.form c e ws)
-
 -- Where rows of the same width are due below both, the same statement is read.
-pub row_statements : (s t : Setting) (above below : List Statement) → ((told above).rows_due == 0) ≡ false → ((told below).rows_due == 0) ≡ false → (told above).row_width ≡ (told below).row_width → (ws : List (List ℕ)) → statement_read s.form (told above).section (told above).rows_due (told above).row_width ws ≡ statement_read t.form (told below).section (told below).rows_due (told below).row_width ws
-row_statements s t above below some_rows some_below width ws = from s above some_rows ∙ (ap (λ k. ok_or (row_line k (map token_of ws)) FormReason) width ∙ sym (from t below some_below))
+pub row_statements : (s t : Setting) (above below : List Statement) → ((told above).rows_due == 0) ≡ false → ((told below).rows_due == 0) ≡ false → (told above).row_width ≡ (told below).row_width → (f : Statement) (ws : List (List ℕ)) → statement_read s.form (told above).section (told above).rows_due (told above).row_width ws ≡ Ok f → statement_read t.form (told below).section (told below).rows_due (told below).row_width ws ≡ Ok f
+row_statements s t above below some_rows some_below width f ws e =
+    from t below some_below ∙ (ap (λ k. ok_or (row_line k (map token_of ws)) FormReason) (sym width) ∙ (sym (from s above some_rows) ∙ e))
   where
     from : (u : Setting) (lines : List Statement) → ((told lines).rows_due == 0) ≡ false → statement_read u.form (told lines).section (told lines).rows_due (told lines).row_width ws ≡ ok_or (row_line (told lines).row_width (map token_of ws)) FormReason
     from u lines d = ap (λ b. statement_at b (told lines).row_width u.form (told lines).section ws) d
 
 -- a line of which the same statement is read is good again, where this statement passes its tests
-pub read_again : (s t : Setting) (above below : List Statement) (line : List ℕ) (f : Statement) → ((ws : List (List ℕ)) → statement_read s.form (told above).section (told above).rows_due (told above).row_width ws ≡ statement_read t.form (told below).section (told below).rows_due (told below).row_width ws) → statement_tested t (told below) f ≡ Ok tt → line_read s (told above) line ≡ Ok f → line_read t (told below) line ≡ Ok f
+pub read_again : (s t : Setting) (above below : List Statement) (line : List ℕ) (f : Statement) → ((ws : List (List ℕ)) → statement_read s.form (told above).section (told above).rows_due (told above).row_width ws ≡ Ok f → statement_read t.form (told below).section (told below).rows_due (told below).row_width ws ≡ Ok f) → statement_tested t (told below) f ≡ Ok tt → line_read s (told above) line ≡ Ok f → line_read t (told below) line ≡ Ok f
 read_again s t above below line f same tested read = at_words (words_read line) read
   where
     at_test : (g : Statement) (r : Result (Unit {0}) Reason) → (r >>= (λ _. Ok g)) ≡ Ok f → (let o : Result Statement Reason = Ok g in o ≡ Ok f)
@@ -83,10 +90,10 @@ read_again s t above below line f same tested read = at_words (words_read line) 
 
     at_words : (w : Result (List (List ℕ)) Reason) → (w >>= (λ ws. statement_read s.form (told above).section (told above).rows_due (told above).row_width ws >>= (λ g. statement_tested s (told above) g >>= (λ _. Ok g)))) ≡ Ok f → (w >>= (λ ws. statement_read t.form (told below).section (told below).rows_due (told below).row_width ws >>= (λ g. statement_tested t (told below) g >>= (λ _. Ok g)))) ≡ Ok f
     at_words (Err r) e = absurd (cc)
-    at_words (Ok ws) e = put (statement_read t.form (told below).section (told below).rows_due (told below).row_width ws) (sym (sym (same ws) ∙ at_statement (statement_read s.form (told above).section (told above).rows_due (told above).row_width ws) e))
+    at_words (Ok ws) e = put (statement_read t.form (told below).section (told below).rows_due (told below).row_width ws) (sym (same ws (at_statement (statement_read s.form (told above).section (told above).rows_due (told above).row_width ws) e)))
 
 -- A good line reads again in its one spelling.
-pub spelled_again : HasOneSpelling → (s t : Setting) (above below : List Statement) (f : Statement) → IsGoodLine s above f → ((ws : List (List ℕ)) → statement_read s.form (told above).section (told above).rows_due (told above).row_width ws ≡ statement_read t.form (told below).section (told below).rows_due (told below).row_width ws) → statement_tested t (told below) f ≡ Ok tt → line_read t (told below) (spelled f) ≡ Ok f
+pub spelled_again : HasOneSpelling → (s t : Setting) (above below : List Statement) (f : Statement) → IsGoodLine s above f → ((ws : List (List ℕ)) → statement_read s.form (told above).section (told above).rows_due (told above).row_width ws ≡ Ok f → statement_read t.form (told below).section (told below).rows_due (told below).row_width ws ≡ Ok f) → statement_tested t (told below) f ≡ Ok tt → line_read t (told below) (spelled f) ≡ Ok f
 spelled_again one s t above below f g same tested =
     let P : List ℕ → Type 0 = λ line. line_read t (told below) line ≡ Ok f in
     subst P (sym (one s above g.line f g.read)) (read_again s t above below g.line f same tested g.read)

@@ -4,13 +4,13 @@ use Rattle.std.specs.List.{list_any}
 use Rattle.lw_calls.specs.declared.operation.RectOp.TheVariants.{Or as OrR, And as AndR, Xor as XorR, Clear as ClearR}
 use Rattle.lw_calls.specs.declared.operation.PairOp.TheVariants.{Or as OrP, And as AndP, Xor as XorP}
 use Rattle.lw_calls.specs.Limits.{name_limit, call_limit, task_limit, bitmap_limit}
-use Rattle.lw_grammar.specs.Statements.{Act, RegRectAct, RegPairAct, Statement, GlyphLine, BitmapLine, RowLine, TaskLine, NumbersLine, CallLine}
+use Rattle.lw_grammar.specs.Statements.{Act, RegRectAct, RegPairAct, Statement, GlyphLine, BitmapLine, RowLine, TaskLine, OrderLine, NumbersLine, ReportLine, CallLine}
 use Rattle.lw_grammar.specs.Told.{Section, ScreenIsDue, AssetsAreDue, CallsAreDue, TasksAreDue, NumbersAreDue, NothingIsDue, OpenGroup, hook_on, told}
-use Rattle.lw_grammar.specs.Script.{Setting, is_skipped, are_assets_due, are_calls_due, are_tasks_due, are_numbers_due, is_nothing_due, lacks_name, gives_again, fits_group, super_limit, are_few, is_used, has_padding, statement_read, line_read}
+use Rattle.lw_grammar.specs.Script.{Setting, is_skipped, are_assets_due, are_calls_due, are_tasks_due, is_nothing_due, lacks_name, gives_again, fits_group, super_limit, are_few, is_used, has_padding, statement_read, line_read}
 use Rattle.lw_canonical.specs.Spelling.{joined, call_words, words_of, spelled}
 use Rattle.lw_grammar.proofs.ScriptSizes.{IsStatementTested, tests_pass}
 use Rattle.lw_canonical.proofs.Rearranged.{is_of_tasks, alone}
-use Rattle.lw_canonical.proofs.ReadsAgain.{verb_statements, read_again}
+use Rattle.lw_canonical.proofs.ReadsAgain.{is_in_each, verb_statements, read_again}
 use Rattle.lw_canonical.proofs.NotionsAlike.{section_alone, AreAlike, alike_more}
 use Rattle.std.proofs.lemmas.Bool.{true≢false, false≢true}
 
@@ -47,30 +47,34 @@ task_kept f t = refl
 pub task_not_skipped : (f : Statement) → is_of_tasks f ≡ true → is_skipped (spelled f) ≡ false
 task_not_skipped f t = first_kept (words_of f) (task_kept f t)
 
--- where glyphs, bitmaps and the first task are due, or calls
-abbrev pub is_inner : Section → Bool
-is_inner c = are_assets_due c || are_calls_due c
+-- it stands in each input
+task_in_each : (f : Statement) → is_of_tasks f ≡ true → is_in_each f ≡ true
+task_in_each OrderLine t = absurd (false≢true t)
+task_in_each ReportLine t = absurd (false≢true t)
+task_in_each f t = refl
 
--- what such a section isn't
+-- where glyphs, bitmaps and the first task are due, or calls, or a further task
+abbrev pub is_inner : Section → Bool
+is_inner c = are_assets_due c || (are_calls_due c || are_tasks_due c)
+
+-- such a section is the same in a script alone, where something is due in it
 pub record IsInner (c : Section) : Type 0 where
-  pub tasks : are_tasks_due c ≡ false
-  pub numbers : are_numbers_due c ≡ false
   pub nothing : is_nothing_due c ≡ false
   pub same : section_alone c ≡ c
 
 pub inner : (c : Section) → is_inner c ≡ true → IsInner c
 inner ScreenIsDue e = absurd (false≢true e)
-inner AssetsAreDue e = record { tasks = refl; numbers = refl; nothing = refl; same = refl }
-inner CallsAreDue e = record { tasks = refl; numbers = refl; nothing = refl; same = refl }
-inner TasksAreDue e = absurd (false≢true e)
+inner AssetsAreDue e = record { nothing = refl; same = refl }
+inner CallsAreDue e = record { nothing = refl; same = refl }
+inner TasksAreDue e = record { nothing = refl; same = refl }
 inner NumbersAreDue e = absurd (false≢true e)
 inner NothingIsDue e = absurd (false≢true e)
 
--- Below lines that tell the same, words have the same statement in a script alone.
-statement_alone : (s : Setting) (above new : List Statement) (ws : List (List ℕ)) → ((told above).rows_due == 0) ≡ true → is_inner (told above).section ≡ true → AreAlike above new → statement_read s.form (told above).section (told above).rows_due (told above).row_width ws ≡ statement_read (alone s).form (told new).section (told new).rows_due (told new).row_width ws
-statement_alone s above new ws e c a =
+-- Below lines that tell the same, words of tasks have the same statement in a script alone.
+statement_alone : (s : Setting) (above new : List Statement) (f : Statement) (ws : List (List ℕ)) → is_of_tasks f ≡ true → ((told above).rows_due == 0) ≡ true → is_inner (told above).section ≡ true → AreAlike above new → statement_read s.form (told above).section (told above).rows_due (told above).row_width ws ≡ Ok f → statement_read (alone s).form (told new).section (told new).rows_due (told new).row_width ws ≡ Ok f
+statement_alone s above new f ws o e c a read =
     let i = inner (told above).section c in
-    verb_statements s (alone s) above new (told above).section e (ap (λ n. n == 0) a.due) refl (a.section ∙ i.same) i.tasks ws
+    verb_statements s (alone s) above new (told above).section f e (ap (λ n. n == 0) a.due) refl (a.section ∙ i.same) (task_in_each f o) ws read
 
 -- the counts of lines are few by themselves
 abbrev few_by : List (List ℕ) → List (List ℕ) → List (List ℕ) → ℕ → ℕ → Bool
@@ -120,4 +124,4 @@ tests_alone s above new f o a t =
 -- Below lines that tell the same, a line of tasks is read as the same statement in a script alone.
 pub read_alone : (s : Setting) (above new : List Statement) (f : Statement) (line : List ℕ) → is_of_tasks f ≡ true → ((told above).rows_due == 0) ≡ true → is_inner (told above).section ≡ true → AreAlike above new → IsStatementTested s above f → line_read s (told above) line ≡ Ok f → line_read (alone s) (told new) line ≡ Ok f
 read_alone s above new f line o e c a t read =
-    read_again s (alone s) above new line f (λ ws. statement_alone s above new ws e c a) (tests_pass (alone s) new f (tests_alone s above new f o a t)) read
+    read_again s (alone s) above new line f (λ ws k. statement_alone s above new f ws o e c a k) (tests_pass (alone s) new f (tests_alone s above new f o a t)) read

@@ -243,7 +243,7 @@ module _ (names bitmaps : List (List ℕ)) where
       let h = here s above (CallLine layers act) g in
       let t = tests s above (CallLine layers act) g in
       let more : List (List ℕ) = and_names (told above).names layers in
-      line_back names bitmaps (told above).bitmap_names layers act h.3 t.range (bitmap_back bitmaps (told above).bitmap_names layers act stored t.named) (map (place_among more) layers) (layers_back names more layers found (all_named (told above).names layers))
+      line_back names bitmaps (told above).bitmap_names layers act h.2 t.range (bitmap_back bitmaps (told above).bitmap_names layers act stored t.named) (map (place_among more) layers) (layers_back names more layers found (all_named (told above).names layers))
 
   -- A line of a task under way.
   module _ (s : Setting) (above : List Statement) (good : AreGoodLines s above) (due : (told above).section ≡ CallsAreDue) (r : AreTold above) where
@@ -322,14 +322,14 @@ module _ (names bitmaps : List (List ℕ)) where
 
   -- any call
   call_told : (s : Setting) (above : List Statement) (layers : List (List ℕ)) (act : Act) → AreGoodLines s (CallLine layers act ∷ above) → (told above).section ≡ CallsAreDue → IsFoundIn names (and_names (told above).names layers) → IsFoundIn bitmaps (told above).bitmap_names → AreTold above → AreTold (CallLine layers act ∷ above)
-  call_told s above [] RefreshAct g due found stored r = absurd (cc ((here s above (CallLine [] RefreshAct) g).3.0))
+  call_told s above [] RefreshAct g due found stored r = absurd (cc ((here s above (CallLine [] RefreshAct) g).2.0))
   call_told s above (l ∷ []) RefreshAct g due found stored r =
       refresh_told s above g.1 due r l (opens_none (told above).group l (tests s above (CallLine (l ∷ []) RefreshAct) g).group) (call_back s above (l ∷ []) RefreshAct g found stored)
-  call_told s above (l ∷ m ∷ ms) RefreshAct g due found stored r = absurd (omega (arith, (here s above (CallLine (l ∷ m ∷ ms) RefreshAct) g).3.0))
-  call_told s above [] (EndRefreshAct full) g due found stored r = absurd (cc ((here s above (CallLine [] (EndRefreshAct full)) g).3.0))
+  call_told s above (l ∷ m ∷ ms) RefreshAct g due found stored r = absurd (omega (arith, (here s above (CallLine (l ∷ m ∷ ms) RefreshAct) g).2.0))
+  call_told s above [] (EndRefreshAct full) g due found stored r = absurd (cc ((here s above (CallLine [] (EndRefreshAct full)) g).2.0))
   call_told s above (l ∷ []) (EndRefreshAct full) g due found stored r =
       endrefresh_told s above g.1 due r l full (ends_same (told above).group l full (tests s above (CallLine (l ∷ []) (EndRefreshAct full)) g).group) (call_back s above (l ∷ []) (EndRefreshAct full) g found stored)
-  call_told s above (l ∷ m ∷ ms) (EndRefreshAct full) g due found stored r = absurd (omega (arith, (here s above (CallLine (l ∷ m ∷ ms) (EndRefreshAct full)) g).3.0))
+  call_told s above (l ∷ m ∷ ms) (EndRefreshAct full) g due found stored r = absurd (omega (arith, (here s above (CallLine (l ∷ m ∷ ms) (EndRefreshAct full)) g).2.0))
   call_told s above layers act g due found stored r = plain_told s above g.1 due r layers act refl refl (call_back s above layers act g found stored)
 
   -- a line inside a task, where it stands

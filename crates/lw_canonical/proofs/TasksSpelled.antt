@@ -1,5 +1,5 @@
 -- The lines of a script's tasks, over any base of it, are the tasks of a script alone.
-use Rattle.std.proofs.Common.{◌≡◌, ℕ, ◌+◌, ◌<◌, ◌≤◌, ◌==◌, Bool, true, false, ◌||◌, cond, nat_lt, List, [], ◌∷◌, ◌++◌, length, map, filter, reverse, Ok, refl, sym, ap, subst, ◌∙◌, arith, length-append}
+use Rattle.std.proofs.Common.{◌≡◌, ℕ, ◌+◌, ◌==◌, Bool, true, false, ◌||◌, cond, List, [], ◌∷◌, ◌++◌, map, filter, reverse, Ok, refl, sym, ap, subst, ◌∙◌, arith}
 use Rattle.std.specs.List.{list_all, flat_map, range_with_len}
 use Rattle.lw_planes.proofs.GridLaws.{map_range_same}
 use Rattle.lw_calls.specs.declared.form.Form.TheVariants.{Plain}
@@ -9,12 +9,12 @@ use Rattle.lw_grammar.specs.Script.{Setting, are_assets_due, are_calls_due, are_
 use Rattle.lw_canonical.specs.Spelling.{spelled}
 use Rattle.lw_canonical.specs.Canonical.{lines_of_glyph}
 use Rattle.lw_grammar.proofs.ScriptOutcome.{rows_in_assets}
-use Rattle.lw_grammar.proofs.ScriptSizes.{here, tests, has_begun, has_screen, in_assets, begun_tasks, MayEnd, whole_ends}
+use Rattle.lw_grammar.proofs.ScriptSizes.{here, tests, has_begun, has_screen, in_assets, in_assets_or_tasks, MayEnd, whole_ends}
 use Rattle.lw_canonical.proofs.Rearranged.{is_of_tasks, is_of_bitmaps, glyphs_in_order, screen_line_of, base_of, alone, AreSpelled, HasOneSpelling, IsBaseOf}
 use Rattle.lw_canonical.proofs.ReadsAgain.{isnt_passed}
 use Rattle.lw_canonical.proofs.NotionsAlike.{bare, section_alone, AreAlike, base_below, calls_screen, numbers_screen, order_screen, report_screen, alike}
 use Rattle.lw_canonical.proofs.TaskLineAlone.{task_not_skipped, is_inner, inner, read_alone}
-use Rattle.std.proofs.lemmas.Bool.{true≢false, false≢true, ltb-true, and_parts, and_from}
+use Rattle.std.proofs.lemmas.Bool.{true≢false, false≢true, and_parts, and_from}
 use Rattle.std.proofs.lemmas.List.Folds.{list_all-append}
 use Rattle.std.proofs.lemmas.Grind.{reverse_onto}
 
@@ -38,80 +38,75 @@ calls_inner TasksAreDue e = absurd (false≢true e)
 calls_inner NumbersAreDue e = absurd (false≢true e)
 calls_inner NothingIsDue e = absurd (false≢true e)
 
--- where the first task begins, assets are due
-first_inner : (c : Section) (tasks : ℕ) → (are_assets_due c || are_tasks_due c) ≡ true → cond (has_begun c) (nat_lt 0 tasks) (tasks == 0) ≡ true → tasks ≡ 0 → (is_inner c ≡ true) × (has_screen c ≡ true)
-first_inner ScreenIsDue tasks e b n = absurd (false≢true e)
-first_inner AssetsAreDue tasks e b n = (refl, refl)
-first_inner CallsAreDue tasks e b n = absurd (false≢true e)
-first_inner TasksAreDue tasks e b n = let some : 0 < tasks = ltb-true 0 tasks b in absurd (omega (arith, some, n))
-first_inner NumbersAreDue tasks e b n = absurd (false≢true e)
-first_inner NothingIsDue tasks e b n = absurd (false≢true e)
-
--- one task is the first one
-first_here : (s : Setting) (above : List Statement) (name : List ℕ) → AreGoodLines s (TaskLine name ∷ above) → length (told (TaskLine name ∷ above)).tasks ≤ 1 → (is_inner (told above).section ≡ true) × (has_screen (told above).section ≡ true)
-first_here s above name g few =
-    first_inner (told above).section (length (told above).tasks) (here s above (TaskLine name) g).1 (begun_tasks s above g.1) (omega (arith, few, length-append (told above).tasks (name ∷ [])))
+-- so is a task's first line where assets or a further task are due
+task_inner : (c : Section) → (are_assets_due c || are_tasks_due c) ≡ true → is_inner c ≡ true
+task_inner ScreenIsDue e = absurd (false≢true e)
+task_inner AssetsAreDue e = refl
+task_inner CallsAreDue e = absurd (false≢true e)
+task_inner TasksAreDue e = refl
+task_inner NumbersAreDue e = absurd (false≢true e)
+task_inner NothingIsDue e = absurd (false≢true e)
 
 -- before the first task nothing but the base is spelled
 assets_over : (s : Setting) (above base : List Statement) → AreGoodLines s above → (told above).section ≡ AssetsAreDue → AreSpelled (alone s) base → AreSpelled (alone s) (filter is_of_tasks above ++ base)
 assets_over s above base g c k =
     subst (λ (fs : List Statement). AreSpelled (alone s) (fs ++ base)) (sym (bare s above g (ap has_begun c)).of_tasks) k
 
--- The lines of at most one task are spelled over a spelled base.
-tasks_over : HasOneSpelling → (s : Setting) (above base : List Statement) → AreGoodLines s above → has_screen (told above).section ≡ true → length (told above).tasks ≤ 1 → IsBaseOf above base → AreSpelled (alone s) base → AreSpelled (alone s) (filter is_of_tasks above ++ base)
-tasks_over one s [] base g e few b k = absurd (false≢true e)
-tasks_over one s (ScreenLine w h d ∷ above) base g e few b k = assets_over s (ScreenLine w h d ∷ above) base g refl k
-tasks_over one s (GlyphLine code rows ∷ above) base g e few b k =
+-- The lines of tasks are spelled over a spelled base.
+tasks_over : HasOneSpelling → (s : Setting) (above base : List Statement) → AreGoodLines s above → has_screen (told above).section ≡ true → IsBaseOf above base → AreSpelled (alone s) base → AreSpelled (alone s) (filter is_of_tasks above ++ base)
+tasks_over one s [] base g e b k = absurd (false≢true e)
+tasks_over one s (ScreenLine w h d ∷ above) base g e b k = assets_over s (ScreenLine w h d ∷ above) base g refl k
+tasks_over one s (GlyphLine code rows ∷ above) base g e b k =
     assets_over s (GlyphLine code rows ∷ above) base g (in_assets (told above).section (here s above (GlyphLine code rows) g).1) k
-tasks_over one s (BitmapLine name w h d ∷ above) base g e few b k =
+tasks_over one s (BitmapLine name w h d ∷ above) base g e b k =
     assets_over s (BitmapLine name w h d ∷ above) base g (in_assets (told above).section (here s above (BitmapLine name w h d) g).1) k
-tasks_over one s (RowLine bytes ∷ above) base g e few b k =
+tasks_over one s (RowLine bytes ∷ above) base g e b k =
     assets_over s (RowLine bytes ∷ above) base g (in_assets (told above).section (rows_in_assets s above g.1 (here s above (RowLine bytes) g).0)) k
-tasks_over one s (TaskLine name ∷ above) base g e few b k =
+tasks_over one s (TaskLine name ∷ above) base g e b k =
     let h = here s above (TaskLine name) g in
-    let first = first_here s above name g few in
+    let screen = in_assets_or_tasks (told above).section h.1 in
     let below = base_below (TaskLine name) above base refl b in
-    one_more one s above _ (TaskLine name) g refl h.0 first.0 (alike s above base g.1 first.1 below) (tasks_over one s above base g.1 first.1 (omega (arith, few, length-append (told above).tasks (name ∷ []))) below k)
-tasks_over one s (EndLine ∷ above) base g e few b k =
+    one_more one s above _ (TaskLine name) g refl h.0 (task_inner (told above).section h.1) (alike s above base g.1 screen below) (tasks_over one s above base g.1 screen below k)
+tasks_over one s (EndLine ∷ above) base g e b k =
     let h = here s above EndLine g in
     let screen = calls_screen (told above).section h.1 in
     let below = base_below EndLine above base refl b in
-    one_more one s above _ EndLine g refl h.0 (calls_inner (told above).section h.1) (alike s above base g.1 screen below) (tasks_over one s above base g.1 screen few below k)
-tasks_over one s (OrderLine ∷ above) base g e few b k =
-    tasks_over one s above base g.1 (order_screen s above g) few (base_below OrderLine above base refl b) k
-tasks_over one s (NumbersLine zs ∷ above) base g e few b k =
-    tasks_over one s above base g.1 (numbers_screen (told above).section (here s above (NumbersLine zs) g).1) few (base_below (NumbersLine zs) above base refl b) k
-tasks_over one s (ReportLine ∷ above) base g e few b k =
-    tasks_over one s above base g.1 (report_screen s above g) few (base_below ReportLine above base refl b) k
-tasks_over one s (CallLine layers act ∷ above) base g e few b k =
+    one_more one s above _ EndLine g refl h.0 (calls_inner (told above).section h.1) (alike s above base g.1 screen below) (tasks_over one s above base g.1 screen below k)
+tasks_over one s (OrderLine ∷ above) base g e b k =
+    tasks_over one s above base g.1 (order_screen s above g) (base_below OrderLine above base refl b) k
+tasks_over one s (NumbersLine zs ∷ above) base g e b k =
+    tasks_over one s above base g.1 (numbers_screen (told above).section (here s above (NumbersLine zs) g).1) (base_below (NumbersLine zs) above base refl b) k
+tasks_over one s (ReportLine ∷ above) base g e b k =
+    tasks_over one s above base g.1 (report_screen s above g) (base_below ReportLine above base refl b) k
+tasks_over one s (CallLine layers act ∷ above) base g e b k =
     let h = here s above (CallLine layers act) g in
     let screen = calls_screen (told above).section h.1 in
     let below = base_below (CallLine layers act) above base refl b in
-    one_more one s above _ (CallLine layers act) g refl h.0 (calls_inner (told above).section h.1) (alike s above base g.1 screen below) (tasks_over one s above base g.1 screen few below k)
-tasks_over one s (LockLine name ∷ above) base g e few b k =
+    one_more one s above _ (CallLine layers act) g refl h.0 (calls_inner (told above).section h.1) (alike s above base g.1 screen below) (tasks_over one s above base g.1 screen below k)
+tasks_over one s (LockLine name ∷ above) base g e b k =
     let h = here s above (LockLine name) g in
     let screen = calls_screen (told above).section h.1 in
     let below = base_below (LockLine name) above base refl b in
-    one_more one s above _ (LockLine name) g refl h.0 (calls_inner (told above).section h.1) (alike s above base g.1 screen below) (tasks_over one s above base g.1 screen few below k)
-tasks_over one s (UnlockLine name ∷ above) base g e few b k =
+    one_more one s above _ (LockLine name) g refl h.0 (calls_inner (told above).section h.1) (alike s above base g.1 screen below) (tasks_over one s above base g.1 screen below k)
+tasks_over one s (UnlockLine name ∷ above) base g e b k =
     let h = here s above (UnlockLine name) g in
     let screen = calls_screen (told above).section h.1 in
     let below = base_below (UnlockLine name) above base refl b in
-    one_more one s above _ (UnlockLine name) g refl h.0 (calls_inner (told above).section h.1) (alike s above base g.1 screen below) (tasks_over one s above base g.1 screen few below k)
-tasks_over one s (HoldLine ∷ above) base g e few b k =
+    one_more one s above _ (UnlockLine name) g refl h.0 (calls_inner (told above).section h.1) (alike s above base g.1 screen below) (tasks_over one s above base g.1 screen below k)
+tasks_over one s (HoldLine ∷ above) base g e b k =
     let h = here s above HoldLine g in
     let screen = calls_screen (told above).section h.1 in
     let below = base_below HoldLine above base refl b in
-    one_more one s above _ HoldLine g refl h.0 (calls_inner (told above).section h.1) (alike s above base g.1 screen below) (tasks_over one s above base g.1 screen few below k)
-tasks_over one s (ReleaseLine ∷ above) base g e few b k =
+    one_more one s above _ HoldLine g refl h.0 (calls_inner (told above).section h.1) (alike s above base g.1 screen below) (tasks_over one s above base g.1 screen below k)
+tasks_over one s (ReleaseLine ∷ above) base g e b k =
     let h = here s above ReleaseLine g in
     let screen = calls_screen (told above).section h.1 in
     let below = base_below ReleaseLine above base refl b in
-    one_more one s above _ ReleaseLine g refl h.0 (calls_inner (told above).section h.1) (alike s above base g.1 screen below) (tasks_over one s above base g.1 screen few below k)
+    one_more one s above _ ReleaseLine g refl h.0 (calls_inner (told above).section h.1) (alike s above base g.1 screen below) (tasks_over one s above base g.1 screen below k)
 
--- The lines of a whole script's one task are spelled over each spelled base of it.
-pub tasks_spelled : HasOneSpelling → (s : Setting) (above base : List Statement) → AreGoodLines s above → may_end s.form (told above).section ≡ true → length (told above).tasks ≡ 1 → IsBaseOf above base → AreSpelled (alone s) base → AreSpelled (alone s) (filter is_of_tasks above ++ base)
-tasks_spelled one s above base g whole n b k = tasks_over one s above base g (whole_ends s.form above whole).screen (omega (arith, n)) b k
+-- The lines of a whole script's tasks are spelled over each spelled base of it.
+pub tasks_spelled : HasOneSpelling → (s : Setting) (above base : List Statement) → AreGoodLines s above → may_end s.form (told above).section ≡ true → IsBaseOf above base → AreSpelled (alone s) base → AreSpelled (alone s) (filter is_of_tasks above ++ base)
+tasks_spelled one s above base g whole b k = tasks_over one s above base g (whole_ends s.form above whole).screen b k
 
 -- the glyphs of lines that tell the same
 same_glyphs : (above new : List Statement) → AreAlike above new → map (λ i. (told new).glyphs (32 + i)) (range_with_len 0 95) ≡ map (λ i. (told above).glyphs (32 + i)) (range_with_len 0 95)

@@ -1,6 +1,6 @@
 -- The canonical text of a plan (this project's own format): a script without skipped lines that spells the plan. Behind the
 -- screen come the glyphs with some bit set in the order of their codes, the bitmaps with their rows, and the tasks.
-use Rattle.std.specs.Prelude.{ℕ, ◌+◌, ◌==◌, Bool, true, false, if◌then◌else◌, ◌≡◌, List, [], ◌∷◌, ◌++◌, map, drop, length, ℤ, pos, ◌+ℤ◌, ◌-ℤ◌, option_map, slice_index_or}
+use Rattle.std.specs.Prelude.{ℕ, ◌+◌, ◌==◌, Bool, true, false, if◌then◌else◌, List, [], ◌∷◌, ◌++◌, map, drop, length, ℤ, pos, ◌+ℤ◌, ◌-ℤ◌, option_map, slice_index_or}
 use Rattle.std.specs.List.{list_all, flat_map, range_with_len}
 use Rattle.lw_planes.specs.Bitmap.{Bitmap, plane_row}
 use Rattle.lw_calls.specs.declared.make.Make.{Make}
@@ -150,9 +150,8 @@ canonical_text p = flat_map (λ statement. line_of (spelled statement)) (lines_o
 abbrev pub canonical_input : Plan → ScriptInput
 canonical_input p = record { plan = p; order = []; rest = length (canonical_text p) }
 
--- The canonical text of a plan of one task that an input spells, whatever input it was read from, spells that plan as a script
--- alone.
+-- The canonical text of a plan that an input spells, whatever input it was read from, spells that plan as a script alone.
 abbrev pub CanonicalTextsReadBack : Type 0
 CanonicalTextsReadBack =
-    (s : Setting) (bytes : List ℕ) (input : ScriptInput) → SpellsInput s bytes input → input.plan.sizes.tasks ≡ 1
+    (s : Setting) (bytes : List ℕ) (input : ScriptInput) → SpellsInput s bytes input
     → SpellsInput (record { hooks = s.hooks; form = Plain }) (canonical_text input.plan) (canonical_input input.plan)

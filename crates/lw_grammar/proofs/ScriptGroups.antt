@@ -7,7 +7,7 @@ use Rattle.lw_calls.specs.declared.group.Hold.TheVariants.{Slot}
 use Rattle.lw_calls.specs.declared.group.Group.{Group}
 use Rattle.lw_calls.specs.Touches.{slots_in, slots_of}
 use Rattle.lw_calls.proofs.BlitClass.{blit_class}
-use Rattle.lw_calls.specs.Plan.{is_one, is_all, begins_update, ends_update, may_be_locked, end_an_update, may_stand, group_calls, group_fits, groups_fit}
+use Rattle.lw_calls.specs.Plan.{is_one, is_all, begins_update, ends_update, may_be_locked, end_an_update, hold_allows, group_calls, group_fits, groups_fit}
 use Rattle.lw_grammar.specs.Statements.{Act, RegRectAct, RegPairAct, RegClearAct, CreateAct, OpenAct, CloseAct, FrontAct, BehindAct, InFrontAct, MoveAct, SizeAct, BoxAct, ActivateAct, WhichAct, BlitAct, RefreshAct, EndRefreshAct, layers_of}
 use Rattle.lw_grammar.specs.Told.{place_among, spelled_call}
 use Rattle.lw_grammar.specs.Script.{is_arranging, is_beginning, is_ending, are_all, is_on_one}
@@ -117,7 +117,7 @@ group_kept calls c g h =
     let halves = and_parts (nat_le g.first g.last && nat_lt g.last (length calls)) _ h in
     let bounds = and_parts (nat_le g.first g.last) _ halves.0 in
     let inside : g.last < length calls = ltb-true _ _ bounds.1 in
-    and_from _ _ (and_from _ _ bounds.0 (lt-ltb _ _ (omega (arith, length-append calls (c ∷ []))))) (ap (may_stand g.hold) (calls_kept calls c g halves.0) ∙ halves.1)
+    and_from _ _ (and_from _ _ bounds.0 (lt-ltb _ _ (omega (arith, length-append calls (c ∷ []))))) (ap (hold_allows g.hold) (calls_kept calls c g halves.0) ∙ halves.1)
 
 pub groups_kept : (calls : List Call) (c : Call) (gs : List Group) → groups_fit calls gs ≡ true → groups_fit (calls ++ c ∷ []) gs ≡ true
 groups_kept calls c [] h = refl
@@ -136,11 +136,11 @@ groups_pushed calls (f ∷ j ∷ gs) g h before fits =
     and_from _ _ halves.0 (groups_pushed calls (j ∷ gs) g halves.1 before fits)
 
 -- a group up to the last call has all calls from its first on
-pub to_the_end : (calls : List Call) (first last : ℕ) (hold : Hold) → first ≤ last → suc last ≡ length calls → may_stand hold (drop first calls) ≡ true → group_fits calls (record { first = first; last = last; hold = hold }) ≡ true
+pub to_the_end : (calls : List Call) (first last : ℕ) (hold : Hold) → first ≤ last → suc last ≡ length calls → hold_allows hold (drop first calls) ≡ true → group_fits calls (record { first = first; last = last; hold = hold }) ≡ true
 to_the_end calls first last hold order end stands =
     let long : length (drop first calls) ≡ length calls - first = length-drop first calls in
     let whole : take ((last + 1) - first) (drop first calls) ≡ drop first calls = take_all ((last + 1) - first) (drop first calls) (omega (arith, long)) in
-    and_from _ _ (and_from _ _ (le-leb _ _ order) (lt-ltb _ _ (omega arith))) (ap (may_stand hold) whole ∙ stands)
+    and_from _ _ (and_from _ _ (le-leb _ _ order) (lt-ltb _ _ (omega arith))) (ap (hold_allows hold) whole ∙ stands)
 
 -- of all calls and one more each passes
 pub all_pushed : (p : Call → Bool) (cs : List Call) (c : Call) → list_all p cs ≡ true → p c ≡ true → list_all p (cs ++ c ∷ []) ≡ true
@@ -155,11 +155,11 @@ update_ends s (d ∷ e ∷ ds) c h k =
     and_from _ _ halves.0 (update_ends s (e ∷ ds) c halves.1 k)
 
 -- the calls of an update may stand under a lock of its layer
-pub update_stands : (s : ℕ) (b : Call) (cs : List Call) (c : Call) → (is_one s (slots_of b) && begins_update b) ≡ true → list_all (may_be_locked s) cs ≡ true → (is_one s (slots_of c) && ends_update c) ≡ true → may_stand (Slot s) (b ∷ cs ++ c ∷ []) ≡ true
+pub update_stands : (s : ℕ) (b : Call) (cs : List Call) (c : Call) → (is_one s (slots_of b) && begins_update b) ≡ true → list_all (may_be_locked s) cs ≡ true → (is_one s (slots_of c) && ends_update c) ≡ true → hold_allows (Slot s) (b ∷ cs ++ c ∷ []) ≡ true
 update_stands s b cs c begins inside ends = or_right _ _ (and_from _ _ begins (update_ends s cs c inside ends))
 
 -- so may locked calls, if there are some
-pub locked_stands : (s : ℕ) (cs : List Call) → 0 < length cs → list_all (may_be_locked s) cs ≡ true → may_stand (Slot s) cs ≡ true
+pub locked_stands : (s : ℕ) (cs : List Call) → 0 < length cs → list_all (may_be_locked s) cs ≡ true → hold_allows (Slot s) cs ≡ true
 locked_stands s [] some h = absurd (omega arith)
 locked_stands s (c ∷ cs) some h = or_left _ _ h
 

@@ -6,7 +6,7 @@ use Rattle.lw_grammar.specs.Statements.{Statement}
 use Rattle.lw_grammar.specs.Told.{told, plan_of}
 use Rattle.lw_grammar.specs.Script.{Setting, are_assets_due, may_end, ScriptInput, input_from, SpellsInput, IsRunnableInput, AreGoodLines}
 use Rattle.lw_grammar.proofs.ScriptOutcome.{rows_in_assets, of_lines}
-use Rattle.lw_grammar.proofs.ScriptSizes.{counted, has_screen, when, sized, begun_tasks, one_task, whole_ends, all_glyphs, none_due, bitmaps_made, bitmaps_named, order_small}
+use Rattle.lw_grammar.proofs.ScriptSizes.{counted, has_screen, when, sized, begun_tasks, whole_ends, all_glyphs, none_due, bitmaps_made, bitmaps_named, order_small}
 use Rattle.lw_grammar.proofs.ScriptTasks.{view_of, IsTaskFit, HaveBegun, TasksAre, tasks_fit, calls_listed, groups_listed, zip_at, zip_first, every_task, nothing_fits}
 use Rattle.std.proofs.lemmas.Bool.{eqb-true, ltb-true}
 
@@ -61,7 +61,6 @@ runs_from_good s above place g e =
         groups = λ task. (zip_at (IsTaskFit z) _ _ [] [] fits (nothing_fits z) task).grouped;
       };
       hooks = refl;
-      one_task = λ p. (let few = one_task s above p g in omega arith);
       order = order_small s above g;
     }
 

@@ -12,7 +12,7 @@ use Rattle.lw_calls.specs.Limits.{name_limit, call_limit, task_limit, bitmap_lim
 use Rattle.lw_grammar.specs.Demands.{◌>>=◌, demand}
 use Rattle.lw_grammar.specs.Statements.{Statement, ScreenLine, GlyphLine, BitmapLine, RowLine, TaskLine, EndLine, OrderLine, NumbersLine, ReportLine, is_line_in_range}
 use Rattle.lw_grammar.specs.Told.{Section, ScreenIsDue, AssetsAreDue, CallsAreDue, TasksAreDue, NumbersAreDue, NothingIsDue, hook_on, told}
-use Rattle.lw_grammar.specs.Script.{Setting, is_screen_due, are_assets_due, are_calls_due, are_tasks_due, are_numbers_due, is_nothing_due, is_plain, lacks_name, gives_again, fits_group, super_limit, are_few, is_no_hook, is_used, has_padding, statement_tested, may_end, AreGoodLines}
+use Rattle.lw_grammar.specs.Script.{Setting, is_screen_due, are_assets_due, are_calls_due, are_tasks_due, are_numbers_due, is_nothing_due, lacks_name, gives_again, fits_group, super_limit, are_few, is_no_hook, is_used, has_padding, statement_tested, may_end, AreGoodLines}
 use Rattle.lw_grammar.proofs.ScriptStatements.{IsStatementHere}
 use Rattle.lw_grammar.proofs.ScriptOutcome.{good_line}
 use Rattle.lw_grammar.proofs.ScriptCalls.{in_range, size_range}
@@ -222,27 +222,6 @@ begun_tasks s (ReportLine ∷ above) g =
     subst P (in_tasks (told above).section (and_parts _ _ (here s above ReportLine g).1).0) (begun_tasks s above g.1)
 begun_tasks s (f ∷ above) g = begun_tasks s above g.1
 
--- where no further task may begin, assets are due if a task begins
-first_task : (plain : Bool) (c : Section) → plain ≡ true → (are_assets_due c || are_tasks_due c) ≡ true → ((plain && are_tasks_due c) && true) ≡ false → has_begun c ≡ false
-first_task false c p e a = absurd (false≢true p)
-first_task true ScreenIsDue p e a = refl
-first_task true AssetsAreDue p e a = refl
-first_task true CallsAreDue p e a = absurd (false≢true e)
-first_task true TasksAreDue p e a = absurd (true≢false a)
-first_task true NumbersAreDue p e a = absurd (false≢true e)
-first_task true NothingIsDue p e a = absurd (false≢true e)
-
--- a script alone has at most one task
-pub one_task : (s : Setting) (above : List Statement) → is_plain s.form ≡ true → AreGoodLines s above → length (told above).tasks ≤ 1
-one_task s [] p g = omega arith
-one_task s (TaskLine name ∷ above) p g =
-    let h = here s above (TaskLine name) g in
-    let P : Bool → Type 0 = λ b. cond b (nat_lt 0 (length (told above).tasks)) (length (told above).tasks == 0) ≡ true in
-    let none : (length (told above).tasks == 0) ≡ true = subst P (first_task (is_plain s.form) (told above).section p h.1 h.2) (begun_tasks s above g.1) in
-    let zero_tasks : length (told above).tasks ≡ 0 = eqb-true _ 0 none in
-    omega (arith, length-append (told above).tasks (name ∷ []))
-one_task s (f ∷ above) p g = one_task s above p g.1
-
 -- a section below which an input may end
 pub record MayEnd (c : Section) : Type 0 where
   pub begun : has_begun c ≡ true
@@ -286,7 +265,7 @@ glyph_rows s [] g code = refl
 glyph_rows s (GlyphLine c rows ∷ above) g code = step (c == code) (glyph_rows s above g.1 code)
   where
     step : (t : Bool) → length ((told above).glyphs code) ≡ 8 → length (cond t rows ((told above).glyphs code)) ≡ 8
-    step true rest = (here s above (GlyphLine c rows) g).3
+    step true rest = (here s above (GlyphLine c rows) g).2
     step false rest = rest
 glyph_rows s (f ∷ above) g code = glyph_rows s above g.1 code
 

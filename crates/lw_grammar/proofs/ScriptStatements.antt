@@ -12,7 +12,7 @@ use Rattle.lw_calls.specs.declared.make.Kind.TheVariants.{Simple, Smart, SuperBi
 use Rattle.lw_calls.specs.declared.make.Place.{Place}
 use Rattle.lw_calls.specs.declared.form.Form.{Form}
 use Rattle.lw_calls.specs.declared.reason.Reason.{Reason}
-use Rattle.lw_calls.specs.declared.reason.Reason.TheVariants.{UnknownWord, Misplaced, OneTaskOnly, Form as FormReason}
+use Rattle.lw_calls.specs.declared.reason.Reason.TheVariants.{UnknownWord, Misplaced, Form as FormReason}
 use Rattle.lw_grammar.specs.declared.verb.Verb.{Verb}
 use Rattle.lw_grammar.specs.declared.verb.Verb.TheVariants.{Screen as ScreenVerb, Glyph as GlyphVerb, Bitmap as BitmapVerb, Task as TaskVerb, End as EndVerb, Order as OrderVerb, Report as ReportVerb, Lock as LockVerb, Unlock as UnlockVerb, Hold as HoldVerb, Release as ReleaseVerb, OrRect as OrRectVerb, AndRect as AndRectVerb, XorRect as XorRectVerb, ClearRect as ClearRectVerb, OrRegion as OrRegionVerb, AndRegion as AndRegionVerb, XorRegion as XorRegionVerb, ClearRegion as ClearRegionVerb, Create as CreateVerb, Open as OpenVerb, Close as CloseVerb, Front as FrontVerb, Behind as BehindVerb, InFront as InFrontVerb, Move as MoveVerb, Size as SizeVerb, Box as BoxVerb, Activate as ActivateVerb, Which as WhichVerb, APen as APenVerb, BPen as BPenVerb, Mode as ModeVerb, Mask as MaskVerb, At as AtVerb, Write as WriteVerb, Read as ReadVerb, Fill as FillVerb, Draw as DrawVerb, Text as TextVerb, SetRast as SetRastVerb, ScrollRaster as ScrollRasterVerb, Put as PutVerb, Blit as BlitVerb, Clip as ClipVerb, Unclip as UnclipVerb, Refresh as RefreshVerb, EndRefresh as EndRefreshVerb, Scroll as ScrollVerb, Title as TitleVerb, GetMsg as GetMsgVerb}
 use Rattle.lw_calls.specs.Limits.{is_minterm}
@@ -20,7 +20,7 @@ use Rattle.lw_calls.specs.Kinds.{is_super}
 use Rattle.lw_grammar.specs.Tokens.{Token, NameToken, NumberToken, TextToken, OddToken, token_of, is_hex, hex_value, hex_bytes, spelled_bytes, bytes_in}
 use Rattle.lw_grammar.specs.Statements.{layers_of, AskedLayer, Act, RegRectAct, RegPairAct, RegClearAct, CreateAct, OpenAct, CloseAct, FrontAct, BehindAct, InFrontAct, ActivateAct, WhichAct, ScrollRasterAct, PutAct, BlitAct, UnclipAct, RefreshAct, EndRefreshAct, GetMsgAct, Statement, ScreenLine, GlyphLine, BitmapLine, RowLine, TaskLine, EndLine, OrderLine, NumbersLine, ReportLine, CallLine, LockLine, UnlockLine, HoldLine, ReleaseLine, four, screen_line, glyph_of_bytes, glyph_line, bitmap_line, row_line, all_numbers, numbers_limit, numbers_line, name_line, bare_line, layer_line, number_line, pair_line, text_line, rect_line, region_line, clear_line, which_line, infront_line, four_line, scrollraster_line, minterm_of, put_line, blit_line, endrefresh_line, kind_of, place_of, flag, hook_option, message_class_of, classes_from, asked_classes, ask_option, at_end, create_super, create_kind, titled_line, open_super, open_kind, asked_line, statement_by}
 use Rattle.lw_grammar.specs.Told.{Section, told}
-use Rattle.lw_grammar.specs.Script.{Setting, is_screen_due, are_assets_due, are_calls_due, are_tasks_due, are_numbers_due, is_plain, is_ordered, is_audited, belongs_in, is_task_verb, verb_on, after_verb, verb_read, statement_read}
+use Rattle.lw_grammar.specs.Script.{Setting, is_screen_due, are_assets_due, are_calls_due, are_tasks_due, are_numbers_due, is_ordered, is_audited, belongs_in, verb_on, after_verb, verb_read, statement_read}
 use Rattle.lw_grammar.specs.Demands.{◌>>=◌, demand}
 use Rattle.std.proofs.lemmas.Bool.{false≢true, eqb-true, leb-true, le-leb, and_parts, and_from, and_right}
 use Rattle.std.proofs.lemmas.Bool.Decides.{nat_tests}
@@ -62,24 +62,18 @@ IsStatementMade (GlyphLine code rows) = length rows ≡ 8
 IsStatementMade (CallLine layers act) = (length layers ≡ layers_of act) × IsActMade act
 IsStatementMade statement = Unit {0}
 
--- the line begins a task
-abbrev pub begins_task : Statement → Bool
-begins_task (TaskLine name) = true
-begins_task statement = false
-
--- The statement is made of words after a verb whose lines stand here or not, and which begins a task or not.
-pub record IsVerbStatement (form : Form) (s : Section) (stands task : Bool) (f : Statement) : Type 0 where
+-- The statement is made of words after a verb whose lines stand here or not.
+pub record IsVerbStatement (form : Form) (s : Section) (stands : Bool) (f : Statement) : Type 0 where
   pub place : stands ≡ true → belongs_at form s f ≡ true
-  pub begins : begins_task f ≡ task
   pub made : IsStatementMade f
 
 -- a statement whose lines stand where the verb's do
-belongs_so : (form : Form) (s : Section) (f : Statement) → IsStatementMade f → IsVerbStatement form s (belongs_at form s f) (begins_task f) f
-belongs_so form s f h = record { place = λ e. e; begins = refl; made = h }
+belongs_so : (form : Form) (s : Section) (f : Statement) → IsStatementMade f → IsVerbStatement form s (belongs_at form s f) f
+belongs_so form s f h = record { place = λ e. e; made = h }
 
 -- the statement of a call, which stands where calls are due
-call_so : (form : Form) (s : Section) (layers : List (List ℕ)) (act : Act) → length layers ≡ layers_of act → IsActMade act → IsVerbStatement form s (are_calls_due s) false (CallLine layers act)
-call_so form s layers act n h = record { place = λ e. e; begins = refl; made = (n, h) }
+call_so : (form : Form) (s : Section) (layers : List (List ℕ)) (act : Act) → length layers ≡ layers_of act → IsActMade act → IsVerbStatement form s (are_calls_due s) (CallLine layers act)
+call_so form s layers act n h = record { place = λ e. e; made = (n, h) }
 
 -- of two options that have a property, each has it
 pub either_has : {A : Type 0} (P : A → Type 0) (b : Bool) (x y : Option A) → IfSome x P → IfSome y P → IfSome (cond b x y) P
@@ -211,161 +205,161 @@ behind_hook ts = (hook_option (flag (codes "nocare") (flag (codes "borderless") 
 -- The lines of each family of verbs.
 module _ (form : Form) (s : Section) where
   -- screen W H D
-  screen_made : (ts : List Token) → IfSome (screen_line ts) (IsVerbStatement form s (is_screen_due s) false)
+  screen_made : (ts : List Token) → IfSome (screen_line ts) (IsVerbStatement form s (is_screen_due s))
   screen_made (NumberToken a w ∷ NumberToken b h ∷ NumberToken c d ∷ []) = belongs_so form s (ScreenLine w h d) tt
   screen_made _ = tt
 
   -- a glyph of the bytes that its words spell
-  glyph_bytes_made : (code rows : Option (List ℕ)) → IfSome rows (AreSoMany 8) → IfSome (glyph_of_bytes code rows) (IsVerbStatement form s (are_assets_due s) false)
+  glyph_bytes_made : (code rows : Option (List ℕ)) → IfSome rows (AreSoMany 8) → IfSome (glyph_of_bytes code rows) (IsVerbStatement form s (are_assets_due s))
   glyph_bytes_made (Some (code ∷ [])) (Some rows) h = belongs_so form s (GlyphLine code rows) h.0
   glyph_bytes_made _ _ h = tt
 
   -- glyph CC HHHHHHHHHHHHHHHH
-  glyph_made : (ts : List Token) → IfSome (glyph_line ts) (IsVerbStatement form s (are_assets_due s) false)
+  glyph_made : (ts : List Token) → IfSome (glyph_line ts) (IsVerbStatement form s (are_assets_due s))
   glyph_made (code ∷ rows ∷ []) = glyph_bytes_made (bytes_in 1 code) (bytes_in 8 rows) (token_spelled 8 rows)
   glyph_made _ = tt
 
   -- bitmap NAME W H D
-  bitmap_made : (ts : List Token) → IfSome (bitmap_line ts) (IsVerbStatement form s (are_assets_due s) false)
+  bitmap_made : (ts : List Token) → IfSome (bitmap_line ts) (IsVerbStatement form s (are_assets_due s))
   bitmap_made (NameToken n ∷ NumberToken a w ∷ NumberToken b h ∷ NumberToken c d ∷ []) = belongs_so form s (BitmapLine n w h d) tt
   bitmap_made _ = tt
 
   -- a verb with a name
-  name_made : (f : List ℕ → Statement) (stands task : Bool) → ((n : List ℕ) → IsVerbStatement form s stands task (f n)) → (ts : List Token) → IfSome (name_line f ts) (IsVerbStatement form s stands task)
-  name_made f stands task h (NameToken n ∷ []) = h n
-  name_made f stands task h _ = tt
+  name_made : (f : List ℕ → Statement) (stands : Bool) → ((n : List ℕ) → IsVerbStatement form s stands (f n)) → (ts : List Token) → IfSome (name_line f ts) (IsVerbStatement form s stands)
+  name_made f stands h (NameToken n ∷ []) = h n
+  name_made f stands h _ = tt
 
   -- a verb alone
-  bare_made : (f : Statement) (stands task : Bool) → IsVerbStatement form s stands task f → (ts : List Token) → IfSome (bare_line f ts) (IsVerbStatement form s stands task)
-  bare_made f stands task h [] = h
-  bare_made f stands task h _ = tt
+  bare_made : (f : Statement) (stands : Bool) → IsVerbStatement form s stands f → (ts : List Token) → IfSome (bare_line f ts) (IsVerbStatement form s stands)
+  bare_made f stands h [] = h
+  bare_made f stands h _ = tt
 
   -- a verb with a layer
-  layer_made : (act : Act) → 1 ≡ layers_of act → IsActMade act → (ts : List Token) → IfSome (layer_line act ts) (IsVerbStatement form s (are_calls_due s) false)
+  layer_made : (act : Act) → 1 ≡ layers_of act → IsActMade act → (ts : List Token) → IfSome (layer_line act ts) (IsVerbStatement form s (are_calls_due s))
   layer_made act n h (NameToken l ∷ []) = call_so form s (l ∷ []) act n h
   layer_made act n h _ = tt
 
   -- a verb with a layer and a number
-  number_made : (act : ℤ → Act) → ((z : ℤ) → 1 ≡ layers_of (act z)) → ((z : ℤ) → IsActMade (act z)) → (ts : List Token) → IfSome (number_line act ts) (IsVerbStatement form s (are_calls_due s) false)
+  number_made : (act : ℤ → Act) → ((z : ℤ) → 1 ≡ layers_of (act z)) → ((z : ℤ) → IsActMade (act z)) → (ts : List Token) → IfSome (number_line act ts) (IsVerbStatement form s (are_calls_due s))
   number_made act n h (NameToken l ∷ NumberToken a z ∷ []) = call_so form s (l ∷ []) (act z) (n z) (h z)
   number_made act n h _ = tt
 
   -- a verb with a layer and two numbers
-  pair_made : (act : ℤ → ℤ → Act) → ((x y : ℤ) → 1 ≡ layers_of (act x y)) → ((x y : ℤ) → IsActMade (act x y)) → (ts : List Token) → IfSome (pair_line act ts) (IsVerbStatement form s (are_calls_due s) false)
+  pair_made : (act : ℤ → ℤ → Act) → ((x y : ℤ) → 1 ≡ layers_of (act x y)) → ((x y : ℤ) → IsActMade (act x y)) → (ts : List Token) → IfSome (pair_line act ts) (IsVerbStatement form s (are_calls_due s))
   pair_made act n h (NameToken l ∷ NumberToken a x ∷ NumberToken b y ∷ []) = call_so form s (l ∷ []) (act x y) (n x y) (h x y)
   pair_made act n h _ = tt
 
   -- a verb with a layer and a text
-  text_made : (act : List ℕ → Act) → ((t : List ℕ) → 1 ≡ layers_of (act t)) → ((t : List ℕ) → IsActMade (act t)) → (ts : List Token) → IfSome (text_line act ts) (IsVerbStatement form s (are_calls_due s) false)
+  text_made : (act : List ℕ → Act) → ((t : List ℕ) → 1 ≡ layers_of (act t)) → ((t : List ℕ) → IsActMade (act t)) → (ts : List Token) → IfSome (text_line act ts) (IsVerbStatement form s (are_calls_due s))
   text_made act n h (NameToken l ∷ TextToken text ∷ []) = call_so form s (l ∷ []) (act text) (n text) (h text)
   text_made act n h _ = tt
 
   -- a verb with a layer and four numbers
-  four_made : (act : ℤ → ℤ → ℤ → ℤ → Act) → ((x y z w : ℤ) → 1 ≡ layers_of (act x y z w)) → ((x y z w : ℤ) → IsActMade (act x y z w)) → (ts : List Token) → IfSome (four_line act ts) (IsVerbStatement form s (are_calls_due s) false)
+  four_made : (act : ℤ → ℤ → ℤ → ℤ → Act) → ((x y z w : ℤ) → 1 ≡ layers_of (act x y z w)) → ((x y z w : ℤ) → IsActMade (act x y z w)) → (ts : List Token) → IfSome (four_line act ts) (IsVerbStatement form s (are_calls_due s))
   four_made act n h (NameToken l ∷ NumberToken a x ∷ NumberToken b y ∷ NumberToken c w ∷ NumberToken d z ∷ []) =
       call_so form s (l ∷ []) (act x y w z) (n x y w z) (h x y w z)
   four_made act n h _ = tt
 
   -- orrect R X0 Y0 X1 Y1, and its kin
-  rect_made : (op : RectOp) (ts : List Token) → IfSome (rect_line op ts) (IsVerbStatement form s (are_calls_due s) false)
+  rect_made : (op : RectOp) (ts : List Token) → IfSome (rect_line op ts) (IsVerbStatement form s (are_calls_due s))
   rect_made op (NumberToken a r ∷ NumberToken b x0 ∷ NumberToken c y0 ∷ NumberToken d x1 ∷ NumberToken e y1 ∷ []) =
       call_so form s [] (RegRectAct op r (four x0 y0 x1 y1)) refl tt
   rect_made op _ = tt
 
   -- orregion S R, and its kin
-  region_made : (op : PairOp) (ts : List Token) → IfSome (region_line op ts) (IsVerbStatement form s (are_calls_due s) false)
+  region_made : (op : PairOp) (ts : List Token) → IfSome (region_line op ts) (IsVerbStatement form s (are_calls_due s))
   region_made op (NumberToken a r ∷ NumberToken b q ∷ []) = call_so form s [] (RegPairAct op r q) refl tt
   region_made op _ = tt
 
   -- clearregion R
-  clear_made : (ts : List Token) → IfSome (clear_line ts) (IsVerbStatement form s (are_calls_due s) false)
+  clear_made : (ts : List Token) → IfSome (clear_line ts) (IsVerbStatement form s (are_calls_due s))
   clear_made (NumberToken a r ∷ []) = call_so form s [] (RegClearAct r) refl tt
   clear_made _ = tt
 
   -- which X Y
-  which_made : (ts : List Token) → IfSome (which_line ts) (IsVerbStatement form s (are_calls_due s) false)
+  which_made : (ts : List Token) → IfSome (which_line ts) (IsVerbStatement form s (are_calls_due s))
   which_made (NumberToken a x ∷ NumberToken b y ∷ []) = call_so form s [] (WhichAct x y) refl tt
   which_made _ = tt
 
   -- infront L M
-  infront_made : (ts : List Token) → IfSome (infront_line ts) (IsVerbStatement form s (are_calls_due s) false)
+  infront_made : (ts : List Token) → IfSome (infront_line ts) (IsVerbStatement form s (are_calls_due s))
   infront_made (NameToken l ∷ NameToken m ∷ []) = call_so form s (l ∷ m ∷ []) InFrontAct refl tt
   infront_made _ = tt
 
   -- scrollraster L DX DY X0 Y0 X1 Y1
-  scrollraster_made : (ts : List Token) → IfSome (scrollraster_line ts) (IsVerbStatement form s (are_calls_due s) false)
+  scrollraster_made : (ts : List Token) → IfSome (scrollraster_line ts) (IsVerbStatement form s (are_calls_due s))
   scrollraster_made (NameToken l ∷ NumberToken a dx ∷ NumberToken b dy ∷ NumberToken c x0 ∷ NumberToken d y0 ∷ NumberToken e x1 ∷ NumberToken f y1 ∷ []) =
       call_so form s (l ∷ []) (ScrollRasterAct dx dy (four x0 y0 x1 y1)) refl tt
   scrollraster_made _ = tt
 
   -- put BM SX SY L X Y W H MM
-  put_made : (ts : List Token) → IfSome (put_line ts) (IsVerbStatement form s (are_calls_due s) false)
+  put_made : (ts : List Token) → IfSome (put_line ts) (IsVerbStatement form s (are_calls_due s))
   put_made (NameToken bm ∷ NumberToken a sx ∷ NumberToken b sy ∷ NameToken l ∷ NumberToken c x ∷ NumberToken d y ∷ NumberToken e w ∷ NumberToken f h ∷ mm ∷ []) =
-      map_has (λ m. is_minterm m ≡ true) (IsVerbStatement form s (are_calls_due s) false) _ (minterm_of (bytes_in 1 mm)) (minterm_made (bytes_in 1 mm) (token_spelled 1 mm)) (λ m k. call_so form s (l ∷ []) (PutAct bm (record { sx = sx; sy = sy; x = x; y = y; w = w; h = h; minterm = m })) refl k)
+      map_has (λ m. is_minterm m ≡ true) (IsVerbStatement form s (are_calls_due s)) _ (minterm_of (bytes_in 1 mm)) (minterm_made (bytes_in 1 mm) (token_spelled 1 mm)) (λ m k. call_so form s (l ∷ []) (PutAct bm (record { sx = sx; sy = sy; x = x; y = y; w = w; h = h; minterm = m })) refl k)
   put_made _ = tt
 
   -- blit L SX SY M X Y W H MM
-  blit_made : (ts : List Token) → IfSome (blit_line ts) (IsVerbStatement form s (are_calls_due s) false)
+  blit_made : (ts : List Token) → IfSome (blit_line ts) (IsVerbStatement form s (are_calls_due s))
   blit_made (NameToken l ∷ NumberToken a sx ∷ NumberToken b sy ∷ NameToken m ∷ NumberToken c x ∷ NumberToken d y ∷ NumberToken e w ∷ NumberToken f h ∷ mm ∷ []) =
-      map_has (λ m. is_minterm m ≡ true) (IsVerbStatement form s (are_calls_due s) false) _ (minterm_of (bytes_in 1 mm)) (minterm_made (bytes_in 1 mm) (token_spelled 1 mm)) (λ n k. call_so form s (l ∷ m ∷ []) (BlitAct (record { sx = sx; sy = sy; x = x; y = y; w = w; h = h; minterm = n })) refl k)
+      map_has (λ m. is_minterm m ≡ true) (IsVerbStatement form s (are_calls_due s)) _ (minterm_of (bytes_in 1 mm)) (minterm_made (bytes_in 1 mm) (token_spelled 1 mm)) (λ n k. call_so form s (l ∷ m ∷ []) (BlitAct (record { sx = sx; sy = sy; x = x; y = y; w = w; h = h; minterm = n })) refl k)
   blit_made _ = tt
 
   -- endrefresh L full, endrefresh L part
-  endrefresh_made : (ts : List Token) → IfSome (endrefresh_line ts) (IsVerbStatement form s (are_calls_due s) false)
+  endrefresh_made : (ts : List Token) → IfSome (endrefresh_line ts) (IsVerbStatement form s (are_calls_due s))
   endrefresh_made (NameToken l ∷ NameToken how ∷ []) =
-      either_has (IsVerbStatement form s (are_calls_due s) false) (bytes_eq how (codes "full")) _ _ (call_so form s (l ∷ []) (EndRefreshAct true) refl tt) (either_has (IsVerbStatement form s (are_calls_due s) false) (bytes_eq how (codes "part")) _ None (call_so form s (l ∷ []) (EndRefreshAct false) refl tt) tt)
+      either_has (IsVerbStatement form s (are_calls_due s)) (bytes_eq how (codes "full")) _ _ (call_so form s (l ∷ []) (EndRefreshAct true) refl tt) (either_has (IsVerbStatement form s (are_calls_due s)) (bytes_eq how (codes "part")) _ None (call_so form s (l ∷ []) (EndRefreshAct false) refl tt) tt)
   endrefresh_made _ = tt
 
   -- the statement at the end of a creation's words
-  end_made : (f : Statement) → IsVerbStatement form s (are_calls_due s) false f → (ts : List Token) → IfSome (at_end f ts) (IsVerbStatement form s (are_calls_due s) false)
+  end_made : (f : Statement) → IsVerbStatement form s (are_calls_due s) f → (ts : List Token) → IfSome (at_end f ts) (IsVerbStatement form s (are_calls_due s))
   end_made f h [] = h
   end_made f h (t ∷ ts) = tt
 
   -- what stands after a creation's four numbers
-  create_super_made : (l : List ℕ) (place : Place) (numbers : Rectangle) (ts : List Token) → IfSome (create_super l place numbers ts) (IsVerbStatement form s (are_calls_due s) false)
+  create_super_made : (l : List ℕ) (place : Place) (numbers : Rectangle) (ts : List Token) → IfSome (create_super l place numbers ts) (IsVerbStatement form s (are_calls_due s))
   create_super_made l place numbers (NumberToken a w ∷ NumberToken b h ∷ ts) = end_made _ (call_so form s (l ∷ []) _ refl refl) _
   create_super_made l place numbers _ = tt
 
-  create_made : (l : List ℕ) (place : Place) (numbers : Rectangle) (ts : List Token) (kind : Kind) → IfSome (create_kind l place numbers ts kind) (IsVerbStatement form s (are_calls_due s) false)
+  create_made : (l : List ℕ) (place : Place) (numbers : Rectangle) (ts : List Token) (kind : Kind) → IfSome (create_kind l place numbers ts kind) (IsVerbStatement form s (are_calls_due s))
   create_made l place numbers ts Simple = end_made _ (call_so form s (l ∷ []) _ refl (refl, refl)) _
   create_made l place numbers ts Smart = end_made _ (call_so form s (l ∷ []) _ refl (refl, refl)) _
   create_made l place numbers ts SuperBitmap = create_super_made l place numbers ts
 
   -- the statement at the title
-  titled_made : (l : List ℕ) (asked : AskedLayer) (framed nocare : Bool) (classes : ℕ) → IsAskedOf asked.kind asked → (framed && is_super asked.kind) ≡ false → classes < 32 → (ts : List Token) → IfSome (titled_line l asked framed nocare classes ts) (IsVerbStatement form s (are_calls_due s) false)
+  titled_made : (l : List ℕ) (asked : AskedLayer) (framed nocare : Bool) (classes : ℕ) → IsAskedOf asked.kind asked → (framed && is_super asked.kind) ≡ false → classes < 32 → (ts : List Token) → IfSome (titled_line l asked framed nocare classes ts) (IsVerbStatement form s (are_calls_due s))
   titled_made l asked framed nocare classes a f c (TextToken title ∷ []) =
       call_so form s (l ∷ []) (OpenAct asked framed nocare classes title) refl (a, f, c)
   titled_made l asked framed nocare classes a f c _ = tt
 
   -- what stands after an opening's four numbers
-  open_super_made : (l : List ℕ) (place : Place) (numbers : Rectangle) (ts : List Token) → IfSome (open_super l place numbers ts) (IsVerbStatement form s (are_calls_due s) false)
+  open_super_made : (l : List ℕ) (place : Place) (numbers : Rectangle) (ts : List Token) → IfSome (open_super l place numbers ts) (IsVerbStatement form s (are_calls_due s))
   open_super_made l place numbers (NumberToken a w ∷ NumberToken b h ∷ ts) = titled_made l _ false false _ refl refl (asked_small ((flag (codes "backdrop") ts).1)) _
   open_super_made l place numbers _ = tt
 
-  open_made : (l : List ℕ) (place : Place) (numbers : Rectangle) (ts : List Token) (kind : Kind) → IfSome (open_kind l place numbers ts kind) (IsVerbStatement form s (are_calls_due s) false)
+  open_made : (l : List ℕ) (place : Place) (numbers : Rectangle) (ts : List Token) (kind : Kind) → IfSome (open_kind l place numbers ts kind) (IsVerbStatement form s (are_calls_due s))
   open_made l place numbers ts Simple = titled_made l _ _ _ _ (refl, refl) (and_right _ false refl) (asked_small (behind_hook ts)) _
   open_made l place numbers ts Smart = titled_made l _ _ _ _ (refl, refl) (and_right _ false refl) (asked_small (behind_hook ts)) _
   open_made l place numbers ts SuperBitmap = open_super_made l place numbers ts
 
   -- create L KIND PLACE X0 Y0 X1 Y1 .., and open L KIND PLACE X Y W H ..
-  asked_made : (behind : List ℕ → Place → Rectangle → List Token → Kind → Option Statement) → ((l : List ℕ) (place : Place) (numbers : Rectangle) (ts : List Token) (kind : Kind) → IfSome (behind l place numbers ts kind) (IsVerbStatement form s (are_calls_due s) false)) → (ts : List Token) → IfSome (asked_line behind ts) (IsVerbStatement form s (are_calls_due s) false)
+  asked_made : (behind : List ℕ → Place → Rectangle → List Token → Kind → Option Statement) → ((l : List ℕ) (place : Place) (numbers : Rectangle) (ts : List Token) (kind : Kind) → IfSome (behind l place numbers ts kind) (IsVerbStatement form s (are_calls_due s))) → (ts : List Token) → IfSome (asked_line behind ts) (IsVerbStatement form s (are_calls_due s))
   asked_made behind made (NameToken l ∷ NameToken k ∷ NameToken p ∷ NumberToken a x ∷ NumberToken b y ∷ NumberToken c z ∷ NumberToken d w ∷ ts) =
-      then_has (IsVerbStatement form s (are_calls_due s) false) _ (place_of p) (λ place. then_has (IsVerbStatement form s (are_calls_due s) false) _ (kind_of k) (λ kind. made l place (four x y z w) ts kind))
+      then_has (IsVerbStatement form s (are_calls_due s)) _ (place_of p) (λ place. then_has (IsVerbStatement form s (are_calls_due s)) _ (kind_of k) (λ kind. made l place (four x y z w) ts kind))
   asked_made behind made _ = tt
 
 -- so it is for each verb
-verb_made : (form : Form) (s : Section) (verb : Verb) (ts : List Token) → IfSome (statement_by verb ts) (IsVerbStatement form s (belongs_in form s verb) (is_task_verb verb))
+verb_made : (form : Form) (s : Section) (verb : Verb) (ts : List Token) → IfSome (statement_by verb ts) (IsVerbStatement form s (belongs_in form s verb))
 verb_made form s ScreenVerb ts = screen_made form s ts
 verb_made form s GlyphVerb ts = glyph_made form s ts
 verb_made form s BitmapVerb ts = bitmap_made form s ts
-verb_made form s TaskVerb ts = name_made form s _ _ _ (λ n. belongs_so form s (TaskLine n) tt) ts
-verb_made form s EndVerb ts = bare_made form s EndLine _ _ (belongs_so form s EndLine tt) ts
-verb_made form s OrderVerb ts = bare_made form s OrderLine _ _ (belongs_so form s OrderLine tt) ts
-verb_made form s ReportVerb ts = bare_made form s ReportLine _ _ (belongs_so form s ReportLine tt) ts
-verb_made form s LockVerb ts = name_made form s _ _ _ (λ n. belongs_so form s (LockLine n) tt) ts
-verb_made form s UnlockVerb ts = name_made form s _ _ _ (λ n. belongs_so form s (UnlockLine n) tt) ts
-verb_made form s HoldVerb ts = bare_made form s HoldLine _ _ (belongs_so form s HoldLine tt) ts
-verb_made form s ReleaseVerb ts = bare_made form s ReleaseLine _ _ (belongs_so form s ReleaseLine tt) ts
+verb_made form s TaskVerb ts = name_made form s _ _ (λ n. belongs_so form s (TaskLine n) tt) ts
+verb_made form s EndVerb ts = bare_made form s EndLine _ (belongs_so form s EndLine tt) ts
+verb_made form s OrderVerb ts = bare_made form s OrderLine _ (belongs_so form s OrderLine tt) ts
+verb_made form s ReportVerb ts = bare_made form s ReportLine _ (belongs_so form s ReportLine tt) ts
+verb_made form s LockVerb ts = name_made form s _ _ (λ n. belongs_so form s (LockLine n) tt) ts
+verb_made form s UnlockVerb ts = name_made form s _ _ (λ n. belongs_so form s (UnlockLine n) tt) ts
+verb_made form s HoldVerb ts = bare_made form s HoldLine _ (belongs_so form s HoldLine tt) ts
+verb_made form s ReleaseVerb ts = bare_made form s ReleaseLine _ (belongs_so form s ReleaseLine tt) ts
 verb_made form s OrRectVerb ts = rect_made form s OrR ts
 verb_made form s AndRectVerb ts = rect_made form s AndR ts
 verb_made form s XorRectVerb ts = rect_made form s XorR ts
@@ -407,21 +401,17 @@ verb_made form s ScrollVerb ts = pair_made form s _ (λ x y. refl) (λ x y. tt) 
 verb_made form s TitleVerb ts = text_made form s _ (λ t. refl) (λ t. tt) ts
 verb_made form s GetMsgVerb ts = layer_made form s GetMsgAct refl tt ts
 
--- no further task may begin here
-abbrev pub is_task_refused : Setting → List Statement → Bool
-is_task_refused s above = is_plain s.form && are_tasks_due (told above).section
-
 -- What a line with this statement was good for, below lines with these statements.
 abbrev pub IsStatementHere : Setting → List Statement → Statement → Type 0
 IsStatementHere s above (RowLine bytes) = (((told above).rows_due == 0) ≡ false) × (length bytes ≡ row_bytes (told above).row_width)
 IsStatementHere s above (NumbersLine zs) = (((told above).rows_due == 0) ≡ true) × (are_numbers_due (told above).section ≡ true)
-IsStatementHere s above f = (((told above).rows_due == 0) ≡ true) × (belongs_at s.form (told above).section f ≡ true) × ((is_task_refused s above && begins_task f) ≡ false) × IsStatementMade f
+IsStatementHere s above f = (((told above).rows_due == 0) ≡ true) × (belongs_at s.form (told above).section f ≡ true) × IsStatementMade f
 
 -- a statement of a verb is good for this, where its lines stand
-verb_here : (s : Setting) (above : List Statement) → ((told above).rows_due == 0) ≡ true → (stands task : Bool) → stands ≡ true → (is_task_refused s above && task) ≡ false → (f : Statement) → IsVerbStatement s.form (told above).section stands task f → IsStatementHere s above f
-verb_here s above e stands task h a (RowLine bytes) k = absurd (false≢true (k.place h))
-verb_here s above e stands task h a (NumbersLine zs) k = absurd (false≢true (k.place h))
-verb_here s above e stands task h a f k = (e, k.place h, ap (λ b. is_task_refused s above && b) k.begins ∙ a, k.made)
+verb_here : (s : Setting) (above : List Statement) → ((told above).rows_due == 0) ≡ true → (stands : Bool) → stands ≡ true → (f : Statement) → IsVerbStatement s.form (told above).section stands f → IsStatementHere s above f
+verb_here s above e stands h (RowLine bytes) k = absurd (false≢true (k.place h))
+verb_here s above e stands h (NumbersLine zs) k = absurd (false≢true (k.place h))
+verb_here s above e stands h f k = (e, k.place h, k.made)
 
 -- what is found is found as a result too
 pub found_has : {A : Type 0} (P : A → Type 0) (o : Option A) (r : Reason) → IfSome o P → IfOk (ok_or o r) P
@@ -432,18 +422,17 @@ found_has P (Some a) r h = h
 verb_line_here : (s : Setting) (above : List Statement) → ((told above).rows_due == 0) ≡ true → (ws : List (List ℕ)) → IfOk (verb_read s.form (told above).section ws) (IsStatementHere s above)
 verb_line_here s above e ws = at_verb (verb_on ws)
   where
-    at_statement : (v : Verb) → belongs_in s.form (told above).section v ≡ true → (is_task_refused s above && is_task_verb v) ≡ false → (o : Option Statement) → IfSome o (IsVerbStatement s.form (told above).section (belongs_in s.form (told above).section v) (is_task_verb v)) → IfOk (ok_or o FormReason) (IsStatementHere s above)
-    at_statement v h a None k = tt
-    at_statement v h a (Some f) k = verb_here s above e _ _ h a f k
+    at_statement : (v : Verb) → belongs_in s.form (told above).section v ≡ true → (o : Option Statement) → IfSome o (IsVerbStatement s.form (told above).section (belongs_in s.form (told above).section v)) → IfOk (ok_or o FormReason) (IsStatementHere s above)
+    at_statement v h None k = tt
+    at_statement v h (Some f) k = verb_here s above e _ h f k
 
-    at_tests : (v : Verb) (b c : Bool) → belongs_in s.form (told above).section v ≡ b → (is_task_refused s above && is_task_verb v) ≡ c → IfOk (demand b Misplaced >>= (λ _. demand (not c) OneTaskOnly >>= (λ _. ok_or (statement_by v (map token_of (after_verb ws))) FormReason))) (IsStatementHere s above)
-    at_tests v false c h a = tt
-    at_tests v true true h a = tt
-    at_tests v true false h a = at_statement v h a (statement_by v (map token_of (after_verb ws))) (verb_made s.form (told above).section v (map token_of (after_verb ws)))
+    at_test : (v : Verb) (b : Bool) → belongs_in s.form (told above).section v ≡ b → IfOk (demand b Misplaced >>= (λ _. ok_or (statement_by v (map token_of (after_verb ws))) FormReason)) (IsStatementHere s above)
+    at_test v false h = tt
+    at_test v true h = at_statement v h (statement_by v (map token_of (after_verb ws))) (verb_made s.form (told above).section v (map token_of (after_verb ws)))
 
-    at_verb : (o : Option Verb) → IfOk (ok_or o UnknownWord >>= (λ v. demand (belongs_in s.form (told above).section v) Misplaced >>= (λ _. demand (not ((is_plain s.form && are_tasks_due (told above).section) && is_task_verb v)) OneTaskOnly >>= (λ _. ok_or (statement_by v (map token_of (after_verb ws))) FormReason)))) (IsStatementHere s above)
+    at_verb : (o : Option Verb) → IfOk (ok_or o UnknownWord >>= (λ v. demand (belongs_in s.form (told above).section v) Misplaced >>= (λ _. ok_or (statement_by v (map token_of (after_verb ws))) FormReason))) (IsStatementHere s above)
     at_verb None = tt
-    at_verb (Some v) = at_tests v (belongs_in s.form (told above).section v) (is_task_refused s above && is_task_verb v) refl refl
+    at_verb (Some v) = at_test v (belongs_in s.form (told above).section v) refl
 
 -- a row of a bitmap
 row_here : (s : Setting) (above : List Statement) → ((told above).rows_due == 0) ≡ false → (ts : List Token) → IfSome (row_line (told above).row_width ts) (IsStatementHere s above)

@@ -8,10 +8,10 @@ use Rattle.lw_calls.specs.declared.group.Hold.TheVariants.{Slot, All as AllLayer
 use Rattle.lw_calls.specs.declared.group.Group.{Group}
 use Rattle.lw_calls.specs.Limits.{call_limit, call_fits}
 use Rattle.lw_calls.specs.Touches.{slots_of}
-use Rattle.lw_calls.specs.Plan.{is_one, is_all, begins_update, ends_update, may_be_locked, may_stand, group_fits, groups_fit}
+use Rattle.lw_calls.specs.Plan.{is_one, is_all, begins_update, ends_update, may_be_locked, hold_allows, group_fits, groups_fit}
 use Rattle.lw_grammar.specs.Statements.{Act, RefreshAct, EndRefreshAct, Statement, ScreenLine, BitmapLine, TaskLine, EndLine, OrderLine, ReportLine, CallLine, LockLine, UnlockLine, HoldLine, ReleaseLine, layers_of}
 use Rattle.lw_grammar.specs.Told.{Section, ScreenIsDue, AssetsAreDue, CallsAreDue, TasksAreDue, NumbersAreDue, NothingIsDue, OpenGroup, Locked, Updating, Held, and_names, place_among, onto_last, spelled_call, call_below, hook_on, left_open_by, group_from, told}
-use Rattle.lw_grammar.specs.Script.{Setting, is_screen_due, are_assets_due, are_calls_due, are_tasks_due, is_beginning, is_ending, is_on_one, call_may_stand, is_lock_on, is_hold, is_no_hook, AreGoodLines}
+use Rattle.lw_grammar.specs.Script.{Setting, is_screen_due, are_assets_due, are_calls_due, are_tasks_due, is_beginning, is_ending, is_on_one, group_allows, is_lock_on, is_hold, is_no_hook, AreGoodLines}
 use Rattle.lw_grammar.proofs.ScriptNames.{equal_names, names_grow, any_kept, place_kept, all_named, places_below}
 use Rattle.lw_grammar.proofs.ScriptCalls.{act_fits}
 use Rattle.lw_grammar.proofs.ScriptGroups.{begins_so, ends_so, arranges, on_one, EndBefore, end_later, end_pushed, groups_kept, groups_pushed, to_the_end, all_pushed, update_stands, locked_stands, drop_pushed}
@@ -204,7 +204,7 @@ updating_more s [] c h k = absurd h
 updating_more s (b ∷ cs) c h k = (h.0, all_pushed (may_be_locked s) cs c h.1 k)
 
 -- A call that neither begins nor ends an update leaves the open group open.
-plain_state : (o : Option OpenGroup) (so_far began : ℕ) (names layers : List (List ℕ)) (act : Act) (bitmaps : List (List ℕ)) (calls : List Call) (groups : List Group) → length calls ≡ so_far → length layers ≡ layers_of act → is_beginning act ≡ false → is_ending act ≡ false → call_may_stand o layers act ≡ true → OpenState o so_far began (and_names names layers) calls groups → OpenState o (so_far + 1) began (and_names names layers) (calls ++ spelled_call bitmaps act (map (place_among (and_names names layers)) layers) ∷ []) groups
+plain_state : (o : Option OpenGroup) (so_far began : ℕ) (names layers : List (List ℕ)) (act : Act) (bitmaps : List (List ℕ)) (calls : List Call) (groups : List Group) → length calls ≡ so_far → length layers ≡ layers_of act → is_beginning act ≡ false → is_ending act ≡ false → group_allows o layers act ≡ true → OpenState o so_far began (and_names names layers) calls groups → OpenState o (so_far + 1) began (and_names names layers) (calls ++ spelled_call bitmaps act (map (place_among (and_names names layers)) layers) ∷ []) groups
 plain_state None so_far began names layers act bitmaps calls groups long n begins ends stands h = end_later groups so_far (so_far + 1) h (omega arith)
 plain_state (Some (Locked l)) so_far began names layers act bitmaps calls groups long n begins ends stands h =
     let more : List (List ℕ) = and_names names layers in
@@ -256,7 +256,7 @@ call_sound z s above layers act g hooks slots bitmaps =
     let more : List (List ℕ) = and_names (told above).names layers in
     let low = places_below more layers (all_named (told above).names layers) in
     let P : ℕ → Type 0 = λ n. is_no_hook n (hook_on (CallLine layers act)) ≡ false in
-    act_fits z (told above).bitmap_names bitmaps (map (place_among more) layers) layers act h.3.1 t.range t.named (subst P (sym hooks) t.hook) (λ i k. omega (arith, low i (omega (arith, h.3.0, k)), slots))
+    act_fits z (told above).bitmap_names bitmaps (map (place_among more) layers) layers act h.2.1 t.range t.named (subst P (sym hooks) t.hook) (λ i k. omega (arith, low i (omega (arith, h.2.0, k)), slots))
 
 -- the tasks with a call and groups more in the nearest one
 module _ (z : Sizes) (s : Setting) (above : List Statement) (layers : List (List ℕ)) (act : Act) (good : AreGoodLines s (CallLine layers act ∷ above)) (hooks : z.hooks ≡ s.hooks) (slots : length (told (CallLine layers act ∷ above)).names ≤ z.slots) (bitmaps : length (told above).bitmap_names ≤ z.bitmaps) where
@@ -294,20 +294,20 @@ module _ (z : Sizes) (s : Setting) (above : List Statement) (layers : List (List
       let more : List (List ℕ) = and_names (told above).names layers in
       let calls : List Call = b.calls ++ the_call ∷ [] in
       let later = names_later (told above).group (told above).so_far (told above).began (told above).names layers b.calls b.groups b.now.state in
-      let plain = plain_state (told above).group (told above).so_far (told above).began (told above).names layers act (told above).bitmap_names b.calls b.groups b.now.long h.3.0 begins ends t.group later in
+      let plain = plain_state (told above).group (told above).so_far (told above).began (told above).names layers act (told above).bitmap_names b.calls b.groups b.now.long h.2.0 begins ends t.group later in
       let P : Option OpenGroup → Type 0 = λ o. OpenState o ((told above).so_far + 1) (told (CallLine layers act ∷ above)).began more calls b.groups in
       let Q : ℕ → Type 0 = λ k. OpenState (told above).group ((told above).so_far + 1) k more calls b.groups in
       with_call b b.groups (e.0 ∙ b.groups_are) (call_fits_now b.calls b.groups b.now.long b.now.fits) (subst P (sym e.1) (subst Q (sym e.2) plain))
 
 -- an update begins where no group is open
-pub opens_none : (o : Option OpenGroup) (l : List ℕ) → call_may_stand o (l ∷ []) RefreshAct ≡ true → o ≡ None
+pub opens_none : (o : Option OpenGroup) (l : List ℕ) → group_allows o (l ∷ []) RefreshAct ≡ true → o ≡ None
 opens_none None l h = refl
 opens_none (Some (Locked m)) l h = absurd (false≢true (and_parts (is_on_one m (l ∷ []) RefreshAct) _ h).1)
 opens_none (Some (Updating m)) l h = absurd (false≢true (and_parts (is_on_one m (l ∷ []) RefreshAct) _ h).1)
 opens_none (Some Held) l h = absurd (false≢true h)
 
 -- an update ends on its layer
-pub ends_same : (o : Option OpenGroup) (l : List ℕ) (full : Bool) → call_may_stand o (l ∷ []) (EndRefreshAct full) ≡ true → o ≡ Some (Updating l)
+pub ends_same : (o : Option OpenGroup) (l : List ℕ) (full : Bool) → group_allows o (l ∷ []) (EndRefreshAct full) ≡ true → o ≡ Some (Updating l)
 ends_same None l full h = absurd (false≢true h)
 ends_same (Some (Locked m)) l full h = absurd (false≢true (and_parts (is_on_one m (l ∷ []) (EndRefreshAct full)) _ h).1)
 ends_same (Some (Updating m)) l full h =
@@ -317,7 +317,7 @@ ends_same (Some (Updating m)) l full h =
 ends_same (Some Held) l full h = absurd (false≢true h)
 
 -- the calls of an update with its end may stand in its group
-update_whole : (slot : ℕ) (cs : List Call) (c : Call) → IsUpdating slot cs → (is_one slot (slots_of c) && ends_update c) ≡ true → may_stand (Slot slot) (cs ++ c ∷ []) ≡ true
+update_whole : (slot : ℕ) (cs : List Call) (c : Call) → IsUpdating slot cs → (is_one slot (slots_of c) && ends_update c) ≡ true → hold_allows (Slot slot) (cs ++ c ∷ []) ≡ true
 update_whole slot [] c h k = absurd h
 update_whole slot (b ∷ cs) c h k = update_stands slot b cs c h.0 h.1 k
 
@@ -352,19 +352,19 @@ endrefresh_call z s above l full g hooks slots bitmaps b =
     let same : place_among (and_names (told above).names (l ∷ [])) l ≡ slot = place_kept (bytes_eq l) (told above).names (l ∷ []) state.1 in
     let ends : (is_one slot (slots_of c) && ends_update c) ≡ true = and_from _ _ (eq-eqb _ slot same) refl in
     let whole = update_whole slot (drop began b.calls) c state.2 ends in
-    let stands : may_stand (Slot slot) (drop began calls) ≡ true = ap (may_stand (Slot slot)) (drop_pushed b.calls c began (omega (arith, b.now.long, state.0.order))) ∙ whole in
+    let stands : hold_allows (Slot slot) (drop began calls) ≡ true = ap (hold_allows (Slot slot)) (drop_pushed b.calls c began (omega (arith, b.now.long, state.0.order))) ∙ whole in
     let fits : group_fits calls group ≡ true = to_the_end calls began ((so_far + 1) - 1) (Slot slot) (omega (arith, state.0.order)) (omega (arith, long)) stands in
     with_call z s above (l ∷ []) (EndRefreshAct full) g hooks slots bitmaps b (b.groups ++ group ∷ []) (ap (onto_last group) b.groups_are ∙ onto_pushed group b.done_groups b.groups) (task_grouped z calls b.groups group state.0.before fits (call_fits_now z s above (l ∷ []) (EndRefreshAct full) g hooks slots bitmaps b.calls b.groups b.now.long b.now.fits))
     (end_pushed b.groups group (so_far + 1) (omega arith))
 
 -- any call
 any_call : (z : Sizes) (s : Setting) (above : List Statement) (layers : List (List ℕ)) (act : Act) → AreGoodLines s (CallLine layers act ∷ above) → z.hooks ≡ s.hooks → length (told (CallLine layers act ∷ above)).names ≤ z.slots → length (told above).bitmap_names ≤ z.bitmaps → HaveBegun z (view_of above) → HaveBegun z (view_of (CallLine layers act ∷ above))
-any_call z s above [] RefreshAct g hooks slots bitmaps b = absurd (cc ((here s above (CallLine [] RefreshAct) g).3.0))
+any_call z s above [] RefreshAct g hooks slots bitmaps b = absurd (cc ((here s above (CallLine [] RefreshAct) g).2.0))
 any_call z s above (l ∷ []) RefreshAct g hooks slots bitmaps b = refresh_call z s above l g hooks slots bitmaps b
-any_call z s above (l ∷ m ∷ ms) RefreshAct g hooks slots bitmaps b = absurd (omega (arith, (here s above (CallLine (l ∷ m ∷ ms) RefreshAct) g).3.0))
-any_call z s above [] (EndRefreshAct full) g hooks slots bitmaps b = absurd (cc ((here s above (CallLine [] (EndRefreshAct full)) g).3.0))
+any_call z s above (l ∷ m ∷ ms) RefreshAct g hooks slots bitmaps b = absurd (omega (arith, (here s above (CallLine (l ∷ m ∷ ms) RefreshAct) g).2.0))
+any_call z s above [] (EndRefreshAct full) g hooks slots bitmaps b = absurd (cc ((here s above (CallLine [] (EndRefreshAct full)) g).2.0))
 any_call z s above (l ∷ []) (EndRefreshAct full) g hooks slots bitmaps b = endrefresh_call z s above l full g hooks slots bitmaps b
-any_call z s above (l ∷ m ∷ ms) (EndRefreshAct full) g hooks slots bitmaps b = absurd (omega (arith, (here s above (CallLine (l ∷ m ∷ ms) (EndRefreshAct full)) g).3.0))
+any_call z s above (l ∷ m ∷ ms) (EndRefreshAct full) g hooks slots bitmaps b = absurd (omega (arith, (here s above (CallLine (l ∷ m ∷ ms) (EndRefreshAct full)) g).2.0))
 any_call z s above layers act g hooks slots bitmaps b = plain_call z s above layers act g hooks slots bitmaps refl refl b
 
 -- the tasks with no further call, and these groups in the nearest one
@@ -420,7 +420,7 @@ releases_held (Some (Updating m)) h = absurd (false≢true h)
 releases_held (Some Held) h = refl
 
 -- the group that ends with the last call
-ended_group : (z : Sizes) (above : List Statement) (b : HaveBegun z (view_of above)) (hold : Hold) → (told above).began < (told above).so_far → EndBefore b.groups (told above).began → may_stand hold (drop (told above).began b.calls) ≡ true → IsTaskFit z b.calls (b.groups ++ group_from (told above) hold (told above).so_far ∷ [])
+ended_group : (z : Sizes) (above : List Statement) (b : HaveBegun z (view_of above)) (hold : Hold) → (told above).began < (told above).so_far → EndBefore b.groups (told above).began → hold_allows hold (drop (told above).began b.calls) ≡ true → IsTaskFit z b.calls (b.groups ++ group_from (told above) hold (told above).so_far ∷ [])
 ended_group z above b hold some before stands =
     let fits = to_the_end b.calls (told above).began ((told above).so_far - 1) hold (omega arith) (omega (arith, b.now.long, some)) stands in
     task_grouped z b.calls b.groups (group_from (told above) hold (told above).so_far) before fits b.now.fits

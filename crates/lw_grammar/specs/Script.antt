@@ -7,7 +7,7 @@ use Rattle.lw_planes.specs.Row.{row_bit}
 use Rattle.lw_calls.specs.declared.form.Form.{Form}
 use Rattle.lw_calls.specs.declared.form.Form.TheVariants.{Plain, Ordered, Audited}
 use Rattle.lw_calls.specs.declared.reason.Reason.{Reason}
-use Rattle.lw_calls.specs.declared.reason.Reason.TheVariants.{LineTooLong, BadByte, UnknownWord, Misplaced, OneTaskOnly, Form as FormReason, Range, NoName, DoubleName, Group, TooMany, NoHook, HookUsed, Padding, Missing}
+use Rattle.lw_calls.specs.declared.reason.Reason.TheVariants.{LineTooLong, BadByte, UnknownWord, Misplaced, Form as FormReason, Range, NoName, DoubleName, Group, TooMany, NoHook, HookUsed, Padding, Missing}
 use Rattle.lw_grammar.specs.declared.verb.Verb.{Verb}
 use Rattle.lw_grammar.specs.declared.verb.Verb.TheVariants.{Screen as ScreenVerb, Glyph as GlyphVerb, Bitmap as BitmapVerb, Task as TaskVerb, Order as OrderVerb, Report as ReportVerb}
 use Rattle.lw_calls.specs.Limits.{name_limit, task_limit, bitmap_limit, call_limit}
@@ -64,11 +64,6 @@ is_nothing_due NothingIsDue = true
 is_nothing_due _ = false
 
 -- the input is this one
-abbrev pub is_plain : Form → Bool
-is_plain Plain = true
-is_plain Ordered = false
-is_plain Audited = false
-
 abbrev pub is_ordered : Form → Bool
 is_ordered Plain = false
 is_ordered Ordered = true
@@ -88,11 +83,6 @@ belongs_in kind s TaskVerb = are_assets_due s || are_tasks_due s
 belongs_in kind s OrderVerb = are_tasks_due s && is_ordered kind
 belongs_in kind s ReportVerb = are_tasks_due s && is_audited kind
 belongs_in kind s verb = are_calls_due s
-
--- the verb begins a task
-abbrev pub is_task_verb : Verb → Bool
-is_task_verb TaskVerb = true
-is_task_verb verb = false
 
 -- the verb of a line's words
 abbrev pub verb_on : List (List ℕ) → Option Verb
@@ -136,12 +126,12 @@ are_all l (m ∷ ms) = list_all (bytes_eq l) (m ∷ ms)
 abbrev pub is_on_one : List ℕ → List (List ℕ) → Act → Bool
 is_on_one l layers act = are_all l layers && not (is_arranging act)
 
--- Such a call may stand in this group, or in none.
-abbrev pub call_may_stand : Option OpenGroup → List (List ℕ) → Act → Bool
-call_may_stand None layers act = not (is_ending act)
-call_may_stand (Some (Locked l)) layers act = is_on_one l layers act && (not (is_beginning act) && not (is_ending act))
-call_may_stand (Some (Updating l)) layers act = is_on_one l layers act && not (is_beginning act)
-call_may_stand (Some Held) layers act = is_arranging act
+-- This group, or none, allows such a call.
+abbrev pub group_allows : Option OpenGroup → List (List ℕ) → Act → Bool
+group_allows None layers act = not (is_ending act)
+group_allows (Some (Locked l)) layers act = is_on_one l layers act && (not (is_beginning act) && not (is_ending act))
+group_allows (Some (Updating l)) layers act = is_on_one l layers act && not (is_beginning act)
+group_allows (Some Held) layers act = is_arranging act
 
 -- the group is a lock on this layer
 abbrev pub is_lock_on : List ℕ → Option OpenGroup → Bool
@@ -159,7 +149,7 @@ group_has_calls t = nat_lt t.began t.so_far
 
 -- The line may stand where this group is open, or none, and has calls, or not.
 abbrev pub fits_group : Option OpenGroup → Bool → Statement → Bool
-fits_group group has_calls (CallLine layers act) = call_may_stand group layers act
+fits_group group has_calls (CallLine layers act) = group_allows group layers act
 fits_group group has_calls (LockLine name) = is_none group
 fits_group group has_calls HoldLine = is_none group
 fits_group group has_calls EndLine = is_none group
@@ -205,7 +195,6 @@ abbrev pub verb_read : Form → Section → List (List ℕ) → Result Statement
 verb_read kind section ws = do
   verb ← ok_or (verb_on ws) UnknownWord
   _ ← demand (belongs_in kind section verb) Misplaced
-  _ ← demand (not ((is_plain kind && are_tasks_due section) && is_task_verb verb)) OneTaskOnly
   ok_or (statement_by verb (map token_of (after_verb ws))) FormReason
 
 -- The statement of a line of these words: where so many rows of a bitmap of this width are due, a row; where numbers are due,
@@ -320,12 +309,10 @@ pub record IsDecidedIn (s : Setting) (bytes : List ℕ) : Type 0 where
 abbrev pub InputsAreDecided : Type 0
 InputsAreDecided = (s : Setting) (bytes : List ℕ) → IsDecidedIn s bytes
 
--- An input that may be run: its plan is one, with the hooks that were handed in; a script alone has one task; and its order
--- names numbers that tasks may have.
+-- An input that may be run: its plan is one, with the hooks that were handed in, and its order names numbers that tasks may have.
 pub record IsRunnableInput (s : Setting) (input : ScriptInput) : Type 0 where
   pub plan : IsPlan input.plan
   pub hooks : input.plan.sizes.hooks ≡ s.hooks
-  pub one_task : is_plain s.form ≡ true → input.plan.sizes.tasks ≡ 1
   pub order : All (λ task. task ≤ 15) input.order
 
 -- every input that bytes spell may be run

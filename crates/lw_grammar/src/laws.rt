@@ -8,7 +8,7 @@ pub fn inputs_are_decided()
 {}
 
 /// A law of the grammar of scripts (this project's own), which does nothing: an input that bytes spell may be run. Its
-/// plan is one, with the hooks that were handed in; a script alone has one task; and an order has numbers that tasks may have.
+/// plan is one, with the hooks that were handed in, and an order has numbers that tasks may have.
 pub fn spelled_inputs_are_runnable()
     ensures { SpelledInputsAreRunnable }
 {}

@@ -2,7 +2,7 @@
 ghost use Rattle.std.specs.Prelude.{◌≡◌, ℕ, List, is_none, option_map};
 ghost use Rattle.lw_grammar.specs.Statements.{CallLine};
 ghost use Rattle.lw_grammar.specs.Told.{asks_super, hook_on};
-ghost use Rattle.lw_grammar.specs.Script.{is_arranging, is_beginning, is_ending, are_all, is_on_one, call_may_stand, is_lock_on, is_hold, fits_group};
+ghost use Rattle.lw_grammar.specs.Script.{is_arranging, is_beginning, is_ending, are_all, is_on_one, group_allows, is_lock_on, is_hold, fits_group};
 ghost use Rattle.lw_lines.specs.StatementMeaning.{act_meaning, layers_meaning, statement_meaning};
 ghost use Rattle.lw_lines.specs.GroupMeaning.{group_meaning};
 
@@ -104,8 +104,8 @@ fn is_on_one(layer: &[u8], layers: &Layers<'_>, act: &Act<'_>) -> bool
 }
 
 /// Whether such a call may stand in this group, or in none.
-fn call_may_stand(group: &Option<OpenGroup<'_>>, layers: &Layers<'_>, act: &Act<'_>) -> bool
-    ensures { result ≡ call_may_stand (option_map group_meaning group.now) (layers_meaning layers.now) (act_meaning act.now) }
+fn group_allows(group: &Option<OpenGroup<'_>>, layers: &Layers<'_>, act: &Act<'_>) -> bool
+    ensures { result ≡ group_allows (option_map group_meaning group.now) (layers_meaning layers.now) (act_meaning act.now) }
 {
     match group {
         None => !act.is_ending(),
@@ -150,7 +150,7 @@ impl Statement<'_> {
         ensures { result ≡ fits_group (option_map group_meaning group.now) has_calls (statement_meaning self.now) }
     {
         match self {
-            Statement::Call { layers, act } => call_may_stand(group, layers, act),
+            Statement::Call { layers, act } => group_allows(group, layers, act),
             Statement::Lock(_) | Statement::Hold | Statement::End => is_closed(group),
             Statement::Unlock(layer) => is_lock_on(*layer, group) && has_calls,
             Statement::Release => is_hold(group) && has_calls,

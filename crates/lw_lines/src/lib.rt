@@ -21,7 +21,7 @@ mod tests;
 pub use acts::OpenGroup;
 pub use converted::{depth, hook, size, task_number};
 pub use line::words_statement;
-pub use section::{Section, belongs_in, is_second_task};
+pub use section::{Section, belongs_in};
 pub use statement::{
     Act, AskedArea, AskedKind, AskedLayer, BareAct, Corners, KindWithoutBitmap, Layers, NumberAct,
     PairAct, Statement, TextAct,

@@ -9,7 +9,7 @@ ghost use Rattle.lw_grammar.specs.Script.{verb_read, statement_read};
 
 use crate::lines_parts::{numbers_line, row_line};
 use crate::lines_verb::statement_by;
-use crate::section::{Section, belongs_in, is_second_task};
+use crate::section::{Section, belongs_in};
 use crate::statement::Statement;
 use lw_calls::{Form, Reason};
 use lw_words::{Stop, tokens_of, verb_of};
@@ -40,9 +40,6 @@ fn verb_line<'a>(
     };
     if !belongs_in(form, section, verb) {
         return Err(Stop::Refused(Reason::Misplaced));
-    }
-    if is_second_task(form, section, verb) {
-        return Err(Stop::Refused(Reason::OneTaskOnly));
     }
     let tokens = tokens_of(alloc, rest)?;
     found(statement_by(verb, tokens.as_slice()))

@@ -1,5 +1,5 @@
-ghost use Rattle.std.specs.Prelude.{◌≡◌, ◌&&◌};
-ghost use Rattle.lw_grammar.specs.Script.{is_screen_due, are_assets_due, are_calls_due, are_tasks_due, are_numbers_due, is_nothing_due, is_plain, is_ordered, is_audited, belongs_in as belongs_meant, is_task_verb, may_end as may_end_meant};
+ghost use Rattle.std.specs.Prelude.{◌≡◌};
+ghost use Rattle.lw_grammar.specs.Script.{is_screen_due, are_assets_due, are_calls_due, are_tasks_due, are_numbers_due, is_nothing_due, is_ordered, is_audited, belongs_in as belongs_meant, may_end as may_end_meant};
 ghost use Rattle.lw_lines.specs.SectionMeaning.{section_meaning};
 
 use lw_calls::Form;
@@ -71,12 +71,6 @@ impl Section {
     }
 }
 
-pub fn is_plain(form: Form) -> bool
-    ensures { result ≡ is_plain form }
-{
-    form == Form::Plain
-}
-
 fn is_ordered(form: Form) -> bool
     ensures { result ≡ is_ordered form }
 {
@@ -101,21 +95,4 @@ pub fn belongs_in(form: Form, section: Section, verb: Verb) -> bool
         Verb::Report => section.is_tasks() && is_audited(form),
         _ => section.is_calls(),
     }
-}
-
-/// Whether the verb begins a task.
-fn is_task_verb(verb: Verb) -> bool
-    ensures { result ≡ is_task_verb verb }
-{
-    match verb {
-        Verb::Task => true,
-        _ => false,
-    }
-}
-
-/// Whether a second task begins, in a script alone.
-pub fn is_second_task(form: Form, section: Section, verb: Verb) -> bool
-    ensures { result ≡ ((is_plain form && are_tasks_due (section_meaning section)) && is_task_verb verb) }
-{
-    (is_plain(form) && section.is_tasks()) && is_task_verb(verb)
 }

@@ -58,7 +58,7 @@ code_ranged r code rows c =
     let t = and_parts (nat_le 32 code) _ (tests_of r (GlyphLine code rows) c).range in (leb-true _ _ t.0, leb-true _ _ t.1)
 
 pub rows_8 : (r : Reader) (code : ℕ) (rows : List ℕ) → CanAdd r (GlyphLine code rows) → length rows ≡ 8
-rows_8 r code rows c = (here_of r (GlyphLine code rows) c).3
+rows_8 r code rows c = (here_of r (GlyphLine code rows) c).2
 
 -- a row
 pub row_due : (r : Reader) (bytes : List ℕ) → CanAdd r (RowLine bytes) → 0 < r.assets.due
@@ -112,7 +112,7 @@ pub call_ranged : (r : Reader) (layers : List (List ℕ)) (act : Act) → CanAdd
 call_ranged r layers act c = (tests_of r (CallLine layers act) c).range
 
 pub call_made : (r : Reader) (layers : List (List ℕ)) (act : Act) → CanAdd r (CallLine layers act) → length layers ≡ layers_of act
-call_made r layers act c = ((here_of r (CallLine layers act) c).3).0
+call_made r layers act c = ((here_of r (CallLine layers act) c).2).0
 
 pub call_room : (r : Reader) (layers : List (List ℕ)) (act : Act) → CanAdd r (CallLine layers act) → r.tasks.so_far < 4096
 call_room r layers act c =

@@ -138,7 +138,7 @@ static SCRIPTS: [Refused; 39] = [
             "screen 16 4 1\ntask a\nend\norder\n0\t1\n", // a tab
         ],
     },
-    // Second tasks are read where an order or a report is due, each with its own name.
+    // Further tasks have names of their own.
     Refused {
         at: (Form::Ordered, 0, 4, Reason::DoubleName),
         scripts: &[

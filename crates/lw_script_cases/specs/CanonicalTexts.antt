@@ -14,6 +14,7 @@ use Rattle.lw_calls.specs.declared.call.Call.{Call}
 use Rattle.lw_calls.specs.declared.call.Call.TheVariants.{RegRect, RegPair, RegClear, Create, OpenWindow, Close, ToFront, ToBack, InFrontOf, MoveBy, SizeBy, SetBox, Activate, Which, SetA, SetB, SetMode, SetMask, At, WritePixel, ReadPixel, DrawTo, Letters, SetRast, ScrollRaster, Put, Blit, Clip, Unclip, BeginRefresh, EndRefresh, Scroll, SetTitle, TakeMessage}
 use Rattle.lw_calls.specs.declared.group.Hold.TheVariants.{Slot, All}
 use Rattle.lw_calls.specs.Plan.{Plan, no_assets}
+use Rattle.lw_grammar.specs.Script.{ScriptInput}
 use Rattle.lw_cases.specs.Plans.{with_glyph, with_bitmap, one_task, fill, rect}
 use Rattle.lw_script_cases.specs.WholeScripts.{script}
 
@@ -68,6 +69,10 @@ three_tasks_text =
     ++ script (codes "task clock/open clk simple front 10 10 120 60 hook 4 ask rnc 'A'/open log smart behind 100 40 200 100 ask r 'B'/fill clk 8 16 60 40/refresh clk/apen clk 2/fill clk 4 11 115 57/endrefresh clk full/getmsg clk/end/")
     ++ script (codes "task edit/open ed smart front 60 30 300 120 ask rnca 'AB'/lock ed/apen ed 3/at ed 10 30/text ed 'AB BA'/draw ed 200 90/unlock ed/activate ed/move ed 20 10/size ed 40 20/getmsg ed/end/")
     ++ script (codes "task paint/open pal simple front 300 100 200 90 nocare 'B'/open can super behind 20 150 100 80 256 256 ask c 'canvas'/put dot 0 0 can 4 4 8 2 c0/scroll can 16 16/orrect 0 10 20 100 60/clip pal 0/setrast pal 1/blit pal 10 20 pal 12 22 40 20 60/hold/front pal/infront can pal/release/which 320 120/end/")
+
+-- what the text gives as a script alone: the plan, no order, and the number of its bytes
+abbrev pub three_tasks_input : ScriptInput
+three_tasks_input = record { plan = three_tasks; order = []; rest = 790 }
 
 -- a layer and two windows with all that their lines can ask for, left of the screen and above it too, and groups one behind
 -- another

@@ -108,19 +108,6 @@ misplaced =
     at_line 4 (in_task_a ++ script (codes "end/release/")) ∷
     at_line 4 (in_task_a ++ script (codes "end/report/")) ∷ []
 
--- a second task in a script alone
-abbrev pub second_tasks : List Refused
-second_tasks =
-    at_line 4 (in_task_a ++ script (codes "end/task b/")) ∷
-    at_line 4 (in_task_a ++ script (codes "end/task b")) ∷
-    at_line 4 (in_task_a ++ script (codes "end/task a/")) ∷
-    at_line 4 (in_task_a ++ script (codes "end/task abcdefghijklmnopq/")) ∷
-    at_line 4 (in_task_a ++ script (codes "end/task/")) ∷
-    at_line 4 (in_task_a ++ script (codes "end/task b c/")) ∷
-    at_line 4 (in_task_a ++ script (codes "end/task 'b'/")) ∷
-    at_line 5 (created ++ script (codes "end/task b/")) ∷
-    at_line 6 (in_task_a ++ script (codes "end//# note/task b/")) ∷ []
-
 -- words that fit no form of their verb
 abbrev pub bad_forms : List Refused
 bad_forms =
@@ -143,6 +130,10 @@ bad_forms =
     at_line 2 (screened ++ script (codes "bitmap b 1 1/")) ∷
     at_line 2 (screened ++ script (codes "bitmap b 1 1 1 1/")) ∷
     at_line 2 (screened ++ script (codes "bitmap 1b 1 1 1/")) ∷
+    at_line 4 (in_task_a ++ script (codes "end/task/")) ∷
+    at_line 4 (in_task_a ++ script (codes "end/task b c/")) ∷
+    at_line 4 (in_task_a ++ script (codes "end/task 'b'/")) ∷
+    at_line 4 (in_task_a ++ script (codes "end/task abcdefghijklmnopq/")) ∷
     at_line 3 (in_task_a ++ script (codes "fill w 00 0 9 0/")) ∷
     at_line 3 (in_task_a ++ script (codes "fill w -01 0 9 0/")) ∷
     at_line 3 (in_task_a ++ script (codes "fill w - 0 9 0/")) ∷
@@ -318,11 +309,12 @@ no_names =
     at_line 5 (screened ++ script (codes "bitmap b 16 1 1/0000/task a/put B 0 0 w 0 0 1 1 c0/")) ∷
     at_line 5 (screened ++ script (codes "bitmap bc 16 1 1/0000/task a/put b 0 0 w 0 0 1 1 c0/")) ∷ []
 
--- a second bitmap of one name, or a second glyph of one code
+-- a second bitmap or a second task of one name, or a second glyph of one code
 abbrev pub double_names : List Refused
 double_names =
     at_line 3 (screened ++ script (codes "glyph 41 0000000000000001/glyph 41 0000000000000002/")) ∷
     at_line 4 (screened ++ script (codes "glyph 20 0000000000000000/glyph 7e 0000000000000000/glyph 20 0000000000000000/")) ∷
+    at_line 4 (in_task_a ++ script (codes "end/task a/")) ∷
     at_line 5 (screened ++ script (codes "glyph 41 0000000000000000/bitmap b 16 1 1/0000/glyph 41 0000000000000000/")) ∷
     at_line 6 (screened ++ script (codes "bitmap b 16 1 1//0000/# note/bitmap b 16 1 1/")) ∷
     at_line 6 (screened ++ script (codes "bitmap b 16 1 1/0000/bitmap c 16 1 1/0000/bitmap b 16 1 1/")) ∷ []
@@ -414,12 +406,14 @@ unfinished =
     at_line 4 (in_task_a ++ script (codes "lock w/")) ∷
     at_line 4 (in_task_a ++ script (codes "open w super behind 0 0 9 14 20 20 backdrop ask rncai ''/")) ∷
     at_line 4 (screened ++ script (codes "glyph 20 ffffffffffffffff/glyph 7e ffffffffffffffff/")) ∷
+    at_line 5 (in_task_a ++ script (codes "end/task b/")) ∷
     at_line 5 (screened ++ script (codes "bitmap b 16 1 2/0000/# note")) ∷
     at_line 5 (in_task_a ++ script (codes "lock w/fill w 0 0 1 1")) ∷
     at_line 5 (in_task_a ++ script (codes "hold/create w smart front 0 0 7 3/")) ∷
     at_line 5 (in_task_a ++ script (codes "hold/open w simple front 0 0 9 14 borderless nocare 't'/")) ∷
     at_line 5 (in_task_a ++ script (codes "lock w/title w 't'/")) ∷
     at_line 5 (in_task_a ++ script (codes "refresh w/getmsg w/")) ∷
+    at_line 6 (created ++ script (codes "end/task b")) ∷
     at_line 6 (screened ++ script (codes "bitmap b 16 1 1/0000/bitmap B 16 1 1/0000/")) ∷
     at_line 6 (in_task_a ++ script (codes "//# note")) ∷
     at_line 6 (in_task_a ++ script (codes "activate w/title w 't'/getmsg w/")) ∷

@@ -1,7 +1,7 @@
 //! Refused scripts in tables, by their first reasons.
 
-ghost use Rattle.lw_calls.specs.declared.reason.Reason.TheVariants.{BadByte, Spacing, Quote, UnknownWord, Misplaced, OneTaskOnly, Form as FormReason, Range, NoName, DoubleName, Group, NoHook, Padding, Missing};
-ghost use Rattle.lw_script_cases.specs.Refused.{AreRefused, bad_bytes, bad_spacing, bad_quotes, unknown_words, misplaced, second_tasks, bad_forms, out_of_range, no_names, double_names, bad_groups, no_hooks, bad_padding, unfinished};
+ghost use Rattle.lw_calls.specs.declared.reason.Reason.TheVariants.{BadByte, Spacing, Quote, UnknownWord, Misplaced, Form as FormReason, Range, NoName, DoubleName, Group, NoHook, Padding, Missing};
+ghost use Rattle.lw_script_cases.specs.Refused.{AreRefused, bad_bytes, bad_spacing, bad_quotes, unknown_words, misplaced, bad_forms, out_of_range, no_names, double_names, bad_groups, no_hooks, bad_padding, unfinished};
 
 /// Refused for a byte that stands in no line.
 pub fn bytes_are_printable()
@@ -28,11 +28,6 @@ pub fn lines_stand_in_their_parts()
     ensures { AreRefused Misplaced misplaced }
 {}
 
-/// Refused for a second task in a script alone.
-pub fn script_alone_has_one_task()
-    ensures { AreRefused OneTaskOnly second_tasks }
-{}
-
 /// Refused for words that fit no form of their verb.
 pub fn words_fit_their_forms()
     ensures { AreRefused FormReason bad_forms }
@@ -48,7 +43,7 @@ pub fn bitmaps_are_named_above()
     ensures { AreRefused NoName no_names }
 {}
 
-/// Refused for a second bitmap of one name, or a second glyph of one code.
+/// Refused for a second bitmap or a second task of one name, or a second glyph of one code.
 pub fn names_are_given_once()
     ensures { AreRefused DoubleName double_names }
 {}

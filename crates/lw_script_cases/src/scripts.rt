@@ -1,13 +1,19 @@
 //! First bad lines of whole scripts with their first reasons, and scripts without one.
 
-ghost use Rattle.lw_calls.specs.declared.reason.Reason.TheVariants.{LineTooLong, BadByte, Spacing, Quote, UnknownWord, Misplaced, OneTaskOnly, Form as FormReason, Range, NoName, DoubleName, Group, TooMany, NoHook, Padding, Missing};
+ghost use Rattle.lw_calls.specs.declared.reason.Reason.TheVariants.{LineTooLong, BadByte, Spacing, Quote, UnknownWord, Misplaced, Form as FormReason, Range, NoName, DoubleName, Group, TooMany, NoHook, Padding, Missing};
 ghost use Rattle.lw_grammar.specs.Lines.{lines};
 ghost use Rattle.lw_grammar.specs.Script.{IsFirstBadIn, SpellsInput};
 ghost use Rattle.lw_script_cases.specs.WholeScripts.{IsSpelled, alone, with_order, with_report, first_fill_script, first_fill_input, all_parts, hook_0_of_none, simple_layer, comment_in_task, two_spaces, word_behind_end, task_missing, line_feed, empty, carriage_return, one_space, long_comment, line_of_512, line_of_513, second_task, second_task_apart, task_in_task, text_with_spaces, text_then_space, text_then_word, space_before_text, spaces_before_quote, quote_in_word, quote_alone, space_at_end, text_as_verb, empty_text, text_as_row, row, row_too_short, row_of_32, padding_bit, rows_apart, rows_missing, row_in_capitals, bitmap_again, bitmap_of_9_planes, bitmap_without_columns, glyph_in_capitals, glyph_of_7f, glyph_again, glyph_too_short, order_in_plain, order_before_task, order_in_task, order_again, order_missing, numbers_64, numbers_65, number_16, number_below_0, no_numbers, order_in_audited, report, report_missing, report_in_task, unlock_between, endrefresh_between, form_before_range, number_too_large, number_of_101_digits, maximum_below_minimum, leading_zero, minus_zero, negative_number, hook_above_32_bits, hook_below_0, hook_2_of_2, hook_1_of_2, hook_of_super, super_backdrop, super_of_2049, hook_before_backdrop, open_with_all, open_out_of_order, set_out_of_order, set_with_one_twice, super_borderless, super_with_set, open_of_no_columns, bitmap_unknown, minterm_c1, minterm_in_capitals, put_of_a_bitmap, put_of_no_columns, lock_of_nothing, lock_of_a_fill, lock_of_another, lock_in_lock, hold_in_lock, end_in_lock, end_with_a_word, unlock_of_another, unlock_alone, which_in_lock, region_in_lock, blit_in_lock, blit_of_two_in_lock, refresh_in_lock, endrefresh_in_lock, endrefresh_alone, endrefresh_fully, update_of_a_fill, update_of_nothing, update_in_update, update_without_end, create_in_lock, hold_of_a_create, hold_of_nothing, fill_in_hold, which_in_hold, move_in_hold, release_alone, creations, arrangements, arrangements_in_hold, look_and_scroll, scroll_in_lock, raster_changes, drawing, drawing_in_lock, layer_named_front, name_of_16, name_of_17, name_with_underscore, name_from_a_digit, screen_of_1025, screen_again, task_before_screen, end_before_task, end_missing, two_tasks, task_again, verb_in_capitals, mode_8, mask_256, mask_255, register_8, regions_joined, names_64, names_65, names_65_by_blit, unlock_before_65, supers_16, supers_17, bitmaps_17, tasks_17, screened, plus_sign, zeros_before_7, maximum_of_5_below_9, maximum_of_40000, zero_apart, text_before_a_word, unknown_verb, glyph_in_task, blit_by_c1, put_without_bitmap, unlock_at_once, hook_6, lock_and_unlock};
+ghost use Rattle.lw_script_cases.specs.CanonicalTexts.{three_tasks_text, three_tasks_input};
 
 /// The script of the first fill spells its plan.
 pub fn first_fill_is_spelled()
     ensures { SpellsInput (alone 0) first_fill_script first_fill_input }
+{}
+
+/// The canonical text of three tasks is a script alone that spells their plan.
+pub fn three_tasks_are_spelled()
+    ensures { SpellsInput (alone 6) three_tasks_text three_tasks_input }
 {}
 
 /// Lines, words and texts.
@@ -20,7 +26,7 @@ pub fn lines_and_words()
     ensures comment_in_task { IsFirstBadIn (alone 0) (lines comment_in_task) 4 Missing }
     ensures line_of_512 { IsFirstBadIn (alone 0) (lines line_of_512) 3 UnknownWord }
     ensures line_of_513 { IsFirstBadIn (alone 0) (lines line_of_513) 3 LineTooLong }
-    ensures second_task { IsFirstBadIn (alone 0) (lines second_task) 4 OneTaskOnly }
+    ensures second_task { IsFirstBadIn (alone 0) (lines second_task) 4 FormReason }
     ensures second_task_apart { IsFirstBadIn (alone 0) (lines second_task_apart) 4 Spacing }
     ensures word_behind_end { IsFirstBadIn (alone 0) (lines word_behind_end) 4 UnknownWord }
     ensures task_in_task { IsFirstBadIn (alone 0) (lines task_in_task) 3 Misplaced }

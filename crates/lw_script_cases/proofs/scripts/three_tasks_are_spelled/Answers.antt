@@ -3,10 +3,9 @@ use Rattle.lw_region.specs.Rectangle.{within}
 use Rattle.lw_planes.specs.Row.{row_bit}
 use Rattle.lw_calls.specs.Limits.{axis_fits}
 use Rattle.lw_grammar.specs.Verbs.{verb_of}
-use Rattle.lw_script_cases.proofs.Decided.{all_decided}
-use Rattle.lw_script_cases.specs.Refused.{second_tasks}
-use Rattle.lw_script_cases.proofs.refused.script_alone_has_one_task.Goals as goal
+use Rattle.std.proofs.Common.{refl}
+use Rattle.lw_script_cases.proofs.scripts.three_tasks_are_spelled.Goals as goal
 
 pub returns : goal.returns
 unfolding digits within row_bit axis_fits verb_of
-returns c = all_decided second_tasks
+returns c = refl
