@@ -5,12 +5,12 @@ use Rattle.std.proofs.Math.Seq.{split_at}
 use Rattle.std.specs.Prelude.{Contains, Some}
 use Rattle.std.specs.List.{slice_get, range_with_len}
 use Rattle.std.proofs.lemmas.List.Elements.{All-nil, All-cons, All-contains, Contains-append_left, Contains-append_right, Contains-append_cases}
-use Rattle.std.proofs.lemmas.List.FromFn.{map-range_with_len_more}
 use Rattle.atomic_table.specs.Seated.{TableId}
 use Rattle.lw_region.specs.Pixels.{Pixel}
 use Rattle.lw_calls.specs.declared.touch.Role.{Role}
 use Rattle.lw_calls.specs.declared.touch.Role.TheVariants.{Task}
 use Rattle.lw_calls.specs.Limits.{IsWithinLimits}
+use Rattle.lw_calls.proofs.Ranges.{range_last}
 use Rattle.lw_machine.specs.Desk.{Desk, empty_desk}
 use Rattle.lw_machine.specs.History.{machine}
 use Rattle.lw_machine.specs.Parts.{SlotPart, slot_part, InfoPart}
@@ -28,11 +28,7 @@ use Rattle.lw_locks.proofs.Seats.{longer_by, their_longer, regs_longer, cell_lon
 
 -- numbers from 0 on, and one more
 range_more : (n : ℕ) → range_with_len 0 (n + 1) ≡ range_with_len 0 n ++ n ∷ []
-range_more n = sym (map_same (range_with_len 0 (n + 1))) ∙ (map-range_with_len_more (λ x. x) 0 n n (omega arith) ∙ ap (λ xs. xs ++ n ∷ []) (map_same (range_with_len 0 n)))
-  where
-    map_same : (xs : List ℕ) → map (λ x. x) xs ≡ xs
-    map_same [] = refl
-    map_same (x ∷ xs) = ap (λ ys. x ∷ ys) (map_same xs)
+range_more n = let e : n + 1 ≡ suc n = omega arith in ap (range_with_len 0) e ∙ range_last n
 
 pub range_front : (front : List ℕ) (last n : ℕ) → front ++ last ∷ [] ≡ range_with_len 0 (n + 1) → (front ≡ range_with_len 0 n) × (last ≡ n)
 range_front front last n h = snoc_same front (range_with_len 0 n) last n (h ∙ range_more n)

@@ -25,7 +25,7 @@ use Rattle.lw_locks.specs.Groups.{keeps_away, OthersKeepAway}
 use Rattle.lw_locks.specs.Promised.{Ran, held_roles}
 
 -- a call that fits, and is on none of all slots nor on LayerInfo, is on no slot
-no_slot : (s : Sizes) (call : Call) (k : CallClass) → class_of call ≡ k → IsTrue (call_fits s call) → is_on_info k ≡ false → ((n : ℕ) → n < s.slots → has_slot (slots_in k) n ≡ false) → has_some (slots_in k) ≡ false
+pub no_slot : (s : Sizes) (call : Call) (k : CallClass) → class_of call ≡ k → IsTrue (call_fits s call) → is_on_info k ≡ false → ((n : ℕ) → n < s.slots → has_slot (slots_in k) n ≡ false) → has_some (slots_in k) ≡ false
 no_slot s call OnRegisters is fits info none = refl
 no_slot s call OnInfo is fits info none = refl
 no_slot s call (OnLayer a) is fits info none = absurd (cc (sym (eq-eqb a a refl) ∙ none a (slot_fits s call a is fits)))

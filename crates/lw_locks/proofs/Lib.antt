@@ -1,10 +1,10 @@
 mod Apart
 mod Closing
 mod Deeper
-mod Groups
+pub mod Groups
 mod Later
 mod Passes
-mod Running
+pub mod Running
 mod Seats
 mod Starting
 mod Stepping

@@ -27,7 +27,7 @@ pub struct Closed<E: Engine> {
     pub seat: Seat,
 }
 
-/// A desk that was not closed, for want of memory, and its passes.
+/// A desk that was not closed, out of memory, and its passes.
 #[derive(Drop)]
 pub struct NotClosed<E: Engine, N: Opening> {
     pub desk: Desk<E, N>,
@@ -35,7 +35,7 @@ pub struct NotClosed<E: Engine, N: Opening> {
 }
 
 impl<E: Engine, N: Opening> Desk<E, N> {
-    /// Takes a desk apart whose passes are these, of all tasks and in any order. Only want of memory stops it, and it then gives all
+    /// Takes a desk apart whose passes are these, of all tasks and in any order. It fails only when out of memory, and then gives all
     /// back.
     pub fn close(self, alloc: Global, passes: Vec<Pass<E, N>>) -> Result<Closed<E>, NotClosed<E, N>>
         requires many { vec_len passes ≡ N.desk.sizes.tasks }

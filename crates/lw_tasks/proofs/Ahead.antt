@@ -11,32 +11,14 @@ use Rattle.lw_calls.specs.declared.group.Hold.{Hold}
 use Rattle.lw_calls.specs.declared.group.Hold.TheVariants.{Slot as OneSlot, All as AllLayers}
 use Rattle.lw_calls.specs.Limits.{call_fits}
 use Rattle.lw_calls.specs.Orders.{is_open}
-use Rattle.lw_calls.specs.Plan.{Plan, IsPlan, task_calls, task_groups, is_one, is_all, begins_update, may_be_locked, are_locked, end_an_update, are_an_update, may_stand, group_calls, group_fits, groups_fit}
+use Rattle.lw_calls.specs.Plan.{Plan, IsPlan, task_calls, task_groups, is_one, is_all, begins_update, may_be_locked, are_locked, end_an_update, are_an_update, hold_allows, group_calls, group_fits, groups_fit}
 use Rattle.lw_calls.specs.Touches.{CallClass, OnRegisters, OnInfo, OnLayer, OnLayers, OnAll, class_of, slots_in, slots_of}
+use Rattle.lw_calls.proofs.OrderGroups.{head_fits, rest_fits, has_order, ends_within, not_begun, is_over}
 use Rattle.lw_locks.specs.Promised.{class_under}
 use Rattle.lw_tasks.specs.Made.{IsFree, IsAhead, IsNext}
 
-closed_behind : (made : ℕ) (g : Group) → g.last < made → is_open made g ≡ false
-closed_behind made g h = grind (arith, nat_tests)
-
-closed_ahead : (made : ℕ) (g : Group) → made ≤ g.first → is_open made g ≡ false
-closed_ahead made g h = grind (arith, nat_tests)
-
 ordered : (calls : List Call) (g : Group) → group_fits calls g ≡ true → (g.first ≤ g.last) × (g.last < length calls)
-ordered calls g h =
-    let parts = (and_parts (nat_le g.first g.last && nat_lt g.last (length calls)) _ h).0 in
-    let both = and_parts (nat_le g.first g.last) (nat_lt g.last (length calls)) parts in
-    let a = both.0 in
-    let b = both.1 in
-    (grind (arith, nat_tests), grind (arith, nat_tests))
-
-head_fits : (calls : List Call) (g : Group) (gs : List Group) → groups_fit calls (g ∷ gs) ≡ true → group_fits calls g ≡ true
-head_fits calls g [] h = h
-head_fits calls g (k ∷ ks) h = (and_parts _ _ (and_parts (group_fits calls g && nat_lt g.last k.first) _ h).0).0
-
-tail_fits : (calls : List Call) (g : Group) (gs : List Group) → groups_fit calls (g ∷ gs) ≡ true → groups_fit calls gs ≡ true
-tail_fits calls g [] h = refl
-tail_fits calls g (k ∷ ks) h = (and_parts (group_fits calls g && nat_lt g.last k.first) _ h).1
+ordered calls g h = (has_order calls g h, ends_within calls g h)
 
 rising : (calls : List Call) (g : Group) (gs : List Group) → groups_fit calls (g ∷ gs) ≡ true → All (λ k. g.last < k.first) gs
 rising calls g [] h = All-nil (λ k. g.last < k.first)
@@ -71,13 +53,13 @@ ahead_next calls groups left made g gs begins a =
       free = λ n above below.
           let P : Group → Type 0 = λ k. is_open n k ≡ false in
           subst (All P) (sym parts)
-          (All-append P a.past (g ∷ gs) (All-weaker (λ k. k.last < made) P (λ k h. closed_behind n k (omega (arith, h, above))) a.past a.over)
-          (All-cons P g gs (closed_ahead n g below) (All-weaker (λ k. g.last < k.first) P (λ k h. closed_ahead n k (omega (arith, h, below, order.0))) gs later)));
+          (All-append P a.past (g ∷ gs) (All-weaker (λ k. k.last < made) P (λ k h. is_over n k (omega (arith, h, above))) a.past a.over)
+          (All-cons P g gs (not_begun n g below) (All-weaker (λ k. g.last < k.first) P (λ k h. not_begun n k (omega (arith, h, below, order.0))) gs later)));
       alone = λ n above below.
           let P : Group → Type 0 = λ k. (is_open n k ≡ false) ⊎ (k ≡ g) in
           subst (All P) (sym parts)
-          (All-append P a.past (g ∷ gs) (All-weaker (λ k. k.last < made) P (λ k h. inl (closed_behind n k (omega (arith, h, above)))) a.past a.over)
-          (All-cons P g gs (inr refl) (All-weaker (λ k. g.last < k.first) P (λ k h. inl (closed_ahead n k (omega (arith, h, below)))) gs later)));
+          (All-append P a.past (g ∷ gs) (All-weaker (λ k. k.last < made) P (λ k h. inl (is_over n k (omega (arith, h, above)))) a.past a.over)
+          (All-cons P g gs (inr refl) (All-weaker (λ k. g.last < k.first) P (λ k h. inl (not_begun n k (omega (arith, h, below)))) gs later)));
     }
 
 pub ahead_after : (calls : List Call) (groups left : List Group) (made : ℕ) (g : Group) (gs : List Group) → left ≡ g ∷ gs → IsAhead calls groups left made → IsAhead calls groups gs (g.last + 1)
@@ -90,14 +72,14 @@ ahead_after calls groups left made g gs begins a =
       parts = a.parts ∙ (ap (λ l. a.past ++ l) begins ∙ sym (append_assoc a.past (g ∷ []) gs));
       over = All-append (λ k. k.last < g.last + 1) a.past (g ∷ []) (All-weaker (λ k. k.last < made) (λ k. k.last < g.last + 1) (λ k h. omega (arith, h, first, order.0)) a.past a.over) (All-cons (λ k. k.last < g.last + 1) g [] (omega arith) (All-nil (λ k. k.last < g.last + 1)));
       ahead = All-weaker (λ k. g.last < k.first) (λ k. g.last + 1 ≤ k.first) (λ k h. omega (arith, h)) gs (rising calls g gs fit);
-      fit = tail_fits calls g gs fit;
+      fit = rest_fits calls g gs fit;
       within = (let low = order.1 in omega (arith, low));
     }
 
 -- behind all calls
 pub all_over : (calls : List Call) (groups : List Group) → groups_fit calls groups ≡ true → IsFree groups (length calls)
 all_over calls [] fit = All-nil (λ g. is_open (length calls) g ≡ false)
-all_over calls (g ∷ gs) fit = All-cons (λ k. is_open (length calls) k ≡ false) g gs (closed_behind (length calls) g (ordered calls g (head_fits calls g gs fit)).1) (all_over calls gs (tail_fits calls g gs fit))
+all_over calls (g ∷ gs) fit = All-cons (λ k. is_open (length calls) k ≡ false) g gs (is_over (length calls) g (ordered calls g (head_fits calls g gs fit)).1) (all_over calls gs (rest_fits calls g gs fit))
 
 -- the class of the calls that may stand in a group
 one_class : (s : ℕ) (k : CallClass) → is_one s (slots_in k) ≡ true → k ≡ OnLayer s
@@ -150,7 +132,7 @@ all_arrange (c ∷ cs) h =
     let parts = and_parts (is_all (slots_of c)) _ h in
     All-cons (λ c. class_of c ≡ OnAll) c cs (all_class (class_of c) parts.0) (all_arrange cs parts.1)
 
-stand_class : (hold : Hold) (calls : List Call) → may_stand hold calls ≡ true → All (λ c. class_of c ≡ class_under hold) calls
+stand_class : (hold : Hold) (calls : List Call) → hold_allows hold calls ≡ true → All (λ c. class_of c ≡ class_under hold) calls
 stand_class (OneSlot s) calls h = ⊎_elim (λ a. locked s calls a) (λ b. an_update s calls b) (either_test (are_locked s calls) (are_an_update s calls) h)
 stand_class AllLayers calls h = all_arrange calls h
 

@@ -19,7 +19,7 @@ use Rattle.lw_locks.specs.declared.answer.Answer.{Answer}
 use Rattle.lw_locks.specs.Promised.{Done, GroupDone, held_roles}
 use Rattle.lw_tasks.specs.Made.{HasTold, HasMade, HasBegun, IsFree, IsNext}
 use Rattle.lw_tasks.specs.Whole.{HasAll}
-use Rattle.lw_tasks.specs.declared.told.Told.{Told}
+use Rattle.lw_tasks.specs.declared.answers.TaskAnswers.{TaskAnswers}
 use Rattle.lw_tasks.proofs.MadeLaws.{length_calls_of}
 use Rattle.lw_tasks.proofs.Making.{Guards, made_more, made_group}
 use Rattle.lw_tasks.proofs.Ahead.{few_calls, group_place, group_long}
@@ -98,7 +98,7 @@ module _ (desk : Desk) (plan : Plan) (task : ℕ) where
       begun_group old new made had has g next at_first h (subst (λ t. D t (task_calls plan task)) same (subst (λ cs. D who cs) are done)) (all ∙ ap (λ cs. length had + length (group_calls cs g)) are)
 
   -- what it was told by the answers to all its calls
-  pub told_by : {E : Type 0} (history : List Entry) (answers : List Answer) (o : Result Told E) → HasMade desk (task_groups plan task) task (task_calls plan task) history answers → IfOk o (λ told. told.replies ≡ map (λ a. a.reply) answers) → IfOk o (λ told. told.tickets.items ≡ map (λ a. a.ticket) answers)
+  pub told_by : {E : Type 0} (history : List Entry) (answers : List Answer) (o : Result TaskAnswers E) → HasMade desk (task_groups plan task) task (task_calls plan task) history answers → IfOk o (λ told. told.replies ≡ map (λ a. a.reply) answers) → IfOk o (λ told. told.tickets.items ≡ map (λ a. a.ticket) answers)
       → IfOk o (λ told. HasAll desk plan task history told)
   told_by history answers (Err e) h replies tickets = tt
   told_by history answers (Ok told) h replies tickets =

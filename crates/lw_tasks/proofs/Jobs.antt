@@ -10,7 +10,7 @@ use Rattle.lw_calls.specs.Plan.{Plan}
 use Rattle.lw_machine.specs.Desk.{Desk}
 use Rattle.lw_locks.specs.Closing.{task_of, HasEach}
 use Rattle.lw_locks.specs.Seen.{SeenPass, opening_pass}
-use Rattle.lw_tasks.specs.declared.told.Told.{Told}
+use Rattle.lw_tasks.specs.declared.answers.TaskAnswers.{TaskAnswers}
 use Rattle.lw_tasks.specs.Whole.{HasAll, EachHasAll}
 use Rattle.lw_tasks.proofs.ListLaws.{has_entry}
 
@@ -28,7 +28,7 @@ job_run Told job t task history o first same told =
     let number : job.task ≡ t = ap (λ (p : SeenPass). p.task) first in
     (same ∙ number, subst (λ n. IfOk o (Told n history)) number told)
 
-module _ {Run E : Type 0} (desk : Desk) (plan : Plan) (pass_of : Run → SeenPass) (told_of : Run → Result Told E) (runs : List Run) (passes : List SeenPass) (all : List Told) (are : passes ≡ map pass_of runs) (told_are : map (λ t. Ok t) all ≡ map told_of runs)
+module _ {Run E : Type 0} (desk : Desk) (plan : Plan) (pass_of : Run → SeenPass) (told_of : Run → Result TaskAnswers E) (runs : List Run) (passes : List SeenPass) (all : List TaskAnswers) (are : passes ≡ map pass_of runs) (told_are : map (λ t. Ok t) all ≡ map told_of runs)
     (each : (t : ℕ) (run : Run) → slice_get runs t ≡ Some run → ((pass_of run).task ≡ t) × IfOk (told_of run) (λ told. HasAll desk plan t (pass_of run).history told)) where
   -- the run behind a pass
   pub run_of : (t : ℕ) (p : SeenPass) → slice_get passes t ≡ Some p → (run : Run) × (slice_get runs t ≡ Some run) × (pass_of run ≡ p)
@@ -44,15 +44,15 @@ module _ {Run E : Type 0} (desk : Desk) (plan : Plan) (pass_of : Run → SeenPas
   pub each_has_all : EachHasAll desk plan passes all
   each_has_all t p told got had =
       let r = run_of t p got in
-      let one : Some (told_of r.0) ≡ Some (Ok told) = ap (option_map told_of) (sym r.1) ∙ (sym (slice_get-map told_of runs t) ∙ (ap (λ (os : List (Result Told E)). slice_get os t) (sym told_are) ∙ (slice_get-map (λ x. Ok x) all t ∙ ap (option_map (λ x. Ok x)) had))) in
+      let one : Some (told_of r.0) ≡ Some (Ok told) = ap (option_map told_of) (sym r.1) ∙ (sym (slice_get-map told_of runs t) ∙ (ap (λ (os : List (Result TaskAnswers E)). slice_get os t) (sym told_are) ∙ (slice_get-map (λ x. Ok x) all t ∙ ap (option_map (λ x. Ok x)) had))) in
       let is : told_of r.0 ≡ Ok told = same_Some (told_of r.0) (Ok told) one in
       let given = each t r.0 r.1 in
       let H : SeenPass → Type 0 = λ q. (q.task ≡ t) × HasAll desk plan t q.history told in
-      subst H r.2 (given.0, subst (λ (o : Result Told E). IfOk o (λ x. HasAll desk plan t (pass_of r.0).history x)) is given.1)
+      subst H r.2 (given.0, subst (λ (o : Result TaskAnswers E). IfOk o (λ x. HasAll desk plan t (pass_of r.0).history x)) is given.1)
 
   pub many_told : length all ≡ length passes
   many_told =
-      let done : Told → Result Told E = λ t. Ok t in
+      let done : TaskAnswers → Result TaskAnswers E = λ t. Ok t in
       sym (length-map all done) ∙ (ap length told_are ∙ (length-map runs told_of ∙ sym (ap length are ∙ length-map runs pass_of)))
 
 numbered_from : (passes : List SeenPass) (first : ℕ) → ((t : ℕ) (p : SeenPass) → slice_get passes t ≡ Some p → p.task ≡ first + t) → map task_of passes ≡ range_with_len first (length passes)

@@ -3,7 +3,6 @@ mod PartsLaws
 mod Going
 mod Next
 mod Opening
-pub mod OnlyOrder
 mod Steps
 mod MadeLaws
 mod Making

@@ -29,23 +29,10 @@ use Rattle.lw_order.proofs.RoleLaws.{all_roles_has_slot}
 use Rattle.lw_steps.proofs.ClassLaws.{slot_fits, pair_fits}
 use Rattle.lw_locks.specs.declared.answer.Answer.{Answer}
 use Rattle.lw_locks.specs.Promised.{Done, Ran, GroupDone, held_roles}
+use Rattle.lw_locks.proofs.Groups.{no_slot}
+use Rattle.lw_locks.proofs.Running.{ran_lengths}
 use Rattle.lw_tasks.specs.Made.{calls_of, places_of, is_within, keeps_apart, HasTold, HasMade}
 use Rattle.lw_tasks.proofs.MadeLaws.{calls_of_append, places_of_append, replies_of_append, keeps_apart_append, length_calls_of, Foreign, foreign, no_calls, no_places, no_replies_of, kept_apart, own_call, own_place, own_reply, own_apart}
-
-not_itself : (n : ℕ) → (n == n) ≡ false → ⊥
-not_itself n h = false≢true (sym h ∙ eq-eqb n n refl)
-
-first_fails : (a b : Bool) → (a || b) ≡ false → a ≡ false
-first_fails true b h = h
-first_fails false b h = refl
-
--- a call that fits and touches neither LayerInfo nor one of the slots touches none
-no_slot : (sizes : Sizes) (call : Call) (k : CallClass) → class_of call ≡ k → IsTrue (call_fits sizes call) → is_on_info k ≡ false → ((s : ℕ) → s < sizes.slots → has_slot (slots_in k) s ≡ false) → has_some (slots_in k) ≡ false
-no_slot sizes call OnRegisters class fits info none = refl
-no_slot sizes call OnInfo class fits info none = refl
-no_slot sizes call (OnLayer s) class fits info none = absurd (not_itself s (none s (slot_fits sizes call s class fits)))
-no_slot sizes call (OnLayers a b) class fits info none = absurd (not_itself a (first_fails (a == a) (b == a) (none a (pair_fits sizes call a b class fits).0)))
-no_slot sizes call OnAll class fits info none = absurd (false≢true (sym info))
 
 neither : (a b : Bool) → a ≡ false → b ≡ false → (a || b) ≡ false
 neither true b h k = h
@@ -155,12 +142,6 @@ module _ (desk : Desk) (groups : List Group) (task : ℕ) where
       subst (λ xs. HasMade desk groups task (made ++ c ∷ cs) new xs) (append_assoc had (a ∷ []) rest) (subst (λ ds. HasMade desk groups task ds new ((had ++ a ∷ []) ++ rest)) (append_assoc made (c ∷ []) cs) all)
   made_ran roles made old new had [] (a ∷ rest) has guards h ran = absurd ran
   made_ran roles made old new had (c ∷ cs) [] has guards h ran = absurd ran
-
-ran_lengths : (desk : Desk) (roles : List Role) (task : ℕ) (old new : List Entry) (calls : List Call) (said : List Answer) → Ran desk roles task old new calls said → length calls ≡ length said
-ran_lengths desk roles task old new [] [] ran = refl
-ran_lengths desk roles task old new (c ∷ cs) (a ∷ rest) ran = let h = ran_lengths desk roles task ran.0 new cs rest ran.2 in omega (arith, h)
-ran_lengths desk roles task old new [] (a ∷ rest) ran = absurd ran
-ran_lengths desk roles task old new (c ∷ cs) [] ran = absurd ran
 
 is_empty : {X : Type 0} (xs : List X) → length xs ≡ 0 → xs ≡ []
 is_empty [] h = refl

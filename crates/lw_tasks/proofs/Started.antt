@@ -18,7 +18,7 @@ use Rattle.lw_machine.specs.Parts.{SlotPart, InfoPart}
 use Rattle.lw_order.specs.Numbered.{TasksBelow}
 use Rattle.lw_layer.specs.View.{CellView}
 use Rattle.lw_engine.specs.Layers.{InfoView, AreLayers, AreRegisters}
-use Rattle.lw_tasks.specs.declared.told.Told.{Told}
+use Rattle.lw_tasks.specs.declared.answers.TaskAnswers.{TaskAnswers}
 use Rattle.lw_tasks.specs.Whole.{HaveRun, AreTickets, order_of, IsOrdered}
 use Rattle.lw_tasks.proofs.ListLaws.{has_entry}
 use Rattle.lw_tasks.proofs.Whole.{ordered}
@@ -48,7 +48,7 @@ started d plan hooks sizes assets info cells regs is of_plan handed layers regis
       registers = subst (λ x. AreRegisters regs x) same registers;
     }
 
-module _ {I C : Type 0} (info_is : I → InfoPart → Type 0) (number : C → ℕ) (cell_is : C → SlotPart → Type 0) (d : Desk) (plan : Plan) (info : I) (cells : List C) (history : List Entry) (all : List Told) (of_plan : d.sizes ≡ plan.sizes) (run : HaveRun info_is number cell_is d plan info cells history all) where
+module _ {I C : Type 0} (info_is : I → InfoPart → Type 0) (number : C → ℕ) (cell_is : C → SlotPart → Type 0) (d : Desk) (plan : Plan) (info : I) (cells : List C) (history : List Entry) (all : List TaskAnswers) (of_plan : d.sizes ≡ plan.sizes) (run : HaveRun info_is number cell_is d plan info cells history all) where
   pub run_ordered : IsOrdered plan history
   run_ordered =
       ordered plan d history
@@ -62,20 +62,20 @@ module _ {I C : Type 0} (info_is : I → InfoPart → Type 0) (number : C → �
   run_below = subst (λ n. TasksBelow n history) (sym (run.many ∙ ap (λ (s : Sizes). s.tasks) (sym of_plan))) run.known.tasks
 
   -- of all that was told as it is handed on
-  pub run_shown : (shown : List Told) → shown ≡ all → (es : List Entry) × AreTickets es shown × TasksBelow (length shown) es
+  pub run_shown : (shown : List TaskAnswers) → shown ≡ all → (es : List Entry) × AreTickets es shown × TasksBelow (length shown) es
   run_shown shown same =
-      let P : List Told → Type 0 = λ xs. (es : List Entry) × AreTickets es xs × TasksBelow (length xs) es in
+      let P : List TaskAnswers → Type 0 = λ xs. (es : List Entry) × AreTickets es xs × TasksBelow (length xs) es in
       subst P (sym same) (history, run_tickets, run_below)
 
-  pub run_order : (shown : List Told) (order : List ℕ) → shown ≡ all → ((es : List Entry) → AreTickets es shown → TasksBelow (length shown) es → order ≡ order_of es) → order ≡ order_of history
+  pub run_order : (shown : List TaskAnswers) (order : List ℕ) → shown ≡ all → ((es : List Entry) → AreTickets es shown → TasksBelow (length shown) es → order ≡ order_of es) → order ≡ order_of history
   run_order shown order same each =
-      let P : List Told → Type 0 = λ xs. (es : List Entry) → AreTickets es xs → TasksBelow (length xs) es → order ≡ order_of es in
+      let P : List TaskAnswers → Type 0 = λ xs. (es : List Entry) → AreTickets es xs → TasksBelow (length xs) es → order ≡ order_of es in
       subst P same each history run_tickets run_below
 
-  pub run_said : (said : List (List Reply)) → said ≡ map (λ (x : Told). x.replies) all → (t : ℕ) → t < plan.sizes.tasks → slice_index_or said t [] ≡ replies_of d t history
+  pub run_said : (said : List (List Reply)) → said ≡ map (λ (x : TaskAnswers). x.replies) all → (t : ℕ) → t < plan.sizes.tasks → slice_index_or said t [] ≡ replies_of d t history
   run_said said are t low =
       let told = has_entry all t (let many = run.many in omega (arith, low, many)) in
-      get_or_from_slice_get said t told.0.replies [] (ap (λ (rs : List (List Reply)). slice_get rs t) are ∙ (slice_get-map (λ (x : Told). x.replies) all t ∙ ap (option_map (λ (x : Told). x.replies)) told.1)) ∙ (run.told t told.0 told.1).replies
+      get_or_from_slice_get said t told.0.replies [] (ap (λ (rs : List (List Reply)). slice_get rs t) are ∙ (slice_get-map (λ (x : TaskAnswers). x.replies) all t ∙ ap (option_map (λ (x : TaskAnswers). x.replies)) told.1)) ∙ (run.told t told.0 told.1).replies
 
   -- the final state is that of the order's run
   pub run_last : (hooks : List Hook) (order : List ℕ) (last : Final) → d ≡ opening_desk plan hooks → order ≡ order_of history → last ≡ final_of (machine d history) (λ t. replies_of d t history) → last ≡ run_final plan hooks order

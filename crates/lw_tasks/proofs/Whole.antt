@@ -17,7 +17,7 @@ use Rattle.lw_calls.specs.Touches.{touch_of}
 use Rattle.lw_machine.specs.Desk.{Desk}
 use Rattle.lw_order.specs.Numbered.{Numbered, TasksBelow}
 use Rattle.lw_order.specs.Promised.{Follows}
-use Rattle.lw_tasks.specs.declared.told.Told.{Told}
+use Rattle.lw_tasks.specs.declared.answers.TaskAnswers.{TaskAnswers}
 use Rattle.lw_order.specs.Seen.{SeenSeat}
 use Rattle.lw_locks.specs.Closing.{AreFollowed}
 use Rattle.lw_locks.specs.Joins.{IsHistory}
@@ -54,7 +54,7 @@ all_in_range : (p : ℕ → Bool) (first n : ℕ) → ((u : ℕ) → u < first +
 all_in_range p first zero each = refl
 all_in_range p first (suc n) each = both (p first) _ (each first (omega arith)) (all_in_range p (first + 1) n (λ u low. each u (omega (arith, low))))
 
-module _ (plan : Plan) (desk : Desk) (whole : List Entry) (made : (t : ℕ) → t < plan.sizes.tasks → (said : Told) × HasAll desk plan t whole said) (sizes : desk.sizes ≡ plan.sizes) (known : IsHistory desk.sizes whole) where
+module _ (plan : Plan) (desk : Desk) (whole : List Entry) (made : (t : ℕ) → t < plan.sizes.tasks → (said : TaskAnswers) × HasAll desk plan t whole said) (sizes : desk.sizes ≡ plan.sizes) (known : IsHistory desk.sizes whole) where
   -- the call of a step is its task's next one
   due : (front back : List Entry) (e : Entry) → whole ≡ front ++ e ∷ back → e.task < plan.sizes.tasks → slice_get (task_calls plan e.task) (count_of e.task front) ≡ Some e.call
   due front back e parts low =
@@ -110,7 +110,7 @@ module _ (plan : Plan) (desk : Desk) (whole : List Entry) (made : (t : ℕ) → 
       record { legal = both _ _ (keeps [] whole refl low) complete; stands = stand [] whole refl low known.numbered }
 
 -- what each pass's task made in the history that it knows, it made in the whole one
-pub all_have_all : (plan : Plan) (desk : Desk) (passes : List SeenPass) (whole : SeenSeat) (all : List Told) → IsPlan plan → length all ≡ length passes → AreFollowed passes whole → EachHasAll desk plan passes all → AllHaveAll desk plan whole.history all
+pub all_have_all : (plan : Plan) (desk : Desk) (passes : List SeenPass) (whole : SeenSeat) (all : List TaskAnswers) → IsPlan plan → length all ≡ length passes → AreFollowed passes whole → EachHasAll desk plan passes all → AllHaveAll desk plan whole.history all
 all_have_all plan desk passes whole all is many followed each t told got =
     let low : t < length all = slice_get_within all t told got in
     let p : (p : SeenPass) × (slice_get passes t ≡ Some p) = has_entry passes t (omega (arith, low, many)) in

@@ -1,11 +1,10 @@
 -- A run under way, after some steps of its history (this project's own).
-use Rattle.std.specs.Prelude.{◌≡◌, ℕ, ◌<◌, true, List, [], length}
+use Rattle.std.specs.Prelude.{◌≡◌, ℕ, ◌<◌, List, [], length}
 use Rattle.std.specs.List.{slice_index_or, slice_get}
 use Rattle.lw_calls.specs.declared.entry.Entry.{Entry}
 use Rattle.lw_calls.specs.declared.reply.Reply.{Reply}
-use Rattle.lw_calls.specs.Plan.{Plan, IsPlan, task_calls}
-use Rattle.lw_calls.specs.Orders.{is_legal}
-use Rattle.lw_calls.specs.Entries.{count_of, next_entry, only_order}
+use Rattle.lw_calls.specs.Plan.{Plan, task_calls}
+use Rattle.lw_calls.specs.Entries.{count_of, next_entry}
 use Rattle.lw_machine.specs.Hook.{Hook}
 use Rattle.lw_machine.specs.History.{machine, replies_of}
 use Rattle.lw_machine.specs.Finals.{opening_desk}
@@ -21,7 +20,3 @@ pub record HasRun (plan : Plan) (hooks : List Hook) (past : List Entry) (standin
   pub stands : standing (machine (opening_desk plan hooks) past)
   pub lists : length told ≡ plan.sizes.tasks
   pub each : (t : ℕ) → t < plan.sizes.tasks → slice_index_or told t [] ≡ replies_of (opening_desk plan hooks) t past
-
--- The only order of a plan of one task is a legal one.
-abbrev pub OnlyOrderIsLegal : Type 0
-OnlyOrderIsLegal = (plan : Plan) → IsPlan plan → plan.sizes.tasks ≡ 1 → is_legal plan (only_order plan) ≡ true

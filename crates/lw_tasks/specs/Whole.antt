@@ -11,20 +11,20 @@ use Rattle.lw_machine.specs.Parts.{SlotPart, InfoPart}
 use Rattle.lw_steps.specs.Steps.{AreParts}
 use Rattle.lw_locks.specs.Joins.{IsHistory}
 use Rattle.lw_locks.specs.Seen.{SeenPass}
-use Rattle.lw_tasks.specs.declared.told.Told.{Told}
+use Rattle.lw_tasks.specs.declared.answers.TaskAnswers.{TaskAnswers}
 use Rattle.lw_tasks.specs.Made.{places_of, HasTold}
 
 -- A task of the plan made all its calls, and was told this.
-abbrev pub HasAll : Desk → Plan → ℕ → List Entry → Told → Type 0
+abbrev pub HasAll : Desk → Plan → ℕ → List Entry → TaskAnswers → Type 0
 HasAll desk plan task history told = HasTold desk (task_groups plan task) task (task_calls plan task) history told.replies told.tickets.items
 
 -- each task did, in the history that its pass knows
-abbrev pub EachHasAll : Desk → Plan → List SeenPass → List Told → Type 0
-EachHasAll desk plan passes all = (t : ℕ) (p : SeenPass) (told : Told) → slice_get passes t ≡ Some p → slice_get all t ≡ Some told → (p.task ≡ t) × HasAll desk plan t p.history told
+abbrev pub EachHasAll : Desk → Plan → List SeenPass → List TaskAnswers → Type 0
+EachHasAll desk plan passes all = (t : ℕ) (p : SeenPass) (told : TaskAnswers) → slice_get passes t ≡ Some p → slice_get all t ≡ Some told → (p.task ≡ t) × HasAll desk plan t p.history told
 
 -- each task did, in one history
-abbrev pub AllHaveAll : Desk → Plan → List Entry → List Told → Type 0
-AllHaveAll desk plan history all = (t : ℕ) (told : Told) → slice_get all t ≡ Some told → HasAll desk plan t history told
+abbrev pub AllHaveAll : Desk → Plan → List Entry → List TaskAnswers → Type 0
+AllHaveAll desk plan history all = (t : ℕ) (told : TaskAnswers) → slice_get all t ≡ Some told → HasAll desk plan t history told
 
 -- the tasks of the steps of a history, in their order
 abbrev pub order_of : List Entry → List ℕ
@@ -36,7 +36,7 @@ pub record IsOrdered (plan : Plan) (history : List Entry) : Type 0 where
   pub stands : entries plan [] (order_of history) ≡ history
 
 -- All tasks of a plan ran to their end in one history, and LayerInfo and the cells stand for the machine's desk after it.
-pub record HaveRun {I C : Type 0} (info_is : I → InfoPart → Type 0) (number : C → ℕ) (cell_is : C → SlotPart → Type 0) (desk : Desk) (plan : Plan) (layers : I) (cells : List C) (history : List Entry) (all : List Told) : Type 0 where
+pub record HaveRun {I C : Type 0} (info_is : I → InfoPart → Type 0) (number : C → ℕ) (cell_is : C → SlotPart → Type 0) (desk : Desk) (plan : Plan) (layers : I) (cells : List C) (history : List Entry) (all : List TaskAnswers) : Type 0 where
   pub parts : AreParts info_is number cell_is desk.sizes desk.assets layers cells (machine desk history)
   pub known : IsHistory desk.sizes history
   pub many : length all ≡ plan.sizes.tasks
@@ -45,8 +45,8 @@ pub record HaveRun {I C : Type 0} (info_is : I → InfoPart → Type 0) (number 
 -- Words of this crate's private contracts.
 
 -- each task's tickets are the places of its steps
-abbrev pub AreTickets : List Entry → List Told → Type 0
-AreTickets history all = (t : ℕ) (told : Told) → slice_get all t ≡ Some told → told.tickets.items ≡ places_of t 0 history
+abbrev pub AreTickets : List Entry → List TaskAnswers → Type 0
+AreTickets history all = (t : ℕ) (told : TaskAnswers) → slice_get all t ≡ Some told → told.tickets.items ≡ places_of t 0 history
 
 -- how many steps are of tasks below the number
 abbrev pub count_below : ℕ → List Entry → ℕ

@@ -2,7 +2,7 @@
 //! on threads, on a desk whose parts lie behind locks, in the order that their tickets give.
 #![tactic(auto)]
 
-mod laws;
+mod answers;
 mod parts;
 mod run;
 mod running;
@@ -13,9 +13,7 @@ mod tests;
 mod tests_desk;
 mod threads;
 mod tickets;
-mod told;
 
-pub use laws::only_order_is_legal;
 pub use parts::Parts;
 pub use run::replay;
 pub use running::{Run, run_tasks};

@@ -1,6 +1,7 @@
 // A plan's run on threads.
 
 ghost use Rattle.std.specs.Prelude.{◌≡◌, [], map, true, vec_len, IfOk};
+ghost use Rattle.lw_calls.specs.Entries.{entries};
 ghost use Rattle.lw_calls.specs.Orders.{is_legal};
 ghost use Rattle.lw_calls.specs.Plan.{IsPlan};
 ghost use Rattle.lw_machine.specs.Desk.{empty_desk};
@@ -11,9 +12,9 @@ ghost use Rattle.lw_steps.specs.Steps.{AreCells};
 ghost use Rattle.lw_locks.specs.Held.{AreTasksRegs};
 ghost use Rattle.lw_tasks.specs.Whole.{HaveRun, order_of};
 
+use crate::answers::TaskAnswers;
 use crate::threads::{parted, run_each};
 use crate::tickets::order_by;
-use crate::told::Told;
 use lw_backfill::Backfill;
 use lw_calls::{Final, OrderList, Plan, Replies};
 use lw_engine::LayerEngine;
@@ -33,8 +34,9 @@ pub struct Run {
     pub seat: Seat,
 }
 
-/// Runs a plan whose hooks lie on the shelf, each task beside the others where threads can be made. It may wait, and so promises no
-/// return. The order is that of the calls' tickets. It fails only when out of memory, after all tasks ended.
+/// Runs a plan whose hooks lie on the shelf, each task on a thread of its own where one can be made. It may wait, and so promises no
+/// return. The seat knows the history of all calls: each task's calls, once and in their order. It fails only when out of memory, and
+/// no task still runs then.
 pub fn run_tasks<B: Backfill + Send, R: Threads + Wait + Sync, G: Gate + Sync>(
     rt: &R,
     alloc: Global,
@@ -43,6 +45,7 @@ pub fn run_tasks<B: Backfill + Send, R: Threads + Wait + Sync, G: Gate + Sync>(
     gate: &G,
 ) -> Result<Run, AllocError>
     ensures order { IfOk result (λ run. run.order ≡ order_of run.seat.history) }
+    ensures history { IfOk result (λ run. entries plan.now [] run.order ≡ run.seat.history) }
     ensures legal { IfOk result (λ run. is_legal plan.now run.order ≡ true) }
     ensures last { IfOk result (λ run. run.last ≡ run_final plan.now (map B.hook hooks.items) run.order) }
 {
@@ -67,6 +70,7 @@ fn run_on<B: Backfill + Send, N: Opening + Send + Sync, R: Threads + Wait + Sync
     requires history { seat.history ≡ [] }
     requires roles { seat.roles ≡ all_roles plan.now.sizes.slots plan.now.sizes.tasks }
     ensures order { IfOk result (λ run. run.order ≡ order_of run.seat.history) }
+    ensures history { IfOk result (λ run. entries plan.now [] run.order ≡ run.seat.history) }
     ensures legal { IfOk result (λ run. is_legal plan.now run.order ≡ true) }
     ensures last { IfOk result (λ run. run.last ≡ run_final plan.now (map B.hook hooks.items) run.order) }
 {
@@ -105,7 +109,7 @@ fn run_all<E: Engine, N: Opening + Send + Sync, R: Threads + Wait + Sync, G: Gat
     info: E::Info,
     cells: Vec<E::Cell>,
     regs: Vec<E::Regs>,
-) -> Result<(Closed<E>, Vec<Told>), AllocError>
+) -> Result<(Closed<E>, Vec<TaskAnswers>), AllocError>
     requires plan { IsPlan plan.now }
     requires desk_sizes { N.desk.sizes ≡ plan.now.sizes }
     requires word { order.word ≡ N.word }
@@ -133,7 +137,7 @@ fn run_all<E: Engine, N: Opening + Send + Sync, R: Threads + Wait + Sync, G: Gat
 }
 
 // Each task's replies.
-fn replies_of(alloc: Global, all: Vec<Told>) -> Result<Vec<Replies>, AllocError>
+fn replies_of(alloc: Global, all: Vec<TaskAnswers>) -> Result<Vec<Replies>, AllocError>
     ensures { IfOk result (λ replies. replies.items ≡ map (λ told. told.replies) all.items) }
 {
     let mut replies = Vec::new(alloc);

@@ -56,8 +56,9 @@ fn make_next<E: Engine, N: Opening, R: Wait, G: Gate>(
     ensures begun { OnOk result (HasBegun N.desk plan.now pass.old.task pass.new.history answers.new.items) }
 {
     let call = call_of(plan, pass.task(), answers.len());
+    answers.reserve(1)?;
     let answer = make_one(desk, rt, alloc, gate, pass, call)?;
-    answers.push(answer)?;
+    answers.push_reserved(answer);
     Ok(())
 }
 

@@ -6,8 +6,8 @@ ghost use Rattle.lw_calls.specs.Plan.{IsPlan};
 ghost use Rattle.lw_locks.specs.Seen.{opening_pass};
 ghost use Rattle.lw_tasks.specs.Whole.{HasAll};
 
+use crate::answers::TaskAnswers;
 use crate::task::run_task;
-use crate::told::Told;
 use lw_calls::Plan;
 use lw_locks::{Desk, Gate, Opening, Pass};
 use lw_steps::Engine;
@@ -20,7 +20,7 @@ use std::thread::Threads;
 #[derive(Drop)]
 pub(crate) struct TaskRun<E: Engine, N: Opening> {
     pub(crate) pass: Pass<E, N>,
-    pub(crate) told: Result<Told, AllocError>,
+    pub(crate) told: Result<TaskAnswers, AllocError>,
 }
 
 /// Runs each task on a thread of its own where one can be made.
@@ -82,7 +82,7 @@ fn tell<E: Engine, N: Opening, R: Wait, G: Gate>(
     gate: &G,
     plan: &Plan,
     pass: &mut Pass<E, N>,
-) -> Result<Told, AllocError>
+) -> Result<TaskAnswers, AllocError>
     requires plan { IsPlan plan.now }
     requires sizes { N.desk.sizes ≡ plan.now.sizes }
     requires task { pass.old.task < plan.now.sizes.tasks }
@@ -91,14 +91,14 @@ fn tell<E: Engine, N: Opening, R: Wait, G: Gate>(
     ensures told { IfOk result (λ told. HasAll N.desk plan.now pass.old.task pass.new.history told) }
 {
     let answers = run_task(desk, rt, alloc, gate, plan, pass)?;
-    Told::of(alloc, answers)
+    TaskAnswers::of(alloc, answers)
 }
 
 /// The passes of runs, and what their tasks were told. It fails where one of these, or this call, ran out of memory.
 pub(crate) fn parted<E: Engine, N: Opening>(
     alloc: Global,
     runs: Vec<TaskRun<E, N>>,
-) -> Result<(Vec<Pass<E, N>>, Vec<Told>), AllocError>
+) -> Result<(Vec<Pass<E, N>>, Vec<TaskAnswers>), AllocError>
     ensures passes { IfOk result (λ r. r.0.items ≡ map (λ run. run.pass) runs.items) }
     ensures told { IfOk result (λ r. map (λ told. Ok told) r.1.items ≡ map (λ run. run.told) runs.items) }
 {
@@ -111,7 +111,11 @@ pub(crate) fn parted<E: Engine, N: Opening>(
 }
 
 impl<E: Engine, N: Opening> TaskRun<E, N> {
-    fn part(self, passes: &mut Vec<Pass<E, N>>, all: &mut Vec<Told>) -> Result<(), AllocError>
+    fn part(
+        self,
+        passes: &mut Vec<Pass<E, N>>,
+        all: &mut Vec<TaskAnswers>,
+    ) -> Result<(), AllocError>
         ensures passes { OnOk result (passes.new.items ≡ passes.old.items ++ self.pass ∷ []) }
         ensures told { OnOk result (map (λ told. Ok told) all.new.items ≡ map (λ told. Ok told) all.old.items ++ self.told ∷ []) }
     {

@@ -5,11 +5,11 @@ ghost use Rattle.lw_calls.specs.declared.entry.Entry.{Entry};
 ghost use Rattle.lw_order.specs.Numbered.{TasksBelow};
 ghost use Rattle.lw_tasks.specs.Whole.{AreTickets, count_below, order_of, put};
 
-use crate::told::Told;
+use crate::answers::TaskAnswers;
 use std::alloc::{AllocError, Global};
 
 /// The tasks of a history's steps, of which these are the tickets, by task.
-pub(crate) fn order_by(alloc: Global, all: &[Told]) -> Result<Vec<u32>, AllocError>
+pub(crate) fn order_by(alloc: Global, all: &[TaskAnswers]) -> Result<Vec<u32>, AllocError>
     requires few { length all.now ≤ 16 }
     requires tickets { (es : List Entry) × AreTickets es all.now × TasksBelow (length all.now) es }
     ensures { IfOk result (λ order. (es : List Entry) → AreTickets es all.now → TasksBelow (length all.now) es → order.items ≡ order_of es) }
@@ -26,7 +26,7 @@ pub(crate) fn order_by(alloc: Global, all: &[Told]) -> Result<Vec<u32>, AllocErr
 }
 
 // As many zeros as there are tickets.
-fn zeros(alloc: Global, all: &[Told]) -> Result<Vec<u32>, AllocError>
+fn zeros(alloc: Global, all: &[TaskAnswers]) -> Result<Vec<u32>, AllocError>
     ensures { IfOk result (λ order. (es : List Entry) → AreTickets es all.now → order.items ≡ replicate (count_below (length all.now) es) 0) }
 {
     let mut order = Vec::new(alloc);

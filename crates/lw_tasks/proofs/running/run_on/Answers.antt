@@ -1,6 +1,7 @@
-use Rattle.std.proofs.Common.{◌≡◌, ℕ, ◌<◌, true, List, map, ap, sym, subst, ◌∙◌, arith}
+use Rattle.std.proofs.Common.{◌≡◌, ℕ, ◌<◌, true, List, [], map, ap, sym, subst, ◌∙◌, arith}
 use Rattle.lw_calls.specs.Assets.{Assets}
 use Rattle.lw_calls.specs.declared.sizes.Sizes.{Sizes}
+use Rattle.lw_calls.specs.Entries.{entries}
 use Rattle.lw_calls.specs.Orders.{is_legal}
 use Rattle.lw_machine.specs.Desk.{Desk}
 use Rattle.lw_machine.specs.History.{machine, replies_of}
@@ -42,6 +43,16 @@ returns-clause-order g c =
     let of_plan : d.sizes ≡ plan.sizes = ap (λ (x : Desk). x.sizes) c.requires.desk in
     let order = run_order (IsInfo d.sizes) number_of StandsFor d plan closed.info closed.cells.items closed.seat.history c.in_ok-closed.all.items of_plan (c.in_ok-closed.ensures {u = tt}) c.as_slice.result.now c.in_ok-order.order.items c.as_slice.ensures.value (c.in_ok-order.ensures {u = tt}) in
     c.new.ensures ∙ order
+
+pub returns-clause-history : goal.returns-clause-history
+returns-clause-history g c =
+    let d = g.N.Opening.desk in
+    let plan = c.args.plan.now in
+    let closed = c.in_ok-closed.closed in
+    let of_plan : d.sizes ≡ plan.sizes = ap (λ (x : Desk). x.sizes) c.requires.desk in
+    let ordered = run_ordered (IsInfo d.sizes) number_of StandsFor d plan closed.info closed.cells.items closed.seat.history c.in_ok-closed.all.items of_plan (c.in_ok-closed.ensures {u = tt}) in
+    let order = run_order (IsInfo d.sizes) number_of StandsFor d plan closed.info closed.cells.items closed.seat.history c.in_ok-closed.all.items of_plan (c.in_ok-closed.ensures {u = tt}) c.as_slice.result.now c.in_ok-order.order.items c.as_slice.ensures.value (c.in_ok-order.ensures {u = tt}) in
+    ap (entries plan []) (c.new.ensures ∙ order) ∙ ordered.stands
 
 pub returns-clause-legal : goal.returns-clause-legal
 returns-clause-legal g c =

@@ -3,7 +3,7 @@ use Rattle.std.specs.List.{slice_get}
 use Rattle.std.proofs.lemmas.List.{with_items_is}
 use Rattle.std.proofs.lemmas.Option.{slice_get_read}
 use Rattle.lw_tasks.specs.Whole.{order_below, put}
-use Rattle.lw_tasks.specs.declared.told.Told.{Told}
+use Rattle.lw_tasks.specs.declared.answers.TaskAnswers.{TaskAnswers}
 use Rattle.lw_tasks.proofs.Placing.{count_below_all, order_below_none, order_below_all, length_put, placed_more, tickets_within}
 use Rattle.lw_tasks.proofs.tickets.order_by.Goals as goal
 
@@ -15,7 +15,7 @@ place-requires c =
     let t = c.loop-task.task in
     let told = c.index-all-task.result in
     let got : slice_get c.args.all.now t ≡ Some told = slice_get_read c.args.all.now (length c.args.all.now) t told refl c.loop-task-test.true c.index-all-task.is in
-    let ticks : c.as_slice.result.now ≡ told.tickets.items = c.as_slice.ensures.value ∙ ap (λ (x : Told). x.tickets.items) (sym c.index-all-task.is) in
+    let ticks : c.as_slice.result.now ≡ told.tickets.items = c.as_slice.ensures.value ∙ ap (λ (x : TaskAnswers). x.tickets.items) (sym c.index-all-task.is) in
     let given = c.requires.tickets in
     tickets_within given.0 t c.as_mut_slice.result.now c.as_slice.result.now (c.as_mut_slice.ensures.value ∙ c.loop-task.invariant given.0 given.1 given.2) (ticks ∙ given.1 t told got)
 
@@ -25,7 +25,7 @@ loop-task-preserved c =
     let told = c.index-all-task.result in
     let order = c.loop-task.order in
     let got : slice_get c.args.all.now t ≡ Some told = slice_get_read c.args.all.now (length c.args.all.now) t told refl c.loop-task-test.true c.index-all-task.is in
-    let ticks : c.as_slice.result.now ≡ told.tickets.items = c.as_slice.ensures.value ∙ ap (λ (x : Told). x.tickets.items) (sym c.index-all-task.is) in
+    let ticks : c.as_slice.result.now ≡ told.tickets.items = c.as_slice.ensures.value ∙ ap (λ (x : TaskAnswers). x.tickets.items) (sym c.index-all-task.is) in
     let made : c.place.new.order ≡ put t order.items c.as_slice.result.now = c.place.ensures ∙ ap (λ xs. put t xs c.as_slice.result.now) c.as_mut_slice.ensures.value in
     let long : length c.place.new.order ≡ order.len = ap length made ∙ (length_put t order.items c.as_slice.result.now ∙ sym order.ok.0) in
     λ es are low. with_items_is order c.place.new.order long ∙ placed_more es t order.items c.place.new.order c.as_slice.result.now (c.loop-task.invariant es are low) (ticks ∙ are t told got) made

@@ -8,18 +8,18 @@ use std::alloc::{AllocError, Global};
 
 /// A task's replies in the order of its calls, and its calls' tickets.
 #[derive(Drop)]
-pub(crate) struct Told {
+pub(crate) struct TaskAnswers {
     pub(crate) replies: Replies,
     pub(crate) tickets: Vec<u64>,
 }
 
-impl Told {
+impl TaskAnswers {
     /// The replies and the tickets of answers.
-    pub(crate) fn of(alloc: Global, answers: Vec<Answer>) -> Result<Told, AllocError>
+    pub(crate) fn of(alloc: Global, answers: Vec<Answer>) -> Result<TaskAnswers, AllocError>
         ensures replies { IfOk result (λ told. told.replies ≡ map (λ a. a.reply) answers.items) }
         ensures tickets { IfOk result (λ told. told.tickets.items ≡ map (λ a. a.ticket) answers.items) }
     {
-        let mut told = Told {
+        let mut told = TaskAnswers {
             replies: Replies::new(Vec::new(alloc)),
             tickets: Vec::new(alloc),
         };
