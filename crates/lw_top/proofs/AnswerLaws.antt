@@ -3,18 +3,20 @@ use Rattle.std.proofs.Common.{◌≡◌, ◌≢◌, ◌⊎◌, ℕ, ◌+◌, ◌
 use Rattle.std.proofs.lemmas.Bool.{true≢false}
 use Rattle.lw_io.specs.Streams.{Rose, bytes_before, bytes_after, TakesJust, TakesAtMost}
 use Rattle.lw_calls.specs.declared.reason.Reason.{Reason}
-use Rattle.lw_calls.specs.Entries.{only_order}
+use Rattle.lw_calls.specs.Plan.{IsPlan}
+use Rattle.lw_calls.proofs.OrdersComplete.{begins}
 use Rattle.lw_machine.specs.Hook.{Hook}
 use Rattle.lw_machine.specs.Report.{run_report}
 use Rattle.lw_canonical.specs.Canonical.{canonical_text}
 use Rattle.lw_grammar.specs.Lines.{lines}
 use Rattle.lw_grammar.specs.Script.{ScriptInput, SpellsInput, IsFirstBadIn}
+use Rattle.lw_grammar.proofs.ScriptRunnable.{spelled_runnable}
 use Rattle.lw_top.specs.declared.status.Status.{Status}
 use Rattle.lw_top.specs.declared.status.Status.TheVariants.{Done, Refused, Usage, ReadFault, WriteFault, NoMemory, TooLong, BadOrder}
 use Rattle.lw_top.specs.declared.words.Command.{Command}
 use Rattle.lw_top.specs.declared.words.Command.TheVariants.{Run, Check, Replay}
 use Rattle.lw_top.specs.Commands.{reads_with, IsTextFor}
-use Rattle.lw_top.specs.Laws.{IsTextOf, IsBadOrderOf, IsDue, IsUnlessStopped, is_stop, IsInput, AnswerTells, ToldOfWords}
+use Rattle.lw_top.specs.Laws.{IsTextOf, IsBadOrderOf, IsDue, IsUnlessStopped, is_stop, IsInput, IsAnswer, AnswerTells, ToldOfWords}
 use Rattle.lw_top.specs.Outcome.{IsOutcome, IsTaken, Served, Answered}
 use Rattle.lw_top.specs.Status.{Says, text_of, input_limit}
 use Rattle.lw_top.proofs.Outcomes.{one_outcome}
@@ -55,17 +57,17 @@ of_left hooks command input left (Some rest) due text taken h = elim taken.ended
     long e due h = let short = h.0 in absurd (omega (arith, short, e))
 
 -- the answer that was due is the outcome, or the sink failed
-said_only : (hooks : List Hook) (command : Command) (input : List ℕ) (due wanted r : Status) (text other : List ℕ) (before after : Option (List ℕ)) (f g : ℕ) → IsOutcome hooks command input due text → Says text due r before after f g → IsOutcome hooks command input wanted other → ((r ≡ wanted) × (after ≡ bytes_after before other)) ⊎ ((r ≡ WriteFault) × Rose f g)
+said_only : (hooks : List Hook) (command : Command) (input : List ℕ) (due wanted r : Status) (text other : List ℕ) (before after : Option (List ℕ)) (f g : ℕ) → IsOutcome hooks command input due text → Says text due r before after f g → IsOutcome hooks command input wanted other → IsAnswer hooks command input wanted r before after ⊎ ((r ≡ WriteFault) × Rose f g)
 said_only hooks command input due wanted r text other before after f g h (inl e) w =
-    let same = one_outcome hooks command input due wanted text other h w in
-    inl (e.0 ∙ same.0, e.1 ∙ ap (bytes_after before) same.1)
+    let same : due ≡ wanted = (one_outcome hooks command input due wanted text other h w).0 in
+    inl (record { text = text; outcome = subst (λ q. IsOutcome hooks command input q text) same h; same = e.0 ∙ same; written = e.1 })
 said_only hooks command input due wanted r text other before after f g h (inr e) w = inr (e.0, e.2)
 
 -- what a command tells where its text or its order's bad place is due
-due_text : (hooks : List Hook) (command : Command) (script : ScriptInput) → IsDue command script → (text : List ℕ) × IsTextFor hooks command script text
-due_text hooks Run script due = (run_report script.plan hooks (only_order script.plan), refl)
-due_text hooks Check script due = (canonical_text script.plan, refl)
-due_text hooks Replay script due = (run_report script.plan hooks script.order, (due, refl))
+due_text : (hooks : List Hook) (command : Command) (script : ScriptInput) → IsPlan script.plan → IsDue command script → (text : List ℕ) × IsTextFor hooks command script text
+due_text hooks Run script ok due = let legal = begins script.plan ok [] refl in (run_report script.plan hooks legal.0, (legal.0, legal.1, refl))
+due_text hooks Check script ok due = (canonical_text script.plan, refl)
+due_text hooks Replay script ok due = (run_report script.plan hooks script.order, (due, refl))
 
 -- the text of an answer that has one of its own
 own_text : (hooks : List Hook) (command : Command) (input : List ℕ) (s : Status) (text : List ℕ) → IsOutcome hooks command input s text → (s ≡ Done) ⊎ (text ≡ text_of s)
@@ -106,12 +108,12 @@ came_of_left hooks command q r (Some left) rest s t before after f g h goes is =
 
 -- the outcome on all that was left comes, unless a stream failed or memory ran out
 comes : (hooks : List Hook) (command : Command) (r : Status) (left rest : Option (List ℕ)) (s t : ℕ) (before after : Option (List ℕ)) (f g : ℕ) → Answered hooks command r left rest s t before after f g
-    → IfSome left (λ input. (due : Status) (text : List ℕ) → IsOutcome hooks command input due text → ((r ≡ due) × (after ≡ bytes_after before text)) ⊎ ((r ≡ WriteFault) × Rose f g) ⊎ ((r ≡ ReadFault) × Rose s t) ⊎ (r ≡ NoMemory))
+    → IfSome left (λ input. (due : Status) (text : List ℕ) → IsOutcome hooks command input due text → IsAnswer hooks command input due r before after ⊎ ((r ≡ WriteFault) × Rose f g) ⊎ ((r ≡ ReadFault) × Rose s t) ⊎ (r ≡ NoMemory))
 comes hooks command r None rest s t before after f g h = tt
 comes hooks command r (Some left) rest s t before after f g h =
     λ due text w. elim h.outcome [ inl e ↦ served e due text w | inr e ↦ inr (inr e) ]
   where
-    served : Served hooks command r (Some left) rest before after f g → (due : Status) (text : List ℕ) → IsOutcome hooks command left due text → ((r ≡ due) × (after ≡ bytes_after before text)) ⊎ ((r ≡ WriteFault) × Rose f g) ⊎ ((r ≡ ReadFault) × Rose s t) ⊎ (r ≡ NoMemory)
+    served : Served hooks command r (Some left) rest before after f g → (due : Status) (text : List ℕ) → IsOutcome hooks command left due text → IsAnswer hooks command left due r before after ⊎ ((r ≡ WriteFault) × Rose f g) ⊎ ((r ≡ ReadFault) × Rose s t) ⊎ (r ≡ NoMemory)
     served e due text w =
         let was = of_left hooks command e.input left rest e.due e.text e.taken e.outcome in
         elim (said_only hooks command left e.due due r e.text text before after f g was e.said w) [ inl d ↦ inl d | inr d ↦ inr (inl d) ]
@@ -139,13 +141,13 @@ told hooks command r left rest s t before after f g h unwritten =
       only_too_long = only (λ input. input_limit < length input → IsUnlessStopped TooLong r) (λ input k above. unless TooLong input k (text_of TooLong) (above, refl));
       only_refused = only (λ input. length input ≤ input_limit → (line : ℕ) (reason : Reason) → IsFirstBadIn (reads_with (length hooks) command) (lines input) line reason → IsUnlessStopped (Refused line reason) r) (λ input k short line reason bad. unless (Refused line reason) input k (text_of (Refused line reason)) (short, bad, refl));
       only_bad_order = only (λ input. length input ≤ input_limit → (place : ℕ) → IsBadOrderOf hooks command input place → IsUnlessStopped (BadOrder place) r) (λ input k short place bad. unless (BadOrder place) input k (text_of (BadOrder place)) (short, bad.0, bad.1, (bad.2, refl)));
-      only_done = only (λ input. length input ≤ input_limit → (script : ScriptInput) → SpellsInput (reads_with (length hooks) command) input script → IsDue command script → IsUnlessStopped Done r) (λ input k short script spelled due. let text = due_text hooks command script due in unless Done input k text.0 (short, script, spelled, text.1));
-      complete = λ no_read no_write. only (λ input. (due : Status) (text : List ℕ) → IsOutcome hooks command input due text → ((r ≡ due) × (after ≡ bytes_after before text)) ⊎ (r ≡ NoMemory)) (λ input k due text w. elim (k due text w) [ inl e ↦ inl e | inr e ↦ elim e [ inl d ↦ absurd (no_write d.1) | inr d ↦ elim d [ inl b ↦ absurd (no_read b.1) | inr b ↦ inr b ] ] ]);
+      only_done = only (λ input. length input ≤ input_limit → (script : ScriptInput) → SpellsInput (reads_with (length hooks) command) input script → IsDue command script → IsUnlessStopped Done r) (λ input k short script spelled due. let text = due_text hooks command script (spelled_runnable (reads_with (length hooks) command) input script spelled).plan due in unless Done input k text.0 (short, script, spelled, text.1));
+      complete = λ no_read no_write. only (λ input. (due : Status) (text : List ℕ) → IsOutcome hooks command input due text → IsAnswer hooks command input due r before after ⊎ (r ≡ NoMemory)) (λ input k due text w. elim (k due text w) [ inl e ↦ inl e | inr e ↦ elim e [ inl d ↦ absurd (no_write d.1) | inr d ↦ elim d [ inl b ↦ absurd (no_read b.1) | inr b ↦ inr b ] ] ]);
       text = λ not_done not_fault. elim h.outcome [ inl e ↦ written e e.said not_done not_fault | inr e ↦ elim e [ inl d ↦ empty d.0 refl (unwritten (inl d.0)) | inr d ↦ empty d refl (unwritten (inr d)) ] ];
     }
   where
     Came : List ℕ → Type 0
-    Came input = (due : Status) (text : List ℕ) → IsOutcome hooks command input due text → ((r ≡ due) × (after ≡ bytes_after before text)) ⊎ ((r ≡ WriteFault) × Rose f g) ⊎ ((r ≡ ReadFault) × Rose s t) ⊎ (r ≡ NoMemory)
+    Came input = (due : Status) (text : List ℕ) → IsOutcome hooks command input due text → IsAnswer hooks command input due r before after ⊎ ((r ≡ WriteFault) × Rose f g) ⊎ ((r ≡ ReadFault) × Rose s t) ⊎ (r ≡ NoMemory)
 
     was : (q : Status) → is_stop q ≡ false → r ≡ q → (input : List ℕ) × IsTaken input left rest × (text : List ℕ) × IsOutcome hooks command input q text × (after ≡ bytes_after before text)
     was q goes e = came hooks command q r left rest s t before after f g h goes e
@@ -160,7 +162,7 @@ told hooks command r left rest s t before after f g h unwritten =
     stops q goes e = ap is_stop e ∙ goes
 
     unless : (q : Status) (input : List ℕ) → Came input → (text : List ℕ) → IsOutcome hooks command input q text → IsUnlessStopped q r
-    unless q input k text w = elim (k q text w) [ inl e ↦ inl e.0 | inr e ↦ inr (elim e [ inl d ↦ stops WriteFault refl d.0 | inr d ↦ elim d [ inl b ↦ stops ReadFault refl b.0 | inr b ↦ stops NoMemory refl b ] ]) ]
+    unless q input k text w = elim (k q text w) [ inl e ↦ inl e.same | inr e ↦ inr (elim e [ inl d ↦ stops WriteFault refl d.0 | inr d ↦ elim d [ inl b ↦ stops ReadFault refl b.0 | inr b ↦ stops NoMemory refl b ] ]) ]
 
     long : (input : List ℕ) → IsTaken input left rest → input_limit < length input → TakesJust (input_limit + 1) left rest
     long input taken above = elim taken.ended [ inl e ↦ absurd (omega (arith, e.0, above)) | inr e ↦ (input, e, taken.front) ]

@@ -1,6 +1,8 @@
 mod AnswerLaws
 mod BadPlaces
-mod OneTask
+mod LegalOrders
 mod OrderLength
 mod Outcomes
+mod PrintedOrder
 mod TestHooks
+mod Unread

@@ -2,7 +2,6 @@
 use Rattle.std.specs.Prelude.{◌≡◌, ℕ, true, if◌then◌else◌, List, [], ◌∷◌, codes, bytes_eq, Option, Some, None}
 use Rattle.lw_calls.specs.declared.form.Form.TheVariants.{Plain, Ordered}
 use Rattle.lw_canonical.specs.Canonical.{canonical_text}
-use Rattle.lw_calls.specs.Entries.{only_order}
 use Rattle.lw_calls.specs.Orders.{is_legal, IsBadPlace}
 use Rattle.lw_machine.specs.Hook.{Hook}
 use Rattle.lw_machine.specs.Report.{run_report}
@@ -29,9 +28,10 @@ reads_with count Check = reading_with count Plain
 reads_with count Replay = reading_with count Ordered
 
 -- The text that a command writes for a script, where these hooks are handed in: the report of the machine's run of its plan with
--- them, in the one order of its one task or in the order that stands in it, which is legal then; or the plan's canonical text.
+-- them, in a legal order, which the report prints, or in the order that stands in the script, which is legal then; or the plan's
+-- canonical text.
 abbrev pub IsTextFor : List Hook → Command → ScriptInput → List ℕ → Type 0
-IsTextFor hooks Run script text = text ≡ run_report script.plan hooks (only_order script.plan)
+IsTextFor hooks Run script text = (order : List ℕ) × (is_legal script.plan order ≡ true) × (text ≡ run_report script.plan hooks order)
 IsTextFor hooks Check script text = text ≡ canonical_text script.plan
 IsTextFor hooks Replay script text = (is_legal script.plan script.order ≡ true) × (text ≡ run_report script.plan hooks script.order)
 

@@ -14,13 +14,15 @@ use Rattle.lw_top.specs.Commands.{reads_with, IsTextFor, IsBadOrderFor}
 use Rattle.lw_top.specs.Outcome.{IsOutcome, Answered}
 use Rattle.lw_top.specs.Status.{Says, text_of, input_limit}
 
--- A command has an outcome on an input, and one only, whatever hooks are handed in.
-pub record HasOneOutcome (hooks : List Hook) (command : Command) (input : List ℕ) : Type 0 where
+-- A command has an outcome on an input, whatever hooks are handed in. Its answer is one only, and so is its text, but that a run may
+-- have several legal orders, and a report for each.
+pub record IsDecided (hooks : List Hook) (command : Command) (input : List ℕ) : Type 0 where
   pub some : (status : Status) × (text : List ℕ) × IsOutcome hooks command input status text
-  pub one : (s q : Status) (a b : List ℕ) → IsOutcome hooks command input s a → IsOutcome hooks command input q b → (s ≡ q) × (a ≡ b)
+  pub one : (s q : Status) (a b : List ℕ) → IsOutcome hooks command input s a → IsOutcome hooks command input q b
+      → (s ≡ q) × ((a ≡ b) ⊎ ((command ≡ Run) × (s ≡ Done)))
 
 abbrev pub OutcomesAreDecided : Type 0
-OutcomesAreDecided = (hooks : List Hook) (command : Command) (input : List ℕ) → HasOneOutcome hooks command input
+OutcomesAreDecided = (hooks : List Hook) (command : Command) (input : List ℕ) → IsDecided hooks command input
 
 -- the text is what a command writes for the script that the input spells
 abbrev pub IsTextOf : List Hook → Command → List ℕ → List ℕ → Type 0
@@ -53,6 +55,13 @@ pub record IsInput (input : List ℕ) (left rest : Option (List ℕ)) : Type 0 w
   pub end : NoneLeft rest
   pub within : length input ≤ input_limit
 
+-- The answer is the one that is due, and a text that is due with it was written whole.
+pub record IsAnswer (hooks : List Hook) (command : Command) (input : List ℕ) (due result : Status) (before after : Option (List ℕ)) : Type 0 where
+  pub text : List ℕ
+  pub outcome : IsOutcome hooks command input due text
+  pub same : result ≡ due
+  pub written : after ≡ bytes_after before text
+
 -- What each answer to a command tells of what was taken, and of what the source had left where it tells that.
 pub record AnswerTells (hooks : List Hook) (command : Command) (result : Status) (left rest : Option (List ℕ)) (s t : ℕ) (before after : Option (List ℕ)) (f g : ℕ) : Type 0 where
   -- what was written with Done, and why each other answer came
@@ -72,7 +81,7 @@ pub record AnswerTells (hooks : List Hook) (command : Command) (result : Status)
   pub only_refused : IfSome left (λ input. length input ≤ input_limit → (line : ℕ) (reason : Reason) → IsFirstBadIn (reads_with (length hooks) command) (lines input) line reason → IsUnlessStopped (Refused line reason) result)
   pub only_bad_order : IfSome left (λ input. length input ≤ input_limit → (place : ℕ) → IsBadOrderOf hooks command input place → IsUnlessStopped (BadOrder place) result)
   pub only_done : IfSome left (λ input. length input ≤ input_limit → (script : ScriptInput) → SpellsInput (reads_with (length hooks) command) input script → IsDue command script → IsUnlessStopped Done result)
-  pub complete : (Rose s t → ⊥) → (Rose f g → ⊥) → IfSome left (λ input. (due : Status) (text : List ℕ) → IsOutcome hooks command input due text → ((result ≡ due) × (after ≡ bytes_after before text)) ⊎ (result ≡ NoMemory))
+  pub complete : (Rose s t → ⊥) → (Rose f g → ⊥) → IfSome left (λ input. (due : Status) (text : List ℕ) → IsOutcome hooks command input due text → IsAnswer hooks command input due result before after ⊎ (result ≡ NoMemory))
   -- the text of each answer, whole
   pub text : result ≢ Done → result ≢ WriteFault → after ≡ bytes_after before (text_of result)
 

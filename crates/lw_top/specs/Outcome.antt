@@ -1,4 +1,4 @@
--- The one outcome of a command on an input, and what a command promises by it.
+-- The outcome of a command on an input, and what a command promises by it.
 use Rattle.std.specs.Prelude.{◌≡◌, ◌⊎◌, ℕ, ◌+◌, ◌<◌, ◌≤◌, List, length, Option}
 use Rattle.lw_io.specs.Streams.{Rose, bytes_before, NoneLeft, TakesAtMost}
 use Rattle.lw_grammar.specs.Lines.{lines}

@@ -1,15 +1,40 @@
--- The only order of a plan of one task.
-use Rattle.std.specs.Prelude.{◌≡◌, ℕ, ◌+◌, List, [], ◌∷◌}
+-- What a legal order tells of the calls of a run, and a report of its order.
+use Rattle.std.specs.Prelude.{◌≡◌, ℕ, ◌+◌, ◌==◌, true, if◌then◌else◌, List, [], ◌∷◌, map}
 use Rattle.lw_calls.specs.declared.call.Call.{Call}
 use Rattle.lw_calls.specs.declared.entry.Entry.{Entry}
-use Rattle.lw_calls.specs.Plan.{Plan, task_calls}
+use Rattle.lw_calls.specs.Plan.{Plan, IsPlan, task_calls}
 use Rattle.lw_calls.specs.Entries.{entries, only_order}
+use Rattle.lw_calls.specs.Final.{Final}
+use Rattle.lw_calls.specs.Orders.{is_legal}
+use Rattle.lw_machine.specs.Report.{report}
 
--- the steps in which task 0 makes these calls in their order, the first of them as its call n
-abbrev pub numbered : ℕ → List Call → List Entry
-numbered n [] = []
-numbered n (c ∷ cs) = record { task = 0; seq = n; call = c } ∷ numbered (n + 1) cs
+-- the task's steps of a history
+abbrev pub steps_of : ℕ → List Entry → List Entry
+steps_of task [] = []
+steps_of task (e ∷ es) = if e.task == task then e ∷ steps_of task es else steps_of task es
 
--- In the only order of a plan of one task each of its calls stands once, and in its order.
+-- the steps in which a task makes these calls in their order, the first of them as its call n
+abbrev pub numbered : ℕ → ℕ → List Call → List Entry
+numbered task n [] = []
+numbered task n (c ∷ cs) = record { task = task; seq = n; call = c } ∷ numbered task (n + 1) cs
+
+-- Each number of an order stands for one step, which is that task's; and of each task the steps are its calls, each once and in their
+-- order. A task that the plan hasn't got has none.
+pub record StandForCalls (plan : Plan) (order : List ℕ) : Type 0 where
+  pub each : map (λ (e : Entry). e.task) (entries plan [] order) ≡ order
+  pub calls : (task : ℕ) → steps_of task (entries plan [] order) ≡ numbered task 0 (task_calls plan task)
+
+-- In a legal order each task's calls stand once, and in their order.
 abbrev pub CallsStandOnce : Type 0
-CallsStandOnce = (plan : Plan) → entries plan [] (only_order plan) ≡ numbered 0 (task_calls plan 0)
+CallsStandOnce = (plan : Plan) (order : List ℕ) → IsPlan plan → is_legal plan order ≡ true → StandForCalls plan order
+
+-- A plan of one task has one legal order.
+abbrev pub OneTaskHasOneOrder : Type 0
+OneTaskHasOneOrder =
+    (plan : Plan) (order : List ℕ) → IsPlan plan → plan.sizes.tasks ≡ 1 → is_legal plan order ≡ true → order ≡ only_order plan
+
+-- The text of a report tells its order.
+abbrev pub ReportsTellTheirOrder : Type 0
+ReportsTellTheirOrder =
+    (p q : Plan) (a b : List ℕ) (x y : Final) → IsPlan p → IsPlan q → is_legal p a ≡ true → is_legal q b ≡ true
+    → report p a x ≡ report q b y → a ≡ b

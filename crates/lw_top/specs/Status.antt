@@ -2,7 +2,7 @@
 use Rattle.std.specs.Prelude.{◌≡◌, ℕ, ◌⊎◌, List, [], ◌∷◌, ◌++◌, codes, Option}
 use Rattle.lw_io.specs.Streams.{Rose, bytes_after, WritesPrefix}
 use Rattle.lw_calls.specs.declared.reason.Reason.{Reason}
-use Rattle.lw_calls.specs.declared.reason.Reason.TheVariants.{LineTooLong, BadByte, Spacing, Quote, UnknownWord, Misplaced, OneTaskOnly, Form, Range, NoName, DoubleName, Group, TooMany, NoHook, HookUsed, Padding, Missing}
+use Rattle.lw_calls.specs.declared.reason.Reason.TheVariants.{LineTooLong, BadByte, Spacing, Quote, UnknownWord, Misplaced, Form, Range, NoName, DoubleName, Group, TooMany, NoHook, HookUsed, Padding, Missing}
 use Rattle.lw_calls.specs.Written.{line_of, spaced}
 use Rattle.lw_top.specs.declared.status.Status.{Status}
 use Rattle.lw_top.specs.declared.status.Status.TheVariants.{Done, Refused, Usage, ReadFault, WriteFault, NoMemory, TooLong, BadOrder}
@@ -26,7 +26,6 @@ reason_text Spacing = codes "spacing"
 reason_text Quote = codes "quote"
 reason_text UnknownWord = codes "unknown-word"
 reason_text Misplaced = codes "misplaced"
-reason_text OneTaskOnly = codes "one-task-only"
 reason_text Form = codes "form"
 reason_text Range = codes "range"
 reason_text NoName = codes "no-name"

@@ -5,28 +5,35 @@ ghost use Rattle.lw_top.specs.Outcome.{Answered};
 ghost use Rattle.lw_top.specs.Status.{Says, text_of};
 
 use crate::say::say;
-use crate::serving::serve;
+use crate::serving::{check, replay_cmd, run};
 use crate::status::Status;
-use crate::words::command_of;
+use crate::words::{Command, command_of};
 use lw_backfill::Backfill;
 use lw_io::{Sink, Source};
+use lw_locks::Gate;
 use std::alloc::Global;
+use std::sync::Wait;
+use std::thread::Threads;
 
 const USAGE: &str = "usage: layers run|check|replay|audit|demo NUMBER TASKS\n";
 
 /// The program: does what the words say, without the program's own name, with the source as its input and the sink as
 /// its output, and answers how it went. A script may name the hooks by their places from 0 on; they fill with the tiles
-/// that they have as the call starts.
-pub fn layers<S: Source, K: Sink>(
+/// that they have as the call starts. `run` makes each task's calls on a thread, tells the gate of each, and may wait, so the call
+/// promises no return; `check` and `replay_cmd`, which it calls for the other words, return.
+pub fn layers<R: Threads + Wait + Sync, S: Source, K: Sink, G: Gate + Sync>(
+    rt: &R,
     alloc: Global,
     words: &[String],
     source: &mut S,
     sink: &mut K,
     hooks: Vec<Box<dyn Backfill + Send>>,
+    gate: &G,
 ) -> Status
     requires few { vec_len hooks < 4294967296 }
-    // The words' command has one outcome on what was taken from the source, with these hooks. It is the answer, and its text
-    // is written whole, unless reading failed, memory ran out, or the sink failed after a front of the text.
+    // The words' command has an outcome on what was taken from the source, with these hooks. For `run` of a script that is the report
+    // of the machine's run in the legal order that the report prints; a malformed script is refused at its first bad line. The outcome
+    // is the answer, and its text is written whole, unless reading failed, memory ran out, or the sink failed after a front of the text.
     ensures answered { IfSome (command_of (map string_bytes words.now)) (λ command.
         Answered (map (λ b. hook b) hooks.items) command result (S.left source.old) (S.left source.new)
         (S.faults source.old) (S.faults source.new) (K.written sink.old) (K.written sink.new)
@@ -41,7 +48,9 @@ pub fn layers<S: Source, K: Sink>(
     ensures sink_count { K.faults sink.old ≤ K.faults sink.new }
 {
     match command_of(words) {
-        Some(command) => serve(alloc, command, source, sink, hooks),
+        Some(Command::Run) => run(rt, alloc, source, sink, hooks, gate),
+        Some(Command::Check) => check(alloc, source, sink, hooks.len() as u32),
+        Some(Command::Replay) => replay_cmd(alloc, source, sink, hooks),
         None => say(sink, USAGE.as_bytes(), Status::Usage),
     }
 }

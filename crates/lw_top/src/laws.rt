@@ -1,14 +1,24 @@
 //! Laws of a run and of its answers: each function does nothing, and its contract is the law.
 
 ghost use Rattle.lw_top.specs.Laws.{AnswersTell, OutcomesAreDecided};
-ghost use Rattle.lw_top.specs.Run.{CallsStandOnce};
+ghost use Rattle.lw_top.specs.Run.{CallsStandOnce, OneTaskHasOneOrder, ReportsTellTheirOrder};
 
-/// In the order that the report of a script alone prints, each call of its task stands once, and in its order.
+/// In a legal order, and so in the one that a report prints, each task's calls stand once, and in their order, and nothing else does.
 pub fn calls_stand_once_and_in_order()
     ensures { CallsStandOnce }
 {}
 
-/// A command has an outcome on each input, and one only.
+/// Two reports of the same text, each of a plan in a legal order, are of one order: so a report tells which order it is of.
+pub fn reports_tell_their_order()
+    ensures { ReportsTellTheirOrder }
+{}
+
+/// A plan of one task has one legal order, so `run` has one report for it.
+pub fn one_task_has_one_order()
+    ensures { OneTaskHasOneOrder }
+{}
+
+/// A command has an outcome on each input, and one only, but that `run` reports one of a script's legal orders.
 pub fn outcomes_are_decided()
     ensures { OutcomesAreDecided }
 {}

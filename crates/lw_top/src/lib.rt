@@ -11,8 +11,6 @@ mod status;
 #[cfg(test)]
 mod tests;
 #[cfg(test)]
-mod tests_blits;
-#[cfg(test)]
 mod tests_commands;
 #[cfg(test)]
 mod tests_drawing;
@@ -23,13 +21,20 @@ mod tests_layers;
 #[cfg(test)]
 mod tests_refusals;
 #[cfg(test)]
+mod tests_spots;
+#[cfg(test)]
+mod tests_threads;
+#[cfg(test)]
 mod tests_updates;
 #[cfg(test)]
 mod tests_windows;
 mod words;
 
 pub use command::layers;
-pub use laws::{answers_tell, calls_stand_once_and_in_order, outcomes_are_decided};
-pub use serving::{check, replay_cmd, serve};
+pub use laws::{
+    answers_tell, calls_stand_once_and_in_order, one_task_has_one_order, outcomes_are_decided,
+    reports_tell_their_order,
+};
+pub use serving::{check, replay_cmd};
 pub use status::Status;
 pub use words::Command;

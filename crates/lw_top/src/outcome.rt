@@ -1,19 +1,20 @@
 ghost use Rattle.std.specs.Prelude.{◌≡◌, ℕ, ◌<◌, ◌≤◌, List, length, map, vec_len, IfOk};
 ghost use Rattle.lw_machine.specs.Hook.{Hook};
-ghost use Rattle.lw_grammar.specs.Script.{IsRunnableInput};
-ghost use Rattle.lw_script.specs.Answers.{input_meaning, reading_with};
-ghost use Rattle.lw_top.specs.Commands.{reads_with};
+ghost use Rattle.lw_script.specs.Answers.{input_meaning};
 ghost use Rattle.lw_top.specs.Outcome.{IsOutcome, IsOutcomeFor};
 ghost use Rattle.lw_top.specs.Status.{input_limit, reason_text, text_of};
 
-use crate::report::{report_of, report_of_one};
+use crate::report::{report_of, report_of_tasks};
 use crate::status::Status;
 use crate::words::Command;
 use lw_backfill::Backfill;
 use lw_calls::{Form, Reason, bad_place};
+use lw_locks::Gate;
 use lw_print::print;
 use lw_script::{Input, ScriptStop, read};
 use std::alloc::{AllocError, Global};
+use std::sync::Wait;
+use std::thread::Threads;
 
 /// The answer that is due, and its text.
 #[derive(Debug, Drop)]
@@ -22,20 +23,39 @@ pub struct Outcome {
     pub text: Vec<u8>,
 }
 
-/// The outcome of a command that is handed these hooks, on an input of no more bytes than the limit.
-pub fn outcome_of<B: Backfill + Send>(
+/// The outcome of `run` with these hooks, on an input of no more bytes than the limit. It may wait, and so promises no return.
+pub fn run_outcome<B: Backfill + Send, R: Threads + Wait + Sync, G: Gate + Sync>(
+    rt: &R,
     alloc: Global,
-    command: Command,
+    input: &[u8],
+    hooks: Vec<B>,
+    gate: &G,
+) -> Result<Outcome, AllocError>
+    requires short { length input.now ≤ input_limit }
+    requires few { vec_len hooks < 4294967296 }
+    ensures { IfOk result (λ outcome.
+        IsOutcome (map B.hook hooks.items) Command.Run input.now outcome.status outcome.text.items) }
+{
+    match read(alloc, input, hooks.len() as u32, Form::Plain) {
+        Ok(script) => Ok(done(report_of_tasks(rt, alloc, &script.plan, hooks, gate)?)),
+        Err(ScriptStop::Refused { line, reason }) => refusal(alloc, line, reason),
+        Err(ScriptStop::Memory) => Err(AllocError),
+    }
+}
+
+/// The outcome of `replay` with these hooks, on an input of no more bytes than the limit.
+pub fn replay_outcome<B: Backfill + Send>(
+    alloc: Global,
     input: &[u8],
     hooks: Vec<B>,
 ) -> Result<Outcome, AllocError>
     requires short { length input.now ≤ input_limit }
     requires few { vec_len hooks < 4294967296 }
     ensures { IfOk result (λ outcome.
-        IsOutcome (map B.hook hooks.items) command input.now outcome.status outcome.text.items) }
+        IsOutcome (map B.hook hooks.items) Command.Replay input.now outcome.status outcome.text.items) }
 {
-    match read(alloc, input, hooks.len() as u32, form_of(command)) {
-        Ok(script) => outcome_for(alloc, command, &script, hooks),
+    match read(alloc, input, hooks.len() as u32, Form::Ordered) {
+        Ok(script) => outcome_in_order(alloc, &script, hooks),
         Err(ScriptStop::Refused { line, reason }) => refusal(alloc, line, reason),
         Err(ScriptStop::Memory) => Err(AllocError),
     }
@@ -51,35 +71,6 @@ pub fn check_outcome(alloc: Global, input: &[u8], hooks: u32) -> Result<Outcome,
         Ok(script) => Ok(done(print(alloc, &script.plan)?)),
         Err(ScriptStop::Refused { line, reason }) => refusal(alloc, line, reason),
         Err(ScriptStop::Memory) => Err(AllocError),
-    }
-}
-
-/// What a command's input is beside the script.
-fn form_of(command: Command) -> Form
-    ensures { (count : ℕ) → reading_with count result ≡ reads_with count command }
-{
-    match command {
-        Command::Run | Command::Check => Form::Plain,
-        Command::Replay => Form::Ordered,
-    }
-}
-
-/// The outcome of a command on a script, with these hooks.
-fn outcome_for<B: Backfill + Send>(
-    alloc: Global,
-    command: Command,
-    script: &Input,
-    hooks: Vec<B>,
-) -> Result<Outcome, AllocError>
-    requires runnable { IsRunnableInput (reads_with (length (map B.hook hooks.items)) command) (input_meaning script.now) }
-    requires few { length script.now.order < 4294967296 }
-    ensures { IfOk result (λ outcome. IsOutcomeFor (map B.hook hooks.items) command (input_meaning script.now)
-        outcome.status outcome.text.items) }
-{
-    match command {
-        Command::Run => Ok(done(report_of_one(alloc, &script.plan, hooks)?)),
-        Command::Check => Ok(done(print(alloc, &script.plan)?)),
-        Command::Replay => outcome_in_order(alloc, script, hooks),
     }
 }
 
@@ -148,7 +139,6 @@ fn reason_word(reason: Reason) -> &'static str
         Reason::Quote => "quote",
         Reason::UnknownWord => "unknown-word",
         Reason::Misplaced => "misplaced",
-        Reason::OneTaskOnly => "one-task-only",
         Reason::Form => "form",
         Reason::Range => "range",
         Reason::NoName => "no-name",

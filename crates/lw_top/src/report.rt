@@ -1,28 +1,29 @@
-ghost use Rattle.std.specs.Prelude.{◌≡◌, map, true, IfOk};
-ghost use Rattle.lw_calls.specs.Entries.{only_order};
+ghost use Rattle.std.specs.Prelude.{◌≡◌, ℕ, List, map, true, IfOk};
 ghost use Rattle.lw_calls.specs.Orders.{is_legal};
 ghost use Rattle.lw_machine.specs.Report.{run_report};
 
 use lw_backfill::Backfill;
 use lw_calls::{OrderList, Plan};
+use lw_locks::Gate;
 use lw_report::write;
-use lw_tasks::{only_order_is_legal, replay};
+use lw_tasks::{replay, run_tasks};
 use std::alloc::{AllocError, Global};
+use std::sync::Wait;
+use std::thread::Threads;
 
-/// The report of the machine's run of a plan of one task, in its only order and with these hooks.
-pub fn report_of_one<B: Backfill + Send>(
+/// The report of the machine's run of a plan with these hooks, in the order in which its tasks, each on a thread, made its calls.
+pub fn report_of_tasks<B: Backfill + Send, R: Threads + Wait + Sync, G: Gate + Sync>(
+    rt: &R,
     alloc: Global,
     plan: &Plan,
     hooks: Vec<B>,
+    gate: &G,
 ) -> Result<Vec<u8>, AllocError>
-    requires one_task { plan.now.sizes.tasks ≡ 1 }
-    ensures { IfOk result (λ text. text.items ≡ run_report plan.now (map B.hook hooks.items) (only_order plan.now)) }
+    ensures { IfOk result (λ text. (order : List ℕ) × (is_legal plan.now order ≡ true)
+        × (text.items ≡ run_report plan.now (map B.hook hooks.items) order)) }
 {
-    // What these two calls ensure tells the proof that the order is legal.
-    let _sizes = plan.sizes();
-    only_order_is_legal();
-    let numbers = vec![in alloc; 0u32; plan.calls(0).len()]?;
-    report_of(alloc, plan, hooks, &OrderList::new(numbers))
+    let run = run_tasks(rt, alloc, plan, hooks, gate)?;
+    write(alloc, plan, &run.last, &run.order)
 }
 
 /// The report of the machine's run of a plan in a legal order, with these hooks.

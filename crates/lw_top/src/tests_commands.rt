@@ -1,8 +1,7 @@
 use crate::tests::{
     FIRST_FILL, FIRST_FILL_AT_LENGTH, FIRST_FILL_REPORT, answer_to, sink_of, source_of,
 };
-use crate::{Command, Status, check, replay_cmd, serve};
-use lw_backfill::Solid;
+use crate::{Status, check, replay_cmd};
 use std::test::Fail;
 
 // Two tasks, each of which creates a layer and fills it.
@@ -113,14 +112,14 @@ static LEGAL: [(&[u8], &[u8], &str, &[u8]); 4] = [
 fn replay_runs_several_tasks_in_a_legal_order(rt: HostRuntime) -> Result<(), Fail> {
     let alloc = rt.alloc();
     for (script, order, numbers, rest) in LEGAL.iter() {
-        let (status, text) = answer_to(alloc, "replay", script, order)?;
+        let (status, text) = answer_to(&rt, "replay", script, order)?;
         let mut report = format!(in alloc; "order 4\n{numbers}\n")?.into_bytes();
         report.extend_from_slice(rest)?;
         assert_eq!(rt; status, Status::Done);
         assert_eq!(rt; text.as_slice(), report.as_slice());
     }
     // One task's only order.
-    let (status, text) = answer_to(alloc, "replay", FIRST_FILL, b"order\n0 0\n")?;
+    let (status, text) = answer_to(&rt, "replay", FIRST_FILL, b"order\n0 0\n")?;
     assert_eq!(rt; status, Status::Done);
     assert_eq!(rt; text.as_slice(), FIRST_FILL_REPORT);
     Ok(())
@@ -157,14 +156,14 @@ static REFUSED: [(&str, &[u8], &[u8], &str); 11] = [
         b"order\n0\n",
         "refused line 6 misplaced\n",
     ),
-    ("check", TWO_TASKS, b"0\n", "refused line 6 one-task-only\n"),
+    ("check", TWO_TASKS, b"0\n", "refused line 10 misplaced\n"),
     ("replay", FIRST_FILL, b"", "refused line 6 missing\n"),
 ];
 
 #[test]
 fn commands_refuse_orders_and_inputs(rt: HostRuntime) -> Result<(), Fail> {
     for (command, script, after, line) in REFUSED.iter() {
-        let (status, text) = answer_to(rt.alloc(), command, script, after)?;
+        let (status, text) = answer_to(&rt, command, script, after)?;
         let number = if line.starts_with("bad order") { 8 } else { 1 };
         assert_eq!(rt; status.number(), number);
         assert_eq!(rt; text.as_slice(), line.as_bytes());
@@ -174,10 +173,10 @@ fn commands_refuse_orders_and_inputs(rt: HostRuntime) -> Result<(), Fail> {
 
 #[test]
 fn check_writes_the_canonical_text(rt: HostRuntime) -> Result<(), Fail> {
-    let (status, text) = answer_to(rt.alloc(), "check", FIRST_FILL, b"# note\n\n")?;
+    let (status, text) = answer_to(&rt, "check", FIRST_FILL, b"# note\n\n")?;
     assert_eq!(rt; status, Status::Done);
     assert_eq!(rt; text.as_slice(), FIRST_FILL);
-    let (status, text) = answer_to(rt.alloc(), "check", FIRST_FILL_AT_LENGTH, b"")?;
+    let (status, text) = answer_to(&rt, "check", FIRST_FILL_AT_LENGTH, b"")?;
     assert_eq!(rt; status, Status::Done);
     assert_eq!(rt; text.as_slice(), FIRST_FILL_AS_PRINTED);
     Ok(())
@@ -186,17 +185,6 @@ fn check_writes_the_canonical_text(rt: HostRuntime) -> Result<(), Fail> {
 #[test]
 fn commands_are_calls_of_their_own(rt: HostRuntime) -> Result<(), Fail> {
     let alloc = rt.alloc();
-    let mut source = source_of(alloc, FIRST_FILL, 50, &[])?;
-    let mut sink = sink_of(alloc, 4096, 4096, &[])?;
-    let status = serve(
-        alloc,
-        Command::Run,
-        &mut source,
-        &mut sink,
-        Vec::<Solid>::new(alloc),
-    );
-    assert_eq!(rt; status, Status::Done);
-    assert_eq!(rt; sink.bytes(), FIRST_FILL_REPORT);
     let mut source = source_of(alloc, FIRST_FILL, 50, &[1])?;
     let mut full = sink_of(alloc, 10, 4, &[])?;
     let status = check(alloc, &mut source, &mut full, 0);

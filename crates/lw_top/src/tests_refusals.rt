@@ -1,12 +1,14 @@
 use crate::Status;
 use crate::tests::{FIRST_FILL, FIRST_FILL_REPORT, answer_to};
 use std::alloc::{AllocError, Global};
+use std::sync::Wait;
 use std::test::Fail;
+use std::thread::Threads;
 
 // Scripts for the reasons that no stated refusal has and no count. No hook is handed in here, so none can be used twice.
 static REASONS: [(&str, &str); 4] = [
     ("\r\nscreen 16 4 1\n", "1 bad-byte"),
-    ("screen 16 4 1\ntask a\nend\ntask 9a\n", "4 one-task-only"),
+    ("screen 16 4 1\ntask a\nend\ntask 9a\n", "4 form"),
     (
         "screen 16 4 1\nbitmap b 16 1 1\n0000\nbitmap b 1 1 1\n",
         "4 double-name",
@@ -72,13 +74,13 @@ static COUNTED: [(Pieces, u32, &str, &str); 10] = [
 ];
 
 // What `run` answers to a script, where that isn't a refusal of this line for this reason with its text.
-fn other_answer(
-    alloc: Global,
+fn other_answer<R: Threads + Wait + AllocGlobal + Sync>(
+    rt: &R,
     script: &[u8],
     refused: &str,
 ) -> Result<Option<(Status, Vec<u8>)>, AllocError> {
-    let (status, text) = answer_to(alloc, "run", script, b"")?;
-    let due = format!(in alloc; "refused line {refused}\n")?;
+    let (status, text) = answer_to(rt, "run", script, b"")?;
+    let due = format!(in rt.alloc(); "refused line {refused}\n")?;
     if status.number() == 1 && text.as_slice() == due.as_bytes() {
         return Ok(None);
     }
@@ -86,12 +88,12 @@ fn other_answer(
 }
 
 // The first of the scripts that is answered otherwise, with the answer.
-fn first_other(
-    alloc: Global,
+fn first_other<R: Threads + Wait + AllocGlobal + Sync>(
+    rt: &R,
     table: &'static [(&'static str, &'static str)],
 ) -> Result<Option<(&'static str, Status)>, AllocError> {
     for (script, refused) in table {
-        if let Some((status, _)) = other_answer(alloc, script.as_bytes(), refused)? {
+        if let Some((status, _)) = other_answer(rt, script.as_bytes(), refused)? {
             return Ok(Some((*script, status)));
         }
     }
@@ -100,13 +102,13 @@ fn first_other(
 
 #[test]
 fn each_reason_refuses_a_script(rt: HostRuntime) -> Result<(), Fail> {
-    assert_eq!(rt; first_other(rt.alloc(), &REASONS)?, None);
+    assert_eq!(rt; first_other(&rt, &REASONS)?, None);
     Ok(())
 }
 
 #[test]
 fn the_stated_refusals_hold(rt: HostRuntime) -> Result<(), Fail> {
-    assert_eq!(rt; first_other(rt.alloc(), &STATED)?, None);
+    assert_eq!(rt; first_other(&rt, &STATED)?, None);
     Ok(())
 }
 
@@ -136,25 +138,27 @@ fn bytes_names_bitmaps_and_calls_are_counted(rt: HostRuntime) -> Result<(), Fail
     let alloc = rt.alloc();
     for (pieces, count, after, refused) in COUNTED.iter() {
         let script = script_of(alloc, *pieces, *count, after)?;
-        let other = other_answer(alloc, script.as_bytes(), refused)?;
+        let other = other_answer(&rt, script.as_bytes(), refused)?;
         assert!(rt; other.is_none(), "{refused}");
     }
     Ok(())
 }
 
 // What `run` answers to the first script with so many line feeds after it.
-fn answer_with_feeds(alloc: Global, feeds: usize) -> Result<(Status, Vec<u8>), AllocError> {
-    let after = vec![in alloc; b'\n'; feeds]?;
-    answer_to(alloc, "run", FIRST_FILL, after.as_slice())
+fn answer_with_feeds<R: Threads + Wait + AllocGlobal + Sync>(
+    rt: &R,
+    feeds: usize,
+) -> Result<(Status, Vec<u8>), AllocError> {
+    let after = vec![in rt.alloc(); b'\n'; feeds]?;
+    answer_to(rt, "run", FIRST_FILL, after.as_slice())
 }
 
 #[test]
 fn an_input_has_4194304_bytes_at_most(rt: HostRuntime) -> Result<(), Fail> {
-    let alloc = rt.alloc();
-    let (status, text) = answer_with_feeds(alloc, 4_194_236)?;
+    let (status, text) = answer_with_feeds(&rt, 4_194_236)?;
     assert_eq!(rt; status, Status::TooLong);
     assert_eq!(rt; text.as_slice(), b"too long\n".as_slice());
-    let (status, text) = answer_with_feeds(alloc, 4_194_235)?;
+    let (status, text) = answer_with_feeds(&rt, 4_194_235)?;
     assert_eq!(rt; status, Status::Done);
     assert_eq!(rt; text.as_slice(), FIRST_FILL_REPORT);
     Ok(())

@@ -3,232 +3,7 @@ use crate::tests::answer_with_six;
 use std::test::Fail;
 
 // Commands, scripts with windows, and their reports.
-static WINDOWED: [(&str, &[u8], &[u8]); 13] = [
-    // A simple window gains a pixel that was covered: it is damaged, and the window is asked to refresh.
-    (
-        "run",
-        b"screen 16 4 1
-task a
-open b simple front 0 0 4 4 borderless ask r \"\"
-create f smart front 3 3 6 3
-front b
-end
-",
-        b"order 3
-0 0 0
-planes 16 4 1
-plane 0
-0000
-0000
-0000
-0000
-visible b 1
-0 0 3 3
-visible f 1
-4 3 6 3
-damage b 1
-3 3 3 3
-damage f 0
-messages b 1
-refresh
-replies a 3
-ok
-ok
-ok
-done
-",
-    ),
-    // Covered again the pixel has no damage, and the message is still there.
-    (
-        "run",
-        b"screen 16 4 1
-task a
-open b simple front 0 0 4 4 borderless ask r \"\"
-create f smart front 3 3 6 3
-front b
-front f
-end
-",
-        b"order 4
-0 0 0 0
-planes 16 4 1
-plane 0
-0000
-0000
-0000
-0000
-visible b 2
-0 0 3 2
-0 3 2 3
-visible f 1
-3 3 6 3
-damage b 0
-damage f 0
-messages b 1
-refresh
-replies a 4
-ok
-ok
-ok
-ok
-done
-",
-    ),
-    // Gained once more it is damaged, but the window was asked and hasn't refreshed: no second message.
-    (
-        "run",
-        b"screen 16 4 1
-task a
-open b simple front 0 0 4 4 borderless ask r \"\"
-create f smart front 3 3 6 3
-front b
-front f
-front b
-end
-",
-        b"order 5
-0 0 0 0 0
-planes 16 4 1
-plane 0
-0000
-0000
-0000
-0000
-visible b 1
-0 0 3 3
-visible f 1
-4 3 6 3
-damage b 1
-3 3 3 3
-damage f 0
-messages b 1
-refresh
-replies a 5
-ok
-ok
-ok
-ok
-ok
-done
-",
-    ),
-    // The frame of an active window has pen 1, and its title pen 0: the one column between the borders, in rows 2 to 9. Its inner
-    // rectangle is the pixel at column 4 and row 11.
-    (
-        "run",
-        b"screen 16 16 1
-glyph 42 ffffffffffffffff
-task a
-open w smart front 0 0 9 14 ask a \"B\"
-activate w
-end
-",
-        b"order 2
-0 0
-planes 16 16 1
-plane 0
-ff80
-ff80
-f780
-f780
-f780
-f780
-f780
-f780
-f780
-f780
-ff80
-f780
-ff80
-ff80
-0000
-0000
-visible w 1
-0 0 8 13
-damage w 0
-messages w 1
-active
-replies a 2
-ok
-ok
-done
-",
-    ),
-    // A window that isn't active has a frame of pen 2, of which one plane shows nothing. Sized it has one more pixel in its inner
-    // rectangle, where the frame was: it is damaged. Nine columns less leave no room for the frame.
-    (
-        "run",
-        b"screen 16 16 1
-task a
-open w smart front 0 0 9 14 \"\"
-size w 1 0
-size w -9 0
-end
-",
-        b"order 3
-0 0 0
-planes 16 16 1
-plane 0
-0000
-0000
-0000
-0000
-0000
-0000
-0000
-0000
-0000
-0000
-0000
-0000
-0000
-0000
-0000
-0000
-visible w 1
-0 0 9 13
-damage w 1
-5 11 5 11
-messages w 0
-replies a 3
-ok
-ok
-out-of-bounds
-done
-",
-    ),
-    // Another size and place are told in this order, and then the damage of the column that is new. The move changes nothing, so
-    // nothing is told. The oldest message is taken.
-    (
-        "run",
-        b"screen 16 1 1
-task a
-open w smart front 0 0 4 1 borderless ask rnc \"\"
-box w 2 0 5 1
-move w 0 0
-getmsg w
-end
-",
-        b"order 4
-0 0 0 0
-planes 16 1 1
-plane 0
-0000
-visible w 1
-2 0 6 0
-damage w 1
-4 0 4 0
-messages w 2
-change
-refresh
-replies a 4
-ok
-ok
-ok
-message newsize
-done
-",
-    ),
+static WINDOWED: [(&str, &[u8], &[u8]); 7] = [
     // The hook fills all with pen 1, and the frame of pen 2 is painted over it. Sized, the hook fills the new column and the pixel of
     // the old frame that lies in the inner rectangle now, which is damaged; then the whole frame is painted.
     (
@@ -548,7 +323,7 @@ done
 #[test]
 fn windows_are_reported(rt: HostRuntime) -> Result<(), Fail> {
     for (command, script, report) in WINDOWED.iter() {
-        let (status, text) = answer_with_six(rt.alloc(), command, script, b"")?;
+        let (status, text) = answer_with_six(&rt, command, script, b"")?;
         assert_eq!(rt; text.as_slice(), *report);
         assert_eq!(rt; status, Status::Done);
     }
@@ -556,7 +331,7 @@ fn windows_are_reported(rt: HostRuntime) -> Result<(), Fail> {
 }
 
 // Three tasks with windows, which draw in them, scroll, blit and arrange them.
-const REALISTIC: &[u8] = b"screen 640 256 2
+pub const REALISTIC: &[u8] = b"screen 640 256 2
 glyph 41 183c66667e666600
 glyph 42 7c66667c66667c00
 bitmap dot 8 2 1
@@ -600,7 +375,6 @@ infront can pal
 release
 which 320 120
 end
-order
 ";
 
 // One task after another: clk has no damage as its task ends, so no message; ed is told first that it became active; and the pixel
@@ -641,8 +415,8 @@ done
 
 #[test]
 fn windows_of_three_tasks_are_reported(rt: HostRuntime) -> Result<(), Fail> {
-    let order = b"0 0 0 0 0 0 0 0 1 1 1 1 1 1 1 1 1 2 2 2 2 2 2 2 2 2 2 2\n";
-    let (status, text) = answer_with_six(rt.alloc(), "replay", REALISTIC, order)?;
+    let order = b"order\n0 0 0 0 0 0 0 0 1 1 1 1 1 1 1 1 1 2 2 2 2 2 2 2 2 2 2 2\n";
+    let (status, text) = answer_with_six(&rt, "replay", REALISTIC, order)?;
     assert_eq!(rt; status, Status::Done);
     assert!(rt; text.as_slice().ends_with(REALISTIC_REPLIES));
     Ok(())

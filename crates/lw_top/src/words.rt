@@ -7,7 +7,7 @@ use lw_words::is_text;
 /// What the program is told to do.
 #[derive(Clone, Copy, Debug, PartialEq, Eq)]
 pub enum Command {
-    /// Run a script of one task.
+    /// Run a script, each task on a thread.
     Run,
     /// Write a script's canonical text.
     Check,
