@@ -2,7 +2,6 @@
 use Rattle.std.proofs.Common.{◌≡◌, ◌⊎◌, ℕ, ◌+◌, ◌<◌, ◌≤◌, ◌==◌, Bool, true, false, ◌&&◌, ◌||◌, List, [], ◌∷◌, ◌++◌, length, map, refl, ap, sym, subst, ◌∙◌, ⊎_elim, arith, append-nil, append_assoc, length-append, eq-eqb}
 use Rattle.std.specs.Prelude.{All, Contains, IsTrue}
 use Rattle.std.specs.List.{slice_index_or}
-use Rattle.std.proofs.lemmas.Bool.{false≢true}
 use Rattle.std.proofs.lemmas.List.{map-append}
 use Rattle.std.proofs.lemmas.List.Elements.{All-weaker, All-contains, All-take, All-drop}
 use Rattle.std.proofs.lemmas.List.Folds.{list_any_none}
@@ -19,14 +18,13 @@ use Rattle.lw_calls.specs.declared.touch.Role.TheVariants.{Task, Slot, Info}
 use Rattle.lw_calls.specs.Entries.{count_of}
 use Rattle.lw_calls.specs.Limits.{call_fits}
 use Rattle.lw_calls.specs.Orders.{meets, is_open, has_some}
-use Rattle.lw_calls.specs.Touches.{CallClass, OnRegisters, OnInfo, OnLayer, OnLayers, OnAll, class_of, slots_in, slots_of, is_on_info, has_slot, touch_of, touches_role}
+use Rattle.lw_calls.specs.Touches.{class_of, slots_of, is_on_info, touch_of, touches_role}
 use Rattle.lw_machine.specs.Desk.{Desk}
 use Rattle.lw_machine.specs.History.{machine, replies_of}
 use Rattle.lw_order.specs.Numbered.{CallsFit}
 use Rattle.lw_order.specs.Promised.{Follows}
 use Rattle.lw_order.specs.Roles.{LeavesAlone, Quiet}
 use Rattle.lw_order.proofs.RoleLaws.{all_roles_has_slot}
-use Rattle.lw_steps.proofs.ClassLaws.{slot_fits, pair_fits}
 use Rattle.lw_locks.specs.declared.answer.Answer.{Answer}
 use Rattle.lw_locks.specs.Promised.{Done, Ran, GroupDone, held_roles}
 use Rattle.lw_locks.proofs.Groups.{no_slot}

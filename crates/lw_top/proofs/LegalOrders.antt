@@ -1,16 +1,15 @@
 -- In a legal order each task's calls stand once, and in their order; and a plan of one task has one legal order.
-use Rattle.std.proofs.Common.{◌≡◌, ℕ, zero, suc, ◌+◌, ◌<◌, ◌≤◌, ◌==◌, Bool, true, false, cond, ◌&&◌, not, if◌then◌else◌, List, [], ◌∷◌, ◌++◌, length, map, take, drop, replicate, Option, Some, None, slice_index_or, refl, sym, ap, subst, inl, inr, ◌∙◌, arith}
-use Rattle.std.specs.List.{slice_get, list_all, range_with_len}
-use Rattle.std.proofs.lemmas.Bool.{true≢false, false≢true, eqb-true, eqb-false, eq-eqb, ne_eqb, and_parts, cases_lt}
+use Rattle.std.proofs.Common.{◌≡◌, ℕ, zero, suc, ◌+◌, ◌<◌, ◌≤◌, ◌==◌, Bool, true, false, cond, if◌then◌else◌, List, [], ◌∷◌, ◌++◌, length, map, take, drop, replicate, Option, Some, None, slice_index_or, refl, sym, ap, subst, inl, inr, ◌∙◌, arith}
+use Rattle.std.specs.List.{slice_get}
+use Rattle.std.proofs.lemmas.Bool.{false≢true, eqb-true, eqb-false, and_parts, cases_lt}
 use Rattle.std.proofs.lemmas.List.{take_all}
-use Rattle.std.proofs.lemmas.Option.{slice_get_within}
 use Rattle.lw_calls.specs.declared.call.Call.{Call}
 use Rattle.lw_calls.specs.declared.entry.Entry.{Entry}
 use Rattle.lw_calls.specs.Plan.{Plan, IsPlan, task_calls}
-use Rattle.lw_calls.specs.Entries.{count_of, next_entry, entries, only_order}
+use Rattle.lw_calls.specs.Entries.{count_of, next_entry, entries}
 use Rattle.lw_calls.specs.Orders.{occurrences, may_come, keeps_groups, is_complete, is_legal}
 use Rattle.lw_calls.proofs.OrdersComplete.{occurs_again, occurs_as_before, all_below}
-use Rattle.lw_top.specs.Run.{steps_of, numbered, StandForCalls, CallsStandOnce, OneTaskHasOneOrder}
+use Rattle.lw_top.specs.Run.{steps_of, numbered, CallsStandOnce, OneTaskHasOneOrder}
 
 -- a list's entry, and what stands from it on
 drop_at : (cs : List Call) (n : ℕ) (c : Call) → slice_get cs n ≡ Some c → drop n cs ≡ c ∷ drop (n + 1) cs

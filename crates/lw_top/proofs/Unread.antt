@@ -1,5 +1,5 @@
 -- What a command promises where its input was not read to its end.
-use Rattle.std.proofs.Common.{◌≡◌, ◌⊎◌, ℕ, ◌+◌, ◌<◌, ◌≤◌, List, length, Option, inl, inr, refl, sym, ap, subst, ◌∙◌, arith}
+use Rattle.std.proofs.Common.{◌≡◌, ℕ, ◌+◌, ◌<◌, ◌≤◌, List, length, Option, inl, inr, refl, arith}
 use Rattle.lw_io.specs.declared.reading.ReadStop.{ReadStop}
 use Rattle.lw_io.specs.declared.reading.ReadStop.TheVariants.{Fault, TooLong as StopLong, Memory}
 use Rattle.lw_io.specs.Streams.{Rose, TakesJust, TakesAtMost}
