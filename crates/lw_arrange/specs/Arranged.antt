@@ -1,4 +1,4 @@
--- What planning an arrangement asks for and gives (this project's own).
+-- What planning an arrangement asks for and gives.
 use Rattle.std.specs.Prelude.{◌≡◌, ℕ, ◌<◌, Bool, false, if◌then◌else◌, List, pos, Option, Some, None}
 use Rattle.std.specs.List.{slice_index_or}
 use Rattle.lw_region.specs.Rectangle.{Rectangle}

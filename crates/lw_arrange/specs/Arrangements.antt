@@ -1,4 +1,4 @@
--- Planned arrangements as contracts see them (this project's own).
+-- Planned arrangements as contracts see them.
 use Rattle.std.specs.Prelude.{ℕ, List}
 use Rattle.lw_region.specs.Rectangle.{Rectangle}
 use Rattle.lw_calls.specs.declared.call.Call.{Call}

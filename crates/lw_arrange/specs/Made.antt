@@ -1,4 +1,4 @@
--- What was prepared for a cell (this project's own).
+-- What was prepared for a cell.
 use Rattle.std.specs.Prelude.{◌≡◌}
 use Rattle.lw_layer.specs.View.{CellView, with_live}
 use Rattle.lw_layer.specs.View as view

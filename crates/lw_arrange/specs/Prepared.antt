@@ -1,4 +1,4 @@
--- What an arrangement makes of the cell of a slot, and what is prepared for it (this project's own).
+-- What an arrangement makes of the cell of a slot, and what is prepared for it.
 use Rattle.std.specs.Prelude.{◌≡◌, ℕ, ◌<◌, true, false, List, [], Option, Some, None}
 use Rattle.std.specs.List.{slice_index_or}
 use Rattle.lw_region.specs.Rectangle.{Rectangle}

@@ -1,4 +1,4 @@
--- What an arrangement makes of a slot: the machine's settled layer, with its frame and its messages (this project's own).
+-- What an arrangement makes of a slot: the machine's settled layer, with its frame and its messages.
 use Rattle.std.specs.Prelude.{ℕ, ◌-◌, Option, Some, None, List}
 use Rattle.lw_region.specs.Rectangle.{Rectangle}
 use Rattle.lw_region.specs.Bands.{covers}

@@ -1,4 +1,4 @@
--- What planning keeps (this project's own).
+-- What planning keeps.
 use Rattle.std.specs.Prelude.{◌≡◌}
 use Rattle.lw_calls.specs.declared.sizes.Sizes.{Sizes}
 use Rattle.lw_arrange.specs.declared.arrangement.Step.{Step}

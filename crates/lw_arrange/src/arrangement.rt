@@ -3,7 +3,7 @@ use lw_region::{Rect, Region};
 use lw_stack::InfoDraft;
 use std::marker::Model;
 
-/// What planning a call answers (this project's own).
+/// What planning a call answers.
 #[derive(Debug, Drop)]
 pub enum Step {
     /// The call is refused, with this reply.

@@ -16,7 +16,7 @@ pub(crate) struct Edges {
     pub max_y: i32,
 }
 
-/// What decides which bounds a layer may have, beside the screen (this project's own).
+/// What decides which bounds a layer may have, beside the screen.
 #[derive(Clone, Copy, Debug, PartialEq, Eq)]
 pub(crate) struct Needs {
     /// The layer is a window with a frame.

@@ -15,7 +15,7 @@ use lw_stack::{Info, visible_sets};
 use std::alloc::{AllocError, Global};
 
 /// What a task's call that arranges layers does, told from LayerInfo and the looks of all slots alone: its first refusal, or the
-/// plan of it. `fresh` says of a call that creates a layer whether its slot was never opened (this project's own). It fails only
+/// plan of it. `fresh` says of a call that creates a layer whether its slot was never opened. It fails only
 /// when out of memory.
 pub fn plan_step(
     alloc: Global,

@@ -6,7 +6,7 @@ use lw_stack::{Info, InfoDraft};
 use std::alloc::{AllocError, Global};
 use std::marker::Model;
 
-/// What LayerInfo has after an arrangement, made beforehand, so that taking it up needs no memory (this project's own).
+/// What LayerInfo has after an arrangement, made beforehand, so that taking it up needs no memory.
 #[derive(Debug, Drop)]
 pub struct PreparedInfo {
     sizes: Sizes,

@@ -21,7 +21,7 @@ use lw_region::{Rect, Region};
 use lw_reveal::{Change, apply};
 use std::alloc::{AllocError, Global};
 
-/// What is ready to be made of one cell (this project's own).
+/// What is ready to be made of one cell.
 #[derive(Debug, Drop)]
 pub enum Prepared {
     /// The cell stays as it is.

@@ -1,4 +1,4 @@
--- What a backfill hook has to be, and the three kinds of hooks (all this project's own).
+-- What a backfill hook has to be, and the three kinds of hooks.
 use Rattle.std.specs.Prelude.{◌≡◌, ℕ, ◌+◌, ◌/◌, ◌%◌, ◌==◌, ◌<◌, if◌then◌else◌, List, [], ◌∷◌, length, map, replicate}
 use Rattle.std.specs.List.{All, range_with_len}
 use Rattle.lw_machine.specs.Hook.{Hook}

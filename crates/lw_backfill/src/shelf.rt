@@ -8,7 +8,7 @@ use crate::Backfill;
 use std::alloc::{AllocError, Global};
 use std::marker::Model;
 
-/// The shelf of hooks that no call took, by their numbers (this project's own). Contracts see the hook of each number, or none
+/// The shelf of hooks that no call took, by their numbers. Contracts see the hook of each number, or none
 /// where it was taken.
 #[derive(Drop)]
 pub struct Shelf<B: Backfill> {

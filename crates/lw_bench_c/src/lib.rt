@@ -1,5 +1,5 @@
 //! The calls of the benchmarks, for a program in C. Each takes numbers alone, makes its operands, those of regions and rows by the
-//! generator that docs/BENCHMARKS.md states, and repeats one operation on them (this project's own).
+//! generator that docs/BENCHMARKS.md states, and repeats one operation on them.
 #![tactic(auto)]
 
 ghost use Rattle.std.specs.Prelude.{◌≡◌, ◌<◌, ◌≤ℤ◌, negsuc};

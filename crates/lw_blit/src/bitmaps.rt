@@ -23,7 +23,7 @@ use lw_planes::Planes;
 static NO_BITS: [u8; 256] = [0; 256];
 
 /// Combines the drawable pixels of a rectangle of a layer with the pixels of a bitmap that go there, by the minterm and through
-/// the mask (`BltBitMapRastPort`). In planes that the bitmap lacks its bits are 0 (this project's own). No memory is taken.
+/// the mask (`BltBitMapRastPort`). In planes that the bitmap lacks its bits are 0. No memory is taken.
 pub fn from_bitmap(bitmap: &Planes, cell: &mut Cell, area: &Area)
     requires live { cell.old.state ≡ view.Live }
     requires fits { IsTrue (area_fits area.now) }

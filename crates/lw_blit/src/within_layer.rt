@@ -23,7 +23,7 @@ const COPY: u8 = 0xc0;
 
 /// Combines the drawable pixels of a rectangle of a layer with the layer's own pixels that go there, by the minterm and through
 /// the mask (`ClipBlit`). The rectangles may overlap: the sources are as before the call. A pixel whose source isn't kept stays
-/// as it was (this project's own). No memory is taken.
+/// as it was. No memory is taken.
 pub fn within(cell: &mut Cell, area: &Area)
     requires live { cell.old.state ≡ view.Live }
     requires fits { IsTrue (area_fits area.now) }

@@ -20,7 +20,7 @@ const COPY: u8 = 0xc0;
 /// one of its first byte.
 ///
 /// Both rows are equally long. Each rectangle has a buffer of its size, whose pixel (0, 0) is the rectangle's top left
-/// corner, and which has the plane. The rectangles may lie over each other (this project's own).
+/// corner, and which has the plane. The rectangles may lie over each other.
 pub fn copy_row(
     rects: &[Rect],
     buffers: &[Planes],

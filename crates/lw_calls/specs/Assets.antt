@@ -1,4 +1,4 @@
--- What a script hands in besides its calls (this project's own).
+-- What a script hands in besides its calls.
 use Rattle.std.specs.Prelude.{ℕ, List}
 use Rattle.lw_planes.specs.Bitmap.{Bitmap}
 

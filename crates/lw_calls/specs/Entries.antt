@@ -1,4 +1,4 @@
--- The steps that an order of task numbers stands for (this project's own).
+-- The steps that an order of task numbers stands for.
 use Rattle.std.specs.Prelude.{ℕ, ◌+◌, ◌==◌, if◌then◌else◌, List, [], ◌∷◌, ◌++◌, length, Option, Some, None, replicate}
 use Rattle.std.specs.List.{slice_get}
 use Rattle.lw_calls.specs.declared.call.Call.{Call}

@@ -1,4 +1,4 @@
--- What a run leaves, as contracts see it (this project's own).
+-- What a run leaves, as contracts see it.
 use Rattle.std.specs.Prelude.{List, Option}
 use Rattle.lw_planes.specs.Bitmap.{Bitmap}
 use Rattle.lw_calls.specs.declared.last.Seen.{Seen}

@@ -1,4 +1,4 @@
--- What the kinds of layers have (this project's own).
+-- What the kinds of layers have.
 use Rattle.std.specs.Prelude.{Bool, true, false}
 use Rattle.lw_calls.specs.declared.make.Kind.{Kind}
 use Rattle.lw_calls.specs.declared.make.Kind.TheVariants.{Simple, Smart, SuperBitmap}

@@ -1,4 +1,4 @@
--- The limits of a plan's sizes, and which calls fit them (this project's own).
+-- The limits of a plan's sizes, and which calls fit them.
 use Rattle.std.specs.Prelude.{◌≡◌, ℕ, ◌≤◌, ◌%◌, Bool, true, false, not, ◌&&◌, nat_lt, nat_le, ◌==◌, ℤ, pos, negsuc, int_le, Option, Some, None}
 use Rattle.lw_region.specs.Rectangle.{Rectangle, within}
 use Rattle.lw_calls.specs.declared.sizes.Sizes.{Sizes}

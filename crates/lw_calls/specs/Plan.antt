@@ -1,4 +1,4 @@
--- What a plan holds, as contracts see it (this project's own).
+-- What a plan holds, as contracts see it.
 use Rattle.std.specs.Prelude.{◌≡◌, ℕ, ◌+◌, ◌-◌, ◌≤◌, ◌==◌, Bool, true, false, not, ◌&&◌, ◌||◌, nat_lt, nat_le, List, [], ◌∷◌, length, take, drop, replicate, All, IsTrue}
 use Rattle.std.specs.List.{slice_index_or, list_all}
 use Rattle.lw_planes.specs.Sizes.{IsPlanes}

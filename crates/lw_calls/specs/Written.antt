@@ -1,4 +1,4 @@
--- Lines and numbers as they are written in reports and scripts (this project's own formats).
+-- Lines and numbers as they are written in reports and scripts.
 use Rattle.std.specs.Prelude.{ℕ, ◌+◌, ◌%◌, ◌/◌, nat_lt, if◌then◌else◌, List, [], ◌∷◌, ◌++◌, ℤ}
 use Rattle.std.specs.Fmt.{decimal, signed_decimal}
 use Rattle.lw_region.specs.Rectangle.{Rectangle}

@@ -1,4 +1,4 @@
-/// What input a script stands in (this project's own).
+/// What input a script stands in.
 #[derive(Clone, Copy, Debug, PartialEq, Eq)]
 pub enum Form {
     /// A script alone.

@@ -1,4 +1,4 @@
-/// What a group of calls holds (this project's own).
+/// What a group of calls holds.
 #[derive(Clone, Copy, Debug, PartialEq, Eq)]
 pub enum Hold {
     /// One layer, by its slot.

@@ -4,7 +4,7 @@ use lw_planes::Planes;
 use lw_region::Region;
 use std::marker::Model;
 
-/// A live layer as a report shows it (this project's own).
+/// A live layer as a report shows it.
 #[derive(Debug, Drop)]
 pub struct Seen {
     /// Where the layer is shown, in screen coordinates.
@@ -15,7 +15,7 @@ pub struct Seen {
     pub messages: Option<Messages>,
 }
 
-/// What a run leaves: the screen, the live layers, and the replies (this project's own).
+/// What a run leaves: the screen, the live layers, and the replies.
 #[derive(Debug, Drop)]
 pub struct Final {
     /// The screen's pens.

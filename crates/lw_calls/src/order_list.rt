@@ -1,6 +1,6 @@
 use std::marker::Model;
 
-/// An order of calls: the number of the task whose next call is made, one for each call (this project's own). Contracts see the list.
+/// An order of calls: the number of the task whose next call is made, one for each call. Contracts see the list.
 #[derive(Debug, Drop)]
 pub struct OrderList {
     tasks: Vec<u32>,

@@ -11,7 +11,7 @@ use crate::touch::{Touch, touches};
 use std::alloc::{AllocError, Global};
 
 /// Where an order stops being legal: none where it is legal, else the first place k for which the first k + 1 numbers
-/// begin no legal order, or the order's length where there is none (this project's own). It fails only when out of
+/// begin no legal order, or the order's length where there is none. It fails only when out of
 /// memory.
 pub fn bad_place(alloc: Global, plan: &Plan, order: &OrderList) -> Result<Option<u32>, AllocError>
     requires { length order.now < 4294967296 }

@@ -43,7 +43,7 @@ impl Model for PlanParts {
 }
 
 /// What a script says to do: the sizes, the names, the calls and the groups of each task in their order, and what the
-/// script hands in (this project's own).
+/// script hands in.
 #[derive(Debug, Drop)]
 pub struct Plan {
     parts: PlanParts,

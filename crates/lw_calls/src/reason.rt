@@ -1,4 +1,4 @@
-/// Why a line of a script is refused, in the order in which the reasons are asked (this project's own).
+/// Why a line of a script is refused, in the order in which the reasons are asked.
 #[derive(Clone, Copy, Debug, PartialEq, Eq)]
 pub enum Reason {
     /// The line has more than 512 bytes.

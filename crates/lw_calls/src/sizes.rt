@@ -10,7 +10,7 @@ use crate::call::Call;
 use crate::make::{Kind, Make};
 use lw_region::Rect;
 
-/// The sizes of a screen, and how many of each a plan has (this project's own limits).
+/// The sizes of a screen, and how many of each a plan has.
 #[derive(Clone, Copy, Debug, PartialEq, Eq)]
 pub struct Sizes {
     /// The script's version, 1.

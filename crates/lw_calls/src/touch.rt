@@ -4,7 +4,7 @@ ghost use Rattle.lw_calls.specs.Orders.{has_some};
 
 use crate::call::Call;
 
-/// A part of the machine (this project's own): a task's region registers, a layer's slot, or what LayerInfo keeps.
+/// A part of the machine: a task's region registers, a layer's slot, or what LayerInfo keeps.
 #[derive(Clone, Copy, Debug, PartialEq, Eq)]
 pub enum Role {
     Task(u32),

@@ -1,4 +1,4 @@
--- The one spelling of each statement of a script's lines (this project's own format): its words with single spaces between them.
+-- The one spelling of each statement of a script's lines: its words with single spaces between them.
 use Rattle.std.specs.Prelude.{ℕ, ◌/◌, ◌%◌, ◌==◌, Bool, true, false, not, if◌then◌else◌, List, [], ◌∷◌, ◌++◌, map, ℤ, Option, Some, None, codes, slice_index_or}
 use Rattle.std.specs.List.{flat_map}
 use Rattle.std.specs.Fmt.{signed_decimal}

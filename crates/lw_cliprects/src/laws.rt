@@ -1,6 +1,6 @@
 ghost use Rattle.lw_cliprects.specs.Parts.{OneCover};
 
-/// What the definitions give for a layer under one cover, worked out by hand (this project's own).
+/// What the definitions give for a layer under one cover, worked out by hand.
 pub fn one_cover_law()
     ensures { OneCover }
 {}

@@ -1,4 +1,4 @@
--- What drawing makes of a live layer, bit by bit (this project's own).
+-- What drawing makes of a live layer, bit by bit.
 use Rattle.std.specs.Prelude.{ℕ, ◌==◌, ◌<◌, Bool, true, ◌&&◌, if◌then◌else◌}
 use Rattle.std.specs.Int.{bit_at}
 use Rattle.lw_planes.specs.Pen.{pen_of}

@@ -1,5 +1,5 @@
 -- What a call makes of LayerInfo, the shelf of hooks and all slots (`IsAllStep`, `DropHooks`), and words of this crate's private
--- contracts on what is prepared for it (this project's own).
+-- contracts on what is prepared for it.
 use Rattle.std.specs.Prelude.{◌≡◌, ◌↔◌, ℕ, ◌<◌, ◌≤◌, Bool, List, length, slice_set, IsTrue, Option, None}
 use Rattle.std.specs.List.{slice_index_or}
 use Rattle.lw_calls.specs.Assets.{Assets}

@@ -1,4 +1,4 @@
--- Which desks LayerInfo, the cells and the shelf of hooks stand for (this project's own).
+-- Which desks LayerInfo, the cells and the shelf of hooks stand for.
 use Rattle.std.specs.Prelude.{◌≡◌, ℕ, ◌<◌, List, map, length, Option, None}
 use Rattle.std.specs.List.{slice_index_or}
 use Rattle.lw_machine.specs.Hook.{Hook}

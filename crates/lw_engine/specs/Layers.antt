@@ -1,4 +1,4 @@
--- LayerInfo as the engine keeps it, and which parts of a desk it, the slots and the registers stand for (this project's own).
+-- LayerInfo as the engine keeps it, and which parts of a desk it, the slots and the registers stand for.
 use Rattle.std.specs.Prelude.{◌≡◌, ℕ, List, Option, Some}
 use Rattle.std.specs.List.{slice_get}
 use Rattle.lw_region.specs.Rectangle.{Rectangle}

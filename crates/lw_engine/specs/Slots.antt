@@ -1,4 +1,4 @@
--- A slot with the hook of its layer, and what an arrangement makes of it (this project's own).
+-- A slot with the hook of its layer, and what an arrangement makes of it.
 use Rattle.std.specs.Prelude.{◌≡◌, ℕ, Bool, true, false, ◌==◌, not, ◌&&◌, if◌then◌else◌, pos, List, [], length, slice_set, Option, Some, None}
 use Rattle.lw_region.specs.Rectangle.{Rectangle}
 use Rattle.lw_region.specs.Bands.{covers}

@@ -10,7 +10,7 @@ use lw_backfill::Backfill;
 use lw_parts::Regs;
 use std::alloc::{AllocError, Global};
 
-/// The parts of a desk before its first call (this project's own).
+/// The parts of a desk before its first call.
 #[derive(Drop)]
 pub struct Opened<B: Backfill> {
     pub info: LayerInfo<B>,

@@ -1,4 +1,4 @@
-//! What a run leaves of one layer: its visible pixels on the screen, and what is seen of it (this project's own).
+//! What a run leaves of one layer: its visible pixels on the screen, and what is seen of it.
 #![tactic(auto)]
 
 mod seeing;

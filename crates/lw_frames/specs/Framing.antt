@@ -1,4 +1,4 @@
--- How the frame of a window comes to lie on a layer (this project's own).
+-- How the frame of a window comes to lie on a layer.
 use Rattle.std.specs.Prelude.{ℕ, Bool, ◌&&◌, List, pos}
 use Rattle.lw_machine.specs.Layer.{Raster}
 use Rattle.lw_machine.specs.Paint.{with_pens, pen_within}

@@ -1,4 +1,4 @@
--- The lines of a script (this project's own format; docs/FORMATS.md has it with an example).
+-- The lines of a script (docs/FORMATS.md has it with an example).
 use Rattle.std.specs.Prelude.{ℕ, ◌==◌, if◌then◌else◌, List, [], ◌∷◌}
 use Rattle.std.specs.List.{onto_first}
 

@@ -1,4 +1,4 @@
--- The grammar of scripts (this project's own format; docs/FORMATS.md has it with an example): the rule of a line, by what the
+-- The grammar of scripts (docs/FORMATS.md has it with an example): the rule of a line, by what the
 -- lines above it tell, and the outcome of lines read from the first to the last, which is an input, or the first bad line with
 -- its first reason.
 use Rattle.std.specs.Prelude.{◌≡◌, ℕ, ◌+◌, ◌-◌, ◌*◌, ◌≤◌, ◌==◌, Bool, true, false, not, ◌&&◌, ◌||◌, nat_le, nat_lt, min, if◌then◌else◌, List, [], ◌∷◌, length, map, ℤ, unsigned_abs, Option, Some, None, is_none, Result, Ok, Err, ok_or, bytes_eq, ◌⊎◌, All}

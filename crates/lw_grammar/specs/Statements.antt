@@ -1,4 +1,4 @@
--- The statements of a script's lines (this project's own format).
+-- The statements of a script's lines.
 use Rattle.std.specs.Prelude.{ℕ, ◌+◌, ◌%◌, ◌^◌, ◌==◌, Bool, true, false, not, ◌&&◌, nat_le, if◌then◌else◌, List, [], ◌∷◌, length, ℤ, pos, Option, Some, None, option_map, option_and_then, codes, bytes_eq}
 use Rattle.std.specs.List.{list_all}
 use Rattle.lw_region.specs.Rectangle.{Rectangle, within}

@@ -1,4 +1,4 @@
--- The words of a line of a script, and what a word is (this project's own format; docs/FORMATS.md has it).
+-- The words of a line of a script, and what a word is (docs/FORMATS.md has it).
 use Rattle.std.specs.Prelude.{ℕ, ◌+◌, ◌-◌, ◌*◌, ◌==◌, Bool, true, false, ◌&&◌, ◌||◌, nat_le, min, if◌then◌else◌, List, [], ◌∷◌, length, drop, ℤ, pos, neg_ℤ, codes, bytes_eq, Option, Some, None, option_map, Result, Ok, Err}
 use Rattle.std.specs.List.{onto_first, list_all}
 use Rattle.std.specs.Str.Parse.{digits_value}

@@ -1,4 +1,4 @@
--- What the lines above a line of a script tell (this project's own format): one record, and what each statement adds to
+-- What the lines above a line of a script tell: one record, and what each statement adds to
 -- it. Skipped lines and those after a line `report` tell nothing. The lines may be taken to be good, since only a script's
 -- first bad line counts.
 use Rattle.std.specs.Prelude.{ℕ, ◌+◌, ◌-◌, ◌*◌, ◌==◌, Bool, false, ◌||◌, if◌then◌else◌, List, [], ◌∷◌, ◌++◌, map, length, ℤ, pos, ◌+ℤ◌, ◌-ℤ◌, unsigned_abs, Option, Some, None, option_map, slice_index, bytes_eq, replicate}

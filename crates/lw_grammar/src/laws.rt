@@ -1,13 +1,13 @@
 ghost use Rattle.lw_grammar.specs.Script.{InputsAreDecided, SpelledInputsAreRunnable};
 
-/// A law of the grammar of scripts (this project's own), which does nothing: any bytes, read with any number of hooks as
+/// A law of the grammar of scripts, which does nothing: any bytes, read with any number of hooks as
 /// a script alone, with an order or with a report, either have a first bad line, with one number and one reason, or they
 /// spell an input, and one only.
 pub fn inputs_are_decided()
     ensures { InputsAreDecided }
 {}
 
-/// A law of the grammar of scripts (this project's own), which does nothing: an input that bytes spell may be run. Its
+/// A law of the grammar of scripts, which does nothing: an input that bytes spell may be run. Its
 /// plan is one, with the hooks that were handed in, and an order has numbers that tasks may have.
 pub fn spelled_inputs_are_runnable()
     ensures { SpelledInputsAreRunnable }

@@ -1,4 +1,4 @@
-/// The first word of a script's line (this project's own format).
+/// The first word of a script's line.
 #[derive(Clone, Copy, Debug, PartialEq, Eq)]
 pub enum Verb {
     Screen,

@@ -1,4 +1,4 @@
--- What reading a row of one plane of a layer's pixels gives (this project's own).
+-- What reading a row of one plane of a layer's pixels gives.
 use Rattle.std.specs.Prelude.{◌≡◌, ℕ, ◌<◌, List, ◌++◌, ℤ, pos, ◌+ℤ◌, ◌-ℤ◌, Option, Some, None}
 use Rattle.std.specs.Int.{bit_at}
 use Rattle.lw_region.specs.Rectangle.{Rectangle}

@@ -1,4 +1,4 @@
--- What a cell tells of its layer without its pixels (this project's own).
+-- What a cell tells of its layer without its pixels.
 use Rattle.std.specs.Prelude.{◌≡◌, ℕ, if◌then◌else◌, pos, Option, Some, None}
 use Rattle.lw_calls.specs.Kinds.{is_super}
 use Rattle.lw_machine.specs.Layer.{Window, is_framed}

@@ -1,4 +1,4 @@
--- Runs of pixels in a row of a layer, and the next pixel of which something holds (this project's own).
+-- Runs of pixels in a row of a layer, and the next pixel of which something holds.
 use Rattle.std.specs.Prelude.{◌≡◌, ℕ, ◌+◌, ◌<◌, ◌≤◌, Bool, true, false, ℤ, pos, negsuc, ◌<ℤ◌, ◌≤ℤ◌, Option, Some, None}
 use Rattle.lw_machine.specs.Kept.{holds_at}
 use Rattle.lw_layer.specs.View.{LiveView}

@@ -1,4 +1,4 @@
--- Which part of a desk a cell stands for, and what holds of every live layer (this project's own).
+-- Which part of a desk a cell stands for, and what holds of every live layer.
 use Rattle.std.specs.Prelude.{◌≡◌, ℕ, true, false, ℤ, Some, None}
 use Rattle.lw_region.specs.Rectangle.{IsOrdered}
 use Rattle.lw_region.specs.Bands.{covers}

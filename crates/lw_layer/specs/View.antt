@@ -1,4 +1,4 @@
--- A cell as contracts see it: its slot's part of the desk (this project's own).
+-- A cell as contracts see it: its slot's part of the desk.
 use Rattle.std.specs.Prelude.{ℕ, Bool, List, ℤ, pos, negsuc, Option, Some, None, if◌then◌else◌}
 use Rattle.lw_region.specs.Rectangle.{Rectangle}
 use Rattle.lw_region.specs.Bands.{covers}

@@ -11,7 +11,7 @@ use lw_damage::Damage;
 use lw_planes::Planes;
 use lw_region::{Rect, Region};
 
-/// The state of one slot, as a value that the crates above fill and a cell takes up (this project's own).
+/// The state of one slot, as a value that the crates above fill and a cell takes up.
 #[derive(Debug, Drop)]
 pub struct Draft {
     /// The slot's number.

@@ -13,7 +13,7 @@ use std::alloc::{AllocError, Global};
 use std::slice;
 
 /// The pixels that a layer with these bounds and these visible rectangles of the screen keeps, in layer coordinates; of a
-/// super-bitmap layer none, since none of its pixels is ever damaged or filled (this project's own).
+/// super-bitmap layer none, since none of its pixels is ever damaged or filled.
 pub fn kept_region(
     alloc: Global,
     kind: Kind,

@@ -134,7 +134,7 @@ fn blank(alloc: Global, bounds: &Rect, rect: &Rect, depth: u32) -> Result<Planes
 }
 
 /// Where damage may lie in a layer with these bounds, in layer coordinates: in a framed window in what its frame leaves; `None`
-/// exactly for a super-bitmap layer, which never has damage (this project's own).
+/// exactly for a super-bitmap layer, which never has damage.
 pub fn inner_rectangle(kind: Kind, framed: bool, bounds: &Rect) -> Option<Rect>
     requires wide { columns bounds.now ≤ 2048 }
     requires high { lines bounds.now ≤ 2048 }

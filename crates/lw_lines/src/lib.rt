@@ -1,5 +1,5 @@
 //! The statement of a line of a script by its words, and what the statement asks for: its ranges, its place in a group and its
-//! call (this project's own format). `lw_grammar` has the grammar as definitions, in `specs/Statements.antt`.
+//! call. `lw_grammar` has the grammar as definitions, in `specs/Statements.antt`.
 #![tactic(auto)]
 
 mod acts;

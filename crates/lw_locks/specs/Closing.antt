@@ -1,4 +1,4 @@
--- What is left of a desk after its last call (this project's own).
+-- What is left of a desk after its last call.
 use Rattle.std.specs.Prelude.{◌≡◌, ℕ, length, List, [], ◌∷◌, ◌<◌, map, Some, Contains}
 use Rattle.std.specs.List.{slice_get}
 use Rattle.atomic_table.specs.Seated.{TableId}

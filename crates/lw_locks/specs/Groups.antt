@@ -1,4 +1,4 @@
--- What other tasks do while a group has its locks (this project's own).
+-- What other tasks do while a group has its locks.
 use Rattle.std.specs.Prelude.{ℕ, ◌==◌, Bool, not, ◌||◌, length, drop, List, [], ◌∷◌, All, IsTrue}
 use Rattle.lw_calls.specs.declared.call.Call.{Call}
 use Rattle.lw_calls.specs.declared.entry.Entry.{Entry}

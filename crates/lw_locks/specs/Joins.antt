@@ -1,4 +1,4 @@
--- What the order word tells of seats that are joined, split and stamped, with what the desk adds (this project's own).
+-- What the order word tells of seats that are joined, split and stamped, with what the desk adds.
 use Rattle.std.specs.Prelude.{◌≡◌, ℕ, List, [], ◌∷◌, ◌++◌, Contains}
 use Rattle.lw_calls.specs.declared.call.Call.{Call}
 use Rattle.lw_calls.specs.declared.entry.Entry.{Entry}

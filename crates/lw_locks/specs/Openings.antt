@@ -1,4 +1,4 @@
--- A word and sizes for an opening that nobody picked (this project's own).
+-- A word and sizes for an opening that nobody picked.
 use Rattle.std.specs.Prelude.{[]}
 use Rattle.atomic_table.specs.Seated.{TableId}
 use Rattle.lw_calls.specs.declared.sizes.Sizes.{Sizes}

@@ -1,5 +1,5 @@
 -- What a caller of the locked desk learns: its call stands at its ticket in the one history, and was answered as the machine answers
--- there (this project's own).
+-- there.
 use Rattle.std.specs.Prelude.{◌≡◌, ℕ, List, [], ◌∷◌, ◌++◌, map}
 use Rattle.std.specs.List.{range_with_len}
 use Rattle.lw_calls.specs.declared.call.Call.{Call}

@@ -1,4 +1,4 @@
--- A pass as contracts see it (this project's own).
+-- A pass as contracts see it.
 use Rattle.std.specs.Prelude.{ℕ, List, []}
 use Rattle.lw_calls.specs.declared.entry.Entry.{Entry}
 

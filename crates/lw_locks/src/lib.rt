@@ -1,4 +1,4 @@
-//! A lock for each layer and one for LayerInfo, over any engine and one order word (this project's own): each call of a task takes
+//! A lock for each layer and one for LayerInfo, over any engine and one order word: each call of a task takes
 //! the locks of what it touches, makes the machine's step on what lies behind them, and draws its ticket. Locks are taken in one
 //! order: LayerInfo's first, and then those of the slots in rising number.
 #![tactic(auto)]

@@ -1,4 +1,4 @@
--- What a run leaves of a desk (this project's own): what a report shows besides the order.
+-- What a run leaves of a desk: what a report shows besides the order.
 use Rattle.std.specs.Prelude.{ℕ, Bool, false, if◌then◌else◌, List, [], ◌∷◌, map, pos, Option, Some, None}
 use Rattle.std.specs.List.{flat_map, range_with_len}
 use Rattle.lw_region.specs.Pixels.{Pixel}

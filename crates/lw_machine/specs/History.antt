@@ -1,4 +1,4 @@
--- Histories: the steps of a run one after another, and the machine after them (this project's own).
+-- Histories: the steps of a run one after another, and the machine after them.
 use Rattle.std.specs.Prelude.{ℕ, ◌==◌, if◌then◌else◌, List, [], ◌∷◌}
 use Rattle.lw_calls.specs.declared.reply.Reply.{Reply}
 use Rattle.lw_calls.specs.declared.entry.Entry.{Entry}

@@ -1,4 +1,4 @@
--- The damage of a simple layer by the history (this project's own): what is hurt after each entry, from what was hurt before
+-- The damage of a simple layer by the history: what is hurt after each entry, from what was hurt before
 -- it. Of the layers it reads which pixels they keep and which are drawable.
 use Rattle.std.specs.Prelude.{ℕ, ◌==◌, Bool, true, false, not, ◌&&◌, ◌||◌, if◌then◌else◌, List, [], ◌∷◌, Option, Some, None}
 use Rattle.lw_calls.specs.declared.call.Call.{Call}

@@ -1,4 +1,4 @@
--- What the machine's definitions promise (this project's own).
+-- What the machine's definitions promise.
 use Rattle.std.specs.Prelude.{◌≡◌, ℕ, ◌<◌, Bool, true, false, List, pos, Option, Some, All, IsTrue}
 use Rattle.lw_region.specs.Rectangle.{Rectangle}
 use Rattle.lw_planes.specs.Grid.{at}

@@ -45,13 +45,13 @@ pub record Layer : Type 0 where
   pub hook : Option Hook
   pub window : Option Window
 
--- A name's slot: its layer was not created so far, is live, or was deleted. Each name opens at most once (this project's own).
+-- A name's slot: its layer was not created so far, is live, or was deleted. Each name opens at most once.
 pub data Slot : Type 0 where
   Unopened : Slot
   Live : Layer → Slot
   Closed : Slot
 
--- How a new layer paints (this project's own): with pen 1 on pen 0, in the mode JAM2, in all planes, from the corner.
+-- How a new layer paints: with pen 1 on pen 0, in the mode JAM2, in all planes, from the corner.
 abbrev pub new_raster : Raster
 new_raster = record { pen_a = 1; pen_b = 0; mode = 1; mask = 255; cursor_x = pos 0; cursor_y = pos 0 }
 

@@ -1,4 +1,4 @@
--- The parts of a desk, by the roles that name them (this project's own).
+-- The parts of a desk, by the roles that name them.
 use Rattle.std.specs.Prelude.{◌≡◌, ℕ, ◌<◌, Bool, List, ℤ, Option, IsTrue}
 use Rattle.lw_region.specs.Rectangle.{Rectangle}
 use Rattle.lw_calls.specs.declared.touch.Role.{Role}

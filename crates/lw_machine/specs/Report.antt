@@ -1,4 +1,4 @@
--- The report of a run (this project's own format; docs/FORMATS.md has it with an example).
+-- The report of a run (docs/FORMATS.md has it with an example).
 use Rattle.std.specs.Prelude.{ℕ, ◌+◌, ◌%◌, ◌==◌, Bool, true, false, ◌||◌, if◌then◌else◌, List, [], ◌∷◌, ◌++◌, length, codes, Option, Some, None}
 use Rattle.std.specs.List.{flat_map, range_with_len, slice_index_or}
 use Rattle.std.specs.Fmt.{decimal, signed_decimal}

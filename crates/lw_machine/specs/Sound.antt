@@ -1,4 +1,4 @@
--- What holds of every desk that a history reaches (this project's own).
+-- What holds of every desk that a history reaches.
 use Rattle.std.specs.Prelude.{◌≡◌, ℕ, ◌≤◌, Bool, true, false, if◌then◌else◌, List, [], ◌∷◌, unsigned_abs, Option, Some, None}
 use Rattle.std.specs.List.{list_all}
 use Rattle.lw_region.specs.Rectangle.{Rectangle}

@@ -1,4 +1,4 @@
--- Histories in which each task's steps are numbered, and whose tasks and calls fit (this project's own).
+-- Histories in which each task's steps are numbered, and whose tasks and calls fit.
 use Rattle.std.specs.Prelude.{◌≡◌, ℕ, ◌<◌, List, [], ◌∷◌, ◌++◌, IsTrue, All}
 use Rattle.lw_calls.specs.declared.sizes.Sizes.{Sizes}
 use Rattle.lw_calls.specs.declared.entry.Entry.{Entry}

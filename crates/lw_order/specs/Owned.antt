@@ -1,4 +1,4 @@
--- Who may stamp a call: whoever has every role that it touches (this project's own).
+-- Who may stamp a call: whoever has every role that it touches.
 use Rattle.std.specs.Prelude.{◌≡◌, ℕ, ◌<◌, true, List, Contains}
 use Rattle.lw_calls.specs.declared.touch.Role.{Role}
 use Rattle.lw_calls.specs.declared.touch.Role.TheVariants.{Task, Slot, Info}

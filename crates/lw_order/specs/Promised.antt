@@ -1,4 +1,4 @@
--- What a seat learns of the history (this project's own).
+-- What a seat learns of the history.
 use Rattle.std.specs.Prelude.{◌≡◌, ℕ, List, [], ◌∷◌, ◌++◌, length, if◌then◌else◌, nat_lt}
 use Rattle.lw_calls.specs.declared.call.Call.{Call}
 use Rattle.lw_calls.specs.declared.entry.Entry.{Entry}

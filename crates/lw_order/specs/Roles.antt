@@ -1,4 +1,4 @@
--- Roles, and the steps of a history that leave them alone (this project's own).
+-- Roles, and the steps of a history that leave them alone.
 use Rattle.std.specs.Prelude.{◌≡◌, ℕ, ◌==◌, Bool, true, false, not, List, ◌∷◌, ◌++◌, map, filter, All}
 use Rattle.std.specs.List.{range_with_len}
 use Rattle.lw_calls.specs.declared.entry.Entry.{Entry}

@@ -1,4 +1,4 @@
--- What an order word keeps between any two steps, for its word and the views of all seats (this project's own).
+-- What an order word keeps between any two steps, for its word and the views of all seats.
 use Rattle.std.specs.Prelude.{◌≡◌, ℕ, ◌<◌, ◌≤◌, ◌^◌, List, [], ◌∷◌, length, All, Contains}
 use mathlib.Core.Option.{some}
 use lib.ListN.{get_elem?}

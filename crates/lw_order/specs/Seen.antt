@@ -1,4 +1,4 @@
--- An order word and a seat as contracts see them (this project's own).
+-- An order word and a seat as contracts see them.
 use Rattle.std.specs.Prelude.{List}
 use Rattle.atomic_table.specs.Seated.{TableId}
 use Rattle.lw_calls.specs.declared.sizes.Sizes.{Sizes}

@@ -1,4 +1,4 @@
--- What a call makes of the parts that it touches, and what it answers, in every desk with these parts (this project's own).
+-- What a call makes of the parts that it touches, and what it answers, in every desk with these parts.
 use Rattle.std.specs.Prelude.{◌≡◌, ℕ, List}
 use Rattle.lw_region.specs.Rectangle.{Rectangle}
 use Rattle.lw_calls.specs.Assets.{Assets}

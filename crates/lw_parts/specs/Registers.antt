@@ -1,4 +1,4 @@
--- A task's region registers: the sets that they stand for, and what a call leaves of them (this project's own limits).
+-- A task's region registers: the sets that they stand for, and what a call leaves of them.
 use Rattle.std.specs.Prelude.{◌≡◌, ℕ, ◌<◌, Bool, nat_le, if◌then◌else◌, List, [], length, slice_set}
 use Rattle.std.specs.List.{slice_index_or}
 use Rattle.lw_region.specs.Rectangle.{Rectangle}

@@ -1,4 +1,4 @@
--- Words of this crate's private contracts on windows (this project's own).
+-- Words of this crate's private contracts on windows.
 use Rattle.std.specs.Prelude.{ℕ, ◌==◌, Bool, false, not, Option, Some, None}
 use Rattle.lw_calls.specs.declared.message.Message.{Message}
 use Rattle.lw_calls.specs.declared.reply.Reply.{Reply}

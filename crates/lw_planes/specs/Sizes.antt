@@ -1,4 +1,4 @@
--- The sizes of bitmaps that are kept as planes (this project's own limits).
+-- The sizes of bitmaps that are kept as planes.
 use Rattle.std.specs.Prelude.{ℕ, ◌≤◌}
 use Rattle.lw_planes.specs.Bitmap.{Bitmap, IsBitmap}
 

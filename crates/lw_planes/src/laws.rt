@@ -2,8 +2,7 @@ ghost use Rattle.std.specs.Prelude.{◌≡◌, ℕ, ◌<◌, List, length};
 ghost use Rattle.lw_planes.specs.Bitmap.{Bitmap, IsBitmap, row_bytes};
 ghost use Rattle.lw_planes.specs.Laws.{TableHasItsValues, PenHasItsBits, BitmapIsItsPens, PlaneRowHasItsBits, RowWriteChangesItsRow};
 
-/// A table has its values: the law of tables by column and row on which the pens of every bitmap stand
-/// (this project's own).
+/// A table has its values: the law of tables by column and row on which the pens of every bitmap stand.
 pub fn table_has_its_values()
     ensures { (w h : ℕ) (f : ℕ → ℕ → ℕ) (d : ℕ) → TableHasItsValues w h f d }
 {}

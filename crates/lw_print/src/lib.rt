@@ -1,4 +1,4 @@
-//! The canonical text of a plan: the script that spells it, with each line in its one spelling (this project's own format).
+//! The canonical text of a plan: the script that spells it, with each line in its one spelling.
 //!
 //! `lw_canonical` has the text as a definition, in `specs/Canonical.antt`.
 #![tactic(auto)]

@@ -18,7 +18,7 @@ use std::alloc::{AllocError, Global};
 
 /// The canonical text of a plan: a script without skipped lines that spells the plan, with each line in its one spelling.
 /// Behind the screen stand the glyphs with some bit set in the order of their codes, the bitmaps with their rows, and the
-/// tasks with their calls. The only error is running out of memory (this project's own format).
+/// tasks with their calls. The only error is running out of memory.
 pub fn print(alloc: Global, plan: &Plan) -> Result<Vec<u8>, AllocError>
     ensures { IfOk result (λ text. text.items ≡ canonical_text plan.now) }
 {

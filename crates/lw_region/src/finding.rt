@@ -10,7 +10,7 @@ use crate::region::Region;
 
 impl Region {
     /// The last column of the run of the region's pixels in row `y` that has column `x`; `None` exactly where the region
-    /// does not have that pixel (this project's own).
+    /// does not have that pixel.
     pub fn run_end(&self, x: i32, y: i32) -> Option<i32>
         ensures { IsRunEnd self.now x y result }
     {
@@ -22,8 +22,7 @@ impl Region {
         }
     }
 
-    /// The first column from `x` on that the region has in row `y`; `None` exactly where it has none of them
-    /// (this project's own).
+    /// The first column from `x` on that the region has in row `y`; `None` exactly where it has none of them.
     pub fn next_start(&self, x: i32, y: i32) -> Option<i32>
         ensures { IsNextStart self.now x y result }
     {

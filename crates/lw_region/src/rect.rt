@@ -123,7 +123,7 @@ impl Rect {
         is_between(self.min_x(), x, self.max_x()) && is_between(self.min_y(), y, self.max_y())
     }
 
-    /// The rectangle of the pixels that are in both (this project's own); `None` exactly where no pixel is
+    /// The rectangle of the pixels that are in both; `None` exactly where no pixel is
     /// in both.
     pub fn meet(&self, other: &Rect) -> Option<Rect>
         ensures bounds { SomeIff result
@@ -140,7 +140,7 @@ impl Rect {
         Rect::new(min_x, min_y, max_x, max_y)
     }
 
-    /// The rectangle moved by `dx` columns to the right and `dy` rows down (this project's own); `None`
+    /// The rectangle moved by `dx` columns to the right and `dy` rows down; `None`
     /// exactly where a bound leaves the 16-bit range.
     pub fn moved(&self, dx: i32, dy: i32) -> Option<Rect>
         ensures { SomeIff result (HasWords (moved_by self.now dx dy)) (moved_by self.now dx dy) }

@@ -38,7 +38,7 @@ use std::marker::Model;
 /// A set of pixels with coordinates from -32768 to 32767, after the `Region` structure of graphics.library.
 /// It is kept as its canonical list of rectangles, and contracts see it as that list: bands from top to bottom,
 /// the runs of a band from left to right, no two runs of a band touching or overlapping, no two adjacent bands
-/// with equal runs (this project's own form). So one set has one list.
+/// with equal runs. So one set has one list.
 #[derive(Debug, Drop)]
 pub struct Region {
     rects: Vec<Rect>,
@@ -74,7 +74,7 @@ impl Region {
         self.rects.as_slice()
     }
 
-    /// Whether the pixel at column `x` and row `y` is in the region (this project's own).
+    /// Whether the pixel at column `x` and row `y` is in the region.
     #[tactic(auto, using(std::proofs::lemmas::Int::ints), unfolding(crate::specs::Bands::covers))]
     pub fn has(&self, x: i32, y: i32) -> bool
         ensures { result ≡ covers self.now x y }
@@ -82,7 +82,7 @@ impl Region {
         self.rects().iter().any(|rect| rect.has(x, y))
     }
 
-    /// A region with the same pixels (this project's own).
+    /// A region with the same pixels.
     pub fn copy(&self, alloc: Global) -> Result<Region, AllocError>
         ensures { IfOk result (λ made. made ≡ self.now) }
     {
@@ -192,7 +192,7 @@ pub fn clear_region(alloc: Global, from: &Region, into: &mut Region) -> Result<(
     into.combine(alloc, Operation::Difference, from.rects())
 }
 
-/// The region of a canonical list of rectangles, moved by `dx` columns to the right and `dy` rows down (this project's own).
+/// The region of a canonical list of rectangles, moved by `dx` columns to the right and `dy` rows down.
 /// Each of its pixels has coordinates of 16 bits after that too. No rectangle is compared with another: what is moved of a
 /// canonical list is canonical.
 pub fn moved_region(alloc: Global, rects: &[Rect], dx: i32, dy: i32) -> Result<Region, AllocError>

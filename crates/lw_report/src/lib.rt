@@ -1,4 +1,4 @@
-//! The report of a run, from what the run leaves (this project's own format; docs/FORMATS.md has it with an example).
+//! The report of a run, from what the run leaves (docs/FORMATS.md has it with an example).
 //!
 //! `lw_machine/specs/Report.antt` has the text as a function of a plan, an order and what is left.
 #![tactic(auto)]

@@ -1,5 +1,5 @@
 -- A change of a live layer that an arrangement has made ready: its new clip rectangles, which of them get a new buffer, and which
--- the buffer of a former one (this project's own).
+-- the buffer of a former one.
 use Rattle.std.specs.Prelude.{◌≡◌, ℕ, ◌<◌, ◌⊎◌, List, ◌++◌, length, ℤ, pos, ◌+ℤ◌, ◌-ℤ◌, Option, Some, None}
 use Rattle.std.specs.List.{slice_index_or}
 use Rattle.lw_region.specs.Rectangle.{Rectangle, moved_by}

@@ -22,7 +22,7 @@ use lw_region::{Rect, Region};
 use lw_super::write_back;
 use std::alloc::{AllocError, Global};
 
-/// What a live layer is to become once its bounds, or what is visible of it, are others (this project's own).
+/// What a live layer is to become once its bounds, or what is visible of it, are others.
 #[derive(Debug, Drop)]
 pub struct Change {
     /// The new bounds on the screen.

@@ -1,5 +1,5 @@
 //! Reads a script into the plan that it spells, the numbers of its order and the place of its report, or finds its first bad
-//! line (this project's own format). `lw_grammar` has the grammar as definitions: `specs/Script.antt` says what
+//! line. `lw_grammar` has the grammar as definitions: `specs/Script.antt` says what
 //! bytes spell, and `Told.antt` what lines tell.
 #![tactic(auto)]
 

@@ -28,7 +28,7 @@ fn read_lines(alloc: Global, bytes: &[u8], hooks: u32, form: Form) -> Result<Inp
 
 /// Reads a script in this input, where so many hooks are handed in: the plan that its lines spell, the numbers of its order
 /// and the place after its line `report`; or its first bad line with the first reason. Memory may run out instead. The
-/// bytes are fewer than 4,294,967,295 (this project's own format).
+/// bytes are fewer than 4,294,967,295.
 pub fn read(alloc: Global, bytes: &[u8], hooks: u32, form: Form) -> Result<Input, ScriptStop>
     requires { length bytes.now < 4294967295 }
     ensures found { IfOk result (λ input. SpellsInput (reading_with hooks form) bytes.now (input_meaning input)) }

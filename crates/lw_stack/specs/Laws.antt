@@ -1,4 +1,4 @@
--- What the list tells about the desk that it stands for (this project's own).
+-- What the list tells about the desk that it stands for.
 use Rattle.std.specs.Prelude.{◌≡◌, ℕ, ℤ}
 use Rattle.lw_machine.specs.Desk.{Desk}
 use Rattle.lw_machine.specs.Screen.{top, is_shown}

@@ -11,7 +11,7 @@ use std::alloc::{AllocError, Global};
 use std::marker::Model;
 use std::mem;
 
-/// What LayerInfo has beside its sizes, as a value that an arrangement fills and `Info` takes up (this project's own).
+/// What LayerInfo has beside its sizes, as a value that an arrangement fills and `Info` takes up.
 #[derive(Debug, Drop)]
 pub struct InfoDraft {
     /// The numbers of the live layers' slots, each once, from front to back.

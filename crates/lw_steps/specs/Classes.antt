@@ -1,4 +1,4 @@
--- What a call works on, as the code tells it (this project's own).
+-- What a call works on, as the code tells it.
 use Rattle.lw_calls.specs.Touches.{CallClass, OnRegisters, OnInfo, OnLayer, OnLayers, OnAll}
 use Rattle.lw_steps.specs.declared.class.Class.{Class}
 use Rattle.lw_steps.specs.declared.class.Class.TheVariants.{Registers, Info, Layer, Layers, All}

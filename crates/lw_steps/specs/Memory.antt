@@ -1,4 +1,4 @@
--- Which calls take memory (this project's own).
+-- Which calls take memory.
 use Rattle.std.specs.Prelude.{Bool, true, false}
 use Rattle.lw_calls.specs.declared.call.Call.{Call}
 use Rattle.lw_calls.specs.declared.call.Call.TheVariants.{RegRect, RegPair, ScrollRaster, Clip, SetTitle}

@@ -5,7 +5,7 @@ ghost use Rattle.lw_steps.specs.Classes.{told_class};
 use lw_calls::Call;
 
 /// What a call works on: the registers of its task; LayerInfo, at which it looks; the layer of a slot; two different
-/// layers; or all layers, which it arranges (this project's own).
+/// layers; or all layers, which it arranges.
 #[derive(Clone, Copy, Debug, PartialEq, Eq)]
 pub enum Class {
     Registers,

@@ -12,7 +12,7 @@ ghost use Rattle.lw_steps.specs.Steps.{IsRegsStep, IsLookStep, IsOneStep, IsTwoS
 use lw_calls::{Call, Reply};
 use std::alloc::{AllocError, Global};
 
-/// The step of the machine, by the classes of calls (this project's own). An engine says which values stand for a task's registers,
+/// The step of the machine, by the classes of calls. An engine says which values stand for a task's registers,
 /// for a slot and for LayerInfo; each of its functions is lent the values that a call of its class touches, and makes the machine's
 /// step of them in every sound desk for whose parts they stand, with the engine's sizes, and to which its assets were handed in. It
 /// takes no lock and returns. It fails only when out of memory, which a call that takes none never is, and the values are then as

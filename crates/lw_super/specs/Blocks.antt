@@ -1,4 +1,4 @@
--- Blocks of pixels that are copied from one bitmap into another (this project's own).
+-- Blocks of pixels that are copied from one bitmap into another.
 use Rattle.std.specs.Prelude.{◌≡◌, ℕ, ◌+◌, ◌-◌, ◌≤◌, ◌==◌, Bool, ◌&&◌, if◌then◌else◌}
 use Rattle.std.specs.Int.{bit_at}
 use Rattle.lw_planes.specs.Pen.{pen_of}

@@ -1,4 +1,4 @@
--- A bitmap of which rectangles of the screen's plane show portions, each with a buffer of its size (this project's own).
+-- A bitmap of which rectangles of the screen's plane show portions, each with a buffer of its size.
 use Rattle.std.specs.Prelude.{◌≡◌, ℕ, ◌+◌, ◌<◌, Bool, true, ◌&&◌, if◌then◌else◌, List, [], length, map, ℤ, pos, ◌+ℤ◌, ◌-ℤ◌, ◌≤ℤ◌, int_le, Option, Some, None}
 use Rattle.std.specs.List.{slice_index_or}
 use Rattle.lw_region.specs.Rectangle.{Rectangle, IsOrdered}

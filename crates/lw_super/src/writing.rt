@@ -6,7 +6,7 @@ use crate::shown::write_shown;
 use lw_layer::LiveDraft;
 
 /// Writes the visible pixels of a super-bitmap layer, whose pens are in the buffers of its visible rectangles, into the
-/// layer's own bitmap, which then has all pens of the layer (this project's own). No memory is taken.
+/// layer's own bitmap, which then has all pens of the layer. No memory is taken.
 pub fn write_back(live: &mut LiveDraft)
     requires sound { IsLiveDraft live.old }
     requires own { is_super live.old.kind ≡ true }

@@ -1,4 +1,4 @@
--- What a task's calls left of the history that its pass knows (this project's own).
+-- What a task's calls left of the history that its pass knows.
 use Rattle.std.specs.Prelude.{◌≡◌, ◌⊎◌, ℕ, ◌+◌, ◌<◌, ◌≤◌, ◌==◌, Bool, true, false, not, ◌&&◌, ◌||◌, if◌then◌else◌, List, [], ◌∷◌, ◌++◌, length, map, take, All}
 use Rattle.std.specs.List.{list_any}
 use Rattle.lw_calls.specs.declared.call.Call.{Call}

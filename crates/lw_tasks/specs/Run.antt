@@ -1,4 +1,4 @@
--- A run under way, after some steps of its history (this project's own).
+-- A run under way, after some steps of its history.
 use Rattle.std.specs.Prelude.{◌≡◌, ℕ, ◌<◌, List, [], length}
 use Rattle.std.specs.List.{slice_index_or, slice_get}
 use Rattle.lw_calls.specs.declared.entry.Entry.{Entry}

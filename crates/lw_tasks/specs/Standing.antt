@@ -1,4 +1,4 @@
--- Which desks the parts that an engine's calls are lent stand for together, and what a call makes of them (this project's own). What
+-- Which desks the parts that an engine's calls are lent stand for together, and what a call makes of them. What
 -- stands for which part is the engine's, and so an argument.
 use Rattle.std.specs.Prelude.{◌≡◌, ℕ, List, length, slice_set, Some}
 use Rattle.std.specs.List.{slice_get}

@@ -1,4 +1,4 @@
--- The runs of all tasks in one history (this project's own).
+-- The runs of all tasks in one history.
 use Rattle.std.specs.Prelude.{◌≡◌, ℕ, ◌+◌, true, nat_lt, if◌then◌else◌, List, [], ◌∷◌, length, map, Some}
 use Rattle.std.specs.List.{slice_get, slice_set}
 use Rattle.lw_calls.specs.declared.entry.Entry.{Entry}

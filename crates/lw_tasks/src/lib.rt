@@ -1,4 +1,4 @@
-//! The machine's run of a plan (this project's own): in an order that is given, on the parts of one desk and with no lock; and of tasks
+//! The machine's run of a plan: in an order that is given, on the parts of one desk and with no lock; and of tasks
 //! on threads, on a desk whose parts lie behind locks, in the order that their tickets give.
 #![tactic(auto)]
 

@@ -13,7 +13,7 @@ use lw_calls::{Call, Reply};
 use lw_steps::{Class, Engine, class_of};
 use std::alloc::{AllocError, Global};
 
-/// The parts of a desk that an engine's calls are lent (this project's own): LayerInfo, the cells of all slots, and the registers of
+/// The parts of a desk that an engine's calls are lent: LayerInfo, the cells of all slots, and the registers of
 /// each task.
 #[derive(Drop)]
 pub struct Parts<E: Engine> {

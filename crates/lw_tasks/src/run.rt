@@ -20,7 +20,7 @@ use lw_steps::Engine;
 use std::alloc::{AllocError, Global};
 
 /// The final state of the machine's run of a plan in a legal order, several tasks included, where these hooks lie on the shelf:
-/// each number makes its task's next call on the desk. It takes no lock and returns (this project's own).
+/// each number makes its task's next call on the desk. It takes no lock and returns.
 pub fn replay<B: Backfill + Send>(
     alloc: Global,
     plan: &Plan,

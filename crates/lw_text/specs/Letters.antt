@@ -1,4 +1,4 @@
--- Text that ends at a column (this project's own).
+-- Text that ends at a column.
 use Rattle.std.specs.Prelude.{ℕ, Bool, ◌&&◌, nat_lt, List, length, pos, ◌-ℤ◌}
 use Rattle.lw_machine.specs.Layer.{Layer}
 use Rattle.lw_machine.specs.Paint.{has_inversvid, paint_where}

@@ -1,4 +1,4 @@
--- What the program's call answers, and what it writes for it (this project's own).
+-- What the program's call answers, and what it writes for it.
 use Rattle.std.specs.Prelude.{◌≡◌, ℕ, ◌⊎◌, List, [], ◌∷◌, ◌++◌, codes, Option}
 use Rattle.lw_io.specs.Streams.{Rose, bytes_after, WritesPrefix}
 use Rattle.lw_calls.specs.declared.reason.Reason.{Reason}

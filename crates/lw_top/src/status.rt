@@ -3,7 +3,7 @@ ghost use Rattle.lw_top.specs.Status.{number_of};
 
 use lw_calls::Reason;
 
-/// What a call of the program answers (this project's own).
+/// What a call of the program answers.
 #[derive(Clone, Copy, Debug, PartialEq, Eq)]
 pub enum Status {
     /// The job was done, and its text was written whole.

@@ -1,4 +1,4 @@
--- The frame of a window as four rectangles (all this project's own).
+-- The frame of a window as four rectangles.
 use Rattle.std.specs.Prelude.{◌≡◌, ℕ, ◌+◌, ◌-◌, ◌<◌, Bool, true, ◌&&◌, nat_lt, if◌then◌else◌, List, [], ◌∷◌, ℤ, pos}
 use Rattle.std.specs.List.{list_any}
 use Rattle.lw_region.specs.Rectangle.{Rectangle, has_pixel}

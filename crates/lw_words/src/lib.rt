@@ -1,5 +1,5 @@
 //! The lines of a script, the words of a line, and what a word is: a name, a number, a text, hexadecimal digits or the first
-//! word of a line (this project's own format). `lw_grammar` has the grammar as definitions, in `specs/Tokens.antt` and
+//! word of a line. `lw_grammar` has the grammar as definitions, in `specs/Tokens.antt` and
 //! `Verbs.antt`.
 #![tactic(auto)]
 
