@@ -17,8 +17,8 @@ use lw_draw::Places;
 use lw_layer::Cell;
 
 /// Combines the drawable pixels of a rectangle of a layer with the pixels of another layer that go there, by the minterm and
-/// through the mask of the former (`ClipBlit`). A pixel whose source that other layer doesn't keep stays as it was (this
-/// project's own). No memory is taken.
+/// through the mask of the former (`ClipBlit`). A pixel whose source that other layer doesn't keep stays as it was.
+/// No memory is taken.
 pub fn between(source: &Cell, to: &mut Cell, area: &Area)
     requires source { source.now.state ≡ view.Live }
     requires to { to.old.state ≡ view.Live }

@@ -7,8 +7,7 @@ pub enum Hold {
     All,
 }
 
-/// A group of a task's calls, between which no other task's call touches what the group holds (this
-/// project's own).
+/// A group of a task's calls, between which no other task's call touches what the group holds.
 #[derive(Clone, Copy, Debug, PartialEq, Eq)]
 pub struct Group {
     /// The number of its first call in the task, from 0.

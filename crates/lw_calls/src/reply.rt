@@ -3,8 +3,7 @@ use lw_region::Region;
 use std::alloc::AllocError;
 use std::marker::Model;
 
-/// What a call answers. The answers from `NotOpen` on refuse the call, which then leaves all as it was (this project's
-/// own).
+/// What a call answers. The answers from `NotOpen` on refuse the call, which then leaves all as it was.
 #[derive(Debug, Drop)]
 pub enum Reply {
     /// The call was done.

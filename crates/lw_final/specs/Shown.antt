@@ -1,5 +1,4 @@
--- What a run leaves of one cell: what is seen of it, by the list of layers, and its visible pixels on the screen (this project's
--- own).
+-- What a run leaves of one cell: what is seen of it, by the list of layers, and its visible pixels on the screen.
 use Rattle.std.specs.Prelude.{◌≡◌, ℕ, ◌+◌, ◌*◌, ◌≤◌, ◌==◌, Bool, ◌&&◌, nat_lt, int_le, if◌then◌else◌, List, length, ℤ, pos, ◌+ℤ◌, ◌≤ℤ◌, Option, Some, None}
 use Rattle.std.specs.Int.{bit_at}
 use Rattle.lw_region.specs.Pixels.{Pixel}

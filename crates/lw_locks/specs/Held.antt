@@ -1,5 +1,5 @@
--- What lies behind a lock, or with a task: a part that stands for its part of the machine after the history that its seat knows (this
--- project's own). A relation between values and parts is an argument, as in `lw_steps`.
+-- What lies behind a lock, or with a task: a part that stands for its part of the machine after the history that its seat knows.
+-- A relation between values and parts is an argument, as in `lw_steps`.
 use Rattle.std.specs.Prelude.{◌≡◌, ℕ, List, [], ◌∷◌, length, Some, Contains}
 use Rattle.std.specs.List.{slice_get}
 use Rattle.atomic_table.specs.Seated.{TableId}

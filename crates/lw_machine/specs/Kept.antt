@@ -67,7 +67,7 @@ in_inner framed w h x y =
 abbrev pub is_inside : Layer → ℕ → ℕ → Bool
 is_inside l x y = in_inner (is_framed l.window) l.bits.width l.bits.height x y
 
--- The pixel lies in the layer's inner rectangle, and the layer isn't a super-bitmap layer, which never has damage (this
--- project's own). Damage lies on such pixels alone, and of them on kept ones.
+-- The pixel lies in the layer's inner rectangle, and the layer isn't a super-bitmap layer, which never has damage.
+-- Damage lies on such pixels alone, and of them on kept ones.
 abbrev pub may_be_damaged : Layer → ℕ → ℕ → Bool
 may_be_damaged l x y = not (is_super l.kind) && is_inside l x y

@@ -1,5 +1,5 @@
--- What a call makes of the parts that it touches, in every desk for which they stand, whatever stands for the parts (this project's
--- own). A relation between values and parts is an argument: which registers, cells or values of LayerInfo stand for which part.
+-- What a call makes of the parts that it touches, in every desk for which they stand, whatever stands for the parts.
+-- A relation between values and parts is an argument: which registers, cells or values of LayerInfo stand for which part.
 use Rattle.std.specs.Prelude.{◌≡◌, ℕ, List, length, Some}
 use Rattle.std.specs.List.{slice_get}
 use Rattle.lw_region.specs.Pixels.{Pixel}

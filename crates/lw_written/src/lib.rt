@@ -1,5 +1,5 @@
-//! Text that is written at the end of a vector of bytes: lines, words, numbers, names and the rows of planes (this project's
-//! own format). `lw_calls` has the words of it as definitions, in `specs/Written.antt`.
+//! Text that is written at the end of a vector of bytes: lines, words, numbers, names and the rows of planes.
+//! `lw_calls` has the words of it as definitions, in `specs/Written.antt`.
 #![tactic(auto)]
 
 mod bounds;
