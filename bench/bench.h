@@ -31,9 +31,12 @@ typedef int64_t (*side)(const void *work, uint32_t repetitions);
 // the least of several runs counts. The runs of the two sides take turns.
 void time_both(side ours, side theirs, const void *work, double seconds[2]);
 
-// A loop over `bytes` bytes of a row, whose source has room for two bytes more.
+// Work in C on `bytes` bytes of a row, whose source has room for two bytes more.
 typedef void (*row_loop)(uint8_t *row, const uint8_t *source, uint32_t bytes);
 
+void loop_fill(uint8_t *row, const uint8_t *source, uint32_t bytes);
+void loop_fill_across(uint8_t *row, const uint8_t *source, uint32_t bytes);
+void loop_copy(uint8_t *row, const uint8_t *source, uint32_t bytes);
 void loop_invert(uint8_t *row, const uint8_t *source, uint32_t bytes);
 void loop_shift(uint8_t *row, const uint8_t *source, uint32_t bytes);
 void loop_shift_to_the_left(uint8_t *row, const uint8_t *source, uint32_t bytes);

@@ -4,6 +4,7 @@
 #include <pixman.h>
 #include <stdio.h>
 #include <stdlib.h>
+#include <string.h>
 
 enum { FIELD = 65535, WIDEST = 8000, TALLEST = 30000 };
 
@@ -136,6 +137,29 @@ static int64_t with_pixman(const void *of, uint32_t repetitions) {
     return count;
 }
 
+// What a copy can't do without: as many bytes as its rectangles have are taken, written and given back.
+static int64_t with_memory(const void *of, uint32_t repetitions) {
+    const struct work *work = of;
+    struct operands operands;
+    make_operands(work, &operands);
+    int count = 0;
+    const pixman_box16_t *boxes = pixman_region_rectangles(&operands.a, &count);
+    size_t bytes = (size_t)count * sizeof *boxes;
+    for (uint32_t i = 0; i < repetitions; i++) {
+        void *made = malloc(bytes);
+        if (!made) {
+            exit(2);
+        }
+        memcpy(made, boxes, bytes);
+        __asm__ volatile("" : : "r"(made) : "memory");
+        free(made);
+    }
+    pixman_region_fini(&operands.a);
+    pixman_region_fini(&operands.b);
+    pixman_region_fini(&operands.hole);
+    return count;
+}
+
 static int64_t with_ours(const void *of, uint32_t repetitions) {
     const struct work *work = of;
     return lw_bench_regions(work->shape, work->size, work->operation, repetitions, work->seed);
@@ -146,9 +170,15 @@ static int compare(const struct work *work) {
     int64_t ours = with_ours(work, 1);
     int64_t theirs = with_pixman(work, 1);
     time_both(with_ours, with_pixman, work, seconds);
-    printf("| %s | %u | %s | %lld | %.2f | %.2f | %.2f |%s\n", SHAPE_NAMES[work->shape], (unsigned)work->size,
-           OPERATION_NAMES[work->operation], (long long)ours, seconds[0] * 1e6, seconds[1] * 1e6,
-           seconds[0] / seconds[1], ours == theirs ? "" : " DISAGREES");
+    printf("| %s | %u | %s | %lld | %.3f | %.3f | %.2f |", SHAPE_NAMES[work->shape], (unsigned)work->size,
+           OPERATION_NAMES[work->operation], (long long)ours, seconds[0] * 1e6, seconds[1] * 1e6, seconds[0] / seconds[1]);
+    if (work->operation == COPY) {
+        time_both(with_memory, with_pixman, work, seconds);
+        printf(" %.3f |", seconds[0] * 1e6);
+    } else {
+        printf(" |");
+    }
+    puts(ours == theirs ? "" : " DISAGREES");
     fflush(stdout);
     return ours != theirs;
 }
@@ -156,8 +186,9 @@ static int compare(const struct work *work) {
 int bench_regions(void) {
     static const uint16_t sizes[4] = {10, 100, 1000, 10000};
     int disagreements = 0;
-    puts("| shape | boxes | operation | rectangles of the result | ours, microseconds | pixman, microseconds | ratio |");
-    puts("|---|---|---|---|---|---|---|");
+    puts("| shape | boxes | operation | rectangles of the result | ours, microseconds | pixman, microseconds | ratio | "
+         "malloc, memcpy and free, microseconds |");
+    puts("|---|---|---|---|---|---|---|---|");
     for (uint32_t shape = 0; shape < 2; shape++) {
         for (uint32_t operation = 0; operation < OPERATIONS; operation++) {
             for (int i = 0; i < 4; i++) {

@@ -1,4 +1,4 @@
-// The row kernels beside memset and memmove on as many bytes, and beside plain loops in C.
+// The row kernels beside memset and memmove on as many bytes, and beside the same work in C.
 #include "bench.h"
 
 #include <stdio.h>
@@ -70,13 +70,19 @@ static int64_t with_memory(const void *of, uint32_t repetitions) {
     return digest(row, bytes + 2);
 }
 
-// The loop over whole bytes that is nearest to the kernel's work, or none.
+// The work in C that is nearest to the kernel's, or none.
 static row_loop loop_for(const struct work *work) {
     if (work->bytes < 64) {
         return 0;
     }
+    if (work->kernel == FILL) {
+        return work->bit == 0 ? loop_fill : loop_fill_across;
+    }
     if (work->kernel == FLIP && work->bit == 0) {
         return loop_invert;
+    }
+    if (work->minterm == COPY_SOURCE && work->bit == 0 && work->kernel == COMBINE) {
+        return loop_copy;
     }
     if (work->minterm == COPY_SOURCE && work->bit == 3) {
         switch (work->kernel) {
@@ -196,7 +202,7 @@ int bench_rows(void) {
     static const uint8_t minterms[5] = {COPY_SOURCE, 0x50, 0x30, 0x80, 0x60};
     int disagreements = 0;
     puts("| kernel | minterm | bytes | first bit | ours, nanoseconds | memset or memmove, nanoseconds | share | "
-         "loop in C, nanoseconds |");
+         "in C, nanoseconds |");
     puts("|---|---|---|---|---|---|---|---|");
     for (uint32_t kernel = 0; kernel < KERNELS; kernel++) {
         for (int i = 0; i < (kernel >= COMBINE ? 5 : 1); i++) {

@@ -25,6 +25,9 @@ pub record Setting : Type 0 where
   pub hooks : ℕ
   pub form : Form
 
+abbrev pub reading_with : ℕ → Form → Setting
+reading_with hooks form = record { hooks = hooks; form = form }
+
 -- how many bytes a line has at most
 abbrev pub line_limit : ℕ
 line_limit = 512
@@ -76,13 +79,13 @@ is_audited Audited = true
 
 -- Lines with this verb belong in this section of this input.
 abbrev pub belongs_in : Form → Section → Verb → Bool
-belongs_in kind s ScreenVerb = is_screen_due s
-belongs_in kind s GlyphVerb = are_assets_due s
-belongs_in kind s BitmapVerb = are_assets_due s
-belongs_in kind s TaskVerb = are_assets_due s || are_tasks_due s
-belongs_in kind s OrderVerb = are_tasks_due s && is_ordered kind
-belongs_in kind s ReportVerb = are_tasks_due s && is_audited kind
-belongs_in kind s verb = are_calls_due s
+belongs_in form s ScreenVerb = is_screen_due s
+belongs_in form s GlyphVerb = are_assets_due s
+belongs_in form s BitmapVerb = are_assets_due s
+belongs_in form s TaskVerb = are_assets_due s || are_tasks_due s
+belongs_in form s OrderVerb = are_tasks_due s && is_ordered form
+belongs_in form s ReportVerb = are_tasks_due s && is_audited form
+belongs_in form s verb = are_calls_due s
 
 -- the verb of a line's words
 abbrev pub verb_on : List (List ℕ) → Option Verb
@@ -192,18 +195,18 @@ words_read line = do
 
 -- The statement of a line of these words that begins with a verb, in this section of this input, or its first reason.
 abbrev pub verb_read : Form → Section → List (List ℕ) → Result Statement Reason
-verb_read kind section ws = do
+verb_read form section ws = do
   verb ← ok_or (verb_on ws) UnknownWord
-  _ ← demand (belongs_in kind section verb) Misplaced
+  _ ← demand (belongs_in form section verb) Misplaced
   ok_or (statement_by verb (map token_of (after_verb ws))) FormReason
 
 -- The statement of a line of these words: where so many rows of a bitmap of this width are due, a row; where numbers are due,
 -- numbers; and else a line with a verb.
 abbrev pub statement_read : Form → Section → ℕ → ℕ → List (List ℕ) → Result Statement Reason
-statement_read kind section due width ws =
+statement_read form section due width ws =
     if not (due == 0)
     then ok_or (row_line width (map token_of ws)) FormReason
-    else (if are_numbers_due section then ok_or (numbers_line (map token_of ws)) FormReason else verb_read kind section ws)
+    else (if are_numbers_due section then ok_or (numbers_line (map token_of ws)) FormReason else verb_read form section ws)
 
 -- The first reason for which a line with this statement is bad, if it is bad.
 abbrev pub statement_tested : Setting → Told → Statement → Result (Unit {0}) Reason
@@ -217,13 +220,16 @@ statement_tested s t statement = do
   _ ← demand (not (is_used t.used (hook_on statement))) HookUsed
   demand (not (has_padding t.row_width statement)) Padding
 
--- The statement of a line that isn't skipped, below lines that tell this, or its first reason.
-abbrev pub line_read : Setting → Told → List ℕ → Result Statement Reason
-line_read s t line = do
-  ws ← words_read line
+-- The statement of a line of these words, below lines that tell this, or its first reason.
+abbrev pub statement_of : Setting → Told → List (List ℕ) → Result Statement Reason
+statement_of s t ws = do
   statement ← statement_read s.form t.section t.rows_due t.row_width ws
   _ ← statement_tested s t statement
   Ok statement
+
+-- the statement of a line that isn't skipped, below lines that tell this, or its first reason
+abbrev pub line_read : Setting → Told → List ℕ → Result Statement Reason
+line_read s t line = words_read line >>= statement_of s t
 
 -- the statements of lines with that of a further line, unless it is skipped; or its first reason
 abbrev pub statements_with : Setting → List Statement → List ℕ → Result (List Statement) Reason

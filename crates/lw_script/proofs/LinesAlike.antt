@@ -7,7 +7,7 @@ use Rattle.lw_calls.specs.declared.reason.Reason.TheVariants.{Range, NoName, Dou
 use Rattle.lw_grammar.specs.Demands.{◌>>=◌, demand}
 use Rattle.lw_grammar.specs.Statements.{Statement, GlyphLine, BitmapLine, TaskLine, CallLine, LockLine, UnlockLine, is_line_in_range}
 use Rattle.lw_script.specs.declared.state.Reader.{Reader}
-use Rattle.lw_lines.specs.declared.statement.Statement.{Statement as Form}
+use Rattle.lw_lines.specs.declared.statement.Statement.{Statement as TheStatement}
 use Rattle.lw_words.specs.declared.stop.Stop.{Stop}
 use Rattle.lw_lines.specs.LineReading.{Reads}
 use Rattle.lw_script.specs.ReaderKnows.{known, setting_of}
@@ -80,6 +80,6 @@ module _ (s : Setting) (r : Reader) (above : List Statement) (k : Represents s r
           ap Statement_of same ∙ at_statement (statement_read s.form (told above).section (told above).rows_due (told above).row_width ws)
 
   -- so the reader reads a line as the grammar does
-  pub reads_alike : (line : List ℕ) (answer : Result Form Stop) → Reads answer (line_read (setting_of r) (known r) line) → Reads answer (line_read s (told above) line)
+  pub reads_alike : (line : List ℕ) (answer : Result TheStatement Stop) → Reads answer (line_read (setting_of r) (known r) line) → Reads answer (line_read s (told above) line)
   reads_alike line answer h =
       let P : Result Statement Reason → Type 0 = λ o. Reads answer o in subst P (lines_alike line) h

@@ -1,6 +1,5 @@
 -- What reading lines answers, and what reading a script answers.
 use Rattle.std.specs.Prelude.{◌≡◌, ℕ, List, ◌∷◌, Result, Ok, Err}
-use Rattle.lw_calls.specs.declared.form.Form.{Form}
 use Rattle.lw_calls.specs.declared.reason.Reason.{Reason}
 use Rattle.lw_grammar.specs.Demands.{◌>>=◌}
 use Rattle.lw_grammar.specs.Statements.{Statement}
@@ -11,10 +10,6 @@ use Rattle.lw_script.specs.declared.input.ScriptStop.{ScriptStop}
 use Rattle.lw_script.specs.declared.input.ScriptStop.TheVariants.{Refused, Memory}
 use Rattle.lw_script.specs.declared.state.Reader.{Reader}
 use Rattle.lw_script.specs.Represents.{Represents}
-
--- how a script is read, where so many hooks are handed in
-abbrev pub reading_with : ℕ → Form → Setting
-reading_with hooks form = record { hooks = hooks; form = form }
 
 -- what a script gives, as the grammar has it
 abbrev pub input_meaning : Input → ScriptInput

@@ -1,11 +1,8 @@
 -- What the reader knows of the lines that it has read, as far as the rule of a line asks.
-use Rattle.std.specs.Prelude.{ℕ, ◌==◌, get_or, false, List, option_map, Result, Ok}
+use Rattle.std.specs.Prelude.{ℕ, ◌==◌, get_or, false, option_map}
 use Rattle.std.specs.List.{list_any}
-use Rattle.lw_calls.specs.declared.reason.Reason.{Reason}
-use Rattle.lw_grammar.specs.Demands.{◌>>=◌}
-use Rattle.lw_grammar.specs.Statements.{Statement}
 use Rattle.lw_grammar.specs.Told.{Told, nothing_told}
-use Rattle.lw_grammar.specs.Script.{Setting, statement_read, statement_tested}
+use Rattle.lw_grammar.specs.Script.{Setting, reading_with}
 use Rattle.lw_script.specs.declared.state.Reader.{Reader}
 use Rattle.lw_words.specs.Cuts.{targets}
 use Rattle.lw_lines.specs.GroupMeaning.{group_meaning}
@@ -30,11 +27,4 @@ known r =
 
 -- what it reads a script with
 abbrev pub setting_of : Reader → Setting
-setting_of r = record { hooks = r.hooks; form = r.form }
-
--- the statement of a line of these words, by what the reader knows, or its first reason
-abbrev pub words_known : Reader → List (List ℕ) → Result Statement Reason
-words_known r ws = do
-  statement ← statement_read r.form (section_meaning r.section) r.assets.due r.assets.width ws
-  _ ← statement_tested (setting_of r) (known r) statement
-  Ok statement
+setting_of r = reading_with r.hooks r.form

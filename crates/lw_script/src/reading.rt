@@ -2,10 +2,10 @@
 ghost use Rattle.std.specs.Prelude.{◌≤◌, List};
 ghost use Rattle.lw_grammar.specs.Statements.{Statement as StatementValue};
 ghost use Rattle.lw_grammar.specs.Told.{told};
-ghost use Rattle.lw_grammar.specs.Script.{Setting, line_read};
+ghost use Rattle.lw_grammar.specs.Script.{Setting, line_read, statement_of};
 ghost use Rattle.lw_words.specs.Cuts.{targets};
 ghost use Rattle.lw_lines.specs.LineReading.{Reads};
-ghost use Rattle.lw_script.specs.ReaderKnows.{known, setting_of, words_known};
+ghost use Rattle.lw_script.specs.ReaderKnows.{known, setting_of};
 ghost use Rattle.lw_script.specs.Represents.{Represents};
 
 use crate::state::Reader;
@@ -17,7 +17,7 @@ impl<'a> Reader<'a> {
     /// The statement of a line of these words, or its first reason.
     fn words_line(&self, alloc: Global, words: &[&'a [u8]]) -> Result<Statement<'a>, Stop>
         requires { self.now.assets.width ≤ 1024 }
-        ensures { Reads result (words_known self.now (targets words.now)) }
+        ensures { Reads result (statement_of (setting_of self.now) (known self.now) (targets words.now)) }
     {
         let due = self.assets.due;
         match words_statement(

@@ -2,8 +2,8 @@
 ghost use Rattle.std.specs.Prelude.{◌≡◌, ◌<◌, ℕ, IfOk, Err, length};
 ghost use Rattle.lw_calls.specs.declared.reason.Reason.{Reason as ReasonValue};
 ghost use Rattle.lw_grammar.specs.Lines.{lines};
-ghost use Rattle.lw_grammar.specs.Script.{ScriptInput, outcome_of, SpellsInput, IsFirstBadIn, IsRunnableInput};
-ghost use Rattle.lw_script.specs.Answers.{reading_with, input_meaning, Gives, GivesInput, RefusesAt};
+ghost use Rattle.lw_grammar.specs.Script.{ScriptInput, outcome_of, SpellsInput, IsFirstBadIn, IsRunnableInput, reading_with};
+ghost use Rattle.lw_script.specs.Answers.{input_meaning, Gives, GivesInput, RefusesAt};
 
 use crate::input::{Input, ScriptStop};
 use crate::state::Reader;

@@ -67,7 +67,7 @@ pub struct Reader<'a> {
 }
 
 impl<'a> Reader<'a> {
-    ghost use Rattle.lw_script.specs.Answers.{reading_with};
+    ghost use Rattle.lw_grammar.specs.Script.{reading_with};
     ghost use Rattle.lw_script.specs.Represents.{Represents};
 
     /// Nothing was read of a script that is read with so many hooks in this input.

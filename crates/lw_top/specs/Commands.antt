@@ -5,8 +5,7 @@ use Rattle.lw_canonical.specs.Canonical.{canonical_text}
 use Rattle.lw_calls.specs.Orders.{is_legal, IsBadPlace}
 use Rattle.lw_machine.specs.Hook.{Hook}
 use Rattle.lw_machine.specs.Report.{run_report}
-use Rattle.lw_grammar.specs.Script.{Setting, ScriptInput}
-use Rattle.lw_script.specs.Answers.{reading_with}
+use Rattle.lw_grammar.specs.Script.{Setting, ScriptInput, reading_with}
 use Rattle.lw_top.specs.declared.words.Command.{Command}
 use Rattle.lw_top.specs.declared.words.Command.TheVariants.{Run, Check, Replay}
 

@@ -1,4 +1,4 @@
-use Rattle.lw_script.specs.Answers.{reading_with}
+use Rattle.lw_grammar.specs.Script.{reading_with}
 use Rattle.lw_script.proofs.InputAnswers.{found, runnable, refused, only_read, only_refused}
 use Rattle.lw_script.proofs.script.read.Goals as goal
 

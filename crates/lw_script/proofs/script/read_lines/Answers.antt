@@ -1,12 +1,12 @@
 use Rattle.std.proofs.Common.{◌≡◌, ℕ, ◌+◌, Bool, true, false, ◌⊎◌, [], length, Result, Err, refl, sym, ap, subst, ◌∙◌, arith}
 use Rattle.lw_grammar.specs.Told.{told}
-use Rattle.lw_grammar.specs.Script.{is_nothing_due, at_the_top, with_line, lines_read, ScriptInput, outcome_of}
+use Rattle.lw_grammar.specs.Script.{is_nothing_due, at_the_top, with_line, lines_read, ScriptInput, outcome_of, reading_with}
 use Rattle.std.proofs.lemmas.Result.{err_from_is_err_and}
 use Rattle.lw_calls.specs.declared.reason.Reason.{Reason}
 use Rattle.lw_grammar.specs.Lines.{lines}
 use Rattle.lw_script.specs.declared.input.Input.{Input}
 use Rattle.lw_script.specs.declared.input.ScriptStop.{ScriptStop}
-use Rattle.lw_script.specs.Answers.{reading_with, Gives}
+use Rattle.lw_script.specs.Answers.{Gives}
 use Rattle.lw_script.proofs.Outcomes.{none_left, step, step_good, at_end, place_next, inputs_of, stopped, ended}
 use Rattle.lw_script.proofs.script.read_lines.Goals as goal
 

@@ -4,8 +4,8 @@ use Rattle.std.proofs.lemmas.List.{length-map}
 use Rattle.lw_machine.specs.Hook.{Hook}
 use Rattle.lw_calls.specs.declared.form.Form.TheVariants.{Ordered}
 use Rattle.lw_grammar.specs.Lines.{lines}
-use Rattle.lw_grammar.specs.Script.{SpellsInput, IsFirstBadIn}
-use Rattle.lw_script.specs.Answers.{input_meaning, reading_with}
+use Rattle.lw_grammar.specs.Script.{SpellsInput, IsFirstBadIn, reading_with}
+use Rattle.lw_script.specs.Answers.{input_meaning}
 use Rattle.lw_top.specs.declared.words.Command.TheVariants.{Replay}
 use Rattle.lw_top.specs.Commands.{reads_with}
 use Rattle.lw_top.proofs.OrderLength.{order_few}
