@@ -26,7 +26,7 @@ use Rattle.lw_arrange.specs.declared.place.Needs.{Needs}
 use Rattle.lw_arrange.specs.Places.{IsRect, may_lie, needs_of, new_needs, changed_by}
 use Rattle.lw_arrange.specs.Planning.{look_is, is_backdrop_at, placed_look, live_at, is_free_at, may_change, creation_refused, change_refused, refused, changed_bounds, with_new, without_slot, with_order, with_change, with_front, with_pair, with_activated, stack_after, IsChangeRect, HasNewRect}
 
--- where nothing refuses, the first test doesn't hold, and nothing behind it refuses
+-- where nothing refuses, the first test doesn't hold, and nothing after it refuses
 unrefused : (t : Bool) (r : Reply) (next : Option Reply) → refuse t r next ≡ None → (t ≡ false) × (next ≡ None)
 unrefused true r next e = absurd (cc)
 unrefused false r next e = (refl, e)

@@ -34,7 +34,7 @@ pub bit_in_front : (bytes rest : List ℕ) (i : ℕ) → i / 8 < length bytes �
 unfolding row_bit
 bit_in_front bytes rest i low = ap (λ b. bit_at b (7 - i % 8)) (get_or_append_left bytes rest 0 (i / 8) low)
 
--- All bits are set where the bytes are full once the bits behind them are set.
+-- All bits are set where the bytes are full once the bits after them are set.
 pub all_set : (row whole : List ℕ) (count bytes : ℕ) → 8 * bytes ≤ 8 * length whole → count ≤ 8 * bytes → ((x : ℕ) → row_bit whole x ≡ (if is_named count (8 * bytes - count) x then 1 else row_bit row x)) → ((n : ℕ) → n < length (take bytes whole) → slice_index (take bytes whole) n ≡ 255) → (i : ℕ) → i < count → row_bit row i ≡ 1
 all_set row whole count bytes long few filled full i low =
     let before : is_named count (8 * bytes - count) i ≡ false = grind (arith, nat_tests) in

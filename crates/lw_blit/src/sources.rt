@@ -122,7 +122,7 @@ fn copy_pixels(source: &Cell, plane: u32, x: i32, y: i32, bits: &mut [u8], kept:
     }
 }
 
-// The first bits of a row are all set; of its bits behind them some are set.
+// The first bits of a row are all set; of its bits after them some are set.
 fn has_all(row: &mut [u8; MOST], count: u32) -> bool
     requires { count ≤ 2048 }
     ensures all { result ≡ true → (i : ℕ) → i < count → row_bit row.new i ≡ 1 }

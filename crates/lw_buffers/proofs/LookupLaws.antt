@@ -32,7 +32,7 @@ pub over_none : (rs : List Rectangle) (x y : ℤ) (new old n : ℕ) → length r
 over_none rs x y new old n l =
     sym (ap (λ w. if covers w x y then new else old) (drop_all n rs l) ∙ ap (λ w. if w then new else old) (covers_nil x y))
 
--- what is first, and what comes behind it
+-- what is first, and what comes after it
 over_step : (t c : Bool) (p q plane old : ℕ)
     → (if (t || c) then bit_at (if t then p else q) plane else old) ≡ (if t then bit_at p plane else (if c then bit_at q plane else old))
 over_step true c p q plane old = refl

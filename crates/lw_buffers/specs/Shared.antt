@@ -14,7 +14,7 @@ pub record IsShared (r : Rectangle) (x y : ℤ) (n : ℕ) (p : Part) : Type 0 wh
   pub bottom : y ≤ℤ r.max_y
   pub pixels : (i : ℕ) → i < n → has_pixel r (x +ℤ pos i) y ≡ is_named p.bit p.count i
 
--- n is how far `to` is behind `from`, and 0 where it is before it
+-- n is how far `to` is after `from`, and 0 where it is before it
 pub record IsDistance (from to : ℤ) (n : ℕ) : Type 0 where
   pub behind : from ≤ℤ to → from +ℤ pos n ≡ to
   pub before : to ≤ℤ from → n ≡ 0

@@ -40,7 +40,7 @@ pub(crate) fn shared_part(rect: &Rect, x: i32, y: i32, length: usize) -> Option<
     })
 }
 
-// How far `to` is behind `from`, and 0 where it is before it.
+// How far `to` is after `from`, and 0 where it is before it.
 #[tactic(auto, using(std::proofs::lemmas::Int::ints))]
 fn distance(from: i32, to: i32) -> u32
     ensures { IsDistance from to result }

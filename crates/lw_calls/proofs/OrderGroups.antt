@@ -31,7 +31,7 @@ abbrev pub inside : Hold → Slots → Bool
 inside (Slot s) slots = is_one s slots
 inside AllLayers slots = is_all slots
 
--- the first of groups that fit does, and so do those behind it
+-- the first of groups that fit does, and so do those after it
 pub head_fits : (calls : List Call) (g : Group) (gs : List Group) → groups_fit calls (g ∷ gs) ≡ true → group_fits calls g ≡ true
 head_fits calls g [] fit = fit
 head_fits calls g (h ∷ gs) fit = (and_parts (group_fits calls g) _ (and_parts _ (groups_fit calls (h ∷ gs)) fit).0).0
@@ -40,7 +40,7 @@ pub rest_fits : (calls : List Call) (g : Group) (gs : List Group) → groups_fit
 rest_fits calls g [] fit = refl
 rest_fits calls g (h ∷ gs) fit = (and_parts _ (groups_fit calls (h ∷ gs)) fit).1
 
--- the next group begins behind the last call of this one
+-- the next group begins after the last call of this one
 pub follows_on : (calls : List Call) (g h : Group) (gs : List Group) → groups_fit calls (g ∷ h ∷ gs) ≡ true → g.last < h.first
 follows_on calls g h gs fit = ltb-true g.last h.first (and_parts (group_fits calls g) _ (and_parts _ (groups_fit calls (h ∷ gs)) fit).0).1
 
@@ -62,7 +62,7 @@ is_over made g high = step (nat_lt g.first made) (nat_le made g.last) (lt-leb ma
     step true b h = h
     step false b h = refl
 
--- before a task is past a group, it is within none behind it
+-- before a task is past a group, it is within none after it
 pub none_behind : (calls : List Call) (g : Group) (gs : List Group) (made : ℕ) → groups_fit calls (g ∷ gs) ≡ true → made ≤ g.last → hold_at made gs ≡ None
 none_behind calls g [] made fit low = refl
 none_behind calls g (h ∷ gs) made fit low =
@@ -88,7 +88,7 @@ any_as_hold calls (g ∷ gs) made touch fit =
         ap (λ r. meets g.hold touch || r) (same ∙ ap (meets_some touch) (none_behind calls g gs made fit late)) ∙ or-false (meets g.hold touch)
     step false e same = same
 
--- behind the first element of a list the others are counted from it
+-- after the first element of a list the others are counted from it
 next_one : {X : Type 0} (x : X) (xs : List X) (k : ℕ) → slice_get (x ∷ xs) (1 + k) ≡ slice_get xs k
 next_one x xs k =
     let e : 1 + k ≡ suc k = omega arith in
@@ -109,7 +109,7 @@ held_as_hold calls (g ∷ gs) made touch fit =
     step true e same = ap (is_held_by made touch) (next_one g gs (groups_over made gs)) ∙ same ∙ ap (λ b. meets_some touch (cond b (Some g.hold) (hold_at made gs))) (sym (is_over made g (ltb-true g.last made e)))
     step false e same = now (is_open made g) (λ h. none_behind calls g gs made fit (ltb-false g.last made e)) (none_behind calls g gs made fit (ltb-false g.last made e))
 
--- until a task is past a group, none behind it is over
+-- until a task is past a group, none after it is over
 none_over : (calls : List Call) (g : Group) (gs : List Group) (made : ℕ) → groups_fit calls (g ∷ gs) ≡ true → made ≤ g.last + 1 → groups_over made gs ≡ 0
 none_over calls g [] made fit low = refl
 none_over calls g (h ∷ gs) made fit low =
@@ -187,7 +187,7 @@ stands_inside (Slot s) (d ∷ cs) i c fit at = either (are_locked s (d ∷ cs)) 
     either true e fit = (and_parts (is_one s (slots_of c)) _ (all_at (may_be_locked s) (d ∷ cs) i c e at)).0
     either false e fit = updates i fit at
 
--- reading a list behind its front, and within it
+-- reading a list after its front, and within it
 get_dropped : {X : Type 0} (xs : List X) (n i : ℕ) → slice_get (drop n xs) i ≡ slice_get xs (n + i)
 get_dropped xs zero i = ap (slice_get xs) (omega arith)
 get_dropped [] (suc n) i = refl

@@ -65,7 +65,7 @@ abbrev pub are_locked : ℕ → List Call → Bool
 are_locked s [] = false
 are_locked s (c ∷ cs) = list_all (may_be_locked s) (c ∷ cs)
 
--- the calls of an update behind its beginning: the end comes last, and each other may be locked
+-- the calls of an update after its beginning: the end comes last, and each other may be locked
 abbrev pub end_an_update : ℕ → List Call → Bool
 end_an_update s [] = false
 end_an_update s (c ∷ []) = is_one s (slots_of c) && ends_update c

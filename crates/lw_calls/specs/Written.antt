@@ -22,6 +22,6 @@ hex_byte b = hex_digit (b / 16) ∷ hex_digit (b % 16) ∷ []
 abbrev pub spaced_signed : ℤ → List ℕ
 spaced_signed z = 32 ∷ signed_decimal z
 
--- the four bounds of a rectangle, each behind a space
+-- the four bounds of a rectangle, each after a space
 abbrev pub spaced_bounds : Rectangle → List ℕ
 spaced_bounds r = spaced_signed r.min_x ++ spaced_signed r.min_y ++ spaced_signed r.max_x ++ spaced_signed r.max_y

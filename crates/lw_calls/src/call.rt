@@ -138,7 +138,7 @@ pub enum Call {
         x: i16,
         y: i16,
     },
-    /// Paints characters at the cursor, which moves behind them (Text).
+    /// Paints characters at the cursor, which moves past them (Text).
     Letters {
         slot: u32,
         text: Text,

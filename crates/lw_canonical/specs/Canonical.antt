@@ -1,4 +1,4 @@
--- The canonical text of a plan: a script without skipped lines that spells the plan. Behind the
+-- The canonical text of a plan: a script without skipped lines that spells the plan. After the
 -- screen come the glyphs with some bit set in the order of their codes, the bitmaps with their rows, and the tasks.
 use Rattle.std.specs.Prelude.{ℕ, ◌+◌, ◌==◌, Bool, true, false, if◌then◌else◌, List, [], ◌∷◌, ◌++◌, map, drop, length, ℤ, pos, ◌+ℤ◌, ◌-ℤ◌, option_map, slice_index_or}
 use Rattle.std.specs.List.{list_all, flat_map, range_with_len}

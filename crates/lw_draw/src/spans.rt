@@ -9,7 +9,7 @@ ghost use Rattle.lw_kernels.specs.Kernel.{is_between};
 pub struct Places {
     /// The first of them.
     pub from: u32,
-    /// The one behind the last.
+    /// The one after the last.
     pub end: u32,
 }
 

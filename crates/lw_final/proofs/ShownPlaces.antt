@@ -25,7 +25,7 @@ bit_kept c plane x y ok = by_kept (keeps c x y) refl
     by_kept true is = refl
     by_kept false is = sym (ap (λ pen. bit_at pen plane) (ok.off_kept x y is) ∙ bit_at-zero plane)
 
--- how far a place is behind an edge, and a scroll
+-- how far a place is past an edge, and a scroll
 place_scrolled : (edge column : ℤ) (x scroll : ℕ) → edge ≤ℤ pos x → column ≡ pos scroll -ℤ edge → column +ℤ pos x ≡ pos (distance edge (pos x) + scroll)
 place_scrolled edge column x scroll late is = omega (arith, ints)
 

@@ -14,7 +14,7 @@ pub trait Source {
     /// Reads some bytes into the front of `piece`, and answers how many.
     ///
     /// An answer of 0 for a piece that is not empty is the end of the source. What `piece` holds
-    /// behind the bytes that were read, and after `Failed`, is not said. A source that tells what
+    /// after the bytes that were read, and after `Failed`, is not said. A source that tells what
     /// is left goes on telling it, and one that does not goes on not telling.
     fn read(&mut self, piece: &mut [u8]) -> Result<usize, Failed>
         ensures bound { IfOk result (λ n. n ≤ length piece.new) }

@@ -40,7 +40,7 @@ mid_below xs ys a k i fits p =
     let low : i < length (take a xs) = omega (arith, long) in
     get_or_append_left (take a xs) (ys ++ drop k (drop a xs)) 0 i low ∙ get_or-take a xs i 0 p
 
--- what stands behind it
+-- what stands after it
 pub mid_above : (xs ys : List ℕ) (a k i : ℕ) → length ys ≡ k → a + k ≤ length xs → a + k ≤ i → get_or (put_mid a k xs ys) i 0 ≡ get_or xs i 0
 mid_above xs ys a k i long fits p =
     let small : a ≤ length xs = omega arith in

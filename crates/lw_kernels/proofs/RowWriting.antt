@@ -205,7 +205,7 @@ done_inside row new old from end x done p q = if_true (is_between from end x) (r
 pub done_before : (row : List ℕ) (new old : ℕ → ℕ) (from end x : ℕ) → Done row new old from end → x < from → row_bit row x ≡ old x
 done_before row new old from end x done p = if_false (is_between from end x) (row_bit row x) (new x) (old x) (done x) (between_before from end x p)
 
--- a bit behind those that were to change
+-- a bit after those that were to change
 pub done_after : (row : List ℕ) (new old : ℕ → ℕ) (from end x : ℕ) → Done row new old from end → end ≤ x → row_bit row x ≡ old x
 done_after row new old from end x done p = if_false (is_between from end x) (row_bit row x) (new x) (old x) (done x) (between_after from end x p)
 

@@ -1,4 +1,4 @@
--- Rows of two lists of rectangles with a bitmap each, one behind the other.
+-- Rows of two lists of rectangles with a bitmap each, one after the other.
 use Rattle.std.proofs.Common.{◌≡◌, ℕ, ◌<◌, Bool, true, false, ◌||◌, if◌then◌else◌, List, ◌++◌, length, ◌∙◌, sym, refl, ap, ℤ, pos, ◌+ℤ◌}
 use Rattle.std.specs.Int.{bit_at}
 use Rattle.lw_region.specs.Rectangle.{Rectangle}

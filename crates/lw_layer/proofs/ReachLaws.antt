@@ -34,7 +34,7 @@ more_within least greatest z w has later inside = grind (arith, ints)
 pub later_place : (edge : ℤ) (scroll x u : ℕ) → x ≤ u → ((edge +ℤ pos x) -ℤ pos scroll) ≤ℤ ((edge +ℤ pos u) -ℤ pos scroll)
 later_place edge scroll x u later = omega (arith, ints)
 
--- a column less than count columns behind x lies up to an edge that they reach
+-- a column less than count columns past x lies up to an edge that they reach
 last_place : (edge : ℤ) (scroll x u count : ℕ) (last : ℤ) → x ≤ u → u < x + count → (((edge +ℤ pos x) -ℤ pos scroll) +ℤ pos count) ≤ℤ (last +ℤ pos 1) → ((edge +ℤ pos u) -ℤ pos scroll) ≤ℤ last
 last_place edge scroll x u count last later before reaches = omega (arith, ints)
 

@@ -61,7 +61,7 @@ abbrev pub IsNextIn : (ℕ → Bool) → ℕ → ℕ → Option ℕ → Type 0
 IsNextIn test x end None = (v : ℕ) → x ≤ v → v < end → test v ≡ false
 IsNextIn test x end (Some u) = IsFirstIn test x end u
 
--- the least number that isn't before a place, and the least one that is behind a place
+-- the least number that isn't before a place, and the least one that is after a place
 pub record IsFrom (place : ℤ) (n : ℕ) : Type 0 where
   pub reached : place ≤ℤ pos n
   pub least : (u : ℕ) → place ≤ℤ pos u → n ≤ u

@@ -153,7 +153,7 @@ fn from_place(place: i32) -> u32
     if place < 0 { 0 } else { place as u32 }
 }
 
-// The least number that is behind the place.
+// The least number that is after the place.
 fn behind_place(place: i32) -> u32
     ensures { IsBehind place result }
 {

@@ -27,7 +27,7 @@ use Rattle.lw_machine.proofs.SettledSound.{IsArranged, settled_sound}
 use Rattle.lw_machine.proofs.ArrangedSound.{desk_arranged, front_arranged, back_arranged, before_arranged, activated, bounds_arranged}
 use Rattle.lw_machine.proofs.CreatedSound.{new_ready, created_arranged, closed_arranged}
 
--- where nothing refuses, the first test doesn't hold, and nothing behind it refuses
+-- where nothing refuses, the first test doesn't hold, and nothing after it refuses
 pub unrefused : (t : Bool) (r : Reply) (next : Option Reply) → refuse t r next ≡ None → (t ≡ false) × (next ≡ None)
 unrefused true r next e = absurd (cc)
 unrefused false r next e = (refl, e)

@@ -153,7 +153,7 @@ last_at_end test s (u ∷ us) one last =
     (λ e. all_put_before test (λ _. false) s us one (behind_backdrop test u us last e))
     (λ e. last_at_end test s us one (behind_other test u us last e))
 
--- a further one that stands in a list behind another one stands in the rest
+-- a further one that stands in a list after another one stands in the rest
 in_rest : (m u : ℕ) (us : List ℕ) → (u == m) ≡ false → 0 < occurrences m (u ∷ us) → 0 < occurrences m us
 in_rest m u us e has = let h : 0 < 0 + occurrences m us = rw e at has in omega (arith, h)
 

@@ -19,7 +19,7 @@ abbrev pub is_empty : List ℕ → Bool
 is_empty [] = true
 is_empty (t ∷ ts) = false
 
--- behind the k-th number of an order, with these still to come: a line feed where none is or its line has 64, else a space
+-- after the k-th number of an order, with these still to come: a line feed where none is or its line has 64, else a space
 abbrev pub separator : ℕ → List ℕ → ℕ
 separator k rest = if is_empty rest || (k % 64 == 0) then 10 else 32
 

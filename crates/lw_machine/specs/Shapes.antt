@@ -78,7 +78,7 @@ abbrev pub differ : Bool → Bool → Bool
 differ a b = if a then not b else b
 
 -- Text: one cell for each character, from the cursor's column on and in its rows y - 6 to y + 1, with the glyph's bits,
--- inverted under INVERSVID. The cursor moves behind the cells.
+-- inverted under INVERSVID. The cursor moves past the cells.
 abbrev pub draw_text : List (List ℕ) → (ℕ → ℕ → Bool) → List ℕ → Layer → Layer
 draw_text glyphs visible text l =
     let left = l.raster.cursor_x in

@@ -65,7 +65,7 @@ struct Case {
 const BLANK: [u8; 16] = *b"0000000000000000";
 // The third row of the glyph of A in the frame of a window that isn't the active one.
 const OF_A: [u8; 16] = *b"2222211221122222";
-// The same of a solid glyph, behind which there is no place for another.
+// The same of a solid glyph, after which there is no place for another.
 const OF_SOLID: [u8; 16] = *b"2222111111112222";
 
 // The window is task 3's, and two messages wait in its port.

@@ -55,7 +55,7 @@ impl Planes {
     /// plane row after row from the top, and in each row `((width + 15) / 16) * 2` bytes, whole 16-bit words
     /// whose most significant bit is the leftmost pixel (the manual's Graphics Primitives chapter has the
     /// planes; that they come one after another in one vector is this project's own). So the vector has
-    /// `depth * height * ((width + 15) / 16) * 2` bytes. The bits behind a row's last pixel are padding: they
+    /// `depth * height * ((width + 15) / 16) * 2` bytes. The bits after a row's last pixel are padding: they
     /// are no part of the bitmap, and may be anything. No memory is taken.
     pub fn from_bytes(width: u32, height: u32, depth: u32, bytes: Vec<u8>) -> Planes
         requires { IsStored width height depth bytes.items }
@@ -214,7 +214,7 @@ mod tests {
     }
 
     // Row 1 of plane 1 is lent and gets the bytes 01 02 FF FF: a pen has bit 1 where these have a one, at
-    // the pixels 7, 14 and 16. The 15 ones behind pixel 16 are padding, which no pixel sees.
+    // the pixels 7, 14 and 16. The 15 ones after pixel 16 are padding, which no pixel sees.
     #[test]
     fn a_row_that_was_lent_is_written_back(rt: HostRuntime) -> Result<(), Fail> {
         let mut planes = Planes::new(rt.alloc(), 17, 3, 2)?;

@@ -77,7 +77,7 @@ impl Port {
         Ok(())
     }
 
-    /// Puts a message behind all others. There has to be room for it, which the caller has reserved.
+    /// Puts a message after all others. There has to be room for it, which the caller has reserved.
     pub fn put(&mut self, message: Message)
         requires { 1 ≤ self.old.spare }
         ensures { self.new ≡ record {

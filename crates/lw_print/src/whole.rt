@@ -17,7 +17,7 @@ use lw_written::{end_line, push_spaced};
 use std::alloc::{AllocError, Global};
 
 /// The canonical text of a plan: a script without skipped lines that spells the plan, with each line in its one spelling.
-/// Behind the screen stand the glyphs with some bit set in the order of their codes, the bitmaps with their rows, and the
+/// After the screen stand the glyphs with some bit set in the order of their codes, the bitmaps with their rows, and the
 /// tasks with their calls. The only error is running out of memory.
 pub fn print(alloc: Global, plan: &Plan) -> Result<Vec<u8>, AllocError>
     ensures { IfOk result (λ text. text.items ≡ canonical_text plan.now) }

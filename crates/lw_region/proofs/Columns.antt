@@ -1,4 +1,4 @@
--- What the merges of two bands have in common: runs are added behind runs, and what is still due becomes less.
+-- What the merges of two bands have in common: runs are added after runs, and what is still due becomes less.
 use Rattle.std.proofs.Common.{◌≡◌, ℕ, ◌+◌, ◌<◌, take, length, get_or, Bool, true, false, cond, ◌||◌, List, [], ◌∷◌, ◌++◌, ℤ, pos, ◌+ℤ◌, ◌-ℤ◌, ◌≤ℤ◌, ◌<ℤ◌, refl, ap, sym, ◌∙◌, arith, append_assoc}
 use Rattle.std.specs.Prelude.{int_lt, int_le}
 use Rattle.std.proofs.lemmas.Int.{ints, by_lt_z}
@@ -57,7 +57,7 @@ starts_append z x [] [] h k l = tt
 starts_append z x [] (s ∷ ss) h k l = omega (arith, ints)
 starts_append z x (r ∷ rs) ss h k l = h
 
--- runs behind runs
+-- runs after runs
 runs_append : (x : ℤ) (rs ss : List Run) → AreRuns rs → AreRuns ss → EndBefore x rs → StartsAfter (x -ℤ pos 1) ss → AreRuns (rs ++ ss)
 runs_append x [] ss h k e f = k
 runs_append x (r ∷ rs) ss h k e f =
@@ -89,7 +89,7 @@ pub some_none : (first last : ℤ) → last <ℤ first → some_run first last �
 unfolding some_run
 some_none first last h = ap (λ w. cond w (record { first = first; last = last } ∷ []) []) (le_false first last h)
 
--- the rectangle of a run behind the others
+-- the rectangle of a run after the others
 pub pushed_run : (top bottom first last : ℤ) (out : List Rectangle) (r : Rectangle) → first ≤ℤ last
     → r.min_x ≡ first → r.min_y ≡ top → r.max_x ≡ last → r.max_y ≡ bottom
     → out ++ r ∷ [] ≡ out ++ run_rectangles top bottom (some_run first last)
@@ -133,7 +133,7 @@ some_added at next first last h k =
       has = λ x. in_runs_cons (record { first = first; last = last }) [] x ∙ (ap (λ w. within first x last || w) (in_runs_nil x) ∙ or-false (within first x last));
     }))
 
--- A merge has come so far: `out` is `before` with runs behind it, each of which leaves the column before `at` free, and the
+-- A merge has come so far: `out` is `before` with runs after it, each of which leaves the column before `at` free, and the
 -- columns that are due are those of these runs and those that are left.
 pub record RowState (top bottom : ℤ) (before : List Rectangle) (due : ℤ → Bool) (at : ℤ) (left : ℤ → Bool) (out : List Rectangle) : Type 0 where
   pub runs : List Run

@@ -9,7 +9,7 @@ use Rattle.lw_region.proofs.Canonical.{covers_cons}
 use Rattle.lw_region.proofs.Within.{within_low, within_high}
 use Rattle.lw_region.proofs.Spaced.{IsBehind, canonical_spaced}
 
--- what is behind a rectangle has none of its rows up to the column behind it
+-- what is after a rectangle has none of its rows up to the column after it
 pub behind_lacks : (r s : Rectangle) (x y : ℤ) → IsBehind r s → y ≤ℤ r.max_y → x ≤ℤ (r.max_x +ℤ pos 1) → has_pixel s x y ≡ false
 behind_lacks r s x y h k l =
     false_from_ne_true _ (λ t.

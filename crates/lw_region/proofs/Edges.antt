@@ -22,7 +22,7 @@ edges false (r ∷ rs) = r.first ∷ (r.last +ℤ pos 1) ∷ edges false rs
 abbrev pub differ : Bool → Bool → Bool
 differ p q = (p && not q) || (q && not p)
 
--- an odd number of these columns are none behind column x
+-- an odd number of these columns are none after column x
 abbrev pub is_odd : List ℤ → ℤ → Bool
 is_odd [] x = false
 is_odd (z ∷ zs) x = differ (int_le z x) (is_odd zs x)
@@ -74,7 +74,7 @@ pub record EdgeStep (begun : Bool) (a : List Rectangle) : Type 0 where
   pub next : next_bound begun a <ℤ next_bound (not begun) (behind_bound begun a)
   pub none : (x : ℤ) → x <ℤ next_bound begun a → is_odd (edges (not begun) (columns (behind_bound begun a))) x ≡ false
 
--- the first rectangle begins behind a column before the end
+-- the first rectangle begins after a column before the end
 starts_first : (a : List Rectangle) (x : ℤ) → StartsAfter x (columns a) → x <ℤ pos 65536 → x <ℤ first_column a
 unfolding first_column
 starts_first [] x h k = k

@@ -40,7 +40,7 @@ before_lacks : (r : Rectangle) (x y u : ℤ) → is_before x y r ≡ true → x 
 unfolding within
 before_lacks r x y u h a = grind (arith, ints)
 
--- what is behind a rectangle below the row does not have the row
+-- what is after a rectangle below the row does not have the row
 under_lacks : (r s : Rectangle) (x y : ℤ) → IsBehind r s → y <ℤ r.min_y → has_pixel s x y ≡ false
 under_lacks r s x y h a =
     let t = h.top in

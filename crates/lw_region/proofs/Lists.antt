@@ -43,7 +43,7 @@ pub any_and : {A : Type 0} (p : A → Bool) (c : Bool) (s : List A) → list_any
 any_and p c [] = refl
 any_and p c (a ∷ s) = ap (λ w. (p a && c) || w) (any_and p c s) ∙ and_over (p a) (list_any p s) c
 
--- an element that passes, at the first or behind it
+-- an element that passes, at the first or after it
 any_some_step : {A : Type 0} (p : A → Bool) (a : A) (s : List A)
     → (list_any p s ≡ true → (b : A) × (p b ≡ true) × ((q : A → Bool) → q b ≡ true → list_any q s ≡ true))
     → (t : Bool) → p a ≡ t → (t || list_any p s) ≡ true

@@ -57,7 +57,7 @@ pub record UnionState (top bottom : ℤ) (before : List Rectangle) (due : ℤ �
   pub low : negsuc 32767 ≤ℤ start
   pub most : end ≤ℤ pos 32767
 
--- what begins in the open run or right behind it
+-- what begins in the open run or right after it
 absorbed : (start end first last x : ℤ) → start ≤ℤ first → first ≤ℤ (end +ℤ pos 1) → first ≤ℤ last
     → (within start x end || within first x last) ≡ within start x (int_max end last)
 absorbed start end first last x h k l =
@@ -74,7 +74,7 @@ or_regroup true p q b = refl
 or_regroup false true q b = refl
 or_regroup false false q b = refl
 
--- runs that start behind a run start behind where it begins
+-- runs that start after a run start after where it begins
 starts_on : (x first last : ℤ) (rs : List Run) → x ≤ℤ first → first ≤ℤ last → StartsAfter (last +ℤ pos 1) rs → StartsAfter (x -ℤ pos 1) rs
 starts_on x first last rs h k s = starts_after_less (x -ℤ pos 1) (last +ℤ pos 1) rs (omega (arith, ints)) s
 
@@ -179,7 +179,7 @@ union_end top bottom before a b left_a left_b start end out out' s e f g =
 abbrev pub left_common : List Rectangle → List Rectangle → ℤ → Bool
 left_common a b x = in_runs (columns a) x && in_runs (columns b) x
 
--- column x is none behind where the first runs have both begun
+-- column x is none after where the first runs have both begun
 abbrev pub BothBehind : ℤ → List Rectangle → List Rectangle → Type 0
 BothBehind x [] b = Unit {0}
 BothBehind x (r ∷ rs) [] = Unit {0}
@@ -199,7 +199,7 @@ and_or_regroup true true false false h = refl
 and_or_regroup true false false false h = refl
 and_or_regroup false q u v h = refl
 
--- a run that ends no later than another one has no column of those behind that
+-- a run that ends no later than another one has no column of those after that
 apart_from_rest : (r s : Rectangle) (ss : List Rectangle) (x : ℤ) → r.max_x ≤ℤ s.max_x → AreRuns (columns ss) → StartsAfter (s.max_x +ℤ pos 1) (columns ss)
     → (within r.min_x x r.max_x && in_runs (columns ss) x) ≡ false
 apart_from_rest r s ss x h k l =
@@ -238,7 +238,7 @@ module _ (top bottom : ℤ) (before : List Rectangle) (due : ℤ → Bool) where
         behind = behind_next at at r s rs ss b p c.are_a.1;
       }
 
-  -- no column is behind more than the other way round
+  -- no column is after more than the other way round
   behind_swap : (x : ℤ) (a b : List Rectangle) → BothBehind x a b → BothBehind x b a
   behind_swap x [] [] h = tt
   behind_swap x [] (s ∷ ss) h = tt
@@ -270,7 +270,7 @@ module _ (top bottom : ℤ) (before : List Rectangle) (due : ℤ → Bool) where
   common_second r s a b rs ss first last out out' c ea eb h f l e =
       common_swap ss a out' (common_first s r b a ss rs first last out out' (common_swap a b out c) eb ea h (omega (arith, ints, clamps)) (omega (arith, ints, clamps)) e)
 
--- nothing is behind nothing
+-- nothing is after nothing
 behind_start : (x : ℤ) (a b : List Rectangle) → AreRuns (columns a) → x ≤ℤ first_column a → BothBehind x a b
 unfolding first_column
 behind_start x [] b h k = tt
@@ -363,7 +363,7 @@ piece_long at x r s rs ss h m j k =
     (λ d. and_right (int_le at x) _ (ap (λ w. in_runs (r ∷ rs) x && not w) (in_first s ss x b d) ∙ and-false (in_runs (r ∷ rs) x))
     ∙ sym (or_from _ _ (within_above (int_max at r.first) x (int_min r.last (s.first -ℤ pos 1)) (omega (arith, ints, clamps))) (and_left _ _ (le_false (s.last +ℤ pos 1) x (omega (arith, ints))))))))
 
--- what is due of a run from which nothing more is taken out, and of those behind it
+-- what is due of a run from which nothing more is taken out, and of those after it
 piece_last : (at x : ℤ) (r : Run) (rs : List Run) → at ≤ℤ r.last → AreRuns (r ∷ rs)
     → (int_le at x && (in_runs (r ∷ rs) x && not (in_runs [] x))) ≡ (within (int_max at r.first) x r.last || in_runs rs x)
 piece_last at x r rs h k =
@@ -380,7 +380,7 @@ piece_last at x r rs h k =
     (none_before rs x k.2 (starts_after_less x (r.last +ℤ pos 1) rs (omega (arith, ints)) k.1))))
     (λ d. rw (le_true at x a, in_first r rs x d b, in_runs_nil x) refl ∙ sym (or_left _ _ (within_true (int_max at r.first) x r.last (omega (arith, ints, clamps)) b)))))
 
--- the mark is none behind the next rectangle
+-- the mark is none after the next rectangle
 mark_next : (mark at x : ℤ) (rs : List Rectangle) (r : Rectangle) → mark ≤ℤ int_max at r.min_x → at ≤ℤ r.max_x → AreRuns (columns (r ∷ rs)) → MarkBehind (int_max mark (r.max_x +ℤ pos 2)) at rs
 mark_next mark at x [] r h k l = tt
 mark_next mark at x (t ∷ ts) r h k l =

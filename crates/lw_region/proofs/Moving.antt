@@ -75,7 +75,7 @@ flat_moved dx dy (b ∷ bs) =
     ∙ (ap (λ w. moved_list (band_rectangles b) dx dy ++ w) (flat_moved dx dy bs)
     ∙ (sym (map-append (λ r. moved_by r dx dy) (band_rectangles b) (flat bs)) ∙ ap (λ l. moved_list l dx dy) (sym (flat_cons b bs)))))
 
--- runs that begin behind a column, moved with it
+-- runs that begin after a column, moved with it
 starts_moved : (dx x : ℤ) (rs : List Run) → StartsAfter (x +ℤ pos 1) rs → StartsAfter ((x +ℤ dx) +ℤ pos 1) (map (run_moved dx) rs)
 starts_moved dx x [] h = tt
 starts_moved dx x (r ∷ rs) h = omega (arith, ints)

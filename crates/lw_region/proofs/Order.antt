@@ -50,13 +50,13 @@ any_in_order before total p [] = refl
 any_in_order before total p (a ∷ s) =
     any_put before total p a (in_order before s) ∙ ap (λ z. p a || z) (any_in_order before total p s)
 
--- what comes before an element comes before all that stand behind it
+-- what comes before an element comes before all that stand after it
 before_all : {A : Type 0} (before : A → A → Bool) → ((a b c : A) → before a b ≡ true → before b c ≡ true → before a c ≡ true)
     → (a b : A) (bs : List A) → before a b ≡ true → ComesBefore before b bs → ComesBefore before a bs
 before_all before trans a b [] h k = tt
 before_all before trans a b (c ∷ bs) h k = (trans a b c h k.0, before_all before trans a b bs h k.1)
 
--- the three ways to put an element behind another
+-- the three ways to put an element after another
 before_put_step : {A : Type 0} (before : A → A → Bool) (c a b : A) (bs : List A) → before c a ≡ true → before c b ≡ true → ComesBefore before c bs
     → ComesBefore before c (put_in_order before a bs)
     → (s t : Bool) → ComesBefore before c (cond s (a ∷ b ∷ bs) (cond t (b ∷ put_in_order before a bs) (b ∷ bs)))

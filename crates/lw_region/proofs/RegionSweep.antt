@@ -709,7 +709,7 @@ sweep_end operation a₀ b₀ left_a left_b row last out first all s (inr n) f g
     ∙ (kept operation (holds operation true false) (covers a₀ x y) refl ∙ ap (λ w. cond (holds operation true false) w false) (s.same_a x y h)))
     all (o ∙ f)
 
--- the last band begins in the list also behind what is left of the first operand
+-- the last band begins in the list also after what is left of the first operand
 pub place_second : (t : Bool) (left_a left_b : List Rectangle) (row : ℤ) (last : ℕ) (out first : List Rectangle) → (length left_a ≡ 0) ⊎ (length left_b ≡ 0)
     → first ≡ cond t (with_rest left_a row last out) out → last ≤ length out → 0 < length left_b → last ≤ length first
 place_second t left_a left_b row last out first (inl n) f h k = omega (arith, ap length (f ∙ rest_empty t left_a row last out n))

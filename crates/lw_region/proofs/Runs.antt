@@ -40,7 +40,7 @@ none_before (r ∷ rs) x h k =
 pub in_first : (r : Run) (rs : List Run) (x : ℤ) → r.first ≤ℤ x → x ≤ℤ r.last → in_runs (r ∷ rs) x ≡ true
 in_first r rs x h k = in_runs_cons r rs x ∙ or_left _ _ (within_true r.first x r.last h k)
 
--- a column behind the first run is in the others or in none
+-- a column after the first run is in the others or in none
 pub in_rest : (r : Run) (rs : List Run) (x : ℤ) → r.last <ℤ x → in_runs (r ∷ rs) x ≡ in_runs rs x
 in_rest r rs x h = in_runs_cons r rs x ∙ ap (λ w. w || in_runs rs x) (within_above r.first x r.last h)
 
@@ -131,7 +131,7 @@ starts_put_column : (w x : ℤ) (rs : List Run) → w <ℤ x → StartsAfter w (
 starts_put_column w x [] l = l
 starts_put_column w x (r ∷ rs) l = put_column_starts w x r rs l (int_eq (x +ℤ pos 1) r.first)
 
--- the runs of columns behind w start behind w
+-- the runs of columns after w start after w
 starts_longest : (w : ℤ) (xs : List ℤ) → ComesBefore int_lt w xs → StartsAfter w (longest_runs xs)
 starts_longest w [] h = tt
 starts_longest w (x ∷ xs) h = starts_put_column w x (longest_runs xs) (lt_of w x h.0)

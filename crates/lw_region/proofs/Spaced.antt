@@ -13,17 +13,17 @@ use Rattle.lw_region.proofs.Runs.{starts_after_less}
 use Rattle.lw_region.proofs.Stacks.{StartsBelow, starts_below_less, above_starts}
 use Rattle.lw_region.proofs.Canonical.{flat_nil, flat_cons, bands_flat, band_list, are_band_list}
 
--- s begins and ends no higher than r, and where it has a row of r, it is behind r and a free column
+-- s begins and ends no higher than r, and where it has a row of r, it is after r and a free column
 pub record IsBehind (r s : Rectangle) : Type 0 where
   pub top : r.min_y ≤ℤ s.min_y
   pub bottom : r.max_y ≤ℤ s.max_y
   pub gap : s.min_y ≤ℤ r.max_y → ((r.max_x +ℤ pos 1) <ℤ s.min_x) × (s.min_x ≤ℤ s.max_x)
 
--- a run that begins behind column x
+-- a run that begins after column x
 abbrev BeginsAfter : ℤ → Run → Type 0
 BeginsAfter x s = (x <ℤ s.first) × (s.first ≤ℤ s.last)
 
--- runs begin behind a column where the first one does
+-- runs begin after a column where the first one does
 all_after : (x : ℤ) (rs : List Run) → AreRuns rs → StartsAfter x rs → All (BeginsAfter x) rs
 all_after x [] h k = λ i d l. absurd (omega arith)
 all_after x (r ∷ rs) h k =
@@ -72,7 +72,7 @@ flat_spaced (b ∷ bs) h =
     rw (flat_cons b bs)
     (band_spaced b.top b.bottom b.runs (flat bs) h.0.rows h.0.runs (all_under b.bottom bs h.2 (above_starts b bs h.1)) (flat_spaced bs h.2))
 
--- each rectangle of a canonical list is behind those before it
+-- each rectangle of a canonical list is after those before it
 pub canonical_spaced : (rects : List Rectangle) → IsCanonical rects → AllPairs IsBehind rects
 canonical_spaced rects h =
     let s = pixels_of rects in

@@ -13,7 +13,7 @@ IsCanonical rects = bands (pixels_of rects) ≡ rects
 unfoldable pub in_runs : List Run → ℤ → Bool
 in_runs rs x = list_any (λ r. within r.first x r.last) rs
 
--- the first of these runs, if there is one, begins behind column x
+-- the first of these runs, if there is one, begins after column x
 abbrev pub StartsAfter : ℤ → List Run → Type 0
 StartsAfter x [] = Unit {0}
 StartsAfter x (r ∷ rs) = x <ℤ r.first

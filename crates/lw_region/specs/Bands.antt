@@ -25,7 +25,7 @@ rows_in s = in_order int_lt (map (λ p. p.y) s)
 abbrev pub columns_in : List Pixel → ℤ → List ℤ
 columns_in s y = in_order int_lt (map (λ p. p.x) (filter (λ p. int_eq p.y y) s))
 
--- column x before these runs, as part of the first one where that begins right behind it
+-- column x before these runs, as part of the first one where that begins right after it
 abbrev pub put_column : ℤ → List Run → List Run
 put_column x [] = record { first = x; last = x } ∷ []
 put_column x (r ∷ rs) =

@@ -10,12 +10,12 @@ use Rattle.lw_region.specs.Operations.{holds}
 abbrev pub columns : List Rectangle → List Run
 columns rects = map (λ r. record { first = r.min_x; last = r.max_x }) rects
 
--- where the first rectangle begins, or far behind the range
+-- where the first rectangle begins, or far past the range
 unfoldable pub first_column : List Rectangle → ℤ
 first_column [] = pos 65536
 first_column (r ∷ rs) = r.min_x
 
--- the last column of the first rectangle, or far behind the range
+-- the last column of the first rectangle, or far past the range
 unfoldable pub first_end : List Rectangle → ℤ
 first_end [] = pos 65536
 first_end (r ∷ rs) = r.max_x
@@ -41,7 +41,7 @@ some_run first last = cond (int_le first last) (record { first = first; last = l
 unfoldable pub run_rectangles : ℤ → ℤ → List Run → List Rectangle
 run_rectangles top bottom rs = map (λ r. record { min_x = r.first; min_y = top; max_x = r.last; max_y = bottom }) rs
 
--- `after` is `before` with the longest runs of those columns behind it for which the operation holds on the columns of a and b
+-- `after` is `before` with the longest runs of those columns after it for which the operation holds on the columns of a and b
 pub record IsRowOf (operation : Operation) (a b : List Rectangle) (top bottom : ℤ) (before after : List Rectangle) : Type 0 where
   pub runs : List Run
   pub made : after ≡ before ++ run_rectangles top bottom runs

@@ -3,7 +3,7 @@ use Rattle.std.specs.Prelude.{◌≡◌, Bool, true, false, ◌&&◌, ◌||◌, 
 use Rattle.lw_region.specs.Rectangle.{Rectangle, has_pixel}
 use Rattle.lw_region.specs.Bands.{covers}
 
--- the list has the columns x to last of row y, and not the one behind them
+-- the list has the columns x to last of row y, and not the one after them
 pub record RunsTo (rects : List Rectangle) (x y last : ℤ) : Type 0 where
   pub reaches : x ≤ℤ last
   pub covered : (u : ℤ) → x ≤ℤ u → u ≤ℤ last → covers rects u y ≡ true
@@ -30,7 +30,7 @@ abbrev pub is_before : ℤ → ℤ → Rectangle → Bool
 is_before x y r = int_lt r.max_y y || (int_le r.min_y y && int_lt r.max_x x)
 
 -- r is not before column x and row y, and tells what the list has of that row from column x on: what r has of it, up to
--- the column behind r, and nothing where r is below the row
+-- the column after r, and nothing where r is below the row
 pub record IsNextRect (rects : List Rectangle) (x y : ℤ) (r : Rectangle) : Type 0 where
   pub row : y ≤ℤ r.max_y
   pub column : r.min_y ≤ℤ y → x ≤ℤ r.max_x

@@ -17,7 +17,7 @@ abbrev pub ComesBefore : {A : Type 0} → (A → A → Bool) → A → List A �
 ComesBefore before a [] = Unit {0}
 ComesBefore before a (b ∷ bs) = (before a b ≡ true) × ComesBefore before a bs
 
--- each element comes before all that stand behind it, so none stands twice
+-- each element comes before all that stand after it, so none stands twice
 abbrev pub IsInOrder : {A : Type 0} → (A → A → Bool) → List A → Type 0
 IsInOrder before [] = Unit {0}
 IsInOrder before (a ∷ rest) = ComesBefore before a rest × IsInOrder before rest

@@ -4,7 +4,7 @@ ghost use Rattle.lw_region.specs.Rows.{band_length, first_length, first_row, nex
 
 use crate::rect::Rect;
 
-// The row behind the last one of the range.
+// The row after the last one of the range.
 const END: i32 = 32768;
 
 #[tactic(auto, using(std::proofs::lemmas::Int::ints), unfolding(crate::specs::Rows::first_row))]

@@ -8,7 +8,7 @@ use crate::operation::Operation;
 use crate::rect::Rect;
 use std::alloc::AllocError;
 
-// Stands for the column of a rectangle where there is none: behind all that are looked at.
+// Stands for the column of a rectangle where there is none: after all that are looked at.
 const NO_COLUMN: i32 = 65536;
 
 #[tactic(auto, using(std::proofs::lemmas::Int::ints), unfolding(crate::specs::Columns::first_column))]
@@ -82,7 +82,7 @@ pub(crate) fn copy_row(rects: &[Rect], top: i16, bottom: i16, out: &mut Vec<Rect
     }
 }
 
-// A run takes in what begins in it or right behind it, from either band, and is over where neither has such a
+// A run takes in what begins in it or right after it, from either band, and is over where neither has such a
 // rectangle left.
 fn append_union(a: &[Rect], b: &[Rect], top: i16, bottom: i16, out: &mut Vec<Rect>)
     requires columns_a { AreRuns (columns a.now) }
@@ -159,7 +159,7 @@ fn last_before(rect: &Rect, next: &Rect) -> i32
     i32::from(rect.max_x()).min(i32::from(next.min_x()) - 1)
 }
 
-// The column right behind the rectangle.
+// The column right after the rectangle.
 #[tactic(auto, using(std::proofs::lemmas::Int::ints))]
 fn behind(rect: &Rect) -> i32
     ensures { result ≡ rect.now.max_x +ℤ pos 1 }
@@ -216,7 +216,7 @@ fn behind_bound(rects: &[Rect], is_begun: bool) -> &[Rect]
     if is_begun { others(rects) } else { rects }
 }
 
-// Where the run begins that is over before column `column`: behind its end where none is open.
+// Where the run begins that is over before column `column`: after its end where none is open.
 fn run_start(is_open: bool, start: i32, column: i32) -> i32
     ensures { result ≡ cond is_open start column }
 {

@@ -1,4 +1,4 @@
--- Words of the report and what stands behind them.
+-- Words of the report and what stands after them.
 use Rattle.std.specs.Prelude.{ℕ, List, [], ◌∷◌, ◌++◌, codes, length}
 use Rattle.std.specs.List.{flat_map, slice_index_or}
 use Rattle.lw_calls.specs.declared.reply.Reply.{Reply}
@@ -35,7 +35,7 @@ reply_word NotInUpdate = codes "not-in-update"
 reply_word OutOfBounds = codes "out-of-bounds"
 reply_word TooManyRects = codes "too-many-rects"
 
--- what a reply has behind that word, where the layers have these names by slot
+-- what a reply has after that word, where the layers have these names by slot
 abbrev pub reply_rest : List (List ℕ) → Reply → List ℕ
 reply_rest names (Pen n) = spaced n
 reply_rest names (Layer s) = 32 ∷ slice_index_or names s []

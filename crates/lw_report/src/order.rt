@@ -26,7 +26,7 @@ fn push_order_numbers(alloc: Global, out: &mut Vec<u8>, order: &[u32]) -> Result
     Ok(())
 }
 
-/// The byte behind the number that is `count`th of `all` numbers, counted from 1.
+/// The byte after the number that is `count`th of `all` numbers, counted from 1.
 fn byte_behind(count: usize, all: usize) -> u8
     requires { count ≤ all }
     ensures { (rest : List ℕ) → count + length rest ≡ all → result ≡ separator count rest }

@@ -42,7 +42,7 @@ fn push_rectangle_line(alloc: Global, out: &mut Vec<u8>, rect: &Rect) -> Result<
     end_line(out)
 }
 
-/// Writes how many rectangles there are, and the four bounds of each, each number behind a space.
+/// Writes how many rectangles there are, and the four bounds of each, each number after a space.
 pub fn push_rects(alloc: Global, out: &mut Vec<u8>, rects: &[Rect]) -> Result<(), AllocError>
     ensures { OnOk result (out.new.items ≡ out.old.items ++ spaced (length rects.now) ++ flat_map spaced_bounds rects.now) }
 {
@@ -50,7 +50,7 @@ pub fn push_rects(alloc: Global, out: &mut Vec<u8>, rects: &[Rect]) -> Result<()
     push_each_rect(alloc, out, rects)
 }
 
-/// Writes the bounds of each rectangle, each number behind a space.
+/// Writes the bounds of each rectangle, each number after a space.
 fn push_each_rect(alloc: Global, out: &mut Vec<u8>, rects: &[Rect]) -> Result<(), AllocError>
     ensures { OnOk result (out.new.items ≡ out.old.items ++ flat_map spaced_bounds rects.now) }
 {

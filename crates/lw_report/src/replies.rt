@@ -105,7 +105,7 @@ fn reply_word(reply: &Reply) -> &'static str
     }
 }
 
-/// Writes what a reply has behind its first word.
+/// Writes what a reply has after its first word.
 fn push_rest(
     alloc: Global,
     out: &mut Vec<u8>,

@@ -12,7 +12,7 @@ use lw_written::push_line;
 use std::alloc::{AllocError, Global};
 
 /// The report of a plan after the calls of an order, which has a task's number for each call, where `last` is what the
-/// run left: bytes, with a line feed behind each line. The only error is running out of memory.
+/// run left: bytes, with a line feed after each line. The only error is running out of memory.
 pub fn write(
     alloc: Global,
     plan: &Plan,

@@ -13,7 +13,7 @@ use Rattle.lw_layer.specs.New.{kept_hidden}
 use Rattle.lw_reveal.specs.declared.change.Change.{Change}
 use Rattle.lw_reveal.specs.Changed.{carried_to, MayHave}
 
--- the rectangles with a buffer beside an own bitmap: the visible ones, and behind them a smart layer's hidden ones
+-- the rectangles with a buffer beside an own bitmap: the visible ones, and after them a smart layer's hidden ones
 abbrev pub beside_own : Kind → Rectangle → List Rectangle → List Rectangle
 beside_own kind bounds visible = visible ++ kept_hidden kind (hidden_of bounds visible)
 

@@ -25,7 +25,7 @@ pub(crate) struct Place {
 // The bytes of the longest row of one plane.
 const LONGEST: usize = 256;
 
-// The buffers of all rectangles of which so many are visible, and behind them those of the rest.
+// The buffers of all rectangles of which so many are visible, and after them those of the rest.
 pub(crate) fn all_buffers(
     alloc: Global,
     cell: &Cell,

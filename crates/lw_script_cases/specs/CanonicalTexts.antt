@@ -74,7 +74,7 @@ three_tasks_text =
 abbrev pub three_tasks_input : ScriptInput
 three_tasks_input = record { plan = three_tasks; order = []; rest = 790 }
 
--- a layer and two windows with all that their lines can ask for, left of the screen and above it too, and groups one behind
+-- a layer and two windows with all that their lines can ask for, left of the screen and above it too, and groups one after
 -- another
 abbrev pub all_asked : Plan
 all_asked =

@@ -42,7 +42,7 @@ first_among : (bounds : List (Option Rectangle)) (slots : List ℕ) (slot : ℕ)
 unfolding first_at
 first_among bounds slots slot rest x y = find-append (λ s. has_at bounds s x y) slots (slot ∷ rest)
 
--- the same with nothing behind it
+-- the same with nothing after it
 first_behind : (bounds : List (Option Rectangle)) (slots : List ℕ) (slot : ℕ) (x y : ℤ)
     → first_at bounds (slots ++ slot ∷ []) x y
     ≡ option_or (first_at bounds slots x y) (cond (has_at bounds slot x y) (Some slot) None)

@@ -88,7 +88,7 @@ shown_none rects buffers n left top own ok past =
     let free : covers (drop n rects) u v ≡ false = ap (λ rs. covers rs u v) (drop_all n rects past) ∙ covers_nil u v in
     sym (ap (λ t. if t then pen_in (drop n rects) (drop n buffers) u v else pen_at own x y) free))
 
--- what is first, and what comes behind it
+-- what is first, and what comes after it
 pub first_step : (t c : Bool) (p q old : ℕ)
     → (if t then p else (if c then q else old)) ≡ (if (t || c) then (if t then p else q) else old)
 first_step true c p q old = refl

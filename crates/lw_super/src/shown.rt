@@ -68,7 +68,7 @@ fn read_out(buffer: &mut Planes, rect: &Rect, own: &Planes, left: i32, top: i32)
     copy_block(buffer, own, block);
 }
 
-// How far a place is behind an edge.
+// How far a place is past an edge.
 fn offset(edge: i32, place: i16) -> u32
     requires { edge ≤ℤ place }
     ensures { pos result ≡ place -ℤ edge }

@@ -1,4 +1,4 @@
--- The groups that are ahead of a task: what holds before the next one's first call, in it, behind its last call, and behind the last one.
+-- The groups that are ahead of a task: what holds before the next one's first call, in it, after its last call, and after the last one.
 use Rattle.std.proofs.Common.{◌≡◌, ◌⊎◌, ℕ, suc, ◌+◌, ◌-◌, ◌<◌, ◌≤◌, Bool, true, false, ◌&&◌, ◌||◌, nat_lt, nat_le, List, [], ◌∷◌, ◌++◌, length, refl, ap, sym, subst, ◌∙◌, ⊎_elim, inl, inr, arith, append_assoc, drop, drop-cons, length-drop, length-take-le}
 use Rattle.std.specs.Prelude.{All, IsTrue}
 use Rattle.std.specs.List.{list_all, slice_index_or}
@@ -76,7 +76,7 @@ ahead_after calls groups left made g gs begins a =
       within = (let low = order.1 in omega (arith, low));
     }
 
--- behind all calls
+-- after all calls
 pub all_over : (calls : List Call) (groups : List Group) → groups_fit calls groups ≡ true → IsFree groups (length calls)
 all_over calls [] fit = All-nil (λ g. is_open (length calls) g ≡ false)
 all_over calls (g ∷ gs) fit = All-cons (λ k. is_open (length calls) k ≡ false) g gs (is_over (length calls) g (ordered calls g (head_fits calls g gs fit)).1) (all_over calls gs (rest_fits calls g gs fit))

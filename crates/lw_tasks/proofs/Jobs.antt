@@ -30,7 +30,7 @@ job_run Told job t task history o first same told =
 
 module _ {Run E : Type 0} (desk : Desk) (plan : Plan) (pass_of : Run → SeenPass) (told_of : Run → Result TaskAnswers E) (runs : List Run) (passes : List SeenPass) (all : List TaskAnswers) (are : passes ≡ map pass_of runs) (told_are : map (λ t. Ok t) all ≡ map told_of runs)
     (each : (t : ℕ) (run : Run) → slice_get runs t ≡ Some run → ((pass_of run).task ≡ t) × IfOk (told_of run) (λ told. HasAll desk plan t (pass_of run).history told)) where
-  -- the run behind a pass
+  -- the run after a pass
   pub run_of : (t : ℕ) (p : SeenPass) → slice_get passes t ≡ Some p → (run : Run) × (slice_get runs t ≡ Some run) × (pass_of run ≡ p)
   run_of t p got =
       let low : t < length runs = (let below = slice_get_within passes t p got in let many = ap length are ∙ length-map runs pass_of in omega (arith, below, many)) in

@@ -76,7 +76,7 @@ text_whole c glyphs text width wide =
     before_width true x n left = grind (arith, nat_tests)
     before_width false x n left = refl
 
--- With its cells painted and the cursor behind them the text is drawn.
+-- With its cells painted and the cursor past them the text is drawn.
 pub text_done : (v w u : CellView) (glyphs drawn_glyphs : List (List ℕ)) (text codes : List ℕ) (width : ℕ) (raster after : Raster) → drawn_glyphs ≡ glyphs → codes ≡ text → width ≡ v.live.layer.bits.width → raster ≡ v.live.layer.raster → w ≡ with_live (λ c. with_layer (λ l. text_before drawn_glyphs (λ x y. shows c x y) codes width l) c) v → u ≡ with_live (λ c. with_layer (λ l. record l { raster = after }) c) w → after ≡ record raster { cursor_x = raster.cursor_x +ℤ pos (8 * length codes) } → u ≡ with_live (λ c. with_layer (λ l. draw_text glyphs (λ x y. shows c x y) text l) c) v
 unfolding with_pens
 text_done v w u glyphs drawn_glyphs text codes width raster after same_glyphs same_text wide same was is ends =
@@ -105,7 +105,7 @@ row_ends upper past y from end last is bound places some = grind (arith, ints, n
 columns_are : (left past x : ℤ) (n from end u : ℕ) → left ≡ x → past ≡ x +ℤ pos n → (int_le left (pos u) && not (int_le past (pos u))) ≡ is_between from end u → (int_le x (pos u) && int_le (pos u +ℤ pos 1) (x +ℤ pos n)) ≡ is_between from end u
 columns_are left past x n from end u first last places = grind (arith, ints, nat_tests)
 
--- a text cut behind all columns of a layer has the same columns there
+-- a text cut after all columns of a layer has the same columns there
 cut_end : (past x : ℤ) (n most width u : ℕ) → negsuc 32767 ≤ℤ x → past ≡ x +ℤ pos (8 * most) → most ≡ min n 8191 → width ≤ 2048 → u < width
     → int_le (x +ℤ pos (8 * n)) (pos u) ≡ int_le past (pos u)
 cut_end past x n most width u low last cut narrow there =

@@ -17,11 +17,11 @@ use lw_layer::{Cell, Raster};
 // As many bytes as a row of a layer can show characters of, one of them in part at each end: a layer is at most 2048 columns wide.
 const MOST: usize = 257;
 
-// From column -32768 on so many characters reach behind each column of a layer.
+// From column -32768 on so many characters reach past each column of a layer.
 const REACH: usize = 8191;
 
 /// Paints one cell of 8 by 8 pixels for each character, from the cursor's column on and in its rows y - 6 to y + 1, with the
-/// glyphs that the script handed in, in the layer's pens, mode and mask, and moves the cursor behind them (`Text`). False exactly
+/// glyphs that the script handed in, in the layer's pens, mode and mask, and moves the cursor past them (`Text`). False exactly
 /// where the cursor's column would pass 32767, and then nothing changes. No memory is taken.
 pub fn letters(cell: &mut Cell, assets: &Assets, text: &Text) -> bool
     requires { cell.old.state ≡ view.Live }
@@ -58,7 +58,7 @@ pub fn letters_before(cell: &mut Cell, assets: &Assets, text: &Text, end: u32)
     paint_text(cell, &assets.glyphs, text.bytes(), raster, end);
 }
 
-// The cursor can move behind so many characters.
+// The cursor can move past so many characters.
 fn fits(x: i16, count: usize) -> bool
     ensures { result ≡ int_le (x +ℤ pos (8 * count)) (pos 32767) }
 {

@@ -4,7 +4,7 @@ ghost use Rattle.std.specs.Prelude.{◌≡◌, ℕ, ◌+◌, ◌^◌, ◌<◌, �
 ghost use Rattle.std.specs.List.{slice_index_or};
 ghost use Rattle.lw_text.specs.Templates.{glyph_bits};
 
-// Fills bytes with one row of the glyphs of a text's characters, from the character `first` on; behind the text they are empty.
+// Fills bytes with one row of the glyphs of a text's characters, from the character `first` on; after the text they are empty.
 pub(crate) fn glyph_row(
     bytes: &mut [u8],
     count: usize,
@@ -25,7 +25,7 @@ pub(crate) fn glyph_row(
     }
 }
 
-// A text's code; 0, which has no glyph, behind the text.
+// A text's code; 0, which has no glyph, after the text.
 fn code_at(text: &[u8], place: usize) -> u8
     ensures { result ≡ slice_index_or text.now place 0 }
 {

@@ -3,7 +3,7 @@ use Rattle.std.specs.Prelude.{ℕ, ◌-◌, nat_lt, if◌then◌else◌, List, [
 use Rattle.std.specs.Int.{bit_at}
 use Rattle.lw_planes.specs.Pen.{byte_of}
 
--- The byte with its leftmost bits, as many as this, and zeros behind them.
+-- The byte with its leftmost bits, as many as this, and zeros after them.
 unfoldable pub leftmost_bits : ℕ → ℕ → ℕ
 leftmost_bits kept byte = byte_of (λ j. if nat_lt j kept then bit_at byte (7 - j) else 0)
 

@@ -8,7 +8,7 @@ use crate::lines::{push_signed, push_spaced_signed};
 use lw_region::Rect;
 use std::alloc::{AllocError, Global};
 
-/// Writes the bounds of a rectangle, each behind a space.
+/// Writes the bounds of a rectangle, each after a space.
 pub fn push_spaced_bounds(alloc: Global, out: &mut Vec<u8>, rect: &Rect) -> Result<(), AllocError>
     ensures ok { OnOk result (out.new.items ≡ out.old.items ++ spaced_bounds rect.now) }
     ensures err { OnErr result (Keeps out.old.items out.new.items) }

@@ -45,7 +45,7 @@ fn push_bytes(out: &mut Vec<u8>, row: &[u8], width: usize) -> Result<(), AllocEr
     Ok(())
 }
 
-/// The byte with its leftmost bits, as many as `kept`, and zeros behind them.
+/// The byte with its leftmost bits, as many as `kept`, and zeros after them.
 fn leftmost_bits(byte: u8, kept: usize) -> u8
     ensures { result ≡ leftmost_bits kept byte }
 {
