@@ -199,6 +199,7 @@ told_of_words hooks (Some command) r left rest s t before after f g h usage unre
       told = tells;
       usage = λ e. absurd (tells.never_usage e);
       only_usage = λ e. absurd (cc);
+      write_fault = tells.write_fault;
       text = tells.text;
       taken = h.taken;
       source_count = h.source_count;
@@ -208,6 +209,7 @@ told_of_words hooks None r left rest s t before after f g h usage unread unwritt
       told = tt;
       usage = λ e. refl;
       only_usage = λ e. elim (usage refl) [ inl d ↦ inl d.0 | inr d ↦ inr d.0 ];
+      write_fault = λ e. elim (usage refl) [ inl d ↦ (let same : Usage ≡ WriteFault = sym d.0 ∙ e in absurd (cc)) | inr d ↦ d.2 ];
       text = λ not_done not_fault. elim (usage refl) [ inl d ↦ d.1 ∙ ap (λ q. bytes_after before (text_of q)) (sym d.0) | inr d ↦ absurd (not_fault d.0) ];
       taken = none_taken left rest (unread refl).0;
       source_count = let same = (unread refl).1 in omega (arith, same);

@@ -90,6 +90,7 @@ pub record ToldOfWords (hooks : List Hook) (asked : Option Command) (result : St
   pub told : IfSome asked (λ command. AnswerTells hooks command result left rest s t before after f g)
   pub usage : result ≡ Usage → asked ≡ None
   pub only_usage : asked ≡ None → (result ≡ Usage) ⊎ (result ≡ WriteFault)
+  pub write_fault : result ≡ WriteFault → Rose f g
   -- the text of each answer, whole
   pub text : result ≢ Done → result ≢ WriteFault → after ≡ bytes_after before (text_of result)
   pub taken : TakesAtMost (input_limit + 1) left rest

@@ -25,6 +25,8 @@ mod tests_spots;
 #[cfg(test)]
 mod tests_threads;
 #[cfg(test)]
+mod tests_told;
+#[cfg(test)]
 mod tests_updates;
 #[cfg(test)]
 mod tests_windows;
@@ -35,6 +37,10 @@ pub use laws::{
     answers_tell, calls_stand_once_and_in_order, one_task_has_one_order, outcomes_are_decided,
     reports_tell_their_order,
 };
+pub use lw_backfill::Backfill;
+pub use lw_calls::Reason;
+pub use lw_io::{Sink, Source};
+pub use lw_locks::{Gate, OpenGate, Spot};
 pub use serving::{check, replay_cmd};
 pub use status::Status;
 pub use words::Command;

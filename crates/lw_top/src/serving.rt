@@ -63,7 +63,8 @@ pub fn check<S: Source, K: Sink>(alloc: Global, source: &mut S, sink: &mut K, ho
 }
 
 /// Runs a script of some tasks in the order that stands after them, with these hooks: reads the source to its end and writes
-/// the report, or the text of another answer. It takes no lock, and returns.
+/// the report, or the text of another answer. It takes no lock, and returns. The hooks are boxes here, so that a caller who has none
+/// need not name their type.
 pub fn replay_cmd<S: Source, K: Sink>(
     alloc: Global,
     source: &mut S,

@@ -1,0 +1,30 @@
+//! A caller of `layers` that draws from its promises what each answer tells.
+ghost use Rattle.std.specs.Prelude.{◌<◌, map, vec_len};
+ghost use Rattle.std.specs.String.{string_bytes};
+ghost use Rattle.lw_top.specs.Commands.{command_of};
+ghost use Rattle.lw_top.specs.Laws.{ToldOfWords};
+
+use crate::{Status, layers};
+use lw_backfill::Backfill;
+use lw_io::{Sink, Source};
+use lw_locks::Gate;
+use std::alloc::Global;
+use std::sync::Wait;
+use std::thread::Threads;
+
+pub fn told<R: Threads + Wait + Sync, S: Source, K: Sink, G: Gate + Sync>(
+    rt: &R,
+    alloc: Global,
+    words: &[String],
+    source: &mut S,
+    sink: &mut K,
+    hooks: Vec<Box<dyn Backfill + Send>>,
+    gate: &G,
+) -> Status
+    requires few { vec_len hooks < 4294967296 }
+    ensures { ToldOfWords (map (λ b. hook b) hooks.items) (command_of (map string_bytes words.now)) result
+        (S.left source.old) (S.left source.new) (S.faults source.old) (S.faults source.new)
+        (K.written sink.old) (K.written sink.new) (K.faults sink.old) (K.faults sink.new) }
+{
+    layers(rt, alloc, words, source, sink, hooks, gate)
+}
