@@ -4,5 +4,4 @@ mod LegalOrders
 mod OrderLength
 mod Outcomes
 mod PrintedOrder
-mod TestHooks
 mod Unread

@@ -15,22 +15,6 @@ pub const FIRST_FILL: &[u8] =
 pub const FIRST_FILL_REPORT: &[u8] =
     b"order 2\n0 0\nplanes 16 4 1\nplane 0\n0000\n6000\n6000\n0000\nvisible w 1\n0 0 7 3\ndamage w 0\nreplies a 2\nok\nok\ndone\n";
 
-// The first fill with lines that say nothing, a glyph and a bitmap that no call reads, and a group.
-pub const FIRST_FILL_AT_LENGTH: &[u8] = b"# first fill
-screen 16 4 1
-
-glyph 41 183c66667e666600
-bitmap dot 8 2 1
-ff00
-8100
-task a
-create w smart front 0 0 7 3
-lock w
-fill w 1 1 2 2
-unlock w
-end
-";
-
 const USAGE_LINE: &[u8] = b"usage: layers run|check|replay|audit|demo NUMBER TASKS\n";
 
 // A source that moves `step` bytes a call at most, and whose calls with these numbers fail.
@@ -67,7 +51,7 @@ pub fn answer_to<R: Threads + Wait + AllocGlobal + Sync>(
     script: &[u8],
     after: &[u8],
 ) -> Result<(Status, Vec<u8>), AllocError> {
-    answer_with(rt, Vec::new(rt.alloc()), command, script, after)
+    answer_through(rt, Vec::new(rt.alloc()), &OpenGate, command, script, after)
 }
 
 /// The same with the six hooks that `main` hands in.
@@ -91,23 +75,10 @@ pub fn answer_with_six<R: Threads + Wait + AllocGlobal + Sync>(
     hooks.push(Box::new(alloc, Checker::new(2, 3))?)?;
     hooks.push(Box::new(alloc, three_pens)?)?;
     hooks.push(Box::new(alloc, two_pens)?)?;
-    answer_with(rt, hooks, command, script, after)
-}
-
-/// The same with these hooks.
-pub fn answer_with<R: Threads + Wait + AllocGlobal + Sync>(
-    rt: &R,
-    hooks: Vec<Box<dyn Backfill + Send>>,
-    command: &str,
-    script: &[u8],
-    after: &[u8],
-) -> Result<(Status, Vec<u8>), AllocError>
-    requires { vec_len hooks < 4294967296 }
-{
     answer_through(rt, hooks, &OpenGate, command, script, after)
 }
 
-/// The same with a gate that is told of each call.
+/// The same with these hooks, and a gate that is told of each call.
 pub fn answer_through<R: Threads + Wait + AllocGlobal + Sync, G: Gate + Sync>(
     rt: &R,
     hooks: Vec<Box<dyn Backfill + Send>>,
@@ -137,24 +108,16 @@ pub fn answer_through<R: Threads + Wait + AllocGlobal + Sync, G: Gate + Sync>(
     Ok((status, text))
 }
 
-// Scripts and their reports.
-static REPORTS: [(&[u8], &[u8]); 3] = [
-    (FIRST_FILL, FIRST_FILL_REPORT),
-    (FIRST_FILL_AT_LENGTH, FIRST_FILL_REPORT),
-    // A task without calls.
-    (
-        b"screen 1 1 1\ntask a\nend",
-        b"order 0\nplanes 1 1 1\nplane 0\n0000\nreplies a 0\ndone\n",
-    ),
-];
-
 #[test]
 fn scripts_give_their_reports(rt: HostRuntime) -> Result<(), Fail> {
-    for (script, report) in REPORTS.iter() {
-        let (status, text) = answer_to(&rt, "run", script, b"")?;
-        assert_eq!(rt; status, Status::Done);
-        assert_eq!(rt; text.as_slice(), *report);
-    }
+    let (status, text) = answer_to(&rt, "run", FIRST_FILL, b"")?;
+    assert_eq!(rt; status, Status::Done);
+    assert_eq!(rt; text.as_slice(), FIRST_FILL_REPORT);
+    // A task without calls.
+    let (status, text) = answer_to(&rt, "run", b"screen 1 1 1\ntask a\nend", b"")?;
+    let report = b"order 0\nplanes 1 1 1\nplane 0\n0000\nreplies a 0\ndone\n";
+    assert_eq!(rt; status, Status::Done);
+    assert_eq!(rt; text.as_slice(), report.as_slice());
     Ok(())
 }
 
@@ -230,7 +193,13 @@ fn sinks_of_any_pieces_and_faults(rt: HostRuntime) -> Result<(), Fail> {
 #[test]
 fn words_that_are_no_command_get_the_usage_line(rt: HostRuntime) -> Result<(), Fail> {
     let alloc = rt.alloc();
-    let table: [&[&str]; 5] = [&[], &["run", "run"], &["Run"], &["audit"], &["replay", "0"]];
+    let table: [&[&str]; 5] = [
+        &[],
+        &["run", "run"],
+        &["audit"],
+        &["demo", "1", "17"],
+        &["demo", "01", "2"],
+    ];
     for texts in table {
         let mut words = Vec::new(alloc);
         for text in texts {

@@ -3,7 +3,7 @@ use crate::tests::answer_to;
 use std::test::Fail;
 
 // Scripts that draw into layers, read pixels of them, blit and scroll, and their reports.
-static DRAWN: [(&[u8], &[u8]); 6] = [
+static DRAWN: [(&[u8], &[u8]); 5] = [
     // A line is inverted and stays in the clip region, without another beginning there. A pixel off that region can't be written,
     // and can be read.
     (
@@ -41,56 +41,6 @@ ok
 outside
 ok
 pen 1
-done
-",
-    ),
-    // A simple layer has no pixel where another one covers it, and a smart layer has all of its own.
-    (
-        b"screen 16 1 2
-task a
-create s simple front 0 0 3 0
-create t smart front 4 0 7 0
-setrast s 1
-setrast t 2
-create c smart front 2 0 5 0
-read s 1 0
-read s 2 0
-read t 1 0
-write s 3 0
-write t 0 0
-read t 0 0
-front t
-end
-",
-        b"order 12
-0 0 0 0 0 0 0 0 0 0 0 0
-planes 16 1 2
-plane 0
-c800
-plane 1
-0700
-visible s 1
-0 0 1 0
-visible t 1
-4 0 7 0
-visible c 1
-2 0 3 0
-damage s 0
-damage t 0
-damage c 0
-replies a 12
-ok
-ok
-ok
-ok
-ok
-pen 1
-outside
-pen 2
-outside
-ok
-pen 1
-ok
 done
 ",
     ),

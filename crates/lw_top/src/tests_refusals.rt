@@ -1,45 +1,36 @@
 use crate::Status;
-use crate::tests::{FIRST_FILL, FIRST_FILL_REPORT, answer_to};
+use crate::tests::{FIRST_FILL, FIRST_FILL_REPORT, answer_to, answer_with_six};
 use std::alloc::{AllocError, Global};
 use std::sync::Wait;
 use std::test::Fail;
 use std::thread::Threads;
 
-// Scripts for the reasons that no stated refusal has and no count. No hook is handed in here, so none can be used twice.
-static REASONS: [(&str, &str); 4] = [
-    ("\r\nscreen 16 4 1\n", "1 bad-byte"),
-    ("screen 16 4 1\ntask a\nend\ntask 9a\n", "4 form"),
+// Lines after a first line and the beginning of a task, and the first bad line with its reason, where there are six hooks.
+static IN_A_TASK: [(&str, &str); 11] = [
+    ("\r\n", "3 bad-byte"),
+    ("fill w 0  0 1 1\n", "3 spacing"),
+    ("text w \"a\" b\n", "3 quote"),
+    ("glow w\n", "3 unknown-word"),
+    ("glyph 41 0000000000000000\n", "3 misplaced"),
+    ("fill w 007 0 9 0\n", "3 form"),
+    ("fill w 0 0 40000 0\n", "3 range"),
+    ("put b 0 0 w 0 0 1 1 c0\n", "3 no-name"),
+    ("unlock w\n", "3 group"),
+    ("create w smart front 0 0 3 3 hook 6\n", "3 no-hook"),
+    // The hook counts as named though its first layer isn't created, which would leave the screen.
+    (
+        "create w smart front 10 0 16 3 hook 0\ncreate c smart front 0 0 3 3 hook 0\n",
+        "4 hook-used",
+    ),
+];
+
+// Scripts without a task.
+static WITHOUT_A_TASK: [(&str, &str); 4] = [
     (
         "screen 16 4 1\nbitmap b 16 1 1\n0000\nbitmap b 1 1 1\n",
         "4 double-name",
     ),
     ("screen 16 4 1\nbitmap b 15 2 1\nfffe\nffff\n", "4 padding"),
-];
-
-// The stated refusals: what stands after a first line and the beginning of a task, or there alone.
-static STATED: [(&str, &str); 15] = [
-    ("screen 16 4 1\ntask a\nfill w +5 0 9 0\n", "3 form"),
-    ("screen 16 4 1\ntask a\nfill w 007 0 9 0\n", "3 form"),
-    ("screen 16 4 1\ntask a\nfill w 9 0 5 0\n", "3 range"),
-    ("screen 16 4 1\ntask a\nfill w 0 0 40000 0\n", "3 range"),
-    ("screen 16 4 1\ntask a\nfill w 0  0 1 1\n", "3 spacing"),
-    ("screen 16 4 1\ntask a\ntext w \"a\" b\n", "3 quote"),
-    ("screen 16 4 1\ntask a\nglow w\n", "3 unknown-word"),
-    (
-        "screen 16 4 1\ntask a\nglyph 41 0000000000000000\n",
-        "3 misplaced",
-    ),
-    ("screen 16 4 1\ntask a\nblit w 0 0 w 0 0 1 1 c1\n", "3 form"),
-    (
-        "screen 16 4 1\ntask a\nput b 0 0 w 0 0 1 1 c0\n",
-        "3 no-name",
-    ),
-    ("screen 16 4 1\ntask a\nunlock w\n", "3 group"),
-    (
-        "screen 16 4 1\ntask a\ncreate w smart front 0 0 3 3 hook 6\n",
-        "3 no-hook",
-    ),
-    ("screen 16 4 1\ntask a\nlock w\nunlock w\n", "4 group"),
     ("screen 16 4 1\n", "2 missing"),
     ("", "1 missing"),
 ];
@@ -56,13 +47,11 @@ const BITMAPS: Pieces = ("screen 16 4 1\n", "bitmap b@ 1 1 1\n8000\n");
 const LAYERS: Pieces = ("screen 16 4 1\ntask a\n", "create n@ smart front 0 0 7 3\n");
 
 // Pieces, how many there are, what stands after them, and the first bad line with its reason.
-static COUNTED: [(Pieces, u32, &str, &str); 10] = [
+static COUNTED: [(Pieces, u32, &str, &str); 8] = [
     // A line has 512 bytes at most, its line feed aside.
     (BYTES, 513, "\n", "1 line-too-long"),
     (BYTES, 512, "\n", "1 unknown-word"),
-    (BYTES, 512, "\r\n", "1 line-too-long"),
-    // 64 layer names, each of which is new on a line of its own.
-    (LAYERS, 64, "lock x\n", "67 too-many"),
+    // 64 layer names, of which a line may have two.
     (LAYERS, 63, "infront x x\n", "67 missing"),
     (LAYERS, 63, "infront x y\n", "66 too-many"),
     // 16 bitmaps of one row.
@@ -73,42 +62,26 @@ static COUNTED: [(Pieces, u32, &str, &str); 10] = [
     (CALLS, 4095, "which 0 0\n", "4099 missing"),
 ];
 
-// What `run` answers to a script, where that isn't a refusal of this line for this reason with its text.
-fn other_answer<R: Threads + Wait + AllocGlobal + Sync>(
+// Whether `run` of a script, with six hooks, is refused on this line for this reason, with its text.
+fn is_refused<R: Threads + Wait + AllocGlobal + Sync>(
     rt: &R,
-    script: &[u8],
+    script: &str,
     refused: &str,
-) -> Result<Option<(Status, Vec<u8>)>, AllocError> {
-    let (status, text) = answer_to(rt, "run", script, b"")?;
+) -> Result<bool, AllocError> {
+    let (status, text) = answer_with_six(rt, "run", script.as_bytes(), b"")?;
     let due = format!(in rt.alloc(); "refused line {refused}\n")?;
-    if status.number() == 1 && text.as_slice() == due.as_bytes() {
-        return Ok(None);
-    }
-    Ok(Some((status, text)))
-}
-
-// The first of the scripts that is answered otherwise, with the answer.
-fn first_other<R: Threads + Wait + AllocGlobal + Sync>(
-    rt: &R,
-    table: &'static [(&'static str, &'static str)],
-) -> Result<Option<(&'static str, Status)>, AllocError> {
-    for (script, refused) in table {
-        if let Some((status, _)) = other_answer(rt, script.as_bytes(), refused)? {
-            return Ok(Some((*script, status)));
-        }
-    }
-    Ok(None)
+    Ok(status.number() == 1 && text.as_slice() == due.as_bytes())
 }
 
 #[test]
 fn each_reason_refuses_a_script(rt: HostRuntime) -> Result<(), Fail> {
-    assert_eq!(rt; first_other(&rt, &REASONS)?, None);
-    Ok(())
-}
-
-#[test]
-fn the_stated_refusals_hold(rt: HostRuntime) -> Result<(), Fail> {
-    assert_eq!(rt; first_other(&rt, &STATED)?, None);
+    for (lines, refused) in IN_A_TASK.iter() {
+        let script = format!(in rt.alloc(); "screen 16 4 1\ntask a\n{lines}")?;
+        assert!(rt; is_refused(&rt, script.as_str(), refused)?, "{refused}");
+    }
+    for (script, refused) in WITHOUT_A_TASK.iter() {
+        assert!(rt; is_refused(&rt, script, refused)?, "{refused}");
+    }
     Ok(())
 }
 
@@ -138,8 +111,7 @@ fn bytes_names_bitmaps_and_calls_are_counted(rt: HostRuntime) -> Result<(), Fail
     let alloc = rt.alloc();
     for (pieces, count, after, refused) in COUNTED.iter() {
         let script = script_of(alloc, *pieces, *count, after)?;
-        let other = other_answer(&rt, script.as_bytes(), refused)?;
-        assert!(rt; other.is_none(), "{refused}");
+        assert!(rt; is_refused(&rt, script.as_str(), refused)?, "{refused}");
     }
     Ok(())
 }

@@ -3,7 +3,7 @@ use crate::tests::answer_with_six;
 use std::test::Fail;
 
 // Commands, scripts with windows, and their reports.
-static WINDOWED: [(&str, &[u8], &[u8]); 7] = [
+static WINDOWED: [(&str, &[u8], &[u8]); 4] = [
     // The hook fills all with pen 1, and the frame of pen 2 is painted over it. Sized, the hook fills the new column and the pixel of
     // the old frame that lies in the inner rectangle now, which is damaged; then the whole frame is painted.
     (
@@ -153,127 +153,6 @@ not-owner
 not-window
 not-window
 not-open
-ok
-done
-",
-    ),
-    // A title is painted with the whole frame, which SetRast had overwritten; the pixel of the inner rectangle keeps pen 1. A window
-    // without a frame shows no title.
-    (
-        "run",
-        b"screen 16 16 1
-glyph 42 ffffffffffffffff
-task a
-open w smart front 0 0 9 14 \"\"
-open v smart front 10 0 4 1 borderless \"\"
-setrast w 1
-setrast v 1
-title w \"B\"
-title v \"B\"
-end
-",
-        b"order 6
-0 0 0 0 0 0
-planes 16 16 1
-plane 0
-003c
-0000
-0800
-0800
-0800
-0800
-0800
-0800
-0800
-0800
-0000
-0800
-0000
-0000
-0000
-0000
-visible w 1
-0 0 8 13
-visible v 1
-10 0 13 0
-damage w 0
-damage v 0
-messages w 0
-messages v 0
-replies a 6
-ok
-ok
-ok
-ok
-ok
-ok
-done
-",
-    ),
-    // A partial end of an update leaves the window asked; after a full one it is asked again once there is damage.
-    (
-        "run",
-        b"screen 16 1 1
-task a
-open w smart front 0 0 4 1 borderless ask r \"\"
-size w 1 0
-refresh w
-endrefresh w part
-move w 0 0
-refresh w
-endrefresh w full
-move w 0 0
-size w 1 0
-end
-",
-        b"order 9
-0 0 0 0 0 0 0 0 0
-planes 16 1 1
-plane 0
-0000
-visible w 1
-0 0 5 0
-damage w 1
-5 0 5 0
-messages w 2
-refresh
-refresh
-replies a 9
-ok
-ok
-ok
-ok
-ok
-ok
-ok
-ok
-ok
-done
-",
-    ),
-    // A window that doesn't care is never asked to refresh.
-    (
-        "run",
-        b"screen 16 1 1
-task a
-open w simple front 0 0 4 1 borderless nocare ask r \"\"
-create c smart front 0 0 1 0
-close c
-end
-",
-        b"order 3
-0 0 0
-planes 16 1 1
-plane 0
-0000
-visible w 1
-0 0 3 0
-damage w 1
-0 0 1 0
-messages w 0
-replies a 3
-ok
-ok
 ok
 done
 ",
