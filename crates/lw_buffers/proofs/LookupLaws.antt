@@ -13,6 +13,7 @@ use Rattle.lw_region.proofs.Canonical.{covers_nil, covers_cons}
 use Rattle.lw_planes.specs.Row.{row_bit}
 use Rattle.lw_planes.specs.Bitmap.{Bitmap, pen_at}
 use Rattle.lw_planes.proofs.RowLaws.{row_bit_lt}
+use Rattle.lw_planes.proofs.ChosenLaws.{first_choice}
 use Rattle.lw_kernels.specs.Kernel.{is_named, blit_bit}
 use Rattle.lw_kernels.proofs.ByteLaws.{minterm_copies}
 use Rattle.lw_buffers.specs.declared.shared.Part.{Part}
@@ -141,11 +142,6 @@ zero_step false pen plane old e h = e ∙ sym (ap (λ w. bit_at w plane) (h refl
 pub over_zero : (rs : List Rectangle) (bs : List Bitmap) (plane : ℕ) (x y : ℤ) (old : ℕ) → old ≡ 0 → bit_over rs bs plane x y old ≡ bit_at (pen_in rs bs x y) plane
 over_zero rs bs plane x y old e = zero_step (covers rs x y) (pen_in rs bs x y) plane old e (pen_none rs bs x y)
 
--- a choice in a choice
-join_step : (t c : Bool) (p q r : ℕ) → (if t then p else (if c then q else r)) ≡ (if (t || c) then (if t then p else q) else r)
-join_step true c p q r = refl
-join_step false c p q r = refl
-
 -- the pens of the first list, and where it has none those of the second
 pub pen_in_append : (rs ss : List Rectangle) (bs cs : List Bitmap) (x y : ℤ) → length bs ≡ length rs → pen_in (rs ++ ss) (bs ++ cs) x y ≡ (if covers rs x y then pen_in rs bs x y else pen_in ss cs x y)
 unfolding pen_in
@@ -154,7 +150,7 @@ pen_in_append [] ss (b ∷ bs) cs x y many = absurd (omega arith)
 pen_in_append (r ∷ rs) ss [] cs x y many = absurd (omega arith)
 pen_in_append (r ∷ rs) ss (b ∷ bs) cs x y many =
     ap (λ w. if has_pixel r x y then pen_from r b x y else w) (pen_in_append rs ss bs cs x y (omega arith)) ∙
-    (join_step (has_pixel r x y) (covers rs x y) (pen_from r b x y) (pen_in rs bs x y) (pen_in ss cs x y) ∙
+    (first_choice (has_pixel r x y) (covers rs x y) (pen_from r b x y) (pen_in rs bs x y) (pen_in ss cs x y) ∙
     sym (ap (λ w. if w then pen_in (r ∷ rs) (b ∷ bs) x y else pen_in ss cs x y) (covers_cons r rs x y)))
 
 -- the pen of a place that one rectangle has and none before it

@@ -4,9 +4,9 @@ use Rattle.std.specs.Prelude.{int_lt}
 use Rattle.std.proofs.lemmas.Int.{ints, by_lt_z}
 use Rattle.std.proofs.lemmas.Bool.{and_left, and_right, cases_lt}
 use Rattle.std.proofs.lemmas.Bool.Decides.{nat_tests}
+use Rattle.std.proofs.Math.Bool.{and_comm}
 use Rattle.lw_region.specs.Rectangle.{Rectangle, within, has_pixel}
 use Rattle.lw_region.proofs.Within.{within_true, within_below, within_above}
-use Rattle.lw_region.proofs.Lists.{and_comm}
 use Rattle.lw_kernels.specs.Kernel.{is_between}
 use Rattle.lw_buffers.specs.Shared.{IsDistance, IsShared}
 

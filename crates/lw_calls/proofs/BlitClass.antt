@@ -1,8 +1,8 @@
 -- The class of a blit, by whether its two layers are one.
-use Rattle.std.proofs.Common.{◌≡◌, ℕ, ◌==◌, Bool, true, false, ◌||◌, if◌then◌else◌, refl, sym}
+use Rattle.std.proofs.Common.{◌≡◌, ℕ, ◌==◌, Bool, true, false, if◌then◌else◌, refl, sym}
 use Rattle.lw_calls.specs.Touches.{CallClass, OnLayer, OnLayers, slots_in, has_slot}
 use Rattle.lw_calls.specs.Plan.{is_all}
-use Rattle.std.proofs.lemmas.Bool.{true≢false, false≢true, eq-eqb, eqb-true}
+use Rattle.std.proofs.lemmas.Bool.{false≢true, eq-eqb, eqb-true, or_right, or_parts}
 
 abbrev pub blit_class : Bool → ℕ → ℕ → CallClass
 blit_class same source slot = if same then OnLayer slot else OnLayers source slot
@@ -20,17 +20,9 @@ touches_source source slot false h = rw (eq-eqb source source refl) refl
 -- a blit touches its destination
 pub touches_destination : (source slot : ℕ) (same : Bool) → has_slot (slots_in (blit_class same source slot)) slot ≡ true
 touches_destination source slot true = eq-eqb slot slot refl
-touches_destination source slot false = last (source == slot) (slot == slot) (eq-eqb slot slot refl)
-  where
-    last : (a b : Bool) → b ≡ true → (a || b) ≡ true
-    last true b h = refl
-    last false b h = h
+touches_destination source slot false = or_right (source == slot) (slot == slot) (eq-eqb slot slot refl)
 
 -- a slot that a blit doesn't touch isn't its destination
 pub not_blitted : (source slot s : ℕ) (same : Bool) → has_slot (slots_in (blit_class same source slot)) s ≡ false → (slot == s) ≡ false
 not_blitted source slot s true h = h
-not_blitted source slot s false h = last (source == s) (slot == s) h
-  where
-    last : (a b : Bool) → (a || b) ≡ false → b ≡ false
-    last true b h = absurd (true≢false h)
-    last false b h = h
+not_blitted source slot s false h = (or_parts (source == s) (slot == s) h).1

@@ -12,9 +12,9 @@ use Rattle.lw_calls.specs.Touches.{slots_of}
 use Rattle.lw_calls.specs.Plan.{is_one, is_all, may_be_locked, are_locked, are_an_update, end_an_update, hold_allows, group_calls, group_fits, groups_fit}
 use Rattle.lw_calls.specs.Orders.{meets, is_open}
 use Rattle.lw_calls.specs.Code.OrderState.{groups_over, progress_at, is_held_by, over_more, progress_more}
-use Rattle.std.proofs.lemmas.Bool.{true≢false, false≢true, lt-ltb, le-ltb, lt-leb, ltb-true, ltb-false, leb-true, eqb-true, and_parts}
+use Rattle.std.proofs.lemmas.Bool.{true≢false, false≢true, lt-ltb, le-ltb, lt-leb, ltb-true, ltb-false, leb-true, eqb-true, and_parts, and_right}
 use Rattle.std.proofs.lemmas.Bool.Decides.{nat_tests}
-use Rattle.std.proofs.Math.Bool.{or-false}
+use Rattle.std.proofs.Math.Bool.{or-false, or-true}
 
 -- what the group holds that a task is within where it made so many calls
 abbrev pub hold_at : ℕ → List Group → Option Hold
@@ -56,11 +56,7 @@ pub not_begun : (made : ℕ) (g : Group) → made ≤ g.first → is_open made g
 not_begun made g low = ap (λ b. b && nat_le made g.last) (le-ltb g.first made low)
 
 pub is_over : (made : ℕ) (g : Group) → g.last < made → is_open made g ≡ false
-is_over made g high = step (nat_lt g.first made) (nat_le made g.last) (lt-leb made g.last high)
-  where
-    step : (a b : Bool) → b ≡ false → (a && b) ≡ false
-    step true b h = h
-    step false b h = refl
+is_over made g high = and_right (nat_lt g.first made) (nat_le made g.last) (lt-leb made g.last high)
 
 -- before a task is past a group, it is within none after it
 pub none_behind : (calls : List Call) (g : Group) (gs : List Group) (made : ℕ) → groups_fit calls (g ∷ gs) ≡ true → made ≤ g.last → hold_at made gs ≡ None
@@ -266,19 +262,15 @@ clash_sym (Slot a) AllLayers = refl
 clash_sym AllLayers (Slot b) = refl
 clash_sym AllLayers AllLayers = refl
 
-or_true : (b : Bool) → (b || true) ≡ true
-or_true true = refl
-or_true false = refl
-
 -- a call inside a group meets just what clashes with it
 pub meets_inside : (h k : Hold) (task : ℕ) (info : Bool) (slots : Slots) → inside h slots ≡ true → meets k (record { task = task; info = info; slots = slots }) ≡ clash h k
 meets_inside (Slot s) k task info Nothing i = absurd (false≢true i)
 meets_inside (Slot s) (Slot r) task info (One a) i = ap (λ n. n == r) (eqb-true a s i)
-meets_inside (Slot s) AllLayers task info (One a) i = or_true info
+meets_inside (Slot s) AllLayers task info (One a) i = or-true info
 meets_inside (Slot s) k task info (Two a b) i = absurd (false≢true i)
 meets_inside (Slot s) k task info AllSlots i = absurd (false≢true i)
 meets_inside AllLayers k task info Nothing i = absurd (false≢true i)
 meets_inside AllLayers k task info (One a) i = absurd (false≢true i)
 meets_inside AllLayers k task info (Two a b) i = absurd (false≢true i)
 meets_inside AllLayers (Slot r) task info AllSlots i = refl
-meets_inside AllLayers AllLayers task info AllSlots i = or_true info
+meets_inside AllLayers AllLayers task info AllSlots i = or-true info

@@ -13,6 +13,7 @@ use Rattle.lw_calls.proofs.OrdersComplete.{off_by_hold, occurs_again, occurs_as_
 use Rattle.std.proofs.lemmas.Bool.{true≢false, false≢true, le-ltb, and_parts, and_from}
 use Rattle.std.proofs.lemmas.List.{take_more, take-append-drop, take_all, take-append-le}
 use Rattle.std.proofs.lemmas.List.FromFn.{get_or-map-range_with_len, length-map-range_with_len}
+use Rattle.std.proofs.Math.Bool.{and-true, and-false}
 
 -- one number more of a range
 pub range_more : (p : ℕ → Bool) (n : ℕ) → list_all p (range_with_len 0 n) ≡ true → p n ≡ true → list_all p (range_with_len 0 (n + 1)) ≡ true
@@ -131,11 +132,7 @@ pub keeps_more : (plan : Plan) (numbers : List ℕ) (t : ℕ) (b : Bool) → kee
 keeps_more plan numbers t b keeps may =
     keeps_append plan [] numbers (t ∷ []) ∙
     (ap (λ a. a && (may_come plan numbers t (slice_get (task_calls plan t) (occurrences t numbers)) && true)) keeps ∙
-    (and_true _ ∙ sym may))
-  where
-    and_true : (b : Bool) → (b && true) ≡ b
-    and_true true = refl
-    and_true false = refl
+    (and-true _ ∙ sym may))
 
 -- numbers that don't keep the groups begin nothing that does
 fails_on : (plan : Plan) (numbers rest : List ℕ) → keeps_groups plan [] numbers ≡ false → is_legal plan (numbers ++ rest) ≡ false
@@ -152,14 +149,10 @@ bad_here plan ok order k low keeps fails = record {
 -- where each number may come and calls are left, the order's length is the bad place
 pub bad_at_end : (plan : Plan) → IsPlan plan → (order : List ℕ) → keeps_groups plan [] order ≡ true → is_complete plan order ≡ false → IsBadPlace plan order (length order)
 bad_at_end plan ok order keeps short = record {
-  illegal = ap (λ b. keeps_groups plan [] order && b) short ∙ and_false (keeps_groups plan [] order);
+  illegal = ap (λ b. keeps_groups plan [] order && b) short ∙ and-false (keeps_groups plan [] order);
   before = subst (Begins plan) (sym (take_all (length order) order (omega arith))) (begins plan ok order keeps);
   ends = inr refl;
 }
-  where
-    and_false : (b : Bool) → (b && false) ≡ false
-    and_false true = refl
-    and_false false = refl
 
 -- the test of one task, by whether it is the task itself and whether its group holds what the call touches
 pub kept_off_so : (a b : Bool) → a ≡ false → b ≡ true → (a || not b) ≡ false

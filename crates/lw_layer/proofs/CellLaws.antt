@@ -14,12 +14,6 @@ not_live Unopened other = refl
 not_live Closed other = refl
 not_live (Live d) other = absurd (other d refl)
 
-pub nothing_kept : (x y : ℤ) → holds_at (λ i j. keeps no_layer i j) x y ≡ false
-unfolding keeps is_kept
-nothing_kept (pos x) (pos y) = let off : nat_lt x 0 ≡ false = grind (arith, nat_tests) in rw off refl
-nothing_kept (pos x) (negsuc y) = refl
-nothing_kept (negsuc x) y = refl
-
 pub nothing_drawn : (x y : ℤ) → holds_at (λ i j. draws no_layer i j) x y ≡ false
 unfolding draws is_drawable is_kept
 nothing_drawn (pos x) (pos y) = let off : nat_lt x 0 ≡ false = grind (arith, nat_tests) in rw off refl

@@ -1,18 +1,17 @@
 -- The buffers of a draft as rows are copied out of them.
-use Rattle.std.proofs.Common.{◌≡◌, ℕ, ◌+◌, ◌<◌, List, [], ◌∷◌, ◌++◌, length, get_or, Option, Some, None, ◌∙◌, sym, refl, ap, subst, arith, ℤ, pos, ◌+ℤ◌, ◌-ℤ◌, ◌||◌, if◌then◌else◌, length-append, append-nil}
+use Rattle.std.proofs.Common.{◌≡◌, ℕ, ◌+◌, ◌<◌, List, [], ◌∷◌, ◌++◌, length, get_or, Option, Some, None, ◌∙◌, sym, refl, ap, subst, arith, ℤ, pos, ◌+ℤ◌, ◌-ℤ◌, if◌then◌else◌, length-append, append-nil}
 use Rattle.std.specs.Int.{bit_at}
 use Rattle.std.specs.List.{All}
 use Rattle.std.proofs.lemmas.Nat.Bits.{bit_at-zero}
 use Rattle.std.proofs.lemmas.Int.{ints, by_lt_z}
-use Rattle.std.proofs.lemmas.List.{get_or_append_left, get_or-append-add, get_or_default}
-use Rattle.std.proofs.Math.Bool.{or-false}
+use Rattle.std.proofs.lemmas.List.{get_or_append_left, get_or-append-add, get_or_default, nil_from_length}
 use Rattle.lw_region.specs.Rectangle.{Rectangle, within, has_pixel, IsOrdered}
 use Rattle.lw_region.specs.Order.{natural}
 use Rattle.lw_region.specs.Bands.{covers}
 use Rattle.lw_region.specs.Banded.{IsCanonical}
 use Rattle.lw_region.proofs.Within.{within_true, within_below, within_above}
-use Rattle.lw_region.proofs.Canonical.{covers_nil, covers_cons}
-use Rattle.lw_region.proofs.SetOps.{canonical_bands}
+use Rattle.lw_region.proofs.Canonical.{covers_nil}
+use Rattle.lw_region.proofs.SetOps.{canonical_bands, covers_one}
 use Rattle.lw_planes.specs.Row.{bit_of}
 use Rattle.lw_planes.specs.Bitmap.{Bitmap, pen_at}
 use Rattle.lw_buffers.specs.Lookup.{IsBufferOf, AreBuffers, pen_from, pen_in}
@@ -122,10 +121,6 @@ super_rest Simple hidden covered own is rest = absurd (cc is)
 super_rest Smart hidden covered own is rest = absurd (cc is)
 super_rest SuperBitmap hidden covered own is rest = rest.0
 
-nothing_listed : (bs : List Bitmap) → length bs ≡ 0 → bs ≡ []
-nothing_listed [] none = refl
-nothing_listed (b ∷ bs) none = absurd (omega arith)
-
 -- a place of a bitmap, and the same place where the bitmap lies elsewhere
 within_moved : (least z : ℤ) (scroll w : ℕ) → within (pos 0) z (pos w -ℤ pos 1) ≡ within (least -ℤ pos scroll) ((least +ℤ z) -ℤ pos scroll) (((least -ℤ pos scroll) +ℤ pos w) -ℤ pos 1)
 within_moved least z scroll w =
@@ -146,9 +141,6 @@ step_moved least z scroll = let same : z -ℤ pos 0 ≡ ((least +ℤ z) -ℤ pos
 pen_alone : (r : Rectangle) (b : Bitmap) (x y : ℤ) → pen_in (r ∷ []) (b ∷ []) x y ≡ (if has_pixel r x y then pen_from r b x y else 0)
 unfolding pen_in
 pen_alone r b x y = refl
-
-covers_alone : (r : Rectangle) (x y : ℤ) → covers (r ∷ []) x y ≡ has_pixel r x y
-covers_alone r x y = covers_cons r [] x y ∙ (ap (λ w. has_pixel r x y || w) (covers_nil x y) ∙ or-false (has_pixel r x y))
 
 area_moved : (l : Layout) (b : Bitmap) (z : ℤ) (y : ℕ) → l.width ≡ b.width → l.height ≡ b.height → has_pixel (area_of b) z (pos y) ≡ has_pixel (whole_of l) (across_at l z) (down l y)
 area_moved l b z y wide high = rw (sym wide, sym high, within_moved l.bounds.min_x z l.scroll_x l.width, within_moved l.bounds.min_y (pos y) l.scroll_y l.height) refl
@@ -173,7 +165,7 @@ places_moved l b plane x y n bits kept wide high has = record {
       λ i below.
       let z : ℤ = x +ℤ pos i in
       let same : covers (area_of b ∷ []) z (pos y) ≡ covers (whole_of l ∷ []) (across_at l z) (down l y) =
-      covers_alone (area_of b) z (pos y) ∙ (area_moved l b z y wide high ∙ sym (covers_alone (whole_of l) (across_at l z) (down l y)))
+      covers_one (area_of b) z (pos y) ∙ (area_moved l b z y wide high ∙ sym (covers_one (whole_of l) (across_at l z) (down l y)))
       in
       has.there i below ∙ (ap (λ w. bit_of w) same ∙ ap (λ q. bit_of (covers (whole_of l ∷ []) q (down l y))) (sym (further_across l x i)));
 }
@@ -184,7 +176,7 @@ pub own_places : (d : LiveDraft) (own : Bitmap) (plane : ℕ) (x : ℤ) (y n : �
 own_places d own plane x y n bits kept super is ok has =
     let l = layout d in
     let hidden = hidden_of d.bounds d.parts.visible in
-    let none = nothing_listed d.covered.items (super_rest d.kind (length hidden) (length d.covered.items) d.superbits super ok.rest) in
+    let none = nil_from_length d.covered.items (super_rest d.kind (length hidden) (length d.covered.items) d.superbits super ok.rest) in
     let buffers : rest_buffers d ≡ own ∷ [] = ap (λ q. q ++ own_list d.superbits) none ∙ ap (λ o. own_list o) is in
     let moved = places_moved l own plane x y n bits kept (ap (λ o. width_of o d.bounds) is) (ap (λ o. height_of o d.bounds) is) has in
     let P : Kind → Type 0 = λ q. HasPlaces (rest_as q hidden (whole_of l)) (rest_buffers d) plane (across_at l x) (down l y) n bits kept in

@@ -1,9 +1,9 @@
 -- Which bits the pixels of a row of a layer have, by the places of its buffers.
 use Rattle.std.proofs.Common.{◌≡◌, ℕ, ◌+◌, ◌<◌, ◌≤◌, true, false, if◌then◌else◌, List, [], get_or, Option, Some, None, ◌∙◌, sym, refl, ap, subst, arith, ℤ, pos, negsuc, ◌+ℤ◌, ◌-ℤ◌, ◌≤ℤ◌, ◌<ℤ◌, unsigned_abs, ◌⊎◌, inl, inr, ⊎_elim}
 use Rattle.std.specs.Int.{bit_at}
-use Rattle.std.proofs.lemmas.Bool.{cases_lt, or_parts, or_from}
+use Rattle.std.proofs.lemmas.Bool.{cases_lt, or_parts, or_from, and_left}
 use Rattle.std.proofs.lemmas.Int.{ints}
-use Rattle.std.proofs.lemmas.Nat.Bits.{bit_at-zero}
+use Rattle.std.proofs.lemmas.Nat.Bits.{bit_at-zero, bit_at-lt}
 use Rattle.lw_region.specs.Rectangle.{Rectangle, within, has_pixel, IsOrdered}
 use Rattle.lw_region.specs.Order.{natural}
 use Rattle.lw_region.specs.Bands.{covers}
@@ -29,7 +29,6 @@ use Rattle.lw_layer.proofs.BufferLaws.{as_many_buffers}
 use Rattle.lw_layer.proofs.Positions.{none_passes}
 use Rattle.lw_layer.proofs.FoundLaws.{in_bits_found}
 use Rattle.lw_layer.proofs.ViewLaws.{has_place}
-use Rattle.lw_layer.proofs.ReachLaws.{left_false}
 use Rattle.lw_layer.proofs.KeptLaws.{keeps_found, keeps_missing, column_off, columns_off, rows_off, left_of_pixel, above_pixel}
 use Rattle.lw_layer.proofs.ReadLaws.{unkept_unread}
 
@@ -37,6 +36,11 @@ use Rattle.lw_layer.proofs.ReadLaws.{unkept_unread}
 kept_yes : (c : LiveView) (plane x y : ℕ) → keeps c x y ≡ true → kept_bit c plane (pos x) (pos y) ≡ bit_at (pen_at c.layer.bits x y) plane
 unfolding kept_bit
 kept_yes c plane x y is = ap (λ w. bit_in plane (if w then Some (pen_at c.layer.bits x y) else None)) is
+
+-- a bit of a pen, or of none, is a bit
+pub bit_in_lt : (plane : ℕ) (pen : Option ℕ) → bit_in plane pen < 2
+bit_in_lt plane None = omega arith
+bit_in_lt plane (Some pen) = bit_at-lt pen plane
 
 pub kept_no : (c : LiveView) (plane : ℕ) (x y : ℤ) → holds_at (λ u v. keeps c u v) x y ≡ false → kept_bit c plane x y ≡ 0
 unfolding kept_bit
@@ -69,17 +73,17 @@ off_buffered : (d : LiveDraft) (x y : ℤ) → IsLiveDraft d → IsOrdered d.bou
 off_buffered d x y ok ordered divided off =
     let l = layout d in
     let place : ℤ = across_at l x in
-    let bounds : has_pixel d.bounds place y ≡ false = left_false _ _ (off_bounds d.bounds.min_x d.bounds.max_x l.scroll_x l.width x ordered.columns ok.scrolled.right off) in
-    let whole : has_pixel (whole_of l) place y ≡ false = left_false _ _ (off_whole d.bounds.min_x l.scroll_x l.width x off) in
+    let bounds : has_pixel d.bounds place y ≡ false = and_left _ _ (off_bounds d.bounds.min_x d.bounds.max_x l.scroll_x l.width x ordered.columns ok.scrolled.right off) in
+    let whole : has_pixel (whole_of l) place y ≡ false = and_left _ _ (off_whole d.bounds.min_x l.scroll_x l.width x off) in
     let parts = or_parts (covers d.parts.visible place y) (covers (hidden_of d.bounds d.parts.visible) place y) (divided.cover place y ∙ bounds) in
     covers_append l.visible (rest_of l) place y ∙ or_from _ _ parts.0 (rest_lacks d.kind (hidden_of d.bounds d.parts.visible) (whole_of l) place y parts.1 whole)
 
 -- a difference that isn't below 0
-natural_distance : (z : ℤ) → pos 0 ≤ℤ z → natural z ≡ unsigned_abs z
+pub natural_distance : (z : ℤ) → pos 0 ≤ℤ z → natural z ≡ unsigned_abs z
 natural_distance (pos n) h = refl
 natural_distance (negsuc n) h = absurd (omega (arith, ints))
 
-not_below : (a b : ℤ) → a ≤ℤ b → pos 0 ≤ℤ (b -ℤ a)
+pub not_below : (a b : ℤ) → a ≤ℤ b → pos 0 ≤ℤ (b -ℤ a)
 not_below a b h = omega (arith, ints)
 
 -- the pen of a pixel that has a buffer

@@ -4,6 +4,7 @@ use Rattle.std.proofs.lemmas.Bool.{both_ways, lt-ltb}
 use Rattle.std.proofs.lemmas.Bool.Decides.{nat_tests}
 use Rattle.std.proofs.lemmas.Int.{ints}
 use Rattle.lw_region.specs.Rectangle.{within}
+use Rattle.lw_region.proofs.Lists.{and_alike}
 use Rattle.lw_damage.specs.Damaged.{may_lie}
 use Rattle.lw_machine.specs.Kept.{in_inner}
 use Rattle.lw_layer.specs.Pieces.{inner_of}
@@ -18,17 +19,14 @@ plain_axis : (count x : ℕ) → x < count → within (pos 0) (pos x) (pos (coun
 unfolding within
 plain_axis count x inside = rw (lt-ltb x count inside) (grind (arith, ints, nat_tests))
 
-both_tests : (a b c d : Bool) → a ≡ c → b ≡ d → (a && b) ≡ (c && d)
-both_tests a b c d p q = rw (p, q) refl
-
 -- The rectangle has of a layer's pixels those of its inner rectangle, unless the layer is a super-bitmap layer, which may have
 -- damage nowhere.
 pub may_pixel : (super framed : Bool) (w h x y : ℕ) → super ≡ false → x < w → y < h
     → may_lie (inner_of super framed w h) (pos x) (pos y) ≡ in_inner framed w h x y
 unfolding in_inner
 may_pixel true framed w h x y other left low = absurd (both_ways true other refl)
-may_pixel false true w h x y other left low = both_tests _ _ _ _ (framed_axis 3 4 w x) (framed_axis 10 2 h y)
-may_pixel false false w h x y other left low = both_tests _ _ _ _ (plain_axis w x left) (plain_axis h y low)
+may_pixel false true w h x y other left low = and_alike _ _ _ _ (framed_axis 3 4 w x) (framed_axis 10 2 h y)
+may_pixel false false w h x y other left low = and_alike _ _ _ _ (plain_axis w x left) (plain_axis h y low)
 
 pub none_may : (super framed : Bool) (w h : ℕ) (x y : ℤ) → super ≡ true → may_lie (inner_of super framed w h) x y ≡ false
 none_may true framed w h x y own = refl

@@ -3,10 +3,13 @@ use Rattle.std.proofs.Common.{◌≡◌, ℕ, ◌+◌, ◌-◌, ◌==◌, ◌<�
 use Rattle.std.proofs.lemmas.Bool.Decides.{nat_tests}
 use Rattle.std.proofs.lemmas.Int.{ints}
 use Rattle.std.proofs.lemmas.List.{get_or_append_left, get_or_at, get_or-append-add}
+use Rattle.std.proofs.Math.Bool.{and-false}
+use Rattle.std.proofs.lemmas.Bool.{and_from}
 use Rattle.lw_region.specs.Rectangle.{Rectangle, within, has_pixel, IsOrdered}
 use Rattle.lw_region.specs.Bands.{covers}
 use Rattle.lw_region.proofs.Disjoint.{has_at}
 use Rattle.lw_region.proofs.FindingLaws.{covers_none}
+use Rattle.lw_region.proofs.Within.{within_low}
 use Rattle.lw_planes.proofs.GridLaws.{grid_at}
 use Rattle.lw_planes.specs.Bitmap.{Bitmap}
 use Rattle.lw_calls.specs.Kinds.{is_super}
@@ -23,7 +26,7 @@ use Rattle.lw_layer.specs.declared.draft.LiveDraft.{LiveDraft}
 use Rattle.lw_layer.proofs.FoundLaws.{in_bits_found, whole_has}
 use Rattle.lw_layer.proofs.Positions.{none_passes}
 use Rattle.lw_layer.proofs.ViewLaws.{has_place, both_true}
-use Rattle.lw_layer.proofs.ReachLaws.{simple_number, join_true}
+use Rattle.lw_layer.proofs.ReachLaws.{simple_number}
 
 -- a pixel of the bits is kept as its kind says
 pub kept_in_bits : (d : LiveDraft) (x y : ℕ) (kind : Kind) → d.kind ≡ kind → x < (layout d).width → y < (layout d).height → (kind ≡ Simple → covers d.parts.visible (across (layout d) x) (down (layout d) y) ≡ true) → keeps (live_view d) x y ≡ true
@@ -76,11 +79,6 @@ column_step edge left scroll x u bit inside later is = omega (arith, ints)
 pub distance_is : (edge place : ℤ) (n : ℕ) → pos n ≡ place -ℤ edge → unsigned_abs (place -ℤ edge) ≡ n
 distance_is edge place n is = omega (arith, ints)
 
--- a place within two edges isn't before the least
-pub within_low : (least z greatest : ℤ) → within least z greatest ≡ true → least ≤ℤ z
-unfolding within
-within_low least z greatest has = grind (arith, ints)
-
 -- a run that is drawn
 pub run_some : (d : LiveDraft) (x y n kept len bit line : ℕ) → buffer_at (layout d) x y ≡ Some n → IsKeptReach (layout d) n x y kept → IsReach (lets_draw d y) x kept len → 0 < len → pos bit ≡ across (layout d) x -ℤ (buffer_rectangle (layout d) n).min_x → pos line ≡ down (layout d) y -ℤ (buffer_rectangle (layout d) n).min_y → IsRun (live_view d) (λ i j. draws (live_view d) i j) x y (record { buffer = n; line = line; bit = bit; len = len })
 unfolding in_line
@@ -101,7 +99,7 @@ run_some d x y n kept len bit line found reach drawn some is_bit is_line =
           λ u later before.
           let here = reach.found u later (omega (arith, drawn.upto)) in
           let spot = has_place l u y n here in
-          drawable_is d u y spot.left spot.low ∙ join_true _ _ (keeps_found d u y n here) (drawn.holds u later before);
+          drawable_is d u y spot.left spot.low ∙ and_from _ _ (keeps_found d u y n here) (drawn.holds u later before);
       inside =
           λ u later before.
           let here = reach.found u later (omega (arith, drawn.upto)) in
@@ -112,16 +110,12 @@ run_some d x y n kept len bit line found reach drawn some is_bit is_line =
       bits = λ u later before. column_step l.bounds.min_x (buffer_rectangle l n).min_x l.scroll_x x u bit left later is_bit;
     }
 
-pub and_false : (a : Bool) → (a && false) ≡ false
-and_false true = refl
-and_false false = refl
-
 -- a pixel that isn't drawn
 pub run_none : (d : LiveDraft) (x y n kept len : ℕ) → buffer_at (layout d) x y ≡ Some n → IsKeptReach (layout d) n x y kept → IsReach (lets_draw d y) x kept len → len ≡ 0 → draws (live_view d) x y ≡ false
 run_none d x y n kept len found reach drawn nothing =
     let place = has_place (layout d) x y n found in
     let off : lets_draw d y x ≡ false = drawn.none nothing reach.some in
-    drawable_is d x y place.left place.low ∙ (rw off (and_false _))
+    drawable_is d x y place.left place.low ∙ (rw off (and-false _))
 
 -- the bounds of a layer without an own bitmap have all its pixels
 bounds_within : (least greatest : ℤ) (scroll x : ℕ) → scroll ≡ 0 → least ≤ℤ greatest → x < unsigned_abs ((greatest +ℤ pos 1) -ℤ least) → within least ((least +ℤ pos x) -ℤ pos scroll) greatest ≡ true
@@ -142,7 +136,7 @@ in_bounds d x y is ok ordered left low =
     let still_y = ok.scrolled.upper plain in
     let column : x < columns d.bounds = omega (arith, size.0) in
     let row : y < lines d.bounds = omega (arith, size.1) in
-    join_true _ _ (bounds_within d.bounds.min_x d.bounds.max_x (layout d).scroll_x x still_x ordered.columns column) (bounds_within d.bounds.min_y d.bounds.max_y (layout d).scroll_y y still_y ordered.rows row)
+    and_from _ _ (bounds_within d.bounds.min_x d.bounds.max_x (layout d).scroll_x x still_x ordered.columns column) (bounds_within d.bounds.min_y d.bounds.max_y (layout d).scroll_y y still_y ordered.rows row)
 
 -- a pixel of the bits that has no buffer isn't kept
 pub keeps_missing : (d : LiveDraft) (x y : ℕ) (kind : Kind) → d.kind ≡ kind → IsLiveDraft d → IsOrdered d.bounds → AreDivided d.bounds d.parts.visible (hidden_of d.bounds d.parts.visible) → x < (layout d).width → y < (layout d).height → buffer_at (layout d) x y ≡ None → keeps (live_view d) x y ≡ false
@@ -193,7 +187,7 @@ pub column_off : (d : LiveDraft) (x y : ℕ) → (layout d).width ≤ x → keep
 column_off d x y past = let off : nat_lt x (layout d).width ≡ false = grind (arith, nat_tests) in off_bits d x y (rw off refl)
 
 row_off : (d : LiveDraft) (x y : ℕ) → (layout d).height ≤ y → keeps (live_view d) x y ≡ false
-row_off d x y past = let off : nat_lt y (layout d).height ≡ false = grind (arith, nat_tests) in off_bits d x y (rw off (and_false _))
+row_off d x y past = let off : nat_lt y (layout d).height ≡ false = grind (arith, nat_tests) in off_bits d x y (rw off (and-false _))
 
 pub columns_off : (d : LiveDraft) (x y : ℤ) → ((u : ℕ) → x ≡ pos u → (layout d).width ≤ u) → holds_at (λ i j. keeps (live_view d) i j) x y ≡ false
 columns_off d (pos x) (pos y) off = column_off d x y (off x refl)

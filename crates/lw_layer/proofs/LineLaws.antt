@@ -10,11 +10,11 @@ use Rattle.lw_planes.proofs.PenLaws.{pen_of_same, pen_same}
 use Rattle.lw_planes.proofs.BitmapLaws.{pen_at_bitmap, bitmap_same}
 use Rattle.lw_planes.proofs.WriteLaws.{bit_with_row, bit_with_row_written, bit_with_row_other}
 use Rattle.lw_machine.specs.Desk.{is_the}
+use Rattle.lw_machine.proofs.Seen.{the_one}
 use Rattle.lw_layer.specs.View.{LiveView, repainted}
 use Rattle.lw_layer.specs.Pieces.{Layout, layout_of, columns, lines, buffer_rectangle, buffer_at, column_in, line_in, HasLine, in_line, with_bytes, with_line}
 use Rattle.lw_layer.specs.Code.{HasPlace}
 use Rattle.lw_layer.proofs.ViewLaws.{has_place, with_bits}
-use Rattle.lw_layer.proofs.StateLaws.{is_the_one}
 
 -- layers with equal pens are equal
 pub repainted_same : (c : LiveView) (f g : ℕ → ℕ → ℕ) → ((x y : ℕ) → x < c.layer.bits.width → y < c.layer.bits.height → f x y ≡ g x y) → repainted f c ≡ repainted g c
@@ -32,7 +32,7 @@ bit_overwritten w h d k line bytes i j p pen deep low long left inside in_planes
     (λ apart. is ∙ (bit_with_row_other b k line bytes p i j in_planes left inside low long apart ∙ ap (λ n. bit_at n p) at))
 
 -- a bit of no place stays
-nowhere : (t : Bool) (a b : ℕ) → b ≡ (if t && false then a else b)
+pub nowhere : (t : Bool) (a b : ℕ) → b ≡ (if t && false then a else b)
 nowhere true a b = refl
 nowhere false a b = refl
 
@@ -50,4 +50,4 @@ pub bytes_in_line : (c : LiveView) (k n line : ℕ) (bytes : List ℕ) → IsBit
 unfolding with_bytes in_line
 bytes_in_line c k n line bytes ok deep there long =
     repainted_same c _ _
-    (λ x y left low. pen_overwritten (layout_of c) c.layer.bits.depth n k line bytes x y (pen_at c.layer.bits x y) (is_the (buffer_at (layout_of c) x y) n) (λ e. has_place (layout_of c) x y n (is_the_one (buffer_at (layout_of c) x y) n e)) (ok.pens x y left low) deep there long)
+    (λ x y left low. pen_overwritten (layout_of c) c.layer.bits.depth n k line bytes x y (pen_at c.layer.bits x y) (is_the (buffer_at (layout_of c) x y) n) (λ e. has_place (layout_of c) x y n (the_one (buffer_at (layout_of c) x y) n e)) (ok.pens x y left low) deep there long)

@@ -101,7 +101,7 @@ rest_counted Smart depth make hidden covered are = (blank_counted depth hidden c
 rest_counted SuperBitmap depth make hidden covered are = (ap length are.blank, bitmap make.bits_w make.bits_h depth (λ x y. 0), refl)
 
 -- the size of a new layer's bits
-box_extent : (x w : ℤ) → ((((x +ℤ w) -ℤ pos 1) +ℤ pos 1) -ℤ x) ≡ w
+pub box_extent : (x w : ℤ) → ((((x +ℤ w) -ℤ pos 1) +ℤ pos 1) -ℤ x) ≡ w
 box_extent x w = omega (arith, ints)
 
 new_width : (kind : Kind) (depth : ℕ) (make : Make) (bounds : Rectangle) → make.kind ≡ kind → bounds ≡ bounds_of make → (width_of (own_blank kind depth make) bounds ≡ (blank kind depth make).width) × (height_of (own_blank kind depth make) bounds ≡ (blank kind depth make).height)

@@ -2,6 +2,7 @@
 use Rattle.std.proofs.Common.{◌≡◌, ℕ, zero, suc, ◌+◌, ◌-◌, ◌<◌, ◌≤◌, min, Bool, true, false, not, ◌&&◌, ◌||◌, List, [], ◌∷◌, ◌++◌, length, get_or, Some, None, ◌∙◌, sym, refl, ap, subst, arith, ℤ, pos, ◌+ℤ◌, ◌-ℤ◌, ◌≤ℤ◌, ◌<ℤ◌, ◌⊎◌, inl, inr, ⊎_elim, length-append}
 use Rattle.std.proofs.lemmas.Int.{ints}
 use Rattle.std.proofs.lemmas.List.{get_or_append_left, get_or_at}
+use Rattle.std.proofs.lemmas.Bool.{and_from, and_right, and_left}
 use Rattle.lw_region.specs.Rectangle.{Rectangle, within, has_pixel}
 use Rattle.lw_region.specs.Bands.{covers}
 use Rattle.lw_region.specs.Finding.{BeginsAt}
@@ -13,6 +14,7 @@ use Rattle.lw_cliprects.specs.Parts.{hidden_of, AreDivided}
 use Rattle.lw_layer.specs.Pieces.{Layout, buffered, buffer_rectangle, rest_as, rest_of, whole_of, across, down, buffer_at}
 use Rattle.lw_layer.specs.Code.{HasPlace, IsReach, IsKeptReach, lets_draw}
 use Rattle.lw_region.proofs.Reading.{contains_pixels_of}
+use Rattle.lw_region.proofs.Within.{within_high}
 use Rattle.lw_machine.specs.Kept.{in_clip}
 use Rattle.lw_layer.specs.Drafts.{clip_set}
 use Rattle.lw_layer.specs.declared.draft.LiveDraft.{LiveDraft}
@@ -41,11 +43,6 @@ last_place edge scroll x u count last later before reaches = omega (arith, ints)
 pub before_next : (edge : ℤ) (scroll x u count : ℕ) (next : ℤ) → x ≤ u → u < x + count → (((edge +ℤ pos x) -ℤ pos scroll) +ℤ pos count) ≤ℤ next → ((edge +ℤ pos u) -ℤ pos scroll) <ℤ next
 before_next edge scroll x u count next later before reaches = omega (arith, ints)
 
--- a place within two edges isn't past the greatest
-within_high : (least z greatest : ℤ) → within least z greatest ≡ true → z ≤ℤ greatest
-unfolding within
-within_high least z greatest has = grind (arith, ints)
-
 less_or_same : (a b : ℤ) → a ≤ℤ b → (a <ℤ b) ⊎ (a ≡ b)
 less_or_same a b upto = grind (arith, ints)
 
@@ -53,14 +50,10 @@ less_or_same a b upto = grind (arith, ints)
 past_free : (a b : ℤ) → a ≤ℤ b → (a ≡ b → ⊥) → a <ℤ b
 past_free a b upto other = ⊎_elim (λ (less : a <ℤ b). less) (λ (same : a ≡ b). absurd (other same)) (less_or_same a b upto)
 
--- two halves that hold make a test
-pub join_true : (a b : Bool) → a ≡ true → b ≡ true → (a && b) ≡ true
-join_true a b p q = rw (p, q) refl
-
 pub still_in_rectangle : (l : Layout) (x y n u : ℕ) → HasPlace l x y n → x ≤ u → across l u ≤ℤ (buffer_rectangle l n).max_x → has_pixel (buffer_rectangle l n) (across l u) (down l y) ≡ true
 still_in_rectangle l x y n u place later inside =
     let halves = both_true _ _ place.has in
-    join_true _ _ (more_within (buffer_rectangle l n).min_x (buffer_rectangle l n).max_x (across l x) (across l u) halves.0 (later_place l.bounds.min_x l.scroll_x x u later) inside) halves.1
+    and_from _ _ (more_within (buffer_rectangle l n).min_x (buffer_rectangle l n).max_x (across l x) (across l u) halves.0 (later_place l.bounds.min_x l.scroll_x x u later) inside) halves.1
 
 -- of two rectangles that are apart the first hasn't what the second has
 apart_first : (a b : Bool) → (a && b) ≡ false → b ≡ true → a ≡ false
@@ -203,13 +196,6 @@ zero_or_more : (m : ℕ) → (m ≡ 0) ⊎ (0 < m)
 zero_or_more zero = inl refl
 zero_or_more (suc m) = inr (omega arith)
 
-pub left_false : (a b : Bool) → a ≡ false → (a && b) ≡ false
-left_false a b is = rw is refl
-
-pub right_false : (a b : Bool) → b ≡ false → (a && b) ≡ false
-right_false true b is = is
-right_false false b is = refl
-
 -- every place
 pub reach_all : (test : ℕ → Bool) (x len : ℕ) → ((u : ℕ) → test u ≡ true) → IsReach test x len len
 reach_all test x len all = record { upto = omega arith; holds = λ u later before. all u; none = λ zero_len some. absurd (omega arith) }
@@ -226,12 +212,12 @@ reach_same f g x len n same is = record {
 pub reach_both : (f g : ℕ → Bool) (x len m n : ℕ) → IsReach f x len m → IsReach g x m n → IsReach (λ u. f u && g u) x len n
 reach_both f g x len m n first second = record {
   upto = omega (arith, first.upto, second.upto);
-  holds = λ u later before. join_true _ _ (first.holds u later (omega (arith, second.upto))) (second.holds u later before);
+  holds = λ u later before. and_from _ _ (first.holds u later (omega (arith, second.upto))) (second.holds u later before);
   none =
       λ none_drawn some.
       ⊎_elim
-      (λ (nothing : m ≡ 0). left_false (f x) (g x) (first.none nothing some))
-      (λ (part : 0 < m). right_false (f x) (g x) (second.none none_drawn part))
+      (λ (nothing : m ≡ 0). and_left (f x) (g x) (first.none nothing some))
+      (λ (part : 0 < m). and_right (f x) (g x) (second.none none_drawn part))
       (zero_or_more m);
 }
 

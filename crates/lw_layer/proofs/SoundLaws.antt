@@ -1,17 +1,19 @@
 -- What holds of every live layer for which a draft stands.
-use Rattle.std.proofs.Common.{◌≡◌, ℕ, Bool, true, false, ◌||◌, if◌then◌else◌, inl, inr, List, Option, Some, None, ◌∙◌, sym, refl}
+use Rattle.std.proofs.Common.{◌≡◌, ℕ, Bool, true, false, ◌||◌, inl, inr, List, Option, Some, None, ◌∙◌, sym, refl, subst}
 use Rattle.std.proofs.lemmas.Bool.{cases_lt}
 use Rattle.lw_region.specs.Rectangle.{Rectangle, IsOrdered}
 use Rattle.lw_region.specs.Bands.{covers}
 use Rattle.lw_region.specs.Banded.{IsCanonical}
-use Rattle.lw_planes.specs.Bitmap.{bitmap, pen_at}
+use Rattle.lw_planes.specs.Bitmap.{pen_at}
 use Rattle.lw_planes.proofs.GridLaws.{grid_past_column, grid_past_row}
-use Rattle.lw_planes.proofs.BitmapLaws.{pen_at_bitmap, bitmap_from_pens}
+use Rattle.lw_planes.proofs.BitmapLaws.{pen_at_bitmap}
 use Rattle.lw_cliprects.specs.Parts.{hidden_of, LieIn, AreDivided}
-use Rattle.lw_layer.specs.View.{LiveView, keeps}
+use Rattle.lw_machine.specs.Parts.{SlotPart}
+use Rattle.lw_layer.specs.View as view
+use Rattle.lw_layer.specs.View.{keeps, State, CellView}
 use Rattle.lw_layer.specs.Pieces.{buffer_at}
 use Rattle.lw_layer.specs.Drafts.{IsLiveDraft, layout, buffers_of, pen_from, live_view}
-use Rattle.lw_layer.specs.StandsFor.{IsSound}
+use Rattle.lw_layer.specs.StandsFor.{IsSound, IsLivePart, IsPartOf, StandsFor}
 use Rattle.lw_layer.specs.declared.draft.LiveDraft.{LiveDraft}
 use Rattle.lw_layer.proofs.KeptLaws.{keeps_found, plain_size}
 use Rattle.lw_layer.proofs.BitsLaws.{live_bits}
@@ -58,11 +60,6 @@ live_sound d ok ordered canonical divided = record {
   frame = ok.frame;
 }
 
--- the pen where the layer keeps the pixel, and else 0
-kept_or_zero : (t : Bool) (pen : ℕ) → (t ≡ false → pen ≡ 0) → pen ≡ (if t then pen else 0)
-kept_or_zero true pen off = refl
-kept_or_zero false pen off = off refl
-
--- the bits of a sound layer are known by the pens of the pixels that it keeps
-pub sound_bits : (c : LiveView) → IsSound c → c.layer.bits ≡ bitmap c.layer.bits.width c.layer.bits.height c.layer.bits.depth (λ x y. if keeps c x y then pen_at c.layer.bits x y else 0)
-sound_bits c ok = bitmap_from_pens c.layer.bits _ ok.bits.bitmap (λ x y left low. kept_or_zero (keeps c x y) (pen_at c.layer.bits x y) (ok.off_kept x y))
+-- the slot of a live cell has its layer
+pub live_part : (c : CellView) (p : SlotPart) → c.state ≡ view.Live → StandsFor c p → IsLivePart c.live p
+live_part c p live stands = let P : State → Type 0 = λ s. IsPartOf s c.live p in subst P live stands

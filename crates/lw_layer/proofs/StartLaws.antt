@@ -1,7 +1,8 @@
 -- The first place from which on a test may hold.
 use Rattle.std.proofs.Common.{◌≡◌, ℕ, ◌+◌, ◌<◌, ◌≤◌, min, Bool, true, false, not, ◌&&◌, ◌||◌, List, Some, None, ◌∙◌, sym, refl, subst, arith, ℤ, pos, negsuc, ◌+ℤ◌, ◌-ℤ◌, ◌≤ℤ◌, ◌<ℤ◌, ⊎_elim}
-use Rattle.std.proofs.lemmas.Bool.{cases_lt}
+use Rattle.std.proofs.lemmas.Bool.{cases_lt, and_from, and_right, and_left}
 use Rattle.std.proofs.lemmas.Int.{ints}
+use Rattle.std.proofs.Math.Bool.{and-false}
 use Rattle.lw_region.specs.Rectangle.{Rectangle}
 use Rattle.lw_region.specs.Bands.{covers}
 use Rattle.lw_region.specs.Finding.{BeginsAt}
@@ -14,8 +15,8 @@ use Rattle.lw_layer.specs.Drafts.{clip_set, layout, live_view}
 use Rattle.lw_layer.specs.Runs.{IsNext}
 use Rattle.lw_layer.specs.Code.{IsStart, IsFirstIn, IsFrom, IsBehind, lets_draw}
 use Rattle.lw_layer.specs.declared.draft.LiveDraft.{LiveDraft}
-use Rattle.lw_layer.proofs.ReachLaws.{join_true, left_false, right_false, later_place, before_next}
-use Rattle.lw_layer.proofs.KeptLaws.{and_false, kept_in_bits, drawable_is, column_off, unkept_undrawn}
+use Rattle.lw_layer.proofs.ReachLaws.{later_place, before_next}
+use Rattle.lw_layer.proofs.KeptLaws.{kept_in_bits, drawable_is, column_off, unkept_undrawn}
 
 -- every place
 pub start_all : (test : ℕ → Bool) (x : ℕ) → test x ≡ true → IsStart test x x
@@ -36,22 +37,22 @@ start_both f g x k r first second = record {
   before =
       λ u later sooner.
       ⊎_elim
-      (λ (early : u < k). left_false (f u) (g u) (first.before u later early))
-      (λ (late : k ≤ u). right_false (f u) (g u) (second.before u late sooner))
+      (λ (early : u < k). and_left (f u) (g u) (first.before u later early))
+      (λ (late : k ≤ u). and_right (f u) (g u) (second.before u late sooner))
       (cases_lt u k);
   here =
       λ same.
       let at_first : k ≡ x = omega (arith, first.reaches, second.reaches) in
       let at_second : r ≡ k = omega arith in
       let P : ℕ → Type 0 = λ z. g z ≡ true in
-      join_true (f x) (g x) (first.here at_first) (subst P at_first (second.here at_second));
+      and_from (f x) (g x) (first.here at_first) (subst P at_first (second.here at_second));
 }
 
 -- the first test alone, where it holds nowhere before a place that is past x
 pub start_past : (f g : ℕ → Bool) (x k : ℕ) → x < k → IsStart f x k → IsStart (λ u. f u && g u) x k
 start_past f g x k past first = record {
   reaches = first.reaches;
-  before = λ u later sooner. left_false (f u) (g u) (first.before u later sooner);
+  before = λ u later sooner. and_left (f u) (g u) (first.before u later sooner);
   here = λ same. absurd (omega arith);
 }
 
@@ -60,7 +61,7 @@ pub drawable_row : (d : LiveDraft) (x y : ℕ) → y < (layout d).height → dra
 drawable_row d x y low =
     ⊎_elim
     (λ (left : x < (layout d).width). drawable_is d x y left low)
-    (λ (past : (layout d).width ≤ x). let off = column_off d x y past in unkept_undrawn d x y off ∙ sym (left_false _ (lets_draw d y x) off))
+    (λ (past : (layout d).width ≤ x). let off = column_off d x y past in unkept_undrawn d x y off ∙ sym (and_left _ (lets_draw d y x) off))
     (cases_lt x (layout d).width)
 
 pub drawn_start_is : (d : LiveDraft) (x y k r : ℕ) → y < (layout d).height → IsStart (λ u. keeps (live_view d) u y) x k → IsStart (lets_draw d y) k r → IsStart (λ u. draws (live_view d) u y) x r
@@ -80,13 +81,6 @@ open_start_past d x y k past first = start_past (λ u. in_clip (clip_set d.clip)
 -- a clip region
 pub clip_start_some : (rects : List Rectangle) (x y r : ℕ) → IsStart (λ u. covers rects (pos u) (pos y)) x r → IsStart (λ u. in_clip (clip_set (Some rects)) u y) x r
 clip_start_some rects x y r is = start_same _ _ x r (λ u. sym (contains_pixels_of rects (pos u) (pos y))) is
-
--- damage, in an update and without one
-pub damage_start_updating : (d : LiveDraft) (x y r : ℕ) → d.damage.updating ≡ true → IsStart (λ u. covers d.damage.rects (pos u) (pos y)) x r → IsStart (λ u. not d.damage.updating || covers d.damage.rects (pos u) (pos y)) x r
-damage_start_updating d x y r on is = start_same _ _ x r (λ u. rw on refl) is
-
-pub damage_start_idle : (d : LiveDraft) (x y : ℕ) → d.damage.updating ≡ false → IsStart (λ u. not d.damage.updating || covers d.damage.rects (pos u) (pos y)) x x
-damage_start_idle d x y off = start_all _ x (rw off refl)
 
 up_to_gap : (p next : ℤ) (gap : ℕ) → pos gap ≡ next -ℤ p → (p +ℤ pos gap) ≤ℤ next
 up_to_gap p next gap is = omega (arith, ints)
@@ -126,7 +120,7 @@ shown_start_some l x y gap p q next rs is_p is_q is_rs begins is_gap =
 -- a hidden pixel of a simple layer isn't kept
 simple_unkept : (d : LiveDraft) (x y : ℕ) → d.kind ≡ Simple → covers d.parts.visible (across (layout d) x) (down (layout d) y) ≡ false → keeps (live_view d) x y ≡ false
 unfolding keeps is_kept
-simple_unkept d x y is free = rw (is, free) (and_false _)
+simple_unkept d x y is free = rw (is, free) (and-false _)
 
 -- the first kept pixel from x on, by kind
 pub kept_start_simple : (d : LiveDraft) (x y r : ℕ) → d.kind ≡ Simple → x < (layout d).width → y < (layout d).height → IsStart (λ u. covers d.parts.visible (across (layout d) u) (down (layout d) y)) x r → IsStart (λ u. keeps (live_view d) u y) x r

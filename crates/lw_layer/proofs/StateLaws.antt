@@ -1,11 +1,12 @@
 -- A cell once bytes were written into one of its buffers.
-use Rattle.std.proofs.Common.{◌≡◌, ℕ, ◌==◌, ◌<◌, true, List, length, Option, Some, None, ◌∙◌, sym, refl, ap, arith}
+use Rattle.std.proofs.Common.{◌≡◌, ℕ, ◌==◌, ◌<◌, true, List, length, Some, ◌∙◌, sym, refl, ap, arith}
 use Rattle.std.specs.Int.{bit_at}
 use Rattle.std.specs.List.{slice_index_or}
 use Rattle.std.proofs.lemmas.Bool.Decides.{nat_tests}
 use Rattle.lw_planes.specs.Bitmap.{row_bytes, pen_at}
 use Rattle.lw_planes.proofs.BitmapLaws.{pen_at_bitmap}
 use Rattle.lw_machine.specs.Desk.{is_the}
+use Rattle.lw_machine.proofs.Seen.{the_one}
 use Rattle.lw_layer.specs.View.{CellView, with_live}
 use Rattle.lw_layer.specs.View as view
 use Rattle.lw_layer.specs.Pieces.{Layout, layout_of, columns, buffer_rectangle, buffer_at, column_in, line_in, in_line, HasLine, HasLineBits, with_bytes}
@@ -37,17 +38,12 @@ place_line Unopened slot plane n line ok live deep there = absurd (cc live)
 place_line Closed slot plane n line ok live deep there = absurd (cc live)
 place_line (Live d) slot plane n line ok live deep there = record { sound = ok; deep = deep; there = there }
 
--- a number that is the one told is it
-pub is_the_one : (o : Option ℕ) (n : ℕ) → is_the o n ≡ true → o ≡ Some n
-is_the_one None n h = absurd (cc h)
-is_the_one (Some m) n h = ap Some (grind (arith, nat_tests))
-
 -- the pen of a pixel in a line of a buffer
 pub pen_in_line : (l : Layout) (n line x y : ℕ) → in_line l n line x y ≡ true → (line_in l n y ≡ line) × (buffer_at l x y ≡ Some n)
 unfolding in_line
 pen_in_line l n line x y is =
     let halves : (is_the (buffer_at l x y) n ≡ true) × ((line_in l n y == line) ≡ true) = both_true _ _ is in
-    (grind (arith, nat_tests), is_the_one _ n halves.0)
+    (grind (arith, nat_tests), the_one _ n halves.0)
 
 -- the bytes have the bits of the pixels whose pens are in their line
 pub row_bits_of : (d : LiveDraft) (plane n line : ℕ) (row : List ℕ) → IsLiveDraft d → HasRow d plane n line row → HasLineBits (live_view d) plane n line row

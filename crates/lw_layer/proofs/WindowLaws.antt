@@ -1,12 +1,11 @@
 -- A draft stays one where the window changes that its layer is, and which slot it then stands for.
-use Rattle.std.proofs.Common.{◌≡◌, ℕ, Bool, Option, Some, None, ◌∙◌, sym, refl, ap}
+use Rattle.std.proofs.Common.{◌≡◌, Bool, Option, Some, None, ◌∙◌, sym, refl, ap}
 use Rattle.lw_calls.specs.Kinds.{is_super}
 use Rattle.lw_machine.specs.Kept.{is_kept}
-use Rattle.lw_machine.specs.Layer.{Window, is_framed, changed_window, change_window}
-use Rattle.lw_layer.specs.View.{LiveView, keeps, with_live}
+use Rattle.lw_machine.specs.Layer.{Window, is_framed, changed_window}
+use Rattle.lw_layer.specs.View.{keeps}
 use Rattle.lw_layer.specs.Pieces.{inner_of}
-use Rattle.lw_layer.specs.Drafts.{IsLiveDraft, layout, window_of, room_of, live_view, cell_view}
-use Rattle.lw_layer.specs.declared.draft.DraftState.TheVariants.{Live}
+use Rattle.lw_layer.specs.Drafts.{IsLiveDraft, layout, window_of}
 use Rattle.lw_layer.specs.declared.draft.LiveDraft.{LiveDraft}
 use Rattle.lw_layer.specs.declared.windows.WindowDraft.{WindowDraft}
 
@@ -36,12 +35,6 @@ framed_stays f (Some w) same = same w
 
 pub window_changed : (d : LiveDraft) (w : Option WindowDraft) (f : Window → Window) → window_of w ≡ changed_window f (window_of d.window) → ((v : Window) → (f v).framed ≡ v.framed) → IsLiveDraft d → IsLiveDraft (record d { window = w })
 window_changed d w f is same ok = window_replaced d w (ap is_framed is ∙ framed_stays f (window_of d.window) same) ok
-
--- the slot whose layer's window is changed
-pub window_viewed : (slot : ℕ) (d : LiveDraft) (w : Option WindowDraft) (f : Window → Window) → window_of w ≡ changed_window f (window_of d.window) → cell_view (record { slot = slot; state = Live (record d { window = w }) }) ≡ with_live (λ c. record c { room = room_of w; layer = change_window f c.layer }) (cell_view (record { slot = slot; state = Live d }))
-window_viewed slot d w f is =
-    let seen : Option Window → LiveView = λ v. record (live_view d) { room = room_of w; layer = record (live_view d).layer { window = v } } in
-    ap (λ v. record (cell_view (record { slot = slot; state = Live d })) { live = seen v }) is
 
 -- whether the layer is the active window
 pub active_replaced : (d : LiveDraft) (active : Bool) → IsLiveDraft d → IsLiveDraft (record d { active = active })

@@ -61,7 +61,7 @@ made d slot make window ok fits frameless e =
     (new_ready d.sizes make (hook_from d.shelf make.hook) window (new_may_have d.sizes make (hook_from d.shelf make.hook) window second.0) frameless)
 
 -- no super-bitmap layer that may be asked for is a window with a frame
-frameless : (framed own : Bool) → not (framed && own) ≡ true → own ≡ true → framed ≡ false
+pub frameless : (framed own : Bool) → not (framed && own) ≡ true → own ≡ true → framed ≡ false
 frameless true own e is = absurd (cc)
 frameless false own e is = refl
 

@@ -29,7 +29,7 @@ all_zero : (w h depth : ℕ) → IsBitmap (record { width = w; height = h; depth
 all_zero w h depth = IsBitmap_bitmap w h depth (λ x y. 0) (λ x y left low. omega (arith, pen_within_lt depth 0))
 
 -- the bitmap of a new layer is one, of the screen's depth, and has pen 0 everywhere
-blank_bitmap : (k : Kind) (depth : ℕ) (m : Make) → IsBitmap (blank k depth m)
+pub blank_bitmap : (k : Kind) (depth : ℕ) (m : Make) → IsBitmap (blank k depth m)
 blank_bitmap Simple depth m = all_zero (unsigned_abs m.w) (unsigned_abs m.h) depth
 blank_bitmap Smart depth m = all_zero (unsigned_abs m.w) (unsigned_abs m.h) depth
 blank_bitmap SuperBitmap depth m = all_zero m.bits_w m.bits_h depth

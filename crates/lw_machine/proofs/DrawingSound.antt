@@ -8,8 +8,8 @@ use Rattle.lw_region.specs.Rectangle.{Rectangle}
 use Rattle.lw_region.specs.Pixels.{Pixel}
 use Rattle.lw_planes.specs.Grid.{grid, at}
 use Rattle.lw_planes.specs.Bitmap.{Bitmap, pen_at}
-use Rattle.lw_planes.specs.Minterm.{minterm_bit}
 use Rattle.lw_planes.proofs.PenLaws.{pen_of_lt}
+use Rattle.lw_planes.proofs.ChosenLaws.{minterm_bit_lt, chosen_small}
 use Rattle.lw_calls.specs.declared.area.Area.{Area}
 use Rattle.lw_machine.specs.Layer.{Layer, Slot, Unopened, Live, Closed, Raster, Window, is_window, is_framed, changed_window, change_window}
 use Rattle.lw_calls.specs.Kinds.{is_super}
@@ -154,24 +154,12 @@ through_mask_lt depth mask candidate old bits =
     pick true k = bits k
     pick false k = bit_at-lt old k
 
--- either of two bits
-either_bit : (b : Bool) (p q : ℕ) → p < 2 → q < 2 → (if b then p else q) < 2
-either_bit true p q h k = h
-either_bit false p q h k = k
-
 -- what a bit becomes is a bit
-candidate_bit_lt : (r : Raster) (foreground : Bool) (k old : ℕ) → old < 2 → candidate_bit r foreground k old < 2
+pub candidate_bit_lt : (r : Raster) (foreground : Bool) (k old : ℕ) → old < 2 → candidate_bit r foreground k old < 2
 candidate_bit_lt r foreground k old h =
-    either_bit (has_complement r) _ _
-    (either_bit foreground (1 - old) old (omega arith) h)
-    (either_bit foreground (bit_at r.pen_a k) _ (bit_at-lt r.pen_a k) (either_bit (has_jam2 r) (bit_at r.pen_b k) old (bit_at-lt r.pen_b k) h))
-
--- a minterm's value is a bit
-minterm_bit_lt : (minterm b c : ℕ) → minterm_bit minterm b c < 2
-minterm_bit_lt minterm b c =
-    either_bit (b == 1) _ _
-    (either_bit (c == 1) _ _ (bit_at-lt minterm 7) (bit_at-lt minterm 6))
-    (either_bit (c == 1) _ _ (bit_at-lt minterm 5) (bit_at-lt minterm 4))
+    chosen_small (has_complement r) _ _ 2
+    (chosen_small foreground (1 - old) old 2 (omega arith) h)
+    (chosen_small foreground (bit_at r.pen_a k) _ 2 (bit_at-lt r.pen_a k) (chosen_small (has_jam2 r) (bit_at r.pen_b k) old 2 (bit_at-lt r.pen_b k) h))
 
 -- pens on drawable pixels alone
 with_pens_alike : (planes : ℕ) (visible : ℕ → ℕ → Bool) (on : ℕ → ℕ → Bool) (pen : ℕ → ℕ → ℕ) (l : Layer) → ((x y : ℕ) → on x y ≡ true → is_drawable visible l x y ≡ true) → ((x y : ℕ) → pen x y < 2 ^ l.bits.depth) → IsKeeping planes visible l → IsAlike planes visible l (with_pens on pen l)

@@ -171,10 +171,10 @@ last_before_one test s m (u ∷ us) other one has last =
         (h e)
 
 -- a list's first is in it, and so is each of the rest
-has_first : (u : ℕ) (us : List ℕ) → 0 < occurrences u (u ∷ us)
+pub has_first : (u : ℕ) (us : List ℕ) → 0 < occurrences u (u ∷ us)
 has_first u us = let e : (u == u) ≡ true = eq-eqb u u refl in rw e (omega arith)
 
-has_rest : (t u : ℕ) (us : List ℕ) → 0 < occurrences t us → 0 < occurrences t (u ∷ us)
+pub has_rest : (t u : ℕ) (us : List ℕ) → 0 < occurrences t us → 0 < occurrences t (u ∷ us)
 has_rest t u us h = omega (arith, h)
 
 -- tests that agree on a list's members say the same of all of them

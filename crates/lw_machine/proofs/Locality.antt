@@ -1,6 +1,6 @@
 -- A call's reply, and what it touches after it, are functions of what it touches before it.
-use Rattle.std.proofs.Common.{◌≡◌, ℕ, ◌==◌, ◌*◌, ◌<◌, ◌≤◌, Bool, true, false, not, ◌&&◌, if◌then◌else◌, List, [], length, ℤ, pos, ◌+ℤ◌, int_le, unsigned_abs, Option, Some, None, slice_index_or, find, nat_lt, IsTrue, refl, sym, ap, ap₂, subst, ◌∙◌, ⊎_elim, arith, eq-eqb}
-use Rattle.std.proofs.lemmas.Bool.{false≢true, cases_lt, ltb-true}
+use Rattle.std.proofs.Common.{◌≡◌, ℕ, ◌==◌, ◌*◌, ◌<◌, ◌≤◌, Bool, true, false, not, if◌then◌else◌, List, [], length, ℤ, pos, ◌+ℤ◌, int_le, unsigned_abs, Option, Some, None, slice_index_or, find, nat_lt, IsTrue, refl, sym, ap, ap₂, subst, ◌∙◌, ⊎_elim, arith, eq-eqb}
+use Rattle.std.proofs.lemmas.Bool.{false≢true, cases_lt, ltb-true, and_parts}
 use Rattle.lw_region.specs.Pixels.{Pixel}
 use Rattle.lw_planes.specs.Bitmap.{pen_at}
 use Rattle.lw_calls.specs.declared.call.Call.{Call}
@@ -76,16 +76,6 @@ register_changed d e task register f q Info h = h
 -- both desks refuse a call where the slot isn't open
 opens : (d e : Desk) (task slot : ℕ) → IsSeen d e task slot → refuse_not_open (d.slot slot) None ≡ refuse_not_open (e.slot slot) None
 opens d e task slot v = ap (λ s. refuse_not_open s None) v.state
-
--- the first of two tests that hold
-first : (a b : Bool) → (a && b) ≡ true → a ≡ true
-first true b h = refl
-first false b h = h
-
--- the second of two tests that hold
-second : (a b : Bool) → (a && b) ≡ true → b ≡ true
-second true b h = h
-second false b h = absurd (false≢true h)
 
 -- what a call on one layer reads is the same where two desks agree on what it touches
 seen_at : (d e : Desk) (task slot : ℕ) → AgreeOn (record { task = task; info = false; slots = One slot }) d e → nat_lt slot d.sizes.slots ≡ true → IsSeen d e task slot
@@ -209,43 +199,43 @@ same_call d e task (RegClear register) sound other fits a =
 same_call d e task (Which x y) sound other fits a =
     record { refuses = refl; answers = λ i. found (top_at (a.parts Info refl tt i) x y); parts = λ r h. h }
 same_call d e task (SetA slot pen) sound other fits a =
-    let v = seen_at d e task slot a (first _ _ fits) in
+    let v = seen_at d e task slot a (and_parts _ _ fits).0 in
     record { refuses = opens d e task slot v; answers = refl; parts = layer_changed d e slot _ _ v.state refl }
 same_call d e task (SetB slot pen) sound other fits a =
-    let v = seen_at d e task slot a (first _ _ fits) in
+    let v = seen_at d e task slot a (and_parts _ _ fits).0 in
     record { refuses = opens d e task slot v; answers = refl; parts = layer_changed d e slot _ _ v.state refl }
 same_call d e task (SetMode slot mode) sound other fits a =
-    let v = seen_at d e task slot a (first _ _ fits) in
+    let v = seen_at d e task slot a (and_parts _ _ fits).0 in
     record { refuses = opens d e task slot v; answers = refl; parts = layer_changed d e slot _ _ v.state refl }
 same_call d e task (SetMask slot mask) sound other fits a =
-    let v = seen_at d e task slot a (first _ _ fits) in
+    let v = seen_at d e task slot a (and_parts _ _ fits).0 in
     record { refuses = opens d e task slot v; answers = refl; parts = layer_changed d e slot _ _ v.state refl }
 same_call d e task (At slot x y) sound other fits a =
-    let v = seen_at d e task slot a (first _ _ fits) in
+    let v = seen_at d e task slot a (and_parts _ _ fits).0 in
     record { refuses = opens d e task slot v; answers = refl; parts = layer_changed d e slot _ _ v.state refl }
 same_call d e task (WritePixel slot x y) sound other fits a =
-    let v = seen_at d e task slot a (first _ _ fits) in
+    let v = seen_at d e task slot a (and_parts _ _ fits).0 in
     record {
       refuses = opens d e task slot v;
       answers = λ i. from_layer (λ l. if holds_at (is_drawable (v.visible i l) l) x y then Done else Outside) (v.state i);
       parts = layer_changed d e slot _ _ v.state (λ i l. write_pixel (v.visible i l) x y l);
     }
 same_call d e task (ReadPixel slot x y) sound other fits a =
-    let v = seen_at d e task slot a (first _ _ fits) in
+    let v = seen_at d e task slot a (and_parts _ _ fits).0 in
     record {
       refuses = opens d e task slot v;
       answers = λ i. from_layer (λ l. if holds_at (is_kept (v.visible i l) l) x y then Pen (pen_at l.bits (unsigned_abs x) (unsigned_abs y)) else Outside) (v.state i);
       parts = λ r h. h;
     }
 same_call d e task (Fill slot rect) sound other fits a =
-    let v = seen_at d e task slot a (first _ _ fits) in
+    let v = seen_at d e task slot a (and_parts _ _ fits).0 in
     record {
       refuses = opens d e task slot v;
       answers = refl;
       parts = layer_changed d e slot _ _ v.state (λ i l. rect_fill (v.visible i l) rect l);
     }
 same_call d e task (DrawTo slot x y) sound other fits a =
-    let v = seen_at d e task slot a (first _ _ fits) in
+    let v = seen_at d e task slot a (and_parts _ _ fits).0 in
     record {
       refuses = opens d e task slot v;
       answers = refl;
@@ -259,28 +249,28 @@ same_call d e task (Letters slot text) sound other fits a =
       parts = layer_changed d e slot _ _ v.state (λ i l. draw_text (v.assets i).glyphs (v.visible i l) text l);
     }
 same_call d e task (SetRast slot pen) sound other fits a =
-    let v = seen_at d e task slot a (first _ _ fits) in
+    let v = seen_at d e task slot a (and_parts _ _ fits).0 in
     record {
       refuses = opens d e task slot v;
       answers = refl;
       parts = layer_changed d e slot _ _ v.state (λ i l. set_rast (v.visible i l) pen l);
     }
 same_call d e task (ScrollRaster slot dx dy rect) sound other fits a =
-    let v = seen_at d e task slot a (first _ _ fits) in
+    let v = seen_at d e task slot a (and_parts _ _ fits).0 in
     record {
       refuses = opens d e task slot v;
       answers = refl;
       parts = layer_changed d e slot _ _ v.state (λ i l. scroll_raster (v.visible i l) dx dy rect l);
     }
 same_call d e task (Put bitmap slot area) sound other fits a =
-    let v = seen_at d e task slot a (first _ _ (second _ _ fits)) in
+    let v = seen_at d e task slot a (and_parts _ _ (and_parts _ _ fits).1).0 in
     record {
       refuses = opens d e task slot v;
       answers = refl;
       parts = layer_changed d e slot _ _ v.state (λ i l. blt_bitmap_rast_port (slice_index_or (v.assets i).bitmaps bitmap no_bitmap) (v.visible i l) area l);
     }
 same_call d e task (Clip slot register) sound other fits a =
-    let v = seen_at d e task slot a (first _ _ fits) in
+    let v = seen_at d e task slot a (and_parts _ _ fits).0 in
     record {
       refuses = λ i. refuse_not_open (v.state i) (refuse (layer_is (λ l. l.updating) (v.state i)) InUpdate None);
       answers = λ i. from_layer (λ l. clip_answer l.clip) (v.state i);
@@ -308,7 +298,7 @@ same_call d e task (EndRefresh slot full) sound other fits a =
       parts = layer_changed d e slot _ _ v.state refl;
     }
 same_call d e task (Scroll slot dx dy) sound other fits a =
-    let v = seen_at d e task slot a (first _ _ fits) in
+    let v = seen_at d e task slot a (and_parts _ _ fits).0 in
     record {
       refuses = λ i. refuse_not_open (v.state i) (refuse (layer_is (λ l. not (is_super l.kind)) (v.state i)) NotSuper (refuse (layer_is (λ l. not (may_scroll (v.part i).bounds dx dy l)) (v.state i)) OutOfBounds None));
       answers = refl;
@@ -329,8 +319,8 @@ same_call d e task (TakeMessage slot) sound other fits a =
       parts = layer_changed d e slot _ _ v.state refl;
     }
 same_call d e task (Blit source slot area) sound other fits a =
-    let v = seen_blit d e task source slot source area a (touches_source source slot (source == slot) refl) (first _ _ fits) in
-    let w = seen_blit d e task source slot slot area a (touches_destination source slot (source == slot)) (first _ _ (second _ _ fits)) in
+    let v = seen_blit d e task source slot source area a (touches_source source slot (source == slot) refl) (and_parts _ _ fits).0 in
+    let w = seen_blit d e task source slot slot area a (touches_destination source slot (source == slot)) (and_parts _ _ (and_parts _ _ fits).1).0 in
     record {
       refuses = blit_refused d e source slot (source == slot) v.state w.state;
       answers = refl;

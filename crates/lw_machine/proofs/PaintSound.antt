@@ -9,12 +9,12 @@ use Rattle.lw_planes.specs.Bitmap.{pen_at}
 use Rattle.lw_planes.proofs.GridLaws.{grid_at, grid_past_column, grid_past_row}
 use Rattle.lw_planes.proofs.BitmapLaws.{IsBitmap_bitmap}
 use Rattle.lw_planes.proofs.PenLaws.{pen_of_lt}
+use Rattle.lw_planes.proofs.ChosenLaws.{chosen_small}
 use Rattle.lw_machine.specs.Layer.{Layer, Window}
 use Rattle.lw_machine.specs.Kept.{is_kept}
 use Rattle.lw_machine.specs.Paint.{with_pens, pen_within}
 use Rattle.lw_machine.specs.Reveal.{with_frame, framed_by, framing_pen, in_frame}
 use Rattle.lw_machine.specs.Sound.{IsKeeping}
-use Rattle.lw_planes.proofs.WriteLaws.{chosen_small}
 
 -- what a table has at a place is its default, where the value that was tabulated there is
 pub grid_at_default : {A : Type 0} (w h : ℕ) (f : ℕ → ℕ → A) (d : A) (x y : ℕ) → f x y ≡ d → at d (grid w h f) x y ≡ d

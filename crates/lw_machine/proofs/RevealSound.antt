@@ -150,7 +150,7 @@ painted_settled sizes c l m n s p =
     }
 
 -- a layer that is no framed window has no frame to paint
-frameless_by : (glyphs : List (List ℕ)) (kept : ℕ → ℕ → Bool) (active : Bool) (o : Option Window) (l : Layer) → is_framed o ≡ false → framed_by glyphs kept active o l ≡ l
+pub frameless_by : (glyphs : List (List ℕ)) (kept : ℕ → ℕ → Bool) (active : Bool) (o : Option Window) (l : Layer) → is_framed o ≡ false → framed_by glyphs kept active o l ≡ l
 frameless_by glyphs kept active None l e = refl
 frameless_by glyphs kept active (Some w) l e = rw e refl
 

@@ -10,11 +10,18 @@ use Rattle.lw_planes.proofs.BitmapLaws.{pen_at_bitmap}
 use Rattle.lw_machine.specs.Layer.{Layer, Slot, Live}
 use Rattle.lw_machine.specs.Desk.{Desk, is_the}
 use Rattle.lw_machine.specs.Screen.{bounds_have, top, distance, pen_on, pen_of_top, screen, is_shown}
-use Rattle.lw_machine.specs.Kept.{screen_place, visible_within, is_visible}
+use Rattle.lw_machine.specs.Kept.{holds_at, screen_place, visible_within, is_visible}
 use Rattle.lw_machine.specs.Arrangement.{is_on_screen}
 use Rattle.lw_machine.specs.Sound.{IsPlaced, IsSlot, IsDesk}
 use Rattle.lw_machine.specs.Laws.{VisiblePixelsAreSeen}
 use Rattle.lw_region.proofs.Columns.{le_true}
+use Rattle.lw_region.proofs.Numbers.{le_of}
+
+-- tests that agree hold at the same places
+pub holds_same : (f g : ℕ → ℕ → Bool) (x y : ℤ) → ((i j : ℕ) → f i j ≡ g i j) → holds_at f x y ≡ holds_at g x y
+holds_same f g (pos x) (pos y) same = same x y
+holds_same f g (pos x) (negsuc y) same = refl
+holds_same f g (negsuc x) y same = refl
 
 -- what is found passes the test
 found_step : {A : Type 0} (test : A → Bool) (x : A) (rest : Option A) (a : A) (b : Bool) → test x ≡ b → (rest ≡ Some a → test a ≡ true) → (if b then Some x else rest) ≡ Some a → test a ≡ true
@@ -28,7 +35,7 @@ found_passes test [] a e = absurd (cc)
 found_passes test (x ∷ xs) a e = found_step test x (find test xs) a (test x) refl (λ k. found_passes test xs a k) e
 
 -- a number that is the one that is told
-the_one : (o : Option ℕ) (s : ℕ) → is_the o s ≡ true → o ≡ Some s
+pub the_one : (o : Option ℕ) (s : ℕ) → is_the o s ≡ true → o ≡ Some s
 the_one None s e = absurd (false≢true e)
 the_one (Some m) s e = ap (λ k. Some k) (eqb-true m s e)
 
@@ -41,9 +48,6 @@ counted : (z : ℤ) → int_le (pos 0) z ≡ true → (n : ℕ) × (z ≡ pos n)
 counted (pos n) e = (n, refl)
 counted (negsuc n) e = absurd (cc)
 
-true_le : (a b : ℤ) → int_le a b ≡ true → a ≤ℤ b
-true_le a b e = grind (arith, ints)
-
 -- a place between two bounds that lie on the screen is a place of the screen
 record IsPlace (width : ℕ) (low place high : ℤ) : Type 0 where
   number : ℕ
@@ -54,8 +58,8 @@ record IsPlace (width : ℕ) (low place high : ℤ) : Type 0 where
 on_axis : (width : ℕ) (low place high : ℤ) → within low place high ≡ true → int_le (pos 0) low ≡ true → int_le (high +ℤ pos 1) (pos width) ≡ true → IsPlace width low place high
 on_axis width low place high inside from to =
     let right : low ≤ℤ place = within_low low place high inside in
-    let number = counted place (le_true (pos 0) place (up (pos 0) low place (true_le (pos 0) low from) right)) in
-    record { number = number.0; is = number.1; below = before width number.0 place high number.1 (within_high low place high inside) (true_le (high +ℤ pos 1) (pos width) to); right = right }
+    let number = counted place (le_true (pos 0) place (up (pos 0) low place (le_of (pos 0) low from) right)) in
+    record { number = number.0; is = number.1; below = before width number.0 place high number.1 (within_high low place high inside) (le_of (high +ℤ pos 1) (pos width) to); right = right }
   where
     up : (a b c : ℤ) → a ≤ℤ b → b ≤ℤ c → a ≤ℤ c
     up a b c h k = omega (arith, ints)

@@ -1,14 +1,16 @@
 -- Laws of bitmaps and the rows of their planes.
-use Rattle.std.proofs.Common.{◌≡◌, ℕ, ◌+◌, ◌-◌, ◌*◌, ◌/◌, ◌%◌, ◌^◌, ◌<◌, ◌≤◌, length, slice_index, ◌∙◌, sym, ap, zero-add, arith}
+use Rattle.std.proofs.Common.{◌≡◌, ℕ, ◌+◌, ◌-◌, ◌*◌, ◌/◌, ◌%◌, ◌^◌, ◌<◌, ◌≤◌, length, slice_index, inl, inr, ◌∙◌, sym, ap, zero-add, arith}
 use Rattle.std.specs.Int.{bit_at}
 use Rattle.std.proofs.lemmas.Bool.Decides.{nat_tests}
 use Rattle.std.proofs.lemmas.List.FromFn.{length-map-range_with_len, get_or-map-range_with_len}
-use Rattle.std.proofs.lemmas.Nat.Bits.{bit_at-lt, same_from_bits_below}
+use Rattle.std.proofs.lemmas.Nat.Bits.{bit_at-lt}
+use Rattle.std.proofs.lemmas.Bool.{cases_lt}
+use Rattle.std.proofs.lemmas.Nat.{pow_pos}
 use Rattle.lw_planes.specs.Pen.{byte_of}
 use Rattle.lw_planes.specs.Row.{row_bit}
 use Rattle.lw_planes.specs.Bitmap.{Bitmap, IsBitmap, bitmap, pen_at, row_bytes, plane_bit, plane_row}
-use Rattle.lw_planes.proofs.GridLaws.{grid_length, grid_same, grid_row_length, grid_at, grid_of_rows, grid_from_rows}
-use Rattle.lw_planes.proofs.PenLaws.{bit_byte_of, byte_of_lt}
+use Rattle.lw_planes.proofs.GridLaws.{grid_length, grid_same, grid_row_length, grid_at, grid_past_column, grid_past_row, grid_of_rows, grid_from_rows}
+use Rattle.lw_planes.proofs.PenLaws.{bit_byte_of}
 use Rattle.lw_planes.proofs.RowLaws.{row_bit_at}
 
 -- a tabulated bitmap whose pens have bits in its planes alone is one
@@ -31,6 +33,20 @@ bitmap_again b ok = ap (λ rows. record b { rows = rows }) (sym (grid_of_rows b.
 pub bitmap_from_pens : (b : Bitmap) (f : ℕ → ℕ → ℕ) → IsBitmap b → ((x y : ℕ) → x < b.width → y < b.height → pen_at b x y ≡ f x y) → b ≡ bitmap b.width b.height b.depth f
 bitmap_from_pens b f ok same = ap (λ rows. record b { rows = rows }) (grid_from_rows b.width b.height f 0 b.rows ok.rows ok.columns same)
 
+-- every pen of a bitmap, and the pen 0 off it, is of its planes
+pub pen_at_lt : (b : Bitmap) (x y : ℕ) → IsBitmap b → pen_at b x y < 2 ^ b.depth
+pen_at_lt b x y ok =
+    let some : 0 < 2 ^ b.depth = pow_pos b.depth in
+    let off : pen_at b x y ≡ 0 → pen_at b x y < 2 ^ b.depth = λ zero. omega (arith, some, zero) in
+    let again : pen_at b x y ≡ pen_at (bitmap b.width b.height b.depth (λ i j. pen_at b i j)) x y = ap (λ q. pen_at q x y) (sym (bitmap_again b ok)) in
+    elim (cases_lt y b.height) [
+      | inl low ↦ elim (cases_lt x b.width) [
+        | inl left ↦ ok.pens x y left low
+        | inr past ↦ off (again ∙ grid_past_column b.width b.height (λ i j. pen_at b i j) 0 x y past low)
+      ]
+      | inr past ↦ off (again ∙ grid_past_row b.width b.height (λ i j. pen_at b i j) 0 x y past)
+    ]
+
 -- a row of whole words has room for every pixel
 pub row_bytes_wide : (w : ℕ) → w ≤ 8 * row_bytes w
 row_bytes_wide w = omega arith
@@ -49,13 +65,6 @@ pub plane_row_at : (b : Bitmap) (k y i : ℕ) → i < row_bytes b.width → slic
 unfolding plane_row
 plane_row_at b k y i h = get_or-map-range_with_len (λ n. byte_of (λ j. plane_bit b k (8 * n + j) y)) 0 (row_bytes b.width) i i 0 h (zero-add i)
 
--- each byte of a row of a plane fits a byte
-pub plane_row_lt : (b : Bitmap) (k y i : ℕ) → i < row_bytes b.width → slice_index (plane_row b k y) i < 256
-plane_row_lt b k y i h =
-    let small : byte_of (λ j. plane_bit b k (8 * i + j) y) < 256 = byte_of_lt (λ j. plane_bit b k (8 * i + j) y) (λ j l. plane_bit_lt b k (8 * i + j) y) in
-    let is = plane_row_at b k y i h in
-    omega (arith, is)
-
 -- bit x of a row of a plane is that plane's bit of pixel x, and 0 in the padding
 pub row_bit_plane_row : (b : Bitmap) (k x y : ℕ) → x < 8 * row_bytes b.width → row_bit (plane_row b k y) x ≡ plane_bit b k x y
 row_bit_plane_row b k x y h =
@@ -72,20 +81,3 @@ row_bit_plane_row b k x y h =
 -- tabulated bitmaps are equal where their pens are
 pub bitmap_same : (w h d : ℕ) (f g : ℕ → ℕ → ℕ) → ((x y : ℕ) → x < w → y < h → f x y ≡ g x y) → bitmap w h d f ≡ bitmap w h d g
 bitmap_same w h d f g same = ap (λ rows. record { width = w; height = h; depth = d; rows = rows }) (grid_same w h f g same)
-
--- bitmaps of one size whose pens have equal bits in its planes are equal
-pub bitmap_same_bits : (b c : Bitmap) → IsBitmap b → IsBitmap c → b.width ≡ c.width → b.height ≡ c.height → b.depth ≡ c.depth → ((x y k : ℕ) → x < b.width → y < b.height → k < b.depth → bit_at (pen_at b x y) k ≡ bit_at (pen_at c x y) k) → b ≡ c
-bitmap_same_bits b c first second width height depth same =
-    let pens : (x y : ℕ) → x < b.width → y < b.height → pen_at b x y ≡ pen_at c x y =
-    λ x y left low.
-    let small = first.pens x y left low in
-    let right : x < c.width = omega (arith, left, width) in
-    let high : y < c.height = omega (arith, low, height) in
-    let less : pen_at c x y < 2 ^ b.depth = rw depth (second.pens x y right high) in
-    same_from_bits_below b.depth (pen_at b x y) (pen_at c x y) small less (λ k deep. same x y k left low deep)
-    in
-    sym (bitmap_again b first) ∙
-    (bitmap_same b.width b.height b.depth (λ x y. pen_at b x y) (λ x y. pen_at c x y) pens ∙
-    (ap (λ w. bitmap w b.height b.depth (λ x y. pen_at c x y)) width ∙
-    (ap (λ h. bitmap c.width h b.depth (λ x y. pen_at c x y)) height ∙
-    (ap (λ d. bitmap c.width c.height d (λ x y. pen_at c x y)) depth ∙ bitmap_again c second))))

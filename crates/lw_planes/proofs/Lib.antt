@@ -7,3 +7,4 @@ pub mod StorageLaws
 pub mod ChangeLaws
 pub mod WriteLaws
 pub mod DefinitionLaws
+pub mod ChosenLaws

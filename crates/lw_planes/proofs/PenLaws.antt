@@ -3,7 +3,7 @@ use Rattle.std.proofs.Common.{◌≡◌, ℕ, zero, suc, ◌+◌, ◌-◌, ◌*�
 use Rattle.std.proofs.Math.Nat.{sub_self}
 use Rattle.std.proofs.lemmas.Bool.{cases_lt}
 use Rattle.std.specs.Int.{bit_at}
-use Rattle.std.proofs.lemmas.Nat.Bits.{bit_at_cat_low, bit_at_cat_high, bit_at_above, bit_at-lt, same_from_bits_below}
+use Rattle.std.proofs.lemmas.Nat.Bits.{bit_at_cat_low, bit_at_cat_high, bit_at-lt, same_from_bits_below}
 use Rattle.lw_planes.specs.Pen.{pen_of, byte_of}
 
 -- pens with equal bits are equal
@@ -51,10 +51,6 @@ bit_pen_of (suc n) b k bits h =
     ap (λ p. bit_at p k) turned ∙ (bit_at_cat_high (b n) n (pen_of n b) k front last ∙ same))
     (cases_lt k n)
 
--- a pen of n planes has no bit from n on
-pub bit_pen_of_above : (n : ℕ) (b : ℕ → ℕ) (k : ℕ) → ((i : ℕ) → i < n → b i < 2) → n ≤ k → bit_at (pen_of n b) k ≡ 0
-bit_pen_of_above n b k bits h = bit_at_above (pen_of n b) n k (pen_of_lt n b bits) h
-
 -- a pen is the pen with its bits
 pub pen_same : (n p : ℕ) → p < 2 ^ n → pen_of n (λ k. bit_at p k) ≡ p
 pen_same n p small =
@@ -65,11 +61,6 @@ pen_same n p small =
 pub byte_of_same : (b c : ℕ → ℕ) → ((j : ℕ) → j < 8 → b j ≡ c j) → byte_of b ≡ byte_of c
 unfolding byte_of
 byte_of_same b c same = pen_of_same 8 (λ k. b (7 - k)) (λ k. c (7 - k)) (λ k h. same (7 - k) (omega arith))
-
--- the byte with these bits fits a byte
-pub byte_of_lt : (b : ℕ → ℕ) → ((j : ℕ) → j < 8 → b j < 2) → byte_of b < 256
-unfolding byte_of
-byte_of_lt b bits = pen_of_lt 8 (λ k. b (7 - k)) (λ k h. bits (7 - k) (omega arith))
 
 -- the byte with these bits has them from its most significant on
 pub bit_byte_of : (b : ℕ → ℕ) (j : ℕ) → ((i : ℕ) → i < 8 → b i < 2) → j < 8 → bit_at (byte_of b) (7 - j) ≡ b j

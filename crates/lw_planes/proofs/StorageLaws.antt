@@ -83,12 +83,6 @@ row_start_inside h n d k y deep low =
     let whole : (k * h + y + 1) * n ≤ d * h * n = mul-le (k * h + y + 1) n (d * h) n rows (omega arith) in
     omega arith
 
--- the planes of the greatest sizes have at most four million bytes
-pub planes_small : (h n d : ℕ) → h ≤ 2048 → n ≤ 256 → d ≤ 8 → d * h * n ≤ 4194304
-planes_small h n d high wide deep =
-    let rows : d * h ≤ 8 * 2048 = mul-le d h 8 2048 deep high in
-    mul-le (d * h) n (8 * 2048) 256 rows wide
-
 -- a place by its row among all rows
 pub place_row : (w h k x y : ℕ) → bit_place w h k x y ≡ (k * h + y) * (8 * row_bytes w) + x
 unfolding bit_place

@@ -1,5 +1,5 @@
 -- What a bitmap has once a row of one of its planes was written back.
-use Rattle.std.proofs.Common.{◌≡◌, ◌≢◌, ℕ, ◌+◌, ◌-◌, ◌*◌, ◌^◌, ◌<◌, ◌≤◌, ◌==◌, ◌&&◌, if◌then◌else◌, Bool, true, false, List, length, ◌∙◌, sym, refl, ap, ⊎_elim, arith}
+use Rattle.std.proofs.Common.{◌≡◌, ◌≢◌, ℕ, ◌+◌, ◌-◌, ◌*◌, ◌<◌, ◌≤◌, ◌==◌, ◌&&◌, if◌then◌else◌, List, length, ◌∙◌, sym, refl, ap, ⊎_elim, arith}
 use Rattle.std.specs.Int.{bit_at}
 use Rattle.std.proofs.lemmas.Bool.{cases_lt}
 use Rattle.std.proofs.lemmas.Bool.Decides.{nat_tests}
@@ -10,7 +10,7 @@ use Rattle.lw_planes.specs.Row.{row_bit}
 use Rattle.lw_planes.specs.Bitmap.{Bitmap, IsBitmap, pen_at, row_bytes}
 use Rattle.lw_planes.specs.Sizes.{AreSizes, IsPlanes}
 use Rattle.lw_planes.specs.Storage.{bit_place}
-use Rattle.lw_planes.specs.Change.{with_pen, written_bit, written_rows, with_row, with_plane_row}
+use Rattle.lw_planes.specs.Change.{written_bit, written_rows, with_row, with_plane_row}
 use Rattle.lw_planes.proofs.PenLaws.{pen_of_lt, pen_of_same, bit_pen_of}
 use Rattle.lw_planes.proofs.RowLaws.{row_bit_lt}
 use Rattle.lw_planes.proofs.BitmapLaws.{IsBitmap_bitmap, pen_at_bitmap, bitmap_same, row_bytes_wide}
@@ -126,25 +126,3 @@ with_row_plane_row b k y row f deep low long bits =
     bitmap_same b.width b.height b.depth (λ i j. pen_of b.depth (λ p. written_bit b k y row i j p)) (λ i j. pen_of b.depth (λ p. if p == k && j == y then f i else bit_at (pen_at b i j) p))
     (λ i j left inside. pen_of_same b.depth (λ p. written_bit b k y row i j p) (λ p. if p == k && j == y then f i else bit_at (pen_at b i j) p)
     (λ p in_planes. written_bit_plane_row b k y row f deep low long bits i j p left inside in_planes))
-
--- a choice of two numbers below a bound is below it
-pub chosen_small : (t : Bool) (a b n : ℕ) → a < n → b < n → (if t then a else b) < n
-chosen_small true a b n p q = p
-chosen_small false a b n p q = q
-
--- with one pen of its depth changed it is a bitmap
-pub IsBitmap_with_pen : (b : Bitmap) (x y pen : ℕ) → IsBitmap b → pen < 2 ^ b.depth → IsBitmap (with_pen b x y pen)
-IsBitmap_with_pen b x y pen ok small =
-    IsBitmap_bitmap b.width b.height b.depth (λ i j. if i == x && j == y then pen else pen_at b i j)
-    (λ i j left low. let old = ok.pens i j left low in chosen_small (i == x && j == y) pen (pen_at b i j) (2 ^ b.depth) small old)
-
--- the pixel whose pen was changed has it
-pub pen_at_with_pen_same : (b : Bitmap) (x y pen : ℕ) → x < b.width → y < b.height → pen_at (with_pen b x y pen) x y ≡ pen
-pen_at_with_pen_same b x y pen left low =
-    pen_at_bitmap b.width b.height b.depth (λ i j. if i == x && j == y then pen else pen_at b i j) x y left low ∙ grind (arith, nat_tests)
-
--- every other pixel has its old pen
-pub pen_at_with_pen_other : (b : Bitmap) (x y pen i j : ℕ) → i < b.width → j < b.height → (i ≡ x → j ≡ y → ⊥) → pen_at (with_pen b x y pen) i j ≡ pen_at b i j
-pen_at_with_pen_other b x y pen i j left low apart =
-    pen_at_bitmap b.width b.height b.depth (λ i j. if i == x && j == y then pen else pen_at b i j) i j left low ∙
-    sym (chosen_at_both i x j y (pen_at b i j) pen (pen_at b i j) (λ e f. absurd (apart e f)) (λ _. refl))

@@ -5,6 +5,7 @@ use Rattle.std.specs.List.{list_any, filter}
 use Rattle.std.specs.Ordering.{int_eq}
 use Rattle.std.proofs.lemmas.Bool.{false≢true, false_from_ne_true, or_left, or_right, and_parts, and_from}
 use Rattle.std.proofs.lemmas.List.Folds.{list_any-append}
+use Rattle.std.proofs.Math.Bool.{and_comm}
 use Rattle.lw_region.specs.Rectangle.{Rectangle, within, has_pixel}
 use Rattle.lw_region.specs.Order.{IsInOrder}
 use Rattle.lw_region.specs.Pixels.{Pixel, is_at, contains_pixel, pixels_of}
@@ -12,7 +13,7 @@ use Rattle.lw_region.specs.Bands.{Run, Band, rows_in, columns_in, longest_runs, 
 use Rattle.lw_region.specs.Banded.{IsCanonical, in_runs, in_bands, AreBands, flat}
 use Rattle.lw_region.proofs.Numbers.{eq_true, int_total, int_trans}
 use Rattle.lw_region.proofs.Order.{any_in_order, ordered_in_order}
-use Rattle.lw_region.proofs.Lists.{any_agree, any_map, any_filter, any_some, and_comm}
+use Rattle.lw_region.proofs.Lists.{any_agree, any_map, any_filter, any_some}
 use Rattle.lw_region.proofs.Runs.{in_runs_nil, in_runs_cons, are_longest, in_longest, some_runs}
 use Rattle.lw_region.proofs.Stacks.{in_bands_nil, in_bands_cons, HaveRuns, are_tallest, in_tallest, one_band_list}
 use Rattle.lw_region.proofs.Reading.{contains_pixels_of}

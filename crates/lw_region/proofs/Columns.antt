@@ -4,7 +4,7 @@ use Rattle.std.specs.Prelude.{int_lt, int_le}
 use Rattle.std.proofs.lemmas.Int.{ints, by_lt_z}
 use Rattle.std.proofs.lemmas.List.{append-nil, map-append, take_more}
 use Rattle.std.proofs.lemmas.List.Folds.{list_any-append}
-use Rattle.std.proofs.Math.Bool.{or-false}
+use Rattle.std.proofs.Math.Bool.{or-false, or_assoc}
 use Rattle.lw_region.specs.declared.operation.Operation.{Operation}
 use Rattle.lw_region.specs.declared.operation.Operation.TheVariants.{Union, Intersection, SymmetricDifference, Difference}
 use Rattle.lw_region.specs.Rectangle.{Rectangle, within}
@@ -14,7 +14,6 @@ use Rattle.lw_region.specs.Operations.{holds}
 use Rattle.lw_region.specs.Columns.{columns, some_run, run_rectangles, IsRowOf}
 use Rattle.lw_region.proofs.Within.{within_below, within_above}
 use Rattle.lw_region.proofs.Meet.{same_bounds}
-use Rattle.lw_region.proofs.Order.{or_assoc}
 use Rattle.lw_region.proofs.Runs.{in_runs_nil, in_runs_cons}
 
 -- what is in neither set is in no result

@@ -1,7 +1,7 @@
 -- No two rectangles of a canonical list have a pixel in common.
-use Rattle.std.proofs.Common.{◌≡◌, ℕ, zero, suc, ◌<◌, true, false, List, [], ◌∷◌, length, get_or, ℤ, pos, ◌+ℤ◌, ◌≤ℤ◌, inl, inr, sym, ◌∙◌, arith}
+use Rattle.std.proofs.Common.{◌≡◌, ℕ, zero, suc, ◌<◌, true, false, List, [], ◌∷◌, length, get_or, ℤ, pos, ◌+ℤ◌, ◌≤ℤ◌, sym, ◌∙◌, arith}
 use Rattle.std.proofs.lemmas.Int.{ints}
-use Rattle.std.proofs.lemmas.Bool.{false≢true, false_from_ne_true, or_left, or_right, and_parts, and_from, cases_lt}
+use Rattle.std.proofs.lemmas.Bool.{false≢true, false_from_ne_true, or_left, or_right, and_parts}
 use Rattle.lw_region.specs.Rectangle.{Rectangle, within, has_pixel, AreApart}
 use Rattle.lw_region.specs.Bands.{covers}
 use Rattle.lw_region.specs.Banded.{IsCanonical}
@@ -35,17 +35,3 @@ canonical_disjoint rects h i j d l m x y =
     let q = and_parts (within r.min_x x r.max_x) (within r.min_y y r.max_y) p.0 in
     let a = within_high r.min_x x r.max_x q.0 in
     false≢true (sym (behind_lacks r s x y (canonical_spaced rects h i j d l m) (within_high r.min_y y r.max_y q.1) (omega (arith, ints))) ∙ p.1))
-
--- of two places in a canonical list, the later one has not the pixels of the earlier one
-not_both : (rects : List Rectangle) → IsCanonical rects → (i j : ℕ) (d : Rectangle) (x y : ℤ) → i < j → j < length rects
-    → has_pixel (get_or rects i d) x y ≡ true → has_pixel (get_or rects j d) x y ≡ true → ⊥
-not_both rects h i j d x y l m a b = false≢true (sym (canonical_disjoint rects h i j d l m x y) ∙ and_from _ _ a b)
-
--- at most one rectangle of a canonical list has a pixel
-pub canonical_place : (rects : List Rectangle) → IsCanonical rects → (i j : ℕ) (d : Rectangle) (x y : ℤ) → i < length rects → j < length rects
-    → has_pixel (get_or rects i d) x y ≡ true → has_pixel (get_or rects j d) x y ≡ true → i ≡ j
-canonical_place rects h i j d x y l m a b =
-    elim (cases_lt i j) [
-      | inl p ↦ absurd (not_both rects h i j d x y p m a b)
-      | inr p ↦ elim (cases_lt j i) [ inl q ↦ absurd (not_both rects h j i d x y q l b a) | inr q ↦ omega arith ]
-    ]

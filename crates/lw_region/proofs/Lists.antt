@@ -1,8 +1,9 @@
 -- Tests of some element, through the makings of a list.
-use Rattle.std.proofs.Common.{◌≡◌, Bool, true, false, cond, ◌&&◌, ◌||◌, List, [], ◌∷◌, map, refl, ap, ◌∙◌}
+use Rattle.std.proofs.Common.{◌≡◌, Bool, true, false, cond, ◌&&◌, ◌||◌, List, [], ◌∷◌, map, refl, ap, sym, ◌∙◌}
 use Rattle.std.specs.List.{list_any, filter, flat_map}
 use Rattle.std.proofs.lemmas.Bool.{false≢true, or_left, or_right}
 use Rattle.std.proofs.lemmas.List.Folds.{list_any-append}
+use Rattle.std.proofs.Math.Bool.{and-or_distrib_right, and_comm}
 
 -- tests that agree find alike
 pub any_agree : {A : Type 0} (p q : A → Bool) → ((a : A) → p a ≡ q a) → (s : List A) → list_any p s ≡ list_any q s
@@ -30,18 +31,10 @@ pub any_flat_map : {A B : Type 0} (p : B → Bool) (f : A → List B) (s : List 
 any_flat_map p f [] = refl
 any_flat_map p f (a ∷ s) = list_any-append p (f a) (flat_map f s) ∙ ap (λ w. list_any p (f a) || w) (any_flat_map p f s)
 
--- a further test on two
-and_over : (p q c : Bool) → ((p && c) || (q && c)) ≡ ((p || q) && c)
-and_over true true true = refl
-and_over true true false = refl
-and_over true false true = refl
-and_over true false false = refl
-and_over false q c = refl
-
 -- a further test that is the same for each element
 pub any_and : {A : Type 0} (p : A → Bool) (c : Bool) (s : List A) → list_any (λ a. p a && c) s ≡ (list_any p s && c)
 any_and p c [] = refl
-any_and p c (a ∷ s) = ap (λ w. (p a && c) || w) (any_and p c s) ∙ and_over (p a) (list_any p s) c
+any_and p c (a ∷ s) = ap (λ w. (p a && c) || w) (any_and p c s) ∙ sym (and-or_distrib_right (p a) (list_any p s) c)
 
 -- an element that passes, at the first or after it
 any_some_step : {A : Type 0} (p : A → Bool) (a : A) (s : List A)
@@ -57,9 +50,11 @@ pub any_some : {A : Type 0} (p : A → Bool) (s : List A) → list_any p s ≡ t
 any_some p [] h = absurd (false≢true h)
 any_some p (a ∷ s) h = any_some_step p a s (any_some p s) (p a) refl h
 
--- two tests in the other order
-pub and_comm : (p q : Bool) → (p && q) ≡ (q && p)
-and_comm true true = refl
-and_comm true false = refl
-and_comm false true = refl
-and_comm false false = refl
+-- a test behind two, in front of the second
+pub and_between : (p q r : Bool) → ((p && q) && r) ≡ ((p && r) && q)
+and_between true q r = and_comm q r
+and_between false q r = refl
+
+-- two tests that agree with two others hold together where those do
+pub and_alike : (p q r s : Bool) → p ≡ r → q ≡ s → (p && q) ≡ (r && s)
+and_alike p q r s first second = rw (first, second) refl

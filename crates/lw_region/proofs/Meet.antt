@@ -8,7 +8,7 @@ use Rattle.lw_region.specs.Rectangle.{Rectangle, within, has_pixel, IsOrdered, A
 use Rattle.lw_region.proofs.Within.{within_true, within_low, within_high, within_both}
 
 -- two pairs of tests in another order
-and_swap : (p q r s : Bool) → ((p && q) && (r && s)) ≡ ((p && r) && (q && s))
+pub and_swap : (p q r s : Bool) → ((p && q) && (r && s)) ≡ ((p && r) && (q && s))
 and_swap true q true s = refl
 and_swap true true false s = refl
 and_swap true false false s = refl

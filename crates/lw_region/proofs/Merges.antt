@@ -4,14 +4,13 @@ use Rattle.std.specs.Prelude.{int_le}
 use Rattle.std.specs.Int.{int_min, int_max}
 use Rattle.std.proofs.lemmas.Int.{ints, clamps, by_lt_z}
 use Rattle.std.proofs.lemmas.Bool.{false≢true, or_from, or_left, or_right, and_left, and_right}
-use Rattle.std.proofs.Math.Bool.{and-true, or-false, and-false}
+use Rattle.std.proofs.Math.Bool.{and-true, or-false, and-false, and_comm}
 use Rattle.lw_region.specs.declared.operation.Operation.TheVariants.{Union, Intersection, Difference}
 use Rattle.lw_region.specs.Rectangle.{Rectangle, within}
 use Rattle.lw_region.specs.Bands.{Run}
 use Rattle.lw_region.specs.Banded.{in_runs, StartsAfter, AreRuns}
 use Rattle.lw_region.specs.Columns.{columns, first_column, first_end, others, some_run, run_rectangles, IsRowOf}
 use Rattle.lw_region.proofs.Within.{within_true, within_below, within_above, within_both}
-use Rattle.lw_region.proofs.Lists.{and_comm}
 use Rattle.lw_region.proofs.Runs.{in_runs_nil, in_runs_cons, starts_after_less, none_before, in_first, in_rest}
 use Rattle.lw_region.proofs.Columns.{le_true, le_false, within_none, RowState, due_of, row_begin, row_move, row_push, row_end, row_done}
 

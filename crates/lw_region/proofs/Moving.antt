@@ -29,7 +29,7 @@ has_moved r dx dy x y =
     ∙ ap (λ w. within r.min_x (x -ℤ dx) r.max_x && w) (within_moved r.min_y r.max_y dy y)
 
 -- an ordered rectangle has its bottom right pixel
-last_in : (r : Rectangle) → IsOrdered r → has_pixel r r.max_x r.max_y ≡ true
+pub last_in : (r : Rectangle) → IsOrdered r → has_pixel r r.max_x r.max_y ≡ true
 last_in r h =
     let columns = within_true r.min_x r.max_x r.max_x h.columns (omega (arith, ints)) in
     let rows = within_true r.min_y r.max_y r.max_y h.rows (omega (arith, ints)) in

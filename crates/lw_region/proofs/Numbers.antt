@@ -1,6 +1,6 @@
 -- Numbers of a span, and tests of equality.
 use Rattle.std.proofs.Common.{◌≡◌, ℕ, zero, suc, true, false, ◌||◌, ◌⊎◌, inl, inr, ℤ, pos, negsuc, ◌+ℤ◌, ◌-ℤ◌, ◌≤ℤ◌, ◌<ℤ◌, refl, ap, sym, ◌∙◌, arith, ◌<◌}
-use Rattle.std.specs.Prelude.{int_lt}
+use Rattle.std.specs.Prelude.{int_lt, int_le}
 use Rattle.std.specs.List.{list_any}
 use Rattle.std.specs.Ordering.{int_eq}
 use Rattle.std.proofs.lemmas.Int.{ints, by_lt_z}
@@ -30,13 +30,13 @@ int_total x y a b = grind (arith, ints)
 pub int_trans : (x y z : ℤ) → int_lt x y ≡ true → int_lt y z ≡ true → int_lt x z ≡ true
 int_trans x y z a b = grind (arith, ints)
 
--- the order of numbers goes one way
-pub int_asym : (x y : ℤ) → int_lt x y ≡ true → int_lt y x ≡ false
-int_asym x y a = grind (arith, ints)
-
 -- what the strict test says
 pub lt_of : (x y : ℤ) → int_lt x y ≡ true → x <ℤ y
 lt_of x y a = grind (arith, ints)
+
+-- what the test of no more says
+pub le_of : (x y : ℤ) → int_le x y ≡ true → x ≤ℤ y
+le_of x y a = grind (arith, ints)
 
 -- the strict test passes where it holds
 pub of_lt : (x y : ℤ) → x <ℤ y → int_lt x y ≡ true

@@ -25,11 +25,6 @@ any_put_step before total p a b bs h true t e f = refl
 any_put_step before total p a b bs h false true e f = ap (λ z. p b || z) h ∙ or_swap (p b) (p a) (list_any p bs)
 any_put_step before total p a b bs h false false e f = rw (total a b e f) (or_again (p b) (list_any p bs))
 
--- tests on three, grouped the other way
-pub or_assoc : (p q r : Bool) → ((p || q) || r) ≡ (p || (q || r))
-or_assoc true q r = refl
-or_assoc false q r = refl
-
 -- a test within itself
 pub absorbed : (p q : Bool) → (p || (q && p)) ≡ p
 absorbed true q = refl

@@ -1,18 +1,19 @@
 -- Sets of pixels in reading order: what their operations hold, and that the same pixels make one set.
-use Rattle.std.proofs.Common.{◌≡◌, Bool, true, false, not, ◌&&◌, ◌||◌, ◌⊎◌, inl, inr, List, [], ◌∷◌, ◌++◌, map, ℤ, ◌<ℤ◌, refl, ap, sym, ◌∙◌, arith}
+use Rattle.std.proofs.Common.{◌≡◌, Bool, true, false, not, ◌&&◌, ◌||◌, ◌⊎◌, inl, inr, List, ◌++◌, map, ℤ, ◌<ℤ◌, refl, ap, sym, ◌∙◌, arith}
 use Rattle.std.specs.Prelude.{int_lt}
 use Rattle.std.specs.List.{list_any, filter, flat_map}
 use Rattle.std.specs.Ordering.{int_eq}
 use Rattle.std.proofs.lemmas.Int.{ints, by_lt_z}
 use Rattle.std.proofs.lemmas.Bool.{false≢true, or_cases, or_left, or_right, and_parts, and_from, and_left, and_right}
 use Rattle.std.proofs.lemmas.List.Folds.{list_any-append}
+use Rattle.std.proofs.Math.Bool.{and_comm}
 use Rattle.lw_region.specs.Rectangle.{Rectangle, within, has_pixel}
 use Rattle.lw_region.specs.Order.{IsInOrder, span}
 use Rattle.lw_region.specs.Pixels.{Pixel, precedes, is_at, contains_pixel, rectangle_pixels, pixels_of, union, intersection, difference, symmetric_difference}
 use Rattle.lw_region.specs.Bands.{covers}
 use Rattle.lw_region.proofs.Numbers.{eq_true, eq_above, eq_of, lt_of, of_lt, any_span}
 use Rattle.lw_region.proofs.Order.{any_in_order, ordered_in_order, ordered_filter, one_order}
-use Rattle.lw_region.proofs.Lists.{any_agree, any_map, any_filter, any_flat_map, any_and, and_comm}
+use Rattle.lw_region.proofs.Lists.{any_agree, any_map, any_filter, any_flat_map, any_and}
 
 -- what the reading order says, and how to show it
 precedes_cases : (p q : Pixel) → precedes p q ≡ true → (p.y <ℤ q.y) ⊎ ((p.y ≡ q.y) × (p.x <ℤ q.x))
@@ -86,17 +87,6 @@ unfolding contains_pixel
 one_set s t h k e =
     one_order precedes is_pixel reading_total reading_trans is_itself is_equal (λ p q a. apart_step p q (precedes_cases p q a))
     s t h k (λ c. e c.x c.y)
-
--- a set with no pixel is empty
-pub no_pixel_set : (s : List Pixel) → ((x y : ℤ) → contains_pixel s x y ≡ false) → s ≡ []
-unfolding contains_pixel
-no_pixel_set [] h = refl
-no_pixel_set (p ∷ s) h = absurd (false≢true (sym (h p.x p.y) ∙ or_left (is_pixel p p) _ (is_itself p)))
-
--- the empty set has no pixel
-pub contains_nil : (x y : ℤ) → contains_pixel [] x y ≡ false
-unfolding contains_pixel
-contains_nil x y = refl
 
 -- the sets that are made are in reading order
 pub ordered_pixels : (rects : List Rectangle) → IsInOrder precedes (pixels_of rects)

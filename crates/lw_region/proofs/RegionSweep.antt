@@ -8,7 +8,7 @@ use Rattle.std.proofs.lemmas.Int.{ints, clamps, by_lt_z}
 use Rattle.std.proofs.lemmas.Bool.{false≢true, or_left, or_from, and_left, and_right, and_parts, and_from, lt-ltb, le-ltb}
 use Rattle.std.proofs.lemmas.List.{take_at, drop_at, append-nil, append_assoc, length-append}
 use Rattle.std.proofs.lemmas.Slice.{between_is}
-use Rattle.std.proofs.Math.Bool.{or-false}
+use Rattle.std.proofs.Math.Bool.{or-false, or_assoc, and-or_distrib_right}
 use Rattle.lw_region.specs.declared.operation.Operation.{Operation}
 use Rattle.lw_region.specs.Rectangle.{Rectangle, within}
 use Rattle.lw_region.specs.Pixels.{pixels_of}
@@ -204,19 +204,6 @@ module _ (row next : ℤ) (has : ℤ → ℤ → Bool) (last : ℕ) (out rects :
       (λ g. within_true row y (next -ℤ pos 1) (omega (arith, ints)) g ∙ sym (within_true t y (next -ℤ pos 1) a g)))
       (λ b. or_left _ _ (within_true t y u a b) ∙ sym (within_true t y (next -ℤ pos 1) a (omega (arith, ints)))))
 
-  -- a test that two share
-  and_or : (p q t : Bool) → ((p && t) || (q && t)) ≡ ((p || q) && t)
-  and_or true true true = refl
-  and_or true true false = refl
-  and_or true false true = refl
-  and_or true false false = refl
-  and_or false q t = refl
-
-  -- tests on three, grouped the other way
-  or_group : (p q r : Bool) → ((p || q) || r) ≡ (p || (q || r))
-  or_group true q r = refl
-  or_group false q r = refl
-
   -- a further band that is joined to the last one
   joined_band : (upper : List Band) (l : Band) → out ≡ flat (upper ++ l ∷ []) → AreBands (upper ++ l ∷ []) → IsBand l → EndAbove row (upper ++ l ∷ [])
       → ((x y : ℤ) → in_bands (upper ++ l ∷ []) x y ≡ has x y) → last ≡ length (flat upper)
@@ -242,10 +229,10 @@ module _ (row next : ℤ) (has : ℤ → ℤ → Bool) (last : ℕ) (out rects :
             in_bands_append upper (b ∷ []) x y
             ∙ (ap (λ w. in_bands upper x y || w) (in_one b x y
             ∙ (ap (λ w. w && in_runs l.runs x) (sym (within_joined l.top l.bottom y q a))
-            ∙ (sym (and_or (within l.top y l.bottom) (within row y (next -ℤ pos 1)) (in_runs l.runs x))
+            ∙ ((and-or_distrib_right (within l.top y l.bottom) (within row y (next -ℤ pos 1)) (in_runs l.runs x))
             ∙ (ap (λ w. w || (within row y (next -ℤ pos 1) && in_runs l.runs x)) (sym (in_one l x y))
             ∙ ap (λ w. in_bands (l ∷ []) x y || (within row y (next -ℤ pos 1) && in_runs w x)) f))))
-            ∙ (sym (or_group (in_bands upper x y) (in_bands (l ∷ []) x y) (within row y (next -ℤ pos 1) && in_runs rs x))
+            ∙ (sym (or_assoc (in_bands upper x y) (in_bands (l ∷ []) x y) (within row y (next -ℤ pos 1) && in_runs rs x))
             ∙ ap (λ w. w || (within row y (next -ℤ pos 1) && in_runs rs x)) (sym (in_bands_append upper (l ∷ []) x y) ∙ p x y)));
       } in
       rw j m

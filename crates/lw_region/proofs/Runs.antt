@@ -5,13 +5,13 @@ use Rattle.std.specs.List.{list_any}
 use Rattle.std.specs.Ordering.{int_eq}
 use Rattle.std.proofs.lemmas.Int.{ints, by_lt_z}
 use Rattle.std.proofs.lemmas.Bool.{false≢true, or_left, or_from, and_parts, and_from}
+use Rattle.std.proofs.Math.Bool.{or_assoc}
 use Rattle.lw_region.specs.Rectangle.{within}
 use Rattle.lw_region.specs.Order.{ComesBefore, IsInOrder}
 use Rattle.lw_region.specs.Bands.{Run, put_column, longest_runs, same_runs}
 use Rattle.lw_region.specs.Banded.{in_runs, StartsAfter, AreRuns}
 use Rattle.lw_region.proofs.Within.{within_true, within_below, within_above}
 use Rattle.lw_region.proofs.Numbers.{eq_true, eq_of, ne_of, eq_is_within, within_cons, lt_of}
-use Rattle.lw_region.proofs.Order.{or_assoc}
 
 -- in_runs, run by run
 pub in_runs_nil : (x : ℤ) → in_runs [] x ≡ false

@@ -1,10 +1,10 @@
 -- Laws of the list of layers: which layer is the first at a place, and which slots stand in the list.
-use Rattle.std.proofs.Common.{◌≡◌, ℕ, ◌<◌, ◌≤◌, ◌==◌, Bool, true, false, List, [], ◌∷◌, length, replicate, ℤ, Option, None, refl, sym, ap, subst, ◌∙◌, ◌⊎◌, inl, inr, arith}
+use Rattle.std.proofs.Common.{◌≡◌, ℕ, ◌<◌, ◌≤◌, Bool, true, false, List, [], ◌∷◌, length, replicate, ℤ, Option, None, refl, sym, ap, subst, ◌∙◌, ◌⊎◌, inl, inr, arith}
 use Rattle.std.specs.Prelude.{if◌then◌else◌}
 use Rattle.std.specs.List.{All, find}
 use Rattle.std.proofs.lemmas.List.{get_or_past, get_or-replicate, length-replicate}
 use Rattle.std.proofs.lemmas.List.Elements.{All-nil, All-cons}
-use Rattle.std.proofs.lemmas.Bool.{eq-eqb, false≢true, cases_lt}
+use Rattle.std.proofs.lemmas.Bool.{false≢true, cases_lt}
 use Rattle.lw_region.specs.Rectangle.{Rectangle}
 use Rattle.lw_calls.specs.declared.sizes.Sizes.{Sizes}
 use Rattle.lw_calls.specs.Limits.{IsWithinLimits}
@@ -13,6 +13,7 @@ use Rattle.lw_machine.specs.Desk.{Desk, is_the}
 use Rattle.lw_machine.specs.Screen.{top, is_shown, bounds_have}
 use Rattle.lw_machine.specs.Reveal.{has_bounds}
 use Rattle.lw_machine.specs.Parts.{info_part}
+use Rattle.lw_machine.proofs.ListSound.{has_first, has_rest}
 use Rattle.lw_stack.specs.Stack.{Stack, bounds_at, first_at, is_first_at, IsPlacedOn, IsStack, StandsForInfo}
 use Rattle.lw_stack.specs.Laws.{ListLaw}
 
@@ -32,19 +33,10 @@ shown_is_first v d h s x y = ap (λ o. is_the o s) (top_is_first v d h x y)
 pub list_law : ListLaw
 list_law v d h = record { top = top_is_first v d h; shown = shown_is_first v d h }
 
--- a slot that stands somewhere in a list: the first does, and what stands in the rest does
-first_stands : (u : ℕ) (us : List ℕ) → 0 < occurrences u (u ∷ us)
-first_stands u us =
-    let e : (u == u) ≡ true = eq-eqb u u refl in
-    rw e (omega arith)
-
-rest_stands : (t u : ℕ) (us : List ℕ) → 0 < occurrences t us → 0 < occurrences t (u ∷ us)
-rest_stands t u us h = omega (arith, h)
-
 -- what holds of each slot that stands in a list holds of its entries
 pub all_entries : (P : ℕ → Type 0) (us : List ℕ) → ((t : ℕ) → 0 < occurrences t us → P t) → All P us
 all_entries P [] h = All-nil P
-all_entries P (u ∷ us) h = All-cons P u us (h u (first_stands u us)) (all_entries P us (λ t k. h t (rest_stands t u us k)))
+all_entries P (u ∷ us) h = All-cons P u us (h u (has_first u us)) (all_entries P us (λ t k. h t (has_rest t u us k)))
 
 -- a slot that stands in the list has bounds
 pub listed_has_bounds : (v : Stack) → IsStack v → (s : ℕ) → 0 < occurrences s v.front_to_back
@@ -64,26 +56,17 @@ bounded_is_slot v h s has =
     by_order (inl below) = omega (arith, below, h.many)
     by_order (inr past) = absurd (false≢true (ap has_bounds (sym (get_or_past v.bounds s None past)) ∙ has))
 
--- a slot with bounds stands in the list, once
-pub bounded_is_listed : (v : Stack) → IsStack v → (s : ℕ) → has_bounds (bounds_at v.bounds s) ≡ true
-    → occurrences s v.front_to_back ≡ 1
-bounded_is_listed v h s has = h.listed s ∙ ap (λ b. if b then 1 else 0) has
-
 -- each entry of the list is one of the slots that there are
 pub entries_are_slots : (v : Stack) → IsStack v → All (λ s. s < v.sizes.slots) v.front_to_back
 entries_are_slots v h =
     all_entries (λ s. s < v.sizes.slots) v.front_to_back (λ s stands. bounded_is_slot v h s (listed_has_bounds v h s stands))
-
--- each entry of the list has bounds
-pub entries_have_bounds : (v : Stack) → IsStack v → All (λ s. has_bounds (bounds_at v.bounds s) ≡ true) v.front_to_back
-entries_have_bounds v h = all_entries (λ s. has_bounds (bounds_at v.bounds s) ≡ true) v.front_to_back (listed_has_bounds v h)
 
 -- each entry of the list is an index of the bounds
 pub entries_within_bounds : (v : Stack) → IsStack v → All (λ s. s < length v.bounds) v.front_to_back
 entries_within_bounds v h = rw h.many (entries_are_slots v h)
 
 -- where there are no bounds, no slot has any
-nowhere : (n s : ℕ) → bounds_at (replicate n None) s ≡ None
+pub nowhere : (n s : ℕ) → bounds_at (replicate n None) s ≡ None
 nowhere n s =
     by_order (cases_lt s n)
   where

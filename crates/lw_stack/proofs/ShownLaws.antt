@@ -2,6 +2,7 @@
 use Rattle.std.proofs.Common.{◌≡◌, ℕ, ◌+◌, ◌<◌, ◌==◌, Bool, true, false, not, ◌&&◌, ◌||◌, List, [], ◌∷◌, ◌++◌, length, take, drop, get_or, set, replicate, ℤ, Option, None, refl, sym, ap, ◌∙◌, ◌⊎◌, inl, inr}
 use Rattle.std.proofs.lemmas.Bool.{eq-eqb, ne_eqb, and_right, cases_eq}
 use Rattle.std.proofs.lemmas.List.{length-replicate, get_or-replicate, get_or_read, get_or-set_same, get_or-set_other}
+use Rattle.std.proofs.Math.Bool.{and-true, or-false}
 use Rattle.lw_region.specs.Rectangle.{Rectangle, has_pixel}
 use Rattle.lw_region.specs.Pixels.{pixels_of, union, difference}
 use Rattle.lw_region.specs.Bands.{bands, covers}
@@ -11,14 +12,6 @@ use Rattle.lw_region.proofs.Canonical.{covers_nil}
 use Rattle.lw_machine.specs.Screen.{bounds_have}
 use Rattle.lw_stack.specs.Stack.{bounds_at, first_at, is_first_at, AreShown}
 use Rattle.lw_stack.proofs.FirstLaws.{has_at, some_at, shown_behind, some_behind, first_where_left, around_entry}
-
-and_true : (b : Bool) → (b && true) ≡ b
-and_true true = refl
-and_true false = refl
-
-pub or_false : (b : Bool) → (b || false) ≡ b
-or_false true = refl
-or_false false = refl
 
 -- an empty list has no pixel
 no_pixel : (rects : List Rectangle) (x y : ℤ) → rects ≡ [] → covers rects x y ≡ false
@@ -63,13 +56,13 @@ set_added sets slot s own more made h read e x y b added =
         let former : get_or sets s [] ≡ own = ap (λ n. get_or sets n []) same ∙ sym (get_or_read sets slot own h read []) in
         ap (λ rects. covers rects x y) written
         ∙ ((combined_lists.unions own more made e).pixels x y
-        ∙ (ap (λ c. covers own x y || c) (added ∙ sym (ap (λ t. b && t) test ∙ and_true b))
+        ∙ (ap (λ c. covers own x y || c) (added ∙ sym (ap (λ t. b && t) test ∙ and-true b))
         ∙ ap (λ rects. covers rects x y || (b && (slot == s))) (sym former)))
     by_case (inr other) =
         let test : (slot == s) ≡ false = ne_eqb slot s (λ e. other (sym e)) in
         ap (λ rects. covers rects x y) (get_or-set_other sets slot s made [] other)
         ∙ sym (ap (λ c. covers (get_or sets s []) x y || c) (and_right b (slot == s) test)
-        ∙ or_false (covers (get_or sets s []) x y))
+        ∙ or-false (covers (get_or sets s []) x y))
 
 -- the layers that were passed cover these pixels, and of each so much is shown
 pub record ArePassed (bounds : List (Option Rectangle)) (slots : List ℕ) (covered : List Rectangle)

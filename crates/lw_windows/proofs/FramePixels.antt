@@ -3,6 +3,7 @@ use Rattle.std.proofs.Common.{◌≡◌, ℕ, ◌+◌, ◌-◌, ◌≤◌, ◌<�
 use Rattle.std.proofs.lemmas.Bool.Decides.{nat_tests}
 use Rattle.std.proofs.lemmas.Bool.{and_right}
 use Rattle.std.proofs.lemmas.Int.{ints}
+use Rattle.std.proofs.Math.Bool.{and-true}
 use Rattle.lw_region.specs.Rectangle.{within}
 use Rattle.lw_machine.specs.Kept.{in_inner}
 use Rattle.lw_machine.specs.Reveal.{in_frame}
@@ -72,13 +73,9 @@ split_right : (a b c all : Bool) → as_number b + as_number c ≡ as_number all
 split_right true b c all e = e
 split_right false b c all e = refl
 
-and_true : (a : Bool) → (a && true) ≡ a
-and_true true = refl
-and_true false = refl
-
 split_left : (a b c all d : Bool) → as_number a + (as_number b + as_number c) ≡ as_number all
     → as_number (a && d) + (as_number (b && d) + as_number (c && d)) ≡ as_number (all && d)
-split_left a b c all true e = rw (and_true a, and_true b, and_true c, and_true all) e
+split_left a b c all true e = rw (and-true a, and-true b, and-true c, and-true all) e
 split_left a b c all false e =
     rw (and_right a false refl, and_right b false refl, and_right c false refl, and_right all false refl) refl
 

@@ -6,6 +6,7 @@ use Rattle.std.proofs.lemmas.Bool.{and_left, and_right, false_from_ne_true, fals
 use Rattle.std.proofs.lemmas.Int.{ints}
 use Rattle.lw_region.specs.Rectangle.{Rectangle, within, has_pixel, IsOrdered}
 use Rattle.lw_region.proofs.Meet.{ordered_from_pixel, corner_in}
+use Rattle.lw_region.proofs.Lists.{and_alike}
 use Rattle.lw_machine.specs.Kept.{holds_at, in_inner}
 
 abbrev with_bounds : ℤ → ℤ → ℤ → ℤ → Rectangle
@@ -35,17 +36,14 @@ below_axis : (low x : ℕ) (high : ℤ) → within (pos low) (negsuc x) high ≡
 unfolding within
 below_axis low x high = refl
 
-both_tests : (a b c d : Bool) → a ≡ c → b ≡ d → (a && b) ≡ (c && d)
-both_tests a b c d p q = rw (p, q) refl
-
 -- the bounds have the pixels of the inner rectangle
 pub inner_pixels : (framed : Bool) (w h : ℕ) (x y : ℤ)
     → has_pixel (inner_bounds framed w h) x y ≡ holds_at (in_inner framed w h) x y
 unfolding in_inner
-inner_pixels true w h (pos x) (pos y) = both_tests _ _ _ _ (framed_axis 4 4 w x) (framed_axis 11 2 h y)
+inner_pixels true w h (pos x) (pos y) = and_alike _ _ _ _ (framed_axis 4 4 w x) (framed_axis 11 2 h y)
 inner_pixels true w h (pos x) (negsuc y) = and_right _ _ (below_axis 11 y ((pos h -ℤ pos 1) -ℤ pos 2))
 inner_pixels true w h (negsuc x) y = and_left _ _ (below_axis 4 x ((pos w -ℤ pos 1) -ℤ pos 4))
-inner_pixels false w h (pos x) (pos y) = both_tests _ _ _ _ (plain_axis w x) (plain_axis h y)
+inner_pixels false w h (pos x) (pos y) = and_alike _ _ _ _ (plain_axis w x) (plain_axis h y)
 inner_pixels false w h (pos x) (negsuc y) = and_right _ _ (below_axis 0 y (pos h -ℤ pos 1))
 inner_pixels false w h (negsuc x) y = and_left _ _ (below_axis 0 x (pos w -ℤ pos 1))
 

@@ -1,10 +1,11 @@
 use Rattle.std.proofs.Common.{sym}
+use Rattle.std.proofs.Math.Bool.{or-false}
 use Rattle.lw_region.specs.Bands.{covers}
-use Rattle.lw_stack.proofs.ShownLaws.{or_false, covers_more}
+use Rattle.lw_stack.proofs.ShownLaws.{covers_more}
 use Rattle.lw_stack.proofs.shown.cover.Goals as goal
 
 pub returns-in_default : goal.returns-in_default
-returns-in_default c = λ x y. rw c.in_default.is (sym (or_false (covers c.args.covered.now x y)))
+returns-in_default c = λ x y. rw c.in_default.is (sym (or-false (covers c.args.covered.now x y)))
 
 pub returns : goal.returns
 returns c = λ x y.

@@ -1,6 +1,6 @@
-use Rattle.std.proofs.Common.{◌≡◌, ◌*◌, ◌<◌, ◌≤◌, ◌≤ℤ◌, ℕ, ℤ, true, length, pos, w32, sym, ◌∙◌, subst, arith}
-use Rattle.std.specs.Prelude.{int_le}
-use Rattle.std.proofs.lemmas.Int.{ints, to_z-of_z}
+use Rattle.std.proofs.Common.{◌≡◌, ◌*◌, ◌<◌, ◌≤◌, ◌≤ℤ◌, ℕ, ℤ, true, length, pos, w32, sym, ◌∙◌, subst}
+use Rattle.std.proofs.lemmas.Int.{to_z-of_z}
+use Rattle.lw_region.proofs.Numbers.{le_of}
 use Rattle.lw_cliprects.specs.Parts.{hidden_of, AreDivided}
 use Rattle.lw_layer.specs.Pieces.{down, buffered}
 use Rattle.lw_layer.specs.Drafts.{layout, buffers_of}
@@ -14,13 +14,9 @@ returns-in_default c =
     let off : (v : ℕ) → c.args.y ≡ pos v → (layout d).height ≤ v = λ v is. rw (sym c.height.ensures) (c.in_default.ensures v (to_z-of_z w32 c.args.y c.ranges.y ∙ is)) in
     clear_off_rows d c.args.plane c.args.x c.args.y _ c.clear.new.bits c.clear.new.kept off c.clear.ensures
 
--- what the test says
-past_is : (a b : ℤ) → int_le a b ≡ true → a ≤ℤ b
-past_is a b h = grind (arith, ints)
-
 pub returns-then-x-ge-LAST : goal.returns-then-x-ge-LAST
 returns-then-x-ge-LAST c =
-    let past : pos 2048 ≤ℤ c.args.x = past_is (pos 2048) c.args.x (rw (to_z-of_z w32 c.args.x c.ranges.x) at c.if-x-ge-LAST.true) in
+    let past : pos 2048 ≤ℤ c.args.x = le_of (pos 2048) c.args.x (rw (to_z-of_z w32 c.args.x c.ranges.x) at c.if-x-ge-LAST.true) in
     clear_off_columns c.args.self.now c.args.plane c.args.x c.args.y _ c.clear-then-x-ge-LAST.new.bits c.clear-then-x-ge-LAST.new.kept past c.requires.sound c.clear-then-x-ge-LAST.ensures
 
 pub returns : goal.returns
