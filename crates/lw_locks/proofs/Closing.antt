@@ -1,43 +1,29 @@
 -- The seats of all layers and passes, joined to LayerInfo's.
-use Rattle.std.proofs.Common.{◌≡◌, ◌⊎◌, ℕ, zero, suc, ◌+◌, ◌<◌, length, map, take, drop, get_or, List, [], ◌∷◌, ◌++◌, ⊎_elim, inl, inr, refl, sym, ap, subst, ◌∙◌, append_assoc, arith}
+use Rattle.std.proofs.Common.{◌≡◌, ◌⊎◌, ℕ, zero, suc, ◌+◌, ◌-◌, ◌<◌, length, map, take, drop, get_or, List, [], ◌∷◌, ◌++◌, ⊎_elim, inl, inr, sym, ap, subst, ◌∙◌, append_assoc, arith}
 use Rattle.std.proofs.lemmas.List.{map-append}
 use Rattle.std.proofs.Math.Seq.{split_at}
 use Rattle.std.specs.Prelude.{Contains, Some}
-use Rattle.std.specs.List.{slice_get, range_with_len}
-use Rattle.std.proofs.lemmas.List.Elements.{All-nil, All-cons, All-contains, Contains-append_left, Contains-append_right, Contains-append_cases}
+use Rattle.std.specs.List.{slice_get}
+use Rattle.std.proofs.lemmas.List.Elements.{All-nil, All-cons, All-contains, Contains-append_left, Contains-append_right, Contains-append_cases, Contains-push_cases}
 use Rattle.atomic_table.specs.Seated.{TableId}
 use Rattle.lw_region.specs.Pixels.{Pixel}
 use Rattle.lw_calls.specs.declared.touch.Role.{Role}
-use Rattle.lw_calls.specs.declared.touch.Role.TheVariants.{Task}
+use Rattle.lw_calls.specs.declared.touch.Role.TheVariants.{Task, Slot}
 use Rattle.lw_calls.specs.Limits.{IsWithinLimits}
-use Rattle.lw_calls.proofs.Ranges.{range_last}
 use Rattle.lw_machine.specs.Desk.{Desk, empty_desk}
 use Rattle.lw_machine.specs.History.{machine}
 use Rattle.lw_machine.specs.Parts.{SlotPart, slot_part, InfoPart}
 use Rattle.lw_order.specs.Promised.{Follows}
 use Rattle.lw_order.specs.Seen.{SeenSeat}
 use Rattle.lw_order.proofs.HistoryLaws.{follows_on, fewer_follow}
+use Rattle.lw_order.proofs.RoleLaws.{contains_first, contains_more}
 use Rattle.lw_steps.proofs.Histories.{reached}
-use Rattle.lw_locks.specs.Closing.{task_of, HasEach, IsClosed, AreRegsHeld, AreFollowed}
-use Rattle.lw_locks.specs.Held.{IsSeat, AreRegs, IsInfo, AreCellsHeld, IsOwn}
+use Rattle.lw_locks.specs.Closing.{task_of, IsClosed, AreRegsHeld, AreFollowed, slots_of, AreTaken, ArePlaced}
+use Rattle.lw_locks.specs.Held.{IsSeat, AreRegs, IsCell, IsInfo, AreCellsHeld, IsOwn}
 use Rattle.lw_locks.specs.Joins.{WasJoined, IsLonger}
 use Rattle.lw_locks.specs.Seen.{SeenPass}
 use Rattle.lw_locks.proofs.Deeper.{get_either}
-use Rattle.lw_locks.proofs.Running.{snoc_same}
 use Rattle.lw_locks.proofs.Seats.{longer_by, their_longer, regs_longer, cell_longer, info_longer}
-
--- numbers from 0 on, and one more
-range_more : (n : ℕ) → range_with_len 0 (n + 1) ≡ range_with_len 0 n ++ n ∷ []
-range_more n = let e : n + 1 ≡ suc n = omega arith in ap (range_with_len 0) e ∙ range_last n
-
-pub range_front : (front : List ℕ) (last n : ℕ) → front ++ last ∷ [] ≡ range_with_len 0 (n + 1) → (front ≡ range_with_len 0 n) × (last ≡ n)
-range_front front last n h = snoc_same front (range_with_len 0 n) last n (h ∙ range_more n)
-
-pub taken_more : (had all new : List ℕ) (last n many : ℕ) → new ≡ all ++ last ∷ [] → all ≡ had ++ range_with_len 0 n → last ≡ n → n + 1 ≡ many → new ≡ had ++ range_with_len 0 many
-taken_more had all new last n many pushed are place more =
-    let front : new ≡ (had ++ range_with_len 0 n) ++ n ∷ [] = subst (λ k. new ≡ (had ++ range_with_len 0 n) ++ k ∷ []) place (subst (λ xs. new ≡ xs ++ last ∷ []) are pushed) in
-    let row : (had ++ range_with_len 0 n) ++ n ∷ [] ≡ had ++ range_with_len 0 (n + 1) = append_assoc had (range_with_len 0 n) (n ∷ []) ∙ ap (λ xs. had ++ xs) (sym (range_more n)) in
-    subst (λ k. new ≡ had ++ range_with_len 0 k) more (front ∙ row)
 
 -- an element of a list out of which one is taken
 either_of : {X : Type 0} (front back : List X) (off x : X) → Contains (front ++ off ∷ back) x → (x ≡ off) ⊎ Contains (front ++ back) x
@@ -51,20 +37,76 @@ either_of {X = X} front back off x has =
     first_or (zero, below, is) = inl (sym is)
     first_or (suc k, below, is) = inr (k, omega (arith, below), is)
 
--- a pass taken out of all, at its place
-pub taken_out : (whole rest : List SeenPass) (off : SeenPass) (place : ℕ) → place < length whole → off ≡ get_or whole place off → rest ≡ take place whole ++ drop (place + 1) whole → whole ≡ take place whole ++ off ∷ drop (place + 1) whole
-taken_out whole rest off place below is parts =
+put_back : {X : Type 0} (front back : List X) (off x : X) → Contains (front ++ back) x → Contains (front ++ off ∷ back) x
+put_back front back off x has =
+    ⊎_elim
+    (λ early. Contains-append_left front (off ∷ back) x early)
+    (λ late. Contains-append_right front (off ∷ back) x (contains_more off x back late))
+    (Contains-append_cases front back x has)
+
+-- One was taken out of all, which has this number.
+pub record WasTakenOut {X : Type 0} (number : X → ℕ) (whole rest : List X) (off : X) (n : ℕ) : Type 0 where
+  pub front : List X
+  pub back : List X
+  pub parts : whole ≡ front ++ off ∷ back
+  pub left : rest ≡ front ++ back
+  pub is : number off ≡ n
+
+-- the last number's was found in a slice, and taken out at its place
+pub taken_out : {X : Type 0} (number : X → ℕ) (slice whole rest : List X) (off : X) (place last n many : ℕ) → slice ≡ whole → place < length slice → number (get_or slice place off) ≡ last - 1 → last ≡ many → n + 1 ≡ many
+    → off ≡ get_or whole place off → rest ≡ take place whole ++ drop (place + 1) whole → WasTakenOut number whole rest off n
+taken_out {X = X} number slice whole rest off place last n many same in_slice told all more at_place parts =
+    let below : place < length whole = subst (λ xs. place < length xs) same in_slice in
     let next : suc place ≡ place + 1 = omega arith in
     let split : whole ≡ take place whole ++ get_or whole place off ∷ drop (place + 1) whole = subst (λ k. whole ≡ take place whole ++ get_or whole place off ∷ drop k whole) next (split_at whole place off below) in
-    subst (λ (p : SeenPass). whole ≡ take place whole ++ p ∷ drop (place + 1) whole) (sym is) split
+    let found : number off ≡ last - 1 = ap number at_place ∙ subst (λ xs. number (get_or xs place off) ≡ last - 1) same told in
+    record {
+      front = take place whole;
+      back = drop (place + 1) whole;
+      parts = subst (λ (p : X). whole ≡ take place whole ++ p ∷ drop (place + 1) whole) (sym at_place) split;
+      left = parts;
+      is = omega (arith, found, all, more);
+    }
 
-pub each_left : (front back whole rest : List SeenPass) (off : SeenPass) (n many : ℕ) → whole ≡ front ++ off ∷ back → rest ≡ front ++ back → n + 1 ≡ many → off.task ≡ n → HasEach whole many → HasEach rest n
-each_left front back whole rest off n many parts left more last has t below =
-    let was : Contains (map task_of front ++ off.task ∷ map task_of back) t = subst (λ ts. Contains ts t) (ap (map task_of) parts ∙ map-append task_of front (off ∷ back)) (has t (omega (arith, below, more))) in
+-- of things with each number below a count, those that are left when the last number's was taken out
+pub each_left : {X : Type 0} (number : X → ℕ) (whole rest : List X) (off : X) (n many : ℕ) → WasTakenOut number whole rest off n → n + 1 ≡ many → ((k : ℕ) → k < many → Contains (map number whole) k) → (k : ℕ) → k < n → Contains (map number rest) k
+each_left number whole rest off n many out more has k below =
+    let was : Contains (map number out.front ++ number off ∷ map number out.back) k = subst (λ ks. Contains ks k) (ap (map number) out.parts ∙ map-append number out.front (off ∷ out.back)) (has k (omega (arith, below, more))) in
+    let last = out.is in
     ⊎_elim
-    (λ (same : t ≡ off.task). absurd (omega (arith, same, last, below)))
-    (λ (there : Contains (map task_of front ++ map task_of back) t). subst (λ ts. Contains ts t) (sym (ap (map task_of) left ∙ map-append task_of front back)) there)
-    (either_of (map task_of front) (map task_of back) off.task t was)
+    (λ (same : k ≡ number off). absurd (omega (arith, same, last, below)))
+    (λ (there : Contains (map number out.front ++ map number out.back) k). subst (λ ks. Contains ks k) (sym (ap (map number) out.left ∙ map-append number out.front out.back)) there)
+    (either_of (map number out.front) (map number out.back) (number off) k was)
+
+-- the last cell is put behind the others
+pub placed_more : {C : Type 0} (whole rest : List (ℕ × C)) (off : ℕ × C) (n : ℕ) (cells all : List C) → WasTakenOut (λ (one : ℕ × C). one.0) whole rest off n → n ≡ length cells → ArePlaced rest cells → all ≡ cells ++ off.1 ∷ [] → ArePlaced whole all
+placed_more {C = C} whole rest off n cells all out many had pushed place cell at_place =
+    subst (λ xs. Contains xs (place, cell)) (sym out.parts)
+    (⊎_elim
+    (λ (early : slice_get cells place ≡ Some cell). put_back out.front out.back off (place, cell) (subst (λ xs. Contains xs (place, cell)) out.left (had place cell early)))
+    (λ (this : (place ≡ length cells) × (cell ≡ off.1)).
+    let number : off.0 ≡ place = out.is ∙ (many ∙ sym this.0) in
+    let same : off ≡ (place, cell) = λ i. (number i, sym this.1 i) in
+    Contains-append_right out.front (off ∷ out.back) (place, cell) (contains_first off (place, cell) out.back same))
+    (get_either cells off.1 cell place (subst (λ xs. slice_get xs place ≡ Some cell) pushed at_place)))
+
+pub taken_longer : {C : Type 0} (number : C → ℕ) (cell_is : C → SlotPart → Type 0) (desk : Desk) (mine both : SeenSeat) (taken : List (ℕ × C)) → IsLonger mine both → AreTaken number cell_is desk mine taken → AreTaken number cell_is desk both taken
+taken_longer number cell_is desk mine both taken longer had slot cell there = let is = had slot cell there in (is.0, cell_longer desk mine both longer number cell_is cell is.1)
+
+-- one cell more was taken
+pub taken_more : {C : Type 0} (number : C → ℕ) (cell_is : C → SlotPart → Type 0) (desk : Desk) (mine theirs both : SeenSeat) (taken all : List (ℕ × C)) (slot : ℕ) (cell : C) → WasJoined desk mine theirs both → AreTaken number cell_is desk mine taken → number cell ≡ slot → IsCell number cell_is desk theirs cell → all ≡ taken ++ (slot, cell) ∷ [] → AreTaken number cell_is desk both all
+taken_more {C = C} number cell_is desk mine theirs both taken all slot cell was had numbered is pushed s c there =
+    ⊎_elim
+    (λ (early : Contains taken (s, c)). taken_longer number cell_is desk mine both taken (longer_by desk mine theirs both was) had s c early)
+    (λ (this : (slot, cell) ≡ (s, c)). subst (λ (one : ℕ × C). (number one.1 ≡ one.0) × IsCell number cell_is desk both one.1) this (numbered, cell_longer desk theirs both (their_longer desk mine theirs both was) number cell_is cell is))
+    (Contains-push_cases taken (slot, cell) (s, c) (subst (λ xs. Contains xs (s, c)) pushed there))
+
+pub roles_more : {C : Type 0} (desk : Desk) (mine theirs both : SeenSeat) (first : List Role) (taken all : List (ℕ × C)) (slot : ℕ) (cell : C) → WasJoined desk mine theirs both → mine.roles ≡ first ++ map (λ s. Slot s) (slots_of taken) → theirs.roles ≡ Slot slot ∷ [] → all ≡ taken ++ (slot, cell) ∷ [] → both.roles ≡ first ++ map (λ s. Slot s) (slots_of all)
+roles_more {C = C} desk mine theirs both first taken all slot cell was had own pushed =
+    let had_roles = map (λ s. Slot s) (slots_of taken) in
+    let more : map (λ s. Slot s) (slots_of all) ≡ had_roles ++ Slot slot ∷ [] =
+    ap (λ xs. map (λ s. Slot s) (slots_of xs)) pushed ∙ ap (map (λ s. Slot s)) (map-append (λ (one : ℕ × C). one.0) taken ((slot, cell) ∷ [])) ∙ map-append (λ s. Slot s) (slots_of taken) (slot ∷ []) in
+    was.roles ∙ (ap (λ rs. mine.roles ++ rs) own ∙ (ap (λ rs. rs ++ Slot slot ∷ []) had ∙ (append_assoc first had_roles (Slot slot ∷ []) ∙ ap (λ rs. first ++ rs) (sym more))))
 
 pub cells_longer : {C : Type 0} (number : C → ℕ) (cell_is : C → SlotPart → Type 0) (desk : Desk) (mine both : SeenSeat) (cells : List C) → IsLonger mine both → AreCellsHeld number cell_is desk mine cells → AreCellsHeld number cell_is desk both cells
 cells_longer number cell_is desk mine both cells longer had s c at_s = let is = had s c at_s in (is.0, cell_longer desk mine both longer number cell_is c is.1)
@@ -82,9 +124,9 @@ one_of : (r : Role) (roles : List Role) → Contains roles r → (role : Role) �
 one_of r roles has role there = All-contains (λ x. Contains roles x) (r ∷ []) role (All-cons (λ x. Contains roles x) r [] has (All-nil (λ x. Contains roles x))) there
 
 -- one pass more, whose seat was joined
-pub followed_more : {R : Type 0} (regs_is : R → (ℕ → List Pixel) → Type 0) (name : TableId) (desk : Desk) (made : ℕ) (mine theirs both : SeenSeat) (front back whole rest : List SeenPass) (off : SeenPass) (regs : R) → WasJoined desk mine theirs both → whole ≡ front ++ off ∷ back → rest ≡ front ++ back → AreFollowed rest mine
+pub followed_more : {R : Type 0} (regs_is : R → (ℕ → List Pixel) → Type 0) (name : TableId) (desk : Desk) (made : ℕ) (mine theirs both : SeenSeat) (whole rest : List SeenPass) (off : SeenPass) (n : ℕ) (regs : R) → WasJoined desk mine theirs both → WasTakenOut task_of whole rest off n → AreFollowed rest mine
     → (task : ℕ) → record { task = task; history = theirs.history } ≡ off → IsOwn regs_is name desk task made theirs regs → AreFollowed whole both
-followed_more regs_is name desk made mine theirs both front back whole rest off regs was parts left had task is own p there =
+followed_more regs_is name desk made mine theirs both whole rest off n regs was out had task is own p there =
     let longer = longer_by desk mine theirs both was in
     let theirs_go = their_longer desk mine theirs both was in
     ⊎_elim
@@ -92,10 +134,10 @@ followed_more regs_is name desk made mine theirs both front back whole rest off 
     let here : Contains both.roles (Task task) × Follows (Task task ∷ []) theirs.history both.history =
     (theirs_go.among (Task task) own.regs.has, subst (λ rs. Follows rs theirs.history both.history) own.roles was.other_follows) in
     subst (λ (v : SeenPass). Contains both.roles (Task v.task) × Follows (Task v.task ∷ []) v.history both.history) (is ∙ sym this) here)
-    (λ (other : Contains (front ++ back) p).
-    let old = had p (subst (λ ps. Contains ps p) (sym left) other) in
+    (λ (other : Contains (out.front ++ out.back) p).
+    let old = had p (subst (λ ps. Contains ps p) (sym out.left) other) in
     (longer.among (Task p.task) old.0, follows_on (Task p.task ∷ []) p.history mine.history both.history old.1 (fewer_follow (Task p.task ∷ []) mine.roles mine.history both.history (one_of (Task p.task) mine.roles old.0) longer.follows)))
-    (either_of front back off p (subst (λ ps. Contains ps p) parts there))
+    (either_of out.front out.back off p (subst (λ ps. Contains ps p) out.parts there))
 
 -- all parts of a desk at the end
 pub closed : {I C R : Type 0} (info_is : I → InfoPart → Type 0) (number : C → ℕ) (cell_is : C → SlotPart → Type 0) (regs_is : R → (ℕ → List Pixel) → Type 0) (name : TableId) (desk : Desk) (passes : List SeenPass) (info : I) (cells : List C) (regs : List R) (first mid whole : SeenSeat)

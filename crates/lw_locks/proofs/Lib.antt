@@ -6,5 +6,6 @@ mod Later
 mod Passes
 pub mod Running
 mod Seats
+mod Slots
 mod Starting
 mod Stepping

@@ -10,7 +10,7 @@ use Rattle.lw_machine.specs.Parts.{SlotPart, InfoPart}
 use Rattle.lw_order.specs.Promised.{Follows}
 use Rattle.lw_order.specs.Seen.{SeenSeat}
 use Rattle.lw_steps.specs.Steps.{AreParts}
-use Rattle.lw_locks.specs.Held.{IsSeat, AreRegs, AreTasksRegs}
+use Rattle.lw_locks.specs.Held.{IsSeat, IsCell, AreRegs, AreTasksRegs}
 use Rattle.lw_locks.specs.Seen.{SeenPass}
 
 -- the task of a pass
@@ -20,6 +20,22 @@ task_of pass = pass.task
 -- the passes have one of each of so many tasks
 abbrev pub HasEach : List SeenPass → ℕ → Type 0
 HasEach passes tasks = (t : ℕ) → t < tasks → Contains (map task_of passes) t
+
+-- the slots' numbers that cells were taken with
+abbrev pub slots_of : {C : Type 0} → List (ℕ × C) → List ℕ
+slots_of {C = C} taken = map (λ (one : ℕ × C). one.0) taken
+
+-- there is a cell of each of so many slots
+abbrev pub HasEachSlot : {C : Type 0} → List (ℕ × C) → ℕ → Type 0
+HasEachSlot taken slots = (slot : ℕ) → slot < slots → Contains (slots_of taken) slot
+
+-- Each cell was taken with its own number, and stands for its slot, whose role the seat has.
+abbrev pub AreTaken : {C : Type 0} → (C → ℕ) → (C → SlotPart → Type 0) → Desk → SeenSeat → List (ℕ × C) → Type 0
+AreTaken {C = C} number cell_is desk seat taken = (slot : ℕ) (cell : C) → Contains taken (slot, cell) → (number cell ≡ slot) × IsCell number cell_is desk seat cell
+
+-- each cell was taken with its place as its number
+abbrev pub ArePlaced : {C : Type 0} → List (ℕ × C) → List C → Type 0
+ArePlaced {C = C} taken cells = (place : ℕ) (cell : C) → slice_get cells place ≡ Some cell → Contains taken (place, cell)
 
 -- the registers of the tasks from 0 on, whose roles the seat has
 abbrev pub AreRegsHeld : {R : Type 0} → (R → (ℕ → List Pixel) → Type 0) → Desk → SeenSeat → List R → Type 0

@@ -1,5 +1,5 @@
 -- What the order word tells of seats that are joined, split and stamped, with what the desk adds.
-use Rattle.std.specs.Prelude.{◌≡◌, ℕ, List, [], ◌∷◌, ◌++◌, Contains}
+use Rattle.std.specs.Prelude.{◌≡◌, ℕ, List, [], ◌∷◌, ◌++◌, All, Contains}
 use Rattle.lw_calls.specs.declared.call.Call.{Call}
 use Rattle.lw_calls.specs.declared.entry.Entry.{Entry}
 use Rattle.lw_calls.specs.declared.sizes.Sizes.{Sizes}
@@ -7,7 +7,8 @@ use Rattle.lw_calls.specs.declared.touch.Role.{Role}
 use Rattle.lw_machine.specs.Desk.{Desk}
 use Rattle.lw_order.specs.Numbered.{IsNumbered, TasksBelow, CallsFit}
 use Rattle.lw_order.specs.Promised.{Follows, Added}
-use Rattle.lw_order.specs.Roles.{without}
+use Rattle.lw_order.specs.Roles.{without, HasEachOnce}
+use Rattle.lw_order.specs.Rule.{IsRoleWithin}
 use Rattle.lw_order.specs.Seen.{SeenSeat}
 
 -- A history that an order word for these sizes may have.
@@ -16,10 +17,12 @@ pub record IsHistory (sizes : Sizes) (history : List Entry) : Type 0 where
   pub tasks : TasksBelow sizes.tasks history
   pub fits : CallsFit sizes history
 
--- A seat was given the roles and the history of another.
+-- A seat was given the roles and the history of another. Its roles are ones of these sizes, none of them twice.
 pub record WasJoined (desk : Desk) (mine theirs both : SeenSeat) : Type 0 where
   pub word : both.word ≡ mine.word
   pub roles : both.roles ≡ mine.roles ++ theirs.roles
+  pub once : HasEachOnce both.roles
+  pub fit : All (IsRoleWithin desk.sizes) both.roles
   pub follows : Follows mine.roles mine.history both.history
   pub other_follows : Follows theirs.roles theirs.history both.history
   pub known : IsHistory desk.sizes both.history

@@ -1,9 +1,12 @@
 // A desk after its last call.
 
-ghost use Rattle.std.specs.Prelude.{◌≡◌, ◌+◌, ◌<◌, ◌≤◌, ◌++◌, true, false, length, map, vec_len, vec_capacity, Contains, MatchResult};
-ghost use Rattle.std.specs.List.{range_with_len, slice_index_or};
-ghost use Rattle.lw_locks.specs.Closing.{task_of, HasEach, IsClosed, AreFollowed, AreRegsHeld};
-ghost use Rattle.lw_locks.specs.Held.{IsSeat, AreCellsHeld};
+ghost use Rattle.std.specs.Prelude.{◌≡◌, ℕ, ◌<◌, ◌≤◌, ◌++◌, length, map, vec_len, vec_capacity, All, Contains, IfOk, IfErr};
+ghost use Rattle.std.specs.List.{slice_index_or};
+ghost use Rattle.lw_calls.specs.declared.touch.Role.TheVariants.{Slot};
+ghost use Rattle.lw_order.specs.Roles.{HasEachOnce};
+ghost use Rattle.lw_order.specs.Rule.{IsRoleWithin};
+ghost use Rattle.lw_locks.specs.Closing.{task_of, HasEach, IsClosed, AreFollowed, AreRegsHeld, slots_of, HasEachSlot, AreTaken, ArePlaced};
+ghost use Rattle.lw_locks.specs.Held.{IsSeat};
 ghost use Rattle.lw_locks.specs.Joins.{IsLonger};
 ghost use Rattle.lw_locks.specs.Seen.{SeenPass};
 
@@ -27,7 +30,7 @@ pub struct Closed<E: Engine> {
     pub seat: Seat,
 }
 
-/// A desk that was not closed, out of memory, and its passes.
+/// A desk that was not closed, out of memory, and its passes, all as they were.
 #[derive(Drop)]
 pub struct NotClosed<E: Engine, N: Opening> {
     pub desk: Desk<E, N>,
@@ -35,14 +38,15 @@ pub struct NotClosed<E: Engine, N: Opening> {
 }
 
 impl<E: Engine, N: Opening> Desk<E, N> {
-    /// Takes a desk apart whose passes are these, of all tasks and in any order. It fails only when out of memory, and then gives all
-    /// back.
+    /// Takes a desk apart whose passes are these, of all tasks and in any order. It fails only when out of memory, and then gives the
+    /// desk and the passes back as they were.
     pub fn close(self, alloc: Global, passes: Vec<Pass<E, N>>) -> Result<Closed<E>, NotClosed<E, N>>
         requires many { vec_len passes ≡ N.desk.sizes.tasks }
         requires each { HasEach passes.items N.desk.sizes.tasks }
-        ensures closed { MatchResult result
-            (λ c. IsClosed (E.info_is N.desk.sizes) E.number E.cell_is E.regs_is N.word N.desk passes.items c.info c.cells.items c.regs.items c.seat)
-            (λ n. n.passes.items ≡ passes.items) }
+        ensures closed { IfOk result
+            (λ c. IsClosed (E.info_is N.desk.sizes) E.number E.cell_is E.regs_is N.word N.desk passes.items c.info c.cells.items c.regs.items c.seat) }
+        ensures desk { IfErr result (λ n. n.desk ≡ self) }
+        ensures passes { IfErr result (λ n. n.passes ≡ passes) }
     {
         let Ok(taken) = Vec::with_capacity(alloc, self.layers.len()) else {
             return Err(NotClosed { desk: self, passes });
@@ -53,83 +57,49 @@ impl<E: Engine, N: Opening> Desk<E, N> {
         let Ok(regs) = Vec::with_capacity(alloc, passes.len()) else {
             return Err(NotClosed { desk: self, passes });
         };
-        self.close_into(taken, cells, regs, passes)
+        Ok(self.close_into(taken, cells, regs, passes))
     }
 
-    // With room for all layers, cells and registers. No lock has another slot's layer; if one had, all would be given back.
+    // With room for the cells of all layers, before and after they are put in order, and for all registers.
     fn close_into(
         self,
-        mut taken: Vec<Layer<E, N>>,
+        taken: Vec<(u32, E::Cell)>,
         cells: Vec<E::Cell>,
         regs: Vec<E::Regs>,
         passes: Vec<Pass<E, N>>,
-    ) -> Result<Closed<E>, NotClosed<E, N>>
+    ) -> Closed<E>
         requires taken { (vec_len taken ≡ 0) × (N.desk.sizes.slots ≤ vec_capacity taken) }
         requires cells { (vec_len cells ≡ 0) × (N.desk.sizes.slots ≤ vec_capacity cells) }
         requires regs { (vec_len regs ≡ 0) × (vec_len passes ≤ vec_capacity regs) }
         requires many { vec_len passes ≡ N.desk.sizes.tasks }
         requires each { HasEach passes.items N.desk.sizes.tasks }
-        ensures closed { MatchResult result
-            (λ c. IsClosed (E.info_is N.desk.sizes) E.number E.cell_is E.regs_is N.word N.desk passes.items c.info c.cells.items c.regs.items c.seat)
-            (λ n. n.passes.items ≡ passes.items) }
+        ensures { IsClosed (E.info_is N.desk.sizes) E.number E.cell_is E.regs_is N.word N.desk passes.items result.info result.cells.items result.regs.items result.seat }
     {
         let Desk {
             steps,
             info,
-            mut layers,
+            layers,
         } = self;
-        if !take_layers(&mut layers, &mut taken) {
-            let desk = Desk {
-                steps,
-                info,
-                layers,
-            };
-            return Err(NotClosed { desk, passes });
-        }
         let Place { held } = info.into_inner();
         let Some(info) = held else {
             unreachable!();
         };
-        Ok(join_all(&steps, info, taken, passes, cells, regs))
+        join_all(&steps, info, layers, taken, passes, cells, regs)
     }
-}
-
-// Takes the layers from behind their locks, in rising number. Where a lock had another slot's, all stay.
-fn take_layers<E: Engine, N: Opening>(
-    layers: &mut Vec<Mutex<Place<Layer<E, N>>>>,
-    taken: &mut Vec<Layer<E, N>>,
-) -> bool
-    requires room { vec_len taken.old + vec_len layers.old ≤ vec_capacity taken.old }
-    ensures taken { result ≡ true → taken.new.items ≡ taken.old.items ++ range_with_len 0 (vec_len layers.old) }
-    ensures capacity { (vec_capacity taken.new ≡ vec_capacity taken.old) × (vec_capacity layers.new ≡ vec_capacity layers.old) }
-    ensures many { result ≡ true → vec_len taken.new ≡ vec_len taken.old + vec_len layers.old }
-    ensures stay { result ≡ false → vec_len layers.new ≡ vec_len layers.old }
-{
-    let Some(lock) = layers.pop() else {
-        return true;
-    };
-    let Place { held } = lock.into_inner();
-    let Some(layer) = held else {
-        unreachable!();
-    };
-    if layer.slot as usize != layers.len() || !take_layers(layers, taken) {
-        layers.push_reserved(Mutex::new(Place { held: Some(layer) }));
-        return false;
-    }
-    taken.push_reserved(layer);
-    true
 }
 
 // Joins the seats of all layers and passes to LayerInfo's.
 fn join_all<E: Engine, N: Opening>(
     steps: &Steps<E, N>,
     info: LayerInfo<E, N>,
-    mut taken: Vec<Layer<E, N>>,
+    mut layers: Vec<Mutex<Place<Layer<E, N>>>>,
+    mut taken: Vec<(u32, E::Cell)>,
     mut passes: Vec<Pass<E, N>>,
     mut cells: Vec<E::Cell>,
     mut regs: Vec<E::Regs>,
 ) -> Closed<E>
-    requires layers { taken.items ≡ range_with_len 0 N.desk.sizes.slots }
+    requires layers { vec_len layers ≡ N.desk.sizes.slots }
+    requires taken { (vec_len taken ≡ 0) × (N.desk.sizes.slots ≤ vec_capacity taken) }
     requires cells { (vec_len cells ≡ 0) × (N.desk.sizes.slots ≤ vec_capacity cells) }
     requires regs { (vec_len regs ≡ 0) × (vec_len passes ≤ vec_capacity regs) }
     requires many { vec_len passes ≡ N.desk.sizes.tasks }
@@ -141,7 +111,8 @@ fn join_all<E: Engine, N: Opening>(
         mut seat,
         of: _,
     } = info;
-    join_layers(steps, &mut seat, &mut taken, &mut cells);
+    join_layers(steps, &mut seat, &mut layers, &mut taken);
+    put_cells(&mut taken, &mut cells);
     join_passes(steps, &mut seat, &mut passes, &mut regs);
     Closed {
         info,
@@ -151,33 +122,73 @@ fn join_all<E: Engine, N: Opening>(
     }
 }
 
-// Joins the seats of layers to one, the first layer's first, and gives their cells in this order.
+// Takes the layers from behind their locks, joins their seats to one, the first lock's first, and gives their numbers and cells in this
+// order. No two seats have a role in common, so no number comes twice.
 fn join_layers<E: Engine, N: Opening>(
     steps: &Steps<E, N>,
     seat: &mut Seat,
-    taken: &mut Vec<Layer<E, N>>,
-    cells: &mut Vec<E::Cell>,
+    layers: &mut Vec<Mutex<Place<Layer<E, N>>>>,
+    taken: &mut Vec<(u32, E::Cell)>,
 )
     requires seat { IsSeat N.word N.desk seat.old }
-    requires layers { taken.old.items ≡ range_with_len 0 (vec_len taken.old) }
-    requires cells { (vec_len cells.old ≡ 0) × (vec_len taken.old ≤ vec_capacity cells.old) }
+    requires once { HasEachOnce seat.old.roles }
+    requires fit { All (IsRoleWithin N.desk.sizes) seat.old.roles }
+    requires taken { (vec_len taken.old ≡ 0) × (vec_len layers.old ≤ vec_capacity taken.old) }
     ensures seat { IsSeat N.word N.desk seat.new }
     ensures longer { IsLonger seat.old seat.new }
-    ensures cells { AreCellsHeld E.number E.cell_is N.desk seat.new cells.new.items }
-    ensures many { (vec_len cells.new ≡ vec_len taken.old) × (vec_capacity cells.new ≡ vec_capacity cells.old) }
+    ensures once { HasEachOnce seat.new.roles }
+    ensures fit { All (IsRoleWithin N.desk.sizes) seat.new.roles }
+    ensures roles { seat.new.roles ≡ seat.old.roles ++ map (λ slot. Slot slot) (slots_of taken.new.items) }
+    ensures taken { AreTaken E.number E.cell_is N.desk seat.new taken.new.items }
+    ensures many { (vec_len taken.new ≡ vec_len layers.old) × (vec_capacity taken.new ≡ vec_capacity taken.old) }
 {
-    let Some(layer) = taken.pop() else {
+    let Some(lock) = layers.pop() else {
         return;
     };
-    join_layers(steps, seat, taken, cells);
+    let Place { held } = lock.into_inner();
+    let Some(layer) = held else {
+        unreachable!();
+    };
+    join_layers(steps, seat, layers, taken);
     let Layer {
-        slot: _,
+        slot,
         cell,
         seat: theirs,
         of: _,
     } = layer;
     steps.join(seat, theirs);
+    taken.push_reserved((slot, cell));
+}
+
+// Gives cells in rising number, of which there is one of each.
+fn put_cells<C: Drop>(taken: &mut Vec<(u32, C)>, cells: &mut Vec<C>)
+    requires each { HasEachSlot taken.old.items (vec_len taken.old) }
+    requires cells { (vec_len cells.old ≡ 0) × (vec_len taken.old ≤ vec_capacity cells.old) }
+    ensures placed { ArePlaced taken.old.items cells.new.items }
+    ensures many { (vec_len cells.new ≡ vec_len taken.old) × (vec_capacity cells.new ≡ vec_capacity cells.old) }
+{
+    let last = taken.len();
+    if last == 0 {
+        return;
+    }
+    let place = place_of_slot(taken.as_slice(), last - 1);
+    let (_, cell) = taken.remove(place);
+    put_cells(taken, cells);
     cells.push_reserved(cell);
+}
+
+// The place of the cell of a slot, which is there.
+fn place_of_slot<C>(taken: &[(u32, C)], slot: usize) -> usize
+    requires { Contains (slots_of taken.now) slot }
+    ensures place { result < length taken.now }
+    ensures slot { (d : ℕ × C) → (slice_index_or taken.now result d).0 ≡ slot }
+{
+    for place in 0..taken.len() {
+        if taken[place].0 as usize == slot {
+            return place;
+        }
+    }
+    unreachable!()
 }
 
 // Joins the seats of passes to one, the first task's first, and gives their registers in this order.

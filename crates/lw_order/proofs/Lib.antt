@@ -1,4 +1,5 @@
 pub mod RoleLaws
+pub mod OnceLaws
 pub mod HistoryLaws
 pub mod Bound
 pub mod ViewLaws

@@ -42,10 +42,10 @@ not_there off roles h =
 pub only_role : (off role : Role) → Contains (off ∷ []) role → off ≡ role
 only_role off role h = All-contains (λ r. off ≡ r) (off ∷ []) role (All-cons (λ r. off ≡ r) off [] refl (All-nil (λ r. off ≡ r))) h
 
-contains_more : {X : Type 0} (y x : X) (xs : List X) → Contains xs x → Contains (y ∷ xs) x
+pub contains_more : {X : Type 0} (y x : X) (xs : List X) → Contains xs x → Contains (y ∷ xs) x
 contains_more y x xs h = Contains-append_right (y ∷ []) xs x h
 
-contains_first : {X : Type 0} (y x : X) (xs : List X) → y ≡ x → Contains (y ∷ xs) x
+pub contains_first : {X : Type 0} (y x : X) (xs : List X) → y ≡ x → Contains (y ∷ xs) x
 contains_first y x xs e = (0, omega arith, e)
 
 kept_rest : (x role : Role) (rest : List Role) (t : Bool) → Contains rest role → Contains (cond t (x ∷ rest) rest) role
@@ -61,7 +61,7 @@ still_there off role (x ∷ roles) other (zero, below, e) =
 still_there off role (x ∷ roles) other (suc k, below, e) =
     kept_rest x role (without off roles) (not (same_role off x)) (still_there off role roles other (k, omega arith, e))
 
-contains_map : {X Y : Type 0} (f : X → Y) (xs : List X) (x : X) → Contains xs x → Contains (map f xs) (f x)
+pub contains_map : {X Y : Type 0} (f : X → Y) (xs : List X) (x : X) → Contains xs x → Contains (map f xs) (f x)
 contains_map f [] x (k, below, e) = absurd (omega arith)
 contains_map f (y ∷ xs) x (zero, below, e) = contains_first (f y) (f x) (map f xs) (ap f e)
 contains_map f (y ∷ xs) x (suc k, below, e) = contains_more (f y) (f x) (map f xs) (contains_map f xs x (k, omega arith, e))

@@ -17,13 +17,14 @@ use Rattle.lw_calls.specs.Limits.{call_fits}
 use Rattle.lw_calls.specs.Entries.{count_of}
 use Rattle.lw_order.specs.declared.view.Old.{Old}
 use Rattle.lw_order.specs.declared.view.View.{View}
-use Rattle.lw_order.specs.Roles.{all_roles, without, LeavesAlone}
+use Rattle.lw_order.specs.Roles.{all_roles, without, LeavesAlone, HasEachOnce}
 use Rattle.lw_order.specs.Owned.{Owns}
 use Rattle.lw_order.specs.Numbered.{IsNumbered, TasksBelow, CallsFit}
 use Rattle.lw_order.specs.Promised.{Follows, longer}
 use Rattle.lw_order.specs.Rule.{IsRoleWithin, Stands, KeepsOrder}
 use Rattle.lw_order.specs.Plays.{view_of, first_view, spent_view, old_of, Learned, Stamped}
 use Rattle.lw_order.proofs.RoleLaws.{all_from_members, was_there, only_role, leaves_others}
+use Rattle.lw_order.proofs.OnceLaws.{one_once, both_once, without_once, all_roles_once}
 use Rattle.lw_order.proofs.HistoryLaws.{follows_itself, fewer_follow, numbered_push, numbered_prefix, tasks_prefix, calls_prefix, count_of_append, count_of_quiet, joins}
 use Rattle.lw_order.proofs.Bound.{length_bound}
 use Rattle.lw_order.proofs.ViewLaws.{stands_set, stands_push, not_of_another, held_once_set, held_once_split, held_once_join, held_once_first}
@@ -45,9 +46,9 @@ all_roles_fit sizes =
     (All-map (IsRoleWithin sizes) (λ t. Task t) (range_with_len 0 sizes.tasks) (below_none sizes.tasks)))
     (All-map (IsRoleWithin sizes) (λ s. Slot s) (range_with_len 0 sizes.slots) (below_none sizes.slots))
 
-stands_alone : (sizes : Sizes) (whole : List Entry) (roles : List Role) (history : List Entry) → Follows roles history whole → All (IsRoleWithin sizes) roles → Stands sizes whole (view_of history roles)
-stands_alone sizes whole roles history follows fits =
-    record { follows = follows; roles_fit = fits; olds_follow = All-nil (λ (o : Old). Follows o.roles o.history history) }
+stands_alone : (sizes : Sizes) (whole : List Entry) (roles : List Role) (history : List Entry) → Follows roles history whole → All (IsRoleWithin sizes) roles → HasEachOnce roles → Stands sizes whole (view_of history roles)
+stands_alone sizes whole roles history follows fits once =
+    record { follows = follows; roles_fit = fits; once = once; olds_follow = All-nil (λ (o : Old). Follows o.roles o.history history) }
 
 -- the start
 pub starts : (sizes : Sizes) → sizes.tasks < 2 ^ 32 → KeepsOrder sizes (0 ∷ []) (first_view sizes ∷ [])
@@ -66,7 +67,7 @@ starts sizes fits = (
 )
   where
     first : Stands sizes [] (first_view sizes)
-    first = stands_alone sizes [] (all_roles sizes.slots sizes.tasks) [] (follows_itself (all_roles sizes.slots sizes.tasks) []) (all_roles_fit sizes)
+    first = stands_alone sizes [] (all_roles sizes.slots sizes.tasks) [] (follows_itself (all_roles sizes.slots sizes.tasks) []) (all_roles_fit sizes) (all_roles_once sizes.slots sizes.tasks)
 
     one : (seat : ℕ) (v : View) → get_elem? (first_view sizes ∷ []) seat ≡ some v → Stands sizes [] v
     one zero v e = subst (Stands sizes []) (some-injective (first_view sizes) v e) first
@@ -79,9 +80,9 @@ splits sizes words views seat v off there (whole, k) at =
     let mine = k.stands seat v at in
     let among : (role : Role) → Contains (off ∷ []) role → Contains v.roles role = λ role h. subst (Contains v.roles) (only_role off role h) there in
     let fewer : (role : Role) → Contains (without off v.roles) role → Contains v.roles role = λ role h. was_there off role v.roles h in
-    let left = stands_alone sizes whole (without off v.roles) v.history (fewer_follow (without off v.roles) v.roles v.history whole fewer mine.follows) (All-filter _ (IsRoleWithin sizes) v.roles mine.roles_fit) in
+    let left = stands_alone sizes whole (without off v.roles) v.history (fewer_follow (without off v.roles) v.roles v.history whole fewer mine.follows) (All-filter _ (IsRoleWithin sizes) v.roles mine.roles_fit) (without_once off v.roles mine.once) in
     let right = stands_alone sizes whole (off ∷ []) v.history (fewer_follow (off ∷ []) v.roles v.history whole among mine.follows)
-    (all_from_members (IsRoleWithin sizes) (off ∷ []) (λ role h. All-contains (IsRoleWithin sizes) v.roles role mine.roles_fit (among role h))) in (
+    (all_from_members (IsRoleWithin sizes) (off ∷ []) (λ role h. All-contains (IsRoleWithin sizes) v.roles role mine.roles_fit (among role h))) (one_once off) in (
       whole,
       record {
         word = k.word;
@@ -112,10 +113,11 @@ joins_seats sizes words views seat v other w (whole, k) at apart there =
     let stands : Stands sizes whole both = record {
       follows = learned.both;
       roles_fit = All-append (IsRoleWithin sizes) v.roles w.roles mine.roles_fit other_stands.roles_fit;
+      once = both_once v.roles w.roles mine.once other_stands.once (λ role here there. not_of_another views seat other v w role k.held_once at theirs apart here there);
       olds_follow = All-cons (λ (o : Old). Follows o.roles o.history both.history) (old_of v) (old_of w ∷ []) learned.own
           (All-cons (λ (o : Old). Follows o.roles o.history both.history) (old_of w) [] learned.other (All-nil (λ (o : Old). Follows o.roles o.history both.history)));
     } in
-    let spent : Stands sizes whole spent_view = stands_alone sizes whole [] [] (record { rest = whole; prefix = refl; quiet = λ k d below j e none. absurd (omega arith) }) (All-nil (IsRoleWithin sizes)) in (
+    let spent : Stands sizes whole spent_view = stands_alone sizes whole [] [] (record { rest = whole; prefix = refl; quiet = λ k d below j e none. absurd (omega arith) }) (All-nil (IsRoleWithin sizes)) tt in (
       whole,
       record {
         word = k.word;
@@ -138,7 +140,7 @@ learns sizes words views seat v known same (whole, k) at =
         whole,
         record {
           word = ap (λ ws. set ws 0 (slice_index ws 0)) k.word;
-          stands = stands_set sizes whole views seat (view_of v.history v.roles) (λ j u apart e. k.stands j u e) (stands_alone sizes whole v.roles v.history mine.follows mine.roles_fit);
+          stands = stands_set sizes whole views seat (view_of v.history v.roles) (λ j u apart e. k.stands j u e) (stands_alone sizes whole v.roles v.history mine.follows mine.roles_fit mine.once);
           held_once = held_once_set views seat v (view_of v.history v.roles) k.held_once at (λ role h. h);
           numbered = k.numbered;
           tasks_fit = k.tasks_fit;
@@ -153,6 +155,8 @@ learns sizes words views seat v known same (whole, k) at =
         numbered = numbered_prefix v.roles v.history whole mine.follows k.numbered;
         tasks_fit = subst (λ (s : Sizes). TasksBelow s.tasks v.history) same (tasks_prefix sizes.tasks v.roles v.history whole mine.follows k.tasks_fit);
         calls_fit = subst (λ (s : Sizes). CallsFit s v.history) same (calls_prefix sizes v.roles v.history whole mine.follows k.calls_fit);
+        roles_fit = subst (λ (s : Sizes). All (IsRoleWithin s) v.roles) same mine.roles_fit;
+        once = mine.once;
       },
     )
 
@@ -226,9 +230,10 @@ stamps sizes words views seat v known task call same owns fits room (whole, k) a
                 follows = follows_more u.roles u.history whole e theirs.follows
                     (leaves_others sizes v.roles u.roles e owns theirs.roles_fit (λ role here there. not_of_another views seat j v u role k.held_once at f apart here there));
                 roles_fit = theirs.roles_fit;
+                once = theirs.once;
                 olds_follow = theirs.olds_follow;
               })
-              (stands_alone sizes new v.roles new (follows_itself v.roles new) mine.roles_fit);
+              (stands_alone sizes new v.roles new (follows_itself v.roles new) mine.roles_fit mine.once);
           held_once = held_once_set views seat v w k.held_once at (λ role h. h);
           numbered = numbered;
           tasks_fit = tasks_fit;

@@ -1,5 +1,5 @@
 -- Views that change: who has a role afterwards had it before, or was given it.
-use Rattle.std.proofs.Common.{◌≡◌, ◌≢◌, ◌⊎◌, ℕ, zero, suc, List, [], ◌∷◌, ◌++◌, length, set, refl, sym, ap, ◌∙◌, subst, ⊎_elim, inl, inr, arith}
+use Rattle.std.proofs.Common.{◌≡◌, ◌≢◌, ◌⊎◌, ℕ, zero, suc, List, [], ◌∷◌, ◌++◌, length, set, refl, sym, ap, ◌∙◌, subst, ⊎_elim, inl, inr}
 use Rattle.std.specs.Prelude.{Contains}
 use Rattle.std.proofs.lemmas.List.Elements.{Contains-append_cases}
 use mathlib.Core.Option.{some, some-injective, some-ne-none}
@@ -13,6 +13,7 @@ use Rattle.lw_order.specs.Roles.{without}
 use Rattle.lw_order.specs.Rule.{Stands, HeldOnce}
 use Rattle.lw_order.specs.Plays.{view_of, spent_view}
 use Rattle.lw_order.proofs.RoleLaws.{was_there, not_there, only_role}
+use Rattle.lw_order.proofs.OnceLaws.{no_role}
 
 -- an element of a list that got one more: it was there, or it is the new one, at the end
 at_snoc_place : {A : Type 0} (l : List A) (a b : A) (j : ℕ) → get_elem? (l ++ a ∷ []) j ≡ some b → (get_elem? l j ≡ some b) ⊎ ((j ≡ length l) × (a ≡ b))
@@ -104,9 +105,6 @@ parted_once views seat off role i j once mine a b =
 pub held_once_split : (views : List View) (seat : ℕ) (v : View) (off : Role) → HeldOnce views → get_elem? views seat ≡ some v → Contains v.roles off → HeldOnce (set views seat (view_of v.history (without off v.roles)) ++ view_of v.history (off ∷ []) ∷ [])
 held_once_split views seat v off once at there i j a b role ea eb ha hb =
     parted_once views seat off role i j once (record { view = v; there = at; has = there }) (parted views seat v off i a role at ea ha) (parted views seat v off j b role at eb hb)
-
-no_role : (role : Role) → Contains [] role → ⊥
-no_role role h = let below = h.1 in omega arith
 
 -- After a join the other seat has no role, and the first one has those of both.
 record Merged (views : List View) (seat other i : ℕ) (role : Role) : Type 0 where

@@ -7,9 +7,10 @@ use Rattle.lw_calls.specs.declared.entry.Entry.{Entry}
 use Rattle.lw_calls.specs.declared.touch.Role.{Role}
 use Rattle.lw_order.specs.declared.view.Old.{Old}
 use Rattle.lw_order.specs.declared.view.View.{View}
-use Rattle.lw_order.specs.Roles.{all_roles}
+use Rattle.lw_order.specs.Roles.{all_roles, HasEachOnce}
 use Rattle.lw_order.specs.Numbered.{IsNumbered, TasksBelow, CallsFit}
 use Rattle.lw_order.specs.Promised.{Follows, Added}
+use Rattle.lw_order.specs.Rule.{IsRoleWithin}
 
 -- a view with no former histories to learn of
 abbrev pub view_of : List Entry → List Role → View
@@ -27,13 +28,16 @@ spent_view = view_of [] []
 abbrev pub old_of : View → Old
 old_of v = record { history = v.history; roles = v.roles }
 
--- the load that follows a join: the seat learns that its history goes on from both former ones
+-- the load that follows a join: the seat learns that its history goes on from both former ones, and that its roles are
+-- ones of these sizes, none of them twice
 pub record Learned (sizes : Sizes) (before after : View) : Type 0 where
   pub view : after ≡ view_of before.history before.roles
   pub olds_follow : All (λ o. Follows o.roles o.history before.history) before.olds
   pub numbered : IsNumbered before.history
   pub tasks_fit : TasksBelow sizes.tasks before.history
   pub calls_fit : CallsFit sizes before.history
+  pub roles_fit : All (IsRoleWithin sizes) before.roles
+  pub once : HasEachOnce before.roles
 
 -- the stamp: the seat knows the whole history, with its own step at the end
 pub record Stamped (sizes : Sizes) (task : ℕ) (call : Call) (found : ℕ) (before after : View) : Type 0 where

@@ -1,5 +1,5 @@
 -- Roles, and the steps of a history that leave them alone.
-use Rattle.std.specs.Prelude.{◌≡◌, ℕ, ◌==◌, Bool, true, false, not, List, ◌∷◌, ◌++◌, map, filter, All}
+use Rattle.std.specs.Prelude.{◌≡◌, ℕ, ◌==◌, Bool, true, false, not, List, [], ◌∷◌, ◌++◌, map, filter, All, Contains}
 use Rattle.std.specs.List.{range_with_len}
 use Rattle.lw_calls.specs.declared.entry.Entry.{Entry}
 use Rattle.lw_calls.specs.declared.touch.Role.{Role}
@@ -20,6 +20,11 @@ all_roles slots tasks = Info ∷ map (λ t. Task t) (range_with_len 0 tasks) ++ 
 -- the roles without this one
 abbrev pub without : Role → List Role → List Role
 without off roles = filter (λ role. not (same_role off role)) roles
+
+-- no role stands twice among the roles
+abbrev pub HasEachOnce : List Role → Type 0
+HasEachOnce [] = Unit {0}
+HasEachOnce (role ∷ rest) = (Contains rest role → ⊥) × HasEachOnce rest
 
 -- the step touches none of the roles
 abbrev pub LeavesAlone : List Role → Entry → Type 0

@@ -10,6 +10,7 @@ use Rattle.lw_calls.specs.Entries.{count_of}
 use Rattle.lw_order.specs.declared.view.View.{View}
 use Rattle.lw_order.specs.Numbered.{IsNumbered, TasksBelow, CallsFit}
 use Rattle.lw_order.specs.Promised.{Follows}
+use Rattle.lw_order.specs.Roles.{HasEachOnce}
 
 -- a role of so many slots and tasks
 abbrev pub IsRoleWithin : Sizes → Role → Type 0
@@ -18,10 +19,12 @@ IsRoleWithin sizes (Slot s) = s < sizes.slots
 IsRoleWithin sizes Info = Unit {0}
 
 -- One view stands well in the whole history: its own is a beginning of it, behind which no step touches its roles; its
--- roles are ones of these sizes; and its own history goes on in the same way from each of the former ones.
+-- roles are ones of these sizes, none of them twice; and its own history goes on in the same way from each of the former
+-- ones.
 pub record Stands (sizes : Sizes) (whole : List Entry) (v : View) : Type 0 where
   pub follows : Follows v.roles v.history whole
   pub roles_fit : All (IsRoleWithin sizes) v.roles
+  pub once : HasEachOnce v.roles
   pub olds_follow : All (λ o. Follows o.roles o.history v.history) v.olds
 
 -- no two views have a role in common

@@ -1,12 +1,13 @@
-ghost use Rattle.std.specs.Prelude.{◌≡◌, ◌+◌, ◌<◌, [], ◌∷◌, ◌++◌, IsTrue, IfOk, Contains};
+ghost use Rattle.std.specs.Prelude.{◌≡◌, ◌+◌, ◌<◌, [], ◌∷◌, ◌++◌, IsTrue, IfOk, All, Contains};
 ghost use Rattle.lw_calls.specs.Touches.{touch_of};
 ghost use Rattle.lw_calls.specs.Limits.{call_fits};
 ghost use Rattle.lw_calls.specs.Entries.{count_of};
-ghost use Rattle.lw_order.specs.Roles.{all_roles, without};
+ghost use Rattle.lw_order.specs.Roles.{all_roles, without, HasEachOnce};
 ghost use Rattle.lw_order.specs.Owned.{Owns};
 ghost use Rattle.lw_order.specs.Numbered.{IsNumbered, TasksBelow, CallsFit};
 ghost use Rattle.lw_order.specs.Promised.{Follows, Added, longer};
 ghost use Rattle.lw_order.specs.Plays.{Learned};
+ghost use Rattle.lw_order.specs.Rule.{IsRoleWithin};
 
 use crate::seat::Seat;
 use crate::view::{Both, Law, Learn, Learning, Off, Parting, Stamp, Stamping, View};
@@ -72,12 +73,14 @@ impl Order {
     }
 
     /// Gives a seat the roles and the history of another. It then has the longer history, and learns that this goes on
-    /// from both former ones.
+    /// from both former ones. No two seats have a role in common, so it has none twice.
     pub fn join(&self, seat: &mut Seat, other: Seat)
         requires word { seat.old.word ≡ self.now.word }
         requires other_word { other.word ≡ self.now.word }
         ensures word { seat.new.word ≡ seat.old.word }
         ensures roles { seat.new.roles ≡ seat.old.roles ++ other.roles }
+        ensures once { HasEachOnce seat.new.roles }
+        ensures fit { All (IsRoleWithin self.now.sizes) seat.new.roles }
         ensures longer { seat.new.history ≡ longer seat.old.history other.history }
         ensures follows { Follows seat.old.roles seat.old.history seat.new.history }
         ensures other_follows { Follows other.roles other.history seat.new.history }

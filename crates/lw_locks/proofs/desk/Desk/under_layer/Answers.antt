@@ -5,7 +5,7 @@ use Rattle.lw_calls.specs.Entries.{count_of}
 use Rattle.lw_locks.specs.Seen.{SeenPass}
 use Rattle.lw_locks.specs.declared.answer.Answer.{Answer}
 use Rattle.lw_locks.proofs.Seats.{longer_by, regs_longer, cell_longer, their_longer}
-use Rattle.lw_locks.proofs.Passes.{room_joined, counted_joined, counted_after, own_left, done_out}
+use Rattle.lw_locks.proofs.Passes.{room_joined, counted_joined, counted_after, own_left, done_out, failed_out}
 use Rattle.lw_locks.proofs.desk.Desk.under_layer.Goals as goal
 
 pub on_layer-answer-requires-clause-regs : goal.on_layer-answer-requires-clause-regs
@@ -69,3 +69,14 @@ returns-clause-done g c =
     let left = c.split-seat.new.seat.history in
     let longer = longer_by desk mine theirs both joined in
     done_out desk task mine both stepped.history left c.args.pass.now longer c.pass.invariant.roles c.split-seat.ensures.histories.0 c.pass.view_is c.on_layer-answer.result c.args.call.now (λ (a : Answer). a.reply) (λ (a : Answer). a.ticket) c.on_layer-answer.ensures.done
+
+pub returns-clause-failed : goal.returns-clause-failed
+returns-clause-failed g c =
+    let desk = g.N.Opening.desk in
+    let task = c.pass.inside.task in
+    let mine = c.pass.inside.seat in
+    let theirs = c.layer.inside.seat in
+    let both = c.join.new.seat in
+    let stepped = c.on_layer-answer.new.seat in
+    let left = c.split-seat.new.seat.history in
+    failed_out desk task mine both stepped.history left c.args.pass.now (longer_by desk mine theirs both c.join.ensures) c.pass.invariant.roles c.split-seat.ensures.histories.0 c.pass.view_is c.on_layer-answer.result c.on_layer-answer.ensures.same
