@@ -4,3 +4,4 @@ pub mod OrderReading
 pub mod TwoTasks
 pub mod BlitClass
 pub mod Ranges
+pub mod LimitLaws

@@ -1,8 +1,7 @@
 -- Each good line has one spelling, in which it isn't skipped and has no line feed; and lines so spelled are those of their text.
-use Rattle.std.proofs.Common.{◌≡◌, ℕ, ◌*◌, ◌==◌, Bool, true, false, not, cond, nat_le, List, [], ◌∷◌, ◌++◌, length, map, codes, Option, Some, None, Result, Ok, Err, ok_or, option_map, IfSome, refl, sym, ap, subst, ◌∙◌, append_assoc}
+use Rattle.std.proofs.Common.{◌≡◌, ℕ, ◌==◌, Bool, true, false, not, cond, nat_le, List, [], ◌∷◌, ◌++◌, length, map, codes, Option, Some, None, Result, Ok, Err, ok_or, IfSome, refl, sym, ap, subst, ◌∙◌, append_assoc}
 use Rattle.std.specs.List.{list_all, flat_map, onto_first}
 use Rattle.std.specs.Result.{IfOk}
-use Rattle.lw_planes.specs.Bitmap.{row_bytes}
 use Rattle.lw_calls.specs.declared.operation.RectOp.TheVariants.{Or as OrR, And as AndR, Xor as XorR, Clear as ClearR}
 use Rattle.lw_calls.specs.declared.operation.PairOp.TheVariants.{Or as OrP, And as AndP, Xor as XorP}
 use Rattle.lw_calls.specs.declared.reason.Reason.{Reason}
@@ -11,15 +10,14 @@ use Rattle.lw_grammar.specs.declared.verb.Verb.{Verb}
 use Rattle.lw_grammar.specs.declared.verb.Verb.TheVariants.{Screen as ScreenVerb, Glyph as GlyphVerb, Bitmap as BitmapVerb, Task as TaskVerb, End as EndVerb, Order as OrderVerb, Report as ReportVerb, Lock as LockVerb, Unlock as UnlockVerb, Hold as HoldVerb, Release as ReleaseVerb, OrRect as OrRectVerb, AndRect as AndRectVerb, XorRect as XorRectVerb, ClearRect as ClearRectVerb, OrRegion as OrRegionVerb, AndRegion as AndRegionVerb, XorRegion as XorRegionVerb, ClearRegion as ClearRegionVerb, Create as CreateVerb, Open as OpenVerb, Close as CloseVerb, Front as FrontVerb, Behind as BehindVerb, InFront as InFrontVerb, Move as MoveVerb, Size as SizeVerb, Box as BoxVerb, Activate as ActivateVerb, Which as WhichVerb, APen as APenVerb, BPen as BPenVerb, Mode as ModeVerb, Mask as MaskVerb, At as AtVerb, Write as WriteVerb, Read as ReadVerb, Fill as FillVerb, Draw as DrawVerb, Text as TextVerb, SetRast as SetRastVerb, ScrollRaster as ScrollRasterVerb, Put as PutVerb, Blit as BlitVerb, Clip as ClipVerb, Unclip as UnclipVerb, Refresh as RefreshVerb, EndRefresh as EndRefreshVerb, Scroll as ScrollVerb, Title as TitleVerb, GetMsg as GetMsgVerb}
 use Rattle.lw_grammar.specs.Demands.{◌>>=◌, demand}
 use Rattle.lw_grammar.specs.Lines.{lines}
-use Rattle.lw_grammar.specs.Tokens.{on_found, tokens_at, tokens, Token, OddToken, token_of, hex_bytes, spelled_bytes}
+use Rattle.lw_grammar.specs.Tokens.{tokens, Token, token_of}
 use Rattle.lw_grammar.specs.Verbs.{verb_word, verb_of}
-use Rattle.lw_grammar.specs.Statements.{CloseAct, FrontAct, BehindAct, MoveAct, SizeAct, BoxAct, ActivateAct, APenAct, BPenAct, ModeAct, MaskAct, AtAct, WriteAct, ReadAct, FillAct, DrawAct, TextAct, SetRastAct, ClipAct, UnclipAct, RefreshAct, ScrollAct, TitleAct, GetMsgAct, Statement, RowLine, TaskLine, EndLine, OrderLine, ReportLine, LockLine, UnlockLine, HoldLine, ReleaseLine, four, row_line, numbers_limit, numbers_line, statement_by, is_line_in_range}
+use Rattle.lw_grammar.specs.Statements.{CloseAct, FrontAct, BehindAct, MoveAct, SizeAct, BoxAct, ActivateAct, APenAct, BPenAct, ModeAct, MaskAct, AtAct, WriteAct, ReadAct, FillAct, DrawAct, TextAct, SetRastAct, ClipAct, UnclipAct, RefreshAct, ScrollAct, TitleAct, GetMsgAct, Statement, TaskLine, EndLine, OrderLine, ReportLine, LockLine, UnlockLine, HoldLine, ReleaseLine, four, row_line, numbers_line, statement_by, is_line_in_range}
 use Rattle.lw_grammar.specs.Told.{told}
-use Rattle.lw_grammar.specs.Script.{Setting, line_limit, is_skipped, is_printable, are_numbers_due, belongs_in, words_read, verb_read, statement_read, statement_tested, line_read, IsGoodLine}
+use Rattle.lw_grammar.specs.Script.{Setting, line_limit, is_printable, are_numbers_due, belongs_in, words_read, verb_read, statement_read, statement_tested, line_read}
 use Rattle.lw_calls.specs.Written.{line_of}
 use Rattle.lw_canonical.specs.Spelling.{joined, words_of, spelled}
 use Rattle.lw_canonical.proofs.Rearranged.{HasOneSpelling}
-use Rattle.lw_grammar.proofs.ScriptStatements.{either_has, found_has}
 use Rattle.lw_canonical.proofs.SpelledVerbs.{IsWordOf, verb_spelled}
 use Rattle.lw_canonical.proofs.SpelledWords.{AreWords, AreWordsOf, words_joined, token_word, tokens_back, tokens_good}
 use Rattle.lw_canonical.proofs.SpelledRanges.{register_small, pen_small, rect_small, place_and_size_small, also}
@@ -170,57 +168,6 @@ one_spelling s above line f e =
     let words = joined_line line r.ws (IfOk-at_ok (AreWordsOf line) r.split (words_joined line)) in
     ap joined (IfOk-at_ok (IsOfWords r.ws) r.statement (statement_words s above r.ws) words.1 r.range) ∙ words.0
 
--- words of which the first begins with #
-abbrev IsRemark : List (List ℕ) → Type 0
-IsRemark ws = (w : List ℕ) × (rest : List (List ℕ)) × (ws ≡ (35 ∷ w) ∷ rest)
-
--- such are the words of a line that begins so
-remark_words : (r : Result (List (List ℕ)) Reason) → IfOk (on_found (onto_first 35) r) IsRemark
-remark_words (Ok []) = ([], [], refl)
-remark_words (Ok (w ∷ ws)) = (w, ws, refl)
-remark_words (Err q) = tt
-
--- no bytes are spelled so
-no_digits : (w : List ℕ) → IfSome (hex_bytes (35 ∷ w)) (λ _. ⊥)
-no_digits [] = tt
-no_digits (b ∷ w) = tt
-
-no_row : (width : ℕ) (w : List ℕ) (ts : List Token) → IfSome (row_line width (OddToken (35 ∷ w) ∷ ts)) (λ _. ⊥)
-no_row width w [] = go (spelled_bytes (row_bytes width) (35 ∷ w)) (either_has (λ _. ⊥) (length (35 ∷ w) == 2 * row_bytes width) (hex_bytes (35 ∷ w)) None (no_digits w) tt)
-  where
-    go : (o : Option (List ℕ)) → IfSome o (λ _. ⊥) → IfSome (option_map (λ bytes. RowLine bytes) o) (λ _. ⊥)
-    go None h = tt
-    go (Some bytes) h = h
-no_row width w (t ∷ ts) = tt
-
--- and no verb
-no_verb : (w : List ℕ) → verb_of (35 ∷ w) ≡ None
-unfolding verb_of
-no_verb w = refl
-
--- so no statement is read of such words
-no_statement : (s : Setting) (above : List Statement) (w : List ℕ) (ws : List (List ℕ)) → IfOk (statement_read s.form (told above).section (told above).rows_due (told above).row_width ((35 ∷ w) ∷ ws)) (λ _. ⊥)
-no_statement s above w ws =
-    either_ok (λ _. ⊥) (not ((told above).rows_due == 0)) _ _ (found_has (λ _. ⊥) (row_line (told above).row_width (map token_of ((35 ∷ w) ∷ ws))) FormReason (no_row (told above).row_width w (map token_of ws))) (either_ok (λ _. ⊥) (are_numbers_due (told above).section) _ _ (found_has (λ _. ⊥) (numbers_line (map token_of ((35 ∷ w) ∷ ws))) FormReason (either_has (λ _. ⊥) (nat_le (length (map token_of ((35 ∷ w) ∷ ws))) numbers_limit) None None tt tt)) (at_verb (verb_of (35 ∷ w)) (no_verb w)))
-  where
-    at_verb : (o : Option Verb) → o ≡ None → IfOk (ok_or o UnknownWord >>= (λ v. demand (belongs_in s.form (told above).section v) Misplaced >>= (λ _. ok_or (statement_by v (map token_of ws)) FormReason))) (λ _. ⊥)
-    at_verb None e = tt
-    at_verb (Some v) e = absurd (cc)
-
--- A good line isn't skipped.
-pub not_skipped : (s : Setting) (above : List Statement) (line : List ℕ) (f : Statement) → line_read s (told above) line ≡ Ok f → is_skipped line ≡ false
-not_skipped s above [] f e = let r = reading s above [] f e in absurd (IfOk-at_ok (λ _. ⊥) r.split tt)
-not_skipped s above (b ∷ bs) f e = go (b == 35) refl
-  where
-    go : (t : Bool) → (b == 35) ≡ t → t ≡ false
-    go false h = refl
-    go true h =
-        let r = reading s above (b ∷ bs) f e in
-        let split : tokens (35 ∷ bs) ≡ Ok r.ws = subst (λ c. tokens (c ∷ bs) ≡ Ok r.ws) (eqb-true b 35 h) r.split in
-        let remark = IfOk-at_ok IsRemark split (remark_words (tokens_at false bs)) in
-        let statement : statement_read s.form (told above).section (told above).rows_due (told above).row_width ((35 ∷ remark.0) ∷ remark.1) ≡ Ok f = subst (λ ws. statement_read s.form (told above).section (told above).rows_due (told above).row_width ws ≡ Ok f) remark.2 r.statement in
-        absurd (IfOk-at_ok (λ _. ⊥) statement (no_statement s above remark.0 remark.1))
-
 -- no byte is a line feed
 abbrev pub HasNoFeed : List ℕ → Type 0
 HasNoFeed line = list_all (λ b. not (b == 10)) line ≡ true
@@ -242,12 +189,6 @@ printable_line (b ∷ bs) h =
 -- A good line has no line feed.
 pub no_feed : (s : Setting) (above : List Statement) (line : List ℕ) (f : Statement) → line_read s (told above) line ≡ Ok f → list_all (λ b. not (b == 10)) line ≡ true
 no_feed s above line f e = let r = reading s above line f e in printable_line line r.printable
-
--- So the one spelling of a good line's statement reads as that statement where the line did, isn't skipped, and has no line feed.
-pub good_spelling : (s : Setting) (above : List Statement) (f : Statement) → IsGoodLine s above f → (line_read s (told above) (spelled f) ≡ Ok f) × (is_skipped (spelled f) ≡ false) × HasNoFeed (spelled f)
-good_spelling s above f g =
-    let read : line_read s (told above) (spelled f) ≡ Ok f = subst (λ line. line_read s (told above) line ≡ Ok f) (sym (one_spelling s above g.line f g.read)) g.read in
-    (read, not_skipped s above (spelled f) f read, no_feed s above (spelled f) f read)
 
 -- a line with its feed is the first of a text that begins with it
 first_line : (line rest : List ℕ) → HasNoFeed line → lines (line ++ 10 ∷ rest) ≡ line ∷ lines rest

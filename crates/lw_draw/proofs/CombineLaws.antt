@@ -1,10 +1,9 @@
 -- Laws of painting a row of bits by a minterm.
 use Rattle.std.proofs.Common.{◌≡◌, ℕ, ◌+◌, ◌-◌, ◌==◌, ◌<◌, ◌≤◌, ◌&&◌, if◌then◌else◌, List, length, ap, arith}
-use Rattle.std.proofs.lemmas.Bool.Decides.{nat_tests}
-use Rattle.std.proofs.lemmas.Nat.Bits.{bit_at-lt}
 use Rattle.lw_planes.specs.Row.{row_bit}
 use Rattle.lw_planes.specs.Minterm.{minterm_bit}
 use Rattle.lw_planes.specs.Bitmap.{IsBitmap, row_bytes}
+use Rattle.lw_planes.proofs.ChosenLaws.{minterm_bit_lt}
 use Rattle.lw_kernels.specs.Kernel.{is_named, blit_bit}
 use Rattle.lw_layer.specs.View.{LiveView, draws}
 use Rattle.lw_layer.specs.Pieces.{layout_of, columns, buffer_rectangle, column_in, HasLineBits, with_bytes}
@@ -16,17 +15,8 @@ use Rattle.lw_draw.specs.declared.combining.Origin.{Origin}
 use Rattle.lw_draw.specs.declared.stretch.Stretch.{Stretch}
 use Rattle.lw_draw.proofs.LineLaws.{run_drawn}
 
--- a minterm's value is a bit
-pub minterm_small : (m b c : ℕ) → minterm_bit m b c < 2
-minterm_small m b c =
-    let both = bit_at-lt m 7 in
-    let source = bit_at-lt m 6 in
-    let old = bit_at-lt m 5 in
-    let neither = bit_at-lt m 4 in
-    grind (arith, nat_tests)
-
 pub combined_gives_bits : (m : ℕ) (bits : List ℕ) (o : Origin) → GivesBits (combined_bit m bits o)
-combined_gives_bits m bits o p x y old small = minterm_small m (row_bit bits (o.bit + (x - o.column))) old
+combined_gives_bits m bits o p x y old small = minterm_bit_lt m (row_bit bits (o.bit + (x - o.column))) old
 
 -- What a minterm makes of a row of bits in a run, in a line that was lent for a plane.
 pub run_combined : (c : LiveView) (k m place : ℕ) (s : Stretch) (bits old bytes : List ℕ) (o : Origin) → IsBitmap c.layer.bits → k < c.layer.bits.depth → length bytes ≡ row_bytes (columns (buffer_rectangle (layout_of c) s.run.buffer)) → IsRun c (λ i j. draws c i j) s.x s.y s.run → HasLineBits c k s.run.buffer s.run.line old → place ≡ o.bit + (s.x - o.column) → o.column ≤ s.x → ((i : ℕ) → row_bit bytes i ≡ (if is_named s.run.bit s.run.len i then blit_bit m (row_bit bits) place (row_bit old) s.run.bit i else row_bit old i)) → with_bytes c k s.run.buffer s.run.line bytes ≡ drawn (λ p i j. p == k && in_stretch s i j) (combined_bit m bits o) c

@@ -5,8 +5,8 @@ use Rattle.std.proofs.lemmas.Nat.Bits.{bit_at-lt}
 use Rattle.lw_planes.specs.Pen.{pen_of}
 use Rattle.lw_planes.specs.Bitmap.{IsBitmap, pen_at}
 use Rattle.lw_planes.proofs.PenLaws.{pen_of_same, bit_pen_of, pen_same}
-use Rattle.lw_planes.proofs.WriteLaws.{chosen_small}
 use Rattle.lw_planes.proofs.BitmapLaws.{pen_at_bitmap, bitmap_again}
+use Rattle.lw_planes.proofs.ChosenLaws.{chosen_small}
 use Rattle.lw_layer.specs.View.{LiveView, repainted}
 use Rattle.lw_layer.proofs.ViewLaws.{with_bits}
 use Rattle.lw_layer.proofs.LineLaws.{repainted_same}

@@ -1,5 +1,6 @@
 -- Laws of layers whose clip region and update are set aside while the pixels that they keep are painted.
-use Rattle.std.proofs.Common.{◌≡◌, ℕ, Bool, true, false, not, ◌&&◌, ◌||◌, List, Option, None, ◌∙◌, sym, refl, ap}
+use Rattle.std.proofs.Common.{◌≡◌, ℕ, Bool, true, false, not, ◌&&◌, ◌||◌, List, Option, None, ◌∙◌, sym, ap}
+use Rattle.std.proofs.Math.Bool.{and-true}
 use Rattle.lw_region.specs.Pixels.{Pixel}
 use Rattle.lw_planes.specs.Grid.{at}
 use Rattle.lw_planes.specs.Bitmap.{Bitmap}
@@ -12,11 +13,7 @@ use Rattle.lw_layer.specs.View.{LiveView, CellView, keeps, draws, with_live, wit
 within_no_limits : (kept damaged updating : Bool) (clip : Option (List Pixel)) (x y : ℕ) → clip ≡ None → updating ≡ false → (kept && (in_clip clip x y && (not updating || damaged))) ≡ kept
 within_no_limits kept damaged updating clip x y unclipped idle =
     ap (λ o. kept && (in_clip o x y && (not updating || damaged))) unclipped ∙
-    (ap (λ u. kept && (true && (not u || damaged))) idle ∙ whole kept)
-  where
-    whole : (t : Bool) → (t && true) ≡ t
-    whole true = refl
-    whole false = refl
+    (ap (λ u. kept && (true && (not u || damaged))) idle ∙ and-true kept)
 
 pub all_drawable : (c : LiveView) (x y : ℕ) → c.layer.clip ≡ None → c.layer.updating ≡ false → draws c x y ≡ keeps c x y
 unfolding draws keeps is_drawable

@@ -3,6 +3,7 @@ use Rattle.std.proofs.Common.{◌≡◌, ℕ, ◌+◌, ◌==◌, ◌<◌, ◌≤
 use Rattle.std.proofs.lemmas.Bool.{true≢false, cases_Bool}
 use Rattle.std.proofs.lemmas.Bool.Decides.{nat_tests}
 use Rattle.std.proofs.lemmas.Int.{ints}
+use Rattle.lw_region.proofs.Within.{within_low}
 use Rattle.lw_planes.specs.Row.{row_bit}
 use Rattle.lw_planes.specs.Bitmap.{IsBitmap, row_bytes}
 use Rattle.lw_kernels.specs.Kernel.{is_named}
@@ -12,7 +13,6 @@ use Rattle.lw_layer.specs.Pieces.{Layout, layout_of, columns, buffer_rectangle, 
 use Rattle.lw_layer.specs.Runs.{IsRun}
 use Rattle.lw_layer.specs.declared.run.Run.{Run}
 use Rattle.lw_layer.proofs.ViewLaws.{has_place, both_true}
-use Rattle.lw_layer.proofs.KeptLaws.{within_low}
 use Rattle.lw_layer.proofs.StateLaws.{pen_in_line}
 use Rattle.lw_layer.proofs.LineLaws.{bytes_in_line}
 use Rattle.lw_draw.specs.Drawn.{drawn, in_run}

@@ -86,14 +86,6 @@ none_stays v w on new x y end is none =
     let there : P (with_live (λ c. drawn on new c) v) = subst P is none in
     λ u late low. there u late low
 
--- no plane, all planes
-pub no_plane : (p : ℕ) (more : Bool) → (nat_lt p 0 && more) ≡ false
-no_plane p more = grind (arith, nat_tests)
-
-pub all_planes : (p k : ℕ) (more : Bool) → p < k → (nat_lt p k && more) ≡ more
-all_planes p k true deep = grind (arith, nat_tests)
-all_planes p k false deep = grind (arith, nat_tests)
-
 -- no column and no row
 pub no_column : (has row : Bool) (from i : ℕ) (more : Bool) → (has && (row && (is_between from from i && more))) ≡ false
 no_column has row from i more = grind (arith, nat_tests)

@@ -3,6 +3,7 @@ use Rattle.std.proofs.Common.{◌≡◌, ℕ, Bool, true, false, ◌&&◌, ◌�
 use Rattle.std.specs.Ordering.{int_eq}
 use Rattle.std.proofs.lemmas.Bool.Decides.{nat_tests}
 use Rattle.std.proofs.lemmas.Int.{ints}
+use Rattle.std.proofs.Math.Bool.{and-false}
 use Rattle.lw_planes.specs.Bitmap.{IsBitmap}
 use Rattle.lw_machine.specs.Layer.{Raster}
 use Rattle.lw_machine.specs.Kept.{holds_at}
@@ -46,16 +47,11 @@ none_there test (pos x) (pos y) u v none = place_left x y u v (test u v) (λ fir
 none_there test (pos x) (negsuc y) u v none = grind (arith, ints)
 none_there test (negsuc x) py u v none = grind (arith, ints)
 
--- no bit is painted nowhere
-and_false : (has : Bool) → (has && false) ≡ false
-and_false true = refl
-and_false false = refl
-
 -- A pixel that isn't drawable is written with no change.
 pub pixel_left : (v : CellView) (px py across down : ℤ) → IsBitmap v.live.layer.bits → across ≡ px → down ≡ py → holds_at (λ i j. draws v.live i j) across down ≡ false → v ≡ with_live (λ c. with_layer (λ l. write_pixel (λ x y. shows c x y) px py l) c) v
 pixel_left v px py across down ok column row none =
     let c = v.live in
     let there : holds_at (λ i j. draws c i j) px py ≡ false = ap (λ a. holds_at (λ i j. draws c i j) a py) (sym column) ∙ (ap (holds_at (λ i j. draws c i j) across) (sym row) ∙ none) in
     ap (λ q. record v { live = q })
-    (sym (drawn_nowhere c (λ p i j. in_mask c.layer.raster p && false) (painted_bit c.layer.raster) ok (λ p i j. and_false (in_mask c.layer.raster p))) ∙
+    (sym (drawn_nowhere c (λ p i j. in_mask c.layer.raster p && false) (painted_bit c.layer.raster) ok (λ p i j. and-false (in_mask c.layer.raster p))) ∙
     shape_painted c c.layer.raster (λ x y. at_place px py x y) (λ i j. false) ok refl (λ u w left low. none_there (λ i j. draws c i j) px py u w there))

@@ -7,6 +7,7 @@ use Rattle.lw_calls.specs.declared.make.Kind.TheVariants.{Simple, Smart, SuperBi
 use Rattle.lw_calls.specs.declared.sizes.Sizes.{Sizes}
 use Rattle.lw_calls.specs.Limits.{is_coordinate, hook_fits, kind_fits, make_fits, axis_fits, rect_fits, is_byte, window_fits, call_fits, is_extent}
 use Rattle.lw_calls.specs.Kinds.{is_super}
+use Rattle.lw_calls.proofs.LimitLaws.{extent_fits}
 use Rattle.lw_grammar.specs.Statements.{AskedLayer, Act, RegRectAct, RegPairAct, RegClearAct, CreateAct, OpenAct, CloseAct, FrontAct, BehindAct, InFrontAct, MoveAct, SizeAct, BoxAct, ActivateAct, WhichAct, APenAct, BPenAct, ModeAct, MaskAct, AtAct, WriteAct, ReadAct, FillAct, DrawAct, TextAct, SetRastAct, ScrollRasterAct, PutAct, BlitAct, ClipAct, UnclipAct, RefreshAct, EndRefreshAct, ScrollAct, TitleAct, GetMsgAct, CallLine, is_hook_number, is_own_size, is_asked_in_range, place_and_size_fit, is_act_in_range, layers_of}
 use Rattle.lw_grammar.specs.Told.{place_among, make_of, created_make, opened_make, spelled_call, hook_on}
 use Rattle.lw_grammar.specs.Script.{lacks_name, is_no_hook}
@@ -37,11 +38,6 @@ a_byte z h = le-leb (unsigned_abs z) 255 (in_range z 255 h)
 span_fits : (low high : ℤ) → axis_fits low high ≡ true → (is_coordinate low ≡ true) × (within (pos 1) ((high -ℤ low) +ℤ pos 1) (pos 65536) ≡ true)
 unfolding within axis_fits
 span_fits low high h = grind (arith, ints, nat_tests)
-
--- so is a width or a height
-extent_fits : (z : ℤ) → is_extent z ≡ true → within (pos 1) z (pos 65536) ≡ true
-unfolding within
-extent_fits z h = grind (arith, ints, nat_tests)
 
 -- the size of a bitmap of a layer's own
 own_fits : (z : ℤ) → within (pos 1) z (pos 2048) ≡ true → (nat_le 1 (unsigned_abs z) && nat_le (unsigned_abs z) 2048) ≡ true

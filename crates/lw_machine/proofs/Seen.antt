@@ -15,7 +15,7 @@ use Rattle.lw_machine.specs.Arrangement.{is_on_screen}
 use Rattle.lw_machine.specs.Sound.{IsPlaced, IsSlot, IsDesk}
 use Rattle.lw_machine.specs.Laws.{VisiblePixelsAreSeen}
 use Rattle.lw_region.proofs.Columns.{le_true}
-use Rattle.lw_region.proofs.Numbers.{le_of}
+use Rattle.lw_region.proofs.Numbers.{le_of, le_trans}
 
 -- tests that agree hold at the same places
 pub holds_same : (f g : ℕ → ℕ → Bool) (x y : ℤ) → ((i j : ℕ) → f i j ≡ g i j) → holds_at f x y ≡ holds_at g x y
@@ -58,12 +58,9 @@ record IsPlace (width : ℕ) (low place high : ℤ) : Type 0 where
 on_axis : (width : ℕ) (low place high : ℤ) → within low place high ≡ true → int_le (pos 0) low ≡ true → int_le (high +ℤ pos 1) (pos width) ≡ true → IsPlace width low place high
 on_axis width low place high inside from to =
     let right : low ≤ℤ place = within_low low place high inside in
-    let number = counted place (le_true (pos 0) place (up (pos 0) low place (le_of (pos 0) low from) right)) in
+    let number = counted place (le_true (pos 0) place (le_trans (pos 0) low place (le_of (pos 0) low from) right)) in
     record { number = number.0; is = number.1; below = before width number.0 place high number.1 (within_high low place high inside) (le_of (high +ℤ pos 1) (pos width) to); right = right }
   where
-    up : (a b c : ℤ) → a ≤ℤ b → b ≤ℤ c → a ≤ℤ c
-    up a b c h k = omega (arith, ints)
-
     before : (w n : ℕ) (p q : ℤ) → p ≡ pos n → p ≤ℤ q → (q +ℤ pos 1) ≤ℤ pos w → n < w
     before w n p q is h k = omega (arith, ints)
 

@@ -30,6 +30,10 @@ int_total x y a b = grind (arith, ints)
 pub int_trans : (x y z : ℤ) → int_lt x y ≡ true → int_lt y z ≡ true → int_lt x z ≡ true
 int_trans x y z a b = grind (arith, ints)
 
+-- so does that with equal ones
+pub le_trans : (x y z : ℤ) → x ≤ℤ y → y ≤ℤ z → x ≤ℤ z
+le_trans x y z a b = omega (arith, ints)
+
 -- what the strict test says
 pub lt_of : (x y : ℤ) → int_lt x y ≡ true → x <ℤ y
 lt_of x y a = grind (arith, ints)

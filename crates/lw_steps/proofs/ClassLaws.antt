@@ -1,5 +1,5 @@
 -- What the class of a call says of it, and of a step.
-use Rattle.std.proofs.Common.{◌≡◌, ℕ, ◌<◌, ◌==◌, Bool, true, false, ◌&&◌, nat_lt, if◌then◌else◌, Option, Some, None, IsTrue, ◌∙◌, sym, refl, ap, subst, arith}
+use Rattle.std.proofs.Common.{◌≡◌, ℕ, ◌<◌, ◌==◌, Bool, true, false, nat_lt, if◌then◌else◌, Option, Some, None, IsTrue, ◌∙◌, sym, refl, ap, subst, arith}
 use Rattle.std.proofs.lemmas.Bool.{eqb-true, false≢true, and_parts}
 use Rattle.std.proofs.lemmas.Bool.Decides.{nat_tests}
 use Rattle.lw_calls.specs.declared.sizes.Sizes.{Sizes}
@@ -9,6 +9,7 @@ use Rattle.lw_calls.specs.declared.call.Call.TheVariants.{RegRect, RegPair, RegC
 use Rattle.lw_calls.specs.declared.reply.Reply.{Reply}
 use Rattle.lw_calls.specs.Limits.{call_fits}
 use Rattle.lw_calls.specs.Touches.{CallClass, OnRegisters, OnInfo, OnLayer, OnLayers, OnAll, class_of, is_on_info}
+use Rattle.lw_calls.proofs.LimitLaws.{first_low}
 use Rattle.lw_machine.specs.Desk.{Desk}
 use Rattle.lw_machine.specs.Step.{refusal, effect, changed_unless, after}
 use Rattle.lw_machine.proofs.Untouched.{if_in_front}
@@ -80,34 +81,31 @@ named (OnLayer slot) = slot
 named (OnLayers source slot) = slot
 named OnAll = 0
 
-small : (n m : ℕ) (q : Bool) → IsTrue (nat_lt n m && q) → n < m
-small n m q fits = let parts = and_parts (nat_lt n m) q fits in let first = parts.0 in grind (arith, nat_tests)
-
 named_fits : (s : Sizes) (call : Call) (slot n : ℕ) → class_of call ≡ OnLayer slot → class_of call ≡ OnLayer n → n < s.slots → slot < s.slots
 named_fits s call slot n class is low = let P : ℕ → Type 0 = λ k. k < s.slots in subst P (ap named (sym is ∙ class)) low
 
 pub slot_fits : (s : Sizes) (call : Call) (slot : ℕ) → class_of call ≡ OnLayer slot → IsTrue (call_fits s call) → slot < s.slots
-slot_fits s (SetA n pen) slot class fits = named_fits s (SetA n pen) slot n class refl (small n s.slots _ fits)
-slot_fits s (SetB n pen) slot class fits = named_fits s (SetB n pen) slot n class refl (small n s.slots _ fits)
-slot_fits s (SetMode n mode) slot class fits = named_fits s (SetMode n mode) slot n class refl (small n s.slots _ fits)
-slot_fits s (SetMask n mask) slot class fits = named_fits s (SetMask n mask) slot n class refl (small n s.slots _ fits)
-slot_fits s (At n x y) slot class fits = named_fits s (At n x y) slot n class refl (small n s.slots _ fits)
-slot_fits s (WritePixel n x y) slot class fits = named_fits s (WritePixel n x y) slot n class refl (small n s.slots _ fits)
-slot_fits s (ReadPixel n x y) slot class fits = named_fits s (ReadPixel n x y) slot n class refl (small n s.slots _ fits)
-slot_fits s (Fill n rect) slot class fits = named_fits s (Fill n rect) slot n class refl (small n s.slots _ fits)
-slot_fits s (DrawTo n x y) slot class fits = named_fits s (DrawTo n x y) slot n class refl (small n s.slots _ fits)
+slot_fits s (SetA n pen) slot class fits = named_fits s (SetA n pen) slot n class refl (first_low n s.slots _ fits)
+slot_fits s (SetB n pen) slot class fits = named_fits s (SetB n pen) slot n class refl (first_low n s.slots _ fits)
+slot_fits s (SetMode n mode) slot class fits = named_fits s (SetMode n mode) slot n class refl (first_low n s.slots _ fits)
+slot_fits s (SetMask n mask) slot class fits = named_fits s (SetMask n mask) slot n class refl (first_low n s.slots _ fits)
+slot_fits s (At n x y) slot class fits = named_fits s (At n x y) slot n class refl (first_low n s.slots _ fits)
+slot_fits s (WritePixel n x y) slot class fits = named_fits s (WritePixel n x y) slot n class refl (first_low n s.slots _ fits)
+slot_fits s (ReadPixel n x y) slot class fits = named_fits s (ReadPixel n x y) slot n class refl (first_low n s.slots _ fits)
+slot_fits s (Fill n rect) slot class fits = named_fits s (Fill n rect) slot n class refl (first_low n s.slots _ fits)
+slot_fits s (DrawTo n x y) slot class fits = named_fits s (DrawTo n x y) slot n class refl (first_low n s.slots _ fits)
 slot_fits s (Letters n text) slot class fits = named_fits s (Letters n text) slot n class refl (grind (arith, nat_tests))
-slot_fits s (SetRast n pen) slot class fits = named_fits s (SetRast n pen) slot n class refl (small n s.slots _ fits)
-slot_fits s (ScrollRaster n dx dy rect) slot class fits = named_fits s (ScrollRaster n dx dy rect) slot n class refl (small n s.slots _ fits)
-slot_fits s (Put bitmap n area) slot class fits = named_fits s (Put bitmap n area) slot n class refl (small n s.slots _ (and_parts (nat_lt bitmap s.bitmaps) _ fits).1)
+slot_fits s (SetRast n pen) slot class fits = named_fits s (SetRast n pen) slot n class refl (first_low n s.slots _ fits)
+slot_fits s (ScrollRaster n dx dy rect) slot class fits = named_fits s (ScrollRaster n dx dy rect) slot n class refl (first_low n s.slots _ fits)
+slot_fits s (Put bitmap n area) slot class fits = named_fits s (Put bitmap n area) slot n class refl (first_low n s.slots _ (and_parts (nat_lt bitmap s.bitmaps) _ fits).1)
 slot_fits s (Blit source n area) slot class fits =
     let P : ℕ → Type 0 = λ k. k < s.slots in
-    subst P (alone_told source n slot area class).1 (small n s.slots _ (and_parts (nat_lt source s.slots) _ fits).1)
-slot_fits s (Clip n reg) slot class fits = named_fits s (Clip n reg) slot n class refl (small n s.slots _ fits)
+    subst P (alone_told source n slot area class).1 (first_low n s.slots _ (and_parts (nat_lt source s.slots) _ fits).1)
+slot_fits s (Clip n reg) slot class fits = named_fits s (Clip n reg) slot n class refl (first_low n s.slots _ fits)
 slot_fits s (Unclip n) slot class fits = named_fits s (Unclip n) slot n class refl (grind (arith, nat_tests))
 slot_fits s (BeginRefresh n) slot class fits = named_fits s (BeginRefresh n) slot n class refl (grind (arith, nat_tests))
 slot_fits s (EndRefresh n full) slot class fits = named_fits s (EndRefresh n full) slot n class refl (grind (arith, nat_tests))
-slot_fits s (Scroll n dx dy) slot class fits = named_fits s (Scroll n dx dy) slot n class refl (small n s.slots _ fits)
+slot_fits s (Scroll n dx dy) slot class fits = named_fits s (Scroll n dx dy) slot n class refl (first_low n s.slots _ fits)
 slot_fits s (SetTitle n title) slot class fits = named_fits s (SetTitle n title) slot n class refl (grind (arith, nat_tests))
 slot_fits s (TakeMessage n) slot class fits = named_fits s (TakeMessage n) slot n class refl (grind (arith, nat_tests))
 slot_fits s call slot class fits = absurd (cc class)
@@ -118,5 +116,5 @@ pair_fits s (Blit m n area) source slot class fits =
     let told = pair_told m n source slot area class in
     let parts = and_parts (nat_lt m s.slots) _ fits in
     let P : ℕ → Type 0 = λ k. k < s.slots in
-    (subst P told.from (small m s.slots _ fits), subst P told.to (small n s.slots _ parts.1))
+    (subst P told.from (first_low m s.slots _ fits), subst P told.to (first_low n s.slots _ parts.1))
 pair_fits s call source slot class fits = absurd (cc class)

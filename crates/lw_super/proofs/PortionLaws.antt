@@ -1,14 +1,15 @@
 -- What the draft of a super-bitmap layer stands for once its own bitmap has all its bits, and its visible rectangles show another portion.
-use Rattle.std.proofs.Common.{◌≡◌, ℕ, suc, ◌+◌, ◌||◌, int_le, ◌<◌, ◌≤◌, Bool, true, false, ◌&&◌, nat_lt, if◌then◌else◌, List, [], ◌∷◌, ◌++◌, length, get_or, Option, Some, ◌∙◌, sym, refl, ap, subst, arith, ⊎_elim, ℤ, pos, negsuc, ◌+ℤ◌, ◌-ℤ◌, ◌≤ℤ◌, unsigned_abs, length-append, append-nil, take, drop}
+use Rattle.std.proofs.Common.{◌≡◌, ℕ, suc, ◌+◌, ◌||◌, int_le, ◌<◌, ◌≤◌, Bool, true, false, ◌&&◌, nat_lt, if◌then◌else◌, List, [], ◌∷◌, ◌++◌, length, get_or, Option, Some, ◌∙◌, sym, refl, ap, subst, arith, ⊎_elim, ℤ, pos, ◌+ℤ◌, ◌-ℤ◌, ◌≤ℤ◌, unsigned_abs, length-append, append-nil, take, drop}
 use Rattle.std.proofs.lemmas.Bool.{cases_lt}
 use Rattle.std.proofs.lemmas.Int.{ints}
-use Rattle.std.proofs.lemmas.List.{drop_all, take_all, get_or_append_left, get_or_at, get_or-map, length-map}
+use Rattle.std.proofs.lemmas.List.{drop_all, take_all, get_or_append_left, get_or_at, get_or-map, length-map, nil_from_length}
 use Rattle.lw_region.specs.Rectangle.{Rectangle, has_pixel, IsOrdered}
 use Rattle.lw_region.specs.Bands.{covers}
 use Rattle.lw_region.specs.Banded.{IsCanonical}
 use Rattle.lw_region.specs.Order.{natural}
 use Rattle.lw_region.proofs.Canonical.{covers_nil, covers_cons}
 use Rattle.lw_region.proofs.Within.{within_low, within_high}
+use Rattle.lw_region.proofs.Numbers.{le_of}
 use Rattle.lw_planes.specs.Bitmap.{Bitmap, IsBitmap, pen_at}
 use Rattle.lw_planes.specs.Sizes.{IsPlanes}
 use Rattle.lw_planes.proofs.BitmapLaws.{IsBitmap_bitmap, pen_at_bitmap, bitmap_from_pens}
@@ -19,18 +20,18 @@ use Rattle.lw_calls.specs.declared.make.Kind.TheVariants.{Simple, Smart, SuperBi
 use Rattle.lw_cliprects.specs.Parts.{AreDivided}
 use Rattle.lw_machine.specs.Arrangement.{portion_fits}
 use Rattle.lw_machine.specs.Step.{scroll_layer}
-use Rattle.lw_machine.specs.Kept.{is_kept, kept_as, holds_at}
+use Rattle.lw_machine.specs.Kept.{is_kept, kept_as}
+use Rattle.lw_machine.proofs.Seen.{holds_same}
 use Rattle.lw_layer.specs.View.{LiveView, keeps, with_layer}
 use Rattle.lw_layer.specs.Pieces.{columns, lines, buffered, rest_of, whole_of, damage_table}
-use Rattle.lw_layer.specs.Drafts.{IsLiveDraft, IsBuffer, AreBuffers, IsRest, layout, buffers_of, no_bitmap, live_view, cell_view}
-use Rattle.lw_layer.specs.declared.draft.Draft.{Draft}
-use Rattle.lw_layer.specs.declared.draft.DraftState.TheVariants.{Live}
+use Rattle.lw_layer.specs.Drafts.{IsLiveDraft, IsBuffer, AreBuffers, IsRest, layout, buffers_of, no_bitmap, live_view}
 use Rattle.lw_layer.specs.declared.draft.LiveDraft.{LiveDraft}
-use Rattle.lw_layer.proofs.BitsLaws.{cell_bits}
+use Rattle.lw_layer.proofs.BitsLaws.{live_bits}
 use Rattle.lw_layer.proofs.BufferLaws.{shown_buffer}
 use Rattle.lw_layer.proofs.ViewLaws.{both_true}
+use Rattle.lw_layer.proofs.CopyingLaws.{natural_distance, not_below}
 use Rattle.lw_super.specs.Shown.{axis_fits, IsShown, AreShown, with_shown, portion, portions, portions_of, left_of, top_of, draft_fits, IsNear, scrolled_by}
-use Rattle.lw_super.proofs.WritingLaws.{super_is, super_rest, own_told, super_pieces, super_bits, nothing_listed, buffer_moved, scroll_is, natural_distance, not_below, are_shown}
+use Rattle.lw_super.proofs.WritingLaws.{super_is, super_rest, super_pieces, super_bits, buffer_moved, scroll_is, are_shown}
 
 -- the draft with all bits in its own bitmap, scrolled to (x, y), and with another's buffers of visible rectangles
 abbrev pub scrolled_to : LiveDraft → LiveDraft → ℤ → ℤ → LiveDraft
@@ -45,12 +46,6 @@ pub record MayScrollTo (d v : LiveDraft) (x y : ℤ) : Type 0 where
   pub many : length v.buffers.items ≡ length d.parts.visible
   pub each : (n : ℕ) → n < length d.parts.visible → IsBuffer d.depth (get_or d.parts.visible n d.bounds) (get_or v.buffers.items n no_bitmap)
 
--- the bits of a draft are a bitmap of sizes for planes
-pub bits_planes : (d : LiveDraft) → IsLiveDraft d → IsPlanes (live_view d).layer.bits
-bits_planes d ok =
-    let whole : Draft = record { slot = 0; state = Live d } in
-    cell_bits whole (cell_view whole) ok refl refl
-
 -- a super-bitmap layer keeps all its pixels
 kept_super : (kind : Kind) → kind ≡ SuperBitmap → (a b : Bool) → kept_as kind a ≡ kept_as kind b
 kept_super Simple is a b = absurd (cc is)
@@ -61,11 +56,6 @@ keeps_still : (d v : LiveDraft) (x y : ℤ) (i j : ℕ) → d.kind ≡ SuperBitm
     → keeps (live_view d) i j ≡ keeps (live_view (scrolled_to d v x y)) i j
 unfolding keeps is_kept
 keeps_still d v x y i j super = ap (λ t. (nat_lt i (layout d).width && nat_lt j (layout d).height) && t) (kept_super d.kind super _ _)
-
-holds_still : (f g : ℕ → ℕ → Bool) (x y : ℤ) → ((i j : ℕ) → f i j ≡ g i j) → holds_at f x y ≡ holds_at g x y
-holds_still f g (pos x) (pos y) same = same x y
-holds_still f g (pos x) (negsuc y) same = refl
-holds_still f g (negsuc x) y same = refl
 
 -- what a super-bitmap layer has beside its visible rectangles stays
 rest_still : (kind : Kind) (hidden covered : ℕ) (own : Option Bitmap) (b : Bitmap) → kind ≡ SuperBitmap
@@ -99,12 +89,12 @@ scrolled_buffers : (d v : LiveDraft) (x y : ℤ) → d.kind ≡ SuperBitmap → 
 scrolled_buffers d v x y super ok may =
     let e = scrolled_to d v x y in
     let bits = (live_view d).layer.bits in
-    let none = nothing_listed d.covered.items (super_rest d.kind _ _ _ super ok.rest).0 in
+    let none = nil_from_length d.covered.items (super_rest d.kind _ _ _ super ok.rest).0 in
     let buffers : buffers_of e ≡ v.buffers.items ++ (bits ∷ []) = ap (λ q. v.buffers.items ++ (q ++ (bits ∷ []))) none in
     let P : List Rectangle → Type 0 = λ rs. AreBuffers d.depth rs (buffers_of e) d.bounds in
     let Q : List Bitmap → Type 0 = λ bs. AreBuffers d.depth (d.parts.visible ++ (whole_of (layout e) ∷ [])) bs d.bounds in
     let whole : IsBuffer d.depth (whole_of (layout e)) bits = record {
-      sound = bits_planes d ok;
+      sound = live_bits d ok;
       width = extent_is (whole_of (layout e)).min_x (layout d).width;
       height = extent_is (whole_of (layout e)).min_y (layout d).height;
       planes = refl;
@@ -130,7 +120,7 @@ scrolled_sound d v x y super ok may = record {
   rest = rest_still d.kind _ _ d.superbits _ super ok.rest;
   buffers = scrolled_buffers d v x y super ok may;
   inner = ok.inner;
-  damaged = λ i j has. sym (holds_still (λ p q. keeps (live_view d) p q) (λ p q. keeps (live_view (scrolled_to d v x y)) p q) i j (λ p q. keeps_still d v x y p q super)) ∙ ok.damaged i j has;
+  damaged = λ i j has. sym (holds_same (λ p q. keeps (live_view d) p q) (λ p q. keeps (live_view (scrolled_to d v x y)) p q) i j (λ p q. keeps_still d v x y p q super)) ∙ ok.damaged i j has;
   frameless = ok.frameless;
   frame = ok.frame;
 }
@@ -158,7 +148,7 @@ pub scrolled_shows : (d v : LiveDraft) (x y : ℤ) → d.kind ≡ SuperBitmap �
 scrolled_shows d v x y super ok may same =
     let e = scrolled_to d v x y in
     let bits = (live_view d).layer.bits in
-    let planes = bits_planes d ok in
+    let planes = live_bits d ok in
     let is : (live_view e).layer.bits ≡ bits =
     super_bits e bits super (scrolled_sound d v x y super ok may) ∙ shown_again d.parts.visible v.buffers.items (left_of e) (top_of e) bits planes.bitmap same in
     ap (λ (b : Bitmap). record (live_view e) { layer = record (live_view e).layer { bits = b; damage = damage_table b d.damage.rects } }) is
@@ -166,25 +156,6 @@ scrolled_shows d v x y super ok may same =
 -- the pieces beside the visible rectangles
 abbrev rest_pieces : LiveDraft → List Rectangle
 rest_pieces d = rest_of (layout d)
-
--- where a visible rectangle has a pixel, the bits have its pen
-written_pen : (d : LiveDraft) (i j : ℕ) → is_super d.kind ≡ true → IsLiveDraft d → i < (layout d).width → j < (layout d).height
-    → covers d.parts.visible (left_of d +ℤ pos i) (top_of d +ℤ pos j) ≡ true
-    → pen_at (live_view d).layer.bits i j ≡ pen_in d.parts.visible d.buffers.items (left_of d +ℤ pos i) (top_of d +ℤ pos j)
-written_pen d i j super ok left low has =
-    let kind = super_is d.kind super in
-    let rest = super_rest d.kind _ _ d.superbits kind ok.rest in
-    let own : Bitmap = rest.1 in
-    let is : d.superbits ≡ Some own = rest.2 in
-    let P : Option Bitmap → Type 0 = λ o. (live_view (record d { superbits = o })).layer.bits ≡ with_shown d.parts.visible d.buffers.items (left_of d) (top_of d) own in
-    let bits : P d.superbits = subst P (sym is) (super_bits d own kind (own_told d own is ok)) in
-    let wide : own.width ≡ (layout d).width = sym (ap (λ (b : Bitmap). b.width) bits) in
-    let high : own.height ≡ (layout d).height = sym (ap (λ (b : Bitmap). b.height) bits) in
-    let u : ℤ = left_of d +ℤ pos i in
-    let w : ℤ = top_of d +ℤ pos j in
-    ap (λ (b : Bitmap). pen_at b i j) bits
-    ∙ (pen_at_bitmap own.width own.height own.depth _ i j (omega (arith, left)) (omega (arith, low))
-    ∙ ap (λ t. if t then pen_in d.parts.visible d.buffers.items u w else pen_at own i j) has)
 
 -- the draft once its visible pixels were written back
 abbrev pub written_back : LiveDraft → LiveDraft
@@ -202,14 +173,6 @@ back_may d ok = record {
       let long = length-append d.parts.visible (rest_pieces d) in
       buffer_moved d.depth d.depth _ _ _ _ refl (get_or_append_left d.parts.visible (rest_pieces d) d.bounds n below) (shown_buffer d n (omega (arith, ok.shown))) (ok.buffers.each n (omega arith));
 }
-
-pub written_back_sound : (d : LiveDraft) → is_super d.kind ≡ true → IsLiveDraft d → IsLiveDraft (written_back d)
-written_back_sound d super ok = scrolled_sound d d d.scroll_x d.scroll_y (super_is d.kind super) ok (back_may d ok)
-
-pub written_back_view : (d : LiveDraft) → is_super d.kind ≡ true → IsLiveDraft d → live_view (written_back d) ≡ live_view d
-written_back_view d super ok =
-    scrolled_shows d d d.scroll_x d.scroll_y (super_is d.kind super) ok (back_may d ok)
-    (λ i j left low has. sym (written_pen d i j super ok left low has))
 
 -- the rectangle isn't left of the bitmap, nor above it
 abbrev pub IsBehind : ℤ → ℤ → Rectangle → Type 0
@@ -296,16 +259,13 @@ record Fits (x y : ℤ) (w h : ℕ) (r : Rectangle) : Type 0 where
   upper : pos 0 ≤ℤ y
   lower : (y +ℤ ((r.max_y +ℤ pos 1) -ℤ r.min_y)) ≤ℤ pos h
 
-from_test : (a b : ℤ) → int_le a b ≡ true → a ≤ℤ b
-from_test a b is = grind (arith, ints)
-
 fits_parts : (x y : ℤ) (w h : ℕ) (r : Rectangle) → portion_fits x y w h r ≡ true → Fits x y w h r
 unfolding portion_fits
 fits_parts x y w h r is =
     let halves = both_true _ _ is in
     let across = both_true _ _ halves.0 in
     let down = both_true _ _ halves.1 in
-    record { left = from_test _ _ across.0; right = from_test _ _ across.1; upper = from_test _ _ down.0; lower = from_test _ _ down.1 }
+    record { left = le_of _ _ across.0; right = le_of _ _ across.1; upper = le_of _ _ down.0; lower = le_of _ _ down.1 }
 
 room_is : (x low high : ℤ) (w : ℕ) → pos 0 ≤ℤ x → low ≤ℤ high → (x +ℤ ((high +ℤ pos 1) -ℤ low)) ≤ℤ pos w
     → unsigned_abs x + unsigned_abs ((high +ℤ pos 1) -ℤ low) ≤ w
@@ -362,7 +322,7 @@ moved_by_portions d v hidden x y super ok ordered canonical divided fits is =
       each =
           λ n below.
           buffer_moved d.depth d.depth _ _ _ _ refl refl (sym (ap (λ bs. get_or bs n no_bitmap) is ∙ get_or-map (λ r. portion bits left top r) visible n d.bounds no_bitmap below))
-          (portion_buffer bits left top (get_or visible n d.bounds) (get_or d.buffers.items n no_bitmap) (bits_planes d ok) (shown.each n d.bounds no_bitmap below));
+          (portion_buffer bits left top (get_or visible n d.bounds) (get_or d.buffers.items n no_bitmap) (live_bits d ok) (shown.each n d.bounds no_bitmap below));
     } in
     record {
       sound = scrolled_sound d v x y kind ok may;

@@ -1,6 +1,5 @@
 -- Which former draft may be scrolled.
-use Rattle.std.proofs.Common.{◌≡◌, true, if◌then◌else◌, Some, ◌∙◌, sym, ap, subst, arith, ℤ, pos, ◌+ℤ◌, ◌≤ℤ◌, unsigned_abs}
-use Rattle.std.proofs.lemmas.Int.{ints}
+use Rattle.std.proofs.Common.{◌≡◌, true, if◌then◌else◌, Some, ◌∙◌, sym, ap, subst, ℤ, pos, ◌+ℤ◌}
 use Rattle.lw_calls.specs.Kinds.{is_super}
 use Rattle.lw_machine.specs.Arrangement.{portion_fits}
 use Rattle.lw_layer.specs.View.{State, LiveView, CellView}
@@ -12,9 +11,7 @@ use Rattle.lw_layer.specs.declared.draft.Draft.{Draft}
 use Rattle.lw_layer.specs.declared.draft.DraftState.{DraftState}
 use Rattle.lw_layer.specs.declared.draft.DraftState.TheVariants.{Unopened, Closed, Live}
 use Rattle.lw_super.specs.Shown.{MayScroll}
-
-scroll_told : (z : ℤ) → pos 0 ≤ℤ z → z ≡ pos (unsigned_abs z)
-scroll_told z low = omega (arith, ints)
+use Rattle.lw_super.proofs.WritingLaws.{scroll_is}
 
 -- The former draft of a live super-bitmap layer may be scrolled where its look says so.
 pub scroll_may : (f : Draft) (c : CellView) (k : Look) (dx dy : ℤ) → IsDraft f → cell_view f ≡ c → c.state ≡ view.Live → is_super c.live.layer.kind ≡ true → IsLookAt c.state c.live (Some k)
@@ -30,8 +27,8 @@ scroll_may f c k dx dy ok is live own told fits =
     go Closed ok live same = absurd (cc live)
     go (Live d) ok live same =
         let super : is_super d.kind ≡ true = ap (λ (v : LiveView). is_super v.layer.kind) same ∙ own in
-        let x : d.scroll_x ≡ k.scroll_x = scroll_told d.scroll_x ok.scroll_x ∙ (ap (λ (v : LiveView). pos v.layer.scroll_x) same ∙ sym look.scroll_x) in
-        let y : d.scroll_y ≡ k.scroll_y = scroll_told d.scroll_y ok.scroll_y ∙ (ap (λ (v : LiveView). pos v.layer.scroll_y) same ∙ sym look.scroll_y) in
+        let x : d.scroll_x ≡ k.scroll_x = scroll_is d.scroll_x ok.scroll_x ∙ (ap (λ (v : LiveView). pos v.layer.scroll_x) same ∙ sym look.scroll_x) in
+        let y : d.scroll_y ≡ k.scroll_y = scroll_is d.scroll_y ok.scroll_y ∙ (ap (λ (v : LiveView). pos v.layer.scroll_y) same ∙ sym look.scroll_y) in
         let w : (layout d).width ≡ k.bits_w = ap (λ (v : LiveView). v.layer.bits.width) same ∙ sym (look.bits_w ∙ ap (λ b. if b then c.live.layer.bits.width else 0) own) in
         let h : (layout d).height ≡ k.bits_h = ap (λ (v : LiveView). v.layer.bits.height) same ∙ sym (look.bits_h ∙ ap (λ b. if b then c.live.layer.bits.height else 0) own) in
         let r : d.bounds ≡ k.bounds = ap (λ (v : LiveView). v.bounds) same ∙ sym look.bounds in

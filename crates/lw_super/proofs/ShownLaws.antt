@@ -1,15 +1,16 @@
 -- Portions of a bitmap on rectangles of the screen's plane.
-use Rattle.std.proofs.Common.{◌≡◌, ℕ, ◌+◌, ◌-◌, ◌<◌, ◌≤◌, Bool, true, false, ◌&&◌, ◌||◌, if◌then◌else◌, List, ◌∷◌, length, drop, get_or, ◌∙◌, sym, refl, ap, subst, arith, ℤ, pos, ◌+ℤ◌, ◌-ℤ◌, ◌≤ℤ◌, unsigned_abs}
+use Rattle.std.proofs.Common.{◌≡◌, ℕ, ◌+◌, ◌-◌, ◌<◌, ◌≤◌, Bool, true, false, ◌&&◌, if◌then◌else◌, List, ◌∷◌, length, drop, get_or, ◌∙◌, sym, refl, ap, subst, arith, ℤ, pos, ◌+ℤ◌, ◌-ℤ◌, ◌≤ℤ◌, unsigned_abs}
 use Rattle.std.proofs.lemmas.Bool.{and_parts}
 use Rattle.std.proofs.lemmas.Bool.Decides.{nat_tests}
 use Rattle.std.proofs.lemmas.Int.{ints}
-use Rattle.std.proofs.lemmas.List.{drop_all, get_or_default, ext_get_or, get_or-map, length-map}
+use Rattle.std.proofs.lemmas.List.{drop_all, ext_get_or, get_or-map, length-map}
 use Rattle.lw_region.specs.Rectangle.{Rectangle, within, has_pixel, IsOrdered}
 use Rattle.lw_region.specs.Bands.{covers}
 use Rattle.lw_region.specs.Order.{natural}
 use Rattle.lw_region.proofs.Canonical.{covers_nil, covers_cons}
 use Rattle.lw_planes.specs.Bitmap.{Bitmap, IsBitmap, bitmap, pen_at}
 use Rattle.lw_planes.proofs.BitmapLaws.{pen_at_bitmap, bitmap_from_pens, bitmap_same}
+use Rattle.lw_planes.proofs.ChosenLaws.{first_choice}
 use Rattle.lw_kernels.specs.Kernel.{is_named}
 use Rattle.lw_buffers.specs.Lookup.{pen_from, pen_in}
 use Rattle.lw_layer.specs.Pieces.{columns, lines}
@@ -88,12 +89,6 @@ shown_none rects buffers n left top own ok past =
     let free : covers (drop n rects) u v ≡ false = ap (λ rs. covers rs u v) (drop_all n rects past) ∙ covers_nil u v in
     sym (ap (λ t. if t then pen_in (drop n rects) (drop n buffers) u v else pen_at own x y) free))
 
--- what is first, and what comes after it
-pub first_step : (t c : Bool) (p q old : ℕ)
-    → (if t then p else (if c then q else old)) ≡ (if (t || c) then (if t then p else q) else old)
-first_step true c p q old = refl
-first_step false c p q old = refl
-
 -- one rectangle more, in front of the others
 shown_cons : (r : Rectangle) (rs : List Rectangle) (b : Bitmap) (bs : List Bitmap) (left top : ℤ) (own : Bitmap)
     → laid (λ x y. has_pixel r x y) (λ x y. pen_from r b x y) left top (with_shown rs bs left top own) ≡ with_shown (r ∷ rs) (b ∷ bs) left top own
@@ -104,7 +99,7 @@ shown_cons r rs b bs left top own =
     let u : ℤ = left +ℤ pos x in
     let v : ℤ = top +ℤ pos y in
     ap (λ p. if has_pixel r u v then pen_from r b u v else p) (pen_at_bitmap own.width own.height own.depth _ x y in_width in_height)
-    ∙ (first_step (has_pixel r u v) (covers rs u v) (pen_from r b u v) (pen_in rs bs u v) (pen_at own x y)
+    ∙ (first_choice (has_pixel r u v) (covers rs u v) (pen_from r b u v) (pen_in rs bs u v) (pen_at own x y)
     ∙ sym (ap (λ t. if t then pen_in (r ∷ rs) (b ∷ bs) u v else pen_at own x y) (covers_cons r rs u v))))
 
 pub shown_more : (rects : List Rectangle) (buffers : List Bitmap) (k next : ℕ) (r : Rectangle) (b : Bitmap) (left top : ℤ) (own was new : Bitmap)
@@ -139,11 +134,6 @@ shown_at own left top rects buffers n r b are inside first second =
     let P : Rectangle → Type 0 = λ q. IsShown own left top q (get_or buffers n b) in
     let Q : Bitmap → Type 0 = λ q. IsShown own left top r q in
     subst Q (sym second) (subst P (sym first) (are.each n r b inside))
-
--- the portion of a rectangle that was read out of its list
-pub portion_at : (own new : Bitmap) (left top : ℤ) (rects : List Rectangle) (n : ℕ) (r d : Rectangle) → n < length rects
-    → r ≡ get_or rects n r → new ≡ portion own left top r → new ≡ portion own left top (get_or rects n d)
-portion_at own new left top rects n r d inside is new_is = new_is ∙ ap (portion own left top) (is ∙ get_or_default rects n r d inside)
 
 -- all buffers are their rectangles' portions
 pub all_portions : (own : Bitmap) (left top : ℤ) (rects : List Rectangle) (buffers : List Bitmap) → length buffers ≡ length rects

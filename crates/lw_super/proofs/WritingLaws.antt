@@ -1,8 +1,10 @@
 -- The bits of a super-bitmap layer are its own bitmap with the pens of its visible rectangles.
-use Rattle.std.proofs.Common.{◌≡◌, ℕ, ◌+◌, ◌<◌, ◌≤◌, Bool, true, false, ◌&&◌, ◌||◌, if◌then◌else◌, List, [], ◌∷◌, ◌++◌, length, get_or, Option, Some, None, ◌∙◌, sym, refl, ap, subst, arith, ℤ, pos, negsuc, ◌+ℤ◌, ◌-ℤ◌, ◌≤ℤ◌, unsigned_abs, length-append, FitsSigned, w16, w32, to_z, of_z}
+use Rattle.std.proofs.Common.{◌≡◌, ℕ, ◌+◌, ◌<◌, ◌≤◌, true, if◌then◌else◌, List, [], ◌∷◌, ◌++◌, length, get_or, Option, Some, None, ◌∙◌, sym, refl, ap, subst, arith, ℤ, pos, negsuc, ◌+ℤ◌, ◌-ℤ◌, ◌≤ℤ◌, unsigned_abs, length-append, FitsSigned, w16, w32, to_z, of_z}
 use Rattle.std.specs.List.{slice_index_or}
+use Rattle.std.specs.Int.Signed.{≤ℤ_refl}
 use Rattle.std.proofs.lemmas.Int.{ints}
-use Rattle.std.proofs.lemmas.List.{get_or_append_left, get_or_default, get_or_at}
+use Rattle.std.proofs.lemmas.List.{get_or_append_left, get_or_default, get_or_at, nil_from_length}
+use Rattle.std.proofs.lemmas.Bool.{and_from}
 use Rattle.lw_region.specs.Rectangle.{Rectangle, has_pixel}
 use Rattle.lw_region.specs.Bands.{covers}
 use Rattle.lw_region.specs.Banded.{IsCanonical}
@@ -11,6 +13,7 @@ use Rattle.lw_region.proofs.Canonical.{covers_nil, covers_cons}
 use Rattle.lw_region.proofs.Within.{within_true, within_low, within_high}
 use Rattle.lw_planes.specs.Bitmap.{Bitmap, bitmap, pen_at}
 use Rattle.lw_planes.proofs.BitmapLaws.{bitmap_same}
+use Rattle.lw_planes.proofs.ChosenLaws.{first_choice}
 use Rattle.lw_buffers.specs.Lookup.{pen_from, pen_in}
 use Rattle.lw_calls.specs.Kinds.{is_super}
 use Rattle.lw_calls.specs.declared.make.Kind.{Kind}
@@ -28,7 +31,8 @@ use Rattle.lw_layer.proofs.OrderedLists.{canonical_ordered}
 use Rattle.lw_layer.proofs.FoundLaws.{in_bits_found, whole_has}
 use Rattle.lw_layer.proofs.Positions.{none_passes}
 use Rattle.lw_layer.proofs.ViewLaws.{has_place, both_true}
-use Rattle.lw_super.proofs.ShownLaws.{first_step}
+use Rattle.lw_layer.proofs.CopyingLaws.{natural_distance, not_below}
+use Rattle.lw_layer.proofs.SoundLaws.{visible_inside}
 use Rattle.lw_super.specs.Shown.{IsShown, AreShown, with_shown, left_of, top_of}
 
 pub super_is : (kind : Kind) → is_super kind ≡ true → kind ≡ SuperBitmap
@@ -43,10 +47,6 @@ super_rest Simple hidden covered own is rest = absurd (cc is)
 super_rest Smart hidden covered own is rest = absurd (cc is)
 super_rest SuperBitmap hidden covered own is rest = rest
 
-pub nothing_listed : (bs : List Bitmap) → length bs ≡ 0 → bs ≡ []
-nothing_listed [] none = refl
-nothing_listed (b ∷ bs) none = absurd (omega arith)
-
 -- a scroll as a number
 pub scroll_is : (z : ℤ) → pos 0 ≤ℤ z → z ≡ pos (unsigned_abs z)
 scroll_is (pos n) low = refl
@@ -60,7 +60,7 @@ with_own d own = record d { superbits = Some own }
 pub super_buffers : (d : LiveDraft) (own : Bitmap) → d.kind ≡ SuperBitmap → IsLiveDraft (with_own d own)
     → buffers_of (with_own d own) ≡ d.buffers.items ++ (own ∷ [])
 super_buffers d own super ok =
-    let none = nothing_listed d.covered.items (super_rest d.kind _ _ _ super ok.rest).0 in
+    let none = nil_from_length d.covered.items (super_rest d.kind _ _ _ super ok.rest).0 in
     ap (λ q. d.buffers.items ++ (q ++ (own ∷ []))) none
 
 pub super_pieces : (d : LiveDraft) (own : Bitmap) → d.kind ≡ SuperBitmap
@@ -90,16 +90,8 @@ pen_in_last [] (c ∷ bs) r b x y many has = absurd (omega arith)
 pen_in_last (s ∷ rs) [] r b x y many has = absurd (omega arith)
 pen_in_last (s ∷ rs) (c ∷ bs) r b x y many has =
     ap (λ p. if has_pixel s x y then pen_from s c x y else p) (pen_in_last rs bs r b x y (omega arith) has)
-    ∙ (first_step (has_pixel s x y) (covers rs x y) (pen_from s c x y) (pen_in rs bs x y) (pen_from r b x y)
+    ∙ (first_choice (has_pixel s x y) (covers rs x y) (pen_from s c x y) (pen_in rs bs x y) (pen_from r b x y)
     ∙ sym (ap (λ t. if t then pen_in (s ∷ rs) (c ∷ bs) x y else pen_from r b x y) (covers_cons s rs x y)))
-
--- a difference that isn't below 0
-pub natural_distance : (z : ℤ) → pos 0 ≤ℤ z → natural z ≡ unsigned_abs z
-natural_distance (pos n) low = refl
-natural_distance (negsuc n) low = absurd (omega (arith, ints))
-
-pub not_below : (a b : ℤ) → a ≤ℤ b → pos 0 ≤ℤ (b -ℤ a)
-not_below a b below = omega (arith, ints)
 
 -- the pen of a pixel that a piece has
 found_pen : (q : LiveDraft) (x y n : ℕ) → IsLiveDraft q → buffer_at (layout q) x y ≡ Some n
@@ -167,17 +159,6 @@ edge_high : (low high scroll r : ℤ) (w : ℕ) → pos 0 ≤ℤ scroll → unsi
     → r ≤ℤ high → low ≤ℤ r → (r +ℤ pos 1) ≤ℤ ((low -ℤ scroll) +ℤ pos w)
 edge_high low high scroll r w start fits inside ordered = omega (arith, ints)
 
-same_place : (z : ℤ) → z ≤ℤ z
-same_place z = omega (arith, ints)
-
-in_both : (a b : Bool) → a ≡ true → b ≡ true → (a && b) ≡ true
-in_both true b first second = second
-in_both false b first second = absurd (cc first)
-
--- the visible rectangles lie in the bounds
-pub visible_in : (bounds : Rectangle) (visible hidden : List Rectangle) → AreDivided bounds visible hidden → LieIn bounds visible
-visible_in bounds visible hidden divided x y has = sym (divided.cover x y) ∙ ap (λ t. t || covers hidden x y) has
-
 -- a buffer of two equal ones
 pub buffer_moved : (depth other : ℕ) (r s : Rectangle) (b c : Bitmap) → depth ≡ other → r ≡ s → b ≡ c → IsBuffer depth r b
     → IsBuffer other s c
@@ -192,8 +173,8 @@ shown_each d own n r b super ok canonical inside below =
     let s = get_or d.parts.visible n r in
     let ordered = canonical_ordered d.parts.visible canonical n r below in
     let lies = lies_at d.bounds d.parts.visible n r inside below in
-    let first = both_true _ _ (lies s.min_x s.min_y (in_both _ _ (within_true s.min_x s.min_x s.max_x (same_place s.min_x) ordered.columns) (within_true s.min_y s.min_y s.max_y (same_place s.min_y) ordered.rows))) in
-    let last = both_true _ _ (lies s.max_x s.max_y (in_both _ _ (within_true s.min_x s.max_x s.max_x ordered.columns (same_place s.max_x)) (within_true s.min_y s.max_y s.max_y ordered.rows (same_place s.max_y)))) in
+    let first = both_true _ _ (lies s.min_x s.min_y (and_from _ _ (within_true s.min_x s.min_x s.max_x (≤ℤ_refl s.min_x) ordered.columns) (within_true s.min_y s.min_y s.max_y (≤ℤ_refl s.min_y) ordered.rows))) in
+    let last = both_true _ _ (lies s.max_x s.max_y (and_from _ _ (within_true s.min_x s.max_x s.max_x ordered.columns (≤ℤ_refl s.max_x)) (within_true s.min_y s.max_y s.max_y ordered.rows (≤ℤ_refl s.max_y)))) in
     let long = length-append l.visible (rest_of l) in
     record {
       ordered = ordered;
@@ -213,7 +194,7 @@ pub are_shown : (d : LiveDraft) (own : Bitmap) (hidden : List Rectangle) → d.k
     → AreShown own (left_of d) (top_of d) d.parts.visible d.buffers.items
 are_shown d own hidden super ok canonical divided =
     let P : Rectangle → Type 0 = λ r. LieIn r d.parts.visible in
-    let inside : LieIn d.bounds d.parts.visible = subst P ok.bounds (visible_in d.parts.bounds d.parts.visible hidden divided) in
+    let inside : LieIn d.bounds d.parts.visible = subst P ok.bounds (visible_inside d.parts.bounds d.parts.visible hidden divided) in
     record { many = ok.shown; each = λ n r b below. shown_each d own n r b super ok canonical inside below }
 
 -- a scroll lies in the bits

@@ -77,16 +77,6 @@ ended_by bs i e =
     let P : ℕ → Type 0 = λ k. EndsAt bs k in
     subst P f.1 (ends_at bs) f.0
 
--- a line that begins with a space
-pub empty_word : (bs : List ℕ) → position is_break bs ≡ Some 0 → IsWordBegun bs → tokens bs ≡ Err Spacing
-empty_word [] e q = refl
-empty_word (b ∷ bs) e q = go (b == 32) (b == 34) (ne_eqb b 34 q) (found_at is_break (b ∷ bs) 0 e).1
-  where
-    go : (s t : Bool) → t ≡ false → cond (not (s || t)) (1 + position_or_len is_break bs) 0 ≡ 0 → cond s (Err Spacing) (cond t (cond (ends_text bs) (Ok ((b ∷ bs) ∷ [])) (Err Quote)) (on_found (onto_first b) (tokens_at false bs))) ≡ Err Spacing
-    go true t d f = refl
-    go false true d f = absurd (true≢false d)
-    go false false d f = absurd (omega arith)
-
 -- a word that has some byte and begins with no quote
 begun : (bs : List ℕ) (i : ℕ) → position is_break bs ≡ Some i → 0 < i → IsWordBegun bs → tokens bs ≡ tokens_at false bs
 begun [] i e lt q = absurd (no_place i e)
@@ -172,18 +162,6 @@ pub text_end_at : (bs : List ℕ) (i : ℕ) → position (λ b. b == 34) bs ≡ 
 text_end_at bs i e =
     let f = found_at (λ b. b == 34) bs i e in
     text_end bs ∙ ap (λ k. k + 1 == length bs) f.1
-
--- a line that is a text, and one that begins with a quote and is none
-pub text_word : (bs : List ℕ) (t : Bool) → 0 < length bs → get_or bs 0 0 ≡ 34 → t ≡ ends_text (take (length bs - 1) (drop 1 bs)) → tokens bs ≡ cond t (Ok (bs ∷ [])) (Err Quote)
-text_word [] t lt q e = absurd (omega arith)
-text_word (b ∷ bs) t lt q e =
-    let f : take (length (b ∷ bs) - 1) (drop 1 (b ∷ bs)) ≡ bs = take_rest (b ∷ bs) 1 in
-    let g : t ≡ ends_text bs = e ∙ ap ends_text f in
-    go (b == 32) (quote_only b q) ∙ ap (λ c. cond c (Ok ((b ∷ bs) ∷ [])) (Err Quote)) (sym g)
-  where
-    go : (s : Bool) → s ≡ false → cond s (Err Spacing) (cond (b == 34) (cond (ends_text bs) (Ok ((b ∷ bs) ∷ [])) (Err Quote)) (on_found (onto_first b) (tokens_at false bs))) ≡ cond (ends_text bs) (Ok ((b ∷ bs) ∷ [])) (Err Quote)
-    go true d = absurd (true≢false d)
-    go false d = rw (eq-eqb b 34 q) refl
 
 -- the words found with a further one
 pub more_words : (words : Result (List (List ℕ)) Reason) (found : List (Bor (List ℕ))) (word : Bor (List ℕ)) (o p : Result (List (List ℕ)) Reason) → words ≡ on_found (λ ws. targets found ++ ws) o → o ≡ on_found (λ ws. word.now ∷ ws) p → words ≡ on_found (λ ws. targets (found ++ word ∷ []) ++ ws) p

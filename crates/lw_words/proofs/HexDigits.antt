@@ -1,12 +1,12 @@
 -- What hexadecimal digits spell.
-use Rattle.std.proofs.Common.{◌≡◌, ℕ, zero, suc, ◌+◌, ◌*◌, ◌/◌, ◌<◌, ◌≤◌, map, ◌==◌, Bool, true, false, ◌&&◌, cond, List, [], ◌∷◌, length, get_or, Option, Some, None, option_map, IsTrue, refl, sym, ap, ◌∙◌, arith}
+use Rattle.std.proofs.Common.{◌≡◌, ℕ, zero, suc, ◌+◌, ◌*◌, ◌/◌, ◌<◌, ◌≤◌, map, ◌==◌, Bool, true, false, ◌&&◌, cond, List, [], ◌∷◌, length, get_or, Option, Some, None, option_map, refl, sym, ap, ◌∙◌, arith}
 use Rattle.std.specs.List.{list_all}
 use Rattle.lw_grammar.specs.Tokens.{Token, NameToken, NumberToken, TextToken, OddToken, is_hex, hex_value, hex_bytes, spelled_bytes, bytes_in}
 use Rattle.lw_grammar.specs.Statements.{GlyphLine, glyph_of_bytes, glyph_line}
 use Rattle.lw_words.specs.declared.token.Token.{Token as Reading}
 use Rattle.lw_words.specs.TokenMeaning.{token_meaning}
 use Rattle.lw_words.specs.Digits.{decoded, spelling}
-use Rattle.std.proofs.lemmas.Bool.{eqb-true, eq-eqb, ne_eqb, and_parts}
+use Rattle.std.proofs.lemmas.Bool.{eqb-true, eq-eqb, ne_eqb}
 
 -- two digits more
 hex_step : (a b : ℕ) (p q r : Bool) (o : Option (List ℕ)) (bytes : List ℕ) → o ≡ cond r (Some bytes) None → cond (p && q) (option_map (λ bytes. ((hex_value a * 16) + hex_value b) ∷ bytes) o) None ≡ cond (p && (q && r)) (Some (((hex_value a * 16) + hex_value b) ∷ bytes)) None
@@ -30,12 +30,6 @@ bytes_of_word (NumberToken w z) word count e = let f : w ≡ word = cc in ap (sp
 bytes_of_word (TextToken t) word count e = absurd (cc)
 bytes_of_word (OddToken w) word count e = let f : w ≡ word = cc in ap (spelled_bytes count) f
 
-pub no_bytes : (token : Token) (count : ℕ) → spelling token ≡ None → None ≡ bytes_in count token
-no_bytes (NameToken w) count e = absurd (cc)
-no_bytes (NumberToken w z) count e = absurd (cc)
-no_bytes (TextToken t) count e = refl
-no_bytes (OddToken w) count e = absurd (cc)
-
 -- a word that spells so many bytes, and one that doesn't
 pub spells : (word : List ℕ) (count : ℕ) → length word ≡ 2 * count → list_all is_hex word ≡ true → spelled_bytes count word ≡ Some (decoded word)
 spells word count long hex = rw (eq-eqb (length word) (2 * count) long, hex_even word count long, hex) refl
@@ -49,12 +43,6 @@ spells_not word count hex = go (length word == 2 * count) refl
 
 pub too_long : (word : List ℕ) (count : ℕ) → (length word ≡ 2 * count → ⊥) → spelled_bytes count word ≡ None
 too_long word count long = rw (ne_eqb (length word) (2 * count) long) refl
-
--- each of digits is one
-pub hex_at : (ds : List ℕ) (i : ℕ) → IsTrue (list_all is_hex ds) → i < length ds → IsTrue (is_hex (get_or ds i 0))
-hex_at [] i h lt = absurd (omega arith)
-hex_at (d ∷ ds) zero h lt = (and_parts (is_hex d) (list_all is_hex ds) h).0
-hex_at (d ∷ ds) (suc i) h lt = hex_at ds i (and_parts (is_hex d) (list_all is_hex ds) h).1 (omega arith)
 
 -- the byte at a place among those that digits spell
 pub decoded_by : (ds : List ℕ) (i : ℕ) → 2 * i + 1 < length ds → (hex_value (get_or ds (2 * i) 0) * 16) + hex_value (get_or ds (2 * i + 1) 0) ≡ get_or (decoded ds) i 0

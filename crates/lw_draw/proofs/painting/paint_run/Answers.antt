@@ -1,10 +1,11 @@
 use Rattle.std.proofs.Common.{ℕ, ◌+◌, ◌<◌, ◌==◌, ◌&&◌, Bool, nat_lt, ◌∙◌, sym, arith}
+use Rattle.lw_planes.proofs.ChosenLaws.{no_plane, all_planes}
 use Rattle.lw_layer.specs.Drafts.{raster_of}
 use Rattle.lw_machine.specs.Layer.{Raster}
 use Rattle.lw_draw.specs.Drawn.{painted_bit, in_mask}
 use Rattle.lw_draw.specs.Stretches.{in_stretch}
 use Rattle.lw_draw.specs.declared.stretch.Stretch.{Stretch}
-use Rattle.lw_draw.proofs.PaintLaws.{cell_nowhere, cell_same, cell_more, run_stays, depth_stays, paints_bits, next_plane, left_plane, no_plane, all_planes}
+use Rattle.lw_draw.proofs.PaintLaws.{cell_nowhere, cell_same, cell_more, run_stays, depth_stays, paints_bits, next_plane, left_plane}
 use Rattle.lw_draw.proofs.painting.paint_run.Goals as goal
 use Rattle.lw_draw.proofs.painting.paint_run.Goals.{then-has_bit, else-has_bit}
 

@@ -1,7 +1,8 @@
 use Rattle.std.proofs.Common.{ℕ, ◌+◌, ◌<◌, ◌==◌, ◌&&◌, Bool, nat_lt, arith}
+use Rattle.lw_planes.proofs.ChosenLaws.{no_plane, next_plane, all_planes}
 use Rattle.lw_super.specs.Blocks.{in_block}
 use Rattle.lw_super.specs.declared.block.Block.{Block}
-use Rattle.lw_super.proofs.BlockLaws.{copied_nowhere, copied_more, copied_whole, block_stays, depth_stays, no_plane, next_plane, all_planes}
+use Rattle.lw_super.proofs.BlockLaws.{copied_nowhere, copied_more, copied_whole, block_stays, depth_stays}
 use Rattle.lw_super.proofs.block.copy_block.Goals as goal
 
 -- what is copied before a plane
