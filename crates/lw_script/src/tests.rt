@@ -150,7 +150,7 @@ fn pens_of(alloc: Global, bitmap: &Planes, y: u32) -> Result<Vec<u8>, AllocError
 }
 
 #[test]
-fn a_script_gives_its_sizes_names_calls_and_order(rt: HostRuntime) -> Result<(), Fail> {
+fn a_script_gives_its_sizes_and_names(rt: HostRuntime) -> Result<(), Fail> {
     let alloc = rt.alloc();
     let input = read_short(alloc, WHOLE.as_bytes(), 3, Form::Ordered)?;
     let plan = &input.plan;
@@ -164,6 +164,14 @@ fn a_script_gives_its_sizes_names_calls_and_order(rt: HostRuntime) -> Result<(),
     assert_eq!(rt; tasks.as_slice(), b"clock edit ".as_slice());
     let bitmaps = joined(alloc, plan.bitmap_names())?;
     assert_eq!(rt; bitmaps.as_slice(), b"dot two ".as_slice());
+    Ok(())
+}
+
+#[test]
+fn a_script_gives_its_calls_groups_and_order(rt: HostRuntime) -> Result<(), Fail> {
+    let alloc = rt.alloc();
+    let input = read_short(alloc, WHOLE.as_bytes(), 3, Form::Ordered)?;
+    let plan = &input.plan;
     assert!(rt; has_calls(alloc, plan, 0, &CLOCK)?);
     assert!(rt; has_calls(alloc, plan, 1, &EDIT)?);
     let locked = Group {
