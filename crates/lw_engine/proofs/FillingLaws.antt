@@ -1,7 +1,7 @@
 -- What is filled of a slot's layer are the pixels that it gains, where they haven't the pens already that they are to have.
-use Rattle.std.proofs.Common.{◌≡◌, ℕ, ◌==◌, Bool, true, false, not, ◌&&◌, ◌||◌, List, [], length, Option, Some, None, is_some, ◌∙◌, refl, sym, ap, subst}
+use Rattle.std.proofs.Common.{◌≡◌, ℕ, ◌==◌, Bool, true, false, ◌&&◌, ◌||◌, List, [], length, Option, Some, None, is_some, ◌∙◌, refl, sym, ap, subst}
 use Rattle.std.specs.Prelude.{if◌then◌else◌}
-use Rattle.std.proofs.lemmas.Bool.{eqb-true, and_parts}
+use Rattle.std.proofs.lemmas.Bool.{eqb-true, and_parts, not-false}
 use Rattle.lw_region.specs.Rectangle.{Rectangle}
 use Rattle.lw_region.specs.Banded.{IsCanonical}
 use Rattle.lw_planes.specs.Bitmap.{IsBitmap}
@@ -9,6 +9,7 @@ use Rattle.lw_machine.specs.Hook.{Hook}
 use Rattle.lw_machine.specs.Layer.{Layer, is_framed}
 use Rattle.lw_machine.specs.Arrangement.{new_layer}
 use Rattle.lw_machine.specs.Reveal.{width_in, height_in}
+use Rattle.lw_machine.proofs.CreatedSound.{blank_bitmap}
 use Rattle.lw_layer.specs.View.{State, CellView, hooked}
 use Rattle.lw_layer.specs.View as view
 use Rattle.lw_layer.specs.Drafts.{no_layer}
@@ -18,7 +19,6 @@ use Rattle.lw_arrange.specs.Arrangements.{ArrangementView}
 use Rattle.lw_arrange.specs.Prepared.{Created, created_by, created_live, becomes, with_bounds, without_layer, shown_at, cell_after, MayBecome, MayBe, MayOpen}
 use Rattle.lw_arrange.specs.Filled.{gains, gains_some, filled_layer, AreGained}
 use Rattle.lw_arrange.proofs.BareLaws.{KeepsFrame, carried_bitmap, carried_bare, live_unfilled, new_unfilled}
-use Rattle.lw_arrange.proofs.OpenedLaws.{new_bitmap}
 use Rattle.lw_arrange.proofs.GainedRegions.{filled_region}
 use Rattle.lw_arrange.proofs.GainsLaws.{stayed}
 use Rattle.lw_engine.specs.Slots.{hook_in, bare, asked_hook, due_hook, filled_from, filled_as, is_sized, MayBeReady}
@@ -49,13 +49,9 @@ no_rectangle = []
 -- a size that stays
 same_size : (r s : Rectangle) → is_sized r s ≡ false → (width_in (Some s) ≡ width_in (Some r)) × (height_in (Some s) ≡ height_in (Some r))
 same_size r s stays =
-    let both : ((width_in (Some r) == width_in (Some s)) && (height_in (Some r) == height_in (Some s))) ≡ true = turned _ stays in
+    let both : ((width_in (Some r) == width_in (Some s)) && (height_in (Some r) == height_in (Some s))) ≡ true = not-false _ stays in
     let parts = and_parts (width_in (Some r) == width_in (Some s)) (height_in (Some r) == height_in (Some s)) both in
     (sym (eqb-true _ _ parts.0), sym (eqb-true _ _ parts.1))
-  where
-    turned : (t : Bool) → not t ≡ false → t ≡ true
-    turned true is = refl
-    turned false is = absurd (cc is)
 
 pub filled_right : (a : ArrangementView) (shelf : List (Option Hook)) (c : CellView) (gained final : List Rectangle) (held sized : Bool) → MayBeReady a c
     → (c.state ≡ view.Live → IsSound (bare c).live) → ((c.state ≡ view.Live → ⊥) → (bare c).live ≡ no_layer) → IsCanonical final
@@ -127,7 +123,7 @@ filled_right a shelf c gained final held sized may sound idle canonical final_is
         let plain : is_framed c.live.layer.window ≡ false = ap (λ v. is_framed v.layer.window) (idle (λ l. cc (fresh, l))) in
         let P : CellView → Type 0 = λ v. filled_from b None v ≡ filled_as None final v in
         subst P (sym is)
-        (left_as b made final (new_bitmap k.make.kind depth k.make) refl (final_none (without off plain))
+        (left_as b made final (blank_bitmap k.make.kind depth k.make) refl (final_none (without off plain))
         (new_unfilled k.make depth k.window (λ x y. gains b made x y) (gains_some b made)))
 
     -- a layer that stays live, without a hook

@@ -3,6 +3,7 @@ use Rattle.std.proofs.Common.{◌≡◌, ℕ, zero, suc, ◌+◌, ◌*◌, ◌==
 use Rattle.std.proofs.lemmas.Bool.Decides.{nat_tests}
 use Rattle.std.proofs.Math.Path.{fun_ext}
 use Rattle.std.proofs.lemmas.Nat.{pow_pos}
+use Rattle.std.proofs.Math.Bool.{and-false}
 use Rattle.lw_region.specs.Rectangle.{Rectangle}
 use Rattle.lw_region.specs.Bands.{covers}
 use Rattle.lw_region.specs.Banded.{IsCanonical}
@@ -28,7 +29,7 @@ use Rattle.lw_arrange.specs.Prepared.{Created, created_by, created_live, becomes
 use Rattle.lw_arrange.specs.Made.{IsPrepared}
 use Rattle.lw_arrange.specs.Filled.{keeps_if_live, counts_if_live, is_inside, gains, gains_some, AreGained}
 use Rattle.lw_arrange.specs.Settled.{new_of, settled_new, settled_with, settled_by}
-use Rattle.lw_arrange.proofs.FilledLaws.{none_passes, unfilled}
+use Rattle.lw_arrange.proofs.FilledLaws.{unfilled}
 use Rattle.lw_arrange.proofs.GainedRegions.{filled_region}
 use Rattle.lw_arrange.proofs.GainsLaws.{stayed}
 use Rattle.lw_engine.specs.declared.window_after.WindowAfter.{WindowAfter}
@@ -79,10 +80,6 @@ none_listed : (rects : List Rectangle) → (length rects == 0) ≡ true → rect
 none_listed [] none = refl
 none_listed (r ∷ rs) none = absurd (let some : (length (r ∷ rs) == 0) ≡ false = grind (arith, nat_tests) in cc (none, some))
 
-and_none : (b : Bool) → (b && false) ≡ false
-and_none true = refl
-and_none false = refl
-
 -- where no pixel is gained, nothing is filled
 pub none_filled : (c : CellView) (h : Option Hook) (gained : List Rectangle) → IsBitmap c.live.layer.bits → (length gained == 0) ≡ true
     → hooked h c ≡ filled_as h gained c
@@ -91,7 +88,7 @@ none_filled c h gained ok none =
     let off : (x y : ℕ) → on x y ≡ false =
     λ x y.
     ap (λ l. keeps c.live x y && covers l (pos x) (pos y)) (none_listed gained none)
-    ∙ (ap (λ t. keeps c.live x y && t) (covers_nil (pos x) (pos y)) ∙ and_none (keeps c.live x y))
+    ∙ (ap (λ t. keeps c.live x y && t) (covers_nil (pos x) (pos y)) ∙ and-false (keeps c.live x y))
     in
     ap (λ (q : Layer). record c { live = record c.live { layer = q } })
     (sym (unfilled c.live.layer h on (not (length gained == 0)) ok off (ap not none)))
