@@ -16,13 +16,13 @@ use Rattle.lw_layer.specs.Drafts.{no_layer}
 use Rattle.lw_layer.specs.StandsFor.{IsSound}
 use Rattle.lw_stack.specs.Stack.{bounds_at}
 use Rattle.lw_arrange.specs.Arrangements.{ArrangementView}
-use Rattle.lw_arrange.specs.Prepared.{Created, created_by, created_live, becomes, with_bounds, without_layer, shown_at, cell_after, MayBecome, MayBe, MayOpen}
+use Rattle.lw_arrange.specs.Prepared.{Created, created_by, created_live, shown_at, cell_after, MayOpen}
 use Rattle.lw_arrange.specs.Filled.{gains, gains_some, filled_layer, AreGained}
 use Rattle.lw_arrange.proofs.BareLaws.{KeepsFrame, carried_bitmap, carried_bare, live_unfilled, new_unfilled}
 use Rattle.lw_arrange.proofs.GainedRegions.{filled_region}
 use Rattle.lw_arrange.proofs.GainsLaws.{stayed}
 use Rattle.lw_engine.specs.Slots.{hook_in, bare, asked_hook, due_hook, filled_from, filled_as, is_sized, MayBeReady}
-use Rattle.lw_engine.proofs.SettlingLaws.{none_filled}
+use Rattle.lw_engine.proofs.SettlingLaws.{none_filled, cell_is, state_of_cell, may_become}
 
 -- a cell whose layer without a hook is as it is filled, where nothing is filled
 left_as : (b e : CellView) (rects : List Rectangle) → IsBitmap e.live.layer.bits → e.live.layer.hook ≡ None → rects ≡ []
@@ -83,26 +83,6 @@ filled_right a shelf c gained final held sized may sound idle canonical final_is
         let P : Option Hook → Type 0 = λ h. filled_from b h e ≡ filled_as h final e in
         subst P (sym (none_due a shelf c c.state (sym off ∙ held_is))) is
 
-    cell_as : (o : Option Rectangle) (s : State) → CellView
-    cell_as None s = without_layer b s
-    cell_as (Some r) s = with_bounds (created_by a.task a.call) a.stack.sizes.depth r (shown_at a n) b s
-
-    cell_is : (o : Option Rectangle) (s : State) → bounds_at a.stack.bounds n ≡ o → c.state ≡ s → e ≡ cell_as o s
-    cell_is None s bounds state = ap (becomes (created_by a.task a.call) a.stack.sizes.depth (shown_at a n) b) bounds ∙ ap (without_layer b) state
-    cell_is (Some r) s bounds state =
-        ap (becomes (created_by a.task a.call) a.stack.sizes.depth (shown_at a n) b) bounds
-        ∙ ap (with_bounds (created_by a.task a.call) a.stack.sizes.depth r (shown_at a n) b) state
-
-    state_of_cell : (u v : CellView) → u ≡ v → u.state ≡ v.state
-    state_of_cell u v is = ap (λ (q : CellView). q.state) is
-
-    may_become : (r : Rectangle) (s : State) → bounds_at a.stack.bounds n ≡ Some r → c.state ≡ s
-        → MayBecome (created_by a.task a.call) a.stack.sizes.depth r (shown_at a n) b s
-    may_become r s bounds state =
-        let P : Option Rectangle → Type 0 = λ o. MayBe (created_by a.task a.call) a.stack.sizes.depth (shown_at a n) b o in
-        let Q : State → Type 0 = λ t. MayBecome (created_by a.task a.call) a.stack.sizes.depth r (shown_at a n) b t in
-        subst Q state (subst P bounds may.prepare)
-
     no_list : (u : Bool) → (if u then no_rectangle else no_rectangle) ≡ no_rectangle
     no_list true = refl
     no_list false = refl
@@ -118,7 +98,7 @@ filled_right a shelf c gained final held sized may sound idle canonical final_is
         let depth = a.stack.sizes.depth in
         let made : CellView = record { number = n; state = view.Live; live = created_live (Some k) depth r (shown_at a n) } in
         let is : e ≡ made =
-        cell_is (Some r) view.Unopened bounds fresh ∙ ap (λ o. record { number = n; state = view.Live; live = created_live o depth r (shown_at a n) }) new
+        cell_is a c (Some r) view.Unopened bounds fresh ∙ ap (λ o. record { number = n; state = view.Live; live = created_live o depth r (shown_at a n) }) new
         in
         let plain : is_framed c.live.layer.window ≡ false = ap (λ v. is_framed v.layer.window) (idle (λ l. cc (fresh, l))) in
         let P : CellView → Type 0 = λ v. filled_from b None v ≡ filled_as None final v in
@@ -132,7 +112,7 @@ filled_right a shelf c gained final held sized may sound idle canonical final_is
     stays_right r off bounds was empty keeps =
         let to = stayed r (shown_at a n) b in
         let P : CellView → Type 0 = λ v. filled_from b None v ≡ filled_as None final v in
-        subst P (sym (cell_is (Some r) view.Live bounds was))
+        subst P (sym (cell_is a c (Some r) view.Live bounds was))
         (left_as b to final (carried_bitmap b.live r (shown_at a n) (sound was)) (carried_bare b.live r (shown_at a n) (sound was)) empty
         (live_unfilled b r (shown_at a n) (gains_some b to) was (sound was) keeps))
 
@@ -150,13 +130,13 @@ filled_right a shelf c gained final held sized may sound idle canonical final_is
 
     by_cases : (o : Option Rectangle) → bounds_at a.stack.bounds n ≡ o → (s : State) → c.state ≡ s → held ≡ false
         → filled_from b (due_hook a shelf c c.state) e ≡ filled_as (due_hook a shelf c c.state) final e
-    by_cases None bounds view.Unopened state off = absurd (cc (state_of_cell e b (cell_is None view.Unopened bounds state), state, live))
-    by_cases None bounds view.Live state off = absurd (cc (state_of_cell _ _ (cell_is None view.Live bounds state), live))
-    by_cases None bounds view.Closed state off = absurd (cc (state_of_cell e b (cell_is None view.Closed bounds state), state, live))
+    by_cases None bounds view.Unopened state off = absurd (cc (state_of_cell e b (cell_is a c None view.Unopened bounds state), state, live))
+    by_cases None bounds view.Live state off = absurd (cc (state_of_cell _ _ (cell_is a c None view.Live bounds state), live))
+    by_cases None bounds view.Closed state off = absurd (cc (state_of_cell e b (cell_is a c None view.Closed bounds state), state, live))
     by_cases (Some r) bounds view.Unopened state off =
-        bare_right off (opened_right r (created_by a.task a.call) off bounds state refl (may_become r view.Unopened bounds state))
+        bare_right off (opened_right r (created_by a.task a.call) off bounds state refl (may_become a c may r view.Unopened bounds state))
     by_cases (Some r) bounds view.Live state off = by_frame r (is_framed c.live.layer.window) sized off bounds state refl refl
-    by_cases (Some r) bounds view.Closed state off = absurd (cc (state_of_cell e b (cell_is (Some r) view.Closed bounds state), state, live))
+    by_cases (Some r) bounds view.Closed state off = absurd (cc (state_of_cell e b (cell_is a c (Some r) view.Closed bounds state), state, live))
 
     by_held : (t : Bool) → held ≡ t → filled_from b (due_hook a shelf c c.state) e ≡ filled_as (due_hook a shelf c c.state) final e
     by_held true on =
