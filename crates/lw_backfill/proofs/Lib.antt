@@ -1,2 +1,2 @@
-mod Tiles
+pub mod Tiles
 pub mod ShelfLaws

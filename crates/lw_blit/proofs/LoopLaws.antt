@@ -4,6 +4,7 @@ use Rattle.std.specs.Int.{bit_at}
 use Rattle.std.proofs.lemmas.Bool.Decides.{nat_tests}
 use Rattle.std.proofs.lemmas.Int.{ints}
 use Rattle.lw_planes.specs.Bitmap.{Bitmap, IsBitmap, pen_at}
+use Rattle.lw_planes.proofs.ChosenLaws.{minterm_bit_lt}
 use Rattle.lw_kernels.specs.Kernel.{is_between}
 use Rattle.lw_calls.specs.declared.area.Area.{Area}
 use Rattle.lw_machine.specs.Kept.{holds_at, is_kept}
@@ -11,7 +12,6 @@ use Rattle.lw_machine.specs.Blits.{source_pen}
 use Rattle.lw_layer.specs.View.{LiveView, CellView, keeps, draws, with_live}
 use Rattle.lw_layer.specs.Copied.{bit_in, kept_bit}
 use Rattle.lw_draw.specs.Drawn.{drawn, GivesBits, in_rows}
-use Rattle.lw_draw.proofs.CombineLaws.{minterm_small}
 use Rattle.lw_draw.proofs.DrawnLaws.{bit_of_layer, bit_drawn}
 use Rattle.lw_draw.proofs.PaintLaws.{cell_nowhere, cell_same, cell_alike, cell_more, draws_stays, depth_stays, next_row, no_row}
 use Rattle.lw_blit.specs.Blitting.{blended, has_source, source_bit, from_layer, from_bits, masked, taken_column, taken_row}
@@ -95,7 +95,7 @@ source_stays v w on new t p x y old gives is deep off =
     ap (λ b. blended t.minterm (t.clears || has_source v.live t x y) b old) (bit_stays v w on new p (taken_column t x) (taken_row t y) gives is deep off)
 
 pub bitmap_gives_bits : (source : Bitmap) (a : Area) → GivesBits (from_bits source a)
-bitmap_gives_bits source a p x y old small = minterm_small a.minterm (bit_at (source_pen source a x y) p) old
+bitmap_gives_bits source a p x y old small = minterm_bit_lt a.minterm (bit_at (source_pen source a x y) p) old
 
 -- A row that is painted from the layer as it is by then is painted from the layer before, where its sources weren't painted so far.
 row_off : (has inside down : Bool) → down ≡ false → (has && (down && inside)) ≡ false

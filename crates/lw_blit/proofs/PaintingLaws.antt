@@ -6,6 +6,7 @@ use Rattle.std.proofs.lemmas.Nat.Bits.{bit_at-lt, bit_at_and, bit_at_or}
 use Rattle.lw_planes.specs.Row.{row_bit}
 use Rattle.lw_planes.specs.Minterm.{minterm_bit}
 use Rattle.lw_planes.proofs.RowLaws.{row_bit_lt}
+use Rattle.lw_planes.proofs.ChosenLaws.{minterm_bit_lt}
 use Rattle.lw_kernels.specs.Kernel.{is_named}
 use Rattle.lw_layer.specs.View.{LiveView, CellView, with_live}
 use Rattle.lw_draw.specs.Drawn.{drawn, GivesBits}
@@ -13,7 +14,7 @@ use Rattle.lw_draw.specs.Combined.{combined_bit}
 use Rattle.lw_draw.specs.Stretches.{in_stretch}
 use Rattle.lw_draw.specs.declared.combining.Origin.{Origin}
 use Rattle.lw_draw.specs.declared.stretch.Stretch.{Stretch}
-use Rattle.lw_draw.proofs.CombineLaws.{minterm_small, combined_gives_bits}
+use Rattle.lw_draw.proofs.CombineLaws.{combined_gives_bits}
 use Rattle.lw_draw.proofs.DrawnLaws.{bits_same, bit_of_layer, bit_drawn}
 use Rattle.lw_draw.proofs.PaintLaws.{cell_alike}
 use Rattle.lw_blit.specs.Blitting.{blended, from_rows, plane_of, takes}
@@ -35,7 +36,7 @@ cut_values m b c small =
 
 -- what is blended is a bit
 pub blended_small : (m : ℕ) (takes : Bool) (source old : ℕ) → old < 2 → blended m takes source old < 2
-blended_small m true source old small = minterm_small m source old
+blended_small m true source old small = minterm_bit_lt m source old
 blended_small m false source old small = small
 
 pub rows_give_bits : (m : ℕ) (r : SourceRows) (first : ℕ) → GivesBits (from_rows m r first)
@@ -78,11 +79,11 @@ pub record AreParts (m set clear : ℕ) : Type 0 where
 
 -- A bit that is painted where its source is set and then where it isn't.
 two_values : (m set clear b t old : ℕ) → AreParts m set clear → b < 2 → t < 2 → old < 2 → minterm_bit clear (minterm_bit 32 b t) (minterm_bit set b old) ≡ blended m (b == 1 || t == 1) b old
-two_values m set clear zero zero old are bit there small = are.left (minterm_bit set 0 old) (minterm_small set 0 old) ∙ are.kept old small
-two_values m set clear zero (suc zero) old are bit there small = are.of_clear (minterm_bit set 0 old) (minterm_small set 0 old) ∙ ap (λ c. minterm_bit m 0 c) (are.kept old small)
+two_values m set clear zero zero old are bit there small = are.left (minterm_bit set 0 old) (minterm_bit_lt set 0 old) ∙ are.kept old small
+two_values m set clear zero (suc zero) old are bit there small = are.of_clear (minterm_bit set 0 old) (minterm_bit_lt set 0 old) ∙ ap (λ c. minterm_bit m 0 c) (are.kept old small)
 two_values m set clear zero (suc (suc t)) old are bit there small = absurd (omega (arith, there))
-two_values m set clear (suc zero) zero old are bit there small = are.left (minterm_bit set 1 old) (minterm_small set 1 old) ∙ are.of_set old small
-two_values m set clear (suc zero) (suc zero) old are bit there small = are.left (minterm_bit set 1 old) (minterm_small set 1 old) ∙ are.of_set old small
+two_values m set clear (suc zero) zero old are bit there small = are.left (minterm_bit set 1 old) (minterm_bit_lt set 1 old) ∙ are.of_set old small
+two_values m set clear (suc zero) (suc zero) old are bit there small = are.left (minterm_bit set 1 old) (minterm_bit_lt set 1 old) ∙ are.of_set old small
 two_values m set clear (suc zero) (suc (suc t)) old are bit there small = absurd (omega (arith, there))
 two_values m set clear (suc (suc b)) t old are bit there small = absurd (omega (arith, bit))
 

@@ -3,12 +3,13 @@ use Rattle.std.proofs.Common.{◌≡◌, ℕ, ◌+◌, ◌==◌, ◌<◌, ◌≤
 use Rattle.std.specs.Int.{bit_at}
 use Rattle.std.proofs.lemmas.Bool.Decides.{nat_tests}
 use Rattle.lw_planes.specs.Bitmap.{IsBitmap}
+use Rattle.lw_planes.proofs.ChosenLaws.{no_plane, all_planes}
 use Rattle.lw_kernels.specs.Kernel.{is_between}
 use Rattle.lw_layer.specs.View.{CellView, draws, with_live}
 use Rattle.lw_draw.specs.Drawn.{drawn, GivesBits}
 use Rattle.lw_draw.specs.Stretches.{in_stretch, IsFirstStretch, IsNextStretch}
 use Rattle.lw_draw.specs.declared.stretch.Stretch.{Stretch}
-use Rattle.lw_draw.proofs.PaintLaws.{cell_nowhere, cell_same, cell_more, none_stays, next_plane, left_plane, no_plane, all_planes, next_run, no_column, row_done}
+use Rattle.lw_draw.proofs.PaintLaws.{cell_nowhere, cell_same, cell_more, none_stays, next_plane, left_plane, next_run, no_column, row_done}
 use Rattle.lw_blit.specs.Blitting.{masked, masked_run, planes_before}
 
 -- no run so far

@@ -1,16 +1,18 @@
 -- Laws of blits as wholes: what is drawn in the rows and columns that they reach is the blit.
-use Rattle.std.proofs.Common.{◌≡◌, ℕ, zero, suc, ◌+◌, ◌-◌, ◌/◌, ◌%◌, ◌==◌, ◌<◌, ◌≤◌, nat_lt, Bool, true, false, ◌&&◌, ◌||◌, if◌then◌else◌, List, replicate, Option, Some, None, ◌∙◌, sym, refl, ap, subst, arith, ℤ, pos, negsuc, ◌+ℤ◌, ◌-ℤ◌, ◌≤ℤ◌, unsigned_abs, IsTrue}
+use Rattle.std.proofs.Common.{◌≡◌, ℕ, ◌+◌, ◌-◌, ◌/◌, ◌%◌, ◌==◌, ◌<◌, ◌≤◌, nat_lt, Bool, true, false, ◌&&◌, ◌||◌, if◌then◌else◌, List, replicate, Some, None, ◌∙◌, sym, refl, ap, subst, arith, ℤ, pos, negsuc, ◌+ℤ◌, ◌-ℤ◌, ◌≤ℤ◌, unsigned_abs, IsTrue}
 use Rattle.std.specs.Int.{bit_at}
 use Rattle.std.proofs.lemmas.Bool.{and_parts}
 use Rattle.std.proofs.lemmas.Bool.Decides.{nat_tests}
 use Rattle.std.proofs.lemmas.Int.{ints}
 use Rattle.std.proofs.lemmas.List.{get_or-replicate}
-use Rattle.std.proofs.lemmas.Nat.Bits.{bit_at-lt, bit_at-zero, bit_at_above}
+use Rattle.std.proofs.lemmas.Nat.Bits.{bit_at-zero, bit_at_above}
 use Rattle.lw_region.specs.Rectangle.{within, has_pixel}
+use Rattle.lw_region.proofs.Within.{within_low, within_high}
 use Rattle.lw_planes.specs.Row.{row_bit}
 use Rattle.lw_planes.specs.Bitmap.{Bitmap, IsBitmap, pen_at}
 use Rattle.lw_planes.specs.Minterm.{minterm_bit}
 use Rattle.lw_kernels.specs.Kernel.{is_between}
+use Rattle.lw_kernels.proofs.ByteLaws.{minterm_copies}
 use Rattle.lw_calls.specs.Limits.{area_fits, coordinates_fit, is_coordinate, is_extent, is_minterm}
 use Rattle.lw_calls.specs.declared.area.Area.{Area}
 use Rattle.lw_machine.specs.Kept.{holds_at}
@@ -18,6 +20,7 @@ use Rattle.lw_machine.specs.Blits.{source_column, source_row, source_pen, clip_b
 use Rattle.lw_machine.specs.Shapes.{box_at}
 use Rattle.lw_layer.specs.View.{LiveView, CellView, shows, keeps, draws, kept_pen, with_layer, with_live}
 use Rattle.lw_layer.specs.Copied.{bit_in, kept_bit}
+use Rattle.lw_layer.proofs.CopyingLaws.{bit_in_lt}
 use Rattle.lw_draw.specs.Drawn.{drawn, in_mask, in_rows}
 use Rattle.lw_draw.specs.Combined.{combined_bit}
 use Rattle.lw_draw.specs.Stretches.{in_stretch}
@@ -29,26 +32,17 @@ use Rattle.lw_blit.specs.declared.transfers.Transfer.{Transfer}
 use Rattle.lw_blit.proofs.RunLaws.{pixel_of}
 use Rattle.lw_blit.proofs.SourceLaws.{kept_place}
 
--- coordinates and sizes are far from the ends of the numbers
-word_low : (low z high : ℤ) → within low z high ≡ true → low ≤ℤ z
-unfolding within
-word_low low z high is = grind (arith, ints)
-
-word_high : (low z high : ℤ) → within low z high ≡ true → z ≤ℤ high
-unfolding within
-word_high low z high is = grind (arith, ints)
-
 coordinate_low : (z : ℤ) → is_coordinate z ≡ true → negsuc 65535 ≤ℤ z
-coordinate_low z is = let low = word_low (negsuc 32767) z (pos 32767) is in omega (arith, ints)
+coordinate_low z is = let low = within_low (negsuc 32767) z (pos 32767) is in omega (arith, ints)
 
 coordinate_high : (z : ℤ) → is_coordinate z ≡ true → z ≤ℤ pos 65535
-coordinate_high z is = let high = word_high (negsuc 32767) z (pos 32767) is in omega (arith, ints)
+coordinate_high z is = let high = within_high (negsuc 32767) z (pos 32767) is in omega (arith, ints)
 
 extent_low : (z : ℤ) → is_extent z ≡ true → pos 0 ≤ℤ z
-extent_low z is = let low = word_low (pos 1) z (pos 32767) is in omega (arith, ints)
+extent_low z is = let low = within_low (pos 1) z (pos 32767) is in omega (arith, ints)
 
 extent_high : (z : ℤ) → is_extent z ≡ true → z ≤ℤ pos 65535
-extent_high z is = let high = word_high (pos 1) z (pos 32767) is in omega (arith, ints)
+extent_high z is = let high = within_high (pos 1) z (pos 32767) is in omega (arith, ints)
 
 pub area_near : (a : Area) → IsTrue (area_fits a) → IsNear a
 area_near a fits =
@@ -258,24 +252,9 @@ run_as_bitmap v w b a k bit line s bits inside column row are is =
     (ap (λ z. value k (unsigned_abs (source_column a i)) (unsigned_abs z)) (sym row ∙ ap (source_row a) (sym at.down)) ∙
     ap (λ d. value d (unsigned_abs (source_column a i)) (unsigned_abs (source_row a j))) (sym at.deep))))
 
--- a layer's bit is one
-bit_in_small : (p : ℕ) (pen : Option ℕ) → bit_in p pen < 2
-bit_in_small p None = omega arith
-bit_in_small p (Some pen) = bit_at-lt pen p
-
 kept_small : (c : LiveView) (p : ℕ) (x y : ℤ) → kept_bit c p x y < 2
 unfolding kept_bit
-kept_small c p x y = bit_in_small p (kept_pen c x y)
-
--- what the minterm of B gives
-copied : (b old : ℕ) → b < 2 → old < 2 → minterm_bit 192 b old ≡ b
-copied zero zero source small = refl
-copied zero (suc zero) source small = refl
-copied (suc zero) zero source small = refl
-copied (suc zero) (suc zero) source small = refl
-copied zero (suc (suc old)) source small = absurd (omega (arith, small))
-copied (suc zero) (suc (suc old)) source small = absurd (omega (arith, small))
-copied (suc (suc b)) old source small = absurd (omega (arith, source))
+kept_small c p x y = bit_in_lt p (kept_pen c x y)
 
 -- A layer whose rows are shifted takes the bits of its own pixels.
 pub layer_shifted : (v w : CellView) (t : Transfer) (dx dy : ℤ) (on : LiveView → ℕ → ℕ → ℕ → Bool) → t.dx ≡ dx → t.dy ≡ dy → t.minterm ≡ 192 → t.clears ≡ true → w ≡ with_live (λ c. drawn (on c) (from_layer c t) c) v → w ≡ with_live (λ c. drawn (on c) (λ p i j old. kept_bit c p (pos i +ℤ dx) (pos j +ℤ dy)) c) v
@@ -285,5 +264,5 @@ layer_shifted v w t dx dy on across down copy clears is =
     (λ p i j old _ _ _ _ small.
     ap (λ m. blended m (t.clears || has_source v.live t i j) (source_bit v.live t p i j) old) copy ∙
     (ap (λ q. blended 192 (q || has_source v.live t i j) (source_bit v.live t p i j) old) clears ∙
-    (copied (source_bit v.live t p i j) old (kept_small v.live p (pos i +ℤ t.dx) (pos j +ℤ t.dy)) small ∙
+    (minterm_copies 192 (source_bit v.live t p i j) old (kept_small v.live p (pos i +ℤ t.dx) (pos j +ℤ t.dy)) refl ∙
     (ap (λ z. kept_bit v.live p (pos i +ℤ z) (pos j +ℤ t.dy)) across ∙ ap (λ z. kept_bit v.live p (pos i +ℤ dx) (pos j +ℤ z)) down))))

@@ -12,6 +12,7 @@ use Rattle.lw_kernels.specs.Kernel.{is_between, is_named}
 use Rattle.lw_machine.specs.Kept.{holds_at, is_kept}
 use Rattle.lw_layer.specs.View.{LiveView, CellView, keeps, draws, with_live}
 use Rattle.lw_layer.specs.Copied.{bit_in, kept_bit}
+use Rattle.lw_layer.proofs.CopyingLaws.{kept_no}
 use Rattle.lw_draw.specs.Drawn.{drawn}
 use Rattle.lw_draw.proofs.PaintLaws.{cell_alike}
 use Rattle.lw_blit.specs.Blitting.{blended, from_rows, from_layer, masked, plane_of, has_source, source_bit, taken_column, taken_row, AreRead, AreSources}
@@ -48,13 +49,6 @@ front_stays row whole count more i filled low =
     let before : is_named count more i ≡ false = grind (arith, nat_tests) in
     filled i ∙ ap (λ t. if t then 1 else row_bit row i) before
 
--- a layer's bit is 0 where it keeps no pixel
-pub kept_off : (c : LiveView) (p : ℕ) (x y : ℤ) → holds_at (λ i j. keeps c i j) x y ≡ false → kept_bit c p x y ≡ 0
-unfolding kept_bit
-kept_off c p (pos x) (pos y) off = ap (λ t. bit_in p (if t then Some (pen_at c.layer.bits x y) else None)) off
-kept_off c p (pos x) (negsuc y) off = refl
-kept_off c p (negsuc x) y off = refl
-
 -- and in planes that it lacks
 pub kept_place : (c : LiveView) (x y : ℕ) → keeps c x y ≡ true → (x < c.layer.bits.width) × (y < c.layer.bits.height)
 unfolding keeps is_kept
@@ -73,16 +67,8 @@ past_planes c p (negsuc x) y ok past on = refl
 pub kept_past : (c : LiveView) (p : ℕ) (x y : ℤ) → IsBitmap c.layer.bits → c.layer.bits.depth ≤ p → kept_bit c p x y ≡ 0
 kept_past c p x y ok past =
     ⊎_elim (λ (on : holds_at (λ i j. keeps c i j) x y ≡ true). past_planes c p x y ok past on)
-    (λ (off : holds_at (λ i j. keeps c i j) x y ≡ false). kept_off c p x y off)
+    (λ (off : holds_at (λ i j. keeps c i j) x y ≡ false). kept_no c p x y off)
     (cases_Bool (holds_at (λ i j. keeps c i j) x y))
-
-pub no_bit : (b : Bool) → bit_of b ≡ 0 → b ≡ false
-no_bit true is = absurd (cc is)
-no_bit false is = refl
-
-pub is_bit : (b : Bool) → (bit_of b == 1) ≡ b
-is_bit true = refl
-is_bit false = refl
 
 -- bits that were cleared
 pub cleared : (row : List ℕ) (count i old : ℕ) → row_bit row i ≡ (if is_named 0 count i then 0 else old) → i < count → row_bit row i ≡ 0
@@ -153,13 +139,9 @@ pub record IsIn (mask from end row p i j : ℕ) : Type 0 where
   pub last : i < end
   pub down : j ≡ row
 
-first_test : (has rest : Bool) → (has && rest) ≡ true → has ≡ true
-first_test true rest on = refl
-first_test false rest on = on
-
 pub pixel_in : (mask from end row p i j : ℕ) (drawable : Bool) → (bit_at mask p == 1 && (is_between row (row + 1) j && (is_between from end i && drawable))) ≡ true → IsIn mask from end row p i j
 pixel_in mask from end row p i j drawable on = record {
-  has = first_test (bit_at mask p == 1) (is_between row (row + 1) j && (is_between from end i && drawable)) on;
+  has = (and_parts (bit_at mask p == 1) (is_between row (row + 1) j && (is_between from end i && drawable)) on).0;
   first = grind (arith, nat_tests);
   last = grind (arith, nat_tests);
   down = grind (arith, nat_tests);
@@ -187,5 +169,5 @@ row_as_layer v w source t mask planes y from end r are enough is =
     let there : row_bit r.kept n ≡ bit_of (has_source source t i j) = are.kept p n below at.has low ∙ (ap (λ u. bit_of (has_source source t u y)) column ∙ ap (λ q. bit_of (has_source source t i q)) (sym at.down)) in
     ap (λ q. blended t.minterm q (row_bit (plane_of r p) n) old)
     (taken_alike r.all t.clears (has_source source t i j) (row_bit (plane_of r p) n) (row_bit r.kept n) there
-    (λ off. bit ∙ kept_off source p (taken_column t i) (taken_row t j) off) (are.all n low)) ∙
+    (λ off. bit ∙ kept_no source p (taken_column t i) (taken_row t j) off) (are.all n low)) ∙
     ap (λ b. blended t.minterm (t.clears || has_source source t i j) b old) bit)

@@ -11,7 +11,7 @@ use Rattle.lw_calls.specs.declared.reply.Reply.TheVariants.{Done}
 use Rattle.lw_calls.specs.declared.sizes.Sizes.{Sizes}
 use Rattle.lw_calls.specs.Limits.{call_fits}
 use Rattle.lw_calls.specs.Plan.{is_all}
-use Rattle.lw_calls.specs.Touches.{CallClass, OnAll, class_of, slots_in, slots_of}
+use Rattle.lw_calls.specs.Touches.{CallClass, OnAll, class_of, slots_in}
 use Rattle.lw_calls.specs.declared.make.Make.{Make}
 use Rattle.lw_calls.proofs.BlitClass.{blit_not_all}
 use Rattle.lw_machine.specs.Layer.{is_live, is_unopened}
@@ -110,10 +110,6 @@ told_desk d v cells looks fresh call are numbered truth says fits =
       looks = λ s below. told_slot d s (cell_at cells s) (slice_index_or looks s None) (are.slots s below) (truth.each s (omega (arith, numbered.many, below))).look;
       fresh = fresh_call d v cells call fresh are fits says;
     }
-
--- an arrangement touches all layers
-is_on_all : (call : Call) → class_of call ≡ OnAll → IsTrue (is_all (slots_of call))
-is_on_all call all = ap (λ k. is_all (slots_in k)) all
 
 -- A plan of the desk may be done there.
 pub done_desk : (d : Desk) (v : Stack) (cells : List CellView) (task : ℕ) (call : Call) (a : ArrangementView) → AreOfDesk v cells d → class_of call ≡ OnAll → IsTrue (call_fits v.sizes call) → refusal d task call ≡ None → IsArrangementOf d task call a → IsArrangement a → a.stack.sizes ≡ v.sizes

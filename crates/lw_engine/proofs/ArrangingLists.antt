@@ -1,15 +1,11 @@
 -- Lists of slots and of what is ready for them, one by one.
-use Rattle.std.proofs.Common.{◌≡◌, ℕ, ◌+◌, ◌<◌, ◌≤◌, List, [], ◌∷◌, ◌++◌, length, take, get_or, set, ◌≢◌, refl, sym, ap, subst, ◌∙◌, arith, length-append, ⊎_elim}
+use Rattle.std.proofs.Common.{◌≡◌, ℕ, ◌+◌, ◌<◌, ◌≤◌, List, [], ◌∷◌, ◌++◌, length, take, get_or, set, ◌≢◌, sym, ap, subst, ◌∙◌, arith, length-append, ⊎_elim}
 use Rattle.std.proofs.lemmas.Bool.{cases_eq, cases_lt}
-use Rattle.std.proofs.lemmas.List.{take_all, take_more, get_or_append_left, get_or_at, get_or-set_same, get_or-set_other, get_or_default, length-set}
+use Rattle.std.proofs.lemmas.List.{take_more, get_or_append_left, get_or_at, get_or-set_same, get_or-set_other, get_or_default, length-set}
 use Rattle.lw_layer.specs.View.{CellView}
 use Rattle.lw_engine.specs.Desks.{no_cell, cell_at}
 use Rattle.lw_engine.specs.Slots.{ReadyView, IsSettled, nothing_ready}
 use Rattle.lw_engine.specs.Arranging.{ForEach, AreSettled, AreChanged, AreUnder}
-
--- nothing holds of each pair of no pairs
-pub for_none : {A B : Type 0} (P : A → B → Type 0) (a : A) (b : B) → ForEach P a b [] []
-for_none P a b = record { many = refl; each = λ n below. absurd (omega arith) }
 
 -- one pair more
 pub for_push : {A B : Type 0} (P : A → B → Type 0) (a : A) (b : B) (xs : List A) (ys : List B) (x : A) (y : B) → ForEach P a b xs ys → P x y → ForEach P a b (xs ++ (x ∷ [])) (ys ++ (y ∷ []))
@@ -36,10 +32,6 @@ pub for_more : {A B : Type 0} (P : A → B → Type 0) (a : A) (b : B) (xs : Lis
 for_more {A} P a b xs ys k y all below one =
     let Q : List A → Type 0 = λ l. ForEach P a b l (ys ++ (y ∷ [])) in
     subst Q (sym (take_more xs k a below)) (for_push P a b (take k xs) ys (get_or xs k a) y all one)
-
--- all pairs
-pub for_all : {A B : Type 0} (P : A → B → Type 0) (a : A) (b : B) (xs : List A) (ys : List B) (k : ℕ) → ForEach P a b (take k xs) ys → length xs ≤ k → ForEach P a b xs ys
-for_all {A} P a b xs ys k all past = let Q : List A → Type 0 = λ l. ForEach P a b l ys in subst Q (take_all k xs past) all
 
 -- what is ready for the next slot, where the first k were settled
 pub settle_ready : (glyphs : List (List ℕ)) (becomes : CellView → CellView) (k : ℕ) (cells now : List CellView) (made ready : List ReadyView) (c : CellView) (p : ReadyView) → AreSettled glyphs becomes cells made → AreUnder becomes k cells now made ready → k < length cells

@@ -1,7 +1,7 @@
 -- What is filled of a slot's layer are the pixels that it gains, where they haven't the pens already that they are to have.
-use Rattle.std.proofs.Common.{◌≡◌, ℕ, ◌==◌, Bool, true, false, not, ◌&&◌, ◌||◌, List, [], length, Option, Some, None, is_some, ◌∙◌, refl, sym, ap, subst}
+use Rattle.std.proofs.Common.{◌≡◌, ℕ, ◌==◌, Bool, true, false, ◌&&◌, ◌||◌, List, [], length, Option, Some, None, is_some, ◌∙◌, refl, sym, ap, subst}
 use Rattle.std.specs.Prelude.{if◌then◌else◌}
-use Rattle.std.proofs.lemmas.Bool.{eqb-true, and_parts}
+use Rattle.std.proofs.lemmas.Bool.{eqb-true, and_parts, not-false}
 use Rattle.lw_region.specs.Rectangle.{Rectangle}
 use Rattle.lw_region.specs.Banded.{IsCanonical}
 use Rattle.lw_planes.specs.Bitmap.{IsBitmap}
@@ -9,20 +9,20 @@ use Rattle.lw_machine.specs.Hook.{Hook}
 use Rattle.lw_machine.specs.Layer.{Layer, is_framed}
 use Rattle.lw_machine.specs.Arrangement.{new_layer}
 use Rattle.lw_machine.specs.Reveal.{width_in, height_in}
+use Rattle.lw_machine.proofs.CreatedSound.{blank_bitmap}
 use Rattle.lw_layer.specs.View.{State, CellView, hooked}
 use Rattle.lw_layer.specs.View as view
 use Rattle.lw_layer.specs.Drafts.{no_layer}
 use Rattle.lw_layer.specs.StandsFor.{IsSound}
 use Rattle.lw_stack.specs.Stack.{bounds_at}
 use Rattle.lw_arrange.specs.Arrangements.{ArrangementView}
-use Rattle.lw_arrange.specs.Prepared.{Created, created_by, created_live, becomes, with_bounds, without_layer, shown_at, cell_after, MayBecome, MayBe, MayOpen}
+use Rattle.lw_arrange.specs.Prepared.{Created, created_by, created_live, shown_at, cell_after, MayOpen}
 use Rattle.lw_arrange.specs.Filled.{gains, gains_some, filled_layer, AreGained}
 use Rattle.lw_arrange.proofs.BareLaws.{KeepsFrame, carried_bitmap, carried_bare, live_unfilled, new_unfilled}
-use Rattle.lw_arrange.proofs.OpenedLaws.{new_bitmap}
 use Rattle.lw_arrange.proofs.GainedRegions.{filled_region}
 use Rattle.lw_arrange.proofs.GainsLaws.{stayed}
 use Rattle.lw_engine.specs.Slots.{hook_in, bare, asked_hook, due_hook, filled_from, filled_as, is_sized, MayBeReady}
-use Rattle.lw_engine.proofs.SettlingLaws.{none_filled}
+use Rattle.lw_engine.proofs.SettlingLaws.{none_filled, cell_is, state_of_cell, may_become}
 
 -- a cell whose layer without a hook is as it is filled, where nothing is filled
 left_as : (b e : CellView) (rects : List Rectangle) → IsBitmap e.live.layer.bits → e.live.layer.hook ≡ None → rects ≡ []
@@ -49,13 +49,9 @@ no_rectangle = []
 -- a size that stays
 same_size : (r s : Rectangle) → is_sized r s ≡ false → (width_in (Some s) ≡ width_in (Some r)) × (height_in (Some s) ≡ height_in (Some r))
 same_size r s stays =
-    let both : ((width_in (Some r) == width_in (Some s)) && (height_in (Some r) == height_in (Some s))) ≡ true = turned _ stays in
+    let both : ((width_in (Some r) == width_in (Some s)) && (height_in (Some r) == height_in (Some s))) ≡ true = not-false _ stays in
     let parts = and_parts (width_in (Some r) == width_in (Some s)) (height_in (Some r) == height_in (Some s)) both in
     (sym (eqb-true _ _ parts.0), sym (eqb-true _ _ parts.1))
-  where
-    turned : (t : Bool) → not t ≡ false → t ≡ true
-    turned true is = refl
-    turned false is = absurd (cc is)
 
 pub filled_right : (a : ArrangementView) (shelf : List (Option Hook)) (c : CellView) (gained final : List Rectangle) (held sized : Bool) → MayBeReady a c
     → (c.state ≡ view.Live → IsSound (bare c).live) → ((c.state ≡ view.Live → ⊥) → (bare c).live ≡ no_layer) → IsCanonical final
@@ -87,26 +83,6 @@ filled_right a shelf c gained final held sized may sound idle canonical final_is
         let P : Option Hook → Type 0 = λ h. filled_from b h e ≡ filled_as h final e in
         subst P (sym (none_due a shelf c c.state (sym off ∙ held_is))) is
 
-    cell_as : (o : Option Rectangle) (s : State) → CellView
-    cell_as None s = without_layer b s
-    cell_as (Some r) s = with_bounds (created_by a.task a.call) a.stack.sizes.depth r (shown_at a n) b s
-
-    cell_is : (o : Option Rectangle) (s : State) → bounds_at a.stack.bounds n ≡ o → c.state ≡ s → e ≡ cell_as o s
-    cell_is None s bounds state = ap (becomes (created_by a.task a.call) a.stack.sizes.depth (shown_at a n) b) bounds ∙ ap (without_layer b) state
-    cell_is (Some r) s bounds state =
-        ap (becomes (created_by a.task a.call) a.stack.sizes.depth (shown_at a n) b) bounds
-        ∙ ap (with_bounds (created_by a.task a.call) a.stack.sizes.depth r (shown_at a n) b) state
-
-    state_of_cell : (u v : CellView) → u ≡ v → u.state ≡ v.state
-    state_of_cell u v is = ap (λ (q : CellView). q.state) is
-
-    may_become : (r : Rectangle) (s : State) → bounds_at a.stack.bounds n ≡ Some r → c.state ≡ s
-        → MayBecome (created_by a.task a.call) a.stack.sizes.depth r (shown_at a n) b s
-    may_become r s bounds state =
-        let P : Option Rectangle → Type 0 = λ o. MayBe (created_by a.task a.call) a.stack.sizes.depth (shown_at a n) b o in
-        let Q : State → Type 0 = λ t. MayBecome (created_by a.task a.call) a.stack.sizes.depth r (shown_at a n) b t in
-        subst Q state (subst P bounds may.prepare)
-
     no_list : (u : Bool) → (if u then no_rectangle else no_rectangle) ≡ no_rectangle
     no_list true = refl
     no_list false = refl
@@ -122,12 +98,12 @@ filled_right a shelf c gained final held sized may sound idle canonical final_is
         let depth = a.stack.sizes.depth in
         let made : CellView = record { number = n; state = view.Live; live = created_live (Some k) depth r (shown_at a n) } in
         let is : e ≡ made =
-        cell_is (Some r) view.Unopened bounds fresh ∙ ap (λ o. record { number = n; state = view.Live; live = created_live o depth r (shown_at a n) }) new
+        cell_is a c (Some r) view.Unopened bounds fresh ∙ ap (λ o. record { number = n; state = view.Live; live = created_live o depth r (shown_at a n) }) new
         in
         let plain : is_framed c.live.layer.window ≡ false = ap (λ v. is_framed v.layer.window) (idle (λ l. cc (fresh, l))) in
         let P : CellView → Type 0 = λ v. filled_from b None v ≡ filled_as None final v in
         subst P (sym is)
-        (left_as b made final (new_bitmap k.make.kind depth k.make) refl (final_none (without off plain))
+        (left_as b made final (blank_bitmap k.make.kind depth k.make) refl (final_none (without off plain))
         (new_unfilled k.make depth k.window (λ x y. gains b made x y) (gains_some b made)))
 
     -- a layer that stays live, without a hook
@@ -136,7 +112,7 @@ filled_right a shelf c gained final held sized may sound idle canonical final_is
     stays_right r off bounds was empty keeps =
         let to = stayed r (shown_at a n) b in
         let P : CellView → Type 0 = λ v. filled_from b None v ≡ filled_as None final v in
-        subst P (sym (cell_is (Some r) view.Live bounds was))
+        subst P (sym (cell_is a c (Some r) view.Live bounds was))
         (left_as b to final (carried_bitmap b.live r (shown_at a n) (sound was)) (carried_bare b.live r (shown_at a n) (sound was)) empty
         (live_unfilled b r (shown_at a n) (gains_some b to) was (sound was) keeps))
 
@@ -154,13 +130,13 @@ filled_right a shelf c gained final held sized may sound idle canonical final_is
 
     by_cases : (o : Option Rectangle) → bounds_at a.stack.bounds n ≡ o → (s : State) → c.state ≡ s → held ≡ false
         → filled_from b (due_hook a shelf c c.state) e ≡ filled_as (due_hook a shelf c c.state) final e
-    by_cases None bounds view.Unopened state off = absurd (cc (state_of_cell e b (cell_is None view.Unopened bounds state), state, live))
-    by_cases None bounds view.Live state off = absurd (cc (state_of_cell _ _ (cell_is None view.Live bounds state), live))
-    by_cases None bounds view.Closed state off = absurd (cc (state_of_cell e b (cell_is None view.Closed bounds state), state, live))
+    by_cases None bounds view.Unopened state off = absurd (cc (state_of_cell e b (cell_is a c None view.Unopened bounds state), state, live))
+    by_cases None bounds view.Live state off = absurd (cc (state_of_cell _ _ (cell_is a c None view.Live bounds state), live))
+    by_cases None bounds view.Closed state off = absurd (cc (state_of_cell e b (cell_is a c None view.Closed bounds state), state, live))
     by_cases (Some r) bounds view.Unopened state off =
-        bare_right off (opened_right r (created_by a.task a.call) off bounds state refl (may_become r view.Unopened bounds state))
+        bare_right off (opened_right r (created_by a.task a.call) off bounds state refl (may_become a c may r view.Unopened bounds state))
     by_cases (Some r) bounds view.Live state off = by_frame r (is_framed c.live.layer.window) sized off bounds state refl refl
-    by_cases (Some r) bounds view.Closed state off = absurd (cc (state_of_cell e b (cell_is (Some r) view.Closed bounds state), state, live))
+    by_cases (Some r) bounds view.Closed state off = absurd (cc (state_of_cell e b (cell_is a c (Some r) view.Closed bounds state), state, live))
 
     by_held : (t : Bool) → held ≡ t → filled_from b (due_hook a shelf c c.state) e ≡ filled_as (due_hook a shelf c c.state) final e
     by_held true on =

@@ -42,10 +42,6 @@ hooked_slot h s = change_layer (λ l. with_hook h l) s
 abbrev pub hooked_part : Option Hook → SlotPart → SlotPart
 hooked_part h p = record p { slot = hooked_slot h p.slot }
 
--- the desk with this hook on a slot's layer
-abbrev pub rehooked : Option Hook → Desk → ℕ → Desk
-rehooked h d n = on_layer d n (λ l. with_hook h l)
-
 -- the desk with this in every slot
 abbrev pub filled : Desk → Slot → Desk
 filled d s = record d { slot = λ _. s }
@@ -284,15 +280,6 @@ one_layer_unhooked h d task n call s class is =
     let far : IsLike (hooked_part h) (filled d (hooked_slot h s)) (filled d s) task n call = blind h d task n call s class in
     record { replies = near.replies ∙ far.replies; part = near.part ∙ far.part }
 
--- Whatever hook a layer has, a call on it answers the same, and leaves the same layer with that hook.
-pub one_layer_rehooked : (h : Option Hook) (d : Desk) (task n : ℕ) (call : Call) → class_of call ≡ OnLayer n → IsLike (hooked_part h) (rehooked h d n) d task n call
-one_layer_rehooked h d task n call class =
-    let s : Slot = d.slot n in
-    let there : (rehooked h d n).slot n ≡ hooked_slot h s = ap (λ t. if t then hooked_slot h s else s) (eq-eqb n n refl) in
-    let far : IsLike (hooked_part h) (rehooked h d n) (filled d s) task n call = one_layer_unhooked h (rehooked h d n) task n call s class there in
-    let near : IsLike (λ p. p) d (filled d s) task n call = alone d task n call class in
-    record { replies = far.replies ∙ sym near.replies; part = far.part ∙ ap (hooked_part h) (sym near.part) }
-
 -- a slot with another hook is as live
 live_alike : (h : Option Hook) (s : Slot) → is_live (hooked_slot h s) ≡ is_live s
 live_alike h layer.Unopened = refl
@@ -360,65 +347,6 @@ two_layers_second g h d task m n a s t apart from to =
     (pair_refuses d task m n a (hooked_slot g s) (hooked_slot h t) apart from to ∙
     (pair_refused_alike g h s t ∙ sym (pair_refuses e task m n a s t apart source there)))
     refl (ap (λ (q : Slot). record (slot_part d n) { slot = q }) before) (ap (λ (q : Slot). record (slot_part d n) { slot = q }) leaves)
-
--- the hook of a slot's layer, if it has one
-abbrev hook_of : Slot → Option Hook
-hook_of layer.Unopened = None
-hook_of (layer.Live l) = l.hook
-hook_of layer.Closed = None
-
-own_hook : (s : Slot) → s ≡ hooked_slot (hook_of s) s
-own_hook layer.Unopened = refl
-own_hook (layer.Live l) = refl
-own_hook layer.Closed = refl
-
--- of two hooks the later one stays
-later_hook : (h k : Option Hook) (s : Slot) → hooked_slot h s ≡ hooked_slot h (hooked_slot k s)
-later_hook h k layer.Unopened = refl
-later_hook h k (layer.Live l) = refl
-later_hook h k layer.Closed = refl
-
--- two desks that are like a third but for the hook
-like_third : (h k : Option Hook) (d e f : Desk) (task n : ℕ) (call : Call) → IsLike (hooked_part h) e f task n call → IsLike (hooked_part k) d f task n call → IsLike (hooked_part h) e d task n call
-like_third h k d e f task n call far near =
-    let p : SlotPart = slot_part (after f task call) n in
-    record {
-      replies = far.replies ∙ sym near.replies;
-      part = far.part ∙ (ap (λ (q : Slot). record p { slot = q }) (later_hook h k p.slot) ∙ ap (hooked_part h) (sym near.part));
-    }
-
--- numbers that aren't equal aren't so the other way round
-unequal : (m n : ℕ) (t : Bool) → (n == m) ≡ t → (m == n) ≡ false → (n == m) ≡ false
-unequal m n true same apart = absurd (false≢true (sym apart ∙ eq-eqb m n (sym (eqb-true n m same))))
-unequal m n false other apart = other
-
--- Whatever hooks two layers have, a blit from one to the other answers the same, and leaves the same layers with these hooks.
-blit_rehooked : (g h : Option Hook) (d : Desk) (task m n : ℕ) (a : Area) → (m == n) ≡ false → IsLike (hooked_part g) (rehooked h (rehooked g d m) n) d task m (Blit m n a) × IsLike (hooked_part h) (rehooked h (rehooked g d m) n) d task n (Blit m n a)
-blit_rehooked g h d task m n a apart =
-    let s : Slot = d.slot m in
-    let t : Slot = d.slot n in
-    let b : Desk = rehooked g d m in
-    let e : Desk = rehooked h b n in
-    let f : Desk = paired d n s t in
-    let call : Call = Blit m n a in
-    let from : e.slot m ≡ hooked_slot g s =
-    ap (λ u. if u then hooked_slot h (b.slot n) else b.slot m) apart ∙ ap (λ u. if u then hooked_slot g s else s) (eq-eqb m m refl) in
-    let to : e.slot n ≡ hooked_slot h t =
-    ap (λ u. if u then hooked_slot h (b.slot n) else b.slot n) (eq-eqb n n refl) ∙
-    ap (λ u. hooked_slot h (if u then hooked_slot g s else t)) (unequal m n (n == m) refl apart) in (
-      like_third g (hook_of s) d e f task m call (two_layers_first g h e task m n a s t apart from to)
-          (two_layers_first (hook_of s) (hook_of t) d task m n a s t apart (own_hook s) (own_hook t)),
-      like_third h (hook_of t) d e f task n call (two_layers_second g h e task m n a s t apart from to)
-          (two_layers_second (hook_of s) (hook_of t) d task m n a s t apart (own_hook s) (own_hook t)),
-    )
-
-pub two_layers_rehooked : (g h : Option Hook) (d : Desk) (task m n : ℕ) (call : Call) → class_of call ≡ OnLayers m n → IsLike (hooked_part g) (rehooked h (rehooked g d m) n) d task m call × IsLike (hooked_part h) (rehooked h (rehooked g d m) n) d task n call
-two_layers_rehooked g h d task m n (Blit i j a) class =
-    let told : ArePair i j m n = pair_told i j m n a class in
-    let call_is : Blit i j a ≡ Blit m n a = ap (λ k. Blit k j a) told.from ∙ ap (λ k. Blit m k a) told.to in
-    let P : Call → Type 0 = λ k. IsLike (hooked_part g) (rehooked h (rehooked g d m) n) d task m k × IsLike (hooked_part h) (rehooked h (rehooked g d m) n) d task n k in
-    subst P (sym call_is) (blit_rehooked g h d task m n a (pair_apart (Blit i j a) m n class))
-two_layers_rehooked g h d task m n call class = absurd (cc class)
 
 -- what a slot holds, by a cell's state and its live layer
 abbrev held : State → LiveView → Slot

@@ -1,8 +1,7 @@
 -- The parts of a desk before the first call.
-use Rattle.std.proofs.Common.{◌≡◌, ℕ, ◌+◌, ◌<◌, ◌≤◌, ◌⊎◌, inl, inr, List, [], ◌∷◌, ◌++◌, length, get_or, map, replicate, Option, None, IsTrue, ◌∙◌, sym, refl, ap, subst, arith}
+use Rattle.std.proofs.Common.{◌≡◌, ℕ, ◌+◌, ◌<◌, List, [], ◌∷◌, ◌++◌, length, get_or, map, replicate, Option, None, IsTrue, ◌∙◌, sym, refl, ap, subst, arith}
 use Rattle.std.specs.List.{range_with_len}
-use Rattle.std.proofs.lemmas.Bool.{cases_lt}
-use Rattle.std.proofs.lemmas.List.{get_or_past, length-replicate, get_or-replicate}
+use Rattle.std.proofs.lemmas.List.{length-replicate, get_or-replicate}
 use Rattle.std.proofs.lemmas.List.FromFn.{get_or-map-range_with_len, length-map-range_with_len, map-range_with_len_more}
 use Rattle.std.proofs.lemmas.List.Elements.{All-nil}
 use Rattle.std.proofs.lemmas.Option.{slice_get_within, get_or_from_slice_get}
@@ -19,7 +18,8 @@ use Rattle.lw_machine.specs.Parts.{slot_part}
 use Rattle.lw_machine.proofs.ReachedSound.{reached_sound}
 use Rattle.lw_layer.specs.View.{CellView}
 use Rattle.lw_layer.specs.StandsFor.{StandsFor}
-use Rattle.lw_stack.specs.Stack.{Stack, bounds_at}
+use Rattle.lw_stack.specs.Stack.{Stack}
+use Rattle.lw_stack.proofs.ListLaws.{nowhere}
 use Rattle.lw_engine.specs.Desks.{cell_at, hook_at}
 use Rattle.lw_engine.specs.Layers.{AreLayers, AreRegisters}
 use Rattle.lw_engine.specs.Desks.{unopened_cell}
@@ -32,14 +32,6 @@ no_layers sizes = record { sizes = sizes; front_to_back = []; bounds = replicate
 -- the cells of slots that weren't opened
 abbrev pub unopened_cells : Sizes → List CellView
 unopened_cells sizes = map unopened_cell (range_with_len 0 sizes.slots)
-
--- no slot has bounds
-nowhere : (n s : ℕ) → bounds_at (replicate n None) s ≡ None
-nowhere n s = by_order (cases_lt s n)
-  where
-    by_order : (s < n) ⊎ (n ≤ s) → bounds_at (replicate n None) s ≡ None
-    by_order (inl below) = get_or-replicate n s None None below
-    by_order (inr past) = get_or_past (replicate n None) s None (omega (arith, past, length-replicate {A = Option Rectangle}))
 
 -- the cell of each slot wasn't opened
 unopened : (sizes : Sizes) (s : ℕ) → s < sizes.slots → cell_at (unopened_cells sizes) s ≡ unopened_cell s

@@ -2,6 +2,7 @@
 use Rattle.std.proofs.Common.{◌≡◌, ℕ, ◌-◌, Bool, true, false, not, ◌&&◌, ◌||◌, List, [], ◌∷◌, ◌++◌, append-nil, Option, Some, None, ◌∙◌, sym, refl, ap, subst, ⊎_elim, arith}
 use Rattle.std.specs.Prelude.{if◌then◌else◌}
 use Rattle.std.proofs.lemmas.Bool.{cases_Bool}
+use Rattle.std.proofs.Math.Bool.{or-false}
 use Rattle.lw_region.specs.Rectangle.{Rectangle}
 use Rattle.lw_region.specs.Bands.{covers}
 use Rattle.lw_planes.specs.Grid.{grid, at}
@@ -16,6 +17,7 @@ use Rattle.lw_machine.specs.Desk.{is_the}
 use Rattle.lw_machine.specs.Arrangement.{bounds_of, new_layer}
 use Rattle.lw_machine.specs.Reveal.{Across, resized, with_revealed, revealed, frame_is_due, in_frame, framing_pen, framed_by, with_frame, with_due_frame, is_damaged, messages_due, refresh_is_put, window_told, with_messages, settled_layer}
 use Rattle.lw_machine.specs.Reveal as reveal
+use Rattle.lw_machine.proofs.RevealSound.{frameless_by}
 use Rattle.lw_layer.specs.View.{LiveView, CellView, keeps, with_live}
 use Rattle.lw_layer.specs.View as view
 use Rattle.lw_layer.specs.Drafts.{no_layer}
@@ -42,16 +44,9 @@ revealed_window q l = go (is_super l.kind)
     go true = refl
     go false = refl
 
--- a layer without a frame gets none
-unframed : (glyphs : List (List ℕ)) (kept : ℕ → ℕ → Bool) (active : Bool) (o : Option Window) (l : Layer) → is_framed o ≡ false
-    → framed_by glyphs kept active o l ≡ l
-unframed glyphs kept active None l none = refl
-unframed glyphs kept active (Some w) l none =
-    ap (λ t. if t then with_pens (λ x y. kept x y && in_frame l.bits.width l.bits.height x y) (λ x y. pen_within l.bits.depth (framing_pen glyphs w.title active l.bits.width x y)) l else l) none
-
 frameless : (glyphs : List (List ℕ)) (kept : ℕ → ℕ → Bool) (active t : Bool) (l : Layer) → is_framed l.window ≡ false
     → (if t then with_frame glyphs kept active l else l) ≡ l
-frameless glyphs kept active true l none = unframed glyphs kept active l.window l none
+frameless glyphs kept active true l none = frameless_by glyphs kept active l.window l none
 frameless glyphs kept active false l none = refl
 
 -- the frame of a layer that has one is painted where it is due
@@ -141,11 +136,7 @@ untold a n r l (Some w) none =
     let none_due : messages_due q l w ≡ [] = ap (λ t. if t then Refresh ∷ [] else []) put in
     ap (λ ms. Some (record w { port = w.port ++ ms; asked = w.asked || refresh_is_put l w })) none_due
     ∙ (ap (λ p. Some (record w { port = p; asked = w.asked || refresh_is_put l w })) (append-nil w.port)
-    ∙ (ap (λ t. Some (record w { asked = w.asked || t })) put ∙ ap (λ t. Some (record w { asked = t })) (or_false w.asked)))
-  where
-    or_false : (t : Bool) → (t || false) ≡ t
-    or_false true = refl
-    or_false false = refl
+    ∙ (ap (λ t. Some (record w { asked = w.asked || t })) put ∙ ap (λ t. Some (record w { asked = t })) (or-false w.asked)))
 
 -- A new slot that was revealed, then framed, is what the machine settles.
 pub new_settled : (glyphs : List (List ℕ)) (a : ArrangementView) (n : ℕ) (r : Rectangle) (new : Layer) (f : CellView)

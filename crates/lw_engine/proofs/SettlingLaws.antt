@@ -3,6 +3,7 @@ use Rattle.std.proofs.Common.{◌≡◌, ℕ, zero, suc, ◌+◌, ◌*◌, ◌==
 use Rattle.std.proofs.lemmas.Bool.Decides.{nat_tests}
 use Rattle.std.proofs.Math.Path.{fun_ext}
 use Rattle.std.proofs.lemmas.Nat.{pow_pos}
+use Rattle.std.proofs.Math.Bool.{and-false}
 use Rattle.lw_region.specs.Rectangle.{Rectangle}
 use Rattle.lw_region.specs.Bands.{covers}
 use Rattle.lw_region.specs.Banded.{IsCanonical}
@@ -28,7 +29,7 @@ use Rattle.lw_arrange.specs.Prepared.{Created, created_by, created_live, becomes
 use Rattle.lw_arrange.specs.Made.{IsPrepared}
 use Rattle.lw_arrange.specs.Filled.{keeps_if_live, counts_if_live, is_inside, gains, gains_some, AreGained}
 use Rattle.lw_arrange.specs.Settled.{new_of, settled_new, settled_with, settled_by}
-use Rattle.lw_arrange.proofs.FilledLaws.{none_passes, unfilled}
+use Rattle.lw_arrange.proofs.FilledLaws.{unfilled}
 use Rattle.lw_arrange.proofs.GainedRegions.{filled_region}
 use Rattle.lw_arrange.proofs.GainsLaws.{stayed}
 use Rattle.lw_engine.specs.declared.window_after.WindowAfter.{WindowAfter}
@@ -79,10 +80,6 @@ none_listed : (rects : List Rectangle) → (length rects == 0) ≡ true → rect
 none_listed [] none = refl
 none_listed (r ∷ rs) none = absurd (let some : (length (r ∷ rs) == 0) ≡ false = grind (arith, nat_tests) in cc (none, some))
 
-and_none : (b : Bool) → (b && false) ≡ false
-and_none true = refl
-and_none false = refl
-
 -- where no pixel is gained, nothing is filled
 pub none_filled : (c : CellView) (h : Option Hook) (gained : List Rectangle) → IsBitmap c.live.layer.bits → (length gained == 0) ≡ true
     → hooked h c ≡ filled_as h gained c
@@ -91,7 +88,7 @@ none_filled c h gained ok none =
     let off : (x y : ℕ) → on x y ≡ false =
     λ x y.
     ap (λ l. keeps c.live x y && covers l (pos x) (pos y)) (none_listed gained none)
-    ∙ (ap (λ t. keeps c.live x y && t) (covers_nil (pos x) (pos y)) ∙ and_none (keeps c.live x y))
+    ∙ (ap (λ t. keeps c.live x y && t) (covers_nil (pos x) (pos y)) ∙ and-false (keeps c.live x y))
     in
     ap (λ (q : Layer). record c { live = record c.live { layer = q } })
     (sym (unfilled c.live.layer h on (not (length gained == 0)) ok off (ap not none)))
@@ -122,6 +119,30 @@ zero_filled c e gained h solid_is is =
     in
     ap (hooked None) is ∙ ap Painted (fun_ext (λ x. fun_ext (λ y. zero x y)))
 
+-- what a cell becomes, by its bounds and its state
+abbrev pub cell_as : ArrangementView → CellView → Option Rectangle → State → CellView
+cell_as a c None s = without_layer (bare c) s
+cell_as a c (Some r) s = with_bounds (created_by a.task a.call) a.stack.sizes.depth r (shown_at a c.number) (bare c) s
+
+pub cell_is : (a : ArrangementView) (c : CellView) (o : Option Rectangle) (s : State) → bounds_at a.stack.bounds c.number ≡ o → c.state ≡ s
+    → cell_after a (bare c) ≡ cell_as a c o s
+cell_is a c None s bounds state =
+    ap (becomes (created_by a.task a.call) a.stack.sizes.depth (shown_at a c.number) (bare c)) bounds ∙ ap (without_layer (bare c)) state
+cell_is a c (Some r) s bounds state =
+    ap (becomes (created_by a.task a.call) a.stack.sizes.depth (shown_at a c.number) (bare c)) bounds
+    ∙ ap (with_bounds (created_by a.task a.call) a.stack.sizes.depth r (shown_at a c.number) (bare c)) state
+
+pub state_of_cell : (u v : CellView) → u ≡ v → u.state ≡ v.state
+state_of_cell u v is = ap (λ (q : CellView). q.state) is
+
+-- what holds of a slot with bounds afterwards
+pub may_become : (a : ArrangementView) (c : CellView) → MayBeReady a c → (r : Rectangle) (s : State) → bounds_at a.stack.bounds c.number ≡ Some r
+    → c.state ≡ s → MayBecome (created_by a.task a.call) a.stack.sizes.depth r (shown_at a c.number) (bare c) s
+may_become a c may r s bounds state =
+    let P : Option Rectangle → Type 0 = λ o. MayBe (created_by a.task a.call) a.stack.sizes.depth (shown_at a c.number) (bare c) o in
+    let Q : State → Type 0 = λ t. MayBecome (created_by a.task a.call) a.stack.sizes.depth r (shown_at a c.number) (bare c) t in
+    subst Q state (subst P bounds may.prepare)
+
 -- what is ready for a slot by its bounds and its state
 pub ready_settled : (glyphs : List (List ℕ)) (a : ArrangementView) (shelf : List (Option Hook)) (c : CellView) (p : Prepared) (gained : List Rectangle)
     (w : WindowAfter) → MayBeReady a c → (c.state ≡ view.Live → IsSound (bare c).live)
@@ -144,32 +165,14 @@ ready_settled glyphs a shelf c p gained w may sound ready filled after = by_case
     h : Option Hook
     h = asked_hook shelf a.call n
 
-    -- the cell and the slot afterwards, by the bounds and the state
-    cell_as : (o : Option Rectangle) (s : State) → CellView
-    cell_as None s = without_layer b s
-    cell_as (Some r) s = with_bounds (created_by a.task a.call) a.stack.sizes.depth r (shown_at a n) b s
-
+    -- the slot afterwards, by the bounds and the state
     slot_as : (o : Option Rectangle) (s : State) → CellView
     slot_as None s = without_layer c s
     slot_as (Some r) s = settled_with glyphs a h c r s
 
-    cell_is : (o : Option Rectangle) (s : State) → bounds_at a.stack.bounds n ≡ o → c.state ≡ s → e ≡ cell_as o s
-    cell_is None s bounds state = ap (becomes (created_by a.task a.call) a.stack.sizes.depth (shown_at a n) b) bounds ∙ ap (without_layer b) state
-    cell_is (Some r) s bounds state =
-        ap (becomes (created_by a.task a.call) a.stack.sizes.depth (shown_at a n) b) bounds
-        ∙ ap (with_bounds (created_by a.task a.call) a.stack.sizes.depth r (shown_at a n) b) state
-
     slot_is : (o : Option Rectangle) (s : State) → bounds_at a.stack.bounds n ≡ o → c.state ≡ s → slot_after glyphs a shelf c ≡ slot_as o s
     slot_is None s bounds state = ap (settled_by glyphs a h c) bounds ∙ ap (without_layer c) state
     slot_is (Some r) s bounds state = ap (settled_by glyphs a h c) bounds ∙ ap (settled_with glyphs a h c r) state
-
-    -- what holds of a slot with bounds afterwards
-    may_become : (r : Rectangle) (s : State) → bounds_at a.stack.bounds n ≡ Some r → c.state ≡ s
-        → MayBecome (created_by a.task a.call) a.stack.sizes.depth r (shown_at a n) b s
-    may_become r s bounds state =
-        let P : Option Rectangle → Type 0 = λ o. MayBe (created_by a.task a.call) a.stack.sizes.depth (shown_at a n) b o in
-        let Q : State → Type 0 = λ t. MayBecome (created_by a.task a.call) a.stack.sizes.depth r (shown_at a n) b t in
-        subst Q state (subst P bounds may.prepare)
 
     -- a layer that stays live, and is what it was once what it gains is filled
     followed_live : (r : Rectangle) (f : CellView) → bounds_at a.stack.bounds n ≡ Some r → c.state ≡ view.Live
@@ -188,7 +191,7 @@ ready_settled glyphs a shelf c p gained w may sound ready filled after = by_case
         let depth = a.stack.sizes.depth in
         let made : CellView = record { number = n; state = view.Live; live = created_live (Some k) depth r (shown_at a n) } in
         let cell : e ≡ made =
-        cell_is (Some r) view.Unopened bounds fresh ∙ ap (λ o. record { number = n; state = view.Live; live = created_live o depth r (shown_at a n) }) new
+        cell_is a c (Some r) view.Unopened bounds fresh ∙ ap (λ o. record { number = n; state = view.Live; live = created_live o depth r (shown_at a n) }) new
         in
         let layer = new_of (Some k) depth h in
         let P : State → Type 0 = λ s. filled_from b (due_hook a shelf c s) e ≡ filled_as (due_hook a shelf c s) gained e in
@@ -200,9 +203,6 @@ ready_settled glyphs a shelf c p gained w may sound ready filled after = by_case
         (sym right ∙ (ap (filled_from b h) cell ∙ new_filled a c r k.make k.window depth h fresh place))
         (new_undamaged a c r k.make k.window depth h fresh place))
 
-    state_of_cell : (u v : CellView) → u ≡ v → u.state ≡ v.state
-    state_of_cell u v is = ap (λ (q : CellView). q.state) is
-
     still : (s : State) → c.state ≡ s → IsStill glyphs c (slot_after glyphs a shelf c) w s → IsSettledBy glyphs c (slot_after glyphs a shelf c) gained h w Stays
     still s state is = let P : State → Type 0 = λ t. IsStill glyphs c (slot_after glyphs a shelf c) w t in subst P (sym state) is
 
@@ -210,22 +210,22 @@ ready_settled glyphs a shelf c p gained w may sound ready filled after = by_case
         → IsSettledBy glyphs c (slot_after glyphs a shelf c) gained h w p
     by_cases None bounds view.Unopened state Stays ready = still view.Unopened state (slot_is None view.Unopened bounds state)
     by_cases None bounds view.Unopened state Closes ready = absurd (cc (state, ready.0))
-    by_cases None bounds view.Unopened state (Opens d) ready = absurd (cc (state_of_cell e b (cell_is None view.Unopened bounds state), state, state_of_cell _ _ ready.2))
+    by_cases None bounds view.Unopened state (Opens d) ready = absurd (cc (state_of_cell e b (cell_is a c None view.Unopened bounds state), state, state_of_cell _ _ ready.2))
     by_cases None bounds view.Unopened state (Changes k) ready = absurd (cc (state, ready.0))
-    by_cases None bounds view.Live state Stays ready = absurd (cc (state_of_cell _ _ (cell_is None view.Live bounds state), state))
+    by_cases None bounds view.Live state Stays ready = absurd (cc (state_of_cell _ _ (cell_is a c None view.Live bounds state), state))
     by_cases None bounds view.Live state Closes ready = (state, slot_is None view.Live bounds state)
     by_cases None bounds view.Live state (Opens d) ready = absurd (cc (state, ready.0))
-    by_cases None bounds view.Live state (Changes k) ready = absurd (cc (state_of_cell _ _ (cell_is None view.Live bounds state), state, state_of_cell _ _ ready.2))
+    by_cases None bounds view.Live state (Changes k) ready = absurd (cc (state_of_cell _ _ (cell_is a c None view.Live bounds state), state, state_of_cell _ _ ready.2))
     by_cases None bounds view.Closed state Stays ready = still view.Closed state (slot_is None view.Closed bounds state)
     by_cases None bounds view.Closed state Closes ready = absurd (cc (state, ready.0))
     by_cases None bounds view.Closed state (Opens d) ready = absurd (cc (state, ready.0))
     by_cases None bounds view.Closed state (Changes k) ready = absurd (cc (state, ready.0))
-    by_cases (Some r) bounds view.Unopened state Stays ready = absurd (cc (state_of_cell _ _ (cell_is (Some r) view.Unopened bounds state), state))
+    by_cases (Some r) bounds view.Unopened state Stays ready = absurd (cc (state_of_cell _ _ (cell_is a c (Some r) view.Unopened bounds state), state))
     by_cases (Some r) bounds view.Unopened state Closes ready = absurd (cc (state, ready.0))
     by_cases (Some r) bounds view.Unopened state (Opens d) ready = (
       state,
       ready.1,
-      opened_new r (created_by a.task a.call) bounds state refl (may_become r view.Unopened bounds state) (state_of_cell _ _ ready.2)
+      opened_new r (created_by a.task a.call) bounds state refl (may_become a c may r view.Unopened bounds state) (state_of_cell _ _ ready.2)
           ∙ ap (λ v. with_own_frame glyphs false (filled_as h gained v)) ready.2,
     )
     by_cases (Some r) bounds view.Unopened state (Changes k) ready = absurd (cc (state, ready.0))
@@ -236,10 +236,10 @@ ready_settled glyphs a shelf c p gained w may sound ready filled after = by_case
           (after state r bounds).done,
           followed_live r c bounds state
               (sym (stays_filled c (sound state).bits.bitmap)
-              ∙ ap (filled_from b (hook_in c)) (sym ready ∙ cell_is (Some r) view.Live bounds state)),
+              ∙ ap (filled_from b (hook_in c)) (sym ready ∙ cell_is a c (Some r) view.Live bounds state)),
         )
     by_cases (Some r) bounds view.Live state Closes ready =
-        absurd (cc (state_of_cell _ _ (cell_is (Some r) view.Live bounds state), state, state_of_cell _ _ ready.1))
+        absurd (cc (state_of_cell _ _ (cell_is a c (Some r) view.Live bounds state), state, state_of_cell _ _ ready.1))
     by_cases (Some r) bounds view.Live state (Opens d) ready = absurd (cc (state, ready.0))
     by_cases (Some r) bounds view.Live state (Changes k) ready =
         let live : e.state ≡ view.Live = state_of_cell _ _ ready.2 ∙ state in
@@ -252,7 +252,7 @@ ready_settled glyphs a shelf c p gained w may sound ready filled after = by_case
           (after state r bounds).done,
           followed_live r _ bounds state
               (ap (filled_as (hook_in c) gained) (sym ready.2)
-              ∙ (sym right ∙ ap (filled_from b (hook_in c)) (cell_is (Some r) view.Live bounds state))),
+              ∙ (sym right ∙ ap (filled_from b (hook_in c)) (cell_is a c (Some r) view.Live bounds state))),
         )
     by_cases (Some r) bounds view.Closed state Stays ready = still view.Closed state (slot_is (Some r) view.Closed bounds state)
     by_cases (Some r) bounds view.Closed state Closes ready = absurd (cc (state, ready.0))

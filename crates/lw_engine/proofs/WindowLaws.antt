@@ -7,15 +7,14 @@ use Rattle.lw_machine.specs.Layer.{Layer, is_framed}
 use Rattle.lw_machine.specs.Desk.{is_the}
 use Rattle.lw_machine.specs.Shapes.{differ}
 use Rattle.lw_machine.specs.Reveal.{Across, same_bounds, some_now, fills, is_inner, revealed}
-use Rattle.lw_layer.specs.View.{State, LiveView, CellView, hooked}
+use Rattle.lw_layer.specs.View.{State, CellView, hooked}
 use Rattle.lw_layer.specs.View as view
 use Rattle.lw_layer.specs.Looks.{IsLook, IsLookAt}
 use Rattle.lw_layer.specs.StandsFor.{IsSound}
 use Rattle.lw_layer.specs.declared.look.Look.{Look}
 use Rattle.lw_stack.specs.Stack.{bounds_at}
-use Rattle.lw_reveal.specs.Changed.{MayHave}
 use Rattle.lw_arrange.specs.Arrangements.{ArrangementView}
-use Rattle.lw_arrange.specs.Prepared.{created_by, becomes, with_bounds, shown_at, cell_after, MayBecome, MayBe, MayPrepare}
+use Rattle.lw_arrange.specs.Prepared.{created_by, becomes, with_bounds, shown_at, cell_after}
 use Rattle.lw_arrange.specs.Filled.{AreGained}
 use Rattle.lw_arrange.specs.Framed.{IsFrameGained}
 use Rattle.lw_arrange.proofs.FilledLaws.{with_hook}
@@ -24,22 +23,8 @@ use Rattle.lw_arrange.proofs.GainsLaws.{stayed}
 use Rattle.lw_engine.specs.declared.window_after.WindowAfter.{WindowAfter}
 use Rattle.lw_engine.specs.Slots.{is_sized, across_live, IsWindowAfter}
 
--- a look is of a live layer
-pub look_live : (s : State) (k : LiveView) (look : Look) → IsLookAt s k (Some look) → s ≡ view.Live
-look_live view.Unopened k look is = absurd (cc is)
-look_live view.Live k look is = refl
-look_live view.Closed k look is = absurd (cc is)
-
 pub look_of : (c : CellView) (look : Look) → c.state ≡ view.Live → IsLookAt c.state c.live (Some look) → IsLook c.live look
 look_of c look live is = let P : State → Type 0 = λ s. IsLookAt s c.live (Some look) in subst P live is
-
--- a layer that stays live may have its new bounds
-pub may_have : (a : ArrangementView) (c : CellView) (r : Rectangle) → MayPrepare a c → c.state ≡ view.Live → bounds_at a.stack.bounds c.number ≡ Some r
-    → MayHave c.live r (shown_at a c.number)
-may_have a c r may live bounds =
-    let P : Option Rectangle → Type 0 = λ o. MayBe (created_by a.task a.call) a.stack.sizes.depth (shown_at a c.number) c o in
-    let Q : State → Type 0 = λ t. MayBecome (created_by a.task a.call) a.stack.sizes.depth r (shown_at a c.number) c t in
-    subst Q live (subst P bounds may)
 
 -- it becomes the layer with these
 stays_live : (a : ArrangementView) (c : CellView) (r : Rectangle) → c.state ≡ view.Live → bounds_at a.stack.bounds c.number ≡ Some r

@@ -1,8 +1,8 @@
 -- The pens of a layer where it is visible, rectangle by rectangle.
 use Rattle.std.proofs.Common.{◌≡◌, ℕ, ◌+◌, ◌<◌, ◌≤◌, Bool, true, false, ◌||◌, if◌then◌else◌, ℤ, pos, ◌≤ℤ◌, List, [], ◌∷◌, length, take, get_or, Option, Some, None, ◌∙◌, sym, refl, ap, subst, arith}
 use Rattle.std.specs.Option.{is_some}
+use Rattle.std.specs.Int.Signed.{≤ℤ_refl}
 use Rattle.std.proofs.lemmas.Bool.{and_parts, and_from}
-use Rattle.std.proofs.lemmas.Int.{ints}
 use Rattle.std.proofs.lemmas.List.{take_more, take_all}
 use Rattle.lw_region.specs.Rectangle.{Rectangle, has_pixel, IsOrdered}
 use Rattle.lw_region.specs.Bands.{covers}
@@ -49,9 +49,6 @@ covers_next rects n r inside is x y =
     ∙ (ap (λ t. covers (take n rects) (pos x) (pos y) || t) (covers_one (get_or rects n r) (pos x) (pos y))
     ∙ ap (λ q. covers (take n rects) (pos x) (pos y) || has_pixel q (pos x) (pos y)) (sym is)))
 
-same_place : (z : ℤ) → z ≤ℤ z
-same_place z = omega (arith, ints)
-
 -- a visible rectangle is a part of its layer
 pub visible_part : (b : Bitmap) (c : LiveView) (visible : List Rectangle) (n : ℕ) (r : Rectangle) → IsSound c → LiesOn b c → visible ≡ c.visible → n < length visible → r ≡ get_or visible n r → IsPartOn b c r
 visible_part b c visible n r ok on shown inside is =
@@ -59,8 +56,8 @@ visible_part b c visible n r ok on shown inside is =
     let read : r ≡ get_or c.visible n r = is ∙ ap (λ rs. get_or rs n r) shown in
     let ordered : IsOrdered r = subst IsOrdered (sym read) (canonical_ordered c.visible ok.canonical n r listed) in
     let has : (x y : ℤ) → has_pixel r x y ≡ true → has_pixel c.bounds x y ≡ true = λ x y h. ok.inside x y (has_at c.visible n r x y listed (ap (λ q. has_pixel q x y) (sym read) ∙ h)) in
-    let first = and_parts _ _ (has r.min_x r.min_y (and_from _ _ (within_true r.min_x r.min_x r.max_x (same_place r.min_x) ordered.columns) (within_true r.min_y r.min_y r.max_y (same_place r.min_y) ordered.rows))) in
-    let last = and_parts _ _ (has r.max_x r.max_y (and_from _ _ (within_true r.min_x r.max_x r.max_x ordered.columns (same_place r.max_x)) (within_true r.min_y r.max_y r.max_y ordered.rows (same_place r.max_y)))) in
+    let first = and_parts _ _ (has r.min_x r.min_y (and_from _ _ (within_true r.min_x r.min_x r.max_x (≤ℤ_refl r.min_x) ordered.columns) (within_true r.min_y r.min_y r.max_y (≤ℤ_refl r.min_y) ordered.rows))) in
+    let last = and_parts _ _ (has r.max_x r.max_y (and_from _ _ (within_true r.min_x r.max_x r.max_x ordered.columns (≤ℤ_refl r.max_x)) (within_true r.min_y r.max_y r.max_y ordered.rows (≤ℤ_refl r.max_y)))) in
     record {
       sound = ok;
       on = on;

@@ -56,13 +56,6 @@ scroll_small c ok =
     let lower = ok.scrolled.lower in
     (omega (arith, ok.bits.sizes.columns.1), omega (arith, ok.bits.sizes.rows.1))
 
--- what is added to a place, as the code has it
-pub offset_low : (told : ℤ) (s : ℕ) → told ≡ pos s → s ≤ 2048 → pos 0 ≤ℤ to_z w32 (of_z w32 told)
-offset_low told s is small = omega (arith, ints)
-
-pub offset_near : (told : ℤ) (s : ℕ) → told ≡ pos s → s ≤ 2048 → to_z w32 (of_z w32 told) ≤ℤ pos 2048
-offset_near told s is small = omega (arith, ints)
-
 pub offset_told : (edge got told result : ℤ) (s : ℕ) → FitsSigned w16 got → got ≡ edge → told ≡ pos s → s ≤ 2048 → result ≡ to_z w32 (of_z w32 told) -ℤ to_z w16 (of_z w16 got) → result ≡ pos s -ℤ edge
 offset_told edge got told result s fits is told_is small result_is = omega (arith, ints)
 

@@ -1,40 +1,28 @@
 -- Pens that are written into a bitmap: plane by plane, line by line.
-use Rattle.std.proofs.Common.{◌≡◌, ◌≢◌, ℕ, ◌+◌, ◌-◌, ◌==◌, ◌<◌, ◌≤◌, ◌^◌, Bool, true, false, ◌&&◌, ◌||◌, nat_lt, if◌then◌else◌, ℤ, pos, ◌+ℤ◌, ◌≤ℤ◌, List, length, inl, inr, ◌∙◌, sym, refl, ap, subst, arith, ⊎_elim}
+use Rattle.std.proofs.Common.{◌≡◌, ℕ, ◌+◌, ◌-◌, ◌==◌, ◌<◌, ◌≤◌, ◌^◌, Bool, true, false, ◌&&◌, ◌||◌, if◌then◌else◌, ℤ, pos, ◌+ℤ◌, ◌≤ℤ◌, List, length, ◌∙◌, sym, refl, ap, subst, arith}
 use Rattle.std.specs.Int.{bit_at}
-use Rattle.std.proofs.lemmas.Bool.{cases_eq, cases_lt, and_from}
+use Rattle.std.proofs.lemmas.Bool.{and_from}
 use Rattle.std.proofs.lemmas.Bool.Decides.{nat_tests}
 use Rattle.std.proofs.lemmas.Int.{ints}
-use Rattle.std.proofs.lemmas.Nat.{pow_pos}
-use Rattle.std.proofs.lemmas.Nat.Bits.{bit_at-lt}
 use Rattle.lw_region.specs.Rectangle.{Rectangle, within, has_pixel}
 use Rattle.lw_region.proofs.Within.{within_true, within_low, within_high}
-use Rattle.lw_planes.specs.Pen.{pen_of}
 use Rattle.lw_planes.specs.Row.{row_bit}
-use Rattle.lw_planes.specs.Bitmap.{Bitmap, IsBitmap, bitmap, pen_at, row_bytes}
+use Rattle.lw_planes.specs.Bitmap.{Bitmap, IsBitmap, pen_at, row_bytes}
 use Rattle.lw_planes.specs.Sizes.{IsPlanes}
 use Rattle.lw_planes.specs.Change.{with_row}
-use Rattle.lw_planes.proofs.PenLaws.{pen_of_same, pen_of_lt, bit_pen_of, pen_same}
+use Rattle.lw_planes.proofs.PenLaws.{pen_of_same}
 use Rattle.lw_planes.proofs.RowLaws.{row_bit_lt}
-use Rattle.lw_planes.proofs.GridLaws.{grid_past_column, grid_past_row}
-use Rattle.lw_planes.proofs.BitmapLaws.{IsBitmap_bitmap, pen_at_bitmap, bitmap_again, bitmap_from_pens, bitmap_same}
+use Rattle.lw_planes.proofs.BitmapLaws.{bitmap_same}
 use Rattle.lw_planes.proofs.WriteLaws.{with_row_plane_row}
+use Rattle.lw_planes.proofs.ChosenLaws.{line_bit, chosen_planes, chosen_nowhere, chosen_more, chosen_alike, chosen_whole}
 use Rattle.lw_kernels.specs.Kernel.{is_named, blit_bit}
 use Rattle.lw_kernels.proofs.ByteLaws.{minterm_copies}
 use Rattle.lw_layer.specs.View.{LiveView}
 use Rattle.lw_final.specs.Shown.{with_bits, with_pens, LiesOn, IsPartOn, in_line, in_lines_above, in_rectangle}
 
--- a bit of one of two pens
-bit_small : (t : Bool) (a b p : ℕ) → (if t then bit_at a p else bit_at b p) < 2
-bit_small true a b p = bit_at-lt a p
-bit_small false a b p = bit_at-lt b p
-
 pub bits_planes : (on : ℕ → ℕ → ℕ → Bool) (pens : ℕ → ℕ → ℕ) (b new : Bitmap) → new ≡ with_bits on pens b → IsPlanes b → IsPlanes new
 unfolding with_bits
-bits_planes on pens b new is ok =
-    subst IsPlanes (sym is) (record {
-      bitmap = IsBitmap_bitmap b.width b.height b.depth _ (λ x y left low. pen_of_lt b.depth _ (λ p deep. bit_small (on p x y) (pens x y) (pen_at b x y) p));
-      sizes = ok.sizes;
-    })
+bits_planes on pens b new is ok = subst IsPlanes (sym is) (chosen_planes on pens b ok)
 
 pub bits_depth : (on : ℕ → ℕ → ℕ → Bool) (pens : ℕ → ℕ → ℕ) (b new : Bitmap) → new ≡ with_bits on pens b → new.depth ≡ b.depth
 unfolding with_bits
@@ -72,89 +60,22 @@ part_stays on pens b new c r is part = part_again b new c r (ap (λ (q : Bitmap)
 -- nothing is written
 pub bits_nowhere : (on : ℕ → ℕ → ℕ → Bool) (pens : ℕ → ℕ → ℕ) (b : Bitmap) → IsBitmap b → ((p x y : ℕ) → on p x y ≡ false) → b ≡ with_bits on pens b
 unfolding with_bits
-bits_nowhere on pens b ok none =
-    bitmap_from_pens b _ ok
-    (λ x y left low.
-    sym (pen_of_same b.depth (λ p. if on p x y then bit_at (pens x y) p else bit_at (pen_at b x y) p) (λ p. bit_at (pen_at b x y) p)
-    (λ p deep. ap (λ t. if t then bit_at (pens x y) p else bit_at (pen_at b x y) p) (none p x y)) ∙ pen_same b.depth (pen_at b x y) (ok.pens x y left low)))
-
--- a choice after a choice
-either : (t u : Bool) (a b : ℕ) → (if t then a else (if u then a else b)) ≡ (if (t || u) then a else b)
-either true u a b = refl
-either false u a b = refl
+bits_nowhere on pens b ok none = chosen_nowhere on pens b ok none
 
 -- more bits are written
 pub bits_more : (on more both : ℕ → ℕ → ℕ → Bool) (pens : ℕ → ℕ → ℕ) (b c d : Bitmap) → c ≡ with_bits on pens b → d ≡ with_bits more pens c → ((p x y : ℕ) → both p x y ≡ (more p x y || on p x y)) → d ≡ with_bits both pens b
 unfolding with_bits
-bits_more on more both pens b c d was is whole =
-    is ∙ (ap (with_bits more pens) was ∙
-    bitmap_same b.width b.height b.depth _ _
-    (λ x y left low.
-    pen_of_same b.depth _ _
-    (λ p deep.
-    let old : bit_at (pen_at (with_bits on pens b) x y) p ≡ (if on p x y then bit_at (pens x y) p else bit_at (pen_at b x y) p) =
-    ap (λ q. bit_at q p) (pen_at_bitmap b.width b.height b.depth _ x y left low)
-    ∙ bit_pen_of b.depth (λ i. if on i x y then bit_at (pens x y) i else bit_at (pen_at b x y) i) p (λ i _. bit_small (on i x y) (pens x y) (pen_at b x y) i) deep
-    in
-    ap (λ q. if more p x y then bit_at (pens x y) p else q) old
-    ∙ (either (more p x y) (on p x y) (bit_at (pens x y) p) (bit_at (pen_at b x y) p)
-    ∙ ap (λ t. if t then bit_at (pens x y) p else bit_at (pen_at b x y) p) (sym (whole p x y))))))
+bits_more on more both pens b c d was is whole = chosen_more on more both pens b c d was is (λ p x y _. whole p x y)
 
 -- the same bits are written
 pub bits_same : (on again : ℕ → ℕ → ℕ → Bool) (pens : ℕ → ℕ → ℕ) (b c : Bitmap) → c ≡ with_bits on pens b → ((p x y : ℕ) → p < b.depth → on p x y ≡ again p x y) → c ≡ with_bits again pens b
 unfolding with_bits
-bits_same on again pens b c is same =
-    is ∙ bitmap_same b.width b.height b.depth _ _
-    (λ x y left low. pen_of_same b.depth _ _
-    (λ p deep. ap (λ t. if t then bit_at (pens x y) p else bit_at (pen_at b x y) p) (same p x y deep)))
-
--- a pen written in all planes
-whole_pen : (t : Bool) (n a b : ℕ) → a < 2 ^ n → b < 2 ^ n → pen_of n (λ p. if t then bit_at a p else bit_at b p) ≡ (if t then a else b)
-whole_pen true n a b first second = pen_same n a first
-whole_pen false n a b first second = pen_same n b second
+bits_same on again pens b c is same = chosen_alike on again pens b c is same
 
 -- all planes are written
 pub bits_whole : (on : ℕ → ℕ → ℕ → Bool) (all : ℕ → ℕ → Bool) (pens : ℕ → ℕ → ℕ) (b c : Bitmap) → IsBitmap b → c ≡ with_bits on pens b → ((p x y : ℕ) → p < b.depth → on p x y ≡ all x y) → ((x y : ℕ) → pens x y < 2 ^ b.depth) → c ≡ with_pens all pens b
 unfolding with_bits
-bits_whole on all pens b c ok is same small =
-    bits_same on (λ p x y. all x y) pens b c is same
-    ∙ bitmap_same b.width b.height b.depth _ _ (λ x y left low. whole_pen (all x y) b.depth (pens x y) (pen_at b x y) (small x y) (ok.pens x y left low))
-
--- any pen of a bitmap, and the pen 0 off it, is of its planes
-pub pen_small : (b : Bitmap) (x y : ℕ) → IsPlanes b → pen_at b x y < 2 ^ b.depth
-pen_small b x y ok =
-    let some : 0 < 2 ^ b.depth = pow_pos b.depth in
-    let off : pen_at b x y ≡ 0 → pen_at b x y < 2 ^ b.depth = λ zero. omega (arith, some, zero) in
-    let again : pen_at b x y ≡ pen_at (bitmap b.width b.height b.depth (λ i j. pen_at b i j)) x y = ap (λ q. pen_at q x y) (sym (bitmap_again b ok.bitmap)) in
-    elim (cases_lt y b.height) [
-      | inl low ↦ elim (cases_lt x b.width) [
-        | inl left ↦ ok.bitmap.pens x y left low
-        | inr past ↦ off (again ∙ grid_past_column b.width b.height (λ i j. pen_at b i j) 0 x y past low)
-      ]
-      | inr past ↦ off (again ∙ grid_past_row b.width b.height (λ i j. pen_at b i j) 0 x y past)
-    ]
-
-and_true : (t : Bool) (a b : ℕ) → (if t then a else b) ≡ (if (t && true) then a else b)
-and_true true a b = refl
-and_true false a b = refl
-
-and_false : (t : Bool) → (t && false) ≡ false
-and_false true = refl
-and_false false = refl
-
--- one bit once a line of a plane was written
-line_bit : (p q j y : ℕ) (t : Bool) (new old : ℕ → ℕ → ℕ) → (if p == q && j == y then (if t then new y q else old y q) else old j p) ≡ (if p == q && (t && j == y) then new j p else old j p)
-line_bit p q j y t new old =
-    ⊎_elim
-    (λ (same : p ≡ q). ⊎_elim
-    (λ (here : j ≡ y).
-    let plane : (q == q) ≡ true = grind (arith, nat_tests) in
-    let row : (y == y) ≡ true = grind (arith, nat_tests) in
-    rw (same, here) (rw (plane, row) (and_true t (new y q) (old y q))))
-    (λ (off : j ≢ y). let row : (j == y) ≡ false = grind (arith, nat_tests) in rw row (rw (and_false (p == q), and_false t) (rw (and_false (p == q)) refl)))
-    (cases_eq j y))
-    (λ (other : p ≢ q). let plane : (p == q) ≡ false = grind (arith, nat_tests) in rw plane refl)
-    (cases_eq p q)
+bits_whole on all pens b c ok is same small = chosen_whole on all pens b c ok is same (λ x y _. small x y)
 
 -- the columns that a part has are those that are written
 pub named_within : (x from count : ℕ) (low high : ℤ) → low ≤ℤ high → pos from ≡ low → pos (from + count) ≡ high +ℤ pos 1 → is_named from count x ≡ within low (pos x) high
@@ -199,16 +120,6 @@ next_line p plane x y line r late = grind (arith, nat_tests, ints)
 pub all_lines : (p plane x y line : ℕ) (r : Rectangle) → pos line ≡ r.max_y +ℤ pos 1 → (p == plane && in_lines_above r line x y) ≡ (p == plane && in_rectangle r x y)
 unfolding within
 all_lines p plane x y line r end = grind (arith, nat_tests, ints)
-
--- before the first plane, one plane more, and all planes
-pub no_plane : (p : ℕ) (more : Bool) → (nat_lt p 0 && more) ≡ false
-no_plane p more = grind (arith, nat_tests)
-
-pub next_plane : (p plane : ℕ) (more : Bool) → (nat_lt p (plane + 1) && more) ≡ ((p == plane && more) || (nat_lt p plane && more))
-next_plane p plane more = grind (arith, nat_tests)
-
-pub all_planes : (p n : ℕ) (more : Bool) → p < n → (nat_lt p n && more) ≡ more
-all_planes p n more below = let is : nat_lt p n ≡ true = grind (arith, nat_tests) in rw is refl
 
 -- the lines of a part are lines of the bitmap
 pub part_line : (b : Bitmap) (c : LiveView) (r : Rectangle) (line : ℕ) → IsPartOn b c r → within r.min_y (pos line) r.max_y ≡ true → line < b.height

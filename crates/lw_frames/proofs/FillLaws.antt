@@ -1,6 +1,7 @@
 -- Laws of the fills of a frame.
-use Rattle.std.proofs.Common.{◌≡◌, ℕ, ◌+◌, ◌<◌, ◌≤◌, Bool, true, false, ◌&&◌, ◌||◌, List, [], None, take, get_or, length, ◌∙◌, sym, refl, ap, pos}
+use Rattle.std.proofs.Common.{◌≡◌, ℕ, ◌+◌, ◌<◌, ◌≤◌, Bool, true, false, ◌&&◌, ◌||◌, List, [], None, take, get_or, length, ◌∙◌, sym, ap, pos}
 use Rattle.std.proofs.lemmas.List.{take_all}
+use Rattle.std.proofs.Math.Bool.{and-true}
 use Rattle.lw_region.specs.Rectangle.{Rectangle, has_pixel}
 use Rattle.lw_region.specs.Bands.{covers}
 use Rattle.lw_region.proofs.Canonical.{covers_nil}
@@ -24,11 +25,7 @@ fill_more v w u rects n r pen ok deep unclipped idle inside here was is =
     overlay_same v u (λ x y. former x y || (has_pixel r (pos x) (pos y) && true)) (λ x y. covers (take (n + 1) rects) (pos x) (pos y)) pen
     (overlay_more v u former (λ x y. has_pixel r (pos x) (pos y)) (λ x y. true) pen ok deep unclipped idle
     (is ∙ ap (with_live (λ c. with_layer (λ l. rect_fill (λ x y. shows c x y) r l) c)) was))
-    (λ x y. ap (λ t. former x y || t) (all (has_pixel r (pos x) (pos y))) ∙ sym (covers_more rects n r inside here x y))
-  where
-    all : (t : Bool) → (t && true) ≡ t
-    all true = refl
-    all false = refl
+    (λ x y. ap (λ t. former x y || t) (and-true (has_pixel r (pos x) (pos y))) ∙ sym (covers_more rects n r inside here x y))
 
 -- all fills
 pub fills_done : (v u : CellView) (rects : List Rectangle) (n pen : ℕ) → length rects ≤ n → u ≡ overlaid (λ x y. covers (take n rects) (pos x) (pos y)) pen v → u ≡ overlaid (λ x y. covers rects (pos x) (pos y)) pen v

@@ -10,7 +10,7 @@ use Rattle.lw_machine.specs.Layer.{Raster}
 use Rattle.lw_machine.specs.Kept.{is_kept}
 use Rattle.lw_machine.specs.Paint.{candidate_bit, through_mask, with_pens, pen_within, paint_where}
 use Rattle.lw_layer.specs.View.{LiveView, CellView, shows, keeps, draws, with_live, with_layer}
-use Rattle.lw_layer.proofs.LineLaws.{repainted_same}
+use Rattle.lw_layer.proofs.LineLaws.{repainted_same, nowhere}
 use Rattle.lw_layer.proofs.ViewLaws.{with_bits}
 use Rattle.lw_draw.proofs.LimitLaws.{all_drawable}
 use Rattle.lw_frames.specs.Framing.{solid_raster, overlaid}
@@ -63,11 +63,7 @@ overlay_begun v u pen raster ok same is =
     is ∙ (ap (λ r. with_live (λ c. with_layer (λ l. record l { raster = r }) c) v) same ∙
     ap (λ q. record v { live = q })
     (sym (ap (with_bits c) (bitmap_again v.live.layer.bits ok)) ∙
-    repainted_same c (λ x y. pen_at v.live.layer.bits x y) (λ x y. if keeps v.live x y && false then pen_within v.live.layer.bits.depth pen else pen_at v.live.layer.bits x y) (λ x y _ _. none (keeps v.live x y) _ _)))
-  where
-    none : (kept : Bool) (new old : ℕ) → old ≡ (if kept && false then new else old)
-    none true new old = refl
-    none false new old = refl
+    repainted_same c (λ x y. pen_at v.live.layer.bits x y) (λ x y. if keeps v.live x y && false then pen_within v.live.layer.bits.depth pen else pen_at v.live.layer.bits x y) (λ x y _ _. nowhere (keeps v.live x y) _ _)))
 
 -- One shape more: where a layer without limits paints it, its foreground joins the pixels that have the pen.
 pub overlay_more : (v u : CellView) (on shape foreground : ℕ → ℕ → Bool) (pen : ℕ) → IsBitmap v.live.layer.bits → v.live.layer.bits.depth ≤ 8 → v.live.layer.clip ≡ None → v.live.layer.updating ≡ false → u ≡ with_live (λ c. with_layer (λ l. paint_where (λ x y. shows c x y) shape foreground l) c) (overlaid on pen v) → u ≡ overlaid (λ x y. on x y || (shape x y && foreground x y)) pen v

@@ -1,10 +1,10 @@
 -- Painting the frame of a window with its own title, which is taken out and put back.
-use Rattle.std.proofs.Common.{◌≡◌, ℕ, Bool, true, false, ◌&&◌, List, [], Option, Some, None, ◌∙◌, sym, refl, ap}
+use Rattle.std.proofs.Common.{◌≡◌, ℕ, Bool, true, ◌&&◌, List, [], Option, Some, None, ◌∙◌, sym, refl, ap}
 use Rattle.std.specs.Prelude.{if◌then◌else◌}
 use Rattle.lw_machine.specs.Layer.{Layer, Window, is_framed, is_window, changed_window, change_window}
 use Rattle.lw_machine.specs.Kept.{is_kept}
 use Rattle.lw_machine.specs.Paint.{with_pens, pen_within}
-use Rattle.lw_machine.specs.Reveal.{in_frame, framing_pen, framed_by}
+use Rattle.lw_machine.specs.Reveal.{in_frame, framing_pen}
 use Rattle.lw_layer.specs.View.{LiveView, CellView, keeps, with_live, with_layer}
 use Rattle.lw_layer.specs.Windows.{title_of}
 use Rattle.lw_frames.specs.Framing.{framed, with_own_frame}
@@ -22,18 +22,6 @@ titled_window (Some w) title is = refl
 -- the cell with another title of its window
 abbrev pub titled : List ℕ → CellView → CellView
 titled title v = with_live (λ c. with_layer (λ l. change_window (λ w. record w { title = title }) l) c) v
-
--- a layer without a frame stays
-pub unframed : (glyphs : List (List ℕ)) (active : Bool) (v : CellView) → is_framed v.live.layer.window ≡ false → v ≡ with_own_frame glyphs active v
-unframed glyphs active v none = by_window v.live.layer.window none
-  where
-    by_window : (o : Option Window) → is_framed o ≡ false → v ≡ with_live (λ c. with_layer (λ l. framed_by glyphs (λ x y. keeps c x y) active o l) c) v
-    by_window None is = refl
-    by_window (Some w) is =
-        let l : Layer = v.live.layer in
-        let k : LiveView = v.live in
-        let Framed : Bool → CellView = λ t. record v { live = record k { layer = if t then with_pens (λ x y. keeps k x y && in_frame l.bits.width l.bits.height x y) (λ x y. pen_within l.bits.depth (framing_pen glyphs w.title active l.bits.width x y)) l else l } } in
-        ap Framed (sym is)
 
 pub own_framed : (v u w z : CellView) (glyphs : List (List ℕ)) (former : List ℕ) (active : Bool) → is_framed v.live.layer.window ≡ true
     → former ≡ title_of v.live.layer.window → u ≡ titled [] v → w ≡ framed glyphs former active u → z ≡ titled former w

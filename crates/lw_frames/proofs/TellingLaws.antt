@@ -1,6 +1,7 @@
 -- Laws of telling a window what it is due: its messages one after another, and whether it was asked to refresh.
 use Rattle.std.proofs.Common.{◌≡◌, ℕ, ◌+◌, ◌-◌, ◌≤◌, ◌==◌, Bool, true, false, not, ◌&&◌, ◌||◌, nat_lt, List, ◌++◌, length, length-append, append_assoc, Option, Some, None, ◌∙◌, sym, refl, ap, subst, arith, ℤ, pos, negsuc}
 use Rattle.std.proofs.lemmas.Bool.{and_parts, ltb-true, both_ways, false_from_ne_true}
+use Rattle.std.proofs.Math.Bool.{or-false}
 use Rattle.lw_region.specs.Rectangle.{Rectangle}
 use Rattle.lw_region.specs.Bands.{covers}
 use Rattle.lw_region.specs.Banded.{IsCanonical}
@@ -10,14 +11,13 @@ use Rattle.lw_calls.specs.declared.message.Message.{Message}
 use Rattle.lw_damage.specs.Damaged.{Damaged}
 use Rattle.lw_machine.specs.Layer.{Layer, Window, changed_window}
 use Rattle.lw_machine.specs.Kept.{holds_at, is_kept}
-use Rattle.lw_machine.specs.Reveal.{Across, is_damaged, messages_due, refresh_is_put, window_told}
+use Rattle.lw_machine.specs.Reveal.{Across, is_damaged, messages_due, refresh_is_put}
 use Rattle.lw_layer.specs.View.{LiveView, CellView, keeps, with_live}
 use Rattle.lw_layer.specs.Pieces.{IsDamageOf, damage_table}
-use Rattle.lw_layer.specs.Windows.{due_count}
 use Rattle.lw_layer.proofs.PixelTests.{some_covered}
 use Rattle.lw_windows.specs.Messages.{one_if, listed}
 use Rattle.lw_windows.specs.declared.messages.Classes.{Classes}
-use Rattle.lw_frames.specs.Telling.{IsDueOf, with_window_told, with_put, as_asked, told_all}
+use Rattle.lw_frames.specs.Telling.{IsDueOf, with_put, as_asked}
 
 -- the room that is left
 room_left : (r : ℕ) (a b : List Message) → (r - length a) - length b ≡ r - length (a ++ b)
@@ -35,28 +35,13 @@ put_more a b k =
     ap (λ n. record (with_put b (with_put a k)) { room = n }) (room_left k.room a b)
     ∙ ap (λ o. record k { room = k.room - length (a ++ b); layer = record k.layer { window = o } }) (port_more a b k.layer.window)
 
-or_false : (t : Bool) → (t || false) ≡ t
-or_false true = refl
-or_false false = refl
-
 -- a window that isn't asked to refresh, and one that is
 not_asked : (o : Option Window) → changed_window (λ w. record w { asked = w.asked || false }) o ≡ o
 not_asked None = refl
-not_asked (Some w) = ap (λ t. Some (record w { asked = t })) (or_false w.asked)
-
-or_true : (t : Bool) → (t || true) ≡ true
-or_true true = refl
-or_true false = refl
-
-is_asked : (o : Option Window) → changed_window (λ w. record w { asked = true }) o ≡ changed_window (λ w. record w { asked = w.asked || true }) o
-is_asked None = refl
-is_asked (Some w) = ap (λ t. Some (record w { asked = t })) (sym (or_true w.asked))
+not_asked (Some w) = ap (λ t. Some (record w { asked = t })) (or-false w.asked)
 
 pub as_unasked : (k : LiveView) → k ≡ as_asked false k
 as_unasked k = ap (λ o. record k { layer = record k.layer { window = o } }) (sym (not_asked k.layer.window))
-
-pub as_told : (k : LiveView) → record k { layer = record k.layer { window = changed_window (λ w. record w { asked = true }) k.layer.window } } ≡ as_asked true k
-as_told k = ap (λ o. record k { layer = record k.layer { window = o } }) (is_asked k.layer.window)
 
 -- five messages or fewer, one after another
 pub five_put : (v u1 u2 u3 u4 u5 : CellView) (a b c d e : List Message) → u1 ≡ with_live (with_put a) v → u2 ≡ with_live (with_put b) u1
@@ -72,30 +57,6 @@ five_put v u1 u2 u3 u4 u5 a b c d e first second third fourth fifth =
 pub due_of : (q : Across) (l : Layer) (w : Window) (due : Classes) → l.window ≡ Some w → listed due ≡ messages_due q l w → due.refresh ≡ refresh_is_put l w
     → IsDueOf q l l.window due
 due_of q l w due is messages refresh = let P : Option Window → Type 0 = λ o. IsDueOf q l o due in subst P (sym is) (messages, refresh)
-
--- the messages of a set that is due are those that the window is told
-pub all_told : (q : Across) (k : LiveView) (due : Classes) (o : Option Window) → k.layer.window ≡ o → IsDueOf q k.layer o due
-    → told_all due k ≡ with_window_told q k
-all_told q k due None is due_is = absurd due_is
-all_told q k due (Some w) is due_is =
-    let l : Layer = k.layer in
-    let Put : Option Window → List Message → Bool → LiveView =
-    λ o ms r. record k {
-      room = k.room - length ms;
-      layer = record l { window = changed_window (λ u. record u { asked = u.asked || r }) (changed_window (λ u. record u { port = u.port ++ ms }) o) };
-    } in
-    let Told : Option Window → LiveView = λ o. record k { room = k.room - due_count q l o; layer = record l { window = changed_window (window_told q l) o } } in
-    ap (λ o. Put o (listed due) due.refresh) is
-    ∙ (ap (λ ms. Put (Some w) ms due.refresh) due_is.0
-    ∙ (ap (λ r. Put (Some w) (messages_due q l w) r) due_is.1 ∙ ap Told (sym is)))
-
--- a layer that isn't a window is told nothing
-pub none_told : (q : Across) (k : LiveView) → k.layer.window ≡ None → k ≡ with_window_told q k
-none_told q k none =
-    let l : Layer = k.layer in
-    let Told : Option Window → LiveView = λ o. record k { room = k.room - due_count q l o; layer = record l { window = changed_window (window_told q l) o } } in
-    let all : k.room - 0 ≡ k.room = omega arith in
-    ap (λ o. record k { layer = record l { window = o } }) none ∙ (ap (λ n. record k { room = n; layer = record l { window = None } }) (sym all) ∙ ap Told (sym none))
 
 -- a pixel is damaged where a rectangle of the damage has it
 damaged_at : (k : LiveView) (d : Damaged) → IsDamageOf k d → (x y : ℕ) (t : Bool) → (nat_lt x k.layer.bits.width && nat_lt y k.layer.bits.height) ≡ t

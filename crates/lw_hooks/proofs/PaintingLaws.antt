@@ -1,5 +1,5 @@
 -- Laws of painting a row with a row of a tile.
-use Rattle.std.proofs.Common.{◌≡◌, ℕ, zero, suc, ◌+◌, ◌-◌, ◌/◌, ◌%◌, ◌==◌, ◌<◌, ◌≤◌, Bool, true, ◌&&◌, nat_lt, List, replicate, None, ◌∙◌, sym, refl, ap, arith}
+use Rattle.std.proofs.Common.{◌≡◌, ℕ, ◌+◌, ◌-◌, ◌/◌, ◌%◌, ◌==◌, ◌<◌, ◌≤◌, Bool, true, ◌&&◌, nat_lt, List, replicate, None, ◌∙◌, sym, refl, ap, arith}
 use Rattle.std.specs.Int.{bit_at}
 use Rattle.std.specs.List.{slice_index_or}
 use Rattle.std.proofs.lemmas.Bool.Decides.{nat_tests}
@@ -8,24 +8,20 @@ use Rattle.std.proofs.lemmas.Nat.Bits.{bit_at-lt}
 use Rattle.lw_planes.specs.Row.{row_bit}
 use Rattle.lw_planes.specs.Minterm.{minterm_bit}
 use Rattle.lw_planes.specs.Bitmap.{IsBitmap}
+use Rattle.lw_planes.proofs.ChosenLaws.{no_plane, all_planes}
 use Rattle.lw_kernels.specs.Kernel.{is_between}
+use Rattle.lw_kernels.proofs.ByteLaws.{minterm_copies}
 use Rattle.lw_layer.specs.View.{CellView, draws, with_live}
 use Rattle.lw_draw.specs.Drawn.{drawn, GivesBits, in_rows}
 use Rattle.lw_draw.specs.Combined.{combined_bit}
 use Rattle.lw_draw.specs.Stretches.{in_stretch, IsFirstStretch, IsNextStretch}
 use Rattle.lw_draw.specs.declared.stretch.Stretch.{Stretch}
-use Rattle.lw_draw.proofs.PaintLaws.{cell_nowhere, cell_same, cell_alike, cell_more, none_stays, next_plane, next_run, no_plane, all_planes, no_column, row_done}
+use Rattle.lw_draw.proofs.PaintLaws.{cell_nowhere, cell_same, cell_alike, cell_more, none_stays, next_plane, next_run, no_column, row_done}
 use Rattle.lw_hooks.specs.Filling.{byte_bit, planes_bit}
 
 -- what a row and a tile give are bits
 pub planes_give_bits : (bytes : List ℕ) → GivesBits (planes_bit bytes)
 planes_give_bits bytes p x y old small = bit_at-lt (slice_index_or bytes p 0) (7 - x % 8)
-
--- the minterm that copies
-copied_bit : (b old : ℕ) → b < 2 → minterm_bit 192 b old ≡ b
-copied_bit zero old small = grind (arith, nat_tests)
-copied_bit (suc zero) old small = grind (arith, nat_tests)
-copied_bit (suc (suc b)) old small = absurd (omega (arith, small))
 
 -- a row of equal bytes
 equal_bytes : (n byte x : ℕ) → x / 8 < n → row_bit (replicate n byte) x ≡ byte_bit byte x
@@ -49,7 +45,7 @@ plane_of_byte v w k byte s right is =
     let place : 0 + (i - 0) ≡ i = omega arith in
     let near : i / 8 < 256 = omega (arith, at.last, right) in
     ap (λ n. minterm_bit 192 (row_bit (replicate 256 byte) n) old) place ∙
-    (ap (λ b. minterm_bit 192 b old) (equal_bytes 256 byte i near) ∙ copied_bit (byte_bit byte i) old (bit_at-lt byte (7 - i % 8))))
+    (ap (λ b. minterm_bit 192 b old) (equal_bytes 256 byte i near) ∙ minterm_copies 192 (byte_bit byte i) old (bit_at-lt byte (7 - i % 8)) refl))
 
 -- the pixels of a run in the planes before one of them
 abbrev pub planes_before : Stretch → ℕ → ℕ → ℕ → ℕ → Bool

@@ -4,6 +4,7 @@ use Rattle.std.specs.List.{slice_index_or}
 use Rattle.std.proofs.lemmas.Bool.Decides.{nat_tests}
 use Rattle.std.proofs.lemmas.List.{take_all}
 use Rattle.std.proofs.lemmas.Nat.Bits.{bit_at-lt}
+use Rattle.std.proofs.Math.Bool.{and-false}
 use Rattle.lw_region.specs.Rectangle.{Rectangle, within, has_pixel}
 use Rattle.lw_region.specs.Bands.{covers}
 use Rattle.lw_region.proofs.Canonical.{covers_nil}
@@ -68,11 +69,7 @@ drawn_over c former more both bit small whole =
 -- no rectangle so far
 pub no_rectangles : (v : CellView) (tile : List (List ℕ)) → IsBitmap v.live.layer.bits → v ≡ with_live (λ c. drawn (λ p i j. in_rectangles c [] i j) (tile_bit tile) c) v
 no_rectangles v tile ok =
-    cell_nowhere v (λ p i j. in_rectangles v.live [] i j) (tile_bit tile) ok (λ p i j. ap (λ t. draws v.live i j && t) (covers_nil (pos i) (pos j)) ∙ none (draws v.live i j))
-  where
-    none : (t : Bool) → (t && false) ≡ false
-    none true = refl
-    none false = refl
+    cell_nowhere v (λ p i j. in_rectangles v.live [] i j) (tile_bit tile) ok (λ p i j. ap (λ t. draws v.live i j && t) (covers_nil (pos i) (pos j)) ∙ and-false (draws v.live i j))
 
 -- one rectangle more
 joined : (drawable former more both : Bool) → both ≡ (former || more) → (drawable && both) ≡ ((drawable && former) || (drawable && more))

@@ -1,10 +1,11 @@
 -- Laws of the hook of the tests, whose tile has its places' numbers as pens.
-use Rattle.std.proofs.Common.{◌≡◌, ℕ, ◌+◌, ◌*◌, ◌<◌, [], ◌∷◌, get_or, ◌∙◌, sym, ℤ, pos, negsuc, rules, arith}
+use Rattle.std.proofs.Common.{◌≡◌, ℕ, ◌+◌, ◌*◌, ◌<◌, [], ◌∷◌, get_or, ◌∙◌, sym, ℤ, arith}
 use Rattle.std.specs.List.{range_with_len}
 use Rattle.std.proofs.lemmas.List.Elements.{All-nil, All-cons, All-from_get_or}
 use Rattle.std.proofs.lemmas.List.FromFn.{get_or-range_with_len, length-range_with_len}
 use Rattle.lw_machine.specs.Hook.{Hook, hook_pen, tile_place}
 use Rattle.lw_backfill.specs.Hooks.{IsTile, IsHook}
+use Rattle.lw_backfill.proofs.Tiles.{index_within}
 
 abbrev pub numbered : Hook
 numbered = record { tiles = range_with_len 0 64 ∷ []; place = 0 }
@@ -21,14 +22,6 @@ numbered_is_hook = record { tiles = All-cons IsTile (range_with_len 0 64) [] til
       size = length-range_with_len 0 64;
       bytes = All-from_get_or (λ pen. pen < 256) (range_with_len 0 64) 0 (λ i near. small i (omega (arith, near, length-range_with_len 0 64)));
     }
-
--- where a pixel's pen stands in the tile
-place_within : (z : ℤ) → tile_place z < 8
-place_within (pos n) = search (arith, rules)
-place_within (negsuc n) = search (arith, rules)
-
-index_within : (x y : ℤ) → 8 * tile_place y + tile_place x < 64
-index_within x y = omega (arith, place_within x, place_within y)
 
 -- the pen of a pixel
 pub numbered_pen : (m n : ℕ) (x y : ℤ) → m ≡ tile_place x → n ≡ tile_place y → 8 * n + m ≡ hook_pen numbered x y

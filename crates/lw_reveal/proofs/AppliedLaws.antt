@@ -6,12 +6,12 @@ use Rattle.std.proofs.lemmas.List.{get_or_append_left, get_or_at}
 use Rattle.lw_region.specs.Rectangle.{Rectangle}
 use Rattle.lw_planes.specs.Bitmap.{Bitmap, IsBitmap, bitmap, pen_at}
 use Rattle.lw_planes.specs.Sizes.{AreSizes, IsPlanes}
-use Rattle.lw_planes.proofs.GridLaws.{grid_past_column, grid_past_row}
-use Rattle.lw_planes.proofs.BitmapLaws.{IsBitmap_bitmap, bitmap_again, bitmap_same, pen_at_bitmap}
+use Rattle.lw_planes.proofs.BitmapLaws.{IsBitmap_bitmap, bitmap_same, pen_at_bitmap, pen_at_lt}
 use Rattle.lw_calls.specs.declared.make.Kind.{Kind}
 use Rattle.lw_calls.specs.declared.make.Kind.TheVariants.{Simple, Smart, SuperBitmap}
 use Rattle.lw_calls.specs.Kinds.{is_super}
 use Rattle.lw_cliprects.specs.Parts.{hidden_of}
+use Rattle.lw_cliprects.proofs.HiddenLaws.{canonical_hidden}
 use Rattle.lw_layer.specs.View.{LiveView, keeps, kept_pen}
 use Rattle.lw_layer.specs.Pieces.{Layout, columns, lines, buffered, buffer_rectangle, rest_as, whole_of, buffer_at, IsDamageOf}
 use Rattle.lw_layer.specs.Drafts.{IsLiveDraft, IsBuffer, AreBuffers, IsRest, layout, width_of, height_of, own_list, buffers_of, no_bitmap, pen_from, live_view}
@@ -24,7 +24,7 @@ use Rattle.lw_reveal.specs.declared.change.Change.{Change}
 use Rattle.lw_reveal.specs.Changed.{carried_to, MayHave}
 use Rattle.lw_reveal.specs.Handing.{own_whole}
 use Rattle.lw_reveal.specs.Changes.{beside_own, pen_or_zero, layer_place, carried, new_rectangle, new_buffer}
-use Rattle.lw_reveal.proofs.CarriedLaws.{number_is, both_ordered, divided_inside, hidden_canonical, AreParts}
+use Rattle.lw_reveal.proofs.CarriedLaws.{number_is, both_ordered, divided_inside, AreParts}
 
 -- the draft with what the change has, and its own bitmap whole
 abbrev pub changed_draft : LiveDraft → Change → LiveDraft
@@ -187,7 +187,7 @@ shown_sizes d k n made inside =
     let P : Rectangle → Type 0 = λ q. AreSizes (columns q) (lines q) d.depth in
     subst P (sym number.all)
     (part_size (get_or (k.parts.visible ++ hidden) n k.bounds) k.bounds d.depth
-    (both_ordered k.parts.visible hidden n k.bounds made.parts.canonical (hidden_canonical k.bounds k.parts.visible) number.inside)
+    (both_ordered k.parts.visible hidden n k.bounds made.parts.canonical (canonical_hidden k.bounds k.parts.visible) number.inside)
     (λ x y has. divided_inside k.bounds k.parts.visible hidden n x y made.parts.divided number.inside has)
     made.size.sizes)
 
@@ -210,28 +210,12 @@ rectangle_sizes d k n ok made inside =
     (λ (late : (is_super d.kind ≡ true) × (n ≡ length k.parts.visible)). whole_sizes d k n ok late.0 late.1)
     (buffered_cases (layout (changed_draft d k)) d.kind n refl inside)
 
--- a pen that is carried is one of the layer's planes
-any_small : (b : Bitmap) (x y : ℕ) → IsBitmap b → pen_at b x y < 2 ^ b.depth
-any_small b x y ok =
-    let again = bitmap_again b ok in
-    let F : ℕ → ℕ → ℕ = λ i j. pen_at b i j in
-    let same : pen_at b x y ≡ pen_at (bitmap b.width b.height b.depth F) x y = ap (λ q. pen_at q x y) (sym again) in
-    let some = pow_pos b.depth in
-    ⊎_elim
-    (λ (low : y < b.height).
-    ⊎_elim
-    (λ (left : x < b.width). ok.pens x y left low)
-    (λ (past : b.width ≤ x). let none : pen_at (bitmap b.width b.height b.depth F) x y ≡ 0 = grid_past_column b.width b.height F 0 x y past low in omega arith)
-    (cases_lt x b.width))
-    (λ (under : b.height ≤ y). let none : pen_at (bitmap b.width b.height b.depth F) x y ≡ 0 = grid_past_row b.width b.height F 0 x y under in omega arith)
-    (cases_lt y b.height)
-
 chosen_small : (t : Bool) (p n : ℕ) → p < n → pen_or_zero (if t then Some p else None) < n
 chosen_small true p n small = small
 chosen_small false p n small = omega arith
 
 pub carried_small : (c : LiveView) (x y : ℤ) → IsBitmap c.layer.bits → pen_or_zero (kept_pen c x y) < 2 ^ c.layer.bits.depth
-carried_small c (pos x) (pos y) ok = chosen_small (keeps c x y) (pen_at c.layer.bits x y) _ (any_small c.layer.bits x y ok)
+carried_small c (pos x) (pos y) ok = chosen_small (keeps c x y) (pen_at c.layer.bits x y) _ (pen_at_lt c.layer.bits x y ok)
 carried_small c (pos x) (negsuc y) ok = pow_pos c.layer.bits.depth
 carried_small c (negsuc x) y ok = pow_pos c.layer.bits.depth
 

@@ -1,8 +1,9 @@
 -- A draft with the carried buffers is one, and stands for the revealed layer.
-use Rattle.std.proofs.Common.{◌≡◌, ℕ, ◌<◌, Bool, true, false, if◌then◌else◌, List, length, Option, Some, None, ◌∙◌, sym, refl, ap, subst, arith, ℤ, pos, negsuc, ◌+ℤ◌, ◌-ℤ◌, ◌≤ℤ◌, unsigned_abs}
+use Rattle.std.proofs.Common.{◌≡◌, ℕ, ◌<◌, Bool, true, false, if◌then◌else◌, List, length, Option, Some, None, ◌∙◌, sym, refl, ap, subst, arith, ℤ, pos, ◌+ℤ◌, ◌-ℤ◌, ◌≤ℤ◌, unsigned_abs}
 use Rattle.std.proofs.lemmas.Int.{ints}
 use Rattle.lw_region.specs.Rectangle.{Rectangle}
 use Rattle.lw_region.specs.Bands.{covers}
+use Rattle.lw_region.proofs.Within.{within_low}
 use Rattle.lw_planes.specs.Bitmap.{Bitmap, bitmap, pen_at}
 use Rattle.lw_planes.specs.Sizes.{AreSizes}
 use Rattle.lw_planes.proofs.BitmapLaws.{bitmap_same, pen_at_bitmap}
@@ -14,13 +15,14 @@ use Rattle.lw_machine.specs.Layer.{Layer}
 use Rattle.lw_machine.specs.Kept.{is_kept, holds_at}
 use Rattle.lw_machine.specs.Reveal.{Across, resized, counts_as_kept}
 use Rattle.lw_machine.specs.Reveal as reveal
+use Rattle.lw_machine.proofs.Seen.{holds_same}
 use Rattle.lw_layer.specs.View.{LiveView, keeps, kept_pen}
 use Rattle.lw_layer.specs.Pieces.{columns, lines, buffer_rectangle, buffer_at, column_in, line_in, inner_in, damage_table, IsDamageOf}
 use Rattle.lw_layer.specs.Drafts.{IsLiveDraft, IsScrolled, IsRest, layout, buffers_of, pen_from, live_view}
 use Rattle.lw_layer.specs.New.{kept_hidden}
 use Rattle.lw_layer.specs.declared.draft.LiveDraft.{LiveDraft}
 use Rattle.lw_layer.proofs.ViewLaws.{has_place, both_true}
-use Rattle.lw_layer.proofs.KeptLaws.{keeps_found, keeps_missing, within_low}
+use Rattle.lw_layer.proofs.KeptLaws.{keeps_found, keeps_missing}
 use Rattle.lw_reveal.specs.declared.change.Change.{Change}
 use Rattle.lw_reveal.specs.Changed.{across_to, windowless, carried_to}
 use Rattle.lw_reveal.specs.Handing.{own_whole}
@@ -56,11 +58,6 @@ super_kept : (d : LiveDraft) (k : Change) (x y : ℕ) → is_super d.kind ≡ tr
     → keeps (super_view d k) x y ≡ keeps (live_view (changed_draft d k)) x y
 unfolding keeps is_kept
 super_kept d k x y super = let size = super_size d k super in rw (size.0, size.1) refl
-
-holds_same : (f g : ℕ → ℕ → Bool) (x y : ℤ) → ((i j : ℕ) → f i j ≡ g i j) → holds_at f x y ≡ holds_at g x y
-holds_same f g (pos x) (pos y) same = same x y
-holds_same f g (pos x) (negsuc y) same = refl
-holds_same f g (negsuc x) y same = refl
 
 -- the size of the bits, by kind
 sizes_by : (d : LiveDraft) (k : Change) (t : Bool) → is_super d.kind ≡ t → IsLiveDraft d → IsMade d k

@@ -1,6 +1,6 @@
 -- The buffers that a layer has are those with the pens that it keeps, and stay so where their rectangles are moved with the bounds.
 use Rattle.std.proofs.Common.{◌≡◌, ℕ, ◌+◌, ◌-◌, ◌<◌, ◌≤◌, Bool, true, false, ◌||◌, ◌⊎◌, ⊎_elim, inl, inr, List, [], ◌∷◌, ◌++◌, length, get_or, Some, ◌∙◌, sym, refl, ap, subst, arith, ℤ, pos, ◌+ℤ◌, ◌-ℤ◌, ◌≤ℤ◌, unsigned_abs, length-append}
-use Rattle.std.proofs.lemmas.Bool.{cases_lt}
+use Rattle.std.proofs.lemmas.Bool.{cases_lt, and_from}
 use Rattle.std.proofs.lemmas.List.Elements.{All-append}
 use Rattle.std.proofs.lemmas.Int.{ints}
 use Rattle.std.proofs.lemmas.List.{get_or_append_left, get_or-append_right}
@@ -8,12 +8,13 @@ use Rattle.lw_region.specs.Rectangle.{Rectangle, within, has_pixel, moved_by, Is
 use Rattle.lw_region.specs.Bands.{covers}
 use Rattle.lw_region.specs.Banded.{IsCanonical}
 use Rattle.lw_region.proofs.Disjoint.{has_at}
-use Rattle.lw_region.proofs.SetOps.{canonical_bands}
+use Rattle.lw_region.proofs.Within.{within_low, within_high}
 use Rattle.lw_planes.specs.Bitmap.{Bitmap, bitmap, pen_at}
 use Rattle.lw_planes.proofs.BitmapLaws.{bitmap_from_pens, bitmap_same}
 use Rattle.lw_calls.specs.declared.make.Kind.{Kind}
 use Rattle.lw_calls.specs.declared.make.Kind.TheVariants.{Simple, Smart, SuperBitmap}
 use Rattle.lw_cliprects.specs.Parts.{hidden_of, AreDivided}
+use Rattle.lw_cliprects.proofs.HiddenLaws.{canonical_hidden}
 use Rattle.lw_layer.specs.View.{LiveView, kept_pen}
 use Rattle.lw_layer.specs.Pieces.{Layout, columns, lines, buffered, buffer_rectangle, rest_as, whole_of, across, down, buffer_at}
 use Rattle.lw_layer.specs.Drafts.{IsLiveDraft, IsBuffer, layout, buffers_of, no_bitmap, live_view}
@@ -21,7 +22,7 @@ use Rattle.lw_layer.specs.declared.draft.LiveDraft.{LiveDraft}
 use Rattle.lw_layer.proofs.BufferLaws.{buffer_is}
 use Rattle.lw_layer.proofs.OrderedLists.{canonical_ordered}
 use Rattle.lw_layer.proofs.ViewLaws.{both_true}
-use Rattle.lw_layer.proofs.ReachLaws.{found_at, none_before, join_true}
+use Rattle.lw_layer.proofs.ReachLaws.{found_at, none_before}
 use Rattle.lw_layer.proofs.ReadLaws.{read_pen}
 use Rattle.lw_reveal.specs.Changes.{beside_own, pen_or_zero, layer_place, carried}
 
@@ -63,10 +64,6 @@ axis_has : (least greatest : ℤ) (i : ℕ) → least ≤ℤ greatest → i < un
 unfolding within
 axis_has least greatest i ordered inside = grind (arith, ints)
 
-axis_low : (low z high : ℤ) → within low z high ≡ true → (low ≤ℤ z) × (z ≤ℤ high)
-unfolding within
-axis_low low z high has = (grind (arith, ints), grind (arith, ints))
-
 axis_place : (edge low : ℤ) (scroll i x : ℕ) → low ≤ℤ (edge +ℤ pos i) → x ≡ unsigned_abs ((edge +ℤ pos i) -ℤ low) + scroll
     → layer_place edge low scroll i ≡ pos x
 axis_place edge low scroll i x from is = omega (arith, ints)
@@ -87,14 +84,14 @@ on_axis : (edge low high : ℤ) (scroll i size : ℕ) → within low (edge +ℤ 
     → scroll + unsigned_abs ((high +ℤ pos 1) -ℤ low) ≤ size → OnAxis edge low scroll i size
 on_axis edge low high scroll i size has fits =
     let x : ℕ = unsigned_abs ((edge +ℤ pos i) -ℤ low) + scroll in
-    let sides = axis_low low (edge +ℤ pos i) high has in
-    let at = axis_at edge low scroll i x sides.0 refl in
+    let from = within_low low (edge +ℤ pos i) high has in
+    let at = axis_at edge low scroll i x from refl in
     record {
       x = x;
-      is = axis_place edge low scroll i x sides.0 refl;
+      is = axis_place edge low scroll i x from refl;
       at = at;
       distance = axis_distance edge low scroll i x at;
-      below = axis_below edge low high scroll i x size sides.0 sides.1 fits refl;
+      below = axis_below edge low high scroll i x size from (within_high low (edge +ℤ pos i) high has) fits refl;
     }
 
 -- the numbers of the rectangles with a buffer beside an own bitmap are those of their pieces
@@ -169,10 +166,6 @@ divided_inside bounds xs ys n x y divided inside has =
     (λ (late : length xs ≤ n). inr (has_at ys (n - length xs) bounds x y (omega arith) (subst P (get_or-append_right xs ys (length xs) n bounds refl late) has)))
     (cases_lt n (length xs)))
 
-pub hidden_canonical : (bounds : Rectangle) (visible : List Rectangle) → IsCanonical (hidden_of bounds visible)
-unfolding hidden_of
-hidden_canonical bounds visible = canonical_bands _
-
 -- what holds of the parts of a draft's bounds
 pub record AreParts (bounds : Rectangle) (visible : List Rectangle) : Type 0 where
   pub ordered : IsOrdered bounds
@@ -187,8 +180,8 @@ former_pen d n i j ok parts number left low =
     let l = layout d in
     let r : Rectangle = buffer_rectangle l n in
     let hidden = hidden_of d.bounds d.parts.visible in
-    let ordered : IsOrdered r = subst (λ q. IsOrdered q) (sym number.all) (both_ordered d.parts.visible hidden n d.bounds parts.canonical (hidden_canonical d.bounds d.parts.visible) number.inside) in
-    let has : has_pixel r (r.min_x +ℤ pos i) (r.min_y +ℤ pos j) ≡ true = join_true _ _ (axis_has r.min_x r.max_x i ordered.columns left) (axis_has r.min_y r.max_y j ordered.rows low) in
+    let ordered : IsOrdered r = subst (λ q. IsOrdered q) (sym number.all) (both_ordered d.parts.visible hidden n d.bounds parts.canonical (canonical_hidden d.bounds d.parts.visible) number.inside) in
+    let has : has_pixel r (r.min_x +ℤ pos i) (r.min_y +ℤ pos j) ≡ true = and_from _ _ (axis_has r.min_x r.max_x i ordered.columns left) (axis_has r.min_y r.max_y j ordered.rows low) in
     let P : Rectangle → Type 0 = λ q. has_pixel q (r.min_x +ℤ pos i) (r.min_y +ℤ pos j) ≡ true in
     let inside = both_true _ _ (divided_inside d.bounds d.parts.visible hidden n (r.min_x +ℤ pos i) (r.min_y +ℤ pos j) parts.divided number.inside (subst P number.all has)) in
     let column : OnAxis r.min_x d.bounds.min_x l.scroll_x i l.width = on_axis r.min_x d.bounds.min_x d.bounds.max_x l.scroll_x i l.width inside.0 ok.scrolled.right in

@@ -4,6 +4,7 @@ use Rattle.std.specs.Int.{bit_at}
 use Rattle.std.proofs.lemmas.Bool.{cases_eq}
 use Rattle.std.proofs.lemmas.Bool.Decides.{nat_tests}
 use Rattle.std.proofs.lemmas.Nat.Bits.{bit_at-lt, bit_at-zero}
+use Rattle.std.proofs.Math.Bool.{and-false, and-true}
 use Rattle.lw_region.specs.Rectangle.{Rectangle}
 use Rattle.lw_planes.specs.Pen.{pen_of}
 use Rattle.lw_planes.specs.Row.{row_bit}
@@ -12,10 +13,11 @@ use Rattle.lw_planes.specs.Change.{with_row}
 use Rattle.lw_planes.proofs.PenLaws.{pen_of_same, pen_same, bit_pen_of}
 use Rattle.lw_planes.proofs.BitmapLaws.{bitmap_same, bitmap_from_pens, pen_at_bitmap}
 use Rattle.lw_planes.proofs.WriteLaws.{with_row_plane_row}
+use Rattle.lw_planes.proofs.ChosenLaws.{chosen_small}
 use Rattle.lw_layer.specs.View.{LiveView, kept_pen}
 use Rattle.lw_layer.specs.Pieces.{columns, lines}
 use Rattle.lw_layer.specs.Copied.{kept_bit, bit_in}
-use Rattle.lw_layer.proofs.KeptLaws.{and_false}
+use Rattle.lw_layer.proofs.CopyingLaws.{bit_in_lt}
 use Rattle.lw_reveal.specs.Changes.{pen_or_zero, layer_place, carried}
 use Rattle.lw_reveal.specs.Carrying.{painted, bits_in}
 use Rattle.lw_reveal.proofs.AppliedLaws.{carried_small}
@@ -28,7 +30,7 @@ same_there f p k j line old =
     (λ (plane : p ≡ k).
     ⊎_elim
     (λ (row : j ≡ line). rw (plane, row) refl)
-    (λ (other : j ≢ line). let off : (j == line) ≡ false = grind (arith, nat_tests) in rw (off, and_false (p == k)) refl)
+    (λ (other : j ≢ line). let off : (j == line) ≡ false = grind (arith, nat_tests) in rw (off, and-false (p == k)) refl)
     (cases_eq j line))
     (λ (other : p ≢ k). let off : (p == k) ≡ false = grind (arith, nat_tests) in rw off refl)
     (cases_eq p k)
@@ -60,10 +62,6 @@ twice : (s t : Bool) (n o : ℕ) → (if t then n else (if s then n else o)) ≡
 twice s true n o = refl
 twice s false n o = refl
 
-chosen_bit : (t : Bool) (n o : ℕ) → n < 2 → o < 2 → (if t then n else o) < 2
-chosen_bit true n o new old = new
-chosen_bit false n o new old = old
-
 pub painted_more : (on more both : ℕ → ℕ → Bool) (f : ℕ → ℕ → ℕ → ℕ) (b c d : Bitmap) → ((p i j : ℕ) → f p i j < 2)
     → c ≡ painted on f b → d ≡ painted more f c → ((p j : ℕ) → (more p j || on p j) ≡ both p j) → d ≡ painted both f b
 unfolding painted
@@ -78,22 +76,13 @@ painted_more on more both f b c d bits first second same =
     (λ p below.
     let was : bit_at (pen_at (painted on f b) i j) p ≡ old i j p =
     ap (λ q. bit_at q p) (pen_at_bitmap b.width b.height b.depth F i j left low) ∙
-    bit_pen_of b.depth (λ q. old i j q) p (λ q deep. chosen_bit (on q j) (f q i j) (bit_at (pen_at b i j) q) (bits q i j) (bit_at-lt (pen_at b i j) q)) below
+    bit_pen_of b.depth (λ q. old i j q) p (λ q deep. chosen_small (on q j) (f q i j) (bit_at (pen_at b i j) q) 2 (bits q i j) (bit_at-lt (pen_at b i j) q)) below
     in
     rw was (twice (on p j) (more p j) (f p i j) (bit_at (pen_at b i j) p) ∙ ap (λ t. if t then f p i j else bit_at (pen_at b i j) p) (same p j)))))
-
--- a kept bit is one
-bit_in_lt : (plane : ℕ) (o : Option ℕ) → bit_in plane o < 2
-bit_in_lt plane None = omega arith
-bit_in_lt plane (Some pen) = bit_at-lt pen plane
 
 pub bits_in_lt : (c : LiveView) (bounds r : Rectangle) (p i j : ℕ) → bits_in c bounds r p i j < 2
 unfolding kept_bit
 bits_in_lt c bounds r p i j = bit_in_lt p (kept_pen c (layer_place r.min_x bounds.min_x c.layer.scroll_x i) (layer_place r.min_y bounds.min_y c.layer.scroll_y j))
-
-and_yes : (t : Bool) → (t && true) ≡ t
-and_yes true = refl
-and_yes false = refl
 
 -- what is done after none, one more, and all of the rows of a plane, and of the planes
 pub no_row : (k p j : ℕ) → (p == k && nat_lt j 0) ≡ false
@@ -118,7 +107,7 @@ painted_seen on all f b c is same =
     (λ i j left low. pen_of_same b.depth _ _ (λ p below. ap (λ t. if t then f p i j else bit_at (pen_at b i j) p) (same p j below low)))
 
 pub all_rows : (k p j line high : ℕ) → high ≤ line → j < high → (p == k && nat_lt j line) ≡ (p == k)
-all_rows k p j line high past below = let on : nat_lt j line ≡ true = grind (arith, nat_tests) in rw on (and_yes (p == k))
+all_rows k p j line high past below = let on : nat_lt j line ≡ true = grind (arith, nat_tests) in rw on (and-true (p == k))
 
 pub all_planes : (p plane deep : ℕ) → deep ≤ plane → p < deep → nat_lt p plane ≡ true
 all_planes p plane deep past below = grind (arith, nat_tests)

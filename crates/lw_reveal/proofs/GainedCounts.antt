@@ -2,7 +2,7 @@
 use Rattle.std.proofs.Common.{◌≡◌, ℕ, ◌&&◌, ◌||◌, not, Bool, true, false, List, Option, [], ◌∷◌, Some, None, ◌∙◌, sym, refl, ap, ℤ, pos, negsuc, arith}
 use Rattle.std.specs.Ordering.{int_eq}
 use Rattle.std.specs.Option.{option_eq}
-use Rattle.std.proofs.lemmas.Bool.{and_parts}
+use Rattle.std.proofs.lemmas.Bool.{and_parts, or_right}
 use Rattle.std.proofs.lemmas.Bool.Decides.{nat_tests}
 use Rattle.std.proofs.lemmas.Int.{ints}
 use Rattle.lw_region.specs.Rectangle.{Rectangle, within}
@@ -119,10 +119,6 @@ stays_true : (m : Bool) → (m || not m) ≡ true
 stays_true true = refl
 stays_true false = refl
 
-or_true : (a b : Bool) → b ≡ true → (a || b) ≡ true
-or_true true b is = refl
-or_true false b is = is
-
 pub frameless_counts : (c : LiveView) (bounds : Rectangle) (kept : List Rectangle) (framed : Bool) (former inner : Option Rectangle)
     → IsFrame c bounds kept framed former inner → framed ≡ false → AreCounted c bounds kept
 frameless_counts c bounds kept framed former inner read none x y =
@@ -137,7 +133,7 @@ same_counts c bounds kept framed former inner read same x y =
     let before = may_lie (inner_with c c.bounds) x y in
     read.kept_is x y
     ∙ (all_is k
-    ∙ (ap (λ t. k && t) (sym (or_true (not (is_framed c.layer.window)) (before || not before) (stays_true before)))
+    ∙ (ap (λ t. k && t) (sym (or_right (not (is_framed c.layer.window)) (before || not before) (stays_true before)))
     ∙ ap (λ o. k && (not (is_framed c.layer.window) || (before || not (may_lie o x y)))) (sym read.former_is ∙ (same ∙ read.inner_is))))
 
 -- rectangles, or none, that compare as equal

@@ -3,6 +3,7 @@ use Rattle.std.proofs.Common.{◌≡◌, ℕ, ◌<◌, Bool, true, false, not, �
 use Rattle.std.proofs.lemmas.Bool.{and_parts, and_right, cases_Bool, ltb-true, false_from_ne_true, both_ways}
 use Rattle.lw_region.specs.Rectangle.{Rectangle, IsOrdered}
 use Rattle.lw_region.specs.Bands.{covers}
+use Rattle.lw_region.proofs.Lists.{and_between}
 use Rattle.lw_planes.specs.Grid.{at}
 use Rattle.lw_planes.proofs.GridLaws.{grid_at, grid_same}
 use Rattle.lw_calls.specs.Kinds.{is_super}
@@ -18,7 +19,7 @@ use Rattle.lw_layer.specs.Pieces.{columns, lines, inner_of, damage_table, IsDama
 use Rattle.lw_layer.specs.StandsFor.{IsSound}
 use Rattle.lw_layer.specs.Keeping.{keeps_pixel}
 use Rattle.lw_layer.proofs.InnerLaws.{may_pixel, none_may}
-use Rattle.lw_layer.proofs.KeepingLaws.{IsPlain, all_is, kept_pixel}
+use Rattle.lw_layer.proofs.KeepingLaws.{IsPlain, kept_pixel}
 use Rattle.lw_reveal.specs.Changed.{across_to, windowless, carried_to}
 use Rattle.lw_reveal.specs.Counted.{inner_with, counts_pixel}
 use Rattle.lw_reveal.specs.Gained.{is_left}
@@ -105,13 +106,7 @@ pub record IsGained (c : LiveView) (bounds : Rectangle) (visible : List Rectangl
 -- the tests of the definition and those of the code
 same_tests : (kept inner before may now counts damaged : Bool) → kept ≡ now → may ≡ inner → before ≡ not (counts && not damaged)
     → ((kept && inner) && before) ≡ (is_left now counts damaged && may)
-same_tests kept inner before may now counts damaged is inside stays = rw (is, inside, stays) (all_three now inner (not (counts && not damaged)))
-  where
-    all_three : (a b d : Bool) → ((a && b) && d) ≡ ((a && d) && b)
-    all_three true true d = all_is d
-    all_three true false true = refl
-    all_three true false false = refl
-    all_three false b d = refl
+same_tests kept inner before may now counts damaged is inside stays = rw (is, inside, stays) (and_between now inner (not (counts && not damaged)))
 
 -- the layer's pixel is damaged afterwards, as the machine defines it
 abbrev damaged_then : LiveView → Rectangle → List Rectangle → ℕ → ℕ → Bool

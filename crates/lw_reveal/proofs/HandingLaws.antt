@@ -41,11 +41,6 @@ placed_length : (to : Option ℕ) (b : Bitmap) (news : List Bitmap) → length (
 placed_length None b news = refl
 placed_length (Some i) b news = length-set news i b
 
-pub handed_length : (handed : List (Option ℕ)) (former news : List Bitmap) → length (handed_over handed former news) ≡ length news
-handed_length [] former news = refl
-handed_length (to ∷ tos) [] news = refl
-handed_length (to ∷ tos) (b ∷ bs) news = handed_length tos bs (placed to b news) ∙ placed_length to b news
-
 -- a buffer that is still to come is handed over to the place
 abbrev pub Comes : List (Option ℕ) → ℕ → Type 0
 Comes handed i = (n : ℕ) × (n < length handed) × (get_or handed n None ≡ Some i)

@@ -1,15 +1,15 @@
 -- Pairs of former and new rectangles.
-use Rattle.std.proofs.Common.{◌≡◌, ◌≢◌, ℕ, ◌<◌, Bool, true, false, ◌&&◌, List, ◌++◌, length, get_or, set, Option, Some, None, ◌∙◌, sym, ap, subst, arith, ⊎_elim, ℤ, ◌-ℤ◌, get_or-set_same, get_or-set_other}
+use Rattle.std.proofs.Common.{◌≡◌, ◌≢◌, ℕ, ◌<◌, Bool, true, false, ◌&&◌, List, ◌++◌, length, get_or, set, Option, Some, None, ◌∙◌, sym, ap, subst, arith, ⊎_elim, ◌-ℤ◌, get_or-set_same, get_or-set_other}
 use Rattle.std.proofs.Math.ListN.{length-set}
 use Rattle.std.specs.Bool.{IsTrue}
 use Rattle.std.specs.Option.{SomeIff}
 use Rattle.std.specs.Ordering.{int_eq}
 use Rattle.std.specs.Vec.{with_item}
 use Rattle.std.proofs.lemmas.Bool.{cases_eq}
-use Rattle.std.proofs.lemmas.Bool.Decides.{Decides-int_eq}
 use Rattle.std.proofs.lemmas.List.{get_or-replicate, length-replicate}
 use Rattle.std.proofs.Math.ListN.{replicate}
 use Rattle.lw_region.specs.Rectangle.{Rectangle}
+use Rattle.lw_region.proofs.Numbers.{eq_of}
 use Rattle.lw_calls.specs.declared.make.Kind.{Kind}
 use Rattle.lw_cliprects.specs.Parts.{hidden_of}
 use Rattle.lw_layer.specs.View.{LiveView}
@@ -19,20 +19,16 @@ use Rattle.lw_reveal.specs.declared.pairing.Pairing.{Pairing}
 use Rattle.lw_reveal.specs.Changes.{beside_own, IsGiven}
 use Rattle.lw_reveal.specs.Pairing.{IsNear, IsPair, IsPairing, IsPairingOf, SameLists}
 
--- rectangles with equal edges
-int_same : (x y : ℤ) → int_eq x y ≡ true → x ≡ y
-int_same x y is = (Decides-int_eq x y).0 is
-
 pub edges_same : (r s : Rectangle)
     → (int_eq r.min_x s.min_x && (int_eq r.min_y s.min_y && (int_eq r.max_x s.max_x && int_eq r.max_y s.max_y))) ≡ true → r ≡ s
 edges_same r s is =
     let first = both_true _ _ is in
     let second = both_true _ _ first.1 in
     let third = both_true _ _ second.1 in
-    ap (λ z. record r { min_x = z }) (int_same r.min_x s.min_x first.0) ∙
-    (ap (λ z. record s { min_y = z; max_x = r.max_x; max_y = r.max_y }) (int_same r.min_y s.min_y second.0) ∙
-    (ap (λ z. record s { max_x = z; max_y = r.max_y }) (int_same r.max_x s.max_x third.0) ∙
-    ap (λ z. record s { max_y = z }) (int_same r.max_y s.max_y third.1)))
+    ap (λ z. record r { min_x = z }) (eq_of r.min_x s.min_x first.0) ∙
+    (ap (λ z. record s { min_y = z; max_x = r.max_x; max_y = r.max_y }) (eq_of r.min_y s.min_y second.0) ∙
+    (ap (λ z. record s { max_x = z; max_y = r.max_y }) (eq_of r.max_x s.max_x third.0) ∙
+    ap (λ z. record s { max_y = z }) (eq_of r.max_y s.max_y third.1)))
 
 -- the edges were compared with those of the moved rectangle
 moved_told : (o : Option Rectangle) (r v : Rectangle) (P : Type 0) → o ≡ Some r → SomeIff o P v → r ≡ v

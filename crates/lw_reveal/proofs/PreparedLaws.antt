@@ -7,6 +7,7 @@ use Rattle.lw_planes.specs.Sizes.{AreSizes}
 use Rattle.lw_calls.specs.declared.make.Kind.{Kind}
 use Rattle.lw_calls.specs.declared.make.Kind.TheVariants.{Simple, Smart, SuperBitmap}
 use Rattle.lw_cliprects.specs.Parts.{hidden_of}
+use Rattle.lw_cliprects.proofs.HiddenLaws.{canonical_hidden}
 use Rattle.lw_layer.specs.View.{LiveView}
 use Rattle.lw_layer.specs.Pieces.{columns, lines, IsDamageOf}
 use Rattle.lw_layer.specs.New.{kept_hidden}
@@ -17,7 +18,7 @@ use Rattle.lw_reveal.specs.Changed.{carried_to, MayHave}
 use Rattle.lw_reveal.specs.Changes.{beside_own, carried, new_rectangle, new_buffer, IsGiven, MayBeHanded, IsChange}
 use Rattle.lw_reveal.specs.Carrying.{HaveRoom, AreBothNew}
 use Rattle.lw_reveal.specs.Pairing.{IsPair, IsPairingOf}
-use Rattle.lw_reveal.proofs.CarriedLaws.{AreParts, both_ordered, divided_inside, hidden_canonical}
+use Rattle.lw_reveal.proofs.CarriedLaws.{AreParts, both_ordered, divided_inside}
 
 -- the rectangles beside an own bitmap are visible and hidden ones
 pub record IsOneOf (visible hidden rects : List Rectangle) (i : ℕ) (d : Rectangle) : Type 0 where
@@ -48,7 +49,7 @@ new_size kind bounds visible depth i parts sizes inside =
     let P : Rectangle → Type 0 = λ q. AreSizes (columns q) (lines q) depth in
     subst P (sym one.same)
     (part_size (get_or (visible ++ hidden) i bounds) bounds depth
-    (both_ordered visible hidden i bounds parts.canonical (hidden_canonical bounds visible) one.inside)
+    (both_ordered visible hidden i bounds parts.canonical (canonical_hidden bounds visible) one.inside)
     (λ x y has. divided_inside bounds visible hidden i x y parts.divided one.inside has)
     sizes)
 

@@ -1,10 +1,12 @@
 -- Laws of blocks of a layer's pixels.
-use Rattle.std.proofs.Common.{◌≡◌, ℕ, ◌<◌, ◌≤◌, nat_lt, Bool, true, false, not, ◌&&◌, ⊎_elim, ℤ, pos, negsuc, ◌+ℤ◌, ◌-ℤ◌, ◌<ℤ◌, ◌≤ℤ◌, int_le, inl, inr, Option, Some, None, MatchOption, ◌∙◌, sym, refl, ap, arith}
+use Rattle.std.proofs.Common.{◌≡◌, ℕ, ◌<◌, ◌≤◌, true, false, not, ◌&&◌, ℤ, pos, ◌+ℤ◌, ◌-ℤ◌, ◌<ℤ◌, ◌≤ℤ◌, int_le, inl, inr, Option, Some, None, MatchOption, ◌∙◌, sym, refl, ap, arith}
 use Rattle.std.specs.Option.{SomeIff}
-use Rattle.std.proofs.lemmas.Bool.{and_parts, cases_lt, lt-ltb, le-ltb, false_from_ne_true}
+use Rattle.std.proofs.lemmas.Bool.{and_parts, lt-ltb, false_from_ne_true}
 use Rattle.std.proofs.lemmas.Bool.Decides.{nat_tests}
 use Rattle.std.proofs.lemmas.Int.{ints, by_lt_z}
+use Rattle.std.proofs.Math.Bool.{and_comm}
 use Rattle.lw_region.specs.Rectangle.{Rectangle, within, has_pixel, IsOrdered, IsWord}
+use Rattle.lw_region.proofs.Meet.{and_swap}
 use Rattle.lw_kernels.specs.Kernel.{is_between}
 use Rattle.lw_machine.specs.Kept.{holds_at}
 use Rattle.lw_machine.specs.Blits.{in_scroll_area}
@@ -16,50 +18,6 @@ use Rattle.lw_scroll.specs.Blocks.{has_place, in_block, IsBlockOf, IsAtSide, Are
 -- a place from 0 on is one of some places
 pub place_between : (p : Places) (u : ℕ) → has_place p (pos u) ≡ is_between p.from p.end u
 place_between p u = grind (arith, ints, nat_tests)
-
--- no place before 0 is
-pub no_place_before : (p : Places) (u : ℕ) → has_place p (negsuc u) ≡ false
-no_place_before p u = grind (arith, ints, nat_tests)
-
--- the places of a rectangle that an extent has
-extent_place : (p : Places) (low high : ℤ) (extent u : ℕ) → p.end ≤ extent
-    → ((v : ℕ) → v < extent → within low (pos v) high ≡ is_between p.from p.end v)
-    → has_place p (pos u) ≡ (nat_lt u extent && within low (pos u) high)
-extent_place p low high extent u last has =
-    ⊎_elim
-    (λ (inside : u < extent). place_between p u
-    ∙ (sym (has u inside) ∙ ap (λ t. t && within low (pos u) high) (sym (lt-ltb u extent inside))))
-    (λ (past : extent ≤ u). off_places p u (omega arith) ∙ ap (λ t. t && within low (pos u) high) (sym (le-ltb u extent past)))
-    (cases_lt u extent)
-  where
-    off_places : (p : Places) (u : ℕ) → p.end ≤ u → has_place p (pos u) ≡ false
-    off_places p u past = grind (arith, ints, nat_tests)
-
-turned : (a b c d : Bool) → ((a && b) && (c && d)) ≡ ((a && c) && (b && d))
-turned true true c d = refl
-turned true false true d = refl
-turned true false false d = refl
-turned false b c d = refl
-
-and_none : (a : Bool) → (a && false) ≡ false
-and_none true = refl
-and_none false = refl
-
--- the places of a rectangle on both axes are its block
-pub is_block : (c : LiveView) (rect : Rectangle) (b : Block) → b.columns.end ≤ c.layer.bits.width
-    → b.rows.end ≤ c.layer.bits.height
-    → ((u : ℕ) → u < c.layer.bits.width → within rect.min_x (pos u) rect.max_x ≡ is_between b.columns.from b.columns.end u)
-    → ((v : ℕ) → v < c.layer.bits.height → within rect.min_y (pos v) rect.max_y ≡ is_between b.rows.from b.rows.end v)
-    → IsBlockOf c rect b
-is_block c rect b right bottom columns rows (pos x) (pos y) =
-    let across = extent_place b.columns rect.min_x rect.max_x c.layer.bits.width x right columns in
-    let down = extent_place b.rows rect.min_y rect.max_y c.layer.bits.height y bottom rows in
-    rw (across, down)
-    (turned (nat_lt x c.layer.bits.width) (within rect.min_x (pos x) rect.max_x) (nat_lt y c.layer.bits.height)
-    (within rect.min_y (pos y) rect.max_y))
-is_block c rect b right bottom columns rows (pos x) (negsuc y) =
-    ap (λ t. has_place b.columns (pos x) && t) (no_place_before b.rows y) ∙ and_none (has_place b.columns (pos x))
-is_block c rect b right bottom columns rows (negsuc x) y = ap (λ t. t && has_place b.rows y) (no_place_before b.columns x)
 
 -- The edges of the places that lead to one of some others a step further on.
 pub record AreEdges (low high step first last : ℤ) : Type 0 where
@@ -152,7 +110,7 @@ pub leads_inside : (b part : Block) (dx dy : ℤ) → IsBrought b dx dy part →
     → in_block part x y ≡ (in_block b x y && in_block b (x +ℤ dx) (y +ℤ dy))
 leads_inside b part dx dy are x y =
     rw (are.columns.has x, are.rows.has y)
-    (turned (has_place b.columns x) (has_place b.columns (x +ℤ dx)) (has_place b.rows y) (has_place b.rows (y +ℤ dy)))
+    (and_swap (has_place b.columns x) (has_place b.columns (x +ℤ dx)) (has_place b.rows y) (has_place b.rows (y +ℤ dy)))
 
 -- the same of a rectangle's pixels
 pub leads_to_area : (c : LiveView) (rect : Rectangle) (b part : Block) (dx dy : ℤ) → IsBlockOf c rect b → IsBrought b dx dy part
@@ -169,19 +127,13 @@ leads_to_area c rect b part dx dy is are x y left low =
 there_back : (z step back : ℤ) → back ≡ pos 0 -ℤ step → (z +ℤ step) +ℤ back ≡ z
 there_back z step back is = omega (arith, ints, is)
 
-and_turned : (a b : Bool) → (a && b) ≡ (b && a)
-and_turned true true = refl
-and_turned true false = refl
-and_turned false true = refl
-and_turned false false = refl
-
 -- the pixels that lead to one of a block, and those to which one leads
 pub shifted_blocks : (b target source : Block) (dx dy back_x back_y : ℤ) → back_x ≡ pos 0 -ℤ dx → back_y ≡ pos 0 -ℤ dy
     → IsBrought b dx dy target → IsBrought b back_x back_y source → (x y : ℤ)
     → in_block target x y ≡ in_block source (x +ℤ dx) (y +ℤ dy)
 shifted_blocks b target source dx dy back_x back_y left up are back x y =
     leads_inside b target dx dy are x y
-    ∙ (and_turned (in_block b x y) (in_block b (x +ℤ dx) (y +ℤ dy))
+    ∙ (and_comm (in_block b x y) (in_block b (x +ℤ dx) (y +ℤ dy))
     ∙ (ap (λ u. in_block b (x +ℤ dx) (y +ℤ dy) && in_block b u y) (sym (there_back x dx back_x left))
     ∙ (ap (λ v. in_block b (x +ℤ dx) (y +ℤ dy) && in_block b ((x +ℤ dx) +ℤ back_x) v) (sym (there_back y dy back_y up))
     ∙ sym (leads_inside b source back_x back_y back (x +ℤ dx) (y +ℤ dy)))))

@@ -1,13 +1,13 @@
 -- Laws of painting a template.
 use Rattle.std.proofs.Common.{◌≡◌, ℕ, ◌+◌, ◌-◌, ◌==◌, ◌<◌, Bool, true, ◌&&◌, List, ◌∙◌, sym, ap, arith}
 use Rattle.std.proofs.lemmas.Bool.Decides.{nat_tests}
-use Rattle.std.proofs.lemmas.Nat.Bits.{bit_at-lt}
 use Rattle.lw_planes.specs.Row.{row_bit}
 use Rattle.lw_planes.specs.Minterm.{minterm_bit}
 use Rattle.lw_planes.proofs.RowLaws.{row_bit_lt}
 use Rattle.lw_machine.specs.Layer.{Raster}
 use Rattle.lw_machine.specs.Paint.{candidate_bit, has_inversvid}
 use Rattle.lw_machine.specs.Shapes.{differ}
+use Rattle.lw_machine.proofs.DrawingSound.{candidate_bit_lt}
 use Rattle.lw_layer.specs.View.{CellView, with_live}
 use Rattle.lw_draw.specs.Drawn.{drawn, GivesBits}
 use Rattle.lw_draw.specs.Combined.{combined_bit}
@@ -17,15 +17,8 @@ use Rattle.lw_draw.specs.declared.stretch.Stretch.{Stretch}
 use Rattle.lw_draw.proofs.PaintLaws.{cell_alike}
 use Rattle.lw_text.specs.Templates.{stamped_bit, row_has}
 
--- what a bit becomes is a bit
-candidate_small : (raster : Raster) (foreground : Bool) (p old : ℕ) → old < 2 → candidate_bit raster foreground p old < 2
-candidate_small raster foreground p old small =
-    let a = bit_at-lt raster.pen_a p in
-    let b = bit_at-lt raster.pen_b p in
-    grind (arith, nat_tests)
-
 pub stamps_bits : (raster : Raster) (has : ℕ → ℕ → Bool) → GivesBits (stamped_bit raster has)
-stamps_bits raster has p x y old small = candidate_small raster (differ (has_inversvid raster) (has x y)) p old small
+stamps_bits raster has p x y old small = candidate_bit_lt raster (differ (has_inversvid raster) (has x y)) p old small
 
 -- the plane of a pixel that is on it
 the_plane : (p k : ℕ) (run : Bool) → (p == k && run) ≡ true → p ≡ k

@@ -10,6 +10,7 @@ use Rattle.std.proofs.lemmas.Nat.Bits.{bit_at-zero}
 use Rattle.lw_planes.specs.Row.{row_bit}
 use Rattle.lw_planes.specs.Bitmap.{IsBitmap, pen_at}
 use Rattle.lw_region.specs.Rectangle.{within}
+use Rattle.lw_region.proofs.Lists.{and_between}
 use Rattle.lw_kernels.specs.Kernel.{is_between}
 use Rattle.lw_machine.specs.Layer.{Raster}
 use Rattle.lw_machine.specs.Kept.{is_drawable}
@@ -41,14 +42,6 @@ cell_bit glyphs text bytes left top first n row i j column line byte =
     (ap (λ a. has ((8 * first + n) / 8) a row) (sym across) ∙
     (ap (λ u. has (u / 8) (u % 8) row) (sym column) ∙ ap (λ v. has (unsigned_abs (pos i -ℤ left) / 8) (unsigned_abs (pos i -ℤ left) % 8) v) (sym line)))))
 
--- the tests of a pixel of a cell, in another order
-cut_turned : (column row before : Bool) → ((column && row) && before) ≡ ((column && before) && row)
-cut_turned true true true = refl
-cut_turned true true false = refl
-cut_turned true false true = refl
-cut_turned true false false = refl
-cut_turned false row before = refl
-
 -- A text is painted in the columns before one once its cells' drawable pixels there are.
 pub text_shape : (c : LiveView) (glyphs : List (List ℕ)) (text : List ℕ) (raster : Raster) (upper lower from end limit : ℕ) → IsBitmap c.layer.bits → raster ≡ c.layer.raster → ((u : ℕ) → u < c.layer.bits.width → ((int_le raster.cursor_x (pos u) && int_le (pos u +ℤ pos 1) (raster.cursor_x +ℤ pos (8 * length text))) && nat_lt u limit) ≡ is_between from end u) → ((v : ℕ) → v < c.layer.bits.height → within (raster.cursor_y -ℤ pos 6) (pos v) ((raster.cursor_y -ℤ pos 6) +ℤ pos 7) ≡ is_between upper lower v) → stamped raster (text_has glyphs text raster) (λ i j. in_rows c upper lower from end i j) c ≡ with_layer (λ l. text_before glyphs (λ x y. shows c x y) text limit l) c
 unfolding in_cells
@@ -60,7 +53,7 @@ text_shape c glyphs text raster upper lower from end limit ok same columns rows 
     ap (λ q. drawn (λ p x y. in_mask q p && in_rows c upper lower from end x y) (λ p x y old. candidate_bit q (differ (has_inversvid q) (text_has glyphs text q x y)) p old) c) same ∙
     shape_drawn c (λ x y. in_cells r.cursor_x (r.cursor_y -ℤ pos 6) (length text) (pos x) (pos y) && nat_lt x limit) (λ i j. in_rows c upper lower from end i j) (λ p x y old. candidate_bit r (differ (has_inversvid r) (text_has glyphs text r x y)) p old) ok
     (λ x y left low.
-    ap (λ t. draws c x y && t) (cut_turned (int_le r.cursor_x (pos x) && int_le (pos x +ℤ pos 1) (past r)) (high r y) (nat_lt x limit)) ∙
+    ap (λ t. draws c x y && t) (and_between (int_le r.cursor_x (pos x) && int_le (pos x +ℤ pos 1) (past r)) (high r y) (nat_lt x limit)) ∙
     tests_turned (draws c x y) _ _ (is_between from end x) (is_between upper lower y) (ap (λ q. wide q x) (sym same) ∙ columns x left) (ap (λ q. high q y) (sym same) ∙ rows y low))
 
 -- A text that ends where the layer does is painted whole.

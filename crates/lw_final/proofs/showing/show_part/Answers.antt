@@ -1,7 +1,9 @@
 use Rattle.std.proofs.Common.{ℕ, ◌+◌, ◌^◌, ◌<◌, ◌==◌, ◌&&◌, Bool, nat_lt, subst, arith}
 use Rattle.lw_region.specs.Rectangle.{Rectangle}
+use Rattle.lw_planes.proofs.ChosenLaws.{no_plane, next_plane, all_planes}
+use Rattle.lw_planes.proofs.BitmapLaws.{pen_at_lt}
 use Rattle.lw_final.specs.Shown.{pen_shown, in_rectangle}
-use Rattle.lw_final.proofs.ShownRows.{bits_planes, bits_depth, bits_width, bits_nowhere, bits_more, bits_whole, part_stays, pen_small, no_plane, next_plane, all_planes}
+use Rattle.lw_final.proofs.ShownRows.{bits_planes, bits_depth, bits_width, bits_nowhere, bits_more, bits_whole, part_stays}
 use Rattle.lw_final.proofs.showing.show_part.Goals as goal
 
 -- what is written before a plane
@@ -56,4 +58,4 @@ returns c =
     all_planes p plane (in_rectangle r x y) below)
     (λ x y.
     let P : ℕ → Type 0 = λ n. pen_shown v x y < 2 ^ n in
-    subst P c.requires.rect.on.planes (pen_small v.layer.bits _ _ c.requires.rect.sound.bits))
+    subst P c.requires.rect.on.planes (pen_at_lt v.layer.bits _ _ c.requires.rect.sound.bits.bitmap))

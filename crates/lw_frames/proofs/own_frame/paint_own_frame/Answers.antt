@@ -2,7 +2,7 @@ use Rattle.std.proofs.Common.{◌≡◌, true, ◌∙◌, sym, ap, rules}
 use Rattle.lw_machine.specs.Layer.{is_framed, is_window}
 use Rattle.lw_machine.specs.Paint.{with_pens}
 use Rattle.lw_layer.specs.View.{CellView}
-use Rattle.lw_frames.proofs.OwnFrameLaws.{framed_window, titled_window, own_framed, unframed}
+use Rattle.lw_frames.proofs.OwnFrameLaws.{framed_window, titled_window, own_framed}
 use Rattle.lw_frames.proofs.own_frame.paint_own_frame.Goals as goal
 
 pub set_title-requires-clause-window : goal.set_title-requires-clause-window

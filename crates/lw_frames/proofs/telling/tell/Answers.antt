@@ -2,7 +2,6 @@ use Rattle.std.proofs.Common.{◌≡◌, ◌∙◌, sym, ap, subst}
 use Rattle.lw_layer.specs.View as view
 use Rattle.lw_layer.specs.View.{State}
 use Rattle.lw_layer.specs.Windows.{RoomWhere}
-use Rattle.lw_frames.proofs.TellingLaws.{all_told, none_told}
 use Rattle.lw_frames.proofs.telling.tell.Goals as goal
 
 pub put_all-requires-clause-window : goal.put_all-requires-clause-window

@@ -1,10 +1,11 @@
 use Rattle.std.proofs.Common.{ℕ, ◌+◌, ◌<◌, ◌==◌, ◌&&◌, Bool, nat_lt, ◌∙◌, sym, arith}
+use Rattle.lw_planes.proofs.ChosenLaws.{no_plane, all_planes}
 use Rattle.lw_layer.specs.Drafts.{raster_of}
 use Rattle.lw_machine.specs.Layer.{Raster}
 use Rattle.lw_draw.specs.Drawn.{in_mask}
 use Rattle.lw_draw.specs.Stretches.{in_stretch}
 use Rattle.lw_draw.specs.declared.stretch.Stretch.{Stretch}
-use Rattle.lw_draw.proofs.PaintLaws.{cell_nowhere, cell_same, cell_more, run_stays, depth_stays, next_plane, left_plane, no_plane, all_planes}
+use Rattle.lw_draw.proofs.PaintLaws.{cell_nowhere, cell_same, cell_more, run_stays, depth_stays, next_plane, left_plane}
 use Rattle.lw_text.specs.Templates.{stamped_bit, row_has}
 use Rattle.lw_text.proofs.TemplateLaws.{stamps_bits}
 use Rattle.lw_text.proofs.template.template_run.Goals as goal
