@@ -1,5 +1,6 @@
 ghost use Rattle.std.specs.Prelude.{◌<◌, vec_len};
 
+use crate::tests_told::told;
 use crate::{Status, layers};
 use lw_backfill::{Backfill, Checker, Cycle, Solid};
 use lw_io::{MemSink, MemSource};
@@ -95,7 +96,7 @@ pub fn answer_through<R: Threads + Wait + AllocGlobal + Sync, G: Gate + Sync>(
     input.extend_from_slice(after)?;
     let mut source = source_of(alloc, input.as_slice(), 65_536, &[])?;
     let mut sink = sink_of(alloc, 131_072, 4096, &[])?;
-    let status = layers(
+    let status = told(
         rt,
         alloc,
         words.as_slice(),
