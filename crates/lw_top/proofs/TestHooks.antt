@@ -1,11 +1,12 @@
 -- Laws of the hook of the tests, which has a tile of its places' numbers, and a tile of the same numbers backwards.
-use Rattle.std.proofs.Common.{◌≡◌, ℕ, ◌+◌, ◌-◌, ◌*◌, ◌<◌, Bool, true, false, if◌then◌else◌, List, [], ◌∷◌, length, map, get_or, ◌∙◌, ap, sym, ℤ, pos, negsuc, rules, arith}
+use Rattle.std.proofs.Common.{◌≡◌, ℕ, ◌+◌, ◌-◌, ◌*◌, ◌<◌, Bool, true, false, if◌then◌else◌, List, [], ◌∷◌, length, map, get_or, ◌∙◌, ap, sym, ℤ, arith}
 use Rattle.std.specs.List.{All, range_with_len}
 use Rattle.std.proofs.lemmas.List.{get_or-map, length-map}
 use Rattle.std.proofs.lemmas.List.Elements.{All-nil, All-cons, All-from_get_or}
 use Rattle.std.proofs.lemmas.List.FromFn.{get_or-range_with_len, length-range_with_len}
 use Rattle.lw_machine.specs.Hook.{Hook, hook_pen, tile_place}
 use Rattle.lw_backfill.specs.Hooks.{IsTile, IsHook}
+use Rattle.lw_backfill.proofs.Tiles.{index_within}
 
 abbrev forwards : List ℕ
 forwards = range_with_len 0 64
@@ -54,14 +55,6 @@ both_tiles = All-cons IsTile forwards (backwards ∷ []) front (All-cons IsTile 
 pub numbered_is_hook : (b : Bool) → IsHook (numbered b)
 numbered_is_hook true = record { tiles = both_tiles; place = omega arith }
 numbered_is_hook false = record { tiles = both_tiles; place = omega arith }
-
--- where a pixel's pen stands in a tile
-place_within : (z : ℤ) → tile_place z < 8
-place_within (pos n) = search (arith, rules)
-place_within (negsuc n) = search (arith, rules)
-
-index_within : (x y : ℤ) → 8 * tile_place y + tile_place x < 64
-index_within x y = omega (arith, place_within x, place_within y)
 
 -- the pen of a pixel
 pub numbered_pen : (b : Bool) (m n : ℕ) (x y : ℤ) → m ≡ tile_place x → n ≡ tile_place y → (if b then 63 - (8 * n + m) else 8 * n + m) ≡ hook_pen (numbered b) x y
