@@ -1,6 +1,7 @@
 -- What the bounds of a rectangle that fits satisfy.
 use Rattle.std.proofs.Common.{◌≡◌, true, ℤ, pos, negsuc, ◌≤ℤ◌, ◌+ℤ◌, ◌-ℤ◌, to_z, of_z, w16, w32, w64, Option, Some, None, SomeIff, IsSome, IsTrue, sym, subst, ◌∙◌, arith, rules}
 use Rattle.lw_region.specs.Rectangle.{Rectangle, IsOrdered, within}
+use Rattle.lw_region.proofs.Numbers.{le_trans}
 use Rattle.lw_calls.specs.Limits.{is_coordinate, axis_fits, rect_fits}
 use Rattle.std.proofs.lemmas.Bool.{and_parts}
 use Rattle.std.proofs.lemmas.Int.{ints}
@@ -35,16 +36,12 @@ coordinate_64 : (z : ℤ) → negsuc 32767 ≤ℤ z → z ≤ℤ pos 32767 → I
 coordinate_64 z low high =
     let P : ℤ → Type 0 = λ y. is_coordinate y ≡ true in subst P (sym (same_in_64 z low high)) (is_one z low high)
 
--- a bound of a bound is a bound
-below_all : (a b c : ℤ) → a ≤ℤ b → b ≤ℤ c → a ≤ℤ c
-below_all a b c h k = omega (arith, ints)
-
 -- the lower and the upper bound are coordinates
 pub lower : (low high : ℤ) → IsAxis low high → IsTrue (is_coordinate (to_z w64 (of_z w64 low)))
-lower low high a = coordinate_64 low a.least (below_all low high _ a.order a.greatest)
+lower low high a = coordinate_64 low a.least (le_trans low high _ a.order a.greatest)
 
 pub upper : (low high : ℤ) → IsAxis low high → IsTrue (is_coordinate (to_z w64 (of_z w64 high)))
-upper low high a = coordinate_64 high (below_all _ low high a.least a.order) a.greatest
+upper low high a = coordinate_64 high (le_trans _ low high a.least a.order) a.greatest
 
 -- a bound is the same in 16 bits
 same_in_16 : (z : ℤ) → negsuc 32767 ≤ℤ z → z ≤ℤ pos 32767 → to_z w16 (of_z w16 z) ≡ z
@@ -53,8 +50,8 @@ same_in_16 z low high = omega (arith, ints)
 -- the bounds stand in order where they are converted
 pub in_order : (low high a b : ℤ) → IsAxis low high → a ≡ to_z w64 (of_z w64 low) → b ≡ to_z w64 (of_z w64 high) → to_z w16 (of_z w16 a) ≤ℤ to_z w16 (of_z w16 b)
 in_order low high a b h e f =
-    let l = below_all low high _ h.order h.greatest in
-    let g = below_all _ low high h.least h.order in
+    let l = le_trans low high _ h.order h.greatest in
+    let g = le_trans _ low high h.least h.order in
     let P : ℤ → Type 0 = λ z. to_z w16 (of_z w16 z) ≤ℤ to_z w16 (of_z w16 b) in
     let Q : ℤ → Type 0 = λ z. to_z w16 (of_z w16 low) ≤ℤ to_z w16 (of_z w16 z) in
     let X : ℤ → Type 0 = λ z. z ≤ℤ to_z w16 (of_z w16 high) in

@@ -30,10 +30,6 @@ no_stop hooks command input (BadOrder place) text h = refl
 no_stop hooks command input Usage text h = refl
 no_stop hooks command input s text h = absurd h.3
 
-no_usage : (hooks : List Hook) (command : Command) (input : List ℕ) (s : Status) (text : List ℕ) → IsOutcome hooks command input s text → s ≢ Usage
-no_usage hooks command input Usage text h e = h.3
-no_usage hooks command input s text h e = cc
-
 -- what was said of an outcome is no fault of the source and not running out of memory
 pub said_not_stopped : (hooks : List Hook) (command : Command) (input : List ℕ) (due r : Status) (text : List ℕ) (before after : Option (List ℕ)) (f g : ℕ) → IsOutcome hooks command input due text → Says text due r before after f g → (r ≡ ReadFault) ⊎ (r ≡ NoMemory) → ⊥
 said_not_stopped hooks command input due r text before after f g h (inl e) (inl d) = true≢false (sym (ap is_stop (sym e.0 ∙ d)) ∙ no_stop hooks command input due text h)
