@@ -1,8 +1,8 @@
 -- What planning makes of LayerInfo stands for what the machine makes of it.
-use Rattle.std.proofs.Common.{◌≡◌, ℕ, ◌<◌, ◌==◌, Bool, true, false, ◌&&◌, nat_lt, List, ◌∷◌, length, Option, Some, None, option_and_then, IsTrue, refl, sym, ap, ◌∙◌, arith}
+use Rattle.std.proofs.Common.{◌≡◌, ℕ, ◌<◌, ◌==◌, Bool, true, false, ◌&&◌, List, ◌∷◌, length, Option, Some, None, option_and_then, IsTrue, refl, sym, ap, ◌∙◌, arith}
 use Rattle.std.specs.Prelude.{if◌then◌else◌}
 use Rattle.std.specs.List.{slice_index_or, slice_set}
-use Rattle.std.proofs.lemmas.Bool.{and_parts, ltb-true}
+use Rattle.std.proofs.lemmas.Bool.{ltb-true}
 use Rattle.lw_region.specs.Rectangle.{Rectangle}
 use Rattle.lw_calls.specs.declared.make.Make.{Make}
 use Rattle.lw_calls.specs.declared.call.Call.{Call}
@@ -26,7 +26,7 @@ use Rattle.lw_arrange.specs.Places.{changed_by}
 use Rattle.lw_arrange.specs.Planning.{is_backdrop_at, changed_bounds, with_new, without_slot, with_order, with_change, with_front, with_back, with_pair, stack_after}
 use Rattle.lw_arrange.proofs.RefusalLaws.{told_backdrop}
 use Rattle.lw_arrange.proofs.StackLaws.{listed_is_slot, stands_without}
-use Rattle.lw_arrange.proofs.SoundLaws.{bounds_set}
+use Rattle.lw_arrange.proofs.SoundLaws.{bounds_set, entry_low}
 
 -- the bounds with those of a slot changed, as the desk has them
 set_is : (d : Desk) (v : Stack) (s : ℕ) (b b' : Option Rectangle) → StandsForInfo v (info_part d) → s < length v.bounds
@@ -117,11 +117,6 @@ change_stands d v s change stands low =
           (ap (option_and_then (λ r. Some (changed_by change r))) (stands.bounds s) ∙ changed_is change (bounds_at v.bounds s));
       active = stands.active;
     }
-
--- a slot of a call that fits has an entry among the bounds
-entry_low : (v : Stack) (s : ℕ) (rest : Bool) → IsStack v → IsTrue (nat_lt s v.sizes.slots && rest) → s < length v.bounds
-entry_low v s rest ok fits =
-    let low = ltb-true s v.sizes.slots (and_parts (nat_lt s v.sizes.slots) rest fits).0 in omega (arith, low, ok.many)
 
 -- What planning makes of LayerInfo stands for what the machine makes of it.
 pub after_stands : (d : Desk) (v : Stack) (looks : List (Option Look)) (fresh : Bool) (task : ℕ) (call : Call) → IsStack v

@@ -15,6 +15,7 @@ use Rattle.lw_machine.specs.Kept.{in_inner, is_kept}
 use Rattle.lw_machine.specs.Arrangement.{blank, new_layer}
 use Rattle.lw_machine.specs.Reveal.{width_in, height_in, counts_as_kept, resized, fill_pen, hook_after}
 use Rattle.lw_machine.specs.Reveal as reveal
+use Rattle.lw_machine.proofs.CreatedSound.{blank_bitmap}
 use Rattle.lw_layer.specs.View.{LiveView, CellView, keeps}
 use Rattle.lw_layer.specs.View as view
 use Rattle.lw_layer.specs.Pieces.{columns, lines}
@@ -25,7 +26,6 @@ use Rattle.lw_reveal.proofs.GainedCounts.{counts_kept}
 use Rattle.lw_arrange.specs.Filled.{gains, filled_layer}
 use Rattle.lw_arrange.proofs.FilledLaws.{with_hook, unfilled_bare}
 use Rattle.lw_arrange.proofs.GainsLaws.{stayed, gains_stayed, none_gained, gained_inside, carried_pen}
-use Rattle.lw_arrange.proofs.OpenedLaws.{new_bitmap}
 
 -- the size of a framed window stays
 abbrev pub KeepsFrame : LiveView → Rectangle → Type 0
@@ -179,5 +179,5 @@ created_blank SuperBitmap depth make x y left low = pen_at_bitmap _ _ depth (λ 
 pub new_unfilled : (make : Make) (depth : ℕ) (window : Option Window) (on : ℕ → ℕ → Bool) (some : Bool)
     → filled_layer None on some (new_layer depth make None window) ≡ new_layer depth make None window
 new_unfilled make depth window on some =
-    unfilled_bare (new_layer depth make None window) on some (new_bitmap make.kind depth make)
+    unfilled_bare (new_layer depth make None window) on some (blank_bitmap make.kind depth make)
     (λ x y left low is. created_blank make.kind depth make x y left low)

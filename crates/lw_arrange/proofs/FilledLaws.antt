@@ -1,10 +1,7 @@
 -- What the machine's reveal makes of a layer with a hook or without: what a cell's layer is once it is filled where it gains pixels.
-use Rattle.std.proofs.Common.{◌≡◌, ℕ, ◌<◌, Bool, true, false, not, ◌&&◌, List, [], ◌∷◌, Option, Some, None, refl, sym, ap, ◌∙◌, arith, get_or}
+use Rattle.std.proofs.Common.{◌≡◌, ℕ, ◌<◌, Bool, true, false, not, ◌&&◌, [], Option, Some, None, refl, sym, ap, ◌∙◌}
 use Rattle.std.specs.Prelude.{if◌then◌else◌}
-use Rattle.std.specs.List.{list_any, range_with_len}
 use Rattle.std.proofs.Math.Path.{fun_ext}
-use Rattle.std.proofs.lemmas.List.Folds.{list_any_at}
-use Rattle.std.proofs.lemmas.List.FromFn.{length-range_with_len, get_or-range_with_len}
 use Rattle.lw_planes.specs.Bitmap.{IsBitmap, bitmap, pen_at}
 use Rattle.lw_planes.proofs.BitmapLaws.{pen_at_bitmap, bitmap_again, bitmap_same}
 use Rattle.lw_calls.specs.Kinds.{is_super}
@@ -15,28 +12,6 @@ use Rattle.lw_machine.specs.Paint.{with_pens}
 use Rattle.lw_machine.specs.Reveal.{Across, width_in, height_in, counts_as_kept, resized, keeps, fills, fill_pen, some_pixel, some_now, hook_after, with_revealed, revealed}
 use Rattle.lw_machine.proofs.Settling.{revealed_plain}
 use Rattle.lw_arrange.specs.Filled.{filled_layer}
-
--- no number of a list passes a test that none passes
-none_any : (test : ℕ → Bool) (ns : List ℕ) → ((n : ℕ) → test n ≡ false) → list_any test ns ≡ false
-none_any test [] none = refl
-none_any test (n ∷ ns) none = rw (none n) (none_any test ns none)
-
--- no pixel is such where none passes the test
-pub none_passes : (w h : ℕ) (test : ℕ → ℕ → Bool) → ((x y : ℕ) → test x y ≡ false) → some_pixel w h test ≡ false
-unfolding some_pixel
-none_passes w h test none = none_any _ (range_with_len 0 h) (λ y. none_any (λ x. test x y) (range_with_len 0 w) (λ x. none x y))
-
--- some number below n passes a test that one passes
-one_any : (test : ℕ → Bool) (n k : ℕ) → k < n → test k ≡ true → list_any test (range_with_len 0 n) ≡ true
-one_any test n k low is =
-    let here : get_or (range_with_len 0 n) k 0 ≡ k = get_or-range_with_len 0 n k 0 low ∙ omega arith in
-    list_any_at test (range_with_len 0 n) k 0 (omega (arith, length-range_with_len 0 n, low)) (ap test here ∙ is)
-
--- some pixel is such where one of the table passes the test
-pub one_passes : (w h : ℕ) (test : ℕ → ℕ → Bool) (x y : ℕ) → x < w → y < h → test x y ≡ true → some_pixel w h test ≡ true
-unfolding some_pixel
-one_passes w h test x y left low is =
-    one_any (λ j. list_any (λ i. test i j) (range_with_len 0 w)) h y low (one_any (λ i. test i y) w x left is)
 
 -- A pixel's pen by whether it is kept, and whether it counts as kept before: filled at once, or by a layer with other pens and then
 -- filled.

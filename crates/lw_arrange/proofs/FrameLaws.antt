@@ -9,6 +9,7 @@ use Rattle.lw_region.specs.Banded.{IsCanonical, AreRuns, AreBands, flat}
 use Rattle.lw_region.proofs.Meet.{corner_in}
 use Rattle.lw_region.proofs.SetOps.{canonical_is_banded}
 use Rattle.lw_region.proofs.Within.{within_true, within_low, within_high}
+use Rattle.lw_region.proofs.Moving.{last_in}
 use Rattle.lw_calls.specs.Kinds.{is_super}
 use Rattle.lw_damage.specs.Damaged.{may_lie}
 use Rattle.lw_machine.specs.Hook.{Hook}
@@ -21,10 +22,11 @@ use Rattle.lw_layer.specs.View as view
 use Rattle.lw_layer.specs.Pieces.{columns, lines, inner_of}
 use Rattle.lw_layer.specs.StandsFor.{IsSound}
 use Rattle.lw_layer.proofs.InnerLaws.{may_pixel}
+use Rattle.lw_layer.proofs.PixelTests.{one_within, none_within}
 use Rattle.lw_reveal.proofs.GainedView.{carried_without_bitmap}
 use Rattle.lw_arrange.specs.Filled.{gains, AreGained}
 use Rattle.lw_arrange.specs.Framed.{lies_inside, IsFrameGained, has_corners}
-use Rattle.lw_arrange.proofs.FilledLaws.{none_passes, one_passes, with_hook}
+use Rattle.lw_arrange.proofs.FilledLaws.{with_hook}
 use Rattle.lw_arrange.proofs.GainsLaws.{across_with, stayed, gains_stayed, gained_inside}
 
 -- each rectangle of the list has a pixel
@@ -52,12 +54,6 @@ ordered_list : (rects : List Rectangle) → IsCanonical rects → AreOrdered rec
 ordered_list rects canonical =
     let banded = (canonical_is_banded rects).0 canonical in
     subst AreOrdered banded.rectangles (ordered_bands banded.bands banded.are)
-
--- an ordered rectangle has its last pixel too
-last_in : (r : Rectangle) → IsOrdered r → has_pixel r r.max_x r.max_y ≡ true
-last_in r h =
-    and_from _ _ (within_true r.min_x r.max_x r.max_x h.columns (omega (arith, ints)))
-    (within_true r.min_y r.max_y r.max_y h.rows (omega (arith, ints)))
 
 -- a rectangle whose first and last pixel another one has lies in it
 lies_between : (low first z last high : ℤ) → within low first high ≡ true → within low last high ≡ true → within first z last ≡ true
@@ -219,7 +215,7 @@ frame_gained c r visible h active new_active rects answer live sound framed are 
     one : (x y : ℤ) → holds_at (λ i j. gains c to i j) x y ≡ true → lies_inside r x y ≡ false → some_now q test ≡ true
     one (pos x) (pos y) has out =
         let place = inside x y has in
-        one_passes (columns r) (lines r) test x y place.0 place.1 (tested x y true false has (sym (inner x y has) ∙ out))
+        one_within (columns r) (lines r) test x y place.0 place.1 (tested x y true false has (sym (inner x y has) ∙ out))
     one (pos x) (negsuc y) has out = absurd (cc has)
     one (negsuc x) y has out = absurd (cc has)
 
@@ -227,4 +223,4 @@ frame_gained c r visible h active new_active rects answer live sound framed are 
     go true is =
         let found = told.some is in
         one found.0 found.1 (sym (are found.0 found.1) ∙ found.2) found.3 ∙ sym is
-    go false is = none_passes (columns r) (lines r) test (λ x y. off is x y (gains c to x y) refl) ∙ sym is
+    go false is = none_within (columns r) (lines r) test (λ x y _ _. off is x y (gains c to x y) refl) ∙ sym is

@@ -3,6 +3,7 @@ use Rattle.std.proofs.Common.{◌≡◌, ℕ, ◌<◌, ◌==◌, Bool, true, fal
 use Rattle.std.proofs.Math.Path.{fun_ext}
 use Rattle.std.proofs.lemmas.Bool.{cases_Bool, both_ways, false_from_ne_true, and_right}
 use Rattle.std.proofs.lemmas.Bool.Decides.{nat_tests}
+use Rattle.std.proofs.Math.Bool.{and-false}
 use Rattle.lw_region.specs.Rectangle.{Rectangle, IsOrdered}
 use Rattle.lw_region.specs.Bands.{covers}
 use Rattle.lw_region.specs.Banded.{IsCanonical}
@@ -26,6 +27,8 @@ use Rattle.lw_layer.specs.New.{IsNewSize, new_live}
 use Rattle.lw_layer.specs.StandsFor.{IsSound}
 use Rattle.lw_layer.specs.Keeping.{keeps_pixel, AreKept}
 use Rattle.lw_layer.proofs.KeepingLaws.{IsPlain, kept_pixel}
+use Rattle.lw_layer.proofs.PixelTests.{one_within, none_within}
+use Rattle.lw_layer.proofs.NewDraftLaws.{box_extent}
 use Rattle.lw_reveal.specs.Changed.{across_to}
 use Rattle.lw_reveal.specs.Counted.{inner_with, counts_pixel, AreCounted}
 use Rattle.lw_reveal.proofs.GainedView.{gained_view, gained_plain, carried_own}
@@ -34,9 +37,8 @@ use Rattle.lw_stack.specs.Stack.{bounds_at}
 use Rattle.lw_arrange.specs.Arrangements.{ArrangementView}
 use Rattle.lw_arrange.specs.Prepared.{Created, created_by, kind_of, without_layer, becomes, shown_at, cell_after, MayBeNew, MayOpen}
 use Rattle.lw_arrange.specs.Filled.{keeps_if_live, counts_if_live, gains, gains_some, AreGained, filled_by}
-use Rattle.lw_arrange.proofs.FilledLaws.{none_passes, one_passes}
 use Rattle.lw_arrange.proofs.GainsLaws.{stayed, none_gained, gains_stayed, gained_inside}
-use Rattle.lw_arrange.proofs.OpenedLaws.{extent, new_width, new_height, created}
+use Rattle.lw_arrange.proofs.OpenedLaws.{new_width, new_height, created}
 
 -- tests on layer pixels that are the same at each pixel are so at each place
 pub same_at : (f g : ℕ → ℕ → Bool) → ((x y : ℕ) → f x y ≡ g x y) → (x y : ℤ) → holds_at f x y ≡ holds_at g x y
@@ -104,10 +106,10 @@ new_plain make depth bounds visible window other size ordered inside = record {
   upper = refl;
   wide =
       new_width make.kind depth make other
-      ∙ (ap unsigned_abs (sym (extent make.x make.w)) ∙ ap columns (sym size.place));
+      ∙ (ap unsigned_abs (sym (box_extent make.x make.w)) ∙ ap columns (sym size.place));
   high =
       new_height make.kind depth make other
-      ∙ (ap unsigned_abs (sym (extent make.y make.h)) ∙ ap lines (sym size.place));
+      ∙ (ap unsigned_abs (sym (box_extent make.y make.h)) ∙ ap lines (sym size.place));
 }
 
 -- what is gained where nothing was kept before
@@ -267,8 +269,8 @@ same_gained c kind former bounds shown listed visible seen former_is places show
 pub some_rectangle : (from to : CellView) (rects : List Rectangle) → IsCanonical rects → AreGained from to rects
     → not (length rects == 0) ≡ gains_some from to
 some_rectangle from to [] canonical are =
-    sym (none_passes to.live.layer.bits.width to.live.layer.bits.height (λ i j. gains from to i j)
-    (λ i j. sym (are (pos i) (pos j)) ∙ covers_nil (pos i) (pos j)))
+    sym (none_within to.live.layer.bits.width to.live.layer.bits.height (λ i j. gains from to i j)
+    (λ i j _ _. sym (are (pos i) (pos j)) ∙ covers_nil (pos i) (pos j)))
 some_rectangle from to (r ∷ rs) canonical are =
     let some : (length (r ∷ rs) == 0) ≡ false = grind (arith, nat_tests) in
     ap not some ∙ sym (⊎_elim (λ is. is) (λ never. absurd (cc (empty never))) (cases_Bool (gains_some from to)))
@@ -283,7 +285,7 @@ some_rectangle from to (r ∷ rs) canonical are =
         false_from_ne_true (gains from to i j) (λ has.
         let place = gained_inside from to i j has in
         both_ways (gains_some from to) never
-        (one_passes to.live.layer.bits.width to.live.layer.bits.height (λ u v. gains from to u v) i j place.0 place.1 has)))
+        (one_within to.live.layer.bits.width to.live.layer.bits.height (λ u v. gains from to u v) i j place.0 place.1 has)))
         x y)
 
 -- what is gained is kept
@@ -294,11 +296,7 @@ kept_gained from to x y live =
     go : (k t : Bool) → t ≡ k → (k && (not (is_super to.live.layer.kind) && (t && not (counts_if_live from.state from.live to.live x y))))
         ≡ (not (is_super to.live.layer.kind) && (t && not (counts_if_live from.state from.live to.live x y)))
     go true t same = refl
-    go false t same = rw same (sym (never (not (is_super to.live.layer.kind))))
-      where
-        never : (b : Bool) → (b && false) ≡ false
-        never true = refl
-        never false = refl
+    go false t same = rw same (sym (and-false (not (is_super to.live.layer.kind))))
 
 -- What a hook fills by the region of the gained pixels, and turned where that has a rectangle, is what it fills of these pixels.
 pub filled_region : (g : Option Hook) (from to : CellView) (rects : List Rectangle) → to.state ≡ view.Live → IsCanonical rects

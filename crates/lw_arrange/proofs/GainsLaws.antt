@@ -14,11 +14,12 @@ use Rattle.lw_machine.proofs.Settling.{revealed_super}
 use Rattle.lw_layer.specs.View.{State, LiveView, CellView, keeps, with_live}
 use Rattle.lw_layer.specs.View as view
 use Rattle.lw_layer.specs.StandsFor.{IsSound}
+use Rattle.lw_layer.proofs.PixelTests.{none_within}
 use Rattle.lw_reveal.specs.Changed.{across_to, windowless, carried_to}
 use Rattle.lw_reveal.proofs.GainedView.{gained_view, carried_without_bitmap, carried_own}
 use Rattle.lw_reveal.proofs.GainedCounts.{counts_kept}
 use Rattle.lw_arrange.specs.Filled.{keeps_if_live, counts_if_live, gains, gains_some, filled_layer}
-use Rattle.lw_arrange.proofs.FilledLaws.{none_passes, with_hook, with_other_pens, AreLeft, revealed_filled, unfilled}
+use Rattle.lw_arrange.proofs.FilledLaws.{with_hook, with_other_pens, AreLeft, revealed_filled, unfilled}
 
 -- a super-bitmap layer gains nothing
 pub none_gained : (from to : CellView) (x y : ℕ) → is_super to.live.layer.kind ≡ true → gains from to x y ≡ false
@@ -122,7 +123,7 @@ live_revealed c r visible h active new_active live sound =
         λ x y. none_gained c to x y (ap (λ (v : LiveView). is_super v.layer.kind) carried ∙ own) in
         revealed_super q (with_hook h l) own
         ∙ (sym (unfilled l h on (gains_some c to) sound.bits.bitmap none
-        (none_passes to.live.layer.bits.width to.live.layer.bits.height on none))
+        (none_within to.live.layer.bits.width to.live.layer.bits.height on (λ x y _ _. none x y)))
         ∙ ap (λ (v : LiveView). filled_layer h on (gains_some c to) v.layer) (sym carried))
 
     part : is_super l.kind ≡ false

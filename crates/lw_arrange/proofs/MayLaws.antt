@@ -23,18 +23,20 @@ use Rattle.lw_machine.specs.Reveal.{Across, has_bounds, across, revealed, resize
 use Rattle.lw_machine.specs.Parts.{slot_part}
 use Rattle.lw_machine.specs.Sound.{IsDesk, IsSlot, IsPlaced}
 use Rattle.lw_machine.proofs.Settling.{told_framed}
+use Rattle.lw_machine.proofs.ArrangementSound.{frameless}
 use Rattle.lw_cliprects.specs.Parts.{LieIn}
 use Rattle.lw_layer.specs.View.{State, LiveView, CellView, hooked}
 use Rattle.lw_layer.specs.View as view
 use Rattle.lw_layer.specs.Pieces.{columns, lines, HasFrameRoom}
 use Rattle.lw_layer.specs.StandsFor.{IsPartOf, StandsFor, IsSound}
+use Rattle.lw_layer.proofs.SoundLaws.{live_part}
 use Rattle.lw_stack.specs.Stack.{bounds_at, first_at, is_first_at}
 use Rattle.lw_reveal.specs.Changed.{MayHave}
 use Rattle.lw_arrange.specs.Arrangements.{ArrangementView, IsArrangement}
 use Rattle.lw_arrange.specs.Prepared.{Created, created_by, shown_at, HasClasses, MayBeNew, MayBecome, MayBe, MayPrepare}
 use Rattle.lw_arrange.proofs.SettledLaws.{each_settled}
 use Rattle.lw_arrange.proofs.CellLaws.{Stays, Opens, slot_becomes}
-use Rattle.lw_arrange.proofs.StandLaws.{IsDone, find_passes, live_part, listed_low, not_opened, created_is, gone}
+use Rattle.lw_arrange.proofs.StandLaws.{IsDone, find_passes, listed_low, not_opened, created_is, gone}
 
 -- along one axis: bounds on the screen that have a place
 axis_size : (low high : ℤ) (n : ℕ) → int_le (pos 0) low ≡ true → int_le (high +ℤ pos 1) (pos n) ≡ true → int_le (pos 1) ((high +ℤ pos 1) -ℤ low) ≡ true → n ≤ 1024 → (1 ≤ unsigned_abs ((high +ℤ pos 1) -ℤ low)) × (unsigned_abs ((high +ℤ pos 1) -ℤ low) ≤ 2048)
@@ -226,11 +228,6 @@ made_own sizes m fits own =
     let last = and_parts (hook_fits sizes.hooks m.hook) (kind_fits m.kind m.hook m.bits_w m.bits_h) inner.1 in
     own_fits m.kind m.hook m.bits_w m.bits_h last.1 own
 
--- no super-bitmap layer that may be asked for is a window with a frame
-frame_fits : (framed own : Bool) → not (framed && own) ≡ true → own ≡ true → framed ≡ false
-frame_fits true own fits is = absurd (cc)
-frame_fits false own fits is = refl
-
 -- what the ranges of a call say of the layer that it creates
 record IsAsked (n : Created) : Type 0 where
   pub own : is_super n.make.kind ≡ true
@@ -258,7 +255,7 @@ asked_fits task (OpenWindow slot m framed nocare asks title) sizes n asked fits 
     subst IsAsked (created_or asked)
     (record {
       own = made_own sizes m rest.0;
-      frameless = frame_fits framed (is_super m.kind) window.0;
+      frameless = frameless framed (is_super m.kind) window.0;
       classes = ltb-true asks 32 window.1;
     })
 asked_fits task call sizes n asked fits = absurd (cc asked)

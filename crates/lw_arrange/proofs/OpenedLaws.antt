@@ -1,14 +1,11 @@
 -- What the machine reveals of a new layer: the layer as it was created, filled wherever it keeps a pixel.
-use Rattle.std.proofs.Common.{◌≡◌, ℕ, ◌<◌, Bool, true, false, not, ◌&&◌, nat_lt, List, Option, Some, None, refl, sym, ap, subst, ◌∙◌, ⊎_elim, arith, ℤ, pos, ◌+ℤ◌, ◌-ℤ◌, unsigned_abs}
+use Rattle.std.proofs.Common.{◌≡◌, ℕ, ◌<◌, Bool, true, false, not, ◌&&◌, nat_lt, List, Option, Some, None, refl, sym, ap, subst, ◌∙◌, ⊎_elim, ℤ, unsigned_abs}
 use Rattle.std.specs.Prelude.{if◌then◌else◌}
 use Rattle.std.proofs.lemmas.Bool.{cases_Bool}
-use Rattle.std.proofs.lemmas.Int.{ints}
-use Rattle.std.proofs.lemmas.Nat.{pow_pos}
 use Rattle.lw_region.specs.Rectangle.{Rectangle}
 use Rattle.lw_region.specs.Bands.{covers}
 use Rattle.lw_planes.specs.Grid.{grid, at}
-use Rattle.lw_planes.specs.Bitmap.{IsBitmap, bitmap, pen_at}
-use Rattle.lw_planes.proofs.BitmapLaws.{IsBitmap_bitmap}
+use Rattle.lw_planes.specs.Bitmap.{bitmap, pen_at}
 use Rattle.lw_planes.proofs.GridLaws.{grid_same}
 use Rattle.lw_calls.specs.declared.make.Kind.{Kind}
 use Rattle.lw_calls.specs.declared.make.Kind.TheVariants.{Simple, Smart, SuperBitmap}
@@ -21,16 +18,15 @@ use Rattle.lw_machine.specs.Arrangement.{bounds_of, blank, new_layer}
 use Rattle.lw_machine.specs.Reveal.{Across, width_in, height_in, is_inner, counts_as_kept, resized, fills, some_pixel, some_now, revealed}
 use Rattle.lw_machine.specs.Reveal as reveal
 use Rattle.lw_machine.proofs.Settling.{revealed_super}
+use Rattle.lw_machine.proofs.CreatedSound.{blank_bitmap}
 use Rattle.lw_layer.specs.View.{State, LiveView, CellView, keeps}
 use Rattle.lw_layer.specs.View as view
 use Rattle.lw_layer.specs.New.{new_live}
+use Rattle.lw_layer.proofs.NewDraftLaws.{box_extent}
+use Rattle.lw_layer.proofs.PixelTests.{none_within}
 use Rattle.lw_arrange.specs.Filled.{counts_if_live, gains, gains_some, filled_layer}
-use Rattle.lw_arrange.proofs.FilledLaws.{none_passes, with_hook, revealed_in, with_other_pens, AreLeft, revealed_filled, unfilled}
+use Rattle.lw_arrange.proofs.FilledLaws.{with_hook, revealed_in, with_other_pens, AreLeft, revealed_filled, unfilled}
 use Rattle.lw_arrange.proofs.GainsLaws.{none_gained}
-
--- an extent of n places has n
-pub extent : (x n : ℤ) → ((((x +ℤ n) -ℤ pos 1) +ℤ pos 1) -ℤ x) ≡ n
-extent x n = omega (arith, ints)
 
 -- the size of a new layer that has no bitmap of its own is that of its bounds
 pub new_width : (kind : Kind) (depth : ℕ) (make : Make) → is_super kind ≡ false
@@ -47,17 +43,11 @@ new_height SuperBitmap depth make other = absurd (cc other)
 
 wide : (make : Make) (depth : ℕ) → is_super make.kind ≡ false
     → (blank make.kind depth make).width ≡ width_in (Some (bounds_of make))
-wide make depth other = new_width make.kind depth make other ∙ sym (ap unsigned_abs (extent make.x make.w))
+wide make depth other = new_width make.kind depth make other ∙ sym (ap unsigned_abs (box_extent make.x make.w))
 
 high : (make : Make) (depth : ℕ) → is_super make.kind ≡ false
     → (blank make.kind depth make).height ≡ height_in (Some (bounds_of make))
-high make depth other = new_height make.kind depth make other ∙ sym (ap unsigned_abs (extent make.y make.h))
-
--- the bits of a new layer are a bitmap, with pen 0 everywhere
-pub new_bitmap : (kind : Kind) (depth : ℕ) (make : Make) → IsBitmap (blank kind depth make)
-new_bitmap Simple depth make = IsBitmap_bitmap _ _ depth (λ x y. 0) (λ x y left low. pow_pos depth)
-new_bitmap Smart depth make = IsBitmap_bitmap _ _ depth (λ x y. 0) (λ x y left low. pow_pos depth)
-new_bitmap SuperBitmap depth make = IsBitmap_bitmap _ _ depth (λ x y. 0) (λ x y left low. pow_pos depth)
+high make depth other = new_height make.kind depth make other ∙ sym (ap unsigned_abs (box_extent make.y make.h))
 
 blank_is : (kind : Kind) (depth : ℕ) (make : Make)
     → bitmap (blank kind depth make).width (blank kind depth make).height (blank kind depth make).depth (λ x y. 0) ≡ blank kind depth make
@@ -182,8 +172,8 @@ new_revealed c make depth r visible window h shown active new_active fresh place
     whole own =
         let none : (x y : ℕ) → on x y ≡ false = λ x y. none_gained c to x y own in
         revealed_super q (with_hook h l) own
-        ∙ sym (unfilled l h on (gains_some c to) (new_bitmap make.kind depth make) none
-        (none_passes l.bits.width l.bits.height on none))
+        ∙ sym (unfilled l h on (gains_some c to) (blank_bitmap make.kind depth make) none
+        (none_within l.bits.width l.bits.height on (λ x y _ _. none x y)))
 
     part : is_super make.kind ≡ false → revealed q (with_hook h l) ≡ filled_layer h on (gains_some c to) l
     part other =

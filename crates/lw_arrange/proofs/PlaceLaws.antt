@@ -3,37 +3,31 @@ use Rattle.std.proofs.Common.{◌≡◌, ◌&&◌, true, ℤ, pos, negsuc, ◌�
 use Rattle.std.proofs.lemmas.Bool.{and_parts, and_from}
 use Rattle.std.proofs.lemmas.Int.{ints}
 use Rattle.lw_region.specs.Rectangle.{within}
+use Rattle.lw_region.proofs.Within.{within_low, within_high}
 use Rattle.lw_calls.specs.Limits.{is_coordinate, is_extent, coordinates_fit, make_fits, hook_fits, kind_fits}
 use Rattle.lw_calls.specs.declared.make.Make.{Make}
 use Rattle.lw_calls.specs.declared.sizes.Sizes.{Sizes}
+use Rattle.lw_calls.proofs.LimitLaws.{extent_fits}
 use Rattle.lw_machine.specs.Shapes.{box_at}
 use Rattle.lw_machine.specs.Arrangement.{bounds_of}
 use Rattle.lw_arrange.specs.declared.change.Change.TheVariants.{Move, Size, Box}
 use Rattle.lw_arrange.specs.Places.{span_fits, make_spans}
-
--- a number that passes the test of a range lies in it
-pub within_true : (low high z : ℤ) → within low z high ≡ true → (low ≤ℤ z) × (z ≤ℤ high)
-unfolding within
-within_true low high z h = (grind (arith, ints), grind (arith, ints))
-
--- a number that lies in a range passes its test
-pub true_within : (low high z : ℤ) → low ≤ℤ z → z ≤ℤ high → within low z high ≡ true
-unfolding within
-true_within low high z h k = grind (arith, ints)
 
 -- a number as it is read
 pub read_word : (z : ℤ) → negsuc 32767 ≤ℤ z → z ≤ℤ pos 65536 → to_z w32 (of_z w32 z) ≡ z
 read_word z low high = omega (arith, ints)
 
 pub read_coordinate : (z : ℤ) → is_coordinate z ≡ true → to_z w32 (of_z w32 z) ≡ z
-read_coordinate z h = let p = within_true (negsuc 32767) (pos 32767) z h in read_word z p.0 (omega (arith, ints, p.1))
+read_coordinate z h =
+    let low = within_low (negsuc 32767) z (pos 32767) h in
+    let high = within_high (negsuc 32767) z (pos 32767) h in
+    read_word z low (omega (arith, ints, high))
 
 pub read_count : (z : ℤ) → within (pos 1) z (pos 65536) ≡ true → to_z w32 (of_z w32 z) ≡ z
-read_count z h = let p = within_true (pos 1) (pos 65536) z h in read_word z (omega (arith, ints, p.0)) p.1
-
--- an extent is a count
-pub extent_count : (z : ℤ) → is_extent z ≡ true → within (pos 1) z (pos 65536) ≡ true
-extent_count z h = let p = within_true (pos 1) (pos 32767) z h in true_within (pos 1) (pos 65536) z p.0 (omega (arith, ints, p.1))
+read_count z h =
+    let low = within_low (pos 1) z (pos 65536) h in
+    let high = within_high (pos 1) z (pos 65536) h in
+    read_word z (omega (arith, ints, low)) high
 
 -- along one axis, a place and a count as they are read
 pub read_span : (from count : ℤ) → is_coordinate from ≡ true → within (pos 1) count (pos 65536) ≡ true
@@ -60,8 +54,8 @@ read_box x y w h fits =
     let size = and_parts (is_extent w) (is_extent h) parts.1 in
     let ex = read_coordinate x corner.0 in
     let ey = read_coordinate y corner.1 in
-    let ew = read_count w (extent_count w size.0) in
-    let eh = read_count h (extent_count h size.1) in
+    let ew = read_count w (extent_fits w size.0) in
+    let eh = read_count h (extent_fits h size.1) in
     ap (λ z. Box z (to_z w32 (of_z w32 y)) (to_z w32 (of_z w32 w)) (to_z w32 (of_z w32 h))) ex
     ∙ (ap (λ z. Box x z (to_z w32 (of_z w32 w)) (to_z w32 (of_z w32 h))) ey ∙ (ap (λ z. Box x y z (to_z w32 (of_z w32 h))) ew ∙ ap (λ z. Box x y w z) eh))
 

@@ -17,6 +17,7 @@ use Rattle.lw_calls.specs.Limits.{call_fits, make_fits, coordinates_fit, is_exte
 use Rattle.lw_calls.specs.Touches.{CallClass, OnAll, class_of, slots_in}
 use Rattle.lw_calls.specs.Plan.{is_all}
 use Rattle.lw_calls.proofs.BlitClass.{blit_not_all}
+use Rattle.lw_calls.proofs.LimitLaws.{first_low}
 use Rattle.lw_machine.specs.Layer.{Layer, Window, Slot, Unopened, Live, Closed, is_live, is_unopened, layer_is, is_window, is_foreign, is_framed}
 use Rattle.lw_machine.specs.Desk.{Desk}
 use Rattle.lw_machine.specs.Reveal.{has_bounds}
@@ -200,20 +201,16 @@ activation_is d v looks fresh call s are low =
     refuse_same _ _ NotOpen _ _ (ap not (told_live d s k told))
     (refuse_same _ _ NotWindow None None (ap not (told_window d s k told)) refl)
 
--- the slot of a call that fits, where it is told with more
-slot_low : (s n : ℕ) (rest : Bool) → IsTrue (nat_lt s n && rest) → s < n
-slot_low s n rest h = ltb-true s n (and_parts (nat_lt s n) rest h).0
-
 -- Planning refuses a call as the machine does.
 pub refused_is_refusal : (d : Desk) (v : Stack) (looks : List (Option Look)) (fresh : Bool) (task : ℕ) (call : Call)
     → class_of call ≡ OnAll → IsTrue (call_fits v.sizes call) → AreOf d v looks fresh call
     → refused v looks fresh task call ≡ refusal d task call
 refused_is_refusal d v looks fresh task (Create slot make) all fits are =
     creation_is d v looks fresh (Create slot make) slot make false are
-    (slot_low slot v.sizes.slots (make_fits v.sizes make) fits) are.fresh
+    (first_low slot v.sizes.slots (make_fits v.sizes make) fits) are.fresh
 refused_is_refusal d v looks fresh task (OpenWindow slot make framed nocare asks title) all fits are =
     creation_is d v looks fresh (OpenWindow slot make framed nocare asks title) slot make framed are
-    (slot_low slot v.sizes.slots (make_fits v.sizes make && window_fits make framed asks) fits) are.fresh
+    (first_low slot v.sizes.slots (make_fits v.sizes make && window_fits make framed asks) fits) are.fresh
 refused_is_refusal d v looks fresh task (Close slot) all fits are =
     closing_is d v looks fresh (Close slot) task slot are (ltb-true slot v.sizes.slots fits)
 refused_is_refusal d v looks fresh task (ToFront slot) all fits are =
@@ -225,12 +222,12 @@ refused_is_refusal d v looks fresh task (InFrontOf slot other) all fits are =
     pair_is d v looks fresh (InFrontOf slot other) slot other are (ltb-true slot v.sizes.slots parts.0)
     (ltb-true other v.sizes.slots parts.1)
 refused_is_refusal d v looks fresh task (MoveBy slot dx dy) all fits are =
-    change_is d v looks fresh (MoveBy slot dx dy) slot (Move dx dy) are (slot_low slot v.sizes.slots (coordinates_fit dx dy) fits)
+    change_is d v looks fresh (MoveBy slot dx dy) slot (Move dx dy) are (first_low slot v.sizes.slots (coordinates_fit dx dy) fits)
 refused_is_refusal d v looks fresh task (SizeBy slot dw dh) all fits are =
-    change_is d v looks fresh (SizeBy slot dw dh) slot (Size dw dh) are (slot_low slot v.sizes.slots (coordinates_fit dw dh) fits)
+    change_is d v looks fresh (SizeBy slot dw dh) slot (Size dw dh) are (first_low slot v.sizes.slots (coordinates_fit dw dh) fits)
 refused_is_refusal d v looks fresh task (SetBox slot x y w h) all fits are =
     change_is d v looks fresh (SetBox slot x y w h) slot (Box x y w h) are
-    (slot_low slot v.sizes.slots (coordinates_fit x y && (is_extent w && is_extent h)) fits)
+    (first_low slot v.sizes.slots (coordinates_fit x y && (is_extent w && is_extent h)) fits)
 refused_is_refusal d v looks fresh task (Activate slot) all fits are =
     activation_is d v looks fresh (Activate slot) slot are (ltb-true slot v.sizes.slots fits)
 refused_is_refusal d v looks fresh task (Blit source slot area) all fits are = absurd (blit_not_all (source == slot) source slot (ap (λ (k : CallClass). is_all (slots_in k)) all))

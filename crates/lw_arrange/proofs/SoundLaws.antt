@@ -4,7 +4,7 @@ use Rattle.std.specs.Prelude.{if◌then◌else◌, int_le, ◌+ℤ◌}
 use Rattle.std.specs.List.{slice_index_or, slice_set}
 use Rattle.std.proofs.lemmas.Int.{ints}
 use Rattle.std.proofs.lemmas.List.{get_or-set_same, get_or-set_other, length-set}
-use Rattle.std.proofs.lemmas.Bool.{and_parts, ltb-true, false≢true, eqb-true, eq-eqb}
+use Rattle.std.proofs.lemmas.Bool.{and_parts, ltb-true, false≢true, eqb-true, eq-eqb, not-false}
 use Rattle.lw_region.specs.Rectangle.{Rectangle}
 use Rattle.lw_calls.specs.declared.sizes.Sizes.{Sizes}
 use Rattle.lw_calls.specs.declared.make.Make.{Make}
@@ -18,6 +18,7 @@ use Rattle.lw_machine.specs.Reveal.{has_bounds}
 use Rattle.lw_machine.specs.Arrangement.{is_on_screen, is_at_least, columns_of, rows_of, bounds_of, without, put_before, placed}
 use Rattle.lw_machine.specs.Step.{refuse}
 use Rattle.lw_machine.proofs.ListSound.{occurrences_put_before, occurrences_placed, occurrences_without_same, occurrences_without_other, occurrences_moved}
+use Rattle.lw_machine.proofs.ArrangementSound.{unrefused}
 use Rattle.lw_layer.specs.declared.look.Look.{Look}
 use Rattle.lw_stack.specs.Stack.{Stack, bounds_at, IsPlacedOn, IsStack}
 use Rattle.lw_arrange.specs.declared.change.Change.{Change}
@@ -25,15 +26,6 @@ use Rattle.lw_arrange.specs.declared.change.Change.TheVariants.{Move, Size, Box}
 use Rattle.lw_arrange.specs.declared.place.Needs.{Needs}
 use Rattle.lw_arrange.specs.Places.{IsRect, may_lie, needs_of, new_needs, changed_by}
 use Rattle.lw_arrange.specs.Planning.{look_is, is_backdrop_at, placed_look, live_at, is_free_at, may_change, creation_refused, change_refused, refused, changed_bounds, with_new, without_slot, with_order, with_change, with_front, with_pair, with_activated, stack_after, IsChangeRect, HasNewRect}
-
--- where nothing refuses, the first test doesn't hold, and nothing after it refuses
-unrefused : (t : Bool) (r : Reply) (next : Option Reply) → refuse t r next ≡ None → (t ≡ false) × (next ≡ None)
-unrefused true r next e = absurd (cc)
-unrefused false r next e = (refl, e)
-
-not_false : (b : Bool) → not b ≡ false → b ≡ true
-not_false true e = refl
-not_false false e = absurd (false≢true (sym e))
 
 -- a slot that isn't refused as not open has bounds
 live_has_bounds : (b : Option Rectangle) (k : Option Look) → look_is (λ l. true) (placed_look b k) ≡ true → has_bounds b ≡ true
@@ -43,7 +35,7 @@ live_has_bounds (Some r) k h = refl
 pub reordering_bounds : (v : Stack) (looks : List (Option Look)) (s : ℕ) (next : Option Reply)
     → refuse (not (look_is (λ l. true) (live_at v looks s))) NotOpen next ≡ None → has_bounds (bounds_at v.bounds s) ≡ true
 reordering_bounds v looks s next e =
-    live_has_bounds (bounds_at v.bounds s) (slice_index_or looks s None) (not_false _ (unrefused _ NotOpen next e).0)
+    live_has_bounds (bounds_at v.bounds s) (slice_index_or looks s None) (not-false _ (unrefused _ NotOpen next e).0)
 
 -- bounds that a layer may have lie on the screen and are in order
 lying_on : (s : Sizes) (n : Needs) (r : Rectangle) → may_lie s n r ≡ true → IsPlacedOn s (Some r)
@@ -89,9 +81,9 @@ creation_free : (v : Stack) (fresh : Bool) (s : ℕ) (make : Make) (framed : Boo
     → (has_bounds (bounds_at v.bounds s) ≡ false) × IsPlacedOn v.sizes (Some (bounds_of make))
 creation_free v fresh s make framed e =
     let first = unrefused (not (is_free_at v fresh s)) AlreadyOpen _ e in
-    let free = and_parts fresh (not (has_bounds (bounds_at v.bounds s))) (not_false _ first.0) in
+    let free = and_parts fresh (not (has_bounds (bounds_at v.bounds s))) (not-false _ first.0) in
     let second = unrefused (not (may_lie v.sizes (new_needs make framed) (bounds_of make))) OutOfBounds None first.1 in
-    (not_true (has_bounds (bounds_at v.bounds s)) free.1, lying_on v.sizes (new_needs make framed) (bounds_of make) (not_false _ second.0))
+    (not_true (has_bounds (bounds_at v.bounds s)) free.1, lying_on v.sizes (new_needs make framed) (bounds_of make) (not-false _ second.0))
   where
     not_true : (b : Bool) → not b ≡ true → b ≡ false
     not_true true e = absurd (false≢true e)
@@ -111,7 +103,7 @@ change_placed v looks s change e =
     let first = unrefused _ NotOpen _ e in
     let second = unrefused (look_is (λ l. l.backdrop) k) Backdrop _ first.1 in
     let third = unrefused (not (may_change v k change (bounds_at v.bounds s))) OutOfBounds None second.1 in
-    change_on v k change (bounds_at v.bounds s) (not_false _ third.0)
+    change_on v k change (bounds_at v.bounds s) (not-false _ third.0)
 
 change_rect : (v : Stack) (change : Change) (b : Option Rectangle) → IsWithinLimits v.sizes
     → IsPlacedOn v.sizes (changed_bounds change b) → IsChangeRect change b
@@ -276,7 +268,7 @@ activated_sound : (v : Stack) (s : ℕ) → IsStack v → IsStack (with_activate
 activated_sound v s ok = record { limits = ok.limits; many = ok.many; listed = ok.listed; placed = ok.placed }
 
 -- a slot of a call that fits has an entry among the bounds
-entry_low : (v : Stack) (s : ℕ) (rest : Bool) → IsStack v → IsTrue (nat_lt s v.sizes.slots && rest) → s < length v.bounds
+pub entry_low : (v : Stack) (s : ℕ) (rest : Bool) → IsStack v → IsTrue (nat_lt s v.sizes.slots && rest) → s < length v.bounds
 entry_low v s rest ok fits =
     let low = ltb-true s v.sizes.slots (and_parts (nat_lt s v.sizes.slots) rest fits).0 in omega (arith, low, ok.many)
 

@@ -20,11 +20,11 @@ use Rattle.lw_machine.specs.Reveal.{has_bounds, across, settled_layer, settled}
 use Rattle.lw_machine.specs.Parts.{SlotPart, slot_part}
 use Rattle.lw_machine.specs.Step.{refusal, after}
 use Rattle.lw_machine.specs.Sound.{IsDesk, active_is_window}
-use Rattle.lw_machine.proofs.ArrangedStep.{after_is}
 use Rattle.lw_layer.specs.View.{State, LiveView, CellView}
 use Rattle.lw_layer.specs.View as view
 use Rattle.lw_layer.specs.Drafts.{no_layer}
-use Rattle.lw_layer.specs.StandsFor.{IsLivePart, IsPartOf, StandsFor}
+use Rattle.lw_layer.specs.StandsFor.{IsPartOf, StandsFor}
+use Rattle.lw_layer.proofs.SoundLaws.{live_part}
 use Rattle.lw_stack.specs.Stack.{Stack, bounds_at, first_at, is_first_at, StandsForInfo}
 use Rattle.lw_arrange.specs.Arrangements.{ArrangementView, IsArrangement}
 use Rattle.lw_arrange.specs.Arranged.{IsArrangementOf}
@@ -53,10 +53,6 @@ there (Some r) has = (r, refl)
 pub gone : (o : Option Rectangle) → has_bounds o ≡ false → o ≡ None
 gone None has = refl
 gone (Some r) has = absurd (cc has)
-
--- what a cell stands for, by its state
-pub live_part : (c : CellView) (p : SlotPart) → c.state ≡ view.Live → StandsFor c p → IsLivePart c.live p
-live_part c p live stands = let P : State → Type 0 = λ s. IsPartOf s c.live p in subst P live stands
 
 -- where the list says what is shown, the desk shows it
 pub shown_is : (v : Stack) (a : Desk) (s : ℕ) (x y : ℤ) → StandsForInfo v (record { front_to_back = a.front_to_back; bounds = a.bounds; active = a.active; shelf = a.shelf }) → is_shown a s x y ≡ is_first_at v.bounds v.front_to_back s x y
@@ -300,11 +296,3 @@ slot_stands d caller made a c h done stands asked =
     by_state view.Unopened is stays = stays_dead d caller made a c h done (λ live. cc (is, live)) stands stays
     by_state view.Live is stays = stays_live d caller made a c h done is stands stays
     by_state view.Closed is stays = stays_dead d caller made a c h done (λ live. cc (is, live)) stands stays
-
--- So it stands for its part of the desk after the call.
-pub slot_stands_after : (d : Desk) (caller : ℕ) (made : Call) (a : ArrangementView) (c : CellView) (h : Option Hook) → IsDone d caller made a
-    → StandsFor c (slot_part d c.number) → IsHookAsked d a c h
-    → StandsFor (slot_settled d.assets.glyphs a h c) (slot_part (after d caller made) c.number)
-slot_stands_after d caller made a c h done stands asked =
-    let P : Desk → Type 0 = λ e. StandsFor (slot_settled d.assets.glyphs a h c) (slot_part e c.number) in
-    subst P (sym (after_is d caller made done.all done.unrefused)) (slot_stands d caller made a c h done stands asked)

@@ -60,10 +60,3 @@ filled_by h on some c = with_live (λ k. with_layer (λ l. filled_layer h on som
 abbrev pub hook_asked : (ℕ → Option Hook) → Option Created → Option Hook
 hook_asked shelf None = None
 hook_asked shelf (Some n) = hook_from shelf n.make.hook
-
--- The hook of a slot's layer before it fills, by the slot's state and hook before the arrangement: a new layer takes the one from
--- the shelf that its call asks for, and any other keeps its own.
-abbrev pub hook_of_slot : (ℕ → Option Hook) → Option Created → Option Hook → State → Option Hook
-hook_of_slot shelf new h view.Unopened = hook_asked shelf new
-hook_of_slot shelf new h view.Live = h
-hook_of_slot shelf new h view.Closed = h

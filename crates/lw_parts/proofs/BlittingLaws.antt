@@ -4,6 +4,7 @@ use Rattle.std.specs.List.{slice_index_or}
 use Rattle.std.proofs.lemmas.Bool.{eq-eqb, and_parts}
 use Rattle.std.proofs.lemmas.Bool.Decides.{nat_tests}
 use Rattle.std.proofs.lemmas.Int.{ints}
+use Rattle.std.proofs.Math.Bool.{and-false}
 use Rattle.lw_region.specs.Rectangle.{Rectangle, has_pixel, within}
 use Rattle.lw_planes.specs.Bitmap.{Bitmap, IsBitmap}
 use Rattle.lw_calls.specs.Assets.{Assets}
@@ -26,11 +27,12 @@ use Rattle.lw_steps.proofs.ClassLaws.{ArePair, pair_told, pair_apart}
 use Rattle.lw_layer.specs.View.{LiveView, CellView, shows, draws, with_layer, with_live}
 use Rattle.lw_layer.specs.View as view
 use Rattle.lw_layer.specs.StandsFor.{IsLivePart, StandsFor, IsSound}
+use Rattle.lw_layer.proofs.SoundLaws.{live_part}
 use Rattle.lw_draw.specs.Drawn.{in_mask}
 use Rattle.lw_draw.proofs.DrawnLaws.{drawn_nowhere}
 use Rattle.lw_draw.proofs.PaintLaws.{shape_drawn}
 use Rattle.lw_parts.specs.Parts.{IsSlotStep, IsCellStep, IsLayerStep, IsPairStep}
-use Rattle.lw_parts.proofs.OneLayerLaws.{dead_slot, live_slot, refused_step, changed_step, shown_same, drawn_step}
+use Rattle.lw_parts.proofs.OneLayerLaws.{dead_slot, refused_step, changed_step, shown_same, drawn_step}
 
 -- a call within one layer is on that layer
 pub class_within : (n : ℕ) (a : Area) → class_of (Blit n n a) ≡ OnLayer n
@@ -47,7 +49,7 @@ pub within_step : (c new : CellView) (a : Area) (r : Reply) → c.state ≡ view
 within_step c new a r is leaves says =
     λ d task stands.
     let n : ℕ = c.number in
-    let live : IsLivePart c.live (slot_part d n) = live_slot c (slot_part d n) is stands in
+    let live : IsLivePart c.live (slot_part d n) = live_part c (slot_part d n) is stands in
     drawn_step d task (Blit n n a) r c new (λ visible. clip_blit_from (d.slot n) (is_visible d n) visible a) (class_within n a) is stands refl refl says
     (leaves ∙ ap (λ (l : Layer). with_live (λ k. with_layer (λ m. l) k) c) (sym (source_told d n c.live (λ i j. shows c.live i j) a c.live.layer live)))
 
@@ -70,10 +72,6 @@ not_there true true there off = off
 not_there true false there off = refl
 not_there false inside there off = refl
 
-never_in : (has : Bool) → (has && false) ≡ false
-never_in true = refl
-never_in false = refl
-
 -- the bits of a live layer
 pub is_bitmap : (c : CellView) → (c.state ≡ view.Live → IsSound c.live) → c.state ≡ view.Live → IsBitmap c.live.layer.bits
 is_bitmap c sound is = (sound is).bits.bitmap
@@ -84,7 +82,7 @@ nothing_put c a ok =
     let v : LiveView = c.live in
     let new : ℕ → ℕ → ℕ → ℕ → ℕ = λ p x y old. blit_candidate no_bitmap a v.layer x y p in
     ap (λ (q : LiveView). record c { live = q })
-    (sym (drawn_nowhere v (λ p x y. in_mask v.layer.raster p && false) new ok (λ p x y. never_in (in_mask v.layer.raster p))) ∙
+    (sym (drawn_nowhere v (λ p x y. in_mask v.layer.raster p && false) new ok (λ p x y. and-false (in_mask v.layer.raster p))) ∙
     shape_drawn v (λ x y. has_pixel (box_at a.x a.y a.w a.h) (pos x) (pos y) && holds_at (λ i j. nat_lt i 0 && nat_lt j 0) (source_column a x) (source_row a y)) (λ x y. false) new ok
     (λ x y left low. not_there (draws v x y) (has_pixel (box_at a.x a.y a.w a.h) (pos x) (pos y)) _ (no_source (source_column a x) (source_row a y))))
 
@@ -152,8 +150,8 @@ blit_between source to new a r apart class opened is leaves says =
     let s : ℕ = source.number in
     let t : ℕ = to.number in
     let call : Call = Blit s t a in
-    let live : IsLivePart source.live (slot_part d s) = live_slot source (slot_part d s) opened from in
-    let target : IsLivePart to.live (slot_part d t) = live_slot to (slot_part d t) is stands in
+    let live : IsLivePart source.live (slot_part d s) = live_part source (slot_part d s) opened from in
+    let target : IsLivePart to.live (slot_part d t) = live_part to (slot_part d t) is stands in
     let l : Layer = to.live.layer in
     let f : Layer → Layer = λ m. clip_blit_from (d.slot s) (is_visible d s) (is_visible d t m) a m in
     let g : Layer → Layer = λ m. clip_blit (λ i j. shows source.live i j) source.live.layer (λ i j. shows to.live i j) a m in

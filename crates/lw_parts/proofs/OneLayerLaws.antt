@@ -26,6 +26,7 @@ use Rattle.lw_layer.specs.View as view
 use Rattle.lw_layer.specs.StandsFor.{IsLivePart, IsPartOf, StandsFor}
 use Rattle.lw_layer.specs.Looks.{IsLook, IsLookAt}
 use Rattle.lw_layer.specs.declared.look.Look.{Look}
+use Rattle.lw_layer.proofs.SoundLaws.{live_part}
 use Rattle.lw_parts.specs.Parts.{IsSlotStep, IsCellStep, IsTaskStep, IsLayerStep}
 
 -- the slot of a cell that isn't live has no layer
@@ -36,10 +37,6 @@ dead_slot c p idle stands = go c.state refl stands
     go view.Unopened e h = ap is_live h.0
     go view.Live e h = absurd (idle e)
     go view.Closed e h = ap is_live h.0
-
--- the slot of a live cell has its layer
-pub live_slot : (c : CellView) (p : SlotPart) → c.state ≡ view.Live → StandsFor c p → IsLivePart c.live p
-live_slot c p is stands = let P : State → Type 0 = λ s. IsPartOf s c.live p in subst P is stands
 
 -- a call that is refused answers its refusal and leaves all
 pub refused_step : (d : Desk) (task slot : ℕ) (call : Call) (r : Reply) (c : CellView) → refusal d task call ≡ Some r → StandsFor c (slot_part d slot) → IsSlotStep d task slot call r c
@@ -67,7 +64,7 @@ open_refusal d task slot call l class is =
 pub further_step : (task : ℕ) (c : CellView) (call : Call) (r : Reply) → c.state ≡ view.Live → class_of call ≡ OnLayer c.number → ((d : Desk) → d.slot c.number ≡ layer.Live c.live.layer → further_refusal d task call ≡ Some r) → IsTaskStep task c call r c
 further_step task c call r is class refused =
     λ d stands.
-    let there : d.slot c.number ≡ layer.Live c.live.layer = (live_slot c (slot_part d c.number) is stands).slot in
+    let there : d.slot c.number ≡ layer.Live c.live.layer = (live_part c (slot_part d c.number) is stands).slot in
     refused_step d task c.number call r c (open_refusal d task c.number call c.live.layer class there ∙ refused d there) stands
 
 -- a call that isn't refused and changes the layer so
@@ -100,7 +97,7 @@ shown_same d n c live = fun_ext (λ x. fun_ext (λ y. visible_is d n c live x y)
 -- A call that isn't refused on an open layer and changes it, told the pixels that it shows.
 pub drawn_step : (d : Desk) (task : ℕ) (call : Call) (r : Reply) (c new : CellView) (g : (ℕ → ℕ → Bool) → Layer → Layer) → class_of call ≡ OnLayer c.number → c.state ≡ view.Live → StandsFor c (slot_part d c.number) → further_refusal d task call ≡ None → effect d task call ≡ drawn_on d c.number g → r ≡ answer d task call → new ≡ with_live (λ k. with_layer (λ l. g (λ x y. shows k x y) l) k) c → IsSlotStep d task c.number call r new
 drawn_step d task call r c new g class is stands passes does answers leaves =
-    let live : IsLivePart c.live (slot_part d c.number) = live_slot c (slot_part d c.number) is stands in
+    let live : IsLivePart c.live (slot_part d c.number) = live_part c (slot_part d c.number) is stands in
     let P : CellView → Type 0 = IsSlotStep d task c.number call r in
     subst P (sym leaves)
     (changed_step d task call r c (λ l. g (λ x y. is_visible d c.number l x y) l) (λ l. g (λ x y. shows c.live x y) l) live is
@@ -118,7 +115,7 @@ write_answer d c x y done live answers =
 pub write_step : (c new : CellView) (x y told_x told_y : ℤ) (done : Bool) (r : Reply) → told_x ≡ x → told_y ≡ y → c.state ≡ view.Live → done ≡ holds_at (λ i j. draws c.live i j) told_x told_y → new ≡ with_live (λ k. with_layer (λ l. write_pixel (λ i j. shows k i j) told_x told_y l) k) c → r ≡ (if done then Done else Outside) → IsCellStep c (WritePixel c.number x y) r new
 write_step c new x y told_x told_y done r same_x same_y is answers leaves says =
     λ d task stands.
-    let live : IsLivePart c.live (slot_part d c.number) = live_slot c (slot_part d c.number) is stands in
+    let live : IsLivePart c.live (slot_part d c.number) = live_part c (slot_part d c.number) is stands in
     let drawn : ℤ → ℤ → CellView = λ u v. with_live (λ k. with_layer (λ l. write_pixel (λ i j. shows k i j) u v l) k) c in
     let holds : ℤ → ℤ → Bool = λ u v. holds_at (λ i j. draws c.live i j) u v in
     drawn_step d task (WritePixel c.number x y) r c new (λ visible. write_pixel visible x y) refl is stands refl refl
@@ -145,7 +142,7 @@ pub read_step : (c : CellView) (x y told_x told_y : ℤ) (found : Option ℕ) (r
 unfolding after reply
 read_step c x y told_x told_y found r same_x same_y is finds says =
     λ d task stands.
-    let live : IsLivePart c.live (slot_part d c.number) = live_slot c (slot_part d c.number) is stands in
+    let live : IsLivePart c.live (slot_part d c.number) = live_part c (slot_part d c.number) is stands in
     let call : Call = ReadPixel c.number x y in
     let passes : refusal d task call ≡ None = open_refusal d task c.number call c.live.layer refl live.slot in
     let P : Desk → Type 0 = λ e. StandsFor c (slot_part e c.number) in
@@ -166,7 +163,7 @@ letters_refusal d slot l text inside is told =
 pub letters_step : (c new : CellView) (assets : Assets) (text : List ℕ) (inside done : Bool) (r : Reply) → c.state ≡ view.Live → inside ≡ done → inside ≡ int_le (c.live.layer.raster.cursor_x +ℤ pos (8 * length text)) (pos 32767) → new ≡ (if inside then with_live (λ k. with_layer (λ l. draw_text assets.glyphs (λ x y. shows k x y) text l) k) c else c) → r ≡ (if done then Done else OutOfBounds) → (task : ℕ) (regs : List (List Rectangle)) → IsLayerStep task c regs assets (Letters c.number text) r new
 letters_step c new assets text inside true r is did told leaves says task regs =
     λ d stands registers handed.
-    let live : IsLivePart c.live (slot_part d c.number) = live_slot c (slot_part d c.number) is stands in
+    let live : IsLivePart c.live (slot_part d c.number) = live_part c (slot_part d c.number) is stands in
     let drawn : List (List ℕ) → CellView = λ glyphs. with_live (λ k. with_layer (λ l. draw_text glyphs (λ x y. shows k x y) text l) k) c in
     let made : new ≡ drawn assets.glyphs = leaves ∙ ap (λ t. if t then drawn assets.glyphs else c) did in
     drawn_step d task (Letters c.number text) r c new (λ visible. draw_text d.assets.glyphs visible text) refl is stands
@@ -174,7 +171,7 @@ letters_step c new assets text inside true r is did told leaves says task regs =
     (made ∙ ap (λ (a : Assets). drawn a.glyphs) (sym handed))
 letters_step c new assets text inside false r is did told leaves says task regs =
     λ d stands registers handed.
-    let live : IsLivePart c.live (slot_part d c.number) = live_slot c (slot_part d c.number) is stands in
+    let live : IsLivePart c.live (slot_part d c.number) = live_part c (slot_part d c.number) is stands in
     let drawn : CellView = with_live (λ k. with_layer (λ l. draw_text assets.glyphs (λ x y. shows k x y) text l) k) c in
     let kept : new ≡ c = leaves ∙ ap (λ t. if t then drawn else c) did in
     let P : CellView → Type 0 = IsSlotStep d task c.number (Letters c.number text) r in
@@ -211,14 +208,14 @@ clip_refusal d slot l updating is told =
 pub clip_in_update : (c : CellView) (reg : ℕ) → c.state ≡ view.Live → c.live.layer.updating ≡ true → IsCellStep c (Clip c.number reg) InUpdate c
 clip_in_update c reg is updating =
     λ d task stands.
-    let live : IsLivePart c.live (slot_part d c.number) = live_slot c (slot_part d c.number) is stands in
+    let live : IsLivePart c.live (slot_part d c.number) = live_part c (slot_part d c.number) is stands in
     refused_step d task c.number (Clip c.number reg) InUpdate c
     (open_refusal d task c.number (Clip c.number reg) c.live.layer refl live.slot ∙ clip_refusal d c.number c.live.layer true live.slot updating) stands
 
 pub unclip_in_update : (c : CellView) → c.state ≡ view.Live → c.live.layer.updating ≡ true → IsCellStep c (Unclip c.number) InUpdate c
 unclip_in_update c is updating =
     λ d task stands.
-    let live : IsLivePart c.live (slot_part d c.number) = live_slot c (slot_part d c.number) is stands in
+    let live : IsLivePart c.live (slot_part d c.number) = live_part c (slot_part d c.number) is stands in
     refused_step d task c.number (Unclip c.number) InUpdate c
     (open_refusal d task c.number (Unclip c.number) c.live.layer refl live.slot ∙ clip_refusal d c.number c.live.layer true live.slot updating) stands
 
@@ -230,7 +227,7 @@ clip_told d slot l r is answers = answers ∙ sym (ap (λ (s : Slot). from_layer
 pub clip_step : (c new : CellView) (regs : List (List Rectangle)) (reg : ℕ) (made : List Rectangle) (r : Reply) → reg < 8 → c.state ≡ view.Live → c.live.layer.updating ≡ false → made ≡ slice_index_or regs reg [] → r ≡ clip_answer c.live.layer.clip → new ≡ with_live (λ k. with_layer (λ l. record l { clip = Some (pixels_of made) }) k) c → (task : ℕ) (assets : Assets) → IsLayerStep task c regs assets (Clip c.number reg) r new
 clip_step c new regs reg made r small is idle copied answers leaves task assets =
     λ d stands registers handed.
-    let live : IsLivePart c.live (slot_part d c.number) = live_slot c (slot_part d c.number) is stands in
+    let live : IsLivePart c.live (slot_part d c.number) = live_part c (slot_part d c.number) is stands in
     let same : d.registers task reg ≡ pixels_of made = registers.sets reg small ∙ ap pixels_of (sym copied) in
     let P : CellView → Type 0 = IsSlotStep d task c.number (Clip c.number reg) r in
     subst P (sym leaves)
@@ -242,7 +239,7 @@ clip_step c new regs reg made r small is idle copied answers leaves task assets 
 pub unclip_step : (c new : CellView) (r : Reply) → c.state ≡ view.Live → c.live.layer.updating ≡ false → r ≡ clip_answer c.live.layer.clip → new ≡ with_live (λ k. with_layer (λ l. record l { clip = None }) k) c → IsCellStep c (Unclip c.number) r new
 unclip_step c new r is idle answers leaves =
     λ d task stands.
-    let live : IsLivePart c.live (slot_part d c.number) = live_slot c (slot_part d c.number) is stands in
+    let live : IsLivePart c.live (slot_part d c.number) = live_part c (slot_part d c.number) is stands in
     let P : CellView → Type 0 = IsSlotStep d task c.number (Unclip c.number) r in
     subst P (sym leaves)
     (changed_step d task (Unclip c.number) r c (λ l. record l { clip = None }) (λ l. record l { clip = None }) live is
@@ -279,7 +276,7 @@ scroll_refusal d slot c dx dy own may live kind fits =
 pub scroll_not_super : (c : CellView) (dx dy : ℤ) → c.state ≡ view.Live → is_super c.live.layer.kind ≡ false → IsCellStep c (Scroll c.number dx dy) NotSuper c
 scroll_not_super c dx dy is kind =
     λ d task stands.
-    let live : IsLivePart c.live (slot_part d c.number) = live_slot c (slot_part d c.number) is stands in
+    let live : IsLivePart c.live (slot_part d c.number) = live_part c (slot_part d c.number) is stands in
     refused_step d task c.number (Scroll c.number dx dy) NotSuper c
     (open_refusal d task c.number (Scroll c.number dx dy) c.live.layer refl live.slot ∙
     scroll_refusal d c.number c.live dx dy false (may_scroll (Some c.live.bounds) dx dy c.live.layer) live kind refl)
@@ -294,7 +291,7 @@ may_told r l dx dy told_x told_y done may same_x same_y fits is =
 pub scroll_outside : (c new : CellView) (dx dy told_x told_y : ℤ) (done : Bool) → told_x ≡ dx → told_y ≡ dy → c.state ≡ view.Live → is_super c.live.layer.kind ≡ true → done ≡ may_scroll (Some c.live.bounds) told_x told_y c.live.layer → done ≡ false → new ≡ (if done then with_live (λ k. with_layer (scroll_layer told_x told_y) k) c else c) → IsCellStep c (Scroll c.number dx dy) OutOfBounds new
 scroll_outside c new dx dy told_x told_y done same_x same_y is kind fits outside leaves =
     λ d task stands.
-    let live : IsLivePart c.live (slot_part d c.number) = live_slot c (slot_part d c.number) is stands in
+    let live : IsLivePart c.live (slot_part d c.number) = live_part c (slot_part d c.number) is stands in
     let may : may_scroll (Some c.live.bounds) dx dy c.live.layer ≡ false = may_told (Some c.live.bounds) c.live.layer dx dy told_x told_y done false same_x same_y fits outside in
     let P : CellView → Type 0 = IsSlotStep d task c.number (Scroll c.number dx dy) OutOfBounds in
     let kept : new ≡ c = leaves ∙ ap (λ t. if t then with_live (λ k. with_layer (scroll_layer told_x told_y) k) c else c) outside in
@@ -307,7 +304,7 @@ scroll_outside c new dx dy told_x told_y done same_x same_y is kind fits outside
 pub scroll_step : (c new : CellView) (dx dy told_x told_y : ℤ) (done : Bool) → told_x ≡ dx → told_y ≡ dy → c.state ≡ view.Live → is_super c.live.layer.kind ≡ true → done ≡ may_scroll (Some c.live.bounds) told_x told_y c.live.layer → done ≡ true → new ≡ (if done then with_live (λ k. with_layer (scroll_layer told_x told_y) k) c else c) → IsCellStep c (Scroll c.number dx dy) Done new
 scroll_step c new dx dy told_x told_y done same_x same_y is kind fits inside leaves =
     λ d task stands.
-    let live : IsLivePart c.live (slot_part d c.number) = live_slot c (slot_part d c.number) is stands in
+    let live : IsLivePart c.live (slot_part d c.number) = live_part c (slot_part d c.number) is stands in
     let may : may_scroll (Some c.live.bounds) dx dy c.live.layer ≡ true = may_told (Some c.live.bounds) c.live.layer dx dy told_x told_y done true same_x same_y fits inside in
     let P : CellView → Type 0 = IsSlotStep d task c.number (Scroll c.number dx dy) Done in
     let scrolled : new ≡ with_live (λ k. with_layer (scroll_layer told_x told_y) k) c = leaves ∙ ap (λ t. if t then with_live (λ k. with_layer (scroll_layer told_x told_y) k) c else c) inside in

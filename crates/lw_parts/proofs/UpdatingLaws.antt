@@ -11,8 +11,9 @@ use Rattle.lw_machine.specs.Step.{refuse, refuse_not_owner, further_refusal, end
 use Rattle.lw_layer.specs.View.{CellView, with_layer, with_live}
 use Rattle.lw_layer.specs.View as view
 use Rattle.lw_layer.specs.StandsFor.{IsLivePart}
+use Rattle.lw_layer.proofs.SoundLaws.{live_part}
 use Rattle.lw_parts.specs.Parts.{IsSlotStep, IsTaskStep}
-use Rattle.lw_parts.proofs.OneLayerLaws.{live_slot, further_step, open_refusal, changed_step}
+use Rattle.lw_parts.proofs.OneLayerLaws.{further_step, open_refusal, changed_step}
 
 -- the first refusals of a call that a window's task alone may make, and the next one
 owner_first : (task : ℕ) (s : Slot) (l : Layer) (foreign : Bool) (next : Slot → Option Reply) → s ≡ layer.Live l → is_foreign task l.window ≡ foreign → refuse_not_owner task s (next s) ≡ refuse foreign NotOwner (next (layer.Live l))
@@ -45,7 +46,7 @@ begin_in_update task c is whose updating =
 pub begin_step : (task : ℕ) (c new : CellView) → c.state ≡ view.Live → is_foreign task c.live.layer.window ≡ false → c.live.layer.updating ≡ false → new ≡ with_live (λ k. with_layer (λ l. record l { updating = true }) k) c → IsTaskStep task c (BeginRefresh c.number) Done new
 begin_step task c new is whose idle leaves =
     λ d stands.
-    let live : IsLivePart c.live (slot_part d c.number) = live_slot c (slot_part d c.number) is stands in
+    let live : IsLivePart c.live (slot_part d c.number) = live_part c (slot_part d c.number) is stands in
     let P : CellView → Type 0 = IsSlotStep d task c.number (BeginRefresh c.number) Done in
     subst P (sym leaves)
     (changed_step d task (BeginRefresh c.number) Done c (λ l. record l { updating = true }) (λ l. record l { updating = true }) live is
@@ -68,7 +69,7 @@ end_not_in_update task c full is whose idle =
 pub end_step : (task : ℕ) (c new : CellView) (full : Bool) → c.state ≡ view.Live → is_foreign task c.live.layer.window ≡ false → not c.live.layer.updating ≡ false → new ≡ with_live (λ k. with_layer (λ l. end_update full l) k) c → IsTaskStep task c (EndRefresh c.number full) Done new
 end_step task c new full is whose updating leaves =
     λ d stands.
-    let live : IsLivePart c.live (slot_part d c.number) = live_slot c (slot_part d c.number) is stands in
+    let live : IsLivePart c.live (slot_part d c.number) = live_part c (slot_part d c.number) is stands in
     let P : CellView → Type 0 = IsSlotStep d task c.number (EndRefresh c.number full) Done in
     subst P (sym leaves)
     (changed_step d task (EndRefresh c.number full) Done c (end_update full) (λ l. end_update full l) live is

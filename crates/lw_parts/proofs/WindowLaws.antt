@@ -29,10 +29,11 @@ use Rattle.lw_layer.specs.Looks.{owner_of, IsLook}
 use Rattle.lw_layer.specs.Windows.{oldest_of}
 use Rattle.lw_layer.specs.StandsFor.{IsLivePart, IsPartOf}
 use Rattle.lw_layer.specs.declared.look.Look.{Look}
+use Rattle.lw_layer.proofs.SoundLaws.{live_part}
 use Rattle.lw_frames.specs.Framing.{framed}
 use Rattle.lw_parts.specs.Parts.{IsSlotStep, IsTaskStep, IsLayerStep}
 use Rattle.lw_parts.specs.Windows.{is_other, got}
-use Rattle.lw_parts.proofs.OneLayerLaws.{live_slot, further_step, open_refusal, changed_step, drawn_step}
+use Rattle.lw_parts.proofs.OneLayerLaws.{further_step, open_refusal, changed_step, drawn_step}
 
 -- whether a window is another task's, by its owner
 other_told : (task : ℕ) (w : Option Window) → is_foreign task w ≡ is_other task (owner_of w)
@@ -161,7 +162,7 @@ pub title_step : (task : ℕ) (c new : CellView) (k : Look) (assets : Assets) (t
 title_step task c new k assets title is looks passes leaves regs =
     λ d stands registers handed.
     let n : ℕ = c.number in
-    let live : IsLivePart c.live (slot_part d n) = live_slot c (slot_part d n) is stands in
+    let live : IsLivePart c.live (slot_part d n) = live_part c (slot_part d n) is stands in
     let made : List (List ℕ) → Bool → CellView = λ glyphs active. with_live (λ q. with_layer (λ l. set_window_titles glyphs (λ x y. shows q x y) active title l) q) c in
     drawn_step d task (SetTitle n title) Done c new (λ visible. set_window_titles d.assets.glyphs visible (is_the d.active n) title) refl is stands
     (window_refusal task (d.slot n) c.live k live.slot looks ∙ passes) refl refl
@@ -190,7 +191,7 @@ pub message_step : (task : ℕ) (c new : CellView) (k : Look) (room owner : ℕ)
 message_step task c new k room owner r is looks owned passes says leaves =
     λ d stands.
     let n : ℕ = c.number in
-    let live : IsLivePart c.live (slot_part d n) = live_slot c (slot_part d n) is stands in
+    let live : IsLivePart c.live (slot_part d n) = live_part c (slot_part d n) is stands in
     let P : CellView → Type 0 = IsSlotStep d task n (TakeMessage n) r in
     subst P (sym leaves)
     (room_step d task c (TakeMessage n) r room get_msg is
