@@ -29,6 +29,7 @@ use Rattle.lw_arrange.specs.Prepared.{Created, created_by, created_live, becomes
 use Rattle.lw_arrange.specs.Made.{IsPrepared}
 use Rattle.lw_arrange.specs.Filled.{keeps_if_live, counts_if_live, is_inside, gains, gains_some, AreGained}
 use Rattle.lw_arrange.specs.Settled.{new_of, settled_new, settled_with, settled_by}
+use Rattle.lw_layer.proofs.PixelTests.{none_within}
 use Rattle.lw_arrange.proofs.FilledLaws.{unfilled}
 use Rattle.lw_arrange.proofs.GainedRegions.{filled_region}
 use Rattle.lw_arrange.proofs.GainsLaws.{stayed}
@@ -71,7 +72,7 @@ stays_filled c ok =
     let none : (x y : ℕ) → gains b b x y ≡ false =
     λ x y. never_twice (is_super c.live.layer.kind) (keeps_if_live b.state b.live x y) (counts_if_live b.state b.live b.live x y) (all_count b.state b x y)
     in
-    let never : gains_some b b ≡ false = none_passes b.live.layer.bits.width b.live.layer.bits.height (λ x y. gains b b x y) none in
+    let never : gains_some b b ≡ false = none_within b.live.layer.bits.width b.live.layer.bits.height (λ x y. gains b b x y) (λ x y _ _. none x y) in
     ap (λ (q : Layer). record c { live = record c.live { layer = q } })
     (unfilled b.live.layer (hook_in c) (λ x y. gains b b x y) (gains_some b b) ok none never)
 
