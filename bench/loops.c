@@ -1,6 +1,6 @@
-// The work of the row kernels in C: what a compiler makes of it for this kind of processor is what they can reach. Where memset or
-// memcpy does the work it is a function with the kernel's arguments, else a plain loop over whole bytes. The shifts are those of a
-// first bit 3.
+// The work of the row kernels in C: what a compiler makes of it for this kind of processor is what they can reach. Fills, flips and
+// copies from another row are functions with the kernel's arguments; the others are plain loops over whole bytes, whose shifts are those
+// of a first bit 3.
 #include "bench.h"
 
 #include <string.h>
@@ -38,14 +38,78 @@ CALLED static void fill(uint8_t *row, uint32_t from, uint32_t count, int bit) {
     memset(row + first, value, last - first);
 }
 
+// Inverts the bits from `from` on: a mask for each end, and whole bytes between them.
+CALLED static void flip(uint8_t *row, uint32_t from, uint32_t count) {
+    uint32_t end = from + count, first = (from + 7) / 8, last = end / 8;
+    if (first > last) {
+        row[last] ^= mask(from % 8, end % 8);
+        return;
+    }
+    if (from % 8 > 0) {
+        row[first - 1] ^= mask(from % 8, 8);
+    }
+    for (uint32_t i = first; i < last; i++) {
+        row[i] = (uint8_t)~row[i];
+    }
+    if (end % 8 > 0) {
+        row[last] ^= mask(0, end % 8);
+    }
+}
+
 static int bit_of(const uint8_t *row, uint32_t x) {
     return row[x / 8] >> (7 - x % 8) & 1;
 }
 
-// Combines bits of another row with those of a row: memcpy where whole bytes are copied, and else bit by bit.
+// The eight bits of a row from this one on; of its last byte all that follow are 0.
+static uint8_t eight_bits(const uint8_t *row, uint32_t from, uint32_t end) {
+    uint32_t next = from / 8 + 1;
+    uint32_t pair = (uint32_t)row[from / 8] << 8 | (next < (end + 7) / 8 ? row[next] : 0);
+    return (uint8_t)(pair >> (8 - from % 8));
+}
+
+// One loop for each shift, since vectors of bytes are shifted fast only by a constant.
+#define SHIFTED(shift)                                                                   \
+    case shift:                                                                          \
+        for (uint32_t i = 0; i < bytes; i++) {                                           \
+            row[i] = (uint8_t)(source[i] << (shift) | source[i + 1] >> (8 - (shift)));   \
+        }                                                                                \
+        break
+
+static void copy_shifted(uint8_t *restrict row, const uint8_t *restrict source, uint32_t bytes, uint32_t shift) {
+    switch (shift) {
+        SHIFTED(1);
+        SHIFTED(2);
+        SHIFTED(3);
+        SHIFTED(4);
+        SHIFTED(5);
+        SHIFTED(6);
+        SHIFTED(7);
+    default:
+        memcpy(row, source, bytes);
+    }
+}
+
+// Copies bits of another row: a mask for each end, and whole bytes between them.
+static void copy_bits(uint8_t *row, uint32_t to, const uint8_t *source, uint32_t from, uint32_t count) {
+    uint32_t end = to + count, first = (to + 7) / 8, last = end / 8, source_end = from + count;
+    if (first > last) {
+        fill_edge(row + last, mask(to % 8, end % 8), (uint8_t)(eight_bits(source, from, source_end) >> to % 8));
+        return;
+    }
+    if (to % 8 > 0) {
+        fill_edge(row + first - 1, mask(to % 8, 8), (uint8_t)(eight_bits(source, from, source_end) >> to % 8));
+    }
+    uint32_t at = from + 8 * first - to;
+    if (end % 8 > 0) {
+        fill_edge(row + last, mask(0, end % 8), eight_bits(source, at + 8 * (last - first), source_end));
+    }
+    copy_shifted(row + first, source + at / 8, last - first, at % 8);
+}
+
+// Combines bits of another row with those of a row: copies, and else bit by bit.
 CALLED static void combine(uint8_t *row, uint32_t to, const uint8_t *source, uint32_t from, uint32_t count, uint8_t minterm) {
-    if (minterm == 0xc0 && to % 8 == 0 && from % 8 == 0 && count % 8 == 0) {
-        memcpy(row + to / 8, source + from / 8, count / 8);
+    if (minterm == 0xc0) {
+        copy_bits(row, to, source, from, count);
         return;
     }
     for (uint32_t i = 0; i < count; i++) {
@@ -65,21 +129,22 @@ void loop_fill_across(uint8_t *row, const uint8_t *source, uint32_t bytes) {
     fill(row, 3, 8 * bytes, 1);
 }
 
+void loop_flip(uint8_t *row, const uint8_t *source, uint32_t bytes) {
+    (void)source;
+    flip(row, 0, 8 * bytes);
+}
+
+void loop_flip_across(uint8_t *row, const uint8_t *source, uint32_t bytes) {
+    (void)source;
+    flip(row, 3, 8 * bytes);
+}
+
 void loop_copy(uint8_t *restrict row, const uint8_t *restrict source, uint32_t bytes) {
     combine(row, 0, source, 0, 8 * bytes, 0xc0);
 }
 
-void loop_invert(uint8_t *row, const uint8_t *source, uint32_t bytes) {
-    (void)source;
-    for (uint32_t i = 0; i < bytes; i++) {
-        row[i] = (uint8_t)~row[i];
-    }
-}
-
-void loop_shift(uint8_t *restrict row, const uint8_t *restrict source, uint32_t bytes) {
-    for (uint32_t i = 0; i < bytes; i++) {
-        row[i] = (uint8_t)(source[i] << 5 | source[i + 1] >> 3);
-    }
+void loop_copy_across(uint8_t *restrict row, const uint8_t *restrict source, uint32_t bytes) {
+    combine(row, 3, source, 0, 8 * bytes, 0xc0);
 }
 
 void loop_shift_to_the_left(uint8_t *row, const uint8_t *source, uint32_t bytes) {

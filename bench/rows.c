@@ -78,8 +78,8 @@ static row_loop loop_for(const struct work *work) {
     if (work->kernel == FILL) {
         return work->bit == 0 ? loop_fill : loop_fill_across;
     }
-    if (work->kernel == FLIP && work->bit == 0) {
-        return loop_invert;
+    if (work->kernel == FLIP) {
+        return work->bit == 0 ? loop_flip : loop_flip_across;
     }
     if (work->minterm == COPY_SOURCE && work->bit == 0 && work->kernel == COMBINE) {
         return loop_copy;
@@ -87,7 +87,7 @@ static row_loop loop_for(const struct work *work) {
     if (work->minterm == COPY_SOURCE && work->bit == 3) {
         switch (work->kernel) {
         case COMBINE:
-            return loop_shift;
+            return loop_copy_across;
         case WITHIN_TO_THE_LEFT:
             return loop_shift_to_the_left;
         case WITHIN_TO_THE_RIGHT:
