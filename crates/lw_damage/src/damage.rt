@@ -1,6 +1,6 @@
-ghost use Rattle.std.specs.Prelude.{◌≡◌, true, false, ◌&&◌, ◌||◌, [], ℤ, OnOk, OnErr};
+ghost use Rattle.std.specs.Prelude.{◌≡◌, true, false, ◌&&◌, ◌||◌, [], ℤ, IfOk, OnOk, OnErr};
 ghost use Rattle.lw_region.specs.Bands.{covers};
-ghost use Rattle.lw_damage.specs.Damaged.{Damaged, may_lie, with_more, ended};
+ghost use Rattle.lw_damage.specs.Damaged.{Damaged, IsDamageWith, may_lie, with_more, ended};
 
 use lw_region::{Rect, Region, or_region};
 use std::alloc::{AllocError, Global};
@@ -38,6 +38,23 @@ impl Damage {
             region: Region::new(alloc),
             updating: false,
         }
+    }
+
+    /// The damage of those pixels of the region that lie in the inner rectangle, if there is one, with an update on or not.
+    pub fn of_region(
+        alloc: Global,
+        inner: Option<Rect>,
+        due: &Region,
+        updating: bool,
+    ) -> Result<Damage, AllocError>
+        ensures { IfOk result (λ d. IsDamageWith inner due.now updating d) }
+    {
+        let mut damage = Damage::new(alloc, inner);
+        damage.add(alloc, due)?;
+        if updating {
+            damage.begin();
+        }
+        Ok(damage)
     }
 
     /// Begins an update (BeginUpdate).

@@ -1,5 +1,5 @@
 use super::Damage;
-use lw_region::{Rect, Region};
+use lw_region::{Rect, Region, or_region};
 use std::alloc::Global;
 use std::test::Fail;
 
@@ -89,6 +89,11 @@ fn damage_is_what_was_added_within_the_inner_rectangle(rt: HostRuntime) -> Resul
         damage.add(alloc, &region_of(alloc, case.first)?)?;
         damage.add(alloc, &region_of(alloc, case.second)?)?;
         assert!(rt; are(damage.region().rects(), case.due));
+        let mut both = region_of(alloc, case.first)?;
+        or_region(alloc, &region_of(alloc, case.second)?, &mut both)?;
+        let begun = Damage::of_region(alloc, inner, &both, true)?;
+        assert!(rt; begun.updating());
+        assert!(rt; are(begun.region().rects(), case.due));
         damage.begin();
         assert!(rt; damage.updating());
         damage.end(false);

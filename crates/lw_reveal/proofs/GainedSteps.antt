@@ -4,13 +4,13 @@ use Rattle.lw_region.specs.Rectangle.{Rectangle}
 use Rattle.lw_region.specs.Bands.{covers}
 use Rattle.lw_calls.specs.declared.make.Kind.{Kind}
 use Rattle.lw_calls.specs.Kinds.{is_super}
-use Rattle.lw_damage.specs.Damaged.{Damaged, may_lie}
+use Rattle.lw_damage.specs.Damaged.{Damaged, IsDamageWith, may_lie}
 use Rattle.lw_machine.specs.Layer.{is_framed}
 use Rattle.lw_layer.specs.View.{LiveView}
 use Rattle.lw_layer.specs.Pieces.{columns, lines, inner_of}
 use Rattle.lw_layer.specs.Keeping.{AreKept, keeps_pixel}
 use Rattle.lw_reveal.specs.Counted.{AreCounted, counts_pixel}
-use Rattle.lw_reveal.specs.Gained.{AreLeft, IsDamageWith, is_left}
+use Rattle.lw_reveal.specs.Gained.{AreLeft, is_left}
 use Rattle.lw_reveal.proofs.GainedView.{IsGained, due_pixel}
 
 -- what the code reads of a layer and of its new visible region

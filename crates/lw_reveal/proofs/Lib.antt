@@ -7,7 +7,6 @@ pub mod CarryingLaws
 pub mod PairingLaws
 pub mod PreparedLaws
 pub mod GainedCounts
-pub mod GainedLaws
 pub mod GainedView
 pub mod GainedSteps
 pub mod RevealLaws

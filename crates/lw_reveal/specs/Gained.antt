@@ -3,7 +3,7 @@
 use Rattle.std.specs.Prelude.{◌≡◌, Bool, not, ◌&&◌, List, ℤ, Option}
 use Rattle.lw_region.specs.Rectangle.{Rectangle}
 use Rattle.lw_region.specs.Bands.{covers}
-use Rattle.lw_damage.specs.Damaged.{Damaged, may_lie}
+use Rattle.lw_damage.specs.Damaged.{may_lie}
 
 -- what is left of a set once another one was taken out of it, of which some was spared
 abbrev pub is_left : Bool → Bool → Bool → Bool
@@ -16,9 +16,3 @@ AreLeft taken spared from made = (x y : ℤ) → covers made x y ≡ is_left (co
 -- these rectangles have the pixels of the rectangle, if there is one
 abbrev pub AreOf : Option Rectangle → List Rectangle → Type 0
 AreOf place made = (x y : ℤ) → covers made x y ≡ may_lie place x y
-
--- The damage has what of these rectangles lies where damage may lie, and an update is on or not.
-pub record IsDamageWith (place : Option Rectangle) (due : List Rectangle) (on : Bool) (d : Damaged) : Type 0 where
-  pub inner : d.inner ≡ place
-  pub pixels : (x y : ℤ) → covers d.rects x y ≡ (covers due x y && may_lie place x y)
-  pub updating : d.updating ≡ on

@@ -8,7 +8,7 @@ ghost use Rattle.lw_layer.specs.Looks.{IsLook};
 ghost use Rattle.lw_layer.specs.StandsFor.{IsSound};
 ghost use Rattle.lw_reveal.specs.Changed.{carried_to, MayHave};
 ghost use Rattle.lw_reveal.specs.Counted.{AreCounted};
-ghost use Rattle.lw_reveal.specs.Gained.{AreLeft, AreOf, IsDamageWith};
+ghost use Rattle.lw_reveal.specs.Gained.{AreLeft, AreOf};
 
 use lw_damage::Damage;
 use lw_layer::{Cell, Look, inner_rectangle, kept_region};
@@ -32,7 +32,7 @@ pub(crate) fn damage_after(
     let kept = kept_region(alloc, look.kind, bounds, visible.rects())?;
     let due = left_region(alloc, was, cell.damage().region(), kept)?;
     let inner = inner_rectangle(look.kind, look.framed, bounds);
-    damage_with(alloc, inner, &due, look.updating)
+    Damage::of_region(alloc, inner, &due, look.updating)
 }
 
 /// The pixels that the live layer keeps and that count as kept once it has these bounds, in layer coordinates: in a framed window
@@ -95,23 +95,6 @@ fn left_region(
     let mut left = from;
     clear_region(alloc, &out, &mut left)?;
     Ok(left)
-}
-
-// The damage of what of these pixels lies in the inner rectangle, if there is one.
-fn damage_with(
-    alloc: Global,
-    inner: Option<Rect>,
-    due: &Region,
-    updating: bool,
-) -> Result<Damage, AllocError>
-    ensures { IfOk result (λ d. IsDamageWith inner due.now updating d) }
-{
-    let mut damage = Damage::new(alloc, inner);
-    damage.add(alloc, due)?;
-    if updating {
-        damage.begin();
-    }
-    Ok(damage)
 }
 
 #[cfg(test)]

@@ -13,7 +13,7 @@ use Rattle.lw_planes.specs.Grid.{at}
 use Rattle.lw_planes.proofs.GridLaws.{grid_at, grid_same, grid_past_column, grid_past_row}
 use Rattle.lw_calls.specs.declared.make.Kind.{Kind}
 use Rattle.lw_calls.specs.Kinds.{is_super}
-use Rattle.lw_damage.specs.Damaged.{Damaged, may_lie, with_more}
+use Rattle.lw_damage.specs.Damaged.{Damaged, IsDamageWith, may_lie}
 use Rattle.lw_machine.specs.Layer.{is_framed}
 use Rattle.lw_machine.specs.Kept.{holds_at, is_kept, kept_as, is_drawable, in_clip, is_inside, may_be_damaged}
 use Rattle.lw_machine.specs.Blits.{in_scroll_area, brought_if, brought_mark, scrolled_mark}
@@ -22,7 +22,7 @@ use Rattle.lw_layer.specs.Pieces.{inner_in, damage_table, IsDamageOf}
 use Rattle.lw_layer.proofs.InnerLaws.{may_pixel, none_may}
 use Rattle.lw_blit.proofs.SourceLaws.{kept_place}
 use Rattle.lw_scroll.specs.Scrolled.{scrolled_damage}
-use Rattle.lw_scroll.specs.Marks.{clip_has, IsWhole, AreDrawable, LeadToHurt, AreDue, IsDamageWith, is_damaged, moved_mark, IsMovedDamage}
+use Rattle.lw_scroll.specs.Marks.{clip_has, IsWhole, AreDrawable, LeadToHurt, AreDue, is_damaged, moved_mark, IsMovedDamage}
 
 -- which pixels are damaged, by the rectangles of the damage
 pub former_marks : (c : LiveView) (d : Damaged) → IsDamageOf c d → (x y : ℤ) → covers d.rects x y ≡ is_damaged c x y
@@ -131,29 +131,6 @@ due_pixel true true hurt = refl
 due_pixel false true hurt = refl
 due_pixel true false hurt = refl
 due_pixel false false hurt = refl
-
--- damage to which rectangles were added, where there was none
-pub added_alone : (inner : Option Rectangle) (due : List Rectangle) (old new : Damaged)
-    → old ≡ record { inner = inner; rects = []; updating = false }
-    → ((x y : ℤ) → covers new.rects x y ≡ (covers old.rects x y || (covers due x y && may_lie old.inner x y)))
-    → new ≡ record old { rects = with_more old.inner old.rects due } → IsDamageWith inner due false new
-added_alone inner due old new is pixels set = record {
-  inner = ap (λ (d : Damaged). d.inner) set ∙ ap (λ (d : Damaged). d.inner) is;
-  pixels = λ x y. pixels x y
-      ∙ (ap (λ (d : Damaged). covers d.rects x y || (covers due x y && may_lie d.inner x y)) is
-      ∙ ap (λ w. w || (covers due x y && may_lie inner x y)) (covers_nil x y));
-  updating = ap (λ (d : Damaged). d.updating) set ∙ ap (λ (d : Damaged). d.updating) is;
-}
-
--- the same where an update was begun
-pub begun_with : (inner : Option Rectangle) (due : List Rectangle) (on : Bool) (d begun : Damaged) → on ≡ true
-    → begun ≡ record d { updating = true } → IsDamageWith inner due false d
-    → IsDamageWith inner due on begun
-begun_with inner due on d begun asked changed is = record {
-  inner = ap (λ (e : Damaged). e.inner) changed ∙ is.inner;
-  pixels = λ x y. ap (λ (e : Damaged). covers e.rects x y) changed ∙ is.pixels x y;
-  updating = ap (λ (e : Damaged). e.updating) changed ∙ sym asked;
-}
 
 -- a pixel of the target is hurt as the one that it takes
 hurt_moved : (draws target source kept damaged was hurt former reached : Bool) → target ≡ source → reached ≡ (draws && target)

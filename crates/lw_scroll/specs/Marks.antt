@@ -45,12 +45,6 @@ LeadToHurt kept former source dx dy made =
 abbrev pub AreDue : List Rectangle → List Rectangle → List Rectangle → List Rectangle → Type 0
 AreDue former reached hurt made = (x y : ℤ) → covers made x y ≡ (if covers reached x y then covers hurt x y else covers former x y)
 
--- The damage has what of these rectangles lies where damage may lie, and an update is on or not.
-pub record IsDamageWith (place : Option Rectangle) (due : List Rectangle) (on : Bool) (d : Damaged) : Type 0 where
-  pub inner : d.inner ≡ place
-  pub pixels : (x y : ℤ) → covers d.rects x y ≡ (covers due x y && may_lie place x y)
-  pub updating : d.updating ≡ on
-
 -- the pixel is damaged
 abbrev pub is_damaged : LiveView → ℤ → ℤ → Bool
 is_damaged c x y = holds_at (λ i j. at false c.layer.damage i j) x y

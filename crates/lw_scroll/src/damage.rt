@@ -9,7 +9,7 @@ ghost use Rattle.lw_layer.specs.View as view;
 ghost use Rattle.lw_layer.specs.Pieces.{IsDamageOf};
 ghost use Rattle.lw_layer.specs.Looks.{IsLook};
 ghost use Rattle.lw_layer.specs.StandsFor.{IsSound};
-ghost use Rattle.lw_scroll.specs.Marks.{AreKept, AreClipped, IsWhole, AreDrawable, LeadToHurt, AreDue, IsDamageWith, IsDamageAfter, IsMovedDamage, AreShifted};
+ghost use Rattle.lw_scroll.specs.Marks.{AreKept, AreClipped, IsWhole, AreDrawable, LeadToHurt, AreDue, IsDamageAfter, IsMovedDamage, AreShifted};
 
 use crate::block::{block_of, brought_block, rect_of};
 use lw_calls::Kind;
@@ -100,7 +100,7 @@ fn moved_damage(
     let reached = drawable_in(alloc, cell, former, &kept, target)?;
     let hurt = hurt_region(alloc, kept, former.region(), source, dx, dy)?;
     let due = due_region(alloc, former.region(), reached, &hurt)?;
-    damage_with(alloc, former.inner(), &due, former.updating())
+    Damage::of_region(alloc, former.inner(), &due, former.updating())
 }
 
 // The pixels that the layer keeps.
@@ -186,21 +186,4 @@ fn due_region(
     and_region(alloc, hurt, &mut brought)?;
     or_region(alloc, &brought, &mut due)?;
     Ok(due)
-}
-
-// The damage of what of these pixels lies in the inner rectangle, if there is one.
-fn damage_with(
-    alloc: Global,
-    inner: Option<Rect>,
-    due: &Region,
-    updating: bool,
-) -> Result<Damage, AllocError>
-    ensures { IfOk result (λ d. IsDamageWith inner due.now updating d) }
-{
-    let mut damage = Damage::new(alloc, inner);
-    damage.add(alloc, due)?;
-    if updating {
-        damage.begin();
-    }
-    Ok(damage)
 }

@@ -1,7 +1,7 @@
 use Rattle.std.proofs.lemmas.Result.{IfOk-weaker}
+use Rattle.lw_damage.specs.Damaged.{IsDamageWith}
 use Rattle.lw_layer.specs.Pieces.{IsDamageOf}
 use Rattle.lw_reveal.specs.Changed.{carried_to}
-use Rattle.lw_reveal.specs.Gained.{IsDamageWith}
 use Rattle.lw_reveal.proofs.GainedView.{damage_gained}
 use Rattle.lw_reveal.proofs.GainedSteps.{IsRead, made_gained}
 use Rattle.lw_reveal.proofs.damage.damage_after.Goals as goal
@@ -22,9 +22,9 @@ returns c =
       damaged_is = c.region.ensures.value;
       updating_is = sees.updating;
     } in
-    IfOk-weaker c.damage_with.result (λ d. IsDamageWith inner c.in_ok-due.due look.updating d) (λ d. IsDamageOf (carried_to bounds visible layer) d)
+    IfOk-weaker c.of_region.result (λ d. IsDamageWith inner c.in_ok-due.due look.updating d) (λ d. IsDamageOf (carried_to bounds visible layer) d)
     (λ d made.
     damage_gained layer bounds visible former d c.look_of-look.ensures.sound c.in_ok-kept.ensures.ordered c.requires.may.inside c.damage.ensures c.region.ensures.inside
     (made_gained layer bounds visible former d look.kind look.framed c.rects.result.now c.region.result.now _ _ c.in_ok-due.due inner look.updating
     read c.in_ok-was.ensures c.in_ok-kept.ensures.kept c.in_ok-due.ensures c.inner_rectangle-inner.ensures made))
-    c.damage_with.ensures
+    c.of_region.ensures

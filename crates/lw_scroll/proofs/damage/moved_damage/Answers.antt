@@ -2,7 +2,8 @@ use Rattle.std.proofs.Common.{◌≡◌, true, ℤ, ◌+ℤ◌, ◌-ℤ◌, ◌�
 use Rattle.std.proofs.lemmas.Int.{ints, to_z-of_z}
 use Rattle.std.proofs.lemmas.Result.{IfOk-weaker}
 use Rattle.lw_region.specs.Rectangle.{Rectangle, has_pixel, IsWord}
-use Rattle.lw_scroll.specs.Marks.{LeadToHurt, AreDue, IsDamageWith, IsMovedDamage, AreShifted}
+use Rattle.lw_damage.specs.Damaged.{IsDamageWith}
+use Rattle.lw_scroll.specs.Marks.{LeadToHurt, AreDue, IsMovedDamage, AreShifted}
 use Rattle.lw_scroll.proofs.MarkLaws.{steps_moved}
 use Rattle.lw_scroll.proofs.damage.moved_damage.Goals as goal
 
@@ -43,11 +44,11 @@ returns c =
     in
     let Q : List Rectangle → Type 0 = λ l. AreDue l reached hurt due in
     let parts : AreDue former.rects reached hurt due = subst Q c.region-2.ensures.value c.in_ok-due.ensures in
-    IfOk-weaker c.damage_with.result (λ d. IsDamageWith c.inner.result due c.updating.result d)
+    IfOk-weaker c.of_region.result (λ d. IsDamageWith c.inner.result due c.updating.result d)
     (λ d. IsMovedDamage v target c.args.dx c.args.dy d)
     (λ d made.
     let R : Option Rectangle → Type 0 = λ o. IsDamageWith o due c.updating.result d in
     let S : Bool → Type 0 = λ on. IsDamageWith former.inner due on d in
     steps_moved v former d target source c.args.dx c.args.dy kept reached hurt due c.requires.former c.in_ok-kept.ensures c.requires.shifted.pixels
     c.in_ok-reached.ensures lead parts (subst S c.updating.ensures (subst R c.inner.ensures made)))
-    c.damage_with.ensures
+    c.of_region.ensures

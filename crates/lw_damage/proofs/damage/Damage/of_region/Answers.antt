@@ -1,9 +1,8 @@
 use Rattle.std.proofs.Common.{Bool, sym, subst}
-use Rattle.lw_damage.specs.Damaged.{Damaged}
-use Rattle.lw_reveal.specs.Gained.{IsDamageWith}
-use Rattle.lw_reveal.proofs.GainedLaws.{added_alone, begun_with}
-use Rattle.lw_reveal.proofs.damage.damage_with.Goals as goal
-use Rattle.lw_reveal.proofs.damage.damage_with.Goals.{then-updating, else-updating}
+use Rattle.lw_damage.specs.Damaged.{Damaged, IsDamageWith}
+use Rattle.lw_damage.proofs.AddedLaws.{added_alone, begun_with}
+use Rattle.lw_damage.proofs.damage.Damage.of_region.Goals as goal
+use Rattle.lw_damage.proofs.damage.Damage.of_region.Goals.{then-updating, else-updating}
 
 pub returns : goal.returns
 returns c =
