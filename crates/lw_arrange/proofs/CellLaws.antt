@@ -5,7 +5,9 @@ use Rattle.std.proofs.lemmas.Bool.{eqb-true}
 use Rattle.lw_region.specs.Rectangle.{Rectangle, moved_by}
 use Rattle.lw_calls.specs.declared.call.Call.{Call}
 use Rattle.lw_calls.specs.declared.call.Call.TheVariants.{Create, OpenWindow, Close, ToFront, ToBack, InFrontOf, MoveBy, SizeBy, SetBox, Activate, Blit}
-use Rattle.lw_calls.specs.Touches.{CallClass, OnAll, class_of, slots_in}
+use Rattle.lw_calls.specs.declared.touch.CallClass.{CallClass}
+use Rattle.lw_calls.specs.declared.touch.CallClass.TheVariants.{OnAll}
+use Rattle.lw_calls.specs.Touches.{class_of, slots_in}
 use Rattle.lw_calls.specs.Plan.{is_all}
 use Rattle.lw_calls.proofs.BlitClass.{blit_not_all}
 use Rattle.lw_calls.specs.declared.reply.Reply.TheVariants.{AlreadyOpen, OutOfBounds}

@@ -14,7 +14,9 @@ use Rattle.lw_calls.specs.declared.reply.Reply.{Reply}
 use Rattle.lw_calls.specs.declared.reply.Reply.TheVariants.{NotOpen, AlreadyOpen, NotWindow, NotOwner, Backdrop, OutOfBounds}
 use Rattle.lw_calls.specs.Kinds.{is_super}
 use Rattle.lw_calls.specs.Limits.{call_fits, make_fits, coordinates_fit, is_extent, window_fits}
-use Rattle.lw_calls.specs.Touches.{CallClass, OnAll, class_of, slots_in}
+use Rattle.lw_calls.specs.declared.touch.CallClass.{CallClass}
+use Rattle.lw_calls.specs.declared.touch.CallClass.TheVariants.{OnAll}
+use Rattle.lw_calls.specs.Touches.{class_of, slots_in}
 use Rattle.lw_calls.specs.Plan.{is_all}
 use Rattle.lw_calls.proofs.BlitClass.{blit_not_all}
 use Rattle.lw_calls.proofs.LimitLaws.{first_low}

@@ -10,7 +10,8 @@ use Rattle.lw_region.proofs.Canonical.{covers_nil}
 use Rattle.lw_calls.specs.declared.sizes.Sizes.{Sizes}
 use Rattle.lw_calls.specs.declared.call.Call.{Call}
 use Rattle.lw_calls.specs.Limits.{call_fits}
-use Rattle.lw_calls.specs.Touches.{OnAll, class_of}
+use Rattle.lw_calls.specs.declared.touch.CallClass.TheVariants.{OnAll}
+use Rattle.lw_calls.specs.Touches.{class_of}
 use Rattle.lw_machine.specs.Hook.{Hook}
 use Rattle.lw_machine.specs.Layer.{Layer, Slot, Unopened, Live, Closed, is_live, layer_is, is_window}
 use Rattle.lw_machine.specs.Desk.{Desk, is_the}
@@ -20,7 +21,7 @@ use Rattle.lw_machine.specs.Reveal.{has_bounds, across, settled_layer, settled}
 use Rattle.lw_machine.specs.Parts.{SlotPart, slot_part}
 use Rattle.lw_machine.specs.Step.{refusal, after}
 use Rattle.lw_machine.specs.Sound.{IsDesk, active_is_window}
-use Rattle.lw_layer.specs.View.{State, LiveView, CellView}
+use Rattle.lw_layer.specs.View.{State, CellView}
 use Rattle.lw_layer.specs.View as view
 use Rattle.lw_layer.specs.Drafts.{no_layer}
 use Rattle.lw_layer.specs.StandsFor.{IsPartOf, StandsFor}

@@ -1,6 +1,7 @@
 ghost use Rattle.std.specs.Prelude.{◌≡◌, ◌<◌, length, Some, None, IfOk, IsTrue};
 ghost use Rattle.std.specs.List.{All, slice_set};
-ghost use Rattle.lw_calls.specs.Touches.{class_of, OnAll};
+ghost use Rattle.lw_calls.specs.declared.touch.CallClass.TheVariants.{OnAll};
+ghost use Rattle.lw_calls.specs.Touches.{class_of};
 ghost use Rattle.lw_calls.specs.Limits.{call_fits};
 ghost use Rattle.lw_machine.specs.Arrangement.{bounds_of, active_without, without};
 ghost use Rattle.lw_stack.specs.Stack.{bounds_at, stack_of};

@@ -1,5 +1,6 @@
 ghost use Rattle.std.specs.Prelude.{◌≡◌, length, IfOk, IsTrue};
-ghost use Rattle.lw_calls.specs.Touches.{class_of, OnAll};
+ghost use Rattle.lw_calls.specs.declared.touch.CallClass.TheVariants.{OnAll};
+ghost use Rattle.lw_calls.specs.Touches.{class_of};
 ghost use Rattle.lw_calls.specs.Limits.{call_fits};
 ghost use Rattle.lw_machine.specs.Desk.{Desk};
 ghost use Rattle.lw_arrange.specs.Arranged.{AreOf, IsStepOf};

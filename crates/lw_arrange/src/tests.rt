@@ -1,5 +1,6 @@
 ghost use Rattle.std.specs.Prelude.{◌≡◌, length, IfOk};
-ghost use Rattle.lw_calls.specs.Touches.{class_of, OnAll};
+ghost use Rattle.lw_calls.specs.declared.touch.CallClass.TheVariants.{OnAll};
+ghost use Rattle.lw_calls.specs.Touches.{class_of};
 ghost use Rattle.lw_stack.specs.Stack.{IsStack, stack_of};
 
 use super::{Step, commit_info, plan_step, prepare_info};

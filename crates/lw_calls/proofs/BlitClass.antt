@@ -1,6 +1,8 @@
 -- The class of a blit, by whether its two layers are one.
 use Rattle.std.proofs.Common.{◌≡◌, ℕ, ◌==◌, Bool, true, false, if◌then◌else◌, refl, sym}
-use Rattle.lw_calls.specs.Touches.{CallClass, OnLayer, OnLayers, slots_in, has_slot}
+use Rattle.lw_calls.specs.declared.touch.CallClass.{CallClass}
+use Rattle.lw_calls.specs.declared.touch.CallClass.TheVariants.{OnLayer, OnLayers}
+use Rattle.lw_calls.specs.Touches.{slots_in, has_slot}
 use Rattle.lw_calls.specs.Plan.{is_all}
 use Rattle.std.proofs.lemmas.Bool.{false≢true, eq-eqb, eqb-true, or_right, or_parts}
 

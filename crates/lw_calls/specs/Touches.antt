@@ -2,21 +2,15 @@
 use Rattle.std.specs.Prelude.{ℕ, ◌==◌, Bool, true, false, ◌||◌, if◌then◌else◌}
 use Rattle.lw_calls.specs.declared.call.Call.{Call}
 use Rattle.lw_calls.specs.declared.call.Call.TheVariants.{RegRect, RegPair, RegClear, Create, OpenWindow, Close, ToFront, ToBack, InFrontOf, MoveBy, SizeBy, SetBox, Activate, Which, SetA, SetB, SetMode, SetMask, At, WritePixel, ReadPixel, Fill, DrawTo, Letters, SetRast, ScrollRaster, Put, Blit, Clip, Unclip, BeginRefresh, EndRefresh, Scroll, SetTitle, TakeMessage}
+use Rattle.lw_calls.specs.declared.touch.CallClass.{CallClass}
+use Rattle.lw_calls.specs.declared.touch.CallClass.TheVariants.{OnRegisters, OnInfo, OnLayer, OnLayers, OnAll}
 use Rattle.lw_calls.specs.declared.touch.Role.{Role}
 use Rattle.lw_calls.specs.declared.touch.Role.TheVariants.{Task, Slot, Info}
 use Rattle.lw_calls.specs.declared.touch.Slots.{Slots}
 use Rattle.lw_calls.specs.declared.touch.Slots.TheVariants.{Nothing, One, Two, All}
 use Rattle.lw_calls.specs.declared.touch.Touch.{Touch}
 
--- What a call works on, and with it what it locks: the registers of its task; LayerInfo, at which it looks; one layer; two
--- different layers; or all of them, which it arranges.
-pub data CallClass : Type 0 where
-  OnRegisters : CallClass
-  OnInfo : CallClass
-  OnLayer : ℕ → CallClass
-  OnLayers : ℕ → ℕ → CallClass
-  OnAll : CallClass
-
+-- what a call works on
 abbrev pub class_of : Call → CallClass
 class_of (RegRect op register rect) = OnRegisters
 class_of (RegPair op source into) = OnRegisters

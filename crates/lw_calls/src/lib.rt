@@ -41,4 +41,4 @@ pub use reason::Reason;
 pub use reply::{Replies, Reply};
 pub use sizes::Sizes;
 pub use text::Text;
-pub use touch::{Role, Slots, Touch, touches};
+pub use touch::{CallClass, Role, Slots, Touch, class_of, touches};

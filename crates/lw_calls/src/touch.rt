@@ -1,5 +1,5 @@
 ghost use Rattle.std.specs.Prelude.{◌≡◌, ◌==◌, not, if◌then◌else◌};
-ghost use Rattle.lw_calls.specs.Touches.{touch_of, touches_info, slots_of, has_slot};
+ghost use Rattle.lw_calls.specs.Touches.{class_of, is_on_info, slots_in, touch_of, has_slot};
 ghost use Rattle.lw_calls.specs.Orders.{has_some};
 
 use crate::call::Call;
@@ -53,22 +53,62 @@ pub struct Touch {
     pub slots: Slots,
 }
 
+/// What a call works on, and with it what it locks: the registers of its task; LayerInfo, at which it looks; the layer of a slot;
+/// two different layers; or all layers, which it arranges.
+#[derive(Clone, Copy, Debug, PartialEq, Eq)]
+pub enum CallClass {
+    OnRegisters,
+    OnInfo,
+    OnLayer(u32),
+    OnLayers(u32, u32),
+    OnAll,
+}
+
+impl CallClass {
+    // Calls of the class read or change what LayerInfo keeps.
+    fn is_on_info(&self) -> bool
+        ensures { result ≡ is_on_info self.now }
+    {
+        match *self {
+            CallClass::OnInfo | CallClass::OnAll => true,
+            _ => false,
+        }
+    }
+
+    // The slots of the class.
+    fn slots(&self) -> Slots
+        ensures { result ≡ slots_in self.now }
+    {
+        match *self {
+            CallClass::OnRegisters | CallClass::OnInfo => Slots::Nothing,
+            CallClass::OnLayer(slot) => Slots::One(slot),
+            CallClass::OnLayers(source, slot) => Slots::Two(source, slot),
+            CallClass::OnAll => Slots::All,
+        }
+    }
+}
+
 /// What a call touches. A call on registers touches the task alone, one on a layer also that slot, a blit between two
 /// layers both slots, a look at LayerInfo also that, and an arrangement also LayerInfo and all slots.
 pub fn touches(task: u32, call: &Call) -> Touch
     ensures { result ≡ touch_of task call.now }
 {
+    let class = class_of(call);
     Touch {
         task,
-        info: has_info(call),
-        slots: named_slots(call),
+        info: class.is_on_info(),
+        slots: class.slots(),
     }
 }
 
-fn has_info(call: &Call) -> bool
-    ensures { result ≡ touches_info call.now }
+/// What a call works on.
+pub fn class_of(call: &Call) -> CallClass
+    ensures { result ≡ class_of call.now }
 {
     match call {
+        Call::RegRect { .. } | Call::RegPair { .. } | Call::RegClear { .. } =>
+            CallClass::OnRegisters,
+        Call::Which { .. } => CallClass::OnInfo,
         Call::Create { .. }
         | Call::OpenWindow { .. }
         | Call::Close { .. }
@@ -78,28 +118,7 @@ fn has_info(call: &Call) -> bool
         | Call::MoveBy { .. }
         | Call::SizeBy { .. }
         | Call::SetBox { .. }
-        | Call::Activate { .. }
-        | Call::Which { .. } => true,
-        _ => false,
-    }
-}
-
-fn named_slots(call: &Call) -> Slots
-    ensures { result ≡ slots_of call.now }
-{
-    match call {
-        Call::RegRect { .. } | Call::RegPair { .. } | Call::RegClear { .. } | Call::Which { .. } =>
-            { Slots::Nothing }
-        Call::Create { .. }
-        | Call::OpenWindow { .. }
-        | Call::Close { .. }
-        | Call::ToFront { .. }
-        | Call::ToBack { .. }
-        | Call::InFrontOf { .. }
-        | Call::MoveBy { .. }
-        | Call::SizeBy { .. }
-        | Call::SetBox { .. }
-        | Call::Activate { .. } => Slots::All,
+        | Call::Activate { .. } => CallClass::OnAll,
         Call::SetA { slot, .. }
         | Call::SetB { slot, .. }
         | Call::SetMode { slot, .. }
@@ -119,16 +138,16 @@ fn named_slots(call: &Call) -> Slots
         | Call::EndRefresh { slot, .. }
         | Call::Scroll { slot, .. }
         | Call::SetTitle { slot, .. }
-        | Call::TakeMessage { slot } => Slots::One(*slot),
-        Call::Blit { source, slot, .. } => blit_slots(*source, *slot),
+        | Call::TakeMessage { slot } => CallClass::OnLayer(*slot),
+        Call::Blit { source, slot, .. } => blit_class(*source, *slot),
     }
 }
 
-fn blit_slots(source: u32, slot: u32) -> Slots
-    ensures { result ≡ (if source == slot then Slots.One slot else Slots.Two source slot) }
+fn blit_class(source: u32, slot: u32) -> CallClass
+    ensures { result ≡ (if source == slot then CallClass.OnLayer slot else CallClass.OnLayers source slot) }
 {
     if source == slot {
-        return Slots::One(slot);
+        return CallClass::OnLayer(slot);
     }
-    Slots::Two(source, slot)
+    CallClass::OnLayers(source, slot)
 }

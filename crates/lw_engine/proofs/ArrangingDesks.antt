@@ -11,7 +11,9 @@ use Rattle.lw_calls.specs.declared.reply.Reply.TheVariants.{Done}
 use Rattle.lw_calls.specs.declared.sizes.Sizes.{Sizes}
 use Rattle.lw_calls.specs.Limits.{call_fits}
 use Rattle.lw_calls.specs.Plan.{is_all}
-use Rattle.lw_calls.specs.Touches.{CallClass, OnAll, class_of, slots_in}
+use Rattle.lw_calls.specs.declared.touch.CallClass.{CallClass}
+use Rattle.lw_calls.specs.declared.touch.CallClass.TheVariants.{OnAll}
+use Rattle.lw_calls.specs.Touches.{class_of, slots_in}
 use Rattle.lw_calls.specs.declared.make.Make.{Make}
 use Rattle.lw_calls.proofs.BlitClass.{blit_not_all}
 use Rattle.lw_machine.specs.Layer.{is_live, is_unopened}
@@ -20,16 +22,15 @@ use Rattle.lw_machine.specs.Hook.{Hook}
 use Rattle.lw_machine.specs.Arrangement.{bounds_of, hook_from, without, put_before, arranged}
 use Rattle.lw_machine.specs.Arrangement as machine
 use Rattle.lw_machine.specs.Reveal.{settled}
-use Rattle.lw_machine.specs.Parts.{SlotPart, slot_part, info_part}
+use Rattle.lw_machine.specs.Parts.{slot_part, info_part}
 use Rattle.lw_machine.specs.Step.{refusal, answer, after, reply, changed_unless, reply_or, effect}
 use Rattle.lw_machine.specs.Sound.{IsDesk}
 use Rattle.lw_machine.proofs.ArrangedStep.{after_is}
 use Rattle.lw_machine.proofs.LayerCallSound.{not_refused}
 use Rattle.lw_machine.proofs.ReachedSound.{step_sound, after_sizes}
-use Rattle.lw_layer.specs.View.{State, LiveView, CellView}
+use Rattle.lw_layer.specs.View.{State, CellView}
 use Rattle.lw_layer.specs.View as view
 use Rattle.lw_layer.specs.Looks.{IsLookAt}
-use Rattle.lw_layer.specs.Drafts.{no_layer}
 use Rattle.lw_layer.specs.StandsFor.{IsPartOf, StandsFor, IsSound}
 use Rattle.lw_layer.specs.Windows.{without_room, HasRoom}
 use Rattle.lw_layer.specs.declared.look.Look.{Look}

@@ -11,7 +11,9 @@ use Rattle.lw_calls.specs.declared.call.Call.TheVariants.{Create, OpenWindow, Cl
 use Rattle.lw_calls.specs.declared.reply.Reply.{Reply}
 use Rattle.lw_calls.specs.declared.reply.Reply.TheVariants.{NotOpen, NotSuper, OutOfBounds}
 use Rattle.lw_calls.specs.Kinds.{is_super}
-use Rattle.lw_calls.specs.Touches.{CallClass, OnRegisters, OnInfo, OnLayer, OnLayers, OnAll, class_of}
+use Rattle.lw_calls.specs.declared.touch.CallClass.{CallClass}
+use Rattle.lw_calls.specs.declared.touch.CallClass.TheVariants.{OnRegisters, OnInfo, OnLayer, OnLayers, OnAll}
+use Rattle.lw_calls.specs.Touches.{class_of}
 use Rattle.lw_machine.specs.Hook.{Hook}
 use Rattle.lw_machine.specs.Layer.{Layer, Slot, Window, is_live, change_layer, changed_window, change_window}
 use Rattle.lw_machine.specs.Layer as layer

@@ -1,6 +1,7 @@
 ghost use Rattle.std.specs.Prelude.{◌≡◌, ℕ, ◌<◌, length, option_map, IfOk, OnOk, OnErr, IsTrue};
 ghost use Rattle.lw_calls.specs.Limits.{call_fits};
-ghost use Rattle.lw_calls.specs.Touches.{OnAll, class_of};
+ghost use Rattle.lw_calls.specs.declared.touch.CallClass.TheVariants.{OnAll};
+ghost use Rattle.lw_calls.specs.Touches.{class_of};
 ghost use Rattle.lw_machine.specs.Arrangement.{hook_from};
 ghost use Rattle.lw_machine.specs.Desk.{Desk};
 ghost use Rattle.lw_layer.specs.View.{CellView};

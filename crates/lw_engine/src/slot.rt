@@ -3,7 +3,8 @@
 ghost use Rattle.std.specs.Prelude.{◌≡◌, false, Option, IsOk, IfOk, OnOk, OnErr, IsTrue};
 ghost use Rattle.lw_calls.specs.declared.sizes.Sizes.{Sizes};
 ghost use Rattle.lw_calls.specs.Limits.{call_fits};
-ghost use Rattle.lw_calls.specs.Touches.{class_of, OnLayer, OnLayers};
+ghost use Rattle.lw_calls.specs.declared.touch.CallClass.TheVariants.{OnLayer, OnLayers};
+ghost use Rattle.lw_calls.specs.Touches.{class_of};
 ghost use Rattle.lw_steps.specs.Memory.{takes_memory};
 ghost use Rattle.lw_layer.specs.View.{hooked};
 ghost use Rattle.lw_layer.specs.Windows.{without_room, HasRoom};

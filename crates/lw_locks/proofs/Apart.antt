@@ -1,6 +1,7 @@
 -- Calls on layers, looks and arrangements aren't on registers.
 use Rattle.std.proofs.Common.{◌≡◌, ◌≢◌, ℕ}
-use Rattle.lw_calls.specs.Touches.{CallClass, OnRegisters, OnInfo, OnLayer, OnLayers, OnAll}
+use Rattle.lw_calls.specs.declared.touch.CallClass.{CallClass}
+use Rattle.lw_calls.specs.declared.touch.CallClass.TheVariants.{OnRegisters, OnInfo, OnLayer, OnLayers, OnAll}
 
 pub info_apart : (k : CallClass) → k ≡ OnInfo → k ≢ OnRegisters
 info_apart k is h = cc

@@ -14,7 +14,9 @@ use Rattle.lw_calls.specs.declared.touch.Role.TheVariants.{Task, Slot, Info}
 use Rattle.lw_calls.specs.Entries.{count_of}
 use Rattle.lw_calls.specs.Limits.{call_fits}
 use Rattle.lw_calls.specs.Orders.{meets, has_some}
-use Rattle.lw_calls.specs.Touches.{CallClass, OnRegisters, OnInfo, OnLayer, OnLayers, OnAll, class_of, slots_in, has_slot, is_on_info, touch_of, touches_role}
+use Rattle.lw_calls.specs.declared.touch.CallClass.{CallClass}
+use Rattle.lw_calls.specs.declared.touch.CallClass.TheVariants.{OnRegisters, OnInfo, OnLayer, OnLayers, OnAll}
+use Rattle.lw_calls.specs.Touches.{class_of, slots_in, has_slot, is_on_info, touch_of, touches_role}
 use Rattle.lw_machine.specs.Desk.{Desk}
 use Rattle.lw_order.specs.Numbered.{CallsFit}
 use Rattle.lw_order.specs.Roles.{LeavesAlone, Quiet}

@@ -10,7 +10,8 @@ use Rattle.lw_calls.specs.declared.reply.Reply.{Reply}
 use Rattle.lw_calls.specs.declared.touch.Role.{Role}
 use Rattle.lw_calls.specs.declared.touch.Role.TheVariants.{Task}
 use Rattle.lw_calls.specs.Entries.{count_of}
-use Rattle.lw_calls.specs.Touches.{OnLayers, class_of}
+use Rattle.lw_calls.specs.declared.touch.CallClass.TheVariants.{OnLayers}
+use Rattle.lw_calls.specs.Touches.{class_of}
 use Rattle.lw_machine.proofs.Untouched.{differ_back}
 use Rattle.lw_steps.proofs.ClassLaws.{pair_apart}
 use Rattle.lw_machine.specs.Desk.{Desk}
@@ -102,23 +103,13 @@ module _ (name : TableId) (desk : Desk) (task : ℕ) (off : Role) (mine theirs b
         counted = counted_joined task made mine both (longer_by desk mine theirs both was) own.regs.has own.counted;
       }
 
-  pub held_both : both.roles ≡ Task task ∷ off ∷ []
-  held_both = was.roles ∙ (ap (λ rs. rs ++ theirs.roles) roles ∙ ap (λ rs. Task task ∷ rs) their_roles)
-
-  module _ (whole left given : SeenSeat) (same : whole.roles ≡ both.roles) where
-    pub has_role : Contains whole.roles off
-    has_role = subst (λ rs. Contains rs off) (sym (same ∙ held_both)) (Contains-push (Task task ∷ []) off)
-
-    pub own_again : {R : Type 0} (regs_is : R → (ℕ → List Pixel) → Type 0) (made : ℕ) (regs : R) → WasSplit off whole left given → same_role off (Task task) ≡ false → IsHolding regs_is name desk task made whole regs → IsOwn regs_is name desk task made left regs
-    own_again regs_is made regs cut apart had = own_left regs_is name desk task made off whole left given regs had.seat had.regs cut (same ∙ held_both) apart had.counted
-
-    pub group_out : (seen : SeenPass) (held : List Role) (calls : List Call) (had has : List Answer) → left.history ≡ whole.history → record { task = task; history = mine.history } ≡ seen → GroupDone desk both.roles (Task task ∷ held) task both.history whole.history calls had has → GroupDone desk (Task seen.task ∷ []) (Task seen.task ∷ held) seen.task seen.history left.history calls had has
-    group_out seen held calls had has after is g =
-        let among : (r : Role) → Contains (Task task ∷ []) r → Contains both.roles r = λ r h. (longer_by desk mine theirs both was).among r (subst (λ rs. Contains rs r) (sym roles) h) in
-        let follows : Follows (Task task ∷ []) mine.history both.history = subst (λ rs. Follows rs mine.history both.history) roles was.follows in
-        let inner = group_after desk (Task task ∷ []) both.roles (Task task ∷ held) task mine.history both.history whole.history calls had has among follows g in
-        subst (λ (v : SeenPass). GroupDone desk (Task v.task ∷ []) (Task v.task ∷ held) v.task v.history left.history calls had has) is
-        (subst (λ h. GroupDone desk (Task task ∷ []) (Task task ∷ held) task mine.history h calls had has) (sym after) inner)
+  pub group_out : (whole left : SeenSeat) (seen : SeenPass) (held : List Role) (calls : List Call) (had has : List Answer) → left.history ≡ whole.history → record { task = task; history = mine.history } ≡ seen → GroupDone desk both.roles (Task task ∷ held) task both.history whole.history calls had has → GroupDone desk (Task seen.task ∷ []) (Task seen.task ∷ held) seen.task seen.history left.history calls had has
+  group_out whole left seen held calls had has after is g =
+      let among : (r : Role) → Contains (Task task ∷ []) r → Contains both.roles r = λ r h. (longer_by desk mine theirs both was).among r (subst (λ rs. Contains rs r) (sym roles) h) in
+      let follows : Follows (Task task ∷ []) mine.history both.history = subst (λ rs. Follows rs mine.history both.history) roles was.follows in
+      let inner = group_after desk (Task task ∷ []) both.roles (Task task ∷ held) task mine.history both.history whole.history calls had has among follows g in
+      subst (λ (v : SeenPass). GroupDone desk (Task v.task ∷ []) (Task v.task ∷ held) v.task v.history left.history calls had has) is
+      (subst (λ h. GroupDone desk (Task task ∷ []) (Task task ∷ held) task mine.history h calls had has) (sym after) inner)
 
 -- of a call on two layers the second slot is another than the first
 pub second_apart : (call : Call) (source slot : ℕ) → class_of call ≡ OnLayers source slot → (slot == source) ≡ false

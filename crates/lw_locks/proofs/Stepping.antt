@@ -12,7 +12,8 @@ use Rattle.lw_calls.specs.declared.touch.Role.{Role}
 use Rattle.lw_calls.specs.declared.touch.Role.TheVariants.{Task, Slot, Info}
 use Rattle.lw_calls.specs.Entries.{count_of}
 use Rattle.lw_calls.specs.Limits.{IsWithinLimits}
-use Rattle.lw_calls.specs.Touches.{OnRegisters, OnInfo, OnAll, class_of, touch_of, slots_in}
+use Rattle.lw_calls.specs.declared.touch.CallClass.TheVariants.{OnRegisters, OnInfo, OnAll}
+use Rattle.lw_calls.specs.Touches.{class_of, touch_of, slots_in}
 use Rattle.lw_machine.specs.Desk.{Desk, empty_desk}
 use Rattle.lw_machine.specs.History.{machine}
 use Rattle.lw_machine.specs.Parts.{SlotPart, slot_part, InfoPart, info_part}

@@ -9,7 +9,8 @@ use Rattle.lw_calls.specs.declared.group.Hold.TheVariants.{Slot as OneSlot, All 
 use Rattle.lw_calls.specs.declared.reply.Reply.{Reply as TheReply}
 use Rattle.lw_calls.specs.declared.touch.Role.{Role}
 use Rattle.lw_calls.specs.declared.touch.Role.TheVariants.{Slot, Info}
-use Rattle.lw_calls.specs.Touches.{CallClass, OnLayer, OnAll}
+use Rattle.lw_calls.specs.declared.touch.CallClass.{CallClass}
+use Rattle.lw_calls.specs.declared.touch.CallClass.TheVariants.{OnLayer, OnAll}
 use Rattle.lw_locks.specs.declared.answer.Answer.{Answer}
 use Rattle.lw_machine.specs.Desk.{Desk}
 use Rattle.lw_machine.specs.History.{machine}
@@ -38,7 +39,7 @@ Ran desk roles task old new [] [] = new ≡ old
 Ran desk roles task old new (c ∷ cs) (a ∷ rest) = (mid : List Entry) × Done desk roles task old mid c a.reply a.ticket × Ran desk roles task mid new cs rest
 Ran desk roles task old new calls answers = ⊥
 
--- The first of the calls were made, the answers to which came behind what was there.
+-- The first of the calls were made, the answers to which came after what was there.
 pub record Grown (desk : Desk) (roles : List Role) (task : ℕ) (old new : List Entry) (calls : List Call) (had has : List Answer) : Type 0 where
   pub made : List Call
   pub left : List Call

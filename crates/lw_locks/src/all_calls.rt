@@ -2,7 +2,8 @@
 
 ghost use Rattle.std.specs.Prelude.{◌≡◌, ◌+◌, ◌<◌, ◌≤◌, ◌∷◌, [], length, vec_len, vec_capacity, All, IfOk, OnErr, IsTrue, MatchResult};
 ghost use Rattle.lw_calls.specs.Limits.{call_fits};
-ghost use Rattle.lw_calls.specs.Touches.{class_of, OnAll};
+ghost use Rattle.lw_calls.specs.declared.touch.CallClass.TheVariants.{OnAll};
+ghost use Rattle.lw_calls.specs.Touches.{class_of};
 ghost use Rattle.lw_locks.specs.Promised.{Grown};
 ghost use Rattle.lw_locks.specs.Held.{IsHolding, AreAllHeld};
 

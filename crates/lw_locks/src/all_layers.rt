@@ -5,7 +5,8 @@ ghost use Rattle.lw_calls.specs.declared.group.Hold.TheVariants.{All as AllSlots
 ghost use Rattle.lw_calls.specs.declared.touch.Role.TheVariants.{Task};
 ghost use Rattle.lw_calls.specs.Entries.{count_of};
 ghost use Rattle.lw_calls.specs.Limits.{call_fits};
-ghost use Rattle.lw_calls.specs.Touches.{class_of, OnAll};
+ghost use Rattle.lw_calls.specs.declared.touch.CallClass.TheVariants.{OnAll};
+ghost use Rattle.lw_calls.specs.Touches.{class_of};
 ghost use Rattle.lw_order.specs.Promised.{Follows};
 ghost use Rattle.lw_locks.specs.Promised.{Done, GroupDone, held_roles};
 ghost use Rattle.lw_locks.specs.Held.{IsHolding, AreHeld, roles_below};

@@ -4,7 +4,8 @@ ghost use Rattle.std.specs.Prelude.{◌≡◌, ◌≢◌, ◌<◌, [], ◌∷◌
 ghost use Rattle.lw_calls.specs.declared.touch.Role.TheVariants.{Task};
 ghost use Rattle.lw_calls.specs.Entries.{count_of};
 ghost use Rattle.lw_calls.specs.Limits.{call_fits};
-ghost use Rattle.lw_calls.specs.Touches.{class_of, OnRegisters, OnInfo, OnLayer, OnLayers};
+ghost use Rattle.lw_calls.specs.declared.touch.CallClass.TheVariants.{OnRegisters, OnInfo, OnLayer, OnLayers};
+ghost use Rattle.lw_calls.specs.Touches.{class_of};
 ghost use Rattle.lw_order.specs.Promised.{Follows};
 ghost use Rattle.lw_locks.specs.Promised.{Done};
 
@@ -14,8 +15,8 @@ use crate::gate::{Gate, Spot};
 use crate::held::{Layer, LayerInfo, Place};
 use crate::opening::Opening;
 use crate::pass::{Pass, made_after};
-use lw_calls::{Call, Role};
-use lw_steps::{Class, Engine, class_of};
+use lw_calls::{Call, CallClass, Role, class_of};
+use lw_steps::Engine;
 use std::alloc::{AllocError, Global};
 use std::marker::PhantomData;
 use std::sync::Wait;
@@ -62,11 +63,13 @@ impl<E: Engine, N: Opening> Desk<E, N> {
         ensures failed { OnErr result (Follows (Task pass.old.task ∷ []) pass.old.history pass.new.history) }
     {
         match class_of(call) {
-            Class::Info => Ok(self.under_info(rt, gate, pass, call)),
-            Class::Layer(slot) => self.under_layer(rt, alloc, gate, pass, slot, call),
-            Class::Layers(source, slot) => { self.under_layers(rt, gate, pass, source, slot, call) }
-            Class::All => self.once_under_all(rt, alloc, gate, pass, call),
-            Class::Registers => unreachable!(),
+            CallClass::OnInfo => Ok(self.under_info(rt, gate, pass, call)),
+            CallClass::OnLayer(slot) => self.under_layer(rt, alloc, gate, pass, slot, call),
+            CallClass::OnLayers(source, slot) => {
+                self.under_layers(rt, gate, pass, source, slot, call)
+            }
+            CallClass::OnAll => self.once_under_all(rt, alloc, gate, pass, call),
+            CallClass::OnRegisters => unreachable!(),
         }
     }
 

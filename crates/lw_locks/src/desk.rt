@@ -2,7 +2,8 @@ ghost use Rattle.std.specs.Prelude.{◌≡◌, ◌<◌, [], ◌∷◌, IfOk, OnE
 ghost use Rattle.lw_calls.specs.declared.touch.Role.TheVariants.{Task};
 ghost use Rattle.lw_calls.specs.Entries.{count_of};
 ghost use Rattle.lw_calls.specs.Limits.{call_fits};
-ghost use Rattle.lw_calls.specs.Touches.{class_of, OnRegisters};
+ghost use Rattle.lw_calls.specs.declared.touch.CallClass.TheVariants.{OnRegisters};
+ghost use Rattle.lw_calls.specs.Touches.{class_of};
 ghost use Rattle.lw_locks.specs.Promised.{Done};
 
 use crate::answer::Answer;

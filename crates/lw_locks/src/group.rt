@@ -5,7 +5,8 @@ ghost use Rattle.lw_calls.specs.declared.group.Hold.TheVariants.{Slot as OneSlot
 ghost use Rattle.lw_calls.specs.declared.touch.Role.TheVariants.{Task};
 ghost use Rattle.lw_calls.specs.Entries.{count_of};
 ghost use Rattle.lw_calls.specs.Limits.{call_fits};
-ghost use Rattle.lw_calls.specs.Touches.{class_of, OnLayer};
+ghost use Rattle.lw_calls.specs.declared.touch.CallClass.TheVariants.{OnLayer};
+ghost use Rattle.lw_calls.specs.Touches.{class_of};
 ghost use Rattle.lw_locks.specs.Promised.{GroupDone, class_under, held_roles};
 
 use crate::answer::Answer;
@@ -22,7 +23,7 @@ use std::sync::Wait;
 impl<E: Engine, N: Opening> Desk<E, N> {
     /// Makes calls one after another under one holding of their locks: calls on the layer that is held, or calls that arrange the layers
     /// where all are. It may wait, and so promises no return. It ends with the first call that runs out of memory: the calls before it
-    /// have their answers behind those that were there, and no further one is in the history.
+    /// have their answers after those that were there, and no further one is in the history.
     pub fn group<R: Wait, G: Gate>(
         &self,
         rt: &R,

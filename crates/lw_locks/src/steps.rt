@@ -3,7 +3,8 @@
 ghost use Rattle.std.specs.Prelude.{◌≡◌, ◌<◌, length, IfOk, OnErr, IsTrue, Contains};
 ghost use Rattle.lw_calls.specs.Entries.{count_of};
 ghost use Rattle.lw_calls.specs.Limits.{IsWithinLimits, call_fits};
-ghost use Rattle.lw_calls.specs.Touches.{touch_of, class_of, OnRegisters, OnInfo, OnLayer, OnLayers, OnAll};
+ghost use Rattle.lw_calls.specs.declared.touch.CallClass.TheVariants.{OnRegisters, OnInfo, OnLayer, OnLayers, OnAll};
+ghost use Rattle.lw_calls.specs.Touches.{touch_of, class_of};
 ghost use Rattle.lw_machine.specs.Desk.{empty_desk};
 ghost use Rattle.lw_order.specs.Owned.{Owns};
 ghost use Rattle.lw_locks.specs.Joins.{WasJoined, WasSplit, WasStamped};

@@ -2,7 +2,8 @@
 use Rattle.std.proofs.Common.{◌≡◌, ℕ, ◌==◌, None, refl, ap, ◌∙◌}
 use Rattle.lw_calls.specs.declared.call.Call.{Call}
 use Rattle.lw_calls.specs.declared.call.Call.TheVariants.{Create, OpenWindow, Close, ToFront, ToBack, InFrontOf, MoveBy, SizeBy, SetBox, Activate, Blit}
-use Rattle.lw_calls.specs.Touches.{OnAll, class_of, slots_in}
+use Rattle.lw_calls.specs.declared.touch.CallClass.TheVariants.{OnAll}
+use Rattle.lw_calls.specs.Touches.{class_of, slots_in}
 use Rattle.lw_calls.specs.Plan.{is_all}
 use Rattle.lw_calls.proofs.BlitClass.{blit_not_all}
 use Rattle.lw_machine.specs.Desk.{Desk}

@@ -14,7 +14,9 @@ use Rattle.lw_calls.specs.declared.call.Call.TheVariants.{ScrollRaster, Put, Bli
 use Rattle.lw_calls.specs.Limits.{is_coordinate, coordinates_fit}
 use Rattle.lw_calls.specs.declared.reply.Reply.{Reply}
 use Rattle.lw_calls.specs.declared.reply.Reply.TheVariants.{Done, NotOpen}
-use Rattle.lw_calls.specs.Touches.{CallClass, OnLayer, OnLayers, class_of}
+use Rattle.lw_calls.specs.declared.touch.CallClass.{CallClass}
+use Rattle.lw_calls.specs.declared.touch.CallClass.TheVariants.{OnLayer, OnLayers}
+use Rattle.lw_calls.specs.Touches.{class_of}
 use Rattle.lw_machine.specs.Layer.{Layer, Slot, is_live, change_layer}
 use Rattle.lw_machine.specs.Desk.{Desk}
 use Rattle.lw_machine.specs.Screen.{top}

@@ -12,7 +12,9 @@ use Rattle.lw_calls.specs.declared.call.Call.TheVariants.{WritePixel, ReadPixel,
 use Rattle.lw_calls.specs.declared.reply.Reply.{Reply}
 use Rattle.lw_calls.specs.declared.reply.Reply.TheVariants.{Done, Pen, Outside, NotOpen, NotSuper, InUpdate, OutOfBounds}
 use Rattle.lw_calls.specs.Kinds.{is_super}
-use Rattle.lw_calls.specs.Touches.{CallClass, OnLayer, class_of}
+use Rattle.lw_calls.specs.declared.touch.CallClass.{CallClass}
+use Rattle.lw_calls.specs.declared.touch.CallClass.TheVariants.{OnLayer}
+use Rattle.lw_calls.specs.Touches.{class_of}
 use Rattle.lw_machine.specs.Layer.{Layer, Slot, is_live, layer_is, change_layer}
 use Rattle.lw_machine.specs.Layer as layer
 use Rattle.lw_machine.specs.Desk.{Desk}

@@ -12,7 +12,8 @@ use Rattle.lw_calls.specs.declared.call.Call.TheVariants.{SetTitle, TakeMessage}
 use Rattle.lw_calls.specs.declared.message.Message.{Message}
 use Rattle.lw_calls.specs.declared.reply.Reply.{Reply}
 use Rattle.lw_calls.specs.declared.reply.Reply.TheVariants.{Done, NotWindow, NotOwner}
-use Rattle.lw_calls.specs.Touches.{OnLayer, class_of}
+use Rattle.lw_calls.specs.declared.touch.CallClass.TheVariants.{OnLayer}
+use Rattle.lw_calls.specs.Touches.{class_of}
 use Rattle.lw_machine.specs.Layer.{Layer, Slot, Window, is_window, is_framed, is_foreign, changed_window, change_window}
 use Rattle.lw_machine.specs.Layer as layer
 use Rattle.lw_machine.specs.Desk.{Desk, is_the}

@@ -1,6 +1,7 @@
 ghost use Rattle.std.specs.Prelude.{◌≡◌, ℕ};
 ghost use Rattle.lw_calls.specs.declared.call.Call.TheVariants.{Which};
-ghost use Rattle.lw_calls.specs.Touches.{class_of, OnInfo};
+ghost use Rattle.lw_calls.specs.declared.touch.CallClass.TheVariants.{OnInfo};
+ghost use Rattle.lw_calls.specs.Touches.{class_of};
 ghost use Rattle.lw_machine.specs.Desk.{Desk};
 ghost use Rattle.lw_machine.specs.Parts.{info_part};
 ghost use Rattle.lw_machine.specs.Step.{found, reply};

@@ -2,7 +2,8 @@ ghost use Rattle.std.specs.Prelude.{◌≡◌, ℕ, ◌<◌, false, length, IsOk
 ghost use Rattle.lw_calls.specs.declared.sizes.Sizes.{Sizes};
 ghost use Rattle.lw_calls.specs.declared.call.Call.TheVariants.{RegRect, RegPair, RegClear};
 ghost use Rattle.lw_calls.specs.Limits.{call_fits};
-ghost use Rattle.lw_calls.specs.Touches.{class_of, OnRegisters};
+ghost use Rattle.lw_calls.specs.declared.touch.CallClass.TheVariants.{OnRegisters};
+ghost use Rattle.lw_calls.specs.Touches.{class_of};
 ghost use Rattle.lw_machine.specs.Desk.{Desk};
 ghost use Rattle.lw_machine.specs.Step.{after, reply};
 ghost use Rattle.lw_steps.specs.Memory.{takes_memory};

@@ -1,7 +1,8 @@
 ghost use Rattle.std.specs.Prelude.{◌≡◌, IfOk, IsTrue};
 ghost use Rattle.lw_calls.specs.declared.sizes.Sizes.{Sizes};
 ghost use Rattle.lw_calls.specs.Limits.{call_fits};
-ghost use Rattle.lw_calls.specs.Touches.{class_of, OnLayer};
+ghost use Rattle.lw_calls.specs.declared.touch.CallClass.TheVariants.{OnLayer};
+ghost use Rattle.lw_calls.specs.Touches.{class_of};
 ghost use Rattle.lw_layer.specs.Drafts.{IsDraft, cell_view};
 
 use crate::{Regs, on_layer};

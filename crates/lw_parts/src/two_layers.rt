@@ -1,7 +1,8 @@
 ghost use Rattle.std.specs.Prelude.{◌≡◌, IsTrue};
 ghost use Rattle.lw_calls.specs.declared.sizes.Sizes.{Sizes};
 ghost use Rattle.lw_calls.specs.Limits.{call_fits};
-ghost use Rattle.lw_calls.specs.Touches.{class_of, OnLayers};
+ghost use Rattle.lw_calls.specs.declared.touch.CallClass.TheVariants.{OnLayers};
+ghost use Rattle.lw_calls.specs.Touches.{class_of};
 ghost use Rattle.lw_parts.specs.Parts.{IsPairStep};
 
 use lw_blit::between;

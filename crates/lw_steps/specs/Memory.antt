@@ -2,7 +2,9 @@
 use Rattle.std.specs.Prelude.{Bool, true, false}
 use Rattle.lw_calls.specs.declared.call.Call.{Call}
 use Rattle.lw_calls.specs.declared.call.Call.TheVariants.{RegRect, RegPair, ScrollRaster, Clip, SetTitle}
-use Rattle.lw_calls.specs.Touches.{CallClass, OnRegisters, OnInfo, OnLayer, OnLayers, OnAll, class_of}
+use Rattle.lw_calls.specs.declared.touch.CallClass.{CallClass}
+use Rattle.lw_calls.specs.declared.touch.CallClass.TheVariants.{OnRegisters, OnInfo, OnLayer, OnLayers, OnAll}
+use Rattle.lw_calls.specs.Touches.{class_of}
 
 -- calls that arrange all layers
 abbrev pub is_on_all : CallClass → Bool

@@ -1,8 +1,8 @@
 -- The groups that are ahead of a task: what holds before the next one's first call, in it, after its last call, and after the last one.
-use Rattle.std.proofs.Common.{◌≡◌, ◌⊎◌, ℕ, suc, ◌+◌, ◌-◌, ◌<◌, ◌≤◌, Bool, true, false, ◌&&◌, ◌||◌, nat_lt, nat_le, List, [], ◌∷◌, ◌++◌, length, refl, ap, sym, subst, ◌∙◌, ⊎_elim, inl, inr, arith, append_assoc, drop, drop-cons, length-drop, length-take-le}
+use Rattle.std.proofs.Common.{◌≡◌, ◌⊎◌, ℕ, suc, ◌+◌, ◌-◌, ◌<◌, ◌≤◌, true, false, ◌&&◌, nat_lt, nat_le, List, [], ◌∷◌, ◌++◌, length, refl, ap, sym, subst, ◌∙◌, ⊎_elim, inl, inr, arith, append_assoc, drop, drop-cons, length-drop, length-take-le}
 use Rattle.std.specs.Prelude.{All, IsTrue}
 use Rattle.std.specs.List.{list_all, slice_index_or}
-use Rattle.std.proofs.lemmas.Bool.{and_parts, eqb-true, false≢true}
+use Rattle.std.proofs.lemmas.Bool.{and_parts, or_cases, eqb-true, false≢true}
 use Rattle.std.proofs.lemmas.Bool.Decides.{nat_tests}
 use Rattle.std.proofs.lemmas.List.Elements.{All-nil, All-cons, All-head, All-append, All-weaker}
 use Rattle.lw_calls.specs.declared.call.Call.{Call}
@@ -12,13 +12,16 @@ use Rattle.lw_calls.specs.declared.group.Hold.TheVariants.{Slot as OneSlot, All 
 use Rattle.lw_calls.specs.Limits.{call_fits}
 use Rattle.lw_calls.specs.Orders.{is_open}
 use Rattle.lw_calls.specs.Plan.{Plan, IsPlan, task_calls, task_groups, is_one, is_all, begins_update, may_be_locked, are_locked, end_an_update, are_an_update, hold_allows, group_calls, group_fits, groups_fit}
-use Rattle.lw_calls.specs.Touches.{CallClass, OnRegisters, OnInfo, OnLayer, OnLayers, OnAll, class_of, slots_in, slots_of}
+use Rattle.lw_calls.specs.declared.touch.CallClass.{CallClass}
+use Rattle.lw_calls.specs.declared.touch.CallClass.TheVariants.{OnRegisters, OnInfo, OnLayer, OnLayers, OnAll}
+use Rattle.lw_calls.specs.Touches.{class_of, slots_in, slots_of}
 use Rattle.lw_calls.proofs.OrderGroups.{head_fits, rest_fits, has_order, ends_within, not_begun, is_over}
 use Rattle.lw_locks.specs.Promised.{class_under}
 use Rattle.lw_tasks.specs.Made.{IsFree, IsAhead, IsNext}
 
-ordered : (calls : List Call) (g : Group) → group_fits calls g ≡ true → (g.first ≤ g.last) × (g.last < length calls)
-ordered calls g h = (has_order calls g h, ends_within calls g h)
+-- the place of a group
+pub group_place : (calls : List Call) (g : Group) → group_fits calls g ≡ true → (g.first ≤ g.last) × (g.last < length calls)
+group_place calls g h = (has_order calls g h, ends_within calls g h)
 
 rising : (calls : List Call) (g : Group) (gs : List Group) → groups_fit calls (g ∷ gs) ≡ true → All (λ k. g.last < k.first) gs
 rising calls g [] h = All-nil (λ k. g.last < k.first)
@@ -26,7 +29,7 @@ rising calls g (k ∷ ks) h =
     let parts = and_parts (group_fits calls g && nat_lt g.last k.first) (groups_fit calls (k ∷ ks)) h in
     let first = (and_parts (group_fits calls g) (nat_lt g.last k.first) parts.0).1 in
     let low : g.last < k.first = grind (arith, nat_tests) in
-    let own = (ordered calls k (head_fits calls k ks parts.1)).0 in
+    let own = (group_place calls k (head_fits calls k ks parts.1)).0 in
     All-cons (λ j. g.last < j.first) k ks low (All-weaker (λ j. k.last < j.first) (λ j. g.last < j.first) (λ j later. omega (arith, later, low, own)) ks (rising calls k ks parts.1))
 
 pub ahead_first : (calls : List Call) (groups : List Group) → groups_fit calls groups ≡ true → IsAhead calls groups groups 0
@@ -45,7 +48,7 @@ ahead_next calls groups left made g gs begins a =
     let ahead : All (λ k. made ≤ k.first) (g ∷ gs) = subst (All (λ k. made ≤ k.first)) begins a.ahead in
     let parts : groups ≡ a.past ++ (g ∷ gs) = a.parts ∙ ap (λ l. a.past ++ l) begins in
     let own = head_fits calls g gs fit in
-    let order = ordered calls g own in
+    let order = group_place calls g own in
     let later = rising calls g gs fit in
     record {
       fits = own;
@@ -66,7 +69,7 @@ pub ahead_after : (calls : List Call) (groups left : List Group) (made : ℕ) (g
 ahead_after calls groups left made g gs begins a =
     let fit : groups_fit calls (g ∷ gs) ≡ true = subst (λ l. groups_fit calls l ≡ true) begins a.fit in
     let first : made ≤ g.first = All-head (λ k. made ≤ k.first) g gs (subst (All (λ k. made ≤ k.first)) begins a.ahead) in
-    let order = ordered calls g (head_fits calls g gs fit) in
+    let order = group_place calls g (head_fits calls g gs fit) in
     record {
       past = a.past ++ g ∷ [];
       parts = a.parts ∙ (ap (λ l. a.past ++ l) begins ∙ sym (append_assoc a.past (g ∷ []) gs));
@@ -79,7 +82,7 @@ ahead_after calls groups left made g gs begins a =
 -- after all calls
 pub all_over : (calls : List Call) (groups : List Group) → groups_fit calls groups ≡ true → IsFree groups (length calls)
 all_over calls [] fit = All-nil (λ g. is_open (length calls) g ≡ false)
-all_over calls (g ∷ gs) fit = All-cons (λ k. is_open (length calls) k ≡ false) g gs (is_over (length calls) g (ordered calls g (head_fits calls g gs fit)).1) (all_over calls gs (rest_fits calls g gs fit))
+all_over calls (g ∷ gs) fit = All-cons (λ k. is_open (length calls) k ≡ false) g gs (is_over (length calls) g (group_place calls g (head_fits calls g gs fit)).1) (all_over calls gs (rest_fits calls g gs fit))
 
 -- the class of the calls that may stand in a group
 one_class : (s : ℕ) (k : CallClass) → is_one s (slots_in k) ≡ true → k ≡ OnLayer s
@@ -122,10 +125,6 @@ an_update s (c ∷ cs) h =
     let parts = and_parts (is_one s (slots_of c) && begins_update c) _ h in
     All-cons (λ c. class_of c ≡ OnLayer s) c cs (one_class s (class_of c) (and_parts (is_one s (slots_of c)) _ parts.0).0) (to_end s cs parts.1)
 
-either_test : (a b : Bool) → (a || b) ≡ true → (a ≡ true) ⊎ (b ≡ true)
-either_test true b h = inl refl
-either_test false b h = inr h
-
 all_arrange : (calls : List Call) → list_all (λ c. is_all (slots_of c)) calls ≡ true → All (λ c. class_of c ≡ OnAll) calls
 all_arrange [] h = All-nil (λ c. class_of c ≡ OnAll)
 all_arrange (c ∷ cs) h =
@@ -133,19 +132,15 @@ all_arrange (c ∷ cs) h =
     All-cons (λ c. class_of c ≡ OnAll) c cs (all_class (class_of c) parts.0) (all_arrange cs parts.1)
 
 stand_class : (hold : Hold) (calls : List Call) → hold_allows hold calls ≡ true → All (λ c. class_of c ≡ class_under hold) calls
-stand_class (OneSlot s) calls h = ⊎_elim (λ a. locked s calls a) (λ b. an_update s calls b) (either_test (are_locked s calls) (are_an_update s calls) h)
+stand_class (OneSlot s) calls h = ⊎_elim (λ a. locked s calls a) (λ b. an_update s calls b) (or_cases (are_locked s calls) (are_an_update s calls) h)
 stand_class AllLayers calls h = all_arrange calls h
 
 pub group_class : (calls : List Call) (g : Group) → group_fits calls g ≡ true → All (λ c. class_of c ≡ class_under g.hold) (group_calls calls g)
 group_class calls g h = stand_class g.hold (group_calls calls g) (and_parts (nat_le g.first g.last && nat_lt g.last (length calls)) _ h).1
 
--- the place of a group
-pub group_place : (calls : List Call) (g : Group) → group_fits calls g ≡ true → (g.first ≤ g.last) × (g.last < length calls)
-group_place calls g h = ordered calls g h
-
 pub group_long : (calls : List Call) (g : Group) → group_fits calls g ≡ true → length (group_calls calls g) + g.first ≡ g.last + 1
 group_long calls g h =
-    let order = ordered calls g h in
+    let order = group_place calls g h in
     let low = order.0 in
     let high = order.1 in
     let behind = length-drop g.first calls in

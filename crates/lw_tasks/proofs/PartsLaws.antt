@@ -1,7 +1,7 @@
 -- What a call leaves of all parts of a desk, from what an engine says of those that the call touches.
-use Rattle.std.proofs.Common.{◌≡◌, ◌≢◌, ℕ, ◌==◌, Bool, true, false, ◌||◌, List, length, set, Some, Result, Ok, Err, IfOk, OnErr, IsTrue, ◌∙◌, sym, refl, ap, subst, ⊎_elim}
+use Rattle.std.proofs.Common.{◌≡◌, ◌≢◌, ℕ, ◌==◌, false, ◌||◌, List, length, set, Some, Result, Ok, Err, IfOk, OnErr, IsTrue, ◌∙◌, sym, refl, ap, subst, ⊎_elim}
 use Rattle.std.specs.List.{slice_get}
-use Rattle.std.proofs.lemmas.Bool.{cases_eq, ne_eqb}
+use Rattle.std.proofs.lemmas.Bool.{cases_eq, ne_eqb, or_from}
 use Rattle.std.proofs.lemmas.List.{length-set}
 use Rattle.std.proofs.lemmas.Option.{slice_get_within}
 use Rattle.lw_region.specs.Pixels.{Pixel}
@@ -11,7 +11,9 @@ use Rattle.lw_calls.specs.declared.call.Call.{Call}
 use Rattle.lw_calls.specs.declared.reply.Reply.{Reply}
 use Rattle.lw_calls.specs.declared.touch.Role.TheVariants.{Task, Slot, Info}
 use Rattle.lw_calls.specs.Limits.{call_fits}
-use Rattle.lw_calls.specs.Touches.{CallClass, OnRegisters, OnInfo, OnLayer, OnLayers, OnAll, class_of, slots_in, slots_of, is_on_info, touches_info, has_slot}
+use Rattle.lw_calls.specs.declared.touch.CallClass.{CallClass}
+use Rattle.lw_calls.specs.declared.touch.CallClass.TheVariants.{OnRegisters, OnInfo, OnLayer, OnLayers, OnAll}
+use Rattle.lw_calls.specs.Touches.{class_of, slots_in, slots_of, is_on_info, touches_info, has_slot}
 use Rattle.lw_machine.specs.Desk.{Desk}
 use Rattle.lw_machine.specs.Parts.{SlotPart, InfoPart, slot_part}
 use Rattle.lw_machine.specs.Step.{after}
@@ -37,10 +39,6 @@ touch_one call slot s class = ap (λ (k : CallClass). has_slot (slots_in k) s) c
 
 touch_two : (call : Call) (source slot s : ℕ) → class_of call ≡ OnLayers source slot → has_slot (slots_of call) s ≡ ((source == s) || (slot == s))
 touch_two call source slot s class = ap (λ (k : CallClass). has_slot (slots_in k) s) class
-
-not_either : (a b : Bool) → a ≡ false → b ≡ false → (a || b) ≡ false
-not_either true b first second = first
-not_either false b first second = second
 
 module _ {I C R : Type 0} (info_is : Sizes → I → InfoPart → Type 0) (number : C → ℕ) (cell_is : C → SlotPart → Type 0) (regs_is : R → (ℕ → List Pixel) → Type 0) (sizes : Sizes) (assets : Assets) where
   -- LayerInfo and the cells after a call that leaves LayerInfo, and these cells where it leaves the slot
@@ -171,7 +169,7 @@ module _ {I C R : Type 0} (info_is : Sizes → I → InfoPart → Type 0) (numbe
           (was.0, subst P (sym same) (subst Q is made)))
           (λ (apart : s ≢ from).
           cell_left cells d task call s c
-          (touch_two call from slot s class ∙ not_either (from == s) (slot == s) (ne_eqb from s (λ back. apart (sym back))) (ne_eqb slot s (λ back. other (sym back)))) was)
+          (touch_two call from slot s class ∙ or_from (from == s) (slot == s) (ne_eqb from s (λ back. apart (sym back))) (ne_eqb slot s (λ back. other (sym back)))) was)
           (cases_eq s from)
 
   -- a call that arranges the layers

@@ -3,14 +3,15 @@
 ghost use Rattle.std.specs.Prelude.{◌≡◌, ℕ, ◌<◌, false, length, Some, IsOk, IfOk, OnErr, IsTrue};
 ghost use Rattle.std.specs.List.{slice_get};
 ghost use Rattle.lw_calls.specs.Limits.{call_fits};
-ghost use Rattle.lw_calls.specs.Touches.{class_of, OnRegisters, OnInfo, OnLayer, OnLayers, OnAll};
+ghost use Rattle.lw_calls.specs.declared.touch.CallClass.TheVariants.{OnRegisters, OnInfo, OnLayer, OnLayers, OnAll};
+ghost use Rattle.lw_calls.specs.Touches.{class_of};
 ghost use Rattle.lw_machine.specs.Desk.{Desk};
 ghost use Rattle.lw_steps.specs.Memory.{takes_memory};
 ghost use Rattle.lw_steps.specs.Steps.{AreParts};
 ghost use Rattle.lw_tasks.specs.Standing.{StandForDesk, IsStep, StandStill, AreNumbered, IsSetTo, IsTwoDone};
 
-use lw_calls::{Call, Reply};
-use lw_steps::{Class, Engine, class_of};
+use lw_calls::{Call, CallClass, Reply, class_of};
+use lw_steps::Engine;
 use std::alloc::{AllocError, Global};
 
 /// The parts of a desk that an engine's calls are lent: LayerInfo, the cells of all slots, and the registers of
@@ -48,11 +49,11 @@ impl<E: Engine> Parts<E> {
         ensures memory { takes_memory call.now ≡ false → IsOk result }
     {
         match class_of(call) {
-            Class::Registers => self.on_registers(engine, alloc, task, call),
-            Class::Info => Ok(engine.look(&self.info, call)),
-            Class::Layer(slot) => self.on_layer(engine, alloc, task, slot, call),
-            Class::Layers(source, slot) => Ok(self.on_layers(engine, source, slot, call)),
-            Class::All => self.on_all(engine, alloc, task, call),
+            CallClass::OnRegisters => self.on_registers(engine, alloc, task, call),
+            CallClass::OnInfo => Ok(engine.look(&self.info, call)),
+            CallClass::OnLayer(slot) => self.on_layer(engine, alloc, task, slot, call),
+            CallClass::OnLayers(source, slot) => Ok(self.on_layers(engine, source, slot, call)),
+            CallClass::OnAll => self.on_all(engine, alloc, task, call),
         }
     }
 

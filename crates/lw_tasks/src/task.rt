@@ -9,9 +9,9 @@ ghost use Rattle.lw_locks.specs.Promised.{Done};
 ghost use Rattle.lw_tasks.specs.Made.{HasMade, HasBegun, IsFree, IsNext, IsAhead};
 
 use crate::run::call_of;
-use lw_calls::{Call, Group, Plan};
+use lw_calls::{Call, CallClass, Group, Plan, class_of};
 use lw_locks::{Answer, Desk, Gate, Opening, Pass};
-use lw_steps::{Class, Engine, class_of};
+use lw_steps::Engine;
 use std::alloc::{AllocError, Global};
 use std::sync::Wait;
 
@@ -30,7 +30,7 @@ fn make_one<E: Engine, N: Opening, R: Wait, G: Gate>(
     ensures done { IfOk result (λ a. Done N.desk (Task pass.old.task ∷ []) pass.old.task pass.old.history pass.new.history call.now a.reply a.ticket) }
 {
     match class_of(call) {
-        Class::Registers => desk.own(alloc, gate, pass, call),
+        CallClass::OnRegisters => desk.own(alloc, gate, pass, call),
         _ => desk.call(rt, alloc, gate, pass, call),
     }
 }

@@ -1,7 +1,8 @@
 use Rattle.std.proofs.Common.{◌≡◌, Option, option_map, IfOk, sym, subst}
 use Rattle.std.proofs.lemmas.Result.{IfOk-weaker}
 use Rattle.lw_machine.specs.Hook.{Hook}
-use Rattle.lw_calls.specs.Touches.{OnLayer, class_of}
+use Rattle.lw_calls.specs.declared.touch.CallClass.TheVariants.{OnLayer}
+use Rattle.lw_calls.specs.Touches.{class_of}
 use Rattle.lw_layer.specs.View.{CellView, hooked}
 use Rattle.lw_parts.specs.Parts.{IsLayerStep}
 use Rattle.lw_engine.proofs.HookLaws.{hooked_step}

@@ -1,6 +1,7 @@
 use Rattle.std.proofs.Common.{◌≡◌, Option, option_map, sym, subst}
 use Rattle.lw_machine.specs.Hook.{Hook}
-use Rattle.lw_calls.specs.Touches.{OnLayers, class_of}
+use Rattle.lw_calls.specs.declared.touch.CallClass.TheVariants.{OnLayers}
+use Rattle.lw_calls.specs.Touches.{class_of}
 use Rattle.lw_layer.specs.View.{CellView, hooked}
 use Rattle.lw_parts.specs.Parts.{IsPairStep}
 use Rattle.lw_engine.proofs.HookLaws.{hooked_pair}

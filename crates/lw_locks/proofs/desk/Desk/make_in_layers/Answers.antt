@@ -7,7 +7,7 @@ use Rattle.lw_calls.specs.Entries.{count_of}
 use Rattle.lw_order.specs.Roles.{same_role}
 use Rattle.lw_locks.specs.Seen.{SeenPass}
 use Rattle.lw_locks.specs.declared.answer.Answer.{Answer}
-use Rattle.lw_calls.specs.Touches.{OnLayers}
+use Rattle.lw_calls.specs.declared.touch.CallClass.TheVariants.{OnLayers}
 use Rattle.lw_locks.proofs.Seats.{longer_by, longer_on, regs_longer, cell_longer, seat_at, regs_at, their_longer}
 use Rattle.lw_locks.proofs.Passes.{second_apart, room_joined, counted_joined, counted_after, roles_left, own_left, done_out}
 use Rattle.lw_locks.proofs.desk.Desk.make_in_layers.Goals as goal

@@ -1,3 +1,4 @@
+use Rattle.std.proofs.Common.{sym}
 use Rattle.lw_tasks.proofs.PartsLaws.{look_step}
 use Rattle.lw_tasks.proofs.parts.Parts.step.Goals as goal
 
@@ -7,9 +8,9 @@ on_layer-requires-clause-numbers g c κs within = λ s k got. (c.requires.desk.1
 pub on_layers-requires-clause-numbers : goal.on_layers-requires-clause-numbers
 on_layers-requires-clause-numbers g c κs within = λ s k got. (c.requires.desk.1.layers.cells s k got).0
 
-pub returns-in-Info-clause-step : goal.returns-in-Info-clause-step
-returns-in-Info-clause-step g c =
+pub returns-in-OnInfo-clause-step : goal.returns-in-OnInfo-clause-step
+returns-in-OnInfo-clause-step g c =
     let e = g.E.Engine in
     let a = c.args in
     let p = a.self.now in
-    look_step e.info_is e.number e.cell_is e.regs_is (e.sizes a.engine.now) (e.assets a.engine.now) p.info p.cells.items p.registers.items a.task a.call.now c.look.result (c.in-Info.ensures {u = tt}) c.look.ensures.step
+    look_step e.info_is e.number e.cell_is e.regs_is (e.sizes a.engine.now) (e.assets a.engine.now) p.info p.cells.items p.registers.items a.task a.call.now c.look.result (sym (c.in-OnInfo.ensures {u = tt})) c.look.ensures.step
