@@ -1,14 +1,14 @@
 -- In a legal order each task's calls stand once, and in their order; and a plan of one task has one legal order.
-use Rattle.std.proofs.Common.{◌≡◌, ℕ, zero, suc, ◌+◌, ◌<◌, ◌≤◌, ◌==◌, Bool, true, false, cond, if◌then◌else◌, List, [], ◌∷◌, ◌++◌, length, map, take, drop, replicate, Option, Some, None, slice_index_or, refl, sym, ap, subst, inl, inr, ◌∙◌, arith}
+use Rattle.std.proofs.Common.{◌≡◌, ℕ, zero, suc, ◌+◌, ◌<◌, ◌≤◌, ◌==◌, Bool, true, false, cond, if◌then◌else◌, List, [], ◌∷◌, ◌++◌, length, map, take, drop, replicate, Option, Some, slice_index_or, refl, sym, ap, subst, inl, inr, ◌∙◌, arith}
 use Rattle.std.specs.List.{slice_get}
-use Rattle.std.proofs.lemmas.Bool.{false≢true, eqb-true, eqb-false, and_parts, cases_lt}
+use Rattle.std.proofs.lemmas.Bool.{eqb-true, eqb-false, and_parts, cases_lt}
 use Rattle.std.proofs.lemmas.List.{take_all}
 use Rattle.lw_calls.specs.declared.call.Call.{Call}
 use Rattle.lw_calls.specs.declared.entry.Entry.{Entry}
 use Rattle.lw_calls.specs.Plan.{Plan, IsPlan, task_calls}
-use Rattle.lw_calls.specs.Entries.{count_of, next_entry, entries}
-use Rattle.lw_calls.specs.Orders.{occurrences, may_come, keeps_groups, is_complete, is_legal}
-use Rattle.lw_calls.proofs.OrdersComplete.{occurs_again, occurs_as_before, all_below}
+use Rattle.lw_calls.specs.Entries.{count_of, next_entry, entries, only_order}
+use Rattle.lw_calls.specs.Orders.{occurrences, may_come, keeps_groups, is_complete, is_legal, Begins}
+use Rattle.lw_calls.proofs.OrdersComplete.{occurs_again, occurs_as_before, all_below, call_there, begins}
 use Rattle.lw_top.specs.Run.{steps_of, numbered, CallsStandOnce, OneTaskHasOneOrder}
 
 -- a list's entry, and what stands from it on
@@ -23,11 +23,6 @@ drop_at (x ∷ cs) (suc n) c h =
 count_of_push : (t : ℕ) (past : List Entry) (e : Entry) → count_of t (past ++ e ∷ []) ≡ count_of t past + (if e.task == t then 1 else 0)
 count_of_push t [] e = omega arith
 count_of_push t (x ∷ past) e = let rest = count_of_push t past e in ap (λ n. (if x.task == t then 1 else 0) + n) rest ∙ omega arith
-
--- a call that may come is there
-pub call_there : (plan : Plan) (ns : List ℕ) (u : ℕ) (o : Option Call) → may_come plan ns u o ≡ true → (c : Call) × (o ≡ Some c)
-call_there plan ns u None h = absurd (false≢true h)
-call_there plan ns u (Some c) h = (c, refl)
 
 -- The steps stand for numbers of an order so far.
 abbrev AreAlike : List Entry → List ℕ → Type 0
@@ -149,11 +144,17 @@ zeros_counted : (n : ℕ) → occurrences 0 (replicate n 0) ≡ n
 zeros_counted zero = refl
 zeros_counted (suc n) = let rest = zeros_counted n in omega (arith, rest)
 
-pub one_order : OneTaskHasOneOrder
-one_order plan order ok one legal =
+only_legal : (plan : Plan) → IsPlan plan → plan.sizes.tasks ≡ 1 → (order : List ℕ) → is_legal plan order ≡ true → order ≡ only_order plan
+only_legal plan ok one order legal =
     let parts = and_parts (keeps_groups plan [] order) (is_complete plan order) legal in
     let are : order ≡ replicate (length order) 0 = zeros plan ok one [] order parts.0 in
     let first : 0 < plan.sizes.tasks = omega (arith, one) in
     let many = eqb-true (occurrences 0 order) (length (task_calls plan 0)) (all_below (λ u. occurrences u order == length (task_calls plan u)) plan.sizes.tasks 0 parts.1 first) in
     let long : length order ≡ length (task_calls plan 0) = sym (ap (occurrences 0) are ∙ zeros_counted (length order)) ∙ many in
     are ∙ ap (λ n. replicate n 0) long
+
+-- some order is legal, since no numbers begin one, and it is the only one
+pub one_order : OneTaskHasOneOrder
+one_order plan ok one =
+    let some : Begins plan [] = begins plan ok [] refl in
+    record { legal = subst (λ o. is_legal plan o ≡ true) (only_legal plan ok one some.0 some.1) some.1; only = only_legal plan ok one }

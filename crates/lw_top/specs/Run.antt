@@ -28,10 +28,13 @@ pub record StandForCalls (plan : Plan) (order : List ℕ) : Type 0 where
 abbrev pub CallsStandOnce : Type 0
 CallsStandOnce = (plan : Plan) (order : List ℕ) → IsPlan plan → is_legal plan order ≡ true → StandForCalls plan order
 
--- A plan of one task has one legal order.
+-- The only order of a plan of one task is legal, and no other is.
+pub record HasOneOrder (plan : Plan) : Type 0 where
+  pub legal : is_legal plan (only_order plan) ≡ true
+  pub only : (order : List ℕ) → is_legal plan order ≡ true → order ≡ only_order plan
+
 abbrev pub OneTaskHasOneOrder : Type 0
-OneTaskHasOneOrder =
-    (plan : Plan) (order : List ℕ) → IsPlan plan → plan.sizes.tasks ≡ 1 → is_legal plan order ≡ true → order ≡ only_order plan
+OneTaskHasOneOrder = (plan : Plan) → IsPlan plan → plan.sizes.tasks ≡ 1 → HasOneOrder plan
 
 -- The text of a report tells its order.
 abbrev pub ReportsTellTheirOrder : Type 0

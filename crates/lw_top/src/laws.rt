@@ -13,7 +13,7 @@ pub fn reports_tell_their_order()
     ensures { ReportsTellTheirOrder }
 {}
 
-/// A plan of one task has one legal order, so `run` has one report for it.
+/// A plan of one task has one legal order, each number in it its own, so `run` has one report for it.
 pub fn one_task_has_one_order()
     ensures { OneTaskHasOneOrder }
 {}

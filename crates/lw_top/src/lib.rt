@@ -39,7 +39,7 @@ pub use laws::{
 };
 pub use lw_backfill::Backfill;
 pub use lw_calls::Reason;
-pub use lw_io::{Sink, Source};
+pub use lw_io::{Failed, Sink, Source};
 pub use lw_locks::{Gate, OpenGate, Spot};
 pub use serving::{check, replay_cmd};
 pub use status::Status;
