@@ -9,7 +9,7 @@ use Rattle.lw_calls.specs.Touches.{slots_of}
 use Rattle.lw_calls.specs.Plan.{Plan, is_one, begins_update, may_be_locked, group_fits, groups_fit}
 use Rattle.lw_grammar.specs.Statements.{Statement, LockLine, HoldLine}
 use Rattle.lw_grammar.specs.Told.{OpenGroup, Locked, Updating, Held}
-use Rattle.lw_canonical.specs.Canonical.{line_of_call, are_updating, is_update, opening_lines, closing_lines, lines_before, lines_behind, lines_from}
+use Rattle.lw_canonical.specs.Canonical.{line_of_call, are_updating, is_update, opening_lines, closing_lines, lines_before, lines_after, lines_from}
 use Rattle.lw_grammar.proofs.ScriptGroups.{drop_pushed}
 use Rattle.lw_grammar.proofs.ScriptTasks.{IsUpdating}
 use Rattle.std.proofs.lemmas.Bool.{not-true, ne_eqb, eq-eqb, leb-true, ltb-true, and_parts}
@@ -121,12 +121,12 @@ module _ (names bitmaps : List (List ℕ)) where
   -- a task's lines, where no group is open
   abbrev pub closed_lines : List Call → List Group → List Statement
   closed_lines calls groups =
-      woven (lines_before names calls groups) (lines_behind names calls groups) 0 (map (line_of_call names bitmaps) calls)
+      woven (lines_before names calls groups) (lines_after names calls groups) 0 (map (line_of_call names bitmaps) calls)
 
   -- a task's lines so far, where this group is open and began before its call of this number, or none is
   abbrev pub lines_so_far : Option OpenGroup → ℕ → List Call → List Group → List Statement
   lines_so_far o began calls groups =
-      woven (λ m. lines_before names calls groups m ++ open_group_before o began m) (lines_behind names calls groups) 0 (map (line_of_call names bitmaps) calls) ++ open_group_before o began (length calls)
+      woven (λ m. lines_before names calls groups m ++ open_group_before o began m) (lines_after names calls groups) 0 (map (line_of_call names bitmaps) calls) ++ open_group_before o began (length calls)
 
   -- a further call leaves what stands before and after the others
   before_kept : (calls : List Call) (c : Call) (gs : List Group) (m : ℕ) → AreInside (length calls) gs → lines_before names (calls ++ c ∷ []) gs m ≡ lines_before names calls gs m
@@ -134,7 +134,7 @@ module _ (names bitmaps : List (List ℕ)) where
   before_kept calls c (g ∷ gs) m h =
       ap₂ (λ (x y : List Statement). x ++ y) (ap (λ t. cond (g.first == m) (opening_lines names g.hold t) []) (update_kept calls c g h.0)) (before_kept calls c gs m h.2)
 
-  behind_kept : (calls : List Call) (c : Call) (gs : List Group) (m : ℕ) → AreInside (length calls) gs → lines_behind names (calls ++ c ∷ []) gs m ≡ lines_behind names calls gs m
+  behind_kept : (calls : List Call) (c : Call) (gs : List Group) (m : ℕ) → AreInside (length calls) gs → lines_after names (calls ++ c ∷ []) gs m ≡ lines_after names calls gs m
   behind_kept calls c [] m h = refl
   behind_kept calls c (g ∷ gs) m h =
       ap₂ (λ (x y : List Statement). x ++ y) (ap (λ t. cond (g.last == m) (closing_lines names g.hold t) []) (update_kept calls c g h.0)) (behind_kept calls c gs m h.2)
@@ -146,7 +146,7 @@ module _ (names bitmaps : List (List ℕ)) where
       let first : g.first < n = h.0 in
       ap₂ (λ (x y : List Statement). x ++ y) (if_apart g.first m _ (λ e. omega arith)) (before_none calls gs n m h.2 k)
 
-  behind_none : (calls : List Call) (gs : List Group) (n m : ℕ) → AreInside n gs → n ≤ m → lines_behind names calls gs m ≡ []
+  behind_none : (calls : List Call) (gs : List Group) (n m : ℕ) → AreInside n gs → n ≤ m → lines_after names calls gs m ≡ []
   behind_none calls [] n m h k = refl
   behind_none calls (g ∷ gs) n m h k =
       let last : g.last < n = h.1 in
@@ -157,26 +157,26 @@ module _ (names bitmaps : List (List ℕ)) where
   before_pushed calls gs g m =
       flat_map-append (λ k. cond (k.first == m) (opening_lines names k.hold (is_update calls k)) []) gs (g ∷ []) ∙ ap (λ (t : List Statement). lines_before names calls gs m ++ t) (append-nil _)
 
-  behind_pushed : (calls : List Call) (gs : List Group) (g : Group) (m : ℕ) → lines_behind names calls (gs ++ g ∷ []) m ≡ lines_behind names calls gs m ++ cond (g.last == m) (closing_lines names g.hold (is_update calls g)) []
+  behind_pushed : (calls : List Call) (gs : List Group) (g : Group) (m : ℕ) → lines_after names calls (gs ++ g ∷ []) m ≡ lines_after names calls gs m ++ cond (g.last == m) (closing_lines names g.hold (is_update calls g)) []
   behind_pushed calls gs g m =
-      flat_map-append (λ k. cond (k.last == m) (closing_lines names k.hold (is_update calls k)) []) gs (g ∷ []) ∙ ap (λ (t : List Statement). lines_behind names calls gs m ++ t) (append-nil _)
+      flat_map-append (λ k. cond (k.last == m) (closing_lines names k.hold (is_update calls k)) []) gs (g ∷ []) ∙ ap (λ (t : List Statement). lines_after names calls gs m ++ t) (append-nil _)
 
   -- nothing was opened where no group is open
   pub none_before : (began m : ℕ) → open_group_before None began m ≡ []
   none_before began m = cond_none (began == m) []
 
   -- The lines of one call more, where what stands at the others is the same.
-  more_line : (o p : Option OpenGroup) (began now : ℕ) (calls : List Call) (groups gs : List Group) (c : Call) (f : Statement) → line_of_call names bitmaps c ≡ f → ((m : ℕ) → m < length calls → lines_before names (calls ++ c ∷ []) gs m ++ open_group_before p now m ≡ lines_before names calls groups m ++ open_group_before o began m) → lines_before names (calls ++ c ∷ []) gs (length calls) ++ open_group_before p now (length calls) ≡ open_group_before o began (length calls) → ((m : ℕ) → m < length calls → lines_behind names (calls ++ c ∷ []) gs m ≡ lines_behind names calls groups m) → lines_behind names (calls ++ c ∷ []) gs (length calls) ≡ [] → open_group_before p now (length calls + 1) ≡ [] → lines_so_far p now (calls ++ c ∷ []) gs ≡ lines_so_far o began calls groups ++ f ∷ []
+  more_line : (o p : Option OpenGroup) (began now : ℕ) (calls : List Call) (groups gs : List Group) (c : Call) (f : Statement) → line_of_call names bitmaps c ≡ f → ((m : ℕ) → m < length calls → lines_before names (calls ++ c ∷ []) gs m ++ open_group_before p now m ≡ lines_before names calls groups m ++ open_group_before o began m) → lines_before names (calls ++ c ∷ []) gs (length calls) ++ open_group_before p now (length calls) ≡ open_group_before o began (length calls) → ((m : ℕ) → m < length calls → lines_after names (calls ++ c ∷ []) gs m ≡ lines_after names calls groups m) → lines_after names (calls ++ c ∷ []) gs (length calls) ≡ [] → open_group_before p now (length calls + 1) ≡ [] → lines_so_far p now (calls ++ c ∷ []) gs ≡ lines_so_far o began calls groups ++ f ∷ []
   more_line o p began now calls groups gs c f line before first behind last end =
       let told : List Statement = map (line_of_call names bitmaps) calls in
       let long : length told ≡ length calls = length-map calls (line_of_call names bitmaps) in
       let a : ℕ → List Statement = λ m. lines_before names (calls ++ c ∷ []) gs m ++ open_group_before p now m in
       let b : ℕ → List Statement = λ m. lines_before names calls groups m ++ open_group_before o began m in
-      let old : List Statement = woven b (lines_behind names calls groups) 0 told in
+      let old : List Statement = woven b (lines_after names calls groups) 0 told in
       let opened : List Statement = open_group_before o began (length calls) in
-      let pushed = ap (λ (ls : List Statement). woven a (lines_behind names (calls ++ c ∷ []) gs) 0 ls) (map-append (line_of_call names bitmaps) calls (c ∷ [])) ∙ woven_push a (lines_behind names (calls ++ c ∷ []) gs) 0 told (line_of_call names bitmaps c) (length calls) (omega (arith, long)) in
-      let same : woven a (lines_behind names (calls ++ c ∷ []) gs) 0 told ≡ old = woven_same a b (lines_behind names (calls ++ c ∷ []) gs) (lines_behind names calls groups) 0 told (λ m low high. before m (omega (arith, long))) (λ m low high. behind m (omega (arith, long))) in
-      let here : a (length calls) ++ line_of_call names bitmaps c ∷ lines_behind names (calls ++ c ∷ []) gs (length calls) ≡ opened ++ f ∷ [] = ap₂ (λ (x y : List Statement). x ++ y) first (ap₂ (λ (x : Statement) (y : List Statement). x ∷ y) line last) in
+      let pushed = ap (λ (ls : List Statement). woven a (lines_after names (calls ++ c ∷ []) gs) 0 ls) (map-append (line_of_call names bitmaps) calls (c ∷ [])) ∙ woven_push a (lines_after names (calls ++ c ∷ []) gs) 0 told (line_of_call names bitmaps c) (length calls) (omega (arith, long)) in
+      let same : woven a (lines_after names (calls ++ c ∷ []) gs) 0 told ≡ old = woven_same a b (lines_after names (calls ++ c ∷ []) gs) (lines_after names calls groups) 0 told (λ m low high. before m (omega (arith, long))) (λ m low high. behind m (omega (arith, long))) in
+      let here : a (length calls) ++ line_of_call names bitmaps c ∷ lines_after names (calls ++ c ∷ []) gs (length calls) ≡ opened ++ f ∷ [] = ap₂ (λ (x y : List Statement). x ++ y) first (ap₂ (λ (x : Statement) (y : List Statement). x ∷ y) line last) in
       let tail : open_group_before p now (length (calls ++ c ∷ [])) ≡ [] = ap (open_group_before p now) (length-append calls (c ∷ [])) ∙ end in
       ap₂ (λ (x y : List Statement). x ++ y) (pushed ∙ ap₂ (λ (x y : List Statement). x ++ y) same here) tail ∙ append-nil (old ++ (opened ++ f ∷ [])) ∙ sym (append_assoc old opened (f ∷ []))
 
@@ -187,8 +187,8 @@ module _ (names bitmaps : List (List ℕ)) where
       let long : length told ≡ length calls = length-map calls (line_of_call names bitmaps) in
       let a : ℕ → List Statement = λ m. lines_before names calls groups m ++ open_group_before (Some l) (length calls) m in
       let b : ℕ → List Statement = λ m. lines_before names calls groups m ++ open_group_before None began m in
-      let old : List Statement = woven b (lines_behind names calls groups) 0 told in
-      let same : woven a (lines_behind names calls groups) 0 told ≡ old = woven_same a b (lines_behind names calls groups) (lines_behind names calls groups) 0 told (λ m low high. ap (λ (t : List Statement). lines_before names calls groups m ++ t) (if_apart (length calls) m (open_group_lines (Some l)) (λ e. omega (arith, long)) ∙ sym (none_before began m))) (λ m low high. refl) in
+      let old : List Statement = woven b (lines_after names calls groups) 0 told in
+      let same : woven a (lines_after names calls groups) 0 told ≡ old = woven_same a b (lines_after names calls groups) (lines_after names calls groups) 0 told (λ m low high. ap (λ (t : List Statement). lines_before names calls groups m ++ t) (if_apart (length calls) m (open_group_lines (Some l)) (λ e. omega (arith, long)) ∙ sym (none_before began m))) (λ m low high. refl) in
       ap₂ (λ (x y : List Statement). x ++ y) same (if_same (length calls) (length calls) (open_group_lines (Some l)) refl) ∙ ap (λ (t : List Statement). t ++ open_group_lines (Some l)) (sym (ap (λ (t : List Statement). old ++ t) (none_before began (length calls)) ∙ append-nil old))
 
   -- The open group ends with the last call.
@@ -198,12 +198,12 @@ module _ (names bitmaps : List (List ℕ)) where
       let long : length told ≡ length calls = length-map calls (line_of_call names bitmaps) in
       let a : ℕ → List Statement = λ m. lines_before names calls (groups ++ g ∷ []) m ++ open_group_before None g.first m in
       let b : ℕ → List Statement = λ m. lines_before names calls groups m ++ open_group_before o g.first m in
-      let c : ℕ → List Statement = λ m. lines_behind names calls groups m ++ cond (g.last == m) more [] in
-      let old : List Statement = woven b (lines_behind names calls groups) 0 told in
+      let c : ℕ → List Statement = λ m. lines_after names calls groups m ++ cond (g.last == m) more [] in
+      let old : List Statement = woven b (lines_after names calls groups) 0 told in
       let before : (m : ℕ) → a m ≡ b m = λ m. ap₂ (λ (x y : List Statement). x ++ y) (before_pushed calls groups g m ∙ ap (λ (t : List Statement). lines_before names calls groups m ++ cond (g.first == m) t []) opening) (none_before g.first m) ∙ append-nil (b m) in
-      let behind : (m : ℕ) → lines_behind names calls (groups ++ g ∷ []) m ≡ c m = λ m. behind_pushed calls groups g m ∙ ap (λ (t : List Statement). lines_behind names calls groups m ++ cond (g.last == m) t []) closing in
-      let same = woven_same a b (lines_behind names calls (groups ++ g ∷ [])) c 0 told (λ m u v. before m) (λ m u v. behind m) in
-      let last = woven_last b (lines_behind names calls groups) 0 told more g.last (omega (arith, long)) (omega (arith, long)) in
+      let behind : (m : ℕ) → lines_after names calls (groups ++ g ∷ []) m ≡ c m = λ m. behind_pushed calls groups g m ∙ ap (λ (t : List Statement). lines_after names calls groups m ++ cond (g.last == m) t []) closing in
+      let same = woven_same a b (lines_after names calls (groups ++ g ∷ [])) c 0 told (λ m u v. before m) (λ m u v. behind m) in
+      let last = woven_last b (lines_after names calls groups) 0 told more g.last (omega (arith, long)) (omega (arith, long)) in
       let off : open_group_before o g.first (length calls) ≡ [] = if_apart g.first (length calls) (open_group_lines o) (λ e. omega arith) in
       ap₂ (λ (x y : List Statement). x ++ y) (same ∙ last) (none_before g.first (length calls)) ∙ append-nil (old ++ more) ∙ ap (λ (t : List Statement). t ++ more) (sym (ap (λ (t : List Statement). old ++ t) off ∙ append-nil old))
 
@@ -212,7 +212,7 @@ module _ (names bitmaps : List (List ℕ)) where
   lines_closed began calls groups =
       let told : List Statement = map (line_of_call names bitmaps) calls in
       let a : ℕ → List Statement = λ m. lines_before names calls groups m ++ open_group_before None began m in
-      let same = woven_same a (lines_before names calls groups) (lines_behind names calls groups) (lines_behind names calls groups) 0 told (λ m low high. ap (λ (t : List Statement). lines_before names calls groups m ++ t) (none_before began m) ∙ append-nil _) (λ m low high. refl) in
+      let same = woven_same a (lines_before names calls groups) (lines_after names calls groups) (lines_after names calls groups) 0 told (λ m low high. ap (λ (t : List Statement). lines_before names calls groups m ++ t) (none_before began m) ∙ append-nil _) (λ m low high. refl) in
       ap₂ (λ (x y : List Statement). x ++ y) same (none_before began (length calls)) ∙ append-nil _
 
   -- A call that leaves the open group open, or begins an update.
@@ -232,7 +232,7 @@ module _ (names bitmaps : List (List ℕ)) where
       let opening : opening_lines names g.hold (is_update more g) ≡ [] = ap₂ (λ (h : Hold) (t : Bool). opening_lines names h t) hold update in
       let closing : closing_lines names g.hold (is_update more g) ≡ [] = ap₂ (λ (h : Hold) (t : Bool). closing_lines names h t) hold update in
       let before : (m : ℕ) → lines_before names more (groups ++ g ∷ []) m ≡ lines_before names calls groups m = λ m. before_pushed more groups g m ∙ ap₂ (λ (x y : List Statement). x ++ y) (before_kept calls c groups m inside) (ap (λ (t : List Statement). cond (g.first == m) t []) opening ∙ cond_none (g.first == m) []) ∙ append-nil _ in
-      let behind : (m : ℕ) → lines_behind names more (groups ++ g ∷ []) m ≡ lines_behind names calls groups m = λ m. behind_pushed more groups g m ∙ ap₂ (λ (x y : List Statement). x ++ y) (behind_kept calls c groups m inside) (ap (λ (t : List Statement). cond (g.last == m) t []) closing ∙ cond_none (g.last == m) []) ∙ append-nil _ in
+      let behind : (m : ℕ) → lines_after names more (groups ++ g ∷ []) m ≡ lines_after names calls groups m = λ m. behind_pushed more groups g m ∙ ap₂ (λ (x y : List Statement). x ++ y) (behind_kept calls c groups m inside) (ap (λ (t : List Statement). cond (g.last == m) t []) closing ∙ cond_none (g.last == m) []) ∙ append-nil _ in
       more_line (Some (Updating l)) None g.first g.first calls groups (groups ++ g ∷ []) c f line
       (λ m low. ap (λ (t : List Statement). t ++ open_group_before None g.first m) (before m))
       (ap (λ (t : List Statement). t ++ open_group_before None g.first (length calls)) (before (length calls) ∙ before_none calls groups (length calls) (length calls) inside (omega arith)))
@@ -241,7 +241,7 @@ module _ (names bitmaps : List (List ℕ)) where
       (none_before g.first (length calls + 1))
 
 -- The plan's lines from a call on are such lines.
-pub lines_from_woven : (p : Plan) (calls : List Call) (groups : List Group) (n : ℕ) (cs : List Call) → lines_from p calls groups n cs ≡ woven (lines_before p.slot_names calls groups) (lines_behind p.slot_names calls groups) n (map (line_of_call p.slot_names p.bitmap_names) cs)
+pub lines_from_woven : (p : Plan) (calls : List Call) (groups : List Group) (n : ℕ) (cs : List Call) → lines_from p calls groups n cs ≡ woven (lines_before p.slot_names calls groups) (lines_after p.slot_names calls groups) n (map (line_of_call p.slot_names p.bitmap_names) cs)
 lines_from_woven p calls groups n [] = refl
 lines_from_woven p calls groups n (c ∷ cs) =
-    ap (λ (t : List Statement). (lines_before p.slot_names calls groups n ++ line_of_call p.slot_names p.bitmap_names c ∷ lines_behind p.slot_names calls groups n) ++ t) (lines_from_woven p calls groups (n + 1) cs)
+    ap (λ (t : List Statement). (lines_before p.slot_names calls groups n ++ line_of_call p.slot_names p.bitmap_names c ∷ lines_after p.slot_names calls groups n) ++ t) (lines_from_woven p calls groups (n + 1) cs)

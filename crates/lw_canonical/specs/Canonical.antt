@@ -107,8 +107,8 @@ abbrev pub lines_before : List (List ℕ) → List Call → List Group → ℕ �
 lines_before names calls groups n =
     flat_map (λ g. if g.first == n then opening_lines names g.hold (is_update calls g) else []) groups
 
-abbrev pub lines_behind : List (List ℕ) → List Call → List Group → ℕ → List Statement
-lines_behind names calls groups n =
+abbrev pub lines_after : List (List ℕ) → List Call → List Group → ℕ → List Statement
+lines_after names calls groups n =
     flat_map (λ g. if g.last == n then closing_lines names g.hold (is_update calls g) else []) groups
 
 -- the lines of those of the calls that are left from number n on, with those of groups
@@ -116,7 +116,7 @@ abbrev pub lines_from : Plan → List Call → List Group → ℕ → List Call 
 lines_from p calls groups n [] = []
 lines_from p calls groups n (c ∷ cs) =
     lines_before p.slot_names calls groups n ++ line_of_call p.slot_names p.bitmap_names c ∷
-    lines_behind p.slot_names calls groups n ++ lines_from p calls groups (n + 1) cs
+    lines_after p.slot_names calls groups n ++ lines_from p calls groups (n + 1) cs
 
 -- the lines of a task
 abbrev pub lines_of_task : Plan → ℕ → List Statement

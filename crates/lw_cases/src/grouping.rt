@@ -38,7 +38,7 @@ pub fn update_has_its_beginning_and_its_end()
     ensures end_alone { fit_as (Slot 0) (EndRefresh 0 true ∷ []) ≡ false }
     ensures second_beginning { fit_as (Slot 0) (BeginRefresh 0 ∷ BeginRefresh 0 ∷ EndRefresh 0 true ∷ []) ≡ false }
     ensures second_end { fit_as (Slot 0) (BeginRefresh 0 ∷ EndRefresh 0 true ∷ EndRefresh 0 true ∷ []) ≡ false }
-    ensures call_behind { fit_as (Slot 0) (BeginRefresh 0 ∷ EndRefresh 0 true ∷ fill_first 0 ∷ []) ≡ false }
+    ensures later_call { fit_as (Slot 0) (BeginRefresh 0 ∷ EndRefresh 0 true ∷ fill_first 0 ∷ []) ≡ false }
     ensures other_beginning { fit_as (Slot 0) (BeginRefresh 1 ∷ EndRefresh 0 true ∷ []) ≡ false }
     ensures other_end { fit_as (Slot 0) (BeginRefresh 0 ∷ EndRefresh 1 true ∷ []) ≡ false }
     ensures other_layer { fit_as (Slot 0) (BeginRefresh 0 ∷ fill_first 1 ∷ EndRefresh 0 true ∷ []) ≡ false }
@@ -54,14 +54,14 @@ pub fn hold_has_arrangements_alone()
     ensures update { fit_as All (BeginRefresh 0 ∷ EndRefresh 0 true ∷ []) ≡ false }
 {}
 
-/// Groups stand one behind another, each of calls that there are, and no call in two of them.
+/// Groups stand one after another, each of calls that there are, and no call in two of them.
 pub fn groups_stand_apart()
     ensures fit { groups_fit three_fills (lock_from 0 1 ∷ lock_from 2 2 ∷ []) ≡ true }
     ensures common_call { groups_fit three_fills (lock_from 0 1 ∷ lock_from 1 2 ∷ []) ≡ false }
     ensures within { groups_fit three_fills (lock_from 0 2 ∷ lock_from 1 1 ∷ []) ≡ false }
     ensures falling { groups_fit three_fills (lock_from 2 2 ∷ lock_from 0 1 ∷ []) ≡ false }
     ensures twice { groups_fit three_fills (lock_from 1 1 ∷ lock_from 1 1 ∷ []) ≡ false }
-    ensures behind_the_last { groups_fit three_fills (lock_from 0 1 ∷ lock_from 2 3 ∷ []) ≡ false }
+    ensures past_the_last { groups_fit three_fills (lock_from 0 1 ∷ lock_from 2 3 ∷ []) ≡ false }
     ensures no_call { groups_fit three_fills (lock_from 2 1 ∷ []) ≡ false }
 {}
 

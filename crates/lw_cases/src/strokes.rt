@@ -11,8 +11,8 @@ pub fn line_goes_by_its_longer_axis()
     ensures { run_report lines_by_one_more [] (only_order lines_by_one_more) ≡ lines_by_one_more_report }
 {}
 
-/// Letters move the cursor behind the last one.
-pub fn letters_move_the_cursor_behind_them()
+/// Letters move the cursor past the last one.
+pub fn letters_move_the_cursor_past_them()
     ensures { run_report letters_moved [] (only_order letters_moved) ≡ letters_moved_report }
 {}
 

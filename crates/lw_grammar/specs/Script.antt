@@ -25,6 +25,7 @@ pub record Setting : Type 0 where
   pub hooks : ℕ
   pub form : Form
 
+-- so many hooks are handed in, and the script stands in such an input
 abbrev pub reading_with : ℕ → Form → Setting
 reading_with hooks form = record { hooks = hooks; form = form }
 

@@ -13,7 +13,7 @@ pub bytes_after_bytes_after : (told : Option (List ℕ)) (a b : List ℕ) → by
 bytes_after_bytes_after None a b = refl
 bytes_after_bytes_after (Some start) a b = ap Some (append_assoc start a b)
 
--- a front of some bytes, and then a front of the rest, is a longer front
+-- a prefix of some bytes, and then a prefix of the rest, is a longer prefix
 pub written_more : (at n : ℕ) (bytes rest : List ℕ) (before between after : Option (List ℕ)) → rest ≡ drop at bytes → between ≡ bytes_after before (take at bytes) → after ≡ bytes_after between (take n rest) → after ≡ bytes_after before (take (at + n) bytes)
 written_more at n bytes rest before between after r e f =
     rw (f, e, r) (bytes_after_bytes_after before (take at bytes) (take n (drop at bytes)) ∙ ap (bytes_after before) (sym (take-add at n bytes)))

@@ -1,5 +1,5 @@
 -- What a call does to the bytes that a source has left or a sink was given, and to the count of
--- faults. A stream that does not tell its bytes has `None` for them.
+-- faults. A stream that doesn't expose its bytes has `None` for them.
 use Rattle.std.specs.Prelude.{◌≡◌, ℕ, ◌<◌, ◌≤◌, ◌⊎◌, List, [], ◌++◌, length, take, ⊤, Option, None, Some}
 use Rattle.std.specs.Option.{option_map}
 
@@ -15,7 +15,7 @@ bytes_before bytes told = option_map (λ rest. bytes ++ rest) told
 abbrev pub bytes_after : Option (List ℕ) → List ℕ → Option (List ℕ)
 bytes_after told bytes = option_map (λ start. start ++ bytes) told
 
--- no byte is left, where the source tells
+-- no byte is left, where the source exposes its bytes
 abbrev pub NoneLeft : Option (List ℕ) → Type 0
 NoneLeft None = ⊤
 NoneLeft (Some bytes) = bytes ≡ []
@@ -30,7 +30,7 @@ abbrev pub TakesJust : ℕ → Option (List ℕ) → Option (List ℕ) → Type 
 TakesJust count before after =
     (bytes : List ℕ) × (length bytes ≡ count) × (before ≡ bytes_before bytes after)
 
--- a front of these bytes, be it none or all of them, came after what was written
+-- a prefix of these bytes, be it none or all of them, came after what was written
 abbrev pub WritesPrefix : List ℕ → Option (List ℕ) → Option (List ℕ) → Type 0
 WritesPrefix bytes before after =
     (k : ℕ) × (k ≤ length bytes) × (after ≡ bytes_after before (take k bytes))

@@ -29,7 +29,7 @@ pub enum ReadStop {
 pub fn read_all<S: Source>(alloc: Global, source: &mut S, limit: usize) -> Result<Vec<u8>, ReadStop>
     requires { limit < usize.MAX }
 
-    // What was left came whole, where the source tells it, and nothing is left.
+    // What was left came whole, where the source exposes it, and nothing is left.
     ensures whole { IfOk result (λ v. IfSome (S.left source.old) (λ left. v.items ≡ left)) }
     ensures bytes { IfOk result (λ v. S.left source.old ≡ bytes_before v.items (S.left source.new)) }
     ensures end { OnOk result (NoneLeft (S.left source.new)) }

@@ -5,7 +5,7 @@ use crate::Failed;
 
 /// A stream to write bytes to, in pieces.
 pub trait Sink {
-    // The bytes that were written, where the sink tells them.
+    // The bytes that were written, where the sink exposes them.
     ghost written: { Self → Option (List ℕ) };
 
     // The count of faults. It stands still at the last value of a u64.
@@ -14,8 +14,8 @@ pub trait Sink {
     /// Writes some bytes from the front of `piece`, and answers how many: at least one, if `piece`
     /// is not empty.
     ///
-    /// A sink that tells what was written goes on telling it, and one that does not goes on not
-    /// telling. Where the stream behind it takes nothing, it raises its count and answers `Failed`.
+    /// A sink that exposes what was written goes on doing so, and one that doesn't never does.
+    /// Where the stream behind it takes nothing, it raises its count and answers `Failed`.
     fn write(&mut self, piece: &[u8]) -> Result<usize, Failed>
         ensures bound { IfOk result (λ n. n ≤ length piece.now) }
         ensures some { IfOk result (λ n. 0 < length piece.now → 0 < n) }

@@ -5,7 +5,7 @@ use crate::Failed;
 
 /// A stream of bytes to read, in pieces.
 pub trait Source {
-    // The bytes that are left, where the source tells them.
+    // The bytes that are left, where the source exposes them.
     ghost left: { Self → Option (List ℕ) };
 
     // The count of faults. It stands still at the last value of a u64.
@@ -14,8 +14,8 @@ pub trait Source {
     /// Reads some bytes into the front of `piece`, and answers how many.
     ///
     /// An answer of 0 for a piece that is not empty is the end of the source. What `piece` holds
-    /// after the bytes that were read, and after `Failed`, is not said. A source that tells what
-    /// is left goes on telling it, and one that does not goes on not telling.
+    /// after the bytes that were read, and after `Failed`, is not said. A source that exposes what
+    /// is left goes on doing so, and one that doesn't never does.
     fn read(&mut self, piece: &mut [u8]) -> Result<usize, Failed>
         ensures bound { IfOk result (λ n. n ≤ length piece.new) }
         ensures bytes { IfOk result (λ n.

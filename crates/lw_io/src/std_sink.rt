@@ -7,7 +7,7 @@ use crate::{Failed, Sink};
 use std::io::Write;
 use std::marker::Model;
 
-/// A sink over std's writer, which counts the errors. As a sink it tells nothing of the bytes.
+/// A sink over std's writer, which counts the errors. As a sink it exposes no bytes.
 #[derive(Drop)]
 pub struct StdSink<W: Write + Drop> {
     writer: W,

@@ -7,7 +7,7 @@ use crate::{Failed, Source};
 use std::io::Read;
 use std::marker::Model;
 
-/// A source over std's reader, which counts the errors. As a source it tells nothing of the bytes.
+/// A source over std's reader, which counts the errors. As a source it exposes no bytes.
 #[derive(Drop)]
 pub struct StdSource<R: Read + Drop> {
     reader: R,

@@ -5,7 +5,7 @@ use crate::{Failed, Sink};
 
 /// Writes all of `bytes` to `sink`, piece by piece. It takes no memory.
 ///
-/// After `Failed` a front of `bytes` was written in this call, which may be none of them or all.
+/// After `Failed` a prefix of `bytes` was written in this call, which may be none of them or all.
 pub fn write_all<K: Sink>(sink: &mut K, bytes: &[u8]) -> Result<(), Failed>
     ensures ok { OnOk result (K.written sink.new ≡ bytes_after (K.written sink.old) bytes.now) }
     ensures prefix { WritesPrefix bytes.now (K.written sink.old) (K.written sink.new) }

@@ -27,7 +27,7 @@ update_ended d damage full is ok =
     let P : Damaged → Type 0 = λ m. IsLiveDraft (record d { damage = m }) in
     subst P (sym is) (end_kept d full ok)
 
--- the layer behind the full end of an update
+-- the layer after the full end of an update
 pub full_end_viewed : (d : LiveDraft) (damage : Damaged) (w : Option WindowDraft) (full : Bool) → full ≡ true → damage ≡ ended d.damage full
     → window_of w ≡ changed_window (λ v. record v { asked = false }) (window_of d.window) → room_of w ≡ room_of d.window
     → live_view (record d { damage = damage; window = w }) ≡ with_layer (λ l. end_update full l) (live_view d)

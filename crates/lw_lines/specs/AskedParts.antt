@@ -10,23 +10,23 @@ use Rattle.lw_lines.specs.declared.lines_asked.Request.{Request}
 use Rattle.lw_lines.specs.declared.lines_asked.Request.TheVariants.{Creation, Opening}
 
 -- what stands after the numbers of a layer that is asked for
-abbrev pub Behind : Type 0
-Behind = List ℕ → Place → Rectangle → List Token → Kind → Option Statement
+abbrev pub AfterNumbers : Type 0
+AfterNumbers = List ℕ → Place → Rectangle → List Token → Kind → Option Statement
 
-abbrev pub behind_numbers : Request → Behind
-behind_numbers Creation = create_kind
-behind_numbers Opening = open_kind
+abbrev pub after_numbers : Request → AfterNumbers
+after_numbers Creation = create_kind
+after_numbers Opening = open_kind
 
 -- the same, where these words are to be the kind and the place
-abbrev pub with_words : Behind → List ℕ → List ℕ → List ℕ → Rectangle → List Token → Option Statement
-with_words behind l k p numbers ts =
-    option_and_then (λ place. option_and_then (behind l place numbers ts) (kind_of k)) (place_of p)
+abbrev pub with_words : AfterNumbers → List ℕ → List ℕ → List ℕ → Rectangle → List Token → Option Statement
+with_words rest l k p numbers ts =
+    option_and_then (λ place. option_and_then (rest l place numbers ts) (kind_of k)) (place_of p)
 
 -- four numbers, and what stands after them
 abbrev pub with_numbers : (Rectangle → List Token → Option Statement) → List Token → Option Statement
 with_numbers make ts = option_and_then (λ taken. make taken.0 taken.1) (numbers_taken ts)
 
 -- three names, and what stands after them
-abbrev pub with_names : Behind → List Token → Option Statement
-with_names behind (NameToken l ∷ NameToken k ∷ NameToken p ∷ ts) = with_numbers (with_words behind l k p) ts
-with_names behind _ = None
+abbrev pub with_names : AfterNumbers → List Token → Option Statement
+with_names rest (NameToken l ∷ NameToken k ∷ NameToken p ∷ ts) = with_numbers (with_words rest l k p) ts
+with_names rest _ = None

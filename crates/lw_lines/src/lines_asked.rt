@@ -3,7 +3,7 @@ ghost use Rattle.lw_grammar.specs.Statements.{kind_of, place_of, flag as flag_me
 ghost use Rattle.lw_grammar.specs.Tokens.{NumberToken};
 ghost use Rattle.lw_words.specs.TokenMeaning.{token_meaning};
 ghost use Rattle.lw_lines.specs.StatementMeaning.{statement_meaning, corners_meaning, without_bitmap_meaning, asked_meaning};
-ghost use Rattle.lw_lines.specs.AskedParts.{behind_numbers, with_words, with_numbers, with_names};
+ghost use Rattle.lw_lines.specs.AskedParts.{after_numbers, with_words, with_numbers, with_names};
 
 use crate::corners::corners_in;
 use crate::statement::{Act, AskedKind, AskedLayer, Corners, KindWithoutBitmap, Statement};
@@ -305,7 +305,7 @@ fn kind_line<'a>(
     tokens: &[Token<'a>],
 ) -> Option<Statement<'a>>
     ensures { option_map statement_meaning result ≡
-        behind_numbers request layer.now place (corners_meaning numbers) (map token_meaning tokens.now) kind }
+        after_numbers request layer.now place (corners_meaning numbers) (map token_meaning tokens.now) kind }
 {
     match request {
         Request::Creation => match kind {
@@ -355,7 +355,7 @@ fn placed_line<'a>(
     tokens: &[Token<'a>],
 ) -> Option<Statement<'a>>
     ensures { option_map statement_meaning result ≡
-        with_words (behind_numbers request) layer.now kind.now place.now (corners_meaning numbers)
+        with_words (after_numbers request) layer.now kind.now place.now (corners_meaning numbers)
         (map token_meaning tokens.now) }
 {
     match place_of(place) {
@@ -376,7 +376,7 @@ fn named_line<'a>(
     tokens: &[Token<'a>],
 ) -> Option<Statement<'a>>
     ensures { option_map statement_meaning result ≡
-        with_numbers (with_words (behind_numbers request) layer.now kind.now place.now) (map token_meaning tokens.now) }
+        with_numbers (with_words (after_numbers request) layer.now kind.now place.now) (map token_meaning tokens.now) }
 {
     match corners_in(tokens) {
         None => None,
@@ -386,7 +386,7 @@ fn named_line<'a>(
 
 /// A request's words, in parts.
 fn asked_parts<'a>(request: Request, tokens: &[Token<'a>]) -> Option<Statement<'a>>
-    ensures { option_map statement_meaning result ≡ with_names (behind_numbers request) (map token_meaning tokens.now) }
+    ensures { option_map statement_meaning result ≡ with_names (after_numbers request) (map token_meaning tokens.now) }
 {
     match tokens {
         [
@@ -401,7 +401,7 @@ fn asked_parts<'a>(request: Request, tokens: &[Token<'a>]) -> Option<Statement<'
 
 /// `create L KIND PLACE X0 Y0 X1 Y1 ..`, and `open L KIND PLACE X Y W H ..`
 pub(crate) fn asked_line<'a>(request: Request, tokens: &[Token<'a>]) -> Option<Statement<'a>>
-    ensures { option_map statement_meaning result ≡ asked_line (behind_numbers request) (map token_meaning tokens.now) }
+    ensures { option_map statement_meaning result ≡ asked_line (after_numbers request) (map token_meaning tokens.now) }
 {
     asked_parts(request, tokens)
 }

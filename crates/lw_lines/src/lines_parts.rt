@@ -47,7 +47,7 @@ fn glyph_of<'a>(code: &Token<'a>, rows: &Token<'a>) -> Option<Statement<'a>>
 }
 
 /// The glyph of a code and of what stands after it.
-fn glyph_behind<'a>(code: &Token<'a>, tokens: &[Token<'a>]) -> Option<Statement<'a>>
+fn glyph_after<'a>(code: &Token<'a>, tokens: &[Token<'a>]) -> Option<Statement<'a>>
     ensures { option_map statement_meaning result ≡ glyph_line (token_meaning code.now ∷ map token_meaning tokens.now) }
 {
     match tokens {
@@ -63,7 +63,7 @@ pub(crate) fn glyph_line<'a>(tokens: &[Token<'a>]) -> Option<Statement<'a>>
 {
     match tokens {
         [] => None,
-        [code, rest @ ..] => glyph_behind(code, rest),
+        [code, rest @ ..] => glyph_after(code, rest),
     }
 }
 

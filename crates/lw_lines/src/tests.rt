@@ -19,13 +19,13 @@ fn read(alloc: Global, line: &[u8]) -> Result<Outcome, AllocError> {
         Err(Stop::Refused(reason)) => return Ok(Outcome::Fault(reason)),
         Err(Stop::Memory) => return Err(AllocError),
     };
-    let [first, behind @ ..] = words.as_slice() else {
+    let [first, rest @ ..] = words.as_slice() else {
         return Ok(Outcome::Unknown);
     };
     let Some(verb) = verb_of(first) else {
         return Ok(Outcome::Unknown);
     };
-    let tokens = tokens_of(alloc, behind)?;
+    let tokens = tokens_of(alloc, rest)?;
     match statement_by(verb, tokens.as_slice()) {
         None => Ok(Outcome::NoStatement),
         Some(_) => Ok(Outcome::Fits),

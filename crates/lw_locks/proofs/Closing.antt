@@ -78,7 +78,7 @@ each_left number whole rest off n many out more has k below =
     (λ (there : Contains (map number out.front ++ map number out.back) k). subst (λ ks. Contains ks k) (sym (ap (map number) out.left ∙ map-append number out.front out.back)) there)
     (either_of (map number out.front) (map number out.back) (number off) k was)
 
--- the last cell is put behind the others
+-- the last cell is put after the others
 pub placed_more : {C : Type 0} (whole rest : List (ℕ × C)) (off : ℕ × C) (n : ℕ) (cells all : List C) → WasTakenOut (λ (one : ℕ × C). one.0) whole rest off n → n ≡ length cells → ArePlaced rest cells → all ≡ cells ++ off.1 ∷ [] → ArePlaced whole all
 placed_more {C = C} whole rest off n cells all out many had pushed place cell at_place =
     subst (λ xs. Contains xs (place, cell)) (sym out.parts)

@@ -37,8 +37,8 @@ pub fn steps_are_local()
 
 /// A law of the machine, which does nothing: in every desk that a history of calls that fit
 /// reaches, pens off the kept pixels are 0, damage lies on kept pixels of the inner rectangle alone and never on a
-/// super-bitmap layer, at most one window is active, the list has each live slot once with backdrop layers last, and a
-/// super-bitmap layer's portion lies in its bitmap.
+/// super-bitmap layer, at most one window is active, the list has each live slot once with backdrop layers last, a
+/// super-bitmap layer's portion lies in its bitmap, and any other layer has bits of its bounds' size and isn't scrolled.
 pub fn reached_desks_are_sound()
     ensures { ReachedDesksAreSound }
 {}

@@ -64,7 +64,7 @@ numbered_push_step : (past es : List Entry) (e : Entry) → Numbered past es →
 numbered_push_step past [] e h seq = (seq ∙ ap (count_of e.task) (append-nil past), tt)
 numbered_push_step past (x ∷ es) e h seq = (h.0, numbered_push_step (past ++ x ∷ []) es e h.1 (seq ∙ ap (count_of e.task) (sym (append_assoc past (x ∷ []) es))))
 
--- a step with the next number of its task goes behind
+-- a step with the next number of its task goes to the end
 pub numbered_push : (es : List Entry) (e : Entry) → IsNumbered es → e.seq ≡ count_of e.task es → IsNumbered (es ++ e ∷ [])
 numbered_push es e h seq = numbered_push_step [] es e h seq
 

@@ -18,7 +18,7 @@ IsRoleWithin sizes (Task t) = t < sizes.tasks
 IsRoleWithin sizes (Slot s) = s < sizes.slots
 IsRoleWithin sizes Info = Unit {0}
 
--- One view stands well in the whole history: its own is a beginning of it, behind which no step touches its roles; its
+-- One view stands well in the whole history: its own is a beginning of it, after which no step touches its roles; its
 -- roles are ones of these sizes, none of them twice; and its own history goes on in the same way from each of the former
 -- ones.
 pub record Stands (sizes : Sizes) (whole : List Entry) (v : View) : Type 0 where

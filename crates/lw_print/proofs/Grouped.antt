@@ -8,7 +8,7 @@ use Rattle.lw_calls.specs.Plan.{Plan, groups_fit}
 use Rattle.lw_calls.proofs.OrderGroups.{follows_on, head_fits, rest_fits, has_order}
 use Rattle.lw_grammar.specs.Statements.{Statement}
 use Rattle.lw_canonical.specs.Canonical.{line_of_call, is_update, opening_lines, closing_lines, lines_from}
-use Rattle.lw_print.specs.Grouping.{opening_at, closing_at, lines_at, left_behind}
+use Rattle.lw_print.specs.Grouping.{opening_at, closing_at, lines_at, left_after}
 
 -- the first group that is left doesn't end before call number n
 abbrev pub Reaches : ℕ → List Group → Type 0
@@ -121,16 +121,16 @@ left_lines_step true p calls g gs n cs is h =
 left_lines_step false p calls g gs n cs is h = refl
 
 -- the groups that are left after call number n fit
-pub left_fit : (calls : List Call) (gs : List Group) (n : ℕ) → groups_fit calls gs ≡ true → groups_fit calls (left_behind gs n) ≡ true
+pub left_fit : (calls : List Call) (gs : List Group) (n : ℕ) → groups_fit calls gs ≡ true → groups_fit calls (left_after gs n) ≡ true
 left_fit calls [] n h = refl
 left_fit calls (g ∷ gs) n h = left_fit_step (g.last == n) calls g gs h
 
 -- they don't end before the next call
-pub left_reach : (calls : List Call) (gs : List Group) (n : ℕ) → groups_fit calls gs ≡ true → Reaches n gs → Reaches (n + 1) (left_behind gs n)
+pub left_reach : (calls : List Call) (gs : List Group) (n : ℕ) → groups_fit calls gs ≡ true → Reaches n gs → Reaches (n + 1) (left_after gs n)
 left_reach calls [] n h reach = tt
 left_reach calls (g ∷ gs) n h reach = left_reach_step (g.last == n) calls g gs n refl h reach
 
 -- the lines of the calls after number n are those with the groups that are left
-pub left_lines : (p : Plan) (calls : List Call) (gs : List Group) (n : ℕ) (cs : List Call) → groups_fit calls gs ≡ true → lines_from p calls gs (n + 1) cs ≡ lines_from p calls (left_behind gs n) (n + 1) cs
+pub left_lines : (p : Plan) (calls : List Call) (gs : List Group) (n : ℕ) (cs : List Call) → groups_fit calls gs ≡ true → lines_from p calls gs (n + 1) cs ≡ lines_from p calls (left_after gs n) (n + 1) cs
 left_lines p calls [] n cs h = refl
 left_lines p calls (g ∷ gs) n cs h = left_lines_step (g.last == n) p calls g gs n cs refl h

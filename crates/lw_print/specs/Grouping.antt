@@ -24,6 +24,6 @@ lines_at p calls groups n c =
     ++ (line_of_call p.slot_names p.bitmap_names c ∷ closing_at p.slot_names calls groups n)
 
 -- the groups that are left after call number n
-abbrev pub left_behind : List Group → ℕ → List Group
-left_behind [] n = []
-left_behind (g ∷ gs) n = if g.last == n then gs else g ∷ gs
+abbrev pub left_after : List Group → ℕ → List Group
+left_after [] n = []
+left_after (g ∷ gs) n = if g.last == n then gs else g ∷ gs

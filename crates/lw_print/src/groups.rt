@@ -3,7 +3,7 @@
 ghost use Rattle.std.specs.Prelude.{◌≡◌, ◌++◌, OnOk};
 ghost use Rattle.lw_canonical.specs.Canonical.{is_update, opening_lines, closing_lines};
 ghost use Rattle.lw_print.specs.Behind.{text_of_lines};
-ghost use Rattle.lw_print.specs.Grouping.{opening_at, closing_at, left_behind};
+ghost use Rattle.lw_print.specs.Grouping.{opening_at, closing_at, left_after};
 
 use crate::lines::push_named_line;
 use lw_calls::{Call, Group, Hold, Text};
@@ -49,7 +49,7 @@ pub fn push_closing(
 
 /// The groups that are left after call `number`, of those that were left before it.
 pub fn groups_behind(left: &[Group], number: usize) -> &[Group]
-    ensures { result.now ≡ left_behind left.now number }
+    ensures { result.now ≡ left_after left.now number }
 {
     match left {
         [group, others @ ..] if group.last as usize == number => others,

@@ -21,13 +21,13 @@ fn push_order_numbers(alloc: Global, out: &mut Vec<u8>, order: &[u32]) -> Result
 {
     for (above, task) in order.iter().enumerate() {
         push_decimal(alloc, out, *task as usize)?;
-        out.push(byte_behind(above + 1, order.len()))?;
+        out.push(byte_after(above + 1, order.len()))?;
     }
     Ok(())
 }
 
 /// The byte after the number that is `count`th of `all` numbers, counted from 1.
-fn byte_behind(count: usize, all: usize) -> u8
+fn byte_after(count: usize, all: usize) -> u8
     requires { count ≤ all }
     ensures { (rest : List ℕ) → count + length rest ≡ all → result ≡ separator count rest }
 {

@@ -92,8 +92,8 @@ second_task = in_task_a ++ script (codes "end/task 9a")
 abbrev pub second_task_apart : List ℕ
 second_task_apart = in_task_a ++ script (codes "end/task  b")
 
-abbrev pub word_behind_end : List ℕ
-word_behind_end = in_task_a ++ script (codes "end/tasks b")
+abbrev pub word_after_end : List ℕ
+word_after_end = in_task_a ++ script (codes "end/tasks b")
 
 abbrev pub task_in_task : List ℕ
 task_in_task = in_task_a ++ script (codes "task b")

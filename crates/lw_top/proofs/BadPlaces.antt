@@ -4,7 +4,7 @@ use Rattle.std.proofs.lemmas.Bool.{true≢false, ltb-true, ltb-false}
 use Rattle.lw_calls.specs.Plan.{Plan}
 use Rattle.lw_calls.specs.Orders.{is_legal, Begins, EndsAt, IsBadPlace}
 
--- a front of a longer front
+-- a prefix of a longer prefix
 front_goes_on : (k m : ℕ) (xs : List ℕ) → k ≤ m → (more : List ℕ) × (take m xs ≡ take k xs ++ more)
 front_goes_on zero m xs le = (take m xs, refl)
 front_goes_on (suc k) zero xs le = absurd (omega arith)

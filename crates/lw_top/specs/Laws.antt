@@ -62,7 +62,7 @@ pub record IsAnswer (hooks : List Hook) (command : Command) (input : List ℕ) (
   pub same : result ≡ due
   pub written : after ≡ bytes_after before text
 
--- What each answer to a command tells of what was taken, and of what the source had left where it tells that.
+-- What each answer to a command tells of what was taken, and of what the source had left where it exposes that.
 pub record AnswerTells (hooks : List Hook) (command : Command) (result : Status) (left rest : Option (List ℕ)) (s t : ℕ) (before after : Option (List ℕ)) (f g : ℕ) : Type 0 where
   -- what was written with Done, and why each other answer came
   pub done : result ≡ Done → (input : List ℕ) × IsInput input left rest × (text : List ℕ) × IsTextOf hooks command input text × (after ≡ bytes_after before text)

@@ -43,8 +43,8 @@ pub record Served (hooks : List Hook) (command : Command) (result : Status) (lef
   pub said : Says text due result before after f g
 
 -- What a command promises that is handed these hooks: the outcome, unless reading failed or memory ran out. What the source
--- tells that it has left went from one value to another, its count of faults did, and likewise what the sink tells that was
--- written, and its count.
+-- has left, where it exposes that, went from one value to another, its count of faults did, and likewise what was written to the sink,
+-- and its count.
 pub record Answered (hooks : List Hook) (command : Command) (result : Status) (left rest : Option (List ℕ)) (s t : ℕ) (before after : Option (List ℕ)) (f g : ℕ) : Type 0 where
   pub outcome : Served hooks command result left rest before after f g ⊎ ((result ≡ ReadFault) × Rose s t) ⊎ (result ≡ NoMemory)
   pub taken : TakesAtMost (input_limit + 1) left rest

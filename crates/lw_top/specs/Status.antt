@@ -54,7 +54,7 @@ abbrev pub input_limit : ℕ
 input_limit = 4194304
 
 -- A text was written with the answer that is due, whole; or the sink failed, its count of faults rose, and what was written
--- is a front of the text.
+-- is a prefix of the text.
 abbrev pub Says : List ℕ → Status → Status → Option (List ℕ) → Option (List ℕ) → ℕ → ℕ → Type 0
 Says text due result before after f g =
     ((result ≡ due) × (after ≡ bytes_after before text)) ⊎ ((result ≡ WriteFault) × WritesPrefix text before after × Rose f g)

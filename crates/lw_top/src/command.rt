@@ -33,7 +33,7 @@ pub fn layers<R: Threads + Wait + Sync, S: Source, K: Sink, G: Gate + Sync>(
     requires few { vec_len hooks < 4294967296 }
     // The words' command has an outcome on what was taken from the source, with these hooks. For `run` of a script that is the report
     // of the machine's run in the legal order that the report prints; a malformed script is refused at its first bad line. The outcome
-    // is the answer, and its text is written whole, unless reading failed, memory ran out, or the sink failed after a front of the text.
+    // is the answer, and its text is written whole, unless reading failed, memory ran out, or the sink failed after a prefix of the text.
     ensures answered { IfSome (command_of (map string_bytes words.now)) (λ command.
         Answered (map (λ b. hook b) hooks.items) command result (S.left source.old) (S.left source.new)
         (S.faults source.old) (S.faults source.new) (K.written sink.old) (K.written sink.new)

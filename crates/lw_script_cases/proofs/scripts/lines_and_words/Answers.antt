@@ -4,7 +4,7 @@ use Rattle.lw_planes.specs.Row.{row_bit}
 use Rattle.lw_calls.specs.Limits.{axis_fits}
 use Rattle.lw_grammar.specs.Verbs.{verb_of}
 use Rattle.lw_script_cases.proofs.Decided.{decided}
-use Rattle.lw_script_cases.specs.WholeScripts.{alone, comment_in_task, word_behind_end, two_spaces, line_feed, empty, carriage_return, one_space, long_comment, line_of_512, line_of_513, second_task, second_task_apart, task_in_task, text_with_spaces, text_then_space, text_then_word, space_before_text, spaces_before_quote, quote_in_word, quote_alone, space_at_end, text_as_verb, empty_text, text_as_row}
+use Rattle.lw_script_cases.specs.WholeScripts.{alone, comment_in_task, word_after_end, two_spaces, line_feed, empty, carriage_return, one_space, long_comment, line_of_512, line_of_513, second_task, second_task_apart, task_in_task, text_with_spaces, text_then_space, text_then_word, space_before_text, spaces_before_quote, quote_in_word, quote_alone, space_at_end, text_as_verb, empty_text, text_as_row}
 use Rattle.lw_script_cases.proofs.scripts.lines_and_words.Goals as goal
 
 pub returns-clause-line_feed : goal.returns-clause-line_feed
@@ -95,9 +95,9 @@ pub returns-clause-comment_in_task : goal.returns-clause-comment_in_task
 unfolding digits within row_bit axis_fits verb_of
 returns-clause-comment_in_task c = decided (alone 0) comment_in_task
 
-pub returns-clause-word_behind_end : goal.returns-clause-word_behind_end
+pub returns-clause-word_after_end : goal.returns-clause-word_after_end
 unfolding digits within row_bit axis_fits verb_of
-returns-clause-word_behind_end c = decided (alone 0) word_behind_end
+returns-clause-word_after_end c = decided (alone 0) word_after_end
 
 pub returns-clause-two_spaces : goal.returns-clause-two_spaces
 unfolding digits within row_bit axis_fits verb_of
