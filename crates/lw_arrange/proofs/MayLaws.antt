@@ -25,7 +25,7 @@ use Rattle.lw_machine.specs.Sound.{IsDesk, IsSlot, IsPlaced}
 use Rattle.lw_machine.proofs.Settling.{told_framed}
 use Rattle.lw_machine.proofs.ArrangementSound.{frameless}
 use Rattle.lw_cliprects.specs.Parts.{LieIn}
-use Rattle.lw_layer.specs.View.{State, LiveView, CellView, hooked}
+use Rattle.lw_layer.specs.View.{State, CellView, hooked}
 use Rattle.lw_layer.specs.View as view
 use Rattle.lw_layer.specs.Pieces.{columns, lines, HasFrameRoom}
 use Rattle.lw_layer.specs.StandsFor.{IsPartOf, StandsFor, IsSound}

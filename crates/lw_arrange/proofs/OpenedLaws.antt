@@ -1,11 +1,11 @@
 -- What the machine reveals of a new layer: the layer as it was created, filled wherever it keeps a pixel.
-use Rattle.std.proofs.Common.{◌≡◌, ℕ, ◌<◌, Bool, true, false, not, ◌&&◌, nat_lt, List, Option, Some, None, refl, sym, ap, subst, ◌∙◌, ⊎_elim, ℤ, unsigned_abs}
+use Rattle.std.proofs.Common.{◌≡◌, ℕ, Bool, true, false, not, ◌&&◌, nat_lt, List, Option, Some, None, refl, sym, ap, subst, ◌∙◌, ⊎_elim, ℤ, unsigned_abs}
 use Rattle.std.specs.Prelude.{if◌then◌else◌}
 use Rattle.std.proofs.lemmas.Bool.{cases_Bool}
 use Rattle.lw_region.specs.Rectangle.{Rectangle}
 use Rattle.lw_region.specs.Bands.{covers}
 use Rattle.lw_planes.specs.Grid.{grid, at}
-use Rattle.lw_planes.specs.Bitmap.{bitmap, pen_at}
+use Rattle.lw_planes.specs.Bitmap.{bitmap}
 use Rattle.lw_planes.proofs.GridLaws.{grid_same}
 use Rattle.lw_calls.specs.declared.make.Kind.{Kind}
 use Rattle.lw_calls.specs.declared.make.Kind.TheVariants.{Simple, Smart, SuperBitmap}
@@ -15,17 +15,17 @@ use Rattle.lw_machine.specs.Hook.{Hook}
 use Rattle.lw_machine.specs.Layer.{Layer, Window}
 use Rattle.lw_machine.specs.Kept.{is_kept, kept_as, screen_place}
 use Rattle.lw_machine.specs.Arrangement.{bounds_of, blank, new_layer}
-use Rattle.lw_machine.specs.Reveal.{Across, width_in, height_in, is_inner, counts_as_kept, resized, fills, some_pixel, some_now, revealed}
+use Rattle.lw_machine.specs.Reveal.{Across, width_in, height_in, is_inner, counts_as_kept, resized, fills, some_pixel, revealed}
 use Rattle.lw_machine.specs.Reveal as reveal
 use Rattle.lw_machine.proofs.Settling.{revealed_super}
 use Rattle.lw_machine.proofs.CreatedSound.{blank_bitmap}
-use Rattle.lw_layer.specs.View.{State, LiveView, CellView, keeps}
+use Rattle.lw_layer.specs.View.{CellView, keeps}
 use Rattle.lw_layer.specs.View as view
 use Rattle.lw_layer.specs.New.{new_live}
 use Rattle.lw_layer.proofs.NewDraftLaws.{box_extent}
 use Rattle.lw_layer.proofs.PixelTests.{none_within}
 use Rattle.lw_arrange.specs.Filled.{counts_if_live, gains, gains_some, filled_layer}
-use Rattle.lw_arrange.proofs.FilledLaws.{with_hook, revealed_in, with_other_pens, AreLeft, revealed_filled, unfilled}
+use Rattle.lw_arrange.proofs.FilledLaws.{with_hook, revealed_in, with_other_pens, revealed_filled, unfilled}
 use Rattle.lw_arrange.proofs.GainsLaws.{none_gained}
 
 -- the size of a new layer that has no bitmap of its own is that of its bounds

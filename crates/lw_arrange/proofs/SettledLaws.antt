@@ -1,10 +1,10 @@
 -- What settling a desk makes of one slot.
-use Rattle.std.proofs.Common.{◌≡◌, ℕ, Bool, true, false, Option, refl, sym, ap, ◌∙◌, ◌⊎◌, inl, inr, ⊎_elim, arith, ℤ}
+use Rattle.std.proofs.Common.{◌≡◌, ℕ, Bool, true, Option, ap, ◌∙◌, ◌⊎◌, inl, inr, ⊎_elim, arith, ℤ}
 use Rattle.std.specs.Prelude.{if◌then◌else◌}
 use Rattle.std.proofs.Math.Path.{fun_ext}
 use Rattle.lw_region.specs.Rectangle.{Rectangle}
 use Rattle.lw_calls.specs.Orders.{occurrences}
-use Rattle.lw_machine.specs.Layer.{Layer, Slot, Unopened, Live, Closed, is_live, change_layer}
+use Rattle.lw_machine.specs.Layer.{Slot, Unopened, Live, Closed, is_live, change_layer}
 use Rattle.lw_machine.specs.Desk.{Desk, is_the}
 use Rattle.lw_machine.specs.Screen.{is_shown}
 use Rattle.lw_machine.specs.Reveal.{Across, across, settled_layer, settled}

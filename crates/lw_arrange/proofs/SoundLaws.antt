@@ -4,7 +4,7 @@ use Rattle.std.specs.Prelude.{if◌then◌else◌, int_le, ◌+ℤ◌}
 use Rattle.std.specs.List.{slice_index_or, slice_set}
 use Rattle.std.proofs.lemmas.Int.{ints}
 use Rattle.std.proofs.lemmas.List.{get_or-set_same, get_or-set_other, length-set}
-use Rattle.std.proofs.lemmas.Bool.{and_parts, ltb-true, false≢true, eqb-true, eq-eqb, not-false}
+use Rattle.std.proofs.lemmas.Bool.{and_parts, ltb-true, false≢true, eqb-true, eq-eqb, not-true, not-false}
 use Rattle.lw_region.specs.Rectangle.{Rectangle}
 use Rattle.lw_calls.specs.declared.sizes.Sizes.{Sizes}
 use Rattle.lw_calls.specs.declared.make.Make.{Make}
@@ -83,11 +83,7 @@ creation_free v fresh s make framed e =
     let first = unrefused (not (is_free_at v fresh s)) AlreadyOpen _ e in
     let free = and_parts fresh (not (has_bounds (bounds_at v.bounds s))) (not-false _ first.0) in
     let second = unrefused (not (may_lie v.sizes (new_needs make framed) (bounds_of make))) OutOfBounds None first.1 in
-    (not_true (has_bounds (bounds_at v.bounds s)) free.1, lying_on v.sizes (new_needs make framed) (bounds_of make) (not-false _ second.0))
-  where
-    not_true : (b : Bool) → not b ≡ true → b ≡ false
-    not_true true e = absurd (false≢true e)
-    not_true false e = refl
+    (not-true (has_bounds (bounds_at v.bounds s)) free.1, lying_on v.sizes (new_needs make framed) (bounds_of make) (not-false _ second.0))
 
 -- a change that isn't refused
 change_on : (v : Stack) (k : Option Look) (change : Change) (b : Option Rectangle) → may_change v k change b ≡ true

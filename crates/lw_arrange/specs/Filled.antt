@@ -1,6 +1,6 @@
 -- What backfill hooks make of an arrangement (the manual's Layers Library chapter: a hook fills what a layer gains; which pixels
 -- these are, and that a hook turns, are this project's own). A cell has no hook of its own: its layer's hook lies beside it.
-use Rattle.std.specs.Prelude.{◌≡◌, ℕ, Bool, false, not, ◌&&◌, ◌||◌, List, ℤ, pos, Option, Some, None}
+use Rattle.std.specs.Prelude.{◌≡◌, ℕ, Bool, false, not, ◌&&◌, ◌||◌, List, ℤ, Option, Some, None}
 use Rattle.lw_region.specs.Rectangle.{Rectangle}
 use Rattle.lw_region.specs.Bands.{covers}
 use Rattle.lw_calls.specs.Kinds.{is_super}

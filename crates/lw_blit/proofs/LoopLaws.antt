@@ -1,6 +1,7 @@
 -- Laws of a blit row by row.
 use Rattle.std.proofs.Common.{◌≡◌, ℕ, ◌+◌, ◌==◌, ◌<◌, ◌≤◌, Bool, true, false, ◌&&◌, ◌||◌, if◌then◌else◌, Some, None, ◌∙◌, sym, refl, ap, subst, arith, ℤ, pos, negsuc, ◌≤ℤ◌}
 use Rattle.std.specs.Int.{bit_at}
+use Rattle.std.proofs.lemmas.Bool.{and_left, and_right}
 use Rattle.std.proofs.lemmas.Bool.Decides.{nat_tests}
 use Rattle.std.proofs.lemmas.Int.{ints}
 use Rattle.lw_planes.specs.Bitmap.{Bitmap, IsBitmap, pen_at}
@@ -98,11 +99,6 @@ pub bitmap_gives_bits : (source : Bitmap) (a : Area) → GivesBits (from_bits so
 bitmap_gives_bits source a p x y old small = minterm_bit_lt a.minterm (bit_at (source_pen source a x y) p) old
 
 -- A row that is painted from the layer as it is by then is painted from the layer before, where its sources weren't painted so far.
-row_off : (has inside down : Bool) → down ≡ false → (has && (down && inside)) ≡ false
-row_off true inside false off = refl
-row_off false inside false off = refl
-row_off has inside true off = absurd (cc off)
-
 pub row_as_before : (v w u : CellView) (mask top bottom y from end : ℕ) (t : Transfer) → ((j : ℕ) → taken_row t y ≡ pos j → is_between top bottom j ≡ false) → w ≡ with_live (λ c. drawn (masked mask c top bottom from end) (from_layer c t) c) v → u ≡ with_live (λ c. drawn (masked mask c y (y + 1) from end) (from_layer c t) c) w → u ≡ with_live (λ c. drawn (masked mask c y (y + 1) from end) (from_layer v.live t) c) w
 row_as_before v w u mask top bottom y from end t off was is =
     let before = masked mask v.live top bottom from end in
@@ -111,7 +107,7 @@ row_as_before v w u mask top bottom y from end t off was is =
     let at = pixel_in mask from end y p i j (draws w.live i j) on in
     source_stays v w before (from_layer v.live t) t p i j old (layer_gives_bits v.live t) was
     (subst (λ n. p < n) (depth_stays v w before (from_layer v.live t) was) deep)
-    (λ x z _ row. row_off (bit_at mask p == 1) (is_between from end x && draws v.live x z) (is_between top bottom z) (off z (ap (taken_row t) (sym at.down) ∙ row))))
+    (λ x z _ row. and_right (bit_at mask p == 1) _ (and_left (is_between top bottom z) (is_between from end x && draws v.live x z) (off z (ap (taken_row t) (sym at.down) ∙ row)))))
 
 -- The sources of a row are no higher, or no lower.
 pub source_below : (t : Transfer) (top y j : ℕ) → pos 0 ≤ℤ t.dy → taken_row t y ≡ pos j → is_between top y j ≡ false

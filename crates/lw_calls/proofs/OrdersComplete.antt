@@ -10,6 +10,7 @@ use Rattle.lw_calls.specs.Orders.{occurrences, keeps_off, may_come, keeps_groups
 use Rattle.lw_calls.proofs.OrderGroups.{hold_at, meets_some, inside, any_as_hold, none_at_first, more_within, next_inside, last_inside, clash, clash_sym, meets_inside}
 use Rattle.std.proofs.lemmas.Bool.{true≢false, false≢true, ltb-true, ltb-false, eqb-true, eqb-false, eq-eqb, ne_eqb, and_parts, and_from}
 use Rattle.std.proofs.lemmas.List.{append_assoc, append-nil}
+use Rattle.std.proofs.Math.Bool.{and_assoc}
 use Rattle.std.proofs.lemmas.Option.{slice_get_within}
 
 -- one number more at a list's end
@@ -322,16 +323,17 @@ completed plan ok (suc count) past good is = step (next_or_done plan ok past goo
           whole = ap (is_complete plan) (sym (append_assoc past (next.task ∷ []) more.rest)) ∙ more.whole;
         }
 
+-- a call that may come is there
+pub call_there : (plan : Plan) (past : List ℕ) (t : ℕ) (o : Option Call) → may_come plan past t o ≡ true → (c : Call) × (o ≡ Some c)
+call_there plan past t None h = absurd (false≢true h)
+call_there plan past t (Some c) h = (c, refl)
+
 -- numbers that keep the groups after a past, and then more
 pub keeps_append : (plan : Plan) (past xs ys : List ℕ) → keeps_groups plan past (xs ++ ys) ≡ (keeps_groups plan past xs && keeps_groups plan (past ++ xs) ys)
 keeps_append plan past [] ys = ap (λ p. keeps_groups plan p ys) (sym (append-nil past))
 keeps_append plan past (t ∷ ts) ys =
     ap (λ b. may_come plan past t (slice_get (task_calls plan t) (occurrences t past)) && b) (keeps_append plan (past ++ t ∷ []) ts ys ∙ ap (λ p. keeps_groups plan (past ++ t ∷ []) ts && keeps_groups plan p ys) (append_assoc past (t ∷ []) ts)) ∙
-    grouped (may_come plan past t (slice_get (task_calls plan t) (occurrences t past))) (keeps_groups plan (past ++ t ∷ []) ts) (keeps_groups plan (past ++ t ∷ ts) ys)
-  where
-    grouped : (a b c : Bool) → (a && (b && c)) ≡ ((a && b) && c)
-    grouped true b c = refl
-    grouped false b c = refl
+    sym (and_assoc (may_come plan past t (slice_get (task_calls plan t) (occurrences t past))) (keeps_groups plan (past ++ t ∷ []) ts) (keeps_groups plan (past ++ t ∷ ts) ys))
 
 -- Numbers that keep the groups begin a legal order.
 pub begins : (plan : Plan) → IsPlan plan → (numbers : List ℕ) → keeps_groups plan [] numbers ≡ true → Begins plan numbers

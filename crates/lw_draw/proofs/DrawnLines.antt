@@ -53,10 +53,6 @@ line_painted c raster line top bottom ok same rows =
     shape_painted c raster (λ x y. is_on_line line.x0 line.y0 line.x1 line.y1 (pos x) (pos y)) (λ i j. on_line_rows c line top bottom i j) ok same
     (λ x y _ low. line_tests (draws c x y) (is_on_line line.x0 line.y0 line.x1 line.y1 (pos x) (pos y)) _ (is_between top bottom y) (rows_of_line line.x0 line.y0 line.x1 line.y1 (pos x) (pos y)) (rows y low))
 
--- a place between equal edges
-pub within_same : (a b c d z : ℤ) → a ≡ c → b ≡ d → within c z d ≡ within a z b
-within_same a b c d z first last = cc
-
 -- With its pixels drawn and the cursor at its end the line is drawn.
 pub line_done : (v w u : CellView) (raster after : Raster) (line : Line) (px py : ℤ) (top bottom : ℕ) → IsBitmap v.live.layer.bits → raster ≡ v.live.layer.raster → ((j : ℕ) → j < v.live.layer.bits.height → within (int_min line.y0 line.y1) (pos j) (int_max line.y0 line.y1) ≡ is_between top bottom j) → w ≡ with_live (λ c. painted raster (λ i j. on_line_rows c line top bottom i j) c) v → u ≡ with_live (λ c. with_layer (λ l. record l { raster = after }) c) w → line.x0 ≡ raster.cursor_x → line.y0 ≡ raster.cursor_y → line.x1 ≡ px → line.y1 ≡ py → after ≡ record raster { cursor_x = px; cursor_y = py } → u ≡ with_live (λ c. with_layer (λ l. draw_line (λ i j. shows c i j) px py l) c) v
 unfolding with_pens

@@ -1,6 +1,6 @@
 -- Laws of a line of a buffer that was lent: what a run of its bits makes of the layer.
 use Rattle.std.proofs.Common.{◌≡◌, ℕ, ◌+◌, ◌==◌, ◌<◌, ◌≤◌, Bool, true, false, ◌&&◌, if◌then◌else◌, List, length, ◌∙◌, sym, refl, ap, arith, ⊎_elim, ℤ, pos, ◌+ℤ◌, ◌-ℤ◌, ◌≤ℤ◌}
-use Rattle.std.proofs.lemmas.Bool.{true≢false, cases_Bool}
+use Rattle.std.proofs.lemmas.Bool.{and_parts, true≢false, cases_Bool}
 use Rattle.std.proofs.lemmas.Bool.Decides.{nat_tests}
 use Rattle.std.proofs.lemmas.Int.{ints}
 use Rattle.lw_region.proofs.Within.{within_low}
@@ -12,7 +12,7 @@ use Rattle.lw_layer.specs.View.{LiveView}
 use Rattle.lw_layer.specs.Pieces.{Layout, layout_of, columns, buffer_rectangle, column_in, line_in, in_line, HasLineBits, with_bytes}
 use Rattle.lw_layer.specs.Runs.{IsRun}
 use Rattle.lw_layer.specs.declared.run.Run.{Run}
-use Rattle.lw_layer.proofs.ViewLaws.{has_place, both_true}
+use Rattle.lw_layer.proofs.ViewLaws.{has_place}
 use Rattle.lw_layer.proofs.StateLaws.{pen_in_line}
 use Rattle.lw_layer.proofs.LineLaws.{bytes_in_line}
 use Rattle.lw_draw.specs.Drawn.{drawn, in_run}
@@ -32,8 +32,8 @@ pub along_line : (l : Layout) (n line x y u v : ℕ) → in_line l n line x y �
 along_line l n line x y u v first second =
     let one = pen_in_line l n line x y first in
     let other = pen_in_line l n line u v second in
-    let one_in = both_true _ _ (has_place l x y n one.1).has in
-    let other_in = both_true _ _ (has_place l u v n other.1).has in
+    let one_in = and_parts _ _ (has_place l x y n one.1).has in
+    let other_in = and_parts _ _ (has_place l u v n other.1).has in
     let r = buffer_rectangle l n in
     let rows : line_in l n v + y ≡ line_in l n y + v = same_gap r.min_y l.bounds.min_y l.scroll_y v y (within_low r.min_y _ r.max_y other_in.1) (within_low r.min_y _ r.max_y one_in.1) in
     let one_line : line_in l n y ≡ line = one.0 in

@@ -7,7 +7,6 @@ use Rattle.lw_region.specs.Banded.{IsCanonical}
 use Rattle.lw_planes.specs.Bitmap.{IsBitmap}
 use Rattle.lw_machine.specs.Hook.{Hook}
 use Rattle.lw_machine.specs.Layer.{Layer, is_framed}
-use Rattle.lw_machine.specs.Arrangement.{new_layer}
 use Rattle.lw_machine.specs.Reveal.{width_in, height_in}
 use Rattle.lw_machine.proofs.CreatedSound.{blank_bitmap}
 use Rattle.lw_layer.specs.View.{State, CellView, hooked}

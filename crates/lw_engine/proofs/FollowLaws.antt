@@ -1,12 +1,10 @@
 -- Neither frames nor messages take notice of the hook that lies beside a cell.
 use Rattle.std.proofs.Common.{◌≡◌, ℕ, ◌-◌, ◌≤◌, Bool, true, false, List, Option, Some, None, ◌∙◌, sym, refl, ap, subst}
-use Rattle.std.specs.Prelude.{if◌then◌else◌}
 use Rattle.lw_machine.specs.Hook.{Hook}
 use Rattle.lw_machine.specs.Layer.{Layer, Window, is_window, changed_window}
 use Rattle.lw_machine.specs.Kept.{is_kept}
-use Rattle.lw_machine.specs.Paint.{with_pens}
 use Rattle.lw_machine.specs.Reveal.{Across, is_damaged, window_told}
-use Rattle.lw_layer.specs.View.{State, LiveView, CellView, keeps, with_live, hooked}
+use Rattle.lw_layer.specs.View.{State, CellView, keeps, with_live, hooked}
 use Rattle.lw_layer.specs.View as view
 use Rattle.lw_layer.specs.Windows.{due_count, RoomWhere, HasRoom}
 use Rattle.lw_frames.specs.Framing.{with_own_frame}

@@ -3,7 +3,7 @@ use Rattle.std.proofs.Common.{◌≡◌, Option, refl}
 use Rattle.lw_planes.specs.Bitmap.{Bitmap}
 use Rattle.lw_machine.specs.Hook.{Hook}
 use Rattle.lw_machine.specs.Finals.{damage_set}
-use Rattle.lw_layer.specs.View.{State, LiveView, CellView, hooked}
+use Rattle.lw_layer.specs.View.{State, CellView, hooked}
 use Rattle.lw_layer.specs.View as view
 use Rattle.lw_stack.specs.Stack.{Stack}
 use Rattle.lw_region.specs.Bands.{bands}

@@ -28,7 +28,6 @@ use Rattle.lw_frames.specs.Framing.{with_own_frame}
 use Rattle.lw_frames.specs.Telling.{with_window_told}
 use Rattle.lw_arrange.specs.Arrangements.{ArrangementView}
 use Rattle.lw_arrange.specs.Prepared.{shown_at}
-use Rattle.lw_arrange.specs.Filled.{gains, gains_some, filled_layer}
 use Rattle.lw_arrange.specs.Settled.{across_arrangement, settled_across, settled_live, settled_new}
 use Rattle.lw_arrange.proofs.GainsLaws.{stayed, live_revealed}
 use Rattle.lw_arrange.proofs.OpenedLaws.{created, new_revealed}

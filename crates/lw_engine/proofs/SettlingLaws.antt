@@ -6,7 +6,6 @@ use Rattle.std.proofs.lemmas.Nat.{pow_pos}
 use Rattle.std.proofs.Math.Bool.{and-false}
 use Rattle.lw_region.specs.Rectangle.{Rectangle}
 use Rattle.lw_region.specs.Bands.{covers}
-use Rattle.lw_region.specs.Banded.{IsCanonical}
 use Rattle.lw_region.proofs.Canonical.{covers_nil}
 use Rattle.lw_planes.specs.Bitmap.{IsBitmap}
 use Rattle.lw_planes.proofs.PenLaws.{pen_same}
@@ -15,7 +14,6 @@ use Rattle.lw_machine.specs.Hook.{Hook, tile_place, hook_pen}
 use Rattle.lw_machine.specs.Paint.{with_pens, pen_within}
 use Rattle.lw_backfill.specs.Hooks.{solid}
 use Rattle.lw_machine.specs.Layer.{Layer, is_framed}
-use Rattle.lw_machine.specs.Desk.{is_the}
 use Rattle.lw_layer.specs.View.{State, CellView, keeps, with_layer, with_live, hooked}
 use Rattle.lw_layer.specs.View as view
 use Rattle.lw_layer.specs.Drafts.{no_layer}
@@ -27,11 +25,10 @@ use Rattle.lw_arrange.specs.declared.preparing.Prepared.TheVariants.{Stays, Clos
 use Rattle.lw_arrange.specs.Arrangements.{ArrangementView}
 use Rattle.lw_arrange.specs.Prepared.{Created, created_by, created_live, becomes, with_bounds, without_layer, shown_at, cell_after, MayBecome, MayBe, MayOpen}
 use Rattle.lw_arrange.specs.Made.{IsPrepared}
-use Rattle.lw_arrange.specs.Filled.{keeps_if_live, counts_if_live, is_inside, gains, gains_some, AreGained}
+use Rattle.lw_arrange.specs.Filled.{keeps_if_live, counts_if_live, is_inside, gains, gains_some}
 use Rattle.lw_arrange.specs.Settled.{new_of, settled_new, settled_with, settled_by}
 use Rattle.lw_layer.proofs.PixelTests.{none_within}
 use Rattle.lw_arrange.proofs.FilledLaws.{unfilled}
-use Rattle.lw_arrange.proofs.GainedRegions.{filled_region}
 use Rattle.lw_arrange.proofs.GainsLaws.{stayed}
 use Rattle.lw_engine.specs.declared.window_after.WindowAfter.{WindowAfter}
 use Rattle.lw_engine.specs.Slots.{hook_in, bare, asked_hook, due_hook, filled_from, slot_after, filled_as, across_live, IsWindowAfter, MayBeReady, IsStill, IsSettledBy, followed}

@@ -1,6 +1,5 @@
 -- What is known beforehand of the window of a layer that stays live is what the machine asks.
-use Rattle.std.proofs.Common.{◌≡◌, ℕ, ◌==◌, Bool, true, false, not, ◌&&◌, ◌||◌, List, Option, Some, None, ◌∙◌, sym, refl, ap, subst}
-use Rattle.std.specs.Prelude.{if◌then◌else◌}
+use Rattle.std.proofs.Common.{◌≡◌, Bool, true, false, not, ◌&&◌, ◌||◌, List, Option, Some, ◌∙◌, sym, refl, ap, subst}
 use Rattle.lw_region.specs.Rectangle.{Rectangle}
 use Rattle.lw_machine.specs.Hook.{Hook}
 use Rattle.lw_machine.specs.Layer.{Layer, is_framed}

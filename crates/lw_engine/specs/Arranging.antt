@@ -10,7 +10,7 @@ use Rattle.lw_machine.specs.Hook.{Hook}
 use Rattle.lw_machine.specs.Desk.{Desk}
 use Rattle.lw_machine.specs.Arrangement.{hook_from}
 use Rattle.lw_machine.specs.Step.{after, reply}
-use Rattle.lw_layer.specs.View.{State, CellView}
+use Rattle.lw_layer.specs.View.{CellView}
 use Rattle.lw_layer.specs.View as view
 use Rattle.lw_layer.specs.Looks.{IsLookAt}
 use Rattle.lw_layer.specs.StandsFor.{IsSound}

@@ -13,10 +13,8 @@ use Rattle.lw_layer.specs.View.{State, CellView, keeps, with_live, hooked}
 use Rattle.lw_layer.specs.View as view
 use Rattle.lw_layer.specs.Drafts.{IsLiveDraft, live_view, no_layer}
 use Rattle.lw_layer.specs.Windows.{HasRoom}
-use Rattle.lw_windows.specs.declared.messages.Change.{Change as Told}
 use Rattle.lw_frames.specs.Framing.{with_own_frame}
 use Rattle.lw_frames.specs.Telling.{IsDone, with_window_told}
-use Rattle.lw_stack.specs.Stack.{bounds_at}
 use Rattle.lw_reveal.specs.Changed.{carried_to}
 use Rattle.lw_reveal.specs.Changes.{IsChange}
 use Rattle.lw_arrange.specs.declared.preparing.Prepared.{Prepared}

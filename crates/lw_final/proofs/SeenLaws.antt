@@ -20,8 +20,9 @@ use Rattle.lw_machine.specs.Finals.{damage_set}
 use Rattle.lw_layer.specs.View.{LiveView, keeps}
 use Rattle.lw_layer.specs.Pieces.{IsDamageOf}
 use Rattle.lw_stack.specs.Stack.{Stack, bounds_at, first_at, is_first_at, IsPlacedOn, IsStack}
+use Rattle.lw_layer.proofs.KeepingLaws.{part_is}
 use Rattle.lw_final.specs.Shown.{first_set}
-use Rattle.lw_final.proofs.SeenTables.{among, in_table, table_bands, and_implied}
+use Rattle.lw_final.proofs.SeenTables.{among, in_table, table_bands}
 
 -- what is found in a list passes the test, where the first element does or doesn't
 find_holds_step : (f : ℕ → Bool) (t : ℕ) (ts : List ℕ) (s : ℕ) → (is_the (find f ts) s ≡ true → f s ≡ true) → (b : Bool) → f t ≡ b → is_the (cond b (Some t) (find f ts)) s ≡ true → f s ≡ true
@@ -83,7 +84,7 @@ first_on v slot x y ok first =
 
 -- a test that holds on places of a table alone
 only_in_table : (w h : ℕ) (test : ℤ → ℤ → Bool) → ((x y : ℤ) → test x y ≡ true → holds_at (λ i j. in_table w h i j) x y ≡ true) → (x y : ℤ) → test x y ≡ holds_at (λ i j. in_table w h i j && test (pos i) (pos j)) x y
-only_in_table w h test lies (pos i) (pos j) = and_implied (test (pos i) (pos j)) (in_table w h i j) (lies (pos i) (pos j))
+only_in_table w h test lies (pos i) (pos j) = part_is (in_table w h i j) (test (pos i) (pos j)) (lies (pos i) (pos j))
 only_in_table w h test lies (pos i) (negsuc j) = false_from_ne_true _ (λ t. false≢true (lies (pos i) (negsuc j) t))
 only_in_table w h test lies (negsuc i) y = false_from_ne_true _ (λ t. false≢true (lies (negsuc i) y t))
 

@@ -2,9 +2,9 @@
 use Rattle.std.proofs.Common.{◌≡◌, ◌≢◌, ℕ, zero, suc, ◌+◌, ◌&&◌, ◌||◌, Bool, true, false, if◌then◌else◌, nat_le, nat_lt, ℤ, pos, negsuc, List, [], ◌∷◌, ◌∙◌, sym, refl, ap, ⊎_elim, arith}
 use Rattle.std.specs.List.{list_any, flat_map, range_with_len}
 use Rattle.std.specs.Ordering.{int_eq}
-use Rattle.std.proofs.lemmas.Bool.{cases_eq, false_from_ne_true}
+use Rattle.std.proofs.lemmas.Bool.{cases_eq, false_from_ne_true, and_left, and_right}
 use Rattle.std.proofs.lemmas.Bool.Decides.{nat_tests}
-use Rattle.std.proofs.Math.Bool.{and-true, or-false, and-false}
+use Rattle.std.proofs.Math.Bool.{and-true, or-false, and-false, and_assoc}
 use Rattle.lw_region.specs.Rectangle.{Rectangle}
 use Rattle.lw_region.specs.Pixels.{Pixel, is_at, contains_pixel}
 use Rattle.lw_region.specs.Bands.{bands, covers}
@@ -53,24 +53,11 @@ any_one i q a (suc n) =
 and_none : (p q : Bool) → (p && (q && false)) ≡ false
 and_none p q = ap (λ t. p && t) (and-false q) ∙ and-false p
 
--- three tests of which the second fails
-and_fails : (p q t : Bool) → q ≡ false → (p && (q && t)) ≡ false
-and_fails p q t e = ap (λ u. p && (u && t)) e ∙ and-false p
-
 -- three tests in another order
 and_swap : (a b c : Bool) → (a && (b && c)) ≡ (b && (a && c))
 and_swap true b c = refl
 and_swap false true c = refl
 and_swap false false c = refl
-
-and_assoc : (a b c : Bool) → ((a && b) && c) ≡ (a && (b && c))
-and_assoc true b c = refl
-and_assoc false b c = refl
-
--- a test and what follows from it
-pub and_implied : (t q : Bool) → (t ≡ true → q ≡ true) → t ≡ (q && t)
-and_implied true q follows = sym (ap (λ u. u && true) (follows refl))
-and_implied false q follows = sym (and-false q)
 
 -- no number is negative
 never_negative : (k j : ℕ) → int_eq (pos k) (negsuc j) ≡ false
@@ -116,7 +103,7 @@ pixels_where_has w h test (pos i) (pos j) =
     (any_one j (λ k. among i 0 w && test i k) 0 h ∙ sym (and_assoc (among j 0 h) (among i 0 w) (test i j))))
 pixels_where_has w h test (pos i) (negsuc j) =
     table_has w h test (pos i) (negsuc j) ∙
-    any_none _ 0 h (λ k. any_none _ 0 w (λ l. and_fails (int_eq (pos l) (pos i)) (int_eq (pos k) (negsuc j)) (test l k) (never_negative k j)))
+    any_none _ 0 h (λ k. any_none _ 0 w (λ l. and_right (int_eq (pos l) (pos i)) _ (and_left (int_eq (pos k) (negsuc j)) (test l k) (never_negative k j))))
 pixels_where_has w h test (negsuc i) y =
     table_has w h test (negsuc i) y ∙
     any_none _ 0 h (λ k. any_none _ 0 w (λ l. ap (λ t. t && (int_eq (pos k) y && test l k)) (never_negative l i)))

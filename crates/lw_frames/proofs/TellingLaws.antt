@@ -1,5 +1,5 @@
 -- Laws of telling a window what it is due: its messages one after another, and whether it was asked to refresh.
-use Rattle.std.proofs.Common.{◌≡◌, ℕ, ◌+◌, ◌-◌, ◌≤◌, ◌==◌, Bool, true, false, not, ◌&&◌, ◌||◌, nat_lt, List, ◌++◌, length, length-append, append_assoc, Option, Some, None, ◌∙◌, sym, refl, ap, subst, arith, ℤ, pos, negsuc}
+use Rattle.std.proofs.Common.{◌≡◌, ℕ, ◌+◌, ◌-◌, ◌==◌, Bool, true, false, not, ◌&&◌, ◌||◌, nat_lt, List, ◌++◌, length, length-append, append_assoc, Option, Some, None, ◌∙◌, sym, refl, ap, subst, arith, ℤ, pos, negsuc}
 use Rattle.std.proofs.lemmas.Bool.{and_parts, ltb-true, both_ways, false_from_ne_true}
 use Rattle.std.proofs.Math.Bool.{or-false}
 use Rattle.lw_region.specs.Rectangle.{Rectangle}
@@ -13,9 +13,9 @@ use Rattle.lw_machine.specs.Layer.{Layer, Window, changed_window}
 use Rattle.lw_machine.specs.Kept.{holds_at, is_kept}
 use Rattle.lw_machine.specs.Reveal.{Across, is_damaged, messages_due, refresh_is_put}
 use Rattle.lw_layer.specs.View.{LiveView, CellView, keeps, with_live}
-use Rattle.lw_layer.specs.Pieces.{IsDamageOf, damage_table}
+use Rattle.lw_layer.specs.Pieces.{IsDamageOf}
 use Rattle.lw_layer.proofs.PixelTests.{some_covered}
-use Rattle.lw_windows.specs.Messages.{one_if, listed}
+use Rattle.lw_windows.specs.Messages.{listed}
 use Rattle.lw_windows.specs.declared.messages.Classes.{Classes}
 use Rattle.lw_frames.specs.Telling.{IsDueOf, with_put, as_asked}
 

@@ -1,9 +1,8 @@
 -- What a window is told after an arrangement, put into its port (the manual's Intuition Windows chapter: IDCMP ports).
-use Rattle.std.specs.Prelude.{◌≡◌, ℕ, ◌-◌, Bool, not, ◌&&◌, ◌||◌, List, ◌++◌, length, Option, Some, None}
+use Rattle.std.specs.Prelude.{◌≡◌, ◌-◌, Bool, not, ◌&&◌, ◌||◌, List, ◌++◌, length, Option, Some, None}
 use Rattle.lw_calls.specs.declared.message.Message.{Message}
 use Rattle.lw_machine.specs.Layer.{Layer, Window, change_window}
 use Rattle.lw_machine.specs.Reveal.{Across, was_live, is_resized, same_bounds, messages_due, refresh_is_put, with_messages}
-use Rattle.lw_ports.specs.Sets.{classes_of, has_class}
 use Rattle.lw_layer.specs.View.{LiveView}
 use Rattle.lw_layer.specs.Windows.{due_count}
 use Rattle.lw_windows.specs.Messages.{listed}

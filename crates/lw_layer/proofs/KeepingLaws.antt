@@ -97,7 +97,7 @@ keeps_plain c x y plain =
     rw (column, row, unscrolled b.min_x c.layer.scroll_x x plain.left, unscrolled b.min_y c.layer.scroll_y y plain.upper) refl
 
 -- a part of what is there is there
-part_is : (whole part : Bool) → (part ≡ true → whole ≡ true) → part ≡ (whole && part)
+pub part_is : (whole part : Bool) → (part ≡ true → whole ≡ true) → part ≡ (whole && part)
 part_is true part h = refl
 part_is false true h = sym (h refl)
 part_is false false h = refl

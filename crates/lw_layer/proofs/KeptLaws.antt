@@ -4,7 +4,7 @@ use Rattle.std.proofs.lemmas.Bool.Decides.{nat_tests}
 use Rattle.std.proofs.lemmas.Int.{ints}
 use Rattle.std.proofs.lemmas.List.{get_or_append_left, get_or_at, get_or-append-add}
 use Rattle.std.proofs.Math.Bool.{and-false}
-use Rattle.std.proofs.lemmas.Bool.{and_from}
+use Rattle.std.proofs.lemmas.Bool.{and_parts, and_from}
 use Rattle.lw_region.specs.Rectangle.{Rectangle, within, has_pixel, IsOrdered}
 use Rattle.lw_region.specs.Bands.{covers}
 use Rattle.lw_region.proofs.Disjoint.{has_at}
@@ -25,7 +25,7 @@ use Rattle.lw_layer.specs.Code.{HasPlace, IsReach, IsKeptReach, lets_draw}
 use Rattle.lw_layer.specs.declared.draft.LiveDraft.{LiveDraft}
 use Rattle.lw_layer.proofs.FoundLaws.{in_bits_found, whole_has}
 use Rattle.lw_layer.proofs.Positions.{none_passes}
-use Rattle.lw_layer.proofs.ViewLaws.{has_place, both_true}
+use Rattle.lw_layer.proofs.ViewLaws.{has_place}
 use Rattle.lw_layer.proofs.ReachLaws.{simple_number}
 
 -- a pixel of the bits is kept as its kind says
@@ -85,7 +85,7 @@ unfolding in_line
 run_some d x y n kept len bit line found reach drawn some is_bit is_line =
     let l = layout d in
     let place = has_place l x y n found in
-    let halves = both_true _ _ place.has in
+    let halves = and_parts _ _ place.has in
     let left = within_low _ _ _ halves.0 in
     let at_line : line_in l n y ≡ line = distance_is (buffer_rectangle l n).min_y (down l y) line is_line in
     let end : ℕ = x + (len - 1) in
@@ -211,7 +211,7 @@ rows_undrawn d (negsuc x) y off = refl
 
 -- a pixel isn't left of its rectangle, nor above it
 pub left_of_pixel : (l : Layout) (x y n : ℕ) → HasPlace l x y n → (buffer_rectangle l n).min_x ≤ℤ across l x
-left_of_pixel l x y n place = within_low (buffer_rectangle l n).min_x (across l x) (buffer_rectangle l n).max_x ((both_true _ _ place.has).0)
+left_of_pixel l x y n place = within_low (buffer_rectangle l n).min_x (across l x) (buffer_rectangle l n).max_x ((and_parts _ _ place.has).0)
 
 pub above_pixel : (l : Layout) (x y n : ℕ) → HasPlace l x y n → (buffer_rectangle l n).min_y ≤ℤ down l y
-above_pixel l x y n place = within_low (buffer_rectangle l n).min_y (down l y) (buffer_rectangle l n).max_y ((both_true _ _ place.has).1)
+above_pixel l x y n place = within_low (buffer_rectangle l n).min_y (down l y) (buffer_rectangle l n).max_y ((and_parts _ _ place.has).1)

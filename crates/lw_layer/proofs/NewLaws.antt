@@ -1,13 +1,12 @@
 -- New layers.
 use Rattle.std.proofs.Common.{◌≡◌, ℕ, ◌<◌, ◌≤◌, true, List, length, get_or, arith, ℤ, pos, ◌+ℤ◌, ◌-ℤ◌, ◌≤ℤ◌, unsigned_abs}
 use Rattle.std.proofs.lemmas.Int.{ints}
-use Rattle.std.proofs.lemmas.Bool.{and_from}
+use Rattle.std.proofs.lemmas.Bool.{and_parts, and_from}
 use Rattle.lw_region.specs.Rectangle.{Rectangle, within, has_pixel, IsOrdered}
 use Rattle.lw_region.proofs.Disjoint.{has_at}
 use Rattle.lw_planes.specs.Sizes.{AreSizes}
 use Rattle.lw_cliprects.specs.Parts.{LieIn}
 use Rattle.lw_layer.specs.Pieces.{columns, lines}
-use Rattle.lw_layer.proofs.ViewLaws.{both_true}
 
 -- the edges of a part of an extent
 edges_within : (least greatest : ℤ) → least ≤ℤ greatest → (within least least greatest ≡ true) × (within least greatest greatest ≡ true)
@@ -23,8 +22,8 @@ pub part_size : (r bounds : Rectangle) (depth : ℕ) → IsOrdered r → ((x y :
 part_size r bounds depth ordered inside sizes =
     let across = edges_within r.min_x r.max_x ordered.columns in
     let down = edges_within r.min_y r.max_y ordered.rows in
-    let first = both_true _ _ (inside r.min_x r.min_y (and_from _ _ across.0 down.0)) in
-    let last = both_true _ _ (inside r.max_x r.max_y (and_from _ _ across.1 down.1)) in
+    let first = and_parts _ _ (inside r.min_x r.min_y (and_from _ _ across.0 down.0)) in
+    let last = and_parts _ _ (inside r.max_x r.max_y (and_from _ _ across.1 down.1)) in
     let wide = part_extent r.min_x r.max_x bounds.min_x bounds.max_x ordered.columns first.0 last.0 in
     let high = part_extent r.min_y r.max_y bounds.min_y bounds.max_y ordered.rows first.1 last.1 in
     record {

@@ -2,7 +2,7 @@
 use Rattle.std.proofs.Common.{◌≡◌, ℕ, zero, suc, ◌+◌, ◌-◌, ◌<◌, ◌≤◌, min, Bool, true, false, not, ◌&&◌, ◌||◌, List, [], ◌∷◌, ◌++◌, length, get_or, Some, None, ◌∙◌, sym, refl, ap, subst, arith, ℤ, pos, ◌+ℤ◌, ◌-ℤ◌, ◌≤ℤ◌, ◌<ℤ◌, ◌⊎◌, inl, inr, ⊎_elim, length-append}
 use Rattle.std.proofs.lemmas.Int.{ints}
 use Rattle.std.proofs.lemmas.List.{get_or_append_left, get_or_at}
-use Rattle.std.proofs.lemmas.Bool.{and_from, and_right, and_left}
+use Rattle.std.proofs.lemmas.Bool.{and_parts, and_from, and_right, and_left, or_parts}
 use Rattle.lw_region.specs.Rectangle.{Rectangle, within, has_pixel}
 use Rattle.lw_region.specs.Bands.{covers}
 use Rattle.lw_region.specs.Finding.{BeginsAt}
@@ -20,7 +20,7 @@ use Rattle.lw_layer.specs.Drafts.{clip_set}
 use Rattle.lw_layer.specs.declared.draft.LiveDraft.{LiveDraft}
 use Rattle.lw_layer.proofs.Positions.{position_is}
 use Rattle.lw_layer.proofs.FoundLaws.{in_bits_found, whole_has}
-use Rattle.lw_layer.proofs.ViewLaws.{has_place, both_true}
+use Rattle.lw_layer.proofs.ViewLaws.{has_place}
 
 -- a pixel that a rectangle has and none before it has its pen there
 pub found_at : (l : Layout) (x y n : ℕ) → x < l.width → y < l.height → n < length (buffered l) → has_pixel (buffer_rectangle l n) (across l x) (down l y) ≡ true → ((k : ℕ) → k < n → has_pixel (buffer_rectangle l k) (across l x) (down l y) ≡ false) → buffer_at l x y ≡ Some n
@@ -52,7 +52,7 @@ past_free a b upto other = ⊎_elim (λ (less : a <ℤ b). less) (λ (same : a �
 
 pub still_in_rectangle : (l : Layout) (x y n u : ℕ) → HasPlace l x y n → x ≤ u → across l u ≤ℤ (buffer_rectangle l n).max_x → has_pixel (buffer_rectangle l n) (across l u) (down l y) ≡ true
 still_in_rectangle l x y n u place later inside =
-    let halves = both_true _ _ place.has in
+    let halves = and_parts _ _ place.has in
     and_from _ _ (more_within (buffer_rectangle l n).min_x (buffer_rectangle l n).max_x (across l x) (across l u) halves.0 (later_place l.bounds.min_x l.scroll_x x u later) inside) halves.1
 
 -- of two rectangles that are apart the first hasn't what the second has
@@ -103,16 +103,11 @@ rectangle_reach_is l x y n count found shown divided some wide edge =
           found_at l u y n (omega arith) place.low place.there has (λ k earlier. none_before l n k (across l u) (down l y) l.kind refl shown divided place.there earlier has);
     }
 
--- neither of two tests holds where one of both doesn't
-either_false : (a b : Bool) → (a || b) ≡ false → (a ≡ false) × (b ≡ false)
-either_false true b h = absurd (cc h)
-either_false false b h = (refl, h)
-
 -- no rectangle of a list has a place that the list doesn't cover
 none_has : (rects : List Rectangle) (k : ℕ) (d : Rectangle) (X Y : ℤ) → covers rects X Y ≡ false → k < length rects → has_pixel (get_or rects k d) X Y ≡ false
 none_has [] k d X Y free inside = absurd (omega arith)
-none_has (r ∷ rs) zero d X Y free inside = (either_false _ _ (sym (covers_cons r rs X Y) ∙ free)).0
-none_has (r ∷ rs) (suc k) d X Y free inside = none_has rs k d X Y (either_false _ _ (sym (covers_cons r rs X Y) ∙ free)).1 (omega arith)
+none_has (r ∷ rs) zero d X Y free inside = (or_parts _ _ (sym (covers_cons r rs X Y) ∙ free)).0
+none_has (r ∷ rs) (suc k) d X Y free inside = none_has rs k d X Y (or_parts _ _ (sym (covers_cons r rs X Y) ∙ free)).1 (omega arith)
 
 -- a pixel of an own bitmap that no visible rectangle has
 pub own_found : (l : Layout) (x y : ℕ) → l.kind ≡ SuperBitmap → x < l.width → y < l.height → covers l.visible (across l x) (down l y) ≡ false → buffer_at l x y ≡ Some (length l.visible)
@@ -144,7 +139,7 @@ free_in_own l x y found =
 
 -- the pixel is not past the right edge of its rectangle
 pub up_to_edge : (l : Layout) (x y n : ℕ) → buffer_at l x y ≡ Some n → across l x ≤ℤ (buffer_rectangle l n).max_x
-up_to_edge l x y n found = within_high _ _ _ ((both_true _ _ (has_place l x y n found).has).0)
+up_to_edge l x y n found = within_high _ _ _ ((and_parts _ _ (has_place l x y n found).has).0)
 
 -- an own bitmap's pixel in a row with the next visible pixel, or with none
 pub own_reach_next : (l : Layout) (x y count : ℕ) (next : ℤ) → l.kind ≡ SuperBitmap → y < l.height → BeginsAt l.visible (across l x) (down l y) next → 0 < count → x + count ≤ l.width → (across l x +ℤ pos count) ≤ℤ next → IsKeptReach l (length l.visible) x y count

@@ -2,12 +2,13 @@
 use Rattle.std.proofs.Common.{◌≡◌, ℕ, ◌==◌, ◌<◌, true, List, length, Some, ◌∙◌, sym, refl, ap, arith}
 use Rattle.std.specs.Int.{bit_at}
 use Rattle.std.specs.List.{slice_index_or}
+use Rattle.std.proofs.lemmas.Bool.{and_parts}
 use Rattle.std.proofs.lemmas.Bool.Decides.{nat_tests}
 use Rattle.lw_planes.specs.Bitmap.{row_bytes, pen_at}
 use Rattle.lw_planes.proofs.BitmapLaws.{pen_at_bitmap}
 use Rattle.lw_machine.specs.Desk.{is_the}
 use Rattle.lw_machine.proofs.Seen.{the_one}
-use Rattle.lw_layer.specs.View.{CellView, with_live}
+use Rattle.lw_layer.specs.View.{with_live}
 use Rattle.lw_layer.specs.View as view
 use Rattle.lw_layer.specs.Pieces.{Layout, layout_of, columns, buffer_rectangle, buffer_at, column_in, line_in, in_line, HasLine, HasLineBits, with_bytes}
 use Rattle.lw_layer.specs.Drafts.{IsLiveDraft, IsState, layout, buffers_of, no_bitmap, pen_from, live_view, cell_view}
@@ -16,7 +17,7 @@ use Rattle.lw_layer.specs.declared.draft.DraftState.{DraftState}
 use Rattle.lw_layer.specs.declared.draft.DraftState.TheVariants.{Unopened, Closed, Live}
 use Rattle.lw_layer.specs.declared.draft.LiveDraft.{LiveDraft}
 use Rattle.lw_layer.proofs.BufferLaws.{buffer_is}
-use Rattle.lw_layer.proofs.ViewLaws.{has_place, both_true}
+use Rattle.lw_layer.proofs.ViewLaws.{has_place}
 use Rattle.lw_layer.proofs.WrittenLaws.{written_line}
 
 -- what a draft says of its slot stays sound
@@ -42,7 +43,7 @@ place_line (Live d) slot plane n line ok live deep there = record { sound = ok; 
 pub pen_in_line : (l : Layout) (n line x y : ℕ) → in_line l n line x y ≡ true → (line_in l n y ≡ line) × (buffer_at l x y ≡ Some n)
 unfolding in_line
 pen_in_line l n line x y is =
-    let halves : (is_the (buffer_at l x y) n ≡ true) × ((line_in l n y == line) ≡ true) = both_true _ _ is in
+    let halves : (is_the (buffer_at l x y) n ≡ true) × ((line_in l n y == line) ≡ true) = and_parts _ _ is in
     (grind (arith, nat_tests), the_one _ n halves.0)
 
 -- the bytes have the bits of the pixels whose pens are in their line

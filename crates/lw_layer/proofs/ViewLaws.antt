@@ -2,7 +2,7 @@
 use Rattle.std.proofs.Common.{◌≡◌, ◌≢◌, ℕ, ◌==◌, ◌<◌, Bool, true, false, ◌&&◌, nat_lt, if◌then◌else◌, List, length, get_or, set, Option, Some, None, ◌∙◌, sym, refl, ap, arith, ⊎_elim, ℤ, pos, ◌+ℤ◌, ◌-ℤ◌, unsigned_abs}
 use Rattle.std.specs.Int.{bit_at}
 use Rattle.std.specs.List.{slice_index_or}
-use Rattle.std.proofs.lemmas.Bool.{cases_eq}
+use Rattle.std.proofs.lemmas.Bool.{cases_eq, and_parts}
 use Rattle.std.proofs.lemmas.Bool.Decides.{nat_tests}
 use Rattle.std.proofs.lemmas.Int.{ints}
 use Rattle.std.proofs.lemmas.List.{get_or-set_same, get_or-set_other}
@@ -26,12 +26,6 @@ inside_extent : (least greatest z : ℤ) → within least z greatest ≡ true �
 unfolding within
 inside_extent least greatest z has = grind (arith, ints)
 
--- the two halves of a test
-pub both_true : (a b : Bool) → (a && b) ≡ true → (a ≡ true) × (b ≡ true)
-both_true true true h = (refl, refl)
-both_true true false h = (refl, h)
-both_true false b h = (h, absurd (cc h))
-
 -- a choice that is there was made by its test
 chosen : (t : Bool) (o : Option ℕ) (n : ℕ) → (if t then o else None) ≡ Some n → (t ≡ true) × (o ≡ Some n)
 chosen true o n is = (refl, is)
@@ -41,9 +35,9 @@ pub has_place : (l : Layout) (x y n : ℕ) → buffer_at l x y ≡ Some n → Ha
 unfolding buffer_at
 has_place l x y n is =
     let in_bits = chosen (nat_lt x l.width && nat_lt y l.height) (found_in l (buffered l) x y) n is in
-    let sides : (nat_lt x l.width ≡ true) × (nat_lt y l.height ≡ true) = both_true _ _ in_bits.0 in
+    let sides : (nat_lt x l.width ≡ true) × (nat_lt y l.height ≡ true) = and_parts _ _ in_bits.0 in
     let found = position-Some (λ r. has_pixel r (across l x) (down l y)) (buffered l) n l.bounds in_bits.1 in
-    let halves = both_true _ _ found.1 in
+    let halves = and_parts _ _ found.1 in
     record {
       left = grind (arith, nat_tests);
       low = grind (arith, nat_tests);

@@ -10,11 +10,6 @@ abbrev pub machine : Desk → List Entry → Desk
 machine d [] = d
 machine d (e ∷ es) = machine (after d e.task e.call) es
 
--- the replies in the steps of a history, from the desk d on: the k-th is that of its k-th step
-abbrev pub replies : Desk → List Entry → List Reply
-replies d [] = []
-replies d (e ∷ es) = reply d e.task e.call ∷ replies (after d e.task e.call) es
-
 -- the task's replies in the steps of a history, from the desk d on
 abbrev pub replies_of : Desk → ℕ → List Entry → List Reply
 replies_of d task [] = []

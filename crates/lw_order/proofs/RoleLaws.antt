@@ -1,8 +1,8 @@
 -- Roles of lists, and steps that leave them alone.
-use Rattle.std.proofs.Common.{◌≡◌, ◌⊎◌, ℕ, zero, suc, ◌+◌, ◌<◌, ◌==◌, Bool, true, false, not, ◌||◌, List, [], ◌∷◌, ◌++◌, map, cond, refl, sym, ap, ◌∙◌, subst, ⊎_elim, inl, inr, arith, eq-eqb}
+use Rattle.std.proofs.Common.{◌≡◌, ◌⊎◌, ℕ, zero, suc, ◌+◌, ◌<◌, ◌==◌, Bool, true, false, not, List, [], ◌∷◌, ◌++◌, map, cond, refl, sym, ap, ◌∙◌, subst, ⊎_elim, arith, eq-eqb}
 use Rattle.std.specs.Prelude.{All, Contains, slice_index_or}
 use Rattle.std.specs.List.{range_with_len}
-use Rattle.std.proofs.lemmas.Bool.{eqb-true, false≢true}
+use Rattle.std.proofs.lemmas.Bool.{eqb-true, false≢true, cases_Bool, or_cases}
 use Rattle.std.proofs.lemmas.List.Elements.{All-nil, All-cons, All-head, All-tail, All-append, All-weaker, All-contains, All-contains_itself, All-filter, filter_passes, Contains-append_left, Contains-append_right}
 use Rattle.lw_calls.specs.declared.sizes.Sizes.{Sizes}
 use Rattle.lw_calls.specs.declared.entry.Entry.{Entry}
@@ -88,21 +88,12 @@ all_roles_has_slot slots tasks s below =
     Contains-append_right (Info ∷ map (λ k. Task k) (range_with_len 0 tasks)) (map (λ k. Slot k) (range_with_len 0 slots)) (Slot s)
     (contains_map (λ k. Slot k) (range_with_len 0 slots) s (contains_below slots s below))
 
--- all roles have LayerInfo's
-pub all_roles_has_info : (slots tasks : ℕ) → Contains (all_roles slots tasks) Info
-all_roles_has_info slots tasks = (0, omega arith, refl)
-
--- the other half of an `||` whose one half fails
-either_test : (a b : Bool) → (a || b) ≡ true → (a ≡ true) ⊎ (b ≡ true)
-either_test true b h = inl refl
-either_test false b h = inr h
-
 -- whoever owns what is touched has each slot of it that there is
 owned_slot : (count : ℕ) (roles : List Role) (slots : Slots) (s : ℕ) → s < count → HasSlots count roles slots → has_slot slots s ≡ true → Contains roles (Slot s)
 owned_slot count roles Nothing s below has h = absurd (false≢true h)
 owned_slot count roles (One a) s below has h = subst (λ k. Contains roles (Slot k)) (eqb-true a s h) has
 owned_slot count roles (Two a b) s below has h =
-    ⊎_elim (λ e. subst (λ k. Contains roles (Slot k)) (eqb-true a s e) has.0) (λ e. subst (λ k. Contains roles (Slot k)) (eqb-true b s e) has.1) (either_test (a == s) (b == s) h)
+    ⊎_elim (λ e. subst (λ k. Contains roles (Slot k)) (eqb-true a s e) has.0) (λ e. subst (λ k. Contains roles (Slot k)) (eqb-true b s e) has.1) (or_cases (a == s) (b == s) h)
 owned_slot count roles Every s below has h = has s below
 
 -- whoever owns what is touched has each role that is touched and that there is
@@ -111,11 +102,6 @@ owned_role sizes roles touch (Task t) fits owns h = subst (λ k. Contains roles 
 owned_role sizes roles touch (Slot s) fits owns h = owned_slot sizes.slots roles touch.slots s fits owns.has_slots h
 owned_role sizes roles touch Info fits owns h = owns.has_info h
 
--- a test either gives true or false
-told : (t : Bool) → (t ≡ true) ⊎ (t ≡ false)
-told true = inl refl
-told false = inr refl
-
 -- a call leaves roles alone that its caller doesn't have, if they fit the sizes
 pub leaves_others : (sizes : Sizes) (mine theirs : List Role) (e : Entry) → Owns sizes.slots mine (touch_of e.task e.call) → All (IsRoleWithin sizes) theirs → ((role : Role) → Contains mine role → Contains theirs role → ⊥) → LeavesAlone theirs e
 leaves_others sizes mine theirs e owns fits apart =
@@ -123,7 +109,7 @@ leaves_others sizes mine theirs e owns fits apart =
     (λ role there. ⊎_elim
     (λ touched. absurd (apart role (owned_role sizes mine (touch_of e.task e.call) role (All-contains (IsRoleWithin sizes) theirs role fits there) owns touched) there))
     (λ untouched. untouched)
-    (told (touches_role (touch_of e.task e.call) role)))
+    (cases_Bool (touches_role (touch_of e.task e.call) role)))
 
 -- fewer roles are left alone too
 pub quiet_fewer : (few many : List Role) (es : List Entry) → ((role : Role) → Contains few role → Contains many role) → Quiet many es → Quiet few es

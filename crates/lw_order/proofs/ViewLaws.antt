@@ -1,5 +1,5 @@
 -- Views that change: who has a role afterwards had it before, or was given it.
-use Rattle.std.proofs.Common.{◌≡◌, ◌≢◌, ◌⊎◌, ℕ, zero, suc, List, [], ◌∷◌, ◌++◌, length, set, refl, sym, ap, ◌∙◌, subst, ⊎_elim, inl, inr}
+use Rattle.std.proofs.Common.{◌≡◌, ◌≢◌, ◌⊎◌, ℕ, zero, suc, List, [], ◌∷◌, ◌++◌, length, length-set, set, refl, sym, ap, ◌∙◌, subst, ⊎_elim, inl, inr}
 use Rattle.std.specs.Prelude.{Contains}
 use Rattle.std.proofs.lemmas.List.Elements.{Contains-append_cases}
 use mathlib.Core.Option.{some, some-injective, some-ne-none}
@@ -64,11 +64,6 @@ held_once_set views seat v w once at fewer i j a b role ea eb ha hb =
 abbrev Parted : List View → ℕ → Role → ℕ → Role → Type 0
 Parted views seat off i role = (Holds views i role × (i ≡ seat → off ≡ role → ⊥)) ⊎ ((i ≡ length views) × (off ≡ role))
 
-length_set : {A : Type 0} (l : List A) (i : ℕ) (a : A) → length (set l i a) ≡ length l
-length_set [] i a = refl
-length_set (x ∷ xs) zero a = refl
-length_set (x ∷ xs) (suc i) a = ap suc (length_set xs i a)
-
 parted : (views : List View) (seat : ℕ) (v : View) (off : Role) (i : ℕ) (u : View) (role : Role) → get_elem? views seat ≡ some v → get_elem? (set views seat (view_of v.history (without off v.roles)) ++ view_of v.history (off ∷ []) ∷ []) i ≡ some u → Contains u.roles role → Parted views seat off i role
 parted views seat v off i u role at e has =
     let left = view_of v.history (without off v.roles) in
@@ -78,7 +73,7 @@ parted views seat v off i u role at e has =
       set_holder views seat v left i u role at (was_there off role v.roles) was has,
       λ mine same. taken i u role was has mine same,
     ))
-    (λ (new : (i ≡ length (set views seat left)) × (right ≡ u)). inr (new.0 ∙ length_set views seat left, only_role off role (subst (λ (x : View). Contains x.roles role) (sym new.1) has)))
+    (λ (new : (i ≡ length (set views seat left)) × (right ≡ u)). inr (new.0 ∙ length-set views seat left, only_role off role (subst (λ (x : View). Contains x.roles role) (sym new.1) has)))
     (at_snoc_place (set views seat left) right u i e)
   where
     taken : (i : ℕ) (u : View) (role : Role) → get_elem? (set views seat (view_of v.history (without off v.roles))) i ≡ some u → Contains u.roles role → i ≡ seat → off ≡ role → ⊥

@@ -1,5 +1,6 @@
 -- A draft with the carried buffers is one, and stands for the revealed layer.
 use Rattle.std.proofs.Common.{◌≡◌, ℕ, ◌<◌, Bool, true, false, if◌then◌else◌, List, length, Option, Some, None, ◌∙◌, sym, refl, ap, subst, arith, ℤ, pos, ◌+ℤ◌, ◌-ℤ◌, ◌≤ℤ◌, unsigned_abs}
+use Rattle.std.proofs.lemmas.Bool.{and_parts}
 use Rattle.std.proofs.lemmas.Int.{ints}
 use Rattle.lw_region.specs.Rectangle.{Rectangle}
 use Rattle.lw_region.specs.Bands.{covers}
@@ -21,7 +22,7 @@ use Rattle.lw_layer.specs.Pieces.{columns, lines, buffer_rectangle, buffer_at, c
 use Rattle.lw_layer.specs.Drafts.{IsLiveDraft, IsScrolled, IsRest, layout, buffers_of, pen_from, live_view}
 use Rattle.lw_layer.specs.New.{kept_hidden}
 use Rattle.lw_layer.specs.declared.draft.LiveDraft.{LiveDraft}
-use Rattle.lw_layer.proofs.ViewLaws.{has_place, both_true}
+use Rattle.lw_layer.proofs.ViewLaws.{has_place}
 use Rattle.lw_layer.proofs.KeptLaws.{keeps_found, keeps_missing}
 use Rattle.lw_reveal.specs.declared.change.Change.{Change}
 use Rattle.lw_reveal.specs.Changed.{across_to, windowless, carried_to}
@@ -140,7 +141,7 @@ found_pen d k x y (Some n) ok made left low is =
     let kept : keeps (live_view r) x y ≡ true = keeps_found r x y n is in
     let place = has_place l x y n is in
     let p : Rectangle = buffer_rectangle l n in
-    let halves = both_true _ _ place.has in
+    let halves = and_parts _ _ place.has in
     let F : ℕ → ℕ → ℕ = λ i j. pen_or_zero (kept_pen c (layer_place p.min_x k.bounds.min_x c.layer.scroll_x i) (layer_place p.min_y k.bounds.min_y c.layer.scroll_y j)) in
     let at_x : layer_place p.min_x k.bounds.min_x l.scroll_x (column_in l n x) ≡ pos x = place_in p.min_x k.bounds.min_x l.scroll_x x (within_low _ _ _ halves.0) in
     let at_y : layer_place p.min_y k.bounds.min_y l.scroll_y (line_in l n y) ≡ pos y = place_in p.min_y k.bounds.min_y l.scroll_y y (within_low _ _ _ halves.1) in

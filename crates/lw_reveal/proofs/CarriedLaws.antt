@@ -1,6 +1,6 @@
 -- The buffers that a layer has are those with the pens that it keeps, and stay so where their rectangles are moved with the bounds.
 use Rattle.std.proofs.Common.{◌≡◌, ℕ, ◌+◌, ◌-◌, ◌<◌, ◌≤◌, Bool, true, false, ◌||◌, ◌⊎◌, ⊎_elim, inl, inr, List, [], ◌∷◌, ◌++◌, length, get_or, Some, ◌∙◌, sym, refl, ap, subst, arith, ℤ, pos, ◌+ℤ◌, ◌-ℤ◌, ◌≤ℤ◌, unsigned_abs, length-append}
-use Rattle.std.proofs.lemmas.Bool.{cases_lt, and_from}
+use Rattle.std.proofs.lemmas.Bool.{and_parts, cases_lt, and_from}
 use Rattle.std.proofs.lemmas.List.Elements.{All-append}
 use Rattle.std.proofs.lemmas.Int.{ints}
 use Rattle.std.proofs.lemmas.List.{get_or_append_left, get_or-append_right}
@@ -21,7 +21,6 @@ use Rattle.lw_layer.specs.Drafts.{IsLiveDraft, IsBuffer, layout, buffers_of, no_
 use Rattle.lw_layer.specs.declared.draft.LiveDraft.{LiveDraft}
 use Rattle.lw_layer.proofs.BufferLaws.{buffer_is}
 use Rattle.lw_layer.proofs.OrderedLists.{canonical_ordered}
-use Rattle.lw_layer.proofs.ViewLaws.{both_true}
 use Rattle.lw_layer.proofs.ReachLaws.{found_at, none_before}
 use Rattle.lw_layer.proofs.ReadLaws.{read_pen}
 use Rattle.lw_reveal.specs.Changes.{beside_own, pen_or_zero, layer_place, carried}
@@ -183,7 +182,7 @@ former_pen d n i j ok parts number left low =
     let ordered : IsOrdered r = subst (λ q. IsOrdered q) (sym number.all) (both_ordered d.parts.visible hidden n d.bounds parts.canonical (canonical_hidden d.bounds d.parts.visible) number.inside) in
     let has : has_pixel r (r.min_x +ℤ pos i) (r.min_y +ℤ pos j) ≡ true = and_from _ _ (axis_has r.min_x r.max_x i ordered.columns left) (axis_has r.min_y r.max_y j ordered.rows low) in
     let P : Rectangle → Type 0 = λ q. has_pixel q (r.min_x +ℤ pos i) (r.min_y +ℤ pos j) ≡ true in
-    let inside = both_true _ _ (divided_inside d.bounds d.parts.visible hidden n (r.min_x +ℤ pos i) (r.min_y +ℤ pos j) parts.divided number.inside (subst P number.all has)) in
+    let inside = and_parts _ _ (divided_inside d.bounds d.parts.visible hidden n (r.min_x +ℤ pos i) (r.min_y +ℤ pos j) parts.divided number.inside (subst P number.all has)) in
     let column : OnAxis r.min_x d.bounds.min_x l.scroll_x i l.width = on_axis r.min_x d.bounds.min_x d.bounds.max_x l.scroll_x i l.width inside.0 ok.scrolled.right in
     let line : OnAxis r.min_y d.bounds.min_y l.scroll_y j l.height = on_axis r.min_y d.bounds.min_y d.bounds.max_y l.scroll_y j l.height inside.1 ok.scrolled.lower in
     let here : has_pixel r (across l column.x) (down l line.x) ≡ true = rw (column.at, line.at) has in

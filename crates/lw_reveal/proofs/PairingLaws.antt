@@ -5,7 +5,7 @@ use Rattle.std.specs.Bool.{IsTrue}
 use Rattle.std.specs.Option.{SomeIff}
 use Rattle.std.specs.Ordering.{int_eq}
 use Rattle.std.specs.Vec.{with_item}
-use Rattle.std.proofs.lemmas.Bool.{cases_eq}
+use Rattle.std.proofs.lemmas.Bool.{and_parts, cases_eq}
 use Rattle.std.proofs.lemmas.List.{get_or-replicate, length-replicate}
 use Rattle.std.proofs.Math.ListN.{replicate}
 use Rattle.lw_region.specs.Rectangle.{Rectangle}
@@ -14,7 +14,6 @@ use Rattle.lw_calls.specs.declared.make.Kind.{Kind}
 use Rattle.lw_cliprects.specs.Parts.{hidden_of}
 use Rattle.lw_layer.specs.View.{LiveView}
 use Rattle.lw_layer.specs.New.{kept_hidden}
-use Rattle.lw_layer.proofs.ViewLaws.{both_true}
 use Rattle.lw_reveal.specs.declared.pairing.Pairing.{Pairing}
 use Rattle.lw_reveal.specs.Changes.{beside_own, IsGiven}
 use Rattle.lw_reveal.specs.Pairing.{IsNear, IsPair, IsPairing, IsPairingOf, SameLists}
@@ -22,9 +21,9 @@ use Rattle.lw_reveal.specs.Pairing.{IsNear, IsPair, IsPairing, IsPairingOf, Same
 pub edges_same : (r s : Rectangle)
     → (int_eq r.min_x s.min_x && (int_eq r.min_y s.min_y && (int_eq r.max_x s.max_x && int_eq r.max_y s.max_y))) ≡ true → r ≡ s
 edges_same r s is =
-    let first = both_true _ _ is in
-    let second = both_true _ _ first.1 in
-    let third = both_true _ _ second.1 in
+    let first = and_parts _ _ is in
+    let second = and_parts _ _ first.1 in
+    let third = and_parts _ _ second.1 in
     ap (λ z. record r { min_x = z }) (eq_of r.min_x s.min_x first.0) ∙
     (ap (λ z. record s { min_y = z; max_x = r.max_x; max_y = r.max_y }) (eq_of r.min_y s.min_y second.0) ∙
     (ap (λ z. record s { max_x = z; max_y = r.max_y }) (eq_of r.max_x s.max_x third.0) ∙

@@ -1,5 +1,5 @@
 -- What the reader knows of the lines that it has read, as far as the rule of a line asks.
-use Rattle.std.specs.Prelude.{ℕ, ◌==◌, get_or, false, option_map}
+use Rattle.std.specs.Prelude.{◌==◌, get_or, false, option_map}
 use Rattle.std.specs.List.{list_any}
 use Rattle.lw_grammar.specs.Told.{Told, nothing_told}
 use Rattle.lw_grammar.specs.Script.{Setting, reading_with}

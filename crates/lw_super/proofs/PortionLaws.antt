@@ -1,6 +1,6 @@
 -- What the draft of a super-bitmap layer stands for once its own bitmap has all its bits, and its visible rectangles show another portion.
 use Rattle.std.proofs.Common.{◌≡◌, ℕ, suc, ◌+◌, ◌||◌, int_le, ◌<◌, ◌≤◌, Bool, true, false, ◌&&◌, nat_lt, if◌then◌else◌, List, [], ◌∷◌, ◌++◌, length, get_or, Option, Some, ◌∙◌, sym, refl, ap, subst, arith, ⊎_elim, ℤ, pos, ◌+ℤ◌, ◌-ℤ◌, ◌≤ℤ◌, unsigned_abs, length-append, append-nil, take, drop}
-use Rattle.std.proofs.lemmas.Bool.{cases_lt}
+use Rattle.std.proofs.lemmas.Bool.{and_parts, cases_lt}
 use Rattle.std.proofs.lemmas.Int.{ints}
 use Rattle.std.proofs.lemmas.List.{drop_all, take_all, get_or_append_left, get_or_at, get_or-map, length-map, nil_from_length}
 use Rattle.lw_region.specs.Rectangle.{Rectangle, has_pixel, IsOrdered}
@@ -28,7 +28,6 @@ use Rattle.lw_layer.specs.Drafts.{IsLiveDraft, IsBuffer, AreBuffers, IsRest, lay
 use Rattle.lw_layer.specs.declared.draft.LiveDraft.{LiveDraft}
 use Rattle.lw_layer.proofs.BitsLaws.{live_bits}
 use Rattle.lw_layer.proofs.BufferLaws.{shown_buffer}
-use Rattle.lw_layer.proofs.ViewLaws.{both_true}
 use Rattle.lw_layer.proofs.CopyingLaws.{natural_distance, not_below}
 use Rattle.lw_super.specs.Shown.{axis_fits, IsShown, AreShown, with_shown, portion, portions, portions_of, left_of, top_of, draft_fits, IsNear, scrolled_by}
 use Rattle.lw_super.proofs.WritingLaws.{super_is, super_rest, super_pieces, super_bits, buffer_moved, scroll_is, are_shown}
@@ -197,7 +196,7 @@ portion_pen : (own : Bitmap) (left top : ℤ) (r : Rectangle) (x y : ℕ) → Is
     → pen_from r (portion own left top r) (left +ℤ pos x) (top +ℤ pos y) ≡ pen_at own x y
 unfolding portion
 portion_pen own left top r x y behind has =
-    let halves = both_true _ _ has in
+    let halves = and_parts _ _ has in
     let u : ℤ = left +ℤ pos x in
     let v : ℤ = top +ℤ pos y in
     let u_low = within_low r.min_x u r.max_x halves.0 in
@@ -262,9 +261,9 @@ record Fits (x y : ℤ) (w h : ℕ) (r : Rectangle) : Type 0 where
 fits_parts : (x y : ℤ) (w h : ℕ) (r : Rectangle) → portion_fits x y w h r ≡ true → Fits x y w h r
 unfolding portion_fits
 fits_parts x y w h r is =
-    let halves = both_true _ _ is in
-    let across = both_true _ _ halves.0 in
-    let down = both_true _ _ halves.1 in
+    let halves = and_parts _ _ is in
+    let across = and_parts _ _ halves.0 in
+    let down = and_parts _ _ halves.1 in
     record { left = le_of _ _ across.0; right = le_of _ _ across.1; upper = le_of _ _ down.0; lower = le_of _ _ down.1 }
 
 room_is : (x low high : ℤ) (w : ℕ) → pos 0 ≤ℤ x → low ≤ℤ high → (x +ℤ ((high +ℤ pos 1) -ℤ low)) ≤ℤ pos w

@@ -4,7 +4,7 @@ use Rattle.std.specs.List.{slice_index_or}
 use Rattle.std.specs.Int.Signed.{≤ℤ_refl}
 use Rattle.std.proofs.lemmas.Int.{ints}
 use Rattle.std.proofs.lemmas.List.{get_or_append_left, get_or_default, get_or_at, nil_from_length}
-use Rattle.std.proofs.lemmas.Bool.{and_from}
+use Rattle.std.proofs.lemmas.Bool.{and_parts, and_from}
 use Rattle.lw_region.specs.Rectangle.{Rectangle, has_pixel}
 use Rattle.lw_region.specs.Bands.{covers}
 use Rattle.lw_region.specs.Banded.{IsCanonical}
@@ -21,7 +21,7 @@ use Rattle.lw_calls.specs.declared.make.Kind.TheVariants.{Simple, Smart, SuperBi
 use Rattle.lw_cliprects.specs.Parts.{hidden_of, LieIn, AreDivided}
 use Rattle.lw_layer.specs.Pieces.{buffered, buffer_rectangle, rest_as, rest_of, whole_of, across, down, found_in, buffer_at, column_in, line_in}
 use Rattle.lw_layer.specs.Drafts as drafts
-use Rattle.lw_layer.specs.Drafts.{IsLiveDraft, IsBuffer, IsRest, layout, own_list, buffers_of, no_bitmap, live_view}
+use Rattle.lw_layer.specs.Drafts.{IsLiveDraft, IsBuffer, IsRest, layout, buffers_of, no_bitmap, live_view}
 use Rattle.lw_layer.specs.declared.draft.LiveDraft.{LiveDraft}
 use Rattle.lw_layer.proofs.BufferLaws.{as_many_buffers, shown_buffer}
 use Rattle.lw_buffers.proofs.LookupLaws.{pen_in_first}
@@ -30,7 +30,7 @@ use Rattle.lw_layer.proofs.NewLaws.{lies_at}
 use Rattle.lw_layer.proofs.OrderedLists.{canonical_ordered}
 use Rattle.lw_layer.proofs.FoundLaws.{in_bits_found, whole_has}
 use Rattle.lw_layer.proofs.Positions.{none_passes}
-use Rattle.lw_layer.proofs.ViewLaws.{has_place, both_true}
+use Rattle.lw_layer.proofs.ViewLaws.{has_place}
 use Rattle.lw_layer.proofs.CopyingLaws.{natural_distance, not_below}
 use Rattle.lw_layer.proofs.SoundLaws.{visible_inside}
 use Rattle.lw_super.specs.Shown.{IsShown, AreShown, with_shown, left_of, top_of}
@@ -173,8 +173,8 @@ shown_each d own n r b super ok canonical inside below =
     let s = get_or d.parts.visible n r in
     let ordered = canonical_ordered d.parts.visible canonical n r below in
     let lies = lies_at d.bounds d.parts.visible n r inside below in
-    let first = both_true _ _ (lies s.min_x s.min_y (and_from _ _ (within_true s.min_x s.min_x s.max_x (≤ℤ_refl s.min_x) ordered.columns) (within_true s.min_y s.min_y s.max_y (≤ℤ_refl s.min_y) ordered.rows))) in
-    let last = both_true _ _ (lies s.max_x s.max_y (and_from _ _ (within_true s.min_x s.max_x s.max_x ordered.columns (≤ℤ_refl s.max_x)) (within_true s.min_y s.max_y s.max_y ordered.rows (≤ℤ_refl s.max_y)))) in
+    let first = and_parts _ _ (lies s.min_x s.min_y (and_from _ _ (within_true s.min_x s.min_x s.max_x (≤ℤ_refl s.min_x) ordered.columns) (within_true s.min_y s.min_y s.max_y (≤ℤ_refl s.min_y) ordered.rows))) in
+    let last = and_parts _ _ (lies s.max_x s.max_y (and_from _ _ (within_true s.min_x s.max_x s.max_x ordered.columns (≤ℤ_refl s.max_x)) (within_true s.min_y s.max_y s.max_y ordered.rows (≤ℤ_refl s.max_y)))) in
     let long = length-append l.visible (rest_of l) in
     record {
       ordered = ordered;

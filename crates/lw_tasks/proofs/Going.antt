@@ -1,5 +1,5 @@
 -- What a loop over a legal order keeps: the steps so far and those that are left are the steps of the order.
-use Rattle.std.proofs.Common.{◌≡◌, ℕ, zero, suc, ◌+◌, ◌<◌, true, List, [], ◌∷◌, ◌++◌, length, drop, Option, Some, None, slice_index_or, refl, ap, sym, subst, ◌∙◌, append_assoc, append-nil, add-one, drop-cons, arith}
+use Rattle.std.proofs.Common.{◌≡◌, ℕ, zero, suc, ◌+◌, ◌<◌, true, List, [], ◌∷◌, ◌++◌, length, drop, Some, slice_index_or, ap, sym, subst, ◌∙◌, append_assoc, append-nil, add-one, drop-cons, arith}
 use Rattle.std.specs.List.{slice_get}
 use Rattle.std.proofs.lemmas.Option.{slice_get_within}
 use Rattle.std.proofs.lemmas.Bool.{and_parts}
@@ -9,6 +9,7 @@ use Rattle.lw_calls.specs.declared.reply.Reply.{Reply}
 use Rattle.lw_calls.specs.Plan.{Plan, IsPlan, task_calls}
 use Rattle.lw_calls.specs.Orders.{occurrences, may_come, keeps_groups}
 use Rattle.lw_calls.specs.Entries.{count_of, entries, next_entry}
+use Rattle.lw_calls.proofs.OrdersComplete.{call_there}
 use Rattle.lw_machine.specs.Finals.{opening_desk}
 use Rattle.lw_machine.specs.Hook.{Hook}
 use Rattle.lw_machine.specs.Desk.{Desk}
@@ -25,11 +26,6 @@ pub record IsGoing (plan : Plan) (hooks : List Hook) (order left : List ℕ) (de
   pub whole : past ++ entries plan past left ≡ entries plan [] order
   pub run : HasRun plan hooks past desk told
 
--- what may come is a call
-coming : (plan : Plan) (numbers : List ℕ) (t : ℕ) (o : Option Call) → may_come plan numbers t o ≡ true → (c : Call) × (o ≡ Some c)
-coming plan numbers t None h = cc
-coming plan numbers t (Some c) h = (c, refl)
-
 -- a task that has a call is one of the lists'
 in_lists : (lists : List (List Call)) (t n : ℕ) (c : Call) → slice_get (slice_index_or lists t []) n ≡ Some c → t < length lists
 in_lists [] t n c h = absurd (let none : n < 0 = slice_get_within [] n c h in omega (arith, none))
@@ -45,7 +41,7 @@ pub record IsDue (plan : Plan) (past : List Entry) (numbers : List ℕ) (t : ℕ
 due : (plan : Plan) (past : List Entry) (numbers : List ℕ) (t : ℕ) (ts : List ℕ) → ((u : ℕ) → count_of u past ≡ occurrences u numbers) → keeps_groups plan numbers (t ∷ ts) ≡ true → IsDue plan past numbers t ts
 due plan past numbers t ts counted legal =
     let h : (may_come plan numbers t (slice_get (task_calls plan t) (occurrences t numbers)) ≡ true) × (keeps_groups plan (numbers ++ t ∷ []) ts ≡ true) = and_parts _ _ legal in
-    let c : (c : Call) × (slice_get (task_calls plan t) (occurrences t numbers) ≡ Some c) = coming plan numbers t _ h.0 in
+    let c : (c : Call) × (slice_get (task_calls plan t) (occurrences t numbers) ≡ Some c) = call_there plan numbers t _ h.0 in
     record { call = c.0; found = ap (slice_get (task_calls plan t)) (counted t) ∙ c.1; later = h.1 }
 
 -- the numbers that are left are the next one and the rest

@@ -1,8 +1,9 @@
 -- What a task made after some steps of others, after one call more, and after calls of a group.
-use Rattle.std.proofs.Common.{◌≡◌, ◌⊎◌, ℕ, ◌+◌, ◌<◌, ◌≤◌, ◌==◌, Bool, true, false, ◌&&◌, ◌||◌, List, [], ◌∷◌, ◌++◌, length, map, refl, ap, sym, subst, ◌∙◌, ⊎_elim, arith, append-nil, append_assoc, length-append, eq-eqb}
+use Rattle.std.proofs.Common.{◌≡◌, ◌⊎◌, ℕ, ◌+◌, ◌<◌, ◌≤◌, ◌==◌, true, false, ◌&&◌, List, [], ◌∷◌, ◌++◌, length, map, refl, ap, sym, subst, ◌∙◌, ⊎_elim, arith, append-nil, append_assoc, length-append, eq-eqb}
 use Rattle.std.specs.Prelude.{All, Contains, IsTrue}
 use Rattle.std.specs.List.{slice_index_or}
-use Rattle.std.proofs.lemmas.List.{map-append}
+use Rattle.std.proofs.lemmas.Bool.{and_from, and_left, and_right, or_from}
+use Rattle.std.proofs.lemmas.List.{map-append, nil_from_length}
 use Rattle.std.proofs.lemmas.List.Elements.{All-weaker, All-contains, All-take, All-drop}
 use Rattle.std.proofs.lemmas.List.Folds.{list_any_none}
 use Rattle.std.proofs.Math.Seq.{take-append_seam, drop-append_seam}
@@ -32,30 +33,18 @@ use Rattle.lw_locks.proofs.Running.{ran_lengths}
 use Rattle.lw_tasks.specs.Made.{calls_of, places_of, is_within, keeps_apart, HasTold, HasMade}
 use Rattle.lw_tasks.proofs.MadeLaws.{calls_of_append, places_of_append, replies_of_append, keeps_apart_append, length_calls_of, Foreign, foreign, no_calls, no_places, no_replies_of, kept_apart, own_call, own_place, own_reply, own_apart}
 
-neither : (a b : Bool) → a ≡ false → b ≡ false → (a || b) ≡ false
-neither true b h k = h
-neither false b h k = k
-
 -- a step that leaves what a group holds alone doesn't meet it
 meets_not : (sizes : Sizes) (hold : Hold) (roles : List Role) (e : Entry) → ((r : Role) → Contains (held_roles sizes.slots hold) r → Contains roles r) → LeavesAlone roles e → IsTrue (call_fits sizes e.call) → meets hold (touch_of e.task e.call) ≡ false
 meets_not sizes (OneSlot s) roles e among leaves fits = All-contains (λ r. touches_role (touch_of e.task e.call) r ≡ false) roles (Slot s) leaves (among (Slot s) (0, omega arith, refl))
 meets_not sizes AllLayers roles e among leaves fits =
     let P : Role → Type 0 = λ r. touches_role (touch_of e.task e.call) r ≡ false in
     let info : is_on_info (class_of e.call) ≡ false = All-contains P roles Info leaves (among Info (0, omega arith, refl)) in
-    neither (is_on_info (class_of e.call)) (has_some (slots_of e.call)) info
+    or_from (is_on_info (class_of e.call)) (has_some (slots_of e.call)) info
     (no_slot sizes e.call (class_of e.call) refl fits info (λ s below. All-contains P roles (Slot s) leaves (among (Slot s) (all_roles_has_slot sizes.slots 0 s below))))
 
 -- A task that made so many calls is within none of these groups, but for some of which it has what they hold.
 abbrev pub Guards : ℕ → List Group → ℕ → List Role → Type 0
 Guards slots groups made roles = All (λ g. (is_open made g ≡ false) ⊎ ((r : Role) → Contains (held_roles slots g.hold) r → Contains roles r)) groups
-
-first_false : (a b : Bool) → a ≡ false → (a && b) ≡ false
-first_false true b h = absurd (cc h)
-first_false false b h = refl
-
-second_false : (a b : Bool) → b ≡ false → (a && b) ≡ false
-second_false true b h = h
-second_false false b h = refl
 
 within_none : (sizes : Sizes) (groups : List Group) (made : ℕ) (roles : List Role) (es : List Entry) → Guards sizes.slots groups made roles → Quiet roles es → CallsFit sizes es → All (λ e. is_within groups made (touch_of e.task e.call) ≡ false) es
 within_none sizes groups made roles es guards quiet fits k d below =
@@ -63,7 +52,7 @@ within_none sizes groups made roles es guards quiet fits k d below =
     let touch = touch_of e.task e.call in
     list_any_none (λ g. is_open made g && meets g.hold touch) groups
     (All-weaker (λ g. (is_open made g ≡ false) ⊎ ((r : Role) → Contains (held_roles sizes.slots g.hold) r → Contains roles r)) (λ g. (is_open made g && meets g.hold touch) ≡ false)
-    (λ g. ⊎_elim (λ closed. first_false (is_open made g) (meets g.hold touch) closed) (λ among. second_false (is_open made g) (meets g.hold touch) (meets_not sizes g.hold roles e among (quiet k d below) (fits k d below))))
+    (λ g. ⊎_elim (λ closed. and_left (is_open made g) (meets g.hold touch) closed) (λ among. and_right (is_open made g) (meets g.hold touch) (meets_not sizes g.hold roles e among (quiet k d below) (fits k d below))))
     groups guards)
 
 front_fits : (sizes : Sizes) (old rest new : List Entry) → new ≡ old ++ rest → CallsFit sizes new → CallsFit sizes old
@@ -75,10 +64,6 @@ rest_fits : (sizes : Sizes) (old rest new : List Entry) → new ≡ old ++ rest 
 rest_fits sizes old rest new parts fits =
     let P : Entry → Type 0 = λ e. IsTrue (call_fits sizes e.call) in
     subst (All P) (drop-append_seam old rest) (All-drop P (length old) (old ++ rest) (subst (All P) parts fits))
-
-both_true : (a b : Bool) → a ≡ true → b ≡ true → (a && b) ≡ true
-both_true true b h k = k
-both_true false b h k = absurd (cc h)
 
 module _ (desk : Desk) (groups : List Group) (task : ℕ) where
   -- what a task made, and what follows it
@@ -94,7 +79,7 @@ module _ (desk : Desk) (groups : List Group) (task : ℕ) where
         apart = λ fits.
             ap (keeps_apart groups task 0) parts
             ∙ (keeps_apart_append groups task 0 old rest
-            ∙ both_true _ _ (h.apart (front_fits desk.sizes old rest new parts fits)) (ap (λ n. keeps_apart groups task n rest) many ∙ apart (rest_fits desk.sizes old rest new parts fits)));
+            ∙ and_from _ _ (h.apart (front_fits desk.sizes old rest new parts fits)) (ap (λ n. keeps_apart groups task n rest) many ∙ apart (rest_fits desk.sizes old rest new parts fits)));
       }
 
   -- steps of others
@@ -141,10 +126,6 @@ module _ (desk : Desk) (groups : List Group) (task : ℕ) where
   made_ran roles made old new had [] (a ∷ rest) has guards h ran = absurd ran
   made_ran roles made old new had (c ∷ cs) [] has guards h ran = absurd ran
 
-is_empty : {X : Type 0} (xs : List X) → length xs ≡ 0 → xs ≡ []
-is_empty [] h = refl
-is_empty (x ∷ xs) h = absurd (omega (arith, h))
-
 -- A whole group: one answer more for each of its calls.
 pub made_group : (desk : Desk) (groups : List Group) (task : ℕ) (few many : List Role) (made : List Call) (old new : List Entry) (calls : List Call) (had has : List Answer) → Contains few (Task task) → Contains many (Task task) → Guards desk.sizes.slots groups (length made) few
     → ((n : ℕ) → length made ≤ n → n < length made + length calls → Guards desk.sizes.slots groups n many) → HasMade desk groups task made old had → GroupDone desk few many task old new calls had has → length has ≡ length had + length calls → HasMade desk groups task (made ++ calls) new has
@@ -153,7 +134,7 @@ made_group desk groups task few many made old new calls had has own own_too free
     let lengths = ran_lengths desk many task g.start new grown.made grown.done grown.ran in
     let parts = ap length grown.parts ∙ length-append grown.made grown.left in
     let answers = ap length grown.answers ∙ length-append had grown.done in
-    let none : grown.left ≡ [] = is_empty grown.left (omega (arith, lengths, parts, answers, all)) in
+    let none : grown.left ≡ [] = nil_from_length grown.left (omega (arith, lengths, parts, answers, all)) in
     let whole : grown.made ≡ calls = sym (grown.parts ∙ (ap (λ cs. grown.made ++ cs) none ∙ append-nil grown.made)) in
     let still : HasMade desk groups task made g.start had = told_still desk groups task few made old g.start _ _ own free h g.follows in
     let ran : HasMade desk groups task (made ++ calls) new (had ++ grown.done) = made_ran desk groups task many made g.start new had calls grown.done own_too guards still (subst (λ cs. Ran desk many task g.start new cs grown.done) whole grown.ran) in

@@ -1,7 +1,7 @@
 -- The history in which each task of a plan made all its calls is that of a legal order.
-use Rattle.std.proofs.Common.{◌≡◌, ℕ, zero, suc, ◌+◌, ◌<◌, ◌==◌, Bool, true, false, not, ◌&&◌, ◌||◌, if◌then◌else◌, List, [], ◌∷◌, ◌++◌, length, refl, ap, sym, subst, ◌∙◌, arith, append_assoc, eq-eqb, Some}
+use Rattle.std.proofs.Common.{◌≡◌, ℕ, zero, suc, ◌+◌, ◌<◌, ◌==◌, Bool, true, false, not, ◌||◌, if◌then◌else◌, List, [], ◌∷◌, ◌++◌, length, refl, ap, sym, subst, ◌∙◌, arith, append_assoc, eq-eqb, Some}
 use Rattle.std.specs.List.{list_all, slice_get, range_with_len}
-use Rattle.std.proofs.lemmas.Bool.{and_parts}
+use Rattle.std.proofs.lemmas.Bool.{and_parts, and_from}
 use Rattle.std.proofs.lemmas.Bool.Decides.{nat_tests}
 use Rattle.std.proofs.lemmas.List.{map-append}
 use Rattle.std.proofs.lemmas.List.Elements.{All-head, All-tail}
@@ -43,16 +43,12 @@ own_first : (b : Bool) (c : Call) (cs : List Call) → b ≡ true → (if b then
 own_first true c cs h = refl
 own_first false c cs h = absurd (cc h)
 
-both : (a b : Bool) → a ≡ true → b ≡ true → (a && b) ≡ true
-both true b h k = k
-both false b h k = absurd (cc h)
-
 same_test : (a b : ℕ) → (a == b) ≡ (b == a)
 same_test a b = grind (arith, nat_tests)
 
 all_in_range : (p : ℕ → Bool) (first n : ℕ) → ((u : ℕ) → u < first + n → p u ≡ true) → list_all p (range_with_len first n) ≡ true
 all_in_range p first zero each = refl
-all_in_range p first (suc n) each = both (p first) _ (each first (omega arith)) (all_in_range p (first + 1) n (λ u low. each u (omega (arith, low))))
+all_in_range p first (suc n) each = and_from (p first) _ (each first (omega arith)) (all_in_range p (first + 1) n (λ u low. each u (omega (arith, low))))
 
 module _ (plan : Plan) (desk : Desk) (whole : List Entry) (made : (t : ℕ) → t < plan.sizes.tasks → (said : TaskAnswers) × HasAll desk plan t whole said) (sizes : desk.sizes ≡ plan.sizes) (known : IsHistory desk.sizes whole) where
   -- the call of a step is its task's next one
@@ -86,7 +82,7 @@ module _ (plan : Plan) (desk : Desk) (whole : List Entry) (made : (t : ℕ) → 
   keeps front (e ∷ es) parts low =
       let P : Entry → Type 0 = λ x. x.task < plan.sizes.tasks in
       let more : order_of (front ++ e ∷ []) ≡ order_of front ++ e.task ∷ [] = map-append (λ (x : Entry). x.task) front (e ∷ []) in
-      both _ _ (comes front es e parts (All-head P e es low))
+      and_from _ _ (comes front es e parts (All-head P e es low))
       (ap (λ past. keeps_groups plan past (order_of es)) (sym more) ∙ keeps (front ++ e ∷ []) es (parts ∙ sym (append_assoc front (e ∷ []) es)) (All-tail P e es low))
 
   stand : (front back : List Entry) → whole ≡ front ++ back → TasksBelow plan.sizes.tasks back → Numbered front back → entries plan front (order_of back) ≡ back
@@ -107,7 +103,7 @@ module _ (plan : Plan) (desk : Desk) (whole : List Entry) (made : (t : ℕ) → 
   pub ordered : IsOrdered plan whole
   ordered =
       let low : TasksBelow plan.sizes.tasks whole = subst (λ s. TasksBelow s.tasks whole) sizes known.tasks in
-      record { legal = both _ _ (keeps [] whole refl low) complete; stands = stand [] whole refl low known.numbered }
+      record { legal = and_from _ _ (keeps [] whole refl low) complete; stands = stand [] whole refl low known.numbered }
 
 -- what each pass's task made in the history that it knows, it made in the whole one
 pub all_have_all : (plan : Plan) (desk : Desk) (passes : List SeenPass) (whole : SeenSeat) (all : List TaskAnswers) → IsPlan plan → length all ≡ length passes → AreFollowed passes whole → EachHasAll desk plan passes all → AllHaveAll desk plan whole.history all

@@ -8,10 +8,10 @@ use Rattle.lw_planes.specs.Bitmap.{Bitmap}
 use Rattle.lw_calls.specs.Final.{Final}
 use Rattle.lw_calls.specs.Plan.{Plan, IsPlan, task_calls}
 use Rattle.lw_calls.specs.Orders.{occurrences, may_come, keeps_groups, is_complete, is_legal}
-use Rattle.lw_calls.proofs.OrdersComplete.{all_below}
+use Rattle.lw_calls.proofs.OrdersComplete.{all_below, call_there}
 use Rattle.lw_machine.specs.Report.{is_empty, separator, order_numbers, order_part, planes_part, of_slots, visible_text, damage_text, messages_text, replies_part, report}
 use Rattle.lw_top.specs.Run.{ReportsTellTheirOrder}
-use Rattle.lw_top.proofs.LegalOrders.{call_there, is_of_plan}
+use Rattle.lw_top.proofs.LegalOrders.{is_of_plan}
 
 -- bytes of decimal digits
 abbrev AreDigits : List ℕ → Type 0

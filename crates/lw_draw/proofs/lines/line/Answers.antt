@@ -3,7 +3,8 @@ use Rattle.std.specs.Int.{int_min, int_max}
 use Rattle.lw_machine.specs.Layer.{Raster}
 use Rattle.lw_layer.specs.Drafts.{raster_of}
 use Rattle.lw_draw.specs.declared.row_spans.Line.{Line}
-use Rattle.lw_draw.proofs.DrawnLines.{line_done, within_same}
+use Rattle.lw_draw.proofs.DrawnLines.{line_done}
+use Rattle.lw_draw.proofs.RectangleLaws.{within_same}
 use Rattle.lw_draw.proofs.lines.line.Goals as goal
 
 -- an i16 that is handed on

@@ -1,4 +1,4 @@
-use Rattle.std.proofs.Common.{◌≡◌, ℕ, ◌<◌, List, length, Option, ◌∙◌, sym, subst, arith}
+use Rattle.std.proofs.Common.{◌<◌, List, length, Option, ◌∙◌, sym, subst, arith}
 use Rattle.lw_calls.specs.Assets.{Assets}
 use Rattle.lw_calls.specs.declared.call.Call.{Call}
 use Rattle.lw_calls.specs.declared.reply.Reply.{Reply}

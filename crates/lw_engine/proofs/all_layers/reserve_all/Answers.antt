@@ -1,4 +1,4 @@
-use Rattle.std.proofs.Common.{◌≡◌, ◌<◌, length, ◌∙◌, ap, arith}
+use Rattle.std.proofs.Common.{◌<◌, length, ◌∙◌, ap, arith}
 use Rattle.std.proofs.lemmas.List.{get_or_default}
 use Rattle.lw_layer.specs.Windows.{without_room}
 use Rattle.lw_engine.specs.Desks.{no_cell}

@@ -1,5 +1,4 @@
-use Rattle.std.proofs.Common.{◌≡◌, ◌==◌, true, not, length, Option, Some, None, option_map, ◌∙◌, sym, ap}
-use Rattle.lw_machine.specs.Hook.{Hook}
+use Rattle.std.proofs.Common.{◌≡◌, ◌==◌, true, length, None, option_map, ◌∙◌, sym, ap}
 use Rattle.lw_layer.specs.View.{hooked}
 use Rattle.lw_engine.specs.Slots.{filled_as}
 use Rattle.lw_engine.proofs.SettlingLaws.{none_filled, zero_filled}

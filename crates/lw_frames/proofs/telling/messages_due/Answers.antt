@@ -1,7 +1,6 @@
 use Rattle.std.proofs.Common.{◌≡◌, Some, refl, ap}
 use Rattle.lw_machine.specs.Layer.{Window, is_window}
 use Rattle.lw_machine.specs.Reveal.{Across}
-use Rattle.lw_layer.specs.Drafts.{window_of}
 use Rattle.lw_windows.specs.Messages.{Tells}
 use Rattle.lw_ports.specs.Sets.{classes_of}
 use Rattle.lw_frames.specs.Telling.{IsDone}

@@ -1,4 +1,4 @@
-use Rattle.std.proofs.Common.{◌≡◌, ◌∙◌, sym, ap, subst}
+use Rattle.std.proofs.Common.{subst}
 use Rattle.lw_layer.specs.View as view
 use Rattle.lw_layer.specs.View.{State}
 use Rattle.lw_layer.specs.Windows.{RoomWhere}

@@ -1,13 +1,9 @@
-use Rattle.std.proofs.Common.{◌≡◌, ℤ, pos, to_z, of_z, w16, ◌∙◌, ap, arith}
+use Rattle.std.proofs.Common.{◌≡◌, pos, to_z, of_z, w16, ◌∙◌, ap, arith}
 use Rattle.std.proofs.lemmas.Int.{ints}
-use Rattle.lw_region.specs.Rectangle.{within}
 use Rattle.lw_layer.specs.View.{LiveView}
+use Rattle.lw_draw.proofs.RectangleLaws.{within_same}
 use Rattle.lw_hooks.proofs.RectangleLaws.{rectangle_painted}
 use Rattle.lw_hooks.proofs.rectangles.paint_rect.Goals as goal
-
--- a place between equal edges
-within_same : (a b c d z : ℤ) → a ≡ c → b ≡ d → within c z d ≡ within a z b
-within_same a b c d z first last = cc
 
 pub returns : goal.returns
 returns c =

@@ -1,4 +1,4 @@
-use Rattle.std.proofs.Common.{◌-◌, ◌*◌, min, length, ◌∙◌, ap, arith, rules}
+use Rattle.std.proofs.Common.{◌-◌, min, length, ◌∙◌, ap, arith, rules}
 use Rattle.std.proofs.lemmas.Int.{clamps, ints}
 use Rattle.lw_layer.specs.View.{LiveView}
 use Rattle.lw_layer.specs.Drafts.{raster_of}

@@ -1,4 +1,4 @@
-use Rattle.std.proofs.Common.{◌≡◌, Bool, true, false, List, [], ◌||◌, Option, Some, is_some, ◌∙◌, refl, ap, subst}
+use Rattle.std.proofs.Common.{◌≡◌, true, false, [], ◌||◌, Option, Some, is_some, ◌∙◌, refl, ap, subst}
 use Rattle.lw_region.specs.Rectangle.{Rectangle}
 use Rattle.lw_machine.specs.Hook.{Hook}
 use Rattle.lw_machine.specs.Layer.{is_framed}
@@ -7,7 +7,7 @@ use Rattle.lw_layer.specs.View as view
 use Rattle.lw_layer.specs.Drafts.{no_layer}
 use Rattle.lw_layer.specs.StandsFor.{IsSound}
 use Rattle.lw_stack.specs.Stack.{bounds_at}
-use Rattle.lw_arrange.specs.Prepared.{cell_after, MayPrepare}
+use Rattle.lw_arrange.specs.Prepared.{cell_after}
 use Rattle.lw_arrange.specs.Made.{IsPrepared}
 use Rattle.lw_arrange.specs.Filled.{AreGained}
 use Rattle.lw_engine.specs.Slots.{bare, hook_in, asked_hook, IsWindowAfter}

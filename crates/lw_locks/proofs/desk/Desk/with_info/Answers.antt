@@ -22,5 +22,5 @@ returns-clause-done g c =
     let own = c.pass.inside in
     let desk = g.N.Opening.desk in
     let held = Info ∷ map (λ s. Slot s) (range_with_len 0 desk.sizes.slots) in
-    group_out g.N.Opening.word desk own.task Info own.seat c.info.inside.seat c.join.new.seat c.join.ensures c.pass.invariant.roles c.info.invariant.roles c.under_slots-done.new.seat c.split-seat.new.seat c.split-seat.result c.under_slots-done.ensures.roles
+    group_out g.N.Opening.word desk own.task Info own.seat c.info.inside.seat c.join.new.seat c.join.ensures c.pass.invariant.roles c.info.invariant.roles c.under_slots-done.new.seat c.split-seat.new.seat
     c.args.pass.now held c.args.calls.now c.args.answers.now.items c.under_slots-done.new.answers.items c.split-seat.ensures.histories.0 c.pass.view_is c.under_slots-done.ensures.done
