@@ -40,7 +40,7 @@ void loop_copy(uint8_t *row, const uint8_t *source, uint32_t bytes);
 void loop_copy_across(uint8_t *row, const uint8_t *source, uint32_t bytes);
 void loop_flip(uint8_t *row, const uint8_t *source, uint32_t bytes);
 void loop_flip_across(uint8_t *row, const uint8_t *source, uint32_t bytes);
-void loop_shift_to_the_left(uint8_t *row, const uint8_t *source, uint32_t bytes);
+void loop_copy_to_the_left(uint8_t *row, const uint8_t *source, uint32_t bytes);
 void loop_shift_to_the_right(uint8_t *row, const uint8_t *source, uint32_t bytes);
 void loop_exclusive_or(uint8_t *row, const uint8_t *source, uint32_t bytes);
 void loop_shift_exclusive_or(uint8_t *row, const uint8_t *source, uint32_t bytes);

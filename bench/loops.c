@@ -1,6 +1,6 @@
-// The work of the row kernels in C: what a compiler makes of it for this kind of processor is what they can reach. Fills, flips and
-// copies from another row are functions with the kernel's arguments; the others are plain loops over whole bytes, whose shifts are those
-// of a first bit 3.
+// The work of the row kernels in C: what a compiler makes of it for this kind of processor is what they can reach. Fills, flips, and
+// copies from another row and to the left are functions with the kernel's arguments; the others are plain loops over whole bytes, whose
+// shifts are those of a first bit 3.
 #include "bench.h"
 
 #include <string.h>
@@ -11,6 +11,7 @@
 #else
 #define CALLED __attribute__((noinline))
 #endif
+#define INLINED static inline __attribute__((always_inline))
 
 // The bits of a byte from the left from `first` on, before `end`.
 static uint8_t mask(uint32_t first, uint32_t end) {
@@ -75,22 +76,43 @@ static uint8_t eight_bits(const uint8_t *row, uint32_t from, uint32_t end) {
         }                                                                                \
         break
 
+#define SHIFTED_BY_EACH \
+    SHIFTED(1);         \
+    SHIFTED(2);         \
+    SHIFTED(3);         \
+    SHIFTED(4);         \
+    SHIFTED(5);         \
+    SHIFTED(6);         \
+    SHIFTED(7)
+
 static void copy_shifted(uint8_t *restrict row, const uint8_t *restrict source, uint32_t bytes, uint32_t shift) {
     switch (shift) {
-        SHIFTED(1);
-        SHIFTED(2);
-        SHIFTED(3);
-        SHIFTED(4);
-        SHIFTED(5);
-        SHIFTED(6);
-        SHIFTED(7);
+        SHIFTED_BY_EACH;
     default:
         memcpy(row, source, bytes);
     }
 }
 
-// Copies bits of another row: a mask for each end, and whole bytes between them.
-static void copy_bits(uint8_t *row, uint32_t to, const uint8_t *source, uint32_t from, uint32_t count) {
+// The same to the left in one row, where each byte is read before it is written.
+INLINED void move_shifted(uint8_t *row, const uint8_t *source, uint32_t bytes, uint32_t shift) {
+    switch (shift) {
+        SHIFTED_BY_EACH;
+    default:
+        memmove(row, source, bytes);
+    }
+}
+
+// A move by less than a byte has loops of its own, which the compiler sees to read no byte after it is written.
+static void move_left(uint8_t *row, uint32_t ahead, uint32_t bytes, uint32_t shift) {
+    if (ahead == 0) {
+        move_shifted(row, row, bytes, shift);
+    } else {
+        move_shifted(row, row + ahead, bytes, shift);
+    }
+}
+
+// Copies bits of another row, or to the left in one row: a mask for each end, and whole bytes between them.
+INLINED void copy_bits(uint8_t *row, uint32_t to, const uint8_t *source, uint32_t from, uint32_t count, int in_one_row) {
     uint32_t end = to + count, first = (to + 7) / 8, last = end / 8, source_end = from + count;
     if (first > last) {
         fill_edge(row + last, mask(to % 8, end % 8), (uint8_t)(eight_bits(source, from, source_end) >> to % 8));
@@ -100,16 +122,20 @@ static void copy_bits(uint8_t *row, uint32_t to, const uint8_t *source, uint32_t
         fill_edge(row + first - 1, mask(to % 8, 8), (uint8_t)(eight_bits(source, from, source_end) >> to % 8));
     }
     uint32_t at = from + 8 * first - to;
+    if (in_one_row) {
+        move_left(row + first, at / 8 - first, last - first, at % 8);
+    } else {
+        copy_shifted(row + first, source + at / 8, last - first, at % 8);
+    }
     if (end % 8 > 0) {
         fill_edge(row + last, mask(0, end % 8), eight_bits(source, at + 8 * (last - first), source_end));
     }
-    copy_shifted(row + first, source + at / 8, last - first, at % 8);
 }
 
-// Combines bits of another row with those of a row: copies, and else bit by bit.
-CALLED static void combine(uint8_t *row, uint32_t to, const uint8_t *source, uint32_t from, uint32_t count, uint8_t minterm) {
+// Combines bits of another row, or further right in one row, with those of a row: copies, and else bit by bit.
+INLINED void combine_bits(uint8_t *row, uint32_t to, const uint8_t *source, uint32_t from, uint32_t count, uint8_t minterm, int in_one_row) {
     if (minterm == 0xc0) {
-        copy_bits(row, to, source, from, count);
+        copy_bits(row, to, source, from, count, in_one_row);
         return;
     }
     for (uint32_t i = 0; i < count; i++) {
@@ -117,6 +143,14 @@ CALLED static void combine(uint8_t *row, uint32_t to, const uint8_t *source, uin
         int made = minterm >> (4 + 2 * bit_of(source, from + i) + bit_of(row, x)) & 1;
         fill_edge(row + x / 8, (uint8_t)(128 >> x % 8), made ? 0xff : 0);
     }
+}
+
+CALLED static void combine(uint8_t *row, uint32_t to, const uint8_t *source, uint32_t from, uint32_t count, uint8_t minterm) {
+    combine_bits(row, to, source, from, count, minterm, 0);
+}
+
+CALLED static void combine_to_the_left(uint8_t *row, uint32_t to, uint32_t from, uint32_t count, uint8_t minterm) {
+    combine_bits(row, to, row, from, count, minterm, 1);
 }
 
 void loop_fill(uint8_t *row, const uint8_t *source, uint32_t bytes) {
@@ -147,11 +181,9 @@ void loop_copy_across(uint8_t *restrict row, const uint8_t *restrict source, uin
     combine(row, 3, source, 0, 8 * bytes, 0xc0);
 }
 
-void loop_shift_to_the_left(uint8_t *row, const uint8_t *source, uint32_t bytes) {
+void loop_copy_to_the_left(uint8_t *row, const uint8_t *source, uint32_t bytes) {
     (void)source;
-    for (uint32_t i = 0; i < bytes; i++) {
-        row[i] = (uint8_t)(row[i] << 5 | row[i + 1] >> 3);
-    }
+    combine_to_the_left(row, 3, 8, 8 * bytes, 0xc0);
 }
 
 void loop_shift_to_the_right(uint8_t *row, const uint8_t *source, uint32_t bytes) {

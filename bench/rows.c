@@ -89,7 +89,7 @@ static row_loop loop_for(const struct work *work) {
         case COMBINE:
             return loop_copy_across;
         case WITHIN_TO_THE_LEFT:
-            return loop_shift_to_the_left;
+            return loop_copy_to_the_left;
         case WITHIN_TO_THE_RIGHT:
             return loop_shift_to_the_right;
         }
