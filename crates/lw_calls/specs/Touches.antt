@@ -48,6 +48,21 @@ class_of (Scroll slot dx dy) = OnLayer slot
 class_of (SetTitle slot title) = OnLayer slot
 class_of (TakeMessage slot) = OnLayer slot
 
+-- The call is an arrangement (Layers, and Intuition's windows): it may change which layers there are, their order, their bounds, or which
+-- window is active.
+abbrev pub is_arrangement : Call → Bool
+is_arrangement (Create slot make) = true
+is_arrangement (OpenWindow slot make framed nocare asks title) = true
+is_arrangement (Close slot) = true
+is_arrangement (ToFront slot) = true
+is_arrangement (ToBack slot) = true
+is_arrangement (InFrontOf slot other) = true
+is_arrangement (MoveBy slot dx dy) = true
+is_arrangement (SizeBy slot dw dh) = true
+is_arrangement (SetBox slot x y w h) = true
+is_arrangement (Activate slot) = true
+is_arrangement call = false
+
 -- the slots of a class of calls
 abbrev pub slots_in : CallClass → Slots
 slots_in OnRegisters = Nothing

@@ -10,8 +10,7 @@ use Rattle.lw_machine.specs.Desk.{Desk}
 use Rattle.lw_machine.specs.Kept.{is_visible, is_kept, is_inside}
 use Rattle.lw_machine.specs.Blits.{scrolled_mark}
 use Rattle.lw_machine.specs.Reveal.{across, counts_as_kept}
-use Rattle.lw_calls.specs.Touches.{slots_of}
-use Rattle.lw_calls.specs.Plan.{is_all}
+use Rattle.lw_calls.specs.Touches.{is_arrangement}
 use Rattle.lw_machine.specs.Step.{refusal, after}
 
 -- which pixels of which slot's layer are hurt
@@ -30,7 +29,7 @@ abbrev pub hurt_by_call : Desk → Desk → ℕ → Layer → Call → (ℕ → 
 hurt_by_call d e s l (ScrollRaster slot dx dy rect) hurt x y =
     if slot == s then scrolled_mark (is_visible d s l) dx dy rect l hurt x y else hurt x y
 hurt_by_call d e s l (EndRefresh slot full) hurt x y = if (slot == s) && full then false else hurt x y
-hurt_by_call d e s l call hurt x y = if is_all (slots_of call) then not (counts_as_kept (across d e s) l x y) || hurt x y else hurt x y
+hurt_by_call d e s l call hurt x y = if is_arrangement call then not (counts_as_kept (across d e s) l x y) || hurt x y else hurt x y
 
 -- What is hurt after a call that was done, by what the slot had before: of a layer that the call created nothing is.
 abbrev pub hurt_in_slot : Desk → Desk → ℕ → Slot → Call → (ℕ → ℕ → Bool) → ℕ → ℕ → Bool

@@ -1,10 +1,9 @@
 -- What the machine's definitions promise.
 use Rattle.std.specs.Prelude.{◌≡◌, ℕ, ◌<◌, Bool, true, false, List, pos, Option, Some, All, IsTrue}
 use Rattle.lw_region.specs.Rectangle.{Rectangle}
-use Rattle.lw_planes.specs.Grid.{at}
 use Rattle.lw_planes.specs.Bitmap.{pen_at}
 use Rattle.lw_calls.specs.declared.sizes.Sizes.{Sizes}
-use Rattle.lw_calls.specs.declared.make.Kind.TheVariants.{Simple, Smart, SuperBitmap}
+use Rattle.lw_calls.specs.declared.make.Kind.TheVariants.{Smart, SuperBitmap}
 use Rattle.lw_calls.specs.declared.call.Call.{Call}
 use Rattle.lw_calls.specs.declared.reply.Reply.{Reply}
 use Rattle.lw_calls.specs.declared.reply.Reply.TheVariants.{Done, Pen, Outside, Nothing, Layer as LayerFound, Rects, Got, NotOpen, AlreadyOpen, NotWindow, NotOwner, Backdrop, NotSuper, InUpdate, NotInUpdate, OutOfBounds, TooManyRects}
@@ -22,7 +21,6 @@ use Rattle.lw_calls.specs.Touches.{touch_of, touches_role, slots_of}
 use Rattle.lw_calls.specs.Plan.{is_all}
 use Rattle.lw_machine.specs.History.{machine}
 use Rattle.lw_machine.specs.Parts.{HaveSame, AgreeOn}
-use Rattle.lw_machine.specs.Hurt.{is_hurt}
 use Rattle.lw_machine.specs.Sound.{IsDesk}
 
 -- Topmost: the screen has at each place the pen of the top layer's pixel there, or 0 where there is no layer.
@@ -56,12 +54,6 @@ NothingIsLost =
 abbrev pub ReachedDesksAreSound : Type 0
 ReachedDesksAreSound =
     (sizes : Sizes) (assets : Assets) (shelf : ℕ → Option Hook) (es : List Entry) → IsWithinLimits sizes → All (λ e. IsTrue (call_fits sizes e.call)) es → IsDesk (machine (empty_desk sizes assets shelf) es)
-
--- Damage is its history: in every desk that a history of calls that fit reaches, exactly those pixels of a simple layer are
--- damaged that are hurt by the history.
-abbrev pub DamageIsItsHistory : Type 0
-DamageIsItsHistory =
-    (sizes : Sizes) (assets : Assets) (shelf : ℕ → Option Hook) (es : List Entry) (s : ℕ) (l : Layer) (x y : ℕ) → IsWithinLimits sizes → All (λ e. IsTrue (call_fits sizes e.call)) es → (machine (empty_desk sizes assets shelf) es).slot s ≡ Live l → l.kind ≡ Simple → at false l.damage x y ≡ is_hurt (empty_desk sizes assets shelf) es s x y
 
 -- A step leaves each part that its call doesn't touch.
 abbrev pub StepsLeaveTheRest : Type 0
