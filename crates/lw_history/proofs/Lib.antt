@@ -1,0 +1,6 @@
+mod Told
+mod CallTold
+mod ArrangementTold
+mod HistoryTold
+mod ScrollTold
+mod RunTold

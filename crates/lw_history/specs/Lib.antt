@@ -1,0 +1,3 @@
+pub mod ByHistory
+pub mod Scrolls
+pub mod Laws
