@@ -1,0 +1,5 @@
+mod BandCorners
+mod CornerCount
+mod CutCorners
+mod UnderCovers
+mod OnDesks
