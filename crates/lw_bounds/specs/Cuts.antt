@@ -25,8 +25,8 @@ pub record IsVisible (bounds : Rectangle) (test : ℤ → ℤ → Bool) (visible
 abbrev pub rectangle_count : Rectangle → List Rectangle → ℕ
 rectangle_count bounds visible = length visible + length (hidden_of bounds visible)
 
--- Bounds in which what is visible changes at these columns and rows alone have, visible and hidden together, at most as many rectangles
--- as one more than the columns times one more than the rows.
+-- Bounds in which what is visible changes at these columns and rows alone have at most as many rectangles, visible and hidden
+-- together, as one more than the columns times one more than the rows.
 abbrev pub RectanglesUnderCutsAreFew : Type 0
 RectanglesUnderCutsAreFew =
     (bounds : Rectangle) (columns rows : List ℤ) (test : ℤ → ℤ → Bool) (visible : List Rectangle)

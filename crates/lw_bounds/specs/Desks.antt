@@ -17,8 +17,8 @@ in_front_of s (t ∷ ts) = if t == s then [] else t ∷ in_front_of s ts
 abbrev pub front_count : Desk → ℕ → ℕ
 front_count d s = length (in_front_of s d.front_to_back)
 
--- A layer of a sound desk with n layers in front of it has at most (2n + 1) (2n + 1) rectangles, visible and hidden together, where the
--- visible ones are the canonical list of the places on which it is shown.
+-- A layer of a sound desk with n layers in front of it has at most (2n + 1) (2n + 1) rectangles, visible and hidden together, where
+-- the visible ones are the canonical list of the places on which it is shown.
 abbrev pub RectanglesAreFew : Type 0
 RectanglesAreFew =
     (d : Desk) (s : ℕ) (bounds : Rectangle) (visible : List Rectangle) → IsDesk d → d.bounds s ≡ Some bounds → IsCanonical visible

@@ -1,8 +1,8 @@
 ghost use Rattle.lw_bounds.specs.Cuts.{RectanglesUnderCutsAreFew, RectanglesUnderCoversAreFew};
 ghost use Rattle.lw_bounds.specs.Desks.{RectanglesAreFew};
 
-/// Where the visible pixels of some bounds change at these columns and rows alone, visible and hidden rectangles together are at most
-/// the product of one more than each number.
+/// Where the visible pixels of some bounds change at these columns and rows alone, visible and hidden rectangles together are at
+/// most the product of one more than each number.
 pub fn rectangles_under_cuts_are_few()
     ensures { RectanglesUnderCutsAreFew }
 {}

@@ -1,5 +1,5 @@
-//! How many rectangles a layer is cut into: laws that bound their number by the number of layers in front. Each function does nothing,
-//! and its contract is the law.
+//! How many rectangles a layer is cut into: laws that bound their number by the number of layers in front. Each function does
+//! nothing, and its contract is the law.
 #![tactic(auto)]
 
 mod laws;

@@ -30,14 +30,19 @@ hurt_set hurt s l = pixels_where l.bits.width l.bits.height (hurt s)
 abbrev pub seen_by_history : Desk → Hurts → ℕ → Slot → Option Seen
 seen_by_history d hurt s Unopened = None
 seen_by_history d hurt s (Live l) =
-    Some (record { visible = bands (shown_set d s); damage = bands (damage_as l.kind (hurt_set hurt s l) (damage_set l)); messages = port_of l.window })
+    Some (record {
+      visible = bands (shown_set d s);
+      damage = bands (damage_as l.kind (hurt_set hurt s l) (damage_set l));
+      messages = port_of l.window;
+    })
 seen_by_history d hurt s Closed = None
 
--- What the machine's run of a plan in an order leaves, with these hooks, and with the damage of simple layers told by the history of
--- that order.
+-- What the machine's run of a plan in an order leaves, with these hooks, and with the damage of simple layers told by the history
+-- of that order.
 abbrev pub final_by_history : Plan → List Hook → List ℕ → Final
 final_by_history plan hooks order =
     let d = opening_desk plan hooks in
     let es = entries plan [] order in
     let last = machine d es in
-    record (run_final plan hooks order) { slots = map (λ s. seen_by_history last (is_hurt d es) s (last.slot s)) (range_with_len 0 last.sizes.slots) }
+    let seen = λ (s : ℕ). seen_by_history last (is_hurt d es) s (last.slot s) in
+    record (run_final plan hooks order) { slots = map seen (range_with_len 0 last.sizes.slots) }

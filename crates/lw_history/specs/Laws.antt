@@ -24,21 +24,23 @@ use Rattle.lw_history.specs.Scrolls.{hurt_by_scroll}
 -- damaged that are hurt by the history.
 abbrev pub DamageIsItsHistory : Type 0
 DamageIsItsHistory =
-    (sizes : Sizes) (assets : Assets) (shelf : ℕ → Option Hook) (es : List Entry) (s : ℕ) (l : Layer) (x y : ℕ) → IsWithinLimits sizes
-    → All (λ e. IsTrue (call_fits sizes e.call)) es
+    (sizes : Sizes) (assets : Assets) (shelf : ℕ → Option Hook) (es : List Entry) (s : ℕ) (l : Layer) (x y : ℕ)
+    → IsWithinLimits sizes → All (λ e. IsTrue (call_fits sizes e.call)) es
     → (machine (empty_desk sizes assets shelf) es).slot s ≡ Live l → l.kind ≡ Simple
     → at false l.damage x y ≡ is_hurt (empty_desk sizes assets shelf) es s x y
 
 -- What is hurt after a history goes by its last entry, on the desk before that one and from what was hurt before it.
 abbrev pub TheLastEntryTells : Type 0
 TheLastEntryTells =
-    (d : Desk) (es : List Entry) (e : Entry) → is_hurt d (es ++ e ∷ []) ≡ hurt_after_step (machine d es) e.task e.call (is_hurt d es)
+    (d : Desk) (es : List Entry) (e : Entry)
+    → is_hurt d (es ++ e ∷ []) ≡ hurt_after_step (machine d es) e.task e.call (is_hurt d es)
 
 -- What a ScrollRaster that was done, between the desks d and e, leaves hurt of the layer l in slot s.
 abbrev pub ScrollsHurtWhatTheyBring : Type 0
 ScrollsHurtWhatTheyBring =
     (d e : Desk) (s slot : ℕ) (l : Layer) (dx dy : ℤ) (rect : Rectangle) (hurt : ℕ → ℕ → Bool) (x y : ℕ)
-    → hurt_by_call d e s l (ScrollRaster slot dx dy rect) hurt x y ≡ (if slot == s then hurt_by_scroll (is_visible d s l) dx dy rect l hurt x y else hurt x y)
+    → hurt_by_call d e s l (ScrollRaster slot dx dy rect) hurt x y
+    ≡ (if slot == s then hurt_by_scroll (is_visible d s l) dx dy rect l hurt x y else hurt x y)
 
 -- The final state of a run of a plan, and its report, are those with the damage that the history of the order tells.
 pub record TellsDamageByHistory (plan : Plan) (hooks : List Hook) (order : List ℕ) : Type 0 where

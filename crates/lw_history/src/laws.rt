@@ -1,6 +1,7 @@
 ghost use Rattle.lw_history.specs.Laws.{DamageIsItsHistory, TheLastEntryTells, ScrollsHurtWhatTheyBring, RunsTellDamageByHistory};
 
-/// In every desk that a history of calls that fit reaches, exactly those pixels of a simple layer are damaged that the history hurts.
+/// In every desk that a history of calls that fit reaches, exactly those pixels of a simple layer are damaged that the history
+/// hurts.
 pub fn damage_is_its_history()
     ensures { DamageIsItsHistory }
 {}
@@ -10,14 +11,14 @@ pub fn the_last_entry_tells()
     ensures { TheLastEntryTells }
 {}
 
-/// What a ScrollRaster leaves hurt of its layer: a drawable pixel of the rectangle to which a pixel of the rectangle is brought is hurt
-/// where that one wasn't kept or was hurt, and any other as before.
+/// What a ScrollRaster leaves hurt of its layer: a drawable pixel of the rectangle to which a pixel of the rectangle is brought is
+/// hurt where that one wasn't kept or was hurt, and any other as before.
 pub fn scrolls_hurt_what_they_bring()
     ensures { ScrollsHurtWhatTheyBring }
 {}
 
-/// The final state of a plan's run in an order, and its report, have of each simple layer the damage that the history of that order
-/// hurts.
+/// The final state of a plan's run in an order, and its report, have of each simple layer the damage that the history of that
+/// order hurts.
 pub fn runs_tell_damage_by_history()
     ensures { RunsTellDamageByHistory }
 {}
