@@ -13,3 +13,4 @@ pub mod FinishedLast
 pub mod ArrangingLists
 pub mod ArrangingDesks
 pub mod HookLaws
+pub mod FewRectangles

@@ -1,4 +1,5 @@
 pub mod Desks
+pub mod Counted
 pub mod Layers
 pub mod Slots
 pub mod Finished

@@ -6,6 +6,7 @@
 
 mod all_layers;
 mod finishing;
+mod laws;
 mod layer_engine;
 mod layer_info;
 mod opening;
@@ -15,6 +16,7 @@ mod window_after;
 
 pub use all_layers::on_all;
 pub use finishing::finish;
+pub use laws::cells_have_few_rectangles;
 pub use layer_engine::LayerEngine;
 pub use layer_info::LayerInfo;
 pub use opening::Opened;

@@ -1,5 +1,6 @@
 mod AnswerLaws
 mod BadPlaces
+mod DamageTold
 mod LegalOrders
 mod OrderLength
 mod Outcomes

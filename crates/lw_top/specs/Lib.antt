@@ -1,4 +1,5 @@
 pub mod Commands
+pub mod Damage
 pub mod Laws
 pub mod Outcome
 pub mod Run

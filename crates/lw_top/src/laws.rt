@@ -1,5 +1,6 @@
 //! Laws of a run and of its answers: each function does nothing, and its contract is the law.
 
+ghost use Rattle.lw_top.specs.Damage.{TextsTellDamageByHistory};
 ghost use Rattle.lw_top.specs.Laws.{AnswersTell, OutcomesAreDecided};
 ghost use Rattle.lw_top.specs.Run.{CallsStandOnce, OneTaskHasOneOrder, ReportsTellTheirOrder};
 
@@ -27,4 +28,10 @@ pub fn outcomes_are_decided()
 /// comes unless a stream failed or memory ran out; and both of all that a source had left, where it exposes its bytes.
 pub fn answers_tell()
     ensures { AnswersTell }
+{}
+
+/// A report that is due for `run` or `replay` has of each simple layer the damage that is told by the history of the order that it
+/// prints.
+pub fn texts_tell_damage_by_history()
+    ensures { TextsTellDamageByHistory }
 {}

@@ -35,7 +35,7 @@ mod words;
 pub use command::layers;
 pub use laws::{
     answers_tell, calls_stand_once_and_in_order, one_task_has_one_order, outcomes_are_decided,
-    reports_tell_their_order,
+    reports_tell_their_order, texts_tell_damage_by_history,
 };
 pub use lw_backfill::Backfill;
 pub use lw_calls::Reason;
