@@ -1,4 +1,5 @@
--- Words of this crate's private contracts: bounds that a call asks for, before they are known to lie on the screen (the manual's
+-- For private contracts.
+-- Bounds that a call asks for, before they are known to lie on the screen (the manual's
 -- Layers Library chapter; which bounds a layer may have is this project's own).
 use Rattle.std.specs.Prelude.{ℕ, Bool, true, ◌&&◌, if◌then◌else◌, ℤ, pos, ◌+ℤ◌, ◌-ℤ◌, int_le}
 use Rattle.lw_region.specs.Rectangle.{Rectangle, IsOrdered, HasWords, within, moved_by}

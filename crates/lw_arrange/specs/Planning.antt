@@ -1,4 +1,5 @@
--- Words of this crate's private contracts: what planning makes of LayerInfo and of what is told of each slot, with no desk at hand.
+-- For private contracts.
+-- What planning makes of LayerInfo and of what is told of each slot, with no desk at hand.
 -- Its proofs show that this is what the machine's definitions say of a desk for which they stand.
 use Rattle.std.specs.Prelude.{ℕ, ◌==◌, Bool, true, false, not, ◌&&◌, if◌then◌else◌, List, ◌∷◌, Option, Some, None}
 use Rattle.std.specs.List.{slice_index_or, slice_set}

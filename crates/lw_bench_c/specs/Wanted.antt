@@ -1,3 +1,4 @@
+-- For private contracts.
 -- What the operations of the benchmarks make.
 use Rattle.std.specs.Prelude.{List}
 use Rattle.lw_region.specs.Rectangle.{Rectangle}

@@ -1,4 +1,5 @@
--- What a blit makes of a layer's bits (the manual's Graphics Primitives chapter). Words of this crate's private contracts.
+-- For private contracts.
+-- What a blit makes of a layer's bits (the manual's Graphics Primitives chapter).
 use Rattle.std.specs.Prelude.{◌≡◌, ℕ, ◌+◌, ◌-◌, ◌<◌, Bool, true, false, nat_lt, ◌==◌, not, ◌&&◌, ◌||◌, if◌then◌else◌, List, [], ℤ, pos, negsuc, ◌+ℤ◌, ◌-ℤ◌, ◌≤ℤ◌, int_le}
 use Rattle.std.specs.Int.{bit_at}
 use Rattle.std.specs.List.{slice_index_or}

@@ -1,4 +1,5 @@
--- Words of this crate's private contracts alone: what a row of pixels and a rectangle have in common.
+-- For private contracts.
+-- What a row of pixels and a rectangle have in common.
 use Rattle.std.specs.Prelude.{◌≡◌, ℕ, ◌+◌, ◌<◌, ◌≤◌, ℤ, pos, ◌+ℤ◌, ◌≤ℤ◌}
 use Rattle.lw_region.specs.Rectangle.{Rectangle, has_pixel}
 use Rattle.lw_kernels.specs.Kernel.{is_named}

@@ -1,3 +1,4 @@
+-- Worked cases.
 -- Plans that blit several rows, into clip regions and within updates, and their reports.
 use Rattle.std.specs.Prelude.{ℕ, true, List, [], ◌∷◌, ◌++◌, pos, codes}
 use Rattle.lw_planes.specs.Bitmap.{Bitmap}

@@ -1,3 +1,4 @@
+-- Worked cases.
 -- Plans that blit bitmaps and layers into layers, and their reports.
 use Rattle.std.specs.Prelude.{ℕ, List, [], ◌∷◌, ◌++◌, pos, neg_ℤ, codes}
 use Rattle.lw_planes.specs.Bitmap.{Bitmap}

@@ -1,3 +1,4 @@
+-- Worked cases.
 -- Plans that draw, and their reports.
 use Rattle.std.specs.Prelude.{ℕ, List, [], ◌∷◌, ◌++◌, pos, codes}
 use Rattle.lw_calls.specs.declared.make.Kind.TheVariants.{Smart}

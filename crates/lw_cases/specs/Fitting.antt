@@ -1,3 +1,4 @@
+-- Worked cases.
 -- The worked plans, and the test that a plan's calls and groups fit its sizes.
 use Rattle.std.specs.Prelude.{Bool, ◌&&◌, List, [], ◌∷◌, ◌++◌}
 use Rattle.std.specs.List.{list_all, range_with_len}

@@ -1,3 +1,4 @@
+-- Worked cases.
 -- Plans of framed windows, parts of which are filled, and their reports.
 use Rattle.std.specs.Prelude.{ℕ, true, false, List, [], ◌∷◌, ◌++◌, replicate, pos, neg_ℤ, Some, codes}
 use Rattle.lw_calls.specs.declared.make.Kind.TheVariants.{Simple, Smart}

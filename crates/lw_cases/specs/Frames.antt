@@ -1,3 +1,4 @@
+-- Worked cases.
 -- Plans of framed windows that become active and inactive, and their reports.
 use Rattle.std.specs.Prelude.{ℕ, true, List, [], ◌∷◌, ◌++◌, pos, neg_ℤ, Option, codes}
 use Rattle.lw_calls.specs.declared.make.Kind.TheVariants.{Simple, Smart}

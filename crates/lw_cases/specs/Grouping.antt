@@ -1,3 +1,4 @@
+-- Worked cases.
 -- Calls that are to stand in a group, and the worked plans of arrangements and damage.
 use Rattle.std.specs.Prelude.{ℕ, ◌-◌, Bool, List, [], ◌∷◌, length}
 use Rattle.lw_calls.specs.declared.call.Call.{Call}

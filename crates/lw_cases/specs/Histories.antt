@@ -1,3 +1,4 @@
+-- Worked cases.
 -- Damage that is told by the history, beside the damage that the machine keeps.
 use Rattle.std.specs.Prelude.{◌≡◌, ℕ, List, []}
 use Rattle.lw_region.specs.Pixels.{Pixel}

@@ -1,3 +1,4 @@
+-- Worked cases.
 -- Plans that draw on new layers, and their reports.
 use Rattle.std.specs.Prelude.{ℕ, true, false, List, [], ◌∷◌, ◌++◌, pos, Some, codes}
 use Rattle.lw_calls.specs.declared.make.Kind.TheVariants.{Smart}

@@ -1,3 +1,4 @@
+-- Worked cases.
 -- A plan of calls on layers that are not open, and its report.
 use Rattle.std.specs.Prelude.{ℕ, true, List, [], ◌∷◌, ◌++◌, pos, codes}
 use Rattle.std.specs.List.{flat_map, range_with_len}

@@ -1,3 +1,4 @@
+-- Worked cases.
 -- Plans of two tasks, and what the definitions say of their orders.
 use Rattle.std.specs.Prelude.{ℕ, List, [], ◌∷◌, ◌++◌, pos, codes}
 use Rattle.lw_calls.specs.declared.operation.RectOp.TheVariants.{Or as OrRect}

@@ -1,3 +1,4 @@
+-- Worked cases.
 -- A plan in which much is done beside a layer's damage that doesn't change it.
 use Rattle.std.specs.Prelude.{ℕ, true, false, List, [], ◌∷◌, codes}
 use Rattle.lw_calls.specs.declared.operation.RectOp.TheVariants.{Or as OrRect}

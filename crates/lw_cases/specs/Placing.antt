@@ -1,3 +1,4 @@
+-- Worked cases.
 -- Plans that give layers their places, and their reports.
 use Rattle.std.specs.Prelude.{ℕ, true, false, List, [], ◌∷◌, ◌++◌, pos, neg_ℤ, Some, codes}
 use Rattle.lw_calls.specs.declared.make.Kind.TheVariants.{Simple, Smart}

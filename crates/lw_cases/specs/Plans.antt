@@ -1,3 +1,4 @@
+-- Worked cases.
 -- The small words of worked plans: a plan of one task, the lines of its report, hooks and glyphs, and calls as a script
 -- spells them.
 use Rattle.std.specs.Prelude.{ℕ, ◌+◌, ◌-◌, ◌%◌, ◌==◌, Bool, true, false, if◌then◌else◌, List, [], ◌∷◌, ◌++◌, map, length, take, drop, replicate, ℤ, pos, None, Some, codes}

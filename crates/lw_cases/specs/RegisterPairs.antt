@@ -1,3 +1,4 @@
+-- Worked cases.
 -- A plan that joins full registers, and its report.
 use Rattle.std.specs.Prelude.{ℕ, List, [], ◌∷◌, ◌++◌, codes}
 use Rattle.lw_calls.specs.declared.operation.RectOp.TheVariants.{Or as OrRect, Clear as ClearRect}

@@ -1,3 +1,4 @@
+-- Worked cases.
 -- Plans that join region registers and clip layers by them, and their reports.
 use Rattle.std.specs.Prelude.{ℕ, ◌+◌, ◌*◌, List, [], ◌∷◌, ◌++◌, map, codes}
 use Rattle.std.specs.List.{range_with_len}

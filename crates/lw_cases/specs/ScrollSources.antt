@@ -1,3 +1,4 @@
+-- Worked cases.
 -- A plan that scrolls rectangles of a layer with a clip region, and its report.
 use Rattle.std.specs.Prelude.{ℕ, List, [], ◌∷◌, ◌++◌, pos, neg_ℤ, codes}
 use Rattle.lw_calls.specs.declared.operation.RectOp.TheVariants.{Or as OrRect}

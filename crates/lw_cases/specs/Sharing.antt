@@ -1,3 +1,4 @@
+-- Worked cases.
 -- Plans of two tasks on each other's windows, and their reports.
 use Rattle.std.specs.Prelude.{ℕ, false, List, [], ◌∷◌, ◌++◌, replicate, pos, codes}
 use Rattle.lw_calls.specs.declared.make.Kind.TheVariants.{Smart, SuperBitmap}

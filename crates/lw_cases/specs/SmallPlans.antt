@@ -1,3 +1,4 @@
+-- Worked cases.
 -- Plans of two tasks on one layer, as the tests make them.
 use Rattle.std.specs.Prelude.{Bool, ◌&&◌, nat_le, List, length}
 use Rattle.std.specs.List.{list_all}

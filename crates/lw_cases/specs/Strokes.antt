@@ -1,3 +1,4 @@
+-- Worked cases.
 -- Plans that draw lines and letters from the cursor, and their reports.
 use Rattle.std.specs.Prelude.{ℕ, true, List, [], ◌∷◌, ◌++◌, pos, neg_ℤ, codes}
 use Rattle.lw_calls.specs.declared.operation.RectOp.TheVariants.{Or as OrRect}

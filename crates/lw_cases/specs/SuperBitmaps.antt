@@ -1,3 +1,4 @@
+-- Worked cases.
 -- Plans with super-bitmap layers, and their reports.
 use Rattle.std.specs.Prelude.{ℕ, true, false, List, [], ◌∷◌, ◌++◌, pos, neg_ℤ, codes}
 use Rattle.lw_calls.specs.declared.make.Kind.TheVariants.{Smart, SuperBitmap}

@@ -1,3 +1,4 @@
+-- Worked cases.
 -- A plan with a window that is told of all but its damage, and its report.
 use Rattle.std.specs.Prelude.{ℕ, true, false, List, [], ◌∷◌, ◌++◌, pos, codes}
 use Rattle.lw_calls.specs.declared.make.Kind.TheVariants.{Smart}

@@ -1,4 +1,5 @@
--- The pixels of a line, row by row: words of this crate's private contracts.
+-- For private contracts.
+-- The pixels of a line, row by row.
 use Rattle.std.specs.Prelude.{ℕ, Bool, not, ◌&&◌, ℤ, pos, int_le}
 use Rattle.std.specs.Int.{int_min, int_max}
 use Rattle.lw_region.specs.Rectangle.{within}

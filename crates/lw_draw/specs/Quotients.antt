@@ -1,4 +1,5 @@
--- A quotient that is stepped: words of this crate's private contracts.
+-- For private contracts.
+-- A quotient that is stepped.
 use Rattle.std.specs.Prelude.{◌≡◌, ℕ, ◌+◌, ◌*◌}
 use Rattle.lw_draw.specs.declared.quotients.Quotient.{Quotient}
 

@@ -1,4 +1,5 @@
--- A line on its way from row to row: words of this crate's private contracts.
+-- For private contracts.
+-- A line on its way from row to row.
 use Rattle.std.specs.Prelude.{◌≡◌, ℕ, ◌+◌, ◌-◌, ◌*◌, ◌<◌, ◌≤◌, nat_le, ℤ, ◌-ℤ◌, unsigned_abs}
 use Rattle.lw_machine.specs.Shapes.{line_offset}
 use Rattle.lw_draw.specs.declared.quotients.Quotient.{Quotient}

@@ -1,4 +1,5 @@
--- Words of this crate's private contracts: the screen that the cells of all slots show, slot by slot.
+-- For private contracts.
+-- The screen that the cells of all slots show, slot by slot.
 use Rattle.std.specs.Prelude.{◌≡◌, ℕ, ◌<◌, nat_lt, if◌then◌else◌, List, ℤ, pos, Option, Some, None}
 use Rattle.lw_planes.specs.Bitmap.{Bitmap, bitmap}
 use Rattle.lw_calls.specs.declared.sizes.Sizes.{Sizes}

@@ -1,4 +1,5 @@
--- What a fill with a hook makes of a layer's bits. Words of this crate's private contracts.
+-- For private contracts.
+-- What a fill with a hook makes of a layer's bits.
 use Rattle.std.specs.Prelude.{◌≡◌, ℕ, ◌-◌, ◌%◌, ◌<◌, Bool, ◌&&◌, List, [], pos}
 use Rattle.std.specs.Int.{bit_at}
 use Rattle.std.specs.List.{slice_index_or}

@@ -1,4 +1,5 @@
--- Words of this crate's private contracts alone.
+-- For private contracts.
+-- What the code of a cell is told of places, buffers and runs.
 use Rattle.std.specs.Prelude.{◌≡◌, ℕ, ◌+◌, ◌<◌, ◌≤◌, Bool, true, false, not, ◌&&◌, ◌||◌, ℤ, pos, ◌≤ℤ◌, Option, Some, None, length}
 use Rattle.lw_region.specs.Bands.{covers}
 use Rattle.lw_machine.specs.Kept.{in_clip}

@@ -1,4 +1,5 @@
--- Words of this crate's private contracts alone: drafts once bytes were written into one of their buffers, and what lends its
+-- For private contracts.
+-- Drafts once bytes were written into one of their buffers, and what lends its
 -- rows.
 use Rattle.std.specs.Prelude.{◌≡◌, ℕ, ◌-◌, ◌<◌, nat_lt, if◌then◌else◌, List, length, Option, Some, None}
 use Rattle.std.specs.Borrow.{Lends, MutBor, Fml, Array, u8}

@@ -1,3 +1,4 @@
+-- For private contracts.
 -- The line of a creation or an opening in parts.
 use Rattle.std.specs.Prelude.{ℕ, List, ◌∷◌, Option, None, option_and_then}
 use Rattle.lw_region.specs.Rectangle.{Rectangle}

@@ -1,3 +1,4 @@
+-- For private contracts.
 -- The lines of blits and of scrollraster in parts.
 use Rattle.std.specs.Prelude.{ℤ, ℕ, List, [], ◌∷◌, Option, None, option_map, option_and_then}
 use Rattle.lw_region.specs.Rectangle.{Rectangle}

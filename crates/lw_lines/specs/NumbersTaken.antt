@@ -1,3 +1,4 @@
+-- For private contracts.
 -- Four numbers at the beginning of tokens.
 use Rattle.std.specs.Prelude.{List, [], ◌∷◌, Option, Some, None, option_and_then}
 use Rattle.lw_region.specs.Rectangle.{Rectangle}

@@ -1,3 +1,4 @@
+-- For private contracts.
 -- Families of verbs, by what stands after them.
 use Rattle.std.specs.Prelude.{Bool, true, false}
 use Rattle.lw_grammar.specs.declared.verb.Verb.{Verb}

@@ -1,3 +1,4 @@
+-- For private contracts.
 -- The steps on an order word: how a view is made, cut in two and joined, and what a seat learns.
 use Rattle.std.specs.Prelude.{◌≡◌, ℕ, List, [], All}
 use Rattle.lw_calls.specs.declared.sizes.Sizes.{Sizes}

@@ -1,4 +1,5 @@
--- Words of this crate's private contracts on windows.
+-- For private contracts.
+-- A window of another task, and the answer that gives a message away.
 use Rattle.std.specs.Prelude.{ℕ, ◌==◌, Bool, false, not, Option, Some, None}
 use Rattle.lw_calls.specs.declared.message.Message.{Message}
 use Rattle.lw_calls.specs.declared.reply.Reply.{Reply}

@@ -1,3 +1,4 @@
+-- For private contracts.
 -- A line as its first word and those after it, and the text of some lines.
 use Rattle.std.specs.Prelude.{ℕ, List, [], ◌∷◌, ◌++◌}
 use Rattle.std.specs.List.{flat_map}

@@ -1,3 +1,4 @@
+-- For private contracts.
 -- Families of calls by what their lines have after the first word.
 use Rattle.std.specs.Prelude.{Bool, true, false}
 use Rattle.lw_calls.specs.declared.call.Call.{Call}

@@ -1,3 +1,4 @@
+-- For private contracts.
 -- The lines around a call, where the groups that ended before it are left out: of the others the first alone can begin or end
 -- at it.
 use Rattle.std.specs.Prelude.{ℕ, ◌==◌, if◌then◌else◌, List, [], ◌∷◌, ◌++◌}

@@ -1,3 +1,4 @@
+-- For private contracts.
 -- The lines of a plan's glyphs and those of its bitmaps.
 use Rattle.std.specs.Prelude.{ℕ, ◌+◌, List, []}
 use Rattle.std.specs.List.{flat_map, range_with_len, slice_index_or}

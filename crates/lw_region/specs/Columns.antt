@@ -1,4 +1,5 @@
--- Words of this crate's private contracts alone: the rectangles of a band as runs of columns, and what the merge of two bands makes.
+-- For private contracts.
+-- The rectangles of a band as runs of columns, and what the merge of two bands makes.
 use Rattle.std.specs.Prelude.{◌≡◌, Bool, cond, List, [], ◌∷◌, ◌++◌, map, ℤ, pos, ◌+ℤ◌, int_le}
 use Rattle.lw_region.specs.declared.operation.Operation.{Operation}
 use Rattle.lw_region.specs.Rectangle.{Rectangle}

@@ -1,3 +1,4 @@
+-- For private contracts.
 -- The set operations by name: on sets, and as rules on whether one pixel is in either set.
 use Rattle.std.specs.Prelude.{Bool, ◌&&◌, ◌||◌, not, List}
 use Rattle.lw_region.specs.declared.operation.Operation.{Operation}

@@ -1,4 +1,5 @@
--- Words of this crate's private contracts alone: the rectangles of a region as bands of rows, and the sweep over the rows of two regions.
+-- For private contracts.
+-- The rectangles of a region as bands of rows, and the sweep over the rows of two regions.
 use Rattle.std.specs.Prelude.{ℕ, Bool, true, false, cond, ◌&&◌, Option, Some, None, List, [], ◌∷◌, ◌++◌, map, take, drop, length, ℤ, pos, ◌+ℤ◌, int_lt, int_le, nat_lt}
 use Rattle.std.specs.List.{prefix_len, between}
 use Rattle.std.specs.Int.{int_max}

@@ -1,3 +1,4 @@
+-- For private contracts.
 -- Words of the report and what stands after them.
 use Rattle.std.specs.Prelude.{ℕ, List, [], ◌∷◌, ◌++◌, codes, length}
 use Rattle.std.specs.List.{flat_map, slice_index_or}

@@ -1,4 +1,5 @@
--- Words of this crate's private contracts: pens that are carried into a new buffer row by row.
+-- For private contracts.
+-- Pens that are carried into a new buffer row by row.
 use Rattle.std.specs.Prelude.{◌≡◌, ℕ, ◌<◌, ◌≤◌, false, Bool, if◌then◌else◌, List, ◌++◌, length, pos}
 use Rattle.std.specs.Int.{bit_at}
 use Rattle.std.specs.List.{All, slice_index_or}

@@ -1,4 +1,5 @@
--- Words of this crate's private contracts: the damage of a layer that gets other bounds or another visible region, pixel by pixel
+-- For private contracts.
+-- The damage of a layer that gets other bounds or another visible region, pixel by pixel
 -- in layer coordinates (the manual's Layers Library chapter: the damage list).
 use Rattle.std.specs.Prelude.{◌≡◌, Bool, not, ◌&&◌, List, ℤ, Option}
 use Rattle.lw_region.specs.Rectangle.{Rectangle}

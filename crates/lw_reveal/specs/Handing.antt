@@ -1,4 +1,5 @@
--- Words of this crate's private contracts: former buffers that are handed over in the place of new ones, and an own bitmap that
+-- For private contracts.
+-- Former buffers that are handed over in the place of new ones, and an own bitmap that
 -- has all pens of its layer.
 use Rattle.std.specs.Prelude.{◌≡◌, ℕ, ◌<◌, List, [], ◌∷◌, length, slice_set, Option, Some, None}
 use Rattle.std.specs.List.{slice_index_or}

@@ -1,4 +1,5 @@
--- Words of this crate's private contracts: which former rectangles are new ones, moved with the bounds.
+-- For private contracts.
+-- Which former rectangles are new ones, moved with the bounds.
 use Rattle.std.specs.Prelude.{◌≡◌, ℕ, ◌<◌, true, false, List, length, pos, negsuc, ◌-ℤ◌, ◌≤ℤ◌, Some, None}
 use Rattle.std.specs.List.{slice_index_or}
 use Rattle.lw_region.specs.Rectangle.{Rectangle, moved_by}

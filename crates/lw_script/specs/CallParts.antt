@@ -1,3 +1,4 @@
+-- For private contracts.
 -- What the line of a call tells of the layers, the bitmap and the hooks that it names.
 use Rattle.std.specs.Prelude.{◌≡◌, ℕ, ◌==◌, Bool, List, [], ◌∷◌}
 use Rattle.std.specs.List.{list_any}

@@ -1,3 +1,4 @@
+-- For private contracts.
 -- The next line of a script that is read.
 use Rattle.std.specs.Prelude.{◌≡◌, ℕ, Bool, true, false, ◌⊎◌, List, [], Option, Some, None}
 use Rattle.lw_words.specs.Cuts.{IsCutLine}

@@ -1,3 +1,4 @@
+-- For private contracts.
 -- What the reader knows of the lines that it has read, as far as the rule of a line asks.
 use Rattle.std.specs.Prelude.{◌==◌, get_or, false, option_map}
 use Rattle.std.specs.List.{list_any}

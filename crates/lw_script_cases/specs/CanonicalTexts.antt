@@ -1,3 +1,4 @@
+-- Worked cases.
 -- Plans with their canonical texts: three tasks with five windows, groups of each kind, glyphs and a bitmap; a layer and
 -- windows with all that a line can ask for; and the forms of lines that stand in neither.
 use Rattle.std.specs.Prelude.{ℕ, true, false, List, [], ◌∷◌, ◌++◌, pos, negsuc, Some, None, codes}

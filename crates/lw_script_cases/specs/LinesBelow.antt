@@ -1,3 +1,4 @@
+-- Worked cases.
 -- Lines below other lines: what stands above them is taken as it is, good or not.
 use Rattle.std.specs.Prelude.{ℕ, List, [], ◌∷◌, ◌++◌, Option, Some, None, Result, Ok, Err, codes}
 use Rattle.std.specs.List.{flat_map, range_with_len}

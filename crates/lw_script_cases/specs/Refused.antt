@@ -1,3 +1,4 @@
+-- Worked cases.
 -- Scripts that are refused, by their first reasons, each with the number of its first bad line.
 use Rattle.std.specs.Prelude.{ℕ, List, [], ◌∷◌, ◌++◌, codes}
 use Rattle.lw_calls.specs.declared.reason.Reason.{Reason}

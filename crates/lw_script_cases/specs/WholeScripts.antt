@@ -1,3 +1,4 @@
+-- Worked cases.
 -- Scripts of the whole grammar, good ones and bad ones.
 use Rattle.std.specs.Prelude.{ℕ, ◌==◌, if◌then◌else◌, List, [], ◌∷◌, ◌++◌, map, replicate, codes}
 use Rattle.std.specs.List.{flat_map, range_with_len}

@@ -1,4 +1,5 @@
--- Blocks of a layer's pixels: words of this crate's private contracts.
+-- For private contracts.
+-- Blocks of a layer's pixels.
 use Rattle.std.specs.Prelude.{◌≡◌, ℕ, ◌≤◌, Bool, not, ◌&&◌, ℤ, pos, ◌+ℤ◌, int_le, ◌⊎◌}
 use Rattle.lw_machine.specs.Kept.{holds_at}
 use Rattle.lw_machine.specs.Blits.{in_scroll_area}

@@ -1,4 +1,5 @@
--- Which pixels are damaged after a scroll, in layer coordinates: words of this crate's private contracts.
+-- For private contracts.
+-- Which pixels are damaged after a scroll, in layer coordinates.
 use Rattle.std.specs.Prelude.{◌≡◌, ℕ, ◌<◌, Bool, true, false, not, ◌&&◌, if◌then◌else◌, List, ℤ, ◌+ℤ◌, Option, Some, None}
 use Rattle.lw_planes.specs.Grid.{grid, at}
 use Rattle.lw_region.specs.Rectangle.{Rectangle, has_pixel, IsWord}

@@ -1,5 +1,5 @@
--- What a scroll makes of a live layer: its pens, and its damage (the manual's Graphics Primitives chapter: ScrollRaster). Words of
--- this crate's private contracts.
+-- For private contracts.
+-- What a scroll makes of a live layer: its pens, and its damage (the manual's Graphics Primitives chapter: ScrollRaster).
 use Rattle.std.specs.Prelude.{ℕ, Bool, false, ◌&&◌, List, ℤ, pos}
 use Rattle.std.specs.Int.{bit_at}
 use Rattle.lw_region.specs.Rectangle.{Rectangle, has_pixel}

@@ -1,3 +1,4 @@
+-- For private contracts.
 -- Blocks of pixels that are copied from one bitmap into another.
 use Rattle.std.specs.Prelude.{◌≡◌, ℕ, ◌+◌, ◌-◌, ◌≤◌, ◌==◌, Bool, ◌&&◌, if◌then◌else◌}
 use Rattle.std.specs.Int.{bit_at}

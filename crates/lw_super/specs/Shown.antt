@@ -1,3 +1,4 @@
+-- For private contracts.
 -- A bitmap of which rectangles of the screen's plane show portions, each with a buffer of its size.
 use Rattle.std.specs.Prelude.{◌≡◌, ℕ, ◌+◌, ◌<◌, Bool, true, ◌&&◌, if◌then◌else◌, List, [], length, map, ℤ, pos, ◌+ℤ◌, ◌-ℤ◌, ◌≤ℤ◌, int_le, Option, Some, None}
 use Rattle.std.specs.List.{slice_index_or}

@@ -1,5 +1,5 @@
+-- For private contracts.
 -- Templates: rows of bits that stand for the foreground of what is painted (the manual's `BltTemplate`), and those that a text has.
--- Words of this crate's private contracts.
 use Rattle.std.specs.Prelude.{ℕ, ◌+◌, ◌-◌, ◌==◌, Bool, ◌&&◌, nat_le, if◌then◌else◌, List, [], pos, ◌-ℤ◌}
 use Rattle.std.specs.List.{slice_index_or}
 use Rattle.lw_planes.specs.Row.{row_bit}

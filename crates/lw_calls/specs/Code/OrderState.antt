@@ -1,3 +1,4 @@
+-- For private contracts.
 -- What the code keeps of a past while an order is read, for its proofs.
 use Rattle.std.specs.Prelude.{ℕ, ◌+◌, ◌==◌, Bool, false, not, ◌&&◌, ◌||◌, nat_lt, if◌then◌else◌, List, [], ◌∷◌, length, map, Option, Some, None}
 use Rattle.std.specs.List.{list_all, range_with_len, slice_get, slice_index_or}
