@@ -5,11 +5,16 @@
 #
 #     bench/arrangements.sh [PROGRAM]
 #
-# PROGRAM is the built program; without it, the command `layers` beside this folder is run, which builds it first.
+# PROGRAM is the built program; without it, `build` beside this folder proves and builds it first, if it isn't built.
 set -eu
 
 bench=$(cd "$(dirname "$0")" && pwd)
-program=${1:-$bench/../layers}
+if [ $# -gt 0 ]; then
+    program=$1
+else
+    "$bench/../build" >&2
+    program=$bench/../out/layers
+fi
 work=$(mktemp -d)
 trap 'rm -rf "$work"' EXIT
 

@@ -6,13 +6,13 @@
 #
 #     bench/replays.sh [PROGRAM] SCRIPT [RUNS]
 #
-# PROGRAM is the built program; without it, the command `layers` beside this folder is run, which builds it first. SCRIPT is a
+# PROGRAM is the built program; without it, `build` beside this folder proves and builds it first, if it isn't built. SCRIPT is a
 # script alone, of any tasks and calls. With its order, about two and a half bytes a call, it has to stay within the limit of an
 # input. RUNS is 200 where it isn't given; of two words, a second one of digits alone is RUNS.
 set -eu
 
 bench=$(cd "$(dirname "$0")" && pwd)
-program=$bench/../layers
+program=
 runs=200
 
 usage() {
@@ -35,6 +35,10 @@ case $# in
 esac
 is_count "$runs" || usage
 [ -r "$script" ] || usage
+if [ -z "$program" ]; then
+    "$bench/../build" >&2
+    program=$bench/../out/layers
+fi
 
 work=$(mktemp -d)
 trap 'rm -rf "$work"' EXIT

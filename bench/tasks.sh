@@ -7,7 +7,7 @@
 #
 #     bench/tasks.sh [PROGRAM]
 #
-# PROGRAM is the built program; without it, the command `layers` beside this folder builds it first.
+# PROGRAM is the built program; without it, `build` beside this folder proves and builds it first, if it isn't built.
 #
 # Each time is the least of 20 runs, and of 50 for the one task, which is short; the least time of the same script without these
 # calls is taken off. It is printed with the calls a second that it gives, and the ratios of that to the run of 16 tasks on one
@@ -28,9 +28,8 @@ fail() {
 if [ $# -gt 0 ]; then
     program=$1
 else
-    # It answers its usage line, status 2, once it is built.
-    "$bench/../layers" usage >/dev/null || true
-    program=$bench/../crates/lw_main/out/lw_main
+    "$bench/../build" >&2
+    program=$bench/../out/layers
 fi
 [ -x "$program" ] || fail "$program isn't there"
 
