@@ -15,3 +15,4 @@ pub mod OpenedLaws
 pub mod BareLaws
 pub mod GainedRegions
 pub mod FrameLaws
+mod FewRectangles

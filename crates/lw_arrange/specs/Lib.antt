@@ -1,4 +1,5 @@
 pub mod Arrangements
+pub mod Counted
 pub mod Arranged
 pub mod Places
 pub mod Planning

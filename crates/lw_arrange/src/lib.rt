@@ -7,6 +7,7 @@ mod arrangement;
 mod change;
 mod copied;
 mod gaining;
+mod laws;
 mod order;
 mod place;
 mod plan;
@@ -16,6 +17,7 @@ mod refused;
 
 pub use arrangement::{Arrangement, Step};
 pub use gaining::{gained, gains_frame};
+pub use laws::arranged_slots_have_few_rectangles;
 pub use plan::plan_step;
 pub use prepared_info::{PreparedInfo, commit_info, prepare_info};
 pub use preparing::{Prepared, commit, prepare};

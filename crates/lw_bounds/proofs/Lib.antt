@@ -2,4 +2,5 @@ mod BandCorners
 mod CornerCount
 mod CutCorners
 mod UnderCovers
-mod OnDesks
+pub mod Fronts
+pub mod OnDesks

@@ -21,7 +21,7 @@ pub record IsVisible (bounds : Rectangle) (test : ℤ → ℤ → Bool) (visible
   pub canonical : IsCanonical visible
   pub pixels : (x y : ℤ) → covers visible x y ≡ (has_pixel bounds x y && test x y)
 
--- how many rectangles bounds have, of which these are visible
+-- how many rectangles bounds have: these visible ones, and those of what they leave of the bounds
 abbrev pub rectangle_count : Rectangle → List Rectangle → ℕ
 rectangle_count bounds visible = length visible + length (hidden_of bounds visible)
 
@@ -33,7 +33,7 @@ RectanglesUnderCutsAreFew =
     → ChangesAt columns rows test → IsVisible bounds test visible
     → rectangle_count bounds visible ≤ (length columns + 1) * (length rows + 1)
 
--- the columns at which a cover begins and ends, and its rows
+-- the columns at which covers begin and those right after them, and the rows
 abbrev pub cut_columns : List Rectangle → List ℤ
 cut_columns cut = flat_map (λ c. c.min_x ∷ (c.max_x +ℤ pos 1) ∷ []) cut
 

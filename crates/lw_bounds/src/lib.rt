@@ -5,5 +5,6 @@
 mod laws;
 
 pub use laws::{
-    rectangles_are_few, rectangles_under_covers_are_few, rectangles_under_cuts_are_few,
+    counted_examples, rectangles_are_few, rectangles_in_lists_are_few,
+    rectangles_under_covers_are_few, rectangles_under_cuts_are_few,
 };

@@ -1,8 +1,8 @@
 -- The cells of a desk have few rectangles.
-use Rattle.std.proofs.Common.{◌≡◌, ℕ, ◌+◌, ◌*◌, ◌≤◌, List, length, subst}
+use Rattle.std.proofs.Common.{◌≡◌, ℕ, ◌+◌, ◌*◌, ◌≤◌, List, subst}
 use Rattle.lw_machine.specs.Parts.{slot_part}
 use Rattle.lw_bounds.specs.Cuts.{rectangle_count}
-use Rattle.lw_bounds.specs.Desks.{in_front_of}
+use Rattle.lw_bounds.specs.Fronts.{front_count}
 use Rattle.lw_bounds.proofs.OnDesks.{rectangles_few}
 use Rattle.lw_layer.specs.View.{State, CellView, LiveView}
 use Rattle.lw_layer.specs.View as view
@@ -15,6 +15,6 @@ cells_few v cells d s are low live canonical =
     let c = (cell_at cells s).live in
     let part : IsLivePart c (slot_part d s) = subst (λ (q : State). IsPartOf q c (slot_part d s)) live (are.slots s low) in
     subst
-    (λ (ts : List ℕ). rectangle_count c.bounds c.visible ≤ (2 * length (in_front_of s ts) + 1) * (2 * length (in_front_of s ts) + 1))
+    (λ (ts : List ℕ). rectangle_count c.bounds c.visible ≤ (2 * front_count s ts + 1) * (2 * front_count s ts + 1))
     are.info.front_to_back
     (rectangles_few d s c.bounds c.visible are.sound part.bounds canonical part.shown)

@@ -1,4 +1,4 @@
-//! Damage is its history: laws that tell a simple layer's damage from the calls of a run alone, entry by entry. Each function
+//! Damage is its history: laws that tell a simple layer's damage from the calls of a run, entry by entry. Each function
 //! does nothing, and its contract is the law.
 #![tactic(auto)]
 

@@ -1,5 +1,6 @@
 -- The damage of a simple layer by the history: what is hurt after each entry, from what was hurt before
--- it. Of the layers it reads which pixels they keep and which are drawable.
+-- it. Of the desks before and after an entry it reads which pixels a layer keeps and which are drawable, and what an arrangement
+-- reveals.
 use Rattle.std.specs.Prelude.{ℕ, ◌==◌, Bool, true, false, not, ◌&&◌, ◌||◌, if◌then◌else◌, List, [], ◌∷◌, Option, Some, None}
 use Rattle.lw_calls.specs.declared.call.Call.{Call}
 use Rattle.lw_calls.specs.declared.call.Call.TheVariants.{ScrollRaster, EndRefresh}
@@ -23,8 +24,9 @@ is_not_refused None = true
 is_not_refused (Some r) = false
 
 -- What a call that was done, between the desks d and e, leaves hurt at a pixel of the layer in slot s, which keeps it in its
--- inner rectangle afterwards: after an arrangement what didn't count as kept before, and what was hurt; after a ScrollRaster
--- of this layer what is brought; after a full EndRefresh of it nothing; and after any other call what was hurt.
+-- inner rectangle afterwards: after an arrangement what didn't count as kept before, and what was hurt. After a ScrollRaster of this
+-- layer what is brought to a pixel, if anything is: hurt where it wasn't kept or was hurt. After a full EndRefresh of it nothing; and
+-- after any other call what was hurt.
 abbrev pub hurt_by_call : Desk → Desk → ℕ → Layer → Call → (ℕ → ℕ → Bool) → ℕ → ℕ → Bool
 hurt_by_call d e s l (ScrollRaster slot dx dy rect) hurt x y =
     if slot == s then scrolled_mark (is_visible d s l) dx dy rect l hurt x y else hurt x y
@@ -37,8 +39,8 @@ hurt_in_slot d e s Unopened call hurt x y = false
 hurt_in_slot d e s (Live l) call hurt x y = hurt_by_call d e s l call hurt x y
 hurt_in_slot d e s Closed call hurt x y = false
 
--- What is hurt after the call of a task, on the desk d, before which this was hurt: pixels alone that the layer then keeps in
--- its inner rectangle.
+-- What is hurt after the call of a task, on the desk d, before which this was hurt: only pixels that the layer then keeps in its
+-- inner rectangle.
 abbrev pub hurt_after_step : Desk → ℕ → Call → Hurts → Hurts
 hurt_after_step d task call hurt s x y =
     let e = after d task call in
