@@ -16,10 +16,8 @@ use crate::sources::{SourceRows, no_sources, read_sources};
 use crate::transfers::{Transfer, transfer_of};
 use lw_calls::Area;
 use lw_draw::Places;
+use lw_kernels::COPY_MINTERM;
 use lw_layer::Cell;
-
-// The minterm of B.
-const COPY: u8 = 0xc0;
 
 /// Combines the drawable pixels of a rectangle of a layer with the layer's own pixels that go there, by the minterm and through
 /// the mask (`ClipBlit`). The rectangles may overlap: the sources are as before the call. A pixel whose source isn't kept stays
@@ -60,7 +58,7 @@ pub fn shift_rows(cell: &mut Cell, rows: Places, columns: Places, dx: i32, dy: i
     let transfer = Transfer {
         dx,
         dy,
-        minterm: COPY,
+        minterm: COPY_MINTERM,
         clears: true,
     };
     transfer_rows(cell, rows, columns, transfer, mask);

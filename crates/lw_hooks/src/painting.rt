@@ -9,6 +9,7 @@ ghost use Rattle.lw_draw.specs.Stretches.{in_stretch};
 ghost use Rattle.lw_hooks.specs.Filling.{byte_bit, planes_bit};
 
 use lw_draw::{Origin, Places, Stretch, combine_run, next_stretch};
+use lw_kernels::COPY_MINTERM;
 use lw_layer::Cell;
 
 // A row of a layer is at most 2048 pixels wide.
@@ -57,6 +58,5 @@ fn paint_plane(cell: &mut Cell, plane: u32, stretch: Stretch, byte: u8)
 {
     let bits = [byte; MOST];
     let origin = Origin { column: 0, bit: 0 };
-    // This minterm copies.
-    combine_run(cell, plane, stretch, &bits, origin, 0xc0);
+    combine_run(cell, plane, stretch, &bits, origin, COPY_MINTERM);
 }
