@@ -31,7 +31,8 @@ impl Model for Rect {
 }
 
 impl Rect {
-    /// The rectangle with these bounds; `None` exactly where a maximum is below its minimum.
+    /// The rectangle of the columns `x0` to `x1` and the rows `y0` to `y1`, all four bounds inclusive; `None` exactly where a
+    /// maximum is below its minimum.
     pub fn new(x0: i16, y0: i16, x1: i16, y1: i16) -> Option<Rect>
         ensures { SomeIff result
             (IsOrdered (record { min_x = x0; min_y = y0; max_x = x1; max_y = y1 }))
