@@ -87,7 +87,14 @@ fn show_row(
     read_row(cell, plane, line, bits, kept);
     let left = place(rect.min_x());
     let width = place(rect.max_x()) + 1 - left;
-    combine(planes.row_mut(plane, line), left, bits, left, width, COPY_MINTERM);
+    combine(
+        planes.row_mut(plane, line),
+        left,
+        bits,
+        left,
+        width,
+        COPY_MINTERM,
+    );
 }
 
 // Reads one plane of the layer's pixels that lie on a row of the screen, so that each bit has the number of its column there.
