@@ -42,9 +42,7 @@ pub fn within(cell: &mut Cell, area: &Area)
 /// memory is taken.
 pub fn shift_rows(cell: &mut Cell, rows: Places, columns: Places, dx: i32, dy: i32, mask: u8)
     requires live { cell.old.state ≡ view.Live }
-    requires rows { rows.from ≤ rows.end }
     requires bottom { rows.end ≤ 2048 }
-    requires columns { columns.from ≤ columns.end }
     requires right { columns.end ≤ 2048 }
     requires dx_low { negsuc 65535 ≤ℤ dx }
     requires dx_high { dx ≤ℤ pos 65535 }
@@ -67,9 +65,7 @@ pub fn shift_rows(cell: &mut Cell, rows: Places, columns: Places, dx: i32, dy: i
 // Transfers some rows, in an order in which none is read after it was written.
 fn transfer_rows(cell: &mut Cell, rows: Places, columns: Places, transfer: Transfer, mask: u8)
     requires live { cell.old.state ≡ view.Live }
-    requires rows { rows.from ≤ rows.end }
     requires bottom { rows.end ≤ 2048 }
-    requires columns { columns.from ≤ columns.end }
     requires right { columns.end ≤ 2048 }
     requires near { AreNear transfer }
     ensures { cell.new ≡ with_live
@@ -86,9 +82,7 @@ fn transfer_rows(cell: &mut Cell, rows: Places, columns: Places, transfer: Trans
 // Transfers some rows from the top down: each source row lies no higher than where it goes, so that it wasn't written so far.
 fn rows_down(cell: &mut Cell, rows: Places, columns: Places, transfer: Transfer, mask: u8)
     requires live { cell.old.state ≡ view.Live }
-    requires rows { rows.from ≤ rows.end }
     requires bottom { rows.end ≤ 2048 }
-    requires columns { columns.from ≤ columns.end }
     requires right { columns.end ≤ 2048 }
     requires near { AreNear transfer }
     requires order { pos 0 ≤ℤ transfer.dy }
@@ -107,9 +101,7 @@ fn rows_down(cell: &mut Cell, rows: Places, columns: Places, transfer: Transfer,
 // Transfers some rows from the bottom up: each source row lies no lower than where it goes.
 fn rows_up(cell: &mut Cell, rows: Places, columns: Places, transfer: Transfer, mask: u8)
     requires live { cell.old.state ≡ view.Live }
-    requires rows { rows.from ≤ rows.end }
     requires bottom { rows.end ≤ 2048 }
-    requires columns { columns.from ≤ columns.end }
     requires right { columns.end ≤ 2048 }
     requires near { AreNear transfer }
     requires order { transfer.dy ≤ℤ pos 0 }
@@ -136,7 +128,6 @@ fn transfer_row(
 )
     requires live { cell.old.state ≡ view.Live }
     requires row { y < 2048 }
-    requires columns { columns.from ≤ columns.end }
     requires right { columns.end ≤ 2048 }
     requires near { AreNear transfer }
     ensures { cell.new ≡ with_live

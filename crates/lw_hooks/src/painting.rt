@@ -19,7 +19,6 @@ const MOST: usize = 256;
 pub(crate) fn paint_row(cell: &mut Cell, y: u32, columns: Places, bytes: &[u8; 8])
     requires live { cell.old.state ≡ view.Live }
     requires row { y < 65536 }
-    requires columns { columns.from ≤ columns.end }
     requires right { columns.end ≤ 2048 }
     ensures { cell.new ≡ with_live
         (λ c. drawn (λ p i j. in_rows c y (y + 1) columns.from columns.end i j) (planes_bit bytes.now) c)
