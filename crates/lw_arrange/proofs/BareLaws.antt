@@ -3,7 +3,7 @@ use Rattle.std.proofs.Common.{◌≡◌, ℕ, ◌<◌, ◌^◌, Bool, true, fals
 use Rattle.std.specs.Prelude.{if◌then◌else◌}
 use Rattle.std.proofs.lemmas.Bool.{and_parts, cases_Bool, ltb-true}
 use Rattle.std.proofs.lemmas.Nat.{pow_pos}
-use Rattle.lw_region.specs.Rectangle.{Rectangle}
+use Rattle.lw_region.specs.Rectangle.{Rectangle, width, height}
 use Rattle.lw_planes.specs.Bitmap.{IsBitmap, bitmap, pen_at}
 use Rattle.lw_planes.proofs.BitmapLaws.{IsBitmap_bitmap, pen_at_bitmap}
 use Rattle.lw_calls.specs.declared.make.Kind.{Kind}
@@ -18,7 +18,6 @@ use Rattle.lw_machine.specs.Reveal as reveal
 use Rattle.lw_machine.proofs.CreatedSound.{blank_bitmap}
 use Rattle.lw_layer.specs.View.{LiveView, CellView, keeps}
 use Rattle.lw_layer.specs.View as view
-use Rattle.lw_layer.specs.Pieces.{columns, lines}
 use Rattle.lw_layer.specs.StandsFor.{IsSound}
 use Rattle.lw_reveal.specs.Changed.{across_to, windowless, carried_to}
 use Rattle.lw_reveal.proofs.GainedView.{gained_view, carried_without_bitmap, carried_own}
@@ -29,7 +28,7 @@ use Rattle.lw_arrange.proofs.GainsLaws.{stayed, gains_stayed, none_gained, gaine
 
 -- the size of a framed window stays
 abbrev pub KeepsFrame : LiveView → Rectangle → Type 0
-KeepsFrame c r = is_framed c.layer.window ≡ true → (columns r ≡ columns c.bounds) × (lines r ≡ lines c.bounds)
+KeepsFrame c r = is_framed c.layer.window ≡ true → (width r ≡ width c.bounds) × (height r ≡ height c.bounds)
 
 -- so all that the layer kept counts as kept, and nothing else
 frame_stays : (kept framed was now : Bool) → (framed ≡ true → was ≡ now) → (kept && (was || not (framed && now))) ≡ kept
@@ -44,9 +43,9 @@ all_counts : (c : LiveView) (r : Rectangle) (visible : List Rectangle) (x y : �
 unfolding counts_as_kept keeps
 all_counts c r visible x y stays =
     let f = is_framed c.layer.window in
-    frame_stays (keeps c x y) f (in_inner f (columns c.bounds) (lines c.bounds) x y) (in_inner f (columns r) (lines r) x y)
+    frame_stays (keeps c x y) f (in_inner f (width c.bounds) (height c.bounds) x y) (in_inner f (width r) (height r) x y)
     (λ framed.
-    ap (λ w. in_inner f w (lines c.bounds) x y) (sym (stays framed).0) ∙ ap (λ h. in_inner f (columns r) h x y) (sym (stays framed).1))
+    ap (λ w. in_inner f w (height c.bounds) x y) (sym (stays framed).0) ∙ ap (λ h. in_inner f (width r) h x y) (sym (stays framed).1))
 
 -- the pens of the carried layer, which has no hook
 abbrev bare_pen : LiveView → Rectangle → List Rectangle → ℕ → ℕ → ℕ

@@ -3,7 +3,7 @@ use Rattle.std.proofs.Common.{◌≡◌, ℕ, ◌<◌, Bool, true, false, not, �
 use Rattle.std.specs.List.{list_any}
 use Rattle.std.proofs.lemmas.Bool.{and_parts, and_from, or_left, or_right}
 use Rattle.std.proofs.lemmas.Int.{ints}
-use Rattle.lw_region.specs.Rectangle.{Rectangle, IsOrdered, within, has_pixel}
+use Rattle.lw_region.specs.Rectangle.{Rectangle, IsOrdered, within, has_pixel, width, height}
 use Rattle.lw_region.specs.Bands.{Run, Band, band_rectangles, covers}
 use Rattle.lw_region.specs.Banded.{IsCanonical, AreRuns, AreBands, flat}
 use Rattle.lw_region.proofs.Meet.{corner_in}
@@ -19,7 +19,7 @@ use Rattle.lw_machine.specs.Reveal.{Across, is_inner, counts_as_kept, fills, som
 use Rattle.lw_machine.proofs.Settling.{revealed_plain}
 use Rattle.lw_layer.specs.View.{LiveView, CellView}
 use Rattle.lw_layer.specs.View as view
-use Rattle.lw_layer.specs.Pieces.{columns, lines, inner_of}
+use Rattle.lw_layer.specs.Pieces.{inner_of}
 use Rattle.lw_layer.specs.StandsFor.{IsSound}
 use Rattle.lw_layer.proofs.InnerLaws.{may_pixel}
 use Rattle.lw_layer.proofs.PixelTests.{one_within, none_within}
@@ -124,7 +124,7 @@ none_outside inner (r ∷ rs) x y none here =
 
 -- What the code tells by rectangles.
 frame_told : (rects : List Rectangle) (bounds inner : Rectangle) (answer : Bool) → IsCanonical rects
-    → Some inner ≡ inner_of false true (columns bounds) (lines bounds) → answer ≡ list_any (λ r. not (has_corners inner r)) rects
+    → Some inner ≡ inner_of false true (width bounds) (height bounds) → answer ≡ list_any (λ r. not (has_corners inner r)) rects
     → IsFrameGained rects true bounds answer
 frame_told rects bounds inner answer canonical place is =
     let at : (x y : ℤ) → has_pixel inner x y ≡ lies_inside bounds x y = λ x y. ap (λ o. may_lie o x y) place in
@@ -137,7 +137,7 @@ frame_told rects bounds inner answer canonical place is =
     }
 
 pub frame_read : (rects listed : List Rectangle) (framed : Bool) (bounds inner : Rectangle) (answer : Bool) → framed ≡ true
-    → IsCanonical rects → listed ≡ rects → Some inner ≡ inner_of false framed (columns bounds) (lines bounds)
+    → IsCanonical rects → listed ≡ rects → Some inner ≡ inner_of false framed (width bounds) (height bounds)
     → answer ≡ list_any (λ r. not (has_corners inner r)) listed → IsFrameGained rects framed bounds answer
 frame_read rects listed true bounds inner answer has canonical list place is =
     frame_told rects bounds inner answer canonical place (is ∙ ap (λ l. list_any (λ r. not (has_corners inner r)) l) list)
@@ -191,7 +191,7 @@ frame_gained c r visible h active new_active rects answer live sound framed are 
     filled x y = fills_gained c r visible h active new_active x y live other
 
     -- a gained pixel lies in the bounds
-    inside : (x y : ℕ) → gains c to x y ≡ true → (x < columns r) × (y < lines r)
+    inside : (x y : ℕ) → gains c to x y ≡ true → (x < width r) × (y < height r)
     inside x y has =
         let place = gained_inside c to x y has in
         let carried = carried_without_bitmap c.live r visible other in
@@ -200,8 +200,8 @@ frame_gained c r visible h active new_active rects answer live sound framed are 
     inner : (x y : ℕ) → gains c to x y ≡ true → lies_inside r (pos x) (pos y) ≡ is_inner q l x y
     inner x y has =
         let place = inside x y has in
-        may_pixel false true (columns r) (lines r) x y refl place.0 place.1
-        ∙ ap (λ f. in_inner f (columns r) (lines r) x y) (sym framed)
+        may_pixel false true (width r) (height r) x y refl place.0 place.1
+        ∙ ap (λ f. in_inner f (width r) (height r) x y) (sym framed)
 
     tested : (x y : ℕ) (t i : Bool) → gains c to x y ≡ t → is_inner q l x y ≡ i → test x y ≡ (t && not i)
     tested x y t i has is = ap (λ b. b && not (is_inner q l x y)) (filled x y ∙ has) ∙ ap (λ b. t && not b) is
@@ -215,7 +215,7 @@ frame_gained c r visible h active new_active rects answer live sound framed are 
     one : (x y : ℤ) → holds_at (λ i j. gains c to i j) x y ≡ true → lies_inside r x y ≡ false → some_now q test ≡ true
     one (pos x) (pos y) has out =
         let place = inside x y has in
-        one_within (columns r) (lines r) test x y place.0 place.1 (tested x y true false has (sym (inner x y has) ∙ out))
+        one_within (width r) (height r) test x y place.0 place.1 (tested x y true false has (sym (inner x y has) ∙ out))
     one (pos x) (negsuc y) has out = absurd (cc has)
     one (negsuc x) y has out = absurd (cc has)
 
@@ -223,4 +223,4 @@ frame_gained c r visible h active new_active rects answer live sound framed are 
     go true is =
         let found = told.some is in
         one found.0 found.1 (sym (are found.0 found.1) ∙ found.2) found.3 ∙ sym is
-    go false is = none_within (columns r) (lines r) test (λ x y _ _. off is x y (gains c to x y) refl) ∙ sym is
+    go false is = none_within (width r) (height r) test (λ x y _ _. off is x y (gains c to x y) refl) ∙ sym is

@@ -4,7 +4,7 @@ use Rattle.std.proofs.Math.Path.{fun_ext}
 use Rattle.std.proofs.lemmas.Bool.{cases_Bool, both_ways, false_from_ne_true, and_right}
 use Rattle.std.proofs.lemmas.Bool.Decides.{nat_tests}
 use Rattle.std.proofs.Math.Bool.{and-false}
-use Rattle.lw_region.specs.Rectangle.{Rectangle, IsOrdered}
+use Rattle.lw_region.specs.Rectangle.{Rectangle, IsOrdered, width, height}
 use Rattle.lw_region.specs.Bands.{covers}
 use Rattle.lw_region.specs.Banded.{IsCanonical}
 use Rattle.lw_region.proofs.Canonical.{covers_nil}
@@ -22,7 +22,6 @@ use Rattle.lw_machine.specs.Reveal.{Across, counts_as_kept, resized}
 use Rattle.lw_machine.specs.Reveal as reveal
 use Rattle.lw_layer.specs.View.{State, LiveView, CellView, keeps}
 use Rattle.lw_layer.specs.View as view
-use Rattle.lw_layer.specs.Pieces.{columns, lines}
 use Rattle.lw_layer.specs.New.{IsNewSize, new_live}
 use Rattle.lw_layer.specs.StandsFor.{IsSound}
 use Rattle.lw_layer.specs.Keeping.{keeps_pixel, AreKept}
@@ -106,10 +105,10 @@ new_plain make depth bounds visible window other size ordered inside = record {
   upper = refl;
   wide =
       new_width make.kind depth make other
-      ∙ (ap unsigned_abs (sym (box_extent make.x make.w)) ∙ ap columns (sym size.place));
+      ∙ (ap unsigned_abs (sym (box_extent make.x make.w)) ∙ ap width (sym size.place));
   high =
       new_height make.kind depth make other
-      ∙ (ap unsigned_abs (sym (box_extent make.y make.h)) ∙ ap lines (sym size.place));
+      ∙ (ap unsigned_abs (sym (box_extent make.y make.h)) ∙ ap height (sym size.place));
 }
 
 -- what is gained where nothing was kept before

@@ -4,7 +4,7 @@ use Rattle.std.specs.Prelude.{if◌then◌else◌}
 use Rattle.std.proofs.lemmas.Bool.{and_parts, eqb-true, ltb-true}
 use Rattle.std.proofs.lemmas.Bool.Decides.{nat_tests}
 use Rattle.std.proofs.lemmas.Int.{ints}
-use Rattle.lw_region.specs.Rectangle.{Rectangle, has_pixel}
+use Rattle.lw_region.specs.Rectangle.{Rectangle, columns_of, rows_of, has_pixel, width, height}
 use Rattle.lw_calls.specs.declared.make.Kind.{Kind}
 use Rattle.lw_calls.specs.declared.make.Kind.TheVariants.{Simple, Smart, SuperBitmap}
 use Rattle.lw_calls.specs.declared.make.Make.{Make}
@@ -18,7 +18,7 @@ use Rattle.lw_machine.specs.Layer.{Layer, Window, Slot, Live, is_framed}
 use Rattle.lw_machine.specs.Desk.{Desk, is_the}
 use Rattle.lw_machine.specs.Screen.{bounds_have}
 use Rattle.lw_machine.specs.Paint.{with_pens}
-use Rattle.lw_machine.specs.Arrangement.{bounds_of, is_on_screen, is_at_least, portion_fits, may_have_bounds, layer_may_have_bounds, columns_of, rows_of, arranged}
+use Rattle.lw_machine.specs.Arrangement.{bounds_of, is_on_screen, is_at_least, portion_fits, may_have_bounds, layer_may_have_bounds, arranged}
 use Rattle.lw_machine.specs.Reveal.{Across, has_bounds, across, revealed, resized, with_revealed, keeps, framed_by, with_frame, frame_is_due, with_due_frame, with_messages, settled_layer, settled}
 use Rattle.lw_machine.specs.Parts.{slot_part}
 use Rattle.lw_machine.specs.Sound.{IsDesk, IsSlot, IsPlaced}
@@ -27,7 +27,7 @@ use Rattle.lw_machine.proofs.ArrangementSound.{frameless}
 use Rattle.lw_cliprects.specs.Parts.{LieIn}
 use Rattle.lw_layer.specs.View.{State, CellView, hooked}
 use Rattle.lw_layer.specs.View as view
-use Rattle.lw_layer.specs.Pieces.{columns, lines, HasFrameRoom}
+use Rattle.lw_layer.specs.Pieces.{HasFrameRoom}
 use Rattle.lw_layer.specs.StandsFor.{IsPartOf, StandsFor, IsSound}
 use Rattle.lw_layer.proofs.SoundLaws.{live_part}
 use Rattle.lw_stack.specs.Stack.{bounds_at, first_at, is_first_at}
@@ -52,10 +52,10 @@ axis_room low high n some = grind (arith, ints)
 
 -- bounds that a layer may have have sizes for planes, a frame has room in them, and what they show of an own bitmap lies in it
 pub record IsFit (framed own : Bool) (x y w h : ℕ) (r : Rectangle) : Type 0 where
-  pub wide : (1 ≤ columns r) × (columns r ≤ 2048)
-  pub high : (1 ≤ lines r) × (lines r ≤ 2048)
-  pub right : own ≡ true → x + columns r ≤ w
-  pub lower : own ≡ true → y + lines r ≤ h
+  pub wide : (1 ≤ width r) × (width r ≤ 2048)
+  pub high : (1 ≤ height r) × (height r ≤ 2048)
+  pub right : own ≡ true → x + width r ≤ w
+  pub lower : own ≡ true → y + height r ≤ h
   pub room : framed ≡ true → HasFrameRoom r
 
 pub may_fit : (s : Sizes) (framed : Bool) (k : Kind) (x y w h : ℕ) (r : Rectangle) → IsWithinLimits s

@@ -5,7 +5,7 @@ use Rattle.std.specs.List.{slice_index_or, slice_set}
 use Rattle.std.proofs.lemmas.Int.{ints}
 use Rattle.std.proofs.lemmas.List.{get_or-set_same, get_or-set_other, length-set}
 use Rattle.std.proofs.lemmas.Bool.{and_parts, ltb-true, false≢true, eqb-true, eq-eqb, not-true, not-false}
-use Rattle.lw_region.specs.Rectangle.{Rectangle}
+use Rattle.lw_region.specs.Rectangle.{Rectangle, columns_of, rows_of}
 use Rattle.lw_calls.specs.declared.sizes.Sizes.{Sizes}
 use Rattle.lw_calls.specs.declared.make.Make.{Make}
 use Rattle.lw_calls.specs.declared.call.Call.{Call}
@@ -15,7 +15,7 @@ use Rattle.lw_calls.specs.declared.reply.Reply.TheVariants.{NotOpen, AlreadyOpen
 use Rattle.lw_calls.specs.Limits.{IsWithinLimits, call_fits, make_fits, coordinates_fit, is_extent, window_fits}
 use Rattle.lw_calls.specs.Orders.{occurrences}
 use Rattle.lw_machine.specs.Reveal.{has_bounds}
-use Rattle.lw_machine.specs.Arrangement.{is_on_screen, is_at_least, columns_of, rows_of, bounds_of, without, put_before, placed}
+use Rattle.lw_machine.specs.Arrangement.{is_on_screen, is_at_least, bounds_of, without, put_before, placed}
 use Rattle.lw_machine.specs.Step.{refuse}
 use Rattle.lw_machine.proofs.ListSound.{occurrences_put_before, occurrences_placed, occurrences_without_same, occurrences_without_other, occurrences_moved}
 use Rattle.lw_machine.proofs.ArrangementSound.{unrefused}

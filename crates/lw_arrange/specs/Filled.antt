@@ -1,7 +1,7 @@
 -- What backfill hooks make of an arrangement (the manual's Layers Library chapter: a hook fills what a layer gains; which pixels
 -- these are, and that a hook turns, are this project's own). A cell has no hook of its own: its layer's hook lies beside it.
 use Rattle.std.specs.Prelude.{◌≡◌, ℕ, Bool, false, not, ◌&&◌, ◌||◌, List, ℤ, Option, Some, None}
-use Rattle.lw_region.specs.Rectangle.{Rectangle}
+use Rattle.lw_region.specs.Rectangle.{Rectangle, width, height}
 use Rattle.lw_region.specs.Bands.{covers}
 use Rattle.lw_calls.specs.Kinds.{is_super}
 use Rattle.lw_machine.specs.Hook.{Hook}
@@ -12,7 +12,6 @@ use Rattle.lw_machine.specs.Arrangement.{hook_from}
 use Rattle.lw_machine.specs.Reveal.{some_pixel, fill_pen, hook_after}
 use Rattle.lw_layer.specs.View.{State, LiveView, CellView, keeps, with_layer, with_live}
 use Rattle.lw_layer.specs.View as view
-use Rattle.lw_layer.specs.Pieces.{columns, lines}
 use Rattle.lw_arrange.specs.Prepared.{Created}
 
 -- a live layer keeps the pixel
@@ -23,7 +22,7 @@ keeps_if_live view.Closed c x y = false
 
 -- the pixel lies in the live layer's inner rectangle
 abbrev pub is_inside : LiveView → ℕ → ℕ → Bool
-is_inside c x y = in_inner (is_framed c.layer.window) (columns c.bounds) (lines c.bounds) x y
+is_inside c x y = in_inner (is_framed c.layer.window) (width c.bounds) (height c.bounds) x y
 
 -- The pixel counts as kept before: a live layer kept it, and in a framed window whose size changes it isn't one of the old frame that
 -- lies in the new inner rectangle.

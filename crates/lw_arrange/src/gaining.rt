@@ -2,10 +2,11 @@
 
 ghost use Rattle.std.specs.Prelude.{◌≡◌, ◌<◌, ◌≤◌, true, not, Some, IfOk};
 ghost use Rattle.std.specs.List.{list_any};
+ghost use Rattle.lw_region.specs.Rectangle.{width, height};
 ghost use Rattle.lw_cliprects.specs.Parts.{LieIn};
 ghost use Rattle.lw_layer.specs.View as view;
 ghost use Rattle.lw_layer.specs.View.{with_live};
-ghost use Rattle.lw_layer.specs.Pieces.{columns, lines, HasFrameRoom};
+ghost use Rattle.lw_layer.specs.Pieces.{HasFrameRoom};
 ghost use Rattle.lw_layer.specs.Looks.{IsLook};
 ghost use Rattle.lw_layer.specs.StandsFor.{IsSound};
 ghost use Rattle.lw_stack.specs.Stack.{bounds_at};
@@ -114,8 +115,8 @@ fn gained_more(
 /// Whether some of these pixels that a window with these bounds gains, in layer coordinates, lies in its frame; none does of a window
 /// without one (the manual's Intuition Windows chapter; that such a frame is painted again is this project's own).
 pub fn gains_frame(gained: &Region, framed: bool, bounds: &Rect) -> bool
-    requires wide { columns bounds.now ≤ 2048 }
-    requires high { lines bounds.now ≤ 2048 }
+    requires wide { width bounds.now ≤ 2048 }
+    requires high { height bounds.now ≤ 2048 }
     requires room { framed ≡ true → HasFrameRoom bounds.now }
     ensures { IsFrameGained gained.now framed bounds.now result }
 {

@@ -1,6 +1,7 @@
 // The calls of the benchmark that move pixels, from one square to another whose columns lie elsewhere in their bytes.
 
 use lw_calls::{Area, Call};
+use lw_kernels::COPY_MINTERM;
 use lw_region::Rect;
 
 // ScrollRaster of a square.
@@ -41,6 +42,6 @@ fn area_of(side: i16) -> Area {
         y: 3,
         w: i32::from(side),
         h: i32::from(side),
-        minterm: 0xc0,
+        minterm: COPY_MINTERM,
     }
 }

@@ -47,9 +47,7 @@ fn between_rows(
 )
     requires source { source.now.state ≡ view.Live }
     requires to { to.old.state ≡ view.Live }
-    requires rows { rows.from ≤ rows.end }
     requires bottom { rows.end ≤ 2048 }
-    requires columns { columns.from ≤ columns.end }
     requires right { columns.end ≤ 2048 }
     requires near { AreNear transfer }
     ensures { to.new ≡ with_live
@@ -77,7 +75,6 @@ fn between_row(
     requires source { source.now.state ≡ view.Live }
     requires to { to.old.state ≡ view.Live }
     requires row { y < 2048 }
-    requires columns { columns.from ≤ columns.end }
     requires right { columns.end ≤ 2048 }
     requires near { AreNear transfer }
     ensures { to.new ≡ with_live

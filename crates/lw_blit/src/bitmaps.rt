@@ -49,9 +49,7 @@ fn bitmap_rows(
     mask: u8,
 )
     requires live { cell.old.state ≡ view.Live }
-    requires rows { rows.from ≤ rows.end }
     requires bottom { rows.end ≤ 2048 }
-    requires columns { columns.from ≤ columns.end }
     requires right { columns.end ≤ 2048 }
     requires near { IsNear area }
     requires inside { LieInBitmap bitmap.now area rows.from rows.end columns.from columns.end }
@@ -70,7 +68,6 @@ fn bitmap_rows(
 fn bitmap_row(bitmap: &Planes, cell: &mut Cell, y: u32, columns: Places, area: Area, mask: u8)
     requires live { cell.old.state ≡ view.Live }
     requires row { y < 2048 }
-    requires columns { columns.from ≤ columns.end }
     requires right { columns.end ≤ 2048 }
     requires near { IsNear area }
     requires inside { LieInBitmap bitmap.now area y (y + 1) columns.from columns.end }

@@ -26,7 +26,6 @@ pub(crate) fn paint_row(
 )
     requires live { cell.old.state ≡ view.Live }
     requires row { y < 65536 }
-    requires columns { columns.from ≤ columns.end }
     requires right { columns.end ≤ 2048 }
     ensures { cell.new ≡ with_live
         (λ c. drawn (masked mask c y (y + 1) columns.from columns.end) (from_rows minterm rows.now columns.from) c)

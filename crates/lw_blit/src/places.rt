@@ -20,7 +20,6 @@ fn reached(place: i32, count: i32, source: i32, source_extent: u32, extent: u32)
     requires count_high { count ≤ℤ pos 65535 }
     requires source_extent { source_extent ≤ 2048 }
     requires extent { extent ≤ 2048 }
-    ensures ordered { result.from ≤ result.end }
     ensures inside { result.end ≤ extent }
     ensures has { (u : ℕ) → u < extent →
         (within place (pos u) ((place +ℤ count) -ℤ pos 1) && has_place source_extent (pos u +ℤ (source -ℤ place))) ≡
@@ -40,7 +39,6 @@ pub(crate) fn columns_of(area: &Area, source_extent: u32, extent: u32) -> Places
     requires near { IsNear area.now }
     requires source_extent { source_extent ≤ 2048 }
     requires extent { extent ≤ 2048 }
-    ensures ordered { result.from ≤ result.end }
     ensures inside { result.end ≤ extent }
     ensures has { (u : ℕ) → u < extent →
         (within area.now.x (pos u) ((area.now.x +ℤ area.now.w) -ℤ pos 1) && has_place source_extent (source_column area.now u)) ≡
@@ -54,7 +52,6 @@ pub(crate) fn rows_of(area: &Area, source_extent: u32, extent: u32) -> Places
     requires near { IsNear area.now }
     requires source_extent { source_extent ≤ 2048 }
     requires extent { extent ≤ 2048 }
-    ensures ordered { result.from ≤ result.end }
     ensures inside { result.end ≤ extent }
     ensures has { (u : ℕ) → u < extent →
         (within area.now.y (pos u) ((area.now.y +ℤ area.now.h) -ℤ pos 1) && has_place source_extent (source_row area.now u)) ≡

@@ -48,7 +48,6 @@ pub(crate) fn read_sources(
     requires live { source.now.state ≡ view.Live }
     requires planes { planes ≤ 8 }
     requires row { y < 65536 }
-    requires columns { columns.from ≤ columns.end }
     requires right { columns.end ≤ 2048 }
     requires near { AreNear transfer }
     ensures { AreSources source.now.live transfer mask planes y columns.from columns.end rows.new }

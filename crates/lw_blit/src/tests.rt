@@ -439,7 +439,6 @@ fn cell_of(alloc: Global, bitmap: &Planes, step: &Move) -> Result<Cell, Fail>
 }
 
 fn places(from: u8, end: u8) -> Places
-    ensures ordered { result.from ≤ result.end }
     ensures near { result.end ≤ 2048 }
 {
     Places {

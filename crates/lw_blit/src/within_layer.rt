@@ -16,10 +16,8 @@ use crate::sources::{SourceRows, no_sources, read_sources};
 use crate::transfers::{Transfer, transfer_of};
 use lw_calls::Area;
 use lw_draw::Places;
+use lw_kernels::COPY_MINTERM;
 use lw_layer::Cell;
-
-// The minterm of B.
-const COPY: u8 = 0xc0;
 
 /// Combines the drawable pixels of a rectangle of a layer with the layer's own pixels that go there, by the minterm and through
 /// the mask (`ClipBlit`). The rectangles may overlap: the sources are as before the call. A pixel whose source isn't kept stays
@@ -44,9 +42,7 @@ pub fn within(cell: &mut Cell, area: &Area)
 /// memory is taken.
 pub fn shift_rows(cell: &mut Cell, rows: Places, columns: Places, dx: i32, dy: i32, mask: u8)
     requires live { cell.old.state ≡ view.Live }
-    requires rows { rows.from ≤ rows.end }
     requires bottom { rows.end ≤ 2048 }
-    requires columns { columns.from ≤ columns.end }
     requires right { columns.end ≤ 2048 }
     requires dx_low { negsuc 65535 ≤ℤ dx }
     requires dx_high { dx ≤ℤ pos 65535 }
@@ -60,7 +56,7 @@ pub fn shift_rows(cell: &mut Cell, rows: Places, columns: Places, dx: i32, dy: i
     let transfer = Transfer {
         dx,
         dy,
-        minterm: COPY,
+        minterm: COPY_MINTERM,
         clears: true,
     };
     transfer_rows(cell, rows, columns, transfer, mask);
@@ -69,9 +65,7 @@ pub fn shift_rows(cell: &mut Cell, rows: Places, columns: Places, dx: i32, dy: i
 // Transfers some rows, in an order in which none is read after it was written.
 fn transfer_rows(cell: &mut Cell, rows: Places, columns: Places, transfer: Transfer, mask: u8)
     requires live { cell.old.state ≡ view.Live }
-    requires rows { rows.from ≤ rows.end }
     requires bottom { rows.end ≤ 2048 }
-    requires columns { columns.from ≤ columns.end }
     requires right { columns.end ≤ 2048 }
     requires near { AreNear transfer }
     ensures { cell.new ≡ with_live
@@ -88,9 +82,7 @@ fn transfer_rows(cell: &mut Cell, rows: Places, columns: Places, transfer: Trans
 // Transfers some rows from the top down: each source row lies no higher than where it goes, so that it wasn't written so far.
 fn rows_down(cell: &mut Cell, rows: Places, columns: Places, transfer: Transfer, mask: u8)
     requires live { cell.old.state ≡ view.Live }
-    requires rows { rows.from ≤ rows.end }
     requires bottom { rows.end ≤ 2048 }
-    requires columns { columns.from ≤ columns.end }
     requires right { columns.end ≤ 2048 }
     requires near { AreNear transfer }
     requires order { pos 0 ≤ℤ transfer.dy }
@@ -109,9 +101,7 @@ fn rows_down(cell: &mut Cell, rows: Places, columns: Places, transfer: Transfer,
 // Transfers some rows from the bottom up: each source row lies no lower than where it goes.
 fn rows_up(cell: &mut Cell, rows: Places, columns: Places, transfer: Transfer, mask: u8)
     requires live { cell.old.state ≡ view.Live }
-    requires rows { rows.from ≤ rows.end }
     requires bottom { rows.end ≤ 2048 }
-    requires columns { columns.from ≤ columns.end }
     requires right { columns.end ≤ 2048 }
     requires near { AreNear transfer }
     requires order { transfer.dy ≤ℤ pos 0 }
@@ -138,7 +128,6 @@ fn transfer_row(
 )
     requires live { cell.old.state ≡ view.Live }
     requires row { y < 2048 }
-    requires columns { columns.from ≤ columns.end }
     requires right { columns.end ≤ 2048 }
     requires near { AreNear transfer }
     ensures { cell.new ≡ with_live

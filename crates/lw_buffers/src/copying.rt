@@ -7,12 +7,9 @@ ghost use Rattle.lw_planes.specs.Row.{bit_of, row_bit};
 ghost use Rattle.lw_buffers.specs.Lookup.{IsBufferOf, AreBuffers, pen_from, pen_in};
 
 use crate::shared::shared_part;
-use lw_kernels::{combine, fill};
+use lw_kernels::{COPY_MINTERM, combine, fill};
 use lw_planes::Planes;
 use lw_region::Rect;
-
-// The minterm whose value is the source bit.
-const COPY: u8 = 0xc0;
 
 /// Reads one plane of the pixels of row `y`, from column `x` on, as many as `bits` has bits: each bit becomes the plane's bit
 /// of the pen that the first rectangle with this place has there, and 0 where no rectangle has it. The bits of `kept` say
@@ -92,7 +89,14 @@ fn copy_from(
 {
     if let Some(part) = shared_part(rect, x, y, bits.len()) {
         let source = buffer.row(plane, part.line);
-        combine(bits, part.bit, source, part.column, part.count, COPY);
+        combine(
+            bits,
+            part.bit,
+            source,
+            part.column,
+            part.count,
+            COPY_MINTERM,
+        );
         fill(kept, part.bit, part.count, true);
     }
 }

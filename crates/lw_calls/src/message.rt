@@ -33,12 +33,14 @@ impl Model for Messages {
 impl Messages {
     ghost use Rattle.std.specs.Prelude.{◌≡◌};
 
+    /// A port's messages as they stand in the vector: the first one is the oldest. No memory is taken.
     pub fn new(messages: Vec<Message>) -> Messages
         ensures { result ≡ messages.items }
     {
         Messages { messages }
     }
 
+    /// The messages, the oldest first.
     pub fn list(&self) -> &[Message]
         ensures { result.now ≡ self.now }
     {

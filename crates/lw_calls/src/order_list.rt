@@ -17,12 +17,14 @@ impl Model for OrderList {
 impl OrderList {
     ghost use Rattle.std.specs.Prelude.{◌≡◌};
 
+    /// The order in which the vector names the tasks, each by its number from 0 on. No memory is taken.
     pub fn new(tasks: Vec<u32>) -> OrderList
         ensures { result ≡ tasks.items }
     {
         OrderList { tasks }
     }
 
+    /// The numbers of the tasks, in the order in which their calls are made.
     pub fn tasks(&self) -> &[u32]
         ensures { result.now ≡ self.now }
     {

@@ -68,6 +68,7 @@ impl Plan {
         Plan { parts }
     }
 
+    /// The sizes of the screen, and how many slots, tasks and bitmaps there are.
     pub fn sizes(&self) -> &Sizes
         ensures value { result.now ≡ self.now.sizes }
         ensures plan { IsPlan self.now }

@@ -60,12 +60,14 @@ impl Model for Replies {
 impl Replies {
     ghost use Rattle.std.specs.Prelude.{◌≡◌, [], ◌∷◌, ◌++◌, length, OnOk, OnErr};
 
+    /// A task's replies as they stand in the vector: the first one is that to its first call. No memory is taken.
     pub fn new(replies: Vec<Reply>) -> Replies
         ensures { result ≡ replies.items }
     {
         Replies { replies }
     }
 
+    /// The replies, in the order of the task's calls.
     pub fn list(&self) -> &[Reply]
         ensures { result.now ≡ self.now }
     {

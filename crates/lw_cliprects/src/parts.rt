@@ -27,7 +27,7 @@ impl Model for Parts {
 }
 
 impl Parts {
-    /// Cuts the bounds into the rectangles of the visible region and those of what it leaves of the bounds.
+    /// Cuts the bounds into the rectangles of the visible region, which lies in the bounds, and those of what it leaves of them.
     pub fn cut(alloc: Global, bounds: &Rect, visible: &Region) -> Result<Parts, AllocError>
         requires { LieIn bounds.now visible.now }
         ensures { IfOk result (λ parts. parts ≡ record { bounds = bounds.now; visible = visible.now }) }

@@ -4,12 +4,13 @@ use Rattle.std.proofs.lemmas.Bool.{and_parts, true≢false, cases_Bool}
 use Rattle.std.proofs.lemmas.Bool.Decides.{nat_tests}
 use Rattle.std.proofs.lemmas.Int.{ints}
 use Rattle.lw_region.proofs.Within.{within_low}
+use Rattle.lw_region.specs.Rectangle.{width}
 use Rattle.lw_planes.specs.Row.{row_bit}
 use Rattle.lw_planes.specs.Bitmap.{IsBitmap, row_bytes}
 use Rattle.lw_kernels.specs.Kernel.{is_named}
 use Rattle.lw_machine.specs.Screen.{distance}
 use Rattle.lw_layer.specs.View.{LiveView}
-use Rattle.lw_layer.specs.Pieces.{Layout, layout_of, columns, buffer_rectangle, column_in, line_in, in_line, HasLineBits, with_bytes}
+use Rattle.lw_layer.specs.Pieces.{Layout, layout_of, buffer_rectangle, column_in, line_in, in_line, HasLineBits, with_bytes}
 use Rattle.lw_layer.specs.Runs.{IsRun}
 use Rattle.lw_layer.specs.declared.run.Run.{Run}
 use Rattle.lw_layer.proofs.ViewLaws.{has_place}
@@ -102,7 +103,7 @@ outside_run c test x y r i j run out =
     (cases_Bool (in_run x y r.len i j))
 
 -- Once the bits of a run were changed in a line that was lent for a plane, the layer is drawn on there.
-pub run_drawn : (c : LiveView) (test : ℕ → ℕ → Bool) (k x y : ℕ) (r : Run) (old bytes : List ℕ) (new : ℕ → ℕ → ℕ → ℕ → ℕ) → IsBitmap c.layer.bits → k < c.layer.bits.depth → length bytes ≡ row_bytes (columns (buffer_rectangle (layout_of c) r.buffer)) → IsRun c test x y r → HasLineBits c k r.buffer r.line old → IsChanged c k x y r old bytes new → with_bytes c k r.buffer r.line bytes ≡ drawn (λ p i j. p == k && in_run x y r.len i j) new c
+pub run_drawn : (c : LiveView) (test : ℕ → ℕ → Bool) (k x y : ℕ) (r : Run) (old bytes : List ℕ) (new : ℕ → ℕ → ℕ → ℕ → ℕ) → IsBitmap c.layer.bits → k < c.layer.bits.depth → length bytes ≡ row_bytes (width (buffer_rectangle (layout_of c) r.buffer)) → IsRun c test x y r → HasLineBits c k r.buffer r.line old → IsChanged c k x y r old bytes new → with_bytes c k r.buffer r.line bytes ≡ drawn (λ p i j. p == k && in_run x y r.len i j) new c
 unfolding drawn
 run_drawn c test k x y r old bytes new ok deep long run has are =
     let l = layout_of c in

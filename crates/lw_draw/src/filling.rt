@@ -1,4 +1,4 @@
-ghost use Rattle.std.specs.Prelude.{◌≡◌, ◌+◌, ◌<◌, ◌≤◌};
+ghost use Rattle.std.specs.Prelude.{◌≡◌, ◌+◌, ◌<◌};
 ghost use Rattle.lw_machine.specs.Shapes.{rect_fill};
 ghost use Rattle.lw_layer.specs.View.{shows, with_live, with_layer};
 ghost use Rattle.lw_layer.specs.View as view;
@@ -26,9 +26,7 @@ pub fn fill(cell: &mut Cell, rect: &Rect)
 /// the planes that its mask has. No memory is taken.
 pub fn fill_rows(cell: &mut Cell, rows: Places, columns: Places, raster: Raster)
     requires live { cell.old.state ≡ view.Live }
-    requires rows { rows.from ≤ rows.end }
     requires bottom { rows.end < 65536 }
-    requires columns { columns.from ≤ columns.end }
     requires right { columns.end < 65536 }
     ensures { cell.new ≡ with_live
         (λ c. painted (raster_of raster) (λ i j. in_rows c rows.from rows.end columns.from columns.end i j) c)
@@ -45,7 +43,6 @@ pub fn fill_rows(cell: &mut Cell, rows: Places, columns: Places, raster: Raster)
 pub(crate) fn fill_row(cell: &mut Cell, y: u32, columns: Places, raster: Raster)
     requires live { cell.old.state ≡ view.Live }
     requires row { y < 65536 }
-    requires columns { columns.from ≤ columns.end }
     requires right { columns.end < 65536 }
     ensures { cell.new ≡ with_live
         (λ c. painted (raster_of raster) (λ i j. in_rows c y (y + 1) columns.from columns.end i j) c)

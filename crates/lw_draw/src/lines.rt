@@ -42,7 +42,6 @@ pub fn line(cell: &mut Cell, x: i16, y: i16)
 // Draws the pixels that a line has in some of its rows.
 fn line_rows(cell: &mut Cell, rows: Places, line: Line, raster: Raster)
     requires live { cell.old.state ≡ view.Live }
-    requires rows { rows.from ≤ rows.end }
     requires bottom { rows.end < 65536 }
     requires inside { (j : ℕ) → is_between rows.from rows.end j ≡ true → has_row line (pos j) ≡ true }
     ensures { cell.new ≡ with_live
@@ -77,7 +76,6 @@ fn line_row(cell: &mut Cell, y: u32, line: Line, walk: Walk, raster: Raster)
 // Of some columns those from 0 on and before the extent.
 fn within_extent(reach: Reach, extent: u32) -> Places
     requires { extent ≤ 2048 }
-    ensures ordered { result.from ≤ result.end }
     ensures inside { result.end ≤ extent }
     ensures has { (u : ℕ) → u < extent → in_reach reach (pos u) ≡ is_between result.from result.end u }
 {

@@ -4,20 +4,20 @@ ghost use Rattle.std.specs.Prelude.{◌≡◌, ℕ, ◌<◌, ◌≤◌, pos, ◌
 ghost use Rattle.lw_region.specs.Rectangle.{within};
 ghost use Rattle.lw_kernels.specs.Kernel.{is_between};
 
-/// Columns or rows of a layer, from one on and before another.
+/// Columns or rows of a layer, from one on and before another, which is the same where there is none of them.
 #[derive(Clone, Copy)]
 pub struct Places {
     /// The first of them.
     pub from: u32,
     /// The one after the last.
     pub end: u32,
+    pub ghost ordered: { from ≤ end },
 }
 
 /// Of the places from the least to the greatest, both inclusive, those from 0 on and before the extent, which is at most 2048.
 pub fn span(least: i16, greatest: i16, extent: u32) -> Places
     requires ordered { least ≤ℤ greatest }
     requires near { extent ≤ 2048 }
-    ensures ordered { result.from ≤ result.end }
     ensures inside { result.end ≤ extent }
     ensures has { (u : ℕ) → u < extent → within least (pos u) greatest ≡ is_between result.from result.end u }
 {

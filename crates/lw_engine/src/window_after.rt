@@ -1,14 +1,13 @@
 // What an arrangement makes of the window that a layer is which stays live.
 
 ghost use Rattle.std.specs.Prelude.{◌≡◌, ◌&&◌, ◌||◌, not, true, Option, Some};
-ghost use Rattle.lw_region.specs.Rectangle.{Rectangle};
+ghost use Rattle.lw_region.specs.Rectangle.{Rectangle, width, height};
 ghost use Rattle.lw_machine.specs.Hook.{Hook};
 ghost use Rattle.lw_machine.specs.Layer.{is_framed};
 ghost use Rattle.lw_machine.specs.Desk.{is_the};
 ghost use Rattle.lw_machine.specs.Reveal.{Across, same_bounds};
 ghost use Rattle.lw_layer.specs.View as view;
 ghost use Rattle.lw_layer.specs.View.{hooked};
-ghost use Rattle.lw_layer.specs.Pieces.{columns, lines};
 ghost use Rattle.lw_layer.specs.Windows.{HasRoom};
 ghost use Rattle.lw_frames.specs.Telling.{IsDone};
 ghost use Rattle.lw_stack.specs.Stack.{bounds_at};
@@ -115,21 +114,7 @@ fn has_other_bounds(before: &Rect, after: &Rect) -> bool
 fn has_other_size(before: &Rect, after: &Rect) -> bool
     ensures { result ≡ is_sized before.now after.now }
 {
-    columns_of(before) != columns_of(after) || lines_of(before) != lines_of(after)
-}
-
-// How many columns the rectangle has.
-fn columns_of(rect: &Rect) -> u32
-    ensures { result ≡ columns rect.now }
-{
-    (i32::from(rect.max_x()) + 1 - i32::from(rect.min_x())) as u32
-}
-
-// How many lines the rectangle has.
-fn lines_of(rect: &Rect) -> u32
-    ensures { result ≡ lines rect.now }
-{
-    (i32::from(rect.max_y()) + 1 - i32::from(rect.min_y())) as u32
+    before.width() != after.width() || before.height() != after.height()
 }
 
 // Whether the frame of a window that stays live is due: its size or its activity changed, or it gains a pixel of the frame.

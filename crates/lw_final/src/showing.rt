@@ -9,13 +9,10 @@ ghost use Rattle.lw_layer.specs.View as view;
 ghost use Rattle.lw_final.specs.Shown.{pen_shown, with_bits, with_pens, with_layer_shown};
 ghost use Rattle.lw_final.specs.Shown.{MayLieOn, IsPartOn, AreRowsFor, in_line, in_rectangle};
 
-use lw_kernels::combine;
+use lw_kernels::{COPY_MINTERM, combine};
 use lw_layer::Cell;
 use lw_planes::Planes;
 use lw_region::Rect;
-
-// The minterm whose value is the source bit.
-const COPY: u8 = 0xc0;
 
 /// Gives the places on which the cell's layer is visible the pens of its pixels, if there is a layer. It has to lie on the screen.
 /// `bits` and `kept` are equally long and have a bit for each column of the screen, and what stands in them is lost.
@@ -90,7 +87,14 @@ fn show_row(
     read_row(cell, plane, line, bits, kept);
     let left = place(rect.min_x());
     let width = place(rect.max_x()) + 1 - left;
-    combine(planes.row_mut(plane, line), left, bits, left, width, COPY);
+    combine(
+        planes.row_mut(plane, line),
+        left,
+        bits,
+        left,
+        width,
+        COPY_MINTERM,
+    );
 }
 
 // Reads one plane of the layer's pixels that lie on a row of the screen, so that each bit has the number of its column there.

@@ -9,6 +9,7 @@ ghost use Rattle.lw_draw.specs.Stretches.{in_stretch};
 ghost use Rattle.lw_hooks.specs.Filling.{byte_bit, planes_bit};
 
 use lw_draw::{Origin, Places, Stretch, combine_run, next_stretch};
+use lw_kernels::COPY_MINTERM;
 use lw_layer::Cell;
 
 // A row of a layer is at most 2048 pixels wide.
@@ -18,7 +19,6 @@ const MOST: usize = 256;
 pub(crate) fn paint_row(cell: &mut Cell, y: u32, columns: Places, bytes: &[u8; 8])
     requires live { cell.old.state ≡ view.Live }
     requires row { y < 65536 }
-    requires columns { columns.from ≤ columns.end }
     requires right { columns.end ≤ 2048 }
     ensures { cell.new ≡ with_live
         (λ c. drawn (λ p i j. in_rows c y (y + 1) columns.from columns.end i j) (planes_bit bytes.now) c)
@@ -57,6 +57,5 @@ fn paint_plane(cell: &mut Cell, plane: u32, stretch: Stretch, byte: u8)
 {
     let bits = [byte; MOST];
     let origin = Origin { column: 0, bit: 0 };
-    // This minterm copies.
-    combine_run(cell, plane, stretch, &bits, origin, 0xc0);
+    combine_run(cell, plane, stretch, &bits, origin, COPY_MINTERM);
 }

@@ -40,9 +40,7 @@ fn paint_rect(cell: &mut Cell, rect: &Rect, tile: &[[u8; 8]; 8])
 // The same of some rows and columns.
 fn paint_rows(cell: &mut Cell, rows: Places, columns: Places, tile: &[[u8; 8]; 8])
     requires live { cell.old.state ≡ view.Live }
-    requires rows { rows.from ≤ rows.end }
     requires bottom { rows.end < 65536 }
-    requires columns { columns.from ≤ columns.end }
     requires right { columns.end ≤ 2048 }
     ensures { cell.new ≡ with_live
         (λ c. drawn (λ p i j. in_rows c rows.from rows.end columns.from columns.end i j) (tile_bit tile.now) c)

@@ -7,6 +7,9 @@ ghost use Rattle.lw_kernels.specs.Kernel.{blit_bit, is_between, is_named, with_n
 use crate::bytes::{eight_bits, minterm_byte, replaced, shifted};
 use crate::copying::{copy_bytes, copy_unshifted};
 
+/// The minterm of a copy: the value is the source bit B, whatever the old value C is.
+pub const COPY_MINTERM: u8 = 0xc0;
+
 /// Blits `count` bits of one row onto those of another: each bit from `to_bit` on becomes the minterm's
 /// value for its source bit B, which stands as far from `source_bit` in the source, and its old value
 /// C. Minterm bit 0x80 is the value for B and C, 0x40 for B and not C, 0x20 for C and not B, 0x10 for
@@ -38,7 +41,7 @@ fn combine_between(to: &mut [u8], from: usize, end: usize, source: &[u8], place:
         then blit_bit minterm (row_bit source.now) place (row_bit to.old) from x
         else row_bit to.old x) }
 {
-    if minterm & 0xf0 != 0xc0 {
+    if minterm & 0xf0 != COPY_MINTERM {
         combine_others(to, from, end, source, place, minterm);
     } else if from % 8 == 0 && end % 8 == 0 && place % 8 == 0 {
         copy_unshifted(to, from / 8, end / 8, source, place / 8);
@@ -59,7 +62,7 @@ fn copy_across(to: &mut [u8], from: usize, end: usize, source: &[u8], place: usi
         then row_bit source.now (place + (x - from))
         else row_bit to.old x) }
 {
-    combine_parts(to, from, end, source, place, 0xc0);
+    combine_parts(to, from, end, source, place, COPY_MINTERM);
 }
 
 // As `combine_between`.
@@ -155,7 +158,7 @@ fn combine_bytes(to: &mut [u8], first: usize, last: usize, source: &[u8], place:
         then blit_bit minterm (row_bit source.now) place (row_bit to.old) (8 * first) x
         else row_bit to.old x) }
 {
-    if minterm & 0xf0 == 0xc0 {
+    if minterm & 0xf0 == COPY_MINTERM {
         copy_bytes(to, first, last, source, place);
     } else if place % 8 == 0 {
         combine_whole(to, first, last, source, place / 8, minterm);

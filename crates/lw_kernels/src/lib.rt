@@ -10,7 +10,7 @@ mod filling;
 mod moving;
 mod within;
 
-pub use combining::combine;
+pub use combining::{COPY_MINTERM, combine};
 pub use filling::{fill, flip};
 pub use within::combine_within;
 

@@ -5,7 +5,7 @@ ghost use Rattle.lw_planes.specs.Row.{row_bit, row_bits};
 ghost use Rattle.lw_kernels.specs.Kernel.{blit_bit, is_between, is_named, with_named};
 
 use crate::bytes::{eight_bits, minterm_byte};
-use crate::combining::{blit_byte, combine_whole};
+use crate::combining::{COPY_MINTERM, blit_byte, combine_whole};
 use crate::copying::copy_bytes;
 use crate::moving::{move_bytes, move_unshifted};
 
@@ -46,7 +46,7 @@ fn within_between(row: &mut [u8], from: usize, end: usize, place: usize, minterm
         then blit_bit minterm (row_bit row.old) place (row_bit row.old) from x
         else row_bit row.old x) }
 {
-    if minterm & 0xf0 != 0xc0 {
+    if minterm & 0xf0 != COPY_MINTERM {
         within_others(row, from, end, place, minterm);
     } else if from % 8 == 0 && end % 8 == 0 && place % 8 == 0 {
         move_unshifted(row, from / 8, end / 8, place / 8);
@@ -67,7 +67,7 @@ fn move_across(row: &mut [u8], from: usize, end: usize, place: usize)
         then row_bit row.old (place + (x - from))
         else row_bit row.old x) }
 {
-    within_parts(row, from, end, place, 0xc0);
+    within_parts(row, from, end, place, COPY_MINTERM);
 }
 
 // As `within_between`.
@@ -177,7 +177,7 @@ fn within_bytes(row: &mut [u8], first: usize, last: usize, place: usize, minterm
         then blit_bit minterm (row_bit row.old) place (row_bit row.old) (8 * first) x
         else row_bit row.old x) }
 {
-    if minterm & 0xf0 == 0xc0 {
+    if minterm & 0xf0 == COPY_MINTERM {
         move_bytes(row, first, last, place);
     } else if last - first >= MANY {
         within_many(row, first, last, place, minterm);

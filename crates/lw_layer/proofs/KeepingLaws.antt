@@ -2,7 +2,7 @@
 use Rattle.std.proofs.Common.{◌≡◌, ℕ, ◌<◌, ◌≤◌, Bool, true, false, ◌&&◌, nat_lt, List, [], ◌∷◌, ℤ, pos, negsuc, ◌+ℤ◌, ◌-ℤ◌, ◌≤ℤ◌, unsigned_abs, ◌∙◌, sym, refl, ap, ⊎_elim, arith}
 use Rattle.std.proofs.lemmas.Int.{ints}
 use Rattle.std.proofs.lemmas.Bool.{and_parts, cases_lt, lt-ltb, le-ltb, false_from_ne_true, both_ways}
-use Rattle.lw_region.specs.Rectangle.{Rectangle, within, has_pixel, IsOrdered, IsWord}
+use Rattle.lw_region.specs.Rectangle.{Rectangle, within, has_pixel, IsOrdered, IsWord, width, height}
 use Rattle.lw_region.specs.Bands.{covers}
 use Rattle.lw_region.specs.Regions.{MayMove, moved_list}
 use Rattle.lw_region.proofs.Within.{within_true, within_below, within_above, within_low, within_high}
@@ -14,7 +14,6 @@ use Rattle.lw_calls.specs.Kinds.{is_super}
 use Rattle.lw_cliprects.specs.Parts.{LieIn}
 use Rattle.lw_machine.specs.Kept.{is_kept, kept_as, holds_at}
 use Rattle.lw_layer.specs.View.{LiveView, keeps}
-use Rattle.lw_layer.specs.Pieces.{columns, lines}
 use Rattle.lw_layer.specs.StandsFor.{IsSound}
 use Rattle.lw_layer.specs.Keeping.{keeps_pixel, AreKept}
 
@@ -27,8 +26,8 @@ near_word low high z by has near back =
     (omega (arith, ints), omega (arith, ints))
 
 -- what lies in bounds of a layer may be moved by their corner's distance from the origin
-pub may_move : (bounds : Rectangle) (rects : List Rectangle) (dx dy : ℤ) → LieIn bounds rects → columns bounds ≤ 2048
-    → lines bounds ≤ 2048
+pub may_move : (bounds : Rectangle) (rects : List Rectangle) (dx dy : ℤ) → LieIn bounds rects → width bounds ≤ 2048
+    → height bounds ≤ 2048
     → bounds.min_x +ℤ dx ≡ pos 0 → bounds.min_y +ℤ dy ≡ pos 0 → MayMove rects dx dy
 may_move bounds rects dx dy inside wide high left upper x y has =
     let sides = and_parts (within bounds.min_x x bounds.max_x) (within bounds.min_y y bounds.max_y) (inside x y has) in
@@ -65,8 +64,8 @@ pub record IsPlain (c : LiveView) : Type 0 where
   pub inside : LieIn c.bounds c.visible
   pub left : c.layer.scroll_x ≡ 0
   pub upper : c.layer.scroll_y ≡ 0
-  pub wide : c.layer.bits.width ≡ columns c.bounds
-  pub high : c.layer.bits.height ≡ lines c.bounds
+  pub wide : c.layer.bits.width ≡ width c.bounds
+  pub high : c.layer.bits.height ≡ height c.bounds
 
 -- the places of an extent, from its least on
 extent_places : (low high : ℤ) (x : ℕ) → low ≤ℤ high

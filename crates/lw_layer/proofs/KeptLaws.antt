@@ -5,7 +5,7 @@ use Rattle.std.proofs.lemmas.Int.{ints}
 use Rattle.std.proofs.lemmas.List.{get_or_append_left, get_or_at, get_or-append-add}
 use Rattle.std.proofs.Math.Bool.{and-false}
 use Rattle.std.proofs.lemmas.Bool.{and_parts, and_from}
-use Rattle.lw_region.specs.Rectangle.{Rectangle, within, has_pixel, IsOrdered}
+use Rattle.lw_region.specs.Rectangle.{Rectangle, within, has_pixel, IsOrdered, width, height}
 use Rattle.lw_region.specs.Bands.{covers}
 use Rattle.lw_region.proofs.Disjoint.{has_at}
 use Rattle.lw_region.proofs.FindingLaws.{covers_none}
@@ -18,7 +18,7 @@ use Rattle.lw_calls.specs.declared.make.Kind.TheVariants.{Simple, Smart, SuperBi
 use Rattle.lw_cliprects.specs.Parts.{hidden_of, AreDivided}
 use Rattle.lw_machine.specs.Kept.{is_kept, is_drawable, holds_at}
 use Rattle.lw_layer.specs.View.{keeps, draws}
-use Rattle.lw_layer.specs.Pieces.{Layout, columns, lines, buffered, buffer_rectangle, rest_as, rest_of, whole_of, across, down, found_in, buffer_at, line_in, in_line}
+use Rattle.lw_layer.specs.Pieces.{Layout, buffered, buffer_rectangle, rest_as, rest_of, whole_of, across, down, found_in, buffer_at, line_in, in_line}
 use Rattle.lw_layer.specs.Drafts.{IsLiveDraft, IsRest, width_of, height_of, layout, live_view}
 use Rattle.lw_layer.specs.Runs.{IsRun}
 use Rattle.lw_layer.specs.Code.{HasPlace, IsReach, IsKeptReach, lets_draw}
@@ -91,7 +91,7 @@ run_some d x y n kept len bit line found reach drawn some is_bit is_line =
     let end : ℕ = x + (len - 1) in
     let last = has_place l end y n (reach.found end (omega arith) (omega (arith, drawn.upto))) in
     let last_step = column_step l.bounds.min_x (buffer_rectangle l n).min_x l.scroll_x x end bit left (omega arith) is_bit in
-    let last_inside : bit + len ≤ columns (buffer_rectangle l n) = omega (arith, last.column, last_step) in
+    let last_inside : bit + len ≤ width (buffer_rectangle l n) = omega (arith, last.column, last_step) in
     record {
       some = some;
       there = record { buffer = place.there; below = omega (arith, place.line) };
@@ -123,7 +123,7 @@ unfolding within
 bounds_within least greatest scroll x still ordered inside = grind (arith, ints)
 
 -- the bits of a layer without an own bitmap have the size of its bounds
-pub plain_size : (kind : Kind) (hidden covered : ℕ) (own : Option Bitmap) (bounds : Rectangle) → is_super kind ≡ false → IsRest kind hidden covered own → (width_of own bounds ≡ columns bounds) × (height_of own bounds ≡ lines bounds)
+pub plain_size : (kind : Kind) (hidden covered : ℕ) (own : Option Bitmap) (bounds : Rectangle) → is_super kind ≡ false → IsRest kind hidden covered own → (width_of own bounds ≡ width bounds) × (height_of own bounds ≡ height bounds)
 plain_size Simple hidden covered own bounds plain rest = (ap (λ o. width_of o bounds) rest.1, ap (λ o. height_of o bounds) rest.1)
 plain_size Smart hidden covered own bounds plain rest = (ap (λ o. width_of o bounds) rest.1, ap (λ o. height_of o bounds) rest.1)
 plain_size SuperBitmap hidden covered own bounds plain rest = absurd (cc plain)
@@ -134,8 +134,8 @@ in_bounds d x y is ok ordered left low =
     let size = plain_size d.kind _ _ d.superbits d.bounds plain ok.rest in
     let still_x = ok.scrolled.left plain in
     let still_y = ok.scrolled.upper plain in
-    let column : x < columns d.bounds = omega (arith, size.0) in
-    let row : y < lines d.bounds = omega (arith, size.1) in
+    let column : x < width d.bounds = omega (arith, size.0) in
+    let row : y < height d.bounds = omega (arith, size.1) in
     and_from _ _ (bounds_within d.bounds.min_x d.bounds.max_x (layout d).scroll_x x still_x ordered.columns column) (bounds_within d.bounds.min_y d.bounds.max_y (layout d).scroll_y y still_y ordered.rows row)
 
 -- a pixel of the bits that has no buffer isn't kept

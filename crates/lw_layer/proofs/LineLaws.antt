@@ -1,6 +1,7 @@
 -- A line of a buffer once bytes were written over it.
 use Rattle.std.proofs.Common.{◌≡◌, ℕ, ◌==◌, ◌<◌, ◌^◌, Bool, true, false, ◌&&◌, if◌then◌else◌, List, length, ◌∙◌, sym, refl, ap}
 use Rattle.std.specs.Int.{bit_at}
+use Rattle.lw_region.specs.Rectangle.{width, height}
 use Rattle.lw_planes.specs.Pen.{pen_of}
 use Rattle.lw_planes.specs.Row.{row_bit}
 use Rattle.lw_planes.specs.Bitmap.{Bitmap, IsBitmap, bitmap, pen_at, row_bytes}
@@ -12,7 +13,7 @@ use Rattle.lw_planes.proofs.WriteLaws.{bit_with_row, bit_with_row_written, bit_w
 use Rattle.lw_machine.specs.Desk.{is_the}
 use Rattle.lw_machine.proofs.Seen.{the_one}
 use Rattle.lw_layer.specs.View.{LiveView, repainted}
-use Rattle.lw_layer.specs.Pieces.{Layout, layout_of, columns, lines, buffer_rectangle, buffer_at, column_in, line_in, HasLine, in_line, with_bytes, with_line}
+use Rattle.lw_layer.specs.Pieces.{Layout, layout_of, buffer_rectangle, buffer_at, column_in, line_in, HasLine, in_line, with_bytes, with_line}
 use Rattle.lw_layer.specs.Code.{HasPlace}
 use Rattle.lw_layer.proofs.ViewLaws.{has_place, with_bits}
 
@@ -37,16 +38,16 @@ nowhere true a b = refl
 nowhere false a b = refl
 
 -- one pen, once bytes were written over a line of the buffer that has it or over one of another buffer
-pen_overwritten : (l : Layout) (d n k line : ℕ) (bytes : List ℕ) (x y pen : ℕ) (here : Bool) → (here ≡ true → HasPlace l x y n) → pen < 2 ^ d → k < d → HasLine l n line → length bytes ≡ row_bytes (columns (buffer_rectangle l n)) → (if here then pen_of d (λ p. overwritten_bit (columns (buffer_rectangle l n)) (lines (buffer_rectangle l n)) k line bytes (column_in l n x) (line_in l n y) p (bit_at pen p)) else pen) ≡ pen_of d (λ p. if p == k && (here && line_in l n y == line) then row_bit bytes (column_in l n x) else bit_at pen p)
+pen_overwritten : (l : Layout) (d n k line : ℕ) (bytes : List ℕ) (x y pen : ℕ) (here : Bool) → (here ≡ true → HasPlace l x y n) → pen < 2 ^ d → k < d → HasLine l n line → length bytes ≡ row_bytes (width (buffer_rectangle l n)) → (if here then pen_of d (λ p. overwritten_bit (width (buffer_rectangle l n)) (height (buffer_rectangle l n)) k line bytes (column_in l n x) (line_in l n y) p (bit_at pen p)) else pen) ≡ pen_of d (λ p. if p == k && (here && line_in l n y == line) then row_bit bytes (column_in l n x) else bit_at pen p)
 pen_overwritten l d n k line bytes x y pen true place small deep there long =
     let at = place refl in
-    pen_of_same d _ _ (λ p in_planes. bit_overwritten (columns (buffer_rectangle l n)) (lines (buffer_rectangle l n)) d k line bytes (column_in l n x) (line_in l n y) p pen deep there.below long at.column at.line in_planes)
+    pen_of_same d _ _ (λ p in_planes. bit_overwritten (width (buffer_rectangle l n)) (height (buffer_rectangle l n)) d k line bytes (column_in l n x) (line_in l n y) p pen deep there.below long at.column at.line in_planes)
 pen_overwritten l d n k line bytes x y pen false place small deep there long =
     sym (pen_same d pen small) ∙ pen_of_same d _ _ (λ p _. nowhere (p == k) (row_bit bytes (column_in l n x)) (bit_at pen p))
 
 -- Once as many bytes as a row of the buffer has were written over a line of it, the pixels with their pens there have the
 -- bits that the bytes hold.
-pub bytes_in_line : (c : LiveView) (k n line : ℕ) (bytes : List ℕ) → IsBitmap c.layer.bits → k < c.layer.bits.depth → HasLine (layout_of c) n line → length bytes ≡ row_bytes (columns (buffer_rectangle (layout_of c) n)) → with_bytes c k n line bytes ≡ with_line c k n line (λ i. row_bit bytes i)
+pub bytes_in_line : (c : LiveView) (k n line : ℕ) (bytes : List ℕ) → IsBitmap c.layer.bits → k < c.layer.bits.depth → HasLine (layout_of c) n line → length bytes ≡ row_bytes (width (buffer_rectangle (layout_of c) n)) → with_bytes c k n line bytes ≡ with_line c k n line (λ i. row_bit bytes i)
 unfolding with_bytes in_line
 bytes_in_line c k n line bytes ok deep there long =
     repainted_same c _ _

@@ -3,7 +3,7 @@ use Rattle.std.proofs.Common.{◌≡◌, ℕ, zero, suc, ◌+◌, ◌-◌, ◌<�
 use Rattle.std.proofs.lemmas.Bool.{cases_lt}
 use Rattle.std.proofs.lemmas.Int.{ints}
 use Rattle.std.proofs.lemmas.List.{get_or_append_left, get_or-append_right, get_or_past, append-nil, get_or-map, length-map}
-use Rattle.lw_region.specs.Rectangle.{Rectangle}
+use Rattle.lw_region.specs.Rectangle.{Rectangle, width, height}
 use Rattle.lw_region.proofs.Canonical.{covers_nil}
 use Rattle.lw_planes.specs.Grid.{grid, at}
 use Rattle.lw_planes.specs.Bitmap.{Bitmap, bitmap, pen_at}
@@ -16,7 +16,7 @@ use Rattle.lw_calls.specs.declared.make.Make.{Make}
 use Rattle.lw_calls.specs.Kinds.{is_super}
 use Rattle.lw_cliprects.specs.Parts.{hidden_of}
 use Rattle.lw_machine.specs.Arrangement.{bounds_of, blank}
-use Rattle.lw_layer.specs.Pieces.{Layout, columns, lines, inner_of, damage_table, whole_of, rest_as, buffer_at, column_in, line_in, HasFrameRoom}
+use Rattle.lw_layer.specs.Pieces.{Layout, inner_of, damage_table, whole_of, rest_as, buffer_at, column_in, line_in, HasFrameRoom}
 use Rattle.lw_layer.specs.Drafts.{IsLiveDraft, IsBuffer, AreBuffers, IsRest, layout, width_of, height_of, own_list, buffers_of, no_bitmap, pen_from, bits_of, live_view, window_of, room_of}
 use Rattle.lw_layer.specs.New.{blank_buffer, kept_hidden, own_blank, AreBlank, IsNewSize, new_live}
 use Rattle.lw_layer.specs.declared.draft.LiveDraft.{LiveDraft}
@@ -129,7 +129,7 @@ zero_blank depth rects bs are =
           λ n i j inside.
           let none : Rectangle = record { min_x = pos 0; min_y = pos 0; max_x = pos 0; max_y = pos 0 } in
           let is : get_or bs n no_bitmap ≡ blank_buffer depth (get_or rects n none) = ap (λ q. get_or q n no_bitmap) are.blank ∙ get_or-map (λ r. blank_buffer depth r) rects n none no_bitmap (omega (arith, many)) in
-          ap (λ b. pen_at b i j) is ∙ blank_pen (columns (get_or rects n none)) (lines (get_or rects n none)) depth i j;
+          ap (λ b. pen_at b i j) is ∙ blank_pen (width (get_or rects n none)) (height (get_or rects n none)) depth i j;
     }
 
 zero_first : (w h depth n i j : ℕ) → n < 1 → pen_at (get_or (bitmap w h depth (λ x y. 0) ∷ []) n no_bitmap) i j ≡ 0
@@ -179,7 +179,7 @@ new_draft d kind make depth bounds visible window = record d {
   depth = depth;
   raster = record { a = 1; b = 0; mode = 1; mask = 255; x = pos 0; y = pos 0 };
   clip = None;
-  damage = record { inner = inner_of (is_super kind) (is_framed (window_of window)) (columns bounds) (lines bounds); rects = []; updating = false };
+  damage = record { inner = inner_of (is_super kind) (is_framed (window_of window)) (width bounds) (height bounds); rects = []; updating = false };
   parts = record { bounds = bounds; visible = visible };
   superbits = own_blank kind depth make;
   active = false;
@@ -192,13 +192,13 @@ new_sizes Simple make depth bounds is size = size.sizes
 new_sizes Smart make depth bounds is size = size.sizes
 new_sizes SuperBitmap make depth bounds is size = size.own (ap is_super is)
 
-new_right : (kind : Kind) (make : Make) (depth : ℕ) (bounds : Rectangle) → make.kind ≡ kind → IsNewSize make depth bounds → (0 + columns bounds ≤ width_of (own_blank kind depth make) bounds) × (0 + lines bounds ≤ height_of (own_blank kind depth make) bounds)
+new_right : (kind : Kind) (make : Make) (depth : ℕ) (bounds : Rectangle) → make.kind ≡ kind → IsNewSize make depth bounds → (0 + width bounds ≤ width_of (own_blank kind depth make) bounds) × (0 + height bounds ≤ height_of (own_blank kind depth make) bounds)
 new_right Simple make depth bounds is size = (omega arith, omega arith)
 new_right Smart make depth bounds is size = (omega arith, omega arith)
 new_right SuperBitmap make depth bounds is size = (omega (arith, size.right (ap is_super is)), omega (arith, size.lower (ap is_super is)))
 
 -- damage lies in all of a layer without an own bitmap
-new_inner : (kind : Kind) (framed : Bool) (make : Make) (depth : ℕ) (bounds : Rectangle) → inner_of (is_super kind) framed (columns bounds) (lines bounds) ≡ inner_of (is_super kind) framed (width_of (own_blank kind depth make) bounds) (height_of (own_blank kind depth make) bounds)
+new_inner : (kind : Kind) (framed : Bool) (make : Make) (depth : ℕ) (bounds : Rectangle) → inner_of (is_super kind) framed (width bounds) (height bounds) ≡ inner_of (is_super kind) framed (width_of (own_blank kind depth make) bounds) (height_of (own_blank kind depth make) bounds)
 new_inner Simple framed make depth bounds = refl
 new_inner Smart framed make depth bounds = refl
 new_inner SuperBitmap framed make depth bounds = refl

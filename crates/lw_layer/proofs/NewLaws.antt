@@ -2,11 +2,10 @@
 use Rattle.std.proofs.Common.{◌≡◌, ℕ, ◌<◌, ◌≤◌, true, List, length, get_or, arith, ℤ, pos, ◌+ℤ◌, ◌-ℤ◌, ◌≤ℤ◌, unsigned_abs}
 use Rattle.std.proofs.lemmas.Int.{ints}
 use Rattle.std.proofs.lemmas.Bool.{and_parts, and_from}
-use Rattle.lw_region.specs.Rectangle.{Rectangle, within, has_pixel, IsOrdered}
+use Rattle.lw_region.specs.Rectangle.{Rectangle, within, has_pixel, IsOrdered, width, height}
 use Rattle.lw_region.proofs.Disjoint.{has_at}
 use Rattle.lw_planes.specs.Sizes.{AreSizes}
 use Rattle.lw_cliprects.specs.Parts.{LieIn}
-use Rattle.lw_layer.specs.Pieces.{columns, lines}
 
 -- the edges of a part of an extent
 edges_within : (least greatest : ℤ) → least ≤ℤ greatest → (within least least greatest ≡ true) × (within least greatest greatest ≡ true)
@@ -18,7 +17,7 @@ unfolding within
 part_extent least greatest low high ordered first last = (grind (arith, ints), grind (arith, ints))
 
 -- a rectangle in the bounds is no larger than these
-pub part_size : (r bounds : Rectangle) (depth : ℕ) → IsOrdered r → ((x y : ℤ) → has_pixel r x y ≡ true → has_pixel bounds x y ≡ true) → AreSizes (columns bounds) (lines bounds) depth → AreSizes (columns r) (lines r) depth
+pub part_size : (r bounds : Rectangle) (depth : ℕ) → IsOrdered r → ((x y : ℤ) → has_pixel r x y ≡ true → has_pixel bounds x y ≡ true) → AreSizes (width bounds) (height bounds) depth → AreSizes (width r) (height r) depth
 part_size r bounds depth ordered inside sizes =
     let across = edges_within r.min_x r.max_x ordered.columns in
     let down = edges_within r.min_y r.max_y ordered.rows in

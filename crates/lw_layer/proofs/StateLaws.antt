@@ -4,13 +4,14 @@ use Rattle.std.specs.Int.{bit_at}
 use Rattle.std.specs.List.{slice_index_or}
 use Rattle.std.proofs.lemmas.Bool.{and_parts}
 use Rattle.std.proofs.lemmas.Bool.Decides.{nat_tests}
+use Rattle.lw_region.specs.Rectangle.{width}
 use Rattle.lw_planes.specs.Bitmap.{row_bytes, pen_at}
 use Rattle.lw_planes.proofs.BitmapLaws.{pen_at_bitmap}
 use Rattle.lw_machine.specs.Desk.{is_the}
 use Rattle.lw_machine.proofs.Seen.{the_one}
 use Rattle.lw_layer.specs.View.{with_live}
 use Rattle.lw_layer.specs.View as view
-use Rattle.lw_layer.specs.Pieces.{Layout, layout_of, columns, buffer_rectangle, buffer_at, column_in, line_in, in_line, HasLine, HasLineBits, with_bytes}
+use Rattle.lw_layer.specs.Pieces.{Layout, layout_of, buffer_rectangle, buffer_at, column_in, line_in, in_line, HasLine, HasLineBits, with_bytes}
 use Rattle.lw_layer.specs.Drafts.{IsLiveDraft, IsState, layout, buffers_of, no_bitmap, pen_from, live_view, cell_view}
 use Rattle.lw_layer.specs.Written.{HasRow, HasPlaneLine, WhereLive, changed_live, with_line_bytes}
 use Rattle.lw_layer.specs.declared.draft.DraftState.{DraftState}
@@ -59,7 +60,7 @@ row_bits_of d plane n line row ok has x y is =
     ap (λ p. bit_at p plane) (ap (λ j. pen_at (slice_index_or (buffers_of d) n no_bitmap) (column_in l n x) j) (sym at.0) ∙ (ap (λ o. pen_from (buffers_of d) l o x y) (sym at.1) ∙ sym pen))
 
 -- a live cell's row, as contracts see it
-pub row_of_cell : (s : DraftState) (slot plane n line : ℕ) (row : List ℕ) → IsState s → WhereLive (λ d. HasRow d plane n line row) s → (length row ≡ row_bytes (columns (buffer_rectangle (layout_of (cell_view (record { slot = slot; state = s })).live) n))) × HasLineBits (cell_view (record { slot = slot; state = s })).live plane n line row
+pub row_of_cell : (s : DraftState) (slot plane n line : ℕ) (row : List ℕ) → IsState s → WhereLive (λ d. HasRow d plane n line row) s → (length row ≡ row_bytes (width (buffer_rectangle (layout_of (cell_view (record { slot = slot; state = s })).live) n))) × HasLineBits (cell_view (record { slot = slot; state = s })).live plane n line row
 row_of_cell Unopened slot plane n line row ok has = absurd has
 row_of_cell Closed slot plane n line row ok has = absurd has
 row_of_cell (Live d) slot plane n line row ok has = (has.long, row_bits_of d plane n line row ok has)

@@ -7,7 +7,7 @@ use Rattle.std.proofs.lemmas.Bool.Decides.{nat_tests}
 use Rattle.std.proofs.lemmas.Int.{ints}
 use Rattle.std.proofs.lemmas.List.{get_or-set_same, get_or-set_other}
 use Rattle.std.proofs.lemmas.List.Quantifiers.{position-Some}
-use Rattle.lw_region.specs.Rectangle.{Rectangle, within, has_pixel}
+use Rattle.lw_region.specs.Rectangle.{Rectangle, within, has_pixel, width, height}
 use Rattle.lw_planes.specs.Pen.{pen_of}
 use Rattle.lw_planes.specs.Bitmap.{Bitmap, bitmap, pen_at}
 use Rattle.lw_planes.specs.Change.{overwritten_bit, written_rows, with_row}
@@ -15,7 +15,7 @@ use Rattle.lw_planes.proofs.BitmapLaws.{pen_at_bitmap, bitmap_same}
 use Rattle.lw_machine.specs.Desk.{is_the}
 use Rattle.lw_machine.specs.Screen.{distance}
 use Rattle.lw_layer.specs.View.{LiveView}
-use Rattle.lw_layer.specs.Pieces.{Layout, columns, lines, buffered, buffer_rectangle, across, down, found_in, buffer_at, column_in, line_in, with_bytes}
+use Rattle.lw_layer.specs.Pieces.{Layout, buffered, buffer_rectangle, across, down, found_in, buffer_at, column_in, line_in, with_bytes}
 use Rattle.lw_layer.specs.Code.{HasPlace}
 use Rattle.lw_layer.specs.Drafts.{IsLiveDraft, IsBuffer, layout, buffers_of, no_bitmap, pen_from, bits_of, live_view}
 use Rattle.lw_layer.specs.declared.draft.LiveDraft.{LiveDraft}
@@ -54,17 +54,17 @@ unfolding written_rows
 pen_with_row b k line bytes i j left low = pen_at_bitmap b.width b.height b.depth _ i j left low
 
 -- the same, for a buffer of a rectangle's size
-pen_written : (depth : ℕ) (r : Rectangle) (b : Bitmap) (k line : ℕ) (bytes : List ℕ) (i j : ℕ) → IsBuffer depth r b → i < columns r → j < lines r → pen_at (with_row b k line bytes) i j ≡ pen_of depth (λ p. overwritten_bit (columns r) (lines r) k line bytes i j p (bit_at (pen_at b i j) p))
+pen_written : (depth : ℕ) (r : Rectangle) (b : Bitmap) (k line : ℕ) (bytes : List ℕ) (i j : ℕ) → IsBuffer depth r b → i < width r → j < height r → pen_at (with_row b k line bytes) i j ≡ pen_of depth (λ p. overwritten_bit (width r) (height r) k line bytes i j p (bit_at (pen_at b i j) p))
 pen_written depth r b k line bytes i j is left low =
     let left_in : i < b.width = omega (arith, is.width) in
     let low_in : j < b.height = omega (arith, is.height) in
     pen_with_row b k line bytes i j left_in low_in ∙
     (ap (λ q. pen_of q (λ p. overwritten_bit b.width b.height k line bytes i j p (bit_at (pen_at b i j) p))) is.planes ∙
     (ap (λ q. pen_of depth (λ p. overwritten_bit q b.height k line bytes i j p (bit_at (pen_at b i j) p))) is.width ∙
-    ap (λ q. pen_of depth (λ p. overwritten_bit (columns r) q k line bytes i j p (bit_at (pen_at b i j) p))) is.height))
+    ap (λ q. pen_of depth (λ p. overwritten_bit (width r) q k line bytes i j p (bit_at (pen_at b i j) p))) is.height))
 
 -- the pen of one pixel once bytes were written into buffer n
-pen_changed : (l : Layout) (depth : ℕ) (bs : List Bitmap) (n k line : ℕ) (bytes : List ℕ) (x y : ℕ) (found : Option ℕ) → found ≡ buffer_at l x y → length bs ≡ length (buffered l) → IsBuffer depth (buffer_rectangle l n) (slice_index_or bs n no_bitmap) → n < length (buffered l) → pen_from (set bs n (with_row (slice_index_or bs n no_bitmap) k line bytes)) l found x y ≡ (if is_the found n then pen_of depth (λ p. overwritten_bit (columns (buffer_rectangle l n)) (lines (buffer_rectangle l n)) k line bytes (column_in l n x) (line_in l n y) p (bit_at (pen_from bs l found x y) p)) else pen_from bs l found x y)
+pen_changed : (l : Layout) (depth : ℕ) (bs : List Bitmap) (n k line : ℕ) (bytes : List ℕ) (x y : ℕ) (found : Option ℕ) → found ≡ buffer_at l x y → length bs ≡ length (buffered l) → IsBuffer depth (buffer_rectangle l n) (slice_index_or bs n no_bitmap) → n < length (buffered l) → pen_from (set bs n (with_row (slice_index_or bs n no_bitmap) k line bytes)) l found x y ≡ (if is_the found n then pen_of depth (λ p. overwritten_bit (width (buffer_rectangle l n)) (height (buffer_rectangle l n)) k line bytes (column_in l n x) (line_in l n y) p (bit_at (pen_from bs l found x y) p)) else pen_from bs l found x y)
 pen_changed l depth bs n k line bytes x y None is many buffer there = refl
 pen_changed l depth bs n k line bytes x y (Some m) is many buffer there =
     let b = slice_index_or bs n no_bitmap in
@@ -81,7 +81,7 @@ pen_changed l depth bs n k line bytes x y (Some m) is many buffer there =
     (cases_eq m n)
 
 -- the bits of a layer once bytes were written into buffer n
-pub bits_written : (l : Layout) (depth : ℕ) (bs : List Bitmap) (n k line : ℕ) (bytes : List ℕ) → length bs ≡ length (buffered l) → IsBuffer depth (buffer_rectangle l n) (slice_index_or bs n no_bitmap) → n < length (buffered l) → bits_of l depth (set bs n (with_row (slice_index_or bs n no_bitmap) k line bytes)) ≡ bitmap l.width l.height depth (λ x y. if is_the (buffer_at l x y) n then pen_of depth (λ p. overwritten_bit (columns (buffer_rectangle l n)) (lines (buffer_rectangle l n)) k line bytes (column_in l n x) (line_in l n y) p (bit_at (pen_at (bits_of l depth bs) x y) p)) else pen_at (bits_of l depth bs) x y)
+pub bits_written : (l : Layout) (depth : ℕ) (bs : List Bitmap) (n k line : ℕ) (bytes : List ℕ) → length bs ≡ length (buffered l) → IsBuffer depth (buffer_rectangle l n) (slice_index_or bs n no_bitmap) → n < length (buffered l) → bits_of l depth (set bs n (with_row (slice_index_or bs n no_bitmap) k line bytes)) ≡ bitmap l.width l.height depth (λ x y. if is_the (buffer_at l x y) n then pen_of depth (λ p. overwritten_bit (width (buffer_rectangle l n)) (height (buffer_rectangle l n)) k line bytes (column_in l n x) (line_in l n y) p (bit_at (pen_at (bits_of l depth bs) x y) p)) else pen_at (bits_of l depth bs) x y)
 bits_written l depth bs n k line bytes many buffer there =
     bitmap_same l.width l.height depth _ _
     (λ x y left low.

@@ -3,10 +3,10 @@
 use Rattle.std.specs.Prelude.{◌≡◌, ℕ, ◌+◌, ◌<◌, ◌≤◌, Bool, true, false, not, ◌&&◌, ◌||◌, ℤ, pos, ◌≤ℤ◌, Option, Some, None, length}
 use Rattle.lw_region.specs.Bands.{covers}
 use Rattle.lw_machine.specs.Kept.{in_clip}
-use Rattle.lw_layer.specs.Pieces.{Layout, columns, lines, buffered, buffer_rectangle, across, down, column_in, line_in, buffer_at}
+use Rattle.lw_layer.specs.Pieces.{Layout, buffered, buffer_rectangle, across, down, column_in, line_in, buffer_at}
 use Rattle.lw_layer.specs.Drafts.{clip_set}
 use Rattle.lw_layer.specs.declared.draft.LiveDraft.{LiveDraft}
-use Rattle.lw_region.specs.Rectangle.{Rectangle, has_pixel}
+use Rattle.lw_region.specs.Rectangle.{Rectangle, has_pixel, width, height}
 use Rattle.lw_layer.specs.declared.places.Edges.{Edges}
 
 -- the edges are those of the rectangle
@@ -22,8 +22,8 @@ pub record HasPlace (l : Layout) (x y n : ℕ) : Type 0 where
   pub there : n < length (buffered l)
   pub has : has_pixel (buffer_rectangle l n) (across l x) (down l y) ≡ true
   pub first : (k : ℕ) → k < n → has_pixel (buffer_rectangle l k) (across l x) (down l y) ≡ false
-  pub column : column_in l n x < columns (buffer_rectangle l n)
-  pub line : line_in l n y < lines (buffer_rectangle l n)
+  pub column : column_in l n x < width (buffer_rectangle l n)
+  pub line : line_in l n y < height (buffer_rectangle l n)
 
 -- Of len places from x on, the test holds for the first n, and n is 0 only where it doesn't hold for x.
 pub record IsReach (test : ℕ → Bool) (x len n : ℕ) : Type 0 where

@@ -1,7 +1,7 @@
 -- Which slot a draft stands for, and what has to hold of a draft.
 use Rattle.std.specs.Prelude.{◌≡◌, ℕ, ◌+◌, ◌<◌, ◌≤◌, true, false, List, [], ◌∷◌, ◌++◌, length, ℤ, pos, ◌≤ℤ◌, unsigned_abs, Option, Some, None}
 use Rattle.std.specs.List.{slice_index_or}
-use Rattle.lw_region.specs.Rectangle.{Rectangle}
+use Rattle.lw_region.specs.Rectangle.{Rectangle, width, height}
 use Rattle.lw_region.specs.Pixels.{Pixel, pixels_of}
 use Rattle.lw_region.specs.Bands.{covers}
 use Rattle.lw_planes.specs.Bitmap.{Bitmap, bitmap, pen_at}
@@ -14,7 +14,7 @@ use Rattle.lw_machine.specs.Layer.{Raster, Window, new_raster, is_framed}
 use Rattle.lw_machine.specs.Kept.{holds_at}
 use Rattle.lw_layer.specs.View.{State, LiveView, CellView, keeps}
 use Rattle.lw_layer.specs.View as view
-use Rattle.lw_layer.specs.Pieces.{Layout, inner_in, HasFrameRoom, damage_table, columns, lines, buffered, buffer_at, column_in, line_in}
+use Rattle.lw_layer.specs.Pieces.{Layout, inner_in, HasFrameRoom, damage_table, buffered, buffer_at, column_in, line_in}
 use Rattle.lw_layer.specs.declared.raster.Raster.{Raster as RasterCode}
 use Rattle.lw_layer.specs.declared.draft.Draft.{Draft}
 use Rattle.lw_layer.specs.declared.draft.DraftState.{DraftState}
@@ -33,11 +33,11 @@ clip_set (Some rects) = Some (pixels_of rects)
 
 -- the size of the layer's bits: that of its own bitmap, if it has one, and else that of its bounds
 abbrev pub width_of : Option Bitmap → Rectangle → ℕ
-width_of None bounds = columns bounds
+width_of None bounds = width bounds
 width_of (Some own) bounds = own.width
 
 abbrev pub height_of : Option Bitmap → Rectangle → ℕ
-height_of None bounds = lines bounds
+height_of None bounds = height bounds
 height_of (Some own) bounds = own.height
 
 -- where the pixels of the draft's layer lie
@@ -118,8 +118,8 @@ live_view d =
 -- a buffer of its rectangle's size, with the layer's planes
 pub record IsBuffer (depth : ℕ) (r : Rectangle) (b : Bitmap) : Type 0 where
   pub sound : IsPlanes b
-  pub width : b.width ≡ columns r
-  pub height : b.height ≡ lines r
+  pub width : b.width ≡ width r
+  pub height : b.height ≡ height r
   pub planes : b.depth ≡ depth
 
 -- each rectangle has its buffer
@@ -137,8 +137,8 @@ IsRest SuperBitmap hidden covered own = (covered ≡ 0) × (b : Bitmap) × (own 
 pub record IsScrolled (l : Layout) : Type 0 where
   pub left : is_super l.kind ≡ false → l.scroll_x ≡ 0
   pub upper : is_super l.kind ≡ false → l.scroll_y ≡ 0
-  pub right : l.scroll_x + columns l.bounds ≤ l.width
-  pub lower : l.scroll_y + lines l.bounds ≤ l.height
+  pub right : l.scroll_x + width l.bounds ≤ l.width
+  pub lower : l.scroll_y + height l.bounds ≤ l.height
 
 -- What has to hold of the draft of a live layer.
 pub record IsLiveDraft (d : LiveDraft) : Type 0 where

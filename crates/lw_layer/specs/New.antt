@@ -1,7 +1,7 @@
 -- New layers (the manual's Layers Library chapter: CreateUpfrontLayer and CreateBehindLayer; that all pens are 0 is this
 -- project's own).
 use Rattle.std.specs.Prelude.{◌≡◌, ℕ, ◌≤◌, true, false, List, [], map, All, Option, Some, None}
-use Rattle.lw_region.specs.Rectangle.{Rectangle}
+use Rattle.lw_region.specs.Rectangle.{Rectangle, width, height}
 use Rattle.lw_planes.specs.Bitmap.{Bitmap, bitmap}
 use Rattle.lw_planes.specs.Sizes.{AreSizes, IsPlanes}
 use Rattle.lw_calls.specs.declared.make.Kind.{Kind}
@@ -11,19 +11,18 @@ use Rattle.lw_calls.specs.Kinds.{is_super}
 use Rattle.lw_machine.specs.Layer.{Window}
 use Rattle.lw_machine.specs.Arrangement.{bounds_of, new_layer}
 use Rattle.lw_layer.specs.View.{LiveView}
-use Rattle.lw_layer.specs.Pieces.{columns, lines}
 
 -- a buffer of a rectangle's size with pen 0 everywhere
 abbrev pub blank_buffer : ℕ → Rectangle → Bitmap
-blank_buffer depth r = bitmap (columns r) (lines r) depth (λ x y. 0)
+blank_buffer depth r = bitmap (width r) (height r) depth (λ x y. 0)
 
 -- The sizes of a new layer and of its own bitmap, if it has one, in which what the bounds show lies.
 pub record IsNewSize (make : Make) (depth : ℕ) (bounds : Rectangle) : Type 0 where
   pub place : bounds ≡ bounds_of make
-  pub sizes : AreSizes (columns bounds) (lines bounds) depth
+  pub sizes : AreSizes (width bounds) (height bounds) depth
   pub own : is_super make.kind ≡ true → AreSizes make.bits_w make.bits_h depth
-  pub right : is_super make.kind ≡ true → columns bounds ≤ make.bits_w
-  pub lower : is_super make.kind ≡ true → lines bounds ≤ make.bits_h
+  pub right : is_super make.kind ≡ true → width bounds ≤ make.bits_w
+  pub lower : is_super make.kind ≡ true → height bounds ≤ make.bits_h
 
 -- the new layer with these bounds and visible rectangles, with this window and this room in its port
 abbrev pub new_live : Make → ℕ → Rectangle → List Rectangle → Option Window → ℕ → LiveView

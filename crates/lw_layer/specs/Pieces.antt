@@ -1,9 +1,9 @@
 -- Where a live layer's pens lie: in rectangles of the screen's plane, each with a buffer of its size (the manual's
 -- Layers Library chapter: the ClipRect structure; which rectangles have a buffer is this project's own).
-use Rattle.std.specs.Prelude.{◌≡◌, ℕ, ◌==◌, ◌<◌, ◌≤◌, ◌-◌, Bool, true, false, ◌&&◌, nat_lt, if◌then◌else◌, List, [], ◌∷◌, ◌++◌, length, ℤ, pos, ◌+ℤ◌, ◌-ℤ◌, unsigned_abs, Option, Some, None}
+use Rattle.std.specs.Prelude.{◌≡◌, ℕ, ◌==◌, ◌<◌, ◌≤◌, ◌-◌, Bool, true, false, ◌&&◌, nat_lt, if◌then◌else◌, List, [], ◌∷◌, ◌++◌, length, ℤ, pos, ◌+ℤ◌, ◌-ℤ◌, Option, Some, None}
 use Rattle.std.specs.Int.{bit_at}
 use Rattle.std.specs.List.{position, slice_index_or}
-use Rattle.lw_region.specs.Rectangle.{Rectangle, has_pixel}
+use Rattle.lw_region.specs.Rectangle.{Rectangle, has_pixel, width, height}
 use Rattle.lw_planes.specs.Pen.{pen_of}
 use Rattle.lw_planes.specs.Row.{row_bit}
 use Rattle.lw_planes.specs.Bitmap.{Bitmap, pen_at}
@@ -41,13 +41,6 @@ layout_of c = record {
   width = c.layer.bits.width;
   height = c.layer.bits.height;
 }
-
--- how many columns and lines a rectangle has
-abbrev pub columns : Rectangle → ℕ
-columns r = unsigned_abs ((r.max_x +ℤ pos 1) -ℤ r.min_x)
-
-abbrev pub lines : Rectangle → ℕ
-lines r = unsigned_abs ((r.max_y +ℤ pos 1) -ℤ r.min_y)
 
 -- where all pixels of the layer's bits lie on the screen's plane
 abbrev pub whole_of : Layout → Rectangle
@@ -104,7 +97,7 @@ in_line l n line x y = is_the (buffer_at l x y) n && line_in l n y == line
 -- there is this line of this buffer
 pub record HasLine (l : Layout) (n line : ℕ) : Type 0 where
   pub buffer : n < length (buffered l)
-  pub below : line < lines (buffer_rectangle l n)
+  pub below : line < height (buffer_rectangle l n)
 
 -- the bytes have in a plane the bits of the pixels whose pens are in a line of a buffer, by their columns there
 abbrev pub HasLineBits : LiveView → ℕ → ℕ → ℕ → List ℕ → Type 0
@@ -117,7 +110,7 @@ with_bytes c plane n line bytes =
     let l = layout_of c in
     let r = buffer_rectangle l n in
     repainted (λ x y. if is_the (buffer_at l x y) n
-    then pen_of c.layer.bits.depth (λ p. overwritten_bit (columns r) (lines r) plane line bytes (column_in l n x) (line_in l n y) p (bit_at (pen_at c.layer.bits x y) p))
+    then pen_of c.layer.bits.depth (λ p. overwritten_bit (width r) (height r) plane line bytes (column_in l n x) (line_in l n y) p (bit_at (pen_at c.layer.bits x y) p))
     else pen_at c.layer.bits x y) c
 
 -- The live layer whose pixels with their pens in a line of a buffer have these bits in a plane, by their columns in the buffer;
@@ -149,8 +142,8 @@ inner_in c = inner_of (is_super c.layer.kind) (is_framed c.layer.window) c.layer
 
 -- a frame has room in bounds that are at least 9 wide and 14 high
 pub record HasFrameRoom (r : Rectangle) : Type 0 where
-  pub wide : 9 ≤ columns r
-  pub high : 14 ≤ lines r
+  pub wide : 9 ≤ width r
+  pub high : 14 ≤ height r
 
 -- which pixels of a layer with these bits are damaged, by the rectangles of its damage
 abbrev pub damage_table : Bitmap → List Rectangle → List (List Bool)

@@ -1,8 +1,9 @@
 -- Runs of pixels in a row of a layer, and the next pixel of which something holds.
 use Rattle.std.specs.Prelude.{◌≡◌, ℕ, ◌+◌, ◌<◌, ◌≤◌, Bool, true, false, ℤ, pos, negsuc, ◌<ℤ◌, ◌≤ℤ◌, Option, Some, None}
+use Rattle.lw_region.specs.Rectangle.{width}
 use Rattle.lw_machine.specs.Kept.{holds_at}
 use Rattle.lw_layer.specs.View.{LiveView}
-use Rattle.lw_layer.specs.Pieces.{layout_of, columns, buffer_rectangle, column_in, in_line, HasLine}
+use Rattle.lw_layer.specs.Pieces.{layout_of, buffer_rectangle, column_in, in_line, HasLine}
 use Rattle.lw_layer.specs.declared.run.Run.{Run}
 
 -- A run from the pixel (x, y) on to the right: for each of its pixels the test holds and the pen is in the run's line of the
@@ -12,7 +13,7 @@ pub record IsRun (c : LiveView) (test : ℕ → ℕ → Bool) (x y : ℕ) (r : R
   pub there : HasLine (layout_of c) r.buffer r.line
   pub holds : (u : ℕ) → x ≤ u → u < x + r.len → test u y ≡ true
   pub inside : (u : ℕ) → x ≤ u → u < x + r.len → in_line (layout_of c) r.buffer r.line u y ≡ true
-  pub fits : r.bit + r.len ≤ columns (buffer_rectangle (layout_of c) r.buffer)
+  pub fits : r.bit + r.len ≤ width (buffer_rectangle (layout_of c) r.buffer)
   pub bits : (u : ℕ) → x ≤ u → u < x + r.len → column_in (layout_of c) r.buffer u + x ≡ r.bit + u
 
 -- a run from a pixel for which the test holds, or none where it doesn't hold

@@ -1,6 +1,6 @@
 -- Which part of a desk a cell stands for, and what holds of every live layer.
 use Rattle.std.specs.Prelude.{◌≡◌, ℕ, true, false, ℤ, Some, None}
-use Rattle.lw_region.specs.Rectangle.{IsOrdered}
+use Rattle.lw_region.specs.Rectangle.{IsOrdered, width, height}
 use Rattle.lw_region.specs.Bands.{covers}
 use Rattle.lw_region.specs.Banded.{IsCanonical}
 use Rattle.lw_planes.specs.Bitmap.{pen_at}
@@ -12,7 +12,7 @@ use Rattle.lw_machine.specs.Layer as layer
 use Rattle.lw_machine.specs.Parts.{SlotPart}
 use Rattle.lw_layer.specs.View.{State, LiveView, CellView, keeps}
 use Rattle.lw_layer.specs.View as view
-use Rattle.lw_layer.specs.Pieces.{layout_of, columns, lines, HasFrameRoom}
+use Rattle.lw_layer.specs.Pieces.{layout_of, HasFrameRoom}
 use Rattle.lw_layer.specs.Drafts.{IsScrolled}
 
 -- The slot has this layer with these bounds, which is shown on the places that the visible rectangles cover.
@@ -39,8 +39,8 @@ StandsFor c p = IsPartOf c.state c.live p
 pub record IsSound (c : LiveView) : Type 0 where
   pub bits : IsPlanes c.layer.bits
   pub off_kept : (x y : ℕ) → keeps c x y ≡ false → pen_at c.layer.bits x y ≡ 0
-  pub wide : is_super c.layer.kind ≡ false → c.layer.bits.width ≡ columns c.bounds
-  pub high : is_super c.layer.kind ≡ false → c.layer.bits.height ≡ lines c.bounds
+  pub wide : is_super c.layer.kind ≡ false → c.layer.bits.width ≡ width c.bounds
+  pub high : is_super c.layer.kind ≡ false → c.layer.bits.height ≡ height c.bounds
   pub ordered : IsOrdered c.bounds
   pub inside : LieIn c.bounds c.visible
   pub canonical : IsCanonical c.visible

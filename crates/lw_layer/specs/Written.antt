@@ -6,11 +6,12 @@ use Rattle.std.specs.Borrow.{Lends, MutBor, Fml, Array, u8}
 use Rattle.std.specs.List.{slice_index_or}
 use Rattle.std.specs.Vec.{with_item}
 use Rattle.std.specs.Int.{bit_at}
+use Rattle.lw_region.specs.Rectangle.{width}
 use Rattle.lw_planes.specs.Row.{row_bit}
 use Rattle.lw_planes.specs.Bitmap.{Bitmap, pen_at, row_bytes}
 use Rattle.lw_planes.specs.Change.{with_row}
 use Rattle.lw_layer.specs.Drafts.{IsLiveDraft, layout, buffers_of, no_bitmap}
-use Rattle.lw_layer.specs.Pieces.{columns, buffer_rectangle, HasLine}
+use Rattle.lw_layer.specs.Pieces.{buffer_rectangle, HasLine}
 use Rattle.lw_layer.specs.declared.draft.DraftState.{DraftState}
 use Rattle.lw_layer.specs.declared.draft.DraftState.TheVariants.{Unopened, Closed, Live}
 use Rattle.lw_layer.specs.declared.draft.LiveDraft.{LiveDraft}
@@ -74,7 +75,7 @@ pub record HasPlaneLine (d : LiveDraft) (plane n line : ℕ) : Type 0 where
 
 -- the bytes are as long as a row of a buffer and have its bits
 pub record HasRow (d : LiveDraft) (plane n line : ℕ) (row : List ℕ) : Type 0 where
-  pub long : length row ≡ row_bytes (columns (buffer_rectangle (layout d) n))
+  pub long : length row ≡ row_bytes (width (buffer_rectangle (layout d) n))
   pub bits : HasBufferBits d plane n line row
 
 abbrev pub LendsStateLine : MutBor DraftState → ℕ → ℕ → ℕ → MutBor (List ℕ) → Fml

@@ -1,12 +1,13 @@
 ghost use Rattle.std.specs.Prelude.{◌≡◌, ℕ, ◌*◌, ◌<◌, ◌≤◌, ◌↔◌, length, ℤ, pos, ◌+ℤ◌, true, IsTrue, Some, None, MatchOption};
 ghost use Rattle.std.specs.Borrow.{sem};
+ghost use Rattle.lw_region.specs.Rectangle.{width};
 ghost use Rattle.lw_planes.specs.Row.{bit_of, row_bit};
 ghost use Rattle.lw_planes.specs.Bitmap.{row_bytes};
 ghost use Rattle.lw_layer.specs.View.{CellView, keeps, draws, kept_pen, with_layer, with_live};
 ghost use Rattle.lw_layer.specs.Drafts.{IsDraft, cell_view, raster_of, clip_set, no_layer};
 ghost use Rattle.lw_planes.specs.Sizes.{IsPlanes};
 ghost use Rattle.lw_layer.specs.View as view;
-ghost use Rattle.lw_layer.specs.Pieces.{hidden_rectangles, inner_in, damage_table, IsDamageOf, HasLine, HasLineBits, layout_of, columns, buffer_rectangle};
+ghost use Rattle.lw_layer.specs.Pieces.{hidden_rectangles, inner_in, damage_table, IsDamageOf, HasLine, HasLineBits, layout_of, buffer_rectangle};
 ghost use Rattle.lw_layer.specs.Lending.{LendsRow};
 ghost use Rattle.lw_region.specs.Pixels.{pixels_of};
 ghost use Rattle.lw_region.specs.Bands.{covers};
@@ -91,8 +92,8 @@ impl Cell {
         requires plane { plane < self.old.live.layer.bits.depth }
         requires line { HasLine (layout_of self.old.live) buffer line }
         ensures* writes_back { sem 𝓛 (LendsRow self.entry plane buffer line result) }
-        ensures long { length result.now ≡ row_bytes (columns (buffer_rectangle (layout_of self.old.live) buffer)) }
-        ensures wide { columns (buffer_rectangle (layout_of self.old.live) buffer) ≤ 8 * length result.now }
+        ensures long { length result.now ≡ row_bytes (width (buffer_rectangle (layout_of self.old.live) buffer)) }
+        ensures wide { width (buffer_rectangle (layout_of self.old.live) buffer) ≤ 8 * length result.now }
         ensures bits { HasLineBits self.old.live plane buffer line result.now }
     {
         let state = &mut self.draft.state;

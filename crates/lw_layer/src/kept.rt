@@ -1,10 +1,9 @@
 // The pixels that a layer keeps, as a region.
 
 ghost use Rattle.std.specs.Prelude.{◌≡◌, pos, ◌+ℤ◌, ◌≤◌, IfOk};
-ghost use Rattle.lw_region.specs.Rectangle.{IsOrdered};
+ghost use Rattle.lw_region.specs.Rectangle.{IsOrdered, width, height};
 ghost use Rattle.lw_region.specs.Banded.{IsCanonical};
 ghost use Rattle.lw_cliprects.specs.Parts.{LieIn};
-ghost use Rattle.lw_layer.specs.Pieces.{columns, lines};
 ghost use Rattle.lw_layer.specs.Keeping.{AreKept};
 
 use lw_calls::Kind;
@@ -22,8 +21,8 @@ pub fn kept_region(
 ) -> Result<Region, AllocError>
     requires canonical { IsCanonical visible.now }
     requires inside { LieIn bounds.now visible.now }
-    requires wide { columns bounds.now ≤ 2048 }
-    requires high { lines bounds.now ≤ 2048 }
+    requires wide { width bounds.now ≤ 2048 }
+    requires high { height bounds.now ≤ 2048 }
     ensures kept { IfOk result (λ kept. AreKept kind bounds.now visible.now kept) }
     ensures ordered { IsOrdered bounds.now }
 {

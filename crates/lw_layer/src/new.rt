@@ -1,17 +1,16 @@
 // New layers.
 
 ghost use Rattle.std.specs.Prelude.{◌≡◌, ℕ, ◌-◌, ◌≤◌, ℤ, pos, true, false, IfOk};
-ghost use Rattle.lw_region.specs.Rectangle.{has_pixel, IsOrdered};
+ghost use Rattle.lw_region.specs.Rectangle.{has_pixel, width, height};
 ghost use Rattle.lw_planes.specs.Sizes.{AreSizes, IsPlanes};
 ghost use Rattle.lw_calls.specs.Kinds.{is_super};
 ghost use Rattle.lw_cliprects.specs.Parts.{LieIn, hidden_of};
-ghost use Rattle.lw_layer.specs.Pieces.{columns, lines, inner_of, HasFrameRoom};
+ghost use Rattle.lw_layer.specs.Pieces.{inner_of, HasFrameRoom};
 ghost use Rattle.lw_machine.specs.Layer.{is_framed};
 ghost use Rattle.lw_layer.specs.Drafts.{IsLiveDraft, window_of, room_of, live_view};
 ghost use Rattle.lw_layer.specs.New.{blank_buffer, kept_hidden, own_blank, AreBlank, IsNewSize, new_live};
 
 use crate::draft::LiveDraft;
-use crate::places::extent;
 use crate::raster::Raster;
 use crate::windows::{WindowDraft, is_framed};
 use lw_calls::{Kind, Make};
@@ -81,7 +80,7 @@ fn covered_buffers(
     depth: u32,
 ) -> Result<Vec<Planes>, AllocError>
     requires parts { parts.now.bounds ≡ bounds.now }
-    requires sizes { AreSizes (columns bounds.now) (lines bounds.now) depth }
+    requires sizes { AreSizes (width bounds.now) (height bounds.now) depth }
     ensures { IfOk result (λ buffers. AreBlank depth (kept_hidden kind (hidden_of bounds.now parts.now.visible)) buffers.items) }
 {
     match kind {
@@ -111,7 +110,7 @@ fn blank_buffers(
     depth: u32,
 ) -> Result<Vec<Planes>, AllocError>
     requires inside { LieIn bounds.now rects.now }
-    requires sizes { AreSizes (columns bounds.now) (lines bounds.now) depth }
+    requires sizes { AreSizes (width bounds.now) (height bounds.now) depth }
     ensures { IfOk result (λ buffers. AreBlank depth rects.now buffers.items) }
 {
     let mut buffers = Vec::with_capacity(alloc, rects.len())?;
@@ -124,10 +123,10 @@ fn blank_buffers(
 // A buffer of the size of a rectangle in the bounds, with pen 0 everywhere.
 fn blank(alloc: Global, bounds: &Rect, rect: &Rect, depth: u32) -> Result<Planes, AllocError>
     requires inside { (x y : ℤ) → has_pixel rect.now x y ≡ true → has_pixel bounds.now x y ≡ true }
-    requires sizes { AreSizes (columns bounds.now) (lines bounds.now) depth }
+    requires sizes { AreSizes (width bounds.now) (height bounds.now) depth }
     ensures { IfOk result (λ planes. (planes ≡ blank_buffer depth rect.now) × IsPlanes planes) }
 {
-    let planes = Planes::new(alloc, columns_of(rect), lines_of(rect), depth)?;
+    let planes = Planes::new(alloc, rect.width(), rect.height(), depth)?;
     // Reading its width tells the proof that it is one of sizes for planes.
     let _ = planes.width();
     Ok(planes)
@@ -136,10 +135,10 @@ fn blank(alloc: Global, bounds: &Rect, rect: &Rect, depth: u32) -> Result<Planes
 /// Where damage may lie in a layer with these bounds, in layer coordinates: in a framed window in what its frame leaves; `None`
 /// exactly for a super-bitmap layer, which never has damage.
 pub fn inner_rectangle(kind: Kind, framed: bool, bounds: &Rect) -> Option<Rect>
-    requires wide { columns bounds.now ≤ 2048 }
-    requires high { lines bounds.now ≤ 2048 }
+    requires wide { width bounds.now ≤ 2048 }
+    requires high { height bounds.now ≤ 2048 }
     requires room { framed ≡ true → HasFrameRoom bounds.now }
-    ensures { result ≡ inner_of (is_super kind) framed (columns bounds.now) (lines bounds.now) }
+    ensures { result ≡ inner_of (is_super kind) framed (width bounds.now) (height bounds.now) }
 {
     match kind {
         Kind::SuperBitmap => None,
@@ -150,13 +149,13 @@ pub fn inner_rectangle(kind: Kind, framed: bool, bounds: &Rect) -> Option<Rect>
 
 // What a frame leaves of the bounds, and all of them without one, in layer coordinates.
 fn inner_within(framed: bool, bounds: &Rect) -> Option<Rect>
-    requires wide { columns bounds.now ≤ 2048 }
-    requires high { lines bounds.now ≤ 2048 }
+    requires wide { width bounds.now ≤ 2048 }
+    requires high { height bounds.now ≤ 2048 }
     requires room { framed ≡ true → HasFrameRoom bounds.now }
-    ensures { result ≡ inner_of false framed (columns bounds.now) (lines bounds.now) }
+    ensures { result ≡ inner_of false framed (width bounds.now) (height bounds.now) }
 {
-    let right = last_place(columns_of(bounds));
-    let lower = last_place(lines_of(bounds));
+    let right = last_place(bounds.width());
+    let lower = last_place(bounds.height());
     if framed {
         Rect::new(4, 11, right - 4, lower - 2)
     } else {
@@ -171,22 +170,4 @@ fn last_place(count: u32) -> i16
     ensures { result ≡ pos (count - 1) }
 {
     (count - 1) as i16
-}
-
-// How many columns the rectangle has.
-fn columns_of(rect: &Rect) -> u32
-    ensures value { result ≡ columns rect.now }
-    ensures some { 1 ≤ result }
-    ensures ordered { IsOrdered rect.now }
-{
-    extent(rect.min_x(), rect.max_x())
-}
-
-// How many lines the rectangle has.
-fn lines_of(rect: &Rect) -> u32
-    ensures value { result ≡ lines rect.now }
-    ensures some { 1 ≤ result }
-    ensures ordered { IsOrdered rect.now }
-{
-    extent(rect.min_y(), rect.max_y())
 }

@@ -1,6 +1,6 @@
 // Where the pixels of a live layer lie: on the plane of the screen, and in which buffer.
 
-ghost use Rattle.std.specs.Prelude.{◌≡◌, ◌<◌, ◌≤◌, length, pos, ◌+ℤ◌, ◌-ℤ◌, ◌≤ℤ◌};
+ghost use Rattle.std.specs.Prelude.{◌≡◌, ◌<◌, ◌≤◌, length};
 ghost use Rattle.lw_layer.specs.Pieces.{across, down, found_in, rest_of, buffer_at, buffered, buffer_rectangle, whole_of};
 ghost use Rattle.lw_layer.specs.Drafts.{IsLiveDraft, layout};
 ghost use Rattle.lw_layer.specs.Code.{AreEdges};
@@ -24,7 +24,7 @@ impl LiveDraft {
         ensures { result ≡ (layout self.now).width }
     {
         match &self.superbits {
-            None => extent(self.bounds.min_x(), self.bounds.max_x()),
+            None => self.bounds.width(),
             Some(own) => own.width(),
         }
     }
@@ -35,7 +35,7 @@ impl LiveDraft {
         ensures { result ≡ (layout self.now).height }
     {
         match &self.superbits {
-            None => extent(self.bounds.min_y(), self.bounds.max_y()),
+            None => self.bounds.height(),
             Some(own) => own.height(),
         }
     }
@@ -141,12 +141,4 @@ fn edges_of(rect: &Rect) -> Edges
         top: i32::from(rect.min_y()),
         right: i32::from(rect.max_x()),
     }
-}
-
-// How far it is from the least place to the greatest, both inclusive.
-pub(crate) fn extent(least: i16, greatest: i16) -> u32
-    requires { least ≤ℤ greatest }
-    ensures { pos result ≡ (greatest +ℤ pos 1) -ℤ least }
-{
-    (i32::from(greatest) + 1 - i32::from(least)) as u32
 }

@@ -2,8 +2,9 @@
 
 ghost use Rattle.std.specs.Prelude.{◌≡◌, ◌<◌, length, IsSome};
 ghost use Rattle.std.specs.Borrow.{sem};
+ghost use Rattle.lw_region.specs.Rectangle.{width};
 ghost use Rattle.lw_planes.specs.Bitmap.{row_bytes};
-ghost use Rattle.lw_layer.specs.Pieces.{HasLine, columns, buffer_rectangle};
+ghost use Rattle.lw_layer.specs.Pieces.{HasLine, buffer_rectangle};
 ghost use Rattle.lw_layer.specs.Drafts.{IsLiveDraft, layout};
 ghost use Rattle.lw_layer.specs.Written.{LendsOwn, LendsLine, LendsStateLine, HasOwnBits, HasBufferBits, WhereLive, HasPlaneLine, HasRow};
 
@@ -32,7 +33,7 @@ impl LiveDraft {
         requires plane { plane < self.old.depth }
         requires line { HasLine (layout self.old) buffer line }
         ensures* writes_back { sem 𝓛 (LendsLine self.entry plane buffer line result) }
-        ensures long { length result.now ≡ row_bytes (columns (buffer_rectangle (layout self.old) buffer)) }
+        ensures long { length result.now ≡ row_bytes (width (buffer_rectangle (layout self.old) buffer)) }
         ensures bits { HasBufferBits self.old plane buffer line result.now }
     {
         let shown = self.buffers.len();

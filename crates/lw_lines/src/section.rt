@@ -41,18 +41,21 @@ impl Section {
         self == Section::Calls
     }
 
+    /// Whether a further task, an order or a report is due.
     pub fn is_tasks(self) -> bool
         ensures { result ≡ are_tasks_due (section_meaning self) }
     {
         self == Section::Tasks
     }
 
+    /// Whether numbers of an order are due.
     pub fn is_numbers(self) -> bool
         ensures { result ≡ are_numbers_due (section_meaning self) }
     {
         self == Section::Numbers
     }
 
+    /// Whether nothing more is due.
     pub fn is_nothing(self) -> bool
         ensures { result ≡ is_nothing_due (section_meaning self) }
     {

@@ -4,7 +4,7 @@ use Rattle.std.specs.Prelude.{if◌then◌else◌, ℤ, pos, negsuc, ◌+ℤ◌,
 use Rattle.std.specs.List.{slice_index_or}
 use Rattle.std.proofs.Math.Path.{fun_ext}
 use Rattle.std.proofs.lemmas.Bool.{and_parts, both_ways, eqb-true}
-use Rattle.lw_region.specs.Rectangle.{Rectangle}
+use Rattle.lw_region.specs.Rectangle.{Rectangle, columns_of, rows_of}
 use Rattle.lw_region.specs.Pixels.{Pixel}
 use Rattle.lw_region.specs.Order.{natural}
 use Rattle.lw_calls.specs.declared.make.Kind.{Kind}
@@ -20,7 +20,7 @@ use Rattle.lw_calls.specs.Kinds.{is_super}
 use Rattle.lw_machine.specs.Desk.{Desk, with_value, is_the}
 use Rattle.lw_machine.specs.Screen.{top}
 use Rattle.lw_machine.specs.Kept.{is_visible, is_kept, in_bits, kept_as}
-use Rattle.lw_machine.specs.Arrangement.{portion_fits, columns_of, rows_of, is_on_screen, is_at_least}
+use Rattle.lw_machine.specs.Arrangement.{portion_fits, is_on_screen, is_at_least}
 use Rattle.lw_calls.specs.Orders.{occurrences}
 use Rattle.lw_calls.specs.Touches.{slots_of}
 use Rattle.lw_calls.specs.Plan.{is_all}

@@ -1,9 +1,9 @@
 -- Arrangements: the calls that change which layers there are, their order and their bounds, and which window is active
 -- (the manual's Layers Library and Intuition Windows chapters; which bounds a layer may have, where a new backdrop layer goes
 -- among backdrop layers, and that closing the active window leaves none active are this project's own).
-use Rattle.std.specs.Prelude.{ℕ, ◌==◌, Bool, true, false, not, ◌&&◌, if◌then◌else◌, List, [], ◌∷◌, ℤ, pos, ◌+ℤ◌, ◌-ℤ◌, int_le, unsigned_abs, Option, Some, None, option_and_then}
+use Rattle.std.specs.Prelude.{ℕ, ◌==◌, Bool, true, false, not, ◌&&◌, if◌then◌else◌, List, [], ◌∷◌, ℤ, pos, ◌+ℤ◌, int_le, unsigned_abs, Option, Some, None, option_and_then}
 use Rattle.std.specs.List.{filter}
-use Rattle.lw_region.specs.Rectangle.{Rectangle, moved_by}
+use Rattle.lw_region.specs.Rectangle.{Rectangle, columns_of, rows_of, moved_by}
 use Rattle.lw_planes.specs.Grid.{grid}
 use Rattle.lw_planes.specs.Bitmap.{Bitmap, bitmap}
 use Rattle.lw_calls.specs.declared.sizes.Sizes.{Sizes}
@@ -22,13 +22,6 @@ use Rattle.lw_machine.specs.Desk.{Desk, with_value, is_the}
 
 abbrev pub bounds_of : Make → Rectangle
 bounds_of m = box_at m.x m.y m.w m.h
-
--- how many columns and rows bounds have
-abbrev pub columns_of : Rectangle → ℤ
-columns_of r = (r.max_x +ℤ pos 1) -ℤ r.min_x
-
-abbrev pub rows_of : Rectangle → ℤ
-rows_of r = (r.max_y +ℤ pos 1) -ℤ r.min_y
 
 -- all pixels of the rectangle lie on the screen
 unfoldable pub is_on_screen : Sizes → Rectangle → Bool

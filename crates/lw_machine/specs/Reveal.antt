@@ -1,10 +1,10 @@
 -- What an arrangement makes of each layer: the pixels that it reveals, its frame, and the messages that its window is told
 -- (the manual's Layers Library and Intuition Windows chapters; exactly which pixels are filled and damaged, how a frame
 -- looks, and when each message is put are this project's own).
-use Rattle.std.specs.Prelude.{ℕ, ◌+◌, ◌-◌, ◌/◌, ◌%◌, ◌==◌, Bool, true, false, not, ◌&&◌, ◌||◌, nat_lt, nat_le, if◌then◌else◌, List, [], ◌∷◌, ◌++◌, length, ℤ, pos, unsigned_abs, Option, Some, None}
+use Rattle.std.specs.Prelude.{ℕ, ◌+◌, ◌-◌, ◌/◌, ◌%◌, ◌==◌, Bool, true, false, not, ◌&&◌, ◌||◌, nat_lt, nat_le, if◌then◌else◌, List, [], ◌∷◌, ◌++◌, length, ℤ, pos, Option, Some, None}
 use Rattle.std.specs.List.{list_any, range_with_len, slice_index_or}
 use Rattle.std.specs.Ordering.{int_eq}
-use Rattle.lw_region.specs.Rectangle.{Rectangle}
+use Rattle.lw_region.specs.Rectangle.{Rectangle, width, height}
 use Rattle.lw_planes.specs.Grid.{grid, at}
 use Rattle.lw_planes.specs.Bitmap.{bitmap, pen_at}
 use Rattle.lw_calls.specs.declared.message.Message.{Message}
@@ -17,7 +17,6 @@ use Rattle.lw_machine.specs.Screen.{is_shown}
 use Rattle.lw_machine.specs.Kept.{visible_within, is_kept, in_inner}
 use Rattle.lw_machine.specs.Paint.{pen_within, with_pens}
 use Rattle.lw_machine.specs.Shapes.{glyph_has, differ}
-use Rattle.lw_machine.specs.Arrangement.{columns_of, rows_of}
 
 -- One layer across an arrangement: its bounds before, or none where it was created in this step, and after; on which places
 -- it is shown before and after; and whether it is the active window before and after.
@@ -48,11 +47,11 @@ has_bounds (Some r) = true
 -- how many columns and rows bounds have, and none without bounds
 abbrev pub width_in : Option Rectangle → ℕ
 width_in None = 0
-width_in (Some r) = unsigned_abs (columns_of r)
+width_in (Some r) = width r
 
 abbrev pub height_in : Option Rectangle → ℕ
 height_in None = 0
-height_in (Some r) = unsigned_abs (rows_of r)
+height_in (Some r) = height r
 
 -- the layer was live before
 abbrev pub was_live : Across → Bool

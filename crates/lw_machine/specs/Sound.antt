@@ -1,7 +1,7 @@
 -- What holds of every desk that a history reaches.
-use Rattle.std.specs.Prelude.{◌≡◌, ℕ, ◌≤◌, Bool, true, false, if◌then◌else◌, List, [], ◌∷◌, unsigned_abs, Option, Some, None}
+use Rattle.std.specs.Prelude.{◌≡◌, ℕ, ◌≤◌, Bool, true, false, if◌then◌else◌, List, [], ◌∷◌, Option, Some, None}
 use Rattle.std.specs.List.{list_all}
-use Rattle.lw_region.specs.Rectangle.{Rectangle}
+use Rattle.lw_region.specs.Rectangle.{Rectangle, width, height}
 use Rattle.lw_planes.specs.Grid.{at}
 use Rattle.lw_planes.specs.Bitmap.{IsBitmap, pen_at}
 use Rattle.lw_calls.specs.declared.sizes.Sizes.{Sizes}
@@ -10,7 +10,7 @@ use Rattle.lw_machine.specs.Layer.{Layer, Slot, Unopened, Live, Closed, is_live,
 use Rattle.lw_calls.specs.Kinds.{is_super}
 use Rattle.lw_machine.specs.Desk.{Desk}
 use Rattle.lw_machine.specs.Kept.{is_visible, is_kept, may_be_damaged}
-use Rattle.lw_machine.specs.Arrangement.{columns_of, rows_of, layer_may_have_bounds, has_backdrop}
+use Rattle.lw_machine.specs.Arrangement.{layer_may_have_bounds, has_backdrop}
 use Rattle.lw_calls.specs.Orders.{occurrences}
 
 -- A layer that shows these of its pixels: its bits are a bitmap of the screen's depth, the pens off the pixels that it keeps
@@ -28,8 +28,8 @@ pub record IsKeeping (depth : ℕ) (visible : ℕ → ℕ → Bool) (l : Layer) 
 -- bitmap. Unless it has a bitmap of its own, they have the size of its bits, and it isn't scrolled.
 pub record IsBounded (sizes : Sizes) (l : Layer) (r : Rectangle) : Type 0 where
   pub may : layer_may_have_bounds sizes l r ≡ true
-  pub columns : is_super l.kind ≡ false → l.bits.width ≡ unsigned_abs (columns_of r)
-  pub rows : is_super l.kind ≡ false → l.bits.height ≡ unsigned_abs (rows_of r)
+  pub columns : is_super l.kind ≡ false → l.bits.width ≡ width r
+  pub rows : is_super l.kind ≡ false → l.bits.height ≡ height r
   pub left : is_super l.kind ≡ false → l.scroll_x ≡ 0
   pub upper : is_super l.kind ≡ false → l.scroll_y ≡ 0
 

@@ -105,7 +105,10 @@ impl Order {
         self.table.shared.load::<Learn<N>>(token, 0);
     }
 
-    /// Stamps a call: it is then the last step of the history that the seat knows. The ticket is its place there.
+    /// Stamps a call of a task, which is a number from 0 on: the call is then the last step of the history that the seat knows,
+    /// and the ticket is its place there, from 0 on. The seat has to be one of this order word, with the roles of the task and of
+    /// all that the call touches; the call has to fit the sizes; and the seat's history has fewer than 4,294,967,295 calls of the
+    /// task. No memory is taken. Tickets and seats are this project's own.
     pub fn stamp(&self, seat: &mut Seat, task: u32, call: &Call) -> u64
         requires word { seat.old.word ≡ self.now.word }
         requires owns { Owns self.now.sizes.slots seat.old.roles (touch_of task call.now) }

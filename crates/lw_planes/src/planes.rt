@@ -36,7 +36,7 @@ impl Model for Planes {
 }
 
 impl Planes {
-    /// A bitmap of these sizes whose every pen is 0.
+    /// A bitmap of 1 to 2048 columns, 1 to 2048 rows and 1 to 8 planes whose every pen is 0.
     pub fn new(alloc: Global, width: u32, height: u32, depth: u32) -> Result<Planes, AllocError>
         requires { AreSizes width height depth }
         ensures { IfOk result (λ planes. planes ≡ bitmap width height depth (λ _ _. 0)) }

@@ -1,5 +1,5 @@
 -- Rectangles of pixels (Graphics Primitives: the `Rectangle` structure of four signed words).
-use Rattle.std.specs.Prelude.{◌≡◌, Bool, false, ◌&&◌, ℤ, pos, negsuc, ◌+ℤ◌, ◌≤ℤ◌, int_le}
+use Rattle.std.specs.Prelude.{◌≡◌, ℕ, Bool, false, ◌&&◌, ℤ, pos, negsuc, ◌+ℤ◌, ◌-ℤ◌, ◌≤ℤ◌, int_le, unsigned_abs}
 use Rattle.std.specs.Int.{int_max, int_min}
 
 -- A rectangle as its four bounds, each of them inclusive: it has the columns min_x to max_x and the rows min_y to max_y.
@@ -21,6 +21,20 @@ has_pixel r x y = within r.min_x x r.max_x && within r.min_y y r.max_y
 pub record IsOrdered (r : Rectangle) : Type 0 where
   pub columns : r.min_x ≤ℤ r.max_x
   pub rows : r.min_y ≤ℤ r.max_y
+
+-- how many columns and rows these bounds have, where bounds out of order have none or a negative number of them
+abbrev pub columns_of : Rectangle → ℤ
+columns_of r = (r.max_x +ℤ pos 1) -ℤ r.min_x
+
+abbrev pub rows_of : Rectangle → ℤ
+rows_of r = (r.max_y +ℤ pos 1) -ℤ r.min_y
+
+-- how many columns and rows a rectangle with ordered bounds has
+abbrev pub width : Rectangle → ℕ
+width r = unsigned_abs (columns_of r)
+
+abbrev pub height : Rectangle → ℕ
+height r = unsigned_abs (rows_of r)
 
 -- no pixel is in both rectangles
 abbrev pub AreApart : Rectangle → Rectangle → Type 0

@@ -1,6 +1,6 @@
-ghost use Rattle.std.specs.Prelude.{◌≡◌, true, ◌&&◌, ◌↔◌, ℤ, ◌+ℤ◌, ◌≤ℤ◌, IfSome, IsNone, [], ◌∷◌};
+ghost use Rattle.std.specs.Prelude.{◌≡◌, ◌≤◌, true, ◌&&◌, ◌↔◌, ℤ, pos, ◌+ℤ◌, ◌-ℤ◌, ◌≤ℤ◌, IfSome, IsNone, [], ◌∷◌};
 ghost use Rattle.std.specs.Option.{SomeIff};
-ghost use Rattle.lw_region.specs.Rectangle.{Rectangle, within, has_pixel, IsOrdered, AreApart, common_part, moved_by, IsWord, HasWords};
+ghost use Rattle.lw_region.specs.Rectangle.{Rectangle, within, has_pixel, IsOrdered, width, height, AreApart, common_part, moved_by, IsWord, HasWords};
 ghost use Rattle.lw_region.specs.Banded.{IsCanonical};
 ghost use Rattle.lw_region.specs.Rows.{down_to};
 
@@ -31,7 +31,8 @@ impl Model for Rect {
 }
 
 impl Rect {
-    /// The rectangle with these bounds; `None` exactly where a maximum is below its minimum.
+    /// The rectangle of the columns `x0` to `x1` and the rows `y0` to `y1`, all four bounds inclusive; `None` exactly where a
+    /// maximum is below its minimum.
     pub fn new(x0: i16, y0: i16, x1: i16, y1: i16) -> Option<Rect>
         ensures { SomeIff result
             (IsOrdered (record { min_x = x0; min_y = y0; max_x = x1; max_y = y1 }))
@@ -116,6 +117,26 @@ impl Rect {
         self.max_y
     }
 
+    /// How many columns the rectangle has, 1 to 65,536.
+    pub fn width(&self) -> u32
+        ensures value { result ≡ width self.now }
+        ensures some { 1 ≤ result }
+        ensures most { result ≤ 65536 }
+        ensures ordered { IsOrdered self.now }
+    {
+        extent(self.min_x(), self.max_x())
+    }
+
+    /// How many rows the rectangle has, 1 to 65,536.
+    pub fn height(&self) -> u32
+        ensures value { result ≡ height self.now }
+        ensures some { 1 ≤ result }
+        ensures most { result ≤ 65536 }
+        ensures ordered { IsOrdered self.now }
+    {
+        extent(self.min_y(), self.max_y())
+    }
+
     /// Whether the pixel at column `x` and row `y` is in the rectangle.
     pub fn has(&self, x: i32, y: i32) -> bool
         ensures { result ≡ has_pixel self.now x y }
@@ -164,6 +185,17 @@ impl Rect {
             None => unreachable!(),
         }
     }
+}
+
+// How many places there are from the least to the greatest, both inclusive.
+#[tactic(auto, using(std::proofs::lemmas::Int::ints))]
+fn extent(least: i16, greatest: i16) -> u32
+    requires { least ≤ℤ greatest }
+    ensures value { pos result ≡ (greatest +ℤ pos 1) -ℤ least }
+    ensures some { 1 ≤ result }
+    ensures most { result ≤ 65536 }
+{
+    (i32::from(greatest) + 1 - i32::from(least)) as u32
 }
 
 fn moved_place(place: i16, by: i32) -> i64

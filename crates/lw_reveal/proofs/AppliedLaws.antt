@@ -3,7 +3,7 @@ use Rattle.std.proofs.Common.{◌≡◌, ℕ, ◌+◌, ◌^◌, ◌<◌, ◌≤�
 use Rattle.std.proofs.lemmas.Bool.{cases_lt}
 use Rattle.std.proofs.lemmas.Int.{ints}
 use Rattle.std.proofs.lemmas.List.{get_or_append_left, get_or_at}
-use Rattle.lw_region.specs.Rectangle.{Rectangle}
+use Rattle.lw_region.specs.Rectangle.{Rectangle, width, height}
 use Rattle.lw_planes.specs.Bitmap.{Bitmap, IsBitmap, bitmap, pen_at}
 use Rattle.lw_planes.specs.Sizes.{AreSizes, IsPlanes}
 use Rattle.lw_planes.proofs.BitmapLaws.{IsBitmap_bitmap, bitmap_same, pen_at_bitmap, pen_at_lt}
@@ -13,7 +13,7 @@ use Rattle.lw_calls.specs.Kinds.{is_super}
 use Rattle.lw_cliprects.specs.Parts.{hidden_of}
 use Rattle.lw_cliprects.proofs.HiddenLaws.{canonical_hidden}
 use Rattle.lw_layer.specs.View.{LiveView, keeps, kept_pen}
-use Rattle.lw_layer.specs.Pieces.{Layout, columns, lines, buffered, buffer_rectangle, rest_as, whole_of, buffer_at, IsDamageOf}
+use Rattle.lw_layer.specs.Pieces.{Layout, buffered, buffer_rectangle, rest_as, whole_of, buffer_at, IsDamageOf}
 use Rattle.lw_layer.specs.Drafts.{IsLiveDraft, IsBuffer, AreBuffers, IsRest, layout, width_of, height_of, own_list, buffers_of, no_bitmap, pen_from, live_view}
 use Rattle.lw_layer.specs.New.{kept_hidden}
 use Rattle.lw_layer.specs.declared.draft.LiveDraft.{LiveDraft}
@@ -60,7 +60,7 @@ whole_without_bitmap Smart d without_bitmap = refl
 whole_without_bitmap SuperBitmap d without_bitmap = absurd (cc without_bitmap)
 
 pub size_without_bitmap : (d : LiveDraft) (k : Change) → is_super d.kind ≡ false → IsLiveDraft d
-    → ((layout (changed_draft d k)).width ≡ columns k.bounds) × ((layout (changed_draft d k)).height ≡ lines k.bounds)
+    → ((layout (changed_draft d k)).width ≡ width k.bounds) × ((layout (changed_draft d k)).height ≡ height k.bounds)
 size_without_bitmap d k without_bitmap ok =
     let none = whole_without_bitmap d.kind d without_bitmap ∙ none_without_bitmap d.kind _ _ d.superbits without_bitmap ok.rest in
     (ap (λ o. width_of o k.bounds) none, ap (λ o. height_of o k.bounds) none)
@@ -96,8 +96,8 @@ own_carried d l super scroll_x scroll_y wide high =
     let r = whole_of l in
     let F : ℕ → ℕ → ℕ = λ i j. pen_or_zero (kept_pen c (layer_place r.min_x l.bounds.min_x c.layer.scroll_x i) (layer_place r.min_y l.bounds.min_y c.layer.scroll_y j)) in
     let G : ℕ → ℕ → ℕ = λ x y. pen_from (buffers_of d) (layout d) (buffer_at (layout d) x y) x y in
-    let extent_x : columns r ≡ (layout d).width = whole_extent l.bounds.min_x l.scroll_x l.width ∙ wide in
-    let extent_y : lines r ≡ (layout d).height = whole_extent l.bounds.min_y l.scroll_y l.height ∙ high in
+    let extent_x : width r ≡ (layout d).width = whole_extent l.bounds.min_x l.scroll_x l.width ∙ wide in
+    let extent_y : height r ≡ (layout d).height = whole_extent l.bounds.min_y l.scroll_y l.height ∙ high in
     bitmap_same b.width b.height b.depth G F
     (λ i j left low.
     let across_is : layer_place r.min_x l.bounds.min_x c.layer.scroll_x i ≡ pos i = ap (λ s. layer_place r.min_x l.bounds.min_x s i) (sym scroll_x) ∙ whole_place l.bounds.min_x l.scroll_x i in
@@ -105,7 +105,7 @@ own_carried d l super scroll_x scroll_y wide high =
     let kept : keeps c i j ≡ true = super_keeps d i j d.kind refl super left low in
     let pen : pen_at b i j ≡ G i j = pen_at_bitmap b.width b.height b.depth G i j left low in
     rw (across_is, down_is, kept) (sym pen)) ∙
-    (ap (λ w. bitmap w b.height b.depth F) (sym extent_x) ∙ ap (λ h. bitmap (columns r) h b.depth F) (sym extent_y))
+    (ap (λ w. bitmap w b.height b.depth F) (sym extent_x) ∙ ap (λ h. bitmap (width r) h b.depth F) (sym extent_y))
 
 -- the pieces are the rectangles with a buffer, and the whole of an own bitmap
 buffered_cases : (l : Layout) (kind : Kind) (n : ℕ) → l.kind ≡ kind → n < length (buffered l)
@@ -179,12 +179,12 @@ rectangle_carried d k n made inside =
 
 -- each piece has sizes for planes
 shown_sizes : (d : LiveDraft) (k : Change) (n : ℕ) → IsMade d k → n < length (beside_own d.kind k.bounds k.parts.visible)
-    → AreSizes (columns (buffer_rectangle (layout (changed_draft d k)) n)) (lines (buffer_rectangle (layout (changed_draft d k)) n)) d.depth
+    → AreSizes (width (buffer_rectangle (layout (changed_draft d k)) n)) (height (buffer_rectangle (layout (changed_draft d k)) n)) d.depth
 shown_sizes d k n made inside =
     let l = layout (changed_draft d k) in
     let hidden = hidden_of k.bounds k.parts.visible in
     let number = number_is l d.kind n refl inside in
-    let P : Rectangle → Type 0 = λ q. AreSizes (columns q) (lines q) d.depth in
+    let P : Rectangle → Type 0 = λ q. AreSizes (width q) (height q) d.depth in
     subst P (sym number.all)
     (part_size (get_or (k.parts.visible ++ hidden) n k.bounds) k.bounds d.depth
     (both_ordered k.parts.visible hidden n k.bounds made.parts.canonical (canonical_hidden k.bounds k.parts.visible) number.inside)
@@ -192,18 +192,18 @@ shown_sizes d k n made inside =
     made.size.sizes)
 
 whole_sizes : (d : LiveDraft) (k : Change) (n : ℕ) → IsLiveDraft d → is_super d.kind ≡ true → n ≡ length k.parts.visible
-    → AreSizes (columns (buffer_rectangle (layout (changed_draft d k)) n)) (lines (buffer_rectangle (layout (changed_draft d k)) n)) d.depth
+    → AreSizes (width (buffer_rectangle (layout (changed_draft d k)) n)) (height (buffer_rectangle (layout (changed_draft d k)) n)) d.depth
 whole_sizes d k n ok super last =
     let l = layout (changed_draft d k) in
     let size = super_size d k super in
-    let wide : columns (whole_of l) ≡ (layout d).width = whole_extent l.bounds.min_x l.scroll_x l.width ∙ size.0 in
-    let high : lines (whole_of l) ≡ (layout d).height = whole_extent l.bounds.min_y l.scroll_y l.height ∙ size.1 in
-    let P : Rectangle → Type 0 = λ q. AreSizes (columns q) (lines q) d.depth in
-    subst P (sym (whole_rectangle l d.kind n refl super last)) (subst (λ w. AreSizes w (lines (whole_of l)) d.depth) (sym wide) (subst (λ h. AreSizes (layout d).width h d.depth) (sym high) ok.sizes))
+    let wide : width (whole_of l) ≡ (layout d).width = whole_extent l.bounds.min_x l.scroll_x l.width ∙ size.0 in
+    let high : height (whole_of l) ≡ (layout d).height = whole_extent l.bounds.min_y l.scroll_y l.height ∙ size.1 in
+    let P : Rectangle → Type 0 = λ q. AreSizes (width q) (height q) d.depth in
+    subst P (sym (whole_rectangle l d.kind n refl super last)) (subst (λ w. AreSizes w (height (whole_of l)) d.depth) (sym wide) (subst (λ h. AreSizes (layout d).width h d.depth) (sym high) ok.sizes))
 
 rectangle_sizes : (d : LiveDraft) (k : Change) (n : ℕ) → IsLiveDraft d → IsMade d k
     → n < length (buffered (layout (changed_draft d k)))
-    → AreSizes (columns (buffer_rectangle (layout (changed_draft d k)) n)) (lines (buffer_rectangle (layout (changed_draft d k)) n)) d.depth
+    → AreSizes (width (buffer_rectangle (layout (changed_draft d k)) n)) (height (buffer_rectangle (layout (changed_draft d k)) n)) d.depth
 rectangle_sizes d k n ok made inside =
     ⊎_elim
     (λ (early : n < length (beside_own d.kind k.bounds k.parts.visible)). shown_sizes d k n made early)
@@ -221,9 +221,9 @@ carried_small c (negsuc x) y ok = pow_pos c.layer.bits.depth
 
 -- what is carried into a rectangle is a buffer of it
 pub carried_planes : (c : LiveView) (bounds r : Rectangle) → IsPlanes c.layer.bits
-    → AreSizes (columns r) (lines r) c.layer.bits.depth → IsPlanes (carried c bounds r)
+    → AreSizes (width r) (height r) c.layer.bits.depth → IsPlanes (carried c bounds r)
 carried_planes c bounds r bits sizes = record {
-  bitmap = IsBitmap_bitmap (columns r) (lines r) c.layer.bits.depth _ (λ i j left low. carried_small c _ _ bits.bitmap);
+  bitmap = IsBitmap_bitmap (width r) (height r) c.layer.bits.depth _ (λ i j left low. carried_small c _ _ bits.bitmap);
   sizes = sizes;
 }
 

@@ -2,7 +2,7 @@
 use Rattle.std.proofs.Common.{◌≡◌, ℕ, ◌<◌, Bool, true, false, if◌then◌else◌, List, length, Option, Some, None, ◌∙◌, sym, refl, ap, subst, arith, ℤ, pos, ◌+ℤ◌, ◌-ℤ◌, ◌≤ℤ◌, unsigned_abs}
 use Rattle.std.proofs.lemmas.Bool.{and_parts}
 use Rattle.std.proofs.lemmas.Int.{ints}
-use Rattle.lw_region.specs.Rectangle.{Rectangle}
+use Rattle.lw_region.specs.Rectangle.{Rectangle, width, height}
 use Rattle.lw_region.specs.Bands.{covers}
 use Rattle.lw_region.proofs.Within.{within_low}
 use Rattle.lw_planes.specs.Bitmap.{Bitmap, bitmap, pen_at}
@@ -18,7 +18,7 @@ use Rattle.lw_machine.specs.Reveal.{Across, resized, counts_as_kept}
 use Rattle.lw_machine.specs.Reveal as reveal
 use Rattle.lw_machine.proofs.Seen.{holds_same}
 use Rattle.lw_layer.specs.View.{LiveView, keeps, kept_pen}
-use Rattle.lw_layer.specs.Pieces.{columns, lines, buffer_rectangle, buffer_at, column_in, line_in, inner_in, damage_table, IsDamageOf}
+use Rattle.lw_layer.specs.Pieces.{buffer_rectangle, buffer_at, column_in, line_in, inner_in, damage_table, IsDamageOf}
 use Rattle.lw_layer.specs.Drafts.{IsLiveDraft, IsScrolled, IsRest, layout, buffers_of, pen_from, live_view}
 use Rattle.lw_layer.specs.New.{kept_hidden}
 use Rattle.lw_layer.specs.declared.draft.LiveDraft.{LiveDraft}
@@ -147,7 +147,7 @@ found_pen d k x y (Some n) ok made left low is =
     let at_y : layer_place p.min_y k.bounds.min_y l.scroll_y (line_in l n y) ≡ pos y = place_in p.min_y k.bounds.min_y l.scroll_y y (within_low _ _ _ halves.1) in
     rw kept
     (ap (λ b. pen_at b (column_in l n x) (line_in l n y)) (rectangle_carried d k n made place.there) ∙
-    (pen_at_bitmap (columns p) (lines p) d.depth F (column_in l n x) (line_in l n y) place.column place.line ∙
+    (pen_at_bitmap (width p) (height p) d.depth F (column_in l n x) (line_in l n y) place.column place.line ∙
     (ap (λ q. pen_or_zero (kept_pen c q (layer_place p.min_y k.bounds.min_y l.scroll_y (line_in l n y)))) at_x ∙
     ap (λ q. pen_or_zero (kept_pen c (pos x) q)) at_y)))
 
@@ -178,7 +178,7 @@ bits_without_bitmap d k other ok made =
     let counted = counts_kept c k.bounds k.parts.visible x y in
     let kept : reveal.keeps (over d k) (resized (over d k) unwindowed) x y ≡ keeps (live_view r) x y = reveal_kept d k x y other ok in
     rw (kept, counted) (found_pen d k x y (buffer_at l x y) ok made left low refl ∙ ap (λ p. if keeps (live_view r) x y then p else 0) (pen_chosen (keeps c x y) (pen_at c.layer.bits x y)))) ∙
-    (ap (λ w. bitmap w l.height d.depth G) size.0 ∙ ap (λ h. bitmap (columns k.bounds) h d.depth G) size.1)
+    (ap (λ w. bitmap w l.height d.depth G) size.0 ∙ ap (λ h. bitmap (width k.bounds) h d.depth G) size.1)
 
 super_bits : (d : LiveDraft) (k : Change) → is_super d.kind ≡ true → IsLiveDraft d → IsMade d k
     → (live_view (changed_draft d k)).layer.bits ≡ (live_view d).layer.bits

@@ -4,7 +4,7 @@ use Rattle.std.proofs.lemmas.Bool.{and_parts, cases_lt, and_from}
 use Rattle.std.proofs.lemmas.List.Elements.{All-append}
 use Rattle.std.proofs.lemmas.Int.{ints}
 use Rattle.std.proofs.lemmas.List.{get_or_append_left, get_or-append_right}
-use Rattle.lw_region.specs.Rectangle.{Rectangle, within, has_pixel, moved_by, IsOrdered}
+use Rattle.lw_region.specs.Rectangle.{Rectangle, within, has_pixel, moved_by, IsOrdered, width, height}
 use Rattle.lw_region.specs.Bands.{covers}
 use Rattle.lw_region.specs.Banded.{IsCanonical}
 use Rattle.lw_region.proofs.Disjoint.{has_at}
@@ -16,7 +16,7 @@ use Rattle.lw_calls.specs.declared.make.Kind.TheVariants.{Simple, Smart, SuperBi
 use Rattle.lw_cliprects.specs.Parts.{hidden_of, AreDivided}
 use Rattle.lw_cliprects.proofs.HiddenLaws.{canonical_hidden}
 use Rattle.lw_layer.specs.View.{LiveView, kept_pen}
-use Rattle.lw_layer.specs.Pieces.{Layout, columns, lines, buffered, buffer_rectangle, rest_as, whole_of, across, down, buffer_at}
+use Rattle.lw_layer.specs.Pieces.{Layout, buffered, buffer_rectangle, rest_as, whole_of, across, down, buffer_at}
 use Rattle.lw_layer.specs.Drafts.{IsLiveDraft, IsBuffer, layout, buffers_of, no_bitmap, live_view}
 use Rattle.lw_layer.specs.declared.draft.LiveDraft.{LiveDraft}
 use Rattle.lw_layer.proofs.BufferLaws.{buffer_is}
@@ -43,9 +43,9 @@ carried_moved c bounds r =
     let h = extent_moved r.min_y r.max_y dy in
     let F : ℕ → ℕ → ℕ = λ i j. pen_or_zero (kept_pen c (layer_place (r.min_x +ℤ dx) bounds.min_x c.layer.scroll_x i) (layer_place (r.min_y +ℤ dy) bounds.min_y c.layer.scroll_y j)) in
     let G : ℕ → ℕ → ℕ = λ i j. pen_or_zero (kept_pen c (layer_place r.min_x c.bounds.min_x c.layer.scroll_x i) (layer_place r.min_y c.bounds.min_y c.layer.scroll_y j)) in
-    ap (λ n. bitmap n (lines (moved_by r dx dy)) c.layer.bits.depth F) w ∙
-    (ap (λ n. bitmap (columns r) n c.layer.bits.depth F) h ∙
-    bitmap_same (columns r) (lines r) c.layer.bits.depth F G
+    ap (λ n. bitmap n (height (moved_by r dx dy)) c.layer.bits.depth F) w ∙
+    (ap (λ n. bitmap (width r) n c.layer.bits.depth F) h ∙
+    bitmap_same (width r) (height r) c.layer.bits.depth F G
     (λ i j left low.
     ap (λ x. pen_or_zero (kept_pen c x (layer_place (r.min_y +ℤ dy) bounds.min_y c.layer.scroll_y j))) (place_moved r.min_x c.bounds.min_x bounds.min_x c.layer.scroll_x i) ∙
     ap (λ y. pen_or_zero (kept_pen c (layer_place r.min_x c.bounds.min_x c.layer.scroll_x i) y)) (place_moved r.min_y c.bounds.min_y bounds.min_y c.layer.scroll_y j)))
@@ -173,7 +173,7 @@ pub record AreParts (bounds : Rectangle) (visible : List Rectangle) : Type 0 whe
 
 -- one pixel of the buffer of a rectangle
 former_pen : (d : LiveDraft) (n i j : ℕ) → IsLiveDraft d → AreParts d.bounds d.parts.visible → IsNumber (layout d) d.kind n
-    → i < columns (buffer_rectangle (layout d) n) → j < lines (buffer_rectangle (layout d) n)
+    → i < width (buffer_rectangle (layout d) n) → j < height (buffer_rectangle (layout d) n)
     → pen_at (get_or (buffers_of d) n no_bitmap) i j ≡ pen_or_zero (kept_pen (live_view d) (layer_place (buffer_rectangle (layout d) n).min_x d.bounds.min_x (layout d).scroll_x i) (layer_place (buffer_rectangle (layout d) n).min_y d.bounds.min_y (layout d).scroll_y j))
 former_pen d n i j ok parts number left low =
     let l = layout d in
@@ -208,6 +208,6 @@ former_carried d n ok parts inside =
     let F : ℕ → ℕ → ℕ = λ i j. pen_or_zero (kept_pen (live_view d) (layer_place r.min_x d.bounds.min_x l.scroll_x i) (layer_place r.min_y d.bounds.min_y l.scroll_y j)) in
     bitmap_from_pens b F buffer.sound.bitmap (λ i j left low. former_pen d n i j ok parts number (omega (arith, buffer.width)) (omega (arith, buffer.height))) ∙
     (ap (λ w. bitmap w b.height b.depth F) buffer.width ∙
-    (ap (λ h. bitmap (columns r) h b.depth F) buffer.height ∙
-    (ap (λ k. bitmap (columns r) (lines r) k F) buffer.planes ∙
+    (ap (λ h. bitmap (width r) h b.depth F) buffer.height ∙
+    (ap (λ k. bitmap (width r) (height r) k F) buffer.planes ∙
     ap (λ q. carried (live_view d) d.bounds q) number.same)))

@@ -5,7 +5,7 @@ use Rattle.std.proofs.lemmas.Bool.{cases_eq}
 use Rattle.std.proofs.lemmas.Bool.Decides.{nat_tests}
 use Rattle.std.proofs.lemmas.Nat.Bits.{bit_at-lt, bit_at-zero}
 use Rattle.std.proofs.Math.Bool.{and-false, and-true}
-use Rattle.lw_region.specs.Rectangle.{Rectangle}
+use Rattle.lw_region.specs.Rectangle.{Rectangle, width, height}
 use Rattle.lw_planes.specs.Pen.{pen_of}
 use Rattle.lw_planes.specs.Row.{row_bit}
 use Rattle.lw_planes.specs.Bitmap.{Bitmap, IsBitmap, bitmap, pen_at, row_bytes}
@@ -15,7 +15,6 @@ use Rattle.lw_planes.proofs.BitmapLaws.{bitmap_same, bitmap_from_pens, pen_at_bi
 use Rattle.lw_planes.proofs.WriteLaws.{with_row_plane_row}
 use Rattle.lw_planes.proofs.ChosenLaws.{chosen_small}
 use Rattle.lw_layer.specs.View.{LiveView, kept_pen}
-use Rattle.lw_layer.specs.Pieces.{columns, lines}
 use Rattle.lw_layer.specs.Copied.{kept_bit, bit_in}
 use Rattle.lw_layer.proofs.CopyingLaws.{bit_in_lt}
 use Rattle.lw_reveal.specs.Changes.{pen_or_zero, layer_place, carried}
@@ -133,7 +132,7 @@ pen_kept d (Some pen) small = pen_same d pen small
 
 -- Once all is painted, the buffer is the carried one.
 pub carried_painted : (c : LiveView) (bounds r : Rectangle) (b new : Bitmap) (w h : ℕ) → IsBitmap c.layer.bits
-    → b ≡ bitmap w h c.layer.bits.depth (λ x y. 0) → w ≡ columns r → h ≡ lines r
+    → b ≡ bitmap w h c.layer.bits.depth (λ x y. 0) → w ≡ width r → h ≡ height r
     → new ≡ painted (λ p j. true) (bits_in c bounds r) b → new ≡ carried c bounds r
 unfolding painted kept_bit
 carried_painted c bounds r b new w h ok blank wide high is =
@@ -142,6 +141,6 @@ carried_painted c bounds r b new w h ok blank wide high is =
     is ∙
     (ap (λ q. painted (λ p j. true) (bits_in c bounds r) q) blank ∙
     (ap (λ n. bitmap n h d F) wide ∙
-    (ap (λ n. bitmap (columns r) n d F) high ∙
-    bitmap_same (columns r) (lines r) d F _
+    (ap (λ n. bitmap (width r) n d F) high ∙
+    bitmap_same (width r) (height r) d F _
     (λ i j left low. pen_kept d (kept_pen c (layer_place r.min_x bounds.min_x c.layer.scroll_x i) (layer_place r.min_y bounds.min_y c.layer.scroll_y j)) (carried_small c _ _ ok)))))

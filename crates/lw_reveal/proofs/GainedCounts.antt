@@ -5,7 +5,7 @@ use Rattle.std.specs.Option.{option_eq}
 use Rattle.std.proofs.lemmas.Bool.{and_parts, or_right}
 use Rattle.std.proofs.lemmas.Bool.Decides.{nat_tests}
 use Rattle.std.proofs.lemmas.Int.{ints}
-use Rattle.lw_region.specs.Rectangle.{Rectangle, within}
+use Rattle.lw_region.specs.Rectangle.{Rectangle, within, width, height}
 use Rattle.lw_region.specs.Pixels.{pixels_of, union}
 use Rattle.lw_region.specs.Bands.{bands, covers}
 use Rattle.lw_region.specs.Regions.{rectangle_set}
@@ -18,7 +18,7 @@ use Rattle.lw_machine.specs.Layer.{is_framed}
 use Rattle.lw_machine.specs.Kept.{is_kept, in_inner}
 use Rattle.lw_machine.specs.Reveal.{was_inner, is_inner, counts_as_kept}
 use Rattle.lw_layer.specs.View.{LiveView, keeps}
-use Rattle.lw_layer.specs.Pieces.{columns, lines, inner_of}
+use Rattle.lw_layer.specs.Pieces.{inner_of}
 use Rattle.lw_layer.specs.Keeping.{AreKept, keeps_pixel}
 use Rattle.lw_layer.proofs.KeepingLaws.{all_is, kept_pixel, sound_plain}
 use Rattle.lw_reveal.specs.Changed.{across_to, windowless}
@@ -75,8 +75,8 @@ counted_pixel c bounds visible (pos x) (pos y) sound other =
     (kept_pixel c c.layer.kind refl other (sound_plain c sound other) (pos x) (pos y))
     ∙ ap (λ f. keeps c x y && f)
     (same_frames framed _ _ (was_inner a c.layer x y) (is_inner a c.layer x y)
-    (λ has. inner_pixel super framed (columns c.bounds) (lines c.bounds) x y other has)
-    (λ has. inner_pixel super framed (columns bounds) (lines bounds) x y other has))
+    (λ has. inner_pixel super framed (width c.bounds) (height c.bounds) x y other has)
+    (λ has. inner_pixel super framed (width bounds) (height bounds) x y other has))
 counted_pixel c bounds visible (pos x) (negsuc y) sound other =
     ap (λ k. k && (not (is_framed c.layer.window) || (may_lie (inner_with c c.bounds) (pos x) (negsuc y) || not (may_lie (inner_with c bounds) (pos x) (negsuc y)))))
     (kept_pixel c c.layer.kind refl other (sound_plain c sound other) (pos x) (negsuc y))
@@ -95,8 +95,8 @@ pub record IsFrame (c : LiveView) (bounds : Rectangle) (kept : List Rectangle) (
 pub frame_read : (c : LiveView) (bounds before : Rectangle) (kind : Kind) (shown kept : List Rectangle) (framed : Bool)
     (former inner : Option Rectangle) → kind ≡ c.layer.kind → before ≡ c.bounds → shown ≡ c.visible
     → framed ≡ is_framed c.layer.window → AreKept kind before shown kept
-    → former ≡ inner_of (is_super kind) framed (columns before) (lines before)
-    → inner ≡ inner_of (is_super kind) framed (columns bounds) (lines bounds) → IsFrame c bounds kept framed former inner
+    → former ≡ inner_of (is_super kind) framed (width before) (height before)
+    → inner ≡ inner_of (is_super kind) framed (width bounds) (height bounds) → IsFrame c bounds kept framed former inner
 frame_read c bounds before kind shown kept framed former inner kinds places visible frames are was now = record {
   kept_is = λ x y.
       are x y
@@ -105,13 +105,13 @@ frame_read c bounds before kind shown kept framed former inner kinds places visi
   framed_is = frames;
   former_is =
       was
-      ∙ (ap (λ k. inner_of (is_super k) framed (columns before) (lines before)) kinds
-      ∙ (ap (λ f. inner_of (is_super c.layer.kind) f (columns before) (lines before)) frames
+      ∙ (ap (λ k. inner_of (is_super k) framed (width before) (height before)) kinds
+      ∙ (ap (λ f. inner_of (is_super c.layer.kind) f (width before) (height before)) frames
       ∙ ap (λ b. inner_with c b) places));
   inner_is =
       now
-      ∙ (ap (λ k. inner_of (is_super k) framed (columns bounds) (lines bounds)) kinds
-      ∙ ap (λ f. inner_of (is_super c.layer.kind) f (columns bounds) (lines bounds)) frames);
+      ∙ (ap (λ k. inner_of (is_super k) framed (width bounds) (height bounds)) kinds
+      ∙ ap (λ f. inner_of (is_super c.layer.kind) f (width bounds) (height bounds)) frames);
 }
 
 -- all that is kept counts without a frame, and where the inner rectangle stays

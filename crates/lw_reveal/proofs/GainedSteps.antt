@@ -1,13 +1,13 @@
 -- The damage that the code makes, step by step.
 use Rattle.std.proofs.Common.{◌≡◌, Bool, ◌&&◌, List, Option, ◌∙◌, sym, ap}
-use Rattle.lw_region.specs.Rectangle.{Rectangle}
+use Rattle.lw_region.specs.Rectangle.{Rectangle, width, height}
 use Rattle.lw_region.specs.Bands.{covers}
 use Rattle.lw_calls.specs.declared.make.Kind.{Kind}
 use Rattle.lw_calls.specs.Kinds.{is_super}
 use Rattle.lw_damage.specs.Damaged.{Damaged, IsDamageWith, may_lie}
 use Rattle.lw_machine.specs.Layer.{is_framed}
 use Rattle.lw_layer.specs.View.{LiveView}
-use Rattle.lw_layer.specs.Pieces.{columns, lines, inner_of}
+use Rattle.lw_layer.specs.Pieces.{inner_of}
 use Rattle.lw_layer.specs.Keeping.{AreKept, keeps_pixel}
 use Rattle.lw_reveal.specs.Counted.{AreCounted, counts_pixel}
 use Rattle.lw_reveal.specs.Gained.{AreLeft, is_left}
@@ -28,7 +28,7 @@ same_left a b d e f g first second third = cc
 pub made_gained : (c : LiveView) (bounds : Rectangle) (visible : List Rectangle) (former d : Damaged) (kind : Kind) (framed : Bool)
     (new_shown damaged was kept due : List Rectangle) (inner : Option Rectangle) (on : Bool)
     → IsRead c visible former kind framed new_shown damaged on → AreCounted c bounds was → AreKept kind bounds new_shown kept
-    → AreLeft was damaged kept due → inner ≡ inner_of (is_super kind) framed (columns bounds) (lines bounds)
+    → AreLeft was damaged kept due → inner ≡ inner_of (is_super kind) framed (width bounds) (height bounds)
     → IsDamageWith inner due on d → IsGained c bounds visible former d
 made_gained c bounds visible former d kind framed new_shown damaged was kept due inner on read counted are is may made = record {
   pixels = λ x y.
@@ -43,7 +43,7 @@ made_gained c bounds visible former d kind framed new_shown damaged was kept due
   inner =
       made.inner
       ∙ (may
-      ∙ (ap (λ k. inner_of (is_super k) framed (columns bounds) (lines bounds)) read.kind_is
-      ∙ ap (λ f. inner_of (is_super c.layer.kind) f (columns bounds) (lines bounds)) read.framed_is));
+      ∙ (ap (λ k. inner_of (is_super k) framed (width bounds) (height bounds)) read.kind_is
+      ∙ ap (λ f. inner_of (is_super c.layer.kind) f (width bounds) (height bounds)) read.framed_is));
   updating = made.updating ∙ read.updating_is;
 }

@@ -1,7 +1,7 @@
 -- The damage of a layer across an arrangement, from that of the machine's definition.
 use Rattle.std.proofs.Common.{◌≡◌, ℕ, ◌<◌, Bool, true, false, not, ◌&&◌, if◌then◌else◌, nat_lt, List, ℤ, pos, ◌∙◌, sym, refl, ap, subst, ⊎_elim}
 use Rattle.std.proofs.lemmas.Bool.{and_parts, and_right, cases_Bool, ltb-true, false_from_ne_true, both_ways}
-use Rattle.lw_region.specs.Rectangle.{Rectangle, IsOrdered}
+use Rattle.lw_region.specs.Rectangle.{Rectangle, IsOrdered, width, height}
 use Rattle.lw_region.specs.Bands.{covers}
 use Rattle.lw_region.proofs.Lists.{and_between}
 use Rattle.lw_planes.specs.Grid.{at}
@@ -15,7 +15,7 @@ use Rattle.lw_machine.specs.Reveal.{is_inner, counts_as_kept, resized, with_reve
 use Rattle.lw_machine.specs.Reveal as reveal
 use Rattle.lw_machine.proofs.Settling.{revealed_plain, revealed_super}
 use Rattle.lw_layer.specs.View.{LiveView, keeps}
-use Rattle.lw_layer.specs.Pieces.{columns, lines, inner_of, damage_table, IsDamageOf}
+use Rattle.lw_layer.specs.Pieces.{inner_of, damage_table, IsDamageOf}
 use Rattle.lw_layer.specs.StandsFor.{IsSound}
 use Rattle.lw_layer.specs.Keeping.{keeps_pixel}
 use Rattle.lw_layer.proofs.InnerLaws.{may_pixel, none_may}
@@ -118,7 +118,7 @@ damaged_then c bounds visible x y =
 -- so it is by the code's rectangles
 gained_pixel : (c : LiveView) (bounds : Rectangle) (visible : List Rectangle) (former d : Damaged) (x y : ℕ) → IsSound c
     → IsOrdered bounds → LieIn bounds visible → is_super c.layer.kind ≡ false → IsDamageOf c former → IsGained c bounds visible former d
-    → x < columns bounds → y < lines bounds → damaged_then c bounds visible x y ≡ covers d.rects (pos x) (pos y)
+    → x < width bounds → y < height bounds → damaged_then c bounds visible x y ≡ covers d.rects (pos x) (pos y)
 gained_pixel c bounds visible former d x y sound ordered inside other was gained left low =
     let a = across_to c bounds visible in
     let kind = c.layer.kind in
@@ -127,7 +127,7 @@ gained_pixel c bounds visible former d x y sound ordered inside other was gained
     let now = gained_keeps c bounds visible x y ∙ sym (kept_pixel (gained_view bounds visible c) kind refl other plain (pos x) (pos y)) in
     let damaged = former_pixel c former x y (counts_as_kept a c.layer x y) (λ has. counted_kept c bounds visible x y has) was.pixels in
     let may : may_lie d.inner (pos x) (pos y) ≡ is_inner a c.layer x y =
-    ap (λ o. may_lie o (pos x) (pos y)) gained.inner ∙ may_pixel (is_super kind) (is_framed c.layer.window) (columns bounds) (lines bounds) x y other left low
+    ap (λ o. may_lie o (pos x) (pos y)) gained.inner ∙ may_pixel (is_super kind) (is_framed c.layer.window) (width bounds) (height bounds) x y other left low
     in
     same_tests _ _ _ _ _ _ _ now may (damaged ∙ ap (λ k. not (k && not (covers former.rects (pos x) (pos y)))) (sym counts))
     ∙ sym (gained.pixels (pos x) (pos y))
@@ -137,7 +137,7 @@ gained_damage : (c : LiveView) (bounds : Rectangle) (visible : List Rectangle) (
     → IsOrdered bounds → LieIn bounds visible → is_super c.layer.kind ≡ false
     → IsDamageOf c former → IsGained c bounds visible former d → IsDamageOf (gained_view bounds visible c) d
 gained_damage c bounds visible former d sound ordered inside other was gained = record {
-  pixels = grid_same (columns bounds) (lines bounds) _ _ (λ x y left low. gained_pixel c bounds visible former d x y sound ordered inside other was gained left low);
+  pixels = grid_same (width bounds) (height bounds) _ _ (λ x y left low. gained_pixel c bounds visible former d x y sound ordered inside other was gained left low);
   kept = λ x y has.
       let due = and_parts _ _ (sym (gained.pixels x y) ∙ has) in
       sym (kept_pixel (gained_view bounds visible c) c.layer.kind refl other (gained_plain c bounds visible sound ordered inside other) x y) ∙ (and_parts _ _ due.0).0;
@@ -159,7 +159,7 @@ own_damage c bounds visible former d own was lies gained = record {
   where
     none_now : (x y : ℤ) → covers d.rects x y ≡ false
     none_now x y =
-        gained.pixels x y ∙ and_right _ _ (ap (λ o. may_lie o x y) gained.inner ∙ none_may (is_super c.layer.kind) (is_framed c.layer.window) (columns bounds) (lines bounds) x y own)
+        gained.pixels x y ∙ and_right _ _ (ap (λ o. may_lie o x y) gained.inner ∙ none_may (is_super c.layer.kind) (is_framed c.layer.window) (width bounds) (height bounds) x y own)
 
     none_before : (x y : ℤ) → covers former.rects x y ≡ false
     none_before x y =
@@ -167,7 +167,7 @@ own_damage c bounds visible former d own was lies gained = record {
         both_ways _ (ap (λ o. may_lie o x y) was.inner ∙ none_may (is_super c.layer.kind) (is_framed c.layer.window) c.layer.bits.width c.layer.bits.height x y own) (lies x y has))
 
     any_size : (super : Bool) → super ≡ true
-        → inner_of super (is_framed c.layer.window) (columns bounds) (lines bounds) ≡ inner_of super (is_framed c.layer.window) c.layer.bits.width c.layer.bits.height
+        → inner_of super (is_framed c.layer.window) (width bounds) (height bounds) ≡ inner_of super (is_framed c.layer.window) c.layer.bits.width c.layer.bits.height
     any_size true is = refl
     any_size false is = absurd (both_ways false refl is)
 

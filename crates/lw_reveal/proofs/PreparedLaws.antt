@@ -1,7 +1,7 @@
 -- A change that is made ready.
 use Rattle.std.proofs.Common.{◌≡◌, ℕ, ◌+◌, ◌<◌, ◌≤◌, Bool, true, false, ◌⊎◌, inl, inr, List, [], ◌++◌, length, get_or, None, ◌∙◌, sym, refl, ap, subst, arith, ◌-ℤ◌, length-append}
 use Rattle.std.proofs.lemmas.List.{get_or_append_left, get_or_default}
-use Rattle.lw_region.specs.Rectangle.{Rectangle, moved_by}
+use Rattle.lw_region.specs.Rectangle.{Rectangle, moved_by, width, height}
 use Rattle.lw_planes.specs.Bitmap.{row_bytes}
 use Rattle.lw_planes.specs.Sizes.{AreSizes}
 use Rattle.lw_calls.specs.declared.make.Kind.{Kind}
@@ -9,7 +9,7 @@ use Rattle.lw_calls.specs.declared.make.Kind.TheVariants.{Simple, Smart, SuperBi
 use Rattle.lw_cliprects.specs.Parts.{hidden_of}
 use Rattle.lw_cliprects.proofs.HiddenLaws.{canonical_hidden}
 use Rattle.lw_layer.specs.View.{LiveView}
-use Rattle.lw_layer.specs.Pieces.{columns, lines, IsDamageOf}
+use Rattle.lw_layer.specs.Pieces.{IsDamageOf}
 use Rattle.lw_layer.specs.New.{kept_hidden}
 use Rattle.lw_layer.proofs.NewLaws.{part_size}
 use Rattle.lw_reveal.specs.declared.change.Change.{Change}
@@ -41,12 +41,12 @@ one_of Smart bounds visible i d inside = record { same = refl; inside = inside }
 one_of SuperBitmap bounds visible i d inside = one_shown visible (hidden_of bounds visible) i d inside
 
 new_size : (kind : Kind) (bounds : Rectangle) (visible : List Rectangle) (depth i : ℕ) → AreParts bounds visible
-    → AreSizes (columns bounds) (lines bounds) depth → i < length (beside_own kind bounds visible)
-    → AreSizes (columns (get_or (beside_own kind bounds visible) i bounds)) (lines (get_or (beside_own kind bounds visible) i bounds)) depth
+    → AreSizes (width bounds) (height bounds) depth → i < length (beside_own kind bounds visible)
+    → AreSizes (width (get_or (beside_own kind bounds visible) i bounds)) (height (get_or (beside_own kind bounds visible) i bounds)) depth
 new_size kind bounds visible depth i parts sizes inside =
     let hidden = hidden_of bounds visible in
     let one = one_of kind bounds visible i bounds inside in
-    let P : Rectangle → Type 0 = λ q. AreSizes (columns q) (lines q) depth in
+    let P : Rectangle → Type 0 = λ q. AreSizes (width q) (height q) depth in
     subst P (sym one.same)
     (part_size (get_or (visible ++ hidden) i bounds) bounds depth
     (both_ordered visible hidden i bounds parts.canonical (canonical_hidden bounds visible) one.inside)
@@ -58,17 +58,17 @@ row_room w small = omega arith
 
 -- there is room for each of their rows
 pub new_room : (kind : Kind) (bounds : Rectangle) (visible rects : List Rectangle) (depth : ℕ)
-    → rects ≡ beside_own kind bounds visible → AreParts bounds visible → AreSizes (columns bounds) (lines bounds) depth
+    → rects ≡ beside_own kind bounds visible → AreParts bounds visible → AreSizes (width bounds) (height bounds) depth
     → HaveRoom depth rects 256
 new_room kind bounds visible rects depth is parts sizes =
     let all = beside_own kind bounds visible in
-    let size : (i : ℕ) (d : Rectangle) → i < length all → AreSizes (columns (get_or all i d)) (lines (get_or all i d)) depth =
+    let size : (i : ℕ) (d : Rectangle) → i < length all → AreSizes (width (get_or all i d)) (height (get_or all i d)) depth =
     λ i d inside.
-    let P : Rectangle → Type 0 = λ q. AreSizes (columns q) (lines q) depth in
+    let P : Rectangle → Type 0 = λ q. AreSizes (width q) (height q) depth in
     subst P (get_or_default all i bounds d inside) (new_size kind bounds visible depth i parts sizes inside)
     in
     subst (λ q. HaveRoom depth q 256) (sym is)
-    (record { sizes = λ i d inside. size i d inside; rows = λ i d inside. row_room (columns (get_or all i d)) (size i d inside).columns.1 })
+    (record { sizes = λ i d inside. size i d inside; rows = λ i d inside. row_room (width (get_or all i d)) (size i d inside).columns.1 })
 
 -- each new buffer is the carried one, or one is handed over to its place
 pen_or_given : (c : LiveView) (k : Change) (p : Pairing) (shown i : ℕ) (t : Bool) → get_or p.given.items i false ≡ t

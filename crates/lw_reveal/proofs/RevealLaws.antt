@@ -1,6 +1,7 @@
 -- What an arrangement carries of a layer whose bounds and visible rectangles stay.
 use Rattle.std.proofs.Common.{◌≡◌, ℕ, Bool, true, false, not, ◌&&◌, ◌||◌, if◌then◌else◌, Option, Some, None, ◌∙◌, sym, refl, ap, ℤ, pos}
 use Rattle.lw_region.specs.Bands.{covers}
+use Rattle.lw_region.specs.Rectangle.{width, height}
 use Rattle.lw_planes.specs.Grid.{grid, at}
 use Rattle.lw_planes.specs.Bitmap.{bitmap, pen_at}
 use Rattle.lw_planes.proofs.BitmapLaws.{bitmap_again, bitmap_same}
@@ -13,7 +14,7 @@ use Rattle.lw_machine.specs.Hook.{Hook}
 use Rattle.lw_machine.specs.Reveal.{counts_as_kept, resized, is_inner, fill_pen, hook_after}
 use Rattle.lw_machine.specs.Reveal as reveal
 use Rattle.lw_layer.specs.View.{LiveView, keeps}
-use Rattle.lw_layer.specs.Pieces.{columns, lines, IsDamageOf}
+use Rattle.lw_layer.specs.Pieces.{IsDamageOf}
 use Rattle.lw_layer.specs.StandsFor.{IsSound}
 use Rattle.lw_layer.proofs.InnerLaws.{may_pixel}
 use Rattle.lw_reveal.specs.Changed.{across_to, windowless, carried_to}
@@ -21,8 +22,8 @@ use Rattle.lw_reveal.proofs.GainedCounts.{counts_kept}
 use Rattle.lw_reveal.proofs.GainedView.{gained_view, carried_without_bitmap, carried_own}
 
 -- where neither the bounds nor the size change, what the layer keeps afterwards is what it keeps, whatever its window
-kept_after : (c : LiveView) (w : Option Window) (x y : ℕ) → c.layer.bits.width ≡ columns c.bounds
-    → c.layer.bits.height ≡ lines c.bounds
+kept_after : (c : LiveView) (w : Option Window) (x y : ℕ) → c.layer.bits.width ≡ width c.bounds
+    → c.layer.bits.height ≡ height c.bounds
     → reveal.keeps (across_to c c.bounds c.visible) (resized (across_to c c.bounds c.visible) (record c.layer { window = w })) x y ≡ keeps c x y
 unfolding keeps is_kept
 kept_after c w x y wide high = rw (wide, high) refl
@@ -60,7 +61,7 @@ bits_stay c sound without_bitmap =
     let l : Layer = windowless c.layer in
     let b = c.layer.bits in
     let F : ℕ → ℕ → ℕ = λ x y. if reveal.keeps a (resized a l) x y then (if counts_as_kept a l x y then pen_at b x y else fill_pen b.depth c.layer.hook x y) else 0 in
-    ap (λ w. bitmap w (lines c.bounds) b.depth F) (sym (sound.wide without_bitmap)) ∙
+    ap (λ w. bitmap w (height c.bounds) b.depth F) (sym (sound.wide without_bitmap)) ∙
     (ap (λ h. bitmap b.width h b.depth F) (sym (sound.high without_bitmap)) ∙
     (bitmap_same b.width b.height b.depth F (λ x y. pen_at b x y)
     (λ x y left low.
@@ -77,14 +78,14 @@ damage_stay c d sound damage lies without_bitmap =
     let b = c.layer.bits in
     let framed = is_framed c.layer.window in
     let F : ℕ → ℕ → Bool = λ x y. (reveal.keeps a (resized a c.layer) x y && is_inner a c.layer x y) && (if counts_as_kept a c.layer x y then at false c.layer.damage x y else true) in
-    ap (λ w. grid w (lines c.bounds) F) (sym (sound.wide without_bitmap)) ∙
+    ap (λ w. grid w (height c.bounds) F) (sym (sound.wide without_bitmap)) ∙
     (ap (λ h. grid b.width h F) (sym (sound.high without_bitmap)) ∙
     (grid_same b.width b.height F (λ x y. covers d.rects (pos x) (pos y))
     (λ x y left low.
     let kept = kept_after c c.layer.window x y (sound.wide without_bitmap) (sound.high without_bitmap) in
     let counted = same_size c x y in
     let may : may_lie d.inner (pos x) (pos y) ≡ in_inner framed b.width b.height x y = ap (λ o. may_lie o (pos x) (pos y)) damage.inner ∙ may_pixel (is_super c.layer.kind) framed b.width b.height x y without_bitmap left low in
-    let inner : may_lie d.inner (pos x) (pos y) ≡ is_inner a c.layer x y = may ∙ (ap (λ w. in_inner framed w b.height x y) (sound.wide without_bitmap) ∙ ap (λ h. in_inner framed (columns c.bounds) h x y) (sound.high without_bitmap)) in
+    let inner : may_lie d.inner (pos x) (pos y) ≡ is_inner a c.layer x y = may ∙ (ap (λ w. in_inner framed w b.height x y) (sound.wide without_bitmap) ∙ ap (λ h. in_inner framed (width c.bounds) h x y) (sound.high without_bitmap)) in
     let here : at false c.layer.damage x y ≡ covers d.rects (pos x) (pos y) =
     ap (λ t. at false t x y) damage.pixels ∙ grid_at b.width b.height (λ i j. covers d.rects (pos i) (pos j)) false x y left low in
     rw (kept, counted, here)

@@ -3,12 +3,11 @@
 use Rattle.std.specs.Prelude.{◌≡◌, ℕ, ◌<◌, ◌≤◌, false, Bool, if◌then◌else◌, List, ◌++◌, length, pos}
 use Rattle.std.specs.Int.{bit_at}
 use Rattle.std.specs.List.{All, slice_index_or}
-use Rattle.lw_region.specs.Rectangle.{Rectangle}
+use Rattle.lw_region.specs.Rectangle.{Rectangle, width, height}
 use Rattle.lw_planes.specs.Pen.{pen_of}
 use Rattle.lw_planes.specs.Bitmap.{Bitmap, bitmap, pen_at, row_bytes}
 use Rattle.lw_planes.specs.Sizes.{AreSizes}
 use Rattle.lw_layer.specs.View.{LiveView}
-use Rattle.lw_layer.specs.Pieces.{columns, lines}
 use Rattle.lw_layer.specs.Copied.{kept_bit}
 use Rattle.lw_layer.specs.Drafts.{no_bitmap}
 use Rattle.lw_reveal.specs.declared.carrying.Place.{Place}
@@ -33,8 +32,8 @@ pub record IsPlace (c : LiveView) (p : Place) : Type 0 where
 
 -- each rectangle has sizes for planes, and a row of this many bytes has room for each of its rows
 pub record HaveRoom (depth : ℕ) (rects : List Rectangle) (room : ℕ) : Type 0 where
-  pub sizes : All (λ (r : Rectangle). AreSizes (columns r) (lines r) depth) rects
-  pub rows : All (λ (r : Rectangle). row_bytes (columns r) ≤ room) rects
+  pub sizes : All (λ (r : Rectangle). AreSizes (width r) (height r) depth) rects
+  pub rows : All (λ (r : Rectangle). row_bytes (width r) ≤ room) rects
 
 -- each rectangle to which no buffer is given has a new one
 pub record AreNew (c : LiveView) (bounds : Rectangle) (rects : List Rectangle) (given : List Bool) (buffers : List Bitmap) :

@@ -1,6 +1,6 @@
 -- What a layer that stays live becomes when its bounds or what is visible of it change (the manual's Layers Library chapter).
 use Rattle.std.specs.Prelude.{◌≡◌, ◌+◌, ◌≤◌, true, List, Some, None}
-use Rattle.lw_region.specs.Rectangle.{Rectangle}
+use Rattle.lw_region.specs.Rectangle.{Rectangle, width, height}
 use Rattle.lw_region.specs.Bands.{covers}
 use Rattle.lw_planes.specs.Sizes.{AreSizes}
 use Rattle.lw_calls.specs.Kinds.{is_super}
@@ -8,7 +8,7 @@ use Rattle.lw_cliprects.specs.Parts.{LieIn}
 use Rattle.lw_machine.specs.Layer.{Layer, is_framed}
 use Rattle.lw_machine.specs.Reveal.{Across, revealed}
 use Rattle.lw_layer.specs.View.{LiveView}
-use Rattle.lw_layer.specs.Pieces.{columns, lines, HasFrameRoom}
+use Rattle.lw_layer.specs.Pieces.{HasFrameRoom}
 
 -- the layer across an arrangement after which it has these bounds and these visible rectangles
 abbrev pub across_to : LiveView → Rectangle → List Rectangle → Across
@@ -42,8 +42,8 @@ carried_to bounds visible c =
 -- The layer may have these bounds, of which these rectangles are visible: they have sizes for planes, what they show of an own
 -- bitmap lies in it, and a frame has room in them if there is one.
 pub record MayHave (c : LiveView) (bounds : Rectangle) (visible : List Rectangle) : Type 0 where
-  pub sizes : AreSizes (columns bounds) (lines bounds) c.layer.bits.depth
+  pub sizes : AreSizes (width bounds) (height bounds) c.layer.bits.depth
   pub inside : LieIn bounds visible
-  pub right : is_super c.layer.kind ≡ true → c.layer.scroll_x + columns bounds ≤ c.layer.bits.width
-  pub lower : is_super c.layer.kind ≡ true → c.layer.scroll_y + lines bounds ≤ c.layer.bits.height
+  pub right : is_super c.layer.kind ≡ true → c.layer.scroll_x + width bounds ≤ c.layer.bits.width
+  pub lower : is_super c.layer.kind ≡ true → c.layer.scroll_y + height bounds ≤ c.layer.bits.height
   pub frame : is_framed c.layer.window ≡ true → HasFrameRoom bounds

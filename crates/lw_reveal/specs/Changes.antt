@@ -2,12 +2,12 @@
 -- the buffer of a former one.
 use Rattle.std.specs.Prelude.{◌≡◌, ℕ, ◌<◌, ◌⊎◌, List, ◌++◌, length, ℤ, pos, ◌+ℤ◌, ◌-ℤ◌, Option, Some, None}
 use Rattle.std.specs.List.{slice_index_or}
-use Rattle.lw_region.specs.Rectangle.{Rectangle, moved_by}
+use Rattle.lw_region.specs.Rectangle.{Rectangle, moved_by, width, height}
 use Rattle.lw_planes.specs.Bitmap.{Bitmap, bitmap}
 use Rattle.lw_calls.specs.declared.make.Kind.{Kind}
 use Rattle.lw_cliprects.specs.Parts.{hidden_of}
 use Rattle.lw_layer.specs.View.{LiveView, kept_pen}
-use Rattle.lw_layer.specs.Pieces.{columns, lines, IsDamageOf}
+use Rattle.lw_layer.specs.Pieces.{IsDamageOf}
 use Rattle.lw_layer.specs.Drafts.{no_bitmap}
 use Rattle.lw_layer.specs.New.{kept_hidden}
 use Rattle.lw_reveal.specs.declared.change.Change.{Change}
@@ -37,7 +37,7 @@ layer_place edge low scroll i = ((edge +ℤ pos i) -ℤ low) +ℤ pos scroll
 -- pen 0 where it doesn't keep the pixel.
 abbrev pub carried : LiveView → Rectangle → Rectangle → Bitmap
 carried c bounds r =
-    bitmap (columns r) (lines r) c.layer.bits.depth
+    bitmap (width r) (height r) c.layer.bits.depth
     (λ i j. pen_or_zero (kept_pen c (layer_place r.min_x bounds.min_x c.layer.scroll_x i)
     (layer_place r.min_y bounds.min_y c.layer.scroll_y j)))
 

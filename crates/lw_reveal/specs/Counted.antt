@@ -1,7 +1,7 @@
 -- Which pixels of a live layer count as kept once it has other bounds (the manual's Layers Library chapter: the damage list; which
 -- pixels of a window's frame count is this project's own).
 use Rattle.std.specs.Prelude.{◌≡◌, Bool, false, not, ◌&&◌, ◌||◌, List, ℤ, Option}
-use Rattle.lw_region.specs.Rectangle.{Rectangle}
+use Rattle.lw_region.specs.Rectangle.{Rectangle, width, height}
 use Rattle.lw_region.specs.Bands.{covers}
 use Rattle.lw_calls.specs.Kinds.{is_super}
 use Rattle.lw_damage.specs.Damaged.{may_lie}
@@ -9,14 +9,14 @@ use Rattle.lw_machine.specs.Layer.{is_framed}
 use Rattle.lw_machine.specs.Kept.{holds_at}
 use Rattle.lw_machine.specs.Reveal.{counts_as_kept}
 use Rattle.lw_layer.specs.View.{LiveView}
-use Rattle.lw_layer.specs.Pieces.{columns, lines, inner_of}
+use Rattle.lw_layer.specs.Pieces.{inner_of}
 use Rattle.lw_layer.specs.Keeping.{keeps_pixel}
 use Rattle.lw_layer.specs.StandsFor.{IsSound}
 use Rattle.lw_reveal.specs.Changed.{across_to}
 
 -- where damage may lie in the layer once it has these bounds
 abbrev pub inner_with : LiveView → Rectangle → Option Rectangle
-inner_with c bounds = inner_of (is_super c.layer.kind) (is_framed c.layer.window) (columns bounds) (lines bounds)
+inner_with c bounds = inner_of (is_super c.layer.kind) (is_framed c.layer.window) (width bounds) (height bounds)
 
 -- The layer keeps its pixel at column x and row y, and it counts as kept once the layer has these bounds: in a framed window it lies
 -- in the former inner rectangle, or not in the new one. Of a super-bitmap layer no pixel counts.

@@ -1,10 +1,10 @@
 // Carrying the pens that a layer keeps into new buffers, row by row.
 
 ghost use Rattle.std.specs.Prelude.{◌≡◌, ◌==◌, ◌<◌, ◌≤◌, true, false, ◌&&◌, length, pos, negsuc, ◌+ℤ◌, ◌-ℤ◌, ◌≤ℤ◌, IfOk};
+ghost use Rattle.lw_region.specs.Rectangle.{width, height};
 ghost use Rattle.lw_planes.specs.Bitmap.{row_bytes};
 ghost use Rattle.lw_planes.specs.Sizes.{AreSizes};
 ghost use Rattle.lw_layer.specs.View as view;
-ghost use Rattle.lw_layer.specs.Pieces.{columns, lines};
 ghost use Rattle.lw_reveal.specs.Changes.{carried};
 ghost use Rattle.lw_reveal.specs.Carrying.{painted, bits_in, IsPlace, HaveRoom, AreNew, AreBothNew};
 
@@ -86,8 +86,8 @@ fn new_buffer(
 ) -> Result<Planes, AllocError>
     requires live { cell.now.state ≡ view.Live }
     requires place { IsPlace cell.now.live place.now }
-    requires sizes { AreSizes (columns rect.now) (lines rect.now) cell.now.live.layer.bits.depth }
-    requires room { row_bytes (columns rect.now) ≤ length kept.old }
+    requires sizes { AreSizes (width rect.now) (height rect.now) cell.now.live.layer.bits.depth }
+    requires room { row_bytes (width rect.now) ≤ length kept.old }
     ensures { IfOk result (λ planes. given ≡ false → planes ≡ carried cell.now.live place.now.bounds rect.now) }
 {
     if given {
@@ -106,13 +106,11 @@ fn carry(
 ) -> Result<Planes, AllocError>
     requires live { cell.now.state ≡ view.Live }
     requires place { IsPlace cell.now.live place.now }
-    requires sizes { AreSizes (columns rect.now) (lines rect.now) cell.now.live.layer.bits.depth }
-    requires room { row_bytes (columns rect.now) ≤ length kept.old }
+    requires sizes { AreSizes (width rect.now) (height rect.now) cell.now.live.layer.bits.depth }
+    requires room { row_bytes (width rect.now) ≤ length kept.old }
     ensures { IfOk result (λ planes. planes ≡ carried cell.now.live place.now.bounds rect.now) }
 {
-    let wide = extent(rect.min_x(), rect.max_x());
-    let high = extent(rect.min_y(), rect.max_y());
-    let mut planes = Planes::new(alloc, wide, high, cell.depth())?;
+    let mut planes = Planes::new(alloc, rect.width(), rect.height(), cell.depth())?;
     copy_planes(cell, place, rect, &mut planes, kept);
     Ok(planes)
 }
@@ -184,14 +182,6 @@ fn row_at(y: i32, line: u32) -> i32
     ensures { result ≡ y +ℤ pos line }
 {
     y + line as i32
-}
-
-// How far it is from the least place to the greatest, both inclusive.
-fn extent(least: i16, greatest: i16) -> u32
-    requires { least ≤ℤ greatest }
-    ensures { pos result ≡ (greatest +ℤ pos 1) -ℤ least }
-{
-    (i32::from(greatest) + 1 - i32::from(least)) as u32
 }
 
 // Which column or row of the layer stands at an edge, where the bounds' edge shows the one at the scroll.

@@ -1,9 +1,10 @@
 // The damage of a layer that stays live, after an arrangement that gives it other bounds or another visible region.
 
 ghost use Rattle.std.specs.Prelude.{◌≡◌, ◌≤◌, true, IfOk};
+ghost use Rattle.lw_region.specs.Rectangle.{width, height};
 ghost use Rattle.lw_machine.specs.Layer.{is_framed};
 ghost use Rattle.lw_layer.specs.View as view;
-ghost use Rattle.lw_layer.specs.Pieces.{columns, lines, HasFrameRoom, IsDamageOf};
+ghost use Rattle.lw_layer.specs.Pieces.{HasFrameRoom, IsDamageOf};
 ghost use Rattle.lw_layer.specs.Looks.{IsLook};
 ghost use Rattle.lw_layer.specs.StandsFor.{IsSound};
 ghost use Rattle.lw_reveal.specs.Changed.{carried_to, MayHave};
@@ -41,8 +42,8 @@ pub(crate) fn damage_after(
 /// project's own). It fails only when out of memory.
 pub fn counted_region(alloc: Global, cell: &Cell, bounds: &Rect) -> Result<Region, AllocError>
     requires live { cell.now.state ≡ view.Live }
-    requires wide { columns bounds.now ≤ 2048 }
-    requires high { lines bounds.now ≤ 2048 }
+    requires wide { width bounds.now ≤ 2048 }
+    requires high { height bounds.now ≤ 2048 }
     requires frame { is_framed cell.now.live.layer.window ≡ true → HasFrameRoom bounds.now }
     ensures { IfOk result (λ counted. AreCounted cell.now.live bounds.now counted) }
 {

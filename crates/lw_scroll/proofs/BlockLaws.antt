@@ -43,15 +43,15 @@ steps_down : (low high first last step z : ℤ) → low ≤ℤ high → step <�
 steps_down low high first last step z ordered down is short long = grind (arith, ints, nat_tests)
 
 -- such places begin or end with the others
-side_up : (p part : Places) (step first last : ℤ) → p.from ≤ p.end → pos part.from ≡ first → pos part.end ≡ last → pos 0 ≤ℤ step
+side_up : (p part : Places) (step first last : ℤ) → pos part.from ≡ first → pos part.end ≡ last → pos 0 ≤ℤ step
     → AreEdges (pos p.from) (pos p.end) step first last → IsAtSide p part
-side_up p part step first last ordered begins ends up are =
+side_up p part step first last begins ends up are =
+    let ordered = p.ordered in
     let low = are.first_up up in
     by_lt_z (pos p.end -ℤ step) (pos p.from)
     (λ a. let high = are.short_up up (omega (arith, ints)) in
     record {
       first = omega (arith, ints);
-      ordered = omega (arith, ints);
       last = omega (arith, ints);
       side = inl
           (omega (arith, ints));
@@ -59,22 +59,21 @@ side_up p part step first last ordered begins ends up are =
     (λ a. let high = are.long_up up a in
     record {
       first = omega (arith, ints);
-      ordered = omega (arith, ints);
       last = omega (arith, ints);
       side = inl
           (omega (arith, ints));
     })
 
-side_down : (p part : Places) (step first last : ℤ) → p.from ≤ p.end → pos part.from ≡ first → pos part.end ≡ last
+side_down : (p part : Places) (step first last : ℤ) → pos part.from ≡ first → pos part.end ≡ last
     → step <ℤ pos 0
     → AreEdges (pos p.from) (pos p.end) step first last → IsAtSide p part
-side_down p part step first last ordered begins ends down are =
+side_down p part step first last begins ends down are =
+    let ordered = p.ordered in
     let high = are.last_down down in
     by_lt_z (pos p.end) (pos p.from -ℤ step)
     (λ a. let low = are.short_down down (omega (arith, ints)) in
     record {
       first = omega (arith, ints);
-      ordered = omega (arith, ints);
       last = omega (arith, ints);
       side = inr
           (omega (arith, ints));
@@ -82,25 +81,25 @@ side_down p part step first last ordered begins ends down are =
     (λ a. let low = are.long_down down a in
     record {
       first = omega (arith, ints);
-      ordered = omega (arith, ints);
       last = omega (arith, ints);
       side = inr
           (omega (arith, ints));
     })
 
-pub brought_of : (p part : Places) (step first last : ℤ) → p.from ≤ p.end → pos part.from ≡ first → pos part.end ≡ last
+pub brought_of : (p part : Places) (step first last : ℤ) → pos part.from ≡ first → pos part.end ≡ last
     → AreEdges (pos p.from) (pos p.end) step first last → AreBrought p step part
-brought_of p part step first last ordered begins ends are =
+brought_of p part step first last begins ends are =
+    let ordered = p.ordered in
     let in_order : pos p.from ≤ℤ pos p.end = omega (arith, ints) in
     by_lt_z step (pos 0)
     (λ down. record {
-      at_side = side_down p part step first last ordered begins ends down are;
+      at_side = side_down p part step first last begins ends down are;
       has = λ z. rw (begins, ends)
           (steps_down (pos p.from) (pos p.end) first last step z in_order down (are.last_down down) (are.short_down down)
           (are.long_down down));
     })
     (λ up. record {
-      at_side = side_up p part step first last ordered begins ends up are;
+      at_side = side_up p part step first last begins ends up are;
       has = λ z. rw (begins, ends)
           (steps_up (pos p.from) (pos p.end) first last step z in_order up (are.first_up up) (are.short_up up) (are.long_up up));
     })

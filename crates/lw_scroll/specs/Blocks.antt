@@ -18,9 +18,7 @@ in_block b x y = has_place b.columns x && has_place b.rows y
 
 -- the block is one of a layer with so many columns and rows
 pub record LiesIn (width height : ℕ) (b : Block) : Type 0 where
-  pub columns : b.columns.from ≤ b.columns.end
   pub right : b.columns.end ≤ width
-  pub rows : b.rows.from ≤ b.rows.end
   pub bottom : b.rows.end ≤ height
 
 -- the block has the pixels of the rectangle that the layer's bits have
@@ -30,7 +28,6 @@ IsBlockOf c rect b = (x y : ℤ) → in_block b x y ≡ holds_at (λ i j. in_scr
 -- a part of some places begins or ends with them
 pub record IsAtSide (p part : Places) : Type 0 where
   pub first : p.from ≤ part.from
-  pub ordered : part.from ≤ part.end
   pub last : part.end ≤ p.end
   pub side : (part.from ≡ p.from) ⊎ (part.end ≡ p.end)
 

@@ -49,7 +49,6 @@ pub(crate) fn brought_block(block: Block, dx: i32, dy: i32) -> Block
 
 // The places that lead to one of them again, a step further on.
 fn brought_places(places: Places, step: i32) -> Places
-    requires ordered { places.from ≤ places.end }
     requires near { places.end ≤ 2048 }
     requires low { negsuc 65534 ≤ℤ step }
     requires high { step ≤ℤ pos 65535 }
@@ -66,7 +65,6 @@ fn brought_places(places: Places, step: i32) -> Places
 // The places without a part that begins or ends with them.
 pub(crate) fn beside(places: Places, part: Places) -> Places
     requires { IsAtSide places part }
-    ensures ordered { result.from ≤ result.end }
     ensures last { result.end ≤ places.end }
     ensures has { (u : ℕ) → is_between result.from result.end u ≡
         (is_between places.from places.end u && not (is_between part.from part.end u)) }
@@ -98,7 +96,6 @@ pub(crate) fn rect_of(block: Block) -> Option<Rect>
 
 // The first and the last of some places; the last is before the first where there is none.
 fn edges(places: Places) -> (i16, i16)
-    requires ordered { places.from ≤ places.end }
     requires near { places.end ≤ 2048 }
     ensures first { result.0 ≡ pos places.from }
     ensures last { (result.1 +ℤ pos 1) ≡ pos places.end }

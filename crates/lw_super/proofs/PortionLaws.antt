@@ -3,7 +3,7 @@ use Rattle.std.proofs.Common.{◌≡◌, ℕ, suc, ◌+◌, ◌||◌, int_le, �
 use Rattle.std.proofs.lemmas.Bool.{and_parts, cases_lt}
 use Rattle.std.proofs.lemmas.Int.{ints}
 use Rattle.std.proofs.lemmas.List.{drop_all, take_all, get_or_append_left, get_or_at, get_or-map, length-map, nil_from_length}
-use Rattle.lw_region.specs.Rectangle.{Rectangle, has_pixel, IsOrdered}
+use Rattle.lw_region.specs.Rectangle.{Rectangle, has_pixel, IsOrdered, columns_of, rows_of, width, height}
 use Rattle.lw_region.specs.Bands.{covers}
 use Rattle.lw_region.specs.Banded.{IsCanonical}
 use Rattle.lw_region.specs.Order.{natural}
@@ -23,7 +23,7 @@ use Rattle.lw_machine.specs.Step.{scroll_layer}
 use Rattle.lw_machine.specs.Kept.{is_kept, kept_as}
 use Rattle.lw_machine.proofs.Seen.{holds_same}
 use Rattle.lw_layer.specs.View.{LiveView, keeps, with_layer}
-use Rattle.lw_layer.specs.Pieces.{columns, lines, buffered, rest_of, whole_of, damage_table}
+use Rattle.lw_layer.specs.Pieces.{buffered, rest_of, whole_of, damage_table}
 use Rattle.lw_layer.specs.Drafts.{IsLiveDraft, IsBuffer, AreBuffers, IsRest, layout, buffers_of, no_bitmap, live_view}
 use Rattle.lw_layer.specs.declared.draft.LiveDraft.{LiveDraft}
 use Rattle.lw_layer.proofs.BitsLaws.{live_bits}
@@ -40,8 +40,8 @@ scrolled_to d v x y = record d { superbits = Some (live_view d).layer.bits; scro
 pub record MayScrollTo (d v : LiveDraft) (x y : ℤ) : Type 0 where
   pub left : pos 0 ≤ℤ x
   pub upper : pos 0 ≤ℤ y
-  pub right : unsigned_abs x + columns d.bounds ≤ (layout d).width
-  pub lower : unsigned_abs y + lines d.bounds ≤ (layout d).height
+  pub right : unsigned_abs x + width d.bounds ≤ (layout d).width
+  pub lower : unsigned_abs y + height d.bounds ≤ (layout d).height
   pub many : length v.buffers.items ≡ length d.parts.visible
   pub each : (n : ℕ) → n < length d.parts.visible → IsBuffer d.depth (get_or d.parts.visible n d.bounds) (get_or v.buffers.items n no_bitmap)
 
@@ -201,7 +201,7 @@ portion_pen own left top r x y behind has =
     let v : ℤ = top +ℤ pos y in
     let u_low = within_low r.min_x u r.max_x halves.0 in
     let v_low = within_low r.min_y v r.max_y halves.1 in
-    pen_at_bitmap (columns r) (lines r) own.depth _ (natural (u -ℤ r.min_x)) (natural (v -ℤ r.min_y))
+    pen_at_bitmap (width r) (height r) own.depth _ (natural (u -ℤ r.min_x)) (natural (v -ℤ r.min_y))
     (natural_less left r.min_x r.max_x x u_low (within_high r.min_x u r.max_x halves.0)) (natural_less top r.min_y r.max_y y v_low (within_high r.min_y v r.max_y halves.1))
     ∙ (ap (λ i. pen_at own i (natural (r.min_y -ℤ top) + natural (v -ℤ r.min_y))) (natural_sum left r.min_x x behind.0 u_low)
     ∙ ap (λ j. pen_at own x j) (natural_sum top r.min_y y behind.1 v_low))
@@ -236,7 +236,7 @@ unfolding portion
 portion_buffer own left top r b ok is = record {
   sound = record {
     bitmap =
-        IsBitmap_bitmap (columns r) (lines r) own.depth _
+        IsBitmap_bitmap (width r) (height r) own.depth _
         (λ x y in_width in_height.
         ok.bitmap.pens _ _ (portion_range left r.min_x r.max_x x own.width is.ordered.columns is.left_edge is.right_edge in_width)
         (portion_range top r.min_y r.max_y y own.height is.ordered.rows is.top_edge is.bottom_edge in_height));
@@ -254,9 +254,9 @@ portion_buffer own left top r b ok is = record {
 -- what a portion that fits says
 record Fits (x y : ℤ) (w h : ℕ) (r : Rectangle) : Type 0 where
   left : pos 0 ≤ℤ x
-  right : (x +ℤ ((r.max_x +ℤ pos 1) -ℤ r.min_x)) ≤ℤ pos w
+  right : (x +ℤ columns_of r) ≤ℤ pos w
   upper : pos 0 ≤ℤ y
-  lower : (y +ℤ ((r.max_y +ℤ pos 1) -ℤ r.min_y)) ≤ℤ pos h
+  lower : (y +ℤ rows_of r) ≤ℤ pos h
 
 fits_parts : (x y : ℤ) (w h : ℕ) (r : Rectangle) → portion_fits x y w h r ≡ true → Fits x y w h r
 unfolding portion_fits
@@ -399,15 +399,15 @@ axis_told start extent count a b low first second =
     rw (from, first, second) refl
 
 -- a portion fits where both axes do
-pub fits_both : (x y : ℤ) (w h : ℕ) (r : Rectangle) (across down : Bool) → across ≡ axis_fits x ((r.max_x +ℤ pos 1) -ℤ r.min_x) w
-    → down ≡ axis_fits y ((r.max_y +ℤ pos 1) -ℤ r.min_y) h → across ≡ true → down ≡ portion_fits x y w h r
+pub fits_both : (x y : ℤ) (w h : ℕ) (r : Rectangle) (across down : Bool) → across ≡ axis_fits x (columns_of r) w
+    → down ≡ axis_fits y (rows_of r) h → across ≡ true → down ≡ portion_fits x y w h r
 unfolding portion_fits axis_fits
-fits_both x y w h r across down first second is = second ∙ sym (ap (λ t. t && (int_le (pos 0) y && int_le (y +ℤ ((r.max_y +ℤ pos 1) -ℤ r.min_y)) (pos h))) (sym first ∙ is))
+fits_both x y w h r across down first second is = second ∙ sym (ap (λ t. t && (int_le (pos 0) y && int_le (y +ℤ rows_of r) (pos h))) (sym first ∙ is))
 
-pub fits_not : (x y : ℤ) (w h : ℕ) (r : Rectangle) (across : Bool) → across ≡ axis_fits x ((r.max_x +ℤ pos 1) -ℤ r.min_x) w
+pub fits_not : (x y : ℤ) (w h : ℕ) (r : Rectangle) (across : Bool) → across ≡ axis_fits x (columns_of r) w
     → across ≡ false → across ≡ portion_fits x y w h r
 unfolding portion_fits axis_fits
-fits_not x y w h r across first is = is ∙ sym (ap (λ t. t && (int_le (pos 0) y && int_le (y +ℤ ((r.max_y +ℤ pos 1) -ℤ r.min_y)) (pos h))) (sym first ∙ is))
+fits_not x y w h r across first is = is ∙ sym (ap (λ t. t && (int_le (pos 0) y && int_le (y +ℤ rows_of r) (pos h))) (sym first ∙ is))
 
 -- the draft with its portion moved, as the code makes it
 pub portion_moved : (d w : LiveDraft) (x y dx dy : ℤ) → w ≡ written_back d → x ≡ d.scroll_x +ℤ dx → y ≡ d.scroll_y +ℤ dy

@@ -4,7 +4,7 @@ use Rattle.std.proofs.lemmas.Bool.{and_parts}
 use Rattle.std.proofs.lemmas.Bool.Decides.{nat_tests}
 use Rattle.std.proofs.lemmas.Int.{ints}
 use Rattle.std.proofs.lemmas.List.{drop_all, ext_get_or, get_or-map, length-map}
-use Rattle.lw_region.specs.Rectangle.{Rectangle, within, has_pixel, IsOrdered}
+use Rattle.lw_region.specs.Rectangle.{Rectangle, within, has_pixel, IsOrdered, width, height}
 use Rattle.lw_region.specs.Bands.{covers}
 use Rattle.lw_region.specs.Order.{natural}
 use Rattle.lw_region.proofs.Canonical.{covers_nil, covers_cons}
@@ -13,7 +13,6 @@ use Rattle.lw_planes.proofs.BitmapLaws.{pen_at_bitmap, bitmap_from_pens, bitmap_
 use Rattle.lw_planes.proofs.ChosenLaws.{first_choice}
 use Rattle.lw_kernels.specs.Kernel.{is_named}
 use Rattle.lw_buffers.specs.Lookup.{pen_from, pen_in}
-use Rattle.lw_layer.specs.Pieces.{columns, lines}
 use Rattle.lw_layer.specs.Drafts.{IsBuffer, no_bitmap}
 use Rattle.lw_super.specs.Blocks.{in_block, block_pen, with_block}
 use Rattle.lw_super.specs.Shown.{IsShown, AreShown, laid, with_shown, portion, portions}
@@ -39,7 +38,7 @@ chosen_same false a b old same = refl
 
 -- a whole buffer copied into the bitmap is laid on its rectangle
 pub block_laid : (k : Block) (own b : Bitmap) (r : Rectangle) (left top : ℤ) → IsOrdered r → pos k.x ≡ r.min_x -ℤ left
-    → pos k.y ≡ r.min_y -ℤ top → k.source_x ≡ 0 → k.source_y ≡ 0 → k.width ≡ columns r → k.height ≡ lines r
+    → pos k.y ≡ r.min_y -ℤ top → k.source_x ≡ 0 → k.source_y ≡ 0 → k.width ≡ width r → k.height ≡ height r
     → with_block k b own ≡ laid (λ x y. has_pixel r x y) (λ x y. pen_from r b x y) left top own
 block_laid k own b r left top ordered across down zero_x zero_y wide high =
     bitmap_same own.width own.height own.depth _ _
@@ -75,8 +74,8 @@ block_portion k own b r left top buffer zero_x zero_y across down wide high =
     ∙ (ap (λ t. if t then block_pen k own x y else pen_at b x y) in_lines
     ∙ (ap (λ i. pen_at own i (k.source_y + (y - k.y))) column ∙ ap (λ j. pen_at own (natural (r.min_x -ℤ left) + x) j) line)))
     ∙ (ap (λ n. bitmap n b.height b.depth (λ x y. pen_at own (natural (r.min_x -ℤ left) + x) (natural (r.min_y -ℤ top) + y))) buffer.width
-    ∙ (ap (λ n. bitmap (columns r) n b.depth (λ x y. pen_at own (natural (r.min_x -ℤ left) + x) (natural (r.min_y -ℤ top) + y))) buffer.height
-    ∙ ap (λ n. bitmap (columns r) (lines r) n (λ x y. pen_at own (natural (r.min_x -ℤ left) + x) (natural (r.min_y -ℤ top) + y))) buffer.planes))
+    ∙ (ap (λ n. bitmap (width r) n b.depth (λ x y. pen_at own (natural (r.min_x -ℤ left) + x) (natural (r.min_y -ℤ top) + y))) buffer.height
+    ∙ ap (λ n. bitmap (width r) (height r) n (λ x y. pen_at own (natural (r.min_x -ℤ left) + x) (natural (r.min_y -ℤ top) + y))) buffer.planes))
 
 -- nothing is laid where there is no rectangle
 pub shown_none : (rects : List Rectangle) (buffers : List Bitmap) (n : ℕ) (left top : ℤ) (own : Bitmap) → IsBitmap own

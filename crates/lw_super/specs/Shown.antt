@@ -2,12 +2,11 @@
 -- A bitmap of which rectangles of the screen's plane show portions, each with a buffer of its size.
 use Rattle.std.specs.Prelude.{◌≡◌, ℕ, ◌+◌, ◌<◌, Bool, true, ◌&&◌, if◌then◌else◌, List, [], length, map, ℤ, pos, ◌+ℤ◌, ◌-ℤ◌, ◌≤ℤ◌, int_le, Option, Some, None}
 use Rattle.std.specs.List.{slice_index_or}
-use Rattle.lw_region.specs.Rectangle.{Rectangle, IsOrdered}
+use Rattle.lw_region.specs.Rectangle.{Rectangle, IsOrdered, width, height}
 use Rattle.lw_region.specs.Bands.{covers}
 use Rattle.lw_region.specs.Order.{natural}
 use Rattle.lw_planes.specs.Bitmap.{Bitmap, bitmap, pen_at}
 use Rattle.lw_buffers.specs.Lookup.{pen_in}
-use Rattle.lw_layer.specs.Pieces.{columns, lines}
 use Rattle.lw_calls.specs.Kinds.{is_super}
 use Rattle.lw_machine.specs.Arrangement.{portion_fits}
 use Rattle.lw_layer.specs.Drafts.{IsBuffer, IsLiveDraft, layout, live_view}
@@ -41,7 +40,7 @@ with_shown rects buffers left top own = laid (λ x y. covers rects x y) (λ x y.
 -- the portion of the bitmap on a rectangle
 unfoldable pub portion : Bitmap → ℤ → ℤ → Rectangle → Bitmap
 portion own left top r =
-    bitmap (columns r) (lines r) own.depth (λ x y. pen_at own (natural (r.min_x -ℤ left) + x) (natural (r.min_y -ℤ top) + y))
+    bitmap (width r) (height r) own.depth (λ x y. pen_at own (natural (r.min_x -ℤ left) + x) (natural (r.min_y -ℤ top) + y))
 
 -- the portions on these rectangles
 abbrev pub portions : Bitmap → ℤ → ℤ → List Rectangle → List Bitmap

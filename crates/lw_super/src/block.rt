@@ -3,11 +3,8 @@
 ghost use Rattle.std.specs.Prelude.{◌≡◌, ℕ, ◌<◌, ◌==◌, ◌&&◌};
 ghost use Rattle.lw_super.specs.Blocks.{IsBlockOf, in_block, in_line, copied, with_block};
 
-use lw_kernels::combine;
+use lw_kernels::{COPY_MINTERM, combine};
 use lw_planes::Planes;
-
-// The minterm whose value is the source bit.
-const COPY: u8 = 0xc0;
 
 // So many columns and lines from a pixel of one bitmap on, and from a pixel of the source on.
 #[derive(Clone, Copy)]
@@ -55,6 +52,6 @@ fn copy_line(to: &mut Planes, source: &Planes, block: Block, plane: u32, line: u
         row,
         block.source_x,
         block.width,
-        COPY,
+        COPY_MINTERM,
     );
 }

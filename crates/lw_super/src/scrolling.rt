@@ -1,4 +1,4 @@
-ghost use Rattle.std.specs.Prelude.{◌≡◌, ℕ, pos, ◌+ℤ◌, ◌-ℤ◌, true, if◌then◌else◌, Some};
+ghost use Rattle.std.specs.Prelude.{◌≡◌, ℕ, pos, ◌+ℤ◌, true, if◌then◌else◌, Some};
 ghost use Rattle.lw_calls.specs.Kinds.{is_super};
 ghost use Rattle.lw_machine.specs.Arrangement.{portion_fits};
 ghost use Rattle.lw_machine.specs.Step.{may_scroll, scroll_layer};
@@ -40,27 +40,18 @@ pub fn scroll(cell: &mut Cell, dx: i32, dy: i32) -> bool
 fn look_fits(look: &Look, dx: i32, dy: i32) -> bool
     ensures { result ≡ portion_fits (look.now.scroll_x +ℤ dx) (look.now.scroll_y +ℤ dy) look.now.bits_w look.now.bits_h look.now.bounds }
 {
-    let columns = extent(look.bounds.min_x(), look.bounds.max_x());
-    let lines = extent(look.bounds.min_y(), look.bounds.max_y());
-    let across = axis_fits(look.scroll_x, dx, columns, look.bits_w);
-    let down = axis_fits(look.scroll_y, dy, lines, look.bits_h);
+    let across = axis_fits(look.scroll_x, dx, look.bounds.width(), look.bits_w);
+    let down = axis_fits(look.scroll_y, dy, look.bounds.height(), look.bits_h);
     across && down
 }
 
 // The same along one axis.
 #[tactic(auto, using(std::proofs::lemmas::Int::ints), unfolding(crate::specs::Shown::axis_fits))]
-fn axis_fits(scroll: i32, by: i32, extent: i32, count: u32) -> bool
-    ensures { result ≡ axis_fits (scroll +ℤ by) extent count }
+fn axis_fits(scroll: i32, by: i32, extent: u32, count: u32) -> bool
+    ensures { result ≡ axis_fits (scroll +ℤ by) (pos extent) count }
 {
     let start = i64::from(scroll) + i64::from(by);
     0 <= start && start + i64::from(extent) <= i64::from(count)
-}
-
-// How many places there are from the least to the greatest.
-fn extent(least: i16, greatest: i16) -> i32
-    ensures { result ≡ (greatest +ℤ pos 1) -ℤ least }
-{
-    i32::from(greatest) + 1 - i32::from(least)
 }
 
 // Moves the portion that a draft's layer shows.

@@ -84,7 +84,6 @@ fn paint_text(cell: &mut Cell, glyphs: &[[u8; 8]; 95], text: &[u8], raster: Rast
 // Of the places from one on and before another, those from 0 on and before the extent.
 fn places(from: i32, end: i32, extent: u32) -> Places
     requires { extent ≤ 2048 }
-    ensures ordered { result.from ≤ result.end }
     ensures inside { result.end ≤ extent }
     ensures has { (u : ℕ) → u < extent → (int_le from (pos u) && not (int_le end (pos u))) ≡
         is_between result.from result.end u }
@@ -107,9 +106,7 @@ fn letter_rows(
     raster: Raster,
 )
     requires live { cell.old.state ≡ view.Live }
-    requires rows { rows.from ≤ rows.end }
     requires bottom { rows.end < 65536 }
-    requires columns { columns.from ≤ columns.end }
     requires right { columns.end ≤ 2048 }
     requires starts { columns.from < columns.end → raster.x ≤ℤ pos columns.from }
     requires upper { rows.from < rows.end → raster.y ≤ℤ pos (rows.from + 6) }
@@ -136,7 +133,6 @@ fn letter_row(
 )
     requires live { cell.old.state ≡ view.Live }
     requires row { y < 65536 }
-    requires columns { columns.from ≤ columns.end }
     requires right { columns.end ≤ 2048 }
     requires starts { columns.from < columns.end → raster.x ≤ℤ pos columns.from }
     requires upper { raster.y ≤ℤ pos (y + 6) }

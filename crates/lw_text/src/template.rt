@@ -24,7 +24,6 @@ pub(crate) fn template_row(
 )
     requires live { cell.old.state ≡ view.Live }
     requires row { y < 65536 }
-    requires columns { columns.from ≤ columns.end }
     requires right { columns.end < 65536 }
     requires starts { origin.column ≤ columns.from }
     requires near { origin.bit < 8 }

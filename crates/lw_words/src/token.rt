@@ -33,6 +33,7 @@ fn is_letter(byte: u8) -> bool
     byte.is_ascii_alphabetic()
 }
 
+/// Whether the byte is one of the ten ASCII digits.
 pub fn is_digit(byte: u8) -> bool
     ensures { result ≡ is_a_digit byte }
 {

@@ -10,7 +10,7 @@ use Rattle.lw_blit.proofs.bitmaps.bitmap_row.Goals as goal
 pub loop-stretch-init : goal.loop-stretch-init
 loop-stretch-init c = record {
   first = omega arith;
-  last = c.requires.columns;
+  last = c.args.columns.ordered;
   painted = no_runs c.args.cell.now c.args.mask c.args.y c.args.columns.from (from_bits c.args.bitmap.now c.args.area) c.depth.ensures.bits.bitmap;
 }
 

@@ -7,7 +7,7 @@ use Rattle.lw_blit.proofs.within_layer.rows_up.Goals as goal
 
 pub loop-y-init : goal.loop-y-init
 loop-y-init c = record {
-  low = c.requires.rows;
+  low = c.args.rows.ordered;
   painted = no_rows c.args.cell.now c.args.mask c.args.rows.end c.args.columns.from c.args.columns.end (from_layer c.args.cell.now.live c.args.transfer) c.depth.ensures.bits.bitmap;
 }
 

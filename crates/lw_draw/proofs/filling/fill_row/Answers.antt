@@ -18,7 +18,7 @@ loop-stretch-init c =
     let from = c.args.columns.from in
     record {
       first = omega arith;
-      last = c.requires.columns;
+      last = c.args.columns.ordered;
       filled =
           cell_nowhere v (so_far (raster_of c.args.raster) v.live c.args.y from from) (painted_bit (raster_of c.args.raster)) c.depth.ensures.bits.bitmap
           (λ p i j. no_column (in_mask (raster_of c.args.raster) p) (is_between c.args.y (c.args.y + 1) j) from i (draws v.live i j));

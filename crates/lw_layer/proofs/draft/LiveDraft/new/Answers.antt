@@ -1,11 +1,11 @@
 use Rattle.std.proofs.Common.{◌≡◌, ◌∙◌, sym, ap, refl, subst, false, List, [], Option, None, pos}
-use Rattle.lw_region.specs.Rectangle.{Rectangle}
+use Rattle.lw_region.specs.Rectangle.{Rectangle, width, height}
 use Rattle.lw_planes.specs.Bitmap.{Bitmap}
 use Rattle.lw_cliprects.specs.Parts.{Division, hidden_of}
 use Rattle.lw_damage.specs.Damaged.{Damaged}
 use Rattle.lw_calls.specs.Kinds.{is_super}
 use Rattle.lw_machine.specs.Layer.{is_framed}
-use Rattle.lw_layer.specs.Pieces.{columns, lines, inner_of}
+use Rattle.lw_layer.specs.Pieces.{inner_of}
 use Rattle.lw_layer.specs.Drafts.{IsLiveDraft, window_of, room_of, live_view}
 use Rattle.lw_layer.specs.New.{kept_hidden, own_blank, AreBlank, new_live}
 use Rattle.lw_layer.specs.declared.draft.LiveDraft.{LiveDraft}
@@ -35,7 +35,7 @@ returns-clause-draft c =
       window = c.args.window;
     } in
     let parts : c.in_ok-parts.parts ≡ record { bounds = bounds; visible = visible } = c.in_ok-parts.ensures in
-    let damage : c.new.result ≡ record { inner = inner_of (is_super make.kind) (is_framed (window_of c.args.window)) (columns bounds) (lines bounds); rects = []; updating = false } = c.new.ensures ∙ ap (λ i. record { inner = i; rects = []; updating = false }) (c.inner_rectangle-inner.ensures ∙ ap (λ f. inner_of (is_super make.kind) f (columns bounds) (lines bounds)) c.is_framed.ensures) in
+    let damage : c.new.result ≡ record { inner = inner_of (is_super make.kind) (is_framed (window_of c.args.window)) (width bounds) (height bounds); rects = []; updating = false } = c.new.ensures ∙ ap (λ i. record { inner = i; rects = []; updating = false }) (c.inner_rectangle-inner.ensures ∙ ap (λ f. inner_of (is_super make.kind) f (width bounds) (height bounds)) c.is_framed.ensures) in
     let own : c.in_ok-superbits.superbits ≡ own_blank make.kind c.args.depth make = c.in_ok-superbits.ensures in
     let same : (λ (p : Division). p.visible) c.in_ok-parts.parts ≡ visible = ap (λ (p : Division). p.visible) parts in
     let S : List Rectangle → Type 0 = λ rs. AreBlank c.args.depth rs c.in_ok-buffers.buffers.items in
@@ -73,7 +73,7 @@ returns-clause-layer c =
       window = c.args.window;
     } in
     let parts : c.in_ok-parts.parts ≡ record { bounds = bounds; visible = visible } = c.in_ok-parts.ensures in
-    let damage : c.new.result ≡ record { inner = inner_of (is_super make.kind) (is_framed (window_of c.args.window)) (columns bounds) (lines bounds); rects = []; updating = false } = c.new.ensures ∙ ap (λ i. record { inner = i; rects = []; updating = false }) (c.inner_rectangle-inner.ensures ∙ ap (λ f. inner_of (is_super make.kind) f (columns bounds) (lines bounds)) c.is_framed.ensures) in
+    let damage : c.new.result ≡ record { inner = inner_of (is_super make.kind) (is_framed (window_of c.args.window)) (width bounds) (height bounds); rects = []; updating = false } = c.new.ensures ∙ ap (λ i. record { inner = i; rects = []; updating = false }) (c.inner_rectangle-inner.ensures ∙ ap (λ f. inner_of (is_super make.kind) f (width bounds) (height bounds)) c.is_framed.ensures) in
     let own : c.in_ok-superbits.superbits ≡ own_blank make.kind c.args.depth make = c.in_ok-superbits.ensures in
     let same : (λ (p : Division). p.visible) c.in_ok-parts.parts ≡ visible = ap (λ (p : Division). p.visible) parts in
     let S : List Rectangle → Type 0 = λ rs. AreBlank c.args.depth rs c.in_ok-buffers.buffers.items in
