@@ -116,9 +116,9 @@ fn make<E: Engine>(
 ) -> Option<()>
     requires sizes { E.sizes engine.now ≡ sizes.now }
     requires task { sizes.now.tasks ≡ 1 }
-    requires desk { (d : Desk) × StandForDesk E.info_is E.number E.cell_is E.regs_is (E.sizes engine.now) (E.assets engine.now)
+    requires desk { (d : Desk) × StandForDesk E.relations (E.sizes engine.now) (E.assets engine.now)
         parts.old.info parts.old.cells.items parts.old.registers.items d }
-    ensures { (d : Desk) × StandForDesk E.info_is E.number E.cell_is E.regs_is (E.sizes engine.now) (E.assets engine.now)
+    ensures { (d : Desk) × StandForDesk E.relations (E.sizes engine.now) (E.assets engine.now)
         parts.new.info parts.new.cells.items parts.new.registers.items d }
 {
     if !sizes.fits(call) {
@@ -138,9 +138,9 @@ fn make_each<E: Engine>(
 ) -> Option<()>
     requires sizes { E.sizes engine.now ≡ sizes.now }
     requires task { sizes.now.tasks ≡ 1 }
-    requires desk { (d : Desk) × StandForDesk E.info_is E.number E.cell_is E.regs_is (E.sizes engine.now) (E.assets engine.now)
+    requires desk { (d : Desk) × StandForDesk E.relations (E.sizes engine.now) (E.assets engine.now)
         parts.old.info parts.old.cells.items parts.old.registers.items d }
-    ensures { (d : Desk) × StandForDesk E.info_is E.number E.cell_is E.regs_is (E.sizes engine.now) (E.assets engine.now)
+    ensures { (d : Desk) × StandForDesk E.relations (E.sizes engine.now) (E.assets engine.now)
         parts.new.info parts.new.cells.items parts.new.registers.items d }
 {
     for call in calls {
@@ -160,9 +160,9 @@ fn make_often<E: Engine>(
 ) -> Option<()>
     requires sizes { E.sizes engine.now ≡ sizes.now }
     requires task { sizes.now.tasks ≡ 1 }
-    requires desk { (d : Desk) × StandForDesk E.info_is E.number E.cell_is E.regs_is (E.sizes engine.now) (E.assets engine.now)
+    requires desk { (d : Desk) × StandForDesk E.relations (E.sizes engine.now) (E.assets engine.now)
         parts.old.info parts.old.cells.items parts.old.registers.items d }
-    ensures { (d : Desk) × StandForDesk E.info_is E.number E.cell_is E.regs_is (E.sizes engine.now) (E.assets engine.now)
+    ensures { (d : Desk) × StandForDesk E.relations (E.sizes engine.now) (E.assets engine.now)
         parts.new.info parts.new.cells.items parts.new.registers.items d }
 {
     for _turn in 0..repetitions {
@@ -182,9 +182,9 @@ fn drawn<E: Engine>(
 ) -> Option<Parts<E>>
     requires sizes { E.sizes engine.now ≡ sizes.now }
     requires task { sizes.now.tasks ≡ 1 }
-    requires desk { (d : Desk) × StandForDesk E.info_is E.number E.cell_is E.regs_is (E.sizes engine.now) (E.assets engine.now)
+    requires desk { (d : Desk) × StandForDesk E.relations (E.sizes engine.now) (E.assets engine.now)
         parts.info parts.cells.items parts.registers.items d }
-    ensures { IfSome result (λ made. (d : Desk) × StandForDesk E.info_is E.number E.cell_is E.regs_is (E.sizes engine.now) (E.assets engine.now)
+    ensures { IfSome result (λ made. (d : Desk) × StandForDesk E.relations (E.sizes engine.now) (E.assets engine.now)
         made.info made.cells.items made.registers.items d) }
 {
     let mut parts = parts;

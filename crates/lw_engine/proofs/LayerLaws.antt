@@ -17,7 +17,7 @@ use Rattle.lw_steps.specs.Steps.{AreStill}
 use Rattle.lw_steps.specs.Steps as steps
 use Rattle.lw_engine.specs.Desks.{no_cell, cell_at, AreNumbered, AreOfDesk, AreAsBefore, AreOnShelf}
 use Rattle.lw_engine.specs.Arranging.{IsAllStep}
-use Rattle.lw_engine.specs.Layers.{InfoView, IsInfo, number_of, AreLayers}
+use Rattle.lw_engine.specs.Layers.{InfoView, layer_relations, AreLayers}
 use Rattle.lw_engine.proofs.RoomLaws.{numbered_roomed, of_desk_roomed}
 
 -- the parts are those of a sound desk
@@ -54,14 +54,14 @@ desk_layers sizes assets v shelf cells d same handed numbered are hooks =
           let low : s < v.sizes.slots = omega (arith, within, numbered.many) in
           let is : cell_at cells s ≡ c = get_or_from_slice_get cells s c no_cell got in
           let P : CellView → Type 0 = λ k. StandsFor k (slot_part d s) in
-          (ap number_of (sym is) ∙ numbered.numbers s low, subst P is (are.slots s low));
+          (ap layer_relations.number (sym is) ∙ numbered.numbers s low, subst P is (are.slots s low));
     }
 
 -- a call that arranges layers
 pub all_made : {E : Type 0} (result : Result Reply E) (sizes : Sizes) (assets : Assets) (i : InfoView) (v : Stack) (shelf : List (Option Hook)) (old new : List CellView) (task : ℕ) (call : Call)
     → i.stack.sizes ≡ sizes → v.sizes ≡ i.stack.sizes → AreNumbered v.sizes.slots new
     → IfOk result (λ r. IsAllStep assets i.stack i.shelf old task call r v shelf new)
-    → IfOk result (λ r. steps.IsAllStep (IsInfo sizes) number_of StandsFor sizes assets i old task call r (record { stack = v; shelf = shelf }) new)
+    → IfOk result (λ r. steps.IsAllStep layer_relations sizes assets i old task call r (record { stack = v; shelf = shelf }) new)
 all_made (Ok r) sizes assets i v shelf old new task call first same numbered step =
     λ d parts.
     let made = step d (layers_of_desk sizes assets i old d parts) parts.info.hooks parts.desk.assets in
@@ -71,7 +71,7 @@ all_made (Err x) sizes assets i v shelf old new task call first same numbered st
 -- and after a failure they stand for what they stood for
 pub all_still : {E : Type 0} (result : Result Reply E) (sizes : Sizes) (assets : Assets) (i : InfoView) (v : Stack) (shelf : List (Option Hook)) (old new : List CellView)
     → OnErr result ((v ≡ i.stack) × (shelf ≡ i.shelf) × AreAsBefore old new)
-    → OnErr result (AreStill (IsInfo sizes) number_of StandsFor sizes assets i old (record { stack = v; shelf = shelf }) new)
+    → OnErr result (AreStill layer_relations sizes assets i old (record { stack = v; shelf = shelf }) new)
 all_still (Ok r) sizes assets i v shelf old new kept = tt
 all_still (Err x) sizes assets i v shelf old new kept =
     λ d parts.

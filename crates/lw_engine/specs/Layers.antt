@@ -11,7 +11,7 @@ use Rattle.lw_layer.specs.View.{CellView}
 use Rattle.lw_layer.specs.StandsFor.{StandsFor}
 use Rattle.lw_stack.specs.Stack.{Stack, StandsForInfo}
 use Rattle.lw_parts.specs.Registers.{StandForRegisters}
-use Rattle.lw_steps.specs.Steps.{AreParts}
+use Rattle.lw_steps.specs.Steps.{Relations, AreParts}
 use Rattle.lw_engine.specs.Desks.{hook_at}
 
 -- The list of layers with the sizes, and the hooks that no call took, by their numbers.
@@ -25,13 +25,13 @@ pub record IsInfo (all_sizes : Sizes) (i : InfoView) (p : InfoPart) : Type 0 whe
   pub info : StandsForInfo i.stack p
   pub hooks : (n : ℕ) → p.shelf n ≡ hook_at i.shelf n
 
--- the number of a cell's slot
-abbrev pub number_of : CellView → ℕ
-number_of c = c.number
+-- which values of this engine stand for which parts
+abbrev pub layer_relations : Relations InfoView CellView (List (List Rectangle))
+layer_relations = record { number = λ c. c.number; regs_is = StandForRegisters; cell_is = StandsFor; info_is = IsInfo }
 
 -- LayerInfo and the cells of all slots stand for their parts of a sound desk with these sizes and assets.
 abbrev pub AreLayers : Sizes → Assets → InfoView → List CellView → Desk → Type 0
-AreLayers sizes assets i cells d = AreParts (IsInfo sizes) number_of StandsFor sizes assets i cells d
+AreLayers sizes assets i cells d = AreParts layer_relations sizes assets i cells d
 
 -- each task's registers stand for theirs
 abbrev pub AreRegisters : List (List (List Rectangle)) → Desk → Type 0

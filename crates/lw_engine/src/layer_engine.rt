@@ -4,9 +4,7 @@ ghost use Rattle.lw_calls.specs.declared.reply.Reply.{Reply as AnyReply};
 ghost use Rattle.lw_calls.specs.Limits.{IsWithinLimits};
 ghost use Rattle.lw_machine.specs.Desk.{Desk, empty_desk, shelf_of};
 ghost use Rattle.lw_machine.specs.Finals.{final_of};
-ghost use Rattle.lw_layer.specs.StandsFor.{StandsFor};
-ghost use Rattle.lw_parts.specs.Registers.{StandForRegisters};
-ghost use Rattle.lw_engine.specs.Layers.{IsInfo, number_of, AreLayers, AreRegisters};
+ghost use Rattle.lw_engine.specs.Layers.{layer_relations, AreLayers, AreRegisters};
 
 use crate::all_layers::on_all;
 use crate::finishing::finish;
@@ -98,13 +96,7 @@ impl<'a, B: Backfill + Send> Engine for LayerEngine<'a, B> {
 
     ghost assets = { λ e. e.assets.now };
 
-    ghost number = { number_of };
-
-    ghost regs_is = { StandForRegisters };
-
-    ghost cell_is = { StandsFor };
-
-    ghost info_is = { IsInfo };
+    ghost relations = { layer_relations };
 
     fn regs(&self, alloc: Global, regs: &mut Regs, call: &Call) -> Result<Reply, AllocError> {
         on_registers(alloc, regs, call)

@@ -6,17 +6,17 @@ use Rattle.std.specs.Prelude.{Contains, Some}
 use Rattle.std.specs.List.{slice_get}
 use Rattle.std.proofs.lemmas.List.Elements.{All-nil, All-cons, All-contains, Contains-append_left, Contains-append_right, Contains-append_cases, Contains-push_cases}
 use Rattle.atomic_table.specs.Seated.{TableId}
-use Rattle.lw_region.specs.Pixels.{Pixel}
 use Rattle.lw_calls.specs.declared.touch.Role.{Role}
 use Rattle.lw_calls.specs.declared.touch.Role.TheVariants.{Task, Slot}
 use Rattle.lw_calls.specs.Limits.{IsWithinLimits}
 use Rattle.lw_machine.specs.Desk.{Desk, empty_desk}
 use Rattle.lw_machine.specs.History.{machine}
-use Rattle.lw_machine.specs.Parts.{SlotPart, slot_part, InfoPart}
+use Rattle.lw_machine.specs.Parts.{slot_part}
 use Rattle.lw_order.specs.Promised.{Follows}
 use Rattle.lw_order.specs.Seen.{SeenSeat}
 use Rattle.lw_order.proofs.HistoryLaws.{follows_on, fewer_follow}
 use Rattle.lw_order.proofs.RoleLaws.{contains_first, contains_more}
+use Rattle.lw_steps.specs.Steps.{Relations}
 use Rattle.lw_steps.proofs.Histories.{reached}
 use Rattle.lw_locks.specs.Closing.{task_of, IsClosed, AreRegsHeld, AreFollowed, slots_of, AreTaken, ArePlaced}
 use Rattle.lw_locks.specs.Held.{IsSeat, AreRegs, IsCell, IsInfo, AreCellsHeld, IsOwn}
@@ -90,15 +90,15 @@ placed_more {C = C} whole rest off n cells all out many had pushed place cell at
     Contains-append_right out.front (off ∷ out.back) (place, cell) (contains_first off (place, cell) out.back same))
     (get_either cells off.1 cell place (subst (λ xs. slice_get xs place ≡ Some cell) pushed at_place)))
 
-pub taken_longer : {C : Type 0} (number : C → ℕ) (cell_is : C → SlotPart → Type 0) (desk : Desk) (mine both : SeenSeat) (taken : List (ℕ × C)) → IsLonger mine both → AreTaken number cell_is desk mine taken → AreTaken number cell_is desk both taken
-taken_longer number cell_is desk mine both taken longer had slot cell there = let is = had slot cell there in (is.0, cell_longer desk mine both longer number cell_is cell is.1)
+pub taken_longer : {I C R : Type 0} (relations : Relations I C R) (desk : Desk) (mine both : SeenSeat) (taken : List (ℕ × C)) → IsLonger mine both → AreTaken relations desk mine taken → AreTaken relations desk both taken
+taken_longer relations desk mine both taken longer had slot cell there = let is = had slot cell there in (is.0, cell_longer desk mine both longer relations cell is.1)
 
 -- one cell more was taken
-pub taken_more : {C : Type 0} (number : C → ℕ) (cell_is : C → SlotPart → Type 0) (desk : Desk) (mine theirs both : SeenSeat) (taken all : List (ℕ × C)) (slot : ℕ) (cell : C) → WasJoined desk mine theirs both → AreTaken number cell_is desk mine taken → number cell ≡ slot → IsCell number cell_is desk theirs cell → all ≡ taken ++ (slot, cell) ∷ [] → AreTaken number cell_is desk both all
-taken_more {C = C} number cell_is desk mine theirs both taken all slot cell was had numbered is pushed s c there =
+pub taken_more : {I C R : Type 0} (relations : Relations I C R) (desk : Desk) (mine theirs both : SeenSeat) (taken all : List (ℕ × C)) (slot : ℕ) (cell : C) → WasJoined desk mine theirs both → AreTaken relations desk mine taken → relations.number cell ≡ slot → IsCell relations desk theirs cell → all ≡ taken ++ (slot, cell) ∷ [] → AreTaken relations desk both all
+taken_more {C = C} relations desk mine theirs both taken all slot cell was had numbered is pushed s c there =
     ⊎_elim
-    (λ (early : Contains taken (s, c)). taken_longer number cell_is desk mine both taken (longer_by desk mine theirs both was) had s c early)
-    (λ (this : (slot, cell) ≡ (s, c)). subst (λ (one : ℕ × C). (number one.1 ≡ one.0) × IsCell number cell_is desk both one.1) this (numbered, cell_longer desk theirs both (their_longer desk mine theirs both was) number cell_is cell is))
+    (λ (early : Contains taken (s, c)). taken_longer relations desk mine both taken (longer_by desk mine theirs both was) had s c early)
+    (λ (this : (slot, cell) ≡ (s, c)). subst (λ (one : ℕ × C). (relations.number one.1 ≡ one.0) × IsCell relations desk both one.1) this (numbered, cell_longer desk theirs both (their_longer desk mine theirs both was) relations cell is))
     (Contains-push_cases taken (slot, cell) (s, c) (subst (λ xs. Contains xs (s, c)) pushed there))
 
 pub roles_more : {C : Type 0} (desk : Desk) (mine theirs both : SeenSeat) (first : List Role) (taken all : List (ℕ × C)) (slot : ℕ) (cell : C) → WasJoined desk mine theirs both → mine.roles ≡ first ++ map (λ s. Slot s) (slots_of taken) → theirs.roles ≡ Slot slot ∷ [] → all ≡ taken ++ (slot, cell) ∷ [] → both.roles ≡ first ++ map (λ s. Slot s) (slots_of all)
@@ -108,25 +108,25 @@ roles_more {C = C} desk mine theirs both first taken all slot cell was had own p
     ap (λ xs. map (λ s. Slot s) (slots_of xs)) pushed ∙ ap (map (λ s. Slot s)) (map-append (λ (one : ℕ × C). one.0) taken ((slot, cell) ∷ [])) ∙ map-append (λ s. Slot s) (slots_of taken) (slot ∷ []) in
     was.roles ∙ (ap (λ rs. mine.roles ++ rs) own ∙ (ap (λ rs. rs ++ Slot slot ∷ []) had ∙ (append_assoc first had_roles (Slot slot ∷ []) ∙ ap (λ rs. first ++ rs) (sym more))))
 
-pub cells_longer : {C : Type 0} (number : C → ℕ) (cell_is : C → SlotPart → Type 0) (desk : Desk) (mine both : SeenSeat) (cells : List C) → IsLonger mine both → AreCellsHeld number cell_is desk mine cells → AreCellsHeld number cell_is desk both cells
-cells_longer number cell_is desk mine both cells longer had s c at_s = let is = had s c at_s in (is.0, cell_longer desk mine both longer number cell_is c is.1)
+pub cells_longer : {I C R : Type 0} (relations : Relations I C R) (desk : Desk) (mine both : SeenSeat) (cells : List C) → IsLonger mine both → AreCellsHeld relations desk mine cells → AreCellsHeld relations desk both cells
+cells_longer relations desk mine both cells longer had s c at_s = let is = had s c at_s in (is.0, cell_longer desk mine both longer relations c is.1)
 
 -- one task's registers more
-pub regs_more : {R : Type 0} (regs_is : R → (ℕ → List Pixel) → Type 0) (desk : Desk) (task : ℕ) (mine theirs both : SeenSeat) (all : List R) (regs : R) → WasJoined desk mine theirs both → AreRegsHeld regs_is desk mine all → task ≡ length all → AreRegs regs_is desk task theirs regs → AreRegsHeld regs_is desk both (all ++ regs ∷ [])
-regs_more {R = R} regs_is desk task mine theirs both all regs was had place are t r at_t =
+pub regs_more : {I C R : Type 0} (relations : Relations I C R) (desk : Desk) (task : ℕ) (mine theirs both : SeenSeat) (all : List R) (regs : R) → WasJoined desk mine theirs both → AreRegsHeld relations desk mine all → task ≡ length all → AreRegs relations desk task theirs regs → AreRegsHeld relations desk both (all ++ regs ∷ [])
+regs_more {R = R} relations desk task mine theirs both all regs was had place are t r at_t =
     ⊎_elim
-    (λ (front : slice_get all t ≡ Some r). regs_longer desk mine both (longer_by desk mine theirs both was) regs_is t r (had t r front))
+    (λ (front : slice_get all t ≡ Some r). regs_longer desk mine both (longer_by desk mine theirs both was) relations t r (had t r front))
     (λ (last : (t ≡ length all) × (r ≡ regs)).
-    subst (λ (x : R). AreRegs regs_is desk t both x) (sym last.1) (subst (λ n. AreRegs regs_is desk n both regs) (place ∙ sym last.0) (regs_longer desk theirs both (their_longer desk mine theirs both was) regs_is task regs are)))
+    subst (λ (x : R). AreRegs relations desk t both x) (sym last.1) (subst (λ n. AreRegs relations desk n both regs) (place ∙ sym last.0) (regs_longer desk theirs both (their_longer desk mine theirs both was) relations task regs are)))
     (get_either all regs r t at_t)
 
 one_of : (r : Role) (roles : List Role) → Contains roles r → (role : Role) → Contains (r ∷ []) role → Contains roles role
 one_of r roles has role there = All-contains (λ x. Contains roles x) (r ∷ []) role (All-cons (λ x. Contains roles x) r [] has (All-nil (λ x. Contains roles x))) there
 
 -- one pass more, whose seat was joined
-pub followed_more : {R : Type 0} (regs_is : R → (ℕ → List Pixel) → Type 0) (name : TableId) (desk : Desk) (made : ℕ) (mine theirs both : SeenSeat) (whole rest : List SeenPass) (off : SeenPass) (n : ℕ) (regs : R) → WasJoined desk mine theirs both → WasTakenOut task_of whole rest off n → AreFollowed rest mine
-    → (task : ℕ) → record { task = task; history = theirs.history } ≡ off → IsOwn regs_is name desk task made theirs regs → AreFollowed whole both
-followed_more regs_is name desk made mine theirs both whole rest off n regs was out had task is own p there =
+pub followed_more : {I C R : Type 0} (relations : Relations I C R) (name : TableId) (desk : Desk) (made : ℕ) (mine theirs both : SeenSeat) (whole rest : List SeenPass) (off : SeenPass) (n : ℕ) (regs : R) → WasJoined desk mine theirs both → WasTakenOut task_of whole rest off n → AreFollowed rest mine
+    → (task : ℕ) → record { task = task; history = theirs.history } ≡ off → IsOwn relations name desk task made theirs regs → AreFollowed whole both
+followed_more relations name desk made mine theirs both whole rest off n regs was out had task is own p there =
     let longer = longer_by desk mine theirs both was in
     let theirs_go = their_longer desk mine theirs both was in
     ⊎_elim
@@ -140,12 +140,12 @@ followed_more regs_is name desk made mine theirs both whole rest off n regs was 
     (either_of out.front out.back off p (subst (λ ps. Contains ps p) out.parts there))
 
 -- all parts of a desk at the end
-pub closed : {I C R : Type 0} (info_is : I → InfoPart → Type 0) (number : C → ℕ) (cell_is : C → SlotPart → Type 0) (regs_is : R → (ℕ → List Pixel) → Type 0) (name : TableId) (desk : Desk) (passes : List SeenPass) (info : I) (cells : List C) (regs : List R) (first mid whole : SeenSeat)
-    → desk ≡ empty_desk desk.sizes desk.assets desk.shelf → IsWithinLimits desk.sizes → IsLonger first mid → IsLonger mid whole → IsInfo info_is desk first info → AreCellsHeld number cell_is desk mid cells → length cells ≡ desk.sizes.slots
-    → IsSeat name desk whole → AreRegsHeld regs_is desk whole regs → length regs ≡ desk.sizes.tasks → AreFollowed passes whole → IsClosed info_is number cell_is regs_is name desk passes info cells regs whole
-closed info_is number cell_is regs_is name desk passes info cells regs first mid whole empty limits early late layers held slots seat mine many followed =
+pub closed : {I C R : Type 0} (relations : Relations I C R) (name : TableId) (desk : Desk) (passes : List SeenPass) (info : I) (cells : List C) (regs : List R) (first mid whole : SeenSeat)
+    → desk ≡ empty_desk desk.sizes desk.assets desk.shelf → IsWithinLimits desk.sizes → IsLonger first mid → IsLonger mid whole → IsInfo relations desk first info → AreCellsHeld relations desk mid cells → length cells ≡ desk.sizes.slots
+    → IsSeat name desk whole → AreRegsHeld relations desk whole regs → length regs ≡ desk.sizes.tasks → AreFollowed passes whole → IsClosed relations name desk passes info cells regs whole
+closed relations name desk passes info cells regs first mid whole empty limits early late layers held slots seat mine many followed =
     let it = reached desk whole.history empty limits seat.known.fits in
-    let info_now = info_longer desk mid whole late info_is info (info_longer desk first mid early info_is info layers) in
+    let info_now = info_longer desk mid whole late relations info (info_longer desk first mid early relations info layers) in
     record {
       seat = seat;
       parts = record {
@@ -153,8 +153,8 @@ closed info_is number cell_is regs_is name desk passes info cells regs first mid
         many = slots;
         info = info_now.stands;
         cells = λ s c at_s.
-            let is = cells_longer number cell_is desk mid whole cells late held s c at_s in
-            (is.0, subst (λ n. cell_is c (slot_part (machine desk whole.history) n)) is.0 is.1.stands);
+            let is = cells_longer relations desk mid whole cells late held s c at_s in
+            (is.0, subst (λ n. relations.cell_is c (slot_part (machine desk whole.history) n)) is.0 is.1.stands);
       };
       tasks = many;
       regs = λ t r at_t. (mine t r at_t).stand;

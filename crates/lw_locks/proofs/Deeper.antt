@@ -7,15 +7,14 @@ use Rattle.std.proofs.lemmas.Bool.{ne_eqb}
 use Rattle.std.proofs.lemmas.List.FromFn.{map-range_with_len_more}
 use Rattle.std.proofs.lemmas.Option.{slice_get_within}
 use Rattle.atomic_table.specs.Seated.{TableId}
-use Rattle.lw_region.specs.Pixels.{Pixel}
 use Rattle.lw_calls.specs.declared.touch.Role.{Role}
 use Rattle.lw_calls.specs.declared.touch.Role.TheVariants.{Task, Slot, Info}
 use Rattle.lw_calls.specs.Entries.{count_of}
 use Rattle.lw_machine.specs.Desk.{Desk}
-use Rattle.lw_machine.specs.Parts.{SlotPart, InfoPart}
 use Rattle.lw_order.specs.Roles.{same_role}
 use Rattle.lw_order.specs.Seen.{SeenSeat}
 use Rattle.lw_order.proofs.RoleLaws.{still_there}
+use Rattle.lw_steps.specs.Steps.{Relations}
 use Rattle.lw_locks.specs.Joins.{WasJoined, WasSplit}
 use Rattle.lw_locks.specs.Held.{IsSeat, IsCell, IsInfo, AreCellsHeld, AreHeld, IsHolding, IsLayer, roles_below}
 use Rattle.lw_locks.proofs.Seats.{longer_by, seat_joined, regs_longer, info_longer, cell_longer, seat_at, regs_at, cell_at, info_at, their_longer}
@@ -48,19 +47,19 @@ get_either (y ∷ front) last x zero h = inl h
 get_either (y ∷ front) last x (suc s) h = ⊎_elim (λ a. inl a) (λ b. inr (ap suc b.0, b.1)) (get_either front last x s h)
 
 -- one cell more
-pub cells_more : {C : Type 0} (number : C → ℕ) (cell_is : C → SlotPart → Type 0) (desk : Desk) (mine theirs both : SeenSeat) (cells : List C) (cell : C) → WasJoined desk mine theirs both → AreCellsHeld number cell_is desk mine cells → number cell ≡ length cells → IsCell number cell_is desk theirs cell → AreCellsHeld number cell_is desk both (cells ++ cell ∷ [])
-cells_more {C = C} number cell_is desk mine theirs both cells cell was had numbered is s c at_s =
+pub cells_more : {I C R : Type 0} (relations : Relations I C R) (desk : Desk) (mine theirs both : SeenSeat) (cells : List C) (cell : C) → WasJoined desk mine theirs both → AreCellsHeld relations desk mine cells → relations.number cell ≡ length cells → IsCell relations desk theirs cell → AreCellsHeld relations desk both (cells ++ cell ∷ [])
+cells_more {C = C} relations desk mine theirs both cells cell was had numbered is s c at_s =
     ⊎_elim
-    (λ (front : slice_get cells s ≡ Some c). let old = had s c front in (old.0, cell_longer desk mine both (longer_by desk mine theirs both was) number cell_is c old.1))
+    (λ (front : slice_get cells s ≡ Some c). let old = had s c front in (old.0, cell_longer desk mine both (longer_by desk mine theirs both was) relations c old.1))
     (λ (last : (s ≡ length cells) × (c ≡ cell)).
-    (ap number last.1 ∙ (numbered ∙ sym last.0), subst (λ (x : C). IsCell number cell_is desk both x) (sym last.1) (cell_longer desk theirs both (their_longer desk mine theirs both was) number cell_is cell is)))
+    (ap relations.number last.1 ∙ (numbered ∙ sym last.0), subst (λ (x : C). IsCell relations desk both x) (sym last.1) (cell_longer desk theirs both (their_longer desk mine theirs both was) relations cell is)))
     (get_either cells cell c s at_s)
 
 -- LayerInfo alone, with no slot yet
-pub info_held : {I C : Type 0} (info_is : I → InfoPart → Type 0) (number : C → ℕ) (cell_is : C → SlotPart → Type 0) (desk : Desk) (mine theirs both : SeenSeat) (info : I) (cells : List C) → WasJoined desk mine theirs both → length cells ≡ 0 → IsInfo info_is desk theirs info → AreHeld info_is number cell_is desk both info cells
-info_held info_is number cell_is desk mine theirs both info cells was none is =
+pub info_held : {I C R : Type 0} (relations : Relations I C R) (desk : Desk) (mine theirs both : SeenSeat) (info : I) (cells : List C) → WasJoined desk mine theirs both → length cells ≡ 0 → IsInfo relations desk theirs info → AreHeld relations desk both info cells
+info_held relations desk mine theirs both info cells was none is =
     record {
-      info = info_longer desk theirs both (their_longer desk mine theirs both was) info_is info is;
+      info = info_longer desk theirs both (their_longer desk mine theirs both was) relations info is;
       cells = λ s c at_s. let below = slice_get_within cells s c at_s in absurd (omega (arith, below, none));
     }
 
@@ -69,19 +68,19 @@ module _ (name : TableId) (desk : Desk) (task slot k : ℕ) (mine theirs both : 
   roles_deeper =
       was.roles ∙ (ap (λ rs. rs ++ theirs.roles) roles ∙ (ap (λ rs. roles_below task k ++ rs) (their_roles ∙ ap (λ s. Slot s ∷ []) place) ∙ sym (roles_more task k)))
 
-  pub holding_deeper : {R : Type 0} (regs_is : R → (ℕ → List Pixel) → Type 0) (made : ℕ) (regs : R) → IsHolding regs_is name desk task made mine regs → IsHolding regs_is name desk task made both regs
-  holding_deeper regs_is made regs had =
+  pub holding_deeper : {I C R : Type 0} (relations : Relations I C R) (made : ℕ) (regs : R) → IsHolding relations name desk task made mine regs → IsHolding relations name desk task made both regs
+  holding_deeper relations made regs had =
       record {
         seat = seat_joined desk mine theirs both was name had.seat;
-        regs = regs_longer desk mine both (longer_by desk mine theirs both was) regs_is task regs had.regs;
+        regs = regs_longer desk mine both (longer_by desk mine theirs both was) relations task regs had.regs;
         counted = counted_joined task made mine both (longer_by desk mine theirs both was) had.regs.has had.counted;
       }
 
-  pub held_deeper : {I C : Type 0} (info_is : I → InfoPart → Type 0) (number : C → ℕ) (cell_is : C → SlotPart → Type 0) (info : I) (cells : List C) (cell : C) → length cells ≡ k → AreHeld info_is number cell_is desk mine info cells → number cell ≡ slot → IsCell number cell_is desk theirs cell → AreHeld info_is number cell_is desk both info (cells ++ cell ∷ [])
-  held_deeper {C = C} info_is number cell_is info cells cell many had numbered is =
+  pub held_deeper : {I C R : Type 0} (relations : Relations I C R) (info : I) (cells : List C) (cell : C) → length cells ≡ k → AreHeld relations desk mine info cells → relations.number cell ≡ slot → IsCell relations desk theirs cell → AreHeld relations desk both info (cells ++ cell ∷ [])
+  held_deeper {C = C} relations info cells cell many had numbered is =
       record {
-        info = info_longer desk mine both (longer_by desk mine theirs both was) info_is info had.info;
-        cells = cells_more number cell_is desk mine theirs both cells cell was had.cells (numbered ∙ (place ∙ sym many)) is;
+        info = info_longer desk mine both (longer_by desk mine theirs both was) relations info had.info;
+        cells = cells_more relations desk mine theirs both cells cell was had.cells (numbered ∙ (place ∙ sym many)) is;
       }
 
   pub has_off : (whole : SeenSeat) → whole.roles ≡ both.roles → Contains whole.roles (Slot slot)
@@ -98,33 +97,33 @@ module _ (name : TableId) (desk : Desk) (task slot k : ℕ) (mine theirs both : 
     has_mine : (r : Role) → Contains mine.roles r → Contains left.roles r
     has_mine r h = subst (λ rs. Contains rs r) (sym roles_back) h
 
-    pub holding_back : {R : Type 0} (regs_is : R → (ℕ → List Pixel) → Type 0) (made : ℕ) (regs : R) → IsHolding regs_is name desk task made whole regs → IsHolding regs_is name desk task made left regs
-    holding_back regs_is made regs had =
+    pub holding_back : {I C R : Type 0} (relations : Relations I C R) (made : ℕ) (regs : R) → IsHolding relations name desk task made whole regs → IsHolding relations name desk task made left regs
+    holding_back relations made regs had =
         record {
           seat = seat_at desk whole left cut.histories.0 name cut.words.0 had.seat;
-          regs = regs_at desk whole left cut.histories.0 regs_is task regs (has_mine (Task task) (subst (λ rs. Contains rs (Task task)) (sym roles) (Contains-append_left (Task task ∷ []) (Info ∷ map (λ s. Slot s) (range_with_len 0 k)) (Task task) (Contains-push [] (Task task))))) had.regs;
+          regs = regs_at desk whole left cut.histories.0 relations task regs (has_mine (Task task) (subst (λ rs. Contains rs (Task task)) (sym roles) (Contains-append_left (Task task ∷ []) (Info ∷ map (λ s. Slot s) (range_with_len 0 k)) (Task task) (Contains-push [] (Task task))))) had.regs;
           counted = had.counted ∙ ap (count_of task) (sym cut.histories.0);
         }
 
-    pub held_back : {I C : Type 0} (info_is : I → InfoPart → Type 0) (number : C → ℕ) (cell_is : C → SlotPart → Type 0) (info : I) (all front : List C) (cell : C) → all ≡ front ++ cell ∷ [] → length front ≡ k → AreHeld info_is number cell_is desk whole info all → AreHeld info_is number cell_is desk left info front
-    held_back {C = C} info_is number cell_is info all front cell parts many had =
+    pub held_back : {I C R : Type 0} (relations : Relations I C R) (info : I) (all front : List C) (cell : C) → all ≡ front ++ cell ∷ [] → length front ≡ k → AreHeld relations desk whole info all → AreHeld relations desk left info front
+    held_back {C = C} relations info all front cell parts many had =
         let stays : (r : Role) → same_role (Slot slot) r ≡ false → Contains whole.roles r → Contains left.roles r = λ r apart h. subst (λ rs. Contains rs r) (sym cut.left_roles) (still_there (Slot slot) r whole.roles apart h) in
         record {
-          info = info_at desk whole left cut.histories.0 info_is info (stays Info refl had.info.has) had.info;
+          info = info_at desk whole left cut.histories.0 relations info (stays Info refl had.info.has) had.info;
           cells = λ s c at_s.
               let old = had.cells s c (subst (λ cs. slice_get cs s ≡ Some c) (sym parts) (get_front front cell c s at_s)) in
               let below = slice_get_within front s c at_s in
               let numbered = old.0 in
-              (old.0, cell_at desk whole left cut.histories.0 number cell_is c (stays (Slot (number c)) (ne_eqb slot (number c) (λ same. omega (arith, same, place, numbered, below, many))) old.1.has) old.1);
+              (old.0, cell_at desk whole left cut.histories.0 relations c (stays (Slot (relations.number c)) (ne_eqb slot (relations.number c) (λ same. omega (arith, same, place, numbered, below, many))) old.1.has) old.1);
         }
 
-    pub layer_back : {I C : Type 0} (info_is : I → InfoPart → Type 0) (number : C → ℕ) (cell_is : C → SlotPart → Type 0) (info : I) (all front : List C) (cell : C) → all ≡ front ++ cell ∷ [] → length front ≡ k → IsSeat name desk whole → AreHeld info_is number cell_is desk whole info all → IsLayer number cell_is name desk slot given cell
-    layer_back info_is number cell_is info all front cell parts many seat had =
+    pub layer_back : {I C R : Type 0} (relations : Relations I C R) (info : I) (all front : List C) (cell : C) → all ≡ front ++ cell ∷ [] → length front ≡ k → IsSeat name desk whole → AreHeld relations desk whole info all → IsLayer relations name desk slot given cell
+    layer_back relations info all front cell parts many seat had =
         let last = had.cells k cell (subst (λ cs. slice_get cs k ≡ Some cell) (sym parts) (subst (λ n. slice_get (front ++ cell ∷ []) n ≡ Some cell) many (get_last front cell))) in
-        let has : Contains given.roles (Slot (number cell)) = subst (λ n. Contains given.roles (Slot n)) (place ∙ sym last.0) (subst (λ rs. Contains rs (Slot slot)) (sym cut.given_roles) (Contains-push [] (Slot slot))) in
+        let has : Contains given.roles (Slot (relations.number cell)) = subst (λ n. Contains given.roles (Slot n)) (place ∙ sym last.0) (subst (λ rs. Contains rs (Slot slot)) (sym cut.given_roles) (Contains-push [] (Slot slot))) in
         record {
           seat = seat_at desk whole given cut.histories.1 name cut.words.1 seat;
           roles = cut.given_roles;
           number = last.0 ∙ sym place;
-          cell = cell_at desk whole given cut.histories.1 number cell_is cell has last.1;
+          cell = cell_at desk whole given cut.histories.1 relations cell has last.1;
         }

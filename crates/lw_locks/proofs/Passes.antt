@@ -3,7 +3,6 @@ use Rattle.std.proofs.Common.{◌≡◌, ℕ, ◌+◌, ◌<◌, ◌==◌, false,
 use Rattle.std.specs.Prelude.{All, Contains, Result, Ok, Err, IfOk, OnErr, MatchResult}
 use Rattle.std.proofs.lemmas.List.Elements.{All-nil, All-cons, Contains-push}
 use Rattle.atomic_table.specs.Seated.{TableId}
-use Rattle.lw_region.specs.Pixels.{Pixel}
 use Rattle.lw_calls.specs.declared.call.Call.{Call}
 use Rattle.lw_calls.specs.declared.entry.Entry.{Entry}
 use Rattle.lw_calls.specs.declared.reply.Reply.{Reply}
@@ -13,6 +12,7 @@ use Rattle.lw_calls.specs.Entries.{count_of}
 use Rattle.lw_calls.specs.declared.touch.CallClass.TheVariants.{OnLayers}
 use Rattle.lw_calls.specs.Touches.{class_of}
 use Rattle.lw_machine.proofs.Untouched.{differ_back}
+use Rattle.lw_steps.specs.Steps.{Relations}
 use Rattle.lw_steps.proofs.ClassLaws.{pair_apart}
 use Rattle.lw_machine.specs.Desk.{Desk}
 use Rattle.lw_order.specs.Roles.{same_role, without}
@@ -28,9 +28,9 @@ use Rattle.lw_locks.proofs.Seats.{longer_by, seat_joined, regs_longer, seat_at, 
 use Rattle.lw_locks.proofs.Running.{group_after}
 
 -- a pass whose task made one call more
-pub own_after : {R : Type 0} (regs_is : R → (ℕ → List Pixel) → Type 0) (name : TableId) (desk : Desk) (task made : ℕ) (old new : SeenSeat) (regs regs_new : R) (call : Call) (r : Reply) (ticket : ℕ) → IsOwn regs_is name desk task made old regs → IsSeat name desk new → new.roles ≡ old.roles → AreRegs regs_is desk task new regs_new
-    → Done desk old.roles task old.history new.history call r ticket → IsOwn regs_is name desk task (made + 1) new regs_new
-own_after regs_is name desk task made old new regs regs_new call r ticket own seat roles are done =
+pub own_after : {I C R : Type 0} (relations : Relations I C R) (name : TableId) (desk : Desk) (task made : ℕ) (old new : SeenSeat) (regs regs_new : R) (call : Call) (r : Reply) (ticket : ℕ) → IsOwn relations name desk task made old regs → IsSeat name desk new → new.roles ≡ old.roles → AreRegs relations desk task new regs_new
+    → Done desk old.roles task old.history new.history call r ticket → IsOwn relations name desk task (made + 1) new regs_new
+own_after relations name desk task made old new regs regs_new call r ticket own seat roles are done =
     record {
       seat = seat;
       roles = roles ∙ own.roles;
@@ -39,9 +39,9 @@ own_after regs_is name desk task made old new regs regs_new call r ticket own se
     }
 
 -- what a task holds after one call more
-pub holding_after : {R : Type 0} (regs_is : R → (ℕ → List Pixel) → Type 0) (name : TableId) (desk : Desk) (task made : ℕ) (old new : SeenSeat) (regs : R) (call : Call) (r : Reply) (ticket : ℕ) → IsHolding regs_is name desk task made old regs → IsSeat name desk new → AreRegs regs_is desk task new regs
-    → Done desk old.roles task old.history new.history call r ticket → IsHolding regs_is name desk task (made + 1) new regs
-holding_after regs_is name desk task made old new regs call r ticket had seat are done =
+pub holding_after : {I C R : Type 0} (relations : Relations I C R) (name : TableId) (desk : Desk) (task made : ℕ) (old new : SeenSeat) (regs : R) (call : Call) (r : Reply) (ticket : ℕ) → IsHolding relations name desk task made old regs → IsSeat name desk new → AreRegs relations desk task new regs
+    → Done desk old.roles task old.history new.history call r ticket → IsHolding relations name desk task (made + 1) new regs
+holding_after relations name desk task made old new regs call r ticket had seat are done =
     record { seat = seat; regs = are; counted = ap (λ n. n + 1) had.counted ∙ sym (count_of_added old.roles old.history new.history task call ticket had.regs.has done.added) }
 
 -- the room of a pass whose seat was joined with others
@@ -66,14 +66,14 @@ pub roles_left : (off : Role) (rest : List Role) (whole left given : SeenSeat) �
 roles_left off rest whole left given was roles apart = was.left_roles ∙ (ap (without off) roles ∙ without_last off rest apart)
 
 -- A pass whose seat is what a split left of a joined one.
-pub own_left : {R : Type 0} (regs_is : R → (ℕ → List Pixel) → Type 0) (name : TableId) (desk : Desk) (task made : ℕ) (off : Role) (whole left given : SeenSeat) (regs : R) → IsSeat name desk whole → AreRegs regs_is desk task whole regs → WasSplit off whole left given
-    → whole.roles ≡ (Task task ∷ []) ++ off ∷ [] → same_role off (Task task) ≡ false → made ≡ count_of task whole.history → IsOwn regs_is name desk task made left regs
-own_left regs_is name desk task made off whole left given regs seat are was roles apart counted =
+pub own_left : {I C R : Type 0} (relations : Relations I C R) (name : TableId) (desk : Desk) (task made : ℕ) (off : Role) (whole left given : SeenSeat) (regs : R) → IsSeat name desk whole → AreRegs relations desk task whole regs → WasSplit off whole left given
+    → whole.roles ≡ (Task task ∷ []) ++ off ∷ [] → same_role off (Task task) ≡ false → made ≡ count_of task whole.history → IsOwn relations name desk task made left regs
+own_left relations name desk task made off whole left given regs seat are was roles apart counted =
     let left_roles : left.roles ≡ Task task ∷ [] = roles_left off (Task task ∷ []) whole left given was roles (All-cons (λ r. same_role off r ≡ false) (Task task) [] apart (All-nil (λ r. same_role off r ≡ false))) in
     record {
       seat = seat_at desk whole left was.histories.0 name was.words.0 seat;
       roles = left_roles;
-      regs = regs_at desk whole left was.histories.0 regs_is task regs (subst (λ rs. Contains rs (Task task)) (sym left_roles) (Contains-push [] (Task task))) are;
+      regs = regs_at desk whole left was.histories.0 relations task regs (subst (λ rs. Contains rs (Task task)) (sym left_roles) (Contains-push [] (Task task))) are;
       counted = counted ∙ ap (count_of task) (sym was.histories.0);
     }
 
@@ -95,11 +95,11 @@ module _ {A E : Type 0} (desk : Desk) (task : ℕ) (mine both : SeenSeat) (stepp
 
 -- A pass while it holds what lay behind a lock whose role is another, and after its calls.
 module _ (name : TableId) (desk : Desk) (task : ℕ) (off : Role) (mine theirs both : SeenSeat) (was : WasJoined desk mine theirs both) (roles : mine.roles ≡ Task task ∷ []) (their_roles : theirs.roles ≡ off ∷ []) where
-  pub holding_joined : {R : Type 0} (regs_is : R → (ℕ → List Pixel) → Type 0) (made : ℕ) (regs : R) → IsOwn regs_is name desk task made mine regs → IsHolding regs_is name desk task made both regs
-  holding_joined regs_is made regs own =
+  pub holding_joined : {I C R : Type 0} (relations : Relations I C R) (made : ℕ) (regs : R) → IsOwn relations name desk task made mine regs → IsHolding relations name desk task made both regs
+  holding_joined relations made regs own =
       record {
         seat = seat_joined desk mine theirs both was name own.seat;
-        regs = regs_longer desk mine both (longer_by desk mine theirs both was) regs_is task regs own.regs;
+        regs = regs_longer desk mine both (longer_by desk mine theirs both was) relations task regs own.regs;
         counted = counted_joined task made mine both (longer_by desk mine theirs both was) own.regs.has own.counted;
       }
 

@@ -3,7 +3,6 @@ use Rattle.std.proofs.Common.{◌≡◌, ℕ, false, length, List, [], ◌∷◌
 use Rattle.std.specs.Prelude.{All, Contains}
 use Rattle.std.proofs.lemmas.List.Elements.{All-head, All-tail, All-append, Contains-append_left, Contains-append_right}
 use Rattle.atomic_table.specs.Seated.{TableId}
-use Rattle.lw_region.specs.Pixels.{Pixel}
 use Rattle.lw_calls.specs.declared.call.Call.{Call}
 use Rattle.lw_calls.specs.declared.entry.Entry.{Entry}
 use Rattle.lw_calls.specs.declared.reply.Reply.{Reply}
@@ -13,12 +12,13 @@ use Rattle.lw_calls.specs.Entries.{count_of}
 use Rattle.lw_machine.specs.Desk.{Desk}
 use Rattle.lw_machine.specs.History.{machine}
 use Rattle.lw_machine.specs.Step.{reply}
-use Rattle.lw_machine.specs.Parts.{SlotPart, slot_part, InfoPart, info_part}
+use Rattle.lw_machine.specs.Parts.{slot_part, info_part}
 use Rattle.lw_order.specs.Roles.{same_role, without, LeavesAlone}
 use Rattle.lw_order.specs.Promised.{Follows}
 use Rattle.lw_order.specs.Seen.{SeenSeat}
 use Rattle.lw_order.proofs.RoleLaws.{same_role_itself, quiet_fewer}
 use Rattle.lw_order.proofs.HistoryLaws.{follows_on, fewer_follow}
+use Rattle.lw_steps.specs.Steps.{Relations}
 use Rattle.lw_locks.specs.Joins.{IsHistory, WasJoined, IsLonger}
 use Rattle.lw_locks.specs.Promised.{Done}
 use Rattle.lw_locks.specs.Held.{IsSeat, AreRegs, IsCell, IsInfo}
@@ -38,17 +38,17 @@ longer_on a b c f g =
 
 -- What stands for its part at a seat does so at a longer one.
 module _ (desk : Desk) (mine both : SeenSeat) (longer : IsLonger mine both) where
-  pub regs_longer : {R : Type 0} (regs_is : R → (ℕ → List Pixel) → Type 0) (task : ℕ) (regs : R) → AreRegs regs_is desk task mine regs → AreRegs regs_is desk task both regs
-  regs_longer regs_is task regs are =
-      record { has = longer.among (Task task) are.has; stand = subst (regs_is regs) (later desk mine.roles (Task task) mine.history both.history are.has longer.follows) are.stand }
+  pub regs_longer : {I C R : Type 0} (relations : Relations I C R) (task : ℕ) (regs : R) → AreRegs relations desk task mine regs → AreRegs relations desk task both regs
+  regs_longer relations task regs are =
+      record { has = longer.among (Task task) are.has; stand = subst (relations.regs_is regs) (later desk mine.roles (Task task) mine.history both.history are.has longer.follows) are.stand }
 
-  pub cell_longer : {C : Type 0} (number : C → ℕ) (cell_is : C → SlotPart → Type 0) (cell : C) → IsCell number cell_is desk mine cell → IsCell number cell_is desk both cell
-  cell_longer number cell_is cell is =
-      record { has = longer.among (Slot (number cell)) is.has; stands = subst (cell_is cell) (later desk mine.roles (Slot (number cell)) mine.history both.history is.has longer.follows) is.stands }
+  pub cell_longer : {I C R : Type 0} (relations : Relations I C R) (cell : C) → IsCell relations desk mine cell → IsCell relations desk both cell
+  cell_longer relations cell is =
+      record { has = longer.among (Slot (relations.number cell)) is.has; stands = subst (relations.cell_is cell) (later desk mine.roles (Slot (relations.number cell)) mine.history both.history is.has longer.follows) is.stands }
 
-  pub info_longer : {I : Type 0} (info_is : I → InfoPart → Type 0) (info : I) → IsInfo info_is desk mine info → IsInfo info_is desk both info
-  info_longer info_is info is =
-      record { has = longer.among Info is.has; stands = subst (info_is info) (later desk mine.roles Info mine.history both.history is.has longer.follows) is.stands }
+  pub info_longer : {I C R : Type 0} (relations : Relations I C R) (info : I) → IsInfo relations desk mine info → IsInfo relations desk both info
+  info_longer relations info is =
+      record { has = longer.among Info is.has; stands = subst (relations.info_is desk.sizes info) (later desk mine.roles Info mine.history both.history is.has longer.follows) is.stands }
 
 module _ (desk : Desk) (mine theirs both : SeenSeat) (was : WasJoined desk mine theirs both) where
   -- the other seat's former history
@@ -60,14 +60,14 @@ module _ (desk : Desk) (mine theirs both : SeenSeat) (was : WasJoined desk mine 
 
 -- A seat that has another history's roles, and the same history: what stands for its part still does.
 module _ (desk : Desk) (old new : SeenSeat) (same : new.history ≡ old.history) where
-  pub regs_at : {R : Type 0} (regs_is : R → (ℕ → List Pixel) → Type 0) (task : ℕ) (regs : R) → Contains new.roles (Task task) → AreRegs regs_is desk task old regs → AreRegs regs_is desk task new regs
-  regs_at regs_is task regs has are = record { has = has; stand = subst (λ h. regs_is regs ((machine desk h).registers task)) (sym same) are.stand }
+  pub regs_at : {I C R : Type 0} (relations : Relations I C R) (task : ℕ) (regs : R) → Contains new.roles (Task task) → AreRegs relations desk task old regs → AreRegs relations desk task new regs
+  regs_at relations task regs has are = record { has = has; stand = subst (λ h. relations.regs_is regs ((machine desk h).registers task)) (sym same) are.stand }
 
-  pub cell_at : {C : Type 0} (number : C → ℕ) (cell_is : C → SlotPart → Type 0) (cell : C) → Contains new.roles (Slot (number cell)) → IsCell number cell_is desk old cell → IsCell number cell_is desk new cell
-  cell_at number cell_is cell has is = record { has = has; stands = subst (λ h. cell_is cell (slot_part (machine desk h) (number cell))) (sym same) is.stands }
+  pub cell_at : {I C R : Type 0} (relations : Relations I C R) (cell : C) → Contains new.roles (Slot (relations.number cell)) → IsCell relations desk old cell → IsCell relations desk new cell
+  cell_at relations cell has is = record { has = has; stands = subst (λ h. relations.cell_is cell (slot_part (machine desk h) (relations.number cell))) (sym same) is.stands }
 
-  pub info_at : {I : Type 0} (info_is : I → InfoPart → Type 0) (info : I) → Contains new.roles Info → IsInfo info_is desk old info → IsInfo info_is desk new info
-  info_at info_is info has is = record { has = has; stands = subst (λ h. info_is info (info_part (machine desk h))) (sym same) is.stands }
+  pub info_at : {I C R : Type 0} (relations : Relations I C R) (info : I) → Contains new.roles Info → IsInfo relations desk old info → IsInfo relations desk new info
+  info_at relations info has is = record { has = has; stands = subst (λ h. relations.info_is desk.sizes info (info_part (machine desk h))) (sym same) is.stands }
 
   pub seat_at : (name : TableId) → new.word ≡ old.word → IsSeat name desk old → IsSeat name desk new
   seat_at name word seat = record { word = word ∙ seat.word; known = subst (IsHistory desk.sizes) (sym same) seat.known }

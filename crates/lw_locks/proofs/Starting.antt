@@ -6,7 +6,6 @@ use Rattle.std.proofs.lemmas.Bool.{ne_eqb}
 use Rattle.std.proofs.lemmas.List.Elements.{All-nil, Contains-push}
 use Rattle.std.proofs.lemmas.List.FromFn.{map-range_with_len_more}
 use Rattle.atomic_table.specs.Seated.{TableId}
-use Rattle.lw_region.specs.Pixels.{Pixel}
 use Rattle.lw_calls.specs.declared.entry.Entry.{Entry}
 use Rattle.lw_calls.specs.declared.touch.Role.{Role}
 use Rattle.lw_calls.specs.declared.touch.Role.TheVariants.{Task, Slot, Info}
@@ -14,11 +13,11 @@ use Rattle.lw_calls.specs.Entries.{count_of}
 use Rattle.lw_calls.specs.Limits.{call_fits}
 use Rattle.lw_machine.specs.Desk.{Desk}
 use Rattle.lw_machine.specs.History.{machine}
-use Rattle.lw_machine.specs.Parts.{SlotPart, slot_part, InfoPart, info_part}
+use Rattle.lw_machine.specs.Parts.{slot_part, info_part}
 use Rattle.lw_order.specs.Roles.{all_roles, without}
 use Rattle.lw_order.specs.Seen.{SeenSeat}
 use Rattle.lw_order.proofs.RoleLaws.{still_there, all_roles_has_slot, all_roles_has_task}
-use Rattle.lw_steps.specs.Steps.{AreCells}
+use Rattle.lw_steps.specs.Steps.{Relations, AreCells}
 use Rattle.lw_locks.specs.Joins.{IsHistory}
 use Rattle.lw_locks.specs.Held.{IsSeat, AreTasksRegs, IsOwn, IsLayer, IsLayerInfo}
 use Rattle.lw_locks.specs.Seen.{SeenPass, opening_pass}
@@ -35,33 +34,33 @@ only : (r : Role) (roles : List Role) → roles ≡ r ∷ [] → Contains roles 
 only r roles is = subst (λ rs. Contains rs r) (sym is) (Contains-push [] r)
 
 -- A slot, LayerInfo and a task, each with a seat of its role that knows no step.
-pub layer_at_start : {C : Type 0} (number : C → ℕ) (cell_is : C → SlotPart → Type 0) (name : TableId) (desk : Desk) (slot : ℕ) (own : SeenSeat) (kept : C) → own.word ≡ name → own.history ≡ [] → own.roles ≡ Slot slot ∷ []
-    → (number kept ≡ slot) × cell_is kept (slot_part desk slot) → IsLayer number cell_is name desk slot own kept
-layer_at_start number cell_is name desk slot own kept word empty roles is =
+pub layer_at_start : {I C R : Type 0} (relations : Relations I C R) (name : TableId) (desk : Desk) (slot : ℕ) (own : SeenSeat) (kept : C) → own.word ≡ name → own.history ≡ [] → own.roles ≡ Slot slot ∷ []
+    → (relations.number kept ≡ slot) × relations.cell_is kept (slot_part desk slot) → IsLayer relations name desk slot own kept
+layer_at_start relations name desk slot own kept word empty roles is =
     record {
       seat = seat_at_start name desk own word empty;
       roles = roles;
       number = is.0;
       cell = record {
         has = subst (λ s. Contains own.roles (Slot s)) (sym is.0) (only (Slot slot) own.roles roles);
-        stands = subst (λ h. cell_is kept (slot_part (machine desk h) (number kept))) (sym empty) (subst (λ s. cell_is kept (slot_part desk s)) (sym is.0) is.1);
+        stands = subst (λ h. relations.cell_is kept (slot_part (machine desk h) (relations.number kept))) (sym empty) (subst (λ s. relations.cell_is kept (slot_part desk s)) (sym is.0) is.1);
       };
     }
 
-pub info_at_start : {I : Type 0} (info_is : I → InfoPart → Type 0) (name : TableId) (desk : Desk) (own : SeenSeat) (kept : I) → own.word ≡ name → own.history ≡ [] → own.roles ≡ Info ∷ [] → info_is kept (info_part desk) → IsLayerInfo info_is name desk own kept
-info_at_start info_is name desk own kept word empty roles is =
+pub info_at_start : {I C R : Type 0} (relations : Relations I C R) (name : TableId) (desk : Desk) (own : SeenSeat) (kept : I) → own.word ≡ name → own.history ≡ [] → own.roles ≡ Info ∷ [] → relations.info_is desk.sizes kept (info_part desk) → IsLayerInfo relations name desk own kept
+info_at_start relations name desk own kept word empty roles is =
     record {
       seat = seat_at_start name desk own word empty;
       roles = roles;
-      info = record { has = only Info own.roles roles; stands = subst (λ h. info_is kept (info_part (machine desk h))) (sym empty) is };
+      info = record { has = only Info own.roles roles; stands = subst (λ h. relations.info_is desk.sizes kept (info_part (machine desk h))) (sym empty) is };
     }
 
-pub own_at_start : {R : Type 0} (regs_is : R → (ℕ → List Pixel) → Type 0) (name : TableId) (desk : Desk) (task : ℕ) (own : SeenSeat) (mine : R) → own.word ≡ name → own.history ≡ [] → own.roles ≡ Task task ∷ [] → regs_is mine (desk.registers task) → IsOwn regs_is name desk task 0 own mine
-own_at_start regs_is name desk task own mine word empty roles is =
+pub own_at_start : {I C R : Type 0} (relations : Relations I C R) (name : TableId) (desk : Desk) (task : ℕ) (own : SeenSeat) (mine : R) → own.word ≡ name → own.history ≡ [] → own.roles ≡ Task task ∷ [] → relations.regs_is mine (desk.registers task) → IsOwn relations name desk task 0 own mine
+own_at_start relations name desk task own mine word empty roles is =
     record {
       seat = seat_at_start name desk own word empty;
       roles = roles;
-      regs = record { has = only (Task task) own.roles roles; stand = subst (λ h. regs_is mine ((machine desk h).registers task)) (sym empty) is };
+      regs = record { has = only (Task task) own.roles roles; stand = subst (λ h. relations.regs_is mine ((machine desk h).registers task)) (sym empty) is };
       counted = ap (count_of task) (sym empty);
     }
 
@@ -76,18 +75,18 @@ get_last [] last = refl
 get_last (y ∷ front) last = get_last front last
 
 -- Cells and registers of which the last are taken off.
-module _ {C : Type 0} (number : C → ℕ) (cell_is : C → SlotPart → Type 0) (desk : Desk) (whole front : List C) (last : C) (is : whole ≡ front ++ last ∷ []) (are : AreCells number cell_is whole desk) where
-  pub cells_front : AreCells number cell_is front desk
+module _ {I C R : Type 0} (relations : Relations I C R) (desk : Desk) (whole front : List C) (last : C) (is : whole ≡ front ++ last ∷ []) (are : AreCells relations whole desk) where
+  pub cells_front : AreCells relations front desk
   cells_front s c h = are s c (subst (λ cs. slice_get cs s ≡ Some c) (sym is) (get_front front last c s h))
 
-  pub cell_last : (slot : ℕ) → slot ≡ length front → (number last ≡ slot) × cell_is last (slot_part desk slot)
+  pub cell_last : (slot : ℕ) → slot ≡ length front → (relations.number last ≡ slot) × relations.cell_is last (slot_part desk slot)
   cell_last slot place = are slot last (subst (λ cs. slice_get cs slot ≡ Some last) (sym is) (subst (λ n. slice_get (front ++ last ∷ []) n ≡ Some last) (sym place) (get_last front last)))
 
-module _ {R : Type 0} (regs_is : R → (ℕ → List Pixel) → Type 0) (desk : Desk) (whole front : List R) (last : R) (is : whole ≡ front ++ last ∷ []) (are : AreTasksRegs regs_is whole desk) where
-  pub regs_front : AreTasksRegs regs_is front desk
+module _ {I C R : Type 0} (relations : Relations I C R) (desk : Desk) (whole front : List R) (last : R) (is : whole ≡ front ++ last ∷ []) (are : AreTasksRegs relations whole desk) where
+  pub regs_front : AreTasksRegs relations front desk
   regs_front t r h = are t r (subst (λ rs. slice_get rs t ≡ Some r) (sym is) (get_front front last r t h))
 
-  pub regs_last : (task : ℕ) → task ≡ length front → regs_is last (desk.registers task)
+  pub regs_last : (task : ℕ) → task ≡ length front → relations.regs_is last (desk.registers task)
   regs_last task place = are task last (subst (λ rs. slice_get rs task ≡ Some last) (sym is) (subst (λ n. slice_get (front ++ last ∷ []) n ≡ Some last) (sym place) (get_last front last)))
 
 -- The roles that are left after the last slot's or task's was split off.

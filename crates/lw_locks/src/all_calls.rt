@@ -35,11 +35,11 @@ impl<E: Engine, N: Opening> Steps<E, N> {
         requires fits { All (λ c. IsTrue (call_fits N.desk.sizes c)) calls.now }
         requires room { made.old + length calls.now ≤ 4294967295 }
         requires space { vec_len answers.old + length calls.now ≤ vec_capacity answers.old }
-        requires holding { IsHolding E.regs_is N.word N.desk task made.old seat.old regs.now }
-        requires stands { AreAllHeld (E.info_is N.desk.sizes) E.number E.cell_is N.desk seat.old info.old cells.old }
-        ensures holding { IsHolding E.regs_is N.word N.desk task made.new seat.new regs.now }
+        requires holding { IsHolding E.relations N.word N.desk task made.old seat.old regs.now }
+        requires stands { AreAllHeld E.relations N.desk seat.old info.old cells.old }
+        ensures holding { IsHolding E.relations N.word N.desk task made.new seat.new regs.now }
         ensures roles { seat.new.roles ≡ seat.old.roles }
-        ensures stands { AreAllHeld (E.info_is N.desk.sizes) E.number E.cell_is N.desk seat.new info.new cells.new }
+        ensures stands { AreAllHeld E.relations N.desk seat.new info.new cells.new }
         ensures grown { Grown N.desk seat.old.roles task seat.old.history seat.new.history calls.now answers.old.items answers.new.items }
         ensures all { MatchResult result (λ _. length answers.new.items ≡ length answers.old.items + length calls.now) (λ _. length answers.new.items < length answers.old.items + length calls.now) }
     {
@@ -67,11 +67,11 @@ impl<E: Engine, N: Opening> Steps<E, N> {
         requires fits { IsTrue (call_fits N.desk.sizes call.now) }
         requires room { made.old < 4294967295 }
         requires space { vec_len answers.old < vec_capacity answers.old }
-        requires holding { IsHolding E.regs_is N.word N.desk task made.old seat.old regs.now }
-        requires stands { AreAllHeld (E.info_is N.desk.sizes) E.number E.cell_is N.desk seat.old info.old cells.old }
-        ensures holding { IsHolding E.regs_is N.word N.desk task made.new seat.new regs.now }
+        requires holding { IsHolding E.relations N.word N.desk task made.old seat.old regs.now }
+        requires stands { AreAllHeld E.relations N.desk seat.old info.old cells.old }
+        ensures holding { IsHolding E.relations N.word N.desk task made.new seat.new regs.now }
         ensures roles { seat.new.roles ≡ seat.old.roles }
-        ensures stands { AreAllHeld (E.info_is N.desk.sizes) E.number E.cell_is N.desk seat.new info.new cells.new }
+        ensures stands { AreAllHeld E.relations N.desk seat.new info.new cells.new }
         ensures capacity { vec_capacity answers.new ≡ vec_capacity answers.old }
         ensures done { IfOk result (λ _. Grown N.desk seat.old.roles task seat.old.history seat.new.history (call.now ∷ []) answers.old.items answers.new.items) }
         ensures more { IfOk result (λ _. (length answers.new.items ≡ length answers.old.items + 1) × (made.new ≡ made.old + 1)) }

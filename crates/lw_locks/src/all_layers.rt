@@ -153,12 +153,12 @@ impl<E: Engine, N: Opening> Desk<E, N> {
         requires space { vec_len answers.old + length calls.now ≤ vec_capacity answers.old }
         requires room { made.old + length calls.now ≤ 4294967295 }
         requires roles { seat.old.roles ≡ roles_below task next }
-        requires holding { IsHolding E.regs_is N.word N.desk task made.old seat.old regs.now }
-        requires held { AreHeld (E.info_is N.desk.sizes) E.number E.cell_is N.desk seat.old info.old cells.old.items }
+        requires holding { IsHolding E.relations N.word N.desk task made.old seat.old regs.now }
+        requires held { AreHeld E.relations N.desk seat.old info.old cells.old.items }
         ensures next { vec_len cells.new ≡ next }
         ensures roles { seat.new.roles ≡ seat.old.roles }
-        ensures holding { IsHolding E.regs_is N.word N.desk task made.new seat.new regs.now }
-        ensures held { AreHeld (E.info_is N.desk.sizes) E.number E.cell_is N.desk seat.new info.new cells.new.items }
+        ensures holding { IsHolding E.relations N.word N.desk task made.new seat.new regs.now }
+        ensures held { AreHeld E.relations N.desk seat.new info.new cells.new.items }
         ensures done { GroupDone N.desk seat.old.roles (roles_below task N.desk.sizes.slots) task seat.old.history seat.new.history calls.now answers.old.items answers.new.items }
         ensures all { MatchResult result (λ _. length answers.new.items ≡ length answers.old.items + length calls.now) (λ _. length answers.new.items < length answers.old.items + length calls.now) }
     {

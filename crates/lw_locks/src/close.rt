@@ -44,7 +44,7 @@ impl<E: Engine, N: Opening> Desk<E, N> {
         requires many { vec_len passes ≡ N.desk.sizes.tasks }
         requires each { HasEach passes.items N.desk.sizes.tasks }
         ensures closed { IfOk result
-            (λ c. IsClosed (E.info_is N.desk.sizes) E.number E.cell_is E.regs_is N.word N.desk passes.items c.info c.cells.items c.regs.items c.seat) }
+            (λ c. IsClosed E.relations N.word N.desk passes.items c.info c.cells.items c.regs.items c.seat) }
         ensures desk { IfErr result (λ n. n.desk ≡ self) }
         ensures passes { IfErr result (λ n. n.passes ≡ passes) }
     {
@@ -73,7 +73,7 @@ impl<E: Engine, N: Opening> Desk<E, N> {
         requires regs { (vec_len regs ≡ 0) × (vec_len passes ≤ vec_capacity regs) }
         requires many { vec_len passes ≡ N.desk.sizes.tasks }
         requires each { HasEach passes.items N.desk.sizes.tasks }
-        ensures { IsClosed (E.info_is N.desk.sizes) E.number E.cell_is E.regs_is N.word N.desk passes.items result.info result.cells.items result.regs.items result.seat }
+        ensures { IsClosed E.relations N.word N.desk passes.items result.info result.cells.items result.regs.items result.seat }
     {
         let Desk {
             steps,
@@ -104,7 +104,7 @@ fn join_all<E: Engine, N: Opening>(
     requires regs { (vec_len regs ≡ 0) × (vec_len passes ≤ vec_capacity regs) }
     requires many { vec_len passes ≡ N.desk.sizes.tasks }
     requires each { HasEach passes.items N.desk.sizes.tasks }
-    ensures { IsClosed (E.info_is N.desk.sizes) E.number E.cell_is E.regs_is N.word N.desk passes.items result.info result.cells.items result.regs.items result.seat }
+    ensures { IsClosed E.relations N.word N.desk passes.items result.info result.cells.items result.regs.items result.seat }
 {
     let LayerInfo {
         info,
@@ -139,7 +139,7 @@ fn join_layers<E: Engine, N: Opening>(
     ensures once { HasEachOnce seat.new.roles }
     ensures fit { All (IsRoleWithin N.desk.sizes) seat.new.roles }
     ensures roles { seat.new.roles ≡ seat.old.roles ++ map (λ slot. Slot slot) (slots_of taken.new.items) }
-    ensures taken { AreTaken E.number E.cell_is N.desk seat.new taken.new.items }
+    ensures taken { AreTaken E.relations N.desk seat.new taken.new.items }
     ensures many { (vec_len taken.new ≡ vec_len layers.old) × (vec_capacity taken.new ≡ vec_capacity taken.old) }
 {
     let Some(lock) = layers.pop() else {
@@ -203,7 +203,7 @@ fn join_passes<E: Engine, N: Opening>(
     requires regs { (vec_len regs.old ≡ 0) × (vec_len passes.old ≤ vec_capacity regs.old) }
     ensures seat { IsSeat N.word N.desk seat.new }
     ensures longer { IsLonger seat.old seat.new }
-    ensures regs { AreRegsHeld E.regs_is N.desk seat.new regs.new.items }
+    ensures regs { AreRegsHeld E.relations N.desk seat.new regs.new.items }
     ensures followed { AreFollowed passes.old.items seat.new }
     ensures many { (vec_len regs.new ≡ vec_len passes.old) × (vec_capacity regs.new ≡ vec_capacity regs.old) }
 {

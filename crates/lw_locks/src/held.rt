@@ -23,7 +23,7 @@ impl<E: Engine, N: Opening> Model for Layer<E, N> {
 
     ghost view = { λ l. l.slot };
 
-    ghost invariant = { λ l. IsLayer E.number E.cell_is N.word N.desk l.slot l.seat l.cell };
+    ghost invariant = { λ l. IsLayer E.relations N.word N.desk l.slot l.seat l.cell };
 }
 
 // LayerInfo. Contracts see nothing of it.
@@ -41,7 +41,7 @@ impl<E: Engine, N: Opening> Model for LayerInfo<E, N> {
 
     ghost view = { λ _. tt };
 
-    ghost invariant = { λ l. IsLayerInfo (E.info_is N.desk.sizes) N.word N.desk l.seat l.info };
+    ghost invariant = { λ l. IsLayerInfo E.relations N.word N.desk l.seat l.info };
 }
 
 // What a lock keeps. While the lock is held it may be elsewhere; whenever the lock is free it is there.

@@ -30,16 +30,16 @@ impl<E: Engine, N: Opening> Steps<E, N> {
         calls: &[Call],
         answers: &mut Vec<Answer>,
     ) -> Result<(), AllocError>
-        requires class { All (λ c. class_of c ≡ OnLayer (E.number cell.old)) calls.now }
+        requires class { All (λ c. class_of c ≡ OnLayer (E.relations.number cell.old)) calls.now }
         requires fits { All (λ c. IsTrue (call_fits N.desk.sizes c)) calls.now }
         requires room { made.old + length calls.now ≤ 4294967295 }
         requires space { vec_len answers.old + length calls.now ≤ vec_capacity answers.old }
-        requires holding { IsHolding E.regs_is N.word N.desk task made.old seat.old regs.now }
-        requires stands { IsCell E.number E.cell_is N.desk seat.old cell.old }
-        ensures holding { IsHolding E.regs_is N.word N.desk task made.new seat.new regs.now }
+        requires holding { IsHolding E.relations N.word N.desk task made.old seat.old regs.now }
+        requires stands { IsCell E.relations N.desk seat.old cell.old }
+        ensures holding { IsHolding E.relations N.word N.desk task made.new seat.new regs.now }
         ensures roles { seat.new.roles ≡ seat.old.roles }
-        ensures stands { IsCell E.number E.cell_is N.desk seat.new cell.new }
-        ensures number { E.number cell.new ≡ E.number cell.old }
+        ensures stands { IsCell E.relations N.desk seat.new cell.new }
+        ensures number { E.relations.number cell.new ≡ E.relations.number cell.old }
         ensures grown { Grown N.desk seat.old.roles task seat.old.history seat.new.history calls.now answers.old.items answers.new.items }
         ensures all { MatchResult result (λ _. length answers.new.items ≡ length answers.old.items + length calls.now) (λ _. length answers.new.items < length answers.old.items + length calls.now) }
     {
@@ -62,16 +62,16 @@ impl<E: Engine, N: Opening> Steps<E, N> {
         call: &Call,
         answers: &mut Vec<Answer>,
     ) -> Result<(), AllocError>
-        requires class { class_of call.now ≡ OnLayer (E.number cell.old) }
+        requires class { class_of call.now ≡ OnLayer (E.relations.number cell.old) }
         requires fits { IsTrue (call_fits N.desk.sizes call.now) }
         requires room { made.old < 4294967295 }
         requires space { vec_len answers.old < vec_capacity answers.old }
-        requires holding { IsHolding E.regs_is N.word N.desk task made.old seat.old regs.now }
-        requires stands { IsCell E.number E.cell_is N.desk seat.old cell.old }
-        ensures holding { IsHolding E.regs_is N.word N.desk task made.new seat.new regs.now }
+        requires holding { IsHolding E.relations N.word N.desk task made.old seat.old regs.now }
+        requires stands { IsCell E.relations N.desk seat.old cell.old }
+        ensures holding { IsHolding E.relations N.word N.desk task made.new seat.new regs.now }
         ensures roles { seat.new.roles ≡ seat.old.roles }
-        ensures stands { IsCell E.number E.cell_is N.desk seat.new cell.new }
-        ensures number { E.number cell.new ≡ E.number cell.old }
+        ensures stands { IsCell E.relations N.desk seat.new cell.new }
+        ensures number { E.relations.number cell.new ≡ E.relations.number cell.old }
         ensures capacity { vec_capacity answers.new ≡ vec_capacity answers.old }
         ensures done { IfOk result (λ _. Grown N.desk seat.old.roles task seat.old.history seat.new.history (call.now ∷ []) answers.old.items answers.new.items) }
         ensures more { IfOk result (λ _. (length answers.new.items ≡ length answers.old.items + 1) × (made.new ≡ made.old + 1)) }

@@ -28,7 +28,7 @@ impl<E: Engine, N: Opening> Model for Pass<E, N> {
 
     ghost view = { λ p. record { task = p.task; history = p.seat.history } };
 
-    ghost invariant = { λ p. IsOwn E.regs_is N.word N.desk p.task p.made p.seat p.regs };
+    ghost invariant = { λ p. IsOwn E.relations N.word N.desk p.task p.made p.seat p.regs };
 }
 
 impl<E: Engine, N: Opening> Pass<E, N> {

@@ -44,11 +44,11 @@ impl<E: Engine, N: Opening> Desk<E, N> {
         requires limits { IsWithinLimits N.desk.sizes }
         requires engine_sizes { E.sizes engine ≡ N.desk.sizes }
         requires engine_assets { E.assets engine ≡ N.desk.assets }
-        requires info { E.info_is N.desk.sizes info (info_part N.desk) }
+        requires info { E.relations.info_is N.desk.sizes info (info_part N.desk) }
         requires slots { vec_len cells ≡ N.desk.sizes.slots }
-        requires cells { AreCells E.number E.cell_is cells.items N.desk }
+        requires cells { AreCells E.relations cells.items N.desk }
         requires tasks { vec_len regs ≡ N.desk.sizes.tasks }
-        requires regs { AreTasksRegs E.regs_is regs.items N.desk }
+        requires regs { AreTasksRegs E.relations regs.items N.desk }
         ensures passes { IfOk result (λ r. r.1.items ≡ map opening_pass (range_with_len 0 N.desk.sizes.tasks)) }
     {
         let mut whole = seat;
@@ -79,7 +79,7 @@ impl<E: Engine, N: Opening> Desk<E, N> {
         requires history { seat.old.history ≡ [] }
         requires few { vec_len cells.old < 4294967296 }
         requires roles { (s : ℕ) → s < vec_len cells.old → Contains seat.old.roles (Slot s) }
-        requires cells { AreCells E.number E.cell_is cells.old.items N.desk }
+        requires cells { AreCells E.relations cells.old.items N.desk }
         ensures seat_word { seat.new.word ≡ N.word }
         ensures history { seat.new.history ≡ [] }
         ensures tasks { IfOk result (λ _. (t : ℕ) → Contains seat.old.roles (Task t) → Contains seat.new.roles (Task t)) }
@@ -113,7 +113,7 @@ impl<E: Engine, N: Opening> Desk<E, N> {
         requires history { seat.old.history ≡ [] }
         requires few { vec_len regs.old < 4294967296 }
         requires roles { (t : ℕ) → t < vec_len regs.old → Contains seat.old.roles (Task t) }
-        requires regs { AreTasksRegs E.regs_is regs.old.items N.desk }
+        requires regs { AreTasksRegs E.relations regs.old.items N.desk }
         ensures passes { IfOk result (λ _. passes.new.items ≡ passes.old.items ++ map opening_pass (range_with_len 0 (vec_len regs.old))) }
     {
         let Some(mine) = regs.pop() else {

@@ -74,11 +74,11 @@ impl<E: Engine, N: Opening> Steps<E, N> {
         requires class { class_of call.now ≡ OnRegisters }
         requires fits { IsTrue (call_fits N.desk.sizes call.now) }
         requires seat { IsSeat N.word N.desk seat.old }
-        requires regs { AreRegs E.regs_is N.desk task seat.old regs.old }
+        requires regs { AreRegs E.relations N.desk task seat.old regs.old }
         requires room { count_of task seat.old.history < 4294967295 }
         ensures seat { IsSeat N.word N.desk seat.new }
         ensures roles { seat.new.roles ≡ seat.old.roles }
-        ensures regs { AreRegs E.regs_is N.desk task seat.new regs.new }
+        ensures regs { AreRegs E.relations N.desk task seat.new regs.new }
         ensures done { IfOk result (λ a. Done N.desk seat.old.roles task seat.old.history seat.new.history call.now a.reply a.ticket) }
         ensures same { OnErr result (seat.new.history ≡ seat.old.history) }
     {
@@ -99,13 +99,13 @@ impl<E: Engine, N: Opening> Steps<E, N> {
         requires class { class_of call.now ≡ OnInfo }
         requires fits { IsTrue (call_fits N.desk.sizes call.now) }
         requires seat { IsSeat N.word N.desk seat.old }
-        requires regs { AreRegs E.regs_is N.desk task seat.old regs.now }
-        requires info { IsInfo (E.info_is N.desk.sizes) N.desk seat.old info.now }
+        requires regs { AreRegs E.relations N.desk task seat.old regs.now }
+        requires info { IsInfo E.relations N.desk seat.old info.now }
         requires room { count_of task seat.old.history < 4294967295 }
         ensures seat { IsSeat N.word N.desk seat.new }
         ensures roles { seat.new.roles ≡ seat.old.roles }
-        ensures regs { AreRegs E.regs_is N.desk task seat.new regs.now }
-        ensures info { IsInfo (E.info_is N.desk.sizes) N.desk seat.new info.now }
+        ensures regs { AreRegs E.relations N.desk task seat.new regs.now }
+        ensures info { IsInfo E.relations N.desk seat.new info.now }
         ensures done { Done N.desk seat.old.roles task seat.old.history seat.new.history call.now result.reply result.ticket }
     {
         let reply = self.engine.look(info, call);
@@ -123,17 +123,17 @@ impl<E: Engine, N: Opening> Steps<E, N> {
         regs: &E::Regs,
         call: &Call,
     ) -> Result<Answer, AllocError>
-        requires class { class_of call.now ≡ OnLayer (E.number cell.old) }
+        requires class { class_of call.now ≡ OnLayer (E.relations.number cell.old) }
         requires fits { IsTrue (call_fits N.desk.sizes call.now) }
         requires seat { IsSeat N.word N.desk seat.old }
-        requires regs { AreRegs E.regs_is N.desk task seat.old regs.now }
-        requires cell { IsCell E.number E.cell_is N.desk seat.old cell.old }
+        requires regs { AreRegs E.relations N.desk task seat.old regs.now }
+        requires cell { IsCell E.relations N.desk seat.old cell.old }
         requires room { count_of task seat.old.history < 4294967295 }
         ensures seat { IsSeat N.word N.desk seat.new }
         ensures roles { seat.new.roles ≡ seat.old.roles }
-        ensures regs { AreRegs E.regs_is N.desk task seat.new regs.now }
-        ensures cell { IsCell E.number E.cell_is N.desk seat.new cell.new }
-        ensures number { E.number cell.new ≡ E.number cell.old }
+        ensures regs { AreRegs E.relations N.desk task seat.new regs.now }
+        ensures cell { IsCell E.relations N.desk seat.new cell.new }
+        ensures number { E.relations.number cell.new ≡ E.relations.number cell.old }
         ensures done { IfOk result (λ a. Done N.desk seat.old.roles task seat.old.history seat.new.history call.now a.reply a.ticket) }
         ensures same { OnErr result (seat.new.history ≡ seat.old.history) }
     {
@@ -152,19 +152,19 @@ impl<E: Engine, N: Opening> Steps<E, N> {
         regs: &E::Regs,
         call: &Call,
     ) -> Answer
-        requires class { class_of call.now ≡ OnLayers (E.number source.now) (E.number to.old) }
+        requires class { class_of call.now ≡ OnLayers (E.relations.number source.now) (E.relations.number to.old) }
         requires fits { IsTrue (call_fits N.desk.sizes call.now) }
         requires seat { IsSeat N.word N.desk seat.old }
-        requires regs { AreRegs E.regs_is N.desk task seat.old regs.now }
-        requires source { IsCell E.number E.cell_is N.desk seat.old source.now }
-        requires to { IsCell E.number E.cell_is N.desk seat.old to.old }
+        requires regs { AreRegs E.relations N.desk task seat.old regs.now }
+        requires source { IsCell E.relations N.desk seat.old source.now }
+        requires to { IsCell E.relations N.desk seat.old to.old }
         requires room { count_of task seat.old.history < 4294967295 }
         ensures seat { IsSeat N.word N.desk seat.new }
         ensures roles { seat.new.roles ≡ seat.old.roles }
-        ensures regs { AreRegs E.regs_is N.desk task seat.new regs.now }
-        ensures source { IsCell E.number E.cell_is N.desk seat.new source.now }
-        ensures to { IsCell E.number E.cell_is N.desk seat.new to.new }
-        ensures number { E.number to.new ≡ E.number to.old }
+        ensures regs { AreRegs E.relations N.desk task seat.new regs.now }
+        ensures source { IsCell E.relations N.desk seat.new source.now }
+        ensures to { IsCell E.relations N.desk seat.new to.new }
+        ensures number { E.relations.number to.new ≡ E.relations.number to.old }
         ensures done { Done N.desk seat.old.roles task seat.old.history seat.new.history call.now result.reply result.ticket }
     {
         let reply = self.engine.two(source, to, call);
@@ -186,15 +186,15 @@ impl<E: Engine, N: Opening> Steps<E, N> {
         requires class { class_of call.now ≡ OnAll }
         requires fits { IsTrue (call_fits N.desk.sizes call.now) }
         requires seat { IsSeat N.word N.desk seat.old }
-        requires regs { AreRegs E.regs_is N.desk task seat.old regs.now }
+        requires regs { AreRegs E.relations N.desk task seat.old regs.now }
         requires slots { length cells.old ≡ N.desk.sizes.slots }
-        requires held { AreHeld (E.info_is N.desk.sizes) E.number E.cell_is N.desk seat.old info.old cells.old }
+        requires held { AreHeld E.relations N.desk seat.old info.old cells.old }
         requires room { count_of task seat.old.history < 4294967295 }
         ensures seat { IsSeat N.word N.desk seat.new }
         ensures roles { seat.new.roles ≡ seat.old.roles }
-        ensures regs { AreRegs E.regs_is N.desk task seat.new regs.now }
+        ensures regs { AreRegs E.relations N.desk task seat.new regs.now }
         ensures slots { length cells.new ≡ N.desk.sizes.slots }
-        ensures held { AreHeld (E.info_is N.desk.sizes) E.number E.cell_is N.desk seat.new info.new cells.new }
+        ensures held { AreHeld E.relations N.desk seat.new info.new cells.new }
         ensures done { IfOk result (λ a. Done N.desk seat.old.roles task seat.old.history seat.new.history call.now a.reply a.ticket) }
         ensures same { OnErr result (seat.new.history ≡ seat.old.history) }
     {

@@ -1,14 +1,12 @@
-ghost use Rattle.std.specs.Prelude.{◌≡◌, ℕ, false, List, IsOk, IfOk, OnErr, IsTrue};
-ghost use Rattle.lw_region.specs.Pixels.{Pixel};
+ghost use Rattle.std.specs.Prelude.{◌≡◌, false, IsOk, IfOk, OnErr, IsTrue};
 ghost use Rattle.lw_calls.specs.Assets.{Assets};
 ghost use Rattle.lw_calls.specs.declared.sizes.Sizes.{Sizes};
 ghost use Rattle.lw_calls.specs.Limits.{call_fits};
 ghost use Rattle.lw_calls.specs.declared.touch.CallClass.TheVariants.{OnRegisters, OnInfo, OnLayer, OnLayers, OnAll};
 ghost use Rattle.lw_calls.specs.Touches.{class_of};
 ghost use Rattle.lw_machine.specs.Desk.{Desk};
-ghost use Rattle.lw_machine.specs.Parts.{SlotPart, InfoPart};
 ghost use Rattle.lw_steps.specs.Memory.{takes_memory};
-ghost use Rattle.lw_steps.specs.Steps.{IsRegsStep, IsLookStep, IsOneStep, IsTwoStep, AreParts, IsAllStep, AreStill};
+ghost use Rattle.lw_steps.specs.Steps.{Relations, IsRegsStep, IsLookStep, IsOneStep, IsTwoStep, AreParts, IsAllStep, AreStill};
 
 use lw_calls::{Call, Reply};
 use std::alloc::{AllocError, Global};
@@ -29,20 +27,14 @@ pub trait Engine: Drop + Sync {
     ghost sizes: { Self → Sizes };
 
     ghost assets: { Self → Assets };
-    // The number of a cell's slot.
-    ghost number: { Self.Cell → ℕ };
     // Which values stand for which parts.
-    ghost regs_is: { Self.Regs → (ℕ → List Pixel) → Type 0 };
-
-    ghost cell_is: { Self.Cell → SlotPart → Type 0 };
-
-    ghost info_is: { Sizes → Self.Info → InfoPart → Type 0 };
+    ghost relations: { Relations Self.Info Self.Cell Self.Regs };
 
     /// Makes a call on the registers of its task.
     fn regs(&self, alloc: Global, regs: &mut Self::Regs, call: &Call) -> Result<Reply, AllocError>
         requires class { class_of call.now ≡ OnRegisters }
         requires fits { IsTrue (call_fits (sizes self.now) call.now) }
-        ensures step { IfOk result (λ r. IsRegsStep regs_is (sizes self.now) (assets self.now) regs.old call.now r regs.new) }
+        ensures step { IfOk result (λ r. IsRegsStep relations (sizes self.now) (assets self.now) regs.old call.now r regs.new) }
         ensures unchanged { OnErr result (regs.new ≡ regs.old) }
         ensures memory { takes_memory call.now ≡ false → IsOk result };
 
@@ -50,7 +42,7 @@ pub trait Engine: Drop + Sync {
     fn look(&self, info: &Self::Info, call: &Call) -> Reply
         requires class { class_of call.now ≡ OnInfo }
         requires fits { IsTrue (call_fits (sizes self.now) call.now) }
-        ensures step { IsLookStep (info_is (sizes self.now)) (sizes self.now) (assets self.now) info.now call.now result };
+        ensures step { IsLookStep relations (sizes self.now) (assets self.now) info.now call.now result };
 
     /// Makes a call of a task with these registers on the layer of a slot.
     fn one(
@@ -61,22 +53,24 @@ pub trait Engine: Drop + Sync {
         task: u32,
         call: &Call,
     ) -> Result<Reply, AllocError>
-        requires class { class_of call.now ≡ OnLayer (number cell.old) }
+        requires class { class_of call.now ≡ OnLayer (relations.number cell.old) }
         requires fits { IsTrue (call_fits (sizes self.now) call.now) }
         ensures step { IfOk result (λ r.
-            IsOneStep number cell_is regs_is (sizes self.now) (assets self.now) cell.old regs.now task call.now r cell.new) }
-        ensures number { number cell.new ≡ number cell.old }
+            IsOneStep relations (sizes self.now) (assets self.now) cell.old regs.now task call.now r cell.new) }
+        ensures number { relations.number cell.new ≡ relations.number cell.old }
         ensures unchanged { OnErr result (cell.new ≡ cell.old) }
         ensures memory { takes_memory call.now ≡ false → IsOk result };
 
     /// Makes a call on the layers of two slots, of which it reads the first alone. It takes no memory.
     fn two(&self, source: &Self::Cell, to: &mut Self::Cell, call: &Call) -> Reply
-        requires class { class_of call.now ≡ OnLayers (number source.now) (number to.old) }
+        requires class { class_of call.now ≡ OnLayers (relations.number source.now) (relations.number to.old) }
         requires fits { IsTrue (call_fits (sizes self.now) call.now) }
-        ensures step { IsTwoStep number cell_is (sizes self.now) (assets self.now) source.now to.old call.now result to.new }
-        ensures number { number to.new ≡ number to.old };
+        ensures step { IsTwoStep relations (sizes self.now) (assets self.now) source.now to.old call.now result to.new }
+        ensures number { relations.number to.new ≡ relations.number to.old };
 
-    /// Makes a call that arranges the layers of all slots, whose cells are given in rising number.
+    /// Makes a call that arranges the layers of all slots, whose cells are given in rising number. After it ran out of memory the parts
+    /// stand for the same desks as before. They need not be the same values: room that was made in a cell before another cell's ran out
+    /// may stay, and no desk tells of room. An engine's own function may say more, as that all is as before but for such room.
     fn all(
         &self,
         alloc: Global,
@@ -87,9 +81,8 @@ pub trait Engine: Drop + Sync {
     ) -> Result<Reply, AllocError>
         requires class { class_of call.now ≡ OnAll }
         requires fits { IsTrue (call_fits (sizes self.now) call.now) }
-        requires desk { (d : Desk) × AreParts (info_is (sizes self.now)) number cell_is (sizes self.now) (assets self.now) info.old cells.old d }
+        requires desk { (d : Desk) × AreParts relations (sizes self.now) (assets self.now) info.old cells.old d }
         ensures step { IfOk result (λ r.
-            IsAllStep (info_is (sizes self.now)) number cell_is (sizes self.now) (assets self.now) info.old cells.old task call.now r info.new cells.new) }
-        ensures unchanged { OnErr result
-            (AreStill (info_is (sizes self.now)) number cell_is (sizes self.now) (assets self.now) info.old cells.old info.new cells.new) };
+            IsAllStep relations (sizes self.now) (assets self.now) info.old cells.old task call.now r info.new cells.new) }
+        ensures unchanged { OnErr result (AreStill relations (sizes self.now) (assets self.now) info.old cells.old info.new cells.new) };
 }

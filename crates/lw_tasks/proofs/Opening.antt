@@ -8,14 +8,12 @@ use Rattle.lw_machine.specs.Desk.{Desk, empty_desk, shelf_of}
 use Rattle.lw_machine.specs.Finals.{opening_desk}
 use Rattle.lw_machine.specs.Hook.{Hook}
 use Rattle.lw_layer.specs.View.{CellView}
-use Rattle.lw_layer.specs.StandsFor.{StandsFor}
-use Rattle.lw_parts.specs.Registers.{StandForRegisters}
-use Rattle.lw_engine.specs.Layers.{InfoView, IsInfo, number_of, AreLayers, AreRegisters}
+use Rattle.lw_engine.specs.Layers.{InfoView, layer_relations, AreLayers, AreRegisters}
 use Rattle.lw_tasks.specs.Standing.{StandForDesk}
 
 -- which desks an engine's parts on layers stand for
 abbrev pub Standing : Sizes → Assets → InfoView → List CellView → List (List (List Rectangle)) → Desk → Type 0
-Standing sizes assets info cells registers = StandForDesk IsInfo number_of StandsFor StandForRegisters sizes assets info cells registers
+Standing sizes assets info cells registers = StandForDesk layer_relations sizes assets info cells registers
 
 -- they stand for the plan's desk before its first call
 pub plan_opened : (plan : Plan) (hooks : List Hook) (sizes : Sizes) (assets : Assets) (info : InfoView) (cells : List CellView) (registers : List (List (List Rectangle)))

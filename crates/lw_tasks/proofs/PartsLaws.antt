@@ -20,7 +20,7 @@ use Rattle.lw_machine.specs.Step.{after}
 use Rattle.lw_machine.proofs.Untouched.{leaves_the_rest}
 use Rattle.lw_machine.proofs.ReachedSound.{step_sound, after_sizes}
 use Rattle.lw_machine.proofs.Locality.{after_assets}
-use Rattle.lw_steps.specs.Steps.{IsDeskOf, IsRegsStep, IsLookStep, IsOneStep, IsTwoStep, AreParts, IsAllStep, AreStill}
+use Rattle.lw_steps.specs.Steps.{Relations, IsDeskOf, IsRegsStep, IsLookStep, IsOneStep, IsTwoStep, AreParts, IsAllStep, AreStill}
 use Rattle.lw_steps.proofs.ClassLaws.{after_look, after_registers}
 use Rattle.lw_tasks.specs.Standing.{StandForDesk, IsStep, StandStill, IsTwoDone}
 use Rattle.lw_tasks.proofs.ListLaws.{each_set, set_back}
@@ -40,36 +40,36 @@ touch_one call slot s class = ap (λ (k : CallClass). has_slot (slots_in k) s) c
 touch_two : (call : Call) (source slot s : ℕ) → class_of call ≡ OnLayers source slot → has_slot (slots_of call) s ≡ ((source == s) || (slot == s))
 touch_two call source slot s class = ap (λ (k : CallClass). has_slot (slots_in k) s) class
 
-module _ {I C R : Type 0} (info_is : Sizes → I → InfoPart → Type 0) (number : C → ℕ) (cell_is : C → SlotPart → Type 0) (regs_is : R → (ℕ → List Pixel) → Type 0) (sizes : Sizes) (assets : Assets) where
+module _ {I C R : Type 0} (relations : Relations I C R) (sizes : Sizes) (assets : Assets) where
   -- LayerInfo and the cells after a call that leaves LayerInfo, and these cells where it leaves the slot
   layers_after : (info : I) (cells new : List C) (d : Desk) (task : ℕ) (call : Call) → IsTrue (call_fits sizes call) → touches_info call ≡ false
-      → AreParts (info_is sizes) number cell_is sizes assets info cells d → length new ≡ length cells
-      → ((s : ℕ) (c : C) → slice_get new s ≡ Some c → (number c ≡ s) × cell_is c (slot_part (after d task call) s))
-      → AreParts (info_is sizes) number cell_is sizes assets info new (after d task call)
+      → AreParts relations sizes assets info cells d → length new ≡ length cells
+      → ((s : ℕ) (c : C) → slice_get new s ≡ Some c → (relations.number c ≡ s) × relations.cell_is c (slot_part (after d task call) s))
+      → AreParts relations sizes assets info new (after d task call)
   layers_after info cells new d task call fits apart parts long each = record {
     desk = desk_after sizes assets d task call fits parts.desk;
     many = long ∙ parts.many;
-    info = (let P : InfoPart → Type 0 = info_is sizes info in subst P (leaves_the_rest d task call Info apart) parts.info);
+    info = (let P : InfoPart → Type 0 = relations.info_is sizes info in subst P (leaves_the_rest d task call Info apart) parts.info);
     cells = each;
   }
 
   -- a cell of a slot that the call doesn't touch
-  cell_left : (cells : List C) (d : Desk) (task : ℕ) (call : Call) (s : ℕ) (c : C) → has_slot (slots_of call) s ≡ false → (number c ≡ s) × cell_is c (slot_part d s)
-      → (number c ≡ s) × cell_is c (slot_part (after d task call) s)
-  cell_left cells d task call s c left was = (let P : SlotPart → Type 0 = cell_is c in (was.0, subst P (leaves_the_rest d task call (Slot s) left) was.1))
+  cell_left : (cells : List C) (d : Desk) (task : ℕ) (call : Call) (s : ℕ) (c : C) → has_slot (slots_of call) s ≡ false → (relations.number c ≡ s) × relations.cell_is c (slot_part d s)
+      → (relations.number c ≡ s) × relations.cell_is c (slot_part (after d task call) s)
+  cell_left cells d task call s c left was = (let P : SlotPart → Type 0 = relations.cell_is c in (was.0, subst P (leaves_the_rest d task call (Slot s) left) was.1))
 
   -- the registers of all tasks after a call that isn't on registers
-  registers_left : (regs : List R) (d : Desk) (task : ℕ) (call : Call) → (class_of call ≡ OnRegisters → ⊥) → ((t : ℕ) (r : R) → slice_get regs t ≡ Some r → regs_is r (d.registers t))
-      → (t : ℕ) (r : R) → slice_get regs t ≡ Some r → regs_is r ((after d task call).registers t)
+  registers_left : (regs : List R) (d : Desk) (task : ℕ) (call : Call) → (class_of call ≡ OnRegisters → ⊥) → ((t : ℕ) (r : R) → slice_get regs t ≡ Some r → relations.regs_is r (d.registers t))
+      → (t : ℕ) (r : R) → slice_get regs t ≡ Some r → relations.regs_is r ((after d task call).registers t)
   registers_left regs d task call other all t r got =
-      let P : (ℕ → ℕ → List Pixel) → Type 0 = λ f. regs_is r (f t) in
+      let P : (ℕ → ℕ → List Pixel) → Type 0 = λ f. relations.regs_is r (f t) in
       subst P (sym (after_registers d task call other)) (all t r got)
 
   -- a call on the registers of its task
   pub regs_step : {E : Type 0} (result : Result Reply E) (info : I) (cells : List C) (regs : List R) (task : ℕ) (call : Call) (old new : R)
       → IsTrue (call_fits sizes call) → class_of call ≡ OnRegisters → slice_get regs task ≡ Some old
-      → IfOk result (λ r. IsRegsStep regs_is sizes assets old call r new)
-      → IfOk result (λ r. IsStep info_is number cell_is regs_is sizes assets info cells regs task call r info cells (set regs task new))
+      → IfOk result (λ r. IsRegsStep relations sizes assets old call r new)
+      → IfOk result (λ r. IsStep relations sizes assets info cells regs task call r info cells (set regs task new))
   regs_step (Ok r) info cells regs task call old new fits class got step =
       λ d stands.
       let made = step d task stands.layers.desk (stands.registers task old got) in (
@@ -78,9 +78,9 @@ module _ {I C R : Type 0} (info_is : Sizes → I → InfoPart → Type 0) (numbe
           layers = layers_after info cells cells d task call fits (ap is_on_info class) stands.layers refl
               (λ s c there. cell_left cells d task call s c (ap (λ (k : CallClass). has_slot (slots_in k) s) class) (stands.layers.cells s c there));
           tasks = length-set regs task new ∙ stands.tasks;
-          registers = each_set (λ t q. regs_is q ((after d task call).registers t)) regs task new (slice_get_within regs task old got) made.1
+          registers = each_set (λ t q. relations.regs_is q ((after d task call).registers t)) regs task new (slice_get_within regs task old got) made.1
               (λ t q other there.
-              let P : (ℕ → List Pixel) → Type 0 = regs_is q in
+              let P : (ℕ → List Pixel) → Type 0 = relations.regs_is q in
               subst P (leaves_the_rest d task call (Task t) (ne_eqb task t (λ back. other (sym back)))) (stands.registers t q there));
         },
       )
@@ -88,35 +88,35 @@ module _ {I C R : Type 0} (info_is : Sizes → I → InfoPart → Type 0) (numbe
 
   pub regs_still : {E : Type 0} (result : Result Reply E) (info : I) (cells : List C) (regs : List R) (task : ℕ) (old new : R)
       → slice_get regs task ≡ Some old → OnErr result (new ≡ old)
-      → OnErr result (StandStill info_is number cell_is regs_is sizes assets info cells regs info cells (set regs task new))
+      → OnErr result (StandStill relations sizes assets info cells regs info cells (set regs task new))
   regs_still (Ok r) info cells regs task old new got same = tt
   regs_still (Err x) info cells regs task old new got same =
       λ d stands.
-      let P : List R → Type 0 = λ q. StandForDesk info_is number cell_is regs_is sizes assets info cells q d in
+      let P : List R → Type 0 = λ q. StandForDesk relations sizes assets info cells q d in
       subst P (sym (set_back regs task old new got same)) stands
 
   -- a look at LayerInfo
   pub look_step : (info : I) (cells : List C) (regs : List R) (task : ℕ) (call : Call) (r : Reply) → class_of call ≡ OnInfo
-      → IsLookStep (info_is sizes) sizes assets info call r → IsStep info_is number cell_is regs_is sizes assets info cells regs task call r info cells regs
+      → IsLookStep relations sizes assets info call r → IsStep relations sizes assets info cells regs task call r info cells regs
   look_step info cells regs task call r class step =
       λ d stands.
-      let P : Desk → Type 0 = StandForDesk info_is number cell_is regs_is sizes assets info cells regs in
+      let P : Desk → Type 0 = StandForDesk relations sizes assets info cells regs in
       (step d task stands.layers.desk stands.layers.info, subst P (sym (after_look d task call class)) stands)
 
   -- a call on one layer
   pub one_step : {E : Type 0} (result : Result Reply E) (info : I) (cells : List C) (regs : List R) (task slot : ℕ) (call : Call) (old new : C) (held : R)
-      → IsTrue (call_fits sizes call) → class_of call ≡ OnLayer slot → slice_get cells slot ≡ Some old → number old ≡ slot → number new ≡ number old → slice_get regs task ≡ Some held
-      → IfOk result (λ r. IsOneStep number cell_is regs_is sizes assets old held task call r new)
-      → IfOk result (λ r. IsStep info_is number cell_is regs_is sizes assets info cells regs task call r info (set cells slot new) regs)
+      → IsTrue (call_fits sizes call) → class_of call ≡ OnLayer slot → slice_get cells slot ≡ Some old → relations.number old ≡ slot → relations.number new ≡ relations.number old → slice_get regs task ≡ Some held
+      → IfOk result (λ r. IsOneStep relations sizes assets old held task call r new)
+      → IfOk result (λ r. IsStep relations sizes assets info cells regs task call r info (set cells slot new) regs)
   one_step (Ok r) info cells regs task slot call old new held fits class got here same read step =
       λ d stands.
-      let P : ℕ → Type 0 = λ n. cell_is old (slot_part d n) in
-      let Q : ℕ → Type 0 = λ n. cell_is new (slot_part (after d task call) n) in
+      let P : ℕ → Type 0 = λ n. relations.cell_is old (slot_part d n) in
+      let Q : ℕ → Type 0 = λ n. relations.cell_is new (slot_part (after d task call) n) in
       let made = step d stands.layers.desk (subst P (sym here) (stands.layers.cells slot old got).1) (stands.registers task held read) in (
         made.0,
         record {
           layers = layers_after info cells (set cells slot new) d task call fits (ap is_on_info class) stands.layers (length-set cells slot new)
-              (each_set (λ s c. (number c ≡ s) × cell_is c (slot_part (after d task call) s)) cells slot new (slice_get_within cells slot old got)
+              (each_set (λ s c. (relations.number c ≡ s) × relations.cell_is c (slot_part (after d task call) s)) cells slot new (slice_get_within cells slot old got)
               (same ∙ here, subst Q here made.1)
               (λ s c other there. cell_left cells d task call s c (touch_one call slot s class ∙ ne_eqb slot s (λ back. other (sym back))) (stands.layers.cells s c there)));
           tasks = stands.tasks;
@@ -127,30 +127,30 @@ module _ {I C R : Type 0} (info_is : Sizes → I → InfoPart → Type 0) (numbe
 
   pub one_still : {E : Type 0} (result : Result Reply E) (info : I) (cells : List C) (regs : List R) (slot : ℕ) (old new : C)
       → slice_get cells slot ≡ Some old → OnErr result (new ≡ old)
-      → OnErr result (StandStill info_is number cell_is regs_is sizes assets info cells regs info (set cells slot new) regs)
+      → OnErr result (StandStill relations sizes assets info cells regs info (set cells slot new) regs)
   one_still (Ok r) info cells regs slot old new got same = tt
   one_still (Err x) info cells regs slot old new got same =
       λ d stands.
-      let P : List C → Type 0 = λ q. StandForDesk info_is number cell_is regs_is sizes assets info q regs d in
+      let P : List C → Type 0 = λ q. StandForDesk relations sizes assets info q regs d in
       subst P (sym (set_back cells slot old new got same)) stands
 
   -- a call on two layers
   pub two_step : (r : Reply) (info : I) (cells : List C) (regs : List R) (task from slot : ℕ) (call : Call) (source old new : C)
-      → IsTrue (call_fits sizes call) → class_of call ≡ OnLayers from slot → slice_get cells from ≡ Some source → number source ≡ from
-      → slice_get cells slot ≡ Some old → number old ≡ slot → number new ≡ number old
-      → IsTwoStep number cell_is sizes assets source old call r new
-      → IsStep info_is number cell_is regs_is sizes assets info cells regs task call r info (set cells slot new) regs
+      → IsTrue (call_fits sizes call) → class_of call ≡ OnLayers from slot → slice_get cells from ≡ Some source → relations.number source ≡ from
+      → slice_get cells slot ≡ Some old → relations.number old ≡ slot → relations.number new ≡ relations.number old
+      → IsTwoStep relations sizes assets source old call r new
+      → IsStep relations sizes assets info cells regs task call r info (set cells slot new) regs
   two_step r info cells regs task from slot call source old new fits class first begins got here same step =
       λ d stands.
-      let F : ℕ → Type 0 = λ n. cell_is source (slot_part d n) in
-      let P : ℕ → Type 0 = λ n. cell_is old (slot_part d n) in
-      let G : ℕ → Type 0 = λ n. cell_is source (slot_part (after d task call) n) in
-      let Q : ℕ → Type 0 = λ n. cell_is new (slot_part (after d task call) n) in
+      let F : ℕ → Type 0 = λ n. relations.cell_is source (slot_part d n) in
+      let P : ℕ → Type 0 = λ n. relations.cell_is old (slot_part d n) in
+      let G : ℕ → Type 0 = λ n. relations.cell_is source (slot_part (after d task call) n) in
+      let Q : ℕ → Type 0 = λ n. relations.cell_is new (slot_part (after d task call) n) in
       let made = step d task stands.layers.desk (subst F (sym begins) (stands.layers.cells from source first).1) (subst P (sym here) (stands.layers.cells slot old got).1) in (
         made.0,
         record {
           layers = layers_after info cells (set cells slot new) d task call fits (ap is_on_info class) stands.layers (length-set cells slot new)
-              (each_set (λ s c. (number c ≡ s) × cell_is c (slot_part (after d task call) s)) cells slot new (slice_get_within cells slot old got)
+              (each_set (λ s c. (relations.number c ≡ s) × relations.cell_is c (slot_part (after d task call) s)) cells slot new (slice_get_within cells slot old got)
               (same ∙ here, subst Q here made.2)
               (λ s c other there. two_left d task call from slot s c source class other there first (stands.layers.cells s c there) (subst G begins made.1)));
           tasks = stands.tasks;
@@ -159,13 +159,13 @@ module _ {I C R : Type 0} (info_is : Sizes → I → InfoPart → Type 0) (numbe
       )
     where
       two_left : (d : Desk) (task : ℕ) (call : Call) (from slot s : ℕ) (c source : C) → class_of call ≡ OnLayers from slot → s ≢ slot → slice_get cells s ≡ Some c → slice_get cells from ≡ Some source
-          → (number c ≡ s) × cell_is c (slot_part d s) → cell_is source (slot_part (after d task call) from) → (number c ≡ s) × cell_is c (slot_part (after d task call) s)
+          → (relations.number c ≡ s) × relations.cell_is c (slot_part d s) → relations.cell_is source (slot_part (after d task call) from) → (relations.number c ≡ s) × relations.cell_is c (slot_part (after d task call) s)
       two_left d task call from slot s c source class other there first was made =
           ⊎_elim
           (λ (same : s ≡ from).
           let is : source ≡ c = cc (first, there, same) in
-          let P : ℕ → Type 0 = λ n. cell_is c (slot_part (after d task call) n) in
-          let Q : C → Type 0 = λ k. cell_is k (slot_part (after d task call) from) in
+          let P : ℕ → Type 0 = λ n. relations.cell_is c (slot_part (after d task call) n) in
+          let Q : C → Type 0 = λ k. relations.cell_is k (slot_part (after d task call) from) in
           (was.0, subst P (sym same) (subst Q is made)))
           (λ (apart : s ≢ from).
           cell_left cells d task call s c
@@ -174,8 +174,8 @@ module _ {I C R : Type 0} (info_is : Sizes → I → InfoPart → Type 0) (numbe
 
   -- a call that arranges the layers
   pub all_step : {E : Type 0} (result : Result Reply E) (info new_info : I) (cells new : List C) (regs : List R) (task : ℕ) (call : Call) → class_of call ≡ OnAll
-      → IfOk result (λ r. IsAllStep (info_is sizes) number cell_is sizes assets info cells task call r new_info new)
-      → IfOk result (λ r. IsStep info_is number cell_is regs_is sizes assets info cells regs task call r new_info new regs)
+      → IfOk result (λ r. IsAllStep relations sizes assets info cells task call r new_info new)
+      → IfOk result (λ r. IsStep relations sizes assets info cells regs task call r new_info new regs)
   all_step (Ok r) info new_info cells new regs task call class step =
       λ d stands.
       let made = step d stands.layers in
@@ -183,16 +183,16 @@ module _ {I C R : Type 0} (info_is : Sizes → I → InfoPart → Type 0) (numbe
   all_step (Err x) info new_info cells new regs task call class step = tt
 
   pub all_still : {E : Type 0} (result : Result Reply E) (info new_info : I) (cells new : List C) (regs : List R)
-      → OnErr result (AreStill (info_is sizes) number cell_is sizes assets info cells new_info new)
-      → OnErr result (StandStill info_is number cell_is regs_is sizes assets info cells regs new_info new regs)
+      → OnErr result (AreStill relations sizes assets info cells new_info new)
+      → OnErr result (StandStill relations sizes assets info cells regs new_info new regs)
   all_still (Ok r) info new_info cells new regs kept = tt
   all_still (Err x) info new_info cells new regs kept = λ d stands. record { layers = kept d stands.layers; tasks = stands.tasks; registers = stands.registers }
 
 -- what a call on two cells leaves, where these cells were lent
-pub two_done : {C : Type 0} (number : C → ℕ) (cell_is : C → SlotPart → Type 0) (sizes : Sizes) (assets : Assets) (source old x y new : C) (call : Call) (r : Reply)
-    → source ≡ x → old ≡ y → number new ≡ number old → IsTwoStep number cell_is sizes assets source old call r new
-    → IsTwoDone number cell_is sizes assets x y call r new
-two_done {C = C} number cell_is sizes assets source old x y new call r first second same step =
-    let P : C → Type 0 = λ k. IsTwoDone number cell_is sizes assets k y call r new in
-    let Q : C → Type 0 = λ k. IsTwoDone number cell_is sizes assets source k call r new in
+pub two_done : {I C R : Type 0} (relations : Relations I C R) (sizes : Sizes) (assets : Assets) (source old x y new : C) (call : Call) (r : Reply)
+    → source ≡ x → old ≡ y → relations.number new ≡ relations.number old → IsTwoStep relations sizes assets source old call r new
+    → IsTwoDone relations sizes assets x y call r new
+two_done {C = C} relations sizes assets source old x y new call r first second same step =
+    let P : C → Type 0 = λ k. IsTwoDone relations sizes assets k y call r new in
+    let Q : C → Type 0 = λ k. IsTwoDone relations sizes assets source k call r new in
     subst P first (subst Q second (record { number = same; step = step }))

@@ -14,9 +14,9 @@ use Rattle.lw_machine.specs.Desk.{Desk, empty_desk, shelf_of}
 use Rattle.lw_machine.specs.Finals.{run_final, final_of, opening_desk}
 use Rattle.lw_machine.specs.History.{machine, replies_of}
 use Rattle.lw_machine.specs.Hook.{Hook}
-use Rattle.lw_machine.specs.Parts.{SlotPart, InfoPart}
 use Rattle.lw_order.specs.Numbered.{TasksBelow}
 use Rattle.lw_layer.specs.View.{CellView}
+use Rattle.lw_steps.specs.Steps.{Relations}
 use Rattle.lw_engine.specs.Layers.{InfoView, AreLayers, AreRegisters}
 use Rattle.lw_tasks.specs.declared.answers.TaskAnswers.{TaskAnswers}
 use Rattle.lw_tasks.specs.Whole.{HaveRun, AreTickets, order_of, IsOrdered}
@@ -48,7 +48,7 @@ started d plan hooks sizes assets info cells regs is of_plan handed layers regis
       registers = subst (λ x. AreRegisters regs x) same registers;
     }
 
-module _ {I C : Type 0} (info_is : I → InfoPart → Type 0) (number : C → ℕ) (cell_is : C → SlotPart → Type 0) (d : Desk) (plan : Plan) (info : I) (cells : List C) (history : List Entry) (all : List TaskAnswers) (of_plan : d.sizes ≡ plan.sizes) (run : HaveRun info_is number cell_is d plan info cells history all) where
+module _ {I C R : Type 0} (relations : Relations I C R) (d : Desk) (plan : Plan) (info : I) (cells : List C) (history : List Entry) (all : List TaskAnswers) (of_plan : d.sizes ≡ plan.sizes) (run : HaveRun relations d plan info cells history all) where
   pub run_ordered : IsOrdered plan history
   run_ordered =
       ordered plan d history

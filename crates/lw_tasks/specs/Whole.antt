@@ -7,8 +7,7 @@ use Rattle.lw_calls.specs.Orders.{is_legal}
 use Rattle.lw_calls.specs.Plan.{Plan, task_calls, task_groups}
 use Rattle.lw_machine.specs.Desk.{Desk}
 use Rattle.lw_machine.specs.History.{machine}
-use Rattle.lw_machine.specs.Parts.{SlotPart, InfoPart}
-use Rattle.lw_steps.specs.Steps.{AreParts}
+use Rattle.lw_steps.specs.Steps.{Relations, AreParts}
 use Rattle.lw_locks.specs.Joins.{IsHistory}
 use Rattle.lw_locks.specs.Seen.{SeenPass}
 use Rattle.lw_tasks.specs.declared.answers.TaskAnswers.{TaskAnswers}
@@ -36,8 +35,8 @@ pub record IsOrdered (plan : Plan) (history : List Entry) : Type 0 where
   pub stands : entries plan [] (order_of history) ≡ history
 
 -- All tasks of a plan ran to their end in one history, and LayerInfo and the cells stand for the machine's desk after it.
-pub record HaveRun {I C : Type 0} (info_is : I → InfoPart → Type 0) (number : C → ℕ) (cell_is : C → SlotPart → Type 0) (desk : Desk) (plan : Plan) (layers : I) (cells : List C) (history : List Entry) (all : List TaskAnswers) : Type 0 where
-  pub parts : AreParts info_is number cell_is desk.sizes desk.assets layers cells (machine desk history)
+pub record HaveRun {I C R : Type 0} (relations : Relations I C R) (desk : Desk) (plan : Plan) (layers : I) (cells : List C) (history : List Entry) (all : List TaskAnswers) : Type 0 where
+  pub parts : AreParts relations desk.sizes desk.assets layers cells (machine desk history)
   pub known : IsHistory desk.sizes history
   pub many : length all ≡ plan.sizes.tasks
   pub told : AllHaveAll desk plan history all

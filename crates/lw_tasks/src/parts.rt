@@ -38,13 +38,13 @@ impl<E: Engine> Parts<E> {
     ) -> Result<Reply, AllocError>
         requires fits { IsTrue (call_fits (E.sizes engine.now) call.now) }
         requires task { task < (E.sizes engine.now).tasks }
-        requires desk { (d : Desk) × StandForDesk E.info_is E.number E.cell_is E.regs_is (E.sizes engine.now)
-            (E.assets engine.now) self.old.info self.old.cells.items self.old.registers.items d }
-        ensures step { IfOk result (λ r. IsStep E.info_is E.number E.cell_is E.regs_is (E.sizes engine.now)
-            (E.assets engine.now) self.old.info self.old.cells.items self.old.registers.items task call.now r
+        requires desk { (d : Desk) × StandForDesk E.relations (E.sizes engine.now) (E.assets engine.now)
+            self.old.info self.old.cells.items self.old.registers.items d }
+        ensures step { IfOk result (λ r. IsStep E.relations (E.sizes engine.now) (E.assets engine.now)
+            self.old.info self.old.cells.items self.old.registers.items task call.now r
             self.new.info self.new.cells.items self.new.registers.items) }
-        ensures unchanged { OnErr result (StandStill E.info_is E.number E.cell_is E.regs_is (E.sizes engine.now)
-            (E.assets engine.now) self.old.info self.old.cells.items self.old.registers.items
+        ensures unchanged { OnErr result (StandStill E.relations (E.sizes engine.now) (E.assets engine.now)
+            self.old.info self.old.cells.items self.old.registers.items
             self.new.info self.new.cells.items self.new.registers.items) }
         ensures memory { takes_memory call.now ≡ false → IsOk result }
     {
@@ -68,11 +68,11 @@ impl<E: Engine> Parts<E> {
         requires class { class_of call.now ≡ OnRegisters }
         requires fits { IsTrue (call_fits (E.sizes engine.now) call.now) }
         requires task { task < length self.old.registers.items }
-        ensures step { IfOk result (λ r. IsStep E.info_is E.number E.cell_is E.regs_is (E.sizes engine.now)
-            (E.assets engine.now) self.old.info self.old.cells.items self.old.registers.items task call.now r
+        ensures step { IfOk result (λ r. IsStep E.relations (E.sizes engine.now) (E.assets engine.now)
+            self.old.info self.old.cells.items self.old.registers.items task call.now r
             self.new.info self.new.cells.items self.new.registers.items) }
-        ensures unchanged { OnErr result (StandStill E.info_is E.number E.cell_is E.regs_is (E.sizes engine.now)
-            (E.assets engine.now) self.old.info self.old.cells.items self.old.registers.items
+        ensures unchanged { OnErr result (StandStill E.relations (E.sizes engine.now) (E.assets engine.now)
+            self.old.info self.old.cells.items self.old.registers.items
             self.new.info self.new.cells.items self.new.registers.items) }
         ensures memory { takes_memory call.now ≡ false → IsOk result }
     {
@@ -92,12 +92,12 @@ impl<E: Engine> Parts<E> {
         requires fits { IsTrue (call_fits (E.sizes engine.now) call.now) }
         requires slot { slot < length self.old.cells.items }
         requires task { task < length self.old.registers.items }
-        requires numbers { AreNumbered E.number self.old.cells.items }
-        ensures step { IfOk result (λ r. IsStep E.info_is E.number E.cell_is E.regs_is (E.sizes engine.now)
-            (E.assets engine.now) self.old.info self.old.cells.items self.old.registers.items task call.now r
+        requires numbers { AreNumbered E.relations self.old.cells.items }
+        ensures step { IfOk result (λ r. IsStep E.relations (E.sizes engine.now) (E.assets engine.now)
+            self.old.info self.old.cells.items self.old.registers.items task call.now r
             self.new.info self.new.cells.items self.new.registers.items) }
-        ensures unchanged { OnErr result (StandStill E.info_is E.number E.cell_is E.regs_is (E.sizes engine.now)
-            (E.assets engine.now) self.old.info self.old.cells.items self.old.registers.items
+        ensures unchanged { OnErr result (StandStill E.relations (E.sizes engine.now) (E.assets engine.now)
+            self.old.info self.old.cells.items self.old.registers.items
             self.new.info self.new.cells.items self.new.registers.items) }
         ensures memory { takes_memory call.now ≡ false → IsOk result }
     {
@@ -111,9 +111,9 @@ impl<E: Engine> Parts<E> {
         requires fits { IsTrue (call_fits (E.sizes engine.now) call.now) }
         requires source { source < length self.old.cells.items }
         requires slot { slot < length self.old.cells.items }
-        requires numbers { AreNumbered E.number self.old.cells.items }
-        ensures { (task : ℕ) → IsStep E.info_is E.number E.cell_is E.regs_is (E.sizes engine.now)
-            (E.assets engine.now) self.old.info self.old.cells.items self.old.registers.items task call.now result
+        requires numbers { AreNumbered E.relations self.old.cells.items }
+        ensures { (task : ℕ) → IsStep E.relations (E.sizes engine.now) (E.assets engine.now)
+            self.old.info self.old.cells.items self.old.registers.items task call.now result
             self.new.info self.new.cells.items self.new.registers.items }
     {
         on_two(engine, self.cells.as_mut_slice(), source, slot, call)
@@ -129,13 +129,13 @@ impl<E: Engine> Parts<E> {
     ) -> Result<Reply, AllocError>
         requires class { class_of call.now ≡ OnAll }
         requires fits { IsTrue (call_fits (E.sizes engine.now) call.now) }
-        requires desk { (d : Desk) × AreParts (E.info_is (E.sizes engine.now)) E.number E.cell_is (E.sizes engine.now)
-            (E.assets engine.now) self.old.info self.old.cells.items d }
-        ensures step { IfOk result (λ r. IsStep E.info_is E.number E.cell_is E.regs_is (E.sizes engine.now)
-            (E.assets engine.now) self.old.info self.old.cells.items self.old.registers.items task call.now r
+        requires desk { (d : Desk) × AreParts E.relations (E.sizes engine.now) (E.assets engine.now)
+            self.old.info self.old.cells.items d }
+        ensures step { IfOk result (λ r. IsStep E.relations (E.sizes engine.now) (E.assets engine.now)
+            self.old.info self.old.cells.items self.old.registers.items task call.now r
             self.new.info self.new.cells.items self.new.registers.items) }
-        ensures unchanged { OnErr result (StandStill E.info_is E.number E.cell_is E.regs_is (E.sizes engine.now)
-            (E.assets engine.now) self.old.info self.old.cells.items self.old.registers.items
+        ensures unchanged { OnErr result (StandStill E.relations (E.sizes engine.now) (E.assets engine.now)
+            self.old.info self.old.cells.items self.old.registers.items
             self.new.info self.new.cells.items self.new.registers.items) }
     {
         engine.all(alloc, &mut self.info, self.cells.as_mut_slice(), task, call)
@@ -154,9 +154,9 @@ fn on_two<E: Engine>(
     requires fits { IsTrue (call_fits (E.sizes engine.now) call.now) }
     requires source { source < length cells.old }
     requires slot { slot < length cells.old }
-    requires numbers { AreNumbered E.number cells.old }
+    requires numbers { AreNumbered E.relations cells.old }
     ensures { (a b : _) → slice_get cells.old source ≡ Some a → slice_get cells.old slot ≡ Some b →
-        IsSetTo (IsTwoDone E.number E.cell_is (E.sizes engine.now) (E.assets engine.now) a b call.now result) slot
+        IsSetTo (IsTwoDone E.relations (E.sizes engine.now) (E.assets engine.now) a b call.now result) slot
         cells.old cells.new }
 {
     let source = source as usize;

@@ -53,13 +53,13 @@ fn ran<E: Engine>(
     requires sizes { E.sizes engine.now ≡ plan.now.sizes }
     requires plan { IsPlan plan.now }
     requires legal { keeps_groups plan.now [] tasks.now ≡ true }
-    requires opened { (hooks : List Hook) × StandForDesk E.info_is E.number E.cell_is E.regs_is (E.sizes engine.now)
-        (E.assets engine.now) parts.info parts.cells.items parts.registers.items (opening_desk plan.now hooks) }
+    requires opened { (hooks : List Hook) × StandForDesk E.relations (E.sizes engine.now) (E.assets engine.now)
+        parts.info parts.cells.items parts.registers.items (opening_desk plan.now hooks) }
     ensures { IfOk result (λ run. (hooks : List Hook)
-        → StandForDesk E.info_is E.number E.cell_is E.regs_is (E.sizes engine.now)
-        (E.assets engine.now) parts.info parts.cells.items parts.registers.items (opening_desk plan.now hooks)
+        → StandForDesk E.relations (E.sizes engine.now) (E.assets engine.now)
+        parts.info parts.cells.items parts.registers.items (opening_desk plan.now hooks)
         → HasRun plan.now hooks (entries plan.now [] tasks.now)
-        (StandForDesk E.info_is E.number E.cell_is E.regs_is (E.sizes engine.now) (E.assets engine.now)
+        (StandForDesk E.relations (E.sizes engine.now) (E.assets engine.now)
         run.parts.info run.parts.cells.items run.parts.registers.items) run.told.items) }
 {
     let told = no_replies(alloc, plan.sizes().tasks)?;
@@ -88,13 +88,13 @@ impl<E: Engine> Run<E> {
         requires plan { IsPlan plan.now }
         requires legal { keeps_groups plan.now [] tasks.now ≡ true }
         requires opened { (hooks : List Hook) × HasRun plan.now hooks []
-            (StandForDesk E.info_is E.number E.cell_is E.regs_is (E.sizes engine.now) (E.assets engine.now)
+            (StandForDesk E.relations (E.sizes engine.now) (E.assets engine.now)
             self.old.parts.info self.old.parts.cells.items self.old.parts.registers.items) self.old.told.items }
         ensures { OnOk result ((hooks : List Hook) → HasRun plan.now hooks []
-            (StandForDesk E.info_is E.number E.cell_is E.regs_is (E.sizes engine.now) (E.assets engine.now)
+            (StandForDesk E.relations (E.sizes engine.now) (E.assets engine.now)
             self.old.parts.info self.old.parts.cells.items self.old.parts.registers.items) self.old.told.items
             → HasRun plan.now hooks (entries plan.now [] tasks.now)
-            (StandForDesk E.info_is E.number E.cell_is E.regs_is (E.sizes engine.now) (E.assets engine.now)
+            (StandForDesk E.relations (E.sizes engine.now) (E.assets engine.now)
             self.new.parts.info self.new.parts.cells.items self.new.parts.registers.items) self.new.told.items) }
     {
         for task in tasks {
@@ -116,13 +116,13 @@ impl<E: Engine> Run<E> {
         requires task { task < plan.now.sizes.tasks }
         requires lists { length self.old.told.items ≡ plan.now.sizes.tasks }
         requires left { length (slice_index_or self.old.told.items task []) < length (task_calls plan.now task) }
-        requires desk { (d : Desk) × StandForDesk E.info_is E.number E.cell_is E.regs_is (E.sizes engine.now)
-            (E.assets engine.now) self.old.parts.info self.old.parts.cells.items self.old.parts.registers.items d }
+        requires desk { (d : Desk) × StandForDesk E.relations (E.sizes engine.now) (E.assets engine.now)
+            self.old.parts.info self.old.parts.cells.items self.old.parts.registers.items d }
         ensures { OnOk result ((hooks : List Hook) (past : List Entry) → HasRun plan.now hooks past
-            (StandForDesk E.info_is E.number E.cell_is E.regs_is (E.sizes engine.now) (E.assets engine.now)
+            (StandForDesk E.relations (E.sizes engine.now) (E.assets engine.now)
             self.old.parts.info self.old.parts.cells.items self.old.parts.registers.items) self.old.told.items
             → HasRun plan.now hooks (past ++ next_of plan.now past task)
-            (StandForDesk E.info_is E.number E.cell_is E.regs_is (E.sizes engine.now) (E.assets engine.now)
+            (StandForDesk E.relations (E.sizes engine.now) (E.assets engine.now)
             self.new.parts.info self.new.parts.cells.items self.new.parts.registers.items) self.new.told.items) }
     {
         let told = &mut self.told[task as usize];

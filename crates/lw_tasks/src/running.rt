@@ -120,12 +120,12 @@ fn run_all<E: Engine, N: Opening + Send + Sync, R: Threads + Wait + Sync, G: Gat
     requires empty { N.desk ≡ empty_desk N.desk.sizes N.desk.assets N.desk.shelf }
     requires engine_sizes { E.sizes engine ≡ N.desk.sizes }
     requires engine_assets { E.assets engine ≡ N.desk.assets }
-    requires info { E.info_is N.desk.sizes info (info_part N.desk) }
+    requires info { E.relations.info_is N.desk.sizes info (info_part N.desk) }
     requires slots { vec_len cells ≡ N.desk.sizes.slots }
-    requires cells { AreCells E.number E.cell_is cells.items N.desk }
+    requires cells { AreCells E.relations cells.items N.desk }
     requires tasks { vec_len regs ≡ N.desk.sizes.tasks }
-    requires regs { AreTasksRegs E.regs_is regs.items N.desk }
-    ensures { IfOk result (λ r. HaveRun (E.info_is N.desk.sizes) E.number E.cell_is N.desk plan.now r.0.info r.0.cells.items r.0.seat.history r.1.items) }
+    requires regs { AreTasksRegs E.relations regs.items N.desk }
+    ensures { IfOk result (λ r. HaveRun E.relations N.desk plan.now r.0.info r.0.cells.items r.0.seat.history r.1.items) }
 {
     let (desk, passes) = Desk::<E, N>::start(alloc, order, seat, engine, info, cells, regs)?;
     let runs = run_each(rt, alloc, gate, plan, &desk, passes)?;

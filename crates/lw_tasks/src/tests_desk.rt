@@ -241,10 +241,10 @@ fn made<E: Engine>(
 ) -> Result<(Parts<E>, Vec<Reply>), Fail>
     requires sizes { E.sizes engine.now ≡ sizes.now }
     requires task { 0 < sizes.now.tasks }
-    requires desk { (d : Desk) × StandForDesk E.info_is E.number E.cell_is E.regs_is (E.sizes engine.now)
-        (E.assets engine.now) parts.info parts.cells.items parts.registers.items d }
-    ensures { IfOk result (λ made. (d : Desk) × StandForDesk E.info_is E.number E.cell_is E.regs_is (E.sizes engine.now)
-        (E.assets engine.now) made.0.info made.0.cells.items made.0.registers.items d) }
+    requires desk { (d : Desk) × StandForDesk E.relations (E.sizes engine.now) (E.assets engine.now)
+        parts.info parts.cells.items parts.registers.items d }
+    ensures { IfOk result (λ made. (d : Desk) × StandForDesk E.relations (E.sizes engine.now) (E.assets engine.now)
+        made.0.info made.0.cells.items made.0.registers.items d) }
 {
     let mut parts = parts;
     let mut replies = Vec::new(rt.alloc());

@@ -5,4 +5,4 @@ use Rattle.lw_bench_c.proofs.drawing.make_each.Given as goal
 abbrev pub invariant-loop-call : goal.invariant-loop-call
 invariant-loop-call g l =
     let e = g.E.Engine in
-    (d : Desk) × StandForDesk e.info_is e.number e.cell_is e.regs_is (e.sizes l.engine) (e.assets l.engine) l.parts.info l.parts.cells.items l.parts.registers.items d
+    (d : Desk) × StandForDesk e.relations (e.sizes l.engine) (e.assets l.engine) l.parts.info l.parts.cells.items l.parts.registers.items d

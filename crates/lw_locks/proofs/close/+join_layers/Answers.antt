@@ -19,5 +19,5 @@ pub returns-clause-taken : goal.returns-clause-taken
 returns-clause-taken g t c =
     let e = g.E.Engine in
     let own = c.layer.inside in
-    taken_more e.number e.cell_is g.N.Opening.desk c.join_layers.new.seat own.seat c.join.new.seat c.join_layers.new.taken.items c.push_reserved.new.self.items own.slot own.cell
+    taken_more e.relations g.N.Opening.desk c.join_layers.new.seat own.seat c.join.new.seat c.join_layers.new.taken.items c.push_reserved.new.self.items own.slot own.cell
     c.join.ensures c.join_layers.ensures.taken c.layer.invariant.number c.layer.invariant.cell c.push_reserved.ensures.items

@@ -35,8 +35,8 @@ returns-clause-regs g t c =
     let mid = c.join_passes.new.seat in
     let all = c.join_passes.new.regs in
     let mine : own.task ≡ length all.items = ap task_of c.pass.view_is ∙ (out.is ∙ (sym c.join_passes.ensures.many.0 ∙ all.ok.0)) in
-    subst (λ rs. AreRegsHeld g.E.Engine.regs_is desk c.join.new.seat rs) (sym c.push_reserved.ensures.items)
-    (regs_more g.E.Engine.regs_is desk own.task mid own.seat c.join.new.seat all.items own.regs c.join.ensures c.join_passes.ensures.regs mine c.pass.invariant.regs)
+    subst (λ rs. AreRegsHeld g.E.Engine.relations desk c.join.new.seat rs) (sym c.push_reserved.ensures.items)
+    (regs_more g.E.Engine.relations desk own.task mid own.seat c.join.new.seat all.items own.regs c.join.ensures c.join_passes.ensures.regs mine c.pass.invariant.regs)
 
 pub returns-clause-followed : goal.returns-clause-followed
 returns-clause-followed g t c =
@@ -47,4 +47,4 @@ returns-clause-followed g t c =
     let out = taken_out task_of c.as_slice.result.now whole.items rest.items off c.place_of-place.result c.len-last.result (vec_len rest) (vec_len whole) c.as_slice.ensures.value found.place (found.task off) c.len-last.ensures c.remove-pass.ensures.len
     c.remove-pass.ensures.value c.remove-pass.ensures.by_index.2 in
     let own = c.pass.inside in
-    followed_more g.E.Engine.regs_is g.N.Opening.word g.N.Opening.desk own.made c.join_passes.new.seat own.seat c.join.new.seat whole.items rest.items off (vec_len rest) own.regs c.join.ensures out c.join_passes.ensures.followed own.task c.pass.view_is c.pass.invariant
+    followed_more g.E.Engine.relations g.N.Opening.word g.N.Opening.desk own.made c.join_passes.new.seat own.seat c.join.new.seat whole.items rest.items off (vec_len rest) own.regs c.join.ensures out c.join_passes.ensures.followed own.task c.pass.view_is c.pass.invariant

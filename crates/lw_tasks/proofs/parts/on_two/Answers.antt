@@ -19,7 +19,7 @@ returns-then-source-slot g c =
     record {
       value = two.new.to;
       set = back_set all front back a.slot two.new.to cut.ensures.value cut.ensures.front_len;
-      holds = two_done e.number e.cell_is (e.sizes a.engine.now) (e.assets a.engine.now) (get_or front a.source c.index-front-source.result) (get_or back 0 c.index-back-0.result) x y two.new.to a.call.now two.result
+      holds = two_done e.relations (e.sizes a.engine.now) (e.assets a.engine.now) (get_or front a.source c.index-front-source.result) (get_or back 0 c.index-back-0.result) x y two.new.to a.call.now two.result
           (sym c.index-front-source.is ∙ front_is all front back a.source c.index-front-source.result x cut.ensures.value low c.index-front-source.is first)
           (sym c.index-back-0.is ∙ back_is all front back a.slot c.index-back-0.result y cut.ensures.value cut.ensures.front_len c.index-back-0.is second)
           two.ensures.number two.ensures.step;
@@ -41,7 +41,7 @@ returns-else-source-slot g c =
     record {
       value = two.new.to;
       set = front_set all front back a.slot two.new.to cut.ensures.value low;
-      holds = two_done e.number e.cell_is (e.sizes a.engine.now) (e.assets a.engine.now) (get_or back 0 c.index-back-0-else-source-slot.result) (get_or front a.slot c.index-front-slot.result) x y two.new.to a.call.now two.result
+      holds = two_done e.relations (e.sizes a.engine.now) (e.assets a.engine.now) (get_or back 0 c.index-back-0-else-source-slot.result) (get_or front a.slot c.index-front-slot.result) x y two.new.to a.call.now two.result
           (sym c.index-back-0-else-source-slot.is ∙ back_is all front back a.source c.index-back-0-else-source-slot.result x cut.ensures.value cut.ensures.front_len c.index-back-0-else-source-slot.is first)
           (sym c.index-front-slot.is ∙ front_is all front back a.slot c.index-front-slot.result y cut.ensures.value low c.index-front-slot.is second)
           two.ensures.number two.ensures.step;

@@ -10,7 +10,7 @@ make_all-requires-clause-opened g c κs within =
     let e = g.E.Engine in
     let engine = c.args.engine.now in
     let p = c.args.parts in
-    let standing = StandForDesk e.info_is e.number e.cell_is e.regs_is (e.sizes engine) (e.assets engine) p.info p.cells.items p.registers.items in
+    let standing = StandForDesk e.relations (e.sizes engine) (e.assets engine) p.info p.cells.items p.registers.items in
     let none : c.in_ok-told.told.items ≡ replicate c.args.plan.now.sizes.tasks [] = c.in_ok-told.ensures {u = tt} ∙ ap (λ (s : Sizes). replicate s.tasks []) c.sizes.ensures.value in
     let hooks : List Hook = c.requires.opened.0 in
     (hooks, has_run_first c.args.plan.now hooks standing c.in_ok-told.told.items none c.requires.opened.1)
@@ -20,6 +20,6 @@ returns g c =
     let e = g.E.Engine in
     let engine = c.args.engine.now in
     let p = c.args.parts in
-    let standing = StandForDesk e.info_is e.number e.cell_is e.regs_is (e.sizes engine) (e.assets engine) p.info p.cells.items p.registers.items in
+    let standing = StandForDesk e.relations (e.sizes engine) (e.assets engine) p.info p.cells.items p.registers.items in
     let none : c.in_ok-told.told.items ≡ replicate c.args.plan.now.sizes.tasks [] = c.in_ok-told.ensures {u = tt} ∙ ap (λ (s : Sizes). replicate s.tasks []) c.sizes.ensures.value in
     λ hooks opened. c.in_ok-make_all.ensures {u = tt} hooks (has_run_first c.args.plan.now hooks standing c.in_ok-told.told.items none opened)

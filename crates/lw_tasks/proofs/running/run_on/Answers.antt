@@ -7,8 +7,7 @@ use Rattle.lw_machine.specs.Desk.{Desk}
 use Rattle.lw_machine.specs.History.{machine, replies_of}
 use Rattle.lw_machine.specs.Hook.{Hook}
 use Rattle.lw_layer.specs.View.{CellView}
-use Rattle.lw_layer.specs.StandsFor.{StandsFor}
-use Rattle.lw_engine.specs.Layers.{IsInfo, number_of, AreLayers}
+use Rattle.lw_engine.specs.Layers.{layer_relations, AreLayers}
 use Rattle.lw_tasks.proofs.Started.{started, run_ordered, run_shown, run_order, run_said, run_last}
 use Rattle.lw_tasks.proofs.running.run_on.Goals as goal
 
@@ -33,7 +32,7 @@ order_by-requires-clause-tickets g c =
     let d = g.N.Opening.desk in
     let closed = c.in_ok-closed.closed in
     let of_plan : d.sizes ≡ c.args.plan.now.sizes = ap (λ (x : Desk). x.sizes) c.requires.desk in
-    run_shown (IsInfo d.sizes) number_of StandsFor d c.args.plan.now closed.info closed.cells.items closed.seat.history c.in_ok-closed.all.items of_plan (c.in_ok-closed.ensures {u = tt}) c.as_slice.result.now c.as_slice.ensures.value
+    run_shown layer_relations d c.args.plan.now closed.info closed.cells.items closed.seat.history c.in_ok-closed.all.items of_plan (c.in_ok-closed.ensures {u = tt}) c.as_slice.result.now c.as_slice.ensures.value
 
 pub returns-clause-order : goal.returns-clause-order
 returns-clause-order g c =
@@ -41,7 +40,7 @@ returns-clause-order g c =
     let plan = c.args.plan.now in
     let closed = c.in_ok-closed.closed in
     let of_plan : d.sizes ≡ plan.sizes = ap (λ (x : Desk). x.sizes) c.requires.desk in
-    let order = run_order (IsInfo d.sizes) number_of StandsFor d plan closed.info closed.cells.items closed.seat.history c.in_ok-closed.all.items of_plan (c.in_ok-closed.ensures {u = tt}) c.as_slice.result.now c.in_ok-order.order.items c.as_slice.ensures.value (c.in_ok-order.ensures {u = tt}) in
+    let order = run_order layer_relations d plan closed.info closed.cells.items closed.seat.history c.in_ok-closed.all.items of_plan (c.in_ok-closed.ensures {u = tt}) c.as_slice.result.now c.in_ok-order.order.items c.as_slice.ensures.value (c.in_ok-order.ensures {u = tt}) in
     c.new.ensures ∙ order
 
 pub returns-clause-history : goal.returns-clause-history
@@ -50,8 +49,8 @@ returns-clause-history g c =
     let plan = c.args.plan.now in
     let closed = c.in_ok-closed.closed in
     let of_plan : d.sizes ≡ plan.sizes = ap (λ (x : Desk). x.sizes) c.requires.desk in
-    let ordered = run_ordered (IsInfo d.sizes) number_of StandsFor d plan closed.info closed.cells.items closed.seat.history c.in_ok-closed.all.items of_plan (c.in_ok-closed.ensures {u = tt}) in
-    let order = run_order (IsInfo d.sizes) number_of StandsFor d plan closed.info closed.cells.items closed.seat.history c.in_ok-closed.all.items of_plan (c.in_ok-closed.ensures {u = tt}) c.as_slice.result.now c.in_ok-order.order.items c.as_slice.ensures.value (c.in_ok-order.ensures {u = tt}) in
+    let ordered = run_ordered layer_relations d plan closed.info closed.cells.items closed.seat.history c.in_ok-closed.all.items of_plan (c.in_ok-closed.ensures {u = tt}) in
+    let order = run_order layer_relations d plan closed.info closed.cells.items closed.seat.history c.in_ok-closed.all.items of_plan (c.in_ok-closed.ensures {u = tt}) c.as_slice.result.now c.in_ok-order.order.items c.as_slice.ensures.value (c.in_ok-order.ensures {u = tt}) in
     ap (entries plan []) (c.new.ensures ∙ order) ∙ ordered.stands
 
 pub returns-clause-legal : goal.returns-clause-legal
@@ -60,8 +59,8 @@ returns-clause-legal g c =
     let plan = c.args.plan.now in
     let closed = c.in_ok-closed.closed in
     let of_plan : d.sizes ≡ plan.sizes = ap (λ (x : Desk). x.sizes) c.requires.desk in
-    let ordered = run_ordered (IsInfo d.sizes) number_of StandsFor d plan closed.info closed.cells.items closed.seat.history c.in_ok-closed.all.items of_plan (c.in_ok-closed.ensures {u = tt}) in
-    let order = run_order (IsInfo d.sizes) number_of StandsFor d plan closed.info closed.cells.items closed.seat.history c.in_ok-closed.all.items of_plan (c.in_ok-closed.ensures {u = tt}) c.as_slice.result.now c.in_ok-order.order.items c.as_slice.ensures.value (c.in_ok-order.ensures {u = tt}) in
+    let ordered = run_ordered layer_relations d plan closed.info closed.cells.items closed.seat.history c.in_ok-closed.all.items of_plan (c.in_ok-closed.ensures {u = tt}) in
+    let order = run_order layer_relations d plan closed.info closed.cells.items closed.seat.history c.in_ok-closed.all.items of_plan (c.in_ok-closed.ensures {u = tt}) c.as_slice.result.now c.in_ok-order.order.items c.as_slice.ensures.value (c.in_ok-order.ensures {u = tt}) in
     subst (λ (os : List ℕ). is_legal plan os ≡ true) (sym (c.new.ensures ∙ order)) ordered.legal
 
 pub returns-clause-last : goal.returns-clause-last
@@ -75,7 +74,7 @@ returns-clause-last g c =
     let ran = c.in_ok-closed.ensures {u = tt} in
     let of_plan : d.sizes ≡ plan.sizes = ap (λ (x : Desk). x.sizes) c.requires.desk in
     let handed : d.assets ≡ plan.assets = ap (λ (x : Desk). x.assets) c.requires.desk in
-    let order = run_order (IsInfo d.sizes) number_of StandsFor d plan closed.info closed.cells.items closed.seat.history c.in_ok-closed.all.items of_plan (c.in_ok-closed.ensures {u = tt}) c.as_slice.result.now c.in_ok-order.order.items c.as_slice.ensures.value (c.in_ok-order.ensures {u = tt}) in
+    let order = run_order layer_relations d plan closed.info closed.cells.items closed.seat.history c.in_ok-closed.all.items of_plan (c.in_ok-closed.ensures {u = tt}) c.as_slice.result.now c.in_ok-order.order.items c.as_slice.ensures.value (c.in_ok-order.ensures {u = tt}) in
     let engine = c.new-engine-2.result in
     let sizes : d.sizes ≡ engine.sizes = of_plan ∙ sym (c.new-engine-2.ensures.sizes ∙ c.sizes-2.ensures.value) in
     let assets : d.assets ≡ engine.assets.now = handed ∙ sym (c.new-engine-2.ensures.assets ∙ c.assets-2.ensures) in
@@ -83,6 +82,6 @@ returns-clause-last g c =
     let A : Assets → Type 0 = λ a. AreLayers engine.sizes a closed.info closed.cells.items (machine d history) in
     let L : List CellView → Type 0 = λ q. AreLayers engine.sizes engine.assets.now closed.info q (machine d history) in
     let tasks : engine.sizes.tasks ≡ plan.sizes.tasks = ap (λ (s : Sizes). s.tasks) (c.new-engine-2.ensures.sizes ∙ c.sizes-2.ensures.value) in
-    let said = run_said (IsInfo d.sizes) number_of StandsFor d plan closed.info closed.cells.items history all of_plan ran c.in_ok-replies.replies.items (c.in_ok-replies.ensures {u = tt}) in
+    let said = run_said layer_relations d plan closed.info closed.cells.items history all of_plan ran c.in_ok-replies.replies.items (c.in_ok-replies.ensures {u = tt}) in
     let last = c.in_ok-last.ensures {u = tt} (machine d history) (λ t. replies_of d t history) (subst L (sym c.as_slice-2.ensures.value) (subst A assets (subst S sizes ran.parts))) (λ t low. said t (let under : t < plan.sizes.tasks = omega (arith, low, tasks) in under)) in
-    run_last (IsInfo d.sizes) number_of StandsFor d plan closed.info closed.cells.items history all of_plan ran hooks c.new.result c.in_ok-last.last c.requires.desk (c.new.ensures ∙ order) last
+    run_last layer_relations d plan closed.info closed.cells.items history all of_plan ran hooks c.new.result c.in_ok-last.last c.requires.desk (c.new.ensures ∙ order) last

@@ -1,7 +1,6 @@
 use Rattle.std.proofs.Common.{IfOk, OnErr, sym, subst}
-use Rattle.lw_layer.specs.StandsFor.{StandsFor}
 use Rattle.lw_steps.specs.Steps.{IsAllStep, AreStill}
-use Rattle.lw_engine.specs.Layers.{InfoView, IsInfo, number_of, AreLayers}
+use Rattle.lw_engine.specs.Layers.{InfoView, layer_relations, AreLayers}
 use Rattle.lw_engine.proofs.LayerLaws.{numbered_cells, layers_of_desk, all_made, all_still}
 use Rattle.lw_engine.proofs.layer_engine.LayerEngineEngine.all.Goals as goal
 
@@ -39,7 +38,7 @@ returns-clause-step g c =
     let P : InfoView → Type 0 = λ i. AreLayers sizes assets i a.cells.now c.requires.desk.0 in
     let first = (subst P (sym c.info.view_is) c.requires.desk.1).info.sizes in
     let Step : InfoView → Type 0 = λ i.
-    IfOk c.on_all.result (λ r. IsAllStep (IsInfo sizes) number_of StandsFor sizes assets i a.cells.now a.task a.call.now r (record { stack = v; shelf = shelf }) new)
+    IfOk c.on_all.result (λ r. IsAllStep layer_relations sizes assets i a.cells.now a.task a.call.now r (record { stack = v; shelf = shelf }) new)
     in
     subst Step c.info.view_is
     (all_made c.on_all.result sizes assets old v shelf a.cells.now new a.task a.call.now first all.sizes all.cells all.step)
@@ -55,6 +54,6 @@ returns-clause-unchanged g c =
     let shelf = c.on_all.new.shelf in
     let new = c.on_all.new.slots in
     let Still : InfoView → Type 0 = λ i.
-    OnErr c.on_all.result (AreStill (IsInfo sizes) number_of StandsFor sizes assets i a.cells.now (record { stack = v; shelf = shelf }) new)
+    OnErr c.on_all.result (AreStill layer_relations sizes assets i a.cells.now (record { stack = v; shelf = shelf }) new)
     in
     subst Still c.info.view_is (all_still c.on_all.result sizes assets old v shelf a.cells.now new c.on_all.ensures.unchanged)

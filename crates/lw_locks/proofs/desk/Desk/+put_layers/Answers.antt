@@ -9,14 +9,14 @@ put_layers-requires-clause-roles g t c κs within =
 
 pub put_layers-requires-clause-cells : goal.put_layers-requires-clause-cells
 put_layers-requires-clause-cells g t c κs within =
-    cells_front g.E.Engine.number g.E.Engine.cell_is g.N.Opening.desk c.args.cells.now.items c.pop.new.self.items c.in-Some.cell c.in-Some.ensures.items c.requires.cells
+    cells_front g.E.Engine.relations g.N.Opening.desk c.args.cells.now.items c.pop.new.self.items c.in-Some.cell c.in-Some.ensures.items c.requires.cells
 
 pub invariant_of-layer : goal.invariant_of-layer
 invariant_of-layer g t c =
     let place : c.len-slot.result ≡ length c.pop.new.self.items = c.len-slot.ensures ∙ c.pop.new.self.ok.0 in
-    layer_at_start g.E.Engine.number g.E.Engine.cell_is g.N.Opening.word g.N.Opening.desk c.len-slot.result c.split-own.result c.in-Some.cell
+    layer_at_start g.E.Engine.relations g.N.Opening.word g.N.Opening.desk c.len-slot.result c.split-own.result c.in-Some.cell
     (c.split-own.ensures.words.1 ∙ c.requires.seat_word) (c.split-own.ensures.histories.1 ∙ c.requires.history) c.split-own.ensures.given
-    (cell_last g.E.Engine.number g.E.Engine.cell_is g.N.Opening.desk c.args.cells.now.items c.pop.new.self.items c.in-Some.cell c.in-Some.ensures.items c.requires.cells c.len-slot.result place)
+    (cell_last g.E.Engine.relations g.N.Opening.desk c.args.cells.now.items c.pop.new.self.items c.in-Some.cell c.in-Some.ensures.items c.requires.cells c.len-slot.result place)
 
 pub returns-clause-tasks : goal.returns-clause-tasks
 returns-clause-tasks g t c =

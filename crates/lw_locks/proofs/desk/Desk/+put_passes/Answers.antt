@@ -9,14 +9,14 @@ put_passes-requires-clause-roles g t c κs within =
 
 pub put_passes-requires-clause-regs : goal.put_passes-requires-clause-regs
 put_passes-requires-clause-regs g t c κs within =
-    regs_front g.E.Engine.regs_is g.N.Opening.desk c.args.regs.now.items c.pop.new.self.items c.in-Some.mine c.in-Some.ensures.items c.requires.regs
+    regs_front g.E.Engine.relations g.N.Opening.desk c.args.regs.now.items c.pop.new.self.items c.in-Some.mine c.in-Some.ensures.items c.requires.regs
 
 pub invariant_of-pass : goal.invariant_of-pass
 invariant_of-pass g t c =
     let place : c.len-task.result ≡ length c.pop.new.self.items = c.len-task.ensures ∙ c.pop.new.self.ok.0 in
-    own_at_start g.E.Engine.regs_is g.N.Opening.word g.N.Opening.desk c.len-task.result c.split-own.result c.in-Some.mine
+    own_at_start g.E.Engine.relations g.N.Opening.word g.N.Opening.desk c.len-task.result c.split-own.result c.in-Some.mine
     (c.split-own.ensures.words.1 ∙ c.requires.seat_word) (c.split-own.ensures.histories.1 ∙ c.requires.history) c.split-own.ensures.given
-    (regs_last g.E.Engine.regs_is g.N.Opening.desk c.args.regs.now.items c.pop.new.self.items c.in-Some.mine c.in-Some.ensures.items c.requires.regs c.len-task.result place)
+    (regs_last g.E.Engine.relations g.N.Opening.desk c.args.regs.now.items c.pop.new.self.items c.in-Some.mine c.in-Some.ensures.items c.requires.regs c.len-task.result place)
 
 pub returns : goal.returns
 returns g t c = record {

@@ -32,7 +32,7 @@ under_slots-done-requires-clause-holding g t c κs within =
     let theirs = c.layer.inside.seat in
     let both = c.join.new.seat in
     let was = c.join.ensures in
-    holding_deeper g.N.Opening.word desk c.args.task c.layer.inside.slot c.args.next mine theirs both was c.if-layer-next.false c.requires.roles c.layer.invariant.roles e.regs_is c.args.made.now c.args.regs.now c.requires.holding
+    holding_deeper g.N.Opening.word desk c.args.task c.layer.inside.slot c.args.next mine theirs both was c.if-layer-next.false c.requires.roles c.layer.invariant.roles e.relations c.args.made.now c.args.regs.now c.requires.holding
 
 pub under_slots-done-requires-clause-held : goal.under_slots-done-requires-clause-held
 under_slots-done-requires-clause-held g t c κs within =
@@ -43,8 +43,8 @@ under_slots-done-requires-clause-held g t c κs within =
     let both = c.join.new.seat in
     let was = c.join.ensures in
     let many = sym c.args.cells.now.ok.0 ∙ c.requires.next in
-    subst (λ cs. AreHeld (e.info_is desk.sizes) e.number e.cell_is desk both c.args.info.now cs) (sym c.push_reserved.ensures.items)
-    (held_deeper g.N.Opening.word desk c.args.task c.layer.inside.slot c.args.next mine theirs both was c.if-layer-next.false c.requires.roles c.layer.invariant.roles (e.info_is desk.sizes) e.number e.cell_is c.args.info.now c.args.cells.now.items c.layer.inside.cell many c.requires.held c.layer.invariant.number c.layer.invariant.cell)
+    subst (λ cs. AreHeld e.relations desk both c.args.info.now cs) (sym c.push_reserved.ensures.items)
+    (held_deeper g.N.Opening.word desk c.args.task c.layer.inside.slot c.args.next mine theirs both was c.if-layer-next.false c.requires.roles c.layer.invariant.roles e.relations c.args.info.now c.args.cells.now.items c.layer.inside.cell many c.requires.held c.layer.invariant.number c.layer.invariant.cell)
 
 pub split-own-requires-clause-role : goal.split-own-requires-clause-role
 split-own-requires-clause-role g t c κs within =
@@ -68,7 +68,7 @@ invariant_of-back g t c =
     let deeper = c.under_slots-done.ensures.next in
     let items = c.pop.new.self.ok.0 in
     let many : length c.pop.new.self.items ≡ c.args.next = omega (arith, one_less, deeper, items) in
-    layer_back g.N.Opening.word desk c.args.task c.layer.inside.slot c.args.next mine theirs both was c.if-layer-next.false c.requires.roles c.layer.invariant.roles c.under_slots-done.new.seat c.split-own.new.seat c.split-own.result c.under_slots-done.ensures.roles c.split-own.ensures (e.info_is desk.sizes) e.number e.cell_is c.under_slots-done.new.info c.under_slots-done.new.cells.items c.pop.new.self.items c.in-Some-pop.cell c.in-Some-pop.ensures.items many c.under_slots-done.ensures.holding.seat c.under_slots-done.ensures.held
+    layer_back g.N.Opening.word desk c.args.task c.layer.inside.slot c.args.next mine theirs both was c.if-layer-next.false c.requires.roles c.layer.invariant.roles c.under_slots-done.new.seat c.split-own.new.seat c.split-own.result c.under_slots-done.ensures.roles c.split-own.ensures e.relations c.under_slots-done.new.info c.under_slots-done.new.cells.items c.pop.new.self.items c.in-Some-pop.cell c.in-Some-pop.ensures.items many c.under_slots-done.ensures.holding.seat c.under_slots-done.ensures.held
 
 pub returns-clause-roles : goal.returns-clause-roles
 returns-clause-roles g t c =
@@ -88,7 +88,7 @@ returns-clause-holding g t c =
     let theirs = c.layer.inside.seat in
     let both = c.join.new.seat in
     let was = c.join.ensures in
-    holding_back g.N.Opening.word desk c.args.task c.layer.inside.slot c.args.next mine theirs both was c.if-layer-next.false c.requires.roles c.layer.invariant.roles c.under_slots-done.new.seat c.split-own.new.seat c.split-own.result c.under_slots-done.ensures.roles c.split-own.ensures e.regs_is c.under_slots-done.new.made c.args.regs.now c.under_slots-done.ensures.holding
+    holding_back g.N.Opening.word desk c.args.task c.layer.inside.slot c.args.next mine theirs both was c.if-layer-next.false c.requires.roles c.layer.invariant.roles c.under_slots-done.new.seat c.split-own.new.seat c.split-own.result c.under_slots-done.ensures.roles c.split-own.ensures e.relations c.under_slots-done.new.made c.args.regs.now c.under_slots-done.ensures.holding
 
 pub returns-clause-held : goal.returns-clause-held
 returns-clause-held g t c =
@@ -102,7 +102,7 @@ returns-clause-held g t c =
     let deeper = c.under_slots-done.ensures.next in
     let items = c.pop.new.self.ok.0 in
     let many : length c.pop.new.self.items ≡ c.args.next = omega (arith, one_less, deeper, items) in
-    held_back g.N.Opening.word desk c.args.task c.layer.inside.slot c.args.next mine theirs both was c.if-layer-next.false c.requires.roles c.layer.invariant.roles c.under_slots-done.new.seat c.split-own.new.seat c.split-own.result c.under_slots-done.ensures.roles c.split-own.ensures (e.info_is desk.sizes) e.number e.cell_is c.under_slots-done.new.info c.under_slots-done.new.cells.items c.pop.new.self.items c.in-Some-pop.cell c.in-Some-pop.ensures.items many c.under_slots-done.ensures.held
+    held_back g.N.Opening.word desk c.args.task c.layer.inside.slot c.args.next mine theirs both was c.if-layer-next.false c.requires.roles c.layer.invariant.roles c.under_slots-done.new.seat c.split-own.new.seat c.split-own.result c.under_slots-done.ensures.roles c.split-own.ensures e.relations c.under_slots-done.new.info c.under_slots-done.new.cells.items c.pop.new.self.items c.in-Some-pop.cell c.in-Some-pop.ensures.items many c.under_slots-done.ensures.held
 
 pub returns-clause-done : goal.returns-clause-done
 returns-clause-done g t c =

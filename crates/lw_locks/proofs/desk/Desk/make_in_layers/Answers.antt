@@ -23,7 +23,7 @@ on_layers-answer-requires-clause-regs g c κs within =
     let both = c.join-2.new.seat in
     let joined = c.join.ensures in
     let again = c.join-2.ensures in
-    regs_longer desk mid both (longer_by desk mid two both again) g.E.Engine.regs_is task c.pass.inside.regs (regs_longer desk mine mid (longer_by desk mine one mid joined) g.E.Engine.regs_is task c.pass.inside.regs c.pass.invariant.regs)
+    regs_longer desk mid both (longer_by desk mid two both again) g.E.Engine.relations task c.pass.inside.regs (regs_longer desk mine mid (longer_by desk mine one mid joined) g.E.Engine.relations task c.pass.inside.regs c.pass.invariant.regs)
 
 pub on_layers-answer-requires-clause-source : goal.on_layers-answer-requires-clause-source
 on_layers-answer-requires-clause-source g c κs within =
@@ -36,7 +36,7 @@ on_layers-answer-requires-clause-source g c κs within =
     let both = c.join-2.new.seat in
     let joined = c.join.ensures in
     let again = c.join-2.ensures in
-    cell_longer desk mid both (longer_by desk mid two both again) g.E.Engine.number g.E.Engine.cell_is c.first.inside.cell (cell_longer desk one mid (their_longer desk mine one mid joined) g.E.Engine.number g.E.Engine.cell_is c.first.inside.cell c.first.invariant.cell)
+    cell_longer desk mid both (longer_by desk mid two both again) g.E.Engine.relations c.first.inside.cell (cell_longer desk one mid (their_longer desk mine one mid joined) g.E.Engine.relations c.first.inside.cell c.first.invariant.cell)
 
 pub on_layers-answer-requires-clause-to : goal.on_layers-answer-requires-clause-to
 on_layers-answer-requires-clause-to g c κs within =
@@ -49,7 +49,7 @@ on_layers-answer-requires-clause-to g c κs within =
     let both = c.join-2.new.seat in
     let joined = c.join.ensures in
     let again = c.join-2.ensures in
-    cell_longer desk two both (their_longer desk mid two both again) g.E.Engine.number g.E.Engine.cell_is c.second.inside.cell c.second.invariant.cell
+    cell_longer desk two both (their_longer desk mid two both again) g.E.Engine.relations c.second.inside.cell c.second.invariant.cell
 
 pub on_layers-answer-requires-clause-room : goal.on_layers-answer-requires-clause-room
 on_layers-answer-requires-clause-room g c κs within =
@@ -114,9 +114,9 @@ invariant_of-pass g c =
     let left_roles = roles_left off rest stepped c.split-second.new.seat c.split-second.result cut roles apart in
     let last = c.split-first.ensures in
     let has_task : Contains c.split-second.new.seat.roles (Task task) = subst (λ rs. Contains rs (Task task)) (sym left_roles) (Contains-append_left (Task task ∷ []) (Slot c.first.inside.slot ∷ []) (Task task) (Contains-push [] (Task task))) in
-    own_left g.E.Engine.regs_is g.N.Opening.word desk task (c.pass.inside.made + 1) (Slot c.first.inside.slot) c.split-second.new.seat c.split-first.new.seat c.split-first.result c.pass.inside.regs
+    own_left g.E.Engine.relations g.N.Opening.word desk task (c.pass.inside.made + 1) (Slot c.first.inside.slot) c.split-second.new.seat c.split-first.new.seat c.split-first.result c.pass.inside.regs
     (seat_at desk stepped c.split-second.new.seat cut.histories.0 g.N.Opening.word cut.words.0 c.on_layers-answer.ensures.seat)
-    (regs_at desk stepped c.split-second.new.seat cut.histories.0 g.E.Engine.regs_is task c.pass.inside.regs has_task c.on_layers-answer.ensures.regs) last left_roles refl
+    (regs_at desk stepped c.split-second.new.seat cut.histories.0 g.E.Engine.relations task c.pass.inside.regs has_task c.on_layers-answer.ensures.regs) last left_roles refl
     (counted_after ok desk both.roles task c.pass.inside.made (c.pass.inside.made + 1) both.history stepped.history c.args.call.now (λ (a : Answer). a.reply) (λ (a : Answer). a.ticket) (longer.among (Task task) c.pass.invariant.regs.has)
     (counted_joined task c.pass.inside.made mine both longer c.pass.invariant.regs.has c.pass.invariant.counted) refl c.on_layers-answer.ensures.done tt ∙ ap (count_of task) (sym cut.histories.0))
 

@@ -17,5 +17,5 @@ put_passes-requires-clause-roles g c κs within =
 pub invariant_of-info : goal.invariant_of-info
 invariant_of-info g c =
     let desk = g.N.Opening.desk in
-    info_at_start (g.E.Engine.info_is desk.sizes) g.N.Opening.word desk c.split-seat.result c.args.info
+    info_at_start g.E.Engine.relations g.N.Opening.word desk c.split-seat.result c.args.info
     (c.split-seat.ensures.words.1 ∙ c.requires.seat_word) (c.split-seat.ensures.histories.1 ∙ c.requires.history) c.split-seat.ensures.given c.requires.info

@@ -17,7 +17,7 @@ on_info-answer-requires-clause-regs g c κs within =
     let theirs = c.info.inside.seat in
     let both = c.join.new.seat in
     let joined = c.join.ensures in
-    regs_longer desk mine both (longer_by desk mine theirs both joined) g.E.Engine.regs_is task c.pass.inside.regs c.pass.invariant.regs
+    regs_longer desk mine both (longer_by desk mine theirs both joined) g.E.Engine.relations task c.pass.inside.regs c.pass.invariant.regs
 
 pub on_info-answer-requires-clause-info : goal.on_info-answer-requires-clause-info
 on_info-answer-requires-clause-info g c κs within =
@@ -27,7 +27,7 @@ on_info-answer-requires-clause-info g c κs within =
     let theirs = c.info.inside.seat in
     let both = c.join.new.seat in
     let joined = c.join.ensures in
-    info_longer desk theirs both (their_longer desk mine theirs both joined) (g.E.Engine.info_is desk.sizes) c.info.inside.info c.info.invariant.info
+    info_longer desk theirs both (their_longer desk mine theirs both joined) g.E.Engine.relations c.info.inside.info c.info.invariant.info
 
 pub on_info-answer-requires-clause-room : goal.on_info-answer-requires-clause-room
 on_info-answer-requires-clause-room g c κs within =
@@ -54,7 +54,7 @@ invariant_of-pass g c =
     let cut = c.split-seat.ensures in
     let roles : stepped.roles ≡ (Task task ∷ []) ++ Info ∷ [] =
     c.on_info-answer.ensures.roles ∙ (joined.roles ∙ (ap (λ rs. rs ++ theirs.roles) c.pass.invariant.roles ∙ ap (λ rs. (Task task ∷ []) ++ rs) c.info.invariant.roles)) in
-    own_left g.E.Engine.regs_is g.N.Opening.word desk task (c.pass.inside.made + 1) Info stepped c.split-seat.new.seat c.split-seat.result c.pass.inside.regs
+    own_left g.E.Engine.relations g.N.Opening.word desk task (c.pass.inside.made + 1) Info stepped c.split-seat.new.seat c.split-seat.result c.pass.inside.regs
     c.on_info-answer.ensures.seat c.on_info-answer.ensures.regs cut roles refl
     (counted_after ok desk both.roles task c.pass.inside.made (c.pass.inside.made + 1) both.history stepped.history c.args.call.now (λ (a : Answer). a.reply) (λ (a : Answer). a.ticket) (longer.among (Task task) c.pass.invariant.regs.has)
     (counted_joined task c.pass.inside.made mine both longer c.pass.invariant.regs.has c.pass.invariant.counted) refl c.on_info-answer.ensures.done tt)

@@ -16,7 +16,7 @@ on_layer-answer-requires-clause-regs g c κs within =
     let theirs = c.layer.inside.seat in
     let both = c.join.new.seat in
     let joined = c.join.ensures in
-    regs_longer desk mine both (longer_by desk mine theirs both joined) g.E.Engine.regs_is task c.pass.inside.regs c.pass.invariant.regs
+    regs_longer desk mine both (longer_by desk mine theirs both joined) g.E.Engine.relations task c.pass.inside.regs c.pass.invariant.regs
 
 pub on_layer-answer-requires-clause-cell : goal.on_layer-answer-requires-clause-cell
 on_layer-answer-requires-clause-cell g c κs within =
@@ -26,7 +26,7 @@ on_layer-answer-requires-clause-cell g c κs within =
     let theirs = c.layer.inside.seat in
     let both = c.join.new.seat in
     let joined = c.join.ensures in
-    cell_longer desk theirs both (their_longer desk mine theirs both joined) g.E.Engine.number g.E.Engine.cell_is c.layer.inside.cell c.layer.invariant.cell
+    cell_longer desk theirs both (their_longer desk mine theirs both joined) g.E.Engine.relations c.layer.inside.cell c.layer.invariant.cell
 
 pub on_layer-answer-requires-clause-room : goal.on_layer-answer-requires-clause-room
 on_layer-answer-requires-clause-room g c κs within =
@@ -52,7 +52,7 @@ invariant_of-pass g c =
     let cut = c.split-seat.ensures in
     let roles : stepped.roles ≡ (Task task ∷ []) ++ Slot c.layer.inside.slot ∷ [] =
     c.on_layer-answer.ensures.roles ∙ (joined.roles ∙ (ap (λ rs. rs ++ theirs.roles) c.pass.invariant.roles ∙ ap (λ rs. (Task task ∷ []) ++ rs) c.layer.invariant.roles)) in
-    own_left g.E.Engine.regs_is g.N.Opening.word desk task c.made_after-pass-inside.result (Slot c.layer.inside.slot) stepped c.split-seat.new.seat c.split-seat.result c.pass.inside.regs
+    own_left g.E.Engine.relations g.N.Opening.word desk task c.made_after-pass-inside.result (Slot c.layer.inside.slot) stepped c.split-seat.new.seat c.split-seat.result c.pass.inside.regs
     c.on_layer-answer.ensures.seat c.on_layer-answer.ensures.regs cut roles refl
     (counted_after c.on_layer-answer.result desk both.roles task c.pass.inside.made c.made_after-pass-inside.result both.history stepped.history c.args.call.now (λ (a : Answer). a.reply) (λ (a : Answer). a.ticket) (longer.among (Task task) c.pass.invariant.regs.has)
     (counted_joined task c.pass.inside.made mine both longer c.pass.invariant.regs.has c.pass.invariant.counted) c.made_after-pass-inside.ensures c.on_layer-answer.ensures.done c.on_layer-answer.ensures.same)

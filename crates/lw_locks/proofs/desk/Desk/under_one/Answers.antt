@@ -22,8 +22,8 @@ returns-then-layer-slot-clause-done g c =
 pub each_on_layer-done-requires-clause-holding : goal.each_on_layer-done-requires-clause-holding
 each_on_layer-done-requires-clause-holding g c κs within =
     let own = c.pass.inside in
-    holding_joined g.N.Opening.word g.N.Opening.desk own.task (Slot c.layer.inside.slot) own.seat c.layer.inside.seat c.join.new.seat c.join.ensures c.pass.invariant.roles c.layer.invariant.roles g.E.Engine.regs_is own.made own.regs c.pass.invariant
+    holding_joined g.N.Opening.word g.N.Opening.desk own.task (Slot c.layer.inside.slot) own.seat c.layer.inside.seat c.join.new.seat c.join.ensures c.pass.invariant.roles c.layer.invariant.roles g.E.Engine.relations own.made own.regs c.pass.invariant
 
 pub each_on_layer-done-requires-clause-stands : goal.each_on_layer-done-requires-clause-stands
 each_on_layer-done-requires-clause-stands g c κs within =
-    cell_longer g.N.Opening.desk c.layer.inside.seat c.join.new.seat (their_longer g.N.Opening.desk c.pass.inside.seat c.layer.inside.seat c.join.new.seat c.join.ensures) g.E.Engine.number g.E.Engine.cell_is c.layer.inside.cell c.layer.invariant.cell
+    cell_longer g.N.Opening.desk c.layer.inside.seat c.join.new.seat (their_longer g.N.Opening.desk c.pass.inside.seat c.layer.inside.seat c.join.new.seat c.join.ensures) g.E.Engine.relations c.layer.inside.cell c.layer.invariant.cell

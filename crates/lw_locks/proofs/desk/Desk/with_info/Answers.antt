@@ -9,13 +9,13 @@ use Rattle.lw_locks.proofs.desk.Desk.with_info.Goals as goal
 pub under_slots-done-requires-clause-holding : goal.under_slots-done-requires-clause-holding
 under_slots-done-requires-clause-holding g c κs within =
     let own = c.pass.inside in
-    holding_joined g.N.Opening.word g.N.Opening.desk own.task Info own.seat c.info.inside.seat c.join.new.seat c.join.ensures c.pass.invariant.roles c.info.invariant.roles g.E.Engine.regs_is own.made own.regs c.pass.invariant
+    holding_joined g.N.Opening.word g.N.Opening.desk own.task Info own.seat c.info.inside.seat c.join.new.seat c.join.ensures c.pass.invariant.roles c.info.invariant.roles g.E.Engine.relations own.made own.regs c.pass.invariant
 
 pub under_slots-done-requires-clause-held : goal.under_slots-done-requires-clause-held
 under_slots-done-requires-clause-held g c κs within =
     let e = g.E.Engine in
     let desk = g.N.Opening.desk in
-    info_held (e.info_is desk.sizes) e.number e.cell_is desk c.pass.inside.seat c.info.inside.seat c.join.new.seat c.info.inside.info c.args.cells.now.items c.join.ensures (sym c.args.cells.now.ok.0 ∙ c.requires.empty) c.info.invariant.info
+    info_held e.relations desk c.pass.inside.seat c.info.inside.seat c.join.new.seat c.info.inside.info c.args.cells.now.items c.join.ensures (sym c.args.cells.now.ok.0 ∙ c.requires.empty) c.info.invariant.info
 
 pub returns-clause-done : goal.returns-clause-done
 returns-clause-done g c =

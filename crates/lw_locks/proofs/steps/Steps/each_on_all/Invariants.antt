@@ -9,7 +9,7 @@ invariant-loop-call g l =
     (l.seat.roles ≡ l.initial.seat.roles)
     × (l.made ≡ l.initial.made + l.call-index)
     × (length l.answers.items ≡ length l.initial.answers.items + l.call-index)
-    × AreAllHeld (g.E.Engine.info_is desk.sizes) g.E.Engine.number g.E.Engine.cell_is desk l.seat l.info l.cells
-    × IsHolding g.E.Engine.regs_is g.N.Opening.word desk l.task l.made l.seat l.regs
+    × AreAllHeld g.E.Engine.relations desk l.seat l.info l.cells
+    × IsHolding g.E.Engine.relations g.N.Opening.word desk l.task l.made l.seat l.regs
     × Grown desk l.initial.seat.roles l.task l.initial.seat.history l.seat.history (take l.call-index l.calls) l.initial.answers.items l.answers.items
     × (vec_capacity l.answers ≡ vec_capacity l.initial.answers)

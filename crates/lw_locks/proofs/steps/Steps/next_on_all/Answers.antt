@@ -18,4 +18,4 @@ pub returns-clause-holding : goal.returns-clause-holding
 returns-clause-holding g c =
     let answer = c.in_ok-answer.answer in
     let e = c.in_ok-answer.ensures in
-    holding_after g.E.Engine.regs_is g.N.Opening.word g.N.Opening.desk c.args.task c.args.made.now c.args.seat.now c.on_all.new.seat c.args.regs.now c.args.call.now answer.reply answer.ticket c.requires.holding e.seat e.regs e.done
+    holding_after g.E.Engine.relations g.N.Opening.word g.N.Opening.desk c.args.task c.args.made.now c.args.seat.now c.on_all.new.seat c.args.regs.now c.args.call.now answer.reply answer.ticket c.requires.holding e.seat e.regs e.done

@@ -1,7 +1,6 @@
 -- A look at LayerInfo, made and stamped.
 use Rattle.std.proofs.Common.{subst}
 use Rattle.lw_calls.specs.Touches.{class_of}
-use Rattle.lw_steps.specs.Steps.{IsLookStep}
 use Rattle.lw_locks.proofs.Apart.{info_apart}
 use Rattle.lw_locks.proofs.Stepping.{IsBegun, regs_stay, look_made}
 use Rattle.lw_locks.proofs.steps.Steps.on_info.Goals as goal
@@ -19,7 +18,7 @@ returns-clause-regs g c =
     let begun : IsBegun desk sizes assets =
     record { empty = c.args.self.now.empty; limits = c.args.self.now.limits; sizes = c.args.self.now.engine_sizes; assets = c.args.self.now.engine_assets } in
     let was = c.stamp-ticket.ensures in
-    regs_stay desk sizes assets begun old new task call ticket was g.E.Engine.regs_is c.args.regs.now (info_apart (class_of call) c.requires.class) c.requires.regs
+    regs_stay desk sizes assets begun old new task call ticket was g.E.Engine.relations c.args.regs.now (info_apart (class_of call) c.requires.class) c.requires.regs
 
 pub returns-clause-info : goal.returns-clause-info
 returns-clause-info g c =
@@ -34,7 +33,7 @@ returns-clause-info g c =
     let begun : IsBegun desk sizes assets =
     record { empty = c.args.self.now.empty; limits = c.args.self.now.limits; sizes = c.args.self.now.engine_sizes; assets = c.args.self.now.engine_assets } in
     let was = c.stamp-ticket.ensures in
-    (look_made desk sizes assets begun old new task call ticket was (g.E.Engine.info_is desk.sizes) c.args.info.now c.look-reply.result c.requires.info c.requires.class (subst (λ z. IsLookStep (g.E.Engine.info_is z) sizes assets c.args.info.now call c.look-reply.result) c.args.self.now.engine_sizes c.look-reply.ensures.step)).1
+    (look_made desk sizes assets begun old new task call ticket was g.E.Engine.relations c.args.info.now c.look-reply.result c.requires.info c.requires.class c.look-reply.ensures.step).1
 
 pub returns-clause-done : goal.returns-clause-done
 returns-clause-done g c =
@@ -49,4 +48,4 @@ returns-clause-done g c =
     let begun : IsBegun desk sizes assets =
     record { empty = c.args.self.now.empty; limits = c.args.self.now.limits; sizes = c.args.self.now.engine_sizes; assets = c.args.self.now.engine_assets } in
     let was = c.stamp-ticket.ensures in
-    (look_made desk sizes assets begun old new task call ticket was (g.E.Engine.info_is desk.sizes) c.args.info.now c.look-reply.result c.requires.info c.requires.class (subst (λ z. IsLookStep (g.E.Engine.info_is z) sizes assets c.args.info.now call c.look-reply.result) c.args.self.now.engine_sizes c.look-reply.ensures.step)).0
+    (look_made desk sizes assets begun old new task call ticket was g.E.Engine.relations c.args.info.now c.look-reply.result c.requires.info c.requires.class c.look-reply.ensures.step).0

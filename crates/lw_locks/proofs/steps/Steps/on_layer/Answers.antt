@@ -17,7 +17,7 @@ returns-clause-regs g c =
     let begun : IsBegun desk sizes assets =
     record { empty = c.args.self.now.empty; limits = c.args.self.now.limits; sizes = c.args.self.now.engine_sizes; assets = c.args.self.now.engine_assets } in
     let was = c.stamp-ticket.ensures in
-    regs_stay desk sizes assets begun old new task call ticket was g.E.Engine.regs_is c.args.regs.now (layer_apart (class_of call) (g.E.Engine.number c.args.cell.now) c.requires.class) c.requires.regs
+    regs_stay desk sizes assets begun old new task call ticket was g.E.Engine.relations c.args.regs.now (layer_apart (class_of call) (g.E.Engine.relations.number c.args.cell.now) c.requires.class) c.requires.regs
 
 pub returns-clause-cell : goal.returns-clause-cell
 returns-clause-cell g c =
@@ -32,7 +32,7 @@ returns-clause-cell g c =
     let begun : IsBegun desk sizes assets =
     record { empty = c.args.self.now.empty; limits = c.args.self.now.limits; sizes = c.args.self.now.engine_sizes; assets = c.args.self.now.engine_assets } in
     let was = c.stamp-ticket.ensures in
-    (one_made desk sizes assets begun old new task call ticket was g.E.Engine.number g.E.Engine.cell_is g.E.Engine.regs_is c.args.cell.now c.one.new.cell c.args.regs.now c.in_ok-reply.reply c.requires.cell c.requires.regs c.one.ensures.number c.in_ok-reply.ensures.step).1
+    (one_made desk sizes assets begun old new task call ticket was g.E.Engine.relations c.args.cell.now c.one.new.cell c.args.regs.now c.in_ok-reply.reply c.requires.cell c.requires.regs c.one.ensures.number c.in_ok-reply.ensures.step).1
 
 pub returns-clause-done : goal.returns-clause-done
 returns-clause-done g c =
@@ -47,4 +47,4 @@ returns-clause-done g c =
     let begun : IsBegun desk sizes assets =
     record { empty = c.args.self.now.empty; limits = c.args.self.now.limits; sizes = c.args.self.now.engine_sizes; assets = c.args.self.now.engine_assets } in
     let was = c.stamp-ticket.ensures in
-    (one_made desk sizes assets begun old new task call ticket was g.E.Engine.number g.E.Engine.cell_is g.E.Engine.regs_is c.args.cell.now c.one.new.cell c.args.regs.now c.in_ok-reply.reply c.requires.cell c.requires.regs c.one.ensures.number c.in_ok-reply.ensures.step).0
+    (one_made desk sizes assets begun old new task call ticket was g.E.Engine.relations c.args.cell.now c.one.new.cell c.args.regs.now c.in_ok-reply.reply c.requires.cell c.requires.regs c.one.ensures.number c.in_ok-reply.ensures.step).0

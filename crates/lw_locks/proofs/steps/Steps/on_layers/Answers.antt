@@ -17,7 +17,7 @@ returns-clause-regs g c =
     let begun : IsBegun desk sizes assets =
     record { empty = c.args.self.now.empty; limits = c.args.self.now.limits; sizes = c.args.self.now.engine_sizes; assets = c.args.self.now.engine_assets } in
     let was = c.stamp-ticket.ensures in
-    regs_stay desk sizes assets begun old new task call ticket was g.E.Engine.regs_is c.args.regs.now (layers_apart (class_of call) (g.E.Engine.number c.args.source.now) (g.E.Engine.number c.args.to.now) c.requires.class) c.requires.regs
+    regs_stay desk sizes assets begun old new task call ticket was g.E.Engine.relations c.args.regs.now (layers_apart (class_of call) (g.E.Engine.relations.number c.args.source.now) (g.E.Engine.relations.number c.args.to.now) c.requires.class) c.requires.regs
 
 pub returns-clause-source : goal.returns-clause-source
 returns-clause-source g c =
@@ -32,7 +32,7 @@ returns-clause-source g c =
     let begun : IsBegun desk sizes assets =
     record { empty = c.args.self.now.empty; limits = c.args.self.now.limits; sizes = c.args.self.now.engine_sizes; assets = c.args.self.now.engine_assets } in
     let was = c.stamp-ticket.ensures in
-    (two_made desk sizes assets begun old new task call ticket was g.E.Engine.number g.E.Engine.cell_is c.args.source.now c.args.to.now c.two-reply.new.to c.two-reply.result c.requires.source c.requires.to c.two-reply.ensures.number c.two-reply.ensures.step).1
+    (two_made desk sizes assets begun old new task call ticket was g.E.Engine.relations c.args.source.now c.args.to.now c.two-reply.new.to c.two-reply.result c.requires.source c.requires.to c.two-reply.ensures.number c.two-reply.ensures.step).1
 
 pub returns-clause-to : goal.returns-clause-to
 returns-clause-to g c =
@@ -47,7 +47,7 @@ returns-clause-to g c =
     let begun : IsBegun desk sizes assets =
     record { empty = c.args.self.now.empty; limits = c.args.self.now.limits; sizes = c.args.self.now.engine_sizes; assets = c.args.self.now.engine_assets } in
     let was = c.stamp-ticket.ensures in
-    (two_made desk sizes assets begun old new task call ticket was g.E.Engine.number g.E.Engine.cell_is c.args.source.now c.args.to.now c.two-reply.new.to c.two-reply.result c.requires.source c.requires.to c.two-reply.ensures.number c.two-reply.ensures.step).2
+    (two_made desk sizes assets begun old new task call ticket was g.E.Engine.relations c.args.source.now c.args.to.now c.two-reply.new.to c.two-reply.result c.requires.source c.requires.to c.two-reply.ensures.number c.two-reply.ensures.step).2
 
 pub returns-clause-done : goal.returns-clause-done
 returns-clause-done g c =
@@ -62,4 +62,4 @@ returns-clause-done g c =
     let begun : IsBegun desk sizes assets =
     record { empty = c.args.self.now.empty; limits = c.args.self.now.limits; sizes = c.args.self.now.engine_sizes; assets = c.args.self.now.engine_assets } in
     let was = c.stamp-ticket.ensures in
-    (two_made desk sizes assets begun old new task call ticket was g.E.Engine.number g.E.Engine.cell_is c.args.source.now c.args.to.now c.two-reply.new.to c.two-reply.result c.requires.source c.requires.to c.two-reply.ensures.number c.two-reply.ensures.step).0
+    (two_made desk sizes assets begun old new task call ticket was g.E.Engine.relations c.args.source.now c.args.to.now c.two-reply.new.to c.two-reply.result c.requires.source c.requires.to c.two-reply.ensures.number c.two-reply.ensures.step).0

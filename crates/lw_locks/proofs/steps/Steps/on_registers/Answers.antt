@@ -15,7 +15,7 @@ returns-clause-regs g c =
     let begun : IsBegun desk sizes assets =
     record { empty = c.args.self.now.empty; limits = c.args.self.now.limits; sizes = c.args.self.now.engine_sizes; assets = c.args.self.now.engine_assets } in
     let was = c.stamp-ticket.ensures in
-    (registers_made desk sizes assets begun old new task call ticket was g.E.Engine.regs_is c.args.regs.now c.regs.new.regs c.in_ok-reply.reply c.requires.regs c.in_ok-reply.ensures.step).1
+    (registers_made desk sizes assets begun old new task call ticket was g.E.Engine.relations c.args.regs.now c.regs.new.regs c.in_ok-reply.reply c.requires.regs c.in_ok-reply.ensures.step).1
 
 pub returns-clause-done : goal.returns-clause-done
 returns-clause-done g c =
@@ -30,4 +30,4 @@ returns-clause-done g c =
     let begun : IsBegun desk sizes assets =
     record { empty = c.args.self.now.empty; limits = c.args.self.now.limits; sizes = c.args.self.now.engine_sizes; assets = c.args.self.now.engine_assets } in
     let was = c.stamp-ticket.ensures in
-    (registers_made desk sizes assets begun old new task call ticket was g.E.Engine.regs_is c.args.regs.now c.regs.new.regs c.in_ok-reply.reply c.requires.regs c.in_ok-reply.ensures.step).0
+    (registers_made desk sizes assets begun old new task call ticket was g.E.Engine.relations c.args.regs.now c.regs.new.regs c.in_ok-reply.reply c.requires.regs c.in_ok-reply.ensures.step).0

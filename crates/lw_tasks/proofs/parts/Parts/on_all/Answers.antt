@@ -14,11 +14,11 @@ returns-clause-step g c =
     let new = c.all.new.cells in
     let long : length new ≡ p.cells.len = c.all.auto.cells ∙ c.as_mut_slice.ensures.len in
     let Left : List g.row.E-Cell.Denot → Type 0 = λ q.
-    IfOk c.all.result (λ r. IsStep e.info_is e.number e.cell_is e.regs_is sizes assets p.info q p.registers.items a.task a.call.now r c.all.new.info new p.registers.items)
+    IfOk c.all.result (λ r. IsStep e.relations sizes assets p.info q p.registers.items a.task a.call.now r c.all.new.info new p.registers.items)
     in
     let Made : List g.row.E-Cell.Denot → Type 0 = λ q.
-    IfOk c.all.result (λ r. IsStep e.info_is e.number e.cell_is e.regs_is sizes assets p.info p.cells.items p.registers.items a.task a.call.now r c.all.new.info q p.registers.items)
+    IfOk c.all.result (λ r. IsStep e.relations sizes assets p.info p.cells.items p.registers.items a.task a.call.now r c.all.new.info q p.registers.items)
     in
     subst Made (sym (with_items_is p.cells new long))
     (subst Left c.as_mut_slice.ensures.value
-    (all_step e.info_is e.number e.cell_is e.regs_is sizes assets c.all.result p.info c.all.new.info c.as_mut_slice.result.now new p.registers.items a.task a.call.now c.requires.class c.all.ensures.step))
+    (all_step e.relations sizes assets c.all.result p.info c.all.new.info c.as_mut_slice.result.now new p.registers.items a.task a.call.now c.requires.class c.all.ensures.step))

@@ -20,13 +20,13 @@ returns g c =
     let second = has_entry cells a.slot c.requires.slot in
     let Lent : List g.row.E-Cell.Denot → Type 0 = λ q.
     (x y : g.row.E-Cell.Denot) → slice_get q a.source ≡ Some x → slice_get q a.slot ≡ Some y
-    → IsSetTo (IsTwoDone e.number e.cell_is sizes assets x y a.call.now c.on_two.result) a.slot q new
+    → IsSetTo (IsTwoDone e.relations sizes assets x y a.call.now c.on_two.result) a.slot q new
     in
     let done = subst Lent c.as_mut_slice.ensures.value c.on_two.ensures first.0 second.0 first.1 second.1 in
     let long : length new ≡ p.cells.len = c.on_two.auto.cells ∙ c.as_mut_slice.ensures.len in
     let Made : List g.row.E-Cell.Denot → Type 0 = λ q.
-    IsStep e.info_is e.number e.cell_is e.regs_is sizes assets p.info cells p.registers.items task a.call.now c.on_two.result p.info q p.registers.items
+    IsStep e.relations sizes assets p.info cells p.registers.items task a.call.now c.on_two.result p.info q p.registers.items
     in
     subst Made (sym (with_items_is p.cells new long ∙ done.set))
-    (two_step e.info_is e.number e.cell_is e.regs_is sizes assets c.on_two.result p.info cells p.registers.items task a.source a.slot a.call.now first.0 second.0 done.value
+    (two_step e.relations sizes assets c.on_two.result p.info cells p.registers.items task a.source a.slot a.call.now first.0 second.0 done.value
     c.requires.fits c.requires.class first.1 (c.requires.numbers a.source first.0 first.1) second.1 (c.requires.numbers a.slot second.0 second.1) done.holds.number done.holds.step)

@@ -11,7 +11,7 @@ returns-clause-step g c =
     let p = a.self.now in
     let all = p.registers.items in
     let got : slice_get all a.task ≡ Some c.index_mut.result.now = slice_get_read all (length all) a.task c.index_mut.result.now refl c.requires.task c.index_mut.ensures.value in
-    regs_step e.info_is e.number e.cell_is e.regs_is (e.sizes a.engine.now) (e.assets a.engine.now) c.regs.result p.info p.cells.items all a.task a.call.now c.index_mut.result.now c.regs.new.regs
+    regs_step e.relations (e.sizes a.engine.now) (e.assets a.engine.now) c.regs.result p.info p.cells.items all a.task a.call.now c.index_mut.result.now c.regs.new.regs
     c.requires.fits c.requires.class got c.regs.ensures.step
 
 pub returns-clause-unchanged : goal.returns-clause-unchanged
@@ -21,5 +21,5 @@ returns-clause-unchanged g c =
     let p = a.self.now in
     let all = p.registers.items in
     let got : slice_get all a.task ≡ Some c.index_mut.result.now = slice_get_read all (length all) a.task c.index_mut.result.now refl c.requires.task c.index_mut.ensures.value in
-    regs_still e.info_is e.number e.cell_is e.regs_is (e.sizes a.engine.now) (e.assets a.engine.now) c.regs.result p.info p.cells.items all a.task c.index_mut.result.now c.regs.new.regs
+    regs_still e.relations (e.sizes a.engine.now) (e.assets a.engine.now) c.regs.result p.info p.cells.items all a.task c.index_mut.result.now c.regs.new.regs
     got c.regs.ensures.unchanged

@@ -13,4 +13,4 @@ returns-in-OnInfo-clause-step g c =
     let e = g.E.Engine in
     let a = c.args in
     let p = a.self.now in
-    look_step e.info_is e.number e.cell_is e.regs_is (e.sizes a.engine.now) (e.assets a.engine.now) p.info p.cells.items p.registers.items a.task a.call.now c.look.result (sym (c.in-OnInfo.ensures {u = tt})) c.look.ensures.step
+    look_step e.relations (e.sizes a.engine.now) (e.assets a.engine.now) p.info p.cells.items p.registers.items a.task a.call.now c.look.result (sym (c.in-OnInfo.ensures {u = tt})) c.look.ensures.step

@@ -17,7 +17,7 @@ make_next-requires-clause-task g c κs within =
     let e = g.E.Engine in
     let engine = c.args.engine.now in
     let p = run.parts in
-    let standing = StandForDesk e.info_is e.number e.cell_is e.regs_is (e.sizes engine) (e.assets engine) p.info p.cells.items p.registers.items in
+    let standing = StandForDesk e.relations (e.sizes engine) (e.assets engine) p.info p.cells.items p.registers.items in
     going_task plan hooks order (drop (i + 1) order) standing run.told.items (slice_index_or order i 0) c.requires.plan (going_turn plan hooks order i standing run.told.items c.loop-task-test.true (c.loop-task.invariant hooks c.requires.opened.1))
 
 pub make_next-requires-clause-left : goal.make_next-requires-clause-left
@@ -30,7 +30,7 @@ make_next-requires-clause-left g c κs within =
     let e = g.E.Engine in
     let engine = c.args.engine.now in
     let p = run.parts in
-    let standing = StandForDesk e.info_is e.number e.cell_is e.regs_is (e.sizes engine) (e.assets engine) p.info p.cells.items p.registers.items in
+    let standing = StandForDesk e.relations (e.sizes engine) (e.assets engine) p.info p.cells.items p.registers.items in
     going_left plan hooks order (drop (i + 1) order) standing run.told.items (slice_index_or order i 0) c.requires.plan (going_turn plan hooks order i standing run.told.items c.loop-task-test.true (c.loop-task.invariant hooks c.requires.opened.1))
 
 pub loop-task-preserved : goal.loop-task-preserved
@@ -42,10 +42,10 @@ loop-task-preserved g c =
     let e = g.E.Engine in
     let engine = c.args.engine.now in
     let p = run.parts in
-    let standing = StandForDesk e.info_is e.number e.cell_is e.regs_is (e.sizes engine) (e.assets engine) p.info p.cells.items p.registers.items in
+    let standing = StandForDesk e.relations (e.sizes engine) (e.assets engine) p.info p.cells.items p.registers.items in
     let next = c.make_next.new.self in
     let q = next.parts in
-    let after = StandForDesk e.info_is e.number e.cell_is e.regs_is (e.sizes engine) (e.assets engine) q.info q.cells.items q.registers.items in
+    let after = StandForDesk e.relations (e.sizes engine) (e.assets engine) q.info q.cells.items q.registers.items in
     λ hooks opened. going_next plan hooks order (drop (i + 1) order) standing after run.told.items next.told.items (slice_index_or order i 0) (c.in_ok-make_next.ensures hooks) (going_turn plan hooks order i standing run.told.items c.loop-task-test.true (c.loop-task.invariant hooks opened))
 
 pub make_next-requires-clause-desk : goal.make_next-requires-clause-desk
@@ -65,6 +65,6 @@ returns g c =
     let e = g.E.Engine in
     let engine = c.args.engine.now in
     let p = run.parts in
-    let standing = StandForDesk e.info_is e.number e.cell_is e.regs_is (e.sizes engine) (e.assets engine) p.info p.cells.items p.registers.items in
+    let standing = StandForDesk e.relations (e.sizes engine) (e.assets engine) p.info p.cells.items p.registers.items in
     let done : length order ≤ i = omega (arith, c.loop-task-test.false) in
     λ hooks opened. going_end c.args.plan.now hooks order (drop i order) standing run.told.items (drop_all i order done) (c.loop-task.invariant hooks opened)

@@ -11,6 +11,6 @@ invariant-loop-task g l =
     let old = l.initial.self.parts in
     let now = l.self.parts in
     (hooks : List Hook)
-    → HasRun l.plan hooks [] (StandForDesk e.info_is e.number e.cell_is e.regs_is (e.sizes l.engine) (e.assets l.engine) old.info old.cells.items old.registers.items) l.initial.self.told.items
+    → HasRun l.plan hooks [] (StandForDesk e.relations (e.sizes l.engine) (e.assets l.engine) old.info old.cells.items old.registers.items) l.initial.self.told.items
     → IsGoing l.plan hooks l.tasks (drop l.task-index l.tasks)
-    (StandForDesk e.info_is e.number e.cell_is e.regs_is (e.sizes l.engine) (e.assets l.engine) now.info now.cells.items now.registers.items) l.self.told.items
+    (StandForDesk e.relations (e.sizes l.engine) (e.assets l.engine) now.info now.cells.items now.registers.items) l.self.told.items

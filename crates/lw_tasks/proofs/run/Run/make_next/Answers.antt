@@ -25,7 +25,7 @@ returns g c =
     on_ok_weaker c.push.result
     (λ pushed hooks past going.
     has_run_next plan hooks past
-    (StandForDesk e.info_is e.number e.cell_is e.regs_is (e.sizes engine) (e.assets engine) old.info old.cells.items old.registers.items)
-    (StandForDesk e.info_is e.number e.cell_is e.regs_is (e.sizes engine) (e.assets engine) new.info new.cells.items new.registers.items)
+    (StandForDesk e.relations (e.sizes engine) (e.assets engine) old.info old.cells.items old.registers.items)
+    (StandForDesk e.relations (e.sizes engine) (e.assets engine) new.info new.cells.items new.registers.items)
     run.told.items c.push.new.self task call c.in_ok-reply.reply c.requires.task got (c.in_ok-reply.ensures {u = tt}).step (pushed ∙ ap (λ rs. rs ++ c.in_ok-reply.reply ∷ []) place) going)
     c.push.ensures.ok
