@@ -10,7 +10,11 @@ mod task;
 #[cfg(test)]
 mod tests;
 #[cfg(test)]
+mod tests_closing;
+#[cfg(test)]
 mod tests_desk;
+#[cfg(test)]
+mod tests_overlap;
 mod threads;
 mod tickets;
 

@@ -97,8 +97,13 @@ fn run_on<B: Backfill + Send, N: Opening + Send + Sync, R: Threads + Wait + Sync
     })
 }
 
-// Runs all tasks on a desk of these parts, and takes it apart.
-fn run_all<E: Engine, N: Opening + Send + Sync, R: Threads + Wait + Sync, G: Gate + Sync>(
+/// Runs all tasks on a desk of these parts, and takes it apart.
+pub(crate) fn run_all<
+    E: Engine,
+    N: Opening + Send + Sync,
+    R: Threads + Wait + Sync,
+    G: Gate + Sync,
+>(
     rt: &R,
     alloc: Global,
     gate: &G,

@@ -25,7 +25,7 @@ const SIZES: Sizes = Sizes {
 };
 
 /// The calls of a task that creates a layer of four columns from column `x` on, with this hook, and fills its first two.
-fn calls_of_task(
+pub fn calls_of_task(
     rt: &(impl Abort + AllocGlobal),
     slot: u32,
     x: i32,
@@ -59,7 +59,7 @@ fn name(alloc: Global, bytes: &[u8]) -> Result<Text, AllocError> {
 }
 
 /// The plan of these two tasks, which has no groups.
-fn plan_of(alloc: Global, first: Vec<Call>, second: Vec<Call>) -> Result<Plan, AllocError>
+pub fn plan_of(alloc: Global, first: Vec<Call>, second: Vec<Call>) -> Result<Plan, AllocError>
     requires two { length first.items ≡ 2 }
     requires two_more { length second.items ≡ 2 }
     requires fit { All (λ call. IsTrue (call_fits SIZES call)) first.items }
@@ -107,7 +107,7 @@ fn fills_both<B: Backfill + Send>(
     Ok(())
 }
 
-fn are_done(replies: &Replies) -> bool {
+pub fn are_done(replies: &Replies) -> bool {
     matches!(replies.list(), [Reply::Done, Reply::Done])
 }
 

@@ -7,9 +7,22 @@ use std::thread;
 // How many turns a hold lasts at most.
 const TURNS: u32 = 50_000_000;
 
+// How many turns a test looks on to see that something doesn't happen. Where the machine is slow it may be that it only hasn't happened
+// yet: then a test passes that should have failed, and none fails that should have passed.
+const FEW_TURNS: u32 = 200_000;
+
 /// Holds until the count is at least so high, for a number of turns. Whether it was.
 pub fn waits_for(count: &AtomicU32, least: u32) -> bool {
-    for _turn in 0..TURNS {
+    comes_to(count, least, TURNS)
+}
+
+/// Looks on for fewer turns. Whether the count was at least so high.
+pub fn soon_comes_to(count: &AtomicU32, least: u32) -> bool {
+    comes_to(count, least, FEW_TURNS)
+}
+
+fn comes_to(count: &AtomicU32, least: u32, turns: u32) -> bool {
+    for _turn in 0..turns {
         if count.load(Ordering::SeqCst) >= least {
             return true;
         }
@@ -18,12 +31,14 @@ pub fn waits_for(count: &AtomicU32, least: u32) -> bool {
     false
 }
 
-/// Of each of four tasks, how many spots it passed, and a number into which each of them is worked; and how many holds ran out.
+/// Of each of four tasks, how many spots it passed, and a number into which each of them is worked; and whether a hold ran out, or a
+/// task was seen to go on that was held up.
 #[derive(Drop)]
 pub struct Spots {
     counts: [AtomicU32; 4],
     numbers: [AtomicU32; 4],
     late: AtomicU32,
+    early: AtomicU32,
 }
 
 impl Spots {
@@ -42,6 +57,7 @@ impl Spots {
                 AtomicU32::new(0),
             ],
             late: AtomicU32::new(0),
+            early: AtomicU32::new(0),
         }
     }
 
@@ -65,9 +81,19 @@ impl Spots {
         }
     }
 
-    /// Whether no hold ran out, and the calls of each of the plan's tasks passed their spots in their order.
+    /// Looks on for some turns whether a task passes so many spots, which it must not.
+    pub fn look_on(&self, task: u32, least: u32) {
+        if let Some(count) = self.counts.get(task as usize) {
+            if soon_comes_to(count, least) {
+                self.early.store(1, Ordering::SeqCst);
+            }
+        }
+    }
+
+    /// Whether no hold ran out, no task was seen to go on that was held up, and the calls of each of the plan's tasks passed their spots
+    /// in their order.
     pub fn are_due(&self, plan: &Plan) -> bool {
-        if self.late.load(Ordering::SeqCst) != 0 {
+        if self.late.load(Ordering::SeqCst) != 0 || self.early.load(Ordering::SeqCst) != 0 {
             return false;
         }
         for task in 0..plan.sizes().tasks {

@@ -1,7 +1,7 @@
 //! `run` with its tasks on threads: tasks that hold one another up, and the reports of many runs.
 use crate::Status;
 use crate::tests::{answer_through, answer_with_six};
-use crate::tests_spots::{Spots, waits_for};
+use crate::tests_spots::{Spots, soon_comes_to, waits_for};
 use crate::tests_windows::REALISTIC;
 use lw_backfill::{Backfill, Solid};
 use lw_calls::{Form, Plan};
@@ -55,19 +55,124 @@ impl Gate for FillsMeet {
     }
 }
 
-#[test]
-fn a_fill_goes_on_while_another_layer_is_held(rt: HostRuntime) -> Result<(), Fail> {
-    let alloc = rt.alloc();
-    let gate = FillsMeet {
-        spots: Spots::new(),
-    };
-    let (status, text) = answer_through(&rt, Vec::new(alloc), &gate, "run", TWO_FILLS, b"")?;
+// Runs a script through a gate that keeps these spots. They have to be due, and the report is that of its own order.
+fn runs_through<R: Threads + Wait + Abort + AllocGlobal + Sync, G: Gate + Sync>(
+    rt: &R,
+    gate: &G,
+    spots: &Spots,
+    plan: &Plan,
+    script: &[u8],
+) -> Result<(), Fail> {
+    let (status, text) = answer_through(rt, Vec::new(rt.alloc()), gate, "run", script, b"")?;
     assert_eq!(rt; status, Status::Done);
-    assert!(rt; gate.spots.are_due(&plan_of(alloc, TWO_FILLS)?));
-    let (status, again) = replayed(&rt, TWO_FILLS, text.as_slice())?;
+    assert!(rt; spots.are_due(plan));
+    let (status, again) = replayed(rt, script, text.as_slice())?;
     assert_eq!(rt; status, Status::Done);
     assert_eq!(rt; again.as_slice(), text.as_slice());
     Ok(())
+}
+
+#[test]
+fn a_fill_goes_on_while_another_layer_is_held(rt: HostRuntime) -> Result<(), Fail> {
+    let plan = plan_of(rt.alloc(), TWO_FILLS)?;
+    let gate = FillsMeet {
+        spots: Spots::new(),
+    };
+    runs_through(&rt, &gate, &gate.spots, &plan, TWO_FILLS)
+}
+
+// Two tasks that fill the same layer.
+const ONE_LAYER: &[u8] = b"screen 16 1 1
+task a
+create x smart front 0 0 3 0
+fill x 0 0 1 0
+end
+task b
+fill x 2 0 3 0
+end
+";
+
+// A gate at which task 1's fill waits until task 0's holds the layer's lock; and task 0's fill, which holds it, looks on whether task 1's
+// comes to hold it too.
+#[derive(Drop)]
+struct FillsTakeTurns {
+    spots: Spots,
+}
+
+impl Gate for FillsTakeTurns {
+    fn pass(&self, task: u32, seq: u32, spot: Spot) {
+        self.spots.note(task, seq, spot);
+        match (task, seq, spot) {
+            (1, 0, Spot::Before) => self.spots.hold(0, 5),
+            (0, 1, Spot::Under) => self.spots.look_on(1, 2),
+            _ => {}
+        }
+    }
+}
+
+#[test]
+fn a_layer_is_held_by_one_call_at_a_time(rt: HostRuntime) -> Result<(), Fail> {
+    let plan = plan_of(rt.alloc(), ONE_LAYER)?;
+    let gate = FillsTakeTurns {
+        spots: Spots::new(),
+    };
+    runs_through(&rt, &gate, &gate.spots, &plan, ONE_LAYER)
+}
+
+// A task with a layer, and a task with calls of each kind that touch others: fills, a blit, a look, a call on registers, a group on one
+// layer, and an update.
+const MANY_LAYERS: &[u8] = b"screen 48 1 1
+task a
+create x smart front 0 0 3 0
+fill x 0 0 3 0
+end
+task b
+create p smart front 8 0 11 0
+create q smart front 16 0 19 0
+create r smart front 24 0 27 0
+create s simple front 32 0 35 0
+fill p 0 0 3 0
+fill q 0 0 3 0
+fill r 0 0 3 0
+blit p 0 0 q 1 0 2 1 c0
+which 9 0
+orrect 0 0 0 3 1
+lock r
+apen r 0
+fill r 1 0 2 0
+unlock r
+refresh s
+fill s 0 0 3 0
+endrefresh s full
+end
+";
+
+// A gate at which task 0's fill waits for the other task's creations, which need every lock; task 1's next call waits until that fill
+// holds its lock; and the fill, which holds it, waits until all of task 1's calls were answered.
+#[derive(Drop)]
+struct OthersGoOn {
+    spots: Spots,
+}
+
+impl Gate for OthersGoOn {
+    fn pass(&self, task: u32, seq: u32, spot: Spot) {
+        self.spots.note(task, seq, spot);
+        match (task, seq, spot) {
+            (0, 1, Spot::Before) => self.spots.hold(1, 12),
+            (1, 4, Spot::Before) => self.spots.hold(0, 5),
+            (0, 1, Spot::Under) => self.spots.hold(1, 42),
+            _ => {}
+        }
+    }
+}
+
+#[test]
+fn other_calls_go_on_while_a_layer_is_held(rt: HostRuntime) -> Result<(), Fail> {
+    let plan = plan_of(rt.alloc(), MANY_LAYERS)?;
+    let gate = OthersGoOn {
+        spots: Spots::new(),
+    };
+    runs_through(&rt, &gate, &gate.spots, &plan, MANY_LAYERS)
 }
 
 // A layer with a hook, and a call that takes no lock.
@@ -163,6 +268,83 @@ fn a_region_call_goes_on_while_a_hook_is_turned(rt: HostRuntime) -> Result<(), F
     let (status, text) = answer_through(&rt, hooks, &gate, "run", HOOK_AND_REGION, b"")?;
     assert_eq!(rt; status, Status::Done);
     assert_eq!(rt; meeting.late.load(Ordering::SeqCst), 0);
+    let Some((_, rest)) = order_and_rest(text.as_slice()) else {
+        return Err(Fail::from("a report"));
+    };
+    assert!(rt; rest.starts_with(HOOKED_REPORT_PLANES));
+    Ok(())
+}
+
+// What a hook and a gate tell each other: that the hook was asked or turned, that it was turned, and what came too early or not at all.
+#[derive(Drop)]
+struct Watch {
+    used: AtomicU32,
+    turned: AtomicU32,
+    wrong: AtomicU32,
+}
+
+// A hook of pen 1 that tells when it is asked, and when it is turned.
+#[derive(Drop)]
+struct WatchedHook {
+    solid: Solid,
+    watch: Arc<Watch, Global>,
+}
+
+impl Backfill for WatchedHook {
+    ghost hook = { λ h. ⟦<Solid as Backfill>⟧.hook h.solid };
+
+    fn pen_at(&self, x: i32, y: i32) -> u8 {
+        self.watch.used.store(1, Ordering::SeqCst);
+        self.solid.pen_at(x, y)
+    }
+
+    fn turned(&mut self) {
+        self.watch.used.store(1, Ordering::SeqCst);
+        self.watch.turned.store(1, Ordering::SeqCst);
+        self.solid.turned();
+    }
+}
+
+// A gate that looks on, before task 0's creation, whether its hook is used; and sees after it whether the hook was turned.
+#[derive(Drop)]
+struct HookIsWatched {
+    watch: Arc<Watch, Global>,
+}
+
+impl Gate for HookIsWatched {
+    fn pass(&self, task: u32, _seq: u32, spot: Spot) {
+        let is_wrong = match (task, spot) {
+            (0, Spot::Before) => soon_comes_to(&self.watch.used, 1),
+            (0, Spot::After) => self.watch.turned.load(Ordering::SeqCst) == 0,
+            _ => false,
+        };
+        if is_wrong {
+            self.watch.wrong.store(1, Ordering::SeqCst);
+        }
+    }
+}
+
+#[test]
+fn a_hook_is_used_while_its_creation_is_made(rt: HostRuntime) -> Result<(), Fail> {
+    let alloc = rt.alloc();
+    let watch = Watch {
+        used: AtomicU32::new(0),
+        turned: AtomicU32::new(0),
+        wrong: AtomicU32::new(0),
+    };
+    let watch = Arc::new(alloc, watch)?;
+    let hook = WatchedHook {
+        solid: Solid::new(1),
+        watch: Arc::try_clone(&watch)?,
+    };
+    let gate = HookIsWatched {
+        watch: Arc::try_clone(&watch)?,
+    };
+    let mut hooks: Vec<Box<dyn Backfill + Send>> = Vec::new(alloc);
+    hooks.push(Box::new(alloc, hook)?)?;
+    let (status, text) = answer_through(&rt, hooks, &gate, "run", HOOK_AND_REGION, b"")?;
+    assert_eq!(rt; status, Status::Done);
+    assert_eq!(rt; watch.wrong.load(Ordering::SeqCst), 0);
     let Some((_, rest)) = order_and_rest(text.as_slice()) else {
         return Err(Fail::from("a report"));
     };
@@ -311,17 +493,10 @@ fn runs_as_replayed<R: Threads + Wait + Abort + AllocGlobal + Sync>(
     plan: &Plan,
     script: &[u8],
 ) -> Result<(), Fail> {
-    let alloc = rt.alloc();
     let gate = Kept {
         spots: Spots::new(),
     };
-    let (status, text) = answer_through(rt, Vec::new(alloc), &gate, "run", script, b"")?;
-    assert_eq!(rt; status, Status::Done);
-    assert!(rt; gate.spots.are_due(plan));
-    let (status, again) = replayed(rt, script, text.as_slice())?;
-    assert_eq!(rt; status, Status::Done);
-    assert_eq!(rt; again.as_slice(), text.as_slice());
-    Ok(())
+    runs_through(rt, &gate, &gate.spots, plan, script)
 }
 
 #[test]
