@@ -9,8 +9,6 @@ mod running;
 mod task;
 #[cfg(test)]
 mod tests;
-#[cfg(test)]
-mod tests_desk;
 mod threads;
 mod tickets;
 
