@@ -88,7 +88,7 @@ done
 ",
     ),
     // What is refused of a backdrop layer and of the layer in front of it, and of a name that isn't open yet, or no longer. A layer of
-    // one pixel stands in the last column.
+    // one pixel stands in the last column, and is put in front of one that is created there.
     (
         b"screen 16 1 1
 task a
@@ -108,17 +108,23 @@ behind d
 create d smart front 0 0 0 0
 which -1 0
 which 15 0
+create y smart front 14 0 15 0
+front x
+which 15 0
 end
 ",
-        b"order 16
-0 0 0 0 0 0 0 0 0 0 0 0 0 0 0 0
+        b"order 19
+0 0 0 0 0 0 0 0 0 0 0 0 0 0 0 0 0 0 0
 planes 16 1 1
 plane 0
 0000
 visible x 1
 15 0 15 0
+visible y 1
+14 0 14 0
 damage x 0
-replies a 16
+damage y 0
+replies a 19
 ok
 ok
 backdrop
@@ -134,6 +140,9 @@ ok
 not-open
 already-open
 none
+layer x
+ok
+ok
 layer x
 done
 ",
