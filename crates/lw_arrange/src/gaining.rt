@@ -144,6 +144,3 @@ fn has_corners(inner: &Rect, rect: &Rect) -> bool
     inner.has(i32::from(rect.min_x()), i32::from(rect.min_y()))
         && inner.has(i32::from(rect.max_x()), i32::from(rect.max_y()))
 }
-
-#[cfg(test)]
-mod tests;

@@ -185,6 +185,3 @@ fn replace(cell: &mut Cell, state: DraftState)
     let slot = cell.slot();
     cell.take_up(Draft { slot, state });
 }
-
-#[cfg(test)]
-mod tests;

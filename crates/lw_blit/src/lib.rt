@@ -13,6 +13,3 @@ mod within_layer;
 pub use between_layers::between;
 pub use bitmaps::from_bitmap;
 pub use within_layer::{shift_rows, within};
-
-#[cfg(test)]
-mod tests;

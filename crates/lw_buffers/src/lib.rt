@@ -6,6 +6,3 @@ mod copying;
 mod shared;
 
 pub use copying::{copy_over, copy_row};
-
-#[cfg(test)]
-mod tests;

@@ -30,4 +30,3 @@ pub mod Histories
 pub mod OwnDamage
 pub mod Fitting
 pub mod Grouping
-pub mod SmallPlans

@@ -31,7 +31,5 @@ pub mod stacking;
 pub mod strokes;
 pub mod super_bitmaps;
 pub mod telling;
-#[cfg(test)]
-mod tests;
 pub mod updates;
 pub mod windows;

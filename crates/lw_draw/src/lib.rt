@@ -22,6 +22,3 @@ pub use pixels::{read_pixel, write_pixel};
 pub use rast::set_rast;
 pub use spans::{Places, edge, span};
 pub use stretch::{Stretch, next_stretch};
-
-#[cfg(test)]
-mod tests;

@@ -1,7 +1,6 @@
 pub mod FillLaws
 pub mod FrameLaws
 pub mod OverlayLaws
-pub mod TestLaws
 pub mod TitleLaws
 pub mod OwnFrameLaws
 pub mod TellingLaws

@@ -11,6 +11,3 @@ mod telling;
 pub use framing::paint_frame;
 pub use own_frame::paint_own_frame;
 pub use telling::tell;
-
-#[cfg(test)]
-mod tests;

@@ -1,5 +1,4 @@
 pub mod FillingLaws
 pub mod PaintingLaws
 pub mod RectangleLaws
-pub mod TestLaws
 pub mod TileLaws

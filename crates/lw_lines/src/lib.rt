@@ -15,8 +15,6 @@ mod lines_verb;
 mod ranges;
 mod section;
 mod statement;
-#[cfg(test)]
-mod tests;
 
 pub use acts::OpenGroup;
 pub use converted::{depth, hook, size, task_number};

@@ -5,4 +5,3 @@ pub mod OneLayerLaws
 pub mod UpdatingLaws
 pub mod BlittingLaws
 pub mod WindowLaws
-pub mod TestLaws

@@ -19,6 +19,3 @@ pub use one_layer::on_layer;
 pub use registers::on_registers;
 pub use regs::Regs;
 pub use two_layers::on_layers;
-
-#[cfg(test)]
-mod tests;

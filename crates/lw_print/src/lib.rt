@@ -10,8 +10,6 @@ mod groups;
 mod lines;
 mod making;
 mod tasks;
-#[cfg(test)]
-mod tests;
 mod verbs;
 mod whole;
 mod words;

@@ -9,7 +9,5 @@ mod planes;
 mod rects;
 mod replies;
 mod report;
-#[cfg(test)]
-mod tests;
 
 pub use report::write;

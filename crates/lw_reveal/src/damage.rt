@@ -97,6 +97,3 @@ fn left_region(
     clear_region(alloc, &out, &mut left)?;
     Ok(left)
 }
-
-#[cfg(test)]
-mod tests;

@@ -7,6 +7,3 @@ mod damage;
 mod scrolling;
 
 pub use scrolling::scroll_raster;
-
-#[cfg(test)]
-mod tests;

@@ -8,6 +8,3 @@ mod writing;
 
 pub use scrolling::scroll;
 pub use writing::write_back;
-
-#[cfg(test)]
-mod tests;

@@ -12,8 +12,6 @@ mod tests;
 #[cfg(test)]
 mod tests_closing;
 #[cfg(test)]
-mod tests_desk;
-#[cfg(test)]
 mod tests_overlap;
 mod threads;
 mod tickets;

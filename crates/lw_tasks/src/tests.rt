@@ -112,31 +112,6 @@ pub fn are_done(replies: &Replies) -> bool {
 }
 
 #[test]
-fn two_tasks_fill_their_layers_in_any_order(rt: HostRuntime) -> Result<(), Fail> {
-    let alloc = rt.alloc();
-    let first = calls_of_task(&rt, 0, 0, None)?;
-    let second = calls_of_task(&rt, 1, 8, None)?;
-    let plan = plan_of(alloc, first, second)?;
-    let none = Vec::<Solid>::new(alloc);
-    fills_both(&rt, &plan, none, &[0, 1, 0, 1], &[0xc0, 0xc0])?;
-    let none = Vec::<Solid>::new(alloc);
-    fills_both(&rt, &plan, none, &[1, 0, 1, 0], &[0xc0, 0xc0])?;
-    let none = Vec::<Solid>::new(alloc);
-    fills_both(&rt, &plan, none, &[1, 1, 0, 0], &[0xc0, 0xc0])
-}
-
-#[test]
-fn a_boxed_hook_fills_its_layer(rt: HostRuntime) -> Result<(), Fail> {
-    let alloc = rt.alloc();
-    let first = calls_of_task(&rt, 0, 0, None)?;
-    let second = calls_of_task(&rt, 1, 8, Some(0))?;
-    let plan = plan_of(alloc, first, second)?;
-    let mut hooks: Vec<Box<dyn Backfill + Send>> = Vec::new(alloc);
-    hooks.push(Box::new(alloc, Solid::new(1))?)?;
-    fills_both(&rt, &plan, hooks, &[0, 1, 0, 1], &[0xc0, 0xf0])
-}
-
-#[test]
 fn tasks_on_threads_end_as_their_order_does(rt: HostRuntime) -> Result<(), Fail> {
     let alloc = rt.alloc();
     let first = calls_of_task(&rt, 0, 0, None)?;

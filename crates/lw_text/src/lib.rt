@@ -8,6 +8,3 @@ mod minterms;
 mod template;
 
 pub use characters::{letters, letters_before};
-
-#[cfg(test)]
-mod tests;

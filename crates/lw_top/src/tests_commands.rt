@@ -1,4 +1,4 @@
-use crate::tests::{FIRST_FILL, answer_to, sink_of, source_of};
+use crate::tests::{FIRST_FILL, answer_to, answer_with_six, sink_of, source_of};
 use crate::{Status, check, replay_cmd};
 use std::test::Fail;
 
@@ -64,10 +64,19 @@ fn replay_runs_several_tasks_in_a_legal_order(rt: HostRuntime) -> Result<(), Fai
 }
 
 // A command, a script and what stands after it, and the line that is written for it.
-static REFUSED: [(&str, &[u8], &[u8], &str); 6] = [
+static REFUSED: [(&str, &[u8], &[u8], &str); 9] = [
     // Another task's call within the lock, and an order that ends too early, which is bad at its end.
     ("replay", LOCKED, b"0 0 1 0\n", "bad order at 2\n"),
     ("replay", LOCKED, b"0 0\n", "bad order at 2\n"),
+    // A number of no task, a number too many, and a number where there are no calls.
+    ("replay", LOCKED, b"0 2 0 0 1\n", "bad order at 1\n"),
+    ("replay", LOCKED, b"0 0 0 0\n", "bad order at 3\n"),
+    (
+        "replay",
+        b"screen 1 1 1\ntask a\nend\norder\n",
+        b"0\n",
+        "bad order at 0\n",
+    ),
     // A bad line comes before a bad place.
     ("replay", LOCKED, b"1 1\n16\n", "refused line 14 range\n"),
     // What a command's input doesn't have, and what it lacks.
@@ -101,11 +110,41 @@ fn commands_refuse_orders_and_inputs(rt: HostRuntime) -> Result<(), Fail> {
 const FIRST_FILL_WITH_NOTE: &[u8] =
     b"screen 16 4 1\ntask a\ncreate w smart front 0 0 7 3\nfill w 1 1 2 2\n# note\nend";
 
+// A canonical text with glyphs, a bitmap and groups.
+const CANONICAL: &[u8] = b"screen 20 10 2
+glyph 41 182442427e424200
+glyph 7e 0000000000000001
+bitmap tile 9 2 2
+ff80
+0100
+0080
+8000
+task main
+andrect 3 -1 0 5 2
+xorregion 3 4
+hold
+create back smart behind -2 1 2 6
+open win simple front 1 2 3 4 backdrop borderless nocare hook 1 ask rncai \"A b\"
+release
+lock back
+fill back -1 0 5 2
+put tile 0 1 back 2 -3 4 5 c0
+unlock back
+refresh win
+text win \"hi\"
+endrefresh win full
+which 7 -8
+end
+";
+
 #[test]
 fn check_writes_the_canonical_text(rt: HostRuntime) -> Result<(), Fail> {
     let (status, text) = answer_to(&rt, "check", FIRST_FILL_WITH_NOTE, b"")?;
     assert_eq!(rt; status, Status::Done);
     assert_eq!(rt; text.as_slice(), FIRST_FILL);
+    let (status, text) = answer_with_six(&rt, "check", CANONICAL, b"")?;
+    assert_eq!(rt; status, Status::Done);
+    assert_eq!(rt; text.as_slice(), CANONICAL);
     Ok(())
 }
 

@@ -3,7 +3,7 @@ use crate::tests::answer_to;
 use std::test::Fail;
 
 // Scripts that create layers, put them in front and behind, place them and look for them, and their reports.
-static ARRANGED: [(&[u8], &[u8]); 2] = [
+static ARRANGED: [(&[u8], &[u8]); 3] = [
     // A layer that goes to the back stays in front of the backdrop layer.
     (
         b"screen 16 1 1
@@ -84,6 +84,66 @@ ok
 out-of-bounds
 out-of-bounds
 not-super
+done
+",
+    ),
+    // What is refused of a backdrop layer and of the layer in front of it, and of a name that isn't open yet, or no longer. A layer of
+    // one pixel stands in the last column, and is put in front of one that is created there.
+    (
+        b"screen 16 1 1
+task a
+create d smart behind 0 0 3 0 backdrop
+create x smart front 4 0 7 0
+front d
+infront x d
+infront n x
+move x -32768 32767
+size x -3 0
+size x -1 0
+box x 15 0 1 1
+box x 15 0 2 1
+activate x
+close d
+behind d
+create d smart front 0 0 0 0
+which -1 0
+which 15 0
+create y smart front 14 0 15 0
+front x
+which 15 0
+end
+",
+        b"order 19
+0 0 0 0 0 0 0 0 0 0 0 0 0 0 0 0 0 0 0
+planes 16 1 1
+plane 0
+0000
+visible x 1
+15 0 15 0
+visible y 1
+14 0 14 0
+damage x 0
+damage y 0
+replies a 19
+ok
+ok
+backdrop
+backdrop
+not-open
+out-of-bounds
+ok
+out-of-bounds
+ok
+out-of-bounds
+not-window
+ok
+not-open
+already-open
+none
+layer x
+ok
+ok
+layer x
 done
 ",
     ),

@@ -44,10 +44,12 @@ const CALLS: Pieces = ("screen 16 4 1\ntask a\n", "clearregion 0\n");
 
 const BITMAPS: Pieces = ("screen 16 4 1\n", "bitmap b@ 1 1 1\n8000\n");
 
+const TASKS: Pieces = ("screen 16 4 1\n", "task t@\nend\n");
+
 const LAYERS: Pieces = ("screen 16 4 1\ntask a\n", "create n@ smart front 0 0 7 3\n");
 
 // Pieces, how many there are, what stands after them, and the first bad line with its reason.
-static COUNTED: [(Pieces, u32, &str, &str); 8] = [
+static COUNTED: [(Pieces, u32, &str, &str); 12] = [
     // A line has 512 bytes at most, its line feed aside.
     (BYTES, 513, "\n", "1 line-too-long"),
     (BYTES, 512, "\n", "1 unknown-word"),
@@ -60,6 +62,11 @@ static COUNTED: [(Pieces, u32, &str, &str); 8] = [
     // 4,096 calls of a task.
     (CALLS, 4096, "which 0 0\n", "4099 too-many"),
     (CALLS, 4095, "which 0 0\n", "4099 missing"),
+    // Names are counted through all tasks, and calls in each task anew. 16 tasks.
+    (LAYERS, 64, "end\ntask b\nfront n63\n", "70 missing"),
+    (LAYERS, 64, "end\ntask b\nfront x\n", "69 too-many"),
+    (CALLS, 4096, "end\ntask b\nwhich 0 0\n", "4102 missing"),
+    (TASKS, 16, "task u\n", "34 too-many"),
 ];
 
 // Whether `run` of a script, with six hooks, is refused on this line for this reason, with its text.

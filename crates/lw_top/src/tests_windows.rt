@@ -3,7 +3,7 @@ use crate::tests::answer_with_six;
 use std::test::Fail;
 
 // Commands, scripts with windows, and their reports.
-static WINDOWED: [(&str, &[u8], &[u8]); 4] = [
+static WINDOWED: [(&str, &[u8], &[u8]); 6] = [
     // The hook fills all with pen 1, and the frame of pen 2 is painted over it. Sized, the hook fills the new column and the pixel of
     // the old frame that lies in the inner rectangle now, which is damaged; then the whole frame is painted.
     (
@@ -194,6 +194,165 @@ ok
 ok
 ok
 out-of-bounds
+done
+",
+    ),
+    // A window that asks for all messages is told in their order. The one behind it, which is active then, shows its active frame once the
+    // first is closed; the glyph of its title is its first column.
+    (
+        "run",
+        b"screen 11 15 3
+glyph 41 8080808080808080
+task a
+open w smart front 0 0 9 14 ask rncai \"A\"
+activate w
+size w 2 1
+open v smart behind 0 0 9 14 ask rncai \"A\"
+activate v
+getmsg w
+getmsg w
+getmsg w
+getmsg w
+getmsg w
+getmsg w
+close w
+getmsg w
+getmsg v
+getmsg v
+end
+",
+        b"order 15
+0 0 0 0 0 0 0 0 0 0 0 0 0 0 0
+planes 11 15 3
+plane 0
+ff80
+ff80
+f780
+f780
+f780
+f780
+f780
+f780
+f780
+f780
+ff80
+f780
+ff80
+ff80
+0000
+plane 1
+0000
+0000
+0000
+0000
+0000
+0000
+0000
+0000
+0000
+0000
+0000
+0000
+0000
+0000
+0000
+plane 2
+0000
+0000
+0000
+0000
+0000
+0000
+0000
+0000
+0000
+0000
+0000
+0000
+0000
+0000
+0000
+visible v 1
+0 0 8 13
+damage v 0
+messages v 0
+replies a 15
+ok
+ok
+ok
+ok
+ok
+message active
+message newsize
+message change
+message refresh
+message inactive
+none
+ok
+not-open
+message active
+none
+done
+",
+    ),
+    // A title of two letters, of which the frame has room for the first, and then the other one alone, in an update: the frame is
+    // painted whole, though nothing is damaged.
+    (
+        "run",
+        b"screen 16 14 2
+glyph 41 183c66667e666600
+glyph 42 ffffffffffffffff
+task a
+open w simple front 0 0 16 14 \"\"
+title w \"BA\"
+refresh w
+title w \"A\"
+endrefresh w full
+end
+",
+        b"order 5
+0 0 0 0 0
+planes 16 14 2
+plane 0
+0000
+0000
+0180
+03c0
+0660
+0660
+07e0
+0660
+0660
+0000
+0000
+0000
+0000
+0000
+plane 1
+ffff
+ffff
+fe7f
+fc3f
+f99f
+f99f
+f81f
+f99f
+f99f
+ffff
+ffff
+f00f
+ffff
+ffff
+visible w 1
+0 0 15 13
+damage w 0
+messages w 0
+replies a 5
+ok
+ok
+ok
+ok
+ok
 done
 ",
     ),

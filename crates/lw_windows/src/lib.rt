@@ -9,6 +9,3 @@ mod messages;
 pub use bounds::inner;
 pub use frame::{Frame, frame_of};
 pub use messages::{Change, Classes, due};
-
-#[cfg(test)]
-mod tests;

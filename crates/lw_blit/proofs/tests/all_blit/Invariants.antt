@@ -1,6 +1,0 @@
-use Rattle.std.proofs.Common.{◌≡◌}
-use Rattle.lw_layer.specs.View as view
-use Rattle.lw_blit.proofs.tests.all_blit.Given as goal
-
-abbrev pub invariant-loop-step : goal.invariant-loop-step
-invariant-loop-step l = l.cell.state ≡ view.Live
