@@ -2,9 +2,7 @@
 ghost use Rattle.std.specs.Prelude.{◌≡◌, [], map};
 ghost use Rattle.lw_machine.specs.Finals.{opening_desk};
 ghost use Rattle.lw_order.specs.Roles.{all_roles};
-ghost use Rattle.lw_layer.specs.StandsFor.{StandsFor};
-ghost use Rattle.lw_parts.specs.Registers.{StandForRegisters};
-ghost use Rattle.lw_engine.specs.Layers.{IsInfo, number_of};
+ghost use Rattle.lw_engine.specs.Layers.{layer_relations};
 
 use crate::answers::TaskAnswers;
 use crate::running::run_all;
@@ -91,13 +89,7 @@ impl<'a, B: Backfill + Send> Engine for MeetingEngine<'a, B> {
 
     ghost assets = { λ e. e.layers.assets.now };
 
-    ghost number = { number_of };
-
-    ghost regs_is = { StandForRegisters };
-
-    ghost cell_is = { StandsFor };
-
-    ghost info_is = { IsInfo };
+    ghost relations = { layer_relations };
 
     fn regs(&self, alloc: Global, regs: &mut Regs, call: &Call) -> Result<Reply, AllocError> {
         self.layers.regs(alloc, regs, call)
