@@ -32,11 +32,11 @@ TakesJust_from most had bytes before between after l h e t =
 -- how far a copy of some bytes to a sink has come, from the count of faults and what was written before it
 pub record HasWritten (bytes : List ℕ) (at faults_before faults : ℕ) (before written : Option (List ℕ)) : Type 0 where
   pub in_range : at ≤ length bytes
-  pub count : faults_before ≤ faults
+  pub count : faults ≡ faults_before
   pub prefix : written ≡ bytes_after before (take at bytes)
 
 -- how far a read of all that is left has come, from the count of faults and what was left before it
 pub record HasRead (bytes : List ℕ) (limit faults_before faults : ℕ) (before left : Option (List ℕ)) : Type 0 where
   pub within : length bytes ≤ limit
-  pub count : faults_before ≤ faults
+  pub count : faults ≡ faults_before
   pub front : before ≡ bytes_before bytes left

@@ -3,6 +3,25 @@
 use Rattle.std.specs.Prelude.{◌≡◌, ℕ, ◌<◌, ◌≤◌, ◌⊎◌, List, [], ◌++◌, length, take, ⊤, Option, None, Some}
 use Rattle.std.specs.Option.{option_map}
 
+-- A stream as contracts see it: the bytes that a source has left, or that were written to a sink,
+-- where it exposes them, and the count of its faults.
+pub record Stream : Type 0 where
+  pub bytes : Option (List ℕ)
+  pub faults : ℕ
+
+-- a stream before a call and after it
+pub record StreamChange : Type 0 where
+  pub old : Stream
+  pub new : Stream
+
+-- A source or a sink before a call and after it: `change S.left S.faults source.old source.new`, or
+-- `change K.written K.faults sink.old sink.new`.
+abbrev pub change : {T : Type 0} → (T → Option (List ℕ)) → (T → ℕ) → T → T → StreamChange
+change bytes faults old new = record {
+  old = record { bytes = bytes old; faults = faults old };
+  new = record { bytes = bytes new; faults = faults new };
+}
+
 -- the count rose from before to after, or it stands at the last value of a u64
 abbrev pub Rose : ℕ → ℕ → Type 0
 Rose before after = (before < after) ⊎ (after ≡ 18446744073709551615)
@@ -34,6 +53,18 @@ TakesJust count before after =
 abbrev pub WritesPrefix : List ℕ → Option (List ℕ) → Option (List ℕ) → Type 0
 WritesPrefix bytes before after =
     (k : ℕ) × (k ≤ length bytes) × (after ≡ bytes_after before (take k bytes))
+
+-- just these bytes were taken from a source, where it exposes its bytes
+abbrev pub Took : List ℕ → StreamChange → Type 0
+Took bytes source = source.old.bytes ≡ bytes_before bytes source.new.bytes
+
+-- just these bytes were written to a sink, where it exposes its bytes
+abbrev pub Wrote : List ℕ → StreamChange → Type 0
+Wrote bytes sink = sink.new.bytes ≡ bytes_after sink.old.bytes bytes
+
+-- a call on a stream failed, by its count of faults
+abbrev pub HasFailed : StreamChange → Type 0
+HasFailed stream = Rose stream.old.faults stream.new.faults
 
 -- a list grew at its end by the bytes that were taken from the front of what was left
 abbrev pub Moves : List ℕ → List ℕ → Option (List ℕ) → Option (List ℕ) → Type 0

@@ -40,6 +40,9 @@ pub fn read_all<S: Source>(alloc: Global, source: &mut S, limit: usize) -> Resul
         → TakesJust (limit + 1) (S.left source.old) (S.left source.new) }
     ensures fault { IsErrOf result ReadStop.Fault
         → Rose (S.faults source.old) (S.faults source.new) }
+    // Any other answer, `Ok` too, comes only where no read failed.
+    ensures no_fault { ¬ IsErrOf result ReadStop.Fault
+        → S.faults source.new ≡ S.faults source.old }
 
     // After each answer.
     ensures taken { TakesAtMost (limit + 1) (S.left source.old) (S.left source.new) }
@@ -70,6 +73,8 @@ fn read_piece<S: Source>(
     ensures end { IfOk result (λ more. more ≡ false → NoneLeft (S.left source.new)) }
     ensures fault { IsErrOf result ReadStop.Fault
         → Rose (S.faults source.old) (S.faults source.new) }
+    ensures no_fault { ¬ IsErrOf result ReadStop.Fault
+        → S.faults source.new ≡ S.faults source.old }
     ensures too_long { IsErrOf result ReadStop.TooLong
         → TakesJust (limit - vec_len bytes.old + 1) (S.left source.old) (S.left source.new) }
     ensures taken { TakesAtMost (limit - vec_len bytes.old + 1)

@@ -1,4 +1,4 @@
-ghost use Rattle.std.specs.Prelude.{◌≡◌, ℕ, ◌<◌, ◌≤◌, List, length, take, IfOk, OnErr, Option};
+ghost use Rattle.std.specs.Prelude.{◌≡◌, ℕ, ◌<◌, ◌≤◌, List, length, take, IfOk, OnOk, OnErr, Option};
 ghost use Rattle.lw_io.specs.Streams.{Rose, bytes_after};
 
 use crate::Failed;
@@ -23,5 +23,6 @@ pub trait Sink {
             written self.new ≡ bytes_after (written self.old) (take n piece.now)) }
         ensures kept { OnErr result (written self.new ≡ written self.old) }
         ensures failed { OnErr result (Rose (faults self.old) (faults self.new)) }
+        ensures not_failed { OnOk result (faults self.new ≡ faults self.old) }
         ensures count { faults self.old ≤ faults self.new };
 }

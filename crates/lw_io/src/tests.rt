@@ -94,6 +94,40 @@ fn source_is_read_whole_where_no_call_fails(rt: HostRuntime) -> Result<(), Fail>
 }
 
 #[test]
+fn fault_is_answered_and_not_read_past(rt: HostRuntime) -> Result<(), Fail> {
+    let alloc = rt.alloc();
+    for (fails, behind) in [(0, 5), (1, 3), (2, 1), (3, 0)] {
+        let fails = Vec::from_slice(alloc, &[fails])?;
+        let mut source = MemSource::new(Vec::from_slice(alloc, TEXT)?, 2, fails);
+        let answer = read_all(alloc, &mut source, 9);
+        assert_eq!(rt;
+            answer.err(),
+            Some(ReadStop::Fault),
+            "{behind} bytes behind the fault"
+        );
+        // The bytes behind the fault are all there for the next call, in which no read fails.
+        let rest = read_all(alloc, &mut source, 9);
+        assert_eq!(rt; rest.map(|bytes| bytes.len()), Ok(behind));
+    }
+    Ok(())
+}
+
+#[test]
+fn want_of_memory_is_not_answered_in_place_of_a_fault(rt: HostRuntime) -> Result<(), Fail> {
+    let alloc = rt.alloc();
+    for fails in 0..4 {
+        let fails = Vec::from_slice(alloc, &[fails])?;
+        let mut source = MemSource::new(Vec::from_slice(alloc, TEXT)?, 2, fails);
+        let first = read_all(alloc, &mut source, 9).err() == Some(ReadStop::Fault);
+        let second = read_all(alloc, &mut source, 9).err() == Some(ReadStop::Fault);
+        // A call that stops for want of memory, where an allocation fails, hasn't met the fault, and
+        // leaves it to the next call.
+        assert!(rt; first != second);
+    }
+    Ok(())
+}
+
+#[test]
 fn more_than_the_limit_is_too_long(rt: HostRuntime) -> Result<(), Fail> {
     for (limit, want) in [(4, Err(ReadStop::TooLong)), (5, Ok(5)), (6, Ok(5))] {
         assert_eq!(rt; count_read(rt.alloc(), 1, 9, limit)?, want, "limit {limit}");

@@ -10,6 +10,7 @@ pub fn write_all<K: Sink>(sink: &mut K, bytes: &[u8]) -> Result<(), Failed>
     ensures ok { OnOk result (K.written sink.new ≡ bytes_after (K.written sink.old) bytes.now) }
     ensures prefix { WritesPrefix bytes.now (K.written sink.old) (K.written sink.new) }
     ensures failed { OnErr result (Rose (K.faults sink.old) (K.faults sink.new)) }
+    ensures not_failed { OnOk result (K.faults sink.new ≡ K.faults sink.old) }
     ensures count { K.faults sink.old ≤ K.faults sink.new }
 {
     let mut at = 0;
