@@ -39,10 +39,11 @@ copy() {
     rm -rf "$work/copy"
     mkdir -p "$work/copy/crates"
     cp "$top/crates.txt" "$top/HANDLES" "$work/copy"
-    for crate in "$top"/crates/*; do
-        mkdir "$work/copy/crates/${crate##*/}"
+    for from in "$top"/crates/*; do
+        into=$work/copy/crates/${from##*/}
+        mkdir "$into"
         for part in src specs proofs; do
-            [ ! -d "$crate/$part" ] || cp -R "$crate/$part" "$work/copy/crates/${crate##*/}"
+            [ ! -d "$from/$part" ] || cp -R "$from/$part" "$into"
         done
     done
     [ "$1" = none ] || (cd "$work/copy" && patch -s -p1 <"$bench/wrong-bodies/$1.patch") ||
@@ -53,7 +54,7 @@ copy() {
 failed() {
     crate=$1 tests=$2
     shift 2
-    (cd "$work/copy/crates/$crate" && rt try --test --seconds 900 "$@" -- "$tests" >"$work/said" 2>&1) || true
+    (cd "$work/copy/crates/$crate" && rt try --test --seconds 300 "$@" -- "$tests" >"$work/said" 2>&1) || true
     grep -q '^test result: ' "$work/said" || fail "no test of $crate was run"
     sed -n 's/^test [a-z_]*::\([a-z_]*\) \.\.\..*FAILED.*/\1/p' "$work/said" | tr '\n' ' '
 }

@@ -12,3 +12,4 @@ mod Whole
 mod Placing
 mod Jobs
 mod Started
+mod Again

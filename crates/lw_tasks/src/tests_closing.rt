@@ -6,7 +6,7 @@ ghost use Rattle.lw_calls.specs.Plan.{IsPlan};
 ghost use Rattle.lw_machine.specs.Desk.{Desk as MachineDesk};
 ghost use Rattle.lw_machine.specs.Finals.{opening_desk};
 ghost use Rattle.lw_order.specs.Roles.{all_roles};
-ghost use Rattle.lw_engine.specs.Layers.{AreLayers};
+ghost use Rattle.lw_steps.specs.Steps.{AreParts};
 ghost use Rattle.lw_locks.specs.Closing.{HasEach};
 ghost use Rattle.lw_locks.specs.Seen.{opening_pass};
 
@@ -19,6 +19,7 @@ use lw_engine::LayerEngine;
 use lw_locks::{Closed, Desk, NotClosed, OpenGate, Opening, Pass};
 use lw_order::{Order, Seat};
 use lw_region::Rect;
+use lw_steps::Engine;
 use std::alloc::{AllocError, Global};
 use std::marker::Brand;
 use std::process::Abort;
@@ -26,33 +27,13 @@ use std::sync::Wait;
 use std::test::Fail;
 use std::thread::Threads;
 
-// What a closed desk leaves whose tasks were told this.
-fn last_of<'a, B: Backfill + Send>(
-    alloc: Global,
-    plan: &'a Plan,
-    closed: Closed<LayerEngine<'a, B>>,
-    all: Vec<TaskAnswers>,
-) -> Result<Final, AllocError>
-    requires { (d : MachineDesk) × AreLayers plan.now.sizes plan.now.assets closed.info closed.cells.items d }
-{
-    let mut told = Vec::new(alloc);
-    for one in all {
-        told.push(one.replies)?;
-    }
-    if told.len() != plan.sizes().tasks as usize {
-        return Err(AllocError);
-    }
-    let engine = LayerEngine::<B>::new(*plan.sizes(), plan.assets());
-    engine.finish(alloc, &closed.info, closed.cells.as_slice(), told)
-}
-
 // Fills the last two columns of a layer, which is four columns wide.
-fn fill_more<'a, B: Backfill + Send, N: Opening, R: Wait + Abort>(
+fn fill_more<E: Engine, N: Opening, R: Wait + Abort>(
     rt: &R,
     alloc: Global,
     plan: &Plan,
-    desk: &Desk<LayerEngine<'a, B>, N>,
-    pass: &mut Pass<LayerEngine<'a, B>, N>,
+    desk: &Desk<E, N>,
+    pass: &mut Pass<E, N>,
     slot: u32,
 ) -> Result<(), AllocError>
     requires { N.desk.sizes ≡ plan.now.sizes }
@@ -68,17 +49,16 @@ fn fill_more<'a, B: Backfill + Send, N: Opening, R: Wait + Abort>(
 }
 
 // Fills more on both layers of a desk that was not closed, and closes it.
-fn close_again<'a, B: Backfill + Send, N: Opening, R: Wait + Abort>(
+fn close_again<E: Engine, N: Opening, R: Wait + Abort>(
     rt: &R,
     alloc: Global,
-    plan: &'a Plan,
-    left: NotClosed<LayerEngine<'a, B>, N>,
-) -> Result<Closed<LayerEngine<'a, B>>, AllocError>
+    plan: &Plan,
+    left: NotClosed<E, N>,
+) -> Result<Closed<E>, AllocError>
     requires sizes { N.desk.sizes ≡ plan.now.sizes }
-    requires assets { N.desk.assets ≡ plan.now.assets }
     requires many { vec_len left.passes ≡ N.desk.sizes.tasks }
     requires each { HasEach left.passes.items N.desk.sizes.tasks }
-    ensures { IfOk result (λ c. (d : MachineDesk) × AreLayers plan.now.sizes plan.now.assets c.info c.cells.items d) }
+    ensures { IfOk result (λ c. (d : MachineDesk) × AreParts (E.info_is N.desk.sizes) E.number E.cell_is N.desk.sizes N.desk.assets c.info c.cells.items d) }
 {
     let NotClosed { desk, mut passes } = left;
     let Some(mut pass) = passes.pop() else {
@@ -93,8 +73,34 @@ fn close_again<'a, B: Backfill + Send, N: Opening, R: Wait + Abort>(
     Ok(closed)
 }
 
-// Runs a plan and closes its desk. Where it was not closed, fills more and closes it again. Gives what is left, and whether more was
-// filled.
+// Runs a plan on a desk with its passes before the first call, and closes it. Where it was not closed, fills more and closes it again.
+// Gives what is left, what the tasks were told, and whether more was filled.
+fn close_run<E: Engine, N: Opening + Send + Sync, R: Threads + Wait + Abort + Sync>(
+    rt: &R,
+    alloc: Global,
+    plan: &Plan,
+    desk: Desk<E, N>,
+    passes: Vec<Pass<E, N>>,
+) -> Result<(Closed<E>, Vec<TaskAnswers>, bool), Fail>
+    requires plan { IsPlan plan.now }
+    requires sizes { N.desk.sizes ≡ plan.now.sizes }
+    requires passes { passes.items ≡ map opening_pass (range_with_len 0 plan.now.sizes.tasks) }
+    ensures { IfOk result (λ r. (d : MachineDesk) × AreParts (E.info_is N.desk.sizes) E.number E.cell_is N.desk.sizes N.desk.assets r.0.info r.0.cells.items d) }
+{
+    let runs = run_each(rt, alloc, &OpenGate, plan, &desk, passes)?;
+    let (passes, all) = parted(alloc, runs)?;
+    let left = match desk.close(alloc, passes) {
+        Ok(closed) => return Ok((closed, all, false)),
+        Err(left) => left,
+    };
+    // One allocation failed, and no other will.
+    let Ok(closed) = close_again(rt, alloc, plan, left) else {
+        return Err(Fail::from("a desk that was not closed is as it was"));
+    };
+    Ok((closed, all, true))
+}
+
+// The same on a desk that is made for it, with what the closed desk leaves.
 fn close_twice<B: Backfill + Send, R: Threads + Wait + Abort + Sync>(
     rt: &R,
     alloc: Global,
@@ -125,34 +131,16 @@ fn close_twice_on<B: Backfill + Send, N: Opening + Send + Sync, R: Threads + Wai
     let opened = engine.open(alloc, hooks)?;
     let (info, cells, regs) = (opened.info, opened.slots, opened.registers);
     let (desk, passes) = Desk::<_, N>::start(alloc, order, seat, engine, info, cells, regs)?;
-    close_run(rt, alloc, plan, desk, passes)
-}
-
-// With a desk and its passes before the first call.
-fn close_run<'a, B: Backfill + Send, N: Opening + Send + Sync, R: Threads + Wait + Abort + Sync>(
-    rt: &R,
-    alloc: Global,
-    plan: &'a Plan,
-    desk: Desk<LayerEngine<'a, B>, N>,
-    passes: Vec<Pass<LayerEngine<'a, B>, N>>,
-) -> Result<(Final, bool), Fail>
-    requires plan { IsPlan plan.now }
-    requires sizes { N.desk.sizes ≡ plan.now.sizes }
-    requires assets { N.desk.assets ≡ plan.now.assets }
-    requires passes { passes.items ≡ map opening_pass (range_with_len 0 plan.now.sizes.tasks) }
-{
-    let runs = run_each(rt, alloc, &OpenGate, plan, &desk, passes)?;
-    let (passes, all) = parted(alloc, runs)?;
-    match desk.close(alloc, passes) {
-        Ok(closed) => Ok((last_of(alloc, plan, closed, all)?, false)),
-        Err(left) => {
-            // One allocation failed, and no other will.
-            let Ok(closed) = close_again(rt, alloc, plan, left) else {
-                return Err(Fail::from("a desk that was not closed is as it was"));
-            };
-            Ok((last_of(alloc, plan, closed, all)?, true))
-        }
+    let (closed, all, more) = close_run(rt, alloc, plan, desk, passes)?;
+    let Closed { info, cells, .. } = closed;
+    let mut told = Vec::new(alloc);
+    for one in all {
+        told.push(one.replies)?;
     }
+    assert_eq!(rt; told.len(), plan.sizes().tasks as usize);
+    let engine = LayerEngine::<B>::new(*plan.sizes(), plan.assets());
+    let last = engine.finish(alloc, &info, cells.as_slice(), told)?;
+    Ok((last, more))
 }
 
 #[test]
