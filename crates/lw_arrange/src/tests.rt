@@ -35,13 +35,16 @@ fn the_list_takes_up_what_was_planned(rt: HostRuntime) -> Result<(), Fail> {
     let alloc = rt.alloc();
     let mut info = Info::new(alloc, &SIZES)?;
     let looks = Vec::from_slice(alloc, &[None])?;
-    let Step::Arranged(plan) = plan_step(alloc, &info, looks.as_slice(), true, 0, &CREATE)? else {
+    let call = CREATE;
+    assert!(rt; SIZES.fits(&call));
+    let Step::Arranged(plan) = plan_step(alloc, &info, looks.as_slice(), true, 0, &call)? else {
         return Err(Fail::new("refused"));
     };
     assert!(rt; info.order().is_empty());
     let prepared = prepare_info(alloc, &info, &plan)?;
     commit_info(&mut info, prepared);
     assert_eq!(rt; info.order(), [0].as_slice());
+    assert!(rt; 0 < info.sizes().slots);
     let bounds = info.bounds(0).ok_or("no bounds")?;
     assert!(rt; bounds.min_x() == 20 && bounds.max_x() == 31);
     assert!(rt; bounds.min_y() == 5 && bounds.max_y() == 19);
