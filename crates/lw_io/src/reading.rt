@@ -31,7 +31,8 @@ pub fn read_all<S: Source>(alloc: Global, source: &mut S, limit: usize) -> Resul
 
     // What was left came whole, where the source exposes it, and nothing is left.
     ensures whole { IfOk result (λ v. IfSome (S.left source.old) (λ left. v.items ≡ left)) }
-    ensures bytes { IfOk result (λ v. S.left source.old ≡ bytes_before v.items (S.left source.new)) }
+    ensures bytes { IfOk result (λ v.
+        S.left source.old ≡ bytes_before v.items (S.left source.new)) }
     ensures end { OnOk result (NoneLeft (S.left source.new)) }
     ensures within { IfOk result (λ v. vec_len v ≤ limit) }
 

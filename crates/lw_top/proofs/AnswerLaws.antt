@@ -1,15 +1,14 @@
 -- What a command's promise tells of its answer.
 use Rattle.std.proofs.Common.{◌≡◌, ◌≢◌, ◌⊎◌, ℕ, ◌+◌, ◌<◌, ◌≤◌, List, [], ◌++◌, Option, Some, None, IfSome, true, false, IsTrue, length, refl, sym, ap, subst, ◌∙◌, inl, inr, append-nil, length-append, arith}
 use Rattle.std.proofs.lemmas.Bool.{true≢false}
-use Rattle.lw_io.specs.Streams.{Rose, bytes_before, bytes_after, TakesJust, TakesAtMost}
+use Rattle.lw_io.specs.Streams.{Stream, StreamChange, change, NoneLeft, TakesJust, TakesAtMost, bytes_before, bytes_after, Wrote, HasFailed}
 use Rattle.lw_calls.specs.declared.reason.Reason.{Reason}
 use Rattle.lw_calls.specs.Plan.{IsPlan}
 use Rattle.lw_calls.proofs.OrdersComplete.{begins}
 use Rattle.lw_machine.specs.Hook.{Hook}
 use Rattle.lw_machine.specs.Report.{run_report}
 use Rattle.lw_canonical.specs.Canonical.{canonical_text}
-use Rattle.lw_grammar.specs.Lines.{lines}
-use Rattle.lw_grammar.specs.Script.{ScriptInput, SpellsInput, IsFirstBadIn}
+use Rattle.lw_grammar.specs.Script.{ScriptInput, SpellsInput}
 use Rattle.lw_grammar.proofs.ScriptRunnable.{spelled_runnable}
 use Rattle.lw_top.specs.declared.status.Status.{Status}
 use Rattle.lw_top.specs.declared.status.Status.TheVariants.{Done, Refused, Usage, ReadFault, WriteFault, NoMemory, TooLong, BadOrder}
@@ -17,7 +16,7 @@ use Rattle.lw_top.specs.declared.words.Command.{Command}
 use Rattle.lw_top.specs.declared.words.Command.TheVariants.{Run, Check, Replay}
 use Rattle.lw_top.specs.Commands.{reads_with, IsTextFor}
 use Rattle.lw_top.specs.Laws.{IsTextOf, IsBadOrderOf, IsDue, IsUnlessStopped, is_stop, IsInput, IsAnswer, AnswerTells, ToldOfWords}
-use Rattle.lw_top.specs.Outcome.{IsOutcome, IsTaken, Served, Answered}
+use Rattle.lw_top.specs.Outcome.{IsBadLineOf, IsOutcome, IsTaken, Served, Answered}
 use Rattle.lw_top.specs.Status.{Says, text_of, input_limit}
 use Rattle.lw_top.proofs.Outcomes.{one_outcome}
 
@@ -31,19 +30,24 @@ no_stop hooks command input Usage text h = refl
 no_stop hooks command input s text h = absurd h.3
 
 -- what was said of an outcome is no fault of the source and not running out of memory
-pub said_not_stopped : (hooks : List Hook) (command : Command) (input : List ℕ) (due r : Status) (text : List ℕ) (before after : Option (List ℕ)) (f g : ℕ) → IsOutcome hooks command input due text → Says text due r before after f g → (r ≡ ReadFault) ⊎ (r ≡ NoMemory) → ⊥
-said_not_stopped hooks command input due r text before after f g h (inl e) (inl d) = true≢false (sym (ap is_stop (sym e.0 ∙ d)) ∙ no_stop hooks command input due text h)
-said_not_stopped hooks command input due r text before after f g h (inl e) (inr d) = true≢false (sym (ap is_stop (sym e.0 ∙ d)) ∙ no_stop hooks command input due text h)
-said_not_stopped hooks command input due r text before after f g h (inr e) (inl d) = let same : WriteFault ≡ ReadFault = sym e.0 ∙ d in cc
-said_not_stopped hooks command input due r text before after f g h (inr e) (inr d) = let same : WriteFault ≡ NoMemory = sym e.0 ∙ d in cc
+pub said_not_stopped : (hooks : List Hook) (command : Command) (input : List ℕ) (due r : Status) (text : List ℕ) (sink : StreamChange) → IsOutcome hooks command input due text → Says text due r sink → (r ≡ ReadFault) ⊎ (r ≡ NoMemory) → ⊥
+said_not_stopped hooks command input due r text sink h (inl e) (inl d) = true≢false (sym (ap is_stop (sym e.0 ∙ d)) ∙ no_stop hooks command input due text h)
+said_not_stopped hooks command input due r text sink h (inl e) (inr d) = true≢false (sym (ap is_stop (sym e.0 ∙ d)) ∙ no_stop hooks command input due text h)
+said_not_stopped hooks command input due r text sink h (inr e) (inl d) = let same : WriteFault ≡ ReadFault = sym e.0 ∙ d in cc
+said_not_stopped hooks command input due r text sink h (inr e) (inr d) = let same : WriteFault ≡ NoMemory = sym e.0 ∙ d in cc
+
+-- what holds of each input that may be left is told of what is left, where that is told
+of_told : (told : Option (List ℕ)) (P : List ℕ → Type 0) → ((input : List ℕ) → told ≡ Some input → P input) → IfSome told P
+of_told None P f = tt
+of_told (Some input) P f = f input refl
 
 -- The outcome on what was taken is the outcome on all that was left.
-of_left : (hooks : List Hook) (command : Command) (input left : List ℕ) (rest : Option (List ℕ)) (due : Status) (text : List ℕ) → IsTaken input (Some left) rest → IsOutcome hooks command input due text → IsOutcome hooks command left due text
-of_left hooks command input left None due text taken h = let e : Some left ≡ None = taken.front in cc
-of_left hooks command input left (Some rest) due text taken h = elim taken.ended [ inl e ↦ subst (λ l. IsOutcome hooks command l due text) (whole e.1) h | inr e ↦ long e due h ]
+of_front : (hooks : List Hook) (command : Command) (input left : List ℕ) (rest : Option (List ℕ)) (due : Status) (text : List ℕ) → Some left ≡ bytes_before input rest → ((length input ≤ input_limit) × NoneLeft rest) ⊎ (length input ≡ input_limit + 1) → IsOutcome hooks command input due text → IsOutcome hooks command left due text
+of_front hooks command input left None due text front ended h = let e : Some left ≡ None = front in cc
+of_front hooks command input left (Some rest) due text front ended h = elim ended [ inl e ↦ subst (λ l. IsOutcome hooks command l due text) (whole e.1) h | inr e ↦ long e due h ]
   where
     all : left ≡ input ++ rest
-    all = let e : Some left ≡ Some (input ++ rest) = taken.front in cc
+    all = let e : Some left ≡ Some (input ++ rest) = front in cc
 
     whole : rest ≡ [] → input ≡ left
     whole e = sym (all ∙ ap (λ r. input ++ r) e ∙ append-nil input)
@@ -52,12 +56,15 @@ of_left hooks command input left (Some rest) due text taken h = elim taken.ended
     long e TooLong h = let most = ap length all ∙ length-append input rest in (omega (arith, most, e), h.1)
     long e due h = let short = h.0 in absurd (omega (arith, short, e))
 
+of_left : (hooks : List Hook) (command : Command) (input left : List ℕ) (source : StreamChange) (due : Status) (text : List ℕ) → source.old.bytes ≡ Some left → IsTaken input source → IsOutcome hooks command input due text → IsOutcome hooks command left due text
+of_left hooks command input left source due text is taken h = of_front hooks command input left source.new.bytes due text (sym is ∙ taken.front) taken.ended h
+
 -- the answer that was due is the outcome, or the sink failed
-said_only : (hooks : List Hook) (command : Command) (input : List ℕ) (due wanted r : Status) (text other : List ℕ) (before after : Option (List ℕ)) (f g : ℕ) → IsOutcome hooks command input due text → Says text due r before after f g → IsOutcome hooks command input wanted other → IsAnswer hooks command input wanted r before after ⊎ ((r ≡ WriteFault) × Rose f g)
-said_only hooks command input due wanted r text other before after f g h (inl e) w =
+said_only : (hooks : List Hook) (command : Command) (input : List ℕ) (due wanted r : Status) (text other : List ℕ) (sink : StreamChange) → IsOutcome hooks command input due text → Says text due r sink → IsOutcome hooks command input wanted other → IsAnswer hooks command input wanted r sink ⊎ ((r ≡ WriteFault) × HasFailed sink)
+said_only hooks command input due wanted r text other sink h (inl e) w =
     let same : due ≡ wanted = (one_outcome hooks command input due wanted text other h w).0 in
     inl (record { text = text; outcome = subst (λ q. IsOutcome hooks command input q text) same h; same = e.0 ∙ same; written = e.1 })
-said_only hooks command input due wanted r text other before after f g h (inr e) w = inr (e.0, e.2)
+said_only hooks command input due wanted r text other sink h (inr e) w = inr (e.0, e.2)
 
 -- what a command tells where its text or its order's bad place is due
 due_text : (hooks : List Hook) (command : Command) (script : ScriptInput) → IsPlan script.plan → IsDue command script → (text : List ℕ) × IsTextFor hooks command script text
@@ -79,134 +86,148 @@ bytes_after_none None = refl
 bytes_after_none (Some bytes) = ap Some (append-nil bytes)
 
 -- what was taken is the whole input where it is no longer than the limit
-whole_input : (input : List ℕ) (left rest : Option (List ℕ)) → IsTaken input left rest → length input ≤ input_limit → IsInput input left rest
-whole_input input left rest taken short = elim taken.ended [ inl e ↦ record { taken = taken.front; end = e.1; within = short } | inr e ↦ absurd (omega (arith, e, short)) ]
+whole_input : (input : List ℕ) (source : StreamChange) → IsTaken input source → length input ≤ input_limit → IsInput input source
+whole_input input source taken short = elim taken.ended [ inl e ↦ record { taken = taken.front; end = e.1; within = short } | inr e ↦ absurd (omega (arith, e, short)) ]
+
+-- the outcome on an input is this answer, and its text was written whole
+abbrev WroteFor : List Hook → Command → Status → StreamChange → List ℕ → Type 0
+WroteFor hooks command q sink input = (text : List ℕ) × IsOutcome hooks command input q text × Wrote text sink
+
+-- the outcome on an input is the answer, unless a stream failed or memory ran out
+abbrev Comes : List Hook → Command → Status → StreamChange → StreamChange → List ℕ → Type 0
+Comes hooks command r source sink input =
+    (due : Status) (text : List ℕ) → IsOutcome hooks command input due text
+    → IsAnswer hooks command input due r sink ⊎ ((r ≡ WriteFault) × HasFailed sink) ⊎ ((r ≡ ReadFault) × HasFailed source) ⊎ (r ≡ NoMemory)
 
 -- an answer that is no stop is the outcome on what was taken, and its text was written whole
-came : (hooks : List Hook) (command : Command) (q r : Status) (left rest : Option (List ℕ)) (s t : ℕ) (before after : Option (List ℕ)) (f g : ℕ) → Answered hooks command r left rest s t before after f g → is_stop q ≡ false → r ≡ q
-    → (input : List ℕ) × IsTaken input left rest × (text : List ℕ) × IsOutcome hooks command input q text × (after ≡ bytes_after before text)
-came hooks command q r left rest s t before after f g h goes is = elim h.outcome [ inl e ↦ served e e.said | inr e ↦ absurd (elim e [ inl d ↦ stopped ReadFault refl d.0 | inr d ↦ stopped NoMemory refl d ]) ]
+came : (hooks : List Hook) (command : Command) (q r : Status) (source sink : StreamChange) → Answered hooks command r source sink → is_stop q ≡ false → r ≡ q
+    → (input : List ℕ) × IsTaken input source × WroteFor hooks command q sink input
+came hooks command q r source sink h goes is = elim h.outcome [ inl e ↦ served e e.said | inr e ↦ absurd (elim e [ inl d ↦ stopped ReadFault refl d.0 | inr d ↦ stopped NoMemory refl d ]) ]
   where
     stopped : (p : Status) → is_stop p ≡ true → r ≡ p → ⊥
     stopped p stops e = true≢false (sym stops ∙ ap is_stop (sym e ∙ is) ∙ goes)
 
-    served : (e : Served hooks command r left rest before after f g) → Says e.text e.due r before after f g → (input : List ℕ) × IsTaken input left rest × (text : List ℕ) × IsOutcome hooks command input q text × (after ≡ bytes_after before text)
-    served e (inl d) = (e.input, e.taken, e.text, subst (λ p. IsOutcome hooks command e.input p e.text) (sym d.0 ∙ is) e.outcome, d.1)
+    served : (e : Served hooks command r source sink) → Says e.text e.due r sink → (input : List ℕ) × IsTaken input source × WroteFor hooks command q sink input
+    served e (inl d) = (e.input, e.taken, (e.text, subst (λ p. IsOutcome hooks command e.input p e.text) (sym d.0 ∙ is) e.outcome, d.1))
     served e (inr d) = absurd (stopped WriteFault refl d.0)
 
 -- the same of all that was left
-came_of_left : (hooks : List Hook) (command : Command) (q r : Status) (left rest : Option (List ℕ)) (s t : ℕ) (before after : Option (List ℕ)) (f g : ℕ) → Answered hooks command r left rest s t before after f g → is_stop q ≡ false → r ≡ q
-    → IfSome left (λ input. (text : List ℕ) × IsOutcome hooks command input q text × (after ≡ bytes_after before text))
-came_of_left hooks command q r None rest s t before after f g h goes is = tt
-came_of_left hooks command q r (Some left) rest s t before after f g h goes is =
-    let k = came hooks command q r (Some left) rest s t before after f g h goes is in
-    (k.2, of_left hooks command k.0 left rest q k.2 k.1 k.3, k.4)
+came_of_left : (hooks : List Hook) (command : Command) (q r : Status) (source sink : StreamChange) (left : List ℕ) → source.old.bytes ≡ Some left → Answered hooks command r source sink → is_stop q ≡ false → r ≡ q → WroteFor hooks command q sink left
+came_of_left hooks command q r source sink left told h goes is =
+    let k = came hooks command q r source sink h goes is in
+    (k.2.0, of_left hooks command k.0 left source q k.2.0 told k.1 k.2.1, k.2.2)
 
 -- the outcome on all that was left comes, unless a stream failed or memory ran out
-comes : (hooks : List Hook) (command : Command) (r : Status) (left rest : Option (List ℕ)) (s t : ℕ) (before after : Option (List ℕ)) (f g : ℕ) → Answered hooks command r left rest s t before after f g
-    → IfSome left (λ input. (due : Status) (text : List ℕ) → IsOutcome hooks command input due text → IsAnswer hooks command input due r before after ⊎ ((r ≡ WriteFault) × Rose f g) ⊎ ((r ≡ ReadFault) × Rose s t) ⊎ (r ≡ NoMemory))
-comes hooks command r None rest s t before after f g h = tt
-comes hooks command r (Some left) rest s t before after f g h =
-    λ due text w. elim h.outcome [ inl e ↦ served e due text w | inr e ↦ inr (inr e) ]
+comes : (hooks : List Hook) (command : Command) (r : Status) (source sink : StreamChange) (left : List ℕ) → source.old.bytes ≡ Some left → Answered hooks command r source sink → Comes hooks command r source sink left
+comes hooks command r source sink left told h = λ due text w. elim h.outcome [ inl e ↦ served e due text w | inr e ↦ inr (inr e) ]
   where
-    served : Served hooks command r (Some left) rest before after f g → (due : Status) (text : List ℕ) → IsOutcome hooks command left due text → IsAnswer hooks command left due r before after ⊎ ((r ≡ WriteFault) × Rose f g) ⊎ ((r ≡ ReadFault) × Rose s t) ⊎ (r ≡ NoMemory)
+    served : Served hooks command r source sink → Comes hooks command r source sink left
     served e due text w =
-        let was = of_left hooks command e.input left rest e.due e.text e.taken e.outcome in
-        elim (said_only hooks command left e.due due r e.text text before after f g was e.said w) [ inl d ↦ inl d | inr d ↦ inr (inl d) ]
-
--- what is told of an input is told of what a source may tell
-each_told : (P Q : List ℕ → Type 0) → ((input : List ℕ) → P input → Q input) → (told : Option (List ℕ)) → IfSome told P → IfSome told Q
-each_told P Q f None h = tt
-each_told P Q f (Some input) h = f input h
+        let was = of_left hooks command e.input left source e.due e.text told e.taken e.outcome in
+        elim (said_only hooks command left e.due due r e.text text sink was e.said w) [ inl d ↦ inl d | inr d ↦ inr (inl d) ]
 
 -- All that each answer tells follows.
-told : (hooks : List Hook) (command : Command) (r : Status) (left rest : Option (List ℕ)) (s t : ℕ) (before after : Option (List ℕ)) (f g : ℕ) → Answered hooks command r left rest s t before after f g → ((r ≡ ReadFault) ⊎ (r ≡ NoMemory) → after ≡ before) → AnswerTells hooks command r left rest s t before after f g
-told hooks command r left rest s t before after f g h unwritten =
+told : (hooks : List Hook) (command : Command) (r : Status) (source sink : StreamChange) → Answered hooks command r source sink → ((r ≡ ReadFault) ⊎ (r ≡ NoMemory) → sink.new ≡ sink.old) → AnswerTells hooks command r source sink
+told hooks command r source sink h untouched =
     record {
-      done = λ e. let k = was Done refl e in (k.0, whole_input k.0 left rest k.1 k.3.0, k.2, (k.3.1, k.3.2, k.3.3), k.4);
-      done_of_left = λ e. left_is Done refl e (λ input. (text : List ℕ) × IsTextOf hooks command input text × (after ≡ bytes_after before text)) (λ input k. (k.0, (k.1.1, k.1.2, k.1.3), k.2));
-      never_usage = λ e. let k = was Usage refl e in k.3.3;
+      done = λ e. let k = was Done refl e in (k.0, whole_input k.0 source k.1 k.2.1.0, k.2.0, (k.2.1.1, k.2.1.2, k.2.1.3), k.2.2);
+      done_of_left = λ e. left_is Done refl e (λ input. (text : List ℕ) × IsTextOf hooks command input text × Wrote text sink) (λ input k. (k.0, (k.1.1, k.1.2, k.1.3), k.2));
+      never_usage = λ e. let k = was Usage refl e in k.2.1.3;
       read_fault = λ e. faults e;
-      too_long = λ e. let k = was TooLong refl e in long k.0 k.1 k.3.0;
+      too_long = λ e. let k = was TooLong refl e in long k.0 k.1 k.2.1.0;
       too_long_of_left = λ e. left_is TooLong refl e (λ input. input_limit < length input) (λ input k. k.1.0);
-      refused = λ line reason e. let k = was (Refused line reason) refl e in (k.0, whole_input k.0 left rest k.1 k.3.0, k.3.1);
-      refused_of_left = λ line reason e. left_is (Refused line reason) refl e (λ input. (length input ≤ input_limit) × IsFirstBadIn (reads_with (length hooks) command) (lines input) line reason) (λ input k. (k.1.0, k.1.1));
-      bad_order = λ place e. let k = was (BadOrder place) refl e in (k.0, whole_input k.0 left rest k.1 k.3.0, (k.3.1, k.3.2, k.3.3.0));
+      refused = λ line reason e. let k = was (Refused line reason) refl e in (k.0, whole_input k.0 source k.1 k.2.1.0, k.2.1.1);
+      refused_of_left = λ line reason e. left_is (Refused line reason) refl e (λ input. (length input ≤ input_limit) × IsBadLineOf hooks command input line reason) (λ input k. (k.1.0, k.1.1));
+      bad_order = λ place e. let k = was (BadOrder place) refl e in (k.0, whole_input k.0 source k.1 k.2.1.0, (k.2.1.1, k.2.1.2, k.2.1.3.0));
       bad_order_of_left = λ place e. left_is (BadOrder place) refl e (λ input. (length input ≤ input_limit) × IsBadOrderOf hooks command input place) (λ input k. (k.1.0, (k.1.1, k.1.2, k.1.3.0)));
       write_fault = λ e. write_faults e;
       only_too_long = only (λ input. input_limit < length input → IsUnlessStopped TooLong r) (λ input k above. unless TooLong input k (text_of TooLong) (above, refl));
-      only_refused = only (λ input. length input ≤ input_limit → (line : ℕ) (reason : Reason) → IsFirstBadIn (reads_with (length hooks) command) (lines input) line reason → IsUnlessStopped (Refused line reason) r) (λ input k short line reason bad. unless (Refused line reason) input k (text_of (Refused line reason)) (short, bad, refl));
+      only_refused = only (λ input. length input ≤ input_limit → (line : ℕ) (reason : Reason) → IsBadLineOf hooks command input line reason → IsUnlessStopped (Refused line reason) r) (λ input k short line reason bad. unless (Refused line reason) input k (text_of (Refused line reason)) (short, bad, refl));
       only_bad_order = only (λ input. length input ≤ input_limit → (place : ℕ) → IsBadOrderOf hooks command input place → IsUnlessStopped (BadOrder place) r) (λ input k short place bad. unless (BadOrder place) input k (text_of (BadOrder place)) (short, bad.0, bad.1, (bad.2, refl)));
       only_done = only (λ input. length input ≤ input_limit → (script : ScriptInput) → SpellsInput (reads_with (length hooks) command) input script → IsDue command script → IsUnlessStopped Done r) (λ input k short script spelled due. let text = due_text hooks command script (spelled_runnable (reads_with (length hooks) command) input script spelled).plan due in unless Done input k text.0 (short, script, spelled, text.1));
-      complete = λ no_read no_write. only (λ input. (due : Status) (text : List ℕ) → IsOutcome hooks command input due text → IsAnswer hooks command input due r before after ⊎ (r ≡ NoMemory)) (λ input k due text w. elim (k due text w) [ inl e ↦ inl e | inr e ↦ elim e [ inl d ↦ absurd (no_write d.1) | inr d ↦ elim d [ inl b ↦ absurd (no_read b.1) | inr b ↦ inr b ] ] ]);
-      text = λ not_done not_fault. elim h.outcome [ inl e ↦ written e e.said not_done not_fault | inr e ↦ elim e [ inl d ↦ empty d.0 refl (unwritten (inl d.0)) | inr d ↦ empty d refl (unwritten (inr d)) ] ];
+      complete = λ no_read no_write. only (λ input. (due : Status) (text : List ℕ) → IsOutcome hooks command input due text → IsAnswer hooks command input due r sink ⊎ (r ≡ NoMemory)) (λ input k due text w. elim (k due text w) [ inl e ↦ inl e | inr e ↦ elim e [ inl d ↦ absurd (no_write d.1) | inr d ↦ elim d [ inl b ↦ absurd (no_read b.1) | inr b ↦ inr b ] ] ]);
+      text = λ not_done not_fault. elim h.outcome [ inl e ↦ written e e.said not_done not_fault | inr e ↦ elim e [ inl d ↦ empty d.0 refl (untouched (inl d.0)) | inr d ↦ empty d refl (untouched (inr d)) ] ];
     }
   where
-    Came : List ℕ → Type 0
-    Came input = (due : Status) (text : List ℕ) → IsOutcome hooks command input due text → IsAnswer hooks command input due r before after ⊎ ((r ≡ WriteFault) × Rose f g) ⊎ ((r ≡ ReadFault) × Rose s t) ⊎ (r ≡ NoMemory)
+    was : (q : Status) → is_stop q ≡ false → r ≡ q → (input : List ℕ) × IsTaken input source × WroteFor hooks command q sink input
+    was q goes e = came hooks command q r source sink h goes e
 
-    was : (q : Status) → is_stop q ≡ false → r ≡ q → (input : List ℕ) × IsTaken input left rest × (text : List ℕ) × IsOutcome hooks command input q text × (after ≡ bytes_after before text)
-    was q goes e = came hooks command q r left rest s t before after f g h goes e
+    left_is : (q : Status) → is_stop q ≡ false → r ≡ q → (Q : List ℕ → Type 0) → ((input : List ℕ) → WroteFor hooks command q sink input → Q input) → IfSome source.old.bytes Q
+    left_is q goes e Q k = of_told source.old.bytes Q (λ input is. k input (came_of_left hooks command q r source sink input is h goes e))
 
-    left_is : (q : Status) → is_stop q ≡ false → r ≡ q → (Q : List ℕ → Type 0) → ((input : List ℕ) → (text : List ℕ) × IsOutcome hooks command input q text × (after ≡ bytes_after before text) → Q input) → IfSome left Q
-    left_is q goes e Q k = each_told (λ input. (text : List ℕ) × IsOutcome hooks command input q text × (after ≡ bytes_after before text)) Q k left (came_of_left hooks command q r left rest s t before after f g h goes e)
-
-    only : (Q : List ℕ → Type 0) → ((input : List ℕ) → Came input → Q input) → IfSome left Q
-    only Q k = each_told Came Q k left (comes hooks command r left rest s t before after f g h)
+    only : (Q : List ℕ → Type 0) → ((input : List ℕ) → Comes hooks command r source sink input → Q input) → IfSome source.old.bytes Q
+    only Q k = of_told source.old.bytes Q (λ input is. k input (comes hooks command r source sink input is h))
 
     stops : (q : Status) → is_stop q ≡ true → r ≡ q → IsTrue (is_stop r)
     stops q goes e = ap is_stop e ∙ goes
 
-    unless : (q : Status) (input : List ℕ) → Came input → (text : List ℕ) → IsOutcome hooks command input q text → IsUnlessStopped q r
+    unless : (q : Status) (input : List ℕ) → Comes hooks command r source sink input → (text : List ℕ) → IsOutcome hooks command input q text → IsUnlessStopped q r
     unless q input k text w = elim (k q text w) [ inl e ↦ inl e.same | inr e ↦ inr (elim e [ inl d ↦ stops WriteFault refl d.0 | inr d ↦ elim d [ inl b ↦ stops ReadFault refl b.0 | inr b ↦ stops NoMemory refl b ] ]) ]
 
-    long : (input : List ℕ) → IsTaken input left rest → input_limit < length input → TakesJust (input_limit + 1) left rest
+    long : (input : List ℕ) → IsTaken input source → input_limit < length input → TakesJust (input_limit + 1) source.old.bytes source.new.bytes
     long input taken above = elim taken.ended [ inl e ↦ absurd (omega (arith, e.0, above)) | inr e ↦ (input, e, taken.front) ]
 
-    faults : r ≡ ReadFault → Rose s t
-    faults is = elim h.outcome [ inl e ↦ absurd (said_not_stopped hooks command e.input e.due r e.text before after f g e.outcome e.said (inl is)) | inr e ↦ elim e [ inl d ↦ d.1 | inr d ↦ (let same : NoMemory ≡ ReadFault = sym d ∙ is in absurd (cc)) ] ]
+    faults : r ≡ ReadFault → HasFailed source
+    faults is = elim h.outcome [ inl e ↦ absurd (said_not_stopped hooks command e.input e.due r e.text sink e.outcome e.said (inl is)) | inr e ↦ elim e [ inl d ↦ d.1 | inr d ↦ (let same : NoMemory ≡ ReadFault = sym d ∙ is in absurd (cc)) ] ]
 
-    write_faults : r ≡ WriteFault → Rose f g
+    write_faults : r ≡ WriteFault → HasFailed sink
     write_faults is = elim h.outcome [ inl e ↦ failed e e.said | inr e ↦ elim e [ inl d ↦ (let same : ReadFault ≡ WriteFault = sym d.0 ∙ is in absurd (cc)) | inr d ↦ (let same : NoMemory ≡ WriteFault = sym d ∙ is in absurd (cc)) ] ]
       where
-        failed : (e : Served hooks command r left rest before after f g) → Says e.text e.due r before after f g → Rose f g
+        failed : (e : Served hooks command r source sink) → Says e.text e.due r sink → HasFailed sink
         failed e (inl d) = absurd (true≢false (sym (ap is_stop (sym d.0 ∙ is)) ∙ no_stop hooks command e.input e.due e.text e.outcome))
         failed e (inr d) = d.2
 
-    empty : {q : Status} → r ≡ q → text_of q ≡ [] → after ≡ before → after ≡ bytes_after before (text_of r)
-    empty e none same = same ∙ sym (ap (bytes_after before) (ap text_of e ∙ none) ∙ bytes_after_none before)
+    empty : {q : Status} → r ≡ q → text_of q ≡ [] → sink.new ≡ sink.old → Wrote (text_of r) sink
+    empty e none same = ap (λ (s : Stream). s.bytes) same ∙ sym (ap (bytes_after sink.old.bytes) (ap text_of e ∙ none) ∙ bytes_after_none sink.old.bytes)
 
-    written : (e : Served hooks command r left rest before after f g) → Says e.text e.due r before after f g → r ≢ Done → r ≢ WriteFault → after ≡ bytes_after before (text_of r)
-    written e (inl d) not_done not_fault = elim (own_text hooks command e.input e.due e.text e.outcome) [ inl k ↦ absurd (not_done (d.0 ∙ k)) | inr k ↦ d.1 ∙ ap (bytes_after before) (k ∙ ap text_of (sym d.0)) ]
+    written : (e : Served hooks command r source sink) → Says e.text e.due r sink → r ≢ Done → r ≢ WriteFault → Wrote (text_of r) sink
+    written e (inl d) not_done not_fault = elim (own_text hooks command e.input e.due e.text e.outcome) [ inl k ↦ absurd (not_done (d.0 ∙ k)) | inr k ↦ d.1 ∙ ap (bytes_after sink.old.bytes) (k ∙ ap text_of (sym d.0)) ]
     written e (inr d) not_done not_fault = absurd (not_fault d.0)
 
+-- An answer other than WriteFault comes only where no write failed.
+said_no_fault : (text : List ℕ) (due r : Status) (sink : StreamChange) → Says text due r sink → r ≢ WriteFault → sink.new.faults ≡ sink.old.faults
+said_no_fault text due r sink (inl d) not_fault = d.2
+said_no_fault text due r sink (inr d) not_fault = absurd (not_fault d.0)
+
+no_write_fault : (hooks : List Hook) (command : Command) (r : Status) (source sink : StreamChange) → Answered hooks command r source sink → ((r ≡ ReadFault) ⊎ (r ≡ NoMemory) → sink.new ≡ sink.old) → r ≢ WriteFault → sink.new.faults ≡ sink.old.faults
+no_write_fault hooks command r source sink h untouched not_fault =
+    elim h.outcome [ inl e ↦ said_no_fault e.text e.due r sink e.said not_fault | inr e ↦ ap (λ (s : Stream). s.faults) (untouched (elim e [ inl d ↦ inl d.0 | inr d ↦ inr d ])) ]
+
+-- a stream whose value is as it was has the bytes and the count that it had
+pub change_none : {T : Type 0} (bytes : T → Option (List ℕ)) (faults : T → ℕ) (old new : T) → new ≡ old → (change bytes faults old new).new ≡ (change bytes faults old new).old
+change_none bytes faults old new same = ap (λ s. (change bytes faults old s).new) same
+
 -- What is promised of words is what they tell, be they a command or none.
-none_taken : (left rest : Option (List ℕ)) → rest ≡ left → TakesAtMost (input_limit + 1) left rest
-none_taken left rest same = ([], omega arith, sym (bytes_before_none rest ∙ same))
+none_taken : (source : StreamChange) → source.new ≡ source.old → TakesAtMost (input_limit + 1) source.old.bytes source.new.bytes
+none_taken source same = ([], omega arith, sym (bytes_before_none source.new.bytes ∙ ap (λ (s : Stream). s.bytes) same))
   where
     bytes_before_none : (told : Option (List ℕ)) → bytes_before [] told ≡ told
     bytes_before_none None = refl
     bytes_before_none (Some bytes) = refl
 
-pub told_of_words : (hooks : List Hook) (asked : Option Command) (r : Status) (left rest : Option (List ℕ)) (s t : ℕ) (before after : Option (List ℕ)) (f g : ℕ) → IfSome asked (λ command. Answered hooks command r left rest s t before after f g) → (asked ≡ None → Says (text_of Usage) Usage r before after f g) → (asked ≡ None → (rest ≡ left) × (t ≡ s)) → ((r ≡ ReadFault) ⊎ (r ≡ NoMemory) → after ≡ before) → ToldOfWords hooks asked r left rest s t before after f g
-told_of_words hooks (Some command) r left rest s t before after f g h usage unread unwritten =
-    let tells = told hooks command r left rest s t before after f g h unwritten in
+pub told_of_words : (hooks : List Hook) (asked : Option Command) (r : Status) (source sink : StreamChange) → IfSome asked (λ command. Answered hooks command r source sink) → (asked ≡ None → Says (text_of Usage) Usage r sink) → (asked ≡ None → source.new ≡ source.old) → ((r ≡ ReadFault) ⊎ (r ≡ NoMemory) → sink.new ≡ sink.old) → ToldOfWords hooks asked r source sink
+told_of_words hooks (Some command) r source sink h usage unread untouched =
+    let tells = told hooks command r source sink h untouched in
     record {
       told = tells;
       usage = λ e. absurd (tells.never_usage e);
       only_usage = λ e. absurd (cc);
       write_fault = tells.write_fault;
+      no_read_fault = h.no_read_fault;
+      no_write_fault = no_write_fault hooks command r source sink h untouched;
       text = tells.text;
       taken = h.taken;
       source_count = h.source_count;
     }
-told_of_words hooks None r left rest s t before after f g h usage unread unwritten =
+told_of_words hooks None r source sink h usage unread untouched =
     record {
       told = tt;
       usage = λ e. refl;
       only_usage = λ e. elim (usage refl) [ inl d ↦ inl d.0 | inr d ↦ inr d.0 ];
       write_fault = λ e. elim (usage refl) [ inl d ↦ (let same : Usage ≡ WriteFault = sym d.0 ∙ e in absurd (cc)) | inr d ↦ d.2 ];
-      text = λ not_done not_fault. elim (usage refl) [ inl d ↦ d.1 ∙ ap (λ q. bytes_after before (text_of q)) (sym d.0) | inr d ↦ absurd (not_fault d.0) ];
-      taken = none_taken left rest (unread refl).0;
-      source_count = let same = (unread refl).1 in omega (arith, same);
+      no_read_fault = λ other. ap (λ (s : Stream). s.faults) (unread refl);
+      no_write_fault = said_no_fault (text_of Usage) Usage r sink (usage refl);
+      text = λ not_done not_fault. elim (usage refl) [ inl d ↦ d.1 ∙ ap (λ q. bytes_after sink.old.bytes (text_of q)) (sym d.0) | inr d ↦ absurd (not_fault d.0) ];
+      taken = none_taken source (unread refl);
+      source_count = let same = ap (λ (s : Stream). s.faults) (unread refl) in omega (arith, same);
     }

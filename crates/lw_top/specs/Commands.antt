@@ -1,5 +1,7 @@
 -- The program's commands: which words each has, what it reads, and what it writes for a script.
 use Rattle.std.specs.Prelude.{◌≡◌, ℕ, true, if◌then◌else◌, List, [], ◌∷◌, codes, bytes_eq, Option, Some, None}
+use Rattle.std.specs.String.{string_bytes}
+use Rattle.std.specs.declared.string.String.{String}
 use Rattle.lw_calls.specs.declared.form.Form.TheVariants.{Plain, Ordered}
 use Rattle.lw_canonical.specs.Canonical.{canonical_text}
 use Rattle.lw_calls.specs.Orders.{is_legal, IsBadPlace}
@@ -15,9 +17,9 @@ command_named word =
     if bytes_eq word (codes "run") then Some Run else (if bytes_eq word (codes "check") then Some Check else (if bytes_eq word (codes "replay") then Some Replay else None))
 
 -- the command that the words are, if they are one
-abbrev pub command_of : List (List ℕ) → Option Command
+abbrev pub command_of : {A : Type 0} → List (String A) → Option Command
 command_of [] = None
-command_of (word ∷ []) = command_named word
+command_of (word ∷ []) = command_named (string_bytes word)
 command_of (word ∷ other ∷ words) = None
 
 -- How a command reads its input, where so many hooks are handed in: as a script alone, or with an order.

@@ -1,17 +1,16 @@
 -- What follows from the promise of a command: an input has one outcome, and each answer tells what it should of the input.
 use Rattle.std.specs.Prelude.{◌≡◌, ◌≢◌, ◌⊎◌, ℕ, ◌+◌, ◌<◌, ◌≤◌, Bool, true, false, IsTrue, List, length, Option, None, IfSome}
-use Rattle.lw_io.specs.Streams.{Rose, bytes_before, bytes_after, NoneLeft, TakesJust, TakesAtMost}
+use Rattle.lw_io.specs.Streams.{StreamChange, NoneLeft, TakesJust, TakesAtMost, Took, Wrote, HasFailed}
 use Rattle.lw_calls.specs.declared.reason.Reason.{Reason}
 use Rattle.lw_calls.specs.Orders.{is_legal}
-use Rattle.lw_grammar.specs.Lines.{lines}
-use Rattle.lw_grammar.specs.Script.{ScriptInput, SpellsInput, IsFirstBadIn}
+use Rattle.lw_grammar.specs.Script.{ScriptInput, SpellsInput}
 use Rattle.lw_machine.specs.Hook.{Hook}
 use Rattle.lw_top.specs.declared.status.Status.{Status}
 use Rattle.lw_top.specs.declared.status.Status.TheVariants.{Done, Refused, Usage, ReadFault, WriteFault, NoMemory, TooLong, BadOrder}
 use Rattle.lw_top.specs.declared.words.Command.{Command}
 use Rattle.lw_top.specs.declared.words.Command.TheVariants.{Run, Check, Replay}
 use Rattle.lw_top.specs.Commands.{reads_with, IsTextFor, IsBadOrderFor}
-use Rattle.lw_top.specs.Outcome.{IsOutcome, Answered}
+use Rattle.lw_top.specs.Outcome.{IsBadLineOf, IsOutcome, Answered}
 use Rattle.lw_top.specs.Status.{Says, text_of, input_limit}
 
 -- A command has an outcome on an input, whatever hooks are handed in. Its answer is one only, and so is its text, but that a run may
@@ -50,59 +49,74 @@ abbrev pub IsUnlessStopped : Status → Status → Type 0
 IsUnlessStopped due result = (result ≡ due) ⊎ IsTrue (is_stop result)
 
 -- Reading took all that a source had left, which is no more than the limit.
-pub record IsInput (input : List ℕ) (left rest : Option (List ℕ)) : Type 0 where
-  pub taken : left ≡ bytes_before input rest
-  pub end : NoneLeft rest
+pub record IsInput (input : List ℕ) (source : StreamChange) : Type 0 where
+  pub taken : Took input source
+  pub end : NoneLeft source.new.bytes
   pub within : length input ≤ input_limit
 
 -- The answer is the one that is due, and a text that is due with it was written whole.
-pub record IsAnswer (hooks : List Hook) (command : Command) (input : List ℕ) (due result : Status) (before after : Option (List ℕ)) : Type 0 where
+pub record IsAnswer (hooks : List Hook) (command : Command) (input : List ℕ) (due result : Status) (sink : StreamChange) : Type 0 where
   pub text : List ℕ
   pub outcome : IsOutcome hooks command input due text
   pub same : result ≡ due
-  pub written : after ≡ bytes_after before text
+  pub written : Wrote text sink
 
 -- What each answer to a command tells of what was taken, and of what the source had left where it exposes that.
-pub record AnswerTells (hooks : List Hook) (command : Command) (result : Status) (left rest : Option (List ℕ)) (s t : ℕ) (before after : Option (List ℕ)) (f g : ℕ) : Type 0 where
+pub record AnswerTells (hooks : List Hook) (command : Command) (result : Status) (source sink : StreamChange) : Type 0 where
   -- what was written with Done, and why each other answer came
-  pub done : result ≡ Done → (input : List ℕ) × IsInput input left rest × (text : List ℕ) × IsTextOf hooks command input text × (after ≡ bytes_after before text)
-  pub done_of_left : result ≡ Done → IfSome left (λ input. (text : List ℕ) × IsTextOf hooks command input text × (after ≡ bytes_after before text))
+  pub done : result ≡ Done
+      → (input : List ℕ) × IsInput input source × (text : List ℕ) × IsTextOf hooks command input text × Wrote text sink
+  pub done_of_left : result ≡ Done
+      → IfSome source.old.bytes (λ input. (text : List ℕ) × IsTextOf hooks command input text × Wrote text sink)
   pub never_usage : result ≡ Usage → ⊥
-  pub read_fault : result ≡ ReadFault → Rose s t
-  pub too_long : result ≡ TooLong → TakesJust (input_limit + 1) left rest
-  pub too_long_of_left : result ≡ TooLong → IfSome left (λ input. input_limit < length input)
-  pub refused : (line : ℕ) (reason : Reason) → result ≡ Refused line reason → (input : List ℕ) × IsInput input left rest × IsFirstBadIn (reads_with (length hooks) command) (lines input) line reason
-  pub refused_of_left : (line : ℕ) (reason : Reason) → result ≡ Refused line reason → IfSome left (λ input. (length input ≤ input_limit) × IsFirstBadIn (reads_with (length hooks) command) (lines input) line reason)
-  pub bad_order : (place : ℕ) → result ≡ BadOrder place → (input : List ℕ) × IsInput input left rest × IsBadOrderOf hooks command input place
-  pub bad_order_of_left : (place : ℕ) → result ≡ BadOrder place → IfSome left (λ input. (length input ≤ input_limit) × IsBadOrderOf hooks command input place)
-  pub write_fault : result ≡ WriteFault → Rose f g
+  pub read_fault : result ≡ ReadFault → HasFailed source
+  pub too_long : result ≡ TooLong → TakesJust (input_limit + 1) source.old.bytes source.new.bytes
+  pub too_long_of_left : result ≡ TooLong → IfSome source.old.bytes (λ input. input_limit < length input)
+  pub refused : (line : ℕ) (reason : Reason) → result ≡ Refused line reason
+      → (input : List ℕ) × IsInput input source × IsBadLineOf hooks command input line reason
+  pub refused_of_left : (line : ℕ) (reason : Reason) → result ≡ Refused line reason
+      → IfSome source.old.bytes (λ input. (length input ≤ input_limit) × IsBadLineOf hooks command input line reason)
+  pub bad_order : (place : ℕ) → result ≡ BadOrder place
+      → (input : List ℕ) × IsInput input source × IsBadOrderOf hooks command input place
+  pub bad_order_of_left : (place : ℕ) → result ≡ BadOrder place
+      → IfSome source.old.bytes (λ input. (length input ≤ input_limit) × IsBadOrderOf hooks command input place)
+  pub write_fault : result ≡ WriteFault → HasFailed sink
   -- that it comes, unless a stream failed or memory ran out
-  pub only_too_long : IfSome left (λ input. input_limit < length input → IsUnlessStopped TooLong result)
-  pub only_refused : IfSome left (λ input. length input ≤ input_limit → (line : ℕ) (reason : Reason) → IsFirstBadIn (reads_with (length hooks) command) (lines input) line reason → IsUnlessStopped (Refused line reason) result)
-  pub only_bad_order : IfSome left (λ input. length input ≤ input_limit → (place : ℕ) → IsBadOrderOf hooks command input place → IsUnlessStopped (BadOrder place) result)
-  pub only_done : IfSome left (λ input. length input ≤ input_limit → (script : ScriptInput) → SpellsInput (reads_with (length hooks) command) input script → IsDue command script → IsUnlessStopped Done result)
-  pub complete : (Rose s t → ⊥) → (Rose f g → ⊥) → IfSome left (λ input. (due : Status) (text : List ℕ) → IsOutcome hooks command input due text → IsAnswer hooks command input due result before after ⊎ (result ≡ NoMemory))
+  pub only_too_long : IfSome source.old.bytes (λ input. input_limit < length input → IsUnlessStopped TooLong result)
+  pub only_refused : IfSome source.old.bytes (λ input. length input ≤ input_limit
+      → (line : ℕ) (reason : Reason) → IsBadLineOf hooks command input line reason → IsUnlessStopped (Refused line reason) result)
+  pub only_bad_order : IfSome source.old.bytes (λ input. length input ≤ input_limit
+      → (place : ℕ) → IsBadOrderOf hooks command input place → IsUnlessStopped (BadOrder place) result)
+  pub only_done : IfSome source.old.bytes (λ input. length input ≤ input_limit
+      → (script : ScriptInput) → SpellsInput (reads_with (length hooks) command) input script → IsDue command script
+      → IsUnlessStopped Done result)
+  pub complete : ¬ HasFailed source → ¬ HasFailed sink
+      → IfSome source.old.bytes (λ input. (due : Status) (text : List ℕ) → IsOutcome hooks command input due text
+      → IsAnswer hooks command input due result sink ⊎ (result ≡ NoMemory))
   -- the text of each answer, whole
-  pub text : result ≢ Done → result ≢ WriteFault → after ≡ bytes_after before (text_of result)
+  pub text : result ≢ Done → result ≢ WriteFault → Wrote (text_of result) sink
 
 -- What an answer to the words of a command line tells, which are this command, if they are one.
-pub record ToldOfWords (hooks : List Hook) (asked : Option Command) (result : Status) (left rest : Option (List ℕ)) (s t : ℕ) (before after : Option (List ℕ)) (f g : ℕ) : Type 0 where
-  pub told : IfSome asked (λ command. AnswerTells hooks command result left rest s t before after f g)
+pub record ToldOfWords (hooks : List Hook) (asked : Option Command) (result : Status) (source sink : StreamChange) : Type 0 where
+  pub told : IfSome asked (λ command. AnswerTells hooks command result source sink)
   pub usage : result ≡ Usage → asked ≡ None
   pub only_usage : asked ≡ None → (result ≡ Usage) ⊎ (result ≡ WriteFault)
-  pub write_fault : result ≡ WriteFault → Rose f g
+  pub write_fault : result ≡ WriteFault → HasFailed sink
+  -- a stream's fault is answered, and not passed over
+  pub no_read_fault : result ≢ ReadFault → source.new.faults ≡ source.old.faults
+  pub no_write_fault : result ≢ WriteFault → sink.new.faults ≡ sink.old.faults
   -- the text of each answer, whole
-  pub text : result ≢ Done → result ≢ WriteFault → after ≡ bytes_after before (text_of result)
-  pub taken : TakesAtMost (input_limit + 1) left rest
-  pub source_count : s ≤ t
+  pub text : result ≢ Done → result ≢ WriteFault → Wrote (text_of result) sink
+  pub taken : TakesAtMost (input_limit + 1) source.old.bytes source.new.bytes
+  pub source_count : source.old.faults ≤ source.new.faults
 
 -- What `layers` promises has all this in it: a command's promise, else the usage line and nothing read; and nothing written
 -- after a fault of the source or running out of memory.
 abbrev pub AnswersTell : Type 0
 AnswersTell =
-    (hooks : List Hook) (asked : Option Command) (result : Status) (left rest : Option (List ℕ)) (s t : ℕ) (before after : Option (List ℕ)) (f g : ℕ)
-    → IfSome asked (λ command. Answered hooks command result left rest s t before after f g)
-    → (asked ≡ None → Says (text_of Usage) Usage result before after f g)
-    → (asked ≡ None → (rest ≡ left) × (t ≡ s))
-    → ((result ≡ ReadFault) ⊎ (result ≡ NoMemory) → after ≡ before)
-    → ToldOfWords hooks asked result left rest s t before after f g
+    (hooks : List Hook) (asked : Option Command) (result : Status) (source sink : StreamChange)
+    → IfSome asked (λ command. Answered hooks command result source sink)
+    → (asked ≡ None → Says (text_of Usage) Usage result sink)
+    → (asked ≡ None → source.new ≡ source.old)
+    → ((result ≡ ReadFault) ⊎ (result ≡ NoMemory) → sink.new ≡ sink.old)
+    → ToldOfWords hooks asked result source sink

@@ -1,6 +1,7 @@
 -- The outcome of a command on an input, and what a command promises by it.
-use Rattle.std.specs.Prelude.{◌≡◌, ◌⊎◌, ℕ, ◌+◌, ◌<◌, ◌≤◌, List, length, Option}
-use Rattle.lw_io.specs.Streams.{Rose, bytes_before, NoneLeft, TakesAtMost}
+use Rattle.std.specs.Prelude.{◌≡◌, ◌≢◌, ◌⊎◌, ℕ, ◌+◌, ◌<◌, ◌≤◌, List, length}
+use Rattle.lw_io.specs.Streams.{StreamChange, NoneLeft, TakesAtMost, Took, HasFailed}
+use Rattle.lw_calls.specs.declared.reason.Reason.{Reason}
 use Rattle.lw_grammar.specs.Lines.{lines}
 use Rattle.lw_grammar.specs.Script.{ScriptInput, SpellsInput, IsFirstBadIn}
 use Rattle.lw_machine.specs.Hook.{Hook}
@@ -17,36 +18,39 @@ IsOutcomeFor hooks command script Done text = IsTextFor hooks command script tex
 IsOutcomeFor hooks command script (BadOrder place) text = IsBadOrderFor command script place × (text ≡ text_of (BadOrder place))
 IsOutcomeFor hooks command script status text = ⊥
 
+-- The line is the first bad one of an input, for its first reason, as a command reads it where so many hooks are handed in.
+abbrev pub IsBadLineOf : List Hook → Command → List ℕ → ℕ → Reason → Type 0
+IsBadLineOf hooks command input line reason = IsFirstBadIn (reads_with (length hooks) command) (lines input) line reason
+
 -- The outcome of a command on an input, where these hooks are handed in, which is the answer that is due and its text: more bytes
 -- than the limit are too long; else the first bad line is refused for its first reason; else it is the outcome on the script that
 -- the input spells.
 abbrev pub IsOutcome : List Hook → Command → List ℕ → Status → List ℕ → Type 0
 IsOutcome hooks command input TooLong text = (input_limit < length input) × (text ≡ text_of TooLong)
 IsOutcome hooks command input (Refused line reason) text =
-    (length input ≤ input_limit) × IsFirstBadIn (reads_with (length hooks) command) (lines input) line reason × (text ≡ text_of (Refused line reason))
+    (length input ≤ input_limit) × IsBadLineOf hooks command input line reason × (text ≡ text_of (Refused line reason))
 IsOutcome hooks command input status text =
     (length input ≤ input_limit) × (script : ScriptInput) × SpellsInput (reads_with (length hooks) command) input script × IsOutcomeFor hooks command script status text
 
--- These bytes were taken from a source, where what it had left went from one value to another: all that it had, which were
--- no more than the limit, or one byte more than the limit.
-pub record IsTaken (input : List ℕ) (left rest : Option (List ℕ)) : Type 0 where
-  pub front : left ≡ bytes_before input rest
-  pub ended : ((length input ≤ input_limit) × NoneLeft rest) ⊎ (length input ≡ input_limit + 1)
+-- These bytes were taken from a source: all that it had left, which were no more than the limit, or one byte more than the limit.
+pub record IsTaken (input : List ℕ) (source : StreamChange) : Type 0 where
+  pub front : Took input source
+  pub ended : ((length input ≤ input_limit) × NoneLeft source.new.bytes) ⊎ (length input ≡ input_limit + 1)
 
--- The answer is the outcome of a command on what was taken, and its text was written.
-pub record Served (hooks : List Hook) (command : Command) (result : Status) (left rest before after : Option (List ℕ)) (f g : ℕ) : Type 0 where
+-- The answer is the outcome of a command on what was taken from a source, and its text was written to a sink.
+pub record Served (hooks : List Hook) (command : Command) (result : Status) (source sink : StreamChange) : Type 0 where
   pub input : List ℕ
   pub due : Status
   pub text : List ℕ
-  pub taken : IsTaken input left rest
+  pub taken : IsTaken input source
   pub outcome : IsOutcome hooks command input due text
-  pub said : Says text due result before after f g
+  pub said : Says text due result sink
 
--- What a command promises that is handed these hooks: the outcome, unless reading failed or memory ran out. What the source
--- has left, where it exposes that, went from one value to another, its count of faults did, and likewise what was written to the sink,
--- and its count.
-pub record Answered (hooks : List Hook) (command : Command) (result : Status) (left rest : Option (List ℕ)) (s t : ℕ) (before after : Option (List ℕ)) (f g : ℕ) : Type 0 where
-  pub outcome : Served hooks command result left rest before after f g ⊎ ((result ≡ ReadFault) × Rose s t) ⊎ (result ≡ NoMemory)
-  pub taken : TakesAtMost (input_limit + 1) left rest
-  pub source_count : s ≤ t
-  pub sink_count : f ≤ g
+-- What a command promises that is handed these hooks: the outcome, unless reading failed or memory ran out; and each answer other
+-- than ReadFault comes only where no read failed.
+pub record Answered (hooks : List Hook) (command : Command) (result : Status) (source sink : StreamChange) : Type 0 where
+  pub outcome : Served hooks command result source sink ⊎ ((result ≡ ReadFault) × HasFailed source) ⊎ (result ≡ NoMemory)
+  pub no_read_fault : result ≢ ReadFault → source.new.faults ≡ source.old.faults
+  pub taken : TakesAtMost (input_limit + 1) source.old.bytes source.new.bytes
+  pub source_count : source.old.faults ≤ source.new.faults
+  pub sink_count : sink.old.faults ≤ sink.new.faults

@@ -1,6 +1,6 @@
 -- What the program's call answers, and what it writes for it.
-use Rattle.std.specs.Prelude.{◌≡◌, ℕ, ◌⊎◌, List, [], ◌∷◌, ◌++◌, codes, Option}
-use Rattle.lw_io.specs.Streams.{Rose, bytes_after, WritesPrefix}
+use Rattle.std.specs.Prelude.{◌≡◌, ℕ, ◌⊎◌, List, [], ◌∷◌, ◌++◌, codes}
+use Rattle.lw_io.specs.Streams.{StreamChange, Wrote, WritesPrefix, HasFailed}
 use Rattle.lw_calls.specs.declared.reason.Reason.{Reason}
 use Rattle.lw_calls.specs.declared.reason.Reason.TheVariants.{LineTooLong, BadByte, Spacing, Quote, UnknownWord, Misplaced, Form, Range, NoName, DoubleName, Group, TooMany, NoHook, HookUsed, Padding, Missing}
 use Rattle.lw_calls.specs.Written.{line_of, spaced}
@@ -53,8 +53,16 @@ text_of (BadOrder place) = line_of (codes "bad order at" ++ spaced place)
 abbrev pub input_limit : ℕ
 input_limit = 4194304
 
--- A text was written with the answer that is due, whole; or the sink failed, its count of faults rose, and what was written
--- is a prefix of the text.
-abbrev pub Says : List ℕ → Status → Status → Option (List ℕ) → Option (List ℕ) → ℕ → ℕ → Type 0
-Says text due result before after f g =
-    ((result ≡ due) × (after ≡ bytes_after before text)) ⊎ ((result ≡ WriteFault) × WritesPrefix text before after × Rose f g)
+-- A text was written to a sink whole, with the answer that is due and no fault.
+abbrev pub SaysAll : List ℕ → Status → Status → StreamChange → Type 0
+SaysAll text due result sink =
+    (result ≡ due) × Wrote text sink × (sink.new.faults ≡ sink.old.faults)
+
+-- A sink failed: its count of faults rose, and what was written is a prefix of the text.
+abbrev pub SaysPart : List ℕ → Status → StreamChange → Type 0
+SaysPart text result sink =
+    (result ≡ WriteFault) × WritesPrefix text sink.old.bytes sink.new.bytes × HasFailed sink
+
+-- A text was written to a sink with the answer that is due, whole; or the sink failed.
+abbrev pub Says : List ℕ → Status → Status → StreamChange → Type 0
+Says text due result sink = SaysAll text due result sink ⊎ SaysPart text result sink

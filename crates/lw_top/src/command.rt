@@ -1,5 +1,5 @@
 ghost use Rattle.std.specs.Prelude.{◌≡◌, ◌⊎◌, ◌<◌, ◌≤◌, map, vec_len, None, IfSome};
-ghost use Rattle.std.specs.String.{string_bytes};
+ghost use Rattle.lw_io.specs.Streams.{change};
 ghost use Rattle.lw_top.specs.Commands.{command_of};
 ghost use Rattle.lw_top.specs.Outcome.{Answered};
 ghost use Rattle.lw_top.specs.Status.{Says, text_of};
@@ -17,10 +17,11 @@ use std::thread::Threads;
 
 const USAGE: &str = "usage: layers run|check|replay|audit|demo NUMBER TASKS\n";
 
-/// The program: does what the words say, without the program's own name, with the source as its input and the sink as
-/// its output, and answers how it went. A script may name the hooks by their places from 0 on; they fill with the tiles
-/// that they have as the call starts. `run` makes each task's calls on a thread, tells the gate of each, and may wait, so the call
-/// promises no return; `check` and `replay_cmd`, which it calls for the other words, return.
+/// The program: does what the words say, without the program's own name, with the source as its
+/// input and the sink as its output, and answers how it went. A script may name the hooks by their
+/// places from 0 on; they fill with the tiles that they have as the call starts. `run` makes each
+/// task's calls on a thread, tells the gate of each, and may wait, so the call promises no return;
+/// `check` and `replay_cmd`, which it calls for the other words, return.
 pub fn layers<R: Threads + Wait + Sync, S: Source, K: Sink, G: Gate + Sync>(
     rt: &R,
     alloc: Global,
@@ -31,20 +32,23 @@ pub fn layers<R: Threads + Wait + Sync, S: Source, K: Sink, G: Gate + Sync>(
     gate: &G,
 ) -> Status
     requires few { vec_len hooks < 4294967296 }
-    // The words' command has an outcome on what was taken from the source, with these hooks. For `run` of a script that is the report
-    // of the machine's run in the legal order that the report prints; a malformed script is refused at its first bad line. The outcome
-    // is the answer, and its text is written whole, unless reading failed, memory ran out, or the sink failed after a prefix of the text.
-    ensures answered { IfSome (command_of (map string_bytes words.now)) (λ command.
-        Answered (map (λ b. hook b) hooks.items) command result (S.left source.old) (S.left source.new)
-        (S.faults source.old) (S.faults source.new) (K.written sink.old) (K.written sink.new)
-        (K.faults sink.old) (K.faults sink.new)) }
+    // The words' command has an outcome on what was taken from the source, with these hooks. For
+    // `run` of a script that is the report of the machine's run in the legal order that the report
+    // prints; a malformed script is refused at its first bad line. The outcome is the answer, and
+    // its text is written whole, unless reading failed, memory ran out, or the sink failed after a
+    // prefix of the text. A fault of a stream is answered, and never passed over.
+    ensures answered { IfSome (command_of words.now) (λ command.
+        Answered (map (λ b. hook b) hooks.items) command result
+        (change S.left S.faults source.old source.new)
+        (change K.written K.faults sink.old sink.new)) }
     // Words that are no command get the usage line, and nothing is read.
-    ensures usage { command_of (map string_bytes words.now) ≡ None
-        → Says (text_of Status.Usage) Status.Usage result (K.written sink.old) (K.written sink.new)
-        (K.faults sink.old) (K.faults sink.new) }
-    ensures unread { command_of (map string_bytes words.now) ≡ None → source.new ≡ source.old }
+    ensures usage { command_of words.now ≡ None
+        → Says (text_of Status.Usage) Status.Usage result
+        (change K.written K.faults sink.old sink.new) }
+    ensures unread { command_of words.now ≡ None → source.new ≡ source.old }
     // Nothing is written where reading failed or memory ran out.
-    ensures untouched { (result ≡ Status.ReadFault) ⊎ (result ≡ Status.NoMemory) → sink.new ≡ sink.old }
+    ensures untouched { (result ≡ Status.ReadFault) ⊎ (result ≡ Status.NoMemory)
+        → sink.new ≡ sink.old }
     ensures sink_count { K.faults sink.old ≤ K.faults sink.new }
 {
     match command_of(words) {

@@ -1,6 +1,8 @@
-//! What every command does: it reads its input, and writes the outcome's text. `check` and `replay_cmd` take no lock, and return.
+//! What every command does: it reads its input, and writes the outcome's text. `check` and
+//! `replay_cmd` take no lock, and return.
 
 ghost use Rattle.std.specs.Prelude.{◌≡◌, ◌⊎◌, ◌<◌, ◌≤◌, List, length, map, vec_len};
+ghost use Rattle.lw_io.specs.Streams.{change};
 ghost use Rattle.lw_machine.specs.Hook.{Hook};
 ghost use Rattle.lw_top.specs.Outcome.{Answered};
 ghost use Rattle.lw_top.specs.Status.{Says, text_of};
@@ -18,8 +20,9 @@ use std::thread::Threads;
 
 const INPUT_LIMIT: usize = 4_194_304;
 
-/// Runs a script with these hooks, each task on a thread, and tells the gate of each call: reads the source to its end and writes the
-/// report, or the text of another answer. It may wait, and so promises no return.
+/// Runs a script with these hooks, each task on a thread, and tells the gate of each call: reads
+/// the source to its end and writes the report, or the text of another answer. It may wait, and so
+/// promises no return.
 pub fn run<B: Backfill + Send, R: Threads + Wait + Sync, S: Source, K: Sink, G: Gate + Sync>(
     rt: &R,
     alloc: Global,
@@ -29,10 +32,11 @@ pub fn run<B: Backfill + Send, R: Threads + Wait + Sync, S: Source, K: Sink, G: 
     gate: &G,
 ) -> Status
     requires few { vec_len hooks < 4294967296 }
-    ensures answered { Answered (map B.hook hooks.items) Command.Run result (S.left source.old) (S.left source.new)
-        (S.faults source.old) (S.faults source.new) (K.written sink.old) (K.written sink.new)
-        (K.faults sink.old) (K.faults sink.new) }
-    ensures untouched { (result ≡ Status.ReadFault) ⊎ (result ≡ Status.NoMemory) → sink.new ≡ sink.old }
+    ensures answered { Answered (map B.hook hooks.items) Command.Run result
+        (change S.left S.faults source.old source.new)
+        (change K.written K.faults sink.old sink.new) }
+    ensures untouched { (result ≡ Status.ReadFault) ⊎ (result ≡ Status.NoMemory)
+        → sink.new ≡ sink.old }
 {
     match read_all(alloc, source, INPUT_LIMIT) {
         Ok(input) => match run_outcome(rt, alloc, input.as_slice(), hooks, gate) {
@@ -43,15 +47,17 @@ pub fn run<B: Backfill + Send, R: Threads + Wait + Sync, S: Source, K: Sink, G: 
     }
 }
 
-/// Checks a script, where so many hooks are there for it: reads the source to its end and writes the script's
-/// canonical text, which has no skipped lines and a line feed after each line, or the text of another answer.
+/// Checks a script, where so many hooks are there for it: reads the source to its end and writes
+/// the script's canonical text, which has no skipped lines and a line feed after each line, or the
+/// text of another answer.
 pub fn check<S: Source, K: Sink>(alloc: Global, source: &mut S, sink: &mut K, hooks: u32) -> Status
     // Whichever hooks these are.
     ensures answered { (given : List Hook) → length given ≡ hooks
-        → Answered given Command.Check result (S.left source.old) (S.left source.new)
-        (S.faults source.old) (S.faults source.new) (K.written sink.old) (K.written sink.new)
-        (K.faults sink.old) (K.faults sink.new) }
-    ensures untouched { (result ≡ Status.ReadFault) ⊎ (result ≡ Status.NoMemory) → sink.new ≡ sink.old }
+        → Answered given Command.Check result
+        (change S.left S.faults source.old source.new)
+        (change K.written K.faults sink.old sink.new) }
+    ensures untouched { (result ≡ Status.ReadFault) ⊎ (result ≡ Status.NoMemory)
+        → sink.new ≡ sink.old }
 {
     match read_all(alloc, source, INPUT_LIMIT) {
         Ok(input) => match check_outcome(alloc, input.as_slice(), hooks) {
@@ -62,9 +68,9 @@ pub fn check<S: Source, K: Sink>(alloc: Global, source: &mut S, sink: &mut K, ho
     }
 }
 
-/// Runs a script of some tasks in the order that stands after them, with these hooks: reads the source to its end and writes
-/// the report, or the text of another answer. It takes no lock, and returns. The hooks are boxes here, so that a caller who has none
-/// need not name their type.
+/// Runs a script of some tasks in the order that stands after them, with these hooks: reads the
+/// source to its end and writes the report, or the text of another answer. It takes no lock, and
+/// returns. The hooks are boxes here, so that a caller who has none need not name their type.
 pub fn replay_cmd<S: Source, K: Sink>(
     alloc: Global,
     source: &mut S,
@@ -72,10 +78,11 @@ pub fn replay_cmd<S: Source, K: Sink>(
     hooks: Vec<Box<dyn Backfill + Send>>,
 ) -> Status
     requires few { vec_len hooks < 4294967296 }
-    ensures answered { Answered (map (λ b. hook b) hooks.items) Command.Replay result (S.left source.old) (S.left source.new)
-        (S.faults source.old) (S.faults source.new) (K.written sink.old) (K.written sink.new)
-        (K.faults sink.old) (K.faults sink.new) }
-    ensures untouched { (result ≡ Status.ReadFault) ⊎ (result ≡ Status.NoMemory) → sink.new ≡ sink.old }
+    ensures answered { Answered (map (λ b. hook b) hooks.items) Command.Replay result
+        (change S.left S.faults source.old source.new)
+        (change K.written K.faults sink.old sink.new) }
+    ensures untouched { (result ≡ Status.ReadFault) ⊎ (result ≡ Status.NoMemory)
+        → sink.new ≡ sink.old }
 {
     replay(alloc, source, sink, hooks)
 }
@@ -88,10 +95,11 @@ fn replay<S: Source, K: Sink, B: Backfill + Send>(
     hooks: Vec<B>,
 ) -> Status
     requires few { vec_len hooks < 4294967296 }
-    ensures answered { Answered (map B.hook hooks.items) Command.Replay result (S.left source.old) (S.left source.new)
-        (S.faults source.old) (S.faults source.new) (K.written sink.old) (K.written sink.new)
-        (K.faults sink.old) (K.faults sink.new) }
-    ensures untouched { (result ≡ Status.ReadFault) ⊎ (result ≡ Status.NoMemory) → sink.new ≡ sink.old }
+    ensures answered { Answered (map B.hook hooks.items) Command.Replay result
+        (change S.left S.faults source.old source.new)
+        (change K.written K.faults sink.old sink.new) }
+    ensures untouched { (result ≡ Status.ReadFault) ⊎ (result ≡ Status.NoMemory)
+        → sink.new ≡ sink.old }
 {
     match read_all(alloc, source, INPUT_LIMIT) {
         Ok(input) => match replay_outcome(alloc, input.as_slice(), hooks) {
@@ -105,10 +113,11 @@ fn replay<S: Source, K: Sink, B: Backfill + Send>(
 // Writes the text that is due where the input was not read to its end.
 fn say_stop<K: Sink>(sink: &mut K, stop: ReadStop) -> Status
     ensures long { stop ≡ ReadStop.TooLong → Says (text_of Status.TooLong) Status.TooLong result
-        (K.written sink.old) (K.written sink.new) (K.faults sink.old) (K.faults sink.new) }
+        (change K.written K.faults sink.old sink.new) }
     ensures fault { stop ≡ ReadStop.Fault → result ≡ Status.ReadFault }
     ensures memory { stop ≡ ReadStop.Memory → result ≡ Status.NoMemory }
-    ensures untouched { (result ≡ Status.ReadFault) ⊎ (result ≡ Status.NoMemory) → sink.new ≡ sink.old }
+    ensures untouched { (result ≡ Status.ReadFault) ⊎ (result ≡ Status.NoMemory)
+        → sink.new ≡ sink.old }
     ensures count { K.faults sink.old ≤ K.faults sink.new }
 {
     match stop {

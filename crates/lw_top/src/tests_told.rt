@@ -1,6 +1,6 @@
 //! A caller of `layers` that draws from its promises what each answer tells.
 ghost use Rattle.std.specs.Prelude.{◌<◌, map, vec_len};
-ghost use Rattle.std.specs.String.{string_bytes};
+ghost use Rattle.lw_io.specs.Streams.{change};
 ghost use Rattle.lw_top.specs.Commands.{command_of};
 ghost use Rattle.lw_top.specs.Laws.{ToldOfWords};
 
@@ -22,9 +22,9 @@ pub fn told<R: Threads + Wait + Sync, S: Source, K: Sink, G: Gate + Sync>(
     gate: &G,
 ) -> Status
     requires few { vec_len hooks < 4294967296 }
-    ensures { ToldOfWords (map (λ b. hook b) hooks.items) (command_of (map string_bytes words.now)) result
-        (S.left source.old) (S.left source.new) (S.faults source.old) (S.faults source.new)
-        (K.written sink.old) (K.written sink.new) (K.faults sink.old) (K.faults sink.new) }
+    ensures { ToldOfWords (map (λ b. hook b) hooks.items) (command_of words.now) result
+        (change S.left S.faults source.old source.new)
+        (change K.written K.faults sink.old sink.new) }
 {
     layers(rt, alloc, words, source, sink, hooks, gate)
 }

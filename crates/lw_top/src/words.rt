@@ -1,5 +1,4 @@
-ghost use Rattle.std.specs.Prelude.{◌≡◌, map};
-ghost use Rattle.std.specs.String.{string_bytes};
+ghost use Rattle.std.specs.Prelude.{◌≡◌};
 ghost use Rattle.lw_top.specs.Commands.{command_named, command_of};
 
 use lw_words::is_text;
@@ -17,7 +16,7 @@ pub enum Command {
 
 /// The command that the words are, without the program's name; none where they are no command.
 pub fn command_of(words: &[String]) -> Option<Command>
-    ensures { result ≡ command_of (map string_bytes words.now) }
+    ensures { result ≡ command_of words.now }
 {
     match words {
         [word] => command_named(word.as_bytes()),

@@ -1,5 +1,6 @@
 use Rattle.std.proofs.Common.{List, [], ℕ, replicate, subst}
 use Rattle.std.proofs.lemmas.List.{length-replicate}
+use Rattle.lw_io.specs.Streams.{change}
 use Rattle.lw_machine.specs.Hook.{Hook}
 use Rattle.lw_top.specs.declared.status.Status.TheVariants.{Usage}
 use Rattle.lw_top.specs.Status.{Says}
@@ -12,4 +13,4 @@ returns-in-Some-Check-clause-sink_count g c =
 
 pub returns-in-None-clause-usage : goal.returns-in-None-clause-usage
 returns-in-None-clause-usage g c =
-    λ none. subst (λ (text : List ℕ). Says text Usage c.say.result (g.K.Sink.written c.args.sink.now) (g.K.Sink.written c.say.new.sink) (g.K.Sink.faults c.args.sink.now) (g.K.Sink.faults c.say.new.sink)) c.as_bytes.ensures.value c.say.ensures.said
+    λ none. subst (λ (text : List ℕ). Says text Usage c.say.result (change g.K.Sink.written g.K.Sink.faults c.args.sink.now c.say.new.sink)) c.as_bytes.ensures.value c.say.ensures.said

@@ -1,5 +1,6 @@
 use Rattle.std.proofs.Common.{◌≡◌, List, [], length, replicate, Err, ap, sym, subst}
 use Rattle.std.proofs.lemmas.List.{length-replicate}
+use Rattle.lw_io.specs.Streams.{change}
 use Rattle.lw_machine.specs.Hook.{Hook}
 use Rattle.lw_top.specs.declared.words.Command.TheVariants.{Check}
 use Rattle.lw_top.specs.Outcome.{IsOutcome}
@@ -15,10 +16,10 @@ returns-in-Ok-check_outcome-clause-untouched g c =
     let due = c.in-Ok-check_outcome.checked.status in
     let text = c.as_slice-in-Ok-check_outcome.result.now in
     let outcome : IsOutcome given Check c.as_slice.result.now due text = subst (λ t. IsOutcome given Check c.as_slice.result.now due t) (sym c.as_slice-in-Ok-check_outcome.ensures.value) (c.in-Ok-check_outcome.ensures given many) in
-    λ stopped. absurd (said_not_stopped given Check c.as_slice.result.now due c.say.result text (g.K.Sink.written c.args.sink.now) (g.K.Sink.written c.say.new.sink) (g.K.Sink.faults c.args.sink.now) (g.K.Sink.faults c.say.new.sink) outcome c.say.ensures.said stopped)
+    λ stopped. absurd (said_not_stopped given Check c.as_slice.result.now due c.say.result text (change g.K.Sink.written g.K.Sink.faults c.args.sink.now c.say.new.sink) outcome c.say.ensures.said stopped)
 
 pub returns-clause-answered : goal.returns-clause-answered
 returns-clause-answered g c =
-    λ given same. unread given Check c.in-Err.stop c.say_stop.result _ _ _ _ _ _ _ _
-    (λ e. c.in-Err.ensures.too_long (ap Err e)) (λ e. c.in-Err.ensures.fault (ap Err e))
+    λ given same. unread given Check c.in-Err.stop c.say_stop.result _ _
+    (λ e. c.in-Err.ensures.too_long (ap Err e)) (λ e. c.in-Err.ensures.fault (ap Err e)) (λ other. c.in-Err.ensures.no_fault (λ e. other (cc)))
     c.say_stop.ensures.long c.say_stop.ensures.fault c.say_stop.ensures.memory c.in-Err.ensures.taken c.in-Err.ensures.count c.say_stop.ensures.count
