@@ -1,5 +1,5 @@
 -- A call that arranges all layers, made and stamped.
-use Rattle.std.proofs.Common.{◌∙◌, sym, subst, ap}
+use Rattle.std.proofs.Common.{◌∙◌, sym, ap}
 use Rattle.lw_calls.specs.Touches.{class_of}
 use Rattle.lw_machine.specs.History.{machine}
 use Rattle.lw_locks.proofs.Apart.{all_apart}

@@ -1,5 +1,4 @@
 -- A look at LayerInfo, made and stamped.
-use Rattle.std.proofs.Common.{subst}
 use Rattle.lw_calls.specs.Touches.{class_of}
 use Rattle.lw_locks.proofs.Apart.{info_apart}
 use Rattle.lw_locks.proofs.Stepping.{IsBegun, regs_stay, look_made}
