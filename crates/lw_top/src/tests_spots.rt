@@ -8,8 +8,9 @@ use std::thread;
 const TURNS: u32 = 50_000_000;
 
 // How many turns a test looks on to see that something doesn't happen. Where the machine is slow it may be that it only hasn't happened
-// yet: then a test passes that should have failed, and none fails that should have passed.
-const FEW_TURNS: u32 = 100_000;
+// yet: then a test passes that should have failed, and none fails that should have passed. They are few, since a turn can take
+// most of a millisecond under load, and a test has a minute.
+const FEW_TURNS: u32 = 20_000;
 
 /// Holds until the count is at least so high, for a number of turns. Whether it was.
 pub fn waits_for(count: &AtomicU32, least: u32) -> bool {
