@@ -58,7 +58,7 @@ fn close_again<E: Engine, N: Opening, R: Wait + Abort>(
     requires sizes { N.desk.sizes ≡ plan.now.sizes }
     requires many { vec_len left.passes ≡ N.desk.sizes.tasks }
     requires each { HasEach left.passes.items N.desk.sizes.tasks }
-    ensures { IfOk result (λ c. (d : MachineDesk) × AreParts (E.info_is N.desk.sizes) E.number E.cell_is N.desk.sizes N.desk.assets c.info c.cells.items d) }
+    ensures { IfOk result (λ c. (d : MachineDesk) × AreParts E.relations N.desk.sizes N.desk.assets c.info c.cells.items d) }
 {
     let NotClosed { desk, mut passes } = left;
     let Some(mut pass) = passes.pop() else {
@@ -85,7 +85,7 @@ fn close_run<E: Engine, N: Opening + Send + Sync, R: Threads + Wait + Abort + Sy
     requires plan { IsPlan plan.now }
     requires sizes { N.desk.sizes ≡ plan.now.sizes }
     requires passes { passes.items ≡ map opening_pass (range_with_len 0 plan.now.sizes.tasks) }
-    ensures { IfOk result (λ r. (d : MachineDesk) × AreParts (E.info_is N.desk.sizes) E.number E.cell_is N.desk.sizes N.desk.assets r.0.info r.0.cells.items d) }
+    ensures { IfOk result (λ r. (d : MachineDesk) × AreParts E.relations N.desk.sizes N.desk.assets r.0.info r.0.cells.items d) }
 {
     let runs = run_each(rt, alloc, &OpenGate, plan, &desk, passes)?;
     let (passes, all) = parted(alloc, runs)?;
