@@ -3,7 +3,7 @@ use crate::tests::answer_to;
 use std::test::Fail;
 
 // Scripts that draw into layers, read pixels of them, blit and scroll, and their reports.
-static DRAWN: [(&[u8], &[u8]); 11] = [
+static DRAWN: [(&[u8], &[u8]); 12] = [
     // A line is inverted and stays in the clip region, without another beginning there. A pixel off that region can't be written,
     // and can be read.
     (
@@ -714,6 +714,37 @@ region 0
 none
 not-open
 not-open
+done
+",
+    ),
+    // Damage is scrolled with the pens: what was brought from under the cover is damaged, and so is what the cover leaves.
+    (
+        b"screen 16 1 1
+task a
+create s simple front 0 0 7 0
+create c smart front 3 0 4 0
+fill s 0 0 7 0
+scrollraster s 1 0 0 0 7 0
+close c
+scrollraster s 1 0 0 0 7 0
+end
+",
+        b"order 6
+0 0 0 0 0 0
+planes 16 1 1
+plane 0
+8c00
+visible s 1
+0 0 7 0
+damage s 1
+1 0 3 0
+replies a 6
+ok
+ok
+ok
+ok
+ok
+ok
 done
 ",
     ),
