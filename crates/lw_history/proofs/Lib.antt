@@ -3,4 +3,4 @@ mod CallTold
 mod ArrangementTold
 mod HistoryTold
 mod ScrollTold
-mod RunTold
+pub mod RunTold
