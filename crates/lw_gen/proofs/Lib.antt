@@ -1,0 +1,3 @@
+mod Drawn
+mod Listed
+pub mod Plans

@@ -1,0 +1,13 @@
+//! The plan of a demo: some tasks, each with three layers in columns of its own, and 500 calls each that are drawn by a number.
+//!
+//! `specs/` says the generator and the plan; the code makes that plan.
+#![tactic(auto)]
+
+mod generator;
+mod laws;
+mod plan;
+#[cfg(test)]
+mod tests;
+
+pub use laws::{demos_are_plans, demos_draw_these_first};
+pub use plan::plan_of;
