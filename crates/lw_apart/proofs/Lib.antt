@@ -1,0 +1,10 @@
+pub mod Plain
+pub mod SlotLists
+pub mod Tops
+pub mod Slots
+pub mod Shared
+pub mod Alike
+pub mod Moves
+pub mod TaskOrders
+pub mod Runs
+pub mod Demos
