@@ -3,13 +3,9 @@ use Rattle.std.proofs.Common.{◌≡◌, ℕ, ◌^◌, ◌<◌, Option, Some, No
 use Rattle.std.specs.List.{slice_index_or}
 use Rattle.lw_planes.specs.Sizes.{IsPlanes}
 use Rattle.lw_planes.proofs.BitmapLaws.{IsBitmap_bitmap}
-use Rattle.lw_layer.specs.View.{CellView}
-use Rattle.lw_layer.specs.View as view
+use Rattle.lw_layer.specs.View.{LiveView}
 use Rattle.lw_layer.specs.Pieces.{buffer_at, column_in, line_in}
-use Rattle.lw_layer.specs.Drafts.{IsLiveDraft, IsState, layout, buffers_of, no_bitmap, pen_from, live_view, state_of, live_of, cell_view}
-use Rattle.lw_layer.specs.declared.draft.Draft.{Draft}
-use Rattle.lw_layer.specs.declared.draft.DraftState.{DraftState}
-use Rattle.lw_layer.specs.declared.draft.DraftState.TheVariants.{Unopened, Closed, Live}
+use Rattle.lw_layer.specs.Drafts.{IsLiveDraft, layout, buffers_of, no_bitmap, pen_from, live_view}
 use Rattle.lw_layer.specs.declared.draft.LiveDraft.{LiveDraft}
 use Rattle.lw_layer.proofs.BufferLaws.{buffer_is}
 use Rattle.lw_layer.proofs.ViewLaws.{has_place}
@@ -32,11 +28,6 @@ live_bits d ok = record {
   sizes = ok.sizes;
 }
 
-state_bits : (s : DraftState) → IsState s → state_of s ≡ view.Live → IsPlanes (live_of s).layer.bits
-state_bits Unopened ok live = absurd (cc live)
-state_bits Closed ok live = absurd (cc live)
-state_bits (Live d) ok live = live_bits d ok
-
--- the same, of the cell that a draft stands for
-pub cell_bits : (d : Draft) (c : CellView) → IsState d.state → cell_view d ≡ c → c.state ≡ view.Live → IsPlanes c.live.layer.bits
-cell_bits d c ok is live = let P : CellView → Type 0 = λ v. IsPlanes v.live.layer.bits in subst P is (state_bits d.state ok (ap (λ (v : CellView). v.state) is ∙ live))
+-- the same, of the layer that a draft stands for
+pub layer_bits : (d : LiveDraft) (c : LiveView) → IsLiveDraft d → live_view d ≡ c → IsPlanes c.layer.bits
+layer_bits d c ok is = let P : LiveView → Type 0 = λ v. IsPlanes v.layer.bits in subst P is (live_bits d ok)

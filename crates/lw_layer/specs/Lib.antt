@@ -3,6 +3,7 @@ pub mod Pieces
 pub mod Drafts
 pub mod Code
 pub mod Written
+pub mod States
 pub mod Lending
 pub mod Runs
 pub mod Looks

@@ -17,6 +17,10 @@ abbrev pub oldest_of : Option Window → Option Message
 oldest_of None = None
 oldest_of (Some w) = oldest w.port
 
+-- the layer, whatever room its port has
+abbrev pub roomless : LiveView → LiveView
+roomless c = record c { room = 0 }
+
 -- the cell, whatever room its port has
 abbrev pub without_room : CellView → CellView
 without_room c = with_live (λ k. record k { room = 0 }) c

@@ -10,13 +10,10 @@ use Rattle.lw_region.specs.Rectangle.{width}
 use Rattle.lw_planes.specs.Row.{row_bit}
 use Rattle.lw_planes.specs.Bitmap.{Bitmap, pen_at, row_bytes}
 use Rattle.lw_planes.specs.Change.{with_row}
-use Rattle.lw_layer.specs.Drafts.{IsLiveDraft, layout, buffers_of, no_bitmap}
-use Rattle.lw_layer.specs.Pieces.{buffer_rectangle, HasLine}
-use Rattle.lw_layer.specs.declared.draft.DraftState.{DraftState}
-use Rattle.lw_layer.specs.declared.draft.DraftState.TheVariants.{Unopened, Closed, Live}
+use Rattle.lw_layer.specs.Drafts.{layout, buffers_of, no_bitmap}
+use Rattle.lw_layer.specs.Pieces.{buffer_rectangle}
 use Rattle.lw_layer.specs.declared.draft.LiveDraft.{LiveDraft}
 use Rattle.lw_layer.specs.contracts.draft.LiveDraft as live_draft
-use Rattle.lw_layer.specs.contracts.draft.DraftState as draft_state
 
 -- the bytes have in this plane the bits of a line of a bitmap
 abbrev pub HasBits : Bitmap → ℕ → ℕ → List ℕ → Type 0
@@ -55,29 +52,7 @@ LendsOwn d plane line row = Lends live_draft.the_row (Array u8 0) d row (λ byte
 abbrev pub LendsLine : MutBor LiveDraft → ℕ → ℕ → ℕ → MutBor (List ℕ) → Fml
 LendsLine d plane n line row = Lends live_draft.the_row (Array u8 0) d row (with_line_bytes plane n line d.now)
 
--- what a draft says of its slot, with its live layer changed
-abbrev pub changed_live : (LiveDraft → LiveDraft) → DraftState → DraftState
-changed_live f Unopened = Unopened
-changed_live f Closed = Closed
-changed_live f (Live d) = Live (f d)
-
--- the slot is live, and of its draft this holds
-abbrev pub WhereLive : (LiveDraft → Type 0) → DraftState → Type 0
-WhereLive P Unopened = ⊥
-WhereLive P Closed = ⊥
-WhereLive P (Live d) = P d
-
--- a live layer that has this plane and this line of a buffer
-pub record HasPlaneLine (d : LiveDraft) (plane n line : ℕ) : Type 0 where
-  pub sound : IsLiveDraft d
-  pub deep : plane < d.depth
-  pub there : HasLine (layout d) n line
-
 -- the bytes are as long as a row of a buffer and have its bits
 pub record HasRow (d : LiveDraft) (plane n line : ℕ) (row : List ℕ) : Type 0 where
   pub long : length row ≡ row_bytes (width (buffer_rectangle (layout d) n))
   pub bits : HasBufferBits d plane n line row
-
-abbrev pub LendsStateLine : MutBor DraftState → ℕ → ℕ → ℕ → MutBor (List ℕ) → Fml
-LendsStateLine s plane n line row =
-    Lends draft_state.the_row (Array u8 0) s row (λ bytes. changed_live (λ d. with_line_bytes plane n line d bytes) s.now)

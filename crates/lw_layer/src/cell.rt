@@ -1,53 +1,55 @@
-ghost use Rattle.std.specs.Prelude.{◌≡◌, ℕ, ◌*◌, ◌<◌, ◌≤◌, ◌↔◌, length, ℤ, pos, ◌+ℤ◌, true, IsTrue, Some, None, MatchOption};
+ghost use Rattle.std.specs.Prelude.{◌≡◌, ℕ, ◌*◌, ◌-◌, ◌<◌, ◌≤◌, ◌↔◌, ◌++◌, ◌∷◌, [], length, ℤ, pos, ◌+ℤ◌, true, IsTrue, Some, None, OnOk, OnErr, MatchOption};
 ghost use Rattle.std.specs.Borrow.{sem};
 ghost use Rattle.lw_region.specs.Rectangle.{width};
 ghost use Rattle.lw_planes.specs.Row.{bit_of, row_bit};
 ghost use Rattle.lw_planes.specs.Bitmap.{row_bytes};
 ghost use Rattle.lw_layer.specs.View.{CellView, keeps, draws, kept_pen, with_layer, with_live};
-ghost use Rattle.lw_layer.specs.Drafts.{IsDraft, cell_view, raster_of, clip_set, no_layer};
+ghost use Rattle.lw_layer.specs.Drafts.{IsDraft, cell_view, raster_of, clip_set, no_layer, window_of};
 ghost use Rattle.lw_planes.specs.Sizes.{IsPlanes};
 ghost use Rattle.lw_layer.specs.View as view;
 ghost use Rattle.lw_layer.specs.Pieces.{hidden_rectangles, inner_in, damage_table, IsDamageOf, HasLine, HasLineBits, layout_of, buffer_rectangle};
-ghost use Rattle.lw_layer.specs.Lending.{LendsRow};
+ghost use Rattle.lw_layer.specs.Lending.{LendsLayer, LendsRow};
 ghost use Rattle.lw_region.specs.Pixels.{pixels_of};
 ghost use Rattle.lw_region.specs.Bands.{covers};
 ghost use Rattle.lw_region.specs.Banded.{IsCanonical};
 ghost use Rattle.lw_cliprects.specs.Parts.{AreDivided};
-ghost use Rattle.lw_calls.specs.Kinds.{is_super};
+ghost use Rattle.lw_machine.specs.Layer.{is_window, change_window};
 ghost use Rattle.lw_machine.specs.Kept.{holds_at};
-ghost use Rattle.lw_machine.specs.Step.{end_update};
+ghost use Rattle.lw_machine.specs.Step.{end_update, get_msg};
 ghost use Rattle.lw_layer.specs.Looks.{IsLookAt};
 ghost use Rattle.lw_layer.specs.StandsFor.{IsSound};
 ghost use Rattle.lw_layer.specs.Runs.{IsRunAt, IsNext};
 ghost use Rattle.lw_layer.specs.Copied.{kept_bit};
+ghost use Rattle.lw_layer.specs.Windows.{title_of, oldest_of, without_room, HasRoom};
 
-use crate::draft::{Draft, DraftState};
+use crate::draft::Draft;
+use crate::layer::Layer;
 use crate::look::Look;
 use crate::raster::Raster;
 use crate::run::Run;
+use crate::state::CellState;
+use crate::windows::WindowDraft;
+use lw_calls::{Message, Text};
 use lw_damage::Damage;
 use lw_region::{Rect, Region};
+use std::alloc::{AllocError, Global};
 use std::marker::Model;
 use std::mem;
 
-/// One slot of the desk: its layer, if it is live, with the layer's raster state, clip region, damage, clip rectangles and
-/// pens. Contracts see the slot's part of the desk. Pens are kept in buffers, which have numbers: first those of the visible
-/// rectangles in their order, then a smart layer's hidden ones, or a super-bitmap layer's own bitmap. Where each pen lies
-/// follows from the slot's part.
+/// One slot of the desk: its layer, if it is live. Contracts see the slot's part of the desk.
 #[derive(Debug, Drop)]
 pub struct Cell {
-    pub(crate) draft: Draft,
+    slot: u32,
+    state: CellState,
 }
 
 impl Model for Cell {
     ghost use Rattle.lw_layer.specs.View.{CellView};
-    ghost use Rattle.lw_layer.specs.Drafts.{IsDraft, cell_view};
+    ghost use Rattle.lw_layer.specs.States.{state_in, live_in};
 
     ghost Value = { CellView };
 
-    ghost view = { λ c. cell_view c.draft };
-
-    ghost invariant = { λ c. IsDraft c.draft };
+    ghost view = { λ c. record { number = c.slot; state = state_in c.state; live = live_in c.state } };
 }
 
 impl Cell {
@@ -56,10 +58,8 @@ impl Cell {
         ensures { result ≡ record { number = slot; state = view.Unopened; live = no_layer } }
     {
         Cell {
-            draft: Draft {
-                slot,
-                state: DraftState::Unopened,
-            },
+            slot,
+            state: CellState::Unopened,
         }
     }
 
@@ -67,7 +67,22 @@ impl Cell {
     pub fn slot(&self) -> u32
         ensures { result ≡ self.now.number }
     {
-        self.draft.slot
+        self.slot
+    }
+
+    /// The layer; `None` exactly where the slot isn't live.
+    pub fn layer(&self) -> Option<&Layer>
+        ensures { MatchOption result (self.now.state ≡ view.Live → ⊥) (λ l. (self.now.state ≡ view.Live) × (l.now ≡ self.now.live)) }
+    {
+        self.state.layer()
+    }
+
+    /// Lends the layer; `None` exactly where the slot isn't live.
+    pub fn layer_mut(&mut self) -> Option<&mut Layer>
+        ensures* writes_back { sem 𝓛 (LendsLayer self.entry result) }
+        ensures layer { MatchOption result (self.old.state ≡ view.Live → ⊥) (λ l. (self.old.state ≡ view.Live) × (l.now ≡ self.old.live)) }
+    {
+        self.state.layer_mut()
     }
 
     /// Takes a state up and hands back the former one. No memory is taken. Of a live layer it asks that `parts` cuts `bounds`;
@@ -80,9 +95,27 @@ impl Cell {
         ensures former { cell_view result ≡ self.old }
         ensures draft { IsDraft result }
     {
-        mem::replace(&mut self.draft, draft)
+        let slot = mem::replace(&mut self.slot, draft.slot);
+        let state = mem::replace(&mut self.state, CellState::taken(draft.state));
+        Draft {
+            slot,
+            state: state.handed_back(),
+        }
     }
 
+    /// Whether the slot's layer was not created so far.
+    pub fn fresh(&self) -> bool
+        ensures { IsTrue result ↔ self.now.state ≡ view.Unopened }
+    {
+        match &self.state {
+            CellState::Unopened => true,
+            _ => false,
+        }
+    }
+}
+
+// Calls of the layer, where the slot is live.
+impl Cell {
     /// Lends one plane's bytes of a line of a buffer, as `run_at` tells them: `((width + 15) / 16) * 2` bytes for a buffer
     /// of that width, which have a bit for each of its columns, the leftmost in the most significant bit of the first. After
     /// the loan each kept pixel whose pen is in that line has in this plane the bit that the bytes hold, and all else stays
@@ -96,8 +129,10 @@ impl Cell {
         ensures wide { width (buffer_rectangle (layout_of self.old.live) buffer) ≤ 8 * length result.now }
         ensures bits { HasLineBits self.old.live plane buffer line result.now }
     {
-        let state = &mut self.draft.state;
-        state.row_mut(plane, buffer, line)
+        match self.layer_mut() {
+            Some(layer) => layer.line_mut(plane, buffer, line),
+            None => unreachable!(),
+        }
     }
 
     /// A run of drawable pixels from column `x` and row `y` on to the right; `None` exactly where that pixel is not drawable. It
@@ -105,8 +140,8 @@ impl Cell {
     pub fn run_at(&self, x: i32, y: i32) -> Option<Run>
         ensures { IsRunAt self.now.live (λ i j. draws self.now.live i j) x y result }
     {
-        match &self.draft.state {
-            DraftState::Live(live) => live.run_from(x, y),
+        match &self.state {
+            CellState::Live(layer) => layer.run_at(x, y),
             _ => None,
         }
     }
@@ -115,8 +150,8 @@ impl Cell {
     pub fn next_drawable(&self, x: i32, y: i32, last: i32) -> Option<i32>
         ensures { IsNext (λ i j. draws self.now.live i j) x y last result }
     {
-        match &self.draft.state {
-            DraftState::Live(live) => live.next_from(x, y, last),
+        match &self.state {
+            CellState::Live(layer) => layer.next_drawable(x, y, last),
             _ => None,
         }
     }
@@ -127,9 +162,9 @@ impl Cell {
         ensures value { raster_of result ≡ self.now.live.layer.raster }
         ensures mode { result.mode < 8 }
     {
-        match &self.draft.state {
-            DraftState::Live(live) => live.raster,
-            _ => unreachable!(),
+        match self.layer() {
+            Some(layer) => layer.raster(),
+            None => unreachable!(),
         }
     }
 
@@ -139,9 +174,9 @@ impl Cell {
         ensures value { result ≡ self.now.live.layer.bits.depth }
         ensures bits { IsPlanes self.now.live.layer.bits }
     {
-        match &self.draft.state {
-            DraftState::Live(live) => live.depth,
-            _ => unreachable!(),
+        match self.layer() {
+            Some(layer) => layer.depth(),
+            None => unreachable!(),
         }
     }
 
@@ -151,9 +186,9 @@ impl Cell {
         ensures value { result ≡ self.now.live.layer.bits.width }
         ensures bits { IsPlanes self.now.live.layer.bits }
     {
-        match &self.draft.state {
-            DraftState::Live(live) => live.width(),
-            _ => unreachable!(),
+        match self.layer() {
+            Some(layer) => layer.width(),
+            None => unreachable!(),
         }
     }
 
@@ -163,19 +198,9 @@ impl Cell {
         ensures value { result ≡ self.now.live.layer.bits.height }
         ensures bits { IsPlanes self.now.live.layer.bits }
     {
-        match &self.draft.state {
-            DraftState::Live(live) => live.height(),
-            _ => unreachable!(),
-        }
-    }
-
-    /// Whether the slot's layer was not created so far.
-    pub fn fresh(&self) -> bool
-        ensures { IsTrue result ↔ self.now.state ≡ view.Unopened }
-    {
-        match &self.draft.state {
-            DraftState::Unopened => true,
-            _ => false,
+        match self.layer() {
+            Some(layer) => layer.height(),
+            None => unreachable!(),
         }
     }
 
@@ -185,10 +210,10 @@ impl Cell {
         ensures sound { self.now.state ≡ view.Live → IsSound self.now.live }
         ensures idle { (self.now.state ≡ view.Live → ⊥) → self.now.live ≡ no_layer }
     {
-        match &self.draft.state {
-            DraftState::Live(live) => Some(live.look()),
-            DraftState::Unopened => None,
-            DraftState::Closed => None,
+        match &self.state {
+            CellState::Live(layer) => Some(layer.look()),
+            CellState::Unopened => None,
+            CellState::Closed => None,
         }
     }
 
@@ -196,8 +221,8 @@ impl Cell {
     pub fn kept_at(&self, x: i32, y: i32) -> Option<u8>
         ensures { result ≡ kept_pen self.now.live x y }
     {
-        match &self.draft.state {
-            DraftState::Live(live) => live.kept_at(x, y),
+        match &self.state {
+            CellState::Live(layer) => layer.kept_at(x, y),
             _ => None,
         }
     }
@@ -212,8 +237,8 @@ impl Cell {
         ensures kept { (i : ℕ) → i < 8 * length bits.old → row_bit kept.new i ≡
             bit_of (holds_at (λ u v. keeps self.now.live u v) (x +ℤ pos i) y) }
     {
-        match &self.draft.state {
-            DraftState::Live(live) => live.copy_row(plane, x, y, bits, kept),
+        match &self.state {
+            CellState::Live(layer) => layer.copy_row(plane, x, y, bits, kept),
             _ => unreachable!(),
         }
     }
@@ -223,8 +248,8 @@ impl Cell {
         ensures value { result.now ≡ self.now.live.visible }
         ensures canonical { IsCanonical result.now }
     {
-        match &self.draft.state {
-            DraftState::Live(live) => live.parts.visible(),
+        match &self.state {
+            CellState::Live(layer) => layer.visible(),
             _ => &[],
         }
     }
@@ -235,8 +260,8 @@ impl Cell {
         ensures value { result.now ≡ hidden_rectangles self.now }
         ensures divided { self.now.state ≡ view.Live → AreDivided self.now.live.bounds self.now.live.visible result.now }
     {
-        match &self.draft.state {
-            DraftState::Live(live) => live.parts.hidden(),
+        match &self.state {
+            CellState::Live(layer) => layer.hidden(),
             _ => &[],
         }
     }
@@ -246,9 +271,9 @@ impl Cell {
         requires { self.now.state ≡ view.Live }
         ensures { IsDamageOf self.now.live result.now }
     {
-        match &self.draft.state {
-            DraftState::Live(live) => &live.damage,
-            _ => unreachable!(),
+        match self.layer() {
+            Some(layer) => layer.damage(),
+            None => unreachable!(),
         }
     }
 
@@ -259,9 +284,9 @@ impl Cell {
             (self.now.live.layer.clip ≡ None)
             (λ region. self.now.live.layer.clip ≡ Some (pixels_of region.now)) }
     {
-        match &self.draft.state {
-            DraftState::Live(live) => live.clip.as_ref(),
-            _ => unreachable!(),
+        match self.layer() {
+            Some(layer) => layer.clip(),
+            None => unreachable!(),
         }
     }
 
@@ -271,9 +296,9 @@ impl Cell {
         requires mode { raster.mode < 8 }
         ensures { self.new ≡ with_live (λ c. with_layer (λ l. record l { raster = raster_of raster }) c) self.old }
     {
-        match &mut self.draft.state {
-            DraftState::Live(live) => live.raster = raster,
-            _ => unreachable!(),
+        match self.layer_mut() {
+            Some(layer) => layer.set_raster(raster),
+            None => unreachable!(),
         }
     }
 
@@ -283,9 +308,9 @@ impl Cell {
         ensures cell { self.new ≡ with_live (λ c. with_layer (λ l. record l { clip = clip_set clip }) c) self.old }
         ensures former { clip_set result ≡ self.old.live.layer.clip }
     {
-        match &mut self.draft.state {
-            DraftState::Live(live) => mem::replace(&mut live.clip, clip),
-            _ => unreachable!(),
+        match self.layer_mut() {
+            Some(layer) => layer.set_clip(clip),
+            None => unreachable!(),
         }
     }
 
@@ -294,9 +319,9 @@ impl Cell {
         requires { self.old.state ≡ view.Live }
         ensures { self.new ≡ with_live (λ c. with_layer (λ l. record l { updating = true }) c) self.old }
     {
-        match &mut self.draft.state {
-            DraftState::Live(live) => live.damage.begin(),
-            _ => unreachable!(),
+        match self.layer_mut() {
+            Some(layer) => layer.begin_update(),
+            None => unreachable!(),
         }
     }
 
@@ -306,9 +331,9 @@ impl Cell {
         requires { self.old.state ≡ view.Live }
         ensures { self.new ≡ with_live (λ c. with_layer (λ l. end_update full l) c) self.old }
     {
-        match &mut self.draft.state {
-            DraftState::Live(live) => live.end_update(full),
-            _ => unreachable!(),
+        match self.layer_mut() {
+            Some(layer) => layer.end_update(full),
+            None => unreachable!(),
         }
     }
 
@@ -320,9 +345,99 @@ impl Cell {
         requires kept { (x y : ℤ) → covers damage.rects x y ≡ true → holds_at (λ i j. keeps self.old.live i j) x y ≡ true }
         ensures { self.new ≡ with_live (λ c. with_layer (λ l. record l { damage = damage_table l.bits damage.rects }) c) self.old }
     {
-        match &mut self.draft.state {
-            DraftState::Live(live) => live.damage = damage,
-            _ => unreachable!(),
+        match self.layer_mut() {
+            Some(layer) => layer.set_damage(damage),
+            None => unreachable!(),
+        }
+    }
+
+    /// The window that the layer is; `None` exactly where it isn't one.
+    pub fn window(&self) -> Option<&WindowDraft>
+        requires { self.now.state ≡ view.Live }
+        ensures { MatchOption result
+            (self.now.live.layer.window ≡ None)
+            (λ w. self.now.live.layer.window ≡ window_of (Some w.now)) }
+    {
+        match self.layer() {
+            Some(layer) => layer.window(),
+            None => unreachable!(),
+        }
+    }
+
+    /// Makes the layer the active window, or no longer.
+    pub fn set_active(&mut self, active: bool)
+        requires { self.old.state ≡ view.Live }
+        ensures { self.new ≡ with_live (λ c. record c { active = active }) self.old }
+    {
+        match self.layer_mut() {
+            Some(layer) => layer.set_active(active),
+            None => unreachable!(),
+        }
+    }
+
+    /// Gives the window another title, and hands back the former one. The frame is not painted.
+    pub fn set_title(&mut self, title: Text) -> Text
+        requires live { self.old.state ≡ view.Live }
+        requires window { is_window self.old.live.layer.window ≡ true }
+        ensures cell { self.new ≡ with_live (λ c. with_layer (λ l. change_window (λ w. record w { title = title }) l) c) self.old }
+        ensures former { result ≡ title_of self.old.live.layer.window }
+    {
+        match self.layer_mut() {
+            Some(layer) => layer.set_title(title),
+            None => unreachable!(),
+        }
+    }
+
+    /// Takes the oldest message from the window's port; `None` exactly where there is none (GetMsg).
+    pub fn take_message(&mut self) -> Option<Message>
+        requires live { self.old.state ≡ view.Live }
+        requires window { is_window self.old.live.layer.window ≡ true }
+        ensures cell { self.new ≡ with_live (λ c. record c { room = self.new.live.room; layer = get_msg c.layer }) self.old }
+        ensures oldest { result ≡ oldest_of self.old.live.layer.window }
+    {
+        match self.layer_mut() {
+            Some(layer) => layer.take_message(),
+            None => unreachable!(),
+        }
+    }
+
+    /// Reserves room for `count` messages at least in the port of a window. It changes nothing else, and nothing of a layer that isn't
+    /// a window or of a slot that isn't live.
+    pub fn reserve(&mut self, alloc: Global, count: usize) -> Result<(), AllocError>
+        ensures cell { without_room self.new ≡ without_room self.old }
+        ensures room { OnOk result (HasRoom count self.new) }
+        ensures err { OnErr result (self.new ≡ self.old) }
+    {
+        match self.layer_mut() {
+            Some(layer) => layer.reserve(alloc, count),
+            None => Ok(()),
+        }
+    }
+
+    /// Puts a message at the end of the window's port. There has to be room for it.
+    pub fn put_message(&mut self, message: Message)
+        requires live { self.old.state ≡ view.Live }
+        requires window { is_window self.old.live.layer.window ≡ true }
+        requires room { 1 ≤ self.old.live.room }
+        ensures { self.new ≡ with_live
+            (λ c. record c { room = c.room - 1; layer = change_window (λ w. record w { port = w.port ++ message ∷ [] }) c.layer })
+            self.old }
+    {
+        match self.layer_mut() {
+            Some(layer) => layer.put_message(message),
+            None => unreachable!(),
+        }
+    }
+
+    /// Notes that the window was asked to refresh.
+    pub fn ask_refresh(&mut self)
+        requires live { self.old.state ≡ view.Live }
+        requires window { is_window self.old.live.layer.window ≡ true }
+        ensures { self.new ≡ with_live (λ c. with_layer (λ l. change_window (λ w. record w { asked = true }) l) c) self.old }
+    {
+        match self.layer_mut() {
+            Some(layer) => layer.ask_refresh(),
+            None => unreachable!(),
         }
     }
 }

@@ -6,9 +6,9 @@ ghost use Rattle.lw_region.specs.Rectangle.{width};
 ghost use Rattle.lw_planes.specs.Bitmap.{row_bytes};
 ghost use Rattle.lw_layer.specs.Pieces.{HasLine, buffer_rectangle};
 ghost use Rattle.lw_layer.specs.Drafts.{IsLiveDraft, layout};
-ghost use Rattle.lw_layer.specs.Written.{LendsOwn, LendsLine, LendsStateLine, HasOwnBits, HasBufferBits, WhereLive, HasPlaneLine, HasRow};
+ghost use Rattle.lw_layer.specs.Written.{LendsOwn, LendsLine, HasOwnBits, HasBufferBits};
 
-use crate::draft::{DraftState, LiveDraft};
+use crate::draft::LiveDraft;
 
 impl LiveDraft {
     // Lends a row of the own bitmap.
@@ -47,20 +47,5 @@ impl LiveDraft {
             return planes.row_mut(plane, line);
         }
         self.own_row_mut(plane, line)
-    }
-}
-
-impl DraftState {
-    // Lends a row of a buffer of the live layer.
-    pub(crate) fn row_mut(&mut self, plane: u32, buffer: usize, line: u32) -> &mut [u8]
-        requires { WhereLive (λ d. HasPlaneLine d plane buffer line) self.old }
-        ensures* writes_back { sem 𝓛 (LendsStateLine self.entry plane buffer line result) }
-        ensures row { WhereLive (λ d. HasRow d plane buffer line result.now) self.old }
-    {
-        match self {
-            DraftState::Unopened => unreachable!(),
-            DraftState::Closed => unreachable!(),
-            DraftState::Live(live) => live.row_mut(plane, buffer, line),
-        }
     }
 }

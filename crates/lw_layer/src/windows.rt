@@ -3,13 +3,11 @@
 ghost use Rattle.std.specs.Prelude.{◌≡◌, ◌++◌, ◌∷◌, [], ◌-◌, ◌≤◌, true, false, None, MatchOption, OnOk, OnErr};
 ghost use Rattle.lw_machine.specs.Layer.{is_window, is_framed, change_window, changed_window};
 ghost use Rattle.lw_machine.specs.Step.{after_first, get_msg};
-ghost use Rattle.lw_layer.specs.View.{with_layer, with_live};
-ghost use Rattle.lw_layer.specs.View as view;
+ghost use Rattle.lw_layer.specs.View.{with_layer};
 ghost use Rattle.lw_layer.specs.Drafts.{window_of, room_of};
-ghost use Rattle.lw_layer.specs.Windows.{title_of, oldest_of, without_room, HasRoom};
+ghost use Rattle.lw_layer.specs.Windows.{title_of, oldest_of, roomless};
 
-use crate::cell::Cell;
-use crate::draft::DraftState;
+use crate::layer::Layer;
 use lw_calls::{Message, Text};
 use lw_ports::{MessageSet, Port};
 use std::alloc::{AllocError, Global};
@@ -32,95 +30,69 @@ pub struct WindowDraft {
     pub asked: bool,
 }
 
-impl Cell {
+impl Layer {
     /// The window that the layer is; `None` exactly where it isn't one.
     pub fn window(&self) -> Option<&WindowDraft>
-        requires { self.now.state ≡ view.Live }
         ensures { MatchOption result
-            (self.now.live.layer.window ≡ None)
-            (λ w. self.now.live.layer.window ≡ window_of (Some w.now)) }
+            (self.now.layer.window ≡ None)
+            (λ w. self.now.layer.window ≡ window_of (Some w.now)) }
     {
-        match &self.draft.state {
-            DraftState::Live(live) => live.window.as_ref(),
-            _ => unreachable!(),
-        }
+        self.draft.window.as_ref()
     }
 
     /// Makes the layer the active window, or no longer.
     pub fn set_active(&mut self, active: bool)
-        requires { self.old.state ≡ view.Live }
-        ensures { self.new ≡ with_live (λ c. record c { active = active }) self.old }
+        ensures { self.new ≡ record self.old { active = active } }
     {
-        match &mut self.draft.state {
-            DraftState::Live(live) => live.active = active,
-            _ => unreachable!(),
-        }
+        self.draft.active = active;
     }
 
     /// Gives the window another title, and hands back the former one. The frame is not painted.
     pub fn set_title(&mut self, title: Text) -> Text
-        requires live { self.old.state ≡ view.Live }
-        requires window { is_window self.old.live.layer.window ≡ true }
-        ensures cell { self.new ≡ with_live (λ c. with_layer (λ l. change_window (λ w. record w { title = title }) l) c) self.old }
-        ensures former { result ≡ title_of self.old.live.layer.window }
+        requires { is_window self.old.layer.window ≡ true }
+        ensures layer { self.new ≡ with_layer (λ l. change_window (λ w. record w { title = title }) l) self.old }
+        ensures former { result ≡ title_of self.old.layer.window }
     {
-        match &mut self.draft.state {
-            DraftState::Live(live) => replace_title(&mut live.window, title),
-            _ => unreachable!(),
-        }
+        replace_title(&mut self.draft.window, title)
     }
 
     /// Takes the oldest message from the window's port; `None` exactly where there is none (GetMsg).
     pub fn take_message(&mut self) -> Option<Message>
-        requires live { self.old.state ≡ view.Live }
-        requires window { is_window self.old.live.layer.window ≡ true }
-        ensures cell { self.new ≡ with_live (λ c. record c { room = self.new.live.room; layer = get_msg c.layer }) self.old }
-        ensures oldest { result ≡ oldest_of self.old.live.layer.window }
+        requires { is_window self.old.layer.window ≡ true }
+        ensures layer { self.new ≡ record self.old { room = self.new.room; layer = get_msg self.old.layer } }
+        ensures oldest { result ≡ oldest_of self.old.layer.window }
     {
-        match &mut self.draft.state {
-            DraftState::Live(live) => take_oldest(&mut live.window),
-            _ => unreachable!(),
-        }
+        take_oldest(&mut self.draft.window)
     }
 
     /// Reserves room for `count` messages at least in the port of a window. It changes nothing else, and nothing of a layer that isn't
-    /// a window or of a slot that isn't live.
+    /// a window.
     pub fn reserve(&mut self, alloc: Global, count: usize) -> Result<(), AllocError>
-        ensures cell { without_room self.new ≡ without_room self.old }
-        ensures room { OnOk result (HasRoom count self.new) }
+        ensures layer { roomless self.new ≡ roomless self.old }
+        ensures room { OnOk result (is_window self.new.layer.window ≡ true → count ≤ self.new.room) }
         ensures err { OnErr result (self.new ≡ self.old) }
     {
-        match &mut self.draft.state {
-            DraftState::Live(live) => reserve_room(alloc, &mut live.window, count),
-            _ => Ok(()),
-        }
+        reserve_room(alloc, &mut self.draft.window, count)
     }
 
     /// Puts a message at the end of the window's port. There has to be room for it.
     pub fn put_message(&mut self, message: Message)
-        requires live { self.old.state ≡ view.Live }
-        requires window { is_window self.old.live.layer.window ≡ true }
-        requires room { 1 ≤ self.old.live.room }
-        ensures { self.new ≡ with_live
-            (λ c. record c { room = c.room - 1; layer = change_window (λ w. record w { port = w.port ++ message ∷ [] }) c.layer })
-            self.old }
+        requires window { is_window self.old.layer.window ≡ true }
+        requires room { 1 ≤ self.old.room }
+        ensures { self.new ≡ record self.old {
+          room = self.old.room - 1;
+          layer = change_window (λ w. record w { port = w.port ++ message ∷ [] }) self.old.layer;
+        } }
     {
-        match &mut self.draft.state {
-            DraftState::Live(live) => put_last(&mut live.window, message),
-            _ => unreachable!(),
-        }
+        put_last(&mut self.draft.window, message);
     }
 
     /// Notes that the window was asked to refresh.
     pub fn ask_refresh(&mut self)
-        requires live { self.old.state ≡ view.Live }
-        requires window { is_window self.old.live.layer.window ≡ true }
-        ensures { self.new ≡ with_live (λ c. with_layer (λ l. change_window (λ w. record w { asked = true }) l) c) self.old }
+        requires { is_window self.old.layer.window ≡ true }
+        ensures { self.new ≡ with_layer (λ l. change_window (λ w. record w { asked = true }) l) self.old }
     {
-        match &mut self.draft.state {
-            DraftState::Live(live) => set_asked(&mut live.window, true),
-            _ => unreachable!(),
-        }
+        set_asked(&mut self.draft.window, true);
     }
 }
 

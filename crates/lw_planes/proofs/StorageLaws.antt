@@ -11,7 +11,7 @@ use Rattle.std.proofs.lemmas.Bool.Decides.{nat_tests}
 use Rattle.lw_planes.specs.Pen.{pen_of}
 use Rattle.lw_planes.specs.Row.{row_bit}
 use Rattle.lw_planes.specs.Bitmap.{Bitmap, IsBitmap, bitmap, pen_at, row_bytes}
-use Rattle.lw_planes.specs.Sizes.{IsPlanes}
+use Rattle.lw_planes.specs.Sizes.{AreSizes, IsPlanes}
 use Rattle.lw_planes.specs.Storage.{row_start, bit_place, stored, IsStored}
 use Rattle.lw_planes.specs.Change.{with_pen}
 use Rattle.lw_planes.proofs.GridLaws.{grid_same}
@@ -45,10 +45,6 @@ row_bit_zeros n x =
 place_below : (start n all w x : ℕ) → start + n ≤ all → w ≤ 8 * n → x < w → 8 * start + x < 8 * all
 place_below start n all w x whole wide left = omega arith
 
--- a pixel's bit stands before the end of its row
-part_below : (start n w x : ℕ) → w ≤ 8 * n → x < w → 8 * start + x < 8 * (start + n)
-part_below start n w x wide left = omega arith
-
 -- the step from plane to plane, over plain numbers
 step_of : (h n k x y : ℕ) → y * n * 8 + x + k * (h * n * 8) ≡ 8 * ((k * h + y) * n) + x
 step_of h n k x y = omega arith
@@ -75,13 +71,17 @@ bit_stored w h d bytes k x y deep left low =
     ap (λ p. bit_at p k) (pen_at_stored w h d bytes x y left low) ∙
     bit_pen_of d (λ p. row_bit bytes (bit_place w h p x y)) k (λ p _. row_bit_lt bytes (bit_place w h p x y)) deep
 
+-- so many rows of a plane stand before the end of the planes
+pub rows_inside : (h n d k y rows : ℕ) → k < d → y + rows ≤ h → row_start h n k y + rows * n ≤ d * h * n
+rows_inside h n d k y rows deep low =
+    let planes : (k + 1) * h ≤ d * h = mul-le (k + 1) h d h (omega arith) (omega arith) in
+    let below : k * h + y + rows ≤ d * h = omega arith in
+    let whole : (k * h + y + rows) * n ≤ d * h * n = mul-le (k * h + y + rows) n (d * h) n below (omega arith) in
+    omega arith
+
 -- a row of a plane stands before the end of the planes
 pub row_start_inside : (h n d k y : ℕ) → k < d → y < h → row_start h n k y + n ≤ d * h * n
-row_start_inside h n d k y deep low =
-    let planes : (k + 1) * h ≤ d * h = mul-le (k + 1) h d h (omega arith) (omega arith) in
-    let rows : k * h + y + 1 ≤ d * h = omega arith in
-    let whole : (k * h + y + 1) * n ≤ d * h * n = mul-le (k * h + y + 1) n (d * h) n rows (omega arith) in
-    omega arith
+row_start_inside h n d k y deep low = let whole = rows_inside h n d k y 1 deep (omega arith) in omega arith
 
 -- a place by its row among all rows
 pub place_row : (w h k x y : ℕ) → bit_place w h k x y ≡ (k * h + y) * (8 * row_bytes w) + x
@@ -154,15 +154,6 @@ row_bit_part bytes from to x inside =
     let before : from + x / 8 < to = omega arith in
     ap (λ p. bit_at p (7 - x % 8)) (get_or-between bytes from to (x / 8) 0 before) ∙ rw (byte, place)
 
--- a row of a plane has that plane's bits of the pixels
-pub row_stored : (w h d : ℕ) (bytes : List ℕ) (k y start : ℕ) → k < d → y < h → start ≡ row_start h (row_bytes w) k y → (x : ℕ) → x < w → row_bit (between start (start + row_bytes w) bytes) x ≡ bit_at (pen_at (stored w h d bytes) x y) k
-unfolding bit_place
-row_stored w h d bytes k y start deep low is x left =
-    let wide : w ≤ 8 * row_bytes w = row_bytes_wide w in
-    let n : ℕ = row_bytes w in
-    row_bit_part bytes start (start + row_bytes w) x (part_below start (row_bytes w) w x wide left) ∙
-    (ap (λ s. row_bit bytes (8 * s + x)) is ∙ sym (bit_stored w h d bytes k x y deep left low))
-
 -- zeros store the bitmap whose every pen is 0
 pub stored_zeros : (w h d n : ℕ) → stored w h d (replicate n 0) ≡ bitmap w h d (λ _ _. 0)
 stored_zeros w h d n =
@@ -199,8 +190,31 @@ pen_scattered w h d bytes all new x y n m pen is_n is_m is_all small left low wr
 pub row_start_is : (w h k y start n : ℕ) → start ≡ (k * h + y) * n → n ≡ row_bytes w → start ≡ row_start h (row_bytes w) k y
 row_start_is w h k y start n is is_n = is ∙ ap (λ m. (k * h + y) * m) is_n
 
--- the part of the bytes that a body lends has that plane's bits of the row's pixels
-pub row_lent : (w h d : ℕ) (bytes all part : List ℕ) (k y start n : ℕ) → start ≡ (k * h + y) * n → n ≡ row_bytes w → all ≡ bytes → part ≡ between start (start + n) all → k < d → y < h → (x : ℕ) → x < w → row_bit part x ≡ bit_at (pen_at (stored w h d bytes) x y) k
-row_lent w h d bytes all part k y start n is is_n is_all is_part deep low x left =
-    ap (λ q. row_bit q x) (is_part ∙ (ap (λ m. between start (start + m) all) is_n ∙ ap (λ q. between start (start + row_bytes w) q) is_all)) ∙
-    row_stored w h d bytes k y start deep low (row_start_is w h k y start n is is_n) x left
+-- a place in a row that is one of many
+place_among : (start n rows w x j : ℕ) → w ≤ 8 * n → x < w → j < rows → 8 * start + (8 * (j * n) + x) < 8 * (start + rows * n)
+place_among start n rows w x j wide left low = let next = mul-le (j + 1) n rows n (omega arith) (omega arith) in omega arith
+
+-- the part of the bytes that a body lends has that plane's bits of its rows' pixels
+pub rows_lent : (w h d : ℕ) (bytes part : List ℕ) (k y rows start n : ℕ) → start ≡ (k * h + y) * n → n ≡ row_bytes w → part ≡ between start (start + rows * n) bytes → k < d → y + rows ≤ h → (x j : ℕ) → x < w → j < rows → row_bit part (8 * (j * row_bytes w) + x) ≡ bit_at (pen_at (stored w h d bytes) x (y + j)) k
+unfolding bit_place
+rows_lent w h d bytes part k y rows start n is is_n is_part deep low x j left below =
+    let m : ℕ = row_bytes w in
+    let begins = row_start_is w h k y start n is is_n in
+    let place : 8 * start + (8 * (j * m) + x) ≡ 8 * ((k * h + (y + j)) * m) + x = omega (arith, begins) in
+    ap (λ q. row_bit q (8 * (j * m) + x)) (is_part ∙ ap (λ q. between start (start + rows * q) bytes) is_n) ∙
+    (row_bit_part bytes start (start + rows * m) (8 * (j * m) + x) (place_among start m rows w x j (row_bytes_wide w) left below) ∙
+    (ap (λ z. row_bit bytes z) place ∙ sym (bit_stored w h d bytes k x (y + j) deep left (omega arith))))
+
+-- how long rows are
+pub rows_near : (w h d : ℕ) (rows y long : ℕ) → AreSizes w h d → y + rows ≤ h → long ≡ rows * row_bytes w → long < 2 ^ 32
+rows_near w h d rows y long sizes low is =
+    let most = mul-le rows (row_bytes w) 2048 256 (omega (arith, sizes.rows.1)) (omega (arith, sizes.columns.1)) in
+    omega arith
+
+-- the bits of the first of many rows
+pub first_row : (b : Bitmap) (bytes : List ℕ) (k y x : ℕ) → row_bit bytes (8 * (0 * row_bytes b.width) + x) ≡ bit_at (pen_at b x (y + 0)) k → row_bit bytes x ≡ bit_at (pen_at b x y) k
+first_row b bytes k y x is =
+    let n : ℕ = row_bytes b.width in
+    let place : x ≡ 8 * (0 * n) + x = omega arith in
+    let row : y + 0 ≡ y = omega arith in
+    ap (λ z. row_bit bytes z) place ∙ (is ∙ ap (λ j. bit_at (pen_at b x j) k) row)

@@ -128,9 +128,7 @@ impl Planes {
         ensures bits { (x : ℕ) → x < self.now.width →
             row_bit result.now x ≡ bit_at (pen_at self.now x y) plane }
     {
-        let length = row_length(self.width);
-        let start = row_start(self.height, length, plane, y);
-        &self.bytes[start..start + length]
+        self.rows(plane, y, 1)
     }
 
     /// Lends the bytes of row `y` of one plane, both in range, as `row` shows them. After the loan each
@@ -146,9 +144,45 @@ impl Planes {
             row_bit result.now x ≡ bit_at (pen_at self.old x y) plane }
         ensures planes { IsPlanes self.old }
     {
+        self.rows_mut(plane, y, 1)
+    }
+
+    /// The bytes of `rows` rows of one plane, one at least, from row `y` on, all in range: row after row, each as
+    /// `row` shows it. The pixel at column `x` of the row that is `j` below row `y` has its bit `x` bits
+    /// behind the first one of the `j`th row's bytes.
+    pub fn rows(&self, plane: u32, y: u32, rows: u32) -> &[u8]
+        requires plane { plane < self.now.depth }
+        requires some { 0 < rows }
+        requires inside { y + rows ≤ self.now.height }
+        ensures long { length result.now ≡ rows * row_bytes self.now.width }
+        ensures near { length result.now < 2 ^ 32 }
+        ensures bits { (x j : ℕ) → x < self.now.width → j < rows →
+            row_bit result.now (8 * (j * row_bytes self.now.width) + x) ≡ bit_at (pen_at self.now x (y + j)) plane }
+    {
         let length = row_length(self.width);
         let start = row_start(self.height, length, plane, y);
-        self.bytes.slice_mut(start..start + length)
+        let end = start + rows as usize * length;
+        &self.bytes[start..end]
+    }
+
+    /// Lends the bytes of `rows` rows of one plane, one at least, from row `y` on, all in range, as `rows` shows
+    /// them. After the loan each pixel of these rows has in this plane the bit that the bytes then hold,
+    /// and all else stays as it was.
+    pub fn rows_mut(&mut self, plane: u32, y: u32, rows: u32) -> &mut [u8]
+        requires plane { plane < self.old.depth }
+        requires some { 0 < rows }
+        requires inside { y + rows ≤ self.old.height }
+        ensures* writes_back { sem 𝓛 (LendsRow self.entry plane y result) }
+        ensures long { length result.now ≡ rows * row_bytes self.old.width }
+        ensures near { length result.now < 2 ^ 32 }
+        ensures bits { (x j : ℕ) → x < self.old.width → j < rows →
+            row_bit result.now (8 * (j * row_bytes self.old.width) + x) ≡ bit_at (pen_at self.old x (y + j)) plane }
+        ensures planes { IsPlanes self.old }
+    {
+        let length = row_length(self.width);
+        let start = row_start(self.height, length, plane, y);
+        let end = start + rows as usize * length;
+        self.bytes.slice_mut(start..end)
     }
 }
 

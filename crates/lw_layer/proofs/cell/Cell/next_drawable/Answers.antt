@@ -1,22 +1,22 @@
 use Rattle.std.proofs.Common.{ℤ, to_z, of_z, w32, sym, ◌∙◌, ap, subst, None}
 use Rattle.std.proofs.lemmas.Int.{to_z-of_z}
 use Rattle.lw_layer.specs.View.{LiveView, CellView, draws}
-use Rattle.lw_layer.specs.Drafts.{live_of, live_view}
+use Rattle.lw_layer.specs.States.{live_in}
 use Rattle.lw_layer.specs.Runs.{IsNext}
 use Rattle.lw_layer.proofs.CellLaws.{not_live, nothing_drawn}
 use Rattle.lw_layer.proofs.cell.Cell.next_drawable.Goals as goal
 
 pub returns-in-Live : goal.returns-in-Live
 returns-in-Live c =
-    let P : LiveView → Type 0 = λ v. IsNext (λ i j. draws v i j) c.args.x c.args.y c.args.last c.next_from.result in
-    let Q : ℤ → ℤ → ℤ → Type 0 = λ a b e. IsNext (λ i j. draws (live_view c.in-Live.live) i j) a b e c.next_from.result in
-    let told : Q (to_z w32 (of_z w32 c.args.x)) (to_z w32 (of_z w32 c.args.y)) (to_z w32 (of_z w32 c.args.last)) = c.next_from.ensures in
+    let P : LiveView → Type 0 = λ v. IsNext (λ i j. draws v i j) c.args.x c.args.y c.args.last c.next_drawable.result in
+    let Q : ℤ → ℤ → ℤ → Type 0 = λ a b e. IsNext (λ i j. draws c.in-Live.layer i j) a b e c.next_drawable.result in
+    let told : Q (to_z w32 (of_z w32 c.args.x)) (to_z w32 (of_z w32 c.args.y)) (to_z w32 (of_z w32 c.args.last)) = c.next_drawable.ensures in
     let column = subst (λ a. Q a (to_z w32 (of_z w32 c.args.y)) (to_z w32 (of_z w32 c.args.last))) (to_z-of_z w32 c.args.x c.ranges.x) told in
     let row = subst (λ b. Q c.args.x b (to_z w32 (of_z w32 c.args.last))) (to_z-of_z w32 c.args.y c.ranges.y) column in
     let all = subst (λ e. Q c.args.x c.args.y e) (to_z-of_z w32 c.args.last c.ranges.last) row in
-    subst P (sym (ap live_of c.in-Live.is) ∙ ap (λ (v : CellView). v.live) c.self.view_is) all
+    subst P (sym (ap live_in c.in-Live.is) ∙ ap (λ (v : CellView). v.live) c.self.view_is) all
 
 pub returns-in_default : goal.returns-in_default
 returns-in_default c =
     let P : LiveView → Type 0 = λ v. IsNext (λ i j. draws v i j) c.args.x c.args.y c.args.last None in
-    subst P (sym (not_live c.self.inside.draft.state c.in_default.not-Live) ∙ ap (λ (v : CellView). v.live) c.self.view_is) (λ u later upto. nothing_drawn u c.args.y)
+    subst P (sym (not_live c.self.inside.state c.in_default.not-Live) ∙ ap (λ (v : CellView). v.live) c.self.view_is) (λ u later upto. nothing_drawn u c.args.y)

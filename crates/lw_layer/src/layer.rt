@@ -1,0 +1,233 @@
+ghost use Rattle.std.specs.Prelude.{◌≡◌, ℕ, ◌*◌, ◌<◌, ◌≤◌, length, ℤ, pos, ◌+ℤ◌, true, None, MatchOption};
+ghost use Rattle.std.specs.Borrow.{sem};
+ghost use Rattle.lw_region.specs.Rectangle.{width};
+ghost use Rattle.lw_region.specs.Pixels.{pixels_of};
+ghost use Rattle.lw_region.specs.Bands.{covers};
+ghost use Rattle.lw_region.specs.Banded.{IsCanonical};
+ghost use Rattle.lw_planes.specs.Row.{bit_of, row_bit};
+ghost use Rattle.lw_planes.specs.Bitmap.{row_bytes};
+ghost use Rattle.lw_planes.specs.Sizes.{IsPlanes};
+ghost use Rattle.lw_cliprects.specs.Parts.{AreDivided, hidden_of};
+ghost use Rattle.lw_machine.specs.Kept.{holds_at};
+ghost use Rattle.lw_machine.specs.Step.{end_update};
+ghost use Rattle.lw_layer.specs.View.{keeps, draws, kept_pen, with_layer};
+ghost use Rattle.lw_layer.specs.Drafts.{IsLiveDraft, live_view, raster_of, clip_set};
+ghost use Rattle.lw_layer.specs.Pieces.{inner_in, damage_table, IsDamageOf, HasLine, HasLineBits, layout_of, buffer_rectangle};
+ghost use Rattle.lw_layer.specs.Lending.{LendsLines};
+ghost use Rattle.lw_layer.specs.Looks.{IsLook};
+ghost use Rattle.lw_layer.specs.StandsFor.{IsSound};
+ghost use Rattle.lw_layer.specs.Runs.{IsRunAt, IsNext};
+ghost use Rattle.lw_layer.specs.Copied.{kept_bit};
+
+use crate::draft::LiveDraft;
+use crate::look::Look;
+use crate::raster::Raster;
+use crate::run::Run;
+use lw_damage::Damage;
+use lw_region::{Rect, Region};
+use std::marker::Model;
+use std::mem;
+
+/// A live layer with its raster state, clip region, damage, clip rectangles and pens. Contracts see the layer with its bounds and
+/// visible rectangles. Pens are kept in buffers, which have numbers: first those of the visible rectangles in their order,
+/// then a smart layer's hidden ones, or a super-bitmap layer's own bitmap. Where each pen lies follows from what
+/// contracts see.
+#[derive(Debug, Drop)]
+pub struct Layer {
+    pub(crate) draft: LiveDraft,
+}
+
+impl Model for Layer {
+    ghost use Rattle.lw_layer.specs.View.{LiveView};
+    ghost use Rattle.lw_layer.specs.Drafts.{IsLiveDraft, live_view};
+
+    ghost Value = { LiveView };
+
+    ghost view = { λ l. live_view l.draft };
+
+    ghost invariant = { λ l. IsLiveDraft l.draft };
+}
+
+impl Layer {
+    // What the layer was made of.
+    pub(crate) fn into_draft(self) -> LiveDraft
+        ensures sound { IsLiveDraft result }
+        ensures view { live_view result ≡ self }
+    {
+        self.draft
+    }
+
+    /// Lends one plane's bytes of a line of a buffer, as `run_at` tells them: `((width + 15) / 16) * 2` bytes for a buffer
+    /// of that width, which have a bit for each of its columns, the leftmost in the most significant bit of the first. After
+    /// the loan each kept pixel whose pen is in that line has in this plane the bit that the bytes hold, and all else stays
+    /// as it was.
+    pub fn line_mut(&mut self, plane: u32, buffer: usize, line: u32) -> &mut [u8]
+        requires plane { plane < self.old.layer.bits.depth }
+        requires line { HasLine (layout_of self.old) buffer line }
+        ensures* writes_back { sem 𝓛 (LendsLines self.entry plane buffer line result) }
+        ensures long { length result.now ≡ row_bytes (width (buffer_rectangle (layout_of self.old) buffer)) }
+        ensures wide { width (buffer_rectangle (layout_of self.old) buffer) ≤ 8 * length result.now }
+        ensures bits { HasLineBits self.old plane buffer line result.now }
+    {
+        let draft = &mut self.draft;
+        draft.row_mut(plane, buffer, line)
+    }
+
+    /// A run of drawable pixels from column `x` and row `y` on to the right; `None` exactly where that pixel is not drawable. It
+    /// need not be the longest one.
+    pub fn run_at(&self, x: i32, y: i32) -> Option<Run>
+        ensures { IsRunAt self.now (λ i j. draws self.now i j) x y result }
+    {
+        self.draft.run_from(x, y)
+    }
+
+    /// The first drawable column from `x` to `last` in row `y`; `None` exactly where there is none.
+    pub fn next_drawable(&self, x: i32, y: i32, last: i32) -> Option<i32>
+        ensures { IsNext (λ i j. draws self.now i j) x y last result }
+    {
+        self.draft.next_from(x, y, last)
+    }
+
+    /// How the layer paints.
+    pub fn raster(&self) -> Raster
+        ensures value { raster_of result ≡ self.now.layer.raster }
+        ensures mode { result.mode < 8 }
+    {
+        self.draft.raster
+    }
+
+    /// The number of planes of the layer's bits, 1 to 8.
+    pub fn depth(&self) -> u32
+        ensures value { result ≡ self.now.layer.bits.depth }
+        ensures bits { IsPlanes self.now.layer.bits }
+    {
+        self.draft.depth
+    }
+
+    /// The number of columns of the layer's bits, 1 to 2048.
+    pub fn width(&self) -> u32
+        ensures value { result ≡ self.now.layer.bits.width }
+        ensures bits { IsPlanes self.now.layer.bits }
+    {
+        self.draft.width()
+    }
+
+    /// The number of rows of the layer's bits, 1 to 2048.
+    pub fn height(&self) -> u32
+        ensures value { result ≡ self.now.layer.bits.height }
+        ensures bits { IsPlanes self.now.layer.bits }
+    {
+        self.draft.height()
+    }
+
+    /// What the layer looks like.
+    pub fn look(&self) -> Look
+        ensures look { IsLook self.now result }
+        ensures sound { IsSound self.now }
+    {
+        self.draft.look()
+    }
+
+    /// The pen of the pixel at column `x` and row `y`; `None` exactly where the layer doesn't keep that pixel.
+    pub fn kept_at(&self, x: i32, y: i32) -> Option<u8>
+        ensures { result ≡ kept_pen self.now x y }
+    {
+        self.draft.kept_at(x, y)
+    }
+
+    /// Reads one plane of the pixels of row `y` from column `x` on, as many as `bits` has bits, and sets a bit of `kept` for each
+    /// that the layer keeps; a pixel that it doesn't keep has the bit 0 in both. The leftmost pixel is in the most significant bit
+    /// of the first byte. Both rows are equally long.
+    pub fn copy_row(&self, plane: u32, x: i32, y: i32, bits: &mut [u8], kept: &mut [u8])
+        requires plane { plane < self.now.layer.bits.depth }
+        requires equally_long { length kept.old ≡ length bits.old }
+        ensures bits { (i : ℕ) → i < 8 * length bits.old → row_bit bits.new i ≡ kept_bit self.now plane (x +ℤ pos i) y }
+        ensures kept { (i : ℕ) → i < 8 * length bits.old → row_bit kept.new i ≡
+            bit_of (holds_at (λ u v. keeps self.now u v) (x +ℤ pos i) y) }
+    {
+        self.draft.copy_row(plane, x, y, bits, kept);
+    }
+
+    /// The visible rectangles, on the screen: the canonical list of the visible region.
+    pub fn visible(&self) -> &[Rect]
+        ensures value { result.now ≡ self.now.visible }
+        ensures canonical { IsCanonical result.now }
+    {
+        self.draft.parts.visible()
+    }
+
+    /// The hidden rectangles, on the screen: what the visible ones leave of the bounds, in bands.
+    pub fn hidden(&self) -> &[Rect]
+        ensures value { result.now ≡ hidden_of self.now.bounds self.now.visible }
+        ensures divided { AreDivided self.now.bounds self.now.visible result.now }
+    {
+        self.draft.parts.hidden()
+    }
+
+    /// The damaged pixels, in layer coordinates.
+    pub fn damage(&self) -> &Damage
+        ensures { IsDamageOf self.now result.now }
+    {
+        &self.draft.damage
+    }
+
+    /// The clip region, in layer coordinates; `None` exactly where none is installed.
+    pub fn clip(&self) -> Option<&Region>
+        ensures { MatchOption result
+            (self.now.layer.clip ≡ None)
+            (λ region. self.now.layer.clip ≡ Some (pixels_of region.now)) }
+    {
+        self.draft.clip.as_ref()
+    }
+
+    /// Has the layer paint in another way. The mode is 0 to 7.
+    pub fn set_raster(&mut self, raster: Raster)
+        requires { raster.mode < 8 }
+        ensures { self.new ≡ with_layer (λ l. record l { raster = raster_of raster }) self.old }
+    {
+        self.draft.raster = raster;
+    }
+
+    /// Installs a clip region, in layer coordinates, or takes it away, and hands back the former one (InstallClipRegion).
+    pub fn set_clip(&mut self, clip: Option<Region>) -> Option<Region>
+        ensures layer { self.new ≡ with_layer (λ l. record l { clip = clip_set clip }) self.old }
+        ensures former { clip_set result ≡ self.old.layer.clip }
+    {
+        mem::replace(&mut self.draft.clip, clip)
+    }
+
+    /// Begins an update: only damaged pixels are drawable until it ends (BeginUpdate).
+    pub fn begin_update(&mut self)
+        ensures { self.new ≡ with_layer (λ l. record l { updating = true }) self.old }
+    {
+        self.draft.damage.begin();
+    }
+
+    /// Ends an update. A full end takes all damage away, and a window may then be asked to refresh again; a partial one leaves the
+    /// damage (EndUpdate).
+    pub fn end_update(&mut self, full: bool)
+        ensures { self.new ≡ with_layer (λ l. end_update full l) self.old }
+    {
+        self.draft.end_update(full);
+    }
+
+    /// Replaces the damage. It lies on kept pixels of the layer's inner rectangle, and its update is on where the layer's is.
+    pub fn set_damage(&mut self, damage: Damage)
+        requires inner { damage.inner ≡ inner_in self.old }
+        requires updating { damage.updating ≡ self.old.layer.updating }
+        requires kept { (x y : ℤ) → covers damage.rects x y ≡ true → holds_at (λ i j. keeps self.old i j) x y ≡ true }
+        ensures { self.new ≡ with_layer (λ l. record l { damage = damage_table l.bits damage.rects }) self.old }
+    {
+        self.draft.damage = damage;
+    }
+}
+
+// A layer may go to another thread, and threads may share it: the bounds ask for the proofs.
+fn cross_threads() {
+    crosses::<Layer>();
+    is_shared::<Layer>();
+}
+
+fn crosses<T: Send>() {}
+
+fn is_shared<T: Sync>() {}
