@@ -126,7 +126,7 @@ many_names a (suc n) = let rest = many_names (a + 1) n in omega (arith, rest)
 all_tasks : (P : ℕ → Type 0) (n : ℕ) → ((t : ℕ) → t < n → P t) → All P (range_with_len 0 n)
 all_tasks P n each = All-from_get_or P (range_with_len 0 n) 0 (λ i low. let below : i < n = subst (λ k. i < k) (length-range_with_len 0 n) low in subst P (sym (get_or-range_with_len 0 n i 0 below)) (each (0 + i) (omega (arith, below))))
 
-no_group : (ts : List ℕ) (n : ℕ) → slice_index_or {A = List Group} (map (λ task. []) ts) n [] ≡ []
+pub no_group : (ts : List ℕ) (n : ℕ) → slice_index_or {A = List Group} (map (λ task. []) ts) n [] ≡ []
 no_group [] n = refl
 no_group (t ∷ ts) zero = refl
 no_group (t ∷ ts) (suc n) = no_group ts n

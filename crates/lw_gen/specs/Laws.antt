@@ -9,7 +9,7 @@ use Rattle.lw_gen.specs.Demo.{demo_calls, demo_plan}
 abbrev pub DemosArePlans : Type 0
 DemosArePlans = (number tasks : ℕ) → 1 ≤ tasks → tasks ≤ 16 → IsPlan (demo_plan number tasks)
 
--- The first calls that the two tasks of demo 7 draw, worked out by hand from the rule.
+-- Calls that the two tasks of demo 7 draw, worked out from the rule apart from these definitions.
 abbrev pub first_drawn : List Call
 first_drawn =
     ToFront 1
@@ -33,6 +33,9 @@ second_drawn =
     ∷ ReadPixel 3 (pos 177) (pos 78)
     ∷ []
 
-pub record DrawsTheseFirst : Type 0 where
+-- The calls 3 and following, and the last call of each task.
+pub record DrawsTheseCalls : Type 0 where
   pub first : take 8 (drop 3 (demo_calls 7 2 0)) ≡ first_drawn
   pub second : take 7 (drop 3 (demo_calls 7 2 1)) ≡ second_drawn
+  pub first_end : drop 499 (demo_calls 7 2 0) ≡ Fill 1 (record { min_x = pos 305; min_y = pos 34; max_x = pos 308; max_y = pos 34 }) ∷ []
+  pub second_end : drop 499 (demo_calls 7 2 1) ≡ ReadPixel 4 (pos 57) (pos 87) ∷ []
