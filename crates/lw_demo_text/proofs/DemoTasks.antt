@@ -59,7 +59,7 @@ module _ (tasks : List (List ℕ)) (few_tasks : length tasks ≤ 16) (calls : Li
         let none = layers_named task in
         let back = simple_more none (one_named task none) (layer_name task 0) (3 * task) 0 left 0 right 127 [] (omega arith) new.back (omega (arith, wide)) (omega (arith, inside)) (omega arith) (omega arith) reached in
         let middle = smart_more (one_named task none) (two_named task none) (layer_name task 1) (3 * task + 1) 1 (left + 8) 32 right 200 _ (omega arith) new.middle (omega (arith, wide)) (omega (arith, inside)) (omega arith) (omega arith) back in
-        simple_more (two_named task none) names (layer_name task 2) (3 * task + 2) 2 left 64 (right - 8) 255 _ (omega arith) new.front (omega (arith, wide)) (omega (arith, inside)) (omega arith) (omega arith) middle
+        smart_more (two_named task none) names (layer_name task 2) (3 * task + 2) 2 left 64 (right - 8) 255 _ (omega arith) new.front (omega (arith, wide)) (omega (arith, inside)) (omega arith) (omega arith) middle
 
     module _ (columns : ℕ) (some : 0 < columns) (few : columns ≤ 640) where
       -- a call that is drawn

@@ -4,4 +4,4 @@ use Rattle.lw_gen.proofs.laws.demos_draw_these_calls.Goals as goal
 
 pub returns : goal.returns
 unfolding stirred picked
-returns c = record { first = refl; second = refl; first_end = refl; second_end = refl }
+returns c = record { created = refl; first = refl; second = refl; first_end = refl; second_end = refl }
