@@ -58,11 +58,11 @@ module _ (task columns : ℕ) where
       let right : ℕ = (left + columns) - 1 in
       let back : Call = Create (3 * task) (layer_between Simple left 0 right 127) in
       let middle : Call = Create (3 * task + 1) (layer_between Smart (left + 8) 32 right 200) in
-      let front : Call = Create (3 * task + 2) (layer_between Simple left 64 (right - 8) 255) in
+      let front : Call = Create (3 * task + 2) (layer_between Smart left 64 (right - 8) 255) in
       let first : 3 * task + 0 ≡ 3 * task = omega arith in
       All-cons Own back (middle ∷ front ∷ []) (subst (λ s. Own (Create s (layer_between Simple left 0 right 127))) first (created_own Simple 0 left 0 right 127 (omega arith) (omega arith) (omega (arith, wide)) (omega (arith, wide))))
       (All-cons Own middle (front ∷ []) (created_own Smart 1 (left + 8) 32 right 200 (omega arith) (omega arith) (omega (arith, wide)) (omega (arith, wide)))
-      (All-cons Own front [] (created_own Simple 2 left 64 (right - 8) 255 (omega arith) (omega arith) (omega (arith, wide)) (omega (arith, wide))) (All-nil Own)))
+      (All-cons Own front [] (created_own Smart 2 left 64 (right - 8) 255 (omega arith) (omega arith) (omega (arith, wide)) (omega (arith, wide))) (All-nil Own)))
 
   chosen_own : (a b c : Bool) (slot x : ℕ) → slot / 3 ≡ task → Own (if a then fill_after slot columns x else (if b then pen_after slot x else (if c then (ToFront slot, x) else read_after slot columns x))).0
   chosen_own true b c slot x own = own

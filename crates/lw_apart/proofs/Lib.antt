@@ -8,3 +8,4 @@ pub mod Moves
 pub mod TaskOrders
 pub mod Runs
 pub mod Demos
+pub mod InTurn

@@ -7,9 +7,9 @@ use Rattle.std.proofs.lemmas.List.Elements.{All-nil, All-cons, All-append, All-g
 use Rattle.std.proofs.lemmas.Option.{slice_get_within, get_or_from_slice_get}
 use Rattle.lw_calls.specs.declared.call.Call.{Call}
 use Rattle.lw_calls.specs.declared.entry.Entry.{Entry}
-use Rattle.lw_calls.specs.Plan.{Plan, IsPlan, task_calls}
+use Rattle.lw_calls.specs.Plan.{Plan, task_calls}
 use Rattle.lw_calls.specs.Entries.{count_of, next_entry, entries}
-use Rattle.lw_calls.specs.Orders.{occurrences, may_come, keeps_groups, is_complete, is_legal}
+use Rattle.lw_calls.specs.Orders.{occurrences, may_come, keeps_groups, is_complete}
 use Rattle.lw_calls.proofs.OrdersComplete.{occurs_again, occurs_as_before, all_below, call_there}
 use Rattle.lw_apart.specs.TaskSteps.{steps_of, numbered, TasksKeepTheirOrder}
 

@@ -4,4 +4,7 @@
 
 mod laws;
 
-pub use laws::{apart_tasks_show_no_order, demos_show_no_order, tasks_keep_their_order};
+pub use laws::{
+    apart_tasks_show_no_order, demos_may_go_in_turn, demos_show_no_order, tasks_keep_their_order,
+    tasks_may_go_in_turn,
+};

@@ -102,10 +102,10 @@ module _ (s : Sizes) (first columns : ℕ) (slots : first + 2 < s.slots) (some :
   created_fit left right wide low =
       let back = Create first (layer_between Simple left 0 right 127) in
       let middle = Create (first + 1) (layer_between Smart (left + 8) 32 right 200) in
-      let front = Create (first + 2) (layer_between Simple left 64 (right - 8) 255) in
+      let front = Create (first + 2) (layer_between Smart left 64 (right - 8) 255) in
       All-cons Fits back (middle ∷ front ∷ []) (and_from _ _ (lt-ltb first s.slots (omega (arith, slots))) (between_fits Simple left 0 right 127 (omega (arith, wide)) low (omega arith) (omega arith) refl))
       (All-cons Fits middle (front ∷ []) (and_from _ _ (lt-ltb (first + 1) s.slots (omega (arith, slots))) (between_fits Smart (left + 8) 32 right 200 (omega (arith, wide)) low (omega arith) (omega arith) refl))
-      (All-cons Fits front [] (and_from _ _ (lt-ltb (first + 2) s.slots slots) (between_fits Simple left 64 (right - 8) 255 (omega (arith, wide)) (omega (arith, low)) (omega arith) (omega arith) refl)) (All-nil Fits)))
+      (All-cons Fits front [] (and_from _ _ (lt-ltb (first + 2) s.slots slots) (between_fits Smart left 64 (right - 8) 255 (omega (arith, wide)) (omega (arith, low)) (omega arith) (omega arith) refl)) (All-nil Fits)))
 
   pub band_fits : (number task : ℕ) → first ≡ 3 * task → 17 ≤ columns → task * columns + columns ≤ 640 → All Fits (band_calls number task columns)
   band_fits number task is wide inside =
@@ -126,7 +126,7 @@ many_names a (suc n) = let rest = many_names (a + 1) n in omega (arith, rest)
 all_tasks : (P : ℕ → Type 0) (n : ℕ) → ((t : ℕ) → t < n → P t) → All P (range_with_len 0 n)
 all_tasks P n each = All-from_get_or P (range_with_len 0 n) 0 (λ i low. let below : i < n = subst (λ k. i < k) (length-range_with_len 0 n) low in subst P (sym (get_or-range_with_len 0 n i 0 below)) (each (0 + i) (omega (arith, below))))
 
-no_group : (ts : List ℕ) (n : ℕ) → slice_index_or {A = List Group} (map (λ task. []) ts) n [] ≡ []
+pub no_group : (ts : List ℕ) (n : ℕ) → slice_index_or {A = List Group} (map (λ task. []) ts) n [] ≡ []
 no_group [] n = refl
 no_group (t ∷ ts) zero = refl
 no_group (t ∷ ts) (suc n) = no_group ts n

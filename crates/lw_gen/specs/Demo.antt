@@ -44,7 +44,7 @@ abbrev pub creations : ℕ → ℕ → ℕ → List Call
 creations first left right =
     Create first (layer_between Simple left 0 right 127)
     ∷ Create (first + 1) (layer_between Smart (left + 8) 32 right 200)
-    ∷ Create (first + 2) (layer_between Simple left 64 (right - 8) 255)
+    ∷ Create (first + 2) (layer_between Smart left 64 (right - 8) 255)
     ∷ []
 
 -- The 500 calls of a task whose band has so many columns: its layers are created, and the others are drawn by its word, which

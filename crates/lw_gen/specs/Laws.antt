@@ -1,15 +1,16 @@
 -- What the plans of demos promise.
 use Rattle.std.specs.Prelude.{◌≡◌, ℕ, ◌≤◌, List, [], ◌∷◌, take, drop, pos}
+use Rattle.lw_calls.specs.declared.make.Kind.TheVariants.{Simple, Smart}
 use Rattle.lw_calls.specs.declared.call.Call.{Call}
-use Rattle.lw_calls.specs.declared.call.Call.TheVariants.{ToFront, SetA, ReadPixel, Fill}
+use Rattle.lw_calls.specs.declared.call.Call.TheVariants.{Create, ToFront, SetA, ReadPixel, Fill}
 use Rattle.lw_calls.specs.Plan.{IsPlan}
-use Rattle.lw_gen.specs.Demo.{demo_calls, demo_plan}
+use Rattle.lw_gen.specs.Demo.{layer_between, demo_calls, demo_plan}
 
 -- The plan of a demo may be run, whatever its number.
 abbrev pub DemosArePlans : Type 0
 DemosArePlans = (number tasks : ℕ) → 1 ≤ tasks → tasks ≤ 16 → IsPlan (demo_plan number tasks)
 
--- The first calls that the two tasks of demo 7 draw, worked out by hand from the rule.
+-- Calls that the two tasks of demo 7 draw, worked out from the rule, apart from these definitions.
 abbrev pub first_drawn : List Call
 first_drawn =
     ToFront 1
@@ -33,6 +34,18 @@ second_drawn =
     ∷ ReadPixel 3 (pos 177) (pos 78)
     ∷ []
 
-pub record DrawsTheseFirst : Type 0 where
+-- The first three calls of the second task, whose band has the columns 320 to 639.
+abbrev pub second_created : List Call
+second_created =
+    Create 3 (layer_between Simple 320 0 639 127)
+    ∷ Create 4 (layer_between Smart 328 32 639 200)
+    ∷ Create 5 (layer_between Smart 320 64 631 255)
+    ∷ []
+
+-- The first calls, those that follow them, and the last call of each task.
+pub record DrawsTheseCalls : Type 0 where
+  pub created : take 3 (demo_calls 7 2 1) ≡ second_created
   pub first : take 8 (drop 3 (demo_calls 7 2 0)) ≡ first_drawn
   pub second : take 7 (drop 3 (demo_calls 7 2 1)) ≡ second_drawn
+  pub first_end : drop 499 (demo_calls 7 2 0) ≡ Fill 1 (record { min_x = pos 305; min_y = pos 34; max_x = pos 308; max_y = pos 34 }) ∷ []
+  pub second_end : drop 499 (demo_calls 7 2 1) ≡ ReadPixel 4 (pos 57) (pos 87) ∷ []

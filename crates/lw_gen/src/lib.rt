@@ -9,5 +9,5 @@ mod plan;
 #[cfg(test)]
 mod tests;
 
-pub use laws::{demos_are_plans, demos_draw_these_first};
+pub use laws::{demos_are_plans, demos_draw_these_calls};
 pub use plan::plan_of;

@@ -43,7 +43,7 @@ fn creations(alloc: Global, first: u32, left: u32, right: u32) -> Result<Vec<Cal
 {
     let back = layer_between(Kind::Simple, left, 0, right, 127);
     let middle = layer_between(Kind::Smart, left + 8, 32, right, 200);
-    let front = layer_between(Kind::Simple, left, 64, right - 8, 255);
+    let front = layer_between(Kind::Smart, left, 64, right - 8, 255);
     Ok(vec![in alloc;
         Call::Create {
             slot: first,

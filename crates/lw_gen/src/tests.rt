@@ -3,9 +3,7 @@ use lw_calls::Call;
 use std::test::Fail;
 
 #[test]
-fn demo_seven_has_the_names_and_first_calls_worked_out_by_hand(
-    rt: HostRuntime,
-) -> Result<(), Fail> {
+fn demo_seven_has_these_names_and_calls(rt: HostRuntime) -> Result<(), Fail> {
     let plan = plan_of(rt.alloc(), 7, 2)?;
     let [_, first] = plan.task_names() else {
         return Err(Fail::from("two tasks"));

@@ -1,0 +1,7 @@
+mod PlainWords
+mod WrittenNumbers
+mod DemoNames
+mod ReadOn
+mod DemoLines
+mod DemoCalls
+mod DemoTasks

@@ -1,7 +1,0 @@
-use Rattle.std.proofs.Common.{refl}
-use Rattle.lw_gen.specs.Generator.{stirred, picked}
-use Rattle.lw_gen.proofs.laws.demos_draw_these_first.Goals as goal
-
-pub returns : goal.returns
-unfolding stirred picked
-returns c = record { first = refl; second = refl }
