@@ -8,7 +8,7 @@ ghost use Rattle.lw_kernels.specs.Spans.{IsSpan, IsWay};
 use crate::bytes::{minterm_byte, shifted};
 use crate::copying::copy_bytes;
 use crate::spans::{Span, span_of};
-use crate::ways::{Way, bits_from, put_blit, shift_of, way_of};
+use crate::ways::{Way, bits_from, make_way, put_blit, shift_of, way_of};
 
 /// The minterm of a copy: the value is the source bit B, whatever the old value C is.
 pub const COPY_MINTERM: u8 = 0xc0;
@@ -45,22 +45,13 @@ fn blit_line(to: &mut [u8], span: Span, source: &[u8], place: usize, minterm: u8
         then blit_bit minterm (row_bit source.now) place (row_bit to.old) span.from p
         else row_bit to.old p) }
 {
-    let whole = Way {
-        copies: true,
-        whole: true,
-    };
-    let across = Way {
-        copies: true,
-        whole: false,
-    };
-    let other = Way {
-        copies: false,
-        whole: false,
-    };
-    let way = way_of(minterm, span, place);
-    if way.copies && way.whole {
+    let whole = make_way(true, true);
+    let across = make_way(true, false);
+    let other = make_way(false, false);
+    let found = way_of(minterm, span, place);
+    if found.copies && found.whole {
         combine_line(to, 0, span, source, 0, place, minterm, whole);
-    } else if way.copies {
+    } else if found.copies {
         combine_line(to, 0, span, source, 0, place, minterm, across);
     } else {
         combine_line(to, 0, span, source, 0, place, minterm, other);
@@ -91,20 +82,11 @@ pub fn combine_rows(
 {
     if count > 0 {
         let (span, place) = (span_of(to_bit, count), source_bit as usize);
-        let whole = Way {
-            copies: true,
-            whole: true,
-        };
-        let across = Way {
-            copies: true,
-            whole: false,
-        };
-        let other = Way {
-            copies: false,
-            whole: false,
-        };
-        let way = way_of(minterm, span, place);
-        if way.copies && way.whole {
+        let whole = make_way(true, true);
+        let across = make_way(true, false);
+        let other = make_way(false, false);
+        let found = way_of(minterm, span, place);
+        if found.copies && found.whole {
             lines(
                 to,
                 to_step,
@@ -116,7 +98,7 @@ pub fn combine_rows(
                 minterm,
                 whole,
             );
-        } else if way.copies {
+        } else if found.copies {
             lines(
                 to,
                 to_step,

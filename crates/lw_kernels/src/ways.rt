@@ -17,6 +17,14 @@ pub(crate) struct Way {
     pub(crate) whole: bool,
 }
 
+#[inline(always)]
+pub(crate) fn make_way(copies: bool, whole: bool) -> Way
+    ensures copies { result.copies ≡ copies }
+    ensures whole { result.whole ≡ whole }
+{
+    Way { copies, whole }
+}
+
 // The way of a blit whose sources begin at this bit of their row.
 #[inline(always)]
 pub(crate) fn way_of(minterm: u8, span: Span, place: usize) -> Way

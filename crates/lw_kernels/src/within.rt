@@ -11,7 +11,7 @@ use crate::combining::combine_whole;
 use crate::copying::copy_bytes;
 use crate::moving::move_bytes;
 use crate::spans::{Span, span_of};
-use crate::ways::{Way, bits_from, put_blit, shift_of, way_of};
+use crate::ways::{Way, bits_from, make_way, put_blit, shift_of, way_of};
 
 // The bytes that a blit other than a copy fetches at a time.
 const PIECE: usize = 256;
@@ -77,22 +77,13 @@ pub fn combine_rows_within(
 {
     if count > 0 {
         let (span, place) = (span_of(to.bit, count), source.bit as usize);
-        let whole = Way {
-            copies: true,
-            whole: true,
-        };
-        let across = Way {
-            copies: true,
-            whole: false,
-        };
-        let other = Way {
-            copies: false,
-            whole: false,
-        };
-        let way = way_of(minterm, span, place);
-        if way.copies && way.whole {
+        let whole = make_way(true, true);
+        let across = make_way(true, false);
+        let other = make_way(false, false);
+        let found = way_of(minterm, span, place);
+        if found.copies && found.whole {
             rows_within(bytes, step, span, to.row, source, rows, minterm, whole);
-        } else if way.copies {
+        } else if found.copies {
             rows_within(bytes, step, span, to.row, source, rows, minterm, across);
         } else {
             rows_within(bytes, step, span, to.row, source, rows, minterm, other);
