@@ -84,26 +84,27 @@ bit_at_low_byte n i low =
     let both : bit_at (bit_and n 255) i ≡ min (bit_at n i) (bit_at 255 i) = bit_at_and n 255 i in
     omega arith
 
--- eight bits of a pair of neighbouring bytes
-pub bit_at_pair : (row : List ℕ) (place left right j : ℕ) → right < 256 → j < 8 → left ≡ get_or row (place / 8) 0 → right ≡ get_or row (place / 8 + 1) 0 → bit_at (bit_and ((left * 256 + right) / 2 ^ (8 - place % 8)) 255) (7 - j) ≡ row_bit row (place + j)
+-- bits of a pair of bytes, moved to the right by `lead`: the second byte counts where a bit lies in it
+pub pair_bit : (row : List ℕ) (index shift left right lead j : ℕ) → right < 256 → shift < 8 → lead ≤ j → j < 8 → left ≡ get_or row index 0 → (8 ≤ shift + (j - lead) → right ≡ get_or row (index + 1) 0) → bit_at (bit_and ((left * 256 + right) / 2 ^ (8 - shift + lead)) 255) (7 - j) ≡ row_bit row (8 * index + shift + (j - lead))
 unfolding row_bit
-bit_at_pair row place left right j small low is_left is_right =
-    let i : ℕ = 8 - place % 8 + (7 - j) in
+pair_bit row index shift left right lead j small few begins low is_left is_right =
+    let i : ℕ = 8 - shift + lead + (7 - j) in
+    let x : ℕ = 8 * index + shift + (j - lead) in
     let in_byte : 7 - j < 8 = omega arith in
-    bit_at_low_byte ((left * 256 + right) / 2 ^ (8 - place % 8)) (7 - j) in_byte ∙
-    (bit_at_shr (left * 256 + right) (8 - place % 8) (7 - j) ∙
+    bit_at_low_byte ((left * 256 + right) / 2 ^ (8 - shift + lead)) (7 - j) in_byte ∙
+    (bit_at_shr (left * 256 + right) (8 - shift + lead) (7 - j) ∙
     ⊎_elim
-    (λ (first : place % 8 + j < 8).
+    (λ (first : shift + (j - lead) < 8).
     let high : 8 ≤ i = omega arith in
-    let byte : (place + j) / 8 ≡ place / 8 = omega arith in
-    let bit : i - 8 ≡ 7 - (place + j) % 8 = omega arith in
+    let byte : x / 8 ≡ index = omega arith in
+    let bit : i - 8 ≡ 7 - x % 8 = omega arith in
     bit_at_cat_high left 8 right i small high ∙ rw (bit, byte, ← is_left))
-    (λ (second : 8 ≤ place % 8 + j).
+    (λ (second : 8 ≤ shift + (j - lead)).
     let in_right : i < 8 = omega arith in
-    let byte : (place + j) / 8 ≡ place / 8 + 1 = omega arith in
-    let bit : i ≡ 7 - (place + j) % 8 = omega arith in
-    bit_at_cat_low left 8 right i in_right ∙ rw (bit, byte, ← is_right))
-    (cases_lt (place % 8 + j) 8))
+    let byte : x / 8 ≡ index + 1 = omega arith in
+    let bit : i ≡ 7 - x % 8 = omega arith in
+    bit_at_cat_low left 8 right i in_right ∙ rw (bit, byte, ← is_right second))
+    (cases_lt (shift + (j - lead)) 8))
 
 -- a byte that is shifted to the left has no bits below the shift, and above it those from its lowest on
 bit_at_shl : (a n i : ℕ) → i < 8 → bit_at ((a * 2 ^ n) % 256) i ≡ (if nat_lt i n then 0 else bit_at a (i - n))
@@ -162,14 +163,6 @@ shifted_row row at left right shift j v low is_left is_right is few =
     let bit : 15 - (shift + j) ≡ 7 - (8 * at + shift + j) % 8 = omega arith in
     ge_choice (shift + j) 8 v (bit_at left (7 - (shift + j))) (bit_at right (15 - (shift + j))) past is ∙ rw (← bit, byte, is_right) refl)
     (cases_lt (shift + j) 8)
-
--- eight bits that begin before the byte, moved to their places in it
-pub bit_at_moved : (row : List ℕ) (byte source_bit to_bit base j : ℕ) → j < 8 → base ≤ to_bit → to_bit ≤ base + j → ((i : ℕ) → i < 8 → bit_at byte (7 - i) ≡ row_bit row (source_bit + i)) → bit_at (byte / 2 ^ (to_bit - base)) (7 - j) ≡ row_bit row (source_bit + (base + j - to_bit))
-bit_at_moved row byte source_bit to_bit base j low before inside bits =
-    let i : ℕ = base + j - to_bit in
-    let in_byte : i < 8 = omega arith in
-    let place : to_bit - base + (7 - j) ≡ 7 - i = omega arith in
-    bit_at_shr byte (to_bit - base) (7 - j) ∙ (ap (λ n. bit_at byte n) place ∙ bits i in_byte)
 
 -- a bit of a number of which some bits are tested at once
 tested_bit : (minterm mask value i : ℕ) → bit_and minterm mask ≡ value → bit_at mask i ≡ 1 → bit_at minterm i ≡ bit_at value i

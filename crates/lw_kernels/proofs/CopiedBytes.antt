@@ -6,7 +6,7 @@ use Rattle.lw_planes.specs.Row.{row_bit}
 use Rattle.lw_planes.proofs.RowLaws.{row_bit_lt}
 use Rattle.lw_kernels.specs.Kernel.{blit_bit}
 use Rattle.lw_kernels.proofs.ByteLaws.{minterm_copies}
-use Rattle.lw_kernels.proofs.RowWriting.{Done, done_each, done_same, done_starts, done_ends}
+use Rattle.lw_kernels.proofs.RowWriting.{Done, done_each, done_same}
 use borrow.Rule.Slice.PartMut.{put_mid}
 
 -- equal bytes have equal bits
@@ -60,14 +60,3 @@ pub done_blit : (row source : List ℕ) (old : ℕ → ℕ) (minterm place from 
 done_blit row source old minterm place from end is done =
     done_same row (λ x. row_bit source (place + (x - from))) (blit_bit minterm (row_bit source) place old from) old from end done
     (λ x p q. sym (blit_copies source old minterm place from x is))
-
--- places that are whole bytes, by their bits
-pub done_whole : (row source : List ℕ) (old : ℕ → ℕ) (place from end : ℕ) → place % 8 ≡ 0 → from % 8 ≡ 0 → end % 8 ≡ 0 → Done row (λ x. row_bit source (8 * (place / 8) + (x - 8 * (from / 8)))) old (8 * (from / 8)) (8 * (end / 8)) → Done row (λ x. row_bit source (place + (x - from))) old from end
-done_whole row source old place from end a b c done =
-    let new : ℕ → ℕ = λ x. row_bit source (place + (x - from)) in
-    let begin : ℕ = 8 * (from / 8) in
-    let stop : ℕ = 8 * (end / 8) in
-    done_starts row new old begin from end (omega arith)
-    (done_ends row new old begin stop end (omega arith)
-    (done_same row (λ x. row_bit source (8 * (place / 8) + (x - begin))) new old begin stop done
-    (λ x p q. let same : 8 * (place / 8) + (x - begin) ≡ place + (x - from) = omega arith in ap (row_bit source) same)))

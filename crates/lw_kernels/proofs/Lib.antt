@@ -1,3 +1,4 @@
 pub mod ByteLaws
 pub mod RowWriting
 pub mod CopiedBytes
+pub mod SpanLaws

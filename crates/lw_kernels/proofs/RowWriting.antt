@@ -24,12 +24,12 @@ abbrev pub Done : List ℕ → (ℕ → ℕ) → (ℕ → ℕ) → ℕ → ℕ �
 Done row new old from end = (x : ℕ) → row_bit row x ≡ (if is_between from end x then new x else old x)
 
 -- a choice whose test is true
-if_true : (t : Bool) (v a b : ℕ) → v ≡ (if t then a else b) → t ≡ true → v ≡ a
+pub if_true : (t : Bool) (v a b : ℕ) → v ≡ (if t then a else b) → t ≡ true → v ≡ a
 if_true true v a b is h = is
 if_true false v a b is h = cc
 
 -- a choice whose test is false
-if_false : (t : Bool) (v a b : ℕ) → v ≡ (if t then a else b) → t ≡ false → v ≡ b
+pub if_false : (t : Bool) (v a b : ℕ) → v ≡ (if t then a else b) → t ≡ false → v ≡ b
 if_false true v a b is h = cc
 if_false false v a b is h = is
 
@@ -43,10 +43,6 @@ and_true true true h = refl
 and_true false true h = refl
 and_true true false h = cc
 and_true false false h = refl
-
--- what is between two bits is not before the first
-pub between_from : (from end x : ℕ) → is_between from end x ≡ true → from ≤ x
-between_from from end x h = grind (arith, nat_tests)
 
 -- a byte that was written
 pub set_here : (row : List ℕ) (index v x : ℕ) → index < length row → x / 8 ≡ index → row_bit (set row index v) x ≡ bit_at v (7 - x % 8)
@@ -193,7 +189,7 @@ pub between_after : (from end x : ℕ) → end ≤ x → is_between from end x �
 between_after from end x p = grind (arith, nat_tests)
 
 -- a choice, from both of its cases
-chosen : (t : Bool) (v a b : ℕ) → (t ≡ true → v ≡ a) → (t ≡ false → v ≡ b) → v ≡ (if t then a else b)
+pub chosen : (t : Bool) (v a b : ℕ) → (t ≡ true → v ≡ a) → (t ≡ false → v ≡ b) → v ≡ (if t then a else b)
 chosen true v a b then_is else_is = then_is refl
 chosen false v a b then_is else_is = else_is refl
 
@@ -268,14 +264,6 @@ done_starts row new old from to end same done = λ x. done x ∙ ap (λ n. if is
 -- a range with another name for its end
 pub done_ends : (row : List ℕ) (new old : ℕ → ℕ) (from end stop : ℕ) → end ≡ stop → Done row new old from end → Done row new old from stop
 done_ends row new old from end stop same done = λ x. done x ∙ ap (λ n. if is_between from n x then new x else old x) same
-
--- a byte that has the bits of a range in it, and its own ones
-pub one_byte : (row : List ℕ) (new : ℕ → ℕ) (from end index v : ℕ) → index < length row → 8 * index ≤ from → end ≤ 8 * index + 8 → ((j : ℕ) → j < 8 → bit_at v (7 - j) ≡ (if is_between from end (8 * index + j) then new (8 * index + j) else row_bit row (8 * index + j))) → Done (set row index v) new (λ x. row_bit row x) from end
-one_byte row new from end index v inside begins ends byte =
-    let old : ℕ → ℕ = λ x. row_bit row x in
-    let late : end ≤ 8 * (index + 1) = omega arith in
-    before_all (set row index v) new old from end (index + 1) late
-    (before_more row new old from end index v inside (before_none row new from end index begins) byte)
 
 -- no range, no change
 pub done_none : (row : List ℕ) (new : ℕ → ℕ) (from end : ℕ) → end ≤ from → Done row new (λ x. row_bit row x) from end

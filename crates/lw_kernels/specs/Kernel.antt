@@ -1,5 +1,5 @@
--- What row kernels do to the bits of a row, counted from its left.
-use Rattle.std.specs.Prelude.{ℕ, ◌+◌, ◌-◌, Bool, nat_le, nat_lt, ◌&&◌, if◌then◌else◌, List, map, length, slice_index}
+-- What kernels do to the bits of rows, counted from the left of each.
+use Rattle.std.specs.Prelude.{ℕ, ◌+◌, ◌-◌, ◌*◌, Bool, nat_le, nat_lt, ◌&&◌, if◌then◌else◌, List, map, length, slice_index}
 use Rattle.std.specs.List.{range_with_len}
 use Rattle.lw_planes.specs.Minterm.{minterm_bit}
 
@@ -10,6 +10,10 @@ is_between from end x = nat_le from x && nat_lt x end
 -- bit x is one of `count` bits from `from` on
 abbrev pub is_named : ℕ → ℕ → ℕ → Bool
 is_named from count x = is_between from (from + count) x
+
+-- where bit x of row y stands, among the bits of rows of `step` bytes
+abbrev pub place_in : ℕ → ℕ → ℕ → ℕ
+place_in step y x = 8 * (y * step) + x
 
 -- a list of bits once the `count` of them from `from` on have become `new x`, each at its place x
 unfoldable pub with_named : List ℕ → ℕ → ℕ → (ℕ → ℕ) → List ℕ

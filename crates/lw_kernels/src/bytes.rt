@@ -1,6 +1,6 @@
 // Single bytes of a row, seen as eight bits from the left.
 
-ghost use Rattle.std.specs.Prelude.{◌≡◌, ℕ, ◌+◌, ◌-◌, ◌*◌, ◌^◌, ◌<◌, ◌≤◌, ◌==◌, nat_lt, if◌then◌else◌, length, slice_index};
+ghost use Rattle.std.specs.Prelude.{◌≡◌, ℕ, ◌+◌, ◌-◌, ◌*◌, ◌^◌, ◌<◌, ◌≤◌, ◌==◌, nat_lt, if◌then◌else◌, length};
 ghost use Rattle.std.specs.Int.{bit_at};
 ghost use Rattle.lw_planes.specs.Row.{bit_of, row_bit};
 ghost use Rattle.lw_planes.specs.Minterm.{minterm_bit};
@@ -23,7 +23,7 @@ fn ones_from(first: usize) -> u8
 
 // The bits of byte `index` of a row that stand from bit `from` of the row on, before bit `end`; both are in the
 // byte, or at its end.
-fn mask(from: usize, end: usize, index: usize) -> u8
+pub(crate) fn mask(from: usize, end: usize, index: usize) -> u8
     requires near { index < 2 ^ 60 }
     requires begins { 8 * index ≤ from }
     requires ordered { from ≤ end }
@@ -34,40 +34,10 @@ fn mask(from: usize, end: usize, index: usize) -> u8
 }
 
 // The bits of one byte where the mask has a 1, and those of the other byte elsewhere.
-fn picked(mask: u8, one: u8, other: u8) -> u8
+pub(crate) fn picked(mask: u8, one: u8, other: u8) -> u8
     ensures { (i : ℕ) → i < 8 → bit_at result i ≡ (if bit_at mask i == 1 then bit_at one i else bit_at other i) }
 {
     (one & mask) | (other & !mask)
-}
-
-// Byte `index` of a row, with the bits of `value` in the place of its own from bit `from` of the row on,
-// before bit `end`; both are in the byte, or at its end.
-pub(crate) fn replaced(old: u8, value: u8, from: usize, end: usize, index: usize) -> u8
-    requires near { index < 2 ^ 60 }
-    requires begins { 8 * index ≤ from }
-    requires ordered { from ≤ end }
-    requires ends { end ≤ 8 * index + 8 }
-    ensures { (j : ℕ) → j < 8 → bit_at result (7 - j) ≡ (if is_between from end (8 * index + j)
-        then bit_at value (7 - j)
-        else bit_at old (7 - j)) }
-{
-    picked(mask(from, end, index), value, old)
-}
-
-// Byte `index` of a row, and 0 past its end.
-fn byte_at(row: &[u8], index: usize) -> u8
-    ensures { result ≡ slice_index row.now index }
-{
-    row.get(index).copied().unwrap_or(0)
-}
-
-// The eight bits of a row from this place on, zeros past its end.
-pub(crate) fn eight_bits(row: &[u8], place: usize) -> u8
-    ensures { (j : ℕ) → j < 8 → bit_at result (7 - j) ≡ row_bit row.now (place + j) }
-{
-    let index = place / 8;
-    let pair = u16::from(byte_at(row, index)) * 256 + u16::from(byte_at(row, index + 1));
-    ((pair >> (8 - place % 8)) & 0xff) as u8
 }
 
 // The eight bits of a pair of neighbouring bytes from bit `shift` of the pair on.

@@ -1,11 +1,14 @@
-ghost use Rattle.std.specs.Prelude.{◌≡◌, ℕ, ◌+◌, ◌-◌, ◌*◌, ◌/◌, ◌^◌, ◌<◌, ◌≤◌, if◌then◌else◌, length, slice_index};
+ghost use Rattle.std.specs.Prelude.{◌≡◌, ℕ, ◌+◌, ◌-◌, ◌*◌, ◌/◌, ◌^◌, ◌<◌, ◌≤◌, ◌&&◌, nat_lt, true, if◌then◌else◌, bit_and, length, slice_index};
 ghost use Rattle.std.specs.Int.{bit_at};
 ghost use Rattle.lw_planes.specs.Row.{row_bit, row_bits};
 ghost use Rattle.lw_planes.specs.Minterm.{minterm_bit};
-ghost use Rattle.lw_kernels.specs.Kernel.{blit_bit, is_between, is_named, with_named};
+ghost use Rattle.lw_kernels.specs.Kernel.{blit_bit, is_between, is_named, place_in, with_named};
+ghost use Rattle.lw_kernels.specs.Spans.{IsSpan, IsWay};
 
-use crate::bytes::{eight_bits, minterm_byte, replaced, shifted};
-use crate::copying::{copy_bytes, copy_unshifted};
+use crate::bytes::{minterm_byte, shifted};
+use crate::copying::copy_bytes;
+use crate::spans::{Span, span_of};
+use crate::ways::{Way, bits_from, make_way, put_blit, shift_of, way_of};
 
 /// The minterm of a copy: the value is the source bit B, whatever the old value C is.
 pub const COPY_MINTERM: u8 = 0xc0;
@@ -24,146 +27,208 @@ pub fn combine(to: &mut [u8], to_bit: u32, source: &[u8], source_bit: u32, count
         then blit_bit minterm (row_bit source.now) source_bit (row_bit to.old) to_bit x
         else row_bit to.old x) }
 {
-    let from = to_bit as usize;
-    let end = from + count as usize;
-    combine_between(to, from, end, source, source_bit as usize, minterm);
-}
-
-// As `combine`, from bit `from` of the destination and bit `place` of the source on. A copy is code of its own, since
-// the compiler leaves out what a known minterm doesn't need.
-fn combine_between(to: &mut [u8], from: usize, end: usize, source: &[u8], place: usize, minterm: u8)
-    requires near { end < 2 ^ 40 }
-    requires near_source { place < 2 ^ 40 }
-    requires ordered { from ≤ end }
-    requires inside { end ≤ 8 * length to.old }
-    requires source_inside { place + (end - from) ≤ 8 * length source.now }
-    ensures { (x : ℕ) → row_bit to.new x ≡ (if is_between from end x
-        then blit_bit minterm (row_bit source.now) place (row_bit to.old) from x
-        else row_bit to.old x) }
-{
-    if minterm & 0xf0 != COPY_MINTERM {
-        combine_others(to, from, end, source, place, minterm);
-    } else if from % 8 == 0 && end % 8 == 0 && place % 8 == 0 {
-        copy_unshifted(to, from / 8, end / 8, source, place / 8);
-    } else {
-        copy_across(to, from, end, source, place);
+    if count > 0 {
+        let (span, place) = (span_of(to_bit, count), source_bit as usize);
+        blit_line(to, span, source, place, minterm);
     }
 }
 
-// As `combine_between`, for the minterm of a copy.
-#[inline(never)]
-fn copy_across(to: &mut [u8], from: usize, end: usize, source: &[u8], place: usize)
-    requires near { end < 2 ^ 40 }
-    requires near_source { place < 2 ^ 40 }
-    requires ordered { from ≤ end }
-    requires inside { end ≤ 8 * length to.old }
-    requires source_inside { place + (end - from) ≤ 8 * length source.now }
-    ensures { (x : ℕ) → row_bit to.new x ≡ (if is_between from end x
-        then row_bit source.now (place + (x - from))
-        else row_bit to.old x) }
-{
-    combine_parts(to, from, end, source, place, COPY_MINTERM);
-}
-
-// As `combine_between`.
-#[inline(never)]
-fn combine_others(to: &mut [u8], from: usize, end: usize, source: &[u8], place: usize, minterm: u8)
-    requires near { end < 2 ^ 40 }
-    requires near_source { place < 2 ^ 40 }
-    requires ordered { from ≤ end }
-    requires inside { end ≤ 8 * length to.old }
-    requires source_inside { place + (end - from) ≤ 8 * length source.now }
-    ensures { (x : ℕ) → row_bit to.new x ≡ (if is_between from end x
-        then blit_bit minterm (row_bit source.now) place (row_bit to.old) from x
-        else row_bit to.old x) }
-{
-    combine_parts(to, from, end, source, place, minterm);
-}
-
-// As `combine_between`. Whole bytes go without masks. They come last, so that nothing is kept for later where `memcpy`
-// writes them.
+// The bits of a span, with the sources from bit `place` on. Each way has code of its own, as in `combine_rows`.
 #[inline(always)]
-fn combine_parts(to: &mut [u8], from: usize, end: usize, source: &[u8], place: usize, minterm: u8)
-    requires near { end < 2 ^ 40 }
+fn blit_line(to: &mut [u8], span: Span, source: &[u8], place: usize, minterm: u8)
+    requires span { IsSpan span }
+    requires near { span.end < 2 ^ 40 }
     requires near_source { place < 2 ^ 40 }
-    requires ordered { from ≤ end }
-    requires inside { end ≤ 8 * length to.old }
-    requires source_inside { place + (end - from) ≤ 8 * length source.now }
-    ensures { (x : ℕ) → row_bit to.new x ≡ (if is_between from end x
-        then blit_bit minterm (row_bit source.now) place (row_bit to.old) from x
-        else row_bit to.old x) }
+    requires inside { span.end ≤ 8 * length to.old }
+    requires source_inside { place + (span.end - span.from) ≤ 8 * length source.now }
+    ensures { (p : ℕ) → row_bit to.new p ≡ (if is_between span.from span.end p
+        then blit_bit minterm (row_bit source.now) place (row_bit to.old) span.from p
+        else row_bit to.old p) }
 {
-    let first = from.div_ceil(8);
-    let last = end / 8;
-    if first <= last {
-        if from % 8 > 0 {
-            combine_edge(to, from, 8 * (from / 8) + 8, source, place, minterm);
-        }
-        if end % 8 > 0 {
-            let rest = place + (8 * last - from);
-            combine_edge(to, 8 * last, end, source, rest, minterm);
-        }
-        combine_bytes(to, first, last, source, place + (8 * first - from), minterm);
-    } else if from < end {
-        combine_edge(to, from, end, source, place, minterm);
+    let whole = make_way(true, true);
+    let across = make_way(true, false);
+    let other = make_way(false, false);
+    let found = way_of(minterm, span, place);
+    if found.copies && found.whole {
+        combine_line(to, 0, span, source, 0, place, minterm, whole);
+    } else if found.copies {
+        combine_line(to, 0, span, source, 0, place, minterm, across);
+    } else {
+        combine_line(to, 0, span, source, 0, place, minterm, other);
     }
 }
 
-// Bits of a single byte.
-fn combine_edge(to: &mut [u8], from: usize, end: usize, source: &[u8], place: usize, minterm: u8)
-    requires near { end < 2 ^ 41 }
-    requires near_source { place < 2 ^ 42 }
-    requires some { from < end }
-    requires inside { end ≤ 8 * length to.old }
-    requires one_byte { end ≤ 8 * (from / 8) + 8 }
-    ensures { (x : ℕ) → row_bit to.new x ≡ (if is_between from end x
-        then blit_bit minterm (row_bit source.now) place (row_bit to.old) from x
-        else row_bit to.old x) }
+/// As `combine`, in each of the first `rows` rows of `to_step` bytes, with the row of the same number of
+/// `source_step` bytes for its source. All bits named are in their rows, all rows are in the bytes, and
+/// each other bit of `to` stays as it was.
+pub fn combine_rows(
+    to: &mut [u8],
+    to_step: usize,
+    to_bit: u32,
+    source: &[u8],
+    source_step: usize,
+    source_bit: u32,
+    rows: u32,
+    count: u32,
+    minterm: u8,
+)
+    requires to_inside { to_bit + count ≤ 8 * to_step }
+    requires to_all { rows * to_step ≤ length to.old }
+    requires source_inside { source_bit + count ≤ 8 * source_step }
+    requires source_all { rows * source_step ≤ length source.now }
+    ensures { (y x : ℕ) → x < 8 * to_step → row_bit to.new (place_in to_step y x) ≡ (if nat_lt y rows && is_named to_bit count x
+        then minterm_bit minterm (row_bit source.now (place_in source_step y (source_bit + (x - to_bit)))) (row_bit to.old (place_in to_step y x))
+        else row_bit to.old (place_in to_step y x)) }
 {
-    let index = from / 8;
-    to[index] = blit_byte(to[index], from, end, source, place, minterm);
+    if count > 0 {
+        let (span, place) = (span_of(to_bit, count), source_bit as usize);
+        let whole = make_way(true, true);
+        let across = make_way(true, false);
+        let other = make_way(false, false);
+        let found = way_of(minterm, span, place);
+        if found.copies && found.whole {
+            lines(
+                to,
+                to_step,
+                span,
+                source,
+                source_step,
+                place,
+                rows,
+                minterm,
+                whole,
+            );
+        } else if found.copies {
+            lines(
+                to,
+                to_step,
+                span,
+                source,
+                source_step,
+                place,
+                rows,
+                minterm,
+                across,
+            );
+        } else {
+            lines(
+                to,
+                to_step,
+                span,
+                source,
+                source_step,
+                place,
+                rows,
+                minterm,
+                other,
+            );
+        }
+    }
 }
 
-// The byte of a destination that has bit `from`, once its bits from that on, before bit `end`, have the minterm's
-// values for their source bits and for themselves.
-pub(crate) fn blit_byte(
-    old: u8,
-    from: usize,
-    end: usize,
+// The bits of a span in each row, with the sources from bit `place` of each row on. Each way has a loop of its own,
+// since the compiler leaves out what a known one doesn't need.
+#[inline(always)]
+fn lines(
+    to: &mut [u8],
+    to_step: usize,
+    span: Span,
     source: &[u8],
+    source_step: usize,
+    place: usize,
+    rows: u32,
+    minterm: u8,
+    way: Way,
+)
+    requires span { IsSpan span }
+    requires way { IsWay minterm span place way }
+    requires to_inside { span.end ≤ 8 * to_step }
+    requires to_all { rows * to_step ≤ length to.old }
+    requires source_inside { place + (span.end - span.from) ≤ 8 * source_step }
+    requires source_all { rows * source_step ≤ length source.now }
+    requires near { span.end < 2 ^ 40 }
+    requires near_source { place < 2 ^ 40 }
+    ensures { (y x : ℕ) → x < 8 * to_step → row_bit to.new (place_in to_step y x) ≡ (if nat_lt y rows && is_between span.from span.end x
+        then minterm_bit minterm (row_bit source.now (place_in source_step y (place + (x - span.from)))) (row_bit to.old (place_in to_step y x))
+        else row_bit to.old (place_in to_step y x)) }
+{
+    for row in 0..rows {
+        let at = row as usize * to_step;
+        let start = row as usize * source_step;
+        combine_line(to, at, span, source, start, place, minterm, way);
+    }
+}
+
+// The bits of a span in the row that begins at byte `at`, with the sources from bit `place` past byte `start` on. Whole
+// bytes go without masks. They come last, so that nothing is kept for later where `memcpy` writes them.
+#[inline(always)]
+fn combine_line(
+    to: &mut [u8],
+    at: usize,
+    span: Span,
+    source: &[u8],
+    start: usize,
     place: usize,
     minterm: u8,
-) -> u8
-    requires near { end < 2 ^ 41 }
-    requires near_source { place < 2 ^ 42 }
-    requires ordered { from ≤ end }
-    requires one_byte { end ≤ 8 * (from / 8) + 8 }
-    ensures { (j : ℕ) → j < 8 → bit_at result (7 - j) ≡ (if is_between from end (8 * (from / 8) + j)
-        then minterm_bit minterm (row_bit source.now (place + (8 * (from / 8) + j - from))) (bit_at old (7 - j))
-        else bit_at old (7 - j)) }
+    way: Way,
+)
+    requires span { IsSpan span }
+    requires way { IsWay minterm span place way }
+    requires near { span.end < 2 ^ 40 }
+    requires near_source { place < 2 ^ 40 }
+    requires inside { 8 * at + span.end ≤ 8 * length to.old }
+    requires source_inside { 8 * start + place + (span.end - span.from) ≤ 8 * length source.now }
+    ensures { (p : ℕ) → row_bit to.new p ≡ (if is_between (8 * at + span.from) (8 * at + span.end) p
+        then blit_bit minterm (row_bit source.now) (8 * start + place) (row_bit to.old) (8 * at + span.from) p
+        else row_bit to.old p) }
 {
-    let index = from / 8;
-    let bits = eight_bits(source, place) >> (from - 8 * index);
-    replaced(old, minterm_byte(minterm, bits, old), from, end, index)
+    let end = place + (span.end - span.from);
+    let head = bits_from(source, start, place, end, span.from % 8, way.whole);
+    put_blit(to, at + span.first, span.head, head, minterm, way.copies);
+    let late = place + (span.rest - span.from);
+    let tail = bits_from(source, start, late, end, span.rest % 8, way.whole);
+    put_blit(to, at + span.last, span.tail, tail, minterm, way.copies);
+    let middle = place + (span.cut - span.from);
+    let shift = shift_of(middle, way.whole);
+    combine_bytes(
+        to,
+        at + span.next,
+        at + span.last,
+        source,
+        start + middle / 8,
+        shift,
+        minterm,
+        way.copies,
+    );
 }
 
 // The bytes from `first` on, before `last`.
 #[inline(always)]
-fn combine_bytes(to: &mut [u8], first: usize, last: usize, source: &[u8], place: usize, minterm: u8)
-    requires near { place < 2 ^ 42 }
+fn combine_bytes(
+    to: &mut [u8],
+    first: usize,
+    last: usize,
+    source: &[u8],
+    start: usize,
+    shift: usize,
+    minterm: u8,
+    copies: bool,
+)
+    requires low { shift < 8 }
+    requires copies { copies ≡ true → bit_and minterm 240 ≡ 192 }
     requires ordered { first ≤ last }
     requires inside { last ≤ length to.old }
-    requires source_inside { place + 8 * (last - first) ≤ 8 * length source.now }
+    requires source_inside { 8 * start + shift + 8 * (last - first) ≤ 8 * length source.now }
     ensures { (x : ℕ) → row_bit to.new x ≡ (if is_between (8 * first) (8 * last) x
-        then blit_bit minterm (row_bit source.now) place (row_bit to.old) (8 * first) x
+        then blit_bit minterm (row_bit source.now) (8 * start + shift) (row_bit to.old) (8 * first) x
         else row_bit to.old x) }
 {
-    if minterm & 0xf0 == COPY_MINTERM {
-        copy_bytes(to, first, last, source, place);
-    } else if place % 8 == 0 {
-        combine_whole(to, first, last, source, place / 8, minterm);
+    if copies {
+        copy_bytes(to, first, last, source, start, shift);
+    } else if shift == 0 {
+        combine_whole(to, first, last, source, start, minterm);
     } else {
-        combine_shifted(to, first, last, source, place / 8, place % 8, minterm);
+        combine_shifted(to, first, last, source, start, shift, minterm);
     }
 }
 
@@ -176,7 +241,6 @@ pub(crate) fn combine_whole(
     start: usize,
     minterm: u8,
 )
-    requires near { start < 2 ^ 60 }
     requires ordered { first ≤ last }
     requires inside { last ≤ length to.old }
     requires source_inside { start + (last - first) ≤ length source.now }
@@ -207,7 +271,6 @@ pub(crate) fn combine_whole(
 // As `combine_whole`, for each minterm with the same upper four bits.
 #[inline(always)]
 fn combine_by(to: &mut [u8], first: usize, last: usize, source: &[u8], start: usize, minterm: u8)
-    requires near { start < 2 ^ 60 }
     requires ordered { first ≤ last }
     requires inside { last ≤ length to.old }
     requires source_inside { start + (last - first) ≤ length source.now }
@@ -232,7 +295,6 @@ fn combine_shifted(
 )
     requires some { 0 < shift }
     requires low { shift < 8 }
-    requires near { start < 2 ^ 60 }
     requires ordered { first ≤ last }
     requires inside { last ≤ length to.old }
     requires source_inside { start + (last - first) < length source.now }

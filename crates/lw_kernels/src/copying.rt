@@ -6,19 +6,24 @@ ghost use Rattle.lw_kernels.specs.Kernel.{is_between};
 
 use crate::bytes::byte_from;
 
-// Gives the bytes from `first` on, before `last`, the bits of the source from `place` on.
+// Gives the bytes from `first` on, before `last`, the bits of the source from bit `shift` of byte `start` on.
 #[inline(always)]
-pub(crate) fn copy_bytes(to: &mut [u8], first: usize, last: usize, source: &[u8], place: usize)
-    requires near { place < 2 ^ 60 }
+pub(crate) fn copy_bytes(
+    to: &mut [u8],
+    first: usize,
+    last: usize,
+    source: &[u8],
+    start: usize,
+    shift: usize,
+)
+    requires low { shift < 8 }
     requires ordered { first ≤ last }
     requires inside { last ≤ length to.old }
-    requires source_inside { place + 8 * (last - first) ≤ 8 * length source.now }
+    requires source_inside { 8 * start + shift + 8 * (last - first) ≤ 8 * length source.now }
     ensures { (x : ℕ) → row_bit to.new x ≡ (if is_between (8 * first) (8 * last) x
-        then row_bit source.now (place + (x - 8 * first))
+        then row_bit source.now (8 * start + shift + (x - 8 * first))
         else row_bit to.old x) }
 {
-    let start = place / 8;
-    let shift = place % 8;
     if shift == 0 {
         copy_unshifted(to, first, last, source, start);
     } else if last - first >= 4 {
@@ -32,8 +37,8 @@ pub(crate) fn copy_bytes(to: &mut [u8], first: usize, last: usize, source: &[u8]
 
 // From byte `start` of the source on. The compiler makes one store of a fixed number of bytes, which may be written
 // twice, and a call of `memcpy` of any other.
-pub(crate) fn copy_unshifted(to: &mut [u8], first: usize, last: usize, source: &[u8], start: usize)
-    requires near { start < 2 ^ 60 }
+#[inline(always)]
+fn copy_unshifted(to: &mut [u8], first: usize, last: usize, source: &[u8], start: usize)
     requires ordered { first ≤ last }
     requires inside { last ≤ length to.old }
     requires source_inside { start + (last - first) ≤ length source.now }
@@ -80,7 +85,7 @@ fn copy_few(to: &mut [u8], first: usize, last: usize, source: &[u8], start: usiz
 
 // As `copy_unshifted`.
 #[inline(always)]
-pub(crate) fn copy_whole(to: &mut [u8], first: usize, last: usize, source: &[u8], start: usize)
+fn copy_whole(to: &mut [u8], first: usize, last: usize, source: &[u8], start: usize)
     requires ordered { first ≤ last }
     requires inside { last ≤ length to.old }
     requires source_inside { start + (last - first) ≤ length source.now }
@@ -227,6 +232,7 @@ pub(crate) fn put_block(to: &mut [u8], first: usize, block: &[u8], size: usize)
 }
 
 // As `copy_shifted`. Each shift has a loop of its own: vectors of bytes are shifted fast only by a constant.
+#[inline(always)]
 fn copy_many(to: &mut [u8], first: usize, last: usize, source: &[u8], start: usize, shift: usize)
     requires some { 0 < shift }
     requires low { shift < 8 }

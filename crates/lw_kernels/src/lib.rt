@@ -1,18 +1,22 @@
-//! Kernels on one row of a bit plane: filling, inverting and blitting its bits (the manual's Graphics
+//! Kernels on the rows of a bit plane: filling, inverting and blitting their bits (the manual's Graphics
 //! Primitives chapter). They count the bits of a row from its left: bit 0 is the most significant bit
-//! of byte 0.
+//! of its first byte. Rows are so many bytes each, one after another.
 #![tactic(auto)]
 
 mod bytes;
 mod combining;
 mod copying;
 mod filling;
+mod flipping;
 mod moving;
+mod spans;
+mod ways;
 mod within;
 
-pub use combining::{COPY_MINTERM, combine};
-pub use filling::{fill, flip};
-pub use within::combine_within;
+pub use combining::{COPY_MINTERM, combine, combine_rows};
+pub use filling::{fill, fill_rows};
+pub use flipping::{flip, flip_rows};
+pub use within::{Corner, combine_rows_within, combine_within};
 
 #[cfg(test)]
 mod tests;

@@ -7,18 +7,18 @@ ghost use Rattle.lw_kernels.specs.Kernel.{is_between};
 use crate::bytes::shifted;
 use crate::copying::{copy_shifted, put_block};
 
-// Gives the bytes from `first` on, before `last`, the bits of the row from `place` on, as they were before.
-pub(crate) fn move_bytes(row: &mut [u8], first: usize, last: usize, place: usize)
-    requires near { place < 2 ^ 50 }
+// Gives the bytes from `first` on, before `last`, the bits of the row from bit `shift` of byte `start` on, as
+// they were before.
+#[inline(always)]
+pub(crate) fn move_bytes(row: &mut [u8], first: usize, last: usize, start: usize, shift: usize)
+    requires low { shift < 8 }
     requires ordered { first ≤ last }
     requires inside { last ≤ length row.old }
-    requires source_inside { place + 8 * (last - first) ≤ 8 * length row.old }
+    requires source_inside { 8 * start + shift + 8 * (last - first) ≤ 8 * length row.old }
     ensures { (x : ℕ) → row_bit row.new x ≡ (if is_between (8 * first) (8 * last) x
-        then row_bit row.old (place + (x - 8 * first))
+        then row_bit row.old (8 * start + shift + (x - 8 * first))
         else row_bit row.old x) }
 {
-    let start = place / 8;
-    let shift = place % 8;
     if shift == 0 {
         move_unshifted(row, first, last, start);
     } else if last - first >= 4 {
@@ -31,8 +31,8 @@ pub(crate) fn move_bytes(row: &mut [u8], first: usize, last: usize, place: usize
 }
 
 // From byte `start` on.
-pub(crate) fn move_unshifted(row: &mut [u8], first: usize, last: usize, start: usize)
-    requires near { start < 2 ^ 50 }
+#[inline(always)]
+fn move_unshifted(row: &mut [u8], first: usize, last: usize, start: usize)
     requires ordered { first ≤ last }
     requires inside { last ≤ length row.old }
     requires source_inside { start + (last - first) ≤ length row.old }
@@ -55,7 +55,6 @@ pub(crate) fn move_unshifted(row: &mut [u8], first: usize, last: usize, start: u
 // As `move_unshifted`.
 #[inline(always)]
 fn move_few(row: &mut [u8], first: usize, last: usize, start: usize)
-    requires near { start < 2 ^ 50 }
     requires ordered { first ≤ last }
     requires few { last - first ≤ 16 }
     requires inside { last ≤ length row.old }
@@ -78,7 +77,6 @@ fn move_few(row: &mut [u8], first: usize, last: usize, start: usize)
 
 // As `move_unshifted`.
 fn move_whole(row: &mut [u8], first: usize, last: usize, start: usize)
-    requires near { start < 2 ^ 60 }
     requires ordered { first ≤ last }
     requires inside { last ≤ length row.old }
     requires source_inside { start + (last - first) ≤ length row.old }
@@ -91,10 +89,10 @@ fn move_whole(row: &mut [u8], first: usize, last: usize, start: usize)
 
 // From bit `shift` of byte `start` on. Each shift has code of its own, since vectors of bytes are shifted fast only by
 // a constant.
+#[inline(always)]
 fn move_many(row: &mut [u8], first: usize, last: usize, start: usize, shift: usize)
     requires some { 0 < shift }
     requires low { shift < 8 }
-    requires near { start < 2 ^ 50 }
     requires ordered { first ≤ last }
     requires inside { last ≤ length row.old }
     requires source_inside { start + (last - first) < length row.old }
@@ -119,7 +117,6 @@ fn move_many(row: &mut [u8], first: usize, last: usize, start: usize, shift: usi
 fn move_blocks(row: &mut [u8], first: usize, last: usize, start: usize, shift: usize)
     requires some { 0 < shift }
     requires low { shift < 8 }
-    requires near { start < 2 ^ 50 }
     requires ordered { first ≤ last }
     requires inside { last ≤ length row.old }
     requires source_inside { start + (last - first) < length row.old }
@@ -146,7 +143,6 @@ fn move_blocks(row: &mut [u8], first: usize, last: usize, start: usize, shift: u
 #[inline(always)]
 fn move_ends(row: &mut [u8], first: usize, last: usize, start: usize, shift: usize, size: usize)
     requires low { shift < 8 }
-    requires near { start < 2 ^ 50 }
     requires ordered { first ≤ last }
     requires inside { last ≤ length row.old }
     requires source_inside { 8 * start + shift + 8 * (last - first) ≤ 8 * length row.old }
@@ -191,7 +187,6 @@ fn move_block(row: &mut [u8], first: usize, start: usize, shift: usize, size: us
 fn move_long(row: &mut [u8], first: usize, last: usize, start: usize, shift: usize)
     requires some { 0 < shift }
     requires low { shift < 8 }
-    requires near { start < 2 ^ 50 }
     requires ordered { first ≤ last }
     requires inside { last ≤ length row.old }
     requires source_inside { start + (last - first) < length row.old }
@@ -212,7 +207,6 @@ fn move_long(row: &mut [u8], first: usize, last: usize, start: usize, shift: usi
 fn move_main(row: &mut [u8], first: usize, last: usize, start: usize, shift: usize)
     requires some { 0 < shift }
     requires low { shift < 8 }
-    requires near { start < 2 ^ 50 }
     requires ordered { first ≤ last }
     requires inside { last ≤ length row.old }
     requires source_inside { start + (last - first) < length row.old }
@@ -233,7 +227,6 @@ fn move_main(row: &mut [u8], first: usize, last: usize, start: usize, shift: usi
 fn move_left(row: &mut [u8], first: usize, last: usize, ahead: usize, shift: usize)
     requires some { 0 < shift }
     requires low { shift < 8 }
-    requires near { ahead < 2 ^ 60 }
     requires ordered { first ≤ last }
     requires source_inside { ahead + last < length row.old }
     ensures { (x : ℕ) → row_bit row.new x ≡ (if is_between (8 * first) (8 * last) x
@@ -252,7 +245,6 @@ fn move_left(row: &mut [u8], first: usize, last: usize, ahead: usize, shift: usi
 fn move_left_bytes(row: &mut [u8], first: usize, last: usize, ahead: usize, shift: usize)
     requires some { 0 < shift }
     requires low { shift < 8 }
-    requires near { ahead < 2 ^ 60 }
     requires ordered { first ≤ last }
     requires source_inside { ahead + last < length row.old }
     ensures { (x : ℕ) → row_bit row.new x ≡ (if is_between (8 * first) (8 * last) x

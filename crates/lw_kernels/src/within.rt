@@ -1,13 +1,17 @@
-// Blits within one row.
+// Blits within the same bytes.
 
-ghost use Rattle.std.specs.Prelude.{◌≡◌, ℕ, ◌+◌, ◌-◌, ◌*◌, ◌/◌, ◌^◌, ◌<◌, ◌≤◌, if◌then◌else◌, length, slice_index};
+ghost use Rattle.std.specs.Prelude.{◌≡◌, ℕ, ◌+◌, ◌-◌, ◌*◌, ◌^◌, ◌<◌, ◌≤◌, ◌&&◌, true, if◌then◌else◌, bit_and, length, slice_index};
 ghost use Rattle.lw_planes.specs.Row.{row_bit, row_bits};
-ghost use Rattle.lw_kernels.specs.Kernel.{blit_bit, is_between, is_named, with_named};
+ghost use Rattle.lw_planes.specs.Minterm.{minterm_bit};
+ghost use Rattle.lw_kernels.specs.Kernel.{blit_bit, is_between, is_named, place_in, with_named};
+ghost use Rattle.lw_kernels.specs.Spans.{IsSpan, IsWay};
 
-use crate::bytes::{eight_bits, minterm_byte};
-use crate::combining::{COPY_MINTERM, blit_byte, combine_whole};
+use crate::bytes::minterm_byte;
+use crate::combining::combine_whole;
 use crate::copying::copy_bytes;
-use crate::moving::{move_bytes, move_unshifted};
+use crate::moving::move_bytes;
+use crate::spans::{Span, span_of};
+use crate::ways::{Way, bits_from, make_way, put_blit, shift_of, way_of};
 
 // The bytes that a blit other than a copy fetches at a time.
 const PIECE: usize = 256;
@@ -30,245 +34,371 @@ pub fn combine_within(row: &mut [u8], to_bit: u32, source_bit: u32, count: u32, 
         then blit_bit minterm (row_bit row.old) source_bit (row_bit row.old) to_bit x
         else row_bit row.old x) }
 {
-    let from = to_bit as usize;
-    let end = from + count as usize;
-    within_between(row, from, end, source_bit as usize, minterm);
-}
-
-// As `combine_within`, from bit `from` and bit `place` of the row on. A copy is code of its own, as in `combine`.
-fn within_between(row: &mut [u8], from: usize, end: usize, place: usize, minterm: u8)
-    requires near { end < 2 ^ 40 }
-    requires near_source { place < 2 ^ 40 }
-    requires ordered { from ≤ end }
-    requires inside { end ≤ 8 * length row.old }
-    requires source_inside { place + (end - from) ≤ 8 * length row.old }
-    ensures { (x : ℕ) → row_bit row.new x ≡ (if is_between from end x
-        then blit_bit minterm (row_bit row.old) place (row_bit row.old) from x
-        else row_bit row.old x) }
-{
-    if minterm & 0xf0 != COPY_MINTERM {
-        within_others(row, from, end, place, minterm);
-    } else if from % 8 == 0 && end % 8 == 0 && place % 8 == 0 {
-        move_unshifted(row, from / 8, end / 8, place / 8);
-    } else {
-        move_across(row, from, end, place);
-    }
-}
-
-// As `within_between`, for the minterm of a copy.
-#[inline(never)]
-fn move_across(row: &mut [u8], from: usize, end: usize, place: usize)
-    requires near { end < 2 ^ 40 }
-    requires near_source { place < 2 ^ 40 }
-    requires ordered { from ≤ end }
-    requires inside { end ≤ 8 * length row.old }
-    requires source_inside { place + (end - from) ≤ 8 * length row.old }
-    ensures { (x : ℕ) → row_bit row.new x ≡ (if is_between from end x
-        then row_bit row.old (place + (x - from))
-        else row_bit row.old x) }
-{
-    within_parts(row, from, end, place, COPY_MINTERM);
-}
-
-// As `within_between`.
-#[inline(never)]
-fn within_others(row: &mut [u8], from: usize, end: usize, place: usize, minterm: u8)
-    requires near { end < 2 ^ 40 }
-    requires near_source { place < 2 ^ 40 }
-    requires ordered { from ≤ end }
-    requires inside { end ≤ 8 * length row.old }
-    requires source_inside { place + (end - from) ≤ 8 * length row.old }
-    ensures { (x : ℕ) → row_bit row.new x ≡ (if is_between from end x
-        then blit_bit minterm (row_bit row.old) place (row_bit row.old) from x
-        else row_bit row.old x) }
-{
-    within_parts(row, from, end, place, minterm);
-}
-
-// The parts of the row are taken from the left where the sources stand to the right of their destinations, and from
-// the right elsewhere, so that no source is written before it is read.
-#[inline(always)]
-fn within_parts(row: &mut [u8], from: usize, end: usize, place: usize, minterm: u8)
-    requires near { end < 2 ^ 40 }
-    requires near_source { place < 2 ^ 40 }
-    requires ordered { from ≤ end }
-    requires inside { end ≤ 8 * length row.old }
-    requires source_inside { place + (end - from) ≤ 8 * length row.old }
-    ensures { (x : ℕ) → row_bit row.new x ≡ (if is_between from end x
-        then blit_bit minterm (row_bit row.old) place (row_bit row.old) from x
-        else row_bit row.old x) }
-{
-    let first = from.div_ceil(8);
-    let last = end / 8;
-    let middle = place + (8 * first - from);
-    if last < first {
-        if from < end {
-            within_edge(row, from, end, place, minterm);
+    if count > 0 {
+        let (span, place) = (span_of(to_bit, count), source_bit as usize);
+        let way = way_of(minterm, span, place);
+        if to_bit <= source_bit {
+            line_forwards(row, 0, span, 0, place, minterm, way);
+        } else {
+            line_backwards(row, 0, span, 0, place, minterm, way);
         }
-    } else if from <= place {
-        within_start(row, from, first, place, minterm);
-        within_bytes(row, first, last, middle, minterm);
-        within_rest(row, last, end, place + (8 * last - from), minterm);
+    }
+}
+
+/// Where a block of bits begins: in which row, and at which bit of it.
+#[derive(Clone, Copy)]
+pub struct Corner {
+    /// The number of the row, from 0.
+    pub row: u32,
+    /// The bit of the row.
+    pub bit: u32,
+}
+
+/// Blits a block of `rows` rows of `count` bits onto another one of the same bytes, as `combine_rows`
+/// does. The bytes are rows of `step` bytes, and the blocks begin at `to` and at `source`. The sources are
+/// the bits as they were before the call, however the blocks overlap. All bits named are in their rows,
+/// all rows are in the bytes, and each other bit stays as it was.
+pub fn combine_rows_within(
+    bytes: &mut [u8],
+    step: usize,
+    to: Corner,
+    source: Corner,
+    rows: u32,
+    count: u32,
+    minterm: u8,
+)
+    requires to_inside { to.bit + count ≤ 8 * step }
+    requires to_all { (to.row + rows) * step ≤ length bytes.old }
+    requires source_inside { source.bit + count ≤ 8 * step }
+    requires source_all { (source.row + rows) * step ≤ length bytes.old }
+    ensures { (y x : ℕ) → x < 8 * step → row_bit bytes.new (place_in step y x) ≡ (if is_named to.row rows y && is_named to.bit count x
+        then minterm_bit minterm (row_bit bytes.old (place_in step (source.row + (y - to.row)) (source.bit + (x - to.bit)))) (row_bit bytes.old (place_in step y x))
+        else row_bit bytes.old (place_in step y x)) }
+{
+    if count > 0 {
+        let (span, place) = (span_of(to.bit, count), source.bit as usize);
+        let whole = make_way(true, true);
+        let across = make_way(true, false);
+        let other = make_way(false, false);
+        let found = way_of(minterm, span, place);
+        if found.copies && found.whole {
+            rows_within(bytes, step, span, to.row, source, rows, minterm, whole);
+        } else if found.copies {
+            rows_within(bytes, step, span, to.row, source, rows, minterm, across);
+        } else {
+            rows_within(bytes, step, span, to.row, source, rows, minterm, other);
+        }
+    }
+}
+
+// The bits of a span in each row from row `to` on.
+#[inline(always)]
+fn rows_within(
+    bytes: &mut [u8],
+    step: usize,
+    span: Span,
+    to: u32,
+    source: Corner,
+    rows: u32,
+    minterm: u8,
+    way: Way,
+)
+    requires span { IsSpan span }
+    requires way { IsWay minterm span source.bit way }
+    requires to_inside { span.end ≤ 8 * step }
+    requires to_all { (to + rows) * step ≤ length bytes.old }
+    requires source_inside { source.bit + (span.end - span.from) ≤ 8 * step }
+    requires source_all { (source.row + rows) * step ≤ length bytes.old }
+    requires near { span.end < 2 ^ 40 }
+    ensures { (y x : ℕ) → x < 8 * step → row_bit bytes.new (place_in step y x) ≡ (if is_named to rows y && is_between span.from span.end x
+        then minterm_bit minterm (row_bit bytes.old (place_in step (source.row + (y - to)) (source.bit + (x - span.from)))) (row_bit bytes.old (place_in step y x))
+        else row_bit bytes.old (place_in step y x)) }
+{
+    if to < source.row || to == source.row && span.from <= source.bit as usize {
+        rows_down(bytes, step, span, to, source, rows, minterm, way);
     } else {
-        within_rest(row, last, end, place + (8 * last - from), minterm);
-        within_bytes(row, first, last, middle, minterm);
-        within_start(row, from, first, place, minterm);
+        rows_up(bytes, step, span, to, source, rows, minterm, way);
     }
 }
 
-// The bits before byte `first`, up to seven.
+// Row after row downwards, and each to the right: no source stands before its destination.
 #[inline(always)]
-fn within_start(row: &mut [u8], from: usize, first: usize, place: usize, minterm: u8)
-    requires near { from < 2 ^ 40 }
-    requires near_source { place < 2 ^ 42 }
-    requires ordered { from ≤ 8 * first }
-    requires few { 8 * first < from + 8 }
-    requires inside { first ≤ length row.old }
-    ensures { (x : ℕ) → row_bit row.new x ≡ (if is_between from (8 * first) x
-        then blit_bit minterm (row_bit row.old) place (row_bit row.old) from x
-        else row_bit row.old x) }
+fn rows_down(
+    bytes: &mut [u8],
+    step: usize,
+    span: Span,
+    to: u32,
+    source: Corner,
+    rows: u32,
+    minterm: u8,
+    way: Way,
+)
+    requires span { IsSpan span }
+    requires way { IsWay minterm span source.bit way }
+    requires to_inside { span.end ≤ 8 * step }
+    requires to_all { (to + rows) * step ≤ length bytes.old }
+    requires source_inside { source.bit + (span.end - span.from) ≤ 8 * step }
+    requires near { span.end < 2 ^ 40 }
+    requires source_all { (source.row + rows) * step ≤ length bytes.old }
+    requires after { to ≤ source.row }
+    requires leftwards { to ≡ source.row → span.from ≤ source.bit }
+    ensures { (y x : ℕ) → x < 8 * step → row_bit bytes.new (place_in step y x) ≡ (if is_named to rows y && is_between span.from span.end x
+        then minterm_bit minterm (row_bit bytes.old (place_in step (source.row + (y - to)) (source.bit + (x - span.from)))) (row_bit bytes.old (place_in step y x))
+        else row_bit bytes.old (place_in step y x)) }
 {
-    if from % 8 > 0 {
-        within_edge(row, from, 8 * (from / 8) + 8, place, minterm);
+    for row in 0..rows {
+        let at = (to as usize + row as usize) * step;
+        let from = (source.row as usize + row as usize) * step;
+        line_forwards(bytes, at, span, from, source.bit as usize, minterm, way);
     }
 }
 
-// The bits from byte `last` on, up to seven.
+// Row after row upwards, and each to the left: no source stands behind its destination.
 #[inline(always)]
-fn within_rest(row: &mut [u8], last: usize, end: usize, place: usize, minterm: u8)
-    requires near { end < 2 ^ 40 }
-    requires near_source { place < 2 ^ 42 }
-    requires ordered { 8 * last ≤ end }
-    requires few { end < 8 * last + 8 }
-    requires inside { end ≤ 8 * length row.old }
-    ensures { (x : ℕ) → row_bit row.new x ≡ (if is_between (8 * last) end x
-        then blit_bit minterm (row_bit row.old) place (row_bit row.old) (8 * last) x
-        else row_bit row.old x) }
+fn rows_up(
+    bytes: &mut [u8],
+    step: usize,
+    span: Span,
+    to: u32,
+    source: Corner,
+    rows: u32,
+    minterm: u8,
+    way: Way,
+)
+    requires span { IsSpan span }
+    requires way { IsWay minterm span source.bit way }
+    requires to_inside { span.end ≤ 8 * step }
+    requires to_all { (to + rows) * step ≤ length bytes.old }
+    requires source_inside { source.bit + (span.end - span.from) ≤ 8 * step }
+    requires near { span.end < 2 ^ 40 }
+    requires source_all { (source.row + rows) * step ≤ length bytes.old }
+    requires before { source.row ≤ to }
+    requires rightwards { to ≡ source.row → source.bit ≤ span.from }
+    ensures { (y x : ℕ) → x < 8 * step → row_bit bytes.new (place_in step y x) ≡ (if is_named to rows y && is_between span.from span.end x
+        then minterm_bit minterm (row_bit bytes.old (place_in step (source.row + (y - to)) (source.bit + (x - span.from)))) (row_bit bytes.old (place_in step y x))
+        else row_bit bytes.old (place_in step y x)) }
 {
-    if end % 8 > 0 {
-        within_edge(row, 8 * last, end, place, minterm);
+    for row in (0..rows).rev() {
+        let at = (to as usize + row as usize) * step;
+        let from = (source.row as usize + row as usize) * step;
+        line_backwards(bytes, at, span, from, source.bit as usize, minterm, way);
     }
 }
 
-// Bits of a single byte.
-fn within_edge(row: &mut [u8], from: usize, end: usize, place: usize, minterm: u8)
-    requires near { end < 2 ^ 41 }
-    requires near_source { place < 2 ^ 42 }
-    requires some { from < end }
-    requires inside { end ≤ 8 * length row.old }
-    requires one_byte { end ≤ 8 * (from / 8) + 8 }
-    ensures { (x : ℕ) → row_bit row.new x ≡ (if is_between from end x
-        then blit_bit minterm (row_bit row.old) place (row_bit row.old) from x
-        else row_bit row.old x) }
+// The bits of a span in the row that begins at byte `at`, with the sources from bit `place` past byte `source` on, of
+// which none stands before its destination: from the left, so that no source is written before it is read.
+#[inline(always)]
+fn line_forwards(
+    bytes: &mut [u8],
+    at: usize,
+    span: Span,
+    source: usize,
+    place: usize,
+    minterm: u8,
+    way: Way,
+)
+    requires span { IsSpan span }
+    requires way { IsWay minterm span place way }
+    requires near { span.end < 2 ^ 40 }
+    requires near_source { place < 2 ^ 40 }
+    requires inside { 8 * at + span.end ≤ 8 * length bytes.old }
+    requires source_inside { 8 * source + place + (span.end - span.from) ≤ 8 * length bytes.old }
+    requires leftwards { 8 * at + span.from ≤ 8 * source + place }
+    ensures { (p : ℕ) → row_bit bytes.new p ≡ (if is_between (8 * at + span.from) (8 * at + span.end) p
+        then blit_bit minterm (row_bit bytes.old) (8 * source + place) (row_bit bytes.old) (8 * at + span.from) p
+        else row_bit bytes.old p) }
 {
-    let index = from / 8;
-    row[index] = blit_byte(row[index], from, end, row, place, minterm);
+    let end = place + (span.end - span.from);
+    let head = bits_from(bytes, source, place, end, span.from % 8, way.whole);
+    put_blit(bytes, at + span.first, span.head, head, minterm, way.copies);
+    let middle = place + (span.cut - span.from);
+    let shift = shift_of(middle, way.whole);
+    within_bytes(
+        bytes,
+        at + span.next,
+        at + span.last,
+        source + middle / 8,
+        shift,
+        minterm,
+        way.copies,
+    );
+    let late = place + (span.rest - span.from);
+    let tail = bits_from(bytes, source, late, end, span.rest % 8, way.whole);
+    put_blit(bytes, at + span.last, span.tail, tail, minterm, way.copies);
+}
+
+// As `line_forwards`, but no source stands behind its destination: from the right.
+#[inline(always)]
+fn line_backwards(
+    bytes: &mut [u8],
+    at: usize,
+    span: Span,
+    source: usize,
+    place: usize,
+    minterm: u8,
+    way: Way,
+)
+    requires span { IsSpan span }
+    requires way { IsWay minterm span place way }
+    requires near { span.end < 2 ^ 40 }
+    requires near_source { place < 2 ^ 40 }
+    requires inside { 8 * at + span.end ≤ 8 * length bytes.old }
+    requires source_inside { 8 * source + place + (span.end - span.from) ≤ 8 * length bytes.old }
+    requires rightwards { 8 * source + place ≤ 8 * at + span.from }
+    ensures { (p : ℕ) → row_bit bytes.new p ≡ (if is_between (8 * at + span.from) (8 * at + span.end) p
+        then blit_bit minterm (row_bit bytes.old) (8 * source + place) (row_bit bytes.old) (8 * at + span.from) p
+        else row_bit bytes.old p) }
+{
+    let end = place + (span.end - span.from);
+    let late = place + (span.rest - span.from);
+    let tail = bits_from(bytes, source, late, end, span.rest % 8, way.whole);
+    put_blit(bytes, at + span.last, span.tail, tail, minterm, way.copies);
+    let middle = place + (span.cut - span.from);
+    let shift = shift_of(middle, way.whole);
+    within_bytes(
+        bytes,
+        at + span.next,
+        at + span.last,
+        source + middle / 8,
+        shift,
+        minterm,
+        way.copies,
+    );
+    let head = bits_from(bytes, source, place, end, span.from % 8, way.whole);
+    put_blit(bytes, at + span.first, span.head, head, minterm, way.copies);
 }
 
 // The bytes from `first` on, before `last`.
 #[inline(always)]
-fn within_bytes(row: &mut [u8], first: usize, last: usize, place: usize, minterm: u8)
-    requires near { place < 2 ^ 42 }
-    requires near_end { last < 2 ^ 40 }
+fn within_bytes(
+    row: &mut [u8],
+    first: usize,
+    last: usize,
+    start: usize,
+    shift: usize,
+    minterm: u8,
+    copies: bool,
+)
+    requires low { shift < 8 }
+    requires copies { copies ≡ true → bit_and minterm 240 ≡ 192 }
     requires ordered { first ≤ last }
     requires inside { last ≤ length row.old }
-    requires source_inside { place + 8 * (last - first) ≤ 8 * length row.old }
+    requires source_inside { 8 * start + shift + 8 * (last - first) ≤ 8 * length row.old }
     ensures { (x : ℕ) → row_bit row.new x ≡ (if is_between (8 * first) (8 * last) x
-        then blit_bit minterm (row_bit row.old) place (row_bit row.old) (8 * first) x
+        then blit_bit minterm (row_bit row.old) (8 * start + shift) (row_bit row.old) (8 * first) x
         else row_bit row.old x) }
 {
-    if minterm & 0xf0 == COPY_MINTERM {
-        move_bytes(row, first, last, place);
+    if copies {
+        move_bytes(row, first, last, start, shift);
     } else if last - first >= MANY {
-        within_many(row, first, last, place, minterm);
-    } else if 8 * first <= place {
-        bytes_forwards(row, first, last, place, minterm);
+        within_many(row, first, last, start, shift, minterm);
+    } else if first <= start {
+        bytes_forwards(row, first, last, start, shift, minterm);
     } else {
-        bytes_backwards(row, first, last, place, minterm);
+        bytes_backwards(row, first, last, start, shift, minterm);
     }
 }
 
 // As `within_bytes`.
-fn within_many(row: &mut [u8], first: usize, last: usize, place: usize, minterm: u8)
-    requires near { place < 2 ^ 42 }
-    requires near_end { last < 2 ^ 40 }
+fn within_many(row: &mut [u8], first: usize, last: usize, start: usize, shift: usize, minterm: u8)
+    requires low { shift < 8 }
     requires ordered { first ≤ last }
     requires inside { last ≤ length row.old }
-    requires source_inside { place + 8 * (last - first) ≤ 8 * length row.old }
+    requires source_inside { 8 * start + shift + 8 * (last - first) ≤ 8 * length row.old }
     ensures { (x : ℕ) → row_bit row.new x ≡ (if is_between (8 * first) (8 * last) x
-        then blit_bit minterm (row_bit row.old) place (row_bit row.old) (8 * first) x
+        then blit_bit minterm (row_bit row.old) (8 * start + shift) (row_bit row.old) (8 * first) x
         else row_bit row.old x) }
 {
     if last - first <= SHORT {
-        within_short(row, first, last, place, minterm);
-    } else if 8 * first <= place {
-        pieces_forwards(row, first, last, place, minterm);
+        within_short(row, first, last, start, shift, minterm);
+    } else if first <= start {
+        pieces_forwards(row, first, last, start, shift, minterm);
     } else {
-        pieces_backwards(row, first, last, place, minterm);
+        pieces_backwards(row, first, last, start, shift, minterm);
     }
 }
 
 // As `within_bytes`, for one piece with little room.
-fn within_short(row: &mut [u8], first: usize, last: usize, place: usize, minterm: u8)
-    requires near { place < 2 ^ 42 }
+fn within_short(row: &mut [u8], first: usize, last: usize, start: usize, shift: usize, minterm: u8)
+    requires low { shift < 8 }
     requires ordered { first ≤ last }
     requires short { last - first ≤ 64 }
     requires inside { last ≤ length row.old }
-    requires source_inside { place + 8 * (last - first) ≤ 8 * length row.old }
+    requires source_inside { 8 * start + shift + 8 * (last - first) ≤ 8 * length row.old }
     ensures { (x : ℕ) → row_bit row.new x ≡ (if is_between (8 * first) (8 * last) x
-        then blit_bit minterm (row_bit row.old) place (row_bit row.old) (8 * first) x
+        then blit_bit minterm (row_bit row.old) (8 * start + shift) (row_bit row.old) (8 * first) x
         else row_bit row.old x) }
 {
     let mut fetched = [0; SHORT];
-    combine_piece(row, first, last, place, minterm, &mut fetched);
+    combine_piece(row, first, last, start, shift, minterm, &mut fetched);
 }
 
 // Byte after byte to the right: no source stands left of its destination.
 #[inline(always)]
-fn bytes_forwards(row: &mut [u8], first: usize, last: usize, place: usize, minterm: u8)
-    requires near { place < 2 ^ 42 }
-    requires near_end { last < 2 ^ 40 }
+fn bytes_forwards(
+    row: &mut [u8],
+    first: usize,
+    last: usize,
+    start: usize,
+    shift: usize,
+    minterm: u8,
+)
+    requires low { shift < 8 }
     requires ordered { first ≤ last }
     requires inside { last ≤ length row.old }
-    requires leftwards { 8 * first ≤ place }
+    requires source_inside { 8 * start + shift + 8 * (last - first) ≤ 8 * length row.old }
+    requires leftwards { first ≤ start }
     ensures { (x : ℕ) → row_bit row.new x ≡ (if is_between (8 * first) (8 * last) x
-        then blit_bit minterm (row_bit row.old) place (row_bit row.old) (8 * first) x
+        then blit_bit minterm (row_bit row.old) (8 * start + shift) (row_bit row.old) (8 * first) x
         else row_bit row.old x) }
 {
     for index in first..last {
-        let bits = eight_bits(row, place + 8 * (index - first));
+        let bits = bits_from(row, start + (index - first), shift, shift + 8, 0, false);
         row[index] = minterm_byte(minterm, bits, row[index]);
     }
 }
 
 // Byte after byte to the left: no source stands right of its destination.
 #[inline(always)]
-fn bytes_backwards(row: &mut [u8], first: usize, last: usize, place: usize, minterm: u8)
-    requires near { place < 2 ^ 42 }
-    requires near_end { last < 2 ^ 40 }
+fn bytes_backwards(
+    row: &mut [u8],
+    first: usize,
+    last: usize,
+    start: usize,
+    shift: usize,
+    minterm: u8,
+)
+    requires low { shift < 8 }
     requires ordered { first ≤ last }
     requires inside { last ≤ length row.old }
-    requires rightwards { place < 8 * first }
+    requires source_inside { 8 * start + shift + 8 * (last - first) ≤ 8 * length row.old }
+    requires rightwards { start < first }
     ensures { (x : ℕ) → row_bit row.new x ≡ (if is_between (8 * first) (8 * last) x
-        then blit_bit minterm (row_bit row.old) place (row_bit row.old) (8 * first) x
+        then blit_bit minterm (row_bit row.old) (8 * start + shift) (row_bit row.old) (8 * first) x
         else row_bit row.old x) }
 {
     for index in (first..last).rev() {
-        let bits = eight_bits(row, place + 8 * (index - first));
+        let bits = bits_from(row, start + (index - first), shift, shift + 8, 0, false);
         row[index] = minterm_byte(minterm, bits, row[index]);
     }
 }
 
 // Piece after piece to the right: no source stands left of its destination.
-fn pieces_forwards(row: &mut [u8], first: usize, last: usize, place: usize, minterm: u8)
-    requires near { place < 2 ^ 42 }
-    requires near_end { last < 2 ^ 40 }
+fn pieces_forwards(
+    row: &mut [u8],
+    first: usize,
+    last: usize,
+    start: usize,
+    shift: usize,
+    minterm: u8,
+)
+    requires low { shift < 8 }
     requires ordered { first ≤ last }
     requires inside { last ≤ length row.old }
-    requires source_inside { place + 8 * (last - first) ≤ 8 * length row.old }
-    requires leftwards { 8 * first ≤ place }
+    requires source_inside { 8 * start + shift + 8 * (last - first) ≤ 8 * length row.old }
+    requires leftwards { first ≤ start }
     ensures { (x : ℕ) → row_bit row.new x ≡ (if is_between (8 * first) (8 * last) x
-        then blit_bit minterm (row_bit row.old) place (row_bit row.old) (8 * first) x
+        then blit_bit minterm (row_bit row.old) (8 * start + shift) (row_bit row.old) (8 * first) x
         else row_bit row.old x) }
 {
     let mut fetched = [0; PIECE];
@@ -279,7 +409,8 @@ fn pieces_forwards(row: &mut [u8], first: usize, last: usize, place: usize, mint
             row,
             from,
             end,
-            place + 8 * (from - first),
+            start + (from - first),
+            shift,
             minterm,
             &mut fetched,
         );
@@ -287,15 +418,21 @@ fn pieces_forwards(row: &mut [u8], first: usize, last: usize, place: usize, mint
 }
 
 // Piece after piece to the left: no source stands right of its destination.
-fn pieces_backwards(row: &mut [u8], first: usize, last: usize, place: usize, minterm: u8)
-    requires near { place < 2 ^ 42 }
-    requires near_end { last < 2 ^ 40 }
+fn pieces_backwards(
+    row: &mut [u8],
+    first: usize,
+    last: usize,
+    start: usize,
+    shift: usize,
+    minterm: u8,
+)
+    requires low { shift < 8 }
     requires ordered { first ≤ last }
     requires inside { last ≤ length row.old }
-    requires source_inside { place + 8 * (last - first) ≤ 8 * length row.old }
-    requires rightwards { place < 8 * first }
+    requires source_inside { 8 * start + shift + 8 * (last - first) ≤ 8 * length row.old }
+    requires rightwards { start < first }
     ensures { (x : ℕ) → row_bit row.new x ≡ (if is_between (8 * first) (8 * last) x
-        then blit_bit minterm (row_bit row.old) place (row_bit row.old) (8 * first) x
+        then blit_bit minterm (row_bit row.old) (8 * start + shift) (row_bit row.old) (8 * first) x
         else row_bit row.old x) }
 {
     let mut fetched = [0; PIECE];
@@ -306,7 +443,8 @@ fn pieces_backwards(row: &mut [u8], first: usize, last: usize, place: usize, min
             row,
             from,
             end,
-            place + 8 * (from - first),
+            start + (from - first),
+            shift,
             minterm,
             &mut fetched,
         );
@@ -318,19 +456,20 @@ fn combine_piece(
     row: &mut [u8],
     first: usize,
     last: usize,
-    place: usize,
+    start: usize,
+    shift: usize,
     minterm: u8,
     fetched: &mut [u8],
 )
-    requires near { place < 2 ^ 50 }
+    requires low { shift < 8 }
     requires ordered { first ≤ last }
     requires room { last ≤ first + length fetched.old }
     requires inside { last ≤ length row.old }
-    requires source_inside { place + 8 * (last - first) ≤ 8 * length row.old }
+    requires source_inside { 8 * start + shift + 8 * (last - first) ≤ 8 * length row.old }
     ensures { (x : ℕ) → row_bit row.new x ≡ (if is_between (8 * first) (8 * last) x
-        then blit_bit minterm (row_bit row.old) place (row_bit row.old) (8 * first) x
+        then blit_bit minterm (row_bit row.old) (8 * start + shift) (row_bit row.old) (8 * first) x
         else row_bit row.old x) }
 {
-    copy_bytes(fetched, 0, last - first, row, place);
+    copy_bytes(fetched, 0, last - first, row, start, shift);
     combine_whole(row, first, last, fetched, 0, minterm);
 }

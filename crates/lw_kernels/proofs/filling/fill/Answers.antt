@@ -1,8 +1,14 @@
-use Rattle.std.proofs.Common.{refl}
-use Rattle.lw_planes.specs.Row.{bit_of}
+use Rattle.std.proofs.Common.{refl, arith}
+use Rattle.lw_planes.specs.Row.{bit_of, row_bit}
 use Rattle.lw_kernels.proofs.RowWriting.{with_named_from_bits}
+use Rattle.lw_kernels.proofs.SpanLaws.{named_done, named_none}
 use Rattle.lw_kernels.proofs.filling.fill.Goals as goal
 
-pub returns-clause-bits : goal.returns-clause-bits
-returns-clause-bits c =
-    with_named_from_bits c.fill_between.new.row c.args.row.now c.args.from c.args.count (λ _. bit_of c.args.bit) (λ _. bit_of c.args.bit) c.fill_between.auto.row c.fill_between.ensures (λ x. refl)
+pub returns-then-count-gt0-clause-bits : goal.returns-then-count-gt0-clause-bits
+returns-then-count-gt0-clause-bits c =
+    with_named_from_bits c.fill_line.new.bytes c.args.row.now c.args.from c.args.count (λ _. bit_of c.args.bit) (λ _. bit_of c.args.bit) c.fill_line.auto.bytes
+    (named_done c.fill_line.new.bytes (λ _. bit_of c.args.bit) (λ x. row_bit c.args.row.now x) c.args.from c.args.count _ _ (omega arith) (omega arith) c.fill_line.ensures)
+    (λ x. refl)
+
+pub returns-else-count-gt0-clause-bits : goal.returns-else-count-gt0-clause-bits
+returns-else-count-gt0-clause-bits c = named_none c.args.row.now c.args.from c.args.count (λ _. bit_of c.args.bit) (omega arith)

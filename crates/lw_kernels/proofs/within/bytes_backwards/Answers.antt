@@ -6,23 +6,23 @@ use Rattle.lw_kernels.proofs.RowWriting.{from_none, from_more, from_all, from_ol
 use Rattle.lw_kernels.proofs.within.bytes_backwards.Goals as goal
 
 pub loop-index-init : goal.loop-index-init
-loop-index-init c = from_none c.args.row.now (blit_bit c.args.minterm (row_bit c.args.row.now) c.args.place (row_bit c.args.row.now) (8 * c.args.first)) (8 * c.args.first) (8 * c.args.last) _ (omega arith)
+loop-index-init c = from_none c.args.row.now (blit_bit c.args.minterm (row_bit c.args.row.now) (8 * c.args.start + c.args.shift) (row_bit c.args.row.now) (8 * c.args.first)) (8 * c.args.first) (8 * c.args.last) _ (omega arith)
 
 pub loop-index-preserved : goal.loop-index-preserved
 loop-index-preserved c =
     let row = c.loop-index.row in
     let old : ℕ → ℕ = row_bit c.args.row.now in
-    let new : ℕ → ℕ = (blit_bit c.args.minterm (row_bit c.args.row.now) c.args.place (row_bit c.args.row.now) (8 * c.args.first)) in
+    let new : ℕ → ℕ = (blit_bit c.args.minterm (row_bit c.args.row.now) (8 * c.args.start + c.args.shift) (row_bit c.args.row.now) (8 * c.args.first)) in
     let next : ℕ = c.loop-index.index in
     let index : ℕ = c.loop-index.index - 1 in
     let is_next : next ≡ index + 1 = omega arith in
     let inside : index < length row = omega arith in
     from_more row new old (8 * c.args.first) (8 * c.args.last) index next c.minterm_byte.result inside is_next c.loop-index.invariant
     (λ j low.
-    let at : ℕ = c.args.place + 8 * (index - c.args.first) + j in
-    let place : at ≡ c.args.place + (8 * index + j - 8 * c.args.first) = omega arith in
-    let bits : bit_at c.eight_bits-bits.result (7 - j) ≡ old (c.args.place + (8 * index + j - 8 * c.args.first)) =
-    c.eight_bits-bits.ensures j low ∙ (from_old row new old (8 * c.args.first) (8 * c.args.last) next at c.loop-index.invariant (omega arith) ∙ ap old place) in
+    let at : ℕ = 8 * (c.args.start + (index - c.args.first)) + c.args.shift + (j - 0) in
+    let place : at ≡ (8 * c.args.start + c.args.shift) + (8 * index + j - 8 * c.args.first) = omega arith in
+    let bits : bit_at c.bits_from-bits.result (7 - j) ≡ old ((8 * c.args.start + c.args.shift) + (8 * index + j - 8 * c.args.first)) =
+    c.bits_from-bits.ensures j (omega arith) low (omega arith) ∙ (from_old row new old (8 * c.args.first) (8 * c.args.last) next at c.loop-index.invariant (omega arith) ∙ ap old place) in
     let was : bit_at (get_or row index 0) (7 - j) ≡ old (8 * index + j) = byte_old row index (get_or row index 0) j low refl ∙ from_old row new old (8 * c.args.first) (8 * c.args.last) next (8 * index + j) c.loop-index.invariant (omega arith) in
     whole_byte c.args.first c.args.last index j (bit_at c.minterm_byte.result (7 - j)) (new (8 * index + j)) (old (8 * index + j)) (omega arith) (omega arith) low
     (c.minterm_byte.ensures (7 - j) (omega arith) ∙ minterm_same c.args.minterm _ _ _ _ bits was))
@@ -30,4 +30,4 @@ loop-index-preserved c =
 pub returns : goal.returns
 returns c =
     let early : 8 * c.loop-index.index ≤ 8 * c.args.first = omega arith in
-    from_all c.loop-index.row (blit_bit c.args.minterm (row_bit c.args.row.now) c.args.place (row_bit c.args.row.now) (8 * c.args.first)) (row_bit c.args.row.now) (8 * c.args.first) (8 * c.args.last) c.loop-index.index early c.loop-index.invariant
+    from_all c.loop-index.row (blit_bit c.args.minterm (row_bit c.args.row.now) (8 * c.args.start + c.args.shift) (row_bit c.args.row.now) (8 * c.args.first)) (row_bit c.args.row.now) (8 * c.args.first) (8 * c.args.last) c.loop-index.index early c.loop-index.invariant

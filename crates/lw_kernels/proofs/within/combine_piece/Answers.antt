@@ -9,12 +9,12 @@ returns c =
     let old : ℕ → ℕ = row_bit c.args.row.now in
     let fetched = c.copy_bytes.new.to in
     let from : ℕ = 8 * c.args.first in
-    done_same c.combine_whole.new.to (blit_bit c.args.minterm (row_bit fetched) 0 old from) (blit_bit c.args.minterm old c.args.place old from) old from (8 * c.args.last) c.combine_whole.ensures
+    done_same c.combine_whole.new.to (blit_bit c.args.minterm (row_bit fetched) 0 old from) (blit_bit c.args.minterm old (8 * c.args.start + c.args.shift) old from) old from (8 * c.args.last) c.combine_whole.ensures
     (λ x p q.
     let at : ℕ = x - from in
     let low : at < 8 * (c.args.last - c.args.first) = omega arith in
     let same : 0 + at ≡ at = omega arith in
-    let back : c.args.place + (at - 0) ≡ c.args.place + at = omega arith in
+    let back : (8 * c.args.start + c.args.shift) + (at - 0) ≡ (8 * c.args.start + c.args.shift) + at = omega arith in
     minterm_same c.args.minterm _ _ _ _
-    (ap (row_bit fetched) same ∙ (done_inside fetched (λ y. old (c.args.place + (y - 0))) _ 0 (8 * (c.args.last - c.args.first)) at c.copy_bytes.ensures (omega arith) low ∙ ap old back))
+    (ap (row_bit fetched) same ∙ (done_inside fetched (λ y. old ((8 * c.args.start + c.args.shift) + (y - 0))) _ 0 (8 * (c.args.last - c.args.first)) at c.copy_bytes.ensures (omega arith) low ∙ ap old back))
     refl)

@@ -11,7 +11,7 @@ pub loop-number-preserved : goal.loop-number-preserved
 loop-number-preserved c =
     let first : ℕ = c.args.first in
     let last : ℕ = c.args.last in
-    let place : ℕ = c.args.place in
+    let place : ℕ = (8 * c.args.start + c.args.shift) in
     let old : ℕ → ℕ = row_bit c.args.row.now in
     let new : ℕ → ℕ = blit_bit c.args.minterm old place old (8 * first) in
     let row = c.loop-number.row in
@@ -22,7 +22,7 @@ loop-number-preserved c =
     let here : 8 * min last (first + 256 * c.loop-number.number) ≡ end = omega arith in
     let next : 8 * from ≡ 8 * min last (first + 256 * number) = omega arith in
     let so_far : Done row new old end (8 * last) = done_starts row new old (8 * min last (first + 256 * c.loop-number.number)) end (8 * last) here c.loop-number.invariant in
-    let at_piece : ℕ = place + 8 * (from - first) in
+    let at_piece : ℕ = 8 * (c.args.start + (from - first)) + c.args.shift in
     done_starts c.combine_piece.new.row new old (8 * from) (8 * min last (first + 256 * number)) (8 * last) next
     (join_left row c.combine_piece.new.row new new (blit_bit c.args.minterm (row_bit row) at_piece (row_bit row) (8 * from)) old (8 * from) end (8 * last) (omega arith) (omega arith) so_far c.combine_piece.ensures (λ x p q. refl)
     (λ x p q.
@@ -36,7 +36,7 @@ pub returns : goal.returns
 returns c =
     let first : ℕ = c.args.first in
     let last : ℕ = c.args.last in
-    let place : ℕ = c.args.place in
+    let place : ℕ = (8 * c.args.start + c.args.shift) in
     let old : ℕ → ℕ = row_bit c.args.row.now in
     let new : ℕ → ℕ = blit_bit c.args.minterm old place old (8 * first) in
     let all : 8 * min last (first + 256 * c.loop-number.number) ≡ 8 * first = omega arith in

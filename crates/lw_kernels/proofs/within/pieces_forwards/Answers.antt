@@ -11,7 +11,7 @@ pub loop-number-preserved : goal.loop-number-preserved
 loop-number-preserved c =
     let first : ℕ = c.args.first in
     let last : ℕ = c.args.last in
-    let place : ℕ = c.args.place in
+    let place : ℕ = (8 * c.args.start + c.args.shift) in
     let old : ℕ → ℕ = row_bit c.args.row.now in
     let new : ℕ → ℕ = blit_bit c.args.minterm old place old (8 * first) in
     let row = c.loop-number.row in
@@ -22,7 +22,7 @@ loop-number-preserved c =
     let here : 8 * min last (first + 256 * number) ≡ 8 * from = omega arith in
     let next : end ≡ 8 * min last (first + 256 * (number + 1)) = omega arith in
     let so_far : Done row new old (8 * first) (8 * from) = done_ends row new old (8 * first) (8 * min last (first + 256 * number)) (8 * from) here c.loop-number.invariant in
-    let at_piece : ℕ = place + 8 * (from - first) in
+    let at_piece : ℕ = 8 * (c.args.start + (from - first)) + c.args.shift in
     done_ends c.combine_piece.new.row new old (8 * first) end (8 * min last (first + 256 * (number + 1))) next
     (join_right row c.combine_piece.new.row new new (blit_bit c.args.minterm (row_bit row) at_piece (row_bit row) (8 * from)) old (8 * first) (8 * from) end (omega arith) (omega arith) so_far c.combine_piece.ensures (λ x p q. refl)
     (λ x p q.
@@ -36,7 +36,7 @@ pub returns : goal.returns
 returns c =
     let first : ℕ = c.args.first in
     let last : ℕ = c.args.last in
-    let place : ℕ = c.args.place in
+    let place : ℕ = (8 * c.args.start + c.args.shift) in
     let old : ℕ → ℕ = row_bit c.args.row.now in
     let new : ℕ → ℕ = blit_bit c.args.minterm old place old (8 * first) in
     let all : 8 * min last (first + 256 * c.loop-number.number) ≡ 8 * last = omega arith in
