@@ -1,6 +1,6 @@
 ghost use Rattle.std.specs.Prelude.{◌≡◌, ℕ, ◌+◌, ◌*◌, ◌^◌, ◌<◌, ◌≤◌, length, ℤ, pos, ◌+ℤ◌, true, None, MatchOption};
 ghost use Rattle.std.specs.Borrow.{sem};
-ghost use Rattle.lw_region.specs.Rectangle.{width};
+ghost use Rattle.lw_region.specs.Rectangle.{width, height};
 ghost use Rattle.lw_region.specs.Pixels.{pixels_of};
 ghost use Rattle.lw_region.specs.Bands.{covers};
 ghost use Rattle.lw_region.specs.Banded.{IsCanonical};
@@ -102,10 +102,12 @@ impl Layer {
         self.draft.lines(plane, buffer, line, rows)
     }
 
-    /// How many bytes a line of a buffer has in one plane.
+    /// How many bytes a line of a buffer has in one plane. No buffer has more than 2048 columns or lines.
     pub fn step(&self, buffer: usize) -> usize
         requires { buffer < length (buffered (layout_of self.now)) }
-        ensures { result ≡ row_bytes (width (buffer_rectangle (layout_of self.now) buffer)) }
+        ensures value { result ≡ row_bytes (width (buffer_rectangle (layout_of self.now) buffer)) }
+        ensures wide { width (buffer_rectangle (layout_of self.now) buffer) ≤ 2048 }
+        ensures high { height (buffer_rectangle (layout_of self.now) buffer) ≤ 2048 }
     {
         self.draft.step(buffer)
     }

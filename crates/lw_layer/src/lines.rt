@@ -3,7 +3,7 @@
 ghost use Rattle.std.specs.Prelude.{◌≡◌, ◌+◌, ◌*◌, ◌^◌, ◌<◌, ◌≤◌, length, IsSome};
 ghost use Rattle.std.specs.List.{slice_index_or};
 ghost use Rattle.std.specs.Borrow.{sem};
-ghost use Rattle.lw_region.specs.Rectangle.{width};
+ghost use Rattle.lw_region.specs.Rectangle.{width, height};
 ghost use Rattle.lw_planes.specs.Bitmap.{row_bytes};
 ghost use Rattle.lw_layer.specs.Pieces.{HaveLines, buffered, buffer_rectangle};
 ghost use Rattle.lw_layer.specs.Drafts.{IsLiveDraft, layout, buffers_of, no_bitmap};
@@ -37,7 +37,9 @@ impl LiveDraft {
     pub(crate) fn step(&self, number: usize) -> usize
         requires sound { IsLiveDraft self.now }
         requires there { number < length (buffered (layout self.now)) }
-        ensures { result ≡ row_bytes (width (buffer_rectangle (layout self.now) number)) }
+        ensures value { result ≡ row_bytes (width (buffer_rectangle (layout self.now) number)) }
+        ensures wide { width (buffer_rectangle (layout self.now) number) ≤ 2048 }
+        ensures high { height (buffer_rectangle (layout self.now) number) ≤ 2048 }
     {
         (self.buffer(number).width() as usize + 15) / 16 * 2
     }
