@@ -146,6 +146,13 @@ impl Layer {
         self.draft.next_from(x, y, last)
     }
 
+    /// The first kept column from `x` to `last` in row `y`; `None` exactly where there is none.
+    pub fn next_kept(&self, x: i32, y: i32, last: i32) -> Option<i32>
+        ensures { IsNext (λ i j. keeps self.now i j) x y last result }
+    {
+        self.draft.next_kept_from(x, y, last)
+    }
+
     /// How the layer paints.
     pub fn raster(&self) -> Raster
         ensures value { raster_of result ≡ self.now.layer.raster }
