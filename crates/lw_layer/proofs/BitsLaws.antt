@@ -1,5 +1,5 @@
 -- The bits of a live layer are a bitmap of sizes for planes.
-use Rattle.std.proofs.Common.{◌≡◌, ℕ, ◌^◌, ◌<◌, Option, Some, None, ◌∙◌, sym, refl, ap, subst, arith, pow_pos}
+use Rattle.std.proofs.Common.{◌≡◌, ℕ, ◌^◌, ◌<◌, Option, Some, None, sym, refl, subst, arith, pow_pos}
 use Rattle.std.specs.List.{slice_index_or}
 use Rattle.lw_planes.specs.Sizes.{IsPlanes}
 use Rattle.lw_planes.proofs.BitmapLaws.{IsBitmap_bitmap}

@@ -28,7 +28,7 @@ pub found_nowhere : (l : Layout) (x y : ℕ) → x < l.width → y < l.height �
 found_nowhere l x y left low first second = sym (in_bits_found l x y left low ∙ position_none _ l.visible (rest_of l) first second)
 
 -- a place among as many as there are, along one axis
-whole_within : (edge : ℤ) (scroll p n : ℕ) → p < n → within (edge -ℤ pos scroll) ((edge +ℤ pos p) -ℤ pos scroll) (((edge -ℤ pos scroll) +ℤ pos n) -ℤ pos 1) ≡ true
+pub whole_within : (edge : ℤ) (scroll p n : ℕ) → p < n → within (edge -ℤ pos scroll) ((edge +ℤ pos p) -ℤ pos scroll) (((edge -ℤ pos scroll) +ℤ pos n) -ℤ pos 1) ≡ true
 unfolding within
 whole_within edge scroll p n below = grind (arith, ints)
 

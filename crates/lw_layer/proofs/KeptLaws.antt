@@ -79,36 +79,47 @@ column_step edge left scroll x u bit inside later is = omega (arith, ints)
 pub distance_is : (edge place : ℤ) (n : ℕ) → pos n ≡ place -ℤ edge → unsigned_abs (place -ℤ edge) ≡ n
 distance_is edge place n is = omega (arith, ints)
 
--- a run that is drawn
-pub run_some : (d : LiveDraft) (x y n kept len bit line : ℕ) → buffer_at (layout d) x y ≡ Some n → IsKeptReach (layout d) n x y kept → IsReach (lets_draw d y) x kept len → 0 < len → pos bit ≡ across (layout d) x -ℤ (buffer_rectangle (layout d) n).min_x → pos line ≡ down (layout d) y -ℤ (buffer_rectangle (layout d) n).min_y → IsRun (live_view d) (λ i j. draws (live_view d) i j) x y (record { buffer = n; line = line; bit = bit; len = len })
+-- a run of pixels for which a test holds
+run_of : (d : LiveDraft) (test : ℕ → ℕ → Bool) (x y n kept len bit line : ℕ) → buffer_at (layout d) x y ≡ Some n → IsKeptReach (layout d) n x y kept → len ≤ kept → ((u : ℕ) → x ≤ u → u < x + len → test u y ≡ true) → 0 < len → pos bit ≡ across (layout d) x -ℤ (buffer_rectangle (layout d) n).min_x → pos line ≡ down (layout d) y -ℤ (buffer_rectangle (layout d) n).min_y → IsRun (live_view d) test x y (record { buffer = n; line = line; bit = bit; len = len })
 unfolding in_line
-run_some d x y n kept len bit line found reach drawn some is_bit is_line =
+run_of d test x y n kept len bit line found reach upto holds some is_bit is_line =
     let l = layout d in
     let place = has_place l x y n found in
     let halves = and_parts _ _ place.has in
     let left = within_low _ _ _ halves.0 in
     let at_line : line_in l n y ≡ line = distance_is (buffer_rectangle l n).min_y (down l y) line is_line in
     let end : ℕ = x + (len - 1) in
-    let last = has_place l end y n (reach.found end (omega arith) (omega (arith, drawn.upto))) in
+    let last = has_place l end y n (reach.found end (omega arith) (omega (arith, upto))) in
     let last_step = column_step l.bounds.min_x (buffer_rectangle l n).min_x l.scroll_x x end bit left (omega arith) is_bit in
     let last_inside : bit + len ≤ width (buffer_rectangle l n) = omega (arith, last.column, last_step) in
     record {
       some = some;
       there = record { buffer = place.there; below = omega (arith, place.line) };
-      holds =
-          λ u later before.
-          let here = reach.found u later (omega (arith, drawn.upto)) in
-          let spot = has_place l u y n here in
-          drawable_is d u y spot.left spot.low ∙ and_from _ _ (keeps_found d u y n here) (drawn.holds u later before);
+      holds = holds;
       inside =
           λ u later before.
-          let here = reach.found u later (omega (arith, drawn.upto)) in
+          let here = reach.found u later (omega (arith, upto)) in
           let same : (n == n) ≡ true = grind (arith, nat_tests) in
           let even : (line_in l n y == line) ≡ true = grind (arith, nat_tests) in
           rw (here, same, even) refl;
       fits = last_inside;
       bits = λ u later before. column_step l.bounds.min_x (buffer_rectangle l n).min_x l.scroll_x x u bit left later is_bit;
     }
+
+-- a run that is drawn
+pub run_some : (d : LiveDraft) (x y n kept len bit line : ℕ) → buffer_at (layout d) x y ≡ Some n → IsKeptReach (layout d) n x y kept → IsReach (lets_draw d y) x kept len → 0 < len → pos bit ≡ across (layout d) x -ℤ (buffer_rectangle (layout d) n).min_x → pos line ≡ down (layout d) y -ℤ (buffer_rectangle (layout d) n).min_y → IsRun (live_view d) (λ i j. draws (live_view d) i j) x y (record { buffer = n; line = line; bit = bit; len = len })
+run_some d x y n kept len bit line found reach drawn some is_bit is_line =
+    run_of d (λ i j. draws (live_view d) i j) x y n kept len bit line found reach drawn.upto
+    (λ u later before.
+    let here = reach.found u later (omega (arith, drawn.upto)) in
+    let spot = has_place (layout d) u y n here in
+    drawable_is d u y spot.left spot.low ∙ and_from _ _ (keeps_found d u y n here) (drawn.holds u later before))
+    some is_bit is_line
+
+-- a run that is kept
+pub kept_run : (d : LiveDraft) (x y n len bit line : ℕ) → buffer_at (layout d) x y ≡ Some n → IsKeptReach (layout d) n x y len → pos bit ≡ across (layout d) x -ℤ (buffer_rectangle (layout d) n).min_x → pos line ≡ down (layout d) y -ℤ (buffer_rectangle (layout d) n).min_y → IsRun (live_view d) (λ i j. keeps (live_view d) i j) x y (record { buffer = n; line = line; bit = bit; len = len })
+kept_run d x y n len bit line found reach is_bit is_line =
+    run_of d (λ i j. keeps (live_view d) i j) x y n len len bit line found reach (omega arith) (λ u later before. keeps_found d u y n (reach.found u later before)) reach.some is_bit is_line
 
 -- a pixel that isn't drawn
 pub run_none : (d : LiveDraft) (x y n kept len : ℕ) → buffer_at (layout d) x y ≡ Some n → IsKeptReach (layout d) n x y kept → IsReach (lets_draw d y) x kept len → len ≡ 0 → draws (live_view d) x y ≡ false

@@ -7,6 +7,7 @@ pub mod StateLaws
 pub mod ReachLaws
 pub mod KeptLaws
 pub mod StartLaws
+pub mod AlikeLaws
 pub mod CellLaws
 pub mod BitsLaws
 pub mod ReadLaws
@@ -23,5 +24,6 @@ pub mod CopyingBuffers
 pub mod CopyingJoined
 pub mod SoundLaws
 pub mod LineLaws
+pub mod LinesLaws
 pub mod KeepingLaws
 pub mod PixelTests

@@ -140,23 +140,39 @@ less_from_signed : (v u : ℕ) → pos v <ℤ pos u → v < u
 less_from_signed v u less = omega (arith, ints)
 
 -- a place before the first one found, asked by signed places
-before_place : (d : LiveDraft) (x : ℤ) (y first u : ℕ) {end : ℕ} (v : ℤ) → IsFrom x first → IsFirstIn (λ i. draws (live_view d) i y) first end u → x ≤ℤ v → v <ℤ pos u → holds_at (λ i j. draws (live_view d) i j) v (pos y) ≡ false
-before_place d x y first u (pos v) from is later sooner = is.before v (from.least v later) (less_from_signed v u sooner)
-before_place d x y first u (negsuc v) from is later sooner = refl
+before_place : (test : ℕ → ℕ → Bool) (x : ℤ) (y first u : ℕ) {end : ℕ} (v : ℤ) → IsFrom x first → IsFirstIn (λ i. test i y) first end u → x ≤ℤ v → v <ℤ pos u → holds_at test v (pos y) ≡ false
+before_place test x y first u (pos v) from is later sooner = is.before v (from.least v later) (less_from_signed v u sooner)
+before_place test x y first u (negsuc v) from is later sooner = refl
 
--- the next drawable pixel, asked by signed places
-pub next_some : (d : LiveDraft) (x last : ℤ) (y first end u : ℕ) → IsFrom x first → IsBehind last end → IsFirstIn (λ v. draws (live_view d) v y) first (min end (layout d).width) u → IsNext (λ i j. draws (live_view d) i j) x (pos y) last (Some (pos u))
-next_some d x last y first end u from behind is = record {
+-- the next pixel of which a test holds, asked by signed places
+first_some : (test : ℕ → ℕ → Bool) (x last : ℤ) (y first end w u : ℕ) → IsFrom x first → IsBehind last end → IsFirstIn (λ v. test v y) first (min end w) u → IsNext test x (pos y) last (Some (pos u))
+first_some test x last y first end w u from behind is = record {
   reaches = omega (arith, ints, from.reached, is.reaches);
   ends = behind.upto u (omega (arith, is.ends));
   holds = is.holds;
-  before = λ v later sooner. before_place d x y first u v from is later sooner;
+  before = λ v later sooner. before_place test x y first u v from is later sooner;
 }
 
-pub next_none : (d : LiveDraft) (x last : ℤ) (y first end : ℕ) → IsFrom x first → IsBehind last end → ((v : ℕ) → first ≤ v → v < min end (layout d).width → draws (live_view d) v y ≡ false) → IsNext (λ i j. draws (live_view d) i j) x (pos y) last None
-next_none d x last y first end from behind none (pos v) later upto =
+first_none : (test : ℕ → ℕ → Bool) (x last : ℤ) (y first end w : ℕ) → IsFrom x first → IsBehind last end → ((v : ℕ) → first ≤ v → v < min end w → test v y ≡ false) → ((v : ℕ) → w ≤ v → test v y ≡ false) → IsNext test x (pos y) last None
+first_none test x last y first end w from behind none off (pos v) later upto =
     ⊎_elim
-    (λ (left : v < (layout d).width). none v (from.least v later) (omega (arith, behind.all v upto)))
-    (λ (past : (layout d).width ≤ v). unkept_undrawn d v y (column_off d v y past))
-    (cases_lt v (layout d).width)
-next_none d x last y first end from behind none (negsuc v) later upto = refl
+    (λ (left : v < w). none v (from.least v later) (omega (arith, behind.all v upto)))
+    (λ (past : w ≤ v). off v past)
+    (cases_lt v w)
+first_none test x last y first end w from behind none off (negsuc v) later upto = refl
+
+-- the next drawable pixel
+pub next_some : (d : LiveDraft) (x last : ℤ) (y first end u : ℕ) → IsFrom x first → IsBehind last end → IsFirstIn (λ v. draws (live_view d) v y) first (min end (layout d).width) u → IsNext (λ i j. draws (live_view d) i j) x (pos y) last (Some (pos u))
+next_some d x last y first end u from behind is = first_some (λ i j. draws (live_view d) i j) x last y first end (layout d).width u from behind is
+
+pub next_none : (d : LiveDraft) (x last : ℤ) (y first end : ℕ) → IsFrom x first → IsBehind last end → ((v : ℕ) → first ≤ v → v < min end (layout d).width → draws (live_view d) v y ≡ false) → IsNext (λ i j. draws (live_view d) i j) x (pos y) last None
+next_none d x last y first end from behind none =
+    first_none (λ i j. draws (live_view d) i j) x last y first end (layout d).width from behind none (λ v past. unkept_undrawn d v y (column_off d v y past))
+
+-- the next kept pixel
+pub next_kept_some : (d : LiveDraft) (x last : ℤ) (y first end u : ℕ) → IsFrom x first → IsBehind last end → IsFirstIn (λ v. keeps (live_view d) v y) first (min end (layout d).width) u → IsNext (λ i j. keeps (live_view d) i j) x (pos y) last (Some (pos u))
+next_kept_some d x last y first end u from behind is = first_some (λ i j. keeps (live_view d) i j) x last y first end (layout d).width u from behind is
+
+pub next_kept_none : (d : LiveDraft) (x last : ℤ) (y first end : ℕ) → IsFrom x first → IsBehind last end → ((v : ℕ) → first ≤ v → v < min end (layout d).width → keeps (live_view d) v y ≡ false) → IsNext (λ i j. keeps (live_view d) i j) x (pos y) last None
+next_kept_none d x last y first end from behind none =
+    first_none (λ i j. keeps (live_view d) i j) x last y first end (layout d).width from behind none (λ v past. column_off d v y past)

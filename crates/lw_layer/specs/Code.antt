@@ -1,12 +1,13 @@
 -- For private contracts.
 -- What the code of a cell is told of places, buffers and runs.
-use Rattle.std.specs.Prelude.{◌≡◌, ℕ, ◌+◌, ◌<◌, ◌≤◌, Bool, true, false, not, ◌&&◌, ◌||◌, ℤ, pos, ◌≤ℤ◌, Option, Some, None, length}
+use Rattle.std.specs.Prelude.{◌≡◌, ℕ, ◌+◌, ◌<◌, ◌≤◌, Bool, true, false, not, ◌&&◌, ◌||◌, if◌then◌else◌, List, [], All, ℤ, pos, ◌+ℤ◌, ◌≤ℤ◌, Option, Some, None, length}
 use Rattle.lw_region.specs.Bands.{covers}
+use Rattle.lw_damage.specs.Damaged.{Damaged}
 use Rattle.lw_machine.specs.Kept.{in_clip}
 use Rattle.lw_layer.specs.Pieces.{Layout, buffered, buffer_rectangle, across, down, column_in, line_in, buffer_at}
 use Rattle.lw_layer.specs.Drafts.{clip_set}
 use Rattle.lw_layer.specs.declared.draft.LiveDraft.{LiveDraft}
-use Rattle.lw_region.specs.Rectangle.{Rectangle, has_pixel, width, height}
+use Rattle.lw_region.specs.Rectangle.{Rectangle, within, has_pixel, width, height}
 use Rattle.lw_layer.specs.declared.places.Edges.{Edges}
 
 -- the edges are those of the rectangle
@@ -70,3 +71,22 @@ pub record IsFrom (place : ℤ) (n : ℕ) : Type 0 where
 pub record IsBehind (place : ℤ) (n : ℕ) : Type 0 where
   pub upto : (u : ℕ) → u < n → pos u ≤ℤ place
   pub all : (u : ℕ) → pos u ≤ℤ place → u < n
+
+-- the rectangle has both rows or neither
+abbrev pub HasBoth : ℤ → ℤ → Rectangle → Type 0
+HasBoth j k r = within r.min_y j r.max_y ≡ within r.min_y k r.max_y
+
+-- Of as many rows from a row on as there are at most, each of these rectangles has the first n or none of them, and there is one.
+pub record AreRowsAlike (rects : List Rectangle) (row : ℤ) (most n : ℕ) : Type 0 where
+  pub some : 0 < n
+  pub upto : n ≤ most
+  pub alike : (k : ℕ) → k < n → All (HasBoth row (row +ℤ pos k)) rects
+
+-- the rectangles of a region, if there is one
+abbrev pub rectangles_in : Option (List Rectangle) → List Rectangle
+rectangles_in None = []
+rectangles_in (Some rects) = rects
+
+-- the rectangles of the damage, where only damaged pixels are drawable
+abbrev pub drawn_in : Damaged → List Rectangle
+drawn_in d = if d.updating then d.rects else []

@@ -1,12 +1,12 @@
 -- Where a live layer's pens lie: in rectangles of the screen's plane, each with a buffer of its size (the manual's
 -- Layers Library chapter: the ClipRect structure; which rectangles have a buffer is this project's own).
-use Rattle.std.specs.Prelude.{◌≡◌, ℕ, ◌==◌, ◌<◌, ◌≤◌, ◌-◌, Bool, true, false, ◌&&◌, nat_lt, if◌then◌else◌, List, [], ◌∷◌, ◌++◌, length, ℤ, pos, ◌+ℤ◌, ◌-ℤ◌, Option, Some, None}
+use Rattle.std.specs.Prelude.{◌≡◌, ℕ, ◌==◌, ◌<◌, ◌≤◌, ◌+◌, ◌-◌, ◌*◌, Bool, true, false, ◌&&◌, nat_le, nat_lt, if◌then◌else◌, List, [], ◌∷◌, ◌++◌, length, ℤ, pos, ◌+ℤ◌, ◌-ℤ◌, Option, Some, None}
 use Rattle.std.specs.Int.{bit_at}
 use Rattle.std.specs.List.{position, slice_index_or}
 use Rattle.lw_region.specs.Rectangle.{Rectangle, has_pixel, width, height}
 use Rattle.lw_planes.specs.Pen.{pen_of}
 use Rattle.lw_planes.specs.Row.{row_bit}
-use Rattle.lw_planes.specs.Bitmap.{Bitmap, pen_at}
+use Rattle.lw_planes.specs.Bitmap.{Bitmap, pen_at, row_bytes}
 use Rattle.lw_planes.specs.Change.{overwritten_bit}
 use Rattle.lw_planes.specs.Grid.{grid}
 use Rattle.lw_region.specs.Bands.{covers}
@@ -99,6 +99,24 @@ pub record HasLine (l : Layout) (n line : ℕ) : Type 0 where
   pub buffer : n < length (buffered l)
   pub below : line < height (buffer_rectangle l n)
 
+-- there are so many lines of this buffer from this line on
+pub record HaveLines (l : Layout) (n line rows : ℕ) : Type 0 where
+  pub buffer : n < length (buffered l)
+  pub below : line + rows ≤ height (buffer_rectangle l n)
+
+-- the pen of the pixel (x, y) is in one of so many lines of this buffer from a line on
+unfoldable pub in_lines : Layout → ℕ → ℕ → ℕ → ℕ → ℕ → Bool
+in_lines l n line rows x y = is_the (buffer_at l x y) n && (nat_le line (line_in l n y) && nat_lt (line_in l n y) (line + rows))
+
+-- where in the bytes of lines of a buffer, from a line on, the bit is of a pixel (x, y) whose pen is in one of them
+abbrev pub place_from : Layout → ℕ → ℕ → ℕ → ℕ → ℕ
+place_from l n line x y = 8 * ((line_in l n y - line) * row_bytes (width (buffer_rectangle l n))) + column_in l n x
+
+-- the bytes have in a plane the bits of the pixels whose pens are in so many lines of a buffer from a line on
+abbrev pub HaveLinesBits : LiveView → ℕ → ℕ → ℕ → ℕ → List ℕ → Type 0
+HaveLinesBits c plane n line rows bytes =
+    (x y : ℕ) → in_lines (layout_of c) n line rows x y ≡ true → row_bit bytes (place_from (layout_of c) n line x y) ≡ bit_at (pen_at c.layer.bits x y) plane
+
 -- the bytes have in a plane the bits of the pixels whose pens are in a line of a buffer, by their columns there
 abbrev pub HasLineBits : LiveView → ℕ → ℕ → ℕ → List ℕ → Type 0
 HasLineBits c plane n line row =
@@ -119,6 +137,13 @@ abbrev pub with_line : LiveView → ℕ → ℕ → ℕ → (ℕ → ℕ) → Li
 with_line c plane n line bits =
     let l = layout_of c in
     repainted (λ x y. pen_of c.layer.bits.depth (λ p. if p == plane && in_line l n line x y then bits (column_in l n x) else bit_at (pen_at c.layer.bits x y) p)) c
+
+-- The live layer whose pixels with their pens in so many lines of a buffer from a line on have in a plane the bits that these
+-- bytes hold; and all else is as it was.
+abbrev pub with_lines : LiveView → ℕ → ℕ → ℕ → ℕ → List ℕ → LiveView
+with_lines c plane n line rows bytes =
+    let l = layout_of c in
+    repainted (λ x y. pen_of c.layer.bits.depth (λ p. if p == plane && in_lines l n line rows x y then row_bit bytes (place_from l n line x y) else bit_at (pen_at c.layer.bits x y) p)) c
 
 -- the hidden rectangles, by what the slot holds
 abbrev pub hidden_where : State → LiveView → List Rectangle

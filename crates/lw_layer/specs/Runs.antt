@@ -1,9 +1,9 @@
--- Runs of pixels in a row of a layer, and the next pixel of which something holds.
+-- Runs of pixels in a row of a layer, the next pixel of which something holds, and rows that are alike.
 use Rattle.std.specs.Prelude.{◌≡◌, ℕ, ◌+◌, ◌<◌, ◌≤◌, Bool, true, false, ℤ, pos, negsuc, ◌<ℤ◌, ◌≤ℤ◌, Option, Some, None}
 use Rattle.lw_region.specs.Rectangle.{width}
 use Rattle.lw_machine.specs.Kept.{holds_at}
-use Rattle.lw_layer.specs.View.{LiveView}
-use Rattle.lw_layer.specs.Pieces.{layout_of, buffer_rectangle, column_in, in_line, HasLine}
+use Rattle.lw_layer.specs.View.{LiveView, keeps, draws}
+use Rattle.lw_layer.specs.Pieces.{layout_of, buffer_rectangle, buffer_at, column_in, in_line, HasLine}
 use Rattle.lw_layer.specs.declared.run.Run.{Run}
 
 -- A run from the pixel (x, y) on to the right: for each of its pixels the test holds and the pen is in the run's line of the
@@ -34,3 +34,10 @@ pub record IsFirst (test : ℕ → ℕ → Bool) (x y last column : ℤ) : Type 
 abbrev pub IsNext : (ℕ → ℕ → Bool) → ℤ → ℤ → ℤ → Option ℤ → Type 0
 IsNext test x y last (Some column) = IsFirst test x y last column
 IsNext test x y last None = (u : ℤ) → x ≤ℤ u → u ≤ℤ last → holds_at test u y ≡ false
+
+-- Two rows of a layer are alike: of each column both pixels have their pens in the same buffer or none has one, both are kept or
+-- neither, and both are drawable or neither.
+pub record AreAlike (c : LiveView) (y j : ℕ) : Type 0 where
+  pub found : (x : ℕ) → buffer_at (layout_of c) x y ≡ buffer_at (layout_of c) x j
+  pub kept : (x : ℕ) → keeps c x y ≡ keeps c x j
+  pub drawn : (x : ℕ) → draws c x y ≡ draws c x j

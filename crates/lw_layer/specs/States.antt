@@ -1,4 +1,3 @@
--- For private contracts.
 -- What a cell holds, as contracts see it.
 use Rattle.lw_layer.specs.View.{State, LiveView}
 use Rattle.lw_layer.specs.View as view

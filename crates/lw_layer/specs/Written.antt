@@ -1,31 +1,30 @@
 -- For private contracts.
 -- Drafts once bytes were written into one of their buffers, and what lends its
 -- rows.
-use Rattle.std.specs.Prelude.{◌≡◌, ℕ, ◌-◌, ◌<◌, nat_lt, if◌then◌else◌, List, length, Option, Some, None}
+use Rattle.std.specs.Prelude.{◌≡◌, ℕ, ◌+◌, ◌-◌, ◌*◌, ◌<◌, nat_lt, if◌then◌else◌, List, length, Option, Some, None}
 use Rattle.std.specs.Borrow.{Lends, MutBor, Fml, Array, u8}
 use Rattle.std.specs.List.{slice_index_or}
 use Rattle.std.specs.Vec.{with_item}
 use Rattle.std.specs.Int.{bit_at}
-use Rattle.lw_region.specs.Rectangle.{width}
 use Rattle.lw_planes.specs.Row.{row_bit}
 use Rattle.lw_planes.specs.Bitmap.{Bitmap, pen_at, row_bytes}
 use Rattle.lw_planes.specs.Change.{with_row}
-use Rattle.lw_layer.specs.Drafts.{layout, buffers_of, no_bitmap}
-use Rattle.lw_layer.specs.Pieces.{buffer_rectangle}
+use Rattle.lw_layer.specs.Drafts.{buffers_of, no_bitmap}
 use Rattle.lw_layer.specs.declared.draft.LiveDraft.{LiveDraft}
 use Rattle.lw_layer.specs.contracts.draft.LiveDraft as live_draft
 
--- the bytes have in this plane the bits of a line of a bitmap
-abbrev pub HasBits : Bitmap → ℕ → ℕ → List ℕ → Type 0
-HasBits b plane line row = (x : ℕ) → x < b.width → row_bit row x ≡ bit_at (pen_at b x line) plane
+-- the bytes have in this plane the bits of so many lines of a bitmap from a line on
+abbrev pub HaveBits : Bitmap → ℕ → ℕ → ℕ → List ℕ → Type 0
+HaveBits b plane line rows bytes =
+    (x j : ℕ) → x < b.width → j < rows → row_bit bytes (8 * (j * row_bytes b.width) + x) ≡ bit_at (pen_at b x (line + j)) plane
 
-abbrev pub HasOwnBits : Option Bitmap → ℕ → ℕ → List ℕ → Type 0
-HasOwnBits None plane line row = ⊥
-HasOwnBits (Some own) plane line row = HasBits own plane line row
+abbrev pub HaveOwnBits : Option Bitmap → ℕ → ℕ → ℕ → List ℕ → Type 0
+HaveOwnBits None plane line rows bytes = ⊥
+HaveOwnBits (Some own) plane line rows bytes = HaveBits own plane line rows bytes
 
--- the bytes have in this plane the bits of a line of a buffer
-abbrev pub HasBufferBits : LiveDraft → ℕ → ℕ → ℕ → List ℕ → Type 0
-HasBufferBits d plane n line row = HasBits (slice_index_or (buffers_of d) n no_bitmap) plane line row
+-- the bytes have in this plane the bits of lines of a buffer
+abbrev pub HaveBufferBits : LiveDraft → ℕ → ℕ → ℕ → ℕ → List ℕ → Type 0
+HaveBufferBits d plane n line rows bytes = HaveBits (slice_index_or (buffers_of d) n no_bitmap) plane line rows bytes
 
 -- an own bitmap changed, if there is one
 abbrev pub changed_own : (Bitmap → Bitmap) → Option Bitmap → Option Bitmap
@@ -49,10 +48,5 @@ with_line_bytes plane n line d bytes = changed_buffer n (λ b. with_row b plane 
 abbrev pub LendsOwn : MutBor LiveDraft → ℕ → ℕ → MutBor (List ℕ) → Fml
 LendsOwn d plane line row = Lends live_draft.the_row (Array u8 0) d row (λ bytes. record d.now { superbits = changed_own (λ b. with_row b plane line bytes) d.now.superbits })
 
-abbrev pub LendsLine : MutBor LiveDraft → ℕ → ℕ → ℕ → MutBor (List ℕ) → Fml
-LendsLine d plane n line row = Lends live_draft.the_row (Array u8 0) d row (with_line_bytes plane n line d.now)
-
--- the bytes are as long as a row of a buffer and have its bits
-pub record HasRow (d : LiveDraft) (plane n line : ℕ) (row : List ℕ) : Type 0 where
-  pub long : length row ≡ row_bytes (width (buffer_rectangle (layout d) n))
-  pub bits : HasBufferBits d plane n line row
+abbrev pub LendsBuffer : MutBor LiveDraft → ℕ → ℕ → ℕ → MutBor (List ℕ) → Fml
+LendsBuffer d plane n line row = Lends live_draft.the_row (Array u8 0) d row (with_line_bytes plane n line d.now)

@@ -1,6 +1,6 @@
-ghost use Rattle.std.specs.Prelude.{◌≡◌, ℕ, ◌*◌, ◌<◌, ◌≤◌, length, ℤ, pos, ◌+ℤ◌, true, None, MatchOption};
+ghost use Rattle.std.specs.Prelude.{◌≡◌, ℕ, ◌+◌, ◌*◌, ◌^◌, ◌<◌, ◌≤◌, length, ℤ, pos, ◌+ℤ◌, true, None, MatchOption};
 ghost use Rattle.std.specs.Borrow.{sem};
-ghost use Rattle.lw_region.specs.Rectangle.{width};
+ghost use Rattle.lw_region.specs.Rectangle.{width, height};
 ghost use Rattle.lw_region.specs.Pixels.{pixels_of};
 ghost use Rattle.lw_region.specs.Bands.{covers};
 ghost use Rattle.lw_region.specs.Banded.{IsCanonical};
@@ -12,11 +12,11 @@ ghost use Rattle.lw_machine.specs.Kept.{holds_at};
 ghost use Rattle.lw_machine.specs.Step.{end_update};
 ghost use Rattle.lw_layer.specs.View.{keeps, draws, kept_pen, with_layer};
 ghost use Rattle.lw_layer.specs.Drafts.{IsLiveDraft, live_view, raster_of, clip_set};
-ghost use Rattle.lw_layer.specs.Pieces.{inner_in, damage_table, IsDamageOf, HasLine, HasLineBits, layout_of, buffer_rectangle};
+ghost use Rattle.lw_layer.specs.Pieces.{inner_in, damage_table, IsDamageOf, HasLine, HasLineBits, HaveLines, HaveLinesBits, layout_of, buffered, buffer_rectangle};
 ghost use Rattle.lw_layer.specs.Lending.{LendsLines};
 ghost use Rattle.lw_layer.specs.Looks.{IsLook};
 ghost use Rattle.lw_layer.specs.StandsFor.{IsSound};
-ghost use Rattle.lw_layer.specs.Runs.{IsRunAt, IsNext};
+ghost use Rattle.lw_layer.specs.Runs.{IsRunAt, IsNext, AreAlike};
 ghost use Rattle.lw_layer.specs.Copied.{kept_bit};
 
 use crate::draft::LiveDraft;
@@ -69,8 +69,66 @@ impl Layer {
         ensures wide { width (buffer_rectangle (layout_of self.old) buffer) ≤ 8 * length result.now }
         ensures bits { HasLineBits self.old plane buffer line result.now }
     {
+        self.lines_mut(plane, buffer, line, 1)
+    }
+
+    /// Lends one plane's bytes of `rows` lines of a buffer, one at least, from a line on, one after another, each of `step` bytes
+    /// as `line_mut` lends them. After the loan each kept pixel whose pen is in one of these lines has in this plane the bit
+    /// that the bytes hold, and all else stays as it was.
+    pub fn lines_mut(&mut self, plane: u32, buffer: usize, line: u32, rows: u32) -> &mut [u8]
+        requires plane { plane < self.old.layer.bits.depth }
+        requires some { 0 < rows }
+        requires lines { HaveLines (layout_of self.old) buffer line rows }
+        ensures* writes_back { sem 𝓛 (LendsLines self.entry plane buffer line result) }
+        ensures long { length result.now ≡ rows * row_bytes (width (buffer_rectangle (layout_of self.old) buffer)) }
+        ensures near { length result.now < 2 ^ 32 }
+        ensures bits { HaveLinesBits self.old plane buffer line rows result.now }
+        ensures planes { IsPlanes self.old.layer.bits }
+    {
         let draft = &mut self.draft;
-        draft.row_mut(plane, buffer, line)
+        draft.lines_mut(plane, buffer, line, rows)
+    }
+
+    /// One plane's bytes of `rows` lines of a buffer, one at least, from a line on, as `lines_mut` lends them.
+    pub fn lines(&self, plane: u32, buffer: usize, line: u32, rows: u32) -> &[u8]
+        requires plane { plane < self.now.layer.bits.depth }
+        requires some { 0 < rows }
+        requires lines { HaveLines (layout_of self.now) buffer line rows }
+        ensures long { length result.now ≡ rows * row_bytes (width (buffer_rectangle (layout_of self.now) buffer)) }
+        ensures near { length result.now < 2 ^ 32 }
+        ensures bits { HaveLinesBits self.now plane buffer line rows result.now }
+        ensures planes { IsPlanes self.now.layer.bits }
+    {
+        self.draft.lines(plane, buffer, line, rows)
+    }
+
+    /// How many bytes a line of a buffer has in one plane. No buffer has more than 2048 columns or lines.
+    pub fn step(&self, buffer: usize) -> usize
+        requires { buffer < length (buffered (layout_of self.now)) }
+        ensures value { result ≡ row_bytes (width (buffer_rectangle (layout_of self.now) buffer)) }
+        ensures wide { width (buffer_rectangle (layout_of self.now) buffer) ≤ 2048 }
+        ensures high { height (buffer_rectangle (layout_of self.now) buffer) ≤ 2048 }
+    {
+        self.draft.step(buffer)
+    }
+
+    /// How many rows from row `y` on, that one too, are like row `y`: in each column the same pixels are kept and drawable, with
+    /// their pens in the same buffers. It need not be all of them.
+    pub fn rows_alike(&self, y: u32) -> u32
+        requires { y < self.now.layer.bits.height }
+        ensures some { 0 < result }
+        ensures inside { y + result ≤ self.now.layer.bits.height }
+        ensures alike { (k : ℕ) → k < result → AreAlike self.now y (y + k) }
+    {
+        self.draft.rows_alike(y)
+    }
+
+    /// A run of kept pixels from column `x` and row `y` on to the right; `None` exactly where the layer doesn't keep that pixel. It
+    /// need not be the longest one.
+    pub fn kept_run_at(&self, x: i32, y: i32) -> Option<Run>
+        ensures { IsRunAt self.now (λ i j. keeps self.now i j) x y result }
+    {
+        self.draft.kept_run_from(x, y)
     }
 
     /// A run of drawable pixels from column `x` and row `y` on to the right; `None` exactly where that pixel is not drawable. It
@@ -86,6 +144,13 @@ impl Layer {
         ensures { IsNext (λ i j. draws self.now i j) x y last result }
     {
         self.draft.next_from(x, y, last)
+    }
+
+    /// The first kept column from `x` to `last` in row `y`; `None` exactly where there is none.
+    pub fn next_kept(&self, x: i32, y: i32, last: i32) -> Option<i32>
+        ensures { IsNext (λ i j. keeps self.now i j) x y last result }
+    {
+        self.draft.next_kept_from(x, y, last)
     }
 
     /// How the layer paints.

@@ -1,18 +1,19 @@
 //! The cell of a layer: its raster state, clip region, damage, clip rectangles and pens (the manual's Layers Library chapter).
 #![tactic(auto)]
 
+mod alike;
 mod cell;
 mod copying;
 mod draft;
 mod kept;
 mod layer;
+mod lines;
 mod look;
 mod new;
 mod next;
 mod places;
 mod raster;
 mod reading;
-mod rows;
 mod run;
 mod runs;
 mod state;

@@ -1,4 +1,4 @@
-// The next drawable pixel of a row, by the lists of rectangles: from a column on to the first that is kept, from that one to the
+// The next drawable or kept pixel of a row, by the lists of rectangles: from a column on to the first that is kept, from that one to the
 // first in the clip region, and from that one to the first damaged one, until nothing moves.
 
 ghost use Rattle.std.specs.Prelude.{◌≡◌, ℕ, ◌<◌, ◌≤◌, not, ◌||◌, pos};
@@ -42,6 +42,40 @@ impl LiveDraft {
         let mut column = x;
         while column < end {
             let next = self.drawn_start(column, y);
+            if next == column {
+                return Some(column);
+            }
+            column = next;
+        }
+        None
+    }
+
+    // The first kept column from x to last of row y.
+    pub(crate) fn next_kept_from(&self, x: i32, y: i32, last: i32) -> Option<i32>
+        requires { IsLiveDraft self.now }
+        ensures { IsNext (λ i j. keeps (live_view self.now) i j) x y last result }
+    {
+        let Some(row) = place_in(self.height(), y) else {
+            return None;
+        };
+        let first = from_place(x);
+        let end = behind_place(last).min(self.width());
+        match self.next_kept_in(first, row, end) {
+            None => None,
+            Some(column) => Some(column as i32),
+        }
+    }
+
+    // The first kept column from x to end, end excluded, of row y.
+    fn next_kept_in(&self, x: u32, y: u32, end: u32) -> Option<u32>
+        requires sound { IsLiveDraft self.now }
+        requires row { y < (layout self.now).height }
+        requires end { end ≤ (layout self.now).width }
+        ensures { IsNextIn (λ u. keeps (live_view self.now) u y) x end result }
+    {
+        let mut column = x;
+        while column < end {
+            let next = self.kept_start(column, y);
             if next == column {
                 return Some(column);
             }

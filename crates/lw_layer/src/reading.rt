@@ -56,18 +56,7 @@ impl LiveDraft {
         requires column { column < (slice_index_or (buffers_of self.now) buffer no_bitmap).width }
         ensures { result ≡ pen_at (slice_index_or (buffers_of self.now) buffer no_bitmap) column line }
     {
-        let shown = self.buffers.len();
-        if buffer < shown {
-            return self.buffers[buffer].pen(column, line);
-        }
-        let covered = self.covered.len();
-        if buffer - shown < covered {
-            return self.covered[buffer - shown].pen(column, line);
-        }
-        match &self.superbits {
-            Some(own) => own.pen(column, line),
-            None => unreachable!(),
-        }
+        self.buffer(buffer).pen(column, line)
     }
 }
 

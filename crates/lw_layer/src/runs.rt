@@ -5,7 +5,7 @@ ghost use Rattle.std.specs.Prelude.{◌≡◌, ◌<◌, ◌≤◌, ◌+◌, pos,
 ghost use Rattle.lw_region.specs.Bands.{covers};
 ghost use Rattle.lw_calls.specs.declared.make.Kind.TheVariants.{SuperBitmap};
 ghost use Rattle.lw_machine.specs.Kept.{in_clip};
-ghost use Rattle.lw_layer.specs.View.{draws};
+ghost use Rattle.lw_layer.specs.View.{keeps, draws};
 ghost use Rattle.lw_layer.specs.Pieces.{across, down, buffer_at, buffer_rectangle};
 ghost use Rattle.lw_layer.specs.Drafts.{IsLiveDraft, layout, clip_set, live_view};
 ghost use Rattle.lw_layer.specs.Runs.{IsRunAt};
@@ -51,6 +51,43 @@ impl LiveDraft {
         if len == 0 {
             return None;
         }
+        Some(Run {
+            buffer: number,
+            line: self.line_in(number, x, y),
+            bit: self.column_in(number, x, y),
+            len,
+        })
+    }
+
+    // A run of kept pixels from any pixel on.
+    #[tactic(auto, using(crate::proofs::KeptLaws::columns_off, crate::proofs::KeptLaws::rows_off))]
+    pub(crate) fn kept_run_from(&self, x: i32, y: i32) -> Option<Run>
+        requires { IsLiveDraft self.now }
+        ensures { IsRunAt (live_view self.now) (λ i j. keeps (live_view self.now) i j) x y result }
+    {
+        let Some(column) = place_in(self.width(), x) else {
+            return None;
+        };
+        let Some(row) = place_in(self.height(), y) else {
+            return None;
+        };
+        self.kept_run_at(column, row)
+    }
+
+    // A run of kept pixels from (x, y) on, where that is kept.
+    fn kept_run_at(&self, x: u32, y: u32) -> Option<Run>
+        requires sound { IsLiveDraft self.now }
+        requires column { x < (layout self.now).width }
+        requires row { y < (layout self.now).height }
+        ensures { IsRunAt (live_view self.now) (λ i j. keeps (live_view self.now) i j) (pos x) (pos y) result }
+    {
+        // Reading these tells the proof that the rectangles cover the bounds.
+        let _ = self.bounds.min_x();
+        let _ = self.parts.hidden();
+        let Some(number) = self.buffer_at(x, y) else {
+            return None;
+        };
+        let len = self.kept_reach(x, y, number);
         Some(Run {
             buffer: number,
             line: self.line_in(number, x, y),

@@ -1,17 +1,17 @@
-use Rattle.std.proofs.Common.{◌≡◌, ℕ, ◌-◌, ◌<◌, ◌≤◌, length, List, refl, sym, ◌∙◌, ap, subst, arith, rules, Option, Some}
+use Rattle.std.proofs.Common.{◌≡◌, ℕ, ◌-◌, ◌*◌, ◌<◌, ◌≤◌, length, List, refl, sym, ◌∙◌, ap, subst, arith, rules, Option, Some}
 use Rattle.std.proofs.lemmas.List.{get_or_default}
 use Rattle.std.specs.List.{slice_index_or}
 use Rattle.lw_region.specs.Rectangle.{Rectangle}
 use Rattle.lw_planes.specs.Bitmap.{Bitmap, row_bytes}
 use Rattle.lw_planes.specs.Change.{with_row}
 use Rattle.lw_layer.specs.Drafts.{buffers_of, no_bitmap, width_of, height_of}
-use Rattle.lw_layer.specs.Written.{HasBits, HasOwnBits}
+use Rattle.lw_layer.specs.Written.{HaveBits, HaveOwnBits}
 use Rattle.lw_layer.proofs.BufferLaws.{shown_buffer, covered_buffer, own_buffer, buffer_is, changed_shown, changed_covered, changed_last}
-use Rattle.lw_layer.proofs.draft.LiveDraft.row_mut.Goals as goal
+use Rattle.lw_layer.proofs.draft.LiveDraft.lines_mut.Goals as goal
 
 -- the bits of a buffer that is told by its number
-bits_at : (bs : List Bitmap) (n : ℕ) (b : Bitmap) (plane line : ℕ) (row : List ℕ) → slice_index_or bs n no_bitmap ≡ b → HasBits b plane line row → HasBits (slice_index_or bs n no_bitmap) plane line row
-bits_at bs n b plane line row is bits = let P : Bitmap → Type 0 = λ q. HasBits q plane line row in subst P (sym is) bits
+bits_at : (bs : List Bitmap) (n : ℕ) (b : Bitmap) (plane line rows : ℕ) (row : List ℕ) → slice_index_or bs n no_bitmap ≡ b → HaveBits b plane line rows row → HaveBits (slice_index_or bs n no_bitmap) plane line rows row
+bits_at bs n b plane line rows row is bits = let P : Bitmap → Type 0 = λ q. HaveBits q plane line rows row in subst P (sym is) bits
 
 pub returns-then-buffer-shown : goal.returns-then-buffer-shown
 returns-then-buffer-shown c =
@@ -21,12 +21,13 @@ returns-then-buffer-shown c =
     let b = c.index_mut-planes.result.now in
     let here : b ≡ slice_index_or d.buffers.items n b = c.index_mut-planes.ensures.value in
     let at : slice_index_or (buffers_of d) n no_bitmap ≡ b = shown_buffer d n inside ∙ sym (here ∙ get_or_default d.buffers.items n b no_bitmap inside) in
-    let is = buffer_is d n b c.requires.sound c.requires.line.buffer at in (
+    let is = buffer_is d n b c.requires.sound c.requires.lines.buffer at in (
       (refl, λ w. changed_shown d n (λ q. with_row q c.args.plane c.args.line w) b inside here),
       record {
         writes_back = tt;
-        long = c.row_mut.ensures.long ∙ ap row_bytes is.width;
-        bits = bits_at (buffers_of d) n b c.args.plane c.args.line _ at c.row_mut.ensures.bits;
+        near = c.rows_mut.ensures.near;
+        long = c.rows_mut.ensures.long ∙ ap (λ q. c.args.rows * row_bytes q) is.width;
+        bits = bits_at (buffers_of d) n b c.args.plane c.args.line c.args.rows _ at c.rows_mut.ensures.bits;
       },
     )
 
@@ -41,17 +42,17 @@ covered_is c =
     let inside : k < length d.covered.items = search rules in
     covered_buffer d c.args.buffer k is_k past inside ∙ sym (c.index_mut-planes-then-buffer-shown-2.ensures.value ∙ get_or_default d.covered.items k b no_bitmap inside)
 
-pub row_mut-requires-then-buffer-shown-2-clause-plane :
-    goal.row_mut-requires-then-buffer-shown-2-clause-plane
-row_mut-requires-then-buffer-shown-2-clause-plane c =
-    let is = buffer_is c.args.self.now c.args.buffer _ c.requires.sound c.requires.line.buffer (covered_is c) in
+pub rows_mut-requires-then-buffer-shown-2-clause-plane :
+    goal.rows_mut-requires-then-buffer-shown-2-clause-plane
+rows_mut-requires-then-buffer-shown-2-clause-plane c =
+    let is = buffer_is c.args.self.now c.args.buffer _ c.requires.sound c.requires.lines.buffer (covered_is c) in
     omega (arith, is.planes, c.requires.plane)
 
-pub row_mut-requires-then-buffer-shown-2-clause-row :
-    goal.row_mut-requires-then-buffer-shown-2-clause-row
-row_mut-requires-then-buffer-shown-2-clause-row c =
-    let is = buffer_is c.args.self.now c.args.buffer _ c.requires.sound c.requires.line.buffer (covered_is c) in
-    omega (arith, is.height, c.requires.line.below)
+pub rows_mut-requires-then-buffer-shown-2-clause-inside :
+    goal.rows_mut-requires-then-buffer-shown-2-clause-inside
+rows_mut-requires-then-buffer-shown-2-clause-inside c =
+    let is = buffer_is c.args.self.now c.args.buffer _ c.requires.sound c.requires.lines.buffer (covered_is c) in
+    omega (arith, is.height, c.requires.lines.below)
 
 pub returns-then-buffer-shown-2 : goal.returns-then-buffer-shown-2
 returns-then-buffer-shown-2 c =
@@ -64,12 +65,13 @@ returns-then-buffer-shown-2 c =
     let inside : k < length d.covered.items = search rules in
     let here : b ≡ slice_index_or d.covered.items k no_bitmap = c.index_mut-planes-then-buffer-shown-2.ensures.value ∙ get_or_default d.covered.items k b no_bitmap inside in
     let at : slice_index_or (buffers_of d) n no_bitmap ≡ b = covered_buffer d n k is_k past inside ∙ sym here in
-    let is = buffer_is d n b c.requires.sound c.requires.line.buffer at in (
+    let is = buffer_is d n b c.requires.sound c.requires.lines.buffer at in (
       (refl, λ w. changed_covered d n k (λ q. with_row q c.args.plane c.args.line w) b is_k past inside here),
       record {
         writes_back = tt;
-        long = c.row_mut-then-buffer-shown-2.ensures.long ∙ ap row_bytes is.width;
-        bits = bits_at (buffers_of d) n b c.args.plane c.args.line _ at c.row_mut-then-buffer-shown-2.ensures.bits;
+        near = c.rows_mut-then-buffer-shown-2.ensures.near;
+        long = c.rows_mut-then-buffer-shown-2.ensures.long ∙ ap (λ q. c.args.rows * row_bytes q) is.width;
+        bits = bits_at (buffers_of d) n b c.args.plane c.args.line c.args.rows _ at c.rows_mut-then-buffer-shown-2.ensures.bits;
       },
     )
 
@@ -78,18 +80,18 @@ own_size : (o : Option Bitmap) (b : Bitmap) (r : Rectangle) → o ≡ Some b →
 own_size o b r is = rw is (refl, refl)
 
 -- the bits of an own bitmap
-own_bits : (o : Option Bitmap) (b : Bitmap) (plane line : ℕ) (row : List ℕ) → o ≡ Some b → HasOwnBits o plane line row → HasBits b plane line row
-own_bits o b plane line row is bits = let P : Option Bitmap → Type 0 = λ q. HasOwnBits q plane line row in subst P is bits
+own_bits : (o : Option Bitmap) (b : Bitmap) (plane line rows : ℕ) (row : List ℕ) → o ≡ Some b → HaveOwnBits o plane line rows row → HaveBits b plane line rows row
+own_bits o b plane line rows row is bits = let P : Option Bitmap → Type 0 = λ q. HaveOwnBits q plane line rows row in subst P is bits
 
-pub own_row_mut-requires-clause-line : goal.own_row_mut-requires-clause-line
-own_row_mut-requires-clause-line c =
+pub own_lines_mut-requires-clause-lines : goal.own_lines_mut-requires-clause-lines
+own_lines_mut-requires-clause-lines c =
     let d = c.args.self.now in
     let past : length d.buffers.items ≤ c.args.buffer = search rules in
     let late : length d.covered.items ≤ c.args.buffer - length d.buffers.items = search rules in
-    let own = own_buffer d c.args.buffer c.requires.sound c.requires.line.buffer past late in
-    let is = buffer_is d c.args.buffer own.own c.requires.sound c.requires.line.buffer own.at in
+    let own = own_buffer d c.args.buffer c.requires.sound c.requires.lines.buffer past late in
+    let is = buffer_is d c.args.buffer own.own c.requires.sound c.requires.lines.buffer own.at in
     let size = own_size d.superbits own.own d.bounds own.is in
-    omega (arith, size.1, is.height, c.requires.line.below)
+    omega (arith, size.1, is.height, c.requires.lines.below)
 
 pub returns : goal.returns
 returns c =
@@ -97,13 +99,14 @@ returns c =
     let n = c.args.buffer in
     let past : length d.buffers.items ≤ n = search rules in
     let late : length d.covered.items ≤ n - length d.buffers.items = search rules in
-    let own = own_buffer d n c.requires.sound c.requires.line.buffer past late in
-    let is = buffer_is d n own.own c.requires.sound c.requires.line.buffer own.at in
+    let own = own_buffer d n c.requires.sound c.requires.lines.buffer past late in
+    let is = buffer_is d n own.own c.requires.sound c.requires.lines.buffer own.at in
     let size = own_size d.superbits own.own d.bounds own.is in (
       (refl, λ w. changed_last d n (λ q. with_row q c.args.plane c.args.line w) past late),
       record {
         writes_back = tt;
-        long = c.own_row_mut.ensures.long ∙ ap row_bytes (size.0 ∙ is.width);
-        bits = bits_at (buffers_of d) n own.own c.args.plane c.args.line _ own.at (own_bits d.superbits own.own c.args.plane c.args.line _ own.is c.own_row_mut.ensures.bits);
+        near = c.own_lines_mut.ensures.near;
+        long = c.own_lines_mut.ensures.long ∙ ap (λ q. c.args.rows * row_bytes q) (size.0 ∙ is.width);
+        bits = bits_at (buffers_of d) n own.own c.args.plane c.args.line c.args.rows _ own.at (own_bits d.superbits own.own c.args.plane c.args.line c.args.rows _ own.is c.own_lines_mut.ensures.bits);
       },
     )
