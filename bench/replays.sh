@@ -1,8 +1,9 @@
 #!/bin/sh
 # Runs a script many times, and replays it in the order of each run: it cuts the order from the run's report, puts it after the
-# script, and compares what `run` and `replay` wrote byte for byte. It prints how many runs there were, and how many different
-# orders they took. It ends with status 1 at the first run whose replay wrote anything else, and where a status isn't 0; it
-# then keeps its files and tells where they are.
+# script, and compares what `run` and `replay` wrote byte for byte. It also puts the whole report after the script, which `audit`
+# has to find to be the machine's. It prints how many runs there were, and how many different orders they took. It ends with status 1
+# at the first run whose replay wrote anything else or whose audit didn't say `same`, and where a status isn't 0; it then keeps its
+# files and tells where they are.
 #
 #     bench/replays.sh [PROGRAM] SCRIPT [RUNS]
 #
@@ -57,11 +58,14 @@ command_of_program() {
     [ "$status" -eq 0 ] || fail "the status of $1 was $status; its input is $2 and its output $3"
 }
 
-# The script and a line `order`, with a line feed between them also where the script's last line has none.
+# The script and a line `order`, and the script and a line `report`, each with a line feed between them also where the script's last
+# line has none.
 run=0
 cp "$script" "$work/ordered"
 if [ -n "$(tail -c 1 "$script")" ]; then echo >>"$work/ordered"; fi
+cp "$work/ordered" "$work/audited"
 echo order >>"$work/ordered"
+echo report >>"$work/audited"
 
 : >"$work/orders"
 while [ "$run" -lt "$runs" ]; do
@@ -73,7 +77,10 @@ while [ "$run" -lt "$runs" ]; do
     command_of_program replay "$work/input" "$work/replay"
     cmp -s "$work/run" "$work/replay" ||
         fail "the reports $work/run and $work/replay differ; the input of the replay is $work/input"
+    cat "$work/audited" "$work/run" >"$work/input"
+    command_of_program audit "$work/input" "$work/audit"
+    [ "$(cat "$work/audit")" = same ] || fail "audit wrote $work/audit; its input is $work/input"
     { tr '\n' ' ' <"$work/order" && echo; } >>"$work/orders"
 done
 orders=$(LC_ALL=C sort -u "$work/orders" | wc -l)
-echo "$runs runs, $((orders)) different orders; each run's report is that of its replay"
+echo "$runs runs, $((orders)) different orders; each run's report is that of its replay and its audit"

@@ -10,4 +10,5 @@ mod rects;
 mod replies;
 mod report;
 
+pub use order::byte_after;
 pub use report::write;

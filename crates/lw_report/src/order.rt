@@ -26,8 +26,9 @@ fn push_order_numbers(alloc: Global, out: &mut Vec<u8>, order: &[u32]) -> Result
     Ok(())
 }
 
-/// The byte after the number that is `count`th of `all` numbers, counted from 1.
-fn byte_after(count: usize, all: usize) -> u8
+/// The byte after the number that is `count`th of the `all` numbers of an order, counted from 1: a line feed after the last
+/// one and after 64 on a line, else a space.
+pub fn byte_after(count: usize, all: usize) -> u8
     requires { count ≤ all }
     ensures { (rest : List ℕ) → count + length rest ≡ all → result ≡ separator count rest }
 {

@@ -7,6 +7,10 @@ mod LinesAlike
 mod ListsOfLists
 mod NamesAdded
 mod NamesWith
+mod OrderAnswers
+mod OrderLoop
+pub mod OrderNumbers
+pub mod OrderSections
 mod Outcomes
 mod Passing
 mod Places

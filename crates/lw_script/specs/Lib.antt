@@ -1,5 +1,9 @@
 pub mod Answers
 pub mod CallParts
+pub mod Differing
 pub mod NextLine
+pub mod OrderAnswers
+pub mod OrderReading
+pub mod OrderSection
 pub mod ReaderKnows
 pub mod Represents

@@ -5,8 +5,11 @@
 
 mod adding;
 mod assets;
+mod differing;
 mod finish;
 mod input;
+mod order;
+mod order_stop;
 mod reading;
 mod script;
 mod state;
@@ -16,7 +19,12 @@ mod tested;
 #[cfg(test)]
 mod tests;
 #[cfg(test)]
+mod tests_order;
+#[cfg(test)]
 mod tests_refused;
 
+pub use differing::first_difference;
 pub use input::{Input, ScriptStop};
+pub use order::read_order;
+pub use order_stop::OrderStop;
 pub use script::read;

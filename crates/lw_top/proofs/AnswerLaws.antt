@@ -1,9 +1,10 @@
 -- What a command's promise tells of its answer.
-use Rattle.std.proofs.Common.{◌≡◌, ◌≢◌, ◌⊎◌, ℕ, ◌+◌, ◌<◌, ◌≤◌, List, [], ◌++◌, Option, Some, None, IfSome, true, false, IsTrue, length, refl, sym, ap, subst, ◌∙◌, inl, inr, append-nil, length-append, arith}
+use Rattle.std.proofs.Common.{◌≡◌, ◌≢◌, ◌⊎◌, ℕ, ◌+◌, ◌<◌, ◌≤◌, List, [], ◌++◌, codes, Option, Some, None, IfSome, true, false, IsTrue, length, refl, sym, ap, subst, ◌∙◌, inl, inr, append-nil, length-append, arith}
 use Rattle.std.proofs.lemmas.Bool.{true≢false}
 use Rattle.lw_io.specs.Streams.{Stream, StreamChange, change, NoneLeft, TakesJust, TakesAtMost, bytes_before, bytes_after, Wrote, HasFailed}
 use Rattle.lw_calls.specs.declared.reason.Reason.{Reason}
 use Rattle.lw_calls.specs.Plan.{IsPlan}
+use Rattle.lw_calls.specs.Written.{line_of}
 use Rattle.lw_calls.proofs.OrdersComplete.{begins}
 use Rattle.lw_machine.specs.Hook.{Hook}
 use Rattle.lw_machine.specs.Report.{run_report}
@@ -11,26 +12,29 @@ use Rattle.lw_canonical.specs.Canonical.{canonical_text}
 use Rattle.lw_grammar.specs.Script.{ScriptInput, SpellsInput}
 use Rattle.lw_grammar.proofs.ScriptRunnable.{spelled_runnable}
 use Rattle.lw_top.specs.declared.status.Status.{Status}
-use Rattle.lw_top.specs.declared.status.Status.TheVariants.{Done, Refused, Usage, ReadFault, WriteFault, NoMemory, TooLong, BadOrder}
+use Rattle.lw_top.specs.declared.status.Status.TheVariants.{Done, Refused, Usage, ReadFault, WriteFault, NoMemory, TooLong, Differs, BadOrder}
+use Rattle.lw_top.specs.declared.words.ScriptCommand.{ScriptCommand}
+use Rattle.lw_top.specs.declared.words.ScriptCommand.TheVariants.{Run, Check, Replay, Audit}
+use Rattle.lw_top.specs.Commands.{reads_input, reads_with, IsTextFor}
+use Rattle.lw_top.specs.Laws.{IsTextOf, IsBadOrderOf, IsDifferenceOf, IsDue, IsUnlessStopped, is_stop, IsInput, IsAnswer, AnswerTells, ToldOfWords}
 use Rattle.lw_top.specs.declared.words.Command.{Command}
-use Rattle.lw_top.specs.declared.words.Command.TheVariants.{Run, Check, Replay}
-use Rattle.lw_top.specs.Commands.{reads_with, IsTextFor}
-use Rattle.lw_top.specs.Laws.{IsTextOf, IsBadOrderOf, IsDue, IsUnlessStopped, is_stop, IsInput, IsAnswer, AnswerTells, ToldOfWords}
-use Rattle.lw_top.specs.Outcome.{IsBadLineOf, IsOutcome, IsTaken, Served, Answered}
+use Rattle.lw_top.specs.declared.words.Command.TheVariants.{Script}
+use Rattle.lw_top.specs.Outcome.{IsBadLineOf, IsOutcome, IsTaken, Served, Answered, Promised}
 use Rattle.lw_top.specs.Status.{Says, text_of, input_limit}
 use Rattle.lw_top.proofs.Outcomes.{one_outcome}
 
 -- an outcome is no stop, and no usage line
-no_stop : (hooks : List Hook) (command : Command) (input : List ℕ) (s : Status) (text : List ℕ) → IsOutcome hooks command input s text → is_stop s ≡ false
+no_stop : (hooks : List Hook) (command : ScriptCommand) (input : List ℕ) (s : Status) (text : List ℕ) → IsOutcome hooks command input s text → is_stop s ≡ false
 no_stop hooks command input Done text h = refl
 no_stop hooks command input (Refused line reason) text h = refl
 no_stop hooks command input TooLong text h = refl
 no_stop hooks command input (BadOrder place) text h = refl
+no_stop hooks command input (Differs place) text h = refl
 no_stop hooks command input Usage text h = refl
 no_stop hooks command input s text h = absurd h.3
 
 -- what was said of an outcome is no fault of the source and not running out of memory
-pub said_not_stopped : (hooks : List Hook) (command : Command) (input : List ℕ) (due r : Status) (text : List ℕ) (sink : StreamChange) → IsOutcome hooks command input due text → Says text due r sink → (r ≡ ReadFault) ⊎ (r ≡ NoMemory) → ⊥
+pub said_not_stopped : (hooks : List Hook) (command : ScriptCommand) (input : List ℕ) (due r : Status) (text : List ℕ) (sink : StreamChange) → IsOutcome hooks command input due text → Says text due r sink → (r ≡ ReadFault) ⊎ (r ≡ NoMemory) → ⊥
 said_not_stopped hooks command input due r text sink h (inl e) (inl d) = true≢false (sym (ap is_stop (sym e.0 ∙ d)) ∙ no_stop hooks command input due text h)
 said_not_stopped hooks command input due r text sink h (inl e) (inr d) = true≢false (sym (ap is_stop (sym e.0 ∙ d)) ∙ no_stop hooks command input due text h)
 said_not_stopped hooks command input due r text sink h (inr e) (inl d) = let same : WriteFault ≡ ReadFault = sym e.0 ∙ d in cc
@@ -42,7 +46,7 @@ of_told None P f = tt
 of_told (Some input) P f = f input refl
 
 -- The outcome on what was taken is the outcome on all that was left.
-of_front : (hooks : List Hook) (command : Command) (input left : List ℕ) (rest : Option (List ℕ)) (due : Status) (text : List ℕ) → Some left ≡ bytes_before input rest → ((length input ≤ input_limit) × NoneLeft rest) ⊎ (length input ≡ input_limit + 1) → IsOutcome hooks command input due text → IsOutcome hooks command left due text
+of_front : (hooks : List Hook) (command : ScriptCommand) (input left : List ℕ) (rest : Option (List ℕ)) (due : Status) (text : List ℕ) → Some left ≡ bytes_before input rest → ((length input ≤ input_limit) × NoneLeft rest) ⊎ (length input ≡ input_limit + 1) → IsOutcome hooks command input due text → IsOutcome hooks command left due text
 of_front hooks command input left None due text front ended h = let e : Some left ≡ None = front in cc
 of_front hooks command input left (Some rest) due text front ended h = elim ended [ inl e ↦ subst (λ l. IsOutcome hooks command l due text) (whole e.1) h | inr e ↦ long e due h ]
   where
@@ -56,28 +60,30 @@ of_front hooks command input left (Some rest) due text front ended h = elim ende
     long e TooLong h = let most = ap length all ∙ length-append input rest in (omega (arith, most, e), h.1)
     long e due h = let short = h.0 in absurd (omega (arith, short, e))
 
-of_left : (hooks : List Hook) (command : Command) (input left : List ℕ) (source : StreamChange) (due : Status) (text : List ℕ) → source.old.bytes ≡ Some left → IsTaken input source → IsOutcome hooks command input due text → IsOutcome hooks command left due text
+of_left : (hooks : List Hook) (command : ScriptCommand) (input left : List ℕ) (source : StreamChange) (due : Status) (text : List ℕ) → source.old.bytes ≡ Some left → IsTaken input source → IsOutcome hooks command input due text → IsOutcome hooks command left due text
 of_left hooks command input left source due text is taken h = of_front hooks command input left source.new.bytes due text (sym is ∙ taken.front) taken.ended h
 
 -- the answer that was due is the outcome, or the sink failed
-said_only : (hooks : List Hook) (command : Command) (input : List ℕ) (due wanted r : Status) (text other : List ℕ) (sink : StreamChange) → IsOutcome hooks command input due text → Says text due r sink → IsOutcome hooks command input wanted other → IsAnswer hooks command input wanted r sink ⊎ ((r ≡ WriteFault) × HasFailed sink)
+said_only : (hooks : List Hook) (command : ScriptCommand) (input : List ℕ) (due wanted r : Status) (text other : List ℕ) (sink : StreamChange) → IsOutcome hooks command input due text → Says text due r sink → IsOutcome hooks command input wanted other → IsAnswer hooks command input wanted r sink ⊎ ((r ≡ WriteFault) × HasFailed sink)
 said_only hooks command input due wanted r text other sink h (inl e) w =
     let same : due ≡ wanted = (one_outcome hooks command input due wanted text other h w).0 in
     inl (record { text = text; outcome = subst (λ q. IsOutcome hooks command input q text) same h; same = e.0 ∙ same; written = e.1 })
 said_only hooks command input due wanted r text other sink h (inr e) w = inr (e.0, e.2)
 
 -- what a command tells where its text or its order's bad place is due
-due_text : (hooks : List Hook) (command : Command) (script : ScriptInput) → IsPlan script.plan → IsDue command script → (text : List ℕ) × IsTextFor hooks command script text
-due_text hooks Run script ok due = let legal = begins script.plan ok [] refl in (run_report script.plan hooks legal.0, (legal.0, legal.1, refl))
-due_text hooks Check script ok due = (canonical_text script.plan, refl)
-due_text hooks Replay script ok due = (run_report script.plan hooks script.order, (due, refl))
+due_text : (hooks : List Hook) (command : ScriptCommand) (input : List ℕ) (script : ScriptInput) → IsPlan script.plan → IsDue hooks command input script → (text : List ℕ) × IsTextFor hooks command input script text
+due_text hooks Run input script ok due = let legal = begins script.plan ok [] refl in (run_report script.plan hooks legal.0, (legal.0, legal.1, refl))
+due_text hooks Check input script ok due = (canonical_text script.plan, refl)
+due_text hooks Replay input script ok due = (run_report script.plan hooks script.order, (due, refl))
+due_text hooks Audit input script ok due = (line_of (codes "same"), (due, refl))
 
 -- the text of an answer that has one of its own
-own_text : (hooks : List Hook) (command : Command) (input : List ℕ) (s : Status) (text : List ℕ) → IsOutcome hooks command input s text → (s ≡ Done) ⊎ (text ≡ text_of s)
+own_text : (hooks : List Hook) (command : ScriptCommand) (input : List ℕ) (s : Status) (text : List ℕ) → IsOutcome hooks command input s text → (s ≡ Done) ⊎ (text ≡ text_of s)
 own_text hooks command input Done text h = inl refl
 own_text hooks command input (Refused line reason) text h = inr h.2
 own_text hooks command input TooLong text h = inr h.1
 own_text hooks command input (BadOrder place) text h = inr h.3.1
+own_text hooks command input (Differs place) text h = inr h.3.1
 own_text hooks command input s text h = absurd h.3
 
 -- nothing more was written
@@ -90,17 +96,17 @@ whole_input : (input : List ℕ) (source : StreamChange) → IsTaken input sourc
 whole_input input source taken short = elim taken.ended [ inl e ↦ record { taken = taken.front; end = e.1; within = short } | inr e ↦ absurd (omega (arith, e, short)) ]
 
 -- the outcome on an input is this answer, and its text was written whole
-abbrev WroteFor : List Hook → Command → Status → StreamChange → List ℕ → Type 0
+abbrev WroteFor : List Hook → ScriptCommand → Status → StreamChange → List ℕ → Type 0
 WroteFor hooks command q sink input = (text : List ℕ) × IsOutcome hooks command input q text × Wrote text sink
 
 -- the outcome on an input is the answer, unless a stream failed or memory ran out
-abbrev Comes : List Hook → Command → Status → StreamChange → StreamChange → List ℕ → Type 0
+abbrev Comes : List Hook → ScriptCommand → Status → StreamChange → StreamChange → List ℕ → Type 0
 Comes hooks command r source sink input =
     (due : Status) (text : List ℕ) → IsOutcome hooks command input due text
     → IsAnswer hooks command input due r sink ⊎ ((r ≡ WriteFault) × HasFailed sink) ⊎ ((r ≡ ReadFault) × HasFailed source) ⊎ (r ≡ NoMemory)
 
 -- an answer that is no stop is the outcome on what was taken, and its text was written whole
-came : (hooks : List Hook) (command : Command) (q r : Status) (source sink : StreamChange) → Answered hooks command r source sink → is_stop q ≡ false → r ≡ q
+came : (hooks : List Hook) (command : ScriptCommand) (q r : Status) (source sink : StreamChange) → Answered hooks command r source sink → is_stop q ≡ false → r ≡ q
     → (input : List ℕ) × IsTaken input source × WroteFor hooks command q sink input
 came hooks command q r source sink h goes is = elim h.outcome [ inl e ↦ served e e.said | inr e ↦ absurd (elim e [ inl d ↦ stopped ReadFault refl d.0 | inr d ↦ stopped NoMemory refl d ]) ]
   where
@@ -112,13 +118,13 @@ came hooks command q r source sink h goes is = elim h.outcome [ inl e ↦ served
     served e (inr d) = absurd (stopped WriteFault refl d.0)
 
 -- the same of all that was left
-came_of_left : (hooks : List Hook) (command : Command) (q r : Status) (source sink : StreamChange) (left : List ℕ) → source.old.bytes ≡ Some left → Answered hooks command r source sink → is_stop q ≡ false → r ≡ q → WroteFor hooks command q sink left
+came_of_left : (hooks : List Hook) (command : ScriptCommand) (q r : Status) (source sink : StreamChange) (left : List ℕ) → source.old.bytes ≡ Some left → Answered hooks command r source sink → is_stop q ≡ false → r ≡ q → WroteFor hooks command q sink left
 came_of_left hooks command q r source sink left told h goes is =
     let k = came hooks command q r source sink h goes is in
     (k.2.0, of_left hooks command k.0 left source q k.2.0 told k.1 k.2.1, k.2.2)
 
 -- the outcome on all that was left comes, unless a stream failed or memory ran out
-comes : (hooks : List Hook) (command : Command) (r : Status) (source sink : StreamChange) (left : List ℕ) → source.old.bytes ≡ Some left → Answered hooks command r source sink → Comes hooks command r source sink left
+comes : (hooks : List Hook) (command : ScriptCommand) (r : Status) (source sink : StreamChange) (left : List ℕ) → source.old.bytes ≡ Some left → Answered hooks command r source sink → Comes hooks command r source sink left
 comes hooks command r source sink left told h = λ due text w. elim h.outcome [ inl e ↦ served e due text w | inr e ↦ inr (inr e) ]
   where
     served : Served hooks command r source sink → Comes hooks command r source sink left
@@ -127,7 +133,7 @@ comes hooks command r source sink left told h = λ due text w. elim h.outcome [ 
         elim (said_only hooks command left e.due due r e.text text sink was e.said w) [ inl d ↦ inl d | inr d ↦ inr (inl d) ]
 
 -- All that each answer tells follows.
-told : (hooks : List Hook) (command : Command) (r : Status) (source sink : StreamChange) → Answered hooks command r source sink → ((r ≡ ReadFault) ⊎ (r ≡ NoMemory) → sink.new ≡ sink.old) → AnswerTells hooks command r source sink
+told : (hooks : List Hook) (command : ScriptCommand) (r : Status) (source sink : StreamChange) → Answered hooks command r source sink → ((r ≡ ReadFault) ⊎ (r ≡ NoMemory) → sink.new ≡ sink.old) → AnswerTells hooks command r source sink
 told hooks command r source sink h untouched =
     record {
       done = λ e. let k = was Done refl e in (k.0, whole_input k.0 source k.1 k.2.1.0, k.2.0, (k.2.1.1, k.2.1.2, k.2.1.3), k.2.2);
@@ -140,11 +146,14 @@ told hooks command r source sink h untouched =
       refused_of_left = λ line reason e. left_is (Refused line reason) refl e (λ input. (length input ≤ input_limit) × IsBadLineOf hooks command input line reason) (λ input k. (k.1.0, k.1.1));
       bad_order = λ place e. let k = was (BadOrder place) refl e in (k.0, whole_input k.0 source k.1 k.2.1.0, (k.2.1.1, k.2.1.2, k.2.1.3.0));
       bad_order_of_left = λ place e. left_is (BadOrder place) refl e (λ input. (length input ≤ input_limit) × IsBadOrderOf hooks command input place) (λ input k. (k.1.0, (k.1.1, k.1.2, k.1.3.0)));
+      differs = λ place e. let k = was (Differs place) refl e in (k.0, whole_input k.0 source k.1 k.2.1.0, (k.2.1.1, k.2.1.2, k.2.1.3.0));
+      differs_of_left = λ place e. left_is (Differs place) refl e (λ input. (length input ≤ input_limit) × IsDifferenceOf hooks command input place) (λ input k. (k.1.0, (k.1.1, k.1.2, k.1.3.0)));
       write_fault = λ e. write_faults e;
       only_too_long = only (λ input. input_limit < length input → IsUnlessStopped TooLong r) (λ input k above. unless TooLong input k (text_of TooLong) (above, refl));
       only_refused = only (λ input. length input ≤ input_limit → (line : ℕ) (reason : Reason) → IsBadLineOf hooks command input line reason → IsUnlessStopped (Refused line reason) r) (λ input k short line reason bad. unless (Refused line reason) input k (text_of (Refused line reason)) (short, bad, refl));
       only_bad_order = only (λ input. length input ≤ input_limit → (place : ℕ) → IsBadOrderOf hooks command input place → IsUnlessStopped (BadOrder place) r) (λ input k short place bad. unless (BadOrder place) input k (text_of (BadOrder place)) (short, bad.0, bad.1, (bad.2, refl)));
-      only_done = only (λ input. length input ≤ input_limit → (script : ScriptInput) → SpellsInput (reads_with (length hooks) command) input script → IsDue command script → IsUnlessStopped Done r) (λ input k short script spelled due. let text = due_text hooks command script (spelled_runnable (reads_with (length hooks) command) input script spelled).plan due in unless Done input k text.0 (short, script, spelled, text.1));
+      only_differs = only (λ input. length input ≤ input_limit → (place : ℕ) → IsDifferenceOf hooks command input place → IsUnlessStopped (Differs place) r) (λ input k short place d. unless (Differs place) input k (text_of (Differs place)) (short, d.0, d.1, (d.2, refl)));
+      only_done = only (λ input. length input ≤ input_limit → (script : ScriptInput) → SpellsInput (reads_with (length hooks) command) input script → IsDue hooks command input script → IsUnlessStopped Done r) (λ input k short script spelled due. let text = due_text hooks command input script (spelled_runnable (reads_with (length hooks) command) input script spelled).plan due in unless Done input k text.0 (short, script, spelled, text.1));
       complete = λ no_read no_write. only (λ input. (due : Status) (text : List ℕ) → IsOutcome hooks command input due text → IsAnswer hooks command input due r sink ⊎ (r ≡ NoMemory)) (λ input k due text w. elim (k due text w) [ inl e ↦ inl e | inr e ↦ elim e [ inl d ↦ absurd (no_write d.1) | inr d ↦ elim d [ inl b ↦ absurd (no_read b.1) | inr b ↦ inr b ] ] ]);
       text = λ not_done not_fault. elim h.outcome [ inl e ↦ written e e.said not_done not_fault | inr e ↦ elim e [ inl d ↦ empty d.0 refl (untouched (inl d.0)) | inr d ↦ empty d refl (untouched (inr d)) ] ];
     }
@@ -189,7 +198,7 @@ said_no_fault : (text : List ℕ) (due r : Status) (sink : StreamChange) → Say
 said_no_fault text due r sink (inl d) not_fault = d.2
 said_no_fault text due r sink (inr d) not_fault = absurd (not_fault d.0)
 
-no_write_fault : (hooks : List Hook) (command : Command) (r : Status) (source sink : StreamChange) → Answered hooks command r source sink → ((r ≡ ReadFault) ⊎ (r ≡ NoMemory) → sink.new ≡ sink.old) → r ≢ WriteFault → sink.new.faults ≡ sink.old.faults
+no_write_fault : (hooks : List Hook) (command : ScriptCommand) (r : Status) (source sink : StreamChange) → Answered hooks command r source sink → ((r ≡ ReadFault) ⊎ (r ≡ NoMemory) → sink.new ≡ sink.old) → r ≢ WriteFault → sink.new.faults ≡ sink.old.faults
 no_write_fault hooks command r source sink h untouched not_fault =
     elim h.outcome [ inl e ↦ said_no_fault e.text e.due r sink e.said not_fault | inr e ↦ ap (λ (s : Stream). s.faults) (untouched (elim e [ inl d ↦ inl d.0 | inr d ↦ inr d ])) ]
 
@@ -205,8 +214,8 @@ none_taken source same = ([], omega arith, sym (bytes_before_none source.new.byt
     bytes_before_none None = refl
     bytes_before_none (Some bytes) = refl
 
-pub told_of_words : (hooks : List Hook) (asked : Option Command) (r : Status) (source sink : StreamChange) → IfSome asked (λ command. Answered hooks command r source sink) → (asked ≡ None → Says (text_of Usage) Usage r sink) → (asked ≡ None → source.new ≡ source.old) → ((r ≡ ReadFault) ⊎ (r ≡ NoMemory) → sink.new ≡ sink.old) → ToldOfWords hooks asked r source sink
-told_of_words hooks (Some command) r source sink h usage unread untouched =
+pub told_of_words : (hooks : List Hook) (asked : Option Command) (r : Status) (source sink : StreamChange) → IfSome asked (λ command. Promised hooks command r source sink) → (asked ≡ None → Says (text_of Usage) Usage r sink) → (reads_input asked ≡ false → source.new ≡ source.old) → ((r ≡ ReadFault) ⊎ (r ≡ NoMemory) → sink.new ≡ sink.old) → ToldOfWords hooks asked r source sink
+told_of_words hooks (Some (Script command)) r source sink h usage unread untouched =
     let tells = told hooks command r source sink h untouched in
     record {
       told = tells;

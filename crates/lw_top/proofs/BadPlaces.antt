@@ -1,17 +1,9 @@
 -- An order's first bad place is one.
-use Rattle.std.proofs.Common.{◌≡◌, ℕ, zero, suc, ◌+◌, ◌<◌, ◌≤◌, inl, inr, Bool, true, false, nat_lt, List, [], ◌∷◌, ◌++◌, length, take, refl, sym, ap, subst, ◌∙◌, append_assoc, arith}
+use Rattle.std.proofs.Common.{◌≡◌, ℕ, ◌+◌, ◌<◌, ◌≤◌, inl, inr, Bool, true, false, nat_lt, List, ◌++◌, length, take, refl, sym, ap, subst, ◌∙◌, append_assoc, arith}
 use Rattle.std.proofs.lemmas.Bool.{true≢false, ltb-true, ltb-false}
 use Rattle.lw_calls.specs.Plan.{Plan}
 use Rattle.lw_calls.specs.Orders.{is_legal, Begins, EndsAt, IsBadPlace}
-
--- a prefix of a longer prefix
-front_goes_on : (k m : ℕ) (xs : List ℕ) → k ≤ m → (more : List ℕ) × (take m xs ≡ take k xs ++ more)
-front_goes_on zero m xs le = (take m xs, refl)
-front_goes_on (suc k) zero xs le = absurd (omega arith)
-front_goes_on (suc k) (suc m) [] le = ([], refl)
-front_goes_on (suc k) (suc m) (x ∷ xs) le =
-    let rest = front_goes_on k m xs (omega arith) in
-    (rest.0, ap (λ ys. x ∷ ys) rest.1)
+use Rattle.lw_script.proofs.OrderSections.{front_goes_on}
 
 -- what begins a legal order has fronts that do
 front_begins : (plan : Plan) (k m : ℕ) (order : List ℕ) → k ≤ m → Begins plan (take m order) → Begins plan (take k order)

@@ -1,5 +1,7 @@
 mod AnswerLaws
+mod AuditOutcomes
 mod BadPlaces
+mod CallCount
 mod DamageTold
 mod LegalOrders
 mod OrderLength

@@ -6,11 +6,11 @@ use Rattle.lw_io.specs.Streams.{StreamChange, HasFailed, TakesJust, TakesAtMost}
 use Rattle.lw_machine.specs.Hook.{Hook}
 use Rattle.lw_top.specs.declared.status.Status.{Status}
 use Rattle.lw_top.specs.declared.status.Status.TheVariants.{ReadFault, NoMemory, TooLong}
-use Rattle.lw_top.specs.declared.words.Command.{Command}
+use Rattle.lw_top.specs.declared.words.ScriptCommand.{ScriptCommand}
 use Rattle.lw_top.specs.Outcome.{Answered}
 use Rattle.lw_top.specs.Status.{Says, text_of, input_limit}
 
-pub unread : (hooks : List Hook) (command : Command) (stop : ReadStop) (r : Status) (source sink : StreamChange)
+pub unread : (hooks : List Hook) (command : ScriptCommand) (stop : ReadStop) (r : Status) (source sink : StreamChange)
     → (stop ≡ StopLong → TakesJust (input_limit + 1) source.old.bytes source.new.bytes) → (stop ≡ Fault → HasFailed source)
     → (¬ (stop ≡ Fault) → source.new.faults ≡ source.old.faults)
     → (stop ≡ StopLong → Says (text_of TooLong) TooLong r sink) → (stop ≡ Fault → r ≡ ReadFault) → (stop ≡ Memory → r ≡ NoMemory)

@@ -1,28 +1,33 @@
 -- What the text of a command tells of damage.
-use Rattle.std.specs.Prelude.{◌≡◌, ℕ, true, List, length}
+use Rattle.std.specs.Prelude.{◌≡◌, ℕ, true, List, length, codes}
 use Rattle.lw_calls.specs.Orders.{is_legal}
+use Rattle.lw_calls.specs.Written.{line_of}
 use Rattle.lw_canonical.specs.Canonical.{canonical_text}
 use Rattle.lw_machine.specs.Hook.{Hook}
 use Rattle.lw_machine.specs.Report.{report}
 use Rattle.lw_history.specs.ByHistory.{final_by_history}
 use Rattle.lw_grammar.specs.Script.{ScriptInput, SpellsInput}
-use Rattle.lw_top.specs.declared.words.Command.{Command}
-use Rattle.lw_top.specs.declared.words.Command.TheVariants.{Run, Check, Replay}
-use Rattle.lw_top.specs.Commands.{reads_with, IsTextFor}
+use Rattle.lw_top.specs.declared.words.ScriptCommand.{ScriptCommand}
+use Rattle.lw_top.specs.declared.words.ScriptCommand.TheVariants.{Run, Check, Replay, Audit}
+use Rattle.lw_top.specs.Commands.{reads_with, behind_script, IsTextFor}
 
--- The text that a command writes for a script, as `IsTextFor` has it, but that the report has of each simple layer the damage which
--- is told by the history of the order that it prints.
-abbrev pub IsTextByHistory : List Hook → Command → ScriptInput → List ℕ → Type 0
-IsTextByHistory hooks Run script text =
+-- The text that a command writes for a script, as `IsTextFor` has it, but that the report, written or audited, has of each simple layer
+-- the damage which is told by the history of the order that it prints.
+abbrev pub IsTextByHistory : List Hook → ScriptCommand → List ℕ → ScriptInput → List ℕ → Type 0
+IsTextByHistory hooks Run input script text =
     (order : List ℕ) × (is_legal script.plan order ≡ true) × (text ≡ report script.plan order (final_by_history script.plan hooks order))
-IsTextByHistory hooks Check script text = text ≡ canonical_text script.plan
-IsTextByHistory hooks Replay script text =
+IsTextByHistory hooks Check input script text = text ≡ canonical_text script.plan
+IsTextByHistory hooks Replay input script text =
     (is_legal script.plan script.order ≡ true)
     × (text ≡ report script.plan script.order (final_by_history script.plan hooks script.order))
+IsTextByHistory hooks Audit input script text =
+    ((order : List ℕ) × (is_legal script.plan order ≡ true)
+    × (behind_script input script ≡ report script.plan order (final_by_history script.plan hooks order)))
+    × (text ≡ line_of (codes "same"))
 
 -- A text that is due for a script which an input spells has the damage that the history tells.
 abbrev pub TextsTellDamageByHistory : Type 0
 TextsTellDamageByHistory =
-    (hooks : List Hook) (command : Command) (input : List ℕ) (script : ScriptInput) (text : List ℕ)
-    → SpellsInput (reads_with (length hooks) command) input script → IsTextFor hooks command script text
-    → IsTextByHistory hooks command script text
+    (hooks : List Hook) (command : ScriptCommand) (input : List ℕ) (script : ScriptInput) (text : List ℕ)
+    → SpellsInput (reads_with (length hooks) command) input script → IsTextFor hooks command input script text
+    → IsTextByHistory hooks command input script text

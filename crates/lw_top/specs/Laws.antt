@@ -6,36 +6,44 @@ use Rattle.lw_calls.specs.Orders.{is_legal}
 use Rattle.lw_grammar.specs.Script.{ScriptInput, SpellsInput}
 use Rattle.lw_machine.specs.Hook.{Hook}
 use Rattle.lw_top.specs.declared.status.Status.{Status}
-use Rattle.lw_top.specs.declared.status.Status.TheVariants.{Done, Refused, Usage, ReadFault, WriteFault, NoMemory, TooLong, BadOrder}
+use Rattle.lw_top.specs.declared.status.Status.TheVariants.{Done, Refused, Usage, ReadFault, WriteFault, NoMemory, TooLong, Differs, BadOrder}
+use Rattle.lw_top.specs.declared.words.ScriptCommand.{ScriptCommand}
+use Rattle.lw_top.specs.declared.words.ScriptCommand.TheVariants.{Run, Check, Replay, Audit}
 use Rattle.lw_top.specs.declared.words.Command.{Command}
-use Rattle.lw_top.specs.declared.words.Command.TheVariants.{Run, Check, Replay}
-use Rattle.lw_top.specs.Commands.{reads_with, IsTextFor, IsBadOrderFor}
-use Rattle.lw_top.specs.Outcome.{IsBadLineOf, IsOutcome, Answered}
+use Rattle.lw_top.specs.declared.words.Command.TheVariants.{Script}
+use Rattle.lw_top.specs.Audit.{IsMachineReport}
+use Rattle.lw_top.specs.Commands.{reads_input, reads_with, behind_script, IsTextFor, IsBadOrderFor, IsDifferenceFor}
+use Rattle.lw_top.specs.Outcome.{IsBadLineOf, IsOutcome, Promised}
 use Rattle.lw_top.specs.Status.{Says, text_of, input_limit}
 
 -- A command has an outcome on an input, whatever hooks are handed in. Its answer is one only, and so is its text, but that a run may
 -- have several legal orders, and a report for each.
-pub record IsDecided (hooks : List Hook) (command : Command) (input : List ℕ) : Type 0 where
+pub record IsDecided (hooks : List Hook) (command : ScriptCommand) (input : List ℕ) : Type 0 where
   pub some : (status : Status) × (text : List ℕ) × IsOutcome hooks command input status text
   pub one : (s q : Status) (a b : List ℕ) → IsOutcome hooks command input s a → IsOutcome hooks command input q b
       → (s ≡ q) × ((a ≡ b) ⊎ ((command ≡ Run) × (s ≡ Done)))
 
 abbrev pub OutcomesAreDecided : Type 0
-OutcomesAreDecided = (hooks : List Hook) (command : Command) (input : List ℕ) → IsDecided hooks command input
+OutcomesAreDecided = (hooks : List Hook) (command : ScriptCommand) (input : List ℕ) → IsDecided hooks command input
 
 -- the text is what a command writes for the script that the input spells
-abbrev pub IsTextOf : List Hook → Command → List ℕ → List ℕ → Type 0
-IsTextOf hooks command input text = (script : ScriptInput) × SpellsInput (reads_with (length hooks) command) input script × IsTextFor hooks command script text
+abbrev pub IsTextOf : List Hook → ScriptCommand → List ℕ → List ℕ → Type 0
+IsTextOf hooks command input text = (script : ScriptInput) × SpellsInput (reads_with (length hooks) command) input script × IsTextFor hooks command input script text
 
 -- the place is the first bad one of the order in the script that the input spells
-abbrev pub IsBadOrderOf : List Hook → Command → List ℕ → ℕ → Type 0
-IsBadOrderOf hooks command input place = (script : ScriptInput) × SpellsInput (reads_with (length hooks) command) input script × IsBadOrderFor command script place
+abbrev pub IsBadOrderOf : List Hook → ScriptCommand → List ℕ → ℕ → Type 0
+IsBadOrderOf hooks command input place = (script : ScriptInput) × SpellsInput (reads_with (length hooks) command) input script × IsBadOrderFor command input script place
 
--- a script for which a command's text is due
-abbrev pub IsDue : Command → ScriptInput → Type 0
-IsDue Run script = Unit {0}
-IsDue Check script = Unit {0}
-IsDue Replay script = is_legal script.plan script.order ≡ true
+-- the place is that at which the report behind the script isn't the machine's
+abbrev pub IsDifferenceOf : List Hook → ScriptCommand → List ℕ → ℕ → Type 0
+IsDifferenceOf hooks command input place = (script : ScriptInput) × SpellsInput (reads_with (length hooks) command) input script × IsDifferenceFor hooks command input script place
+
+-- a script in an input for which a command's text is due
+abbrev pub IsDue : List Hook → ScriptCommand → List ℕ → ScriptInput → Type 0
+IsDue hooks Run input script = Unit {0}
+IsDue hooks Check input script = Unit {0}
+IsDue hooks Replay input script = is_legal script.plan script.order ≡ true
+IsDue hooks Audit input script = IsMachineReport hooks script.plan (behind_script input script)
 
 -- the answers that a stream's fault or running out of memory gives
 abbrev pub is_stop : Status → Bool
@@ -55,14 +63,14 @@ pub record IsInput (input : List ℕ) (source : StreamChange) : Type 0 where
   pub within : length input ≤ input_limit
 
 -- The answer is the one that is due, and a text that is due with it was written whole.
-pub record IsAnswer (hooks : List Hook) (command : Command) (input : List ℕ) (due result : Status) (sink : StreamChange) : Type 0 where
+pub record IsAnswer (hooks : List Hook) (command : ScriptCommand) (input : List ℕ) (due result : Status) (sink : StreamChange) : Type 0 where
   pub text : List ℕ
   pub outcome : IsOutcome hooks command input due text
   pub same : result ≡ due
   pub written : Wrote text sink
 
--- What each answer to a command tells of what was taken, and of what the source had left where it exposes that.
-pub record AnswerTells (hooks : List Hook) (command : Command) (result : Status) (source sink : StreamChange) : Type 0 where
+-- What each answer to a command on a script tells of what was taken, and of what the source had left where it exposes that.
+pub record AnswerTells (hooks : List Hook) (command : ScriptCommand) (result : Status) (source sink : StreamChange) : Type 0 where
   -- what was written with Done, and why each other answer came
   pub done : result ≡ Done
       → (input : List ℕ) × IsInput input source × (text : List ℕ) × IsTextOf hooks command input text × Wrote text sink
@@ -80,6 +88,10 @@ pub record AnswerTells (hooks : List Hook) (command : Command) (result : Status)
       → (input : List ℕ) × IsInput input source × IsBadOrderOf hooks command input place
   pub bad_order_of_left : (place : ℕ) → result ≡ BadOrder place
       → IfSome source.old.bytes (λ input. (length input ≤ input_limit) × IsBadOrderOf hooks command input place)
+  pub differs : (place : ℕ) → result ≡ Differs place
+      → (input : List ℕ) × IsInput input source × IsDifferenceOf hooks command input place
+  pub differs_of_left : (place : ℕ) → result ≡ Differs place
+      → IfSome source.old.bytes (λ input. (length input ≤ input_limit) × IsDifferenceOf hooks command input place)
   pub write_fault : result ≡ WriteFault → HasFailed sink
   -- that it comes, unless a stream failed or memory ran out
   pub only_too_long : IfSome source.old.bytes (λ input. input_limit < length input → IsUnlessStopped TooLong result)
@@ -87,8 +99,10 @@ pub record AnswerTells (hooks : List Hook) (command : Command) (result : Status)
       → (line : ℕ) (reason : Reason) → IsBadLineOf hooks command input line reason → IsUnlessStopped (Refused line reason) result)
   pub only_bad_order : IfSome source.old.bytes (λ input. length input ≤ input_limit
       → (place : ℕ) → IsBadOrderOf hooks command input place → IsUnlessStopped (BadOrder place) result)
+  pub only_differs : IfSome source.old.bytes (λ input. length input ≤ input_limit
+      → (place : ℕ) → IsDifferenceOf hooks command input place → IsUnlessStopped (Differs place) result)
   pub only_done : IfSome source.old.bytes (λ input. length input ≤ input_limit
-      → (script : ScriptInput) → SpellsInput (reads_with (length hooks) command) input script → IsDue command script
+      → (script : ScriptInput) → SpellsInput (reads_with (length hooks) command) input script → IsDue hooks command input script
       → IsUnlessStopped Done result)
   pub complete : ¬ HasFailed source → ¬ HasFailed sink
       → IfSome source.old.bytes (λ input. (due : Status) (text : List ℕ) → IsOutcome hooks command input due text
@@ -96,9 +110,13 @@ pub record AnswerTells (hooks : List Hook) (command : Command) (result : Status)
   -- the text of each answer, whole
   pub text : result ≢ Done → result ≢ WriteFault → Wrote (text_of result) sink
 
+-- What an answer to a command tells.
+abbrev pub CommandTells : List Hook → Command → Status → StreamChange → StreamChange → Type 0
+CommandTells hooks (Script command) result source sink = AnswerTells hooks command result source sink
+
 -- What an answer to the words of a command line tells, which are this command, if they are one.
 pub record ToldOfWords (hooks : List Hook) (asked : Option Command) (result : Status) (source sink : StreamChange) : Type 0 where
-  pub told : IfSome asked (λ command. AnswerTells hooks command result source sink)
+  pub told : IfSome asked (λ command. CommandTells hooks command result source sink)
   pub usage : result ≡ Usage → asked ≡ None
   pub only_usage : asked ≡ None → (result ≡ Usage) ⊎ (result ≡ WriteFault)
   pub write_fault : result ≡ WriteFault → HasFailed sink
@@ -110,13 +128,13 @@ pub record ToldOfWords (hooks : List Hook) (asked : Option Command) (result : St
   pub taken : TakesAtMost (input_limit + 1) source.old.bytes source.new.bytes
   pub source_count : source.old.faults ≤ source.new.faults
 
--- What `layers` promises has all this in it: a command's promise, else the usage line and nothing read; and nothing written
--- after a fault of the source or running out of memory.
+-- What `layers` promises has all this in it: a command's promise, else the usage line; nothing read where the words ask for nothing
+-- that reads the input; and nothing written after a fault of the source or running out of memory.
 abbrev pub AnswersTell : Type 0
 AnswersTell =
     (hooks : List Hook) (asked : Option Command) (result : Status) (source sink : StreamChange)
-    → IfSome asked (λ command. Answered hooks command result source sink)
+    → IfSome asked (λ command. Promised hooks command result source sink)
     → (asked ≡ None → Says (text_of Usage) Usage result sink)
-    → (asked ≡ None → source.new ≡ source.old)
+    → (reads_input asked ≡ false → source.new ≡ source.old)
     → ((result ≡ ReadFault) ⊎ (result ≡ NoMemory) → sink.new ≡ sink.old)
     → ToldOfWords hooks asked result source sink

@@ -1,3 +1,5 @@
+pub mod Audit
+pub mod AuditOutcome
 pub mod Commands
 pub mod Damage
 pub mod Laws

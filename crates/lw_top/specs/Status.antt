@@ -5,7 +5,7 @@ use Rattle.lw_calls.specs.declared.reason.Reason.{Reason}
 use Rattle.lw_calls.specs.declared.reason.Reason.TheVariants.{LineTooLong, BadByte, Spacing, Quote, UnknownWord, Misplaced, Form, Range, NoName, DoubleName, Group, TooMany, NoHook, HookUsed, Padding, Missing}
 use Rattle.lw_calls.specs.Written.{line_of, spaced}
 use Rattle.lw_top.specs.declared.status.Status.{Status}
-use Rattle.lw_top.specs.declared.status.Status.TheVariants.{Done, Refused, Usage, ReadFault, WriteFault, NoMemory, TooLong, BadOrder}
+use Rattle.lw_top.specs.declared.status.Status.TheVariants.{Done, Refused, Usage, ReadFault, WriteFault, NoMemory, TooLong, Differs, BadOrder}
 
 -- the exit status of each answer
 abbrev pub number_of : Status → ℕ
@@ -16,6 +16,7 @@ number_of ReadFault = 3
 number_of WriteFault = 4
 number_of NoMemory = 5
 number_of TooLong = 6
+number_of (Differs place) = 7
 number_of (BadOrder place) = 8
 
 -- how a reason is printed
@@ -47,6 +48,7 @@ text_of ReadFault = []
 text_of WriteFault = []
 text_of NoMemory = []
 text_of TooLong = line_of (codes "too long")
+text_of (Differs place) = line_of (codes "differs at" ++ spaced place)
 text_of (BadOrder place) = line_of (codes "bad order at" ++ spaced place)
 
 -- the most bytes that an input may have

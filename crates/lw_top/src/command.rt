@@ -1,11 +1,11 @@
-ghost use Rattle.std.specs.Prelude.{◌≡◌, ◌⊎◌, ◌<◌, ◌≤◌, map, vec_len, None, IfSome};
+ghost use Rattle.std.specs.Prelude.{◌≡◌, ◌⊎◌, ◌<◌, ◌≤◌, map, vec_len, None, IfSome, false};
 ghost use Rattle.lw_io.specs.Streams.{change};
-ghost use Rattle.lw_top.specs.Commands.{command_of};
-ghost use Rattle.lw_top.specs.Outcome.{Answered};
+ghost use Rattle.lw_top.specs.Commands.{command_of, reads_input};
+ghost use Rattle.lw_top.specs.Outcome.{Promised};
 ghost use Rattle.lw_top.specs.Status.{Says, text_of};
 
 use crate::say::say;
-use crate::serving::{check, replay_cmd, run};
+use crate::serving::on_script;
 use crate::status::Status;
 use crate::words::{Command, command_of};
 use lw_backfill::Backfill;
@@ -21,7 +21,7 @@ const USAGE: &str = "usage: layers run|check|replay|audit|demo NUMBER TASKS\n";
 /// input and the sink as its output, and answers how it went. A script may name the hooks by their
 /// places from 0 on; they fill with the tiles that they have as the call starts. `run` makes each
 /// task's calls on a thread, tells the gate of each, and may wait, so the call promises no return;
-/// `check` and `replay_cmd`, which it calls for the other words, return.
+/// `check`, `replay_cmd` and `audit`, which it calls for the other words, return.
 pub fn layers<R: Threads + Wait + Sync, S: Source, K: Sink, G: Gate + Sync>(
     rt: &R,
     alloc: Global,
@@ -38,23 +38,22 @@ pub fn layers<R: Threads + Wait + Sync, S: Source, K: Sink, G: Gate + Sync>(
     // its text is written whole, unless reading failed, memory ran out, or the sink failed after a
     // prefix of the text. A fault of a stream is answered, and never passed over.
     ensures answered { IfSome (command_of words.now) (λ command.
-        Answered (map (λ b. hook b) hooks.items) command result
+        Promised (map (λ b. hook b) hooks.items) command result
         (change S.left S.faults source.old source.new)
         (change K.written K.faults sink.old sink.new)) }
-    // Words that are no command get the usage line, and nothing is read.
+    // Words that are no command get the usage line.
     ensures usage { command_of words.now ≡ None
         → Says (text_of Status.Usage) Status.Usage result
         (change K.written K.faults sink.old sink.new) }
-    ensures unread { command_of words.now ≡ None → source.new ≡ source.old }
+    // Nor is anything where they ask for nothing that reads the input.
+    ensures unread { reads_input (command_of words.now) ≡ false → source.new ≡ source.old }
     // Nothing is written where reading failed or memory ran out.
     ensures untouched { (result ≡ Status.ReadFault) ⊎ (result ≡ Status.NoMemory)
         → sink.new ≡ sink.old }
     ensures sink_count { K.faults sink.old ≤ K.faults sink.new }
 {
     match command_of(words) {
-        Some(Command::Run) => run(rt, alloc, source, sink, hooks, gate),
-        Some(Command::Check) => check(alloc, source, sink, hooks.len() as u32),
-        Some(Command::Replay) => replay_cmd(alloc, source, sink, hooks),
+        Some(Command::Script(command)) => on_script(rt, alloc, command, source, sink, hooks, gate),
         None => say(sink, USAGE.as_bytes(), Status::Usage),
     }
 }

@@ -1,6 +1,8 @@
 //! The program's calls: a script in, what a command makes of it out.
 #![tactic(auto)]
 
+mod auditing;
+mod calls;
 mod command;
 mod laws;
 mod outcome;
@@ -11,13 +13,13 @@ mod status;
 #[cfg(test)]
 mod tests;
 #[cfg(test)]
+mod tests_audit;
+#[cfg(test)]
 mod tests_commands;
 #[cfg(test)]
-mod tests_drawing;
+mod tests_cut;
 #[cfg(test)]
-mod tests_hooks;
-#[cfg(test)]
-mod tests_layers;
+mod tests_realistic;
 #[cfg(test)]
 mod tests_refusals;
 #[cfg(test)]
@@ -26,10 +28,6 @@ mod tests_spots;
 mod tests_threads;
 #[cfg(test)]
 mod tests_told;
-#[cfg(test)]
-mod tests_updates;
-#[cfg(test)]
-mod tests_windows;
 mod words;
 
 pub use command::layers;
@@ -41,6 +39,6 @@ pub use lw_backfill::Backfill;
 pub use lw_calls::Reason;
 pub use lw_io::{Failed, Sink, Source};
 pub use lw_locks::{Gate, OpenGate, Spot};
-pub use serving::{check, replay_cmd};
+pub use serving::{audit, check, replay_cmd};
 pub use status::Status;
-pub use words::Command;
+pub use words::{Command, ScriptCommand};

@@ -6,7 +6,7 @@ ghost use Rattle.lw_top.specs.Status.{input_limit, reason_text, text_of};
 
 use crate::report::{report_of, report_of_tasks};
 use crate::status::Status;
-use crate::words::Command;
+use crate::words::ScriptCommand;
 use lw_backfill::Backfill;
 use lw_calls::{Form, Reason, bad_place};
 use lw_locks::Gate;
@@ -34,7 +34,7 @@ pub fn run_outcome<B: Backfill + Send, R: Threads + Wait + Sync, G: Gate + Sync>
     requires short { length input.now ≤ input_limit }
     requires few { vec_len hooks < 4294967296 }
     ensures { IfOk result (λ outcome.
-        IsOutcome (map B.hook hooks.items) Command.Run input.now outcome.status outcome.text.items) }
+        IsOutcome (map B.hook hooks.items) ScriptCommand.Run input.now outcome.status outcome.text.items) }
 {
     match read(alloc, input, hooks.len() as u32, Form::Plain) {
         Ok(script) => Ok(done(report_of_tasks(rt, alloc, &script.plan, hooks, gate)?)),
@@ -52,7 +52,7 @@ pub fn replay_outcome<B: Backfill + Send>(
     requires short { length input.now ≤ input_limit }
     requires few { vec_len hooks < 4294967296 }
     ensures { IfOk result (λ outcome.
-        IsOutcome (map B.hook hooks.items) Command.Replay input.now outcome.status outcome.text.items) }
+        IsOutcome (map B.hook hooks.items) ScriptCommand.Replay input.now outcome.status outcome.text.items) }
 {
     match read(alloc, input, hooks.len() as u32, Form::Ordered) {
         Ok(script) => outcome_in_order(alloc, &script, hooks),
@@ -65,7 +65,7 @@ pub fn replay_outcome<B: Backfill + Send>(
 pub fn check_outcome(alloc: Global, input: &[u8], hooks: u32) -> Result<Outcome, AllocError>
     requires { length input.now ≤ input_limit }
     ensures { IfOk result (λ outcome. (given : List Hook) → length given ≡ hooks
-        → IsOutcome given Command.Check input.now outcome.status outcome.text.items) }
+        → IsOutcome given ScriptCommand.Check input.now outcome.status outcome.text.items) }
 {
     match read(alloc, input, hooks, Form::Plain) {
         Ok(script) => Ok(done(print(alloc, &script.plan)?)),
@@ -74,7 +74,7 @@ pub fn check_outcome(alloc: Global, input: &[u8], hooks: u32) -> Result<Outcome,
     }
 }
 
-fn done(text: Vec<u8>) -> Outcome
+pub(crate) fn done(text: Vec<u8>) -> Outcome
     ensures { result ≡ record { status = Status.Done; text = text } }
 {
     Outcome {
@@ -90,19 +90,25 @@ fn outcome_in_order<B: Backfill + Send>(
     hooks: Vec<B>,
 ) -> Result<Outcome, AllocError>
     requires few { length script.now.order < 4294967296 }
-    ensures { IfOk result (λ outcome. IsOutcomeFor (map B.hook hooks.items) Command.Replay (input_meaning script.now)
-        outcome.status outcome.text.items) }
+    ensures { (input : List ℕ) → IfOk result (λ outcome. IsOutcomeFor (map B.hook hooks.items) ScriptCommand.Replay input
+        (input_meaning script.now) outcome.status outcome.text.items) }
 {
     match bad_place(alloc, &script.plan, &script.order)? {
-        Some(place) => {
-            let text = bad_order_line(alloc, place)?;
-            Ok(Outcome {
-                status: Status::BadOrder { place },
-                text,
-            })
-        }
+        Some(place) => bad_order(alloc, place),
         None => Ok(done(report_of(alloc, &script.plan, hooks, &script.order)?)),
     }
+}
+
+/// The outcome where the order has this first bad place.
+pub(crate) fn bad_order(alloc: Global, place: u32) -> Result<Outcome, AllocError>
+    ensures { IfOk result (λ outcome. (outcome.status ≡ Status.BadOrder place)
+        × (outcome.text.items ≡ text_of (Status.BadOrder place))) }
+{
+    let text = bad_order_line(alloc, place)?;
+    Ok(Outcome {
+        status: Status::BadOrder { place },
+        text,
+    })
 }
 
 fn bad_order_line(alloc: Global, place: u32) -> Result<Vec<u8>, AllocError>
@@ -111,7 +117,7 @@ fn bad_order_line(alloc: Global, place: u32) -> Result<Vec<u8>, AllocError>
     Ok(format!(in alloc; "bad order at {place}\n")?.into_bytes())
 }
 
-fn refusal(alloc: Global, line: u32, reason: Reason) -> Result<Outcome, AllocError>
+pub(crate) fn refusal(alloc: Global, line: u32, reason: Reason) -> Result<Outcome, AllocError>
     ensures { IfOk result (λ outcome. (outcome.status ≡ Status.Refused line reason)
         × (outcome.text.items ≡ text_of (Status.Refused line reason))) }
 {

@@ -1,5 +1,5 @@
-//! What every command does: it reads its input, and writes the outcome's text. `check` and
-//! `replay_cmd` take no lock, and return.
+//! What every command on a script does: it reads its input, and writes the outcome's text. `check`, `replay_cmd` and `audit`
+//! take no lock, and return.
 
 ghost use Rattle.std.specs.Prelude.{◌≡◌, ◌⊎◌, ◌<◌, ◌≤◌, List, length, map, vec_len};
 ghost use Rattle.lw_io.specs.Streams.{change};
@@ -7,10 +7,11 @@ ghost use Rattle.lw_machine.specs.Hook.{Hook};
 ghost use Rattle.lw_top.specs.Outcome.{Answered};
 ghost use Rattle.lw_top.specs.Status.{Says, text_of};
 
+use crate::auditing::audit_outcome;
 use crate::outcome::{check_outcome, replay_outcome, run_outcome};
 use crate::say::say;
 use crate::status::Status;
-use crate::words::Command;
+use crate::words::ScriptCommand;
 use lw_backfill::Backfill;
 use lw_io::{ReadStop, Sink, Source, read_all};
 use lw_locks::Gate;
@@ -19,6 +20,31 @@ use std::sync::Wait;
 use std::thread::Threads;
 
 const INPUT_LIMIT: usize = 4_194_304;
+
+/// Does what a command says with the script in the source, with these hooks. `run` may wait, so it promises no return.
+pub fn on_script<R: Threads + Wait + Sync, S: Source, K: Sink, G: Gate + Sync>(
+    rt: &R,
+    alloc: Global,
+    command: ScriptCommand,
+    source: &mut S,
+    sink: &mut K,
+    hooks: Vec<Box<dyn Backfill + Send>>,
+    gate: &G,
+) -> Status
+    requires few { vec_len hooks < 4294967296 }
+    ensures answered { Answered (map (λ b. hook b) hooks.items) command result
+        (change S.left S.faults source.old source.new)
+        (change K.written K.faults sink.old sink.new) }
+    ensures untouched { (result ≡ Status.ReadFault) ⊎ (result ≡ Status.NoMemory)
+        → sink.new ≡ sink.old }
+{
+    match command {
+        ScriptCommand::Run => run(rt, alloc, source, sink, hooks, gate),
+        ScriptCommand::Check => check(alloc, source, sink, hooks.len() as u32),
+        ScriptCommand::Replay => replay_cmd(alloc, source, sink, hooks),
+        ScriptCommand::Audit => audit(alloc, source, sink, hooks),
+    }
+}
 
 /// Runs a script with these hooks, each task on a thread, and tells the gate of each call: reads
 /// the source to its end and writes the report, or the text of another answer. It may wait, and so
@@ -32,7 +58,7 @@ pub fn run<B: Backfill + Send, R: Threads + Wait + Sync, S: Source, K: Sink, G: 
     gate: &G,
 ) -> Status
     requires few { vec_len hooks < 4294967296 }
-    ensures answered { Answered (map B.hook hooks.items) Command.Run result
+    ensures answered { Answered (map B.hook hooks.items) ScriptCommand.Run result
         (change S.left S.faults source.old source.new)
         (change K.written K.faults sink.old sink.new) }
     ensures untouched { (result ≡ Status.ReadFault) ⊎ (result ≡ Status.NoMemory)
@@ -53,7 +79,7 @@ pub fn run<B: Backfill + Send, R: Threads + Wait + Sync, S: Source, K: Sink, G: 
 pub fn check<S: Source, K: Sink>(alloc: Global, source: &mut S, sink: &mut K, hooks: u32) -> Status
     // Whichever hooks these are.
     ensures answered { (given : List Hook) → length given ≡ hooks
-        → Answered given Command.Check result
+        → Answered given ScriptCommand.Check result
         (change S.left S.faults source.old source.new)
         (change K.written K.faults sink.old sink.new) }
     ensures untouched { (result ≡ Status.ReadFault) ⊎ (result ≡ Status.NoMemory)
@@ -78,7 +104,7 @@ pub fn replay_cmd<S: Source, K: Sink>(
     hooks: Vec<Box<dyn Backfill + Send>>,
 ) -> Status
     requires few { vec_len hooks < 4294967296 }
-    ensures answered { Answered (map (λ b. hook b) hooks.items) Command.Replay result
+    ensures answered { Answered (map (λ b. hook b) hooks.items) ScriptCommand.Replay result
         (change S.left S.faults source.old source.new)
         (change K.written K.faults sink.old sink.new) }
     ensures untouched { (result ≡ Status.ReadFault) ⊎ (result ≡ Status.NoMemory)
@@ -95,7 +121,7 @@ fn replay<S: Source, K: Sink, B: Backfill + Send>(
     hooks: Vec<B>,
 ) -> Status
     requires few { vec_len hooks < 4294967296 }
-    ensures answered { Answered (map B.hook hooks.items) Command.Replay result
+    ensures answered { Answered (map B.hook hooks.items) ScriptCommand.Replay result
         (change S.left S.faults source.old source.new)
         (change K.written K.faults sink.old sink.new) }
     ensures untouched { (result ≡ Status.ReadFault) ⊎ (result ≡ Status.NoMemory)
@@ -103,6 +129,48 @@ fn replay<S: Source, K: Sink, B: Backfill + Send>(
 {
     match read_all(alloc, source, INPUT_LIMIT) {
         Ok(input) => match replay_outcome(alloc, input.as_slice(), hooks) {
+            Ok(outcome) => say(sink, outcome.text.as_slice(), outcome.status),
+            Err(_) => Status::NoMemory,
+        },
+        Err(stop) => say_stop(sink, stop),
+    }
+}
+
+/// Compares the report that stands behind a script, after its line `report`, with the machine's report
+/// in the order with which it begins, with these hooks: reads the source to its end and writes `same`,
+/// or the text of another answer. It takes no lock, and returns.
+pub fn audit<S: Source, K: Sink>(
+    alloc: Global,
+    source: &mut S,
+    sink: &mut K,
+    hooks: Vec<Box<dyn Backfill + Send>>,
+) -> Status
+    requires few { vec_len hooks < 4294967296 }
+    ensures answered { Answered (map (λ b. hook b) hooks.items) ScriptCommand.Audit result
+        (change S.left S.faults source.old source.new)
+        (change K.written K.faults sink.old sink.new) }
+    ensures untouched { (result ≡ Status.ReadFault) ⊎ (result ≡ Status.NoMemory)
+        → sink.new ≡ sink.old }
+{
+    audited(alloc, source, sink, hooks)
+}
+
+// The same with hooks of any one type.
+fn audited<S: Source, K: Sink, B: Backfill + Send>(
+    alloc: Global,
+    source: &mut S,
+    sink: &mut K,
+    hooks: Vec<B>,
+) -> Status
+    requires few { vec_len hooks < 4294967296 }
+    ensures answered { Answered (map B.hook hooks.items) ScriptCommand.Audit result
+        (change S.left S.faults source.old source.new)
+        (change K.written K.faults sink.old sink.new) }
+    ensures untouched { (result ≡ Status.ReadFault) ⊎ (result ≡ Status.NoMemory)
+        → sink.new ≡ sink.old }
+{
+    match read_all(alloc, source, INPUT_LIMIT) {
+        Ok(input) => match audit_outcome(alloc, input.as_slice(), hooks) {
             Ok(outcome) => say(sink, outcome.text.as_slice(), outcome.status),
             Err(_) => Status::NoMemory,
         },

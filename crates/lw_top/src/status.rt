@@ -20,12 +20,15 @@ pub enum Status {
     NoMemory,
     /// The input has more than 4,194,304 bytes.
     TooLong,
+    /// The report that stands behind a script isn't the machine's, and this is the first place, counted from 0, at which it
+    /// isn't.
+    Differs { place: u64 },
     /// The order isn't legal, from this place on, counted from 0.
     BadOrder { place: u32 },
 }
 
 impl Status {
-    /// The exit status: 0 to 6, or 8.
+    /// The exit status: 0 to 8.
     pub fn number(&self) -> u8
         ensures { result ≡ number_of self.now }
     {
@@ -37,6 +40,7 @@ impl Status {
             Status::WriteFault => 4,
             Status::NoMemory => 5,
             Status::TooLong => 6,
+            Status::Differs { .. } => 7,
             Status::BadOrder { .. } => 8,
         }
     }

@@ -122,82 +122,13 @@ fn scripts_give_their_reports(rt: HostRuntime) -> Result<(), Fail> {
     Ok(())
 }
 
-// A number that no call has.
-const NEVER: u32 = 4_294_967_295;
-
-// What `run` answers to the first fill, and what it writes, where a call of each stream may fail.
-fn run_with_faults<R: Threads + Wait + AllocGlobal + Sync>(
-    rt: &R,
-    (read_step, read_fault): (usize, u32),
-    (room, write_step, write_fault): (usize, usize, u32),
-) -> Result<(Status, Vec<u8>), AllocError> {
-    let alloc = rt.alloc();
-    let words = vec![in alloc; word(alloc, "run")?]?;
-    let mut source = source_of(alloc, FIRST_FILL, read_step, &[read_fault])?;
-    let mut sink = sink_of(alloc, room, write_step, &[write_fault])?;
-    let status = layers(
-        rt,
-        alloc,
-        words.as_slice(),
-        &mut source,
-        &mut sink,
-        Vec::new(alloc),
-        &OpenGate,
-    );
-    let text = Vec::from_slice(alloc, sink.bytes())?;
-    Ok((status, text))
-}
-
-#[test]
-fn sources_of_any_pieces_and_faults(rt: HostRuntime) -> Result<(), Fail> {
-    // how many bytes a call moves, and the call that fails
-    let table = [
-        (1, NEVER, Status::Done),
-        (7, NEVER, Status::Done),
-        // The first read fails, one in the middle, and the one that would find the end. One after the end is not made.
-        (69, 0, Status::ReadFault),
-        (5, 1, Status::ReadFault),
-        (69, 1, Status::ReadFault),
-        (69, 2, Status::Done),
-    ];
-    for (step, fault, due) in table {
-        let (status, text) = run_with_faults(&rt, (step, fault), (108, 4096, NEVER))?;
-        assert_eq!(rt; status, due);
-        assert_eq!(rt; text.is_empty(), due == Status::ReadFault);
-    }
-    Ok(())
-}
-
-#[test]
-fn sinks_of_any_pieces_and_faults(rt: HostRuntime) -> Result<(), Fail> {
-    // the sink's room, how many bytes a call moves, the call that fails, and how many bytes are written
-    let table = [
-        (4096, 7, NEVER, Status::Done, 108),
-        (108, 4096, NEVER, Status::Done, 108),
-        // The first write fails, one in the middle, and the last. One after the last is not made.
-        (4096, 1, 0, Status::WriteFault, 0),
-        (4096, 10, 1, Status::WriteFault, 10),
-        (4096, 1, 107, Status::WriteFault, 107),
-        (4096, 1, 108, Status::Done, 108),
-        // The sink's room is used up.
-        (10, 10, NEVER, Status::WriteFault, 10),
-        (0, 4096, NEVER, Status::WriteFault, 0),
-    ];
-    for (room, step, fault, due, count) in table {
-        let (status, text) = run_with_faults(&rt, (4096, NEVER), (room, step, fault))?;
-        assert_eq!(rt; status, due);
-        assert_eq!(rt; Some(text.as_slice()), FIRST_FILL_REPORT.get(..count));
-    }
-    Ok(())
-}
-
 #[test]
 fn words_that_are_no_command_get_the_usage_line(rt: HostRuntime) -> Result<(), Fail> {
     let alloc = rt.alloc();
     let table: [&[&str]; 5] = [
         &[],
         &["run", "run"],
-        &["audit"],
+        &["audit", "1"],
         &["demo", "1", "17"],
         &["demo", "01", "2"],
     ];

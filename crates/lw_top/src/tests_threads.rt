@@ -1,8 +1,8 @@
 //! `run` with its tasks on threads: tasks that hold one another up, and the reports of many runs.
 use crate::Status;
 use crate::tests::{answer_through, answer_with_six};
+use crate::tests_realistic::REALISTIC;
 use crate::tests_spots::{Spots, soon_comes_to, waits_for};
-use crate::tests_windows::REALISTIC;
 use lw_backfill::{Backfill, Solid};
 use lw_calls::{Form, Plan};
 use lw_locks::{Gate, Spot};
@@ -487,6 +487,31 @@ fn replayed<R: Threads + Wait + AllocGlobal + Sync>(
     answer_with_six(rt, "replay", script, after.as_slice())
 }
 
+// What `audit` answers to a script and a report of it, with the six hooks of `main`.
+fn audited<R: Threads + Wait + AllocGlobal + Sync>(
+    rt: &R,
+    script: &[u8],
+    report: &[u8],
+) -> Result<Status, AllocError> {
+    let mut after = Vec::from_slice(rt.alloc(), b"report\n")?;
+    after.extend_from_slice(report)?;
+    let (status, text) = answer_with_six(rt, "audit", script, after.as_slice())?;
+    let said = text.as_slice() == b"same\n".as_slice();
+    Ok(if (status == Status::Done) == said {
+        status
+    } else {
+        Status::Usage
+    })
+}
+
+// Where the first row of a report's planes begins.
+fn first_digit(report: &[u8]) -> usize {
+    let planes = report
+        .windows(8)
+        .position(|bytes| bytes == b"plane 0\n".as_slice());
+    planes.unwrap_or(0).saturating_add(8)
+}
+
 // Runs a script on threads, and compares the report with that of its own order.
 fn runs_as_replayed<R: Threads + Wait + Abort + AllocGlobal + Sync>(
     rt: &R,
@@ -524,6 +549,19 @@ fn windows_of_three_tasks_run_in_some_order(rt: HostRuntime) -> Result<(), Fail>
     let (status, again) = replayed(&rt, REALISTIC, text.as_slice())?;
     assert_eq!(rt; status, Status::Done);
     assert_eq!(rt; again.as_slice(), text.as_slice());
+    assert_eq!(rt; audited(&rt, REALISTIC, text.as_slice())?, Status::Done);
+    // The first hexadecimal digit of the planes is another one.
+    let (mut changed, digit) = (text, first_digit(again.as_slice()));
+    if let Some(byte) = changed.as_mut_slice().get_mut(digit) {
+        *byte = if *byte == b'7' { b'8' } else { b'7' };
+    }
+    let status = audited(&rt, REALISTIC, changed.as_slice())?;
+    assert_eq!(rt;
+        status,
+        Status::Differs {
+            place: digit as u64
+        }
+    );
     Ok(())
 }
 

@@ -1,15 +1,8 @@
-use Rattle.std.proofs.Common.{List, [], ℕ, replicate, subst}
-use Rattle.std.proofs.lemmas.List.{length-replicate}
+use Rattle.std.proofs.Common.{List, ℕ, subst}
 use Rattle.lw_io.specs.Streams.{change}
-use Rattle.lw_machine.specs.Hook.{Hook}
 use Rattle.lw_top.specs.declared.status.Status.TheVariants.{Usage}
 use Rattle.lw_top.specs.Status.{Says}
 use Rattle.lw_top.proofs.command.layers.Goals as goal
-
-pub returns-in-Some-Check-clause-sink_count : goal.returns-in-Some-Check-clause-sink_count
-returns-in-Some-Check-clause-sink_count g c =
-    let hook : Hook = record { tiles = []; place = 0 } in
-    (c.check.ensures.answered (replicate c.len.result hook) (length-replicate c.len.result hook)).sink_count
 
 pub returns-in-None-clause-usage : goal.returns-in-None-clause-usage
 returns-in-None-clause-usage g c =

@@ -6,7 +6,7 @@ use Rattle.lw_calls.specs.declared.form.Form.TheVariants.{Ordered}
 use Rattle.lw_grammar.specs.Lines.{lines}
 use Rattle.lw_grammar.specs.Script.{SpellsInput, IsFirstBadIn, reading_with}
 use Rattle.lw_script.specs.Answers.{input_meaning}
-use Rattle.lw_top.specs.declared.words.Command.TheVariants.{Replay}
+use Rattle.lw_top.specs.declared.words.ScriptCommand.TheVariants.{Replay}
 use Rattle.lw_top.specs.Commands.{reads_with}
 use Rattle.lw_top.proofs.OrderLength.{order_few}
 use Rattle.lw_top.proofs.Outcomes.{outcome_of_script, refused_outcome}
@@ -23,7 +23,7 @@ returns-in-Ok g c =
     let hooks : List Hook = map (λ b. g.B.Backfill.hook b) c.args.hooks.items in
     let many : c.len.result ≡ length hooks = (let e = length-map c.args.hooks.items (λ b. g.B.Backfill.hook b) in let k = c.args.hooks.ok.0 in let n = c.len.ensures in omega (arith, e, k, n)) in
     let P : ℕ → Type 0 = λ n. SpellsInput (reads_with n Replay) c.args.input.now (input_meaning c.in-Ok.script) in
-    IfOk-weaker c.outcome_in_order.result _ _ (λ outcome h. outcome_of_script hooks Replay c.args.input.now (input_meaning c.in-Ok.script) outcome.status outcome.text.items c.requires.short (subst P many c.in-Ok.ensures.found) h) c.outcome_in_order.ensures
+    IfOk-weaker c.outcome_in_order.result _ _ (λ outcome h. outcome_of_script hooks Replay c.args.input.now (input_meaning c.in-Ok.script) outcome.status outcome.text.items c.requires.short (subst P many c.in-Ok.ensures.found) h) (c.outcome_in_order.ensures c.args.input.now)
 
 pub returns-in-Err-Refused : goal.returns-in-Err-Refused
 returns-in-Err-Refused g c =

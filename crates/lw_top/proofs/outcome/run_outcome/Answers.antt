@@ -3,7 +3,7 @@ use Rattle.std.proofs.lemmas.List.{length-map}
 use Rattle.lw_machine.specs.Hook.{Hook}
 use Rattle.lw_grammar.specs.Script.{SpellsInput}
 use Rattle.lw_script.specs.Answers.{input_meaning}
-use Rattle.lw_top.specs.declared.words.Command.TheVariants.{Run}
+use Rattle.lw_top.specs.declared.words.ScriptCommand.TheVariants.{Run}
 use Rattle.lw_top.specs.Commands.{reads_with}
 use Rattle.lw_top.proofs.Outcomes.{done_outcome}
 use Rattle.lw_top.proofs.outcome.run_outcome.Goals as goal

@@ -2,7 +2,7 @@ use Rattle.std.proofs.Common.{◌≡◌, List, [], length, replicate, Err, ap, s
 use Rattle.std.proofs.lemmas.List.{length-replicate}
 use Rattle.lw_io.specs.Streams.{change}
 use Rattle.lw_machine.specs.Hook.{Hook}
-use Rattle.lw_top.specs.declared.words.Command.TheVariants.{Check}
+use Rattle.lw_top.specs.declared.words.ScriptCommand.TheVariants.{Check}
 use Rattle.lw_top.specs.Outcome.{IsOutcome}
 use Rattle.lw_top.proofs.AnswerLaws.{said_not_stopped}
 use Rattle.lw_top.proofs.Unread.{unread}

@@ -1,5 +1,5 @@
 use Rattle.std.proofs.Common.{map, Err, ap}
-use Rattle.lw_top.specs.declared.words.Command.TheVariants.{Replay}
+use Rattle.lw_top.specs.declared.words.ScriptCommand.TheVariants.{Replay}
 use Rattle.lw_top.proofs.Unread.{unread}
 use Rattle.lw_top.proofs.serving.replay.Goals as goal
 

@@ -1,5 +1,5 @@
 use Rattle.std.proofs.Common.{map, Err, ap}
-use Rattle.lw_top.specs.declared.words.Command.TheVariants.{Run}
+use Rattle.lw_top.specs.declared.words.ScriptCommand.TheVariants.{Run}
 use Rattle.lw_top.proofs.Unread.{unread}
 use Rattle.lw_top.proofs.serving.run.Goals as goal
 

@@ -1,5 +1,5 @@
-use crate::Status;
-use crate::tests::answer_with_six;
+use crate::answers::answer_to;
+use lw_top::Status;
 use std::test::Fail;
 
 // Each of the six hooks: pens 1 1 in a, 2 2 in b, 0 1 in c and 2 3 in d. The hook of e has the pens 1 2 3 in turn, so its
@@ -65,7 +65,7 @@ done
 
 #[test]
 fn layers_are_filled_by_their_hooks(rt: HostRuntime) -> Result<(), Fail> {
-    let (status, text) = answer_with_six(&rt, "run", HOOKED, b"")?;
+    let (status, text) = answer_to(&rt, "run", HOOKED, b"")?;
     assert_eq!(rt; status, Status::Done);
     assert_eq!(rt; text.as_slice(), HOOKED_REPORT);
     Ok(())

@@ -1,5 +1,5 @@
-use crate::Status;
-use crate::tests::answer_to;
+use crate::answers::answer_to;
+use lw_top::Status;
 use std::test::Fail;
 
 // Scripts that create layers, put them in front and behind, place them and look for them, and their reports.
