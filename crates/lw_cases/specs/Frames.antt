@@ -1,16 +1,18 @@
 -- Worked cases.
 -- Plans of framed windows that become active and inactive, and their reports.
-use Rattle.std.specs.Prelude.{ℕ, true, List, [], ◌∷◌, ◌++◌, pos, neg_ℤ, Option, codes}
+use Rattle.std.specs.Prelude.{ℕ, true, List, [], ◌∷◌, ◌++◌, replicate, pos, neg_ℤ, Option, codes}
 use Rattle.lw_calls.specs.declared.make.Kind.TheVariants.{Simple, Smart}
-use Rattle.lw_calls.specs.declared.call.Call.TheVariants.{Close, ToFront, MoveBy, SizeBy, Activate, SetTitle, SetMask, Clip}
+use Rattle.lw_calls.specs.declared.call.Call.TheVariants.{Close, ToFront, MoveBy, SizeBy, Activate, SetA, SetMode, SetMask, ReadPixel, Clip, BeginRefresh, EndRefresh, SetTitle}
+use Rattle.lw_calls.specs.declared.reply.Reply.{Reply}
+use Rattle.lw_calls.specs.declared.group.Hold.TheVariants.{Slot}
 use Rattle.lw_planes.specs.Bitmap.{pen_at}
-use Rattle.lw_machine.specs.Layer.{Slot, Unopened, Live, Closed}
+use Rattle.lw_machine.specs.Layer.{Slot as LayerSlot, Unopened, Live, Closed}
 use Rattle.lw_calls.specs.Plan.{Plan}
 use Rattle.lw_calls.specs.Entries.{entries, only_order}
-use Rattle.lw_machine.specs.History.{machine}
+use Rattle.lw_machine.specs.History.{machine, replies_of}
 use Rattle.lw_machine.specs.Finals.{opening_desk}
 use Rattle.lw_cases.specs.Windows.{frame_widened}
-use Rattle.lw_cases.specs.Plans.{text, one_task, further, with_glyph, create, open_window, fill}
+use Rattle.lw_cases.specs.Plans.{text, one_task, further, grouped, with_glyph, create, open_window, fill}
 
 -- Two windows of the least size, side by side, of which the first and then the second is made active. Then the first gets a
 -- title, of whose glyph each second row has its left column.
@@ -80,7 +82,7 @@ frame_covered =
     one_task 16 14 2 (codes "w" ∷ codes "c" ∷ []) (open_window 0 Simple 0 0 9 14 true 0 [] ∷ create 1 Smart 3 10 5 12 ∷ SetTitle 0 [] ∷ [])
 
 -- the pen at a pixel of a slot's bits, kept or not, at the end of a run
-abbrev pub pen_in : Slot → ℕ → ℕ → ℕ
+abbrev pub pen_in : LayerSlot → ℕ → ℕ → ℕ
 pen_in Unopened x y = 0
 pen_in (Live l) x y = pen_at l.bits x y
 pen_in Closed x y = 0
@@ -91,3 +93,24 @@ pen_after plan slot x y = pen_in ((machine (opening_desk plan []) (entries plan 
 -- the active window at the end of a run
 abbrev pub active_after : Plan → Option ℕ
 active_after plan = (machine (opening_desk plan []) (entries plan [] (only_order plan))).active
+
+-- the replies of a plan's one task
+abbrev pub replies_to : Plan → List Reply
+replies_to plan = replies_of (opening_desk plan []) 0 (entries plan [] (only_order plan))
+
+-- The active window, a pixel of whose frame is painted over, is made active once more, and the pixel read.
+abbrev pub activated_twice : Plan
+activated_twice =
+    one_task 16 14 2 (codes "w" ∷ []) (open_window 0 Smart 0 0 9 14 true 0 [] ∷ Activate 0 ∷ SetA 0 3 ∷ fill 0 0 0 0 0 ∷ Activate 0 ∷ ReadPixel 0 (pos 0) (pos 0) ∷ [])
+
+-- A title whose glyph has a pixel on the left in its first row and none in its second, under INVERSVID.
+abbrev pub inverse_title : Plan
+inverse_title =
+    with_glyph 66 (128 ∷ 0 ∷ 0 ∷ 0 ∷ 0 ∷ 0 ∷ 0 ∷ 0 ∷ [])
+    (one_task 16 14 2 (codes "w" ∷ []) (open_window 0 Smart 0 0 9 14 true 0 [] ∷ SetMode 0 4 ∷ SetTitle 0 (codes "B") ∷ ReadPixel 0 (pos 4) (pos 2) ∷ ReadPixel 0 (pos 4) (pos 3) ∷ []))
+
+-- A title of a full glyph within an update in which nothing is drawable, on a window with room for five of its columns.
+abbrev pub updated_title : Plan
+updated_title =
+    with_glyph 66 (replicate 8 255)
+    (grouped (one_task 16 14 2 (codes "w" ∷ []) (open_window 0 Smart 0 0 13 14 true 0 [] ∷ BeginRefresh 0 ∷ SetTitle 0 (codes "B") ∷ EndRefresh 0 true ∷ ReadPixel 0 (pos 4) (pos 2) ∷ ReadPixel 0 (pos 8) (pos 9) ∷ ReadPixel 0 (pos 9) (pos 9) ∷ [])) (record { first = 1; last = 3; hold = Slot 0 }))

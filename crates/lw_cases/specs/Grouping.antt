@@ -3,7 +3,7 @@
 use Rattle.std.specs.Prelude.{ℕ, ◌-◌, Bool, List, [], ◌∷◌, length}
 use Rattle.lw_calls.specs.declared.call.Call.{Call}
 use Rattle.lw_calls.specs.declared.group.Hold.{Hold}
-use Rattle.lw_calls.specs.declared.group.Hold.TheVariants.{Slot}
+use Rattle.lw_calls.specs.declared.group.Hold.TheVariants.{Slot, All}
 use Rattle.lw_calls.specs.declared.group.Group.{Group}
 use Rattle.lw_calls.specs.Plan.{Plan, group_fits}
 use Rattle.lw_cases.specs.Plans.{fill}
@@ -20,6 +20,10 @@ fit_as hold calls = group_fits calls (record { first = 0; last = length calls - 
 -- a lock on the first layer, from one of a task's calls to another
 abbrev pub lock_from : ℕ → ℕ → Group
 lock_from first last = record { first = first; last = last; hold = Slot 0 }
+
+-- a hold of all layers, from one of a task's calls to another
+abbrev pub hold_from : ℕ → ℕ → Group
+hold_from first last = record { first = first; last = last; hold = All }
 
 -- a fill of a layer's first pixel
 abbrev pub fill_first : ℕ → Call

@@ -3,11 +3,11 @@
 use Rattle.std.specs.Prelude.{ℕ, true, false, List, [], ◌∷◌, ◌++◌, replicate, pos, neg_ℤ, Some, codes}
 use Rattle.lw_calls.specs.declared.make.Kind.TheVariants.{Simple, Smart}
 use Rattle.lw_calls.specs.declared.make.Place.TheVariants.{Behind}
-use Rattle.lw_calls.specs.declared.call.Call.TheVariants.{Create, Close, SizeBy, SetRast, BeginRefresh, EndRefresh}
+use Rattle.lw_calls.specs.declared.call.Call.TheVariants.{Create, OpenWindow, Close, SizeBy, Activate, ReadPixel, SetRast, BeginRefresh, EndRefresh}
 use Rattle.lw_calls.specs.declared.group.Hold.TheVariants.{Slot}
 use Rattle.lw_machine.specs.Hook.{Hook}
 use Rattle.lw_calls.specs.Plan.{Plan}
-use Rattle.lw_cases.specs.Plans.{text, one_task, further, grouped, with_hooks, six_hooks, layer, create, create_hooked}
+use Rattle.lw_cases.specs.Plans.{text, one_task, further, grouped, with_hooks, six_hooks, box, layer, create, create_hooked}
 
 -- a layer that is made two columns narrower, and then as wide as before
 abbrev pub growth_filled : Plan
@@ -111,3 +111,23 @@ hook_dropped = further hook_named_again (Close 1 ∷ create_hooked 3 Smart 8 0 1
 abbrev pub hook_dropped_report : List ℕ
 hook_dropped_report =
     text (codes "order 5/0 0 0 0 0/planes 16 1 1/plane 0/0000/visible w 1/4 0 7 0/visible x 1/8 0 11 0/damage w 0/damage x 0/" ++ codes "replies a 5/out-of-bounds/ok/ok/ok/ok/done/")
+
+-- A smart layer grows under a cover.
+abbrev pub grown_under_a_cover : Plan
+grown_under_a_cover =
+    with_hooks six_hooks
+    (one_task 16 1 1 (codes "w" ∷ codes "c" ∷ []) (create_hooked 0 Smart 0 0 3 0 0 ∷ create 1 Smart 4 0 7 0 ∷ SizeBy 0 (pos 2) (pos 0) ∷ ReadPixel 0 (pos 4) (pos 0) ∷ []))
+
+abbrev pub grown_under_a_cover_report : List ℕ
+grown_under_a_cover_report =
+    text (codes "order 4/0 0 0 0/planes 16 1 1/plane 0/f000/visible w 1/0 0 3 0/visible c 1/4 0 7 0/damage w 1/4 0 5 0/damage c 0/" ++ codes "replies a 4/ok/ok/ok/pen 1/done/")
+
+-- A window with a hook of several tiles is made active, which fills nothing, and grows twice by a column.
+abbrev pub grown_twice : Plan
+grown_twice =
+    with_hooks six_hooks
+    (one_task 16 1 2 (codes "w" ∷ []) (OpenWindow 0 (record (box Smart 0 0 4 1) { hook = Some 4 }) false false 0 [] ∷ Activate 0 ∷ SizeBy 0 (pos 1) (pos 0) ∷ SizeBy 0 (pos 1) (pos 0) ∷ []))
+
+abbrev pub grown_twice_report : List ℕ
+grown_twice_report =
+    text (codes "order 4/0 0 0 0/planes 16 1 2/plane 0/f400/plane 1/0c00/visible w 1/0 0 5 0/damage w 1/4 0 5 0/messages w 0/" ++ codes "replies a 4/ok/ok/ok/ok/done/")

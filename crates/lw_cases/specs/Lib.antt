@@ -30,3 +30,8 @@ pub mod Histories
 pub mod OwnDamage
 pub mod Fitting
 pub mod Grouping
+pub mod CallTables
+pub mod CallLimits
+pub mod Touching
+pub mod SlotsAndTasks
+pub mod PlanLimits

@@ -1,8 +1,8 @@
 -- Worked cases.
 -- Plans that paint through masks and in modes, and their reports.
-use Rattle.std.specs.Prelude.{ℕ, List, [], ◌∷◌, ◌++◌, pos, neg_ℤ, codes}
+use Rattle.std.specs.Prelude.{ℕ, List, [], ◌∷◌, ◌++◌, replicate, pos, neg_ℤ, codes}
 use Rattle.lw_calls.specs.declared.make.Kind.TheVariants.{Smart}
-use Rattle.lw_calls.specs.declared.call.Call.TheVariants.{SetA, SetB, SetMode, SetMask, At, WritePixel, DrawTo, Letters, SetRast}
+use Rattle.lw_calls.specs.declared.call.Call.TheVariants.{SetA, SetB, SetMode, SetMask, At, WritePixel, ReadPixel, DrawTo, Letters, SetRast}
 use Rattle.lw_calls.specs.Plan.{Plan}
 use Rattle.lw_cases.specs.Plans.{text, one_task, with_glyph, create, fill}
 
@@ -81,3 +81,39 @@ inverse_shapes =
 abbrev pub inverse_shapes_report : List ℕ
 inverse_shapes_report =
     text (codes "order 9/0 0 0 0 0 0 0 0 0/planes 16 1 2/plane 0/2500/plane 1/da00/visible w 1/0 0 7 0/damage w 0/" ++ codes "replies a 9/ok/ok/ok/ok/ok/ok/ok/ok/ok/done/")
+
+-- a letter, a line and a pixel through the mask of the first plane, on pen 2
+abbrev pub masked_shapes : Plan
+masked_shapes =
+    with_low_letter (one_task 16 1 2 (codes "w" ∷ []) (create 0 Smart 0 0 15 0 ∷ SetRast 0 2 ∷ SetMask 0 1 ∷ Letters 0 (codes "A") ∷ At 0 (pos 8) (pos 0) ∷ DrawTo 0 (pos 9) (pos 0) ∷ WritePixel 0 (pos 12) (pos 0) ∷ []))
+
+abbrev pub masked_shapes_report : List ℕ
+masked_shapes_report =
+    text (codes "order 7/0 0 0 0 0 0 0/planes 16 1 2/plane 0/ccc8/plane 1/ffff/visible w 1/0 0 15 0/damage w 0/" ++ codes "replies a 7/ok/ok/ok/ok/ok/ok/ok/done/")
+
+-- a pixel that is written once in the mode COMPLEMENT, and one that is written twice
+abbrev pub pixels_complemented : Plan
+pixels_complemented =
+    one_task 16 1 1 (codes "w" ∷ []) (create 0 Smart 0 0 7 0 ∷ SetMode 0 2 ∷ WritePixel 0 (pos 0) (pos 0) ∷ WritePixel 0 (pos 1) (pos 0) ∷ WritePixel 0 (pos 1) (pos 0) ∷ [])
+
+abbrev pub pixels_complemented_report : List ℕ
+pixels_complemented_report =
+    text (codes "order 5/0 0 0 0 0/planes 16 1 1/plane 0/8000/visible w 1/0 0 7 0/damage w 0/replies a 5/ok/ok/ok/ok/ok/done/")
+
+-- a pixel of pen 3 that is read while the mask has the first plane alone
+abbrev pub read_while_masked : Plan
+read_while_masked =
+    one_task 16 1 2 (codes "w" ∷ []) (create 0 Smart 0 0 7 0 ∷ SetRast 0 3 ∷ SetMask 0 1 ∷ ReadPixel 0 (pos 0) (pos 0) ∷ [])
+
+abbrev pub read_while_masked_report : List ℕ
+read_while_masked_report =
+    text (codes "order 4/0 0 0 0/planes 16 1 2/plane 0/ff00/plane 1/ff00/visible w 1/0 0 7 0/damage w 0/replies a 4/ok/ok/ok/pen 3/done/")
+
+-- The codes 0x7f, 0x7e and 0xff, of which the second has a glyph of eight full rows. (No script spells the others.)
+abbrev pub codes_round_the_last : Plan
+codes_round_the_last =
+    with_glyph 126 (replicate 8 255) (one_task 24 1 1 (codes "w" ∷ []) (create 0 Smart 0 0 23 0 ∷ Letters 0 (127 ∷ 126 ∷ 255 ∷ []) ∷ []))
+
+abbrev pub codes_round_the_last_report : List ℕ
+codes_round_the_last_report =
+    text (codes "order 2/0 0/planes 24 1 1/plane 0/00ff0000/visible w 1/0 0 23 0/damage w 0/replies a 2/ok/ok/done/")

@@ -36,3 +36,16 @@ own_registers_order = 0 ∷ 0 ∷ 0 ∷ 1 ∷ 0 ∷ 0 ∷ []
 abbrev pub own_registers_report : List ℕ
 own_registers_report =
     text (codes "order 6/0 0 0 1 0 0/planes 16 1 1/plane 0/0000/visible w 1/0 0 3 0/damage w 0/" ++ codes "replies a 5/ok/ok/none/ok/region 0/replies b 1/region 1 0 0 1 0/done/")
+
+-- The first task opens a window and begins an update, and the second is to begin one too. (No script spells this, since an
+-- update there is a group.)
+abbrev pub foreign_update : Plan
+foreign_update =
+    with_second_task (BeginRefresh 0 ∷ []) [] (one_task 16 1 1 (codes "w" ∷ []) (open_window 0 Smart 0 0 4 1 false 0 [] ∷ BeginRefresh 0 ∷ []))
+
+abbrev pub foreign_update_order : List ℕ
+foreign_update_order = 0 ∷ 0 ∷ 1 ∷ []
+
+abbrev pub foreign_update_report : List ℕ
+foreign_update_report =
+    text (codes "order 3/0 0 1/planes 16 1 1/plane 0/0000/visible w 1/0 0 3 0/damage w 0/messages w 0/replies a 2/ok/ok/replies b 1/not-owner/done/")

@@ -95,3 +95,17 @@ scroll_from_damage =
 abbrev pub scroll_from_damage_report : List ℕ
 scroll_from_damage_report =
     text (codes "order 5/0 0 0 0 0/planes 16 1 1/plane 0/1000/visible s 1/0 0 3 0/damage s 1/2 0 3 0/replies a 5/ok/ok/ok/ok/ok/done/")
+
+-- a layer of pen 1 of which two columns are damaged, scrolled by nothing
+abbrev pub scroll_by_nothing : Plan
+scroll_by_nothing =
+    one_task 16 1 1 (codes "s" ∷ codes "c" ∷ []) (create 0 Simple 0 0 3 0 ∷ create 1 Smart 0 0 1 0 ∷ Close 1 ∷ fill 0 0 0 3 0 ∷ scroll_left 0 0 0 0 3 0 ∷ [])
+
+abbrev pub scroll_by_nothing_report : List ℕ
+scroll_by_nothing_report =
+    text (codes "order 5/0 0 0 0 0/planes 16 1 1/plane 0/f000/visible s 1/0 0 3 0/damage s 1/0 0 1 0/replies a 5/ok/ok/ok/ok/ok/done/")
+
+-- a layer of which two columns are damaged, and others are scrolled
+abbrev pub scroll_beside_damage : Plan
+scroll_beside_damage =
+    one_task 16 1 1 (codes "s" ∷ codes "c" ∷ []) (create 0 Simple 0 0 7 0 ∷ create 1 Smart 0 0 1 0 ∷ Close 1 ∷ scroll_left 0 1 4 0 7 0 ∷ [])

@@ -47,3 +47,11 @@ updated_strokes =
 abbrev pub updated_strokes_report : List ℕ
 updated_strokes_report =
     text (codes "order 11/0 0 0 0 0 0 0 0 0 0 0/planes 16 3 1/plane 0/0cc0/0f00/0fc0/visible w 1/0 0 15 2/damage w 0/" ++ codes "replies a 11/ok/ok/ok/ok/none/ok/ok/ok/ok/ok/ok/done/")
+
+-- a line of no length
+abbrev pub line_of_no_length : Plan
+line_of_no_length = one_task 16 1 1 (codes "w" ∷ []) (create 0 Smart 0 0 7 0 ∷ At 0 (pos 2) (pos 0) ∷ DrawTo 0 (pos 2) (pos 0) ∷ [])
+
+abbrev pub line_of_no_length_report : List ℕ
+line_of_no_length_report =
+    text (codes "order 3/0 0 0/planes 16 1 1/plane 0/2000/visible w 1/0 0 7 0/damage w 0/replies a 3/ok/ok/ok/done/")

@@ -12,7 +12,7 @@ ghost use Rattle.lw_cases.specs.Fitting.{fits_its_sizes};
 ghost use Rattle.lw_cases.specs.Plans.{create, blit_across};
 ghost use Rattle.lw_cases.specs.Sharing.{served_by_another, served_by_another_order, drawn_by_another, drawn_by_another_order, opened_by_the_second, opened_by_the_second_order};
 ghost use Rattle.lw_cases.specs.OwnDamage.{damage_beside, damage_beside_order};
-ghost use Rattle.lw_cases.specs.Grouping.{fit_as, lock_from, fill_first, three_fills, arrangement_plans};
+ghost use Rattle.lw_cases.specs.Grouping.{fit_as, lock_from, hold_from, fill_first, three_fills, arrangement_plans};
 
 /// Within a lock stand calls on its layer, a blit within the layer too: no calls on another layer or on two, none on all
 /// layers or on registers, no look, and neither the beginning of an update nor an end.
@@ -37,6 +37,7 @@ pub fn update_has_its_beginning_and_its_end()
     ensures beginning_alone { fit_as (Slot 0) (BeginRefresh 0 ∷ []) ≡ false }
     ensures end_alone { fit_as (Slot 0) (EndRefresh 0 true ∷ []) ≡ false }
     ensures second_beginning { fit_as (Slot 0) (BeginRefresh 0 ∷ BeginRefresh 0 ∷ EndRefresh 0 true ∷ []) ≡ false }
+    ensures fills_alone { fit_as (Slot 0) (BeginRefresh 0 ∷ fill_first 0 ∷ fill_first 0 ∷ []) ≡ false }
     ensures second_end { fit_as (Slot 0) (BeginRefresh 0 ∷ EndRefresh 0 true ∷ EndRefresh 0 true ∷ []) ≡ false }
     ensures later_call { fit_as (Slot 0) (BeginRefresh 0 ∷ EndRefresh 0 true ∷ fill_first 0 ∷ []) ≡ false }
     ensures other_beginning { fit_as (Slot 0) (BeginRefresh 1 ∷ EndRefresh 0 true ∷ []) ≡ false }
@@ -63,6 +64,10 @@ pub fn groups_stand_apart()
     ensures twice { groups_fit three_fills (lock_from 1 1 ∷ lock_from 1 1 ∷ []) ≡ false }
     ensures past_the_last { groups_fit three_fills (lock_from 0 1 ∷ lock_from 2 3 ∷ []) ≡ false }
     ensures no_call { groups_fit three_fills (lock_from 2 1 ∷ []) ≡ false }
+    ensures no_arrangement { groups_fit (ToFront 0 ∷ ToFront 0 ∷ []) (hold_from 1 0 ∷ []) ≡ false }
+    ensures first_unfit { groups_fit (ToFront 0 ∷ fill_first 0 ∷ []) (lock_from 0 0 ∷ lock_from 1 1 ∷ []) ≡ false }
+    ensures last_unfit { groups_fit (fill_first 0 ∷ ToFront 0 ∷ []) (lock_from 0 0 ∷ lock_from 1 1 ∷ []) ≡ false }
+    ensures calls_beside { groups_fit (ToFront 0 ∷ fill_first 0 ∷ ToFront 0 ∷ []) (lock_from 1 1 ∷ []) ≡ true }
 {}
 
 /// The worked plans of arrangements and damage are plans that a script can spell, and the orders of two tasks legal ones.

@@ -7,7 +7,7 @@ ghost use Rattle.lw_calls.specs.Entries.{only_order};
 ghost use Rattle.lw_cases.specs.Plans.{six_hooks, rect};
 ghost use Rattle.lw_cases.specs.Arranging.{simple_move};
 ghost use Rattle.lw_cases.specs.Hooks.{hook_turned, checkered_again};
-ghost use Rattle.lw_cases.specs.Scrolling.{scroll_under_cover, scroll_uncovered, scroll_damage};
+ghost use Rattle.lw_cases.specs.Scrolling.{scroll_under_cover, scroll_uncovered, scroll_damage, scroll_beside_damage};
 ghost use Rattle.lw_cases.specs.Windows.{asked_to_refresh, covered_again, uncovered_again};
 ghost use Rattle.lw_cases.specs.Updates.{updated_in_part, updated_in_full, asked_after_scroll};
 ghost use Rattle.lw_cases.specs.Histories.{IsToldByHistory};
@@ -38,4 +38,9 @@ pub fn damage_of_an_update_is_its_history()
     ensures in_full { IsToldByHistory updated_in_full [] (only_order updated_in_full) 0 (rectangle_pixels (rect 2 0 3 0)) }
     ensures scrolled { IsToldByHistory asked_after_scroll [] (only_order asked_after_scroll) 0 (rectangle_pixels (rect 2 0 2 0)) }
     ensures hook { IsToldByHistory checkered_again six_hooks (only_order checkered_again) 0 (rectangle_pixels (rect 2 0 5 0)) }
+{}
+
+/// A layer of which a part is scrolled that isn't damaged.
+pub fn damage_beside_a_scroll_is_its_history()
+    ensures { IsToldByHistory scroll_beside_damage [] (only_order scroll_beside_damage) 0 (rectangle_pixels (rect 0 0 1 0)) }
 {}

@@ -4,6 +4,7 @@
 
 pub mod arranging;
 pub mod blit_sources;
+pub mod call_limits;
 pub mod copying;
 pub mod directions;
 pub mod drawing;
@@ -20,6 +21,7 @@ pub mod orders;
 pub mod own_damage;
 pub mod owners;
 pub mod placing;
+pub mod plan_limits;
 pub mod reading;
 pub mod refusals;
 pub mod register_pairs;
@@ -27,9 +29,11 @@ pub mod registers;
 pub mod scroll_sources;
 pub mod scrolling;
 pub mod sharing;
+pub mod slots_and_tasks;
 pub mod stacking;
 pub mod strokes;
 pub mod super_bitmaps;
 pub mod telling;
+pub mod touching;
 pub mod updates;
 pub mod windows;

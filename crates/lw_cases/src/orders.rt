@@ -1,8 +1,9 @@
 //! What the definitions say of orders of two tasks, and the reports after legal ones.
 #![tactic(auto, unfolding(crate::proofs::Computing::computing))]
 
-ghost use Rattle.std.specs.Prelude.{◌≡◌, true, false, [], codes};
-ghost use Rattle.lw_calls.specs.declared.call.Call.TheVariants.{Close, Activate, Clip};
+ghost use Rattle.std.specs.Prelude.{◌≡◌, ◌∷◌, true, false, [], codes};
+ghost use Rattle.lw_calls.specs.declared.operation.PairOp.TheVariants.{Or as OrPair};
+ghost use Rattle.lw_calls.specs.declared.call.Call.TheVariants.{RegPair, RegClear, Close, Activate, Clip};
 ghost use Rattle.lw_calls.specs.Orders.{is_legal, IsBadPlace};
 ghost use Rattle.lw_calls.specs.Entries.{entries};
 ghost use Rattle.lw_machine.specs.Report.{run_report};
@@ -17,6 +18,14 @@ pub fn order_of_two_layers_shows_in_one_line()
     ensures second_steps { entries two_layers [] second_begins ≡ second_begins_entries }
     ensures first_report { run_report two_layers [] first_begins ≡ two_layers_report (codes "0 1 0 1") }
     ensures second_report { run_report two_layers [] second_begins ≡ two_layers_report (codes "1 0 1 0") }
+{}
+
+/// A legal order has all calls of each task, and no more.
+pub fn order_has_the_calls_of_each_task()
+    ensures first_short { is_legal two_layers (0 ∷ 1 ∷ 1 ∷ []) ≡ false }
+    ensures second_short { is_legal two_layers (0 ∷ 1 ∷ 0 ∷ []) ≡ false }
+    ensures one_more { is_legal two_layers (0 ∷ 1 ∷ 0 ∷ 1 ∷ 1 ∷ []) ≡ false }
+    ensures unknown_task { is_legal two_layers (0 ∷ 1 ∷ 0 ∷ 1 ∷ 2 ∷ []) ≡ false }
 {}
 
 /// No other task's call on a layer comes within its lock, and an order has all calls.
@@ -43,6 +52,9 @@ pub fn hold_lets_region_calls_come()
     ensures look_before { is_legal (beside_a_hold look) before_the_hold ≡ true }
     ensures look_after { is_legal (beside_a_hold look) after_the_hold ≡ true }
     ensures fill_within { is_legal (beside_a_hold (fill 1 0 0 0 0)) within_the_hold ≡ false }
+    ensures blit_within { is_legal (beside_a_hold (blit_of 0 1)) within_the_hold ≡ false }
+    ensures pair_within { is_legal (beside_a_hold (RegPair OrPair 0 1)) within_the_hold ≡ true }
+    ensures clear_within { is_legal (beside_a_hold (RegClear 0)) within_the_hold ≡ true }
 {}
 
 /// A lock on a layer lets looks, calls on registers and on another layer come, and keeps off what touches its layer, which

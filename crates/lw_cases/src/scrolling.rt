@@ -4,7 +4,7 @@
 ghost use Rattle.std.specs.Prelude.{◌≡◌, []};
 ghost use Rattle.lw_calls.specs.Entries.{only_order};
 ghost use Rattle.lw_machine.specs.Report.{run_report};
-ghost use Rattle.lw_cases.specs.Scrolling.{scroll_past_all, scroll_past_all_report, scroll_under_cover, scroll_under_cover_report, scroll_uncovered, scroll_uncovered_report, scroll_damage, scroll_damage_report, portion_scrolled, portion_scrolled_report, scroll_right_down, scroll_right_down_report, scroll_masked, scroll_masked_report, scroll_updated, scroll_updated_report, scroll_in_frame, scroll_in_frame_report, scroll_from_damage, scroll_from_damage_report};
+ghost use Rattle.lw_cases.specs.Scrolling.{scroll_past_all, scroll_past_all_report, scroll_under_cover, scroll_under_cover_report, scroll_uncovered, scroll_uncovered_report, scroll_damage, scroll_damage_report, portion_scrolled, portion_scrolled_report, scroll_right_down, scroll_right_down_report, scroll_masked, scroll_masked_report, scroll_updated, scroll_updated_report, scroll_in_frame, scroll_in_frame_report, scroll_from_damage, scroll_from_damage_report, scroll_by_nothing, scroll_by_nothing_report};
 
 /// What is scrolled in from outside the rectangle has pen B, and keeps the damage that the pixel had.
 pub fn scroll_past_all_shows_pen_b()
@@ -34,4 +34,5 @@ pub fn scroll_moves_damage()
     ensures updated { run_report scroll_updated [] (only_order scroll_updated) ≡ scroll_updated_report }
     ensures in_frame { run_report scroll_in_frame [] (only_order scroll_in_frame) ≡ scroll_in_frame_report }
     ensures from_damage { run_report scroll_from_damage [] (only_order scroll_from_damage) ≡ scroll_from_damage_report }
+    ensures by_nothing { run_report scroll_by_nothing [] (only_order scroll_by_nothing) ≡ scroll_by_nothing_report }
 {}

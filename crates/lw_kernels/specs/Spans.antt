@@ -1,3 +1,4 @@
+-- For private contracts.
 -- Bits of a row, by the bytes that they begin and end in.
 use Rattle.std.specs.Prelude.{◌≡◌, ℕ, ◌+◌, ◌-◌, ◌*◌, ◌/◌, ◌%◌, ◌<◌, min, max, true, bit_and}
 use Rattle.std.specs.Int.{bit_at}

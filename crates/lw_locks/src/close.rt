@@ -30,7 +30,8 @@ pub struct Closed<E: Engine> {
     pub seat: Seat,
 }
 
-/// A desk that was not closed, out of memory, and its passes, all as they were.
+/// A desk that was not closed, out of memory, and its passes. The contract says which desk it is and which passes; that what lies
+/// behind its locks is as it was is seen by a test alone.
 #[derive(Drop)]
 pub struct NotClosed<E: Engine, N: Opening> {
     pub desk: Desk<E, N>,
@@ -39,7 +40,7 @@ pub struct NotClosed<E: Engine, N: Opening> {
 
 impl<E: Engine, N: Opening> Desk<E, N> {
     /// Takes a desk apart whose passes are these, of all tasks and in any order. It fails only when out of memory, and then gives the
-    /// desk and the passes back as they were.
+    /// desk and the passes back.
     pub fn close(self, alloc: Global, passes: Vec<Pass<E, N>>) -> Result<Closed<E>, NotClosed<E, N>>
         requires many { vec_len passes ≡ N.desk.sizes.tasks }
         requires each { HasEach passes.items N.desk.sizes.tasks }

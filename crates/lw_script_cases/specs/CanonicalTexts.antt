@@ -20,7 +20,7 @@ use Rattle.lw_cases.specs.Plans.{with_glyph, with_bitmap, one_task, fill, rect}
 use Rattle.lw_script_cases.specs.WholeScripts.{script}
 
 -- a window's layer
-abbrev window_of : Kind → Place → ℕ → ℕ → ℕ → ℕ → Make
+abbrev pub window_of : Kind → Place → ℕ → ℕ → ℕ → ℕ → Make
 window_of kind place x y w h =
     record {
       kind = kind;
@@ -36,7 +36,7 @@ window_of kind place x y w h =
     }
 
 -- a blit's places and sizes
-abbrev area : ℕ → ℕ → ℕ → ℕ → ℕ → ℕ → ℕ → Area
+abbrev pub area : ℕ → ℕ → ℕ → ℕ → ℕ → ℕ → ℕ → Area
 area sx sy x y w h minterm = record { sx = pos sx; sy = pos sy; x = pos x; y = pos y; w = pos w; h = pos h; minterm = minterm }
 
 -- the calls of three tasks: a clock's update, an editor's lock, and a painter's hold

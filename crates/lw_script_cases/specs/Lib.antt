@@ -2,3 +2,4 @@ pub mod WholeScripts
 pub mod CanonicalTexts
 pub mod LinesBelow
 pub mod Refused
+pub mod SpelledPlans

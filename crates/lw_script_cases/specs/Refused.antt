@@ -151,6 +151,12 @@ bad_forms =
     at_line 3 (in_task_a ++ script (codes "front 9w/")) ∷
     at_line 3 (in_task_a ++ script (codes "front _w/")) ∷
     at_line 3 (in_task_a ++ script (codes "front w-1/")) ∷
+    at_line 3 (in_task_a ++ script (codes "front a[/")) ∷
+    at_line 3 (in_task_a ++ script (codes "front a@/")) ∷
+    at_line 3 (in_task_a ++ script (codes "front a`/")) ∷
+    at_line 3 (in_task_a ++ script (codes "front a{/")) ∷
+    at_line 3 (in_task_a ++ script (codes "front a:/")) ∷
+    at_line 3 (in_task_a ++ script (codes "front a") ++ (47 ∷ [])) ∷
     at_line 3 (in_task_a ++ script (codes "front abcdefghijklmnopq/")) ∷
     at_line 3 (in_task_a ++ script (codes "front 'w'/")) ∷
     at_line 3 (in_task_a ++ script (codes "front w v/")) ∷
@@ -261,6 +267,7 @@ out_of_range =
     at_line 3 (in_task_a ++ script (codes "scrollraster w 0 0 5 0 4 0/")) ∷
     at_line 3 (in_task_a ++ script (codes "move w 0 32768/")) ∷
     at_line 3 (in_task_a ++ script (codes "size w -32769 0/")) ∷
+    at_line 3 (in_task_a ++ script (codes "size w 0 40000/")) ∷
     at_line 3 (in_task_a ++ script (codes "which 32768 0/")) ∷
     at_line 3 (in_task_a ++ script (codes "at w 0 -32769/")) ∷
     at_line 3 (in_task_a ++ script (codes "write w 32768 0/")) ∷
@@ -294,6 +301,24 @@ out_of_range =
     at_line 3 (in_task_a ++ script (codes "setrast w 256/")) ∷
     at_line 3 (in_task_a ++ script (codes "mode w -1/")) ∷
     at_line 3 (in_task_a ++ script (codes "open w simple front 0 0 9 14 hook 4294967296 't'/")) ∷
+    at_line 3 (in_task_a ++ script (codes "move w -32769 0/")) ∷
+    at_line 3 (in_task_a ++ script (codes "which 0 -32769/")) ∷
+    at_line 3 (in_task_a ++ script (codes "at w 32768 0/")) ∷
+    at_line 3 (in_task_a ++ script (codes "write w 0 -32769/")) ∷
+    at_line 3 (in_task_a ++ script (codes "read w -32769 0/")) ∷
+    at_line 3 (in_task_a ++ script (codes "draw w 0 32768/")) ∷
+    at_line 3 (in_task_a ++ script (codes "scroll w 0 -32769/")) ∷
+    at_line 3 (in_task_a ++ script (codes "box w 0 32768 1 1/")) ∷
+    at_line 3 (in_task_a ++ script (codes "open w smart front -32769 0 9 14 't'/")) ∷
+    at_line 3 (in_task_a ++ script (codes "create w smart front 0 -32769 7 3/")) ∷
+    at_line 3 (in_task_a ++ script (codes "scrollraster w 32768 0 0 0 7 3/")) ∷
+    at_line 3 (in_task_a ++ script (codes "scrollraster w 0 0 0 5 0 4/")) ∷
+    at_line 3 (in_task_a ++ script (codes "blit w 0 -32769 w 0 0 1 1 c0/")) ∷
+    at_line 3 (in_task_a ++ script (codes "blit w 0 0 w 32768 0 1 1 c0/")) ∷
+    at_line 3 (in_task_a ++ script (codes "put b 32768 0 w 0 0 1 1 c0/")) ∷
+    at_line 3 (in_task_a ++ script (codes "put b 0 -32769 w 0 0 1 1 c0/")) ∷
+    at_line 3 (in_task_a ++ script (codes "put b 0 0 w -32769 0 1 1 c0/")) ∷
+    at_line 3 (in_task_a ++ script (codes "put b 0 0 w 0 32768 1 1 c0/")) ∷
     at_line 4 (screened ++ script (codes "bitmap b 16 1 1/0000/bitmap b 0 1 1/")) ∷
     at_line 4 (in_task_a ++ script (codes "lock w/fill v 9 0 5 0/")) ∷
     at_line 4 (in_task_a ++ script (codes "hold/which 32768 0/")) ∷

@@ -6,3 +6,4 @@ pub mod canonical;
 pub mod lines_below;
 pub mod refused;
 pub mod scripts;
+pub mod spelled;

@@ -1,0 +1,24 @@
+//! A task's number is no slot's: each call works on the slot that it names, whichever task makes it.
+#![tactic(auto, unfolding(crate::proofs::Computing::computing))]
+
+ghost use Rattle.std.specs.Prelude.{◌≡◌, ◌∷◌, [], replicate, Some, None};
+ghost use Rattle.lw_machine.specs.Finals.{run_final};
+ghost use Rattle.lw_cases.specs.SlotsAndTasks.{by_the_first, by_the_second, no_groups, left_with, drawn, drawn_groups, drawn_row, drawn_seen, drawn_replies, arranged, arranged_row, arranged_seen, beside_seen, arranged_replies, deleted, deleted_replies};
+
+/// The first task draws on slot 1, and the second on slot 0.
+pub fn calls_draw_on_the_slot_that_they_name()
+    ensures first { run_final (by_the_first drawn drawn_groups) [] (replicate 34 0) ≡ left_with drawn_row (None ∷ Some drawn_seen ∷ None ∷ []) (drawn_replies 1 ∷ []) }
+    ensures second { run_final (by_the_second drawn drawn_groups) [] (replicate 34 1) ≡ left_with drawn_row (Some drawn_seen ∷ None ∷ None ∷ []) ([] ∷ drawn_replies 0 ∷ []) }
+{}
+
+/// The first task arranges slot 1, and the second slot 0.
+pub fn calls_arrange_the_slot_that_they_name()
+    ensures first { run_final (by_the_first arranged no_groups) [] (replicate 15 0) ≡ left_with arranged_row (None ∷ Some arranged_seen ∷ Some beside_seen ∷ []) (arranged_replies 1 ∷ []) }
+    ensures second { run_final (by_the_second arranged no_groups) [] (replicate 15 1) ≡ left_with arranged_row (Some arranged_seen ∷ None ∷ Some beside_seen ∷ []) ([] ∷ arranged_replies 0 ∷ []) }
+{}
+
+/// The first task deletes slot 1, and the second slot 0.
+pub fn calls_delete_the_slot_that_they_name()
+    ensures first { run_final (by_the_first deleted no_groups) [] (replicate 4 0) ≡ left_with (replicate 16 0) (replicate 3 None) (deleted_replies ∷ []) }
+    ensures second { run_final (by_the_second deleted no_groups) [] (replicate 4 1) ≡ left_with (replicate 16 0) (replicate 3 None) ([] ∷ deleted_replies ∷ []) }
+{}
