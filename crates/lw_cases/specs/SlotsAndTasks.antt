@@ -44,17 +44,17 @@ left_with row slots replies =
 
 -- A simple window of eight columns. All is set to pen 1; a pixel is written and a line of two is drawn with pen 3, the next one
 -- is complemented, the next filled with pen 2 through the mask of the second plane, and a letter drawn over the last three with
--- the pens 2 and 3. The third is scrolled from the fourth, the sixth comes from a bitmap, and the second from the sixth. In an
+-- the pens 2 and 3. The third is scrolled from the fourth, the sixth comes from a bitmap, and the seventh from the sixth. In an
 -- update nothing is drawable, and then of the first five pixels the one in the clip region is filled.
 abbrev pub drawn : ℕ → List Call
 drawn s =
-    open_window s Simple 0 0 8 1 false 4 [] ∷ SetRast s 1 ∷ SetA s 3 ∷ WritePixel s (pos 0) (pos 0) ∷ At s (pos 1) (pos 0) ∷ DrawTo s (pos 2) (pos 0) ∷ SetMode s 2 ∷ fill s 3 0 3 0 ∷ SetMode s 1 ∷ SetA s 2 ∷ SetMask s 2 ∷ fill s 4 0 4 0 ∷ SetMask s 255 ∷ SetB s 3 ∷ At s (pos 5) (pos 0) ∷ Letters s (codes "A") ∷ scroll_left s 1 2 0 3 0 ∷ put_row (pos 0) s 5 1 192 ∷ blit_row s 5 1 1 192 ∷ BeginRefresh s ∷ WritePixel s (pos 0) (pos 0) ∷ EndRefresh s true ∷ RegRect OrRect 0 (rect 3 0 3 0) ∷ Clip s 0 ∷ fill s 0 0 4 0 ∷ Unclip s ∷ Unclip s ∷ Scroll s (pos 1) (pos 0) ∷ SetTitle s (codes "T") ∷ MoveBy s (pos 1) (pos 0) ∷ TakeMessage s ∷ TakeMessage s ∷ ReadPixel s (pos 7) (pos 0) ∷ Which (pos 1) (pos 0) ∷ []
+    open_window s Simple 0 0 8 1 false 4 [] ∷ SetRast s 1 ∷ SetA s 3 ∷ WritePixel s (pos 0) (pos 0) ∷ At s (pos 1) (pos 0) ∷ DrawTo s (pos 2) (pos 0) ∷ SetMode s 2 ∷ fill s 3 0 3 0 ∷ SetMode s 1 ∷ SetA s 2 ∷ SetMask s 2 ∷ fill s 4 0 4 0 ∷ SetMask s 255 ∷ SetB s 3 ∷ At s (pos 5) (pos 0) ∷ Letters s (codes "A") ∷ scroll_left s 1 2 0 3 0 ∷ put_row (pos 0) s 5 1 192 ∷ blit_row s 5 6 1 192 ∷ BeginRefresh s ∷ WritePixel s (pos 0) (pos 0) ∷ EndRefresh s true ∷ RegRect OrRect 0 (rect 3 0 3 0) ∷ Clip s 0 ∷ fill s 0 0 4 0 ∷ Unclip s ∷ Unclip s ∷ Scroll s (pos 1) (pos 0) ∷ SetTitle s (codes "T") ∷ MoveBy s (pos 1) (pos 0) ∷ TakeMessage s ∷ TakeMessage s ∷ ReadPixel s (pos 7) (pos 0) ∷ Which (pos 1) (pos 0) ∷ []
 
 abbrev pub drawn_groups : ℕ → List Group
 drawn_groups s = record { first = 19; last = 21; hold = Slot s } ∷ []
 
 abbrev pub drawn_row : List ℕ
-drawn_row = 0 ∷ 3 ∷ 1 ∷ 2 ∷ 2 ∷ 3 ∷ 1 ∷ 2 ∷ 3 ∷ replicate 7 0
+drawn_row = 0 ∷ 3 ∷ 3 ∷ 2 ∷ 2 ∷ 3 ∷ 1 ∷ 1 ∷ 3 ∷ replicate 7 0
 
 abbrev pub drawn_seen : Seen
 drawn_seen = record { visible = rect 1 0 8 0 ∷ []; damage = []; messages = Some [] }
