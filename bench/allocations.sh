@@ -36,7 +36,8 @@ refuse_each() {
     "$program" "$command" <"$input" >"$work/usual"
     while :; do
         number=$((number + 1)) status=0
-        REFUSED=$number LD_PRELOAD=$work/refuse.so timeout 60 "$program" "$command" \
+        # (`timeout` itself allocates, and isn't to be refused)
+        timeout 60 env REFUSED=$number LD_PRELOAD="$work/refuse.so" "$program" "$command" \
             <"$input" >"$work/output" 2>"$work/said" || status=$?
         grep -q refused "$work/said" || break
         if [ "$status" -eq 5 ] && [ ! -s "$work/output" ]; then
