@@ -27,10 +27,10 @@ count_of_push t [] e = omega arith
 count_of_push t (x ∷ past) e = let rest = count_of_push t past e in ap (λ n. (if x.task == t then 1 else 0) + n) rest ∙ omega arith
 
 -- The steps stand for numbers of an order so far.
-abbrev AreAlike : List Entry → List ℕ → Type 0
+abbrev pub AreAlike : List Entry → List ℕ → Type 0
 AreAlike past ns = (t : ℕ) → occurrences t ns ≡ count_of t past
 
-alike_more : (past : List Entry) (ns : List ℕ) (u seq : ℕ) (c : Call) → AreAlike past ns → AreAlike (past ++ record { task = u; seq = seq; call = c } ∷ []) (ns ++ u ∷ [])
+pub alike_more : (past : List Entry) (ns : List ℕ) (u seq : ℕ) (c : Call) → AreAlike past ns → AreAlike (past ++ record { task = u; seq = seq; call = c } ∷ []) (ns ++ u ∷ [])
 alike_more past ns u seq c alike t = step (u == t) refl
   where
     e : Entry
@@ -78,7 +78,7 @@ module _ (plan : Plan) (t : ℕ) where
       ∙ one_step t (u == t) (count_of t past) (count_of t (past ++ e ∷ [])) (occurrences t order) c (task_calls plan t) e (steps_of t (entries plan (past ++ e ∷ []) order)) rest (count_of_push t past e) own
 
 -- a task that the plan hasn't got has no calls
-none_there : (lists : List (List Call)) (t : ℕ) → length lists ≤ t → slice_index_or lists t [] ≡ []
+pub none_there : (lists : List (List Call)) (t : ℕ) → length lists ≤ t → slice_index_or lists t [] ≡ []
 none_there [] t h = refl
 none_there (x ∷ lists) zero h = absurd (omega (arith, h))
 none_there (x ∷ lists) (suc t) h = none_there lists t (omega (arith, h))

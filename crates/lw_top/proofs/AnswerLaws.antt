@@ -16,10 +16,11 @@ use Rattle.lw_top.specs.declared.status.Status.TheVariants.{Done, Refused, Usage
 use Rattle.lw_top.specs.declared.words.ScriptCommand.{ScriptCommand}
 use Rattle.lw_top.specs.declared.words.ScriptCommand.TheVariants.{Run, Check, Replay, Audit}
 use Rattle.lw_top.specs.Commands.{reads_input, reads_with, IsTextFor}
-use Rattle.lw_top.specs.Laws.{IsTextOf, IsBadOrderOf, IsDifferenceOf, IsDue, IsUnlessStopped, is_stop, IsInput, IsAnswer, AnswerTells, ToldOfWords}
+use Rattle.lw_top.specs.Laws.{IsTextOf, IsBadOrderOf, IsDifferenceOf, IsDue, IsUnlessStopped, is_stop, IsInput, IsAnswer, AnswerTells, DemoTells, ToldOfWords}
+use Rattle.lw_top.specs.Demo.{demo_text}
 use Rattle.lw_top.specs.declared.words.Command.{Command}
-use Rattle.lw_top.specs.declared.words.Command.TheVariants.{Script}
-use Rattle.lw_top.specs.Outcome.{IsBadLineOf, IsOutcome, IsTaken, Served, Answered, Promised}
+use Rattle.lw_top.specs.declared.words.Command.TheVariants.{Script, Demo}
+use Rattle.lw_top.specs.Outcome.{IsBadLineOf, IsOutcome, IsTaken, Served, Answered, DemoSaid, Promised}
 use Rattle.lw_top.specs.Status.{Says, text_of, input_limit}
 use Rattle.lw_top.proofs.Outcomes.{one_outcome}
 
@@ -214,6 +215,34 @@ none_taken source same = ([], omega arith, sym (bytes_before_none source.new.byt
     bytes_before_none None = refl
     bytes_before_none (Some bytes) = refl
 
+-- what each answer to a demo tells
+demo_tells : (number tasks : ℕ) (r : Status) (sink : StreamChange) → DemoSaid number tasks r sink → DemoTells number tasks r sink
+demo_tells number tasks r sink (inl (inl e)) = record { done = λ is. e.1; only = inl e.0; complete = λ whole. inl e.0 }
+demo_tells number tasks r sink (inl (inr e)) = record {
+  done = λ is. let same : WriteFault ≡ Done = sym e.0 ∙ is in absurd (cc);
+  only = inr (inl e.0);
+  complete = λ whole. absurd (whole e.2);
+}
+demo_tells number tasks r sink (inr e) = record {
+  done = λ is. let same : NoMemory ≡ Done = sym e ∙ is in absurd (cc);
+  only = inr (inr e);
+  complete = λ whole. inr e;
+}
+
+demo_never_usage : (number tasks : ℕ) (r : Status) (sink : StreamChange) → DemoSaid number tasks r sink → r ≡ Usage → ⊥
+demo_never_usage number tasks r sink (inl (inl e)) is = let same : Done ≡ Usage = sym e.0 ∙ is in cc
+demo_never_usage number tasks r sink (inl (inr e)) is = let same : WriteFault ≡ Usage = sym e.0 ∙ is in cc
+demo_never_usage number tasks r sink (inr e) is = let same : NoMemory ≡ Usage = sym e ∙ is in cc
+
+demo_write_fault : (number tasks : ℕ) (r : Status) (sink : StreamChange) → DemoSaid number tasks r sink → r ≡ WriteFault → HasFailed sink
+demo_write_fault number tasks r sink (inl (inl e)) is = let same : Done ≡ WriteFault = sym e.0 ∙ is in absurd (cc)
+demo_write_fault number tasks r sink (inl (inr e)) is = e.2
+demo_write_fault number tasks r sink (inr e) is = let same : NoMemory ≡ WriteFault = sym e ∙ is in absurd (cc)
+
+-- nothing was written with NoMemory, which is its text
+nothing_written : (r : Status) (sink : StreamChange) → r ≡ NoMemory → sink.new ≡ sink.old → Wrote (text_of r) sink
+nothing_written r sink e same = ap (λ (s : Stream). s.bytes) same ∙ sym (ap (bytes_after sink.old.bytes) (ap text_of e) ∙ bytes_after_none sink.old.bytes)
+
 pub told_of_words : (hooks : List Hook) (asked : Option Command) (r : Status) (source sink : StreamChange) → IfSome asked (λ command. Promised hooks command r source sink) → (asked ≡ None → Says (text_of Usage) Usage r sink) → (reads_input asked ≡ false → source.new ≡ source.old) → ((r ≡ ReadFault) ⊎ (r ≡ NoMemory) → sink.new ≡ sink.old) → ToldOfWords hooks asked r source sink
 told_of_words hooks (Some (Script command)) r source sink h usage unread untouched =
     let tells = told hooks command r source sink h untouched in
@@ -227,6 +256,18 @@ told_of_words hooks (Some (Script command)) r source sink h usage unread untouch
       text = tells.text;
       taken = h.taken;
       source_count = h.source_count;
+    }
+told_of_words hooks (Some (Demo number tasks)) r source sink h usage unread untouched =
+    record {
+      told = demo_tells number tasks r sink h;
+      usage = λ e. absurd (demo_never_usage number tasks r sink h e);
+      only_usage = λ e. absurd (cc);
+      write_fault = demo_write_fault number tasks r sink h;
+      no_read_fault = λ other. ap (λ (s : Stream). s.faults) (unread refl);
+      no_write_fault = λ not_fault. elim h [ inl e ↦ said_no_fault (demo_text number tasks) Done r sink e not_fault | inr e ↦ ap (λ (s : Stream). s.faults) (untouched (inr e)) ];
+      text = λ not_done not_fault. elim h [ inl e ↦ absurd (elim e [ inl d ↦ not_done d.0 | inr d ↦ not_fault d.0 ]) | inr e ↦ nothing_written r sink e (untouched (inr e)) ];
+      taken = none_taken source (unread refl);
+      source_count = let same = ap (λ (s : Stream). s.faults) (unread refl) in omega (arith, same);
     }
 told_of_words hooks None r source sink h usage unread untouched =
     record {

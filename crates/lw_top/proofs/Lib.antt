@@ -3,8 +3,10 @@ mod AuditOutcomes
 mod BadPlaces
 mod CallCount
 mod DamageTold
+mod DemoScreens
 mod LegalOrders
 mod OrderLength
 mod Outcomes
+mod PenCounts
 mod PrintedOrder
 mod Unread

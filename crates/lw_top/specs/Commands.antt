@@ -1,17 +1,19 @@
 -- The program's commands: which words each has, what it reads, and what it writes for a script.
-use Rattle.std.specs.Prelude.{◌≡◌, ℕ, Bool, true, false, if◌then◌else◌, List, [], ◌∷◌, codes, bytes_eq, drop, Option, Some, None}
+use Rattle.std.specs.Prelude.{◌≡◌, ℕ, ◌≤◌, Bool, true, false, if◌then◌else◌, List, [], ◌∷◌, codes, bytes_eq, drop, pos, unsigned_abs, Option, Some, None}
 use Rattle.std.specs.Option.{option_map}
 use Rattle.std.specs.String.{string_bytes}
 use Rattle.std.specs.declared.string.String.{String}
+use Rattle.lw_region.specs.Rectangle.{within}
 use Rattle.lw_calls.specs.declared.form.Form.TheVariants.{Plain, Ordered, Audited}
 use Rattle.lw_canonical.specs.Canonical.{canonical_text}
 use Rattle.lw_calls.specs.Orders.{is_legal, IsBadPlace}
 use Rattle.lw_calls.specs.Written.{line_of}
 use Rattle.lw_machine.specs.Hook.{Hook}
 use Rattle.lw_machine.specs.Report.{run_report}
+use Rattle.lw_grammar.specs.Tokens.{Token, NumberToken, token_of}
 use Rattle.lw_grammar.specs.Script.{Setting, ScriptInput, reading_with}
 use Rattle.lw_top.specs.declared.words.Command.{Command}
-use Rattle.lw_top.specs.declared.words.Command.TheVariants.{Script}
+use Rattle.lw_top.specs.declared.words.Command.TheVariants.{Script, Demo}
 use Rattle.lw_top.specs.declared.words.ScriptCommand.{ScriptCommand}
 use Rattle.lw_top.specs.declared.words.ScriptCommand.TheVariants.{Run, Check, Replay, Audit}
 use Rattle.lw_top.specs.Audit.{IsMachineReport, IsBadReportOrder, IsDifference}
@@ -23,16 +25,38 @@ command_named word =
     then Some Run
     else (if bytes_eq word (codes "check") then Some Check else (if bytes_eq word (codes "replay") then Some Replay else (if bytes_eq word (codes "audit") then Some Audit else None)))
 
--- the command that the words are, if they are one
+-- the number that a word of a script is, if it is one from the least to the most
+abbrev pub number_within : ℕ → ℕ → Token → Option ℕ
+number_within least most (NumberToken word z) = if within (pos least) z (pos most) then Some (unsigned_abs z) else None
+number_within least most token = None
+
+-- the demo of this number with so many tasks, where both are there
+abbrev pub demo_of : Option ℕ → Option ℕ → Option Command
+demo_of (Some number) (Some tasks) = Some (Demo number tasks)
+demo_of number tasks = None
+
+-- The command that the words are, if they are one: a command on a script, or `demo` with a number of 32 bits and a number of 1 to 16
+-- tasks, both spelled as in a script.
 abbrev pub command_of : {A : Type 0} → List (String A) → Option Command
 command_of [] = None
 command_of (word ∷ []) = option_map (λ command. Script command) (command_named (string_bytes word))
-command_of (word ∷ other ∷ words) = None
+command_of (word ∷ number ∷ []) = None
+command_of (word ∷ number ∷ tasks ∷ []) =
+    if bytes_eq (string_bytes word) (codes "demo")
+    then demo_of (number_within 0 4294967295 (token_of (string_bytes number))) (number_within 1 16 (token_of (string_bytes tasks)))
+    else None
+command_of (word ∷ number ∷ tasks ∷ other ∷ words) = None
+
+-- A demo that is asked for has 1 to 16 tasks.
+abbrev pub HasTasks : Command → Type 0
+HasTasks (Script command) = Unit {0}
+HasTasks (Demo number tasks) = (1 ≤ tasks) × (tasks ≤ 16)
 
 -- The words ask for something that reads the input.
 abbrev pub reads_input : Option Command → Bool
 reads_input None = false
 reads_input (Some (Script command)) = true
+reads_input (Some (Demo number tasks)) = false
 
 -- How a command reads its input, where so many hooks are handed in: as a script alone, or with an order or a report behind it.
 abbrev pub reads_with : ℕ → ScriptCommand → Setting

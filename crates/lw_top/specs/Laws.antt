@@ -10,9 +10,10 @@ use Rattle.lw_top.specs.declared.status.Status.TheVariants.{Done, Refused, Usage
 use Rattle.lw_top.specs.declared.words.ScriptCommand.{ScriptCommand}
 use Rattle.lw_top.specs.declared.words.ScriptCommand.TheVariants.{Run, Check, Replay, Audit}
 use Rattle.lw_top.specs.declared.words.Command.{Command}
-use Rattle.lw_top.specs.declared.words.Command.TheVariants.{Script}
+use Rattle.lw_top.specs.declared.words.Command.TheVariants.{Script, Demo}
 use Rattle.lw_top.specs.Audit.{IsMachineReport}
 use Rattle.lw_top.specs.Commands.{reads_input, reads_with, behind_script, IsTextFor, IsBadOrderFor, IsDifferenceFor}
+use Rattle.lw_top.specs.Demo.{demo_text}
 use Rattle.lw_top.specs.Outcome.{IsBadLineOf, IsOutcome, Promised}
 use Rattle.lw_top.specs.Status.{Says, text_of, input_limit}
 
@@ -110,9 +111,17 @@ pub record AnswerTells (hooks : List Hook) (command : ScriptCommand) (result : S
   -- the text of each answer, whole
   pub text : result ≢ Done → result ≢ WriteFault → Wrote (text_of result) sink
 
+-- What each answer to a demo tells.
+pub record DemoTells (number tasks : ℕ) (result : Status) (sink : StreamChange) : Type 0 where
+  pub done : result ≡ Done → Wrote (demo_text number tasks) sink
+  pub only : (result ≡ Done) ⊎ (result ≡ WriteFault) ⊎ (result ≡ NoMemory)
+  -- that it is done, unless the sink failed or memory ran out
+  pub complete : ¬ HasFailed sink → (result ≡ Done) ⊎ (result ≡ NoMemory)
+
 -- What an answer to a command tells.
 abbrev pub CommandTells : List Hook → Command → Status → StreamChange → StreamChange → Type 0
 CommandTells hooks (Script command) result source sink = AnswerTells hooks command result source sink
+CommandTells hooks (Demo number tasks) result source sink = DemoTells number tasks result sink
 
 -- What an answer to the words of a command line tells, which are this command, if they are one.
 pub record ToldOfWords (hooks : List Hook) (asked : Option Command) (result : Status) (source sink : StreamChange) : Type 0 where

@@ -2,6 +2,7 @@ pub mod Audit
 pub mod AuditOutcome
 pub mod Commands
 pub mod Damage
+pub mod Demo
 pub mod Laws
 pub mod Outcome
 pub mod Run

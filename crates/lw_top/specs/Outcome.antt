@@ -9,8 +9,9 @@ use Rattle.lw_top.specs.declared.status.Status.{Status}
 use Rattle.lw_top.specs.declared.status.Status.TheVariants.{Done, Refused, ReadFault, NoMemory, TooLong, Differs, BadOrder}
 use Rattle.lw_top.specs.declared.words.ScriptCommand.{ScriptCommand}
 use Rattle.lw_top.specs.declared.words.Command.{Command}
-use Rattle.lw_top.specs.declared.words.Command.TheVariants.{Script}
+use Rattle.lw_top.specs.declared.words.Command.TheVariants.{Script, Demo}
 use Rattle.lw_top.specs.Commands.{reads_with, IsTextFor, IsBadOrderFor, IsDifferenceFor}
+use Rattle.lw_top.specs.Demo.{demo_text}
 use Rattle.lw_top.specs.Status.{Says, text_of, input_limit}
 
 -- The outcome of a command on a script in an input, where these hooks are handed in: it is done, with the command's text; or the
@@ -58,6 +59,11 @@ pub record Answered (hooks : List Hook) (command : ScriptCommand) (result : Stat
   pub source_count : source.old.faults ≤ source.new.faults
   pub sink_count : sink.old.faults ≤ sink.new.faults
 
--- What the program promises of a command that is handed these hooks.
+-- What a demo promises: its text, unless memory runs out.
+abbrev pub DemoSaid : ℕ → ℕ → Status → StreamChange → Type 0
+DemoSaid number tasks result sink = Says (demo_text number tasks) Done result sink ⊎ (result ≡ NoMemory)
+
+-- What the program promises of a command that is handed these hooks, which a demo drops.
 abbrev pub Promised : List Hook → Command → Status → StreamChange → StreamChange → Type 0
 Promised hooks (Script command) result source sink = Answered hooks command result source sink
+Promised hooks (Demo number tasks) result source sink = DemoSaid number tasks result sink

@@ -1,22 +1,12 @@
 -- What a legal order tells of the calls of a run, and a report of its order.
-use Rattle.std.specs.Prelude.{◌≡◌, ℕ, ◌+◌, ◌==◌, true, if◌then◌else◌, List, [], ◌∷◌, map}
-use Rattle.lw_calls.specs.declared.call.Call.{Call}
+use Rattle.std.specs.Prelude.{◌≡◌, ℕ, true, List, [], map}
 use Rattle.lw_calls.specs.declared.entry.Entry.{Entry}
 use Rattle.lw_calls.specs.Plan.{Plan, IsPlan, task_calls}
 use Rattle.lw_calls.specs.Entries.{entries, only_order}
 use Rattle.lw_calls.specs.Final.{Final}
 use Rattle.lw_calls.specs.Orders.{is_legal}
 use Rattle.lw_machine.specs.Report.{report}
-
--- the task's steps of a history
-abbrev pub steps_of : ℕ → List Entry → List Entry
-steps_of task [] = []
-steps_of task (e ∷ es) = if e.task == task then e ∷ steps_of task es else steps_of task es
-
--- the steps in which a task makes these calls in their order, the first of them as its call n
-abbrev pub numbered : ℕ → ℕ → List Call → List Entry
-numbered task n [] = []
-numbered task n (c ∷ cs) = record { task = task; seq = n; call = c } ∷ numbered task (n + 1) cs
+use Rattle.lw_apart.specs.TaskSteps.{steps_of, numbered}
 
 -- Each number of an order stands for one step, which is that task's; and of each task the steps are its calls, each once and in their
 -- order. A task that the plan hasn't got has none.

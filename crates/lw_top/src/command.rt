@@ -4,6 +4,7 @@ ghost use Rattle.lw_top.specs.Commands.{command_of, reads_input};
 ghost use Rattle.lw_top.specs.Outcome.{Promised};
 ghost use Rattle.lw_top.specs.Status.{Says, text_of};
 
+use crate::demo::demo;
 use crate::say::say;
 use crate::serving::on_script;
 use crate::status::Status;
@@ -19,9 +20,9 @@ const USAGE: &str = "usage: layers run|check|replay|audit|demo NUMBER TASKS\n";
 
 /// The program: does what the words say, without the program's own name, with the source as its
 /// input and the sink as its output, and answers how it went. A script may name the hooks by their
-/// places from 0 on; they fill with the tiles that they have as the call starts. `run` makes each
-/// task's calls on a thread, tells the gate of each, and may wait, so the call promises no return;
-/// `check`, `replay_cmd` and `audit`, which it calls for the other words, return.
+/// places from 0 on; they fill with the tiles that they have as the call starts. `run` and `demo`
+/// make each task's calls on a thread, tell the gate of each, and may wait, so the call promises no
+/// return; `check`, `replay_cmd` and `audit`, which it calls for the other words, return.
 pub fn layers<R: Threads + Wait + Sync, S: Source, K: Sink, G: Gate + Sync>(
     rt: &R,
     alloc: Global,
@@ -36,7 +37,8 @@ pub fn layers<R: Threads + Wait + Sync, S: Source, K: Sink, G: Gate + Sync>(
     // `run` of a script that is the report of the machine's run in the legal order that the report
     // prints; a malformed script is refused at its first bad line. The outcome is the answer, and
     // its text is written whole, unless reading failed, memory ran out, or the sink failed after a
-    // prefix of the text. A fault of a stream is answered, and never passed over.
+    // prefix of the text. A fault of a stream is answered, and never passed over. Of a demo the text
+    // is that of the order in which each task comes after the one before it, whatever order it has.
     ensures answered { IfSome (command_of words.now) (λ command.
         Promised (map (λ b. hook b) hooks.items) command result
         (change S.left S.faults source.old source.new)
@@ -54,6 +56,7 @@ pub fn layers<R: Threads + Wait + Sync, S: Source, K: Sink, G: Gate + Sync>(
 {
     match command_of(words) {
         Some(Command::Script(command)) => on_script(rt, alloc, command, source, sink, hooks, gate),
+        Some(Command::Demo { number, tasks }) => demo(rt, alloc, number, tasks, sink, gate),
         None => say(sink, USAGE.as_bytes(), Status::Usage),
     }
 }

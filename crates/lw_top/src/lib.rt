@@ -4,6 +4,7 @@
 mod auditing;
 mod calls;
 mod command;
+mod demo;
 mod laws;
 mod outcome;
 mod report;
@@ -18,6 +19,8 @@ mod tests_audit;
 mod tests_commands;
 #[cfg(test)]
 mod tests_cut;
+#[cfg(test)]
+mod tests_demo;
 #[cfg(test)]
 mod tests_realistic;
 #[cfg(test)]

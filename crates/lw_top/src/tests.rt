@@ -125,12 +125,18 @@ fn scripts_give_their_reports(rt: HostRuntime) -> Result<(), Fail> {
 #[test]
 fn words_that_are_no_command_get_the_usage_line(rt: HostRuntime) -> Result<(), Fail> {
     let alloc = rt.alloc();
-    let table: [&[&str]; 5] = [
+    let table: [&[&str]; 11] = [
         &[],
         &["run", "run"],
         &["audit", "1"],
+        &["demo"],
+        &["demo", "7"],
         &["demo", "1", "17"],
+        &["demo", "1", "0"],
         &["demo", "01", "2"],
+        &["demo", "4294967296", "1"],
+        &["demo", "7", "2", "x"],
+        &["demo", "-1", "2"],
     ];
     for texts in table {
         let mut words = Vec::new(alloc);

@@ -1,6 +1,7 @@
-//! `run` with its tasks on threads: tasks that hold one another up, and the reports of many runs.
+//! `run` and `demo` with their tasks on threads: tasks that hold one another up, and the reports of many runs.
 use crate::Status;
 use crate::tests::{answer_through, answer_with_six};
+use crate::tests_demo::{SEVEN, demo_seven};
 use crate::tests_realistic::REALISTIC;
 use crate::tests_spots::{Spots, soon_comes_to, waits_for};
 use lw_backfill::{Backfill, Solid};
@@ -79,6 +80,36 @@ fn a_fill_goes_on_while_another_layer_is_held(rt: HostRuntime) -> Result<(), Fai
         spots: Spots::new(),
     };
     runs_through(&rt, &gate, &gate.spots, &plan, TWO_FILLS)
+}
+
+// A gate at which the first call of each of two tasks waits until that of the other is there.
+#[derive(Drop)]
+struct BothBegin {
+    spots: Spots,
+}
+
+impl Gate for BothBegin {
+    fn pass(&self, task: u32, seq: u32, spot: Spot) {
+        self.spots.note(task, seq, spot);
+        match (task, seq, spot) {
+            (0, 0, Spot::Before) => self.spots.hold(1, 1),
+            (1, 0, Spot::Before) => self.spots.hold(0, 1),
+            _ => {}
+        }
+    }
+}
+
+#[test]
+fn both_tasks_of_a_demo_have_begun(rt: HostRuntime) -> Result<(), Fail> {
+    let plan = lw_gen::plan_of(rt.alloc(), 7, 2)?;
+    let gate = BothBegin {
+        spots: Spots::new(),
+    };
+    let (status, text) = demo_seven(&rt, &gate, 4096)?;
+    assert_eq!(rt; status, Status::Done);
+    assert_eq!(rt; text.as_slice(), SEVEN);
+    assert!(rt; gate.spots.are_due(&plan));
+    Ok(())
 }
 
 // Two tasks that fill the same layer.

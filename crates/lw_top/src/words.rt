@@ -1,13 +1,17 @@
-ghost use Rattle.std.specs.Prelude.{◌≡◌};
-ghost use Rattle.lw_top.specs.Commands.{command_named, command_of};
+ghost use Rattle.std.specs.Prelude.{◌≡◌, ◌≤◌, pos, Some, None, IfSome, if◌then◌else◌, unsigned_abs};
+ghost use Rattle.lw_region.specs.Rectangle.{within};
+ghost use Rattle.lw_grammar.specs.Tokens.{token_of};
+ghost use Rattle.lw_top.specs.Commands.{command_named, command_of, demo_of, number_within, HasTasks};
 
-use lw_words::is_text;
+use lw_words::{Token, is_text, token_of};
 
 /// What the program is told to do.
 #[derive(Clone, Copy, Debug, PartialEq, Eq)]
 pub enum Command {
     /// Something with the script in its input.
     Script(ScriptCommand),
+    /// Run the demo of this number with so many tasks, 1 to 16.
+    Demo { number: u32, tasks: u32 },
 }
 
 /// What is done with a script.
@@ -25,15 +29,55 @@ pub enum ScriptCommand {
 
 /// The command that the words are, without the program's name; none where they are no command.
 pub fn command_of(words: &[String]) -> Option<Command>
-    ensures { result ≡ command_of words.now }
+    ensures is { result ≡ command_of words.now }
+    ensures tasks { IfSome result HasTasks }
 {
     match words {
         [word] => match command_named(word.as_bytes()) {
             Some(command) => Some(Command::Script(command)),
             None => None,
         },
+        [word, number, tasks] => {
+            if !is_text(word.as_bytes(), b"demo") {
+                return None;
+            }
+            demo_of(number.as_bytes(), tasks.as_bytes())
+        }
         _ => None,
     }
+}
+
+/// The demo of two words, if they are a number and a number of tasks.
+fn demo_of(number: &[u8], tasks: &[u8]) -> Option<Command>
+    ensures is { result ≡ demo_of (number_within 0 4294967295 (token_of number.now)) (number_within 1 16 (token_of tasks.now)) }
+    ensures tasks { IfSome result HasTasks }
+{
+    let number = number_within(0, u32::MAX, number)?;
+    let tasks = number_within(1, 16, tasks)?;
+    Some(Command::Demo { number, tasks })
+}
+
+/// The number that a word is, if it is one from the least to the most, spelled as in a script.
+fn number_within(least: u32, most: u32, word: &[u8]) -> Option<u32>
+    ensures is { result ≡ number_within least most (token_of word.now) }
+    ensures inside { IfSome result (λ n. (least ≤ n) × (n ≤ most)) }
+{
+    match token_of(word) {
+        Token::Number(_, number) => value_within(least, most, number),
+        _ => None,
+    }
+}
+
+/// The number without a sign, if it is one from the least to the most.
+#[tactic(auto, using(std::proofs::lemmas::Int::ints), unfolding(lw_region::specs::Rectangle::within))]
+fn value_within(least: u32, most: u32, number: i64) -> Option<u32>
+    ensures is { result ≡ if within (pos least) number (pos most) then Some (unsigned_abs number) else None }
+    ensures inside { IfSome result (λ n. (least ≤ n) × (n ≤ most)) }
+{
+    if number < i64::from(least) || i64::from(most) < number {
+        return None;
+    }
+    Some(number as u32)
 }
 
 fn command_named(word: &[u8]) -> Option<ScriptCommand>

@@ -15,6 +15,6 @@ pub use cut::{cut_line, is_text};
 pub use hex::{Digits, digits_in};
 pub use line::{is_skipped, line_words};
 pub use stop::Stop;
-pub use token::{Token, tokens_of};
+pub use token::{Token, token_of, tokens_of};
 pub use tokens::words_of;
 pub use verbs::verb_of;
