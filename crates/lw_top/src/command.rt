@@ -47,7 +47,7 @@ pub fn layers<R: Threads + Wait + Sync, S: Source, K: Sink, G: Gate + Sync>(
     ensures usage { command_of words.now ≡ None
         → Says (text_of Status.Usage) Status.Usage result
         (change K.written K.faults sink.old sink.new) }
-    // Nor is anything where they ask for nothing that reads the input.
+    // The source is left alone by words that ask for nothing of the input.
     ensures unread { reads_input (command_of words.now) ≡ false → source.new ≡ source.old }
     // Nothing is written where reading failed or memory ran out.
     ensures untouched { (result ≡ Status.ReadFault) ⊎ (result ≡ Status.NoMemory)
