@@ -13,7 +13,7 @@ use Rattle.lw_machine.specs.Layer.{Raster}
 use Rattle.lw_machine.specs.Kept.{is_drawable, is_kept}
 use Rattle.lw_machine.specs.Paint.{through_mask, with_pens, draw_where, paint_where}
 use Rattle.lw_machine.specs.Shapes.{rect_fill}
-use Rattle.lw_layer.specs.View.{LiveView, CellView, shows, draws, with_live, with_layer}
+use Rattle.lw_layer.specs.View.{LiveView, shows, draws, with_layer}
 use Rattle.lw_layer.specs.Runs.{IsRun}
 use Rattle.lw_layer.specs.declared.run.Run.{Run}
 use Rattle.lw_layer.proofs.LineLaws.{repainted_same}
@@ -22,39 +22,39 @@ use Rattle.lw_draw.specs.Stretches.{IsFirstStretch, IsNextStretch}
 use Rattle.lw_draw.specs.declared.stretch.Stretch.{Stretch}
 use Rattle.lw_draw.proofs.DrawnLaws.{AreMore, drawn_more, drawn_same, drawn_alike, drawn_nowhere}
 
--- a cell drawn on nowhere
-pub cell_nowhere : (v : CellView) (on : ℕ → ℕ → ℕ → Bool) (new : ℕ → ℕ → ℕ → ℕ → ℕ) → IsBitmap v.live.layer.bits → ((p x y : ℕ) → on p x y ≡ false) → v ≡ with_live (λ c. drawn on new c) v
-cell_nowhere v on new ok none = ap (λ q. record v { live = q }) (sym (drawn_nowhere v.live on new ok none))
+-- a layer drawn on nowhere
+pub layer_nowhere : (v : LiveView) (on : ℕ → ℕ → ℕ → Bool) (new : ℕ → ℕ → ℕ → ℕ → ℕ) → IsBitmap v.layer.bits → ((p x y : ℕ) → on p x y ≡ false) → v ≡ drawn on new v
+layer_nowhere v on new ok none = sym (drawn_nowhere v on new ok none)
 
--- a cell drawn on at the same places
-pub cell_same : (v w : CellView) (on again : ℕ → ℕ → ℕ → Bool) (new : ℕ → ℕ → ℕ → ℕ → ℕ) → w ≡ with_live (λ c. drawn on new c) v → ((p x y : ℕ) → p < v.live.layer.bits.depth → on p x y ≡ again p x y) → w ≡ with_live (λ c. drawn again new c) v
-cell_same v w on again new is same = is ∙ ap (λ q. record v { live = q }) (drawn_same v.live on again new (λ p x y deep _ _. same p x y deep))
+-- a layer drawn on at the same places
+pub layer_same : (v w : LiveView) (on again : ℕ → ℕ → ℕ → Bool) (new : ℕ → ℕ → ℕ → ℕ → ℕ) → w ≡ drawn on new v → ((p x y : ℕ) → p < v.layer.bits.depth → on p x y ≡ again p x y) → w ≡ drawn again new v
+layer_same v w on again new is same = is ∙ drawn_same v on again new (λ p x y deep _ _. same p x y deep)
 
--- a cell drawn on with what gives the same bits there
-pub cell_alike : (v w : CellView) (on : ℕ → ℕ → ℕ → Bool) (new again : ℕ → ℕ → ℕ → ℕ → ℕ) → w ≡ with_live (λ c. drawn on new c) v → ((p x y old : ℕ) → p < v.live.layer.bits.depth → x < v.live.layer.bits.width → y < v.live.layer.bits.height → on p x y ≡ true → old < 2 → new p x y old ≡ again p x y old) → w ≡ with_live (λ c. drawn on again c) v
-cell_alike v w on new again is same = is ∙ ap (λ q. record v { live = q }) (drawn_alike v.live on new again same)
+-- a layer drawn on with what gives the same bits there
+pub layer_alike : (v w : LiveView) (on : ℕ → ℕ → ℕ → Bool) (new again : ℕ → ℕ → ℕ → ℕ → ℕ) → w ≡ drawn on new v → ((p x y old : ℕ) → p < v.layer.bits.depth → x < v.layer.bits.width → y < v.layer.bits.height → on p x y ≡ true → old < 2 → new p x y old ≡ again p x y old) → w ≡ drawn on again v
+layer_alike v w on new again is same = is ∙ drawn_alike v on new again same
 
--- a cell drawn on twice, at places that are apart
-pub cell_more : (v w u : CellView) (former more both : ℕ → ℕ → ℕ → Bool) (new : ℕ → ℕ → ℕ → ℕ → ℕ) → GivesBits new → AreMore v.live former more both → w ≡ with_live (λ c. drawn former new c) v → u ≡ with_live (λ c. drawn more new c) w → u ≡ with_live (λ c. drawn both new c) v
-cell_more v w u former more both new gives are was is =
-    is ∙ (ap (with_live (λ c. drawn more new c)) was ∙ ap (λ q. record v { live = q }) (drawn_more v.live former more both new gives are))
+-- a layer drawn on twice, at places that are apart
+pub layer_more : (v w u : LiveView) (former more both : ℕ → ℕ → ℕ → Bool) (new : ℕ → ℕ → ℕ → ℕ → ℕ) → GivesBits new → AreMore v former more both → w ≡ drawn former new v → u ≡ drawn more new w → u ≡ drawn both new v
+layer_more v w u former more both new gives are was is =
+    is ∙ (ap (λ c. drawn more new c) was ∙ drawn_more v former more both new gives are)
 
 -- a run stays one
-pub run_stays : (v w : CellView) (on : ℕ → ℕ → ℕ → Bool) (new : ℕ → ℕ → ℕ → ℕ → ℕ) (x y : ℕ) (r : Run) → w ≡ with_live (λ c. drawn on new c) v → IsRun v.live (λ i j. draws v.live i j) x y r → IsRun w.live (λ i j. draws w.live i j) x y r
+pub run_stays : (v w : LiveView) (on : ℕ → ℕ → ℕ → Bool) (new : ℕ → ℕ → ℕ → ℕ → ℕ) (x y : ℕ) (r : Run) → w ≡ drawn on new v → IsRun v (λ i j. draws v i j) x y r → IsRun w (λ i j. draws w i j) x y r
 unfolding drawn draws is_drawable is_kept
 run_stays v w on new x y r is run =
-    let P : CellView → Type 0 = λ q. IsRun q.live (λ i j. draws q.live i j) x y r in
+    let P : LiveView → Type 0 = λ q. IsRun q (λ i j. draws q i j) x y r in
     subst P (sym is) (record { some = run.some; there = run.there; holds = run.holds; inside = run.inside; fits = run.fits; bits = run.bits })
 
 -- how many planes there are stays
-pub depth_stays : (v w : CellView) (on : ℕ → ℕ → ℕ → Bool) (new : ℕ → ℕ → ℕ → ℕ → ℕ) → w ≡ with_live (λ c. drawn on new c) v → w.live.layer.bits.depth ≡ v.live.layer.bits.depth
+pub depth_stays : (v w : LiveView) (on : ℕ → ℕ → ℕ → Bool) (new : ℕ → ℕ → ℕ → ℕ → ℕ) → w ≡ drawn on new v → w.layer.bits.depth ≡ v.layer.bits.depth
 unfolding drawn
-depth_stays v w on new is = ap (λ (q : CellView). q.live.layer.bits.depth) is
+depth_stays v w on new is = ap (λ (q : LiveView). q.layer.bits.depth) is
 
 -- which pixels are drawable stays
-pub draws_stays : (v w : CellView) (on : ℕ → ℕ → ℕ → Bool) (new : ℕ → ℕ → ℕ → ℕ → ℕ) (x y : ℕ) → w ≡ with_live (λ c. drawn on new c) v → draws w.live x y ≡ draws v.live x y
+pub draws_stays : (v w : LiveView) (on : ℕ → ℕ → ℕ → Bool) (new : ℕ → ℕ → ℕ → ℕ → ℕ) (x y : ℕ) → w ≡ drawn on new v → draws w x y ≡ draws v x y
 unfolding drawn draws is_drawable is_kept
-draws_stays v w on new x y is = ap (λ (q : CellView). draws q.live x y) is
+draws_stays v w on new x y is = ap (λ (q : LiveView). draws q x y) is
 
 -- what a bit is painted to is a bit
 pub paints_bits : (raster : Raster) → GivesBits (painted_bit raster)
@@ -64,11 +64,11 @@ paints_bits raster p x y old small =
     grind (arith, nat_tests)
 
 -- the first run of a row that is left is the same
-pub first_stays : (v w : CellView) (on : ℕ → ℕ → ℕ → Bool) (new : ℕ → ℕ → ℕ → ℕ → ℕ) (x y end : ℕ) (s : Stretch) → w ≡ with_live (λ c. drawn on new c) v → IsFirstStretch w.live x y end s → IsFirstStretch v.live x y end s
+pub first_stays : (v w : LiveView) (on : ℕ → ℕ → ℕ → Bool) (new : ℕ → ℕ → ℕ → ℕ → ℕ) (x y end : ℕ) (s : Stretch) → w ≡ drawn on new v → IsFirstStretch w x y end s → IsFirstStretch v x y end s
 unfolding drawn draws is_drawable is_kept
 first_stays v w on new x y end s is first =
-    let P : CellView → Type 0 = λ q. IsFirstStretch q.live x y end s in
-    let there : P (with_live (λ c. drawn on new c) v) = subst P is first in
+    let P : LiveView → Type 0 = λ q. IsFirstStretch q x y end s in
+    let there : P (drawn on new v) = subst P is first in
     let column = there.column in
     let run = there.run in
     record {
@@ -79,11 +79,11 @@ first_stays v w on new x y end s is first =
     }
 
 -- that no drawable pixel is left stays
-pub none_stays : (v w : CellView) (on : ℕ → ℕ → ℕ → Bool) (new : ℕ → ℕ → ℕ → ℕ → ℕ) (x y end : ℕ) → w ≡ with_live (λ c. drawn on new c) v → IsNextStretch w.live x y end None → IsNextStretch v.live x y end None
+pub none_stays : (v w : LiveView) (on : ℕ → ℕ → ℕ → Bool) (new : ℕ → ℕ → ℕ → ℕ → ℕ) (x y end : ℕ) → w ≡ drawn on new v → IsNextStretch w x y end None → IsNextStretch v x y end None
 unfolding drawn draws is_drawable is_kept
 none_stays v w on new x y end is none =
-    let P : CellView → Type 0 = λ q. IsNextStretch q.live x y end None in
-    let there : P (with_live (λ c. drawn on new c) v) = subst P is none in
+    let P : LiveView → Type 0 = λ q. IsNextStretch q x y end None in
+    let there : P (drawn on new v) = subst P is none in
     λ u late low. there u late low
 
 -- no column and no row

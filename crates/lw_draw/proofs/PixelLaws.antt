@@ -8,7 +8,7 @@ use Rattle.lw_planes.specs.Bitmap.{IsBitmap}
 use Rattle.lw_machine.specs.Layer.{Raster}
 use Rattle.lw_machine.specs.Kept.{holds_at}
 use Rattle.lw_machine.specs.Shapes.{write_pixel}
-use Rattle.lw_layer.specs.View.{LiveView, CellView, shows, draws, with_live, with_layer}
+use Rattle.lw_layer.specs.View.{LiveView, shows, draws, with_layer}
 use Rattle.lw_draw.specs.Drawn.{painted, painted_bit, in_run, in_mask}
 use Rattle.lw_draw.specs.Stretches.{IsPixel, in_stretch}
 use Rattle.lw_draw.specs.declared.stretch.Stretch.{Stretch}
@@ -48,10 +48,8 @@ none_there test (pos x) (negsuc y) u v none = grind (arith, ints)
 none_there test (negsuc x) py u v none = grind (arith, ints)
 
 -- A pixel that isn't drawable is written with no change.
-pub pixel_left : (v : CellView) (px py across down : ℤ) → IsBitmap v.live.layer.bits → across ≡ px → down ≡ py → holds_at (λ i j. draws v.live i j) across down ≡ false → v ≡ with_live (λ c. with_layer (λ l. write_pixel (λ x y. shows c x y) px py l) c) v
-pixel_left v px py across down ok column row none =
-    let c = v.live in
+pub pixel_left : (c : LiveView) (px py across down : ℤ) → IsBitmap c.layer.bits → across ≡ px → down ≡ py → holds_at (λ i j. draws c i j) across down ≡ false → c ≡ with_layer (λ l. write_pixel (λ x y. shows c x y) px py l) c
+pixel_left c px py across down ok column row none =
     let there : holds_at (λ i j. draws c i j) px py ≡ false = ap (λ a. holds_at (λ i j. draws c i j) a py) (sym column) ∙ (ap (holds_at (λ i j. draws c i j) across) (sym row) ∙ none) in
-    ap (λ q. record v { live = q })
-    (sym (drawn_nowhere c (λ p i j. in_mask c.layer.raster p && false) (painted_bit c.layer.raster) ok (λ p i j. and-false (in_mask c.layer.raster p))) ∙
-    shape_painted c c.layer.raster (λ x y. at_place px py x y) (λ i j. false) ok refl (λ u w left low. none_there (λ i j. draws c i j) px py u w there))
+    sym (drawn_nowhere c (λ p i j. in_mask c.layer.raster p && false) (painted_bit c.layer.raster) ok (λ p i j. and-false (in_mask c.layer.raster p))) ∙
+    shape_painted c c.layer.raster (λ x y. at_place px py x y) (λ i j. false) ok refl (λ u w left low. none_there (λ i j. draws c i j) px py u w there)

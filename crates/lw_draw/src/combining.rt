@@ -1,8 +1,7 @@
 // Painting a row of bits: its part in one run, in one plane.
 
 ghost use Rattle.std.specs.Prelude.{◌≡◌, ◌==◌, ◌+◌, ◌-◌, ◌*◌, ◌^◌, ◌<◌, ◌≤◌, ◌&&◌, length};
-ghost use Rattle.lw_layer.specs.View.{draws, with_live};
-ghost use Rattle.lw_layer.specs.View as view;
+ghost use Rattle.lw_layer.specs.View.{draws};
 ghost use Rattle.lw_layer.specs.Runs.{IsRun};
 ghost use Rattle.lw_draw.specs.Drawn.{drawn};
 ghost use Rattle.lw_draw.specs.Combined.{combined_bit};
@@ -10,7 +9,7 @@ ghost use Rattle.lw_draw.specs.Stretches.{in_stretch};
 
 use crate::stretch::Stretch;
 use lw_kernels::combine;
-use lw_layer::Cell;
+use lw_layer::Layer;
 
 /// Where a row of bits lies: this bit of it, from its left, at this column of the layer.
 #[derive(Clone, Copy)]
@@ -23,28 +22,28 @@ pub struct Origin {
 
 /// Gives the pixels of a run in one plane the minterm's values of a row's bits, which are B, and of their own, which are C.
 pub fn combine_run(
-    cell: &mut Cell,
+    layer: &mut Layer,
     plane: u32,
     stretch: Stretch,
     bits: &[u8],
     origin: Origin,
     minterm: u8,
 )
-    requires live { cell.old.state ≡ view.Live }
-    requires plane { plane < cell.old.live.layer.bits.depth }
-    requires run { IsRun cell.old.live (λ i j. draws cell.old.live i j) stretch.x stretch.y stretch.run }
+    requires plane { plane < layer.old.layer.bits.depth }
+    requires run { IsRun layer.old (λ i j. draws layer.old i j) stretch.x stretch.y stretch.run }
     requires right { stretch.x + stretch.run.len < 65536 }
     requires starts { origin.column ≤ stretch.x }
     requires near { origin.bit < 2 ^ 20 }
     requires inside { origin.bit + (stretch.x + stretch.run.len - origin.column) ≤ 8 * length bits.now }
-    ensures { cell.new ≡ with_live
-        (λ c. drawn (λ p i j. p == plane && in_stretch stretch i j) (combined_bit minterm bits.now origin) c)
-        cell.old }
+    ensures { layer.new ≡ drawn
+        (λ p i j. p == plane && in_stretch stretch i j)
+        (combined_bit minterm bits.now origin)
+        layer.old }
 {
     // Reading this tells the proof that the layer has only pens of its depth.
-    let _ = cell.depth();
+    let _ = layer.depth();
     let run = stretch.run;
     let place = origin.bit + (stretch.x - origin.column);
-    let row = cell.line_mut(plane, run.buffer, run.line);
+    let row = layer.line_mut(plane, run.buffer, run.line);
     combine(row, run.bit, bits, place, run.len, minterm);
 }

@@ -5,8 +5,7 @@ ghost use Rattle.std.specs.Int.{bit_at};
 ghost use Rattle.lw_planes.specs.Row.{row_bit};
 ghost use Rattle.lw_kernels.specs.Kernel.{is_named};
 ghost use Rattle.lw_machine.specs.Paint.{candidate_bit};
-ghost use Rattle.lw_layer.specs.View.{draws, with_live};
-ghost use Rattle.lw_layer.specs.View as view;
+ghost use Rattle.lw_layer.specs.View.{draws};
 ghost use Rattle.lw_layer.specs.Drafts.{raster_of};
 ghost use Rattle.lw_layer.specs.Runs.{IsRun};
 ghost use Rattle.lw_draw.specs.Drawn.{drawn, painted, painted_bit};
@@ -14,33 +13,32 @@ ghost use Rattle.lw_draw.specs.Stretches.{in_stretch};
 
 use crate::stretch::Stretch;
 use lw_kernels::{fill, flip};
-use lw_layer::{Cell, Raster, Run};
+use lw_layer::{Layer, Raster, Run};
 
 // Paints a run, in the foreground.
-pub(crate) fn paint_run(cell: &mut Cell, stretch: Stretch, raster: Raster)
-    requires live { cell.old.state ≡ view.Live }
-    requires run { IsRun cell.old.live (λ i j. draws cell.old.live i j) stretch.x stretch.y stretch.run }
-    ensures { cell.new ≡ with_live (λ c. painted (raster_of raster) (λ i j. in_stretch stretch i j) c) cell.old }
+pub(crate) fn paint_run(layer: &mut Layer, stretch: Stretch, raster: Raster)
+    requires run { IsRun layer.old (λ i j. draws layer.old i j) stretch.x stretch.y stretch.run }
+    ensures { layer.new ≡ painted (raster_of raster) (λ i j. in_stretch stretch i j) layer.old }
 {
-    for plane in 0..cell.depth() {
+    for plane in 0..layer.depth() {
         if has_bit(raster.mask, plane) {
-            paint_plane(cell, plane, stretch, raster);
+            paint_plane(layer, plane, stretch, raster);
         }
     }
 }
 
 // Paints a run's bits in one plane.
-fn paint_plane(cell: &mut Cell, plane: u32, stretch: Stretch, raster: Raster)
-    requires live { cell.old.state ≡ view.Live }
-    requires plane { plane < cell.old.live.layer.bits.depth }
-    requires run { IsRun cell.old.live (λ i j. draws cell.old.live i j) stretch.x stretch.y stretch.run }
-    ensures { cell.new ≡ with_live
-        (λ c. drawn (λ p i j. p == plane && in_stretch stretch i j) (painted_bit (raster_of raster)) c)
-        cell.old }
+fn paint_plane(layer: &mut Layer, plane: u32, stretch: Stretch, raster: Raster)
+    requires plane { plane < layer.old.layer.bits.depth }
+    requires run { IsRun layer.old (λ i j. draws layer.old i j) stretch.x stretch.y stretch.run }
+    ensures { layer.new ≡ drawn
+        (λ p i j. p == plane && in_stretch stretch i j)
+        (painted_bit (raster_of raster))
+        layer.old }
 {
     // Reading this tells the proof that the layer has at most eight planes and only pens of its depth.
-    let _ = cell.depth();
-    let row = cell.line_mut(plane, stretch.run.buffer, stretch.run.line);
+    let _ = layer.depth();
+    let row = layer.line_mut(plane, stretch.run.buffer, stretch.run.line);
     paint_bits(row, plane, stretch.run, raster);
 }
 

@@ -5,5 +5,4 @@ use Rattle.lw_draw.proofs.combining.combine_run.Goals as goal
 
 pub returns : goal.returns
 returns c =
-    ap (λ (q : LiveView). record c.args.cell.now { live = q })
-    (run_combined c.args.cell.now.live c.args.plane c.args.minterm _ c.args.stretch c.args.bits.now c.line_mut-row.result.now c.combine.new.to c.args.origin c.depth.ensures.bits.bitmap c.requires.plane (c.combine.auto.to ∙ c.line_mut-row.ensures.long) c.requires.run c.line_mut-row.ensures.bits refl c.requires.starts c.combine.ensures.each)
+    run_combined c.args.layer.now c.args.plane c.args.minterm _ c.args.stretch c.args.bits.now c.line_mut-row.result.now c.combine.new.to c.args.origin c.depth.ensures.bits.bitmap c.requires.plane (c.combine.auto.to ∙ c.line_mut-row.ensures.long) c.requires.run c.line_mut-row.ensures.bits refl c.requires.starts c.combine.ensures.each

@@ -5,7 +5,7 @@ use Rattle.lw_layer.specs.View.{LiveView, draws}
 use Rattle.lw_layer.specs.Drafts.{raster_of}
 use Rattle.lw_machine.specs.Layer.{Raster}
 use Rattle.lw_draw.specs.Drawn.{in_mask, painted_bit, in_run, in_rows}
-use Rattle.lw_draw.proofs.PaintLaws.{cell_nowhere, cell_same, cell_more, first_stays, none_stays, paints_bits, next_run, no_column, row_done}
+use Rattle.lw_draw.proofs.PaintLaws.{layer_nowhere, layer_same, layer_more, first_stays, none_stays, paints_bits, next_run, no_column, row_done}
 use Rattle.lw_draw.proofs.filling.fill_row.Goals as goal
 
 -- what is painted of a row before a column
@@ -14,19 +14,19 @@ so_far raster c y from x p i j = in_mask raster p && in_rows c y (y + 1) from x 
 
 pub loop-stretch-init : goal.loop-stretch-init
 loop-stretch-init c =
-    let v = c.args.cell.now in
+    let v = c.args.layer.now in
     let from = c.args.columns.from in
     record {
       first = omega arith;
       last = c.args.columns.ordered;
       filled =
-          cell_nowhere v (so_far (raster_of c.args.raster) v.live c.args.y from from) (painted_bit (raster_of c.args.raster)) c.depth.ensures.bits.bitmap
-          (λ p i j. no_column (in_mask (raster_of c.args.raster) p) (is_between c.args.y (c.args.y + 1) j) from i (draws v.live i j));
+          layer_nowhere v (so_far (raster_of c.args.raster) v c.args.y from from) (painted_bit (raster_of c.args.raster)) c.depth.ensures.bits.bitmap
+          (λ p i j. no_column (in_mask (raster_of c.args.raster) p) (is_between c.args.y (c.args.y + 1) j) from i (draws v i j));
     }
 
 pub loop-stretch-preserved : goal.loop-stretch-preserved
 loop-stretch-preserved c =
-    let v = c.args.cell.now in
+    let v = c.args.layer.now in
     let from = c.args.columns.from in
     let end = c.args.columns.end in
     let x = c.loop-stretch.x in
@@ -34,25 +34,25 @@ loop-stretch-preserved c =
     let raster = raster_of c.args.raster in
     let new = painted_bit raster in
     let done = c.loop-stretch.invariant in
-    let next = first_stays v c.loop-stretch.cell (so_far raster v.live c.args.y from x) new x c.args.y end s done.filled c.in-Some.ensures in
+    let next = first_stays v c.loop-stretch.layer (so_far raster v c.args.y from x) new x c.args.y end s done.filled c.in-Some.ensures in
     let reaches : pos x ≤ℤ pos s.x = next.column.reaches in
     record {
       first = omega (arith, ints, done.first);
       last = next.ends;
       filled =
-          cell_more v c.loop-stretch.cell c.paint_run.new.cell (so_far raster v.live c.args.y from x) (λ p i j. in_mask raster p && in_run s.x s.y s.run.len i j) (so_far raster v.live c.args.y from (s.x + s.run.len)) new (paints_bits raster)
-          (next_run v.live (in_mask raster) c.args.y from x end s done.first next) done.filled c.paint_run.ensures;
+          layer_more v c.loop-stretch.layer c.paint_run.new.layer (so_far raster v c.args.y from x) (λ p i j. in_mask raster p && in_run s.x s.y s.run.len i j) (so_far raster v c.args.y from (s.x + s.run.len)) new (paints_bits raster)
+          (next_run v (in_mask raster) c.args.y from x end s done.first next) done.filled c.paint_run.ensures;
     }
 
 pub returns : goal.returns
 returns c =
-    let v = c.args.cell.now in
+    let v = c.args.layer.now in
     let from = c.args.columns.from in
     let end = c.args.columns.end in
     let x = c.loop-stretch.x in
     let raster = raster_of c.args.raster in
     let new = painted_bit raster in
     let done = c.loop-stretch.invariant in
-    let on = so_far raster v.live c.args.y from x in
-    cell_same v c.loop-stretch.cell on (so_far raster v.live c.args.y from end) new done.filled
-    (λ p i j _. row_done v.live (in_mask raster p) c.args.y from x end i j done.first done.last (none_stays v c.loop-stretch.cell on new x c.args.y end done.filled c.in_default.ensures))
+    let on = so_far raster v c.args.y from x in
+    layer_same v c.loop-stretch.layer on (so_far raster v c.args.y from end) new done.filled
+    (λ p i j _. row_done v (in_mask raster p) c.args.y from x end i j done.first done.last (none_stays v c.loop-stretch.layer on new x c.args.y end done.filled c.in_default.ensures))

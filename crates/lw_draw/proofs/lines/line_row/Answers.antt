@@ -8,11 +8,10 @@ use Rattle.lw_draw.proofs.lines.line_row.Goals as goal
 
 pub returns : goal.returns
 returns c =
-    let v = c.args.cell.now in
+    let v = c.args.layer.now in
     let l = c.args.line in
     let columns = c.within_extent-columns.result in
     let row : to_z w32 c.args.y ≡ pos c.args.y = omega (arith, ints) in
     c.fill_row.ensures ∙
-    ap (λ (q : LiveView). record v { live = q })
-    (line_row_painted v.live (raster_of c.args.raster) l c.args.y columns.from columns.end
-    (λ i inside. ap (λ z. is_on_line l.x0 l.y0 l.x1 l.y1 (pos i) z) (sym row) ∙ (c.row_span.ensures (pos i) ∙ c.within_extent-columns.ensures.has i (omega (arith, inside, c.width.ensures.value)))))
+    line_row_painted v (raster_of c.args.raster) l c.args.y columns.from columns.end
+    (λ i inside. ap (λ z. is_on_line l.x0 l.y0 l.x1 l.y1 (pos i) z) (sym row) ∙ (c.row_span.ensures (pos i) ∙ c.within_extent-columns.ensures.has i (omega (arith, inside, c.width.ensures.value))))

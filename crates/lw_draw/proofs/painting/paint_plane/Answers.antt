@@ -14,6 +14,5 @@ returns c =
     let s = c.args.stretch in
     let raster = raster_of c.args.raster in
     let k = c.args.plane in
-    ap (λ (q : LiveView). record c.args.cell.now { live = q })
-    (run_drawn c.args.cell.now.live (λ i j. draws c.args.cell.now.live i j) k s.x s.y s.run c.line_mut-row.result.now c.paint_bits.new.row (painted_bit raster) c.depth.ensures.bits.bitmap c.requires.plane (c.paint_bits.auto.row ∙ c.line_mut-row.ensures.long) c.requires.run c.line_mut-row.ensures.bits
-    (record { value = λ i b. candidate_bit raster true k b; each = c.paint_bits.ensures; same = λ u b _ _. refl }))
+    run_drawn c.args.layer.now (λ i j. draws c.args.layer.now i j) k s.x s.y s.run c.line_mut-row.result.now c.paint_bits.new.row (painted_bit raster) c.depth.ensures.bits.bitmap c.requires.plane (c.paint_bits.auto.row ∙ c.line_mut-row.ensures.long) c.requires.run c.line_mut-row.ensures.bits
+    (record { value = λ i b. candidate_bit raster true k b; each = c.paint_bits.ensures; same = λ u b _ _. refl })
