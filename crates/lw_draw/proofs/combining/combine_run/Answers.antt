@@ -1,5 +1,4 @@
-use Rattle.std.proofs.Common.{◌∙◌, refl, ap}
-use Rattle.lw_layer.specs.View.{LiveView}
+use Rattle.std.proofs.Common.{◌∙◌, refl}
 use Rattle.lw_draw.proofs.CombineLaws.{run_combined}
 use Rattle.lw_draw.proofs.combining.combine_run.Goals as goal
 

@@ -1,6 +1,5 @@
-use Rattle.std.proofs.Common.{◌≡◌, pos, to_z, of_z, w16, ◌∙◌, ap, arith}
+use Rattle.std.proofs.Common.{◌≡◌, pos, to_z, of_z, w16, ◌∙◌, arith}
 use Rattle.std.proofs.lemmas.Int.{ints}
-use Rattle.lw_layer.specs.View.{LiveView}
 use Rattle.lw_layer.specs.Drafts.{raster_of}
 use Rattle.lw_draw.proofs.PaintLaws.{rectangle_filled}
 use Rattle.lw_draw.proofs.RectangleLaws.{within_same}

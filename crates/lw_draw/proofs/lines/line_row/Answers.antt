@@ -1,7 +1,6 @@
 use Rattle.std.proofs.Common.{◌≡◌, pos, to_z, w32, sym, ◌∙◌, ap, arith}
 use Rattle.std.proofs.lemmas.Int.{ints}
 use Rattle.lw_machine.specs.Shapes.{is_on_line}
-use Rattle.lw_layer.specs.View.{LiveView}
 use Rattle.lw_layer.specs.Drafts.{raster_of}
 use Rattle.lw_draw.proofs.DrawnLines.{line_row_painted}
 use Rattle.lw_draw.proofs.lines.line_row.Goals as goal

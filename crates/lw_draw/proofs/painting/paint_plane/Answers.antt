@@ -1,6 +1,6 @@
-use Rattle.std.proofs.Common.{true, ◌∙◌, refl, ap, arith}
+use Rattle.std.proofs.Common.{true, ◌∙◌, refl, arith}
 use Rattle.lw_machine.specs.Paint.{candidate_bit}
-use Rattle.lw_layer.specs.View.{LiveView, draws}
+use Rattle.lw_layer.specs.View.{draws}
 use Rattle.lw_layer.specs.Drafts.{raster_of}
 use Rattle.lw_draw.specs.Drawn.{painted_bit}
 use Rattle.lw_draw.proofs.LineLaws.{run_drawn}

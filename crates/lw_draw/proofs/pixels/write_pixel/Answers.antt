@@ -1,5 +1,4 @@
-use Rattle.std.proofs.Common.{w32, ◌∙◌, ap}
-use Rattle.lw_layer.specs.View.{LiveView}
+use Rattle.std.proofs.Common.{w32, ◌∙◌}
 use Rattle.lw_layer.specs.Drafts.{raster_of}
 use Rattle.lw_draw.proofs.PixelLaws.{pixel_painted, pixel_left}
 use Rattle.lw_draw.proofs.pixels.write_pixel.Goals as goal

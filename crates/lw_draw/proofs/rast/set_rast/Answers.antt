@@ -1,5 +1,4 @@
 use Rattle.std.proofs.Common.{◌∙◌, ap}
-use Rattle.lw_layer.specs.View.{LiveView}
 use Rattle.lw_draw.proofs.RastLaws.{rast_set, solid_of}
 use Rattle.lw_draw.proofs.rast.set_rast.Goals as goal
 
