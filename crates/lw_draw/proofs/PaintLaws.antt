@@ -51,6 +51,11 @@ pub depth_stays : (v w : LiveView) (on : ℕ → ℕ → ℕ → Bool) (new : �
 unfolding drawn
 depth_stays v w on new is = ap (λ (q : LiveView). q.layer.bits.depth) is
 
+-- how high it is stays
+pub height_stays : (v w : LiveView) (on : ℕ → ℕ → ℕ → Bool) (new : ℕ → ℕ → ℕ → ℕ → ℕ) → w ≡ drawn on new v → w.layer.bits.height ≡ v.layer.bits.height
+unfolding drawn
+height_stays v w on new is = ap (λ (q : LiveView). q.layer.bits.height) is
+
 -- which pixels are drawable stays
 pub draws_stays : (v w : LiveView) (on : ℕ → ℕ → ℕ → Bool) (new : ℕ → ℕ → ℕ → ℕ → ℕ) (x y : ℕ) → w ≡ drawn on new v → draws w x y ≡ draws v x y
 unfolding drawn draws is_drawable is_kept
@@ -131,7 +136,7 @@ next_run c has y from x end s first is =
     })
 
 -- the end of a row
-row_end : (has row : Bool) (i from x end : ℕ) (drawable : Bool) → from ≤ x → x ≤ end → (x ≤ i → i < end → row ≡ true → drawable ≡ false) → (has && (row && (is_between from x i && drawable))) ≡ (has && (row && (is_between from end i && drawable)))
+pub row_end : (has row : Bool) (i from x end : ℕ) (drawable : Bool) → from ≤ x → x ≤ end → (x ≤ i → i < end → row ≡ true → drawable ≡ false) → (has && (row && (is_between from x i && drawable))) ≡ (has && (row && (is_between from end i && drawable)))
 row_end has row i from x end drawable first late none = grind (arith, nat_tests)
 
 pub row_done : (c : LiveView) (has : Bool) (y from x end i j : ℕ) → from ≤ x → x ≤ end → IsNextStretch c x y end None → (has && in_rows c y (y + 1) from x i j) ≡ (has && in_rows c y (y + 1) from end i j)
@@ -139,23 +144,37 @@ row_done c has y from x end i j first late none =
     let at : ℕ → ℕ → Bool = λ u v. draws c u v in
     row_end has (is_between y (y + 1) j) i from x end (draws c i j) first late (λ on low same. let e : j ≡ y = grind (arith, nat_tests) in ap (at i) e ∙ none (pos i) (omega (arith, ints)) (omega (arith, ints)))
 
--- one row more
-rows_apart : (has inside : Bool) (j top y : ℕ) → ((has && (is_between top y j && inside)) && (has && (is_between y (y + 1) j && inside))) ≡ false
-rows_apart has inside j top y = grind (arith, nat_tests)
+-- some rows more
+rows_apart : (has inside : Bool) (j top y n : ℕ) → ((has && (is_between top y j && inside)) && (has && (is_between y (y + n) j && inside))) ≡ false
+rows_apart has inside j top y n = grind (arith, nat_tests)
 
-rows_whole : (has inside : Bool) (j top y : ℕ) → top ≤ y → (has && (is_between top (y + 1) j && inside)) ≡ ((has && (is_between top y j && inside)) || (has && (is_between y (y + 1) j && inside)))
-rows_whole has inside j top y low = grind (arith, nat_tests)
+rows_whole : (has inside : Bool) (j top y n : ℕ) → top ≤ y → (has && (is_between top (y + n) j && inside)) ≡ ((has && (is_between top y j && inside)) || (has && (is_between y (y + n) j && inside)))
+rows_whole has inside j top y n low = grind (arith, nat_tests)
 
 -- of any shape
-pub next_row_of : (c : LiveView) (has : ℕ → Bool) (shape : ℕ → ℕ → Bool) (top y : ℕ) → top ≤ y → AreMore c (λ p i j. has p && (is_between top y j && shape i j)) (λ p i j. has p && (is_between y (y + 1) j && shape i j)) (λ p i j. has p && (is_between top (y + 1) j && shape i j))
-next_row_of c has shape top y low = record {
-  apart = λ p i j _ _ _. rows_apart (has p) (shape i j) j top y;
-  whole = λ p i j _ _ _. rows_whole (has p) (shape i j) j top y low;
+pub next_rows_of : (c : LiveView) (has : ℕ → Bool) (shape : ℕ → ℕ → Bool) (top y n : ℕ) → top ≤ y → AreMore c (λ p i j. has p && (is_between top y j && shape i j)) (λ p i j. has p && (is_between y (y + n) j && shape i j)) (λ p i j. has p && (is_between top (y + n) j && shape i j))
+next_rows_of c has shape top y n low = record {
+  apart = λ p i j _ _ _. rows_apart (has p) (shape i j) j top y n;
+  whole = λ p i j _ _ _. rows_whole (has p) (shape i j) j top y n low;
 }
 
 -- of some columns
+pub next_rows : (c : LiveView) (has : ℕ → Bool) (top y n from end : ℕ) → top ≤ y → AreMore c (λ p i j. has p && in_rows c top y from end i j) (λ p i j. has p && in_rows c y (y + n) from end i j) (λ p i j. has p && in_rows c top (y + n) from end i j)
+next_rows c has top y n from end low = next_rows_of c has (λ i j. is_between from end i && draws c i j) top y n low
+
+-- one row more
 pub next_row : (c : LiveView) (has : ℕ → Bool) (top y from end : ℕ) → top ≤ y → AreMore c (λ p i j. has p && in_rows c top y from end i j) (λ p i j. has p && in_rows c y (y + 1) from end i j) (λ p i j. has p && in_rows c top (y + 1) from end i j)
-next_row c has top y from end low = next_row_of c has (λ i j. is_between from end i && draws c i j) top y low
+next_row c has top y from end low = next_rows c has top y 1 from end low
+
+-- all rows are done where none is left before the end of the layer
+rows_end : (has : Bool) (top y bottom high j : ℕ) (inside : Bool) → y ≤ bottom → (j < bottom → j < high → j < y) → j < high → (has && (is_between top y j && inside)) ≡ (has && (is_between top bottom j && inside))
+rows_end has top y bottom high j inside upto all low = grind (arith, nat_tests)
+
+pub rows_done : (v w : LiveView) (has : ℕ → Bool) (new : ℕ → ℕ → ℕ → ℕ → ℕ) (top y bottom from end : ℕ) → y ≤ bottom → ((j : ℕ) → j < bottom → j < v.layer.bits.height → j < y) → w ≡ drawn (λ p i j. has p && in_rows v top y from end i j) new v → w ≡ drawn (λ p i j. has p && in_rows v top bottom from end i j) new v
+rows_done v w has new top y bottom from end upto all is =
+    is ∙
+    drawn_same v (λ p i j. has p && in_rows v top y from end i j) (λ p i j. has p && in_rows v top bottom from end i j) new
+    (λ p i j _ _ low. rows_end (has p) top y bottom v.layer.bits.height j (is_between from end i && draws v i j) upto (all j) low)
 
 -- a plane's bit where the pixel is painted, and where it isn't
 painted_plane : (has : Bool) (a b : ℕ) → (if has && true then a else b) ≡ (if has then a else b)

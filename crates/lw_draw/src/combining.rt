@@ -1,14 +1,16 @@
-// Painting a row of bits: its part in one run, in one plane.
+// Painting rows of bits: a block of them, or a row's part in one run, in one plane.
 
 ghost use Rattle.std.specs.Prelude.{◌≡◌, ◌==◌, ◌+◌, ◌-◌, ◌*◌, ◌^◌, ◌<◌, ◌≤◌, ◌&&◌, length};
 ghost use Rattle.lw_layer.specs.View.{draws};
 ghost use Rattle.lw_layer.specs.Runs.{IsRun};
+ghost use Rattle.lw_draw.specs.Blocks.{IsBlock, in_block, block_bit};
 ghost use Rattle.lw_draw.specs.Drawn.{drawn};
 ghost use Rattle.lw_draw.specs.Combined.{combined_bit};
 ghost use Rattle.lw_draw.specs.Stretches.{in_stretch};
 
+use crate::blocks::Block;
 use crate::stretch::Stretch;
-use lw_kernels::combine;
+use lw_kernels::combine_rows;
 use lw_layer::Layer;
 
 /// Where a row of bits lies: this bit of it, from its left, at this column of the layer.
@@ -18,6 +20,36 @@ pub struct Origin {
     pub column: u32,
     /// The bit.
     pub bit: u32,
+}
+
+/// Gives the pixels of a block in one plane the minterm's values of bits, which are B, and of their own, which are C. Row by row the
+/// bits are in the bytes, `step` bytes apart, from bit `bit` of each row on.
+pub fn combine_block(
+    layer: &mut Layer,
+    plane: u32,
+    block: Block,
+    bytes: &[u8],
+    step: usize,
+    bit: u32,
+    minterm: u8,
+)
+    requires plane { plane < layer.old.layer.bits.depth }
+    requires block { IsBlock layer.old (λ i j. draws layer.old i j) block }
+    requires inside { bit + block.run.len ≤ 8 * step }
+    requires all { block.rows * step ≤ length bytes.now }
+    ensures { layer.new ≡ drawn
+        (λ p i j. p == plane && in_block block i j)
+        (block_bit minterm bytes.now step bit block)
+        layer.old }
+{
+    // Reading this tells the proof that the layer has only pens of its depth.
+    let _ = layer.depth();
+    let Block { rows, run, .. } = block;
+    let own_step = layer.step(run.buffer);
+    let own = layer.lines_mut(plane, run.buffer, run.line, rows);
+    combine_rows(
+        own, own_step, run.bit, bytes, step, bit, rows, run.len, minterm,
+    );
 }
 
 /// Gives the pixels of a run in one plane the minterm's values of a row's bits, which are B, and of their own, which are C.
@@ -40,10 +72,12 @@ pub fn combine_run(
         (combined_bit minterm bits.now origin)
         layer.old }
 {
-    // Reading this tells the proof that the layer has only pens of its depth.
-    let _ = layer.depth();
-    let run = stretch.run;
-    let place = origin.bit + (stretch.x - origin.column);
-    let row = layer.line_mut(plane, run.buffer, run.line);
-    combine(row, run.bit, bits, place, run.len, minterm);
+    let bit = origin.bit + (stretch.x - origin.column);
+    let block = Block {
+        x: stretch.x,
+        y: stretch.y,
+        rows: 1,
+        run: stretch.run,
+    };
+    combine_block(layer, plane, block, bits, bits.len(), bit, minterm);
 }

@@ -1,12 +1,12 @@
-ghost use Rattle.std.specs.Prelude.{◌≡◌, ◌+◌, ◌<◌};
+ghost use Rattle.std.specs.Prelude.{◌≡◌, ◌<◌};
 ghost use Rattle.lw_machine.specs.Shapes.{rect_fill};
 ghost use Rattle.lw_layer.specs.View.{shows, with_layer};
 ghost use Rattle.lw_layer.specs.Drafts.{raster_of};
 ghost use Rattle.lw_draw.specs.Drawn.{painted, in_rows};
 
-use crate::painting::paint_run;
+use crate::filler::Filler;
+use crate::painting::paint_rows;
 use crate::spans::{Places, span};
-use crate::stretch::next_stretch;
 use lw_layer::{Layer, Raster};
 use lw_region::Rect;
 
@@ -29,26 +29,5 @@ pub fn fill_rows(layer: &mut Layer, rows: Places, columns: Places, raster: Raste
         (λ i j. in_rows layer.old rows.from rows.end columns.from columns.end i j)
         layer.old }
 {
-    // Reading this tells the proof that the layer has only pens of its depth.
-    let _ = layer.depth();
-    for y in rows.from..rows.end {
-        fill_row(layer, y, columns, raster);
-    }
-}
-
-// Fills the drawable pixels of some columns of a row, run by run.
-pub(crate) fn fill_row(layer: &mut Layer, y: u32, columns: Places, raster: Raster)
-    requires row { y < 65536 }
-    requires right { columns.end < 65536 }
-    ensures { layer.new ≡ painted (raster_of raster)
-        (λ i j. in_rows layer.old y (y + 1) columns.from columns.end i j)
-        layer.old }
-{
-    // As above.
-    let _ = layer.depth();
-    let mut x = columns.from;
-    while let Some(stretch) = next_stretch(layer, x, y, columns.end) {
-        paint_run(layer, stretch, raster);
-        x = stretch.x + stretch.run.len;
-    }
+    paint_rows(layer, rows, columns, &Filler { raster });
 }

@@ -7,7 +7,8 @@ ghost use Rattle.lw_draw.specs.Drawn.{painted};
 ghost use Rattle.lw_draw.specs.LineSpans.{has_row, in_reach, on_line_rows};
 ghost use Rattle.lw_draw.specs.Walks.{IsWalk};
 
-use crate::filling::fill_row;
+use crate::filler::Filler;
+use crate::painting::paint_band;
 use crate::row_spans::{Line, Reach, row_span};
 use crate::spans::{Places, edge, span};
 use crate::walks::{Walk, next_row, walk_at};
@@ -66,7 +67,7 @@ fn line_row(layer: &mut Layer, y: u32, line: Line, walk: Walk, raster: Raster)
     ensures { layer.new ≡ painted (raster_of raster) (λ i j. on_line_rows layer.old line y (y + 1) i j) layer.old }
 {
     let columns = within_extent(row_span(line, y as i32, walk), layer.width());
-    fill_row(layer, y, columns, raster);
+    paint_band(layer, y, 1, columns, &Filler { raster });
 }
 
 // Of some columns those from 0 on and before the extent.

@@ -3,7 +3,9 @@ ghost use Rattle.lw_machine.specs.Kept.{holds_at};
 ghost use Rattle.lw_machine.specs.Shapes.{write_pixel as with_pixel};
 ghost use Rattle.lw_layer.specs.View.{shows, draws, kept_pen, with_layer};
 
-use crate::painting::paint_run;
+use crate::blocks::Block;
+use crate::filler::Filler;
+use crate::painting::paint_block;
 use crate::stretch::pixel_at;
 use lw_layer::Layer;
 
@@ -18,7 +20,14 @@ pub fn write_pixel(layer: &mut Layer, x: i32, y: i32) -> bool
     let Some(stretch) = pixel_at(layer, x, y) else {
         return false;
     };
-    paint_run(layer, stretch, layer.raster());
+    let raster = layer.raster();
+    let block = Block {
+        x: stretch.x,
+        y: stretch.y,
+        rows: 1,
+        run: stretch.run,
+    };
+    paint_block(layer, block, &Filler { raster });
     true
 }
 

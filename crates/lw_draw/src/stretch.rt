@@ -1,9 +1,9 @@
-// Runs of drawable pixels in a row of a layer, one after another.
+// Runs of drawable or kept pixels in a row of a layer, one after another.
 
 ghost use Rattle.std.specs.Prelude.{◌≡◌, ◌+◌, ◌<◌, ◌≤◌, true, min};
-ghost use Rattle.lw_layer.specs.View.{draws};
+ghost use Rattle.lw_layer.specs.View.{keeps, draws};
 ghost use Rattle.lw_layer.specs.Runs.{IsRun};
-ghost use Rattle.lw_draw.specs.Stretches.{IsNextStretch, IsPixelAt};
+ghost use Rattle.lw_draw.specs.Stretches.{IsNextStretch, IsNextKept, IsPixelAt};
 
 use lw_layer::{Layer, Run};
 
@@ -34,6 +34,22 @@ pub fn next_stretch(layer: &Layer, x: u32, y: u32, end: u32) -> Option<Stretch>
     Some(Stretch { x: column, y, run })
 }
 
+/// The next run of kept pixels in row `y`, from column `x` on and before column `end`; `None` exactly where there is no kept
+/// pixel. The run need not be the longest one.
+pub fn next_kept_stretch(layer: &Layer, x: u32, y: u32, end: u32) -> Option<Stretch>
+    requires column { x < 65536 }
+    requires row { y < 65536 }
+    requires end { end < 65536 }
+    ensures { IsNextKept layer.now x y end result }
+{
+    let Some(column) = layer.next_kept(x as i32, y as i32, end as i32 - 1) else {
+        return None;
+    };
+    let column = column as u32;
+    let run = kept_run_before(layer, column, y, end);
+    Some(Stretch { x: column, y, run })
+}
+
 // The one pixel at column x and row y, if it is drawable.
 pub(crate) fn pixel_at(layer: &Layer, x: i32, y: i32) -> Option<Stretch>
     ensures { IsPixelAt layer.now x y result }
@@ -61,6 +77,21 @@ fn run_before(layer: &Layer, x: u32, y: u32, end: u32) -> Run
     match layer.run_at(x as i32, y as i32) {
         None => unreachable!(),
         Some(run) => cut(run, end - x),
+    }
+}
+
+// The same of kept pixels.
+fn kept_run_before(layer: &Layer, x: u32, y: u32, end: u32) -> Run
+    requires row { y < 65536 }
+    requires kept { keeps layer.now x y ≡ true }
+    requires before { x < end }
+    requires end { end < 65536 }
+    ensures run { IsRun layer.now (λ i j. keeps layer.now i j) x y result }
+    ensures ends { x + result.len ≤ end }
+{
+    match layer.kept_run_at(x as i32, y as i32) {
+        None => unreachable!(),
+        Some(found) => cut(found, end - x),
     }
 }
 

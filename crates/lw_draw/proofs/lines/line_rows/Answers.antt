@@ -10,7 +10,7 @@ use Rattle.lw_draw.specs.Drawn.{in_mask, painted, painted_bit}
 use Rattle.lw_draw.specs.LineSpans.{on_line_rows}
 use Rattle.lw_draw.specs.Walks.{IsWalk}
 use Rattle.lw_draw.specs.declared.row_spans.Line.{Line}
-use Rattle.lw_draw.proofs.PaintLaws.{layer_nowhere, layer_same, layer_more, draws_stays, paints_bits, next_row_of, no_row}
+use Rattle.lw_draw.proofs.PaintLaws.{layer_nowhere, layer_same, layer_more, draws_stays, paints_bits, next_rows_of, no_row}
 use Rattle.lw_draw.proofs.lines.line_rows.Goals as goal
 
 -- what is painted of the line before a row
@@ -60,7 +60,7 @@ loop-y-preserved c =
     let low : top ≤ y = omega arith in
     let row : LiveView → ℕ → ℕ → ℕ → Bool = λ q p i j. in_mask raster p && on_line_rows q l y (y + 1) i j in
     record {
-      drawn = layer_more v w c.line_row.new.layer (so_far raster v l top y) (row v) (so_far raster v l top (y + 1)) new (paints_bits raster) (next_row_of v (in_mask raster) (λ i j. on_it l i j && draws v i j) top y low) c.loop-y.invariant.drawn
+      drawn = layer_more v w c.line_row.new.layer (so_far raster v l top y) (row v) (so_far raster v l top (y + 1)) new (paints_bits raster) (next_rows_of v (in_mask raster) (λ i j. on_it l i j && draws v i j) top y 1 low) c.loop-y.invariant.drawn
           (layer_same w c.line_row.new.layer (row w) (row v) new c.line_row.ensures
           (λ p i j _. ap (λ t. in_mask raster p && (is_between y (y + 1) j && (on_it l i j && t))) (draws_stays v w (so_far raster v l top y) new i j c.loop-y.invariant.drawn)));
       walk = c.next_row-walk.ensures;
