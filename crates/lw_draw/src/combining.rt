@@ -1,14 +1,15 @@
-// Painting rows of bits: a block of them, or a row's part in one run, in one plane.
+// Painting rows of bits: what lies over a block, or over a run, in one plane.
 
-ghost use Rattle.std.specs.Prelude.{◌≡◌, ◌==◌, ◌+◌, ◌-◌, ◌*◌, ◌^◌, ◌<◌, ◌≤◌, ◌&&◌, length};
+ghost use Rattle.std.specs.Prelude.{◌≡◌, ◌==◌, ◌+◌, ◌-◌, ◌*◌, ◌^◌, ◌<◌, ◌≤◌, ◌&&◌, ℕ, length, true};
 ghost use Rattle.lw_layer.specs.View.{draws};
 ghost use Rattle.lw_layer.specs.Runs.{IsRun};
 ghost use Rattle.lw_draw.specs.Blocks.{IsBlock, in_block, block_bit};
 ghost use Rattle.lw_draw.specs.Drawn.{drawn};
-ghost use Rattle.lw_draw.specs.Combined.{combined_bit};
+ghost use Rattle.lw_draw.specs.Combined.{combined_bit, combined_over, is_over};
 ghost use Rattle.lw_draw.specs.Stretches.{in_stretch};
 
 use crate::blocks::Block;
+use crate::overlay::Overlay;
 use crate::stretch::Stretch;
 use lw_kernels::combine_rows;
 use lw_layer::Layer;
@@ -50,6 +51,29 @@ pub fn combine_block(
     combine_rows(
         own, own_step, run.bit, bytes, step, bit, rows, run.len, minterm,
     );
+}
+
+/// The same of rows of bits that lie over all pixels of the block.
+pub fn combine_over(
+    layer: &mut Layer,
+    plane: u32,
+    block: Block,
+    bytes: &[u8],
+    overlay: Overlay,
+    minterm: u8,
+)
+    requires plane { plane < layer.old.layer.bits.depth }
+    requires block { IsBlock layer.old (λ i j. draws layer.old i j) block }
+    requires over { (i j : ℕ) → in_block block i j ≡ true → is_over overlay (length bytes.now) i j ≡ true }
+    ensures { layer.new ≡ drawn
+        (λ p i j. p == plane && in_block block i j)
+        (combined_over minterm bytes.now overlay)
+        layer.old }
+{
+    let above = (block.y - overlay.row) as usize;
+    let (_, below) = bytes.split_at(above * overlay.step);
+    let bit = overlay.bit + (block.x - overlay.column);
+    combine_block(layer, plane, block, below, overlay.step, bit, minterm);
 }
 
 /// Gives the pixels of a run in one plane the minterm's values of a row's bits, which are B, and of their own, which are C.
