@@ -3,6 +3,7 @@ pub mod CombineLaws
 pub mod DrawnLaws
 pub mod DrawnLines
 pub mod LimitLaws
+pub mod MoveLaws
 pub mod OverlayLaws
 pub mod PaintLaws
 pub mod PixelLaws

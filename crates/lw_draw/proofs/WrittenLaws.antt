@@ -108,7 +108,7 @@ bit_changed c test k top count b old bytes new p i j block has are plane inside 
     ap (λ q. new q i j bit) (sym plane))))))
 
 -- a pixel of a block has its pen in lines that hold those of the block
-block_inside : (c : LiveView) (test : ℕ → ℕ → Bool) (top count first : ℕ) (b : Block) (i j : ℕ) → IsBlock c test b → top + first ≡ b.run.line → first + b.rows ≤ count → in_block b i j ≡ true → in_lines (layout_of c) b.run.buffer top count i j ≡ true
+pub block_inside : (c : LiveView) (test : ℕ → ℕ → Bool) (top count first : ℕ) (b : Block) (i j : ℕ) → IsBlock c test b → top + first ≡ b.run.line → first + b.rows ≤ count → in_block b i j ≡ true → in_lines (layout_of c) b.run.buffer top count i j ≡ true
 unfolding in_lines
 block_inside c test top count first b i j block begins ends in_it =
     let l = layout_of c in

@@ -1,7 +1,9 @@
 -- Blocks of pixels: rows one below another, each a run of the same columns, with their pens in lines of one buffer.
 use Rattle.std.specs.Prelude.{◌≡◌, ℕ, ◌+◌, ◌-◌, ◌<◌, ◌≤◌, Bool, ◌&&◌, List}
 use Rattle.lw_planes.specs.Row.{row_bit}
+use Rattle.std.specs.Int.{bit_at}
 use Rattle.lw_planes.specs.Minterm.{minterm_bit}
+use Rattle.lw_planes.specs.Bitmap.{pen_at}
 use Rattle.lw_kernels.specs.Kernel.{is_named, place_in}
 use Rattle.lw_layer.specs.View.{LiveView}
 use Rattle.lw_layer.specs.Runs.{IsRun, AreAlike}
@@ -47,3 +49,14 @@ pub record IsCut (c : LiveView) (rows columns : Places) (r : Run) (b : Block) : 
   pub fits : b.run.len ≤ r.len
   pub run : b.run ≡ record r { len = b.run.len }
   pub band : AreBand c b.y b.rows
+
+-- the blocks are of one size and in one buffer
+pub record HaveOneShape (a b : Block) : Type 0 where
+  pub buffer : a.run.buffer ≡ b.run.buffer
+  pub rows : a.rows ≡ b.rows
+  pub len : a.run.len ≡ b.run.len
+
+-- the minterm's value of the pixel's own bit and of the layer's bit of the pixel that lies in `from` as the pixel does in `to`
+abbrev pub moved_bit : ℕ → LiveView → Block → Block → ℕ → ℕ → ℕ → ℕ → ℕ
+moved_bit minterm c to from p x y old =
+    minterm_bit minterm (bit_at (pen_at c.layer.bits (from.x + (x - to.x)) (from.y + (y - to.y))) p) old
