@@ -104,10 +104,6 @@ band_of_one c y k low =
 pub block_of_one : (c : LiveView) (s : Stretch) → IsRun c (λ i j. draws c i j) s.x s.y s.run → IsBlock c (λ i j. draws c i j) (record { x = s.x; y = s.y; rows = 1; run = s.run })
 block_of_one c s run = drawable_block c (record { x = s.x; y = s.y; rows = 1; run = s.run }) (omega arith) run (band_of_one c s.y)
 
--- fewer rows are one
-pub band_cut : (c : LiveView) (y rows n : ℕ) → n ≤ rows → AreBand c y rows → AreBand c y n
-band_cut c y rows n upto band k low = band k (omega arith)
-
 -- the lines of a block are lines of its buffer
 pub block_lines : (c : LiveView) (test : ℕ → ℕ → Bool) (b : Block) → IsBlock c test b → HaveLines (layout_of c) b.run.buffer b.run.line b.rows
 block_lines c test b block =
