@@ -8,7 +8,7 @@ use Rattle.lw_kernels.specs.Kernel.{is_between}
 use Rattle.lw_machine.specs.Layer.{Raster}
 use Rattle.lw_machine.specs.Shapes.{is_on_line, draw_line}
 use Rattle.lw_machine.specs.Paint.{paint_where, with_pens}
-use Rattle.lw_layer.specs.View.{LiveView, CellView, shows, draws, with_layer, with_live}
+use Rattle.lw_layer.specs.View.{LiveView, shows, draws, with_layer}
 use Rattle.lw_draw.specs.Drawn.{painted, painted_bit, in_mask, in_rows}
 use Rattle.lw_draw.specs.LineSpans.{on_line_rows}
 use Rattle.lw_draw.specs.declared.row_spans.Line.{Line}
@@ -54,13 +54,13 @@ line_painted c raster line top bottom ok same rows =
     (λ x y _ low. line_tests (draws c x y) (is_on_line line.x0 line.y0 line.x1 line.y1 (pos x) (pos y)) _ (is_between top bottom y) (rows_of_line line.x0 line.y0 line.x1 line.y1 (pos x) (pos y)) (rows y low))
 
 -- With its pixels drawn and the cursor at its end the line is drawn.
-pub line_done : (v w u : CellView) (raster after : Raster) (line : Line) (px py : ℤ) (top bottom : ℕ) → IsBitmap v.live.layer.bits → raster ≡ v.live.layer.raster → ((j : ℕ) → j < v.live.layer.bits.height → within (int_min line.y0 line.y1) (pos j) (int_max line.y0 line.y1) ≡ is_between top bottom j) → w ≡ with_live (λ c. painted raster (λ i j. on_line_rows c line top bottom i j) c) v → u ≡ with_live (λ c. with_layer (λ l. record l { raster = after }) c) w → line.x0 ≡ raster.cursor_x → line.y0 ≡ raster.cursor_y → line.x1 ≡ px → line.y1 ≡ py → after ≡ record raster { cursor_x = px; cursor_y = py } → u ≡ with_live (λ c. with_layer (λ l. draw_line (λ i j. shows c i j) px py l) c) v
+pub line_done : (v w u : LiveView) (raster after : Raster) (line : Line) (px py : ℤ) (top bottom : ℕ) → IsBitmap v.layer.bits → raster ≡ v.layer.raster → ((j : ℕ) → j < v.layer.bits.height → within (int_min line.y0 line.y1) (pos j) (int_max line.y0 line.y1) ≡ is_between top bottom j) → w ≡ painted raster (λ i j. on_line_rows v line top bottom i j) v → u ≡ with_layer (λ l. record l { raster = after }) w → line.x0 ≡ raster.cursor_x → line.y0 ≡ raster.cursor_y → line.x1 ≡ px → line.y1 ≡ py → after ≡ record raster { cursor_x = px; cursor_y = py } → u ≡ with_layer (λ l. draw_line (λ i j. shows v i j) px py l) v
 unfolding with_pens
 line_done v w u raster after line px py top bottom ok same rows was is from_x from_y to_x to_y ends =
-    let drawn_as : ℤ → ℤ → ℤ → ℤ → Raster → CellView = λ x0 y0 x1 y1 a. record v { live = record v.live { layer = record (paint_where (λ i j. shows v.live i j) (λ i j. is_on_line x0 y0 x1 y1 (pos i) (pos j)) (λ i j. true) v.live.layer) { raster = a } } } in
-    let old = v.live.layer.raster in
-    is ∙ ap (λ (q : CellView). with_live (λ c. with_layer (λ l. record l { raster = after }) c) q) was ∙
-    ap (λ (q : LiveView). record v { live = with_layer (λ l. record l { raster = after }) q }) (line_painted v.live raster line top bottom ok same rows) ∙
+    let drawn_as : ℤ → ℤ → ℤ → ℤ → Raster → LiveView = λ x0 y0 x1 y1 a. record v { layer = record (paint_where (λ i j. shows v i j) (λ i j. is_on_line x0 y0 x1 y1 (pos i) (pos j)) (λ i j. true) v.layer) { raster = a } } in
+    let old = v.layer.raster in
+    is ∙ ap (λ (q : LiveView). with_layer (λ l. record l { raster = after }) q) was ∙
+    ap (λ (q : LiveView). with_layer (λ l. record l { raster = after }) q) (line_painted v raster line top bottom ok same rows) ∙
     ap (λ z. drawn_as z line.y0 line.x1 line.y1 after) (from_x ∙ ap (λ (r : Raster). r.cursor_x) same) ∙
     ap (λ z. drawn_as old.cursor_x z line.x1 line.y1 after) (from_y ∙ ap (λ (r : Raster). r.cursor_y) same) ∙
     ap (λ z. drawn_as old.cursor_x old.cursor_y z line.y1 after) to_x ∙

@@ -1,8 +1,10 @@
+pub mod BlockLaws
 pub mod CombineLaws
 pub mod DrawnLaws
 pub mod DrawnLines
 pub mod LimitLaws
-pub mod LineLaws
+pub mod MoveLaws
+pub mod OverlayLaws
 pub mod PaintLaws
 pub mod PixelLaws
 pub mod QuotientLaws
@@ -14,3 +16,5 @@ pub mod StepLaws
 pub mod StretchLaws
 pub mod UpdateLaws
 pub mod WalkLaws
+pub mod WholeLaws
+pub mod WrittenLaws

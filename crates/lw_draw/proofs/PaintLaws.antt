@@ -13,7 +13,7 @@ use Rattle.lw_machine.specs.Layer.{Raster}
 use Rattle.lw_machine.specs.Kept.{is_drawable, is_kept}
 use Rattle.lw_machine.specs.Paint.{through_mask, with_pens, draw_where, paint_where}
 use Rattle.lw_machine.specs.Shapes.{rect_fill}
-use Rattle.lw_layer.specs.View.{LiveView, CellView, shows, draws, with_live, with_layer}
+use Rattle.lw_layer.specs.View.{LiveView, shows, draws, with_layer}
 use Rattle.lw_layer.specs.Runs.{IsRun}
 use Rattle.lw_layer.specs.declared.run.Run.{Run}
 use Rattle.lw_layer.proofs.LineLaws.{repainted_same}
@@ -22,39 +22,44 @@ use Rattle.lw_draw.specs.Stretches.{IsFirstStretch, IsNextStretch}
 use Rattle.lw_draw.specs.declared.stretch.Stretch.{Stretch}
 use Rattle.lw_draw.proofs.DrawnLaws.{AreMore, drawn_more, drawn_same, drawn_alike, drawn_nowhere}
 
--- a cell drawn on nowhere
-pub cell_nowhere : (v : CellView) (on : ℕ → ℕ → ℕ → Bool) (new : ℕ → ℕ → ℕ → ℕ → ℕ) → IsBitmap v.live.layer.bits → ((p x y : ℕ) → on p x y ≡ false) → v ≡ with_live (λ c. drawn on new c) v
-cell_nowhere v on new ok none = ap (λ q. record v { live = q }) (sym (drawn_nowhere v.live on new ok none))
+-- a layer drawn on nowhere
+pub layer_nowhere : (v : LiveView) (on : ℕ → ℕ → ℕ → Bool) (new : ℕ → ℕ → ℕ → ℕ → ℕ) → IsBitmap v.layer.bits → ((p x y : ℕ) → on p x y ≡ false) → v ≡ drawn on new v
+layer_nowhere v on new ok none = sym (drawn_nowhere v on new ok none)
 
--- a cell drawn on at the same places
-pub cell_same : (v w : CellView) (on again : ℕ → ℕ → ℕ → Bool) (new : ℕ → ℕ → ℕ → ℕ → ℕ) → w ≡ with_live (λ c. drawn on new c) v → ((p x y : ℕ) → p < v.live.layer.bits.depth → on p x y ≡ again p x y) → w ≡ with_live (λ c. drawn again new c) v
-cell_same v w on again new is same = is ∙ ap (λ q. record v { live = q }) (drawn_same v.live on again new (λ p x y deep _ _. same p x y deep))
+-- a layer drawn on at the same places
+pub layer_same : (v w : LiveView) (on again : ℕ → ℕ → ℕ → Bool) (new : ℕ → ℕ → ℕ → ℕ → ℕ) → w ≡ drawn on new v → ((p x y : ℕ) → p < v.layer.bits.depth → on p x y ≡ again p x y) → w ≡ drawn again new v
+layer_same v w on again new is same = is ∙ drawn_same v on again new (λ p x y deep _ _. same p x y deep)
 
--- a cell drawn on with what gives the same bits there
-pub cell_alike : (v w : CellView) (on : ℕ → ℕ → ℕ → Bool) (new again : ℕ → ℕ → ℕ → ℕ → ℕ) → w ≡ with_live (λ c. drawn on new c) v → ((p x y old : ℕ) → p < v.live.layer.bits.depth → x < v.live.layer.bits.width → y < v.live.layer.bits.height → on p x y ≡ true → old < 2 → new p x y old ≡ again p x y old) → w ≡ with_live (λ c. drawn on again c) v
-cell_alike v w on new again is same = is ∙ ap (λ q. record v { live = q }) (drawn_alike v.live on new again same)
+-- a layer drawn on with what gives the same bits there
+pub layer_alike : (v w : LiveView) (on : ℕ → ℕ → ℕ → Bool) (new again : ℕ → ℕ → ℕ → ℕ → ℕ) → w ≡ drawn on new v → ((p x y old : ℕ) → p < v.layer.bits.depth → x < v.layer.bits.width → y < v.layer.bits.height → on p x y ≡ true → old < 2 → new p x y old ≡ again p x y old) → w ≡ drawn on again v
+layer_alike v w on new again is same = is ∙ drawn_alike v on new again same
 
--- a cell drawn on twice, at places that are apart
-pub cell_more : (v w u : CellView) (former more both : ℕ → ℕ → ℕ → Bool) (new : ℕ → ℕ → ℕ → ℕ → ℕ) → GivesBits new → AreMore v.live former more both → w ≡ with_live (λ c. drawn former new c) v → u ≡ with_live (λ c. drawn more new c) w → u ≡ with_live (λ c. drawn both new c) v
-cell_more v w u former more both new gives are was is =
-    is ∙ (ap (with_live (λ c. drawn more new c)) was ∙ ap (λ q. record v { live = q }) (drawn_more v.live former more both new gives are))
+-- a layer drawn on twice, at places that are apart
+pub layer_more : (v w u : LiveView) (former more both : ℕ → ℕ → ℕ → Bool) (new : ℕ → ℕ → ℕ → ℕ → ℕ) → GivesBits new → AreMore v former more both → w ≡ drawn former new v → u ≡ drawn more new w → u ≡ drawn both new v
+layer_more v w u former more both new gives are was is =
+    is ∙ (ap (λ c. drawn more new c) was ∙ drawn_more v former more both new gives are)
 
 -- a run stays one
-pub run_stays : (v w : CellView) (on : ℕ → ℕ → ℕ → Bool) (new : ℕ → ℕ → ℕ → ℕ → ℕ) (x y : ℕ) (r : Run) → w ≡ with_live (λ c. drawn on new c) v → IsRun v.live (λ i j. draws v.live i j) x y r → IsRun w.live (λ i j. draws w.live i j) x y r
+pub run_stays : (v w : LiveView) (on : ℕ → ℕ → ℕ → Bool) (new : ℕ → ℕ → ℕ → ℕ → ℕ) (x y : ℕ) (r : Run) → w ≡ drawn on new v → IsRun v (λ i j. draws v i j) x y r → IsRun w (λ i j. draws w i j) x y r
 unfolding drawn draws is_drawable is_kept
 run_stays v w on new x y r is run =
-    let P : CellView → Type 0 = λ q. IsRun q.live (λ i j. draws q.live i j) x y r in
+    let P : LiveView → Type 0 = λ q. IsRun q (λ i j. draws q i j) x y r in
     subst P (sym is) (record { some = run.some; there = run.there; holds = run.holds; inside = run.inside; fits = run.fits; bits = run.bits })
 
 -- how many planes there are stays
-pub depth_stays : (v w : CellView) (on : ℕ → ℕ → ℕ → Bool) (new : ℕ → ℕ → ℕ → ℕ → ℕ) → w ≡ with_live (λ c. drawn on new c) v → w.live.layer.bits.depth ≡ v.live.layer.bits.depth
+pub depth_stays : (v w : LiveView) (on : ℕ → ℕ → ℕ → Bool) (new : ℕ → ℕ → ℕ → ℕ → ℕ) → w ≡ drawn on new v → w.layer.bits.depth ≡ v.layer.bits.depth
 unfolding drawn
-depth_stays v w on new is = ap (λ (q : CellView). q.live.layer.bits.depth) is
+depth_stays v w on new is = ap (λ (q : LiveView). q.layer.bits.depth) is
+
+-- how high it is stays
+pub height_stays : (v w : LiveView) (on : ℕ → ℕ → ℕ → Bool) (new : ℕ → ℕ → ℕ → ℕ → ℕ) → w ≡ drawn on new v → w.layer.bits.height ≡ v.layer.bits.height
+unfolding drawn
+height_stays v w on new is = ap (λ (q : LiveView). q.layer.bits.height) is
 
 -- which pixels are drawable stays
-pub draws_stays : (v w : CellView) (on : ℕ → ℕ → ℕ → Bool) (new : ℕ → ℕ → ℕ → ℕ → ℕ) (x y : ℕ) → w ≡ with_live (λ c. drawn on new c) v → draws w.live x y ≡ draws v.live x y
+pub draws_stays : (v w : LiveView) (on : ℕ → ℕ → ℕ → Bool) (new : ℕ → ℕ → ℕ → ℕ → ℕ) (x y : ℕ) → w ≡ drawn on new v → draws w x y ≡ draws v x y
 unfolding drawn draws is_drawable is_kept
-draws_stays v w on new x y is = ap (λ (q : CellView). draws q.live x y) is
+draws_stays v w on new x y is = ap (λ (q : LiveView). draws q x y) is
 
 -- what a bit is painted to is a bit
 pub paints_bits : (raster : Raster) → GivesBits (painted_bit raster)
@@ -64,11 +69,11 @@ paints_bits raster p x y old small =
     grind (arith, nat_tests)
 
 -- the first run of a row that is left is the same
-pub first_stays : (v w : CellView) (on : ℕ → ℕ → ℕ → Bool) (new : ℕ → ℕ → ℕ → ℕ → ℕ) (x y end : ℕ) (s : Stretch) → w ≡ with_live (λ c. drawn on new c) v → IsFirstStretch w.live x y end s → IsFirstStretch v.live x y end s
+pub first_stays : (v w : LiveView) (on : ℕ → ℕ → ℕ → Bool) (new : ℕ → ℕ → ℕ → ℕ → ℕ) (x y end : ℕ) (s : Stretch) → w ≡ drawn on new v → IsFirstStretch w x y end s → IsFirstStretch v x y end s
 unfolding drawn draws is_drawable is_kept
 first_stays v w on new x y end s is first =
-    let P : CellView → Type 0 = λ q. IsFirstStretch q.live x y end s in
-    let there : P (with_live (λ c. drawn on new c) v) = subst P is first in
+    let P : LiveView → Type 0 = λ q. IsFirstStretch q x y end s in
+    let there : P (drawn on new v) = subst P is first in
     let column = there.column in
     let run = there.run in
     record {
@@ -79,11 +84,11 @@ first_stays v w on new x y end s is first =
     }
 
 -- that no drawable pixel is left stays
-pub none_stays : (v w : CellView) (on : ℕ → ℕ → ℕ → Bool) (new : ℕ → ℕ → ℕ → ℕ → ℕ) (x y end : ℕ) → w ≡ with_live (λ c. drawn on new c) v → IsNextStretch w.live x y end None → IsNextStretch v.live x y end None
+pub none_stays : (v w : LiveView) (on : ℕ → ℕ → ℕ → Bool) (new : ℕ → ℕ → ℕ → ℕ → ℕ) (x y end : ℕ) → w ≡ drawn on new v → IsNextStretch w x y end None → IsNextStretch v x y end None
 unfolding drawn draws is_drawable is_kept
 none_stays v w on new x y end is none =
-    let P : CellView → Type 0 = λ q. IsNextStretch q.live x y end None in
-    let there : P (with_live (λ c. drawn on new c) v) = subst P is none in
+    let P : LiveView → Type 0 = λ q. IsNextStretch q x y end None in
+    let there : P (drawn on new v) = subst P is none in
     λ u late low. there u late low
 
 -- no column and no row
@@ -131,7 +136,7 @@ next_run c has y from x end s first is =
     })
 
 -- the end of a row
-row_end : (has row : Bool) (i from x end : ℕ) (drawable : Bool) → from ≤ x → x ≤ end → (x ≤ i → i < end → row ≡ true → drawable ≡ false) → (has && (row && (is_between from x i && drawable))) ≡ (has && (row && (is_between from end i && drawable)))
+pub row_end : (has row : Bool) (i from x end : ℕ) (drawable : Bool) → from ≤ x → x ≤ end → (x ≤ i → i < end → row ≡ true → drawable ≡ false) → (has && (row && (is_between from x i && drawable))) ≡ (has && (row && (is_between from end i && drawable)))
 row_end has row i from x end drawable first late none = grind (arith, nat_tests)
 
 pub row_done : (c : LiveView) (has : Bool) (y from x end i j : ℕ) → from ≤ x → x ≤ end → IsNextStretch c x y end None → (has && in_rows c y (y + 1) from x i j) ≡ (has && in_rows c y (y + 1) from end i j)
@@ -139,23 +144,37 @@ row_done c has y from x end i j first late none =
     let at : ℕ → ℕ → Bool = λ u v. draws c u v in
     row_end has (is_between y (y + 1) j) i from x end (draws c i j) first late (λ on low same. let e : j ≡ y = grind (arith, nat_tests) in ap (at i) e ∙ none (pos i) (omega (arith, ints)) (omega (arith, ints)))
 
--- one row more
-rows_apart : (has inside : Bool) (j top y : ℕ) → ((has && (is_between top y j && inside)) && (has && (is_between y (y + 1) j && inside))) ≡ false
-rows_apart has inside j top y = grind (arith, nat_tests)
+-- some rows more
+rows_apart : (has inside : Bool) (j top y n : ℕ) → ((has && (is_between top y j && inside)) && (has && (is_between y (y + n) j && inside))) ≡ false
+rows_apart has inside j top y n = grind (arith, nat_tests)
 
-rows_whole : (has inside : Bool) (j top y : ℕ) → top ≤ y → (has && (is_between top (y + 1) j && inside)) ≡ ((has && (is_between top y j && inside)) || (has && (is_between y (y + 1) j && inside)))
-rows_whole has inside j top y low = grind (arith, nat_tests)
+rows_whole : (has inside : Bool) (j top y n : ℕ) → top ≤ y → (has && (is_between top (y + n) j && inside)) ≡ ((has && (is_between top y j && inside)) || (has && (is_between y (y + n) j && inside)))
+rows_whole has inside j top y n low = grind (arith, nat_tests)
 
 -- of any shape
-pub next_row_of : (c : LiveView) (has : ℕ → Bool) (shape : ℕ → ℕ → Bool) (top y : ℕ) → top ≤ y → AreMore c (λ p i j. has p && (is_between top y j && shape i j)) (λ p i j. has p && (is_between y (y + 1) j && shape i j)) (λ p i j. has p && (is_between top (y + 1) j && shape i j))
-next_row_of c has shape top y low = record {
-  apart = λ p i j _ _ _. rows_apart (has p) (shape i j) j top y;
-  whole = λ p i j _ _ _. rows_whole (has p) (shape i j) j top y low;
+pub next_rows_of : (c : LiveView) (has : ℕ → Bool) (shape : ℕ → ℕ → Bool) (top y n : ℕ) → top ≤ y → AreMore c (λ p i j. has p && (is_between top y j && shape i j)) (λ p i j. has p && (is_between y (y + n) j && shape i j)) (λ p i j. has p && (is_between top (y + n) j && shape i j))
+next_rows_of c has shape top y n low = record {
+  apart = λ p i j _ _ _. rows_apart (has p) (shape i j) j top y n;
+  whole = λ p i j _ _ _. rows_whole (has p) (shape i j) j top y n low;
 }
 
 -- of some columns
+pub next_rows : (c : LiveView) (has : ℕ → Bool) (top y n from end : ℕ) → top ≤ y → AreMore c (λ p i j. has p && in_rows c top y from end i j) (λ p i j. has p && in_rows c y (y + n) from end i j) (λ p i j. has p && in_rows c top (y + n) from end i j)
+next_rows c has top y n from end low = next_rows_of c has (λ i j. is_between from end i && draws c i j) top y n low
+
+-- one row more
 pub next_row : (c : LiveView) (has : ℕ → Bool) (top y from end : ℕ) → top ≤ y → AreMore c (λ p i j. has p && in_rows c top y from end i j) (λ p i j. has p && in_rows c y (y + 1) from end i j) (λ p i j. has p && in_rows c top (y + 1) from end i j)
-next_row c has top y from end low = next_row_of c has (λ i j. is_between from end i && draws c i j) top y low
+next_row c has top y from end low = next_rows c has top y 1 from end low
+
+-- all rows are done where none is left before the end of the layer
+rows_end : (has : Bool) (top y bottom high j : ℕ) (inside : Bool) → y ≤ bottom → (j < bottom → j < high → j < y) → j < high → (has && (is_between top y j && inside)) ≡ (has && (is_between top bottom j && inside))
+rows_end has top y bottom high j inside upto all low = grind (arith, nat_tests)
+
+pub rows_done : (v w : LiveView) (has : ℕ → Bool) (new : ℕ → ℕ → ℕ → ℕ → ℕ) (top y bottom from end : ℕ) → y ≤ bottom → ((j : ℕ) → j < bottom → j < v.layer.bits.height → j < y) → w ≡ drawn (λ p i j. has p && in_rows v top y from end i j) new v → w ≡ drawn (λ p i j. has p && in_rows v top bottom from end i j) new v
+rows_done v w has new top y bottom from end upto all is =
+    is ∙
+    drawn_same v (λ p i j. has p && in_rows v top y from end i j) (λ p i j. has p && in_rows v top bottom from end i j) new
+    (λ p i j _ _ low. rows_end (has p) top y bottom v.layer.bits.height j (is_between from end i && draws v i j) upto (all j) low)
 
 -- a plane's bit where the pixel is painted, and where it isn't
 painted_plane : (has : Bool) (a b : ℕ) → (if has && true then a else b) ≡ (if has then a else b)

@@ -1,4 +1,4 @@
--- Laws of the runs of a row, at coordinates that are signed in the cell's calls.
+-- Laws of the runs of a row, at coordinates that are signed in the layer's calls.
 use Rattle.std.proofs.Common.{◌≡◌, ℕ, ◌<◌, min, Bool, Some, ℤ, pos, ◌-ℤ◌, subst, arith}
 use Rattle.lw_layer.specs.View.{LiveView}
 use Rattle.lw_layer.specs.Runs.{IsRun, IsRunAt, IsFirst}

@@ -1,3 +1,4 @@
+pub mod Blocks
 pub mod Combined
 pub mod Drawn
 pub mod LineSpans

@@ -1,10 +1,15 @@
-//! Drawing into the cell of a layer, run by run and plane by plane (the manual's Graphics Primitives chapter). It stands on
-//! the cell's public calls and knows nothing of how a cell keeps its bits.
+//! Drawing into a live layer, run by run and plane by plane (the manual's Graphics Primitives chapter). It stands on the layer's
+//! public calls and knows nothing of how a layer keeps its bits.
 #![tactic(auto)]
 
+mod blocks;
 mod combining;
+mod filler;
 mod filling;
 mod lines;
+mod moving;
+mod overlay;
+mod painter;
 mod painting;
 mod pixels;
 mod quotients;
@@ -13,12 +18,19 @@ mod row_spans;
 mod spans;
 mod stretch;
 mod walks;
+mod whole;
 
-pub use combining::{Origin, combine_run};
+pub use blocks::{Block, band_at};
+pub use combining::{Origin, combine_block, combine_over, combine_run};
+pub use filler::has_bit;
 pub use filling::{fill, fill_rows};
 pub use lines::line;
-pub use painting::has_bit;
+pub use moving::move_block;
+pub use overlay::Overlay;
+pub use painter::Painter;
+pub use painting::{paint_band, paint_block, paint_rows};
 pub use pixels::{read_pixel, write_pixel};
 pub use rast::set_rast;
 pub use spans::{Places, edge, span};
-pub use stretch::{Stretch, next_stretch};
+pub use stretch::{Stretch, next_kept_stretch, next_stretch};
+pub use whole::{whole_block, whole_kept_block};

@@ -1,35 +1,34 @@
 ghost use Rattle.std.specs.Prelude.{◌≡◌, ℕ, ◌+◌, ◌<◌, ◌≤◌, pos, true};
 ghost use Rattle.lw_kernels.specs.Kernel.{is_between};
 ghost use Rattle.lw_machine.specs.Shapes.{draw_line};
-ghost use Rattle.lw_layer.specs.View.{shows, with_live, with_layer};
-ghost use Rattle.lw_layer.specs.View as view;
+ghost use Rattle.lw_layer.specs.View.{shows, with_layer};
 ghost use Rattle.lw_layer.specs.Drafts.{raster_of};
 ghost use Rattle.lw_draw.specs.Drawn.{painted};
 ghost use Rattle.lw_draw.specs.LineSpans.{has_row, in_reach, on_line_rows};
 ghost use Rattle.lw_draw.specs.Walks.{IsWalk};
 
-use crate::filling::fill_row;
+use crate::filler::Filler;
+use crate::painting::paint_band;
 use crate::row_spans::{Line, Reach, row_span};
 use crate::spans::{Places, edge, span};
 use crate::walks::{Walk, next_row, walk_at};
-use lw_layer::{Cell, Raster};
+use lw_layer::{Layer, Raster};
 
 /// Draws a line from the layer's cursor to (x, y), each drawable pixel once, with the layer's pen A, or inverts it under
 /// COMPLEMENT, in the planes that the mask has. The cursor then stands at its end (`Draw`). No memory is taken.
-pub fn line(cell: &mut Cell, x: i16, y: i16)
-    requires { cell.old.state ≡ view.Live }
-    ensures { cell.new ≡ with_live (λ c. with_layer (λ l. draw_line (λ i j. shows c i j) x y l) c) cell.old }
+pub fn line(layer: &mut Layer, x: i16, y: i16)
+    ensures { layer.new ≡ with_layer (λ l. draw_line (λ i j. shows layer.old i j) x y l) layer.old }
 {
-    let raster = cell.raster();
+    let raster = layer.raster();
     let line = Line {
         x0: raster.x,
         y0: raster.y,
         x1: x,
         y1: y,
     };
-    let rows = span(raster.y.min(y), raster.y.max(y), cell.height());
-    line_rows(cell, rows, line, raster);
-    cell.set_raster(Raster {
+    let rows = span(raster.y.min(y), raster.y.max(y), layer.height());
+    line_rows(layer, rows, line, raster);
+    layer.set_raster(Raster {
         a: raster.a,
         b: raster.b,
         mode: raster.mode,
@@ -40,37 +39,35 @@ pub fn line(cell: &mut Cell, x: i16, y: i16)
 }
 
 // Draws the pixels that a line has in some of its rows.
-fn line_rows(cell: &mut Cell, rows: Places, line: Line, raster: Raster)
-    requires live { cell.old.state ≡ view.Live }
+fn line_rows(layer: &mut Layer, rows: Places, line: Line, raster: Raster)
     requires bottom { rows.end < 65536 }
     requires inside { (j : ℕ) → is_between rows.from rows.end j ≡ true → has_row line (pos j) ≡ true }
-    ensures { cell.new ≡ with_live
-        (λ c. painted (raster_of raster) (λ i j. on_line_rows c line rows.from rows.end i j) c)
-        cell.old }
+    ensures { layer.new ≡ painted (raster_of raster)
+        (λ i j. on_line_rows layer.old line rows.from rows.end i j)
+        layer.old }
 {
     // Reading this tells the proof that the layer has only pens of its depth.
-    let _ = cell.depth();
+    let _ = layer.depth();
     if rows.from == rows.end {
         return;
     }
     // Only here the line is divided.
     let mut walk = walk_at(line, rows.from as i32);
     for y in rows.from..rows.end {
-        line_row(cell, y, line, walk, raster);
+        line_row(layer, y, line, walk, raster);
         walk = next_row(walk, line, y, rows.end);
     }
 }
 
 // Draws the pixels that a line has in one of its rows, in which it stands so.
-fn line_row(cell: &mut Cell, y: u32, line: Line, walk: Walk, raster: Raster)
-    requires live { cell.old.state ≡ view.Live }
+fn line_row(layer: &mut Layer, y: u32, line: Line, walk: Walk, raster: Raster)
     requires row { y < 65536 }
     requires inside { has_row line (pos y) ≡ true }
     requires walk { IsWalk line (pos y) walk }
-    ensures { cell.new ≡ with_live (λ c. painted (raster_of raster) (λ i j. on_line_rows c line y (y + 1) i j) c) cell.old }
+    ensures { layer.new ≡ painted (raster_of raster) (λ i j. on_line_rows layer.old line y (y + 1) i j) layer.old }
 {
-    let columns = within_extent(row_span(line, y as i32, walk), cell.width());
-    fill_row(cell, y, columns, raster);
+    let columns = within_extent(row_span(line, y as i32, walk), layer.width());
+    paint_band(layer, y, 1, columns, &Filler { raster });
 }
 
 // Of some columns those from 0 on and before the extent.

@@ -1,69 +1,78 @@
-// Painting one run: its bits in each plane that the mask has.
+// Painting rows of a layer: bands of rows that are alike, in a band blocks, and of a block the planes that the painter paints.
 
-ghost use Rattle.std.specs.Prelude.{◌≡◌, ℕ, ◌==◌, ◌+◌, ◌*◌, ◌<◌, ◌≤◌, ◌&&◌, true, if◌then◌else◌, length};
-ghost use Rattle.std.specs.Int.{bit_at};
-ghost use Rattle.lw_planes.specs.Row.{row_bit};
-ghost use Rattle.lw_kernels.specs.Kernel.{is_named};
-ghost use Rattle.lw_machine.specs.Paint.{candidate_bit};
-ghost use Rattle.lw_layer.specs.View.{draws, with_live};
-ghost use Rattle.lw_layer.specs.View as view;
-ghost use Rattle.lw_layer.specs.Drafts.{raster_of};
-ghost use Rattle.lw_layer.specs.Runs.{IsRun};
-ghost use Rattle.lw_draw.specs.Drawn.{drawn, painted, painted_bit};
-ghost use Rattle.lw_draw.specs.Stretches.{in_stretch};
+ghost use Rattle.std.specs.Prelude.{◌≡◌, ℕ, ◌+◌, ◌<◌, ◌≤◌, ◌&&◌, true};
+ghost use Rattle.lw_layer.specs.View.{draws};
+ghost use Rattle.lw_kernels.specs.Kernel.{is_between};
+ghost use Rattle.lw_draw.specs.Drawn.{drawn, in_rows, GivesBits};
+ghost use Rattle.lw_draw.specs.Blocks.{IsBlock, AreBand, in_block};
 
-use crate::stretch::Stretch;
-use lw_kernels::{fill, flip};
-use lw_layer::{Cell, Raster, Run};
+use crate::blocks::{Block, band_at};
+use crate::painter::Painter;
+use crate::spans::Places;
+use crate::stretch::next_stretch;
+use lw_layer::Layer;
 
-// Paints a run, in the foreground.
-pub(crate) fn paint_run(cell: &mut Cell, stretch: Stretch, raster: Raster)
-    requires live { cell.old.state ≡ view.Live }
-    requires run { IsRun cell.old.live (λ i j. draws cell.old.live i j) stretch.x stretch.y stretch.run }
-    ensures { cell.new ≡ with_live (λ c. painted (raster_of raster) (λ i j. in_stretch stretch i j) c) cell.old }
+/// Paints the drawable pixels of some rows and columns. No memory is taken.
+pub fn paint_rows<P: Painter>(layer: &mut Layer, rows: Places, columns: Places, painter: &P)
+    requires bits { GivesBits (P.bit painter.now) }
+    requires bottom { rows.end < 65536 }
+    requires right { columns.end < 65536 }
+    requires reached { (i j : ℕ) → is_between rows.from rows.end j ≡ true → is_between columns.from columns.end i ≡ true →
+        P.reaches painter.now i j ≡ true }
+    ensures { layer.new ≡ drawn
+        (λ p i j. P.planes painter.now p && in_rows layer.old rows.from rows.end columns.from columns.end i j)
+        (P.bit painter.now)
+        layer.old }
 {
-    for plane in 0..cell.depth() {
-        if has_bit(raster.mask, plane) {
-            paint_plane(cell, plane, stretch, raster);
+    // The layer has no pixel below.
+    let end = rows.end.min(layer.height());
+    let mut y = rows.from;
+    while y < end {
+        let count = band_at(layer, y, end);
+        paint_band(layer, y, count, columns, painter);
+        y += count;
+    }
+}
+
+/// Paints the drawable pixels of some columns of rows that are alike, from row `y` on.
+pub fn paint_band<P: Painter>(layer: &mut Layer, y: u32, rows: u32, columns: Places, painter: &P)
+    requires bits { GivesBits (P.bit painter.now) }
+    requires some { 0 < rows }
+    requires top { y < 65536 }
+    requires right { columns.end < 65536 }
+    requires band { AreBand layer.old y rows }
+    requires reached { (i j : ℕ) → is_between y (y + rows) j ≡ true → is_between columns.from columns.end i ≡ true →
+        P.reaches painter.now i j ≡ true }
+    ensures { layer.new ≡ drawn
+        (λ p i j. P.planes painter.now p && in_rows layer.old y (y + rows) columns.from columns.end i j)
+        (P.bit painter.now)
+        layer.old }
+{
+    // Reading this tells the proof that the layer has only pens of its depth.
+    let _ = layer.depth();
+    let mut x = columns.from;
+    while let Some(stretch) = next_stretch(layer, x, y, columns.end) {
+        let block = Block {
+            x: stretch.x,
+            y,
+            rows,
+            run: stretch.run,
+        };
+        paint_block(layer, block, painter);
+        x = stretch.x + stretch.run.len;
+    }
+}
+
+/// Paints a block in each plane that the painter paints.
+pub fn paint_block<P: Painter>(layer: &mut Layer, block: Block, painter: &P)
+    requires bits { GivesBits (P.bit painter.now) }
+    requires block { IsBlock layer.old (λ i j. draws layer.old i j) block }
+    requires reached { (i j : ℕ) → in_block block i j ≡ true → P.reaches painter.now i j ≡ true }
+    ensures { layer.new ≡ drawn (λ p i j. P.planes painter.now p && in_block block i j) (P.bit painter.now) layer.old }
+{
+    for plane in 0..layer.depth() {
+        if painter.has_plane(plane) {
+            painter.paint_plane(layer, plane, block);
         }
     }
-}
-
-// Paints a run's bits in one plane.
-fn paint_plane(cell: &mut Cell, plane: u32, stretch: Stretch, raster: Raster)
-    requires live { cell.old.state ≡ view.Live }
-    requires plane { plane < cell.old.live.layer.bits.depth }
-    requires run { IsRun cell.old.live (λ i j. draws cell.old.live i j) stretch.x stretch.y stretch.run }
-    ensures { cell.new ≡ with_live
-        (λ c. drawn (λ p i j. p == plane && in_stretch stretch i j) (painted_bit (raster_of raster)) c)
-        cell.old }
-{
-    // Reading this tells the proof that the layer has at most eight planes and only pens of its depth.
-    let _ = cell.depth();
-    let row = cell.line_mut(plane, stretch.run.buffer, stretch.run.line);
-    paint_bits(row, plane, stretch.run, raster);
-}
-
-// Paints a run's bits in a line of one plane.
-fn paint_bits(row: &mut [u8], plane: u32, run: Run, raster: Raster)
-    requires plane { plane < 8 }
-    requires inside { run.bit + run.len ≤ 8 * length row.old }
-    ensures { (i : ℕ) → row_bit row.new i ≡ (if is_named run.bit run.len i
-        then candidate_bit (raster_of raster) true plane (row_bit row.old i)
-        else row_bit row.old i) }
-{
-    if has_bit(raster.mode, 1) {
-        flip(row, run.bit, run.len);
-    } else {
-        fill(row, run.bit, run.len, has_bit(raster.a, plane));
-    }
-}
-
-/// The byte has this bit, 0 to 7 from its least.
-#[tactic(auto, using(std::proofs::lemmas::Nat::Bits::shr_and_one))]
-pub fn has_bit(byte: u8, place: u32) -> bool
-    requires { place < 8 }
-    ensures { result ≡ (bit_at byte place == 1) }
-{
-    (byte >> place) & 1 == 1
 }

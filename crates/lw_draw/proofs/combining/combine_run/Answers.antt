@@ -1,9 +1,12 @@
-use Rattle.std.proofs.Common.{◌∙◌, refl, ap}
-use Rattle.lw_layer.specs.View.{LiveView}
+use Rattle.std.proofs.Common.{◌∙◌, refl, length}
+use Rattle.lw_draw.proofs.BlockLaws.{block_of_one}
 use Rattle.lw_draw.proofs.CombineLaws.{run_combined}
 use Rattle.lw_draw.proofs.combining.combine_run.Goals as goal
 
+pub combine_block-requires-clause-block : goal.combine_block-requires-clause-block
+combine_block-requires-clause-block c = block_of_one c.args.layer.now c.args.stretch c.requires.run
+
 pub returns : goal.returns
 returns c =
-    ap (λ (q : LiveView). record c.args.cell.now { live = q })
-    (run_combined c.args.cell.now.live c.args.plane c.args.minterm _ c.args.stretch c.args.bits.now c.line_mut-row.result.now c.combine.new.to c.args.origin c.depth.ensures.bits.bitmap c.requires.plane (c.combine.auto.to ∙ c.line_mut-row.ensures.long) c.requires.run c.line_mut-row.ensures.bits refl c.requires.starts c.combine.ensures.each)
+    c.combine_block.ensures ∙
+    run_combined c.args.layer.now c.args.plane c.args.minterm (length c.args.bits.now) _ c.args.stretch c.args.bits.now c.args.origin refl c.requires.starts

@@ -1,6 +1,5 @@
-use Rattle.std.proofs.Common.{◌≡◌, pos, to_z, of_z, w16, ◌∙◌, ap, arith}
+use Rattle.std.proofs.Common.{◌≡◌, pos, to_z, of_z, w16, ◌∙◌, arith}
 use Rattle.std.proofs.lemmas.Int.{ints}
-use Rattle.lw_layer.specs.View.{LiveView}
 use Rattle.lw_layer.specs.Drafts.{raster_of}
 use Rattle.lw_draw.proofs.PaintLaws.{rectangle_filled}
 use Rattle.lw_draw.proofs.RectangleLaws.{within_same}
@@ -8,7 +7,7 @@ use Rattle.lw_draw.proofs.filling.fill.Goals as goal
 
 pub returns : goal.returns
 returns c =
-    let v = c.args.cell.now in
+    let v = c.args.layer.now in
     let rect = c.args.rect.now in
     let columns = c.span-columns.result in
     let rows = c.span-rows.result in
@@ -17,7 +16,6 @@ returns c =
     let top : to_z w16 (of_z w16 c.min_y.result) ≡ rect.min_y = omega (arith, ints) in
     let bottom : to_z w16 (of_z w16 c.max_y.result) ≡ rect.max_y = omega (arith, ints) in
     c.fill_rows.ensures ∙
-    ap (λ (q : LiveView). record v { live = q })
-    (rectangle_filled v.live (raster_of c.raster.result) rect rows.from rows.end columns.from columns.end c.width.ensures.bits.bitmap c.raster.ensures.value
+    rectangle_filled v (raster_of c.raster.result) rect rows.from rows.end columns.from columns.end c.width.ensures.bits.bitmap c.raster.ensures.value
     (λ i inside. within_same _ _ _ _ (pos i) left right ∙ c.span-columns.ensures.has i (omega (arith, inside, c.width.ensures.value)))
-    (λ j inside. within_same _ _ _ _ (pos j) top bottom ∙ c.span-rows.ensures.has j (omega (arith, inside, c.height.ensures.value))))
+    (λ j inside. within_same _ _ _ _ (pos j) top bottom ∙ c.span-rows.ensures.has j (omega (arith, inside, c.height.ensures.value)))

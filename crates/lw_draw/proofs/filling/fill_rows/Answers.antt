@@ -1,46 +1,6 @@
-use Rattle.std.proofs.Common.{◌≡◌, ℕ, ◌+◌, ◌≤◌, ◌&&◌, Bool, ◌∙◌, ap, arith}
-use Rattle.lw_kernels.specs.Kernel.{is_between}
-use Rattle.lw_layer.specs.View.{LiveView, CellView, draws, with_live}
 use Rattle.lw_layer.specs.Drafts.{raster_of}
-use Rattle.lw_machine.specs.Layer.{Raster}
-use Rattle.lw_draw.specs.Drawn.{in_mask, painted, painted_bit, in_rows}
-use Rattle.lw_draw.proofs.PaintLaws.{cell_nowhere, cell_same, cell_more, draws_stays, paints_bits, next_row, no_row}
+use Rattle.lw_draw.proofs.PaintLaws.{paints_bits}
 use Rattle.lw_draw.proofs.filling.fill_rows.Goals as goal
 
--- what is painted of some rows before a row
-abbrev so_far : Raster → LiveView → ℕ → ℕ → ℕ → ℕ → ℕ → ℕ → ℕ → Bool
-so_far raster c from end top y p i j = in_mask raster p && in_rows c top y from end i j
-
-pub loop-y-init : goal.loop-y-init
-loop-y-init c =
-    let v = c.args.cell.now in
-    let top = c.args.rows.from in
-    let from = c.args.columns.from in
-    let end = c.args.columns.end in
-    cell_nowhere v (so_far (raster_of c.args.raster) v.live from end top top) (painted_bit (raster_of c.args.raster)) c.depth.ensures.bits.bitmap
-    (λ p i j. no_row (in_mask (raster_of c.args.raster) p) top j (is_between from end i && draws v.live i j))
-
-pub fill_row-requires-clause-live : goal.fill_row-requires-clause-live
-fill_row-requires-clause-live c = ap (λ (q : CellView). q.state) c.loop-y.invariant ∙ c.requires.live
-
-pub loop-y-preserved : goal.loop-y-preserved
-loop-y-preserved c =
-    let v = c.args.cell.now in
-    let w = c.loop-y.cell in
-    let top = c.args.rows.from in
-    let from = c.args.columns.from in
-    let end = c.args.columns.end in
-    let y = c.loop-y.y in
-    let raster = raster_of c.args.raster in
-    let new = painted_bit raster in
-    let low : top ≤ y = omega arith in
-    let row : CellView → ℕ → ℕ → ℕ → Bool = λ q p i j. in_mask raster p && in_rows q.live y (y + 1) from end i j in
-    cell_more v w c.fill_row.new.cell (so_far raster v.live from end top y) (row v) (so_far raster v.live from end top (y + 1)) new (paints_bits raster) (next_row v.live (in_mask raster) top y from end low) c.loop-y.invariant
-    (cell_same w c.fill_row.new.cell (row w) (row v) new c.fill_row.ensures
-    (λ p i j _. ap (λ t. in_mask raster p && (is_between y (y + 1) j && (is_between from end i && t))) (draws_stays v w (so_far raster v.live from end top y) new i j c.loop-y.invariant)))
-
-pub returns : goal.returns
-returns c =
-    let bottom : c.loop-y.y ≡ c.args.rows.end = omega arith in
-    c.loop-y.invariant ∙
-    ap (λ k. with_live (λ q. painted (raster_of c.args.raster) (λ i j. in_rows q c.args.rows.from k c.args.columns.from c.args.columns.end i j) q) c.args.cell.now) bottom
+pub paint_rows-requires-clause-bits : goal.paint_rows-requires-clause-bits
+paint_rows-requires-clause-bits c = paints_bits (raster_of c.args.raster)

@@ -23,7 +23,7 @@ returns c =
     let greatest : handed c.max.result ≡ c.max.result = search rules in
     let low : handed c.min.result ≡ int_min (handed r.y) (handed c.args.y) = least ∙ c.min.ensures.value in
     let high : handed c.max.result ≡ int_max (handed r.y) (handed c.args.y) = greatest ∙ c.max.ensures.value in
-    line_done c.args.cell.now c.line_rows.new.cell c.set_raster.new.self (raster_of r) _ line c.args.x c.args.y c.span-rows.result.from c.span-rows.result.end c.height.ensures.bits.bitmap c.raster-raster.ensures.value
+    line_done c.args.layer.now c.line_rows.new.layer c.set_raster.new.self (raster_of r) _ line c.args.x c.args.y c.span-rows.result.from c.span-rows.result.end c.height.ensures.bits.bitmap c.raster-raster.ensures.value
     (λ j inside. within_same _ _ _ _ (pos j) low high ∙ c.span-rows.ensures.has j (omega (arith, inside, c.height.ensures.value)))
     c.line_rows.ensures c.set_raster.ensures x0 y0 x1 y1
     (let ends : ℤ → ℤ → Raster = λ u v. record (raster_of r) { cursor_x = u; cursor_y = v } in ap (λ u. ends u (handed c.args.y)) x1 ∙ ap (λ v. ends c.args.x v) y1)

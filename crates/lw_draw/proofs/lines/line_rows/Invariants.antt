@@ -1,5 +1,4 @@
 use Rattle.std.proofs.Common.{◌≡◌, ◌<◌, pos}
-use Rattle.lw_layer.specs.View.{with_live}
 use Rattle.lw_layer.specs.Drafts.{raster_of}
 use Rattle.lw_draw.specs.Drawn.{painted}
 use Rattle.lw_draw.specs.LineSpans.{on_line_rows}
@@ -8,6 +7,6 @@ use Rattle.lw_draw.proofs.lines.line_rows.Given as goal
 
 abbrev pub invariant-loop-y : goal.invariant-loop-y
 invariant-loop-y l = record {
-  drawn : l.cell ≡ with_live (λ c. painted (raster_of l.raster) (λ i j. on_line_rows c l.line l.fn.rows.from l.y i j) c) l.initial.cell;
+  drawn : l.layer ≡ painted (raster_of l.raster) (λ i j. on_line_rows l.initial.layer l.line l.fn.rows.from l.y i j) l.initial.layer;
   walk : l.y < l.fn.rows.end → IsWalk l.line (pos l.y) l.walk;
 }

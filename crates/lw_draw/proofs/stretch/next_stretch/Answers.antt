@@ -10,7 +10,7 @@ returns c =
     let fits : FitsSigned w32 c.in-Some.column = search rules in
     record {
       row = refl;
-      column = first_by_numbers (λ i j. draws c.args.cell.now.live i j) c.args.x c.args.y c.args.end _ _ _ _ c.in-Some.column (omega (arith, ints)) (omega (arith, ints)) (omega (arith, ints)) (omega (arith, ints)) c.in-Some.ensures;
+      column = first_by_numbers (λ i j. draws c.args.layer.now i j) c.args.x c.args.y c.args.end _ _ _ _ c.in-Some.column (omega (arith, ints)) (omega (arith, ints)) (omega (arith, ints)) (omega (arith, ints)) c.in-Some.ensures;
       ends = c.run_before-run.ensures.ends;
       run = c.run_before-run.ensures.run;
     }

@@ -8,6 +8,6 @@ use Rattle.lw_draw.proofs.stretch.run_before.Goals as goal
 
 pub returns-clause-run : goal.returns-clause-run
 returns-clause-run c =
-    let live = c.args.cell.now.live in
-    let P : Run → Type 0 = λ r. IsRun live (λ i j. draws live i j) c.args.x c.args.y r in
-    subst P (sym c.cut.ensures) (run_cut live (λ i j. draws live i j) c.args.x c.args.y _ _ c.in-Some.run' _ (omega (arith, ints)) (omega (arith, ints)) (omega arith) c.in-Some.ensures)
+    let v = c.args.layer.now in
+    let P : Run → Type 0 = λ r. IsRun v (λ i j. draws v i j) c.args.x c.args.y r in
+    subst P (sym c.cut.ensures) (run_cut v (λ i j. draws v i j) c.args.x c.args.y _ _ c.in-Some.run' _ (omega (arith, ints)) (omega (arith, ints)) (omega arith) c.in-Some.ensures)

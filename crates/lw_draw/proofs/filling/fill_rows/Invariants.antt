@@ -1,9 +1,0 @@
-use Rattle.std.proofs.Common.{◌≡◌}
-use Rattle.lw_layer.specs.View.{with_live}
-use Rattle.lw_layer.specs.Drafts.{raster_of}
-use Rattle.lw_draw.specs.Drawn.{painted, in_rows}
-use Rattle.lw_draw.proofs.filling.fill_rows.Given as goal
-
-abbrev pub invariant-loop-y : goal.invariant-loop-y
-invariant-loop-y l =
-    l.cell ≡ with_live (λ c. painted (raster_of l.raster) (λ i j. in_rows c l.fn.rows.from l.y l.columns.from l.columns.end i j) c) l.initial.cell
