@@ -7,7 +7,7 @@ use Rattle.lw_region.specs.Rectangle.{Rectangle, has_pixel}
 use Rattle.lw_region.specs.Bands.{covers}
 use Rattle.lw_machine.specs.Hook.{Hook, hook_pen}
 use Rattle.lw_machine.specs.Paint.{with_pens, pen_within}
-use Rattle.lw_layer.specs.View.{LiveView, CellView, keeps, draws, with_live, with_layer}
+use Rattle.lw_layer.specs.View.{LiveView, keeps, draws, with_layer}
 
 -- the bit that column x takes from a byte for eight columns: the byte's most significant bit is its leftmost column, and it comes
 -- again every eight columns
@@ -34,14 +34,12 @@ in_rectangle c r x y = draws c x y && has_pixel r (pos x) (pos y)
 abbrev pub in_rectangles : LiveView → List Rectangle → ℕ → ℕ → Bool
 in_rectangles c rects x y = draws c x y && covers rects (pos x) (pos y)
 
--- the cell with the hook's pens on the pixels of some rectangles that its layer keeps
-abbrev pub filled : Hook → List Rectangle → CellView → CellView
-filled h rects v =
-    with_live
-    (λ c. with_layer
+-- the live layer with the hook's pens on the pixels of some rectangles that it keeps
+abbrev pub filled : Hook → List Rectangle → LiveView → LiveView
+filled h rects c =
+    with_layer
     (λ l. with_pens
     (λ x y. keeps c x y && covers rects (pos x) (pos y))
     (λ x y. pen_within l.bits.depth (hook_pen h (pos x) (pos y)))
     l)
-    c)
-    v
+    c
