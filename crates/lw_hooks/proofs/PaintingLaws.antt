@@ -11,12 +11,12 @@ use Rattle.lw_planes.specs.Bitmap.{IsBitmap}
 use Rattle.lw_planes.proofs.ChosenLaws.{no_plane, all_planes}
 use Rattle.lw_kernels.specs.Kernel.{is_between}
 use Rattle.lw_kernels.proofs.ByteLaws.{minterm_copies}
-use Rattle.lw_layer.specs.View.{CellView, draws, with_live}
+use Rattle.lw_layer.specs.View.{LiveView, draws}
 use Rattle.lw_draw.specs.Drawn.{drawn, GivesBits, in_rows}
 use Rattle.lw_draw.specs.Combined.{combined_bit}
 use Rattle.lw_draw.specs.Stretches.{in_stretch, IsFirstStretch, IsNextStretch}
 use Rattle.lw_draw.specs.declared.stretch.Stretch.{Stretch}
-use Rattle.lw_draw.proofs.PaintLaws.{cell_nowhere, cell_same, cell_alike, cell_more, none_stays, next_plane, next_run, no_column, row_done}
+use Rattle.lw_draw.proofs.PaintLaws.{layer_nowhere, layer_same, layer_alike, layer_more, none_stays, next_plane, next_run, no_column, row_done}
 use Rattle.lw_hooks.specs.Filling.{byte_bit, planes_bit}
 
 -- what a row and a tile give are bits
@@ -37,9 +37,9 @@ pixel_of : (k : ℕ) (s : Stretch) (p i j : ℕ) → (p == k && in_stretch s i j
 pixel_of k s p i j on = record { deep = grind (arith, nat_tests); last = grind (arith, nat_tests) }
 
 -- A run has in one plane the bits of a byte once it has those of a row of that byte.
-pub plane_of_byte : (v w : CellView) (k byte : ℕ) (s : Stretch) → s.x + s.run.len ≤ 2048 → w ≡ with_live (λ c. drawn (λ p i j. p == k && in_stretch s i j) (combined_bit 192 (replicate 256 byte) (record { column = 0; bit = 0 })) c) v → w ≡ with_live (λ c. drawn (λ p i j. p == k && in_stretch s i j) (λ p i j old. byte_bit byte i) c) v
+pub plane_of_byte : (v w : LiveView) (k byte : ℕ) (s : Stretch) → s.x + s.run.len ≤ 2048 → w ≡ drawn (λ p i j. p == k && in_stretch s i j) (combined_bit 192 (replicate 256 byte) (record { column = 0; bit = 0 })) v → w ≡ drawn (λ p i j. p == k && in_stretch s i j) (λ p i j old. byte_bit byte i) v
 plane_of_byte v w k byte s right is =
-    cell_alike v w (λ p i j. p == k && in_stretch s i j) (combined_bit 192 (replicate 256 byte) (record { column = 0; bit = 0 })) (λ p i j old. byte_bit byte i) is
+    layer_alike v w (λ p i j. p == k && in_stretch s i j) (combined_bit 192 (replicate 256 byte) (record { column = 0; bit = 0 })) (λ p i j old. byte_bit byte i) is
     (λ p i j old _ _ _ on _.
     let at = pixel_of k s p i j on in
     let place : 0 + (i - 0) ≡ i = omega arith in
@@ -52,36 +52,36 @@ abbrev pub planes_before : Stretch → ℕ → ℕ → ℕ → ℕ → Bool
 planes_before s k p i j = nat_lt p k && in_stretch s i j
 
 -- no plane so far
-pub no_planes : (v : CellView) (s : Stretch) (bytes : List ℕ) → IsBitmap v.live.layer.bits → v ≡ with_live (λ c. drawn (planes_before s 0) (planes_bit bytes) c) v
-no_planes v s bytes ok = cell_nowhere v (planes_before s 0) (planes_bit bytes) ok (λ p i j. no_plane p (in_stretch s i j))
+pub no_planes : (v : LiveView) (s : Stretch) (bytes : List ℕ) → IsBitmap v.layer.bits → v ≡ drawn (planes_before s 0) (planes_bit bytes) v
+no_planes v s bytes ok = layer_nowhere v (planes_before s 0) (planes_bit bytes) ok (λ p i j. no_plane p (in_stretch s i j))
 
 -- one plane more
-pub plane_more : (v w u : CellView) (k : ℕ) (s : Stretch) (bytes : List ℕ) → w ≡ with_live (λ c. drawn (planes_before s k) (planes_bit bytes) c) v → u ≡ with_live (λ c. drawn (λ p i j. p == k && in_stretch s i j) (λ p i j old. byte_bit (slice_index_or bytes k 0) i) c) w → u ≡ with_live (λ c. drawn (planes_before s (k + 1)) (planes_bit bytes) c) v
+pub plane_more : (v w u : LiveView) (k : ℕ) (s : Stretch) (bytes : List ℕ) → w ≡ drawn (planes_before s k) (planes_bit bytes) v → u ≡ drawn (λ p i j. p == k && in_stretch s i j) (λ p i j old. byte_bit (slice_index_or bytes k 0) i) w → u ≡ drawn (planes_before s (k + 1)) (planes_bit bytes) v
 plane_more v w u k s bytes was is =
-    cell_more v w u (planes_before s k) (λ p i j. p == k && in_stretch s i j) (planes_before s (k + 1)) (planes_bit bytes) (planes_give_bits bytes)
-    (next_plane v.live (λ p. true) k (in_stretch s) refl) was
-    (cell_alike w u (λ p i j. p == k && in_stretch s i j) (λ p i j old. byte_bit (slice_index_or bytes k 0) i) (planes_bit bytes) is
+    layer_more v w u (planes_before s k) (λ p i j. p == k && in_stretch s i j) (planes_before s (k + 1)) (planes_bit bytes) (planes_give_bits bytes)
+    (next_plane v (λ p. true) k (in_stretch s) refl) was
+    (layer_alike w u (λ p i j. p == k && in_stretch s i j) (λ p i j old. byte_bit (slice_index_or bytes k 0) i) (planes_bit bytes) is
     (λ p i j old _ _ _ on _. let at = pixel_of k s p i j on in ap (λ q. byte_bit (slice_index_or bytes q 0) i) (sym at.deep)))
 
 -- all planes
-pub planes_done : (v w : CellView) (k : ℕ) (s : Stretch) (bytes : List ℕ) → v.live.layer.bits.depth ≤ k → w ≡ with_live (λ c. drawn (planes_before s k) (planes_bit bytes) c) v → w ≡ with_live (λ c. drawn (λ p i j. in_stretch s i j) (planes_bit bytes) c) v
+pub planes_done : (v w : LiveView) (k : ℕ) (s : Stretch) (bytes : List ℕ) → v.layer.bits.depth ≤ k → w ≡ drawn (planes_before s k) (planes_bit bytes) v → w ≡ drawn (λ p i j. in_stretch s i j) (planes_bit bytes) v
 planes_done v w k s bytes enough was =
-    cell_same v w (planes_before s k) (λ p i j. in_stretch s i j) (planes_bit bytes) was
+    layer_same v w (planes_before s k) (λ p i j. in_stretch s i j) (planes_bit bytes) was
     (λ p i j deep. let below : p < k = omega (arith, deep, enough) in all_planes p k (in_stretch s i j) below)
 
 -- no run so far
-pub no_runs : (v : CellView) (y from : ℕ) (bytes : List ℕ) → IsBitmap v.live.layer.bits → v ≡ with_live (λ c. drawn (λ p i j. in_rows c y (y + 1) from from i j) (planes_bit bytes) c) v
+pub no_runs : (v : LiveView) (y from : ℕ) (bytes : List ℕ) → IsBitmap v.layer.bits → v ≡ drawn (λ p i j. in_rows v y (y + 1) from from i j) (planes_bit bytes) v
 no_runs v y from bytes ok =
-    cell_nowhere v (λ p i j. in_rows v.live y (y + 1) from from i j) (planes_bit bytes) ok (λ p i j. no_column true (is_between y (y + 1) j) from i (draws v.live i j))
+    layer_nowhere v (λ p i j. in_rows v y (y + 1) from from i j) (planes_bit bytes) ok (λ p i j. no_column true (is_between y (y + 1) j) from i (draws v i j))
 
 -- one run more
-pub run_more : (v w u : CellView) (y from x end : ℕ) (s : Stretch) (bytes : List ℕ) → from ≤ x → IsFirstStretch v.live x y end s → w ≡ with_live (λ c. drawn (λ p i j. in_rows c y (y + 1) from x i j) (planes_bit bytes) c) v → u ≡ with_live (λ c. drawn (λ p i j. in_stretch s i j) (planes_bit bytes) c) w → u ≡ with_live (λ c. drawn (λ p i j. in_rows c y (y + 1) from (s.x + s.run.len) i j) (planes_bit bytes) c) v
+pub run_more : (v w u : LiveView) (y from x end : ℕ) (s : Stretch) (bytes : List ℕ) → from ≤ x → IsFirstStretch v x y end s → w ≡ drawn (λ p i j. in_rows v y (y + 1) from x i j) (planes_bit bytes) v → u ≡ drawn (λ p i j. in_stretch s i j) (planes_bit bytes) w → u ≡ drawn (λ p i j. in_rows v y (y + 1) from (s.x + s.run.len) i j) (planes_bit bytes) v
 run_more v w u y from x end s bytes first next was is =
-    cell_more v w u (λ p i j. in_rows v.live y (y + 1) from x i j) (λ p i j. in_stretch s i j) (λ p i j. in_rows v.live y (y + 1) from (s.x + s.run.len) i j) (planes_bit bytes) (planes_give_bits bytes)
-    (next_run v.live (λ p. true) y from x end s first next) was is
+    layer_more v w u (λ p i j. in_rows v y (y + 1) from x i j) (λ p i j. in_stretch s i j) (λ p i j. in_rows v y (y + 1) from (s.x + s.run.len) i j) (planes_bit bytes) (planes_give_bits bytes)
+    (next_run v (λ p. true) y from x end s first next) was is
 
 -- all runs
-pub runs_done : (v w : CellView) (y from x end : ℕ) (bytes : List ℕ) → from ≤ x → x ≤ end → w ≡ with_live (λ c. drawn (λ p i j. in_rows c y (y + 1) from x i j) (planes_bit bytes) c) v → IsNextStretch w.live x y end None → w ≡ with_live (λ c. drawn (λ p i j. in_rows c y (y + 1) from end i j) (planes_bit bytes) c) v
+pub runs_done : (v w : LiveView) (y from x end : ℕ) (bytes : List ℕ) → from ≤ x → x ≤ end → w ≡ drawn (λ p i j. in_rows v y (y + 1) from x i j) (planes_bit bytes) v → IsNextStretch w x y end None → w ≡ drawn (λ p i j. in_rows v y (y + 1) from end i j) (planes_bit bytes) v
 runs_done v w y from x end bytes first last was none =
-    cell_same v w (λ p i j. in_rows v.live y (y + 1) from x i j) (λ p i j. in_rows v.live y (y + 1) from end i j) (planes_bit bytes) was
-    (λ p i j _. row_done v.live true y from x end i j first last (none_stays v w (λ q u z. in_rows v.live y (y + 1) from x u z) (planes_bit bytes) x y end was none))
+    layer_same v w (λ p i j. in_rows v y (y + 1) from x i j) (λ p i j. in_rows v y (y + 1) from end i j) (planes_bit bytes) was
+    (λ p i j _. row_done v true y from x end i j first last (none_stays v w (λ q u z. in_rows v y (y + 1) from x u z) (planes_bit bytes) x y end was none))

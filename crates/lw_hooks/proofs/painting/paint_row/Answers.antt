@@ -10,12 +10,12 @@ pub loop-stretch-init : goal.loop-stretch-init
 loop-stretch-init c = record {
   first = omega arith;
   last = c.args.columns.ordered;
-  painted = no_runs c.args.cell.now c.args.y c.args.columns.from c.args.bytes.now c.depth.ensures.bits.bitmap;
+  painted = no_runs c.args.layer.now c.args.y c.args.columns.from c.args.bytes.now c.depth.ensures.bits.bitmap;
 }
 
 pub loop-stretch-preserved : goal.loop-stretch-preserved
 loop-stretch-preserved c =
-    let v = c.args.cell.now in
+    let v = c.args.layer.now in
     let from = c.args.columns.from in
     let end = c.args.columns.end in
     let x = c.loop-stretch.x in
@@ -23,15 +23,15 @@ loop-stretch-preserved c =
     let s = c.in-Some.stretch in
     let bytes = c.args.bytes.now in
     let done = c.loop-stretch.invariant in
-    let next = first_stays v c.loop-stretch.cell (λ p i j. in_rows v.live y (y + 1) from x i j) (planes_bit bytes) x y end s done.painted c.in-Some.ensures in
+    let next = first_stays v c.loop-stretch.layer (λ p i j. in_rows v y (y + 1) from x i j) (planes_bit bytes) x y end s done.painted c.in-Some.ensures in
     let reaches : pos x ≤ℤ pos s.x = next.column.reaches in
     record {
       first = omega (arith, ints, done.first);
       last = next.ends;
-      painted = run_more v c.loop-stretch.cell c.paint_run.new.cell y from x end s bytes done.first next done.painted c.paint_run.ensures;
+      painted = run_more v c.loop-stretch.layer c.paint_run.new.layer y from x end s bytes done.first next done.painted c.paint_run.ensures;
     }
 
 pub returns : goal.returns
 returns c =
     let done = c.loop-stretch.invariant in
-    runs_done c.args.cell.now c.loop-stretch.cell c.args.y c.args.columns.from c.loop-stretch.x c.args.columns.end c.args.bytes.now done.first done.last done.painted c.in_default.ensures
+    runs_done c.args.layer.now c.loop-stretch.layer c.args.y c.args.columns.from c.loop-stretch.x c.args.columns.end c.args.bytes.now done.first done.last done.painted c.in_default.ensures
