@@ -1,5 +1,4 @@
-use Rattle.std.proofs.Common.{◌∙◌, ap, arith}
-use Rattle.lw_layer.specs.View.{LiveView}
+use Rattle.std.proofs.Common.{arith}
 use Rattle.lw_layer.specs.Drafts.{raster_of}
 use Rattle.lw_frames.proofs.FillLaws.{no_fills, fill_more, fills_done}
 use Rattle.lw_frames.proofs.painting.paint_fills.Goals as goal

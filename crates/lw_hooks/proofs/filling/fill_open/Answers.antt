@@ -1,5 +1,4 @@
 use Rattle.std.proofs.Common.{◌∙◌, ap}
-use Rattle.lw_layer.specs.View.{LiveView}
 use Rattle.lw_hooks.specs.Filling.{filled}
 use Rattle.lw_hooks.proofs.FillingLaws.{kept_filled}
 use Rattle.lw_hooks.proofs.filling.fill_open.Goals as goal

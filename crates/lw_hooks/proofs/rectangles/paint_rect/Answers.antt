@@ -1,6 +1,5 @@
-use Rattle.std.proofs.Common.{◌≡◌, pos, to_z, of_z, w16, ◌∙◌, ap, arith}
+use Rattle.std.proofs.Common.{◌≡◌, pos, to_z, of_z, w16, ◌∙◌, arith}
 use Rattle.std.proofs.lemmas.Int.{ints}
-use Rattle.lw_layer.specs.View.{LiveView}
 use Rattle.lw_draw.proofs.RectangleLaws.{within_same}
 use Rattle.lw_hooks.proofs.RectangleLaws.{rectangle_painted}
 use Rattle.lw_hooks.proofs.rectangles.paint_rect.Goals as goal

@@ -1,5 +1,4 @@
-use Rattle.std.proofs.Common.{◌∙◌, ap, arith}
-use Rattle.lw_layer.specs.View.{LiveView}
+use Rattle.std.proofs.Common.{arith}
 use Rattle.lw_hooks.proofs.RectangleLaws.{no_rectangles, rectangle_more, rectangles_done}
 use Rattle.lw_hooks.proofs.rectangles.paint_rects.Goals as goal
 

@@ -1,5 +1,4 @@
 use Rattle.std.proofs.Common.{◌≡◌, ◌∙◌, ap, arith}
-use Rattle.lw_layer.specs.View.{LiveView}
 use Rattle.lw_draw.specs.Drawn.{drawn, in_rows}
 use Rattle.lw_hooks.specs.Filling.{tile_bit}
 use Rattle.lw_hooks.proofs.RectangleLaws.{no_rows, row_more}

@@ -1,6 +1,5 @@
 use Rattle.std.proofs.Common.{◌-◌, min, length, ◌∙◌, ap, arith, rules}
 use Rattle.std.proofs.lemmas.Int.{clamps, ints}
-use Rattle.lw_layer.specs.View.{LiveView}
 use Rattle.lw_layer.specs.Drafts.{raster_of}
 use Rattle.lw_text.proofs.TextLaws.{column_starts, row_starts, row_ends, columns_cut, rows_are, text_shape}
 use Rattle.lw_text.proofs.characters.paint_text.Goals as goal
