@@ -1,5 +1,5 @@
 -- Laws of telling a window what it is due: its messages one after another, and whether it was asked to refresh.
-use Rattle.std.proofs.Common.{◌≡◌, ℕ, ◌+◌, ◌-◌, ◌==◌, Bool, true, false, not, ◌&&◌, ◌||◌, nat_lt, List, ◌++◌, length, length-append, append_assoc, Option, Some, None, ◌∙◌, sym, refl, ap, subst, arith, ℤ, pos, negsuc}
+use Rattle.std.proofs.Common.{◌≡◌, ℕ, ◌-◌, ◌==◌, Bool, true, false, not, ◌&&◌, ◌||◌, nat_lt, List, ◌++◌, length, length-append, append_assoc, Option, Some, None, ◌∙◌, sym, refl, ap, subst, arith, ℤ, pos, negsuc}
 use Rattle.std.proofs.lemmas.Bool.{and_parts, ltb-true, both_ways, false_from_ne_true}
 use Rattle.std.proofs.Math.Bool.{or-false}
 use Rattle.lw_region.specs.Rectangle.{Rectangle}

@@ -1,4 +1,4 @@
-use Rattle.std.proofs.Common.{false, ◌∙◌, sym, ap}
+use Rattle.std.proofs.Common.{◌∙◌, sym, ap}
 use Rattle.lw_windows.specs.Messages.{listed}
 use Rattle.lw_frames.specs.Telling.{with_put, as_asked}
 use Rattle.lw_frames.proofs.TellingLaws.{five_put, as_unasked}
