@@ -1,9 +1,6 @@
 -- Laws of painting rectangles with a tile.
-use Rattle.std.proofs.Common.{◌≡◌, ℕ, ◌+◌, ◌-◌, ◌%◌, ◌<◌, ◌≤◌, Bool, true, false, ◌&&◌, ◌||◌, if◌then◌else◌, List, [], get_or, length, take, ◌∙◌, sym, refl, ap, arith, pos}
-use Rattle.std.specs.List.{slice_index_or}
-use Rattle.std.proofs.lemmas.Bool.Decides.{nat_tests}
+use Rattle.std.proofs.Common.{◌≡◌, ℕ, ◌+◌, ◌<◌, ◌≤◌, Bool, true, false, ◌&&◌, ◌||◌, if◌then◌else◌, List, [], get_or, length, take, ◌∙◌, sym, refl, ap, arith, pos}
 use Rattle.std.proofs.lemmas.List.{take_all}
-use Rattle.std.proofs.lemmas.Nat.Bits.{bit_at-lt}
 use Rattle.std.proofs.Math.Bool.{and-false}
 use Rattle.lw_region.specs.Rectangle.{Rectangle, within, has_pixel}
 use Rattle.lw_region.specs.Bands.{covers}
@@ -11,38 +8,12 @@ use Rattle.lw_region.proofs.Canonical.{covers_nil}
 use Rattle.lw_planes.specs.Bitmap.{IsBitmap}
 use Rattle.lw_kernels.specs.Kernel.{is_between}
 use Rattle.lw_layer.specs.View.{LiveView, draws}
-use Rattle.lw_draw.specs.Drawn.{drawn, GivesBits, in_rows}
+use Rattle.lw_draw.specs.Drawn.{drawn, in_rows}
 use Rattle.lw_draw.proofs.DrawnLaws.{bits_same, bit_of_layer, bit_drawn, drawn_same}
-use Rattle.lw_draw.proofs.PaintLaws.{layer_nowhere, layer_same, layer_alike, layer_more, draws_stays, next_row, no_row, tests_turned}
+use Rattle.lw_draw.proofs.PaintLaws.{layer_nowhere, layer_same, draws_stays, tests_turned}
 use Rattle.lw_draw.proofs.RectangleLaws.{covers_more}
-use Rattle.lw_hooks.specs.Filling.{planes_bit, tile_bit, in_rectangle, in_rectangles}
-
--- what a tile gives are bits
-pub tile_gives_bits : (tile : List (List ℕ)) → GivesBits (tile_bit tile)
-tile_gives_bits tile p x y old small = bit_at-lt (slice_index_or (slice_index_or tile (y % 8) []) p 0) (7 - x % 8)
-
--- a row is painted with the tile once it is painted with the tile's row
-row_named : (top i j : ℕ) (more : Bool) → (is_between top (top + 1) j && more) ≡ true → j ≡ top
-row_named top i j more on = grind (arith, nat_tests)
-
-pub row_of_tile : (v w : LiveView) (y from end : ℕ) (tile : List (List ℕ)) → w ≡ drawn (λ p i j. in_rows v y (y + 1) from end i j) (planes_bit (slice_index_or tile (y % 8) [])) v → w ≡ drawn (λ p i j. in_rows v y (y + 1) from end i j) (tile_bit tile) v
-row_of_tile v w y from end tile is =
-    layer_alike v w (λ p i j. in_rows v y (y + 1) from end i j) (planes_bit (slice_index_or tile (y % 8) [])) (tile_bit tile) is
-    (λ p i j old _ _ _ on _.
-    let down : j ≡ y = row_named y i j (is_between from end i && draws v i j) on in
-    ap (λ n. planes_bit (slice_index_or tile (n % 8) []) p i n old) (sym down))
-
--- no row so far
-pub no_rows : (v : LiveView) (top from end : ℕ) (tile : List (List ℕ)) → IsBitmap v.layer.bits → v ≡ drawn (λ p i j. in_rows v top top from end i j) (tile_bit tile) v
-no_rows v top from end tile ok = layer_nowhere v (λ p i j. in_rows v top top from end i j) (tile_bit tile) ok (λ p i j. no_row true top j (is_between from end i && draws v i j))
-
--- one row more
-pub row_more : (v w u : LiveView) (top y from end : ℕ) (tile : List (List ℕ)) → top ≤ y → w ≡ drawn (λ p i j. in_rows v top y from end i j) (tile_bit tile) v → u ≡ drawn (λ p i j. in_rows w y (y + 1) from end i j) (planes_bit (slice_index_or tile (y % 8) [])) w → u ≡ drawn (λ p i j. in_rows v top (y + 1) from end i j) (tile_bit tile) v
-row_more v w u top y from end tile low was is =
-    layer_more v w u (λ p i j. in_rows v top y from end i j) (λ p i j. in_rows v y (y + 1) from end i j) (λ p i j. in_rows v top (y + 1) from end i j) (tile_bit tile) (tile_gives_bits tile)
-    (next_row v (λ p. true) top y from end low) was
-    (layer_same w u (λ p i j. in_rows w y (y + 1) from end i j) (λ p i j. in_rows v y (y + 1) from end i j) (tile_bit tile) (row_of_tile w u y from end tile is)
-    (λ p i j _. ap (λ t. is_between y (y + 1) j && (is_between from end i && t)) (draws_stays v w (λ q a b. in_rows v top y from end a b) (tile_bit tile) i j was)))
+use Rattle.lw_hooks.specs.Filling.{tile_bit, in_rectangle, in_rectangles}
+use Rattle.lw_hooks.proofs.PaintingLaws.{tile_gives_bits}
 
 -- a rectangle is painted once its rows and columns are
 pub rectangle_painted : (c : LiveView) (r : Rectangle) (tile : List (List ℕ)) (top bottom from end : ℕ) → ((u : ℕ) → u < c.layer.bits.width → within r.min_x (pos u) r.max_x ≡ is_between from end u) → ((v : ℕ) → v < c.layer.bits.height → within r.min_y (pos v) r.max_y ≡ is_between top bottom v) → drawn (λ p i j. in_rows c top bottom from end i j) (tile_bit tile) c ≡ drawn (λ p i j. in_rectangle c r i j) (tile_bit tile) c

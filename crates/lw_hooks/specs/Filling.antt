@@ -14,13 +14,9 @@ use Rattle.lw_layer.specs.View.{LiveView, keeps, draws, with_layer}
 abbrev pub byte_bit : ℕ → ℕ → ℕ
 byte_bit byte x = bit_at byte (7 - x % 8)
 
--- the bit that a pixel takes in a plane from a row with a byte for each plane
-abbrev pub planes_bit : List ℕ → ℕ → ℕ → ℕ → ℕ → ℕ
-planes_bit bytes p x y old = byte_bit (slice_index_or bytes p 0) x
-
--- and from a tile of eight such rows
+-- the bit that a pixel takes in a plane from a tile, which has for each of its eight rows a byte for each plane
 abbrev pub tile_bit : List (List ℕ) → ℕ → ℕ → ℕ → ℕ → ℕ
-tile_bit tile p x y old = planes_bit (slice_index_or tile (y % 8) []) p x y old
+tile_bit tile p x y old = byte_bit (slice_index_or (slice_index_or tile (y % 8) []) p 0) x
 
 -- the bits of the tile are those of the hook's pens
 abbrev pub IsTileOf : Hook → List (List ℕ) → Type 0

@@ -1,11 +1,11 @@
 // Painting the drawable pixels of rectangles of a layer with a tile.
 
-ghost use Rattle.std.specs.Prelude.{◌≡◌, ◌+◌, ◌<◌, ◌≤◌};
-ghost use Rattle.lw_draw.specs.Drawn.{drawn, in_rows};
+ghost use Rattle.std.specs.Prelude.{◌≡◌};
+ghost use Rattle.lw_draw.specs.Drawn.{drawn};
 ghost use Rattle.lw_hooks.specs.Filling.{tile_bit, in_rectangle, in_rectangles};
 
-use crate::painting::paint_row;
-use lw_draw::{Places, span};
+use crate::painting::Tile;
+use lw_draw::{paint_rows, span};
 use lw_layer::Layer;
 use lw_region::Rect;
 
@@ -26,21 +26,5 @@ fn paint_rect(layer: &mut Layer, rect: &Rect, tile: &[[u8; 8]; 8])
 {
     let columns = span(rect.min_x(), rect.max_x(), layer.width());
     let rows = span(rect.min_y(), rect.max_y(), layer.height());
-    paint_rows(layer, rows, columns, tile);
-}
-
-// The same of some rows and columns.
-fn paint_rows(layer: &mut Layer, rows: Places, columns: Places, tile: &[[u8; 8]; 8])
-    requires bottom { rows.end < 65536 }
-    requires right { columns.end ≤ 2048 }
-    ensures { layer.new ≡ drawn
-        (λ p i j. in_rows layer.old rows.from rows.end columns.from columns.end i j)
-        (tile_bit tile.now)
-        layer.old }
-{
-    // As above.
-    let _ = layer.depth();
-    for y in rows.from..rows.end {
-        paint_row(layer, y, columns, &tile[y as usize % 8]);
-    }
+    paint_rows(layer, rows, columns, &Tile { rows: tile });
 }

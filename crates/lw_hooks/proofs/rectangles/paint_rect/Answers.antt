@@ -1,8 +1,12 @@
 use Rattle.std.proofs.Common.{◌≡◌, pos, to_z, of_z, w16, ◌∙◌, arith}
 use Rattle.std.proofs.lemmas.Int.{ints}
 use Rattle.lw_draw.proofs.RectangleLaws.{within_same}
+use Rattle.lw_hooks.proofs.PaintingLaws.{tile_gives_bits}
 use Rattle.lw_hooks.proofs.RectangleLaws.{rectangle_painted}
 use Rattle.lw_hooks.proofs.rectangles.paint_rect.Goals as goal
+
+pub paint_rows-requires-clause-bits : goal.paint_rows-requires-clause-bits
+paint_rows-requires-clause-bits c = tile_gives_bits c.args.tile.now
 
 pub returns : goal.returns
 returns c =
