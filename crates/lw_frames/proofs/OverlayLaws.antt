@@ -9,7 +9,7 @@ use Rattle.lw_planes.proofs.BitmapLaws.{pen_at_bitmap, bitmap_again}
 use Rattle.lw_machine.specs.Layer.{Raster}
 use Rattle.lw_machine.specs.Kept.{is_kept}
 use Rattle.lw_machine.specs.Paint.{candidate_bit, through_mask, with_pens, pen_within, paint_where}
-use Rattle.lw_layer.specs.View.{LiveView, CellView, shows, keeps, draws, with_live, with_layer}
+use Rattle.lw_layer.specs.View.{LiveView, shows, keeps, draws, with_layer}
 use Rattle.lw_layer.proofs.LineLaws.{repainted_same, nowhere}
 use Rattle.lw_layer.proofs.ViewLaws.{with_bits}
 use Rattle.lw_draw.proofs.LimitLaws.{all_drawable}
@@ -56,37 +56,36 @@ more_laid d pen old true false true false = refl
 more_laid d pen old true false false foreground = refl
 
 -- Before any pixel of a part is painted there is only the raster state.
-pub overlay_begun : (v u : CellView) (pen : ℕ) (raster : Raster) → IsBitmap v.live.layer.bits → raster ≡ solid_raster pen → u ≡ with_live (λ c. with_layer (λ l. record l { raster = raster }) c) v → u ≡ overlaid (λ x y. false) pen v
+pub overlay_begun : (v u : LiveView) (pen : ℕ) (raster : Raster) → IsBitmap v.layer.bits → raster ≡ solid_raster pen → u ≡ with_layer (λ l. record l { raster = raster }) v → u ≡ overlaid (λ x y. false) pen v
 unfolding with_pens
 overlay_begun v u pen raster ok same is =
-    let c : LiveView = with_layer (λ l. record l { raster = solid_raster pen }) v.live in
-    is ∙ (ap (λ r. with_live (λ c. with_layer (λ l. record l { raster = r }) c) v) same ∙
-    ap (λ q. record v { live = q })
-    (sym (ap (with_bits c) (bitmap_again v.live.layer.bits ok)) ∙
-    repainted_same c (λ x y. pen_at v.live.layer.bits x y) (λ x y. if keeps v.live x y && false then pen_within v.live.layer.bits.depth pen else pen_at v.live.layer.bits x y) (λ x y _ _. nowhere (keeps v.live x y) _ _)))
+    let c : LiveView = with_layer (λ l. record l { raster = solid_raster pen }) v in
+    is ∙ (ap (λ r. with_layer (λ l. record l { raster = r }) v) same ∙
+    (sym (ap (with_bits c) (bitmap_again v.layer.bits ok)) ∙
+    repainted_same c (λ x y. pen_at v.layer.bits x y) (λ x y. if keeps v x y && false then pen_within v.layer.bits.depth pen else pen_at v.layer.bits x y) (λ x y _ _. nowhere (keeps v x y) _ _)))
 
 -- One shape more: where a layer without limits paints it, its foreground joins the pixels that have the pen.
-pub overlay_more : (v u : CellView) (on shape foreground : ℕ → ℕ → Bool) (pen : ℕ) → IsBitmap v.live.layer.bits → v.live.layer.bits.depth ≤ 8 → v.live.layer.clip ≡ None → v.live.layer.updating ≡ false → u ≡ with_live (λ c. with_layer (λ l. paint_where (λ x y. shows c x y) shape foreground l) c) (overlaid on pen v) → u ≡ overlaid (λ x y. on x y || (shape x y && foreground x y)) pen v
+pub overlay_more : (v w u : LiveView) (on shape foreground : ℕ → ℕ → Bool) (pen : ℕ) → IsBitmap v.layer.bits → v.layer.bits.depth ≤ 8 → v.layer.clip ≡ None → v.layer.updating ≡ false → w ≡ overlaid on pen v → u ≡ with_layer (λ l. paint_where (λ x y. shows w x y) shape foreground l) w → u ≡ overlaid (λ x y. on x y || (shape x y && foreground x y)) pen v
 unfolding with_pens keeps is_kept draws
-overlay_more v u on shape foreground pen ok deep unclipped idle is =
-    let d = v.live.layer.bits.depth in
-    let c : LiveView = with_layer (λ l. record l { raster = solid_raster pen }) v.live in
-    let painted : LiveView = (overlaid on pen v).live in
-    let old : ℕ → ℕ → ℕ = λ x y. pen_at v.live.layer.bits x y in
-    let former : ℕ → ℕ → ℕ = λ x y. laid d pen (keeps v.live x y && on x y) (old x y) in
+overlay_more v w u on shape foreground pen ok deep unclipped idle was is =
+    let d = v.layer.bits.depth in
+    let c : LiveView = with_layer (λ l. record l { raster = solid_raster pen }) v in
+    let painted : LiveView = overlaid on pen v in
+    let old : ℕ → ℕ → ℕ = λ x y. pen_at v.layer.bits x y in
+    let former : ℕ → ℕ → ℕ = λ x y. laid d pen (keeps v x y && on x y) (old x y) in
     let drawn_over : Bool → Bool → ℕ → ℕ = λ t again n. if t then through_mask d 255 (λ k. candidate_bit (solid_raster pen) again k (bit_at n k)) n else n in
-    is ∙ ap (λ q. record v { live = q })
-    (repainted_same c (λ x y. drawn_over (draws painted x y && shape x y) (foreground x y) (pen_at painted.layer.bits x y)) (λ x y. laid d pen (keeps v.live x y && (on x y || (shape x y && foreground x y))) (old x y))
+    is ∙ (ap (λ (q : LiveView). with_layer (λ l. paint_where (λ x y. shows q x y) shape foreground l) q) was ∙
+    repainted_same c (λ x y. drawn_over (draws painted x y && shape x y) (foreground x y) (pen_at painted.layer.bits x y)) (λ x y. laid d pen (keeps v x y && (on x y || (shape x y && foreground x y))) (old x y))
     (λ x y left low.
     ap (λ t. drawn_over (t && shape x y) (foreground x y) (pen_at painted.layer.bits x y)) (all_drawable painted x y unclipped idle) ∙
-    (ap (drawn_over (keeps v.live x y && shape x y) (foreground x y)) (pen_at_bitmap v.live.layer.bits.width v.live.layer.bits.height d former x y left low) ∙
-    (ap (λ n. if keeps v.live x y && shape x y then n else former x y) (solid_pen d pen (former x y) (foreground x y) deep (laid_small d pen (old x y) (keeps v.live x y && on x y) (ok.pens x y left low))) ∙
-    more_laid d pen (old x y) (keeps v.live x y) (on x y) (shape x y) (foreground x y)))))
+    (ap (drawn_over (keeps v x y && shape x y) (foreground x y)) (pen_at_bitmap v.layer.bits.width v.layer.bits.height d former x y left low) ∙
+    (ap (λ n. if keeps v x y && shape x y then n else former x y) (solid_pen d pen (former x y) (foreground x y) deep (laid_small d pen (old x y) (keeps v x y && on x y) (ok.pens x y left low))) ∙
+    more_laid d pen (old x y) (keeps v x y) (on x y) (shape x y) (foreground x y)))))
 
 -- the same pixels, tested in another way
-pub overlay_same : (v u : CellView) (on again : ℕ → ℕ → Bool) (pen : ℕ) → u ≡ overlaid on pen v → ((x y : ℕ) → on x y ≡ again x y) → u ≡ overlaid again pen v
+pub overlay_same : (v u : LiveView) (on again : ℕ → ℕ → Bool) (pen : ℕ) → u ≡ overlaid on pen v → ((x y : ℕ) → on x y ≡ again x y) → u ≡ overlaid again pen v
 unfolding with_pens
 overlay_same v u on again pen is same =
-    let c : LiveView = with_layer (λ l. record l { raster = solid_raster pen }) v.live in
-    let new : ℕ → ℕ → Bool → ℕ = λ x y t. laid v.live.layer.bits.depth pen (keeps v.live x y && t) (pen_at v.live.layer.bits x y) in
-    is ∙ ap (λ q. record v { live = q }) (repainted_same c (λ x y. new x y (on x y)) (λ x y. new x y (again x y)) (λ x y _ _. ap (new x y) (same x y)))
+    let c : LiveView = with_layer (λ l. record l { raster = solid_raster pen }) v in
+    let new : ℕ → ℕ → Bool → ℕ = λ x y t. laid v.layer.bits.depth pen (keeps v x y && t) (pen_at v.layer.bits x y) in
+    is ∙ repainted_same c (λ x y. new x y (on x y)) (λ x y. new x y (again x y)) (λ x y _ _. ap (new x y) (same x y))

@@ -5,7 +5,7 @@ use Rattle.lw_machine.specs.Layer.{Layer, Window, is_framed, is_window, changed_
 use Rattle.lw_machine.specs.Kept.{is_kept}
 use Rattle.lw_machine.specs.Paint.{with_pens, pen_within}
 use Rattle.lw_machine.specs.Reveal.{in_frame, framing_pen}
-use Rattle.lw_layer.specs.View.{LiveView, CellView, keeps, with_live, with_layer}
+use Rattle.lw_layer.specs.View.{LiveView, keeps, with_layer}
 use Rattle.lw_layer.specs.Windows.{title_of}
 use Rattle.lw_frames.specs.Framing.{framed, with_own_frame}
 
@@ -19,27 +19,26 @@ pub titled_window : (o : Option Window) (title : List ℕ) → is_window o ≡ t
 titled_window None title is = is
 titled_window (Some w) title is = refl
 
--- the cell with another title of its window
-abbrev pub titled : List ℕ → CellView → CellView
-titled title v = with_live (λ c. with_layer (λ l. change_window (λ w. record w { title = title }) l) c) v
+-- the layer with another title of its window
+abbrev pub titled : List ℕ → LiveView → LiveView
+titled title v = with_layer (λ l. change_window (λ w. record w { title = title }) l) v
 
-pub own_framed : (v u w z : CellView) (glyphs : List (List ℕ)) (former : List ℕ) (active : Bool) → is_framed v.live.layer.window ≡ true
-    → former ≡ title_of v.live.layer.window → u ≡ titled [] v → w ≡ framed glyphs former active u → z ≡ titled former w
+pub own_framed : (v u w z : LiveView) (glyphs : List (List ℕ)) (former : List ℕ) (active : Bool) → is_framed v.layer.window ≡ true
+    → former ≡ title_of v.layer.window → u ≡ titled [] v → w ≡ framed glyphs former active u → z ≡ titled former w
     → z ≡ with_own_frame glyphs active v
 unfolding with_pens keeps is_kept
 own_framed v u w z glyphs former active has title taken painted back =
-    back ∙ (ap (titled former) (painted ∙ ap (framed glyphs former active) taken) ∙ by_window v.live.layer.window refl has)
+    back ∙ (ap (titled former) (painted ∙ ap (framed glyphs former active) taken) ∙ by_window v.layer.window refl has)
   where
-    Own : Option Window → CellView
-    Own o = with_live (λ c. with_layer (λ l. record l { window = o }) c) v
+    Own : Option Window → LiveView
+    Own o = with_layer (λ l. record l { window = o }) v
 
-    by_window : (o : Option Window) → v.live.layer.window ≡ o → is_framed o ≡ true
+    by_window : (o : Option Window) → v.layer.window ≡ o → is_framed o ≡ true
         → titled former (framed glyphs former active (titled [] v)) ≡ with_own_frame glyphs active v
     by_window None is none = absurd (cc none)
     by_window (Some t) is framing =
-        let l : Layer = v.live.layer in
-        let k : LiveView = v.live in
-        let Framed : Bool → Option Window → CellView = λ b o. record v { live = record k { layer = if b then with_pens (λ x y. keeps k x y && in_frame l.bits.width l.bits.height x y) (λ x y. pen_within l.bits.depth (framing_pen glyphs t.title active l.bits.width x y)) (record l { window = o }) else record l { window = o } } } in
+        let l : Layer = v.layer in
+        let Framed : Bool → Option Window → LiveView = λ b o. record v { layer = if b then with_pens (λ x y. keeps v x y && in_frame l.bits.width l.bits.height x y) (λ x y. pen_within l.bits.depth (framing_pen glyphs t.title active l.bits.width x y)) (record l { window = o }) else record l { window = o } } in
         ap (λ o. titled former (framed glyphs former active (titled [] (Own o)))) is
         ∙ (ap (λ n. titled n (framed glyphs n active (titled [] (Own (Some t))))) (title ∙ ap title_of is)
         ∙ (ap (λ b. Framed b (Some t)) (sym framing)

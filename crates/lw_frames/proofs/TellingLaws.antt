@@ -1,5 +1,5 @@
 -- Laws of telling a window what it is due: its messages one after another, and whether it was asked to refresh.
-use Rattle.std.proofs.Common.{◌≡◌, ℕ, ◌+◌, ◌-◌, ◌==◌, Bool, true, false, not, ◌&&◌, ◌||◌, nat_lt, List, ◌++◌, length, length-append, append_assoc, Option, Some, None, ◌∙◌, sym, refl, ap, subst, arith, ℤ, pos, negsuc}
+use Rattle.std.proofs.Common.{◌≡◌, ℕ, ◌-◌, ◌==◌, Bool, true, false, not, ◌&&◌, ◌||◌, nat_lt, List, ◌++◌, length, length-append, append_assoc, Option, Some, None, ◌∙◌, sym, refl, ap, subst, arith, ℤ, pos, negsuc}
 use Rattle.std.proofs.lemmas.Bool.{and_parts, ltb-true, both_ways, false_from_ne_true}
 use Rattle.std.proofs.Math.Bool.{or-false}
 use Rattle.lw_region.specs.Rectangle.{Rectangle}
@@ -12,7 +12,7 @@ use Rattle.lw_damage.specs.Damaged.{Damaged}
 use Rattle.lw_machine.specs.Layer.{Layer, Window, changed_window}
 use Rattle.lw_machine.specs.Kept.{holds_at, is_kept}
 use Rattle.lw_machine.specs.Reveal.{Across, is_damaged, messages_due, refresh_is_put}
-use Rattle.lw_layer.specs.View.{LiveView, CellView, keeps, with_live}
+use Rattle.lw_layer.specs.View.{LiveView, keeps}
 use Rattle.lw_layer.specs.Pieces.{IsDamageOf}
 use Rattle.lw_layer.proofs.PixelTests.{some_covered}
 use Rattle.lw_windows.specs.Messages.{listed}
@@ -44,14 +44,14 @@ pub as_unasked : (k : LiveView) → k ≡ as_asked false k
 as_unasked k = ap (λ o. record k { layer = record k.layer { window = o } }) (sym (not_asked k.layer.window))
 
 -- five messages or fewer, one after another
-pub five_put : (v u1 u2 u3 u4 u5 : CellView) (a b c d e : List Message) → u1 ≡ with_live (with_put a) v → u2 ≡ with_live (with_put b) u1
-    → u3 ≡ with_live (with_put c) u2 → u4 ≡ with_live (with_put d) u3 → u5 ≡ with_live (with_put e) u4
-    → u5 ≡ with_live (with_put (a ++ b ++ c ++ d ++ e)) v
+pub five_put : (v u1 u2 u3 u4 u5 : LiveView) (a b c d e : List Message) → u1 ≡ with_put a v → u2 ≡ with_put b u1
+    → u3 ≡ with_put c u2 → u4 ≡ with_put d u3 → u5 ≡ with_put e u4
+    → u5 ≡ with_put (a ++ b ++ c ++ d ++ e) v
 five_put v u1 u2 u3 u4 u5 a b c d e first second third fourth fifth =
     next u4 u5 (a ++ b ++ c ++ d) e (next u3 u4 (a ++ b ++ c) d (next u2 u3 (a ++ b) c (next u1 u2 a b first second) third) fourth) fifth
   where
-    next : (u w : CellView) (m n : List Message) → u ≡ with_live (with_put m) v → w ≡ with_live (with_put n) u → w ≡ with_live (with_put (m ++ n)) v
-    next u w m n one two = two ∙ (ap (with_live (with_put n)) one ∙ ap (λ k. record v { live = k }) (put_more m n v.live))
+    next : (u w : LiveView) (m n : List Message) → u ≡ with_put m v → w ≡ with_put n u → w ≡ with_put (m ++ n) v
+    next u w m n one two = two ∙ (ap (with_put n) one ∙ put_more m n v)
 
 -- what is due of a window is what is due of its layer
 pub due_of : (q : Across) (l : Layer) (w : Window) (due : Classes) → l.window ≡ Some w → listed due ≡ messages_due q l w → due.refresh ≡ refresh_is_put l w

@@ -10,7 +10,7 @@ use Rattle.lw_machine.specs.Layer.{Raster}
 use Rattle.lw_machine.specs.Paint.{has_inversvid}
 use Rattle.lw_machine.specs.Shapes.{glyph_has, cell_has, differ, in_cells}
 use Rattle.lw_machine.specs.Reveal.{in_title}
-use Rattle.lw_layer.specs.View.{CellView, shows, with_live, with_layer}
+use Rattle.lw_layer.specs.View.{LiveView, shows, with_layer}
 use Rattle.lw_text.specs.Letters.{text_before}
 use Rattle.lw_frames.specs.Framing.{solid_raster, overlaid}
 use Rattle.lw_frames.proofs.OverlayLaws.{overlay_begun, overlay_more, overlay_same}
@@ -74,14 +74,14 @@ title_cells glyphs title w x y =
     (λ right low. ap (λ column. has column (unsigned_abs (pos y -ℤ (pos 8 -ℤ pos 6)))) (across x (right_of x right)) ∙ ap (has (x - 4)) (down y (below_of y low)))
 
 -- The title's pixels have the pen once its letters are painted with it alone.
-pub title_laid : (v w u : CellView) (glyphs : List (List ℕ)) (title : List ℕ) (end pen : ℕ) (raster : Raster) → IsBitmap v.live.layer.bits → v.live.layer.bits.depth ≤ 8 → v.live.layer.clip ≡ None → v.live.layer.updating ≡ false → end ≡ v.live.layer.bits.width - 4 → raster ≡ solid_raster pen → w ≡ with_live (λ c. with_layer (λ l. record l { raster = raster }) c) v → u ≡ with_live (λ c. with_layer (λ l. text_before glyphs (λ x y. shows c x y) title end l) c) w → u ≡ overlaid (in_title glyphs title v.live.layer.bits.width) pen v
+pub title_laid : (v w u : LiveView) (glyphs : List (List ℕ)) (title : List ℕ) (end pen : ℕ) (raster : Raster) → IsBitmap v.layer.bits → v.layer.bits.depth ≤ 8 → v.layer.clip ≡ None → v.layer.updating ≡ false → end ≡ v.layer.bits.width - 4 → raster ≡ solid_raster pen → w ≡ with_layer (λ l. record l { raster = raster }) v → u ≡ with_layer (λ l. text_before glyphs (λ x y. shows w x y) title end l) w → u ≡ overlaid (in_title glyphs title v.layer.bits.width) pen v
 title_laid v w u glyphs title end pen raster ok deep unclipped idle cut same begun is =
     let cells : ℕ → ℕ → ℕ → Bool = λ n x y. in_cells (pos 4) (pos 8 -ℤ pos 6) (length title) (pos x) (pos y) && nat_lt x n in
     let has : ℕ → ℕ → Bool = λ x y. cell_has glyphs title (pos 4) (pos 8 -ℤ pos 6) (pos x) (pos y) in
     let letters : ℕ → ℕ → Bool = λ x y. differ (has_inversvid (solid_raster pen)) (has x y) in
-    overlay_same v u (λ x y. false || (cells end x y && letters x y)) (in_title glyphs title v.live.layer.bits.width) pen
-    (overlay_more v u (λ x y. false) (cells end) letters pen ok deep unclipped idle
-    (is ∙ ap (with_live (λ c. with_layer (λ l. text_before glyphs (λ x y. shows c x y) title end l) c)) (overlay_begun v w pen raster ok same begun)))
+    overlay_same v u (λ x y. false || (cells end x y && letters x y)) (in_title glyphs title v.layer.bits.width) pen
+    (overlay_more v (overlaid (λ x y. false) pen v) u (λ x y. false) (cells end) letters pen ok deep unclipped idle refl
+    (is ∙ ap (λ (c : LiveView). with_layer (λ l. text_before glyphs (λ x y. shows c x y) title end l) c) (overlay_begun v w pen raster ok same begun)))
     (λ x y.
     ap (λ b. cells end x y && differ (b == 1) (has x y)) (bit_at-zero 2) ∙
-    (ap (λ n. cells n x y && has x y) cut ∙ title_cells glyphs title v.live.layer.bits.width x y))
+    (ap (λ n. cells n x y && has x y) cut ∙ title_cells glyphs title v.layer.bits.width x y))

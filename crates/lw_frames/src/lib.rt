@@ -1,4 +1,4 @@
-//! The frame of a window in the cell of its layer (the manual's Intuition Windows chapter): four fills with one pen, and the
+//! The frame of a window in its layer (the manual's Intuition Windows chapter): four fills with one pen, and the
 //! title's letters over the top one with another. And the messages that a window is due, in its port. How wide and in which pens
 //! a frame is, and when a message is due, are this project's own.
 #![tactic(auto)]

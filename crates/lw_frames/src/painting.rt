@@ -3,42 +3,39 @@
 ghost use Rattle.std.specs.Prelude.{◌≡◌, ◌<◌, ◌≤◌, pos, None, false};
 ghost use Rattle.lw_region.specs.Bands.{covers};
 ghost use Rattle.lw_machine.specs.Reveal.{in_title};
-ghost use Rattle.lw_layer.specs.View as view;
 ghost use Rattle.lw_layer.specs.Drafts.{raster_of};
 ghost use Rattle.lw_frames.specs.Framing.{overlaid, solid_raster};
 
 use lw_calls::{Assets, Text};
 use lw_draw::fill;
-use lw_layer::{Cell, Raster};
+use lw_layer::{Layer, Raster};
 use lw_region::Rect;
 use lw_text::letters_before;
 
 // Gives the pixels of the rectangles that the layer keeps this pen.
-pub(crate) fn paint_fills(cell: &mut Cell, fills: &[Rect], pen: u8)
-    requires live { cell.old.state ≡ view.Live }
-    requires unclipped { cell.old.live.layer.clip ≡ None }
-    requires idle { cell.old.live.layer.updating ≡ false }
-    ensures { cell.new ≡ overlaid (λ x y. covers fills.now (pos x) (pos y)) pen cell.old }
+pub(crate) fn paint_fills(layer: &mut Layer, fills: &[Rect], pen: u8)
+    requires unclipped { layer.old.layer.clip ≡ None }
+    requires idle { layer.old.layer.updating ≡ false }
+    ensures { layer.new ≡ overlaid (λ x y. covers fills.now (pos x) (pos y)) pen layer.old }
 {
     // Reading this tells the proof that the layer has at most eight planes and only pens of its depth.
-    let _ = cell.depth();
-    cell.set_raster(solid(pen));
+    let _ = layer.depth();
+    layer.set_raster(solid(pen));
     for rect in fills {
-        fill(cell, rect);
+        fill(layer, rect);
     }
 }
 
 // Gives the pixels of the title's letters that the layer keeps this pen.
-pub(crate) fn paint_title(cell: &mut Cell, assets: &Assets, title: &Text, letters: u8)
-    requires live { cell.old.state ≡ view.Live }
-    requires least_width { 4 ≤ cell.old.live.layer.bits.width }
-    requires unclipped { cell.old.live.layer.clip ≡ None }
-    requires idle { cell.old.live.layer.updating ≡ false }
-    ensures { cell.new ≡ overlaid (in_title assets.now.glyphs title.now cell.old.live.layer.bits.width) letters cell.old }
+pub(crate) fn paint_title(layer: &mut Layer, assets: &Assets, title: &Text, letters: u8)
+    requires least_width { 4 ≤ layer.old.layer.bits.width }
+    requires unclipped { layer.old.layer.clip ≡ None }
+    requires idle { layer.old.layer.updating ≡ false }
+    ensures { layer.new ≡ overlaid (in_title assets.now.glyphs title.now layer.old.layer.bits.width) letters layer.old }
 {
-    let end = cell.width() - 4;
-    cell.set_raster(solid(letters));
-    letters_before(cell, assets, title, end);
+    let end = layer.width() - 4;
+    layer.set_raster(solid(letters));
+    letters_before(layer, assets, title, end);
 }
 
 // How a part of a frame is painted: with a pen alone, in all planes, and letters from column 4 and row 2 on.

@@ -4,51 +4,45 @@ ghost use Rattle.std.specs.Prelude.{◌≡◌, ◌≤◌, true, MatchOption, Non
 ghost use Rattle.lw_machine.specs.Layer.{is_window};
 ghost use Rattle.lw_machine.specs.Reveal.{Across, is_damaged};
 ghost use Rattle.lw_ports.specs.Sets.{classes_of, has_class};
-ghost use Rattle.lw_layer.specs.View.{with_live};
-ghost use Rattle.lw_layer.specs.View as view;
-ghost use Rattle.lw_layer.specs.Windows.{HasRoom};
 ghost use Rattle.lw_windows.specs.Messages.{one_if};
 ghost use Rattle.lw_frames.specs.Telling.{IsDone, IsDueOf, with_window_told, told_all, with_put};
 
 use lw_calls::Message;
-use lw_layer::{Cell, WindowDraft};
+use lw_layer::{Layer, WindowDraft};
 use lw_windows::{Change, Classes, due};
 
 /// Puts the messages that the window is due that the layer is, if it is one, in the order of the machine (newsize, change, inactive,
 /// active, refresh), after an arrangement that changed it so; whether it has some damage is looked up. The port needs room for five
 /// messages. No memory is taken.
-pub fn tell(cell: &mut Cell, change: &Change)
-    requires live { cell.old.state ≡ view.Live }
-    requires room { HasRoom 5 cell.old }
-    ensures { (c : Across) → IsDone c change.now → cell.new ≡ with_live (with_window_told c) cell.old }
+pub fn tell(layer: &mut Layer, change: &Change)
+    requires room { is_window layer.old.layer.window ≡ true → 5 ≤ layer.old.room }
+    ensures { (c : Across) → IsDone c change.now → layer.new ≡ with_window_told c layer.old }
 {
-    if let Some(classes) = messages_due(cell, change) {
-        put_all(cell, &classes);
+    if let Some(classes) = messages_due(layer, change) {
+        put_all(layer, &classes);
     }
 }
 
 // The messages that the layer's window is due; `None` exactly where it isn't a window.
-fn messages_due(cell: &Cell, change: &Change) -> Option<Classes>
-    requires { cell.now.state ≡ view.Live }
+fn messages_due(layer: &Layer, change: &Change) -> Option<Classes>
     ensures { MatchOption result
-        (cell.now.live.layer.window ≡ None)
-        (λ due. (is_window cell.now.live.layer.window ≡ true)
-        × ((c : Across) → IsDone c change.now → IsDueOf c cell.now.live.layer cell.now.live.layer.window due)) }
+        (layer.now.layer.window ≡ None)
+        (λ due. (is_window layer.now.layer.window ≡ true)
+        × ((c : Across) → IsDone c change.now → IsDueOf c layer.now.layer layer.now.layer.window due)) }
 {
-    let window = cell.window()?;
+    let window = layer.window()?;
     let change = Change {
-        damaged: is_damaged(cell),
+        damaged: is_damaged(layer),
         ..*change
     };
     Some(due(&classes_asked(window), window.nocare, window.asked, &change))
 }
 
 // Whether the layer has some damage.
-fn is_damaged(cell: &Cell) -> bool
-    requires { cell.now.state ≡ view.Live }
-    ensures { result ≡ is_damaged cell.now.live.layer }
+fn is_damaged(layer: &Layer) -> bool
+    ensures { result ≡ is_damaged layer.now.layer }
 {
-    !cell.damage().region().rects().is_empty()
+    !layer.damage().region().rects().is_empty()
 }
 
 // The classes of messages for which a window asks.
@@ -69,30 +63,28 @@ fn classes_asked(window: &WindowDraft) -> Classes
 }
 
 // Puts these messages, in their order, and notes that the window was asked to refresh where that is one of them.
-fn put_all(cell: &mut Cell, due: &Classes)
-    requires live { cell.old.state ≡ view.Live }
-    requires window { is_window cell.old.live.layer.window ≡ true }
-    requires room { 5 ≤ cell.old.live.room }
-    ensures { cell.new ≡ with_live (told_all due.now) cell.old }
+fn put_all(layer: &mut Layer, due: &Classes)
+    requires window { is_window layer.old.layer.window ≡ true }
+    requires room { 5 ≤ layer.old.room }
+    ensures { layer.new ≡ told_all due.now layer.old }
 {
-    put_if(cell, due.newsize, Message::NewSize);
-    put_if(cell, due.change, Message::Change);
-    put_if(cell, due.inactive, Message::Inactive);
-    put_if(cell, due.active, Message::Active);
-    put_if(cell, due.refresh, Message::Refresh);
+    put_if(layer, due.newsize, Message::NewSize);
+    put_if(layer, due.change, Message::Change);
+    put_if(layer, due.inactive, Message::Inactive);
+    put_if(layer, due.active, Message::Active);
+    put_if(layer, due.refresh, Message::Refresh);
     if due.refresh {
-        cell.ask_refresh();
+        layer.ask_refresh();
     }
 }
 
 // Puts a message, if it is due.
-fn put_if(cell: &mut Cell, is_due: bool, message: Message)
-    requires live { cell.old.state ≡ view.Live }
-    requires window { is_window cell.old.live.layer.window ≡ true }
-    requires room { 1 ≤ cell.old.live.room }
-    ensures { cell.new ≡ with_live (with_put (one_if is_due message)) cell.old }
+fn put_if(layer: &mut Layer, is_due: bool, message: Message)
+    requires window { is_window layer.old.layer.window ≡ true }
+    requires room { 1 ≤ layer.old.room }
+    ensures { layer.new ≡ with_put (one_if is_due message) layer.old }
 {
     if is_due {
-        cell.put_message(message);
+        layer.put_message(message);
     }
 }

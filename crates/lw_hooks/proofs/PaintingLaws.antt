@@ -1,5 +1,5 @@
--- Laws of painting a row with a row of a tile.
-use Rattle.std.proofs.Common.{◌≡◌, ℕ, ◌+◌, ◌-◌, ◌/◌, ◌%◌, ◌==◌, ◌<◌, ◌≤◌, Bool, true, ◌&&◌, nat_lt, List, replicate, None, ◌∙◌, sym, refl, ap, arith}
+-- Laws of painting blocks with a tile.
+use Rattle.std.proofs.Common.{◌≡◌, ℕ, ◌+◌, ◌-◌, ◌/◌, ◌%◌, ◌==◌, ◌<◌, ◌≤◌, Bool, true, false, ◌&&◌, ◌||◌, nat_lt, List, [], replicate, ◌∙◌, sym, refl, ap, arith}
 use Rattle.std.specs.Int.{bit_at}
 use Rattle.std.specs.List.{slice_index_or}
 use Rattle.std.proofs.lemmas.Bool.Decides.{nat_tests}
@@ -8,20 +8,21 @@ use Rattle.std.proofs.lemmas.Nat.Bits.{bit_at-lt}
 use Rattle.lw_planes.specs.Row.{row_bit}
 use Rattle.lw_planes.specs.Minterm.{minterm_bit}
 use Rattle.lw_planes.specs.Bitmap.{IsBitmap}
-use Rattle.lw_planes.proofs.ChosenLaws.{no_plane, all_planes}
-use Rattle.lw_kernels.specs.Kernel.{is_between}
+use Rattle.lw_kernels.specs.Kernel.{is_named}
 use Rattle.lw_kernels.proofs.ByteLaws.{minterm_copies}
-use Rattle.lw_layer.specs.View.{CellView, draws, with_live}
-use Rattle.lw_draw.specs.Drawn.{drawn, GivesBits, in_rows}
+use Rattle.lw_layer.specs.View.{LiveView, draws}
+use Rattle.lw_draw.specs.Blocks.{IsBlock, in_block}
+use Rattle.lw_draw.specs.Drawn.{drawn, GivesBits}
 use Rattle.lw_draw.specs.Combined.{combined_bit}
-use Rattle.lw_draw.specs.Stretches.{in_stretch, IsFirstStretch, IsNextStretch}
+use Rattle.lw_draw.specs.Stretches.{in_stretch}
+use Rattle.lw_draw.specs.declared.blocks.Block.{Block}
 use Rattle.lw_draw.specs.declared.stretch.Stretch.{Stretch}
-use Rattle.lw_draw.proofs.PaintLaws.{cell_nowhere, cell_same, cell_alike, cell_more, none_stays, next_plane, next_run, no_column, row_done}
-use Rattle.lw_hooks.specs.Filling.{byte_bit, planes_bit}
+use Rattle.lw_draw.proofs.PaintLaws.{layer_nowhere, layer_alike, layer_more}
+use Rattle.lw_hooks.specs.Filling.{byte_bit, tile_bit}
 
--- what a row and a tile give are bits
-pub planes_give_bits : (bytes : List ℕ) → GivesBits (planes_bit bytes)
-planes_give_bits bytes p x y old small = bit_at-lt (slice_index_or bytes p 0) (7 - x % 8)
+-- what a tile gives are bits
+pub tile_gives_bits : (tile : List (List ℕ)) → GivesBits (tile_bit tile)
+tile_gives_bits tile p x y old small = bit_at-lt (slice_index_or (slice_index_or tile (y % 8) []) p 0) (7 - x % 8)
 
 -- a row of equal bytes
 equal_bytes : (n byte x : ℕ) → x / 8 < n → row_bit (replicate n byte) x ≡ byte_bit byte x
@@ -37,9 +38,9 @@ pixel_of : (k : ℕ) (s : Stretch) (p i j : ℕ) → (p == k && in_stretch s i j
 pixel_of k s p i j on = record { deep = grind (arith, nat_tests); last = grind (arith, nat_tests) }
 
 -- A run has in one plane the bits of a byte once it has those of a row of that byte.
-pub plane_of_byte : (v w : CellView) (k byte : ℕ) (s : Stretch) → s.x + s.run.len ≤ 2048 → w ≡ with_live (λ c. drawn (λ p i j. p == k && in_stretch s i j) (combined_bit 192 (replicate 256 byte) (record { column = 0; bit = 0 })) c) v → w ≡ with_live (λ c. drawn (λ p i j. p == k && in_stretch s i j) (λ p i j old. byte_bit byte i) c) v
-plane_of_byte v w k byte s right is =
-    cell_alike v w (λ p i j. p == k && in_stretch s i j) (combined_bit 192 (replicate 256 byte) (record { column = 0; bit = 0 })) (λ p i j old. byte_bit byte i) is
+pub run_of_byte : (v w : LiveView) (k byte : ℕ) (s : Stretch) → s.x + s.run.len ≤ 2048 → w ≡ drawn (λ p i j. p == k && in_stretch s i j) (combined_bit 192 (replicate 256 byte) (record { column = 0; bit = 0 })) v → w ≡ drawn (λ p i j. p == k && in_stretch s i j) (λ p i j old. byte_bit byte i) v
+run_of_byte v w k byte s right is =
+    layer_alike v w (λ p i j. p == k && in_stretch s i j) (combined_bit 192 (replicate 256 byte) (record { column = 0; bit = 0 })) (λ p i j old. byte_bit byte i) is
     (λ p i j old _ _ _ on _.
     let at = pixel_of k s p i j on in
     let place : 0 + (i - 0) ≡ i = omega arith in
@@ -47,41 +48,59 @@ plane_of_byte v w k byte s right is =
     ap (λ n. minterm_bit 192 (row_bit (replicate 256 byte) n) old) place ∙
     (ap (λ b. minterm_bit 192 b old) (equal_bytes 256 byte i near) ∙ minterm_copies 192 (byte_bit byte i) old (bit_at-lt byte (7 - i % 8)) refl))
 
--- the pixels of a run in the planes before one of them
-abbrev pub planes_before : Stretch → ℕ → ℕ → ℕ → ℕ → Bool
-planes_before s k p i j = nat_lt p k && in_stretch s i j
+-- the pixels of a block's first rows in one plane
+abbrev pub rows_before : ℕ → Block → ℕ → ℕ → ℕ → ℕ → Bool
+rows_before k b n p i j = p == k && (is_named b.y n j && is_named b.x b.run.len i)
 
--- no plane so far
-pub no_planes : (v : CellView) (s : Stretch) (bytes : List ℕ) → IsBitmap v.live.layer.bits → v ≡ with_live (λ c. drawn (planes_before s 0) (planes_bit bytes) c) v
-no_planes v s bytes ok = cell_nowhere v (planes_before s 0) (planes_bit bytes) ok (λ p i j. no_plane p (in_stretch s i j))
+-- no row so far
+no_row : (p k y j : ℕ) (more : Bool) → (p == k && (is_named y 0 j && more)) ≡ false
+no_row p k y j more = grind (arith, nat_tests)
 
--- one plane more
-pub plane_more : (v w u : CellView) (k : ℕ) (s : Stretch) (bytes : List ℕ) → w ≡ with_live (λ c. drawn (planes_before s k) (planes_bit bytes) c) v → u ≡ with_live (λ c. drawn (λ p i j. p == k && in_stretch s i j) (λ p i j old. byte_bit (slice_index_or bytes k 0) i) c) w → u ≡ with_live (λ c. drawn (planes_before s (k + 1)) (planes_bit bytes) c) v
-plane_more v w u k s bytes was is =
-    cell_more v w u (planes_before s k) (λ p i j. p == k && in_stretch s i j) (planes_before s (k + 1)) (planes_bit bytes) (planes_give_bits bytes)
-    (next_plane v.live (λ p. true) k (in_stretch s) refl) was
-    (cell_alike w u (λ p i j. p == k && in_stretch s i j) (λ p i j old. byte_bit (slice_index_or bytes k 0) i) (planes_bit bytes) is
-    (λ p i j old _ _ _ on _. let at = pixel_of k s p i j on in ap (λ q. byte_bit (slice_index_or bytes q 0) i) (sym at.deep)))
+pub no_rows : (v : LiveView) (k : ℕ) (b : Block) (tile : List (List ℕ)) → IsBitmap v.layer.bits → v ≡ drawn (rows_before k b 0) (tile_bit tile) v
+no_rows v k b tile ok = layer_nowhere v (rows_before k b 0) (tile_bit tile) ok (λ p i j. no_row p k b.y j (is_named b.x b.run.len i))
 
--- all planes
-pub planes_done : (v w : CellView) (k : ℕ) (s : Stretch) (bytes : List ℕ) → v.live.layer.bits.depth ≤ k → w ≡ with_live (λ c. drawn (planes_before s k) (planes_bit bytes) c) v → w ≡ with_live (λ c. drawn (λ p i j. in_stretch s i j) (planes_bit bytes) c) v
-planes_done v w k s bytes enough was =
-    cell_same v w (planes_before s k) (λ p i j. in_stretch s i j) (planes_bit bytes) was
-    (λ p i j deep. let below : p < k = omega (arith, deep, enough) in all_planes p k (in_stretch s i j) below)
+-- one row more
+row_apart : (p k y n j : ℕ) (inside : Bool) → ((p == k && (is_named y n j && inside)) && (p == k && (j == y + n && inside))) ≡ false
+row_apart p k y n j inside = grind (arith, nat_tests)
 
--- no run so far
-pub no_runs : (v : CellView) (y from : ℕ) (bytes : List ℕ) → IsBitmap v.live.layer.bits → v ≡ with_live (λ c. drawn (λ p i j. in_rows c y (y + 1) from from i j) (planes_bit bytes) c) v
-no_runs v y from bytes ok =
-    cell_nowhere v (λ p i j. in_rows v.live y (y + 1) from from i j) (planes_bit bytes) ok (λ p i j. no_column true (is_between y (y + 1) j) from i (draws v.live i j))
+row_whole : (p k y n j : ℕ) (inside : Bool) → (p == k && (is_named y (n + 1) j && inside)) ≡ ((p == k && (is_named y n j && inside)) || (p == k && (j == y + n && inside)))
+row_whole p k y n j inside = grind (arith, nat_tests)
 
--- one run more
-pub run_more : (v w u : CellView) (y from x end : ℕ) (s : Stretch) (bytes : List ℕ) → from ≤ x → IsFirstStretch v.live x y end s → w ≡ with_live (λ c. drawn (λ p i j. in_rows c y (y + 1) from x i j) (planes_bit bytes) c) v → u ≡ with_live (λ c. drawn (λ p i j. in_stretch s i j) (planes_bit bytes) c) w → u ≡ with_live (λ c. drawn (λ p i j. in_rows c y (y + 1) from (s.x + s.run.len) i j) (planes_bit bytes) c) v
-run_more v w u y from x end s bytes first next was is =
-    cell_more v w u (λ p i j. in_rows v.live y (y + 1) from x i j) (λ p i j. in_stretch s i j) (λ p i j. in_rows v.live y (y + 1) from (s.x + s.run.len) i j) (planes_bit bytes) (planes_give_bits bytes)
-    (next_run v.live (λ p. true) y from x end s first next) was is
+-- what is told of a pixel of a row in one plane
+record IsIn (k y p j : ℕ) : Type 0 where
+  pub deep : p ≡ k
+  pub down : j ≡ y
 
--- all runs
-pub runs_done : (v w : CellView) (y from x end : ℕ) (bytes : List ℕ) → from ≤ x → x ≤ end → w ≡ with_live (λ c. drawn (λ p i j. in_rows c y (y + 1) from x i j) (planes_bit bytes) c) v → IsNextStretch w.live x y end None → w ≡ with_live (λ c. drawn (λ p i j. in_rows c y (y + 1) from end i j) (planes_bit bytes) c) v
-runs_done v w y from x end bytes first last was none =
-    cell_same v w (λ p i j. in_rows v.live y (y + 1) from x i j) (λ p i j. in_rows v.live y (y + 1) from end i j) (planes_bit bytes) was
-    (λ p i j _. row_done v.live true y from x end i j first last (none_stays v w (λ q u z. in_rows v.live y (y + 1) from x u z) (planes_bit bytes) x y end was none))
+pixel_in : (k y p j : ℕ) (inside : Bool) → (p == k && (j == y && inside)) ≡ true → IsIn k y p j
+pixel_in k y p j inside on = record { deep = grind (arith, nat_tests); down = grind (arith, nat_tests) }
+
+pub row_more : (v w u : LiveView) (k n : ℕ) (b : Block) (tile : List (List ℕ)) → w ≡ drawn (rows_before k b n) (tile_bit tile) v
+    → u ≡ drawn (λ p i j. p == k && (j == b.y + n && is_named b.x b.run.len i)) (λ p i j old. byte_bit (slice_index_or (slice_index_or tile ((b.y + n) % 8) []) k 0) i) w
+    → u ≡ drawn (rows_before k b (n + 1)) (tile_bit tile) v
+row_more v w u k n b tile was is =
+    let row : ℕ → ℕ → ℕ → Bool = λ p i j. p == k && (j == b.y + n && is_named b.x b.run.len i) in
+    let byte : ℕ → ℕ → ℕ = λ y p. slice_index_or (slice_index_or tile (y % 8) []) p 0 in
+    layer_more v w u (rows_before k b n) row (rows_before k b (n + 1)) (tile_bit tile) (tile_gives_bits tile)
+    (record {
+      apart = λ p i j _ _ _. row_apart p k b.y n j (is_named b.x b.run.len i);
+      whole = λ p i j _ _ _. row_whole p k b.y n j (is_named b.x b.run.len i);
+    })
+    was
+    (layer_alike w u row (λ p i j old. byte_bit (byte (b.y + n) k) i) (tile_bit tile) is
+    (λ p i j old _ _ _ on _.
+    let at = pixel_in k (b.y + n) p j (is_named b.x b.run.len i) on in
+    ap (λ q. byte_bit (byte (b.y + n) q) i) (sym at.deep) ∙ ap (λ y. byte_bit (byte y p) i) (sym at.down)))
+
+-- what is told of a row of a block whose pixels are near
+pub record IsNear (b : Block) (n : ℕ) : Type 0 where
+  pub right : b.x + b.run.len ≤ 2048
+  pub below : b.y + n < 65536
+
+pub row_near : (c : LiveView) (b : Block) (n : ℕ) → IsBlock c (λ i j. draws c i j) b → n < b.rows
+    → ((i j : ℕ) → in_block b i j ≡ true → (nat_lt i 2048 && nat_lt j 65536) ≡ true) → IsNear b n
+row_near c b n block low reached =
+    let long : 0 < b.run.len = (block.runs n low).some in
+    let i : ℕ = b.x + (b.run.len - 1) in
+    let on : in_block b i (b.y + n) ≡ true = grind (arith, nat_tests) in
+    let near = reached i (b.y + n) on in
+    record { right = grind (arith, nat_tests); below = grind (arith, nat_tests) }

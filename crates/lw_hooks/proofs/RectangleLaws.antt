@@ -1,48 +1,19 @@
 -- Laws of painting rectangles with a tile.
-use Rattle.std.proofs.Common.{◌≡◌, ℕ, ◌+◌, ◌-◌, ◌%◌, ◌<◌, ◌≤◌, Bool, true, false, ◌&&◌, ◌||◌, if◌then◌else◌, List, [], get_or, length, take, ◌∙◌, sym, refl, ap, arith, pos}
-use Rattle.std.specs.List.{slice_index_or}
-use Rattle.std.proofs.lemmas.Bool.Decides.{nat_tests}
+use Rattle.std.proofs.Common.{◌≡◌, ℕ, ◌+◌, ◌<◌, ◌≤◌, Bool, true, false, ◌&&◌, ◌||◌, if◌then◌else◌, List, [], get_or, length, take, ◌∙◌, sym, refl, ap, arith, pos}
 use Rattle.std.proofs.lemmas.List.{take_all}
-use Rattle.std.proofs.lemmas.Nat.Bits.{bit_at-lt}
 use Rattle.std.proofs.Math.Bool.{and-false}
 use Rattle.lw_region.specs.Rectangle.{Rectangle, within, has_pixel}
 use Rattle.lw_region.specs.Bands.{covers}
 use Rattle.lw_region.proofs.Canonical.{covers_nil}
 use Rattle.lw_planes.specs.Bitmap.{IsBitmap}
 use Rattle.lw_kernels.specs.Kernel.{is_between}
-use Rattle.lw_layer.specs.View.{LiveView, CellView, draws, with_live}
-use Rattle.lw_draw.specs.Drawn.{drawn, GivesBits, in_rows}
+use Rattle.lw_layer.specs.View.{LiveView, draws}
+use Rattle.lw_draw.specs.Drawn.{drawn, in_rows}
 use Rattle.lw_draw.proofs.DrawnLaws.{bits_same, bit_of_layer, bit_drawn, drawn_same}
-use Rattle.lw_draw.proofs.PaintLaws.{cell_nowhere, cell_same, cell_alike, cell_more, draws_stays, next_row, no_row, tests_turned}
+use Rattle.lw_draw.proofs.PaintLaws.{layer_nowhere, layer_same, draws_stays, tests_turned}
 use Rattle.lw_draw.proofs.RectangleLaws.{covers_more}
-use Rattle.lw_hooks.specs.Filling.{planes_bit, tile_bit, in_rectangle, in_rectangles}
-
--- what a tile gives are bits
-pub tile_gives_bits : (tile : List (List ℕ)) → GivesBits (tile_bit tile)
-tile_gives_bits tile p x y old small = bit_at-lt (slice_index_or (slice_index_or tile (y % 8) []) p 0) (7 - x % 8)
-
--- a row is painted with the tile once it is painted with the tile's row
-row_named : (top i j : ℕ) (more : Bool) → (is_between top (top + 1) j && more) ≡ true → j ≡ top
-row_named top i j more on = grind (arith, nat_tests)
-
-pub row_of_tile : (v w : CellView) (y from end : ℕ) (tile : List (List ℕ)) → w ≡ with_live (λ c. drawn (λ p i j. in_rows c y (y + 1) from end i j) (planes_bit (slice_index_or tile (y % 8) [])) c) v → w ≡ with_live (λ c. drawn (λ p i j. in_rows c y (y + 1) from end i j) (tile_bit tile) c) v
-row_of_tile v w y from end tile is =
-    cell_alike v w (λ p i j. in_rows v.live y (y + 1) from end i j) (planes_bit (slice_index_or tile (y % 8) [])) (tile_bit tile) is
-    (λ p i j old _ _ _ on _.
-    let down : j ≡ y = row_named y i j (is_between from end i && draws v.live i j) on in
-    ap (λ n. planes_bit (slice_index_or tile (n % 8) []) p i n old) (sym down))
-
--- no row so far
-pub no_rows : (v : CellView) (top from end : ℕ) (tile : List (List ℕ)) → IsBitmap v.live.layer.bits → v ≡ with_live (λ c. drawn (λ p i j. in_rows c top top from end i j) (tile_bit tile) c) v
-no_rows v top from end tile ok = cell_nowhere v (λ p i j. in_rows v.live top top from end i j) (tile_bit tile) ok (λ p i j. no_row true top j (is_between from end i && draws v.live i j))
-
--- one row more
-pub row_more : (v w u : CellView) (top y from end : ℕ) (tile : List (List ℕ)) → top ≤ y → w ≡ with_live (λ c. drawn (λ p i j. in_rows c top y from end i j) (tile_bit tile) c) v → u ≡ with_live (λ c. drawn (λ p i j. in_rows c y (y + 1) from end i j) (planes_bit (slice_index_or tile (y % 8) [])) c) w → u ≡ with_live (λ c. drawn (λ p i j. in_rows c top (y + 1) from end i j) (tile_bit tile) c) v
-row_more v w u top y from end tile low was is =
-    cell_more v w u (λ p i j. in_rows v.live top y from end i j) (λ p i j. in_rows v.live y (y + 1) from end i j) (λ p i j. in_rows v.live top (y + 1) from end i j) (tile_bit tile) (tile_gives_bits tile)
-    (next_row v.live (λ p. true) top y from end low) was
-    (cell_same w u (λ p i j. in_rows w.live y (y + 1) from end i j) (λ p i j. in_rows v.live y (y + 1) from end i j) (tile_bit tile) (row_of_tile w u y from end tile is)
-    (λ p i j _. ap (λ t. is_between y (y + 1) j && (is_between from end i && t)) (draws_stays v w (λ q a b. in_rows v.live top y from end a b) (tile_bit tile) i j was)))
+use Rattle.lw_hooks.specs.Filling.{tile_bit, in_rectangle, in_rectangles}
+use Rattle.lw_hooks.proofs.PaintingLaws.{tile_gives_bits}
 
 -- a rectangle is painted once its rows and columns are
 pub rectangle_painted : (c : LiveView) (r : Rectangle) (tile : List (List ℕ)) (top bottom from end : ℕ) → ((u : ℕ) → u < c.layer.bits.width → within r.min_x (pos u) r.max_x ≡ is_between from end u) → ((v : ℕ) → v < c.layer.bits.height → within r.min_y (pos v) r.max_y ≡ is_between top bottom v) → drawn (λ p i j. in_rows c top bottom from end i j) (tile_bit tile) c ≡ drawn (λ p i j. in_rectangle c r i j) (tile_bit tile) c
@@ -67,27 +38,26 @@ drawn_over c former more both bit small whole =
     ap (λ t. if t then bit p x y else bit_of_layer c p x y) (sym (whole p x y))))
 
 -- no rectangle so far
-pub no_rectangles : (v : CellView) (tile : List (List ℕ)) → IsBitmap v.live.layer.bits → v ≡ with_live (λ c. drawn (λ p i j. in_rectangles c [] i j) (tile_bit tile) c) v
+pub no_rectangles : (v : LiveView) (tile : List (List ℕ)) → IsBitmap v.layer.bits → v ≡ drawn (λ p i j. in_rectangles v [] i j) (tile_bit tile) v
 no_rectangles v tile ok =
-    cell_nowhere v (λ p i j. in_rectangles v.live [] i j) (tile_bit tile) ok (λ p i j. ap (λ t. draws v.live i j && t) (covers_nil (pos i) (pos j)) ∙ and-false (draws v.live i j))
+    layer_nowhere v (λ p i j. in_rectangles v [] i j) (tile_bit tile) ok (λ p i j. ap (λ t. draws v i j && t) (covers_nil (pos i) (pos j)) ∙ and-false (draws v i j))
 
 -- one rectangle more
 joined : (drawable former more both : Bool) → both ≡ (former || more) → (drawable && both) ≡ ((drawable && former) || (drawable && more))
 joined true former more both is = is
 joined false former more both is = refl
 
-pub rectangle_more : (v w u : CellView) (rects : List Rectangle) (n : ℕ) (r : Rectangle) (tile : List (List ℕ)) → n < length rects → r ≡ get_or rects n r → w ≡ with_live (λ c. drawn (λ p i j. in_rectangles c (take n rects) i j) (tile_bit tile) c) v → u ≡ with_live (λ c. drawn (λ p i j. in_rectangle c r i j) (tile_bit tile) c) w → u ≡ with_live (λ c. drawn (λ p i j. in_rectangles c (take (n + 1) rects) i j) (tile_bit tile) c) v
+pub rectangle_more : (v w u : LiveView) (rects : List Rectangle) (n : ℕ) (r : Rectangle) (tile : List (List ℕ)) → n < length rects → r ≡ get_or rects n r → w ≡ drawn (λ p i j. in_rectangles v (take n rects) i j) (tile_bit tile) v → u ≡ drawn (λ p i j. in_rectangle w r i j) (tile_bit tile) w → u ≡ drawn (λ p i j. in_rectangles v (take (n + 1) rects) i j) (tile_bit tile) v
 rectangle_more v w u rects n r tile inside here was is =
-    let former : ℕ → ℕ → ℕ → Bool = λ p i j. in_rectangles v.live (take n rects) i j in
-    let more : ℕ → ℕ → ℕ → Bool = λ p i j. in_rectangle v.live r i j in
-    cell_same w u (λ p i j. in_rectangle w.live r i j) more (tile_bit tile) is
+    let former : ℕ → ℕ → ℕ → Bool = λ p i j. in_rectangles v (take n rects) i j in
+    let more : ℕ → ℕ → ℕ → Bool = λ p i j. in_rectangle v r i j in
+    layer_same w u (λ p i j. in_rectangle w r i j) more (tile_bit tile) is
     (λ p i j _. ap (λ t. t && has_pixel r (pos i) (pos j)) (draws_stays v w former (tile_bit tile) i j was)) ∙
-    (ap (with_live (λ c. drawn more (tile_bit tile) c)) was ∙
-    ap (λ q. record v { live = q })
-    (drawn_over v.live former more (λ p i j. in_rectangles v.live (take (n + 1) rects) i j) (λ p x y. tile_bit tile p x y 0)
+    (ap (λ c. drawn more (tile_bit tile) c) was ∙
+    drawn_over v former more (λ p i j. in_rectangles v (take (n + 1) rects) i j) (λ p x y. tile_bit tile p x y 0)
     (λ p x y. tile_gives_bits tile p x y 0 (omega arith))
-    (λ p x y. joined (draws v.live x y) (covers (take n rects) (pos x) (pos y)) (has_pixel r (pos x) (pos y)) (covers (take (n + 1) rects) (pos x) (pos y)) (covers_more rects n r inside here x y))))
+    (λ p x y. joined (draws v x y) (covers (take n rects) (pos x) (pos y)) (has_pixel r (pos x) (pos y)) (covers (take (n + 1) rects) (pos x) (pos y)) (covers_more rects n r inside here x y)))
 
 -- all rectangles
-pub rectangles_done : (v w : CellView) (rects : List Rectangle) (n : ℕ) (tile : List (List ℕ)) → length rects ≤ n → w ≡ with_live (λ c. drawn (λ p i j. in_rectangles c (take n rects) i j) (tile_bit tile) c) v → w ≡ with_live (λ c. drawn (λ p i j. in_rectangles c rects i j) (tile_bit tile) c) v
-rectangles_done v w rects n tile all was = was ∙ ap (λ rs. with_live (λ c. drawn (λ p i j. in_rectangles c rs i j) (tile_bit tile) c) v) (take_all n rects all)
+pub rectangles_done : (v w : LiveView) (rects : List Rectangle) (n : ℕ) (tile : List (List ℕ)) → length rects ≤ n → w ≡ drawn (λ p i j. in_rectangles v (take n rects) i j) (tile_bit tile) v → w ≡ drawn (λ p i j. in_rectangles v rects i j) (tile_bit tile) v
+rectangles_done v w rects n tile all was = was ∙ ap (λ rs. drawn (λ p i j. in_rectangles v rs i j) (tile_bit tile) v) (take_all n rects all)

@@ -7,20 +7,16 @@ use Rattle.lw_region.specs.Rectangle.{Rectangle, has_pixel}
 use Rattle.lw_region.specs.Bands.{covers}
 use Rattle.lw_machine.specs.Hook.{Hook, hook_pen}
 use Rattle.lw_machine.specs.Paint.{with_pens, pen_within}
-use Rattle.lw_layer.specs.View.{LiveView, CellView, keeps, draws, with_live, with_layer}
+use Rattle.lw_layer.specs.View.{LiveView, keeps, draws, with_layer}
 
 -- the bit that column x takes from a byte for eight columns: the byte's most significant bit is its leftmost column, and it comes
 -- again every eight columns
 abbrev pub byte_bit : ℕ → ℕ → ℕ
 byte_bit byte x = bit_at byte (7 - x % 8)
 
--- the bit that a pixel takes in a plane from a row with a byte for each plane
-abbrev pub planes_bit : List ℕ → ℕ → ℕ → ℕ → ℕ → ℕ
-planes_bit bytes p x y old = byte_bit (slice_index_or bytes p 0) x
-
--- and from a tile of eight such rows
+-- the bit that a pixel takes in a plane from a tile, which has for each of its eight rows a byte for each plane
 abbrev pub tile_bit : List (List ℕ) → ℕ → ℕ → ℕ → ℕ → ℕ
-tile_bit tile p x y old = planes_bit (slice_index_or tile (y % 8) []) p x y old
+tile_bit tile p x y old = byte_bit (slice_index_or (slice_index_or tile (y % 8) []) p 0) x
 
 -- the bits of the tile are those of the hook's pens
 abbrev pub IsTileOf : Hook → List (List ℕ) → Type 0
@@ -34,14 +30,12 @@ in_rectangle c r x y = draws c x y && has_pixel r (pos x) (pos y)
 abbrev pub in_rectangles : LiveView → List Rectangle → ℕ → ℕ → Bool
 in_rectangles c rects x y = draws c x y && covers rects (pos x) (pos y)
 
--- the cell with the hook's pens on the pixels of some rectangles that its layer keeps
-abbrev pub filled : Hook → List Rectangle → CellView → CellView
-filled h rects v =
-    with_live
-    (λ c. with_layer
+-- the live layer with the hook's pens on the pixels of some rectangles that it keeps
+abbrev pub filled : Hook → List Rectangle → LiveView → LiveView
+filled h rects c =
+    with_layer
     (λ l. with_pens
     (λ x y. keeps c x y && covers rects (pos x) (pos y))
     (λ x y. pen_within l.bits.depth (hook_pen h (pos x) (pos y)))
     l)
-    c)
-    v
+    c

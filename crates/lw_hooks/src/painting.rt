@@ -1,61 +1,76 @@
-// Painting a row of a layer with a row of a tile, run by run and plane by plane.
+// Painting blocks of a layer with a tile, plane by plane.
 
-ghost use Rattle.std.specs.Prelude.{◌≡◌, ◌==◌, ◌+◌, ◌<◌, ◌≤◌, ◌&&◌};
-ghost use Rattle.lw_layer.specs.View.{draws, with_live};
-ghost use Rattle.lw_layer.specs.View as view;
+ghost use Rattle.std.specs.Prelude.{◌≡◌, ℕ, ◌==◌, ◌+◌, ◌<◌, ◌≤◌, ◌&&◌, nat_lt, true};
+ghost use Rattle.lw_layer.specs.View.{draws};
 ghost use Rattle.lw_layer.specs.Runs.{IsRun};
-ghost use Rattle.lw_draw.specs.Drawn.{drawn, in_rows};
+ghost use Rattle.lw_draw.specs.Blocks.{IsBlock, in_block};
+ghost use Rattle.lw_draw.specs.Drawn.{drawn};
 ghost use Rattle.lw_draw.specs.Stretches.{in_stretch};
-ghost use Rattle.lw_hooks.specs.Filling.{byte_bit, planes_bit};
+ghost use Rattle.lw_hooks.specs.Filling.{byte_bit, tile_bit};
 
-use lw_draw::{Origin, Places, Stretch, combine_run, next_stretch};
+use lw_draw::{Block, Origin, Painter, Stretch, combine_run};
 use lw_kernels::COPY_MINTERM;
-use lw_layer::Cell;
+use lw_layer::{Layer, Run};
 
 // A row of a layer is at most 2048 pixels wide.
 const MOST: usize = 256;
 
-// Gives the drawable pixels of some columns of a row the bits of a row of a tile, which has a byte for each plane.
-pub(crate) fn paint_row(cell: &mut Cell, y: u32, columns: Places, bytes: &[u8; 8])
-    requires live { cell.old.state ≡ view.Live }
-    requires row { y < 65536 }
-    requires right { columns.end ≤ 2048 }
-    ensures { cell.new ≡ with_live
-        (λ c. drawn (λ p i j. in_rows c y (y + 1) columns.from columns.end i j) (planes_bit bytes.now) c)
-        cell.old }
-{
-    // Reading this tells the proof that the layer has only pens of its depth.
-    let _ = cell.depth();
-    let mut x = columns.from;
-    while let Some(stretch) = next_stretch(cell, x, y, columns.end) {
-        paint_run(cell, stretch, bytes);
-        x = stretch.x + stretch.run.len;
+// A tile in bits: for each of its rows a byte for each plane.
+#[derive(Clone, Copy)]
+pub(crate) struct Tile<'a> {
+    pub rows: &'a [[u8; 8]; 8],
+}
+
+impl<'a> Painter for Tile<'a> {
+    ghost planes = { λ t p. true };
+
+    ghost reaches = { λ t i j. nat_lt i 2048 && nat_lt j 65536 };
+
+    ghost bit = { λ t. tile_bit t.rows.now };
+
+    fn has_plane(&self, _plane: u32) -> bool {
+        true
+    }
+
+    fn paint_plane(&self, layer: &mut Layer, plane: u32, block: Block) {
+        paint_block(layer, plane, block, self.rows);
     }
 }
 
-// The same of a run.
-fn paint_run(cell: &mut Cell, stretch: Stretch, bytes: &[u8; 8])
-    requires live { cell.old.state ≡ view.Live }
-    requires run { IsRun cell.old.live (λ i j. draws cell.old.live i j) stretch.x stretch.y stretch.run }
-    requires right { stretch.x + stretch.run.len ≤ 2048 }
-    ensures { cell.new ≡ with_live (λ c. drawn (λ p i j. in_stretch stretch i j) (planes_bit bytes.now) c) cell.old }
+// Gives the pixels of a block in one plane the bits of a tile, row by row.
+fn paint_block(layer: &mut Layer, plane: u32, block: Block, tile: &[[u8; 8]; 8])
+    requires plane { plane < layer.old.layer.bits.depth }
+    requires block { IsBlock layer.old (λ i j. draws layer.old i j) block }
+    requires reached { (i j : ℕ) → in_block block i j ≡ true → (nat_lt i 2048 && nat_lt j 65536) ≡ true }
+    ensures { layer.new ≡ drawn (λ p i j. p == plane && in_block block i j) (tile_bit tile.now) layer.old }
 {
-    for plane in 0..cell.depth() {
-        paint_plane(cell, plane, stretch, bytes[plane as usize]);
+    // Reading these tells the proof that the layer has at most eight planes and only pens of its depth, and that the buffer has at
+    // most 2048 lines.
+    let _ = layer.depth();
+    let _ = layer.step(block.run.buffer);
+    for row in 0..block.rows {
+        let y = block.y + row;
+        let line = block.run.line + row;
+        let stretch = Stretch {
+            x: block.x,
+            y,
+            run: Run { line, ..block.run },
+        };
+        paint_run(layer, plane, stretch, tile[y as usize % 8][plane as usize]);
     }
 }
 
 // Gives the pixels of a run in one plane the bits of a byte, over and over again.
-fn paint_plane(cell: &mut Cell, plane: u32, stretch: Stretch, byte: u8)
-    requires live { cell.old.state ≡ view.Live }
-    requires plane { plane < cell.old.live.layer.bits.depth }
-    requires run { IsRun cell.old.live (λ i j. draws cell.old.live i j) stretch.x stretch.y stretch.run }
+fn paint_run(layer: &mut Layer, plane: u32, stretch: Stretch, byte: u8)
+    requires plane { plane < layer.old.layer.bits.depth }
+    requires run { IsRun layer.old (λ i j. draws layer.old i j) stretch.x stretch.y stretch.run }
     requires right { stretch.x + stretch.run.len ≤ 2048 }
-    ensures { cell.new ≡ with_live
-        (λ c. drawn (λ p i j. p == plane && in_stretch stretch i j) (λ p i j old. byte_bit byte i) c)
-        cell.old }
+    ensures { layer.new ≡ drawn
+        (λ p i j. p == plane && in_stretch stretch i j)
+        (λ p i j old. byte_bit byte i)
+        layer.old }
 {
     let bits = [byte; MOST];
     let origin = Origin { column: 0, bit: 0 };
-    combine_run(cell, plane, stretch, &bits, origin, COPY_MINTERM);
+    combine_run(layer, plane, stretch, &bits, origin, COPY_MINTERM);
 }

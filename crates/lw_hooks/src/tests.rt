@@ -46,11 +46,14 @@ fn a_region_has_the_hook_s_pens(rt: HostRuntime) -> Result<(), Fail> {
     let _ = cell.take_up(draft_of(alloc)?);
     let mut region = Region::new(alloc);
     region.or_rect(alloc, &Rect::new(1, 0, 9, 0).ok_or("out of order")?)?;
-    fill(&mut cell, &Checker::new(2, 3), &region);
+    let Some(layer) = cell.layer_mut() else {
+        unreachable!()
+    };
+    fill(layer, &Checker::new(2, 3), &region);
     // Pen 2 is where column and row have an even sum.
     for (x, pen) in [0, 3, 2, 3].iter().enumerate() {
-        assert_eq!(rt; cell.kept_at(x as i32, 0), Some(*pen));
-        assert_eq!(rt; cell.kept_at(x as i32, 1), Some(0));
+        assert_eq!(rt; layer.kept_at(x as i32, 0), Some(*pen));
+        assert_eq!(rt; layer.kept_at(x as i32, 1), Some(0));
     }
     Ok(())
 }

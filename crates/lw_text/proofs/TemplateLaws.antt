@@ -8,13 +8,13 @@ use Rattle.lw_machine.specs.Layer.{Raster}
 use Rattle.lw_machine.specs.Paint.{candidate_bit, has_inversvid}
 use Rattle.lw_machine.specs.Shapes.{differ}
 use Rattle.lw_machine.proofs.DrawingSound.{candidate_bit_lt}
-use Rattle.lw_layer.specs.View.{CellView, with_live}
+use Rattle.lw_layer.specs.View.{LiveView}
 use Rattle.lw_draw.specs.Drawn.{drawn, GivesBits}
 use Rattle.lw_draw.specs.Combined.{combined_bit}
 use Rattle.lw_draw.specs.Stretches.{in_stretch}
 use Rattle.lw_draw.specs.declared.combining.Origin.{Origin}
 use Rattle.lw_draw.specs.declared.stretch.Stretch.{Stretch}
-use Rattle.lw_draw.proofs.PaintLaws.{cell_alike}
+use Rattle.lw_draw.proofs.PaintLaws.{layer_alike}
 use Rattle.lw_text.specs.Templates.{stamped_bit, row_has}
 
 pub stamps_bits : (raster : Raster) (has : ℕ → ℕ → Bool) → GivesBits (stamped_bit raster has)
@@ -25,9 +25,9 @@ the_plane : (p k : ℕ) (run : Bool) → (p == k && run) ≡ true → p ≡ k
 the_plane p k run on = grind (arith, nat_tests)
 
 -- A plane of a run that is painted with a template's row by such a minterm is stamped with it.
-pub plane_stamped : (v w : CellView) (raster : Raster) (k m : ℕ) (s : Stretch) (bits : List ℕ) (o : Origin) → ((b d : ℕ) → b < 2 → d < 2 → minterm_bit m b d ≡ candidate_bit raster (differ (has_inversvid raster) (b == 1)) k d) → w ≡ with_live (λ c. drawn (λ p i j. p == k && in_stretch s i j) (combined_bit m bits o) c) v → w ≡ with_live (λ c. drawn (λ p i j. p == k && in_stretch s i j) (stamped_bit raster (row_has bits o)) c) v
+pub plane_stamped : (v w : LiveView) (raster : Raster) (k m : ℕ) (s : Stretch) (bits : List ℕ) (o : Origin) → ((b d : ℕ) → b < 2 → d < 2 → minterm_bit m b d ≡ candidate_bit raster (differ (has_inversvid raster) (b == 1)) k d) → w ≡ drawn (λ p i j. p == k && in_stretch s i j) (combined_bit m bits o) v → w ≡ drawn (λ p i j. p == k && in_stretch s i j) (stamped_bit raster (row_has bits o)) v
 plane_stamped v w raster k m s bits o values is =
-    cell_alike v w (λ p i j. p == k && in_stretch s i j) (combined_bit m bits o) (stamped_bit raster (row_has bits o)) is
+    layer_alike v w (λ p i j. p == k && in_stretch s i j) (combined_bit m bits o) (stamped_bit raster (row_has bits o)) is
     (λ p x y b _ _ _ on small.
     values (row_bit bits (o.bit + (x - o.column))) b (row_bit_lt bits (o.bit + (x - o.column))) small ∙
     ap (λ q. candidate_bit raster (differ (has_inversvid raster) (row_bit bits (o.bit + (x - o.column)) == 1)) q b) (sym (the_plane p k (in_stretch s x y) on)))

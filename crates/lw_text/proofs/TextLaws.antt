@@ -16,10 +16,10 @@ use Rattle.lw_machine.specs.Layer.{Raster}
 use Rattle.lw_machine.specs.Kept.{is_drawable}
 use Rattle.lw_machine.specs.Paint.{candidate_bit, has_inversvid, paint_where, through_mask, with_pens}
 use Rattle.lw_machine.specs.Shapes.{glyph_has, cell_has, in_cells, differ, draw_text}
-use Rattle.lw_layer.specs.View.{LiveView, CellView, shows, draws, with_layer, with_live}
+use Rattle.lw_layer.specs.View.{LiveView, shows, draws, with_layer}
 use Rattle.lw_layer.proofs.LineLaws.{repainted_same}
 use Rattle.lw_draw.specs.Drawn.{drawn, in_mask, in_rows}
-use Rattle.lw_draw.proofs.PaintLaws.{shape_drawn, tests_turned, cell_alike}
+use Rattle.lw_draw.proofs.PaintLaws.{shape_drawn, tests_turned, layer_alike}
 use Rattle.lw_text.specs.Letters.{text_before}
 use Rattle.lw_text.specs.Templates.{glyph_bits, stamped, stamped_bit, row_has, text_has}
 
@@ -70,15 +70,15 @@ text_whole c glyphs text width wide =
     before_width false x n left = refl
 
 -- With its cells painted and the cursor past them the text is drawn.
-pub text_done : (v w u : CellView) (glyphs drawn_glyphs : List (List ℕ)) (text codes : List ℕ) (width : ℕ) (raster after : Raster) → drawn_glyphs ≡ glyphs → codes ≡ text → width ≡ v.live.layer.bits.width → raster ≡ v.live.layer.raster → w ≡ with_live (λ c. with_layer (λ l. text_before drawn_glyphs (λ x y. shows c x y) codes width l) c) v → u ≡ with_live (λ c. with_layer (λ l. record l { raster = after }) c) w → after ≡ record raster { cursor_x = raster.cursor_x +ℤ pos (8 * length codes) } → u ≡ with_live (λ c. with_layer (λ l. draw_text glyphs (λ x y. shows c x y) text l) c) v
+pub text_done : (v w u : LiveView) (glyphs drawn_glyphs : List (List ℕ)) (text codes : List ℕ) (width : ℕ) (raster after : Raster) → drawn_glyphs ≡ glyphs → codes ≡ text → width ≡ v.layer.bits.width → raster ≡ v.layer.raster → w ≡ with_layer (λ l. text_before drawn_glyphs (λ x y. shows v x y) codes width l) v → u ≡ with_layer (λ l. record l { raster = after }) w → after ≡ record raster { cursor_x = raster.cursor_x +ℤ pos (8 * length codes) } → u ≡ with_layer (λ l. draw_text glyphs (λ x y. shows v x y) text l) v
 unfolding with_pens
 text_done v w u glyphs drawn_glyphs text codes width raster after same_glyphs same_text wide same was is ends =
-    let moved : LiveView → Raster → CellView = λ c a. record v { live = with_layer (λ l. record l { raster = a }) c } in
+    let moved : LiveView → Raster → LiveView = λ c a. with_layer (λ l. record l { raster = a }) c in
     let behind : List ℕ → Raster → Raster = λ t r. record r { cursor_x = r.cursor_x +ℤ pos (8 * length t) } in
-    let drawn_as : List (List ℕ) → List ℕ → CellView = λ g t. with_live (λ c. with_layer (λ l. draw_text g (λ x y. shows c x y) t l) c) v in
-    is ∙ (ap (λ (q : CellView). with_live (λ c. with_layer (λ l. record l { raster = after }) c) q) was ∙
-    (ap (λ c. moved c after) (text_whole v.live drawn_glyphs codes width wide) ∙
-    (ap (λ a. moved (with_layer (λ l. paint_where (λ x y. shows v.live x y) (λ x y. in_cells l.raster.cursor_x (l.raster.cursor_y -ℤ pos 6) (length codes) (pos x) (pos y)) (λ x y. differ (has_inversvid l.raster) (text_has drawn_glyphs codes l.raster x y)) l) v.live) a) (ends ∙ ap (behind codes) same) ∙
+    let drawn_as : List (List ℕ) → List ℕ → LiveView = λ g t. with_layer (λ l. draw_text g (λ x y. shows v x y) t l) v in
+    is ∙ (ap (λ q. moved q after) was ∙
+    (ap (λ c. moved c after) (text_whole v drawn_glyphs codes width wide) ∙
+    (ap (λ a. moved (with_layer (λ l. paint_where (λ x y. shows v x y) (λ x y. in_cells l.raster.cursor_x (l.raster.cursor_y -ℤ pos 6) (length codes) (pos x) (pos y)) (λ x y. differ (has_inversvid l.raster) (text_has drawn_glyphs codes l.raster x y)) l) v) a) (ends ∙ ap (behind codes) same) ∙
     (ap (λ g. drawn_as g codes) same_glyphs ∙ ap (λ t. drawn_as glyphs t) same_text))))
 
 -- the cursor has room
@@ -157,11 +157,11 @@ columns_on : (left : ℤ) (from before i : ℕ) → pos from -ℤ left ≡ pos b
 columns_on left from before i gap late = omega (arith, ints)
 
 -- The text's row is painted once the row of its glyphs is, as a template.
-pub row_is_text : (v w : CellView) (raster : Raster) (glyphs : List (List ℕ)) (text bytes : List ℕ) (y from end before count row : ℕ) → before % 8 + (end - from) ≤ 8 * count → (from < end → raster.cursor_x ≤ℤ pos from) → (raster.cursor_x ≤ℤ pos from → pos from -ℤ raster.cursor_x ≡ pos before) → unsigned_abs (pos y -ℤ (raster.cursor_y -ℤ pos 6)) ≡ row → ((n : ℕ) → n < count → slice_index bytes n ≡ glyph_bits glyphs (slice_index_or text (before / 8 + n) 0) row) → w ≡ with_live (λ c. stamped raster (row_has bytes (record { column = from; bit = before % 8 })) (λ i j. in_rows c y (y + 1) from end i j) c) v → w ≡ with_live (λ c. stamped raster (text_has glyphs text raster) (λ i j. in_rows c y (y + 1) from end i j) c) v
+pub row_is_text : (v w : LiveView) (raster : Raster) (glyphs : List (List ℕ)) (text bytes : List ℕ) (y from end before count row : ℕ) → before % 8 + (end - from) ≤ 8 * count → (from < end → raster.cursor_x ≤ℤ pos from) → (raster.cursor_x ≤ℤ pos from → pos from -ℤ raster.cursor_x ≡ pos before) → unsigned_abs (pos y -ℤ (raster.cursor_y -ℤ pos 6)) ≡ row → ((n : ℕ) → n < count → slice_index bytes n ≡ glyph_bits glyphs (slice_index_or text (before / 8 + n) 0) row) → w ≡ stamped raster (row_has bytes (record { column = from; bit = before % 8 })) (λ i j. in_rows v y (y + 1) from end i j) v → w ≡ stamped raster (text_has glyphs text raster) (λ i j. in_rows v y (y + 1) from end i j) v
 row_is_text v w raster glyphs text bytes y from end before count row enough starts gap line each is =
-    cell_alike v w (λ p i j. in_mask raster p && in_rows v.live y (y + 1) from end i j) (stamped_bit raster (row_has bytes (record { column = from; bit = before % 8 }))) (stamped_bit raster (text_has glyphs text raster)) is
+    layer_alike v w (λ p i j. in_mask raster p && in_rows v y (y + 1) from end i j) (stamped_bit raster (row_has bytes (record { column = from; bit = before % 8 }))) (stamped_bit raster (text_has glyphs text raster)) is
     (λ p i j old _ _ _ on _.
-    let at = pixel_at (in_mask raster p) (draws v.live i j) from end y i j on in
+    let at = pixel_at (in_mask raster p) (draws v i j) from end y i j on in
     let n = before % 8 + (i - from) in
     let first : from ≤ i = at.first in
     let last : i < end = at.last in

@@ -1,8 +1,7 @@
 ghost use Rattle.std.specs.Prelude.{◌≡◌, ℕ, ◌+◌, ◌*◌, ◌<◌, ◌≤◌, not, ◌&&◌, true, if◌then◌else◌, length, ℤ, pos, ◌+ℤ◌, ◌-ℤ◌, ◌≤ℤ◌, int_le, unsigned_abs};
 ghost use Rattle.lw_kernels.specs.Kernel.{is_between};
 ghost use Rattle.lw_machine.specs.Shapes.{draw_text};
-ghost use Rattle.lw_layer.specs.View.{shows, with_live, with_layer};
-ghost use Rattle.lw_layer.specs.View as view;
+ghost use Rattle.lw_layer.specs.View.{shows, with_layer};
 ghost use Rattle.lw_layer.specs.Drafts.{raster_of};
 ghost use Rattle.lw_draw.specs.Drawn.{in_rows};
 ghost use Rattle.lw_text.specs.Letters.{text_before};
@@ -12,7 +11,7 @@ use crate::glyphs::glyph_row;
 use crate::template::template_row;
 use lw_calls::{Assets, Text};
 use lw_draw::{Origin, Places, edge};
-use lw_layer::{Cell, Raster};
+use lw_layer::{Layer, Raster};
 
 // As many bytes as a row of a layer can show characters of, one of them in part at each end: a layer is at most 2048 columns wide.
 const MOST: usize = 257;
@@ -23,20 +22,19 @@ const REACH: usize = 8191;
 /// Paints one cell of 8 by 8 pixels for each character, from the cursor's column on and in its rows y - 6 to y + 1, with the
 /// glyphs that the script handed in, in the layer's pens, mode and mask, and moves the cursor past them (`Text`). False exactly
 /// where the cursor's column would pass 32767, and then nothing changes. No memory is taken.
-pub fn letters(cell: &mut Cell, assets: &Assets, text: &Text) -> bool
-    requires { cell.old.state ≡ view.Live }
-    ensures answer { result ≡ int_le (cell.old.live.layer.raster.cursor_x +ℤ pos (8 * length text.now)) (pos 32767) }
-    ensures cell { cell.new ≡ (if result
-        then with_live (λ c. with_layer (λ l. draw_text assets.now.glyphs (λ x y. shows c x y) text.now l) c) cell.old
-        else cell.old) }
+pub fn letters(layer: &mut Layer, assets: &Assets, text: &Text) -> bool
+    ensures answer { result ≡ int_le (layer.old.layer.raster.cursor_x +ℤ pos (8 * length text.now)) (pos 32767) }
+    ensures layer { layer.new ≡ (if result
+        then with_layer (λ l. draw_text assets.now.glyphs (λ x y. shows layer.old x y) text.now l) layer.old
+        else layer.old) }
 {
-    let raster = cell.raster();
+    let raster = layer.raster();
     let text = text.bytes();
     if !fits(raster.x, text.len()) {
         return false;
     }
-    paint_text(cell, &assets.glyphs, text, raster, cell.width());
-    cell.set_raster(Raster {
+    paint_text(layer, &assets.glyphs, text, raster, layer.width());
+    layer.set_raster(Raster {
         a: raster.a,
         b: raster.b,
         mode: raster.mode,
@@ -48,14 +46,13 @@ pub fn letters(cell: &mut Cell, assets: &Assets, text: &Text) -> bool
 }
 
 /// Paints the same pixels as `letters`, but in the layer's columns before `end` alone, and leaves the cursor. No memory is taken.
-pub fn letters_before(cell: &mut Cell, assets: &Assets, text: &Text, end: u32)
-    requires { cell.old.state ≡ view.Live }
-    ensures { cell.new ≡ with_live
-        (λ c. with_layer (λ l. text_before assets.now.glyphs (λ x y. shows c x y) text.now end l) c)
-        cell.old }
+pub fn letters_before(layer: &mut Layer, assets: &Assets, text: &Text, end: u32)
+    ensures { layer.new ≡ with_layer
+        (λ l. text_before assets.now.glyphs (λ x y. shows layer.old x y) text.now end l)
+        layer.old }
 {
-    let raster = cell.raster();
-    paint_text(cell, &assets.glyphs, text.bytes(), raster, end);
+    let raster = layer.raster();
+    paint_text(layer, &assets.glyphs, text.bytes(), raster, end);
 }
 
 // The cursor can move past so many characters.
@@ -66,19 +63,18 @@ fn fits(x: i16, count: usize) -> bool
 }
 
 // Paints the characters in the columns before one, and leaves the cursor.
-fn paint_text(cell: &mut Cell, glyphs: &[[u8; 8]; 95], text: &[u8], raster: Raster, end: u32)
-    requires live { cell.old.state ≡ view.Live }
-    requires raster { raster_of raster ≡ cell.old.live.layer.raster }
-    ensures { cell.new ≡ with_live
-        (λ c. with_layer (λ l. text_before glyphs.now (λ x y. shows c x y) text.now end l) c)
-        cell.old }
+fn paint_text(layer: &mut Layer, glyphs: &[[u8; 8]; 95], text: &[u8], raster: Raster, end: u32)
+    requires raster { raster_of raster ≡ layer.old.layer.raster }
+    ensures { layer.new ≡ with_layer
+        (λ l. text_before glyphs.now (λ x y. shows layer.old x y) text.now end l)
+        layer.old }
 {
     let left = i32::from(raster.x);
     let top = i32::from(raster.y) - 6;
     let right = left + 8 * text.len().min(REACH) as i32;
-    let columns = places(left, right, cell.width().min(end));
-    let rows = places(top, top + 8, cell.height());
-    letter_rows(cell, rows, columns, glyphs, text, raster);
+    let columns = places(left, right, layer.width().min(end));
+    let rows = places(top, top + 8, layer.height());
+    letter_rows(layer, rows, columns, glyphs, text, raster);
 }
 
 // Of the places from one on and before another, those from 0 on and before the extent.
@@ -98,48 +94,48 @@ fn places(from: i32, end: i32, extent: u32) -> Places
 
 // Paints some rows of the characters.
 fn letter_rows(
-    cell: &mut Cell,
+    layer: &mut Layer,
     rows: Places,
     columns: Places,
     glyphs: &[[u8; 8]; 95],
     text: &[u8],
     raster: Raster,
 )
-    requires live { cell.old.state ≡ view.Live }
     requires bottom { rows.end < 65536 }
     requires right { columns.end ≤ 2048 }
     requires starts { columns.from < columns.end → raster.x ≤ℤ pos columns.from }
     requires upper { rows.from < rows.end → raster.y ≤ℤ pos (rows.from + 6) }
     requires lower { rows.from < rows.end → pos rows.end ≤ℤ (raster.y +ℤ pos 2) }
-    ensures { cell.new ≡ with_live
-        (λ c. stamped (raster_of raster) (text_has glyphs.now text.now (raster_of raster)) (λ i j. in_rows c rows.from rows.end columns.from columns.end i j) c)
-        cell.old }
+    ensures { layer.new ≡ stamped (raster_of raster)
+        (text_has glyphs.now text.now (raster_of raster))
+        (λ i j. in_rows layer.old rows.from rows.end columns.from columns.end i j)
+        layer.old }
 {
     // Reading this tells the proof that the layer has only pens of its depth.
-    let _ = cell.depth();
+    let _ = layer.depth();
     for y in rows.from..rows.end {
-        letter_row(cell, y, columns, glyphs, text, raster);
+        letter_row(layer, y, columns, glyphs, text, raster);
     }
 }
 
 // Paints one row of the characters: their glyphs' rows side by side, from the first on that reaches these columns.
 fn letter_row(
-    cell: &mut Cell,
+    layer: &mut Layer,
     y: u32,
     columns: Places,
     glyphs: &[[u8; 8]; 95],
     text: &[u8],
     raster: Raster,
 )
-    requires live { cell.old.state ≡ view.Live }
     requires row { y < 65536 }
     requires right { columns.end ≤ 2048 }
     requires starts { columns.from < columns.end → raster.x ≤ℤ pos columns.from }
     requires upper { raster.y ≤ℤ pos (y + 6) }
     requires lower { pos y ≤ℤ (raster.y +ℤ pos 1) }
-    ensures { cell.new ≡ with_live
-        (λ c. stamped (raster_of raster) (text_has glyphs.now text.now (raster_of raster)) (λ i j. in_rows c y (y + 1) columns.from columns.end i j) c)
-        cell.old }
+    ensures { layer.new ≡ stamped (raster_of raster)
+        (text_has glyphs.now text.now (raster_of raster))
+        (λ i j. in_rows layer.old y (y + 1) columns.from columns.end i j)
+        layer.old }
 {
     let mut bytes = [0; MOST];
     let row = row_in_cells(y, raster.y);
@@ -150,7 +146,7 @@ fn letter_row(
     };
     let count = (origin.bit + (columns.end - columns.from)).div_ceil(8) as usize;
     glyph_row(&mut bytes, count, glyphs, text, (before / 8) as usize, row);
-    template_row(cell, y, columns, &bytes, origin, raster);
+    template_row(layer, y, columns, &bytes, origin, raster);
 }
 
 // Which row of the characters' cells a row of the layer is, with the cursor in this row.

@@ -1,4 +1,4 @@
-//! Text in the cell of a layer (the manual's chapter Graphics Library and Text): glyph by glyph into a row of bits, which is then
+//! Text in a layer (the manual's chapter Graphics Library and Text): glyph by glyph into a row of bits, which is then
 //! painted as a template, run by run and plane by plane.
 #![tactic(auto)]
 

@@ -5,4 +5,4 @@ use Rattle.lw_frames.proofs.telling.is_damaged.Goals as goal
 pub returns : goal.returns
 returns c =
     ap not (c.is_empty.ensures ∙ ap (λ l. length l == 0) c.rects.ensures.value)
-    ∙ some_damage c.args.cell.now.live c.damage.result.now c.region.result.now c.damage.ensures c.region.ensures.value c.rects.ensures.canonical
+    ∙ some_damage c.args.layer.now c.damage.result.now c.region.result.now c.damage.ensures c.region.ensures.value c.rects.ensures.canonical

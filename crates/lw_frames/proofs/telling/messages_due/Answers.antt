@@ -9,7 +9,7 @@ use Rattle.lw_frames.proofs.telling.messages_due.Goals as goal
 
 pub returns : goal.returns
 returns c =
-    let l = c.args.cell.now.live.layer in
+    let l = c.args.layer.now.layer in
     let d = c.in_ok-window.window.now in
     let w : Window = record {
       owner = d.owner;

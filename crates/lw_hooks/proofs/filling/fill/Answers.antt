@@ -8,4 +8,4 @@ use Rattle.lw_hooks.proofs.filling.fill.Goals as goal
 
 pub returns : goal.returns
 returns g c =
-    clip_back c.args.cell.now c.set_clip-clip.new.self c.fill_unclipped.new.cell c.set_clip.new.self (λ b x y. covers c.args.region.now (pos x) (pos y)) (λ b x y. pen_within b.depth (hook_pen (g.B.Backfill.hook c.args.held.now) (pos x) (pos y))) (clip_set c.set_clip-clip.result) c.set_clip-clip.ensures.former c.set_clip-clip.ensures.cell c.fill_unclipped.ensures c.set_clip.ensures.cell
+    clip_back c.args.layer.now c.set_clip-clip.new.self c.fill_unclipped.new.layer c.set_clip.new.self (λ b x y. covers c.args.region.now (pos x) (pos y)) (λ b x y. pen_within b.depth (hook_pen (g.B.Backfill.hook c.args.held.now) (pos x) (pos y))) (clip_set c.set_clip-clip.result) c.set_clip-clip.ensures.former c.set_clip-clip.ensures.layer c.fill_unclipped.ensures c.set_clip.ensures.layer

@@ -7,6 +7,6 @@ use Rattle.lw_hooks.proofs.filling.fill_unclipped.Goals as goal
 
 pub returns-then-updating : goal.returns-then-updating
 returns-then-updating g c =
-    let v = c.args.cell.now in
-    let was : v.live.layer.updating ≡ true = sym c.damage.ensures.updating ∙ (sym c.updating.ensures ∙ c.if-updating.true) in
-    update_back v c.end_update.new.self c.fill_open.new.cell c.begin_update.new.self (λ b x y. covers c.args.region.now (pos x) (pos y)) (λ b x y. pen_within b.depth (hook_pen (g.B.Backfill.hook c.args.held.now) (pos x) (pos y))) was c.end_update.ensures c.fill_open.ensures c.begin_update.ensures
+    let v = c.args.layer.now in
+    let was : v.layer.updating ≡ true = sym c.damage.ensures.updating ∙ (sym c.updating.ensures ∙ c.if-updating.true) in
+    update_back v c.end_update.new.self c.fill_open.new.layer c.begin_update.new.self (λ b x y. covers c.args.region.now (pos x) (pos y)) (λ b x y. pen_within b.depth (hook_pen (g.B.Backfill.hook c.args.held.now) (pos x) (pos y))) was c.end_update.ensures c.fill_open.ensures c.begin_update.ensures

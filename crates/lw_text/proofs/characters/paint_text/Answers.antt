@@ -1,6 +1,5 @@
 use Rattle.std.proofs.Common.{◌-◌, min, length, ◌∙◌, ap, arith, rules}
 use Rattle.std.proofs.lemmas.Int.{clamps, ints}
-use Rattle.lw_layer.specs.View.{LiveView}
 use Rattle.lw_layer.specs.Drafts.{raster_of}
 use Rattle.lw_text.proofs.TextLaws.{column_starts, row_starts, row_ends, columns_cut, rows_are, text_shape}
 use Rattle.lw_text.proofs.characters.paint_text.Goals as goal
@@ -22,14 +21,13 @@ letter_rows-requires-clause-lower c some =
 
 pub returns : goal.returns
 returns c =
-    let v = c.args.cell.now in
+    let v = c.args.layer.now in
     let columns = c.places-columns.result in
     let rows = c.places-rows.result in
     c.letter_rows.ensures ∙
-    ap (λ (q : LiveView). record v { live = q })
-    (text_shape v.live c.args.glyphs.now c.args.text.now (raster_of c.args.raster) rows.from rows.end columns.from columns.end c.args.end c.width.ensures.bits.bitmap c.requires.raster
+    text_shape v c.args.glyphs.now c.args.text.now (raster_of c.args.raster) rows.from rows.end columns.from columns.end c.args.end c.width.ensures.bits.bitmap c.requires.raster
     (λ u inside.
-    columns_cut _ _ c.args.raster.x (length c.args.text.now) c.min.result columns.from columns.end c.min-2.result v.live.layer.bits.width c.args.end u (search rules)
+    columns_cut _ _ c.args.raster.x (length c.args.text.now) c.min.result columns.from columns.end c.min-2.result v.layer.bits.width c.args.end u (search rules)
     (omega (arith, ints, c.from-left.ensures)) (omega (arith, ints, c.from-left.ensures, c.min.ensures, clamps)) c.min.ensures c.places-columns.ensures.inside
     (c.min-2.ensures ∙ ap (λ n. min n c.args.end) c.width.ensures.value) c.width.ensures.bits.sizes.columns.1 inside (c.places-columns.ensures.has u))
-    (λ j inside. rows_are _ _ c.args.raster.y rows.from rows.end j (omega (arith, ints, c.from-top.ensures)) (omega (arith, ints, c.from-top.ensures)) (c.places-rows.ensures.has j (omega (arith, inside, c.height.ensures.value)))))
+    (λ j inside. rows_are _ _ c.args.raster.y rows.from rows.end j (omega (arith, ints, c.from-top.ensures)) (omega (arith, ints, c.from-top.ensures)) (c.places-rows.ensures.has j (omega (arith, inside, c.height.ensures.value))))

@@ -1,5 +1,4 @@
 use Rattle.std.proofs.Common.{◌≡◌, ◌+◌, ◌≤◌, ◌-◌}
-use Rattle.lw_layer.specs.View.{with_live}
 use Rattle.lw_layer.specs.Drafts.{raster_of}
 use Rattle.lw_draw.specs.Drawn.{in_rows}
 use Rattle.lw_text.specs.Templates.{stamped, row_has}
@@ -9,7 +8,7 @@ abbrev pub invariant-loop-stretch : goal.invariant-loop-stretch
 invariant-loop-stretch l = record {
   first : l.columns.from ≤ l.x;
   last : l.x ≤ l.columns.end;
-  painted : l.cell ≡ with_live (λ c. stamped (raster_of l.raster) (row_has l.bits l.origin) (λ i j. in_rows c l.y (l.y + 1) l.columns.from l.x i j) c) l.initial.cell;
+  painted : l.layer ≡ stamped (raster_of l.raster) (row_has l.bits l.origin) (λ i j. in_rows l.initial.layer l.y (l.y + 1) l.columns.from l.x i j) l.initial.layer;
 }
 
 abbrev pub decreases-loop-stretch : goal.decreases-loop-stretch

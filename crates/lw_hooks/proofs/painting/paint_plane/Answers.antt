@@ -1,5 +1,0 @@
-use Rattle.lw_hooks.proofs.PaintingLaws.{plane_of_byte}
-use Rattle.lw_hooks.proofs.painting.paint_plane.Goals as goal
-
-pub returns : goal.returns
-returns c = plane_of_byte c.args.cell.now c.combine_run.new.cell c.args.plane c.args.byte c.args.stretch c.requires.right c.combine_run.ensures

@@ -1,9 +1,0 @@
-use Rattle.std.proofs.Common.{◌≡◌}
-use Rattle.lw_layer.specs.View.{with_live}
-use Rattle.lw_draw.specs.Drawn.{drawn}
-use Rattle.lw_hooks.specs.Filling.{planes_bit}
-use Rattle.lw_hooks.proofs.PaintingLaws.{planes_before}
-use Rattle.lw_hooks.proofs.painting.paint_run.Given as goal
-
-abbrev pub invariant-loop-plane : goal.invariant-loop-plane
-invariant-loop-plane l = l.cell ≡ with_live (λ c. drawn (planes_before l.stretch l.plane) (planes_bit l.bytes) c) l.initial.cell
