@@ -1,0 +1,8 @@
+use Rattle.std.proofs.Common.{◌≡◌, ◌&&◌, nat_lt}
+use Rattle.lw_strips.specs.Blocks.{in_block}
+use Rattle.lw_strips.specs.Bits.{with_bits}
+use Rattle.lw_strips.proofs.block.clear_block.Given as goal
+
+abbrev pub invariant-loop-plane : goal.invariant-loop-plane
+invariant-loop-plane l =
+    l.to ≡ with_bits (λ p x y. nat_lt p l.plane && in_block l.block x y) (λ _ _. 0) l.initial.to

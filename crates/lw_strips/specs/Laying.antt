@@ -1,0 +1,72 @@
+-- Strips that are laid on a bitmap, each pen at its place. A bitmap on a window of the screen has the window's top left corner
+-- for its pixel (0, 0).
+use Rattle.std.specs.Prelude.{◌≡◌, ℕ, ◌<◌, Bool, true, if◌then◌else◌, List, ◌++◌, length, slice_index_or, Some, ℤ, pos, ◌+ℤ◌, ◌-ℤ◌}
+use Rattle.lw_region.specs.Rectangle.{Rectangle, has_pixel, AreApart, width, height}
+use Rattle.lw_region.specs.Bands.{covers}
+use Rattle.lw_planes.specs.Bitmap.{Bitmap, bitmap, pen_at}
+use Rattle.lw_strips.specs.Strips.{StripView, blank_planes, strip_of, rects_of, strip_pen, pen_in}
+
+-- the bitmap on a window with these pens where the test holds, both asked at places of the screen
+abbrev pub laid : (ℤ → ℤ → Bool) → (ℤ → ℤ → ℕ) → Rectangle → Bitmap → Bitmap
+laid on pen window b =
+    bitmap b.width b.height b.depth
+    (λ x y. if on (window.min_x +ℤ pos x) (window.min_y +ℤ pos y) then pen (window.min_x +ℤ pos x) (window.min_y +ℤ pos y) else pen_at b x y)
+
+-- the bitmap on a window with the strip's pens where the strip is
+abbrev pub with_strip : Rectangle → StripView → Bitmap → Bitmap
+with_strip window s b = laid (λ x y. has_pixel s.rect x y) (λ x y. strip_pen s x y) window b
+
+-- the bitmap on a window with the pens of a rectangle's bitmap where the rectangle is
+abbrev pub with_planes : Rectangle → Rectangle → Bitmap → Bitmap → Bitmap
+with_planes window r planes b = with_strip window (strip_of r planes.depth (Some planes)) b
+
+-- the bitmap on a window with pen 0 where the rectangle is
+abbrev pub without_rectangle : Rectangle → Rectangle → Bitmap → Bitmap
+without_rectangle window r b = laid (λ x y. has_pixel r x y) (λ _ _. 0) window b
+
+-- the bitmap on a window with the strips' pens where some strip is, that of the first one that has the place
+abbrev pub with_strips : Rectangle → List StripView → Bitmap → Bitmap
+with_strips window strips b = laid (λ x y. covers (rects_of strips) x y) (λ x y. pen_in strips x y) window b
+
+-- the bitmap of a window, of so many planes: the strips' pens at their places, and pen 0 elsewhere
+abbrev pub composed : Rectangle → ℕ → List StripView → Bitmap
+composed window depth strips =
+    bitmap (width window) (height window) depth (λ x y. pen_in strips (window.min_x +ℤ pos x) (window.min_y +ℤ pos y))
+
+-- a screen of these sizes
+abbrev pub screen : ℕ → ℕ → Rectangle
+screen w h = record { min_x = pos 0; min_y = pos 0; max_x = pos w -ℤ pos 1; max_y = pos h -ℤ pos 1 }
+
+-- the bitmap of a whole screen of these sizes, with each strip's pens at their places
+abbrev pub assembled : ℕ → ℕ → ℕ → List StripView → Bitmap
+assembled w h depth strips = bitmap w h depth (λ x y. pen_in strips (pos x) (pos y))
+
+-- all pixels of r are in s
+abbrev pub LiesIn : Rectangle → Rectangle → Type 0
+LiesIn r s = (x y : ℤ) → has_pixel r x y ≡ true → has_pixel s x y ≡ true
+
+-- the copy of a rectangle of the strip
+abbrev pub part_of : StripView → Rectangle → StripView
+part_of s r = record {
+  rect = r;
+  planes = bitmap (width r) (height r) s.planes.depth (λ x y. strip_pen s (r.min_x +ℤ pos x) (r.min_y +ℤ pos y));
+  solid = true;
+}
+
+-- no two strips have a place in common
+abbrev pub AreDisjoint : List StripView → Type 0
+AreDisjoint strips =
+    (i j : ℕ) (d : StripView) → i < j → j < length strips → AreApart (slice_index_or strips i d).rect (slice_index_or strips j d).rect
+
+-- Laying b and then a is laying all of a and b, a's pens in front. What is laid on pen 0 is composed, and the screen is a window.
+pub record LayingLaw : Type 0 where
+  pub twice : (window : Rectangle) (a b : List StripView) (planes : Bitmap)
+      → with_strips window a (with_strips window b planes) ≡ with_strips window (a ++ b) planes
+  pub blank : (window : Rectangle) (depth : ℕ) (strips : List StripView) → with_strips window strips (blank_planes window depth) ≡ composed window depth strips
+  pub whole : (w h depth : ℕ) (strips : List StripView) → composed (screen w h) depth strips ≡ assembled w h depth strips
+
+-- where strips are disjoint, each one's pens are at its places
+abbrev pub PlacesLaw : Type 0
+PlacesLaw =
+    (strips : List StripView) → AreDisjoint strips → (k : ℕ) (d : StripView) (x y : ℤ) → k < length strips
+    → has_pixel (slice_index_or strips k d).rect x y ≡ true → pen_in strips x y ≡ strip_pen (slice_index_or strips k d) x y

@@ -1,0 +1,24 @@
+// Laws for the crates above: each function does nothing, and its contract is the law.
+
+ghost use Rattle.lw_strips.specs.Laying.{LayingLaw, PlacesLaw};
+ghost use Rattle.lw_strips.specs.Exchange.{CountingLaw, ExchangeLaw};
+
+/// Laying strips in two steps, the ones in front last, is laying all of them. What is laid on a blank bitmap is composed.
+pub fn laying_law()
+    ensures { LayingLaw }
+{}
+
+/// What is composed of disjoint strips has each strip's pens at its places.
+pub fn places_law()
+    ensures { PlacesLaw }
+{}
+
+/// How the number of strips of a rectangle in a pool changes, and that a pool without any is empty.
+pub fn counting_law()
+    ensures { CountingLaw }
+{}
+
+/// All owners together lose and gain as many pieces of a rectangle as there are.
+pub fn exchange_law()
+    ensures { ExchangeLaw }
+{}

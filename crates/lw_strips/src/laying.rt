@@ -1,0 +1,195 @@
+// Laying strips on a bitmap. They are laid from the last to the first, so that where several have a place, the first one's pen
+// stands there at the end.
+
+ghost use Rattle.std.specs.Prelude.{◌≡◌, ◌+◌, ◌≤◌, false, pos, ◌-ℤ◌, ◌≤ℤ◌, map, IfOk, MatchOption};
+ghost use Rattle.std.specs.List.{All};
+ghost use Rattle.lw_region.specs.Rectangle.{AreApart, width, height};
+ghost use Rattle.lw_planes.specs.Sizes.{AreSizes};
+ghost use Rattle.lw_strips.specs.Strips.{IsSizeOf};
+ghost use Rattle.lw_strips.specs.Laying.{with_planes, without_rectangle, with_strip, with_strips, composed, screen, assembled, LiesIn, part_of};
+ghost use Rattle.lw_strips.specs.Common.{IsCommonBlock};
+
+use crate::block::{Block, clear_block, copy_block};
+use crate::strip::Strip;
+use lw_planes::Planes;
+use lw_region::Rect;
+use std::alloc::{AllocError, Global};
+use std::slice;
+
+/// The bitmap of a window of 1 to 2048 columns and rows, of 1 to 8 planes: each pixel has the pen that the first strip with this
+/// place of the screen has there, and pen 0 where no strip has it. All strips have as many planes.
+pub fn compose(
+    alloc: Global,
+    window: &Rect,
+    depth: u32,
+    strips: &[Strip],
+) -> Result<Planes, AllocError>
+    requires sizes { AreSizes (width window.now) (height window.now) depth }
+    requires planes { All (λ s. s.planes.depth ≡ depth) strips.now }
+    ensures { IfOk result (λ made. made ≡ composed window.now depth strips.now) }
+{
+    let mut made = Planes::new(alloc, window.width(), window.height(), depth)?;
+    lay_all(&mut made, window, strips);
+    Ok(made)
+}
+
+/// The bitmap of a screen of 1 to 2048 columns and rows and 1 to 8 planes, with each strip's pens at their places: the first
+/// strip with a place has its pen there, and it is 0 where no strip is. All strips have as many planes.
+pub fn assemble(
+    alloc: Global,
+    width: u32,
+    height: u32,
+    depth: u32,
+    strips: &[Strip],
+) -> Result<Planes, AllocError>
+    requires sizes { AreSizes width height depth }
+    requires planes { All (λ s. s.planes.depth ≡ depth) strips.now }
+    ensures { IfOk result (λ made. made ≡ assembled width height depth strips.now) }
+{
+    let screen = screen_of(width, height);
+    compose(alloc, &screen, depth, strips)
+}
+
+// The screen of these sizes.
+fn screen_of(width: u32, height: u32) -> Rect
+    requires columns { 1 ≤ width }
+    requires rows { 1 ≤ height }
+    requires right { width ≤ 2048 }
+    requires lower { height ≤ 2048 }
+    ensures { result ≡ screen width height }
+{
+    match Rect::new(0, 0, (width - 1) as i16, (height - 1) as i16) {
+        Some(screen) => screen,
+        None => unreachable!(),
+    }
+}
+
+/// Copies rectangles of a strip, in which they lie, each as a solid strip of its own, in their order.
+pub fn part(alloc: Global, strip: &Strip, rects: &[Rect]) -> Result<Vec<Strip>, AllocError>
+    requires { All (λ r. LiesIn r strip.now.rect) rects.now }
+    ensures { IfOk result (λ parts. parts.items ≡ map (part_of strip.now) rects.now) }
+{
+    let mut parts = Vec::with_capacity(alloc, rects.len())?;
+    for rect in rects {
+        parts.push(one_part(alloc, strip, rect)?)?;
+    }
+    Ok(parts)
+}
+
+// The copy of one rectangle.
+fn one_part(alloc: Global, strip: &Strip, rect: &Rect) -> Result<Strip, AllocError>
+    requires { LiesIn rect.now strip.now.rect }
+    ensures { IfOk result (λ part. part ≡ part_of strip.now rect.now) }
+{
+    // Reading these tells the proof that the rectangles are ordered and of sizes that a bitmap may have.
+    let _ = rect.min_x();
+    let depth = strip.depth();
+    let planes = compose(alloc, rect, depth, slice::from_ref(strip))?;
+    Ok(Strip::new(*rect, planes))
+}
+
+/// Lays strips on the bitmap of a window, which has the window's width and height, and as many planes as all strips: each pixel
+/// gets the pen of the first strip that has its place of the screen, and stays as it was where none has it. No memory is taken.
+pub fn lay_all(planes: &mut Planes, window: &Rect, strips: &[Strip])
+    requires size { IsSizeOf window.now planes.old }
+    requires planes { All (λ s. s.planes.depth ≡ planes.old.depth) strips.now }
+    ensures { planes.new ≡ with_strips window.now strips.now planes.old }
+{
+    // Reading this tells the proof that the bitmap is sound.
+    let _ = planes.depth();
+    for index in (0..strips.len()).rev() {
+        lay_on(planes, window, &strips[index]);
+    }
+}
+
+// Lays one strip.
+fn lay_on(planes: &mut Planes, window: &Rect, strip: &Strip)
+    requires size { IsSizeOf window.now planes.old }
+    requires planes { strip.now.planes.depth ≡ planes.old.depth }
+    ensures { planes.new ≡ with_strip window.now strip.now planes.old }
+{
+    match strip.planes() {
+        Some(source) => lay_planes(planes, window, strip.rect(), source),
+        None => lay_blank(planes, window, strip.rect()),
+    }
+}
+
+/// Lays the bitmap of a rectangle on that of a window: each pixel of the window that is in the rectangle gets the pen that the
+/// rectangle's bitmap has for this place of the screen, and each other one stays as it was. Each bitmap has the width and height of
+/// its rectangle, and both have as many planes. No memory is taken.
+pub fn lay_planes(planes: &mut Planes, window: &Rect, rect: &Rect, source: &Planes)
+    requires size { IsSizeOf window.now planes.old }
+    requires source_size { IsSizeOf rect.now source.now }
+    requires planes { source.now.depth ≡ planes.old.depth }
+    ensures { planes.new ≡ with_planes window.now rect.now source.now planes.old }
+{
+    // Reading these tells the proof that the bitmaps are sound and the rectangles ordered.
+    let _ = (planes.depth(), source.depth());
+    let _ = (window.min_x(), rect.min_x());
+    // The common part of the two rectangles is one block of pixels.
+    if let Some(block) = common_block(window, rect) {
+        copy_block(planes, source, block);
+    }
+}
+
+// Gives the pixels of a rectangle pen 0.
+fn lay_blank(planes: &mut Planes, window: &Rect, rect: &Rect)
+    requires { IsSizeOf window.now planes.old }
+    ensures { planes.new ≡ without_rectangle window.now rect.now planes.old }
+{
+    // Reading these tells the proof that the bitmap is sound and the window ordered.
+    let _ = planes.depth();
+    let _ = window.min_x();
+    if let Some(block) = common_block(window, rect) {
+        clear_block(planes, block);
+    }
+}
+
+// The common part of a window and a rectangle, as a block of the bitmap of the first whose source is that of the second; `None`
+// exactly where they have no pixel in common.
+fn common_block(window: &Rect, rect: &Rect) -> Option<Block>
+    ensures { MatchOption result
+        (AreApart window.now rect.now)
+        (λ block. IsCommonBlock window.now rect.now block) }
+{
+    let common = window.meet(rect)?;
+    let to = corner_in(window, &common);
+    let source = corner_in(rect, &common);
+    Some(Block {
+        x: to.x,
+        y: to.y,
+        source_x: source.x,
+        source_y: source.y,
+        width: common.width(),
+        height: common.height(),
+    })
+}
+
+// A pixel of a bitmap.
+#[derive(Clone, Copy)]
+struct Corner {
+    x: u32,
+    y: u32,
+}
+
+// Where a rectangle begins in the bitmap of another one.
+fn corner_in(outer: &Rect, inner: &Rect) -> Corner
+    requires columns { outer.now.min_x ≤ℤ inner.now.min_x }
+    requires rows { outer.now.min_y ≤ℤ inner.now.min_y }
+    ensures x { pos result.x ≡ inner.now.min_x -ℤ outer.now.min_x }
+    ensures y { pos result.y ≡ inner.now.min_y -ℤ outer.now.min_y }
+{
+    Corner {
+        x: offset(outer.min_x(), inner.min_x()),
+        y: offset(outer.min_y(), inner.min_y()),
+    }
+}
+
+// How far a place is past an edge.
+#[tactic(auto, using(std::proofs::lemmas::Int::ints))]
+fn offset(edge: i16, place: i16) -> u32
+    requires { edge ≤ℤ place }
+    ensures { pos result ≡ place -ℤ edge }
+{
+    (i32::from(place) - i32::from(edge)) as u32
+}

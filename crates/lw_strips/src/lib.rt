@@ -1,0 +1,17 @@
+//! Strips: rectangles of the screen with their pens, of which the shown pixels of all layers and of the desktop are made (the
+//! manual's Layers Library chapter shows clip rectangles; the form is this project's own).
+#![tactic(auto)]
+
+mod block;
+mod laws;
+mod laying;
+mod piece;
+mod pool;
+mod strip;
+
+pub use block::{Block, clear_block, copy_block};
+pub use laws::{counting_law, exchange_law, laying_law, places_law};
+pub use laying::{assemble, compose, lay_all, lay_planes, part};
+pub use piece::Piece;
+pub use pool::Pool;
+pub use strip::Strip;
