@@ -1,6 +1,6 @@
 -- Strips that are laid on a bitmap, each pen at its place. A bitmap on a window of the screen has the window's top left corner
 -- for its pixel (0, 0).
-use Rattle.std.specs.Prelude.{◌≡◌, ℕ, ◌<◌, Bool, true, if◌then◌else◌, List, ◌++◌, length, slice_index_or, Some, ℤ, pos, ◌+ℤ◌, ◌-ℤ◌}
+use Rattle.std.specs.Prelude.{◌≡◌, ℕ, ◌<◌, Bool, true, if◌then◌else◌, List, [], ◌∷◌, ◌++◌, length, slice_index_or, Some, ℤ, pos, ◌+ℤ◌, ◌-ℤ◌}
 use Rattle.lw_region.specs.Rectangle.{Rectangle, has_pixel, AreApart, width, height}
 use Rattle.lw_region.specs.Bands.{covers}
 use Rattle.lw_planes.specs.Bitmap.{Bitmap, bitmap, pen_at}
@@ -70,3 +70,19 @@ abbrev pub PlacesLaw : Type 0
 PlacesLaw =
     (strips : List StripView) → AreDisjoint strips → (k : ℕ) (d : StripView) (x y : ℤ) → k < length strips
     → has_pixel (slice_index_or strips k d).rect x y ≡ true → pen_in strips x y ≡ strip_pen (slice_index_or strips k d) x y
+
+-- the strip of a row of pens, of 2 planes, that begins at this column of row 0
+abbrev pub row_strip : ℤ → List ℕ → StripView
+row_strip x pens = strip_of (record { min_x = x; min_y = pos 0; max_x = x +ℤ pos (length pens) -ℤ pos 1; max_y = pos 0 }) 2
+    (Some (record { width = length pens; height = 1; depth = 2; rows = pens ∷ [] }))
+
+-- a worked example: the pens 1 and 2 at columns 1 and 2, before and behind a 3 at column 2, on a window of the columns 0 to 3
+abbrev pub WorkedExample : Type 0
+WorkedExample =
+    let one = row_strip (pos 1) (1 ∷ 2 ∷ []) in
+    let two = row_strip (pos 2) (3 ∷ []) in
+    let window : Rectangle = record { min_x = pos 0; min_y = pos 0; max_x = pos 3; max_y = pos 0 } in
+    let last : Rectangle = record { min_x = pos 2; min_y = pos 0; max_x = pos 2; max_y = pos 0 } in
+    ((composed window 2 (one ∷ two ∷ [])).rows ≡ (0 ∷ 1 ∷ 2 ∷ 0 ∷ []) ∷ [])
+    × ((composed window 2 (two ∷ one ∷ [])).rows ≡ (0 ∷ 1 ∷ 3 ∷ 0 ∷ []) ∷ [])
+    × ((part_of one last).planes.rows ≡ (2 ∷ []) ∷ [])

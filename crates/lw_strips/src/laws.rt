@@ -1,6 +1,6 @@
 // Laws for the crates above: each function does nothing, and its contract is the law.
 
-ghost use Rattle.lw_strips.specs.Laying.{LayingLaw, PlacesLaw};
+ghost use Rattle.lw_strips.specs.Laying.{LayingLaw, PlacesLaw, WorkedExample};
 ghost use Rattle.lw_strips.specs.Exchange.{CountingLaw, ExchangeLaw};
 
 /// Laying strips in two steps, the ones in front last, is laying all of them. What is laid on a blank bitmap is composed.
@@ -21,4 +21,9 @@ pub fn counting_law()
 /// All owners together lose and gain as many pieces of a rectangle as there are.
 pub fn exchange_law()
     ensures { ExchangeLaw }
+{}
+
+/// What the definitions give for strips of one row that were worked out by hand.
+pub fn worked_example_law()
+    ensures { WorkedExample }
 {}

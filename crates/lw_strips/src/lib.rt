@@ -10,7 +10,7 @@ mod pool;
 mod strip;
 
 pub use block::{Block, clear_block, copy_block};
-pub use laws::{counting_law, exchange_law, laying_law, places_law};
+pub use laws::{counting_law, exchange_law, laying_law, places_law, worked_example_law};
 pub use laying::{assemble, compose, lay_all, lay_planes, part};
 pub use piece::Piece;
 pub use pool::Pool;
