@@ -1,9 +1,9 @@
 -- Strips laid on a bitmap, from the last to the first.
-use Rattle.std.proofs.Common.{◌≡◌, ℕ, ◌+◌, ◌<◌, ◌≤◌, Bool, true, false, ◌&&◌, if◌then◌else◌, List, [], ◌∷◌, length, drop, get_or, ◌∙◌, sym, refl, ap, subst, arith, ℤ, pos, ◌+ℤ◌, ◌-ℤ◌, ◌≤ℤ◌, unsigned_abs}
+use Rattle.std.proofs.Common.{◌≡◌, ℕ, ◌+◌, ◌<◌, ◌≤◌, Bool, true, false, ◌&&◌, if◌then◌else◌, List, [], ◌∷◌, ◌++◌, map, length, drop, take, get_or, ◌∙◌, sym, refl, ap, subst, arith, ℤ, pos, ◌+ℤ◌, ◌-ℤ◌, ◌≤ℤ◌, unsigned_abs}
 use Rattle.std.specs.List.{All}
 use Rattle.std.proofs.lemmas.Bool.{or_parts, and_parts, and_from}
 use Rattle.std.proofs.lemmas.Int.{ints}
-use Rattle.std.proofs.lemmas.List.{drop_all, drop_more}
+use Rattle.std.proofs.lemmas.List.{drop_all, drop_more, map_more}
 use Rattle.std.proofs.lemmas.List.Elements.{All-get_or}
 use Rattle.lw_region.specs.Rectangle.{Rectangle, within, has_pixel, IsOrdered, width, height}
 use Rattle.lw_region.specs.Bands.{covers}
@@ -148,3 +148,12 @@ composed_part s r depth ordered inside is =
     let rows = in_rectangle y (height r) r.min_y r.max_y ordered.rows refl low in
     let here : has_pixel r u v ≡ true = ap (λ t. t && within r.min_y v r.max_y) columns ∙ rows in
     ap (λ t. if t then strip_pen s u v else 0) (inside u v here))
+
+-- one part more
+pub part_more : (s : StripView) (rects : List Rectangle) (k : ℕ) (r : Rectangle) (parts more : List StripView) (p : StripView) → k < length rects → r ≡ get_or rects k r
+    → parts ≡ map (part_of s) (take k rects) → p ≡ part_of s r → more ≡ parts ++ p ∷ [] → more ≡ map (part_of s) (take (k + 1) rects)
+part_more s rects k r parts more p inside is so_far made pushed =
+    pushed
+    ∙ (ap (λ ps. ps ++ p ∷ []) so_far
+    ∙ (ap (λ q. map (part_of s) (take k rects) ++ q ∷ []) (made ∙ ap (part_of s) is)
+    ∙ sym (map_more (part_of s) rects k r inside)))

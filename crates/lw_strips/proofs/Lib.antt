@@ -5,3 +5,4 @@ pub mod LayingLaws
 pub mod PlaceLaws
 pub mod PoolLaws
 pub mod ExchangeLaws
+pub mod LendingLaws

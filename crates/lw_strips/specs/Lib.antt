@@ -5,3 +5,5 @@ pub mod Laying
 pub mod Common
 pub mod Pools
 pub mod Exchange
+pub mod Lending
+pub mod Lent

@@ -1,6 +1,6 @@
 // Copying a block of pixels from one bitmap into another, all rows of a plane at once.
 
-ghost use Rattle.std.specs.Prelude.{◌≡◌, ℕ, ◌+◌, ◌-◌, ◌*◌, ◌<◌, ◌≤◌, ◌==◌, ◌&&◌, true, if◌then◌else◌, length};
+ghost use Rattle.std.specs.Prelude.{◌≡◌, ℕ, ◌+◌, ◌-◌, ◌*◌, ◌<◌, ◌≤◌, ◌==◌, ◌&&◌, if◌then◌else◌, length};
 ghost use Rattle.lw_planes.specs.Row.{row_bit};
 ghost use Rattle.lw_planes.specs.Bitmap.{row_bytes};
 ghost use Rattle.lw_kernels.specs.Kernel.{is_named, place_in};

@@ -1,7 +1,7 @@
 // Laying strips on a bitmap. They are laid from the last to the first, so that where several have a place, the first one's pen
 // stands there at the end.
 
-ghost use Rattle.std.specs.Prelude.{◌≡◌, ◌+◌, ◌≤◌, false, pos, ◌-ℤ◌, ◌≤ℤ◌, map, IfOk, MatchOption};
+ghost use Rattle.std.specs.Prelude.{◌≡◌, ◌≤◌, pos, ◌-ℤ◌, ◌≤ℤ◌, map, IfOk, MatchOption};
 ghost use Rattle.std.specs.List.{All};
 ghost use Rattle.lw_region.specs.Rectangle.{AreApart, width, height};
 ghost use Rattle.lw_planes.specs.Sizes.{AreSizes};

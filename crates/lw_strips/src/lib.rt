@@ -15,3 +15,6 @@ pub use laying::{assemble, compose, lay_all, lay_planes, part};
 pub use piece::Piece;
 pub use pool::Pool;
 pub use strip::Strip;
+
+#[cfg(test)]
+mod tests;

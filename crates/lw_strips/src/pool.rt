@@ -1,7 +1,5 @@
-ghost use Rattle.std.specs.Prelude.{◌≡◌, ◌↔◌, ℕ, ◌+◌, ◌-◌, ◌≤◌, ◌<◌, [], ◌∷◌, ◌++◌, reverse, length, IfSome, IsNone, OnOk, OnErr, IsOk, MatchOption};
-ghost use Rattle.std.specs.List.{slice_index_or};
+ghost use Rattle.std.specs.Prelude.{◌≡◌, ◌↔◌, ◌+◌, ◌-◌, ◌≤◌, [], ◌∷◌, ◌++◌, reverse, length, IfSome, IsNone, OnOk, OnErr, IsOk, MatchOption};
 ghost use Rattle.lw_region.specs.Rectangle.{Rectangle};
-ghost use Rattle.lw_strips.specs.Strips.{IsStrip};
 ghost use Rattle.lw_strips.specs.Pools.{same_rectangle, copies, copies_in, IsClaimed, IsPlaceOf};
 
 use crate::strip::Strip;

@@ -1,7 +1,10 @@
-ghost use Rattle.std.specs.Prelude.{◌≡◌, true, false, MatchOption};
+ghost use Rattle.std.specs.Prelude.{◌≡◌, ◌+◌, ◌<◌, ◌≤◌, true, false, MatchOption};
+ghost use Rattle.std.specs.Borrow.{sem};
 ghost use Rattle.lw_region.specs.Rectangle.{width, height};
 ghost use Rattle.lw_planes.specs.Sizes.{AreSizes};
 ghost use Rattle.lw_strips.specs.Strips.{IsSizeOf, IsStrip, blank_planes};
+ghost use Rattle.lw_strips.specs.Lending.{AreRowsOf, LendsRows};
+ghost use Rattle.lw_strips.specs.Lent.{HaveRows, AreRows, LendsPens};
 
 use lw_planes::Planes;
 use lw_region::Rect;
@@ -12,6 +15,12 @@ use std::marker::Model;
 #[derive(Debug, Drop)]
 pub struct Strip {
     rect: Rect,
+    pens: Pens,
+}
+
+// Pens of so many planes: their bitmap, or pen 0 all over.
+#[derive(Debug, Drop)]
+struct Pens {
     depth: u32,
     planes: Option<Planes>,
 }
@@ -22,9 +31,9 @@ impl Model for Strip {
 
     ghost Value = { StripView };
 
-    ghost view = { λ s. strip_of s.rect s.depth s.planes };
+    ghost view = { λ s. strip_of s.rect s.pens.depth s.pens.planes };
 
-    ghost invariant = { λ s. IsStrip (strip_of s.rect s.depth s.planes) × ((strip_of s.rect s.depth s.planes).planes.depth ≡ s.depth) };
+    ghost invariant = { λ s. IsStrip (strip_of s.rect s.pens.depth s.pens.planes) × ((strip_of s.rect s.pens.depth s.pens.planes).planes.depth ≡ s.pens.depth) };
 }
 
 impl Strip {
@@ -37,8 +46,10 @@ impl Strip {
         let _ = rect.min_x();
         Strip {
             rect,
-            depth: planes.depth(),
-            planes: Some(planes),
+            pens: Pens {
+                depth: planes.depth(),
+                planes: Some(planes),
+            },
         }
     }
 
@@ -51,8 +62,10 @@ impl Strip {
         let _ = rect.min_x();
         Strip {
             rect,
-            depth,
-            planes: None,
+            pens: Pens {
+                depth,
+                planes: None,
+            },
         }
     }
 
@@ -69,7 +82,7 @@ impl Strip {
         ensures value { result ≡ self.now.planes.depth }
         ensures strip { IsStrip self.now }
     {
-        self.depth
+        self.pens.depth
     }
 
     /// The bitmap of the pens, if the strip is solid; `None` exactly where it is blank.
@@ -79,7 +92,38 @@ impl Strip {
             (λ planes. (self.now.solid ≡ true) × (planes.now ≡ self.now.planes)) }
         ensures strip { IsStrip self.now }
     {
-        self.planes.as_ref()
+        self.pens.planes.as_ref()
+    }
+
+    /// Lends the bytes of `rows` rows of one plane of a solid strip, one at least, from row `y` of its bitmap on, all in range, as
+    /// `Planes::rows_mut` does. After the loan each pixel of these rows has in this plane the bit that the bytes then hold,
+    /// and all else stays as it was.
+    pub fn rows_mut(&mut self, plane: u32, y: u32, rows: u32) -> &mut [u8]
+        requires solid { self.old.solid ≡ true }
+        requires plane { plane < self.old.planes.depth }
+        requires some { 0 < rows }
+        requires inside { y + rows ≤ self.old.planes.height }
+        ensures* writes_back { sem 𝓛 (LendsRows self.entry plane y result) }
+        ensures lent { AreRowsOf self.old.planes plane y rows result.now }
+        ensures strip { IsStrip self.old }
+    {
+        let pens = &mut self.pens;
+        pens.rows_mut(plane, y, rows)
+    }
+}
+
+impl Pens {
+    // Lends rows of the bitmap.
+    fn rows_mut(&mut self, plane: u32, y: u32, rows: u32) -> &mut [u8]
+        requires some { 0 < rows }
+        requires inside { HaveRows self.old.planes plane y rows }
+        ensures* writes_back { sem 𝓛 (LendsPens self.entry plane y result) }
+        ensures lent { AreRows self.old.planes plane y rows result.now }
+    {
+        match &mut self.planes {
+            Some(planes) => planes.rows_mut(plane, y, rows),
+            None => unreachable!(),
+        }
     }
 }
 

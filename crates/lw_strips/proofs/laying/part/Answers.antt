@@ -1,15 +1,7 @@
-use Rattle.std.proofs.Common.{[], ◌∷◌, ◌++◌, map, take, ◌∙◌, sym, ap}
-use Rattle.std.proofs.lemmas.List.{map_more}
-use Rattle.lw_region.specs.Rectangle.{Rectangle}
-use Rattle.lw_strips.specs.Strips.{StripView}
-use Rattle.lw_strips.specs.Laying.{part_of}
+use Rattle.lw_strips.proofs.LayingLaws.{part_more}
 use Rattle.lw_strips.proofs.laying.part.Goals as goal
 
 pub loop-rect-preserved : goal.loop-rect-preserved
 loop-rect-preserved c =
-    let k = c.loop-rect.rect-index in
-    let made : Rectangle → StripView = part_of c.args.strip.now in
-    c.in_ok-push.ensures.items
-    ∙ (ap (λ parts. parts ++ c.in_ok-one_part.field-0 ∷ []) c.loop-rect.invariant
-    ∙ (ap (λ p. map made (take k c.args.rects.now) ++ p ∷ []) (c.in_ok-one_part.ensures ∙ ap made c.rect-item.is)
-    ∙ sym (map_more made c.args.rects.now k c.rect-item.result c.loop-rect-test.true)))
+    part_more c.args.strip.now c.args.rects.now c.loop-rect.rect-index c.rect-item.result c.loop-rect.parts.items c.push.new.self.items c.in_ok-one_part.field-0
+    c.loop-rect-test.true c.rect-item.is c.loop-rect.invariant c.in_ok-one_part.ensures c.in_ok-push.ensures.items
