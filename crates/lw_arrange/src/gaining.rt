@@ -7,8 +7,6 @@ ghost use Rattle.lw_cliprects.specs.Parts.{LieIn};
 ghost use Rattle.lw_layer.specs.View as view;
 ghost use Rattle.lw_layer.specs.View.{with_live};
 ghost use Rattle.lw_layer.specs.Pieces.{HasFrameRoom};
-ghost use Rattle.lw_layer.specs.Looks.{IsLook};
-ghost use Rattle.lw_layer.specs.StandsFor.{IsSound};
 ghost use Rattle.lw_stack.specs.Stack.{bounds_at};
 ghost use Rattle.lw_reveal.specs.Changed.{carried_to, MayHave};
 ghost use Rattle.lw_arrange.specs.Prepared.{created_by, kind_of, created_live, shown_at, with_bounds, cell_after, IsCreation, MayOpen, MayBecome, MayPrepare};
@@ -17,7 +15,7 @@ ghost use Rattle.lw_arrange.specs.Framed.{IsFrameGained, has_corners};
 
 use crate::arrangement::Arrangement;
 use lw_calls::{Call, Kind};
-use lw_layer::{Cell, Look, inner_rectangle, kept_region};
+use lw_layer::{Cell, inner_rectangle, kept_region};
 use lw_region::{Rect, Region, clear_region};
 use lw_reveal::counted_region;
 use std::alloc::{AllocError, Global};
@@ -56,7 +54,7 @@ fn gained_within(
     let visible = arrangement.shown(cell.slot());
     match cell.look() {
         None => gained_anew(alloc, cell, arrangement, bounds, visible),
-        Some(look) => gained_more(alloc, cell, &look, bounds, visible),
+        Some(_) => gained_more(alloc, cell, bounds, visible),
     }
 }
 
@@ -93,20 +91,21 @@ fn created_kind(arrangement: &Arrangement) -> Kind
 fn gained_more(
     alloc: Global,
     cell: &Cell,
-    look: &Look,
     bounds: &Rect,
     visible: &Region,
 ) -> Result<Region, AllocError>
     requires live { cell.now.state ≡ view.Live }
-    requires look { IsLook cell.now.live look.now }
-    requires sound { IsSound cell.now.live }
     requires may { MayHave cell.now.live bounds.now visible.now }
     ensures { IfOk result (λ region. AreGained cell.now (with_live (λ c. carried_to bounds.now visible.now c) cell.now) region) }
 {
-    if look.bounds == *bounds && cell.visible() == visible.rects() {
+    let Some(layer) = cell.layer() else {
+        unreachable!();
+    };
+    let look = layer.look();
+    if look.bounds == *bounds && layer.visible() == visible.rects() {
         return Ok(Region::new(alloc));
     }
-    let before = counted_region(alloc, cell, bounds)?;
+    let before = counted_region(alloc, layer, bounds)?;
     let mut gained = kept_region(alloc, look.kind, bounds, visible.rects())?;
     clear_region(alloc, &before, &mut gained)?;
     Ok(gained)

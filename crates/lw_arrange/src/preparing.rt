@@ -6,7 +6,6 @@ ghost use Rattle.lw_machine.specs.Arrangement.{new_window};
 ghost use Rattle.lw_layer.specs.View as view;
 ghost use Rattle.lw_layer.specs.View.{CellView, with_live};
 ghost use Rattle.lw_layer.specs.Drafts.{IsState, state_of, live_of, window_of, room_of};
-ghost use Rattle.lw_layer.specs.StandsFor.{IsSound};
 ghost use Rattle.lw_stack.specs.Stack.{bounds_at};
 ghost use Rattle.lw_reveal.specs.Changed.{carried_to, MayHave};
 ghost use Rattle.lw_arrange.specs.Prepared.{created_by, created_live, without_layer, with_bounds, shown_at, cell_after, MayOpen, MayBecome, MayPrepare};
@@ -79,7 +78,7 @@ fn with_bounds(
     let visible = arrangement.shown(cell.slot());
     match cell.look() {
         None => created(alloc, cell, arrangement, bounds, visible),
-        Some(look) => changed(alloc, cell, &look.bounds, bounds, visible),
+        Some(_) => changed(alloc, cell, bounds, visible),
     }
 }
 
@@ -142,26 +141,27 @@ fn opened_window(
     })
 }
 
-// A layer that stays live, from these former bounds to its new ones.
+// A layer that stays live and has these bounds afterwards.
 fn changed(
     alloc: Global,
     cell: &Cell,
-    former: &Rect,
     bounds: &Rect,
     visible: &Region,
 ) -> Result<Prepared, AllocError>
     requires live { cell.now.state ≡ view.Live }
-    requires former { former.now ≡ cell.now.live.bounds }
-    requires sound { IsSound cell.now.live }
     requires may { MayHave cell.now.live bounds.now visible.now }
     ensures { IfOk result (λ prepared. IsPrepared cell.now (with_live (λ c. carried_to bounds.now visible.now c) cell.now) prepared) }
 {
+    let Some(layer) = cell.layer() else {
+        unreachable!();
+    };
+    let look = layer.look();
     // Reading the damage tells the proof that it lies on kept pixels of the inner rectangle.
-    let _ = cell.damage().region();
-    if former == bounds && cell.visible() == visible.rects() {
+    let _ = layer.damage().region();
+    if look.bounds == *bounds && layer.visible() == visible.rects() {
         return Ok(Prepared::Stays);
     }
-    Ok(Prepared::Changes(lw_reveal::prepare(alloc, cell, bounds, visible)?))
+    Ok(Prepared::Changes(lw_reveal::prepare(alloc, layer, bounds, visible)?))
 }
 
 /// Makes of the cell what was prepared from it. It takes no memory and can't be refused.

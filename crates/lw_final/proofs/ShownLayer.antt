@@ -1,6 +1,5 @@
 -- The pens of a layer where it is visible, rectangle by rectangle.
-use Rattle.std.proofs.Common.{◌≡◌, ℕ, ◌+◌, ◌<◌, ◌≤◌, Bool, true, false, ◌||◌, if◌then◌else◌, ℤ, pos, ◌≤ℤ◌, List, [], ◌∷◌, length, take, get_or, Option, Some, None, ◌∙◌, sym, refl, ap, subst, arith}
-use Rattle.std.specs.Option.{is_some}
+use Rattle.std.proofs.Common.{◌≡◌, ℕ, ◌+◌, ◌<◌, ◌≤◌, Bool, true, false, ◌||◌, if◌then◌else◌, ℤ, pos, ◌≤ℤ◌, List, [], ◌∷◌, length, take, get_or, ◌∙◌, sym, refl, ap, subst, arith}
 use Rattle.std.specs.Int.Signed.{≤ℤ_refl}
 use Rattle.std.proofs.lemmas.Bool.{and_parts, and_from}
 use Rattle.std.proofs.lemmas.List.{take_more, take_all}
@@ -14,8 +13,6 @@ use Rattle.lw_planes.specs.Bitmap.{Bitmap, IsBitmap, pen_at}
 use Rattle.lw_planes.proofs.BitmapLaws.{pen_at_bitmap, bitmap_from_pens, bitmap_same}
 use Rattle.lw_layer.specs.View.{State, LiveView}
 use Rattle.lw_layer.specs.View as view
-use Rattle.lw_layer.specs.Looks.{IsLookAt}
-use Rattle.lw_layer.specs.declared.look.Look.{Look}
 use Rattle.lw_layer.specs.StandsFor.{IsSound}
 use Rattle.lw_layer.proofs.OrderedLists.{canonical_ordered}
 use Rattle.lw_final.specs.Shown.{pen_shown, with_pens, with_layer_shown, LiesOn, IsPartOn, in_rectangle}
@@ -86,15 +83,3 @@ unfolding with_layer_shown
 nothing_shown view.Unopened c b idle = refl
 nothing_shown view.Live c b idle = absurd (idle refl)
 nothing_shown view.Closed c b idle = refl
-
--- a slot with no look isn't live, and one with a look is
-pub no_look : (s : State) (c : LiveView) (k : Option Look) → is_some k ≡ false → IsLookAt s c k → s ≡ view.Live → ⊥
-no_look view.Unopened c k none look live = cc live
-no_look view.Live c None none look live = look
-no_look view.Live c (Some k) none look live = cc none
-no_look view.Closed c k none look live = cc live
-
-pub looks_live : (s : State) (c : LiveView) (k : Option Look) → is_some k ≡ true → IsLookAt s c k → s ≡ view.Live
-looks_live view.Unopened c k some look = let none : is_some k ≡ false = ap (λ o. is_some o) look in absurd (cc (sym some ∙ none))
-looks_live view.Live c k some look = refl
-looks_live view.Closed c k some look = let none : is_some k ≡ false = ap (λ o. is_some o) look in absurd (cc (sym some ∙ none))

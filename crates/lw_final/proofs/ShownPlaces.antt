@@ -8,10 +8,7 @@ use Rattle.lw_region.specs.Rectangle.{within, has_pixel}
 use Rattle.lw_region.proofs.Within.{within_low}
 use Rattle.lw_planes.specs.Bitmap.{pen_at}
 use Rattle.lw_machine.specs.Screen.{distance}
-use Rattle.lw_layer.specs.View.{State, LiveView, keeps}
-use Rattle.lw_layer.specs.View as view
-use Rattle.lw_layer.specs.Looks.{IsLook, IsLookAt}
-use Rattle.lw_layer.specs.declared.look.Look.{Look}
+use Rattle.lw_layer.specs.View.{LiveView, keeps}
 use Rattle.lw_layer.specs.Copied.{bit_in, kept_bit}
 use Rattle.lw_layer.specs.StandsFor.{IsSound}
 use Rattle.lw_final.specs.Shown.{pen_shown}
@@ -42,12 +39,6 @@ bit_shown c plane x line column row ok across down has =
     ap (λ u. kept_bit c plane u row) i
     ∙ (ap (λ v. kept_bit c plane (pos (distance c.bounds.min_x (pos x) + c.layer.scroll_x)) v) j
     ∙ bit_kept c plane (distance c.bounds.min_x (pos x) + c.layer.scroll_x) (distance c.bounds.min_y (pos line) + c.layer.scroll_y) ok)
-
--- a look of a live layer
-pub look_told : (s : State) (c : LiveView) (k : Look) → s ≡ view.Live → IsLookAt s c (Some k) → IsLook c k
-look_told view.Unopened c k is look = absurd (cc is)
-look_told view.Live c k is look = look
-look_told view.Closed c k is look = absurd (cc is)
 
 -- the scroll of a sound layer
 pub scroll_small : (c : LiveView) → IsSound c → (c.layer.scroll_x ≤ 2048) × (c.layer.scroll_y ≤ 2048)

@@ -2,12 +2,11 @@
 
 ghost use Rattle.std.specs.Prelude.{◌≡◌, IfOk};
 ghost use Rattle.lw_region.specs.Bands.{bands};
-ghost use Rattle.lw_layer.specs.View as view;
 ghost use Rattle.lw_machine.specs.Finals.{damage_set, port_of};
 ghost use Rattle.lw_final.specs.Shown.{first_set, seen_in};
 
 use lw_calls::{Messages, Seen};
-use lw_layer::Cell;
+use lw_layer::{Cell, Layer};
 use lw_region::Region;
 use lw_stack::Info;
 use std::alloc::{AllocError, Global};
@@ -17,12 +16,12 @@ use std::alloc::{AllocError, Global};
 pub fn seen(alloc: Global, info: &Info, cell: &Cell) -> Result<Option<Seen>, AllocError>
     ensures { IfOk result (λ seen. seen ≡ seen_in info.now cell.now) }
 {
-    if cell.look().is_none() {
+    let Some(layer) = cell.layer() else {
         return Ok(None);
-    }
+    };
     let visible = visible(alloc, info, cell.slot())?;
-    let damage = damage(alloc, cell)?;
-    let messages = messages(alloc, cell)?;
+    let damage = damage(alloc, layer)?;
+    let messages = messages(alloc, layer)?;
     Ok(Some(Seen {
         visible,
         damage,
@@ -41,23 +40,21 @@ fn visible(alloc: Global, info: &Info, slot: u32) -> Result<Region, AllocError>
     Ok(region)
 }
 
-// The damaged pixels of the cell's layer.
-fn damage(alloc: Global, cell: &Cell) -> Result<Region, AllocError>
-    requires { cell.now.state ≡ view.Live }
-    ensures { IfOk result (λ region. region ≡ bands (damage_set cell.now.live.layer)) }
+// The damaged pixels of the layer.
+fn damage(alloc: Global, layer: &Layer) -> Result<Region, AllocError>
+    ensures { IfOk result (λ region. region ≡ bands (damage_set layer.now.layer)) }
 {
-    let region = cell.damage().region();
+    let region = layer.damage().region();
     // Reading them tells the proof that their list is canonical.
     let _ = region.rects();
     region.copy(alloc)
 }
 
-// The messages of the window's port, if the cell's layer is a window.
-fn messages(alloc: Global, cell: &Cell) -> Result<Option<Messages>, AllocError>
-    requires { cell.now.state ≡ view.Live }
-    ensures { IfOk result (λ messages. messages ≡ port_of cell.now.live.layer.window) }
+// The messages of the window's port, if the layer is a window.
+fn messages(alloc: Global, layer: &Layer) -> Result<Option<Messages>, AllocError>
+    ensures { IfOk result (λ messages. messages ≡ port_of layer.now.layer.window) }
 {
-    let Some(window) = cell.window() else {
+    let Some(window) = layer.window() else {
         return Ok(None);
     };
     let messages = Vec::from_slice(alloc, window.port.messages())?;

@@ -5,12 +5,11 @@ ghost use Rattle.std.specs.Int.{bit_at};
 ghost use Rattle.lw_region.specs.Rectangle.{has_pixel, within};
 ghost use Rattle.lw_planes.specs.Row.{row_bit};
 ghost use Rattle.lw_planes.specs.Sizes.{IsPlanes};
-ghost use Rattle.lw_layer.specs.View as view;
 ghost use Rattle.lw_final.specs.Shown.{pen_shown, with_bits, with_pens, with_layer_shown};
 ghost use Rattle.lw_final.specs.Shown.{MayLieOn, IsPartOn, AreRowsFor, in_line, in_rectangle};
 
 use lw_kernels::{COPY_MINTERM, combine};
-use lw_layer::Cell;
+use lw_layer::{Cell, Layer};
 use lw_planes::Planes;
 use lw_region::Rect;
 
@@ -23,68 +22,67 @@ pub fn show_layer(planes: &mut Planes, cell: &Cell, bits: &mut [u8], kept: &mut 
 {
     // Reading this tells the proof that the screen's pens are of its planes.
     let _ = planes.depth();
-    if cell.look().is_none() {
+    let Some(layer) = cell.layer() else {
         return;
-    }
-    for rect in cell.visible() {
-        show_part(planes, cell, rect, bits, kept);
+    };
+    // Reading this tells the proof what holds of the layer.
+    let _ = layer.look();
+    for rect in layer.visible() {
+        show_part(planes, layer, rect, bits, kept);
     }
 }
 
 // Gives the places of a rectangle the pens of the layer's pixels.
-fn show_part(planes: &mut Planes, cell: &Cell, rect: &Rect, bits: &mut [u8], kept: &mut [u8])
-    requires live { cell.now.state ≡ view.Live }
-    requires rect { IsPartOn planes.old cell.now.live rect.now }
+fn show_part(planes: &mut Planes, layer: &Layer, rect: &Rect, bits: &mut [u8], kept: &mut [u8])
+    requires rect { IsPartOn planes.old layer.now rect.now }
     requires rows { AreRowsFor planes.old bits.old kept.old }
-    ensures { planes.new ≡ with_pens (in_rectangle rect.now) (pen_shown cell.now.live) planes.old }
+    ensures { planes.new ≡ with_pens (in_rectangle rect.now) (pen_shown layer.now) planes.old }
 {
     for plane in 0..planes.depth() {
-        show_plane(planes, cell, rect, plane, bits, kept);
+        show_plane(planes, layer, rect, plane, bits, kept);
     }
 }
 
 // The same in one plane.
 fn show_plane(
     planes: &mut Planes,
-    cell: &Cell,
+    layer: &Layer,
     rect: &Rect,
     plane: u32,
     bits: &mut [u8],
     kept: &mut [u8],
 )
-    requires live { cell.now.state ≡ view.Live }
-    requires rect { IsPartOn planes.old cell.now.live rect.now }
+    requires rect { IsPartOn planes.old layer.now rect.now }
     requires planes { IsPlanes planes.old }
     requires plane { plane < planes.old.depth }
     requires rows { AreRowsFor planes.old bits.old kept.old }
     ensures { planes.new
-        ≡ with_bits (λ p x y. p == plane && in_rectangle rect.now x y) (pen_shown cell.now.live) planes.old }
+        ≡ with_bits (λ p x y. p == plane && in_rectangle rect.now x y) (pen_shown layer.now) planes.old }
 {
     for line in place(rect.min_y())..place(rect.max_y()) + 1 {
-        show_row(planes, cell, rect, plane, line, bits, kept);
+        show_row(planes, layer, rect, plane, line, bits, kept);
     }
 }
 
 // The same in one plane of one row.
 fn show_row(
     planes: &mut Planes,
-    cell: &Cell,
+    layer: &Layer,
     rect: &Rect,
     plane: u32,
     line: u32,
     bits: &mut [u8],
     kept: &mut [u8],
 )
-    requires live { cell.now.state ≡ view.Live }
-    requires rect { IsPartOn planes.old cell.now.live rect.now }
+    requires rect { IsPartOn planes.old layer.now rect.now }
     requires planes { IsPlanes planes.old }
     requires plane { plane < planes.old.depth }
     requires line { within rect.now.min_y (pos line) rect.now.max_y ≡ true }
     requires rows { AreRowsFor planes.old bits.old kept.old }
     ensures { planes.new
-        ≡ with_bits (λ p x y. p == plane && in_line rect.now line x y) (pen_shown cell.now.live) planes.old }
+        ≡ with_bits (λ p x y. p == plane && in_line rect.now line x y) (pen_shown layer.now) planes.old }
 {
-    read_row(cell, plane, line, bits, kept);
+    read_row(layer, plane, line, bits, kept);
     let left = place(rect.min_x());
     let width = place(rect.max_x()) + 1 - left;
     combine(
@@ -98,20 +96,17 @@ fn show_row(
 }
 
 // Reads one plane of the layer's pixels that lie on a row of the screen, so that each bit has the number of its column there.
-fn read_row(cell: &Cell, plane: u32, line: u32, bits: &mut [u8], kept: &mut [u8])
-    requires live { cell.now.state ≡ view.Live }
-    requires plane { plane < cell.now.live.layer.bits.depth }
+fn read_row(layer: &Layer, plane: u32, line: u32, bits: &mut [u8], kept: &mut [u8])
+    requires plane { plane < layer.now.layer.bits.depth }
     requires line { line < 2048 }
     requires equally_long { length kept.old ≡ length bits.old }
-    ensures { (x : ℕ) → x < 8 * length bits.old → has_pixel cell.now.live.bounds (pos x) (pos line) ≡ true
-        → row_bit bits.new x ≡ bit_at (pen_shown cell.now.live x line) plane }
+    ensures { (x : ℕ) → x < 8 * length bits.old → has_pixel layer.now.bounds (pos x) (pos line) ≡ true
+        → row_bit bits.new x ≡ bit_at (pen_shown layer.now x line) plane }
 {
-    let Some(look) = cell.look() else {
-        unreachable!();
-    };
+    let look = layer.look();
     let column = offset(look.bounds.min_x(), look.scroll_x);
     let row = line as i32 + offset(look.bounds.min_y(), look.scroll_y);
-    cell.copy_row(plane, column, row, bits, kept);
+    layer.copy_row(plane, column, row, bits, kept);
 }
 
 // How far a layer's own places are ahead of those of the screen, along one axis, if its edge shows its place at the scroll.

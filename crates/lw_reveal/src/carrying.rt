@@ -4,12 +4,11 @@ ghost use Rattle.std.specs.Prelude.{◌≡◌, ◌==◌, ◌<◌, ◌≤◌, tru
 ghost use Rattle.lw_region.specs.Rectangle.{width, height};
 ghost use Rattle.lw_planes.specs.Bitmap.{row_bytes};
 ghost use Rattle.lw_planes.specs.Sizes.{AreSizes};
-ghost use Rattle.lw_layer.specs.View as view;
 ghost use Rattle.lw_reveal.specs.Changes.{carried};
 ghost use Rattle.lw_reveal.specs.Carrying.{painted, bits_in, IsPlace, HaveRoom, AreNew, AreBothNew};
 
 use crate::pairing::Pairing;
-use lw_layer::Cell;
+use lw_layer::Layer;
 use lw_planes::Planes;
 use lw_region::Rect;
 use std::alloc::{AllocError, Global};
@@ -28,17 +27,16 @@ const LONGEST: usize = 256;
 // The buffers of all rectangles of which so many are visible, and after them those of the rest.
 pub(crate) fn all_buffers(
     alloc: Global,
-    cell: &Cell,
+    layer: &Layer,
     place: &Place,
     pairing: &Pairing,
     shown: usize,
 ) -> Result<(Vec<Planes>, Vec<Planes>), AllocError>
-    requires live { cell.now.state ≡ view.Live }
-    requires place { IsPlace cell.now.live place.now }
+    requires place { IsPlace layer.now place.now }
     requires many { length pairing.now.given.items ≡ length pairing.now.news.items }
     requires shown { shown ≤ length pairing.now.news.items }
-    requires room { HaveRoom cell.now.live.layer.bits.depth pairing.now.news.items 256 }
-    ensures { IfOk result (λ b. AreBothNew cell.now.live place.now.bounds pairing.now.news.items pairing.now.given.items
+    requires room { HaveRoom layer.now.layer.bits.depth pairing.now.news.items 256 }
+    ensures { IfOk result (λ b. AreBothNew layer.now place.now.bounds pairing.now.news.items pairing.now.given.items
         shown b.0.items b.1.items) }
 {
     let mut kept = [0; LONGEST];
@@ -46,8 +44,8 @@ pub(crate) fn all_buffers(
     let rest = &pairing.news[shown..];
     let given = &pairing.given[..shown];
     let rest_given = &pairing.given[shown..];
-    let buffers = new_buffers(alloc, cell, place, rects, given, &mut kept)?;
-    let covered = new_buffers(alloc, cell, place, rest, rest_given, &mut kept)?;
+    let buffers = new_buffers(alloc, layer, place, rects, given, &mut kept)?;
+    let covered = new_buffers(alloc, layer, place, rest, rest_given, &mut kept)?;
     Ok((buffers, covered))
 }
 
@@ -55,21 +53,20 @@ pub(crate) fn all_buffers(
 // given.
 fn new_buffers(
     alloc: Global,
-    cell: &Cell,
+    layer: &Layer,
     place: &Place,
     rects: &[Rect],
     given: &[bool],
     kept: &mut [u8],
 ) -> Result<Vec<Planes>, AllocError>
-    requires live { cell.now.state ≡ view.Live }
-    requires place { IsPlace cell.now.live place.now }
+    requires place { IsPlace layer.now place.now }
     requires many { length given.now ≡ length rects.now }
-    requires room { HaveRoom cell.now.live.layer.bits.depth rects.now (length kept.old) }
-    ensures { IfOk result (λ buffers. AreNew cell.now.live place.now.bounds rects.now given.now buffers.items) }
+    requires room { HaveRoom layer.now.layer.bits.depth rects.now (length kept.old) }
+    ensures { IfOk result (λ buffers. AreNew layer.now place.now.bounds rects.now given.now buffers.items) }
 {
     let mut buffers = Vec::with_capacity(alloc, rects.len())?;
     for index in 0..rects.len() {
-        let buffer = new_buffer(alloc, cell, place, &rects[index], given[index], kept)?;
+        let buffer = new_buffer(alloc, layer, place, &rects[index], given[index], kept)?;
         buffers.push(buffer)?;
     }
     Ok(buffers)
@@ -78,78 +75,76 @@ fn new_buffers(
 // One of them.
 fn new_buffer(
     alloc: Global,
-    cell: &Cell,
+    layer: &Layer,
     place: &Place,
     rect: &Rect,
     given: bool,
     kept: &mut [u8],
 ) -> Result<Planes, AllocError>
-    requires live { cell.now.state ≡ view.Live }
-    requires place { IsPlace cell.now.live place.now }
-    requires sizes { AreSizes (width rect.now) (height rect.now) cell.now.live.layer.bits.depth }
+    requires place { IsPlace layer.now place.now }
+    requires sizes { AreSizes (width rect.now) (height rect.now) layer.now.layer.bits.depth }
     requires room { row_bytes (width rect.now) ≤ length kept.old }
-    ensures { IfOk result (λ planes. given ≡ false → planes ≡ carried cell.now.live place.now.bounds rect.now) }
+    ensures { IfOk result (λ planes. given ≡ false → planes ≡ carried layer.now place.now.bounds rect.now) }
 {
     if given {
         return Planes::new(alloc, 1, 1, 1);
     }
-    carry(alloc, cell, place, rect, kept)
+    carry(alloc, layer, place, rect, kept)
 }
 
 // A buffer of the rectangle's size with the pens that the layer keeps there.
 fn carry(
     alloc: Global,
-    cell: &Cell,
+    layer: &Layer,
     place: &Place,
     rect: &Rect,
     kept: &mut [u8],
 ) -> Result<Planes, AllocError>
-    requires live { cell.now.state ≡ view.Live }
-    requires place { IsPlace cell.now.live place.now }
-    requires sizes { AreSizes (width rect.now) (height rect.now) cell.now.live.layer.bits.depth }
+    requires place { IsPlace layer.now place.now }
+    requires sizes { AreSizes (width rect.now) (height rect.now) layer.now.layer.bits.depth }
     requires room { row_bytes (width rect.now) ≤ length kept.old }
-    ensures { IfOk result (λ planes. planes ≡ carried cell.now.live place.now.bounds rect.now) }
+    ensures { IfOk result (λ planes. planes ≡ carried layer.now place.now.bounds rect.now) }
 {
-    let mut planes = Planes::new(alloc, rect.width(), rect.height(), cell.depth())?;
-    copy_planes(cell, place, rect, &mut planes, kept);
+    let mut planes = Planes::new(alloc, rect.width(), rect.height(), layer.depth())?;
+    copy_planes(layer, place, rect, &mut planes, kept);
     Ok(planes)
 }
 
 // Copies the pens that the layer keeps in the rectangle.
-fn copy_planes(cell: &Cell, place: &Place, rect: &Rect, planes: &mut Planes, kept: &mut [u8])
-    requires place { IsPlace cell.now.live place.now }
-    requires depth { planes.old.depth ≡ cell.now.live.layer.bits.depth }
+fn copy_planes(layer: &Layer, place: &Place, rect: &Rect, planes: &mut Planes, kept: &mut [u8])
+    requires place { IsPlace layer.now place.now }
+    requires depth { planes.old.depth ≡ layer.now.layer.bits.depth }
     requires room { row_bytes planes.old.width ≤ length kept.old }
-    ensures { planes.new ≡ painted (λ p j. true) (bits_in cell.now.live place.now.bounds rect.now) planes.old }
+    ensures { planes.new ≡ painted (λ p j. true) (bits_in layer.now place.now.bounds rect.now) planes.old }
 {
     for plane in 0..planes.depth() {
-        copy_plane(cell, place, rect, plane, planes, kept);
+        copy_plane(layer, place, rect, plane, planes, kept);
     }
 }
 
 // Copies one plane of them.
 fn copy_plane(
-    cell: &Cell,
+    layer: &Layer,
     place: &Place,
     rect: &Rect,
     plane: u32,
     planes: &mut Planes,
     kept: &mut [u8],
 )
-    requires place { IsPlace cell.now.live place.now }
+    requires place { IsPlace layer.now place.now }
     requires plane { plane < planes.old.depth }
-    requires depth { planes.old.depth ≡ cell.now.live.layer.bits.depth }
+    requires depth { planes.old.depth ≡ layer.now.layer.bits.depth }
     requires room { row_bytes planes.old.width ≤ length kept.old }
-    ensures { planes.new ≡ painted (λ p j. p == plane) (bits_in cell.now.live place.now.bounds rect.now) planes.old }
+    ensures { planes.new ≡ painted (λ p j. p == plane) (bits_in layer.now place.now.bounds rect.now) planes.old }
 {
     for line in 0..planes.height() {
-        copy_line(cell, place, rect, plane, line, planes, kept);
+        copy_line(layer, place, rect, plane, line, planes, kept);
     }
 }
 
 // Copies one plane of one line of them.
 fn copy_line(
-    cell: &Cell,
+    layer: &Layer,
     place: &Place,
     rect: &Rect,
     plane: u32,
@@ -157,12 +152,12 @@ fn copy_line(
     planes: &mut Planes,
     kept: &mut [u8],
 )
-    requires place { IsPlace cell.now.live place.now }
+    requires place { IsPlace layer.now place.now }
     requires plane { plane < planes.old.depth }
-    requires depth { planes.old.depth ≡ cell.now.live.layer.bits.depth }
+    requires depth { planes.old.depth ≡ layer.now.layer.bits.depth }
     requires line { line < planes.old.height }
     requires room { row_bytes planes.old.width ≤ length kept.old }
-    ensures { planes.new ≡ painted (λ p j. p == plane && j == line) (bits_in cell.now.live place.now.bounds rect.now) planes.old }
+    ensures { planes.new ≡ painted (λ p j. p == plane && j == line) (bits_in layer.now place.now.bounds rect.now) planes.old }
 {
     // Reading this tells the proof that the bitmap has sizes for planes.
     let _ = planes.height();
@@ -170,7 +165,7 @@ fn copy_line(
     let y = layer_place(rect.min_y(), place.bounds.min_y(), place.scroll_y);
     let row = planes.row_mut(plane, line);
     let mask = &mut kept[..row.len()];
-    cell.copy_row(plane, x, row_at(y, line), row, mask);
+    layer.copy_row(plane, x, row_at(y, line), row, mask);
 }
 
 // The row so many rows below another one.

@@ -10,13 +10,13 @@ ghost use Rattle.lw_reveal.specs.Changes.{IsChange};
 ghost use Rattle.lw_reveal.specs.Handing.{own_whole};
 
 use crate::carrying::{Place, all_buffers};
-use crate::damage::{damage_after, look_of};
+use crate::damage::damage_after;
 use crate::handing::hand_all;
 use crate::pairing::find_pairs;
 use lw_calls::Kind;
 use lw_cliprects::Parts;
 use lw_damage::Damage;
-use lw_layer::{Cell, Draft, DraftState, LiveDraft};
+use lw_layer::{Cell, Draft, DraftState, Layer, LiveDraft};
 use lw_planes::Planes;
 use lw_region::{Rect, Region};
 use lw_super::write_back;
@@ -41,25 +41,24 @@ pub struct Change {
 }
 
 /// Makes ready what the live layer becomes once it has these bounds and these visible pixels, both in pixels of the screen. The
-/// cell stays as it is. It fails only when out of memory.
+/// layer stays as it is. It fails only when out of memory.
 pub fn prepare(
     alloc: Global,
-    cell: &Cell,
+    layer: &Layer,
     bounds: &Rect,
     visible: &Region,
 ) -> Result<Change, AllocError>
-    requires live { cell.now.state ≡ view.Live }
-    requires may { MayHave cell.now.live bounds.now visible.now }
-    ensures change { IfOk result (λ k. IsChange cell.now.live k) }
+    requires may { MayHave layer.now bounds.now visible.now }
+    ensures change { IfOk result (λ k. IsChange layer.now k) }
     ensures bounds { IfOk result (λ k. k.bounds ≡ bounds.now) }
     ensures visible { IfOk result (λ k. k.parts.visible ≡ visible.now) }
 {
     // Reading this tells the proof that the bounds are ordered.
     let _ = bounds.min_x();
-    let look = look_of(cell);
+    let look = layer.look();
     let parts = Parts::cut(alloc, bounds, visible)?;
-    let damage = damage_after(alloc, cell, bounds, visible)?;
-    let pairing = find_pairs(alloc, cell, &look, bounds, &parts)?;
+    let damage = damage_after(alloc, layer, bounds, visible)?;
+    let pairing = find_pairs(alloc, layer, &look, bounds, &parts)?;
     let _ = parts.hidden();
     let shown = parts.visible().len();
     let place = Place {
@@ -67,7 +66,7 @@ pub fn prepare(
         scroll_x: look.scroll_x,
         scroll_y: look.scroll_y,
     };
-    let (buffers, covered) = all_buffers(alloc, cell, &place, &pairing, shown)?;
+    let (buffers, covered) = all_buffers(alloc, layer, &place, &pairing, shown)?;
     Ok(Change {
         bounds: place.bounds,
         parts,

@@ -3,16 +3,13 @@
 ghost use Rattle.std.specs.Prelude.{◌≡◌, ◌≤◌, true, IfOk};
 ghost use Rattle.lw_region.specs.Rectangle.{width, height};
 ghost use Rattle.lw_machine.specs.Layer.{is_framed};
-ghost use Rattle.lw_layer.specs.View as view;
 ghost use Rattle.lw_layer.specs.Pieces.{HasFrameRoom, IsDamageOf};
-ghost use Rattle.lw_layer.specs.Looks.{IsLook};
-ghost use Rattle.lw_layer.specs.StandsFor.{IsSound};
 ghost use Rattle.lw_reveal.specs.Changed.{carried_to, MayHave};
 ghost use Rattle.lw_reveal.specs.Counted.{AreCounted};
 ghost use Rattle.lw_reveal.specs.Gained.{AreLeft, AreOf};
 
 use lw_damage::Damage;
-use lw_layer::{Cell, Look, inner_rectangle, kept_region};
+use lw_layer::{Layer, inner_rectangle, kept_region};
 use lw_region::{Rect, Region, clear_region};
 use std::alloc::{AllocError, Global};
 
@@ -20,18 +17,17 @@ use std::alloc::{AllocError, Global};
 // before, and what stays of its former damage.
 pub(crate) fn damage_after(
     alloc: Global,
-    cell: &Cell,
+    layer: &Layer,
     bounds: &Rect,
     visible: &Region,
 ) -> Result<Damage, AllocError>
-    requires live { cell.now.state ≡ view.Live }
-    requires may { MayHave cell.now.live bounds.now visible.now }
-    ensures { IfOk result (λ d. IsDamageOf (carried_to bounds.now visible.now cell.now.live) d) }
+    requires may { MayHave layer.now bounds.now visible.now }
+    ensures { IfOk result (λ d. IsDamageOf (carried_to bounds.now visible.now layer.now) d) }
 {
-    let look = look_of(cell);
-    let was = counted_region(alloc, cell, bounds)?;
+    let look = layer.look();
+    let was = counted_region(alloc, layer, bounds)?;
     let kept = kept_region(alloc, look.kind, bounds, visible.rects())?;
-    let due = left_region(alloc, was, cell.damage().region(), kept)?;
+    let due = left_region(alloc, was, layer.damage().region(), kept)?;
     let inner = inner_rectangle(look.kind, look.framed, bounds);
     Damage::of_region(alloc, inner, &due, look.updating)
 }
@@ -40,15 +36,14 @@ pub(crate) fn damage_after(
 /// whose size changes not those of its old frame that lie in the new inner rectangle. Of a super-bitmap layer there are none, since
 /// none of its pixels is ever damaged or filled (the manual's Layers Library chapter: the damage list; which pixels count is this
 /// project's own). It fails only when out of memory.
-pub fn counted_region(alloc: Global, cell: &Cell, bounds: &Rect) -> Result<Region, AllocError>
-    requires live { cell.now.state ≡ view.Live }
+pub fn counted_region(alloc: Global, layer: &Layer, bounds: &Rect) -> Result<Region, AllocError>
     requires wide { width bounds.now ≤ 2048 }
     requires high { height bounds.now ≤ 2048 }
-    requires frame { is_framed cell.now.live.layer.window ≡ true → HasFrameRoom bounds.now }
-    ensures { IfOk result (λ counted. AreCounted cell.now.live bounds.now counted) }
+    requires frame { is_framed layer.now.layer.window ≡ true → HasFrameRoom bounds.now }
+    ensures { IfOk result (λ counted. AreCounted layer.now bounds.now counted) }
 {
-    let look = look_of(cell);
-    let kept = kept_region(alloc, look.kind, &look.bounds, cell.visible())?;
+    let look = layer.look();
+    let kept = kept_region(alloc, look.kind, &look.bounds, layer.visible())?;
     let former = inner_rectangle(look.kind, look.framed, &look.bounds);
     let new = inner_rectangle(look.kind, look.framed, bounds);
     if !look.framed || former == new {
@@ -57,18 +52,6 @@ pub fn counted_region(alloc: Global, cell: &Cell, bounds: &Rect) -> Result<Regio
     let gained = region_of(alloc, new)?;
     let spared = region_of(alloc, former)?;
     left_region(alloc, gained, &spared, kept)
-}
-
-// What the live layer looks like.
-pub(crate) fn look_of(cell: &Cell) -> Look
-    requires { cell.now.state ≡ view.Live }
-    ensures look { IsLook cell.now.live result }
-    ensures sound { IsSound cell.now.live }
-{
-    match cell.look() {
-        Some(look) => look,
-        None => unreachable!(),
-    }
 }
 
 // The pixels of the rectangle, if there is one.

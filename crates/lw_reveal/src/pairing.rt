@@ -3,14 +3,13 @@
 ghost use Rattle.std.specs.Prelude.{◌≡◌, ◌<◌, ◌≤◌, ◌++◌, length, pos, negsuc, ◌-ℤ◌, ◌≤ℤ◌, IfOk, IsTrue};
 ghost use Rattle.lw_region.specs.Rectangle.{moved_by};
 ghost use Rattle.std.specs.List.{slice_index_or};
-ghost use Rattle.lw_layer.specs.View as view;
 ghost use Rattle.lw_layer.specs.Looks.{IsLook};
 ghost use Rattle.lw_layer.specs.New.{kept_hidden};
 ghost use Rattle.lw_reveal.specs.Pairing.{IsNear, IsPair, IsPairing, IsPairingOf, SameLists};
 
 use lw_calls::Kind;
 use lw_cliprects::Parts;
-use lw_layer::{Cell, Look};
+use lw_layer::{Layer, Look};
 use lw_region::Rect;
 use std::alloc::{AllocError, Global};
 
@@ -151,22 +150,21 @@ impl Pairing {
 // All pairs of a layer's rectangles, as they are and as they are to be.
 pub(crate) fn find_pairs(
     alloc: Global,
-    cell: &Cell,
+    layer: &Layer,
     look: &Look,
     bounds: &Rect,
     parts: &Parts,
 ) -> Result<Pairing, AllocError>
-    requires live { cell.now.state ≡ view.Live }
-    requires look { IsLook cell.now.live look.now }
+    requires look { IsLook layer.now look.now }
     requires parts { parts.now.bounds ≡ bounds.now }
-    ensures { IfOk result (λ p. IsPairingOf cell.now.live bounds.now parts.now.visible p) }
+    ensures { IfOk result (λ p. IsPairingOf layer.now bounds.now parts.now.visible p) }
 {
-    let former = beside_own(alloc, look.kind, cell.visible(), cell.hidden())?;
+    let former = beside_own(alloc, look.kind, layer.visible(), layer.hidden())?;
     let news = beside_own(alloc, look.kind, parts.visible(), parts.hidden())?;
     let dx = displacement(look.bounds.min_x(), bounds.min_x());
     let dy = displacement(look.bounds.min_y(), bounds.min_y());
     let mut pairing = Pairing::empty(alloc, former, news, dx, dy)?;
-    pairing.pair_all(cell.visible().len(), parts.visible().len());
+    pairing.pair_all(layer.visible().len(), parts.visible().len());
     Ok(pairing)
 }
 

@@ -1,4 +1,3 @@
-pub mod BlockLaws
 pub mod ShownLaws
 pub mod WritingLaws
 pub mod PortionLaws

@@ -14,9 +14,9 @@ use Rattle.lw_planes.proofs.ChosenLaws.{first_choice}
 use Rattle.lw_kernels.specs.Kernel.{is_named}
 use Rattle.lw_buffers.specs.Lookup.{pen_from, pen_in}
 use Rattle.lw_layer.specs.Drafts.{IsBuffer, no_bitmap}
-use Rattle.lw_super.specs.Blocks.{in_block, block_pen, with_block}
+use Rattle.lw_strips.specs.Blocks.{in_block, block_pen, with_block}
 use Rattle.lw_super.specs.Shown.{IsShown, AreShown, laid, with_shown, portion, portions}
-use Rattle.lw_super.specs.declared.block.Block.{Block}
+use Rattle.lw_strips.specs.declared.block.Block.{Block}
 
 -- along one axis a block has the places of a rectangle
 named_within : (x from count : ℕ) (edge low high : ℤ) → low ≤ℤ high → pos from ≡ low -ℤ edge

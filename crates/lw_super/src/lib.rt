@@ -1,7 +1,6 @@
 //! Super-bitmap layers: the portion of their bitmap that is shown (the manual's Layers Library chapter: ScrollLayer).
 #![tactic(auto)]
 
-mod block;
 mod scrolling;
 mod shown;
 mod writing;

@@ -3,7 +3,6 @@ ghost use Rattle.lw_calls.specs.Kinds.{is_super};
 ghost use Rattle.lw_machine.specs.Arrangement.{portion_fits};
 ghost use Rattle.lw_machine.specs.Step.{may_scroll, scroll_layer};
 ghost use Rattle.lw_layer.specs.View.{with_layer, with_live};
-ghost use Rattle.lw_layer.specs.View as view;
 ghost use Rattle.lw_layer.specs.Drafts.{IsDraft, IsLiveDraft, cell_view, live_view};
 ghost use Rattle.lw_super.specs.Shown.{left_of, top_of, portions_of, axis_fits, draft_fits, MayScroll, IsNear, scrolled_by};
 
@@ -13,9 +12,8 @@ use lw_layer::{Cell, Draft, DraftState, LiveDraft, Look};
 
 /// Shows another portion of a super-bitmap layer's own bitmap (ScrollLayer): the pixel that the layer's top left corner shows
 /// moves by `dx` columns and `dy` rows. False exactly where that portion would leave the bitmap, and then nothing changes. No
-/// memory is taken.
+/// memory is taken. The slot has such a layer, and so is live.
 pub fn scroll(cell: &mut Cell, dx: i32, dy: i32) -> bool
-    requires live { cell.old.state ≡ view.Live }
     requires own { is_super cell.old.live.layer.kind ≡ true }
     ensures answer { result ≡ may_scroll (Some cell.old.live.bounds) dx dy cell.old.live.layer }
     ensures cell { cell.new ≡ (if result then with_live (λ c. with_layer (scroll_layer dx dy) c) cell.old else cell.old) }

@@ -5,9 +5,9 @@ ghost use Rattle.lw_region.specs.Rectangle.{has_pixel};
 ghost use Rattle.lw_buffers.specs.Lookup.{pen_from};
 ghost use Rattle.lw_super.specs.Shown.{IsShown, AreShown, laid, with_shown, portion, portions};
 
-use crate::block::{Block, copy_block};
 use lw_planes::Planes;
 use lw_region::Rect;
+use lw_strips::{Block, copy_block};
 
 // Writes the pens of all buffers into the bitmap.
 pub(crate) fn write_shown(own: &mut Planes, rects: &[Rect], buffers: &[Planes], left: i32, top: i32)

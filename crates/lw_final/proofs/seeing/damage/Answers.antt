@@ -6,6 +6,6 @@ use Rattle.lw_final.proofs.seeing.damage.Goals as goal
 
 pub returns : goal.returns
 returns c =
-    let listed = damage_listed c.args.cell.now.live c.damage.result.now c.damage.ensures (subst IsCanonical c.region-region.ensures.value c.rects.ensures.canonical) in
+    let listed = damage_listed c.args.layer.now c.damage.result.now c.damage.ensures (subst IsCanonical c.region-region.ensures.value c.rects.ensures.canonical) in
     let P : List Rectangle → Type 0 = λ rects. IfOk c.copy.result (λ region. region ≡ rects) in
     subst P listed (subst P c.region-region.ensures.value c.copy.ensures)

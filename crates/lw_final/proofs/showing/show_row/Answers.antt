@@ -6,16 +6,16 @@ use Rattle.lw_final.proofs.showing.show_row.Goals as goal
 
 pub read_row-requires-clause-line : goal.read_row-requires-clause-line
 read_row-requires-clause-line c =
-    let low = part_line c.args.planes.now c.args.cell.now.live c.args.rect.now c.args.line c.requires.rect c.requires.line in
+    let low = part_line c.args.planes.now c.args.layer.now c.args.rect.now c.args.line c.requires.rect c.requires.line in
     omega (arith, low, c.requires.planes.sizes.rows.1)
 
 pub row_mut-requires-clause-row : goal.row_mut-requires-clause-row
-row_mut-requires-clause-row c = part_line c.args.planes.now c.args.cell.now.live c.args.rect.now c.args.line c.requires.rect c.requires.line
+row_mut-requires-clause-row c = part_line c.args.planes.now c.args.layer.now c.args.rect.now c.args.line c.requires.rect c.requires.line
 
 pub returns : goal.returns
 returns c =
     let b = c.args.planes.now in
-    let v = c.args.cell.now.live in
+    let v = c.args.layer.now in
     let r = c.args.rect.now in
     let left = place_told r.min_x c.min_x.result c.place-left.result (search rules) c.min_x.ensures.value c.place-left.ensures in
     let right = place_told r.max_x c.max_x.result c.place.result (search rules) c.max_x.ensures.value c.place.ensures in

@@ -5,7 +5,7 @@ use Rattle.lw_reveal.proofs.carrying.copy_line.Goals as goal
 
 pub returns : goal.returns
 returns c =
-    line_painted c.args.cell.now.live c.args.place.now.bounds c.args.rect.now _ _ c.args.planes.now c.args.plane c.args.line c.copy_row.new.bits
+    line_painted c.args.layer.now c.args.place.now.bounds c.args.rect.now _ _ c.args.planes.now c.args.plane c.args.line c.copy_row.new.bits
     (λ i. omega (arith, ints, c.layer_place-x.ensures.place, c.min_x.ensures.value, c.min_x-2.ensures.value, c.requires.place.scroll_x))
     (omega (arith, ints, c.row_at.ensures, c.layer_place-y.ensures.place, c.min_y.ensures.value, c.min_y-2.ensures.value, c.requires.place.scroll_y))
     c.requires.plane c.requires.line

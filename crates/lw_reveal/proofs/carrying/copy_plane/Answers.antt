@@ -22,11 +22,11 @@ pub loop-line-preserved : goal.loop-line-preserved
 loop-line-preserved c =
     let k = c.args.plane in
     let n = c.loop-line.line in
-    painted_more (λ p j. p == k && nat_lt j n) (λ p j. p == k && j == n) (λ p j. p == k && nat_lt j (n + 1)) (bits_in c.args.cell.now.live c.args.place.now.bounds c.args.rect.now) c.args.planes.now c.loop-line.planes c.copy_line.new.planes
-    (λ p i j. bits_in_lt c.args.cell.now.live c.args.place.now.bounds c.args.rect.now p i j) c.loop-line.invariant c.copy_line.ensures (λ p j. one_row k n p j)
+    painted_more (λ p j. p == k && nat_lt j n) (λ p j. p == k && j == n) (λ p j. p == k && nat_lt j (n + 1)) (bits_in c.args.layer.now c.args.place.now.bounds c.args.rect.now) c.args.planes.now c.loop-line.planes c.copy_line.new.planes
+    (λ p i j. bits_in_lt c.args.layer.now c.args.place.now.bounds c.args.rect.now p i j) c.loop-line.invariant c.copy_line.ensures (λ p j. one_row k n p j)
 
 pub returns : goal.returns
 returns c =
     let k = c.args.plane in
-    painted_seen (λ p j. p == k && nat_lt j c.loop-line.line) (λ p j. p == k) (bits_in c.args.cell.now.live c.args.place.now.bounds c.args.rect.now) c.args.planes.now c.loop-line.planes c.loop-line.invariant
+    painted_seen (λ p j. p == k && nat_lt j c.loop-line.line) (λ p j. p == k) (bits_in c.args.layer.now c.args.place.now.bounds c.args.rect.now) c.args.planes.now c.loop-line.planes c.loop-line.invariant
     (λ p j deep low. all_rows k p j c.loop-line.line c.args.planes.now.height (omega arith) low)

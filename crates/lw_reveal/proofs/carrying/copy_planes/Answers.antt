@@ -18,10 +18,10 @@ copy_plane-requires-clause-room c = let size = painted_size _ _ _ c.loop-plane.p
 pub loop-plane-preserved : goal.loop-plane-preserved
 loop-plane-preserved c =
     let n = c.loop-plane.plane in
-    painted_more (λ p j. nat_lt p n) (λ p j. p == n) (λ p j. nat_lt p (n + 1)) (bits_in c.args.cell.now.live c.args.place.now.bounds c.args.rect.now) c.args.planes.now c.loop-plane.planes c.copy_plane.new.planes
-    (λ p i j. bits_in_lt c.args.cell.now.live c.args.place.now.bounds c.args.rect.now p i j) c.loop-plane.invariant c.copy_plane.ensures (λ p j. one_plane n p j)
+    painted_more (λ p j. nat_lt p n) (λ p j. p == n) (λ p j. nat_lt p (n + 1)) (bits_in c.args.layer.now c.args.place.now.bounds c.args.rect.now) c.args.planes.now c.loop-plane.planes c.copy_plane.new.planes
+    (λ p i j. bits_in_lt c.args.layer.now c.args.place.now.bounds c.args.rect.now p i j) c.loop-plane.invariant c.copy_plane.ensures (λ p j. one_plane n p j)
 
 pub returns : goal.returns
 returns c =
-    painted_seen (λ p j. nat_lt p c.loop-plane.plane) (λ p j. true) (bits_in c.args.cell.now.live c.args.place.now.bounds c.args.rect.now) c.args.planes.now c.loop-plane.planes c.loop-plane.invariant
+    painted_seen (λ p j. nat_lt p c.loop-plane.plane) (λ p j. true) (bits_in c.args.layer.now c.args.place.now.bounds c.args.rect.now) c.args.planes.now c.loop-plane.planes c.loop-plane.invariant
     (λ p j deep low. all_planes p c.loop-plane.plane c.args.planes.now.depth (omega arith) deep)

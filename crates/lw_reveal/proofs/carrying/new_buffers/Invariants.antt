@@ -7,5 +7,5 @@ use Rattle.lw_reveal.proofs.carrying.new_buffers.Given as goal
 abbrev pub invariant-loop-index : goal.invariant-loop-index
 invariant-loop-index l = record {
   many : length l.buffers.items ≡ l.index;
-  each : (i : ℕ) → i < l.index → slice_index_or l.given i false ≡ false → slice_index_or l.buffers.items i no_bitmap ≡ carried l.cell.live l.place.bounds (slice_index_or l.rects i l.place.bounds);
+  each : (i : ℕ) → i < l.index → slice_index_or l.given i false ≡ false → slice_index_or l.buffers.items i no_bitmap ≡ carried l.layer l.place.bounds (slice_index_or l.rects i l.place.bounds);
 }

@@ -13,11 +13,11 @@ all_buffers-requires-clause-room c =
     let parts : Division = c.in_ok-parts.parts in
     let bounds : Rectangle = c.args.bounds.now in
     let told : AreParts bounds parts.visible = parts_told parts bounds c.hidden.result.now (ap (λ (q : Division). q.bounds) c.in_ok-parts.ensures) c.hidden.ensures.value c.min_x.ensures.ordered c.visible-shown.ensures.canonical c.hidden.ensures.divided in
-    new_room c.args.cell.now.live.layer.kind bounds parts.visible c.in_ok-pairing.pairing.news.items c.args.cell.now.live.layer.bits.depth c.in_ok-pairing.ensures.news told c.requires.may.sizes
+    new_room c.args.layer.now.layer.kind bounds parts.visible c.in_ok-pairing.pairing.news.items c.args.layer.now.layer.bits.depth c.in_ok-pairing.ensures.news told c.requires.may.sizes
 
 pub returns-clause-change : goal.returns-clause-change
 returns-clause-change c =
-    let live = c.args.cell.now.live in
+    let live = c.args.layer.now in
     let bounds : Rectangle = c.args.bounds.now in
     let parts : Division = c.in_ok-parts.parts in
     let shown : parts.visible ≡ c.args.visible.now = ap (λ (q : Division). q.visible) c.in_ok-parts.ensures in

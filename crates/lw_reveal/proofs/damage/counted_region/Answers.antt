@@ -5,11 +5,11 @@ use Rattle.lw_reveal.proofs.damage.counted_region.Goals.{then-not-look-via-then-
 
 pub returns-then-not-look : goal.returns-then-not-look
 returns-then-not-look c =
-    let live = c.args.cell.now.live in
+    let live = c.args.layer.now in
     let bounds = c.args.bounds.now in
     let kept = c.in_ok-kept.kept in
-    let look = c.look_of-look.result in
-    let sees = c.look_of-look.ensures.look in
+    let look = c.look-look.result in
+    let sees = c.look-look.ensures.look in
     let former = c.inner_rectangle-former.result in
     let new = c.inner_rectangle-new.result in
     let read : IsFrame live bounds kept look.framed former new =

@@ -8,11 +8,11 @@ use Rattle.lw_reveal.proofs.damage.damage_after.Goals as goal
 
 pub returns : goal.returns
 returns c =
-    let layer = c.args.cell.now.live in
+    let layer = c.args.layer.now in
     let bounds = c.args.bounds.now in
     let visible = c.args.visible.now in
-    let look = c.look_of-look.result in
-    let sees = c.look_of-look.ensures.look in
+    let look = c.look-look.result in
+    let sees = c.look-look.ensures.look in
     let former = c.damage.result.now in
     let inner = c.inner_rectangle-inner.result in
     let read : IsRead layer visible former look.kind look.framed c.rects.result.now c.region.result.now look.updating = record {
@@ -24,7 +24,7 @@ returns c =
     } in
     IfOk-weaker c.of_region.result (λ d. IsDamageWith inner c.in_ok-due.due look.updating d) (λ d. IsDamageOf (carried_to bounds visible layer) d)
     (λ d made.
-    damage_gained layer bounds visible former d c.look_of-look.ensures.sound c.in_ok-kept.ensures.ordered c.requires.may.inside c.damage.ensures c.region.ensures.inside
+    damage_gained layer bounds visible former d c.look-look.ensures.sound c.in_ok-kept.ensures.ordered c.requires.may.inside c.damage.ensures c.region.ensures.inside
     (made_gained layer bounds visible former d look.kind look.framed c.rects.result.now c.region.result.now _ _ c.in_ok-due.due inner look.updating
     read c.in_ok-was.ensures c.in_ok-kept.ensures.kept c.in_ok-due.ensures c.inner_rectangle-inner.ensures made))
     c.of_region.ensures
