@@ -18,7 +18,7 @@ use Rattle.lw_calls.specs.declared.area.Area.{Area}
 use Rattle.lw_machine.specs.Kept.{holds_at}
 use Rattle.lw_machine.specs.Blits.{source_column, source_row, source_pen, clip_blit, blt_bitmap_rast_port}
 use Rattle.lw_machine.specs.Shapes.{box_at}
-use Rattle.lw_layer.specs.View.{LiveView, CellView, shows, keeps, draws, kept_pen, with_layer, with_live}
+use Rattle.lw_layer.specs.View.{LiveView, shows, keeps, draws, kept_pen, with_layer}
 use Rattle.lw_layer.specs.Copied.{bit_in, kept_bit}
 use Rattle.lw_layer.proofs.CopyingLaws.{bit_in_lt}
 use Rattle.lw_draw.specs.Drawn.{drawn, in_mask, in_rows}
@@ -26,7 +26,7 @@ use Rattle.lw_draw.specs.Combined.{combined_bit}
 use Rattle.lw_draw.specs.Stretches.{in_stretch}
 use Rattle.lw_draw.specs.declared.stretch.Stretch.{Stretch}
 use Rattle.lw_draw.proofs.DrawnLaws.{bits_same, bit_of_layer}
-use Rattle.lw_draw.proofs.PaintLaws.{cell_alike, cell_nowhere, shape_drawn}
+use Rattle.lw_draw.proofs.PaintLaws.{layer_alike, layer_nowhere, shape_drawn}
 use Rattle.lw_blit.specs.Blitting.{has_place, blended, blit_by, has_source, source_bit, from_layer, from_bits, masked, IsNear, LieInBitmap}
 use Rattle.lw_blit.specs.declared.transfers.Transfer.{Transfer}
 use Rattle.lw_blit.proofs.RunLaws.{pixel_of}
@@ -222,9 +222,9 @@ bits_inside a from end bit n is inside ordered = omega (arith, ints)
 no_columns : (has row drawable : Bool) (from end i : ℕ) → end ≤ from → (has && (row && (is_between from end i && drawable))) ≡ false
 no_columns has row drawable from end i none = grind (arith, nat_tests)
 
-pub nothing_reached : (v : CellView) (mask top bottom from end : ℕ) (new : ℕ → ℕ → ℕ → ℕ → ℕ) → IsBitmap v.live.layer.bits → end ≤ from → v ≡ with_live (λ c. drawn (masked mask c top bottom from end) new c) v
+pub nothing_reached : (v : LiveView) (mask top bottom from end : ℕ) (new : ℕ → ℕ → ℕ → ℕ → ℕ) → IsBitmap v.layer.bits → end ≤ from → v ≡ drawn (masked mask v top bottom from end) new v
 nothing_reached v mask top bottom from end new ok none =
-    cell_nowhere v (masked mask v.live top bottom from end) new ok (λ p i j. no_columns (bit_at mask p == 1) (is_between top bottom j) (draws v.live i j) from end i none)
+    layer_nowhere v (masked mask v top bottom from end) new ok (λ p i j. no_columns (bit_at mask p == 1) (is_between top bottom j) (draws v i j) from end i none)
 
 -- a plane that a bitmap lacks
 pub no_bits : (n x : ℕ) → x / 8 < n → row_bit (replicate n 0) x ≡ 0
@@ -241,9 +241,9 @@ column_on a from bit i is first = omega (arith, ints, is, first)
 column_inside : (a : Area) (from end bit i n : ℕ) → source_column a from ≡ pos bit → source_column a end ≤ℤ pos n → from ≤ i → i < end → bit + (i - from) < n
 column_inside a from end bit i n is inside first last = omega (arith, ints, is, inside, first, last)
 
-pub run_as_bitmap : (v w : CellView) (b : Bitmap) (a : Area) (k bit line : ℕ) (s : Stretch) (bits : List ℕ) → source_column a (s.x + s.run.len) ≤ℤ pos b.width → source_column a s.x ≡ pos bit → source_row a s.y ≡ pos line → ((x : ℕ) → x < b.width → row_bit bits x ≡ bit_at (pen_at b x line) k) → w ≡ with_live (λ c. drawn (λ p i j. p == k && in_stretch s i j) (combined_bit a.minterm bits (record { column = s.x; bit = bit })) c) v → w ≡ with_live (λ c. drawn (λ p i j. p == k && in_stretch s i j) (from_bits b a) c) v
+pub run_as_bitmap : (v w : LiveView) (b : Bitmap) (a : Area) (k bit line : ℕ) (s : Stretch) (bits : List ℕ) → source_column a (s.x + s.run.len) ≤ℤ pos b.width → source_column a s.x ≡ pos bit → source_row a s.y ≡ pos line → ((x : ℕ) → x < b.width → row_bit bits x ≡ bit_at (pen_at b x line) k) → w ≡ drawn (λ p i j. p == k && in_stretch s i j) (combined_bit a.minterm bits (record { column = s.x; bit = bit })) v → w ≡ drawn (λ p i j. p == k && in_stretch s i j) (from_bits b a) v
 run_as_bitmap v w b a k bit line s bits inside column row are is =
-    cell_alike v w (λ p i j. p == k && in_stretch s i j) (combined_bit a.minterm bits (record { column = s.x; bit = bit })) (from_bits b a) is
+    layer_alike v w (λ p i j. p == k && in_stretch s i j) (combined_bit a.minterm bits (record { column = s.x; bit = bit })) (from_bits b a) is
     (λ p i j old _ _ _ on _.
     let at = pixel_of k s p i j on in
     let value : ℕ → ℕ → ℕ → ℕ = λ d x z. minterm_bit a.minterm (bit_at (pen_at b x z) d) old in
@@ -257,12 +257,12 @@ unfolding kept_bit
 kept_small c p x y = bit_in_lt p (kept_pen c x y)
 
 -- A layer whose rows are shifted takes the bits of its own pixels.
-pub layer_shifted : (v w : CellView) (t : Transfer) (dx dy : ℤ) (on : LiveView → ℕ → ℕ → ℕ → Bool) → t.dx ≡ dx → t.dy ≡ dy → t.minterm ≡ 192 → t.clears ≡ true → w ≡ with_live (λ c. drawn (on c) (from_layer c t) c) v → w ≡ with_live (λ c. drawn (on c) (λ p i j old. kept_bit c p (pos i +ℤ dx) (pos j +ℤ dy)) c) v
+pub layer_shifted : (v w : LiveView) (t : Transfer) (dx dy : ℤ) (on : LiveView → ℕ → ℕ → ℕ → Bool) → t.dx ≡ dx → t.dy ≡ dy → t.minterm ≡ 192 → t.clears ≡ true → w ≡ drawn (on v) (from_layer v t) v → w ≡ drawn (on v) (λ p i j old. kept_bit v p (pos i +ℤ dx) (pos j +ℤ dy)) v
 unfolding from_layer
 layer_shifted v w t dx dy on across down copy clears is =
-    cell_alike v w (on v.live) (from_layer v.live t) (λ p i j old. kept_bit v.live p (pos i +ℤ dx) (pos j +ℤ dy)) is
+    layer_alike v w (on v) (from_layer v t) (λ p i j old. kept_bit v p (pos i +ℤ dx) (pos j +ℤ dy)) is
     (λ p i j old _ _ _ _ small.
-    ap (λ m. blended m (t.clears || has_source v.live t i j) (source_bit v.live t p i j) old) copy ∙
-    (ap (λ q. blended 192 (q || has_source v.live t i j) (source_bit v.live t p i j) old) clears ∙
-    (minterm_copies 192 (source_bit v.live t p i j) old (kept_small v.live p (pos i +ℤ t.dx) (pos j +ℤ t.dy)) refl ∙
-    (ap (λ z. kept_bit v.live p (pos i +ℤ z) (pos j +ℤ t.dy)) across ∙ ap (λ z. kept_bit v.live p (pos i +ℤ dx) (pos j +ℤ z)) down))))
+    ap (λ m. blended m (t.clears || has_source v t i j) (source_bit v t p i j) old) copy ∙
+    (ap (λ q. blended 192 (q || has_source v t i j) (source_bit v t p i j) old) clears ∙
+    (minterm_copies 192 (source_bit v t p i j) old (kept_small v p (pos i +ℤ t.dx) (pos j +ℤ t.dy)) refl ∙
+    (ap (λ z. kept_bit v p (pos i +ℤ z) (pos j +ℤ t.dy)) across ∙ ap (λ z. kept_bit v p (pos i +ℤ dx) (pos j +ℤ z)) down))))

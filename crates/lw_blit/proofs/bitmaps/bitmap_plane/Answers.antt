@@ -23,4 +23,4 @@ returns c =
     let s = c.args.stretch in
     let column : source_column c.args.area s.x ≡ pos c.source_index-bit.result = omega (arith, ints, c.source_index-bit.ensures.value) in
     let row : source_row c.args.area s.y ≡ pos c.source_index-line.result = omega (arith, ints, c.source_index-line.ensures.value) in
-    run_as_bitmap c.args.cell.now c.combine_run.new.cell c.args.bitmap.now c.args.area c.args.plane c.source_index-bit.result c.source_index-line.result s c.row_of-bits.result.now c.requires.inside.right column row c.row_of-bits.ensures.bits c.combine_run.ensures
+    run_as_bitmap c.args.layer.now c.combine_run.new.layer c.args.bitmap.now c.args.area c.args.plane c.source_index-bit.result c.source_index-line.result s c.row_of-bits.result.now c.requires.inside.right column row c.row_of-bits.ensures.bits c.combine_run.ensures
