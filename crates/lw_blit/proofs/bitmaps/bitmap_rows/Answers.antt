@@ -1,4 +1,4 @@
-use Rattle.std.proofs.Common.{◌∙◌, ap, arith}
+use Rattle.std.proofs.Common.{arith}
 use Rattle.lw_blit.specs.Blitting.{from_bits}
 use Rattle.lw_blit.proofs.LoopLaws.{bitmap_gives_bits, no_rows, row_below}
 use Rattle.lw_blit.proofs.ShapeLaws.{row_lies}

@@ -1,4 +1,4 @@
-use Rattle.std.proofs.Common.{◌∙◌, ap, arith}
+use Rattle.std.proofs.Common.{arith}
 use Rattle.lw_blit.specs.Blitting.{from_layer}
 use Rattle.lw_blit.proofs.LoopLaws.{layer_gives_bits, no_rows, row_below, row_as_before, source_below}
 use Rattle.lw_blit.proofs.within_layer.rows_down.Goals as goal
