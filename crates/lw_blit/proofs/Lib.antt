@@ -4,3 +4,4 @@ pub mod PlaceLaws
 pub mod RunLaws
 pub mod ShapeLaws
 pub mod SourceLaws
+pub mod MoveLaws

@@ -95,7 +95,7 @@ kept_row c (pos x) (negsuc y) is = absurd (cc is)
 kept_row c (negsuc x) y is = absurd (cc is)
 
 -- and its bit is that of its pen
-kept_pen_bit : (c : LiveView) (p : ℕ) (x y : ℤ) → holds_at (λ i j. keeps c i j) x y ≡ true → kept_bit c p x y ≡ bit_at (pen_at c.layer.bits (unsigned_abs x) (unsigned_abs y)) p
+pub kept_pen_bit : (c : LiveView) (p : ℕ) (x y : ℤ) → holds_at (λ i j. keeps c i j) x y ≡ true → kept_bit c p x y ≡ bit_at (pen_at c.layer.bits (unsigned_abs x) (unsigned_abs y)) p
 unfolding kept_bit
 kept_pen_bit c p (pos x) (pos y) is = ap (λ t. bit_in p (if t then Some (pen_at c.layer.bits x y) else None)) is
 kept_pen_bit c p (pos x) (negsuc y) is = absurd (cc is)

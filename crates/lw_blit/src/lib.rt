@@ -4,6 +4,7 @@
 
 mod between_layers;
 mod bitmaps;
+mod moving;
 mod painting;
 mod places;
 mod sources;

@@ -9,6 +9,7 @@ ghost use Rattle.lw_layer.specs.Copied.{kept_bit};
 ghost use Rattle.lw_draw.specs.Drawn.{drawn, in_rows};
 ghost use Rattle.lw_blit.specs.Blitting.{from_layer, masked, AreNear};
 
+use crate::moving::{move_of, move_planes};
 use crate::painting::paint_row;
 use crate::places::{columns_of, rows_of};
 use crate::sources::{SourceRows, no_sources, read_sources};
@@ -28,9 +29,7 @@ pub fn within(layer: &mut Layer, area: &Area)
     let columns = columns_of(area, layer.width(), layer.width());
     let rows = rows_of(area, layer.height(), layer.height());
     let mask = layer.raster().mask;
-    if columns.from < columns.end {
-        transfer_rows(layer, rows, columns, transfer_of(area), mask);
-    }
+    transfer_rows(layer, rows, columns, transfer_of(area), mask);
 }
 
 /// Gives the drawable pixels of some rows and columns of a layer, in the planes that the mask has, the bits of the layer's own
@@ -55,14 +54,17 @@ pub fn shift_rows(layer: &mut Layer, rows: Places, columns: Places, dx: i32, dy:
     transfer_rows(layer, rows, columns, transfer, mask);
 }
 
-// Transfers some rows, in an order in which none is read after it was written.
+// Transfers some rows: as a move of a whole block if that is what it is, else in an order in which no row is read after it was
+// written.
 fn transfer_rows(layer: &mut Layer, rows: Places, columns: Places, transfer: Transfer, mask: u8)
     requires bottom { rows.end ≤ 2048 }
     requires right { columns.end ≤ 2048 }
     requires near { AreNear transfer }
     ensures { layer.new ≡ drawn (masked mask layer.old rows.from rows.end columns.from columns.end) (from_layer layer.old transfer) layer.old }
 {
-    if transfer.dy >= 0 {
+    if let Some(blocks) = move_of(layer, rows, columns, transfer) {
+        move_planes(layer, blocks, transfer, mask);
+    } else if transfer.dy >= 0 {
         rows_down(layer, rows, columns, transfer, mask);
     } else {
         rows_up(layer, rows, columns, transfer, mask);

@@ -1,5 +1,6 @@
 use Rattle.std.proofs.Common.{◌∙◌, sym, arith}
 use Rattle.lw_draw.proofs.PaintLaws.{depth_stays, run_stays}
+use Rattle.lw_draw.specs.Stretches.{in_stretch}
 use Rattle.lw_blit.specs.Blitting.{from_bits, planes_before}
 use Rattle.lw_blit.proofs.RunLaws.{no_planes, plane_painted, plane_left, planes_done}
 use Rattle.lw_blit.proofs.LoopLaws.{bitmap_gives_bits}
@@ -7,17 +8,17 @@ use Rattle.lw_blit.proofs.bitmaps.bitmap_run.Goals as goal
 use Rattle.lw_blit.proofs.bitmaps.bitmap_run.Goals.{then-has_bit, else-has_bit}
 
 pub loop-plane-init : goal.loop-plane-init
-loop-plane-init c = no_planes c.args.layer.now c.args.mask c.args.stretch (from_bits c.args.bitmap.now c.args.area) c.depth-plane-end.ensures.bits.bitmap
+loop-plane-init c = no_planes c.args.layer.now c.args.mask (in_stretch c.args.stretch) (from_bits c.args.bitmap.now c.args.area) c.depth-plane-end.ensures.bits.bitmap
 
 pub bitmap_plane-requires-clause-plane : goal.bitmap_plane-requires-clause-plane
 bitmap_plane-requires-clause-plane c =
-    let same = depth_stays c.args.layer.now c.loop-plane.layer (planes_before c.args.mask c.loop-plane.plane c.args.stretch) (from_bits c.args.bitmap.now c.args.area) c.loop-plane.invariant in
+    let same = depth_stays c.args.layer.now c.loop-plane.layer (planes_before c.args.mask c.loop-plane.plane (in_stretch c.args.stretch)) (from_bits c.args.bitmap.now c.args.area) c.loop-plane.invariant in
     omega (arith, same, c.depth-plane-end.ensures.value)
 
 pub bitmap_plane-requires-clause-run : goal.bitmap_plane-requires-clause-run
 bitmap_plane-requires-clause-run c =
     let s = c.args.stretch in
-    run_stays c.args.layer.now c.loop-plane.layer (planes_before c.args.mask c.loop-plane.plane s) (from_bits c.args.bitmap.now c.args.area) s.x s.y s.run c.loop-plane.invariant c.requires.run
+    run_stays c.args.layer.now c.loop-plane.layer (planes_before c.args.mask c.loop-plane.plane (in_stretch s)) (from_bits c.args.bitmap.now c.args.area) s.x s.y s.run c.loop-plane.invariant c.requires.run
 
 pub loop-plane-preserved : goal.loop-plane-preserved
 loop-plane-preserved c =
@@ -26,10 +27,10 @@ loop-plane-preserved c =
     let s = c.args.stretch in
     let new = from_bits c.args.bitmap.now c.args.area in
     elim c.if-has_bit.branch [
-      | then-has_bit w ↦ w.layer-is ∙ plane_painted v c.loop-plane.layer w.bitmap_plane.new.layer c.args.mask k s new (bitmap_gives_bits c.args.bitmap.now c.args.area) (sym c.has_bit.ensures ∙ w.if-has_bit.true) c.loop-plane.invariant w.bitmap_plane.ensures
-      | else-has_bit w ↦ w.layer-is ∙ plane_left v c.loop-plane.layer c.args.mask k s new (sym c.has_bit.ensures ∙ w.if-has_bit.false) c.loop-plane.invariant
+      | then-has_bit w ↦ w.layer-is ∙ plane_painted v c.loop-plane.layer w.bitmap_plane.new.layer c.args.mask k (in_stretch s) new (bitmap_gives_bits c.args.bitmap.now c.args.area) (sym c.has_bit.ensures ∙ w.if-has_bit.true) c.loop-plane.invariant w.bitmap_plane.ensures
+      | else-has_bit w ↦ w.layer-is ∙ plane_left v c.loop-plane.layer c.args.mask k (in_stretch s) new (sym c.has_bit.ensures ∙ w.if-has_bit.false) c.loop-plane.invariant
     ]
 
 pub returns : goal.returns
 returns c =
-    planes_done c.args.layer.now c.loop-plane.layer c.args.mask c.loop-plane.plane c.args.stretch (from_bits c.args.bitmap.now c.args.area) (omega (arith, c.depth-plane-end.ensures.value)) c.loop-plane.invariant
+    planes_done c.args.layer.now c.loop-plane.layer c.args.mask c.loop-plane.plane (in_stretch c.args.stretch) (from_bits c.args.bitmap.now c.args.area) (omega (arith, c.depth-plane-end.ensures.value)) c.loop-plane.invariant
