@@ -1,3 +1,4 @@
+pub mod BitmapLaws
 pub mod LoopLaws
 pub mod PaintingLaws
 pub mod PlaceLaws

@@ -1,5 +1,5 @@
 -- Laws of moves of whole blocks.
-use Rattle.std.proofs.Common.{◌≡◌, ℕ, ◌+◌, ◌-◌, ◌*◌, ◌==◌, ◌<◌, ◌≤◌, min, max, nat_le, nat_lt, Bool, true, false, ◌&&◌, ◌||◌, if◌then◌else◌, List, length, ◌∙◌, sym, refl, ap, subst, arith, ℤ, pos, ◌+ℤ◌}
+use Rattle.std.proofs.Common.{◌≡◌, ℕ, ◌+◌, ◌-◌, ◌*◌, ◌==◌, ◌<◌, ◌≤◌, min, max, nat_le, nat_lt, Bool, true, false, ◌&&◌, ◌||◌, if◌then◌else◌, List, length, ◌∙◌, sym, refl, ap, subst, arith, pos}
 use Rattle.std.specs.Int.{bit_at}
 use Rattle.std.proofs.lemmas.Bool.{and_from}
 use Rattle.std.proofs.lemmas.Bool.Decides.{nat_tests}
@@ -11,7 +11,7 @@ use Rattle.lw_planes.specs.Minterm.{minterm_bit}
 use Rattle.lw_planes.proofs.BitmapLaws.{row_bytes_wide}
 use Rattle.lw_kernels.specs.Kernel.{is_between, is_named, place_in}
 use Rattle.lw_machine.specs.Desk.{is_the}
-use Rattle.lw_machine.specs.Kept.{holds_at, is_drawable, is_kept}
+use Rattle.lw_machine.specs.Kept.{holds_at, is_kept}
 use Rattle.lw_layer.specs.View.{LiveView, keeps, draws}
 use Rattle.lw_layer.specs.Pieces.{Layout, layout_of, buffered, buffer_rectangle, buffer_at, column_in, line_in, in_line, HaveLines, in_lines, HaveLinesBits, with_bytes}
 use Rattle.lw_layer.specs.Copied.{kept_bit}

@@ -112,9 +112,6 @@ pub record AreNear (t : Transfer) : Type 0 where
   pub dy_low : negsuc 131071 ≤ℤ t.dy
   pub dy_high : t.dy ≤ℤ pos 131071
 
--- what goes to some rows and columns lies in a bitmap
-pub record LieInBitmap (b : Bitmap) (a : Area) (top bottom from end : ℕ) : Type 0 where
-  pub left : pos 0 ≤ℤ source_column a from
-  pub right : source_column a end ≤ℤ pos b.width
-  pub upper : top < bottom → pos 0 ≤ℤ source_row a top
-  pub lower : top < bottom → source_row a bottom ≤ℤ pos b.height
+-- a bitmap has the source of a pixel
+abbrev pub is_source : Bitmap → Area → ℕ → ℕ → Bool
+is_source b a x y = has_place b.width (source_column a x) && has_place b.height (source_row a y)

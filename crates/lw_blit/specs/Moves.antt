@@ -1,6 +1,6 @@
 -- For private contracts.
 -- Moves of whole blocks within a layer.
-use Rattle.std.specs.Prelude.{◌≡◌, ℕ, ◌<◌, ℤ, pos, ◌+ℤ◌}
+use Rattle.std.specs.Prelude.{◌≡◌, ◌<◌, ℤ, pos, ◌+ℤ◌}
 use Rattle.lw_layer.specs.View.{LiveView, keeps, draws}
 use Rattle.lw_draw.specs.Blocks.{IsBlock, IsAllOf}
 use Rattle.lw_draw.specs.declared.spans.Places.{Places}
