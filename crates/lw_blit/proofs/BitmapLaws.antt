@@ -103,14 +103,14 @@ pub lines_inside : (a : Area) (y rows line n : ℕ) → source_row a y ≡ pos l
 lines_inside a y rows line n is inside = omega (arith, ints, is, inside)
 
 -- what is told of a pixel of a block in one plane
-record IsAt (k : ℕ) (s : Block) (p i j : ℕ) : Type 0 where
-  deep : p ≡ k
-  first : s.x ≤ i
-  last : i < s.x + s.run.len
-  top : s.y ≤ j
-  bottom : j < s.y + s.rows
+pub record IsAt (k : ℕ) (s : Block) (p i j : ℕ) : Type 0 where
+  pub deep : p ≡ k
+  pub first : s.x ≤ i
+  pub last : i < s.x + s.run.len
+  pub top : s.y ≤ j
+  pub bottom : j < s.y + s.rows
 
-pixel_of : (k : ℕ) (s : Block) (p i j : ℕ) → (p == k && in_block s i j) ≡ true → IsAt k s p i j
+pub pixel_of : (k : ℕ) (s : Block) (p i j : ℕ) → (p == k && in_block s i j) ≡ true → IsAt k s p i j
 pixel_of k s p i j on = record { deep = grind (arith, nat_tests); first = grind (arith, nat_tests); last = grind (arith, nat_tests); top = grind (arith, nat_tests); bottom = grind (arith, nat_tests) }
 
 -- A plane of a block that is painted with rows of a bitmap is painted with the bitmap.

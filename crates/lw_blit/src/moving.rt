@@ -1,7 +1,7 @@
 // Moves of whole blocks within a layer: the targets are one block of drawable pixels, and their sources are one of kept pixels, with
 // their pens in the same buffer.
 
-ghost use Rattle.std.specs.Prelude.{◌≡◌, ◌==◌, ◌<◌, ◌≤◌, ◌&&◌, pos, negsuc, ◌≤ℤ◌, IfSome};
+ghost use Rattle.std.specs.Prelude.{◌≡◌, ◌==◌, ◌≤◌, ◌&&◌, pos, negsuc, ◌≤ℤ◌, IfSome};
 ghost use Rattle.std.specs.Int.{bit_at};
 ghost use Rattle.lw_draw.specs.Drawn.{drawn};
 ghost use Rattle.lw_draw.specs.Blocks.{in_block};
@@ -10,8 +10,7 @@ ghost use Rattle.lw_blit.specs.Moves.{AreMoved, IsMove, IsMoveOf};
 
 use crate::places::source_place;
 use crate::transfers::Transfer;
-use lw_draw::{Block, Places, has_bit, whole_block, whole_kept_block};
-use lw_kernels::{Corner, combine_rows_within};
+use lw_draw::{Block, Places, has_bit, move_block, whole_block, whole_kept_block};
 use lw_layer::Layer;
 
 // Blocks of pixels of which one takes the bits of the other.
@@ -79,37 +78,7 @@ pub(crate) fn move_planes(layer: &mut Layer, blocks: Move, transfer: Transfer, m
 {
     for plane in 0..layer.depth() {
         if has_bit(mask, plane) {
-            move_plane(layer, plane, blocks, transfer);
+            move_block(layer, plane, blocks.to, blocks.source, transfer.minterm);
         }
     }
-}
-
-// Moves one plane of a block. Both blocks are in the lines that are lent.
-fn move_plane(layer: &mut Layer, plane: u32, blocks: Move, transfer: Transfer)
-    requires plane { plane < layer.old.layer.bits.depth }
-    requires blocks { IsMove layer.old transfer blocks }
-    ensures { layer.new ≡ drawn (λ p i j. p == plane && in_block blocks.to i j) (from_layer layer.old transfer) layer.old }
-{
-    let to = blocks.to.run;
-    let source = blocks.source.run;
-    let rows = blocks.to.rows;
-    let step = layer.step(to.buffer);
-    let top = to.line.min(source.line);
-    let bottom = to.line.max(source.line) + rows;
-    let bytes = layer.lines_mut(plane, to.buffer, top, bottom - top);
-    combine_rows_within(
-        bytes,
-        step,
-        Corner {
-            row: to.line - top,
-            bit: to.bit,
-        },
-        Corner {
-            row: source.line - top,
-            bit: source.bit,
-        },
-        rows,
-        to.len,
-        transfer.minterm,
-    );
 }
