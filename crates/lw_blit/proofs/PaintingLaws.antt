@@ -8,7 +8,7 @@ use Rattle.lw_planes.specs.Minterm.{minterm_bit}
 use Rattle.lw_planes.proofs.RowLaws.{row_bit_lt}
 use Rattle.lw_planes.proofs.ChosenLaws.{minterm_bit_lt}
 use Rattle.lw_kernels.specs.Kernel.{is_named}
-use Rattle.lw_layer.specs.View.{LiveView, CellView, with_live}
+use Rattle.lw_layer.specs.View.{LiveView}
 use Rattle.lw_draw.specs.Drawn.{drawn, GivesBits}
 use Rattle.lw_draw.specs.Combined.{combined_bit}
 use Rattle.lw_draw.specs.Stretches.{in_stretch}
@@ -16,7 +16,7 @@ use Rattle.lw_draw.specs.declared.combining.Origin.{Origin}
 use Rattle.lw_draw.specs.declared.stretch.Stretch.{Stretch}
 use Rattle.lw_draw.proofs.CombineLaws.{combined_gives_bits}
 use Rattle.lw_draw.proofs.DrawnLaws.{bits_same, bit_of_layer, bit_drawn}
-use Rattle.lw_draw.proofs.PaintLaws.{cell_alike}
+use Rattle.lw_draw.proofs.PaintLaws.{layer_alike}
 use Rattle.lw_blit.specs.Blitting.{blended, from_rows, plane_of, takes}
 use Rattle.lw_blit.specs.declared.sources.SourceRows.{SourceRows}
 use Rattle.lw_blit.proofs.RunLaws.{pixel_of}
@@ -60,9 +60,9 @@ full_value : (m : ℕ) (all rest : Bool) (b old : ℕ) → all ≡ true → mint
 full_value m true rest b old is = refl
 full_value m false rest b old is = absurd (cc is)
 
-pub plane_full : (v w : CellView) (k m first : ℕ) (s : Stretch) (r : SourceRows) → r.all ≡ true → w ≡ with_live (λ c. drawn (λ p i j. p == k && in_stretch s i j) (combined_bit m (plane_of r k) (record { column = first; bit = 0 })) c) v → w ≡ with_live (λ c. drawn (λ p i j. p == k && in_stretch s i j) (from_rows m r first) c) v
+pub plane_full : (v w : LiveView) (k m first : ℕ) (s : Stretch) (r : SourceRows) → r.all ≡ true → w ≡ drawn (λ p i j. p == k && in_stretch s i j) (combined_bit m (plane_of r k) (record { column = first; bit = 0 })) v → w ≡ drawn (λ p i j. p == k && in_stretch s i j) (from_rows m r first) v
 plane_full v w k m first s r all is =
-    cell_alike v w (λ p i j. p == k && in_stretch s i j) (combined_bit m (plane_of r k) (record { column = first; bit = 0 })) (from_rows m r first) is
+    layer_alike v w (λ p i j. p == k && in_stretch s i j) (combined_bit m (plane_of r k) (record { column = first; bit = 0 })) (from_rows m r first) is
     (λ p i j old _ _ _ on _.
     let at = pixel_of k s p i j on in
     let none : 0 + (i - first) ≡ i - first = omega arith in
@@ -91,14 +91,14 @@ some_value : (m : ℕ) (all rest : Bool) (b old : ℕ) → all ≡ false → ble
 some_value m true rest b old is = absurd (cc is)
 some_value m false rest b old is = refl
 
-pub plane_in_parts : (v w u : CellView) (k m set clear first place : ℕ) (s : Stretch) (r : SourceRows) (unset : List ℕ) → AreParts m set clear → r.all ≡ false → first ≤ s.x → place ≡ s.x - first → ((n : ℕ) → row_bit unset n ≡ (if is_named place s.run.len n then minterm_bit 32 (row_bit (plane_of r k) (place + (n - place))) (row_bit r.kept n) else row_bit r.kept n)) → w ≡ with_live (λ c. drawn (λ p i j. p == k && in_stretch s i j) (combined_bit set (plane_of r k) (record { column = first; bit = 0 })) c) v → u ≡ with_live (λ c. drawn (λ p i j. p == k && in_stretch s i j) (combined_bit clear unset (record { column = first; bit = 0 })) c) w → u ≡ with_live (λ c. drawn (λ p i j. p == k && in_stretch s i j) (from_rows m r first) c) v
+pub plane_in_parts : (v w u : LiveView) (k m set clear first place : ℕ) (s : Stretch) (r : SourceRows) (unset : List ℕ) → AreParts m set clear → r.all ≡ false → first ≤ s.x → place ≡ s.x - first → ((n : ℕ) → row_bit unset n ≡ (if is_named place s.run.len n then minterm_bit 32 (row_bit (plane_of r k) (place + (n - place))) (row_bit r.kept n) else row_bit r.kept n)) → w ≡ drawn (λ p i j. p == k && in_stretch s i j) (combined_bit set (plane_of r k) (record { column = first; bit = 0 })) v → u ≡ drawn (λ p i j. p == k && in_stretch s i j) (combined_bit clear unset (record { column = first; bit = 0 })) w → u ≡ drawn (λ p i j. p == k && in_stretch s i j) (from_rows m r first) v
 plane_in_parts v w u k m set clear first place s r unset are some starts along left was is =
     let o : Origin = record { column = first; bit = 0 } in
     let f = combined_bit set (plane_of r k) o in
     let g = combined_bit clear unset o in
     let on : ℕ → ℕ → ℕ → Bool = λ p i j. p == k && in_stretch s i j in
-    cell_alike v u on (λ p x y old. g p x y (f p x y old)) (from_rows m r first)
-    (is ∙ (ap (with_live (λ c. drawn on g c)) was ∙ ap (λ q. record v { live = q }) (drawn_again v.live on f g (combined_gives_bits set (plane_of r k) o))))
+    layer_alike v u on (λ p x y old. g p x y (f p x y old)) (from_rows m r first)
+    (is ∙ (ap (drawn on g) was ∙ (drawn_again v on f g (combined_gives_bits set (plane_of r k) o))))
     (λ p i j old _ _ _ inside small.
     let at = pixel_of k s p i j inside in
     let from : s.x ≤ i = at.first in

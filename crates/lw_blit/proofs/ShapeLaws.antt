@@ -1,14 +1,11 @@
 -- Laws of blits as wholes: what is drawn in the rows and columns that they reach is the blit.
-use Rattle.std.proofs.Common.{◌≡◌, ℕ, ◌+◌, ◌-◌, ◌/◌, ◌%◌, ◌==◌, ◌<◌, ◌≤◌, nat_lt, Bool, true, false, ◌&&◌, ◌||◌, if◌then◌else◌, List, replicate, Some, None, ◌∙◌, sym, refl, ap, subst, arith, ℤ, pos, negsuc, ◌+ℤ◌, ◌-ℤ◌, ◌≤ℤ◌, unsigned_abs, IsTrue}
+use Rattle.std.proofs.Common.{◌≡◌, ℕ, ◌==◌, ◌<◌, ◌≤◌, nat_lt, Bool, true, false, ◌&&◌, ◌||◌, if◌then◌else◌, Some, None, ◌∙◌, sym, refl, ap, arith, ℤ, pos, negsuc, ◌+ℤ◌, ◌-ℤ◌, ◌≤ℤ◌, unsigned_abs, IsTrue}
 use Rattle.std.specs.Int.{bit_at}
 use Rattle.std.proofs.lemmas.Bool.{and_parts}
 use Rattle.std.proofs.lemmas.Bool.Decides.{nat_tests}
 use Rattle.std.proofs.lemmas.Int.{ints}
-use Rattle.std.proofs.lemmas.List.{get_or-replicate}
-use Rattle.std.proofs.lemmas.Nat.Bits.{bit_at-zero, bit_at_above}
 use Rattle.lw_region.specs.Rectangle.{within, has_pixel}
 use Rattle.lw_region.proofs.Within.{within_low, within_high}
-use Rattle.lw_planes.specs.Row.{row_bit}
 use Rattle.lw_planes.specs.Bitmap.{Bitmap, IsBitmap, pen_at}
 use Rattle.lw_planes.specs.Minterm.{minterm_bit}
 use Rattle.lw_kernels.specs.Kernel.{is_between}
@@ -18,18 +15,14 @@ use Rattle.lw_calls.specs.declared.area.Area.{Area}
 use Rattle.lw_machine.specs.Kept.{holds_at}
 use Rattle.lw_machine.specs.Blits.{source_column, source_row, source_pen, clip_blit, blt_bitmap_rast_port}
 use Rattle.lw_machine.specs.Shapes.{box_at}
-use Rattle.lw_layer.specs.View.{LiveView, CellView, shows, keeps, draws, kept_pen, with_layer, with_live}
+use Rattle.lw_layer.specs.View.{LiveView, shows, keeps, draws, kept_pen, with_layer}
 use Rattle.lw_layer.specs.Copied.{bit_in, kept_bit}
 use Rattle.lw_layer.proofs.CopyingLaws.{bit_in_lt}
 use Rattle.lw_draw.specs.Drawn.{drawn, in_mask, in_rows}
-use Rattle.lw_draw.specs.Combined.{combined_bit}
-use Rattle.lw_draw.specs.Stretches.{in_stretch}
-use Rattle.lw_draw.specs.declared.stretch.Stretch.{Stretch}
 use Rattle.lw_draw.proofs.DrawnLaws.{bits_same, bit_of_layer}
-use Rattle.lw_draw.proofs.PaintLaws.{cell_alike, cell_nowhere, shape_drawn}
-use Rattle.lw_blit.specs.Blitting.{has_place, blended, blit_by, has_source, source_bit, from_layer, from_bits, masked, IsNear, LieInBitmap}
+use Rattle.lw_draw.proofs.PaintLaws.{layer_alike, layer_nowhere, shape_drawn}
+use Rattle.lw_blit.specs.Blitting.{has_place, blended, blit_by, has_source, source_bit, from_layer, from_bits, masked, IsNear}
 use Rattle.lw_blit.specs.declared.transfers.Transfer.{Transfer}
-use Rattle.lw_blit.proofs.RunLaws.{pixel_of}
 use Rattle.lw_blit.proofs.SourceLaws.{kept_place}
 
 coordinate_low : (z : ℤ) → is_coordinate z ≡ true → negsuc 65535 ≤ℤ z
@@ -95,7 +88,7 @@ kept_row c (pos x) (negsuc y) is = absurd (cc is)
 kept_row c (negsuc x) y is = absurd (cc is)
 
 -- and its bit is that of its pen
-kept_pen_bit : (c : LiveView) (p : ℕ) (x y : ℤ) → holds_at (λ i j. keeps c i j) x y ≡ true → kept_bit c p x y ≡ bit_at (pen_at c.layer.bits (unsigned_abs x) (unsigned_abs y)) p
+pub kept_pen_bit : (c : LiveView) (p : ℕ) (x y : ℤ) → holds_at (λ i j. keeps c i j) x y ≡ true → kept_bit c p x y ≡ bit_at (pen_at c.layer.bits (unsigned_abs x) (unsigned_abs y)) p
 unfolding kept_bit
 kept_pen_bit c p (pos x) (pos y) is = ap (λ t. bit_in p (if t then Some (pen_at c.layer.bits x y) else None)) is
 kept_pen_bit c p (pos x) (negsuc y) is = absurd (cc is)
@@ -158,111 +151,25 @@ bitmap_blitted c b a mask top bottom from end ok same are =
     ap (λ t. draws c x y && (has_pixel (box_at a.x a.y a.w a.h) (pos x) (pos y) && t)) (bitmap_has b (source_column a x) (source_row a y)) ∙
     all_turned (draws c x y) (within a.x (pos x) ((a.x +ℤ a.w) -ℤ pos 1)) (within a.y (pos y) ((a.y +ℤ a.h) -ℤ pos 1)) (has_place b.width (source_column a x)) (has_place b.height (source_row a y)) (is_between from end x) (is_between top bottom y) (are.columns x left) (are.rows y low))
 
--- the sources of the first and of the last place that are reached
-place_first : (t : Bool) (n from end : ℕ) (z : ℤ) → (t && has_place n z) ≡ is_between from end from → from < end → pos 0 ≤ℤ z
-place_first t n from end z is some = grind (arith, ints, nat_tests)
-
-place_last : (t : Bool) (n from end last : ℕ) (z : ℤ) → (t && has_place n z) ≡ is_between from end last → end ≡ last + 1 → from < end → (z +ℤ pos 1) ≤ℤ pos n
-place_last t n from end last z is after some = grind (arith, ints, nat_tests)
-
-next_column : (a : Area) (last end n : ℕ) → end ≡ last + 1 → (source_column a last +ℤ pos 1) ≤ℤ pos n → source_column a end ≤ℤ pos n
-next_column a last end n after is = omega (arith, ints, after, is)
-
-next_row : (a : Area) (last end n : ℕ) → end ≡ last + 1 → (source_row a last +ℤ pos 1) ≤ℤ pos n → source_row a end ≤ℤ pos n
-next_row a last end n after is = omega (arith, ints, after, is)
-
--- What goes to the rows and columns that are reached lies in the bitmap.
-pub reached_lie : (b : Bitmap) (a : Area) (width height top bottom from end : ℕ) → AreReached a b.width b.height width height top bottom from end → end ≤ width → bottom ≤ height → from < end → LieInBitmap b a top bottom from end
-reached_lie b a width height top bottom from end are wide high some = record {
-  left = place_first _ b.width from end (source_column a from) (are.columns from (omega (arith, some, wide))) some;
-  right =
-      let after : end ≡ (end - 1) + 1 = omega (arith, some) in
-      next_column a (end - 1) end b.width after (place_last _ b.width from end (end - 1) (source_column a (end - 1)) (are.columns (end - 1) (omega (arith, some, wide))) after some);
-  upper = λ any. place_first _ b.height top bottom (source_row a top) (are.rows top (omega (arith, any, high))) any;
-  lower =
-      λ any.
-      let after : bottom ≡ (bottom - 1) + 1 = omega (arith, any) in
-      next_row a (bottom - 1) bottom b.height after (place_last _ b.height top bottom (bottom - 1) (source_row a (bottom - 1)) (are.rows (bottom - 1) (omega (arith, any, high))) after any);
-}
-
--- and so does each row of them
-pub row_lies : (b : Bitmap) (a : Area) (top bottom from end y : ℕ) → LieInBitmap b a top bottom from end → top ≤ y → y < bottom → LieInBitmap b a y (y + 1) from end
-row_lies b a top bottom from end y are low high =
-    let any : top < bottom = omega (arith, low, high) in
-    let upper = are.upper any in
-    let lower = are.lower any in
-    record {
-      left = are.left;
-      right = are.right;
-      upper = λ some. omega (arith, ints);
-      lower = λ some. omega (arith, ints);
-    }
-
--- and each run of such a row
-pub run_lies : (b : Bitmap) (a : Area) (from end y : ℕ) (s : Stretch) → LieInBitmap b a y (y + 1) from end → s.y ≡ y → from ≤ s.x → s.x + s.run.len ≤ end → LieInBitmap b a s.y (s.y + 1) s.x (s.x + s.run.len)
-run_lies b a from end y s are row first last =
-    let P : ℕ → Type 0 = λ j. LieInBitmap b a j (j + 1) s.x (s.x + s.run.len) in
-    let left = are.left in
-    let right = are.right in
-    subst P (sym row) (record {
-      left = omega (arith, ints, left, first);
-      right = omega (arith, ints, right, last);
-      upper = are.upper;
-      lower = are.lower;
-    })
-
--- and each of its bits in the row's
-pub line_inside : (a : Area) (y n line : ℕ) → pos line ≡ source_row a y → source_row a (y + 1) ≤ℤ pos n → line < n
-line_inside a y n line is low = omega (arith, ints)
-
-pub bits_inside : (a : Area) (from end bit n : ℕ) → pos bit ≡ source_column a from → source_column a end ≤ℤ pos n → from ≤ end → bit + (end - from) ≤ n
-bits_inside a from end bit n is inside ordered = omega (arith, ints)
-
 -- no columns
 no_columns : (has row drawable : Bool) (from end i : ℕ) → end ≤ from → (has && (row && (is_between from end i && drawable))) ≡ false
 no_columns has row drawable from end i none = grind (arith, nat_tests)
 
-pub nothing_reached : (v : CellView) (mask top bottom from end : ℕ) (new : ℕ → ℕ → ℕ → ℕ → ℕ) → IsBitmap v.live.layer.bits → end ≤ from → v ≡ with_live (λ c. drawn (masked mask c top bottom from end) new c) v
+pub nothing_reached : (v : LiveView) (mask top bottom from end : ℕ) (new : ℕ → ℕ → ℕ → ℕ → ℕ) → IsBitmap v.layer.bits → end ≤ from → v ≡ drawn (masked mask v top bottom from end) new v
 nothing_reached v mask top bottom from end new ok none =
-    cell_nowhere v (masked mask v.live top bottom from end) new ok (λ p i j. no_columns (bit_at mask p == 1) (is_between top bottom j) (draws v.live i j) from end i none)
-
--- a plane that a bitmap lacks
-pub no_bits : (n x : ℕ) → x / 8 < n → row_bit (replicate n 0) x ≡ 0
-unfolding row_bit
-no_bits n x low = ap (λ b. bit_at b (7 - x % 8)) (get_or-replicate n (x / 8) 0 0 low) ∙ bit_at-zero (7 - x % 8)
-
-pub lacked_bit : (b : Bitmap) (x y plane : ℕ) → IsBitmap b → x < b.width → y < b.height → b.depth ≤ plane → bit_at (pen_at b x y) plane ≡ 0
-lacked_bit b x y plane ok left low past = bit_at_above (pen_at b x y) b.depth plane (ok.pens x y left low) past
-
--- A plane of a run that is painted with a row of a bitmap is painted with the bitmap.
-column_on : (a : Area) (from bit i : ℕ) → source_column a from ≡ pos bit → from ≤ i → unsigned_abs (source_column a i) ≡ bit + (i - from)
-column_on a from bit i is first = omega (arith, ints, is, first)
-
-column_inside : (a : Area) (from end bit i n : ℕ) → source_column a from ≡ pos bit → source_column a end ≤ℤ pos n → from ≤ i → i < end → bit + (i - from) < n
-column_inside a from end bit i n is inside first last = omega (arith, ints, is, inside, first, last)
-
-pub run_as_bitmap : (v w : CellView) (b : Bitmap) (a : Area) (k bit line : ℕ) (s : Stretch) (bits : List ℕ) → source_column a (s.x + s.run.len) ≤ℤ pos b.width → source_column a s.x ≡ pos bit → source_row a s.y ≡ pos line → ((x : ℕ) → x < b.width → row_bit bits x ≡ bit_at (pen_at b x line) k) → w ≡ with_live (λ c. drawn (λ p i j. p == k && in_stretch s i j) (combined_bit a.minterm bits (record { column = s.x; bit = bit })) c) v → w ≡ with_live (λ c. drawn (λ p i j. p == k && in_stretch s i j) (from_bits b a) c) v
-run_as_bitmap v w b a k bit line s bits inside column row are is =
-    cell_alike v w (λ p i j. p == k && in_stretch s i j) (combined_bit a.minterm bits (record { column = s.x; bit = bit })) (from_bits b a) is
-    (λ p i j old _ _ _ on _.
-    let at = pixel_of k s p i j on in
-    let value : ℕ → ℕ → ℕ → ℕ = λ d x z. minterm_bit a.minterm (bit_at (pen_at b x z) d) old in
-    ap (λ n. minterm_bit a.minterm n old) (are (bit + (i - s.x)) (column_inside a s.x (s.x + s.run.len) bit i b.width column inside at.first at.last)) ∙
-    (ap (λ x. value k x line) (sym (column_on a s.x bit i column at.first)) ∙
-    (ap (λ z. value k (unsigned_abs (source_column a i)) (unsigned_abs z)) (sym row ∙ ap (source_row a) (sym at.down)) ∙
-    ap (λ d. value d (unsigned_abs (source_column a i)) (unsigned_abs (source_row a j))) (sym at.deep))))
+    layer_nowhere v (masked mask v top bottom from end) new ok (λ p i j. no_columns (bit_at mask p == 1) (is_between top bottom j) (draws v i j) from end i none)
 
 kept_small : (c : LiveView) (p : ℕ) (x y : ℤ) → kept_bit c p x y < 2
 unfolding kept_bit
 kept_small c p x y = bit_in_lt p (kept_pen c x y)
 
 -- A layer whose rows are shifted takes the bits of its own pixels.
-pub layer_shifted : (v w : CellView) (t : Transfer) (dx dy : ℤ) (on : LiveView → ℕ → ℕ → ℕ → Bool) → t.dx ≡ dx → t.dy ≡ dy → t.minterm ≡ 192 → t.clears ≡ true → w ≡ with_live (λ c. drawn (on c) (from_layer c t) c) v → w ≡ with_live (λ c. drawn (on c) (λ p i j old. kept_bit c p (pos i +ℤ dx) (pos j +ℤ dy)) c) v
+pub layer_shifted : (v w : LiveView) (t : Transfer) (dx dy : ℤ) (on : LiveView → ℕ → ℕ → ℕ → Bool) → t.dx ≡ dx → t.dy ≡ dy → t.minterm ≡ 192 → t.clears ≡ true → w ≡ drawn (on v) (from_layer v t) v → w ≡ drawn (on v) (λ p i j old. kept_bit v p (pos i +ℤ dx) (pos j +ℤ dy)) v
 unfolding from_layer
 layer_shifted v w t dx dy on across down copy clears is =
-    cell_alike v w (on v.live) (from_layer v.live t) (λ p i j old. kept_bit v.live p (pos i +ℤ dx) (pos j +ℤ dy)) is
+    layer_alike v w (on v) (from_layer v t) (λ p i j old. kept_bit v p (pos i +ℤ dx) (pos j +ℤ dy)) is
     (λ p i j old _ _ _ _ small.
-    ap (λ m. blended m (t.clears || has_source v.live t i j) (source_bit v.live t p i j) old) copy ∙
-    (ap (λ q. blended 192 (q || has_source v.live t i j) (source_bit v.live t p i j) old) clears ∙
-    (minterm_copies 192 (source_bit v.live t p i j) old (kept_small v.live p (pos i +ℤ t.dx) (pos j +ℤ t.dy)) refl ∙
-    (ap (λ z. kept_bit v.live p (pos i +ℤ z) (pos j +ℤ t.dy)) across ∙ ap (λ z. kept_bit v.live p (pos i +ℤ dx) (pos j +ℤ z)) down))))
+    ap (λ m. blended m (t.clears || has_source v t i j) (source_bit v t p i j) old) copy ∙
+    (ap (λ q. blended 192 (q || has_source v t i j) (source_bit v t p i j) old) clears ∙
+    (minterm_copies 192 (source_bit v t p i j) old (kept_small v p (pos i +ℤ t.dx) (pos j +ℤ t.dy)) refl ∙
+    (ap (λ z. kept_bit v p (pos i +ℤ z) (pos j +ℤ t.dy)) across ∙ ap (λ z. kept_bit v p (pos i +ℤ dx) (pos j +ℤ z)) down))))

@@ -10,11 +10,11 @@ use Rattle.lw_planes.specs.Row.{bit_of, row_bit}
 use Rattle.lw_planes.specs.Bitmap.{IsBitmap, pen_at}
 use Rattle.lw_kernels.specs.Kernel.{is_between, is_named}
 use Rattle.lw_machine.specs.Kept.{holds_at, is_kept}
-use Rattle.lw_layer.specs.View.{LiveView, CellView, keeps, draws, with_live}
+use Rattle.lw_layer.specs.View.{LiveView, keeps, draws}
 use Rattle.lw_layer.specs.Copied.{bit_in, kept_bit}
 use Rattle.lw_layer.proofs.CopyingLaws.{kept_no}
 use Rattle.lw_draw.specs.Drawn.{drawn}
-use Rattle.lw_draw.proofs.PaintLaws.{cell_alike}
+use Rattle.lw_draw.proofs.PaintLaws.{layer_alike}
 use Rattle.lw_blit.specs.Blitting.{blended, from_rows, from_layer, masked, plane_of, has_source, source_bit, taken_column, taken_row, AreRead, AreSources}
 use Rattle.lw_blit.specs.declared.sources.SourceRows.{SourceRows}
 use Rattle.lw_blit.specs.declared.transfers.Transfer.{Transfer}
@@ -153,12 +153,12 @@ taken_alike all clears true b k is none same = let one : k ≡ 1 = is in grind (
 taken_alike all clears false b k is none same = let zero : k ≡ 0 = is in let clear : b ≡ 0 = none refl in grind (arith, nat_tests)
 
 -- A row that is painted from its sources is painted from the layer.
-pub row_as_layer : (v w : CellView) (source : LiveView) (t : Transfer) (mask planes y from end : ℕ) (r : SourceRows) → AreSources source t mask planes y from end r → v.live.layer.bits.depth ≤ planes → w ≡ with_live (λ c. drawn (masked mask c y (y + 1) from end) (from_rows t.minterm r from) c) v → w ≡ with_live (λ c. drawn (masked mask c y (y + 1) from end) (from_layer source t) c) v
+pub row_as_layer : (v w : LiveView) (source : LiveView) (t : Transfer) (mask planes y from end : ℕ) (r : SourceRows) → AreSources source t mask planes y from end r → v.layer.bits.depth ≤ planes → w ≡ drawn (masked mask v y (y + 1) from end) (from_rows t.minterm r from) v → w ≡ drawn (masked mask v y (y + 1) from end) (from_layer source t) v
 unfolding from_layer
 row_as_layer v w source t mask planes y from end r are enough is =
-    cell_alike v w (masked mask v.live y (y + 1) from end) (from_rows t.minterm r from) (from_layer source t) is
+    layer_alike v w (masked mask v y (y + 1) from end) (from_rows t.minterm r from) (from_layer source t) is
     (λ p i j old deep _ _ on _.
-    let at = pixel_in mask from end y p i j (draws v.live i j) on in
+    let at = pixel_in mask from end y p i j (draws v i j) on in
     let first : from ≤ i = at.first in
     let last : i < end = at.last in
     let n = i - from in

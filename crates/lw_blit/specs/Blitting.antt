@@ -68,12 +68,16 @@ from_bits source a p x y old = minterm_bit a.minterm (bit_at (source_pen source 
 abbrev pub masked : ℕ → LiveView → ℕ → ℕ → ℕ → ℕ → ℕ → ℕ → ℕ → Bool
 masked mask c top bottom from end p i j = bit_at mask p == 1 && in_rows c top bottom from end i j
 
--- the pixels of a run in the planes of a mask, and in those before one of them
-abbrev pub masked_run : ℕ → Stretch → ℕ → ℕ → ℕ → Bool
-masked_run mask s p i j = bit_at mask p == 1 && in_stretch s i j
+-- some pixels in the planes of a mask, and in those before one of them
+abbrev pub in_planes : ℕ → (ℕ → ℕ → Bool) → ℕ → ℕ → ℕ → Bool
+in_planes mask inside p i j = bit_at mask p == 1 && inside i j
 
-abbrev pub planes_before : ℕ → ℕ → Stretch → ℕ → ℕ → ℕ → Bool
-planes_before mask k s p i j = nat_lt p k && masked_run mask s p i j
+abbrev pub planes_before : ℕ → ℕ → (ℕ → ℕ → Bool) → ℕ → ℕ → ℕ → Bool
+planes_before mask k inside p i j = nat_lt p k && in_planes mask inside p i j
+
+-- the pixels of a run in the planes of a mask
+abbrev pub masked_run : ℕ → Stretch → ℕ → ℕ → ℕ → Bool
+masked_run mask s = in_planes mask (in_stretch s)
 
 -- The planes of a mask before one of them were read, from this place of a layer on, and which pixels it keeps.
 pub record AreRead (c : LiveView) (mask k : ℕ) (x y : ℤ) (n : ℕ) (r : SourceRows) : Type 0 where
@@ -108,9 +112,6 @@ pub record AreNear (t : Transfer) : Type 0 where
   pub dy_low : negsuc 131071 ≤ℤ t.dy
   pub dy_high : t.dy ≤ℤ pos 131071
 
--- what goes to some rows and columns lies in a bitmap
-pub record LieInBitmap (b : Bitmap) (a : Area) (top bottom from end : ℕ) : Type 0 where
-  pub left : pos 0 ≤ℤ source_column a from
-  pub right : source_column a end ≤ℤ pos b.width
-  pub upper : top < bottom → pos 0 ≤ℤ source_row a top
-  pub lower : top < bottom → source_row a bottom ≤ℤ pos b.height
+-- a bitmap has the source of a pixel
+abbrev pub is_source : Bitmap → Area → ℕ → ℕ → Bool
+is_source b a x y = has_place b.width (source_column a x) && has_place b.height (source_row a y)

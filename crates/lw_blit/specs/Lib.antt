@@ -1,1 +1,2 @@
 pub mod Blitting
+pub mod Moves

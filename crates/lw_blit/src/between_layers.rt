@@ -3,8 +3,7 @@
 ghost use Rattle.std.specs.Prelude.{◌≡◌, ◌+◌, ◌<◌, ◌≤◌, IsTrue};
 ghost use Rattle.lw_calls.specs.Limits.{area_fits};
 ghost use Rattle.lw_machine.specs.Blits.{clip_blit};
-ghost use Rattle.lw_layer.specs.View.{shows, with_live, with_layer};
-ghost use Rattle.lw_layer.specs.View as view;
+ghost use Rattle.lw_layer.specs.View.{shows, with_layer};
 ghost use Rattle.lw_draw.specs.Drawn.{drawn};
 ghost use Rattle.lw_blit.specs.Blitting.{from_layer, masked, AreNear};
 
@@ -14,19 +13,15 @@ use crate::sources::{SourceRows, no_sources, read_sources};
 use crate::transfers::{Transfer, transfer_of};
 use lw_calls::Area;
 use lw_draw::Places;
-use lw_layer::Cell;
+use lw_layer::Layer;
 
 /// Combines the drawable pixels of a rectangle of a layer with the pixels of another layer that go there, by the minterm and
 /// through the mask of the former (`ClipBlit`). A pixel whose source that other layer doesn't keep stays as it was.
 /// No memory is taken.
-pub fn between(source: &Cell, to: &mut Cell, area: &Area)
-    requires source { source.now.state ≡ view.Live }
-    requires to { to.old.state ≡ view.Live }
+pub fn between(source: &Layer, to: &mut Layer, area: &Area)
     requires fits { IsTrue (area_fits area.now) }
-    ensures { to.new ≡ with_live
-        (λ c. with_layer
-        (λ l. clip_blit (λ i j. shows source.now.live i j) source.now.live.layer (λ i j. shows c i j) area.now l) c)
-        to.old }
+    ensures { to.new ≡ with_layer
+        (λ l. clip_blit (λ i j. shows source.now i j) source.now.layer (λ i j. shows to.old i j) area.now l) to.old }
 {
     let columns = columns_of(area, source.width(), to.width());
     let rows = rows_of(area, source.height(), to.height());
@@ -38,21 +33,17 @@ pub fn between(source: &Cell, to: &mut Cell, area: &Area)
 
 // Blits some rows, from the top down.
 fn between_rows(
-    source: &Cell,
-    to: &mut Cell,
+    source: &Layer,
+    to: &mut Layer,
     rows: Places,
     columns: Places,
     transfer: Transfer,
     mask: u8,
 )
-    requires source { source.now.state ≡ view.Live }
-    requires to { to.old.state ≡ view.Live }
     requires bottom { rows.end ≤ 2048 }
     requires right { columns.end ≤ 2048 }
     requires near { AreNear transfer }
-    ensures { to.new ≡ with_live
-        (λ c. drawn (masked mask c rows.from rows.end columns.from columns.end) (from_layer source.now.live transfer) c)
-        to.old }
+    ensures { to.new ≡ drawn (masked mask to.old rows.from rows.end columns.from columns.end) (from_layer source.now transfer) to.old }
 {
     // Reading this tells the proof that the layer has only pens of its depth.
     let _ = to.depth();
@@ -64,22 +55,18 @@ fn between_rows(
 
 // Blits a row.
 fn between_row(
-    source: &Cell,
-    to: &mut Cell,
+    source: &Layer,
+    to: &mut Layer,
     y: u32,
     columns: Places,
     transfer: Transfer,
     mask: u8,
     sources: &mut SourceRows,
 )
-    requires source { source.now.state ≡ view.Live }
-    requires to { to.old.state ≡ view.Live }
     requires row { y < 2048 }
     requires right { columns.end ≤ 2048 }
     requires near { AreNear transfer }
-    ensures { to.new ≡ with_live
-        (λ c. drawn (masked mask c y (y + 1) columns.from columns.end) (from_layer source.now.live transfer) c)
-        to.old }
+    ensures { to.new ≡ drawn (masked mask to.old y (y + 1) columns.from columns.end) (from_layer source.now transfer) to.old }
 {
     let planes = to.depth();
     read_sources(source, planes, y, columns, transfer, mask, sources);

@@ -1,140 +1,98 @@
 // Blits from a bitmap.
 
-ghost use Rattle.std.specs.Prelude.{◌≡◌, ℕ, ◌==◌, ◌+◌, ◌*◌, ◌<◌, ◌≤◌, ◌&&◌, length, IsTrue};
+ghost use Rattle.std.specs.Prelude.{◌≡◌, ℕ, ◌==◌, ◌<◌, ◌&&◌, true, IsTrue};
 ghost use Rattle.std.specs.Int.{bit_at};
-ghost use Rattle.lw_planes.specs.Row.{row_bit};
 ghost use Rattle.lw_planes.specs.Bitmap.{pen_at};
+ghost use Rattle.lw_planes.specs.Minterm.{minterm_bit};
 ghost use Rattle.lw_calls.specs.Limits.{area_fits};
 ghost use Rattle.lw_machine.specs.Blits.{blt_bitmap_rast_port};
-ghost use Rattle.lw_layer.specs.View.{draws, shows, with_live, with_layer};
-ghost use Rattle.lw_layer.specs.View as view;
-ghost use Rattle.lw_layer.specs.Runs.{IsRun};
+ghost use Rattle.lw_layer.specs.View.{draws, shows, with_layer};
+ghost use Rattle.lw_draw.specs.Blocks.{IsBlock, in_block};
 ghost use Rattle.lw_draw.specs.Drawn.{drawn};
-ghost use Rattle.lw_draw.specs.Stretches.{in_stretch};
-ghost use Rattle.lw_blit.specs.Blitting.{from_bits, masked, masked_run, IsNear, LieInBitmap};
+ghost use Rattle.lw_blit.specs.Blitting.{from_bits, is_source, IsNear};
 
 use crate::places::{columns_of, rows_of, source_index};
 use lw_calls::Area;
-use lw_draw::{Origin, Places, Stretch, combine_run, has_bit, next_stretch};
-use lw_layer::Cell;
+use lw_draw::{Block, Painter, combine_block, has_bit, paint_rows};
+use lw_layer::Layer;
 use lw_planes::Planes;
-
-// The bits of a row in a plane that a bitmap lacks.
-static NO_BITS: [u8; 256] = [0; 256];
 
 /// Combines the drawable pixels of a rectangle of a layer with the pixels of a bitmap that go there, by the minterm and through
 /// the mask (`BltBitMapRastPort`). In planes that the bitmap lacks its bits are 0. No memory is taken.
-pub fn from_bitmap(bitmap: &Planes, cell: &mut Cell, area: &Area)
-    requires live { cell.old.state ≡ view.Live }
+pub fn from_bitmap(bitmap: &Planes, layer: &mut Layer, area: &Area)
     requires fits { IsTrue (area_fits area.now) }
-    ensures { cell.new ≡ with_live
-        (λ c. with_layer (λ l. blt_bitmap_rast_port bitmap.now (λ i j. shows c i j) area.now l) c)
-        cell.old }
+    ensures { layer.new ≡ with_layer (λ l. blt_bitmap_rast_port bitmap.now (λ i j. shows layer.old i j) area.now l) layer.old }
 {
-    let columns = columns_of(area, bitmap.width(), cell.width());
-    let rows = rows_of(area, bitmap.height(), cell.height());
-    let mask = cell.raster().mask;
-    if columns.from < columns.end {
-        bitmap_rows(bitmap, cell, rows, columns, *area, mask);
-    }
+    let columns = columns_of(area, bitmap.width(), layer.width());
+    let rows = rows_of(area, bitmap.height(), layer.height());
+    let mask = layer.raster().mask;
+    let blit = BitmapBlit {
+        bitmap,
+        area: *area,
+        mask,
+    };
+    paint_rows(layer, rows, columns, &blit);
 }
 
-// Blits some rows.
-fn bitmap_rows(
-    bitmap: &Planes,
-    cell: &mut Cell,
-    rows: Places,
-    columns: Places,
+// Paints with the pixels of a bitmap, in the planes of a mask.
+#[derive(Clone, Copy)]
+struct BitmapBlit<'a> {
+    bitmap: &'a Planes,
     area: Area,
     mask: u8,
-)
-    requires live { cell.old.state ≡ view.Live }
-    requires bottom { rows.end ≤ 2048 }
-    requires right { columns.end ≤ 2048 }
-    requires near { IsNear area }
-    requires inside { LieInBitmap bitmap.now area rows.from rows.end columns.from columns.end }
-    ensures { cell.new ≡ with_live
-        (λ c. drawn (masked mask c rows.from rows.end columns.from columns.end) (from_bits bitmap.now area) c)
-        cell.old }
-{
-    // Reading this tells the proof that the layer has only pens of its depth.
-    let _ = cell.depth();
-    for y in rows.from..rows.end {
-        bitmap_row(bitmap, cell, y, columns, area, mask);
+    ghost near: { IsNear area },
+}
+
+impl Painter for BitmapBlit<'_> {
+    ghost planes = { λ s p. bit_at s.mask p == 1 };
+
+    ghost reaches = { λ s. is_source s.bitmap.now s.area };
+
+    ghost bit = { λ s. from_bits s.bitmap.now s.area };
+
+    fn has_plane(&self, plane: u32) -> bool {
+        has_bit(self.mask, plane)
+    }
+
+    fn paint_plane(&self, layer: &mut Layer, plane: u32, block: Block) {
+        blit_plane(self.bitmap, layer, plane, block, self.area);
     }
 }
 
-// Blits a row, run by run.
-fn bitmap_row(bitmap: &Planes, cell: &mut Cell, y: u32, columns: Places, area: Area, mask: u8)
-    requires live { cell.old.state ≡ view.Live }
-    requires row { y < 2048 }
-    requires right { columns.end ≤ 2048 }
+// Blits one plane of a block.
+fn blit_plane(bitmap: &Planes, layer: &mut Layer, plane: u32, block: Block, area: Area)
     requires near { IsNear area }
-    requires inside { LieInBitmap bitmap.now area y (y + 1) columns.from columns.end }
-    ensures { cell.new ≡ with_live
-        (λ c. drawn (masked mask c y (y + 1) columns.from columns.end) (from_bits bitmap.now area) c)
-        cell.old }
+    requires plane { plane < layer.old.layer.bits.depth }
+    requires block { IsBlock layer.old (λ i j. draws layer.old i j) block }
+    requires sources { (i j : ℕ) → in_block block i j ≡ true → is_source bitmap.now area i j ≡ true }
+    ensures { layer.new ≡ drawn (λ p i j. p == plane && in_block block i j) (from_bits bitmap.now area) layer.old }
 {
-    // As above.
-    let _ = cell.depth();
-    let mut x = columns.from;
-    while let Some(stretch) = next_stretch(cell, x, y, columns.end) {
-        bitmap_run(bitmap, cell, stretch, area, mask);
-        x = stretch.x + stretch.run.len;
-    }
+    // Reading this tells the proof that no column and no row of the layer is far off.
+    let _ = layer.width();
+    let bit = source_index(block.x, area.sx, area.x);
+    let line = source_index(block.y, area.sy, area.y);
+    let step = (bitmap.width() as usize + 15) / 16 * 2;
+    let (source, minterm) = source_plane(bitmap, plane, area.minterm);
+    let bytes = bitmap.rows(source, line, block.rows);
+    combine_block(layer, plane, block, bytes, step, bit, minterm);
 }
 
-// Blits a run, plane by plane.
-fn bitmap_run(bitmap: &Planes, cell: &mut Cell, stretch: Stretch, area: Area, mask: u8)
-    requires live { cell.old.state ≡ view.Live }
-    requires run { IsRun cell.old.live (λ i j. draws cell.old.live i j) stretch.x stretch.y stretch.run }
-    requires row { stretch.y < 2048 }
-    requires right { stretch.x + stretch.run.len ≤ 2048 }
-    requires near { IsNear area }
-    requires inside { LieInBitmap bitmap.now area stretch.y (stretch.y + 1) stretch.x (stretch.x + stretch.run.len) }
-    ensures { cell.new ≡ with_live
-        (λ c. drawn (masked_run mask stretch) (from_bits bitmap.now area) c)
-        cell.old }
-{
-    for plane in 0..cell.depth() {
-        if has_bit(mask, plane) {
-            bitmap_plane(bitmap, cell, plane, stretch, area);
-        }
-    }
-}
-
-// Blits one plane of a run.
-fn bitmap_plane(bitmap: &Planes, cell: &mut Cell, plane: u32, stretch: Stretch, area: Area)
-    requires live { cell.old.state ≡ view.Live }
-    requires plane { plane < cell.old.live.layer.bits.depth }
-    requires run { IsRun cell.old.live (λ i j. draws cell.old.live i j) stretch.x stretch.y stretch.run }
-    requires row { stretch.y < 2048 }
-    requires right { stretch.x + stretch.run.len ≤ 2048 }
-    requires near { IsNear area }
-    requires inside { LieInBitmap bitmap.now area stretch.y (stretch.y + 1) stretch.x (stretch.x + stretch.run.len) }
-    ensures { cell.new ≡ with_live
-        (λ c. drawn (λ p i j. p == plane && in_stretch stretch i j) (from_bits bitmap.now area) c)
-        cell.old }
-{
-    let bit = source_index(stretch.x, area.sx, area.x);
-    let line = source_index(stretch.y, area.sy, area.y);
-    let origin = Origin {
-        column: stretch.x,
-        bit,
-    };
-    let bits = row_of(bitmap, plane, line);
-    combine_run(cell, plane, stretch, bits, origin, area.minterm);
-}
-
-// The bits of one plane of a row of a bitmap; none is set in a plane that the bitmap lacks.
-fn row_of(bitmap: &Planes, plane: u32, y: u32) -> &[u8]
-    requires { y < bitmap.now.height }
-    ensures wide { bitmap.now.width ≤ 8 * length result.now }
-    ensures bits { (x : ℕ) → x < bitmap.now.width → row_bit result.now x ≡ bit_at (pen_at bitmap.now x y) plane }
+// A plane of a bitmap, and a minterm that makes of its bits what the given one makes of the bits of a plane, which are 0 where the
+// bitmap lacks it.
+fn source_plane(bitmap: &Planes, plane: u32, minterm: u8) -> (u32, u8)
+    ensures plane { result.0 < bitmap.now.depth }
+    ensures value { (x y old : ℕ) → x < bitmap.now.width → y < bitmap.now.height → old < 2 →
+        minterm_bit result.1 (bit_at (pen_at bitmap.now x y) result.0) old ≡ minterm_bit minterm (bit_at (pen_at bitmap.now x y) plane) old }
 {
     if plane < bitmap.depth() {
-        bitmap.row(plane, y)
-    } else {
-        &NO_BITS
+        return (plane, minterm);
     }
+    (0, without_source(minterm))
+}
+
+// The minterm whose value is the given one's where B isn't set, whatever B is.
+fn without_source(minterm: u8) -> u8
+    ensures { (b c : ℕ) → b < 2 → c < 2 → minterm_bit result b c ≡ minterm_bit minterm 0 c }
+{
+    (minterm & 0x30) | ((minterm & 0x30) << 2)
 }

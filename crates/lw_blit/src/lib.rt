@@ -1,9 +1,10 @@
-//! Blits into the cell of a layer (the manual's Graphics Primitives chapter: BltBitMapRastPort, ClipBlit) and shifts of rows within
+//! Blits into a layer (the manual's Graphics Primitives chapter: BltBitMapRastPort, ClipBlit) and shifts of rows within
 //! a layer, row by row, run by run and plane by plane.
 #![tactic(auto)]
 
 mod between_layers;
 mod bitmaps;
+mod moving;
 mod painting;
 mod places;
 mod sources;

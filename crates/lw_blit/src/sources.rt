@@ -4,7 +4,6 @@ ghost use Rattle.std.specs.Prelude.{◌≡◌, ℕ, ◌+◌, ◌-◌, ◌*◌, �
 ghost use Rattle.lw_planes.specs.Row.{bit_of, row_bit};
 ghost use Rattle.lw_machine.specs.Kept.{holds_at};
 ghost use Rattle.lw_layer.specs.View.{keeps};
-ghost use Rattle.lw_layer.specs.View as view;
 ghost use Rattle.lw_layer.specs.Copied.{kept_bit};
 ghost use Rattle.lw_blit.specs.Blitting.{plane_of, AreRead, AreSources, AreNear};
 
@@ -12,7 +11,7 @@ use crate::places::source_place;
 use crate::transfers::Transfer;
 use lw_draw::{Places, has_bit};
 use lw_kernels::fill;
-use lw_layer::Cell;
+use lw_layer::Layer;
 
 // A row of a layer is at most 2048 pixels wide.
 pub(crate) const MOST: usize = 256;
@@ -37,7 +36,7 @@ pub(crate) fn no_sources() -> SourceRows {
 
 // Reads the sources of some columns of a row, in the first planes, as far as the mask has them.
 pub(crate) fn read_sources(
-    source: &Cell,
+    source: &Layer,
     planes: u32,
     y: u32,
     columns: Places,
@@ -45,12 +44,11 @@ pub(crate) fn read_sources(
     mask: u8,
     rows: &mut SourceRows,
 )
-    requires live { source.now.state ≡ view.Live }
     requires planes { planes ≤ 8 }
     requires row { y < 65536 }
     requires right { columns.end ≤ 2048 }
     requires near { AreNear transfer }
-    ensures { AreSources source.now.live transfer mask planes y columns.from columns.end rows.new }
+    ensures { AreSources source.now transfer mask planes y columns.from columns.end rows.new }
 {
     let x = source_place(columns.from, transfer.dx);
     let line = source_place(y, transfer.dy);
@@ -61,7 +59,7 @@ pub(crate) fn read_sources(
 
 // Reads so many pixels of a row of a layer, from column x on.
 fn read_planes(
-    source: &Cell,
+    source: &Layer,
     planes: u32,
     x: i32,
     y: i32,
@@ -69,10 +67,9 @@ fn read_planes(
     mask: u8,
     rows: &mut SourceRows,
 )
-    requires live { source.now.state ≡ view.Live }
     requires planes { planes ≤ 8 }
     requires few { count ≤ 2048 }
-    ensures { AreRead source.now.live mask planes x y count rows.new }
+    ensures { AreRead source.now mask planes x y count rows.new }
 {
     let bytes = count.div_ceil(8) as usize;
     for plane in 0..planes {
@@ -85,7 +82,7 @@ fn read_planes(
 
 // Reads the bits of one plane in the first bytes of a row, and which pixels are kept.
 fn read_plane(
-    source: &Cell,
+    source: &Layer,
     plane: u32,
     x: i32,
     y: i32,
@@ -93,25 +90,23 @@ fn read_plane(
     bits: &mut [u8; MOST],
     kept: &mut [u8; MOST],
 )
-    requires live { source.now.state ≡ view.Live }
     requires few { bytes ≤ 256 }
-    ensures bits { (i : ℕ) → i < 8 * bytes → row_bit bits.new i ≡ kept_bit source.now.live plane (x +ℤ pos i) y }
+    ensures bits { (i : ℕ) → i < 8 * bytes → row_bit bits.new i ≡ kept_bit source.now plane (x +ℤ pos i) y }
     ensures kept { (i : ℕ) → i < 8 * bytes → row_bit kept.new i ≡
-        bit_of (holds_at (λ u v. keeps source.now.live u v) (x +ℤ pos i) y) }
+        bit_of (holds_at (λ u v. keeps source.now u v) (x +ℤ pos i) y) }
 {
     copy_pixels(source, plane, x, y, &mut bits[..bytes], &mut kept[..bytes]);
 }
 
-// As `Cell::copy_row`, for any plane: one that the layer lacks has no bits.
-fn copy_pixels(source: &Cell, plane: u32, x: i32, y: i32, bits: &mut [u8], kept: &mut [u8])
-    requires live { source.now.state ≡ view.Live }
+// As `Layer::copy_row`, for any plane: one that the layer lacks has no bits.
+fn copy_pixels(source: &Layer, plane: u32, x: i32, y: i32, bits: &mut [u8], kept: &mut [u8])
     requires equally_long { length kept.old ≡ length bits.old }
     requires few { length bits.old ≤ 256 }
     ensures long { length bits.new ≡ length bits.old }
     ensures long_kept { length kept.new ≡ length kept.old }
-    ensures bits { (i : ℕ) → i < 8 * length bits.new → row_bit bits.new i ≡ kept_bit source.now.live plane (x +ℤ pos i) y }
+    ensures bits { (i : ℕ) → i < 8 * length bits.new → row_bit bits.new i ≡ kept_bit source.now plane (x +ℤ pos i) y }
     ensures kept { (i : ℕ) → i < 8 * length kept.new → row_bit kept.new i ≡
-        bit_of (holds_at (λ u v. keeps source.now.live u v) (x +ℤ pos i) y) }
+        bit_of (holds_at (λ u v. keeps source.now u v) (x +ℤ pos i) y) }
 {
     if plane < source.depth() {
         source.copy_row(plane, x, y, bits, kept);

@@ -4,12 +4,12 @@ ghost use Rattle.std.specs.Prelude.{◌≡◌, ◌==◌, ◌+◌, ◌<◌, ◌�
 ghost use Rattle.std.specs.Int.{bit_at};
 ghost use Rattle.lw_calls.specs.Limits.{area_fits};
 ghost use Rattle.lw_machine.specs.Blits.{clip_blit};
-ghost use Rattle.lw_layer.specs.View.{shows, with_live, with_layer};
-ghost use Rattle.lw_layer.specs.View as view;
+ghost use Rattle.lw_layer.specs.View.{shows, with_layer};
 ghost use Rattle.lw_layer.specs.Copied.{kept_bit};
 ghost use Rattle.lw_draw.specs.Drawn.{drawn, in_rows};
 ghost use Rattle.lw_blit.specs.Blitting.{from_layer, masked, AreNear};
 
+use crate::moving::{move_of, move_planes};
 use crate::painting::paint_row;
 use crate::places::{columns_of, rows_of};
 use crate::sources::{SourceRows, no_sources, read_sources};
@@ -17,41 +17,33 @@ use crate::transfers::{Transfer, transfer_of};
 use lw_calls::Area;
 use lw_draw::Places;
 use lw_kernels::COPY_MINTERM;
-use lw_layer::Cell;
+use lw_layer::Layer;
 
 /// Combines the drawable pixels of a rectangle of a layer with the layer's own pixels that go there, by the minterm and through
 /// the mask (`ClipBlit`). The rectangles may overlap: the sources are as before the call. A pixel whose source isn't kept stays
 /// as it was. No memory is taken.
-pub fn within(cell: &mut Cell, area: &Area)
-    requires live { cell.old.state ≡ view.Live }
+pub fn within(layer: &mut Layer, area: &Area)
     requires fits { IsTrue (area_fits area.now) }
-    ensures { cell.new ≡ with_live
-        (λ c. with_layer (λ l. clip_blit (λ i j. shows c i j) l (λ i j. shows c i j) area.now l) c)
-        cell.old }
+    ensures { layer.new ≡ with_layer (λ l. clip_blit (λ i j. shows layer.old i j) l (λ i j. shows layer.old i j) area.now l) layer.old }
 {
-    let columns = columns_of(area, cell.width(), cell.width());
-    let rows = rows_of(area, cell.height(), cell.height());
-    let mask = cell.raster().mask;
-    if columns.from < columns.end {
-        transfer_rows(cell, rows, columns, transfer_of(area), mask);
-    }
+    let columns = columns_of(area, layer.width(), layer.width());
+    let rows = rows_of(area, layer.height(), layer.height());
+    let mask = layer.raster().mask;
+    transfer_rows(layer, rows, columns, transfer_of(area), mask);
 }
 
 /// Gives the drawable pixels of some rows and columns of a layer, in the planes that the mask has, the bits of the layer's own
 /// pixels `dx` columns to the right and `dy` rows down, as they were before the call, and 0 where that pixel isn't kept. No
 /// memory is taken.
-pub fn shift_rows(cell: &mut Cell, rows: Places, columns: Places, dx: i32, dy: i32, mask: u8)
-    requires live { cell.old.state ≡ view.Live }
+pub fn shift_rows(layer: &mut Layer, rows: Places, columns: Places, dx: i32, dy: i32, mask: u8)
     requires bottom { rows.end ≤ 2048 }
     requires right { columns.end ≤ 2048 }
     requires dx_low { negsuc 65535 ≤ℤ dx }
     requires dx_high { dx ≤ℤ pos 65535 }
     requires dy_low { negsuc 65535 ≤ℤ dy }
     requires dy_high { dy ≤ℤ pos 65535 }
-    ensures { cell.new ≡ with_live
-        (λ c. drawn (λ p i j. bit_at mask p == 1 && in_rows c rows.from rows.end columns.from columns.end i j)
-        (λ p i j old. kept_bit c p (pos i +ℤ dx) (pos j +ℤ dy)) c)
-        cell.old }
+    ensures { layer.new ≡ drawn (λ p i j. bit_at mask p == 1 && in_rows layer.old rows.from rows.end columns.from columns.end i j)
+        (λ p i j old. kept_bit layer.old p (pos i +ℤ dx) (pos j +ℤ dy)) layer.old }
 {
     let transfer = Transfer {
         dx,
@@ -59,82 +51,73 @@ pub fn shift_rows(cell: &mut Cell, rows: Places, columns: Places, dx: i32, dy: i
         minterm: COPY_MINTERM,
         clears: true,
     };
-    transfer_rows(cell, rows, columns, transfer, mask);
+    transfer_rows(layer, rows, columns, transfer, mask);
 }
 
-// Transfers some rows, in an order in which none is read after it was written.
-fn transfer_rows(cell: &mut Cell, rows: Places, columns: Places, transfer: Transfer, mask: u8)
-    requires live { cell.old.state ≡ view.Live }
+// Transfers some rows: as a move of a whole block if that is what it is, else in an order in which no row is read after it was
+// written.
+fn transfer_rows(layer: &mut Layer, rows: Places, columns: Places, transfer: Transfer, mask: u8)
     requires bottom { rows.end ≤ 2048 }
     requires right { columns.end ≤ 2048 }
     requires near { AreNear transfer }
-    ensures { cell.new ≡ with_live
-        (λ c. drawn (masked mask c rows.from rows.end columns.from columns.end) (from_layer c transfer) c)
-        cell.old }
+    ensures { layer.new ≡ drawn (masked mask layer.old rows.from rows.end columns.from columns.end) (from_layer layer.old transfer) layer.old }
 {
-    if transfer.dy >= 0 {
-        rows_down(cell, rows, columns, transfer, mask);
+    if let Some(blocks) = move_of(layer, rows, columns, transfer) {
+        move_planes(layer, blocks, transfer, mask);
+    } else if transfer.dy >= 0 {
+        rows_down(layer, rows, columns, transfer, mask);
     } else {
-        rows_up(cell, rows, columns, transfer, mask);
+        rows_up(layer, rows, columns, transfer, mask);
     }
 }
 
 // Transfers some rows from the top down: each source row lies no higher than where it goes, so that it wasn't written so far.
-fn rows_down(cell: &mut Cell, rows: Places, columns: Places, transfer: Transfer, mask: u8)
-    requires live { cell.old.state ≡ view.Live }
+fn rows_down(layer: &mut Layer, rows: Places, columns: Places, transfer: Transfer, mask: u8)
     requires bottom { rows.end ≤ 2048 }
     requires right { columns.end ≤ 2048 }
     requires near { AreNear transfer }
     requires order { pos 0 ≤ℤ transfer.dy }
-    ensures { cell.new ≡ with_live
-        (λ c. drawn (masked mask c rows.from rows.end columns.from columns.end) (from_layer c transfer) c)
-        cell.old }
+    ensures { layer.new ≡ drawn (masked mask layer.old rows.from rows.end columns.from columns.end) (from_layer layer.old transfer) layer.old }
 {
     // Reading this tells the proof that the layer has only pens of its depth.
-    let _ = cell.depth();
+    let _ = layer.depth();
     let mut sources = no_sources();
     for y in rows.from..rows.end {
-        transfer_row(cell, y, columns, transfer, mask, &mut sources);
+        transfer_row(layer, y, columns, transfer, mask, &mut sources);
     }
 }
 
 // Transfers some rows from the bottom up: each source row lies no lower than where it goes.
-fn rows_up(cell: &mut Cell, rows: Places, columns: Places, transfer: Transfer, mask: u8)
-    requires live { cell.old.state ≡ view.Live }
+fn rows_up(layer: &mut Layer, rows: Places, columns: Places, transfer: Transfer, mask: u8)
     requires bottom { rows.end ≤ 2048 }
     requires right { columns.end ≤ 2048 }
     requires near { AreNear transfer }
     requires order { transfer.dy ≤ℤ pos 0 }
-    ensures { cell.new ≡ with_live
-        (λ c. drawn (masked mask c rows.from rows.end columns.from columns.end) (from_layer c transfer) c)
-        cell.old }
+    ensures { layer.new ≡ drawn (masked mask layer.old rows.from rows.end columns.from columns.end) (from_layer layer.old transfer) layer.old }
 {
     // As above.
-    let _ = cell.depth();
+    let _ = layer.depth();
     let mut sources = no_sources();
     for y in (rows.from..rows.end).rev() {
-        transfer_row(cell, y, columns, transfer, mask, &mut sources);
+        transfer_row(layer, y, columns, transfer, mask, &mut sources);
     }
 }
 
 // Transfers a row, once all of its sources are read.
 fn transfer_row(
-    cell: &mut Cell,
+    layer: &mut Layer,
     y: u32,
     columns: Places,
     transfer: Transfer,
     mask: u8,
     sources: &mut SourceRows,
 )
-    requires live { cell.old.state ≡ view.Live }
     requires row { y < 2048 }
     requires right { columns.end ≤ 2048 }
     requires near { AreNear transfer }
-    ensures { cell.new ≡ with_live
-        (λ c. drawn (masked mask c y (y + 1) columns.from columns.end) (from_layer c transfer) c)
-        cell.old }
+    ensures { layer.new ≡ drawn (masked mask layer.old y (y + 1) columns.from columns.end) (from_layer layer.old transfer) layer.old }
 {
-    let planes = cell.depth();
-    read_sources(cell, planes, y, columns, transfer, mask, sources);
-    paint_row(cell, y, columns, sources, mask, transfer.minterm);
+    let planes = layer.depth();
+    read_sources(layer, planes, y, columns, transfer, mask, sources);
+    paint_row(layer, y, columns, sources, mask, transfer.minterm);
 }

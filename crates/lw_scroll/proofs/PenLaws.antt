@@ -12,11 +12,11 @@ use Rattle.lw_machine.specs.Layer.{Raster}
 use Rattle.lw_machine.specs.Kept.{holds_at, is_kept}
 use Rattle.lw_machine.specs.Paint.{with_pens}
 use Rattle.lw_machine.specs.Blits.{in_scroll_area, brought_if, brought_pen, scroll_raster}
-use Rattle.lw_layer.specs.View.{LiveView, CellView, shows, keeps, draws, with_layer, with_live}
+use Rattle.lw_layer.specs.View.{LiveView, shows, keeps, draws, with_layer}
 use Rattle.lw_layer.specs.Pieces.{inner_in, damage_table}
 use Rattle.lw_layer.specs.Copied.{bit_in, kept_bit}
 use Rattle.lw_draw.specs.Drawn.{drawn, GivesBits, in_mask, in_rows, painted, painted_bit}
-use Rattle.lw_draw.proofs.PaintLaws.{cell_same, cell_alike, draws_stays, shape_drawn}
+use Rattle.lw_draw.proofs.PaintLaws.{layer_same, layer_alike, draws_stays, shape_drawn}
 use Rattle.lw_draw.specs.declared.spans.Places.{Places}
 use Rattle.lw_scroll.specs.declared.block.Block.{Block}
 use Rattle.lw_scroll.specs.Blocks.{has_place, in_block, IsBlockOf, IsAtSide, IsBrought}
@@ -171,18 +171,18 @@ column_beside c rect b target rest dx dy is are has m d i j on =
     beside_leads c rect b target dx dy is are i j (part_inside b.rows target.rows are.rows.at_side j sides.0) parts.0
     (inl parts.1)
 
--- a cell that was drawn on, once some rows and columns are filled with what they become
-pub filled_as : (v w z : CellView) (done : ℕ → ℕ → ℕ → Bool) (new : ℕ → ℕ → ℕ → ℕ → ℕ) (solid : Raster)
+-- a layer that was drawn on, once some rows and columns are filled with what they become
+pub filled_as : (v w z : LiveView) (done : ℕ → ℕ → ℕ → Bool) (new : ℕ → ℕ → ℕ → ℕ → ℕ) (solid : Raster)
     (top bottom from end : ℕ)
-    → w ≡ with_live (λ c. drawn done new c) v
-    → z ≡ with_live (λ c. painted solid (λ i j. in_rows c top bottom from end i j) c) w
+    → w ≡ drawn done new v
+    → z ≡ painted solid (λ i j. in_rows w top bottom from end i j) w
     → ((p i j old : ℕ) →
-    (in_mask solid p && in_rows v.live top bottom from end i j) ≡ true → painted_bit solid p i j old ≡ new p i j old)
-    → z ≡ with_live (λ c. drawn (λ p i j. in_mask solid p && in_rows v.live top bottom from end i j) new c) w
+    (in_mask solid p && in_rows v top bottom from end i j) ≡ true → painted_bit solid p i j old ≡ new p i j old)
+    → z ≡ drawn (λ p i j. in_mask solid p && in_rows v top bottom from end i j) new w
 filled_as v w z done new solid top bottom from end was filled same =
-    let on : CellView → ℕ → ℕ → ℕ → Bool = λ q p i j. in_mask solid p && in_rows q.live top bottom from end i j in
-    cell_alike w z (on v) (painted_bit solid) new
-    (cell_same w z (on w) (on v) (painted_bit solid) filled
+    let on : LiveView → ℕ → ℕ → ℕ → Bool = λ q p i j. in_mask solid p && in_rows q top bottom from end i j in
+    layer_alike w z (on v) (painted_bit solid) new
+    (layer_same w z (on w) (on v) (painted_bit solid) filled
     (λ p i j _. ap (λ t. in_mask solid p && (is_between top bottom j && (is_between from end i && t)))
     (draws_stays v w done new i j was)))
     (λ p i j old _ _ _ has _. same p i j old has)
@@ -218,46 +218,46 @@ pens_drawn c rect dx dy raster b ok same is =
     ∙ (is (pos x) (pos y) ∙ rw (lt-ltb x c.layer.bits.width left, lt-ltb y c.layer.bits.height low) refl)))
 
 -- What a change of the pens leaves of a layer.
-pub pens_inner : (v w : CellView) (rect : Rectangle) (dx dy : ℤ)
-    → w ≡ with_live (λ c. with_layer (λ l. pens_scrolled (λ i j. shows c i j) rect dx dy l) c) v
-    → inner_in w.live ≡ inner_in v.live
+pub pens_inner : (v w : LiveView) (rect : Rectangle) (dx dy : ℤ)
+    → w ≡ with_layer (λ l. pens_scrolled (λ i j. shows v i j) rect dx dy l) v
+    → inner_in w ≡ inner_in v
 unfolding with_pens
-pens_inner v w rect dx dy is = ap (λ (q : CellView). inner_in q.live) is
+pens_inner v w rect dx dy is = ap (λ (q : LiveView). inner_in q) is
 
-pub pens_updating : (v w : CellView) (rect : Rectangle) (dx dy : ℤ)
-    → w ≡ with_live (λ c. with_layer (λ l. pens_scrolled (λ i j. shows c i j) rect dx dy l) c) v
-    → w.live.layer.updating ≡ v.live.layer.updating
+pub pens_updating : (v w : LiveView) (rect : Rectangle) (dx dy : ℤ)
+    → w ≡ with_layer (λ l. pens_scrolled (λ i j. shows v i j) rect dx dy l) v
+    → w.layer.updating ≡ v.layer.updating
 unfolding with_pens
-pens_updating v w rect dx dy is = ap (λ (q : CellView). q.live.layer.updating) is
+pens_updating v w rect dx dy is = ap (λ (q : LiveView). q.layer.updating) is
 
-pub pens_keep : (v w : CellView) (rect : Rectangle) (dx dy : ℤ)
-    → w ≡ with_live (λ c. with_layer (λ l. pens_scrolled (λ i j. shows c i j) rect dx dy l) c) v
+pub pens_keep : (v w : LiveView) (rect : Rectangle) (dx dy : ℤ)
+    → w ≡ with_layer (λ l. pens_scrolled (λ i j. shows v i j) rect dx dy l) v
     → (table : List (List Bool)) (x y : ℤ)
-    → holds_at (λ i j. keeps w.live i j) x y
-    ≡ holds_at (λ i j. keeps (with_layer (λ l. record l { damage = table }) v.live) i j) x y
+    → holds_at (λ i j. keeps w i j) x y
+    ≡ holds_at (λ i j. keeps (with_layer (λ l. record l { damage = table }) v) i j) x y
 unfolding with_pens keeps is_kept
-pens_keep v w rect dx dy is table x y = ap (λ (q : CellView). holds_at (λ i j. keeps q.live i j) x y) is
+pens_keep v w rect dx dy is table x y = ap (λ (q : LiveView). holds_at (λ i j. keeps q i j) x y) is
 
 -- The scroll is done once the damage is replaced,
-pub damage_set : (v w z : CellView) (rect : Rectangle) (dx dy : ℤ) (d : Damaged)
-    → w ≡ with_live (λ c. with_layer (λ l. pens_scrolled (λ i j. shows c i j) rect dx dy l) c) v
-    → z ≡ with_live (λ c. with_layer (λ l. record l { damage = damage_table l.bits d.rects }) c) w
-    → scrolled_damage v.live rect dx dy ≡ damage_table v.live.layer.bits d.rects
-    → z ≡ with_live (λ c. with_layer (λ l. scroll_raster (λ i j. shows c i j) dx dy rect l) c) v
+pub damage_set : (v w z : LiveView) (rect : Rectangle) (dx dy : ℤ) (d : Damaged)
+    → w ≡ with_layer (λ l. pens_scrolled (λ i j. shows v i j) rect dx dy l) v
+    → z ≡ with_layer (λ l. record l { damage = damage_table l.bits d.rects }) w
+    → scrolled_damage v rect dx dy ≡ damage_table v.layer.bits d.rects
+    → z ≡ with_layer (λ l. scroll_raster (λ i j. shows v i j) dx dy rect l) v
 unfolding with_pens
 damage_set v w z rect dx dy d pens set is =
     set
-    ∙ (ap (with_live (λ c. with_layer (λ l. record l { damage = damage_table l.bits d.rects }) c)) pens
-    ∙ ap (λ t. with_live (λ c. with_layer (λ l. record (pens_scrolled (λ i j. shows c i j) rect dx dy l) { damage = t }) c) v)
+    ∙ (ap (with_layer (λ l. record l { damage = damage_table l.bits d.rects })) pens
+    ∙ ap (λ t. with_layer (λ l. record (pens_scrolled (λ i j. shows v i j) rect dx dy l) { damage = t }) v)
     (sym is))
 
 -- or where it stays.
-pub damage_left : (v w : CellView) (rect : Rectangle) (dx dy : ℤ)
-    → w ≡ with_live (λ c. with_layer (λ l. pens_scrolled (λ i j. shows c i j) rect dx dy l) c) v
-    → scrolled_damage v.live rect dx dy ≡ v.live.layer.damage
-    → w ≡ with_live (λ c. with_layer (λ l. scroll_raster (λ i j. shows c i j) dx dy rect l) c) v
+pub damage_left : (v w : LiveView) (rect : Rectangle) (dx dy : ℤ)
+    → w ≡ with_layer (λ l. pens_scrolled (λ i j. shows v i j) rect dx dy l) v
+    → scrolled_damage v rect dx dy ≡ v.layer.damage
+    → w ≡ with_layer (λ l. scroll_raster (λ i j. shows v i j) dx dy rect l) v
 unfolding with_pens
 damage_left v w rect dx dy pens is =
     pens ∙ ap
-    (λ t. with_live (λ c. with_layer (λ l. record (pens_scrolled (λ i j. shows c i j) rect dx dy l) { damage = t }) c) v)
+    (λ t. with_layer (λ l. record (pens_scrolled (λ i j. shows v i j) rect dx dy l) { damage = t }) v)
     (sym is)

@@ -4,11 +4,10 @@ ghost use Rattle.std.specs.Prelude.{◌≡◌, ℕ, ◌≤◌, false, not, ◌&&
 ghost use Rattle.lw_region.specs.Rectangle.{has_pixel};
 ghost use Rattle.lw_planes.specs.Sizes.{IsPlanes};
 ghost use Rattle.lw_kernels.specs.Kernel.{is_between};
-ghost use Rattle.lw_layer.specs.View as view;
 ghost use Rattle.lw_scroll.specs.Blocks.{LiesIn, IsBlockOf, IsAtSide, AreBrought, IsBrought, in_block};
 
 use lw_draw::{Places, span};
-use lw_layer::Cell;
+use lw_layer::Layer;
 use lw_region::Rect;
 
 #[derive(Clone, Copy)]
@@ -18,17 +17,16 @@ pub(crate) struct Block {
 }
 
 // The pixels of the rectangle that the layer's bits have.
-pub(crate) fn block_of(cell: &Cell, rect: &Rect) -> Block
-    requires { cell.now.state ≡ view.Live }
-    ensures lies { LiesIn cell.now.live.layer.bits.width cell.now.live.layer.bits.height result }
-    ensures has { IsBlockOf cell.now.live rect.now result }
-    ensures bits { IsPlanes cell.now.live.layer.bits }
-    ensures wide { cell.now.live.layer.bits.width ≤ 2048 }
-    ensures high { cell.now.live.layer.bits.height ≤ 2048 }
+pub(crate) fn block_of(layer: &Layer, rect: &Rect) -> Block
+    ensures lies { LiesIn layer.now.layer.bits.width layer.now.layer.bits.height result }
+    ensures has { IsBlockOf layer.now rect.now result }
+    ensures bits { IsPlanes layer.now.layer.bits }
+    ensures wide { layer.now.layer.bits.width ≤ 2048 }
+    ensures high { layer.now.layer.bits.height ≤ 2048 }
 {
     Block {
-        columns: span(rect.min_x(), rect.max_x(), cell.width()),
-        rows: span(rect.min_y(), rect.max_y(), cell.height()),
+        columns: span(rect.min_x(), rect.max_x(), layer.width()),
+        rows: span(rect.min_y(), rect.max_y(), layer.height()),
     }
 }
 

@@ -5,131 +5,111 @@ ghost use Rattle.lw_region.specs.Rectangle.{has_pixel, IsWord};
 ghost use Rattle.lw_region.specs.Bands.{covers};
 ghost use Rattle.lw_calls.specs.Kinds.{is_super};
 ghost use Rattle.lw_damage.specs.Damaged.{may_lie};
-ghost use Rattle.lw_layer.specs.View as view;
 ghost use Rattle.lw_layer.specs.Pieces.{IsDamageOf};
-ghost use Rattle.lw_layer.specs.Looks.{IsLook};
-ghost use Rattle.lw_layer.specs.StandsFor.{IsSound};
 ghost use Rattle.lw_scroll.specs.Marks.{AreKept, AreClipped, IsWhole, AreDrawable, LeadToHurt, AreDue, IsDamageAfter, IsMovedDamage, AreShifted};
 
 use crate::block::{block_of, brought_block, rect_of};
 use lw_calls::Kind;
 use lw_damage::Damage;
-use lw_layer::{Cell, Look, kept_region};
+use lw_layer::{Layer, kept_region};
 use lw_region::{Rect, Region, and_region, clear_region, moved_region, or_region};
 use std::alloc::{AllocError, Global};
 
-// The damage of the live layer once its pixels were scrolled; `None` where it is as before.
+// The damage of the layer once its pixels were scrolled; `None` where it is as before.
 pub(crate) fn damage_after(
     alloc: Global,
-    cell: &Cell,
+    layer: &Layer,
     rect: &Rect,
     dx: i32,
     dy: i32,
 ) -> Result<Option<Damage>, AllocError>
-    requires live { cell.now.state ≡ view.Live }
     requires left { negsuc 65534 ≤ℤ dx }
     requires right { dx ≤ℤ pos 65535 }
     requires up { negsuc 65534 ≤ℤ dy }
     requires down { dy ≤ℤ pos 65535 }
-    ensures { IfOk result (λ d. IsDamageAfter cell.now.live rect.now dx dy d) }
+    ensures { IfOk result (λ d. IsDamageAfter layer.now rect.now dx dy d) }
 {
-    let former = cell.damage();
-    if is_whole(cell, former) {
+    let former = layer.damage();
+    if is_whole(layer, former) {
         return Ok(None);
     }
-    let block = block_of(cell, rect);
+    let block = block_of(layer, rect);
     let Some(target) = rect_of(brought_block(block, dx, dy)) else {
         return Ok(None);
     };
     let Some(source) = rect_of(brought_block(block, -dx, -dy)) else {
         return Ok(None);
     };
-    let damage = moved_damage(alloc, cell, former, &target, &source, dx, dy)?;
+    let damage = moved_damage(alloc, layer, former, &target, &source, dx, dy)?;
     Ok(Some(damage))
 }
 
 // Whether the layer keeps all its pixels and none is damaged, so that a scroll leaves it so.
-fn is_whole(cell: &Cell, former: &Damage) -> bool
-    requires live { cell.now.state ≡ view.Live }
-    requires former { IsDamageOf cell.now.live former.now }
-    ensures whole { result ≡ true → IsWhole cell.now.live }
-    ensures other { result ≡ false → is_super cell.now.live.layer.kind ≡ false }
+fn is_whole(layer: &Layer, former: &Damage) -> bool
+    requires former { IsDamageOf layer.now former.now }
+    ensures whole { result ≡ true → IsWhole layer.now }
+    ensures other { result ≡ false → is_super layer.now.layer.kind ≡ false }
     ensures inside { (x y : ℤ) → covers former.now.rects x y ≡ true → may_lie former.now.inner x y ≡ true }
 {
     let damaged = former.region();
-    match look_of(cell).kind {
+    match layer.look().kind {
         Kind::Simple => false,
         Kind::Smart => damaged.rects().is_empty(),
         Kind::SuperBitmap => true,
     }
 }
 
-// What the live layer looks like.
-fn look_of(cell: &Cell) -> Look
-    requires { cell.now.state ≡ view.Live }
-    ensures look { IsLook cell.now.live result }
-    ensures sound { IsSound cell.now.live }
-{
-    match cell.look() {
-        Some(look) => look,
-        None => unreachable!(),
-    }
-}
-
 // The damage once the pixels of the target took that of the source.
 fn moved_damage(
     alloc: Global,
-    cell: &Cell,
+    layer: &Layer,
     former: &Damage,
     target: &Rect,
     source: &Rect,
     dx: i32,
     dy: i32,
 ) -> Result<Damage, AllocError>
-    requires live { cell.now.state ≡ view.Live }
-    requires former { IsDamageOf cell.now.live former.now }
-    requires other { is_super cell.now.live.layer.kind ≡ false }
+    requires former { IsDamageOf layer.now former.now }
+    requires other { is_super layer.now.layer.kind ≡ false }
     requires left { negsuc 65534 ≤ℤ dx }
     requires right { dx ≤ℤ pos 65535 }
     requires up { negsuc 65534 ≤ℤ dy }
     requires down { dy ≤ℤ pos 65535 }
     requires shifted { AreShifted target.now source.now dx dy }
-    ensures { IfOk result (λ d. IsMovedDamage cell.now.live target.now dx dy d) }
+    ensures { IfOk result (λ d. IsMovedDamage layer.now target.now dx dy d) }
 {
-    let kept = kept_of(alloc, cell)?;
-    let reached = drawable_in(alloc, cell, former, &kept, target)?;
+    let kept = kept_of(alloc, layer)?;
+    let reached = drawable_in(alloc, layer, former, &kept, target)?;
     let hurt = hurt_region(alloc, kept, former.region(), source, dx, dy)?;
     let due = due_region(alloc, former.region(), reached, &hurt)?;
     Damage::of_region(alloc, former.inner(), &due, former.updating())
 }
 
 // The pixels that the layer keeps.
-fn kept_of(alloc: Global, cell: &Cell) -> Result<Region, AllocError>
-    requires live { cell.now.state ≡ view.Live }
-    requires other { is_super cell.now.live.layer.kind ≡ false }
-    ensures { IfOk result (λ kept. AreKept cell.now.live kept) }
+fn kept_of(alloc: Global, layer: &Layer) -> Result<Region, AllocError>
+    requires other { is_super layer.now.layer.kind ≡ false }
+    ensures { IfOk result (λ kept. AreKept layer.now kept) }
 {
-    let look = look_of(cell);
-    kept_region(alloc, look.kind, &look.bounds, cell.visible())
+    let look = layer.look();
+    kept_region(alloc, look.kind, &look.bounds, layer.visible())
 }
 
 // The drawable pixels of a rectangle.
 fn drawable_in(
     alloc: Global,
-    cell: &Cell,
+    layer: &Layer,
     former: &Damage,
     kept: &Region,
     target: &Rect,
 ) -> Result<Region, AllocError>
-    requires live { cell.now.state ≡ view.Live }
-    requires former { IsDamageOf cell.now.live former.now }
-    requires kept { AreKept cell.now.live kept.now }
-    ensures { IfOk result (λ made. AreDrawable cell.now.live target.now made) }
+    requires former { IsDamageOf layer.now former.now }
+    requires kept { AreKept layer.now kept.now }
+    ensures { IfOk result (λ made. AreDrawable layer.now target.now made) }
 {
     let mut reached = Region::new(alloc);
     reached.or_rect(alloc, target)?;
     and_region(alloc, kept, &mut reached)?;
-    meet_clip(alloc, cell, &mut reached)?;
+    meet_clip(alloc, layer, &mut reached)?;
     if former.updating() {
         and_region(alloc, former.region(), &mut reached)?;
     }
@@ -137,11 +117,10 @@ fn drawable_in(
 }
 
 // Leaves those pixels that lie in the clip region, if there is one.
-fn meet_clip(alloc: Global, cell: &Cell, into: &mut Region) -> Result<(), AllocError>
-    requires { cell.now.state ≡ view.Live }
-    ensures { OnOk result (AreClipped cell.now.live into.old into.new) }
+fn meet_clip(alloc: Global, layer: &Layer, into: &mut Region) -> Result<(), AllocError>
+    ensures { OnOk result (AreClipped layer.now into.old into.new) }
 {
-    if let Some(clip) = cell.clip() {
+    if let Some(clip) = layer.clip() {
         and_region(alloc, clip, into)?;
     }
     Ok(())

@@ -1,14 +1,13 @@
 ghost use Rattle.std.specs.Prelude.{◌≡◌, pos, negsuc, ◌≤ℤ◌, OnOk, OnErr};
 ghost use Rattle.lw_machine.specs.Blits.{scroll_raster as with_raster_scrolled};
-ghost use Rattle.lw_layer.specs.View.{shows, with_live, with_layer};
-ghost use Rattle.lw_layer.specs.View as view;
+ghost use Rattle.lw_layer.specs.View.{shows, with_layer};
 ghost use Rattle.lw_scroll.specs.Scrolled.{pens_scrolled};
 
 use crate::block::{beside, block_of, brought_block};
 use crate::damage::damage_after;
 use lw_blit::shift_rows;
 use lw_draw::fill_rows;
-use lw_layer::{Cell, Raster};
+use lw_layer::{Layer, Raster};
 use lw_region::Rect;
 use std::alloc::{AllocError, Global};
 
@@ -17,47 +16,41 @@ use std::alloc::{AllocError, Global};
 /// B where that one lies outside the rectangle. From a pixel that isn't kept it takes pen 0. With its pen a pixel takes the damage;
 /// what comes from a pixel that isn't kept is damaged, and what takes pen B keeps its own (how damage moves is this project's own).
 /// All pens and all damage are taken as they were before the call. The steps are from -65535 to 65535. The new damage takes all the
-/// memory, and comes first: after an error the cell is as before.
+/// memory, and comes first: after an error the layer is as before.
 pub fn scroll_raster(
     alloc: Global,
-    cell: &mut Cell,
+    layer: &mut Layer,
     dx: i32,
     dy: i32,
     rect: &Rect,
 ) -> Result<(), AllocError>
-    requires live { cell.old.state ≡ view.Live }
     requires left { negsuc 65534 ≤ℤ dx }
     requires right { dx ≤ℤ pos 65535 }
     requires up { negsuc 65534 ≤ℤ dy }
     requires down { dy ≤ℤ pos 65535 }
-    ensures done { OnOk result (cell.new ≡ with_live
-        (λ c. with_layer (λ l. with_raster_scrolled (λ i j. shows c i j) dx dy rect.now l) c)
-        cell.old) }
-    ensures err { OnErr result (cell.new ≡ cell.old) }
+    ensures done { OnOk result (layer.new ≡ with_layer (λ l. with_raster_scrolled (λ i j. shows layer.old i j) dx dy rect.now l) layer.old) }
+    ensures err { OnErr result (layer.new ≡ layer.old) }
 {
-    let damage = damage_after(alloc, cell, rect, dx, dy)?;
-    scroll_pens(cell, rect, dx, dy);
+    let damage = damage_after(alloc, layer, rect, dx, dy)?;
+    scroll_pens(layer, rect, dx, dy);
     if let Some(damage) = damage {
-        cell.set_damage(damage);
+        layer.set_damage(damage);
     }
     Ok(())
 }
 
 // Scrolls the pens: the pixels that take another one's first, and then those that take pen B.
-fn scroll_pens(cell: &mut Cell, rect: &Rect, dx: i32, dy: i32)
-    requires live { cell.old.state ≡ view.Live }
+fn scroll_pens(layer: &mut Layer, rect: &Rect, dx: i32, dy: i32)
     requires left { negsuc 65534 ≤ℤ dx }
     requires right { dx ≤ℤ pos 65535 }
     requires up { negsuc 65534 ≤ℤ dy }
     requires down { dy ≤ℤ pos 65535 }
-    ensures { cell.new ≡ with_live
-        (λ c. with_layer (λ l. pens_scrolled (λ i j. shows c i j) rect.now dx dy l) c)
-        cell.old }
+    ensures { layer.new ≡ with_layer (λ l. pens_scrolled (λ i j. shows layer.old i j) rect.now dx dy l) layer.old }
 {
-    let block = block_of(cell, rect);
+    let block = block_of(layer, rect);
     let target = brought_block(block, dx, dy);
-    let raster = cell.raster();
-    shift_rows(cell, target.rows, target.columns, dx, dy, raster.mask);
+    let raster = layer.raster();
+    shift_rows(layer, target.rows, target.columns, dx, dy, raster.mask);
     // This mode inverts nothing.
     let solid = Raster {
         a: raster.b,
@@ -66,6 +59,6 @@ fn scroll_pens(cell: &mut Cell, rect: &Rect, dx: i32, dy: i32)
     };
     let rows = beside(block.rows, target.rows);
     let columns = beside(block.columns, target.columns);
-    fill_rows(cell, rows, block.columns, solid);
-    fill_rows(cell, target.rows, columns, solid);
+    fill_rows(layer, rows, block.columns, solid);
+    fill_rows(layer, target.rows, columns, solid);
 }

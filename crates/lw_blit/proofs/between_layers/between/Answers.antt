@@ -1,5 +1,4 @@
 use Rattle.std.proofs.Common.{◌∙◌, ap, arith}
-use Rattle.lw_layer.specs.View.{LiveView}
 use Rattle.lw_machine.specs.Layer.{Raster}
 use Rattle.lw_draw.specs.Drawn.{drawn}
 use Rattle.lw_blit.specs.Blitting.{blit_by, from_layer, masked}
@@ -18,22 +17,20 @@ transfer_of-requires c = area_near c.args.area.now c.requires.fits
 pub returns-then-columns : goal.returns-then-columns
 returns-then-columns c =
     let v = c.args.to.now in
-    let u = c.args.source.now.live in
+    let u = c.args.source.now in
     let rows = c.rows_of-rows.result in
     let columns = c.columns_of-columns.result in
     c.between_rows.ensures ∙
-    ap (λ (q : LiveView). record v { live = q })
-    (ap (λ t. drawn (masked c.raster-mask.result.mask v.live rows.from rows.end columns.from columns.end) (from_layer u t) v.live) c.transfer_of.ensures.value ∙
-    (layer_blitted v.live u c.args.area.now _ rows.from rows.end columns.from columns.end c.width-2.ensures.bits.bitmap (ap (λ (r : Raster). r.mask) c.raster-mask.ensures.value)
-    (reached_by c.args.area.now u.layer.bits.width u.layer.bits.height v.live.layer.bits.width v.live.layer.bits.height _ _ _ _ rows.from rows.end columns.from columns.end c.width.ensures.value c.height.ensures.value c.width-2.ensures.value c.height-2.ensures.value c.columns_of-columns.ensures.has c.rows_of-rows.ensures.has)))
+    ap (λ t. drawn (masked c.raster-mask.result.mask v rows.from rows.end columns.from columns.end) (from_layer u t) v) c.transfer_of.ensures.value ∙
+    (layer_blitted v u c.args.area.now _ rows.from rows.end columns.from columns.end c.width-2.ensures.bits.bitmap (ap (λ (r : Raster). r.mask) c.raster-mask.ensures.value)
+    (reached_by c.args.area.now u.layer.bits.width u.layer.bits.height v.layer.bits.width v.layer.bits.height _ _ _ _ rows.from rows.end columns.from columns.end c.width.ensures.value c.height.ensures.value c.width-2.ensures.value c.height-2.ensures.value c.columns_of-columns.ensures.has c.rows_of-rows.ensures.has))
 
 pub returns-else-columns : goal.returns-else-columns
 returns-else-columns c =
     let v = c.args.to.now in
-    let u = c.args.source.now.live in
+    let u = c.args.source.now in
     let rows = c.rows_of-rows.result in
     let columns = c.columns_of-columns.result in
     nothing_reached v c.raster-mask.result.mask rows.from rows.end columns.from columns.end (from_layer u (blit_by c.args.area.now)) c.width-2.ensures.bits.bitmap (omega arith) ∙
-    ap (λ (q : LiveView). record v { live = q })
-    (layer_blitted v.live u c.args.area.now _ rows.from rows.end columns.from columns.end c.width-2.ensures.bits.bitmap (ap (λ (r : Raster). r.mask) c.raster-mask.ensures.value)
-    (reached_by c.args.area.now u.layer.bits.width u.layer.bits.height v.live.layer.bits.width v.live.layer.bits.height _ _ _ _ rows.from rows.end columns.from columns.end c.width.ensures.value c.height.ensures.value c.width-2.ensures.value c.height-2.ensures.value c.columns_of-columns.ensures.has c.rows_of-rows.ensures.has))
+    layer_blitted v u c.args.area.now _ rows.from rows.end columns.from columns.end c.width-2.ensures.bits.bitmap (ap (λ (r : Raster). r.mask) c.raster-mask.ensures.value)
+    (reached_by c.args.area.now u.layer.bits.width u.layer.bits.height v.layer.bits.width v.layer.bits.height _ _ _ _ rows.from rows.end columns.from columns.end c.width.ensures.value c.height.ensures.value c.width-2.ensures.value c.height-2.ensures.value c.columns_of-columns.ensures.has c.rows_of-rows.ensures.has)

@@ -1,5 +1,4 @@
 use Rattle.std.proofs.Common.{◌≡◌, ◌+◌, ◌≤◌, ◌-◌}
-use Rattle.lw_layer.specs.View.{with_live}
 use Rattle.lw_draw.specs.Drawn.{drawn}
 use Rattle.lw_blit.specs.Blitting.{from_rows, masked}
 use Rattle.lw_blit.proofs.painting.paint_row.Given as goal
@@ -8,7 +7,7 @@ abbrev pub invariant-loop-stretch : goal.invariant-loop-stretch
 invariant-loop-stretch l = record {
   first : l.columns.from ≤ l.x;
   last : l.x ≤ l.columns.end;
-  painted : l.cell ≡ with_live (λ c. drawn (masked l.mask c l.y (l.y + 1) l.columns.from l.x) (from_rows l.minterm l.rows l.columns.from) c) l.initial.cell;
+  painted : l.layer ≡ drawn (masked l.mask l.initial.layer l.y (l.y + 1) l.columns.from l.x) (from_rows l.minterm l.rows l.columns.from) l.initial.layer;
 }
 
 abbrev pub decreases-loop-stretch : goal.decreases-loop-stretch

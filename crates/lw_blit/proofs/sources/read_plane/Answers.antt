@@ -12,7 +12,7 @@ word z = to_z w32 (of_z w32 z)
 
 pub returns-clause-bits : goal.returns-clause-bits
 returns-clause-bits c i low =
-    let live = c.args.source.now.live in
+    let live = c.args.source.now in
     let across : word c.args.x ≡ c.args.x = search rules in
     let down : word c.args.y ≡ c.args.y = search rules in
     let long : length c.copy_pixels.new.bits ≡ c.args.bytes = search rules in
@@ -23,7 +23,7 @@ returns-clause-bits c i low =
 
 pub returns-clause-kept : goal.returns-clause-kept
 returns-clause-kept c i low =
-    let live = c.args.source.now.live in
+    let live = c.args.source.now in
     let across : word c.args.x ≡ c.args.x = search rules in
     let down : word c.args.y ≡ c.args.y = search rules in
     let long : length c.copy_pixels.new.kept ≡ c.args.bytes = search rules in

@@ -10,11 +10,11 @@ abbrev word : ℤ → ℤ
 word z = to_z w32 (of_z w32 z)
 
 pub loop-plane-init : goal.loop-plane-init
-loop-plane-init c = none_read c.args.source.now.live c.args.mask (word c.args.x) (word c.args.y) c.args.count c.args.rows.now
+loop-plane-init c = none_read c.args.source.now c.args.mask (word c.args.x) (word c.args.y) c.args.count c.args.rows.now
 
 pub loop-plane-preserved : goal.loop-plane-preserved
 loop-plane-preserved c =
-    let live = c.args.source.now.live in
+    let live = c.args.source.now in
     let mask = c.args.mask in
     let x = word c.args.x in
     let y = word c.args.y in

@@ -13,7 +13,7 @@ word z = to_z w32 (of_z w32 z)
 
 pub returns : goal.returns
 returns c =
-    let live = c.args.source.now.live in
+    let live = c.args.source.now in
     let t = c.args.transfer in
     let from = c.args.columns.from in
     let end = c.args.columns.end in

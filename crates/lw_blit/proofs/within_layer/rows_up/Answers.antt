@@ -1,5 +1,4 @@
 use Rattle.std.proofs.Common.{◌≡◌, ℕ, ◌+◌, ◌-◌, ◌∙◌, ap, arith}
-use Rattle.lw_layer.specs.View.{CellView, with_live}
 use Rattle.lw_draw.specs.Drawn.{drawn}
 use Rattle.lw_blit.specs.Blitting.{from_layer, masked}
 use Rattle.lw_blit.proofs.LoopLaws.{layer_gives_bits, no_rows, row_above, row_as_before, source_above}
@@ -8,15 +7,12 @@ use Rattle.lw_blit.proofs.within_layer.rows_up.Goals as goal
 pub loop-y-init : goal.loop-y-init
 loop-y-init c = record {
   low = c.args.rows.ordered;
-  painted = no_rows c.args.cell.now c.args.mask c.args.rows.end c.args.columns.from c.args.columns.end (from_layer c.args.cell.now.live c.args.transfer) c.depth.ensures.bits.bitmap;
+  painted = no_rows c.args.layer.now c.args.mask c.args.rows.end c.args.columns.from c.args.columns.end (from_layer c.args.layer.now c.args.transfer) c.depth.ensures.bits.bitmap;
 }
-
-pub transfer_row-requires-clause-live : goal.transfer_row-requires-clause-live
-transfer_row-requires-clause-live c = ap (λ (q : CellView). q.state) c.loop-y.invariant.painted ∙ c.requires.live
 
 pub loop-y-preserved : goal.loop-y-preserved
 loop-y-preserved c =
-    let v = c.args.cell.now in
+    let v = c.args.layer.now in
     let bottom = c.args.rows.end in
     let next = c.loop-y.y in
     let y : ℕ = c.loop-y.y - 1 in
@@ -27,12 +23,12 @@ loop-y-preserved c =
     record {
       low = omega arith;
       painted =
-          row_above v c.loop-y.cell c.transfer_row.new.cell c.args.mask y next bottom from end (from_layer v.live t) (layer_gives_bits v.live t) after (omega arith) c.loop-y.invariant.painted
-          (row_as_before v c.loop-y.cell c.transfer_row.new.cell c.args.mask next bottom y from end t (λ j is. source_above t y next bottom j after c.requires.order is) c.loop-y.invariant.painted c.transfer_row.ensures);
+          row_above v c.loop-y.layer c.transfer_row.new.layer c.args.mask y next bottom from end (from_layer v t) (layer_gives_bits v t) after (omega arith) c.loop-y.invariant.painted
+          (row_as_before v c.loop-y.layer c.transfer_row.new.layer c.args.mask next bottom y from end t (λ j is. source_above t y next bottom j after c.requires.order is) c.loop-y.invariant.painted c.transfer_row.ensures);
     }
 
 pub returns : goal.returns
 returns c =
     let top : c.loop-y.y ≡ c.args.rows.from = omega arith in
     c.loop-y.invariant.painted ∙
-    ap (λ k. with_live (λ q. drawn (masked c.args.mask q k c.args.rows.end c.args.columns.from c.args.columns.end) (from_layer q c.args.transfer) q) c.args.cell.now) top
+    ap (λ k. drawn (masked c.args.mask c.args.layer.now k c.args.rows.end c.args.columns.from c.args.columns.end) (from_layer c.args.layer.now c.args.transfer) c.args.layer.now) top

@@ -9,11 +9,11 @@ use Rattle.lw_scroll.proofs.damage.damage_after.Goals as goal
 
 pub returns-then-is_whole : goal.returns-then-is_whole
 returns-then-is_whole c =
-    whole_stays c.args.cell.now.live c.args.rect.now c.args.dx c.args.dy (c.if-is_whole.ensures.whole refl)
+    whole_stays c.args.layer.now c.args.rect.now c.args.dx c.args.dy (c.if-is_whole.ensures.whole refl)
 
 pub returns-in_default : goal.returns-in_default
 returns-in_default c =
-    let v = c.args.cell.now.live in
+    let v = c.args.layer.now in
     let block = c.block_of-block.result in
     let target = c.brought_block.result in
     let are : IsBrought block c.args.dx c.args.dy target =
@@ -33,7 +33,7 @@ brought_block-requires-2-clause-down c = let low = c.requires.up in omega (arith
 
 pub returns-in_default-rect_of : goal.returns-in_default-rect_of
 returns-in_default-rect_of c =
-    let v = c.args.cell.now.live in
+    let v = c.args.layer.now in
     let block = c.block_of-block.result in
     let target = c.brought_block.result in
     let source = c.brought_block-2.result in
@@ -80,7 +80,7 @@ moved_damage-requires-clause-shifted c =
 
 pub returns : goal.returns
 returns c =
-    let v = c.args.cell.now.live in
+    let v = c.args.layer.now in
     let block = c.block_of-block.result in
     let target = c.brought_block.result in
     let are : IsBrought block c.args.dx c.args.dy target =

@@ -11,7 +11,7 @@ use Rattle.lw_scroll.proofs.damage.drawable_in.Goals.{then-updating+in_ok-and_re
 
 pub returns : goal.returns
 returns c = λ x y.
-    let v = c.args.cell.now.live in
+    let v = c.args.layer.now in
     let target = c.args.target.now in
     let former = c.args.former.now in
     let kept : Bool = holds_at (λ i j. keeps v i j) x y in

@@ -6,9 +6,9 @@ use Rattle.lw_scroll.proofs.damage.kept_of.Goals as goal
 
 pub returns : goal.returns
 returns c =
-    let v = c.args.cell.now.live in
-    let look = c.look_of-look.result in
-    let sees = c.look_of-look.ensures in
+    let v = c.args.layer.now in
+    let look = c.look-look.result in
+    let sees = c.look-look.ensures in
     IfOk-weaker c.kept_region.result (λ made. keeping.AreKept look.kind look.bounds c.visible.result.now made)
     (λ made. AreKept v made)
     (λ made are.

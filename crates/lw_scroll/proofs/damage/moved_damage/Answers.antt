@@ -27,7 +27,7 @@ hurt_region-requires-clause-words c =
 
 pub returns : goal.returns
 returns c =
-    let v = c.args.cell.now.live in
+    let v = c.args.layer.now in
     let former = c.args.former.now in
     let target = c.args.target.now in
     let source = c.args.source.now in

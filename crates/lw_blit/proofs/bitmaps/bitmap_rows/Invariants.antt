@@ -1,8 +1,0 @@
-use Rattle.std.proofs.Common.{◌≡◌}
-use Rattle.lw_layer.specs.View.{with_live}
-use Rattle.lw_draw.specs.Drawn.{drawn}
-use Rattle.lw_blit.specs.Blitting.{from_bits, masked}
-use Rattle.lw_blit.proofs.bitmaps.bitmap_rows.Given as goal
-
-abbrev pub invariant-loop-y : goal.invariant-loop-y
-invariant-loop-y l = l.cell ≡ with_live (λ c. drawn (masked l.mask c l.fn.rows.from l.y l.columns.from l.columns.end) (from_bits l.bitmap l.area) c) l.initial.cell

@@ -1,8 +1,0 @@
-use Rattle.std.proofs.Common.{◌≡◌}
-use Rattle.lw_layer.specs.View.{with_live}
-use Rattle.lw_draw.specs.Drawn.{drawn}
-use Rattle.lw_blit.specs.Blitting.{from_bits, planes_before}
-use Rattle.lw_blit.proofs.bitmaps.bitmap_run.Given as goal
-
-abbrev pub invariant-loop-plane : goal.invariant-loop-plane
-invariant-loop-plane l = l.cell ≡ with_live (λ c. drawn (planes_before l.mask l.plane l.stretch) (from_bits l.bitmap l.area) c) l.initial.cell
