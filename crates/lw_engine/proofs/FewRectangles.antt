@@ -1,11 +1,10 @@
 -- The cells of a desk have few rectangles.
-use Rattle.std.proofs.Common.{◌≡◌, ℕ, ◌+◌, ◌*◌, ◌≤◌, List, subst}
+use Rattle.std.proofs.Common.{ℕ, ◌+◌, ◌*◌, ◌≤◌, List, subst}
 use Rattle.lw_machine.specs.Parts.{slot_part}
 use Rattle.lw_bounds.specs.Cuts.{rectangle_count}
 use Rattle.lw_bounds.specs.Fronts.{front_count}
 use Rattle.lw_bounds.proofs.OnDesks.{rectangles_few}
-use Rattle.lw_layer.specs.View.{State, CellView, LiveView}
-use Rattle.lw_layer.specs.View as view
+use Rattle.lw_layer.specs.View.{State}
 use Rattle.lw_layer.specs.StandsFor.{IsLivePart, IsPartOf}
 use Rattle.lw_engine.specs.Desks.{cell_at}
 use Rattle.lw_engine.specs.Counted.{CellsHaveFewRectangles}

@@ -73,7 +73,7 @@ placed a n active r room l = record {
 
 -- its frame
 framed_placed : (glyphs : List (List ℕ)) (a : ArrangementView) (n : ℕ) (before : Option Rectangle) (c : LiveView) (r : Rectangle) (room : ℕ) (l : Layer) (t : Bool)
-    → with_frame_if t glyphs (is_the a.stack.active n) (placed a n (is_the a.stack.active n) r room l)
+    → with_live (with_frame_if t glyphs (is_the a.stack.active n)) (placed a n (is_the a.stack.active n) r room l)
     ≡ placed a n (is_the a.stack.active n) r room
     (if t then with_frame glyphs (reveal.keeps (across_arrangement a n before c r) l) (is_the a.stack.active n) l else l)
 unfolding keeps
@@ -84,14 +84,14 @@ framed_placed glyphs a n before c r room l false = refl
 pub live_settled : (glyphs : List (List ℕ)) (a : ArrangementView) (c : CellView) (r : Rectangle) (w : WindowAfter) (f : CellView)
     → f ≡ placed a c.number c.live.active r c.live.room (revealed (across_live a c r) c.live.layer)
     → IsWindowAfter a c r w
-    → record { number = c.number; state = view.Live; live = settled_live glyphs a c.number c.live r } ≡ followed glyphs w (across_live a c r) f
+    → record { number = c.number; state = view.Live; live = settled_live glyphs a c.number c.live r } ≡ with_live (followed glyphs w (across_live a c r)) f
 unfolding settled_layer
 live_settled glyphs a c r w f revealed_is after =
     let n = c.number in
     let q = across_live a c r in
     let l = c.live.layer in
     let active = is_the a.stack.active n in
-    let Followed : Bool → CellView → CellView = λ t u. with_live (with_window_told q) (with_frame_if w.frame glyphs t (with_activity t u)) in
+    let Followed : Bool → CellView → CellView = λ t u. with_live (λ k. with_window_told q (with_frame_if w.frame glyphs t (with_activity t k))) u in
     let Told : Layer → CellView = λ k. with_live (with_window_told q) (placed a n active r c.live.room k) in
     sym
     (ap (Followed w.active) revealed_is
@@ -142,7 +142,7 @@ pub new_settled : (glyphs : List (List ℕ)) (a : ArrangementView) (n : ℕ) (r 
     → is_the a.stack.active n ≡ false → f ≡ placed a n false r 0 (revealed (created_across a n r false) new)
     → (revealed (created_across a n r false) new).damage
     ≡ grid (revealed (created_across a n r false) new).bits.width (revealed (created_across a n r false) new).bits.height (λ x y. false)
-    → record { number = n; state = view.Live; live = settled_new glyphs a n r new } ≡ with_own_frame glyphs false f
+    → record { number = n; state = view.Live; live = settled_new glyphs a n r new } ≡ with_live (with_own_frame glyphs false) f
 unfolding settled_layer keeps
 new_settled glyphs a n r new f idle revealed_is undamaged_is =
     let q = created_across a n r false in
@@ -155,7 +155,7 @@ new_settled glyphs a n r new f idle revealed_is undamaged_is =
     ap Settled idle
     ∙ (ap (λ room. placed a n false r room (with_messages q framed)) left
     ∙ (ap (λ o. placed a n false r 0 (record framed { window = o })) (untold a n r framed framed.window none)
-    ∙ ap (with_own_frame glyphs false) (sym revealed_is)))
+    ∙ ap (with_live (with_own_frame glyphs false)) (sym revealed_is)))
 
 -- What is filled of a layer that stays live is what the machine reveals of it.
 pub live_filled : (a : ArrangementView) (c : CellView) (r : Rectangle) → c.state ≡ view.Live → IsSound (bare c).live

@@ -14,7 +14,7 @@ use Rattle.lw_machine.specs.Hook.{Hook, tile_place, hook_pen}
 use Rattle.lw_machine.specs.Paint.{with_pens, pen_within}
 use Rattle.lw_backfill.specs.Hooks.{solid}
 use Rattle.lw_machine.specs.Layer.{Layer, is_framed}
-use Rattle.lw_layer.specs.View.{State, CellView, keeps, with_layer, with_live, hooked}
+use Rattle.lw_layer.specs.View.{State, LiveView, CellView, keeps, with_layer, with_live, hooked}
 use Rattle.lw_layer.specs.View as view
 use Rattle.lw_layer.specs.Drafts.{no_layer}
 use Rattle.lw_layer.specs.StandsFor.{IsSound}
@@ -79,17 +79,16 @@ none_listed [] none = refl
 none_listed (r ∷ rs) none = absurd (let some : (length (r ∷ rs) == 0) ≡ false = grind (arith, nat_tests) in cc (none, some))
 
 -- where no pixel is gained, nothing is filled
-pub none_filled : (c : CellView) (h : Option Hook) (gained : List Rectangle) → IsBitmap c.live.layer.bits → (length gained == 0) ≡ true
-    → hooked h c ≡ filled_as h gained c
+pub none_filled : (c : LiveView) (h : Option Hook) (gained : List Rectangle) → IsBitmap c.layer.bits → (length gained == 0) ≡ true
+    → with_layer (λ l. record l { hook = h }) c ≡ filled_as h gained c
 none_filled c h gained ok none =
-    let on : ℕ → ℕ → Bool = λ x y. keeps c.live x y && covers gained (pos x) (pos y) in
+    let on : ℕ → ℕ → Bool = λ x y. keeps c x y && covers gained (pos x) (pos y) in
     let off : (x y : ℕ) → on x y ≡ false =
     λ x y.
-    ap (λ l. keeps c.live x y && covers l (pos x) (pos y)) (none_listed gained none)
-    ∙ (ap (λ t. keeps c.live x y && t) (covers_nil (pos x) (pos y)) ∙ and-false (keeps c.live x y))
+    ap (λ l. keeps c x y && covers l (pos x) (pos y)) (none_listed gained none)
+    ∙ (ap (λ t. keeps c x y && t) (covers_nil (pos x) (pos y)) ∙ and-false (keeps c x y))
     in
-    ap (λ (q : Layer). record c { live = record c.live { layer = q } })
-    (sym (unfilled c.live.layer h on (not (length gained == 0)) ok off (ap not none)))
+    ap (λ (q : Layer). record c { layer = q }) (sym (unfilled c.layer h on (not (length gained == 0)) ok off (ap not none)))
 
 -- a hook of pen 0 has that pen everywhere
 zeros : (n k : ℕ) → get_or (replicate n zero) k zero ≡ zero
@@ -102,20 +101,20 @@ unfolding hook_pen
 zero_pen x y = zeros 64 (8 * tile_place y + tile_place x)
 
 -- what is filled with pen 0
-pub zero_filled : (c e : CellView) (gained : List Rectangle) (h : Hook) → h ≡ solid 0
-    → e ≡ with_live (λ k. with_layer (λ l. with_pens (λ x y. keeps k x y && covers gained (pos x) (pos y))
-    (λ x y. pen_within l.bits.depth (hook_pen h (pos x) (pos y))) l) k) c
-    → hooked None e ≡ filled_as None gained c
+pub zero_filled : (c e : LiveView) (gained : List Rectangle) (h : Hook) → h ≡ solid 0
+    → e ≡ with_layer (λ l. with_pens (λ x y. keeps c x y && covers gained (pos x) (pos y))
+    (λ x y. pen_within l.bits.depth (hook_pen h (pos x) (pos y))) l) c
+    → with_layer (λ l. record l { hook = None }) e ≡ filled_as None gained c
 zero_filled c e gained h solid_is is =
-    let l : Layer = c.live.layer in
-    let on : ℕ → ℕ → Bool = λ x y. keeps c.live x y && covers gained (pos x) (pos y) in
-    let Painted : (ℕ → ℕ → ℕ) → CellView = λ f. record c { live = record c.live { layer = record (with_pens on f l) { hook = None } } } in
+    let l : Layer = c.layer in
+    let on : ℕ → ℕ → Bool = λ x y. keeps c x y && covers gained (pos x) (pos y) in
+    let Painted : (ℕ → ℕ → ℕ) → LiveView = λ f. record c { layer = record (with_pens on f l) { hook = None } } in
     let zero : (x y : ℕ) → pen_within l.bits.depth (hook_pen h (pos x) (pos y)) ≡ 0 =
     λ x y.
     ap (λ k. pen_within l.bits.depth (hook_pen k (pos x) (pos y))) solid_is
     ∙ (ap (pen_within l.bits.depth) (zero_pen (pos x) (pos y)) ∙ pen_same l.bits.depth 0 (pow_pos l.bits.depth))
     in
-    ap (hooked None) is ∙ ap Painted (fun_ext (λ x. fun_ext (λ y. zero x y)))
+    ap (with_layer (λ l. record l { hook = None })) is ∙ ap Painted (fun_ext (λ x. fun_ext (λ y. zero x y)))
 
 -- what a cell becomes, by its bounds and its state
 abbrev pub cell_as : ArrangementView → CellView → Option Rectangle → State → CellView
@@ -146,7 +145,7 @@ pub ready_settled : (glyphs : List (List ℕ)) (a : ArrangementView) (shelf : Li
     (w : WindowAfter) → MayBeReady a c → (c.state ≡ view.Live → IsSound (bare c).live)
     → IsPrepared (bare c) (cell_after a (bare c)) p
     → ((cell_after a (bare c)).state ≡ view.Live
-    → filled_from (bare c) (due_hook a shelf c c.state) (cell_after a (bare c)) ≡ filled_as (due_hook a shelf c c.state) gained (cell_after a (bare c)))
+    → filled_from (bare c) (due_hook a shelf c c.state) (cell_after a (bare c)) ≡ with_live (filled_as (due_hook a shelf c c.state) gained) (cell_after a (bare c)))
     → (c.state ≡ view.Live → (r : Rectangle) → bounds_at a.stack.bounds c.number ≡ Some r → IsWindowAfter a c r w)
     → IsSettledBy glyphs c (slot_after glyphs a shelf c) gained (asked_hook shelf a.call c.number) w p
 ready_settled glyphs a shelf c p gained w may sound ready filled after = by_cases (bounds_at a.stack.bounds c.number) refl c.state refl p ready
@@ -175,7 +174,7 @@ ready_settled glyphs a shelf c p gained w may sound ready filled after = by_case
     -- a layer that stays live, and is what it was once what it gains is filled
     followed_live : (r : Rectangle) (f : CellView) → bounds_at a.stack.bounds n ≡ Some r → c.state ≡ view.Live
         → f ≡ filled_from b (hook_in c) (stayed r (shown_at a n) b)
-        → slot_after glyphs a shelf c ≡ followed glyphs w (across_live a c r) f
+        → slot_after glyphs a shelf c ≡ with_live (followed glyphs w (across_live a c r)) f
     followed_live r f bounds live is =
         slot_is (Some r) view.Live bounds live
         ∙ live_settled glyphs a c r w f (is ∙ live_filled a c r live (sound live)) (after live r bounds)
@@ -183,7 +182,7 @@ ready_settled glyphs a shelf c p gained w may sound ready filled after = by_case
     -- a new layer
     opened_new : (r : Rectangle) (o : Option Created) → bounds_at a.stack.bounds n ≡ Some r → c.state ≡ view.Unopened
         → created_by a.task a.call ≡ o → MayOpen o a.stack.sizes.depth r → e.state ≡ view.Live
-        → slot_after glyphs a shelf c ≡ with_own_frame glyphs false (filled_as h gained e)
+        → slot_after glyphs a shelf c ≡ with_live (λ k. with_own_frame glyphs false (filled_as h gained k)) e
     opened_new r None bounds fresh new may_open live = absurd may_open
     opened_new r (Some k) bounds fresh new may_open live =
         let depth = a.stack.sizes.depth in
@@ -192,12 +191,12 @@ ready_settled glyphs a shelf c p gained w may sound ready filled after = by_case
         cell_is a c (Some r) view.Unopened bounds fresh ∙ ap (λ o. record { number = n; state = view.Live; live = created_live o depth r (shown_at a n) }) new
         in
         let layer = new_of (Some k) depth h in
-        let P : State → Type 0 = λ s. filled_from b (due_hook a shelf c s) e ≡ filled_as (due_hook a shelf c s) gained e in
-        let right : filled_from b h e ≡ filled_as h gained e = subst P fresh (filled live) in
+        let P : State → Type 0 = λ s. filled_from b (due_hook a shelf c s) e ≡ with_live (filled_as (due_hook a shelf c s) gained) e in
+        let right : filled_from b h e ≡ with_live (filled_as h gained) e = subst P fresh (filled live) in
         let place = may_open.size.place in
         slot_is (Some r) view.Unopened bounds fresh
         ∙ (ap (λ o. record { number = n; state = view.Live; live = settled_new glyphs a n r (new_of o depth h) }) new
-        ∙ new_settled glyphs a n r layer (filled_as h gained e) (may.idle fresh)
+        ∙ new_settled glyphs a n r layer (with_live (filled_as h gained) e) (may.idle fresh)
         (sym right ∙ (ap (filled_from b h) cell ∙ new_filled a c r k.make k.window depth h fresh place))
         (new_undamaged a c r k.make k.window depth h fresh place))
 
@@ -224,7 +223,7 @@ ready_settled glyphs a shelf c p gained w may sound ready filled after = by_case
       state,
       ready.1,
       opened_new r (created_by a.task a.call) bounds state refl (may_become a c may r view.Unopened bounds state) (state_of_cell _ _ ready.2)
-          ∙ ap (λ v. with_own_frame glyphs false (filled_as h gained v)) ready.2,
+          ∙ ap (λ v. with_live (λ k. with_own_frame glyphs false (filled_as h gained k)) v) ready.2,
     )
     by_cases (Some r) bounds view.Unopened state (Changes k) ready = absurd (cc (state, ready.0))
     by_cases (Some r) bounds view.Live state Stays ready =
@@ -241,15 +240,15 @@ ready_settled glyphs a shelf c p gained w may sound ready filled after = by_case
     by_cases (Some r) bounds view.Live state (Opens d) ready = absurd (cc (state, ready.0))
     by_cases (Some r) bounds view.Live state (Changes k) ready =
         let live : e.state ≡ view.Live = state_of_cell _ _ ready.2 ∙ state in
-        let P : State → Type 0 = λ s. filled_from b (due_hook a shelf c s) e ≡ filled_as (due_hook a shelf c s) gained e in
-        let right : filled_from b (hook_in c) e ≡ filled_as (hook_in c) gained e = subst P state (filled live) in (
+        let P : State → Type 0 = λ s. filled_from b (due_hook a shelf c s) e ≡ with_live (filled_as (due_hook a shelf c s) gained) e in
+        let right : filled_from b (hook_in c) e ≡ with_live (filled_as (hook_in c) gained) e = subst P state (filled live) in (
           state,
           may.room,
           ready.1,
           across_live a c r,
           (after state r bounds).done,
           followed_live r _ bounds state
-              (ap (filled_as (hook_in c) gained) (sym ready.2)
+              (ap (with_live (filled_as (hook_in c) gained)) (sym ready.2)
               ∙ (sym right ∙ ap (filled_from b (hook_in c)) (cell_is a c (Some r) view.Live bounds state))),
         )
     by_cases (Some r) bounds view.Closed state Stays ready = still view.Closed state (slot_is (Some r) view.Closed bounds state)

@@ -9,7 +9,7 @@ use Rattle.lw_machine.specs.Layer.{is_framed}
 use Rattle.lw_machine.specs.Desk.{is_the}
 use Rattle.lw_machine.specs.Arrangement.{hook_from}
 use Rattle.lw_machine.specs.Reveal.{Across, width_in, height_in, frame_is_due, revealed}
-use Rattle.lw_layer.specs.View.{State, CellView, keeps, with_live, hooked}
+use Rattle.lw_layer.specs.View.{State, LiveView, CellView, keeps, with_layer, with_live, hooked}
 use Rattle.lw_layer.specs.View as view
 use Rattle.lw_layer.specs.Drafts.{IsLiveDraft, live_view, no_layer}
 use Rattle.lw_layer.specs.Windows.{HasRoom}
@@ -21,7 +21,7 @@ use Rattle.lw_arrange.specs.declared.preparing.Prepared.{Prepared}
 use Rattle.lw_arrange.specs.declared.preparing.Prepared.TheVariants.{Stays, Closes, Opens, Changes}
 use Rattle.lw_arrange.specs.Arrangements.{ArrangementView}
 use Rattle.lw_arrange.specs.Prepared.{MayPrepare}
-use Rattle.lw_arrange.specs.Filled.{gains, gains_some, filled_by}
+use Rattle.lw_arrange.specs.Filled.{gains, gains_some, filled_layer, filled_by}
 use Rattle.lw_arrange.specs.Settled.{across_arrangement, slot_settled}
 use Rattle.lw_engine.specs.declared.window_after.WindowAfter.{WindowAfter}
 use Rattle.lw_engine.specs.Desks.{hook_at}
@@ -72,9 +72,10 @@ due_hook a shelf c view.Closed = None
 abbrev pub filled_from : CellView → Option Hook → CellView → CellView
 filled_from c h e = filled_by h (λ x y. gains c e x y) (gains_some c e) e
 
--- the slot once the pixels of these rectangles that its layer keeps were filled, with its layer's hook or with pen 0
-abbrev pub filled_as : Option Hook → List Rectangle → CellView → CellView
-filled_as h gained c = filled_by h (λ x y. keeps c.live x y && covers gained (pos x) (pos y)) (not (length gained == 0)) c
+-- the layer, which has this hook if any, once the pixels of these rectangles that it keeps were filled, with the hook or with pen 0
+abbrev pub filled_as : Option Hook → List Rectangle → LiveView → LiveView
+filled_as h gained c =
+    with_layer (λ l. filled_layer h (λ x y. keeps c x y && covers gained (pos x) (pos y)) (not (length gained == 0)) l) c
 
 -- the one rectangle has another number of columns or lines than the other
 abbrev pub is_sized : Rectangle → Rectangle → Bool
@@ -92,15 +93,15 @@ pub record IsWindowAfter (a : ArrangementView) (c : CellView) (r : Rectangle) (w
   pub frame : is_framed c.live.layer.window ≡ true
       → w.frame ≡ frame_is_due (across_live a c r) c.live.layer (revealed (across_live a c r) c.live.layer)
 
--- the slot whose layer is the active window or not, with its frame where it is due, and its window told
-abbrev pub with_activity : Bool → CellView → CellView
-with_activity active c = with_live (λ k. record k { active = active }) c
+-- the layer that is the active window or not, with its frame where it is due, and its window told
+abbrev pub with_activity : Bool → LiveView → LiveView
+with_activity active c = record c { active = active }
 
-abbrev pub with_frame_if : Bool → List (List ℕ) → Bool → CellView → CellView
+abbrev pub with_frame_if : Bool → List (List ℕ) → Bool → LiveView → LiveView
 with_frame_if due glyphs active c = if due then with_own_frame glyphs active c else c
 
-abbrev pub followed : List (List ℕ) → WindowAfter → Across → CellView → CellView
-followed glyphs w q c = with_live (with_window_told q) (with_frame_if w.frame glyphs w.active (with_activity w.active c))
+abbrev pub followed : List (List ℕ) → WindowAfter → Across → LiveView → LiveView
+followed glyphs w q c = with_window_told q (with_frame_if w.frame glyphs w.active (with_activity w.active c))
 
 -- What is ready to be made of a slot: what was prepared for its cell, the pixels that are then filled, the hook of a new layer, and
 -- what becomes of the window of one that stays live.
@@ -113,7 +114,7 @@ pub record ReadyView : Type 0 where
 -- the one slot becomes the other, whose layer stays as it is if there is one: its window is told
 abbrev pub IsStill : List (List ℕ) → CellView → CellView → WindowAfter → State → Type 0
 IsStill glyphs from to w view.Unopened = to ≡ from
-IsStill glyphs from to w view.Live = HasRoom 5 from × (q : Across) × IsDone q w.change × (to ≡ followed glyphs w q from)
+IsStill glyphs from to w view.Live = HasRoom 5 from × (q : Across) × IsDone q w.change × (to ≡ with_live (followed glyphs w q) from)
 IsStill glyphs from to w view.Closed = to ≡ from
 
 -- the one slot becomes the other by what is ready for it
@@ -123,11 +124,15 @@ IsSettledBy glyphs from to gained taken w Closes =
     (from.state ≡ view.Live) × (to ≡ record { number = from.number; state = view.Closed; live = no_layer })
 IsSettledBy glyphs from to gained taken w (Opens d) =
     (from.state ≡ view.Unopened) × IsLiveDraft d
-    × (to ≡ with_own_frame glyphs false (filled_as taken gained (record { number = from.number; state = view.Live; live = live_view d })))
+    × (to ≡ record {
+      number = from.number;
+      state = view.Live;
+      live = with_own_frame glyphs false (filled_as taken gained (live_view d));
+    })
 IsSettledBy glyphs from to gained taken w (Changes k) =
     (from.state ≡ view.Live) × HasRoom 5 from × IsChange (bare from).live k × (q : Across) × IsDone q w.change
-    × (to ≡ followed glyphs w q
-    (filled_as (hook_in from) gained (with_live (λ c. carried_to k.bounds k.parts.visible c) (bare from))))
+    × (to ≡ with_live
+    (λ c. followed glyphs w q (filled_as (hook_in from) gained (carried_to k.bounds k.parts.visible c))) (bare from))
 
 abbrev pub IsSettled : List (List ℕ) → CellView → CellView → ReadyView → Type 0
 IsSettled glyphs from to r = IsSettledBy glyphs from to r.gained r.taken r.window r.prepared

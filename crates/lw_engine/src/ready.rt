@@ -5,7 +5,7 @@ ghost use Rattle.lw_machine.specs.Arrangement.{hook_from};
 ghost use Rattle.lw_machine.specs.Layer.{is_framed};
 ghost use Rattle.lw_machine.specs.Reveal.{Across};
 ghost use Rattle.lw_layer.specs.View as view;
-ghost use Rattle.lw_layer.specs.View.{CellView, with_live, hooked};
+ghost use Rattle.lw_layer.specs.View.{CellView, with_layer, with_live};
 ghost use Rattle.lw_layer.specs.Drafts.{IsLiveDraft, live_view, no_layer};
 ghost use Rattle.lw_layer.specs.Windows.{HasRoom};
 ghost use Rattle.lw_frames.specs.Framing.{with_own_frame};
@@ -24,7 +24,7 @@ use lw_backfill::{Backfill, Shelf, Solid};
 use lw_calls::{Assets, Call};
 use lw_frames::paint_own_frame;
 use lw_hooks::fill;
-use lw_layer::{Cell, LiveDraft};
+use lw_layer::{Cell, Layer, LiveDraft};
 use lw_region::Region;
 use lw_reveal::Change;
 use std::alloc::{AllocError, Global};
@@ -132,9 +132,10 @@ impl<B: Backfill> Slot<B> {
         requires { (to : CellView) × IsStill assets.now.glyphs self.old to window.now self.old.state }
         ensures { (to : CellView) → IsStill assets.now.glyphs self.old to window.now self.old.state → self.new ≡ to }
     {
-        if self.cell.look().is_some() {
-            self.follow(alloc, assets, window);
-        }
+        let Some(layer) = self.cell.layer_mut() else {
+            return;
+        };
+        follow(alloc, layer, assets, window);
     }
 
     // The layer is deleted, and its hook dropped.
@@ -157,16 +158,23 @@ impl<B: Backfill> Slot<B> {
     )
         requires fresh { self.old.state ≡ view.Unopened }
         requires draft { IsLiveDraft draft }
-        ensures { self.new ≡ with_own_frame assets.now.glyphs false (filled_as (option_map B.hook taken) gained.now
-            (record { number = self.old.number; state = view.Live; live = live_view draft })) }
+        ensures { self.new ≡ record {
+          number = self.old.number;
+          state = view.Live;
+          live = with_own_frame assets.now.glyphs false (filled_as (option_map B.hook taken) gained.now (live_view draft));
+        } }
     {
         commit(&mut self.cell, Prepared::Opens(draft));
         self.held = taken;
-        fill_gained(&mut self.cell, &mut self.held, gained);
-        paint_own_frame(alloc, &mut self.cell, assets, false);
+        let Some(layer) = self.cell.layer_mut() else {
+            unreachable!();
+        };
+        fill_gained(layer, &mut self.held, gained);
+        paint_own_frame(alloc, layer, assets, false);
     }
 
-    // The layer has other bounds, or another part of it is visible.
+    // The layer has other bounds, or another part of it is visible: what it gained is filled, and then its window's frame and
+    // messages are as they are due.
     fn change(
         &mut self,
         alloc: Global,
@@ -178,33 +186,19 @@ impl<B: Backfill> Slot<B> {
         requires live { self.old.state ≡ view.Live }
         requires room { HasRoom 5 self.old }
         requires change { IsChange (bare self.old).live change }
-        ensures { (q : Across) → IsDone q window.now.change → self.new ≡ followed assets.now.glyphs window.now q
-            (filled_as (hook_in self.old) gained.now (with_live (λ c. carried_to change.bounds change.parts.visible c) (bare self.old))) }
-    {
-        self.reveal(change, gained);
-        self.follow(alloc, assets, window);
-    }
-
-    // The layer has other bounds, or another part of it is visible, and what it gained is filled.
-    fn reveal(&mut self, change: Change, gained: &Region)
-        requires live { self.old.state ≡ view.Live }
-        requires change { IsChange (bare self.old).live change }
-        ensures { self.new ≡ filled_as (hook_in self.old) gained.now
-            (with_live (λ c. carried_to change.bounds change.parts.visible c) (bare self.old)) }
+        ensures { (q : Across) → IsDone q window.now.change → self.new ≡ with_live
+            (λ c. followed assets.now.glyphs window.now q
+            (filled_as (hook_in self.old) gained.now (carried_to change.bounds change.parts.visible c)))
+            (bare self.old) }
     {
         // Reading this tells the proof that the cell has no hook of its own.
         let _ = self.cell.look();
         commit(&mut self.cell, Prepared::Changes(change));
-        fill_gained(&mut self.cell, &mut self.held, gained);
-    }
-
-    // The layer is the active window or not, and its window's frame and messages are as they are due.
-    fn follow(&mut self, alloc: Global, assets: &Assets, window: &WindowAfter)
-        requires live { self.old.state ≡ view.Live }
-        requires room { HasRoom 5 self.old }
-        ensures { (q : Across) → IsDone q window.now.change → self.new ≡ followed assets.now.glyphs window.now q self.old }
-    {
-        follow(alloc, &mut self.cell, assets, window);
+        let Some(layer) = self.cell.layer_mut() else {
+            unreachable!();
+        };
+        fill_gained(layer, &mut self.held, gained);
+        follow(alloc, layer, assets, window);
     }
 }
 
@@ -273,20 +267,19 @@ fn is_there<B: Backfill>(shelf: &Shelf<B>, hook: Option<u32>) -> bool
 }
 
 // Has the pixels filled with the layer's hook, if it has one, which then turns if there are some, and else with pen 0.
-fn fill_gained<B: Backfill>(cell: &mut Cell, held: &mut Option<B>, gained: &Region)
-    requires { cell.old.state ≡ view.Live }
-    ensures { hooked (option_map B.hook held.new) cell.new ≡ filled_as (option_map B.hook held.old) gained.now cell.old }
+fn fill_gained<B: Backfill>(layer: &mut Layer, held: &mut Option<B>, gained: &Region)
+    ensures { with_layer (λ l. record l { hook = option_map B.hook held.new }) layer.new ≡ filled_as (option_map B.hook held.old) gained.now layer.old }
 {
     // Reading this tells the proof that the layer has only pens of its depth.
-    let _ = cell.depth();
+    let _ = layer.depth();
     if gained.rects().is_empty() {
         return;
     }
     match held {
         Some(hook) => {
-            fill(cell, hook, gained);
+            fill(layer, hook, gained);
             hook.turned();
         }
-        None => fill(cell, &Solid::new(0), gained),
+        None => fill(layer, &Solid::new(0), gained),
     }
 }

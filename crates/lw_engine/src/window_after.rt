@@ -1,14 +1,13 @@
 // What an arrangement makes of the window that a layer is which stays live.
 
-ghost use Rattle.std.specs.Prelude.{◌≡◌, ◌&&◌, ◌||◌, not, true, Option, Some};
+ghost use Rattle.std.specs.Prelude.{◌≡◌, ◌≤◌, ◌&&◌, ◌||◌, not, true, Option, Some};
 ghost use Rattle.lw_region.specs.Rectangle.{Rectangle, width, height};
 ghost use Rattle.lw_machine.specs.Hook.{Hook};
-ghost use Rattle.lw_machine.specs.Layer.{is_framed};
+ghost use Rattle.lw_machine.specs.Layer.{is_window, is_framed};
 ghost use Rattle.lw_machine.specs.Desk.{is_the};
 ghost use Rattle.lw_machine.specs.Reveal.{Across, same_bounds};
 ghost use Rattle.lw_layer.specs.View as view;
 ghost use Rattle.lw_layer.specs.View.{hooked};
-ghost use Rattle.lw_layer.specs.Windows.{HasRoom};
 ghost use Rattle.lw_frames.specs.Telling.{IsDone};
 ghost use Rattle.lw_stack.specs.Stack.{bounds_at};
 ghost use Rattle.lw_arrange.specs.Prepared.{cell_after, MayPrepare};
@@ -18,7 +17,7 @@ ghost use Rattle.lw_engine.specs.Slots.{followed, is_sized, no_window_after, IsW
 use lw_arrange::{Arrangement, gains_frame};
 use lw_calls::Assets;
 use lw_frames::{paint_own_frame, tell};
-use lw_layer::{Cell, Look};
+use lw_layer::{Cell, Layer, Look};
 use lw_region::{Rect, Region};
 use lw_windows::Change;
 use std::alloc::Global;
@@ -124,15 +123,14 @@ fn is_due(change: &Change, on_frame: bool) -> bool
     change.sized || change.deactivated || change.activated || on_frame
 }
 
-/// The live layer is the active window or not, its frame is painted where that is due, and its window is told.
-pub(crate) fn follow(alloc: Global, cell: &mut Cell, assets: &Assets, window: &WindowAfter)
-    requires live { cell.old.state ≡ view.Live }
-    requires room { HasRoom 5 cell.old }
-    ensures { (q : Across) → IsDone q window.now.change → cell.new ≡ followed assets.now.glyphs window.now q cell.old }
+/// The layer is the active window or not, its frame is painted where that is due, and its window is told.
+pub(crate) fn follow(alloc: Global, layer: &mut Layer, assets: &Assets, window: &WindowAfter)
+    requires { is_window layer.old.layer.window ≡ true → 5 ≤ layer.old.room }
+    ensures { (q : Across) → IsDone q window.now.change → layer.new ≡ followed assets.now.glyphs window.now q layer.old }
 {
-    cell.set_active(window.active);
+    layer.set_active(window.active);
     if window.frame {
-        paint_own_frame(alloc, cell, assets, window.active);
+        paint_own_frame(alloc, layer, assets, window.active);
     }
-    tell(cell, &window.change);
+    tell(layer, &window.change);
 }

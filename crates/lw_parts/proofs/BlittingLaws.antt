@@ -1,4 +1,4 @@
--- What blits and ScrollRaster answer and leave, in every desk for whose slots the cells stand.
+-- What blits and ScrollRaster answer and leave, in every desk whose slots have the layers.
 use Rattle.std.proofs.Common.{arith, IsTrue, ◌≤ℤ◌, ◌≡◌, ℕ, ◌==◌, Bool, true, false, not, ◌&&◌, nat_lt, if◌then◌else◌, ℤ, pos, negsuc, List, Some, None, ◌∙◌, sym, refl, ap, subst}
 use Rattle.std.specs.List.{slice_index_or}
 use Rattle.std.proofs.lemmas.Bool.{eq-eqb, and_parts}
@@ -12,7 +12,6 @@ use Rattle.lw_calls.specs.declared.area.Area.{Area}
 use Rattle.lw_calls.specs.declared.call.Call.{Call}
 use Rattle.lw_calls.specs.declared.call.Call.TheVariants.{ScrollRaster, Put, Blit}
 use Rattle.lw_calls.specs.Limits.{is_coordinate, coordinates_fit}
-use Rattle.lw_calls.specs.declared.reply.Reply.{Reply}
 use Rattle.lw_calls.specs.declared.reply.Reply.TheVariants.{Done, NotOpen}
 use Rattle.lw_calls.specs.declared.touch.CallClass.{CallClass}
 use Rattle.lw_calls.specs.declared.touch.CallClass.TheVariants.{OnLayer, OnLayers}
@@ -28,13 +27,14 @@ use Rattle.lw_machine.specs.Step.{refuse, refuse_not_open, refuse_unless_open, f
 use Rattle.lw_steps.proofs.ClassLaws.{ArePair, pair_told, pair_apart}
 use Rattle.lw_layer.specs.View.{LiveView, CellView, shows, draws, with_layer, with_live}
 use Rattle.lw_layer.specs.View as view
-use Rattle.lw_layer.specs.StandsFor.{IsLivePart, StandsFor, IsSound}
+use Rattle.lw_layer.specs.StandsFor.{IsLivePart, StandsFor}
 use Rattle.lw_layer.proofs.SoundLaws.{live_part}
 use Rattle.lw_draw.specs.Drawn.{in_mask}
 use Rattle.lw_draw.proofs.DrawnLaws.{drawn_nowhere}
 use Rattle.lw_draw.proofs.PaintLaws.{shape_drawn}
-use Rattle.lw_parts.specs.Parts.{IsSlotStep, IsCellStep, IsLayerStep, IsPairStep}
-use Rattle.lw_parts.proofs.OneLayerLaws.{dead_slot, refused_step, changed_step, shown_same, drawn_step}
+use Rattle.lw_parts.specs.Parts.{IsSlotStep, IsPairStep}
+use Rattle.lw_parts.specs.Open.{IsLiveStep, IsOpenStep, IsLentStep}
+use Rattle.lw_parts.proofs.OneLayerLaws.{dead_slot, refused_step, on_slot, changed_step, shown_same, drawn_step}
 
 -- a call within one layer is on that layer
 pub class_within : (n : ℕ) (a : Area) → class_of (Blit n n a) ≡ OnLayer n
@@ -47,20 +47,18 @@ source_told d n s visible a l live =
     ap (λ (v : ℕ → ℕ → Bool). clip_blit v s.layer visible a l) (shown_same d n s live)
 
 -- a blit within a layer
-pub within_step : (c new : CellView) (a : Area) (r : Reply) → c.state ≡ view.Live → new ≡ with_live (λ k. with_layer (λ l. clip_blit (λ i j. shows k i j) l (λ i j. shows k i j) a l) k) c → r ≡ Done → IsCellStep c (Blit c.number c.number a) r new
-within_step c new a r is leaves says =
-    λ d task stands.
-    let n : ℕ = c.number in
-    let live : IsLivePart c.live (slot_part d n) = live_part c (slot_part d n) is stands in
-    drawn_step d task (Blit n n a) r c new (λ visible. clip_blit_from (d.slot n) (is_visible d n) visible a) (class_within n a) is stands refl refl says
-    (leaves ∙ ap (λ (l : Layer). with_live (λ k. with_layer (λ m. l) k) c) (sym (source_told d n c.live (λ i j. shows c.live i j) a c.live.layer live)))
+pub within_step : (slot : ℕ) (c new : LiveView) (a : Area) → new ≡ with_layer (λ l. clip_blit (λ i j. shows c i j) l (λ i j. shows c i j) a l) c → IsOpenStep slot c (Blit slot slot a) Done new
+within_step slot c new a leaves =
+    λ d task live.
+    drawn_step d task slot (Blit slot slot a) Done c new (λ visible. clip_blit_from (d.slot slot) (is_visible d slot) visible a) (class_within slot a) live refl refl refl
+    (leaves ∙ ap (λ (l : Layer). with_layer (λ m. l) c) (sym (source_told d slot c (λ i j. shows c i j) a c.layer live)))
 
 -- a blit from a bitmap that the script handed in
-pub put_step : (c new : CellView) (assets : Assets) (n : ℕ) (a : Area) (b : Bitmap) (r : Reply) → c.state ≡ view.Live → slice_index_or assets.bitmaps n no_bitmap ≡ b → new ≡ with_live (λ k. with_layer (λ l. blt_bitmap_rast_port b (λ i j. shows k i j) a l) k) c → r ≡ Done → (task : ℕ) (regs : List (List Rectangle)) → IsLayerStep task c regs assets (Put n c.number a) r new
-put_step c new assets n a b r is found leaves says task regs =
-    λ d stands registers handed.
-    let made : Bitmap → CellView = λ q. with_live (λ k. with_layer (λ l. blt_bitmap_rast_port q (λ i j. shows k i j) a l) k) c in
-    drawn_step d task (Put n c.number a) r c new (λ visible. blt_bitmap_rast_port (slice_index_or d.assets.bitmaps n no_bitmap) visible a) refl is stands refl refl says
+pub put_step : (c new : LiveView) (assets : Assets) (n : ℕ) (a : Area) (b : Bitmap) → slice_index_or assets.bitmaps n no_bitmap ≡ b → new ≡ with_layer (λ l. blt_bitmap_rast_port b (λ i j. shows c i j) a l) c → (task slot : ℕ) (regs : List (List Rectangle)) → IsLentStep task slot c regs assets (Put n slot a) Done new
+put_step c new assets n a b found leaves task slot regs =
+    λ d live registers handed.
+    let made : Bitmap → LiveView = λ q. with_layer (λ l. blt_bitmap_rast_port q (λ i j. shows c i j) a l) c in
+    drawn_step d task slot (Put n slot a) Done c new (λ visible. blt_bitmap_rast_port (slice_index_or d.assets.bitmaps n no_bitmap) visible a) refl live refl refl refl
     (leaves ∙ ap made (sym (ap (λ (q : Assets). slice_index_or q.bitmaps n no_bitmap) handed ∙ found)))
 
 -- no pixel of a bitmap that has none is a source
@@ -74,26 +72,20 @@ not_there true true there off = off
 not_there true false there off = refl
 not_there false inside there off = refl
 
--- the bits of a live layer
-pub is_bitmap : (c : CellView) → (c.state ≡ view.Live → IsSound c.live) → c.state ≡ view.Live → IsBitmap c.live.layer.bits
-is_bitmap c sound is = (sound is).bits.bitmap
-
 -- it draws nothing
-pub nothing_put : (c : CellView) (a : Area) → IsBitmap c.live.layer.bits → c ≡ with_live (λ k. with_layer (λ l. blt_bitmap_rast_port no_bitmap (λ i j. shows k i j) a l) k) c
+pub nothing_put : (c : LiveView) (a : Area) → IsBitmap c.layer.bits → c ≡ with_layer (λ l. blt_bitmap_rast_port no_bitmap (λ i j. shows c i j) a l) c
 nothing_put c a ok =
-    let v : LiveView = c.live in
-    let new : ℕ → ℕ → ℕ → ℕ → ℕ = λ p x y old. blit_candidate no_bitmap a v.layer x y p in
-    ap (λ (q : LiveView). record c { live = q })
-    (sym (drawn_nowhere v (λ p x y. in_mask v.layer.raster p && false) new ok (λ p x y. and-false (in_mask v.layer.raster p))) ∙
-    shape_drawn v (λ x y. has_pixel (box_at a.x a.y a.w a.h) (pos x) (pos y) && holds_at (λ i j. nat_lt i 0 && nat_lt j 0) (source_column a x) (source_row a y)) (λ x y. false) new ok
-    (λ x y left low. not_there (draws v x y) (has_pixel (box_at a.x a.y a.w a.h) (pos x) (pos y)) _ (no_source (source_column a x) (source_row a y))))
+    let new : ℕ → ℕ → ℕ → ℕ → ℕ = λ p x y old. blit_candidate no_bitmap a c.layer x y p in
+    sym (drawn_nowhere c (λ p x y. in_mask c.layer.raster p && false) new ok (λ p x y. and-false (in_mask c.layer.raster p))) ∙
+    shape_drawn c (λ x y. has_pixel (box_at a.x a.y a.w a.h) (pos x) (pos y) && holds_at (λ i j. nat_lt i 0 && nat_lt j 0) (source_column a x) (source_row a y)) (λ x y. false) new ok
+    (λ x y left low. not_there (draws c x y) (has_pixel (box_at a.x a.y a.w a.h) (pos x) (pos y)) _ (no_source (source_column a x) (source_row a y)))
 
 -- a scroll of a rectangle
-pub scrolled_step : (c new : CellView) (dx dy told_x told_y : ℤ) (rect : Rectangle) (r : Reply) → told_x ≡ dx → told_y ≡ dy → c.state ≡ view.Live → new ≡ with_live (λ k. with_layer (λ l. scroll_raster (λ i j. shows k i j) told_x told_y rect l) k) c → r ≡ Done → IsCellStep c (ScrollRaster c.number dx dy rect) r new
-scrolled_step c new dx dy told_x told_y rect r same_x same_y is leaves says =
-    λ d task stands.
-    let made : ℤ → ℤ → CellView = λ u v. with_live (λ k. with_layer (λ l. scroll_raster (λ i j. shows k i j) u v rect l) k) c in
-    drawn_step d task (ScrollRaster c.number dx dy rect) r c new (λ visible. scroll_raster visible dx dy rect) refl is stands refl refl says
+pub scrolled_step : (c new : LiveView) (dx dy told_x told_y : ℤ) (rect : Rectangle) → told_x ≡ dx → told_y ≡ dy → new ≡ with_layer (λ l. scroll_raster (λ i j. shows c i j) told_x told_y rect l) c → (slot : ℕ) → IsOpenStep slot c (ScrollRaster slot dx dy rect) Done new
+scrolled_step c new dx dy told_x told_y rect same_x same_y leaves slot =
+    λ d task live.
+    let made : ℤ → ℤ → LiveView = λ u v. with_layer (λ l. scroll_raster (λ i j. shows c i j) u v rect l) c in
+    drawn_step d task slot (ScrollRaster slot dx dy rect) Done c new (λ visible. scroll_raster visible dx dy rect) refl live refl refl refl
     (leaves ∙ (ap (λ u. made u told_y) same_x ∙ ap (λ v. made dx v) same_y))
 
 -- a coordinate is far from the ends of the numbers
@@ -110,7 +102,7 @@ row_near dx dy fits = coordinate_near dy (and_parts (is_coordinate dx) (is_coord
 -- a call on two layers of which one isn't open
 pair_refused : (source to : CellView) (call : Call) (d : Desk) (task : ℕ) → refusal d task call ≡ Some NotOpen → StandsFor source (slot_part d source.number) → StandsFor to (slot_part d to.number) → StandsFor source (slot_part (after d task call) source.number) × IsSlotStep d task to.number call NotOpen to
 pair_refused source to call d task refused from stands =
-    ((refused_step d task source.number call NotOpen source refused from).1, refused_step d task to.number call NotOpen to refused stands)
+    ((refused_step d task source.number call NotOpen (λ p. StandsFor source p) refused from).1, refused_step d task to.number call NotOpen (λ p. StandsFor to p) refused stands)
 
 class_refuses : (source to : CellView) (call : Call) (d : Desk) (task : ℕ) → class_of call ≡ OnLayers source.number to.number → refusal d task call ≡ refuse_not_open (d.slot source.number) (refuse_not_open (d.slot to.number) (further_refusal d task call))
 class_refuses source to call d task class = ap (λ (k : CallClass). refuse_unless_open d k (further_refusal d task call)) class
@@ -145,9 +137,9 @@ source_stays d s t f c apart stands =
     subst P (sym (ap (λ b. if b then change_layer f (d.slot t) else d.slot s) apart)) stands
 
 -- a blit from one layer to another
-blit_between : (source to new : CellView) (a : Area) (r : Reply) → (source.number == to.number) ≡ false → class_of (Blit source.number to.number a) ≡ OnLayers source.number to.number → source.state ≡ view.Live → to.state ≡ view.Live → new ≡ with_live (λ k. with_layer (λ l. clip_blit (λ i j. shows source.live i j) source.live.layer (λ i j. shows k i j) a l) k) to → r ≡ Done → IsPairStep source to (Blit source.number to.number a) r new
+blit_between : (source to : CellView) (new : LiveView) (a : Area) → (source.number == to.number) ≡ false → class_of (Blit source.number to.number a) ≡ OnLayers source.number to.number → source.state ≡ view.Live → to.state ≡ view.Live → new ≡ with_layer (λ l. clip_blit (λ i j. shows source.live i j) source.live.layer (λ i j. shows to.live i j) a l) to.live → IsPairStep source to (Blit source.number to.number a) Done (with_live (λ k. new) to)
 unfolding after
-blit_between source to new a r apart class opened is leaves says =
+blit_between source to new a apart class opened is leaves =
     λ d task from stands.
     let s : ℕ = source.number in
     let t : ℕ = to.number in
@@ -164,16 +156,18 @@ blit_between source to new a r apart class opened is leaves says =
     let same : f l ≡ g l =
     source_told d s source.live (is_visible d t l) a l live ∙
     ap (λ (v : ℕ → ℕ → Bool). clip_blit (λ i j. shows source.live i j) source.live.layer v a l) (shown_same d t to.live target) in
-    let P : CellView → Type 0 = IsSlotStep d task t call r in
+    let P : LiveView → Type 0 = IsLiveStep d task t call Done in
     let Q : Desk → Type 0 = λ e. StandsFor source (slot_part e s) in (
       subst Q (sym (ap (λ o. changed_unless o d (effect d task call)) passes)) (source_stays d s t f source apart from),
-      subst P (sym leaves) (changed_step d task call r to f g target is passes says refl same),
+      on_slot d task to call Done new is (subst P (sym leaves) (changed_step d task t call Done to.live f g target passes refl refl same)),
     )
 
-pub between_step : (source to new : CellView) (call : Call) (m n : ℕ) (a : Area) (r : Reply) → class_of call ≡ OnLayers source.number to.number → call ≡ Blit m n a → source.state ≡ view.Live → to.state ≡ view.Live → new ≡ with_live (λ k. with_layer (λ l. clip_blit (λ i j. shows source.live i j) source.live.layer (λ i j. shows k i j) a l) k) to → r ≡ Done → IsPairStep source to call r new
-between_step source to new call m n a r class call_is opened is leaves says =
+pub between_step : (source to : CellView) (from target new : LiveView) (call : Call) (m n : ℕ) (a : Area) → class_of call ≡ OnLayers source.number to.number → call ≡ Blit m n a → source.state ≡ view.Live → to.state ≡ view.Live → from ≡ source.live → target ≡ to.live → new ≡ with_layer (λ l. clip_blit (λ i j. shows from i j) from.layer (λ i j. shows target i j) a l) target → IsPairStep source to call Done (with_live (λ k. new) to)
+between_step source to from target new call m n a class call_is opened is read lent leaves =
     let told : ArePair m n source.number to.number = pair_told m n source.number to.number a (sym (ap class_of call_is) ∙ class) in
     let same : call ≡ Blit source.number to.number a = call_is ∙ (ap (λ k. Blit k n a) told.from ∙ ap (λ k. Blit source.number k a) told.to) in
     let apart : (source.number == to.number) ≡ false = pair_apart call source.number to.number class in
-    let P : Call → Type 0 = λ k. IsPairStep source to k r new in
-    subst P (sym same) (blit_between source to new a r apart (sym (ap class_of same) ∙ class) opened is leaves says)
+    let blitted : LiveView → LiveView → LiveView = λ s t. with_layer (λ l. clip_blit (λ i j. shows s i j) s.layer (λ i j. shows t i j) a l) t in
+    let P : Call → Type 0 = λ k. IsPairStep source to k Done (with_live (λ k. new) to) in
+    subst P (sym same)
+    (blit_between source to new a apart (sym (ap class_of same) ∙ class) opened is (leaves ∙ (ap (λ s. blitted s target) read ∙ ap (blitted source.live) lent)))

@@ -1,4 +1,4 @@
--- What the calls that begin and end an update answer and leave, in every desk for whose slot the cell stands.
+-- What the calls that begin and end an update answer and leave, in every desk whose slot has the layer.
 use Rattle.std.proofs.Common.{◌≡◌, ℕ, Bool, true, false, not, Option, None, ◌∙◌, sym, refl, ap, subst}
 use Rattle.lw_calls.specs.declared.call.Call.TheVariants.{BeginRefresh, EndRefresh}
 use Rattle.lw_calls.specs.declared.reply.Reply.{Reply}
@@ -6,13 +6,9 @@ use Rattle.lw_calls.specs.declared.reply.Reply.TheVariants.{Done, NotOwner, InUp
 use Rattle.lw_machine.specs.Layer.{Layer, Slot, layer_is, is_foreign}
 use Rattle.lw_machine.specs.Layer as layer
 use Rattle.lw_machine.specs.Desk.{Desk}
-use Rattle.lw_machine.specs.Parts.{slot_part}
 use Rattle.lw_machine.specs.Step.{refuse, refuse_not_owner, further_refusal, end_update}
-use Rattle.lw_layer.specs.View.{CellView, with_layer, with_live}
-use Rattle.lw_layer.specs.View as view
-use Rattle.lw_layer.specs.StandsFor.{IsLivePart}
-use Rattle.lw_layer.proofs.SoundLaws.{live_part}
-use Rattle.lw_parts.specs.Parts.{IsSlotStep, IsTaskStep}
+use Rattle.lw_layer.specs.View.{LiveView, with_layer}
+use Rattle.lw_parts.specs.Open.{IsLiveStep, IsTaskStep}
 use Rattle.lw_parts.proofs.OneLayerLaws.{further_step, open_refusal, changed_step}
 
 -- the first refusals of a call that a window's task alone may make, and the next one
@@ -32,47 +28,42 @@ end_refusal d task slot full l foreign idle is whose told =
     ap (λ t. refuse foreign NotOwner (refuse t NotInUpdate None)) told
 
 -- no task begins an update of another's window
-pub begin_foreign : (task : ℕ) (c : CellView) → c.state ≡ view.Live → is_foreign task c.live.layer.window ≡ true → IsTaskStep task c (BeginRefresh c.number) NotOwner c
-begin_foreign task c is whose =
-    further_step task c (BeginRefresh c.number) NotOwner is refl
-    (λ d there. begin_refusal d task c.number c.live.layer true c.live.layer.updating there whose refl)
+pub begin_foreign : (task slot : ℕ) (c : LiveView) → is_foreign task c.layer.window ≡ true → IsTaskStep task slot c (BeginRefresh slot) NotOwner c
+begin_foreign task slot c whose =
+    further_step task slot c (BeginRefresh slot) NotOwner refl (λ d live. begin_refusal d task slot c.layer true c.layer.updating live.slot whose refl)
 
 -- no second update begins within one
-pub begin_in_update : (task : ℕ) (c : CellView) → c.state ≡ view.Live → is_foreign task c.live.layer.window ≡ false → c.live.layer.updating ≡ true → IsTaskStep task c (BeginRefresh c.number) InUpdate c
-begin_in_update task c is whose updating =
-    further_step task c (BeginRefresh c.number) InUpdate is refl (λ d there. begin_refusal d task c.number c.live.layer false true there whose updating)
+pub begin_in_update : (task slot : ℕ) (c : LiveView) → is_foreign task c.layer.window ≡ false → c.layer.updating ≡ true → IsTaskStep task slot c (BeginRefresh slot) InUpdate c
+begin_in_update task slot c whose updating =
+    further_step task slot c (BeginRefresh slot) InUpdate refl (λ d live. begin_refusal d task slot c.layer false true live.slot whose updating)
 
 -- an update begins
-pub begin_step : (task : ℕ) (c new : CellView) → c.state ≡ view.Live → is_foreign task c.live.layer.window ≡ false → c.live.layer.updating ≡ false → new ≡ with_live (λ k. with_layer (λ l. record l { updating = true }) k) c → IsTaskStep task c (BeginRefresh c.number) Done new
-begin_step task c new is whose idle leaves =
-    λ d stands.
-    let live : IsLivePart c.live (slot_part d c.number) = live_part c (slot_part d c.number) is stands in
-    let P : CellView → Type 0 = IsSlotStep d task c.number (BeginRefresh c.number) Done in
+pub begin_step : (task slot : ℕ) (c new : LiveView) → is_foreign task c.layer.window ≡ false → c.layer.updating ≡ false → new ≡ with_layer (λ l. record l { updating = true }) c → IsTaskStep task slot c (BeginRefresh slot) Done new
+begin_step task slot c new whose idle leaves =
+    λ d live.
+    let P : LiveView → Type 0 = IsLiveStep d task slot (BeginRefresh slot) Done in
     subst P (sym leaves)
-    (changed_step d task (BeginRefresh c.number) Done c (λ l. record l { updating = true }) (λ l. record l { updating = true }) live is
-    (open_refusal d task c.number (BeginRefresh c.number) c.live.layer refl live.slot ∙
-    begin_refusal d task c.number c.live.layer false false live.slot whose idle)
+    (changed_step d task slot (BeginRefresh slot) Done c (λ l. record l { updating = true }) (λ l. record l { updating = true }) live
+    (open_refusal d task slot (BeginRefresh slot) c.layer refl live.slot ∙ begin_refusal d task slot c.layer false false live.slot whose idle)
     refl refl refl)
 
 -- no task ends an update of another's window
-pub end_foreign : (task : ℕ) (c : CellView) (full : Bool) → c.state ≡ view.Live → is_foreign task c.live.layer.window ≡ true → IsTaskStep task c (EndRefresh c.number full) NotOwner c
-end_foreign task c full is whose =
-    further_step task c (EndRefresh c.number full) NotOwner is refl
-    (λ d there. end_refusal d task c.number full c.live.layer true (not c.live.layer.updating) there whose refl)
+pub end_foreign : (task slot : ℕ) (c : LiveView) (full : Bool) → is_foreign task c.layer.window ≡ true → IsTaskStep task slot c (EndRefresh slot full) NotOwner c
+end_foreign task slot c full whose =
+    further_step task slot c (EndRefresh slot full) NotOwner refl
+    (λ d live. end_refusal d task slot full c.layer true (not c.layer.updating) live.slot whose refl)
 
 -- none ends where none is on
-pub end_not_in_update : (task : ℕ) (c : CellView) (full : Bool) → c.state ≡ view.Live → is_foreign task c.live.layer.window ≡ false → not c.live.layer.updating ≡ true → IsTaskStep task c (EndRefresh c.number full) NotInUpdate c
-end_not_in_update task c full is whose idle =
-    further_step task c (EndRefresh c.number full) NotInUpdate is refl (λ d there. end_refusal d task c.number full c.live.layer false true there whose idle)
+pub end_not_in_update : (task slot : ℕ) (c : LiveView) (full : Bool) → is_foreign task c.layer.window ≡ false → not c.layer.updating ≡ true → IsTaskStep task slot c (EndRefresh slot full) NotInUpdate c
+end_not_in_update task slot c full whose idle =
+    further_step task slot c (EndRefresh slot full) NotInUpdate refl (λ d live. end_refusal d task slot full c.layer false true live.slot whose idle)
 
 -- an update ends
-pub end_step : (task : ℕ) (c new : CellView) (full : Bool) → c.state ≡ view.Live → is_foreign task c.live.layer.window ≡ false → not c.live.layer.updating ≡ false → new ≡ with_live (λ k. with_layer (λ l. end_update full l) k) c → IsTaskStep task c (EndRefresh c.number full) Done new
-end_step task c new full is whose updating leaves =
-    λ d stands.
-    let live : IsLivePart c.live (slot_part d c.number) = live_part c (slot_part d c.number) is stands in
-    let P : CellView → Type 0 = IsSlotStep d task c.number (EndRefresh c.number full) Done in
+pub end_step : (task slot : ℕ) (c new : LiveView) (full : Bool) → is_foreign task c.layer.window ≡ false → not c.layer.updating ≡ false → new ≡ with_layer (λ l. end_update full l) c → IsTaskStep task slot c (EndRefresh slot full) Done new
+end_step task slot c new full whose updating leaves =
+    λ d live.
+    let P : LiveView → Type 0 = IsLiveStep d task slot (EndRefresh slot full) Done in
     subst P (sym leaves)
-    (changed_step d task (EndRefresh c.number full) Done c (end_update full) (λ l. end_update full l) live is
-    (open_refusal d task c.number (EndRefresh c.number full) c.live.layer refl live.slot ∙
-    end_refusal d task c.number full c.live.layer false false live.slot whose updating)
+    (changed_step d task slot (EndRefresh slot full) Done c (end_update full) (λ l. end_update full l) live
+    (open_refusal d task slot (EndRefresh slot full) c.layer refl live.slot ∙ end_refusal d task slot full c.layer false false live.slot whose updating)
     refl refl refl)

@@ -1,3 +1,4 @@
 pub mod Registers
 pub mod Parts
+pub mod Open
 pub mod Windows

@@ -20,14 +20,6 @@ IsRegistersStep old call r new =
 abbrev pub IsSlotStep : Desk → ℕ → ℕ → Call → Reply → CellView → Type 0
 IsSlotStep d task slot call r new = (r ≡ reply d task call) × StandsFor new (slot_part (after d task call) slot)
 
--- a call of any task on a layer that reads nothing else
-abbrev pub IsCellStep : CellView → Call → Reply → CellView → Type 0
-IsCellStep old call r new = (d : Desk) (task : ℕ) → StandsFor old (slot_part d old.number) → IsSlotStep d task old.number call r new
-
--- a call of this task on a layer that reads nothing else
-abbrev pub IsTaskStep : ℕ → CellView → Call → Reply → CellView → Type 0
-IsTaskStep task old call r new = (d : Desk) → StandsFor old (slot_part d old.number) → IsSlotStep d task old.number call r new
-
 -- a call of this task on a layer that may read the task's registers and what a script hands in
 abbrev pub IsLayerStep : ℕ → CellView → List (List Rectangle) → Assets → Call → Reply → CellView → Type 0
 IsLayerStep task old regs assets call r new =

@@ -1,87 +1,64 @@
 // The calls that draw on a layer or read a pixel of it.
 
-ghost use Rattle.std.specs.Prelude.{◌≡◌, ℕ, List};
+ghost use Rattle.std.specs.Prelude.{ℕ, List};
 ghost use Rattle.lw_region.specs.Rectangle.{Rectangle};
 ghost use Rattle.lw_calls.specs.declared.call.Call.TheVariants.{WritePixel, ReadPixel, Fill, DrawTo, Letters, SetRast};
-ghost use Rattle.lw_parts.specs.Parts.{IsCellStep, IsLayerStep};
+ghost use Rattle.lw_parts.specs.Open.{IsOpenStep, IsLentStep};
 
 use lw_calls::{Assets, Reply, Text};
-use lw_layer::Cell;
+use lw_layer::Layer;
 use lw_region::Rect;
 
 // Paints a pixel.
-pub(crate) fn write(cell: &mut Cell, x: i32, y: i32) -> Reply
-    ensures step { IsCellStep cell.old (WritePixel cell.old.number x y) result cell.new }
-    ensures number { cell.new.number ≡ cell.old.number }
+pub(crate) fn write(layer: &mut Layer, x: i32, y: i32) -> Reply
+    ensures { (slot : ℕ) → IsOpenStep slot layer.old (WritePixel slot x y) result layer.new }
 {
-    let Some(_) = cell.look() else {
-        return Reply::NotOpen;
-    };
-    if !lw_draw::write_pixel(cell, x, y) {
+    if !lw_draw::write_pixel(layer, x, y) {
         return Reply::Outside;
     }
     Reply::Done
 }
 
 // Reads the pen of a pixel.
-pub(crate) fn read(cell: &Cell, x: i32, y: i32) -> Reply
-    ensures { IsCellStep cell.now (ReadPixel cell.now.number x y) result cell.now }
+pub(crate) fn read(layer: &Layer, x: i32, y: i32) -> Reply
+    ensures { (slot : ℕ) → IsOpenStep slot layer.now (ReadPixel slot x y) result layer.now }
 {
-    let Some(_) = cell.look() else {
-        return Reply::NotOpen;
-    };
-    match lw_draw::read_pixel(cell, x, y) {
+    match lw_draw::read_pixel(layer, x, y) {
         None => Reply::Outside,
         Some(pen) => Reply::Pen(pen),
     }
 }
 
 // Fills a rectangle.
-pub(crate) fn fill(cell: &mut Cell, rect: &Rect) -> Reply
-    ensures step { IsCellStep cell.old (Fill cell.old.number rect.now) result cell.new }
-    ensures number { cell.new.number ≡ cell.old.number }
+pub(crate) fn fill(layer: &mut Layer, rect: &Rect) -> Reply
+    ensures { (slot : ℕ) → IsOpenStep slot layer.old (Fill slot rect.now) result layer.new }
 {
-    let Some(_) = cell.look() else {
-        return Reply::NotOpen;
-    };
-    lw_draw::fill(cell, rect);
+    lw_draw::fill(layer, rect);
     Reply::Done
 }
 
 // Draws a line from the cursor.
-pub(crate) fn draw(cell: &mut Cell, x: i16, y: i16) -> Reply
-    ensures step { IsCellStep cell.old (DrawTo cell.old.number x y) result cell.new }
-    ensures number { cell.new.number ≡ cell.old.number }
+pub(crate) fn draw(layer: &mut Layer, x: i16, y: i16) -> Reply
+    ensures { (slot : ℕ) → IsOpenStep slot layer.old (DrawTo slot x y) result layer.new }
 {
-    let Some(_) = cell.look() else {
-        return Reply::NotOpen;
-    };
-    lw_draw::line(cell, x, y);
+    lw_draw::line(layer, x, y);
     Reply::Done
 }
 
 // Draws letters from the cursor on.
-pub(crate) fn letters(cell: &mut Cell, assets: &Assets, text: &Text) -> Reply
-    ensures step { (task : ℕ) (regs : List (List Rectangle)) → IsLayerStep task cell.old regs assets.now (Letters cell.old.number text.now) result cell.new }
-    ensures number { cell.new.number ≡ cell.old.number }
+pub(crate) fn letters(layer: &mut Layer, assets: &Assets, text: &Text) -> Reply
+    ensures { (task slot : ℕ) (regs : List (List Rectangle)) → IsLentStep task slot layer.old regs assets.now (Letters slot text.now) result layer.new }
 {
-    let Some(_) = cell.look() else {
-        return Reply::NotOpen;
-    };
-    if !lw_text::letters(cell, assets, text) {
+    if !lw_text::letters(layer, assets, text) {
         return Reply::OutOfBounds;
     }
     Reply::Done
 }
 
 // Gives all drawable pixels a pen.
-pub(crate) fn set_rast(cell: &mut Cell, pen: u8) -> Reply
-    ensures step { IsCellStep cell.old (SetRast cell.old.number pen) result cell.new }
-    ensures number { cell.new.number ≡ cell.old.number }
+pub(crate) fn set_rast(layer: &mut Layer, pen: u8) -> Reply
+    ensures { (slot : ℕ) → IsOpenStep slot layer.old (SetRast slot pen) result layer.new }
 {
-    let Some(_) = cell.look() else {
-        return Reply::NotOpen;
-    };
-    lw_draw::set_rast(cell, pen);
+    lw_draw::set_rast(layer, pen);
     Reply::Done
 }

@@ -1,4 +1,5 @@
-ghost use Rattle.std.specs.Prelude.{◌≡◌, ℕ, ◌<◌, false, IsOk, IfOk, OnErr, IsTrue};
+ghost use Rattle.std.specs.Prelude.{◌≡◌, ℕ, ◌<◌, List, false, IsOk, IfOk, OnErr, IsTrue};
+ghost use Rattle.lw_region.specs.Rectangle.{Rectangle};
 ghost use Rattle.lw_calls.specs.Assets.{Assets as AssetsView};
 ghost use Rattle.lw_calls.specs.declared.sizes.Sizes.{Sizes};
 ghost use Rattle.lw_calls.specs.declared.call.Call.TheVariants.{Clip, Unclip, Scroll};
@@ -9,7 +10,8 @@ ghost use Rattle.lw_calls.specs.Touches.{class_of};
 ghost use Rattle.lw_machine.specs.Step.{clip_answer};
 ghost use Rattle.lw_steps.specs.Memory.{takes_memory};
 ghost use Rattle.lw_layer.specs.Drafts.{clip_set};
-ghost use Rattle.lw_parts.specs.Parts.{IsCellStep, IsLayerStep};
+ghost use Rattle.lw_parts.specs.Parts.{IsLayerStep};
+ghost use Rattle.lw_parts.specs.Open.{is_scroll, IsOpenStep, IsLentStep};
 
 use crate::blitting::{blit, put, scroll_raster};
 use crate::drawing::{draw, fill, letters, read, set_rast, write};
@@ -18,7 +20,7 @@ use crate::regs::Regs;
 use crate::updating::{begin_refresh, end_refresh};
 use crate::windows::{take_message, title};
 use lw_calls::{Assets, Call, Kind, Reply};
-use lw_layer::Cell;
+use lw_layer::{Cell, Layer};
 use lw_region::Region;
 use std::alloc::{AllocError, Global};
 
@@ -42,85 +44,102 @@ pub fn on_layer(
     ensures unchanged { OnErr result (cell.new ≡ cell.old) }
     ensures memory { takes_memory call.now ≡ false → IsOk result }
 {
+    if let Call::Scroll { dx, dy, .. } = *call {
+        return Ok(scroll(cell, dx, dy));
+    }
+    let Some(layer) = cell.layer_mut() else {
+        return Ok(Reply::NotOpen);
+    };
+    on_open(alloc, layer, regs, assets, task, call)
+}
+
+// The same on a layer that is open. A scroll is none of these calls, since it takes the layer out of its cell.
+fn on_open(
+    alloc: Global,
+    layer: &mut Layer,
+    regs: &Regs,
+    assets: &Assets,
+    task: u32,
+    call: &Call,
+) -> Result<Reply, AllocError>
+    requires class { (slot : ℕ) × (class_of call.now ≡ OnLayer slot) }
+    requires other { is_scroll call.now ≡ false }
+    requires fits { (sizes : Sizes) × IsTrue (call_fits sizes call.now) }
+    ensures step { IfOk result (λ r. (slot : ℕ) → class_of call.now ≡ OnLayer slot
+        → IsLentStep task slot layer.old regs.now assets.now call.now r layer.new) }
+    ensures unchanged { OnErr result (layer.new ≡ layer.old) }
+    ensures memory { takes_memory call.now ≡ false → IsOk result }
+{
     match *call {
-        Call::SetA { pen, .. } => Ok(set_a(cell, pen)),
-        Call::SetB { pen, .. } => Ok(set_b(cell, pen)),
-        Call::SetMode { mode, .. } => Ok(set_mode(cell, mode)),
-        Call::SetMask { mask, .. } => Ok(set_mask(cell, mask)),
-        Call::At { x, y, .. } => Ok(at(cell, x, y)),
-        Call::WritePixel { x, y, .. } => Ok(write(cell, x, y)),
-        Call::ReadPixel { x, y, .. } => Ok(read(cell, x, y)),
-        Call::Fill { ref rect, .. } => Ok(fill(cell, rect)),
-        Call::DrawTo { x, y, .. } => Ok(draw(cell, x, y)),
-        Call::Letters { ref text, .. } => Ok(letters(cell, assets, text)),
-        Call::SetRast { pen, .. } => Ok(set_rast(cell, pen)),
+        Call::SetA { pen, .. } => Ok(set_a(layer, pen)),
+        Call::SetB { pen, .. } => Ok(set_b(layer, pen)),
+        Call::SetMode { mode, .. } => Ok(set_mode(layer, mode)),
+        Call::SetMask { mask, .. } => Ok(set_mask(layer, mask)),
+        Call::At { x, y, .. } => Ok(at(layer, x, y)),
+        Call::WritePixel { x, y, .. } => Ok(write(layer, x, y)),
+        Call::ReadPixel { x, y, .. } => Ok(read(layer, x, y)),
+        Call::Fill { ref rect, .. } => Ok(fill(layer, rect)),
+        Call::DrawTo { x, y, .. } => Ok(draw(layer, x, y)),
+        Call::Letters { ref text, .. } => Ok(letters(layer, assets, text)),
+        Call::SetRast { pen, .. } => Ok(set_rast(layer, pen)),
         Call::ScrollRaster {
             dx,
             dy,
             ref rect,
             ..
-        } => scroll_raster(alloc, cell, dx, dy, rect),
+        } => scroll_raster(alloc, layer, dx, dy, rect),
         Call::Put {
             bitmap,
             ref area,
             ..
-        } => Ok(put(cell, assets, bitmap, area)),
-        Call::Blit { ref area, .. } => Ok(blit(cell, area)),
-        Call::Clip { reg, .. } => clip(alloc, cell, regs, reg),
-        Call::Unclip { .. } => Ok(unclip(cell)),
-        Call::BeginRefresh { .. } => Ok(begin_refresh(cell, task)),
-        Call::EndRefresh { full, .. } => Ok(end_refresh(cell, task, full)),
-        Call::Scroll { dx, dy, .. } => Ok(scroll(cell, dx, dy)),
+        } => Ok(put(layer, assets, bitmap, area)),
+        Call::Blit { ref area, .. } => Ok(blit(layer, area)),
+        Call::Clip { reg, .. } => clip(alloc, layer, regs, reg),
+        Call::Unclip { .. } => Ok(unclip(layer)),
+        Call::BeginRefresh { .. } => Ok(begin_refresh(layer, task)),
+        Call::EndRefresh { full, .. } => Ok(end_refresh(layer, task, full)),
         Call::SetTitle {
             title: ref text,
             ..
-        } => title(alloc, cell, assets, task, text),
-        Call::TakeMessage { .. } => Ok(take_message(cell, task)),
-        // No other call is on a layer.
+        } => title(alloc, layer, assets, task, text),
+        Call::TakeMessage { .. } => Ok(take_message(layer, task)),
+        // No other call is on a layer and no scroll.
         _ => unreachable!(),
     }
 }
 
 // Installs a copy of a register as clip region, and answers the one from before.
-fn clip(alloc: Global, cell: &mut Cell, regs: &Regs, reg: u32) -> Result<Reply, AllocError>
+fn clip(alloc: Global, layer: &mut Layer, regs: &Regs, reg: u32) -> Result<Reply, AllocError>
     requires { reg < 8 }
-    ensures step { IfOk result (λ r. (task : ℕ) (assets : AssetsView) → IsLayerStep task cell.old regs.now assets (Clip cell.old.number reg) r cell.new) }
-    ensures number { cell.new.number ≡ cell.old.number }
-    ensures unchanged { OnErr result (cell.new ≡ cell.old) }
+    ensures step { IfOk result (λ r. (task slot : ℕ) (assets : AssetsView) → IsLentStep task slot layer.old regs.now assets (Clip slot reg) r layer.new) }
+    ensures unchanged { OnErr result (layer.new ≡ layer.old) }
 {
-    let Some(look) = cell.look() else {
-        return Ok(Reply::NotOpen);
-    };
-    if look.updating {
+    if layer.look().updating {
         return Ok(Reply::InUpdate);
     }
     let region = regs.region(reg).copy(alloc)?;
-    Ok(answer(cell.set_clip(Some(region))))
+    Ok(answer(layer.set_clip(Some(region))))
 }
 
 // Takes the clip region away, and answers it.
-fn unclip(cell: &mut Cell) -> Reply
-    ensures step { IsCellStep cell.old (Unclip cell.old.number) result cell.new }
-    ensures number { cell.new.number ≡ cell.old.number }
+fn unclip(layer: &mut Layer) -> Reply
+    ensures { (slot : ℕ) → IsOpenStep slot layer.old (Unclip slot) result layer.new }
 {
-    let Some(look) = cell.look() else {
-        return Reply::NotOpen;
-    };
-    if look.updating {
+    if layer.look().updating {
         return Reply::InUpdate;
     }
-    answer(cell.set_clip(None))
+    answer(layer.set_clip(None))
 }
 
 // Shows another portion of a super-bitmap layer's own bitmap.
 fn scroll(cell: &mut Cell, dx: i32, dy: i32) -> Reply
-    ensures step { IsCellStep cell.old (Scroll cell.old.number dx dy) result cell.new }
+    ensures step { (task : ℕ) (regs : List (List Rectangle)) (assets : AssetsView) → IsLayerStep task cell.old regs assets (Scroll cell.old.number dx dy) result cell.new }
     ensures number { cell.new.number ≡ cell.old.number }
 {
-    let Some(look) = cell.look() else {
+    let Some(layer) = cell.layer() else {
         return Reply::NotOpen;
     };
-    if !is_super(look.kind) {
+    if !is_super(layer.look().kind) {
         return Reply::NotSuper;
     }
     if !lw_super::scroll(cell, dx, dy) {

@@ -1,74 +1,54 @@
 // The calls that set how a layer paints from then on.
 
-ghost use Rattle.std.specs.Prelude.{◌≡◌, ◌<◌};
+ghost use Rattle.std.specs.Prelude.{ℕ, ◌<◌};
 ghost use Rattle.lw_calls.specs.declared.call.Call.TheVariants.{SetA, SetB, SetMode, SetMask, At};
-ghost use Rattle.lw_parts.specs.Parts.{IsCellStep};
+ghost use Rattle.lw_parts.specs.Open.{IsOpenStep};
 
 use lw_calls::Reply;
-use lw_layer::{Cell, Raster};
+use lw_layer::{Layer, Raster};
 
 // Sets pen A.
-pub(crate) fn set_a(cell: &mut Cell, pen: u8) -> Reply
-    ensures step { IsCellStep cell.old (SetA cell.old.number pen) result cell.new }
-    ensures number { cell.new.number ≡ cell.old.number }
+pub(crate) fn set_a(layer: &mut Layer, pen: u8) -> Reply
+    ensures { (slot : ℕ) → IsOpenStep slot layer.old (SetA slot pen) result layer.new }
 {
-    let Some(_) = cell.look() else {
-        return Reply::NotOpen;
-    };
-    let raster = cell.raster();
-    cell.set_raster(Raster { a: pen, ..raster });
+    let raster = layer.raster();
+    layer.set_raster(Raster { a: pen, ..raster });
     Reply::Done
 }
 
 // Sets pen B.
-pub(crate) fn set_b(cell: &mut Cell, pen: u8) -> Reply
-    ensures step { IsCellStep cell.old (SetB cell.old.number pen) result cell.new }
-    ensures number { cell.new.number ≡ cell.old.number }
+pub(crate) fn set_b(layer: &mut Layer, pen: u8) -> Reply
+    ensures { (slot : ℕ) → IsOpenStep slot layer.old (SetB slot pen) result layer.new }
 {
-    let Some(_) = cell.look() else {
-        return Reply::NotOpen;
-    };
-    let raster = cell.raster();
-    cell.set_raster(Raster { b: pen, ..raster });
+    let raster = layer.raster();
+    layer.set_raster(Raster { b: pen, ..raster });
     Reply::Done
 }
 
 // Sets the drawing mode.
-pub(crate) fn set_mode(cell: &mut Cell, mode: u8) -> Reply
+pub(crate) fn set_mode(layer: &mut Layer, mode: u8) -> Reply
     requires { mode < 8 }
-    ensures step { IsCellStep cell.old (SetMode cell.old.number mode) result cell.new }
-    ensures number { cell.new.number ≡ cell.old.number }
+    ensures { (slot : ℕ) → IsOpenStep slot layer.old (SetMode slot mode) result layer.new }
 {
-    let Some(_) = cell.look() else {
-        return Reply::NotOpen;
-    };
-    let raster = cell.raster();
-    cell.set_raster(Raster { mode, ..raster });
+    let raster = layer.raster();
+    layer.set_raster(Raster { mode, ..raster });
     Reply::Done
 }
 
 // Sets the mask of planes.
-pub(crate) fn set_mask(cell: &mut Cell, mask: u8) -> Reply
-    ensures step { IsCellStep cell.old (SetMask cell.old.number mask) result cell.new }
-    ensures number { cell.new.number ≡ cell.old.number }
+pub(crate) fn set_mask(layer: &mut Layer, mask: u8) -> Reply
+    ensures { (slot : ℕ) → IsOpenStep slot layer.old (SetMask slot mask) result layer.new }
 {
-    let Some(_) = cell.look() else {
-        return Reply::NotOpen;
-    };
-    let raster = cell.raster();
-    cell.set_raster(Raster { mask, ..raster });
+    let raster = layer.raster();
+    layer.set_raster(Raster { mask, ..raster });
     Reply::Done
 }
 
 // Puts the cursor on a pixel.
-pub(crate) fn at(cell: &mut Cell, x: i16, y: i16) -> Reply
-    ensures step { IsCellStep cell.old (At cell.old.number x y) result cell.new }
-    ensures number { cell.new.number ≡ cell.old.number }
+pub(crate) fn at(layer: &mut Layer, x: i16, y: i16) -> Reply
+    ensures { (slot : ℕ) → IsOpenStep slot layer.old (At slot x y) result layer.new }
 {
-    let Some(_) = cell.look() else {
-        return Reply::NotOpen;
-    };
-    let raster = cell.raster();
-    cell.set_raster(Raster { x, y, ..raster });
+    let raster = layer.raster();
+    layer.set_raster(Raster { x, y, ..raster });
     Reply::Done
 }

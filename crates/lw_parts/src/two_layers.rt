@@ -21,12 +21,12 @@ pub fn on_layers(source: &Cell, to: &mut Cell, call: &Call) -> Reply
         // No other call is on two layers.
         unreachable!();
     };
-    let Some(_) = source.look() else {
+    let Some(from) = source.layer() else {
         return Reply::NotOpen;
     };
-    let Some(_) = to.look() else {
+    let Some(layer) = to.layer_mut() else {
         return Reply::NotOpen;
     };
-    between(source, to, area);
+    between(from, layer, area);
     Reply::Done
 }

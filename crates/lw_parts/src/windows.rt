@@ -1,19 +1,18 @@
 // The calls on a window (the manual's Intuition Windows chapter: SetWindowTitles and GetMsg; that a window belongs to the task that
 // opened it is this project's own).
 
-ghost use Rattle.std.specs.Prelude.{◌≡◌, ◌≤◌, length, if◌then◌else◌, List, take, IfOk, OnErr};
+ghost use Rattle.std.specs.Prelude.{◌≡◌, ℕ, ◌≤◌, length, if◌then◌else◌, List, take, IfOk, OnErr};
 ghost use Rattle.lw_region.specs.Rectangle.{Rectangle};
 ghost use Rattle.lw_calls.specs.declared.call.Call.TheVariants.{SetTitle, TakeMessage};
 ghost use Rattle.lw_frames.specs.Framing.{framed};
 ghost use Rattle.lw_layer.specs.Looks.{IsLook};
 ghost use Rattle.lw_layer.specs.StandsFor.{IsSound};
-ghost use Rattle.lw_layer.specs.View as view;
-ghost use Rattle.lw_parts.specs.Parts.{IsTaskStep, IsLayerStep};
+ghost use Rattle.lw_parts.specs.Open.{IsTaskStep, IsLentStep};
 ghost use Rattle.lw_parts.specs.Windows.{is_other, got};
 
 use lw_calls::{Assets, Message, Reply, Text};
 use lw_frames::paint_frame;
-use lw_layer::{Cell, Look};
+use lw_layer::{Layer, Look};
 use std::alloc::{AllocError, Global};
 
 // How many characters of a title can be seen: a layer is at most 2048 columns wide.
@@ -22,19 +21,16 @@ const MOST: usize = 256;
 // Gives a window a title, and paints its frame if it has one. The layer takes a copy of the title.
 pub(crate) fn title(
     alloc: Global,
-    cell: &mut Cell,
+    layer: &mut Layer,
     assets: &Assets,
     task: u32,
     text: &Text,
 ) -> Result<Reply, AllocError>
-    ensures step { IfOk result (λ r. (regs : List (List Rectangle)) →
-        IsLayerStep task cell.old regs assets.now (SetTitle cell.old.number text.now) r cell.new) }
-    ensures number { cell.new.number ≡ cell.old.number }
-    ensures unchanged { OnErr result (cell.new ≡ cell.old) }
+    ensures step { IfOk result (λ r. (slot : ℕ) (regs : List (List Rectangle)) →
+        IsLentStep task slot layer.old regs assets.now (SetTitle slot text.now) r layer.new) }
+    ensures unchanged { OnErr result (layer.new ≡ layer.old) }
 {
-    let Some(look) = cell.look() else {
-        return Ok(Reply::NotOpen);
-    };
+    let look = layer.look();
     let Some(owner) = look.owner else {
         return Ok(Reply::NotWindow);
     };
@@ -43,8 +39,8 @@ pub(crate) fn title(
     }
     let copy = copy_of(alloc, text.bytes())?;
     let shown = copy_of(alloc, beginning(text.bytes()))?;
-    repaint(cell, assets, &shown, &look);
-    let _ = cell.set_title(copy);
+    repaint(layer, assets, &shown, &look);
+    let _ = layer.set_title(copy);
     Ok(Reply::Done)
 }
 
@@ -66,33 +62,29 @@ fn copy_of(alloc: Global, bytes: &[u8]) -> Result<Text, AllocError>
 }
 
 // Paints the frame of a window with this title, if it has a frame.
-fn repaint(cell: &mut Cell, assets: &Assets, title: &Text, look: &Look)
-    requires live { cell.old.state ≡ view.Live }
-    requires sound { IsSound cell.old.live }
-    requires look { IsLook cell.old.live look.now }
+fn repaint(layer: &mut Layer, assets: &Assets, title: &Text, look: &Look)
+    requires sound { IsSound layer.old }
+    requires look { IsLook layer.old look.now }
     requires few { length title.now ≤ 256 }
-    ensures { cell.new ≡ (if look.now.framed then framed assets.now.glyphs title.now look.now.active cell.old else cell.old) }
+    ensures { layer.new ≡ (if look.now.framed then framed assets.now.glyphs title.now look.now.active layer.old else layer.old) }
 {
     if look.framed {
-        paint_frame(cell, assets, title, look.active);
+        paint_frame(layer, assets, title, look.active);
     }
 }
 
 // Takes the oldest message of the window's port.
-pub(crate) fn take_message(cell: &mut Cell, task: u32) -> Reply
-    ensures step { IsTaskStep task cell.old (TakeMessage cell.old.number) result cell.new }
-    ensures number { cell.new.number ≡ cell.old.number }
+pub(crate) fn take_message(layer: &mut Layer, task: u32) -> Reply
+    ensures { (slot : ℕ) → IsTaskStep task slot layer.old (TakeMessage slot) result layer.new }
 {
-    let Some(look) = cell.look() else {
-        return Reply::NotOpen;
-    };
+    let look = layer.look();
     let Some(owner) = look.owner else {
         return Reply::NotWindow;
     };
     if owner != task {
         return Reply::NotOwner;
     }
-    answer(cell.take_message())
+    answer(layer.take_message())
 }
 
 // The answer that gives a message away.

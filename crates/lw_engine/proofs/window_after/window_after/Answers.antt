@@ -1,6 +1,5 @@
 use Rattle.std.proofs.Common.{◌≡◌, Some, ◌∙◌, refl, sym, ap}
 use Rattle.lw_machine.specs.Desk.{is_the}
-use Rattle.lw_layer.specs.View as view
 use Rattle.lw_stack.specs.Stack.{bounds_at}
 use Rattle.lw_engine.proofs.WindowLaws.{window_read}
 use Rattle.lw_engine.proofs.window_after.window_after.Goals as goal

@@ -1,14 +1,16 @@
-use Rattle.std.proofs.Common.{◌≡◌, to_z, of_z, w32, rules}
-use Rattle.lw_parts.proofs.OneLayerLaws.{read_made, clip_made}
+use Rattle.std.proofs.Common.{◌∙◌, ap}
+use Rattle.std.proofs.lemmas.Result.{on_err_weaker}
+use Rattle.lw_layer.specs.View.{LiveView}
+use Rattle.lw_parts.proofs.OneLayerLaws.{not_open, lent_step}
 use Rattle.lw_parts.proofs.one_layer.on_layer.Goals as goal
 
-pub returns-in-ReadPixel-clause-step : goal.returns-in-ReadPixel-clause-step
-returns-in-ReadPixel-clause-step c =
-    let told_x : to_z w32 (of_z w32 c.in-ReadPixel.x) ≡ c.in-ReadPixel.x = search rules in
-    let told_y : to_z w32 (of_z w32 c.in-ReadPixel.y) ≡ c.in-ReadPixel.y = search rules in
-    λ d stands registers handed.
-    read_made c.args.cell.now c.args.call.now c.in-ReadPixel.slot c.in-ReadPixel.x c.in-ReadPixel.y _ _ c.read.result c.requires.class c.in-ReadPixel.is told_x told_y c.read.ensures d c.args.task stands
+pub returns-in_default-layer_mut-clause-step : goal.returns-in_default-layer_mut-clause-step
+returns-in_default-layer_mut-clause-step c = not_open c.args.task c.args.cell.now c.args.regs.now c.args.assets.now c.args.call.now c.requires.class c.in_default-layer_mut.ensures.layer
 
-pub returns-in-Clip-clause-step : goal.returns-in-Clip-clause-step
-returns-in-Clip-clause-step c =
-    clip_made c.clip.result c.args.task c.args.cell.now c.clip.new.cell c.args.regs.now c.args.assets.now c.args.call.now c.in-Clip.slot c.in-Clip.reg c.requires.class c.in-Clip.is c.clip.ensures.step
+pub returns-clause-step : goal.returns-clause-step
+returns-clause-step c =
+    lent_step c.on_open.result c.args.task c.args.cell.now c.in-Some.layer.now c.on_open.new.layer c.args.regs.now c.args.assets.now c.args.call.now c.requires.class c.in-Some.ensures.layer.0 c.in-Some.ensures.layer.1 c.on_open.ensures.step
+
+pub returns-clause-unchanged : goal.returns-clause-unchanged
+returns-clause-unchanged c =
+    on_err_weaker c.on_open.result (λ kept. ap (λ (k : LiveView). record c.args.cell.now { live = k }) (kept ∙ c.in-Some.ensures.layer.1)) c.on_open.ensures.unchanged

@@ -2,24 +2,19 @@ use Rattle.std.proofs.Common.{◌≡◌, ℤ, to_z, of_z, w16, ◌∙◌, refl, 
 use Rattle.lw_calls.specs.declared.call.Call.TheVariants.{SetA}
 use Rattle.lw_machine.specs.Layer.{Raster}
 use Rattle.lw_machine.specs.Step.{with_pen_a}
-use Rattle.lw_layer.specs.View.{CellView, with_live, with_layer}
+use Rattle.lw_layer.specs.View.{LiveView, with_layer}
 use Rattle.lw_layer.specs.Drafts.{raster_of}
-use Rattle.lw_parts.proofs.OneLayerLaws.{not_open, no_look, look_live, drawn_step}
+use Rattle.lw_parts.proofs.OneLayerLaws.{drawn_step}
 use Rattle.lw_parts.proofs.raster_state.set_a.Goals as goal
 
-pub returns-in_default-clause-step : goal.returns-in_default-clause-step
-returns-in_default-clause-step c =
-    let cell = c.args.cell.now in
-    not_open cell (SetA cell.number c.args.pen) refl (no_look cell c.look.result c.look.ensures.look c.in_default.is)
-
-pub returns-clause-step : goal.returns-clause-step
-returns-clause-step c =
-    let cell = c.args.cell.now in
+pub returns : goal.returns
+returns c =
+    let live = c.args.layer.now in
     let old = c.raster-raster.result in
-    let made : Raster → CellView = λ q. with_live (λ k. with_layer (λ l. record l { raster = record q { pen_a = c.args.pen } }) k) cell in
+    let made : Raster → LiveView = λ q. with_layer (λ l. record l { raster = record q { pen_a = c.args.pen } }) live in
     let at : ℤ → ℤ → Raster = λ u v. record (raster_of old) { cursor_x = u; cursor_y = v } in
     let column : to_z w16 (of_z w16 old.x) ≡ old.x = search rules in
     let row : to_z w16 (of_z w16 old.y) ≡ old.y = search rules in
-    λ d task stands.
-    drawn_step d task (SetA cell.number c.args.pen) _ cell c.set_raster.new.self (λ visible. with_pen_a c.args.pen) refl (look_live cell c.in-Some.field-0 (c.in-Some.ensures {u = tt}).look) stands refl refl refl
+    λ slot d task part.
+    drawn_step d task slot (SetA slot c.args.pen) _ live c.set_raster.new.self (λ visible. with_pen_a c.args.pen) refl part refl refl refl
     (c.set_raster.ensures ∙ (ap (λ u. made (at u (to_z w16 (of_z w16 old.y)))) column ∙ (ap (λ v. made (at old.x v)) row ∙ ap made c.raster-raster.ensures.value)))
