@@ -1,10 +1,10 @@
-use crate::{Input, ScriptStop, read};
 use lw_calls::{Form, Text};
+use lw_script::{Input, ScriptStop, read};
 use std::alloc::{AllocError, Global};
 use std::test::Fail;
 
-// `read`, for scripts that are short enough for it.
-pub(crate) fn read_short(
+/// `read`, for scripts that are short enough for it.
+pub fn read_short(
     alloc: Global,
     script: &[u8],
     hooks: u32,

@@ -1,6 +1,6 @@
-use crate::ScriptStop;
-use crate::tests::read_short;
+use crate::tests_script::read_short;
 use lw_calls::{Form, Reason};
+use lw_script::ScriptStop;
 use std::alloc::{AllocError, Global};
 use std::test::Fail;
 

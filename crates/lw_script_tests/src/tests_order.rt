@@ -1,4 +1,4 @@
-use crate::{OrderStop, read_order};
+use lw_script::{OrderStop, read_order};
 use std::alloc::{AllocError, Global};
 use std::test::Fail;
 
