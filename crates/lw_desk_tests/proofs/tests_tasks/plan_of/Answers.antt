@@ -1,6 +1,6 @@
 use Rattle.std.proofs.Common.{[], refl, arith, rules}
 use Rattle.lw_calls.proofs.TwoTasks.{two_tasks}
-use Rattle.lw_tasks.proofs.tests.plan_of.Goals as goal
+use Rattle.lw_desk_tests.proofs.tests_tasks.plan_of.Goals as goal
 
 pub new-requires-5 : goal.new-requires-5
 new-requires-5 c =

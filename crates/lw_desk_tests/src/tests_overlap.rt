@@ -1,16 +1,14 @@
 //! An engine of the tests: the one on layers, in which a fill waits until another one is made too.
-ghost use Rattle.std.specs.Prelude.{◌≡◌, [], map};
-ghost use Rattle.lw_machine.specs.Finals.{opening_desk};
+ghost use Rattle.std.specs.Prelude.{◌≡◌, []};
+ghost use Rattle.lw_machine.specs.Desk.{empty_desk, shelf_of};
 ghost use Rattle.lw_order.specs.Roles.{all_roles};
 ghost use Rattle.lw_engine.specs.Layers.{layer_relations};
 
-use crate::answers::TaskAnswers;
-use crate::running::run_all;
-use crate::tests::{are_done, calls_of_task, plan_of};
+use crate::calls::{SIZES, are_done, calls_of_task, make_all, no_assets};
 use lw_backfill::{Backfill, Solid};
-use lw_calls::{Call, Plan, Reply};
+use lw_calls::{Assets, Call, Replies, Reply};
 use lw_engine::{LayerEngine, LayerInfo, Slot};
-use lw_locks::{Gate, Opening, Spot};
+use lw_locks::{Desk, Gate, Opening, Pass, Spot};
 use lw_order::{Order, Seat};
 use lw_parts::Regs;
 use lw_steps::Engine;
@@ -129,43 +127,87 @@ impl<'a, B: Backfill + Send> Engine for MeetingEngine<'a, B> {
     }
 }
 
-// Runs a plan by this engine, and gives what its tasks were told.
-fn run_meeting<B: Backfill + Send, R: Threads + Wait + Sync>(
+// Makes a task's calls, and gives their replies.
+fn run_task<E: Engine, N: Opening, R: Wait, G: Gate>(
     rt: &R,
     alloc: Global,
-    plan: &Plan,
-    hooks: Vec<B>,
+    gate: &G,
+    desk: &Desk<E, N>,
+    mut pass: Pass<E, N>,
+    calls: Vec<Call>,
+) -> Result<Replies, AllocError>
+    requires { N.desk.sizes ≡ SIZES }
+{
+    make_all(rt, alloc, gate, desk, &mut pass, calls.as_slice())
+}
+
+// Two tasks make their calls, each on a thread of its own, and tell what they were told.
+fn run_both<E: Engine, N: Opening + Send + Sync, R: Threads + Wait + Sync, G: Gate + Sync>(
+    rt: &R,
+    alloc: Global,
+    gate: &G,
+    desk: &Desk<E, N>,
+    mut passes: Vec<Pass<E, N>>,
+    first: Vec<Call>,
+    second: Vec<Call>,
+) -> Result<(Replies, Replies), AllocError>
+    requires { N.desk.sizes ≡ SIZES }
+{
+    let Some(pass_b) = passes.pop() else {
+        return Err(AllocError);
+    };
+    let Some(pass_a) = passes.pop() else {
+        return Err(AllocError);
+    };
+    let (a, b) = thread::join(
+        rt,
+        move ||
+            requires { N.desk.sizes ≡ SIZES }
+        { run_task(rt, alloc, gate, desk, pass_a, first) },
+        move ||
+            requires { N.desk.sizes ≡ SIZES }
+        { run_task(rt, alloc, gate, desk, pass_b, second) },
+    );
+    Ok((a?, b?))
+}
+
+// Runs two tasks by this engine, each on a thread of its own, and gives what they were told.
+fn run_meeting<R: Threads + Wait + Sync>(
+    rt: &R,
+    alloc: Global,
+    assets: &Assets,
     meeting: &Meeting,
-) -> Result<Vec<TaskAnswers>, AllocError> {
-    let (order, seat) = Order::start(alloc, plan.sizes())?;
-    run_meeting_on::<B, Brand, R>(rt, alloc, plan, hooks, meeting, order, seat)
+    first: Vec<Call>,
+    second: Vec<Call>,
+) -> Result<(Replies, Replies), AllocError> {
+    let (order, seat) = Order::start(alloc, &SIZES)?;
+    run_meeting_on::<Brand, R>(rt, alloc, assets, meeting, order, seat, first, second)
 }
 
 // On a desk for which this order word was made.
-fn run_meeting_on<B: Backfill + Send, N: Opening + Send + Sync, R: Threads + Wait + Sync>(
+fn run_meeting_on<N: Opening + Send + Sync, R: Threads + Wait + Sync>(
     rt: &R,
     alloc: Global,
-    plan: &Plan,
-    hooks: Vec<B>,
+    assets: &Assets,
     meeting: &Meeting,
     order: Order,
     seat: Seat,
-) -> Result<Vec<TaskAnswers>, AllocError>
-    requires desk { N.desk ≡ opening_desk plan.now (map B.hook hooks.items) }
+    first: Vec<Call>,
+    second: Vec<Call>,
+) -> Result<(Replies, Replies), AllocError>
+    requires desk { N.desk ≡ empty_desk SIZES assets.now (shelf_of []) }
     requires word { order.word ≡ N.word }
-    requires sizes { order.sizes ≡ plan.now.sizes }
+    requires sizes { order.sizes ≡ SIZES }
     requires seat_word { seat.word ≡ N.word }
     requires history { seat.history ≡ [] }
-    requires roles { seat.roles ≡ all_roles plan.now.sizes.slots plan.now.sizes.tasks }
+    requires roles { seat.roles ≡ all_roles SIZES.slots SIZES.tasks }
 {
-    let layers = LayerEngine::<B>::new(*plan.sizes(), plan.assets());
-    let opened = layers.open(alloc, hooks)?;
+    let layers = LayerEngine::<Solid>::new(SIZES, assets);
+    let opened = layers.open(alloc, Vec::new(alloc))?;
     let (info, cells, regs) = (opened.info, opened.slots, opened.registers);
     let engine = MeetingEngine { layers, meeting };
-    let (_, all) = run_all::<_, N, R, Meeting>(
-        rt, alloc, meeting, plan, order, seat, engine, info, cells, regs,
-    )?;
-    Ok(all)
+    let (desk, passes) = Desk::<_, N>::start(alloc, order, seat, engine, info, cells, regs)?;
+    run_both(rt, alloc, meeting, &desk, passes, first, second)
 }
 
 #[test]
@@ -173,15 +215,11 @@ fn fills_of_two_layers_are_made_at_once(rt: HostRuntime) -> Result<(), Fail> {
     let alloc = rt.alloc();
     let first = calls_of_task(&rt, 0, 0, None)?;
     let second = calls_of_task(&rt, 1, 8, None)?;
-    let plan = plan_of(alloc, first, second)?;
     let meeting = Meeting::new();
-    let all = run_meeting(&rt, alloc, &plan, Vec::<Solid>::new(alloc), &meeting)?;
+    let (a, b) = run_meeting(&rt, alloc, &no_assets(alloc), &meeting, first, second)?;
     assert_eq!(rt; meeting.begun.load(Ordering::SeqCst), 2);
     assert_eq!(rt; meeting.late.load(Ordering::SeqCst), 0);
-    let [a, b] = all.as_slice() else {
-        return Err(Fail::from("two tasks"));
-    };
-    assert!(rt; are_done(&a.replies));
-    assert!(rt; are_done(&b.replies));
+    assert!(rt; are_done(&a));
+    assert!(rt; are_done(&b));
     Ok(())
 }

@@ -2,64 +2,21 @@ ghost use Rattle.std.specs.Prelude.{◌≡◌, [], ◌∷◌, true, All, IsTrue,
 ghost use Rattle.lw_calls.specs.Limits.{call_fits};
 ghost use Rattle.lw_calls.specs.Orders.{is_legal};
 
-use crate::{replay, run_tasks};
+use crate::calls::{SIZES, are_done, calls_of_task, no_assets};
 use lw_backfill::{Backfill, Solid};
-use lw_calls::{
-    Assets, Call, Kind, Make, OrderList, Place, Plan, PlanParts, Replies, Reply, Sizes, Text,
-};
+use lw_calls::{Call, OrderList, Plan, PlanParts, Text};
 use lw_locks::OpenGate;
-use lw_region::Rect;
+use lw_tasks::{replay, run_tasks};
 use std::alloc::{AllocError, Global};
 use std::process::Abort;
 use std::test::Fail;
-
-const SIZES: Sizes = Sizes {
-    version: 1,
-    width: 16,
-    height: 1,
-    depth: 1,
-    slots: 2,
-    tasks: 2,
-    hooks: 1,
-    bitmaps: 0,
-};
-
-/// The calls of a task that creates a layer of four columns from column `x` on, with this hook, and fills its first two.
-pub fn calls_of_task(
-    rt: &(impl Abort + AllocGlobal),
-    slot: u32,
-    x: i32,
-    hook: Option<u32>,
-) -> Result<Vec<Call>, Fail>
-    ensures two { IfOk result (λ calls. length calls.items ≡ 2) }
-    ensures fit { IfOk result (λ calls. All (λ call. IsTrue (call_fits SIZES call)) calls.items) }
-{
-    let make = Make {
-        kind: Kind::Smart,
-        place: Place::Front,
-        x,
-        y: 0,
-        w: 4,
-        h: 1,
-        backdrop: false,
-        hook,
-        bits_w: 0,
-        bits_h: 0,
-    };
-    let create = Call::Create { slot, make };
-    let rect = Rect::new(0, 0, 1, 0).expect(rt, "a rectangle");
-    let fill = Call::Fill { slot, rect };
-    assert!(rt; SIZES.fits(&create));
-    assert!(rt; SIZES.fits(&fill));
-    Ok(vec![in rt.alloc(); create, fill]?)
-}
 
 fn name(alloc: Global, bytes: &[u8]) -> Result<Text, AllocError> {
     Ok(Text::new(Vec::from_slice(alloc, bytes)?))
 }
 
-/// The plan of these two tasks, which has no groups.
-pub fn plan_of(alloc: Global, first: Vec<Call>, second: Vec<Call>) -> Result<Plan, AllocError>
+// The plan of these two tasks, which has no groups.
+fn plan_of(alloc: Global, first: Vec<Call>, second: Vec<Call>) -> Result<Plan, AllocError>
     requires two { length first.items ≡ 2 }
     requires two_more { length second.items ≡ 2 }
     requires fit { All (λ call. IsTrue (call_fits SIZES call)) first.items }
@@ -75,15 +32,12 @@ pub fn plan_of(alloc: Global, first: Vec<Call>, second: Vec<Call>) -> Result<Pla
         bitmap_names: Vec::new(alloc),
         calls: vec![in alloc; first, second]?,
         groups: vec![in alloc; Vec::new(alloc), Vec::new(alloc)]?,
-        assets: Assets {
-            glyphs: [[0; 8]; 95],
-            bitmaps: Vec::new(alloc),
-        },
+        assets: no_assets(alloc),
     };
     Ok(Plan::new(parts))
 }
 
-/// Runs the plan in the order with these hooks, and looks for this row on the screen and for a task's two replies each.
+// Runs the plan in the order with these hooks, and looks for this row on the screen and for a task's two replies each.
 fn fills_both<B: Backfill + Send>(
     rt: &(impl Abort + AllocGlobal),
     plan: &Plan,
@@ -105,10 +59,6 @@ fn fills_both<B: Backfill + Send>(
     assert!(rt; are_done(first));
     assert!(rt; are_done(second));
     Ok(())
-}
-
-pub fn are_done(replies: &Replies) -> bool {
-    matches!(replies.list(), [Reply::Done, Reply::Done])
 }
 
 #[test]

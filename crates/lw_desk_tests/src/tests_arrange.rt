@@ -1,4 +1,4 @@
-use super::{Step, commit_info, plan_step, prepare_info};
+use lw_arrange::{Step, commit_info, plan_step, prepare_info};
 use lw_calls::{Call, Kind, Make, Place, Sizes};
 use lw_stack::Info;
 use std::test::Fail;
