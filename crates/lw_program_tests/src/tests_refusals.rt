@@ -1,5 +1,6 @@
-use crate::Status;
-use crate::tests::{FIRST_FILL, FIRST_FILL_REPORT, answer_to, answer_with_six};
+use crate::answers::{answer_to, answer_with_six};
+use crate::tests_first::{FIRST_FILL, FIRST_FILL_REPORT};
+use lw_top::Status;
 use std::alloc::{AllocError, Global};
 use std::sync::Wait;
 use std::test::Fail;

@@ -1,6 +1,5 @@
 //! `run` and `demo` with their tasks on threads: tasks that hold one another up, and the reports of many runs.
-use crate::Status;
-use crate::tests::{answer_through, answer_with_six};
+use crate::answers::{answer_through, answer_with_six};
 use crate::tests_demo::{SEVEN, demo_seven};
 use crate::tests_realistic::REALISTIC;
 use crate::tests_spots::{Spots, soon_comes_to, waits_for};
@@ -8,6 +7,7 @@ use lw_backfill::{Backfill, Solid};
 use lw_calls::{Form, Plan};
 use lw_locks::{Gate, Spot};
 use lw_script::read;
+use lw_top::Status;
 use std::alloc::{AllocError, Global};
 use std::process::Abort;
 use std::sync::atomic::{AtomicU32, Ordering};

@@ -1,5 +1,6 @@
-use crate::tests::{FIRST_FILL, answer_to, answer_with_six, sink_of, source_of};
-use crate::{Status, check, replay_cmd};
+use crate::answers::{answer_to, answer_with_six, sink_of, source_of};
+use crate::tests_first::FIRST_FILL;
+use lw_top::{Status, check, replay_cmd};
 use std::test::Fail;
 
 // Two tasks, each of which creates a layer and fills it.

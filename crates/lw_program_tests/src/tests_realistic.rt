@@ -1,5 +1,5 @@
-use crate::Status;
-use crate::tests::answer_with_six;
+use crate::answers::answer_with_six;
+use lw_top::Status;
 use std::test::Fail;
 
 // Three tasks with windows, which draw in them, scroll, blit and arrange them.

@@ -4,10 +4,10 @@ ghost use Rattle.lw_io.specs.Streams.{change};
 ghost use Rattle.lw_top.specs.Commands.{command_of};
 ghost use Rattle.lw_top.specs.Laws.{ToldOfWords};
 
-use crate::{Status, layers};
 use lw_backfill::Backfill;
 use lw_io::{Sink, Source};
 use lw_locks::Gate;
+use lw_top::{Status, answers_tell, layers};
 use std::alloc::Global;
 use std::sync::Wait;
 use std::thread::Threads;
@@ -26,5 +26,7 @@ pub fn told<R: Threads + Wait + Sync, S: Source, K: Sink, G: Gate + Sync>(
         (change S.left S.faults source.old source.new)
         (change K.written K.faults sink.old sink.new) }
 {
-    layers(rt, alloc, words, source, sink, hooks, gate)
+    let status = layers(rt, alloc, words, source, sink, hooks, gate);
+    answers_tell();
+    status
 }

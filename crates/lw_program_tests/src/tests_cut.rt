@@ -1,6 +1,7 @@
-use crate::tests::{FIRST_FILL, FIRST_FILL_REPORT, sink_of, source_of, word};
-use crate::{Status, layers};
+use crate::answers::{sink_of, source_of, word};
+use crate::tests_first::{FIRST_FILL, FIRST_FILL_REPORT};
 use lw_locks::OpenGate;
+use lw_top::{Status, layers};
 use std::alloc::AllocError;
 use std::sync::Wait;
 use std::test::Fail;

@@ -1,5 +1,6 @@
-use crate::tests::{FIRST_FILL, FIRST_FILL_REPORT, answer_to, sink_of, source_of};
-use crate::{Status, audit};
+use crate::answers::{answer_to, sink_of, source_of};
+use crate::tests_first::{FIRST_FILL, FIRST_FILL_REPORT};
+use lw_top::{Status, audit};
 use std::alloc::{AllocError, Global};
 use std::test::Fail;
 

@@ -1,8 +1,9 @@
 //! The command `demo`: its six lines, and a sink that fails after a part of them.
-use crate::Status;
-use crate::tests::{FIRST_FILL, sink_of, source_of, word};
+use crate::answers::{sink_of, source_of, word};
+use crate::tests_first::FIRST_FILL;
 use crate::tests_told::told;
 use lw_locks::{Gate, OpenGate};
+use lw_top::Status;
 use std::alloc::AllocError;
 use std::sync::Wait;
 use std::test::Fail;
