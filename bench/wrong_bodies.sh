@@ -23,7 +23,7 @@
 # the test passes where this one fails or one of the two after it, and ends with an error where the one before it fails.
 set -eu
 
-ROOM=70
+ROOM=54
 
 bench=$(cd "$(dirname "$0")" && pwd)
 top=$bench/..
@@ -73,33 +73,33 @@ try() {
 # Name of the patch, number of the allocation that fails, and whether the test fails.
 try_closing() {
     copy "$1"
-    told=$(failed lw_tasks tests_closing --fail-alloc "$2")
-    [ "$told" = "$3" ] || fail "$1 with allocation $2 failing: of lw_tasks::tests_closing fail: ${told:-none}"
-    echo "$1 with allocation $2 failing: of lw_tasks::tests_closing fail: ${told:-none}"
+    told=$(failed lw_desk_tests tests_closing --fail-alloc "$2")
+    [ "$told" = "$3" ] || fail "$1 with allocation $2 failing: of lw_desk_tests::tests_closing fail: ${told:-none}"
+    echo "$1 with allocation $2 failing: of lw_desk_tests::tests_closing fail: ${told:-none}"
 }
 
 one() {
     case $1 in
     none)
-        try none lw_top tests_threads
-        try none lw_tasks tests_
+        try none lw_program_tests tests_threads
+        try none lw_desk_tests tests_
         ;;
     one_lock_before_the_gate)
-        try "$1" lw_top tests_threads a_fill_goes_on_while_another_layer_is_held other_calls_go_on_while_a_layer_is_held
+        try "$1" lw_program_tests tests_threads a_fill_goes_on_while_another_layer_is_held other_calls_go_on_while_a_layer_is_held
         ;;
     one_lock_after_the_gate)
-        try "$1" lw_top tests_threads
-        try "$1" lw_tasks tests_overlap fills_of_two_layers_are_made_at_once
+        try "$1" lw_program_tests tests_threads
+        try "$1" lw_desk_tests tests_overlap fills_of_two_layers_are_made_at_once
         ;;
     two_locks_by_parity)
-        try "$1" lw_tasks tests_overlap
-        try "$1" lw_top tests_threads other_calls_go_on_while_a_layer_is_held
+        try "$1" lw_desk_tests tests_overlap
+        try "$1" lw_program_tests tests_threads other_calls_go_on_while_a_layer_is_held
         ;;
     the_gate_is_told_before_the_lock)
-        try "$1" lw_top tests_threads a_layer_is_held_by_one_call_at_a_time
+        try "$1" lw_program_tests tests_threads a_layer_is_held_by_one_call_at_a_time
         ;;
     a_replay_beside_threads)
-        try "$1" lw_top tests_threads a_hook_is_used_while_its_creation_is_made
+        try "$1" lw_program_tests tests_threads a_hook_is_used_while_its_creation_is_made
         ;;
     exchanged_where_not_closed)
         test=a_desk_that_was_not_closed_is_as_it_was

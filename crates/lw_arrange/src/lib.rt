@@ -21,6 +21,3 @@ pub use laws::arranged_slots_have_few_rectangles;
 pub use plan::plan_step;
 pub use prepared_info::{PreparedInfo, commit_info, prepare_info};
 pub use preparing::{Prepared, commit, prepare};
-
-#[cfg(test)]
-mod tests;

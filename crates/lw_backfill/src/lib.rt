@@ -18,6 +18,3 @@ pub use rows::row_of;
 pub use shelf::Shelf;
 pub use solid::Solid;
 pub use tile::tile_place;
-
-#[cfg(test)]
-mod tests;

@@ -7,6 +7,3 @@ mod parts;
 
 pub use laws::one_cover_law;
 pub use parts::Parts;
-
-#[cfg(test)]
-mod tests;

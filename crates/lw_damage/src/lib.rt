@@ -5,6 +5,3 @@
 mod damage;
 
 pub use damage::Damage;
-
-#[cfg(test)]
-mod tests;

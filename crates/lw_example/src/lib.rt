@@ -19,6 +19,3 @@ pub fn left_visible(alloc: Global, window: &Rect, front: &Rect) -> Result<Region
     combined_lists_law();
     Ok(seen)
 }
-
-#[cfg(test)]
-mod tests;

@@ -6,8 +6,6 @@
 mod generator;
 mod laws;
 mod plan;
-#[cfg(test)]
-mod tests;
 
 pub use laws::{demos_are_plans, demos_draw_these_calls};
 pub use plan::plan_of;

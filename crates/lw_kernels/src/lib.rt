@@ -17,6 +17,3 @@ pub use combining::{COPY_MINTERM, combine, combine_rows};
 pub use filling::{fill, fill_rows};
 pub use flipping::{flip, flip_rows};
 pub use within::{Corner, combine_rows_within, combine_within};
-
-#[cfg(test)]
-mod tests;

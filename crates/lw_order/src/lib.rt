@@ -6,8 +6,6 @@
 
 mod order;
 mod seat;
-#[cfg(test)]
-mod tests;
 mod view;
 
 pub use lw_calls::Role;

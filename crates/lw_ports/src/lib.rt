@@ -10,6 +10,3 @@ mod set;
 pub use classes::laws_of_classes;
 pub use port::Port;
 pub use set::MessageSet;
-
-#[cfg(test)]
-mod tests;

@@ -1,4 +1,4 @@
-use crate::answers::answer_to;
+use crate::answers::answer_with_six;
 use lw_top::Status;
 use std::test::Fail;
 
@@ -753,7 +753,7 @@ done
 #[test]
 fn drawn_layers_are_reported(rt: HostRuntime) -> Result<(), Fail> {
     for (script, report) in DRAWN.iter() {
-        let (status, text) = answer_to(&rt, "run", script, b"")?;
+        let (status, text) = answer_with_six(&rt, "run", script, b"")?;
         assert_eq!(rt; status, Status::Done);
         assert_eq!(rt; text.as_slice(), *report);
     }

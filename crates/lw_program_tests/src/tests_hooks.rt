@@ -1,4 +1,4 @@
-use crate::answers::answer_to;
+use crate::answers::answer_with_six;
 use lw_top::Status;
 use std::test::Fail;
 
@@ -65,7 +65,7 @@ done
 
 #[test]
 fn layers_are_filled_by_their_hooks(rt: HostRuntime) -> Result<(), Fail> {
-    let (status, text) = answer_to(&rt, "run", HOOKED, b"")?;
+    let (status, text) = answer_with_six(&rt, "run", HOOKED, b"")?;
     assert_eq!(rt; status, Status::Done);
     assert_eq!(rt; text.as_slice(), HOOKED_REPORT);
     Ok(())

@@ -1,4 +1,4 @@
-use crate::answers::answer_to;
+use crate::answers::answer_with_six;
 use lw_top::Status;
 use std::test::Fail;
 
@@ -102,7 +102,7 @@ done
 #[test]
 fn updates_are_reported(rt: HostRuntime) -> Result<(), Fail> {
     for (script, report) in UPDATED.iter() {
-        let (status, text) = answer_to(&rt, "run", script, b"")?;
+        let (status, text) = answer_with_six(&rt, "run", script, b"")?;
         assert_eq!(rt; status, Status::Done);
         assert_eq!(rt; text.as_slice(), *report);
     }
@@ -149,11 +149,11 @@ done
 #[test]
 fn update_holds_its_layer_alone(rt: HostRuntime) -> Result<(), Fail> {
     let alloc = rt.alloc();
-    let (status, text) = answer_to(&rt, "replay", UPDATED_BY_ONE, b"0 0 0 1 0 1\n")?;
+    let (status, text) = answer_with_six(&rt, "replay", UPDATED_BY_ONE, b"0 0 0 1 0 1\n")?;
     assert_eq!(rt; status, Status::Done);
     assert_eq!(rt; text.as_slice(), UPDATED_BY_ONE_REPORT);
     // The other task's second call touches the layer in the update.
-    let (status, text) = answer_to(&rt, "replay", UPDATED_BY_ONE, b"0 0 0 1 1 0\n")?;
+    let (status, text) = answer_with_six(&rt, "replay", UPDATED_BY_ONE, b"0 0 0 1 1 0\n")?;
     assert_eq!(rt; status, Status::BadOrder { place: 4 });
     assert_eq!(rt; text.as_slice(), b"bad order at 4\n".as_slice());
     Ok(())

@@ -1,4 +1,4 @@
-use crate::answers::answer_to;
+use crate::answers::answer_with_six;
 use lw_top::Status;
 use std::test::Fail;
 
@@ -361,7 +361,7 @@ done
 #[test]
 fn windows_are_reported(rt: HostRuntime) -> Result<(), Fail> {
     for (command, script, report) in WINDOWED.iter() {
-        let (status, text) = answer_to(&rt, command, script, b"")?;
+        let (status, text) = answer_with_six(&rt, command, script, b"")?;
         assert_eq!(rt; text.as_slice(), *report);
         assert_eq!(rt; status, Status::Done);
     }

@@ -21,6 +21,3 @@ pub use laws::{
 };
 pub use rect::Rect;
 pub use region::{Region, and_region, clear_region, moved_region, or_region, xor_region};
-
-#[cfg(test)]
-mod tests;

@@ -16,12 +16,6 @@ mod state;
 mod taking;
 mod tasks;
 mod tested;
-#[cfg(test)]
-mod tests;
-#[cfg(test)]
-mod tests_order;
-#[cfg(test)]
-mod tests_refused;
 
 pub use differing::first_difference;
 pub use input::{Input, ScriptStop};

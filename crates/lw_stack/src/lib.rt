@@ -9,6 +9,3 @@ mod shown;
 pub use info::{Info, InfoDraft};
 pub use laws::list_law;
 pub use shown::visible_sets;
-
-#[cfg(test)]
-mod tests;

@@ -12,4 +12,3 @@ mod Whole
 mod Placing
 mod Jobs
 mod Started
-mod Again

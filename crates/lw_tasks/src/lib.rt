@@ -7,12 +7,6 @@ mod parts;
 mod run;
 mod running;
 mod task;
-#[cfg(test)]
-mod tests;
-#[cfg(test)]
-mod tests_closing;
-#[cfg(test)]
-mod tests_overlap;
 mod threads;
 mod tickets;
 

@@ -1,7 +1,7 @@
 -- What a command's promise tells of its answer.
 use Rattle.std.proofs.Common.{◌≡◌, ◌≢◌, ◌⊎◌, ℕ, ◌+◌, ◌<◌, ◌≤◌, List, [], ◌++◌, codes, Option, Some, None, IfSome, true, false, IsTrue, length, refl, sym, ap, subst, ◌∙◌, inl, inr, append-nil, length-append, arith}
 use Rattle.std.proofs.lemmas.Bool.{true≢false}
-use Rattle.lw_io.specs.Streams.{Stream, StreamChange, change, NoneLeft, TakesJust, TakesAtMost, bytes_before, bytes_after, Wrote, HasFailed}
+use Rattle.lw_io.specs.Streams.{Stream, StreamChange, NoneLeft, TakesJust, TakesAtMost, bytes_before, bytes_after, Wrote, HasFailed}
 use Rattle.lw_calls.specs.declared.reason.Reason.{Reason}
 use Rattle.lw_calls.specs.Plan.{IsPlan}
 use Rattle.lw_calls.specs.Written.{line_of}
@@ -202,10 +202,6 @@ said_no_fault text due r sink (inr d) not_fault = absurd (not_fault d.0)
 no_write_fault : (hooks : List Hook) (command : ScriptCommand) (r : Status) (source sink : StreamChange) → Answered hooks command r source sink → ((r ≡ ReadFault) ⊎ (r ≡ NoMemory) → sink.new ≡ sink.old) → r ≢ WriteFault → sink.new.faults ≡ sink.old.faults
 no_write_fault hooks command r source sink h untouched not_fault =
     elim h.outcome [ inl e ↦ said_no_fault e.text e.due r sink e.said not_fault | inr e ↦ ap (λ (s : Stream). s.faults) (untouched (elim e [ inl d ↦ inl d.0 | inr d ↦ inr d ])) ]
-
--- a stream whose value is as it was has the bytes and the count that it had
-pub change_none : {T : Type 0} (bytes : T → Option (List ℕ)) (faults : T → ℕ) (old new : T) → new ≡ old → (change bytes faults old new).new ≡ (change bytes faults old new).old
-change_none bytes faults old new same = ap (λ s. (change bytes faults old s).new) same
 
 -- What is promised of words is what they tell, be they a command or none.
 none_taken : (source : StreamChange) → source.new ≡ source.old → TakesAtMost (input_limit + 1) source.old.bytes source.new.bytes

@@ -11,26 +11,6 @@ mod report;
 mod say;
 mod serving;
 mod status;
-#[cfg(test)]
-mod tests;
-#[cfg(test)]
-mod tests_audit;
-#[cfg(test)]
-mod tests_commands;
-#[cfg(test)]
-mod tests_cut;
-#[cfg(test)]
-mod tests_demo;
-#[cfg(test)]
-mod tests_realistic;
-#[cfg(test)]
-mod tests_refusals;
-#[cfg(test)]
-mod tests_spots;
-#[cfg(test)]
-mod tests_threads;
-#[cfg(test)]
-mod tests_told;
 mod words;
 
 pub use command::layers;

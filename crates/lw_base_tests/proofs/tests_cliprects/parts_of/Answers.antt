@@ -1,0 +1,12 @@
+use Rattle.std.proofs.Common.{[], ◌∷◌, ◌∙◌, sym}
+use Rattle.std.proofs.lemmas.Bool.{and_parts}
+use Rattle.lw_region.specs.Rectangle.{has_pixel}
+use Rattle.lw_region.specs.Bands.{covers}
+use Rattle.lw_region.proofs.SetOps.{combined_lists, covers_one}
+use Rattle.lw_base_tests.proofs.tests_cliprects.parts_of.Goals as goal
+
+pub cut-requires : goal.cut-requires
+cut-requires c = λ x y h.
+    let bounds = c.args.bounds.now in
+    let both = (combined_lists.intersections _ (bounds ∷ []) _ c.in_ok-and_rect.ensures.list).pixels x y in
+    sym (covers_one bounds x y) ∙ (and_parts (covers _ x y) (covers (bounds ∷ []) x y) (sym both ∙ h)).1

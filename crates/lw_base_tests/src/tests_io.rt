@@ -1,0 +1,190 @@
+ghost use Rattle.std.specs.Prelude.{◌≡◌, ◌<◌, ◌≤◌, ◌++◌, Some, List, ℕ, length, IsErr, IsErrOf, OnOk};
+ghost use Rattle.lw_io.specs.Streams.{Rose};
+
+use lw_io::{
+    Failed, MemSink, MemSource, ReadStop, Sink, Source, StdSink, StdSource, read_all, write_all,
+};
+use std::alloc::{AllocError, Global};
+use std::test::Fail;
+
+const TEXT: &[u8] = b"abcde";
+
+#[derive(Clone, Copy, Debug, PartialEq, Eq)]
+enum CopyStop {
+    Read(ReadStop),
+    Write,
+}
+
+// A caller by the contracts alone: what the sink holds is what it held before, and then all that
+// the source had left.
+fn copy<S: Source, K: Sink>(
+    alloc: Global,
+    source: &mut S,
+    sink: &mut K,
+    limit: usize,
+) -> Result<(), CopyStop>
+    requires { limit < usize.MAX }
+    ensures done { (text held : List ℕ) → S.left source.old ≡ Some text
+        → K.written sink.old ≡ Some held → OnOk result (K.written sink.new ≡ Some (held ++ text)) }
+    ensures too_long { (text : List ℕ) → S.left source.old ≡ Some text
+        → limit < length text → IsErr result }
+    ensures fits { (text : List ℕ) → S.left source.old ≡ Some text
+        → length text ≤ limit → IsErrOf result (CopyStop.Read ReadStop.TooLong) → ⊥ }
+    ensures read { IsErrOf result (CopyStop.Read ReadStop.Fault)
+        → Rose (S.faults source.old) (S.faults source.new) × (K.written sink.new ≡ K.written sink.old) }
+    ensures write { IsErrOf result CopyStop.Write
+        → Rose (K.faults sink.old) (K.faults sink.new) }
+{
+    let text = match read_all(alloc, source, limit) {
+        Ok(text) => text,
+        Err(stop) => return Err(CopyStop::Read(stop)),
+    };
+    match write_all(sink, &text) {
+        Ok(()) => Ok(()),
+        Err(Failed) => Err(CopyStop::Write),
+    }
+}
+
+// How many of the five bytes are read, where this call fails.
+fn count_read(
+    alloc: Global,
+    step: u8,
+    fails: u32,
+    limit: u8,
+) -> Result<Result<usize, ReadStop>, AllocError>
+    requires { 0 < step }
+{
+    let fails = Vec::from_slice(alloc, &[fails])?;
+    let mut source = MemSource::new(Vec::from_slice(alloc, TEXT)?, usize::from(step), fails);
+    Ok(read_all(alloc, &mut source, usize::from(limit)).map(|bytes| bytes.len()))
+}
+
+// What a sink answers to the five bytes, and how many it holds then, where this call fails.
+fn count_written(
+    alloc: Global,
+    room: u8,
+    step: u8,
+    fails: u32,
+) -> Result<(Result<(), Failed>, bool, usize), AllocError>
+    requires { 0 < step }
+{
+    let fails = Vec::from_slice(alloc, &[fails])?;
+    let mut sink = MemSink::new(alloc, usize::from(room), usize::from(step), fails)?;
+    let answer = write_all(&mut sink, TEXT);
+    Ok((answer, TEXT.starts_with(sink.bytes()), sink.bytes().len()))
+}
+
+#[test]
+fn source_is_read_whole_where_no_call_fails(rt: HostRuntime) -> Result<(), Fail> {
+    // A source of five bytes takes so many calls, the last of which finds its end.
+    for (step, calls) in [(1, 6), (2, 4), (7, 2)] {
+        for fails in 0..=calls {
+            let want = if fails < calls {
+                Err(ReadStop::Fault)
+            } else {
+                Ok(5)
+            };
+            assert!(rt; step > 0);
+            assert_eq!(rt;
+                count_read(rt.alloc(), step, fails, 9)?,
+                want,
+                "step {step}, fails at {fails}"
+            );
+        }
+    }
+    Ok(())
+}
+
+#[test]
+fn fault_is_answered_and_not_read_past(rt: HostRuntime) -> Result<(), Fail> {
+    let alloc = rt.alloc();
+    for (fails, behind) in [(0, 5), (1, 3), (2, 1), (3, 0)] {
+        let fails = Vec::from_slice(alloc, &[fails])?;
+        let mut source = MemSource::new(Vec::from_slice(alloc, TEXT)?, 2, fails);
+        let answer = read_all(alloc, &mut source, 9);
+        assert_eq!(rt;
+            answer.err(),
+            Some(ReadStop::Fault),
+            "{behind} bytes behind the fault"
+        );
+        // The bytes behind the fault are all there for the next call, in which no read fails.
+        let rest = read_all(alloc, &mut source, 9);
+        assert_eq!(rt; rest.map(|bytes| bytes.len()), Ok(behind));
+    }
+    Ok(())
+}
+
+#[test]
+fn want_of_memory_is_not_answered_in_place_of_a_fault(rt: HostRuntime) -> Result<(), Fail> {
+    let alloc = rt.alloc();
+    for fails in 0..4 {
+        let fails = Vec::from_slice(alloc, &[fails])?;
+        let mut source = MemSource::new(Vec::from_slice(alloc, TEXT)?, 2, fails);
+        let first = read_all(alloc, &mut source, 9).err() == Some(ReadStop::Fault);
+        let second = read_all(alloc, &mut source, 9).err() == Some(ReadStop::Fault);
+        // A call that stops for want of memory, where an allocation fails, hasn't met the fault, and
+        // leaves it to the next call.
+        assert!(rt; first != second);
+    }
+    Ok(())
+}
+
+#[test]
+fn more_than_the_limit_is_too_long(rt: HostRuntime) -> Result<(), Fail> {
+    for (limit, want) in [(4, Err(ReadStop::TooLong)), (5, Ok(5)), (6, Ok(5))] {
+        assert_eq!(rt; count_read(rt.alloc(), 1, 9, limit)?, want, "limit {limit}");
+        assert_eq!(rt; count_read(rt.alloc(), 7, 9, limit)?, want, "limit {limit}");
+    }
+    Ok(())
+}
+
+#[test]
+fn sink_holds_what_was_written_before_the_fault(rt: HostRuntime) -> Result<(), Fail> {
+    for (room, step, fails, answer, count) in [
+        (9, 1, 0, Err(Failed), 0),
+        (9, 1, 2, Err(Failed), 2),
+        (9, 1, 4, Err(Failed), 4),
+        (9, 1, 5, Ok(()), 5),
+        (9, 2, 1, Err(Failed), 2),
+        (9, 7, 1, Ok(()), 5),
+        (5, 2, 3, Ok(()), 5),
+        (3, 2, 9, Err(Failed), 3),
+        (0, 1, 9, Err(Failed), 0),
+    ] {
+        assert!(rt; step > 0);
+        let got = count_written(rt.alloc(), room, step, fails)?;
+        assert_eq!(rt;
+            got,
+            (answer, true, count),
+            "room {room}, step {step}, fails at {fails}"
+        );
+    }
+    Ok(())
+}
+
+#[test]
+fn std_reader_and_writer_carry_the_bytes(rt: HostRuntime) -> Result<(), Fail> {
+    let text = [b'x'; 5000];
+    let mut room = [0; 5000];
+    let mut source = StdSource::new(text.as_slice());
+    let mut sink = StdSink::new(room.as_mut_slice());
+    assert_eq!(rt; copy(rt.alloc(), &mut source, &mut sink, 5000), Ok(()));
+    assert_eq!(rt;
+        write_all(&mut sink, b"y"),
+        Err(Failed),
+        "the writer takes nothing"
+    );
+    assert_eq!(rt; room.as_slice(), text.as_slice());
+    Ok(())
+}
+
+#[test]
+fn copied_text_comes_after_what_was_there(rt: HostRuntime) -> Result<(), Fail> {
+    let alloc = rt.alloc();
+    let mut source = MemSource::new(Vec::from_slice(alloc, TEXT)?, 2, Vec::new(alloc));
+    let mut sink = MemSink::new(alloc, 9, 2, Vec::new(alloc))?;
+    assert_eq!(rt; write_all(&mut sink, b">"), Ok(()));
+    assert_eq!(rt; copy(alloc, &mut source, &mut sink, 5), Ok(()));
+    assert_eq!(rt; sink.bytes(), b">abcde".as_slice());
+    Ok(())
+}

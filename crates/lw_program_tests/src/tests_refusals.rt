@@ -1,0 +1,145 @@
+use crate::answers::{answer_to, answer_with_six};
+use crate::tests_first::{FIRST_FILL, FIRST_FILL_REPORT};
+use lw_top::Status;
+use std::alloc::{AllocError, Global};
+use std::sync::Wait;
+use std::test::Fail;
+use std::thread::Threads;
+
+// Lines after a first line and the beginning of a task, and the first bad line with its reason, where there are six hooks.
+static IN_A_TASK: [(&str, &str); 11] = [
+    ("\r\n", "3 bad-byte"),
+    ("fill w 0  0 1 1\n", "3 spacing"),
+    ("text w \"a\" b\n", "3 quote"),
+    ("glow w\n", "3 unknown-word"),
+    ("glyph 41 0000000000000000\n", "3 misplaced"),
+    ("fill w 007 0 9 0\n", "3 form"),
+    ("fill w 0 0 40000 0\n", "3 range"),
+    ("put b 0 0 w 0 0 1 1 c0\n", "3 no-name"),
+    ("unlock w\n", "3 group"),
+    ("create w smart front 0 0 3 3 hook 6\n", "3 no-hook"),
+    // The hook counts as named though its first layer isn't created, which would leave the screen.
+    (
+        "create w smart front 10 0 16 3 hook 0\ncreate c smart front 0 0 3 3 hook 0\n",
+        "4 hook-used",
+    ),
+];
+
+// Scripts without a task.
+static WITHOUT_A_TASK: [(&str, &str); 4] = [
+    (
+        "screen 16 4 1\nbitmap b 16 1 1\n0000\nbitmap b 1 1 1\n",
+        "4 double-name",
+    ),
+    ("screen 16 4 1\nbitmap b 15 2 1\nfffe\nffff\n", "4 padding"),
+    ("screen 16 4 1\n", "2 missing"),
+    ("", "1 missing"),
+];
+
+// What stands before many equal pieces, and such a piece with @ for its number.
+type Pieces = (&'static str, &'static str);
+
+const BYTES: Pieces = ("", "a");
+
+const CALLS: Pieces = ("screen 16 4 1\ntask a\n", "clearregion 0\n");
+
+const BITMAPS: Pieces = ("screen 16 4 1\n", "bitmap b@ 1 1 1\n8000\n");
+
+const TASKS: Pieces = ("screen 16 4 1\n", "task t@\nend\n");
+
+const LAYERS: Pieces = ("screen 16 4 1\ntask a\n", "create n@ smart front 0 0 7 3\n");
+
+// Pieces, how many there are, what stands after them, and the first bad line with its reason.
+static COUNTED: [(Pieces, u32, &str, &str); 12] = [
+    // A line has 512 bytes at most, its line feed aside.
+    (BYTES, 513, "\n", "1 line-too-long"),
+    (BYTES, 512, "\n", "1 unknown-word"),
+    // 64 layer names, of which a line may have two.
+    (LAYERS, 63, "infront x x\n", "67 missing"),
+    (LAYERS, 63, "infront x y\n", "66 too-many"),
+    // 16 bitmaps of one row.
+    (BITMAPS, 16, "bitmap c 9 9 8\n", "34 too-many"),
+    (BITMAPS, 15, "bitmap c 1 1 1\n", "33 missing"),
+    // 4,096 calls of a task.
+    (CALLS, 4096, "which 0 0\n", "4099 too-many"),
+    (CALLS, 4095, "which 0 0\n", "4099 missing"),
+    // Names are counted through all tasks, and calls in each task anew. 16 tasks.
+    (LAYERS, 64, "end\ntask b\nfront n63\n", "70 missing"),
+    (LAYERS, 64, "end\ntask b\nfront x\n", "69 too-many"),
+    (CALLS, 4096, "end\ntask b\nwhich 0 0\n", "4102 missing"),
+    (TASKS, 16, "task u\n", "34 too-many"),
+];
+
+// Whether `run` of a script, with six hooks, is refused on this line for this reason, with its text.
+fn is_refused<R: Threads + Wait + AllocGlobal + Sync>(
+    rt: &R,
+    script: &str,
+    refused: &str,
+) -> Result<bool, AllocError> {
+    let (status, text) = answer_with_six(rt, "run", script.as_bytes(), b"")?;
+    let due = format!(in rt.alloc(); "refused line {refused}\n")?;
+    Ok(status.number() == 1 && text.as_slice() == due.as_bytes())
+}
+
+#[test]
+fn each_reason_refuses_a_script(rt: HostRuntime) -> Result<(), Fail> {
+    for (lines, refused) in IN_A_TASK.iter() {
+        let script = format!(in rt.alloc(); "screen 16 4 1\ntask a\n{lines}")?;
+        assert!(rt; is_refused(&rt, script.as_str(), refused)?, "{refused}");
+    }
+    for (script, refused) in WITHOUT_A_TASK.iter() {
+        assert!(rt; is_refused(&rt, script, refused)?, "{refused}");
+    }
+    Ok(())
+}
+
+// So many pieces between two texts.
+fn script_of(
+    alloc: Global,
+    (before, piece): Pieces,
+    count: u32,
+    after: &str,
+) -> Result<String, AllocError> {
+    let mut script = String::from_str(alloc, before)?;
+    for number in 0..count {
+        match piece.split_once('@') {
+            Some((front, rest)) => {
+                script.push_str(front)?;
+                script.push_str(format!(in alloc; "{number}{rest}")?.as_str())?;
+            }
+            None => script.push_str(piece)?,
+        }
+    }
+    script.push_str(after)?;
+    Ok(script)
+}
+
+#[test]
+fn bytes_names_bitmaps_and_calls_are_counted(rt: HostRuntime) -> Result<(), Fail> {
+    let alloc = rt.alloc();
+    for (pieces, count, after, refused) in COUNTED.iter() {
+        let script = script_of(alloc, *pieces, *count, after)?;
+        assert!(rt; is_refused(&rt, script.as_str(), refused)?, "{refused}");
+    }
+    Ok(())
+}
+
+// What `run` answers to the first script with so many line feeds after it.
+fn answer_with_feeds<R: Threads + Wait + AllocGlobal + Sync>(
+    rt: &R,
+    feeds: usize,
+) -> Result<(Status, Vec<u8>), AllocError> {
+    let after = vec![in rt.alloc(); b'\n'; feeds]?;
+    answer_to(rt, "run", FIRST_FILL, after.as_slice())
+}
+
+#[test]
+fn an_input_has_4194304_bytes_at_most(rt: HostRuntime) -> Result<(), Fail> {
+    let (status, text) = answer_with_feeds(&rt, 4_194_236)?;
+    assert_eq!(rt; status, Status::TooLong);
+    assert_eq!(rt; text.as_slice(), b"too long\n".as_slice());
+    let (status, text) = answer_with_feeds(&rt, 4_194_235)?;
+    assert_eq!(rt; status, Status::Done);
+    assert_eq!(rt; text.as_slice(), FIRST_FILL_REPORT);
+    Ok(())
+}

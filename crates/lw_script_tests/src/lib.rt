@@ -1,0 +1,9 @@
+//! Tests of the reader of scripts, orders and reports, which call what `lw_script` exports.
+#![tactic(auto)]
+
+#[cfg(test)]
+mod tests_order;
+#[cfg(test)]
+mod tests_refused;
+#[cfg(test)]
+mod tests_script;
