@@ -10,15 +10,14 @@ ghost use Rattle.lw_steps.specs.Steps.{AreParts};
 ghost use Rattle.lw_locks.specs.Closing.{HasEach};
 ghost use Rattle.lw_locks.specs.Seen.{opening_pass};
 
-use crate::answers::TaskAnswers;
 use crate::tests::{are_done, calls_of_task, plan_of};
-use crate::threads::{parted, run_each};
 use lw_backfill::{Backfill, Solid};
 use lw_calls::{Call, Final, Plan, Reply};
 use lw_engine::LayerEngine;
 use lw_locks::{Closed, Desk, NotClosed, OpenGate, Opening, Pass};
 use lw_order::{Order, Seat};
 use lw_region::Rect;
+use lw_runs::{TaskAnswers, parted, run_each};
 use lw_steps::Engine;
 use std::alloc::{AllocError, Global};
 use std::marker::Brand;

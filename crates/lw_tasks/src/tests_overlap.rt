@@ -4,8 +4,6 @@ ghost use Rattle.lw_machine.specs.Finals.{opening_desk};
 ghost use Rattle.lw_order.specs.Roles.{all_roles};
 ghost use Rattle.lw_engine.specs.Layers.{layer_relations};
 
-use crate::answers::TaskAnswers;
-use crate::running::run_all;
 use crate::tests::{are_done, calls_of_task, plan_of};
 use lw_backfill::{Backfill, Solid};
 use lw_calls::{Call, Plan, Reply};
@@ -13,6 +11,7 @@ use lw_engine::{LayerEngine, LayerInfo, Slot};
 use lw_locks::{Gate, Opening, Spot};
 use lw_order::{Order, Seat};
 use lw_parts::Regs;
+use lw_runs::{TaskAnswers, run_all};
 use lw_steps::Engine;
 use std::alloc::{AllocError, Global};
 use std::marker::Brand;

@@ -3,8 +3,8 @@ use Rattle.std.proofs.lemmas.List.{length-map}
 use Rattle.lw_calls.specs.declared.sizes.Sizes.{Sizes}
 use Rattle.lw_locks.specs.Closing.{HasEach}
 use Rattle.lw_locks.specs.Seen.{SeenPass}
-use Rattle.lw_tasks.specs.declared.threads.TaskRun.{TaskRun}
-use Rattle.lw_tasks.proofs.Jobs.{in_order, each_in_order, own_task}
+use Rattle.lw_runs.specs.declared.threads.TaskRun.{TaskRun}
+use Rattle.lw_runs.proofs.Jobs.{in_order, each_in_order, own_task}
 use Rattle.lw_tasks.proofs.tests_closing.close_run.Goals as goal
 
 pub close-requires-clause-many : goal.close-requires-clause-many
