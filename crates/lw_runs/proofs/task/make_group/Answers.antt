@@ -45,3 +45,22 @@ returns-clause-begun g c =
     let ok = c.in_ok-make_up_to.ensures {u = tt} in
     let are : c.calls-calls.result.now ≡ task_calls plan task = c.calls-calls.ensures ∙ ap (task_calls plan) (c.task.ensures ∙ ok.task) in
     group_begun g.N.Opening.desk plan task c.group.result c.make_up_to.new.pass.history c.group.new.pass.history (length c.args.answers.now.items) c.make_up_to.new.pass.task c.calls-calls.result.now c.make_up_to.new.answers.items c.group.new.answers.items c.args.group.now c.requires.next ok.many ok.task are ok.begun c.group.ensures.done c.group.ensures.all
+
+pub make_up_to-requires-clause-free : goal.make_up_to-requires-clause-free
+make_up_to-requires-clause-free g c κs within = λ n low high. c.requires.next.free n low (omega (arith, high))
+
+pub make_up_to-requires-clause-left : goal.make_up_to-requires-clause-left
+make_up_to-requires-clause-left g c κs within =
+    let place = group_place (task_calls c.args.plan.now c.args.pass.now.task) c.args.group.now c.requires.next.fits in
+    let low = place.0 in
+    let high = place.1 in
+    omega (arith, low, high)
+
+pub slice_bounds-part-end : goal.slice_bounds-part-end
+slice_bounds-part-end g c =
+    let plan = c.args.plan.now in
+    let task = c.args.pass.now.task in
+    let are : c.calls-calls.result.now ≡ task_calls plan task = c.calls-calls.ensures ∙ ap (task_calls plan) (c.task.ensures ∙ (c.in_ok-make_up_to.ensures {u = tt}).task) in
+    let many : length c.calls-calls.result.now ≡ length (task_calls plan task) = ap length are in
+    let high = (group_place (task_calls plan task) c.args.group.now c.requires.next.fits).1 in
+    omega (arith, many, high)

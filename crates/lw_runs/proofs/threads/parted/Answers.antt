@@ -11,9 +11,10 @@ one_more read xs x old new added are = added ∙ (ap (λ ys. ys ++ read x ∷ []
 
 pub loop-run-preserved : goal.loop-run-preserved
 loop-run-preserved g c =
-    let ok = c.in_ok-part.ensures {u = tt} in
-    (one_more (λ (r : TaskRun g.row.E.Denot g.row.N.Denot g.row.E-Info.Denot g.row.E-Cell.Denot g.row.E-Regs.Denot). r.pass) c.loop-run.yielded c.in-Some.run' c.loop-run.passes.items c.part.new.passes.items ok.passes c.loop-run.invariant.0,
-     one_more (λ (r : TaskRun g.row.E.Denot g.row.N.Denot g.row.E-Info.Denot g.row.E-Cell.Denot g.row.E-Regs.Denot). r.told) c.loop-run.yielded c.in-Some.run' _ _ ok.told c.loop-run.invariant.1)
+    let ok = c.in_ok-part.ensures {u = tt} in (
+      one_more (λ (r : TaskRun g.row.E.Denot g.row.N.Denot g.row.E-Info.Denot g.row.E-Cell.Denot g.row.E-Regs.Denot). r.pass) c.loop-run.yielded c.in-Some.run' c.loop-run.passes.items c.part.new.passes.items ok.passes c.loop-run.invariant.0,
+      one_more (λ (r : TaskRun g.row.E.Denot g.row.N.Denot g.row.E-Info.Denot g.row.E-Cell.Denot g.row.E-Regs.Denot). r.told) c.loop-run.yielded c.in-Some.run' _ _ ok.told c.loop-run.invariant.1,
+    )
 
 pub returns : goal.returns
 returns g c =
