@@ -1,4 +1,3 @@
--- For private contracts.
 -- A run under way, after some steps of its history.
 use Rattle.std.specs.Prelude.{◌≡◌, ℕ, ◌<◌, List, [], length}
 use Rattle.std.specs.List.{slice_index_or, slice_get}

@@ -41,11 +41,11 @@ pub record HaveRun {I C R : Type 0} (relations : Relations I C R) (desk : Desk) 
   pub many : length all ≡ plan.sizes.tasks
   pub told : AllHaveAll desk plan history all
 
--- Words of this crate's private contracts.
-
 -- each task's tickets are the places of its steps
 abbrev pub AreTickets : List Entry → List TaskAnswers → Type 0
 AreTickets history all = (t : ℕ) (told : TaskAnswers) → slice_get all t ≡ Some told → told.tickets.items ≡ places_of t 0 history
+
+-- Words of this crate's private contracts.
 
 -- how many steps are of tasks below the number
 abbrev pub count_below : ℕ → List Entry → ℕ
