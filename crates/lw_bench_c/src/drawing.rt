@@ -1,7 +1,7 @@
 ghost use Rattle.std.specs.Prelude.{◌≡◌, ◌≤◌, ◌<◌, IfSome};
 ghost use Rattle.lw_calls.specs.Limits.{IsWithinLimits};
 ghost use Rattle.lw_machine.specs.Desk.{Desk};
-ghost use Rattle.lw_tasks.specs.Standing.{StandForDesk};
+ghost use Rattle.lw_runs.specs.Standing.{StandForDesk};
 
 use crate::blits::{blit_of, put_of, scroll_of};
 use lw_backfill::Solid;
@@ -10,7 +10,7 @@ use lw_engine::LayerEngine;
 use lw_planes::Planes;
 use lw_region::Rect;
 use lw_steps::Engine;
-use lw_tasks::Parts;
+use lw_runs::Parts;
 use std::alloc::{AllocError, Global};
 
 // How many letters a text has.

@@ -1,5 +1,5 @@
 -- Parts of a span that are written one after another, and rows that are done one after another.
-use Rattle.std.proofs.Common.{◌≡◌, ℕ, ◌+◌, ◌-◌, ◌*◌, ◌/◌, ◌%◌, ◌<◌, ◌≤◌, ◌==◌, ◌&&◌, nat_le, nat_lt, if◌then◌else◌, Bool, true, false, List, length, get_or, set, ap, sym, refl, ◌∙◌, ⊎_elim, arith}
+use Rattle.std.proofs.Common.{◌≡◌, ℕ, ◌+◌, ◌-◌, ◌*◌, ◌/◌, ◌%◌, ◌<◌, ◌≤◌, ◌==◌, ◌&&◌, nat_le, nat_lt, if◌then◌else◌, Bool, true, false, List, length, get_or, set, ap, subst, sym, refl, ◌∙◌, ⊎_elim, arith}
 use Rattle.std.specs.Int.{bit_at, w8}
 use Rattle.std.proofs.lemmas.Bool.{cases_lt, cases_eq, eq-eqb, ne_eqb, lt-ltb, le-ltb, le-leb, and_from, and_left, and_right, and_parts}
 use Rattle.std.proofs.lemmas.Bool.Decides.{nat_tests}
@@ -213,6 +213,15 @@ rows_none step from end bytes test new none = λ y x _.
 -- the same rows are done, told otherwise
 pub rows_same : (step from end : ℕ) (bytes : List ℕ) (test next : ℕ → Bool) (new : ℕ → ℕ → ℕ) (old : ℕ → ℕ) → ((y : ℕ) → test y ≡ next y) → RowsDone step from end bytes test new old → RowsDone step from end bytes next new old
 rows_same step from end bytes test next new old same done = λ y x low. done y x low ∙ ap (λ t. if t && is_between from end x then new y x else old (place_in step y x)) (same y)
+
+-- the bits from `from` on, before `end`, of the rows that pass the test are blitted, each with a source that stands as far from its row's first
+abbrev pub RowsBlitted : List ℕ → ℕ → (ℕ → Bool) → ℕ → (ℕ → ℕ → ℕ) → (ℕ → ℕ) → ℕ → ℕ → Type 0
+RowsBlitted row step test minterm source old from end = (y x : ℕ) → x < 8 * step → row_bit row (place_in step y x) ≡ (if test y && is_between from end x then minterm_bit minterm (source y (x - from)) (old (place_in step y x)) else old (place_in step y x))
+
+-- the same bits, named by the first of them and their count
+pub rows_named : (row : List ℕ) (step : ℕ) (test : ℕ → Bool) (minterm : ℕ) (source : ℕ → ℕ → ℕ) (old : ℕ → ℕ) (from end bit count : ℕ) → from ≡ bit → end ≡ bit + count → RowsBlitted row step test minterm source old from end → RowsBlitted row step test minterm source old bit (bit + count)
+rows_named row step test minterm source old from end bit count first last blitted =
+    subst (λ f. RowsBlitted row step test minterm source old f (bit + count)) first (subst (λ e. RowsBlitted row step test minterm source old from e) last blitted)
 
 -- a row with the number k isn't before the row k
 not_before : (k : ℕ) → nat_lt k k ≡ false

@@ -9,7 +9,7 @@ use Rattle.lw_machine.specs.Finals.{opening_desk}
 use Rattle.lw_machine.specs.Hook.{Hook}
 use Rattle.lw_layer.specs.View.{CellView}
 use Rattle.lw_engine.specs.Layers.{InfoView, layer_relations, AreLayers, AreRegisters}
-use Rattle.lw_tasks.specs.Standing.{StandForDesk}
+use Rattle.lw_runs.specs.Standing.{StandForDesk}
 
 -- which desks an engine's parts on layers stand for
 abbrev pub Standing : Sizes → Assets → InfoView → List CellView → List (List (List Rectangle)) → Desk → Type 0

@@ -18,10 +18,10 @@ use Rattle.lw_order.specs.Numbered.{TasksBelow}
 use Rattle.lw_layer.specs.View.{CellView}
 use Rattle.lw_steps.specs.Steps.{Relations}
 use Rattle.lw_engine.specs.Layers.{InfoView, AreLayers, AreRegisters}
-use Rattle.lw_tasks.specs.declared.answers.TaskAnswers.{TaskAnswers}
-use Rattle.lw_tasks.specs.Whole.{HaveRun, AreTickets, order_of, IsOrdered}
-use Rattle.lw_tasks.proofs.ListLaws.{has_entry}
-use Rattle.lw_tasks.proofs.Whole.{ordered}
+use Rattle.lw_runs.specs.declared.answers.TaskAnswers.{TaskAnswers}
+use Rattle.lw_runs.specs.Whole.{HaveRun, AreTickets, order_of, IsOrdered}
+use Rattle.lw_runs.proofs.ListLaws.{has_entry}
+use Rattle.lw_runs.proofs.Whole.{ordered}
 
 -- The parts of the opening desk are those of this one.
 pub record IsStarted (d : Desk) (plan : Plan) (sizes : Sizes) (assets : Assets) (info : InfoView) (cells : List CellView) (regs : List (List (List Rectangle))) : Type 0 where

@@ -1,5 +1,5 @@
 use Rattle.lw_machine.specs.Desk.{Desk}
-use Rattle.lw_tasks.specs.Standing.{StandForDesk}
+use Rattle.lw_runs.specs.Standing.{StandForDesk}
 use Rattle.lw_bench_c.proofs.drawing.make_often.Given as goal
 
 abbrev pub invariant-loop-turn : goal.invariant-loop-turn

@@ -7,7 +7,7 @@ use Rattle.lw_machine.specs.History.{machine, replies_of}
 use Rattle.lw_machine.specs.Finals.{opening_desk}
 use Rattle.lw_layer.specs.View.{CellView}
 use Rattle.lw_engine.specs.Layers.{AreLayers}
-use Rattle.lw_tasks.specs.Run.{HasRun}
+use Rattle.lw_runs.specs.Run.{HasRun}
 use Rattle.lw_tasks.proofs.Opening.{Standing, plan_opened}
 use Rattle.lw_tasks.proofs.run.replay.Goals as goal
 
