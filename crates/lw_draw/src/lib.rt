@@ -1,5 +1,5 @@
-//! Drawing into a live layer, run by run and plane by plane (the manual's Graphics Primitives chapter). It stands on the layer's
-//! public calls and knows nothing of how a layer keeps its bits.
+//! Drawing into a live layer, band by band, block by block and plane by plane (the manual's Graphics Primitives chapter). It stands on
+//! the layer's public calls and knows nothing of how a layer keeps its bits.
 #![tactic(auto)]
 
 mod blocks;
