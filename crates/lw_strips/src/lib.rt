@@ -15,6 +15,3 @@ pub use laying::{assemble, compose, lay_all, lay_planes, part};
 pub use piece::Piece;
 pub use pool::Pool;
 pub use strip::Strip;
-
-#[cfg(test)]
-mod tests;
