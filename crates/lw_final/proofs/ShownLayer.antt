@@ -1,5 +1,5 @@
 -- The pens of a layer where it is visible, rectangle by rectangle.
-use Rattle.std.proofs.Common.{◌≡◌, ℕ, ◌+◌, ◌<◌, ◌≤◌, Bool, true, false, ◌||◌, if◌then◌else◌, ℤ, pos, ◌≤ℤ◌, List, [], ◌∷◌, length, take, get_or, ◌∙◌, sym, refl, ap, subst, arith}
+use Rattle.std.proofs.Common.{◌≡◌, ℕ, ◌+◌, ◌<◌, ◌≤◌, Bool, true, false, ◌||◌, if◌then◌else◌, ℤ, pos, List, [], ◌∷◌, length, take, get_or, ◌∙◌, sym, refl, ap, subst, arith}
 use Rattle.std.specs.Int.Signed.{≤ℤ_refl}
 use Rattle.std.proofs.lemmas.Bool.{and_parts, and_from}
 use Rattle.std.proofs.lemmas.List.{take_more, take_all}

@@ -1,5 +1,5 @@
 -- Which former draft may be scrolled.
-use Rattle.std.proofs.Common.{◌≡◌, true, if◌then◌else◌, Some, ◌∙◌, sym, refl, ap, subst, ℤ, pos, ◌+ℤ◌}
+use Rattle.std.proofs.Common.{◌≡◌, true, if◌then◌else◌, Some, ◌∙◌, refl, ap, ℤ, pos, ◌+ℤ◌}
 use Rattle.lw_calls.specs.Kinds.{is_super}
 use Rattle.lw_machine.specs.Arrangement.{portion_fits}
 use Rattle.lw_machine.specs.Step.{may_scroll}

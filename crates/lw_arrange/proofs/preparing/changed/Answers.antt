@@ -1,5 +1,4 @@
-use Rattle.std.proofs.Common.{◌∙◌, ap, sym, subst}
-use Rattle.lw_region.specs.Rectangle.{Rectangle}
+use Rattle.std.proofs.Common.{◌∙◌, ap, subst}
 use Rattle.lw_layer.specs.StandsFor.{IsSound}
 use Rattle.lw_layer.specs.Pieces.{IsDamageOf}
 use Rattle.lw_layer.specs.View.{LiveView}
