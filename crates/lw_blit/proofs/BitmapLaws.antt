@@ -1,5 +1,5 @@
 -- Laws of blits from a bitmap, block by block.
-use Rattle.std.proofs.Common.{◌≡◌, ℕ, ◌+◌, ◌-◌, ◌*◌, ◌%◌, ◌==◌, ◌<◌, ◌≤◌, Bool, true, ◌&&◌, if◌then◌else◌, List, bit_and, bit_or, ◌∙◌, sym, ap, arith, ℤ, pos, ◌+ℤ◌, ◌-ℤ◌, ◌≤ℤ◌, unsigned_abs}
+use Rattle.std.proofs.Common.{◌≡◌, ℕ, ◌+◌, ◌-◌, ◌*◌, ◌%◌, ◌==◌, ◌<◌, ◌≤◌, ◌^◌, Bool, true, ◌&&◌, if◌then◌else◌, List, bit_and, bit_or, ◌∙◌, sym, ap, arith, ℤ, pos, ◌+ℤ◌, ◌-ℤ◌, ◌≤ℤ◌, unsigned_abs}
 use Rattle.std.specs.Int.{bit_at}
 use Rattle.std.proofs.lemmas.Bool.{and_from, and_parts}
 use Rattle.std.proofs.lemmas.Bool.Decides.{nat_tests}
@@ -7,7 +7,7 @@ use Rattle.std.proofs.lemmas.Int.{ints}
 use Rattle.std.proofs.lemmas.Nat.Bits.{bit_at-lt, bit_at_and, bit_at_or, bit_at_above}
 use Rattle.lw_region.specs.Rectangle.{within}
 use Rattle.lw_planes.specs.Row.{row_bit}
-use Rattle.lw_planes.specs.Bitmap.{Bitmap, IsBitmap, pen_at, row_bytes}
+use Rattle.lw_planes.specs.Bitmap.{Bitmap, pen_at, row_bytes}
 use Rattle.lw_planes.specs.Minterm.{minterm_bit}
 use Rattle.lw_planes.specs.Sizes.{IsPlanes}
 use Rattle.lw_kernels.specs.Kernel.{is_between, is_named, place_in}
@@ -40,19 +40,19 @@ pub record AreInBitmap (b : Bitmap) (a : Area) (s : Block) : Type 0 where
   pub upper : pos 0 ≤ℤ source_row a s.y
   pub lower : source_row a (s.y + s.rows) ≤ℤ pos b.height
 
-place_low : (n : ℕ) (z : ℤ) → is_place n z ≡ true → pos 0 ≤ℤ z
+pub place_low : (n : ℕ) (z : ℤ) → is_place n z ≡ true → pos 0 ≤ℤ z
 place_low n z is = grind (arith, ints)
 
-place_high : (n : ℕ) (z : ℤ) → is_place n z ≡ true → (z +ℤ pos 1) ≤ℤ pos n
+pub place_high : (n : ℕ) (z : ℤ) → is_place n z ≡ true → (z +ℤ pos 1) ≤ℤ pos n
 place_high n z is = grind (arith, ints)
 
-next_column : (a : Area) (x len n : ℕ) → 0 < len → (source_column a (x + (len - 1)) +ℤ pos 1) ≤ℤ pos n → source_column a (x + len) ≤ℤ pos n
+pub next_column : (a : Area) (x len n : ℕ) → 0 < len → (source_column a (x + (len - 1)) +ℤ pos 1) ≤ℤ pos n → source_column a (x + len) ≤ℤ pos n
 next_column a x len n some is = omega (arith, ints, some, is)
 
-next_row : (a : Area) (y rows n : ℕ) → 0 < rows → (source_row a (y + (rows - 1)) +ℤ pos 1) ≤ℤ pos n → source_row a (y + rows) ≤ℤ pos n
+pub next_row : (a : Area) (y rows n : ℕ) → 0 < rows → (source_row a (y + (rows - 1)) +ℤ pos 1) ≤ℤ pos n → source_row a (y + rows) ≤ℤ pos n
 next_row a y rows n some is = omega (arith, ints, some, is)
 
-in_block_at : (s : Block) (du dv : ℕ) → du < s.run.len → dv < s.rows → in_block s (s.x + du) (s.y + dv) ≡ true
+pub in_block_at : (s : Block) (du dv : ℕ) → du < s.run.len → dv < s.rows → in_block s (s.x + du) (s.y + dv) ≡ true
 in_block_at s du dv across down =
     let row : is_named s.y s.rows (s.y + dv) ≡ true = grind (arith, nat_tests) in
     let column : is_named s.x s.run.len (s.x + du) ≡ true = grind (arith, nat_tests) in
@@ -84,10 +84,10 @@ block_near c test s ok block =
     (omega (arith, place.left, wide), omega (arith, place.low, high))
 
 -- where the sources lie in the bitmap
-column_at : (a : Area) (x bit i : ℕ) → source_column a x ≡ pos bit → x ≤ i → unsigned_abs (source_column a i) ≡ bit + (i - x)
+pub column_at : (a : Area) (x bit i : ℕ) → source_column a x ≡ pos bit → x ≤ i → unsigned_abs (source_column a i) ≡ bit + (i - x)
 column_at a x bit i is late = omega (arith, ints, is, late)
 
-row_at : (a : Area) (y line j : ℕ) → source_row a y ≡ pos line → y ≤ j → unsigned_abs (source_row a j) ≡ line + (j - y)
+pub row_at : (a : Area) (y line j : ℕ) → source_row a y ≡ pos line → y ≤ j → unsigned_abs (source_row a j) ≡ line + (j - y)
 row_at a y line j is late = omega (arith, ints, is, late)
 
 column_inside : (a : Area) (x len bit i n : ℕ) → source_column a x ≡ pos bit → source_column a (x + len) ≤ℤ pos n → x ≤ i → i < x + len → bit + (i - x) < n
@@ -131,11 +131,10 @@ block_as_bitmap v w b a k plane m step bit line s bytes lies column row wide are
     (ap (λ z. value k (unsigned_abs (source_column a i)) z) (sym (row_at a s.y line j row at.top)) ∙
     ap (λ d. value d (unsigned_abs (source_column a i)) (unsigned_abs (source_row a j))) (sym at.deep))))))
 
--- a plane that a bitmap lacks has no bit, so a minterm that doesn't look at B does there
-pub lacked_value : (b : Bitmap) (m given k x y old : ℕ) → IsBitmap b → b.depth ≤ k → x < b.width → y < b.height → old < 2 → ((q c : ℕ) → q < 2 → c < 2 → minterm_bit m q c ≡ minterm_bit given 0 c) → (plane : ℕ) → minterm_bit m (bit_at (pen_at b x y) plane) old ≡ minterm_bit given (bit_at (pen_at b x y) k) old
-lacked_value b m given k x y old ok past left low small same plane =
-    same (bit_at (pen_at b x y) plane) old (bit_at-lt (pen_at b x y) plane) small ∙
-    ap (λ q. minterm_bit given q old) (sym (bit_at_above (pen_at b x y) b.depth k (ok.pens x y left low) past))
+-- a plane that a source lacks has no bit, so a minterm that doesn't look at B does there
+pub lacked_value : (m given depth k pen old : ℕ) → pen < 2 ^ depth → depth ≤ k → old < 2 → ((q c : ℕ) → q < 2 → c < 2 → minterm_bit m q c ≡ minterm_bit given 0 c) → (plane : ℕ) → minterm_bit m (bit_at pen plane) old ≡ minterm_bit given (bit_at pen k) old
+lacked_value m given depth k pen old deep past small same plane =
+    same (bit_at pen plane) old (bit_at-lt pen plane) small ∙ ap (λ q. minterm_bit given q old) (sym (bit_at_above pen depth k deep past))
 
 -- the values of a minterm that doesn't look at B
 pub free_values : (m b c : ℕ) → b < 2 → c < 2 → minterm_bit (bit_or (bit_and m 48) (bit_and m 48 * 4 % 256)) b c ≡ (if c == 1 then bit_at m 5 else bit_at m 4)

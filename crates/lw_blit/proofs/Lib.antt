@@ -1,4 +1,6 @@
+pub mod BetweenLaws
 pub mod BitmapLaws
+pub mod KeptLaws
 pub mod LoopLaws
 pub mod PaintingLaws
 pub mod PlaceLaws

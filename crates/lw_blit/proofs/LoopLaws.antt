@@ -26,7 +26,7 @@ unfolding from_layer
 layer_gives_bits source t p x y old small = blended_small t.minterm (t.clears || has_source source t x y) (source_bit source t p x y) old small
 
 -- the drawable pixels of some rows and columns are the same once the layer was drawn on
-rows_stay : (v w : LiveView) (on : ℕ → ℕ → ℕ → Bool) (new : ℕ → ℕ → ℕ → ℕ → ℕ) (top bottom from end i j : ℕ) → w ≡ drawn on new v → in_rows w top bottom from end i j ≡ in_rows v top bottom from end i j
+pub rows_stay : (v w : LiveView) (on : ℕ → ℕ → ℕ → Bool) (new : ℕ → ℕ → ℕ → ℕ → ℕ) (top bottom from end i j : ℕ) → w ≡ drawn on new v → in_rows w top bottom from end i j ≡ in_rows v top bottom from end i j
 rows_stay v w on new top bottom from end i j is = ap (λ t. is_between top bottom j && (is_between from end i && t)) (draws_stays v w on new i j is)
 
 -- no row so far

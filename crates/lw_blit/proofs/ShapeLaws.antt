@@ -1,5 +1,5 @@
 -- Laws of blits as wholes: what is drawn in the rows and columns that they reach is the blit.
-use Rattle.std.proofs.Common.{◌≡◌, ℕ, ◌==◌, ◌<◌, ◌≤◌, nat_lt, Bool, true, false, ◌&&◌, ◌||◌, if◌then◌else◌, Some, None, ◌∙◌, sym, refl, ap, arith, ℤ, pos, negsuc, ◌+ℤ◌, ◌-ℤ◌, ◌≤ℤ◌, unsigned_abs, IsTrue}
+use Rattle.std.proofs.Common.{◌≡◌, ℕ, ◌==◌, ◌<◌, nat_lt, Bool, true, false, ◌&&◌, ◌||◌, if◌then◌else◌, Some, None, ◌∙◌, sym, refl, ap, arith, ℤ, pos, negsuc, ◌+ℤ◌, ◌-ℤ◌, ◌≤ℤ◌, unsigned_abs, IsTrue}
 use Rattle.std.specs.Int.{bit_at}
 use Rattle.std.proofs.lemmas.Bool.{and_parts}
 use Rattle.std.proofs.lemmas.Bool.Decides.{nat_tests}
@@ -18,10 +18,10 @@ use Rattle.lw_machine.specs.Shapes.{box_at}
 use Rattle.lw_layer.specs.View.{LiveView, shows, keeps, draws, kept_pen, with_layer}
 use Rattle.lw_layer.specs.Copied.{bit_in, kept_bit}
 use Rattle.lw_layer.proofs.CopyingLaws.{bit_in_lt}
-use Rattle.lw_draw.specs.Drawn.{drawn, in_mask, in_rows}
+use Rattle.lw_draw.specs.Drawn.{drawn, in_rows}
 use Rattle.lw_draw.proofs.DrawnLaws.{bits_same, bit_of_layer}
-use Rattle.lw_draw.proofs.PaintLaws.{layer_alike, layer_nowhere, shape_drawn}
-use Rattle.lw_blit.specs.Blitting.{has_place, blended, blit_by, has_source, source_bit, from_layer, from_bits, masked, IsNear}
+use Rattle.lw_draw.proofs.PaintLaws.{layer_alike, shape_drawn}
+use Rattle.lw_blit.specs.Blitting.{has_place, blended, blit_by, has_source, source_bit, from_layer, from_bits, masked, IsNear, keeps_source, taken}
 use Rattle.lw_blit.specs.declared.transfers.Transfer.{Transfer}
 use Rattle.lw_blit.proofs.SourceLaws.{kept_place}
 
@@ -109,22 +109,26 @@ kept_turned drawable across down column row false from to columns rows left low 
 all_turned : (drawable across down column row from to : Bool) → (across && column) ≡ from → (down && row) ≡ to → (drawable && ((across && down) && (column && row))) ≡ (to && (from && drawable))
 all_turned drawable across down column row from to columns rows = grind (arith, nat_tests)
 
--- A layer is blitted from a layer once the rows and columns that are reached are painted.
+-- A layer is blitted from a layer once the drawable pixels are painted, of those that are reached, whose sources are kept.
+pub kept_blitted : (c source : LiveView) (a : Area) (mask top bottom from end : ℕ) → IsBitmap c.layer.bits → mask ≡ c.layer.raster.mask → AreReached a source.layer.bits.width source.layer.bits.height c.layer.bits.width c.layer.bits.height top bottom from end → drawn (taken mask c source a top bottom from end) (from_bits source.layer.bits a) c ≡ with_layer (λ l. clip_blit (λ i j. shows source i j) source.layer (λ i j. shows c i j) a l) c
+unfolding keeps
+kept_blitted c source a mask top bottom from end ok same are =
+    ap (λ m. drawn (taken m c source a top bottom from end) (from_bits source.layer.bits a) c) same ∙
+    shape_drawn c (λ x y. has_pixel (box_at a.x a.y a.w a.h) (pos x) (pos y) && keeps_source source a x y) (λ x y. in_rows c top bottom from end x y && keeps_source source a x y) (from_bits source.layer.bits a) ok
+    (λ x y left low.
+    kept_turned (draws c x y) (within a.x (pos x) ((a.x +ℤ a.w) -ℤ pos 1)) (within a.y (pos y) ((a.y +ℤ a.h) -ℤ pos 1)) (has_place source.layer.bits.width (source_column a x)) (has_place source.layer.bits.height (source_row a y)) (keeps_source source a x y) (is_between from end x) (is_between top bottom y) (are.columns x left) (are.rows y low)
+    (λ is. kept_column source (source_column a x) (source_row a y) is) (λ is. kept_row source (source_column a x) (source_row a y) is))
+
+-- And so it is where a pixel whose source isn't kept is left as it is.
 pub layer_blitted : (c source : LiveView) (a : Area) (mask top bottom from end : ℕ) → IsBitmap c.layer.bits → mask ≡ c.layer.raster.mask → AreReached a source.layer.bits.width source.layer.bits.height c.layer.bits.width c.layer.bits.height top bottom from end → drawn (masked mask c top bottom from end) (from_layer source (blit_by a)) c ≡ with_layer (λ l. clip_blit (λ i j. shows source i j) source.layer (λ i j. shows c i j) a l) c
 unfolding drawn from_layer keeps
 layer_blitted c source a mask top bottom from end ok same are =
-    let kept : ℕ → ℕ → Bool = λ x y. holds_at (λ i j. keeps source i j) (source_column a x) (source_row a y) in
-    let on : ℕ → ℕ → Bool = λ x y. in_rows c top bottom from end x y && kept x y in
     bits_same c (λ p x y. if masked mask c top bottom from end p x y then from_layer source (blit_by a) p x y (bit_of_layer c p x y) else bit_of_layer c p x y)
-    (λ p x y. if in_mask c.layer.raster p && on x y then from_bits source.layer.bits a p x y (bit_of_layer c p x y) else bit_of_layer c p x y)
+    (λ p x y. if taken mask c source a top bottom from end p x y then from_bits source.layer.bits a p x y (bit_of_layer c p x y) else bit_of_layer c p x y)
     (λ p x y _ _ _.
-    ap (λ m. if bit_at m p == 1 && in_rows c top bottom from end x y then from_layer source (blit_by a) p x y (bit_of_layer c p x y) else bit_of_layer c p x y) same ∙
-    blended_kept (in_mask c.layer.raster p) (in_rows c top bottom from end x y) (kept x y) a.minterm (kept_bit source p (source_column a x) (source_row a y)) (bit_at (source_pen source.layer.bits a x y) p) (bit_of_layer c p x y)
+    blended_kept (bit_at mask p == 1) (in_rows c top bottom from end x y) (keeps_source source a x y) a.minterm (kept_bit source p (source_column a x) (source_row a y)) (bit_at (source_pen source.layer.bits a x y) p) (bit_of_layer c p x y)
     (λ is. kept_pen_bit source p (source_column a x) (source_row a y) is)) ∙
-    shape_drawn c (λ x y. has_pixel (box_at a.x a.y a.w a.h) (pos x) (pos y) && kept x y) on (from_bits source.layer.bits a) ok
-    (λ x y left low.
-    kept_turned (draws c x y) (within a.x (pos x) ((a.x +ℤ a.w) -ℤ pos 1)) (within a.y (pos y) ((a.y +ℤ a.h) -ℤ pos 1)) (has_place source.layer.bits.width (source_column a x)) (has_place source.layer.bits.height (source_row a y)) (kept x y) (is_between from end x) (is_between top bottom y) (are.columns x left) (are.rows y low)
-    (λ is. kept_column source (source_column a x) (source_row a y) is) (λ is. kept_row source (source_column a x) (source_row a y) is))
+    kept_blitted c source a mask top bottom from end ok same are
 
 -- all pixels of a bitmap
 bitmap_place : (n x : ℕ) → nat_lt x n ≡ has_place n (pos x)
@@ -150,14 +154,6 @@ bitmap_blitted c b a mask top bottom from end ok same are =
     (λ x y left low.
     ap (λ t. draws c x y && (has_pixel (box_at a.x a.y a.w a.h) (pos x) (pos y) && t)) (bitmap_has b (source_column a x) (source_row a y)) ∙
     all_turned (draws c x y) (within a.x (pos x) ((a.x +ℤ a.w) -ℤ pos 1)) (within a.y (pos y) ((a.y +ℤ a.h) -ℤ pos 1)) (has_place b.width (source_column a x)) (has_place b.height (source_row a y)) (is_between from end x) (is_between top bottom y) (are.columns x left) (are.rows y low))
-
--- no columns
-no_columns : (has row drawable : Bool) (from end i : ℕ) → end ≤ from → (has && (row && (is_between from end i && drawable))) ≡ false
-no_columns has row drawable from end i none = grind (arith, nat_tests)
-
-pub nothing_reached : (v : LiveView) (mask top bottom from end : ℕ) (new : ℕ → ℕ → ℕ → ℕ → ℕ) → IsBitmap v.layer.bits → end ≤ from → v ≡ drawn (masked mask v top bottom from end) new v
-nothing_reached v mask top bottom from end new ok none =
-    layer_nowhere v (masked mask v top bottom from end) new ok (λ p i j. no_columns (bit_at mask p == 1) (is_between top bottom j) (draws v i j) from end i none)
 
 kept_small : (c : LiveView) (p : ℕ) (x y : ℤ) → kept_bit c p x y < 2
 unfolding kept_bit

@@ -13,6 +13,7 @@ use Rattle.lw_layer.specs.View.{LiveView, keeps}
 use Rattle.lw_layer.specs.Copied.{kept_bit}
 use Rattle.lw_draw.specs.Drawn.{in_rows}
 use Rattle.lw_draw.specs.Stretches.{in_stretch}
+use Rattle.lw_draw.specs.declared.blocks.Block.{Block}
 use Rattle.lw_draw.specs.declared.stretch.Stretch.{Stretch}
 use Rattle.lw_blit.specs.declared.sources.SourceRows.{SourceRows}
 use Rattle.lw_blit.specs.declared.transfers.Transfer.{Transfer}
@@ -115,3 +116,15 @@ pub record AreNear (t : Transfer) : Type 0 where
 -- a bitmap has the source of a pixel
 abbrev pub is_source : Bitmap → Area → ℕ → ℕ → Bool
 is_source b a x y = has_place b.width (source_column a x) && has_place b.height (source_row a y)
+
+-- a layer keeps the source of a pixel
+abbrev pub keeps_source : LiveView → Area → ℕ → ℕ → Bool
+keeps_source source a x y = holds_at (λ i j. keeps source i j) (source_column a x) (source_row a y)
+
+-- the drawable pixels of some rows and columns whose sources a layer keeps, in the planes of a mask
+abbrev pub taken : ℕ → LiveView → LiveView → Area → ℕ → ℕ → ℕ → ℕ → ℕ → ℕ → ℕ → Bool
+taken mask c source a top bottom from end p i j = bit_at mask p == 1 && (in_rows c top bottom from end i j && keeps_source source a i j)
+
+-- a block has the source of a pixel
+abbrev pub leads_to : Block → Area → ℕ → ℕ → Bool
+leads_to b a x y = (int_le (pos b.x) (source_column a x) && not (int_le (pos (b.x + b.run.len)) (source_column a x))) && (int_le (pos b.y) (source_row a y) && not (int_le (pos (b.y + b.rows)) (source_row a y)))

@@ -2,8 +2,6 @@
 
 ghost use Rattle.std.specs.Prelude.{◌≡◌, ℕ, ◌==◌, ◌<◌, ◌&&◌, true, IsTrue};
 ghost use Rattle.std.specs.Int.{bit_at};
-ghost use Rattle.lw_planes.specs.Bitmap.{pen_at};
-ghost use Rattle.lw_planes.specs.Minterm.{minterm_bit};
 ghost use Rattle.lw_calls.specs.Limits.{area_fits};
 ghost use Rattle.lw_machine.specs.Blits.{blt_bitmap_rast_port};
 ghost use Rattle.lw_layer.specs.View.{draws, shows, with_layer};
@@ -11,6 +9,7 @@ ghost use Rattle.lw_draw.specs.Blocks.{IsBlock, in_block};
 ghost use Rattle.lw_draw.specs.Drawn.{drawn};
 ghost use Rattle.lw_blit.specs.Blitting.{from_bits, is_source, IsNear};
 
+use crate::lacking::source_plane;
 use crate::places::{columns_of, rows_of, source_index};
 use lw_calls::Area;
 use lw_draw::{Block, Painter, combine_block, has_bit, paint_rows};
@@ -72,27 +71,7 @@ fn blit_plane(bitmap: &Planes, layer: &mut Layer, plane: u32, block: Block, area
     let bit = source_index(block.x, area.sx, area.x);
     let line = source_index(block.y, area.sy, area.y);
     let step = (bitmap.width() as usize + 15) / 16 * 2;
-    let (source, minterm) = source_plane(bitmap, plane, area.minterm);
+    let (source, minterm) = source_plane(bitmap.depth(), plane, area.minterm);
     let bytes = bitmap.rows(source, line, block.rows);
     combine_block(layer, plane, block, bytes, step, bit, minterm);
-}
-
-// A plane of a bitmap, and a minterm that makes of its bits what the given one makes of the bits of a plane, which are 0 where the
-// bitmap lacks it.
-fn source_plane(bitmap: &Planes, plane: u32, minterm: u8) -> (u32, u8)
-    ensures plane { result.0 < bitmap.now.depth }
-    ensures value { (x y old : ℕ) → x < bitmap.now.width → y < bitmap.now.height → old < 2 →
-        minterm_bit result.1 (bit_at (pen_at bitmap.now x y) result.0) old ≡ minterm_bit minterm (bit_at (pen_at bitmap.now x y) plane) old }
-{
-    if plane < bitmap.depth() {
-        return (plane, minterm);
-    }
-    (0, without_source(minterm))
-}
-
-// The minterm whose value is the given one's where B isn't set, whatever B is.
-fn without_source(minterm: u8) -> u8
-    ensures { (b c : ℕ) → b < 2 → c < 2 → minterm_bit result b c ≡ minterm_bit minterm 0 c }
-{
-    (minterm & 0x30) | ((minterm & 0x30) << 2)
 }

@@ -1,9 +1,10 @@
 //! Blits into a layer (the manual's Graphics Primitives chapter: BltBitMapRastPort, ClipBlit) and shifts of rows within
-//! a layer, row by row, run by run and plane by plane.
+//! a layer, block by block and plane by plane. Within a layer, what isn't a move of a whole block goes row by row.
 #![tactic(auto)]
 
 mod between_layers;
 mod bitmaps;
+mod lacking;
 mod moving;
 mod painting;
 mod places;

@@ -1,6 +1,6 @@
-use Rattle.std.proofs.Common.{◌≡◌, ◌≤◌, ◌*◌, pos, ◌≤ℤ◌, arith}
+use Rattle.std.proofs.Common.{◌<◌, ◌^◌, sym, subst, ◌≡◌, ◌≤◌, ◌*◌, pos, ◌≤ℤ◌, arith}
 use Rattle.std.proofs.lemmas.Int.{ints}
-use Rattle.lw_planes.specs.Bitmap.{row_bytes}
+use Rattle.lw_planes.specs.Bitmap.{pen_at, row_bytes}
 use Rattle.lw_planes.proofs.BitmapLaws.{row_bytes_wide}
 use Rattle.lw_machine.specs.Blits.{source_column, source_row}
 use Rattle.lw_layer.specs.View.{draws}
@@ -49,4 +49,4 @@ returns c =
     let lies = block_sources c.args.layer.now (λ i j. draws c.args.layer.now i j) b a s c.requires.block c.requires.sources in
     let column : source_column a s.x ≡ pos c.source_index-bit.result = omega (arith, ints, c.source_index-bit.ensures.value) in
     let row : source_row a s.y ≡ pos c.source_index-line.result = omega (arith, ints, c.source_index-line.ensures.value) in
-    block_as_bitmap c.args.layer.now c.combine_block.new.layer b a c.args.plane _ _ _ c.source_index-bit.result c.source_index-line.result s c.rows-bytes.result.now lies column row (omega (arith, c.width-2.ensures.value)) c.rows-bytes.ensures.bits c.source_plane-source.ensures.value c.combine_block.ensures
+    block_as_bitmap c.args.layer.now c.combine_block.new.layer b a c.args.plane _ _ _ c.source_index-bit.result c.source_index-line.result s c.rows-bytes.result.now lies column row (omega (arith, c.width-2.ensures.value)) c.rows-bytes.ensures.bits (λ x y old left low small. c.source_plane-source.ensures.value (pen_at b x y) old (subst (λ n. pen_at b x y < 2 ^ n) (sym c.depth.ensures.value) (c.width-2.ensures.planes.bitmap.pens x y left low)) small) c.combine_block.ensures
