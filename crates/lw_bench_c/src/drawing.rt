@@ -9,8 +9,8 @@ use lw_calls::{Assets, Call, Kind, Make, Place, Replies, Sizes, Text};
 use lw_engine::LayerEngine;
 use lw_planes::Planes;
 use lw_region::Rect;
-use lw_steps::Engine;
 use lw_runs::Parts;
+use lw_steps::Engine;
 use std::alloc::{AllocError, Global};
 
 // How many letters a text has.
