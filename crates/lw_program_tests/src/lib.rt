@@ -6,6 +6,8 @@ mod answers;
 #[cfg(test)]
 mod tests_audit;
 #[cfg(test)]
+mod tests_blocks;
+#[cfg(test)]
 mod tests_commands;
 #[cfg(test)]
 mod tests_cut;
