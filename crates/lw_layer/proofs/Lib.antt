@@ -8,7 +8,6 @@ pub mod ReachLaws
 pub mod KeptLaws
 pub mod StartLaws
 pub mod AlikeLaws
-pub mod CellLaws
 pub mod BitsLaws
 pub mod ReadLaws
 pub mod SetLaws

@@ -2,7 +2,7 @@
 use Rattle.std.proofs.Common.{◌≡◌, ℕ, ◌+◌, ◌-◌, ◌*◌, ◌==◌, ◌<◌, ◌≤◌, true, ◌&&◌, nat_le, nat_lt, List, Some, ◌∙◌, sym, refl, ap, arith}
 use Rattle.std.specs.Int.{bit_at}
 use Rattle.std.specs.List.{slice_index_or}
-use Rattle.std.proofs.lemmas.Bool.{and_parts, and_from}
+use Rattle.std.proofs.lemmas.Bool.{and_parts}
 use Rattle.std.proofs.lemmas.Bool.Decides.{nat_tests}
 use Rattle.lw_planes.specs.Row.{row_bit}
 use Rattle.lw_planes.specs.Bitmap.{pen_at, row_bytes}
@@ -10,8 +10,7 @@ use Rattle.lw_planes.proofs.BitmapLaws.{pen_at_bitmap}
 use Rattle.lw_region.specs.Rectangle.{width}
 use Rattle.lw_machine.specs.Desk.{is_the}
 use Rattle.lw_machine.proofs.Seen.{the_one}
-use Rattle.lw_layer.specs.Pieces.{Layout, layout_of, buffer_rectangle, buffer_at, column_in, line_in, in_line, HasLineBits, in_lines, place_from, HaveLinesBits}
-use Rattle.lw_layer.specs.View.{LiveView}
+use Rattle.lw_layer.specs.Pieces.{Layout, buffer_at, column_in, line_in, in_line, in_lines, HaveLinesBits}
 use Rattle.lw_layer.specs.Drafts.{IsLiveDraft, layout, buffers_of, no_bitmap, pen_from, live_view}
 use Rattle.lw_layer.specs.Written.{HaveBufferBits}
 use Rattle.lw_layer.specs.declared.draft.LiveDraft.{LiveDraft}
@@ -24,10 +23,6 @@ unfolding in_line
 pen_in_line l n line x y is =
     let halves : (is_the (buffer_at l x y) n ≡ true) × ((line_in l n y == line) ≡ true) = and_parts _ _ is in
     (grind (arith, nat_tests), the_one _ n halves.0)
-
--- a place in the first of many lines
-first_place : (m i : ℕ) → i ≡ 8 * (0 * m) + i
-first_place m i = omega arith
 
 -- the pen of a pixel in lines of a buffer
 pub pen_in_lines : (l : Layout) (n line rows x y : ℕ) → in_lines l n line rows x y ≡ true → (line ≤ line_in l n y) × (line_in l n y < line + rows) × (buffer_at l x y ≡ Some n)
@@ -53,17 +48,3 @@ lines_bits_of d plane n line rows bytes ok has x y is =
     ap (λ w. row_bit bytes (8 * (k * row_bytes w) + i)) (sym buffer.width) ∙
     (has i k inside (omega (arith, at.0, at.1)) ∙
     ap (λ p. bit_at p plane) (ap (λ j. pen_at b i j) here ∙ (ap (λ o. pen_from (buffers_of d) l o x y) (sym at.2) ∙ sym pen)))
-
--- the bits of one line
-pub one_line : (c : LiveView) (plane n line : ℕ) (bytes : List ℕ) → HaveLinesBits c plane n line 1 bytes → HasLineBits c plane n line bytes
-unfolding in_line in_lines
-one_line c plane n line bytes has x y is =
-    let l = layout_of c in
-    let m : ℕ = row_bytes (width (buffer_rectangle l n)) in
-    let halves : (is_the (buffer_at l x y) n ≡ true) × ((line_in l n y == line) ≡ true) = and_parts _ _ is in
-    let same : line_in l n y ≡ line = grind (arith, nat_tests) in
-    let low : nat_le line (line_in l n y) ≡ true = grind (arith, nat_tests) in
-    let high : nat_lt (line_in l n y) (line + 1) ≡ true = grind (arith, nat_tests) in
-    let none : line_in l n y - line ≡ 0 = omega (arith, same) in
-    let place : column_in l n x ≡ place_from l n line x y = rw none (first_place m (column_in l n x)) in
-    ap (λ z. row_bit bytes z) place ∙ has x y (and_from _ _ halves.0 (and_from _ _ low high))

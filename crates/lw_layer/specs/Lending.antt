@@ -13,11 +13,6 @@ use Rattle.lw_layer.specs.contracts.layer.Layer.{the_row as layer_row}
 abbrev pub LendsLines : MutBor LiveView → ℕ → ℕ → ℕ → MutBor (List ℕ) → Fml
 LendsLines live plane n line row = Lends layer_row (Array u8 0) live row (with_bytes live.now plane n line)
 
--- the same of a cell
-abbrev pub LendsRow : MutBor CellView → ℕ → ℕ → ℕ → MutBor (List ℕ) → Fml
-LendsRow cell plane n line row =
-    Lends cell_row (Array u8 0) cell row (λ bytes. with_live (λ c. with_bytes c plane n line bytes) cell.now)
-
 -- a cell whose slot is live lends its layer, and afterwards has what that then is; any other cell stays as it is
 abbrev pub LendsLayer : MutBor CellView → Option (MutBor LiveView) → Fml
 LendsLayer cell layer = LendsIf cell_row layer_row cell layer (λ c. with_live (λ _. c) cell.now) cell.now

@@ -19,7 +19,7 @@ use Rattle.lw_machine.specs.Layer.{is_framed}
 use Rattle.lw_machine.specs.Desk.{is_the}
 use Rattle.lw_machine.specs.Screen.{distance}
 use Rattle.lw_machine.specs.Kept.{screen_place, holds_at}
-use Rattle.lw_layer.specs.View.{State, Unopened, Live, Closed, LiveView, CellView, keeps, repainted}
+use Rattle.lw_layer.specs.View.{LiveView, keeps, repainted}
 
 -- Where a layer's pixels lie: its bounds and visible rectangles on the screen, its kind, its scroll, and the size of its bits.
 pub record Layout : Type 0 where
@@ -117,11 +117,6 @@ abbrev pub HaveLinesBits : LiveView → ℕ → ℕ → ℕ → ℕ → List ℕ
 HaveLinesBits c plane n line rows bytes =
     (x y : ℕ) → in_lines (layout_of c) n line rows x y ≡ true → row_bit bytes (place_from (layout_of c) n line x y) ≡ bit_at (pen_at c.layer.bits x y) plane
 
--- the bytes have in a plane the bits of the pixels whose pens are in a line of a buffer, by their columns there
-abbrev pub HasLineBits : LiveView → ℕ → ℕ → ℕ → List ℕ → Type 0
-HasLineBits c plane n line row =
-    (x y : ℕ) → in_line (layout_of c) n line x y ≡ true → row_bit row (column_in (layout_of c) n x) ≡ bit_at (pen_at c.layer.bits x y) plane
-
 -- The live layer once these bytes were written over those of a buffer's planes from a line of a plane on.
 unfoldable pub with_bytes : LiveView → ℕ → ℕ → ℕ → List ℕ → LiveView
 with_bytes c plane n line bytes =
@@ -131,29 +126,12 @@ with_bytes c plane n line bytes =
     then pen_of c.layer.bits.depth (λ p. overwritten_bit (width r) (height r) plane line bytes (column_in l n x) (line_in l n y) p (bit_at (pen_at c.layer.bits x y) p))
     else pen_at c.layer.bits x y) c
 
--- The live layer whose pixels with their pens in a line of a buffer have these bits in a plane, by their columns in the buffer;
--- and all else is as it was.
-abbrev pub with_line : LiveView → ℕ → ℕ → ℕ → (ℕ → ℕ) → LiveView
-with_line c plane n line bits =
-    let l = layout_of c in
-    repainted (λ x y. pen_of c.layer.bits.depth (λ p. if p == plane && in_line l n line x y then bits (column_in l n x) else bit_at (pen_at c.layer.bits x y) p)) c
-
 -- The live layer whose pixels with their pens in so many lines of a buffer from a line on have in a plane the bits that these
 -- bytes hold; and all else is as it was.
 abbrev pub with_lines : LiveView → ℕ → ℕ → ℕ → ℕ → List ℕ → LiveView
 with_lines c plane n line rows bytes =
     let l = layout_of c in
     repainted (λ x y. pen_of c.layer.bits.depth (λ p. if p == plane && in_lines l n line rows x y then row_bit bytes (place_from l n line x y) else bit_at (pen_at c.layer.bits x y) p)) c
-
--- the hidden rectangles, by what the slot holds
-abbrev pub hidden_where : State → LiveView → List Rectangle
-hidden_where Unopened c = []
-hidden_where Live c = hidden_of c.bounds c.visible
-hidden_where Closed c = []
-
--- the hidden rectangles of a live layer
-abbrev pub hidden_rectangles : CellView → List Rectangle
-hidden_rectangles c = hidden_where c.state c.live
 
 -- Where damage may lie in a layer w wide and h high: nowhere in a super-bitmap layer, in what the frame leaves of a framed window,
 -- and in all of any other layer.

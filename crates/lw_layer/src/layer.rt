@@ -12,7 +12,7 @@ ghost use Rattle.lw_machine.specs.Kept.{holds_at};
 ghost use Rattle.lw_machine.specs.Step.{end_update};
 ghost use Rattle.lw_layer.specs.View.{keeps, draws, kept_pen, with_layer};
 ghost use Rattle.lw_layer.specs.Drafts.{IsLiveDraft, live_view, raster_of, clip_set};
-ghost use Rattle.lw_layer.specs.Pieces.{inner_in, damage_table, IsDamageOf, HasLine, HasLineBits, HaveLines, HaveLinesBits, layout_of, buffered, buffer_rectangle};
+ghost use Rattle.lw_layer.specs.Pieces.{inner_in, damage_table, IsDamageOf, HaveLines, HaveLinesBits, layout_of, buffered, buffer_rectangle};
 ghost use Rattle.lw_layer.specs.Lending.{LendsLines};
 ghost use Rattle.lw_layer.specs.Looks.{IsLook};
 ghost use Rattle.lw_layer.specs.StandsFor.{IsSound};
@@ -57,23 +57,9 @@ impl Layer {
         self.draft
     }
 
-    /// Lends one plane's bytes of a line of a buffer, as `run_at` tells them: `((width + 15) / 16) * 2` bytes for a buffer
-    /// of that width, which have a bit for each of its columns, the leftmost in the most significant bit of the first. After
-    /// the loan each kept pixel whose pen is in that line has in this plane the bit that the bytes hold, and all else stays
-    /// as it was.
-    pub fn line_mut(&mut self, plane: u32, buffer: usize, line: u32) -> &mut [u8]
-        requires plane { plane < self.old.layer.bits.depth }
-        requires line { HasLine (layout_of self.old) buffer line }
-        ensures* writes_back { sem 𝓛 (LendsLines self.entry plane buffer line result) }
-        ensures long { length result.now ≡ row_bytes (width (buffer_rectangle (layout_of self.old) buffer)) }
-        ensures wide { width (buffer_rectangle (layout_of self.old) buffer) ≤ 8 * length result.now }
-        ensures bits { HasLineBits self.old plane buffer line result.now }
-    {
-        self.lines_mut(plane, buffer, line, 1)
-    }
-
-    /// Lends one plane's bytes of `rows` lines of a buffer, one at least, from a line on, one after another, each of `step` bytes
-    /// as `line_mut` lends them. After the loan each kept pixel whose pen is in one of these lines has in this plane the bit
+    /// Lends one plane's bytes of `rows` lines of a buffer, one at least, from a line on, one after another, each of `step` bytes:
+    /// `((width + 15) / 16) * 2` for a buffer of that width, which have a bit for each of its columns, the leftmost in the most
+    /// significant bit of the first. After the loan each kept pixel whose pen is in one of these lines has in this plane the bit
     /// that the bytes hold, and all else stays as it was.
     pub fn lines_mut(&mut self, plane: u32, buffer: usize, line: u32, rows: u32) -> &mut [u8]
         requires plane { plane < self.old.layer.bits.depth }
