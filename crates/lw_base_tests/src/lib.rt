@@ -28,3 +28,5 @@ mod tests_ports;
 mod tests_region;
 #[cfg(test)]
 mod tests_stack;
+#[cfg(test)]
+mod tests_strips;
