@@ -10,11 +10,11 @@ start-requires-clause-cells g c κs within =
     let o = c.in_ok-opened.opened in
     let first = c.in_ok-opened.ensures {u = tt} in
     subst (λ (d : Desk). AreCells layer_relations o.slots.items d)
-    (same_desk g.N.Opening.desk c.args.assets.now c.new-layers.result.sizes c.new-layers.result.assets.now _ c.requires.desk c.new-layers.ensures.sizes c.new-layers.ensures.assets (search rules)) first.layers.cells
+    (same_desk g.N.Opening.desk c.args.assets.now _ c.new-layers.result.sizes c.new-layers.result.assets.now _ c.requires.desk c.new-layers.ensures.sizes c.new-layers.ensures.assets (search rules)) first.layers.cells
 
 pub start-requires-clause-regs : goal.start-requires-clause-regs
 start-requires-clause-regs g c κs within =
     let o = c.in_ok-opened.opened in
     let first = c.in_ok-opened.ensures {u = tt} in
     subst (λ (d : Desk). AreRegisters o.registers.items d)
-    (same_desk g.N.Opening.desk c.args.assets.now c.new-layers.result.sizes c.new-layers.result.assets.now _ c.requires.desk c.new-layers.ensures.sizes c.new-layers.ensures.assets (search rules)) first.registers
+    (same_desk g.N.Opening.desk c.args.assets.now _ c.new-layers.result.sizes c.new-layers.result.assets.now _ c.requires.desk c.new-layers.ensures.sizes c.new-layers.ensures.assets (search rules)) first.registers
