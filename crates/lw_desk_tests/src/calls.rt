@@ -1,6 +1,7 @@
 //! The calls of two tasks, and how a task makes its own on a desk behind locks.
 ghost use Rattle.std.specs.Prelude.{◌≡◌, All, IsTrue, IfOk, length};
 ghost use Rattle.lw_calls.specs.Limits.{call_fits};
+ghost use Rattle.lw_calls.specs.Plan as plan;
 
 use lw_calls::{Assets, Call, CallClass, Kind, Make, Place, Replies, Reply, Sizes, class_of};
 use lw_locks::{Desk, Gate, Opening, Pass};
@@ -58,7 +59,9 @@ pub fn are_done(replies: &Replies) -> bool {
 }
 
 /// No glyph has a pixel, and there is no bitmap.
-pub fn no_assets(alloc: Global) -> Assets {
+pub fn no_assets(alloc: Global) -> Assets
+    ensures { result ≡ plan.no_assets }
+{
     Assets {
         glyphs: [[0; 8]; 95],
         bitmaps: Vec::new(alloc),

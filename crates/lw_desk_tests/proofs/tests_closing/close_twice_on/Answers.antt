@@ -1,4 +1,4 @@
-use Rattle.std.proofs.Common.{subst, rules}
+use Rattle.std.proofs.Common.{[], refl, subst, rules}
 use Rattle.lw_machine.specs.Desk.{Desk}
 use Rattle.lw_steps.specs.Steps.{AreCells}
 use Rattle.lw_engine.specs.Layers.{layer_relations, AreRegisters}
@@ -17,4 +17,4 @@ start-requires-clause-regs g c κs within =
     let o = c.in_ok-opened.opened in
     let first = c.in_ok-opened.ensures {u = tt} in
     subst (λ (d : Desk). AreRegisters o.registers.items d)
-    (same_desk g.N.Opening.desk c.args.assets.now _ c.new-engine.result.sizes c.new-engine.result.assets.now _ c.requires.desk c.new-engine.ensures.sizes c.new-engine.ensures.assets (search rules)) first.registers
+    (same_desk g.N.Opening.desk c.args.assets.now _ c.new-engine.result.sizes c.new-engine.result.assets.now [] c.requires.desk c.new-engine.ensures.sizes c.new-engine.ensures.assets refl) first.registers
