@@ -8,6 +8,6 @@ change_none bytes faults old new same = ap (λ s. (change bytes faults old s).ne
 
 pub returns : goal.returns
 returns g c =
-    c.answers_tell.ensures _ _ _ _ _ c.layers.ensures.answered c.layers.ensures.usage
-    (λ none. change_none g.S.Source.left g.S.Source.faults _ _ (c.layers.ensures.unread none))
-    (λ stopped. change_none g.K.Sink.written g.K.Sink.faults _ _ (c.layers.ensures.untouched stopped))
+    c.answers_tell.ensures _ _ _ _ _ c.layers-status.ensures.answered c.layers-status.ensures.usage
+    (λ none. change_none g.S.Source.left g.S.Source.faults _ _ (c.layers-status.ensures.unread none))
+    (λ stopped. change_none g.K.Sink.written g.K.Sink.faults _ _ (c.layers-status.ensures.untouched stopped))
