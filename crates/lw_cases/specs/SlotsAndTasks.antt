@@ -8,7 +8,7 @@ use Rattle.lw_calls.specs.declared.call.Call.{Call}
 use Rattle.lw_calls.specs.declared.call.Call.TheVariants.{RegRect, OpenWindow, Close, ToFront, ToBack, InFrontOf, MoveBy, SizeBy, SetBox, Activate, Which, SetA, SetB, SetMode, SetMask, At, WritePixel, ReadPixel, DrawTo, Letters, SetRast, Clip, Unclip, BeginRefresh, EndRefresh, Scroll, SetTitle, TakeMessage}
 use Rattle.lw_calls.specs.declared.message.Message.TheVariants.{NewSize, Change, Active}
 use Rattle.lw_calls.specs.declared.reply.Reply.{Reply}
-use Rattle.lw_calls.specs.declared.reply.Reply.TheVariants.{Done, Pen, Outside, Nothing, Layer, Rects, Got, AlreadyOpen, NotSuper}
+use Rattle.lw_calls.specs.declared.reply.Reply.TheVariants.{Done, Pen, Outside, Nothing, Layer, Rects, Got, AlreadyOpen, NotSuper, InUpdate, NotInUpdate, OutOfBounds}
 use Rattle.lw_calls.specs.declared.last.Seen.{Seen}
 use Rattle.lw_calls.specs.declared.group.Hold.TheVariants.{Slot}
 use Rattle.lw_calls.specs.declared.group.Group.{Group}
@@ -83,9 +83,22 @@ abbrev pub arranged_replies : ℕ → List Reply
 arranged_replies s =
     replicate 5 Done ++ Layer s ∷ Done ∷ Layer 2 ∷ Done ∷ Layer s ∷ Done ∷ Done ∷ Done ∷ Done ∷ Got NewSize ∷ []
 
--- A layer that is created, deleted and to be created again.
+-- A layer that is created, clipped twice by an empty register, deleted and to be created again.
 abbrev pub deleted : ℕ → List Call
-deleted s = create s Smart 0 0 3 0 ∷ Close s ∷ Which (pos 0) (pos 0) ∷ create s Smart 0 0 3 0 ∷ []
+deleted s = create s Smart 0 0 3 0 ∷ Clip s 0 ∷ Clip s 0 ∷ Close s ∷ Which (pos 0) (pos 0) ∷ create s Smart 0 0 3 0 ∷ []
 
 abbrev pub deleted_replies : List Reply
-deleted_replies = Done ∷ Done ∷ Nothing ∷ AlreadyOpen ∷ []
+deleted_replies = Done ∷ Nothing ∷ Rects [] ∷ Done ∷ Nothing ∷ AlreadyOpen ∷ []
+
+-- A window that is to be opened again. A letter passes the last coordinate. An update is to end before it begins, and to begin
+-- twice, and the clip region to change within it. (No script spells these updates.)
+abbrev pub refused : ℕ → List Call
+refused s =
+    open_window s Smart 0 0 4 1 false 0 [] ∷ open_window s Smart 4 0 4 1 false 0 [] ∷ At s (pos 32760) (pos 0) ∷ Letters s (codes "A") ∷ EndRefresh s true ∷ BeginRefresh s ∷ BeginRefresh s ∷ Clip s 0 ∷ Unclip s ∷ EndRefresh s false ∷ []
+
+abbrev pub refused_seen : Seen
+refused_seen = record { visible = rect 0 0 3 0 ∷ []; damage = []; messages = Some [] }
+
+abbrev pub refused_replies : List Reply
+refused_replies =
+    Done ∷ AlreadyOpen ∷ Done ∷ OutOfBounds ∷ NotInUpdate ∷ Done ∷ InUpdate ∷ InUpdate ∷ InUpdate ∷ Done ∷ []

@@ -6,7 +6,8 @@ use Rattle.lw_calls.specs.declared.make.Kind.TheVariants.{Smart, SuperBitmap}
 use Rattle.lw_calls.specs.declared.call.Call.TheVariants.{RegRect, OpenWindow, Close, MoveBy, SizeBy, SetBox, At, WritePixel, ReadPixel, DrawTo, Letters, SetRast, Clip, BeginRefresh, EndRefresh, Scroll}
 use Rattle.lw_calls.specs.declared.group.Hold.TheVariants.{Slot}
 use Rattle.lw_calls.specs.Plan.{Plan}
-use Rattle.lw_cases.specs.Plans.{text, one_task, grouped, rect, box, create, create_super, fill, scroll_left, blit_across}
+use Rattle.lw_cases.specs.Plans.{text, one_task, grouped, with_bitmap, rect, box, create, create_super, fill, scroll_left, blit_row, blit_across, put_row}
+use Rattle.lw_cases.specs.Copying.{flat_row}
 use Rattle.lw_cases.specs.Modes.{with_low_letter}
 
 -- A layer that is no super-bitmap layer can't be scrolled. One that shows a portion of 4 by 1 of its 6 by 2 pixels can't
@@ -73,6 +74,17 @@ hidden_part_drawn =
 abbrev pub hidden_part_drawn_report : List ℕ
 hidden_part_drawn_report =
     text (codes "order 11/0 0 0 0 0 0 0 0 0 0 0/planes 16 1 1/plane 0/f000/visible s 1/0 0 3 0/damage s 0/" ++ codes "replies a 11/ok/ok/ok/pen 1/ok/ok/pen 1/ok/pen 0/ok/pen 1/done/")
+
+-- A layer that shows the columns 4 to 7 of twelve. Pixels of the hidden part are written, filled, put from a bitmap and copied
+-- from one another, and each is read.
+abbrev pub hidden_part_painted : Plan
+hidden_part_painted =
+    with_bitmap (codes "flat") flat_row
+    (one_task 16 1 1 (codes "s" ∷ []) (create_super 0 0 0 3 0 12 1 ∷ Scroll 0 (pos 4) (pos 0) ∷ WritePixel 0 (pos 0) (pos 0) ∷ ReadPixel 0 (pos 0) (pos 0) ∷ fill 0 1 0 1 0 ∷ ReadPixel 0 (pos 1) (pos 0) ∷ put_row (pos 1) 0 2 1 192 ∷ ReadPixel 0 (pos 2) (pos 0) ∷ blit_row 0 2 8 1 192 ∷ ReadPixel 0 (pos 8) (pos 0) ∷ []))
+
+abbrev pub hidden_part_painted_report : List ℕ
+hidden_part_painted_report =
+    text (codes "order 10/0 0 0 0 0 0 0 0 0 0/planes 16 1 1/plane 0/0000/visible s 1/0 0 3 0/damage s 0/" ++ codes "replies a 10/ok/ok/ok/pen 1/ok/pen 1/ok/pen 1/ok/pen 1/done/")
 
 -- Two layers with a pixel of pen 1 in column 4. One is scrolled so that it shows the pixel, and gets a box one column further
 -- right.

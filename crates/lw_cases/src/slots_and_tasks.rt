@@ -3,7 +3,7 @@
 
 ghost use Rattle.std.specs.Prelude.{◌≡◌, ◌∷◌, [], replicate, Some, None};
 ghost use Rattle.lw_machine.specs.Finals.{run_final};
-ghost use Rattle.lw_cases.specs.SlotsAndTasks.{by_the_first, by_the_second, no_groups, left_with, drawn, drawn_groups, drawn_row, drawn_seen, drawn_replies, arranged, arranged_row, arranged_seen, beside_seen, arranged_replies, deleted, deleted_replies};
+ghost use Rattle.lw_cases.specs.SlotsAndTasks.{by_the_first, by_the_second, no_groups, left_with, drawn, drawn_groups, drawn_row, drawn_seen, drawn_replies, arranged, arranged_row, arranged_seen, beside_seen, arranged_replies, deleted, deleted_replies, refused, refused_seen, refused_replies};
 
 /// The first task draws on slot 1, and the second on slot 0.
 pub fn calls_draw_on_the_slot_that_they_name()
@@ -19,6 +19,12 @@ pub fn calls_arrange_the_slot_that_they_name()
 
 /// The first task deletes slot 1, and the second slot 0.
 pub fn calls_delete_the_slot_that_they_name()
-    ensures first { run_final (by_the_first deleted no_groups) [] (replicate 4 0) ≡ left_with (replicate 16 0) (replicate 3 None) (deleted_replies ∷ []) }
-    ensures second { run_final (by_the_second deleted no_groups) [] (replicate 4 1) ≡ left_with (replicate 16 0) (replicate 3 None) ([] ∷ deleted_replies ∷ []) }
+    ensures first { run_final (by_the_first deleted no_groups) [] (replicate 6 0) ≡ left_with (replicate 16 0) (replicate 3 None) (deleted_replies ∷ []) }
+    ensures second { run_final (by_the_second deleted no_groups) [] (replicate 6 1) ≡ left_with (replicate 16 0) (replicate 3 None) ([] ∷ deleted_replies ∷ []) }
+{}
+
+/// The first task is refused calls on slot 1, and the second on slot 0.
+pub fn calls_are_refused_by_the_slot_that_they_name()
+    ensures first { run_final (by_the_first refused no_groups) [] (replicate 10 0) ≡ left_with (replicate 16 0) (None ∷ Some refused_seen ∷ None ∷ []) (refused_replies ∷ []) }
+    ensures second { run_final (by_the_second refused no_groups) [] (replicate 10 1) ≡ left_with (replicate 16 0) (Some refused_seen ∷ None ∷ None ∷ []) ([] ∷ refused_replies ∷ []) }
 {}

@@ -4,7 +4,7 @@
 ghost use Rattle.std.specs.Prelude.{◌≡◌, []};
 ghost use Rattle.lw_calls.specs.Entries.{only_order};
 ghost use Rattle.lw_machine.specs.Report.{run_report};
-ghost use Rattle.lw_cases.specs.SuperBitmaps.{scrolls_refused, scrolls_refused_report, super_updated, super_updated_report, super_uncovered, super_uncovered_report, super_window, super_window_report, portion_clipped, portion_clipped_report, hidden_part_copied, hidden_part_copied_report, hidden_part_drawn, hidden_part_drawn_report, one_scrolled, one_scrolled_report};
+ghost use Rattle.lw_cases.specs.SuperBitmaps.{scrolls_refused, scrolls_refused_report, super_updated, super_updated_report, super_uncovered, super_uncovered_report, super_window, super_window_report, portion_clipped, portion_clipped_report, hidden_part_copied, hidden_part_copied_report, hidden_part_drawn, hidden_part_drawn_report, hidden_part_painted, hidden_part_painted_report, one_scrolled, one_scrolled_report};
 
 /// A portion stays in its bitmap on every side, and no other layer has one.
 pub fn portion_stays_on_every_side()
@@ -27,6 +27,7 @@ pub fn bitmap_is_drawn_on_by_its_own_coordinates()
     ensures clipped { run_report portion_clipped [] (only_order portion_clipped) ≡ portion_clipped_report }
     ensures copied { run_report hidden_part_copied [] (only_order hidden_part_copied) ≡ hidden_part_copied_report }
     ensures drawn { run_report hidden_part_drawn [] (only_order hidden_part_drawn) ≡ hidden_part_drawn_report }
+    ensures painted { run_report hidden_part_painted [] (only_order hidden_part_painted) ≡ hidden_part_painted_report }
 {}
 
 /// A scroll is one layer's own, and stays where the layer gets another box.
