@@ -164,6 +164,22 @@ shifted_row row at left right shift j v low is_left is_right is few =
     ge_choice (shift + j) 8 v (bit_at left (7 - (shift + j))) (bit_at right (15 - (shift + j))) past is ∙ rw (← bit, byte, is_right) refl)
     (cases_lt (shift + j) 8)
 
+-- a shifted pair of bytes that stand in two rows at the same place
+pub shifted_pair : (one two : List ℕ) (index left right shift j v : ℕ) → j < 8 → shift < 8 → left ≡ get_or one index 0 → right ≡ get_or two index 0 → v ≡ (if nat_lt (shift + j) 8 then bit_at left (7 - (shift + j)) else bit_at right (15 - (shift + j))) → v ≡ (if nat_lt ((8 * index + j) % 8 + shift) 8 then row_bit one (8 * index + j + shift) else row_bit two (8 * index + j + shift - 8))
+unfolding row_bit
+shifted_pair one two index left right shift j v low few is_left is_right is =
+    chosen_below ((8 * index + j) % 8 + shift) 8 v (row_bit one (8 * index + j + shift)) (row_bit two (8 * index + j + shift - 8))
+    (λ below.
+    let inside : shift + j < 8 = omega (arith, below, low) in
+    let byte : (8 * index + j + shift) / 8 ≡ index = omega (arith, inside) in
+    let bit : 7 - (shift + j) ≡ 7 - (8 * index + j + shift) % 8 = omega (arith, inside) in
+    lt_choice (shift + j) 8 v (bit_at left (7 - (shift + j))) (bit_at right (15 - (shift + j))) inside is ∙ rw (← bit, byte, is_left) refl)
+    (λ above.
+    let past : 8 ≤ shift + j = omega (arith, above, low) in
+    let byte : (8 * index + j + shift - 8) / 8 ≡ index = omega (arith, past, low, few) in
+    let bit : 15 - (shift + j) ≡ 7 - (8 * index + j + shift - 8) % 8 = omega (arith, past, low, few) in
+    ge_choice (shift + j) 8 v (bit_at left (7 - (shift + j))) (bit_at right (15 - (shift + j))) past is ∙ rw (← bit, byte, is_right) refl)
+
 -- a bit of a number of which some bits are tested at once
 tested_bit : (minterm mask value i : ℕ) → bit_and minterm mask ≡ value → bit_at mask i ≡ 1 → bit_at minterm i ≡ bit_at value i
 tested_bit minterm mask value i is one =

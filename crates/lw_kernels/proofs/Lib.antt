@@ -1,4 +1,5 @@
 pub mod ByteLaws
 pub mod RowWriting
 pub mod CopiedBytes
+pub mod PairLaws
 pub mod SpanLaws

@@ -323,22 +323,6 @@ row_moved step from end bytes test old minterm to row source_row source_bit fits
     (ap (row_bit bytes) same ∙ (row_old step from end bytes test new old (source_row + row) (source_bit + (x - from)) done (omega (arith, inside, late, low)) source ∙ ap (λ n. old (place_in step n (source_bit + (x - from)))) number))
     (row_old step from end bytes test new old (to + row) x done (omega (arith, fits, low)) fresh)
 
--- a place in a row is before one in a later row, and in the same row where its bit is
-pub place_before : (step first second x y : ℕ) → x ≤ 8 * step → first ≤ second → (first ≡ second → x ≤ y) → place_in step first x ≤ place_in step second y
-place_before step first second x y inside order same =
-    ⊎_elim
-    (λ (less : first < second).
-    let equal : step ≤ step = omega arith in
-    let more : (first + 1) * step ≤ second * step = mul-le (first + 1) step second step (omega arith) equal in
-    let next : (first + 1) * step ≡ first * step + step = omega arith in
-    omega (arith, more, next, inside))
-    (λ (late : second ≤ first).
-    let equal : first ≡ second = omega arith in
-    let bits : x ≤ y = same equal in
-    let rows : first * step ≡ second * step = ap (λ n. n * step) equal in
-    omega (arith, bits, rows))
-    (cases_lt first second)
-
 -- a span of so many bits
 pub named_done : (row : List ℕ) (new old : ℕ → ℕ) (from count first end : ℕ) → first ≡ from → end ≡ from + count → Done row new old first end → Done row new old from (from + count)
 named_done row new old from count first end begins ends done = done_starts row new old first from (from + count) begins (done_ends row new old first end (from + count) ends done)

@@ -5,6 +5,7 @@ ghost use Rattle.lw_planes.specs.Row.{row_bit};
 ghost use Rattle.lw_kernels.specs.Kernel.{is_between};
 
 use crate::bytes::byte_from;
+use crate::pairs::fetch_pair;
 
 // Gives the bytes from `first` on, before `last`, the bits of the source from bit `shift` of byte `start` on.
 #[inline(always)]
@@ -26,13 +27,87 @@ pub(crate) fn copy_bytes(
 {
     if shift == 0 {
         copy_unshifted(to, first, last, source, start);
-    } else if last - first >= 4 {
-        copy_many(to, first, last, source, start, shift);
-    } else if last - first >= 2 {
-        copy_ends(to, first, last, source, start, shift, 2);
     } else if first < last {
+        copy_across(to, first, last, source, start, shift);
+    }
+}
+
+// As `copy_bytes`, with bits to move across bytes.
+#[inline(always)]
+fn copy_across(to: &mut [u8], first: usize, last: usize, source: &[u8], start: usize, shift: usize)
+    requires some { 0 < shift }
+    requires low { shift < 8 }
+    requires ordered { first ≤ last }
+    requires inside { last ≤ length to.old }
+    requires source_inside { start + (last - first) < length source.now }
+    ensures { (x : ℕ) → row_bit to.new x ≡ (if is_between (8 * first) (8 * last) x
+        then row_bit source.now (8 * start + shift + (x - 8 * first))
+        else row_bit to.old x) }
+{
+    let count = last - first;
+    if count > 64 {
+        copy_many(to, first, last, source, start, shift);
+    } else if count >= 32 {
+        copy_ends(to, first, last, source, start, shift, 32);
+    } else if count >= 16 {
+        copy_ends(to, first, last, source, start, shift, 16);
+    } else if count >= 8 {
+        copy_pair(to, first, last, source, start, shift, 8);
+    } else {
+        copy_short(to, first, last, source, start, shift);
+    }
+}
+
+// As `copy_across`. It is a call of its own, so that the loops over rows stay small.
+#[inline(never)]
+fn copy_short(to: &mut [u8], first: usize, last: usize, source: &[u8], start: usize, shift: usize)
+    requires some { 0 < shift }
+    requires low { shift < 8 }
+    requires ordered { first ≤ last }
+    requires few { last - first < 8 }
+    requires inside { last ≤ length to.old }
+    requires source_inside { start + (last - first) < length source.now }
+    ensures { (x : ℕ) → row_bit to.new x ≡ (if is_between (8 * first) (8 * last) x
+        then row_bit source.now (8 * start + shift + (x - 8 * first))
+        else row_bit to.old x) }
+{
+    let count = last - first;
+    if count >= 4 {
+        copy_pair(to, first, last, source, start, shift, 4);
+    } else if count >= 2 {
+        copy_pair(to, first, last, source, start, shift, 2);
+    } else if count == 1 {
         copy_block(to, first, source, start, shift, 1);
     }
+}
+
+// As `copy_across`: two blocks of as many bytes, made as one.
+#[inline(always)]
+fn copy_pair(
+    to: &mut [u8],
+    first: usize,
+    last: usize,
+    source: &[u8],
+    start: usize,
+    shift: usize,
+    size: usize,
+)
+    requires some { 0 < shift }
+    requires low { shift < 8 }
+    requires inside { last ≤ length to.old }
+    requires source_inside { start + (last - first) < length source.now }
+    requires few { size ≤ 8 }
+    requires one_inside { first + size ≤ last }
+    requires two_cover { last - first ≤ 2 * size }
+    ensures { (x : ℕ) → row_bit to.new x ≡ (if is_between (8 * first) (8 * last) x
+        then row_bit source.now (8 * start + shift + (x - 8 * first))
+        else row_bit to.old x) }
+{
+    let mut block = [0; 16];
+    let other = start + (last - first) - size;
+    fetch_pair(&mut block, source, start, other, shift, size);
+    copy_plain(to, first, &block, 0, size);
+    copy_plain(to, last - size, &block, 8, size);
 }
 
 // From byte `start` of the source on. The compiler makes one store of a fixed number of bytes, which may be written
@@ -50,11 +125,11 @@ fn copy_unshifted(to: &mut [u8], first: usize, last: usize, source: &[u8], start
     if count <= 16 {
         copy_few(to, first, last, source, start);
     } else if count <= 32 {
-        copy_ends(to, first, last, source, start, 0, 16);
+        copy_two(to, first, last, source, start, 16);
     } else if count <= 64 {
-        copy_ends(to, first, last, source, start, 0, 32);
+        copy_two(to, first, last, source, start, 32);
     } else if count <= 128 {
-        copy_ends(to, first, last, source, start, 0, 64);
+        copy_two(to, first, last, source, start, 64);
     } else {
         copy_whole(to, first, last, source, start);
     }
@@ -73,14 +148,30 @@ fn copy_few(to: &mut [u8], first: usize, last: usize, source: &[u8], start: usiz
 {
     let count = last - first;
     if count >= 8 {
-        copy_ends(to, first, last, source, start, 0, 8);
+        copy_two(to, first, last, source, start, 8);
     } else if count >= 4 {
-        copy_ends(to, first, last, source, start, 0, 4);
+        copy_two(to, first, last, source, start, 4);
     } else if count >= 2 {
-        copy_ends(to, first, last, source, start, 0, 2);
+        copy_two(to, first, last, source, start, 2);
     } else if count == 1 {
-        copy_block(to, first, source, start, 0, 1);
+        copy_whole(to, first, last, source, start);
     }
+}
+
+// As `copy_unshifted`: two blocks of as many bytes.
+#[inline(always)]
+fn copy_two(to: &mut [u8], first: usize, last: usize, source: &[u8], start: usize, size: usize)
+    requires inside { last ≤ length to.old }
+    requires source_inside { start + (last - first) ≤ length source.now }
+    requires one_inside { first + size ≤ last }
+    requires two_cover { last - first ≤ 2 * size }
+    ensures { (x : ℕ) → row_bit to.new x ≡ (if is_between (8 * first) (8 * last) x
+        then row_bit source.now (8 * start + (x - 8 * first))
+        else row_bit to.old x) }
+{
+    let other = start + (last - first) - size;
+    copy_whole(to, first, first + size, source, start);
+    copy_whole(to, last - size, last, source, other);
 }
 
 // As `copy_unshifted`.
@@ -134,39 +225,29 @@ pub(crate) fn copy_shifted(
     }
 }
 
-// As `copy_shifted`, by blocks of a fixed number of bytes at the ends, some of whose bytes may be written twice.
+// As `copy_shifted`, for many bytes: the last ones are a block, some of whose bytes may be written twice.
 #[inline(always)]
-fn copy_blocks(to: &mut [u8], first: usize, last: usize, source: &[u8], start: usize, shift: usize)
+fn copy_long(to: &mut [u8], first: usize, last: usize, source: &[u8], start: usize, shift: usize)
     requires some { 0 < shift }
     requires low { shift < 8 }
     requires ordered { first ≤ last }
     requires inside { last ≤ length to.old }
     requires source_inside { start + (last - first) < length source.now }
-    requires many { 4 ≤ last - first }
+    requires many { 32 < last - first }
     ensures { (x : ℕ) → row_bit to.new x ≡ (if is_between (8 * first) (8 * last) x
         then row_bit source.now (8 * start + shift + (x - 8 * first))
         else row_bit to.old x) }
 {
     let count = last - first;
-    if count > 64 {
-        copy_shifted(
-            to,
-            first,
-            first + (count - 1) / 32 * 32,
-            source,
-            start,
-            shift,
-        );
-        copy_block(to, last - 32, source, start + count - 32, shift, 32);
-    } else if count >= 32 {
-        copy_ends(to, first, last, source, start, shift, 32);
-    } else if count >= 16 {
-        copy_ends(to, first, last, source, start, shift, 16);
-    } else if count >= 8 {
-        copy_ends(to, first, last, source, start, shift, 8);
-    } else {
-        copy_ends(to, first, last, source, start, shift, 4);
-    }
+    copy_shifted(
+        to,
+        first,
+        first + (count - 1) / 32 * 32,
+        source,
+        start,
+        shift,
+    );
+    copy_block(to, last - 32, source, start + count - 32, shift, 32);
 }
 
 // As `copy_shifted`: two blocks of as many bytes.
@@ -232,25 +313,25 @@ pub(crate) fn put_block(to: &mut [u8], first: usize, block: &[u8], size: usize)
 }
 
 // As `copy_shifted`. Each shift has a loop of its own: vectors of bytes are shifted fast only by a constant.
-#[inline(always)]
+#[inline(never)]
 fn copy_many(to: &mut [u8], first: usize, last: usize, source: &[u8], start: usize, shift: usize)
     requires some { 0 < shift }
     requires low { shift < 8 }
     requires ordered { first ≤ last }
     requires inside { last ≤ length to.old }
     requires source_inside { start + (last - first) < length source.now }
-    requires many { 4 ≤ last - first }
+    requires many { 32 < last - first }
     ensures { (x : ℕ) → row_bit to.new x ≡ (if is_between (8 * first) (8 * last) x
         then row_bit source.now (8 * start + shift + (x - 8 * first))
         else row_bit to.old x) }
 {
     match shift {
-        1 => copy_blocks(to, first, last, source, start, 1),
-        2 => copy_blocks(to, first, last, source, start, 2),
-        3 => copy_blocks(to, first, last, source, start, 3),
-        4 => copy_blocks(to, first, last, source, start, 4),
-        5 => copy_blocks(to, first, last, source, start, 5),
-        6 => copy_blocks(to, first, last, source, start, 6),
-        _ => copy_blocks(to, first, last, source, start, 7),
+        1 => copy_long(to, first, last, source, start, 1),
+        2 => copy_long(to, first, last, source, start, 2),
+        3 => copy_long(to, first, last, source, start, 3),
+        4 => copy_long(to, first, last, source, start, 4),
+        5 => copy_long(to, first, last, source, start, 5),
+        6 => copy_long(to, first, last, source, start, 6),
+        _ => copy_long(to, first, last, source, start, 7),
     }
 }

@@ -9,6 +9,7 @@ mod copying;
 mod filling;
 mod flipping;
 mod moving;
+mod pairs;
 mod spans;
 mod ways;
 mod within;

@@ -5,10 +5,12 @@ ghost use Rattle.lw_planes.specs.Row.{row_bit};
 ghost use Rattle.lw_kernels.specs.Kernel.{is_between};
 
 use crate::bytes::shifted;
-use crate::copying::{copy_shifted, put_block};
+use crate::copying::{copy_plain, copy_shifted, put_block};
+use crate::pairs::fetch_pair;
 
 // Gives the bytes from `first` on, before `last`, the bits of the row from bit `shift` of byte `start` on, as
-// they were before.
+// they were before. Either way is a call for each row: put in line, they would make the loops over rows too large for the compiler
+// to keep one for each way of blitting.
 #[inline(always)]
 pub(crate) fn move_bytes(row: &mut [u8], first: usize, last: usize, start: usize, shift: usize)
     requires low { shift < 8 }
@@ -19,19 +21,85 @@ pub(crate) fn move_bytes(row: &mut [u8], first: usize, last: usize, start: usize
         then row_bit row.old (8 * start + shift + (x - 8 * first))
         else row_bit row.old x) }
 {
-    if shift == 0 {
-        move_unshifted(row, first, last, start);
-    } else if last - first >= 4 {
+    if first < last {
+        if shift == 0 {
+            move_unshifted(row, first, last, start);
+        } else {
+            move_across(row, first, last, start, shift);
+        }
+    }
+}
+
+// As `move_bytes`, with bits to move across bytes.
+fn move_across(row: &mut [u8], first: usize, last: usize, start: usize, shift: usize)
+    requires some { 0 < shift }
+    requires low { shift < 8 }
+    requires ordered { first ≤ last }
+    requires inside { last ≤ length row.old }
+    requires source_inside { start + (last - first) < length row.old }
+    ensures { (x : ℕ) → row_bit row.new x ≡ (if is_between (8 * first) (8 * last) x
+        then row_bit row.old (8 * start + shift + (x - 8 * first))
+        else row_bit row.old x) }
+{
+    let count = last - first;
+    if count > 64 {
         move_many(row, first, last, start, shift);
-    } else if last - first >= 2 {
-        move_ends(row, first, last, start, shift, 2);
-    } else if first < last {
+    } else if count >= 32 {
+        move_ends(row, first, last, start, shift, 32);
+    } else if count >= 16 {
+        move_ends(row, first, last, start, shift, 16);
+    } else if count >= 8 {
+        move_pair(row, first, last, start, shift, 8);
+    } else {
+        move_short(row, first, last, start, shift);
+    }
+}
+
+// As `move_across`.
+#[inline(never)]
+fn move_short(row: &mut [u8], first: usize, last: usize, start: usize, shift: usize)
+    requires some { 0 < shift }
+    requires low { shift < 8 }
+    requires ordered { first ≤ last }
+    requires few { last - first < 8 }
+    requires inside { last ≤ length row.old }
+    requires source_inside { start + (last - first) < length row.old }
+    ensures { (x : ℕ) → row_bit row.new x ≡ (if is_between (8 * first) (8 * last) x
+        then row_bit row.old (8 * start + shift + (x - 8 * first))
+        else row_bit row.old x) }
+{
+    let count = last - first;
+    if count >= 4 {
+        move_pair(row, first, last, start, shift, 4);
+    } else if count >= 2 {
+        move_pair(row, first, last, start, shift, 2);
+    } else if count == 1 {
         move_block(row, first, start, shift, 1);
     }
 }
 
-// From byte `start` on.
+// As `move_across`: two blocks of as many bytes, made as one before the row is written.
 #[inline(always)]
+fn move_pair(row: &mut [u8], first: usize, last: usize, start: usize, shift: usize, size: usize)
+    requires some { 0 < shift }
+    requires low { shift < 8 }
+    requires inside { last ≤ length row.old }
+    requires source_inside { start + (last - first) < length row.old }
+    requires few { size ≤ 8 }
+    requires one_inside { first + size ≤ last }
+    requires two_cover { last - first ≤ 2 * size }
+    ensures { (x : ℕ) → row_bit row.new x ≡ (if is_between (8 * first) (8 * last) x
+        then row_bit row.old (8 * start + shift + (x - 8 * first))
+        else row_bit row.old x) }
+{
+    let mut block = [0; 16];
+    let other = start + (last - first) - size;
+    fetch_pair(&mut block, row, start, other, shift, size);
+    copy_plain(row, first, &block, 0, size);
+    copy_plain(row, last - size, &block, 8, size);
+}
+
+// From byte `start` on.
 fn move_unshifted(row: &mut [u8], first: usize, last: usize, start: usize)
     requires ordered { first ≤ last }
     requires inside { last ≤ length row.old }
@@ -89,53 +157,26 @@ fn move_whole(row: &mut [u8], first: usize, last: usize, start: usize)
 
 // From bit `shift` of byte `start` on. Each shift has code of its own, since vectors of bytes are shifted fast only by
 // a constant.
-#[inline(always)]
+#[inline(never)]
 fn move_many(row: &mut [u8], first: usize, last: usize, start: usize, shift: usize)
     requires some { 0 < shift }
     requires low { shift < 8 }
     requires ordered { first ≤ last }
     requires inside { last ≤ length row.old }
     requires source_inside { start + (last - first) < length row.old }
-    requires many { 4 ≤ last - first }
+    requires many { 32 < last - first }
     ensures { (x : ℕ) → row_bit row.new x ≡ (if is_between (8 * first) (8 * last) x
         then row_bit row.old (8 * start + shift + (x - 8 * first))
         else row_bit row.old x) }
 {
     match shift {
-        1 => move_blocks(row, first, last, start, 1),
-        2 => move_blocks(row, first, last, start, 2),
-        3 => move_blocks(row, first, last, start, 3),
-        4 => move_blocks(row, first, last, start, 4),
-        5 => move_blocks(row, first, last, start, 5),
-        6 => move_blocks(row, first, last, start, 6),
-        _ => move_blocks(row, first, last, start, 7),
-    }
-}
-
-// As `move_many`, by blocks of a fixed number of bytes at the ends, some of whose bytes may be written twice.
-#[inline(always)]
-fn move_blocks(row: &mut [u8], first: usize, last: usize, start: usize, shift: usize)
-    requires some { 0 < shift }
-    requires low { shift < 8 }
-    requires ordered { first ≤ last }
-    requires inside { last ≤ length row.old }
-    requires source_inside { start + (last - first) < length row.old }
-    requires many { 4 ≤ last - first }
-    ensures { (x : ℕ) → row_bit row.new x ≡ (if is_between (8 * first) (8 * last) x
-        then row_bit row.old (8 * start + shift + (x - 8 * first))
-        else row_bit row.old x) }
-{
-    let count = last - first;
-    if count > 64 {
-        move_long(row, first, last, start, shift);
-    } else if count >= 32 {
-        move_ends(row, first, last, start, shift, 32);
-    } else if count >= 16 {
-        move_ends(row, first, last, start, shift, 16);
-    } else if count >= 8 {
-        move_ends(row, first, last, start, shift, 8);
-    } else {
-        move_ends(row, first, last, start, shift, 4);
+        1 => move_long(row, first, last, start, 1),
+        2 => move_long(row, first, last, start, 2),
+        3 => move_long(row, first, last, start, 3),
+        4 => move_long(row, first, last, start, 4),
+        5 => move_long(row, first, last, start, 5),
+        6 => move_long(row, first, last, start, 6),
+        _ => move_long(row, first, last, start, 7),
     }
 }
 

@@ -37,11 +37,7 @@ pub fn combine_within(row: &mut [u8], to_bit: u32, source_bit: u32, count: u32, 
     if count > 0 {
         let (span, place) = (span_of(to_bit, count), source_bit as usize);
         let way = way_of(minterm, span, place);
-        if to_bit <= source_bit {
-            line_forwards(row, 0, span, 0, place, minterm, way);
-        } else {
-            line_backwards(row, 0, span, 0, place, minterm, way);
-        }
+        line_within(row, 0, span, 0, place, minterm, way);
     }
 }
 
@@ -114,14 +110,14 @@ fn rows_within(
         then minterm_bit minterm (row_bit bytes.old (place_in step (source.row + (y - to)) (source.bit + (x - span.from)))) (row_bit bytes.old (place_in step y x))
         else row_bit bytes.old (place_in step y x)) }
 {
-    if to < source.row || to == source.row && span.from <= source.bit as usize {
+    if to <= source.row {
         rows_down(bytes, step, span, to, source, rows, minterm, way);
     } else {
         rows_up(bytes, step, span, to, source, rows, minterm, way);
     }
 }
 
-// Row after row downwards, and each to the right: no source stands before its destination.
+// Row after row downwards: no source stands in an earlier row than its destination.
 #[inline(always)]
 fn rows_down(
     bytes: &mut [u8],
@@ -141,7 +137,6 @@ fn rows_down(
     requires near { span.end < 2 ^ 40 }
     requires source_all { (source.row + rows) * step ≤ length bytes.old }
     requires after { to ≤ source.row }
-    requires leftwards { to ≡ source.row → span.from ≤ source.bit }
     ensures { (y x : ℕ) → x < 8 * step → row_bit bytes.new (place_in step y x) ≡ (if is_named to rows y && is_between span.from span.end x
         then minterm_bit minterm (row_bit bytes.old (place_in step (source.row + (y - to)) (source.bit + (x - span.from)))) (row_bit bytes.old (place_in step y x))
         else row_bit bytes.old (place_in step y x)) }
@@ -149,11 +144,11 @@ fn rows_down(
     for row in 0..rows {
         let at = (to as usize + row as usize) * step;
         let from = (source.row as usize + row as usize) * step;
-        line_forwards(bytes, at, span, from, source.bit as usize, minterm, way);
+        line_within(bytes, at, span, from, source.bit as usize, minterm, way);
     }
 }
 
-// Row after row upwards, and each to the left: no source stands behind its destination.
+// Row after row upwards: no source stands in a later row than its destination.
 #[inline(always)]
 fn rows_up(
     bytes: &mut [u8],
@@ -173,7 +168,6 @@ fn rows_up(
     requires near { span.end < 2 ^ 40 }
     requires source_all { (source.row + rows) * step ≤ length bytes.old }
     requires before { source.row ≤ to }
-    requires rightwards { to ≡ source.row → source.bit ≤ span.from }
     ensures { (y x : ℕ) → x < 8 * step → row_bit bytes.new (place_in step y x) ≡ (if is_named to rows y && is_between span.from span.end x
         then minterm_bit minterm (row_bit bytes.old (place_in step (source.row + (y - to)) (source.bit + (x - span.from)))) (row_bit bytes.old (place_in step y x))
         else row_bit bytes.old (place_in step y x)) }
@@ -181,14 +175,14 @@ fn rows_up(
     for row in (0..rows).rev() {
         let at = (to as usize + row as usize) * step;
         let from = (source.row as usize + row as usize) * step;
-        line_backwards(bytes, at, span, from, source.bit as usize, minterm, way);
+        line_within(bytes, at, span, from, source.bit as usize, minterm, way);
     }
 }
 
-// The bits of a span in the row that begins at byte `at`, with the sources from bit `place` past byte `source` on, of
-// which none stands before its destination: from the left, so that no source is written before it is read.
+// The bits of a span in the row that begins at byte `at`, with the sources from bit `place` past byte `source` on. Those of
+// both ends are read before any byte is written.
 #[inline(always)]
-fn line_forwards(
+fn line_within(
     bytes: &mut [u8],
     at: usize,
     span: Span,
@@ -203,14 +197,14 @@ fn line_forwards(
     requires near_source { place < 2 ^ 40 }
     requires inside { 8 * at + span.end ≤ 8 * length bytes.old }
     requires source_inside { 8 * source + place + (span.end - span.from) ≤ 8 * length bytes.old }
-    requires leftwards { 8 * at + span.from ≤ 8 * source + place }
     ensures { (p : ℕ) → row_bit bytes.new p ≡ (if is_between (8 * at + span.from) (8 * at + span.end) p
         then blit_bit minterm (row_bit bytes.old) (8 * source + place) (row_bit bytes.old) (8 * at + span.from) p
         else row_bit bytes.old p) }
 {
     let end = place + (span.end - span.from);
     let head = bits_from(bytes, source, place, end, span.from % 8, way.whole);
-    put_blit(bytes, at + span.first, span.head, head, minterm, way.copies);
+    let late = place + (span.rest - span.from);
+    let tail = bits_from(bytes, source, late, end, span.rest % 8, way.whole);
     let middle = place + (span.cut - span.from);
     let shift = shift_of(middle, way.whole);
     within_bytes(
@@ -222,50 +216,8 @@ fn line_forwards(
         minterm,
         way.copies,
     );
-    let late = place + (span.rest - span.from);
-    let tail = bits_from(bytes, source, late, end, span.rest % 8, way.whole);
-    put_blit(bytes, at + span.last, span.tail, tail, minterm, way.copies);
-}
-
-// As `line_forwards`, but no source stands behind its destination: from the right.
-#[inline(always)]
-fn line_backwards(
-    bytes: &mut [u8],
-    at: usize,
-    span: Span,
-    source: usize,
-    place: usize,
-    minterm: u8,
-    way: Way,
-)
-    requires span { IsSpan span }
-    requires way { IsWay minterm span place way }
-    requires near { span.end < 2 ^ 40 }
-    requires near_source { place < 2 ^ 40 }
-    requires inside { 8 * at + span.end ≤ 8 * length bytes.old }
-    requires source_inside { 8 * source + place + (span.end - span.from) ≤ 8 * length bytes.old }
-    requires rightwards { 8 * source + place ≤ 8 * at + span.from }
-    ensures { (p : ℕ) → row_bit bytes.new p ≡ (if is_between (8 * at + span.from) (8 * at + span.end) p
-        then blit_bit minterm (row_bit bytes.old) (8 * source + place) (row_bit bytes.old) (8 * at + span.from) p
-        else row_bit bytes.old p) }
-{
-    let end = place + (span.end - span.from);
-    let late = place + (span.rest - span.from);
-    let tail = bits_from(bytes, source, late, end, span.rest % 8, way.whole);
-    put_blit(bytes, at + span.last, span.tail, tail, minterm, way.copies);
-    let middle = place + (span.cut - span.from);
-    let shift = shift_of(middle, way.whole);
-    within_bytes(
-        bytes,
-        at + span.next,
-        at + span.last,
-        source + middle / 8,
-        shift,
-        minterm,
-        way.copies,
-    );
-    let head = bits_from(bytes, source, place, end, span.from % 8, way.whole);
     put_blit(bytes, at + span.first, span.head, head, minterm, way.copies);
+    put_blit(bytes, at + span.last, span.tail, tail, minterm, way.copies);
 }
 
 // The bytes from `first` on, before `last`.

@@ -3,16 +3,11 @@ use Rattle.lw_planes.specs.Row.{row_bit}
 use Rattle.lw_planes.specs.Minterm.{minterm_bit}
 use Rattle.lw_kernels.specs.Kernel.{blit_bit, is_between, place_in}
 use Rattle.lw_kernels.proofs.RowWriting.{between_yes, between_before}
-use Rattle.lw_kernels.proofs.SpanLaws.{rows_none, rows_same, row_done, row_moved, place_before, between_none, between_less}
+use Rattle.lw_kernels.proofs.SpanLaws.{rows_none, rows_same, row_done, row_moved, between_none, between_less}
 use Rattle.lw_kernels.proofs.within.rows_up.Goals as goal
 
 pub loop-row-init : goal.loop-row-init
 loop-row-init c = rows_none c.args.step c.args.span.from c.args.span.end c.args.bytes.now (λ y. is_between (c.args.to + c.args.rows) (c.args.to + c.args.rows) y) _ (λ y. between_none (c.args.to + c.args.rows) (c.args.to + c.args.rows) y (omega arith))
-
-pub line_backwards-requires-clause-rightwards : goal.line_backwards-requires-clause-rightwards
-line_backwards-requires-clause-rightwards c =
-    let row : ℕ = c.loop-row.row - 1 in
-    place_before c.args.step (c.args.source.row + row) (c.args.to + row) c.args.source.bit c.args.span.from (omega (arith, c.requires.source_inside)) (omega (arith, c.requires.before)) (λ same. c.requires.rightwards (omega (arith, same)))
 
 pub loop-row-preserved : goal.loop-row-preserved
 loop-row-preserved c =
@@ -29,8 +24,8 @@ loop-row-preserved c =
     let inside : to + row < last = omega arith in
     let source : is_between (to + c.loop-row.row) last (c.args.source.row + row) ≡ false = between_before (to + c.loop-row.row) last (c.args.source.row + row) (omega (arith, c.requires.before, begun)) in
     let fresh : is_between (to + c.loop-row.row) last (to + row) ≡ false = between_before (to + c.loop-row.row) last (to + row) before in
-    row_done step from end c.loop-row.bytes c.line_backwards.new.bytes (λ y. is_between (to + c.loop-row.row) last y) (λ y. is_between (to + row) last y) new
-    (blit_bit c.args.minterm (row_bit c.loop-row.bytes) (8 * ((c.args.source.row + row) * step) + c.args.source.bit) (row_bit c.loop-row.bytes) (8 * ((to + row) * step) + from)) old (to + row) c.requires.to_inside c.loop-row.invariant c.line_backwards.ensures
+    row_done step from end c.loop-row.bytes c.line_within.new.bytes (λ y. is_between (to + c.loop-row.row) last y) (λ y. is_between (to + row) last y) new
+    (blit_bit c.args.minterm (row_bit c.loop-row.bytes) (8 * ((c.args.source.row + row) * step) + c.args.source.bit) (row_bit c.loop-row.bytes) (8 * ((to + row) * step) + from)) old (to + row) c.requires.to_inside c.loop-row.invariant c.line_within.ensures
     (row_moved step from end c.loop-row.bytes (λ y. is_between (to + c.loop-row.row) last y) old c.args.minterm to row c.args.source.row c.args.source.bit c.requires.to_inside c.requires.source_inside c.loop-row.invariant source fresh)
     fresh (between_yes (to + row) last (to + row) (omega arith) inside) (λ y apart. ap (λ n. is_between n last y) begun ∙ between_less (to + row) last y apart)
 

@@ -1,0 +1,93 @@
+#!/bin/sh
+# Drawing calls here beside the same calls of an X server that draws into memory, in one run. The server is Xvfb, with a screen of
+# 1024 by 768 and 8 bits a pixel, and x11perf calls it; here the screen has 8 planes, so a pixel has 8 bits too. Of each the best run
+# counts: of three of one second by x11perf, and of nine here (docs/BENCHMARKS.md). x11perf's time is that of the clock, with the
+# requests that it sends and the server reads; the time here is that of the processor, for calls in one process.
+#
+#     bench/beside_x.sh [PROGRAM]
+#
+# PROGRAM is the built program of the benchmarks; without it, `bench/run.sh drawing` builds and runs it. The commands Xvfb and
+# x11perf have to be there, from Debian's packages xvfb and x11-apps; nothing is installed.
+set -eu
+
+bench=$(cd "$(dirname "$0")" && pwd)
+for command in Xvfb:xvfb x11perf:x11-apps; do
+    if ! command -v "${command%:*}" >/dev/null; then
+        echo "bench/beside_x.sh: the command ${command%:*} is not there; its package is ${command#*:} (apt-get install ${command#*:})" >&2
+        exit 2
+    fi
+done
+
+work=$(mktemp -d)
+server=
+finish() {
+    if [ -n "$server" ]; then kill "$server" 2>/dev/null || true; fi
+    rm -rf "$work"
+}
+trap finish EXIT
+trap 'exit 130' INT TERM
+
+load() {
+    echo "load $1: $(cut -d ' ' -f 1-3 /proc/loadavg 2>/dev/null || echo unknown)"
+}
+
+load before
+if [ $# -gt 0 ]; then
+    "$1" drawing >"$work/here"
+else
+    "$bench/run.sh" drawing >"$work/here"
+fi
+load between
+
+# The server picks a free display, and writes its number once it answers.
+Xvfb -displayfd 3 -screen 0 1024x768x8 -nolisten tcp 3>"$work/display" 2>"$work/errors" &
+server=$!
+waited=0
+while [ ! -s "$work/display" ]; do
+    if [ "$waited" -ge 20 ] || ! kill -0 "$server" 2>/dev/null; then
+        echo "bench/beside_x.sh: Xvfb doesn't answer" >&2
+        cat "$work/errors" >&2
+        exit 2
+    fi
+    sleep 1
+    waited=$((waited + 1))
+done
+x11perf -display ":$(cat "$work/display")" -time 1 -repeat 3 -rect10 -rect100 -rect500 -line100 -scroll100 -scroll500 \
+    -copywinwin100 -copypixwin100 >"$work/x"
+load after
+
+# The name of x11perf's call, and that of the call here.
+cat >"$work/calls" <<'END'
+10x10 rectangle|fill of 10 by 10
+100x100 rectangle|fill of 100 by 100
+500x500 rectangle|fill of 500 by 500
+100-pixel line|line of 100 pixels
+Scroll 100x100 pixels|scroll of 100 by 100 by (0, 1)
+Scroll 500x500 pixels|scroll of 500 by 500 by (0, 1)
+Copy 100x100 from window to window|blit of 100 by 100 within a layer
+Copy 100x100 from pixmap to window|blit of 100 by 100 from a bitmap
+END
+
+# A row of x11perf is "N reps @ T msec (R/sec): NAME", and one of the table here "| NAME | PLANES | BYTES | CALLS A SECOND | ..".
+awk -v here="$work/here" -v x="$work/x" '
+    BEGIN {
+        while ((getline row < here) > 0) {
+            if (split(row, part, / *\| */) > 5 && part[3] == 8) ours[part[2]] = part[5]
+        }
+        while ((getline row < x) > 0) {
+            if (row ~ / reps @ .*\/sec\): /) {
+                name = row; sub(/.*\/sec\): */, "", name)
+                rate = row; sub(/\/sec\).*/, "", rate); sub(/.*\(/, "", rate)
+                if (rate + 0 > theirs[name] + 0) theirs[name] = rate
+            }
+        }
+        FS = "|"
+        print "| x11perf | calls a second | here, 8 planes | calls a second | here to X |"
+        print "|---|---|---|---|---|"
+    }
+    {
+        if (!($1 in theirs) || !($2 in ours)) { print "no time of: " $1 ", " $2; missing = 1; next }
+        printf "| %s | %.0f | %s | %.0f | %.2f |\n", $1, theirs[$1], $2, ours[$2], ours[$2] / theirs[$1]
+    }
+    END { exit missing }
+' "$work/calls"
