@@ -1,5 +1,5 @@
--- Laws of painting a run from rows that were read.
-use Rattle.std.proofs.Common.{◌≡◌, ℕ, zero, suc, ◌+◌, ◌-◌, ◌<◌, ◌≤◌, ◌==◌, min, max, Bool, true, false, ◌&&◌, ◌||◌, if◌then◌else◌, List, bit_and, bit_or, ◌∙◌, sym, refl, ap, arith}
+-- Laws of painting a block of one row from rows that were read.
+use Rattle.std.proofs.Common.{◌≡◌, ℕ, zero, suc, ◌+◌, ◌-◌, ◌<◌, ◌≤◌, ◌==◌, min, max, Bool, true, false, nat_le, nat_lt, ◌&&◌, ◌||◌, if◌then◌else◌, List, bit_and, bit_or, ◌∙◌, sym, refl, ap, arith}
 use Rattle.std.specs.Int.{bit_at}
 use Rattle.std.proofs.lemmas.Bool.Decides.{nat_tests}
 use Rattle.std.proofs.lemmas.Nat.Bits.{bit_at-lt, bit_at_and, bit_at_or}
@@ -7,19 +7,16 @@ use Rattle.lw_planes.specs.Row.{row_bit}
 use Rattle.lw_planes.specs.Minterm.{minterm_bit}
 use Rattle.lw_planes.proofs.RowLaws.{row_bit_lt}
 use Rattle.lw_planes.proofs.ChosenLaws.{minterm_bit_lt}
-use Rattle.lw_kernels.specs.Kernel.{is_named}
+use Rattle.lw_kernels.specs.Kernel.{is_between, is_named, place_in}
 use Rattle.lw_layer.specs.View.{LiveView}
 use Rattle.lw_draw.specs.Drawn.{drawn, GivesBits}
-use Rattle.lw_draw.specs.Combined.{combined_bit}
-use Rattle.lw_draw.specs.Stretches.{in_stretch}
-use Rattle.lw_draw.specs.declared.combining.Origin.{Origin}
-use Rattle.lw_draw.specs.declared.stretch.Stretch.{Stretch}
-use Rattle.lw_draw.proofs.CombineLaws.{combined_gives_bits}
+use Rattle.lw_draw.specs.Blocks.{IsBlock, in_block, block_bit}
+use Rattle.lw_draw.specs.declared.blocks.Block.{Block}
 use Rattle.lw_draw.proofs.DrawnLaws.{bits_same, bit_of_layer, bit_drawn}
 use Rattle.lw_draw.proofs.PaintLaws.{layer_alike}
 use Rattle.lw_blit.specs.Blitting.{blended, from_rows, plane_of, takes}
 use Rattle.lw_blit.specs.declared.sources.SourceRows.{SourceRows}
-use Rattle.lw_blit.proofs.RunLaws.{pixel_of}
+use Rattle.lw_blit.proofs.BitmapLaws.{pixel_of, in_block_at}
 
 -- a bit of a byte that a mask cuts and 0x20 is joined to
 cut_bit : (m k : ℕ) → bit_at (bit_or (bit_and m 192) 32) k ≡ max (min (bit_at m k) (bit_at 192 k)) (bit_at 32 k)
@@ -55,18 +52,24 @@ drawn_again c on f g gives =
     ap (λ b. if on p x y then g p x y b else b) (bit_drawn c on f p x y gives deep left low) ∙
     chosen_again (on p x y) (f p x y) (g p x y) (bit_of_layer c p x y))
 
+pub block_gives_bits : (m : ℕ) (bytes : List ℕ) (step bit : ℕ) (b : Block) → GivesBits (block_bit m bytes step bit b)
+block_gives_bits m bytes step bit b p x y old small = minterm_bit_lt m (row_bit bytes (place_in step (y - b.y) (bit + (x - b.x)))) old
+
+-- where the source of a pixel is in the rows that were read
+row_place : (x y rows first i j : ℕ) → rows ≡ 1 → first ≤ x → x ≤ i → y ≤ j → j < y + rows → place_in 256 (j - y) (x - first + (i - x)) ≡ i - first
+row_place x y rows first i j one starts from top bottom = omega (arith, one, starts, from, top, bottom)
+
 -- Pixels that all take their sources.
 full_value : (m : ℕ) (all rest : Bool) (b old : ℕ) → all ≡ true → minterm_bit m b old ≡ blended m (all || rest) b old
 full_value m true rest b old is = refl
 full_value m false rest b old is = absurd (cc is)
 
-pub plane_full : (v w : LiveView) (k m first : ℕ) (s : Stretch) (r : SourceRows) → r.all ≡ true → w ≡ drawn (λ p i j. p == k && in_stretch s i j) (combined_bit m (plane_of r k) (record { column = first; bit = 0 })) v → w ≡ drawn (λ p i j. p == k && in_stretch s i j) (from_rows m r first) v
-plane_full v w k m first s r all is =
-    layer_alike v w (λ p i j. p == k && in_stretch s i j) (combined_bit m (plane_of r k) (record { column = first; bit = 0 })) (from_rows m r first) is
+pub plane_full : (v w : LiveView) (k m first : ℕ) (s : Block) (r : SourceRows) → r.all ≡ true → s.rows ≡ 1 → first ≤ s.x → w ≡ drawn (λ p i j. p == k && in_block s i j) (block_bit m (plane_of r k) 256 (s.x - first) s) v → w ≡ drawn (λ p i j. p == k && in_block s i j) (from_rows m r first) v
+plane_full v w k m first s r all one starts is =
+    layer_alike v w (λ p i j. p == k && in_block s i j) (block_bit m (plane_of r k) 256 (s.x - first) s) (from_rows m r first) is
     (λ p i j old _ _ _ on _.
     let at = pixel_of k s p i j on in
-    let none : 0 + (i - first) ≡ i - first = omega arith in
-    ap (λ n. minterm_bit m (row_bit (plane_of r k) n) old) none ∙
+    ap (λ n. minterm_bit m (row_bit (plane_of r k) n) old) (row_place s.x s.y s.rows first i j one starts at.first at.top at.bottom) ∙
     (ap (λ q. minterm_bit m (row_bit (plane_of r q) (i - first)) old) (sym at.deep) ∙
     full_value m r.all (row_bit (plane_of r p) (i - first) == 1 || row_bit r.kept (i - first) == 1) (row_bit (plane_of r p) (i - first)) old all))
 
@@ -91,28 +94,50 @@ some_value : (m : ℕ) (all rest : Bool) (b old : ℕ) → all ≡ false → ble
 some_value m true rest b old is = absurd (cc is)
 some_value m false rest b old is = refl
 
-pub plane_in_parts : (v w u : LiveView) (k m set clear first place : ℕ) (s : Stretch) (r : SourceRows) (unset : List ℕ) → AreParts m set clear → r.all ≡ false → first ≤ s.x → place ≡ s.x - first → ((n : ℕ) → row_bit unset n ≡ (if is_named place s.run.len n then minterm_bit 32 (row_bit (plane_of r k) (place + (n - place))) (row_bit r.kept n) else row_bit r.kept n)) → w ≡ drawn (λ p i j. p == k && in_stretch s i j) (combined_bit set (plane_of r k) (record { column = first; bit = 0 })) v → u ≡ drawn (λ p i j. p == k && in_stretch s i j) (combined_bit clear unset (record { column = first; bit = 0 })) w → u ≡ drawn (λ p i j. p == k && in_stretch s i j) (from_rows m r first) v
-plane_in_parts v w u k m set clear first place s r unset are some starts along left was is =
-    let o : Origin = record { column = first; bit = 0 } in
-    let f = combined_bit set (plane_of r k) o in
-    let g = combined_bit clear unset o in
-    let on : ℕ → ℕ → ℕ → Bool = λ p i j. p == k && in_stretch s i j in
+pub plane_in_parts : (v w u : LiveView) (k m set clear first : ℕ) (s : Block) (r : SourceRows) (unset : List ℕ) → AreParts m set clear → r.all ≡ false → s.rows ≡ 1 → first ≤ s.x → ((n : ℕ) → row_bit unset n ≡ (if is_named (s.x - first) s.run.len n then minterm_bit 32 (row_bit (plane_of r k) (s.x - first + (n - (s.x - first)))) (row_bit r.kept n) else row_bit r.kept n)) → w ≡ drawn (λ p i j. p == k && in_block s i j) (block_bit set (plane_of r k) 256 (s.x - first) s) v → u ≡ drawn (λ p i j. p == k && in_block s i j) (block_bit clear unset 256 (s.x - first) s) w → u ≡ drawn (λ p i j. p == k && in_block s i j) (from_rows m r first) v
+plane_in_parts v w u k m set clear first s r unset are some one starts left was is =
+    let place : ℕ = s.x - first in
+    let f = block_bit set (plane_of r k) 256 place s in
+    let g = block_bit clear unset 256 place s in
+    let on : ℕ → ℕ → ℕ → Bool = λ p i j. p == k && in_block s i j in
     layer_alike v u on (λ p x y old. g p x y (f p x y old)) (from_rows m r first)
-    (is ∙ (ap (drawn on g) was ∙ (drawn_again v on f g (combined_gives_bits set (plane_of r k) o))))
+    (is ∙ (ap (drawn on g) was ∙ (drawn_again v on f g (block_gives_bits set (plane_of r k) 256 place s))))
     (λ p i j old _ _ _ inside small.
     let at = pixel_of k s p i j inside in
     let from : s.x ≤ i = at.first in
     let before : i < s.x + s.run.len = at.last in
-    let n = i - first in
-    let zero_more : 0 + n ≡ n = omega arith in
-    let low : place ≤ n = omega (arith, along, starts, from) in
-    let high : n < place + s.run.len = omega (arith, along, starts, from, before) in
+    let n : ℕ = i - first in
+    let spot = row_place s.x s.y s.rows first i j one starts from at.top at.bottom in
+    let low : place ≤ n = omega (arith, starts, from) in
+    let high : n < place + s.run.len = omega (arith, starts, from, before) in
     let same : place + (n - place) ≡ n = omega (arith, low) in
     let named : is_named place s.run.len n ≡ true = grind (arith, nat_tests) in
-    let second : row_bit unset (0 + n) ≡ minterm_bit 32 (row_bit (plane_of r k) n) (row_bit r.kept n) =
-    ap (row_bit unset) zero_more ∙ (left n ∙ (ap (λ t. if t then minterm_bit 32 (row_bit (plane_of r k) (place + (n - place))) (row_bit r.kept n) else row_bit r.kept n) named ∙ ap (λ q. minterm_bit 32 (row_bit (plane_of r k) q) (row_bit r.kept n)) same)) in
-    ap (λ b. minterm_bit clear b (minterm_bit set (row_bit (plane_of r k) (0 + n)) old)) second ∙
-    (ap (λ q. minterm_bit clear (minterm_bit 32 (row_bit (plane_of r k) n) (row_bit r.kept n)) (minterm_bit set (row_bit (plane_of r k) q) old)) zero_more ∙
+    let second : row_bit unset n ≡ minterm_bit 32 (row_bit (plane_of r k) n) (row_bit r.kept n) =
+    left n ∙ (ap (λ t. if t then minterm_bit 32 (row_bit (plane_of r k) (place + (n - place))) (row_bit r.kept n) else row_bit r.kept n) named ∙ ap (λ q. minterm_bit 32 (row_bit (plane_of r k) q) (row_bit r.kept n)) same) in
+    ap (λ z. minterm_bit clear (row_bit unset z) (minterm_bit set (row_bit (plane_of r k) z) old)) spot ∙
+    (ap (λ b. minterm_bit clear b (minterm_bit set (row_bit (plane_of r k) n) old)) second ∙
     (two_values m set clear (row_bit (plane_of r k) n) (row_bit r.kept n) old are (row_bit_lt (plane_of r k) n) (row_bit_lt r.kept n) small ∙
     (some_value m r.all (row_bit (plane_of r k) n == 1 || row_bit r.kept n == 1) (row_bit (plane_of r k) n) old some ∙
     ap (λ q. blended m (takes r q n) (row_bit (plane_of r q) n) old) (sym at.deep)))))
+
+-- what is told of a block in one row
+pub record IsInRow (first : ℕ) (b : Block) : Type 0 where
+  pub one : b.rows ≡ 1
+  pub starts : first ≤ b.x
+  pub right : b.x + b.run.len ≤ 2048
+
+pub block_in_row : (c : LiveView) (test : ℕ → ℕ → Bool) (y first : ℕ) (b : Block) → IsBlock c test b → ((i j : ℕ) → in_block b i j ≡ true → (j == y && (nat_le first i && nat_lt i 2048)) ≡ true) → IsInRow first b
+block_in_row c test y first b block reached =
+    let wide : 0 < b.run.len = (block.runs 0 block.some).some in
+    let high : 0 < b.rows = block.some in
+    let upper = reached (b.x + 0) (b.y + 0) (in_block_at b 0 0 wide high) in
+    let lower = reached (b.x + (b.run.len - 1)) (b.y + (b.rows - 1)) (in_block_at b (b.run.len - 1) (b.rows - 1) (omega (arith, wide)) (omega (arith, high))) in
+    let top : b.y + 0 ≡ y = grind (arith, nat_tests) in
+    let left : first ≤ b.x + 0 = grind (arith, nat_tests) in
+    let bottom : b.y + (b.rows - 1) ≡ y = grind (arith, nat_tests) in
+    let right : b.x + (b.run.len - 1) < 2048 = grind (arith, nat_tests) in
+    record { one = omega (arith, top, bottom, high); starts = omega (arith, left); right = omega (arith, right, wide) }
+
+-- the pixels of some columns of a row
+pub in_columns : (drawable : Bool) (y from end i j : ℕ) → end ≤ 2048 → (is_between y (y + 1) j && (is_between from end i && drawable)) ≡ true → (j == y && (nat_le from i && nat_lt i 2048)) ≡ true
+in_columns drawable y from end i j right on = grind (arith, nat_tests)

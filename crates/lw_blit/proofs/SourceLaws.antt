@@ -13,7 +13,7 @@ use Rattle.lw_machine.specs.Kept.{holds_at, is_kept}
 use Rattle.lw_layer.specs.View.{LiveView, keeps, draws}
 use Rattle.lw_layer.specs.Copied.{bit_in, kept_bit}
 use Rattle.lw_layer.proofs.CopyingLaws.{kept_no}
-use Rattle.lw_draw.specs.Drawn.{drawn}
+use Rattle.lw_draw.specs.Drawn.{drawn, in_rows}
 use Rattle.lw_draw.proofs.PaintLaws.{layer_alike}
 use Rattle.lw_blit.specs.Blitting.{blended, from_rows, from_layer, masked, plane_of, has_source, source_bit, taken_column, taken_row, AreRead, AreSources}
 use Rattle.lw_blit.specs.declared.sources.SourceRows.{SourceRows}
@@ -132,20 +132,15 @@ pub all_taken : (all : Bool) (k : ℕ) → (all ≡ true → k ≡ 1) → (all |
 all_taken true k is = sym (ap (λ n. n == 1) (is refl))
 all_taken false k is = refl
 
--- what is told of a pixel in some columns of a row
-pub record IsIn (mask from end row p i j : ℕ) : Type 0 where
-  pub has : (bit_at mask p == 1) ≡ true
+-- what is told of a pixel of some rows and columns
+pub record IsPixelIn (top bottom from end i j : ℕ) : Type 0 where
+  pub upper : top ≤ j
+  pub lower : j < bottom
   pub first : from ≤ i
   pub last : i < end
-  pub down : j ≡ row
 
-pub pixel_in : (mask from end row p i j : ℕ) (drawable : Bool) → (bit_at mask p == 1 && (is_between row (row + 1) j && (is_between from end i && drawable))) ≡ true → IsIn mask from end row p i j
-pixel_in mask from end row p i j drawable on = record {
-  has = (and_parts (bit_at mask p == 1) (is_between row (row + 1) j && (is_between from end i && drawable)) on).0;
-  first = grind (arith, nat_tests);
-  last = grind (arith, nat_tests);
-  down = grind (arith, nat_tests);
-}
+pub pixel_in : (has : Bool) (top bottom from end i j : ℕ) (drawable : Bool) → (has && (is_between top bottom j && (is_between from end i && drawable))) ≡ true → IsPixelIn top bottom from end i j
+pixel_in has top bottom from end i j drawable on = record { upper = grind (arith, nat_tests); lower = grind (arith, nat_tests); first = grind (arith, nat_tests); last = grind (arith, nat_tests) }
 
 -- a pixel takes its source as the layer has it
 taken_alike : (all clears there : Bool) (b k : ℕ) → k ≡ bit_of there → (there ≡ false → b ≡ 0) → (all || k == 1) ≡ (clears || k == 1) → (all || (b == 1 || k == 1)) ≡ (clears || there)
@@ -158,15 +153,17 @@ unfolding from_layer
 row_as_layer v w source t mask planes y from end r are enough is =
     layer_alike v w (masked mask v y (y + 1) from end) (from_rows t.minterm r from) (from_layer source t) is
     (λ p i j old deep _ _ on _.
-    let at = pixel_in mask from end y p i j (draws v i j) on in
+    let at = pixel_in (bit_at mask p == 1) y (y + 1) from end i j (draws v i j) on in
+    let has : (bit_at mask p == 1) ≡ true = (and_parts (bit_at mask p == 1) (in_rows v y (y + 1) from end i j) on).0 in
+    let down : j ≡ y = omega (arith, at.upper, at.lower) in
     let first : from ≤ i = at.first in
     let last : i < end = at.last in
     let n = i - from in
     let low : n < end - from = omega (arith, first, last) in
     let below : p < planes = omega (arith, deep, enough) in
     let column : from + n ≡ i = omega (arith, first) in
-    let bit : row_bit (plane_of r p) n ≡ source_bit source t p i j = are.pens p n below at.has low ∙ (ap (λ u. source_bit source t p u y) column ∙ ap (λ q. source_bit source t p i q) (sym at.down)) in
-    let there : row_bit r.kept n ≡ bit_of (has_source source t i j) = are.kept p n below at.has low ∙ (ap (λ u. bit_of (has_source source t u y)) column ∙ ap (λ q. bit_of (has_source source t i q)) (sym at.down)) in
+    let bit : row_bit (plane_of r p) n ≡ source_bit source t p i j = are.pens p n below has low ∙ (ap (λ u. source_bit source t p u y) column ∙ ap (λ q. source_bit source t p i q) (sym down)) in
+    let there : row_bit r.kept n ≡ bit_of (has_source source t i j) = are.kept p n below has low ∙ (ap (λ u. bit_of (has_source source t u y)) column ∙ ap (λ q. bit_of (has_source source t i q)) (sym down)) in
     ap (λ q. blended t.minterm q (row_bit (plane_of r p) n) old)
     (taken_alike r.all t.clears (has_source source t i j) (row_bit (plane_of r p) n) (row_bit r.kept n) there
     (λ off. bit ∙ kept_no source p (taken_column t i) (taken_row t j) off) (are.all n low)) ∙

@@ -12,9 +12,7 @@ use Rattle.lw_machine.specs.Blits.{source_column, source_row, source_pen}
 use Rattle.lw_layer.specs.View.{LiveView, keeps}
 use Rattle.lw_layer.specs.Copied.{kept_bit}
 use Rattle.lw_draw.specs.Drawn.{in_rows}
-use Rattle.lw_draw.specs.Stretches.{in_stretch}
 use Rattle.lw_draw.specs.declared.blocks.Block.{Block}
-use Rattle.lw_draw.specs.declared.stretch.Stretch.{Stretch}
 use Rattle.lw_blit.specs.declared.sources.SourceRows.{SourceRows}
 use Rattle.lw_blit.specs.declared.transfers.Transfer.{Transfer}
 
@@ -75,10 +73,6 @@ in_planes mask inside p i j = bit_at mask p == 1 && inside i j
 
 abbrev pub planes_before : ℕ → ℕ → (ℕ → ℕ → Bool) → ℕ → ℕ → ℕ → Bool
 planes_before mask k inside p i j = nat_lt p k && in_planes mask inside p i j
-
--- the pixels of a run in the planes of a mask
-abbrev pub masked_run : ℕ → Stretch → ℕ → ℕ → ℕ → Bool
-masked_run mask s = in_planes mask (in_stretch s)
 
 -- The planes of a mask before one of them were read, from this place of a layer on, and which pixels it keeps.
 pub record AreRead (c : LiveView) (mask k : ℕ) (x y : ℤ) (n : ℕ) (r : SourceRows) : Type 0 where

@@ -4,8 +4,8 @@ ghost use Rattle.std.specs.Prelude.{◌≡◌, ℕ, ◌^◌, ◌<◌};
 ghost use Rattle.std.specs.Int.{bit_at};
 ghost use Rattle.lw_planes.specs.Minterm.{minterm_bit};
 
-// A plane of a source with so many planes, and a minterm that makes of its bits what the given one makes of the bits of a plane, which
-// are 0 where the source lacks it.
+// A plane of a source with so many planes, and a minterm that makes of its bits what the given one makes of the bits of a plane,
+// which are 0 where the source lacks it.
 pub(crate) fn source_plane(depth: u32, plane: u32, minterm: u8) -> (u32, u8)
     requires { 0 < depth }
     ensures plane { result.0 < depth }

@@ -1,5 +1,5 @@
-// Moves of whole blocks within a layer: the targets are one block of drawable pixels, and their sources are one of kept pixels, with
-// their pens in the same buffer.
+// Moves of whole blocks within a layer: the targets are one block of drawable pixels, and their sources are one of kept pixels,
+// with their pens in the same buffer.
 
 ghost use Rattle.std.specs.Prelude.{◌≡◌, ◌==◌, ◌≤◌, ◌&&◌, pos, negsuc, ◌≤ℤ◌, IfSome};
 ghost use Rattle.std.specs.Int.{bit_at};

@@ -1,15 +1,15 @@
-// Painting a row of a layer from rows that were read, run by run and plane by plane.
+// Painting a row of a layer from rows that were read.
 
-ghost use Rattle.std.specs.Prelude.{◌≡◌, ℕ, ◌==◌, ◌+◌, ◌<◌, ◌≤◌, ◌&&◌};
+ghost use Rattle.std.specs.Prelude.{◌≡◌, ℕ, ◌==◌, ◌+◌, ◌<◌, ◌≤◌, ◌&&◌, nat_le, nat_lt};
+ghost use Rattle.std.specs.Int.{bit_at};
 ghost use Rattle.lw_planes.specs.Minterm.{minterm_bit};
 ghost use Rattle.lw_layer.specs.View.{draws};
-ghost use Rattle.lw_layer.specs.Runs.{IsRun};
+ghost use Rattle.lw_draw.specs.Blocks.{IsBlock, in_block};
 ghost use Rattle.lw_draw.specs.Drawn.{drawn};
-ghost use Rattle.lw_draw.specs.Stretches.{in_stretch};
-ghost use Rattle.lw_blit.specs.Blitting.{from_rows, masked, masked_run};
+ghost use Rattle.lw_blit.specs.Blitting.{from_rows, masked};
 
-use crate::sources::SourceRows;
-use lw_draw::{Origin, Places, Stretch, combine_run, has_bit, next_stretch};
+use crate::sources::{MOST, SourceRows};
+use lw_draw::{Block, Painter, Places, combine_block, has_bit, paint_rows};
 use lw_kernels::combine;
 use lw_layer::Layer;
 
@@ -27,67 +27,70 @@ pub(crate) fn paint_row(
     requires right { columns.end ≤ 2048 }
     ensures { layer.new ≡ drawn (masked mask layer.old y (y + 1) columns.from columns.end) (from_rows minterm rows.now columns.from) layer.old }
 {
-    // Reading this tells the proof that the layer has only pens of its depth.
-    let _ = layer.depth();
-    let mut x = columns.from;
-    while let Some(stretch) = next_stretch(layer, x, y, columns.end) {
-        paint_run(layer, stretch, rows, columns.from, mask, minterm);
-        x = stretch.x + stretch.run.len;
-    }
+    let one = Places {
+        from: y,
+        end: y + 1,
+    };
+    let blit = RowBlit {
+        rows,
+        y,
+        first: columns.from,
+        mask,
+        minterm,
+    };
+    paint_rows(layer, one, columns, &blit);
 }
 
-// The same of a run, with the sources from this column on.
-fn paint_run(
-    layer: &mut Layer,
-    stretch: Stretch,
-    rows: &SourceRows,
+// Paints a row with rows that were read, in the planes of a mask.
+#[derive(Clone, Copy)]
+struct RowBlit<'a> {
+    rows: &'a SourceRows,
+    y: u32,
+    // The column to which the first source goes.
     first: u32,
     mask: u8,
     minterm: u8,
-)
-    requires run { IsRun layer.old (λ i j. draws layer.old i j) stretch.x stretch.y stretch.run }
-    requires right { stretch.x + stretch.run.len ≤ 2048 }
-    requires starts { first ≤ stretch.x }
-    ensures { layer.new ≡ drawn (masked_run mask stretch) (from_rows minterm rows.now first) layer.old }
-{
-    for plane in 0..layer.depth() {
-        if has_bit(mask, plane) {
-            paint_plane(layer, plane, stretch, rows, first, minterm);
-        }
+}
+
+impl Painter for RowBlit<'_> {
+    ghost planes = { λ s p. bit_at s.mask p == 1 };
+
+    ghost reaches = { λ s i j. j == s.y && (nat_le s.first i && nat_lt i 2048) };
+
+    ghost bit = { λ s. from_rows s.minterm s.rows.now s.first };
+
+    fn has_plane(&self, plane: u32) -> bool {
+        has_bit(self.mask, plane)
+    }
+
+    fn paint_plane(&self, layer: &mut Layer, plane: u32, block: Block) {
+        blit_row(self.rows, layer, plane, block, self.first, self.minterm);
     }
 }
 
-// The same in one plane.
-fn paint_plane(
-    layer: &mut Layer,
-    plane: u32,
-    stretch: Stretch,
-    rows: &SourceRows,
-    first: u32,
-    minterm: u8,
-)
+// Blits one plane of a block of one row, with the sources from this column on.
+fn blit_row(rows: &SourceRows, layer: &mut Layer, plane: u32, block: Block, first: u32, minterm: u8)
     requires plane { plane < layer.old.layer.bits.depth }
-    requires run { IsRun layer.old (λ i j. draws layer.old i j) stretch.x stretch.y stretch.run }
-    requires right { stretch.x + stretch.run.len ≤ 2048 }
-    requires starts { first ≤ stretch.x }
-    ensures { layer.new ≡ drawn (λ p i j. p == plane && in_stretch stretch i j) (from_rows minterm rows.now first) layer.old }
+    requires block { IsBlock layer.old (λ i j. draws layer.old i j) block }
+    requires one { block.rows ≡ 1 }
+    requires starts { first ≤ block.x }
+    requires right { block.x + block.run.len ≤ 2048 }
+    ensures { layer.new ≡ drawn (λ p i j. p == plane && in_block block i j) (from_rows minterm rows.now first) layer.old }
 {
     // Reading this tells the proof that the layer has at most eight planes.
     let _ = layer.depth();
     let bits = &rows.bits[plane as usize];
-    let origin = Origin {
-        column: first,
-        bit: 0,
-    };
+    let bit = block.x - first;
     if rows.all {
-        combine_run(layer, plane, stretch, bits, origin, minterm);
+        combine_block(layer, plane, block, bits, MOST, bit, minterm);
     } else {
-        combine_run(layer, plane, stretch, bits, origin, where_set(minterm));
+        let set = where_set(minterm);
+        combine_block(layer, plane, block, bits, MOST, bit, set);
         // What is left are the pixels with a source that lack the bit.
         let mut unset = rows.kept;
-        let place = stretch.x - first;
-        combine(&mut unset, place, bits, place, stretch.run.len, 0x20);
-        combine_run(layer, plane, stretch, &unset, origin, where_clear(minterm));
+        combine(&mut unset, bit, bits, bit, block.run.len, 0x20);
+        let clear = where_clear(minterm);
+        combine_block(layer, plane, block, &unset, MOST, bit, clear);
     }
 }
 

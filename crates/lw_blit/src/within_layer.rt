@@ -1,6 +1,6 @@
 // Blits and shifts within a layer: the sources are its pixels before the call.
 
-ghost use Rattle.std.specs.Prelude.{◌≡◌, ◌==◌, ◌+◌, ◌<◌, ◌≤◌, ◌&&◌, pos, negsuc, ◌+ℤ◌, ◌≤ℤ◌, IsTrue};
+ghost use Rattle.std.specs.Prelude.{◌≡◌, ◌==◌, ◌≤◌, ◌&&◌, pos, negsuc, ◌+ℤ◌, ◌≤ℤ◌, IsTrue};
 ghost use Rattle.std.specs.Int.{bit_at};
 ghost use Rattle.lw_calls.specs.Limits.{area_fits};
 ghost use Rattle.lw_machine.specs.Blits.{clip_blit};
@@ -9,10 +9,9 @@ ghost use Rattle.lw_layer.specs.Copied.{kept_bit};
 ghost use Rattle.lw_draw.specs.Drawn.{drawn, in_rows};
 ghost use Rattle.lw_blit.specs.Blitting.{from_layer, masked, AreNear};
 
+use crate::bands::{bands_down, bands_up};
 use crate::moving::{move_of, move_planes};
-use crate::painting::paint_row;
 use crate::places::{columns_of, rows_of};
-use crate::sources::{SourceRows, no_sources, read_sources};
 use crate::transfers::{Transfer, transfer_of};
 use lw_calls::Area;
 use lw_draw::Places;
@@ -29,7 +28,9 @@ pub fn within(layer: &mut Layer, area: &Area)
     let columns = columns_of(area, layer.width(), layer.width());
     let rows = rows_of(area, layer.height(), layer.height());
     let mask = layer.raster().mask;
-    transfer_rows(layer, rows, columns, transfer_of(area), mask);
+    if columns.from < columns.end {
+        transfer_rows(layer, rows, columns, transfer_of(area), mask);
+    }
 }
 
 /// Gives the drawable pixels of some rows and columns of a layer, in the planes that the mask has, the bits of the layer's own
@@ -54,8 +55,8 @@ pub fn shift_rows(layer: &mut Layer, rows: Places, columns: Places, dx: i32, dy:
     transfer_rows(layer, rows, columns, transfer, mask);
 }
 
-// Transfers some rows: as a move of a whole block if that is what it is, else in an order in which no row is read after it was
-// written.
+// Transfers some rows: as a move of a whole block if that is what it is, else band by band, in an order in which no row is read
+// after it was written.
 fn transfer_rows(layer: &mut Layer, rows: Places, columns: Places, transfer: Transfer, mask: u8)
     requires bottom { rows.end ≤ 2048 }
     requires right { columns.end ≤ 2048 }
@@ -65,59 +66,8 @@ fn transfer_rows(layer: &mut Layer, rows: Places, columns: Places, transfer: Tra
     if let Some(blocks) = move_of(layer, rows, columns, transfer) {
         move_planes(layer, blocks, transfer, mask);
     } else if transfer.dy >= 0 {
-        rows_down(layer, rows, columns, transfer, mask);
+        bands_down(layer, rows, columns, transfer, mask);
     } else {
-        rows_up(layer, rows, columns, transfer, mask);
+        bands_up(layer, rows, columns, transfer, mask);
     }
-}
-
-// Transfers some rows from the top down: each source row lies no higher than where it goes, so that it wasn't written so far.
-fn rows_down(layer: &mut Layer, rows: Places, columns: Places, transfer: Transfer, mask: u8)
-    requires bottom { rows.end ≤ 2048 }
-    requires right { columns.end ≤ 2048 }
-    requires near { AreNear transfer }
-    requires order { pos 0 ≤ℤ transfer.dy }
-    ensures { layer.new ≡ drawn (masked mask layer.old rows.from rows.end columns.from columns.end) (from_layer layer.old transfer) layer.old }
-{
-    // Reading this tells the proof that the layer has only pens of its depth.
-    let _ = layer.depth();
-    let mut sources = no_sources();
-    for y in rows.from..rows.end {
-        transfer_row(layer, y, columns, transfer, mask, &mut sources);
-    }
-}
-
-// Transfers some rows from the bottom up: each source row lies no lower than where it goes.
-fn rows_up(layer: &mut Layer, rows: Places, columns: Places, transfer: Transfer, mask: u8)
-    requires bottom { rows.end ≤ 2048 }
-    requires right { columns.end ≤ 2048 }
-    requires near { AreNear transfer }
-    requires order { transfer.dy ≤ℤ pos 0 }
-    ensures { layer.new ≡ drawn (masked mask layer.old rows.from rows.end columns.from columns.end) (from_layer layer.old transfer) layer.old }
-{
-    // As above.
-    let _ = layer.depth();
-    let mut sources = no_sources();
-    for y in (rows.from..rows.end).rev() {
-        transfer_row(layer, y, columns, transfer, mask, &mut sources);
-    }
-}
-
-// Transfers a row, once all of its sources are read.
-fn transfer_row(
-    layer: &mut Layer,
-    y: u32,
-    columns: Places,
-    transfer: Transfer,
-    mask: u8,
-    sources: &mut SourceRows,
-)
-    requires row { y < 2048 }
-    requires right { columns.end ≤ 2048 }
-    requires near { AreNear transfer }
-    ensures { layer.new ≡ drawn (masked mask layer.old y (y + 1) columns.from columns.end) (from_layer layer.old transfer) layer.old }
-{
-    let planes = layer.depth();
-    read_sources(layer, planes, y, columns, transfer, mask, sources);
-    paint_row(layer, y, columns, sources, mask, transfer.minterm);
 }

@@ -1,5 +1,5 @@
 -- Laws of blocks: they go down from a run through rows that are alike, and stay while a layer is drawn on.
-use Rattle.std.proofs.Common.{◌≡◌, ℕ, ◌+◌, ◌-◌, ◌==◌, ◌<◌, ◌≤◌, Bool, true, false, ◌&&◌, ◌||◌, Some, None, ◌∙◌, sym, refl, ap, subst, arith, ℤ, pos, ◌+ℤ◌, ◌-ℤ◌, ◌≤ℤ◌}
+use Rattle.std.proofs.Common.{◌≡◌, ℕ, ◌+◌, ◌-◌, ◌==◌, ◌<◌, ◌≤◌, Bool, true, false, ◌&&◌, ◌||◌, Option, Some, None, IfSome, ◌∙◌, sym, refl, ap, subst, arith, ℤ, pos, ◌+ℤ◌, ◌-ℤ◌, ◌≤ℤ◌}
 use Rattle.std.proofs.lemmas.Bool.{and_parts}
 use Rattle.std.proofs.lemmas.Bool.Decides.{nat_tests}
 use Rattle.std.proofs.lemmas.Int.{ints}
@@ -16,9 +16,10 @@ use Rattle.lw_layer.specs.declared.run.Run.{Run}
 use Rattle.lw_layer.proofs.ViewLaws.{has_place}
 use Rattle.lw_layer.proofs.StateLaws.{pen_in_line}
 use Rattle.lw_draw.specs.Drawn.{drawn, in_rows}
-use Rattle.lw_draw.specs.Blocks.{IsBlock, AreBand, in_block}
+use Rattle.lw_draw.specs.Blocks.{IsBlock, IsWholeBlock, AreBand, IsRowBlock, in_block}
 use Rattle.lw_draw.specs.Stretches.{IsFirstStretch, IsNextStretch}
 use Rattle.lw_draw.specs.declared.blocks.Block.{Block}
+use Rattle.lw_draw.specs.declared.spans.Places.{Places}
 use Rattle.lw_draw.specs.declared.stretch.Stretch.{Stretch}
 use Rattle.lw_draw.proofs.DrawnLaws.{AreMore}
 use Rattle.lw_draw.proofs.PaintLaws.{run_stays, row_end}
@@ -104,6 +105,44 @@ band_of_one c y k low =
 pub block_of_one : (c : LiveView) (s : Stretch) → IsRun c (λ i j. draws c i j) s.x s.y s.run → IsBlock c (λ i j. draws c i j) (record { x = s.x; y = s.y; rows = 1; run = s.run })
 block_of_one c s run = drawable_block c (record { x = s.x; y = s.y; rows = 1; run = s.run }) (omega arith) run (band_of_one c s.y)
 
+-- a block that is known
+pub known_block : (c : LiveView) (o : Option Block) (b : Block) → o ≡ Some b → IfSome o (λ b. IsBlock c (λ i j. draws c i j) b) → IsBlock c (λ i j. draws c i j) b
+known_block c o b is has = let P : Option Block → Type 0 = λ q. IfSome q (λ b. IsBlock c (λ i j. draws c i j) b) in subst P is has
+
+-- some pixels of a run are one
+run_part : (c : LiveView) (test : ℕ → ℕ → Bool) (x y : ℕ) (r : Run) (right len : ℕ) → 0 < len → right + len ≤ r.len → IsRun c test x y r → IsRun c test (x + right) y (record r { bit = r.bit + right; len = len })
+run_part c test x y r right len some short run = record {
+  some = some;
+  there = run.there;
+  holds = λ u late before. run.holds u (omega arith) (omega arith);
+  inside = λ u late before. run.inside u (omega arith) (omega arith);
+  fits = omega (arith, run.fits);
+  bits = λ u late before. let at = run.bits u (omega arith) (omega arith) in omega (arith, at);
+}
+
+-- the pixels of a block of one row, all of them drawable
+row_named : (drawable : Bool) (y from end i j : ℕ) → from ≤ end → (from ≤ i → i < end → j ≡ y → drawable ≡ true) → (is_named y 1 j && is_named from (end - from) i) ≡ (is_between y (y + 1) j && (is_between from end i && drawable))
+row_named drawable y from end i j ordered holds = grind (arith, nat_tests)
+
+-- Some columns of a row of a block are a block.
+pub row_of_block : (c : LiveView) (known : Block) (y : ℕ) (columns : Places) → IsBlock c (λ i j. draws c i j) known → known.y ≤ y → y - known.y < known.rows → known.x ≤ columns.from → columns.from < columns.end → columns.end - known.x ≤ known.run.len → IsRowBlock c y columns (record { x = columns.from; y = y; rows = 1; run = record known.run { line = known.run.line + (y - known.y); bit = known.run.bit + (columns.from - known.x); len = columns.end - columns.from } })
+row_of_block c known y columns block first last left some right =
+    let down : ℕ = y - known.y in
+    let gap : ℕ = columns.from - known.x in
+    let len : ℕ = columns.end - columns.from in
+    let r : Run = record known.run { line = known.run.line + down; bit = known.run.bit + gap; len = len } in
+    let row : known.y + down ≡ y = omega arith in
+    let column : known.x + gap ≡ columns.from = omega arith in
+    let X : ℕ → Type 0 = λ x. IsRun c (λ i j. draws c i j) x y r in
+    let Y : ℕ → Type 0 = λ j. IsRun c (λ i j. draws c i j) (known.x + gap) j r in
+    let part : Y (known.y + down) = run_part c (λ i j. draws c i j) known.x (known.y + down) (record known.run { line = known.run.line + down }) gap len (omega arith) (omega arith) (block.runs down last) in
+    let run : X columns.from = subst X column (subst Y row part) in
+    let at : ℕ → ℕ → Bool = λ i j. draws c i j in
+    record {
+      block = block_of_one c (record { x = columns.from; y = y; run = r }) run;
+      all = λ i j. row_named (draws c i j) y columns.from columns.end i j (omega arith) (λ late before same. ap (at i) same ∙ run.holds i late (omega arith));
+    }
+
 -- the lines of a block are lines of its buffer
 pub block_lines : (c : LiveView) (test : ℕ → ℕ → Bool) (b : Block) → IsBlock c test b → HaveLines (layout_of c) b.run.buffer b.run.line b.rows
 block_lines c test b block =
@@ -119,6 +158,11 @@ block_stays v w on new b is block = record {
   runs = λ k low. run_stays v w on new b.x (b.y + k) (record b.run { line = b.run.line + k }) is (block.runs k low);
 }
 
+-- a block that is known stays one
+pub known_stays : (v w : LiveView) (on : ℕ → ℕ → ℕ → Bool) (new : ℕ → ℕ → ℕ → ℕ → ℕ) (rows columns : Places) (o : Option Block) → w ≡ drawn on new v → IfSome o (λ b. IsWholeBlock v (λ i j. draws v i j) rows columns b) → IfSome o (λ b. IsBlock w (λ i j. draws w i j) b)
+known_stays v w on new rows columns None is has = tt
+known_stays v w on new rows columns (Some b) is has = block_stays v w on new b is has.block
+
 -- rows that are alike stay so
 pub band_stays : (v w : LiveView) (on : ℕ → ℕ → ℕ → Bool) (new : ℕ → ℕ → ℕ → ℕ → ℕ) (y rows : ℕ) → w ≡ drawn on new v → AreBand v y rows → AreBand w y rows
 unfolding drawn keeps draws is_drawable is_kept
@@ -133,6 +177,21 @@ drawn_as_first c y rows i j band late low =
     let gap : ℕ = j - y in
     let row : y + gap ≡ j = omega arith in
     ap at (sym row) ∙ sym ((band gap (omega arith)).drawn i)
+
+-- a block from a band's first run on has pixels of the band
+inside_band : (drawable : Bool) (y rows from x end column len i j : ℕ) → from ≤ x → x ≤ column → column + len ≤ end → drawable ≡ true → (is_named y rows j && is_named column len i) ≡ true → (is_between y (y + rows) j && (is_between from end i && drawable)) ≡ true
+inside_band drawable y rows from x end column len i j first late ends holds on = grind (arith, nat_tests)
+
+pub block_in_band : (c : LiveView) (y rows from x end : ℕ) (s : Stretch) (i j : ℕ) → from ≤ x → AreBand c y rows → IsFirstStretch c x y end s → in_block (record { x = s.x; y = y; rows = rows; run = s.run }) i j ≡ true → in_rows c y (y + rows) from end i j ≡ true
+block_in_band c y rows from x end s i j first band is on =
+    let at : ℕ → ℕ → Bool = λ u v. draws c u v in
+    let reaches : x ≤ s.x = let e = is.column.reaches in omega (arith, ints) in
+    let left : s.x ≤ i = grind (arith, nat_tests) in
+    let right : i < s.x + s.run.len = grind (arith, nat_tests) in
+    let down : y ≤ j = grind (arith, nat_tests) in
+    let up : j < y + rows = grind (arith, nat_tests) in
+    inside_band (draws c i j) y rows from x end s.x s.run.len i j first reaches is.ends
+    (drawn_as_first c y rows i j band down up ∙ (ap (at i) (sym is.row) ∙ is.run.holds i left right)) on
 
 -- one block more of a band
 block_apart : (has : Bool) (i j y rows from x column len : ℕ) (drawable : Bool) → x ≤ column → ((has && (is_between y (y + rows) j && (is_between from x i && drawable))) && (has && (is_named y rows j && is_named column len i))) ≡ false

@@ -6,20 +6,16 @@ use Rattle.lw_planes.specs.Minterm.{minterm_bit}
 use Rattle.lw_region.specs.Rectangle.{width, height}
 use Rattle.lw_planes.specs.Bitmap.{IsBitmap, row_bytes}
 use Rattle.lw_planes.proofs.BitmapLaws.{row_bytes_wide}
-use Rattle.lw_planes.proofs.ChosenLaws.{minterm_bit_lt}
 use Rattle.lw_kernels.specs.Kernel.{is_named, place_in}
 use Rattle.lw_layer.specs.View.{LiveView, keeps, draws}
 use Rattle.lw_layer.specs.Pieces.{layout_of, buffer_rectangle, column_in, line_in, place_from, HaveLines, HaveLinesBits, with_bytes}
 use Rattle.lw_layer.proofs.StateLaws.{pen_in_line}
-use Rattle.lw_draw.specs.Drawn.{drawn, GivesBits}
+use Rattle.lw_draw.specs.Drawn.{drawn}
 use Rattle.lw_draw.specs.Blocks.{IsBlock, HaveOneShape, in_block, moved_bit}
 use Rattle.lw_draw.specs.declared.blocks.Block.{Block}
 use Rattle.lw_draw.proofs.BlockLaws.{block_lines}
 use Rattle.lw_draw.proofs.DrawnLaws.{bit_of_layer}
 use Rattle.lw_draw.proofs.WrittenLaws.{line_bytes, block_inside, block_written}
-
-pub moved_gives_bits : (m : ℕ) (c : LiveView) (to from : Block) → GivesBits (moved_bit m c to from)
-moved_gives_bits m c to from p x y old small = minterm_bit_lt m (bit_of_layer c p (from.x + (x - to.x)) (from.y + (y - to.y))) old
 
 -- blocks of one shape have lines of one length
 same_bytes : (c : LiveView) (to from : Block) → HaveOneShape to from → line_bytes c from ≡ line_bytes c to

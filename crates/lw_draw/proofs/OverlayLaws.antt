@@ -5,18 +5,14 @@ use Rattle.std.proofs.lemmas.Bool.Decides.{nat_tests}
 use Rattle.std.proofs.lemmas.List.{get_or-drop}
 use Rattle.lw_planes.specs.Row.{row_bit}
 use Rattle.lw_planes.specs.Minterm.{minterm_bit}
-use Rattle.lw_planes.proofs.ChosenLaws.{minterm_bit_lt}
 use Rattle.lw_kernels.specs.Kernel.{place_in}
 use Rattle.lw_layer.specs.View.{LiveView}
-use Rattle.lw_draw.specs.Drawn.{drawn, GivesBits}
+use Rattle.lw_draw.specs.Drawn.{drawn}
 use Rattle.lw_draw.specs.Blocks.{IsBlock, in_block, block_bit}
-use Rattle.lw_draw.specs.Combined.{is_over, over_bit, combined_over}
+use Rattle.lw_draw.specs.Combined.{is_over, combined_over}
 use Rattle.lw_draw.specs.declared.blocks.Block.{Block}
 use Rattle.lw_draw.specs.declared.overlay.Overlay.{Overlay}
 use Rattle.lw_draw.proofs.DrawnLaws.{drawn_alike}
-
-pub over_gives_bits : (m : ℕ) (bytes : List ℕ) (o : Overlay) → GivesBits (combined_over m bytes o)
-over_gives_bits m bytes o p x y old small = minterm_bit_lt m (over_bit bytes o x y) old
 
 -- the bits of rows of bytes without the first ones
 row_bit_drop : (n : ℕ) (bytes : List ℕ) (p : ℕ) → row_bit (drop n bytes) p ≡ row_bit bytes (8 * n + p)

@@ -2,13 +2,12 @@
 use Rattle.std.proofs.Common.{◌≡◌, ℕ, ◌+◌, ◌==◌, ◌<◌, ◌≤◌, ◌^◌, Bool, true, false, ◌&&◌, ◌||◌, nat_lt, if◌then◌else◌, ◌∙◌, None, sym, refl, ap, subst, arith, pos}
 use Rattle.std.specs.Int.{bit_at}
 use Rattle.std.proofs.lemmas.Bool.Decides.{nat_tests}
-use Rattle.std.proofs.lemmas.Int.{ints}
 use Rattle.std.proofs.lemmas.Nat.Bits.{bit_at-lt}
 use Rattle.lw_region.specs.Rectangle.{Rectangle, within, has_pixel}
 use Rattle.lw_planes.specs.Pen.{pen_of}
 use Rattle.lw_planes.specs.Bitmap.{IsBitmap, pen_at}
 use Rattle.lw_planes.proofs.PenLaws.{pen_of_same, pen_same}
-use Rattle.lw_kernels.specs.Kernel.{is_between, is_named}
+use Rattle.lw_kernels.specs.Kernel.{is_between}
 use Rattle.lw_machine.specs.Layer.{Raster}
 use Rattle.lw_machine.specs.Kept.{is_drawable, is_kept}
 use Rattle.lw_machine.specs.Paint.{through_mask, with_pens, draw_where, paint_where}
@@ -17,8 +16,9 @@ use Rattle.lw_layer.specs.View.{LiveView, shows, draws, with_layer}
 use Rattle.lw_layer.specs.Runs.{IsRun}
 use Rattle.lw_layer.specs.declared.run.Run.{Run}
 use Rattle.lw_layer.proofs.LineLaws.{repainted_same}
-use Rattle.lw_draw.specs.Drawn.{drawn, GivesBits, painted_bit, painted, in_mask, in_run, in_rows}
+use Rattle.lw_draw.specs.Drawn.{drawn, GivesBits, painted_bit, painted, in_mask, in_rows}
 use Rattle.lw_draw.specs.Stretches.{IsFirstStretch, IsNextStretch}
+use Rattle.lw_draw.specs.declared.spans.Places.{Places}
 use Rattle.lw_draw.specs.declared.stretch.Stretch.{Stretch}
 use Rattle.lw_draw.proofs.DrawnLaws.{AreMore, drawn_more, drawn_same, drawn_alike, drawn_nowhere}
 
@@ -115,34 +115,9 @@ next_plane c has k run masked = record {
 pub left_plane : (has : ℕ → Bool) (k : ℕ) (run : Bool) (p : ℕ) → has k ≡ false → (nat_lt p k && (has p && run)) ≡ (nat_lt p (k + 1) && (has p && run))
 left_plane has k run p left = let off : p ≡ k → has p ≡ false = λ e. ap has e ∙ left in let b : Bool = has p in grind (arith, nat_tests)
 
--- one run more of a row
-run_apart : (has : Bool) (i j y from x column len : ℕ) (drawable : Bool) → x ≤ column → ((has && (is_between y (y + 1) j && (is_between from x i && drawable))) && (has && (j == y && is_named column len i))) ≡ false
-run_apart has i j y from x column len drawable late = grind (arith, nat_tests)
-
-run_whole : (has : Bool) (i j y from x column len : ℕ) (drawable : Bool) → from ≤ x → x ≤ column → (x ≤ i → i < column → j ≡ y → drawable ≡ false) → (column ≤ i → i < column + len → j ≡ y → drawable ≡ true) → (has && (is_between y (y + 1) j && (is_between from (column + len) i && drawable))) ≡ ((has && (is_between y (y + 1) j && (is_between from x i && drawable))) || (has && (j == y && is_named column len i)))
-run_whole has i j y from x column len drawable first late before inside = grind (arith, nat_tests)
-
-pub next_run : (c : LiveView) (has : ℕ → Bool) (y from x end : ℕ) (s : Stretch) → from ≤ x → IsFirstStretch c x y end s → AreMore c (λ p i j. has p && in_rows c y (y + 1) from x i j) (λ p i j. has p && in_run s.x s.y s.run.len i j) (λ p i j. has p && in_rows c y (y + 1) from (s.x + s.run.len) i j)
-next_run c has y from x end s first is =
-    let P : ℕ → Type 0 = λ v. AreMore c (λ p i j. has p && in_rows c y (y + 1) from x i j) (λ p i j. has p && in_run s.x v s.run.len i j) (λ p i j. has p && in_rows c y (y + 1) from (s.x + s.run.len) i j) in
-    let at : ℕ → ℕ → Bool = λ i j. draws c i j in
-    let reaches : x ≤ s.x = let e = is.column.reaches in omega (arith, ints) in
-    subst P (sym is.row) (record {
-      apart = λ p i j _ _ _. run_apart (has p) i j y from x s.x s.run.len (draws c i j) reaches;
-      whole =
-          λ p i j _ _ _. run_whole (has p) i j y from x s.x s.run.len (draws c i j) first reaches
-          (λ late low e. ap (at i) e ∙ is.column.before (pos i) (omega (arith, ints)) (omega (arith, ints)))
-          (λ late low e. ap (at i) (e ∙ sym is.row) ∙ is.run.holds i late low);
-    })
-
 -- the end of a row
 pub row_end : (has row : Bool) (i from x end : ℕ) (drawable : Bool) → from ≤ x → x ≤ end → (x ≤ i → i < end → row ≡ true → drawable ≡ false) → (has && (row && (is_between from x i && drawable))) ≡ (has && (row && (is_between from end i && drawable)))
 row_end has row i from x end drawable first late none = grind (arith, nat_tests)
-
-pub row_done : (c : LiveView) (has : Bool) (y from x end i j : ℕ) → from ≤ x → x ≤ end → IsNextStretch c x y end None → (has && in_rows c y (y + 1) from x i j) ≡ (has && in_rows c y (y + 1) from end i j)
-row_done c has y from x end i j first late none =
-    let at : ℕ → ℕ → Bool = λ u v. draws c u v in
-    row_end has (is_between y (y + 1) j) i from x end (draws c i j) first late (λ on low same. let e : j ≡ y = grind (arith, nat_tests) in ap (at i) e ∙ none (pos i) (omega (arith, ints)) (omega (arith, ints)))
 
 -- some rows more
 rows_apart : (has inside : Bool) (j top y n : ℕ) → ((has && (is_between top y j && inside)) && (has && (is_between y (y + n) j && inside))) ≡ false
@@ -166,15 +141,40 @@ next_rows c has top y n from end low = next_rows_of c has (λ i j. is_between fr
 pub next_row : (c : LiveView) (has : ℕ → Bool) (top y from end : ℕ) → top ≤ y → AreMore c (λ p i j. has p && in_rows c top y from end i j) (λ p i j. has p && in_rows c y (y + 1) from end i j) (λ p i j. has p && in_rows c top (y + 1) from end i j)
 next_row c has top y from end low = next_rows c has top y 1 from end low
 
--- all rows are done where none is left before the end of the layer
-rows_end : (has : Bool) (top y bottom high j : ℕ) (inside : Bool) → y ≤ bottom → (j < bottom → j < high → j < y) → j < high → (has && (is_between top y j && inside)) ≡ (has && (is_between top bottom j && inside))
-rows_end has top y bottom high j inside upto all low = grind (arith, nat_tests)
+-- a pixel of some of the rows is one of all of them
+row_inside : (drawable : Bool) (top bottom y n from end i j : ℕ) → top ≤ y → y + n ≤ bottom → (is_between y (y + n) j && (is_between from end i && drawable)) ≡ true → ((is_between top bottom j ≡ true) × (is_between from end i ≡ true)) × (drawable ≡ true)
+row_inside drawable top bottom y n from end i j late low on = ((grind (arith, nat_tests), grind (arith, nat_tests)), grind (arith, nat_tests))
 
-pub rows_done : (v w : LiveView) (has : ℕ → Bool) (new : ℕ → ℕ → ℕ → ℕ → ℕ) (top y bottom from end : ℕ) → y ≤ bottom → ((j : ℕ) → j < bottom → j < v.layer.bits.height → j < y) → w ≡ drawn (λ p i j. has p && in_rows v top y from end i j) new v → w ≡ drawn (λ p i j. has p && in_rows v top bottom from end i j) new v
-rows_done v w has new top y bottom from end upto all is =
+before_end : (from end high k : ℕ) → end ≤ high → is_between from end k ≡ true → k < high
+before_end from end high k inside on = grind (arith, nat_tests)
+
+all_three : (row column drawable : Bool) → row ≡ true → column ≡ true → drawable ≡ true → (row && (column && drawable)) ≡ true
+all_three row column drawable r c d = cc (r, c, d)
+
+-- what is told of rows and columns that are cut where a layer ends
+pub record AreCut (c : LiveView) (rows columns high wide : Places) : Type 0 where
+  pub bottom : high.end ≤ c.layer.bits.height
+  pub right : wide.end ≤ c.layer.bits.width
+  pub down : (j : ℕ) → j < c.layer.bits.height → is_between high.from high.end j ≡ is_between rows.from rows.end j
+  pub across : (i : ℕ) → i < c.layer.bits.width → is_between wide.from wide.end i ≡ is_between columns.from columns.end i
+
+-- a pixel of a few rows of what was cut is one of what it was cut from
+pub cut_reached : (c : LiveView) (rows columns high wide : Places) (y n i j : ℕ) → AreCut c rows columns high wide → high.from ≤ y → y + n ≤ high.end → in_rows c y (y + n) wide.from wide.end i j ≡ true → in_rows c rows.from rows.end columns.from columns.end i j ≡ true
+cut_reached c rows columns high wide y n i j cut late low on =
+    let is = row_inside (draws c i j) high.from high.end y n wide.from wide.end i j late low on in
+    all_three (is_between rows.from rows.end j) (is_between columns.from columns.end i) (draws c i j)
+    (sym (cut.down j (before_end high.from high.end c.layer.bits.height j cut.bottom is.0.0)) ∙ is.0.0)
+    (sym (cut.across i (before_end wide.from wide.end c.layer.bits.width i cut.right is.0.1)) ∙ is.0.1)
+    is.1
+
+-- all rows and columns are painted once those are that the layer has
+pub cut_done : (v w : LiveView) (has : ℕ → Bool) (new : ℕ → ℕ → ℕ → ℕ → ℕ) (rows columns high wide : Places) → AreCut v rows columns high wide → w ≡ drawn (λ p i j. has p && in_rows v high.from high.end wide.from wide.end i j) new v → w ≡ drawn (λ p i j. has p && in_rows v rows.from rows.end columns.from columns.end i j) new v
+cut_done v w has new rows columns high wide cut is =
     is ∙
-    drawn_same v (λ p i j. has p && in_rows v top y from end i j) (λ p i j. has p && in_rows v top bottom from end i j) new
-    (λ p i j _ _ low. rows_end (has p) top y bottom v.layer.bits.height j (is_between from end i && draws v i j) upto (all j) low)
+    drawn_same v (λ p i j. has p && in_rows v high.from high.end wide.from wide.end i j) (λ p i j. has p && in_rows v rows.from rows.end columns.from columns.end i j) new
+    (λ p i j _ left low.
+    ap (λ t. has p && (t && (is_between wide.from wide.end i && draws v i j))) (cut.down j low) ∙
+    ap (λ t. has p && (is_between rows.from rows.end j && (t && draws v i j))) (cut.across i left))
 
 -- a plane's bit where the pixel is painted, and where it isn't
 painted_plane : (has : Bool) (a b : ℕ) → (if has && true then a else b) ≡ (if has then a else b)

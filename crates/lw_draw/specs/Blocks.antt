@@ -5,9 +5,10 @@ use Rattle.std.specs.Int.{bit_at}
 use Rattle.lw_planes.specs.Minterm.{minterm_bit}
 use Rattle.lw_planes.specs.Bitmap.{pen_at}
 use Rattle.lw_kernels.specs.Kernel.{is_named, place_in}
-use Rattle.lw_layer.specs.View.{LiveView}
+use Rattle.lw_layer.specs.View.{LiveView, draws}
 use Rattle.lw_layer.specs.Runs.{IsRun, AreAlike}
 use Rattle.lw_layer.specs.declared.run.Run.{Run}
+use Rattle.lw_draw.specs.Drawn.{in_rows}
 use Rattle.lw_draw.specs.declared.blocks.Block.{Block}
 use Rattle.lw_draw.specs.declared.spans.Places.{Places}
 
@@ -49,6 +50,11 @@ pub record IsCut (c : LiveView) (rows columns : Places) (r : Run) (b : Block) : 
   pub fits : b.run.len ≤ r.len
   pub run : b.run ≡ record r { len = b.run.len }
   pub band : AreBand c b.y b.rows
+
+-- for private contracts: some columns of a row as a block, all of them drawable
+pub record IsRowBlock (c : LiveView) (y : ℕ) (columns : Places) (b : Block) : Type 0 where
+  pub block : IsBlock c (λ i j. draws c i j) b
+  pub all : (i j : ℕ) → in_block b i j ≡ in_rows c y (y + 1) columns.from columns.end i j
 
 -- the blocks are of one size and in one buffer
 pub record HaveOneShape (a b : Block) : Type 0 where

@@ -3,12 +3,7 @@ use Rattle.std.specs.Prelude.{ℕ, ◌+◌, ◌-◌, ◌*◌, Bool, nat_le, nat_
 use Rattle.lw_planes.specs.Row.{row_bit}
 use Rattle.lw_planes.specs.Minterm.{minterm_bit}
 use Rattle.lw_kernels.specs.Kernel.{place_in}
-use Rattle.lw_draw.specs.declared.combining.Origin.{Origin}
 use Rattle.lw_draw.specs.declared.overlay.Overlay.{Overlay}
-
--- the minterm's value of the row's bit of a pixel, and of the pixel's own bit
-abbrev pub combined_bit : ℕ → List ℕ → Origin → ℕ → ℕ → ℕ → ℕ → ℕ
-combined_bit minterm bits o p x y old = minterm_bit minterm (row_bit bits (o.bit + (x - o.column))) old
 
 -- a bit of so many bytes lies over the pixel
 abbrev pub is_over : Overlay → ℕ → ℕ → ℕ → Bool

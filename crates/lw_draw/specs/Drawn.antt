@@ -3,7 +3,7 @@ use Rattle.std.specs.Prelude.{ℕ, ◌==◌, ◌<◌, Bool, true, ◌&&◌, if�
 use Rattle.std.specs.Int.{bit_at}
 use Rattle.lw_planes.specs.Pen.{pen_of}
 use Rattle.lw_planes.specs.Bitmap.{pen_at}
-use Rattle.lw_kernels.specs.Kernel.{is_between, is_named}
+use Rattle.lw_kernels.specs.Kernel.{is_between}
 use Rattle.lw_machine.specs.Layer.{Raster}
 use Rattle.lw_machine.specs.Paint.{candidate_bit}
 use Rattle.lw_layer.specs.View.{LiveView, draws, repainted}
@@ -17,10 +17,6 @@ drawn on new c =
 -- of a bit these make a bit
 abbrev pub GivesBits : (ℕ → ℕ → ℕ → ℕ → ℕ) → Type 0
 GivesBits new = (p x y old : ℕ) → old < 2 → new p x y old < 2
-
--- the pixel (i, j) is one of len pixels from (x, y) on to the right
-abbrev pub in_run : ℕ → ℕ → ℕ → ℕ → ℕ → Bool
-in_run x y len i j = j == y && is_named x len i
 
 -- the bit of a plane in the foreground
 abbrev pub painted_bit : Raster → ℕ → ℕ → ℕ → ℕ → ℕ

@@ -3,12 +3,7 @@ use Rattle.std.specs.Prelude.{◌≡◌, ℕ, ◌+◌, ◌≤◌, Bool, false, �
 use Rattle.lw_machine.specs.Kept.{holds_at}
 use Rattle.lw_layer.specs.View.{LiveView, keeps, draws}
 use Rattle.lw_layer.specs.Runs.{IsRun, IsFirst, IsNext}
-use Rattle.lw_draw.specs.Drawn.{in_run}
 use Rattle.lw_draw.specs.declared.stretch.Stretch.{Stretch}
-
--- the pixels of a run
-abbrev pub in_stretch : Stretch → ℕ → ℕ → Bool
-in_stretch s i j = in_run s.x s.y s.run.len i j
 
 -- a run from the first pixel in row y from column x on, before end, for which the test holds
 pub record IsFirstOf (c : LiveView) (test : ℕ → ℕ → Bool) (x y end : ℕ) (s : Stretch) : Type 0 where

@@ -10,8 +10,8 @@ ghost use Rattle.lw_draw.specs.Drawn.{in_mask, painted_bit};
 
 use crate::blocks::Block;
 use crate::painter::Painter;
-use lw_kernels::{fill_rows, flip_rows};
-use lw_layer::{Layer, Raster};
+use lw_kernels::{fill, fill_rows, flip, flip_rows};
+use lw_layer::{Layer, Raster, Run};
 
 // Paints in the foreground: gives pixels the raster state's pen A, or inverts them under COMPLEMENT, in the planes of its mask.
 #[derive(Clone, Copy)]
@@ -31,8 +31,6 @@ impl Painter for Filler {
     }
 
     fn paint_plane(&self, layer: &mut Layer, plane: u32, block: Block) {
-        // Reading this tells the proof that the layer has at most eight planes and only pens of its depth.
-        let _ = layer.depth();
         let run = block.run;
         let step = layer.step(run.buffer);
         let bytes = layer.lines_mut(plane, run.buffer, run.line, block.rows);
@@ -51,7 +49,9 @@ fn paint_lines(bytes: &mut [u8], step: usize, plane: u32, block: Block, raster: 
         else row_bit bytes.old (place_in step y x)) }
 {
     let run = block.run;
-    if has_bit(raster.mode, 1) {
+    if block.rows == 1 {
+        paint_line(bytes, plane, run, raster);
+    } else if has_bit(raster.mode, 1) {
         flip_rows(bytes, step, block.rows, run.bit, run.len);
     } else {
         fill_rows(
@@ -62,6 +62,21 @@ fn paint_lines(bytes: &mut [u8], step: usize, plane: u32, block: Block, raster: 
             run.len,
             has_bit(raster.a, plane),
         );
+    }
+}
+
+// The same of a run, in the first of the lines.
+fn paint_line(bytes: &mut [u8], plane: u32, run: Run, raster: Raster)
+    requires plane { plane < 8 }
+    requires inside { run.bit + run.len ≤ 8 * length bytes.old }
+    ensures { (x : ℕ) → row_bit bytes.new x ≡ (if is_named run.bit run.len x
+        then candidate_bit (raster_of raster) true plane (row_bit bytes.old x)
+        else row_bit bytes.old x) }
+{
+    if has_bit(raster.mode, 1) {
+        flip(bytes, run.bit, run.len);
+    } else {
+        fill(bytes, run.bit, run.len, has_bit(raster.a, plane));
     }
 }
 

@@ -1,4 +1,4 @@
-ghost use Rattle.std.specs.Prelude.{◌≡◌, ◌<◌};
+ghost use Rattle.std.specs.Prelude.{◌≡◌};
 ghost use Rattle.lw_machine.specs.Shapes.{rect_fill};
 ghost use Rattle.lw_layer.specs.View.{shows, with_layer};
 ghost use Rattle.lw_layer.specs.Drafts.{raster_of};
@@ -23,8 +23,6 @@ pub fn fill(layer: &mut Layer, rect: &Rect)
 /// Fills the drawable pixels of some rows and columns as `raster` says: with its pen A, or inverting them under COMPLEMENT, in
 /// the planes that its mask has. No memory is taken.
 pub fn fill_rows(layer: &mut Layer, rows: Places, columns: Places, raster: Raster)
-    requires bottom { rows.end < 65536 }
-    requires right { columns.end < 65536 }
     ensures { layer.new ≡ painted (raster_of raster)
         (λ i j. in_rows layer.old rows.from rows.end columns.from columns.end i j)
         layer.old }

@@ -1,5 +1,5 @@
-//! Drawing into a live layer, band by band, block by block and plane by plane (the manual's Graphics Primitives chapter). It stands on
-//! the layer's public calls and knows nothing of how a layer keeps its bits.
+//! Drawing into a live layer, band by band, block by block and plane by plane (the manual's Graphics Primitives chapter). It
+//! stands on the layer's public calls and knows no more of how a layer keeps its bits than the buffers and lines that it lends.
 #![tactic(auto)]
 
 mod blocks;
@@ -21,14 +21,14 @@ mod walks;
 mod whole;
 
 pub use blocks::{Block, band_at};
-pub use combining::{Origin, combine_block, combine_over, combine_run};
+pub use combining::{combine_block, combine_over};
 pub use filler::has_bit;
 pub use filling::{fill, fill_rows};
 pub use lines::line;
 pub use moving::move_block;
 pub use overlay::Overlay;
 pub use painter::Painter;
-pub use painting::{paint_band, paint_block, paint_rows};
+pub use painting::paint_rows;
 pub use pixels::{read_pixel, write_pixel};
 pub use rast::set_rast;
 pub use spans::{Places, edge, span};

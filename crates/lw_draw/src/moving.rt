@@ -9,8 +9,8 @@ use crate::blocks::Block;
 use lw_kernels::{Corner, combine_rows_within};
 use lw_layer::Layer;
 
-/// Gives the pixels of a block in one plane the minterm's values of those of another block of the same buffer and the same size, as
-/// they were before, which are B, and of their own, which are C. The blocks may overlap.
+/// Gives the pixels of a block in one plane the minterm's values of those of another block of the same buffer and the same size,
+/// as they were before, which are B, and of their own, which are C. The blocks may overlap.
 pub fn move_block(layer: &mut Layer, plane: u32, to: Block, source: Block, minterm: u8)
     requires plane { plane < layer.old.layer.bits.depth }
     requires to { IsBlock layer.old (λ i j. draws layer.old i j) to }
@@ -21,8 +21,6 @@ pub fn move_block(layer: &mut Layer, plane: u32, to: Block, source: Block, minte
         (moved_bit minterm layer.old to source)
         layer.old }
 {
-    // Reading these tells the proof that the layer has only pens of its depth, and that no buffer has many lines.
-    let _ = layer.depth();
     let step = layer.step(to.run.buffer);
     let first = to.run.line.min(source.run.line);
     let upto = to.run.line.max(source.run.line) + to.rows;

@@ -12,7 +12,7 @@ pub trait Painter {
     ghost planes: { Self → ℕ → Bool };
     // The pixels that it may be asked to paint.
     ghost reaches: { Self → ℕ → ℕ → Bool };
-    // What it makes of a bit, by the bit's plane, column and row.
+    // What it makes of a bit, by the bit's plane, column and row. Of a bit it has to make a bit.
     ghost bit: { Self → ℕ → ℕ → ℕ → ℕ → ℕ };
 
     /// Whether it paints a plane, 0 to 7.

@@ -27,6 +27,17 @@ pub fn span(least: i16, greatest: i16, extent: u32) -> Places
     }
 }
 
+// Of some places those before the extent.
+pub(crate) fn before(places: Places, extent: u32) -> Places
+    ensures inside { result.end ≤ extent }
+    ensures has { (u : ℕ) → u < extent → is_between result.from result.end u ≡ is_between places.from places.end u }
+{
+    Places {
+        from: places.from.min(extent),
+        end: places.end.min(extent),
+    }
+}
+
 /// A place, or the nearest one from 0 to the extent, which is at most 2048.
 pub fn edge(place: i32, extent: u32) -> u32
     requires { extent ≤ 2048 }

@@ -8,7 +8,8 @@ use crate::blocks::{Block, band_at};
 use crate::spans::Places;
 use lw_layer::{Layer, Run};
 
-/// All pixels of some rows and columns as one block of drawable pixels. Where there is one it may still be `None`.
+/// All pixels of some rows and columns as one block of drawable pixels. `None` promises nothing: there may be such a block all
+/// the same.
 pub fn whole_block(layer: &Layer, rows: Places, columns: Places) -> Option<Block>
     requires bottom { rows.end < 65536 }
     requires right { columns.end < 65536 }
@@ -20,7 +21,7 @@ pub fn whole_block(layer: &Layer, rows: Places, columns: Places) -> Option<Block
     cut_whole(layer, rows, columns, run)
 }
 
-/// The same of kept pixels.
+/// All pixels of some rows and columns as one block of kept pixels. `None` promises nothing here either.
 pub fn whole_kept_block(layer: &Layer, rows: Places, columns: Places) -> Option<Block>
     requires bottom { rows.end < 65536 }
     requires right { columns.end < 65536 }
@@ -32,8 +33,8 @@ pub fn whole_kept_block(layer: &Layer, rows: Places, columns: Places) -> Option<
     cut_whole(layer, rows, columns, run)
 }
 
-// A run from the first of these pixels on, cut to their columns and taken down through their rows, if it is that long and they are
-// alike.
+// A run from the first of these pixels on, cut to their columns and taken down through their rows, if it is that long and they
+// are alike.
 fn cut_whole(layer: &Layer, rows: Places, columns: Places, run: Run) -> Option<Block>
     ensures { IfSome result (λ b. IsCut layer.now rows columns run b) }
 {

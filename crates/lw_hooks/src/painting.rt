@@ -1,14 +1,12 @@
 // Painting blocks of a layer with a tile, plane by plane.
 
-ghost use Rattle.std.specs.Prelude.{◌≡◌, ℕ, ◌==◌, ◌+◌, ◌<◌, ◌≤◌, ◌&&◌, nat_lt, true};
+ghost use Rattle.std.specs.Prelude.{◌≡◌, ◌==◌, ◌+◌, ◌<◌, ◌≤◌, ◌&&◌, true};
 ghost use Rattle.lw_layer.specs.View.{draws};
-ghost use Rattle.lw_layer.specs.Runs.{IsRun};
 ghost use Rattle.lw_draw.specs.Blocks.{IsBlock, in_block};
 ghost use Rattle.lw_draw.specs.Drawn.{drawn};
-ghost use Rattle.lw_draw.specs.Stretches.{in_stretch};
 ghost use Rattle.lw_hooks.specs.Filling.{byte_bit, tile_bit};
 
-use lw_draw::{Block, Origin, Painter, Stretch, combine_run};
+use lw_draw::{Block, Painter, combine_block};
 use lw_kernels::COPY_MINTERM;
 use lw_layer::{Layer, Run};
 
@@ -24,7 +22,7 @@ pub(crate) struct Tile<'a> {
 impl<'a> Painter for Tile<'a> {
     ghost planes = { λ t p. true };
 
-    ghost reaches = { λ t i j. nat_lt i 2048 && nat_lt j 65536 };
+    ghost reaches = { λ t i j. true };
 
     ghost bit = { λ t. tile_bit t.rows.now };
 
@@ -33,44 +31,44 @@ impl<'a> Painter for Tile<'a> {
     }
 
     fn paint_plane(&self, layer: &mut Layer, plane: u32, block: Block) {
-        paint_block(layer, plane, block, self.rows);
+        tile_block(layer, plane, block, self.rows);
     }
 }
 
 // Gives the pixels of a block in one plane the bits of a tile, row by row.
-fn paint_block(layer: &mut Layer, plane: u32, block: Block, tile: &[[u8; 8]; 8])
+fn tile_block(layer: &mut Layer, plane: u32, block: Block, tile: &[[u8; 8]; 8])
     requires plane { plane < layer.old.layer.bits.depth }
     requires block { IsBlock layer.old (λ i j. draws layer.old i j) block }
-    requires reached { (i j : ℕ) → in_block block i j ≡ true → (nat_lt i 2048 && nat_lt j 65536) ≡ true }
     ensures { layer.new ≡ drawn (λ p i j. p == plane && in_block block i j) (tile_bit tile.now) layer.old }
 {
-    // Reading these tells the proof that the layer has at most eight planes and only pens of its depth, and that the buffer has at
-    // most 2048 lines.
+    // Reading these tells the proof that the layer has at most eight planes and 2048 columns and rows and only pens of its depth,
+    // and that the buffer has at most 2048 lines.
     let _ = layer.depth();
     let _ = layer.step(block.run.buffer);
     for row in 0..block.rows {
         let y = block.y + row;
         let line = block.run.line + row;
-        let stretch = Stretch {
+        let one = Block {
             x: block.x,
             y,
+            rows: 1,
             run: Run { line, ..block.run },
         };
-        paint_run(layer, plane, stretch, tile[y as usize % 8][plane as usize]);
+        tile_row(layer, plane, one, tile[y as usize % 8][plane as usize]);
     }
 }
 
-// Gives the pixels of a run in one plane the bits of a byte, over and over again.
-fn paint_run(layer: &mut Layer, plane: u32, stretch: Stretch, byte: u8)
+// Gives the pixels of a block of one row in one plane the bits of a byte, over and over again.
+fn tile_row(layer: &mut Layer, plane: u32, block: Block, byte: u8)
     requires plane { plane < layer.old.layer.bits.depth }
-    requires run { IsRun layer.old (λ i j. draws layer.old i j) stretch.x stretch.y stretch.run }
-    requires right { stretch.x + stretch.run.len ≤ 2048 }
+    requires block { IsBlock layer.old (λ i j. draws layer.old i j) block }
+    requires one { block.rows ≡ 1 }
+    requires right { block.x + block.run.len ≤ 2048 }
     ensures { layer.new ≡ drawn
-        (λ p i j. p == plane && in_stretch stretch i j)
+        (λ p i j. p == plane && in_block block i j)
         (λ p i j old. byte_bit byte i)
         layer.old }
 {
     let bits = [byte; MOST];
-    let origin = Origin { column: 0, bit: 0 };
-    combine_run(layer, plane, stretch, &bits, origin, COPY_MINTERM);
+    combine_block(layer, plane, block, &bits, MOST, block.x, COPY_MINTERM);
 }

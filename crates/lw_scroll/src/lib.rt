@@ -1,5 +1,5 @@
-//! Scrolling a rectangle of a layer within the layer (the manual's Graphics Primitives chapter: ScrollRaster). The damage moves with
-//! the pens.
+//! Scrolling a rectangle of a layer within the layer (the manual's Graphics Primitives chapter: ScrollRaster). The damage moves
+//! with the pens.
 #![tactic(auto)]
 
 mod block;

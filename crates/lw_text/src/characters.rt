@@ -1,4 +1,4 @@
-ghost use Rattle.std.specs.Prelude.{◌≡◌, ℕ, ◌+◌, ◌*◌, ◌<◌, ◌≤◌, not, ◌&&◌, true, if◌then◌else◌, length, ℤ, pos, ◌+ℤ◌, ◌-ℤ◌, ◌≤ℤ◌, int_le, unsigned_abs};
+ghost use Rattle.std.specs.Prelude.{◌≡◌, ℕ, ◌+◌, ◌*◌, ◌<◌, ◌≤◌, not, ◌&&◌, true, if◌then◌else◌, length, ℤ, pos, ◌+ℤ◌, ◌-ℤ◌, ◌≤ℤ◌, int_le};
 ghost use Rattle.lw_kernels.specs.Kernel.{is_between};
 ghost use Rattle.lw_machine.specs.Shapes.{draw_text};
 ghost use Rattle.lw_layer.specs.View.{shows, with_layer};
@@ -7,14 +7,18 @@ ghost use Rattle.lw_draw.specs.Drawn.{in_rows};
 ghost use Rattle.lw_text.specs.Letters.{text_before};
 ghost use Rattle.lw_text.specs.Templates.{stamped, text_has};
 
-use crate::glyphs::glyph_row;
-use crate::template::template_row;
+use crate::glyphs::{align_rows, glyph_rows};
+use crate::template::Template;
 use lw_calls::{Assets, Text};
-use lw_draw::{Origin, Places, edge};
+use lw_draw::{Overlay, Places, edge, paint_rows};
+use lw_kernels::Corner;
 use lw_layer::{Layer, Raster};
 
-// As many bytes as a row of a layer can show characters of, one of them in part at each end: a layer is at most 2048 columns wide.
-const MOST: usize = 257;
+// As many bytes as a row of a layer can show characters of, one of them in part at each end: a layer has at most 2048 columns.
+pub(crate) const MOST: usize = 257;
+
+// The eight rows of characters' cells, so many bytes apart.
+const BYTES: usize = 8 * MOST;
 
 // From column -32768 on so many characters reach past each column of a layer.
 const REACH: usize = 8191;
@@ -92,7 +96,8 @@ fn places(from: i32, end: i32, extent: u32) -> Places
     }
 }
 
-// Paints some rows of the characters.
+// Paints some rows and columns of the characters. Their glyphs are put side by side from the first one on that reaches these
+// columns, and painted as a template.
 fn letter_rows(
     layer: &mut Layer,
     rows: Places,
@@ -111,53 +116,38 @@ fn letter_rows(
         (λ i j. in_rows layer.old rows.from rows.end columns.from columns.end i j)
         layer.old }
 {
-    // Reading this tells the proof that the layer has only pens of its depth.
-    let _ = layer.depth();
-    for y in rows.from..rows.end {
-        letter_row(layer, y, columns, glyphs, text, raster);
-    }
-}
-
-// Paints one row of the characters: their glyphs' rows side by side, from the first on that reaches these columns.
-fn letter_row(
-    layer: &mut Layer,
-    y: u32,
-    columns: Places,
-    glyphs: &[[u8; 8]; 95],
-    text: &[u8],
-    raster: Raster,
-)
-    requires row { y < 65536 }
-    requires right { columns.end ≤ 2048 }
-    requires starts { columns.from < columns.end → raster.x ≤ℤ pos columns.from }
-    requires upper { raster.y ≤ℤ pos (y + 6) }
-    requires lower { pos y ≤ℤ (raster.y +ℤ pos 1) }
-    ensures { layer.new ≡ stamped (raster_of raster)
-        (text_has glyphs.now text.now (raster_of raster))
-        (λ i j. in_rows layer.old y (y + 1) columns.from columns.end i j)
-        layer.old }
-{
-    let mut bytes = [0; MOST];
-    let row = row_in_cells(y, raster.y);
     let before = columns_before(columns.from, raster.x);
-    let origin = Origin {
-        column: columns.from,
+    let wide = columns.end - columns.from;
+    let count = (before % 8 + wide).div_ceil(8) as usize;
+    let mut bits = [0; BYTES];
+    glyph_rows(&mut bits, glyphs, text, (before / 8) as usize, count);
+    let source = Corner {
+        row: row_in_cells(rows.from, raster.y),
         bit: before % 8,
     };
-    let count = (origin.bit + (columns.end - columns.from)).div_ceil(8) as usize;
-    glyph_row(&mut bytes, count, glyphs, text, (before / 8) as usize, row);
-    template_row(layer, y, columns, &bytes, origin, raster);
+    let bit = columns.from % 8;
+    align_rows(&mut bits, source, bit, rows.end - rows.from, wide);
+    let overlay = Overlay {
+        step: MOST,
+        bit,
+        column: columns.from,
+        row: rows.from,
+    };
+    let template = Template {
+        bits: &bits,
+        overlay,
+        raster,
+    };
+    paint_rows(layer, rows, columns, &template);
 }
 
-// Which row of the characters' cells a row of the layer is, with the cursor in this row.
-fn row_in_cells(y: u32, cursor: i16) -> usize
-    requires row { y < 65536 }
-    requires upper { cursor ≤ℤ pos (y + 6) }
-    requires lower { pos y ≤ℤ (cursor +ℤ pos 1) }
+// Which row of the characters' cells, 0 to 7, a row of the layer is, with the cursor in this row.
+fn row_in_cells(y: u32, cursor: i16) -> u32
+    requires { y < 65536 }
     ensures inside { result < 8 }
-    ensures value { unsigned_abs (pos y -ℤ (cursor -ℤ pos 6)) ≡ result }
+    ensures value { cursor ≤ℤ pos (y + 6) → pos y ≤ℤ (cursor +ℤ pos 1) → pos y -ℤ (cursor -ℤ pos 6) ≡ pos result }
 {
-    (y as i32 + 6 - i32::from(cursor)) as usize
+    (y as i32 + 6 - i32::from(cursor)).clamp(0, 7) as u32
 }
 
 // How many columns of the characters' cells are left of a column, with the cursor in this column.

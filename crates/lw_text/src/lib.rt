@@ -1,5 +1,5 @@
-//! Text in a layer (the manual's chapter Graphics Library and Text): glyph by glyph into a row of bits, which is then
-//! painted as a template, run by run and plane by plane.
+//! Text in a layer (the manual's chapter Graphics Library and Text): glyph by glyph into rows of bits, which are then
+//! painted as a template, block by block and plane by plane.
 #![tactic(auto)]
 
 mod characters;

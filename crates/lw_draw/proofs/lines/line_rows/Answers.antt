@@ -10,6 +10,7 @@ use Rattle.lw_draw.specs.Drawn.{in_mask, painted, painted_bit}
 use Rattle.lw_draw.specs.LineSpans.{on_line_rows}
 use Rattle.lw_draw.specs.Walks.{IsWalk}
 use Rattle.lw_draw.specs.declared.row_spans.Line.{Line}
+use Rattle.lw_draw.proofs.BlockLaws.{known_stays}
 use Rattle.lw_draw.proofs.PaintLaws.{layer_nowhere, layer_same, layer_more, draws_stays, paints_bits, next_rows_of, no_row}
 use Rattle.lw_draw.proofs.lines.line_rows.Goals as goal
 
@@ -31,16 +32,20 @@ pub returns-then-rows : goal.returns-then-rows
 returns-then-rows c =
     let v = c.args.layer.now in
     let top = c.args.rows.from in
-    none_drawn v c.args.line (raster_of c.args.raster) top c.depth.ensures.bits.bitmap ∙
+    none_drawn v c.args.line (raster_of c.args.raster) top c.width.ensures.bits.bitmap ∙
     ap (λ k. painted (raster_of c.args.raster) (λ i j. on_line_rows v c.args.line top k i j) v) c.if-rows.true
 
 pub loop-y-init : goal.loop-y-init
 loop-y-init c =
     let row : to_z w32 c.args.rows.from ≡ pos c.args.rows.from = omega (arith, ints) in
     record {
-      drawn = none_drawn c.args.layer.now c.args.line (raster_of c.args.raster) c.args.rows.from c.depth.ensures.bits.bitmap;
+      drawn = none_drawn c.args.layer.now c.args.line (raster_of c.args.raster) c.args.rows.from c.width.ensures.bits.bitmap;
       walk = λ some. subst (λ z. IsWalk c.args.line z c.walk_at-walk.result) row c.walk_at-walk.ensures;
     }
+
+pub line_row-requires-clause-known : goal.line_row-requires-clause-known
+line_row-requires-clause-known c =
+    known_stays c.args.layer.now c.loop-y.layer (so_far (raster_of c.args.raster) c.args.layer.now c.args.line c.args.rows.from c.loop-y.y) (painted_bit (raster_of c.args.raster)) c.args.rows c.span-columns.result c.whole_block-whole.result c.loop-y.invariant.drawn c.whole_block-whole.ensures
 
 pub line_row-requires-clause-walk : goal.line_row-requires-clause-walk
 line_row-requires-clause-walk c = c.loop-y.invariant.walk (omega arith)

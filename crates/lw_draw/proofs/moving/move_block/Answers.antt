@@ -28,5 +28,5 @@ returns c =
     let top = c.min-first.result in
     let upto = c.max.result + to.rows in
     let moved = are_moved v to from top upto c.requires.to c.requires.source c.requires.shape c.min-first.ensures (ap (λ n. n + to.rows) c.max.ensures) in
-    block_moved v c.args.plane c.args.minterm top (upto - top) c.step-step.result (to.run.line - top) (from.run.line - top) to from c.lines_mut-bytes.result.now c.combine_rows_within.new.bytes c.depth.ensures.bits.bitmap c.step-step.ensures.value (c.combine_rows_within.auto.bytes ∙ c.lines_mut-bytes.ensures.long) moved.there c.lines_mut-bytes.ensures.bits c.requires.to c.requires.source c.requires.shape
+    block_moved v c.args.plane c.args.minterm top (upto - top) c.step-step.result (to.run.line - top) (from.run.line - top) to from c.lines_mut-bytes.result.now c.combine_rows_within.new.bytes c.lines_mut-bytes.ensures.planes.bitmap c.step-step.ensures.value (c.combine_rows_within.auto.bytes ∙ c.lines_mut-bytes.ensures.long) moved.there c.lines_mut-bytes.ensures.bits c.requires.to c.requires.source c.requires.shape
     (omega (arith, c.min-first.ensures)) (omega (arith, c.min-first.ensures, c.max.ensures)) (omega (arith, c.min-first.ensures)) (omega (arith, c.min-first.ensures, c.max.ensures)) c.combine_rows_within.ensures

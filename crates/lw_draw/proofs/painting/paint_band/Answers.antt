@@ -6,7 +6,7 @@ use Rattle.lw_layer.specs.Runs.{IsRun}
 use Rattle.lw_draw.specs.Blocks.{in_block}
 use Rattle.lw_draw.specs.Drawn.{in_rows}
 use Rattle.lw_draw.specs.declared.blocks.Block.{Block}
-use Rattle.lw_draw.proofs.BlockLaws.{drawable_block, band_stays, next_block, band_done}
+use Rattle.lw_draw.proofs.BlockLaws.{drawable_block, band_stays, next_block, block_in_band, band_done}
 use Rattle.lw_draw.proofs.PaintLaws.{layer_nowhere, layer_same, layer_more, first_stays, none_stays, no_column}
 use Rattle.lw_draw.proofs.painting.paint_band.Goals as goal
 
@@ -37,6 +37,16 @@ paint_block-requires-clause-block g c =
     let on = so_far (g.P.Painter.planes c.args.painter.now) v y rows c.args.columns.from c.loop-stretch.x in
     let P : ℕ → Type 0 = λ j. IsRun w (λ i k. draws w i k) s.x j s.run in
     drawable_block w (record { x = s.x; y = y; rows = rows; run = s.run }) c.requires.some (subst P c.in-Some.ensures.row c.in-Some.ensures.run) (band_stays v w on (g.P.Painter.bit c.args.painter.now) y rows c.loop-stretch.invariant.painted c.requires.band)
+
+pub paint_block-requires-clause-reached : goal.paint_block-requires-clause-reached
+paint_block-requires-clause-reached g c i j on =
+    let v = c.args.layer.now in
+    let w = c.loop-stretch.layer in
+    let x = c.loop-stretch.x in
+    let s = c.in-Some.stretch in
+    let done = c.loop-stretch.invariant in
+    let next = first_stays v w (so_far (g.P.Painter.planes c.args.painter.now) v c.args.y c.args.rows c.args.columns.from x) (g.P.Painter.bit c.args.painter.now) x c.args.y c.args.columns.end s done.painted c.in-Some.ensures in
+    c.requires.reached i j (block_in_band v c.args.y c.args.rows c.args.columns.from x c.args.columns.end s i j done.first c.requires.band next on)
 
 pub loop-stretch-preserved : goal.loop-stretch-preserved
 loop-stretch-preserved g c =

@@ -1,8 +1,8 @@
-use Rattle.std.proofs.Common.{ℕ, ◌+◌, ◌&&◌, Bool, ap, arith}
+use Rattle.std.proofs.Common.{◌≡◌, ℕ, ◌+◌, ◌&&◌, Bool, ◌∙◌, sym, ap, subst, arith}
 use Rattle.lw_kernels.specs.Kernel.{is_between}
 use Rattle.lw_layer.specs.View.{LiveView, draws}
-use Rattle.lw_draw.specs.Drawn.{in_rows}
-use Rattle.lw_draw.proofs.PaintLaws.{layer_nowhere, layer_same, layer_more, draws_stays, height_stays, next_rows, no_row, rows_done}
+use Rattle.lw_draw.specs.Drawn.{drawn, in_rows}
+use Rattle.lw_draw.proofs.PaintLaws.{layer_nowhere, layer_same, layer_more, draws_stays, height_stays, next_rows, no_row, cut_reached, cut_done}
 use Rattle.lw_draw.proofs.painting.paint_rows.Goals as goal
 
 -- what is painted of some rows before a row
@@ -12,28 +12,49 @@ so_far planes c from end top y p i j = planes p && in_rows c top y from end i j
 pub loop-y-init : goal.loop-y-init
 loop-y-init g c =
     let v = c.args.layer.now in
-    let top = c.args.rows.from in
-    let from = c.args.columns.from in
-    let end = c.args.columns.end in
+    let top = c.before-rows.result.from in
+    let from = c.before-columns.result.from in
+    let end = c.before-columns.result.end in
     let planes = g.P.Painter.planes c.args.painter.now in
     record {
       first = omega arith;
-      last = c.args.rows.ordered;
+      last = c.before-rows.result.ordered;
       painted = layer_nowhere v (so_far planes v from end top top) (g.P.Painter.bit c.args.painter.now) c.height.ensures.bits.bitmap (λ p i j. no_row (planes p) top j (is_between from end i && draws v i j));
     }
 
 pub band_at-count-requires-clause-inside : goal.band_at-count-requires-clause-inside
 band_at-count-requires-clause-inside g c =
-    let same = height_stays c.args.layer.now c.loop-y.layer (so_far (g.P.Painter.planes c.args.painter.now) c.args.layer.now c.args.columns.from c.args.columns.end c.args.rows.from c.loop-y.y) (g.P.Painter.bit c.args.painter.now) c.loop-y.invariant.painted in
-    omega (arith, same, c.height.ensures.value)
+    let same = height_stays c.args.layer.now c.loop-y.layer (so_far (g.P.Painter.planes c.args.painter.now) c.args.layer.now c.before-columns.result.from c.before-columns.result.end c.before-rows.result.from c.loop-y.y) (g.P.Painter.bit c.args.painter.now) c.loop-y.invariant.painted in
+    omega (arith, same, c.height.ensures.value, c.before-rows.ensures.inside)
+
+pub paint_band-requires-clause-reached : goal.paint_band-requires-clause-reached
+paint_band-requires-clause-reached g c i j on =
+    let v = c.args.layer.now in
+    let w = c.loop-y.layer in
+    let rows = c.before-rows.result in
+    let columns = c.before-columns.result in
+    let y = c.loop-y.y in
+    let n = c.band_at-count.result in
+    let done = c.loop-y.invariant in
+    let still = draws_stays v w (so_far (g.P.Painter.planes c.args.painter.now) v columns.from columns.end rows.from y) (g.P.Painter.bit c.args.painter.now) i j done.painted in
+    c.requires.reached i j
+    (cut_reached v c.args.rows c.args.columns rows columns y n i j
+    (record {
+      bottom = omega (arith, c.before-rows.ensures.inside, c.height.ensures.value);
+      right = omega (arith, c.before-columns.ensures.inside, c.width.ensures.value);
+      down = λ k low. c.before-rows.ensures.has k (omega (arith, low, c.height.ensures.value));
+      across = λ k low. c.before-columns.ensures.has k (omega (arith, low, c.width.ensures.value));
+    })
+    done.first (omega (arith, c.band_at-count.ensures.ends))
+    (ap (λ t. is_between y (y + n) j && (is_between columns.from columns.end i && t)) (sym still) ∙ on))
 
 pub loop-y-preserved : goal.loop-y-preserved
 loop-y-preserved g c =
     let v = c.args.layer.now in
     let w = c.loop-y.layer in
-    let top = c.args.rows.from in
-    let from = c.args.columns.from in
-    let end = c.args.columns.end in
+    let top = c.before-rows.result.from in
+    let from = c.before-columns.result.from in
+    let end = c.before-columns.result.end in
     let y = c.loop-y.y in
     let n = c.band_at-count.result in
     let planes = g.P.Painter.planes c.args.painter.now in
@@ -51,7 +72,19 @@ loop-y-preserved g c =
 
 pub returns : goal.returns
 returns g c =
-    let rows = c.args.rows in
-    let columns = c.args.columns in
+    let v = c.args.layer.now in
+    let rows = c.before-rows.result in
+    let columns = c.before-columns.result in
     let done = c.loop-y.invariant in
-    rows_done c.args.layer.now c.loop-y.layer (g.P.Painter.planes c.args.painter.now) (g.P.Painter.bit c.args.painter.now) rows.from c.loop-y.y rows.end columns.from columns.end done.last (λ j before inside. omega (arith, before, inside, c.height.ensures.value)) done.painted
+    let planes = g.P.Painter.planes c.args.painter.now in
+    let new = g.P.Painter.bit c.args.painter.now in
+    let all : c.loop-y.y ≡ rows.end = omega (arith, done.last) in
+    let P : ℕ → Type 0 = λ k. c.loop-y.layer ≡ drawn (so_far planes v columns.from columns.end rows.from k) new v in
+    cut_done v c.loop-y.layer planes new c.args.rows c.args.columns rows columns
+    (record {
+      bottom = omega (arith, c.before-rows.ensures.inside, c.height.ensures.value);
+      right = omega (arith, c.before-columns.ensures.inside, c.width.ensures.value);
+      down = λ k low. c.before-rows.ensures.has k (omega (arith, low, c.height.ensures.value));
+      across = λ k low. c.before-columns.ensures.has k (omega (arith, low, c.width.ensures.value));
+    })
+    (subst P all done.painted)

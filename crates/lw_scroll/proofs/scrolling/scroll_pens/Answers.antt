@@ -71,14 +71,14 @@ returns c =
     }) first second
     in
     let third =
-    filled_as v c.fill_rows.new.layer c.fill_rows-2.new.layer both new solid target.rows.from target.rows.end columns.from
-    columns.end so_far c.fill_rows-2.ensures
+    filled_as v c.fill_rows.new.layer c.fill_beside.new.layer both new solid target.rows.from target.rows.end columns.from
+    columns.end so_far c.fill_beside.ensures
     (λ p i j old on. pen_b p i j old
     ∙ bit_outside v rect dx dy p i j old
     (column_beside v rect block target columns dx dy has are c.beside-columns.ensures.has (in_mask raster p)
     (draws v i j) i j on))
     in
-    layer_more v c.fill_rows.new.layer c.fill_rows-2.new.layer both columns_on (masked raster v block.rows block.columns) new
+    layer_more v c.fill_rows.new.layer c.fill_beside.new.layer both columns_on (masked raster v block.rows block.columns) new
     (brought_bits v rect dx dy)
     (record {
       apart = λ p i j _ _ _. last_apart (in_mask raster p) (draws v i j) (is_between block.rows.from block.rows.end j)

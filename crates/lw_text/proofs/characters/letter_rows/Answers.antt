@@ -1,46 +1,40 @@
-use Rattle.std.proofs.Common.{◌≡◌, ℕ, ◌+◌, ◌≤◌, ◌&&◌, Bool, ◌∙◌, ap, arith}
-use Rattle.lw_kernels.specs.Kernel.{is_between}
-use Rattle.lw_layer.specs.View.{LiveView, draws}
+use Rattle.std.proofs.Common.{◌≡◌, ◌%◌, ℤ, pos, ◌-ℤ◌, ◌≤ℤ◌, to_z, of_z, w16, subst, arith, rules}
 use Rattle.lw_layer.specs.Drafts.{raster_of}
-use Rattle.lw_machine.specs.Layer.{Raster}
-use Rattle.lw_draw.specs.Drawn.{in_mask, in_rows}
-use Rattle.lw_draw.proofs.PaintLaws.{layer_nowhere, layer_same, layer_more, draws_stays, next_row, no_row}
-use Rattle.lw_text.specs.Templates.{stamped, stamped_bit, text_has}
+use Rattle.lw_layer.specs.View.{draws}
 use Rattle.lw_text.proofs.TemplateLaws.{stamps_bits}
+use Rattle.lw_text.proofs.TextLaws.{rows_low, rows_over, cells_of, rows_are_text}
 use Rattle.lw_text.proofs.characters.letter_rows.Goals as goal
 
--- what is painted of some rows before a row
-abbrev so_far : Raster → LiveView → ℕ → ℕ → ℕ → ℕ → ℕ → ℕ → ℕ → Bool
-so_far raster c from end top y p i j = in_mask raster p && in_rows c top y from end i j
+pub align_rows-requires-clause-low : goal.align_rows-requires-clause-low
+align_rows-requires-clause-low c =
+    let r = c.args.raster in
+    rows_low r.y c.args.rows.from c.args.rows.end c.row_in_cells.result (cells_of _ r.y c.args.rows.from c.args.rows.end _ (search rules) c.requires.upper c.requires.lower c.row_in_cells.ensures.value) c.row_in_cells.ensures.inside
 
-pub loop-y-init : goal.loop-y-init
-loop-y-init c =
-    let v = c.args.layer.now in
-    let top = c.args.rows.from in
-    let from = c.args.columns.from in
-    let end = c.args.columns.end in
-    layer_nowhere v (so_far (raster_of c.args.raster) v from end top top) (stamped_bit (raster_of c.args.raster) (text_has c.args.glyphs.now c.args.text.now (raster_of c.args.raster))) c.depth.ensures.bits.bitmap
-    (λ p i j. no_row (in_mask (raster_of c.args.raster) p) top j (is_between from end i && draws v i j))
+pub paint_rows-requires-clause-bits : goal.paint_rows-requires-clause-bits
+paint_rows-requires-clause-bits c = stamps_bits (raster_of c.args.raster) _
 
-pub loop-y-preserved : goal.loop-y-preserved
-loop-y-preserved c =
-    let v = c.args.layer.now in
-    let w = c.loop-y.layer in
-    let top = c.args.rows.from in
-    let from = c.args.columns.from in
-    let end = c.args.columns.end in
-    let y = c.loop-y.y in
-    let raster = raster_of c.args.raster in
-    let has = text_has c.args.glyphs.now c.args.text.now raster in
-    let new = stamped_bit raster has in
-    let low : top ≤ y = omega arith in
-    let row : LiveView → ℕ → ℕ → ℕ → Bool = λ q p i j. in_mask raster p && in_rows q y (y + 1) from end i j in
-    layer_more v w c.letter_row.new.layer (so_far raster v from end top y) (row v) (so_far raster v from end top (y + 1)) new (stamps_bits raster has) (next_row v (in_mask raster) top y from end low) c.loop-y.invariant
-    (layer_same w c.letter_row.new.layer (row w) (row v) new c.letter_row.ensures
-    (λ p i j _. ap (λ t. in_mask raster p && (is_between y (y + 1) j && (is_between from end i && t))) (draws_stays v w (so_far raster v from end top y) new i j c.loop-y.invariant)))
+pub paint_rows-requires-clause-reached : goal.paint_rows-requires-clause-reached
+paint_rows-requires-clause-reached c i j on =
+    let r = c.args.raster in
+    let rows = c.args.rows in
+    let columns = c.args.columns in
+    rows_over r.y (draws c.args.layer.now i j) rows.from rows.end columns.from columns.end (columns.from % 8) c.row_in_cells.result _ i j
+    (cells_of _ r.y rows.from rows.end _ (search rules) c.requires.upper c.requires.lower c.row_in_cells.ensures.value) (omega arith) c.requires.right (search rules) on
 
 pub returns : goal.returns
 returns c =
-    let bottom : c.loop-y.y ≡ c.args.rows.end = omega arith in
-    c.loop-y.invariant ∙
-    ap (λ k. stamped (raster_of c.args.raster) (text_has c.args.glyphs.now c.args.text.now (raster_of c.args.raster)) (λ i j. in_rows c.args.layer.now c.args.rows.from k c.args.columns.from c.args.columns.end i j) c.args.layer.now) bottom
+    let r = c.args.raster in
+    let from = c.args.columns.from in
+    let before = c.columns_before-before.result in
+    let x : to_z w16 (of_z w16 r.x) ≡ r.x = search rules in
+    let Across : ℤ → Type 0 = λ z. z ≤ℤ pos from → pos from -ℤ z ≡ pos before in
+    rows_are_text c.args.layer.now c.paint_rows.new.layer (raster_of r) c.args.glyphs.now c.args.text.now c.glyph_rows.new.bytes c.align_rows.new.bytes c.args.rows.from c.args.rows.end from c.args.columns.end before c.div_ceil-count.result c.row_in_cells.result (from % 8)
+    c.align_rows.ensures.bits
+    (cells_of _ r.y c.args.rows.from c.args.rows.end _ (search rules) c.requires.upper c.requires.lower c.row_in_cells.ensures.value)
+    (record {
+      enough = omega (arith, c.div_ceil-count.ensures);
+      starts = c.requires.starts;
+      across = subst Across x c.columns_before-before.ensures.value;
+      each = c.glyph_rows.ensures.each;
+    })
+    c.paint_rows.ensures

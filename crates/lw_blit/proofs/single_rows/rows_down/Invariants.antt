@@ -1,0 +1,7 @@
+use Rattle.std.proofs.Common.{◌≡◌}
+use Rattle.lw_draw.specs.Drawn.{drawn}
+use Rattle.lw_blit.specs.Blitting.{from_layer, masked}
+use Rattle.lw_blit.proofs.single_rows.rows_down.Given as goal
+
+abbrev pub invariant-loop-y : goal.invariant-loop-y
+invariant-loop-y l = l.layer ≡ drawn (masked l.mask l.initial.layer l.fn.rows.from l.y l.columns.from l.columns.end) (from_layer l.initial.layer l.transfer) l.initial.layer

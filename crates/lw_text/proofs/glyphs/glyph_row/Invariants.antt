@@ -1,8 +1,0 @@
-use Rattle.std.proofs.Common.{◌≡◌, ℕ, ◌+◌, ◌<◌, slice_index}
-use Rattle.std.specs.List.{slice_index_or}
-use Rattle.lw_text.specs.Templates.{glyph_bits}
-use Rattle.lw_text.proofs.glyphs.glyph_row.Given as goal
-
-abbrev pub invariant-loop-place : goal.invariant-loop-place
-invariant-loop-place l =
-    (n : ℕ) → n < l.place → slice_index l.bytes n ≡ glyph_bits l.glyphs (slice_index_or l.text (l.first + n) 0) l.row
