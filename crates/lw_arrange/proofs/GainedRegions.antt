@@ -247,13 +247,10 @@ none_left true false false = refl
 none_left false frameless inner = refl
 
 -- A layer whose bounds and visible rectangles stay gains nothing.
-pub same_gained : (c : CellView) (kind : Kind) (former bounds : Rectangle) (shown listed visible : List Rectangle)
-    → IsSeen c kind listed visible → former ≡ c.live.bounds → former ≡ bounds → shown ≡ c.live.visible → shown ≡ listed
-    → LieIn bounds visible → AreGained c (stayed bounds visible c) []
-same_gained c kind former bounds shown listed visible seen former_is places shown_is lists inside x y =
+pub same_gained : (c : CellView) (bounds : Rectangle) (visible : List Rectangle) → c.state ≡ view.Live → IsSound c.live
+    → c.live.bounds ≡ bounds → c.live.visible ≡ visible → LieIn bounds visible → AreGained c (stayed bounds visible c) []
+same_gained c bounds visible live sound place list inside x y =
     let l = c.live in
-    let place : l.bounds ≡ bounds = sym former_is ∙ places in
-    let list : l.visible ≡ visible = sym shown_is ∙ (lists ∙ seen.listed_is) in
     let kept : keeps_pixel l.layer.kind l.bounds l.visible x y ≡ keeps_pixel l.layer.kind bounds visible x y =
     ap (λ b. keeps_pixel l.layer.kind b l.visible x y) place ∙ ap (λ v. keeps_pixel l.layer.kind bounds v x y) list
     in
@@ -262,7 +259,7 @@ same_gained c kind former bounds shown listed visible seen former_is places show
     (may_lie (inner_with l l.bounds) x y))
     ∙ (ap (λ t. t && not (counts_pixel l l.bounds x y)) kept
     ∙ (ap (λ b. keeps_pixel l.layer.kind bounds visible x y && not (counts_pixel l b x y)) place
-    ∙ more_at c bounds visible x y seen.live seen.sound (subst IsOrdered place seen.sound.ordered) inside)))
+    ∙ more_at c bounds visible x y live sound (subst IsOrdered place sound.ordered) inside)))
 
 -- The region of the gained pixels has a rectangle exactly where some pixel is gained.
 pub some_rectangle : (from to : CellView) (rects : List Rectangle) → IsCanonical rects → AreGained from to rects

@@ -15,4 +15,6 @@ pub mod OpenedLaws
 pub mod BareLaws
 pub mod GainedRegions
 pub mod FrameLaws
+pub mod ElsewhereLaws
+pub mod VisibleLaws
 mod FewRectangles

@@ -1,5 +1,5 @@
 -- A cell of a desk may be prepared for an arrangement that is done there.
-use Rattle.std.proofs.Common.{◌≡◌, ℕ, ◌+◌, ◌<◌, ◌≤◌, length, Bool, true, false, not, ◌&&◌, List, Option, Some, None, refl, sym, ap, subst, ◌∙◌, ⊎_elim, arith, ℤ, pos, ◌+ℤ◌, ◌-ℤ◌, int_le, nat_le, nat_lt, unsigned_abs, IsTrue}
+use Rattle.std.proofs.Common.{◌≡◌, ℕ, ◌+◌, ◌≤◌, Bool, true, false, not, ◌&&◌, List, Option, Some, None, refl, sym, ap, subst, ◌∙◌, ⊎_elim, arith, ℤ, pos, ◌+ℤ◌, ◌-ℤ◌, int_le, nat_le, nat_lt, unsigned_abs, IsTrue}
 use Rattle.std.specs.Prelude.{if◌then◌else◌}
 use Rattle.std.proofs.lemmas.Bool.{and_parts, eqb-true, ltb-true}
 use Rattle.std.proofs.lemmas.Bool.Decides.{nat_tests}
@@ -32,11 +32,12 @@ use Rattle.lw_layer.specs.StandsFor.{IsPartOf, StandsFor, IsSound}
 use Rattle.lw_layer.proofs.SoundLaws.{live_part}
 use Rattle.lw_stack.specs.Stack.{bounds_at, first_at, is_first_at}
 use Rattle.lw_reveal.specs.Changed.{MayHave}
-use Rattle.lw_arrange.specs.Arrangements.{ArrangementView, IsArrangement}
+use Rattle.lw_stack.proofs.ListedLaws.{shown_places}
+use Rattle.lw_arrange.specs.Arrangements.{ArrangementView}
 use Rattle.lw_arrange.specs.Prepared.{Created, created_by, shown_at, HasClasses, MayBeNew, MayBecome, MayBe, MayPrepare}
 use Rattle.lw_arrange.proofs.SettledLaws.{each_settled}
 use Rattle.lw_arrange.proofs.CellLaws.{Stays, Opens, slot_becomes}
-use Rattle.lw_arrange.proofs.StandLaws.{IsDone, find_passes, listed_low, not_opened, created_is, gone}
+use Rattle.lw_arrange.proofs.StandLaws.{IsDone, find_passes, not_opened, created_is, gone}
 
 -- along one axis: bounds on the screen that have a place
 axis_size : (low high : ℤ) (n : ℕ) → int_le (pos 0) low ≡ true → int_le (high +ℤ pos 1) (pos n) ≡ true → int_le (pos 1) ((high +ℤ pos 1) -ℤ low) ≡ true → n ≤ 1024 → (1 ≤ unsigned_abs ((high +ℤ pos 1) -ℤ low)) × (unsigned_abs ((high +ℤ pos 1) -ℤ low) ≤ 2048)
@@ -88,11 +89,11 @@ may_fit s framed k x y w h r limits may =
     }
 
 -- what is shown of a slot lies in its bounds
-pub shown_inside : (a : ArrangementView) (s : ℕ) (r : Rectangle) → IsArrangement a → bounds_at a.stack.bounds s ≡ Some r → LieIn r (shown_at a s)
+pub shown_inside : (a : ArrangementView) (s : ℕ) (r : Rectangle) → bounds_at a.stack.bounds s ≡ Some r → LieIn r (shown_at a s)
 unfolding first_at
-shown_inside a s r ok planned x y has =
-    let low : s < length a.stack.bounds = listed_low a.stack.bounds s (ap has_bounds planned) in
-    let first : is_first_at a.stack.bounds a.stack.front_to_back s x y ≡ true = sym (ok.shown.places s x y low) ∙ has in
+shown_inside a s r planned x y has =
+    let first : is_first_at a.stack.bounds a.stack.front_to_back s x y ≡ true =
+    sym (shown_places a.stack.bounds a.stack.front_to_back s x y) ∙ has in
     go (first_at a.stack.bounds a.stack.front_to_back x y) refl first
   where
     have : (o : Option Rectangle) → o ≡ Some r → bounds_have o x y ≡ true → has_pixel r x y ≡ true
@@ -202,7 +203,7 @@ stays_may d caller made a c h done live stands sound r planned stays =
     in
     record {
       sizes = record { columns = fit.wide; rows = fit.high; planes = sound.bits.sizes.planes };
-      inside = shown_inside a s r done.planned planned;
+      inside = shown_inside a s r planned;
       right =
           λ own. let h = fit.right (ap is_super frame.kind ∙ own) in let w = frame.wide own in omega (arith, h, frame.scroll_x, w);
       lower =

@@ -32,10 +32,9 @@ pub same_list : (shown listed : List Rectangle) (u : Bool) → u ≡ pointwise s
 same_list shown listed u u_is u_true = (slice_eq-Decides edges_decide shown listed u u_is).0 u_true
 
 -- A layer whose bounds and visible rectangles are the new ones is revealed as it is.
-pub stays_same : (c : CellView) (d : Damaged) (former bounds : Rectangle) (shown listed visible : List Rectangle) (t u : Bool) → IsSound c.live → IsDamageOf c.live d → ((x y : ℤ) → covers d.rects x y ≡ true → may_lie d.inner x y ≡ true) → former ≡ c.live.bounds → shown ≡ c.live.visible
-    → t ≡ same_edges former bounds → t ≡ true → listed ≡ visible → u ≡ pointwise same_edges shown listed → u ≡ true → with_live (λ q. carried_to bounds visible q) c ≡ c
-stays_same c d former bounds shown listed visible t u sound damage lies former_is shown_is t_is t_true listed_is u_is u_true =
-    let place : c.live.bounds ≡ bounds = sym former_is ∙ edges_same former bounds (sym t_is ∙ t_true) in
-    let list : c.live.visible ≡ visible = sym shown_is ∙ (same_list shown listed u u_is u_true ∙ listed_is) in
+pub stays_same : (c : CellView) (d : Damaged) (bounds : Rectangle) (visible : List Rectangle) → IsSound c.live → IsDamageOf c.live d
+    → ((x y : ℤ) → covers d.rects x y ≡ true → may_lie d.inner x y ≡ true) → c.live.bounds ≡ bounds → c.live.visible ≡ visible
+    → with_live (λ q. carried_to bounds visible q) c ≡ c
+stays_same c d bounds visible sound damage lies place list =
     ap (λ b. with_live (λ q. carried_to b visible q) c) (sym place) ∙
     (ap (λ v. with_live (λ q. carried_to c.live.bounds v q) c) (sym list) ∙ ap (λ q. record c { live = q }) (revealed_same c.live d sound damage lies))

@@ -1,5 +1,5 @@
 -- A slot after a planned arrangement, in the machine's words, stands for its part of the desk after it.
-use Rattle.std.proofs.Common.{◌≡◌, ℕ, zero, suc, ◌<◌, ◌==◌, Bool, true, false, List, [], ◌∷◌, length, arith, Option, Some, None, refl, sym, ap, subst, ◌∙◌, ⊎_elim, ℤ, IsTrue}
+use Rattle.std.proofs.Common.{◌≡◌, ℕ, ◌==◌, Bool, true, false, List, [], ◌∷◌, Option, Some, None, refl, sym, ap, subst, ◌∙◌, ⊎_elim, ℤ, IsTrue}
 use Rattle.std.specs.Prelude.{if◌then◌else◌}
 use Rattle.std.specs.List.{find}
 use Rattle.std.proofs.Math.Path.{fun_ext}
@@ -19,7 +19,7 @@ use Rattle.lw_machine.specs.Screen.{bounds_have, top, is_shown}
 use Rattle.lw_machine.specs.Arrangement.{bounds_of, hook_from, new_layer, arranged}
 use Rattle.lw_machine.specs.Reveal.{has_bounds, across, settled_layer, settled}
 use Rattle.lw_machine.specs.Parts.{SlotPart, slot_part}
-use Rattle.lw_machine.specs.Step.{refusal, after}
+use Rattle.lw_machine.specs.Step.{refusal}
 use Rattle.lw_machine.specs.Sound.{IsDesk, active_is_window}
 use Rattle.lw_layer.specs.View.{State, CellView}
 use Rattle.lw_layer.specs.View as view
@@ -27,6 +27,7 @@ use Rattle.lw_layer.specs.Drafts.{no_layer}
 use Rattle.lw_layer.specs.StandsFor.{IsPartOf, StandsFor}
 use Rattle.lw_layer.proofs.SoundLaws.{live_part}
 use Rattle.lw_stack.specs.Stack.{Stack, bounds_at, first_at, is_first_at, StandsForInfo}
+use Rattle.lw_stack.proofs.ListedLaws.{shown_places}
 use Rattle.lw_arrange.specs.Arrangements.{ArrangementView, IsArrangement}
 use Rattle.lw_arrange.specs.Arranged.{IsArrangementOf}
 use Rattle.lw_arrange.specs.Prepared.{Created, created_by, without_layer, shown_at}
@@ -67,16 +68,10 @@ shown_settled : (d a : Desk) (s : ℕ) (x y : ℤ) → is_shown (settled d a) s 
 unfolding top
 shown_settled d a s x y = refl
 
--- a slot with bounds is one of the list
-pub listed_low : (bounds : List (Option Rectangle)) (s : ℕ) → has_bounds (bounds_at bounds s) ≡ true → s < length bounds
-listed_low [] s has = absurd (cc has)
-listed_low (o ∷ os) zero has = omega arith
-listed_low (o ∷ os) (suc s) has = let h = listed_low os s has in omega (arith, h)
-
 -- what is shown of a slot afterwards
 pub shown_after : (d : Desk) (caller : ℕ) (made : Call) (a : ArrangementView) (s : ℕ) (x y : ℤ) → IsDone d caller made a → has_bounds (bounds_at a.stack.bounds s) ≡ true → is_shown (arranged d caller made) s x y ≡ covers (shown_at a s) x y
 shown_after d caller made a s x y done has =
-    shown_is a.stack (arranged d caller made) s x y done.plan.info ∙ sym (done.planned.shown.places s x y (listed_low a.stack.bounds s has))
+    shown_is a.stack (arranged d caller made) s x y done.plan.info ∙ sym (shown_places a.stack.bounds a.stack.front_to_back s x y)
 
 -- what a cell stands for says whether it is live
 pub not_dead : (c : CellView) (p : SlotPart) → StandsFor c p → is_live p.slot ≡ true → c.state ≡ view.Live

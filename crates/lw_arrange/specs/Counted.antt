@@ -1,7 +1,6 @@
 -- How many rectangles a layer is cut into by an arrangement.
-use Rattle.std.specs.Prelude.{◌≡◌, ℕ, ◌+◌, ◌*◌, ◌<◌, ◌≤◌, Some}
+use Rattle.std.specs.Prelude.{◌≡◌, ℕ, ◌+◌, ◌*◌, ◌≤◌, Some}
 use Rattle.lw_region.specs.Rectangle.{Rectangle}
-use Rattle.lw_region.specs.Banded.{IsCanonical}
 use Rattle.lw_bounds.specs.Cuts.{rectangle_count}
 use Rattle.lw_bounds.specs.Fronts.{front_count}
 use Rattle.lw_stack.specs.Stack.{bounds_at}
@@ -9,10 +8,10 @@ use Rattle.lw_arrange.specs.Arrangements.{ArrangementView, IsArrangement}
 use Rattle.lw_arrange.specs.Prepared.{shown_at}
 
 -- What is prepared and committed of a slot has few rectangles: where n layers are in front of its layer afterwards, at most
--- (2n + 1) (2n + 1), visible and hidden together. (What an arrangement shows of a slot is always a canonical list.)
+-- (2n + 1) (2n + 1), visible and hidden together.
 abbrev pub ArrangedSlotsHaveFewRectangles : Type 0
 ArrangedSlotsHaveFewRectangles =
     (a : ArrangementView) (s : ℕ) (own : Rectangle)
-    → IsArrangement a → s < a.stack.sizes.slots → bounds_at a.stack.bounds s ≡ Some own → IsCanonical (shown_at a s)
+    → IsArrangement a → bounds_at a.stack.bounds s ≡ Some own
     → rectangle_count own (shown_at a s)
     ≤ (2 * front_count s a.stack.front_to_back + 1) * (2 * front_count s a.stack.front_to_back + 1)

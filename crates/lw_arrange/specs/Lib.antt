@@ -9,3 +9,4 @@ pub mod Filled
 pub mod Framed
 pub mod Settled
 pub mod Made
+pub mod Areas

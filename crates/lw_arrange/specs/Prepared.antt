@@ -1,6 +1,5 @@
 -- What an arrangement makes of the cell of a slot, and what is prepared for it.
-use Rattle.std.specs.Prelude.{◌≡◌, ℕ, ◌<◌, true, false, List, [], Option, Some, None}
-use Rattle.std.specs.List.{slice_index_or}
+use Rattle.std.specs.Prelude.{◌≡◌, ℕ, ◌<◌, true, false, List, Option, Some, None}
 use Rattle.lw_region.specs.Rectangle.{Rectangle}
 use Rattle.lw_calls.specs.declared.make.Kind.{Kind}
 use Rattle.lw_calls.specs.declared.make.Make.{Make}
@@ -14,7 +13,7 @@ use Rattle.lw_layer.specs.View as view
 use Rattle.lw_layer.specs.Pieces.{HasFrameRoom}
 use Rattle.lw_layer.specs.Drafts.{no_layer}
 use Rattle.lw_layer.specs.New.{IsNewSize, new_live}
-use Rattle.lw_stack.specs.Stack.{bounds_at}
+use Rattle.lw_stack.specs.Stack.{bounds_at, shown_list}
 use Rattle.lw_reveal.specs.Changed.{carried_to, MayHave}
 use Rattle.lw_arrange.specs.Arrangements.{ArrangementView}
 
@@ -65,7 +64,7 @@ becomes new depth visible c (Some r) = with_bounds new depth r visible c c.state
 
 -- the visible rectangles of a slot after a planned arrangement
 abbrev pub shown_at : ArrangementView → ℕ → List Rectangle
-shown_at a s = slice_index_or a.shown s []
+shown_at a s = shown_list a.stack.bounds a.stack.front_to_back s
 
 -- the cell after a planned arrangement
 abbrev pub cell_after : ArrangementView → CellView → CellView

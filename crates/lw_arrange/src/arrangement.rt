@@ -12,14 +12,15 @@ pub enum Step {
     Arranged(Arrangement),
 }
 
-/// A planned arrangement: its call, the list, the bounds and the active window after it, and what is then shown of each layer
-/// (the manual's Layers Library chapter).
+/// A planned arrangement: its call, the list, the bounds and the active window after it, the area outside which each layer is
+/// shown as before, and what is then shown of each layer in the area (the manual's Layers Library chapter).
 #[derive(Debug, Drop)]
 pub struct Arrangement {
     task: u32,
     call: Call,
     sizes: Sizes,
     after: InfoDraft,
+    area: Region,
     shown: Vec<Region>,
 }
 
@@ -29,34 +30,36 @@ impl Model for Arrangement {
 
     ghost Value = { ArrangementView };
 
-    ghost view = { λ a. record { task = a.task; call = a.call; stack = stack_of a.sizes a.after; shown = a.shown.items } };
+    ghost view = { λ a. record { task = a.task; call = a.call; stack = stack_of a.sizes a.after; area = a.area; shown = a.shown.items } };
 
-    ghost invariant = { λ a. IsArrangement (record { task = a.task; call = a.call; stack = stack_of a.sizes a.after; shown = a.shown.items }) };
+    ghost invariant = { λ a. IsArrangement (record { task = a.task; call = a.call; stack = stack_of a.sizes a.after; area = a.area; shown = a.shown.items }) };
 }
 
 impl Arrangement {
     ghost use Rattle.std.specs.Prelude.{◌≡◌, ◌<◌, []};
     ghost use Rattle.std.specs.List.{slice_index_or};
-    ghost use Rattle.lw_stack.specs.Stack.{bounds_at, stack_of, IsStack, AreShown};
+    ghost use Rattle.lw_stack.specs.Stack.{bounds_at, stack_of, IsStack, AreShownIn};
     ghost use Rattle.lw_arrange.specs.Arrangements.{IsArrangement};
 
-    /// The plan of a task's call that leaves such a list, of which this is shown.
+    /// The plan of a task's call that leaves such a list, of which this is shown in the area.
     pub(crate) fn new(
         task: u32,
         call: Call,
         sizes: Sizes,
         after: InfoDraft,
+        area: Region,
         shown: Vec<Region>,
     ) -> Arrangement
         requires stack { IsStack (stack_of sizes after) }
-        requires shown { AreShown after.bounds.items after.order.items shown.items }
-        ensures { result ≡ record { task = task; call = call; stack = stack_of sizes after; shown = shown.items } }
+        requires shown { AreShownIn area after.bounds.items after.order.items shown.items }
+        ensures { result ≡ record { task = task; call = call; stack = stack_of sizes after; area = area; shown = shown.items } }
     {
         Arrangement {
             task,
             call,
             sizes,
             after,
+            area,
             shown,
         }
     }
@@ -115,7 +118,14 @@ impl Arrangement {
         &self.sizes
     }
 
-    /// The places on which a slot's layer is shown after it.
+    /// The area outside which each layer is shown as before.
+    pub(crate) fn area(&self) -> &Region
+        ensures { result.now ≡ self.now.area }
+    {
+        &self.area
+    }
+
+    /// The places of the area on which a slot's layer is shown after it.
     pub(crate) fn shown(&self, slot: u32) -> &Region
         requires { slot < self.now.stack.sizes.slots }
         ensures { result.now ≡ slice_index_or self.now.shown slot [] }

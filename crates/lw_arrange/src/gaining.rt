@@ -10,10 +10,12 @@ ghost use Rattle.lw_layer.specs.Pieces.{HasFrameRoom};
 ghost use Rattle.lw_stack.specs.Stack.{bounds_at};
 ghost use Rattle.lw_reveal.specs.Changed.{carried_to, MayHave};
 ghost use Rattle.lw_arrange.specs.Prepared.{created_by, kind_of, created_live, shown_at, with_bounds, cell_after, IsCreation, MayOpen, MayBecome, MayPrepare};
+ghost use Rattle.lw_arrange.specs.Areas.{IsShownElsewhere};
 ghost use Rattle.lw_arrange.specs.Filled.{AreGained};
 ghost use Rattle.lw_arrange.specs.Framed.{IsFrameGained, has_corners};
 
 use crate::arrangement::Arrangement;
+use crate::showing::{changed_visible, new_visible};
 use lw_calls::{Call, Kind};
 use lw_layer::{Cell, inner_rectangle, kept_region};
 use lw_region::{Rect, Region, clear_region};
@@ -23,11 +25,12 @@ use std::alloc::{AllocError, Global};
 /// The layer pixels that the arrangement fills, with the hook of the slot's layer or else with pen 0: those that it keeps afterwards
 /// and that don't count as kept before, and none of a super-bitmap layer or of a slot that isn't live afterwards. In a framed window
 /// whose size changes the pixels of the old frame that lie in the new inner rectangle don't count (the manual's Layers Library
-/// chapter: backfill hooks; which pixels a layer keeps, and which count, is this project's own). They are in layer coordinates. It
-/// fails only when out of memory.
+/// chapter: backfill hooks; which pixels a layer keeps, and which count, is this project's own). They are in layer coordinates.
+/// Outside the arrangement's area the cell has to show what the plan says. It fails only when out of memory.
 pub fn gained(alloc: Global, cell: &Cell, arrangement: &Arrangement) -> Result<Region, AllocError>
     requires slot { cell.now.number < arrangement.now.stack.sizes.slots }
     requires may { MayPrepare arrangement.now cell.now }
+    requires elsewhere { IsShownElsewhere arrangement.now cell.now }
     ensures { IfOk result (λ region. AreGained cell.now (cell_after arrangement.now cell.now) region) }
 {
     let slot = cell.slot();
@@ -47,14 +50,20 @@ fn gained_within(
     requires slot { cell.now.number < arrangement.now.stack.sizes.slots }
     requires bounds { bounds_at arrangement.now.stack.bounds cell.now.number ≡ Some bounds.now }
     requires may { MayBecome (created_by arrangement.now.task arrangement.now.call) arrangement.now.stack.sizes.depth bounds.now (shown_at arrangement.now cell.now.number) cell.now cell.now.state }
+    requires elsewhere { IsShownElsewhere arrangement.now cell.now }
     ensures { IfOk result (λ region. AreGained cell.now (with_bounds (created_by arrangement.now.task arrangement.now.call) arrangement.now.stack.sizes.depth bounds.now (shown_at arrangement.now cell.now.number) cell.now cell.now.state) region) }
 {
     // Reading the sizes tells the proof what holds of the plan.
     let _ = arrangement.sizes();
-    let visible = arrangement.shown(cell.slot());
     match cell.look() {
-        None => gained_anew(alloc, cell, arrangement, bounds, visible),
-        Some(_) => gained_more(alloc, cell, bounds, visible),
+        None => gained_anew(
+            alloc,
+            cell,
+            arrangement,
+            bounds,
+            new_visible(cell, arrangement),
+        ),
+        Some(_) => gained_more(alloc, cell, arrangement, bounds),
     }
 }
 
@@ -91,20 +100,23 @@ fn created_kind(arrangement: &Arrangement) -> Kind
 fn gained_more(
     alloc: Global,
     cell: &Cell,
+    arrangement: &Arrangement,
     bounds: &Rect,
-    visible: &Region,
 ) -> Result<Region, AllocError>
+    requires slot { cell.now.number < arrangement.now.stack.sizes.slots }
     requires live { cell.now.state ≡ view.Live }
-    requires may { MayHave cell.now.live bounds.now visible.now }
-    ensures { IfOk result (λ region. AreGained cell.now (with_live (λ c. carried_to bounds.now visible.now c) cell.now) region) }
+    requires bounds { bounds_at arrangement.now.stack.bounds cell.now.number ≡ Some bounds.now }
+    requires may { MayHave cell.now.live bounds.now (shown_at arrangement.now cell.now.number) }
+    requires elsewhere { IsShownElsewhere arrangement.now cell.now }
+    ensures { IfOk result (λ region. AreGained cell.now (with_live (λ c. carried_to bounds.now (shown_at arrangement.now cell.now.number) c) cell.now) region) }
 {
     let Some(layer) = cell.layer() else {
         unreachable!();
     };
     let look = layer.look();
-    if look.bounds == *bounds && layer.visible() == visible.rects() {
+    let Some(visible) = changed_visible(alloc, cell, layer, arrangement, bounds)? else {
         return Ok(Region::new(alloc));
-    }
+    };
     let before = counted_region(alloc, layer, bounds)?;
     let mut gained = kept_region(alloc, look.kind, bounds, visible.rects())?;
     clear_region(alloc, &before, &mut gained)?;

@@ -14,6 +14,7 @@ mod plan;
 mod prepared_info;
 mod preparing;
 mod refused;
+mod showing;
 
 pub use arrangement::{Arrangement, Step};
 pub use gaining::{gained, gains_frame};

@@ -3,8 +3,10 @@ ghost use Rattle.lw_calls.specs.declared.touch.CallClass.TheVariants.{OnAll};
 ghost use Rattle.lw_calls.specs.Touches.{class_of};
 ghost use Rattle.lw_calls.specs.Limits.{call_fits};
 ghost use Rattle.lw_machine.specs.Desk.{Desk};
+ghost use Rattle.lw_stack.specs.Stack.{bounds_at, stack_of};
 ghost use Rattle.lw_arrange.specs.Arranged.{AreOf, IsStepOf};
 ghost use Rattle.lw_arrange.specs.Steps.{KeepsSizes};
+ghost use Rattle.lw_arrange.specs.Areas.{IsAreaOf, StepHasArea, slot_arranged};
 
 use crate::after::after;
 use crate::arrangement::{Arrangement, Step};
@@ -12,7 +14,8 @@ use crate::copied::copied;
 use crate::refused::refused;
 use lw_calls::Call;
 use lw_layer::Look;
-use lw_stack::{Info, visible_sets};
+use lw_region::{Rect, Region};
+use lw_stack::{Info, InfoDraft, cover, shown_in};
 use std::alloc::{AllocError, Global};
 
 /// What a task's call that arranges layers does, told from LayerInfo and the looks of all slots alone: its first refusal, or the
@@ -32,13 +35,61 @@ pub fn plan_step(
     ensures step { IfOk result
         (λ step. (d : Desk) → AreOf d info.now looks.now fresh call.now → IsStepOf d task call.now step) }
     ensures sizes { IfOk result (λ step. KeepsSizes info.now.sizes step) }
+    ensures area { IfOk result (λ step. StepHasArea info.now step) }
 {
     let sizes = *info.sizes();
     if let Some(reply) = refused(info, looks, fresh, task, call) {
         return Ok(Step::Refused(reply));
     }
     let after = after(alloc, info, looks, call)?;
-    let shown = visible_sets(alloc, after.order.as_slice(), after.bounds.as_slice())?;
+    let area = area_of(alloc, info, &after, call)?;
+    let shown = shown_in(
+        alloc,
+        &area,
+        after.order.as_slice(),
+        after.bounds.as_slice(),
+    )?;
     let call = copied(alloc, call)?;
-    Ok(Step::Arranged(Arrangement::new(task, call, sizes, after, shown)))
+    Ok(Step::Arranged(Arrangement::new(task, call, sizes, after, area, shown)))
+}
+
+// The former and the new bounds of the call's slot; no place of a call that changes no layer's bounds nor its place in the list.
+fn area_of(alloc: Global, info: &Info, after: &InfoDraft, call: &Call) -> Result<Region, AllocError>
+    ensures { IfOk result (λ area. IsAreaOf info.now (stack_of info.now.sizes after.now) call.now area) }
+{
+    let mut area = Region::new(alloc);
+    let Some(slot) = slot_arranged(call) else {
+        return Ok(area);
+    };
+    cover(alloc, info.bounds(slot), &mut area)?;
+    cover(alloc, bounds_after(after, slot), &mut area)?;
+    Ok(area)
+}
+
+// The bounds of a slot after the call.
+fn bounds_after(after: &InfoDraft, slot: u32) -> Option<Rect>
+    ensures { result ≡ bounds_at after.now.bounds.items slot }
+{
+    match after.bounds.get(slot as usize) {
+        Some(bounds) => *bounds,
+        None => None,
+    }
+}
+
+// The slot whose bounds or whose place in the list the call may change.
+fn slot_arranged(call: &Call) -> Option<u32>
+    ensures { result ≡ slot_arranged call.now }
+{
+    match call {
+        Call::Create { slot, .. }
+        | Call::OpenWindow { slot, .. }
+        | Call::Close { slot }
+        | Call::ToFront { slot }
+        | Call::ToBack { slot }
+        | Call::InFrontOf { slot, .. }
+        | Call::MoveBy { slot, .. }
+        | Call::SizeBy { slot, .. }
+        | Call::SetBox { slot, .. } => Some(*slot),
+        _ => None,
+    }
 }

@@ -9,10 +9,12 @@ ghost use Rattle.lw_layer.specs.Drafts.{IsState, state_of, live_of, window_of, r
 ghost use Rattle.lw_stack.specs.Stack.{bounds_at};
 ghost use Rattle.lw_reveal.specs.Changed.{carried_to, MayHave};
 ghost use Rattle.lw_arrange.specs.Prepared.{created_by, created_live, without_layer, with_bounds, shown_at, cell_after, MayOpen, MayBecome, MayPrepare};
+ghost use Rattle.lw_arrange.specs.Areas.{IsShownElsewhere};
 ghost use Rattle.lw_arrange.specs.Made.{IsPrepared};
 
 use crate::arrangement::Arrangement;
 use crate::copied::copied_text;
+use crate::showing::{changed_visible, new_visible};
 use lw_calls::{Call, Text};
 use lw_layer::{Cell, Draft, DraftState, LiveDraft, WindowDraft};
 use lw_ports::{MessageSet, Port};
@@ -33,8 +35,9 @@ pub enum Prepared {
     Changes(Change),
 }
 
-/// Prepares the cell of a slot for the arrangement. It takes all the memory that is needed for the cell, and changes nothing. A
-/// layer whose bounds and visible rectangles stay is not copied. It fails only when out of memory.
+/// Prepares the cell of a slot for the arrangement, outside whose area the cell has to show what the plan says. It takes all the
+/// memory that is needed for the cell, and changes nothing. A layer whose bounds and visible rectangles stay is not copied, and of
+/// one that stays where it is and doesn't meet the area no rectangle is looked at. It fails only when out of memory.
 pub fn prepare(
     alloc: Global,
     cell: &Cell,
@@ -42,6 +45,7 @@ pub fn prepare(
 ) -> Result<Prepared, AllocError>
     requires slot { cell.now.number < arrangement.now.stack.sizes.slots }
     requires may { MayPrepare arrangement.now cell.now }
+    requires elsewhere { IsShownElsewhere arrangement.now cell.now }
     ensures { IfOk result (λ prepared. IsPrepared cell.now (cell_after arrangement.now cell.now) prepared) }
 {
     let slot = cell.slot();
@@ -71,14 +75,20 @@ fn with_bounds(
     requires slot { cell.now.number < arrangement.now.stack.sizes.slots }
     requires bounds { bounds_at arrangement.now.stack.bounds cell.now.number ≡ Some bounds.now }
     requires may { MayBecome (created_by arrangement.now.task arrangement.now.call) arrangement.now.stack.sizes.depth bounds.now (shown_at arrangement.now cell.now.number) cell.now cell.now.state }
+    requires elsewhere { IsShownElsewhere arrangement.now cell.now }
     ensures { IfOk result (λ prepared. IsPrepared cell.now (with_bounds (created_by arrangement.now.task arrangement.now.call) arrangement.now.stack.sizes.depth bounds.now (shown_at arrangement.now cell.now.number) cell.now cell.now.state) prepared) }
 {
     // Reading the sizes tells the proof what holds of the plan.
     let _ = arrangement.sizes();
-    let visible = arrangement.shown(cell.slot());
     match cell.look() {
-        None => created(alloc, cell, arrangement, bounds, visible),
-        Some(_) => changed(alloc, cell, bounds, visible),
+        None => created(
+            alloc,
+            cell,
+            arrangement,
+            bounds,
+            new_visible(cell, arrangement),
+        ),
+        Some(_) => changed(alloc, cell, arrangement, bounds),
     }
 }
 
@@ -145,23 +155,26 @@ fn opened_window(
 fn changed(
     alloc: Global,
     cell: &Cell,
+    arrangement: &Arrangement,
     bounds: &Rect,
-    visible: &Region,
 ) -> Result<Prepared, AllocError>
+    requires slot { cell.now.number < arrangement.now.stack.sizes.slots }
     requires live { cell.now.state ≡ view.Live }
-    requires may { MayHave cell.now.live bounds.now visible.now }
-    ensures { IfOk result (λ prepared. IsPrepared cell.now (with_live (λ c. carried_to bounds.now visible.now c) cell.now) prepared) }
+    requires bounds { bounds_at arrangement.now.stack.bounds cell.now.number ≡ Some bounds.now }
+    requires may { MayHave cell.now.live bounds.now (shown_at arrangement.now cell.now.number) }
+    requires elsewhere { IsShownElsewhere arrangement.now cell.now }
+    ensures { IfOk result (λ prepared. IsPrepared cell.now (with_live (λ c. carried_to bounds.now (shown_at arrangement.now cell.now.number) c) cell.now) prepared) }
 {
     let Some(layer) = cell.layer() else {
         unreachable!();
     };
-    let look = layer.look();
-    // Reading the damage tells the proof that it lies on kept pixels of the inner rectangle.
+    // Reading these tells the proof what holds of the layer, and that its damage lies on kept pixels of the inner rectangle.
+    let _ = layer.look();
     let _ = layer.damage().region();
-    if look.bounds == *bounds && layer.visible() == visible.rects() {
+    let Some(visible) = changed_visible(alloc, cell, layer, arrangement, bounds)? else {
         return Ok(Prepared::Stays);
-    }
-    Ok(Prepared::Changes(lw_reveal::prepare(alloc, layer, bounds, visible)?))
+    };
+    Ok(Prepared::Changes(lw_reveal::prepare(alloc, layer, bounds, &visible)?))
 }
 
 /// Makes of the cell what was prepared from it. It takes no memory and can't be refused.

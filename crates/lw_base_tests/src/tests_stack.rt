@@ -3,8 +3,8 @@ ghost use Rattle.lw_stack.specs.Stack.{IsStack, stack_of};
 
 use crate::shapes::are;
 use lw_calls::Sizes;
-use lw_region::Rect;
-use lw_stack::{Info, InfoDraft, visible_sets};
+use lw_region::{Rect, Region};
+use lw_stack::{Info, InfoDraft, cover, shown_in};
 use std::alloc::Global;
 use std::test::Fail;
 
@@ -45,6 +45,14 @@ static SHOWN: [&[[i16; 4]]; 4] = [
     &[],
 ];
 
+// The same in the columns 6 to 13 of the rows 3 and 4.
+static SHOWN_IN_PART: [&[[i16; 4]]; 4] = [
+    &[[6, 4, 7, 4]],
+    &[[12, 3, 13, 3], [8, 4, 13, 4]],
+    &[[6, 3, 11, 3]],
+    &[],
+];
+
 fn rect_of(x0: i16, y0: i16, x1: i16, y1: i16) -> Result<Rect, Fail>
     ensures { IfOk result (λ r. r ≡ record { min_x = x0; min_y = y0; max_x = x1; max_y = y1 }) }
 {
@@ -80,10 +88,22 @@ fn digit(slot: Option<u32>) -> u8 {
 fn each_slot_is_shown_where_no_layer_in_front_covers_it(rt: HostRuntime) -> Result<(), Fail> {
     let alloc = rt.alloc();
     let draft = three_layers(alloc)?;
-    let sets = visible_sets(alloc, draft.order.as_slice(), draft.bounds.as_slice())?;
-    assert_eq!(rt; sets.len(), 4);
-    for (set, due) in sets.iter().zip(&SHOWN) {
-        assert!(rt; are(set.rects(), due));
+    for (area, dues) in [
+        (Rect::new(0, 0, 15, 7), &SHOWN),
+        (Rect::new(6, 3, 13, 4), &SHOWN_IN_PART),
+    ] {
+        let mut places = Region::new(alloc);
+        cover(alloc, area, &mut places)?;
+        let sets = shown_in(
+            alloc,
+            &places,
+            draft.order.as_slice(),
+            draft.bounds.as_slice(),
+        )?;
+        assert_eq!(rt; sets.len(), 4);
+        for (set, due) in sets.iter().zip(dues) {
+            assert!(rt; are(set.rects(), due));
+        }
     }
     Ok(())
 }

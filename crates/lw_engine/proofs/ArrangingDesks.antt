@@ -41,11 +41,13 @@ use Rattle.lw_arrange.specs.declared.arrangement.Step.TheVariants.{Arranged}
 use Rattle.lw_arrange.specs.Arranged.{IsTold, IsFresh, AreOf, IsArrangementOf, IsStepOf}
 use Rattle.lw_arrange.specs.Steps.{KeepsSizes}
 use Rattle.lw_arrange.specs.Prepared.{created_by, without_layer}
+use Rattle.lw_arrange.specs.Areas.{HasArea}
 use Rattle.lw_arrange.specs.Filled.{hook_asked}
 use Rattle.lw_arrange.specs.Settled.{settled_with, settled_by}
 use Rattle.lw_arrange.proofs.StandLaws.{IsDone, IsHookAsked, there, idle_slot, slot_stands}
 use Rattle.lw_backfill.proofs.ShelfLaws.{shelf_after as without_one}
 use Rattle.lw_arrange.proofs.MayLaws.{may_prepare}
+use Rattle.lw_arrange.proofs.ElsewhereLaws.{shown_elsewhere}
 use Rattle.lw_engine.specs.Desks.{cell_at, hook_at, AreNumbered, AreOfDesk, AreAsBefore, AreOnShelf}
 use Rattle.lw_engine.specs.Slots.{hook_in, bare, asked_hook, shelf_without, shelf_after, slot_after, MayBeReady}
 use Rattle.lw_engine.specs.Arranging.{AreLooks, IsFreshSlot, HasSlot, AreChanged, DropHooks}
@@ -280,9 +282,10 @@ idle_arranged d task call n all done dead idle = absurd (cc all)
 
 -- Each slot's cell may be made ready.
 pub cells_may : (d : Desk) (v : Stack) (cells : List CellView) (task : ℕ) (call : Call) (a : ArrangementView) → AreOfDesk v cells d → AreNumbered v.sizes.slots cells
-    → IsDone d task call a → ((s : ℕ) → s < length cells → (cell_at cells s).state ≡ view.Live → IsSound (bare (cell_at cells s)).live)
+    → IsDone d task call a → HasArea v a
+    → ((s : ℕ) → s < length cells → (cell_at cells s).state ≡ view.Live → IsSound (bare (cell_at cells s)).live)
     → ((s : ℕ) → s < length cells → HasRoom 5 (cell_at cells s)) → (s : ℕ) → s < length cells → MayBeReady a (cell_at cells s)
-cells_may d v cells task call a are numbered done sound room s below =
+cells_may d v cells task call a are numbered done has sound room s below =
     let c = cell_at cells s in
     let low : s < v.sizes.slots = omega (arith, numbered.many, below) in
     let number : c.number ≡ s = numbered.numbers s low in
@@ -290,6 +293,7 @@ cells_may d v cells task call a are numbered done sound room s below =
     let Q : State → Type 0 = λ t. IsPartOf t c.live (slot_part d c.number) in
     record {
       prepare = may_prepare d task call a (bare c) (hook_in c) done before (sound s below);
+      elsewhere = shown_elsewhere d v a (bare c) (hook_in c) are.info has before;
       idle =
           λ fresh.
           let dead : is_live (d.slot c.number) ≡ false = ap is_live (subst Q fresh before).0 in

@@ -1,10 +1,8 @@
 -- The screen that a desk shows, layer by layer.
-use Rattle.std.proofs.Common.{◌≡◌, ℕ, ◌+◌, ◌/◌, ◌<◌, ◌≤◌, ◌==◌, true, false, ◌&&◌, nat_lt, if◌then◌else◌, ℤ, pos, ◌+ℤ◌, ◌≤ℤ◌, List, [], ◌∷◌, ◌++◌, length, get_or, map, Option, Some, None, inl, inr, ◌∙◌, sym, refl, ap, subst, arith, zero-add}
-use Rattle.std.specs.Prelude.{int_le}
+use Rattle.std.proofs.Common.{◌≡◌, ℕ, ◌+◌, ◌<◌, ◌≤◌, ◌==◌, true, false, nat_lt, if◌then◌else◌, ℤ, pos, List, [], ◌∷◌, ◌++◌, length, get_or, map, Option, Some, None, inl, inr, ◌∙◌, sym, refl, ap, subst, arith, zero-add}
 use Rattle.std.specs.List.{range_with_len}
-use Rattle.std.proofs.lemmas.Bool.{cases_lt, cases_eq, eq-eqb, ne_eqb, and_parts}
+use Rattle.std.proofs.lemmas.Bool.{cases_lt, cases_eq, eq-eqb, ne_eqb}
 use Rattle.std.proofs.lemmas.Bool.Decides.{nat_tests}
-use Rattle.std.proofs.lemmas.Int.{ints}
 use Rattle.std.proofs.lemmas.List.{get_or_default}
 use Rattle.std.proofs.lemmas.List.FromFn.{map-range_with_len_more}
 use Rattle.lw_region.specs.Rectangle.{Rectangle}
@@ -15,13 +13,13 @@ use Rattle.lw_machine.specs.Layer as layer
 use Rattle.lw_machine.specs.Layer.{Slot}
 use Rattle.lw_machine.specs.Desk.{Desk, is_the}
 use Rattle.lw_machine.specs.Screen.{top, pen_on, pen_of_top, screen}
-use Rattle.lw_machine.specs.Arrangement.{is_on_screen}
 use Rattle.lw_machine.specs.Parts.{SlotPart, slot_part}
-use Rattle.lw_machine.specs.Sound.{IsDesk, IsSlot, IsPlaced}
+use Rattle.lw_machine.specs.Sound.{IsDesk, IsSlot}
 use Rattle.lw_layer.specs.View.{State, LiveView, CellView}
 use Rattle.lw_layer.specs.View as view
+use Rattle.lw_layer.specs.Copied.{pen_shown}
 use Rattle.lw_layer.specs.StandsFor.{IsLivePart, IsPartOf}
-use Rattle.lw_final.specs.Shown.{pen_shown, with_layer_shown, LiesOn, MayLieOn, AreRowsFor}
+use Rattle.lw_final.specs.Shown.{with_layer_shown, HasPlanesOf}
 use Rattle.lw_engine.specs.Desks.{cell_at}
 use Rattle.lw_engine.specs.Finished.{AreSlotsOf, pen_below, screen_below}
 
@@ -31,35 +29,18 @@ live_part view.Unopened c p is part = absurd (cc is)
 live_part view.Live c p is part = part
 live_part view.Closed c p is part = absurd (cc is)
 
--- edges that lie on the screen
-on_low : (low high : ℤ) (limit : ℕ) → (int_le (pos 0) low && int_le (high +ℤ pos 1) (pos limit)) ≡ true → pos 0 ≤ℤ low
-on_low low high limit on = let sides = and_parts (int_le (pos 0) low) (int_le (high +ℤ pos 1) (pos limit)) on in grind (arith, ints)
-
-on_high : (low high : ℤ) (limit : ℕ) → (int_le (pos 0) low && int_le (high +ℤ pos 1) (pos limit)) ≡ true → (high +ℤ pos 1) ≤ℤ pos limit
-on_high low high limit on = let sides = and_parts (int_le (pos 0) low) (int_le (high +ℤ pos 1) (pos limit)) on in grind (arith, ints)
-
--- a layer of a sound desk lies on its screen
-layer_lies : (d : Desk) (s : ℕ) (c : LiveView) (b : Bitmap) → IsDesk d → IsLivePart c (slot_part d s) → b.width ≡ d.sizes.width → b.height ≡ d.sizes.height → b.depth ≡ d.sizes.depth → LiesOn b c
-unfolding is_on_screen
-layer_lies d s c b ok part wide high deep =
+-- a layer of a sound desk has the screen's planes
+layer_deep : (d : Desk) (s : ℕ) (c : LiveView) (b : Bitmap) → IsDesk d → IsLivePart c (slot_part d s) → b.depth ≡ d.sizes.depth → c.layer.bits.depth ≡ b.depth
+layer_deep d s c b ok part deep =
     let slot : IsSlot d s (layer.Live c.layer) = subst (IsSlot d s) part.slot (ok.slots s) in
-    let placed : IsPlaced d.sizes c.layer (Some c.bounds) = subst (IsPlaced d.sizes c.layer) part.bounds slot.0 in
-    let on = (and_parts _ _ (and_parts _ _ placed.may).0).0 in
-    let axes = and_parts (int_le (pos 0) c.bounds.min_x && int_le (c.bounds.max_x +ℤ pos 1) (pos d.sizes.width)) (int_le (pos 0) c.bounds.min_y && int_le (c.bounds.max_y +ℤ pos 1) (pos d.sizes.height)) on in
-    record {
-      planes = slot.1.planes ∙ sym deep;
-      left = on_low c.bounds.min_x c.bounds.max_x d.sizes.width axes.0;
-      top = on_low c.bounds.min_y c.bounds.max_y d.sizes.height axes.1;
-      right = subst (λ n. (c.bounds.max_x +ℤ pos 1) ≤ℤ pos n) (sym wide) (on_high c.bounds.min_x c.bounds.max_x d.sizes.width axes.0);
-      bottom = subst (λ n. (c.bounds.max_y +ℤ pos 1) ≤ℤ pos n) (sym high) (on_high c.bounds.min_y c.bounds.max_y d.sizes.height axes.1);
-    }
+    slot.1.planes ∙ sym deep
 
--- so does the layer of each cell
-pub cell_lies : (sizes : Sizes) (cells : List CellView) (d : Desk) (n m : ℕ) (c : CellView) (b : Bitmap) → AreSlotsOf sizes cells d → n < sizes.slots → c ≡ cell_at cells n → b ≡ screen_below d m → MayLieOn b c
+-- so has the layer of each cell
+pub cell_deep : (sizes : Sizes) (cells : List CellView) (d : Desk) (n m : ℕ) (c : CellView) (b : Bitmap) → AreSlotsOf sizes cells d → n < sizes.slots → c ≡ cell_at cells n → b ≡ screen_below d m → HasPlanesOf b c
 unfolding screen_below
-cell_lies sizes cells d n m c b stands low read is live =
+cell_deep sizes cells d n m c b stands low read is live =
     let part : IsPartOf c.state c.live (slot_part d n) = subst (λ (q : CellView). IsPartOf q.state q.live (slot_part d n)) (sym read) (stands.slots n low) in
-    layer_lies d n c.live b stands.sound (live_part c.state c.live (slot_part d n) live part) (ap (λ (q : Bitmap). q.width) is) (ap (λ (q : Bitmap). q.height) is) (ap (λ (q : Bitmap). q.depth) is)
+    layer_deep d n c.live b stands.sound (live_part c.state c.live (slot_part d n) live part) (ap (λ (q : Bitmap). q.depth) is)
 
 -- before the first layer
 pub no_layer_shown : (sizes : Sizes) (cells : List CellView) (d : Desk) (b : Bitmap) → AreSlotsOf sizes cells d → b ≡ bitmap sizes.width sizes.height sizes.depth (λ _ _. 0) → b ≡ screen_below d 0
@@ -154,13 +135,6 @@ all_shown sizes cells d n b stands end is =
               ap (λ t. if t then pen_on (d.bounds s) (d.slot s) x y else 0) above
               ∙ sym (unopened_pen (d.bounds s) (d.slot s) x y (stands.sound.beyond s (omega (arith, past, end, ap (λ (z : Sizes). z.slots) stands.same_sizes))))
         ]
-
--- rows with a bit for each column of the screen
-pub rows_for : (sizes : Sizes) (cells : List CellView) (d : Desk) (n : ℕ) (b : Bitmap) (bits kept : List ℕ) → AreSlotsOf sizes cells d → b ≡ screen_below d n → length bits ≡ sizes.width / 8 + 1 → length kept ≡ sizes.width / 8 + 1 → AreRowsFor b bits kept
-unfolding screen_below
-rows_for sizes cells d n b bits kept stands is first second =
-    let wide : b.width ≡ sizes.width = ap (λ (q : Bitmap). q.width) is ∙ ap (λ (z : Sizes). z.width) stands.same_sizes in
-    record { equally_long = second ∙ sym first; wide = omega (arith, wide, first) }
 
 -- one value more
 pub more_mapped : {X : Type 0} (f : ℕ → X) (now new : List X) (n : ℕ) (v : X) → now ≡ map f (range_with_len 0 n) → v ≡ f n → new ≡ now ++ v ∷ [] → new ≡ map f (range_with_len 0 (n + 1))

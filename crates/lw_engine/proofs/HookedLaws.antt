@@ -7,7 +7,7 @@ use Rattle.lw_layer.specs.View.{State, CellView, hooked}
 use Rattle.lw_layer.specs.View as view
 use Rattle.lw_stack.specs.Stack.{Stack}
 use Rattle.lw_region.specs.Bands.{bands}
-use Rattle.lw_final.specs.Shown.{first_set, seen_as, seen_in, MayLieOn, LiesOn, with_layer_shown}
+use Rattle.lw_final.specs.Shown.{first_set, seen_as, seen_in, with_layer_shown}
 
 -- the report
 pub seen_hooked : (v : Stack) (h : Option Hook) (c : CellView) → seen_in v c ≡ seen_in v (hooked h c)
@@ -20,11 +20,6 @@ seen_hooked v h c = by_state c.state
     by_state view.Closed = refl
 
 -- the screen
-pub lies_hooked : (b : Bitmap) (h : Option Hook) (c : CellView) → MayLieOn b (hooked h c) → MayLieOn b c
-lies_hooked b h c lies live =
-    let on : LiesOn b (hooked h c).live = lies live in
-    record { planes = on.planes; left = on.left; top = on.top; right = on.right; bottom = on.bottom }
-
 pub shown_hooked : (b : Bitmap) (h : Option Hook) (c : CellView) → with_layer_shown c.state c.live b ≡ with_layer_shown c.state (hooked h c).live b
 unfolding with_layer_shown
 shown_hooked b h c = by_state c.state

@@ -21,6 +21,7 @@ use Rattle.lw_arrange.specs.declared.preparing.Prepared.{Prepared}
 use Rattle.lw_arrange.specs.declared.preparing.Prepared.TheVariants.{Stays, Closes, Opens, Changes}
 use Rattle.lw_arrange.specs.Arrangements.{ArrangementView}
 use Rattle.lw_arrange.specs.Prepared.{MayPrepare}
+use Rattle.lw_arrange.specs.Areas.{IsShownElsewhere}
 use Rattle.lw_arrange.specs.Filled.{gains, gains_some, filled_layer, filled_by}
 use Rattle.lw_arrange.specs.Settled.{across_arrangement, slot_settled}
 use Rattle.lw_engine.specs.declared.window_after.WindowAfter.{WindowAfter}
@@ -55,10 +56,11 @@ slot_after glyphs a shelf c = slot_settled glyphs a (asked_hook shelf a.call c.n
 
 -- Words of this crate's private contracts.
 
--- a slot may be made ready for the arrangement: its cell may be prepared, it isn't to be the active window before it is opened, and
--- a window's port has room for all messages that it may be due
+-- a slot may be made ready for the arrangement: its cell may be prepared, and shows what the plan says outside the area, it isn't
+-- to be the active window before it is opened, and a window's port has room for all messages that it may be due
 pub record MayBeReady (a : ArrangementView) (c : CellView) : Type 0 where
   pub prepare : MayPrepare a (bare c)
+  pub elsewhere : IsShownElsewhere a (bare c)
   pub idle : c.state ≡ view.Unopened → is_the a.stack.active c.number ≡ false
   pub room : HasRoom 5 c
 

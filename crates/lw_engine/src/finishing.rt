@@ -54,14 +54,8 @@ fn screen<B: Backfill>(
     ensures { IfOk result (λ planes. (d : Desk) → AreSlotsOf sizes.now slots.now d → planes ≡ screen d) }
 {
     let mut planes = Planes::new(alloc, sizes.width, sizes.height, sizes.depth)?;
-    // A bit for each column of the screen.
-    let bytes = sizes.width as usize / 8 + 1;
-    let mut bits = vec![in alloc; 0; bytes]?;
-    let mut kept = vec![in alloc; 0; bytes]?;
-    let bits = bits.as_mut_slice();
-    let kept = kept.as_mut_slice();
     for slot in slots {
-        show_layer(&mut planes, slot.cell(), bits, kept);
+        show_layer(&mut planes, slot.cell());
     }
     Ok(planes)
 }

@@ -13,6 +13,7 @@ ghost use Rattle.lw_frames.specs.Telling.{IsDone};
 ghost use Rattle.lw_reveal.specs.Changed.{carried_to};
 ghost use Rattle.lw_reveal.specs.Changes.{IsChange};
 ghost use Rattle.lw_arrange.specs.Prepared.{cell_after, MayPrepare};
+ghost use Rattle.lw_arrange.specs.Areas.{IsShownElsewhere};
 ghost use Rattle.lw_arrange.specs.Filled.{AreGained};
 ghost use Rattle.lw_engine.specs.Desks.{hook_at};
 ghost use Rattle.lw_engine.specs.Slots.{asked_hook, bare, filled_as, followed, hook_in, nothing_ready, IsStill, IsSettled, IsReadyFor, MayBeReady};
@@ -211,6 +212,7 @@ fn pixels_gained(
 ) -> Result<Region, AllocError>
     requires slot { cell.now.number < arrangement.now.stack.sizes.slots }
     requires may { MayPrepare arrangement.now cell.now }
+    requires elsewhere { IsShownElsewhere arrangement.now cell.now }
     ensures hook { IfOk result (λ region. hooked ≡ true → AreGained cell.now (cell_after arrangement.now cell.now) region) }
     ensures frame { IfOk result (λ region. cell.now.state ≡ view.Live → is_framed cell.now.live.layer.window ≡ true
         → AreGained cell.now (cell_after arrangement.now cell.now) region) }

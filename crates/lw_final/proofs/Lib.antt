@@ -1,5 +1,3 @@
 pub mod SeenTables
 pub mod SeenLaws
-pub mod ShownRows
-pub mod ShownPlaces
 pub mod ShownLayer

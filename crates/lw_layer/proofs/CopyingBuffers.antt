@@ -54,8 +54,11 @@ shown_buffers d ok canonical = record {
 pub shown_planes : (d : LiveDraft) (plane : ℕ) → IsLiveDraft d → plane < d.depth → All (λ (b : Bitmap). plane < b.depth) d.buffers.items
 shown_planes d plane ok deep = λ k b inside. let is = shown_each d k d.bounds b ok inside in omega (arith, is.planes)
 
+pub shown_deep : (d : LiveDraft) (depth : ℕ) → IsLiveDraft d → depth ≡ d.depth → All (λ (b : Bitmap). b.depth ≡ depth) d.buffers.items
+shown_deep d depth ok is = λ k b inside. (shown_each d k d.bounds b ok inside).planes ∙ sym is
+
 -- what a smart layer has beside its visible rectangles
-smart_rest : (kind : Kind) (hidden covered : ℕ) (own : Option Bitmap) → kind ≡ Smart → IsRest kind hidden covered own → (covered ≡ hidden) × (own ≡ None)
+pub smart_rest : (kind : Kind) (hidden covered : ℕ) (own : Option Bitmap) → kind ≡ Smart → IsRest kind hidden covered own → (covered ≡ hidden) × (own ≡ None)
 smart_rest Simple hidden covered own is rest = absurd (cc is)
 smart_rest Smart hidden covered own is rest = rest
 smart_rest SuperBitmap hidden covered own is rest = absurd (cc is)
@@ -91,6 +94,9 @@ covered_buffers d smart ok =
 pub covered_planes : (d : LiveDraft) (plane : ℕ) → d.kind ≡ Smart → IsLiveDraft d → plane < d.depth → All (λ (b : Bitmap). plane < b.depth) d.covered.items
 covered_planes d plane smart ok deep = λ k b inside. let is = covered_each d k d.bounds b smart ok inside in omega (arith, is.planes)
 
+pub covered_deep : (d : LiveDraft) (depth : ℕ) → d.kind ≡ Smart → IsLiveDraft d → depth ≡ d.depth → All (λ (b : Bitmap). b.depth ≡ depth) d.covered.items
+covered_deep d depth smart ok is = λ k b inside. (covered_each d k d.bounds b smart ok inside).planes ∙ sym is
+
 -- places that no rectangle has
 places_nowhere : (bs : List Bitmap) (plane : ℕ) (x y : ℤ) (n : ℕ) (bits kept : List ℕ) → AreClear bits kept → HasPlaces [] bs plane x y n bits kept
 unfolding pen_in
@@ -116,7 +122,7 @@ smart_places d plane x y n bits kept smart ok has =
     subst P (sym smart) (subst Q (sym buffers) has)
 
 -- what a super-bitmap layer has beside its visible rectangles
-super_rest : (kind : Kind) (hidden covered : ℕ) (own : Option Bitmap) → kind ≡ SuperBitmap → IsRest kind hidden covered own → covered ≡ 0
+pub super_rest : (kind : Kind) (hidden covered : ℕ) (own : Option Bitmap) → kind ≡ SuperBitmap → IsRest kind hidden covered own → covered ≡ 0
 super_rest Simple hidden covered own is rest = absurd (cc is)
 super_rest Smart hidden covered own is rest = absurd (cc is)
 super_rest SuperBitmap hidden covered own is rest = rest.0

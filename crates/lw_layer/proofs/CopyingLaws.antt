@@ -1,7 +1,7 @@
 -- Which bits the pixels of a row of a layer have, by the places of its buffers.
-use Rattle.std.proofs.Common.{◌≡◌, ℕ, ◌+◌, ◌<◌, ◌≤◌, true, false, if◌then◌else◌, List, [], get_or, Option, Some, None, ◌∙◌, sym, refl, ap, subst, arith, ℤ, pos, negsuc, ◌+ℤ◌, ◌-ℤ◌, ◌≤ℤ◌, ◌<ℤ◌, unsigned_abs, ◌⊎◌, inl, inr, ⊎_elim}
+use Rattle.std.proofs.Common.{◌≡◌, ℕ, ◌+◌, ◌<◌, ◌≤◌, Bool, true, false, if◌then◌else◌, List, [], get_or, Option, Some, None, ◌∙◌, sym, refl, ap, subst, arith, ℤ, pos, negsuc, ◌+ℤ◌, ◌-ℤ◌, ◌≤ℤ◌, ◌<ℤ◌, unsigned_abs, ◌⊎◌, inl, inr, ⊎_elim}
 use Rattle.std.specs.Int.{bit_at}
-use Rattle.std.proofs.lemmas.Bool.{cases_lt, or_parts, or_from, and_left}
+use Rattle.std.proofs.lemmas.Bool.{cases_lt, or_parts, or_from, and_left, and_right}
 use Rattle.std.proofs.lemmas.Int.{ints}
 use Rattle.std.proofs.lemmas.Nat.Bits.{bit_at-zero, bit_at-lt}
 use Rattle.lw_region.specs.Rectangle.{Rectangle, within, has_pixel, IsOrdered}
@@ -20,10 +20,10 @@ use Rattle.lw_calls.specs.declared.make.Kind.{Kind}
 use Rattle.lw_calls.specs.declared.make.Kind.TheVariants.{Simple, Smart, SuperBitmap}
 use Rattle.lw_cliprects.specs.Parts.{hidden_of, AreDivided}
 use Rattle.lw_machine.specs.Kept.{holds_at}
-use Rattle.lw_layer.specs.View.{LiveView, keeps}
+use Rattle.lw_layer.specs.View.{LiveView, keeps, kept_pen}
 use Rattle.lw_layer.specs.Pieces.{Layout, buffered, buffer_rectangle, rest_as, rest_of, whole_of, across, down, found_in, buffer_at, column_in, line_in}
 use Rattle.lw_layer.specs.Drafts.{IsLiveDraft, layout, buffers_of, no_bitmap, pen_from, live_view}
-use Rattle.lw_layer.specs.Copied.{bit_in, kept_bit, IsRowOf, HasPlaces, AreClear, across_at}
+use Rattle.lw_layer.specs.Copied.{bit_in, kept_bit, IsRowOf, HasPlaces, AreClear, across_at, down_at, pen_over}
 use Rattle.lw_layer.specs.declared.draft.LiveDraft.{LiveDraft}
 use Rattle.lw_layer.proofs.BufferLaws.{as_many_buffers}
 use Rattle.lw_layer.proofs.Positions.{none_passes}
@@ -32,16 +32,12 @@ use Rattle.lw_layer.proofs.ViewLaws.{has_place}
 use Rattle.lw_layer.proofs.KeptLaws.{keeps_found, keeps_missing, column_off, columns_off, rows_off, left_of_pixel, above_pixel}
 use Rattle.lw_layer.proofs.ReadLaws.{unkept_unread}
 
--- the bit of a pixel that is kept, and of one that isn't
-kept_yes : (c : LiveView) (plane x y : ℕ) → keeps c x y ≡ true → kept_bit c plane (pos x) (pos y) ≡ bit_at (pen_at c.layer.bits x y) plane
-unfolding kept_bit
-kept_yes c plane x y is = ap (λ w. bit_in plane (if w then Some (pen_at c.layer.bits x y) else None)) is
-
 -- a bit of a pen, or of none, is a bit
 pub bit_in_lt : (plane : ℕ) (pen : Option ℕ) → bit_in plane pen < 2
 bit_in_lt plane None = omega arith
 bit_in_lt plane (Some pen) = bit_at-lt pen plane
 
+-- the bit of a pixel that isn't kept
 pub kept_no : (c : LiveView) (plane : ℕ) (x y : ℤ) → holds_at (λ u v. keeps c u v) x y ≡ false → kept_bit c plane x y ≡ 0
 unfolding kept_bit
 kept_no c plane x y off = sym (ap (λ o. bit_in plane o) (unkept_unread c x y off))
@@ -78,6 +74,16 @@ off_buffered d x y ok ordered divided off =
     let parts = or_parts (covers d.parts.visible place y) (covers (hidden_of d.bounds d.parts.visible) place y) (divided.cover place y ∙ bounds) in
     covers_append l.visible (rest_of l) place y ∙ or_from _ _ parts.0 (rest_lacks d.kind (hidden_of d.bounds d.parts.visible) (whole_of l) place y parts.1 whole)
 
+-- nor a row off them
+off_buffered_rows : (d : LiveDraft) (x y : ℤ) → IsLiveDraft d → IsOrdered d.bounds → AreDivided d.bounds d.parts.visible (hidden_of d.bounds d.parts.visible) → (y <ℤ pos 0) ⊎ (pos (layout d).height ≤ℤ y) → covers (buffered (layout d)) x (down_at (layout d) y) ≡ false
+off_buffered_rows d x y ok ordered divided off =
+    let l = layout d in
+    let place : ℤ = down_at l y in
+    let bounds : has_pixel d.bounds x place ≡ false = and_right _ _ (off_bounds d.bounds.min_y d.bounds.max_y l.scroll_y l.height y ordered.rows ok.scrolled.lower off) in
+    let whole : has_pixel (whole_of l) x place ≡ false = and_right _ _ (off_whole d.bounds.min_y l.scroll_y l.height y off) in
+    let parts = or_parts (covers d.parts.visible x place) (covers (hidden_of d.bounds d.parts.visible) x place) (divided.cover x place ∙ bounds) in
+    covers_append l.visible (rest_of l) x place ∙ or_from _ _ parts.0 (rest_lacks d.kind (hidden_of d.bounds d.parts.visible) (whole_of l) x place parts.1 whole)
+
 -- a difference that isn't below 0
 pub natural_distance : (z : ℤ) → pos 0 ≤ℤ z → natural z ≡ unsigned_abs z
 natural_distance (pos n) h = refl
@@ -100,58 +106,93 @@ found_pen d x y n ok found =
     (ap (λ i. pen_at b i (natural (down l y -ℤ r.min_y))) column ∙
     (ap (λ j. pen_at b (column_in l n x) j) line ∙ sym (pen ∙ ap (λ o. pen_from (buffers_of d) l o x y) found)))
 
--- what the places of the buffers say of a pixel of the layer
-record IsPixel (d : LiveDraft) (plane : ℕ) (x : ℤ) (y : ℕ) : Type 0 where
-  pens : bit_at (pen_in (buffered (layout d)) (buffers_of d) (across_at (layout d) x) (down (layout d) y)) plane ≡ kept_bit (live_view d) plane x (pos y)
-  there : covers (buffered (layout d)) (across_at (layout d) x) (down (layout d) y) ≡ holds_at (λ u v. keeps (live_view d) u v) x (pos y)
+-- what the places of the buffers say of a pixel of the layer: its pen where it is kept, and which pixels are
+pub record IsPixel (d : LiveDraft) (x y : ℤ) : Type 0 where
+  pub pen : (old : ℕ)
+      → (if covers (buffered (layout d)) (across_at (layout d) x) (down_at (layout d) y) then pen_in (buffered (layout d)) (buffers_of d) (across_at (layout d) x) (down_at (layout d) y) else old)
+      ≡ pen_over old (kept_pen (live_view d) x y)
+  pub there : covers (buffered (layout d)) (across_at (layout d) x) (down_at (layout d) y) ≡ holds_at (λ u v. keeps (live_view d) u v) x y
 
-pixel_off : (d : LiveDraft) (plane : ℕ) (x : ℤ) (y : ℕ) → covers (buffered (layout d)) (across_at (layout d) x) (down (layout d) y) ≡ false → holds_at (λ u v. keeps (live_view d) u v) x (pos y) ≡ false → IsPixel d plane x y
-pixel_off d plane x y free off = record {
-  pens = ap (λ p. bit_at p plane) (pen_none (buffered (layout d)) (buffers_of d) (across_at (layout d) x) (down (layout d) y) free) ∙ (bit_at-zero plane ∙ sym (kept_no (live_view d) plane x (pos y) off));
+pixel_off : (d : LiveDraft) (x y : ℤ) → covers (buffered (layout d)) (across_at (layout d) x) (down_at (layout d) y) ≡ false → holds_at (λ u v. keeps (live_view d) u v) x y ≡ false → IsPixel d x y
+pixel_off d x y free off = record {
+  pen =
+      λ old.
+      ap (λ t. if t then pen_in (buffered (layout d)) (buffers_of d) (across_at (layout d) x) (down_at (layout d) y) else old) free ∙ ap (pen_over old) (unkept_unread (live_view d) x y off);
   there = free ∙ sym off;
 }
 
-pixel_in_bits : (d : LiveDraft) (plane x y : ℕ) (found : Option ℕ) → buffer_at (layout d) x y ≡ found → IsLiveDraft d → IsOrdered d.bounds → AreDivided d.bounds d.parts.visible (hidden_of d.bounds d.parts.visible) → x < (layout d).width → y < (layout d).height → IsPixel d plane (pos x) y
-pixel_in_bits d plane x y None is ok ordered divided left low =
+pixel_in_bits : (d : LiveDraft) (x y : ℕ) (found : Option ℕ) → buffer_at (layout d) x y ≡ found → IsLiveDraft d → IsOrdered d.bounds → AreDivided d.bounds d.parts.visible (hidden_of d.bounds d.parts.visible) → x < (layout d).width → y < (layout d).height → IsPixel d (pos x) (pos y)
+pixel_in_bits d x y None is ok ordered divided left low =
     let l = layout d in
     let nowhere : found_in l (buffered l) x y ≡ None = sym (in_bits_found l x y left low) ∙ is in
     let free = covers_none (buffered l) l.bounds (across l x) (down l y) (λ k inside. none_passes (λ r. has_pixel r (across l x) (down l y)) (buffered l) k l.bounds nowhere inside) in
-    pixel_off d plane (pos x) y free (keeps_missing d x y d.kind refl ok ordered divided left low is)
-pixel_in_bits d plane x y (Some n) is ok ordered divided left low =
+    pixel_off d (pos x) (pos y) free (keeps_missing d x y d.kind refl ok ordered divided left low is)
+pixel_in_bits d x y (Some n) is ok ordered divided left low =
     let l = layout d in
     let place = has_place l x y n is in
     let kept = keeps_found d x y n is in
+    let here = has_at (buffered l) n l.bounds (across l x) (down l y) place.there place.has in
     record {
-      pens = ap (λ p. bit_at p plane) (found_pen d x y n ok is) ∙ sym (kept_yes (live_view d) plane x y kept);
-      there = has_at (buffered l) n l.bounds (across l x) (down l y) place.there place.has ∙ sym kept;
+      pen =
+          λ old.
+          ap (λ t. if t then pen_in (buffered l) (buffers_of d) (across l x) (down l y) else old) here ∙
+          (found_pen d x y n ok is ∙ ap (λ t. pen_over old (if t then Some (pen_at (live_view d).layer.bits x y) else None)) (sym kept));
+      there = here ∙ sym kept;
     }
 
-pixel_is : (d : LiveDraft) (plane : ℕ) (x : ℤ) (y : ℕ) → IsLiveDraft d → IsOrdered d.bounds → AreDivided d.bounds d.parts.visible (hidden_of d.bounds d.parts.visible) → y < (layout d).height → IsPixel d plane x y
-pixel_is d plane (negsuc x) y ok ordered divided low =
-    pixel_off d plane (negsuc x) y (off_buffered d (negsuc x) (down (layout d) y) ok ordered divided (inl (omega (arith, ints)))) refl
-pixel_is d plane (pos x) y ok ordered divided low =
+pixel_in_row : (d : LiveDraft) (x : ℤ) (y : ℕ) → IsLiveDraft d → IsOrdered d.bounds → AreDivided d.bounds d.parts.visible (hidden_of d.bounds d.parts.visible) → y < (layout d).height → IsPixel d x (pos y)
+pixel_in_row d (negsuc x) y ok ordered divided low =
+    pixel_off d (negsuc x) (pos y) (off_buffered d (negsuc x) (down (layout d) y) ok ordered divided (inl (omega (arith, ints)))) refl
+pixel_in_row d (pos x) y ok ordered divided low =
     ⊎_elim
-    (λ (left : x < (layout d).width). pixel_in_bits d plane x y (buffer_at (layout d) x y) refl ok ordered divided left low)
-    (λ (past : (layout d).width ≤ x). pixel_off d plane (pos x) y (off_buffered d (pos x) (down (layout d) y) ok ordered divided (inr (omega (arith, ints)))) (column_off d x y past))
+    (λ (left : x < (layout d).width). pixel_in_bits d x y (buffer_at (layout d) x y) refl ok ordered divided left low)
+    (λ (past : (layout d).width ≤ x). pixel_off d (pos x) (pos y) (off_buffered d (pos x) (down (layout d) y) ok ordered divided (inr (omega (arith, ints)))) (column_off d x y past))
     (cases_lt x (layout d).width)
+
+pub pixel_is : (d : LiveDraft) (x y : ℤ) → IsLiveDraft d → IsOrdered d.bounds → AreDivided d.bounds d.parts.visible (hidden_of d.bounds d.parts.visible) → IsPixel d x y
+pixel_is d x (negsuc y) ok ordered divided =
+    pixel_off d x (negsuc y) (off_buffered_rows d (across_at (layout d) x) (negsuc y) ok ordered divided (inl (omega (arith, ints)))) (rows_off d x (negsuc y) (λ v is. absurd (omega (arith, ints))))
+pixel_is d x (pos y) ok ordered divided =
+    ⊎_elim
+    (λ (low : y < (layout d).height). pixel_in_row d x y ok ordered divided low)
+    (λ (past : (layout d).height ≤ y). pixel_off d x (pos y) (off_buffered_rows d (across_at (layout d) x) (pos y) ok ordered divided (inr (omega (arith, ints)))) (rows_off d x (pos y) (λ v is. omega (arith, ints))))
+    (cases_lt y (layout d).height)
+
+-- the plane's bit of its pen
+none_or_zero : (t : Bool) (pen : ℕ) → (t ≡ false → pen ≡ 0) → pen ≡ (if t then pen else 0)
+none_or_zero true pen none = refl
+none_or_zero false pen none = none refl
+
+bit_over_zero : (plane : ℕ) (pen : Option ℕ) → bit_at (pen_over 0 pen) plane ≡ bit_in plane pen
+bit_over_zero plane None = bit_at-zero plane
+bit_over_zero plane (Some pen) = refl
+
+pixel_bit : (d : LiveDraft) (plane : ℕ) (x y : ℤ) → IsPixel d x y → bit_at (pen_in (buffered (layout d)) (buffers_of d) (across_at (layout d) x) (down_at (layout d) y)) plane ≡ kept_bit (live_view d) plane x y
+unfolding kept_bit
+pixel_bit d plane x y is =
+    let l = layout d in
+    let u : ℤ = across_at l x in
+    let v : ℤ = down_at l y in
+    ap (λ p. bit_at p plane) (none_or_zero (covers (buffered l) u v) (pen_in (buffered l) (buffers_of d) u v) (pen_none (buffered l) (buffers_of d) u v) ∙ is.pen 0) ∙
+    bit_over_zero plane (kept_pen (live_view d) x y)
 
 -- further right along the row
 pub further_across : (l : Layout) (x : ℤ) (i : ℕ) → across_at l x +ℤ pos i ≡ across_at l (x +ℤ pos i)
 further_across l x i = omega (arith, ints)
 
 -- the places of the buffers are the pixels of the layer
-pub row_of_places : (d : LiveDraft) (plane : ℕ) (x y : ℤ) (row n : ℕ) (bits kept : List ℕ) → y ≡ pos row → row < (layout d).height → IsLiveDraft d → IsOrdered d.bounds → AreDivided d.bounds d.parts.visible (hidden_of d.bounds d.parts.visible) → HasPlaces (buffered (layout d)) (buffers_of d) plane (across_at (layout d) x) (down (layout d) row) n bits kept → IsRowOf (live_view d) plane x y n bits kept
-row_of_places d plane x y row n bits kept is low ok ordered divided has =
+pub row_of_places : (d : LiveDraft) (plane : ℕ) (x y : ℤ) (row n : ℕ) (bits kept : List ℕ) → y ≡ pos row → IsLiveDraft d → IsOrdered d.bounds → AreDivided d.bounds d.parts.visible (hidden_of d.bounds d.parts.visible) → HasPlaces (buffered (layout d)) (buffers_of d) plane (across_at (layout d) x) (down (layout d) row) n bits kept → IsRowOf (live_view d) plane x y n bits kept
+row_of_places d plane x y row n bits kept is ok ordered divided has =
     let l = layout d in
     let P : ℤ → Type 0 = λ z. IsRowOf (live_view d) plane x z n bits kept in
     subst P (sym is)
     (record {
       pens =
           λ i below.
-          has.pens i below ∙ (ap (λ z. bit_at (pen_in (buffered l) (buffers_of d) z (down l row)) plane) (further_across l x i) ∙ (pixel_is d plane (x +ℤ pos i) row ok ordered divided low).pens);
+          has.pens i below ∙ (ap (λ z. bit_at (pen_in (buffered l) (buffers_of d) z (down l row)) plane) (further_across l x i) ∙ pixel_bit d plane (x +ℤ pos i) (pos row) (pixel_is d (x +ℤ pos i) (pos row) ok ordered divided));
       there =
           λ i below.
-          has.there i below ∙ (ap (λ z. bit_of (covers (buffered l) z (down l row))) (further_across l x i) ∙ ap (λ w. bit_of w) (pixel_is d plane (x +ℤ pos i) row ok ordered divided low).there);
+          has.there i below ∙ (ap (λ z. bit_of (covers (buffered l) z (down l row))) (further_across l x i) ∙ ap (λ w. bit_of w) (pixel_is d (x +ℤ pos i) (pos row) ok ordered divided).there);
     })
 
 -- a row that the layer hasn't, and one that begins right of it

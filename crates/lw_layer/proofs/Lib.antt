@@ -21,6 +21,7 @@ pub mod CopyingLaws
 pub mod OrderedLists
 pub mod CopyingBuffers
 pub mod CopyingJoined
+pub mod KeptLaid
 pub mod SoundLaws
 pub mod LineLaws
 pub mod LinesLaws

@@ -7,7 +7,6 @@ use Rattle.std.proofs.lemmas.Bool.Decides.{nat_tests}
 use Rattle.lw_planes.specs.Row.{row_bit}
 use Rattle.lw_planes.specs.Bitmap.{pen_at, row_bytes}
 use Rattle.lw_planes.proofs.BitmapLaws.{pen_at_bitmap}
-use Rattle.lw_region.specs.Rectangle.{width}
 use Rattle.lw_machine.specs.Desk.{is_the}
 use Rattle.lw_machine.proofs.Seen.{the_one}
 use Rattle.lw_layer.specs.Pieces.{Layout, buffer_at, column_in, line_in, in_line, in_lines, HaveLinesBits}

@@ -1,11 +1,12 @@
--- What reading a row of one plane of a layer's pixels gives.
-use Rattle.std.specs.Prelude.{◌≡◌, ℕ, ◌<◌, List, ◌++◌, ℤ, pos, ◌+ℤ◌, ◌-ℤ◌, Option, Some, None}
+-- What reading a row of one plane of a layer's pixels gives, and laying all of them on a bitmap.
+use Rattle.std.specs.Prelude.{◌≡◌, ℕ, ◌+◌, ◌<◌, if◌then◌else◌, List, ◌++◌, ℤ, pos, ◌+ℤ◌, ◌-ℤ◌, Option, Some, None}
 use Rattle.std.specs.Int.{bit_at}
 use Rattle.lw_region.specs.Rectangle.{Rectangle}
 use Rattle.lw_region.specs.Bands.{covers}
 use Rattle.lw_planes.specs.Row.{bit_of, row_bit}
-use Rattle.lw_planes.specs.Bitmap.{Bitmap}
+use Rattle.lw_planes.specs.Bitmap.{Bitmap, bitmap, pen_at}
 use Rattle.lw_buffers.specs.Lookup.{pen_in}
+use Rattle.lw_machine.specs.Screen.{distance}
 use Rattle.lw_machine.specs.Kept.{holds_at}
 use Rattle.lw_layer.specs.View.{LiveView, keeps, kept_pen}
 use Rattle.lw_layer.specs.Pieces.{Layout}
@@ -26,7 +27,25 @@ pub record IsRowOf (c : LiveView) (plane : ℕ) (x y : ℤ) (n : ℕ) (bits kept
   pub pens : (i : ℕ) → i < n → row_bit bits i ≡ kept_bit c plane (x +ℤ pos i) y
   pub there : (i : ℕ) → i < n → row_bit kept i ≡ bit_of (holds_at (λ u v. keeps c u v) (x +ℤ pos i) y)
 
--- The same of the places of a list of rectangles with a bitmap each, for private contracts.
+-- the pen that was told, and another one where none was
+abbrev pub pen_over : ℕ → Option ℕ → ℕ
+pen_over old None = old
+pen_over old (Some pen) = pen
+
+-- The bitmap with the pens that the layer keeps, its pixel (0, 0) on the layer's pixel (x, y). Where the layer keeps no pixel, it
+-- is as it was.
+abbrev pub with_kept : LiveView → ℤ → ℤ → Bitmap → Bitmap
+with_kept c x y b = bitmap b.width b.height b.depth (λ i j. pen_over (pen_at b i j) (kept_pen c (x +ℤ pos i) (y +ℤ pos j)))
+
+-- the pen of the layer's pixel that lies on the place (x, y) of the screen, for a place that its bounds have
+abbrev pub pen_shown : LiveView → ℕ → ℕ → ℕ
+pen_shown c x y = pen_at c.layer.bits (distance c.bounds.min_x (pos x) + c.layer.scroll_x) (distance c.bounds.min_y (pos y) + c.layer.scroll_y)
+
+-- the bitmap of the screen with the layer's pens where it is visible, and all else as it was
+abbrev pub with_visible : LiveView → Bitmap → Bitmap
+with_visible c b = bitmap b.width b.height b.depth (λ x y. if covers c.visible (pos x) (pos y) then pen_shown c x y else pen_at b x y)
+
+-- What reading a row gives of the places of a list of rectangles with a bitmap each, for private contracts.
 pub record HasPlaces (rects : List Rectangle) (buffers : List Bitmap) (plane : ℕ) (x y : ℤ) (n : ℕ) (bits kept : List ℕ) : Type 0 where
   pub pens : (i : ℕ) → i < n → row_bit bits i ≡ bit_at (pen_in rects buffers (x +ℤ pos i) y) plane
   pub there : (i : ℕ) → i < n → row_bit kept i ≡ bit_of (covers rects (x +ℤ pos i) y)
@@ -39,6 +58,10 @@ pub record AreClear (bits kept : List ℕ) : Type 0 where
 -- where the layer's column x lies on the plane of the screen, for any x
 abbrev pub across_at : Layout → ℤ → ℤ
 across_at l x = (l.bounds.min_x +ℤ x) -ℤ pos l.scroll_x
+
+-- where the layer's row y lies there, for any y
+abbrev pub down_at : Layout → ℤ → ℤ
+down_at l y = (l.bounds.min_y +ℤ y) -ℤ pos l.scroll_y
 
 -- all buffers but those of the visible rectangles
 abbrev pub rest_buffers : LiveDraft → List Bitmap

@@ -17,13 +17,14 @@ ghost use Rattle.lw_layer.specs.Lending.{LendsLines};
 ghost use Rattle.lw_layer.specs.Looks.{IsLook};
 ghost use Rattle.lw_layer.specs.StandsFor.{IsSound};
 ghost use Rattle.lw_layer.specs.Runs.{IsRunAt, IsNext, AreAlike};
-ghost use Rattle.lw_layer.specs.Copied.{kept_bit};
+ghost use Rattle.lw_layer.specs.Copied.{kept_bit, with_kept, with_visible};
 
 use crate::draft::LiveDraft;
 use crate::look::Look;
 use crate::raster::Raster;
 use crate::run::Run;
 use lw_damage::Damage;
+use lw_planes::Planes;
 use lw_region::{Rect, Region};
 use std::marker::Model;
 use std::mem;
@@ -197,6 +198,25 @@ impl Layer {
             bit_of (holds_at (λ u v. keeps self.now u v) (x +ℤ pos i) y) }
     {
         self.draft.copy_row(plane, x, y, bits, kept);
+    }
+
+    /// Lays the pens that the layer keeps on a bitmap whose pixel (0, 0) lies on the layer's pixel (`x`, `y`), which may lie anywhere:
+    /// each pixel of the bitmap on which a kept pixel lies gets its pen, and each other one stays as it was. The bitmap has as many
+    /// planes as the layer. No memory is taken.
+    pub fn copy_kept(&self, x: i32, y: i32, to: &mut Planes)
+        requires { to.old.depth ≡ self.now.layer.bits.depth }
+        ensures { to.new ≡ with_kept self.now x y to.old }
+    {
+        self.draft.copy_kept(x, y, to);
+    }
+
+    /// Lays the layer's visible pens on the bitmap of the screen: each of its pixels on which the layer is visible gets the pen that
+    /// the layer shows there, and each other one stays as it was. The bitmap has as many planes as the layer. No memory is taken.
+    pub fn show(&self, to: &mut Planes)
+        requires { to.old.depth ≡ self.now.layer.bits.depth }
+        ensures { to.new ≡ with_visible self.now to.old }
+    {
+        self.draft.show(to);
     }
 
     /// The visible rectangles, on the screen: the canonical list of the visible region.

@@ -7,6 +7,7 @@ mod copying;
 mod draft;
 mod kept;
 mod layer;
+mod laying;
 mod lines;
 mod look;
 mod new;

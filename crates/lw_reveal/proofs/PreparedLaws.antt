@@ -1,8 +1,7 @@
 -- A change that is made ready.
-use Rattle.std.proofs.Common.{◌≡◌, ℕ, ◌+◌, ◌<◌, ◌≤◌, Bool, true, false, ◌⊎◌, inl, inr, List, [], ◌++◌, length, get_or, None, ◌∙◌, sym, refl, ap, subst, arith, ◌-ℤ◌, length-append}
+use Rattle.std.proofs.Common.{◌≡◌, ℕ, ◌+◌, ◌<◌, Bool, true, false, ◌⊎◌, inl, inr, List, [], ◌++◌, length, get_or, None, ◌∙◌, sym, refl, ap, subst, arith, ◌-ℤ◌, length-append}
 use Rattle.std.proofs.lemmas.List.{get_or_append_left, get_or_default}
 use Rattle.lw_region.specs.Rectangle.{Rectangle, moved_by, width, height}
-use Rattle.lw_planes.specs.Bitmap.{row_bytes}
 use Rattle.lw_planes.specs.Sizes.{AreSizes}
 use Rattle.lw_calls.specs.declared.make.Kind.{Kind}
 use Rattle.lw_calls.specs.declared.make.Kind.TheVariants.{Simple, Smart, SuperBitmap}
@@ -16,7 +15,7 @@ use Rattle.lw_reveal.specs.declared.change.Change.{Change}
 use Rattle.lw_reveal.specs.declared.pairing.Pairing.{Pairing}
 use Rattle.lw_reveal.specs.Changed.{carried_to, MayHave}
 use Rattle.lw_reveal.specs.Changes.{beside_own, carried, new_rectangle, new_buffer, IsGiven, MayBeHanded, IsChange}
-use Rattle.lw_reveal.specs.Carrying.{HaveRoom, AreBothNew}
+use Rattle.lw_reveal.specs.Carrying.{HaveSizes, AreBothNew}
 use Rattle.lw_reveal.specs.Pairing.{IsPair, IsPairingOf}
 use Rattle.lw_reveal.proofs.CarriedLaws.{AreParts, both_ordered, divided_inside}
 
@@ -53,22 +52,14 @@ new_size kind bounds visible depth i parts sizes inside =
     (λ x y has. divided_inside bounds visible hidden i x y parts.divided one.inside has)
     sizes)
 
-row_room : (w : ℕ) → w ≤ 2048 → row_bytes w ≤ 256
-row_room w small = omega arith
-
--- there is room for each of their rows
-pub new_room : (kind : Kind) (bounds : Rectangle) (visible rects : List Rectangle) (depth : ℕ)
+pub new_sizes : (kind : Kind) (bounds : Rectangle) (visible rects : List Rectangle) (depth : ℕ)
     → rects ≡ beside_own kind bounds visible → AreParts bounds visible → AreSizes (width bounds) (height bounds) depth
-    → HaveRoom depth rects 256
-new_room kind bounds visible rects depth is parts sizes =
+    → HaveSizes depth rects
+new_sizes kind bounds visible rects depth is parts sizes =
     let all = beside_own kind bounds visible in
-    let size : (i : ℕ) (d : Rectangle) → i < length all → AreSizes (width (get_or all i d)) (height (get_or all i d)) depth =
-    λ i d inside.
     let P : Rectangle → Type 0 = λ q. AreSizes (width q) (height q) depth in
-    subst P (get_or_default all i bounds d inside) (new_size kind bounds visible depth i parts sizes inside)
-    in
-    subst (λ q. HaveRoom depth q 256) (sym is)
-    (record { sizes = λ i d inside. size i d inside; rows = λ i d inside. row_room (width (get_or all i d)) (size i d inside).columns.1 })
+    subst (λ q. HaveSizes depth q) (sym is)
+    (λ i d inside. subst P (get_or_default all i bounds d inside) (new_size kind bounds visible depth i parts sizes inside))
 
 -- each new buffer is the carried one, or one is handed over to its place
 pen_or_given : (c : LiveView) (k : Change) (p : Pairing) (shown i : ℕ) (t : Bool) → get_or p.given.items i false ≡ t

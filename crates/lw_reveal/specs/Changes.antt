@@ -8,6 +8,7 @@ use Rattle.lw_calls.specs.declared.make.Kind.{Kind}
 use Rattle.lw_cliprects.specs.Parts.{hidden_of}
 use Rattle.lw_layer.specs.View.{LiveView, kept_pen}
 use Rattle.lw_layer.specs.Pieces.{IsDamageOf}
+use Rattle.lw_layer.specs.Copied.{pen_over}
 use Rattle.lw_layer.specs.Drafts.{no_bitmap}
 use Rattle.lw_layer.specs.New.{kept_hidden}
 use Rattle.lw_reveal.specs.declared.change.Change.{Change}
@@ -26,8 +27,7 @@ new_rectangle c k i = slice_index_or (beside_own c.layer.kind k.bounds k.parts.v
 
 -- the pen that was told, or 0
 abbrev pub pen_or_zero : Option ℕ → ℕ
-pen_or_zero None = 0
-pen_or_zero (Some pen) = pen
+pen_or_zero pen = pen_over 0 pen
 
 -- which column or row of a layer stands at distance i from a rectangle's edge, where the bounds' edge shows the one at the scroll
 abbrev pub layer_place : ℤ → ℤ → ℕ → ℕ → ℤ

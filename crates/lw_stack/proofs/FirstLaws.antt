@@ -1,14 +1,18 @@
--- Which layer of a list is the first at a place, as the list grows at its end, and around one of its entries.
+-- Which layer of a list is the first at a place: as the list grows at its end, around one of its entries, and of lists that
+-- differ in one slot.
 use Rattle.std.proofs.Common.{◌≡◌, ℕ, ◌+◌, ◌<◌, ◌==◌, Bool, true, false, not, ◌&&◌, ◌||◌, cond, List, [], ◌∷◌, ◌++◌, length, take, drop, get_or, ℤ, Option, Some, None, refl, sym, ap, ◌∙◌}
+use Rattle.std.specs.Prelude.{if◌then◌else◌}
 use Rattle.std.specs.List.{find}
 use Rattle.std.specs.Option.{option_or, is_some}
-use Rattle.std.proofs.lemmas.Bool.{false≢true, eq-eqb, ne_eqb, and_right}
+use Rattle.std.proofs.lemmas.Bool.{false≢true, eq-eqb, ne_eqb, eqb-true, and_right}
 use Rattle.std.proofs.lemmas.List.{take-append-drop, drop_more}
 use Rattle.std.proofs.lemmas.List.Folds.{find-append}
 use Rattle.lw_region.specs.Rectangle.{Rectangle}
 use Rattle.lw_machine.specs.Desk.{is_the}
 use Rattle.lw_machine.specs.Screen.{bounds_have}
+use Rattle.lw_machine.specs.Arrangement.{without}
 use Rattle.lw_stack.specs.Stack.{bounds_at, first_at, is_first_at}
+use Rattle.lw_stack.specs.Laws.{ElsewhereLaw}
 
 -- the slot's bounds have the place
 abbrev pub has_at : List (Option Rectangle) → ℕ → ℤ → ℤ → Bool
@@ -63,7 +67,7 @@ some_behind bounds slots slot x y =
     ap is_some (first_behind bounds slots slot x y) ∙ some_or_last (first_at bounds slots x y) (has_at bounds slot x y) slot
 
 -- a layer that doesn't have the place isn't the first of any list there
-not_first : (bounds : List (Option Rectangle)) (slots : List ℕ) (slot : ℕ) (x y : ℤ) → has_at bounds slot x y ≡ false
+pub not_first : (bounds : List (Option Rectangle)) (slots : List ℕ) (slot : ℕ) (x y : ℤ) → has_at bounds slot x y ≡ false
     → is_first_at bounds slots slot x y ≡ false
 unfolding first_at
 not_first bounds [] slot x y outside = refl
@@ -108,3 +112,46 @@ none_found bounds slots slot x y none has =
 -- a list in three parts: what is in front of an entry, the entry, and the rest
 pub around_entry : (slots : List ℕ) (i : ℕ) → i < length slots → slots ≡ take i slots ++ get_or slots i 0 ∷ drop (i + 1) slots
 around_entry slots i below = sym (take-append-drop i slots) ∙ ap (λ rest. take i slots ++ rest) (drop_more slots i 0 below)
+
+-- the layers of a list and of more behind it
+pub first_of_more : (bounds : List (Option Rectangle)) (slots more : List ℕ) (x y : ℤ)
+    → first_at bounds (slots ++ more) x y ≡ option_or (first_at bounds slots x y) (first_at bounds more x y)
+unfolding first_at
+first_of_more bounds slots more x y = find-append (λ s. has_at bounds s x y) slots more
+
+-- a list without a slot that hasn't the place has the same layer on top
+first_without : (bounds : List (Option Rectangle)) (slots : List ℕ) (s : ℕ) (x y : ℤ) → has_at bounds s x y ≡ false
+    → first_at bounds (without s slots) x y ≡ first_at bounds slots x y
+unfolding first_at
+first_without bounds [] s x y outside = refl
+first_without bounds (t ∷ ts) s x y outside =
+    by_test (t == s) refl (first_without bounds ts s x y outside)
+  where
+    by_test : (b : Bool) → (t == s) ≡ b
+        → find (λ u. has_at bounds u x y) (without s ts) ≡ find (λ u. has_at bounds u x y) ts
+        → find (λ u. has_at bounds u x y) (if not b then t ∷ without s ts else without s ts)
+        ≡ cond (has_at bounds t x y) (Some t) (find (λ u. has_at bounds u x y) ts)
+    by_test true e rest =
+        rest ∙ sym (ap (λ h. cond h (Some t) (find (λ u. has_at bounds u x y) ts))
+        (ap (λ u. has_at bounds u x y) (eqb-true t s e) ∙ outside))
+    by_test false e rest = ap (λ o. cond (has_at bounds t x y) (Some t) o) rest
+
+-- where the bounds have the place alike, so do the layers on top
+first_alike : (bounds new_bounds : List (Option Rectangle)) (slots : List ℕ) (x y : ℤ)
+    → ((t : ℕ) → has_at bounds t x y ≡ has_at new_bounds t x y) → first_at bounds slots x y ≡ first_at new_bounds slots x y
+unfolding first_at
+first_alike bounds new_bounds slots x y alike = ap (λ (test : ℕ → Bool). find test slots) (λ i. λ t. alike t i)
+
+-- lists that differ in one slot have the same layer on top outside both of its bounds
+pub first_elsewhere : ElsewhereLaw
+first_elsewhere s bounds new_bounds slots new_slots x y differ before after =
+    sym (first_without bounds slots s x y before)
+    ∙ (ap (λ us. first_at bounds us x y) differ.order
+    ∙ (first_alike bounds new_bounds (without s new_slots) x y (λ t. by_test t (t == s) refl)
+    ∙ first_without new_bounds new_slots s x y after))
+  where
+    by_test : (t : ℕ) (b : Bool) → (t == s) ≡ b → has_at bounds t x y ≡ has_at new_bounds t x y
+    by_test t true e =
+        ap (λ u. has_at bounds u x y) (eqb-true t s e)
+        ∙ (before ∙ sym (ap (λ u. has_at new_bounds u x y) (eqb-true t s e) ∙ after))
+    by_test t false e = ap (λ o. bounds_have o x y) (differ.others t e)

@@ -1,3 +1,5 @@
 pub mod ListLaws
 pub mod FirstLaws
 pub mod ShownLaws
+pub mod AreaLaws
+pub mod ListedLaws

@@ -1,8 +1,6 @@
--- The regions that a pass from front to back keeps: what the layers so far cover, and what of each is shown.
-use Rattle.std.proofs.Common.{◌≡◌, ℕ, ◌+◌, ◌<◌, ◌==◌, Bool, true, false, not, ◌&&◌, ◌||◌, List, [], ◌∷◌, ◌++◌, length, take, drop, get_or, set, replicate, ℤ, Option, None, refl, sym, ap, ◌∙◌, ◌⊎◌, inl, inr}
-use Rattle.std.proofs.lemmas.Bool.{eq-eqb, ne_eqb, and_right, cases_eq}
-use Rattle.std.proofs.lemmas.List.{length-replicate, get_or-replicate, get_or_read, get_or-set_same, get_or-set_other}
-use Rattle.std.proofs.Math.Bool.{and-true, or-false}
+-- The region that a search from front to back keeps: what the layers in front of a slot cover, and what they leave of it.
+use Rattle.std.proofs.Common.{◌≡◌, ℕ, ◌+◌, ◌<◌, ◌==◌, false, not, ◌&&◌, ◌||◌, List, [], ◌∷◌, ◌++◌, length, take, drop, get_or, ℤ, Option, None, refl, sym, ap, ◌∙◌}
+use Rattle.std.proofs.lemmas.Bool.{and_right}
 use Rattle.lw_region.specs.Rectangle.{Rectangle, has_pixel}
 use Rattle.lw_region.specs.Pixels.{pixels_of, union, difference}
 use Rattle.lw_region.specs.Bands.{bands, covers}
@@ -10,11 +8,11 @@ use Rattle.lw_region.specs.Regions.{rectangle_set}
 use Rattle.lw_region.proofs.SetOps.{combined_lists, covers_one}
 use Rattle.lw_region.proofs.Canonical.{covers_nil}
 use Rattle.lw_machine.specs.Screen.{bounds_have}
-use Rattle.lw_stack.specs.Stack.{bounds_at, first_at, is_first_at, AreShown}
+use Rattle.lw_stack.specs.Stack.{bounds_at, first_at, is_first_at}
 use Rattle.lw_stack.proofs.FirstLaws.{has_at, some_at, shown_behind, some_behind, first_where_left, around_entry}
 
 -- an empty list has no pixel
-no_pixel : (rects : List Rectangle) (x y : ℤ) → rects ≡ [] → covers rects x y ≡ false
+pub no_pixel : (rects : List Rectangle) (x y : ℤ) → rects ≡ [] → covers rects x y ≡ false
 no_pixel rects x y e = ap (λ rs. covers rs x y) e ∙ covers_nil x y
 
 -- what was covered, and a rectangle
@@ -38,68 +36,6 @@ covers_left rect covered empty whole left e f g x y =
 pub covers_nothing : (bounds : Option Rectangle) (covered left : List Rectangle) → bounds ≡ None → left ≡ []
     → (x y : ℤ) → covers left x y ≡ (bounds_have bounds x y && not (covers covered x y))
 covers_nothing bounds covered left e f x y = rw (e, f) (covers_nil x y)
-
--- a slot's set with more pixels, written back among all sets
-pub set_added : (sets : List (List Rectangle)) (slot s : ℕ) (own more made : List Rectangle) → slot < length sets
-    → own ≡ get_or sets slot own → made ≡ bands (union (pixels_of own) (pixels_of more))
-    → (x y : ℤ) (b : Bool) → covers more x y ≡ b
-    → covers (get_or (set sets slot made) s []) x y ≡ (covers (get_or sets s []) x y || (b && (slot == s)))
-set_added sets slot s own more made h read e x y b added =
-    by_case (cases_eq s slot)
-  where
-    by_case : (s ≡ slot) ⊎ (s ≡ slot → ⊥)
-        → covers (get_or (set sets slot made) s []) x y ≡ (covers (get_or sets s []) x y || (b && (slot == s)))
-    by_case (inl same) =
-        let test : (slot == s) ≡ true = eq-eqb slot s (sym same) in
-        let written : get_or (set sets slot made) s [] ≡ made =
-        ap (λ n. get_or (set sets slot made) n []) same ∙ get_or-set_same sets slot made [] h in
-        let former : get_or sets s [] ≡ own = ap (λ n. get_or sets n []) same ∙ sym (get_or_read sets slot own h read []) in
-        ap (λ rects. covers rects x y) written
-        ∙ ((combined_lists.unions own more made e).pixels x y
-        ∙ (ap (λ c. covers own x y || c) (added ∙ sym (ap (λ t. b && t) test ∙ and-true b))
-        ∙ ap (λ rects. covers rects x y || (b && (slot == s))) (sym former)))
-    by_case (inr other) =
-        let test : (slot == s) ≡ false = ne_eqb slot s (λ e. other (sym e)) in
-        ap (λ rects. covers rects x y) (get_or-set_other sets slot s made [] other)
-        ∙ sym (ap (λ c. covers (get_or sets s []) x y || c) (and_right b (slot == s) test)
-        ∙ or-false (covers (get_or sets s []) x y))
-
--- the layers that were passed cover these pixels, and of each so much is shown
-pub record ArePassed (bounds : List (Option Rectangle)) (slots : List ℕ) (covered : List Rectangle)
-    (sets : List (List Rectangle)) : Type 0 where
-  pub cover : (x y : ℤ) → covers covered x y ≡ some_at bounds slots x y
-  pub shown : AreShown bounds slots sets
-
--- nothing is covered yet, and nothing is shown
-pub none_passed : (bounds : List (Option Rectangle)) (covered : List Rectangle) (sets : List (List Rectangle))
-    → covered ≡ [] → sets ≡ replicate (length bounds) [] → ArePassed bounds [] covered sets
-unfolding first_at
-none_passed bounds covered sets e f = record {
-  cover = λ x y. no_pixel covered x y e;
-  shown = record {
-    many = ap length f ∙ length-replicate (length bounds) [];
-    places = λ s x y h.
-        no_pixel (get_or sets s []) x y (ap (λ all. get_or all s []) f ∙ get_or-replicate (length bounds) s [] [] h);
-  };
-}
-
--- The next layer is passed too: its bounds are covered now, and its set has what wasn't covered of them.
-pub layer_passed : (bounds : List (Option Rectangle)) (slots : List ℕ) (slot : ℕ) (covered new_covered : List Rectangle)
-    (sets new_sets : List (List Rectangle)) → ArePassed bounds slots covered sets → length new_sets ≡ length sets
-    → ((x y : ℤ) → covers new_covered x y ≡ (covers covered x y || has_at bounds slot x y))
-    → ((s : ℕ) (x y : ℤ) → covers (get_or new_sets s []) x y
-    ≡ (covers (get_or sets s []) x y || ((has_at bounds slot x y && not (covers covered x y)) && (slot == s))))
-    → ArePassed bounds (slots ++ slot ∷ []) new_covered new_sets
-layer_passed bounds slots slot covered new_covered sets new_sets h many more added = record {
-  cover = λ x y. more x y ∙ (ap (λ b. b || has_at bounds slot x y) (h.cover x y) ∙ sym (some_behind bounds slots slot x y));
-  shown = record {
-    many = many ∙ h.shown.many;
-    places = λ s x y below. added s x y
-        ∙ (ap (λ b. b || ((has_at bounds slot x y && not (covers covered x y)) && (slot == s))) (h.shown.places s x y below)
-        ∙ (ap (λ b. is_first_at bounds slots s x y || ((has_at bounds slot x y && not b) && (slot == s))) (h.cover x y)
-        ∙ sym (shown_behind bounds slots slot s x y)));
-  };
-}
 
 -- the layers in front of a slot cover these pixels, and the slot's isn't among them
 pub record IsFront (bounds : List (Option Rectangle)) (slots : List ℕ) (slot : ℕ) (covered : List Rectangle) : Type 0 where

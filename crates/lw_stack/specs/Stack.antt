@@ -1,9 +1,11 @@
 -- LayerInfo as contracts see it: its part of the desk (the manual's Layers Library chapter: the `Layer_Info` structure; the
 -- active window is this project's own).
-use Rattle.std.specs.Prelude.{◌≡◌, ℕ, ◌<◌, Bool, if◌then◌else◌, List, [], length, ℤ, Option, Some, None, IsTrue}
-use Rattle.std.specs.List.{find, slice_index_or}
-use Rattle.lw_region.specs.Rectangle.{Rectangle, IsOrdered}
-use Rattle.lw_region.specs.Bands.{covers}
+use Rattle.std.specs.Prelude.{◌≡◌, ℕ, ◌<◌, Bool, false, ◌&&◌, if◌then◌else◌, List, [], length, ℤ, Option, Some, None, IsTrue}
+use Rattle.std.specs.List.{find, filter, slice_index_or}
+use Rattle.lw_region.specs.Rectangle.{Rectangle, has_pixel, IsOrdered}
+use Rattle.lw_region.specs.Pixels.{Pixel}
+use Rattle.lw_region.specs.Bands.{bands, covers}
+use Rattle.lw_region.specs.Regions.{rectangle_set}
 use Rattle.lw_calls.specs.declared.sizes.Sizes.{Sizes}
 use Rattle.lw_calls.specs.Limits.{IsWithinLimits}
 use Rattle.lw_calls.specs.Orders.{occurrences}
@@ -34,6 +36,15 @@ first_at bounds slots x y = find (λ s. bounds_have (bounds_at bounds s) x y) sl
 abbrev pub is_first_at : List (Option Rectangle) → List ℕ → ℕ → ℤ → ℤ → Bool
 is_first_at bounds slots s x y = is_the (first_at bounds slots x y) s
 
+-- the pixels of the bounds, if there are any
+abbrev pub pixels_in : Option Rectangle → List Pixel
+pixels_in None = []
+pixels_in (Some r) = rectangle_set r
+
+-- the canonical list of the places where the layer in slot s is the first of the list, all of which are in its bounds
+unfoldable pub shown_list : List (Option Rectangle) → List ℕ → ℕ → List Rectangle
+shown_list bounds slots s = bands (filter (λ p. is_first_at bounds slots s p.x p.y) (pixels_in (bounds_at bounds s)))
+
 -- bounds, if there are any, have a pixel, and all their pixels lie on the screen
 abbrev pub IsPlacedOn : Sizes → Option Rectangle → Type 0
 IsPlacedOn sizes None = Unit {0}
@@ -57,7 +68,13 @@ pub record StandsForInfo (v : Stack) (p : InfoPart) : Type 0 where
   pub bounds : (s : ℕ) → p.bounds s ≡ bounds_at v.bounds s
   pub active : p.active ≡ v.active
 
--- The lists of rectangles have, by slot, the places on which its layer is the first of the list.
-pub record AreShown (bounds : List (Option Rectangle)) (slots : List ℕ) (sets : List (List Rectangle)) : Type 0 where
+-- The lists of rectangles have, by slot, the places of an area on which its layer is the first of the list.
+pub record AreShownIn (area : List Rectangle) (bounds : List (Option Rectangle)) (slots : List ℕ)
+    (sets : List (List Rectangle)) : Type 0 where
   pub many : length sets ≡ length bounds
-  pub places : (s : ℕ) (x y : ℤ) → s < length bounds → covers (slice_index_or sets s []) x y ≡ is_first_at bounds slots s x y
+  pub places : (s : ℕ) (x y : ℤ) → s < length bounds
+      → covers (slice_index_or sets s []) x y ≡ (covers area x y && is_first_at bounds slots s x y)
+
+-- none of the rectangles has a pixel of the one
+abbrev pub LieApart : List Rectangle → Rectangle → Type 0
+LieApart rects r = (x y : ℤ) → (covers rects x y && has_pixel r x y) ≡ false

@@ -7,5 +7,5 @@ mod laws;
 mod shown;
 
 pub use info::{Info, InfoDraft};
-pub use laws::list_law;
-pub use shown::visible_sets;
+pub use laws::{elsewhere_law, list_law, shown_list_law};
+pub use shown::{cover, meets, shown_in};

@@ -1,28 +1,34 @@
-ghost use Rattle.std.specs.Prelude.{◌≡◌, ℕ, ◌<◌, ◌==◌, not, ◌&&◌, ◌||◌, [], length, replicate, ℤ, IfOk, OnOk};
+ghost use Rattle.std.specs.Prelude.{◌≡◌, ◌↔◌, ℕ, ◌<◌, ◌==◌, false, not, ◌&&◌, ◌||◌, [], length, replicate, ℤ, IfOk, OnOk, OnErr};
 ghost use Rattle.std.specs.List.{All, slice_index_or};
+ghost use Rattle.lw_region.specs.Rectangle.{has_pixel};
 ghost use Rattle.lw_region.specs.Bands.{covers};
 ghost use Rattle.lw_machine.specs.Screen.{bounds_have};
-ghost use Rattle.lw_stack.specs.Stack.{bounds_at, AreShown};
+ghost use Rattle.lw_stack.specs.Stack.{bounds_at, AreShownIn, LieApart};
 
 use lw_region::{Rect, Region, clear_region, or_region};
 use std::alloc::{AllocError, Global};
 
-/// What is shown of each layer of a list of slots from front to back, by slot: the places where it is the first of the list
-/// whose bounds have them. A slot that isn't in the list has an empty region. `bounds` has the layers' bounds by slot. (One pass
-/// from the front, as the X server's miComputeClips makes it.) It fails only when out of memory.
-pub fn visible_sets(
+/// What is shown within an area of each layer of a list of slots from front to back, by slot: the places of the area where it is
+/// the first of the list whose bounds have them. A slot that isn't in the list has an empty region. `bounds` has the layers'
+/// bounds by slot. (One pass from the front over what is left of the area, as the X server's miComputeClips makes it, which ends
+/// where nothing is left.) It fails only when out of memory.
+pub fn shown_in(
     alloc: Global,
+    area: &Region,
     order: &[u32],
     bounds: &[Option<Rect>],
 ) -> Result<Vec<Region>, AllocError>
     requires { All (λ s. s < length bounds.now) order.now }
-    ensures { IfOk result (λ sets. AreShown bounds.now order.now sets.items) }
+    ensures { IfOk result (λ sets. AreShownIn area.now bounds.now order.now sets.items) }
 {
     let mut sets = empty_sets(alloc, bounds.len())?;
-    // What the layers in front cover.
-    let mut covered = Region::new(alloc);
+    // What the layers in front leave of the area.
+    let mut rest = area.copy(alloc)?;
     for slot in order {
-        show_slot(alloc, *slot, bounds, &mut covered, &mut sets)?;
+        if rest.rects().is_empty() {
+            return Ok(sets);
+        }
+        show_in(alloc, *slot, bounds, &mut rest, &mut sets)?;
     }
     Ok(sets)
 }
@@ -37,27 +43,61 @@ fn empty_sets(alloc: Global, count: usize) -> Result<Vec<Region>, AllocError>
     Ok(sets)
 }
 
-// Adds to a slot's set what isn't covered of its bounds, which then are covered too.
-fn show_slot(
+// Adds to a slot's set what its bounds have of the rest, which then is without them.
+fn show_in(
     alloc: Global,
     slot: u32,
     bounds: &[Option<Rect>],
-    covered: &mut Region,
+    rest: &mut Region,
     sets: &mut Vec<Region>,
 ) -> Result<(), AllocError>
     requires has_bounds { slot < length bounds.now }
     requires has_set { slot < length sets.old.items }
     ensures many { OnOk result (length sets.new.items ≡ length sets.old.items) }
-    ensures covered { OnOk result ((x y : ℤ) →
-        covers covered.new x y ≡ (covers covered.old x y || bounds_have (bounds_at bounds.now slot) x y)) }
+    ensures rest { OnOk result ((x y : ℤ) →
+        covers rest.new x y ≡ (covers rest.old x y && not (bounds_have (bounds_at bounds.now slot) x y))) }
     ensures sets { OnOk result ((s : ℕ) (x y : ℤ) →
         covers (slice_index_or sets.new.items s []) x y
         ≡ (covers (slice_index_or sets.old.items s []) x y
-        || ((bounds_have (bounds_at bounds.now slot) x y && not (covers covered.old x y)) && (slot == s)))) }
+        || ((covers rest.old x y && bounds_have (bounds_at bounds.now slot) x y) && (slot == s)))) }
 {
-    let shown = uncovered(alloc, bounds[slot as usize], covered)?;
-    or_region(alloc, &shown, &mut sets[slot as usize])?;
-    cover(alloc, bounds[slot as usize], covered)
+    match &bounds[slot as usize] {
+        Some(rect) => take_part(alloc, rect, rest, &mut sets[slot as usize]),
+        None => Ok(()),
+    }
+}
+
+// Adds to the set what the rectangle has of the rest, which then is without it. One that has nothing of it costs no region.
+fn take_part(
+    alloc: Global,
+    rect: &Rect,
+    rest: &mut Region,
+    set: &mut Region,
+) -> Result<(), AllocError>
+    ensures rest { OnOk result ((x y : ℤ) → covers rest.new x y ≡ (covers rest.old x y && not (has_pixel rect.now x y))) }
+    ensures set { OnOk result ((x y : ℤ) →
+        covers set.new x y ≡ (covers set.old x y || (covers rest.old x y && has_pixel rect.now x y))) }
+{
+    if !meets(rest, rect) {
+        return Ok(());
+    }
+    let mut part = rest.copy(alloc)?;
+    part.and_rect(alloc, rect)?;
+    or_region(alloc, &part, set)?;
+    rest.clear_rect(alloc, rect)
+}
+
+/// Whether the rectangle has a pixel of the region.
+pub fn meets(region: &Region, rect: &Rect) -> bool
+    ensures { (result ≡ false) ↔ LieApart region.now rect.now }
+{
+    let rects = region.rects();
+    for part in rects {
+        if part.meet(rect).is_some() {
+            return true;
+        }
+    }
+    false
 }
 
 // The pixels of the bounds that aren't covered; none without bounds.
@@ -78,13 +118,10 @@ pub(crate) fn uncovered(
     Ok(shown)
 }
 
-// Adds the pixels of the bounds, if there are any, to what is covered.
-pub(crate) fn cover(
-    alloc: Global,
-    bounds: Option<Rect>,
-    covered: &mut Region,
-) -> Result<(), AllocError>
-    ensures { OnOk result ((x y : ℤ) → covers covered.new x y ≡ (covers covered.old x y || bounds_have bounds x y)) }
+/// Adds the pixels of the bounds, if there are any, to the region. It fails only when out of memory, and then the region stays as it was.
+pub fn cover(alloc: Global, bounds: Option<Rect>, covered: &mut Region) -> Result<(), AllocError>
+    ensures ok { OnOk result ((x y : ℤ) → covers covered.new x y ≡ (covers covered.old x y || bounds_have bounds x y)) }
+    ensures err { OnErr result (covered.new ≡ covered.old) }
 {
     let Some(rect) = &bounds else {
         return Ok(());

@@ -6,13 +6,12 @@ use Rattle.std.proofs.lemmas.Bool.Decides.{nat_tests}
 use Rattle.std.proofs.lemmas.Nat.{pow_pos}
 use Rattle.std.proofs.lemmas.Nat.Bits.{bit_at-zero}
 use Rattle.lw_planes.specs.Row.{row_bit}
-use Rattle.lw_planes.specs.Bitmap.{Bitmap, IsBitmap, pen_at, row_bytes}
-use Rattle.lw_planes.specs.Sizes.{IsPlanes}
+use Rattle.lw_planes.specs.Bitmap.{Bitmap, IsBitmap, bitmap, pen_at, row_bytes}
 use Rattle.lw_planes.specs.Change.{written_rows, with_row}
 use Rattle.lw_planes.proofs.PenLaws.{pen_of_same}
 use Rattle.lw_planes.proofs.RowLaws.{row_bit_lt}
-use Rattle.lw_planes.proofs.BitmapLaws.{bitmap_same, row_bytes_wide}
-use Rattle.lw_planes.proofs.ChosenLaws.{chosen_planes, chosen_nowhere, chosen_more, chosen_whole}
+use Rattle.lw_planes.proofs.BitmapLaws.{bitmap_from_pens, bitmap_same, row_bytes_wide}
+use Rattle.lw_planes.proofs.ChosenLaws.{chosen_nowhere, chosen_more, chosen_whole}
 use Rattle.lw_planes.specs.Minterm.{minterm_bit}
 use Rattle.lw_kernels.specs.Kernel.{is_named, place_in}
 use Rattle.lw_kernels.proofs.ByteLaws.{minterm_copies}
@@ -20,11 +19,6 @@ use Rattle.lw_strips.specs.Blocks.{IsBlockOf, IsBlockIn, in_block, block_pen, wi
 use Rattle.lw_strips.specs.Bits.{with_bits}
 use Rattle.lw_strips.specs.declared.block.Block.{Block}
 use Rattle.lw_strips.proofs.RowsLaws.{bit_in_rows}
-
--- it is a bitmap of the same sizes
-pub bits_planes : (on : ℕ → ℕ → ℕ → Bool) (pens : ℕ → ℕ → ℕ) (b : Bitmap) → IsPlanes b → IsPlanes (with_bits on pens b)
-unfolding with_bits
-bits_planes on pens b ok = chosen_planes on pens b ok
 
 pub bits_depth : (on : ℕ → ℕ → ℕ → Bool) (pens : ℕ → ℕ → ℕ) (b c : Bitmap) → c ≡ with_bits on pens b → c.depth ≡ b.depth
 unfolding with_bits
@@ -47,14 +41,11 @@ unfolding with_bits
 block_stays on pens k s b c is ok =
     let P : Bitmap → Type 0 = λ q. IsBlockOf k q s in
     subst P (sym is) (record {
-      some = ok.some;
       right = ok.right;
       lower = ok.lower;
       source_right = ok.source_right;
       source_lower = ok.source_lower;
       planes = ok.planes;
-      sound = bits_planes on pens b ok.sound;
-      source_sound = ok.source_sound;
     })
 
 pub block_stays_in : (on : ℕ → ℕ → ℕ → Bool) (pens : ℕ → ℕ → ℕ) (k : Block) (b c : Bitmap) → c ≡ with_bits on pens b → IsBlockIn k b → IsBlockIn k c
@@ -62,10 +53,8 @@ unfolding with_bits
 block_stays_in on pens k b c is ok =
     let P : Bitmap → Type 0 = λ q. IsBlockIn k q in
     subst P (sym is) (record {
-      some = ok.some;
       right = ok.right;
       lower = ok.lower;
-      sound = bits_planes on pens b ok.sound;
     })
 
 -- where the source has a pixel of the block
@@ -73,24 +62,39 @@ source_inside : (x from count column width : ℕ) → is_named from count x ≡ 
     → column + (x - from) < width
 source_inside x from count column width named fits = grind (arith, nat_tests)
 
+-- a block of no row has no pixel
+no_row : (from count y : ℕ) → count ≡ 0 → is_named from count y ≡ false
+no_row from count y none = grind (arith, nat_tests)
+
+off_rows : (t u : Bool) → u ≡ false → (t && u) ≡ false
+off_rows true u is = is
+off_rows false u is = refl
+
+pub block_nowhere : (k : Block) (pens : ℕ → ℕ → ℕ) (b : Bitmap) → IsBitmap b → k.height ≡ 0 → b ≡ bitmap b.width b.height b.depth (λ x y. if in_block k x y then pens x y else pen_at b x y)
+block_nowhere k pens b ok none =
+    bitmap_from_pens b _ ok
+    (λ x y _ _.
+    let off : in_block k x y ≡ false = off_rows (is_named k.x k.width x) (is_named k.y k.height y) (no_row k.y k.height y none) in
+    sym (ap (λ t. if t then pens x y else pen_at b x y) off))
+
 -- all planes of the block written
-pub block_whole : (on : ℕ → ℕ → ℕ → Bool) (k : Block) (s b c : Bitmap) → IsBlockOf k b s → c ≡ with_bits on (block_pen k s) b
+pub block_whole : (on : ℕ → ℕ → ℕ → Bool) (k : Block) (s b c : Bitmap) → IsBlockOf k b s → IsBitmap b → IsBitmap s → c ≡ with_bits on (block_pen k s) b
     → ((p x y : ℕ) → p < b.depth → on p x y ≡ in_block k x y) → c ≡ with_block k s b
 unfolding with_bits
-block_whole on k s b c ok is all =
-    chosen_whole on (in_block k) (block_pen k s) b c ok.sound.bitmap is all
+block_whole on k s b c ok to_ok source_ok is all =
+    chosen_whole on (in_block k) (block_pen k s) b c to_ok is all
     (λ x y inside.
     let halves = and_parts _ _ inside in
     let P : ℕ → Type 0 = λ n. block_pen k s x y < 2 ^ n in
-    subst P ok.planes (ok.source_sound.bitmap.pens _ _
+    subst P ok.planes (source_ok.pens _ _
     (source_inside x k.x k.width k.source_x s.width halves.0 ok.source_right)
     (source_inside y k.y k.height k.source_y s.height halves.1 ok.source_lower)))
 
 -- all planes of the block cleared
-pub block_cleared : (on : ℕ → ℕ → ℕ → Bool) (k : Block) (b c : Bitmap) → IsBlockIn k b → c ≡ with_bits on (λ _ _. 0) b
+pub block_cleared : (on : ℕ → ℕ → ℕ → Bool) (k : Block) (b c : Bitmap) → IsBitmap b → c ≡ with_bits on (λ _ _. 0) b
     → ((p x y : ℕ) → p < b.depth → on p x y ≡ in_block k x y) → c ≡ without_block k b
 unfolding with_bits
-block_cleared on k b c ok is all = chosen_whole on (in_block k) (λ _ _. 0) b c ok.sound.bitmap is all (λ x y inside. pow_pos b.depth)
+block_cleared on k b c ok is all = chosen_whole on (in_block k) (λ _ _. 0) b c ok is all (λ x y inside. pow_pos b.depth)
 
 -- a bit of a block's line that `combine_rows` copied
 copied_bit : (t : Bool) (source old : ℕ) → source < 2 → (if t then minterm_bit 192 source old else old) ≡ (if t then source else old)
@@ -149,26 +153,26 @@ line_read true k s b plane x j lines old ok named low bits =
 line_read false k s b plane x j lines old ok named low bits = refl
 
 -- one plane of the block once its lines were copied
-pub plane_copied : (k : Block) (s b : Bitmap) (plane to_step source_step columns : ℕ) (lines old new : List ℕ) → IsBlockOf k b s → columns ≡ b.width → to_step ≡ row_bytes b.width → source_step ≡ row_bytes s.width
+pub plane_copied : (k : Block) (s b : Bitmap) (plane to_step source_step columns : ℕ) (lines old new : List ℕ) → IsBlockOf k b s → IsBitmap b → columns ≡ b.width → to_step ≡ row_bytes b.width → source_step ≡ row_bytes s.width
     → length new ≡ k.height * row_bytes b.width
     → ((x j : ℕ) → x < s.width → j < k.height → row_bit lines (8 * (j * row_bytes s.width) + x) ≡ bit_at (pen_at s x (k.source_y + j)) plane)
     → ((x j : ℕ) → x < b.width → j < k.height → row_bit old (8 * (j * row_bytes b.width) + x) ≡ bit_at (pen_at b x (k.y + j)) plane)
     → ((x j : ℕ) → x < columns → j < k.height → row_bit new (place_in to_step j x) ≡ (if is_named k.x k.width x then row_bit lines (place_in source_step j (k.source_x + (x - k.x))) else row_bit old (place_in to_step j x)))
     → with_row b plane k.y new ≡ with_bits (λ p x y. p == plane && in_block k x y) (block_pen k s) b
-plane_copied k s b plane to_step source_step columns lines old new ok is_columns is_to is_source long from was each =
-    lines_written k (block_pen k s) b plane old new ok.sound.bitmap ok.lower long was
+plane_copied k s b plane to_step source_step columns lines old new ok to_ok is_columns is_to is_source long from was each =
+    lines_written k (block_pen k s) b plane old new to_ok ok.lower long was
     (λ x j left low.
     (rw (is_to, is_source) at (each x j (omega (arith, is_columns)) low))
     ∙ line_read (is_named k.x k.width x) k s b plane x j lines (row_bit old (place_in (row_bytes b.width) j x)) ok refl low from)
 
 -- one plane of the block once its lines were filled with zeros
-pub plane_cleared : (k : Block) (b : Bitmap) (plane step : ℕ) (old new : List ℕ) → IsBlockIn k b → step ≡ row_bytes b.width
+pub plane_cleared : (k : Block) (b : Bitmap) (plane step : ℕ) (old new : List ℕ) → IsBlockIn k b → IsBitmap b → step ≡ row_bytes b.width
     → length new ≡ k.height * row_bytes b.width
     → ((x j : ℕ) → x < b.width → j < k.height → row_bit old (8 * (j * row_bytes b.width) + x) ≡ bit_at (pen_at b x (k.y + j)) plane)
     → ((y x : ℕ) → x < 8 * step → row_bit new (place_in step y x) ≡ (if nat_lt y k.height && is_named k.x k.width x then 0 else row_bit old (place_in step y x)))
     → with_row b plane k.y new ≡ with_bits (λ p x y. p == plane && in_block k x y) (λ _ _. 0) b
-plane_cleared k b plane step old new ok is_step long was each =
-    lines_written k (λ _ _. 0) b plane old new ok.sound.bitmap ok.lower long was
+plane_cleared k b plane step old new ok to_ok is_step long was each =
+    lines_written k (λ _ _. 0) b plane old new to_ok ok.lower long was
     (λ x j left low.
     let wide = row_bytes_wide b.width in
     let below : nat_lt j k.height ≡ true = grind (arith, nat_tests) in

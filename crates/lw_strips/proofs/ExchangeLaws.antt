@@ -1,12 +1,13 @@
 -- Sums over owners of what each loses or gains.
-use Rattle.std.proofs.Common.{◌≡◌, ℕ, zero, suc, ◌+◌, ◌<◌, ◌≤◌, ◌==◌, Bool, true, false, ◌&&◌, List, [], ◌∷◌, ◌∙◌, sym, refl, ap, inl, inr, arith}
-use Rattle.std.specs.List.{All, count_by}
+use Rattle.std.proofs.Common.{◌≡◌, ℕ, zero, suc, ◌+◌, ◌<◌, ◌≤◌, ◌==◌, Bool, true, false, ◌&&◌, cond, List, [], ◌∷◌, map, ◌∙◌, sym, refl, ap, inl, inr, arith}
+use Rattle.std.specs.List.{All, count_by, filter}
 use Rattle.std.proofs.lemmas.Bool.{cases_lt}
 use Rattle.std.proofs.lemmas.Bool.Decides.{nat_tests}
 use Rattle.std.proofs.lemmas.List.Elements.{All-head, All-tail}
 use Rattle.std.proofs.lemmas.List.Sums.{sum_by-cons}
+use Rattle.lw_region.specs.Rectangle.{Rectangle}
 use Rattle.lw_planes.specs.Row.{bit_of}
-use Rattle.lw_strips.specs.Pools.{same_rectangle}
+use Rattle.lw_strips.specs.Pools.{same_rectangle, copies}
 use Rattle.lw_strips.specs.Exchange.{total, ExchangeLaw}
 use Rattle.lw_strips.specs.declared.piece.Piece.{Piece}
 
@@ -62,8 +63,23 @@ owner_total owner test (p ∷ rest) n below =
     ∙ (ap (λ k. bit_of (test p) + k) (owner_total owner test rest n (All-tail (λ q. owner q < n) p rest below))
     ∙ sym (sum_by-cons (λ q. bit_of (test q)) p rest))))
 
+-- the rectangles of the pieces that pass a test, counted
+rects_step : (r : Rectangle) (t : Bool) (p : Piece) (left : List Piece) (n : ℕ) → copies r (map (λ q. q.rect) left) ≡ n
+    → copies r (map (λ q. q.rect) (cond t (p ∷ left) left)) ≡ bit_of (t && same_rectangle r p.rect) + n
+rects_step r true p left n is = sum_by-cons (λ q. bit_of (same_rectangle r q)) p.rect (map (λ q. q.rect) left) ∙ ap (λ m. bit_of (same_rectangle r p.rect) + m) is
+rects_step r false p left n is = let same : n ≡ 0 + n = omega arith in is ∙ same
+
+rects_counted : (r : Rectangle) (test : Piece → Bool) (pieces : List Piece)
+    → copies r (map (λ p. p.rect) (filter test pieces)) ≡ count_by (λ p. test p && same_rectangle r p.rect) pieces
+rects_counted r test [] = refl
+rects_counted r test (p ∷ rest) =
+    rects_step r (test p) p (filter test rest) (count_by (λ q. test q && same_rectangle r q.rect) rest) (rects_counted r test rest)
+    ∙ sym (sum_by-cons (λ q. bit_of (test q && same_rectangle r q.rect)) p rest)
+
 pub exchange : ExchangeLaw
 exchange = record {
   losses = λ pieces n r below. owner_total (λ p. p.from) (λ p. same_rectangle r p.rect) pieces n below;
   gains = λ pieces n r below. owner_total (λ p. p.to) (λ p. same_rectangle r p.rect) pieces n below;
+  lost = λ r owner pieces. rects_counted r (λ p. p.from == owner) pieces;
+  gained = λ r owner pieces. rects_counted r (λ p. p.to == owner) pieces;
 }

@@ -15,7 +15,7 @@ use Rattle.lw_planes.proofs.BitmapLaws.{pen_at_bitmap, bitmap_from_pens, bitmap_
 use Rattle.lw_planes.proofs.ChosenLaws.{first_choice}
 use Rattle.lw_strips.specs.Strips.{StripView, IsSizeOf, IsStrip, blank_planes, strip_pen, rects_of, pen_in}
 use Rattle.lw_strips.specs.Laying.{with_strip, with_strips, composed, screen, assembled, LiesIn, part_of}
-use Rattle.lw_strips.proofs.CommonLaws.{in_rectangle, blank_pen}
+use Rattle.lw_strips.proofs.OverlapLaws.{in_rectangle, blank_pen}
 
 -- no strip changes nothing
 pub strips_none : (window : Rectangle) (strips : List StripView) (n : ℕ) (b : Bitmap) → IsBitmap b → length strips ≤ n → b ≡ with_strips window (drop n strips) b

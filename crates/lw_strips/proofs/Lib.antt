@@ -1,6 +1,6 @@
 pub mod RowsLaws
 pub mod BlockLaws
-pub mod CommonLaws
+pub mod OverlapLaws
 pub mod LayingLaws
 pub mod PlaceLaws
 pub mod PoolLaws

@@ -1,5 +1,5 @@
 -- Which strip's pen stands at a place.
-use Rattle.std.proofs.Common.{◌≡◌, ℕ, zero, suc, Bool, true, false, ◌&&◌, ◌||◌, if◌then◌else◌, List, [], ◌∷◌, ◌++◌, get_or, ◌∙◌, sym, refl, ap, arith, ℤ, pos, ◌+ℤ◌}
+use Rattle.std.proofs.Common.{◌≡◌, ℕ, zero, suc, Bool, true, false, ◌<◌, ◌&&◌, ◌||◌, if◌then◌else◌, List, [], ◌∷◌, ◌++◌, length, get_or, ◌∙◌, sym, refl, ap, arith, ℤ, pos, ◌+ℤ◌}
 use Rattle.std.proofs.lemmas.List.{map-append}
 use Rattle.lw_region.specs.Rectangle.{Rectangle, has_pixel}
 use Rattle.lw_region.specs.Bands.{covers}
@@ -8,7 +8,7 @@ use Rattle.lw_planes.specs.Bitmap.{Bitmap, pen_at}
 use Rattle.lw_planes.proofs.BitmapLaws.{pen_at_bitmap, bitmap_same}
 use Rattle.lw_planes.proofs.ChosenLaws.{first_choice}
 use Rattle.lw_strips.specs.Strips.{StripView, strip_pen, rects_of, pen_in}
-use Rattle.lw_strips.specs.Laying.{with_strips, screen, LayingLaw, PlacesLaw}
+use Rattle.lw_strips.specs.Laying.{with_strips, screen, assembled, AreDisjoint, LayingLaw, PlacesLaw}
 use Rattle.lw_strips.proofs.LayingLaws.{laid_blank, screen_composed}
 
 -- a choice that goes on
@@ -47,7 +47,8 @@ lacks_first : (t u : Bool) → u ≡ true → (t && u) ≡ false → t ≡ false
 lacks_first true u is none = absurd (cc (sym is ∙ none))
 lacks_first false u is none = refl
 
-pub pen_placed : PlacesLaw
+pen_placed : (strips : List StripView) → AreDisjoint strips → (k : ℕ) (d : StripView) (x y : ℤ) → k < length strips
+    → has_pixel (get_or strips k d).rect x y ≡ true → pen_in strips x y ≡ strip_pen (get_or strips k d) x y
 unfolding pen_in
 pen_placed [] disjoint k d x y inside has = absurd (omega arith)
 pen_placed (s ∷ rest) disjoint zero d x y inside has = ap (λ t. if t then strip_pen s x y else pen_in rest x y) has
@@ -56,3 +57,12 @@ pen_placed (s ∷ rest) disjoint (suc k) d x y inside has =
     let off : has_pixel s.rect x y ≡ false = lacks_first (has_pixel s.rect x y) (has_pixel (get_or rest k d).rect x y) has apart in
     ap (λ t. if t then strip_pen s x y else pen_in rest x y) off
     ∙ pen_placed rest (λ i j e before below. disjoint (suc i) (suc j) e (omega arith) (omega arith)) k d x y (omega arith) has
+
+-- and on a whole screen
+screen_placed : (w h depth : ℕ) (strips : List StripView) → AreDisjoint strips → (k : ℕ) (d : StripView) (x y : ℕ) → x < w → y < h → k < length strips
+    → has_pixel (get_or strips k d).rect (pos x) (pos y) ≡ true → pen_at (assembled w h depth strips) x y ≡ strip_pen (get_or strips k d) (pos x) (pos y)
+screen_placed w h depth strips disjoint k d x y left low inside has =
+    pen_at_bitmap w h depth (λ i j. pen_in strips (pos i) (pos j)) x y left low ∙ pen_placed strips disjoint k d (pos x) (pos y) inside has
+
+pub places : PlacesLaw
+places = record { pens = pen_placed; assembled = screen_placed }

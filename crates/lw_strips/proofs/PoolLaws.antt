@@ -1,6 +1,6 @@
 -- The numbers of strips in a pool.
 use Rattle.std.proofs.Common.{◌≡◌, ◌↔◌, ℕ, ◌+◌, ◌<◌, ◌≤◌, true, if◌then◌else◌, List, [], ◌∷◌, ◌++◌, reverse, length, get_or, take, Option, Some, None, IfSome, IsNone, ◌∙◌, sym, refl, ap, arith}
-use Rattle.std.specs.List.{remove, sum_by}
+use Rattle.std.specs.List.{remove, count_by, sum_by}
 use Rattle.std.proofs.lemmas.Bool.{and_parts, and_from}
 use Rattle.std.proofs.lemmas.List.{get_or_default, reverse-append}
 use Rattle.std.proofs.lemmas.List.Sums.{sum_by-cons, sum_by-append, sum_by-remove, sum_by-take-le, sum_by_more, sum_by_push, get_or-le-sum_by}
@@ -9,7 +9,7 @@ use Rattle.lw_region.proofs.Numbers.{eq_true, eq_of}
 use Rattle.lw_region.proofs.Meet.{same_bounds}
 use Rattle.lw_planes.specs.Row.{bit_of}
 use Rattle.lw_strips.specs.Strips.{StripView}
-use Rattle.lw_strips.specs.Pools.{PoolView, same_rectangle, copies, copies_in, IsClaimed, IsPlaceOf}
+use Rattle.lw_strips.specs.Pools.{PoolView, same_rectangle, copies, copies_in, IsClaimed, HasNoOther, IsPlaceOf}
 use Rattle.lw_strips.specs.Exchange.{CountingLaw}
 
 -- rectangles with the same bounds are one
@@ -76,11 +76,24 @@ place_counted r place (s ∷ rest) at =
     let least = get_or-le-sum_by (one_of r) (s ∷ rest) place s at.inside in
     omega (arith, one, least)
 
--- a claim of a rectangle of which there is a strip
-pub claim_counts : (o : Option StripView) (r q : Rectangle) (old new : PoolView) → IfSome o (λ s. IsClaimed q s old new) → (IsNone o ↔ (copies_in q old.strips ≡ 0)) → 0 < copies_in q old.strips
-    → copies_in r old.strips ≡ copies_in r new.strips + bit_of (same_rectangle r q)
-claim_counts None r q old new claimed none some = let zero_of = none.0 refl in absurd (omega (arith, zero_of))
-claim_counts (Some s) r q old new claimed none some = claimed_count r q s old new claimed
+-- the strips that a claim leaves were there before
+pub claimed_others : (q : Rectangle) (s : StripView) (old new : PoolView) → IsClaimed q s old new → HasNoOther old new
+claimed_others q s old new is test =
+    let all = sum_by-remove (λ t. bit_of (test t)) old.strips is.place s is.inside in
+    let left : count_by test new.strips ≡ sum_by (λ t. bit_of (test t)) (remove old.strips is.place) = ap (count_by test) is.others in
+    omega (arith, all, left)
+
+pub no_other_twice : (old mid new : PoolView) → HasNoOther old mid → HasNoOther mid new → HasNoOther old new
+no_other_twice old mid new first second test =
+    let left = first test in
+    let right = second test in
+    omega (arith, left, right)
+
+-- a claim of a rectangle of which there is a strip takes one
+pub claim_made : (o : Option StripView) (q : Rectangle) (old new : PoolView) → IfSome o (λ s. IsClaimed q s old new) → (IsNone o ↔ (copies_in q old.strips ≡ 0)) → 0 < copies_in q old.strips
+    → (s : StripView) × IsClaimed q s old new
+claim_made None q old new claimed none some = let zero_of = none.0 refl in absurd (omega (arith, zero_of))
+claim_made (Some s) q old new claimed none some = (s, claimed)
 
 -- of the rectangles still to come each is one more
 copies_more : (r : Rectangle) (rects : List Rectangle) (k : ℕ) (q : Rectangle) → k < length rects → q ≡ get_or rects k q → copies r (take (k + 1) rects) ≡ copies r (take k rects) + bit_of (same_rectangle r q)

@@ -2,7 +2,7 @@ pub mod Blocks
 pub mod Bits
 pub mod Strips
 pub mod Laying
-pub mod Common
+pub mod Overlap
 pub mod Pools
 pub mod Exchange
 pub mod Lending

@@ -1,5 +1,5 @@
 -- Pools: strips on their way from one owner to another (this project's own).
-use Rattle.std.specs.Prelude.{◌≡◌, ℕ, ◌+◌, ◌<◌, Bool, ◌&&◌, List, length, remove, count_by, slice_index_or}
+use Rattle.std.specs.Prelude.{◌≡◌, ℕ, ◌+◌, ◌<◌, ◌≤◌, Bool, ◌&&◌, List, length, remove, count_by, slice_index_or}
 use Rattle.std.specs.Ordering.{int_eq}
 use Rattle.lw_region.specs.Rectangle.{Rectangle}
 use Rattle.lw_strips.specs.Strips.{StripView}
@@ -29,6 +29,10 @@ pub record IsClaimed (r : Rectangle) (s : StripView) (old new : PoolView) : Type
   pub rect : s.rect ≡ r
   pub others : new.strips ≡ remove old.strips place
   pub spare : new.spare ≡ old.spare + 1
+
+-- whatever is asked of the strips, no more of them answer it than before: so each is one that was there
+abbrev pub HasNoOther : PoolView → PoolView → Type 0
+HasNoOther old new = (test : StripView → Bool) → count_by test new.strips ≤ count_by test old.strips
 
 -- the strip at this place of the list has the rectangle
 pub record IsPlaceOf (r : Rectangle) (place : ℕ) (strips : List StripView) : Type 0 where

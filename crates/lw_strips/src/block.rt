@@ -23,16 +23,24 @@ pub struct Block {
     pub source_y: u32,
     /// How many columns are copied.
     pub width: u32,
-    /// How many rows are copied, one at least.
+    /// How many rows are copied.
     pub height: u32,
 }
 
-/// Copies the block. It lies in both bitmaps, which have as many planes; all pixels outside it stay as they were.
+/// Copies the block. It lies in both bitmaps, which have as many planes; all pixels outside it stay as they were. A block of no
+/// column or of no row changes nothing.
 pub fn copy_block(to: &mut Planes, source: &Planes, block: Block)
     requires { IsBlockOf block to.old source.now }
     ensures { to.new ≡ with_block block source.now to.old }
 {
-    for plane in 0..to.depth() {
+    // Reading these tells the proof that the bitmaps are sound.
+    let depth = to.depth();
+    let _ = source.depth();
+    // No rows can't be lent.
+    if block.height == 0 {
+        return;
+    }
+    for plane in 0..depth {
         copy_plane(to, source, block, plane);
     }
 }
@@ -40,6 +48,7 @@ pub fn copy_block(to: &mut Planes, source: &Planes, block: Block)
 // Copies one plane of the block.
 fn copy_plane(to: &mut Planes, source: &Planes, block: Block, plane: u32)
     requires block { IsBlockOf block to.old source.now }
+    requires some { 0 < block.height }
     requires plane { plane < to.old.depth }
     ensures { to.new ≡ with_bits (λ p x y. p == plane && in_block block x y) (block_pen block source.now) to.old }
 {
@@ -95,12 +104,18 @@ fn copy_lines(
 }
 
 /// Gives all pixels of the block pen 0. The block lies in the bitmap, and its source isn't looked at; all pixels outside the
-/// block stay as they were.
+/// block stay as they were. A block of no column or of no row changes nothing.
 pub fn clear_block(to: &mut Planes, block: Block)
     requires { IsBlockIn block to.old }
     ensures { to.new ≡ without_block block to.old }
 {
-    for plane in 0..to.depth() {
+    // Reading this tells the proof that the bitmap is sound.
+    let depth = to.depth();
+    // No rows can't be lent.
+    if block.height == 0 {
+        return;
+    }
+    for plane in 0..depth {
         clear_plane(to, block, plane);
     }
 }
@@ -108,6 +123,7 @@ pub fn clear_block(to: &mut Planes, block: Block)
 // Clears one plane of the block.
 fn clear_plane(to: &mut Planes, block: Block, plane: u32)
     requires block { IsBlockIn block to.old }
+    requires some { 0 < block.height }
     requires plane { plane < to.old.depth }
     ensures { to.new ≡ with_bits (λ p x y. p == plane && in_block block x y) (λ _ _. 0) to.old }
 {

@@ -8,7 +8,7 @@ pub fn laying_law()
     ensures { LayingLaw }
 {}
 
-/// What is composed of disjoint strips has each strip's pens at its places.
+/// What is composed of disjoint strips has each strip's pens at its places, and so has a screen that is assembled of them.
 pub fn places_law()
     ensures { PlacesLaw }
 {}
@@ -18,12 +18,13 @@ pub fn counting_law()
     ensures { CountingLaw }
 {}
 
-/// All owners together lose and gain as many pieces of a rectangle as there are.
+/// In a list of pieces all owners together lose and gain each rectangle as often as it is there, and the list of the rectangles that
+/// one owner loses or gains has each as often as it does.
 pub fn exchange_law()
     ensures { ExchangeLaw }
 {}
 
-/// What the definitions give for strips of one row that were worked out by hand.
+/// What the definitions give for strips that were worked out by hand.
 pub fn worked_example_law()
     ensures { WorkedExample }
 {}

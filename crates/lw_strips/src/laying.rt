@@ -1,15 +1,14 @@
 // Laying strips on a bitmap. They are laid from the last to the first, so that where several have a place, the first one's pen
 // stands there at the end.
 
-ghost use Rattle.std.specs.Prelude.{◌≡◌, ◌≤◌, pos, ◌-ℤ◌, ◌≤ℤ◌, map, IfOk, MatchOption};
+ghost use Rattle.std.specs.Prelude.{◌≡◌, ◌≤◌, ◌-ℤ◌, map, false, IfOk};
 ghost use Rattle.std.specs.List.{All};
-ghost use Rattle.lw_region.specs.Rectangle.{AreApart, width, height};
+ghost use Rattle.lw_region.specs.Rectangle.{width, height};
 ghost use Rattle.lw_planes.specs.Sizes.{AreSizes};
 ghost use Rattle.lw_strips.specs.Strips.{IsSizeOf};
-ghost use Rattle.lw_strips.specs.Laying.{with_planes, without_rectangle, with_strip, with_strips, composed, screen, assembled, LiesIn, part_of};
-ghost use Rattle.lw_strips.specs.Common.{IsCommonBlock};
+ghost use Rattle.lw_strips.specs.Laying.{with_planes, with_strip, with_strips, composed, screen, assembled, LiesIn, part_of};
 
-use crate::block::{Block, clear_block, copy_block};
+use crate::overlap::{clear_area, lay_bitmap};
 use crate::strip::Strip;
 use lw_planes::Planes;
 use lw_region::Rect;
@@ -50,8 +49,8 @@ pub fn assemble(
     compose(alloc, &screen, depth, strips)
 }
 
-// The screen of these sizes.
-fn screen_of(width: u32, height: u32) -> Rect
+/// The rectangle of a screen of 1 to 2048 columns and rows, whose top left pixel is at column 0 and row 0.
+pub fn screen_of(width: u32, height: u32) -> Rect
     requires columns { 1 ≤ width }
     requires rows { 1 ≤ height }
     requires right { width ≤ 2048 }
@@ -110,7 +109,7 @@ fn lay_on(planes: &mut Planes, window: &Rect, strip: &Strip)
 {
     match strip.planes() {
         Some(source) => lay_planes(planes, window, strip.rect(), source),
-        None => lay_blank(planes, window, strip.rect()),
+        None => lay_blank(planes, window, strip),
     }
 }
 
@@ -123,73 +122,25 @@ pub fn lay_planes(planes: &mut Planes, window: &Rect, rect: &Rect, source: &Plan
     requires planes { source.now.depth ≡ planes.old.depth }
     ensures { planes.new ≡ with_planes window.now rect.now source.now planes.old }
 {
-    // Reading these tells the proof that the bitmaps are sound and the rectangles ordered.
-    let _ = (planes.depth(), source.depth());
-    let _ = (window.min_x(), rect.min_x());
-    // The common part of the two rectangles is one block of pixels.
-    if let Some(block) = common_block(window, rect) {
-        copy_block(planes, source, block);
-    }
+    let x = distance(window.min_x(), rect.min_x());
+    let y = distance(window.min_y(), rect.min_y());
+    lay_bitmap(planes, x, y, source);
 }
 
-// Gives the pixels of a rectangle pen 0.
-fn lay_blank(planes: &mut Planes, window: &Rect, rect: &Rect)
-    requires { IsSizeOf window.now planes.old }
-    ensures { planes.new ≡ without_rectangle window.now rect.now planes.old }
+// Lays a blank strip: its pixels get pen 0.
+fn lay_blank(planes: &mut Planes, window: &Rect, strip: &Strip)
+    requires blank { strip.now.solid ≡ false }
+    ensures { planes.new ≡ with_strip window.now strip.now planes.old }
 {
-    // Reading these tells the proof that the bitmap is sound and the window ordered.
-    let _ = planes.depth();
-    let _ = window.min_x();
-    if let Some(block) = common_block(window, rect) {
-        clear_block(planes, block);
-    }
+    let rect = strip.rect();
+    let x = distance(window.min_x(), rect.min_x());
+    let y = distance(window.min_y(), rect.min_y());
+    clear_area(planes, x, y, rect.width(), rect.height());
 }
 
-// The common part of a window and a rectangle, as a block of the bitmap of the first whose source is that of the second; `None`
-// exactly where they have no pixel in common.
-fn common_block(window: &Rect, rect: &Rect) -> Option<Block>
-    ensures { MatchOption result
-        (AreApart window.now rect.now)
-        (λ block. IsCommonBlock window.now rect.now block) }
+// How far a place is past another one, or before it.
+fn distance(from: i16, to: i16) -> i64
+    ensures { result ≡ to -ℤ from }
 {
-    let common = window.meet(rect)?;
-    let to = corner_in(window, &common);
-    let source = corner_in(rect, &common);
-    Some(Block {
-        x: to.x,
-        y: to.y,
-        source_x: source.x,
-        source_y: source.y,
-        width: common.width(),
-        height: common.height(),
-    })
-}
-
-// A pixel of a bitmap.
-#[derive(Clone, Copy)]
-struct Corner {
-    x: u32,
-    y: u32,
-}
-
-// Where a rectangle begins in the bitmap of another one.
-fn corner_in(outer: &Rect, inner: &Rect) -> Corner
-    requires columns { outer.now.min_x ≤ℤ inner.now.min_x }
-    requires rows { outer.now.min_y ≤ℤ inner.now.min_y }
-    ensures x { pos result.x ≡ inner.now.min_x -ℤ outer.now.min_x }
-    ensures y { pos result.y ≡ inner.now.min_y -ℤ outer.now.min_y }
-{
-    Corner {
-        x: offset(outer.min_x(), inner.min_x()),
-        y: offset(outer.min_y(), inner.min_y()),
-    }
-}
-
-// How far a place is past an edge.
-#[tactic(auto, using(std::proofs::lemmas::Int::ints))]
-fn offset(edge: i16, place: i16) -> u32
-    requires { edge ≤ℤ place }
-    ensures { pos result ≡ place -ℤ edge }
-{
-    (i32::from(place) - i32::from(edge)) as u32
+    i64::from(to) - i64::from(from)
 }

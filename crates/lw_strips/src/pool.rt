@@ -1,6 +1,6 @@
 ghost use Rattle.std.specs.Prelude.{◌≡◌, ◌↔◌, ◌+◌, ◌-◌, ◌≤◌, [], ◌∷◌, ◌++◌, reverse, length, IfSome, IsNone, OnOk, OnErr, IsOk, MatchOption};
 ghost use Rattle.lw_region.specs.Rectangle.{Rectangle};
-ghost use Rattle.lw_strips.specs.Pools.{same_rectangle, copies, copies_in, IsClaimed, IsPlaceOf};
+ghost use Rattle.lw_strips.specs.Pools.{same_rectangle, copies, copies_in, IsClaimed, HasNoOther, IsPlaceOf};
 
 use crate::strip::Strip;
 use lw_region::Rect;
@@ -95,10 +95,13 @@ impl Pool {
         Some(self.strips.remove(place))
     }
 
-    /// Takes a strip of each of these rectangles out of the pool, which has one for each, and frees them.
+    /// Takes a strip of each of these rectangles out of the pool, which has one for each, and frees them. All others stay in it
+    /// as they are.
     pub fn claim_all(&mut self, rects: &[Rect])
         requires { (r : Rectangle) → copies r rects.now ≤ copies_in r self.old.strips }
-        ensures { (r : Rectangle) → copies_in r self.old.strips ≡ copies_in r self.new.strips + copies r rects.now }
+        ensures numbers { (r : Rectangle) → copies_in r self.old.strips ≡ copies_in r self.new.strips + copies r rects.now }
+        ensures others { HasNoOther self.old self.new }
+        ensures spare { self.new.spare ≡ self.old.spare + length rects.now }
     {
         for rect in rects {
             let _strip = self.claim(rect);

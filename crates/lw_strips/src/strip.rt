@@ -95,6 +95,17 @@ impl Strip {
         self.pens.planes.as_ref()
     }
 
+    /// The bitmap of the pens without the strip, if the strip is solid; `None` exactly where it is blank. No memory is taken or
+    /// freed.
+    pub fn into_planes(self) -> Option<Planes>
+        ensures { MatchOption result
+            (self.solid ≡ false)
+            (λ planes. (self.solid ≡ true) × (planes ≡ self.planes)) }
+    {
+        let pens = self.pens;
+        pens.planes
+    }
+
     /// Lends the bytes of `rows` rows of one plane of a solid strip, one at least, from row `y` of its bitmap on, all in range, as
     /// `Planes::rows_mut` does. After the loan each pixel of these rows has in this plane the bit that the bytes then hold,
     /// and all else stays as it was.

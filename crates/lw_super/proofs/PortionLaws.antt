@@ -13,7 +13,7 @@ use Rattle.lw_region.proofs.Numbers.{le_of}
 use Rattle.lw_planes.specs.Bitmap.{Bitmap, IsBitmap, pen_at}
 use Rattle.lw_planes.specs.Sizes.{IsPlanes}
 use Rattle.lw_planes.proofs.BitmapLaws.{IsBitmap_bitmap, pen_at_bitmap, bitmap_from_pens}
-use Rattle.lw_buffers.specs.Lookup.{pen_from, pen_in}
+use Rattle.lw_buffers.specs.Lookup.{pen_from, pen_in, with_buffers}
 use Rattle.lw_calls.specs.Kinds.{is_super}
 use Rattle.lw_calls.specs.declared.make.Kind.{Kind}
 use Rattle.lw_calls.specs.declared.make.Kind.TheVariants.{Simple, Smart, SuperBitmap}
@@ -29,7 +29,7 @@ use Rattle.lw_layer.specs.declared.draft.LiveDraft.{LiveDraft}
 use Rattle.lw_layer.proofs.BitsLaws.{live_bits}
 use Rattle.lw_layer.proofs.BufferLaws.{shown_buffer}
 use Rattle.lw_layer.proofs.CopyingLaws.{natural_distance, not_below}
-use Rattle.lw_super.specs.Shown.{axis_fits, IsShown, AreShown, with_shown, portion, portions, portions_of, left_of, top_of, draft_fits, IsNear, scrolled_by}
+use Rattle.lw_super.specs.Shown.{axis_fits, IsShown, AreShown, portion, portions, portions_of, left_of, top_of, draft_fits, IsNear, scrolled_by}
 use Rattle.lw_super.proofs.WritingLaws.{super_is, super_rest, super_pieces, super_bits, buffer_moved, scroll_is, are_shown}
 
 -- the draft with all bits in its own bitmap, scrolled to (x, y), and with another's buffers of visible rectangles
@@ -131,7 +131,7 @@ kept_pen false a b same = refl
 -- Rectangles that show what the bitmap has change nothing of it.
 shown_again : (rects : List Rectangle) (bs : List Bitmap) (left top : ℤ) (b : Bitmap) → IsBitmap b
     → ((x y : ℕ) → x < b.width → y < b.height → covers rects (left +ℤ pos x) (top +ℤ pos y) ≡ true → pen_in rects bs (left +ℤ pos x) (top +ℤ pos y) ≡ pen_at b x y)
-    → with_shown rects bs left top b ≡ b
+    → with_buffers rects bs left top b ≡ b
 shown_again rects bs left top b ok same =
     sym (bitmap_from_pens b _ ok
     (λ x y in_width in_height. kept_pen (covers rects (left +ℤ pos x) (top +ℤ pos y)) (pen_in rects bs (left +ℤ pos x) (top +ℤ pos y)) (pen_at b x y) (same x y in_width in_height)))

@@ -14,7 +14,7 @@ use Rattle.lw_region.proofs.Within.{within_true, within_low, within_high}
 use Rattle.lw_planes.specs.Bitmap.{Bitmap, bitmap, pen_at}
 use Rattle.lw_planes.proofs.BitmapLaws.{bitmap_same}
 use Rattle.lw_planes.proofs.ChosenLaws.{first_choice}
-use Rattle.lw_buffers.specs.Lookup.{pen_from, pen_in}
+use Rattle.lw_buffers.specs.Lookup.{pen_from, pen_in, with_buffers}
 use Rattle.lw_calls.specs.Kinds.{is_super}
 use Rattle.lw_calls.specs.declared.make.Kind.{Kind}
 use Rattle.lw_calls.specs.declared.make.Kind.TheVariants.{Simple, Smart, SuperBitmap}
@@ -33,7 +33,7 @@ use Rattle.lw_layer.proofs.Positions.{none_passes}
 use Rattle.lw_layer.proofs.ViewLaws.{has_place}
 use Rattle.lw_layer.proofs.CopyingLaws.{natural_distance, not_below}
 use Rattle.lw_layer.proofs.SoundLaws.{visible_inside}
-use Rattle.lw_super.specs.Shown.{IsShown, AreShown, with_shown, left_of, top_of}
+use Rattle.lw_super.specs.Shown.{IsShown, AreShown, left_of, top_of}
 
 pub super_is : (kind : Kind) → is_super kind ≡ true → kind ≡ SuperBitmap
 super_is Simple is = absurd (cc is)
@@ -146,7 +146,7 @@ pixel_pen d own x y (Some n) super ok left low is =
 
 -- the bits of a super-bitmap layer
 pub super_bits : (d : LiveDraft) (own : Bitmap) → d.kind ≡ SuperBitmap → IsLiveDraft (with_own d own)
-    → (live_view (with_own d own)).layer.bits ≡ with_shown d.parts.visible d.buffers.items (left_of d) (top_of d) own
+    → (live_view (with_own d own)).layer.bits ≡ with_buffers d.parts.visible d.buffers.items (left_of d) (top_of d) own
 super_bits d own super ok =
     bitmap_same own.width own.height d.depth _ _ (λ x y left low. pixel_pen d own x y (buffer_at (layout (with_own d own)) x y) super ok left low refl)
     ∙ ap (λ n. bitmap own.width own.height n (λ x y. if covers d.parts.visible (left_of d +ℤ pos x) (top_of d +ℤ pos y) then pen_in d.parts.visible d.buffers.items (left_of d +ℤ pos x) (top_of d +ℤ pos y) else pen_at own x y)) (sym (own_depth d own super ok).planes)
@@ -231,13 +231,13 @@ write_asks d own hidden visible buffers left top super is ok canonical divided i
 
 pub write_gives : (d : LiveDraft) (own new : Bitmap) (visible : List Rectangle) (buffers : List Bitmap) (left top : ℤ)
     → is_super d.kind ≡ true → d.superbits ≡ Some own → IsLiveDraft d → left ≡ left_of d → top ≡ top_of d
-    → visible ≡ d.parts.visible → buffers ≡ d.buffers.items → new ≡ with_shown visible buffers left top own
+    → visible ≡ d.parts.visible → buffers ≡ d.buffers.items → new ≡ with_buffers visible buffers left top own
     → new ≡ (live_view d).layer.bits
 write_gives d own new visible buffers left top super is ok is_left is_top is_visible is_buffers new_is =
-    let P : Option Bitmap → Type 0 = λ o. (live_view (record d { superbits = o })).layer.bits ≡ with_shown d.parts.visible d.buffers.items (left_of d) (top_of d) own in
+    let P : Option Bitmap → Type 0 = λ o. (live_view (record d { superbits = o })).layer.bits ≡ with_buffers d.parts.visible d.buffers.items (left_of d) (top_of d) own in
     let bits : P d.superbits = subst P (sym is) (super_bits d own (super_is d.kind super) (own_told d own is ok)) in
     new_is
-    ∙ (ap (λ rs. with_shown rs buffers left top own) is_visible
-    ∙ (ap (λ bs. with_shown d.parts.visible bs left top own) is_buffers
-    ∙ (ap (λ z. with_shown d.parts.visible d.buffers.items z top own) is_left
-    ∙ (ap (λ z. with_shown d.parts.visible d.buffers.items (left_of d) z own) is_top ∙ sym bits))))
+    ∙ (ap (λ rs. with_buffers rs buffers left top own) is_visible
+    ∙ (ap (λ bs. with_buffers d.parts.visible bs left top own) is_buffers
+    ∙ (ap (λ z. with_buffers d.parts.visible d.buffers.items z top own) is_left
+    ∙ (ap (λ z. with_buffers d.parts.visible d.buffers.items (left_of d) z own) is_top ∙ sym bits))))

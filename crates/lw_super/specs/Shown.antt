@@ -1,12 +1,10 @@
 -- For private contracts.
 -- A bitmap of which rectangles of the screen's plane show portions, each with a buffer of its size.
-use Rattle.std.specs.Prelude.{◌≡◌, ℕ, ◌+◌, ◌<◌, Bool, true, ◌&&◌, if◌then◌else◌, List, [], length, map, ℤ, pos, ◌+ℤ◌, ◌-ℤ◌, ◌≤ℤ◌, int_le, Option, Some, None}
+use Rattle.std.specs.Prelude.{◌≡◌, ℕ, ◌+◌, ◌<◌, Bool, true, ◌&&◌, List, [], length, map, ℤ, pos, ◌+ℤ◌, ◌-ℤ◌, ◌≤ℤ◌, int_le, Option, Some, None}
 use Rattle.std.specs.List.{slice_index_or}
 use Rattle.lw_region.specs.Rectangle.{Rectangle, IsOrdered, width, height}
-use Rattle.lw_region.specs.Bands.{covers}
 use Rattle.lw_region.specs.Order.{natural}
 use Rattle.lw_planes.specs.Bitmap.{Bitmap, bitmap, pen_at}
-use Rattle.lw_buffers.specs.Lookup.{pen_in}
 use Rattle.lw_calls.specs.Kinds.{is_super}
 use Rattle.lw_machine.specs.Arrangement.{portion_fits}
 use Rattle.lw_layer.specs.Drafts.{IsBuffer, IsLiveDraft, layout, live_view}
@@ -27,15 +25,6 @@ pub record IsShown (own : Bitmap) (left top : ℤ) (r : Rectangle) (b : Bitmap) 
 pub record AreShown (own : Bitmap) (left top : ℤ) (rects : List Rectangle) (buffers : List Bitmap) : Type 0 where
   pub many : length buffers ≡ length rects
   pub each : (n : ℕ) (r : Rectangle) (b : Bitmap) → n < length rects → IsShown own left top (slice_index_or rects n r) (slice_index_or buffers n b)
-
--- the bitmap with these pens where the test holds, both asked at places of the screen's plane
-abbrev pub laid : (ℤ → ℤ → Bool) → (ℤ → ℤ → ℕ) → ℤ → ℤ → Bitmap → Bitmap
-laid on pen left top own =
-    bitmap own.width own.height own.depth (λ x y. if on (left +ℤ pos x) (top +ℤ pos y) then pen (left +ℤ pos x) (top +ℤ pos y) else pen_at own x y)
-
--- the bitmap with the pens of the buffers on their rectangles
-abbrev pub with_shown : List Rectangle → List Bitmap → ℤ → ℤ → Bitmap → Bitmap
-with_shown rects buffers left top own = laid (λ x y. covers rects x y) (λ x y. pen_in rects buffers x y) left top own
 
 -- the portion of the bitmap on a rectangle
 unfoldable pub portion : Bitmap → ℤ → ℤ → Rectangle → Bitmap

@@ -5,11 +5,13 @@ use Rattle.lw_machine.specs.Parts.{info_part}
 use Rattle.lw_arrange.specs.Arrangements.{ArrangementView}
 use Rattle.lw_machine.specs.Arrangement.{arranged}
 use Rattle.lw_arrange.specs.Arranged.{IsArrangementOf}
+use Rattle.lw_arrange.specs.Areas.{HasArea}
 use Rattle.lw_stack.proofs.ListLaws.{entries_within_bounds}
 use Rattle.lw_arrange.proofs.StackLaws.{below_along}
 use Rattle.lw_arrange.proofs.RefusalLaws.{refused_is_refusal}
 use Rattle.lw_arrange.proofs.SoundLaws.{new_rect, after_sound}
 use Rattle.lw_arrange.proofs.ArrangedLaws.{after_stands}
+use Rattle.lw_arrange.proofs.ElsewhereLaws.{plan_area}
 use Rattle.lw_arrange.proofs.plan.plan_step.Goals as goal
 
 pub returns-in-Some-clause-step : goal.returns-in-Some-clause-step
@@ -24,8 +26,8 @@ after-requires-clause-placed c =
     new_rect a.info.now a.looks.now a.fresh a.task a.call.now c.sizes-sizes.ensures.stack.limits
     (sym c.refused.ensures ∙ c.in_default.is)
 
-pub visible_sets-requires : goal.visible_sets-requires
-visible_sets-requires c =
+pub shown_in-requires : goal.shown_in-requires
+shown_in-requires c =
     let a = c.args in
     let sound =
     subst IsStack (sym (c.in_ok-after.ensures {u = tt}))
@@ -62,3 +64,15 @@ returns-clause-step c = λ d are.
             info = record { front_to_back = stands.front_to_back; bounds = stands.bounds; active = stands.active };
           }),
     )
+
+pub returns-clause-area : goal.returns-clause-area
+returns-clause-area c =
+    let a = c.args in
+    let v = a.info.now in
+    let sizes = c.sizes-sizes.result.now in
+    let after = c.in_ok-after.after in
+    let Q : ArrangementView → Type 0 = λ p. HasArea v p in
+    subst Q (sym c.new.ensures)
+    (plan_area v (stack_of sizes after) a.looks.now a.task a.call.now c.in_ok-call.call c.in_ok-area.area c.in_ok-shown.shown.items
+    (ap (λ (z : Sizes). stack_of z after) c.sizes-sizes.ensures.value ∙ c.in_ok-after.ensures {u = tt}) (c.in_ok-call.ensures {u = tt})
+    (c.in_ok-area.ensures {u = tt}))

@@ -1,14 +1,18 @@
-use Rattle.std.proofs.Common.{◌∙◌, ap, subst}
+use Rattle.std.proofs.Common.{List, Option, subst}
+use Rattle.lw_region.specs.Rectangle.{Rectangle}
 use Rattle.lw_layer.specs.StandsFor.{IsSound}
 use Rattle.lw_layer.specs.Pieces.{IsDamageOf}
-use Rattle.lw_layer.specs.View.{LiveView}
+use Rattle.lw_arrange.specs.Prepared.{shown_at}
+use Rattle.lw_arrange.specs.Areas.{IsVisibleAfter}
 use Rattle.lw_arrange.proofs.SameLaws.{stays_same}
 use Rattle.lw_arrange.proofs.preparing.changed.Goals as goal
 
-pub returns-then-eq-2 : goal.returns-then-eq-2
-returns-then-eq-2 c =
+pub returns-in_default-2 : goal.returns-in_default-2
+returns-in_default-2 c =
+    let cell = c.args.cell.now in
+    let bounds = c.args.bounds.now in
     let is = c.in-Some.ensures.1 in
-    stays_same c.args.cell.now c.damage.result.now c.look-look.result.bounds c.args.bounds.now c.visible.result.now c.rects.result.now
-    c.args.visible.now c.eq.result c.eq-then-eq.result (subst IsSound is c.look-look.ensures.sound) (subst (λ v. IsDamageOf v c.damage.result.now) is c.damage.ensures) c.region.ensures.inside
-    (c.look-look.ensures.look.bounds ∙ ap (λ (v : LiveView). v.bounds) is)
-    (c.visible.ensures.value ∙ ap (λ (v : LiveView). v.visible) is) c.eq.ensures c.if-eq.true c.rects.ensures.value c.eq-then-eq.ensures c.if-eq-2.true
+    let V : Option (List Rectangle) → Type 0 = λ o. IsVisibleAfter c.args.arrangement.now cell.number cell.live bounds o in
+    let stays = subst V c.in_default-2.is c.in_ok-visible.ensures in
+    stays_same cell c.damage.result.now bounds (shown_at c.args.arrangement.now cell.number) (subst IsSound is c.look.ensures.sound)
+    (subst (λ v. IsDamageOf v c.damage.result.now) is c.damage.ensures) c.region.ensures.inside stays.0 stays.1

@@ -5,15 +5,15 @@ use Rattle.lw_layer.specs.Pieces.{IsDamageOf}
 use Rattle.lw_reveal.specs.Changed.{carried_to, MayHave}
 use Rattle.lw_reveal.proofs.CarriedLaws.{AreParts}
 use Rattle.lw_reveal.proofs.ChangedLaws.{parts_told}
-use Rattle.lw_reveal.proofs.PreparedLaws.{new_room, prepared}
+use Rattle.lw_reveal.proofs.PreparedLaws.{new_sizes, prepared}
 use Rattle.lw_reveal.proofs.change.prepare.Goals as goal
 
-pub all_buffers-requires-clause-room : goal.all_buffers-requires-clause-room
-all_buffers-requires-clause-room c =
+pub all_buffers-requires-clause-sizes : goal.all_buffers-requires-clause-sizes
+all_buffers-requires-clause-sizes c =
     let parts : Division = c.in_ok-parts.parts in
     let bounds : Rectangle = c.args.bounds.now in
     let told : AreParts bounds parts.visible = parts_told parts bounds c.hidden.result.now (ap (λ (q : Division). q.bounds) c.in_ok-parts.ensures) c.hidden.ensures.value c.min_x.ensures.ordered c.visible-shown.ensures.canonical c.hidden.ensures.divided in
-    new_room c.args.layer.now.layer.kind bounds parts.visible c.in_ok-pairing.pairing.news.items c.args.layer.now.layer.bits.depth c.in_ok-pairing.ensures.news told c.requires.may.sizes
+    new_sizes c.args.layer.now.layer.kind bounds parts.visible c.in_ok-pairing.pairing.news.items c.args.layer.now.layer.bits.depth c.in_ok-pairing.ensures.news told c.requires.may.sizes
 
 pub returns-clause-change : goal.returns-clause-change
 returns-clause-change c =

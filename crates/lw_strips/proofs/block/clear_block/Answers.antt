@@ -2,16 +2,19 @@ use Rattle.std.proofs.Common.{ℕ, ◌+◌, ◌<◌, ◌==◌, ◌&&◌, Bool, n
 use Rattle.lw_planes.proofs.ChosenLaws.{no_plane, next_plane, all_planes}
 use Rattle.lw_strips.specs.Blocks.{in_block}
 use Rattle.lw_strips.specs.declared.block.Block.{Block}
-use Rattle.lw_strips.proofs.BlockLaws.{bits_nowhere, bits_more, bits_depth, block_stays_in, block_cleared}
+use Rattle.lw_strips.proofs.BlockLaws.{bits_nowhere, bits_more, bits_depth, block_stays_in, block_nowhere, block_cleared}
 use Rattle.lw_strips.proofs.block.clear_block.Goals as goal
 
 -- what is cleared before a plane
 abbrev so_far : Block → ℕ → ℕ → ℕ → ℕ → Bool
 so_far k plane p x y = nat_lt p plane && in_block k x y
 
+pub returns-then-block-eq0 : goal.returns-then-block-eq0
+returns-then-block-eq0 c = block_nowhere c.args.block (λ _ _. 0) c.args.to.now c.depth-depth.ensures.planes.bitmap c.if-block-eq0.true
+
 pub loop-plane-init : goal.loop-plane-init
 loop-plane-init c =
-    bits_nowhere (so_far c.args.block 0) (λ _ _. 0) c.args.to.now c.requires.sound.bitmap
+    bits_nowhere (so_far c.args.block 0) (λ _ _. 0) c.args.to.now c.depth-depth.ensures.planes.bitmap
     (λ p x y. no_plane p (in_block c.args.block x y))
 
 pub clear_plane-requires-clause-block : goal.clear_plane-requires-clause-block
@@ -21,7 +24,7 @@ clear_plane-requires-clause-block c =
 pub clear_plane-requires-clause-plane : goal.clear_plane-requires-clause-plane
 clear_plane-requires-clause-plane c =
     let same = bits_depth (so_far c.args.block c.loop-plane.plane) (λ _ _. 0) c.args.to.now c.loop-plane.to c.loop-plane.invariant in
-    omega (arith, c.depth-plane-end.ensures.value, c.loop-plane-test.true)
+    omega (arith, c.depth-depth.ensures.value, c.loop-plane-test.true)
 
 pub loop-plane-preserved : goal.loop-plane-preserved
 loop-plane-preserved c =
@@ -34,5 +37,5 @@ loop-plane-preserved c =
 pub returns : goal.returns
 returns c =
     let k = c.args.block in
-    block_cleared (so_far k c.loop-plane.plane) k c.args.to.now c.loop-plane.to c.requires c.loop-plane.invariant
-    (λ p x y deep. let below : p < c.loop-plane.plane = omega (arith, deep, c.depth-plane-end.ensures.value, c.loop-plane-test.false) in all_planes p c.loop-plane.plane (in_block k x y) below)
+    block_cleared (so_far k c.loop-plane.plane) k c.args.to.now c.loop-plane.to c.depth-depth.ensures.planes.bitmap c.loop-plane.invariant
+    (λ p x y deep. let below : p < c.loop-plane.plane = omega (arith, deep, c.depth-depth.ensures.value, c.loop-plane-test.false) in all_planes p c.loop-plane.plane (in_block k x y) below)

@@ -1,13 +1,15 @@
-use Rattle.std.proofs.Common.{◌∙◌}
-use Rattle.lw_strips.proofs.CommonLaws.{common_in, cleared_laid, apart_laid}
+use Rattle.std.proofs.Common.{◌≡◌, ◌-ℤ◌, ◌∙◌, to_z, of_z, w64, ap, arith}
+use Rattle.std.proofs.lemmas.Int.{ints}
+use Rattle.lw_region.specs.Rectangle.{Rectangle, width, height}
+use Rattle.lw_strips.proofs.OverlapLaws.{blank_laid}
 use Rattle.lw_strips.proofs.laying.lay_blank.Goals as goal
 
-pub clear_block-requires : goal.clear_block-requires
-clear_block-requires c = common_in c.args.window.now c.args.rect.now c.in-Some.block c.args.planes.now c.in-Some.ensures c.min_x.ensures.ordered c.requires c.depth.ensures.planes
-
-pub returns-in-Some : goal.returns-in-Some
-returns-in-Some c =
-    c.clear_block.ensures ∙ cleared_laid c.args.window.now c.args.rect.now c.in-Some.block c.args.planes.now c.in-Some.ensures c.min_x.ensures.ordered c.requires
-
-pub returns-in_default : goal.returns-in_default
-returns-in_default c = apart_laid c.args.window.now c.args.rect.now (λ _ _. 0) c.args.planes.now c.in_default.ensures c.min_x.ensures.ordered c.requires c.depth.ensures.planes.bitmap
+pub returns : goal.returns
+returns c =
+    let window = c.args.window.now in
+    let r = c.args.strip.now.rect in
+    let is = c.rect-rect.ensures.value in
+    let x : to_z w64 (of_z w64 c.distance-x.result) ≡ r.min_x -ℤ window.min_x = omega (arith, ints, c.distance-x.ensures, c.min_x.ensures.value, c.min_x-2.ensures.value, ap (λ (q : Rectangle). q.min_x) is) in
+    let y : to_z w64 (of_z w64 c.distance-y.result) ≡ r.min_y -ℤ window.min_y = omega (arith, ints, c.distance-y.ensures, c.min_y.ensures.value, c.min_y-2.ensures.value, ap (λ (q : Rectangle). q.min_y) is) in
+    c.clear_area.ensures
+    ∙ blank_laid window c.args.strip.now _ _ c.width.result c.height.result c.args.planes.now x y (c.width.ensures.value ∙ ap width is) (c.height.ensures.value ∙ ap height is) c.rect-rect.ensures.strip c.requires.blank

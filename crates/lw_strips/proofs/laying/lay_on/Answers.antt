@@ -2,8 +2,8 @@ use Rattle.std.proofs.Common.{◌∙◌, ap, sym, subst}
 use Rattle.lw_region.specs.Rectangle.{Rectangle}
 use Rattle.lw_planes.specs.Bitmap.{Bitmap}
 use Rattle.lw_strips.specs.Strips.{IsSizeOf}
-use Rattle.lw_strips.specs.Laying.{with_planes, without_rectangle}
-use Rattle.lw_strips.proofs.CommonLaws.{blank_laid, solid_laid}
+use Rattle.lw_strips.specs.Laying.{with_planes}
+use Rattle.lw_strips.proofs.OverlapLaws.{solid_laid}
 use Rattle.lw_strips.proofs.laying.lay_on.Goals as goal
 
 pub lay_planes-requires-clause-source_size : goal.lay_planes-requires-clause-source_size
@@ -17,9 +17,3 @@ returns-in-Some c =
     c.lay_planes.ensures
     ∙ (ap (λ (r : Rectangle). with_planes c.args.window.now r c.in-Some.source.now c.args.planes.now) c.rect.ensures.value
     ∙ solid_laid c.args.window.now c.args.strip.now c.args.planes.now c.in-Some.source.now c.in-Some.ensures.value.1)
-
-pub returns-in-None : goal.returns-in-None
-returns-in-None c =
-    c.lay_blank.ensures
-    ∙ (ap (λ (r : Rectangle). without_rectangle c.args.window.now r c.args.planes.now) c.rect-in-None.ensures.value
-    ∙ blank_laid c.args.window.now c.args.strip.now c.args.planes.now c.rect-in-None.ensures.strip c.in-None.ensures.value)

@@ -1,4 +1,4 @@
-use Rattle.std.proofs.Common.{◌≡◌, ◌*◌, ◌<◌, ◌≤◌, ◌≤ℤ◌, ℕ, ℤ, length, pos, w32, sym, ◌∙◌, subst}
+use Rattle.std.proofs.Common.{◌≡◌, ◌*◌, ◌≤◌, ◌≤ℤ◌, ℕ, ℤ, length, pos, w32, sym, ◌∙◌, subst}
 use Rattle.std.proofs.lemmas.Int.{to_z-of_z}
 use Rattle.lw_region.proofs.Numbers.{le_of}
 use Rattle.lw_cliprects.specs.Parts.{hidden_of, AreDivided}
@@ -25,8 +25,7 @@ returns c =
     let l = layout d in
     let row : ℕ = c.in-Some.row in
     let divided : AreDivided d.bounds d.parts.visible (hidden_of d.bounds d.parts.visible) = rw (sym c.requires.sound.bounds) (rw c.hidden.ensures.value at c.hidden.ensures.divided) in
-    let low : row < l.height = rw (sym c.height.ensures) c.in-Some.ensures.1 in
     let P : ℤ → Type 0 = λ z. HasPlaces (buffered l) (buffers_of d) c.args.plane (across_at l z) (down l row) (8 * length c.args.bits.now) c.copy_buffered.new.bits c.copy_buffered.new.kept in
     row_of_places d c.args.plane c.args.x c.args.y row (8 * length c.args.bits.now) c.copy_buffered.new.bits c.copy_buffered.new.kept
-    (sym (to_z-of_z w32 c.args.y c.ranges.y) ∙ c.in-Some.ensures.0) low c.requires.sound c.min_x.ensures.ordered divided
+    (sym (to_z-of_z w32 c.args.y c.ranges.y) ∙ c.in-Some.ensures.0) c.requires.sound c.min_x.ensures.ordered divided
     (subst P (to_z-of_z w32 c.args.x c.ranges.x) c.copy_buffered.ensures)

@@ -20,7 +20,7 @@ loop-front-preserved c =
     rw (take_more order i 0 c.loop-front-test.true)
     (more_in_front c.args.self.now.bounds (take i order) (get_or order i 0) c.args.slot c.loop-front.covered c.cover.new.covered
     c.loop-front.invariant (ne_eqb (get_or order i 0) c.args.slot c.if-front-slot.false)
-    (rw c.bounds-bounds.ensures at c.in_ok-cover.ensures))
+    (rw c.bounds-bounds.ensures at c.in_ok-cover.ensures.ok))
 
 pub returns-then-front-slot : goal.returns-then-front-slot
 returns-then-front-slot c =

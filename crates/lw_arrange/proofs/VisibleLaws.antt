@@ -1,0 +1,139 @@
+-- What is visible of a layer after an arrangement.
+use Rattle.std.proofs.Common.{◌≡◌, ℕ, ◌<◌, Bool, true, false, not, ◌&&◌, ◌||◌, List, [], slice_index_or, ℤ, pos, ◌+ℤ◌, ◌-ℤ◌, Some, FitsSigned, w16, refl, sym, ap, subst, ◌∙◌, arith}
+use Rattle.std.proofs.lemmas.Int.{ints}
+use Rattle.std.proofs.lemmas.Bool.{and_parts, false_from_ne_true, both_ways}
+use Rattle.lw_region.specs.Rectangle.{Rectangle, within, has_pixel, IsWord, HasWords}
+use Rattle.lw_region.specs.Pixels.{pixels_of, union, difference}
+use Rattle.lw_region.specs.Bands.{bands, covers}
+use Rattle.lw_region.specs.Banded.{IsCanonical}
+use Rattle.lw_region.specs.Regions.{MayMove, moved_list}
+use Rattle.lw_region.proofs.Within.{within_low, within_high}
+use Rattle.lw_region.proofs.SetOps.{combined_lists, canonical_bands}
+use Rattle.lw_region.proofs.Canonical.{one_canonical}
+use Rattle.lw_region.proofs.Moving.{moved_lists}
+use Rattle.lw_cliprects.specs.Parts.{LieIn}
+use Rattle.lw_machine.specs.Screen.{bounds_have}
+use Rattle.lw_layer.specs.View.{CellView}
+use Rattle.lw_layer.specs.View as view
+use Rattle.lw_layer.specs.StandsFor.{IsSound}
+use Rattle.lw_stack.specs.Stack.{bounds_at, is_first_at, LieApart}
+use Rattle.lw_stack.proofs.FirstLaws.{not_first}
+use Rattle.lw_stack.proofs.ListedLaws.{shown_places, shown_list_law}
+use Rattle.lw_arrange.specs.Arrangements.{ArrangementView, IsArrangement}
+use Rattle.lw_arrange.specs.Prepared.{shown_at}
+use Rattle.lw_arrange.specs.Areas.{is_visible, IsShownElsewhere}
+
+-- a canonical list of the places where the slot's layer is the first is what is shown of it
+shown_so : (a : ArrangementView) (s : ℕ) (rects : List Rectangle) → IsCanonical rects
+    → ((x y : ℤ) → covers rects x y ≡ is_first_at a.stack.bounds a.stack.front_to_back s x y) → rects ≡ shown_at a s
+shown_so a s rects canonical places =
+    let bounds = a.stack.bounds in
+    let slots = a.stack.front_to_back in
+    one_canonical rects (shown_at a s) canonical (shown_list_law bounds slots s).1
+    (λ x y. places x y ∙ sym (shown_places bounds slots s x y))
+
+-- the places of the area where a slot's layer is the first
+in_area : (a : ArrangementView) (s : ℕ) (rects : List Rectangle) → IsArrangement a → s < a.stack.sizes.slots
+    → rects ≡ slice_index_or a.shown s [] → (x y : ℤ)
+    → covers rects x y ≡ (covers a.area x y && is_first_at a.stack.bounds a.stack.front_to_back s x y)
+in_area a s rects planned low are x y =
+    ap (λ l. covers l x y) are ∙ planned.shown.places s x y (subst (λ n. s < n) (sym planned.stack.many) low)
+
+-- what a layer shows outside the area, by what its cell holds
+fresh_elsewhere : (a : ArrangementView) (c : CellView) → c.state ≡ view.Unopened → IsShownElsewhere a c → (x y : ℤ)
+    → covers a.area x y ≡ false → is_first_at a.stack.bounds a.stack.front_to_back c.number x y ≡ false
+fresh_elsewhere a c fresh h x y off = sym (h x y off) ∙ ap (λ q. is_visible q c.live x y) fresh
+
+live_elsewhere : (a : ArrangementView) (c : CellView) → c.state ≡ view.Live → IsShownElsewhere a c → (x y : ℤ)
+    → covers a.area x y ≡ false → covers c.live.visible x y ≡ is_first_at a.stack.bounds a.stack.front_to_back c.number x y
+live_elsewhere a c live h x y off = sym (ap (λ q. is_visible q c.live x y) live) ∙ h x y off
+
+-- of a new layer nothing is shown outside the area
+all_inside : (a f : Bool) → (a ≡ false → f ≡ false) → (a && f) ≡ f
+all_inside true f h = refl
+all_inside false f h = sym (h refl)
+
+pub new_shown : (a : ArrangementView) (c : CellView) (rects : List Rectangle) → IsArrangement a → c.number < a.stack.sizes.slots
+    → c.state ≡ view.Unopened → IsShownElsewhere a c → rects ≡ slice_index_or a.shown c.number [] → IsCanonical rects
+    → rects ≡ shown_at a c.number
+new_shown a c rects planned low fresh h are canonical =
+    shown_so a c.number rects canonical
+    (λ x y. in_area a c.number rects planned low are x y
+    ∙ all_inside (covers a.area x y) (is_first_at a.stack.bounds a.stack.front_to_back c.number x y) (fresh_elsewhere a c fresh h x y))
+
+-- a layer that stays live shows in the area what the plan says, and elsewhere what it shows
+joined : (a v f : Bool) → (a ≡ false → v ≡ f) → ((v && not a) || (a && f)) ≡ f
+joined true true f h = refl
+joined true false f h = refl
+joined false true true h = refl
+joined false true false h = absurd (cc (h refl))
+joined false false true h = absurd (cc (h refl))
+joined false false false h = refl
+
+pub live_shown : (a : ArrangementView) (c : CellView) (copy left own made : List Rectangle) → IsArrangement a
+    → c.number < a.stack.sizes.slots → c.state ≡ view.Live → IsShownElsewhere a c
+    → ((x y : ℤ) → covers copy x y ≡ covers c.live.visible x y) → left ≡ bands (difference (pixels_of copy) (pixels_of a.area))
+    → own ≡ slice_index_or a.shown c.number [] → made ≡ bands (union (pixels_of left) (pixels_of own))
+    → made ≡ shown_at a c.number
+live_shown a c copy left own made planned low live h same cleared are added =
+    let first : ℤ → ℤ → Bool = λ x y. is_first_at a.stack.bounds a.stack.front_to_back c.number x y in
+    shown_so a c.number made (subst IsCanonical (sym added) (canonical_bands (union (pixels_of left) (pixels_of own))))
+    (λ x y.
+    (combined_lists.unions left own made added).pixels x y
+    ∙ (ap (λ b. b || covers own x y)
+    ((combined_lists.differences copy a.area left cleared).pixels x y ∙ ap (λ b. b && not (covers a.area x y)) (same x y))
+    ∙ (ap (λ b. (covers c.live.visible x y && not (covers a.area x y)) || b) (in_area a c.number own planned low are x y)
+    ∙ joined (covers a.area x y) (covers c.live.visible x y) (first x y) (live_elsewhere a c live h x y))))
+
+-- one that stays where it is, apart from the area, shows the same
+pub apart_shown : (a : ArrangementView) (c : CellView) (bounds : Rectangle) → IsSound c.live → c.state ≡ view.Live
+    → bounds_at a.stack.bounds c.number ≡ Some bounds → c.live.bounds ≡ bounds → LieApart a.area bounds → IsShownElsewhere a c
+    → c.live.visible ≡ shown_at a c.number
+apart_shown a c bounds sound live here stays apart h =
+    shown_so a c.number c.live.visible sound.canonical (λ x y. by_area x y (covers a.area x y) refl)
+  where
+    outside : (x y : ℤ) → covers a.area x y ≡ true → has_pixel bounds x y ≡ false
+    outside x y e = sym (ap (λ b. b && has_pixel bounds x y) e) ∙ apart x y
+
+    hidden : (x y : ℤ) → has_pixel bounds x y ≡ false → covers c.live.visible x y ≡ false
+    hidden x y off =
+        false_from_ne_true (covers c.live.visible x y)
+        (λ has. both_ways (has_pixel bounds x y) off (sym (ap (λ r. has_pixel r x y) stays) ∙ sound.inside x y has))
+
+    by_area : (x y : ℤ) (b : Bool) → covers a.area x y ≡ b
+        → covers c.live.visible x y ≡ is_first_at a.stack.bounds a.stack.front_to_back c.number x y
+    by_area x y true e =
+        let off = outside x y e in
+        hidden x y off
+        ∙ sym (not_first a.stack.bounds a.stack.front_to_back c.number x y (ap (λ o. bounds_have o x y) here ∙ off))
+    by_area x y false e = live_elsewhere a c live h x y e
+
+-- a number of 16 bits is a word
+pub word_at : (z b : ℤ) → FitsSigned w16 z → z ≡ b → IsWord b
+word_at z b fits is = (omega (arith, ints), omega (arith, ints))
+
+-- what lies in bounds has places of 16 bits as it is
+word_as_it_is : (low z high : ℤ) → within low z high ≡ true → IsWord low → IsWord high → IsWord (z +ℤ pos 0)
+word_as_it_is low z high has least most =
+    let above = within_low low z high has in
+    let below = within_high low z high has in
+    let first = least.0 in
+    let last = most.1 in
+    (omega (arith, ints), omega (arith, ints))
+
+pub may_stay : (bounds : Rectangle) (rects : List Rectangle) → LieIn bounds rects → HasWords bounds → MayMove rects (pos 0) (pos 0)
+may_stay bounds rects inside words x y has =
+    let sides = and_parts (within bounds.min_x x bounds.max_x) (within bounds.min_y y bounds.max_y) (inside x y has) in (
+      word_as_it_is bounds.min_x x bounds.max_x sides.0 words.left words.right,
+      word_as_it_is bounds.min_y y bounds.max_y sides.1 words.top words.bottom,
+    )
+
+-- a list that is moved by nothing has the same pixels
+pub moved_nowhere : (rects made : List Rectangle) → made ≡ moved_list rects (pos 0) (pos 0) → (x y : ℤ) → covers made x y ≡ covers rects x y
+moved_nowhere rects made e x y =
+    ap (λ l. covers l x y) e
+    ∙ (moved_lists.0 rects (pos 0) (pos 0) x y
+    ∙ (ap (λ u. covers rects u (y -ℤ pos 0)) (as_it_is x) ∙ ap (λ v. covers rects x v) (as_it_is y)))
+  where
+    as_it_is : (z : ℤ) → z -ℤ pos 0 ≡ z
+    as_it_is z = omega (arith, ints)

@@ -1,0 +1,66 @@
+-- The area of an arrangement: outside it each layer is shown as before.
+use Rattle.std.specs.Prelude.{◌≡◌, ℕ, Bool, false, ◌||◌, List, ℤ, Option, Some, None}
+use Rattle.lw_region.specs.Rectangle.{Rectangle}
+use Rattle.lw_region.specs.Bands.{covers}
+use Rattle.lw_calls.specs.declared.call.Call.{Call}
+use Rattle.lw_calls.specs.declared.call.Call.TheVariants.{Create, OpenWindow, Close, ToFront, ToBack, InFrontOf, MoveBy, SizeBy, SetBox}
+use Rattle.lw_machine.specs.Screen.{bounds_have}
+use Rattle.lw_layer.specs.View.{State, LiveView, CellView}
+use Rattle.lw_layer.specs.View as view
+use Rattle.lw_stack.specs.Stack.{Stack, bounds_at, is_first_at}
+use Rattle.lw_arrange.specs.Arrangements.{ArrangementView}
+use Rattle.lw_arrange.specs.Prepared.{shown_at}
+use Rattle.lw_arrange.specs.declared.arrangement.Step.{Step}
+use Rattle.lw_arrange.specs.declared.arrangement.Step.TheVariants.{Refused, Arranged}
+
+-- the slot whose bounds or whose place in the list a call may change
+abbrev pub slot_arranged : Call → Option ℕ
+slot_arranged (Create slot make) = Some slot
+slot_arranged (OpenWindow slot make framed nocare asks title) = Some slot
+slot_arranged (Close slot) = Some slot
+slot_arranged (ToFront slot) = Some slot
+slot_arranged (ToBack slot) = Some slot
+slot_arranged (InFrontOf slot other) = Some slot
+slot_arranged (MoveBy slot dx dy) = Some slot
+slot_arranged (SizeBy slot dw dh) = Some slot
+slot_arranged (SetBox slot x y w h) = Some slot
+slot_arranged call = None
+
+-- the bounds of the slot, if there is one, have the place
+abbrev pub slot_has : Stack → Option ℕ → ℤ → ℤ → Bool
+slot_has v None x y = false
+slot_has v (Some s) x y = bounds_have (bounds_at v.bounds s) x y
+
+-- the area is the bounds of the call's slot in the one list and in the other; it is empty for a call that changes neither bounds nor order
+abbrev pub IsAreaOf : Stack → Stack → Call → List Rectangle → Type 0
+IsAreaOf v w call area =
+    (x y : ℤ) → covers area x y ≡ (slot_has v (slot_arranged call) x y || slot_has w (slot_arranged call) x y)
+
+-- The area of an arrangement is the former and the new bounds of its call's slot, and outside it each layer is shown as before.
+pub record HasArea (v : Stack) (a : ArrangementView) : Type 0 where
+  pub area : IsAreaOf v a.stack a.call a.area
+  pub elsewhere : (s : ℕ) (x y : ℤ) → covers a.area x y ≡ false
+      → is_first_at v.bounds v.front_to_back s x y ≡ is_first_at a.stack.bounds a.stack.front_to_back s x y
+
+-- so it is with what planning answers, where that is an arrangement
+abbrev pub StepHasArea : Stack → Step → Type 0
+StepHasArea v (Refused r) = Unit {0}
+StepHasArea v (Arranged a) = HasArea v a
+
+-- the visible rectangles of a live layer have the place; a slot that isn't live has none
+abbrev pub is_visible : State → LiveView → ℤ → ℤ → Bool
+is_visible view.Unopened c x y = false
+is_visible view.Live c x y = covers c.visible x y
+is_visible view.Closed c x y = false
+
+-- Outside the area of the arrangement, what is visible of the cell is what the plan shows of its slot.
+abbrev pub IsShownElsewhere : ArrangementView → CellView → Type 0
+IsShownElsewhere a c =
+    (x y : ℤ) → covers a.area x y ≡ false
+    → is_visible c.state c.live x y ≡ is_first_at a.stack.bounds a.stack.front_to_back c.number x y
+
+-- For private contracts.
+-- The visible rectangles of a live layer after an arrangement, in which it then has these bounds; none are told where both stay.
+abbrev pub IsVisibleAfter : ArrangementView → ℕ → LiveView → Rectangle → Option (List Rectangle) → Type 0
+IsVisibleAfter a s c bounds None = (c.bounds ≡ bounds) × (c.visible ≡ shown_at a s)
+IsVisibleAfter a s c bounds (Some visible) = visible ≡ shown_at a s

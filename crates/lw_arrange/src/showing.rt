@@ -1,0 +1,91 @@
+// What is visible of a layer after an arrangement: in the area of the plan what that says, and elsewhere what is visible already.
+
+ghost use Rattle.std.specs.Prelude.{◌≡◌, ◌<◌, ℤ, Some, IfOk};
+ghost use Rattle.lw_region.specs.Bands.{covers};
+ghost use Rattle.lw_layer.specs.View as view;
+ghost use Rattle.lw_stack.specs.Stack.{bounds_at};
+ghost use Rattle.lw_arrange.specs.Prepared.{shown_at};
+ghost use Rattle.lw_arrange.specs.Areas.{IsShownElsewhere, IsVisibleAfter};
+
+use crate::arrangement::Arrangement;
+use lw_layer::{Cell, Layer};
+use lw_region::{Rect, Region, clear_region, moved_region, or_region};
+use lw_stack::meets;
+use std::alloc::{AllocError, Global};
+
+/// The visible region of a new layer in the cell: what is shown of it in the area, since elsewhere nothing is.
+pub(crate) fn new_visible<'a>(cell: &Cell, arrangement: &'a Arrangement) -> &'a Region
+    requires slot { cell.now.number < arrangement.now.stack.sizes.slots }
+    requires fresh { cell.now.state ≡ view.Unopened }
+    requires elsewhere { IsShownElsewhere arrangement.now cell.now }
+    ensures { result.now ≡ shown_at arrangement.now cell.now.number }
+{
+    // Reading the sizes tells the proof what holds of the plan, and reading the list that it is canonical.
+    let _ = arrangement.sizes();
+    let visible = arrangement.shown(cell.slot());
+    let _ = visible.rects();
+    visible
+}
+
+/// The visible region after the arrangement of a layer that stays live, which has these bounds then; `None` where bounds and
+/// visible rectangles stay. No region is made for a layer that stays where it is and doesn't meet the area.
+pub(crate) fn changed_visible(
+    alloc: Global,
+    cell: &Cell,
+    layer: &Layer,
+    arrangement: &Arrangement,
+    bounds: &Rect,
+) -> Result<Option<Region>, AllocError>
+    requires slot { cell.now.number < arrangement.now.stack.sizes.slots }
+    requires live { cell.now.state ≡ view.Live }
+    requires layer { layer.now ≡ cell.now.live }
+    requires bounds { bounds_at arrangement.now.stack.bounds cell.now.number ≡ Some bounds.now }
+    requires elsewhere { IsShownElsewhere arrangement.now cell.now }
+    ensures { IfOk result (λ visible. IsVisibleAfter arrangement.now cell.now.number cell.now.live bounds.now visible) }
+{
+    let stays = layer.look().bounds == *bounds;
+    if stays && !meets(arrangement.area(), bounds) {
+        return Ok(None);
+    }
+    let visible = visible_after(alloc, cell, layer, arrangement)?;
+    if stays && layer.visible() == visible.rects() {
+        return Ok(None);
+    }
+    Ok(Some(visible))
+}
+
+// The visible region after the arrangement of a layer that stays live.
+fn visible_after(
+    alloc: Global,
+    cell: &Cell,
+    layer: &Layer,
+    arrangement: &Arrangement,
+) -> Result<Region, AllocError>
+    requires slot { cell.now.number < arrangement.now.stack.sizes.slots }
+    requires live { cell.now.state ≡ view.Live }
+    requires layer { layer.now ≡ cell.now.live }
+    requires elsewhere { IsShownElsewhere arrangement.now cell.now }
+    ensures { IfOk result (λ visible. visible ≡ shown_at arrangement.now cell.now.number) }
+{
+    // Reading the sizes tells the proof what holds of the plan.
+    let _ = arrangement.sizes();
+    let mut visible = visible_region(alloc, layer)?;
+    clear_region(alloc, arrangement.area(), &mut visible)?;
+    or_region(alloc, arrangement.shown(cell.slot()), &mut visible)?;
+    Ok(visible)
+}
+
+// The visible rectangles of a layer as a region.
+fn visible_region(alloc: Global, layer: &Layer) -> Result<Region, AllocError>
+    ensures { IfOk result (λ made. (x y : ℤ) → covers made x y ≡ covers layer.now.visible x y) }
+{
+    // Reading the bounds tells the proof that all places in them are words.
+    let bounds = layer.look().bounds;
+    let _ = (
+        bounds.min_x(),
+        bounds.min_y(),
+        bounds.max_x(),
+        bounds.max_y(),
+    );
+    moved_region(alloc, layer.visible(), 0, 0)
+}
