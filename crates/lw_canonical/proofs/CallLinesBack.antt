@@ -4,8 +4,13 @@ use Rattle.lw_region.specs.Rectangle.{Rectangle, within}
 use Rattle.lw_calls.specs.declared.make.Kind.{Kind}
 use Rattle.lw_calls.specs.declared.make.Kind.TheVariants.{Simple, Smart, SuperBitmap}
 use Rattle.lw_calls.specs.Limits.{rect_fits}
-use Rattle.lw_grammar.specs.Statements.{AskedLayer, Act, RegRectAct, RegPairAct, RegClearAct, CreateAct, OpenAct, InFrontAct, WhichAct, APenAct, BPenAct, ModeAct, MaskAct, SetRastAct, PutAct, BlitAct, ClipAct, CallLine, four, is_hook_number, is_own_size, is_asked_in_range, place_and_size_fit, is_act_in_range}
-use Rattle.lw_grammar.specs.Told.{place_among, created_make, opened_make, spelled_call}
+use Rattle.lw_grammar.specs.declared.verb.BareVerb.TheVariants.{Close as CloseVerb}
+use Rattle.lw_grammar.specs.declared.verb.NumberVerb.{NumberVerb}
+use Rattle.lw_grammar.specs.declared.verb.NumberVerb.TheVariants.{APen as APenVerb}
+use Rattle.lw_grammar.specs.declared.verb.PairVerb.TheVariants.{Move as MoveVerb}
+use Rattle.lw_grammar.specs.declared.verb.TextVerb.TheVariants.{Text as TextOf}
+use Rattle.lw_grammar.specs.Statements.{AskedLayer, Act, NumberAct, PairAct, TextAct, BareAct, RegRectAct, RegPairAct, RegClearAct, CreateAct, OpenAct, InFrontAct, WhichAct, PutAct, BlitAct, CallLine, four, is_hook_number, is_own_size, is_asked_in_range, place_and_size_fit, greatest_number, is_act_in_range}
+use Rattle.lw_grammar.specs.Told.{place_among, created_make, opened_make, number_call, spelled_call}
 use Rattle.lw_canonical.specs.Canonical.{created_asked, opened_asked, line_of_call}
 use Rattle.lw_grammar.proofs.ScriptStatements.{IsAskedOf, IsStatementMade}
 use Rattle.std.proofs.lemmas.Int.{ints}
@@ -82,6 +87,11 @@ abbrev pub IsBitmapBack : List (List ℕ) → List (List ℕ) → Act → Type 0
 IsBitmapBack bitmaps among (PutAct bm b) = slice_index_or bitmaps (place_among among bm) [] ≡ bm
 IsBitmapBack bitmaps among act = Unit {0}
 
+-- the line of the call of a verb with a number
+number_line_back : (names bitmaps : List (List ℕ)) (verb : NumberVerb) (slot : ℕ) (n : ℤ) → pos (unsigned_abs n) ≡ n → line_of_call names bitmaps (number_call verb slot (unsigned_abs n)) ≡ CallLine (slice_index_or names slot [] ∷ []) (NumberAct verb n)
+number_line_back names bitmaps APenVerb slot n e = ap (λ z. CallLine (slice_index_or names slot [] ∷ []) (NumberAct APenVerb z)) e
+number_line_back names bitmaps verb slot n e = ap (λ z. CallLine (slice_index_or names slot [] ∷ []) (NumberAct verb z)) e
+
 -- The line of a call, where the slots' names are its layers and the bitmaps above the line are found among all.
 pub line_back : (names bitmaps among layers : List (List ℕ)) (act : Act) → IsStatementMade (CallLine layers act) → is_act_in_range act ≡ true → IsBitmapBack bitmaps among act → (slots : List ℕ) → map (λ s. slice_index_or names s []) slots ≡ layers → line_of_call names bitmaps (spelled_call among act slots) ≡ CallLine layers act
 line_back names bitmaps among layers (RegRectAct op r rect) m h b slots e =
@@ -101,18 +111,11 @@ line_back names bitmaps among layers (CreateAct a) m h b slots e =
 line_back names bitmaps among layers (OpenAct a framed nocare classes title) m h b slots e =
     let halves = and_parts (place_and_size_fit a.numbers) _ h in
     ap (λ k. CallLine (slice_index_or names (slice_index slots 0) [] ∷ []) (OpenAct k framed nocare classes title)) (opened_back a m.1.0 halves.1) ∙ ap (λ ls. CallLine ls (OpenAct a framed nocare classes title)) (one_back names slots layers e m.0)
-line_back names bitmaps among layers (APenAct p) m h b slots e =
-    ap (λ z. CallLine (slice_index_or names (slice_index slots 0) [] ∷ []) (APenAct z)) (number_back 0 p 255 h) ∙ ap (λ ls. CallLine ls (APenAct p)) (one_back names slots layers e m.0)
-line_back names bitmaps among layers (BPenAct p) m h b slots e =
-    ap (λ z. CallLine (slice_index_or names (slice_index slots 0) [] ∷ []) (BPenAct z)) (number_back 0 p 255 h) ∙ ap (λ ls. CallLine ls (BPenAct p)) (one_back names slots layers e m.0)
-line_back names bitmaps among layers (ModeAct k) m h b slots e =
-    ap (λ z. CallLine (slice_index_or names (slice_index slots 0) [] ∷ []) (ModeAct z)) (number_back 0 k 7 h) ∙ ap (λ ls. CallLine ls (ModeAct k)) (one_back names slots layers e m.0)
-line_back names bitmaps among layers (MaskAct p) m h b slots e =
-    ap (λ z. CallLine (slice_index_or names (slice_index slots 0) [] ∷ []) (MaskAct z)) (number_back 0 p 255 h) ∙ ap (λ ls. CallLine ls (MaskAct p)) (one_back names slots layers e m.0)
-line_back names bitmaps among layers (SetRastAct p) m h b slots e =
-    ap (λ z. CallLine (slice_index_or names (slice_index slots 0) [] ∷ []) (SetRastAct z)) (number_back 0 p 255 h) ∙ ap (λ ls. CallLine ls (SetRastAct p)) (one_back names slots layers e m.0)
-line_back names bitmaps among layers (ClipAct r) m h b slots e =
-    ap (λ z. CallLine (slice_index_or names (slice_index slots 0) [] ∷ []) (ClipAct z)) (number_back 0 r 7 h) ∙ ap (λ ls. CallLine ls (ClipAct r)) (one_back names slots layers e m.0)
+line_back names bitmaps among layers (NumberAct verb n) m h b slots e =
+    number_line_back names bitmaps verb (slice_index slots 0) n (number_back 0 n (greatest_number verb) h) ∙ ap (λ ls. CallLine ls (NumberAct verb n)) (one_back names slots layers e m.0)
+line_back names bitmaps among layers (BareAct CloseVerb) m h b slots e = ap (λ ls. CallLine ls (BareAct CloseVerb)) (one_back names slots layers e m.0)
+line_back names bitmaps among layers (PairAct MoveVerb x y) m h b slots e = ap (λ ls. CallLine ls (PairAct MoveVerb x y)) (one_back names slots layers e m.0)
+line_back names bitmaps among layers (TextAct TextOf text) m h b slots e = ap (λ ls. CallLine ls (TextAct TextOf text)) (one_back names slots layers e m.0)
 line_back names bitmaps among layers (PutAct bm g) m h b slots e =
     ap (λ n. CallLine (slice_index_or names (slice_index slots 0) [] ∷ []) (PutAct n g)) b ∙ ap (λ ls. CallLine ls (PutAct bm g)) (one_back names slots layers e m.0)
 line_back names bitmaps among layers act m h b slots e = ap (λ ls. CallLine ls act) (one_back names slots layers e m.0)

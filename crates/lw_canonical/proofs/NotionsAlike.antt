@@ -2,7 +2,8 @@
 use Rattle.std.proofs.Common.{◌≡◌, ℕ, ◌+◌, ◌-◌, ◌≤◌, ◌==◌, Bool, true, false, cond, List, [], ◌∷◌, ◌++◌, map, filter, ℤ, None, refl, sym, ap, subst, ◌∙◌}
 use Rattle.lw_calls.specs.declared.group.Hold.{Hold}
 use Rattle.lw_calls.specs.declared.group.Hold.TheVariants.{Slot, All as AllLayers}
-use Rattle.lw_grammar.specs.Statements.{Act, RefreshAct, EndRefreshAct, Statement, ScreenLine, GlyphLine, BitmapLine, RowLine, TaskLine, EndLine, OrderLine, NumbersLine, ReportLine, CallLine, LockLine, UnlockLine, HoldLine, ReleaseLine}
+use Rattle.lw_grammar.specs.declared.verb.BareVerb.TheVariants.{Refresh as RefreshVerb}
+use Rattle.lw_grammar.specs.Statements.{Act, BareAct, EndRefreshAct, Statement, ScreenLine, GlyphLine, BitmapLine, RowLine, TaskLine, EndLine, OrderLine, NumbersLine, ReportLine, CallLine, LockLine, UnlockLine, HoldLine, ReleaseLine}
 use Rattle.lw_grammar.specs.Told.{Section, ScreenIsDue, AssetsAreDue, CallsAreDue, TasksAreDue, NumbersAreDue, NothingIsDue, nothing_told, and_name, and_names, place_among, onto_last, spelled_call, call_below, asks_super, hook_on, and_hook, left_open_by, group_from, told}
 use Rattle.lw_grammar.specs.Script.{Setting, are_calls_due, are_tasks_due, are_numbers_due, AreGoodLines}
 use Rattle.lw_grammar.proofs.ScriptOutcome.{rows_in_assets}
@@ -230,7 +231,7 @@ module _ (above new : List Statement) (a : AreAlike above new) where
   more_began : (f : Statement) → (told (f ∷ new)).began ≡ (told (f ∷ above)).began
   more_began (LockLine name) = a.so_far
   more_began HoldLine = a.so_far
-  more_began (CallLine layers RefreshAct) = a.so_far
+  more_began (CallLine layers (BareAct RefreshVerb)) = a.so_far
   more_began (CallLine layers act) = a.began
   more_began f = a.began
 

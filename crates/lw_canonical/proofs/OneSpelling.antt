@@ -2,17 +2,15 @@
 use Rattle.std.proofs.Common.{◌≡◌, ℕ, ◌==◌, Bool, true, false, not, cond, nat_le, List, [], ◌∷◌, ◌++◌, length, map, codes, Option, Some, None, Result, Ok, Err, ok_or, IfSome, refl, sym, ap, subst, ◌∙◌, append_assoc}
 use Rattle.std.specs.List.{list_all, flat_map, onto_first}
 use Rattle.std.specs.Result.{IfOk}
-use Rattle.lw_calls.specs.declared.operation.RectOp.TheVariants.{Or as OrR, And as AndR, Xor as XorR, Clear as ClearR}
-use Rattle.lw_calls.specs.declared.operation.PairOp.TheVariants.{Or as OrP, And as AndP, Xor as XorP}
 use Rattle.lw_calls.specs.declared.reason.Reason.{Reason}
 use Rattle.lw_calls.specs.declared.reason.Reason.TheVariants.{LineTooLong, BadByte, UnknownWord, Misplaced, Form as FormReason, Range}
 use Rattle.lw_grammar.specs.declared.verb.Verb.{Verb}
-use Rattle.lw_grammar.specs.declared.verb.Verb.TheVariants.{Screen as ScreenVerb, Glyph as GlyphVerb, Bitmap as BitmapVerb, Task as TaskVerb, End as EndVerb, Order as OrderVerb, Report as ReportVerb, Lock as LockVerb, Unlock as UnlockVerb, Hold as HoldVerb, Release as ReleaseVerb, OrRect as OrRectVerb, AndRect as AndRectVerb, XorRect as XorRectVerb, ClearRect as ClearRectVerb, OrRegion as OrRegionVerb, AndRegion as AndRegionVerb, XorRegion as XorRegionVerb, ClearRegion as ClearRegionVerb, Create as CreateVerb, Open as OpenVerb, Close as CloseVerb, Front as FrontVerb, Behind as BehindVerb, InFront as InFrontVerb, Move as MoveVerb, Size as SizeVerb, Box as BoxVerb, Activate as ActivateVerb, Which as WhichVerb, APen as APenVerb, BPen as BPenVerb, Mode as ModeVerb, Mask as MaskVerb, At as AtVerb, Write as WriteVerb, Read as ReadVerb, Fill as FillVerb, Draw as DrawVerb, Text as TextVerb, SetRast as SetRastVerb, ScrollRaster as ScrollRasterVerb, Put as PutVerb, Blit as BlitVerb, Clip as ClipVerb, Unclip as UnclipVerb, Refresh as RefreshVerb, EndRefresh as EndRefreshVerb, Scroll as ScrollVerb, Title as TitleVerb, GetMsg as GetMsgVerb}
+use Rattle.lw_grammar.specs.declared.verb.Verb.TheVariants.{Part, Bare, Number, Pair, Text, Rect, Region, ClearRegion, Create, Open, InFront, Box, Which, Fill, ScrollRaster, Put, Blit, EndRefresh}
 use Rattle.lw_grammar.specs.Demands.{◌>>=◌, demand}
 use Rattle.lw_grammar.specs.Lines.{lines}
 use Rattle.lw_grammar.specs.Tokens.{tokens, Token, token_of}
 use Rattle.lw_grammar.specs.Verbs.{verb_word, verb_of}
-use Rattle.lw_grammar.specs.Statements.{CloseAct, FrontAct, BehindAct, MoveAct, SizeAct, BoxAct, ActivateAct, APenAct, BPenAct, ModeAct, MaskAct, AtAct, WriteAct, ReadAct, FillAct, DrawAct, TextAct, SetRastAct, ClipAct, UnclipAct, RefreshAct, ScrollAct, TitleAct, GetMsgAct, Statement, TaskLine, EndLine, OrderLine, ReportLine, LockLine, UnlockLine, HoldLine, ReleaseLine, four, row_line, numbers_line, statement_by, is_line_in_range}
+use Rattle.lw_grammar.specs.Statements.{BoxAct, FillAct, Statement, row_line, numbers_line, statement_by, is_line_in_range}
 use Rattle.lw_grammar.specs.Told.{told}
 use Rattle.lw_grammar.specs.Script.{Setting, line_limit, is_printable, are_numbers_due, belongs_in, words_read, verb_read, statement_read, statement_tested, line_read}
 use Rattle.lw_calls.specs.Written.{line_of}
@@ -20,65 +18,32 @@ use Rattle.lw_canonical.specs.Spelling.{joined, words_of, spelled}
 use Rattle.lw_canonical.proofs.Rearranged.{HasOneSpelling}
 use Rattle.lw_canonical.proofs.SpelledVerbs.{IsWordOf, verb_spelled}
 use Rattle.lw_canonical.proofs.SpelledWords.{AreWords, AreWordsOf, words_joined, token_word, tokens_back, tokens_good}
-use Rattle.lw_canonical.proofs.SpelledRanges.{register_small, pen_small, rect_small, place_and_size_small, also}
-use Rattle.lw_canonical.proofs.SpelledStatements.{IsSpelt, HasWords, screen_spelt, glyph_spelt, bitmap_spelt, row_spelt, numbers_spelt, name_spelt, bare_spelt, layer_spelt, number_spelt, pair_spelt, text_spelt, four_spelt, rect_spelt, region_spelt, clear_spelt, which_spelt, infront_spelt, scrollraster_spelt, endrefresh_spelt, put_spelt, blit_spelt}
+use Rattle.lw_canonical.proofs.SpelledRanges.{rect_small, place_and_size_small, also}
+use Rattle.lw_canonical.proofs.SpelledStatements.{IsSpelt, HasWords, row_spelt, numbers_spelt, part_spelt, layer_spelt, number_spelt, pair_spelt, text_spelt, four_spelt, rect_spelt, region_spelt, clear_spelt, which_spelt, infront_spelt, scrollraster_spelt, endrefresh_spelt, put_spelt, blit_spelt}
 use Rattle.lw_canonical.proofs.SpelledLayers.{create_spelt, open_spelt}
 use Rattle.std.proofs.lemmas.Result.{IfOk-at_ok}
 use Rattle.std.proofs.lemmas.Bool.{false≢true, eqb-true, and_parts, and_from}
 
 -- the statement of each verb
 statement_spelt : (verb : Verb) (ts : List Token) → IfSome (statement_by verb ts) (IsSpelt (verb_word verb) ts)
-statement_spelt ScreenVerb ts = screen_spelt ts
-statement_spelt GlyphVerb ts = glyph_spelt ts
-statement_spelt BitmapVerb ts = bitmap_spelt ts
-statement_spelt TaskVerb ts = name_spelt (codes "task") (λ n. TaskLine n) (λ n. refl) ts
-statement_spelt EndVerb ts = bare_spelt (codes "end") EndLine refl ts
-statement_spelt OrderVerb ts = bare_spelt (codes "order") OrderLine refl ts
-statement_spelt ReportVerb ts = bare_spelt (codes "report") ReportLine refl ts
-statement_spelt LockVerb ts = name_spelt (codes "lock") (λ n. LockLine n) (λ n. refl) ts
-statement_spelt UnlockVerb ts = name_spelt (codes "unlock") (λ n. UnlockLine n) (λ n. refl) ts
-statement_spelt HoldVerb ts = bare_spelt (codes "hold") HoldLine refl ts
-statement_spelt ReleaseVerb ts = bare_spelt (codes "release") ReleaseLine refl ts
-statement_spelt OrRectVerb ts = rect_spelt OrR ts
-statement_spelt AndRectVerb ts = rect_spelt AndR ts
-statement_spelt XorRectVerb ts = rect_spelt XorR ts
-statement_spelt ClearRectVerb ts = rect_spelt ClearR ts
-statement_spelt OrRegionVerb ts = region_spelt OrP ts
-statement_spelt AndRegionVerb ts = region_spelt AndP ts
-statement_spelt XorRegionVerb ts = region_spelt XorP ts
-statement_spelt ClearRegionVerb ts = clear_spelt ts
-statement_spelt CreateVerb ts = create_spelt ts
-statement_spelt OpenVerb ts = open_spelt ts
-statement_spelt CloseVerb ts = layer_spelt (codes "close") CloseAct (λ l. refl) ts
-statement_spelt FrontVerb ts = layer_spelt (codes "front") FrontAct (λ l. refl) ts
-statement_spelt BehindVerb ts = layer_spelt (codes "behind") BehindAct (λ l. refl) ts
-statement_spelt InFrontVerb ts = infront_spelt ts
-statement_spelt MoveVerb ts = pair_spelt (codes "move") (λ x y. MoveAct x y) (λ l x y. refl) (λ x y h. h) ts
-statement_spelt SizeVerb ts = pair_spelt (codes "size") (λ x y. SizeAct x y) (λ l x y. refl) (λ x y h. h) ts
-statement_spelt BoxVerb ts = four_spelt (codes "box") (λ x y w h. BoxAct x y w h) (λ l x y w h. refl) (λ x y w h r. place_and_size_small (four x y w h) r) ts
-statement_spelt ActivateVerb ts = layer_spelt (codes "activate") ActivateAct (λ l. refl) ts
-statement_spelt WhichVerb ts = which_spelt ts
-statement_spelt APenVerb ts = number_spelt (codes "apen") (λ p. APenAct p) (λ l z. refl) pen_small ts
-statement_spelt BPenVerb ts = number_spelt (codes "bpen") (λ p. BPenAct p) (λ l z. refl) pen_small ts
-statement_spelt ModeVerb ts = number_spelt (codes "mode") (λ k. ModeAct k) (λ l z. refl) register_small ts
-statement_spelt MaskVerb ts = number_spelt (codes "mask") (λ p. MaskAct p) (λ l z. refl) pen_small ts
-statement_spelt AtVerb ts = pair_spelt (codes "at") (λ x y. AtAct x y) (λ l x y. refl) (λ x y h. h) ts
-statement_spelt WriteVerb ts = pair_spelt (codes "write") (λ x y. WriteAct x y) (λ l x y. refl) (λ x y h. h) ts
-statement_spelt ReadVerb ts = pair_spelt (codes "read") (λ x y. ReadAct x y) (λ l x y. refl) (λ x y h. h) ts
-statement_spelt FillVerb ts = four_spelt (codes "fill") (λ a b c d. FillAct (four a b c d)) (λ l x y w h. refl) (λ x y w h r. rect_small (four x y w h) r) ts
-statement_spelt DrawVerb ts = pair_spelt (codes "draw") (λ x y. DrawAct x y) (λ l x y. refl) (λ x y h. h) ts
-statement_spelt TextVerb ts = text_spelt (codes "text") (λ t. TextAct t) (λ l t. refl) ts
-statement_spelt SetRastVerb ts = number_spelt (codes "setrast") (λ p. SetRastAct p) (λ l z. refl) pen_small ts
-statement_spelt ScrollRasterVerb ts = scrollraster_spelt ts
-statement_spelt PutVerb ts = put_spelt ts
-statement_spelt BlitVerb ts = blit_spelt ts
-statement_spelt ClipVerb ts = number_spelt (codes "clip") (λ r. ClipAct r) (λ l z. refl) register_small ts
-statement_spelt UnclipVerb ts = layer_spelt (codes "unclip") UnclipAct (λ l. refl) ts
-statement_spelt RefreshVerb ts = layer_spelt (codes "refresh") RefreshAct (λ l. refl) ts
-statement_spelt EndRefreshVerb ts = endrefresh_spelt ts
-statement_spelt ScrollVerb ts = pair_spelt (codes "scroll") (λ x y. ScrollAct x y) (λ l x y. refl) (λ x y h. h) ts
-statement_spelt TitleVerb ts = text_spelt (codes "title") (λ t. TitleAct t) (λ l t. refl) ts
-statement_spelt GetMsgVerb ts = layer_spelt (codes "getmsg") GetMsgAct (λ l. refl) ts
+statement_spelt (Part verb) ts = part_spelt verb ts
+statement_spelt (Bare verb) ts = layer_spelt verb ts
+statement_spelt (Number verb) ts = number_spelt verb ts
+statement_spelt (Pair verb) ts = pair_spelt verb ts
+statement_spelt (Text verb) ts = text_spelt verb ts
+statement_spelt (Rect op) ts = rect_spelt op ts
+statement_spelt (Region op) ts = region_spelt op ts
+statement_spelt ClearRegion ts = clear_spelt ts
+statement_spelt Create ts = create_spelt ts
+statement_spelt Open ts = open_spelt ts
+statement_spelt InFront ts = infront_spelt ts
+statement_spelt Box ts = four_spelt (codes "box") (λ r. BoxAct r) (λ l r. refl) place_and_size_small ts
+statement_spelt Which ts = which_spelt ts
+statement_spelt Fill ts = four_spelt (codes "fill") (λ r. FillAct r) (λ l r. refl) rect_small ts
+statement_spelt ScrollRaster ts = scrollraster_spelt ts
+statement_spelt Put ts = put_spelt ts
+statement_spelt Blit ts = blit_spelt ts
+statement_spelt EndRefresh ts = endrefresh_spelt ts
 
 -- The statement's words are these, where it is in range and the words are good ones.
 abbrev IsOfWords : List (List ℕ) → Statement → Type 0

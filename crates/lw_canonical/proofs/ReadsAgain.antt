@@ -4,7 +4,8 @@ use Rattle.lw_calls.specs.declared.form.Form.{Form}
 use Rattle.lw_calls.specs.declared.reason.Reason.{Reason}
 use Rattle.lw_calls.specs.declared.reason.Reason.TheVariants.{UnknownWord, Misplaced, Form as FormReason}
 use Rattle.lw_grammar.specs.declared.verb.Verb.{Verb}
-use Rattle.lw_grammar.specs.declared.verb.Verb.TheVariants.{Order as OrderVerb, Report as ReportVerb}
+use Rattle.lw_grammar.specs.declared.verb.Verb.TheVariants.{Part}
+use Rattle.lw_grammar.specs.declared.verb.PartVerb.TheVariants.{Order as OrderVerb, Report as ReportVerb}
 use Rattle.lw_calls.specs.Limits.{name_limit, call_limit, task_limit, bitmap_limit}
 use Rattle.lw_grammar.specs.Demands.{◌>>=◌, demand}
 use Rattle.lw_grammar.specs.Tokens.{Token, token_of}
@@ -39,8 +40,8 @@ verb_kept a b c f f_in ws e = at_verb (verb_on ws) e
   where
     at_verb : (o : Option Verb) → (ok_or o UnknownWord >>= (λ v. demand (belongs_in a c v) Misplaced >>= (λ _. ok_or (statement_by v (map token_of (after_verb ws))) FormReason))) ≡ Ok f → (ok_or o UnknownWord >>= (λ v. demand (belongs_in b c v) Misplaced >>= (λ _. ok_or (statement_by v (map token_of (after_verb ws))) FormReason))) ≡ Ok f
     at_verb None d = absurd (cc)
-    at_verb (Some OrderVerb) d = absurd (other_words _ OrderLine f (map token_of (after_verb ws)) refl f_in d)
-    at_verb (Some ReportVerb) d = absurd (other_words _ ReportLine f (map token_of (after_verb ws)) refl f_in d)
+    at_verb (Some (Part OrderVerb)) d = absurd (other_words _ OrderLine f (map token_of (after_verb ws)) refl f_in d)
+    at_verb (Some (Part ReportVerb)) d = absurd (other_words _ ReportLine f (map token_of (after_verb ws)) refl f_in d)
     at_verb (Some v) d = d
 
 -- the same where numbers are due, or none

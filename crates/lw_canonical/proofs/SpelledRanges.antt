@@ -3,7 +3,9 @@ use Rattle.std.proofs.Common.{◌≡◌, ◌<◌, true, ◌&&◌, List, ◌∷�
 use Rattle.lw_region.specs.Rectangle.{Rectangle, within}
 use Rattle.lw_calls.specs.Limits.{is_coordinate, axis_fits, rect_fits, coordinates_fit, is_extent}
 use Rattle.lw_grammar.specs.Tokens.{cap}
-use Rattle.lw_grammar.specs.Statements.{is_hook_number, place_and_size_fit}
+use Rattle.lw_grammar.specs.declared.verb.NumberVerb.{NumberVerb}
+use Rattle.lw_grammar.specs.declared.verb.NumberVerb.TheVariants.{Mode as ModeVerb, Clip as ClipVerb}
+use Rattle.lw_grammar.specs.Statements.{is_hook_number, place_and_size_fit, greatest_number}
 use Rattle.lw_canonical.proofs.SpelledNumbers.{small_in}
 use Rattle.std.proofs.lemmas.Bool.{and_parts}
 
@@ -27,8 +29,11 @@ size_small z h = small_in (pos 1) z (pos 32767) h (omega arith) (omega arith)
 pub register_small : (z : ℤ) → within (pos 0) z (pos 7) ≡ true → IsSmall z
 register_small z h = small_in (pos 0) z (pos 7) h (omega arith) (omega arith)
 
-pub pen_small : (z : ℤ) → within (pos 0) z (pos 255) ≡ true → IsSmall z
-pen_small z h = small_in (pos 0) z (pos 255) h (omega arith) (omega arith)
+-- the number after a layer
+pub after_layer_small : (verb : NumberVerb) (z : ℤ) → within (pos 0) z (pos (greatest_number verb)) ≡ true → IsSmall z
+after_layer_small ModeVerb z h = register_small z h
+after_layer_small ClipVerb z h = register_small z h
+after_layer_small verb z h = small_in (pos 0) z (pos 255) h (omega arith) (omega arith)
 
 pub task_small : (z : ℤ) → within (pos 0) z (pos 15) ≡ true → IsSmall z
 task_small z h = small_in (pos 0) z (pos 15) h (omega arith) (omega arith)

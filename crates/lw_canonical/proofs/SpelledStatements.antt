@@ -2,21 +2,28 @@
 use Rattle.std.proofs.Common.{◌≡◌, ℕ, ◌*◌, ◌%◌, ◌==◌, true, ◌&&◌, nat_le, List, [], ◌∷◌, length, map, ℤ, pos, codes, bytes_eq, Option, Some, None, IfSome, refl, sym, ◌∙◌}
 use Rattle.std.specs.List.{list_all}
 use Rattle.std.specs.Fmt.{signed_decimal}
-use Rattle.lw_region.specs.Rectangle.{within}
+use Rattle.lw_region.specs.Rectangle.{Rectangle, within}
 use Rattle.lw_planes.specs.Bitmap.{row_bytes}
 use Rattle.lw_calls.specs.declared.operation.RectOp.{RectOp}
 use Rattle.lw_calls.specs.declared.operation.PairOp.{PairOp}
 use Rattle.lw_grammar.specs.Tokens.{Token, NameToken, NumberToken, TextToken, OddToken, hex_bytes, spelled_bytes, bytes_in}
 use Rattle.lw_calls.specs.Limits.{coordinates_fit, is_extent}
 use Rattle.lw_calls.specs.declared.area.Area.{Area}
-use Rattle.lw_grammar.specs.Statements.{Act, Statement, RowLine, NumbersLine, four, screen_line, glyph_of_bytes, glyph_line, bitmap_line, row_line, all_numbers, numbers_limit, numbers_line, name_line, bare_line, layer_line, number_line, pair_line, text_line, rect_line, region_line, clear_line, which_line, infront_line, four_line, scrollraster_line, minterm_of, put_line, blit_line, endrefresh_line, is_area_in_range, is_act_in_range, is_line_in_range}
+use Rattle.lw_grammar.specs.declared.verb.PartVerb.{PartVerb}
+use Rattle.lw_grammar.specs.declared.verb.PartVerb.TheVariants.{Screen as ScreenVerb, Glyph as GlyphVerb, Bitmap as BitmapVerb, Task as TaskVerb, End as EndVerb, Order as OrderVerb, Report as ReportVerb, Lock as LockVerb, Unlock as UnlockVerb, Hold as HoldVerb, Release as ReleaseVerb}
+use Rattle.lw_grammar.specs.declared.verb.BareVerb.{BareVerb}
+use Rattle.lw_grammar.specs.declared.verb.NumberVerb.{NumberVerb}
+use Rattle.lw_grammar.specs.declared.verb.PairVerb.{PairVerb}
+use Rattle.lw_grammar.specs.declared.verb.TextVerb.{TextVerb}
+use Rattle.lw_grammar.specs.Verbs.{part_word, bare_word, number_word, pair_word, text_verb_word, rect_word, region_word}
+use Rattle.lw_grammar.specs.Statements.{Act, Statement, RowLine, TaskLine, EndLine, OrderLine, NumbersLine, ReportLine, LockLine, UnlockLine, HoldLine, ReleaseLine, four, screen_line, glyph_of_bytes, glyph_line, bitmap_line, row_line, all_numbers, numbers_limit, numbers_line, name_line, bare_line, part_line, layer_line, number_line, pair_line, text_line, rect_line, region_line, clear_line, which_line, infront_line, four_line, scrollraster_line, minterm_of, put_line, blit_line, endrefresh_line, is_area_in_range, is_act_in_range, is_line_in_range}
 use Rattle.lw_calls.specs.Written.{hex_byte}
-use Rattle.lw_canonical.specs.Spelling.{hex_word, text_word, four_words, rect_word, pair_word, call_words, words_of}
-use Rattle.lw_grammar.proofs.ScriptStatements.{either_has, map_has}
+use Rattle.lw_canonical.specs.Spelling.{hex_word, four_words, call_words, words_of}
+use Rattle.lw_grammar.proofs.ScriptStatements.{either_has, map_has, twice_has}
 use Rattle.lw_grammar.proofs.ScriptNames.{equal_names}
 use Rattle.lw_canonical.proofs.SpelledNumbers.{hex_written, found_if}
 use Rattle.lw_canonical.proofs.SpelledWords.{token_word, AreTokens}
-use Rattle.lw_canonical.proofs.SpelledRanges.{IsSmall, places_small, size_small, register_small, task_small, side_small, depth_small, AreSmall, rect_small, also}
+use Rattle.lw_canonical.proofs.SpelledRanges.{IsSmall, places_small, size_small, register_small, after_layer_small, task_small, side_small, depth_small, AreSmall, rect_small, also}
 use Rattle.std.proofs.lemmas.Bool.{and_parts}
 
 -- The statement's words are these, where the words are good for what they are and the statement is in range.
@@ -88,46 +95,58 @@ pub numbers_spelt : (ts : List Token) → IfSome (numbers_line ts) (HasWords (ma
 numbers_spelt ts =
     either_has (HasWords (map token_word ts) ts) (nat_le (length ts) numbers_limit) _ None (map_has (AreNumbers ts) (HasWords (map token_word ts) ts) (λ zs. NumbersLine zs) (all_numbers ts) (all_spelt ts) (λ zs h. h)) tt
 
--- The lines of each family of verbs, by the verb's word.
-module _ (word : List ℕ) where
-  -- a verb with a name
-  pub name_spelt : (f : List ℕ → Statement) → ((n : List ℕ) → words_of (f n) ≡ word ∷ n ∷ []) → (ts : List Token) → IfSome (name_line f ts) (IsSpelt word ts)
-  name_spelt f h (NameToken n ∷ []) = λ t r. h n
-  name_spelt f h _ = tt
+-- a verb with a name
+name_spelt : (word : List ℕ) (f : List ℕ → Statement) → ((n : List ℕ) → words_of (f n) ≡ word ∷ n ∷ []) → (ts : List Token) → IfSome (name_line f ts) (IsSpelt word ts)
+name_spelt word f h (NameToken n ∷ []) = λ t r. h n
+name_spelt word f h _ = tt
 
-  -- a verb alone
-  pub bare_spelt : (f : Statement) → words_of f ≡ word ∷ [] → (ts : List Token) → IfSome (bare_line f ts) (IsSpelt word ts)
-  bare_spelt f h [] = λ t r. h
-  bare_spelt f h _ = tt
+-- a verb alone
+bare_spelt : (word : List ℕ) (f : Statement) → words_of f ≡ word ∷ [] → (ts : List Token) → IfSome (bare_line f ts) (IsSpelt word ts)
+bare_spelt word f h [] = λ t r. h
+bare_spelt word f h _ = tt
 
-  -- a verb with a layer
-  pub layer_spelt : (act : Act) → ((l : List ℕ) → call_words (l ∷ []) act ≡ word ∷ l ∷ []) → (ts : List Token) → IfSome (layer_line act ts) (IsSpelt word ts)
-  layer_spelt act h (NameToken l ∷ []) = λ t r. h l
-  layer_spelt act h _ = tt
+-- a line that parts a script or a task
+pub part_spelt : (verb : PartVerb) (ts : List Token) → IfSome (part_line verb ts) (IsSpelt (part_word verb) ts)
+part_spelt ScreenVerb ts = screen_spelt ts
+part_spelt GlyphVerb ts = glyph_spelt ts
+part_spelt BitmapVerb ts = bitmap_spelt ts
+part_spelt TaskVerb ts = name_spelt (codes "task") (λ n. TaskLine n) (λ n. refl) ts
+part_spelt EndVerb ts = bare_spelt (codes "end") EndLine refl ts
+part_spelt OrderVerb ts = bare_spelt (codes "order") OrderLine refl ts
+part_spelt ReportVerb ts = bare_spelt (codes "report") ReportLine refl ts
+part_spelt LockVerb ts = name_spelt (codes "lock") (λ n. LockLine n) (λ n. refl) ts
+part_spelt UnlockVerb ts = name_spelt (codes "unlock") (λ n. UnlockLine n) (λ n. refl) ts
+part_spelt HoldVerb ts = bare_spelt (codes "hold") HoldLine refl ts
+part_spelt ReleaseVerb ts = bare_spelt (codes "release") ReleaseLine refl ts
 
-  -- a verb with a layer and a number
-  pub number_spelt : (act : ℤ → Act) → ((l : List ℕ) (z : ℤ) → call_words (l ∷ []) (act z) ≡ word ∷ l ∷ signed_decimal z ∷ []) → ((z : ℤ) → is_act_in_range (act z) ≡ true → IsSmall z) → (ts : List Token) → IfSome (number_line act ts) (IsSpelt word ts)
-  number_spelt act h small (NameToken l ∷ NumberToken a z ∷ []) = λ t r. h l z ∙ also refl (also refl (also (t.1.0 (small z r)) refl))
-  number_spelt act h small _ = tt
+-- a verb with a layer
+pub layer_spelt : (verb : BareVerb) (ts : List Token) → IfSome (layer_line verb ts) (IsSpelt (bare_word verb) ts)
+layer_spelt verb (NameToken l ∷ []) = λ t r. refl
+layer_spelt verb _ = tt
 
-  -- a verb with a layer and two numbers
-  pub pair_spelt : (act : ℤ → ℤ → Act) → ((l : List ℕ) (x y : ℤ) → call_words (l ∷ []) (act x y) ≡ word ∷ l ∷ signed_decimal x ∷ signed_decimal y ∷ []) → ((x y : ℤ) → is_act_in_range (act x y) ≡ true → coordinates_fit x y ≡ true) → (ts : List Token) → IfSome (pair_line act ts) (IsSpelt word ts)
-  pair_spelt act h small (NameToken l ∷ NumberToken a x ∷ NumberToken b y ∷ []) = λ t r.
-      let s = places_small x y (small x y r) in
-      h l x y ∙ also refl (also refl (also (t.1.0 s.0) (also (t.1.1.0 s.1) refl)))
-  pair_spelt act h small _ = tt
+-- a verb with a layer and a number
+pub number_spelt : (verb : NumberVerb) (ts : List Token) → IfSome (number_line verb ts) (IsSpelt (number_word verb) ts)
+number_spelt verb (NameToken l ∷ NumberToken a z ∷ []) = λ t r. also refl (also refl (also (t.1.0 (after_layer_small verb z r)) refl))
+number_spelt verb _ = tt
 
-  -- a verb with a layer and a text
-  pub text_spelt : (act : List ℕ → Act) → ((l text : List ℕ) → call_words (l ∷ []) (act text) ≡ word ∷ l ∷ text_word text ∷ []) → (ts : List Token) → IfSome (text_line act ts) (IsSpelt word ts)
-  text_spelt act h (NameToken l ∷ TextToken text ∷ []) = λ t r. h l text
-  text_spelt act h _ = tt
+-- a verb with a layer and two numbers
+pub pair_spelt : (verb : PairVerb) (ts : List Token) → IfSome (pair_line verb ts) (IsSpelt (pair_word verb) ts)
+pair_spelt verb (NameToken l ∷ NumberToken a x ∷ NumberToken b y ∷ []) = λ t r.
+    let s = places_small x y r in
+    also refl (also refl (also (t.1.0 s.0) (also (t.1.1.0 s.1) refl)))
+pair_spelt verb _ = tt
 
-  -- a verb with a layer and four numbers
-  pub four_spelt : (act : ℤ → ℤ → ℤ → ℤ → Act) → ((l : List ℕ) (x y w h : ℤ) → call_words (l ∷ []) (act x y w h) ≡ word ∷ l ∷ four_words (four x y w h)) → ((x y w h : ℤ) → is_act_in_range (act x y w h) ≡ true → AreSmall (four x y w h)) → (ts : List Token) → IfSome (four_line act ts) (IsSpelt word ts)
-  four_spelt act k small (NameToken l ∷ NumberToken a x ∷ NumberToken b y ∷ NumberToken c w ∷ NumberToken d h ∷ []) = λ t r.
-      let s = small x y w h r in
-      k l x y w h ∙ also refl (also refl (also (t.1.0 s.0) (also (t.1.1.0 s.1.0) (also (t.1.1.1.0 s.1.1.0) (also (t.1.1.1.1.0 s.1.1.1) refl)))))
-  four_spelt act k small _ = tt
+-- a verb with a layer and a text
+pub text_spelt : (verb : TextVerb) (ts : List Token) → IfSome (text_line verb ts) (IsSpelt (text_verb_word verb) ts)
+text_spelt verb (NameToken l ∷ TextToken text ∷ []) = λ t r. refl
+text_spelt verb _ = tt
+
+-- a verb with a layer and four numbers
+pub four_spelt : (word : List ℕ) (act : Rectangle → Act) → ((l : List ℕ) (r : Rectangle) → call_words (l ∷ []) (act r) ≡ word ∷ l ∷ four_words r) → ((r : Rectangle) → is_act_in_range (act r) ≡ true → AreSmall r) → (ts : List Token) → IfSome (four_line act ts) (IsSpelt word ts)
+four_spelt word act k small (NameToken l ∷ NumberToken a x ∷ NumberToken b y ∷ NumberToken c w ∷ NumberToken d h ∷ []) = λ t r.
+    let s = small (four x y w h) r in
+    k l (four x y w h) ∙ also refl (also refl (also (t.1.0 s.0) (also (t.1.1.0 s.1.0) (also (t.1.1.1.0 s.1.1.0) (also (t.1.1.1.1.0 s.1.1.1) refl)))))
+four_spelt word act k small _ = tt
 
 -- orrect R X0 Y0 X1 Y1, and its kin
 pub rect_spelt : (op : RectOp) (ts : List Token) → IfSome (rect_line op ts) (IsSpelt (rect_word op) ts)
@@ -138,7 +157,7 @@ rect_spelt op (NumberToken a r ∷ NumberToken b x0 ∷ NumberToken c y0 ∷ Num
 rect_spelt op _ = tt
 
 -- orregion S R, and its kin
-pub region_spelt : (op : PairOp) (ts : List Token) → IfSome (region_line op ts) (IsSpelt (pair_word op) ts)
+pub region_spelt : (op : PairOp) (ts : List Token) → IfSome (region_line op ts) (IsSpelt (region_word op) ts)
 region_spelt op (NumberToken a s ∷ NumberToken b r ∷ []) = λ t k.
     let m = and_parts (within (pos 0) s (pos 7)) _ k in
     also refl (also (t.0 (register_small s m.0)) (also (t.1.0 (register_small r m.1)) refl))
@@ -197,7 +216,7 @@ blit_small b r =
 -- put BM SX SY L X Y W H MM
 pub put_spelt : (ts : List Token) → IfSome (put_line ts) (IsSpelt (codes "put") ts)
 put_spelt (NameToken bm ∷ NumberToken a sx ∷ NumberToken b sy ∷ NameToken l ∷ NumberToken c x ∷ NumberToken d y ∷ NumberToken e w ∷ NumberToken f h ∷ mm ∷ []) =
-    map_has (λ m. hex_byte m ≡ token_word mm) (IsSpelt (codes "put") (NameToken bm ∷ NumberToken a sx ∷ NumberToken b sy ∷ NameToken l ∷ NumberToken c x ∷ NumberToken d y ∷ NumberToken e w ∷ NumberToken f h ∷ mm ∷ [])) _ (minterm_of (bytes_in 1 mm)) (minterm_spelt (token_word mm) (bytes_in 1 mm) (token_bytes 1 mm)) (λ m k t r.
+    twice_has (λ m. hex_byte m ≡ token_word mm) (IsSpelt (codes "put") (NameToken bm ∷ NumberToken a sx ∷ NumberToken b sy ∷ NameToken l ∷ NumberToken c x ∷ NumberToken d y ∷ NumberToken e w ∷ NumberToken f h ∷ mm ∷ [])) _ _ (minterm_of (bytes_in 1 mm)) (minterm_spelt (token_word mm) (bytes_in 1 mm) (token_bytes 1 mm)) (λ m k t r.
     let s = blit_small (record { sx = sx; sy = sy; x = x; y = y; w = w; h = h; minterm = m }) r in
     also refl (also refl (also (t.1.0 s.0.0) (also (t.1.1.0 s.0.1) (also refl (also (t.1.1.1.1.0 s.1.0.0) (also (t.1.1.1.1.1.0 s.1.0.1) (also (t.1.1.1.1.1.1.0 s.1.1.0) (also (t.1.1.1.1.1.1.1.0 s.1.1.1) (also k refl))))))))))
 put_spelt _ = tt
@@ -205,7 +224,7 @@ put_spelt _ = tt
 -- blit L SX SY M X Y W H MM
 pub blit_spelt : (ts : List Token) → IfSome (blit_line ts) (IsSpelt (codes "blit") ts)
 blit_spelt (NameToken l ∷ NumberToken a sx ∷ NumberToken b sy ∷ NameToken n ∷ NumberToken c x ∷ NumberToken d y ∷ NumberToken e w ∷ NumberToken f h ∷ mm ∷ []) =
-    map_has (λ m. hex_byte m ≡ token_word mm) (IsSpelt (codes "blit") (NameToken l ∷ NumberToken a sx ∷ NumberToken b sy ∷ NameToken n ∷ NumberToken c x ∷ NumberToken d y ∷ NumberToken e w ∷ NumberToken f h ∷ mm ∷ [])) _ (minterm_of (bytes_in 1 mm)) (minterm_spelt (token_word mm) (bytes_in 1 mm) (token_bytes 1 mm)) (λ m k t r.
+    twice_has (λ m. hex_byte m ≡ token_word mm) (IsSpelt (codes "blit") (NameToken l ∷ NumberToken a sx ∷ NumberToken b sy ∷ NameToken n ∷ NumberToken c x ∷ NumberToken d y ∷ NumberToken e w ∷ NumberToken f h ∷ mm ∷ [])) _ _ (minterm_of (bytes_in 1 mm)) (minterm_spelt (token_word mm) (bytes_in 1 mm) (token_bytes 1 mm)) (λ m k t r.
     let s = blit_small (record { sx = sx; sy = sy; x = x; y = y; w = w; h = h; minterm = m }) r in
     also refl (also refl (also (t.1.0 s.0.0) (also (t.1.1.0 s.0.1) (also refl (also (t.1.1.1.1.0 s.1.0.0) (also (t.1.1.1.1.1.0 s.1.0.1) (also (t.1.1.1.1.1.1.0 s.1.1.0) (also (t.1.1.1.1.1.1.1.0 s.1.1.1) (also k refl))))))))))
 blit_spelt _ = tt

@@ -1,10 +1,14 @@
 -- A line of a task is read in a script alone as it was read where it stood.
 use Rattle.std.proofs.Common.{◌≡◌, ℕ, ◌==◌, Bool, true, false, ◌&&◌, ◌||◌, nat_le, nat_lt, List, [], ◌∷◌, length, bytes_eq, Option, Ok, refl, ap, ◌∙◌}
 use Rattle.std.specs.List.{list_any}
-use Rattle.lw_calls.specs.declared.operation.RectOp.TheVariants.{Or as OrR, And as AndR, Xor as XorR, Clear as ClearR}
-use Rattle.lw_calls.specs.declared.operation.PairOp.TheVariants.{Or as OrP, And as AndP, Xor as XorP}
+use Rattle.lw_calls.specs.declared.operation.RectOp.TheVariants.{Or as OrR}
+use Rattle.lw_calls.specs.declared.operation.PairOp.TheVariants.{Or as OrP}
 use Rattle.lw_calls.specs.Limits.{name_limit, call_limit, task_limit, bitmap_limit}
-use Rattle.lw_grammar.specs.Statements.{Act, RegRectAct, RegPairAct, Statement, GlyphLine, BitmapLine, RowLine, TaskLine, OrderLine, NumbersLine, ReportLine, CallLine}
+use Rattle.lw_grammar.specs.declared.verb.BareVerb.TheVariants.{Close as CloseVerb}
+use Rattle.lw_grammar.specs.declared.verb.NumberVerb.TheVariants.{APen as APenVerb}
+use Rattle.lw_grammar.specs.declared.verb.PairVerb.TheVariants.{Move as MoveVerb}
+use Rattle.lw_grammar.specs.declared.verb.TextVerb.TheVariants.{Text as TextOf}
+use Rattle.lw_grammar.specs.Statements.{Act, BareAct, NumberAct, PairAct, TextAct, RegRectAct, RegPairAct, Statement, GlyphLine, BitmapLine, RowLine, TaskLine, OrderLine, NumbersLine, ReportLine, CallLine}
 use Rattle.lw_grammar.specs.Told.{Section, ScreenIsDue, AssetsAreDue, CallsAreDue, TasksAreDue, NumbersAreDue, NothingIsDue, OpenGroup, hook_on, told}
 use Rattle.lw_grammar.specs.Script.{Setting, is_skipped, are_assets_due, are_calls_due, are_tasks_due, is_nothing_due, lacks_name, gives_again, fits_group, super_limit, are_few, is_used, has_padding, statement_read, line_read}
 use Rattle.lw_canonical.specs.Spelling.{joined, call_words, words_of, spelled}
@@ -29,12 +33,11 @@ first_kept ((b ∷ bs) ∷ v ∷ ws) h = h
 -- no call is skipped
 call_kept : (layers : List (List ℕ)) (act : Act) → is_skipped (first_word (call_words layers act)) ≡ false
 call_kept layers (RegRectAct OrR r rect) = refl
-call_kept layers (RegRectAct AndR r rect) = refl
-call_kept layers (RegRectAct XorR r rect) = refl
-call_kept layers (RegRectAct ClearR r rect) = refl
 call_kept layers (RegPairAct OrP s r) = refl
-call_kept layers (RegPairAct AndP s r) = refl
-call_kept layers (RegPairAct XorP s r) = refl
+call_kept layers (BareAct CloseVerb) = refl
+call_kept layers (NumberAct APenVerb z) = refl
+call_kept layers (PairAct MoveVerb x y) = refl
+call_kept layers (TextAct TextOf text) = refl
 call_kept layers act = refl
 
 -- neither is another line of tasks

@@ -5,13 +5,14 @@ use Rattle.lw_calls.specs.declared.sizes.Sizes.{Sizes}
 use Rattle.lw_calls.specs.declared.call.Call.{Call}
 use Rattle.lw_calls.specs.declared.group.Hold.TheVariants.{Slot, All as AllLayers}
 use Rattle.lw_calls.specs.declared.group.Group.{Group}
-use Rattle.lw_grammar.specs.Statements.{Act, PutAct, RefreshAct, EndRefreshAct, Statement, ScreenLine, GlyphLine, BitmapLine, RowLine, TaskLine, EndLine, OrderLine, NumbersLine, ReportLine, CallLine, LockLine, UnlockLine, HoldLine, ReleaseLine}
+use Rattle.lw_grammar.specs.declared.verb.BareVerb.TheVariants.{Refresh as RefreshVerb}
+use Rattle.lw_grammar.specs.Statements.{Act, BareAct, NumberAct, PairAct, TextAct, PutAct, EndRefreshAct, Statement, ScreenLine, GlyphLine, BitmapLine, RowLine, TaskLine, EndLine, OrderLine, NumbersLine, ReportLine, CallLine, LockLine, UnlockLine, HoldLine, ReleaseLine}
 use Rattle.lw_grammar.specs.Told.{Section, ScreenIsDue, AssetsAreDue, CallsAreDue, TasksAreDue, NumbersAreDue, NothingIsDue, OpenGroup, Locked, Updating, Held, and_names, place_among, onto_last, call_below, group_from, told, plan_of}
 use Rattle.lw_grammar.specs.Script.{Setting, is_screen_due, are_assets_due, are_calls_due, are_tasks_due, are_numbers_due, lacks_name, is_beginning, is_ending, is_lock_on, is_hold, AreGoodLines}
 use Rattle.lw_canonical.specs.Canonical.{line_of_call, are_updating, is_update, opening_lines, closing_lines}
 use Rattle.lw_canonical.proofs.Rearranged.{is_of_tasks}
 use Rattle.lw_grammar.proofs.ScriptNames.{any_before, place_before, any_kept, place_kept, AreNamed, all_named}
-use Rattle.lw_grammar.proofs.ScriptGroups.{drop_pushed}
+use Rattle.lw_grammar.proofs.ScriptGroups.{number_plain, pair_plain, text_plain, drop_pushed}
 use Rattle.lw_grammar.proofs.ScriptOutcome.{rows_in_assets}
 use Rattle.lw_grammar.proofs.ScriptSizes.{here, tests, in_calls, in_tasks}
 use Rattle.lw_grammar.proofs.ScriptTasks.{View, view_of, OpenState, HaveBegun, IsNow, AreTasks, tasks_fit, calls_listed, groups_listed, none_open, plain_groups, opens_none, ends_same, unlocks_same, releases_held, onto_pushed}
@@ -271,10 +272,10 @@ module _ (names bitmaps : List (List ℕ)) where
         line_told above (CallLine layers act) r (r.calls ++ c ∷ []) r.groups refl (ap (onto_last c) r.all_are ∙ onto_pushed c r.done r.calls) (e.0 ∙ r.groups_are) refl (ap₂ (λ (o : Option OpenGroup) (n : ℕ). lines_so_far names bitmaps o n (r.calls ++ c ∷ []) r.groups) e.1 e.2 ∙ more)
 
     -- an update begins, and ends
-    refresh_told : (l : List ℕ) → (told above).group ≡ None → line_of_call names bitmaps (call_below (told above) (l ∷ []) RefreshAct) ≡ CallLine (l ∷ []) RefreshAct → AreTold (CallLine (l ∷ []) RefreshAct ∷ above)
+    refresh_told : (l : List ℕ) → (told above).group ≡ None → line_of_call names bitmaps (call_below (told above) (l ∷ []) (BareAct RefreshVerb)) ≡ CallLine (l ∷ []) (BareAct RefreshVerb) → AreTold (CallLine (l ∷ []) (BareAct RefreshVerb) ∷ above)
     refresh_told l none line =
-        let f : Statement = CallLine (l ∷ []) RefreshAct in
-        let c : Call = call_below (told above) (l ∷ []) RefreshAct in
+        let f : Statement = CallLine (l ∷ []) (BareAct RefreshVerb) in
+        let c : Call = call_below (told above) (l ∷ []) (BareAct RefreshVerb) in
         let so_far : ℕ = (told above).so_far in
         let more = call_line names bitmaps None (Some (Updating l)) (told above).began so_far r.calls r.groups c f known.inside line (λ m low. update_before l so_far m ∙ sym (none_before names bitmaps (told above).began m)) (update_before l so_far (length r.calls + 1)) in
         line_told above f r (r.calls ++ c ∷ []) r.groups refl (ap (onto_last c) r.all_are ∙ onto_pushed c r.done r.calls) r.groups_are refl (more ∙ ap (λ (t : List Statement). t ++ f ∷ []) (lines_at None none))
@@ -322,14 +323,20 @@ module _ (names bitmaps : List (List ℕ)) where
 
   -- any call
   call_told : (s : Setting) (above : List Statement) (layers : List (List ℕ)) (act : Act) → AreGoodLines s (CallLine layers act ∷ above) → (told above).section ≡ CallsAreDue → IsFoundIn names (and_names (told above).names layers) → IsFoundIn bitmaps (told above).bitmap_names → AreTold above → AreTold (CallLine layers act ∷ above)
-  call_told s above [] RefreshAct g due found stored r = absurd (cc ((here s above (CallLine [] RefreshAct) g).2.0))
-  call_told s above (l ∷ []) RefreshAct g due found stored r =
-      refresh_told s above g.1 due r l (opens_none (told above).group l (tests s above (CallLine (l ∷ []) RefreshAct) g).group) (call_back s above (l ∷ []) RefreshAct g found stored)
-  call_told s above (l ∷ m ∷ ms) RefreshAct g due found stored r = absurd (omega (arith, (here s above (CallLine (l ∷ m ∷ ms) RefreshAct) g).2.0))
+  call_told s above [] (BareAct RefreshVerb) g due found stored r = absurd (cc ((here s above (CallLine [] (BareAct RefreshVerb)) g).2.0))
+  call_told s above (l ∷ []) (BareAct RefreshVerb) g due found stored r =
+      refresh_told s above g.1 due r l (opens_none (told above).group l (tests s above (CallLine (l ∷ []) (BareAct RefreshVerb)) g).group) (call_back s above (l ∷ []) (BareAct RefreshVerb) g found stored)
+  call_told s above (l ∷ m ∷ ms) (BareAct RefreshVerb) g due found stored r = absurd (omega (arith, (here s above (CallLine (l ∷ m ∷ ms) (BareAct RefreshVerb)) g).2.0))
   call_told s above [] (EndRefreshAct full) g due found stored r = absurd (cc ((here s above (CallLine [] (EndRefreshAct full)) g).2.0))
   call_told s above (l ∷ []) (EndRefreshAct full) g due found stored r =
       endrefresh_told s above g.1 due r l full (ends_same (told above).group l full (tests s above (CallLine (l ∷ []) (EndRefreshAct full)) g).group) (call_back s above (l ∷ []) (EndRefreshAct full) g found stored)
   call_told s above (l ∷ m ∷ ms) (EndRefreshAct full) g due found stored r = absurd (omega (arith, (here s above (CallLine (l ∷ m ∷ ms) (EndRefreshAct full)) g).2.0))
+  call_told s above layers (NumberAct verb n) g due found stored r =
+      let p = number_plain verb n in plain_told s above g.1 due r layers (NumberAct verb n) p.0 p.1 (call_back s above layers (NumberAct verb n) g found stored)
+  call_told s above layers (PairAct verb x y) g due found stored r =
+      let p = pair_plain verb x y in plain_told s above g.1 due r layers (PairAct verb x y) p.0 p.1 (call_back s above layers (PairAct verb x y) g found stored)
+  call_told s above layers (TextAct verb text) g due found stored r =
+      let p = text_plain verb text in plain_told s above g.1 due r layers (TextAct verb text) p.0 p.1 (call_back s above layers (TextAct verb text) g found stored)
   call_told s above layers act g due found stored r = plain_told s above g.1 due r layers act refl refl (call_back s above layers act g found stored)
 
   -- a line inside a task, where it stands

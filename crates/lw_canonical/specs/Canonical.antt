@@ -12,7 +12,11 @@ use Rattle.lw_calls.specs.declared.group.Group.{Group}
 use Rattle.lw_calls.specs.declared.form.Form.TheVariants.{Plain}
 use Rattle.lw_calls.specs.Plan.{Plan, task_calls, task_groups, begins_update}
 use Rattle.lw_calls.specs.Written.{line_of}
-use Rattle.lw_grammar.specs.Statements.{AskedLayer, Act, RegRectAct, RegPairAct, RegClearAct, CreateAct, OpenAct, CloseAct, FrontAct, BehindAct, InFrontAct, MoveAct, SizeAct, BoxAct, ActivateAct, WhichAct, APenAct, BPenAct, ModeAct, MaskAct, AtAct, WriteAct, ReadAct, FillAct, DrawAct, TextAct, SetRastAct, ScrollRasterAct, PutAct, BlitAct, ClipAct, UnclipAct, RefreshAct, EndRefreshAct, ScrollAct, TitleAct, GetMsgAct, Statement, ScreenLine, GlyphLine, BitmapLine, RowLine, TaskLine, EndLine, CallLine, LockLine, UnlockLine, HoldLine, ReleaseLine, four}
+use Rattle.lw_grammar.specs.declared.verb.BareVerb.TheVariants.{Close as CloseVerb, Front as FrontVerb, Behind as BehindVerb, Activate as ActivateVerb, Unclip as UnclipVerb, Refresh as RefreshVerb, GetMsg as GetMsgVerb}
+use Rattle.lw_grammar.specs.declared.verb.NumberVerb.TheVariants.{APen as APenVerb, BPen as BPenVerb, Mode as ModeVerb, Mask as MaskVerb, SetRast as SetRastVerb, Clip as ClipVerb}
+use Rattle.lw_grammar.specs.declared.verb.PairVerb.TheVariants.{Move as MoveVerb, Size as SizeVerb, At as AtVerb, Write as WriteVerb, Read as ReadVerb, Draw as DrawVerb, Scroll as ScrollVerb}
+use Rattle.lw_grammar.specs.declared.verb.TextVerb.TheVariants.{Text as TextOf, Title as TitleVerb}
+use Rattle.lw_grammar.specs.Statements.{AskedLayer, Act, BareAct, NumberAct, PairAct, TextAct, RegRectAct, RegPairAct, RegClearAct, CreateAct, OpenAct, InFrontAct, BoxAct, WhichAct, FillAct, ScrollRasterAct, PutAct, BlitAct, EndRefreshAct, Statement, ScreenLine, GlyphLine, BitmapLine, RowLine, TaskLine, EndLine, CallLine, LockLine, UnlockLine, HoldLine, ReleaseLine, four}
 use Rattle.lw_grammar.specs.Script.{Setting, ScriptInput, SpellsInput}
 use Rattle.lw_canonical.specs.Spelling.{spelled}
 
@@ -52,36 +56,36 @@ line_of_call names bitmaps (RegClear r) = CallLine [] (RegClearAct (pos r))
 line_of_call names bitmaps (Create s m) = on_layer names s (CreateAct (created_asked m))
 line_of_call names bitmaps (OpenWindow s m framed nocare classes title) =
     on_layer names s (OpenAct (opened_asked m) framed nocare classes title)
-line_of_call names bitmaps (Close s) = on_layer names s CloseAct
-line_of_call names bitmaps (ToFront s) = on_layer names s FrontAct
-line_of_call names bitmaps (ToBack s) = on_layer names s BehindAct
+line_of_call names bitmaps (Close s) = on_layer names s (BareAct CloseVerb)
+line_of_call names bitmaps (ToFront s) = on_layer names s (BareAct FrontVerb)
+line_of_call names bitmaps (ToBack s) = on_layer names s (BareAct BehindVerb)
 line_of_call names bitmaps (InFrontOf s t) = CallLine (slice_index_or names s [] ∷ slice_index_or names t [] ∷ []) InFrontAct
-line_of_call names bitmaps (MoveBy s dx dy) = on_layer names s (MoveAct dx dy)
-line_of_call names bitmaps (SizeBy s dw dh) = on_layer names s (SizeAct dw dh)
-line_of_call names bitmaps (SetBox s x y w h) = on_layer names s (BoxAct x y w h)
-line_of_call names bitmaps (Activate s) = on_layer names s ActivateAct
+line_of_call names bitmaps (MoveBy s dx dy) = on_layer names s (PairAct MoveVerb dx dy)
+line_of_call names bitmaps (SizeBy s dw dh) = on_layer names s (PairAct SizeVerb dw dh)
+line_of_call names bitmaps (SetBox s x y w h) = on_layer names s (BoxAct (four x y w h))
+line_of_call names bitmaps (Activate s) = on_layer names s (BareAct ActivateVerb)
 line_of_call names bitmaps (Which x y) = CallLine [] (WhichAct x y)
-line_of_call names bitmaps (SetA s p) = on_layer names s (APenAct (pos p))
-line_of_call names bitmaps (SetB s p) = on_layer names s (BPenAct (pos p))
-line_of_call names bitmaps (SetMode s k) = on_layer names s (ModeAct (pos k))
-line_of_call names bitmaps (SetMask s p) = on_layer names s (MaskAct (pos p))
-line_of_call names bitmaps (At s x y) = on_layer names s (AtAct x y)
-line_of_call names bitmaps (WritePixel s x y) = on_layer names s (WriteAct x y)
-line_of_call names bitmaps (ReadPixel s x y) = on_layer names s (ReadAct x y)
+line_of_call names bitmaps (SetA s p) = on_layer names s (NumberAct APenVerb (pos p))
+line_of_call names bitmaps (SetB s p) = on_layer names s (NumberAct BPenVerb (pos p))
+line_of_call names bitmaps (SetMode s k) = on_layer names s (NumberAct ModeVerb (pos k))
+line_of_call names bitmaps (SetMask s p) = on_layer names s (NumberAct MaskVerb (pos p))
+line_of_call names bitmaps (At s x y) = on_layer names s (PairAct AtVerb x y)
+line_of_call names bitmaps (WritePixel s x y) = on_layer names s (PairAct WriteVerb x y)
+line_of_call names bitmaps (ReadPixel s x y) = on_layer names s (PairAct ReadVerb x y)
 line_of_call names bitmaps (Fill s rect) = on_layer names s (FillAct rect)
-line_of_call names bitmaps (DrawTo s x y) = on_layer names s (DrawAct x y)
-line_of_call names bitmaps (Letters s text) = on_layer names s (TextAct text)
-line_of_call names bitmaps (SetRast s p) = on_layer names s (SetRastAct (pos p))
+line_of_call names bitmaps (DrawTo s x y) = on_layer names s (PairAct DrawVerb x y)
+line_of_call names bitmaps (Letters s text) = on_layer names s (TextAct TextOf text)
+line_of_call names bitmaps (SetRast s p) = on_layer names s (NumberAct SetRastVerb (pos p))
 line_of_call names bitmaps (ScrollRaster s dx dy rect) = on_layer names s (ScrollRasterAct dx dy rect)
 line_of_call names bitmaps (Put b s area) = on_layer names s (PutAct (slice_index_or bitmaps b []) area)
 line_of_call names bitmaps (Blit s t area) = CallLine (slice_index_or names s [] ∷ slice_index_or names t [] ∷ []) (BlitAct area)
-line_of_call names bitmaps (Clip s r) = on_layer names s (ClipAct (pos r))
-line_of_call names bitmaps (Unclip s) = on_layer names s UnclipAct
-line_of_call names bitmaps (BeginRefresh s) = on_layer names s RefreshAct
+line_of_call names bitmaps (Clip s r) = on_layer names s (NumberAct ClipVerb (pos r))
+line_of_call names bitmaps (Unclip s) = on_layer names s (BareAct UnclipVerb)
+line_of_call names bitmaps (BeginRefresh s) = on_layer names s (BareAct RefreshVerb)
 line_of_call names bitmaps (EndRefresh s full) = on_layer names s (EndRefreshAct full)
-line_of_call names bitmaps (Scroll s dx dy) = on_layer names s (ScrollAct dx dy)
-line_of_call names bitmaps (SetTitle s text) = on_layer names s (TitleAct text)
-line_of_call names bitmaps (TakeMessage s) = on_layer names s GetMsgAct
+line_of_call names bitmaps (Scroll s dx dy) = on_layer names s (PairAct ScrollVerb dx dy)
+line_of_call names bitmaps (SetTitle s text) = on_layer names s (TextAct TitleVerb text)
+line_of_call names bitmaps (TakeMessage s) = on_layer names s (BareAct GetMsgVerb)
 
 -- the group's first call begins an update
 abbrev pub are_updating : List Call → Bool

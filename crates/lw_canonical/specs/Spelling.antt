@@ -3,16 +3,13 @@ use Rattle.std.specs.Prelude.{ℕ, ◌/◌, ◌%◌, ◌==◌, Bool, true, false
 use Rattle.std.specs.List.{flat_map}
 use Rattle.std.specs.Fmt.{signed_decimal}
 use Rattle.lw_region.specs.Rectangle.{Rectangle}
-use Rattle.lw_calls.specs.declared.operation.RectOp.{RectOp}
-use Rattle.lw_calls.specs.declared.operation.RectOp.TheVariants.{Or as OrR, And as AndR, Xor as XorR, Clear as ClearR}
-use Rattle.lw_calls.specs.declared.operation.PairOp.{PairOp}
-use Rattle.lw_calls.specs.declared.operation.PairOp.TheVariants.{Or as OrP, And as AndP, Xor as XorP}
 use Rattle.lw_calls.specs.declared.make.Kind.{Kind}
 use Rattle.lw_calls.specs.declared.make.Kind.TheVariants.{Simple, Smart, SuperBitmap}
 use Rattle.lw_calls.specs.declared.make.Place.{Place}
 use Rattle.lw_calls.specs.declared.make.Place.TheVariants.{Front, Behind}
 use Rattle.lw_grammar.specs.Tokens.{space, quote}
-use Rattle.lw_grammar.specs.Statements.{AskedLayer, Act, RegRectAct, RegPairAct, RegClearAct, CreateAct, OpenAct, CloseAct, FrontAct, BehindAct, InFrontAct, MoveAct, SizeAct, BoxAct, ActivateAct, WhichAct, APenAct, BPenAct, ModeAct, MaskAct, AtAct, WriteAct, ReadAct, FillAct, DrawAct, TextAct, SetRastAct, ScrollRasterAct, PutAct, BlitAct, ClipAct, UnclipAct, RefreshAct, EndRefreshAct, ScrollAct, TitleAct, GetMsgAct, Statement, ScreenLine, GlyphLine, BitmapLine, RowLine, TaskLine, EndLine, OrderLine, NumbersLine, ReportLine, CallLine, LockLine, UnlockLine, HoldLine, ReleaseLine, four}
+use Rattle.lw_grammar.specs.Verbs.{bare_word, number_word, pair_word, text_verb_word, rect_word, region_word}
+use Rattle.lw_grammar.specs.Statements.{AskedLayer, Act, BareAct, NumberAct, PairAct, TextAct, RegRectAct, RegPairAct, RegClearAct, CreateAct, OpenAct, InFrontAct, BoxAct, WhichAct, FillAct, ScrollRasterAct, PutAct, BlitAct, EndRefreshAct, Statement, ScreenLine, GlyphLine, BitmapLine, RowLine, TaskLine, EndLine, OrderLine, NumbersLine, ReportLine, CallLine, LockLine, UnlockLine, HoldLine, ReleaseLine}
 use Rattle.lw_calls.specs.Written.{hex_byte}
 
 -- words with single spaces between them
@@ -32,18 +29,6 @@ hex_word bytes = flat_map hex_byte bytes
 -- four numbers
 abbrev pub four_words : Rectangle → List (List ℕ)
 four_words r = signed_decimal r.min_x ∷ signed_decimal r.min_y ∷ signed_decimal r.max_x ∷ signed_decimal r.max_y ∷ []
-
--- the verbs of region calls
-abbrev pub rect_word : RectOp → List ℕ
-rect_word OrR = codes "orrect"
-rect_word AndR = codes "andrect"
-rect_word XorR = codes "xorrect"
-rect_word ClearR = codes "clearrect"
-
-abbrev pub pair_word : PairOp → List ℕ
-pair_word OrP = codes "orregion"
-pair_word AndP = codes "andregion"
-pair_word XorP = codes "xorregion"
 
 -- the words of a layer's kind and of its place
 abbrev pub kind_word : Kind → List ℕ
@@ -100,34 +85,22 @@ opened_words SuperBitmap a framed nocare classes =
 
 -- the words of a call's line, where it names these layers from left to right
 abbrev pub call_words : List (List ℕ) → Act → List (List ℕ)
+call_words layers (BareAct verb) = bare_word verb ∷ layers
+call_words layers (NumberAct verb z) = number_word verb ∷ layers ++ signed_decimal z ∷ []
+call_words layers (PairAct verb x y) = pair_word verb ∷ layers ++ signed_decimal x ∷ signed_decimal y ∷ []
+call_words layers (TextAct verb text) = text_verb_word verb ∷ layers ++ text_word text ∷ []
 call_words layers (RegRectAct op r rect) = rect_word op ∷ signed_decimal r ∷ four_words rect
-call_words layers (RegPairAct op s r) = pair_word op ∷ signed_decimal s ∷ signed_decimal r ∷ []
+call_words layers (RegPairAct op s r) = region_word op ∷ signed_decimal s ∷ signed_decimal r ∷ []
 call_words layers (RegClearAct r) = codes "clearregion" ∷ signed_decimal r ∷ []
 call_words layers (CreateAct a) =
     codes "create" ∷ layers ++ kind_word a.kind ∷ place_word a.place ∷ four_words a.numbers ++ created_words a.kind a
 call_words layers (OpenAct a framed nocare classes title) =
     codes "open" ∷ layers ++ kind_word a.kind ∷ place_word a.place ∷ four_words a.numbers
     ++ opened_words a.kind a framed nocare classes ++ text_word title ∷ []
-call_words layers CloseAct = codes "close" ∷ layers
-call_words layers FrontAct = codes "front" ∷ layers
-call_words layers BehindAct = codes "behind" ∷ layers
 call_words layers InFrontAct = codes "infront" ∷ layers
-call_words layers (MoveAct dx dy) = codes "move" ∷ layers ++ signed_decimal dx ∷ signed_decimal dy ∷ []
-call_words layers (SizeAct dw dh) = codes "size" ∷ layers ++ signed_decimal dw ∷ signed_decimal dh ∷ []
-call_words layers (BoxAct x y w h) = codes "box" ∷ layers ++ four_words (four x y w h)
-call_words layers ActivateAct = codes "activate" ∷ layers
+call_words layers (BoxAct r) = codes "box" ∷ layers ++ four_words r
 call_words layers (WhichAct x y) = codes "which" ∷ signed_decimal x ∷ signed_decimal y ∷ []
-call_words layers (APenAct p) = codes "apen" ∷ layers ++ signed_decimal p ∷ []
-call_words layers (BPenAct p) = codes "bpen" ∷ layers ++ signed_decimal p ∷ []
-call_words layers (ModeAct k) = codes "mode" ∷ layers ++ signed_decimal k ∷ []
-call_words layers (MaskAct p) = codes "mask" ∷ layers ++ signed_decimal p ∷ []
-call_words layers (AtAct x y) = codes "at" ∷ layers ++ signed_decimal x ∷ signed_decimal y ∷ []
-call_words layers (WriteAct x y) = codes "write" ∷ layers ++ signed_decimal x ∷ signed_decimal y ∷ []
-call_words layers (ReadAct x y) = codes "read" ∷ layers ++ signed_decimal x ∷ signed_decimal y ∷ []
 call_words layers (FillAct rect) = codes "fill" ∷ layers ++ four_words rect
-call_words layers (DrawAct x y) = codes "draw" ∷ layers ++ signed_decimal x ∷ signed_decimal y ∷ []
-call_words layers (TextAct text) = codes "text" ∷ layers ++ text_word text ∷ []
-call_words layers (SetRastAct p) = codes "setrast" ∷ layers ++ signed_decimal p ∷ []
 call_words layers (ScrollRasterAct dx dy rect) =
     codes "scrollraster" ∷ layers ++ signed_decimal dx ∷ signed_decimal dy ∷ four_words rect
 call_words layers (PutAct bm b) =
@@ -136,13 +109,7 @@ call_words layers (PutAct bm b) =
 call_words layers (BlitAct b) =
     codes "blit" ∷ slice_index_or layers 0 [] ∷ signed_decimal b.sx ∷ signed_decimal b.sy ∷ slice_index_or layers 1 [] ∷
     signed_decimal b.x ∷ signed_decimal b.y ∷ signed_decimal b.w ∷ signed_decimal b.h ∷ hex_byte b.minterm ∷ []
-call_words layers (ClipAct r) = codes "clip" ∷ layers ++ signed_decimal r ∷ []
-call_words layers UnclipAct = codes "unclip" ∷ layers
-call_words layers RefreshAct = codes "refresh" ∷ layers
 call_words layers (EndRefreshAct full) = codes "endrefresh" ∷ layers ++ (if full then codes "full" else codes "part") ∷ []
-call_words layers (ScrollAct dx dy) = codes "scroll" ∷ layers ++ signed_decimal dx ∷ signed_decimal dy ∷ []
-call_words layers (TitleAct text) = codes "title" ∷ layers ++ text_word text ∷ []
-call_words layers GetMsgAct = codes "getmsg" ∷ layers
 
 -- the words of a line
 abbrev pub words_of : Statement → List (List ℕ)

@@ -9,10 +9,13 @@ use Rattle.lw_calls.specs.declared.make.Kind.{Kind}
 use Rattle.lw_calls.specs.declared.make.Place.TheVariants.{Front}
 use Rattle.lw_calls.specs.Limits.{is_coordinate, axis_fits, rect_fits}
 use Rattle.lw_calls.specs.declared.call.Call.TheVariants.{Create}
-use Rattle.lw_grammar.specs.declared.verb.Verb.TheVariants.{Create as CreateVerb, Front as FrontVerb, APen as APenVerb, Read as ReadVerb, Fill as FillVerb}
+use Rattle.lw_grammar.specs.declared.verb.BareVerb.TheVariants.{Front as FrontVerb}
+use Rattle.lw_grammar.specs.declared.verb.NumberVerb.TheVariants.{APen as APenVerb}
+use Rattle.lw_grammar.specs.declared.verb.PairVerb.TheVariants.{Read as ReadVerb}
+use Rattle.lw_grammar.specs.declared.verb.Verb.TheVariants.{Bare, Number, Pair, Create as CreateVerb, Fill as FillVerb}
 use Rattle.lw_grammar.specs.Tokens.{NameToken, token_of}
 use Rattle.lw_grammar.specs.Verbs.{verb_of}
-use Rattle.lw_grammar.specs.Statements.{AskedLayer, CreateAct, FrontAct, APenAct, ReadAct, FillAct, four, statement_by, asked_without_bitmap}
+use Rattle.lw_grammar.specs.Statements.{AskedLayer, BareAct, NumberAct, PairAct, CreateAct, FillAct, four, statement_by, asked_without_bitmap}
 use Rattle.lw_grammar.specs.Told.{spelled_call}
 use Rattle.lw_canonical.specs.Spelling.{kind_word, place_word}
 use Rattle.lw_gen.specs.Demo.{layer_between}
@@ -47,16 +50,16 @@ created_between kind x0 y0 x1 y1 slot wide high =
 
 module _ (l : List ℕ) (plain_name : is_plain l ≡ true) (name : token_of l ≡ NameToken l) where
   -- front L
-  pub front_readable : IsReadable l FrontAct
+  pub front_readable : IsReadable l (BareAct FrontVerb)
   unfolding verb_of
   front_readable = record {
-    verb = FrontVerb;
+    verb = Bare FrontVerb;
     ws = l ∷ [];
     words = refl;
     plain = and_from (is_plain l) true plain_name refl;
     few = omega arith;
     known = refl;
-    made = λ i. statement_by FrontVerb (name i ∷ []);
+    made = λ i. statement_by (Bare FrontVerb) (name i ∷ []);
     belongs = refl;
     stands = refl;
     range = refl;
@@ -67,18 +70,18 @@ module _ (l : List ℕ) (plain_name : is_plain l ≡ true) (name : token_of l �
   }
 
   -- apen L P
-  pub pen_readable : (p : ℕ) → p < 4 → IsReadable l (APenAct (pos p))
+  pub pen_readable : (p : ℕ) → p < 4 → IsReadable l (NumberAct APenVerb (pos p))
   unfolding verb_of
   pen_readable p small =
       let number = numbers_read_back p (omega (arith, small)) in
       record {
-        verb = APenVerb;
+        verb = Number APenVerb;
         ws = l ∷ decimal p ∷ [];
         words = refl;
         plain = and_from (is_plain l) _ plain_name (and_from (is_plain (decimal p)) true number.plain refl);
         few = omega arith;
         known = refl;
-        made = λ i. statement_by APenVerb (name i ∷ number.token i ∷ []);
+        made = λ i. statement_by (Number APenVerb) (name i ∷ number.token i ∷ []);
         belongs = refl;
         stands = refl;
         range = within_true (pos 0) (pos p) (pos 255) (omega (arith, ints)) (omega (arith, ints, small));
@@ -89,19 +92,19 @@ module _ (l : List ℕ) (plain_name : is_plain l ≡ true) (name : token_of l �
       }
 
   -- read L X Y
-  pub read_readable : (x y : ℕ) → x < 1000 → y < 1000 → IsReadable l (ReadAct (pos x) (pos y))
+  pub read_readable : (x y : ℕ) → x < 1000 → y < 1000 → IsReadable l (PairAct ReadVerb (pos x) (pos y))
   unfolding verb_of
   read_readable x y low small =
       let a = numbers_read_back x low in
       let b = numbers_read_back y small in
       record {
-        verb = ReadVerb;
+        verb = Pair ReadVerb;
         ws = l ∷ decimal x ∷ decimal y ∷ [];
         words = refl;
         plain = and_from (is_plain l) _ plain_name (and_from (is_plain (decimal x)) _ a.plain (and_from (is_plain (decimal y)) true b.plain refl));
         few = omega arith;
         known = refl;
-        made = λ i. statement_by ReadVerb (name i ∷ a.token i ∷ b.token i ∷ []);
+        made = λ i. statement_by (Pair ReadVerb) (name i ∷ a.token i ∷ b.token i ∷ []);
         belongs = refl;
         stands = refl;
         range = and_from (is_coordinate (pos x)) (is_coordinate (pos y)) (coordinate x low) (coordinate y small);

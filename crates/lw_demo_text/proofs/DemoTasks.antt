@@ -8,9 +8,13 @@ use Rattle.lw_calls.specs.declared.make.Kind.TheVariants.{Simple, Smart}
 use Rattle.lw_calls.specs.declared.call.Call.{Call}
 use Rattle.lw_calls.specs.declared.call.Call.TheVariants.{Create, ToFront}
 use Rattle.lw_calls.specs.declared.group.Group.{Group}
-use Rattle.lw_grammar.specs.declared.verb.Verb.TheVariants.{Screen as ScreenVerb, Task as TaskVerb, End as EndVerb}
+use Rattle.lw_grammar.specs.declared.verb.PartVerb.TheVariants.{Screen as ScreenVerb, Task as TaskVerb, End as EndVerb}
+use Rattle.lw_grammar.specs.declared.verb.Verb.TheVariants.{Part}
 use Rattle.lw_grammar.specs.Verbs.{verb_of}
-use Rattle.lw_grammar.specs.Statements.{Act, CreateAct, FrontAct, APenAct, ReadAct, FillAct, ScreenLine, TaskLine, EndLine, four, statement_by}
+use Rattle.lw_grammar.specs.declared.verb.BareVerb.TheVariants.{Front as FrontVerb}
+use Rattle.lw_grammar.specs.declared.verb.NumberVerb.TheVariants.{APen as APenVerb}
+use Rattle.lw_grammar.specs.declared.verb.PairVerb.TheVariants.{Read as ReadVerb}
+use Rattle.lw_grammar.specs.Statements.{Act, BareAct, NumberAct, PairAct, CreateAct, FillAct, ScreenLine, TaskLine, EndLine, four, statement_by}
 use Rattle.lw_grammar.specs.Told.{Section, AssetsAreDue, CallsAreDue, TasksAreDue, Told, nothing_told, spelled_call, plan_of}
 use Rattle.lw_grammar.specs.Script.{are_assets_due, are_tasks_due, are_numbers_due, is_nothing_due}
 use Rattle.lw_grammar.proofs.ScriptTasks.{onto_pushed}
@@ -77,15 +81,15 @@ module _ (tasks : List (List ℕ)) (few_tasks : length tasks ≤ 16) (calls : Li
           one_more names names (layer_name task layer) (3 * task + layer) n done (FillAct (four (pos x0) (pos y0) (pos x1) (pos y1))) _ more named (fill_readable (layer_name task layer) named.plain named.name x0 y0 x1 y1 (omega arith) (omega (arith, left, few, right)) (omega arith) (omega (arith, upper, lower))) refl reached
       chosen_more false true c layer n x done small more reached =
           let named = known_layer task layer low small in
-          one_more names names (layer_name task layer) (3 * task + layer) n done (APenAct (pos (picked 4 (stirred x)))) _ more named (pen_readable (layer_name task layer) named.plain named.name (picked 4 (stirred x)) (picked_below 4 (stirred x) (omega arith))) refl reached
+          one_more names names (layer_name task layer) (3 * task + layer) n done (NumberAct APenVerb (pos (picked 4 (stirred x)))) _ more named (pen_readable (layer_name task layer) named.plain named.name (picked 4 (stirred x)) (picked_below 4 (stirred x) (omega arith))) refl reached
       chosen_more false false true layer n x done small more reached =
           let named = known_layer task layer low small in
-          one_more names names (layer_name task layer) (3 * task + layer) n done FrontAct _ more named (front_readable (layer_name task layer) named.plain named.name) refl reached
+          one_more names names (layer_name task layer) (3 * task + layer) n done (BareAct FrontVerb) _ more named (front_readable (layer_name task layer) named.plain named.name) refl reached
       chosen_more false false false layer n x done small more reached =
           let named = known_layer task layer low small in
           let column = picked_below columns (stirred x) some in
           let row = picked_below 192 (stirred (stirred x)) (omega arith) in
-          one_more names names (layer_name task layer) (3 * task + layer) n done (ReadAct (pos (picked columns (stirred x))) (pos (picked 192 (stirred (stirred x))))) _ more named (read_readable (layer_name task layer) named.plain named.name (picked columns (stirred x)) (picked 192 (stirred (stirred x))) (omega (arith, column, few)) (omega (arith, row))) refl reached
+          one_more names names (layer_name task layer) (3 * task + layer) n done (PairAct ReadVerb (pos (picked columns (stirred x))) (pos (picked 192 (stirred (stirred x))))) _ more named (read_readable (layer_name task layer) named.plain named.name (picked columns (stirred x)) (picked 192 (stirred (stirred x))) (omega (arith, column, few)) (omega (arith, row))) refl reached
 
       -- all that are drawn
       drawn_more : (count n x : ℕ) (done : List Call) → n + count ≤ 4096 → IsReached (told_after names n done) → IsReached (told_after names (n + count) (done ++ calls_from count (3 * task) columns x))
@@ -127,14 +131,14 @@ begun section k n calls groups low numbers due belongs reached =
     let f = TaskLine (task_name k) in
     let new = new_task k low in
     let few = few_in_demo CallsAreDue (tasks_named (suc k)) (layers_named k) 0 (calls ++ [] ∷ []) (groups ++ [] ∷ []) (let m = many_tasks (suc k) in omega (arith, m, low)) (let m = many_layers k in omega (arith, m, low)) (omega arith) in
-    line_more t u f reached (line_reads t f TaskVerb (task_name k ∷ []) refl (and_from (is_plain (task_name k)) true new.plain refl) (omega arith) refl (λ i. statement_by TaskVerb (new.name i ∷ [])) refl numbers belongs (tests_pass t f refl refl new.new refl few refl refl)) refl due refl
+    line_more t u f reached (line_reads t f (Part TaskVerb) (task_name k ∷ []) refl (and_from (is_plain (task_name k)) true new.plain refl) (omega arith) refl (λ i. statement_by (Part TaskVerb) (new.name i ∷ [])) refl numbers belongs (tests_pass t f refl refl new.new refl few refl refl)) refl due refl
 
 ended : (k n : ℕ) (calls : List (List Call)) (groups : List (List Group)) → k ≤ 16 → n ≤ 4096 → IsReached (in_demo CallsAreDue (tasks_named k) (layers_named k) n calls groups) → IsReached (in_demo TasksAreDue (tasks_named k) (layers_named k) n calls groups)
 unfolding verb_of
 ended k n calls groups low long reached =
     let t = in_demo CallsAreDue (tasks_named k) (layers_named k) n calls groups in
     let few = few_in_demo TasksAreDue (tasks_named k) (layers_named k) n calls groups (let m = many_tasks k in omega (arith, m, low)) (let m = many_layers k in omega (arith, m, low)) long in
-    line_more t (in_demo TasksAreDue (tasks_named k) (layers_named k) n calls groups) EndLine reached (line_reads t EndLine EndVerb [] refl refl (omega arith) refl refl refl refl refl (tests_pass t EndLine refl refl refl refl few refl refl)) refl refl refl
+    line_more t (in_demo TasksAreDue (tasks_named k) (layers_named k) n calls groups) EndLine reached (line_reads t EndLine (Part EndVerb) [] refl refl (omega arith) refl refl refl refl refl (tests_pass t EndLine refl refl refl refl few refl refl)) refl refl refl
 
 -- What the lines of so many tasks of a demo tell.
 module _ (number tasks : ℕ) (few : tasks ≤ 16) where
@@ -179,7 +183,7 @@ module _ (number tasks : ℕ) (few : tasks ≤ 16) where
   unfolding digits within verb_of
   screen_read =
       let f = ScreenLine (pos 640) (pos 256) (pos 2) in
-      line_more nothing_told (told_by zero) f nothing_reached (line_reads nothing_told f ScreenVerb (signed_decimal (pos 640) ∷ signed_decimal (pos 256) ∷ signed_decimal (pos 2) ∷ []) refl refl (omega arith) refl refl refl refl refl (tests_pass nothing_told f refl refl refl refl refl refl refl)) refl refl refl
+      line_more nothing_told (told_by zero) f nothing_reached (line_reads nothing_told f (Part ScreenVerb) (signed_decimal (pos 640) ∷ signed_decimal (pos 256) ∷ signed_decimal (pos 2) ∷ []) refl refl (omega arith) refl refl refl refl refl (tests_pass nothing_told f refl refl refl refl refl refl refl)) refl refl refl
 
 -- what tasks have, as the plan has it
 of_all : {A : Type 0} (f : ℕ → A) (n : ℕ) → of_tasks f n ≡ map f (range_with_len 0 n)

@@ -5,11 +5,19 @@ use Rattle.lw_region.specs.Rectangle.{within}
 use Rattle.lw_calls.specs.declared.make.Kind.{Kind}
 use Rattle.lw_calls.specs.declared.make.Kind.TheVariants.{Simple, Smart, SuperBitmap}
 use Rattle.lw_calls.specs.declared.sizes.Sizes.{Sizes}
-use Rattle.lw_calls.specs.Limits.{is_coordinate, hook_fits, kind_fits, make_fits, axis_fits, rect_fits, is_byte, window_fits, call_fits, is_extent}
+use Rattle.lw_calls.specs.Limits.{is_coordinate, hook_fits, kind_fits, make_fits, axis_fits, rect_fits, coordinates_fit, is_byte, window_fits, call_fits, is_extent}
 use Rattle.lw_calls.specs.Kinds.{is_super}
 use Rattle.lw_calls.proofs.LimitLaws.{extent_fits}
-use Rattle.lw_grammar.specs.Statements.{AskedLayer, Act, RegRectAct, RegPairAct, RegClearAct, CreateAct, OpenAct, CloseAct, FrontAct, BehindAct, InFrontAct, MoveAct, SizeAct, BoxAct, ActivateAct, WhichAct, APenAct, BPenAct, ModeAct, MaskAct, AtAct, WriteAct, ReadAct, FillAct, DrawAct, TextAct, SetRastAct, ScrollRasterAct, PutAct, BlitAct, ClipAct, UnclipAct, RefreshAct, EndRefreshAct, ScrollAct, TitleAct, GetMsgAct, CallLine, is_hook_number, is_own_size, is_asked_in_range, place_and_size_fit, is_act_in_range, layers_of}
-use Rattle.lw_grammar.specs.Told.{place_among, make_of, created_make, opened_make, spelled_call, hook_on}
+use Rattle.lw_grammar.specs.declared.verb.BareVerb.{BareVerb}
+use Rattle.lw_grammar.specs.declared.verb.BareVerb.TheVariants.{Close as CloseVerb}
+use Rattle.lw_grammar.specs.declared.verb.NumberVerb.{NumberVerb}
+use Rattle.lw_grammar.specs.declared.verb.NumberVerb.TheVariants.{Mode as ModeVerb, Clip as ClipVerb}
+use Rattle.lw_grammar.specs.declared.verb.PairVerb.{PairVerb}
+use Rattle.lw_grammar.specs.declared.verb.PairVerb.TheVariants.{Move as MoveVerb}
+use Rattle.lw_grammar.specs.declared.verb.TextVerb.{TextVerb}
+use Rattle.lw_grammar.specs.declared.verb.TextVerb.TheVariants.{Text as TextOf}
+use Rattle.lw_grammar.specs.Statements.{AskedLayer, Act, BareAct, NumberAct, PairAct, TextAct, RegRectAct, RegPairAct, RegClearAct, CreateAct, OpenAct, InFrontAct, BoxAct, WhichAct, FillAct, ScrollRasterAct, PutAct, BlitAct, EndRefreshAct, CallLine, is_hook_number, is_own_size, is_asked_in_range, place_and_size_fit, greatest_number, is_act_in_range, layers_of}
+use Rattle.lw_grammar.specs.Told.{place_among, make_of, created_make, opened_make, bare_call, number_call, pair_call, text_call, spelled_call, hook_on}
 use Rattle.lw_grammar.specs.Script.{lacks_name, is_no_hook}
 use Rattle.lw_grammar.proofs.ScriptStatements.{IsAskedOf, IsActMade}
 use Rattle.lw_grammar.proofs.ScriptNames.{place_below}
@@ -105,41 +113,41 @@ module _ (z : Sizes) (bitmaps : List (List ℕ)) (few : length bitmaps ≤ z.bit
       let low = place_below (bytes_eq bm) bitmaps (not-false _ h) in
       lt-ltb (place_among bitmaps bm) z.bitmaps (omega arith)
 
+  -- the calls of verbs with a layer: alone, with a number, with two numbers, and with a text
+  bare_fits : (verb : BareVerb) → HaveSlots 1 → call_fits z (bare_call verb (slice_index slots 0)) ≡ true
+  bare_fits CloseVerb s = slot_fits 1 0 (omega arith) s
+  bare_fits verb s = slot_fits 1 0 (omega arith) s
+
+  number_fits : (verb : NumberVerb) (n : ℤ) → within (pos 0) n (pos (greatest_number verb)) ≡ true → HaveSlots 1 → call_fits z (number_call verb (slice_index slots 0) (unsigned_abs n)) ≡ true
+  number_fits ModeVerb n h s = with_slot _ s (below_eight n h)
+  number_fits ClipVerb n h s = with_slot _ s (below_eight n h)
+  number_fits verb n h s = with_slot _ s (a_byte n h)
+
+  pair_fits : (verb : PairVerb) (x y : ℤ) → coordinates_fit x y ≡ true → HaveSlots 1 → call_fits z (pair_call verb (slice_index slots 0) x y) ≡ true
+  pair_fits MoveVerb x y h s = with_slot _ s h
+  pair_fits verb x y h s = with_slot _ s h
+
+  text_fits : (verb : TextVerb) (text : List ℕ) → HaveSlots 1 → call_fits z (text_call verb (slice_index slots 0) text) ≡ true
+  text_fits TextOf text s = slot_fits 1 0 (omega arith) s
+  text_fits verb text s = slot_fits 1 0 (omega arith) s
+
   pub act_fits : (layers : List (List ℕ)) (act : Act) → IsActMade act → is_act_in_range act ≡ true → lacks_name bitmaps (CallLine layers act) ≡ false → is_no_hook z.hooks (hook_on (CallLine layers act)) ≡ false → HaveSlots (layers_of act) → call_fits z (spelled_call bitmaps act slots) ≡ true
+  act_fits layers (BareAct verb) m h b k s = bare_fits verb s
+  act_fits layers (NumberAct verb n) m h b k s = number_fits verb n h s
+  act_fits layers (PairAct verb x y) m h b k s = pair_fits verb x y h s
+  act_fits layers (TextAct verb text) m h b k s = text_fits verb text s
   act_fits layers (RegRectAct op r rect) m h b k s = let p = and_parts (within (pos 0) r (pos 7)) _ h in and_from _ _ (below_eight r p.0) p.1
   act_fits layers (RegPairAct op q r) m h b k s = let p = and_parts (within (pos 0) q (pos 7)) _ h in and_from _ _ (below_eight q p.0) (below_eight r p.1)
   act_fits layers (RegClearAct r) m h b k s = below_eight r h
   act_fits layers (CreateAct a) m h b k s = with_slot _ s (created_fits z a m h k)
   act_fits layers (OpenAct a framed nocare classes title) m h b k s =
       with_slot _ s (and_from _ _ (opened_fits z a m.0 h k) (asked_window_fits z a framed classes m.1 m.2))
-  act_fits layers CloseAct m h b k s = slot_fits 1 0 (omega arith) s
-  act_fits layers FrontAct m h b k s = slot_fits 1 0 (omega arith) s
-  act_fits layers BehindAct m h b k s = slot_fits 1 0 (omega arith) s
   act_fits layers InFrontAct m h b k s = and_from _ _ (slot_fits 2 0 (omega arith) s) (slot_fits 2 1 (omega arith) s)
-  act_fits layers (MoveAct dx dy) m h b k s = with_slot _ s h
-  act_fits layers (SizeAct dw dh) m h b k s = with_slot _ s h
-  act_fits layers (BoxAct x y w h') m h b k s = with_slot _ s h
-  act_fits layers ActivateAct m h b k s = slot_fits 1 0 (omega arith) s
+  act_fits layers (BoxAct r) m h b k s = with_slot _ s h
   act_fits layers (WhichAct x y) m h b k s = h
-  act_fits layers (APenAct p) m h b k s = with_slot _ s (a_byte p h)
-  act_fits layers (BPenAct p) m h b k s = with_slot _ s (a_byte p h)
-  act_fits layers (ModeAct p) m h b k s = with_slot _ s (below_eight p h)
-  act_fits layers (MaskAct p) m h b k s = with_slot _ s (a_byte p h)
-  act_fits layers (AtAct x y) m h b k s = with_slot _ s h
-  act_fits layers (WriteAct x y) m h b k s = with_slot _ s h
-  act_fits layers (ReadAct x y) m h b k s = with_slot _ s h
   act_fits layers (FillAct rect) m h b k s = with_slot _ s h
-  act_fits layers (DrawAct x y) m h b k s = with_slot _ s h
-  act_fits layers (TextAct text) m h b k s = slot_fits 1 0 (omega arith) s
-  act_fits layers (SetRastAct p) m h b k s = with_slot _ s (a_byte p h)
   act_fits layers (ScrollRasterAct dx dy rect) m h b k s = with_slot _ s h
   act_fits layers (PutAct bm g) m h b k s = and_from _ _ (bitmap_fits bm b) (with_slot _ s (and_from _ _ h m))
   act_fits layers (BlitAct g) m h b k s =
       and_from _ _ (slot_fits 2 0 (omega arith) s) (and_from _ _ (slot_fits 2 1 (omega arith) s) (and_from _ _ h m))
-  act_fits layers (ClipAct r) m h b k s = with_slot _ s (below_eight r h)
-  act_fits layers UnclipAct m h b k s = slot_fits 1 0 (omega arith) s
-  act_fits layers RefreshAct m h b k s = slot_fits 1 0 (omega arith) s
   act_fits layers (EndRefreshAct full) m h b k s = slot_fits 1 0 (omega arith) s
-  act_fits layers (ScrollAct dx dy) m h b k s = with_slot _ s h
-  act_fits layers (TitleAct text) m h b k s = slot_fits 1 0 (omega arith) s
-  act_fits layers GetMsgAct m h b k s = slot_fits 1 0 (omega arith) s

@@ -1,5 +1,5 @@
 -- The groups of a task grow with its calls, and the calls that may stand in them.
-use Rattle.std.proofs.Common.{◌≡◌, ℕ, zero, suc, ◌+◌, ◌-◌, ◌<◌, ◌≤◌, ◌==◌, Bool, true, false, ◌&&◌, nat_le, nat_lt, List, [], ◌∷◌, ◌++◌, length, map, take, drop, slice_index, bytes_eq, refl, sym, ap, ◌∙◌, arith, length-append, length-drop}
+use Rattle.std.proofs.Common.{◌≡◌, ℕ, zero, suc, ◌+◌, ◌-◌, ◌<◌, ◌≤◌, ◌==◌, Bool, true, false, ◌&&◌, nat_le, nat_lt, List, [], ◌∷◌, ◌++◌, length, map, take, drop, slice_index, ℤ, bytes_eq, refl, sym, ap, ◌∙◌, arith, length-append, length-drop}
 use Rattle.std.specs.List.{list_all}
 use Rattle.lw_calls.specs.declared.call.Call.{Call}
 use Rattle.lw_calls.specs.declared.group.Hold.{Hold}
@@ -8,7 +8,14 @@ use Rattle.lw_calls.specs.declared.group.Group.{Group}
 use Rattle.lw_calls.specs.Touches.{slots_in, slots_of}
 use Rattle.lw_calls.proofs.BlitClass.{blit_class}
 use Rattle.lw_calls.specs.Plan.{is_one, is_all, begins_update, ends_update, may_be_locked, end_an_update, hold_allows, group_calls, group_fits, groups_fit}
-use Rattle.lw_grammar.specs.Statements.{Act, RegRectAct, RegPairAct, RegClearAct, CreateAct, OpenAct, CloseAct, FrontAct, BehindAct, InFrontAct, MoveAct, SizeAct, BoxAct, ActivateAct, WhichAct, BlitAct, RefreshAct, EndRefreshAct, layers_of}
+use Rattle.lw_grammar.specs.declared.verb.BareVerb.TheVariants.{Close as CloseVerb, Front as FrontVerb, Behind as BehindVerb, Activate as ActivateVerb, Refresh as RefreshVerb}
+use Rattle.lw_grammar.specs.declared.verb.NumberVerb.{NumberVerb}
+use Rattle.lw_grammar.specs.declared.verb.NumberVerb.TheVariants.{APen as APenVerb}
+use Rattle.lw_grammar.specs.declared.verb.PairVerb.{PairVerb}
+use Rattle.lw_grammar.specs.declared.verb.PairVerb.TheVariants.{Move as MoveVerb, Size as SizeVerb}
+use Rattle.lw_grammar.specs.declared.verb.TextVerb.{TextVerb}
+use Rattle.lw_grammar.specs.declared.verb.TextVerb.TheVariants.{Text as TextOf}
+use Rattle.lw_grammar.specs.Statements.{Act, BareAct, NumberAct, PairAct, TextAct, RegRectAct, RegPairAct, RegClearAct, CreateAct, OpenAct, InFrontAct, BoxAct, WhichAct, BlitAct, EndRefreshAct, layers_of}
 use Rattle.lw_grammar.specs.Told.{place_among, spelled_call}
 use Rattle.lw_grammar.specs.Script.{is_arranging, is_beginning, is_ending, are_all, is_on_one}
 use Rattle.lw_grammar.proofs.ScriptNames.{equal_names}
@@ -18,25 +25,47 @@ use Rattle.std.proofs.lemmas.List.{take_all, take-append-le, drop-append-le}
 
 -- an act begins an update, or ends one, just where its call does
 pub begins_so : (bitmaps : List (List ℕ)) (act : Act) (slots : List ℕ) → begins_update (spelled_call bitmaps act slots) ≡ is_beginning act
-begins_so bitmaps RefreshAct slots = refl
+begins_so bitmaps (BareAct RefreshVerb) slots = refl
+begins_so bitmaps (NumberAct APenVerb z) slots = refl
+begins_so bitmaps (PairAct MoveVerb x y) slots = refl
+begins_so bitmaps (TextAct TextOf text) slots = refl
 begins_so bitmaps act slots = refl
 
 pub ends_so : (bitmaps : List (List ℕ)) (act : Act) (slots : List ℕ) → ends_update (spelled_call bitmaps act slots) ≡ is_ending act
 ends_so bitmaps (EndRefreshAct full) slots = refl
+ends_so bitmaps (BareAct RefreshVerb) slots = refl
+ends_so bitmaps (NumberAct APenVerb z) slots = refl
+ends_so bitmaps (PairAct MoveVerb x y) slots = refl
+ends_so bitmaps (TextAct TextOf text) slots = refl
 ends_so bitmaps act slots = refl
+
+-- an act of these kinds does neither
+pub number_plain : (verb : NumberVerb) (z : ℤ) → (is_beginning (NumberAct verb z) ≡ false) × (is_ending (NumberAct verb z) ≡ false)
+number_plain APenVerb z = (refl, refl)
+number_plain verb z = (refl, refl)
+
+pub pair_plain : (verb : PairVerb) (x y : ℤ) → (is_beginning (PairAct verb x y) ≡ false) × (is_ending (PairAct verb x y) ≡ false)
+pair_plain MoveVerb x y = (refl, refl)
+pair_plain verb x y = (refl, refl)
+
+pub text_plain : (verb : TextVerb) (text : List ℕ) → (is_beginning (TextAct verb text) ≡ false) × (is_ending (TextAct verb text) ≡ false)
+text_plain TextOf text = (refl, refl)
+text_plain verb text = (refl, refl)
 
 -- the call of an arrangement touches all layers
 pub arranges : (bitmaps : List (List ℕ)) (act : Act) (slots : List ℕ) → is_arranging act ≡ true → is_all (slots_of (spelled_call bitmaps act slots)) ≡ true
 arranges bitmaps (CreateAct a) slots h = refl
 arranges bitmaps (OpenAct a framed nocare classes title) slots h = refl
-arranges bitmaps CloseAct slots h = refl
-arranges bitmaps FrontAct slots h = refl
-arranges bitmaps BehindAct slots h = refl
+arranges bitmaps (BareAct CloseVerb) slots h = refl
+arranges bitmaps (BareAct FrontVerb) slots h = refl
+arranges bitmaps (BareAct BehindVerb) slots h = refl
 arranges bitmaps InFrontAct slots h = refl
-arranges bitmaps (MoveAct dx dy) slots h = refl
-arranges bitmaps (SizeAct dw dh) slots h = refl
-arranges bitmaps (BoxAct x y w h') slots h = refl
-arranges bitmaps ActivateAct slots h = refl
+arranges bitmaps (PairAct MoveVerb dx dy) slots h = refl
+arranges bitmaps (PairAct SizeVerb dw dh) slots h = refl
+arranges bitmaps (BoxAct r) slots h = refl
+arranges bitmaps (BareAct ActivateVerb) slots h = refl
+arranges bitmaps (NumberAct APenVerb z) slots h = absurd (false≢true h)
+arranges bitmaps (TextAct TextOf text) slots h = absurd (false≢true h)
 arranges bitmaps act slots h = absurd (false≢true h)
 
 -- a call that names layers, all of them in slot s, and is no arrangement touches that slot alone
@@ -47,14 +76,14 @@ touches_one bitmaps (RegClearAct r) slots s h k e = absurd (omega arith)
 touches_one bitmaps (WhichAct x y) slots s h k e = absurd (omega arith)
 touches_one bitmaps (CreateAct a) slots s h k e = absurd (true≢false h)
 touches_one bitmaps (OpenAct a framed nocare classes title) slots s h k e = absurd (true≢false h)
-touches_one bitmaps CloseAct slots s h k e = absurd (true≢false h)
-touches_one bitmaps FrontAct slots s h k e = absurd (true≢false h)
-touches_one bitmaps BehindAct slots s h k e = absurd (true≢false h)
+touches_one bitmaps (BareAct CloseVerb) slots s h k e = absurd (true≢false h)
+touches_one bitmaps (BareAct FrontVerb) slots s h k e = absurd (true≢false h)
+touches_one bitmaps (BareAct BehindVerb) slots s h k e = absurd (true≢false h)
 touches_one bitmaps InFrontAct slots s h k e = absurd (true≢false h)
-touches_one bitmaps (MoveAct dx dy) slots s h k e = absurd (true≢false h)
-touches_one bitmaps (SizeAct dw dh) slots s h k e = absurd (true≢false h)
-touches_one bitmaps (BoxAct x y w h') slots s h k e = absurd (true≢false h)
-touches_one bitmaps ActivateAct slots s h k e = absurd (true≢false h)
+touches_one bitmaps (PairAct MoveVerb dx dy) slots s h k e = absurd (true≢false h)
+touches_one bitmaps (PairAct SizeVerb dw dh) slots s h k e = absurd (true≢false h)
+touches_one bitmaps (BoxAct r) slots s h k e = absurd (true≢false h)
+touches_one bitmaps (BareAct ActivateVerb) slots s h k e = absurd (true≢false h)
 touches_one bitmaps (BlitAct b) slots s h k e =
     let first = e 0 (omega arith) in
     let second = e 1 (omega arith) in
@@ -63,6 +92,8 @@ touches_one bitmaps (BlitAct b) slots s h k e =
     step : (t : Bool) → t ≡ true → (slice_index slots 1 == s) ≡ true → is_one s (slots_in (blit_class t (slice_index slots 0) (slice_index slots 1))) ≡ true
     step true e d = d
     step false e d = absurd (false≢true e)
+touches_one bitmaps (NumberAct APenVerb z) slots s h k e = eq-eqb _ s (e 0 (omega arith))
+touches_one bitmaps (TextAct TextOf text) slots s h k e = eq-eqb _ s (e 0 (omega arith))
 touches_one bitmaps act slots s h k e = eq-eqb _ s (e 0 (omega arith))
 
 -- layers that are all this one have its slot

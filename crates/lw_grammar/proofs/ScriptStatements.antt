@@ -4,21 +4,25 @@ use Rattle.std.specs.Result.{IfOk}
 use Rattle.lw_region.specs.Rectangle.{Rectangle}
 use Rattle.lw_planes.specs.Bitmap.{row_bytes}
 use Rattle.lw_calls.specs.declared.operation.RectOp.{RectOp}
-use Rattle.lw_calls.specs.declared.operation.RectOp.TheVariants.{Or as OrR, And as AndR, Xor as XorR, Clear as ClearR}
 use Rattle.lw_calls.specs.declared.operation.PairOp.{PairOp}
-use Rattle.lw_calls.specs.declared.operation.PairOp.TheVariants.{Or as OrP, And as AndP, Xor as XorP}
 use Rattle.lw_calls.specs.declared.make.Kind.{Kind}
 use Rattle.lw_calls.specs.declared.make.Kind.TheVariants.{Simple, Smart, SuperBitmap}
 use Rattle.lw_calls.specs.declared.make.Place.{Place}
 use Rattle.lw_calls.specs.declared.form.Form.{Form}
 use Rattle.lw_calls.specs.declared.reason.Reason.{Reason}
 use Rattle.lw_calls.specs.declared.reason.Reason.TheVariants.{UnknownWord, Misplaced, Form as FormReason}
+use Rattle.lw_grammar.specs.declared.verb.PartVerb.{PartVerb}
+use Rattle.lw_grammar.specs.declared.verb.PartVerb.TheVariants.{Screen as ScreenVerb, Glyph as GlyphVerb, Bitmap as BitmapVerb, Task as TaskVerb, End as EndVerb, Order as OrderVerb, Report as ReportVerb, Lock as LockVerb, Unlock as UnlockVerb, Hold as HoldVerb, Release as ReleaseVerb}
+use Rattle.lw_grammar.specs.declared.verb.BareVerb.{BareVerb}
+use Rattle.lw_grammar.specs.declared.verb.NumberVerb.{NumberVerb}
+use Rattle.lw_grammar.specs.declared.verb.PairVerb.{PairVerb}
+use Rattle.lw_grammar.specs.declared.verb.TextVerb.{TextVerb}
 use Rattle.lw_grammar.specs.declared.verb.Verb.{Verb}
-use Rattle.lw_grammar.specs.declared.verb.Verb.TheVariants.{Screen as ScreenVerb, Glyph as GlyphVerb, Bitmap as BitmapVerb, Task as TaskVerb, End as EndVerb, Order as OrderVerb, Report as ReportVerb, Lock as LockVerb, Unlock as UnlockVerb, Hold as HoldVerb, Release as ReleaseVerb, OrRect as OrRectVerb, AndRect as AndRectVerb, XorRect as XorRectVerb, ClearRect as ClearRectVerb, OrRegion as OrRegionVerb, AndRegion as AndRegionVerb, XorRegion as XorRegionVerb, ClearRegion as ClearRegionVerb, Create as CreateVerb, Open as OpenVerb, Close as CloseVerb, Front as FrontVerb, Behind as BehindVerb, InFront as InFrontVerb, Move as MoveVerb, Size as SizeVerb, Box as BoxVerb, Activate as ActivateVerb, Which as WhichVerb, APen as APenVerb, BPen as BPenVerb, Mode as ModeVerb, Mask as MaskVerb, At as AtVerb, Write as WriteVerb, Read as ReadVerb, Fill as FillVerb, Draw as DrawVerb, Text as TextVerb, SetRast as SetRastVerb, ScrollRaster as ScrollRasterVerb, Put as PutVerb, Blit as BlitVerb, Clip as ClipVerb, Unclip as UnclipVerb, Refresh as RefreshVerb, EndRefresh as EndRefreshVerb, Scroll as ScrollVerb, Title as TitleVerb, GetMsg as GetMsgVerb}
+use Rattle.lw_grammar.specs.declared.verb.Verb.TheVariants.{Part, Bare, Number, Pair, Text, Rect, Region, ClearRegion, Create, Open, InFront, Box, Which, Fill, ScrollRaster, Put, Blit, EndRefresh}
 use Rattle.lw_calls.specs.Limits.{is_minterm}
 use Rattle.lw_calls.specs.Kinds.{is_super}
 use Rattle.lw_grammar.specs.Tokens.{Token, NameToken, NumberToken, TextToken, OddToken, token_of, is_hex, hex_value, hex_bytes, spelled_bytes, bytes_in}
-use Rattle.lw_grammar.specs.Statements.{layers_of, AskedLayer, Act, RegRectAct, RegPairAct, RegClearAct, CreateAct, OpenAct, CloseAct, FrontAct, BehindAct, InFrontAct, ActivateAct, WhichAct, ScrollRasterAct, PutAct, BlitAct, UnclipAct, RefreshAct, EndRefreshAct, GetMsgAct, Statement, ScreenLine, GlyphLine, BitmapLine, RowLine, TaskLine, EndLine, OrderLine, NumbersLine, ReportLine, CallLine, LockLine, UnlockLine, HoldLine, ReleaseLine, four, screen_line, glyph_of_bytes, glyph_line, bitmap_line, row_line, all_numbers, numbers_limit, numbers_line, name_line, bare_line, layer_line, number_line, pair_line, text_line, rect_line, region_line, clear_line, which_line, infront_line, four_line, scrollraster_line, minterm_of, put_line, blit_line, endrefresh_line, kind_of, place_of, flag, hook_option, message_class_of, classes_from, asked_classes, ask_option, at_end, create_super, create_kind, titled_line, open_super, open_kind, asked_line, statement_by}
+use Rattle.lw_grammar.specs.Statements.{layers_of, AskedLayer, Act, BareAct, NumberAct, PairAct, TextAct, RegRectAct, RegPairAct, RegClearAct, CreateAct, OpenAct, InFrontAct, BoxAct, WhichAct, FillAct, ScrollRasterAct, PutAct, BlitAct, EndRefreshAct, Statement, ScreenLine, GlyphLine, BitmapLine, RowLine, TaskLine, EndLine, OrderLine, NumbersLine, ReportLine, CallLine, LockLine, UnlockLine, HoldLine, ReleaseLine, four, screen_line, glyph_of_bytes, glyph_line, bitmap_line, row_line, all_numbers, numbers_limit, numbers_line, name_line, bare_line, part_line, layer_line, number_line, pair_line, text_line, rect_line, region_line, clear_line, which_line, infront_line, four_line, scrollraster_line, minterm_of, blit_end, blit_area, put_line, blit_line, endrefresh_line, kind_of, place_of, flag, hook_option, message_class_of, classes_from, asked_classes, ask_option, at_end, create_super, create_kind, titled_line, open_super, open_kind, asked_line, statement_by}
 use Rattle.lw_grammar.specs.Told.{Section, told}
 use Rattle.lw_grammar.specs.Script.{Setting, is_screen_due, are_assets_due, are_calls_due, are_tasks_due, are_numbers_due, is_ordered, is_audited, belongs_in, verb_on, after_verb, verb_read, statement_read}
 use Rattle.lw_grammar.specs.Demands.{◌>>=◌, demand}
@@ -90,6 +94,11 @@ pub map_has : {A B : Type 0} (Q : A → Type 0) (P : B → Type 0) (g : A → B)
 map_has Q P g None q h = tt
 map_has Q P g (Some a) q h = h a q
 
+-- the same of what is made of this in turn
+pub twice_has : {A B C : Type 0} (Q : A → Type 0) (P : C → Type 0) (f : B → C) (g : A → B) (o : Option A) → IfSome o Q → ((a : A) → Q a → P (f (g a))) → IfSome (option_map f (option_map g o)) P
+twice_has Q P f g None q h = tt
+twice_has Q P f g (Some a) q h = h a q
+
 -- a hexadecimal digit counts at most 15
 pub hex_small : (b : ℕ) → is_hex b ≡ true → hex_value b ≤ 15
 hex_small b h = grind (arith, nat_tests)
@@ -151,6 +160,12 @@ minterm_made (Some (m ∷ [])) h = step (m % 16 == 0) refl
     step true e = and_from (nat_le m 255) (m % 16 == 0) (le-leb m 255 h.1.0) e
     step false e = tt
 minterm_made (Some (m ∷ n ∷ ms)) h = tt
+
+-- what ends a blit's line has one
+end_minterm : (ts : List Token) → IfSome (blit_end ts) (λ end. is_minterm end.1 ≡ true)
+end_minterm (NumberToken a x ∷ NumberToken b y ∷ NumberToken c w ∷ NumberToken d h ∷ mm ∷ []) =
+    map_has (λ m. is_minterm m ≡ true) (λ (end : Rectangle × ℕ). is_minterm end.1 ≡ true) _ (minterm_of (bytes_in 1 mm)) (minterm_made (bytes_in 1 mm) (token_spelled 1 mm)) (λ m k. k)
+end_minterm _ = tt
 
 -- the least power that a class from this one on adds
 class_step : (least k rest : ℕ) → least ≤ k → rest + 2 ^ (k + 1) ≤ 32 → (2 ^ k + rest) + 2 ^ least ≤ 32
@@ -234,30 +249,44 @@ module _ (form : Form) (s : Section) where
   bare_made f stands h [] = h
   bare_made f stands h _ = tt
 
+  -- a line that parts a script or a task
+  part_made : (verb : PartVerb) (ts : List Token) → IfSome (part_line verb ts) (IsVerbStatement form s (belongs_in form s (Part verb)))
+  part_made ScreenVerb ts = screen_made ts
+  part_made GlyphVerb ts = glyph_made ts
+  part_made BitmapVerb ts = bitmap_made ts
+  part_made TaskVerb ts = name_made _ _ (λ n. belongs_so form s (TaskLine n) tt) ts
+  part_made EndVerb ts = bare_made EndLine _ (belongs_so form s EndLine tt) ts
+  part_made OrderVerb ts = bare_made OrderLine _ (belongs_so form s OrderLine tt) ts
+  part_made ReportVerb ts = bare_made ReportLine _ (belongs_so form s ReportLine tt) ts
+  part_made LockVerb ts = name_made _ _ (λ n. belongs_so form s (LockLine n) tt) ts
+  part_made UnlockVerb ts = name_made _ _ (λ n. belongs_so form s (UnlockLine n) tt) ts
+  part_made HoldVerb ts = bare_made HoldLine _ (belongs_so form s HoldLine tt) ts
+  part_made ReleaseVerb ts = bare_made ReleaseLine _ (belongs_so form s ReleaseLine tt) ts
+
   -- a verb with a layer
-  layer_made : (act : Act) → 1 ≡ layers_of act → IsActMade act → (ts : List Token) → IfSome (layer_line act ts) (IsVerbStatement form s (are_calls_due s))
-  layer_made act n h (NameToken l ∷ []) = call_so form s (l ∷ []) act n h
-  layer_made act n h _ = tt
+  layer_made : (verb : BareVerb) (ts : List Token) → IfSome (layer_line verb ts) (IsVerbStatement form s (are_calls_due s))
+  layer_made verb (NameToken l ∷ []) = call_so form s (l ∷ []) (BareAct verb) refl tt
+  layer_made verb _ = tt
 
   -- a verb with a layer and a number
-  number_made : (act : ℤ → Act) → ((z : ℤ) → 1 ≡ layers_of (act z)) → ((z : ℤ) → IsActMade (act z)) → (ts : List Token) → IfSome (number_line act ts) (IsVerbStatement form s (are_calls_due s))
-  number_made act n h (NameToken l ∷ NumberToken a z ∷ []) = call_so form s (l ∷ []) (act z) (n z) (h z)
-  number_made act n h _ = tt
+  number_made : (verb : NumberVerb) (ts : List Token) → IfSome (number_line verb ts) (IsVerbStatement form s (are_calls_due s))
+  number_made verb (NameToken l ∷ NumberToken a z ∷ []) = call_so form s (l ∷ []) (NumberAct verb z) refl tt
+  number_made verb _ = tt
 
   -- a verb with a layer and two numbers
-  pair_made : (act : ℤ → ℤ → Act) → ((x y : ℤ) → 1 ≡ layers_of (act x y)) → ((x y : ℤ) → IsActMade (act x y)) → (ts : List Token) → IfSome (pair_line act ts) (IsVerbStatement form s (are_calls_due s))
-  pair_made act n h (NameToken l ∷ NumberToken a x ∷ NumberToken b y ∷ []) = call_so form s (l ∷ []) (act x y) (n x y) (h x y)
-  pair_made act n h _ = tt
+  pair_made : (verb : PairVerb) (ts : List Token) → IfSome (pair_line verb ts) (IsVerbStatement form s (are_calls_due s))
+  pair_made verb (NameToken l ∷ NumberToken a x ∷ NumberToken b y ∷ []) = call_so form s (l ∷ []) (PairAct verb x y) refl tt
+  pair_made verb _ = tt
 
   -- a verb with a layer and a text
-  text_made : (act : List ℕ → Act) → ((t : List ℕ) → 1 ≡ layers_of (act t)) → ((t : List ℕ) → IsActMade (act t)) → (ts : List Token) → IfSome (text_line act ts) (IsVerbStatement form s (are_calls_due s))
-  text_made act n h (NameToken l ∷ TextToken text ∷ []) = call_so form s (l ∷ []) (act text) (n text) (h text)
-  text_made act n h _ = tt
+  text_made : (verb : TextVerb) (ts : List Token) → IfSome (text_line verb ts) (IsVerbStatement form s (are_calls_due s))
+  text_made verb (NameToken l ∷ TextToken text ∷ []) = call_so form s (l ∷ []) (TextAct verb text) refl tt
+  text_made verb _ = tt
 
   -- a verb with a layer and four numbers
-  four_made : (act : ℤ → ℤ → ℤ → ℤ → Act) → ((x y z w : ℤ) → 1 ≡ layers_of (act x y z w)) → ((x y z w : ℤ) → IsActMade (act x y z w)) → (ts : List Token) → IfSome (four_line act ts) (IsVerbStatement form s (are_calls_due s))
+  four_made : (act : Rectangle → Act) → ((r : Rectangle) → 1 ≡ layers_of (act r)) → ((r : Rectangle) → IsActMade (act r)) → (ts : List Token) → IfSome (four_line act ts) (IsVerbStatement form s (are_calls_due s))
   four_made act n h (NameToken l ∷ NumberToken a x ∷ NumberToken b y ∷ NumberToken c w ∷ NumberToken d z ∷ []) =
-      call_so form s (l ∷ []) (act x y w z) (n x y w z) (h x y w z)
+      call_so form s (l ∷ []) (act (four x y w z)) (n (four x y w z)) (h (four x y w z))
   four_made act n h _ = tt
 
   -- orrect R X0 Y0 X1 Y1, and its kin
@@ -294,14 +323,14 @@ module _ (form : Form) (s : Section) where
 
   -- put BM SX SY L X Y W H MM
   put_made : (ts : List Token) → IfSome (put_line ts) (IsVerbStatement form s (are_calls_due s))
-  put_made (NameToken bm ∷ NumberToken a sx ∷ NumberToken b sy ∷ NameToken l ∷ NumberToken c x ∷ NumberToken d y ∷ NumberToken e w ∷ NumberToken f h ∷ mm ∷ []) =
-      map_has (λ m. is_minterm m ≡ true) (IsVerbStatement form s (are_calls_due s)) _ (minterm_of (bytes_in 1 mm)) (minterm_made (bytes_in 1 mm) (token_spelled 1 mm)) (λ m k. call_so form s (l ∷ []) (PutAct bm (record { sx = sx; sy = sy; x = x; y = y; w = w; h = h; minterm = m })) refl k)
+  put_made (NameToken bm ∷ NumberToken a sx ∷ NumberToken b sy ∷ NameToken l ∷ ts) =
+      map_has (λ end. is_minterm end.1 ≡ true) (IsVerbStatement form s (are_calls_due s)) _ (blit_end ts) (end_minterm ts) (λ end k. call_so form s (l ∷ []) (PutAct bm (blit_area sx sy end.0 end.1)) refl k)
   put_made _ = tt
 
   -- blit L SX SY M X Y W H MM
   blit_made : (ts : List Token) → IfSome (blit_line ts) (IsVerbStatement form s (are_calls_due s))
-  blit_made (NameToken l ∷ NumberToken a sx ∷ NumberToken b sy ∷ NameToken m ∷ NumberToken c x ∷ NumberToken d y ∷ NumberToken e w ∷ NumberToken f h ∷ mm ∷ []) =
-      map_has (λ m. is_minterm m ≡ true) (IsVerbStatement form s (are_calls_due s)) _ (minterm_of (bytes_in 1 mm)) (minterm_made (bytes_in 1 mm) (token_spelled 1 mm)) (λ n k. call_so form s (l ∷ m ∷ []) (BlitAct (record { sx = sx; sy = sy; x = x; y = y; w = w; h = h; minterm = n })) refl k)
+  blit_made (NameToken l ∷ NumberToken a sx ∷ NumberToken b sy ∷ NameToken m ∷ ts) =
+      map_has (λ end. is_minterm end.1 ≡ true) (IsVerbStatement form s (are_calls_due s)) _ (blit_end ts) (end_minterm ts) (λ end k. call_so form s (l ∷ m ∷ []) (BlitAct (blit_area sx sy end.0 end.1)) refl k)
   blit_made _ = tt
 
   -- endrefresh L full, endrefresh L part
@@ -349,57 +378,24 @@ module _ (form : Form) (s : Section) where
 
 -- so it is for each verb
 verb_made : (form : Form) (s : Section) (verb : Verb) (ts : List Token) → IfSome (statement_by verb ts) (IsVerbStatement form s (belongs_in form s verb))
-verb_made form s ScreenVerb ts = screen_made form s ts
-verb_made form s GlyphVerb ts = glyph_made form s ts
-verb_made form s BitmapVerb ts = bitmap_made form s ts
-verb_made form s TaskVerb ts = name_made form s _ _ (λ n. belongs_so form s (TaskLine n) tt) ts
-verb_made form s EndVerb ts = bare_made form s EndLine _ (belongs_so form s EndLine tt) ts
-verb_made form s OrderVerb ts = bare_made form s OrderLine _ (belongs_so form s OrderLine tt) ts
-verb_made form s ReportVerb ts = bare_made form s ReportLine _ (belongs_so form s ReportLine tt) ts
-verb_made form s LockVerb ts = name_made form s _ _ (λ n. belongs_so form s (LockLine n) tt) ts
-verb_made form s UnlockVerb ts = name_made form s _ _ (λ n. belongs_so form s (UnlockLine n) tt) ts
-verb_made form s HoldVerb ts = bare_made form s HoldLine _ (belongs_so form s HoldLine tt) ts
-verb_made form s ReleaseVerb ts = bare_made form s ReleaseLine _ (belongs_so form s ReleaseLine tt) ts
-verb_made form s OrRectVerb ts = rect_made form s OrR ts
-verb_made form s AndRectVerb ts = rect_made form s AndR ts
-verb_made form s XorRectVerb ts = rect_made form s XorR ts
-verb_made form s ClearRectVerb ts = rect_made form s ClearR ts
-verb_made form s OrRegionVerb ts = region_made form s OrP ts
-verb_made form s AndRegionVerb ts = region_made form s AndP ts
-verb_made form s XorRegionVerb ts = region_made form s XorP ts
-verb_made form s ClearRegionVerb ts = clear_made form s ts
-verb_made form s CreateVerb ts = asked_made form s create_kind (create_made form s) ts
-verb_made form s OpenVerb ts = asked_made form s open_kind (open_made form s) ts
-verb_made form s CloseVerb ts = layer_made form s CloseAct refl tt ts
-verb_made form s FrontVerb ts = layer_made form s FrontAct refl tt ts
-verb_made form s BehindVerb ts = layer_made form s BehindAct refl tt ts
-verb_made form s InFrontVerb ts = infront_made form s ts
-verb_made form s MoveVerb ts = pair_made form s _ (λ x y. refl) (λ x y. tt) ts
-verb_made form s SizeVerb ts = pair_made form s _ (λ x y. refl) (λ x y. tt) ts
-verb_made form s BoxVerb ts = four_made form s _ (λ x y w h. refl) (λ x y w h. tt) ts
-verb_made form s ActivateVerb ts = layer_made form s ActivateAct refl tt ts
-verb_made form s WhichVerb ts = which_made form s ts
-verb_made form s APenVerb ts = number_made form s _ (λ z. refl) (λ z. tt) ts
-verb_made form s BPenVerb ts = number_made form s _ (λ z. refl) (λ z. tt) ts
-verb_made form s ModeVerb ts = number_made form s _ (λ z. refl) (λ z. tt) ts
-verb_made form s MaskVerb ts = number_made form s _ (λ z. refl) (λ z. tt) ts
-verb_made form s AtVerb ts = pair_made form s _ (λ x y. refl) (λ x y. tt) ts
-verb_made form s WriteVerb ts = pair_made form s _ (λ x y. refl) (λ x y. tt) ts
-verb_made form s ReadVerb ts = pair_made form s _ (λ x y. refl) (λ x y. tt) ts
-verb_made form s FillVerb ts = four_made form s _ (λ x y w h. refl) (λ x y w h. tt) ts
-verb_made form s DrawVerb ts = pair_made form s _ (λ x y. refl) (λ x y. tt) ts
-verb_made form s TextVerb ts = text_made form s _ (λ t. refl) (λ t. tt) ts
-verb_made form s SetRastVerb ts = number_made form s _ (λ z. refl) (λ z. tt) ts
-verb_made form s ScrollRasterVerb ts = scrollraster_made form s ts
-verb_made form s PutVerb ts = put_made form s ts
-verb_made form s BlitVerb ts = blit_made form s ts
-verb_made form s ClipVerb ts = number_made form s _ (λ z. refl) (λ z. tt) ts
-verb_made form s UnclipVerb ts = layer_made form s UnclipAct refl tt ts
-verb_made form s RefreshVerb ts = layer_made form s RefreshAct refl tt ts
-verb_made form s EndRefreshVerb ts = endrefresh_made form s ts
-verb_made form s ScrollVerb ts = pair_made form s _ (λ x y. refl) (λ x y. tt) ts
-verb_made form s TitleVerb ts = text_made form s _ (λ t. refl) (λ t. tt) ts
-verb_made form s GetMsgVerb ts = layer_made form s GetMsgAct refl tt ts
+verb_made form s (Part verb) ts = part_made form s verb ts
+verb_made form s (Bare verb) ts = layer_made form s verb ts
+verb_made form s (Number verb) ts = number_made form s verb ts
+verb_made form s (Pair verb) ts = pair_made form s verb ts
+verb_made form s (Text verb) ts = text_made form s verb ts
+verb_made form s (Rect op) ts = rect_made form s op ts
+verb_made form s (Region op) ts = region_made form s op ts
+verb_made form s ClearRegion ts = clear_made form s ts
+verb_made form s Create ts = asked_made form s create_kind (create_made form s) ts
+verb_made form s Open ts = asked_made form s open_kind (open_made form s) ts
+verb_made form s InFront ts = infront_made form s ts
+verb_made form s Box ts = four_made form s (λ r. BoxAct r) (λ r. refl) (λ r. tt) ts
+verb_made form s Which ts = which_made form s ts
+verb_made form s Fill ts = four_made form s (λ r. FillAct r) (λ r. refl) (λ r. tt) ts
+verb_made form s ScrollRaster ts = scrollraster_made form s ts
+verb_made form s Put ts = put_made form s ts
+verb_made form s Blit ts = blit_made form s ts
+verb_made form s EndRefresh ts = endrefresh_made form s ts
 
 -- What a line with this statement was good for, below lines with these statements.
 abbrev pub IsStatementHere : Setting → List Statement → Statement → Type 0

@@ -9,12 +9,13 @@ use Rattle.lw_calls.specs.declared.group.Group.{Group}
 use Rattle.lw_calls.specs.Limits.{call_limit, call_fits}
 use Rattle.lw_calls.specs.Touches.{slots_of}
 use Rattle.lw_calls.specs.Plan.{is_one, is_all, begins_update, ends_update, may_be_locked, hold_allows, group_fits, groups_fit}
-use Rattle.lw_grammar.specs.Statements.{Act, RefreshAct, EndRefreshAct, Statement, ScreenLine, BitmapLine, TaskLine, EndLine, OrderLine, ReportLine, CallLine, LockLine, UnlockLine, HoldLine, ReleaseLine, layers_of}
+use Rattle.lw_grammar.specs.declared.verb.BareVerb.TheVariants.{Refresh as RefreshVerb}
+use Rattle.lw_grammar.specs.Statements.{Act, BareAct, NumberAct, PairAct, TextAct, EndRefreshAct, Statement, ScreenLine, BitmapLine, TaskLine, EndLine, OrderLine, ReportLine, CallLine, LockLine, UnlockLine, HoldLine, ReleaseLine, layers_of}
 use Rattle.lw_grammar.specs.Told.{Section, ScreenIsDue, AssetsAreDue, CallsAreDue, TasksAreDue, NumbersAreDue, NothingIsDue, OpenGroup, Locked, Updating, Held, and_names, place_among, onto_last, spelled_call, call_below, hook_on, left_open_by, group_from, told}
 use Rattle.lw_grammar.specs.Script.{Setting, is_screen_due, are_assets_due, are_calls_due, are_tasks_due, is_beginning, is_ending, is_on_one, group_allows, is_lock_on, is_hold, is_no_hook, AreGoodLines}
 use Rattle.lw_grammar.proofs.ScriptNames.{equal_names, names_grow, any_kept, place_kept, all_named, places_below}
 use Rattle.lw_grammar.proofs.ScriptCalls.{act_fits}
-use Rattle.lw_grammar.proofs.ScriptGroups.{begins_so, ends_so, arranges, on_one, EndBefore, end_later, end_pushed, groups_kept, groups_pushed, to_the_end, all_pushed, update_stands, locked_stands, drop_pushed}
+use Rattle.lw_grammar.proofs.ScriptGroups.{begins_so, ends_so, number_plain, pair_plain, text_plain, arranges, on_one, EndBefore, end_later, end_pushed, groups_kept, groups_pushed, to_the_end, all_pushed, update_stands, locked_stands, drop_pushed}
 use Rattle.lw_grammar.proofs.ScriptSizes.{here, tests, counted, has_begun, in_calls, in_tasks}
 use Rattle.std.proofs.lemmas.Bool.{true≢false, false≢true, eq-eqb, and_parts, and_from}
 use Rattle.std.proofs.lemmas.List.{drop_all, drop_at}
@@ -240,9 +241,9 @@ task_grouped z calls groups g before fits h =
 
 -- what a line that is no beginning and no end leaves of groups
 pub plain_groups : (above : List Statement) (layers : List (List ℕ)) (act : Act) → is_beginning act ≡ false → is_ending act ≡ false → ((told (CallLine layers act ∷ above)).groups ≡ (told above).groups) × (left_open_by layers act (told above).group ≡ (told above).group) × ((told (CallLine layers act ∷ above)).began ≡ (told above).began)
-plain_groups above [] RefreshAct b e = absurd (true≢false b)
-plain_groups above (l ∷ []) RefreshAct b e = absurd (true≢false b)
-plain_groups above (l ∷ m ∷ ms) RefreshAct b e = absurd (true≢false b)
+plain_groups above [] (BareAct RefreshVerb) b e = absurd (true≢false b)
+plain_groups above (l ∷ []) (BareAct RefreshVerb) b e = absurd (true≢false b)
+plain_groups above (l ∷ m ∷ ms) (BareAct RefreshVerb) b e = absurd (true≢false b)
 plain_groups above [] (EndRefreshAct full) b e = absurd (true≢false e)
 plain_groups above (l ∷ []) (EndRefreshAct full) b e = absurd (true≢false e)
 plain_groups above (l ∷ m ∷ ms) (EndRefreshAct full) b e = absurd (true≢false e)
@@ -300,10 +301,10 @@ module _ (z : Sizes) (s : Setting) (above : List Statement) (layers : List (List
       with_call b b.groups (e.0 ∙ b.groups_are) (call_fits_now b.calls b.groups b.now.long b.now.fits) (subst P (sym e.1) (subst Q (sym e.2) plain))
 
 -- an update begins where no group is open
-pub opens_none : (o : Option OpenGroup) (l : List ℕ) → group_allows o (l ∷ []) RefreshAct ≡ true → o ≡ None
+pub opens_none : (o : Option OpenGroup) (l : List ℕ) → group_allows o (l ∷ []) (BareAct RefreshVerb) ≡ true → o ≡ None
 opens_none None l h = refl
-opens_none (Some (Locked m)) l h = absurd (false≢true (and_parts (is_on_one m (l ∷ []) RefreshAct) _ h).1)
-opens_none (Some (Updating m)) l h = absurd (false≢true (and_parts (is_on_one m (l ∷ []) RefreshAct) _ h).1)
+opens_none (Some (Locked m)) l h = absurd (false≢true (and_parts (is_on_one m (l ∷ []) (BareAct RefreshVerb)) _ h).1)
+opens_none (Some (Updating m)) l h = absurd (false≢true (and_parts (is_on_one m (l ∷ []) (BareAct RefreshVerb)) _ h).1)
 opens_none (Some Held) l h = absurd (false≢true h)
 
 -- an update ends on its layer
@@ -322,18 +323,18 @@ update_whole slot [] c h k = absurd h
 update_whole slot (b ∷ cs) c h k = update_stands slot b cs c h.0 h.1 k
 
 -- an update begins
-refresh_call : (z : Sizes) (s : Setting) (above : List Statement) (l : List ℕ) → AreGoodLines s (CallLine (l ∷ []) RefreshAct ∷ above) → z.hooks ≡ s.hooks → length (told (CallLine (l ∷ []) RefreshAct ∷ above)).names ≤ z.slots → length (told above).bitmap_names ≤ z.bitmaps → HaveBegun z (view_of above) → HaveBegun z (view_of (CallLine (l ∷ []) RefreshAct ∷ above))
+refresh_call : (z : Sizes) (s : Setting) (above : List Statement) (l : List ℕ) → AreGoodLines s (CallLine (l ∷ []) (BareAct RefreshVerb) ∷ above) → z.hooks ≡ s.hooks → length (told (CallLine (l ∷ []) (BareAct RefreshVerb) ∷ above)).names ≤ z.slots → length (told above).bitmap_names ≤ z.bitmaps → HaveBegun z (view_of above) → HaveBegun z (view_of (CallLine (l ∷ []) (BareAct RefreshVerb) ∷ above))
 refresh_call z s above l g hooks slots bitmaps b =
-    let t = tests s above (CallLine (l ∷ []) RefreshAct) g in
+    let t = tests s above (CallLine (l ∷ []) (BareAct RefreshVerb)) g in
     let so_far : ℕ = (told above).so_far in
     let more : List (List ℕ) = and_names (told above).names (l ∷ []) in
-    let c : Call = call_below (told above) (l ∷ []) RefreshAct in
+    let c : Call = call_below (told above) (l ∷ []) (BareAct RefreshVerb) in
     let P : Option OpenGroup → Type 0 = λ o. OpenState o so_far (told above).began (told above).names b.calls b.groups in
     let before : EndBefore b.groups so_far = subst P (opens_none (told above).group l t.group) b.now.state in
     let Q : List Call → Type 0 = λ cs. IsUpdating (place_among more l) cs in
     let alone : drop so_far (b.calls ++ c ∷ []) ≡ c ∷ [] = drop_at b.calls (c ∷ []) so_far b.now.long in
     let begun : IsUpdating (place_among more l) (c ∷ []) = (and_from _ _ (eq-eqb (place_among more l) _ refl) refl, refl) in
-    with_call z s above (l ∷ []) RefreshAct g hooks slots bitmaps b b.groups b.groups_are (call_fits_now z s above (l ∷ []) RefreshAct g hooks slots bitmaps b.calls b.groups b.now.long b.now.fits)
+    with_call z s above (l ∷ []) (BareAct RefreshVerb) g hooks slots bitmaps b b.groups b.groups_are (call_fits_now z s above (l ∷ []) (BareAct RefreshVerb) g hooks slots bitmaps b.calls b.groups b.now.long b.now.fits)
     (record { before = before; order = omega arith }, (all_named (told above).names (l ∷ [])).0, subst Q (sym alone) begun)
 
 -- an update ends
@@ -359,12 +360,18 @@ endrefresh_call z s above l full g hooks slots bitmaps b =
 
 -- any call
 any_call : (z : Sizes) (s : Setting) (above : List Statement) (layers : List (List ℕ)) (act : Act) → AreGoodLines s (CallLine layers act ∷ above) → z.hooks ≡ s.hooks → length (told (CallLine layers act ∷ above)).names ≤ z.slots → length (told above).bitmap_names ≤ z.bitmaps → HaveBegun z (view_of above) → HaveBegun z (view_of (CallLine layers act ∷ above))
-any_call z s above [] RefreshAct g hooks slots bitmaps b = absurd (cc ((here s above (CallLine [] RefreshAct) g).2.0))
-any_call z s above (l ∷ []) RefreshAct g hooks slots bitmaps b = refresh_call z s above l g hooks slots bitmaps b
-any_call z s above (l ∷ m ∷ ms) RefreshAct g hooks slots bitmaps b = absurd (omega (arith, (here s above (CallLine (l ∷ m ∷ ms) RefreshAct) g).2.0))
+any_call z s above [] (BareAct RefreshVerb) g hooks slots bitmaps b = absurd (cc ((here s above (CallLine [] (BareAct RefreshVerb)) g).2.0))
+any_call z s above (l ∷ []) (BareAct RefreshVerb) g hooks slots bitmaps b = refresh_call z s above l g hooks slots bitmaps b
+any_call z s above (l ∷ m ∷ ms) (BareAct RefreshVerb) g hooks slots bitmaps b = absurd (omega (arith, (here s above (CallLine (l ∷ m ∷ ms) (BareAct RefreshVerb)) g).2.0))
 any_call z s above [] (EndRefreshAct full) g hooks slots bitmaps b = absurd (cc ((here s above (CallLine [] (EndRefreshAct full)) g).2.0))
 any_call z s above (l ∷ []) (EndRefreshAct full) g hooks slots bitmaps b = endrefresh_call z s above l full g hooks slots bitmaps b
 any_call z s above (l ∷ m ∷ ms) (EndRefreshAct full) g hooks slots bitmaps b = absurd (omega (arith, (here s above (CallLine (l ∷ m ∷ ms) (EndRefreshAct full)) g).2.0))
+any_call z s above layers (NumberAct verb n) g hooks slots bitmaps b =
+    let p = number_plain verb n in plain_call z s above layers (NumberAct verb n) g hooks slots bitmaps p.0 p.1 b
+any_call z s above layers (PairAct verb x y) g hooks slots bitmaps b =
+    let p = pair_plain verb x y in plain_call z s above layers (PairAct verb x y) g hooks slots bitmaps p.0 p.1 b
+any_call z s above layers (TextAct verb text) g hooks slots bitmaps b =
+    let p = text_plain verb text in plain_call z s above layers (TextAct verb text) g hooks slots bitmaps p.0 p.1 b
 any_call z s above layers act g hooks slots bitmaps b = plain_call z s above layers act g hooks slots bitmaps refl refl b
 
 -- the tasks with no further call, and these groups in the nearest one

@@ -9,7 +9,8 @@ use Rattle.lw_calls.specs.declared.form.Form.TheVariants.{Plain, Ordered, Audite
 use Rattle.lw_calls.specs.declared.reason.Reason.{Reason}
 use Rattle.lw_calls.specs.declared.reason.Reason.TheVariants.{LineTooLong, BadByte, UnknownWord, Misplaced, Form as FormReason, Range, NoName, DoubleName, Group, TooMany, NoHook, HookUsed, Padding, Missing}
 use Rattle.lw_grammar.specs.declared.verb.Verb.{Verb}
-use Rattle.lw_grammar.specs.declared.verb.Verb.TheVariants.{Screen as ScreenVerb, Glyph as GlyphVerb, Bitmap as BitmapVerb, Task as TaskVerb, Order as OrderVerb, Report as ReportVerb}
+use Rattle.lw_grammar.specs.declared.verb.Verb.TheVariants.{Part}
+use Rattle.lw_grammar.specs.declared.verb.PartVerb.TheVariants.{Screen as ScreenVerb, Glyph as GlyphVerb, Bitmap as BitmapVerb, Task as TaskVerb, Order as OrderVerb, Report as ReportVerb}
 use Rattle.lw_calls.specs.Limits.{name_limit, task_limit, bitmap_limit, call_limit}
 use Rattle.lw_calls.specs.Touches.{slots_of}
 use Rattle.lw_calls.specs.Plan.{Plan, IsPlan, is_all, begins_update, ends_update}
@@ -80,12 +81,12 @@ is_audited Audited = true
 
 -- Lines with this verb belong in this section of this input.
 abbrev pub belongs_in : Form → Section → Verb → Bool
-belongs_in form s ScreenVerb = is_screen_due s
-belongs_in form s GlyphVerb = are_assets_due s
-belongs_in form s BitmapVerb = are_assets_due s
-belongs_in form s TaskVerb = are_assets_due s || are_tasks_due s
-belongs_in form s OrderVerb = are_tasks_due s && is_ordered form
-belongs_in form s ReportVerb = are_tasks_due s && is_audited form
+belongs_in form s (Part ScreenVerb) = is_screen_due s
+belongs_in form s (Part GlyphVerb) = are_assets_due s
+belongs_in form s (Part BitmapVerb) = are_assets_due s
+belongs_in form s (Part TaskVerb) = are_assets_due s || are_tasks_due s
+belongs_in form s (Part OrderVerb) = are_tasks_due s && is_ordered form
+belongs_in form s (Part ReportVerb) = are_tasks_due s && is_audited form
 belongs_in form s verb = are_calls_due s
 
 -- the verb of a line's words

@@ -4,16 +4,21 @@ use Rattle.std.specs.List.{list_all}
 use Rattle.lw_region.specs.Rectangle.{Rectangle, within}
 use Rattle.lw_planes.specs.Bitmap.{row_bytes}
 use Rattle.lw_calls.specs.declared.operation.RectOp.{RectOp}
-use Rattle.lw_calls.specs.declared.operation.RectOp.TheVariants.{Or as OrR, And as AndR, Xor as XorR, Clear as ClearR}
 use Rattle.lw_calls.specs.declared.operation.PairOp.{PairOp}
-use Rattle.lw_calls.specs.declared.operation.PairOp.TheVariants.{Or as OrP, And as AndP, Xor as XorP}
 use Rattle.lw_calls.specs.declared.make.Kind.{Kind}
 use Rattle.lw_calls.specs.declared.make.Kind.TheVariants.{Simple, Smart, SuperBitmap}
 use Rattle.lw_calls.specs.declared.make.Place.{Place}
 use Rattle.lw_calls.specs.declared.make.Place.TheVariants.{Front, Behind}
 use Rattle.lw_calls.specs.declared.area.Area.{Area}
+use Rattle.lw_grammar.specs.declared.verb.PartVerb.{PartVerb}
+use Rattle.lw_grammar.specs.declared.verb.PartVerb.TheVariants.{Screen as ScreenVerb, Glyph as GlyphVerb, Bitmap as BitmapVerb, Task as TaskVerb, End as EndVerb, Order as OrderVerb, Report as ReportVerb, Lock as LockVerb, Unlock as UnlockVerb, Hold as HoldVerb, Release as ReleaseVerb}
+use Rattle.lw_grammar.specs.declared.verb.BareVerb.{BareVerb}
+use Rattle.lw_grammar.specs.declared.verb.NumberVerb.{NumberVerb}
+use Rattle.lw_grammar.specs.declared.verb.NumberVerb.TheVariants.{Mode as ModeVerb, Clip as ClipVerb}
+use Rattle.lw_grammar.specs.declared.verb.PairVerb.{PairVerb}
+use Rattle.lw_grammar.specs.declared.verb.TextVerb.{TextVerb}
 use Rattle.lw_grammar.specs.declared.verb.Verb.{Verb}
-use Rattle.lw_grammar.specs.declared.verb.Verb.TheVariants.{Screen as ScreenVerb, Glyph as GlyphVerb, Bitmap as BitmapVerb, Task as TaskVerb, End as EndVerb, Order as OrderVerb, Report as ReportVerb, Lock as LockVerb, Unlock as UnlockVerb, Hold as HoldVerb, Release as ReleaseVerb, OrRect as OrRectVerb, AndRect as AndRectVerb, XorRect as XorRectVerb, ClearRect as ClearRectVerb, OrRegion as OrRegionVerb, AndRegion as AndRegionVerb, XorRegion as XorRegionVerb, ClearRegion as ClearRegionVerb, Create as CreateVerb, Open as OpenVerb, Close as CloseVerb, Front as FrontVerb, Behind as BehindVerb, InFront as InFrontVerb, Move as MoveVerb, Size as SizeVerb, Box as BoxVerb, Activate as ActivateVerb, Which as WhichVerb, APen as APenVerb, BPen as BPenVerb, Mode as ModeVerb, Mask as MaskVerb, At as AtVerb, Write as WriteVerb, Read as ReadVerb, Fill as FillVerb, Draw as DrawVerb, Text as TextVerb, SetRast as SetRastVerb, ScrollRaster as ScrollRasterVerb, Put as PutVerb, Blit as BlitVerb, Clip as ClipVerb, Unclip as UnclipVerb, Refresh as RefreshVerb, EndRefresh as EndRefreshVerb, Scroll as ScrollVerb, Title as TitleVerb, GetMsg as GetMsgVerb}
+use Rattle.lw_grammar.specs.declared.verb.Verb.TheVariants.{Part, Bare, Number, Pair, Text, Rect, Region, ClearRegion, Create, Open, InFront, Box, Which, Fill, ScrollRaster, Put, Blit, EndRefresh}
 use Rattle.lw_calls.specs.Limits.{rect_fits, coordinates_fit, is_extent}
 use Rattle.lw_grammar.specs.Tokens.{Token, NameToken, NumberToken, TextToken, bytes_in}
 
@@ -31,41 +36,23 @@ pub record AskedLayer : Type 0 where
 
 -- What the line of a call asks for, without the layers that it names.
 pub data Act : Type 0 where
+  BareAct : BareVerb → Act
+  NumberAct : NumberVerb → ℤ → Act
+  PairAct : PairVerb → ℤ → ℤ → Act
+  TextAct : TextVerb → List ℕ → Act
   RegRectAct : RectOp → ℤ → Rectangle → Act
   RegPairAct : PairOp → ℤ → ℤ → Act
   RegClearAct : ℤ → Act
   CreateAct : AskedLayer → Act
   OpenAct : AskedLayer → Bool → Bool → ℕ → List ℕ → Act
-  CloseAct : Act
-  FrontAct : Act
-  BehindAct : Act
   InFrontAct : Act
-  MoveAct : ℤ → ℤ → Act
-  SizeAct : ℤ → ℤ → Act
-  BoxAct : ℤ → ℤ → ℤ → ℤ → Act
-  ActivateAct : Act
+  BoxAct : Rectangle → Act
   WhichAct : ℤ → ℤ → Act
-  APenAct : ℤ → Act
-  BPenAct : ℤ → Act
-  ModeAct : ℤ → Act
-  MaskAct : ℤ → Act
-  AtAct : ℤ → ℤ → Act
-  WriteAct : ℤ → ℤ → Act
-  ReadAct : ℤ → ℤ → Act
   FillAct : Rectangle → Act
-  DrawAct : ℤ → ℤ → Act
-  TextAct : List ℕ → Act
-  SetRastAct : ℤ → Act
   ScrollRasterAct : ℤ → ℤ → Rectangle → Act
   PutAct : List ℕ → Area → Act
   BlitAct : Area → Act
-  ClipAct : ℤ → Act
-  UnclipAct : Act
-  RefreshAct : Act
   EndRefreshAct : Bool → Act
-  ScrollAct : ℤ → ℤ → Act
-  TitleAct : List ℕ → Act
-  GetMsgAct : Act
 
 -- how many layers the line of a call names
 abbrev pub layers_of : Act → ℕ
@@ -99,6 +86,16 @@ pub data Statement : Type 0 where
 -- four numbers as the bounds of a rectangle, or in its place
 abbrev pub four : ℤ → ℤ → ℤ → ℤ → Rectangle
 four a b c d = record { min_x = a; min_y = b; max_x = c; max_y = d }
+
+-- four numbers, and what stands after them
+abbrev pub four_numbers : List Token → Option (Rectangle × List Token)
+four_numbers (NumberToken a x ∷ NumberToken b y ∷ NumberToken c z ∷ NumberToken d w ∷ ts) = Some (four x y z w, ts)
+four_numbers _ = None
+
+-- four numbers at the end of a line
+abbrev pub last_four : List Token → Option Rectangle
+last_four (NumberToken a x ∷ NumberToken b y ∷ NumberToken c z ∷ NumberToken d w ∷ []) = Some (four x y z w)
+last_four _ = None
 
 -- screen W H D
 abbrev pub screen_line : List Token → Option Statement
@@ -149,30 +146,43 @@ abbrev pub bare_line : Statement → List Token → Option Statement
 bare_line statement [] = Some statement
 bare_line statement _ = None
 
+-- a line that parts a script or a task
+abbrev pub part_line : PartVerb → List Token → Option Statement
+part_line ScreenVerb ts = screen_line ts
+part_line GlyphVerb ts = glyph_line ts
+part_line BitmapVerb ts = bitmap_line ts
+part_line TaskVerb ts = name_line (λ n. TaskLine n) ts
+part_line EndVerb ts = bare_line EndLine ts
+part_line OrderVerb ts = bare_line OrderLine ts
+part_line ReportVerb ts = bare_line ReportLine ts
+part_line LockVerb ts = name_line (λ n. LockLine n) ts
+part_line UnlockVerb ts = name_line (λ n. UnlockLine n) ts
+part_line HoldVerb ts = bare_line HoldLine ts
+part_line ReleaseVerb ts = bare_line ReleaseLine ts
+
 -- a verb with a layer, as close L
-abbrev pub layer_line : Act → List Token → Option Statement
-layer_line act (NameToken l ∷ []) = Some (CallLine (l ∷ []) act)
-layer_line act _ = None
+abbrev pub layer_line : BareVerb → List Token → Option Statement
+layer_line verb (NameToken l ∷ []) = Some (CallLine (l ∷ []) (BareAct verb))
+layer_line verb _ = None
 
 -- a verb with a layer and a number, as apen L P
-abbrev pub number_line : (ℤ → Act) → List Token → Option Statement
-number_line act (NameToken l ∷ NumberToken a z ∷ []) = Some (CallLine (l ∷ []) (act z))
-number_line act _ = None
+abbrev pub number_line : NumberVerb → List Token → Option Statement
+number_line verb (NameToken l ∷ NumberToken a z ∷ []) = Some (CallLine (l ∷ []) (NumberAct verb z))
+number_line verb _ = None
 
 -- a verb with a layer and two numbers, as move L DX DY
-abbrev pub pair_line : (ℤ → ℤ → Act) → List Token → Option Statement
-pair_line act (NameToken l ∷ NumberToken a x ∷ NumberToken b y ∷ []) = Some (CallLine (l ∷ []) (act x y))
-pair_line act _ = None
+abbrev pub pair_line : PairVerb → List Token → Option Statement
+pair_line verb (NameToken l ∷ NumberToken a x ∷ NumberToken b y ∷ []) = Some (CallLine (l ∷ []) (PairAct verb x y))
+pair_line verb _ = None
 
 -- a verb with a layer and a text, as title L "TEXT"
-abbrev pub text_line : (List ℕ → Act) → List Token → Option Statement
-text_line act (NameToken l ∷ TextToken text ∷ []) = Some (CallLine (l ∷ []) (act text))
-text_line act _ = None
+abbrev pub text_line : TextVerb → List Token → Option Statement
+text_line verb (NameToken l ∷ TextToken text ∷ []) = Some (CallLine (l ∷ []) (TextAct verb text))
+text_line verb _ = None
 
 -- orrect R X0 Y0 X1 Y1, and its kin
 abbrev pub rect_line : RectOp → List Token → Option Statement
-rect_line op (NumberToken a r ∷ NumberToken b x0 ∷ NumberToken c y0 ∷ NumberToken d x1 ∷ NumberToken e y1 ∷ []) =
-    Some (CallLine [] (RegRectAct op r (four x0 y0 x1 y1)))
+rect_line op (NumberToken a r ∷ ts) = option_map (λ rect. CallLine [] (RegRectAct op r rect)) (last_four ts)
 rect_line op _ = None
 
 -- orregion S R, and its kin
@@ -196,16 +206,14 @@ infront_line (NameToken l ∷ NameToken m ∷ []) = Some (CallLine (l ∷ m ∷ 
 infront_line _ = None
 
 -- box L X Y W H, and fill L X0 Y0 X1 Y1
-abbrev pub four_line : (ℤ → ℤ → ℤ → ℤ → Act) → List Token → Option Statement
-four_line act (NameToken l ∷ NumberToken a x ∷ NumberToken b y ∷ NumberToken c w ∷ NumberToken d h ∷ []) =
-    Some (CallLine (l ∷ []) (act x y w h))
+abbrev pub four_line : (Rectangle → Act) → List Token → Option Statement
+four_line act (NameToken l ∷ ts) = option_map (λ r. CallLine (l ∷ []) (act r)) (last_four ts)
 four_line act _ = None
 
 -- scrollraster L DX DY X0 Y0 X1 Y1
 abbrev pub scrollraster_line : List Token → Option Statement
-scrollraster_line (NameToken l ∷ NumberToken a dx ∷ NumberToken b dy ∷
-    NumberToken c x0 ∷ NumberToken d y0 ∷ NumberToken e x1 ∷ NumberToken f y1 ∷ []) =
-    Some (CallLine (l ∷ []) (ScrollRasterAct dx dy (four x0 y0 x1 y1)))
+scrollraster_line (NameToken l ∷ NumberToken a dx ∷ NumberToken b dy ∷ ts) =
+    option_map (λ rect. CallLine (l ∷ []) (ScrollRasterAct dx dy rect)) (last_four ts)
 scrollraster_line _ = None
 
 -- the minterm that bytes are: one byte whose lower four bits are 0
@@ -213,20 +221,30 @@ abbrev pub minterm_of : Option (List ℕ) → Option ℕ
 minterm_of (Some (m ∷ [])) = if m % 16 == 0 then Some m else None
 minterm_of _ = None
 
+-- a minterm at the end of a line
+abbrev pub last_minterm : List Token → Option ℕ
+last_minterm (mm ∷ []) = minterm_of (bytes_in 1 mm)
+last_minterm _ = None
+
+-- what ends the line of a blit: X Y W H MM
+abbrev pub blit_end : List Token → Option (Rectangle × ℕ)
+blit_end ts = option_and_then (λ target. option_map (λ m. (target.0, m)) (last_minterm target.1)) (four_numbers ts)
+
+-- a blit from this place to this one, of this size and with this minterm
+abbrev pub blit_area : ℤ → ℤ → Rectangle → ℕ → Area
+blit_area sx sy to m =
+    record { sx = sx; sy = sy; x = to.min_x; y = to.min_y; w = to.max_x; h = to.max_y; minterm = m }
+
 -- put BM SX SY L X Y W H MM
 abbrev pub put_line : List Token → Option Statement
-put_line (NameToken bm ∷ NumberToken a sx ∷ NumberToken b sy ∷ NameToken l ∷
-    NumberToken c x ∷ NumberToken d y ∷ NumberToken e w ∷ NumberToken f h ∷ mm ∷ []) =
-    option_map (λ m. CallLine (l ∷ []) (PutAct bm (record { sx = sx; sy = sy; x = x; y = y; w = w; h = h; minterm = m })))
-    (minterm_of (bytes_in 1 mm))
+put_line (NameToken bm ∷ NumberToken a sx ∷ NumberToken b sy ∷ NameToken l ∷ ts) =
+    option_map (λ end. CallLine (l ∷ []) (PutAct bm (blit_area sx sy end.0 end.1))) (blit_end ts)
 put_line _ = None
 
 -- blit L SX SY M X Y W H MM
 abbrev pub blit_line : List Token → Option Statement
-blit_line (NameToken l ∷ NumberToken a sx ∷ NumberToken b sy ∷ NameToken m ∷
-    NumberToken c x ∷ NumberToken d y ∷ NumberToken e w ∷ NumberToken f h ∷ mm ∷ []) =
-    option_map (λ k. CallLine (l ∷ m ∷ []) (BlitAct (record { sx = sx; sy = sy; x = x; y = y; w = w; h = h; minterm = k })))
-    (minterm_of (bytes_in 1 mm))
+blit_line (NameToken l ∷ NumberToken a sx ∷ NumberToken b sy ∷ NameToken m ∷ ts) =
+    option_map (λ end. CallLine (l ∷ m ∷ []) (BlitAct (blit_area sx sy end.0 end.1))) (blit_end ts)
 blit_line _ = None
 
 -- endrefresh L full, endrefresh L part
@@ -351,64 +369,31 @@ open_kind l place numbers ts SuperBitmap = open_super l place numbers ts
 
 -- create L KIND PLACE X0 Y0 X1 Y1 .., and open L KIND PLACE X Y W H ..
 abbrev pub asked_line : (List ℕ → Place → Rectangle → List Token → Kind → Option Statement) → List Token → Option Statement
-asked_line behind (NameToken l ∷ NameToken k ∷ NameToken p ∷
-    NumberToken a x ∷ NumberToken b y ∷ NumberToken c z ∷ NumberToken d w ∷ ts) =
-    option_and_then (λ place. option_and_then (behind l place (four x y z w) ts) (kind_of k)) (place_of p)
+asked_line behind (NameToken l ∷ NameToken k ∷ NameToken p ∷ ts) =
+    option_and_then (λ n. option_and_then (λ place. option_and_then (behind l place n.0 n.1) (kind_of k)) (place_of p))
+    (four_numbers ts)
 asked_line behind _ = None
 
 -- The statement of a line with this verb, if the words after it make one.
 abbrev pub statement_by : Verb → List Token → Option Statement
-statement_by ScreenVerb ts = screen_line ts
-statement_by GlyphVerb ts = glyph_line ts
-statement_by BitmapVerb ts = bitmap_line ts
-statement_by TaskVerb ts = name_line (λ n. TaskLine n) ts
-statement_by EndVerb ts = bare_line EndLine ts
-statement_by OrderVerb ts = bare_line OrderLine ts
-statement_by ReportVerb ts = bare_line ReportLine ts
-statement_by LockVerb ts = name_line (λ n. LockLine n) ts
-statement_by UnlockVerb ts = name_line (λ n. UnlockLine n) ts
-statement_by HoldVerb ts = bare_line HoldLine ts
-statement_by ReleaseVerb ts = bare_line ReleaseLine ts
-statement_by OrRectVerb ts = rect_line OrR ts
-statement_by AndRectVerb ts = rect_line AndR ts
-statement_by XorRectVerb ts = rect_line XorR ts
-statement_by ClearRectVerb ts = rect_line ClearR ts
-statement_by OrRegionVerb ts = region_line OrP ts
-statement_by AndRegionVerb ts = region_line AndP ts
-statement_by XorRegionVerb ts = region_line XorP ts
-statement_by ClearRegionVerb ts = clear_line ts
-statement_by CreateVerb ts = asked_line create_kind ts
-statement_by OpenVerb ts = asked_line open_kind ts
-statement_by CloseVerb ts = layer_line CloseAct ts
-statement_by FrontVerb ts = layer_line FrontAct ts
-statement_by BehindVerb ts = layer_line BehindAct ts
-statement_by InFrontVerb ts = infront_line ts
-statement_by MoveVerb ts = pair_line (λ x y. MoveAct x y) ts
-statement_by SizeVerb ts = pair_line (λ x y. SizeAct x y) ts
-statement_by BoxVerb ts = four_line (λ x y w h. BoxAct x y w h) ts
-statement_by ActivateVerb ts = layer_line ActivateAct ts
-statement_by WhichVerb ts = which_line ts
-statement_by APenVerb ts = number_line (λ p. APenAct p) ts
-statement_by BPenVerb ts = number_line (λ p. BPenAct p) ts
-statement_by ModeVerb ts = number_line (λ k. ModeAct k) ts
-statement_by MaskVerb ts = number_line (λ p. MaskAct p) ts
-statement_by AtVerb ts = pair_line (λ x y. AtAct x y) ts
-statement_by WriteVerb ts = pair_line (λ x y. WriteAct x y) ts
-statement_by ReadVerb ts = pair_line (λ x y. ReadAct x y) ts
-statement_by FillVerb ts = four_line (λ a b c d. FillAct (four a b c d)) ts
-statement_by DrawVerb ts = pair_line (λ x y. DrawAct x y) ts
-statement_by TextVerb ts = text_line (λ t. TextAct t) ts
-statement_by SetRastVerb ts = number_line (λ p. SetRastAct p) ts
-statement_by ScrollRasterVerb ts = scrollraster_line ts
-statement_by PutVerb ts = put_line ts
-statement_by BlitVerb ts = blit_line ts
-statement_by ClipVerb ts = number_line (λ r. ClipAct r) ts
-statement_by UnclipVerb ts = layer_line UnclipAct ts
-statement_by RefreshVerb ts = layer_line RefreshAct ts
-statement_by EndRefreshVerb ts = endrefresh_line ts
-statement_by ScrollVerb ts = pair_line (λ x y. ScrollAct x y) ts
-statement_by TitleVerb ts = text_line (λ t. TitleAct t) ts
-statement_by GetMsgVerb ts = layer_line GetMsgAct ts
+statement_by (Part verb) ts = part_line verb ts
+statement_by (Bare verb) ts = layer_line verb ts
+statement_by (Number verb) ts = number_line verb ts
+statement_by (Pair verb) ts = pair_line verb ts
+statement_by (Text verb) ts = text_line verb ts
+statement_by (Rect op) ts = rect_line op ts
+statement_by (Region op) ts = region_line op ts
+statement_by ClearRegion ts = clear_line ts
+statement_by Create ts = asked_line create_kind ts
+statement_by Open ts = asked_line open_kind ts
+statement_by InFront ts = infront_line ts
+statement_by Box ts = four_line (λ r. BoxAct r) ts
+statement_by Which ts = which_line ts
+statement_by Fill ts = four_line (λ r. FillAct r) ts
+statement_by ScrollRaster ts = scrollraster_line ts
+statement_by Put ts = put_line ts
+statement_by Blit ts = blit_line ts
+statement_by EndRefresh ts = endrefresh_line ts
 
 -- a hook's number, if there is one
 abbrev pub is_hook_number : Option ℤ → Bool
@@ -433,32 +418,27 @@ place_and_size_fit r = coordinates_fit r.min_x r.min_y && (is_extent r.max_x && 
 abbrev pub is_area_in_range : Area → Bool
 is_area_in_range a = (coordinates_fit a.sx a.sy && coordinates_fit a.x a.y) && (is_extent a.w && is_extent a.h)
 
+-- the greatest number that a layer may have after it: a mode and a register are at most 7, a pen and a mask at most 255
+abbrev pub greatest_number : NumberVerb → ℕ
+greatest_number ModeVerb = 7
+greatest_number ClipVerb = 7
+greatest_number verb = 255
+
 -- every number of the act is in its range, and no maximum is below its minimum
 abbrev pub is_act_in_range : Act → Bool
+is_act_in_range (NumberAct verb z) = within (pos 0) z (pos (greatest_number verb))
+is_act_in_range (PairAct verb x y) = coordinates_fit x y
 is_act_in_range (RegRectAct op r rect) = within (pos 0) r (pos 7) && rect_fits rect
 is_act_in_range (RegPairAct op s r) = within (pos 0) s (pos 7) && within (pos 0) r (pos 7)
 is_act_in_range (RegClearAct r) = within (pos 0) r (pos 7)
 is_act_in_range (CreateAct asked) = rect_fits asked.numbers && is_asked_in_range asked
 is_act_in_range (OpenAct asked framed nocare classes title) = place_and_size_fit asked.numbers && is_asked_in_range asked
-is_act_in_range (MoveAct dx dy) = coordinates_fit dx dy
-is_act_in_range (SizeAct dw dh) = coordinates_fit dw dh
-is_act_in_range (BoxAct x y w h) = place_and_size_fit (four x y w h)
+is_act_in_range (BoxAct r) = place_and_size_fit r
 is_act_in_range (WhichAct x y) = coordinates_fit x y
-is_act_in_range (APenAct p) = within (pos 0) p (pos 255)
-is_act_in_range (BPenAct p) = within (pos 0) p (pos 255)
-is_act_in_range (ModeAct k) = within (pos 0) k (pos 7)
-is_act_in_range (MaskAct p) = within (pos 0) p (pos 255)
-is_act_in_range (AtAct x y) = coordinates_fit x y
-is_act_in_range (WriteAct x y) = coordinates_fit x y
-is_act_in_range (ReadAct x y) = coordinates_fit x y
 is_act_in_range (FillAct rect) = rect_fits rect
-is_act_in_range (DrawAct x y) = coordinates_fit x y
-is_act_in_range (SetRastAct p) = within (pos 0) p (pos 255)
 is_act_in_range (ScrollRasterAct dx dy rect) = coordinates_fit dx dy && rect_fits rect
 is_act_in_range (PutAct bm area) = is_area_in_range area
 is_act_in_range (BlitAct area) = is_area_in_range area
-is_act_in_range (ClipAct r) = within (pos 0) r (pos 7)
-is_act_in_range (ScrollAct dx dy) = coordinates_fit dx dy
 is_act_in_range act = true
 
 -- Every number of the line is in its range, and no maximum is below its minimum.

@@ -13,7 +13,15 @@ use Rattle.lw_calls.specs.declared.group.Hold.TheVariants.{Slot, All}
 use Rattle.lw_calls.specs.declared.group.Group.{Group}
 use Rattle.lw_calls.specs.Kinds.{is_super}
 use Rattle.lw_calls.specs.Plan.{Plan}
-use Rattle.lw_grammar.specs.Statements.{AskedLayer, Act, RegRectAct, RegPairAct, RegClearAct, CreateAct, OpenAct, CloseAct, FrontAct, BehindAct, InFrontAct, MoveAct, SizeAct, BoxAct, ActivateAct, WhichAct, APenAct, BPenAct, ModeAct, MaskAct, AtAct, WriteAct, ReadAct, FillAct, DrawAct, TextAct, SetRastAct, ScrollRasterAct, PutAct, BlitAct, ClipAct, UnclipAct, RefreshAct, EndRefreshAct, ScrollAct, TitleAct, GetMsgAct, Statement, ScreenLine, GlyphLine, BitmapLine, RowLine, TaskLine, EndLine, OrderLine, NumbersLine, ReportLine, CallLine, LockLine, UnlockLine, HoldLine, ReleaseLine}
+use Rattle.lw_grammar.specs.declared.verb.BareVerb.{BareVerb}
+use Rattle.lw_grammar.specs.declared.verb.BareVerb.TheVariants.{Close as CloseVerb, Front as FrontVerb, Behind as BehindVerb, Activate as ActivateVerb, Unclip as UnclipVerb, Refresh as RefreshVerb, GetMsg as GetMsgVerb}
+use Rattle.lw_grammar.specs.declared.verb.NumberVerb.{NumberVerb}
+use Rattle.lw_grammar.specs.declared.verb.NumberVerb.TheVariants.{APen as APenVerb, BPen as BPenVerb, Mode as ModeVerb, Mask as MaskVerb, SetRast as SetRastVerb, Clip as ClipVerb}
+use Rattle.lw_grammar.specs.declared.verb.PairVerb.{PairVerb}
+use Rattle.lw_grammar.specs.declared.verb.PairVerb.TheVariants.{Move as MoveVerb, Size as SizeVerb, At as AtVerb, Write as WriteVerb, Read as ReadVerb, Draw as DrawVerb, Scroll as ScrollVerb}
+use Rattle.lw_grammar.specs.declared.verb.TextVerb.{TextVerb}
+use Rattle.lw_grammar.specs.declared.verb.TextVerb.TheVariants.{Text as TextOf, Title as TitleVerb}
+use Rattle.lw_grammar.specs.Statements.{AskedLayer, Act, BareAct, NumberAct, PairAct, TextAct, RegRectAct, RegPairAct, RegClearAct, CreateAct, OpenAct, InFrontAct, BoxAct, WhichAct, FillAct, ScrollRasterAct, PutAct, BlitAct, EndRefreshAct, Statement, ScreenLine, GlyphLine, BitmapLine, RowLine, TaskLine, EndLine, OrderLine, NumbersLine, ReportLine, CallLine, LockLine, UnlockLine, HoldLine, ReleaseLine}
 
 -- The parts of a script, by what is due in them: the screen; glyphs, bitmaps and the first task; in a task calls, groups or
 -- its end; after a task a further one, an order or a report; numbers of an order; and nothing more, after a line `report`.
@@ -128,44 +136,57 @@ created_make a =
 abbrev pub opened_make : AskedLayer → Make
 opened_make a = make_of a a.numbers.min_x a.numbers.min_y a.numbers.max_x a.numbers.max_y
 
+-- the calls on the layer in a slot that verbs are: alone, with a number, with two numbers, and with a text
+abbrev pub bare_call : BareVerb → ℕ → Call
+bare_call CloseVerb s = Close s
+bare_call FrontVerb s = ToFront s
+bare_call BehindVerb s = ToBack s
+bare_call ActivateVerb s = Activate s
+bare_call UnclipVerb s = Unclip s
+bare_call RefreshVerb s = BeginRefresh s
+bare_call GetMsgVerb s = TakeMessage s
+
+abbrev pub number_call : NumberVerb → ℕ → ℕ → Call
+number_call APenVerb s n = SetA s n
+number_call BPenVerb s n = SetB s n
+number_call ModeVerb s n = SetMode s n
+number_call MaskVerb s n = SetMask s n
+number_call SetRastVerb s n = SetRast s n
+number_call ClipVerb s n = Clip s n
+
+abbrev pub pair_call : PairVerb → ℕ → ℤ → ℤ → Call
+pair_call MoveVerb s x y = MoveBy s x y
+pair_call SizeVerb s x y = SizeBy s x y
+pair_call AtVerb s x y = At s x y
+pair_call WriteVerb s x y = WritePixel s x y
+pair_call ReadVerb s x y = ReadPixel s x y
+pair_call DrawVerb s x y = DrawTo s x y
+pair_call ScrollVerb s x y = Scroll s x y
+
+abbrev pub text_call : TextVerb → ℕ → List ℕ → Call
+text_call TextOf s text = Letters s text
+text_call TitleVerb s text = SetTitle s text
+
 -- the call that an act is, on the layers in these slots, where the script has bitmaps of these names
 abbrev pub spelled_call : List (List ℕ) → Act → List ℕ → Call
+spelled_call bitmaps (BareAct verb) slots = bare_call verb (slice_index slots 0)
+spelled_call bitmaps (NumberAct verb z) slots = number_call verb (slice_index slots 0) (unsigned_abs z)
+spelled_call bitmaps (PairAct verb x y) slots = pair_call verb (slice_index slots 0) x y
+spelled_call bitmaps (TextAct verb text) slots = text_call verb (slice_index slots 0) text
 spelled_call bitmaps (RegRectAct op r rect) slots = RegRect op (unsigned_abs r) rect
 spelled_call bitmaps (RegPairAct op s r) slots = RegPair op (unsigned_abs s) (unsigned_abs r)
 spelled_call bitmaps (RegClearAct r) slots = RegClear (unsigned_abs r)
 spelled_call bitmaps (CreateAct asked) slots = Create (slice_index slots 0) (created_make asked)
 spelled_call bitmaps (OpenAct asked framed nocare classes title) slots =
     OpenWindow (slice_index slots 0) (opened_make asked) framed nocare classes title
-spelled_call bitmaps CloseAct slots = Close (slice_index slots 0)
-spelled_call bitmaps FrontAct slots = ToFront (slice_index slots 0)
-spelled_call bitmaps BehindAct slots = ToBack (slice_index slots 0)
 spelled_call bitmaps InFrontAct slots = InFrontOf (slice_index slots 0) (slice_index slots 1)
-spelled_call bitmaps (MoveAct dx dy) slots = MoveBy (slice_index slots 0) dx dy
-spelled_call bitmaps (SizeAct dw dh) slots = SizeBy (slice_index slots 0) dw dh
-spelled_call bitmaps (BoxAct x y w h) slots = SetBox (slice_index slots 0) x y w h
-spelled_call bitmaps ActivateAct slots = Activate (slice_index slots 0)
+spelled_call bitmaps (BoxAct r) slots = SetBox (slice_index slots 0) r.min_x r.min_y r.max_x r.max_y
 spelled_call bitmaps (WhichAct x y) slots = Which x y
-spelled_call bitmaps (APenAct p) slots = SetA (slice_index slots 0) (unsigned_abs p)
-spelled_call bitmaps (BPenAct p) slots = SetB (slice_index slots 0) (unsigned_abs p)
-spelled_call bitmaps (ModeAct k) slots = SetMode (slice_index slots 0) (unsigned_abs k)
-spelled_call bitmaps (MaskAct p) slots = SetMask (slice_index slots 0) (unsigned_abs p)
-spelled_call bitmaps (AtAct x y) slots = At (slice_index slots 0) x y
-spelled_call bitmaps (WriteAct x y) slots = WritePixel (slice_index slots 0) x y
-spelled_call bitmaps (ReadAct x y) slots = ReadPixel (slice_index slots 0) x y
 spelled_call bitmaps (FillAct rect) slots = Fill (slice_index slots 0) rect
-spelled_call bitmaps (DrawAct x y) slots = DrawTo (slice_index slots 0) x y
-spelled_call bitmaps (TextAct text) slots = Letters (slice_index slots 0) text
-spelled_call bitmaps (SetRastAct p) slots = SetRast (slice_index slots 0) (unsigned_abs p)
 spelled_call bitmaps (ScrollRasterAct dx dy rect) slots = ScrollRaster (slice_index slots 0) dx dy rect
 spelled_call bitmaps (PutAct bm area) slots = Put (place_among bitmaps bm) (slice_index slots 0) area
 spelled_call bitmaps (BlitAct area) slots = Blit (slice_index slots 0) (slice_index slots 1) area
-spelled_call bitmaps (ClipAct r) slots = Clip (slice_index slots 0) (unsigned_abs r)
-spelled_call bitmaps UnclipAct slots = Unclip (slice_index slots 0)
-spelled_call bitmaps RefreshAct slots = BeginRefresh (slice_index slots 0)
 spelled_call bitmaps (EndRefreshAct full) slots = EndRefresh (slice_index slots 0) full
-spelled_call bitmaps (ScrollAct dx dy) slots = Scroll (slice_index slots 0) dx dy
-spelled_call bitmaps (TitleAct text) slots = SetTitle (slice_index slots 0) text
-spelled_call bitmaps GetMsgAct slots = TakeMessage (slice_index slots 0)
 
 -- the call of a call line: its layers' slots are the places of their names
 abbrev pub call_below : Told → List (List ℕ) → Act → Call
@@ -190,12 +211,12 @@ and_hook (Some n) used = λ hook. (unsigned_abs n == hook) || used hook
 
 -- the group that is open after an act, and how many calls its task had when it began
 abbrev pub left_open_by : List (List ℕ) → Act → Option OpenGroup → Option OpenGroup
-left_open_by (l ∷ []) RefreshAct group = Some (Updating l)
+left_open_by (l ∷ []) (BareAct RefreshVerb) group = Some (Updating l)
 left_open_by layers (EndRefreshAct full) group = None
 left_open_by layers act group = group
 
 abbrev pub began_by : Act → ℕ → ℕ → ℕ
-began_by RefreshAct so_far began = so_far
+began_by (BareAct RefreshVerb) so_far began = so_far
 began_by act so_far began = began
 
 -- the group that ends with the last of so many calls of its task

@@ -1,72 +1,109 @@
 -- The first words of a script's lines.
 use Rattle.std.specs.Prelude.{ℕ, if◌then◌else◌, List, [], ◌∷◌, codes, bytes_eq, Option, Some, None}
+use Rattle.lw_calls.specs.declared.operation.RectOp.{RectOp}
+use Rattle.lw_calls.specs.declared.operation.RectOp.TheVariants.{Or as OrR, And as AndR, Xor as XorR, Clear as ClearR}
+use Rattle.lw_calls.specs.declared.operation.PairOp.{PairOp}
+use Rattle.lw_calls.specs.declared.operation.PairOp.TheVariants.{Or as OrP, And as AndP, Xor as XorP}
+use Rattle.lw_grammar.specs.declared.verb.PartVerb.{PartVerb}
+use Rattle.lw_grammar.specs.declared.verb.PartVerb.TheVariants.{Screen, Glyph, Bitmap, Task, End, Order, Report, Lock, Unlock, Hold, Release}
+use Rattle.lw_grammar.specs.declared.verb.BareVerb.{BareVerb}
+use Rattle.lw_grammar.specs.declared.verb.BareVerb.TheVariants.{Close, Front, Behind, Activate, Unclip, Refresh, GetMsg}
+use Rattle.lw_grammar.specs.declared.verb.NumberVerb.{NumberVerb}
+use Rattle.lw_grammar.specs.declared.verb.NumberVerb.TheVariants.{APen, BPen, Mode, Mask, SetRast, Clip}
+use Rattle.lw_grammar.specs.declared.verb.PairVerb.{PairVerb}
+use Rattle.lw_grammar.specs.declared.verb.PairVerb.TheVariants.{Move, Size, At, Write, Read, Draw, Scroll}
+use Rattle.lw_grammar.specs.declared.verb.TextVerb.{TextVerb}
+use Rattle.lw_grammar.specs.declared.verb.TextVerb.TheVariants.{Text as TextOf, Title}
 use Rattle.lw_grammar.specs.declared.verb.Verb.{Verb}
-use Rattle.lw_grammar.specs.declared.verb.Verb.TheVariants.{Screen as ScreenVerb, Glyph as GlyphVerb, Bitmap as BitmapVerb, Task as TaskVerb, End as EndVerb, Order as OrderVerb, Report as ReportVerb, Lock as LockVerb, Unlock as UnlockVerb, Hold as HoldVerb, Release as ReleaseVerb, Refresh as RefreshVerb, EndRefresh as EndRefreshVerb, OrRect as OrRectVerb, AndRect as AndRectVerb, XorRect as XorRectVerb, ClearRect as ClearRectVerb, OrRegion as OrRegionVerb, AndRegion as AndRegionVerb, XorRegion as XorRegionVerb, ClearRegion as ClearRegionVerb, Create as CreateVerb, Open as OpenVerb, Close as CloseVerb, Front as FrontVerb, Behind as BehindVerb, InFront as InFrontVerb, Move as MoveVerb, Size as SizeVerb, Box as BoxVerb, Activate as ActivateVerb, Which as WhichVerb, Title as TitleVerb, GetMsg as GetMsgVerb, APen as APenVerb, BPen as BPenVerb, Mode as ModeVerb, Mask as MaskVerb, At as AtVerb, Write as WriteVerb, Read as ReadVerb, Fill as FillVerb, Draw as DrawVerb, Text as TextVerb, SetRast as SetRastVerb, ScrollRaster as ScrollRasterVerb, Put as PutVerb, Blit as BlitVerb, Clip as ClipVerb, Unclip as UnclipVerb, Scroll as ScrollVerb}
+use Rattle.lw_grammar.specs.declared.verb.Verb.TheVariants.{Part, Bare, Number, Pair, Text, Rect, Region, ClearRegion, Create, Open, InFront, Box, Which, Fill, ScrollRaster, Put, Blit, EndRefresh}
+
+-- the words of verbs, by their kinds
+abbrev pub part_word : PartVerb → List ℕ
+part_word Screen = codes "screen"
+part_word Glyph = codes "glyph"
+part_word Bitmap = codes "bitmap"
+part_word Task = codes "task"
+part_word End = codes "end"
+part_word Order = codes "order"
+part_word Report = codes "report"
+part_word Lock = codes "lock"
+part_word Unlock = codes "unlock"
+part_word Hold = codes "hold"
+part_word Release = codes "release"
+
+abbrev pub bare_word : BareVerb → List ℕ
+bare_word Close = codes "close"
+bare_word Front = codes "front"
+bare_word Behind = codes "behind"
+bare_word Activate = codes "activate"
+bare_word Unclip = codes "unclip"
+bare_word Refresh = codes "refresh"
+bare_word GetMsg = codes "getmsg"
+
+abbrev pub number_word : NumberVerb → List ℕ
+number_word APen = codes "apen"
+number_word BPen = codes "bpen"
+number_word Mode = codes "mode"
+number_word Mask = codes "mask"
+number_word SetRast = codes "setrast"
+number_word Clip = codes "clip"
+
+abbrev pub pair_word : PairVerb → List ℕ
+pair_word Move = codes "move"
+pair_word Size = codes "size"
+pair_word At = codes "at"
+pair_word Write = codes "write"
+pair_word Read = codes "read"
+pair_word Draw = codes "draw"
+pair_word Scroll = codes "scroll"
+
+abbrev pub text_verb_word : TextVerb → List ℕ
+text_verb_word TextOf = codes "text"
+text_verb_word Title = codes "title"
+
+abbrev pub rect_word : RectOp → List ℕ
+rect_word OrR = codes "orrect"
+rect_word AndR = codes "andrect"
+rect_word XorR = codes "xorrect"
+rect_word ClearR = codes "clearrect"
+
+abbrev pub region_word : PairOp → List ℕ
+region_word OrP = codes "orregion"
+region_word AndP = codes "andregion"
+region_word XorP = codes "xorregion"
 
 -- the word of a verb
 abbrev pub verb_word : Verb → List ℕ
-verb_word ScreenVerb = codes "screen"
-verb_word GlyphVerb = codes "glyph"
-verb_word BitmapVerb = codes "bitmap"
-verb_word TaskVerb = codes "task"
-verb_word EndVerb = codes "end"
-verb_word OrderVerb = codes "order"
-verb_word ReportVerb = codes "report"
-verb_word LockVerb = codes "lock"
-verb_word UnlockVerb = codes "unlock"
-verb_word HoldVerb = codes "hold"
-verb_word ReleaseVerb = codes "release"
-verb_word RefreshVerb = codes "refresh"
-verb_word EndRefreshVerb = codes "endrefresh"
-verb_word OrRectVerb = codes "orrect"
-verb_word AndRectVerb = codes "andrect"
-verb_word XorRectVerb = codes "xorrect"
-verb_word ClearRectVerb = codes "clearrect"
-verb_word OrRegionVerb = codes "orregion"
-verb_word AndRegionVerb = codes "andregion"
-verb_word XorRegionVerb = codes "xorregion"
-verb_word ClearRegionVerb = codes "clearregion"
-verb_word CreateVerb = codes "create"
-verb_word OpenVerb = codes "open"
-verb_word CloseVerb = codes "close"
-verb_word FrontVerb = codes "front"
-verb_word BehindVerb = codes "behind"
-verb_word InFrontVerb = codes "infront"
-verb_word MoveVerb = codes "move"
-verb_word SizeVerb = codes "size"
-verb_word BoxVerb = codes "box"
-verb_word ActivateVerb = codes "activate"
-verb_word WhichVerb = codes "which"
-verb_word TitleVerb = codes "title"
-verb_word GetMsgVerb = codes "getmsg"
-verb_word APenVerb = codes "apen"
-verb_word BPenVerb = codes "bpen"
-verb_word ModeVerb = codes "mode"
-verb_word MaskVerb = codes "mask"
-verb_word AtVerb = codes "at"
-verb_word WriteVerb = codes "write"
-verb_word ReadVerb = codes "read"
-verb_word FillVerb = codes "fill"
-verb_word DrawVerb = codes "draw"
-verb_word TextVerb = codes "text"
-verb_word SetRastVerb = codes "setrast"
-verb_word ScrollRasterVerb = codes "scrollraster"
-verb_word PutVerb = codes "put"
-verb_word BlitVerb = codes "blit"
-verb_word ClipVerb = codes "clip"
-verb_word UnclipVerb = codes "unclip"
-verb_word ScrollVerb = codes "scroll"
+verb_word (Part verb) = part_word verb
+verb_word (Bare verb) = bare_word verb
+verb_word (Number verb) = number_word verb
+verb_word (Pair verb) = pair_word verb
+verb_word (Text verb) = text_verb_word verb
+verb_word (Rect op) = rect_word op
+verb_word (Region op) = region_word op
+verb_word ClearRegion = codes "clearregion"
+verb_word Create = codes "create"
+verb_word Open = codes "open"
+verb_word InFront = codes "infront"
+verb_word Box = codes "box"
+verb_word Which = codes "which"
+verb_word Fill = codes "fill"
+verb_word ScrollRaster = codes "scrollraster"
+verb_word Put = codes "put"
+verb_word Blit = codes "blit"
+verb_word EndRefresh = codes "endrefresh"
 
 -- all verbs
 abbrev pub verbs : List Verb
 verbs =
-    ScreenVerb ∷ GlyphVerb ∷ BitmapVerb ∷ TaskVerb ∷ EndVerb ∷ OrderVerb ∷ ReportVerb ∷ LockVerb ∷
-    UnlockVerb ∷ HoldVerb ∷ ReleaseVerb ∷ RefreshVerb ∷ EndRefreshVerb ∷ OrRectVerb ∷ AndRectVerb ∷
-    XorRectVerb ∷ ClearRectVerb ∷ OrRegionVerb ∷ AndRegionVerb ∷ XorRegionVerb ∷ ClearRegionVerb ∷
-    CreateVerb ∷ OpenVerb ∷ CloseVerb ∷ FrontVerb ∷ BehindVerb ∷ InFrontVerb ∷ MoveVerb ∷ SizeVerb ∷ BoxVerb ∷
-    ActivateVerb ∷ WhichVerb ∷ TitleVerb ∷ GetMsgVerb ∷ APenVerb ∷ BPenVerb ∷ ModeVerb ∷ MaskVerb ∷ AtVerb ∷
-    WriteVerb ∷ ReadVerb ∷ FillVerb ∷ DrawVerb ∷ TextVerb ∷ SetRastVerb ∷ ScrollRasterVerb ∷ PutVerb ∷
-    BlitVerb ∷ ClipVerb ∷ UnclipVerb ∷ ScrollVerb ∷ []
+    Part Screen ∷ Part Glyph ∷ Part Bitmap ∷ Part Task ∷ Part End ∷ Part Order ∷ Part Report ∷
+    Part Lock ∷ Part Unlock ∷ Part Hold ∷ Part Release ∷
+    Bare Close ∷ Bare Front ∷ Bare Behind ∷ Bare Activate ∷ Bare Unclip ∷ Bare Refresh ∷ Bare GetMsg ∷
+    Number APen ∷ Number BPen ∷ Number Mode ∷ Number Mask ∷ Number SetRast ∷ Number Clip ∷
+    Pair Move ∷ Pair Size ∷ Pair At ∷ Pair Write ∷ Pair Read ∷ Pair Draw ∷ Pair Scroll ∷
+    Text TextOf ∷ Text Title ∷
+    Rect OrR ∷ Rect AndR ∷ Rect XorR ∷ Rect ClearR ∷ Region OrP ∷ Region AndP ∷ Region XorP ∷ ClearRegion ∷
+    Create ∷ Open ∷ InFront ∷ Box ∷ Which ∷ Fill ∷ ScrollRaster ∷ Put ∷ Blit ∷ EndRefresh ∷ []
 
 -- the first of these verbs that has the word, if one has
 abbrev pub verb_in : List Verb → List ℕ → Option Verb

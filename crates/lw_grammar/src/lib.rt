@@ -7,4 +7,4 @@ mod laws;
 mod verb;
 
 pub use laws::{inputs_are_decided, spelled_inputs_are_runnable};
-pub use verb::Verb;
+pub use verb::{BareVerb, NumberVerb, PairVerb, PartVerb, TextVerb, Verb};

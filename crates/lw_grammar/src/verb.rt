@@ -1,6 +1,8 @@
-/// The first word of a script's line.
+use lw_calls::{PairOp, RectOp};
+
+/// The first word of a line that parts a script or a task.
 #[derive(Clone, Copy, Debug, PartialEq, Eq)]
-pub enum Verb {
+pub enum PartVerb {
     Screen,
     Glyph,
     Bitmap,
@@ -8,53 +10,75 @@ pub enum Verb {
     End,
     Order,
     Report,
-
     Lock,
     Unlock,
     Hold,
     Release,
+}
 
-    OrRect,
-    AndRect,
-    XorRect,
-    ClearRect,
-    OrRegion,
-    AndRegion,
-    XorRegion,
-    ClearRegion,
-
-    Create,
-    Open,
+/// The first word of a call's line that has a layer alone after it, as `close L`.
+#[derive(Clone, Copy, Debug, PartialEq, Eq)]
+pub enum BareVerb {
     Close,
     Front,
     Behind,
-    InFront,
-    Move,
-    Size,
-    Box,
     Activate,
+    Unclip,
+    Refresh,
+    GetMsg,
+}
 
-    Which,
-
+/// The same with a layer and a number, as `apen L P`.
+#[derive(Clone, Copy, Debug, PartialEq, Eq)]
+pub enum NumberVerb {
     APen,
     BPen,
     Mode,
     Mask,
+    SetRast,
+    Clip,
+}
+
+/// The same with a layer and two numbers, as `move L DX DY`.
+#[derive(Clone, Copy, Debug, PartialEq, Eq)]
+pub enum PairVerb {
+    Move,
+    Size,
     At,
     Write,
     Read,
-    Fill,
     Draw,
+    Scroll,
+}
+
+/// The same with a layer and a text, as `title L "TEXT"`.
+#[derive(Clone, Copy, Debug, PartialEq, Eq)]
+pub enum TextVerb {
     Text,
-    SetRast,
+    Title,
+}
+
+/// The first word of a script's line, by the kind of the line.
+#[derive(Clone, Copy, Debug, PartialEq, Eq)]
+pub enum Verb {
+    Part(PartVerb),
+    Bare(BareVerb),
+    Number(NumberVerb),
+    Pair(PairVerb),
+    Text(TextVerb),
+    /// `orrect`, and its kin.
+    Rect(RectOp),
+    /// `orregion`, and its kin.
+    Region(PairOp),
+    ClearRegion,
+    Create,
+    Open,
+    InFront,
+    Box,
+    Which,
+    Fill,
     ScrollRaster,
     Put,
     Blit,
-    Clip,
-    Unclip,
-    Refresh,
     EndRefresh,
-    Scroll,
-    Title,
-    GetMsg,
 }

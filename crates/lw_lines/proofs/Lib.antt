@@ -1,5 +1,3 @@
 mod ActNumbers
-mod AskedLines
-mod BlitLines
 mod Classes
 mod RectRanges

@@ -1,12 +1,11 @@
 -- For private contracts.
 -- The line of a creation or an opening in parts.
-use Rattle.std.specs.Prelude.{ℕ, List, ◌∷◌, Option, None, option_and_then}
+use Rattle.std.specs.Prelude.{ℕ, List, Option, option_and_then}
 use Rattle.lw_region.specs.Rectangle.{Rectangle}
 use Rattle.lw_calls.specs.declared.make.Kind.{Kind}
 use Rattle.lw_calls.specs.declared.make.Place.{Place}
-use Rattle.lw_grammar.specs.Tokens.{Token, NameToken}
-use Rattle.lw_grammar.specs.Statements.{Statement, kind_of, place_of, create_kind, open_kind}
-use Rattle.lw_lines.specs.NumbersTaken.{numbers_taken}
+use Rattle.lw_grammar.specs.Tokens.{Token}
+use Rattle.lw_grammar.specs.Statements.{Statement, four_numbers, kind_of, place_of, create_kind, open_kind}
 use Rattle.lw_lines.specs.declared.lines_asked.Request.{Request}
 use Rattle.lw_lines.specs.declared.lines_asked.Request.TheVariants.{Creation, Opening}
 
@@ -25,9 +24,4 @@ with_words rest l k p numbers ts =
 
 -- four numbers, and what stands after them
 abbrev pub with_numbers : (Rectangle → List Token → Option Statement) → List Token → Option Statement
-with_numbers make ts = option_and_then (λ taken. make taken.0 taken.1) (numbers_taken ts)
-
--- three names, and what stands after them
-abbrev pub with_names : AfterNumbers → List Token → Option Statement
-with_names rest (NameToken l ∷ NameToken k ∷ NameToken p ∷ ts) = with_numbers (with_words rest l k p) ts
-with_names rest _ = None
+with_numbers make ts = option_and_then (λ taken. make taken.0 taken.1) (four_numbers ts)

@@ -1,9 +1,7 @@
 pub mod AskedParts
-pub mod BlitParts
 pub mod CallMeaning
 pub mod StatementMeaning
 pub mod GroupMeaning
 pub mod LineReading
-pub mod NumbersTaken
+pub mod OwnBits
 pub mod SectionMeaning
-pub mod VerbFamilies

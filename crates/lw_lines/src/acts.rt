@@ -6,7 +6,9 @@ ghost use Rattle.lw_grammar.specs.Script.{is_arranging, is_beginning, is_ending,
 ghost use Rattle.lw_lines.specs.StatementMeaning.{act_meaning, layers_meaning, statement_meaning};
 ghost use Rattle.lw_lines.specs.GroupMeaning.{group_meaning};
 
-use crate::statement::{Act, AskedKind, BareAct, KindWithoutBitmap, Layers, PairAct, Statement};
+use crate::statement::{Act, Layers, Statement};
+use lw_calls::Kind;
+use lw_grammar::{BareVerb, PairVerb};
 use lw_words::is_text;
 
 /// A group that is open.
@@ -30,8 +32,8 @@ impl Act<'_> {
             | Act::Open { .. }
             | Act::InFront
             | Act::Box(_)
-            | Act::Bare(BareAct::Close | BareAct::Front | BareAct::Behind | BareAct::Activate)
-            | Act::Pair(PairAct::Move | PairAct::Size, _, _) => true,
+            | Act::Bare(BareVerb::Close | BareVerb::Front | BareVerb::Behind | BareVerb::Activate)
+            | Act::Pair(PairVerb::Move | PairVerb::Size, _, _) => true,
             _ => false,
         }
     }
@@ -41,7 +43,7 @@ impl Act<'_> {
         ensures { result ≡ is_beginning (act_meaning self.now) }
     {
         match self {
-            Act::Bare(BareAct::Refresh) => true,
+            Act::Bare(BareVerb::Refresh) => true,
             _ => false,
         }
     }
@@ -64,9 +66,8 @@ impl Act<'_> {
     {
         match self {
             Act::Create(asked) | Act::Open { asked, .. } => match asked.kind {
-                AskedKind::Super { .. } => true,
-                AskedKind::WithoutBitmap(KindWithoutBitmap::Simple)
-                | AskedKind::WithoutBitmap(KindWithoutBitmap::Smart) => false,
+                Kind::SuperBitmap => true,
+                Kind::Simple | Kind::Smart => false,
             },
             _ => false,
         }

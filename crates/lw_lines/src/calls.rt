@@ -1,16 +1,16 @@
 //! The calls that acts are.
 ghost use Rattle.std.specs.Prelude.{◌≡◌, ℕ, List, [], ◌∷◌, pos, ◌+ℤ◌, ◌-ℤ◌, IsTrue, IfOk, option_map, unsigned_abs};
 ghost use Rattle.lw_calls.specs.Limits.{axis_fits, rect_fits, coordinates_fit};
-ghost use Rattle.lw_grammar.specs.Statements.{is_hook_number, is_own_size, is_asked_in_range, place_and_size_fit, is_area_in_range, is_act_in_range};
-ghost use Rattle.lw_grammar.specs.Told.{make_of, created_make, opened_make, spelled_call};
-ghost use Rattle.lw_lines.specs.StatementMeaning.{corners_meaning, kind_meaning, width_meaning, height_meaning, asked_meaning, area_meaning, bare_meaning, number_meaning, pair_meaning, text_meaning, act_meaning};
+ghost use Rattle.lw_grammar.specs.Statements.{is_hook_number, is_own_size, is_asked_in_range, place_and_size_fit, is_area_in_range, greatest_number, is_act_in_range};
+ghost use Rattle.lw_region.specs.Rectangle.{within};
+ghost use Rattle.lw_grammar.specs.Told.{make_of, created_make, opened_make, bare_call, number_call, pair_call, text_call, spelled_call};
+ghost use Rattle.lw_lines.specs.StatementMeaning.{corners_meaning, asked_meaning, area_meaning, act_meaning};
 ghost use Rattle.lw_lines.specs.CallMeaning.{IsBitmapAt, is_apart, is_single_on_layers};
 
 use crate::converted::{coordinate, extent, hook, mode, own_size, pen, register, step};
-use crate::statement::{
-    Act, AskedArea, AskedKind, AskedLayer, BareAct, KindWithoutBitmap, NumberAct, PairAct, TextAct,
-};
+use crate::statement::{Act, AskedArea, AskedLayer};
 use lw_calls::{Area, Call, Kind, Make, Text};
+use lw_grammar::{BareVerb, NumberVerb, PairVerb, TextVerb};
 use std::alloc::{AllocError, Global};
 
 fn hook_number(number: Option<i64>) -> Option<u32>
@@ -32,38 +32,26 @@ fn spread(low: i64, high: i64) -> i32
     (high - low + 1) as i32
 }
 
-impl AskedKind {
-    fn kind(&self) -> Kind
-        ensures { result ≡ kind_meaning self.now }
-    {
-        match self {
-            AskedKind::WithoutBitmap(KindWithoutBitmap::Simple) => Kind::Simple,
-            AskedKind::WithoutBitmap(KindWithoutBitmap::Smart) => Kind::Smart,
-            AskedKind::Super { .. } => Kind::SuperBitmap,
-        }
-    }
-
+impl AskedLayer {
     /// The size of a bitmap of its own, or 0 and 0.
     fn bits(&self) -> (u32, u32)
-        requires { IsTrue (is_own_size (kind_meaning self.now) (width_meaning self.now) (height_meaning self.now)) }
-        ensures { result ≡ (unsigned_abs (width_meaning self.now), unsigned_abs (height_meaning self.now)) }
+        requires { IsTrue (is_own_size self.now.kind self.now.bits_w self.now.bits_h) }
+        ensures { result ≡ (unsigned_abs self.now.bits_w, unsigned_abs self.now.bits_h) }
     {
-        match self {
-            AskedKind::WithoutBitmap(_) => (0, 0),
-            AskedKind::Super { bits_w, bits_h } => (own_size(*bits_w), own_size(*bits_h)),
+        match self.kind {
+            Kind::Simple | Kind::Smart => (0, 0),
+            Kind::SuperBitmap => (own_size(self.bits_w), own_size(self.bits_h)),
         }
     }
-}
 
-impl AskedLayer {
     /// The layer with this place and size.
     fn make(&self, x: i32, y: i32, w: i32, h: i32) -> Make
         requires { IsTrue (is_asked_in_range (asked_meaning self.now)) }
         ensures { result ≡ make_of (asked_meaning self.now) x y w h }
     {
-        let (bits_w, bits_h) = self.kind.bits();
+        let (bits_w, bits_h) = self.bits();
         Make {
-            kind: self.kind.kind(),
+            kind: self.kind,
             place: self.place,
             x,
             y,
@@ -124,98 +112,86 @@ impl AskedArea {
     }
 }
 
-impl BareAct {
-    fn call(&self, slot: u32) -> Call
-        ensures { (bitmaps : List (List ℕ)) (slots : List ℕ)
-            → result ≡ spelled_call bitmaps (bare_meaning self.now) (slot ∷ slots) }
-    {
-        match self {
-            BareAct::Close => Call::Close { slot },
-            BareAct::Front => Call::ToFront { slot },
-            BareAct::Behind => Call::ToBack { slot },
-            BareAct::Activate => Call::Activate { slot },
-            BareAct::Unclip => Call::Unclip { slot },
-            BareAct::Refresh => Call::BeginRefresh { slot },
-            BareAct::GetMsg => Call::TakeMessage { slot },
-        }
+fn bare_call(verb: BareVerb, slot: u32) -> Call
+    ensures { result ≡ bare_call verb slot }
+{
+    match verb {
+        BareVerb::Close => Call::Close { slot },
+        BareVerb::Front => Call::ToFront { slot },
+        BareVerb::Behind => Call::ToBack { slot },
+        BareVerb::Activate => Call::Activate { slot },
+        BareVerb::Unclip => Call::Unclip { slot },
+        BareVerb::Refresh => Call::BeginRefresh { slot },
+        BareVerb::GetMsg => Call::TakeMessage { slot },
     }
 }
 
-impl NumberAct {
-    fn call(&self, slot: u32, number: i64) -> Call
-        requires { IsTrue (is_act_in_range (number_meaning self.now number)) }
-        ensures { (bitmaps : List (List ℕ)) (slots : List ℕ)
-            → result ≡ spelled_call bitmaps (number_meaning self.now number) (slot ∷ slots) }
-    {
-        match self {
-            NumberAct::APen => Call::SetA {
-                slot,
-                pen: pen(number),
-            },
-            NumberAct::BPen => Call::SetB {
-                slot,
-                pen: pen(number),
-            },
-            NumberAct::Mode => Call::SetMode {
-                slot,
-                mode: mode(number),
-            },
-            NumberAct::Mask => Call::SetMask {
-                slot,
-                mask: pen(number),
-            },
-            NumberAct::SetRast => Call::SetRast {
-                slot,
-                pen: pen(number),
-            },
-            NumberAct::Clip => Call::Clip {
-                slot,
-                reg: register(number),
-            },
-        }
+fn number_call(verb: NumberVerb, slot: u32, number: i64) -> Call
+    requires { IsTrue (within (pos 0) number (pos (greatest_number verb))) }
+    ensures { result ≡ number_call verb slot (unsigned_abs number) }
+{
+    match verb {
+        NumberVerb::APen => Call::SetA {
+            slot,
+            pen: pen(number),
+        },
+        NumberVerb::BPen => Call::SetB {
+            slot,
+            pen: pen(number),
+        },
+        NumberVerb::Mode => Call::SetMode {
+            slot,
+            mode: mode(number),
+        },
+        NumberVerb::Mask => Call::SetMask {
+            slot,
+            mask: pen(number),
+        },
+        NumberVerb::SetRast => Call::SetRast {
+            slot,
+            pen: pen(number),
+        },
+        NumberVerb::Clip => Call::Clip {
+            slot,
+            reg: register(number),
+        },
     }
 }
 
-impl PairAct {
-    fn call(&self, slot: u32, x: i64, y: i64) -> Call
-        requires { IsTrue (coordinates_fit x y) }
-        ensures { (bitmaps : List (List ℕ)) (slots : List ℕ)
-            → result ≡ spelled_call bitmaps (pair_meaning self.now x y) (slot ∷ slots) }
-    {
-        let (dx, dy) = (step(x), step(y));
-        match self {
-            PairAct::Move => Call::MoveBy { slot, dx, dy },
-            PairAct::Size => Call::SizeBy {
-                slot,
-                dw: dx,
-                dh: dy,
-            },
-            PairAct::At => Call::At {
-                slot,
-                x: coordinate(x),
-                y: coordinate(y),
-            },
-            PairAct::Write => Call::WritePixel { slot, x: dx, y: dy },
-            PairAct::Read => Call::ReadPixel { slot, x: dx, y: dy },
-            PairAct::Draw => Call::DrawTo {
-                slot,
-                x: coordinate(x),
-                y: coordinate(y),
-            },
-            PairAct::Scroll => Call::Scroll { slot, dx, dy },
-        }
+fn pair_call(verb: PairVerb, slot: u32, x: i64, y: i64) -> Call
+    requires { IsTrue (coordinates_fit x y) }
+    ensures { result ≡ pair_call verb slot x y }
+{
+    let (dx, dy) = (step(x), step(y));
+    match verb {
+        PairVerb::Move => Call::MoveBy { slot, dx, dy },
+        PairVerb::Size => Call::SizeBy {
+            slot,
+            dw: dx,
+            dh: dy,
+        },
+        PairVerb::At => Call::At {
+            slot,
+            x: coordinate(x),
+            y: coordinate(y),
+        },
+        PairVerb::Write => Call::WritePixel { slot, x: dx, y: dy },
+        PairVerb::Read => Call::ReadPixel { slot, x: dx, y: dy },
+        PairVerb::Draw => Call::DrawTo {
+            slot,
+            x: coordinate(x),
+            y: coordinate(y),
+        },
+        PairVerb::Scroll => Call::Scroll { slot, dx, dy },
     }
 }
 
-impl TextAct {
-    fn call(&self, slot: u32, text: Text) -> Call
-        ensures { (bitmaps : List (List ℕ)) (slots : List ℕ)
-            → result ≡ spelled_call bitmaps (text_meaning self.now text) (slot ∷ slots) }
-    {
-        match self {
-            TextAct::Text => Call::Letters { slot, text },
-            TextAct::Title => Call::SetTitle { slot, title: text },
-        }
+fn text_call(verb: TextVerb, slot: u32, text: Text) -> Call
+    ensures { result ≡ text_call verb slot text }
+{
+    match verb {
+        TextVerb::Text => Call::Letters { slot, text },
+        TextVerb::Title => Call::SetTitle { slot, title: text },
     }
 }
 
@@ -328,10 +304,10 @@ impl Act<'_> {
                 asks: *classes,
                 title: text_of(alloc, *title)?,
             }),
-            Act::Bare(act) => Ok(act.call(slot)),
-            Act::Number(act, number) => Ok(act.call(slot, *number)),
-            Act::Pair(act, x, y) => Ok(act.call(slot, *x, *y)),
-            Act::Text(act, text) => Ok(act.call(slot, text_of(alloc, *text)?)),
+            Act::Bare(verb) => Ok(bare_call(*verb, slot)),
+            Act::Number(verb, number) => Ok(number_call(*verb, slot, *number)),
+            Act::Pair(verb, x, y) => Ok(pair_call(*verb, slot, *x, *y)),
+            Act::Text(verb, text) => Ok(text_call(*verb, slot, text_of(alloc, *text)?)),
             Act::Put { area, .. } => Ok(Call::Put {
                 bitmap,
                 slot,

@@ -20,7 +20,4 @@ pub use acts::OpenGroup;
 pub use converted::{depth, hook, size, task_number};
 pub use line::words_statement;
 pub use section::{Section, belongs_in};
-pub use statement::{
-    Act, AskedArea, AskedKind, AskedLayer, BareAct, Corners, KindWithoutBitmap, Layers, NumberAct,
-    PairAct, Statement, TextAct,
-};
+pub use statement::{Act, AskedArea, AskedLayer, Corners, Layers, Statement};

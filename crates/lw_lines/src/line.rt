@@ -12,7 +12,7 @@ use crate::lines_verb::statement_by;
 use crate::section::{Section, belongs_in};
 use crate::statement::Statement;
 use lw_calls::{Form, Reason};
-use lw_words::{Stop, tokens_of, verb_of};
+use lw_words::{Stop, Token, tokens_of, verb_of};
 use std::alloc::Global;
 
 /// The statement that was found, or the reason `Form`.
@@ -27,11 +27,11 @@ fn found(statement: Option<Statement<'_>>) -> Result<Statement<'_>, Stop>
 
 /// The statement of a line that begins with this word, in this section of this input, or its first reason.
 fn verb_line<'a>(
-    alloc: Global,
     form: Form,
     section: Section,
     first: &'a [u8],
     rest: &[&'a [u8]],
+    tokens: &mut Vec<Token<'a>>,
 ) -> Result<Statement<'a>, Stop>
     ensures { Reads result (verb_read form (section_meaning section) (first.now ∷ targets rest.now)) }
 {
@@ -41,12 +41,12 @@ fn verb_line<'a>(
     if !belongs_in(form, section, verb) {
         return Err(Stop::Refused(Reason::Misplaced));
     }
-    let tokens = tokens_of(alloc, rest)?;
+    tokens_of(rest, tokens)?;
     found(statement_by(verb, tokens.as_slice()))
 }
 
 /// The statement of a line of these words in this section of this input, where so many rows of a bitmap of this width are
-/// due, or its first reason.
+/// due, or its first reason. The list of tokens is lent for its room, which is kept from line to line.
 pub fn words_statement<'a>(
     alloc: Global,
     form: Form,
@@ -54,20 +54,21 @@ pub fn words_statement<'a>(
     due: u32,
     width: u32,
     words: &[&'a [u8]],
+    tokens: &mut Vec<Token<'a>>,
 ) -> Result<Statement<'a>, Stop>
     requires { width ≤ 1024 }
     ensures { Reads result (statement_read form (section_meaning section) due width (targets words.now)) }
 {
     if due != 0 {
-        let tokens = tokens_of(alloc, words)?;
+        tokens_of(words, tokens)?;
         return found(row_line(width, tokens.as_slice()));
     }
     if section.is_numbers() {
-        let tokens = tokens_of(alloc, words)?;
+        tokens_of(words, tokens)?;
         return found(numbers_line(alloc, tokens.as_slice())?);
     }
     match words {
         [] => Err(Stop::Refused(Reason::UnknownWord)),
-        [first, rest @ ..] => verb_line(alloc, form, section, *first, rest),
+        [first, rest @ ..] => verb_line(form, section, *first, rest, tokens),
     }
 }

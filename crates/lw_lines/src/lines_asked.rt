@@ -2,11 +2,11 @@ ghost use Rattle.std.specs.Prelude.{◌≡◌, ◌≤◌, IfSome, map, option_ma
 ghost use Rattle.lw_grammar.specs.Statements.{kind_of, place_of, flag as flag_meant, hook_option, message_class_of, classes_from, ask_option, create_without_bitmap, create_super, titled_line, open_without_bitmap, open_super, asked_line};
 ghost use Rattle.lw_grammar.specs.Tokens.{NumberToken};
 ghost use Rattle.lw_words.specs.TokenMeaning.{token_meaning};
-ghost use Rattle.lw_lines.specs.StatementMeaning.{statement_meaning, corners_meaning, without_bitmap_meaning, asked_meaning};
-ghost use Rattle.lw_lines.specs.AskedParts.{after_numbers, with_words, with_numbers, with_names};
+ghost use Rattle.lw_lines.specs.StatementMeaning.{statement_meaning, corners_meaning, asked_meaning};
+ghost use Rattle.lw_lines.specs.AskedParts.{after_numbers, with_words, with_numbers};
 
 use crate::corners::corners_in;
-use crate::statement::{Act, AskedKind, AskedLayer, Corners, KindWithoutBitmap, Statement};
+use crate::statement::{Act, AskedLayer, Corners, Statement};
 use lw_calls::{Kind, Place};
 use lw_words::{Token, is_text};
 
@@ -125,13 +125,13 @@ fn asks_in<'a, 'b>(tokens: &'b [Token<'a>]) -> (u8, &'b [Token<'a>])
 /// What stands after the four numbers of a creation: `[backdrop] [hook N]`
 fn create_without_bitmap<'a>(
     layer: &'a [u8],
-    kind: KindWithoutBitmap,
+    kind: Kind,
     place: Place,
     numbers: Corners,
     tokens: &[Token<'a>],
 ) -> Option<Statement<'a>>
     ensures { option_map statement_meaning result
-        ≡ create_without_bitmap layer.now (without_bitmap_meaning kind) place (corners_meaning numbers)
+        ≡ create_without_bitmap layer.now kind place (corners_meaning numbers)
         (map token_meaning tokens.now) }
 {
     let (backdrop, rest) = flag(b"backdrop", tokens);
@@ -139,13 +139,7 @@ fn create_without_bitmap<'a>(
     if !rest.is_empty() {
         return None;
     }
-    let asked = AskedLayer {
-        kind: AskedKind::WithoutBitmap(kind),
-        place,
-        numbers,
-        backdrop,
-        hook,
-    };
+    let asked = AskedLayer::without_bitmap(kind, place, numbers, backdrop, hook);
     Some(Statement::on(layer, Act::Create(asked)))
 }
 
@@ -170,14 +164,13 @@ fn create_super<'a>(
                 return None;
             }
             let asked = AskedLayer {
-                kind: AskedKind::Super {
-                    bits_w: *bits_w,
-                    bits_h: *bits_h,
-                },
+                kind: Kind::SuperBitmap,
                 place,
                 numbers,
                 backdrop,
                 hook: None,
+                bits_w: *bits_w,
+                bits_h: *bits_h,
             };
             Some(Statement::on(layer, Act::Create(asked)))
         }
@@ -218,13 +211,13 @@ fn titled<'a>(
 /// What stands after the four numbers of an opening: `[backdrop] [borderless] [nocare] [hook N] [ask SET] "TITLE"`
 fn open_without_bitmap<'a>(
     layer: &'a [u8],
-    kind: KindWithoutBitmap,
+    kind: Kind,
     place: Place,
     numbers: Corners,
     tokens: &[Token<'a>],
 ) -> Option<Statement<'a>>
     ensures { option_map statement_meaning result
-        ≡ open_without_bitmap layer.now (without_bitmap_meaning kind) place (corners_meaning numbers)
+        ≡ open_without_bitmap layer.now kind place (corners_meaning numbers)
         (map token_meaning tokens.now) }
 {
     let (backdrop, rest) = flag(b"backdrop", tokens);
@@ -232,13 +225,7 @@ fn open_without_bitmap<'a>(
     let (nocare, rest) = flag(b"nocare", rest);
     let (hook, rest) = hook_in(rest);
     let (classes, rest) = asks_in(rest);
-    let asked = AskedLayer {
-        kind: AskedKind::WithoutBitmap(kind),
-        place,
-        numbers,
-        backdrop,
-        hook,
-    };
+    let asked = AskedLayer::without_bitmap(kind, place, numbers, backdrop, hook);
     titled(layer, asked, !borderless, nocare, classes, rest)
 }
 
@@ -257,11 +244,13 @@ fn open_sized<'a>(
     let (backdrop, rest) = flag(b"backdrop", tokens);
     let (classes, rest) = asks_in(rest);
     let asked = AskedLayer {
-        kind: AskedKind::Super { bits_w, bits_h },
+        kind: Kind::SuperBitmap,
         place,
         numbers,
         backdrop,
         hook: None,
+        bits_w,
+        bits_h,
     };
     titled(layer, asked, false, false, classes, rest)
 }
@@ -309,37 +298,13 @@ fn kind_line<'a>(
 {
     match request {
         Request::Creation => match kind {
-            Kind::Simple => create_without_bitmap(
-                layer,
-                KindWithoutBitmap::Simple,
-                place,
-                numbers,
-                tokens,
-            ),
-            Kind::Smart => create_without_bitmap(
-                layer,
-                KindWithoutBitmap::Smart,
-                place,
-                numbers,
-                tokens,
-            ),
+            Kind::Simple => create_without_bitmap(layer, Kind::Simple, place, numbers, tokens),
+            Kind::Smart => create_without_bitmap(layer, Kind::Smart, place, numbers, tokens),
             Kind::SuperBitmap => create_super(layer, place, numbers, tokens),
         },
         Request::Opening => match kind {
-            Kind::Simple => open_without_bitmap(
-                layer,
-                KindWithoutBitmap::Simple,
-                place,
-                numbers,
-                tokens,
-            ),
-            Kind::Smart => open_without_bitmap(
-                layer,
-                KindWithoutBitmap::Smart,
-                place,
-                numbers,
-                tokens,
-            ),
+            Kind::Simple => open_without_bitmap(layer, Kind::Simple, place, numbers, tokens),
+            Kind::Smart => open_without_bitmap(layer, Kind::Smart, place, numbers, tokens),
             Kind::SuperBitmap => open_super(layer, place, numbers, tokens),
         },
     }
@@ -384,9 +349,9 @@ fn named_line<'a>(
     }
 }
 
-/// A request's words, in parts.
-fn asked_parts<'a>(request: Request, tokens: &[Token<'a>]) -> Option<Statement<'a>>
-    ensures { option_map statement_meaning result ≡ with_names (after_numbers request) (map token_meaning tokens.now) }
+/// `create L KIND PLACE X0 Y0 X1 Y1 ..`, and `open L KIND PLACE X Y W H ..`
+pub(crate) fn asked_line<'a>(request: Request, tokens: &[Token<'a>]) -> Option<Statement<'a>>
+    ensures { option_map statement_meaning result ≡ asked_line (after_numbers request) (map token_meaning tokens.now) }
 {
     match tokens {
         [
@@ -397,11 +362,4 @@ fn asked_parts<'a>(request: Request, tokens: &[Token<'a>]) -> Option<Statement<'
         ] => named_line(request, *layer, *kind, *place, rest),
         _ => None,
     }
-}
-
-/// `create L KIND PLACE X0 Y0 X1 Y1 ..`, and `open L KIND PLACE X Y W H ..`
-pub(crate) fn asked_line<'a>(request: Request, tokens: &[Token<'a>]) -> Option<Statement<'a>>
-    ensures { option_map statement_meaning result ≡ asked_line (after_numbers request) (map token_meaning tokens.now) }
-{
-    asked_parts(request, tokens)
 }

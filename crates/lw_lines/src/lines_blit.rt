@@ -1,26 +1,16 @@
 ghost use Rattle.std.specs.Prelude.{◌≡◌, map, option_map};
-ghost use Rattle.lw_grammar.specs.Statements.{minterm_of, put_line, blit_line, scrollraster_line};
+ghost use Rattle.lw_grammar.specs.Statements.{minterm_of, last_minterm, blit_end, blit_area, put_line, blit_line};
 ghost use Rattle.lw_grammar.specs.Tokens.{bytes_in};
 ghost use Rattle.lw_words.specs.TokenMeaning.{token_meaning};
-ghost use Rattle.lw_lines.specs.StatementMeaning.{statement_meaning, corners_meaning};
-ghost use Rattle.lw_lines.specs.BlitParts.{only_minterm, end_taken, begin_line, put_end, blit_between, scroll_parts};
+ghost use Rattle.lw_lines.specs.StatementMeaning.{statement_meaning, corners_meaning, area_meaning};
 
-use crate::corners::{corners_in, only_corners};
+use crate::corners::corners_in;
 use crate::statement::{Act, AskedArea, Corners, Layers, Statement};
 use lw_words::{Token, digits_in};
 
 /// A blit from this place, with these numbers and this minterm after its names.
 fn asked_area(sx: i64, sy: i64, corners: &Corners, minterm: u8) -> AskedArea
-    ensures { result
-        ≡ record {
-          sx = sx;
-          sy = sy;
-          x = corners.now.x0;
-          y = corners.now.y0;
-          w = corners.now.x1;
-          h = corners.now.y1;
-          minterm = minterm;
-        } }
+    ensures { area_meaning result ≡ blit_area sx sy (corners_meaning corners.now) minterm }
 {
     AskedArea {
         sx,
@@ -50,9 +40,9 @@ fn minterm_in(token: &Token<'_>) -> Option<u8>
     }
 }
 
-/// A minterm alone.
-fn only_minterm(tokens: &[Token<'_>]) -> Option<u8>
-    ensures { result ≡ only_minterm (map token_meaning tokens.now) }
+/// A minterm at the end of a line.
+fn last_minterm(tokens: &[Token<'_>]) -> Option<u8>
+    ensures { result ≡ last_minterm (map token_meaning tokens.now) }
 {
     match tokens {
         [word] => minterm_in(word),
@@ -62,20 +52,20 @@ fn only_minterm(tokens: &[Token<'_>]) -> Option<u8>
 
 /// `X Y W H MM` after the names of a blit.
 fn blit_end(tokens: &[Token<'_>]) -> Option<(Corners, u8)>
-    ensures { option_map (λ e. (corners_meaning e.0, e.1)) result ≡ end_taken (map token_meaning tokens.now) }
+    ensures { option_map (λ e. (corners_meaning e.0, e.1)) result ≡ blit_end (map token_meaning tokens.now) }
 {
     match corners_in(tokens) {
         None => None,
-        Some((corners, rest)) => match only_minterm(rest) {
+        Some((corners, rest)) => match last_minterm(rest) {
             None => None,
             Some(minterm) => Some((corners, minterm)),
         },
     }
 }
 
-/// `put BM SX SY L X Y W H MM`, in two parts
-fn put_parts<'a>(tokens: &[Token<'a>]) -> Option<Statement<'a>>
-    ensures { option_map statement_meaning result ≡ begin_line put_end (map token_meaning tokens.now) }
+/// `put BM SX SY L X Y W H MM`
+pub(crate) fn put_line<'a>(tokens: &[Token<'a>]) -> Option<Statement<'a>>
+    ensures { option_map statement_meaning result ≡ put_line (map token_meaning tokens.now) }
 {
     match tokens {
         [
@@ -98,16 +88,9 @@ fn put_parts<'a>(tokens: &[Token<'a>]) -> Option<Statement<'a>>
     }
 }
 
-/// `put BM SX SY L X Y W H MM`
-pub(crate) fn put_line<'a>(tokens: &[Token<'a>]) -> Option<Statement<'a>>
-    ensures { option_map statement_meaning result ≡ put_line (map token_meaning tokens.now) }
-{
-    put_parts(tokens)
-}
-
-/// `blit L SX SY M X Y W H MM`, in two parts
-fn blit_parts<'a>(tokens: &[Token<'a>]) -> Option<Statement<'a>>
-    ensures { option_map statement_meaning result ≡ begin_line blit_between (map token_meaning tokens.now) }
+/// `blit L SX SY M X Y W H MM`
+pub(crate) fn blit_line<'a>(tokens: &[Token<'a>]) -> Option<Statement<'a>>
+    ensures { option_map statement_meaning result ≡ blit_line (map token_meaning tokens.now) }
 {
     match tokens {
         [
@@ -126,44 +109,4 @@ fn blit_parts<'a>(tokens: &[Token<'a>]) -> Option<Statement<'a>>
         },
         _ => None,
     }
-}
-
-/// `blit L SX SY M X Y W H MM`
-pub(crate) fn blit_line<'a>(tokens: &[Token<'a>]) -> Option<Statement<'a>>
-    ensures { option_map statement_meaning result ≡ blit_line (map token_meaning tokens.now) }
-{
-    blit_parts(tokens)
-}
-
-/// `scrollraster L DX DY X0 Y0 X1 Y1`, in two parts
-fn scrollraster_parts<'a>(tokens: &[Token<'a>]) -> Option<Statement<'a>>
-    ensures { option_map statement_meaning result ≡ scroll_parts (map token_meaning tokens.now) }
-{
-    match tokens {
-        [
-            Token::Name(layer),
-            Token::Number(_, dx),
-            Token::Number(_, dy),
-            rest @ ..,
-        ] => match only_corners(rest) {
-            None => None,
-            Some(corners) => {
-                let act = Act::ScrollRaster {
-                    dx: *dx,
-                    dy: *dy,
-                    corners,
-                };
-                let layers = Layers::One(*layer);
-                Some(Statement::Call { layers, act })
-            }
-        },
-        _ => None,
-    }
-}
-
-/// `scrollraster L DX DY X0 Y0 X1 Y1`
-pub(crate) fn scrollraster_line<'a>(tokens: &[Token<'a>]) -> Option<Statement<'a>>
-    ensures { option_map statement_meaning result ≡ scrollraster_line (map token_meaning tokens.now) }
-{
-    scrollraster_parts(tokens)
 }

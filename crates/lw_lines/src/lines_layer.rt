@@ -1,41 +1,43 @@
 ghost use Rattle.std.specs.Prelude.{◌≡◌, map, option_map};
-ghost use Rattle.lw_grammar.specs.Statements.{layer_line, number_line, pair_line, text_line, rect_line, region_line, clear_line, which_line, infront_line, four_line, endrefresh_line, BoxAct, FillAct, four};
+ghost use Rattle.lw_grammar.specs.Statements.{layer_line, number_line, pair_line, text_line, rect_line, region_line, clear_line, which_line, infront_line, four_line, scrollraster_line, endrefresh_line, BoxAct, FillAct};
 ghost use Rattle.lw_words.specs.TokenMeaning.{token_meaning};
-ghost use Rattle.lw_lines.specs.StatementMeaning.{statement_meaning, bare_meaning, number_meaning, pair_meaning, text_meaning};
+ghost use Rattle.lw_lines.specs.StatementMeaning.{statement_meaning};
 
-use crate::statement::{Act, BareAct, Corners, Layers, NumberAct, PairAct, Statement, TextAct};
+use crate::corners::only_corners;
+use crate::statement::{Act, Layers, Statement};
 use lw_calls::{PairOp, RectOp};
+use lw_grammar::{BareVerb, NumberVerb, PairVerb, TextVerb};
 use lw_words::{Token, is_text};
 
 /// A layer alone, as `close L`
-pub(crate) fn layer_line<'a>(act: BareAct, tokens: &[Token<'a>]) -> Option<Statement<'a>>
-    ensures { option_map statement_meaning result ≡ layer_line (bare_meaning act) (map token_meaning tokens.now) }
+pub(crate) fn layer_line<'a>(verb: BareVerb, tokens: &[Token<'a>]) -> Option<Statement<'a>>
+    ensures { option_map statement_meaning result ≡ layer_line verb (map token_meaning tokens.now) }
 {
     match tokens {
-        [Token::Name(layer)] => Some(Statement::on(*layer, Act::Bare(act))),
+        [Token::Name(layer)] => Some(Statement::on(*layer, Act::Bare(verb))),
         _ => None,
     }
 }
 
 /// A layer and a number, as `apen L P`
-pub(crate) fn number_line<'a>(act: NumberAct, tokens: &[Token<'a>]) -> Option<Statement<'a>>
-    ensures { option_map statement_meaning result ≡ number_line (number_meaning act) (map token_meaning tokens.now) }
+pub(crate) fn number_line<'a>(verb: NumberVerb, tokens: &[Token<'a>]) -> Option<Statement<'a>>
+    ensures { option_map statement_meaning result ≡ number_line verb (map token_meaning tokens.now) }
 {
     match tokens {
         [Token::Name(layer), Token::Number(_, number)] => {
-            Some(Statement::on(*layer, Act::Number(act, *number)))
+            Some(Statement::on(*layer, Act::Number(verb, *number)))
         }
         _ => None,
     }
 }
 
 /// A layer and two numbers, as `move L DX DY`
-pub(crate) fn pair_line<'a>(act: PairAct, tokens: &[Token<'a>]) -> Option<Statement<'a>>
-    ensures { option_map statement_meaning result ≡ pair_line (pair_meaning act) (map token_meaning tokens.now) }
+pub(crate) fn pair_line<'a>(verb: PairVerb, tokens: &[Token<'a>]) -> Option<Statement<'a>>
+    ensures { option_map statement_meaning result ≡ pair_line verb (map token_meaning tokens.now) }
 {
     match tokens {
         [Token::Name(layer), Token::Number(_, x), Token::Number(_, y)] => {
-            let act = Act::Pair(act, *x, *y);
+            let act = Act::Pair(verb, *x, *y);
             let layers = Layers::One(*layer);
             Some(Statement::Call { layers, act })
         }
@@ -44,12 +46,12 @@ pub(crate) fn pair_line<'a>(act: PairAct, tokens: &[Token<'a>]) -> Option<Statem
 }
 
 /// A layer and a text, as `title L "TEXT"`
-pub(crate) fn text_line<'a>(act: TextAct, tokens: &[Token<'a>]) -> Option<Statement<'a>>
-    ensures { option_map statement_meaning result ≡ text_line (text_meaning act) (map token_meaning tokens.now) }
+pub(crate) fn text_line<'a>(verb: TextVerb, tokens: &[Token<'a>]) -> Option<Statement<'a>>
+    ensures { option_map statement_meaning result ≡ text_line verb (map token_meaning tokens.now) }
 {
     match tokens {
         [Token::Name(layer), Token::Text(text)] => {
-            Some(Statement::on(*layer, Act::Text(act, *text)))
+            Some(Statement::on(*layer, Act::Text(verb, *text)))
         }
         _ => None,
     }
@@ -60,27 +62,17 @@ pub(crate) fn rect_line<'a>(op: RectOp, tokens: &[Token<'a>]) -> Option<Statemen
     ensures { option_map statement_meaning result ≡ rect_line op (map token_meaning tokens.now) }
 {
     match tokens {
-        [
-            Token::Number(_, register),
-            Token::Number(_, x0),
-            Token::Number(_, y0),
-            Token::Number(_, x1),
-            Token::Number(_, y1),
-        ] => {
-            let corners = Corners {
-                x0: *x0,
-                y0: *y0,
-                x1: *x1,
-                y1: *y1,
-            };
-            let act = Act::RegRect {
-                op,
-                register: *register,
-                corners,
-            };
-            let layers = Layers::Nothing;
-            Some(Statement::Call { layers, act })
-        }
+        [Token::Number(_, register), rest @ ..] => match only_corners(rest) {
+            None => None,
+            Some(corners) => {
+                let register = *register;
+                Some(Statement::apart(Act::RegRect {
+                    op,
+                    register,
+                    corners,
+                }))
+            }
+        },
         _ => None,
     }
 }
@@ -138,48 +130,52 @@ pub(crate) fn infront_line<'a>(tokens: &[Token<'a>]) -> Option<Statement<'a>>
 
 /// `box L X Y W H`
 pub(crate) fn box_line<'a>(tokens: &[Token<'a>]) -> Option<Statement<'a>>
-    ensures { option_map statement_meaning result ≡ four_line (λ x y w h. BoxAct x y w h) (map token_meaning tokens.now) }
+    ensures { option_map statement_meaning result ≡ four_line (λ r. BoxAct r) (map token_meaning tokens.now) }
 {
     match tokens {
-        [
-            Token::Name(layer),
-            Token::Number(_, x0),
-            Token::Number(_, y0),
-            Token::Number(_, x1),
-            Token::Number(_, y1),
-        ] => {
-            let corners = Corners {
-                x0: *x0,
-                y0: *y0,
-                x1: *x1,
-                y1: *y1,
-            };
-            Some(Statement::on(*layer, Act::Box(corners)))
-        }
+        [Token::Name(layer), rest @ ..] => match only_corners(rest) {
+            None => None,
+            Some(corners) => Some(Statement::on(*layer, Act::Box(corners))),
+        },
         _ => None,
     }
 }
 
 /// `fill L X0 Y0 X1 Y1`
 pub(crate) fn fill_line<'a>(tokens: &[Token<'a>]) -> Option<Statement<'a>>
-    ensures { option_map statement_meaning result ≡ four_line (λ a b c d. FillAct (four a b c d)) (map token_meaning tokens.now) }
+    ensures { option_map statement_meaning result ≡ four_line (λ r. FillAct r) (map token_meaning tokens.now) }
+{
+    match tokens {
+        [Token::Name(layer), rest @ ..] => match only_corners(rest) {
+            None => None,
+            Some(corners) => Some(Statement::on(*layer, Act::Fill(corners))),
+        },
+        _ => None,
+    }
+}
+
+/// `scrollraster L DX DY X0 Y0 X1 Y1`
+pub(crate) fn scrollraster_line<'a>(tokens: &[Token<'a>]) -> Option<Statement<'a>>
+    ensures { option_map statement_meaning result ≡ scrollraster_line (map token_meaning tokens.now) }
 {
     match tokens {
         [
             Token::Name(layer),
-            Token::Number(_, x0),
-            Token::Number(_, y0),
-            Token::Number(_, x1),
-            Token::Number(_, y1),
-        ] => {
-            let corners = Corners {
-                x0: *x0,
-                y0: *y0,
-                x1: *x1,
-                y1: *y1,
-            };
-            Some(Statement::on(*layer, Act::Fill(corners)))
-        }
+            Token::Number(_, dx),
+            Token::Number(_, dy),
+            rest @ ..,
+        ] => match only_corners(rest) {
+            None => None,
+            Some(corners) => {
+                let act = Act::ScrollRaster {
+                    dx: *dx,
+                    dy: *dy,
+                    corners,
+                };
+                let layers = Layers::One(*layer);
+                Some(Statement::Call { layers, act })
+            }
+        },
         _ => None,
     }
 }

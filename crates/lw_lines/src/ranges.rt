@@ -2,12 +2,12 @@ ghost use Rattle.std.specs.Prelude.{◌≡◌, ◌&&◌, map, pos};
 ghost use Rattle.std.specs.List.{list_all};
 ghost use Rattle.lw_region.specs.Rectangle.{within};
 ghost use Rattle.lw_calls.specs.Limits.{is_coordinate, axis_fits, rect_fits, coordinates_fit as places_meant, is_extent};
-ghost use Rattle.lw_grammar.specs.Statements.{is_hook_number, is_own_size, is_asked_in_range, place_and_size_fit, is_area_in_range, is_act_in_range, is_line_in_range};
-ghost use Rattle.lw_lines.specs.StatementMeaning.{corners_meaning, kind_meaning, width_meaning, height_meaning, asked_meaning, area_meaning, number_meaning, act_meaning, statement_meaning};
+ghost use Rattle.lw_grammar.specs.Statements.{is_hook_number, is_own_size, is_asked_in_range, place_and_size_fit, is_area_in_range, greatest_number, is_act_in_range, is_line_in_range};
+ghost use Rattle.lw_lines.specs.StatementMeaning.{corners_meaning, asked_meaning, area_meaning, act_meaning, statement_meaning};
 
-use crate::statement::{
-    Act, AskedArea, AskedKind, AskedLayer, Corners, KindWithoutBitmap, NumberAct, Statement,
-};
+use crate::statement::{Act, AskedArea, AskedLayer, Corners, Statement};
+use lw_calls::Kind;
+use lw_grammar::NumberVerb;
 
 #[tactic(auto, using(std::proofs::lemmas::Int::ints), unfolding(lw_region::specs::Rectangle::within))]
 fn is_between(low: i64, number: i64, high: i64) -> bool
@@ -71,18 +71,13 @@ fn is_hook_number(hook: Option<i64>) -> bool
     }
 }
 
-impl AskedKind {
-    /// Whether the size of a bitmap of its own is in range, if it has one.
-    fn is_in_range(&self) -> bool
-        ensures { result ≡ is_own_size (kind_meaning self.now) (width_meaning self.now) (height_meaning self.now) }
-    {
-        match self {
-            AskedKind::WithoutBitmap(KindWithoutBitmap::Simple)
-            | AskedKind::WithoutBitmap(KindWithoutBitmap::Smart) => true,
-            AskedKind::Super { bits_w, bits_h } => {
-                is_between(1, *bits_w, 2048) && is_between(1, *bits_h, 2048)
-            }
-        }
+/// Whether the size of a bitmap of a layer's own is in range, if it has one.
+fn is_own_size(kind: Kind, width: i64, height: i64) -> bool
+    ensures { result ≡ is_own_size kind width height }
+{
+    match kind {
+        Kind::Simple | Kind::Smart => true,
+        Kind::SuperBitmap => is_between(1, width, 2048) && is_between(1, height, 2048),
     }
 }
 
@@ -91,7 +86,7 @@ impl AskedLayer {
     fn is_in_range(&self) -> bool
         ensures { result ≡ is_asked_in_range (asked_meaning self.now) }
     {
-        is_hook_number(self.hook) && self.kind.is_in_range()
+        is_hook_number(self.hook) && is_own_size(self.kind, self.bits_w, self.bits_h)
     }
 }
 
@@ -104,17 +99,13 @@ impl AskedArea {
     }
 }
 
-impl NumberAct {
-    /// Whether the number after the layer is in its range.
-    fn is_in_range(&self, number: i64) -> bool
-        ensures { result ≡ is_act_in_range (number_meaning self.now number) }
-    {
-        match self {
-            NumberAct::Mode | NumberAct::Clip => is_between(0, number, 7),
-            NumberAct::APen | NumberAct::BPen | NumberAct::Mask | NumberAct::SetRast => {
-                is_between(0, number, 255)
-            }
-        }
+/// The greatest number that a layer may have after it.
+fn greatest_number(verb: NumberVerb) -> i64
+    ensures { result ≡ pos (greatest_number verb) }
+{
+    match verb {
+        NumberVerb::Mode | NumberVerb::Clip => 7,
+        NumberVerb::APen | NumberVerb::BPen | NumberVerb::Mask | NumberVerb::SetRast => 255,
     }
 }
 
@@ -137,7 +128,7 @@ impl Act<'_> {
             Act::Open { asked, .. } => asked.numbers.are_place_and_size() && asked.is_in_range(),
             Act::Box(corners) => corners.are_place_and_size(),
             Act::Which { x, y } | Act::Pair(_, x, y) => coordinates_fit(*x, *y),
-            Act::Number(act, number) => act.is_in_range(*number),
+            Act::Number(verb, number) => is_between(0, *number, greatest_number(*verb)),
             Act::Fill(corners) => corners.fit(),
             Act::ScrollRaster { dx, dy, corners } => coordinates_fit(*dx, *dy) && corners.fit(),
             Act::Put { area, .. } | Act::Blit(area) => area.is_in_range(),

@@ -3,7 +3,7 @@ ghost use Rattle.lw_grammar.specs.Script.{is_screen_due, are_assets_due, are_cal
 ghost use Rattle.lw_lines.specs.SectionMeaning.{section_meaning};
 
 use lw_calls::Form;
-use lw_grammar::Verb;
+use lw_grammar::{PartVerb, Verb};
 
 /// The parts of a script, by what is due in them.
 #[derive(Clone, Copy, Debug, PartialEq, Eq)]
@@ -91,11 +91,11 @@ pub fn belongs_in(form: Form, section: Section, verb: Verb) -> bool
     ensures { result ≡ belongs_meant form (section_meaning section) verb }
 {
     match verb {
-        Verb::Screen => section.is_screen(),
-        Verb::Glyph | Verb::Bitmap => section.is_assets(),
-        Verb::Task => section.is_assets() || section.is_tasks(),
-        Verb::Order => section.is_tasks() && is_ordered(form),
-        Verb::Report => section.is_tasks() && is_audited(form),
+        Verb::Part(PartVerb::Screen) => section.is_screen(),
+        Verb::Part(PartVerb::Glyph | PartVerb::Bitmap) => section.is_assets(),
+        Verb::Part(PartVerb::Task) => section.is_assets() || section.is_tasks(),
+        Verb::Part(PartVerb::Order) => section.is_tasks() && is_ordered(form),
+        Verb::Part(PartVerb::Report) => section.is_tasks() && is_audited(form),
         _ => section.is_calls(),
     }
 }

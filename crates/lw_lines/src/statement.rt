@@ -1,4 +1,7 @@
-use lw_calls::{PairOp, Place, RectOp};
+ghost use Rattle.lw_lines.specs.OwnBits.{FitKind};
+
+use lw_calls::{Kind, PairOp, Place, RectOp};
+use lw_grammar::{BareVerb, NumberVerb, PairVerb, TextVerb};
 use lw_words::Digits;
 
 /// Four numbers of a line: the bounds of a rectangle, or a place and a size.
@@ -10,30 +13,46 @@ pub struct Corners {
     pub y1: i64,
 }
 
-/// The kinds of layers that have no bitmap of their own.
-#[derive(Clone, Copy)]
-pub enum KindWithoutBitmap {
-    Simple,
-    Smart,
-}
-
-/// The kind of a layer that is asked for.
-#[derive(Clone, Copy)]
-pub enum AskedKind {
-    WithoutBitmap(KindWithoutBitmap),
-    /// A layer with a bitmap of its own of this size.
-    Super { bits_w: i64, bits_h: i64 },
-}
-
 /// A layer as a line asks for it, in the line's own numbers. The call that the line is has a `Make` of them.
 #[derive(Clone, Copy)]
 pub struct AskedLayer {
-    pub kind: AskedKind,
+    pub kind: Kind,
     pub place: Place,
     /// The bounds of a creation, or the place and size of an opening.
     pub numbers: Corners,
     pub backdrop: bool,
     pub hook: Option<i64>,
+    /// The size of a bitmap of its own, or 0 and 0.
+    pub bits_w: i64,
+    pub bits_h: i64,
+    ghost bits: { FitKind kind bits_w bits_h },
+}
+
+impl AskedLayer {
+    ghost use Rattle.std.specs.Prelude.{◌≡◌};
+    ghost use Rattle.lw_grammar.specs.Statements.{asked_without_bitmap};
+    ghost use Rattle.lw_lines.specs.StatementMeaning.{corners_meaning, asked_meaning};
+
+    /// A layer without a bitmap of its own.
+    pub fn without_bitmap(
+        kind: Kind,
+        place: Place,
+        numbers: Corners,
+        backdrop: bool,
+        hook: Option<i64>,
+    ) -> AskedLayer
+        ensures { asked_meaning result ≡ asked_without_bitmap kind place (corners_meaning numbers) backdrop hook }
+    {
+        AskedLayer {
+            kind,
+            place,
+            numbers,
+            backdrop,
+            hook,
+            bits_w: 0,
+            bits_h: 0,
+        }
+    }
 }
 
 /// A blit's places and sizes, and its minterm.
@@ -46,48 +65,6 @@ pub struct AskedArea {
     pub w: i64,
     pub h: i64,
     pub minterm: u8,
-}
-
-/// The calls whose line has a layer alone.
-#[derive(Clone, Copy)]
-pub enum BareAct {
-    Close,
-    Front,
-    Behind,
-    Activate,
-    Unclip,
-    Refresh,
-    GetMsg,
-}
-
-/// The calls whose line has a layer and a number.
-#[derive(Clone, Copy)]
-pub enum NumberAct {
-    APen,
-    BPen,
-    Mode,
-    Mask,
-    SetRast,
-    Clip,
-}
-
-/// The calls whose line has a layer and two numbers.
-#[derive(Clone, Copy)]
-pub enum PairAct {
-    Move,
-    Size,
-    At,
-    Write,
-    Read,
-    Draw,
-    Scroll,
-}
-
-/// The calls whose line has a layer and a text.
-#[derive(Clone, Copy)]
-pub enum TextAct {
-    Text,
-    Title,
 }
 
 /// What the line of a call asks for, without the layers that it names. Names and texts stand in the input.
@@ -123,10 +100,10 @@ pub enum Act<'a> {
         x: i64,
         y: i64,
     },
-    Bare(BareAct),
-    Number(NumberAct, i64),
-    Pair(PairAct, i64, i64),
-    Text(TextAct, &'a [u8]),
+    Bare(BareVerb),
+    Number(NumberVerb, i64),
+    Pair(PairVerb, i64, i64),
+    Text(TextVerb, &'a [u8]),
     Fill(Corners),
     ScrollRaster {
         dx: i64,

@@ -2,7 +2,7 @@
 
 ghost use Rattle.std.specs.Prelude.{◌≡◌, List, ℕ, IsTrue};
 ghost use Rattle.lw_calls.specs.Plan.{is_all};
-ghost use Rattle.lw_canonical.specs.Spelling.{rect_word, pair_word};
+ghost use Rattle.lw_grammar.specs.Verbs.{rect_word, region_word};
 ghost use Rattle.lw_calls.specs.Touches.{slots_of};
 ghost use Rattle.lw_print.specs.Behind.{first_word, words_of_call};
 
@@ -14,7 +14,7 @@ pub fn verb_of(call: &Call) -> &'static str
 {
     match call {
         Call::RegRect { op, .. } => rect_word(*op),
-        Call::RegPair { op, .. } => pair_word(*op),
+        Call::RegPair { op, .. } => region_word(*op),
         Call::RegClear { .. } => "clearregion",
         Call::Which { .. } => "which",
         Call::SetA { .. } => "apen",
@@ -76,8 +76,8 @@ fn rect_word(op: RectOp) -> &'static str
 }
 
 /// The first word of a call that joins two registers.
-fn pair_word(op: PairOp) -> &'static str
-    ensures { result.now ≡ pair_word op }
+fn region_word(op: PairOp) -> &'static str
+    ensures { result.now ≡ region_word op }
 {
     match op {
         PairOp::Or => "orregion",

@@ -10,12 +10,17 @@ ghost use Rattle.lw_script.specs.Represents.{Represents};
 
 use crate::state::Reader;
 use lw_lines::{Statement, words_statement};
-use lw_words::{Stop, line_words};
+use lw_words::{Stop, Token, line_words};
 use std::alloc::Global;
 
 impl<'a> Reader<'a> {
     /// The statement of a line of these words, or its first reason.
-    fn words_line(&self, alloc: Global, words: &[&'a [u8]]) -> Result<Statement<'a>, Stop>
+    fn words_line(
+        &self,
+        alloc: Global,
+        words: &[&'a [u8]],
+        tokens: &mut Vec<Token<'a>>,
+    ) -> Result<Statement<'a>, Stop>
         requires { self.now.assets.width ≤ 1024 }
         ensures { Reads result (statement_of (setting_of self.now) (known self.now) (targets words.now)) }
     {
@@ -27,6 +32,7 @@ impl<'a> Reader<'a> {
             due,
             self.assets.width,
             words,
+            tokens,
         ) {
             Err(stop) => Err(stop),
             Ok(statement) => match self.tested(&statement) {
@@ -37,22 +43,35 @@ impl<'a> Reader<'a> {
     }
 
     /// The statement of a line that isn't skipped, or its first reason.
-    fn line(&self, alloc: Global, line: &'a [u8]) -> Result<Statement<'a>, Stop>
+    fn line(
+        &self,
+        alloc: Global,
+        line: &'a [u8],
+        words: &mut Vec<&'a [u8]>,
+        tokens: &mut Vec<Token<'a>>,
+    ) -> Result<Statement<'a>, Stop>
         requires { self.now.assets.width ≤ 1024 }
-        ensures { Reads result (line_read (setting_of self.now) (known self.now) line.now) }
+        ensures { Reads result (line_read (setting_of self.now) (known self.now) line.entry.now) }
     {
-        match line_words(alloc, line) {
+        match line_words(line, words) {
             Err(stop) => Err(stop),
-            Ok(words) => self.words_line(alloc, words.as_slice()),
+            Ok(()) => self.words_line(alloc, words.as_slice(), tokens),
         }
     }
 
-    /// The statement of a line that isn't skipped, below the lines that were read, or its first reason.
-    pub fn read_line(&self, alloc: Global, line: &'a [u8]) -> Result<Statement<'a>, Stop>
+    /// The statement of a line that isn't skipped, below the lines that were read, or its first reason. The lists are lent for
+    /// their room, which is kept from line to line.
+    pub fn read_line(
+        &self,
+        alloc: Global,
+        line: &'a [u8],
+        words: &mut Vec<&'a [u8]>,
+        tokens: &mut Vec<Token<'a>>,
+    ) -> Result<Statement<'a>, Stop>
         requires { self.now.assets.width ≤ 1024 }
         ensures { (s : Setting) (above : List StatementValue) → Represents s self.now above
-            → Reads result (line_read s (told above) line.now) }
+            → Reads result (line_read s (told above) line.entry.now) }
     {
-        self.line(alloc, line)
+        self.line(alloc, line, words, tokens)
     }
 }

@@ -18,8 +18,10 @@ fn read_lines(alloc: Global, bytes: &[u8], hooks: u32, form: Form) -> Result<Inp
     let mut reader = Reader::new(alloc, hooks, form);
     let mut rest = bytes;
     let mut number = 1;
+    let mut words = Vec::new(alloc);
+    let mut tokens = Vec::new(alloc);
     while let Some((line, behind)) = reader.next_line(rest) {
-        reader.take_line(alloc, number, line)?;
+        reader.take_line(alloc, number, line, &mut words, &mut tokens)?;
         rest = behind;
         number += 1;
     }

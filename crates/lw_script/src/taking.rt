@@ -10,17 +10,24 @@ ghost use Rattle.lw_script.specs.NextLine.{CutsDue};
 
 use crate::input::ScriptStop;
 use crate::state::Reader;
-use lw_words::{Stop, cut_line, is_skipped};
+use lw_words::{Stop, Token, cut_line, is_skipped};
 use std::alloc::Global;
 
 impl<'a> Reader<'a> {
-    /// Reads a line that isn't skipped, and adds it.
-    pub fn take(&mut self, alloc: Global, number: u32, line: &'a [u8]) -> Result<(), ScriptStop>
+    /// Reads a line that isn't skipped, and adds it. The lists are lent for their room, which is kept from line to line.
+    pub fn take(
+        &mut self,
+        alloc: Global,
+        number: u32,
+        line: &'a [u8],
+        words: &mut Vec<&'a [u8]>,
+        tokens: &mut Vec<Token<'a>>,
+    ) -> Result<(), ScriptStop>
         requires { HasRead self.old }
         ensures { (s : Setting) (above : List StatementValue) → Represents s self.old above
             → Takes s self.new above number result (line_read s (told above) line.entry.now) }
     {
-        match self.read_line(alloc, line) {
+        match self.read_line(alloc, line, words, tokens) {
             Err(Stop::Refused(reason)) => Err(ScriptStop::Refused {
                 line: number,
                 reason,
@@ -30,12 +37,14 @@ impl<'a> Reader<'a> {
         }
     }
 
-    /// Takes a line, unless it says nothing.
+    /// Takes a line, unless it says nothing. The lists are lent for their room, which is kept from line to line.
     pub fn take_line(
         &mut self,
         alloc: Global,
         number: u32,
         line: &'a [u8],
+        words: &mut Vec<&'a [u8]>,
+        tokens: &mut Vec<Token<'a>>,
     ) -> Result<(), ScriptStop>
         requires { HasRead self.old }
         ensures { (s : Setting) (above : List StatementValue) → Represents s self.old above
@@ -44,7 +53,7 @@ impl<'a> Reader<'a> {
         if is_skipped(line) {
             return Ok(());
         }
-        self.take(alloc, number, line)
+        self.take(alloc, number, line, words, tokens)
     }
 
     /// The next line and the bytes after it, where a further line is read.

@@ -14,7 +14,8 @@ ghost use Rattle.lw_script.specs.Represents.{TasksRepresent};
 use crate::state::TasksRead;
 use indexmap::IndexSet;
 use lw_calls::{Group, Hold};
-use lw_lines::{Act, BareAct, Layers, OpenGroup, hook};
+use lw_grammar::BareVerb;
+use lw_lines::{Act, Layers, OpenGroup, hook};
 use std::alloc::{AllocError, Global};
 
 /// The number of a name among these, where a name that isn't one of them gets the next number.
@@ -101,7 +102,7 @@ fn group_below<'a>(
         ≡ left_open_by (layers_meaning layers.entry) (act_meaning act.now) (option_map group_meaning group.entry) }
 {
     match (layers, act) {
-        (Layers::One(layer), Act::Bare(BareAct::Refresh)) => Some(OpenGroup::Updating(layer)),
+        (Layers::One(layer), Act::Bare(BareVerb::Refresh)) => Some(OpenGroup::Updating(layer)),
         (_, Act::EndRefresh { .. }) => None,
         _ => group,
     }
@@ -113,7 +114,7 @@ fn began_below(began: u32, so_far: u32, act: &Act<'_>) -> u32
         → (layers : List (List ℕ)) → result ≡ (told (CallLine layers (act_meaning act.now) ∷ above)).began }
 {
     match act {
-        Act::Bare(BareAct::Refresh) => so_far,
+        Act::Bare(BareVerb::Refresh) => so_far,
         _ => began,
     }
 }

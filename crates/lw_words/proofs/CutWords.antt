@@ -163,6 +163,11 @@ text_end_at bs i e =
     let f = found_at (λ b. b == 34) bs i e in
     text_end bs ∙ ap (λ k. k + 1 == length bs) f.1
 
+-- nothing is found yet
+pub none_found : (words : Result (List (List ℕ)) Reason) (found : List (Bor (List ℕ))) → found ≡ [] → words ≡ on_found (λ ws. targets found ++ ws) words
+none_found (Ok ws) found e = rw e refl
+none_found (Err r) found e = refl
+
 -- the words found with a further one
 pub more_words : (words : Result (List (List ℕ)) Reason) (found : List (Bor (List ℕ))) (word : Bor (List ℕ)) (o p : Result (List (List ℕ)) Reason) → words ≡ on_found (λ ws. targets found ++ ws) o → o ≡ on_found (λ ws. word.now ∷ ws) p → words ≡ on_found (λ ws. targets (found ++ word ∷ []) ++ ws) p
 more_words words found word o (Ok ws) e f =

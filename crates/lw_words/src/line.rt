@@ -1,5 +1,5 @@
 //! The words of a line, and which lines say nothing.
-ghost use Rattle.std.specs.Prelude.{◌≡◌, IfOk, IfErr, Ok};
+ghost use Rattle.std.specs.Prelude.{◌≡◌, OnOk, IfErr, Ok};
 ghost use Rattle.std.specs.List.{list_all};
 ghost use Rattle.lw_grammar.specs.Script.{is_skipped, is_printable, words_read};
 ghost use Rattle.lw_words.specs.Cuts.{targets};
@@ -8,7 +8,6 @@ ghost use Rattle.lw_words.specs.Stops.{Tells};
 use crate::stop::Stop;
 use crate::tokens::words_of;
 use lw_calls::Reason;
-use std::alloc::Global;
 
 /// How many bytes a line has at most.
 const LINE_LIMIT: usize = 512;
@@ -29,10 +28,11 @@ fn are_printable(line: &[u8]) -> bool
     line.iter().all(|byte| 32 <= *byte && *byte <= 126)
 }
 
-/// The words of a line, or its first reason that asks for bytes alone.
-pub fn line_words(alloc: Global, line: &[u8]) -> Result<Vec<&[u8]>, Stop>
-    ensures found { IfOk result (λ words. words_read line.now ≡ Ok (targets words.items)) }
-    ensures stopped { IfErr result (λ stop. Tells stop (words_read line.now)) }
+/// Makes the list that of a line's words, or tells its first reason that asks for bytes alone. The list's room is kept from
+/// line to line.
+pub fn line_words<'a>(line: &'a [u8], words: &mut Vec<&'a [u8]>) -> Result<(), Stop>
+    ensures found { OnOk result (words_read line.entry.now ≡ Ok (targets words.new.items)) }
+    ensures stopped { IfErr result (λ stop. Tells stop (words_read line.entry.now)) }
 {
     if line.len() > LINE_LIMIT {
         return Err(Stop::Refused(Reason::LineTooLong));
@@ -40,5 +40,5 @@ pub fn line_words(alloc: Global, line: &[u8]) -> Result<Vec<&[u8]>, Stop>
     if !are_printable(line) {
         return Err(Stop::Refused(Reason::BadByte));
     }
-    words_of(alloc, line)
+    words_of(line, words)
 }

@@ -1,11 +1,11 @@
-ghost use Rattle.std.specs.Prelude.{◌≡◌, false, ◌<◌, ◌&&◌, ◌||◌, ◌==◌, nat_le, IfOk, IsTrue, map, pos, neg_ℤ};
+ghost use Rattle.std.specs.Prelude.{◌≡◌, false, ◌<◌, ◌&&◌, ◌||◌, ◌==◌, nat_le, OnOk, IsTrue, map, pos, neg_ℤ};
 ghost use Rattle.std.specs.List.{list_all};
 ghost use Rattle.lw_grammar.specs.Tokens.{is_a_letter, is_a_digit, is_in_name, is_a_name, is_above_zero, is_below_zero, is_a_number, cap, capped, value_of_number, without_last, is_a_text, token_of};
 ghost use Rattle.lw_words.specs.Cuts.{targets};
 ghost use Rattle.lw_words.specs.TokenMeaning.{token_meaning};
 
 use crate::cut::is_text;
-use std::alloc::{AllocError, Global};
+use std::alloc::AllocError;
 
 /// What a word is.
 #[derive(Clone, Copy)]
@@ -136,13 +136,13 @@ pub fn token_of(word: &[u8]) -> Token<'_>
     }
 }
 
-/// What the words are.
-pub fn tokens_of<'a>(alloc: Global, words: &[&'a [u8]]) -> Result<Vec<Token<'a>>, AllocError>
-    ensures { IfOk result (λ found. map token_meaning found.items ≡ map token_of (targets words.now)) }
+/// Makes the list that of what the words are. Its room is kept from line to line.
+pub fn tokens_of<'a>(words: &[&'a [u8]], tokens: &mut Vec<Token<'a>>) -> Result<(), AllocError>
+    ensures { OnOk result (map token_meaning tokens.new.items ≡ map token_of (targets words.now)) }
 {
-    let mut found = Vec::with_capacity(alloc, words.len())?;
+    tokens.clear();
     for word in words {
-        found.push(token_of(word))?;
+        tokens.push(token_of(word))?;
     }
-    Ok(found)
+    Ok(())
 }

@@ -1,4 +1,4 @@
-ghost use Rattle.std.specs.Prelude.{◌≡◌, ◌∷◌, ◌<◌, Ok, Some, position, length, IfOk, IfErr};
+ghost use Rattle.std.specs.Prelude.{◌≡◌, ◌∷◌, ◌<◌, Ok, Some, position, length, OnOk, IfErr};
 ghost use Rattle.lw_grammar.specs.Tokens.{tokens, ends_text as text_end_meant};
 ghost use Rattle.lw_words.specs.Cuts.{CutsWord, IsWordBegun, targets, is_break};
 ghost use Rattle.lw_words.specs.Stops.{Tells};
@@ -6,7 +6,6 @@ ghost use Rattle.lw_words.specs.Stops.{Tells};
 use crate::cut::place_of;
 use crate::stop::Stop;
 use lw_calls::Reason;
-use std::alloc::Global;
 
 /// Where a word ends that is no text: at a space, or at a quote, which is a fault there.
 fn break_of(bytes: &[u8]) -> Option<usize>
@@ -62,21 +61,22 @@ fn cut_word(line: &[u8]) -> Result<(&[u8], Option<&[u8]>), Reason>
     }
 }
 
-/// The words of a line, or its leftmost fault of spacing or quotes.
-pub fn words_of(alloc: Global, line: &[u8]) -> Result<Vec<&[u8]>, Stop>
-    ensures found { IfOk result (λ words. tokens line.now ≡ Ok (targets words.items)) }
-    ensures stopped { IfErr result (λ stop. Tells stop (tokens line.now)) }
+/// Makes the list that of a line's words, unless there is a fault of spacing or quotes: then the leftmost one is told. The
+/// list's room is kept from line to line.
+pub fn words_of<'a>(line: &'a [u8], words: &mut Vec<&'a [u8]>) -> Result<(), Stop>
+    ensures found { OnOk result (tokens line.entry.now ≡ Ok (targets words.new.items)) }
+    ensures stopped { IfErr result (λ stop. Tells stop (tokens line.entry.now)) }
 {
-    let mut found = Vec::new(alloc);
+    words.clear();
     let mut rest = Some(line);
     while let Some(bytes) = rest {
         match cut_word(bytes) {
             Err(reason) => return Err(Stop::Refused(reason)),
             Ok((word, behind)) => {
-                found.push(word)?;
+                words.push(word)?;
                 rest = behind;
             }
         }
     }
-    Ok(found)
+    Ok(())
 }

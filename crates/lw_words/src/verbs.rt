@@ -1,122 +1,68 @@
-ghost use Rattle.std.specs.Prelude.{◌≡◌};
+ghost use Rattle.std.specs.Prelude.{◌≡◌, ℕ, List, ◌∷◌};
 ghost use Rattle.lw_grammar.specs.Verbs.{verb_word, verb_in, verb_of};
 
 use crate::cut::is_text;
-use lw_grammar::Verb;
+use lw_calls::{PairOp, RectOp};
+use lw_grammar::{BareVerb, NumberVerb, PairVerb, PartVerb, TextVerb, Verb};
 
 /// The word of a verb.
 fn verb_word(verb: Verb) -> &'static [u8]
     ensures { result.now ≡ verb_word verb }
 {
     match verb {
-        Verb::Screen => b"screen",
-        Verb::Glyph => b"glyph",
-        Verb::Bitmap => b"bitmap",
-        Verb::Task => b"task",
-        Verb::End => b"end",
-        Verb::Order => b"order",
-        Verb::Report => b"report",
-        Verb::Lock => b"lock",
-        Verb::Unlock => b"unlock",
-        Verb::Hold => b"hold",
-        Verb::Release => b"release",
-        Verb::Refresh => b"refresh",
-        Verb::EndRefresh => b"endrefresh",
-        Verb::OrRect => b"orrect",
-        Verb::AndRect => b"andrect",
-        Verb::XorRect => b"xorrect",
-        Verb::ClearRect => b"clearrect",
-        Verb::OrRegion => b"orregion",
-        Verb::AndRegion => b"andregion",
-        Verb::XorRegion => b"xorregion",
+        Verb::Part(PartVerb::Screen) => b"screen",
+        Verb::Part(PartVerb::Glyph) => b"glyph",
+        Verb::Part(PartVerb::Bitmap) => b"bitmap",
+        Verb::Part(PartVerb::Task) => b"task",
+        Verb::Part(PartVerb::End) => b"end",
+        Verb::Part(PartVerb::Order) => b"order",
+        Verb::Part(PartVerb::Report) => b"report",
+        Verb::Part(PartVerb::Lock) => b"lock",
+        Verb::Part(PartVerb::Unlock) => b"unlock",
+        Verb::Part(PartVerb::Hold) => b"hold",
+        Verb::Part(PartVerb::Release) => b"release",
+        Verb::Bare(BareVerb::Close) => b"close",
+        Verb::Bare(BareVerb::Front) => b"front",
+        Verb::Bare(BareVerb::Behind) => b"behind",
+        Verb::Bare(BareVerb::Activate) => b"activate",
+        Verb::Bare(BareVerb::Unclip) => b"unclip",
+        Verb::Bare(BareVerb::Refresh) => b"refresh",
+        Verb::Bare(BareVerb::GetMsg) => b"getmsg",
+        Verb::Number(NumberVerb::APen) => b"apen",
+        Verb::Number(NumberVerb::BPen) => b"bpen",
+        Verb::Number(NumberVerb::Mode) => b"mode",
+        Verb::Number(NumberVerb::Mask) => b"mask",
+        Verb::Number(NumberVerb::SetRast) => b"setrast",
+        Verb::Number(NumberVerb::Clip) => b"clip",
+        Verb::Pair(PairVerb::Move) => b"move",
+        Verb::Pair(PairVerb::Size) => b"size",
+        Verb::Pair(PairVerb::At) => b"at",
+        Verb::Pair(PairVerb::Write) => b"write",
+        Verb::Pair(PairVerb::Read) => b"read",
+        Verb::Pair(PairVerb::Draw) => b"draw",
+        Verb::Pair(PairVerb::Scroll) => b"scroll",
+        Verb::Text(TextVerb::Text) => b"text",
+        Verb::Text(TextVerb::Title) => b"title",
+        Verb::Rect(RectOp::Or) => b"orrect",
+        Verb::Rect(RectOp::And) => b"andrect",
+        Verb::Rect(RectOp::Xor) => b"xorrect",
+        Verb::Rect(RectOp::Clear) => b"clearrect",
+        Verb::Region(PairOp::Or) => b"orregion",
+        Verb::Region(PairOp::And) => b"andregion",
+        Verb::Region(PairOp::Xor) => b"xorregion",
         Verb::ClearRegion => b"clearregion",
         Verb::Create => b"create",
         Verb::Open => b"open",
-        Verb::Close => b"close",
-        Verb::Front => b"front",
-        Verb::Behind => b"behind",
         Verb::InFront => b"infront",
-        Verb::Move => b"move",
-        Verb::Size => b"size",
         Verb::Box => b"box",
-        Verb::Activate => b"activate",
         Verb::Which => b"which",
-        Verb::Title => b"title",
-        Verb::GetMsg => b"getmsg",
-        Verb::APen => b"apen",
-        Verb::BPen => b"bpen",
-        Verb::Mode => b"mode",
-        Verb::Mask => b"mask",
-        Verb::At => b"at",
-        Verb::Write => b"write",
-        Verb::Read => b"read",
         Verb::Fill => b"fill",
-        Verb::Draw => b"draw",
-        Verb::Text => b"text",
-        Verb::SetRast => b"setrast",
         Verb::ScrollRaster => b"scrollraster",
         Verb::Put => b"put",
         Verb::Blit => b"blit",
-        Verb::Clip => b"clip",
-        Verb::Unclip => b"unclip",
-        Verb::Scroll => b"scroll",
+        Verb::EndRefresh => b"endrefresh",
     }
 }
-
-/// All verbs.
-const VERBS: [Verb; 51] = [
-    Verb::Screen,
-    Verb::Glyph,
-    Verb::Bitmap,
-    Verb::Task,
-    Verb::End,
-    Verb::Order,
-    Verb::Report,
-    Verb::Lock,
-    Verb::Unlock,
-    Verb::Hold,
-    Verb::Release,
-    Verb::Refresh,
-    Verb::EndRefresh,
-    Verb::OrRect,
-    Verb::AndRect,
-    Verb::XorRect,
-    Verb::ClearRect,
-    Verb::OrRegion,
-    Verb::AndRegion,
-    Verb::XorRegion,
-    Verb::ClearRegion,
-    Verb::Create,
-    Verb::Open,
-    Verb::Close,
-    Verb::Front,
-    Verb::Behind,
-    Verb::InFront,
-    Verb::Move,
-    Verb::Size,
-    Verb::Box,
-    Verb::Activate,
-    Verb::Which,
-    Verb::Title,
-    Verb::GetMsg,
-    Verb::APen,
-    Verb::BPen,
-    Verb::Mode,
-    Verb::Mask,
-    Verb::At,
-    Verb::Write,
-    Verb::Read,
-    Verb::Fill,
-    Verb::Draw,
-    Verb::Text,
-    Verb::SetRast,
-    Verb::ScrollRaster,
-    Verb::Put,
-    Verb::Blit,
-    Verb::Clip,
-    Verb::Unclip,
-    Verb::Scroll,
-];
 
 /// The first of these verbs that has the word.
 fn verb_in(verbs: &[Verb], word: &[u8]) -> Option<Verb>
@@ -134,10 +80,84 @@ fn verb_in(verbs: &[Verb], word: &[u8]) -> Option<Verb>
     }
 }
 
+/// The verbs whose words begin with this byte.
+#[tactic(auto, unfolding(lw_grammar::specs::Verbs::verb_of))]
+fn verbs_with(first: u8) -> &'static [Verb]
+    ensures { (rest : List ℕ) → verb_in result.now (first ∷ rest) ≡ verb_of (first ∷ rest) }
+{
+    match first {
+        b'a' => &[
+            Verb::Bare(BareVerb::Activate),
+            Verb::Number(NumberVerb::APen),
+            Verb::Pair(PairVerb::At),
+            Verb::Rect(RectOp::And),
+            Verb::Region(PairOp::And),
+        ],
+        b'b' => &[
+            Verb::Part(PartVerb::Bitmap),
+            Verb::Bare(BareVerb::Behind),
+            Verb::Number(NumberVerb::BPen),
+            Verb::Box,
+            Verb::Blit,
+        ],
+        b'c' => &[
+            Verb::Bare(BareVerb::Close),
+            Verb::Number(NumberVerb::Clip),
+            Verb::Rect(RectOp::Clear),
+            Verb::ClearRegion,
+            Verb::Create,
+        ],
+        b'd' => &[Verb::Pair(PairVerb::Draw)],
+        b'e' => &[Verb::Part(PartVerb::End), Verb::EndRefresh],
+        b'f' => &[Verb::Bare(BareVerb::Front), Verb::Fill],
+        b'g' => &[Verb::Part(PartVerb::Glyph), Verb::Bare(BareVerb::GetMsg)],
+        b'h' => &[Verb::Part(PartVerb::Hold)],
+        b'i' => &[Verb::InFront],
+        b'l' => &[Verb::Part(PartVerb::Lock)],
+        b'm' => &[
+            Verb::Number(NumberVerb::Mode),
+            Verb::Number(NumberVerb::Mask),
+            Verb::Pair(PairVerb::Move),
+        ],
+        b'o' => &[
+            Verb::Part(PartVerb::Order),
+            Verb::Rect(RectOp::Or),
+            Verb::Region(PairOp::Or),
+            Verb::Open,
+        ],
+        b'p' => &[Verb::Put],
+        b'r' => &[
+            Verb::Part(PartVerb::Report),
+            Verb::Part(PartVerb::Release),
+            Verb::Bare(BareVerb::Refresh),
+            Verb::Pair(PairVerb::Read),
+        ],
+        b's' => &[
+            Verb::Part(PartVerb::Screen),
+            Verb::Number(NumberVerb::SetRast),
+            Verb::Pair(PairVerb::Size),
+            Verb::Pair(PairVerb::Scroll),
+            Verb::ScrollRaster,
+        ],
+        b't' => &[
+            Verb::Part(PartVerb::Task),
+            Verb::Text(TextVerb::Text),
+            Verb::Text(TextVerb::Title),
+        ],
+        b'u' => &[Verb::Part(PartVerb::Unlock), Verb::Bare(BareVerb::Unclip)],
+        b'w' => &[Verb::Pair(PairVerb::Write), Verb::Which],
+        b'x' => &[Verb::Rect(RectOp::Xor), Verb::Region(PairOp::Xor)],
+        _ => &[],
+    }
+}
+
 /// The verb that a word is, if it is one.
 #[tactic(auto, unfolding(lw_grammar::specs::Verbs::verb_of))]
 pub fn verb_of(word: &[u8]) -> Option<Verb>
     ensures { result ≡ verb_of word.now }
 {
-    verb_in(&VERBS, word)
+    match word {
+        [] => None,
+        [first, ..] => verb_in(verbs_with(*first), word),
+    }
 }

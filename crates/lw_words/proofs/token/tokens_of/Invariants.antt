@@ -5,4 +5,4 @@ use Rattle.lw_words.specs.TokenMeaning.{token_meaning}
 use Rattle.lw_words.proofs.token.tokens_of.Given as goal
 
 abbrev pub invariant-loop-word : goal.invariant-loop-word
-invariant-loop-word l = map token_meaning l.found.items ≡ map token_of (targets (take l.word-index l.words))
+invariant-loop-word l = map token_meaning l.tokens.items ≡ map token_of (targets (take l.word-index l.words))
