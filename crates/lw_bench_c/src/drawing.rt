@@ -10,7 +10,7 @@ use lw_engine::LayerEngine;
 use lw_planes::Planes;
 use lw_region::Rect;
 use lw_runs::Parts;
-use lw_steps::Engine;
+use lw_engine_trait::Engine;
 use std::alloc::{AllocError, Global};
 
 // How many letters a text has.

@@ -4,7 +4,7 @@ ghost use Rattle.std.specs.Prelude.{◌≡◌, [], ◌∷◌, map, IfOk};
 ghost use Rattle.std.specs.List.{range_with_len};
 ghost use Rattle.lw_machine.specs.Desk.{Desk as MachineDesk, empty_desk, shelf_of};
 ghost use Rattle.lw_order.specs.Roles.{all_roles};
-ghost use Rattle.lw_steps.specs.Steps.{AreParts};
+ghost use Rattle.lw_engine_trait.specs.Steps.{AreParts};
 ghost use Rattle.lw_locks.specs.Closing.{task_of};
 ghost use Rattle.lw_locks.specs.Seen.{opening_pass};
 
@@ -15,7 +15,7 @@ use lw_engine::LayerEngine;
 use lw_locks::{Closed, Desk, NotClosed, OpenGate, Opening, Pass};
 use lw_order::{Order, Seat};
 use lw_region::Rect;
-use lw_steps::Engine;
+use lw_engine_trait::Engine;
 use std::alloc::{AllocError, Global};
 use std::marker::Brand;
 use std::process::Abort;

@@ -19,7 +19,7 @@ use Rattle.lw_layer.specs.View.{State, LiveView, CellView}
 use Rattle.lw_layer.specs.View as view
 use Rattle.lw_layer.specs.Copied.{pen_shown}
 use Rattle.lw_layer.specs.StandsFor.{IsLivePart, IsPartOf}
-use Rattle.lw_final.specs.Shown.{with_layer_shown, HasPlanesOf}
+use Rattle.lw_final_state.specs.Shown.{with_layer_shown, HasPlanesOf}
 use Rattle.lw_engine.specs.Desks.{cell_at}
 use Rattle.lw_engine.specs.Finished.{AreSlotsOf, pen_below, screen_below}
 

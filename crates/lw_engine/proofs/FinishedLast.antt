@@ -16,7 +16,7 @@ use Rattle.lw_layer.specs.View as view
 use Rattle.lw_layer.specs.StandsFor.{IsPartOf}
 use Rattle.lw_stack.specs.Stack.{Stack, is_first_at}
 use Rattle.lw_stack.proofs.ListLaws.{shown_is_first}
-use Rattle.lw_final.specs.Shown.{first_set, seen_as, seen_in}
+use Rattle.lw_final_state.specs.Shown.{first_set, seen_as, seen_in}
 use Rattle.lw_engine.specs.Desks.{cell_at, AreNumbered, AreOfDesk}
 use Rattle.lw_engine.specs.Finished.{AreSlotsOf}
 

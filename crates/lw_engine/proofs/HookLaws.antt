@@ -26,11 +26,11 @@ use Rattle.lw_machine.specs.Blits.{blt_bitmap_rast_port, scroll_raster}
 use Rattle.lw_machine.specs.Reveal.{in_frame, framing_pen, framed_by}
 use Rattle.lw_machine.specs.Parts.{SlotPart, slot_part}
 use Rattle.lw_machine.specs.Step.{refuse, refuse_not_open, refuse_unless_open, further_refusal, refusal, on_layer, drawn_on, with_pen_a, with_pen_b, with_mode, with_mask, may_scroll, clip_blit_from, end_update, scroll_layer, set_window_titles, get_msg, no_bitmap, effect, answer, changed_unless, reply_or, after, reply}
-use Rattle.lw_steps.proofs.ClassLaws.{ArePair, pair_told, pair_apart}
+use Rattle.lw_engine_trait.proofs.ClassLaws.{ArePair, pair_told, pair_apart}
 use Rattle.lw_layer.specs.View.{State, LiveView, CellView, with_layer, hooked}
 use Rattle.lw_layer.specs.View as view
 use Rattle.lw_layer.specs.StandsFor.{IsPartOf, StandsFor}
-use Rattle.lw_parts.specs.Parts.{IsSlotStep, IsLayerStep, IsPairStep}
+use Rattle.lw_layer_calls.specs.Parts.{IsSlotStep, IsLayerStep, IsPairStep}
 
 -- the layer with this hook
 abbrev pub with_hook : Option Hook → Layer → Layer

@@ -7,7 +7,7 @@ use Rattle.lw_layer.specs.View.{State, CellView, hooked}
 use Rattle.lw_layer.specs.View as view
 use Rattle.lw_stack.specs.Stack.{Stack}
 use Rattle.lw_region.specs.Bands.{bands}
-use Rattle.lw_final.specs.Shown.{first_set, seen_as, seen_in, with_layer_shown}
+use Rattle.lw_final_state.specs.Shown.{first_set, seen_as, seen_in, with_layer_shown}
 
 -- the report
 pub seen_hooked : (v : Stack) (h : Option Hook) (c : CellView) → seen_in v c ≡ seen_in v (hooked h c)

@@ -13,8 +13,8 @@ use Rattle.lw_machine.proofs.Locality.{after_assets}
 use Rattle.lw_layer.specs.View.{CellView}
 use Rattle.lw_layer.specs.StandsFor.{StandsFor}
 use Rattle.lw_stack.specs.Stack.{Stack}
-use Rattle.lw_steps.specs.Steps.{AreStill}
-use Rattle.lw_steps.specs.Steps as steps
+use Rattle.lw_engine_trait.specs.Steps.{AreStill}
+use Rattle.lw_engine_trait.specs.Steps as steps
 use Rattle.lw_engine.specs.Desks.{no_cell, cell_at, AreNumbered, AreOfDesk, AreAsBefore, AreOnShelf}
 use Rattle.lw_engine.specs.Arranging.{IsAllStep}
 use Rattle.lw_engine.specs.Layers.{InfoView, layer_relations, AreLayers}

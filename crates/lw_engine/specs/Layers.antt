@@ -10,8 +10,8 @@ use Rattle.lw_machine.specs.Parts.{InfoPart}
 use Rattle.lw_layer.specs.View.{CellView}
 use Rattle.lw_layer.specs.StandsFor.{StandsFor}
 use Rattle.lw_stack.specs.Stack.{Stack, StandsForInfo}
-use Rattle.lw_parts.specs.Registers.{StandForRegisters}
-use Rattle.lw_steps.specs.Steps.{Relations, AreParts}
+use Rattle.lw_layer_calls.specs.Registers.{StandForRegisters}
+use Rattle.lw_engine_trait.specs.Steps.{Relations, AreParts}
 use Rattle.lw_engine.specs.Desks.{hook_at}
 
 -- The list of layers with the sizes, and the hooks that no call took, by their numbers.

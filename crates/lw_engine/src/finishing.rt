@@ -6,14 +6,14 @@ ghost use Rattle.lw_calls.specs.declared.reply.Reply.{Reply as AnyReply};
 ghost use Rattle.lw_machine.specs.Desk.{Desk};
 ghost use Rattle.lw_machine.specs.Finals.{final_of};
 ghost use Rattle.lw_machine.specs.Screen.{screen};
-ghost use Rattle.lw_final.specs.Shown.{seen_in};
+ghost use Rattle.lw_final_state.specs.Shown.{seen_in};
 ghost use Rattle.lw_engine.specs.Desks.{cell_at, AreNumbered, AreOfDesk};
 ghost use Rattle.lw_engine.specs.Finished.{AreSlotsOf};
 
 use crate::slot::Slot;
 use lw_backfill::Backfill;
 use lw_calls::{Final, Replies, Seen, Sizes};
-use lw_final::{seen, show_layer};
+use lw_final_state::{seen, show_layer};
 use lw_planes::Planes;
 use lw_stack::Info;
 use std::alloc::{AllocError, Global};

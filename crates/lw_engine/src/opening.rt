@@ -7,7 +7,7 @@ ghost use Rattle.lw_engine.specs.Desks.{unopened_cell};
 use crate::layer_info::LayerInfo;
 use crate::slot::Slot;
 use lw_backfill::Backfill;
-use lw_parts::Regs;
+use lw_layer_calls::Regs;
 use std::alloc::{AllocError, Global};
 
 /// The parts of a desk before its first call.

@@ -24,7 +24,7 @@ use lw_arrange::{Arrangement, Prepared, commit, gained, prepare};
 use lw_backfill::{Backfill, Shelf, Solid};
 use lw_calls::{Assets, Call};
 use lw_frames::paint_own_frame;
-use lw_hooks::fill;
+use lw_hook_fill::fill;
 use lw_layer::{Cell, Layer, LiveDraft};
 use lw_region::Region;
 use lw_reveal::Change;

@@ -5,17 +5,17 @@ ghost use Rattle.lw_calls.specs.declared.sizes.Sizes.{Sizes};
 ghost use Rattle.lw_calls.specs.Limits.{call_fits};
 ghost use Rattle.lw_calls.specs.declared.touch.CallClass.TheVariants.{OnLayer, OnLayers};
 ghost use Rattle.lw_calls.specs.Touches.{class_of};
-ghost use Rattle.lw_steps.specs.Memory.{takes_memory};
+ghost use Rattle.lw_engine_trait.specs.Memory.{takes_memory};
 ghost use Rattle.lw_layer.specs.View.{hooked};
 ghost use Rattle.lw_layer.specs.Windows.{without_room, HasRoom};
-ghost use Rattle.lw_parts.specs.Parts.{IsLayerStep, IsPairStep};
+ghost use Rattle.lw_layer_calls.specs.Parts.{IsLayerStep, IsPairStep};
 ghost use Rattle.lw_engine.specs.Slots.{hook_in};
 ghost use Rattle.lw_engine.specs.Desks.{unopened_cell};
 
 use lw_backfill::Backfill;
 use lw_calls::{Assets, Call, Reply};
 use lw_layer::Cell;
-use lw_parts::{Regs, on_layer, on_layers};
+use lw_layer_calls::{Regs, on_layer, on_layers};
 use std::alloc::{AllocError, Global};
 use std::marker::Model;
 

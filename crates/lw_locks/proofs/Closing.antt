@@ -16,8 +16,8 @@ use Rattle.lw_order.specs.Promised.{Follows}
 use Rattle.lw_order.specs.Seen.{SeenSeat}
 use Rattle.lw_order.proofs.HistoryLaws.{follows_on, fewer_follow}
 use Rattle.lw_order.proofs.RoleLaws.{contains_first, contains_more}
-use Rattle.lw_steps.specs.Steps.{Relations}
-use Rattle.lw_steps.proofs.Histories.{reached}
+use Rattle.lw_engine_trait.specs.Steps.{Relations}
+use Rattle.lw_engine_trait.proofs.Histories.{reached}
 use Rattle.lw_locks.specs.Closing.{task_of, IsClosed, AreRegsHeld, AreFollowed, slots_of, AreTaken, ArePlaced}
 use Rattle.lw_locks.specs.Held.{IsSeat, AreRegs, IsCell, IsInfo, AreCellsHeld, IsOwn}
 use Rattle.lw_locks.specs.Joins.{WasJoined, IsLonger}

@@ -14,7 +14,7 @@ use Rattle.lw_machine.specs.Desk.{Desk}
 use Rattle.lw_order.specs.Roles.{same_role}
 use Rattle.lw_order.specs.Seen.{SeenSeat}
 use Rattle.lw_order.proofs.RoleLaws.{still_there}
-use Rattle.lw_steps.specs.Steps.{Relations}
+use Rattle.lw_engine_trait.specs.Steps.{Relations}
 use Rattle.lw_locks.specs.Joins.{WasJoined, WasSplit}
 use Rattle.lw_locks.specs.Held.{IsSeat, IsCell, IsInfo, AreCellsHeld, AreHeld, IsHolding, IsLayer, roles_below}
 use Rattle.lw_locks.proofs.Seats.{longer_by, seat_joined, regs_longer, info_longer, cell_longer, seat_at, regs_at, cell_at, info_at, their_longer}

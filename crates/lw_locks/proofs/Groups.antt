@@ -21,7 +21,7 @@ use Rattle.lw_machine.specs.Desk.{Desk}
 use Rattle.lw_order.specs.Numbered.{CallsFit}
 use Rattle.lw_order.specs.Roles.{LeavesAlone, Quiet}
 use Rattle.lw_order.proofs.RoleLaws.{all_roles_has_slot}
-use Rattle.lw_steps.proofs.ClassLaws.{slot_fits, pair_fits}
+use Rattle.lw_engine_trait.proofs.ClassLaws.{slot_fits, pair_fits}
 use Rattle.lw_locks.specs.declared.answer.Answer.{Answer}
 use Rattle.lw_locks.specs.Groups.{keeps_away, OthersKeepAway}
 use Rattle.lw_locks.specs.Promised.{Ran, held_roles}

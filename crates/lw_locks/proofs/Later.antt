@@ -13,7 +13,7 @@ use Rattle.lw_machine.specs.Step.{after}
 use Rattle.lw_machine.proofs.Untouched.{leaves_the_rest}
 use Rattle.lw_order.specs.Roles.{LeavesAlone, Quiet}
 use Rattle.lw_order.specs.Promised.{Follows}
-use Rattle.lw_steps.proofs.Histories.{machine_append}
+use Rattle.lw_engine_trait.proofs.Histories.{machine_append}
 
 same_itself : (r : Role) (d : Desk) → HaveSame r d d
 same_itself (Task t) d = refl

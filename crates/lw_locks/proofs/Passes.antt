@@ -12,8 +12,8 @@ use Rattle.lw_calls.specs.Entries.{count_of}
 use Rattle.lw_calls.specs.declared.touch.CallClass.TheVariants.{OnLayers}
 use Rattle.lw_calls.specs.Touches.{class_of}
 use Rattle.lw_machine.proofs.Untouched.{differ_back}
-use Rattle.lw_steps.specs.Steps.{Relations}
-use Rattle.lw_steps.proofs.ClassLaws.{pair_apart}
+use Rattle.lw_engine_trait.specs.Steps.{Relations}
+use Rattle.lw_engine_trait.proofs.ClassLaws.{pair_apart}
 use Rattle.lw_machine.specs.Desk.{Desk}
 use Rattle.lw_order.specs.Roles.{same_role, without}
 use Rattle.lw_order.specs.Promised.{Follows}

@@ -18,7 +18,7 @@ use Rattle.lw_order.specs.Promised.{Follows}
 use Rattle.lw_order.specs.Seen.{SeenSeat}
 use Rattle.lw_order.proofs.RoleLaws.{same_role_itself, quiet_fewer}
 use Rattle.lw_order.proofs.HistoryLaws.{follows_on, fewer_follow}
-use Rattle.lw_steps.specs.Steps.{Relations}
+use Rattle.lw_engine_trait.specs.Steps.{Relations}
 use Rattle.lw_locks.specs.Joins.{IsHistory, WasJoined, IsLonger}
 use Rattle.lw_locks.specs.Promised.{Done}
 use Rattle.lw_locks.specs.Held.{IsSeat, AreRegs, IsCell, IsInfo}

@@ -17,7 +17,7 @@ use Rattle.lw_machine.specs.Parts.{slot_part, info_part}
 use Rattle.lw_order.specs.Roles.{all_roles, without}
 use Rattle.lw_order.specs.Seen.{SeenSeat}
 use Rattle.lw_order.proofs.RoleLaws.{still_there, all_roles_has_slot, all_roles_has_task}
-use Rattle.lw_steps.specs.Steps.{Relations, AreCells}
+use Rattle.lw_engine_trait.specs.Steps.{Relations, AreCells}
 use Rattle.lw_locks.specs.Joins.{IsHistory}
 use Rattle.lw_locks.specs.Held.{IsSeat, AreTasksRegs, IsOwn, IsLayer, IsLayerInfo}
 use Rattle.lw_locks.specs.Seen.{SeenPass, opening_pass}

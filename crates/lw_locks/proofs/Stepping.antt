@@ -21,9 +21,9 @@ use Rattle.lw_order.specs.Numbered.{CallsFit}
 use Rattle.lw_order.specs.Owned.{HasSlots, Owns}
 use Rattle.lw_order.specs.Promised.{Follows}
 use Rattle.lw_order.proofs.HistoryLaws.{calls_prefix}
-use Rattle.lw_steps.specs.Steps.{Relations, IsDeskOf, IsRegsStep, IsLookStep, IsOneStep, IsTwoStep, AreParts, IsAllStep}
-use Rattle.lw_steps.proofs.ClassLaws.{after_registers, after_look}
-use Rattle.lw_steps.proofs.Histories.{machine_push, reached}
+use Rattle.lw_engine_trait.specs.Steps.{Relations, IsDeskOf, IsRegsStep, IsLookStep, IsOneStep, IsTwoStep, AreParts, IsAllStep}
+use Rattle.lw_engine_trait.proofs.ClassLaws.{after_registers, after_look}
+use Rattle.lw_engine_trait.proofs.Histories.{machine_push, reached}
 use Rattle.lw_calls.specs.declared.sizes.Sizes.{Sizes}
 use Rattle.lw_calls.specs.Assets.{Assets}
 use Rattle.lw_order.specs.Seen.{SeenSeat}

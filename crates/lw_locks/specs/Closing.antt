@@ -7,7 +7,7 @@ use Rattle.lw_machine.specs.Desk.{Desk}
 use Rattle.lw_machine.specs.History.{machine}
 use Rattle.lw_order.specs.Promised.{Follows}
 use Rattle.lw_order.specs.Seen.{SeenSeat}
-use Rattle.lw_steps.specs.Steps.{Relations, AreParts}
+use Rattle.lw_engine_trait.specs.Steps.{Relations, AreParts}
 use Rattle.lw_locks.specs.Held.{IsSeat, IsCell, AreRegs, AreTasksRegs}
 use Rattle.lw_locks.specs.Seen.{SeenPass}
 

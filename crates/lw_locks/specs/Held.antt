@@ -1,5 +1,5 @@
 -- What lies behind a lock, or with a task: a part that stands for its part of the machine after the history that its seat knows.
--- Which values stand for which parts is an argument, as in `lw_steps`.
+-- Which values stand for which parts is an argument, as in `lw_engine_trait`.
 use Rattle.std.specs.Prelude.{◌≡◌, ℕ, List, [], ◌∷◌, length, Some, Contains}
 use Rattle.std.specs.List.{slice_get}
 use Rattle.atomic_table.specs.Seated.{TableId}
@@ -11,7 +11,7 @@ use Rattle.lw_machine.specs.Desk.{Desk}
 use Rattle.lw_machine.specs.History.{machine}
 use Rattle.lw_machine.specs.Parts.{slot_part, info_part}
 use Rattle.lw_order.specs.Seen.{SeenSeat}
-use Rattle.lw_steps.specs.Steps.{Relations}
+use Rattle.lw_engine_trait.specs.Steps.{Relations}
 use Rattle.lw_locks.specs.Joins.{IsHistory}
 use Rattle.lw_locks.specs.Promised.{held_roles}
 

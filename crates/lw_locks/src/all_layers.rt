@@ -19,7 +19,7 @@ use crate::opening::Opening;
 use crate::pass::Pass;
 use lw_calls::{Call, Role};
 use lw_order::Seat;
-use lw_steps::Engine;
+use lw_engine_trait::Engine;
 use std::alloc::{AllocError, Global};
 use std::slice;
 use std::sync::Wait;

@@ -16,7 +16,7 @@ use crate::held::{Layer, LayerInfo, Place};
 use crate::opening::Opening;
 use crate::pass::{Pass, made_after};
 use lw_calls::{Call, CallClass, Role, class_of};
-use lw_steps::Engine;
+use lw_engine_trait::Engine;
 use std::alloc::{AllocError, Global};
 use std::marker::PhantomData;
 use std::sync::Wait;

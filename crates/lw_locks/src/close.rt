@@ -16,7 +16,7 @@ use crate::opening::Opening;
 use crate::pass::Pass;
 use crate::steps::Steps;
 use lw_order::Seat;
-use lw_steps::Engine;
+use lw_engine_trait::Engine;
 use std::alloc::Global;
 use std::sync::Mutex;
 

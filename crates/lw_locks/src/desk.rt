@@ -13,7 +13,7 @@ use crate::opening::Opening;
 use crate::pass::Pass;
 use crate::steps::Steps;
 use lw_calls::Call;
-use lw_steps::Engine;
+use lw_engine_trait::Engine;
 use std::alloc::{AllocError, Global};
 use std::sync::Mutex;
 

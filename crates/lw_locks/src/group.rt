@@ -16,7 +16,7 @@ use crate::held::Layer;
 use crate::opening::Opening;
 use crate::pass::Pass;
 use lw_calls::{Call, Hold, Role};
-use lw_steps::Engine;
+use lw_engine_trait::Engine;
 use std::alloc::{AllocError, Global};
 use std::sync::Wait;
 

@@ -3,7 +3,7 @@ ghost use Rattle.std.specs.Prelude.{IsSome};
 
 use crate::opening::Opening;
 use lw_order::Seat;
-use lw_steps::Engine;
+use lw_engine_trait::Engine;
 use std::marker::{Model, PhantomData};
 
 // A slot. Contracts see its number.

@@ -13,7 +13,7 @@ use crate::opening::Opening;
 use crate::steps::Steps;
 use lw_calls::Call;
 use lw_order::Seat;
-use lw_steps::Engine;
+use lw_engine_trait::Engine;
 use std::alloc::{AllocError, Global};
 
 impl<E: Engine, N: Opening> Steps<E, N> {

@@ -24,6 +24,6 @@ pub use close::{Closed, NotClosed};
 pub use desk::Desk;
 pub use gate::{Gate, OpenGate, Spot};
 pub use laws::others_keep_away;
-pub use lw_steps::Engine;
+pub use lw_engine_trait::Engine;
 pub use opening::Opening;
 pub use pass::Pass;

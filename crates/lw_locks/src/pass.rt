@@ -5,7 +5,7 @@ ghost use Rattle.lw_locks.specs.Joins.{IsHistory};
 use crate::answer::Answer;
 use crate::opening::Opening;
 use lw_order::Seat;
-use lw_steps::Engine;
+use lw_engine_trait::Engine;
 use std::alloc::AllocError;
 use std::marker::{Model, PhantomData};
 

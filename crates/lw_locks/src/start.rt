@@ -7,7 +7,7 @@ ghost use Rattle.lw_calls.specs.Limits.{IsWithinLimits};
 ghost use Rattle.lw_machine.specs.Desk.{empty_desk};
 ghost use Rattle.lw_machine.specs.Parts.{info_part};
 ghost use Rattle.lw_order.specs.Roles.{all_roles};
-ghost use Rattle.lw_steps.specs.Steps.{AreCells};
+ghost use Rattle.lw_engine_trait.specs.Steps.{AreCells};
 ghost use Rattle.lw_locks.specs.Held.{AreTasksRegs};
 ghost use Rattle.lw_locks.specs.Seen.{opening_pass};
 
@@ -18,7 +18,7 @@ use crate::pass::Pass;
 use crate::steps::Steps;
 use lw_calls::Role;
 use lw_order::{Order, Seat};
-use lw_steps::Engine;
+use lw_engine_trait::Engine;
 use std::alloc::{AllocError, Global};
 use std::marker::PhantomData;
 use std::sync::Mutex;

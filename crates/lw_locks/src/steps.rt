@@ -15,7 +15,7 @@ use crate::answer::Answer;
 use crate::opening::Opening;
 use lw_calls::{Call, Role};
 use lw_order::{Order, Seat};
-use lw_steps::Engine;
+use lw_engine_trait::Engine;
 use std::alloc::{AllocError, Global};
 use std::marker::PhantomData;
 

@@ -7,7 +7,7 @@ use Rattle.lw_calls.specs.Assets.{Assets}
 use Rattle.lw_calls.specs.Written.{line_of, hex_byte}
 use Rattle.lw_grammar.specs.Statements.{Statement, RowLine}
 use Rattle.lw_canonical.specs.Spelling.{spelled}
-use Rattle.lw_written.proofs.Pieces.{pieces_same}
+use Rattle.lw_text_output.proofs.Pieces.{pieces_same}
 use Rattle.lw_print.specs.Behind.{text_of_lines}
 
 -- lines after lines

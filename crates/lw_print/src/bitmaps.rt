@@ -12,7 +12,7 @@ ghost use Rattle.lw_print.specs.Parts.{bitmap_lines};
 
 use lw_calls::Text;
 use lw_planes::Planes;
-use lw_written::{end_line, name_of, push_rows, push_spaced};
+use lw_text_output::{end_line, name_of, push_rows, push_spaced};
 use std::alloc::{AllocError, Global};
 
 /// Writes the lines of each bitmap in rising number. `names` has the bitmaps' names by number.

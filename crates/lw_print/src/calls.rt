@@ -13,7 +13,7 @@ use crate::making::{push_created, push_opened};
 use crate::verbs::verb_of;
 use crate::words::{push_byte, push_four, push_pair, push_text};
 use lw_calls::{Area, Call, Text};
-use lw_written::{end_line, name_of, push_spaced, push_spaced_bounds, push_word};
+use lw_text_output::{end_line, name_of, push_spaced, push_spaced_bounds, push_word};
 use std::alloc::{AllocError, Global};
 
 /// Writes a call's line. `names` has the layers' names by slot, and `bitmaps` the bitmaps' by number.

@@ -7,7 +7,7 @@ ghost use Rattle.lw_calls.specs.Written.{hex_byte};
 ghost use Rattle.lw_print.specs.Behind.{text_of_lines};
 ghost use Rattle.lw_print.specs.Parts.{glyph_lines};
 
-use lw_written::{end_line, push_hex_byte};
+use lw_text_output::{end_line, push_hex_byte};
 use std::alloc::AllocError;
 
 /// Writes the line of each glyph with some bit set, in the order of their codes from 32 on.

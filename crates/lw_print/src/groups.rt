@@ -7,7 +7,7 @@ ghost use Rattle.lw_print.specs.Grouping.{opening_at, closing_at, left_after};
 
 use crate::lines::push_named_line;
 use lw_calls::{Call, Group, Hold, Text};
-use lw_written::{name_of, push_line};
+use lw_text_output::{name_of, push_line};
 use std::alloc::AllocError;
 
 /// Writes the line that begins the first of the groups that are left, where it begins at call `number` and is no update.

@@ -3,7 +3,7 @@
 ghost use Rattle.std.specs.Prelude.{◌≡◌, ◌++◌, ◌∷◌, OnOk};
 ghost use Rattle.lw_calls.specs.Written.{line_of};
 
-use lw_written::{end_line, push_word};
+use lw_text_output::{end_line, push_word};
 use std::alloc::AllocError;
 
 /// Writes a line of a word and a name.

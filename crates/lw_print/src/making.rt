@@ -9,7 +9,7 @@ ghost use Rattle.lw_print.specs.Behind.{behind};
 
 use crate::words::{push_flag, push_four, push_hook, push_pair};
 use lw_calls::{Kind, Make, Place};
-use lw_written::{push_spaced, push_spaced_signed, push_word};
+use lw_text_output::{push_spaced, push_spaced_signed, push_word};
 use std::alloc::{AllocError, Global};
 
 /// Writes what a creation asks for: its kind and place, its bounds and its options.

@@ -10,7 +10,7 @@ use crate::calls::push_call;
 use crate::groups::{groups_behind, push_closing, push_opening};
 use crate::lines::push_named_line;
 use lw_calls::{Call, Group, Plan};
-use lw_written::{name_of, push_line};
+use lw_text_output::{name_of, push_line};
 use std::alloc::{AllocError, Global};
 
 /// Writes the lines of a task.

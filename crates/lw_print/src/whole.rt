@@ -13,7 +13,7 @@ use crate::bitmaps::push_bitmaps;
 use crate::glyphs::push_glyphs;
 use crate::tasks::push_task;
 use lw_calls::{Assets, Plan, Text};
-use lw_written::{end_line, push_spaced};
+use lw_text_output::{end_line, push_spaced};
 use std::alloc::{AllocError, Global};
 
 /// The canonical text of a plan: a script without skipped lines that spells the plan, with each line in its one spelling.

@@ -7,7 +7,7 @@ ghost use Rattle.lw_calls.specs.Written.{spaced_signed, hex_byte};
 ghost use Rattle.lw_canonical.specs.Spelling.{four_words, flag_words, hook_words, text_word};
 ghost use Rattle.lw_print.specs.Behind.{behind};
 
-use lw_written::{push_hex_byte, push_spaced, push_spaced_signed, push_word};
+use lw_text_output::{push_hex_byte, push_spaced, push_spaced_signed, push_word};
 use std::alloc::{AllocError, Global};
 
 /// Writes a number.

@@ -9,7 +9,7 @@ ghost use Rattle.lw_report.specs.Words.{part_text};
 use crate::rects::push_rectangles;
 use crate::replies::message_word;
 use lw_calls::{Message, Messages, Seen, Text};
-use lw_written::{name_of, push_line, push_numbered_line};
+use lw_text_output::{name_of, push_line, push_numbered_line};
 use std::alloc::{AllocError, Global};
 
 /// A part of the report that has a piece for each layer.

@@ -3,7 +3,7 @@
 ghost use Rattle.std.specs.Prelude.{◌≡◌, ◌+◌, ◌≤◌, ◌++◌, List, ℕ, length, OnOk};
 ghost use Rattle.lw_machine.specs.Report.{order_part, order_numbers, separator};
 
-use lw_written::{push_decimal, push_numbered_line};
+use lw_text_output::{push_decimal, push_numbered_line};
 use std::alloc::{AllocError, Global};
 
 /// Writes how many calls were made, and the tasks' numbers in the order of their calls.

@@ -6,7 +6,7 @@ ghost use Rattle.lw_calls.specs.Written.{line_of, spaced};
 ghost use Rattle.lw_machine.specs.Report.{plane_lines, planes_part};
 
 use lw_planes::Planes;
-use lw_written::{end_line, push_numbered_line, push_rows, push_spaced};
+use lw_text_output::{end_line, push_numbered_line, push_rows, push_spaced};
 use std::alloc::{AllocError, Global};
 
 /// Writes the sizes of the screen and its planes.

@@ -6,7 +6,7 @@ ghost use Rattle.lw_calls.specs.Written.{spaced, spaced_bounds};
 ghost use Rattle.lw_machine.specs.Report.{rectangle_line, rectangles_part};
 
 use lw_region::Rect;
-use lw_written::{end_line, push_bounds, push_numbered_line, push_spaced, push_spaced_bounds};
+use lw_text_output::{end_line, push_bounds, push_numbered_line, push_spaced, push_spaced_bounds};
 use std::alloc::{AllocError, Global};
 
 /// Writes a line with a word, a name and how many rectangles there are, and a line for each rectangle.

@@ -8,7 +8,7 @@ ghost use Rattle.lw_report.specs.Words.{reply_word, reply_rest};
 
 use crate::rects::push_rects;
 use lw_calls::{Message, Replies, Reply, Text};
-use lw_written::{end_line, name_of, push_numbered_line, push_spaced, push_word};
+use lw_text_output::{end_line, name_of, push_numbered_line, push_spaced, push_word};
 use std::alloc::{AllocError, Global};
 
 /// Writes each task's name and replies, in rising number of the tasks. `names` has the layers' names by slot, and

@@ -8,7 +8,7 @@ use crate::order::push_order;
 use crate::planes::push_planes;
 use crate::replies::push_replies;
 use lw_calls::{Final, OrderList, Plan};
-use lw_written::push_line;
+use lw_text_output::push_line;
 use std::alloc::{AllocError, Global};
 
 /// The report of a plan after the calls of an order, which has a task's number for each call, where `last` is what the

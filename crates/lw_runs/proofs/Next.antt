@@ -15,7 +15,7 @@ use Rattle.lw_calls.specs.Entries.{count_of, next_entry}
 use Rattle.lw_machine.specs.History.{machine, replies_of}
 use Rattle.lw_machine.specs.Finals.{opening_desk}
 use Rattle.lw_runs.specs.Run.{HasRun, next_of}
-use Rattle.lw_steps.proofs.Histories.{machine_push}
+use Rattle.lw_engine_trait.proofs.Histories.{machine_push}
 use Rattle.lw_runs.proofs.MadeLaws.{replies_of_append}
 use Rattle.lw_runs.proofs.Steps.{length_replies_of}
 

@@ -20,8 +20,8 @@ use Rattle.lw_machine.specs.Step.{after}
 use Rattle.lw_machine.proofs.Untouched.{leaves_the_rest}
 use Rattle.lw_machine.proofs.ReachedSound.{step_sound, after_sizes}
 use Rattle.lw_machine.proofs.Locality.{after_assets}
-use Rattle.lw_steps.specs.Steps.{Relations, IsDeskOf, IsRegsStep, IsLookStep, IsOneStep, IsTwoStep, AreParts, IsAllStep, AreStill}
-use Rattle.lw_steps.proofs.ClassLaws.{after_look, after_registers}
+use Rattle.lw_engine_trait.specs.Steps.{Relations, IsDeskOf, IsRegsStep, IsLookStep, IsOneStep, IsTwoStep, AreParts, IsAllStep, AreStill}
+use Rattle.lw_engine_trait.proofs.ClassLaws.{after_look, after_registers}
 use Rattle.lw_runs.specs.Standing.{StandForDesk, IsStep, StandStill, IsTwoDone}
 use Rattle.lw_runs.proofs.ListLaws.{each_set, set_back}
 

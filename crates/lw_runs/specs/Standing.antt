@@ -1,5 +1,5 @@
 -- Which desks the parts that an engine's calls are lent stand for together, and what a call makes of them. Which
--- values stand for which part is an argument, as in `lw_steps`.
+-- values stand for which part is an argument, as in `lw_engine_trait`.
 use Rattle.std.specs.Prelude.{◌≡◌, ℕ, List, length, slice_set, Some}
 use Rattle.std.specs.List.{slice_get}
 use Rattle.lw_calls.specs.Assets.{Assets}
@@ -8,7 +8,7 @@ use Rattle.lw_calls.specs.declared.call.Call.{Call}
 use Rattle.lw_calls.specs.declared.reply.Reply.{Reply}
 use Rattle.lw_machine.specs.Desk.{Desk}
 use Rattle.lw_machine.specs.Step.{after, reply}
-use Rattle.lw_steps.specs.Steps.{Relations, IsTwoStep, AreParts}
+use Rattle.lw_engine_trait.specs.Steps.{Relations, IsTwoStep, AreParts}
 
 -- LayerInfo and the cells of all slots stand for their parts of a sound desk with these sizes and assets, and each task's registers
 -- for its part.

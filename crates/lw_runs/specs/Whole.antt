@@ -7,7 +7,7 @@ use Rattle.lw_calls.specs.Orders.{is_legal}
 use Rattle.lw_calls.specs.Plan.{Plan, task_calls, task_groups}
 use Rattle.lw_machine.specs.Desk.{Desk}
 use Rattle.lw_machine.specs.History.{machine}
-use Rattle.lw_steps.specs.Steps.{Relations, AreParts}
+use Rattle.lw_engine_trait.specs.Steps.{Relations, AreParts}
 use Rattle.lw_locks.specs.Joins.{IsHistory}
 use Rattle.lw_locks.specs.Seen.{SeenPass}
 use Rattle.lw_runs.specs.declared.answers.TaskAnswers.{TaskAnswers}

@@ -6,12 +6,12 @@ ghost use Rattle.lw_calls.specs.Limits.{call_fits};
 ghost use Rattle.lw_calls.specs.declared.touch.CallClass.TheVariants.{OnRegisters, OnInfo, OnLayer, OnLayers, OnAll};
 ghost use Rattle.lw_calls.specs.Touches.{class_of};
 ghost use Rattle.lw_machine.specs.Desk.{Desk};
-ghost use Rattle.lw_steps.specs.Memory.{takes_memory};
-ghost use Rattle.lw_steps.specs.Steps.{AreParts};
+ghost use Rattle.lw_engine_trait.specs.Memory.{takes_memory};
+ghost use Rattle.lw_engine_trait.specs.Steps.{AreParts};
 ghost use Rattle.lw_runs.specs.Standing.{StandForDesk, IsStep, StandStill, AreNumbered, IsSetTo, IsTwoDone};
 
 use lw_calls::{Call, CallClass, Reply, class_of};
-use lw_steps::Engine;
+use lw_engine_trait::Engine;
 use std::alloc::{AllocError, Global};
 
 /// The parts of a desk that an engine's calls are lent: LayerInfo, the cells of all slots, and the registers of

@@ -14,7 +14,7 @@ ghost use Rattle.lw_runs.specs.Standing.{StandForDesk};
 
 use crate::parts::Parts;
 use lw_calls::{Call, Plan, Replies};
-use lw_steps::Engine;
+use lw_engine_trait::Engine;
 use std::alloc::{AllocError, Global};
 
 /// The run of a plan on these parts in an order of its tasks: each number makes its task's next call. It fails only when out of memory.

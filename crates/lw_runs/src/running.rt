@@ -5,7 +5,7 @@ ghost use Rattle.lw_calls.specs.Plan.{IsPlan};
 ghost use Rattle.lw_machine.specs.Desk.{empty_desk};
 ghost use Rattle.lw_machine.specs.Parts.{info_part};
 ghost use Rattle.lw_order.specs.Roles.{all_roles};
-ghost use Rattle.lw_steps.specs.Steps.{AreCells};
+ghost use Rattle.lw_engine_trait.specs.Steps.{AreCells};
 ghost use Rattle.lw_locks.specs.Held.{AreTasksRegs};
 ghost use Rattle.lw_runs.specs.Whole.{HaveRun};
 
@@ -14,7 +14,7 @@ use crate::threads::{parted, run_each};
 use lw_calls::Plan;
 use lw_locks::{Closed, Desk, Gate, Opening};
 use lw_order::{Order, Seat};
-use lw_steps::Engine;
+use lw_engine_trait::Engine;
 use std::alloc::{AllocError, Global};
 use std::sync::Wait;
 use std::thread::Threads;

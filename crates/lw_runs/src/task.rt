@@ -11,7 +11,7 @@ ghost use Rattle.lw_runs.specs.Made.{HasMade, HasBegun, IsFree, IsNext, IsAhead}
 use crate::run::call_of;
 use lw_calls::{Call, CallClass, Group, Plan, class_of};
 use lw_locks::{Answer, Desk, Gate, Opening, Pass};
-use lw_steps::Engine;
+use lw_engine_trait::Engine;
 use std::alloc::{AllocError, Global};
 use std::sync::Wait;
 

@@ -10,7 +10,7 @@ use crate::answers::TaskAnswers;
 use crate::task::run_task;
 use lw_calls::Plan;
 use lw_locks::{Desk, Gate, Opening, Pass};
-use lw_steps::Engine;
+use lw_engine_trait::Engine;
 use std::alloc::{AllocError, Global};
 use std::sync::Wait;
 use std::thread;

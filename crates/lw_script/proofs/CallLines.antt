@@ -8,7 +8,7 @@ use Rattle.lw_grammar.specs.declared.verb.BareVerb.TheVariants.{Close as CloseVe
 use Rattle.lw_grammar.specs.Statements.{Act, BareAct, NumberAct, PairAct, TextAct, RegRectAct, RegPairAct, RegClearAct, CreateAct, OpenAct, InFrontAct, WhichAct, PutAct, BlitAct, EndRefreshAct, Statement, CallLine, layers_of, is_hook_number, is_act_in_range}
 use Rattle.lw_grammar.specs.Told.{and_names, place_among, onto_last, spelled_call, call_below, hook_on, told}
 use Rattle.lw_grammar.specs.Script.{is_ending}
-use Rattle.lw_lines.specs.CallMeaning.{IsBitmapAt}
+use Rattle.lw_statements.specs.CallMeaning.{IsBitmapAt}
 use Rattle.lw_script.specs.CallParts.{first_place, second_place, bitmap_place}
 use Rattle.std.proofs.lemmas.Bool.{and_parts}
 use Rattle.lw_grammar.proofs.ScriptGroups.{number_plain, pair_plain, text_plain}

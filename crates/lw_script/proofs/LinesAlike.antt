@@ -7,9 +7,9 @@ use Rattle.lw_calls.specs.declared.reason.Reason.TheVariants.{Range, NoName, Dou
 use Rattle.lw_grammar.specs.Demands.{◌>>=◌, demand}
 use Rattle.lw_grammar.specs.Statements.{Statement, GlyphLine, BitmapLine, TaskLine, CallLine, LockLine, UnlockLine, is_line_in_range}
 use Rattle.lw_script.specs.declared.state.Reader.{Reader}
-use Rattle.lw_lines.specs.declared.statement.Statement.{Statement as TheStatement}
+use Rattle.lw_statements.specs.declared.statement.Statement.{Statement as TheStatement}
 use Rattle.lw_words.specs.declared.stop.Stop.{Stop}
-use Rattle.lw_lines.specs.LineReading.{Reads}
+use Rattle.lw_statements.specs.LineReading.{Reads}
 use Rattle.lw_script.specs.ReaderKnows.{known, setting_of}
 use Rattle.lw_script.specs.Represents.{Represents}
 

@@ -16,7 +16,7 @@ use Rattle.lw_grammar.proofs.ScriptSizes.{whole_ends}
 use Rattle.lw_grammar.proofs.ScriptRunnable.{runs_from_good}
 use Rattle.lw_words.specs.Cuts.{targets}
 use Rattle.lw_words.proofs.Targets.{length_targets}
-use Rattle.lw_lines.specs.SectionMeaning.{section_meaning}
+use Rattle.lw_statements.specs.SectionMeaning.{section_meaning}
 use Rattle.lw_script.specs.declared.state.Reader.{Reader}
 use Rattle.lw_script.specs.Represents.{Represents, HasRead, unfinished}
 use Rattle.std.proofs.lemmas.Bool.{eqb-true}

@@ -6,8 +6,8 @@ use Rattle.lw_grammar.specs.Told.{Told, nothing_told}
 use Rattle.lw_grammar.specs.Script.{Setting, reading_with}
 use Rattle.lw_script.specs.declared.state.Reader.{Reader}
 use Rattle.lw_words.specs.Cuts.{targets}
-use Rattle.lw_lines.specs.GroupMeaning.{group_meaning}
-use Rattle.lw_lines.specs.SectionMeaning.{section_meaning}
+use Rattle.lw_statements.specs.GroupMeaning.{group_meaning}
+use Rattle.lw_statements.specs.SectionMeaning.{section_meaning}
 
 abbrev pub known : Reader → Told
 known r =

@@ -11,8 +11,8 @@ use Rattle.lw_script.specs.declared.state.AssetsRead.{AssetsRead}
 use Rattle.lw_script.specs.declared.state.TasksRead.{TasksRead}
 use Rattle.lw_script.specs.declared.state.Reader.{Reader}
 use Rattle.lw_words.specs.Cuts.{targets}
-use Rattle.lw_lines.specs.GroupMeaning.{group_meaning}
-use Rattle.lw_lines.specs.SectionMeaning.{section_meaning}
+use Rattle.lw_statements.specs.GroupMeaning.{group_meaning}
+use Rattle.lw_statements.specs.SectionMeaning.{section_meaning}
 
 -- the nearest bitmap, where further rows stand after those that were read; none where no row of it is due
 abbrev pub unfinished : AssetsRead → List ℕ → List Bitmap

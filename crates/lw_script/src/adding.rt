@@ -6,12 +6,12 @@ ghost use Rattle.lw_grammar.specs.Statements.{Statement as StatementValue, Scree
 ghost use Rattle.lw_words.specs.Digits.{decoded};
 ghost use Rattle.lw_grammar.specs.Script.{Setting};
 ghost use Rattle.lw_words.specs.Cuts.{targets};
-ghost use Rattle.lw_lines.specs.StatementMeaning.{statement_meaning, act_meaning, layers_meaning};
+ghost use Rattle.lw_statements.specs.StatementMeaning.{statement_meaning, act_meaning, layers_meaning};
 ghost use Rattle.lw_script.specs.CallParts.{bitmap_place};
 ghost use Rattle.lw_script.specs.Represents.{Represents, CanAdd};
 
 use crate::state::{Reader, place_of_name};
-use lw_lines::{Act, Layers, Section, Statement, depth as depth_of, size, task_number};
+use lw_statements::{Act, Layers, Section, Statement, depth as depth_of, size, task_number};
 use lw_words::Digits;
 use std::alloc::{AllocError, Global};
 

@@ -5,7 +5,7 @@ ghost use Rattle.lw_grammar.specs.Statements.{Statement as StatementValue};
 ghost use Rattle.lw_grammar.specs.Told.{told, plan_of};
 ghost use Rattle.lw_grammar.specs.Script.{Setting, Reached, may_end, input_from};
 ghost use Rattle.lw_words.specs.Cuts.{targets};
-ghost use Rattle.lw_lines.specs.SectionMeaning.{section_meaning};
+ghost use Rattle.lw_statements.specs.SectionMeaning.{section_meaning};
 ghost use Rattle.lw_script.specs.Represents.{Represents, HasRead};
 ghost use Rattle.lw_script.specs.Answers.{input_meaning, Gives, ended_with};
 

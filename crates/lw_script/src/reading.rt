@@ -4,12 +4,12 @@ ghost use Rattle.lw_grammar.specs.Statements.{Statement as StatementValue};
 ghost use Rattle.lw_grammar.specs.Told.{told};
 ghost use Rattle.lw_grammar.specs.Script.{Setting, line_read, statement_of};
 ghost use Rattle.lw_words.specs.Cuts.{targets};
-ghost use Rattle.lw_lines.specs.LineReading.{Reads};
+ghost use Rattle.lw_statements.specs.LineReading.{Reads};
 ghost use Rattle.lw_script.specs.ReaderKnows.{known, setting_of};
 ghost use Rattle.lw_script.specs.Represents.{Represents};
 
 use crate::state::Reader;
-use lw_lines::{Statement, words_statement};
+use lw_statements::{Statement, words_statement};
 use lw_words::{Stop, Token, line_words};
 use std::alloc::Global;
 

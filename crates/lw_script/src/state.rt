@@ -6,7 +6,7 @@ ghost use Rattle.lw_words.specs.Cuts.{targets};
 
 use indexmap::IndexSet;
 use lw_calls::{Call, Form, Group};
-use lw_lines::{OpenGroup, Section};
+use lw_statements::{OpenGroup, Section};
 use lw_planes::Planes;
 use std::alloc::Global;
 

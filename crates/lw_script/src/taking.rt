@@ -3,7 +3,7 @@ ghost use Rattle.std.specs.Prelude.{List};
 ghost use Rattle.lw_grammar.specs.Statements.{Statement as StatementValue};
 ghost use Rattle.lw_grammar.specs.Told.{told};
 ghost use Rattle.lw_grammar.specs.Script.{Setting, is_nothing_due, line_read, statements_with};
-ghost use Rattle.lw_lines.specs.SectionMeaning.{section_meaning};
+ghost use Rattle.lw_statements.specs.SectionMeaning.{section_meaning};
 ghost use Rattle.lw_script.specs.Represents.{Represents, HasRead};
 ghost use Rattle.lw_script.specs.Answers.{Takes, Advances};
 ghost use Rattle.lw_script.specs.NextLine.{CutsDue};

@@ -5,9 +5,9 @@ ghost use Rattle.lw_grammar.specs.Statements.{Statement as StatementValue, TaskL
 ghost use Rattle.lw_grammar.specs.Told.{and_name, and_names, place_among, onto_last, asks_super, and_hook, left_open_by, told};
 ghost use Rattle.lw_grammar.specs.Script.{is_ending};
 ghost use Rattle.lw_words.specs.Cuts.{targets};
-ghost use Rattle.lw_lines.specs.StatementMeaning.{act_meaning, layers_meaning};
-ghost use Rattle.lw_lines.specs.CallMeaning.{IsBitmapAt};
-ghost use Rattle.lw_lines.specs.GroupMeaning.{group_meaning};
+ghost use Rattle.lw_statements.specs.StatementMeaning.{act_meaning, layers_meaning};
+ghost use Rattle.lw_statements.specs.CallMeaning.{IsBitmapAt};
+ghost use Rattle.lw_statements.specs.GroupMeaning.{group_meaning};
 ghost use Rattle.lw_script.specs.CallParts.{first_place, second_place, AreNoted};
 ghost use Rattle.lw_script.specs.Represents.{TasksRepresent};
 
@@ -15,7 +15,7 @@ use crate::state::TasksRead;
 use indexmap::IndexSet;
 use lw_calls::{Group, Hold};
 use lw_grammar::BareVerb;
-use lw_lines::{Act, Layers, OpenGroup, hook};
+use lw_statements::{Act, Layers, OpenGroup, hook};
 use std::alloc::{AllocError, Global};
 
 /// The number of a name among these, where a name that isn't one of them gets the next number.

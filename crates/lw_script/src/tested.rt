@@ -4,12 +4,12 @@ ghost use Rattle.lw_calls.specs.Limits.{call_limit};
 ghost use Rattle.lw_grammar.specs.Statements.{is_line_in_range};
 ghost use Rattle.lw_grammar.specs.Told.{and_name, hook_on, told_with};
 ghost use Rattle.lw_grammar.specs.Script.{lacks_name, gives_again, group_has_calls, fits_group, super_limit, are_few, is_no_hook, is_used, has_padding, statement_tested};
-ghost use Rattle.lw_lines.specs.StatementMeaning.{statement_meaning};
+ghost use Rattle.lw_statements.specs.StatementMeaning.{statement_meaning};
 ghost use Rattle.lw_script.specs.ReaderKnows.{known, setting_of};
 
 use crate::state::{Reader, has_hook, has_name};
 use lw_calls::Reason;
-use lw_lines::{Act, Layers, Statement, hook};
+use lw_statements::{Act, Layers, Statement, hook};
 use lw_words::is_text;
 
 /// How many tasks, bitmaps, layer names, lines that ask for a super-bitmap layer, and calls of a task a script has at most.

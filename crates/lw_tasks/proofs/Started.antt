@@ -16,7 +16,7 @@ use Rattle.lw_machine.specs.History.{machine, replies_of}
 use Rattle.lw_machine.specs.Hook.{Hook}
 use Rattle.lw_order.specs.Numbered.{TasksBelow}
 use Rattle.lw_layer.specs.View.{CellView}
-use Rattle.lw_steps.specs.Steps.{Relations}
+use Rattle.lw_engine_trait.specs.Steps.{Relations}
 use Rattle.lw_engine.specs.Layers.{InfoView, AreLayers, AreRegisters}
 use Rattle.lw_runs.specs.declared.answers.TaskAnswers.{TaskAnswers}
 use Rattle.lw_runs.specs.Whole.{HaveRun, AreTickets, order_of, IsOrdered}

@@ -6,7 +6,7 @@ use lw_backfill::Backfill;
 use lw_calls::{Final, OrderList, Plan};
 use lw_engine::LayerEngine;
 use lw_runs::{Parts, Run, run_in_order};
-use lw_steps::Engine;
+use lw_engine_trait::Engine;
 use std::alloc::{AllocError, Global};
 
 /// The final state of the machine's run of a plan in a legal order, several tasks included, where these hooks lie on the shelf:

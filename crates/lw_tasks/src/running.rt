@@ -13,7 +13,7 @@ use lw_engine::LayerEngine;
 use lw_locks::{Closed, Gate, Opening};
 use lw_order::{Order, Seat};
 use lw_runs::{TaskAnswers, order_by, run_all};
-use lw_steps::Engine;
+use lw_engine_trait::Engine;
 use std::alloc::{AllocError, Global};
 use std::marker::Brand;
 use std::sync::Wait;

@@ -17,7 +17,7 @@ use lw_io::Sink;
 use lw_locks::Gate;
 use lw_planes::Planes;
 use lw_tasks::run_tasks;
-use lw_written::{end_line, push_numbered_line, push_spaced};
+use lw_text_output::{end_line, push_numbered_line, push_spaced};
 use std::alloc::{AllocError, Global};
 use std::sync::Wait;
 use std::thread::Threads;

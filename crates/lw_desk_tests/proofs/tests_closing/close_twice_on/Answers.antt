@@ -1,6 +1,6 @@
 use Rattle.std.proofs.Common.{[], refl, subst, rules}
 use Rattle.lw_machine.specs.Desk.{Desk}
-use Rattle.lw_steps.specs.Steps.{AreCells}
+use Rattle.lw_engine_trait.specs.Steps.{AreCells}
 use Rattle.lw_engine.specs.Layers.{layer_relations, AreRegisters}
 use Rattle.lw_desk_tests.proofs.Opened.{same_desk}
 use Rattle.lw_desk_tests.proofs.tests_closing.close_twice_on.Goals as goal

@@ -1,7 +1,7 @@
 use Rattle.std.proofs.Common.{◌∙◌, sym, ap, subst, arith}
 use Rattle.lw_planes.specs.Bitmap.{Bitmap}
 use Rattle.lw_layer.specs.View.{CellView}
-use Rattle.lw_final.specs.Shown.{HasPlanesOf, with_layer_shown}
+use Rattle.lw_final_state.specs.Shown.{HasPlanesOf, with_layer_shown}
 use Rattle.lw_engine.specs.Slots.{hook_in}
 use Rattle.lw_engine.proofs.HookedLaws.{shown_hooked}
 use Rattle.lw_engine.proofs.FinishedDesk.{cell_read, cell_deep, no_layer_shown, cell_shown, all_shown}

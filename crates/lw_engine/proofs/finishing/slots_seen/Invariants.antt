@@ -1,6 +1,6 @@
 use Rattle.std.proofs.Common.{◌≡◌, map}
 use Rattle.std.specs.List.{range_with_len}
-use Rattle.lw_final.specs.Shown.{seen_in}
+use Rattle.lw_final_state.specs.Shown.{seen_in}
 use Rattle.lw_engine.specs.Desks.{cell_at}
 use Rattle.lw_engine.proofs.finishing.slots_seen.Given as goal
 

@@ -2,7 +2,7 @@ use Rattle.std.proofs.Common.{◌≡◌, ◌++◌, ◌∙◌, ap, sym, refl, ari
 use Rattle.std.specs.List.{flat_map, range_with_len}
 use Rattle.lw_planes.specs.Bitmap.{plane_row}
 use Rattle.lw_calls.specs.Written.{line_of, hex_byte}
-use Rattle.lw_written.proofs.Pieces.{piece_written}
+use Rattle.lw_text_output.proofs.Pieces.{piece_written}
 use Rattle.lw_print.proofs.ManyLines.{planes_text}
 use Rattle.lw_print.proofs.bitmaps.push_planes.Goals as goal
 

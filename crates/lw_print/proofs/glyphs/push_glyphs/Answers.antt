@@ -1,7 +1,7 @@
 use Rattle.std.proofs.Common.{◌≡◌, ◌+◌, [], refl, arith}
 use Rattle.std.specs.List.{slice_index_or}
 use Rattle.lw_canonical.specs.Canonical.{lines_of_glyph}
-use Rattle.lw_written.proofs.Pieces.{piece_written}
+use Rattle.lw_text_output.proofs.Pieces.{piece_written}
 use Rattle.lw_print.specs.Behind.{text_of_lines}
 use Rattle.lw_print.proofs.ManyLines.{pieces_text}
 use Rattle.lw_print.proofs.glyphs.push_glyphs.Goals as goal

@@ -1,7 +1,7 @@
 use Rattle.std.proofs.Common.{◌≡◌, ap, refl, arith}
 use Rattle.lw_calls.specs.declared.sizes.Sizes.{Sizes}
 use Rattle.lw_canonical.specs.Canonical.{lines_of_task}
-use Rattle.lw_written.proofs.Pieces.{piece_written}
+use Rattle.lw_text_output.proofs.Pieces.{piece_written}
 use Rattle.lw_print.specs.Behind.{text_of_lines}
 use Rattle.lw_print.proofs.ManyLines.{pieces_text}
 use Rattle.lw_print.proofs.whole.push_tasks.Goals as goal

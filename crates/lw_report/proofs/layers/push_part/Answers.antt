@@ -3,7 +3,7 @@ use Rattle.std.specs.List.{slice_index_or}
 use Rattle.std.proofs.lemmas.List.{get_or_default}
 use Rattle.lw_machine.specs.Report.{of_seen}
 use Rattle.lw_report.specs.Words.{part_text}
-use Rattle.lw_written.proofs.Pieces.{piece_written}
+use Rattle.lw_text_output.proofs.Pieces.{piece_written}
 use Rattle.lw_report.proofs.layers.push_part.Goals as goal
 
 pub loop-slot-preserved : goal.loop-slot-preserved

@@ -1,6 +1,6 @@
 use Rattle.std.proofs.Common.{refl}
 use Rattle.lw_machine.specs.Report.{plane_lines}
-use Rattle.lw_written.proofs.Pieces.{piece_written}
+use Rattle.lw_text_output.proofs.Pieces.{piece_written}
 use Rattle.lw_report.proofs.planes.push_each_plane.Goals as goal
 
 pub loop-plane-preserved : goal.loop-plane-preserved

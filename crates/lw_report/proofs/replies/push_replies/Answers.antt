@@ -2,7 +2,7 @@ use Rattle.std.proofs.Common.{[], ◌∙◌, ap}
 use Rattle.std.specs.List.{slice_index_or}
 use Rattle.std.proofs.lemmas.List.{get_or_default}
 use Rattle.lw_machine.specs.Report.{reply_lines}
-use Rattle.lw_written.proofs.Pieces.{piece_written}
+use Rattle.lw_text_output.proofs.Pieces.{piece_written}
 use Rattle.lw_report.proofs.replies.push_replies.Goals as goal
 
 pub loop-task-preserved : goal.loop-task-preserved

@@ -1,6 +1,6 @@
 use Rattle.std.proofs.Common.{◌≡◌, ◌<◌, ◌==◌, false, length, get_or, ◌∙◌, sym, arith}
 use Rattle.std.proofs.lemmas.Bool.Decides.{nat_tests}
-use Rattle.lw_steps.proofs.ClassLaws.{pair_apart}
+use Rattle.lw_engine_trait.proofs.ClassLaws.{pair_apart}
 use Rattle.lw_runs.proofs.ListLaws.{front_is, back_is, front_set, back_set}
 use Rattle.lw_runs.proofs.PartsLaws.{two_done}
 use Rattle.lw_runs.proofs.parts.on_two.Goals as goal

@@ -1,6 +1,6 @@
 use Rattle.std.proofs.Common.{refl}
 use Rattle.lw_top.specs.Demo.{pen_line}
-use Rattle.lw_written.proofs.Pieces.{piece_written}
+use Rattle.lw_text_output.proofs.Pieces.{piece_written}
 use Rattle.lw_top.proofs.demo.push_pens.Goals as goal
 
 pub loop-pen-preserved : goal.loop-pen-preserved

@@ -1,5 +1,5 @@
 use Rattle.std.proofs.Common.{IfOk, OnErr, sym, subst}
-use Rattle.lw_steps.specs.Steps.{IsAllStep, AreStill}
+use Rattle.lw_engine_trait.specs.Steps.{IsAllStep, AreStill}
 use Rattle.lw_engine.specs.Layers.{InfoView, layer_relations, AreLayers}
 use Rattle.lw_engine.proofs.LayerLaws.{numbered_cells, layers_of_desk, all_made, all_still}
 use Rattle.lw_engine.proofs.layer_engine.LayerEngineEngine.all.Goals as goal

@@ -4,7 +4,7 @@ use Rattle.lw_machine.specs.Hook.{Hook}
 use Rattle.lw_calls.specs.declared.touch.CallClass.TheVariants.{OnLayer}
 use Rattle.lw_calls.specs.Touches.{class_of}
 use Rattle.lw_layer.specs.View.{CellView, hooked}
-use Rattle.lw_parts.specs.Parts.{IsLayerStep}
+use Rattle.lw_layer_calls.specs.Parts.{IsLayerStep}
 use Rattle.lw_engine.proofs.HookLaws.{hooked_step}
 use Rattle.lw_engine.proofs.slot.Slot.on_layer.Goals as goal
 

@@ -3,7 +3,7 @@ use Rattle.lw_machine.specs.Hook.{Hook}
 use Rattle.lw_calls.specs.declared.touch.CallClass.TheVariants.{OnLayers}
 use Rattle.lw_calls.specs.Touches.{class_of}
 use Rattle.lw_layer.specs.View.{CellView, hooked}
-use Rattle.lw_parts.specs.Parts.{IsPairStep}
+use Rattle.lw_layer_calls.specs.Parts.{IsPairStep}
 use Rattle.lw_engine.proofs.HookLaws.{hooked_pair}
 use Rattle.lw_engine.proofs.slot.Slot.with_source.Goals as goal
 

@@ -2,7 +2,7 @@
 use Rattle.std.proofs.Common.{◌<◌, get_or, [], ◌∷◌, sym, subst}
 use Rattle.lw_calls.specs.declared.call.Call.TheVariants.{RegClear}
 use Rattle.lw_calls.specs.declared.touch.Role.TheVariants.{Task, Slot}
-use Rattle.lw_steps.proofs.ClassLaws.{slot_fits}
+use Rattle.lw_engine_trait.proofs.ClassLaws.{slot_fits}
 use Rattle.lw_locks.proofs.Seats.{cell_longer, their_longer}
 use Rattle.lw_locks.proofs.Passes.{holding_joined}
 use Rattle.lw_locks.proofs.Running.{group_none}

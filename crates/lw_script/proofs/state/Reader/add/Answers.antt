@@ -1,8 +1,8 @@
 use Rattle.std.proofs.Common.{sym, subst, ◌∷◌, arith, List}
 use Rattle.lw_grammar.specs.Script.{Setting}
 use Rattle.lw_grammar.specs.Statements.{Statement as StatementValue}
-use Rattle.lw_lines.specs.declared.statement.Statement.{Statement}
-use Rattle.lw_lines.specs.StatementMeaning.{statement_meaning}
+use Rattle.lw_statements.specs.declared.statement.Statement.{Statement}
+use Rattle.lw_statements.specs.StatementMeaning.{statement_meaning}
 use Rattle.lw_script.specs.declared.state.Reader.{Reader}
 use Rattle.lw_script.specs.Represents.{Represents, CanAdd}
 use Rattle.lw_script.proofs.Addable.{in_64, screen_ranged, bitmap_ranged}

@@ -1,8 +1,8 @@
 use Rattle.std.proofs.Common.{List, ℕ, refl, subst}
 use Rattle.lw_grammar.specs.Statements.{CallLine}
 use Rattle.lw_words.specs.Cuts.{targets}
-use Rattle.lw_lines.specs.StatementMeaning.{act_meaning, layers_meaning}
-use Rattle.lw_lines.specs.CallMeaning.{IsBitmapAt}
+use Rattle.lw_statements.specs.StatementMeaning.{act_meaning, layers_meaning}
+use Rattle.lw_statements.specs.CallMeaning.{IsBitmapAt}
 use Rattle.lw_script.proofs.Addable.{few_names, few_bitmaps, call_ranged, call_made, call_room, call_supers}
 use Rattle.lw_script.proofs.CallLines.{bitmap_stands}
 use Rattle.lw_script.proofs.Passing.{with_tasks, on_done}

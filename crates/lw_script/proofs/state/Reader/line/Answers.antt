@@ -4,7 +4,7 @@ use Rattle.lw_grammar.specs.Demands.{◌>>=◌}
 use Rattle.lw_grammar.specs.Script.{statement_of}
 use Rattle.lw_words.proofs.Binds.{stops_before}
 use Rattle.lw_words.specs.Cuts.{targets}
-use Rattle.lw_lines.specs.LineReading.{Reads}
+use Rattle.lw_statements.specs.LineReading.{Reads}
 use Rattle.lw_script.specs.ReaderKnows.{known, setting_of}
 use Rattle.lw_script.proofs.state.Reader.line.Goals as goal
 

@@ -1,4 +1,4 @@
-use Rattle.lw_lines.specs.StatementMeaning.{statement_meaning}
+use Rattle.lw_statements.specs.StatementMeaning.{statement_meaning}
 use Rattle.lw_script.proofs.state.Reader.take.Goals as goal
 
 pub add-requires : goal.add-requires

@@ -2,7 +2,7 @@ use Rattle.std.proofs.Common.{◌≡◌, ◌+◌, cond, Option, ℤ, sym, ap, su
 use Rattle.lw_grammar.specs.Statements.{CallLine, is_hook_number}
 use Rattle.lw_grammar.specs.Told.{and_names, asks_super, and_hook, left_open_by, told}
 use Rattle.std.specs.Bool.{IsTrue}
-use Rattle.lw_lines.specs.StatementMeaning.{act_meaning, layers_meaning}
+use Rattle.lw_statements.specs.StatementMeaning.{act_meaning, layers_meaning}
 use Rattle.lw_script.specs.CallParts.{first_place, second_place, AreNoted}
 use Rattle.lw_script.proofs.CallLines.{hook_fits, groups_kept, calls_kept}
 use Rattle.lw_script.proofs.state.TasksRead.add_call.Goals as goal

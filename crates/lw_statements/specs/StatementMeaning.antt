@@ -1,0 +1,77 @@
+-- What a statement of the reader means.
+use Rattle.std.specs.Prelude.{List, [], ◌∷◌, ℕ}
+use Rattle.lw_region.specs.Rectangle.{Rectangle}
+use Rattle.lw_calls.specs.declared.area.Area.{Area}
+use Rattle.lw_grammar.specs.Statements.{AskedLayer as AskedMeaning, Act as ActMeaning, BareAct, NumberAct, PairAct, TextAct, RegRectAct, RegPairAct, RegClearAct, CreateAct, OpenAct, InFrontAct, BoxAct, WhichAct, FillAct, ScrollRasterAct, PutAct, BlitAct, EndRefreshAct, Statement as Meaning, ScreenLine, GlyphLine, BitmapLine, RowLine, TaskLine, EndLine, OrderLine, NumbersLine, ReportLine, CallLine, LockLine, UnlockLine, HoldLine, ReleaseLine, four}
+use Rattle.lw_statements.specs.declared.statement.Corners.{Corners}
+use Rattle.lw_statements.specs.declared.statement.AskedLayer.{AskedLayer}
+use Rattle.lw_statements.specs.declared.statement.AskedArea.{AskedArea}
+use Rattle.lw_statements.specs.declared.statement.Act.{Act}
+use Rattle.lw_statements.specs.declared.statement.Act.TheVariants.{RegRect, RegPair, RegClear, Create, Open, InFront, Box, Which, Bare, Number, Pair, Text, Fill, ScrollRaster, Put, Blit, EndRefresh}
+use Rattle.lw_statements.specs.declared.statement.Layers.{Layers}
+use Rattle.lw_statements.specs.declared.statement.Layers.TheVariants.{Nothing, One, Two}
+use Rattle.lw_statements.specs.declared.statement.Statement.{Statement}
+use Rattle.lw_statements.specs.declared.statement.Statement.TheVariants.{Screen, Glyph, Bitmap, Row, Task, End, Order, Numbers, Report, Call, Lock, Unlock, Hold, Release}
+use Rattle.lw_words.specs.Digits.{decoded}
+
+-- the four numbers as bounds
+abbrev pub corners_meaning : Corners → Rectangle
+corners_meaning c = four c.x0 c.y0 c.x1 c.y1
+
+abbrev pub asked_meaning : AskedLayer → AskedMeaning
+asked_meaning a =
+    record {
+      kind = a.kind;
+      place = a.place;
+      numbers = corners_meaning a.numbers;
+      backdrop = a.backdrop;
+      hook = a.hook;
+      bits_w = a.bits_w;
+      bits_h = a.bits_h;
+    }
+
+abbrev pub area_meaning : AskedArea → Area
+area_meaning b = record { sx = b.sx; sy = b.sy; x = b.x; y = b.y; w = b.w; h = b.h; minterm = b.minterm }
+
+-- names and texts by their bytes, and all else as it stands
+abbrev pub act_meaning : Act → ActMeaning
+act_meaning (RegRect op register c) = RegRectAct op register (corners_meaning c)
+act_meaning (RegPair op source into) = RegPairAct op source into
+act_meaning (RegClear register) = RegClearAct register
+act_meaning (Create asked) = CreateAct (asked_meaning asked)
+act_meaning (Open asked framed nocare classes title) = OpenAct (asked_meaning asked) framed nocare classes title.now
+act_meaning InFront = InFrontAct
+act_meaning (Box c) = BoxAct (corners_meaning c)
+act_meaning (Which x y) = WhichAct x y
+act_meaning (Bare verb) = BareAct verb
+act_meaning (Number verb z) = NumberAct verb z
+act_meaning (Pair verb x y) = PairAct verb x y
+act_meaning (Text verb t) = TextAct verb t.now
+act_meaning (Fill c) = FillAct (corners_meaning c)
+act_meaning (ScrollRaster dx dy c) = ScrollRasterAct dx dy (corners_meaning c)
+act_meaning (Put bitmap b) = PutAct bitmap.now (area_meaning b)
+act_meaning (Blit b) = BlitAct (area_meaning b)
+act_meaning (EndRefresh full) = EndRefreshAct full
+
+-- the layers' names by their bytes
+abbrev pub layers_meaning : Layers → List (List ℕ)
+layers_meaning Nothing = []
+layers_meaning (One l) = l.now ∷ []
+layers_meaning (Two l m) = l.now ∷ m.now ∷ []
+
+-- names by their bytes, digits by what they spell, and all else as it stands
+abbrev pub statement_meaning : Statement → Meaning
+statement_meaning (Screen w h d) = ScreenLine w h d
+statement_meaning (Glyph code digits) = GlyphLine code (decoded digits.digits.now)
+statement_meaning (Bitmap name w h d) = BitmapLine name.now w h d
+statement_meaning (Row digits) = RowLine (decoded digits.digits.now)
+statement_meaning (Task name) = TaskLine name.now
+statement_meaning End = EndLine
+statement_meaning Order = OrderLine
+statement_meaning (Numbers zs) = NumbersLine zs.items
+statement_meaning Report = ReportLine
+statement_meaning (Call layers act) = CallLine (layers_meaning layers) (act_meaning act)
+statement_meaning (Lock name) = LockLine name.now
+statement_meaning (Unlock name) = UnlockLine name.now
+statement_meaning Hold = HoldLine
+statement_meaning Release = ReleaseLine

@@ -1,0 +1,183 @@
+ghost use Rattle.std.specs.Prelude.{◌≡◌, ◌&&◌, map, pos};
+ghost use Rattle.std.specs.List.{list_all};
+ghost use Rattle.lw_region.specs.Rectangle.{within};
+ghost use Rattle.lw_calls.specs.Limits.{is_coordinate, axis_fits, rect_fits, coordinates_fit as places_meant, is_extent};
+ghost use Rattle.lw_grammar.specs.Statements.{is_hook_number, is_own_size, is_asked_in_range, place_and_size_fit, is_area_in_range, greatest_number, is_act_in_range, is_line_in_range};
+ghost use Rattle.lw_statements.specs.StatementMeaning.{corners_meaning, asked_meaning, area_meaning, act_meaning, statement_meaning};
+
+use crate::statement::{Act, AskedArea, AskedLayer, Corners, Statement};
+use lw_calls::Kind;
+use lw_grammar::NumberVerb;
+
+#[tactic(auto, using(std::proofs::lemmas::Int::ints), unfolding(lw_region::specs::Rectangle::within))]
+fn is_between(low: i64, number: i64, high: i64) -> bool
+    ensures { result ≡ within low number high }
+{
+    if number < low {
+        return false;
+    }
+    number <= high
+}
+
+fn is_coordinate(number: i64) -> bool
+    ensures { result ≡ is_coordinate number }
+{
+    is_between(-32768, number, 32767)
+}
+
+fn coordinates_fit(x: i64, y: i64) -> bool
+    ensures { result ≡ places_meant x y }
+{
+    is_coordinate(x) && is_coordinate(y)
+}
+
+/// Whether it is a width or a height of a window, of `box` or of a blit.
+fn is_extent(number: i64) -> bool
+    ensures { result ≡ is_extent number }
+{
+    is_between(1, number, 32767)
+}
+
+/// Whether a minimum and a maximum that is not below it are coordinates.
+#[tactic(auto, using(std::proofs::lemmas::Int::ints), unfolding(lw_calls::specs::Limits::axis_fits))]
+fn fits_axis(low: i64, high: i64) -> bool
+    ensures { result ≡ axis_fits low high }
+{
+    is_coordinate(low) && is_coordinate(high) && low <= high
+}
+
+impl Corners {
+    /// Whether all are coordinates and neither maximum is below its minimum.
+    fn fit(&self) -> bool
+        ensures { result ≡ rect_fits (corners_meaning self.now) }
+    {
+        fits_axis(self.x0, self.x1) && fits_axis(self.y0, self.y1)
+    }
+
+    /// Whether they are a place, a width and a height.
+    fn are_place_and_size(&self) -> bool
+        ensures { result ≡ place_and_size_fit (corners_meaning self.now) }
+    {
+        coordinates_fit(self.x0, self.y0) && (is_extent(self.x1) && is_extent(self.y1))
+    }
+}
+
+fn is_hook_number(hook: Option<i64>) -> bool
+    ensures { result ≡ is_hook_number hook }
+{
+    match hook {
+        None => true,
+        Some(number) => is_between(0, number, 4_294_967_295),
+    }
+}
+
+/// Whether the size of a bitmap of a layer's own is in range, if it has one.
+fn is_own_size(kind: Kind, width: i64, height: i64) -> bool
+    ensures { result ≡ is_own_size kind width height }
+{
+    match kind {
+        Kind::Simple | Kind::Smart => true,
+        Kind::SuperBitmap => is_between(1, width, 2048) && is_between(1, height, 2048),
+    }
+}
+
+impl AskedLayer {
+    /// Whether the numbers besides the four are in their ranges.
+    fn is_in_range(&self) -> bool
+        ensures { result ≡ is_asked_in_range (asked_meaning self.now) }
+    {
+        is_hook_number(self.hook) && is_own_size(self.kind, self.bits_w, self.bits_h)
+    }
+}
+
+impl AskedArea {
+    fn is_in_range(&self) -> bool
+        ensures { result ≡ is_area_in_range (area_meaning self.now) }
+    {
+        (coordinates_fit(self.sx, self.sy) && coordinates_fit(self.x, self.y))
+            && (is_extent(self.w) && is_extent(self.h))
+    }
+}
+
+/// The greatest number that a layer may have after it.
+fn greatest_number(verb: NumberVerb) -> i64
+    ensures { result ≡ pos (greatest_number verb) }
+{
+    match verb {
+        NumberVerb::Mode | NumberVerb::Clip => 7,
+        NumberVerb::APen | NumberVerb::BPen | NumberVerb::Mask | NumberVerb::SetRast => 255,
+    }
+}
+
+impl Act<'_> {
+    /// Whether every number is in its range, and no maximum is below its minimum.
+    pub fn is_in_range(&self) -> bool
+        ensures { result ≡ is_act_in_range (act_meaning self.now) }
+    {
+        match self {
+            Act::RegRect {
+                register,
+                corners,
+                ..
+            } => is_between(0, *register, 7) && corners.fit(),
+            Act::RegPair { source, into, .. } => {
+                is_between(0, *source, 7) && is_between(0, *into, 7)
+            }
+            Act::RegClear(register) => is_between(0, *register, 7),
+            Act::Create(asked) => asked.numbers.fit() && asked.is_in_range(),
+            Act::Open { asked, .. } => asked.numbers.are_place_and_size() && asked.is_in_range(),
+            Act::Box(corners) => corners.are_place_and_size(),
+            Act::Which { x, y } | Act::Pair(_, x, y) => coordinates_fit(*x, *y),
+            Act::Number(verb, number) => is_between(0, *number, greatest_number(*verb)),
+            Act::Fill(corners) => corners.fit(),
+            Act::ScrollRaster { dx, dy, corners } => coordinates_fit(*dx, *dy) && corners.fit(),
+            Act::Put { area, .. } | Act::Blit(area) => area.is_in_range(),
+            Act::InFront | Act::Bare(_) | Act::Text(_, _) | Act::EndRefresh { .. } => true,
+        }
+    }
+}
+
+fn are_tasks(numbers: &[i64]) -> bool
+    ensures { result ≡ list_all (λ z. within (pos 0) z (pos 15)) numbers.now }
+{
+    numbers.iter().all(|number| is_between(0, *number, 15))
+}
+
+fn are_sizes(width: i64, height: i64, depth: i64) -> bool
+    ensures { result ≡ ((within (pos 1) width (pos 1024) && within (pos 1) height (pos 1024)) && within (pos 1) depth (pos 8)) }
+{
+    (is_between(1, width, 1024) && is_between(1, height, 1024)) && is_between(1, depth, 8)
+}
+
+impl Statement<'_> {
+    /// Whether every number is in its range, and no maximum is below its minimum.
+    pub fn is_in_range(&self) -> bool
+        ensures { result ≡ is_line_in_range (statement_meaning self.now) }
+    {
+        match self {
+            Statement::Screen {
+                width,
+                height,
+                depth,
+            }
+            | Statement::Bitmap {
+                width,
+                height,
+                depth,
+                ..
+            } => are_sizes(*width, *height, *depth),
+            Statement::Glyph { code, .. } => 32 <= *code && *code <= 126,
+            Statement::Numbers(numbers) => are_tasks(numbers.as_slice()),
+            Statement::Call { act, .. } => act.is_in_range(),
+            Statement::Row(_)
+            | Statement::Task(_)
+            | Statement::End
+            | Statement::Order
+            | Statement::Report
+            | Statement::Lock(_)
+            | Statement::Unlock(_)
+            | Statement::Hold
+            | Statement::Release => true,
+        }
+    }
+}

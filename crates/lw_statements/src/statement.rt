@@ -1,0 +1,197 @@
+ghost use Rattle.lw_statements.specs.OwnBits.{FitKind};
+
+use lw_calls::{Kind, PairOp, Place, RectOp};
+use lw_grammar::{BareVerb, NumberVerb, PairVerb, TextVerb};
+use lw_words::Digits;
+
+/// Four numbers of a line: the bounds of a rectangle, or a place and a size.
+#[derive(Clone, Copy)]
+pub struct Corners {
+    pub x0: i64,
+    pub y0: i64,
+    pub x1: i64,
+    pub y1: i64,
+}
+
+/// A layer as a line asks for it, in the line's own numbers. The call that the line is has a `Make` of them.
+#[derive(Clone, Copy)]
+pub struct AskedLayer {
+    pub kind: Kind,
+    pub place: Place,
+    /// The bounds of a creation, or the place and size of an opening.
+    pub numbers: Corners,
+    pub backdrop: bool,
+    pub hook: Option<i64>,
+    /// The size of a bitmap of its own, or 0 and 0.
+    pub bits_w: i64,
+    pub bits_h: i64,
+    ghost bits: { FitKind kind bits_w bits_h },
+}
+
+impl AskedLayer {
+    ghost use Rattle.std.specs.Prelude.{◌≡◌};
+    ghost use Rattle.lw_grammar.specs.Statements.{asked_without_bitmap};
+    ghost use Rattle.lw_statements.specs.StatementMeaning.{corners_meaning, asked_meaning};
+
+    /// A layer without a bitmap of its own.
+    pub fn without_bitmap(
+        kind: Kind,
+        place: Place,
+        numbers: Corners,
+        backdrop: bool,
+        hook: Option<i64>,
+    ) -> AskedLayer
+        ensures { asked_meaning result ≡ asked_without_bitmap kind place (corners_meaning numbers) backdrop hook }
+    {
+        AskedLayer {
+            kind,
+            place,
+            numbers,
+            backdrop,
+            hook,
+            bits_w: 0,
+            bits_h: 0,
+        }
+    }
+}
+
+/// A blit's places and sizes, and its minterm.
+#[derive(Clone, Copy)]
+pub struct AskedArea {
+    pub sx: i64,
+    pub sy: i64,
+    pub x: i64,
+    pub y: i64,
+    pub w: i64,
+    pub h: i64,
+    pub minterm: u8,
+}
+
+/// What the line of a call asks for, without the layers that it names. Names and texts stand in the input.
+#[derive(Clone, Copy)]
+pub enum Act<'a> {
+    /// A rectangle joined to a register.
+    RegRect {
+        op: RectOp,
+        register: i64,
+        corners: Corners,
+    },
+    /// The register `source` joined to the register `into`.
+    RegPair {
+        op: PairOp,
+        source: i64,
+        into: i64,
+    },
+    /// A register emptied.
+    RegClear(i64),
+    Create(AskedLayer),
+    Open {
+        asked: AskedLayer,
+        framed: bool,
+        nocare: bool,
+        /// The set of the classes of messages: class k is bit k.
+        classes: u8,
+        title: &'a [u8],
+    },
+    InFront,
+    /// A place, a width and a height.
+    Box(Corners),
+    Which {
+        x: i64,
+        y: i64,
+    },
+    Bare(BareVerb),
+    Number(NumberVerb, i64),
+    Pair(PairVerb, i64, i64),
+    Text(TextVerb, &'a [u8]),
+    Fill(Corners),
+    ScrollRaster {
+        dx: i64,
+        dy: i64,
+        corners: Corners,
+    },
+    Put {
+        bitmap: &'a [u8],
+        area: AskedArea,
+    },
+    Blit(AskedArea),
+    EndRefresh {
+        full: bool,
+    },
+}
+
+/// The layers that a call's line names, from left to right.
+#[derive(Clone, Copy)]
+pub enum Layers<'a> {
+    Nothing,
+    One(&'a [u8]),
+    Two(&'a [u8], &'a [u8]),
+}
+
+/// What a line of a script says, if it isn't skipped. Names, texts and digits stand in the input.
+#[derive(Drop)]
+pub enum Statement<'a> {
+    Screen {
+        width: i64,
+        height: i64,
+        depth: i64,
+    },
+    /// A glyph's code, and the digits of its 8 rows.
+    Glyph {
+        code: u8,
+        digits: Digits<'a>,
+    },
+    /// A bitmap, whose rows then follow.
+    Bitmap {
+        name: &'a [u8],
+        width: i64,
+        height: i64,
+        depth: i64,
+    },
+    /// The digits of a row of a bitmap.
+    Row(Digits<'a>),
+    /// A task begins.
+    Task(&'a [u8]),
+    /// A task ends.
+    End,
+    /// Numbers of an order follow.
+    Order,
+    /// Numbers of an order.
+    Numbers(Vec<i64>),
+    /// A report follows.
+    Report,
+    Call {
+        layers: Layers<'a>,
+        act: Act<'a>,
+    },
+    Lock(&'a [u8]),
+    Unlock(&'a [u8]),
+    Hold,
+    Release,
+}
+
+impl<'a> Statement<'a> {
+    ghost use Rattle.std.specs.Prelude.{◌≡◌, [], ◌∷◌};
+    ghost use Rattle.lw_grammar.specs.Statements.{CallLine};
+    ghost use Rattle.lw_statements.specs.StatementMeaning.{statement_meaning, act_meaning};
+
+    /// A call that names no layer.
+    pub fn apart(act: Act<'a>) -> Statement<'a>
+        ensures { statement_meaning result ≡ CallLine [] (act_meaning act.entry) }
+    {
+        Statement::Call {
+            layers: Layers::Nothing,
+            act,
+        }
+    }
+
+    /// A call on one layer.
+    pub fn on(layer: &'a [u8], act: Act<'a>) -> Statement<'a>
+        ensures { statement_meaning result ≡ CallLine (layer.entry.now ∷ []) (act_meaning act.entry) }
+    {
+        Statement::Call {
+            layers: Layers::One(layer),
+            act,
+        }
+    }
+}
