@@ -7,10 +7,10 @@ use crate::blits::{blit_of, put_of, scroll_of};
 use lw_backfill::Solid;
 use lw_calls::{Assets, Call, Kind, Make, Place, Replies, Sizes, Text};
 use lw_engine::LayerEngine;
+use lw_engine_trait::Engine;
 use lw_planes::Planes;
 use lw_region::Rect;
 use lw_runs::Parts;
-use lw_engine_trait::Engine;
 use std::alloc::{AllocError, Global};
 
 // How many letters a text has.

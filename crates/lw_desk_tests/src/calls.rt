@@ -4,9 +4,9 @@ ghost use Rattle.lw_calls.specs.Limits.{call_fits};
 ghost use Rattle.lw_calls.specs.Plan as plan;
 
 use lw_calls::{Assets, Call, CallClass, Kind, Make, Place, Replies, Reply, Sizes, class_of};
+use lw_engine_trait::Engine;
 use lw_locks::{Desk, Gate, Opening, Pass};
 use lw_region::Rect;
-use lw_engine_trait::Engine;
 use std::alloc::{AllocError, Global};
 use std::process::Abort;
 use std::sync::Wait;

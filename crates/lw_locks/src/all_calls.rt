@@ -12,8 +12,8 @@ use crate::gate::{Gate, Spot};
 use crate::opening::Opening;
 use crate::steps::Steps;
 use lw_calls::Call;
-use lw_order::Seat;
 use lw_engine_trait::Engine;
+use lw_order::Seat;
 use std::alloc::{AllocError, Global};
 
 impl<E: Engine, N: Opening> Steps<E, N> {

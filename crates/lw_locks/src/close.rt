@@ -15,8 +15,8 @@ use crate::held::{Layer, LayerInfo, Place};
 use crate::opening::Opening;
 use crate::pass::Pass;
 use crate::steps::Steps;
-use lw_order::Seat;
 use lw_engine_trait::Engine;
+use lw_order::Seat;
 use std::alloc::Global;
 use std::sync::Mutex;
 

@@ -2,8 +2,8 @@
 ghost use Rattle.std.specs.Prelude.{IsSome};
 
 use crate::opening::Opening;
-use lw_order::Seat;
 use lw_engine_trait::Engine;
+use lw_order::Seat;
 use std::marker::{Model, PhantomData};
 
 // A slot. Contracts see its number.

@@ -4,8 +4,8 @@ ghost use Rattle.lw_locks.specs.Joins.{IsHistory};
 
 use crate::answer::Answer;
 use crate::opening::Opening;
-use lw_order::Seat;
 use lw_engine_trait::Engine;
+use lw_order::Seat;
 use std::alloc::AllocError;
 use std::marker::{Model, PhantomData};
 

@@ -14,8 +14,8 @@ ghost use Rattle.lw_locks.specs.Held.{IsSeat, AreRegs, IsCell, IsInfo, AreHeld};
 use crate::answer::Answer;
 use crate::opening::Opening;
 use lw_calls::{Call, Role};
-use lw_order::{Order, Seat};
 use lw_engine_trait::Engine;
+use lw_order::{Order, Seat};
 use std::alloc::{AllocError, Global};
 use std::marker::PhantomData;
 

@@ -10,8 +10,8 @@ ghost use Rattle.lw_runs.specs.Made.{HasMade, HasBegun, IsFree, IsNext, IsAhead}
 
 use crate::run::call_of;
 use lw_calls::{Call, CallClass, Group, Plan, class_of};
-use lw_locks::{Answer, Desk, Gate, Opening, Pass};
 use lw_engine_trait::Engine;
+use lw_locks::{Answer, Desk, Gate, Opening, Pass};
 use std::alloc::{AllocError, Global};
 use std::sync::Wait;
 

@@ -9,8 +9,8 @@ ghost use Rattle.lw_words.specs.Digits.{decoded};
 ghost use Rattle.lw_script.specs.Represents.{AssetsRepresent, IsBitmapBegun};
 
 use crate::state::AssetsRead;
-use lw_statements::size;
 use lw_planes::Planes;
+use lw_statements::size;
 use lw_words::Digits;
 use std::alloc::{AllocError, Global};
 use std::mem;

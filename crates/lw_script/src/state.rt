@@ -6,8 +6,8 @@ ghost use Rattle.lw_words.specs.Cuts.{targets};
 
 use indexmap::IndexSet;
 use lw_calls::{Call, Form, Group};
-use lw_statements::{OpenGroup, Section};
 use lw_planes::Planes;
+use lw_statements::{OpenGroup, Section};
 use std::alloc::Global;
 
 /// The glyphs and bitmaps that were read.

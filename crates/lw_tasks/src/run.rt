@@ -5,8 +5,8 @@ ghost use Rattle.lw_machine.specs.Finals.{run_final};
 use lw_backfill::Backfill;
 use lw_calls::{Final, OrderList, Plan};
 use lw_engine::LayerEngine;
-use lw_runs::{Parts, Run, run_in_order};
 use lw_engine_trait::Engine;
+use lw_runs::{Parts, Run, run_in_order};
 use std::alloc::{AllocError, Global};
 
 /// The final state of the machine's run of a plan in a legal order, several tasks included, where these hooks lie on the shelf:
