@@ -13,7 +13,8 @@ use Rattle.lw_planes.proofs.ChosenLaws.{first_choice}
 use Rattle.lw_strips.specs.Blocks.{with_bitmap}
 use Rattle.lw_strips.specs.Strips.{IsSizeOf}
 use Rattle.lw_strips.proofs.OverlapLaws.{bitmap_laid}
-use Rattle.lw_buffers.specs.Lookup.{IsBufferOf, AreBuffers, pen_from, pen_in, laid, with_buffers}
+use Rattle.lw_strips.specs.Laying.{laid}
+use Rattle.lw_buffers.specs.Lookup.{IsBufferOf, AreBuffers, pen_from, pen_in, with_buffers}
 use Rattle.lw_buffers.proofs.LookupLaws.{pen_in_append}
 
 -- a rectangle's bitmap laid on one that begins at a place
@@ -46,7 +47,7 @@ laid_nothing buffers left top to ok =
     sym (ap (λ t. if t then pen_in [] buffers u v else pen_at to x y) (covers_nil u v)))
 
 -- one rectangle more, in front of the others
-laid_cons : (r : Rectangle) (rs : List Rectangle) (b : Bitmap) (bs : List Bitmap) (left top : ℤ) (to : Bitmap)
+pub laid_cons : (r : Rectangle) (rs : List Rectangle) (b : Bitmap) (bs : List Bitmap) (left top : ℤ) (to : Bitmap)
     → laid (λ x y. has_pixel r x y) (λ x y. pen_from r b x y) left top (with_buffers rs bs left top to) ≡ with_buffers (r ∷ rs) (b ∷ bs) left top to
 unfolding pen_in
 laid_cons r rs b bs left top to =

@@ -1,3 +1,4 @@
 pub mod SharedLaws
 pub mod LookupLaws
 pub mod LaidLaws
+pub mod StripsLaws

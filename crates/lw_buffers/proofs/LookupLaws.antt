@@ -40,12 +40,12 @@ over_step true c p q plane old = refl
 over_step false c p q plane old = refl
 
 -- the same of the places alone
-kept_step : (t c : Bool) (old : ℕ) → (if (t || c) then 1 else old) ≡ (if t then 1 else (if c then 1 else old))
+pub kept_step : (t c : Bool) (old : ℕ) → (if (t || c) then 1 else old) ≡ (if t then 1 else (if c then 1 else old))
 kept_step true c old = refl
 kept_step false c old = refl
 
 -- a rectangle in front of others, and its bitmap
-over_cons : (r : Rectangle) (rs : List Rectangle) (b : Bitmap) (bs : List Bitmap) (plane : ℕ) (x y : ℤ) (old : ℕ)
+pub over_cons : (r : Rectangle) (rs : List Rectangle) (b : Bitmap) (bs : List Bitmap) (plane : ℕ) (x y : ℤ) (old : ℕ)
     → bit_over (r ∷ rs) (b ∷ bs) plane x y old ≡ (if has_pixel r x y then bit_at (pen_from r b x y) plane else bit_over rs bs plane x y old)
 unfolding pen_in
 over_cons r rs b bs plane x y old =

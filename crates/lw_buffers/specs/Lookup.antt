@@ -1,10 +1,11 @@
--- Pixels that are kept in a list of rectangles with a bitmap each (Layers Library: clip rectangles; the form is this project's own).
--- Which places have a pixel is `covers` of the rectangles.
-use Rattle.std.specs.Prelude.{◌≡◌, ℕ, ◌<◌, Bool, if◌then◌else◌, List, [], ◌∷◌, length, slice_index_or, ℤ, pos, negsuc, ◌+ℤ◌, ◌-ℤ◌, ◌≤ℤ◌}
+-- Pixels that are kept in a list of rectangles with a bitmap each (Layers Library: clip rectangles; the form is this project's
+-- own). Which places have a pixel is `covers` of the rectangles.
+use Rattle.std.specs.Prelude.{◌≡◌, ℕ, ◌<◌, if◌then◌else◌, List, [], ◌∷◌, length, slice_index_or, ℤ, pos, negsuc, ◌+ℤ◌, ◌-ℤ◌, ◌≤ℤ◌}
 use Rattle.lw_region.specs.Bands.{covers}
 use Rattle.lw_region.specs.Rectangle.{Rectangle, has_pixel}
 use Rattle.lw_region.specs.Order.{natural}
-use Rattle.lw_planes.specs.Bitmap.{Bitmap, bitmap, pen_at}
+use Rattle.lw_planes.specs.Bitmap.{Bitmap, pen_at}
+use Rattle.lw_strips.specs.Laying.{laid}
 
 -- the bitmap has the rectangle's columns and rows
 pub record IsBufferOf (r : Rectangle) (b : Bitmap) : Type 0 where
@@ -26,12 +27,7 @@ pen_in [] bs x y = 0
 pen_in (r ∷ rs) [] x y = 0
 pen_in (r ∷ rs) (b ∷ bs) x y = if has_pixel r x y then pen_from r b x y else pen_in rs bs x y
 
--- the bitmap whose pixel (0, 0) is the place (left, top), with these pens where the test holds, both asked at places
-abbrev pub laid : (ℤ → ℤ → Bool) → (ℤ → ℤ → ℕ) → ℤ → ℤ → Bitmap → Bitmap
-laid on pen left top b =
-    bitmap b.width b.height b.depth (λ x y. if on (left +ℤ pos x) (top +ℤ pos y) then pen (left +ℤ pos x) (top +ℤ pos y) else pen_at b x y)
-
--- the bitmap with the pens of the rectangles' bitmaps where some rectangle is
+-- the bitmap whose pixel (0, 0) is the place (left, top), with the pens of the rectangles' bitmaps where some rectangle is
 abbrev pub with_buffers : List Rectangle → List Bitmap → ℤ → ℤ → Bitmap → Bitmap
 with_buffers rects buffers left top b = laid (λ x y. covers rects x y) (λ x y. pen_in rects buffers x y) left top b
 

@@ -6,5 +6,5 @@ mod copying;
 mod laying;
 mod shared;
 
-pub use copying::{copy_over, copy_row};
-pub use laying::lay_buffers;
+pub use copying::{copy_row, copy_strips};
+pub use laying::{lay_buffers, lay_strips};

@@ -14,6 +14,7 @@ use Rattle.lw_region.proofs.Canonical.{covers_nil}
 use Rattle.lw_region.proofs.SetOps.{canonical_bands, covers_one}
 use Rattle.lw_planes.specs.Row.{bit_of}
 use Rattle.lw_planes.specs.Bitmap.{Bitmap, pen_at}
+use Rattle.lw_strips.specs.Strips.{StripView}
 use Rattle.lw_buffers.specs.Lookup.{IsBufferOf, AreBuffers, pen_from, pen_in}
 use Rattle.lw_calls.specs.declared.make.Kind.{Kind}
 use Rattle.lw_calls.specs.declared.make.Kind.TheVariants.{Simple, Smart, SuperBitmap}
@@ -22,7 +23,7 @@ use Rattle.lw_layer.specs.Pieces.{Layout, buffered, rest_as, rest_of, whole_of, 
 use Rattle.lw_layer.specs.Drafts.{IsLiveDraft, IsBuffer, IsRest, layout, width_of, height_of, own_list, no_bitmap}
 use Rattle.lw_layer.specs.Copied.{HasPlaces, AreClear, across_at, rest_buffers, area_of}
 use Rattle.lw_layer.specs.declared.draft.LiveDraft.{LiveDraft}
-use Rattle.lw_layer.proofs.BufferLaws.{shown_buffer, covered_buffer}
+use Rattle.lw_layer.proofs.BufferLaws.{planes_many, planes_shown, strip_buffer, covered_buffer}
 use Rattle.lw_layer.proofs.OrderedLists.{canonical_ordered}
 use Rattle.lw_layer.proofs.CopyingLaws.{further_across}
 
@@ -34,28 +35,22 @@ sized depth r b ordered is = record { columns = omega (arith, ints, is.width, or
 buffer_moved : (depth : ℕ) (r s : Rectangle) (b c : Bitmap) → r ≡ s → b ≡ c → IsBuffer depth r b → IsBuffer depth s c
 buffer_moved depth r s b c first second is = subst (λ q. IsBuffer depth s q) second (subst (λ q. IsBuffer depth q b) first is)
 
--- the buffers of the visible rectangles
-shown_each : (d : LiveDraft) (k : ℕ) (r : Rectangle) (b : Bitmap) → IsLiveDraft d → k < length d.buffers.items → IsBuffer d.depth (get_or d.parts.visible k r) (get_or d.buffers.items k b)
-shown_each d k r b ok inside =
+-- the strips of the visible rectangles
+shown_each : (d : LiveDraft) (k : ℕ) (s : StripView) → IsLiveDraft d → k < length d.strips.items → IsBuffer d.depth (get_or d.parts.visible k d.bounds) (get_or d.strips.items k s).planes
+shown_each d k s ok inside =
     let l = layout d in
     let long = length-append l.visible (rest_of l) in
-    let shown : k < length l.visible = omega (arith, ok.shown) in
+    let shown : k < length l.visible = omega (arith, planes_shown d ok, planes_many d) in
     buffer_moved d.depth _ _ _ _
-    (get_or_append_left l.visible (rest_of l) l.bounds k shown ∙ get_or_default l.visible k l.bounds r shown)
-    (shown_buffer d k inside ∙ get_or_default d.buffers.items k no_bitmap b inside)
+    (get_or_append_left l.visible (rest_of l) l.bounds k shown)
+    (strip_buffer d k s inside)
     (ok.buffers.each k (omega arith))
 
-pub shown_buffers : (d : LiveDraft) → IsLiveDraft d → IsCanonical d.parts.visible → AreBuffers d.parts.visible d.buffers.items
-shown_buffers d ok canonical = record {
-  as_many = ok.shown;
-  sizes = λ k r b inside. sized d.depth _ _ (canonical_ordered d.parts.visible canonical k r inside) (shown_each d k r b ok (omega (arith, ok.shown)));
-}
+pub shown_planes : (d : LiveDraft) (plane : ℕ) → IsLiveDraft d → plane < d.depth → All (λ (s : StripView). plane < s.planes.depth) d.strips.items
+shown_planes d plane ok deep = λ k s inside. let is = shown_each d k s ok inside in omega (arith, is.planes)
 
-pub shown_planes : (d : LiveDraft) (plane : ℕ) → IsLiveDraft d → plane < d.depth → All (λ (b : Bitmap). plane < b.depth) d.buffers.items
-shown_planes d plane ok deep = λ k b inside. let is = shown_each d k d.bounds b ok inside in omega (arith, is.planes)
-
-pub shown_deep : (d : LiveDraft) (depth : ℕ) → IsLiveDraft d → depth ≡ d.depth → All (λ (b : Bitmap). b.depth ≡ depth) d.buffers.items
-shown_deep d depth ok is = λ k b inside. (shown_each d k d.bounds b ok inside).planes ∙ sym is
+pub shown_deep : (d : LiveDraft) (depth : ℕ) → IsLiveDraft d → depth ≡ d.depth → All (λ (s : StripView). s.planes.depth ≡ depth) d.strips.items
+shown_deep d depth ok is = λ k s inside. (shown_each d k s ok inside).planes ∙ sym is
 
 -- what a smart layer has beside its visible rectangles
 pub smart_rest : (kind : Kind) (hidden covered : ℕ) (own : Option Bitmap) → kind ≡ Smart → IsRest kind hidden covered own → (covered ≡ hidden) × (own ≡ None)
@@ -75,7 +70,7 @@ covered_each d k r b smart ok inside =
     let n : ℕ = length l.visible + k in
     buffer_moved d.depth _ _ _ _
     (ap (λ q. get_or q n l.bounds) all ∙ (get_or-append-add l.visible hidden k l.bounds ∙ get_or_default hidden k l.bounds r covered))
-    (covered_buffer d n k (omega (arith, ok.shown)) (omega (arith, ok.shown)) inside ∙ get_or_default d.covered.items k no_bitmap b inside)
+    (covered_buffer d n k (omega (arith, planes_shown d ok, planes_many d)) (omega (arith, planes_shown d ok, planes_many d)) inside ∙ get_or_default d.covered.items k no_bitmap b inside)
     (ok.buffers.each n (omega arith))
 
 hidden_canonical : (d : LiveDraft) → IsCanonical (hidden_of d.bounds d.parts.visible)

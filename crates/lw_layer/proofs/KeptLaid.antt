@@ -6,6 +6,7 @@ use Rattle.lw_region.specs.Rectangle.{Rectangle, IsOrdered}
 use Rattle.lw_region.specs.Bands.{covers}
 use Rattle.lw_planes.specs.Bitmap.{Bitmap, IsBitmap, pen_at}
 use Rattle.lw_planes.proofs.BitmapLaws.{bitmap_same}
+use Rattle.lw_strips.specs.Strips.{rects_of}
 use Rattle.lw_strips.specs.Blocks.{with_bitmap}
 use Rattle.lw_buffers.specs.Lookup.{IsBufferOf, pen_in, with_buffers}
 use Rattle.lw_buffers.proofs.LaidLaws.{buffer_laid, laid_nothing, laid_one, laid_over}
@@ -13,10 +14,10 @@ use Rattle.lw_calls.specs.declared.make.Kind.{Kind}
 use Rattle.lw_calls.specs.declared.make.Kind.TheVariants.{Simple, Smart, SuperBitmap}
 use Rattle.lw_cliprects.specs.Parts.{hidden_of, AreDivided}
 use Rattle.lw_layer.specs.Pieces.{buffered, rest_as, rest_of, whole_of}
-use Rattle.lw_layer.specs.Drafts.{IsLiveDraft, layout, buffers_of, own_list, live_view, width_of, height_of}
-use Rattle.lw_layer.specs.Copied.{across_at, down_at, rest_buffers, pen_over, pen_shown, with_kept, with_visible}
+use Rattle.lw_layer.specs.Drafts.{IsLiveDraft, layout, visible_planes, buffers_of, own_list, live_view, width_of, height_of}
+use Rattle.lw_layer.specs.Copied.{across_at, down_at, rest_buffers, pen_over, pen_shown, with_kept, with_visible, HaveShown}
 use Rattle.lw_layer.specs.declared.draft.LiveDraft.{LiveDraft}
-use Rattle.lw_layer.proofs.BufferLaws.{own_buffer, buffer_is}
+use Rattle.lw_layer.proofs.BufferLaws.{planes_many, planes_shown, own_buffer, buffer_is}
 use Rattle.lw_layer.proofs.CopyingLaws.{pixel_is}
 use Rattle.lw_layer.proofs.SoundLaws.{visible_inside}
 use Rattle.lw_layer.specs.View.{keeps}
@@ -24,8 +25,9 @@ use Rattle.lw_machine.specs.Screen.{distance}
 use Rattle.lw_region.proofs.Canonical.{covers_append}
 use Rattle.lw_region.proofs.Within.{within_low}
 use Rattle.lw_buffers.proofs.LookupLaws.{pen_in_append}
+use Rattle.lw_buffers.proofs.StripsLaws.{strip_pens}
 use Rattle.std.proofs.lemmas.Bool.{and_parts}
-use Rattle.lw_layer.proofs.CopyingBuffers.{smart_rest, super_rest}
+use Rattle.lw_layer.proofs.CopyingBuffers.{shown_deep, smart_rest, super_rest}
 
 -- further along a row or a column
 further : (low place : ℤ) (scroll i : ℕ) → ((low +ℤ place) -ℤ pos scroll) +ℤ pos i ≡ (low +ℤ (place +ℤ pos i)) -ℤ pos scroll
@@ -83,10 +85,10 @@ own_laid d own left top x y to new super is ok sound across down made =
     subst P (sym super) (subst Q (sym buffers) one)
 
 -- the visible rectangles laid over the others are all of them
-pub all_laid : (d : LiveDraft) (left top : ℤ) (to was new : Bitmap) → IsLiveDraft d → was ≡ with_buffers (rest_of (layout d)) (rest_buffers d) left top to → new ≡ with_buffers d.parts.visible d.buffers.items left top was
+pub all_laid : (d : LiveDraft) (left top : ℤ) (to was new : Bitmap) → IsLiveDraft d → was ≡ with_buffers (rest_of (layout d)) (rest_buffers d) left top to → new ≡ with_buffers (rects_of d.strips.items) (visible_planes d) left top was
     → new ≡ with_buffers (buffered (layout d)) (buffers_of d) left top to
 all_laid d left top to was new ok before is =
-    is ∙ (ap (with_buffers d.parts.visible d.buffers.items left top) before ∙ laid_over d.parts.visible (rest_of (layout d)) d.buffers.items (rest_buffers d) left top to ok.shown)
+    is ∙ (ap (λ rs. with_buffers rs (visible_planes d) left top was) ok.shown ∙ (ap (with_buffers d.parts.visible (visible_planes d) left top) before ∙ laid_over d.parts.visible (rest_of (layout d)) (visible_planes d) (rest_buffers d) left top to (planes_shown d ok)))
 
 -- the bitmap keeps its planes
 pub laid_planes : (rects : List Rectangle) (bs : List Bitmap) (left top : ℤ) (to was : Bitmap) → was ≡ with_buffers rects bs left top to → was.depth ≡ to.depth
@@ -116,7 +118,7 @@ own_deep d own super is ok =
     let list : buffered (layout d) ≡ d.parts.visible ++ (whole_of (layout d) ∷ []) = ap (λ q. d.parts.visible ++ rest_as q hidden (whole_of (layout d))) super in
     let long : length (buffered (layout d)) ≡ n + 1 = ap (λ rs. length rs) list ∙ length-append d.parts.visible (whole_of (layout d) ∷ []) in
     let inside : n < length (buffered (layout d)) = omega arith in
-    let last = own_buffer d n ok inside (omega (arith, ok.shown)) (omega (arith, none)) in
+    let last = own_buffer d n ok inside (omega (arith, planes_shown d ok, planes_many d)) (omega (arith, none)) in
     let same : Some last.own ≡ Some own = sym last.is ∙ is in
     let bitmap_is : last.own ≡ own = cc same in
     ap (λ (b : Bitmap). b.depth) (sym bitmap_is) ∙ (buffer_is d n last.own ok inside last.at).planes
@@ -127,7 +129,7 @@ shown_place low scroll x from = omega (arith, ints)
 
 -- the pen that the first visible rectangle has there is its pen
 visible_pen : (d : LiveDraft) (x y : ℕ) → IsLiveDraft d → IsOrdered d.bounds → AreDivided d.bounds d.parts.visible (hidden_of d.bounds d.parts.visible) → covers d.parts.visible (pos x) (pos y) ≡ true
-    → pen_in d.parts.visible d.buffers.items (pos x) (pos y) ≡ pen_shown (live_view d) x y
+    → pen_in d.parts.visible (visible_planes d) (pos x) (pos y) ≡ pen_shown (live_view d) x y
 visible_pen d x y ok ordered divided shown =
     let l = layout d in
     let c = live_view d in
@@ -140,9 +142,9 @@ visible_pen d x y ok ordered divided shown =
     let all : covers (buffered l) (pos x) (pos y) ≡ true = covers_append l.visible (rest_of l) (pos x) (pos y) ∙ ap (λ t. t || covers (rest_of l) (pos x) (pos y)) shown in
     let here : covers (buffered l) (across_at l (pos i)) (down_at l (pos j)) ≡ true = rw (column, line) all in
     let kept : keeps c i j ≡ true = sym pixel.there ∙ here in
-    let pen : pen_in (buffered l) (buffers_of d) (pos x) (pos y) ≡ pen_in d.parts.visible d.buffers.items (pos x) (pos y) =
-    pen_in_append d.parts.visible (rest_of l) d.buffers.items (rest_buffers d) (pos x) (pos y) ok.shown ∙
-    ap (λ t. if t then pen_in d.parts.visible d.buffers.items (pos x) (pos y) else pen_in (rest_of l) (rest_buffers d) (pos x) (pos y)) shown
+    let pen : pen_in (buffered l) (buffers_of d) (pos x) (pos y) ≡ pen_in d.parts.visible (visible_planes d) (pos x) (pos y) =
+    pen_in_append d.parts.visible (rest_of l) (visible_planes d) (rest_buffers d) (pos x) (pos y) (planes_shown d ok) ∙
+    ap (λ t. if t then pen_in d.parts.visible (visible_planes d) (pos x) (pos y) else pen_in (rest_of l) (rest_buffers d) (pos x) (pos y)) shown
     in
     let there = pen_in (buffered l) (buffers_of d) (across_at l (pos i)) (down_at l (pos j)) in
     sym pen ∙
@@ -160,11 +162,22 @@ from_start n = omega (arith, ints)
 
 -- The visible rectangles laid on the bitmap of the screen are what the layer shows.
 pub visible_laid : (d : LiveDraft) (to : Bitmap) → IsLiveDraft d → IsOrdered d.bounds → AreDivided d.bounds d.parts.visible (hidden_of d.bounds d.parts.visible)
-    → with_buffers d.parts.visible d.buffers.items (pos 0) (pos 0) to ≡ with_visible (live_view d) to
+    → with_buffers (rects_of d.strips.items) (visible_planes d) (pos 0) (pos 0) to ≡ with_visible (live_view d) to
 visible_laid d to ok ordered divided =
+    ap (λ rs. with_buffers rs (visible_planes d) (pos 0) (pos 0) to) ok.shown ∙
     bitmap_same to.width to.height to.depth _ _
     (λ x y _ _.
-    let pen : ℤ → ℤ → ℕ = λ u v. if covers d.parts.visible u v then pen_in d.parts.visible d.buffers.items u v else pen_at to x y in
+    let pen : ℤ → ℤ → ℕ = λ u v. if covers d.parts.visible u v then pen_in d.parts.visible (visible_planes d) u v else pen_at to x y in
     ap (λ u. pen u (pos 0 +ℤ pos y)) (from_start x) ∙
     (ap (λ v. pen (pos x) v) (from_start y) ∙
     where_it_holds (covers d.parts.visible (pos x) (pos y)) _ _ (pen_at to x y) (λ shown. visible_pen d x y ok ordered divided shown)))
+
+-- The strips have the pens that the layer shows.
+pub shown_pens : (d : LiveDraft) → IsLiveDraft d → IsOrdered d.bounds → AreDivided d.bounds d.parts.visible (hidden_of d.bounds d.parts.visible) → HaveShown (live_view d) d.strips.items
+shown_pens d ok ordered divided = record {
+  solid = ok.solid;
+  planes = shown_deep d d.depth ok refl;
+  pens =
+      λ x y shown.
+      strip_pens d.strips.items (pos x) (pos y) ∙ (ap (λ rs. pen_in rs (visible_planes d) (pos x) (pos y)) ok.shown ∙ visible_pen d x y ok ordered divided shown);
+}

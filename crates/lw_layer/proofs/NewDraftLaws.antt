@@ -1,13 +1,16 @@
 -- The draft of a new layer is one, and stands for the layer that the machine creates.
-use Rattle.std.proofs.Common.{◌≡◌, ℕ, zero, suc, ◌+◌, ◌-◌, ◌<◌, ◌≤◌, true, false, List, [], ◌∷◌, ◌++◌, length, get_or, Option, Some, None, ◌∙◌, sym, refl, ap, subst, arith, ⊎_elim, ℤ, pos, ◌+ℤ◌, ◌-ℤ◌, unsigned_abs, length-append, pow_pos, Bool}
+use Rattle.std.proofs.Common.{◌≡◌, ℕ, zero, suc, ◌+◌, ◌-◌, ◌<◌, ◌≤◌, true, false, List, [], ◌∷◌, ◌++◌, length, get_or, map, take, Option, Some, None, ◌∙◌, sym, refl, ap, subst, arith, ⊎_elim, ℤ, pos, ◌+ℤ◌, ◌-ℤ◌, unsigned_abs, length-append, pow_pos, Bool}
 use Rattle.std.proofs.lemmas.Bool.{cases_lt}
 use Rattle.std.proofs.lemmas.Int.{ints}
-use Rattle.std.proofs.lemmas.List.{get_or_append_left, get_or-append_right, get_or_past, append-nil, get_or-map, length-map}
+use Rattle.std.proofs.lemmas.List.Elements.{All-nil, All-cons, All-append}
+use Rattle.std.proofs.lemmas.List.{take_more, map-append, get_or_append_left, get_or-append_right, get_or_past, append-nil, get_or-map, length-map}
 use Rattle.lw_region.specs.Rectangle.{Rectangle, width, height}
 use Rattle.lw_region.proofs.Canonical.{covers_nil}
 use Rattle.lw_planes.specs.Grid.{grid, at}
 use Rattle.lw_planes.specs.Bitmap.{Bitmap, bitmap, pen_at}
-use Rattle.lw_planes.specs.Sizes.{AreSizes}
+use Rattle.std.specs.List.{All}
+use Rattle.lw_planes.specs.Sizes.{AreSizes, IsPlanes}
+use Rattle.lw_strips.specs.Strips.{StripView, rects_of, planes_of}
 use Rattle.lw_planes.proofs.GridLaws.{grid_same, grid_at, grid_past_column, grid_past_row}
 use Rattle.lw_planes.proofs.BitmapLaws.{IsBitmap_bitmap, bitmap_same}
 use Rattle.lw_calls.specs.declared.make.Kind.{Kind}
@@ -17,11 +20,55 @@ use Rattle.lw_calls.specs.Kinds.{is_super}
 use Rattle.lw_cliprects.specs.Parts.{hidden_of}
 use Rattle.lw_machine.specs.Arrangement.{bounds_of, blank}
 use Rattle.lw_layer.specs.Pieces.{Layout, inner_of, damage_table, whole_of, rest_as, buffer_at, column_in, line_in, HasFrameRoom}
-use Rattle.lw_layer.specs.Drafts.{IsLiveDraft, IsBuffer, AreBuffers, IsRest, layout, width_of, height_of, own_list, buffers_of, no_bitmap, pen_from, bits_of, live_view, window_of, room_of}
-use Rattle.lw_layer.specs.New.{blank_buffer, kept_hidden, own_blank, AreBlank, IsNewSize, new_live}
+use Rattle.lw_layer.specs.Drafts.{IsLiveDraft, IsBuffer, AreBuffers, IsRest, layout, width_of, height_of, own_list, visible_planes, buffers_of, no_bitmap, no_strip, pen_from, bits_of, live_view, window_of, room_of}
+use Rattle.lw_layer.specs.New.{blank_buffer, blank_strip, kept_hidden, own_blank, AreBlank, AreBlankStrips, IsNewSize, new_live}
 use Rattle.lw_layer.specs.declared.draft.LiveDraft.{LiveDraft}
 use Rattle.lw_layer.specs.declared.windows.WindowDraft.{WindowDraft}
 use Rattle.lw_machine.specs.Layer.{is_framed}
+
+-- the strips of a new layer, by their rectangles, their bitmaps and that they are solid
+blank_rects : (depth : ℕ) (rects : List Rectangle) → rects_of (map (λ r. blank_strip depth r) rects) ≡ rects
+blank_rects depth [] = refl
+blank_rects depth (r ∷ rs) = ap (λ q. r ∷ q) (blank_rects depth rs)
+
+blank_planes_of : (depth : ℕ) (rects : List Rectangle) → planes_of (map (λ r. blank_strip depth r) rects) ≡ map (λ r. blank_buffer depth r) rects
+blank_planes_of depth [] = refl
+blank_planes_of depth (r ∷ rs) = ap (λ q. blank_buffer depth r ∷ q) (blank_planes_of depth rs)
+
+-- one strip more
+pub strips_more : (depth : ℕ) (rects : List Rectangle) (strips : List StripView) (k : ℕ) (r : Rectangle) (planes : Bitmap) (s : StripView) → AreBlankStrips depth (take k rects) strips → k < length rects
+    → r ≡ get_or rects k r → (planes ≡ blank_buffer depth r) × IsPlanes planes → s ≡ record { rect = r; planes = planes; solid = true } → AreBlankStrips depth (take (k + 1) rects) (strips ++ s ∷ [])
+strips_more depth rects strips k r planes s are inside at blank is =
+    let f : Rectangle → StripView = λ q. blank_strip depth q in
+    let P : StripView → Type 0 = λ q. IsPlanes q.planes in
+    let one : s ≡ f (get_or rects k r) = is ∙ (ap (λ (b : Bitmap). record { rect = r; planes = b; solid = true }) blank.0 ∙ ap f at) in
+    record {
+      blank =
+          ap (λ q. q ++ s ∷ []) are.blank ∙ (ap (λ q. map f (take k rects) ++ q ∷ []) one
+          ∙ sym (ap (λ q. map f q) (take_more rects k r inside) ∙ map-append f (take k rects) (get_or rects k r ∷ [])));
+      sound = All-append P strips (s ∷ []) are.sound (All-cons P s [] (subst P (sym is) blank.1) (All-nil P));
+    }
+
+pub strips_rects : (depth : ℕ) (rects : List Rectangle) (strips : List StripView) → AreBlankStrips depth rects strips → rects_of strips ≡ rects
+strips_rects depth rects strips are = ap (λ q. rects_of q) are.blank ∙ blank_rects depth rects
+
+pub strips_solid : (depth : ℕ) (rects : List Rectangle) (strips : List StripView) → AreBlankStrips depth rects strips → All (λ (s : StripView). s.solid ≡ true) strips
+strips_solid depth rects strips are =
+    let P : StripView → Type 0 = λ s. s.solid ≡ true in
+    let many : length strips ≡ length rects = ap length are.blank ∙ length-map rects (λ r. blank_strip depth r) in
+    λ k s inside.
+    let none : Rectangle = record { min_x = pos 0; min_y = pos 0; max_x = pos 0; max_y = pos 0 } in
+    ap (λ (q : StripView). q.solid) (ap (λ q. get_or q k s) are.blank ∙ get_or-map (λ r. blank_strip depth r) rects k none s (omega (arith, many)))
+
+pub strips_blank : (depth : ℕ) (rects : List Rectangle) (strips : List StripView) → AreBlankStrips depth rects strips → AreBlank depth rects (planes_of strips)
+strips_blank depth rects strips are = record {
+  blank = ap (λ q. planes_of q) are.blank ∙ blank_planes_of depth rects;
+  sound =
+      λ k b inside.
+      let P : Bitmap → Type 0 = λ q. IsPlanes q in
+      let below : k < length strips = omega (arith, length-map strips (λ (s : StripView). s.planes)) in
+      subst P (sym (get_or-map (λ (s : StripView). s.planes) strips k no_strip b below)) (are.sound k no_strip below);
+}
 
 -- the buffers of two lists are those of both
 joined : (depth : ℕ) (rs ss : List Rectangle) (xs ys : List Bitmap) (other : Rectangle) → length xs ≡ length rs → AreBuffers depth rs xs other → AreBuffers depth ss ys other → AreBuffers depth (rs ++ ss) (xs ++ ys) other
@@ -210,10 +257,11 @@ new_own Smart make depth bounds is = absurd (cc is)
 new_own SuperBitmap make depth bounds is = (refl, refl)
 
 -- the draft of a new layer is one
-pub new_sound : (d : LiveDraft) (kind : Kind) (make : Make) (depth : ℕ) (bounds : Rectangle) (visible : List Rectangle) (window : Option WindowDraft) → make.kind ≡ kind → IsNewSize make depth bounds → (is_super kind ≡ true → is_framed (window_of window) ≡ false) → (is_framed (window_of window) ≡ true → HasFrameRoom bounds) → AreBlank depth visible d.buffers.items → AreBlank depth (kept_hidden kind (hidden_of bounds visible)) d.covered.items → IsLiveDraft (new_draft d kind make depth bounds visible window)
+pub new_sound : (d : LiveDraft) (kind : Kind) (make : Make) (depth : ℕ) (bounds : Rectangle) (visible : List Rectangle) (window : Option WindowDraft) → make.kind ≡ kind → IsNewSize make depth bounds → (is_super kind ≡ true → is_framed (window_of window) ≡ false) → (is_framed (window_of window) ≡ true → HasFrameRoom bounds) → AreBlankStrips depth visible d.strips.items → AreBlank depth (kept_hidden kind (hidden_of bounds visible)) d.covered.items → IsLiveDraft (new_draft d kind make depth bounds visible window)
 new_sound d kind make depth bounds visible window is size frameless frame shown covered =
     let q : LiveDraft = new_draft d kind make depth bounds visible window in
     let right = new_right kind make depth bounds is size in
+    let blank = strips_blank depth visible d.strips.items shown in
     let own : is_super kind ≡ true → AreSizes make.bits_w make.bits_h depth = λ super. size.own (ap is_super is ∙ super) in
     record {
       bounds = refl;
@@ -222,11 +270,12 @@ new_sound d kind make depth bounds visible window is size frameless frame shown 
       sizes = new_sizes kind make depth bounds is size;
       scrolled = record { left = λ other. refl; upper = λ other. refl; right = right.0; lower = right.1 };
       mode = omega arith;
-      shown = blank_counted depth visible d.buffers.items shown;
+      shown = strips_rects depth visible d.strips.items shown;
+      solid = strips_solid depth visible d.strips.items shown;
       rest = rest_counted kind depth make (hidden_of bounds visible) d.covered.items covered;
       buffers =
-          joined depth visible (rest_as kind (hidden_of bounds visible) (whole_of (layout q))) d.buffers.items (d.covered.items ++ own_list (own_blank kind depth make)) bounds
-          (blank_counted depth visible d.buffers.items shown) (blank_are depth visible d.buffers.items bounds shown)
+          joined depth visible (rest_as kind (hidden_of bounds visible) (whole_of (layout q))) (visible_planes d) (d.covered.items ++ own_list (own_blank kind depth make)) bounds
+          (blank_counted depth visible (visible_planes d) blank) (blank_are depth visible (visible_planes d) bounds blank)
           (rest_are kind depth (layout q) make (hidden_of bounds visible) d.covered.items bounds covered own (new_own kind make depth bounds));
       inner = new_inner kind (is_framed (window_of window)) make depth bounds;
       damaged = λ x y has. absurd (cc (covers_nil x y, has));
@@ -241,13 +290,13 @@ blank_is Smart depth make w h wide high = ap (λ n. bitmap n h depth (λ x y. 0)
 blank_is SuperBitmap depth make w h wide high = ap (λ n. bitmap n h depth (λ x y. 0)) wide ∙ ap (λ n. bitmap make.bits_w n depth (λ x y. 0)) high
 
 -- it stands for the layer that the machine creates
-pub new_view : (d : LiveDraft) (make : Make) (depth : ℕ) (bounds : Rectangle) (visible : List Rectangle) (window : Option WindowDraft) → IsNewSize make depth bounds → AreBlank depth visible d.buffers.items → AreBlank depth (kept_hidden make.kind (hidden_of bounds visible)) d.covered.items → live_view (new_draft d make.kind make depth bounds visible window) ≡ new_live make depth bounds visible (window_of window) (room_of window)
+pub new_view : (d : LiveDraft) (make : Make) (depth : ℕ) (bounds : Rectangle) (visible : List Rectangle) (window : Option WindowDraft) → IsNewSize make depth bounds → AreBlankStrips depth visible d.strips.items → AreBlank depth (kept_hidden make.kind (hidden_of bounds visible)) d.covered.items → live_view (new_draft d make.kind make depth bounds visible window) ≡ new_live make depth bounds visible (window_of window) (room_of window)
 new_view d make depth bounds visible window size shown covered =
     let q : LiveDraft = new_draft d make.kind make depth bounds visible window in
     let l = layout q in
     let extent = new_width make.kind depth make bounds refl size.place in
     let all : AllZero (buffers_of q) =
-    zero_joined d.buffers.items (d.covered.items ++ own_list (own_blank make.kind depth make)) (zero_blank depth visible d.buffers.items shown)
+    zero_joined (visible_planes d) (d.covered.items ++ own_list (own_blank make.kind depth make)) (zero_blank depth visible (visible_planes d) (strips_blank depth visible d.strips.items shown))
     (zero_joined d.covered.items (own_list (own_blank make.kind depth make)) (zero_blank depth (kept_hidden make.kind (hidden_of bounds visible)) d.covered.items covered) (zero_own make.kind depth make))
     in
     let zero_bits : bits_of l depth (buffers_of q) ≡ bitmap l.width l.height depth (λ x y. 0) =

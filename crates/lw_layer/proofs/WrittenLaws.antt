@@ -1,9 +1,11 @@
 -- A draft stays one, and stands for the layer with the bytes written, once bytes were written into one of its buffers.
-use Rattle.std.proofs.Common.{◌≡◌, ◌≢◌, ℕ, ◌-◌, ◌<◌, ◌≤◌, List, [], ◌∷◌, ◌++◌, length, set, get_or, Option, Some, ◌∙◌, sym, refl, ap, subst, arith, ⊎_elim, length-append, length-set}
+use Rattle.std.proofs.Common.{◌≡◌, ◌≢◌, ℕ, ◌-◌, ◌<◌, ◌≤◌, List, [], ◌∷◌, ◌++◌, length, set, get_or, true, Option, Some, ◌∙◌, sym, refl, ap, subst, arith, ⊎_elim, length-append, length-set}
 use Rattle.std.specs.List.{slice_index_or}
+use Rattle.lw_strips.specs.Strips.{StripView, rects_of, planes_of}
 use Rattle.std.specs.Vec.{with_item}
 use Rattle.std.proofs.lemmas.Bool.{cases_lt, cases_eq}
-use Rattle.std.proofs.lemmas.List.{get_or_default, get_or-set_same, get_or-set_other, set-append_left, set-append_right}
+use Rattle.std.proofs.lemmas.List.{get_or_default, get_or-set_same, get_or-set_other, set-append_left, set-append_right, set-get_or, map-set, get_or-map}
+use Rattle.std.proofs.lemmas.List.Elements.{All-set, All-get_or}
 use Rattle.lw_region.specs.Rectangle.{Rectangle}
 use Rattle.lw_planes.specs.Bitmap.{Bitmap}
 use Rattle.lw_planes.specs.Change.{with_row, written_rows}
@@ -13,10 +15,10 @@ use Rattle.lw_calls.specs.declared.make.Kind.{Kind}
 use Rattle.lw_calls.specs.declared.make.Kind.TheVariants.{Simple, Smart, SuperBitmap}
 use Rattle.lw_layer.specs.View.{keeps}
 use Rattle.lw_layer.specs.Pieces.{buffered, with_bytes}
-use Rattle.lw_layer.specs.Drafts.{IsLiveDraft, IsBuffer, AreBuffers, IsRest, layout, own_list, buffers_of, no_bitmap, live_view}
-use Rattle.lw_layer.specs.Written.{changed_own, with_line_bytes}
+use Rattle.lw_layer.specs.Drafts.{IsLiveDraft, IsBuffer, AreBuffers, IsRest, layout, own_list, visible_planes, buffers_of, no_bitmap, no_strip, live_view}
+use Rattle.lw_layer.specs.Written.{changed_own, changed_pens, with_line_bytes}
 use Rattle.lw_layer.specs.declared.draft.LiveDraft.{LiveDraft}
-use Rattle.lw_layer.proofs.BufferLaws.{shown_buffer, covered_buffer, own_buffer, as_many_buffers, changed_shown, changed_covered, changed_last}
+use Rattle.lw_layer.proofs.BufferLaws.{planes_many, strip_buffer, covered_buffer, own_buffer, as_many_buffers, changed_shown, changed_covered, changed_last}
 use Rattle.lw_layer.proofs.ViewLaws.{view_of_set}
 
 -- a buffer stays one of its size
@@ -53,11 +55,28 @@ all_buffers d n k line bytes bs ok there is =
     let P : List Bitmap → Type 0 = λ q. AreBuffers d.depth (buffered (layout d)) q d.bounds in
     subst P (sym is) (buffers_set d.depth (buffered (layout d)) (buffers_of d) d.bounds n _ ok.buffers (as_many_buffers d ok) there (buffer_written d.depth _ _ k line bytes (ok.buffers.each n there)))
 
+-- the strips as they become: the rectangles stay
+strips_changed : (d : LiveDraft) (n : ℕ) (f : Bitmap → Bitmap) → n < length d.strips.items
+    → rects_of (set d.strips.items n (changed_pens f (slice_index_or d.strips.items n no_strip))) ≡ rects_of d.strips.items
+strips_changed d n f inside =
+    let one = slice_index_or d.strips.items n no_strip in
+    map-set (λ (s : StripView). s.rect) d.strips.items n (changed_pens f one)
+    ∙ (ap (λ r. set (rects_of d.strips.items) n r) (sym (get_or-map (λ (s : StripView). s.rect) d.strips.items n no_strip one.rect inside))
+    ∙ set-get_or (rects_of d.strips.items) n one.rect)
+
 -- into the buffer of a visible rectangle
-written_shown : (d : LiveDraft) (n k line : ℕ) (bytes : List ℕ) → IsLiveDraft d → n < length (buffered (layout d)) → n < length d.buffers.items → IsWritten d (record d { buffers = with_item d.buffers n (written d n k line bytes) }) n k line bytes
+written_shown : (d : LiveDraft) (n k line : ℕ) (bytes : List ℕ) → IsLiveDraft d → n < length (buffered (layout d)) → n < length d.strips.items
+    → IsWritten d (record d { strips = with_item d.strips n (changed_pens (λ b. with_row b k line bytes) (slice_index_or d.strips.items n no_strip)) }) n k line bytes
 unfolding keeps is_kept
 written_shown d n k line bytes ok there inside =
-    let same : set d.buffers.items n (written d n k line bytes) ++ (d.covered.items ++ own_list d.superbits) ≡ set (buffers_of d) n (written d n k line bytes) = sym (set-append_left d.buffers.items (d.covered.items ++ own_list d.superbits) n _ inside) in
+    let f : Bitmap → Bitmap = λ b. with_row b k line bytes in
+    let one = slice_index_or d.strips.items n no_strip in
+    let S : StripView → Type 0 = λ s. s.solid ≡ true in
+    let planes : planes_of (set d.strips.items n (changed_pens f one)) ≡ set (visible_planes d) n (written d n k line bytes) =
+    map-set (λ (s : StripView). s.planes) d.strips.items n (changed_pens f one) ∙ ap (λ b. set (visible_planes d) n (f b)) (sym (strip_buffer d n no_strip inside)) in
+    let same : planes_of (set d.strips.items n (changed_pens f one)) ++ (d.covered.items ++ own_list d.superbits) ≡ set (buffers_of d) n (written d n k line bytes) =
+    ap (λ q. q ++ (d.covered.items ++ own_list d.superbits)) planes
+    ∙ sym (set-append_left (visible_planes d) (d.covered.items ++ own_list d.superbits) n _ (omega (arith, planes_many d))) in
     record {
       sound = record {
         bounds = ok.bounds;
@@ -66,7 +85,8 @@ written_shown d n k line bytes ok there inside =
         sizes = ok.sizes;
         scrolled = ok.scrolled;
         mode = ok.mode;
-        shown = length-set d.buffers.items n _ ∙ ok.shown;
+        shown = strips_changed d n f inside ∙ ok.shown;
+        solid = All-set S d.strips.items n (changed_pens f one) (All-get_or S d.strips.items n no_strip inside ok.solid) ok.solid;
         rest = ok.rest;
         buffers = all_buffers d n k line bytes _ ok there same;
         inner = ok.inner;
@@ -78,12 +98,12 @@ written_shown d n k line bytes ok there inside =
     }
 
 -- into the buffer of a hidden rectangle
-written_covered : (d : LiveDraft) (n k line : ℕ) (bytes : List ℕ) → IsLiveDraft d → n < length (buffered (layout d)) → length d.buffers.items ≤ n → n - length d.buffers.items < length d.covered.items → IsWritten d (record d { covered = with_item d.covered (n - length d.buffers.items) (written d n k line bytes) }) n k line bytes
+written_covered : (d : LiveDraft) (n k line : ℕ) (bytes : List ℕ) → IsLiveDraft d → n < length (buffered (layout d)) → length d.strips.items ≤ n → n - length d.strips.items < length d.covered.items → IsWritten d (record d { covered = with_item d.covered (n - length d.strips.items) (written d n k line bytes) }) n k line bytes
 unfolding keeps is_kept
 written_covered d n k line bytes ok there past inside =
-    let i : ℕ = n - length d.buffers.items in
-    let same : d.buffers.items ++ (set d.covered.items i (written d n k line bytes) ++ own_list d.superbits) ≡ set (buffers_of d) n (written d n k line bytes) =
-    sym (set-append_right d.buffers.items (d.covered.items ++ own_list d.superbits) _ n _ refl past ∙ ap (λ q. d.buffers.items ++ q) (set-append_left d.covered.items (own_list d.superbits) i _ inside)) in
+    let i : ℕ = n - length d.strips.items in
+    let same : visible_planes d ++ (set d.covered.items i (written d n k line bytes) ++ own_list d.superbits) ≡ set (buffers_of d) n (written d n k line bytes) =
+    sym (set-append_right (visible_planes d) (d.covered.items ++ own_list d.superbits) _ n _ (planes_many d) past ∙ ap (λ q. visible_planes d ++ q) (set-append_left d.covered.items (own_list d.superbits) i _ inside)) in
     record {
       sound = record {
         bounds = ok.bounds;
@@ -93,6 +113,7 @@ written_covered d n k line bytes ok there past inside =
         scrolled = ok.scrolled;
         mode = ok.mode;
         shown = ok.shown;
+        solid = ok.solid;
         rest = rw (length-set d.covered.items i (written d n k line bytes)) ok.rest;
         buffers = all_buffers d n k line bytes _ ok there same;
         inner = ok.inner;
@@ -123,13 +144,13 @@ rest_written SuperBitmap hidden covered b c is = (is.0, c, refl)
 abbrev with_own : LiveDraft → Option Bitmap → LiveDraft
 with_own d o = record d { superbits = o }
 
-written_own : (d : LiveDraft) (b : Bitmap) (n k line : ℕ) (bytes : List ℕ) → IsLiveDraft (with_own d (Some b)) → n < length (buffered (layout (with_own d (Some b)))) → length d.buffers.items ≤ n → length d.covered.items ≤ n - length d.buffers.items → slice_index_or (buffers_of (with_own d (Some b))) n no_bitmap ≡ b → IsWritten (with_own d (Some b)) (with_own d (Some (with_row b k line bytes))) n k line bytes
+written_own : (d : LiveDraft) (b : Bitmap) (n k line : ℕ) (bytes : List ℕ) → IsLiveDraft (with_own d (Some b)) → n < length (buffered (layout (with_own d (Some b)))) → length d.strips.items ≤ n → length d.covered.items ≤ n - length d.strips.items → slice_index_or (buffers_of (with_own d (Some b))) n no_bitmap ≡ b → IsWritten (with_own d (Some b)) (with_own d (Some (with_row b k line bytes))) n k line bytes
 unfolding keeps is_kept written_rows
 written_own d b n k line bytes ok there past late at =
     let q : LiveDraft = with_own d (Some b) in
-    let inside : n < length (d.buffers.items ++ (d.covered.items ++ (b ∷ []))) = omega (arith, as_many_buffers q ok) in
-    let same : d.buffers.items ++ (d.covered.items ++ (with_row b k line bytes ∷ [])) ≡ set (buffers_of q) n (written q n k line bytes) =
-    last_set d.buffers.items d.covered.items b _ n past late inside ∙ ap (λ w. set (buffers_of q) n (with_row w k line bytes)) (sym at) in
+    let inside : n < length (visible_planes d ++ (d.covered.items ++ (b ∷ []))) = omega (arith, as_many_buffers q ok) in
+    let same : visible_planes d ++ (d.covered.items ++ (with_row b k line bytes ∷ [])) ≡ set (buffers_of q) n (written q n k line bytes) =
+    last_set (visible_planes d) d.covered.items b _ n (omega (arith, planes_many d)) (omega (arith, planes_many d)) inside ∙ ap (λ w. set (buffers_of q) n (with_row w k line bytes)) (sym at) in
     record {
       sound = record {
         bounds = ok.bounds;
@@ -139,6 +160,7 @@ written_own d b n k line bytes ok there past late at =
         scrolled = ok.scrolled;
         mode = ok.mode;
         shown = ok.shown;
+        solid = ok.solid;
         rest = rest_written d.kind _ _ b _ ok.rest;
         buffers = all_buffers q n k line bytes _ ok there same;
         inner = ok.inner;
@@ -155,11 +177,11 @@ written_line d k n line bytes ok there =
     let f : Bitmap → Bitmap = λ b. with_row b k line bytes in
     let P : LiveDraft → Type 0 = λ e. IsWritten d e n k line bytes in
     ⊎_elim
-    (λ (inside : n < length d.buffers.items).
-    let x = slice_index_or (buffers_of d) n no_bitmap in
-    subst P (changed_shown d n f x inside (shown_buffer d n inside ∙ get_or_default d.buffers.items n no_bitmap x inside)) (written_shown d n k line bytes ok there inside))
-    (λ (past : length d.buffers.items ≤ n).
-    let i : ℕ = n - length d.buffers.items in
+    (λ (inside : n < length d.strips.items).
+    let one = slice_index_or d.strips.items n no_strip in
+    subst P (changed_shown d n f one inside (get_or_default d.strips.items n no_strip one inside)) (written_shown d n k line bytes ok there inside))
+    (λ (past : length d.strips.items ≤ n).
+    let i : ℕ = n - length d.strips.items in
     ⊎_elim
     (λ (inside : i < length d.covered.items).
     subst P (changed_covered d n i f (slice_index_or (buffers_of d) n no_bitmap) refl past inside (covered_buffer d n i refl past inside)) (written_covered d n k line bytes ok there past inside))
@@ -169,4 +191,4 @@ written_line d k n line bytes ok there =
     let all : Q d.superbits = subst Q (sym own.is) (λ sound inside at. written_own d own.own n k line bytes sound inside past late at) in
     subst P (changed_last d n f past late) (all ok there own.at))
     (cases_lt i (length d.covered.items)))
-    (cases_lt n (length d.buffers.items))
+    (cases_lt n (length d.strips.items))

@@ -1,10 +1,13 @@
--- What reading a row of one plane of a layer's pixels gives, and laying all of them on a bitmap.
-use Rattle.std.specs.Prelude.{◌≡◌, ℕ, ◌+◌, ◌<◌, if◌then◌else◌, List, ◌++◌, ℤ, pos, ◌+ℤ◌, ◌-ℤ◌, Option, Some, None}
+-- What reading a row of one plane of a layer's pixels gives, laying all of them on a bitmap, and the strips that it lends.
+use Rattle.std.specs.Prelude.{◌≡◌, ℕ, ◌+◌, ◌<◌, true, if◌then◌else◌, List, ◌++◌, ℤ, pos, ◌+ℤ◌, ◌-ℤ◌, Option, Some, None}
 use Rattle.std.specs.Int.{bit_at}
+use Rattle.std.specs.List.{All}
 use Rattle.lw_region.specs.Rectangle.{Rectangle}
 use Rattle.lw_region.specs.Bands.{covers}
 use Rattle.lw_planes.specs.Row.{bit_of, row_bit}
 use Rattle.lw_planes.specs.Bitmap.{Bitmap, bitmap, pen_at}
+use Rattle.lw_strips.specs.Strips.{StripView}
+use Rattle.lw_strips.specs.Strips as strips
 use Rattle.lw_buffers.specs.Lookup.{pen_in}
 use Rattle.lw_machine.specs.Screen.{distance}
 use Rattle.lw_machine.specs.Kept.{holds_at}
@@ -44,6 +47,12 @@ pen_shown c x y = pen_at c.layer.bits (distance c.bounds.min_x (pos x) + c.layer
 -- the bitmap of the screen with the layer's pens where it is visible, and all else as it was
 abbrev pub with_visible : LiveView → Bitmap → Bitmap
 with_visible c b = bitmap b.width b.height b.depth (λ x y. if covers c.visible (pos x) (pos y) then pen_shown c x y else pen_at b x y)
+
+-- The strips are solid, have as many planes as the layer, and where it is visible on the screen they have the pens that it shows.
+pub record HaveShown (c : LiveView) (s : List StripView) : Type 0 where
+  pub solid : All (λ q. q.solid ≡ true) s
+  pub planes : All (λ q. q.planes.depth ≡ c.layer.bits.depth) s
+  pub pens : (x y : ℕ) → covers c.visible (pos x) (pos y) ≡ true → strips.pen_in s (pos x) (pos y) ≡ pen_shown c x y
 
 -- What reading a row gives of the places of a list of rectangles with a bitmap each, for private contracts.
 pub record HasPlaces (rects : List Rectangle) (buffers : List Bitmap) (plane : ℕ) (x y : ℤ) (n : ℕ) (bits kept : List ℕ) : Type 0 where

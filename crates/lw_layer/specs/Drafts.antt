@@ -1,11 +1,12 @@
 -- Which slot a draft stands for, and what has to hold of a draft.
 use Rattle.std.specs.Prelude.{◌≡◌, ℕ, ◌+◌, ◌<◌, ◌≤◌, true, false, List, [], ◌∷◌, ◌++◌, length, ℤ, pos, ◌≤ℤ◌, unsigned_abs, Option, Some, None}
-use Rattle.std.specs.List.{slice_index_or}
+use Rattle.std.specs.List.{All, slice_index_or}
 use Rattle.lw_region.specs.Rectangle.{Rectangle, width, height}
 use Rattle.lw_region.specs.Pixels.{Pixel, pixels_of}
 use Rattle.lw_region.specs.Bands.{covers}
 use Rattle.lw_planes.specs.Bitmap.{Bitmap, bitmap, pen_at}
 use Rattle.lw_planes.specs.Sizes.{AreSizes, IsPlanes}
+use Rattle.lw_strips.specs.Strips.{StripView, rects_of, planes_of}
 use Rattle.lw_calls.specs.declared.make.Kind.{Kind}
 use Rattle.lw_calls.specs.declared.make.Kind.TheVariants.{Simple, Smart, SuperBitmap}
 use Rattle.lw_calls.specs.Kinds.{is_super}
@@ -57,13 +58,21 @@ abbrev pub own_list : Option Bitmap → List Bitmap
 own_list None = []
 own_list (Some own) = own ∷ []
 
+-- the bitmaps of the visible rectangles' strips
+abbrev pub visible_planes : LiveDraft → List Bitmap
+visible_planes d = planes_of d.strips.items
+
 -- the buffers of all rectangles with one, in their order
 abbrev pub buffers_of : LiveDraft → List Bitmap
-buffers_of d = d.buffers.items ++ (d.covered.items ++ own_list d.superbits)
+buffers_of d = visible_planes d ++ (d.covered.items ++ own_list d.superbits)
 
 -- no pixel
 abbrev pub no_bitmap : Bitmap
 no_bitmap = record { width = 0; height = 0; depth = 0; rows = [] }
+
+-- and no strip
+abbrev pub no_strip : StripView
+no_strip = record { rect = record { min_x = pos 0; min_y = pos 0; max_x = pos 0; max_y = pos 0 }; planes = no_bitmap; solid = false }
 
 -- the pen of the pixel (x, y) in the buffer with a number, or 0 where no buffer has it
 abbrev pub pen_from : List Bitmap → Layout → Option ℕ → ℕ → ℕ → ℕ
@@ -148,7 +157,8 @@ pub record IsLiveDraft (d : LiveDraft) : Type 0 where
   pub sizes : AreSizes (layout d).width (layout d).height d.depth
   pub scrolled : IsScrolled (layout d)
   pub mode : d.raster.mode < 8
-  pub shown : length d.buffers.items ≡ length d.parts.visible
+  pub shown : rects_of d.strips.items ≡ d.parts.visible
+  pub solid : All (λ s. s.solid ≡ true) d.strips.items
   pub rest : IsRest d.kind (length (hidden_of d.bounds d.parts.visible)) (length d.covered.items) d.superbits
   pub buffers : AreBuffers d.depth (buffered (layout d)) (buffers_of d) d.bounds
   pub inner : d.damage.inner ≡ inner_in (live_view d)

@@ -4,6 +4,7 @@ use Rattle.std.specs.Prelude.{◌≡◌, ℕ, ◌≤◌, true, false, List, [], 
 use Rattle.lw_region.specs.Rectangle.{Rectangle, width, height}
 use Rattle.lw_planes.specs.Bitmap.{Bitmap, bitmap}
 use Rattle.lw_planes.specs.Sizes.{AreSizes, IsPlanes}
+use Rattle.lw_strips.specs.Strips.{StripView}
 use Rattle.lw_calls.specs.declared.make.Kind.{Kind}
 use Rattle.lw_calls.specs.declared.make.Kind.TheVariants.{Simple, Smart, SuperBitmap}
 use Rattle.lw_calls.specs.declared.make.Make.{Make}
@@ -45,3 +46,12 @@ own_blank SuperBitmap depth m = Some (bitmap m.bits_w m.bits_h depth (λ x y. 0)
 pub record AreBlank (depth : ℕ) (rects : List Rectangle) (buffers : List Bitmap) : Type 0 where
   pub blank : buffers ≡ map (λ r. blank_buffer depth r) rects
   pub sound : All (λ b. IsPlanes b) buffers
+
+-- the solid strip of a rectangle with pen 0 everywhere
+abbrev pub blank_strip : ℕ → Rectangle → StripView
+blank_strip depth r = record { rect = r; planes = blank_buffer depth r; solid = true }
+
+-- The strips of a new layer's visible rectangles, with pen 0 everywhere, and each has sizes for planes.
+pub record AreBlankStrips (depth : ℕ) (rects : List Rectangle) (strips : List StripView) : Type 0 where
+  pub blank : strips ≡ map (λ r. blank_strip depth r) rects
+  pub sound : All (λ s. IsPlanes s.planes) strips

@@ -9,7 +9,8 @@ use Rattle.std.specs.Int.{bit_at}
 use Rattle.lw_planes.specs.Row.{row_bit}
 use Rattle.lw_planes.specs.Bitmap.{Bitmap, pen_at, row_bytes}
 use Rattle.lw_planes.specs.Change.{with_row}
-use Rattle.lw_layer.specs.Drafts.{buffers_of, no_bitmap}
+use Rattle.lw_strips.specs.Strips.{StripView}
+use Rattle.lw_layer.specs.Drafts.{buffers_of, no_bitmap, no_strip}
 use Rattle.lw_layer.specs.declared.draft.LiveDraft.{LiveDraft}
 use Rattle.lw_layer.specs.contracts.draft.LiveDraft as live_draft
 
@@ -31,12 +32,16 @@ abbrev pub changed_own : (Bitmap → Bitmap) → Option Bitmap → Option Bitmap
 changed_own f None = None
 changed_own f (Some own) = Some (f own)
 
+-- a strip with its bitmap changed
+abbrev pub changed_pens : (Bitmap → Bitmap) → StripView → StripView
+changed_pens f s = record s { planes = f s.planes }
+
 -- the draft with its buffer of this number changed
 abbrev pub changed_buffer : ℕ → (Bitmap → Bitmap) → LiveDraft → LiveDraft
 changed_buffer n f d =
-    let shown = length d.buffers.items in
+    let shown = length d.strips.items in
     if nat_lt n shown
-    then record d { buffers = with_item d.buffers n (f (slice_index_or d.buffers.items n no_bitmap)) }
+    then record d { strips = with_item d.strips n (changed_pens f (slice_index_or d.strips.items n no_strip)) }
     else (if nat_lt (n - shown) (length d.covered.items)
     then record d { covered = with_item d.covered (n - shown) (f (slice_index_or d.covered.items (n - shown) no_bitmap)) }
     else record d { superbits = changed_own f d.superbits })

@@ -65,9 +65,9 @@ impl Cell {
     }
 
     /// Takes a state up and hands back the former one. No memory is taken. Of a live layer it asks that `parts` cuts `bounds`;
-    /// that each visible rectangle, and each hidden one of a smart layer, has a buffer of its size with `depth` planes; that
-    /// exactly a super-bitmap layer has an own bitmap, in which the portion lies that is shown; and that damage lies on kept
-    /// pixels.
+    /// that `strips` are solid ones of the visible rectangles, in their order, and each hidden rectangle of a smart layer has a
+    /// buffer of its size, all with `depth` planes; that exactly a super-bitmap layer has an own bitmap, in which the portion
+    /// lies that is shown; and that damage lies on kept pixels.
     pub fn take_up(&mut self, draft: Draft) -> Draft
         requires { IsDraft draft }
         ensures taken { self.new ≡ cell_view draft }
@@ -105,8 +105,8 @@ impl Cell {
         }
     }
 
-    /// Reserves room for `count` messages at least in the port of a window. It changes nothing else, and nothing of a layer that isn't
-    /// a window or of a slot that isn't live.
+    /// Reserves room for `count` messages at least in the port of a window. It changes nothing else, and nothing of a layer that
+    /// isn't a window or of a slot that isn't live.
     pub fn reserve(&mut self, alloc: Global, count: usize) -> Result<(), AllocError>
         ensures cell { without_room self.new ≡ without_room self.old }
         ensures room { OnOk result (HasRoom count self.new) }

@@ -8,7 +8,7 @@ ghost use Rattle.lw_layer.specs.Copied.{IsRowOf, HasPlaces, AreClear, across_at,
 
 use crate::draft::LiveDraft;
 use crate::runs::place_in;
-use lw_buffers::{copy_over, copy_row};
+use lw_buffers::{copy_row, copy_strips};
 use lw_calls::Kind;
 use lw_planes::Planes;
 use lw_region::Rect;
@@ -74,11 +74,10 @@ impl LiveDraft {
         ensures { HasPlaces (buffered (layout self.now)) (buffers_of self.now) plane (across_at (layout self.now) x)
             (down (layout self.now) y) (8 * length bits.old) bits.new kept.new }
     {
-        let shown = self.parts.visible();
         let column = self.across_at(x);
         let line = self.down(y);
         self.copy_rest(plane, x, y, bits, kept);
-        copy_over(shown, &self.buffers, plane, column, line, bits, kept);
+        copy_strips(&self.strips, plane, column, line, bits, kept);
     }
 
     // The same, out of the buffers beside those of the visible rectangles.

@@ -10,6 +10,7 @@ use lw_cliprects::Parts;
 use lw_damage::Damage;
 use lw_planes::Planes;
 use lw_region::{Rect, Region};
+use lw_strips::Strip;
 
 /// The state of one slot, as a value that the crates above fill and a cell takes up.
 #[derive(Debug, Drop)]
@@ -45,8 +46,8 @@ pub struct LiveDraft {
     pub damage: Damage,
     /// The bounds, cut into visible and hidden rectangles of the screen.
     pub parts: Parts,
-    /// A buffer of its size for each visible rectangle, in their order.
-    pub buffers: Vec<Planes>,
+    /// A solid strip for each visible rectangle, in their order: its buffer.
+    pub strips: Vec<Strip>,
     /// A buffer of its size for each hidden rectangle of a smart layer, in their order; none for other layers.
     pub covered: Vec<Planes>,
     /// A super-bitmap layer's own bitmap. What it has where the layer is visible means nothing.

@@ -8,6 +8,7 @@ ghost use Rattle.lw_planes.specs.Row.{bit_of, row_bit};
 ghost use Rattle.lw_planes.specs.Bitmap.{row_bytes};
 ghost use Rattle.lw_planes.specs.Sizes.{IsPlanes};
 ghost use Rattle.lw_cliprects.specs.Parts.{AreDivided, hidden_of};
+ghost use Rattle.lw_strips.specs.Strips.{rects_of};
 ghost use Rattle.lw_machine.specs.Kept.{holds_at};
 ghost use Rattle.lw_machine.specs.Step.{end_update};
 ghost use Rattle.lw_layer.specs.View.{keeps, draws, kept_pen, with_layer};
@@ -17,7 +18,7 @@ ghost use Rattle.lw_layer.specs.Lending.{LendsLines};
 ghost use Rattle.lw_layer.specs.Looks.{IsLook};
 ghost use Rattle.lw_layer.specs.StandsFor.{IsSound};
 ghost use Rattle.lw_layer.specs.Runs.{IsRunAt, IsNext, AreAlike};
-ghost use Rattle.lw_layer.specs.Copied.{kept_bit, with_kept, with_visible};
+ghost use Rattle.lw_layer.specs.Copied.{kept_bit, with_kept, with_visible, HaveShown};
 
 use crate::draft::LiveDraft;
 use crate::look::Look;
@@ -26,6 +27,7 @@ use crate::run::Run;
 use lw_damage::Damage;
 use lw_planes::Planes;
 use lw_region::{Rect, Region};
+use lw_strips::Strip;
 use std::marker::Model;
 use std::mem;
 
@@ -58,10 +60,10 @@ impl Layer {
         self.draft
     }
 
-    /// Lends one plane's bytes of `rows` lines of a buffer, one at least, from a line on, one after another, each of `step` bytes:
-    /// `((width + 15) / 16) * 2` for a buffer of that width, which have a bit for each of its columns, the leftmost in the most
-    /// significant bit of the first. After the loan each kept pixel whose pen is in one of these lines has in this plane the bit
-    /// that the bytes hold, and all else stays as it was.
+    /// Lends one plane's bytes of `rows` lines of a buffer, one at least, from a line on, one after another, each of `step`
+    /// bytes: `((width + 15) / 16) * 2` for a buffer of that width, which have a bit for each of its columns, the leftmost in the
+    /// most significant bit of the first. After the loan each kept pixel whose pen is in one of these lines has in this plane the
+    /// bit that the bytes hold, and all else stays as it was.
     pub fn lines_mut(&mut self, plane: u32, buffer: usize, line: u32, rows: u32) -> &mut [u8]
         requires plane { plane < self.old.layer.bits.depth }
         requires some { 0 < rows }
@@ -110,8 +112,8 @@ impl Layer {
         self.draft.rows_alike(y)
     }
 
-    /// A run of kept pixels from column `x` and row `y` on to the right; `None` exactly where the layer doesn't keep that pixel. It
-    /// need not be the longest one.
+    /// A run of kept pixels from column `x` and row `y` on to the right; `None` exactly where the layer doesn't keep that pixel.
+    /// It need not be the longest one.
     pub fn kept_run_at(&self, x: i32, y: i32) -> Option<Run>
         ensures { IsRunAt self.now (λ i j. keeps self.now i j) x y result }
     {
@@ -188,8 +190,8 @@ impl Layer {
     }
 
     /// Reads one plane of the pixels of row `y` from column `x` on, as many as `bits` has bits, and sets a bit of `kept` for each
-    /// that the layer keeps; a pixel that it doesn't keep has the bit 0 in both. The leftmost pixel is in the most significant bit
-    /// of the first byte. Both rows are equally long.
+    /// that the layer keeps; a pixel that it doesn't keep has the bit 0 in both. The leftmost pixel is in the most significant
+    /// bit of the first byte. Both rows are equally long.
     pub fn copy_row(&self, plane: u32, x: i32, y: i32, bits: &mut [u8], kept: &mut [u8])
         requires plane { plane < self.now.layer.bits.depth }
         requires equally_long { length kept.old ≡ length bits.old }
@@ -200,9 +202,9 @@ impl Layer {
         self.draft.copy_row(plane, x, y, bits, kept);
     }
 
-    /// Lays the pens that the layer keeps on a bitmap whose pixel (0, 0) lies on the layer's pixel (`x`, `y`), which may lie anywhere:
-    /// each pixel of the bitmap on which a kept pixel lies gets its pen, and each other one stays as it was. The bitmap has as many
-    /// planes as the layer. No memory is taken.
+    /// Lays the pens that the layer keeps on a bitmap whose pixel (0, 0) lies on the layer's pixel (`x`, `y`), which may lie
+    /// anywhere: each pixel of the bitmap on which a kept pixel lies gets its pen, and each other one stays as it was. The bitmap
+    /// has as many planes as the layer. No memory is taken.
     pub fn copy_kept(&self, x: i32, y: i32, to: &mut Planes)
         requires { to.old.depth ≡ self.now.layer.bits.depth }
         ensures { to.new ≡ with_kept self.now x y to.old }
@@ -210,8 +212,9 @@ impl Layer {
         self.draft.copy_kept(x, y, to);
     }
 
-    /// Lays the layer's visible pens on the bitmap of the screen: each of its pixels on which the layer is visible gets the pen that
-    /// the layer shows there, and each other one stays as it was. The bitmap has as many planes as the layer. No memory is taken.
+    /// Lays the layer's visible pens on the bitmap of the screen: each of its pixels on which the layer is visible gets the pen
+    /// that the layer shows there, and each other one stays as it was. The bitmap has as many planes as the layer. No memory is
+    /// taken.
     pub fn show(&self, to: &mut Planes)
         requires { to.old.depth ≡ self.now.layer.bits.depth }
         ensures { to.new ≡ with_visible self.now to.old }
@@ -225,6 +228,15 @@ impl Layer {
         ensures canonical { IsCanonical result.now }
     {
         self.draft.parts.visible()
+    }
+
+    /// The strips of which the shown pixels of the layer are made: a solid one for each visible rectangle, in their order, with
+    /// as many planes as the layer and with the pens that the layer shows there.
+    pub fn strips(&self) -> &[Strip]
+        ensures rects { rects_of result.now ≡ self.now.visible }
+        ensures pens { HaveShown self.now result.now }
+    {
+        self.draft.shown_strips()
     }
 
     /// The hidden rectangles, on the screen: what the visible ones leave of the bounds, in bands.
@@ -274,8 +286,8 @@ impl Layer {
         self.draft.damage.begin();
     }
 
-    /// Ends an update. A full end takes all damage away, and a window may then be asked to refresh again; a partial one leaves the
-    /// damage (EndUpdate).
+    /// Ends an update. A full end takes all damage away, and a window may then be asked to refresh again; a partial one leaves
+    /// the damage (EndUpdate).
     pub fn end_update(&mut self, full: bool)
         ensures { self.new ≡ with_layer (λ l. end_update full l) self.old }
     {

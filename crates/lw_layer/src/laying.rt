@@ -1,17 +1,18 @@
 // Laying the pens that a live layer keeps on a bitmap, buffer by buffer.
 
 ghost use Rattle.std.specs.Prelude.{◌≡◌, ◌+ℤ◌, ◌-ℤ◌};
+ghost use Rattle.lw_strips.specs.Strips.{rects_of};
 ghost use Rattle.lw_buffers.specs.Lookup.{IsNear, with_buffers};
 ghost use Rattle.lw_calls.specs.declared.make.Kind.TheVariants.{SuperBitmap};
 ghost use Rattle.lw_layer.specs.Pieces.{rest_of};
 ghost use Rattle.lw_layer.specs.Drafts.{IsLiveDraft, layout, live_view};
-ghost use Rattle.lw_layer.specs.Copied.{rest_buffers, with_kept, with_visible};
+ghost use Rattle.lw_layer.specs.Copied.{rest_buffers, with_kept, with_visible, HaveShown};
 
 use crate::draft::LiveDraft;
-use lw_buffers::lay_buffers;
+use lw_buffers::{lay_buffers, lay_strips};
 use lw_calls::Kind;
 use lw_planes::Planes;
-use lw_strips::lay_bitmap;
+use lw_strips::{Strip, lay_bitmap};
 
 impl LiveDraft {
     // Lays the pens that the layer keeps on a bitmap whose pixel (0, 0) lies on the layer's pixel (x, y).
@@ -26,7 +27,7 @@ impl LiveDraft {
         let left = start(self.bounds.min_x(), self.scroll_x, x);
         let top = start(self.bounds.min_y(), self.scroll_y, y);
         self.lay_rest(left, top, to);
-        lay_buffers(to, left, top, self.parts.visible(), &self.buffers);
+        lay_strips(to, left, top, &self.strips);
     }
 
     // Lays the pens of the visible rectangles on the bitmap of the screen.
@@ -38,7 +39,19 @@ impl LiveDraft {
         // Reading these tells the proof that the rectangles cover the bounds.
         let _ = self.bounds.min_x();
         let _ = self.parts.hidden();
-        lay_buffers(to, 0, 0, self.parts.visible(), &self.buffers);
+        lay_strips(to, 0, 0, &self.strips);
+    }
+
+    // The strips of the visible rectangles.
+    pub(crate) fn shown_strips(&self) -> &[Strip]
+        requires { IsLiveDraft self.now }
+        ensures rects { rects_of result.now ≡ (live_view self.now).visible }
+        ensures pens { HaveShown (live_view self.now) result.now }
+    {
+        // Reading these tells the proof that the rectangles cover the bounds.
+        let _ = self.bounds.min_x();
+        let _ = self.parts.hidden();
+        self.strips.as_slice()
     }
 
     // Lays the buffers beside those of the visible rectangles on a bitmap whose pixel (0, 0) is a place of the screen's plane.

@@ -19,9 +19,9 @@ impl LiveDraft {
         requires there { number < length (buffered (layout self.now)) }
         ensures { result.now ≡ slice_index_or (buffers_of self.now) number no_bitmap }
     {
-        let shown = self.buffers.len();
+        let shown = self.strips.len();
         if number < shown {
-            return &self.buffers[number];
+            return self.strips[number].bitmap();
         }
         let covered = self.covered.len();
         if number - shown < covered {
@@ -86,10 +86,10 @@ impl LiveDraft {
         ensures near { length result.now < 2 ^ 32 }
         ensures bits { HaveBufferBits self.old plane buffer line rows result.now }
     {
-        let shown = self.buffers.len();
+        let shown = self.strips.len();
         if buffer < shown {
-            let planes = &mut self.buffers[buffer];
-            return planes.rows_mut(plane, line, rows);
+            let strip = &mut self.strips[buffer];
+            return strip.rows_mut(plane, line, rows);
         }
         let covered = self.covered.len();
         if buffer - shown < covered {

@@ -8,7 +8,7 @@ ghost use Rattle.lw_cliprects.specs.Parts.{LieIn, hidden_of};
 ghost use Rattle.lw_layer.specs.Pieces.{inner_of, HasFrameRoom};
 ghost use Rattle.lw_machine.specs.Layer.{is_framed};
 ghost use Rattle.lw_layer.specs.Drafts.{IsLiveDraft, window_of, room_of, live_view};
-ghost use Rattle.lw_layer.specs.New.{blank_buffer, kept_hidden, own_blank, AreBlank, IsNewSize, new_live};
+ghost use Rattle.lw_layer.specs.New.{blank_buffer, kept_hidden, own_blank, AreBlank, AreBlankStrips, IsNewSize, new_live};
 
 use crate::draft::LiveDraft;
 use crate::raster::Raster;
@@ -18,12 +18,14 @@ use lw_cliprects::Parts;
 use lw_damage::Damage;
 use lw_planes::Planes;
 use lw_region::{Rect, Region};
+use lw_strips::Strip;
 use std::alloc::{AllocError, Global};
 
 impl LiveDraft {
-    /// A new layer without a hook, which is a window or not, and of which these pixels of the screen are visible (CreateUpfrontLayer,
-    /// CreateBehindLayer, OpenWindow): pen 0 everywhere, no damage, no clip region, and nothing scrolled. Bounds and an own bitmap
-    /// have 1 to 2048 columns and rows, and `depth` is 1 to 8. A framed window has room for its frame and no bitmap of its own.
+    /// A new layer without a hook, which is a window or not, and of which these pixels of the screen are visible
+    /// (CreateUpfrontLayer, CreateBehindLayer, OpenWindow): pen 0 everywhere, no damage, no clip region, and nothing scrolled.
+    /// Bounds and an own bitmap have 1 to 2048 columns and rows, and `depth` is 1 to 8. A framed window has room for its frame
+    /// and no bitmap of its own.
     pub fn new(
         alloc: Global,
         make: &Make,
@@ -40,7 +42,7 @@ impl LiveDraft {
         ensures layer { IfOk result (λ d. live_view d ≡ new_live make.now depth bounds.now visible.now (window_of window) (room_of window)) }
     {
         let parts = Parts::cut(alloc, bounds, visible)?;
-        let buffers = blank_buffers(alloc, bounds, parts.visible(), depth)?;
+        let strips = blank_strips(alloc, bounds, parts.visible(), depth)?;
         let covered = covered_buffers(alloc, make.kind, bounds, &parts, depth)?;
         let superbits = own_bitmap(alloc, make, depth)?;
         let inner = inner_rectangle(make.kind, is_framed(&window), bounds);
@@ -62,7 +64,7 @@ impl LiveDraft {
             clip: None,
             damage: Damage::new(alloc, inner),
             parts,
-            buffers,
+            strips,
             covered,
             superbits,
             active: false,
@@ -100,6 +102,24 @@ fn own_bitmap(alloc: Global, make: &Make, depth: u32) -> Result<Option<Planes>, 
         Kind::Smart => Ok(None),
         Kind::SuperBitmap => Ok(Some(Planes::new(alloc, make.bits_w, make.bits_h, depth)?)),
     }
+}
+
+// A solid strip of each of these rectangles in the bounds, with pen 0 everywhere.
+fn blank_strips(
+    alloc: Global,
+    bounds: &Rect,
+    rects: &[Rect],
+    depth: u32,
+) -> Result<Vec<Strip>, AllocError>
+    requires inside { LieIn bounds.now rects.now }
+    requires sizes { AreSizes (width bounds.now) (height bounds.now) depth }
+    ensures { IfOk result (λ strips. AreBlankStrips depth rects.now strips.items) }
+{
+    let mut strips = Vec::with_capacity(alloc, rects.len())?;
+    for rect in rects {
+        strips.push(Strip::new(*rect, blank(alloc, bounds, rect, depth)?))?;
+    }
+    Ok(strips)
 }
 
 // A buffer for each of these rectangles in the bounds, with pen 0 everywhere.

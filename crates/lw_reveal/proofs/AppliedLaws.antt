@@ -2,7 +2,9 @@
 use Rattle.std.proofs.Common.{◌≡◌, ℕ, ◌+◌, ◌^◌, ◌<◌, ◌≤◌, Bool, true, false, ◌⊎◌, ⊎_elim, inl, inr, if◌then◌else◌, List, [], ◌∷◌, ◌++◌, length, get_or, Option, Some, None, ◌∙◌, sym, refl, ap, subst, arith, ℤ, pos, negsuc, ◌+ℤ◌, ◌-ℤ◌, unsigned_abs, length-append, append_assoc, pow_pos}
 use Rattle.std.proofs.lemmas.Bool.{cases_lt}
 use Rattle.std.proofs.lemmas.Int.{ints}
-use Rattle.std.proofs.lemmas.List.{get_or_append_left, get_or_at}
+use Rattle.std.specs.List.{All}
+use Rattle.std.proofs.lemmas.List.{get_or_append_left, get_or_at, length-map}
+use Rattle.lw_strips.specs.Strips.{StripView, rects_of, planes_of}
 use Rattle.lw_region.specs.Rectangle.{Rectangle, width, height}
 use Rattle.lw_planes.specs.Bitmap.{Bitmap, IsBitmap, bitmap, pen_at}
 use Rattle.lw_planes.specs.Sizes.{AreSizes, IsPlanes}
@@ -23,22 +25,23 @@ use Rattle.lw_layer.proofs.NewLaws.{part_size}
 use Rattle.lw_reveal.specs.declared.change.Change.{Change}
 use Rattle.lw_reveal.specs.Changed.{carried_to, MayHave}
 use Rattle.lw_reveal.specs.Handing.{own_whole}
-use Rattle.lw_reveal.specs.Changes.{beside_own, pen_or_zero, layer_place, carried, new_rectangle, new_buffer}
+use Rattle.lw_reveal.specs.Changes.{beside_own, pen_or_zero, layer_place, carried, new_rectangle}
 use Rattle.lw_reveal.proofs.CarriedLaws.{number_is, both_ordered, divided_inside, AreParts}
 
 -- the draft with what the change has, and its own bitmap whole
 abbrev pub changed_draft : LiveDraft → Change → LiveDraft
-changed_draft d k = record d { bounds = k.bounds; parts = k.parts; damage = k.damage; buffers = k.buffers; covered = k.covered; superbits = own_whole d.kind d }
+changed_draft d k = record d { bounds = k.bounds; parts = k.parts; damage = k.damage; strips = k.strips; covered = k.covered; superbits = own_whole d.kind d }
 
 -- A change whose buffers all are the carried ones.
 pub record IsMade (d : LiveDraft) (k : Change) : Type 0 where
   pub cut : k.parts.bounds ≡ k.bounds
   pub size : MayHave (live_view d) k.bounds k.parts.visible
   pub revealed : IsDamageOf (carried_to k.bounds k.parts.visible (live_view d)) k.damage
-  pub shown : length k.buffers.items ≡ length k.parts.visible
+  pub shown : rects_of k.strips.items ≡ k.parts.visible
+  pub solid : All (λ (s : StripView). s.solid ≡ true) k.strips.items
   pub hidden : length k.covered.items ≡ length (kept_hidden d.kind (hidden_of k.bounds k.parts.visible))
   pub pens : (i : ℕ) → i < length (beside_own d.kind k.bounds k.parts.visible)
-      → new_buffer k i ≡ carried (live_view d) k.bounds (new_rectangle (live_view d) k i)
+      → get_or (planes_of k.strips.items ++ k.covered.items) i no_bitmap ≡ carried (live_view d) k.bounds (new_rectangle (live_view d) k i)
   pub parts : AreParts k.bounds k.parts.visible
 
 -- the size of the bits, by kind
@@ -135,13 +138,17 @@ none_hidden Simple hidden super = absurd (cc super)
 none_hidden Smart hidden super = absurd (cc super)
 none_hidden SuperBitmap hidden super = refl
 
+-- how many new strips there are
+pub strips_many : (d : LiveDraft) (k : Change) → IsMade d k → length (planes_of k.strips.items) ≡ length k.parts.visible
+strips_many d k made = length-map k.strips.items (λ (s : StripView). s.planes) ∙ (sym (length-map k.strips.items (λ (s : StripView). s.rect)) ∙ ap length made.shown)
+
 -- how many new buffers there are
 made_many : (d : LiveDraft) (k : Change) → IsMade d k
-    → length (k.buffers.items ++ k.covered.items) ≡ length (beside_own d.kind k.bounds k.parts.visible)
+    → length (planes_of k.strips.items ++ k.covered.items) ≡ length (beside_own d.kind k.bounds k.parts.visible)
 made_many d k made =
-    let news = length-append k.buffers.items k.covered.items in
+    let news = length-append (planes_of k.strips.items) k.covered.items in
     let rects = length-append k.parts.visible (kept_hidden d.kind (hidden_of k.bounds k.parts.visible)) in
-    omega (arith, made.shown, made.hidden)
+    omega (arith, strips_many d k made, made.hidden)
 
 -- each piece has what is carried into it
 shown_carried : (d : LiveDraft) (k : Change) (n : ℕ) → IsMade d k → n < length (beside_own d.kind k.bounds k.parts.visible)
@@ -149,10 +156,10 @@ shown_carried : (d : LiveDraft) (k : Change) (n : ℕ) → IsMade d k → n < le
 shown_carried d k n made inside =
     let l = layout (changed_draft d k) in
     let many = made_many d k made in
-    let below : n < length (k.buffers.items ++ k.covered.items) = omega arith in
+    let below : n < length (planes_of k.strips.items ++ k.covered.items) = omega arith in
     let number = number_is l d.kind n refl inside in
-    ap (λ q. get_or q n no_bitmap) (sym (append_assoc k.buffers.items k.covered.items (own_list (own_whole d.kind d)))) ∙
-    (get_or_append_left (k.buffers.items ++ k.covered.items) (own_list (own_whole d.kind d)) no_bitmap n below ∙
+    ap (λ q. get_or q n no_bitmap) (sym (append_assoc (planes_of k.strips.items) k.covered.items (own_list (own_whole d.kind d)))) ∙
+    (get_or_append_left (planes_of k.strips.items ++ k.covered.items) (own_list (own_whole d.kind d)) no_bitmap n below ∙
     (made.pens n inside ∙ ap (λ q. carried (live_view d) k.bounds q) (sym number.same)))
 
 whole_carried : (d : LiveDraft) (k : Change) (n : ℕ) → IsMade d k → is_super d.kind ≡ true → n ≡ length k.parts.visible
@@ -162,11 +169,11 @@ whole_carried d k n made super last =
     let own : Bitmap = (live_view d).layer.bits in
     let size = super_size d k super in
     let none = none_hidden d.kind (hidden_of k.bounds k.parts.visible) super in
-    let news = length-append k.buffers.items k.covered.items in
-    let many : length (k.buffers.items ++ k.covered.items) ≡ n = omega (arith, made.shown, made.hidden) in
-    ap (λ q. get_or q n no_bitmap) (sym (append_assoc k.buffers.items k.covered.items (own_list (own_whole d.kind d)))) ∙
-    (ap (λ o. get_or ((k.buffers.items ++ k.covered.items) ++ own_list o) n no_bitmap) (whole_super d.kind d super) ∙
-    (get_or_at (k.buffers.items ++ k.covered.items) own [] no_bitmap n many ∙
+    let news = length-append (planes_of k.strips.items) k.covered.items in
+    let many : length (planes_of k.strips.items ++ k.covered.items) ≡ n = omega (arith, strips_many d k made, made.hidden) in
+    ap (λ q. get_or q n no_bitmap) (sym (append_assoc (planes_of k.strips.items) k.covered.items (own_list (own_whole d.kind d)))) ∙
+    (ap (λ o. get_or ((planes_of k.strips.items ++ k.covered.items) ++ own_list o) n no_bitmap) (whole_super d.kind d super) ∙
+    (get_or_at (planes_of k.strips.items ++ k.covered.items) own [] no_bitmap n many ∙
     (own_carried d l super refl refl size.0 size.1 ∙ ap (λ q. carried (live_view d) k.bounds q) (sym (whole_rectangle l d.kind n refl super last)))))
 
 pub rectangle_carried : (d : LiveDraft) (k : Change) (n : ℕ) → IsMade d k → n < length (buffered (layout (changed_draft d k)))

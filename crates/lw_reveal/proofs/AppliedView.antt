@@ -112,6 +112,7 @@ changed_sound d k ok made = record {
   scrolled = scrolled_by d k (is_super d.kind) refl ok made;
   mode = ok.mode;
   shown = made.shown;
+  solid = made.solid;
   rest = rest_changed d.kind _ _ _ d (hidden_of k.bounds k.parts.visible) ok.rest made.hidden;
   buffers = made_buffers d k ok made;
   inner = inner_by d k (is_super d.kind) refl ok made;

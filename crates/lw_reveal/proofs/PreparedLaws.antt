@@ -1,6 +1,6 @@
 -- A change that is made ready.
-use Rattle.std.proofs.Common.{◌≡◌, ℕ, ◌+◌, ◌<◌, Bool, true, false, ◌⊎◌, inl, inr, List, [], ◌++◌, length, get_or, None, ◌∙◌, sym, refl, ap, subst, arith, ◌-ℤ◌, length-append}
-use Rattle.std.proofs.lemmas.List.{get_or_append_left, get_or_default}
+use Rattle.std.proofs.Common.{◌≡◌, ℕ, ◌+◌, ◌<◌, Bool, true, false, ◌⊎◌, inl, inr, List, [], ◌++◌, length, take, get_or, Some, None, ◌∙◌, sym, refl, ap, subst, arith, ◌-ℤ◌, length-append}
+use Rattle.std.proofs.lemmas.List.{get_or_append_left, get_or_default, take-append-le, take_all}
 use Rattle.lw_region.specs.Rectangle.{Rectangle, moved_by, width, height}
 use Rattle.lw_planes.specs.Sizes.{AreSizes}
 use Rattle.lw_calls.specs.declared.make.Kind.{Kind}
@@ -14,7 +14,7 @@ use Rattle.lw_layer.proofs.NewLaws.{part_size}
 use Rattle.lw_reveal.specs.declared.change.Change.{Change}
 use Rattle.lw_reveal.specs.declared.pairing.Pairing.{Pairing}
 use Rattle.lw_reveal.specs.Changed.{carried_to, MayHave}
-use Rattle.lw_reveal.specs.Changes.{beside_own, carried, new_rectangle, new_buffer, IsGiven, MayBeHanded, IsChange}
+use Rattle.lw_reveal.specs.Changes.{beside_own, carried, new_rectangle, new_held, IsGiven, MayBeHanded, IsChange}
 use Rattle.lw_reveal.specs.Carrying.{HaveSizes, AreBothNew}
 use Rattle.lw_reveal.specs.Pairing.{IsPair, IsPairingOf}
 use Rattle.lw_reveal.proofs.CarriedLaws.{AreParts, both_ordered, divided_inside}
@@ -61,18 +61,18 @@ new_sizes kind bounds visible rects depth is parts sizes =
     subst (λ q. HaveSizes depth q) (sym is)
     (λ i d inside. subst P (get_or_default all i bounds d inside) (new_size kind bounds visible depth i parts sizes inside))
 
--- each new buffer is the carried one, or one is handed over to its place
+-- each new rectangle has the carried bitmap, or one is handed over to its place
 pen_or_given : (c : LiveView) (k : Change) (p : Pairing) (shown i : ℕ) (t : Bool) → get_or p.given.items i false ≡ t
     → IsPairingOf c k.bounds k.parts.visible p → k.handed.items ≡ p.handed.items
-    → AreBothNew c k.bounds p.news.items p.given.items shown k.buffers.items k.covered.items
+    → AreBothNew c k.bounds p.news.items p.given.items shown k.strips.items k.covered.items
     → i < length (beside_own c.layer.kind k.bounds k.parts.visible)
-    → (new_buffer k i ≡ carried c k.bounds (new_rectangle c k i)) ⊎ IsGiven k.handed.items i
+    → (new_held k i ≡ Some (carried c k.bounds (new_rectangle c k i))) ⊎ IsGiven k.handed.items i
 pen_or_given c k p shown i true is pairs handed new inside =
     let below : i < length p.given.items = omega (arith, pairs.sound.news, ap length pairs.news) in
     inr (subst (λ q. IsGiven q i) (sym handed) (pairs.sound.places i below is))
 pen_or_given c k p shown i false is pairs handed new inside =
     let below : i < length p.news.items = omega (arith, ap length pairs.news) in
-    inl (new.all.each i below is ∙ ap (λ q. carried c k.bounds (get_or q i k.bounds)) pairs.news)
+    inl (new.each i below is ∙ ap (λ q. Some (carried c k.bounds (get_or q i k.bounds))) pairs.news)
 
 may_hand : (c : LiveView) (k : Change) (p : Pairing) (n i : ℕ) → IsPairingOf c k.bounds k.parts.visible p → IsPair p n i
     → MayBeHanded c k n i
@@ -85,20 +85,24 @@ may_hand c k p n i pairs pair = record {
       (ap (λ y. moved_by (get_or p.former.items n c.bounds) p.dx y) (sym pairs.dy) ∙ (pair.same c.bounds k.bounds ∙ ap (λ q. get_or q i k.bounds) pairs.news)));
 }
 
+-- the first of two lists
+take_prefix : (xs ys : List Rectangle) (n : ℕ) → n ≡ length xs → take n (xs ++ ys) ≡ xs
+take_prefix xs ys n is = take-append-le n xs ys (omega arith) ∙ take_all n xs (omega arith)
+
 -- The change is one of the layer.
 pub prepared : (c : LiveView) (k : Change) (p : Pairing) (shown : ℕ) → IsPairingOf c k.bounds k.parts.visible p
-    → k.handed.items ≡ p.handed.items → AreBothNew c k.bounds p.news.items p.given.items shown k.buffers.items k.covered.items
+    → k.handed.items ≡ p.handed.items → AreBothNew c k.bounds p.news.items p.given.items shown k.strips.items k.covered.items
     → shown ≡ length k.parts.visible → k.parts.bounds ≡ k.bounds → MayHave c k.bounds k.parts.visible
     → IsDamageOf (carried_to k.bounds k.parts.visible c) k.damage → IsChange c k
 prepared c k p shown pairs handed new is_shown cut size damage =
     let rects = length-append k.parts.visible (kept_hidden c.layer.kind (hidden_of k.bounds k.parts.visible)) in
-    let news = length-append k.buffers.items k.covered.items in
+    let first : take shown p.news.items ≡ k.parts.visible = ap (λ q. take shown q) pairs.news ∙ take_prefix k.parts.visible (kept_hidden c.layer.kind (hidden_of k.bounds k.parts.visible)) shown is_shown in
     record {
       cut = cut;
       size = size;
       revealed = damage;
-      shown = new.shown_many ∙ is_shown;
-      hidden = omega (arith, new.shown_many, new.all.many, ap length pairs.news);
+      shown = new.shown_rects ∙ first;
+      hidden = omega (arith, new.many, is_shown, ap length pairs.news);
       former = ap length handed ∙ (pairs.sound.former ∙ ap length pairs.former);
       pens = λ i inside. pen_or_given c k p shown i (get_or p.given.items i false) refl pairs handed new inside;
       moved =

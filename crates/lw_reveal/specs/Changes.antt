@@ -1,15 +1,15 @@
 -- A change of a live layer that an arrangement has made ready: its new clip rectangles, which of them get a new buffer, and which
 -- the buffer of a former one.
-use Rattle.std.specs.Prelude.{◌≡◌, ℕ, ◌<◌, ◌⊎◌, List, ◌++◌, length, ℤ, pos, ◌+ℤ◌, ◌-ℤ◌, Option, Some, None}
+use Rattle.std.specs.Prelude.{◌≡◌, ℕ, ◌<◌, ◌⊎◌, List, ◌++◌, map, length, ℤ, pos, ◌+ℤ◌, ◌-ℤ◌, Option, Some, None}
 use Rattle.std.specs.List.{slice_index_or}
 use Rattle.lw_region.specs.Rectangle.{Rectangle, moved_by, width, height}
 use Rattle.lw_planes.specs.Bitmap.{Bitmap, bitmap}
+use Rattle.lw_strips.specs.Strips.{StripView, held_by, rects_of}
 use Rattle.lw_calls.specs.declared.make.Kind.{Kind}
 use Rattle.lw_cliprects.specs.Parts.{hidden_of}
 use Rattle.lw_layer.specs.View.{LiveView, kept_pen}
 use Rattle.lw_layer.specs.Pieces.{IsDamageOf}
 use Rattle.lw_layer.specs.Copied.{pen_over}
-use Rattle.lw_layer.specs.Drafts.{no_bitmap}
 use Rattle.lw_layer.specs.New.{kept_hidden}
 use Rattle.lw_reveal.specs.declared.change.Change.{Change}
 use Rattle.lw_reveal.specs.Changed.{carried_to, MayHave}
@@ -41,9 +41,13 @@ carried c bounds r =
     (λ i j. pen_or_zero (kept_pen c (layer_place r.min_x bounds.min_x c.layer.scroll_x i)
     (layer_place r.min_y bounds.min_y c.layer.scroll_y j)))
 
--- the buffer of the new rectangle i, the visible ones first
-abbrev pub new_buffer : Change → ℕ → Bitmap
-new_buffer k i = slice_index_or (k.buffers.items ++ k.covered.items) i no_bitmap
+-- the bitmaps that strips have, where they are solid, and after them those of the buffers
+abbrev pub held_in : List StripView → List Bitmap → List (Option Bitmap)
+held_in strips covered = map (λ s. held_by s) strips ++ map (λ b. Some b) covered
+
+-- the bitmap of the new rectangle i, the visible ones first, if it has one
+abbrev pub new_held : Change → ℕ → Option Bitmap
+new_held k i = slice_index_or (held_in k.strips.items k.covered.items) i None
 
 -- some former buffer is handed over to this place
 abbrev pub IsGiven : List (Option ℕ) → ℕ → Type 0
@@ -57,15 +61,15 @@ pub record MayBeHanded (c : LiveView) (k : Change) (n i : ℕ) : Type 0 where
       ≡ new_rectangle c k i
 
 -- The change makes of the layer what the arrangement reveals: its bounds are cut, and it may have them; its damage is that of the
--- revealed layer; each new rectangle has a buffer with the pens that the layer keeps, or is handed a former one, whose
--- rectangle stays.
+-- revealed layer; each new rectangle has a strip or a buffer with the pens that the layer keeps, or is handed a former bitmap,
+-- whose rectangle stays.
 pub record IsChange (c : LiveView) (k : Change) : Type 0 where
   pub cut : k.parts.bounds ≡ k.bounds
   pub size : MayHave c k.bounds k.parts.visible
   pub revealed : IsDamageOf (carried_to k.bounds k.parts.visible c) k.damage
-  pub shown : length k.buffers.items ≡ length k.parts.visible
+  pub shown : rects_of k.strips.items ≡ k.parts.visible
   pub hidden : length k.covered.items ≡ length (kept_hidden c.layer.kind (hidden_of k.bounds k.parts.visible))
   pub former : length k.handed.items ≡ length (beside_own c.layer.kind c.bounds c.visible)
   pub pens : (i : ℕ) → i < length (beside_own c.layer.kind k.bounds k.parts.visible)
-      → (new_buffer k i ≡ carried c k.bounds (new_rectangle c k i)) ⊎ IsGiven k.handed.items i
+      → (new_held k i ≡ Some (carried c k.bounds (new_rectangle c k i))) ⊎ IsGiven k.handed.items i
   pub moved : (n i : ℕ) → n < length k.handed.items → slice_index_or k.handed.items n None ≡ Some i → MayBeHanded c k n i

@@ -4,12 +4,13 @@ ghost use Rattle.std.specs.Prelude.{◌≡◌, ◌≤◌, false, length, pos, �
 ghost use Rattle.lw_region.specs.Rectangle.{width, height};
 ghost use Rattle.lw_planes.specs.Sizes.{AreSizes};
 ghost use Rattle.lw_reveal.specs.Changes.{carried};
-ghost use Rattle.lw_reveal.specs.Carrying.{IsPlace, HaveSizes, AreNew, AreBothNew};
+ghost use Rattle.lw_reveal.specs.Carrying.{IsPlace, HaveSizes, IsNewStrip, AreNew, AreNewStrips, AreBothNew};
 
 use crate::pairing::Pairing;
 use lw_layer::Layer;
 use lw_planes::Planes;
 use lw_region::Rect;
+use lw_strips::Strip;
 use std::alloc::{AllocError, Global};
 
 // Where a layer is to lie, and the pixel of its bits that its top left corner shows.
@@ -20,14 +21,14 @@ pub(crate) struct Place {
     pub(crate) scroll_y: i32,
 }
 
-// The buffers of all rectangles of which so many are visible, and after them those of the rest.
+// The strips of the first `shown` rectangles, which are visible, and the buffers of the others.
 pub(crate) fn all_buffers(
     alloc: Global,
     layer: &Layer,
     place: &Place,
     pairing: &Pairing,
     shown: usize,
-) -> Result<(Vec<Planes>, Vec<Planes>), AllocError>
+) -> Result<(Vec<Strip>, Vec<Planes>), AllocError>
     requires place { IsPlace layer.now place.now }
     requires many { length pairing.now.given.items ≡ length pairing.now.news.items }
     requires shown { shown ≤ length pairing.now.news.items }
@@ -39,9 +40,48 @@ pub(crate) fn all_buffers(
     let rest = &pairing.news[shown..];
     let given = &pairing.given[..shown];
     let rest_given = &pairing.given[shown..];
-    let buffers = new_buffers(alloc, layer, place, rects, given)?;
+    let strips = new_strips(alloc, layer, place, rects, given)?;
     let covered = new_buffers(alloc, layer, place, rest, rest_given)?;
-    Ok((buffers, covered))
+    Ok((strips, covered))
+}
+
+// A solid strip of each of the rectangles with the pens that the layer keeps there, and a blank one where its pens are given.
+fn new_strips(
+    alloc: Global,
+    layer: &Layer,
+    place: &Place,
+    rects: &[Rect],
+    given: &[bool],
+) -> Result<Vec<Strip>, AllocError>
+    requires place { IsPlace layer.now place.now }
+    requires many { length given.now ≡ length rects.now }
+    requires sizes { HaveSizes layer.now.layer.bits.depth rects.now }
+    ensures { IfOk result (λ strips. AreNewStrips layer.now place.now.bounds rects.now given.now strips.items) }
+{
+    let mut strips = Vec::with_capacity(alloc, rects.len())?;
+    for index in 0..rects.len() {
+        let strip = new_strip(alloc, layer, place, &rects[index], given[index])?;
+        strips.push(strip)?;
+    }
+    Ok(strips)
+}
+
+// One of them.
+fn new_strip(
+    alloc: Global,
+    layer: &Layer,
+    place: &Place,
+    rect: &Rect,
+    given: bool,
+) -> Result<Strip, AllocError>
+    requires place { IsPlace layer.now place.now }
+    requires sizes { AreSizes (width rect.now) (height rect.now) layer.now.layer.bits.depth }
+    ensures { IfOk result (λ strip. IsNewStrip layer.now place.now.bounds rect.now given strip) }
+{
+    if given {
+        return Ok(Strip::blank(*rect, layer.depth()));
+    }
+    Ok(Strip::new(*rect, carry(alloc, layer, place, rect)?))
 }
 
 // A buffer for each of the rectangles with the pens that the layer keeps there, and a bitmap of one pixel where a buffer is

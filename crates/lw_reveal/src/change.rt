@@ -19,6 +19,7 @@ use lw_damage::Damage;
 use lw_layer::{Cell, Draft, DraftState, Layer, LiveDraft};
 use lw_planes::Planes;
 use lw_region::{Rect, Region};
+use lw_strips::Strip;
 use lw_super::write_back;
 use std::alloc::{AllocError, Global};
 
@@ -31,12 +32,13 @@ pub struct Change {
     pub parts: Parts,
     /// The damage of the revealed layer.
     pub damage: Damage,
-    /// For each new visible rectangle a buffer of its size, or a bitmap of one pixel where a former buffer is handed over.
-    pub buffers: Vec<Planes>,
-    /// The same for each new hidden rectangle of a smart layer; none for other layers.
+    /// A strip for each new visible rectangle, blank where a former bitmap is handed over.
+    pub strips: Vec<Strip>,
+    /// For each new hidden rectangle of a smart layer a buffer of its size, or a bitmap of one pixel where a former one is handed
+    /// over; none for other layers.
     pub covered: Vec<Planes>,
-    /// By the number of each former buffer beside an own bitmap, the visible rectangles' first, the number of the new buffer in
-    /// whose place it is handed over, if it is.
+    /// By the number of each former rectangle with a buffer beside an own bitmap, the visible ones first, the number of the new
+    /// rectangle to which its bitmap is handed over, if it is.
     pub handed: Vec<Option<usize>>,
 }
 
@@ -66,12 +68,12 @@ pub fn prepare(
         scroll_x: look.scroll_x,
         scroll_y: look.scroll_y,
     };
-    let (buffers, covered) = all_buffers(alloc, layer, &place, &pairing, shown)?;
+    let (strips, covered) = all_buffers(alloc, layer, &place, &pairing, shown)?;
     Ok(Change {
         bounds: place.bounds,
         parts,
         damage,
-        buffers,
+        strips,
         covered,
         handed: pairing.handed,
     })
@@ -124,16 +126,16 @@ fn changed(live: LiveDraft, change: Change) -> LiveDraft
     let _ = change.parts.hidden();
     write_whole(&mut live);
     hand_all(
-        &mut live.buffers,
+        &mut live.strips,
         &mut live.covered,
         &change.handed,
-        &mut change.buffers,
+        &mut change.strips,
         &mut change.covered,
     );
     live.bounds = change.bounds;
     live.parts = change.parts;
     live.damage = change.damage;
-    live.buffers = change.buffers;
+    live.strips = change.strips;
     live.covered = change.covered;
     live
 }

@@ -1,56 +1,90 @@
-// Handing former buffers over in the place of new ones.
+// Handing former bitmaps over in the place of new ones.
 
-ghost use Rattle.std.specs.Prelude.{◌≡◌, ℕ, ◌+◌, ◌<◌, ◌≤◌, ◌++◌, length, Some};
-ghost use Rattle.lw_reveal.specs.Handing.{placed, handed_over, HavePlaces};
+ghost use Rattle.std.specs.Prelude.{◌≡◌, ◌+◌, ◌≤◌, ◌++◌, length, true};
+ghost use Rattle.std.specs.List.{All};
+ghost use Rattle.lw_strips.specs.Strips.{rects_of, planes_of};
+ghost use Rattle.lw_reveal.specs.Changes.{held_in};
+ghost use Rattle.lw_reveal.specs.Handing.{placed, handed_over, HasPlace, HavePlaces};
 
 use lw_planes::Planes;
-use std::mem;
+use lw_strips::Strip;
 
-// Hands each of these buffers over to its place, if it has one. The places go through both lists.
-pub(crate) fn hand_over(
-    former: &mut [Planes],
+// Hands the bitmaps of former strips and former buffers over to their places, if they have one, and frees the others. The places
+// go through the new strips and the new buffers, one list after the other.
+pub(crate) fn hand_all(
+    shown: &mut Vec<Strip>,
+    hidden: &mut Vec<Planes>,
     handed: &[Option<usize>],
-    buffers: &mut [Planes],
+    strips: &mut [Strip],
     covered: &mut [Planes],
 )
-    requires long { length former.old ≤ length handed.now }
-    requires places { HavePlaces handed.now (length buffers.old + length covered.old) }
-    ensures { buffers.new ++ covered.new ≡ handed_over handed.now former.old (buffers.old ++ covered.old) }
+    requires many { length handed.now ≡ length shown.old.items + length hidden.old.items }
+    requires solid { All (λ s. s.solid ≡ true) shown.old.items }
+    requires places { HavePlaces handed.now (planes_of shown.old.items ++ hidden.old.items) (rects_of strips.old) (length covered.old) }
+    ensures held { held_in strips.new covered.new ≡
+        handed_over handed.now (planes_of shown.old.items ++ hidden.old.items) (held_in strips.old covered.old) }
+    ensures rects { rects_of strips.new ≡ rects_of strips.old }
+    ensures long { length covered.new ≡ length covered.old }
 {
-    for number in 0..former.len() {
-        hand(&mut former[number], handed[number], buffers, covered);
+    let rest = &handed[shown.len()..];
+    hand_buffers(hidden, rest, strips, covered);
+    hand_strips(shown, handed, strips, covered);
+}
+
+// The same for former strips.
+fn hand_strips(
+    former: &mut Vec<Strip>,
+    handed: &[Option<usize>],
+    strips: &mut [Strip],
+    covered: &mut [Planes],
+)
+    requires long { length former.old.items ≤ length handed.now }
+    requires solid { All (λ s. s.solid ≡ true) former.old.items }
+    requires places { HavePlaces handed.now (planes_of former.old.items) (rects_of strips.old) (length covered.old) }
+    ensures held { held_in strips.new covered.new ≡ handed_over handed.now (planes_of former.old.items) (held_in strips.old covered.old) }
+    ensures rects { rects_of strips.new ≡ rects_of strips.old }
+    ensures long { length covered.new ≡ length covered.old }
+{
+    while let Some(strip) = former.pop() {
+        match strip.into_planes() {
+            Some(planes) => hand(planes, handed[former.len()], strips, covered),
+            None => unreachable!(),
+        }
     }
 }
 
-// The same for the buffers of the visible rectangles and those of the hidden ones, one list after the other.
-pub(crate) fn hand_all(
-    shown: &mut [Planes],
-    hidden: &mut [Planes],
+// The same for former buffers.
+fn hand_buffers(
+    former: &mut Vec<Planes>,
     handed: &[Option<usize>],
-    buffers: &mut [Planes],
+    strips: &mut [Strip],
     covered: &mut [Planes],
 )
-    requires many { length handed.now ≡ length shown.old + length hidden.old }
-    requires places { HavePlaces handed.now (length buffers.old + length covered.old) }
-    ensures { buffers.new ++ covered.new ≡ handed_over handed.now (shown.old ++ hidden.old) (buffers.old ++ covered.old) }
+    requires long { length former.old.items ≤ length handed.now }
+    requires places { HavePlaces handed.now former.old.items (rects_of strips.old) (length covered.old) }
+    ensures held { held_in strips.new covered.new ≡ handed_over handed.now former.old.items (held_in strips.old covered.old) }
+    ensures rects { rects_of strips.new ≡ rects_of strips.old }
+    ensures long { length covered.new ≡ length covered.old }
 {
-    let rest = &handed[shown.len()..];
-    hand_over(shown, handed, buffers, covered);
-    hand_over(hidden, rest, buffers, covered);
+    while let Some(planes) = former.pop() {
+        hand(planes, handed[former.len()], strips, covered);
+    }
 }
 
-// Hands one buffer over.
-fn hand(former: &mut Planes, to: Option<usize>, buffers: &mut [Planes], covered: &mut [Planes])
-    requires { (i : ℕ) → to ≡ Some i → i < length buffers.old + length covered.old }
-    ensures { buffers.new ++ covered.new ≡ placed to former.old (buffers.old ++ covered.old) }
+// Hands one bitmap over, or frees it.
+fn hand(planes: Planes, to: Option<usize>, strips: &mut [Strip], covered: &mut [Planes])
+    requires { HasPlace to planes (rects_of strips.old) (length covered.old) }
+    ensures held { held_in strips.new covered.new ≡ placed to planes (held_in strips.old covered.old) }
+    ensures rects { rects_of strips.new ≡ rects_of strips.old }
+    ensures long { length covered.new ≡ length covered.old }
 {
     let Some(place) = to else {
         return;
     };
-    let shown = buffers.len();
+    let shown = strips.len();
     if place < shown {
-        mem::swap(former, &mut buffers[place]);
+        strips[place].fill(planes);
     } else {
-        mem::swap(former, &mut covered[place - shown]);
+        covered[place - shown] = planes;
     }
 }

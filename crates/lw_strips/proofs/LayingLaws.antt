@@ -27,6 +27,15 @@ strips_none window strips n b ok past =
     let free : covers (rects_of (drop n strips)) u v ≡ false = ap (λ ss. covers (rects_of ss) u v) (drop_all n strips past) ∙ covers_nil u v in
     sym (ap (λ t. if t then pen_in (drop n strips) u v else pen_at b x y) free))
 
+-- the pen of a place that the first strip has, or one behind it
+pub pen_in_nil : (x y : ℤ) → pen_in [] x y ≡ 0
+unfolding pen_in
+pen_in_nil x y = refl
+
+pub pen_in_cons : (s : StripView) (rest : List StripView) (x y : ℤ) → pen_in (s ∷ rest) x y ≡ (if has_pixel s.rect x y then strip_pen s x y else pen_in rest x y)
+unfolding pen_in
+pen_in_cons s rest x y = refl
+
 -- one strip more, in front of the others
 strips_cons : (window : Rectangle) (s : StripView) (rest : List StripView) (b : Bitmap) → with_strip window s (with_strips window rest b) ≡ with_strips window (s ∷ rest) b
 unfolding pen_in

@@ -31,8 +31,8 @@ abbrev pub total : ℕ → (ℕ → ℕ) → ℕ
 total zero f = 0
 total (suc n) f = total n f + f n
 
--- Whatever the owners lose of a rectangle, they gain: together they lose and gain as many as there are pieces of it. What one of
--- them loses or gains is as often in the list of the rectangles that it does.
+-- All owners together lose a rectangle as often as there are pieces of it, and gain it as often. In the list of the rectangles
+-- that one owner loses, or gains, a rectangle stands as often as that owner loses, or gains, it.
 pub record ExchangeLaw : Type 0 where
   pub losses : (pieces : List Piece) (n : ℕ) (r : Rectangle) → All (λ p. p.from < n) pieces → total n (λ owner. lost_by r owner pieces) ≡ pieces_of r pieces
   pub gains : (pieces : List Piece) (n : ℕ) (r : Rectangle) → All (λ p. p.to < n) pieces → total n (λ owner. gained_by r owner pieces) ≡ pieces_of r pieces

@@ -6,15 +6,14 @@ use Rattle.lw_region.specs.Bands.{covers}
 use Rattle.lw_planes.specs.Bitmap.{Bitmap, bitmap, pen_at}
 use Rattle.lw_strips.specs.Strips.{StripView, blank_planes, strip_of, rects_of, strip_pen, pen_in}
 
--- the bitmap on a window with these pens where the test holds, both asked at places of the screen
-abbrev pub laid : (ℤ → ℤ → Bool) → (ℤ → ℤ → ℕ) → Rectangle → Bitmap → Bitmap
-laid on pen window b =
-    bitmap b.width b.height b.depth
-    (λ x y. if on (window.min_x +ℤ pos x) (window.min_y +ℤ pos y) then pen (window.min_x +ℤ pos x) (window.min_y +ℤ pos y) else pen_at b x y)
+-- the bitmap whose pixel (0, 0) is the place (left, top), with these pens where the test holds, both asked at places
+abbrev pub laid : (ℤ → ℤ → Bool) → (ℤ → ℤ → ℕ) → ℤ → ℤ → Bitmap → Bitmap
+laid on pen left top b =
+    bitmap b.width b.height b.depth (λ x y. if on (left +ℤ pos x) (top +ℤ pos y) then pen (left +ℤ pos x) (top +ℤ pos y) else pen_at b x y)
 
 -- the bitmap on a window with the strip's pens where the strip is
 abbrev pub with_strip : Rectangle → StripView → Bitmap → Bitmap
-with_strip window s b = laid (λ x y. has_pixel s.rect x y) (λ x y. strip_pen s x y) window b
+with_strip window s b = laid (λ x y. has_pixel s.rect x y) (λ x y. strip_pen s x y) window.min_x window.min_y b
 
 -- the bitmap on a window with the pens of a rectangle's bitmap where the rectangle is
 abbrev pub with_planes : Rectangle → Rectangle → Bitmap → Bitmap → Bitmap
@@ -22,7 +21,7 @@ with_planes window r planes b = with_strip window (strip_of r planes.depth (Some
 
 -- the bitmap on a window with the strips' pens where some strip is, that of the first one that has the place
 abbrev pub with_strips : Rectangle → List StripView → Bitmap → Bitmap
-with_strips window strips b = laid (λ x y. covers (rects_of strips) x y) (λ x y. pen_in strips x y) window b
+with_strips window strips b = laid (λ x y. covers (rects_of strips) x y) (λ x y. pen_in strips x y) window.min_x window.min_y b
 
 -- the bitmap of a window, of so many planes: the strips' pens at their places, and pen 0 elsewhere
 abbrev pub composed : Rectangle → ℕ → List StripView → Bitmap
@@ -75,8 +74,8 @@ row_strip x pens = strip_of (record { min_x = x; min_y = pos 0; max_x = x +ℤ p
     (Some (record { width = length pens; height = 1; depth = 2; rows = pens ∷ [] }))
 
 -- A worked example: the pens 1 and 2 at columns 1 and 2 of row 0, before and behind a 3 at column 2, on a window of the columns 0
--- to 3 of that row; on one of the columns 2 and 3 and the rows -1 and 0; and laid there on pen 3. Then parts of one column and row,
--- of that row, and of a strip with the pens 1 and 2 at rows 1 and 2 of column 1.
+-- to 3 of that row; on one of the columns 2 and 3 and the rows -1 and 0; and laid there on pen 3. Then parts of one column and
+-- row, of that row, and of a strip with the pens 1 and 2 at rows 1 and 2 of column 1.
 abbrev pub WorkedExample : Type 0
 WorkedExample =
     let one = row_strip (pos 1) (1 ∷ 2 ∷ []) in

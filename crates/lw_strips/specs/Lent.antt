@@ -4,7 +4,9 @@ use Rattle.std.specs.Prelude.{ℕ, ◌+◌, ◌<◌, ◌≤◌, List, Option, So
 use Rattle.std.specs.Borrow.{Lends, MutBor, Fml, Array, u8}
 use Rattle.lw_planes.specs.Bitmap.{Bitmap}
 use Rattle.lw_planes.specs.Change.{with_row}
+use Rattle.lw_strips.specs.Blocks.{IsBlockOf, with_block}
 use Rattle.lw_strips.specs.Lending.{AreRowsOf}
+use Rattle.lw_strips.specs.declared.block.Block.{Block}
 use Rattle.lw_strips.specs.declared.strip.Pens.{Pens}
 use Rattle.lw_strips.specs.contracts.strip.Pens.{the_row}
 
@@ -25,3 +27,13 @@ changed plane y bytes (Some b) = Some (with_row b plane y bytes)
 
 abbrev pub LendsPens : MutBor Pens → ℕ → ℕ → MutBor (List ℕ) → Fml
 LendsPens pens plane y row = Lends the_row (Array u8 0) pens row (λ bytes. record pens.now { planes = changed plane y bytes pens.now.planes })
+
+-- there is a bitmap, and it has the block
+abbrev pub HaveBlock : Option Bitmap → Block → Bitmap → Type 0
+HaveBlock None k source = ⊥
+HaveBlock (Some b) k source = IsBlockOf k b source
+
+-- the bitmap with the block of the other one, if there is one
+abbrev pub with_copy : Block → Bitmap → Option Bitmap → Option Bitmap
+with_copy k source None = None
+with_copy k source (Some b) = Some (with_block k source b)

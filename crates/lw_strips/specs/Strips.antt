@@ -34,6 +34,14 @@ abbrev pub strip_of : Rectangle → ℕ → Option Bitmap → StripView
 strip_of r depth None = record { rect = r; planes = blank_planes r depth; solid = false }
 strip_of r depth (Some b) = record { rect = r; planes = b; solid = true }
 
+-- the strip with the pens of this bitmap
+abbrev pub filled : Bitmap → StripView → StripView
+filled b s = record { rect = s.rect; planes = b; solid = true }
+
+-- what a strip holds: the bitmap of its pens, where it has memory for them
+abbrev pub held_by : StripView → Option Bitmap
+held_by s = if s.solid then Some s.planes else None
+
 -- the strip's pen for the place at column x and row y of the screen
 abbrev pub strip_pen : StripView → ℤ → ℤ → ℕ
 strip_pen s x y = pen_at s.planes (natural (x -ℤ s.rect.min_x)) (natural (y -ℤ s.rect.min_y))
@@ -41,6 +49,10 @@ strip_pen s x y = pen_at s.planes (natural (x -ℤ s.rect.min_x)) (natural (y -�
 -- the rectangles of these strips
 abbrev pub rects_of : List StripView → List Rectangle
 rects_of strips = map (λ s. s.rect) strips
+
+-- the bitmaps of their pens
+abbrev pub planes_of : List StripView → List Bitmap
+planes_of strips = map (λ s. s.planes) strips
 
 -- the pen at column x and row y of the screen: that of the first strip of the list that has the place, and 0 where none has it
 unfoldable pub pen_in : List StripView → ℤ → ℤ → ℕ

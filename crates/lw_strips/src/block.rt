@@ -36,7 +36,7 @@ pub fn copy_block(to: &mut Planes, source: &Planes, block: Block)
     // Reading these tells the proof that the bitmaps are sound.
     let depth = to.depth();
     let _ = source.depth();
-    // No rows can't be lent.
+    // `rows` and `rows_mut` lend one row at least.
     if block.height == 0 {
         return;
     }
@@ -111,7 +111,7 @@ pub fn clear_block(to: &mut Planes, block: Block)
 {
     // Reading this tells the proof that the bitmap is sound.
     let depth = to.depth();
-    // No rows can't be lent.
+    // `rows` and `rows_mut` lend one row at least.
     if block.height == 0 {
         return;
     }

@@ -1,4 +1,4 @@
-//! Strips: rectangles of the screen with their pens, of which the shown pixels of all layers and of the desktop are made (the
+//! Strips: rectangles of the screen with their pens, as which the shown pixels of all layers and of the desktop are kept (the
 //! manual's Layers Library chapter shows clip rectangles; the form is this project's own).
 #![tactic(auto)]
 

@@ -50,7 +50,7 @@ fn overlap(x: i64, y: i64, width: u32, height: u32, to: &Planes) -> Option<Block
     })
 }
 
-// Along one axis, so many places from one on, which is the place `source` of another list.
+// `count` places from `at` on, along one axis: the first of them is the place `source` of another list.
 #[derive(Clone, Copy)]
 struct Part {
     at: u32,

@@ -95,8 +95,9 @@ impl Pool {
         Some(self.strips.remove(place))
     }
 
-    /// Takes a strip of each of these rectangles out of the pool, which has one for each, and frees them. All others stay in it
-    /// as they are.
+    /// Takes a strip of each of these rectangles out of the pool, which has one for each, and frees them. Strips are left in it
+    /// that were there before, of each rectangle as many as weren't claimed; their order isn't told, nor which of several strips
+    /// of one rectangle are freed.
     pub fn claim_all(&mut self, rects: &[Rect])
         requires { (r : Rectangle) → copies r rects.now ≤ copies_in r self.old.strips }
         ensures numbers { (r : Rectangle) → copies_in r self.old.strips ≡ copies_in r self.new.strips + copies r rects.now }

@@ -2,10 +2,12 @@ ghost use Rattle.std.specs.Prelude.{◌≡◌, ◌+◌, ◌<◌, ◌≤◌, true
 ghost use Rattle.std.specs.Borrow.{sem};
 ghost use Rattle.lw_region.specs.Rectangle.{width, height};
 ghost use Rattle.lw_planes.specs.Sizes.{AreSizes};
-ghost use Rattle.lw_strips.specs.Strips.{IsSizeOf, IsStrip, blank_planes};
+ghost use Rattle.lw_strips.specs.Blocks.{IsBlockOf, with_block};
+ghost use Rattle.lw_strips.specs.Strips.{IsSizeOf, IsStrip, blank_planes, filled};
 ghost use Rattle.lw_strips.specs.Lending.{AreRowsOf, LendsRows};
-ghost use Rattle.lw_strips.specs.Lent.{HaveRows, AreRows, LendsPens};
+ghost use Rattle.lw_strips.specs.Lent.{HaveRows, AreRows, LendsPens, HaveBlock, with_copy};
 
+use crate::block::{Block, copy_block};
 use lw_planes::Planes;
 use lw_region::Rect;
 use std::marker::Model;
@@ -95,6 +97,18 @@ impl Strip {
         self.pens.planes.as_ref()
     }
 
+    /// The bitmap of the pens of a solid strip.
+    pub fn bitmap(&self) -> &Planes
+        requires { self.now.solid ≡ true }
+        ensures value { result.now ≡ self.now.planes }
+        ensures strip { IsStrip self.now }
+    {
+        match self.planes() {
+            Some(planes) => planes,
+            None => unreachable!(),
+        }
+    }
+
     /// The bitmap of the pens without the strip, if the strip is solid; `None` exactly where it is blank. No memory is taken or
     /// freed.
     pub fn into_planes(self) -> Option<Planes>
@@ -106,8 +120,34 @@ impl Strip {
         pens.planes
     }
 
-    /// Lends the bytes of `rows` rows of one plane of a solid strip, one at least, from row `y` of its bitmap on, all in range, as
-    /// `Planes::rows_mut` does. After the loan each pixel of these rows has in this plane the bit that the bytes then hold,
+    /// Gives the strip the pens and the number of planes of this bitmap, which has the rectangle's width and height, in place of
+    /// those that it has, and frees these.
+    pub fn fill(&mut self, planes: Planes)
+        requires { IsSizeOf self.old.rect planes }
+        ensures { self.new ≡ filled planes self.old }
+    {
+        // Reading these tells the proof that the rectangle is ordered and the bitmap sound.
+        let _ = self.rect.min_x();
+        self.pens = Pens {
+            depth: planes.depth(),
+            planes: Some(planes),
+        };
+    }
+
+    /// Copies a block of pixels into the pens of a solid strip, as `copy_block` does. No memory is taken.
+    pub fn copy_block(&mut self, source: &Planes, block: Block)
+        requires solid { self.old.solid ≡ true }
+        requires block { IsBlockOf block self.old.planes source.now }
+        ensures { self.new ≡ filled (with_block block source.now self.old.planes) self.old }
+    {
+        // Reading this tells the proof that the source is sound.
+        let _ = source.depth();
+        let pens = &mut self.pens;
+        pens.copy_block(source, block);
+    }
+
+    /// Lends the bytes of `rows` rows of one plane of a solid strip, one at least, from row `y` of its bitmap on, all in range,
+    /// as `Planes::rows_mut` does. After the loan each pixel of these rows has in this plane the bit that the bytes then hold,
     /// and all else stays as it was.
     pub fn rows_mut(&mut self, plane: u32, y: u32, rows: u32) -> &mut [u8]
         requires solid { self.old.solid ≡ true }
@@ -124,6 +164,17 @@ impl Strip {
 }
 
 impl Pens {
+    // Copies a block of pixels into the bitmap.
+    fn copy_block(&mut self, source: &Planes, block: Block)
+        requires { HaveBlock self.old.planes block source.now }
+        ensures { self.new ≡ record self.old { planes = with_copy block source.now self.old.planes } }
+    {
+        match &mut self.planes {
+            Some(planes) => copy_block(planes, source, block),
+            None => unreachable!(),
+        }
+    }
+
     // Lends rows of the bitmap.
     fn rows_mut(&mut self, plane: u32, y: u32, rows: u32) -> &mut [u8]
         requires some { 0 < rows }

@@ -1,7 +1,10 @@
--- What the draft of a super-bitmap layer stands for once its own bitmap has all its bits, and its visible rectangles show another portion.
-use Rattle.std.proofs.Common.{◌≡◌, ℕ, suc, ◌+◌, ◌||◌, int_le, ◌<◌, ◌≤◌, Bool, true, false, ◌&&◌, nat_lt, if◌then◌else◌, List, [], ◌∷◌, ◌++◌, length, get_or, Option, Some, ◌∙◌, sym, refl, ap, subst, arith, ⊎_elim, ℤ, pos, ◌+ℤ◌, ◌-ℤ◌, ◌≤ℤ◌, unsigned_abs, length-append, append-nil, take, drop}
+-- What the draft of a super-bitmap layer stands for once its own bitmap has all its bits, and its visible rectangles show another
+-- portion.
+use Rattle.std.proofs.Common.{◌≡◌, ℕ, suc, ◌+◌, ◌||◌, int_le, ◌<◌, ◌≤◌, Bool, true, false, ◌&&◌, nat_lt, if◌then◌else◌, List, [], ◌∷◌, ◌++◌, length, get_or, map, Option, Some, ◌∙◌, sym, refl, ap, subst, arith, ⊎_elim, ℤ, pos, ◌+ℤ◌, ◌-ℤ◌, ◌≤ℤ◌, unsigned_abs, length-append, append-nil, take, drop}
 use Rattle.std.proofs.lemmas.Bool.{and_parts, cases_lt}
+use Rattle.std.specs.List.{All}
 use Rattle.std.proofs.lemmas.Int.{ints}
+use Rattle.lw_strips.specs.Strips.{StripView, rects_of, planes_of}
 use Rattle.std.proofs.lemmas.List.{drop_all, take_all, get_or_append_left, get_or_at, get_or-map, length-map, nil_from_length}
 use Rattle.lw_region.specs.Rectangle.{Rectangle, has_pixel, IsOrdered, columns_of, rows_of, width, height}
 use Rattle.lw_region.specs.Bands.{covers}
@@ -24,17 +27,17 @@ use Rattle.lw_machine.specs.Kept.{is_kept, kept_as}
 use Rattle.lw_machine.proofs.Seen.{holds_same}
 use Rattle.lw_layer.specs.View.{LiveView, keeps, with_layer}
 use Rattle.lw_layer.specs.Pieces.{buffered, rest_of, whole_of, damage_table}
-use Rattle.lw_layer.specs.Drafts.{IsLiveDraft, IsBuffer, AreBuffers, IsRest, layout, buffers_of, no_bitmap, live_view}
+use Rattle.lw_layer.specs.Drafts.{IsLiveDraft, IsBuffer, AreBuffers, IsRest, layout, visible_planes, buffers_of, no_bitmap, live_view}
 use Rattle.lw_layer.specs.declared.draft.LiveDraft.{LiveDraft}
 use Rattle.lw_layer.proofs.BitsLaws.{live_bits}
-use Rattle.lw_layer.proofs.BufferLaws.{shown_buffer}
+use Rattle.lw_layer.proofs.BufferLaws.{planes_many, planes_shown, shown_buffer}
 use Rattle.lw_layer.proofs.CopyingLaws.{natural_distance, not_below}
-use Rattle.lw_super.specs.Shown.{axis_fits, IsShown, AreShown, portion, portions, portions_of, left_of, top_of, draft_fits, IsNear, scrolled_by}
+use Rattle.lw_super.specs.Shown.{axis_fits, IsShown, AreShown, portion, portions, refilled, refilled_by, left_of, top_of, draft_fits, IsNear, scrolled_by}
 use Rattle.lw_super.proofs.WritingLaws.{super_is, super_rest, super_pieces, super_bits, buffer_moved, scroll_is, are_shown}
 
 -- the draft with all bits in its own bitmap, scrolled to (x, y), and with another's buffers of visible rectangles
 abbrev pub scrolled_to : LiveDraft → LiveDraft → ℤ → ℤ → LiveDraft
-scrolled_to d v x y = record d { superbits = Some (live_view d).layer.bits; scroll_x = x; scroll_y = y; buffers = v.buffers }
+scrolled_to d v x y = record d { superbits = Some (live_view d).layer.bits; scroll_x = x; scroll_y = y; strips = v.strips }
 
 -- what is asked of that portion and these buffers
 pub record MayScrollTo (d v : LiveDraft) (x y : ℤ) : Type 0 where
@@ -42,8 +45,25 @@ pub record MayScrollTo (d v : LiveDraft) (x y : ℤ) : Type 0 where
   pub upper : pos 0 ≤ℤ y
   pub right : unsigned_abs x + width d.bounds ≤ (layout d).width
   pub lower : unsigned_abs y + height d.bounds ≤ (layout d).height
-  pub many : length v.buffers.items ≡ length d.parts.visible
-  pub each : (n : ℕ) → n < length d.parts.visible → IsBuffer d.depth (get_or d.parts.visible n d.bounds) (get_or v.buffers.items n no_bitmap)
+  pub many : length (visible_planes v) ≡ length d.parts.visible
+  pub rects : rects_of v.strips.items ≡ d.parts.visible
+  pub solid : All (λ (s : StripView). s.solid ≡ true) v.strips.items
+  pub each : (n : ℕ) → n < length d.parts.visible → IsBuffer d.depth (get_or d.parts.visible n d.bounds) (get_or (visible_planes v) n no_bitmap)
+
+-- the strips that were filled anew
+refilled_rects : (own : Bitmap) (left top : ℤ) (strips : List StripView) → rects_of (map (λ s. refilled own left top s) strips) ≡ rects_of strips
+refilled_rects own left top [] = refl
+refilled_rects own left top (s ∷ rest) = ap (λ q. s.rect ∷ q) (refilled_rects own left top rest)
+
+refilled_planes : (own : Bitmap) (left top : ℤ) (strips : List StripView) → planes_of (map (λ s. refilled own left top s) strips) ≡ portions own left top (rects_of strips)
+refilled_planes own left top [] = refl
+refilled_planes own left top (s ∷ rest) = ap (λ q. portion own left top s.rect ∷ q) (refilled_planes own left top rest)
+
+refilled_solid : (own : Bitmap) (left top : ℤ) (strips : List StripView) → All (λ (s : StripView). s.solid ≡ true) (map (λ s. refilled own left top s) strips)
+refilled_solid own left top strips =
+    λ k s inside.
+    let below : k < length strips = omega (arith, length-map strips (λ q. refilled own left top q)) in
+    ap (λ (q : StripView). q.solid) (get_or-map (λ q. refilled own left top q) strips k s s below)
 
 -- a super-bitmap layer keeps all its pixels
 kept_super : (kind : Kind) → kind ≡ SuperBitmap → (a b : Bool) → kept_as kind a ≡ kept_as kind b
@@ -89,7 +109,7 @@ scrolled_buffers d v x y super ok may =
     let e = scrolled_to d v x y in
     let bits = (live_view d).layer.bits in
     let none = nil_from_length d.covered.items (super_rest d.kind _ _ _ super ok.rest).0 in
-    let buffers : buffers_of e ≡ v.buffers.items ++ (bits ∷ []) = ap (λ q. v.buffers.items ++ (q ++ (bits ∷ []))) none in
+    let buffers : buffers_of e ≡ visible_planes v ++ (bits ∷ []) = ap (λ q. visible_planes v ++ (q ++ (bits ∷ []))) none in
     let P : List Rectangle → Type 0 = λ rs. AreBuffers d.depth rs (buffers_of e) d.bounds in
     let Q : List Bitmap → Type 0 = λ bs. AreBuffers d.depth (d.parts.visible ++ (whole_of (layout e) ∷ [])) bs d.bounds in
     let whole : IsBuffer d.depth (whole_of (layout e)) bits = record {
@@ -98,7 +118,7 @@ scrolled_buffers d v x y super ok may =
       height = extent_is (whole_of (layout e)).min_y (layout d).height;
       planes = refl;
     } in
-    subst P (sym (super_pieces e bits super)) (subst Q (sym buffers) (buffers_last d.depth d.parts.visible v.buffers.items d.bounds (whole_of (layout e)) bits may.many may.each whole))
+    subst P (sym (super_pieces e bits super)) (subst Q (sym buffers) (buffers_last d.depth d.parts.visible (visible_planes v) d.bounds (whole_of (layout e)) bits may.many may.each whole))
 
 -- the draft stays one
 pub scrolled_sound : (d v : LiveDraft) (x y : ℤ) → d.kind ≡ SuperBitmap → IsLiveDraft d → MayScrollTo d v x y
@@ -115,7 +135,8 @@ scrolled_sound d v x y super ok may = record {
     lower = may.lower;
   };
   mode = ok.mode;
-  shown = may.many;
+  shown = may.rects;
+  solid = may.solid;
   rest = rest_still d.kind _ _ d.superbits _ super ok.rest;
   buffers = scrolled_buffers d v x y super ok may;
   inner = ok.inner;
@@ -142,14 +163,14 @@ scrolled_view c x y = with_layer (λ l. record l { scroll_x = unsigned_abs x; sc
 
 -- the draft stands for the layer scrolled so, where its visible rectangles show what its own bitmap has
 pub scrolled_shows : (d v : LiveDraft) (x y : ℤ) → d.kind ≡ SuperBitmap → IsLiveDraft d → MayScrollTo d v x y
-    → ((i j : ℕ) → i < (layout d).width → j < (layout d).height → covers d.parts.visible ((d.bounds.min_x -ℤ x) +ℤ pos i) ((d.bounds.min_y -ℤ y) +ℤ pos j) ≡ true → pen_in d.parts.visible v.buffers.items ((d.bounds.min_x -ℤ x) +ℤ pos i) ((d.bounds.min_y -ℤ y) +ℤ pos j) ≡ pen_at (live_view d).layer.bits i j)
+    → ((i j : ℕ) → i < (layout d).width → j < (layout d).height → covers d.parts.visible ((d.bounds.min_x -ℤ x) +ℤ pos i) ((d.bounds.min_y -ℤ y) +ℤ pos j) ≡ true → pen_in d.parts.visible (visible_planes v) ((d.bounds.min_x -ℤ x) +ℤ pos i) ((d.bounds.min_y -ℤ y) +ℤ pos j) ≡ pen_at (live_view d).layer.bits i j)
     → live_view (scrolled_to d v x y) ≡ scrolled_view (live_view d) x y
 scrolled_shows d v x y super ok may same =
     let e = scrolled_to d v x y in
     let bits = (live_view d).layer.bits in
     let planes = live_bits d ok in
     let is : (live_view e).layer.bits ≡ bits =
-    super_bits e bits super (scrolled_sound d v x y super ok may) ∙ shown_again d.parts.visible v.buffers.items (left_of e) (top_of e) bits planes.bitmap same in
+    super_bits e bits super (scrolled_sound d v x y super ok may) ∙ shown_again d.parts.visible (visible_planes v) (left_of e) (top_of e) bits planes.bitmap same in
     ap (λ (b : Bitmap). record (live_view e) { layer = record (live_view e).layer { bits = b; damage = damage_table b d.damage.rects } }) is
 
 -- the pieces beside the visible rectangles
@@ -166,11 +187,13 @@ back_may d ok = record {
   upper = ok.scroll_y;
   right = ok.scrolled.right;
   lower = ok.scrolled.lower;
-  many = ok.shown;
+  many = planes_shown d ok;
+  rects = ok.shown;
+  solid = ok.solid;
   each =
       λ n below.
       let long = length-append d.parts.visible (rest_pieces d) in
-      buffer_moved d.depth d.depth _ _ _ _ refl (get_or_append_left d.parts.visible (rest_pieces d) d.bounds n below) (shown_buffer d n (omega (arith, ok.shown))) (ok.buffers.each n (omega arith));
+      buffer_moved d.depth d.depth _ _ _ _ refl (get_or_append_left d.parts.visible (rest_pieces d) d.bounds n below) (shown_buffer d n (omega (arith, planes_many d, planes_shown d ok))) (ok.buffers.each n (omega arith));
 }
 
 -- the rectangle isn't left of the bitmap, nor above it
@@ -281,6 +304,8 @@ moved_may d x y ok ordered fits =
       right = room_is x d.bounds.min_x d.bounds.max_x (layout d).width fits.left ordered.columns fits.right;
       lower = room_is y d.bounds.min_y d.bounds.max_y (layout d).height fits.upper ordered.rows fits.lower;
       many = still.many;
+      rects = still.rects;
+      solid = still.solid;
       each = still.each;
     }
 
@@ -301,9 +326,9 @@ moved_sound d w dx dy is super ok ordered fits =
 moved_by_portions : (d v : LiveDraft) (hidden : List Rectangle) (x y : ℤ) → is_super d.kind ≡ true → IsLiveDraft d
     → IsOrdered d.bounds → IsCanonical d.parts.visible → AreDivided d.parts.bounds d.parts.visible hidden
     → portion_fits x y (layout d).width (layout d).height d.bounds ≡ true
-    → v.buffers.items ≡ portions (live_view d).layer.bits (d.bounds.min_x -ℤ x) (d.bounds.min_y -ℤ y) d.parts.visible
+    → v.strips.items ≡ map (λ s. refilled (live_view d).layer.bits (d.bounds.min_x -ℤ x) (d.bounds.min_y -ℤ y) s) d.strips.items
     → IsMoved d (scrolled_to d v x y) x y
-moved_by_portions d v hidden x y super ok ordered canonical divided fits is =
+moved_by_portions d v hidden x y super ok ordered canonical divided fits strips_are =
     let kind = super_is d.kind super in
     let bits = (live_view d).layer.bits in
     let left : ℤ = d.bounds.min_x -ℤ x in
@@ -311,17 +336,21 @@ moved_by_portions d v hidden x y super ok ordered canonical divided fits is =
     let visible = d.parts.visible in
     let parts = fits_parts _ _ _ _ _ fits in
     let still = moved_may d x y ok ordered parts in
-    let shown : AreShown bits left top visible d.buffers.items = are_shown (scrolled_to d d x y) bits hidden kind (scrolled_sound d d x y kind ok still) canonical divided in
+    let shown : AreShown bits left top visible (visible_planes d) = are_shown (scrolled_to d d x y) bits hidden kind (scrolled_sound d d x y kind ok still) canonical divided in
+    let is : visible_planes v ≡ portions bits left top visible =
+    ap (λ ss. planes_of ss) strips_are ∙ (refilled_planes bits left top d.strips.items ∙ ap (λ rs. portions bits left top rs) ok.shown) in
     let may : MayScrollTo d v x y = record {
       left = still.left;
       upper = still.upper;
       right = still.right;
       lower = still.lower;
       many = ap (λ bs. length bs) is ∙ length-map visible (λ r. portion bits left top r);
+      rects = ap (λ ss. rects_of ss) strips_are ∙ (refilled_rects bits left top d.strips.items ∙ ok.shown);
+      solid = let P : List StripView → Type 0 = λ ss. All (λ (s : StripView). s.solid ≡ true) ss in subst P (sym strips_are) (refilled_solid bits left top d.strips.items);
       each =
           λ n below.
           buffer_moved d.depth d.depth _ _ _ _ refl refl (sym (ap (λ bs. get_or bs n no_bitmap) is ∙ get_or-map (λ r. portion bits left top r) visible n d.bounds no_bitmap below))
-          (portion_buffer bits left top (get_or visible n d.bounds) (get_or d.buffers.items n no_bitmap) (live_bits d ok) (shown.each n d.bounds no_bitmap below));
+          (portion_buffer bits left top (get_or visible n d.bounds) (get_or (visible_planes d) n no_bitmap) (live_bits d ok) (shown.each n d.bounds no_bitmap below));
     } in
     record {
       sound = scrolled_sound d v x y kind ok may;
@@ -332,19 +361,19 @@ moved_by_portions d v hidden x y super ok ordered canonical divided fits is =
           ∙ portions_pen bits left top visible i j (λ n r below. let one = shown.each n r no_bitmap below in (one.left_edge, one.top_edge)) has);
     }
 
--- the portions of an own bitmap that is told
-pub show_gives : (d : LiveDraft) (own : Bitmap) (visible : List Rectangle) (new : List Bitmap) (left top : ℤ)
-    → d.superbits ≡ Some own → left ≡ left_of d → top ≡ top_of d → visible ≡ d.parts.visible → new ≡ portions own left top visible
-    → new ≡ portions_of d.superbits (left_of d) (top_of d) d.parts.visible
-show_gives d own visible new left top is is_left is_top is_visible new_is =
+-- the strips with their portions of an own bitmap that is told
+pub show_gives : (d : LiveDraft) (own : Bitmap) (strips new : List StripView) (left top : ℤ)
+    → d.superbits ≡ Some own → left ≡ left_of d → top ≡ top_of d → strips ≡ d.strips.items → new ≡ map (λ s. refilled own left top s) strips
+    → new ≡ refilled_by d.superbits (left_of d) (top_of d) d.strips.items
+show_gives d own strips new left top is is_left is_top is_strips new_is =
     new_is
-    ∙ (ap (λ z. portions own z top visible) is_left
-    ∙ (ap (λ z. portions own (left_of d) z visible) is_top
-    ∙ (ap (λ rs. portions own (left_of d) (top_of d) rs) is_visible
-    ∙ ap (λ o. portions_of o (left_of d) (top_of d) d.parts.visible) (sym is))))
+    ∙ (ap (λ z. map (λ s. refilled own z top s) strips) is_left
+    ∙ (ap (λ z. map (λ s. refilled own (left_of d) z s) strips) is_top
+    ∙ (ap (λ ss. map (λ s. refilled own (left_of d) (top_of d) s) ss) is_strips
+    ∙ ap (λ o. refilled_by o (left_of d) (top_of d) d.strips.items) (sym is))))
 
 -- a slice given back to its vector
-pub slice_back : (items new : List Bitmap) (len : ℕ) → length new ≡ length items → len ≡ length items
+pub slice_back : (items new : List StripView) (len : ℕ) → length new ≡ length items → len ≡ length items
     → take len (new ++ drop (length new) items) ≡ new
 slice_back items new len same is =
     ap (λ q. take len (new ++ q)) (drop_all (length new) items (omega arith)) ∙ (ap (λ q. take len q) (append-nil new) ∙ take_all len new (omega arith))
@@ -364,16 +393,16 @@ moved_y_told d x y ok ordered fits =
 
 -- the draft once its portion was moved and its visible rectangles' buffers were filled anew
 pub moved_live : (d w n : LiveDraft) (hidden : List Rectangle) (dx dy : ℤ) → w ≡ scrolled_by d dx dy
-    → n ≡ record w { buffers = n.buffers } → n.buffers.items ≡ portions_of w.superbits (left_of w) (top_of w) w.parts.visible
+    → n ≡ record w { strips = n.strips } → n.strips.items ≡ refilled_by w.superbits (left_of w) (top_of w) w.strips.items
     → is_super d.kind ≡ true → IsLiveDraft d → IsOrdered d.bounds → IsCanonical d.parts.visible
     → AreDivided d.parts.bounds d.parts.visible hidden → draft_fits d dx dy ≡ true
     → IsMoved d n (d.scroll_x +ℤ dx) (d.scroll_y +ℤ dy)
-moved_live d w n hidden dx dy w_is rest buffers super ok ordered canonical divided fits =
+moved_live d w n hidden dx dy w_is rest strips super ok ordered canonical divided fits =
     let x : ℤ = d.scroll_x +ℤ dx in
     let y : ℤ = d.scroll_y +ℤ dy in
-    let n_is : n ≡ scrolled_to d n x y = rest ∙ ap (λ (q : LiveDraft). record q { buffers = n.buffers }) w_is in
-    let items : n.buffers.items ≡ portions (live_view d).layer.bits (d.bounds.min_x -ℤ x) (d.bounds.min_y -ℤ y) d.parts.visible =
-    buffers ∙ ap (λ (q : LiveDraft). portions_of q.superbits (left_of q) (top_of q) q.parts.visible) w_is in
+    let n_is : n ≡ scrolled_to d n x y = rest ∙ ap (λ (q : LiveDraft). record q { strips = n.strips }) w_is in
+    let items : n.strips.items ≡ map (λ s. refilled (live_view d).layer.bits (d.bounds.min_x -ℤ x) (d.bounds.min_y -ℤ y) s) d.strips.items =
+    strips ∙ ap (λ (q : LiveDraft). refilled_by q.superbits (left_of q) (top_of q) q.strips.items) w_is in
     let P : LiveDraft → Type 0 = λ q. IsMoved d q x y in
     subst P (sym n_is) (moved_by_portions d n hidden x y super ok ordered canonical divided fits items)
 

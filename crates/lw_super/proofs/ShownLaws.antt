@@ -1,18 +1,17 @@
 -- Portions of a bitmap on rectangles of the screen's plane.
-use Rattle.std.proofs.Common.{◌≡◌, ℕ, ◌+◌, ◌-◌, ◌<◌, true, ◌&&◌, if◌then◌else◌, List, length, get_or, ◌∙◌, sym, ap, subst, arith, ℤ, pos, ◌-ℤ◌}
-use Rattle.std.specs.List.{All}
+use Rattle.std.proofs.Common.{◌≡◌, ℕ, ◌+◌, ◌-◌, ◌<◌, ◌≤◌, true, ◌&&◌, if◌then◌else◌, List, ◌++◌, length, get_or, map, take, drop, ◌∙◌, sym, ap, subst, arith, ℤ, pos, ◌+ℤ◌, ◌-ℤ◌, ◌≤ℤ◌, unsigned_abs}
 use Rattle.std.proofs.lemmas.Bool.Decides.{nat_tests}
 use Rattle.std.proofs.lemmas.Int.{ints}
-use Rattle.std.proofs.lemmas.List.{ext_get_or, get_or-map, length-map}
+use Rattle.std.proofs.lemmas.List.{get_or-append_right, length-map, length-take-le, drop_more}
 use Rattle.lw_region.specs.Rectangle.{Rectangle, width, height}
 use Rattle.lw_region.specs.Order.{natural}
 use Rattle.lw_planes.specs.Bitmap.{Bitmap, bitmap, pen_at}
 use Rattle.lw_planes.proofs.BitmapLaws.{bitmap_same}
 use Rattle.lw_kernels.specs.Kernel.{is_named}
-use Rattle.lw_buffers.specs.Lookup.{AreBuffers}
-use Rattle.lw_layer.specs.Drafts.{IsBuffer, no_bitmap}
-use Rattle.lw_strips.specs.Blocks.{block_pen, with_block}
-use Rattle.lw_super.specs.Shown.{IsShown, AreShown, portion, portions}
+use Rattle.lw_layer.specs.Drafts.{IsBuffer}
+use Rattle.lw_strips.specs.Blocks.{IsBlockOf, block_pen, with_block}
+use Rattle.lw_strips.specs.Strips.{StripView}
+use Rattle.lw_super.specs.Shown.{IsShown, AreShownStrips, portion, refilled}
 use Rattle.lw_strips.specs.declared.block.Block.{Block}
 
 natural_is : (z : ℤ) (n : ℕ) → z ≡ pos n → n ≡ natural z
@@ -40,37 +39,33 @@ block_portion k own b r left top buffer zero_x zero_y across down wide high =
     ∙ (ap (λ n. bitmap (width r) n b.depth (λ x y. pen_at own (natural (r.min_x -ℤ left) + x) (natural (r.min_y -ℤ top) + y))) buffer.height
     ∙ ap (λ n. bitmap (width r) (height r) n (λ x y. pen_at own (natural (r.min_x -ℤ left) + x) (natural (r.min_y -ℤ top) + y))) buffer.planes))
 
--- the buffers are of their rectangles' sizes, and have the bitmap's planes
-pub shown_sizes : (own : Bitmap) (left top : ℤ) (rects : List Rectangle) (buffers : List Bitmap) → AreShown own left top rects buffers → AreBuffers rects buffers
-shown_sizes own left top rects buffers are = record {
-  as_many = are.many;
-  sizes =
-      λ k r b inside.
-      let s = are.each k r b inside in
-      record { columns = omega (arith, ints, s.buffer.width, s.ordered.columns); rows = omega (arith, ints, s.buffer.height, s.ordered.rows) };
+-- and it lies in both
+block_fits : (low high left : ℤ) (at wide n : ℕ) → low ≤ℤ high → (high +ℤ pos 1) ≤ℤ (left +ℤ pos n) → pos at ≡ low -ℤ left
+    → wide ≡ unsigned_abs ((high +ℤ pos 1) -ℤ low) → at + wide ≤ n
+block_fits low high left at wide n ordered edge across is = omega (arith, ints)
+
+pub block_of : (k : Block) (own b : Bitmap) (r : Rectangle) (left top : ℤ) → IsShown own left top r b → k.x ≡ 0 → k.y ≡ 0
+    → pos k.source_x ≡ r.min_x -ℤ left → pos k.source_y ≡ r.min_y -ℤ top → k.width ≡ b.width → k.height ≡ b.height → IsBlockOf k b own
+block_of k own b r left top shown zero_x zero_y across down wide high = record {
+  right = omega (arith, zero_x, wide);
+  lower = omega (arith, zero_y, high);
+  source_right = block_fits r.min_x r.max_x left k.source_x k.width own.width shown.ordered.columns shown.right_edge across (wide ∙ shown.buffer.width);
+  source_lower = block_fits r.min_y r.max_y top k.source_y k.height own.height shown.ordered.rows shown.bottom_edge down (high ∙ shown.buffer.height);
+  planes = sym shown.buffer.planes;
 }
 
-pub shown_deep : (own : Bitmap) (left top : ℤ) (rects : List Rectangle) (buffers : List Bitmap) → AreShown own left top rects buffers → All (λ (b : Bitmap). b.depth ≡ own.depth) buffers
-shown_deep own left top rects buffers are =
-    let none : Rectangle = record { min_x = pos 0; min_y = pos 0; max_x = pos 0; max_y = pos 0 } in
-    λ k b inside. (are.each k none b (omega (arith, are.many))).buffer.planes
+-- a strip that isn't reached so far is as it was
+pub not_reached : (f : StripView → StripView) (xs ys : List StripView) (i : ℕ) (d : StripView) → i < length xs → ys ≡ map f (take i xs) ++ drop i xs → get_or ys i d ≡ get_or xs i d
+not_reached f xs ys i d inside is =
+    let long : length (map f (take i xs)) ≡ i = length-map (take i xs) f ∙ length-take-le i xs (omega arith) in
+    let zero : i - i ≡ 0 = omega arith in
+    ap (λ q. get_or q i d) is
+    ∙ (get_or-append_right (map f (take i xs)) (drop i xs) i i d long (omega arith)
+    ∙ (ap (λ n. get_or (drop i xs) n d) zero ∙ ap (λ q. get_or q 0 d) (drop_more xs i d inside)))
 
--- all buffers are their rectangles' portions
-pub all_portions : (own : Bitmap) (left top : ℤ) (rects : List Rectangle) (buffers : List Bitmap) → length buffers ≡ length rects
-    → ((n : ℕ) (r : Rectangle) (b : Bitmap) → n < length rects → get_or buffers n b ≡ portion own left top (get_or rects n r))
-    → buffers ≡ portions own left top rects
-all_portions own left top rects buffers many each =
-    let none : Rectangle = record { min_x = pos 0; min_y = pos 0; max_x = pos 0; max_y = pos 0 } in
-    ext_get_or no_bitmap buffers (portions own left top rects) (many ∙ sym (length-map rects (λ r. portion own left top r)))
-    (λ i below.
-    let inside : i < length rects = omega (arith, many) in
-    each i none no_bitmap inside ∙ sym (get_or-map (λ r. portion own left top r) rects i none no_bitmap inside))
-
--- the same, where the buffer is still the one that the lists began with
-pub shown_left : (own : Bitmap) (left top : ℤ) (rects : List Rectangle) (buffers now : List Bitmap) (n : ℕ) (r : Rectangle) (b : Bitmap)
-    → AreShown own left top rects buffers → n < length rects → r ≡ get_or rects n r
-    → ((c : Bitmap) → get_or now n c ≡ get_or buffers n c) → IsShown own left top r (get_or now n b)
-shown_left own left top rects buffers now n r b are inside first stays =
-    let P : Rectangle → Type 0 = λ q. IsShown own left top q (get_or now n b) in
-    let Q : Bitmap → Type 0 = λ q. IsShown own left top (get_or rects n r) q in
-    subst P (sym first) (subst Q (sym (stays b)) (are.each n r b inside))
+-- so it may be filled
+pub still_shown : (own : Bitmap) (left top : ℤ) (xs ys : List StripView) (i : ℕ) (s : StripView) → AreShownStrips own left top xs → i < length xs
+    → ys ≡ map (λ q. refilled own left top q) (take i xs) ++ drop i xs → s ≡ get_or ys i s → (s.solid ≡ true) × IsShown own left top s.rect s.planes
+still_shown own left top xs ys i s all inside is at =
+    let P : StripView → Type 0 = λ q. (q.solid ≡ true) × IsShown own left top q.rect q.planes in
+    subst P (sym (at ∙ not_reached (λ q. refilled own left top q) xs ys i s inside is)) (all i s inside)

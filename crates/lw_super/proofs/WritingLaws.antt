@@ -1,9 +1,10 @@
 -- The bits of a super-bitmap layer are its own bitmap with the pens of its visible rectangles.
 use Rattle.std.proofs.Common.{◌≡◌, ℕ, ◌+◌, ◌<◌, ◌≤◌, true, if◌then◌else◌, List, [], ◌∷◌, ◌++◌, length, get_or, Option, Some, None, ◌∙◌, sym, refl, ap, subst, arith, ℤ, pos, negsuc, ◌+ℤ◌, ◌-ℤ◌, ◌≤ℤ◌, unsigned_abs, length-append, FitsSigned, w16, w32, to_z, of_z}
-use Rattle.std.specs.List.{slice_index_or}
+use Rattle.std.specs.List.{All, slice_index_or}
+use Rattle.lw_strips.specs.Strips.{StripView, rects_of, planes_of}
 use Rattle.std.specs.Int.Signed.{≤ℤ_refl}
 use Rattle.std.proofs.lemmas.Int.{ints}
-use Rattle.std.proofs.lemmas.List.{get_or_append_left, get_or_default, get_or_at, nil_from_length}
+use Rattle.std.proofs.lemmas.List.{get_or_append_left, get_or_default, get_or_at, get_or-map, nil_from_length}
 use Rattle.std.proofs.lemmas.Bool.{and_parts, and_from}
 use Rattle.lw_region.specs.Rectangle.{Rectangle, has_pixel}
 use Rattle.lw_region.specs.Bands.{covers}
@@ -21,9 +22,10 @@ use Rattle.lw_calls.specs.declared.make.Kind.TheVariants.{Simple, Smart, SuperBi
 use Rattle.lw_cliprects.specs.Parts.{hidden_of, LieIn, AreDivided}
 use Rattle.lw_layer.specs.Pieces.{buffered, buffer_rectangle, rest_as, rest_of, whole_of, across, down, found_in, buffer_at, column_in, line_in}
 use Rattle.lw_layer.specs.Drafts as drafts
-use Rattle.lw_layer.specs.Drafts.{IsLiveDraft, IsBuffer, IsRest, layout, buffers_of, no_bitmap, live_view}
+use Rattle.lw_layer.specs.Drafts.{IsLiveDraft, IsBuffer, IsRest, layout, visible_planes, buffers_of, no_bitmap, live_view}
 use Rattle.lw_layer.specs.declared.draft.LiveDraft.{LiveDraft}
-use Rattle.lw_layer.proofs.BufferLaws.{as_many_buffers, shown_buffer}
+use Rattle.lw_layer.proofs.BufferLaws.{planes_many, planes_shown, as_many_buffers, shown_buffer}
+use Rattle.lw_layer.proofs.CopyingBuffers.{shown_deep}
 use Rattle.lw_buffers.proofs.LookupLaws.{pen_in_first}
 use Rattle.lw_layer.proofs.KeptLaws.{left_of_pixel, above_pixel}
 use Rattle.lw_layer.proofs.NewLaws.{lies_at}
@@ -33,7 +35,7 @@ use Rattle.lw_layer.proofs.Positions.{none_passes}
 use Rattle.lw_layer.proofs.ViewLaws.{has_place}
 use Rattle.lw_layer.proofs.CopyingLaws.{natural_distance, not_below}
 use Rattle.lw_layer.proofs.SoundLaws.{visible_inside}
-use Rattle.lw_super.specs.Shown.{IsShown, AreShown, left_of, top_of}
+use Rattle.lw_super.specs.Shown.{IsShown, AreShown, AreShownStrips, left_of, top_of}
 
 pub super_is : (kind : Kind) → is_super kind ≡ true → kind ≡ SuperBitmap
 super_is Simple is = absurd (cc is)
@@ -58,10 +60,10 @@ with_own d own = record d { superbits = Some own }
 
 -- its buffers and pieces
 pub super_buffers : (d : LiveDraft) (own : Bitmap) → d.kind ≡ SuperBitmap → IsLiveDraft (with_own d own)
-    → buffers_of (with_own d own) ≡ d.buffers.items ++ (own ∷ [])
+    → buffers_of (with_own d own) ≡ visible_planes d ++ (own ∷ [])
 super_buffers d own super ok =
     let none = nil_from_length d.covered.items (super_rest d.kind _ _ _ super ok.rest).0 in
-    ap (λ q. d.buffers.items ++ (q ++ (own ∷ []))) none
+    ap (λ q. visible_planes d ++ (q ++ (own ∷ []))) none
 
 pub super_pieces : (d : LiveDraft) (own : Bitmap) → d.kind ≡ SuperBitmap
     → buffered (layout (with_own d own)) ≡ d.parts.visible ++ (whole_of (layout (with_own d own)) ∷ [])
@@ -74,7 +76,7 @@ own_depth d own super ok =
     let q = with_own d own in
     let n : ℕ = length d.parts.visible in
     let whole : buffer_rectangle (layout q) n ≡ whole_of (layout q) = ap (λ rs. get_or rs n d.bounds) (super_pieces d own super) ∙ get_or_at d.parts.visible (whole_of (layout q)) [] d.bounds n refl in
-    let bits : slice_index_or (buffers_of q) n no_bitmap ≡ own = ap (λ bs. get_or bs n no_bitmap) (super_buffers d own super ok) ∙ get_or_at d.buffers.items own [] no_bitmap n ok.shown in
+    let bits : slice_index_or (buffers_of q) n no_bitmap ≡ own = ap (λ bs. get_or bs n no_bitmap) (super_buffers d own super ok) ∙ get_or_at (visible_planes d) own [] no_bitmap n (planes_shown q ok) in
     let long : length (buffered (layout q)) ≡ n + 1 = ap (λ rs. length rs) (super_pieces d own super) ∙ length-append d.parts.visible (whole_of (layout q) ∷ []) in
     let P : Rectangle → Type 0 = λ r. IsBuffer d.depth r own in
     let Q : Bitmap → Type 0 = λ b. IsBuffer d.depth (buffer_rectangle (layout q) n) b in
@@ -129,27 +131,27 @@ place_is edge scroll x low = let is = scroll_is scroll low in omega (arith, ints
 pixel_pen : (d : LiveDraft) (own : Bitmap) (x y : ℕ) (found : Option ℕ) → d.kind ≡ SuperBitmap → IsLiveDraft (with_own d own)
     → x < own.width → y < own.height → buffer_at (layout (with_own d own)) x y ≡ found
     → drafts.pen_from (buffers_of (with_own d own)) (layout (with_own d own)) found x y
-    ≡ (if covers d.parts.visible (left_of d +ℤ pos x) (top_of d +ℤ pos y) then pen_in d.parts.visible d.buffers.items (left_of d +ℤ pos x) (top_of d +ℤ pos y) else pen_at own x y)
+    ≡ (if covers d.parts.visible (left_of d +ℤ pos x) (top_of d +ℤ pos y) then pen_in d.parts.visible (visible_planes d) (left_of d +ℤ pos x) (top_of d +ℤ pos y) else pen_at own x y)
 pixel_pen d own x y None super ok left low is = absurd (has_whole d own x y super left low is)
 pixel_pen d own x y (Some n) super ok left low is =
     let l = layout (with_own d own) in
     let u = across l x in
     let v = down l y in
-    let F : ℤ → ℤ → ℕ = λ a b. if covers d.parts.visible a b then pen_in d.parts.visible d.buffers.items a b else pen_at own x y in
+    let F : ℤ → ℤ → ℕ = λ a b. if covers d.parts.visible a b then pen_in d.parts.visible (visible_planes d) a b else pen_at own x y in
     found_pen (with_own d own) x y n ok is
     ∙ (ap (λ rs. pen_in rs (buffers_of (with_own d own)) u v) (super_pieces d own super)
     ∙ (ap (λ bs. pen_in (d.parts.visible ++ (whole_of l ∷ [])) bs u v) (super_buffers d own super ok)
-    ∙ (pen_in_last d.parts.visible d.buffers.items (whole_of l) own u v ok.shown (whole_has l x y left low)
-    ∙ (ap (λ i. if covers d.parts.visible u v then pen_in d.parts.visible d.buffers.items u v else pen_at own i (natural (v -ℤ (whole_of l).min_y))) (natural_step d.bounds.min_x l.scroll_x x)
-    ∙ (ap (λ j. if covers d.parts.visible u v then pen_in d.parts.visible d.buffers.items u v else pen_at own x j) (natural_step d.bounds.min_y l.scroll_y y)
+    ∙ (pen_in_last d.parts.visible (visible_planes d) (whole_of l) own u v (planes_shown (with_own d own) ok) (whole_has l x y left low)
+    ∙ (ap (λ i. if covers d.parts.visible u v then pen_in d.parts.visible (visible_planes d) u v else pen_at own i (natural (v -ℤ (whole_of l).min_y))) (natural_step d.bounds.min_x l.scroll_x x)
+    ∙ (ap (λ j. if covers d.parts.visible u v then pen_in d.parts.visible (visible_planes d) u v else pen_at own x j) (natural_step d.bounds.min_y l.scroll_y y)
     ∙ (ap (λ a. F a v) (place_is d.bounds.min_x d.scroll_x x ok.scroll_x) ∙ ap (λ b. F (left_of d +ℤ pos x) b) (place_is d.bounds.min_y d.scroll_y y ok.scroll_y)))))))
 
 -- the bits of a super-bitmap layer
 pub super_bits : (d : LiveDraft) (own : Bitmap) → d.kind ≡ SuperBitmap → IsLiveDraft (with_own d own)
-    → (live_view (with_own d own)).layer.bits ≡ with_buffers d.parts.visible d.buffers.items (left_of d) (top_of d) own
+    → (live_view (with_own d own)).layer.bits ≡ with_buffers d.parts.visible (visible_planes d) (left_of d) (top_of d) own
 super_bits d own super ok =
     bitmap_same own.width own.height d.depth _ _ (λ x y left low. pixel_pen d own x y (buffer_at (layout (with_own d own)) x y) super ok left low refl)
-    ∙ ap (λ n. bitmap own.width own.height n (λ x y. if covers d.parts.visible (left_of d +ℤ pos x) (top_of d +ℤ pos y) then pen_in d.parts.visible d.buffers.items (left_of d +ℤ pos x) (top_of d +ℤ pos y) else pen_at own x y)) (sym (own_depth d own super ok).planes)
+    ∙ ap (λ n. bitmap own.width own.height n (λ x y. if covers d.parts.visible (left_of d +ℤ pos x) (top_of d +ℤ pos y) then pen_in d.parts.visible (visible_planes d) (left_of d +ℤ pos x) (top_of d +ℤ pos y) else pen_at own x y)) (sym (own_depth d own super ok).planes)
 
 -- the edges of a rectangle in the bounds lie on the bitmap
 edge_low : (bound scroll r : ℤ) → pos 0 ≤ℤ scroll → bound ≤ℤ r → (bound -ℤ scroll) ≤ℤ r
@@ -166,7 +168,7 @@ buffer_moved depth other r s b c zeroth first second is = subst (λ q. IsBuffer 
 
 pub shown_each : (d : LiveDraft) (own : Bitmap) (n : ℕ) (r : Rectangle) (b : Bitmap) → d.kind ≡ SuperBitmap
     → IsLiveDraft (with_own d own) → IsCanonical d.parts.visible → LieIn d.bounds d.parts.visible → n < length d.parts.visible
-    → IsShown own (left_of d) (top_of d) (get_or d.parts.visible n r) (get_or d.buffers.items n b)
+    → IsShown own (left_of d) (top_of d) (get_or d.parts.visible n r) (get_or (visible_planes d) n b)
 shown_each d own n r b super ok canonical inside below =
     let q = with_own d own in
     let l = layout q in
@@ -185,17 +187,17 @@ shown_each d own n r b super ok canonical inside below =
       buffer =
           buffer_moved d.depth own.depth _ _ _ _ (sym (own_depth d own super ok).planes)
           (get_or_append_left l.visible (rest_of l) l.bounds n below ∙ get_or_default l.visible n l.bounds r below)
-          (shown_buffer q n (omega (arith, ok.shown)) ∙ get_or_default d.buffers.items n no_bitmap b (omega (arith, ok.shown)))
+          (shown_buffer q n (omega (arith, planes_many q, planes_shown q ok)) ∙ get_or_default (visible_planes d) n no_bitmap b (omega (arith, planes_shown q ok)))
           (ok.buffers.each n (omega arith));
     }
 
 pub are_shown : (d : LiveDraft) (own : Bitmap) (hidden : List Rectangle) → d.kind ≡ SuperBitmap → IsLiveDraft (with_own d own)
     → IsCanonical d.parts.visible → AreDivided d.parts.bounds d.parts.visible hidden
-    → AreShown own (left_of d) (top_of d) d.parts.visible d.buffers.items
+    → AreShown own (left_of d) (top_of d) d.parts.visible (visible_planes d)
 are_shown d own hidden super ok canonical divided =
     let P : Rectangle → Type 0 = λ r. LieIn r d.parts.visible in
     let inside : LieIn d.bounds d.parts.visible = subst P ok.bounds (visible_inside d.parts.bounds d.parts.visible hidden divided) in
-    record { many = ok.shown; each = λ n r b below. shown_each d own n r b super ok canonical inside below }
+    record { many = planes_shown (with_own d own) ok; each = λ n r b below. shown_each d own n r b super ok canonical inside below }
 
 -- a scroll lies in the bits
 pub scroll_x_told : (d : LiveDraft) → IsLiveDraft d → (pos 0 ≤ℤ d.scroll_x) × (d.scroll_x ≤ℤ pos 2048)
@@ -221,23 +223,42 @@ top_told d got result ok fits is result_is = corner_told d.bounds.min_y got d.sc
 pub own_told : (d : LiveDraft) (own : Bitmap) → d.superbits ≡ Some own → IsLiveDraft d → IsLiveDraft (with_own d own)
 own_told d own is ok = let P : Option Bitmap → Type 0 = λ o. IsLiveDraft (record d { superbits = o }) in subst P is ok
 
--- what writing back asks and gives, where the places and lists are told by equations, as the code has them
-pub write_asks : (d : LiveDraft) (own : Bitmap) (hidden visible : List Rectangle) (buffers : List Bitmap) (left top : ℤ)
+-- the strips of a super-bitmap layer lie on its own bitmap
+pub strips_shown : (d : LiveDraft) (own : Bitmap) (hidden : List Rectangle) (strips : List StripView) (left top : ℤ)
     → is_super d.kind ≡ true → d.superbits ≡ Some own → IsLiveDraft d → IsCanonical d.parts.visible
-    → AreDivided d.parts.bounds d.parts.visible hidden → left ≡ left_of d → top ≡ top_of d → visible ≡ d.parts.visible
-    → buffers ≡ d.buffers.items → AreShown own left top visible buffers
-write_asks d own hidden visible buffers left top super is ok canonical divided is_left is_top is_visible is_buffers =
-    rw (is_left, is_top, is_visible, is_buffers) (are_shown d own hidden (super_is d.kind super) (own_told d own is ok) canonical divided)
+    → AreDivided d.parts.bounds d.parts.visible hidden → left ≡ left_of d → top ≡ top_of d → strips ≡ d.strips.items
+    → AreShownStrips own left top strips
+strips_shown d own hidden strips left top super is ok canonical divided is_left is_top is_strips =
+    let all = are_shown d own hidden (super_is d.kind super) (own_told d own is ok) canonical divided in
+    rw (is_left, is_top, is_strips)
+    (λ k s inside.
+    let below : k < length d.parts.visible = omega (arith, planes_many d, planes_shown d ok) in
+    let rect : get_or d.parts.visible k s.rect ≡ (get_or d.strips.items k s).rect = sym (ap (λ rs. get_or rs k s.rect) ok.shown) ∙ get_or-map (λ (q : StripView). q.rect) d.strips.items k s s.rect inside in
+    let planes : get_or (visible_planes d) k s.planes ≡ (get_or d.strips.items k s).planes = get_or-map (λ (q : StripView). q.planes) d.strips.items k s s.planes inside in
+    let P : Rectangle → Type 0 = λ r. IsShown own (left_of d) (top_of d) r (get_or (visible_planes d) k s.planes) in
+    let Q : Bitmap → Type 0 = λ b. IsShown own (left_of d) (top_of d) (get_or d.strips.items k s).rect b in
+    (ok.solid k s inside, subst Q planes (subst P rect (all.each k s.rect s.planes below))))
 
-pub write_gives : (d : LiveDraft) (own new : Bitmap) (visible : List Rectangle) (buffers : List Bitmap) (left top : ℤ)
+-- its strips have its planes
+pub strips_deep : (d : LiveDraft) (own : Bitmap) (strips : List StripView) → is_super d.kind ≡ true → d.superbits ≡ Some own → IsLiveDraft d → strips ≡ d.strips.items
+    → All (λ (s : StripView). s.planes.depth ≡ own.depth) strips
+strips_deep d own strips super is ok is_strips =
+    let deep = (own_depth d own (super_is d.kind super) (own_told d own is ok)).planes in
+    rw is_strips (shown_deep d own.depth ok deep)
+
+pub strips_all_solid : (d : LiveDraft) (strips : List StripView) → IsLiveDraft d → strips ≡ d.strips.items → All (λ (s : StripView). s.solid ≡ true) strips
+strips_all_solid d strips ok is = rw is ok.solid
+
+-- what writing back gives, where the places and the strips are told by equations, as the code has them
+pub write_gives : (d : LiveDraft) (own new : Bitmap) (strips : List StripView) (left top : ℤ)
     → is_super d.kind ≡ true → d.superbits ≡ Some own → IsLiveDraft d → left ≡ left_of d → top ≡ top_of d
-    → visible ≡ d.parts.visible → buffers ≡ d.buffers.items → new ≡ with_buffers visible buffers left top own
+    → strips ≡ d.strips.items → new ≡ with_buffers (rects_of strips) (planes_of strips) left top own
     → new ≡ (live_view d).layer.bits
-write_gives d own new visible buffers left top super is ok is_left is_top is_visible is_buffers new_is =
-    let P : Option Bitmap → Type 0 = λ o. (live_view (record d { superbits = o })).layer.bits ≡ with_buffers d.parts.visible d.buffers.items (left_of d) (top_of d) own in
+write_gives d own new strips left top super is ok is_left is_top is_strips new_is =
+    let P : Option Bitmap → Type 0 = λ o. (live_view (record d { superbits = o })).layer.bits ≡ with_buffers d.parts.visible (visible_planes d) (left_of d) (top_of d) own in
     let bits : P d.superbits = subst P (sym is) (super_bits d own (super_is d.kind super) (own_told d own is ok)) in
     new_is
-    ∙ (ap (λ rs. with_buffers rs buffers left top own) is_visible
-    ∙ (ap (λ bs. with_buffers d.parts.visible bs left top own) is_buffers
-    ∙ (ap (λ z. with_buffers d.parts.visible d.buffers.items z top own) is_left
-    ∙ (ap (λ z. with_buffers d.parts.visible d.buffers.items (left_of d) z own) is_top ∙ sym bits))))
+    ∙ (ap (λ ss. with_buffers (rects_of ss) (planes_of ss) left top own) is_strips
+    ∙ (ap (λ rs. with_buffers rs (visible_planes d) left top own) ok.shown
+    ∙ (ap (λ z. with_buffers d.parts.visible (visible_planes d) z top own) is_left
+    ∙ (ap (λ z. with_buffers d.parts.visible (visible_planes d) (left_of d) z own) is_top ∙ sym bits))))

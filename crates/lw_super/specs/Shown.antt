@@ -1,7 +1,8 @@
 -- For private contracts.
 -- A bitmap of which rectangles of the screen's plane show portions, each with a buffer of its size.
 use Rattle.std.specs.Prelude.{◌≡◌, ℕ, ◌+◌, ◌<◌, Bool, true, ◌&&◌, List, [], length, map, ℤ, pos, ◌+ℤ◌, ◌-ℤ◌, ◌≤ℤ◌, int_le, Option, Some, None}
-use Rattle.std.specs.List.{slice_index_or}
+use Rattle.std.specs.List.{All, slice_index_or}
+use Rattle.lw_strips.specs.Strips.{StripView, filled}
 use Rattle.lw_region.specs.Rectangle.{Rectangle, IsOrdered, width, height}
 use Rattle.lw_region.specs.Order.{natural}
 use Rattle.lw_planes.specs.Bitmap.{Bitmap, bitmap, pen_at}
@@ -35,6 +36,14 @@ portion own left top r =
 abbrev pub portions : Bitmap → ℤ → ℤ → List Rectangle → List Bitmap
 portions own left top rects = map (λ r. portion own left top r) rects
 
+-- strips that are solid and lie on the bitmap
+abbrev pub AreShownStrips : Bitmap → ℤ → ℤ → List StripView → Type 0
+AreShownStrips own left top strips = All (λ s. (s.solid ≡ true) × IsShown own left top s.rect s.planes) strips
+
+-- the strip with its portion of the bitmap
+abbrev pub refilled : Bitmap → ℤ → ℤ → StripView → StripView
+refilled own left top s = filled (portion own left top s.rect) s
+
 -- where the pixel (0, 0) of a draft's bits lies on the screen's plane
 abbrev pub left_of : LiveDraft → ℤ
 left_of d = d.bounds.min_x -ℤ d.scroll_x
@@ -42,10 +51,10 @@ left_of d = d.bounds.min_x -ℤ d.scroll_x
 abbrev pub top_of : LiveDraft → ℤ
 top_of d = d.bounds.min_y -ℤ d.scroll_y
 
--- the portions of an own bitmap on these rectangles, if there is one
-abbrev pub portions_of : Option Bitmap → ℤ → ℤ → List Rectangle → List Bitmap
-portions_of None left top rects = []
-portions_of (Some own) left top rects = portions own left top rects
+-- the strips with their portions of an own bitmap, if there is one
+abbrev pub refilled_by : Option Bitmap → ℤ → ℤ → List StripView → List StripView
+refilled_by None left top strips = []
+refilled_by (Some own) left top strips = map (λ s. refilled own left top s) strips
 
 -- Along one axis, so many places from a start on lie in as many as a bitmap has.
 unfoldable pub axis_fits : ℤ → ℤ → ℕ → Bool

@@ -4,7 +4,7 @@ ghost use Rattle.lw_machine.specs.Arrangement.{portion_fits};
 ghost use Rattle.lw_machine.specs.Step.{may_scroll, scroll_layer};
 ghost use Rattle.lw_layer.specs.View.{with_layer, with_live};
 ghost use Rattle.lw_layer.specs.Drafts.{IsDraft, IsLiveDraft, cell_view, live_view};
-ghost use Rattle.lw_super.specs.Shown.{left_of, top_of, portions_of, axis_fits, draft_fits, MayScroll, IsNear, scrolled_by};
+ghost use Rattle.lw_super.specs.Shown.{left_of, top_of, refilled_by, axis_fits, draft_fits, MayScroll, IsNear, scrolled_by};
 
 use crate::shown::read_shown;
 use crate::writing::{corner, write_back};
@@ -80,7 +80,7 @@ fn scroll_live(live: &mut LiveDraft, dx: i32, dy: i32)
     show_portion(live);
 }
 
-// Moves the portion, and leaves it to the own bitmap alone what all pens are: the buffers are as they were.
+// Moves the portion, and leaves it to the own bitmap alone what all pens are: the strips are as they were.
 fn move_portion(live: &mut LiveDraft, dx: i32, dy: i32)
     requires sound { IsLiveDraft live.old }
     requires own { is_super live.old.kind ≡ true }
@@ -95,25 +95,20 @@ fn move_portion(live: &mut LiveDraft, dx: i32, dy: i32)
     live.scroll_y = y;
 }
 
-// Fills the buffers of the visible rectangles out of the own bitmap.
+// Fills the strips out of the own bitmap.
 fn show_portion(live: &mut LiveDraft)
     requires sound { IsLiveDraft live.old }
     requires own { is_super live.old.kind ≡ true }
-    ensures rest { live.new ≡ record live.old { buffers = live.new.buffers } }
-    ensures buffers { live.new.buffers.items ≡ portions_of live.old.superbits (left_of live.old) (top_of live.old) live.old.parts.visible }
+    ensures rest { live.new ≡ record live.old { strips = live.new.strips } }
+    ensures strips { live.new.strips.items ≡ refilled_by live.old.superbits (left_of live.old) (top_of live.old) live.old.strips.items }
 {
     // Reading these tells the proof that the visible rectangles lie in the bounds.
+    let _ = live.parts.visible();
     let _ = live.parts.hidden();
     let left = corner(live.bounds.min_x(), live.scroll_x);
     let top = corner(live.bounds.min_y(), live.scroll_y);
     match &live.superbits {
-        Some(own) => read_shown(
-            live.buffers.as_mut_slice(),
-            live.parts.visible(),
-            own,
-            left,
-            top,
-        ),
+        Some(own) => read_shown(live.strips.as_mut_slice(), own, left, top),
         None => unreachable!(),
     }
 }

@@ -2,22 +2,20 @@ ghost use Rattle.std.specs.Prelude.{◌≡◌, pos, ◌-ℤ◌, ◌≤ℤ◌, tr
 ghost use Rattle.lw_calls.specs.Kinds.{is_super};
 ghost use Rattle.lw_layer.specs.Drafts.{IsLiveDraft, live_view};
 
-use crate::shown::write_shown;
+use lw_buffers::lay_strips;
 use lw_layer::LiveDraft;
 
-/// Writes the visible pixels of a super-bitmap layer, whose pens are in the buffers of its visible rectangles, into the
-/// layer's own bitmap, which then has all pens of the layer. No memory is taken.
+/// Writes the visible pixels of a super-bitmap layer, whose pens are in its strips, into the layer's own bitmap, which then has
+/// all pens of the layer. No memory is taken.
 pub fn write_back(live: &mut LiveDraft)
     requires sound { IsLiveDraft live.old }
     requires own { is_super live.old.kind ≡ true }
     ensures { live.new ≡ record live.old { superbits = Some (live_view live.old).layer.bits } }
 {
-    // Reading these tells the proof that the visible rectangles lie in the bounds.
-    let _ = live.parts.hidden();
     let left = corner(live.bounds.min_x(), live.scroll_x);
     let top = corner(live.bounds.min_y(), live.scroll_y);
     match &mut live.superbits {
-        Some(own) => write_shown(own, live.parts.visible(), &live.buffers, left, top),
+        Some(own) => lay_strips(own, i64::from(left), i64::from(top), &live.strips),
         None => unreachable!(),
     }
 }

@@ -30,7 +30,7 @@ returns c =
     let dy = to_z-of_z w32 c.args.dy c.ranges.dy in
     let moved : c.move_portion.new.live ≡ scrolled_by d c.args.dx c.args.dy = rw (dx, dy) at c.move_portion.ensures in
     let shown =
-    moved_live d c.move_portion.new.live c.show_portion.new.live c.hidden.result.now c.args.dx c.args.dy moved c.show_portion.ensures.rest c.show_portion.ensures.buffers
+    moved_live d c.move_portion.new.live c.show_portion.new.live c.hidden.result.now c.args.dx c.args.dy moved c.show_portion.ensures.rest c.show_portion.ensures.strips
     c.requires.own c.requires.sound ordered c.visible.ensures.canonical c.hidden.ensures.divided c.requires.fits
     in
     record {

@@ -1,27 +1,23 @@
-use Rattle.std.proofs.Common.{◌≡◌, ◌∙◌, List, sym, subst, to_z, of_z, w16, w32, w64, rules, FitsSigned, arith}
+use Rattle.std.proofs.Common.{◌≡◌, ◌∙◌, List, true, sym, subst, to_z, of_z, w16, w32, w64, rules, FitsSigned, arith}
 use Rattle.std.specs.List.{All}
 use Rattle.std.proofs.lemmas.Int.{ints, to_z-of_z}
-use Rattle.lw_region.specs.Rectangle.{Rectangle}
-use Rattle.lw_planes.specs.Bitmap.{Bitmap}
-use Rattle.lw_buffers.specs.Lookup.{AreBuffers}
+use Rattle.lw_strips.specs.Strips.{StripView}
 use Rattle.lw_cliprects.specs.Parts.{hidden_of, AreDivided}
 use Rattle.lw_layer.specs.Drafts.{layout}
 use Rattle.lw_layer.specs.Copied.{across_at, down_at}
-use Rattle.lw_layer.proofs.CopyingBuffers.{shown_buffers, shown_deep}
+use Rattle.lw_layer.proofs.CopyingBuffers.{shown_deep}
 use Rattle.lw_layer.proofs.KeptLaid.{kept_laid, all_laid, laid_planes, left_is, top_is}
 use Rattle.lw_layer.proofs.draft.LiveDraft.copy_kept.Goals as goal
 
-pub lay_buffers-requires-clause-buffers : goal.lay_buffers-requires-clause-buffers
-lay_buffers-requires-clause-buffers c =
-    let d = c.args.self.now in
-    let P : List Rectangle → Type 0 = λ rs. AreBuffers rs c.deref.result.now in
-    let Q : List Bitmap → Type 0 = λ bs. AreBuffers d.parts.visible bs in
-    subst P (sym c.visible.ensures.value) (subst Q (sym c.deref.ensures.value) (shown_buffers d c.requires.sound c.visible.ensures.canonical))
+pub lay_strips-requires-clause-solid : goal.lay_strips-requires-clause-solid
+lay_strips-requires-clause-solid c =
+    let P : List StripView → Type 0 = λ ss. All (λ (s : StripView). s.solid ≡ true) ss in
+    subst P (sym c.deref.ensures.value) c.requires.sound.solid
 
-pub lay_buffers-requires-clause-planes : goal.lay_buffers-requires-clause-planes
-lay_buffers-requires-clause-planes c =
+pub lay_strips-requires-clause-planes : goal.lay_strips-requires-clause-planes
+lay_strips-requires-clause-planes c =
     let d = c.args.self.now in
-    let P : List Bitmap → Type 0 = λ bs. All (λ (b : Bitmap). b.depth ≡ c.lay_rest.new.to.depth) bs in
+    let P : List StripView → Type 0 = λ ss. All (λ (s : StripView). s.planes.depth ≡ c.lay_rest.new.to.depth) ss in
     subst P (sym c.deref.ensures.value) (shown_deep d c.lay_rest.new.to.depth c.requires.sound (laid_planes _ _ _ _ c.args.to.now c.lay_rest.new.to c.lay_rest.ensures ∙ c.requires.planes))
 
 pub returns : goal.returns
@@ -40,5 +36,5 @@ returns c =
     let top : to_z w64 (of_z w64 c.start-top.result) ≡ down_at l c.args.y = to_z-of_z w64 c.start-top.result fits_top ∙ top_is d c.start-top.result c.args.y c.requires.sound (rw (edge_y, y, to_z-of_z w32 d.scroll_y scroll_y) at c.start-top.ensures.value) in
     let divided : AreDivided d.bounds d.parts.visible (hidden_of d.bounds d.parts.visible) = rw (sym c.requires.sound.bounds) (rw c.hidden.ensures.value at c.hidden.ensures.divided) in
     let rest = rw (left, top) at c.lay_rest.ensures in
-    let all = rw (left, top, c.visible.ensures.value, c.deref.ensures.value) at c.lay_buffers.ensures in
-    all_laid d (across_at l c.args.x) (down_at l c.args.y) c.args.to.now c.lay_rest.new.to c.lay_buffers.new.to c.requires.sound rest all ∙ kept_laid d c.args.x c.args.y c.args.to.now c.requires.sound c.min_x.ensures.ordered divided
+    let all = rw (left, top, c.deref.ensures.value) at c.lay_strips.ensures in
+    all_laid d (across_at l c.args.x) (down_at l c.args.y) c.args.to.now c.lay_rest.new.to c.lay_strips.new.to c.requires.sound rest all ∙ kept_laid d c.args.x c.args.y c.args.to.now c.requires.sound c.min_x.ensures.ordered divided

@@ -7,7 +7,7 @@ use Rattle.lw_calls.specs.Kinds.{is_super}
 use Rattle.lw_machine.specs.Layer.{is_framed}
 use Rattle.lw_layer.specs.Pieces.{inner_of}
 use Rattle.lw_layer.specs.Drafts.{IsLiveDraft, window_of, room_of, live_view}
-use Rattle.lw_layer.specs.New.{kept_hidden, own_blank, AreBlank, new_live}
+use Rattle.lw_layer.specs.New.{kept_hidden, own_blank, AreBlank, AreBlankStrips, new_live}
 use Rattle.lw_layer.specs.declared.draft.LiveDraft.{LiveDraft}
 use Rattle.lw_layer.proofs.NewDraftLaws.{new_draft, new_sound, new_view}
 use Rattle.lw_layer.proofs.draft.LiveDraft.new.Goals as goal
@@ -28,7 +28,7 @@ returns-clause-draft c =
       clip = None;
       damage = c.new.result;
       parts = c.in_ok-parts.parts;
-      buffers = c.in_ok-buffers.buffers;
+      strips = c.in_ok-strips.strips;
       covered = c.in_ok-covered.covered;
       superbits = c.in_ok-superbits.superbits;
       active = false;
@@ -38,8 +38,8 @@ returns-clause-draft c =
     let damage : c.new.result ≡ record { inner = inner_of (is_super make.kind) (is_framed (window_of c.args.window)) (width bounds) (height bounds); rects = []; updating = false } = c.new.ensures ∙ ap (λ i. record { inner = i; rects = []; updating = false }) (c.inner_rectangle-inner.ensures ∙ ap (λ f. inner_of (is_super make.kind) f (width bounds) (height bounds)) c.is_framed.ensures) in
     let own : c.in_ok-superbits.superbits ≡ own_blank make.kind c.args.depth make = c.in_ok-superbits.ensures in
     let same : (λ (p : Division). p.visible) c.in_ok-parts.parts ≡ visible = ap (λ (p : Division). p.visible) parts in
-    let S : List Rectangle → Type 0 = λ rs. AreBlank c.args.depth rs c.in_ok-buffers.buffers.items in
-    let shown : S visible = subst S (c.visible.ensures.value ∙ same) c.in_ok-buffers.ensures in
+    let S : List Rectangle → Type 0 = λ rs. AreBlankStrips c.args.depth rs c.in_ok-strips.strips.items in
+    let shown : S visible = subst S (c.visible.ensures.value ∙ same) c.in_ok-strips.ensures in
     let C : List Rectangle → Type 0 = λ rs. AreBlank c.args.depth (kept_hidden make.kind (hidden_of bounds rs)) c.in_ok-covered.covered.items in
     let covered : C visible = subst C same c.in_ok-covered.ensures in
     let q : LiveDraft = new_draft g make.kind make c.args.depth bounds visible c.args.window in
@@ -66,7 +66,7 @@ returns-clause-layer c =
       clip = None;
       damage = c.new.result;
       parts = c.in_ok-parts.parts;
-      buffers = c.in_ok-buffers.buffers;
+      strips = c.in_ok-strips.strips;
       covered = c.in_ok-covered.covered;
       superbits = c.in_ok-superbits.superbits;
       active = false;
@@ -76,8 +76,8 @@ returns-clause-layer c =
     let damage : c.new.result ≡ record { inner = inner_of (is_super make.kind) (is_framed (window_of c.args.window)) (width bounds) (height bounds); rects = []; updating = false } = c.new.ensures ∙ ap (λ i. record { inner = i; rects = []; updating = false }) (c.inner_rectangle-inner.ensures ∙ ap (λ f. inner_of (is_super make.kind) f (width bounds) (height bounds)) c.is_framed.ensures) in
     let own : c.in_ok-superbits.superbits ≡ own_blank make.kind c.args.depth make = c.in_ok-superbits.ensures in
     let same : (λ (p : Division). p.visible) c.in_ok-parts.parts ≡ visible = ap (λ (p : Division). p.visible) parts in
-    let S : List Rectangle → Type 0 = λ rs. AreBlank c.args.depth rs c.in_ok-buffers.buffers.items in
-    let shown : S visible = subst S (c.visible.ensures.value ∙ same) c.in_ok-buffers.ensures in
+    let S : List Rectangle → Type 0 = λ rs. AreBlankStrips c.args.depth rs c.in_ok-strips.strips.items in
+    let shown : S visible = subst S (c.visible.ensures.value ∙ same) c.in_ok-strips.ensures in
     let C : List Rectangle → Type 0 = λ rs. AreBlank c.args.depth (kept_hidden make.kind (hidden_of bounds rs)) c.in_ok-covered.covered.items in
     let covered : C visible = subst C same c.in_ok-covered.ensures in
     let q : LiveDraft = new_draft g make.kind make c.args.depth bounds visible c.args.window in
