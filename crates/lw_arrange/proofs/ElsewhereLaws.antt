@@ -20,7 +20,8 @@ use Rattle.lw_layer.specs.declared.look.Look.{Look}
 use Rattle.lw_layer.specs.View.{State, CellView, hooked}
 use Rattle.lw_layer.specs.View as view
 use Rattle.lw_layer.specs.StandsFor.{IsPartOf, StandsFor}
-use Rattle.lw_stack.specs.Stack.{Stack, bounds_at, first_at, is_first_at, StandsForInfo}
+use Rattle.lw_strips.specs.declared.piece.Piece.{Piece}
+use Rattle.lw_stack.specs.Stack.{Stack, bounds_at, first_at, StandsForInfo}
 use Rattle.lw_stack.specs.Laws.{DifferAt}
 use Rattle.lw_stack.proofs.FirstLaws.{first_elsewhere}
 use Rattle.lw_stack.proofs.ListLaws.{shown_is_first}
@@ -104,7 +105,7 @@ change_differs v s change =
     record { order = refl; others = others_stay v.bounds s (changed_bounds change (bounds_at v.bounds s)) }
 
 -- so what is on top stays outside the former and the new bounds of the slot
-abbrev IsTopSame : Stack → Stack → ℤ → ℤ → Type 0
+abbrev pub IsTopSame : Stack → Stack → ℤ → ℤ → Type 0
 IsTopSame v w x y = first_at v.bounds v.front_to_back x y ≡ first_at w.bounds w.front_to_back x y
 
 top_same : (v w : Stack) (s : ℕ) (x y : ℤ) → Differs v s w
@@ -152,18 +153,22 @@ some_area v w call s empty former area some none first second x y =
     (first x y ∙ ap (λ b. b || bounds_have (bounds_at v.bounds s) x y) (ap (λ l. covers l x y) none ∙ covers_nil x y))
     ∙ ap (λ o. slot_has v o x y || slot_has w o x y) (sym some))
 
--- So the plan of a call that isn't refused has its area.
+-- So it is outside the area of a call that isn't refused, and its plan has this area.
+pub top_elsewhere : (v after : Stack) (looks : List (Option Look)) (call : Call) (area : List Rectangle) → after ≡ stack_after v looks call
+    → IsAreaOf v after call area → (x y : ℤ) → covers area x y ≡ false → IsTopSame v after x y
+top_elsewhere v after looks call area is around x y off =
+    let outside : (slot_has v (slot_arranged call) x y || slot_has (stack_after v looks call) (slot_arranged call) x y) ≡ false =
+    ap (λ (w : Stack). slot_has v (slot_arranged call) x y || slot_has w (slot_arranged call) x y) (sym is)
+    ∙ (sym (around x y) ∙ off) in
+    after_elsewhere v looks call x y outside ∙ ap (λ (w : Stack). first_at w.bounds w.front_to_back x y) (sym is)
+
 pub plan_area : (v after : Stack) (looks : List (Option Look)) (task : ℕ) (call copy : Call) (area : List Rectangle)
-    (shown : List (List Rectangle)) → after ≡ stack_after v looks call → copy ≡ call → IsAreaOf v after call area
-    → HasArea v (record { task = task; call = copy; stack = after; area = area; shown = shown })
-plan_area v after looks task call copy area shown is same around = record {
+    (shown : List (List Rectangle)) (rest : List Rectangle) (pieces : List Piece) → after ≡ stack_after v looks call → copy ≡ call
+    → IsAreaOf v after call area
+    → HasArea v (record { task = task; call = copy; stack = after; area = area; shown = shown; rest = rest; pieces = pieces })
+plan_area v after looks task call copy area shown rest pieces is same around = record {
   area = λ x y. around x y ∙ ap (λ c. slot_has v (slot_arranged c) x y || slot_has after (slot_arranged c) x y) (sym same);
-  elsewhere = λ s x y off.
-      let outside : (slot_has v (slot_arranged call) x y || slot_has (stack_after v looks call) (slot_arranged call) x y) ≡ false =
-      ap (λ (w : Stack). slot_has v (slot_arranged call) x y || slot_has w (slot_arranged call) x y) (sym is)
-      ∙ (sym (around x y) ∙ off) in
-      ap (λ o. is_the o s) (after_elsewhere v looks call x y outside)
-      ∙ ap (λ (w : Stack). is_first_at w.bounds w.front_to_back s x y) (sym is);
+  elsewhere = λ s x y off. ap (λ o. is_the o s) (top_elsewhere v after looks call area is around x y off);
 }
 
 -- Where a cell stands for its slot's part of a desk, it shows outside the area what the plan says, whatever hook its layer has.

@@ -17,4 +17,7 @@ pub mod GainedRegions
 pub mod FrameLaws
 pub mod ElsewhereLaws
 pub mod VisibleLaws
+pub mod PieceLaws
+pub mod ExchangeLaws
+pub mod DesktopLaws
 mod FewRectangles

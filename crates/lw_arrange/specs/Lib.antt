@@ -10,3 +10,6 @@ pub mod Framed
 pub mod Settled
 pub mod Made
 pub mod Areas
+pub mod Pieces
+pub mod Exchanged
+pub mod Desktops

@@ -5,11 +5,11 @@ use Rattle.lw_layer.specs.View as view
 use Rattle.lw_layer.specs.Drafts.{IsLiveDraft, live_view, no_layer}
 use Rattle.lw_reveal.specs.Changed.{carried_to}
 use Rattle.lw_reveal.specs.Changes.{IsChange}
-use Rattle.lw_arrange.specs.declared.preparing.Prepared.{Prepared}
-use Rattle.lw_arrange.specs.declared.preparing.Prepared.TheVariants.{Stays, Closes, Opens, Changes}
+use Rattle.lw_arrange.specs.declared.preparing.Becomes.{Becomes}
+use Rattle.lw_arrange.specs.declared.preparing.Becomes.TheVariants.{Stays, Closes, Opens, Changes}
 
 -- The one cell becomes the other by what was prepared.
-abbrev pub IsPrepared : CellView → CellView → Prepared → Type 0
+abbrev pub IsPrepared : CellView → CellView → Becomes → Type 0
 IsPrepared from to Stays = to ≡ from
 IsPrepared from to Closes = (from.state ≡ view.Live) × (to ≡ record { number = from.number; state = view.Closed; live = no_layer })
 IsPrepared from to (Opens d) =

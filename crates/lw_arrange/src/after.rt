@@ -17,7 +17,7 @@ use lw_region::Rect;
 use lw_stack::{Info, InfoDraft};
 use std::alloc::{AllocError, Global};
 
-/// The list, the bounds and the active window after a call that isn't refused.
+/// The list, the bounds and the active window after a call that isn't refused. Of the desktop it says nothing.
 pub(crate) fn after(
     alloc: Global,
     info: &Info,
@@ -91,6 +91,7 @@ fn with_new(
         order,
         bounds,
         active: info.active(),
+        desktop: Vec::new(alloc),
     })
 }
 
@@ -111,6 +112,7 @@ fn without_slot(alloc: Global, info: &Info, slot: u32) -> Result<InfoDraft, Allo
         order: rest_of(alloc, info, slot)?,
         bounds: bounds_with(alloc, info, slot, None)?,
         active: active_without(slot, info.active()),
+        desktop: Vec::new(alloc),
     })
 }
 
@@ -161,6 +163,7 @@ fn with_order(alloc: Global, info: &Info, order: Vec<u32>) -> Result<InfoDraft, 
         order,
         bounds: bounds_of(alloc, info)?,
         active: info.active(),
+        desktop: Vec::new(alloc),
     })
 }
 
@@ -179,6 +182,7 @@ fn with_change(
         order: order_of(alloc, info)?,
         bounds: bounds_with(alloc, info, slot, changed_bounds(info, slot, change))?,
         active: info.active(),
+        desktop: Vec::new(alloc),
     })
 }
 
@@ -200,6 +204,7 @@ fn with_activated(alloc: Global, info: &Info, slot: u32) -> Result<InfoDraft, Al
         order: order_of(alloc, info)?,
         bounds: bounds_of(alloc, info)?,
         active: Some(slot),
+        desktop: Vec::new(alloc),
     })
 }
 
@@ -221,12 +226,7 @@ fn rest_of(alloc: Global, info: &Info, slot: u32) -> Result<Vec<u32>, AllocError
 fn bounds_of(alloc: Global, info: &Info) -> Result<Vec<Option<Rect>>, AllocError>
     ensures { IfOk result (λ bounds. bounds.items ≡ info.now.bounds) }
 {
-    let slots = info.sizes().slots;
-    let mut bounds = Vec::with_capacity(alloc, slots as usize)?;
-    for slot in 0..slots {
-        bounds.push(info.bounds(slot))?;
-    }
-    Ok(bounds)
+    Vec::from_slice(alloc, info.all_bounds())
 }
 
 /// The bounds of all slots, with those of one changed.

@@ -1,6 +1,7 @@
 use lw_calls::{Call, Reply, Sizes};
 use lw_region::{Rect, Region};
-use lw_stack::InfoDraft;
+use lw_stack::{InfoDraft, Shown};
+use lw_strips::Piece;
 use std::marker::Model;
 
 /// What planning a call answers.
@@ -13,7 +14,8 @@ pub enum Step {
 }
 
 /// A planned arrangement: its call, the list, the bounds and the active window after it, the area outside which each layer is
-/// shown as before, and what is then shown of each layer in the area (the manual's Layers Library chapter).
+/// shown as before, what is then shown of each layer in the area and what no layer has of it, and the pieces of the screen that
+/// change owner (the manual's Layers Library chapter).
 #[derive(Debug, Drop)]
 pub struct Arrangement {
     task: u32,
@@ -21,7 +23,8 @@ pub struct Arrangement {
     sizes: Sizes,
     after: InfoDraft,
     area: Region,
-    shown: Vec<Region>,
+    shown: Shown,
+    pieces: Vec<Piece>,
 }
 
 impl Model for Arrangement {
@@ -30,29 +33,45 @@ impl Model for Arrangement {
 
     ghost Value = { ArrangementView };
 
-    ghost view = { λ a. record { task = a.task; call = a.call; stack = stack_of a.sizes a.after; area = a.area; shown = a.shown.items } };
+    ghost view = { λ a. record { task = a.task; call = a.call; stack = stack_of a.sizes a.after; area = a.area; shown = a.shown.sets.items; rest = a.shown.rest; pieces = a.pieces.items } };
 
-    ghost invariant = { λ a. IsArrangement (record { task = a.task; call = a.call; stack = stack_of a.sizes a.after; area = a.area; shown = a.shown.items }) };
+    ghost invariant = { λ a. IsArrangement (record { task = a.task; call = a.call; stack = stack_of a.sizes a.after; area = a.area; shown = a.shown.sets.items; rest = a.shown.rest; pieces = a.pieces.items }) };
 }
 
 impl Arrangement {
-    ghost use Rattle.std.specs.Prelude.{◌≡◌, ◌<◌, []};
-    ghost use Rattle.std.specs.List.{slice_index_or};
-    ghost use Rattle.lw_stack.specs.Stack.{bounds_at, stack_of, IsStack, AreShownIn};
+    ghost use Rattle.std.specs.Prelude.{◌≡◌, ◌<◌, not, ◌&&◌, [], ℤ};
+    ghost use Rattle.std.specs.List.{All, slice_index_or};
+    ghost use Rattle.std.specs.Option.{is_some};
+    ghost use Rattle.lw_region.specs.Bands.{covers};
+    ghost use Rattle.lw_strips.specs.Laying.{screen, LiesIn};
+    ghost use Rattle.lw_stack.specs.Stack.{bounds_at, first_at, stack_of, IsStack, AreShownIn};
     ghost use Rattle.lw_arrange.specs.Arrangements.{IsArrangement};
 
-    /// The plan of a task's call that leaves such a list, of which this is shown in the area.
+    /// The plan of a task's call that leaves such a list, of which this is shown in the area, and in which these pieces change
+    /// owner.
     pub(crate) fn new(
         task: u32,
         call: Call,
         sizes: Sizes,
         after: InfoDraft,
         area: Region,
-        shown: Vec<Region>,
+        shown: Shown,
+        pieces: Vec<Piece>,
     ) -> Arrangement
         requires stack { IsStack (stack_of sizes after) }
-        requires shown { AreShownIn area after.bounds.items after.order.items shown.items }
-        ensures { result ≡ record { task = task; call = call; stack = stack_of sizes after; area = area; shown = shown.items } }
+        requires shown { AreShownIn area after.bounds.items after.order.items shown.sets.items }
+        requires rest { (x y : ℤ) →
+            covers shown.rest x y ≡ (covers area x y && not (is_some (first_at after.bounds.items after.order.items x y))) }
+        requires pieces { All (λ p. LiesIn p.rect (screen sizes.width sizes.height)) pieces.items }
+        ensures { result ≡ record {
+          task = task;
+          call = call;
+          stack = stack_of sizes after;
+          area = area;
+          shown = shown.sets.items;
+          rest = shown.rest;
+          pieces = pieces.items;
+        } }
     {
         Arrangement {
             task,
@@ -61,6 +80,7 @@ impl Arrangement {
             after,
             area,
             shown,
+            pieces,
         }
     }
 
@@ -130,6 +150,20 @@ impl Arrangement {
         requires { slot < self.now.stack.sizes.slots }
         ensures { result.now ≡ slice_index_or self.now.shown slot [] }
     {
-        &self.shown[slot as usize]
+        &self.shown.sets[slot as usize]
+    }
+
+    /// The places of the area that no layer has after it.
+    pub(crate) fn rest(&self) -> &Region
+        ensures { result.now ≡ self.now.rest }
+    {
+        &self.shown.rest
+    }
+
+    /// The pieces of the screen that change owner: what one owner loses to another one is a canonical list.
+    pub fn pieces(&self) -> &[Piece]
+        ensures { result.now ≡ self.now.pieces }
+    {
+        self.pieces.as_slice()
     }
 }

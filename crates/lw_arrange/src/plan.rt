@@ -1,21 +1,25 @@
-ghost use Rattle.std.specs.Prelude.{◌≡◌, length, IfOk, IsTrue};
+ghost use Rattle.std.specs.Prelude.{◌≡◌, not, ◌&&◌, length, ℤ, IfOk, IsTrue};
+ghost use Rattle.std.specs.Option.{is_some};
+ghost use Rattle.lw_region.specs.Bands.{covers};
 ghost use Rattle.lw_calls.specs.declared.touch.CallClass.TheVariants.{OnAll};
 ghost use Rattle.lw_calls.specs.Touches.{class_of};
 ghost use Rattle.lw_calls.specs.Limits.{call_fits};
 ghost use Rattle.lw_machine.specs.Desk.{Desk};
-ghost use Rattle.lw_stack.specs.Stack.{bounds_at, stack_of};
+ghost use Rattle.lw_stack.specs.Stack.{bounds_at, first_at, stack_of, AreShownIn};
 ghost use Rattle.lw_arrange.specs.Arranged.{AreOf, IsStepOf};
 ghost use Rattle.lw_arrange.specs.Steps.{KeepsSizes};
 ghost use Rattle.lw_arrange.specs.Areas.{IsAreaOf, StepHasArea, slot_arranged};
+ghost use Rattle.lw_arrange.specs.Pieces.{StepHasPieces};
 
 use crate::after::after;
 use crate::arrangement::{Arrangement, Step};
 use crate::copied::copied;
+use crate::pieces::pieces_of;
 use crate::refused::refused;
 use lw_calls::Call;
 use lw_layer::Look;
 use lw_region::{Rect, Region};
-use lw_stack::{Info, InfoDraft, cover, shown_in};
+use lw_stack::{Info, InfoDraft, Shown, cover, shown_in};
 use std::alloc::{AllocError, Global};
 
 /// What a task's call that arranges layers does, told from LayerInfo and the looks of all slots alone: its first refusal, or the
@@ -36,6 +40,7 @@ pub fn plan_step(
         (λ step. (d : Desk) → AreOf d info.now looks.now fresh call.now → IsStepOf d task call.now step) }
     ensures sizes { IfOk result (λ step. KeepsSizes info.now.sizes step) }
     ensures area { IfOk result (λ step. StepHasArea info.now step) }
+    ensures pieces { IfOk result (λ step. StepHasPieces info.now step) }
 {
     let sizes = *info.sizes();
     if let Some(reply) = refused(info, looks, fresh, task, call) {
@@ -49,8 +54,19 @@ pub fn plan_step(
         after.order.as_slice(),
         after.bounds.as_slice(),
     )?;
+    let were = shown_before(alloc, info, &area)?;
+    let pieces = pieces_of(alloc, sizes.slots, &were, &shown)?;
     let call = copied(alloc, call)?;
-    Ok(Step::Arranged(Arrangement::new(task, call, sizes, after, area, shown)))
+    Ok(Step::Arranged(Arrangement::new(task, call, sizes, after, area, shown, pieces)))
+}
+
+// What is shown of each layer in the area before the call.
+fn shown_before(alloc: Global, info: &Info, area: &Region) -> Result<Shown, AllocError>
+    ensures sets { IfOk result (λ were. AreShownIn area.now info.now.bounds info.now.front_to_back were.sets.items) }
+    ensures rest { IfOk result (λ were. (x y : ℤ) →
+        covers were.rest x y ≡ (covers area.now x y && not (is_some (first_at info.now.bounds info.now.front_to_back x y)))) }
+{
+    shown_in(alloc, area, info.order(), info.all_bounds())
 }
 
 // The former and the new bounds of the call's slot; no place of a call that changes no layer's bounds nor its place in the list.

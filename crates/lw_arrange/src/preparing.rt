@@ -1,6 +1,9 @@
-// What an arrangement makes of one cell, in two steps: preparing it takes all the memory, and committing it takes none.
+// What an arrangement makes of one cell, in three steps: preparing it takes all the memory, and giving up its pieces and
+// committing it take none.
 
-ghost use Rattle.std.specs.Prelude.{◌≡◌, ◌<◌, Some, IfOk};
+ghost use Rattle.std.specs.Prelude.{◌≡◌, ◌-◌, ◌+◌, ◌<◌, ◌≤◌, [], ◌++◌, reverse, length, Some, IfOk};
+ghost use Rattle.lw_region.specs.Rectangle.{Rectangle};
+ghost use Rattle.lw_strips.specs.Pools.{copies, copies_in};
 ghost use Rattle.lw_cliprects.specs.Parts.{LieIn};
 ghost use Rattle.lw_machine.specs.Arrangement.{new_window};
 ghost use Rattle.lw_layer.specs.View as view;
@@ -11,20 +14,41 @@ ghost use Rattle.lw_reveal.specs.Changed.{carried_to, MayHave};
 ghost use Rattle.lw_arrange.specs.Prepared.{created_by, created_live, without_layer, with_bounds, shown_at, cell_after, MayOpen, MayBecome, MayPrepare};
 ghost use Rattle.lw_arrange.specs.Areas.{IsShownElsewhere};
 ghost use Rattle.lw_arrange.specs.Made.{IsPrepared};
+ghost use Rattle.lw_arrange.specs.Exchanged.{HasPieces};
 
 use crate::arrangement::Arrangement;
 use crate::copied::copied_text;
+use crate::exchange::{Exchange, exchange_of};
 use crate::showing::{changed_visible, new_visible};
 use lw_calls::{Call, Text};
 use lw_layer::{Cell, Draft, DraftState, LiveDraft, WindowDraft};
 use lw_ports::{MessageSet, Port};
 use lw_region::{Rect, Region};
 use lw_reveal::{Change, apply};
+use lw_strips::Pool;
 use std::alloc::{AllocError, Global};
+
+/// What is ready for one cell: what it becomes, and the pieces that it loses and gains.
+#[derive(Debug, Drop)]
+pub struct Prepared {
+    /// What is ready to be made of the cell.
+    pub becomes: Becomes,
+    /// The pieces of the screen that it loses and gains.
+    pub exchange: Exchange,
+}
+
+impl Prepared {
+    /// How many strips the cell has to give up.
+    pub fn pieces(&self) -> usize
+        ensures { result ≡ length self.now.exchange.lost.items }
+    {
+        self.exchange.lost.len()
+    }
+}
 
 /// What is ready to be made of one cell.
 #[derive(Debug, Drop)]
-pub enum Prepared {
+pub enum Becomes {
     /// The cell stays as it is.
     Stays,
     /// The layer is deleted.
@@ -36,8 +60,8 @@ pub enum Prepared {
 }
 
 /// Prepares the cell of a slot for the arrangement, outside whose area the cell has to show what the plan says. It takes all the
-/// memory that is needed for the cell, and changes nothing. A layer whose bounds and visible rectangles stay is not copied, and of
-/// one that stays where it is and doesn't meet the area no rectangle is looked at. It fails only when out of memory.
+/// memory that is needed for the cell, and changes nothing. A layer whose bounds and visible rectangles stay is not copied, and
+/// of one that stays where it is and doesn't meet the area no rectangle is looked at. It fails only when out of memory.
 pub fn prepare(
     alloc: Global,
     cell: &Cell,
@@ -46,7 +70,21 @@ pub fn prepare(
     requires slot { cell.now.number < arrangement.now.stack.sizes.slots }
     requires may { MayPrepare arrangement.now cell.now }
     requires elsewhere { IsShownElsewhere arrangement.now cell.now }
-    ensures { IfOk result (λ prepared. IsPrepared cell.now (cell_after arrangement.now cell.now) prepared) }
+    ensures becomes { IfOk result (λ prepared. IsPrepared cell.now (cell_after arrangement.now cell.now) prepared.becomes) }
+    ensures pieces { IfOk result (λ prepared. HasPieces cell.now.number arrangement.now.stack.sizes.depth arrangement.now.pieces
+        prepared.exchange.lost.items prepared.exchange.gained.items) }
+{
+    let becomes = becomes_of(alloc, cell, arrangement)?;
+    let exchange = exchange_of(alloc, cell.slot(), arrangement)?;
+    Ok(Prepared { becomes, exchange })
+}
+
+// What becomes of the cell.
+fn becomes_of(alloc: Global, cell: &Cell, arrangement: &Arrangement) -> Result<Becomes, AllocError>
+    requires slot { cell.now.number < arrangement.now.stack.sizes.slots }
+    requires may { MayPrepare arrangement.now cell.now }
+    requires elsewhere { IsShownElsewhere arrangement.now cell.now }
+    ensures { IfOk result (λ becomes. IsPrepared cell.now (cell_after arrangement.now cell.now) becomes) }
 {
     let slot = cell.slot();
     match arrangement.bounds(slot) {
@@ -56,12 +94,12 @@ pub fn prepare(
 }
 
 // A cell that has no bounds afterwards: a live layer is deleted.
-fn without_bounds(cell: &Cell) -> Prepared
+fn without_bounds(cell: &Cell) -> Becomes
     ensures { IsPrepared cell.now (without_layer cell.now cell.now.state) result }
 {
     match cell.look() {
-        None => Prepared::Stays,
-        Some(_) => Prepared::Closes,
+        None => Becomes::Stays,
+        Some(_) => Becomes::Closes,
     }
 }
 
@@ -71,12 +109,12 @@ fn with_bounds(
     cell: &Cell,
     arrangement: &Arrangement,
     bounds: &Rect,
-) -> Result<Prepared, AllocError>
+) -> Result<Becomes, AllocError>
     requires slot { cell.now.number < arrangement.now.stack.sizes.slots }
     requires bounds { bounds_at arrangement.now.stack.bounds cell.now.number ≡ Some bounds.now }
     requires may { MayBecome (created_by arrangement.now.task arrangement.now.call) arrangement.now.stack.sizes.depth bounds.now (shown_at arrangement.now cell.now.number) cell.now cell.now.state }
     requires elsewhere { IsShownElsewhere arrangement.now cell.now }
-    ensures { IfOk result (λ prepared. IsPrepared cell.now (with_bounds (created_by arrangement.now.task arrangement.now.call) arrangement.now.stack.sizes.depth bounds.now (shown_at arrangement.now cell.now.number) cell.now cell.now.state) prepared) }
+    ensures { IfOk result (λ becomes. IsPrepared cell.now (with_bounds (created_by arrangement.now.task arrangement.now.call) arrangement.now.stack.sizes.depth bounds.now (shown_at arrangement.now cell.now.number) cell.now cell.now.state) becomes) }
 {
     // Reading the sizes tells the proof what holds of the plan.
     let _ = arrangement.sizes();
@@ -99,17 +137,17 @@ fn created(
     arrangement: &Arrangement,
     bounds: &Rect,
     visible: &Region,
-) -> Result<Prepared, AllocError>
+) -> Result<Becomes, AllocError>
     requires may { MayOpen (created_by arrangement.now.task arrangement.now.call) arrangement.now.stack.sizes.depth bounds.now }
     requires inside { LieIn bounds.now visible.now }
     requires fresh { cell.now.state ≡ view.Unopened }
-    ensures { IfOk result (λ prepared. IsPrepared cell.now (record { number = cell.now.number; state = view.Live; live = created_live (created_by arrangement.now.task arrangement.now.call) arrangement.now.stack.sizes.depth bounds.now visible.now }) prepared) }
+    ensures { IfOk result (λ becomes. IsPrepared cell.now (record { number = cell.now.number; state = view.Live; live = created_live (created_by arrangement.now.task arrangement.now.call) arrangement.now.stack.sizes.depth bounds.now visible.now }) becomes) }
 {
     let depth = arrangement.sizes().depth;
     match arrangement.call() {
         Call::Create { make, .. } => {
             let draft = LiveDraft::new(alloc, make, depth, bounds, visible, None)?;
-            Ok(Prepared::Opens(draft))
+            Ok(Becomes::Opens(draft))
         }
         Call::OpenWindow {
             make,
@@ -121,7 +159,7 @@ fn created(
         } => {
             let window = opened_window(alloc, arrangement.task(), *framed, *nocare, *asks, title)?;
             let draft = LiveDraft::new(alloc, make, depth, bounds, visible, Some(window))?;
-            Ok(Prepared::Opens(draft))
+            Ok(Becomes::Opens(draft))
         }
         _ => unreachable!(),
     }
@@ -157,13 +195,13 @@ fn changed(
     cell: &Cell,
     arrangement: &Arrangement,
     bounds: &Rect,
-) -> Result<Prepared, AllocError>
+) -> Result<Becomes, AllocError>
     requires slot { cell.now.number < arrangement.now.stack.sizes.slots }
     requires live { cell.now.state ≡ view.Live }
     requires bounds { bounds_at arrangement.now.stack.bounds cell.now.number ≡ Some bounds.now }
     requires may { MayHave cell.now.live bounds.now (shown_at arrangement.now cell.now.number) }
     requires elsewhere { IsShownElsewhere arrangement.now cell.now }
-    ensures { IfOk result (λ prepared. IsPrepared cell.now (with_live (λ c. carried_to bounds.now (shown_at arrangement.now cell.now.number) c) cell.now) prepared) }
+    ensures { IfOk result (λ becomes. IsPrepared cell.now (with_live (λ c. carried_to bounds.now (shown_at arrangement.now cell.now.number) c) cell.now) becomes) }
 {
     let Some(layer) = cell.layer() else {
         unreachable!();
@@ -172,21 +210,49 @@ fn changed(
     let _ = layer.look();
     let _ = layer.damage().region();
     let Some(visible) = changed_visible(alloc, cell, layer, arrangement, bounds)? else {
-        return Ok(Prepared::Stays);
+        return Ok(Becomes::Stays);
     };
-    Ok(Prepared::Changes(lw_reveal::prepare(alloc, layer, bounds, &visible)?))
+    Ok(Becomes::Changes(lw_reveal::prepare(alloc, layer, bounds, &visible)?))
 }
 
-/// Makes of the cell what was prepared from it. It takes no memory and can't be refused.
-pub fn commit(cell: &mut Cell, prepared: Prepared)
-    requires { (to : CellView) × IsPrepared cell.old to prepared }
-    ensures { (to : CellView) → IsPrepared cell.old to prepared → cell.new ≡ to }
+/// Puts the strips that the cell loses into the pool, which has room for them.
+pub fn give_up(prepared: &mut Prepared, pool: &mut Pool)
+    requires { length prepared.old.exchange.lost.items ≤ pool.old.spare }
+    ensures pool { pool.new ≡ record {
+      strips = pool.old.strips ++ reverse prepared.old.exchange.lost.items;
+      spare = pool.old.spare - length prepared.old.exchange.lost.items;
+    } }
+    ensures given { prepared.new.exchange.lost.items ≡ [] }
+    ensures gained { prepared.new.exchange.gained ≡ prepared.old.exchange.gained }
+    ensures becomes { prepared.new.becomes ≡ prepared.old.becomes }
 {
-    match prepared {
-        Prepared::Stays => {}
-        Prepared::Closes => replace(cell, DraftState::Closed),
-        Prepared::Opens(draft) => replace(cell, DraftState::Live(draft)),
-        Prepared::Changes(change) => apply(cell, change),
+    prepared.exchange.give_up(pool);
+}
+
+/// Takes what the cell gains out of the pool, and makes of the cell what was prepared from it, which gave its pieces up. It takes
+/// no memory and can't be refused.
+pub fn commit(cell: &mut Cell, prepared: Prepared, pool: &mut Pool)
+    requires prepared { (to : CellView) × IsPrepared cell.old to prepared.becomes }
+    requires given { prepared.exchange.lost.items ≡ [] }
+    requires pool { (r : Rectangle) → copies r prepared.exchange.gained.items ≤ copies_in r pool.old.strips }
+    ensures cell { (to : CellView) → IsPrepared cell.old to prepared.becomes → cell.new ≡ to }
+    ensures numbers { (r : Rectangle) →
+        copies_in r pool.old.strips ≡ copies_in r pool.new.strips + copies r prepared.exchange.gained.items }
+{
+    prepared.exchange.claim(pool);
+    turn_into(cell, prepared.becomes);
+}
+
+/// Makes of the cell what is ready to be made of it. It takes no memory and can't be refused.
+pub fn turn_into(cell: &mut Cell, becomes: Becomes)
+    requires { (to : CellView) × IsPrepared cell.old to becomes }
+    ensures { (to : CellView) → IsPrepared cell.old to becomes → cell.new ≡ to }
+{
+    match becomes {
+        Becomes::Stays => {}
+        Becomes::Closes => replace(cell, DraftState::Closed),
+        Becomes::Opens(draft) => replace(cell, DraftState::Live(draft)),
+        Becomes::Changes(change) => apply(cell, change),
     }
 }
 

@@ -90,8 +90,8 @@ fn make_one<E: Engine, N: Opening, R: Wait, G: Gate>(
     Ok(answer.reply)
 }
 
-/// Makes calls of a task one after another, and gives their replies. It fails where one of them isn't a call that takes locks, or memory
-/// runs out.
+/// Makes calls of a task one after another, and gives their replies. It fails where one of them isn't a call that takes locks, or
+/// memory runs out.
 pub fn make_all<E: Engine, N: Opening, R: Wait, G: Gate>(
     rt: &R,
     alloc: Global,

@@ -1,52 +1,139 @@
-use lw_arrange::{Step, commit_info, plan_step, prepare_info};
+ghost use Rattle.std.specs.Prelude.{◌≡◌, OnOk, IsTrue};
+ghost use Rattle.lw_calls.specs.declared.touch.CallClass.TheVariants.{OnAll};
+ghost use Rattle.lw_calls.specs.Limits.{call_fits};
+ghost use Rattle.lw_calls.specs.Touches.{class_of};
+
+use lw_arrange::{Step, commit_info, give_up_info, plan_step, prepare_info};
 use lw_calls::{Call, Kind, Make, Place, Sizes};
 use lw_stack::Info;
+use lw_strips::{Pool, Strip};
+use std::alloc::Global;
 use std::test::Fail;
 
 const SIZES: Sizes = Sizes {
     version: 1,
-    width: 32,
-    height: 20,
+    width: 16,
+    height: 8,
     depth: 1,
-    slots: 1,
+    slots: 4,
     tasks: 1,
     hooks: 0,
     bitmaps: 0,
 };
 
-const CREATE: Call = Call::Create {
-    slot: 0,
-    make: Make {
-        kind: Kind::Smart,
-        place: Place::Front,
-        x: 20,
-        y: 5,
-        w: 12,
-        h: 15,
-        backdrop: false,
-        hook: None,
-        bits_w: 0,
-        bits_h: 0,
-    },
-};
+// The slot that is on top of each place of the screen: 2 is in front, 0 behind it, and 1 behind both; 3 isn't live.
+static ON_TOP: [&[u8; 16]; 8] = [
+    b"....22222222....",
+    b"..112222222211..",
+    b"00002222222211..",
+    b"00002222222211..",
+    b"00000000111111..",
+    b"00000000111111..",
+    b"..111111111111..",
+    b"..111111111111..",
+];
 
-#[test]
-fn the_list_takes_up_what_was_planned(rt: HostRuntime) -> Result<(), Fail> {
-    let alloc = rt.alloc();
-    let mut info = Info::new(alloc, &SIZES)?;
-    let looks = Vec::from_slice(alloc, &[None])?;
-    let call = CREATE;
-    assert!(rt; SIZES.fits(&call));
-    let Step::Arranged(plan) = plan_step(alloc, &info, looks.as_slice(), true, 0, &call)? else {
+// A layer of w columns and h rows from (x, y) on, in front of all others.
+fn create(slot: u32, x: i32, y: i32, w: i32, h: i32) -> Call
+    ensures { class_of result ≡ OnAll }
+{
+    Call::Create {
+        slot,
+        make: Make {
+            kind: Kind::Smart,
+            place: Place::Front,
+            x,
+            y,
+            w,
+            h,
+            backdrop: false,
+            hook: None,
+            bits_w: 0,
+            bits_h: 0,
+        },
+    }
+}
+
+// Creates a layer on LayerInfo alone, whose desktop then gains nothing. Answers how many strips the desktop gives up.
+fn put(alloc: Global, info: &mut Info, call: &Call) -> Result<usize, Fail>
+    requires class { class_of call.now ≡ OnAll }
+    requires sizes { info.old.sizes ≡ SIZES }
+    ensures { OnOk result (info.new.sizes ≡ SIZES) }
+{
+    if !info.sizes().fits(call) {
+        return Err(Fail::new("the call doesn't fit"));
+    }
+    arrange(alloc, info, call)
+}
+
+// Makes the call, which fits.
+fn arrange(alloc: Global, info: &mut Info, call: &Call) -> Result<usize, Fail>
+    requires class { class_of call.now ≡ OnAll }
+    requires fits { IsTrue (call_fits info.old.sizes call.now) }
+    requires sizes { info.old.sizes ≡ SIZES }
+    ensures { OnOk result (info.new.sizes ≡ SIZES) }
+{
+    let looks = Vec::from_slice(alloc, &[None, None, None, None])?;
+    let Step::Arranged(plan) = plan_step(alloc, info, looks.as_slice(), true, 0, call)? else {
         return Err(Fail::new("refused"));
     };
+    let mut next = prepare_info(alloc, info, &plan)?;
+    let mut pool = Pool::new(alloc);
+    pool.reserve(next.pieces())?;
+    give_up_info(&mut next, &mut pool);
+    if !next.exchange.gained.is_empty() {
+        return Err(Fail::new("the desktop gains"));
+    }
+    // Reading the sizes tells the proof what holds of the plan.
+    let _ = plan.sizes();
+    commit_info(info, next, &mut pool);
+    Ok(pool.strips().len())
+}
+
+fn digit(slot: Option<u32>) -> u8 {
+    match slot {
+        Some(0) => b'0',
+        Some(1) => b'1',
+        Some(2) => b'2',
+        Some(_) => b'?',
+        None => b'.',
+    }
+}
+
+// How many of the strips have the place.
+fn count_at(strips: &[Strip], x: i32, y: i32) -> usize {
+    strips.iter().filter(|strip| strip.rect().has(x, y)).count()
+}
+
+#[test]
+fn the_list_tells_what_is_on_top_and_the_desktop_has_the_rest(rt: HostRuntime) -> Result<(), Fail> {
+    let alloc = rt.alloc();
+    let mut info = Info::new(alloc, &SIZES)?;
     assert!(rt; info.order().is_empty());
-    let prepared = prepare_info(alloc, &info, &plan)?;
-    commit_info(&mut info, prepared);
-    assert_eq!(rt; info.order(), [0].as_slice());
-    assert!(rt; 0 < info.sizes().slots);
-    let bounds = info.bounds(0).ok_or("no bounds")?;
-    assert!(rt; bounds.min_x() == 20 && bounds.max_x() == 31);
-    assert!(rt; bounds.min_y() == 5 && bounds.max_y() == 19);
+    assert!(rt; info.active().is_none());
+    assert_eq!(rt; info.desktop().len(), 1);
+    // What the desktop loses to one layer is one piece or, where other layers cut it, more.
+    assert_eq!(rt; put(alloc, &mut info, &create(1, 2, 1, 12, 7))?, 1);
+    assert_eq!(rt; put(alloc, &mut info, &create(0, 0, 2, 8, 4))?, 1);
+    assert_eq!(rt; put(alloc, &mut info, &create(2, 4, 0, 8, 4))?, 1);
+    assert_eq!(rt; info.order(), [2, 0, 1].as_slice());
+    assert!(rt; info.bounds(3).is_none());
+    for y in 0..8u8 {
+        for x in 0..16u8 {
+            let top = info.which(i32::from(x), i32::from(y));
+            assert_eq!(rt; digit(top), ON_TOP[usize::from(y)][usize::from(x)]);
+            let strips = count_at(info.desktop(), i32::from(x), i32::from(y));
+            assert_eq!(rt; strips == 1, top.is_none());
+            assert!(rt; strips <= 1);
+        }
+    }
+    for slot in 0..4 {
+        let shown = info.visible_of(alloc, slot)?;
+        for y in 0..8 {
+            for x in 0..16 {
+                assert_eq!(rt; shown.has(x, y), info.which(x, y) == Some(slot));
+            }
+        }
+    }
     Ok(())
 }

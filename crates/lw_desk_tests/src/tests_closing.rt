@@ -82,8 +82,8 @@ fn close_again<E: Engine, N: Opening, R: Wait + Abort>(
     Ok(closed)
 }
 
-// Two tasks make their calls on a desk with its passes before the first call, which is then closed. Where it was not closed, more is
-// filled and it is closed again. Gives what is left, what the tasks were told, and whether more was filled.
+// Two tasks make their calls on a desk with its passes before the first call, which is then closed. Where it was not closed, more
+// is filled and it is closed again. Gives what is left, what the tasks were told, and whether more was filled.
 fn close_run<E: Engine, N: Opening, R: Wait + Abort>(
     rt: &R,
     alloc: Global,

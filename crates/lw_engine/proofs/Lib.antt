@@ -14,3 +14,4 @@ pub mod ArrangingLists
 pub mod ArrangingDesks
 pub mod HookLaws
 pub mod FewRectangles
+pub mod ExchangeSums

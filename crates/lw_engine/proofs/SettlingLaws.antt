@@ -20,8 +20,8 @@ use Rattle.lw_layer.specs.Drafts.{no_layer}
 use Rattle.lw_layer.specs.StandsFor.{IsSound}
 use Rattle.lw_frames.specs.Framing.{with_own_frame}
 use Rattle.lw_stack.specs.Stack.{bounds_at}
-use Rattle.lw_arrange.specs.declared.preparing.Prepared.{Prepared}
-use Rattle.lw_arrange.specs.declared.preparing.Prepared.TheVariants.{Stays, Closes, Opens, Changes}
+use Rattle.lw_arrange.specs.declared.preparing.Becomes.{Becomes}
+use Rattle.lw_arrange.specs.declared.preparing.Becomes.TheVariants.{Stays, Closes, Opens, Changes}
 use Rattle.lw_arrange.specs.Arrangements.{ArrangementView}
 use Rattle.lw_arrange.specs.Prepared.{Created, created_by, created_live, becomes, with_bounds, without_layer, shown_at, cell_after, MayBecome, MayBe, MayOpen}
 use Rattle.lw_arrange.specs.Made.{IsPrepared}
@@ -141,7 +141,7 @@ may_become a c may r s bounds state =
     subst Q state (subst P bounds may.prepare)
 
 -- what is ready for a slot by its bounds and its state
-pub ready_settled : (glyphs : List (List ℕ)) (a : ArrangementView) (shelf : List (Option Hook)) (c : CellView) (p : Prepared) (gained : List Rectangle)
+pub ready_settled : (glyphs : List (List ℕ)) (a : ArrangementView) (shelf : List (Option Hook)) (c : CellView) (p : Becomes) (gained : List Rectangle)
     (w : WindowAfter) → MayBeReady a c → (c.state ≡ view.Live → IsSound (bare c).live)
     → IsPrepared (bare c) (cell_after a (bare c)) p
     → ((cell_after a (bare c)).state ≡ view.Live
@@ -203,7 +203,7 @@ ready_settled glyphs a shelf c p gained w may sound ready filled after = by_case
     still : (s : State) → c.state ≡ s → IsStill glyphs c (slot_after glyphs a shelf c) w s → IsSettledBy glyphs c (slot_after glyphs a shelf c) gained h w Stays
     still s state is = let P : State → Type 0 = λ t. IsStill glyphs c (slot_after glyphs a shelf c) w t in subst P (sym state) is
 
-    by_cases : (o : Option Rectangle) → bounds_at a.stack.bounds n ≡ o → (s : State) → c.state ≡ s → (p : Prepared) → IsPrepared b e p
+    by_cases : (o : Option Rectangle) → bounds_at a.stack.bounds n ≡ o → (s : State) → c.state ≡ s → (p : Becomes) → IsPrepared b e p
         → IsSettledBy glyphs c (slot_after glyphs a shelf c) gained h w p
     by_cases None bounds view.Unopened state Stays ready = still view.Unopened state (slot_is None view.Unopened bounds state)
     by_cases None bounds view.Unopened state Closes ready = absurd (cc (state, ready.0))

@@ -1,7 +1,8 @@
 -- What a call makes of LayerInfo, the shelf of hooks and all slots (`IsAllStep`, `DropHooks`), and words of this crate's private
 -- contracts on what is prepared for it.
-use Rattle.std.specs.Prelude.{◌≡◌, ◌↔◌, ℕ, ◌<◌, ◌≤◌, Bool, List, length, slice_set, IsTrue, Option, None}
+use Rattle.std.specs.Prelude.{◌≡◌, ◌↔◌, ℕ, ◌<◌, ◌≤◌, Bool, List, [], length, slice_set, IsTrue, Option, None}
 use Rattle.std.specs.List.{slice_index_or}
+use Rattle.lw_region.specs.Rectangle.{Rectangle}
 use Rattle.lw_calls.specs.Assets.{Assets}
 use Rattle.lw_calls.specs.declared.call.Call.{Call}
 use Rattle.lw_calls.specs.declared.call.Call.TheVariants.{Create, OpenWindow}
@@ -15,12 +16,14 @@ use Rattle.lw_layer.specs.View as view
 use Rattle.lw_layer.specs.Looks.{IsLookAt}
 use Rattle.lw_layer.specs.StandsFor.{IsSound}
 use Rattle.lw_layer.specs.declared.look.Look.{Look}
+use Rattle.lw_strips.specs.Strips.{rects_of}
 use Rattle.lw_stack.specs.Stack.{Stack}
 use Rattle.lw_arrange.specs.Arrangements.{ArrangementView}
 use Rattle.lw_engine.specs.Desks.{AreOfDesk, AreOnShelf, hook_at, no_cell, cell_at}
 use Rattle.lw_engine.specs.Slots.{hook_in, bare, ReadyView, IsSettled, IsReadyFor, nothing_ready}
 
--- What a call on all layers answers and leaves in each desk with these parts and this shelf of hooks, to which this was handed in.
+-- What a call on all layers answers and leaves in each desk with these parts and this shelf of hooks, to which this was handed
+-- in.
 abbrev pub IsAllStep : Assets → Stack → List (Option Hook) → List CellView → ℕ → Call → Reply → Stack → List (Option Hook) → List CellView → Type 0
 IsAllStep assets v shelf cells task call r new_v new_shelf new_cells =
     (d : Desk) → AreOfDesk v cells d → AreOnShelf shelf d → d.assets ≡ assets
@@ -84,3 +87,16 @@ pub record AreUnder (becomes : CellView → CellView) (k : ℕ) (slots now : Lis
   pub done : (s : ℕ) → s < k → cell_at now s ≡ becomes (cell_at slots s)
   pub left : (s : ℕ) → k ≤ s → cell_at now s ≡ cell_at slots s
   pub still : (s : ℕ) → k ≤ s → slice_index_or ready s nothing_ready ≡ slice_index_or made s nothing_ready
+
+-- the rectangles of the strips that slot s gives up, and of those that it claims
+abbrev pub lost_of : List ReadyView → ℕ → List Rectangle
+lost_of ready s = rects_of (slice_index_or ready s nothing_ready).lost
+
+abbrev pub claims_of : List ReadyView → ℕ → List Rectangle
+claims_of ready s = (slice_index_or ready s nothing_ready).claims
+
+-- what is ready, once the first k slots gave their strips up
+pub record HaveGiven (k : ℕ) (ready given : List ReadyView) : Type 0 where
+  pub many : length given ≡ length ready
+  pub done : (s : ℕ) → s < k → slice_index_or given s nothing_ready ≡ record (slice_index_or ready s nothing_ready) { lost = [] }
+  pub left : (s : ℕ) → k ≤ s → slice_index_or given s nothing_ready ≡ slice_index_or ready s nothing_ready

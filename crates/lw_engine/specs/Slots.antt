@@ -12,17 +12,19 @@ use Rattle.lw_machine.specs.Reveal.{Across, width_in, height_in, frame_is_due, r
 use Rattle.lw_layer.specs.View.{State, LiveView, CellView, keeps, with_layer, with_live, hooked}
 use Rattle.lw_layer.specs.View as view
 use Rattle.lw_layer.specs.Drafts.{IsLiveDraft, live_view, no_layer}
+use Rattle.lw_strips.specs.Strips.{StripView}
 use Rattle.lw_layer.specs.Windows.{HasRoom}
 use Rattle.lw_frames.specs.Framing.{with_own_frame}
 use Rattle.lw_frames.specs.Telling.{IsDone, with_window_told}
 use Rattle.lw_reveal.specs.Changed.{carried_to}
 use Rattle.lw_reveal.specs.Changes.{IsChange}
-use Rattle.lw_arrange.specs.declared.preparing.Prepared.{Prepared}
-use Rattle.lw_arrange.specs.declared.preparing.Prepared.TheVariants.{Stays, Closes, Opens, Changes}
+use Rattle.lw_arrange.specs.declared.preparing.Becomes.{Becomes}
+use Rattle.lw_arrange.specs.declared.preparing.Becomes.TheVariants.{Stays, Closes, Opens, Changes}
 use Rattle.lw_arrange.specs.Arrangements.{ArrangementView}
 use Rattle.lw_arrange.specs.Prepared.{MayPrepare}
 use Rattle.lw_arrange.specs.Areas.{IsShownElsewhere}
 use Rattle.lw_arrange.specs.Filled.{gains, gains_some, filled_layer, filled_by}
+use Rattle.lw_arrange.specs.Exchanged.{HasPieces}
 use Rattle.lw_arrange.specs.Settled.{across_arrangement, slot_settled}
 use Rattle.lw_engine.specs.declared.window_after.WindowAfter.{WindowAfter}
 use Rattle.lw_engine.specs.Desks.{hook_at}
@@ -74,7 +76,8 @@ due_hook a shelf c view.Closed = None
 abbrev pub filled_from : CellView → Option Hook → CellView → CellView
 filled_from c h e = filled_by h (λ x y. gains c e x y) (gains_some c e) e
 
--- the layer, which has this hook if any, once the pixels of these rectangles that it keeps were filled, with the hook or with pen 0
+-- the layer, which has this hook if any, once the pixels of these rectangles that it keeps were filled, with the hook or with pen
+-- 0
 abbrev pub filled_as : Option Hook → List Rectangle → LiveView → LiveView
 filled_as h gained c =
     with_layer (λ l. filled_layer h (λ x y. keeps c x y && covers gained (pos x) (pos y)) (not (length gained == 0)) l) c
@@ -105,10 +108,12 @@ with_frame_if due glyphs active c = if due then with_own_frame glyphs active c e
 abbrev pub followed : List (List ℕ) → WindowAfter → Across → LiveView → LiveView
 followed glyphs w q c = with_window_told q (with_frame_if w.frame glyphs w.active (with_activity w.active c))
 
--- What is ready to be made of a slot: what was prepared for its cell, the pixels that are then filled, the hook of a new layer, and
--- what becomes of the window of one that stays live.
+-- What is ready to be made of a slot: what was prepared for its cell, the strips that it gives up, the rectangles of those that
+-- it claims, the pixels that are then filled, the hook of a new layer, and what becomes of the window of one that stays live.
 pub record ReadyView : Type 0 where
-  pub prepared : Prepared
+  pub prepared : Becomes
+  pub lost : List StripView
+  pub claims : List Rectangle
   pub gained : List Rectangle
   pub taken : Option Hook
   pub window : WindowAfter
@@ -120,7 +125,7 @@ IsStill glyphs from to w view.Live = HasRoom 5 from × (q : Across) × IsDone q 
 IsStill glyphs from to w view.Closed = to ≡ from
 
 -- the one slot becomes the other by what is ready for it
-abbrev pub IsSettledBy : List (List ℕ) → CellView → CellView → List Rectangle → Option Hook → WindowAfter → Prepared → Type 0
+abbrev pub IsSettledBy : List (List ℕ) → CellView → CellView → List Rectangle → Option Hook → WindowAfter → Becomes → Type 0
 IsSettledBy glyphs from to gained taken w Stays = IsStill glyphs from to w from.state
 IsSettledBy glyphs from to gained taken w Closes =
     (from.state ≡ view.Live) × (to ≡ record { number = from.number; state = view.Closed; live = no_layer })
@@ -144,6 +149,7 @@ pub record IsReadyFor (a : ArrangementView) (shelf : List (Option Hook)) (c : Ce
   pub settled : (glyphs : List (List ℕ))
       → IsSettledBy glyphs c (slot_after glyphs a shelf c) r.gained (asked_hook shelf a.call c.number) r.window r.prepared
   pub untaken : r.taken ≡ None
+  pub pieces : HasPieces c.number a.stack.sizes.depth a.pieces r.lost r.claims
 
 -- nothing is told of a window
 abbrev pub no_window_after : WindowAfter
@@ -155,4 +161,4 @@ no_window_after = record {
 
 -- nothing is ready
 abbrev pub nothing_ready : ReadyView
-nothing_ready = record { prepared = Stays; gained = []; taken = None; window = no_window_after }
+nothing_ready = record { prepared = Stays; lost = []; claims = []; gained = []; taken = None; window = no_window_after }

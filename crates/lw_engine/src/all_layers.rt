@@ -1,28 +1,40 @@
-ghost use Rattle.std.specs.Prelude.{◌≡◌, ℕ, ◌<◌, length, option_map, IfOk, OnOk, OnErr, IsTrue};
+ghost use Rattle.std.specs.Prelude.{◌≡◌, ℕ, ◌+◌, ◌<◌, ◌≤◌, [], length, option_map, IfOk, OnOk, OnErr, IsTrue};
+ghost use Rattle.std.specs.List.{All};
+ghost use Rattle.lw_region.specs.Rectangle.{Rectangle};
 ghost use Rattle.lw_calls.specs.Limits.{call_fits};
 ghost use Rattle.lw_calls.specs.declared.touch.CallClass.TheVariants.{OnAll};
 ghost use Rattle.lw_calls.specs.Touches.{class_of};
 ghost use Rattle.lw_machine.specs.Arrangement.{hook_from};
 ghost use Rattle.lw_machine.specs.Desk.{Desk};
+ghost use Rattle.lw_strips.specs.Strips.{rects_of};
+ghost use Rattle.lw_strips.specs.Pools.{copies, copies_in};
+ghost use Rattle.lw_strips.specs.Exchange.{gained_by, lost_rects, gained_rects, pieces_of, total};
 ghost use Rattle.lw_layer.specs.View.{CellView};
 ghost use Rattle.lw_layer.specs.Windows.{HasRoom};
+ghost use Rattle.lw_stack.specs.Stack.{IsStack, stack_of};
+ghost use Rattle.lw_stack.specs.Desktop.{IsDesktop};
+ghost use Rattle.lw_arrange.specs.Areas.{HasArea};
+ghost use Rattle.lw_arrange.specs.Pieces.{ArePieces};
 ghost use Rattle.lw_engine.specs.Desks.{AreNumbered, AreOfDesk, AreAsBefore, hook_at, cell_at};
 ghost use Rattle.lw_engine.specs.Slots.{shelf_without, shelf_after, slot_after, IsSettled, MayBeReady};
-ghost use Rattle.lw_engine.specs.Arranging.{AreLooks, HasSlot, IsFreshSlot, AreReady, AreSettled, with_taken, AreChanged, IsAllStep, DropHooks};
+ghost use Rattle.lw_engine.specs.Arranging.{AreLooks, HasSlot, IsFreshSlot, AreReady, AreSettled, with_taken, lost_of, claims_of, HaveGiven, AreChanged, IsAllStep, DropHooks};
 
 use crate::ready::Ready;
 use crate::slot::Slot;
-use lw_arrange::{Arrangement, Step, commit_info, plan_step, prepare_info};
+use lw_arrange::{
+    Arrangement, PreparedInfo, Step, commit_info, give_up_info, plan_step, prepare_info,
+};
 use lw_backfill::{Backfill, Shelf};
 use lw_calls::{Assets, Call, Reply};
 use lw_layer::Look;
 use lw_stack::Info;
+use lw_strips::{Piece, Pool};
 use std::alloc::{AllocError, Global};
 use std::mem;
 
-/// Makes a call that arranges layers, on LayerInfo, the shelf of hooks and all slots in rising number, as the machine's step says of
-/// every desk to which this was handed in: it is planned, room is reserved in each window's port, everything is prepared, and only
-/// then anything is changed. It fails only when out of memory, and all is then as it was, whatever room ports have.
+/// Makes a call that arranges layers, on LayerInfo, the shelf of hooks and all slots in rising number, as the machine's step says
+/// of every desk to which this was handed in: it is planned, room is reserved in each window's port, everything is prepared, and
+/// only then anything is changed. It fails only when out of memory, and all is then as it was, whatever room ports have.
 pub fn on_all<B: Backfill>(
     alloc: Global,
     info: &mut Info,
@@ -55,7 +67,8 @@ pub fn on_all<B: Backfill>(
     }
 }
 
-// Does what was planned: all is ready before anything is changed.
+// Does what was planned: all is ready, and there is room for all pieces, before anything is changed. Then each owner gives up
+// what it loses, and after that each claims what it gains and is settled.
 fn arrange<B: Backfill>(
     alloc: Global,
     info: &mut Info,
@@ -67,6 +80,8 @@ fn arrange<B: Backfill>(
     requires sizes { arrangement.now.stack.sizes ≡ info.old.sizes }
     requires cells { AreNumbered info.old.sizes.slots slots.old }
     requires call { HasSlot (length slots.old) arrangement.now.call }
+    requires area { HasArea info.old arrangement.now }
+    requires pieces { ArePieces info.old arrangement.now.stack arrangement.now.pieces }
     requires may { (s : ℕ) → s < length slots.old → MayBeReady arrangement.now (cell_at slots.old s) }
     ensures reply { IfOk result (λ r. r ≡ Reply.Done) }
     ensures info { IfOk result (λ r. info.new ≡ arrangement.now.stack) }
@@ -74,13 +89,56 @@ fn arrange<B: Backfill>(
     ensures cells { IfOk result (λ r. AreChanged (slot_after assets.now.glyphs arrangement.now shelf.old) slots.old slots.new) }
     ensures unchanged { OnErr result ((info.new ≡ info.old) × (shelf.new ≡ shelf.old) × (slots.new ≡ slots.old)) }
 {
+    // Reading the sizes tells the proof what holds of the plan.
+    let _ = arrangement.sizes();
     let mut ready = prepare_all(alloc, slots, shelf, arrangement)?;
-    let next = prepare_info(alloc, info, arrangement)?;
+    let mut next = prepare_info(alloc, info, arrangement)?;
+    let pieces = arrangement.pieces();
+    let mut pool = Pool::new(alloc);
+    pool.reserve(pieces.len())?;
     let ready = ready.as_mut_slice();
     take_hook(shelf, ready, arrangement.call());
-    settle_all(alloc, slots, assets, ready);
-    commit_info(info, next);
+    give_up_all(pieces, ready, &mut next, &mut pool);
+    settle_all(alloc, slots, assets, ready, pieces, &mut pool);
+    commit_last(info, next, pieces, &mut pool);
     Ok(Reply::Done)
+}
+
+// Every slot and then the desktop gives up what it loses of these pieces.
+fn give_up_all<B: Backfill>(
+    pieces: &[Piece],
+    ready: &mut [Ready<B>],
+    next: &mut PreparedInfo,
+    pool: &mut Pool,
+)
+    requires owners { All (λ p. p.from < length ready.old + 1) pieces.now }
+    requires lost { (s : ℕ) → s < length ready.old → lost_of ready.old s ≡ lost_rects s pieces.now }
+    requires bare { rects_of next.old.exchange.lost.items ≡ lost_rects (length ready.old) pieces.now }
+    requires room { length pieces.now ≤ pool.old.spare }
+    requires empty { pool.old.strips ≡ [] }
+    ensures numbers { (r : Rectangle) → copies_in r pool.new.strips ≡ pieces_of r pieces.now }
+    ensures ready { HaveGiven (length ready.old) ready.old ready.new }
+    ensures given { next.new.exchange.lost.items ≡ [] }
+    ensures gained { next.new.exchange.gained ≡ next.old.exchange.gained }
+    ensures after { next.new.after ≡ next.old.after }
+{
+    for slot in 0..ready.len() {
+        ready[slot].give_up(pool);
+    }
+    give_up_info(next, pool);
+}
+
+// The desktop, as the last owner, claims what it gains of these pieces, and LayerInfo is committed. No piece is left in the pool.
+fn commit_last(info: &mut Info, next: PreparedInfo, pieces: &[Piece], pool: &mut Pool)
+    requires stack { IsStack (stack_of info.old.sizes next.after) }
+    requires desktop { IsDesktop (stack_of info.old.sizes next.after) next.after.desktop.items }
+    requires given { next.exchange.lost.items ≡ [] }
+    requires gained { next.exchange.gained.items ≡ gained_rects info.old.sizes.slots pieces.now }
+    requires last { (r : Rectangle) → copies_in r pool.old.strips ≡ gained_by r info.old.sizes.slots pieces.now }
+    ensures info { info.new ≡ stack_of info.old.sizes next.after }
+    ensures emptied { pool.new.strips ≡ [] }
+{
+    commit_info(info, next, pool);
 }
 
 // Reserves room in each window's port for as many messages as it may be due, so that none can fail to be put.
@@ -161,25 +219,40 @@ fn take<B: Backfill>(shelf: &mut Shelf<B>, hook: Option<u32>) -> Option<B>
     }
 }
 
-// Settles every slot.
+// Settles every slot, which claims what it gains of these pieces.
 fn settle_all<B: Backfill>(
     alloc: Global,
     slots: &mut [Slot<B>],
     assets: &Assets,
     ready: &mut [Ready<B>],
+    pieces: &[Piece],
+    pool: &mut Pool,
 )
-    requires { (after : CellView → CellView) × AreSettled assets.now.glyphs after slots.old ready.old }
-    ensures { (after : CellView → CellView) → AreSettled assets.now.glyphs after slots.old ready.old → AreChanged after slots.old slots.new }
+    requires settled { (after : CellView → CellView) × AreSettled assets.now.glyphs after slots.old ready.old }
+    requires claims { (s : ℕ) → s < length ready.old → claims_of ready.old s ≡ gained_rects s pieces.now }
+    requires pool { (r : Rectangle) → total (length slots.old) (λ s. gained_by r s pieces.now) ≤ copies_in r pool.old.strips }
+    ensures settled { (after : CellView → CellView) → AreSettled assets.now.glyphs after slots.old ready.old → AreChanged after slots.old slots.new }
+    ensures numbers { (r : Rectangle) →
+        copies_in r pool.old.strips ≡ copies_in r pool.new.strips + total (length slots.old) (λ s. gained_by r s pieces.now) }
 {
     for slot in 0..slots.len() {
-        settle_one(alloc, &mut slots[slot], assets, &mut ready[slot]);
+        settle_one(alloc, &mut slots[slot], assets, &mut ready[slot], pool);
     }
 }
 
 // Settles one slot.
-fn settle_one<B: Backfill>(alloc: Global, slot: &mut Slot<B>, assets: &Assets, ready: &mut Ready<B>)
-    requires { (to : CellView) × IsSettled assets.now.glyphs slot.old to ready.old }
-    ensures { (to : CellView) → IsSettled assets.now.glyphs slot.old to ready.old → slot.new ≡ to }
+fn settle_one<B: Backfill>(
+    alloc: Global,
+    slot: &mut Slot<B>,
+    assets: &Assets,
+    ready: &mut Ready<B>,
+    pool: &mut Pool,
+)
+    requires settled { (to : CellView) × IsSettled assets.now.glyphs slot.old to ready.old }
+    requires pool { (r : Rectangle) → copies r ready.old.claims ≤ copies_in r pool.old.strips }
+    ensures settled { (to : CellView) → IsSettled assets.now.glyphs slot.old to ready.old → slot.new ≡ to }
+    ensures numbers { (r : Rectangle) → copies_in r pool.old.strips ≡ copies_in r pool.new.strips + copies r ready.old.claims }
 {
-    slot.settle(alloc, assets, mem::replace(ready, Ready::stays(alloc)));
+    let ready = mem::replace(ready, Ready::stays(alloc));
+    slot.settle(alloc, assets, ready, pool);
 }

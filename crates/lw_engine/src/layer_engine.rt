@@ -43,8 +43,8 @@ impl<'a, B: Backfill> LayerEngine<'a, B> {
         }
     }
 
-    /// The parts of the desk before the first call: no layer was created, the hooks are on the shelf, in their order, and all registers
-    /// are empty. It fails only when out of memory.
+    /// The parts of the desk before the first call: no layer was created, the hooks are on the shelf, in their order, and all
+    /// registers are empty. It fails only when out of memory.
     pub fn open(&self, alloc: Global, hooks: Vec<B>) -> Result<Opened<B>, AllocError>
         requires { IsWithinLimits self.now.sizes }
         ensures layers { IfOk result (λ o. AreLayers self.now.sizes self.now.assets.now o.info o.slots.items
@@ -65,8 +65,8 @@ impl<'a, B: Backfill> LayerEngine<'a, B> {
         })
     }
 
-    /// What a run leaves of these parts whose tasks had these replies, a list for each task: the screen, where each layer is shown with
-    /// its damage, and the replies. It fails only when out of memory.
+    /// What a run leaves of these parts whose tasks had these replies, a list for each task: the screen, where each layer is
+    /// shown with its damage, and the replies. It fails only when out of memory.
     pub fn finish(
         &self,
         alloc: Global,

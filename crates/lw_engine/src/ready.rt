@@ -1,6 +1,8 @@
 // What an arrangement makes of one slot, in two steps: making it ready takes all the memory, and settling it takes none.
 
-ghost use Rattle.std.specs.Prelude.{◌≡◌, ◌<◌, ◌||◌, option_map, is_some, true, false, if◌then◌else◌, [], IfOk};
+ghost use Rattle.std.specs.Prelude.{◌≡◌, ◌+◌, ◌-◌, ◌<◌, ◌≤◌, ◌++◌, reverse, length, ◌||◌, option_map, is_some, true, false, if◌then◌else◌, [], IfOk};
+ghost use Rattle.lw_region.specs.Rectangle.{Rectangle};
+ghost use Rattle.lw_strips.specs.Pools.{copies, copies_in};
 ghost use Rattle.lw_machine.specs.Arrangement.{hook_from};
 ghost use Rattle.lw_machine.specs.Layer.{is_framed};
 ghost use Rattle.lw_machine.specs.Reveal.{Across};
@@ -20,7 +22,7 @@ ghost use Rattle.lw_engine.specs.Slots.{asked_hook, bare, filled_as, followed, h
 
 use crate::slot::Slot;
 use crate::window_after::{WindowAfter, follow, window_after};
-use lw_arrange::{Arrangement, Prepared, commit, gained, prepare};
+use lw_arrange::{Arrangement, Becomes, Exchange, gained, prepare, turn_into};
 use lw_backfill::{Backfill, Shelf, Solid};
 use lw_calls::{Assets, Call};
 use lw_frames::paint_own_frame;
@@ -28,14 +30,16 @@ use lw_hook_fill::fill;
 use lw_layer::{Cell, Layer, LiveDraft};
 use lw_region::Region;
 use lw_reveal::Change;
+use lw_strips::Pool;
 use std::alloc::{AllocError, Global};
 use std::marker::Model;
 
-/// What is ready to be made of one slot: what was prepared for its cell, the pixels that are then filled, the hook that a new layer
-/// takes from the shelf, and what becomes of the window of a layer that stays live.
+/// What is ready to be made of one slot: what was prepared for its cell, the pieces that it loses and gains, the pixels that are
+/// then filled, the hook that a new layer takes from the shelf, and what becomes of the window of a layer that stays live.
 #[derive(Drop)]
 pub(crate) struct Ready<B: Backfill> {
-    pub(crate) prepared: Prepared,
+    pub(crate) prepared: Becomes,
+    pub(crate) exchange: Exchange,
     pub(crate) gained: Region,
     pub(crate) taken: Option<B>,
     pub(crate) window: WindowAfter,
@@ -47,7 +51,7 @@ impl<B: Backfill> Model for Ready<B> {
 
     ghost Value = { ReadyView };
 
-    ghost view = { λ r. record { prepared = r.prepared; gained = r.gained; taken = option_map B.hook r.taken; window = r.window } };
+    ghost view = { λ r. record { prepared = r.prepared; lost = r.exchange.lost.items; claims = r.exchange.gained.items; gained = r.gained; taken = option_map B.hook r.taken; window = r.window } };
 }
 
 impl<B: Backfill> Ready<B> {
@@ -56,7 +60,8 @@ impl<B: Backfill> Ready<B> {
         ensures { result ≡ nothing_ready }
     {
         Ready {
-            prepared: Prepared::Stays,
+            prepared: Becomes::Stays,
+            exchange: Exchange::none(alloc),
             gained: Region::new(alloc),
             taken: None,
             window: WindowAfter::none(),
@@ -69,11 +74,23 @@ impl<B: Backfill> Ready<B> {
     {
         self.taken = hook;
     }
+
+    /// Puts the strips that the slot loses into the pool, which has room for them.
+    pub(crate) fn give_up(&mut self, pool: &mut Pool)
+        requires { length self.old.lost ≤ pool.old.spare }
+        ensures pool { pool.new ≡ record {
+          strips = pool.old.strips ++ reverse self.old.lost;
+          spare = pool.old.spare - length self.old.lost;
+        } }
+        ensures given { self.new ≡ record self.old { lost = [] } }
+    {
+        self.exchange.give_up(pool);
+    }
 }
 
 impl<B: Backfill> Slot<B> {
-    /// Prepares the slot for the arrangement, before which these hooks are on the shelf. It changes nothing, and leaves the hook of a
-    /// new layer on the shelf. It fails only when out of memory.
+    /// Prepares the slot for the arrangement, before which these hooks are on the shelf. It changes nothing, and leaves the hook
+    /// of a new layer on the shelf. It fails only when out of memory.
     pub(crate) fn prepare(
         &self,
         alloc: Global,
@@ -93,7 +110,8 @@ impl<B: Backfill> Slot<B> {
         let gained = pixels_filled(alloc, gained, hooked, window.change.sized);
         let _ = gained.rects();
         Ok(Ready {
-            prepared,
+            prepared: prepared.becomes,
+            exchange: prepared.exchange,
             gained,
             taken: None,
             window,
@@ -107,24 +125,34 @@ impl<B: Backfill> Slot<B> {
         self.held.is_some() || asks_for_hook(shelf, call, self.cell.slot())
     }
 
-    /// Makes of the slot what is ready for it: a layer that is deleted drops its hook, a new layer takes its own, what a layer gained is
-    /// filled, by its hook if it has one, which then turns if that was a pixel, and a window's frame is painted and its messages put.
-    /// It takes no memory and can't be refused.
-    pub(crate) fn settle(&mut self, alloc: Global, assets: &Assets, ready: Ready<B>)
-        requires { (to : CellView) × IsSettled assets.now.glyphs self.old to ready }
-        ensures { (to : CellView) → IsSettled assets.now.glyphs self.old to ready → self.new ≡ to }
+    /// Makes of the slot what is ready for it, which gave its strips up: it claims those that it gains; a layer that is deleted
+    /// drops its hook, a new layer takes its own, what a layer gained is filled, by its hook if it has one, which then turns if
+    /// that was a pixel, and a window's frame is painted and its messages put. It takes no memory and can't be refused.
+    pub(crate) fn settle(
+        &mut self,
+        alloc: Global,
+        assets: &Assets,
+        ready: Ready<B>,
+        pool: &mut Pool,
+    )
+        requires settled { (to : CellView) × IsSettled assets.now.glyphs self.old to ready }
+        requires pool { (r : Rectangle) → copies r ready.claims ≤ copies_in r pool.old.strips }
+        ensures settled { (to : CellView) → IsSettled assets.now.glyphs self.old to ready → self.new ≡ to }
+        ensures numbers { (r : Rectangle) → copies_in r pool.old.strips ≡ copies_in r pool.new.strips + copies r ready.claims }
     {
         let Ready {
             prepared,
+            exchange,
             gained,
             taken,
             window,
         } = ready;
+        exchange.claim(pool);
         match prepared {
-            Prepared::Stays => self.stay(alloc, assets, &window),
-            Prepared::Closes => self.close(),
-            Prepared::Opens(draft) => self.open(alloc, assets, draft, taken, &gained),
-            Prepared::Changes(change) => self.change(alloc, assets, change, &gained, &window),
+            Becomes::Stays => self.stay(alloc, assets, &window),
+            Becomes::Closes => self.close(),
+            Becomes::Opens(draft) => self.open(alloc, assets, draft, taken, &gained),
+            Becomes::Changes(change) => self.change(alloc, assets, change, &gained, &window),
         }
     }
 
@@ -144,7 +172,7 @@ impl<B: Backfill> Slot<B> {
         requires { self.old.state ≡ view.Live }
         ensures { self.new ≡ record { number = self.old.number; state = view.Closed; live = no_layer } }
     {
-        commit(&mut self.cell, Prepared::Closes);
+        turn_into(&mut self.cell, Becomes::Closes);
         self.held = None;
     }
 
@@ -165,7 +193,7 @@ impl<B: Backfill> Slot<B> {
           live = with_own_frame assets.now.glyphs false (filled_as (option_map B.hook taken) gained.now (live_view draft));
         } }
     {
-        commit(&mut self.cell, Prepared::Opens(draft));
+        turn_into(&mut self.cell, Becomes::Opens(draft));
         self.held = taken;
         let Some(layer) = self.cell.layer_mut() else {
             unreachable!();
@@ -194,7 +222,7 @@ impl<B: Backfill> Slot<B> {
     {
         // Reading this tells the proof that the cell has no hook of its own.
         let _ = self.cell.look();
-        commit(&mut self.cell, Prepared::Changes(change));
+        turn_into(&mut self.cell, Becomes::Changes(change));
         let Some(layer) = self.cell.layer_mut() else {
             unreachable!();
         };

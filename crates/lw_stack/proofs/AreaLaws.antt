@@ -94,6 +94,21 @@ nothing_left area bounds slots more rest sets h empty = record {
       ∙ ap (λ o. covers area x y && is_the o s) (sym (first_of_more bounds slots more x y)));
 }
 
+-- and nothing is left of it behind them
+none_seen : (a : Bool) (o p : Option ℕ) → (a && not (is_some o)) ≡ false → (a && not (is_some (option_or o p))) ≡ false
+none_seen false o p e = refl
+none_seen true None p e = absurd (false≢true (sym e))
+none_seen true (Some m) p e = refl
+
+pub none_left : (area : List Rectangle) (bounds : List (Option Rectangle)) (slots more : List ℕ) (rest : List Rectangle)
+    (sets : List (List Rectangle)) → ArePassedIn area bounds slots rest sets → rest ≡ []
+    → (x y : ℤ) → covers rest x y ≡ (covers area x y && not (some_at bounds (slots ++ more) x y))
+none_left area bounds slots more rest sets h empty x y =
+    no_pixel rest x y empty
+    ∙ sym (ap (λ o. covers area x y && not (is_some o)) (first_of_more bounds slots more x y)
+    ∙ none_seen (covers area x y) (first_at bounds slots x y) (first_at bounds more x y)
+    (sym (h.left x y) ∙ no_pixel rest x y empty))
+
 -- a rectangle that lies apart from the rest takes nothing of it
 pub rest_kept : (a b : Bool) → (a && b) ≡ false → a ≡ (a && not b)
 rest_kept false b e = refl

@@ -3,3 +3,4 @@ pub mod FirstLaws
 pub mod ShownLaws
 pub mod AreaLaws
 pub mod ListedLaws
+pub mod DesktopLaws

@@ -1,12 +1,14 @@
 ghost use Rattle.std.specs.Prelude.{◌≡◌, ◌<◌, [], None, replicate, ℤ, IfOk};
 ghost use Rattle.lw_calls.specs.Limits.{IsWithinLimits};
 ghost use Rattle.lw_stack.specs.Stack.{Stack, bounds_at, first_at, is_first_at, IsStack, stack_of};
+ghost use Rattle.lw_stack.specs.Desktop.{IsDesktop};
 ghost use Rattle.lw_region.specs.Bands.{covers};
 ghost use Rattle.lw_machine.specs.Screen.{bounds_have};
 
 use crate::shown::{cover, uncovered};
 use lw_calls::Sizes;
 use lw_region::{Rect, Region};
+use lw_strips::{Strip, screen_of};
 use std::alloc::{AllocError, Global};
 use std::marker::Model;
 use std::mem;
@@ -20,10 +22,12 @@ pub struct InfoDraft {
     pub bounds: Vec<Option<Rect>>,
     /// The slot of the active window; `None` where no window is active.
     pub active: Option<u32>,
+    /// What of the screen no layer has, as strips of pen 0.
+    pub desktop: Vec<Strip>,
 }
 
-/// What belongs to no layer alone: which layers there are, their order and their bounds, and the active window (the manual's
-/// Layers Library chapter: the `Layer_Info` structure).
+/// What belongs to no layer alone: which layers there are, their order and their bounds, the active window, and the desktop (the
+/// manual's Layers Library chapter: the `Layer_Info` structure; window and desktop are this project's own).
 #[derive(Debug, Drop)]
 pub struct Info {
     sizes: Sizes,
@@ -32,16 +36,17 @@ pub struct Info {
 
 impl Model for Info {
     ghost use Rattle.lw_stack.specs.Stack.{Stack, IsStack, stack_of};
+    ghost use Rattle.lw_stack.specs.Desktop.{IsDesktop};
 
     ghost Value = { Stack };
 
     ghost view = { λ i. stack_of i.sizes i.draft };
 
-    ghost invariant = { λ i. IsStack (stack_of i.sizes i.draft) };
+    ghost invariant = { λ i. IsStack (stack_of i.sizes i.draft) × IsDesktop (stack_of i.sizes i.draft) i.draft.desktop.items };
 }
 
 impl Info {
-    /// The list of a desk on which nothing was created so far. It fails only when out of memory.
+    /// The list of a desk on which nothing was created so far: the desktop is one strip. It fails only when out of memory.
     pub fn new(alloc: Global, sizes: &Sizes) -> Result<Info, AllocError>
         requires { IsWithinLimits sizes.now }
         ensures { IfOk result
@@ -51,12 +56,16 @@ impl Info {
         for _slot in 0..sizes.slots {
             bounds.push(None)?;
         }
+        let mut desktop = Vec::with_capacity(alloc, 1)?;
+        let screen = screen_of(sizes.width, sizes.height);
+        desktop.push(Strip::blank(screen, sizes.depth))?;
         Ok(Info {
             sizes: *sizes,
             draft: InfoDraft {
                 order: Vec::new(alloc),
                 bounds,
                 active: None,
+                desktop,
             },
         })
     }
@@ -88,11 +97,25 @@ impl Info {
         }
     }
 
+    /// The bounds of all slots, as `bounds` tells them.
+    pub fn all_bounds(&self) -> &[Option<Rect>]
+        ensures { result.now ≡ self.now.bounds }
+    {
+        self.draft.bounds.as_slice()
+    }
+
     /// The slot of the active window; `None` exactly where no window is active.
     pub fn active(&self) -> Option<u32>
         ensures { result ≡ self.now.active }
     {
         self.draft.active
+    }
+
+    /// The desktop: what of the screen no layer has, as disjoint strips of pen 0.
+    pub fn desktop(&self) -> &[Strip]
+        ensures { IsDesktop self.now result.now }
+    {
+        self.draft.desktop.as_slice()
     }
 
     /// The slot of the layer that is on top at column `x` and row `y` of the screen; `None` exactly where no layer has the
@@ -127,11 +150,14 @@ impl Info {
         Ok(Region::new(alloc))
     }
 
-    /// Takes up another list, with its bounds and its active window, and hands back the former one. It takes no memory.
+    /// Takes up another list, with its bounds, its active window and its desktop, and hands back the former one. It takes no
+    /// memory.
     pub fn take_up(&mut self, draft: InfoDraft) -> InfoDraft
-        requires { IsStack (stack_of self.old.sizes draft) }
+        requires stack { IsStack (stack_of self.old.sizes draft) }
+        requires desktop { IsDesktop (stack_of self.old.sizes draft) draft.desktop.items }
         ensures taken { self.new ≡ stack_of self.old.sizes draft }
         ensures former { stack_of self.old.sizes result ≡ self.old }
+        ensures desktop { IsDesktop self.old result.desktop.items }
     {
         mem::replace(&mut self.draft, draft)
     }

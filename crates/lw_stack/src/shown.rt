@@ -1,36 +1,48 @@
 ghost use Rattle.std.specs.Prelude.{◌≡◌, ◌↔◌, ℕ, ◌<◌, ◌==◌, false, not, ◌&&◌, ◌||◌, [], length, replicate, ℤ, IfOk, OnOk, OnErr};
 ghost use Rattle.std.specs.List.{All, slice_index_or};
+ghost use Rattle.std.specs.Option.{is_some};
 ghost use Rattle.lw_region.specs.Rectangle.{has_pixel};
 ghost use Rattle.lw_region.specs.Bands.{covers};
 ghost use Rattle.lw_machine.specs.Screen.{bounds_have};
-ghost use Rattle.lw_stack.specs.Stack.{bounds_at, AreShownIn, LieApart};
+ghost use Rattle.lw_stack.specs.Stack.{bounds_at, first_at, AreShownIn, LieApart};
 
 use lw_region::{Rect, Region, clear_region, or_region};
 use std::alloc::{AllocError, Global};
 
+/// What is shown within an area: of each layer, and of nothing but the desktop.
+#[derive(Debug, Drop)]
+pub struct Shown {
+    /// By slot what is shown of its layer.
+    pub sets: Vec<Region>,
+    /// What no layer has.
+    pub rest: Region,
+}
+
 /// What is shown within an area of each layer of a list of slots from front to back, by slot: the places of the area where it is
 /// the first of the list whose bounds have them. A slot that isn't in the list has an empty region. `bounds` has the layers'
 /// bounds by slot. (One pass from the front over what is left of the area, as the X server's miComputeClips makes it, which ends
-/// where nothing is left.) It fails only when out of memory.
+/// where nothing is left.) What is left at the end is the rest. It fails only when out of memory.
 pub fn shown_in(
     alloc: Global,
     area: &Region,
     order: &[u32],
     bounds: &[Option<Rect>],
-) -> Result<Vec<Region>, AllocError>
+) -> Result<Shown, AllocError>
     requires { All (λ s. s < length bounds.now) order.now }
-    ensures { IfOk result (λ sets. AreShownIn area.now bounds.now order.now sets.items) }
+    ensures sets { IfOk result (λ shown. AreShownIn area.now bounds.now order.now shown.sets.items) }
+    ensures rest { IfOk result (λ shown. (x y : ℤ) →
+        covers shown.rest x y ≡ (covers area.now x y && not (is_some (first_at bounds.now order.now x y)))) }
 {
     let mut sets = empty_sets(alloc, bounds.len())?;
     // What the layers in front leave of the area.
     let mut rest = area.copy(alloc)?;
     for slot in order {
         if rest.rects().is_empty() {
-            return Ok(sets);
+            return Ok(Shown { sets, rest });
         }
         show_in(alloc, *slot, bounds, &mut rest, &mut sets)?;
     }
-    Ok(sets)
+    Ok(Shown { sets, rest })
 }
 
 fn empty_sets(alloc: Global, count: usize) -> Result<Vec<Region>, AllocError>
@@ -118,7 +130,8 @@ pub(crate) fn uncovered(
     Ok(shown)
 }
 
-/// Adds the pixels of the bounds, if there are any, to the region. It fails only when out of memory, and then the region stays as it was.
+/// Adds the pixels of the bounds, if there are any, to the region. It fails only when out of memory, and then the region stays as
+/// it was.
 pub fn cover(alloc: Global, bounds: Option<Rect>, covered: &mut Region) -> Result<(), AllocError>
     ensures ok { OnOk result ((x y : ℤ) → covers covered.new x y ≡ (covers covered.old x y || bounds_have bounds x y)) }
     ensures err { OnErr result (covered.new ≡ covered.old) }

@@ -1,5 +1,7 @@
-use Rattle.std.proofs.Common.{length, refl, sym, ap, subst, ◌∙◌}
+use Rattle.std.proofs.Common.{◌≡◌, ◌+◌, length, refl, sym, ap, subst, ◌∙◌}
+use Rattle.std.specs.List.{All}
 use Rattle.lw_calls.specs.declared.sizes.Sizes.{Sizes}
+use Rattle.lw_strips.specs.Laying.{screen, LiesIn}
 use Rattle.lw_stack.specs.Stack.{Stack, IsStack, StandsForInfo, stack_of}
 use Rattle.lw_machine.specs.Parts.{info_part}
 use Rattle.lw_arrange.specs.Arrangements.{ArrangementView}
@@ -11,7 +13,10 @@ use Rattle.lw_arrange.proofs.StackLaws.{below_along}
 use Rattle.lw_arrange.proofs.RefusalLaws.{refused_is_refusal}
 use Rattle.lw_arrange.proofs.SoundLaws.{new_rect, after_sound}
 use Rattle.lw_arrange.proofs.ArrangedLaws.{after_stands}
-use Rattle.lw_arrange.proofs.ElsewhereLaws.{plan_area}
+use Rattle.lw_arrange.specs.Pieces.{ArePieces}
+use Rattle.lw_arrange.specs.Planning.{stack_after}
+use Rattle.lw_arrange.proofs.ElsewhereLaws.{top_elsewhere, plan_area}
+use Rattle.lw_arrange.proofs.PieceLaws.{area_on_screen, are_pieces, pieces_on_screen}
 use Rattle.lw_arrange.proofs.plan.plan_step.Goals as goal
 
 pub returns-in-Some-clause-step : goal.returns-in-Some-clause-step
@@ -73,6 +78,49 @@ returns-clause-area c =
     let after = c.in_ok-after.after in
     let Q : ArrangementView → Type 0 = λ p. HasArea v p in
     subst Q (sym c.new.ensures)
-    (plan_area v (stack_of sizes after) a.looks.now a.task a.call.now c.in_ok-call.call c.in_ok-area.area c.in_ok-shown.shown.items
+    (plan_area v (stack_of sizes after) a.looks.now a.task a.call.now c.in_ok-call.call c.in_ok-area.area c.in_ok-shown.shown.sets.items
+    c.in_ok-shown.shown.rest c.in_ok-pieces.pieces.items
     (ap (λ (z : Sizes). stack_of z after) c.sizes-sizes.ensures.value ∙ c.in_ok-after.ensures {u = tt}) (c.in_ok-call.ensures {u = tt})
     (c.in_ok-area.ensures {u = tt}))
+
+pub new-requires-clause-pieces : goal.new-requires-clause-pieces
+new-requires-clause-pieces c =
+    let v = c.args.info.now in
+    let slots = ap (λ (z : Sizes). z.slots) c.sizes-sizes.ensures.value in
+    let P : Sizes → Type 0 = λ z. All (λ p. LiesIn p.rect (screen z.width z.height)) c.in_ok-pieces.pieces.items in
+    subst P (sym c.sizes-sizes.ensures.value)
+    (pieces_on_screen v c.in_ok-area.area c.in_ok-were.were.sets.items c.in_ok-were.were.rest c.in_ok-shown.shown.sets.items
+    c.in_ok-shown.shown.rest _ c.in_ok-pieces.pieces.items (ap (λ n. n + 1) slots)
+    (record { many = c.sizes-sizes.ensures.stack.many; shown = c.in_ok-were.ensures.sets; left = c.in_ok-were.ensures.rest }) (area_on_screen v (stack_of v.sizes c.in_ok-after.after) c.args.call.now c.in_ok-area.area c.sizes-sizes.ensures.stack
+    (subst IsStack (sym (c.in_ok-after.ensures {u = tt}))
+    (after_sound c.args.info.now c.args.looks.now c.args.fresh c.args.task c.args.call.now c.sizes-sizes.ensures.stack c.requires.fits
+    (sym c.refused.ensures ∙ c.in_default.is))) refl (c.in_ok-area.ensures {u = tt}))
+    c.in_ok-pieces.ensures)
+
+pub returns-clause-pieces : goal.returns-clause-pieces
+returns-clause-pieces c =
+    let a = c.args in
+    let v = a.info.now in
+    let after = c.in_ok-after.after in
+    let slots = ap (λ (z : Sizes). z.slots) c.sizes-sizes.ensures.value in
+    let made : stack_of v.sizes after ≡ stack_after v a.looks.now a.call.now = c.in_ok-after.ensures {u = tt} in
+    let sound = subst IsStack (sym (c.in_ok-after.ensures {u = tt}))
+    (after_sound c.args.info.now c.args.looks.now c.args.fresh c.args.task c.args.call.now c.sizes-sizes.ensures.stack c.requires.fits
+    (sym c.refused.ensures ∙ c.in_default.is)) in
+    let Q : ArrangementView → Type 0 = λ p. ArePieces v p.stack p.pieces in
+    let R : Sizes → Type 0 = λ z. ArePieces v (stack_of z after) c.in_ok-pieces.pieces.items in
+    subst Q (sym c.new.ensures)
+    (subst R (sym c.sizes-sizes.ensures.value)
+    (are_pieces v (stack_of v.sizes after) c.in_ok-area.area c.in_ok-were.were.sets.items c.in_ok-were.were.rest c.in_ok-shown.shown.sets.items
+    c.in_ok-shown.shown.rest _ c.in_ok-pieces.pieces.items (ap (λ n. n + 1) slots) refl
+    (record { many = c.sizes-sizes.ensures.stack.many; shown = c.in_ok-were.ensures.sets; left = c.in_ok-were.ensures.rest })
+    (record {
+      many = sound.many;
+      shown = rw (c.as_slice-2.ensures.value, c.as_slice.ensures.value) at c.in_ok-shown.ensures.sets;
+      left = rw (c.as_slice-2.ensures.value, c.as_slice.ensures.value) at c.in_ok-shown.ensures.rest;
+    }) (area_on_screen v (stack_of v.sizes c.in_ok-after.after) c.args.call.now c.in_ok-area.area c.sizes-sizes.ensures.stack
+    (subst IsStack (sym (c.in_ok-after.ensures {u = tt}))
+    (after_sound c.args.info.now c.args.looks.now c.args.fresh c.args.task c.args.call.now c.sizes-sizes.ensures.stack c.requires.fits
+    (sym c.refused.ensures ∙ c.in_default.is))) refl (c.in_ok-area.ensures {u = tt}))
+    (top_elsewhere v (stack_of v.sizes after) a.looks.now a.call.now c.in_ok-area.area made (c.in_ok-area.ensures {u = tt}))
+    c.in_ok-pieces.ensures))

@@ -9,6 +9,7 @@ use Rattle.lw_stack.specs.Stack.{Stack}
 use Rattle.lw_arrange.specs.declared.arrangement.Step.{Step}
 use Rattle.lw_arrange.specs.Arranged.{IsStepOf}
 use Rattle.lw_arrange.specs.Areas.{StepHasArea}
+use Rattle.lw_arrange.specs.Pieces.{StepHasPieces}
 use Rattle.lw_arrange.specs.Steps.{KeepsSizes}
 use Rattle.lw_engine.specs.Desks.{cell_at}
 use Rattle.lw_engine.specs.Slots.{slot_after}
@@ -38,6 +39,16 @@ returns-in_err-reserve_all-in-Arranged-clause-dropped g c = dropped_none c.args.
 pub arrange-requires-clause-cells : goal.arrange-requires-clause-cells
 arrange-requires-clause-cells g c =
     numbered_roomed c.args.info.now.sizes.slots c.args.slots.now c.reserve_all.new.slots c.reserve_all.ensures.cells c.requires.cells
+
+pub arrange-requires-clause-area : goal.arrange-requires-clause-area
+arrange-requires-clause-area g c =
+    let A : Step → Type 0 = λ q. StepHasArea c.args.info.now q in
+    subst A c.in-Arranged.is c.in_ok-reply.ensures.area
+
+pub arrange-requires-clause-pieces : goal.arrange-requires-clause-pieces
+arrange-requires-clause-pieces g c =
+    let A : Step → Type 0 = λ q. StepHasPieces c.args.info.now q in
+    subst A c.in-Arranged.is c.in_ok-reply.ensures.pieces
 
 pub arrange-requires-clause-may : goal.arrange-requires-clause-may
 arrange-requires-clause-may g c =

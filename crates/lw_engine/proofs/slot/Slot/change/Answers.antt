@@ -10,8 +10,8 @@ use Rattle.lw_engine.proofs.SettlingLaws.{bare_cell}
 use Rattle.lw_engine.proofs.FollowLaws.{followed_hooked, slot_filled, room_same}
 use Rattle.lw_engine.proofs.slot.Slot.change.Goals as goal
 
-pub commit-requires : goal.commit-requires
-commit-requires g c =
+pub turn_into-requires : goal.turn_into-requires
+turn_into-requires g c =
     let cell = c.self.inside.cell in
     let k = c.args.change in
     let same : cell ≡ bare c.args.self.now = bare_cell cell c.look.ensures.sound c.look.ensures.idle ∙ ap bare c.self.view_is in
@@ -28,7 +28,7 @@ unreachable-requires g c =
     let Made : CellView → Type 0 = λ v. IsChange v.live k in
     let live = subst Live (sym c.self.view_is) c.requires.live in
     (c.in_default.ensures {u = tt}).layer
-    (ap (λ (v : CellView). v.state) (c.commit.ensures (with_live (λ v. carried_to k.bounds k.parts.visible v) cell) (live, subst Made (sym same) c.requires.change, refl)) ∙ live)
+    (ap (λ (v : CellView). v.state) (c.turn_into.ensures (with_live (λ v. carried_to k.bounds k.parts.visible v) cell) (live, subst Made (sym same) c.requires.change, refl)) ∙ live)
 
 pub follow-requires : goal.follow-requires
 unfolding with_pens
@@ -43,7 +43,7 @@ follow-requires g c =
     let Made : CellView → Type 0 = λ v. IsChange v.live k in
     let lent : c.in-Some.layer.now ≡ (made (bare s)).live =
     c.in-Some.ensures.layer.1
-    ∙ ap (λ (v : CellView). v.live) (c.commit.ensures (made cell) (subst Live (sym c.self.view_is) c.requires.live, subst Made (sym same) c.requires.change, refl) ∙ ap made same)
+    ∙ ap (λ (v : CellView). v.live) (c.turn_into.ensures (made cell) (subst Live (sym c.self.view_is) c.requires.live, subst Made (sym same) c.requires.change, refl) ∙ ap made same)
     in
     let filled = c.fill_gained.ensures ∙ ap (filled_as before c.args.gained.now) lent in
     room_same 5 s c.fill_gained.new.layer c.requires.live (ap (λ (v : LiveView). v.room) filled) (ap (λ (v : LiveView). v.layer.window) filled) c.requires.room
@@ -64,7 +64,7 @@ returns g c =
     let Live : CellView → Type 0 = λ v. v.state ≡ view.Live in
     let Made : CellView → Type 0 = λ v. IsChange v.live k in
     let settled : Option Hook → LiveView → LiveView = λ h v. followed glyphs w q (filled_as h gained v) in
-    slot_filled (followed glyphs w q) before held gained c.commit.new.cell c.in-Some.layer.now c.fill_gained.new.layer c.follow.new.layer
+    slot_filled (followed glyphs w q) before held gained c.turn_into.new.cell c.in-Some.layer.now c.fill_gained.new.layer c.follow.new.layer
     (followed_hooked held glyphs w q) c.in-Some.ensures.layer.1 c.fill_gained.ensures (c.follow.ensures q done)
-    ∙ (ap (with_live (settled before)) (c.commit.ensures (made cell) (subst Live (sym c.self.view_is) c.requires.live, subst Made (sym same) c.requires.change, refl) ∙ ap made same)
+    ∙ (ap (with_live (settled before)) (c.turn_into.ensures (made cell) (subst Live (sym c.self.view_is) c.requires.live, subst Made (sym same) c.requires.change, refl) ∙ ap made same)
     ∙ ap (λ h. with_live (settled h) (made (bare s))) (ap hook_in c.self.view_is))

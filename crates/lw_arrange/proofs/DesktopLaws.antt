@@ -1,0 +1,328 @@
+-- The desktop after an arrangement: what stays of it, and what is put together anew.
+use Rattle.std.proofs.Common.{◌≡◌, ℕ, zero, suc, ◌+◌, ◌<◌, Bool, true, false, not, ◌&&◌, ◌||◌, List, [], ◌∷◌, ◌++◌, map, take, length, get_or, ℤ, ◌≤ℤ◌, Option, Some, None, refl, sym, ap, subst, ◌∙◌, inl, inr, arith}
+use Rattle.std.specs.List.{All}
+use Rattle.std.specs.Option.{is_some}
+use Rattle.std.proofs.lemmas.Bool.{false≢true, and_parts, and_from, and_right, eqb-true, eq-eqb}
+use Rattle.std.proofs.lemmas.Int.{ints}
+use Rattle.std.proofs.Math.Bool.{and_comm, or-false}
+use Rattle.std.proofs.lemmas.List.{map-append, take_more}
+use Rattle.std.proofs.lemmas.List.Elements.{All-nil, All-append, All-map, All-push}
+use Rattle.lw_region.specs.Rectangle.{Rectangle, within, has_pixel}
+use Rattle.lw_region.specs.Bands.{covers}
+use Rattle.lw_region.specs.Banded.{IsCanonical}
+use Rattle.lw_region.proofs.Canonical.{covers_nil, covers_cons, covers_append}
+use Rattle.lw_region.proofs.Disjoint.{has_at, canonical_disjoint}
+use Rattle.lw_region.proofs.SetOps.{covers_one}
+use Rattle.lw_planes.specs.Bitmap.{Bitmap}
+use Rattle.lw_calls.specs.declared.sizes.Sizes.{Sizes}
+use Rattle.lw_machine.specs.Desk.{is_the}
+use Rattle.lw_strips.specs.Strips.{StripView, strip_of, blank_planes, rects_of}
+use Rattle.lw_strips.specs.Laying.{screen, LiesIn, AreDisjoint}
+use Rattle.lw_stack.specs.Stack.{Stack, first_at, is_first_at, LieApart}
+use Rattle.lw_stack.specs.Desktop.{is_bare, IsDesktop}
+use Rattle.lw_arrange.specs.Desktops.{IsSorted}
+use Rattle.lw_arrange.proofs.PieceLaws.{IsOnScreen}
+
+-- a rectangle that was grown has all places that it had
+wider : (low z high l h : ℤ) → l ≤ℤ low → high ≤ℤ h → within low z high ≡ true → within l z h ≡ true
+unfolding within
+wider low z high l h first last has = grind (arith, ints)
+
+pub grown_has : (r q : Rectangle) (a b c d u v m n : ℤ) → q ≡ record { min_x = a; min_y = b; max_x = c; max_y = d } → u ≡ r.min_x
+    → v ≡ r.min_y → m ≡ r.max_x → n ≡ r.max_y → a ≤ℤ u → b ≤ℤ v → m ≤ℤ c → n ≤ℤ d → LiesIn r q
+grown_has r q a b c d u v m n is left top right bottom one two three four x y has =
+    let parts = and_parts (within r.min_x x r.max_x) (within r.min_y y r.max_y) has in
+    ap (λ (p : Rectangle). has_pixel p x y) is
+    ∙ and_from (within a x c) (within b y d)
+    (wider r.min_x x r.max_x a c (subst (λ z. a ≤ℤ z) left one) (subst (λ z. z ≤ℤ c) right three) parts.0)
+    (wider r.min_y y r.max_y b d (subst (λ z. b ≤ℤ z) top two) (subst (λ z. z ≤ℤ d) bottom four) parts.1)
+
+or_true : (t : Bool) → (t || true) ≡ true
+or_true true = refl
+or_true false = refl
+
+-- strips in a row are disjoint where each is from all behind it
+rects_and : (h a b : Bool) → (h && a) ≡ false → (h && b) ≡ false → (h && (a || b)) ≡ false
+rects_and false a b one other = refl
+rects_and true true b one other = one
+rects_and true false b one other = other
+
+only_if : (h c e : Bool) → (h && c) ≡ false → (e ≡ true → c ≡ true) → (h && e) ≡ false
+only_if false c e none then_ = refl
+only_if true c false none then_ = refl
+only_if true c true none then_ = absurd (false≢true (sym none ∙ then_ refl))
+
+entry_covered : (strips : List StripView) (k : ℕ) (d : StripView) (x y : ℤ) → k < length strips → has_pixel (get_or strips k d).rect x y ≡ true
+    → covers (rects_of strips) x y ≡ true
+entry_covered [] k d x y inside has = absurd (omega arith)
+entry_covered (s ∷ rest) zero d x y inside has =
+    covers_cons s.rect (rects_of rest) x y ∙ ap (λ t. t || covers (rects_of rest) x y) has
+entry_covered (s ∷ rest) (suc k) d x y inside has =
+    covers_cons s.rect (rects_of rest) x y
+    ∙ (ap (λ t. has_pixel s.rect x y || t) (entry_covered rest k d x y (omega arith) has) ∙ or_true (has_pixel s.rect x y))
+
+cons_disjoint : (s : StripView) (rest : List StripView) → AreDisjoint rest
+    → ((x y : ℤ) → (has_pixel s.rect x y && covers (rects_of rest) x y) ≡ false) → AreDisjoint (s ∷ rest)
+cons_disjoint s rest others apart zero zero d before inside = absurd (omega arith)
+cons_disjoint s rest others apart zero (suc j) d before inside = λ x y.
+    only_if (has_pixel s.rect x y) (covers (rects_of rest) x y) (has_pixel (get_or rest j d).rect x y) (apart x y)
+    (entry_covered rest j d x y (omega arith))
+cons_disjoint s rest others apart (suc i) zero d before inside = absurd (omega arith)
+cons_disjoint s rest others apart (suc i) (suc j) d before inside = others i j d (omega arith) (omega arith)
+
+rest_disjoint : (s : StripView) (rest : List StripView) → AreDisjoint (s ∷ rest) → AreDisjoint rest
+rest_disjoint s rest all i j d before inside = all (suc i) (suc j) d (omega arith) (omega arith)
+
+-- the first strip is disjoint from all others
+from_first : (r : Rectangle) (rest : List StripView) → ((j : ℕ) (d : StripView) → j < length rest → (x y : ℤ) → (has_pixel r x y && has_pixel (get_or rest j d).rect x y) ≡ false)
+    → (x y : ℤ) → (has_pixel r x y && covers (rects_of rest) x y) ≡ false
+from_first r [] each x y = ap (λ t. has_pixel r x y && t) (covers_nil x y) ∙ and_right (has_pixel r x y) false refl
+from_first r (t ∷ rest) each x y =
+    ap (λ b. has_pixel r x y && b) (covers_cons t.rect (rects_of rest) x y)
+    ∙ rects_and (has_pixel r x y) (has_pixel t.rect x y) (covers (rects_of rest) x y) (each 0 t (omega arith) x y)
+    (from_first r rest (λ j d inside. each (suc j) d (omega arith)) x y)
+
+head_disjoint : (s : StripView) (rest : List StripView) → AreDisjoint (s ∷ rest)
+    → (x y : ℤ) → (has_pixel s.rect x y && covers (rects_of rest) x y) ≡ false
+head_disjoint s rest all = from_first s.rect rest (λ j d inside. all 0 (suc j) d (omega arith) (omega arith))
+
+covers_both : (a b : List StripView) (x y : ℤ) → covers (rects_of (a ++ b)) x y ≡ (covers (rects_of a) x y || covers (rects_of b) x y)
+covers_both a b x y = ap (λ rs. covers rs x y) (map-append (λ s. s.rect) a b) ∙ covers_append (rects_of a) (rects_of b) x y
+
+or_apart : (a p r : Bool) → ((a || p) && r) ≡ false → ((a && r) ≡ false) × ((p && r) ≡ false)
+or_apart true true r none = (none, none)
+or_apart true false r none = (none, refl)
+or_apart false p r none = (refl, none)
+
+joined_disjoint : (a b : List StripView) → AreDisjoint a → AreDisjoint b
+    → ((x y : ℤ) → (covers (rects_of a) x y && covers (rects_of b) x y) ≡ false) → AreDisjoint (a ++ b)
+joined_disjoint [] b one other apart = other
+joined_disjoint (s ∷ a) b one other apart =
+    cons_disjoint s (a ++ b)
+    (joined_disjoint a b (rest_disjoint s a one) other (λ x y. (parts x y).1))
+    (λ x y. ap (λ t. has_pixel s.rect x y && t) (covers_both a b x y)
+    ∙ rects_and (has_pixel s.rect x y) (covers (rects_of a) x y) (covers (rects_of b) x y) (head_disjoint s a one x y) (parts x y).0)
+  where
+    parts : (x y : ℤ) → ((has_pixel s.rect x y && covers (rects_of b) x y) ≡ false) × ((covers (rects_of a) x y && covers (rects_of b) x y) ≡ false)
+    parts x y = or_apart (has_pixel s.rect x y) (covers (rects_of a) x y) (covers (rects_of b) x y)
+        (sym (ap (λ t. t && covers (rects_of b) x y) (covers_cons s.rect (rects_of a) x y)) ∙ apart x y)
+
+either_apart : (a p r : Bool) → (a && r) ≡ false → (p && r) ≡ false → ((a || p) && r) ≡ false
+either_apart true p r one other = one
+either_apart false p r one other = other
+
+-- a strip is disjoint from those in front of it
+pub in_front_apart : (strips : List StripView) → AreDisjoint strips → (k : ℕ) (d : StripView) → k < length strips → (x y : ℤ)
+    → (covers (rects_of (take k strips)) x y && has_pixel (get_or strips k d).rect x y) ≡ false
+in_front_apart [] all k d inside x y = absurd (omega arith)
+in_front_apart (s ∷ rest) all zero d inside x y = ap (λ t. t && has_pixel s.rect x y) (covers_nil x y)
+in_front_apart (s ∷ rest) all (suc k) d inside x y =
+    ap (λ t. t && has_pixel (get_or rest k d).rect x y) (covers_cons s.rect (rects_of (take k rest)) x y)
+    ∙ either_apart (has_pixel s.rect x y) (covers (rects_of (take k rest)) x y) (has_pixel (get_or rest k d).rect x y)
+    (all 0 (suc k) d (omega arith) inside x y) (in_front_apart rest (rest_disjoint s rest all) k d (omega arith) x y)
+
+-- strips of pen 0 of the rectangles of a canonical list
+pub blank_rects : (depth : ℕ) (rects : List Rectangle) → rects_of (map (λ r. strip_of r depth None) rects) ≡ rects
+blank_rects depth [] = refl
+blank_rects depth (r ∷ rs) = ap (λ l. r ∷ l) (blank_rects depth rs)
+
+blank_entry : (depth : ℕ) (rects : List Rectangle) (k : ℕ) (d : StripView) → (get_or (map (λ r. strip_of r depth None) rects) k d).rect ≡ get_or rects k d.rect
+blank_entry depth [] k d = refl
+blank_entry depth (r ∷ rs) zero d = refl
+blank_entry depth (r ∷ rs) (suc k) d = blank_entry depth rs k d
+
+blank_many : (depth : ℕ) (rects : List Rectangle) → length (map (λ r. strip_of r depth None) rects) ≡ length rects
+blank_many depth [] = refl
+blank_many depth (r ∷ rs) = ap suc (blank_many depth rs)
+
+blank_disjoint : (depth : ℕ) (rects : List Rectangle) → IsCanonical rects → AreDisjoint (map (λ r. strip_of r depth None) rects)
+blank_disjoint depth rects canonical i j d before inside x y =
+    ap (λ (r : Rectangle). has_pixel r x y && has_pixel (get_or (map (λ q. strip_of q depth None) rects) j d).rect x y) (blank_entry depth rects i d)
+    ∙ (ap (λ (r : Rectangle). has_pixel (get_or rects i d.rect) x y && has_pixel r x y) (blank_entry depth rects j d)
+    ∙ canonical_disjoint rects canonical i j d.rect before (omega (arith, inside, blank_many depth rects)) x y)
+
+-- The strips so far were parted: those that stay, which lie apart from the area, and the places of the others.
+pub record IsParted (area : List Rectangle) (depth : ℕ) (strips kept : List StripView) (near : List Rectangle) : Type 0 where
+  pub disjoint : AreDisjoint kept
+  pub pens : All (λ s. s.planes ≡ blank_planes s.rect depth) kept
+  pub apart : (x y : ℤ) → (covers (rects_of kept) x y && covers area x y) ≡ false
+  pub alone : (x y : ℤ) → (covers (rects_of kept) x y && covers near x y) ≡ false
+  pub places : (x y : ℤ) → (covers (rects_of kept) x y || covers near x y) ≡ covers (rects_of strips) x y
+
+pub none_parted : (area : List Rectangle) (depth : ℕ) (kept : List StripView) (near : List Rectangle) → kept ≡ [] → near ≡ []
+    → IsParted area depth [] kept near
+none_parted area depth kept near none empty =
+    let P : List StripView → Type 0 = λ ss. IsParted area depth [] ss near in
+    subst P (sym none) (record {
+      disjoint = λ i j d before inside. absurd (omega arith);
+      pens = All-nil (λ (s : StripView). s.planes ≡ blank_planes s.rect depth);
+      apart = λ x y. ap (λ t. t && covers area x y) (covers_nil x y);
+      alone = λ x y. ap (λ t. t && covers near x y) (covers_nil x y);
+      places = λ x y. ap (λ t. t || covers near x y) (covers_nil x y) ∙ ap (λ l. covers l x y) empty;
+    })
+
+-- on truth values: what is kept or near, of strips so far and one more
+of_both : (k n o h : Bool) → (k || n) ≡ o → (o && h) ≡ false → ((k && h) ≡ false) × ((n && h) ≡ false)
+of_both k n o h is none = or_apart k n h (ap (λ t. t && h) is ∙ none)
+
+other_way : (a b : Bool) → (a && b) ≡ false → (b && a) ≡ false
+other_way a b none = and_comm b a ∙ none
+
+kept_more : (k n o h : Bool) → (k || n) ≡ o → ((k || h) || n) ≡ (o || h)
+kept_more true n o h is = ap (λ t. t || h) is
+kept_more false true o h is = or_true h ∙ ap (λ t. t || h) is
+kept_more false false o true is = sym (or_true o)
+kept_more false false o false is = is ∙ sym (or-false o)
+
+near_more : (k n o h : Bool) → (k || n) ≡ o → (k || (n || h)) ≡ (o || h)
+near_more true n o h is = ap (λ t. t || h) is
+near_more false n o h is = ap (λ t. t || h) is
+
+-- one strip more
+pub parted_more : (area : List Rectangle) (depth : ℕ) (strips : List StripView) (i : ℕ) (s : StripView) (kept new_kept : List StripView)
+    (near new_near : List Rectangle) → AreDisjoint strips → All (λ t. t.planes ≡ blank_planes t.rect depth) strips → i < length strips
+    → s ≡ get_or strips i s → IsParted area depth (take i strips) kept near → IsSorted area s kept near new_kept new_near
+    → IsParted area depth (take (i + 1) strips) new_kept new_near
+parted_more area depth strips i s kept new_kept near new_near disjoint pens inside is h sorted = go sorted
+  where
+    free : (x y : ℤ) → (covers (rects_of (take i strips)) x y && has_pixel s.rect x y) ≡ false
+    free x y = ap (λ (t : StripView). covers (rects_of (take i strips)) x y && has_pixel t.rect x y) is ∙ in_front_apart strips disjoint i s inside x y
+
+    more : (x y : ℤ) → covers (rects_of (take (i + 1) strips)) x y ≡ (covers (rects_of (take i strips)) x y || has_pixel s.rect x y)
+    more x y =
+        ap (λ l. covers (rects_of l) x y) (take_more strips i s inside)
+        ∙ (covers_both (take i strips) (get_or strips i s ∷ []) x y
+        ∙ (ap (λ t. covers (rects_of (take i strips)) x y || t) (covers_one (get_or strips i s).rect x y)
+        ∙ ap (λ (t : StripView). covers (rects_of (take i strips)) x y || has_pixel t.rect x y) (sym is)))
+
+    one : StripView
+    one = strip_of s.rect s.planes.depth None
+
+    deep : s.planes.depth ≡ depth
+    deep = ap (λ (b : Bitmap). b.depth)
+        (subst (λ (t : StripView). t.planes ≡ blank_planes t.rect depth) (sym is) (pens i s inside))
+
+    both : (x y : ℤ) → ((covers (rects_of kept) x y && has_pixel s.rect x y) ≡ false) × ((covers near x y && has_pixel s.rect x y) ≡ false)
+    both x y = of_both (covers (rects_of kept) x y) (covers near x y) (covers (rects_of (take i strips)) x y) (has_pixel s.rect x y) (h.places x y) (free x y)
+
+    with_one : (x y : ℤ) → covers (rects_of (kept ++ one ∷ [])) x y ≡ (covers (rects_of kept) x y || has_pixel s.rect x y)
+    with_one x y = covers_both kept (one ∷ []) x y ∙ ap (λ t. covers (rects_of kept) x y || t) (covers_one s.rect x y)
+
+    stays : LieApart area s.rect → IsParted area depth (take (i + 1) strips) (kept ++ one ∷ []) near
+    stays off = record {
+      disjoint = joined_disjoint kept (one ∷ []) h.disjoint (λ m n d before below. absurd (omega arith))
+          (λ x y. ap (λ t. covers (rects_of kept) x y && t) (covers_one s.rect x y) ∙ (both x y).0);
+      pens = All-push (λ (t : StripView). t.planes ≡ blank_planes t.rect depth) kept one h.pens (ap (blank_planes s.rect) deep);
+      apart = λ x y. ap (λ t. t && covers area x y) (with_one x y)
+          ∙ either_apart (covers (rects_of kept) x y) (has_pixel s.rect x y) (covers area x y) (h.apart x y)
+          (other_way (covers area x y) (has_pixel s.rect x y) (off x y));
+      alone = λ x y. ap (λ t. t && covers near x y) (with_one x y)
+          ∙ either_apart (covers (rects_of kept) x y) (has_pixel s.rect x y) (covers near x y) (h.alone x y)
+          (other_way (covers near x y) (has_pixel s.rect x y) (both x y).1);
+      places = λ x y. ap (λ t. t || covers near x y) (with_one x y)
+          ∙ (kept_more (covers (rects_of kept) x y) (covers near x y) (covers (rects_of (take i strips)) x y) (has_pixel s.rect x y) (h.places x y)
+          ∙ sym (more x y));
+    }
+
+    goes : ((x y : ℤ) → covers new_near x y ≡ (covers near x y || has_pixel s.rect x y)) → IsParted area depth (take (i + 1) strips) kept new_near
+    goes added = record {
+      disjoint = h.disjoint;
+      pens = h.pens;
+      apart = h.apart;
+      alone = λ x y. ap (λ t. covers (rects_of kept) x y && t) (added x y)
+          ∙ rects_and (covers (rects_of kept) x y) (covers near x y) (has_pixel s.rect x y) (h.alone x y) (both x y).0;
+      places = λ x y. ap (λ t. covers (rects_of kept) x y || t) (added x y)
+          ∙ (near_more (covers (rects_of kept) x y) (covers near x y) (covers (rects_of (take i strips)) x y) (has_pixel s.rect x y) (h.places x y)
+          ∙ sym (more x y));
+    }
+
+    go : IsSorted area s kept near new_kept new_near → IsParted area depth (take (i + 1) strips) new_kept new_near
+    go (inl kept_so) =
+        let P : List StripView → Type 0 = λ l. IsParted area depth (take (i + 1) strips) l new_near in
+        let Q : List Rectangle → Type 0 = λ l. IsParted area depth (take (i + 1) strips) (kept ++ one ∷ []) l in
+        subst P (sym kept_so.1) (subst Q (sym kept_so.2) (stays kept_so.0))
+    go (inr near_so) =
+        let P : List StripView → Type 0 = λ l. IsParted area depth (take (i + 1) strips) l new_near in
+        subst P (sym near_so.0) (goes near_so.1)
+
+-- The desktop of the one list was parted by the area, and of what is near it and of what the other list leaves of it one list was
+-- made.
+pub record IsRemade (v w : Stack) (area : List Rectangle) (strips kept : List StripView) (near cleared joined rest : List Rectangle) : Type 0 where
+  pub before : IsDesktop v strips
+  pub parted : IsParted area v.sizes.depth strips kept near
+  pub clear : (x y : ℤ) → covers cleared x y ≡ (covers near x y && not (covers area x y))
+  pub join : (x y : ℤ) → covers joined x y ≡ (covers cleared x y || covers rest x y)
+  pub left : (x y : ℤ) → covers rest x y ≡ (covers area x y && not (is_some (first_at w.bounds w.front_to_back x y)))
+  pub inside : IsOnScreen v.sizes area
+  pub same : w.sizes ≡ v.sizes
+  pub elsewhere : (s : ℕ) (x y : ℤ) → covers area x y ≡ false
+      → is_first_at v.bounds v.front_to_back s x y ≡ is_first_at w.bounds w.front_to_back s x y
+
+-- what is the first for each slot is one layer or none
+pub one_first : (o p : Option ℕ) → ((s : ℕ) → is_the o s ≡ is_the p s) → o ≡ p
+one_first None None each = refl
+one_first None (Some n) each = absurd (false≢true (each n ∙ eq-eqb n n refl))
+one_first (Some m) None each = absurd (false≢true (sym (each m) ∙ eq-eqb m m refl))
+one_first (Some m) (Some n) each = ap Some (sym (eqb-true n m (sym (each m) ∙ eq-eqb m m refl)))
+
+kept_off : (k n a m : Bool) → (k && n) ≡ false → (k && a) ≡ false → (k && ((n && not a) || (a && m))) ≡ false
+kept_off false n a m one other = refl
+kept_off true true a m one other = absurd (false≢true (sym one))
+kept_off true false true m one other = absurd (false≢true (sym other))
+kept_off true false false m one other = refl
+
+remade_place : (k n a m o b : Bool) → (k || n) ≡ o → (k && a) ≡ false → (a ≡ true → m ≡ b) → (a ≡ false → o ≡ b)
+    → (k || ((n && not a) || (a && m))) ≡ b
+remade_place true n true m o b is off now then_ = absurd (false≢true (sym off))
+remade_place true n false m o b is off now then_ = is ∙ then_ refl
+remade_place false true true m o b is off now then_ = now refl
+remade_place false false true m o b is off now then_ = now refl
+remade_place false true false m o b is off now then_ = is ∙ then_ refl
+remade_place false false false m o b is off now then_ = is ∙ then_ refl
+
+module _ (v w : Stack) (area : List Rectangle) (strips kept : List StripView) (near cleared joined rest : List Rectangle)
+    (h : IsRemade v w area strips kept near cleared joined rest) where
+  joined_is : (x y : ℤ) → covers joined x y
+      ≡ ((covers near x y && not (covers area x y)) || (covers area x y && not (is_some (first_at w.bounds w.front_to_back x y))))
+  joined_is x y =
+      h.join x y ∙ (ap (λ t. t || covers rest x y) (h.clear x y) ∙ ap (λ t. (covers near x y && not (covers area x y)) || t) (h.left x y))
+
+  bare_same : (x y : ℤ) → covers area x y ≡ false → is_bare v x y ≡ is_bare w x y
+  bare_same x y off =
+      ap (λ o. has_pixel (screen v.sizes.width v.sizes.height) x y && not (is_some o))
+      (one_first (first_at v.bounds v.front_to_back x y) (first_at w.bounds w.front_to_back x y) (λ s. h.elsewhere s x y off))
+      ∙ ap (λ (z : Sizes). has_pixel (screen z.width z.height) x y && not (is_some (first_at w.bounds w.front_to_back x y))) (sym h.same)
+
+  remade_places : (x y : ℤ) → (covers (rects_of kept) x y || covers joined x y) ≡ is_bare w x y
+  remade_places x y =
+      let free = not (is_some (first_at w.bounds w.front_to_back x y)) in
+      ap (λ t. covers (rects_of kept) x y || t) (joined_is x y)
+      ∙ remade_place (covers (rects_of kept) x y) (covers near x y) (covers area x y) free (is_bare v x y) (is_bare w x y)
+      (h.parted.places x y ∙ h.before.places x y) (h.parted.apart x y)
+      (λ has. ap (λ t. t && free)
+      (sym (ap (λ (z : Sizes). has_pixel (screen z.width z.height) x y) h.same ∙ h.inside x y has)))
+      (bare_same x y)
+
+  pub joined_inside : All (λ r. LiesIn r (screen w.sizes.width w.sizes.height)) joined
+  joined_inside k d below x y has =
+      (and_parts (has_pixel (screen w.sizes.width w.sizes.height) x y) (not (is_some (first_at w.bounds w.front_to_back x y)))
+      (sym (remade_places x y)
+      ∙ (ap (λ t. covers (rects_of kept) x y || t) (has_at joined k d x y below has) ∙ or_true (covers (rects_of kept) x y)))).0
+
+  pub desktop_remade : (made : List StripView) → IsCanonical joined → made ≡ kept ++ map (λ r. strip_of r w.sizes.depth None) joined → IsDesktop w made
+  desktop_remade made canonical is =
+      let P : List StripView → Type 0 = λ l. IsDesktop w l in
+      let news = map (λ r. strip_of r w.sizes.depth None) joined in
+      let deep : v.sizes.depth ≡ w.sizes.depth = ap (λ (z : Sizes). z.depth) (sym h.same) in
+      subst P (sym is) (record {
+        disjoint = joined_disjoint kept news h.parted.disjoint (blank_disjoint w.sizes.depth joined canonical)
+            (λ x y. ap (λ l. covers (rects_of kept) x y && covers l x y) (blank_rects w.sizes.depth joined)
+            ∙ (ap (λ t. covers (rects_of kept) x y && t) (joined_is x y)
+            ∙ kept_off (covers (rects_of kept) x y) (covers near x y) (covers area x y) (not (is_some (first_at w.bounds w.front_to_back x y)))
+            (h.parted.alone x y) (h.parted.apart x y)));
+        places = λ x y. covers_both kept news x y
+            ∙ (ap (λ l. covers (rects_of kept) x y || covers l x y) (blank_rects w.sizes.depth joined) ∙ remade_places x y);
+        pens = All-append (λ (s : StripView). s.planes ≡ blank_planes s.rect w.sizes.depth) kept news
+            (subst (λ n. All (λ (s : StripView). s.planes ≡ blank_planes s.rect n) kept) deep h.parted.pens)
+            (All-map (λ (s : StripView). s.planes ≡ blank_planes s.rect w.sizes.depth) (λ r. strip_of r w.sizes.depth None) joined (λ k d below. refl));
+      })

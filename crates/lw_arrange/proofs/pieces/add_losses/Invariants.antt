@@ -1,0 +1,6 @@
+use Rattle.std.proofs.Common.{◌≡◌, ◌++◌}
+use Rattle.lw_arrange.specs.Pieces.{losses}
+use Rattle.lw_arrange.proofs.pieces.add_losses.Given as goal
+
+abbrev pub invariant-loop-to : goal.invariant-loop-to
+invariant-loop-to l = l.pieces.items ≡ l.initial.pieces.items ++ losses l.to l.from l.lost l.shown.sets.items l.shown.rest

@@ -1,0 +1,110 @@
+// The desktop after an arrangement: in the area of the plan what no layer has then, and elsewhere what it was.
+
+ghost use Rattle.std.specs.Prelude.{◌≡◌, ◌≤ℤ◌, ◌++◌, map, false, IfOk, OnOk, None};
+ghost use Rattle.std.specs.List.{All};
+ghost use Rattle.lw_calls.specs.Limits.{IsWithinLimits};
+ghost use Rattle.lw_strips.specs.Strips.{strip_of};
+ghost use Rattle.lw_strips.specs.Laying.{screen, LiesIn};
+ghost use Rattle.lw_stack.specs.Stack.{LieApart};
+ghost use Rattle.lw_stack.specs.Desktop.{IsDesktop};
+ghost use Rattle.lw_arrange.specs.Areas.{HasArea};
+ghost use Rattle.lw_arrange.specs.Desktops.{IsSorted};
+
+use crate::arrangement::Arrangement;
+use lw_calls::Sizes;
+use lw_region::{Rect, Region, clear_region, or_region};
+use lw_stack::{Info, meets};
+use lw_strips::Strip;
+use std::alloc::{AllocError, Global};
+
+/// The strips of the desktop after the arrangement. Those that don't touch its area stay as they are; of the others and what the
+/// area then has of the desktop a canonical list is made, so that what was cut is joined again.
+pub(crate) fn desktop_after(
+    alloc: Global,
+    info: &Info,
+    arrangement: &Arrangement,
+) -> Result<Vec<Strip>, AllocError>
+    requires sizes { arrangement.now.stack.sizes ≡ info.now.sizes }
+    requires area { HasArea info.now arrangement.now }
+    ensures { IfOk result (λ strips. IsDesktop arrangement.now.stack strips.items) }
+{
+    // Reading the sizes tells the proof what holds of the list and of the plan.
+    let _ = info.sizes();
+    let sizes = arrangement.sizes();
+    let mut strips = Vec::new(alloc);
+    let mut near = Region::new(alloc);
+    let desktop = info.desktop();
+    for strip in desktop {
+        sort(alloc, strip, arrangement.area(), &mut strips, &mut near)?;
+    }
+    clear_region(alloc, arrangement.area(), &mut near)?;
+    or_region(alloc, arrangement.rest(), &mut near)?;
+    push_blank(near.rects(), sizes, &mut strips)?;
+    Ok(strips)
+}
+
+// Adds a strip to those that stay, or its places to the region if it is near the area.
+fn sort(
+    alloc: Global,
+    strip: &Strip,
+    area: &Region,
+    strips: &mut Vec<Strip>,
+    near: &mut Region,
+) -> Result<(), AllocError>
+    ensures { OnOk result (IsSorted area.now strip.now strips.old.items near.old strips.new.items near.new) }
+{
+    if is_near(strip.rect(), area) {
+        return near.or_rect(alloc, strip.rect());
+    }
+    strips.push(Strip::blank(*strip.rect(), strip.depth()))?;
+    Ok(())
+}
+
+// Whether the rectangle meets the area or lies beside it.
+fn is_near(rect: &Rect, area: &Region) -> bool
+    ensures { result ≡ false → LieApart area.now rect.now }
+{
+    meets(area, &grown(rect))
+}
+
+// The rectangle with a column and a row more on each side.
+fn grown(rect: &Rect) -> Rect
+    ensures { LiesIn rect.now result }
+{
+    match Rect::new(
+        before(rect.min_x()),
+        before(rect.min_y()),
+        behind(rect.max_x()),
+        behind(rect.max_y()),
+    ) {
+        Some(grown) => grown,
+        None => *rect,
+    }
+}
+
+// The place before this one, if there is one, and the one behind it.
+fn before(place: i16) -> i16
+    ensures { result ≤ℤ place }
+{
+    if place > 0 { place - 1 } else { place }
+}
+
+fn behind(place: i16) -> i16
+    ensures { place ≤ℤ result }
+{
+    if place < 0x7fff { place + 1 } else { place }
+}
+
+// Adds a strip of pen 0 for each rectangle of a screen of these sizes.
+fn push_blank(rects: &[Rect], sizes: &Sizes, strips: &mut Vec<Strip>) -> Result<(), AllocError>
+    requires sizes { IsWithinLimits sizes.now }
+    requires inside { All (λ r. LiesIn r (screen sizes.now.width sizes.now.height)) rects.now }
+    ensures { OnOk result (strips.new.items ≡ strips.old.items ++ map (λ r. strip_of r sizes.now.depth None) rects.now) }
+{
+    for rect in rects {
+        // Reading this tells the proof that the rectangle is ordered.
+        let _ = rect.min_x();
+        strips.push(Strip::blank(*rect, sizes.depth))?;
+    }
+    Ok(())
+}
