@@ -9,7 +9,7 @@ use Rattle.lw_grammar.specs.declared.verb.PartVerb.TheVariants.{Order as OrderVe
 use Rattle.lw_calls.specs.Limits.{name_limit, call_limit, task_limit, bitmap_limit}
 use Rattle.lw_grammar.specs.Demands.{◌>>=◌, demand}
 use Rattle.lw_grammar.specs.Tokens.{Token, token_of}
-use Rattle.lw_grammar.specs.Statements.{Statement, RowLine, OrderLine, ReportLine, row_line, numbers_line, bare_line, statement_by}
+use Rattle.lw_grammar.specs.Statements.{Statement, RowLine, OrderLine, ReportLine, row_line, numbers_line, alone_line, statement_by}
 use Rattle.lw_grammar.specs.Told.{Section, told}
 use Rattle.lw_grammar.specs.Script.{Setting, is_skipped, are_numbers_due, is_nothing_due, belongs_in, verb_on, after_verb, super_limit, words_read, verb_read, statement_read, statement_tested, line_read, IsGoodLine}
 use Rattle.lw_calls.specs.Written.{hex_digit}
@@ -29,7 +29,7 @@ is_in_each ReportLine = false
 is_in_each f = true
 
 -- no such line is bare words that begin one of the two
-other_words : (stands : Bool) (g f : Statement) (ts : List Token) → is_in_each g ≡ false → is_in_each f ≡ true → (demand stands Misplaced >>= (λ _. ok_or (bare_line g ts) FormReason)) ≡ Ok f → ⊥
+other_words : (stands : Bool) (g f : Statement) (ts : List Token) → is_in_each g ≡ false → is_in_each f ≡ true → (demand stands Misplaced >>= (λ _. ok_or (alone_line g ts) FormReason)) ≡ Ok f → ⊥
 other_words false g f ts g_not f_in e = absurd (cc)
 other_words true g f (t ∷ ts) g_not f_in e = absurd (cc)
 other_words true g f [] g_not f_in e = let same : g ≡ f = cc in absurd (false≢true (sym g_not ∙ (ap is_in_each same ∙ f_in)))

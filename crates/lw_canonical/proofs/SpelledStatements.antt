@@ -16,7 +16,7 @@ use Rattle.lw_grammar.specs.declared.verb.NumberVerb.{NumberVerb}
 use Rattle.lw_grammar.specs.declared.verb.PairVerb.{PairVerb}
 use Rattle.lw_grammar.specs.declared.verb.TextVerb.{TextVerb}
 use Rattle.lw_grammar.specs.Verbs.{part_word, bare_word, number_word, pair_word, text_verb_word, rect_word, region_word}
-use Rattle.lw_grammar.specs.Statements.{Act, Statement, RowLine, TaskLine, EndLine, OrderLine, NumbersLine, ReportLine, LockLine, UnlockLine, HoldLine, ReleaseLine, four, screen_line, glyph_of_bytes, glyph_line, bitmap_line, row_line, all_numbers, numbers_limit, numbers_line, name_line, bare_line, part_line, layer_line, number_line, pair_line, text_line, rect_line, region_line, clear_line, which_line, infront_line, four_line, scrollraster_line, minterm_of, put_line, blit_line, endrefresh_line, is_area_in_range, is_act_in_range, is_line_in_range}
+use Rattle.lw_grammar.specs.Statements.{Act, Statement, RowLine, TaskLine, EndLine, OrderLine, NumbersLine, ReportLine, LockLine, UnlockLine, HoldLine, ReleaseLine, four, screen_line, glyph_of_bytes, glyph_line, bitmap_line, row_line, all_numbers, numbers_limit, numbers_line, name_line, alone_line, part_line, layer_line, number_line, pair_line, text_line, rect_line, region_line, clear_line, which_line, infront_line, four_line, scrollraster_line, minterm_of, put_line, blit_line, endrefresh_line, is_area_in_range, is_act_in_range, is_line_in_range}
 use Rattle.lw_calls.specs.Written.{hex_byte}
 use Rattle.lw_canonical.specs.Spelling.{hex_word, four_words, call_words, words_of}
 use Rattle.lw_grammar.proofs.ScriptStatements.{either_has, map_has, twice_has}
@@ -101,7 +101,7 @@ name_spelt word f h (NameToken n ∷ []) = λ t r. h n
 name_spelt word f h _ = tt
 
 -- a verb alone
-bare_spelt : (word : List ℕ) (f : Statement) → words_of f ≡ word ∷ [] → (ts : List Token) → IfSome (bare_line f ts) (IsSpelt word ts)
+bare_spelt : (word : List ℕ) (f : Statement) → words_of f ≡ word ∷ [] → (ts : List Token) → IfSome (alone_line f ts) (IsSpelt word ts)
 bare_spelt word f h [] = λ t r. h
 bare_spelt word f h _ = tt
 

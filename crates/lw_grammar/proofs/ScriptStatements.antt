@@ -22,7 +22,7 @@ use Rattle.lw_grammar.specs.declared.verb.Verb.TheVariants.{Part, Bare, Number, 
 use Rattle.lw_calls.specs.Limits.{is_minterm}
 use Rattle.lw_calls.specs.Kinds.{is_super}
 use Rattle.lw_grammar.specs.Tokens.{Token, NameToken, NumberToken, TextToken, OddToken, token_of, is_hex, hex_value, hex_bytes, spelled_bytes, bytes_in}
-use Rattle.lw_grammar.specs.Statements.{layers_of, AskedLayer, Act, BareAct, NumberAct, PairAct, TextAct, RegRectAct, RegPairAct, RegClearAct, CreateAct, OpenAct, InFrontAct, BoxAct, WhichAct, FillAct, ScrollRasterAct, PutAct, BlitAct, EndRefreshAct, Statement, ScreenLine, GlyphLine, BitmapLine, RowLine, TaskLine, EndLine, OrderLine, NumbersLine, ReportLine, CallLine, LockLine, UnlockLine, HoldLine, ReleaseLine, four, screen_line, glyph_of_bytes, glyph_line, bitmap_line, row_line, all_numbers, numbers_limit, numbers_line, name_line, bare_line, part_line, layer_line, number_line, pair_line, text_line, rect_line, region_line, clear_line, which_line, infront_line, four_line, scrollraster_line, minterm_of, blit_end, blit_area, put_line, blit_line, endrefresh_line, kind_of, place_of, flag, hook_option, message_class_of, classes_from, asked_classes, ask_option, at_end, create_super, create_kind, titled_line, open_super, open_kind, asked_line, statement_by}
+use Rattle.lw_grammar.specs.Statements.{layers_of, AskedLayer, Act, BareAct, NumberAct, PairAct, TextAct, RegRectAct, RegPairAct, RegClearAct, CreateAct, OpenAct, InFrontAct, BoxAct, WhichAct, FillAct, ScrollRasterAct, PutAct, BlitAct, EndRefreshAct, Statement, ScreenLine, GlyphLine, BitmapLine, RowLine, TaskLine, EndLine, OrderLine, NumbersLine, ReportLine, CallLine, LockLine, UnlockLine, HoldLine, ReleaseLine, four, screen_line, glyph_of_bytes, glyph_line, bitmap_line, row_line, all_numbers, numbers_limit, numbers_line, name_line, alone_line, part_line, layer_line, number_line, pair_line, text_line, rect_line, region_line, clear_line, which_line, infront_line, four_line, scrollraster_line, minterm_of, blit_end, blit_area, put_line, blit_line, endrefresh_line, kind_of, place_of, flag, hook_option, message_class_of, classes_from, asked_classes, ask_option, at_end, create_super, create_kind, titled_line, open_super, open_kind, asked_line, statement_by}
 use Rattle.lw_grammar.specs.Told.{Section, told}
 use Rattle.lw_grammar.specs.Script.{Setting, is_screen_due, are_assets_due, are_calls_due, are_tasks_due, are_numbers_due, is_ordered, is_audited, belongs_in, verb_on, after_verb, verb_read, statement_read}
 use Rattle.lw_grammar.specs.Demands.{◌>>=◌, demand}
@@ -245,7 +245,7 @@ module _ (form : Form) (s : Section) where
   name_made f stands h _ = tt
 
   -- a verb alone
-  bare_made : (f : Statement) (stands : Bool) → IsVerbStatement form s stands f → (ts : List Token) → IfSome (bare_line f ts) (IsVerbStatement form s stands)
+  bare_made : (f : Statement) (stands : Bool) → IsVerbStatement form s stands f → (ts : List Token) → IfSome (alone_line f ts) (IsVerbStatement form s stands)
   bare_made f stands h [] = h
   bare_made f stands h _ = tt
 

@@ -14,7 +14,7 @@ use Rattle.lw_grammar.specs.declared.verb.PartVerb.{PartVerb}
 use Rattle.lw_grammar.specs.declared.verb.PartVerb.TheVariants.{Screen as ScreenVerb, Glyph as GlyphVerb, Bitmap as BitmapVerb, Task as TaskVerb, End as EndVerb, Order as OrderVerb, Report as ReportVerb, Lock as LockVerb, Unlock as UnlockVerb, Hold as HoldVerb, Release as ReleaseVerb}
 use Rattle.lw_grammar.specs.declared.verb.BareVerb.{BareVerb}
 use Rattle.lw_grammar.specs.declared.verb.NumberVerb.{NumberVerb}
-use Rattle.lw_grammar.specs.declared.verb.NumberVerb.TheVariants.{Mode as ModeVerb, Clip as ClipVerb}
+use Rattle.lw_grammar.specs.declared.verb.NumberVerb.TheVariants.{APen as APenVerb, BPen as BPenVerb, Mode as ModeVerb, Mask as MaskVerb, SetRast as SetRastVerb, Clip as ClipVerb}
 use Rattle.lw_grammar.specs.declared.verb.PairVerb.{PairVerb}
 use Rattle.lw_grammar.specs.declared.verb.TextVerb.{TextVerb}
 use Rattle.lw_grammar.specs.declared.verb.Verb.{Verb}
@@ -34,7 +34,8 @@ pub record AskedLayer : Type 0 where
   pub bits_w : ℤ
   pub bits_h : ℤ
 
--- What the line of a call asks for, without the layers that it names.
+-- What the line of a call asks for, without the layers that it names. The four numbers of a box are a place, a width and a
+-- height.
 pub data Act : Type 0 where
   BareAct : BareVerb → Act
   NumberAct : NumberVerb → ℤ → Act
@@ -83,7 +84,7 @@ pub data Statement : Type 0 where
   HoldLine : Statement
   ReleaseLine : Statement
 
--- four numbers as the bounds of a rectangle, or in its place
+-- Four numbers of a line: the bounds of a rectangle; or a place, a width as `max_x` and a height as `max_y`.
 abbrev pub four : ℤ → ℤ → ℤ → ℤ → Rectangle
 four a b c d = record { min_x = a; min_y = b; max_x = c; max_y = d }
 
@@ -142,9 +143,9 @@ name_line f (NameToken n ∷ []) = Some (f n)
 name_line f _ = None
 
 -- a verb alone, as end
-abbrev pub bare_line : Statement → List Token → Option Statement
-bare_line statement [] = Some statement
-bare_line statement _ = None
+abbrev pub alone_line : Statement → List Token → Option Statement
+alone_line statement [] = Some statement
+alone_line statement _ = None
 
 -- a line that parts a script or a task
 abbrev pub part_line : PartVerb → List Token → Option Statement
@@ -152,13 +153,13 @@ part_line ScreenVerb ts = screen_line ts
 part_line GlyphVerb ts = glyph_line ts
 part_line BitmapVerb ts = bitmap_line ts
 part_line TaskVerb ts = name_line (λ n. TaskLine n) ts
-part_line EndVerb ts = bare_line EndLine ts
-part_line OrderVerb ts = bare_line OrderLine ts
-part_line ReportVerb ts = bare_line ReportLine ts
+part_line EndVerb ts = alone_line EndLine ts
+part_line OrderVerb ts = alone_line OrderLine ts
+part_line ReportVerb ts = alone_line ReportLine ts
 part_line LockVerb ts = name_line (λ n. LockLine n) ts
 part_line UnlockVerb ts = name_line (λ n. UnlockLine n) ts
-part_line HoldVerb ts = bare_line HoldLine ts
-part_line ReleaseVerb ts = bare_line ReleaseLine ts
+part_line HoldVerb ts = alone_line HoldLine ts
+part_line ReleaseVerb ts = alone_line ReleaseLine ts
 
 -- a verb with a layer, as close L
 abbrev pub layer_line : BareVerb → List Token → Option Statement
@@ -226,11 +227,11 @@ abbrev pub last_minterm : List Token → Option ℕ
 last_minterm (mm ∷ []) = minterm_of (bytes_in 1 mm)
 last_minterm _ = None
 
--- what ends the line of a blit: X Y W H MM
+-- what ends the line of a blit: X Y W H MM, its four numbers a place, a width and a height
 abbrev pub blit_end : List Token → Option (Rectangle × ℕ)
 blit_end ts = option_and_then (λ target. option_map (λ m. (target.0, m)) (last_minterm target.1)) (four_numbers ts)
 
--- a blit from this place to this one, of this size and with this minterm
+-- a blit from this place, to the place and of the size that four numbers are, and with this minterm
 abbrev pub blit_area : ℤ → ℤ → Rectangle → ℕ → Area
 blit_area sx sy to m =
     record { sx = sx; sy = sy; x = to.min_x; y = to.min_y; w = to.max_x; h = to.max_y; minterm = m }
@@ -420,9 +421,12 @@ is_area_in_range a = (coordinates_fit a.sx a.sy && coordinates_fit a.x a.y) && (
 
 -- the greatest number that a layer may have after it: a mode and a register are at most 7, a pen and a mask at most 255
 abbrev pub greatest_number : NumberVerb → ℕ
+greatest_number APenVerb = 255
+greatest_number BPenVerb = 255
 greatest_number ModeVerb = 7
+greatest_number MaskVerb = 255
+greatest_number SetRastVerb = 255
 greatest_number ClipVerb = 7
-greatest_number verb = 255
 
 -- every number of the act is in its range, and no maximum is below its minimum
 abbrev pub is_act_in_range : Act → Bool

@@ -128,15 +128,18 @@ make_of a x y w h =
       bits_h = unsigned_abs a.bits_h;
     }
 
+-- the bounds that a creation asks for as a corner and a size
 abbrev pub created_make : AskedLayer → Make
 created_make a =
     make_of a a.numbers.min_x a.numbers.min_y ((a.numbers.max_x -ℤ a.numbers.min_x) +ℤ pos 1)
     ((a.numbers.max_y -ℤ a.numbers.min_y) +ℤ pos 1)
 
+-- an opening asks for a place, a width and a height
 abbrev pub opened_make : AskedLayer → Make
 opened_make a = make_of a a.numbers.min_x a.numbers.min_y a.numbers.max_x a.numbers.max_y
 
--- the calls on the layer in a slot that verbs are: alone, with a number, with two numbers, and with a text
+-- The calls of the verbs that have a layer alone after them, and one with a number, with two numbers or with a text; s is the
+-- layer's slot.
 abbrev pub bare_call : BareVerb → ℕ → Call
 bare_call CloseVerb s = Close s
 bare_call FrontVerb s = ToFront s

@@ -1,14 +1,14 @@
 -- What a call on one layer answers and leaves, in every desk whose slot has the layer.
-use Rattle.std.proofs.Common.{◌≡◌, ℕ, ◌*◌, ◌<◌, Bool, true, false, not, if◌then◌else◌, ℤ, pos, negsuc, ◌+ℤ◌, int_le, unsigned_abs, List, [], length, Option, Some, None, Result, Ok, Err, IfOk, ◌∙◌, sym, refl, ap, subst}
+use Rattle.std.proofs.Common.{◌≡◌, ℕ, ◌*◌, ◌<◌, Bool, true, false, not, if◌then◌else◌, ℤ, pos, negsuc, ◌+ℤ◌, int_le, unsigned_abs, List, [], length, Option, Some, None, Result, Ok, Err, IfOk, IsTrue, ◌∙◌, sym, refl, ap, subst}
 use Rattle.std.specs.List.{slice_index_or}
 use Rattle.std.proofs.Math.Path.{fun_ext}
-use Rattle.std.proofs.lemmas.Bool.{eq-eqb}
+use Rattle.std.proofs.lemmas.Bool.{eq-eqb, true≢false}
 use Rattle.lw_region.specs.Rectangle.{Rectangle}
 use Rattle.lw_region.specs.Pixels.{Pixel, pixels_of}
 use Rattle.lw_planes.specs.Bitmap.{pen_at}
 use Rattle.lw_calls.specs.Assets.{Assets}
 use Rattle.lw_calls.specs.declared.call.Call.{Call}
-use Rattle.lw_calls.specs.declared.call.Call.TheVariants.{WritePixel, ReadPixel, Letters, Clip, Unclip, Scroll}
+use Rattle.lw_calls.specs.declared.call.Call.TheVariants.{SetA, SetB, SetMode, SetMask, At, WritePixel, ReadPixel, Letters, Clip, Unclip, Scroll}
 use Rattle.lw_calls.specs.declared.reply.Reply.{Reply}
 use Rattle.lw_calls.specs.declared.reply.Reply.TheVariants.{Done, Pen, Outside, NotOpen, NotSuper, InUpdate, OutOfBounds}
 use Rattle.lw_calls.specs.Kinds.{is_super}
@@ -20,9 +20,9 @@ use Rattle.lw_machine.specs.Layer as layer
 use Rattle.lw_machine.specs.Desk.{Desk}
 use Rattle.lw_machine.specs.Screen.{top, is_shown}
 use Rattle.lw_machine.specs.Kept.{visible_within, screen_place, is_visible, is_kept, is_drawable, holds_at}
-use Rattle.lw_machine.specs.Shapes.{write_pixel, draw_text}
+use Rattle.lw_machine.specs.Shapes.{write_pixel, draw_text, with_cursor}
 use Rattle.lw_machine.specs.Parts.{SlotPart, slot_part}
-use Rattle.lw_machine.specs.Step.{refuse, refuse_unless_open, further_refusal, refusal, on_layer, drawn_on, effect, from_layer, clip_answer, may_scroll, scroll_layer, answer, changed_unless, reply_or, after, reply}
+use Rattle.lw_machine.specs.Step.{refuse, refuse_unless_open, further_refusal, refusal, on_layer, with_pen_a, with_pen_b, with_mode, with_mask, drawn_on, effect, from_layer, clip_answer, may_scroll, scroll_layer, answer, changed_unless, reply_or, after, reply}
 use Rattle.lw_layer.specs.View.{State, LiveView, CellView, shows, keeps, draws, kept_pen, with_layer, with_live}
 use Rattle.lw_layer.specs.View as view
 use Rattle.lw_layer.specs.StandsFor.{IsLivePart, IsPartOf, StandsFor}
@@ -30,7 +30,7 @@ use Rattle.lw_layer.specs.Looks.{IsLook}
 use Rattle.lw_layer.specs.declared.look.Look.{Look}
 use Rattle.lw_layer.proofs.SoundLaws.{live_part}
 use Rattle.lw_layer_calls.specs.Parts.{IsSlotStep, IsLayerStep}
-use Rattle.lw_layer_calls.specs.Open.{IsLiveStep, IsOpenStep, IsTaskStep, IsLentStep}
+use Rattle.lw_layer_calls.specs.Open.{IsLiveStep, IsOpenStep, IsTaskStep, IsLentStep, sets_raster, raster_after}
 
 -- the slot of a cell that isn't live has no layer
 pub dead_slot : (c : CellView) (p : SlotPart) → (c.state ≡ view.Live → ⊥) → StandsFor c p → is_live p.slot ≡ false
@@ -134,6 +134,25 @@ drawn_step d task slot call r c new g class live passes does answers leaves =
     subst P (sym leaves)
     (changed_step d task slot call r c (λ l. g (λ x y. is_visible d slot l x y) l) (λ l. g (λ x y. shows c x y) l) live
     (open_refusal d task slot call c.layer class live.slot ∙ passes) answers does (ap (λ (v : ℕ → ℕ → Bool). g v c.layer) (shown_same d slot c live)))
+
+-- a call that sets how the layer paints
+pub set_step : (slot : ℕ) (call : Call) (c new : LiveView) → IsTrue (sets_raster call) → class_of call ≡ OnLayer slot → new ≡ with_layer (λ l. record l { raster = raster_after call l.raster }) c → IsOpenStep slot c call Done new
+set_step slot (SetA s pen) c new sets class leaves =
+    on_its_slot slot s (SetA s pen) (λ s. SetA s pen) (λ k. IsOpenStep slot c k Done new) class refl refl
+    (λ d task live. drawn_step d task slot (SetA slot pen) Done c new (λ visible. with_pen_a pen) refl live refl refl refl leaves)
+set_step slot (SetB s pen) c new sets class leaves =
+    on_its_slot slot s (SetB s pen) (λ s. SetB s pen) (λ k. IsOpenStep slot c k Done new) class refl refl
+    (λ d task live. drawn_step d task slot (SetB slot pen) Done c new (λ visible. with_pen_b pen) refl live refl refl refl leaves)
+set_step slot (SetMode s mode) c new sets class leaves =
+    on_its_slot slot s (SetMode s mode) (λ s. SetMode s mode) (λ k. IsOpenStep slot c k Done new) class refl refl
+    (λ d task live. drawn_step d task slot (SetMode slot mode) Done c new (λ visible. with_mode mode) refl live refl refl refl leaves)
+set_step slot (SetMask s mask) c new sets class leaves =
+    on_its_slot slot s (SetMask s mask) (λ s. SetMask s mask) (λ k. IsOpenStep slot c k Done new) class refl refl
+    (λ d task live. drawn_step d task slot (SetMask slot mask) Done c new (λ visible. with_mask mask) refl live refl refl refl leaves)
+set_step slot (At s x y) c new sets class leaves =
+    on_its_slot slot s (At s x y) (λ s. At s x y) (λ k. IsOpenStep slot c k Done new) class refl refl
+    (λ d task live. drawn_step d task slot (At slot x y) Done c new (λ visible. with_cursor x y) refl live refl refl refl leaves)
+set_step slot call c new sets class leaves = absurd (true≢false (sym sets))
 
 -- what WritePixel answers
 write_answer : (d : Desk) (slot : ℕ) (c : LiveView) (x y : ℤ) (done : Bool) → IsLivePart c (slot_part d slot) → done ≡ holds_at (λ i j. draws c i j) x y → (if done then Done else Outside) ≡ from_layer (λ l. if holds_at (is_drawable (is_visible d slot l) l) x y then Done else Outside) (d.slot slot)

@@ -15,7 +15,7 @@ ghost use Rattle.lw_layer_calls.specs.Open.{is_scroll, IsOpenStep, IsLentStep};
 
 use crate::blitting::{blit, put, scroll_raster};
 use crate::drawing::{draw, fill, letters, read, set_rast, write};
-use crate::raster_state::{at, set_a, set_b, set_mask, set_mode};
+use crate::raster_state::set_state;
 use crate::regs::Regs;
 use crate::updating::{begin_refresh, end_refresh};
 use crate::windows::{take_message, title};
@@ -25,9 +25,9 @@ use lw_region::Region;
 use std::alloc::{AllocError, Global};
 
 /// Makes one call of a task on a layer and gives its reply, as the machine's step says of every desk whose slot this is, in which
-/// these are the task's registers, and to which this was handed in: those that set how it paints (pens, mode, mask, cursor), those
-/// that draw or read a pixel, blits from a bitmap or from the layer itself, ScrollRaster, InstallClipRegion with a copy of a
-/// register or with none, BeginUpdate, EndUpdate, ScrollLayer, SetWindowTitles with a copy of the title, and GetMsg. It fails
+/// these are the task's registers, and to which this was handed in: those that set how it paints (pens, mode, mask, cursor),
+/// those that draw or read a pixel, blits from a bitmap or from the layer itself, ScrollRaster, InstallClipRegion with a copy of
+/// a register or with none, BeginUpdate, EndUpdate, ScrollLayer, SetWindowTitles with a copy of the title, and GetMsg. It fails
 /// only when out of memory, which only these copies and the damage of ScrollRaster take, and the layer is then as before.
 pub fn on_layer(
     alloc: Global,
@@ -71,11 +71,11 @@ fn on_open(
     ensures memory { takes_memory call.now ≡ false → IsOk result }
 {
     match *call {
-        Call::SetA { pen, .. } => Ok(set_a(layer, pen)),
-        Call::SetB { pen, .. } => Ok(set_b(layer, pen)),
-        Call::SetMode { mode, .. } => Ok(set_mode(layer, mode)),
-        Call::SetMask { mask, .. } => Ok(set_mask(layer, mask)),
-        Call::At { x, y, .. } => Ok(at(layer, x, y)),
+        Call::SetA { .. }
+        | Call::SetB { .. }
+        | Call::SetMode { .. }
+        | Call::SetMask { .. }
+        | Call::At { .. } => Ok(set_state(layer, call)),
         Call::WritePixel { x, y, .. } => Ok(write(layer, x, y)),
         Call::ReadPixel { x, y, .. } => Ok(read(layer, x, y)),
         Call::Fill { ref rect, .. } => Ok(fill(layer, rect)),

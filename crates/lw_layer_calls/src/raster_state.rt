@@ -1,54 +1,44 @@
-// The calls that set how a layer paints from then on.
+// The calls that set how a layer paints from then on: pens A and B, the drawing mode, the mask of planes, and the cursor.
 
-ghost use Rattle.std.specs.Prelude.{ℕ, ◌<◌};
-ghost use Rattle.lw_calls.specs.declared.call.Call.TheVariants.{SetA, SetB, SetMode, SetMask, At};
-ghost use Rattle.lw_layer_calls.specs.Open.{IsOpenStep};
+ghost use Rattle.std.specs.Prelude.{◌≡◌, ℕ, ◌<◌, IsTrue};
+ghost use Rattle.lw_calls.specs.declared.sizes.Sizes.{Sizes};
+ghost use Rattle.lw_calls.specs.Limits.{call_fits};
+ghost use Rattle.lw_calls.specs.declared.touch.CallClass.TheVariants.{OnLayer};
+ghost use Rattle.lw_calls.specs.Touches.{class_of};
+ghost use Rattle.lw_layer.specs.Drafts.{raster_of};
+ghost use Rattle.lw_layer_calls.specs.Open.{IsOpenStep, sets_raster, raster_after};
 
-use lw_calls::Reply;
+use lw_calls::{Call, Reply};
 use lw_layer::{Layer, Raster};
 
-// Sets pen A.
-pub(crate) fn set_a(layer: &mut Layer, pen: u8) -> Reply
-    ensures { (slot : ℕ) → IsOpenStep slot layer.old (SetA slot pen) result layer.new }
+// Sets what the call sets of how a layer paints; another call sets nothing.
+fn change(raster: &mut Raster, call: &Call)
+    requires fits { (sizes : Sizes) × IsTrue (call_fits sizes call.now) }
+    requires mode { raster.old.mode < 8 }
+    ensures value { raster_of raster.new ≡ raster_after call.now (raster_of raster.old) }
+    ensures mode { raster.new.mode < 8 }
 {
-    let raster = layer.raster();
-    layer.set_raster(Raster { a: pen, ..raster });
-    Reply::Done
+    match *call {
+        Call::SetA { pen, .. } => raster.a = pen,
+        Call::SetB { pen, .. } => raster.b = pen,
+        Call::SetMode { mode, .. } => raster.mode = mode,
+        Call::SetMask { mask, .. } => raster.mask = mask,
+        Call::At { x, y, .. } => {
+            raster.x = x;
+            raster.y = y;
+        }
+        _ => {}
+    }
 }
 
-// Sets pen B.
-pub(crate) fn set_b(layer: &mut Layer, pen: u8) -> Reply
-    ensures { (slot : ℕ) → IsOpenStep slot layer.old (SetB slot pen) result layer.new }
+// Makes a call that sets how the layer paints.
+pub(crate) fn set_state(layer: &mut Layer, call: &Call) -> Reply
+    requires sets { IsTrue (sets_raster call.now) }
+    requires fits { (sizes : Sizes) × IsTrue (call_fits sizes call.now) }
+    ensures { (slot : ℕ) → class_of call.now ≡ OnLayer slot → IsOpenStep slot layer.old call.now result layer.new }
 {
-    let raster = layer.raster();
-    layer.set_raster(Raster { b: pen, ..raster });
-    Reply::Done
-}
-
-// Sets the drawing mode.
-pub(crate) fn set_mode(layer: &mut Layer, mode: u8) -> Reply
-    requires { mode < 8 }
-    ensures { (slot : ℕ) → IsOpenStep slot layer.old (SetMode slot mode) result layer.new }
-{
-    let raster = layer.raster();
-    layer.set_raster(Raster { mode, ..raster });
-    Reply::Done
-}
-
-// Sets the mask of planes.
-pub(crate) fn set_mask(layer: &mut Layer, mask: u8) -> Reply
-    ensures { (slot : ℕ) → IsOpenStep slot layer.old (SetMask slot mask) result layer.new }
-{
-    let raster = layer.raster();
-    layer.set_raster(Raster { mask, ..raster });
-    Reply::Done
-}
-
-// Puts the cursor on a pixel.
-pub(crate) fn at(layer: &mut Layer, x: i16, y: i16) -> Reply
-    ensures { (slot : ℕ) → IsOpenStep slot layer.old (At slot x y) result layer.new }
-{
-    let raster = layer.raster();
-    layer.set_raster(Raster { x, y, ..raster });
+    let mut raster = layer.raster();
+    change(&mut raster, call);
+    layer.set_raster(raster);
     Reply::Done
 }

@@ -133,3 +133,8 @@ call_supers r layers act c =
 pub in_64 : (z : ℤ) (m : ℕ) → m ≤ 1024 → within (pos 1) z (pos m) ≡ true → to_z w64 (of_z w64 z) ≡ z
 unfolding within
 in_64 z m h e = grind (arith, ints, nat_tests)
+
+-- and is a number that isn't negative, in 32 bits
+pub count_64 : (z : ℤ) (m : ℕ) → m ≤ 1024 → within (pos 1) z (pos m) ≡ true → within (pos 0) (to_z w64 (of_z w64 z)) (pos 4294967295) ≡ true
+unfolding within
+count_64 z m h e = rw (in_64 z m h e) (grind (arith, ints, nat_tests))

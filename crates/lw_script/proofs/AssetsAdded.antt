@@ -1,21 +1,13 @@
 -- Bitmaps and rows added to those that were read.
 use Rattle.std.proofs.Common.{◌≡◌, ℕ, zero, suc, ◌+◌, ◌-◌, ◌*◌, ◌<◌, ◌≤◌, ◌==◌, true, if◌then◌else◌, List, [], ◌∷◌, ◌++◌, length, ℤ, pos, unsigned_abs, to_z, of_z, SFits, Fits, w32, w64, refl, sym, ap, ◌∙◌, arith, length-append, append_assoc, append-nil, suc-mul}
 use Rattle.std.proofs.lemmas.Bool.{ne_eqb}
-use Rattle.std.proofs.lemmas.Int.{ints, to_z-of_z}
+use Rattle.std.proofs.lemmas.Int.{to_z-of_z}
 use Rattle.std.proofs.lemmas.Nat.{mul-le}
 use Rattle.lw_region.specs.Rectangle.{within}
 use Rattle.lw_planes.specs.Bitmap.{Bitmap}
 use Rattle.lw_planes.specs.Sizes.{AreSizes}
 use Rattle.lw_planes.specs.Storage.{stored}
 use Rattle.lw_grammar.proofs.ScriptCalls.{size_range}
-
--- a depth in 64 bits is in the range of a size
-in_wider : (z : ℤ) → within (pos 1) z (pos 8) ≡ true → within (pos 1) z (pos 1024) ≡ true
-unfolding within
-in_wider z h = grind (arith, ints)
-
-pub wider : (z : ℤ) → SFits w64 z → within (pos 1) z (pos 8) ≡ true → within (pos 1) (to_z w64 (of_z w64 z)) (pos 1024) ≡ true
-wider z fits h = rw (to_z-of_z w64 z fits) (in_wider z h)
 
 -- A size that was read is the one on the line, and lies in its range.
 pub record IsSizeRead (z : ℤ) (n most : ℕ) : Type 0 where

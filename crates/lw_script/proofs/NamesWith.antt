@@ -1,8 +1,15 @@
 -- How many names there are with further ones.
-use Rattle.std.proofs.Common.{◌≡◌, ℕ, ◌+◌, Bool, true, false, ◌||◌, List, [], ◌∷◌, ◌++◌, length, bytes_eq, refl, sym, ap, ◌∙◌, arith, length-append}
+use Rattle.std.proofs.Common.{◌≡◌, ℕ, ◌+◌, ◌≤◌, Bool, true, false, ◌||◌, nat_le, if◌then◌else◌, List, [], ◌∷◌, ◌++◌, length, bytes_eq, refl, sym, ap, ◌∙◌, arith, length-append}
 use Rattle.std.specs.List.{list_any}
-use Rattle.lw_grammar.specs.Told.{and_name}
-use Rattle.std.proofs.lemmas.Bool.{or_right}
+use Rattle.lw_grammar.specs.Told.{Told, and_name, told_with}
+use Rattle.lw_statements.specs.declared.statement.Layers.TheVariants.{Nothing, One, Two}
+use Rattle.lw_statements.specs.declared.statement.Statement.{Statement}
+use Rattle.lw_statements.specs.declared.statement.Statement.TheVariants.{Call, Lock, Unlock}
+use Rattle.lw_statements.specs.StatementMeaning.{statement_meaning}
+use Rattle.lw_words.proofs.Targets.{length_targets}
+use Rattle.lw_script.specs.declared.state.Reader.{Reader}
+use Rattle.lw_script.specs.ReaderKnows.{known}
+use Rattle.std.proofs.lemmas.Bool.{or_right, le-leb}
 use Rattle.std.proofs.lemmas.List.Folds.{list_any-append}
 use Rattle.std.proofs.Math.Bool.{or-false}
 
@@ -33,3 +40,25 @@ both_new ns l m e f g =
     let d : length (ns ++ l ∷ []) ≡ length ns + 1 = length-append ns (l ∷ []) in
     let c : length ((ns ++ l ∷ []) ++ m ∷ []) ≡ length (ns ++ l ∷ []) + 1 = length-append (ns ++ l ∷ []) (m ∷ []) in
     rw (e, t) (omega (arith, c, d))
+
+-- with a further one
+one_more : (ns : List (List ℕ)) (n : List ℕ) → length (and_name ns n) ≤ length ns + 1
+one_more ns n = go (list_any (bytes_eq n) ns)
+  where
+    go : (t : Bool) → length (if t then ns else ns ++ n ∷ []) ≤ length ns + 1
+    go true = omega arith
+    go false = let e : length (ns ++ n ∷ []) ≡ length ns + 1 = length-append ns (n ∷ []) in omega (arith, e)
+
+-- with those of a line
+pub two_more : (statement : Statement) (t : Told) → length (told_with (statement_meaning statement) t).names ≤ length t.names + 2
+two_more (Call Nothing act) t = omega arith
+two_more (Call (One l) act) t = omega (arith, one_more t.names l.now)
+two_more (Call (Two l m) act) t = omega (arith, one_more t.names l.now, one_more (and_name t.names l.now) m.now)
+two_more (Lock l) t = omega (arith, one_more t.names l.now)
+two_more (Unlock l) t = omega (arith, one_more t.names l.now)
+two_more statement t = omega arith
+
+-- where two more have room, those of a line have
+pub room_for_two : (statement : Statement) (r : Reader) → length r.tasks.layer_names.keys ≤ 62 → true ≡ nat_le (length (told_with (statement_meaning statement) (known r)).names) 64
+room_for_two statement r h =
+    sym (le-leb _ _ (omega (arith, h, two_more statement (known r), length_targets r.tasks.layer_names.keys)))

@@ -1,8 +1,10 @@
 -- Lines that leave what the reader has read: of glyphs and bitmaps, or of tasks.
-use Rattle.std.proofs.Common.{◌≡◌, ℕ, ◌==◌, Bool, true, false, List, ◌∷◌, Result, Ok, Err, OnOk, ℤ, subst, ◌∙◌}
+use Rattle.std.proofs.Common.{◌≡◌, ℕ, ◌==◌, Bool, true, false, List, ◌∷◌, Result, Ok, Err, OnOk, ℤ, sym, subst, ◌∙◌}
 use Rattle.lw_grammar.specs.Statements.{Statement, ScreenLine, GlyphLine, BitmapLine, RowLine, TaskLine, EndLine, OrderLine, NumbersLine, ReportLine, CallLine, LockLine, UnlockLine, HoldLine, ReleaseLine}
 use Rattle.lw_grammar.specs.Told.{told}
 use Rattle.lw_grammar.specs.Script.{Setting}
+use Rattle.lw_statements.specs.declared.section.Section.{Section}
+use Rattle.lw_statements.specs.SectionMeaning.{section_meaning}
 use Rattle.lw_script.specs.declared.state.AssetsRead.{AssetsRead}
 use Rattle.lw_script.specs.declared.state.TasksRead.{TasksRead}
 use Rattle.lw_script.specs.declared.state.Reader.{Reader}
@@ -84,7 +86,7 @@ on_done (Ok a) P Q f h = f h
 on_done (Err e) P Q f h = tt
 
 -- the reader below a line that changes its glyphs and bitmaps alone, or its tasks alone
-pub with_assets : (s : Setting) (r : Reader) (above : List Statement) (f : Statement) (a : AssetsRead) → keeps_section f ≡ true → leaves_tasks f ≡ true → Represents s r above → AssetsRepresent a (f ∷ above) → Represents s (record { hooks = r.hooks; form = r.form; section = r.section; width = r.width; height = r.height; depth = r.depth; assets = a; tasks = r.tasks; order = r.order }) (f ∷ above)
+pub with_assets : (s : Setting) (r : Reader) (above : List Statement) (f : Statement) (a : AssetsRead) → keeps_section f ≡ true → leaves_tasks f ≡ true → Represents s r above → AssetsRepresent a (f ∷ above) → Represents s (record r { assets = a }) (f ∷ above)
 with_assets s r above (ScreenLine w h d) a e t k new = absurd (false≢true e)
 with_assets s r above (TaskLine name) a e t k new = absurd (false≢true e)
 with_assets s r above EndLine a e t k new = absurd (false≢true e)
@@ -104,7 +106,7 @@ with_assets s r above f a e t k new =
       order = k.order;
     }
 
-pub with_tasks : (s : Setting) (r : Reader) (above : List Statement) (f : Statement) (t : TasksRead) → keeps_section f ≡ true → leaves_assets f ≡ true → Represents s r above → TasksRepresent t (f ∷ above) → Represents s (record { hooks = r.hooks; form = r.form; section = r.section; width = r.width; height = r.height; depth = r.depth; assets = r.assets; tasks = t; order = r.order }) (f ∷ above)
+pub with_tasks : (s : Setting) (r : Reader) (above : List Statement) (f : Statement) (t : TasksRead) → keeps_section f ≡ true → leaves_assets f ≡ true → Represents s r above → TasksRepresent t (f ∷ above) → Represents s (record r { tasks = t }) (f ∷ above)
 with_tasks s r above (ScreenLine w h d) t e a k new = absurd (false≢true e)
 with_tasks s r above (TaskLine name) t e a k new = absurd (false≢true e)
 with_tasks s r above EndLine t e a k new = absurd (false≢true e)
@@ -122,6 +124,24 @@ with_tasks s r above f t e a k new =
       assets = assets_pass r.assets above f a k.assets;
       tasks = new;
       order = k.order;
+    }
+
+-- the reader below a line that tells nothing but another section
+abbrev pub turned_to : Section → Reader → Reader
+turned_to section r = record r { section = section }
+
+pub turned : (s : Setting) (r : Reader) (above : List Statement) (f : Statement) (section : Section) → section_meaning section ≡ (told (f ∷ above)).section → ((told (f ∷ above)).width ≡ (told above).width) × ((told (f ∷ above)).height ≡ (told above).height) × ((told (f ∷ above)).depth ≡ (told above).depth) × ((told (f ∷ above)).order ≡ (told above).order) → leaves_assets f ≡ true → leaves_tasks f ≡ true → Represents s r above → Represents s (turned_to section r) (f ∷ above)
+turned s r above f section turns same a t k =
+    record {
+      hooks = k.hooks;
+      form = k.form;
+      section = turns;
+      width = k.width ∙ sym same.0;
+      height = k.height ∙ sym same.1;
+      depth = k.depth ∙ sym same.2;
+      assets = assets_pass r.assets above f a k.assets;
+      tasks = tasks_pass r.tasks above f t k.tasks;
+      order = k.order ∙ sym same.3;
     }
 
 -- lines of the same numbers

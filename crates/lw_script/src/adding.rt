@@ -2,7 +2,7 @@
 ghost use Rattle.std.specs.Prelude.{◌≡◌, ◌≤◌, ◌++◌, pos, unsigned_abs, IsTrue, OnOk, List, ◌∷◌, length, map};
 ghost use Rattle.std.specs.List.{list_all};
 ghost use Rattle.lw_region.specs.Rectangle.{within};
-ghost use Rattle.lw_grammar.specs.Statements.{Statement as StatementValue, ScreenLine, GlyphLine, BitmapLine, RowLine, TaskLine, EndLine, OrderLine, NumbersLine, ReportLine, CallLine, LockLine, UnlockLine, HoldLine, ReleaseLine};
+ghost use Rattle.lw_grammar.specs.Statements.{Statement as StatementValue, ScreenLine, GlyphLine, BitmapLine, RowLine, TaskLine, NumbersLine, CallLine, LockLine, UnlockLine, HoldLine, ReleaseLine};
 ghost use Rattle.lw_words.specs.Digits.{decoded};
 ghost use Rattle.lw_grammar.specs.Script.{Setting};
 ghost use Rattle.lw_words.specs.Cuts.{targets};
@@ -11,17 +11,18 @@ ghost use Rattle.lw_script.specs.CallParts.{bitmap_place};
 ghost use Rattle.lw_script.specs.Represents.{Represents, CanAdd};
 
 use crate::state::{Reader, place_of_name};
-use lw_statements::{Act, Layers, Section, Statement, depth as depth_of, size, task_number};
+use lw_statements::{Act, Layers, Section, Statement, count};
 use lw_words::Digits;
 use std::alloc::{AllocError, Global};
 
 /// Puts the numbers at the end of the order.
+#[tactic(auto, using(std::proofs::lemmas::Int::ints), unfolding(lw_region::specs::Rectangle::within))]
 fn push_numbers(order: &mut Vec<u32>, numbers: &[i64]) -> Result<(), AllocError>
     requires { IsTrue (list_all (λ z. within (pos 0) z (pos 15)) numbers.now) }
     ensures { OnOk result (order.new.items ≡ order.old.items ++ map unsigned_abs numbers.now) }
 {
     for number in numbers {
-        order.push(task_number(*number))?;
+        order.push(count(*number))?;
     }
     Ok(())
 }
@@ -33,9 +34,9 @@ impl<'a> Reader<'a> {
         ensures { (s : Setting) (above : List StatementValue) → Represents s self.old above
             → Represents s self.new (ScreenLine width height depth ∷ above) }
     {
-        self.width = size(width);
-        self.height = size(height);
-        self.depth = depth_of(depth);
+        self.width = count(width);
+        self.height = count(height);
+        self.depth = count(depth);
         self.section = Section::Assets;
     }
 
@@ -71,33 +72,6 @@ impl<'a> Reader<'a> {
             → OnOk result (Represents s self.new (RowLine (decoded digits.now.digits.now) ∷ above)) }
     {
         self.assets.add_row(alloc, digits)
-    }
-
-    /// Adds the end of a task.
-    fn add_end(&mut self)
-        requires { CanAdd self.old EndLine }
-        ensures { (s : Setting) (above : List StatementValue) → Represents s self.old above
-            → Represents s self.new (EndLine ∷ above) }
-    {
-        self.section = Section::Tasks;
-    }
-
-    /// Adds the beginning of an order.
-    fn add_order(&mut self)
-        requires { CanAdd self.old OrderLine }
-        ensures { (s : Setting) (above : List StatementValue) → Represents s self.old above
-            → Represents s self.new (OrderLine ∷ above) }
-    {
-        self.section = Section::Numbers;
-    }
-
-    /// Adds the line after which a report stands.
-    fn add_report(&mut self)
-        requires { CanAdd self.old ReportLine }
-        ensures { (s : Setting) (above : List StatementValue) → Represents s self.old above
-            → Represents s self.new (ReportLine ∷ above) }
-    {
-        self.section = Section::Nothing;
     }
 
     /// Adds the beginning of a lock on a layer.
@@ -172,21 +146,21 @@ impl<'a> Reader<'a> {
         &mut self,
         alloc: Global,
         layers: Layers<'a>,
-        act: Act<'a>,
+        act: &Act<'a>,
     ) -> Result<(), AllocError>
-        requires { CanAdd self.old (CallLine (layers_meaning layers) (act_meaning act)) }
+        requires { CanAdd self.old (CallLine (layers_meaning layers) (act_meaning act.now)) }
         ensures { (s : Setting) (above : List StatementValue) → Represents s self.old above
-            → OnOk result (Represents s self.new (CallLine (layers_meaning layers.entry) (act_meaning act.entry) ∷ above)) }
+            → OnOk result (Represents s self.new (CallLine (layers_meaning layers.entry) (act_meaning act.now) ∷ above)) }
     {
-        let bitmap = self.bitmap_of(&act);
+        let bitmap = self.bitmap_of(act);
         self.tasks.add_call(alloc, bitmap, layers, act)
     }
 
     /// Adds a line below those that were read, where it is good.
-    pub fn add(&mut self, alloc: Global, statement: Statement<'a>) -> Result<(), AllocError>
-        requires { CanAdd self.old (statement_meaning statement) }
+    pub fn add(&mut self, alloc: Global, statement: &Statement<'a>) -> Result<(), AllocError>
+        requires { CanAdd self.old (statement_meaning statement.now) }
         ensures { (s : Setting) (above : List StatementValue) → Represents s self.old above
-            → OnOk result (Represents s self.new (statement_meaning statement.entry ∷ above)) }
+            → OnOk result (Represents s self.new (statement_meaning statement.now ∷ above)) }
     {
         match statement {
             Statement::Screen {
@@ -194,11 +168,11 @@ impl<'a> Reader<'a> {
                 height,
                 depth,
             } => {
-                self.add_screen(width, height, depth);
+                self.add_screen(*width, *height, *depth);
                 Ok(())
             }
             Statement::Glyph { code, digits } => {
-                self.add_glyph(code, &digits);
+                self.add_glyph(*code, digits);
                 Ok(())
             }
             Statement::Bitmap {
@@ -206,25 +180,25 @@ impl<'a> Reader<'a> {
                 width,
                 height,
                 depth,
-            } => self.add_bitmap(alloc, name, width, height, depth),
-            Statement::Row(digits) => self.add_row(alloc, &digits),
-            Statement::Task(name) => self.add_task(alloc, name),
+            } => self.add_bitmap(alloc, *name, *width, *height, *depth),
+            Statement::Row(digits) => self.add_row(alloc, digits),
+            Statement::Task(name) => self.add_task(alloc, *name),
             Statement::End => {
-                self.add_end();
+                self.section = Section::Tasks;
                 Ok(())
             }
             Statement::Order => {
-                self.add_order();
+                self.section = Section::Numbers;
                 Ok(())
             }
             Statement::Numbers(numbers) => self.add_numbers(numbers.as_slice()),
             Statement::Report => {
-                self.add_report();
+                self.section = Section::Nothing;
                 Ok(())
             }
-            Statement::Call { layers, act } => self.add_call(alloc, layers, act),
-            Statement::Lock(name) => self.add_lock(name),
-            Statement::Unlock(name) => self.add_unlock(name),
+            Statement::Call { layers, act } => self.add_call(alloc, *layers, act),
+            Statement::Lock(name) => self.add_lock(*name),
+            Statement::Unlock(name) => self.add_unlock(*name),
             Statement::Hold => {
                 self.add_hold();
                 Ok(())

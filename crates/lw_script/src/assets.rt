@@ -10,7 +10,7 @@ ghost use Rattle.lw_script.specs.Represents.{AssetsRepresent, IsBitmapBegun};
 
 use crate::state::AssetsRead;
 use lw_planes::Planes;
-use lw_statements::size;
+use lw_statements::count;
 use lw_words::Digits;
 use std::alloc::{AllocError, Global};
 use std::mem;
@@ -51,6 +51,7 @@ impl<'a> AssetsRead<'a> {
     }
 
     /// Adds a bitmap, whose rows are then due.
+    #[tactic(auto, using(std::proofs::lemmas::Int::ints), unfolding(lw_region::specs::Rectangle::within))]
     pub(crate) fn add_bitmap(
         &mut self,
         alloc: Global,
@@ -68,9 +69,9 @@ impl<'a> AssetsRead<'a> {
             → OnOk result (AssetsRepresent self.new (BitmapLine name.entry.now width height depth ∷ above)) }
     {
         self.names.insert(name)?;
-        self.width = size(width);
-        self.height = size(height);
-        self.depth = size(depth);
+        self.width = count(width);
+        self.height = count(height);
+        self.depth = count(depth);
         self.due = self.depth * self.height;
         self.rows = Vec::new(alloc);
         Ok(())

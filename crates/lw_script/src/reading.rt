@@ -24,22 +24,21 @@ impl<'a> Reader<'a> {
         requires { self.now.assets.width ≤ 1024 }
         ensures { Reads result (statement_of (setting_of self.now) (known self.now) (targets words.now)) }
     {
-        let due = self.assets.due;
-        match words_statement(
+        let read = words_statement(
             alloc,
             self.form,
             self.section,
-            due,
+            self.assets.due,
             self.assets.width,
             words,
             tokens,
-        ) {
-            Err(stop) => Err(stop),
-            Ok(statement) => match self.tested(&statement) {
-                Err(reason) => Err(Stop::Refused(reason)),
-                Ok(()) => Ok(statement),
-            },
+        );
+        if let Ok(statement) = &read {
+            if let Err(reason) = self.tested(statement) {
+                return Err(Stop::Refused(reason));
+            }
         }
+        read
     }
 
     /// The statement of a line that isn't skipped, or its first reason.

@@ -33,7 +33,7 @@ impl<'a> Reader<'a> {
                 reason,
             }),
             Err(Stop::Memory) => Err(ScriptStop::Memory),
-            Ok(statement) => Ok(self.add(alloc, statement)?),
+            Ok(statement) => Ok(self.add(alloc, &statement)?),
         }
     }
 

@@ -15,7 +15,7 @@ use crate::state::TasksRead;
 use indexmap::IndexSet;
 use lw_calls::{Group, Hold};
 use lw_grammar::BareVerb;
-use lw_statements::{Act, Layers, OpenGroup, hook};
+use lw_statements::{Act, Layers, OpenGroup, count};
 use std::alloc::{AllocError, Global};
 
 /// The number of a name among these, where a name that isn't one of them gets the next number.
@@ -68,7 +68,7 @@ fn note_hook(used: &mut IndexSet<u32>, number: Option<i64>) -> Result<(), AllocE
     ensures { (named : ℕ → Bool) → AreNoted used.old.keys named → OnOk result (AreNoted used.new.keys (and_hook number named)) }
 {
     if let Some(number) = number {
-        used.insert(hook(number))?;
+        used.insert(count(number))?;
     }
     Ok(())
 }
@@ -193,29 +193,29 @@ impl<'a> TasksRead<'a> {
         alloc: Global,
         bitmap: u32,
         layers: Layers<'a>,
-        act: Act<'a>,
+        act: &Act<'a>,
     ) -> Result<(), AllocError>
-        requires range { IsTrue (is_act_in_range (act_meaning act)) }
-        requires made { length (layers_meaning layers) ≡ layers_of (act_meaning act) }
+        requires range { IsTrue (is_act_in_range (act_meaning act.now)) }
+        requires made { length (layers_meaning layers) ≡ layers_of (act_meaning act.now) }
         requires few { length self.old.layer_names.keys ≤ 64 }
         requires room { self.old.so_far < 4096 }
         requires supers { self.old.supers ≤ 16 }
-        ensures { (above : List StatementValue) → IsBitmapAt (told above).bitmap_names bitmap (act_meaning act.entry)
+        ensures { (above : List StatementValue) → IsBitmapAt (told above).bitmap_names bitmap (act_meaning act.now)
             → TasksRepresent self.old above
-            → OnOk result (TasksRepresent self.new (CallLine (layers_meaning layers.entry) (act_meaning act.entry) ∷ above)) }
+            → OnOk result (TasksRepresent self.new (CallLine (layers_meaning layers.entry) (act_meaning act.now) ∷ above)) }
     {
         let (slot, other) = slots_of(&mut self.layer_names, layers)?;
         let call = act.call(alloc, bitmap, slot, other)?;
         note_hook(&mut self.used, act.hook())?;
-        self.supers = supers_with(self.supers, &act);
+        self.supers = supers_with(self.supers, act);
         let group = Group {
             first: self.began,
             last: self.so_far,
             hold: Hold::Slot(slot),
         };
-        end_update(&mut self.groups, &act, group)?;
-        self.group = group_below(self.group, layers, &act);
-        self.began = began_below(self.began, self.so_far, &act);
+        end_update(&mut self.groups, act, group)?;
+        self.group = group_below(self.group, layers, act);
+        self.began = began_below(self.began, self.so_far, act);
         put_last(&mut self.calls, call)?;
         self.so_far += 1;
         Ok(())

@@ -1,6 +1,6 @@
 //! The tests of a line's statement by what was read so far.
 ghost use Rattle.std.specs.Prelude.{◌≡◌, nat_le, length, IsTrue};
-ghost use Rattle.lw_calls.specs.Limits.{call_limit};
+ghost use Rattle.lw_calls.specs.Limits.{name_limit, call_limit};
 ghost use Rattle.lw_grammar.specs.Statements.{is_line_in_range};
 ghost use Rattle.lw_grammar.specs.Told.{and_name, hook_on, told_with};
 ghost use Rattle.lw_grammar.specs.Script.{lacks_name, gives_again, group_has_calls, fits_group, super_limit, are_few, is_no_hook, is_used, has_padding, statement_tested};
@@ -9,7 +9,7 @@ ghost use Rattle.lw_script.specs.ReaderKnows.{known, setting_of};
 
 use crate::state::{Reader, has_hook, has_name};
 use lw_calls::Reason;
-use lw_statements::{Act, Layers, Statement, hook};
+use lw_statements::{Act, Layers, Statement, count};
 use lw_words::is_text;
 
 /// How many tasks, bitmaps, layer names, lines that ask for a super-bitmap layer, and calls of a task a script has at most.
@@ -135,12 +135,23 @@ impl<'a> Reader<'a> {
         }
     }
 
+    /// Whether no layer name of the line is one too many. Where two more have room, no name is looked up.
+    #[tactic(auto, using(crate::proofs::NamesWith::room_for_two))]
+    fn has_room_for_names(&self, statement: &Statement<'a>) -> bool
+        ensures { result ≡ nat_le (length (told_with (statement_meaning statement.now) (known self.now)).names) name_limit }
+    {
+        if self.tasks.layer_names.len() <= NAME_LIMIT - 2 {
+            return true;
+        }
+        self.names_with(statement) <= NAME_LIMIT
+    }
+
     /// Whether nothing of the line is one too many.
     fn has_room(&self, statement: &Statement<'a>) -> bool
         ensures { result ≡ are_few (told_with (statement_meaning statement.now) (known self.now)) }
     {
         ((self.tasks_with(statement) <= TASK_LIMIT && self.bitmaps_with(statement) <= BITMAP_LIMIT)
-            && self.names_with(statement) <= NAME_LIMIT)
+            && self.has_room_for_names(statement))
             && (self.has_room_for_super(statement) && self.has_room_for_call(statement))
     }
 
@@ -162,7 +173,7 @@ impl<'a> Reader<'a> {
     {
         match statement.hook() {
             None => false,
-            Some(number) => has_hook(&self.tasks.used, &hook(number)),
+            Some(number) => has_hook(&self.tasks.used, &count(number)),
         }
     }
 

@@ -7,7 +7,7 @@ ghost use Rattle.lw_grammar.specs.Told.{make_of, created_make, opened_make, bare
 ghost use Rattle.lw_statements.specs.StatementMeaning.{corners_meaning, asked_meaning, area_meaning, act_meaning};
 ghost use Rattle.lw_statements.specs.CallMeaning.{IsBitmapAt, is_apart, is_single_on_layers};
 
-use crate::converted::{coordinate, extent, hook, mode, own_size, pen, register, step};
+use crate::converted::{byte, coordinate, count, extent, step};
 use crate::statement::{Act, AskedArea, AskedLayer};
 use lw_calls::{Area, Call, Kind, Make, Text};
 use lw_grammar::{BareVerb, NumberVerb, PairVerb, TextVerb};
@@ -19,7 +19,7 @@ fn hook_number(number: Option<i64>) -> Option<u32>
 {
     match number {
         None => None,
-        Some(number) => Some(hook(number)),
+        Some(number) => Some(count(number)),
     }
 }
 
@@ -34,13 +34,14 @@ fn spread(low: i64, high: i64) -> i32
 
 impl AskedLayer {
     /// The size of a bitmap of its own, or 0 and 0.
+    #[tactic(auto, using(std::proofs::lemmas::Int::ints), unfolding(lw_region::specs::Rectangle::within))]
     fn bits(&self) -> (u32, u32)
         requires { IsTrue (is_own_size self.now.kind self.now.bits_w self.now.bits_h) }
         ensures { result ≡ (unsigned_abs self.now.bits_w, unsigned_abs self.now.bits_h) }
     {
         match self.kind {
             Kind::Simple | Kind::Smart => (0, 0),
-            Kind::SuperBitmap => (own_size(self.bits_w), own_size(self.bits_h)),
+            Kind::SuperBitmap => (count(self.bits_w), count(self.bits_h)),
         }
     }
 
@@ -126,6 +127,7 @@ fn bare_call(verb: BareVerb, slot: u32) -> Call
     }
 }
 
+#[tactic(auto, using(std::proofs::lemmas::Int::ints), unfolding(lw_region::specs::Rectangle::within))]
 fn number_call(verb: NumberVerb, slot: u32, number: i64) -> Call
     requires { IsTrue (within (pos 0) number (pos (greatest_number verb))) }
     ensures { result ≡ number_call verb slot (unsigned_abs number) }
@@ -133,27 +135,27 @@ fn number_call(verb: NumberVerb, slot: u32, number: i64) -> Call
     match verb {
         NumberVerb::APen => Call::SetA {
             slot,
-            pen: pen(number),
+            pen: byte(number),
         },
         NumberVerb::BPen => Call::SetB {
             slot,
-            pen: pen(number),
+            pen: byte(number),
         },
         NumberVerb::Mode => Call::SetMode {
             slot,
-            mode: mode(number),
+            mode: byte(number),
         },
         NumberVerb::Mask => Call::SetMask {
             slot,
-            mask: pen(number),
+            mask: byte(number),
         },
         NumberVerb::SetRast => Call::SetRast {
             slot,
-            pen: pen(number),
+            pen: byte(number),
         },
         NumberVerb::Clip => Call::Clip {
             slot,
-            reg: register(number),
+            reg: count(number),
         },
     }
 }
@@ -204,6 +206,7 @@ fn text_of(alloc: Global, bytes: &[u8]) -> Result<Text, AllocError>
 
 impl Act<'_> {
     /// The call of an act that names no layer.
+    #[tactic(auto, using(std::proofs::lemmas::Int::ints), unfolding(lw_region::specs::Rectangle::within))]
     fn call_apart(&self) -> Call
         requires apart { IsTrue (is_apart self.now) }
         requires range { IsTrue (is_act_in_range (act_meaning self.now)) }
@@ -212,20 +215,20 @@ impl Act<'_> {
         match self {
             Act::RegRect {
                 op,
-                register: number,
+                register,
                 corners,
             } => Call::RegRect {
                 op: *op,
-                reg: register(*number),
+                reg: count(*register),
                 rect: corners.rect(),
             },
             Act::RegPair { op, source, into } => Call::RegPair {
                 op: *op,
-                source: register(*source),
-                into: register(*into),
+                source: count(*source),
+                into: count(*into),
             },
             Act::RegClear(number) => Call::RegClear {
-                reg: register(*number),
+                reg: count(*number),
             },
             Act::Which { x, y } => Call::Which {
                 x: step(*x),

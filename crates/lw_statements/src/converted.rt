@@ -1,5 +1,5 @@
 //! Numbers in their ranges as the calls have them.
-ghost use Rattle.std.specs.Prelude.{◌≡◌, ◌&&◌, pos, IsTrue, unsigned_abs};
+ghost use Rattle.std.specs.Prelude.{◌≡◌, pos, IsTrue, unsigned_abs};
 ghost use Rattle.lw_region.specs.Rectangle.{within};
 ghost use Rattle.lw_calls.specs.Limits.{is_coordinate, rect_fits, is_extent};
 ghost use Rattle.lw_statements.specs.StatementMeaning.{corners_meaning};
@@ -34,73 +34,19 @@ pub fn extent(number: i64) -> i32
     number as i32
 }
 
-/// A pen or a mask.
+/// A pen, a mask or a mode.
 #[tactic(auto, using(std::proofs::lemmas::Int::ints), unfolding(lw_region::specs::Rectangle::within))]
-pub fn pen(number: i64) -> u8
+pub fn byte(number: i64) -> u8
     requires { IsTrue (within (pos 0) number (pos 255)) }
     ensures { result ≡ unsigned_abs number }
 {
     number as u8
 }
 
-/// A mode.
+/// A size, or the number of a register, a hook or a task.
 #[tactic(auto, using(std::proofs::lemmas::Int::ints), unfolding(lw_region::specs::Rectangle::within))]
-pub fn mode(number: i64) -> u8
-    requires { IsTrue (within (pos 0) number (pos 7)) }
-    ensures { result ≡ unsigned_abs number }
-{
-    number as u8
-}
-
-/// The number of a register.
-#[tactic(auto, using(std::proofs::lemmas::Int::ints), unfolding(lw_region::specs::Rectangle::within))]
-pub fn register(number: i64) -> u32
-    requires { IsTrue (within (pos 0) number (pos 7)) }
-    ensures { result ≡ unsigned_abs number }
-{
-    number as u32
-}
-
-/// The number of a hook.
-#[tactic(auto, using(std::proofs::lemmas::Int::ints), unfolding(lw_region::specs::Rectangle::within))]
-pub fn hook(number: i64) -> u32
+pub fn count(number: i64) -> u32
     requires { IsTrue (within (pos 0) number (pos 4294967295)) }
-    ensures { result ≡ unsigned_abs number }
-{
-    number as u32
-}
-
-/// A size of a bitmap of a layer's own.
-#[tactic(auto, using(std::proofs::lemmas::Int::ints), unfolding(lw_region::specs::Rectangle::within))]
-pub fn own_size(number: i64) -> u32
-    requires { IsTrue (within (pos 1) number (pos 2048)) }
-    ensures { result ≡ unsigned_abs number }
-{
-    number as u32
-}
-
-/// A size of a screen or of a bitmap.
-#[tactic(auto, using(std::proofs::lemmas::Int::ints), unfolding(lw_region::specs::Rectangle::within))]
-pub fn size(number: i64) -> u32
-    requires { IsTrue (within (pos 1) number (pos 1024)) }
-    ensures { result ≡ unsigned_abs number }
-{
-    number as u32
-}
-
-/// The number of bit planes of a screen or of a bitmap.
-#[tactic(auto, using(std::proofs::lemmas::Int::ints), unfolding(lw_region::specs::Rectangle::within))]
-pub fn depth(number: i64) -> u32
-    requires { IsTrue (within (pos 1) number (pos 8)) }
-    ensures { result ≡ unsigned_abs number }
-{
-    number as u32
-}
-
-/// The number of a task in an order.
-#[tactic(auto, using(std::proofs::lemmas::Int::ints), unfolding(lw_region::specs::Rectangle::within))]
-pub fn task_number(number: i64) -> u32
-    requires { IsTrue (within (pos 0) number (pos 15)) }
     ensures { result ≡ unsigned_abs number }
 {
     number as u32

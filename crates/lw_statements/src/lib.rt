@@ -17,7 +17,7 @@ mod section;
 mod statement;
 
 pub use acts::OpenGroup;
-pub use converted::{depth, hook, size, task_number};
+pub use converted::count;
 pub use line::words_statement;
 pub use section::{Section, belongs_in};
 pub use statement::{Act, AskedArea, AskedLayer, Corners, Layers, Statement};

@@ -310,28 +310,6 @@ fn kind_line<'a>(
     }
 }
 
-/// The same, where these words are to be the kind and the place.
-fn placed_line<'a>(
-    request: Request,
-    layer: &'a [u8],
-    kind: &[u8],
-    place: &[u8],
-    numbers: Corners,
-    tokens: &[Token<'a>],
-) -> Option<Statement<'a>>
-    ensures { option_map statement_meaning result ≡
-        with_words (after_numbers request) layer.now kind.now place.now (corners_meaning numbers)
-        (map token_meaning tokens.now) }
-{
-    match place_of(place) {
-        None => None,
-        Some(place) => match kind_of(kind) {
-            None => None,
-            Some(kind) => kind_line(request, layer, kind, place, numbers, tokens),
-        },
-    }
-}
-
 /// What stands after the three names of a request.
 fn named_line<'a>(
     request: Request,
@@ -345,7 +323,13 @@ fn named_line<'a>(
 {
     match corners_in(tokens) {
         None => None,
-        Some((numbers, rest)) => placed_line(request, layer, kind, place, numbers, rest),
+        Some((numbers, rest)) => match place_of(place) {
+            None => None,
+            Some(place) => match kind_of(kind) {
+                None => None,
+                Some(kind) => kind_line(request, layer, kind, place, numbers, rest),
+            },
+        },
     }
 }
 

@@ -1,6 +1,5 @@
 ghost use Rattle.std.specs.Prelude.{◌≡◌, map, option_map};
-ghost use Rattle.lw_grammar.specs.Statements.{minterm_of, last_minterm, blit_end, blit_area, put_line, blit_line};
-ghost use Rattle.lw_grammar.specs.Tokens.{bytes_in};
+ghost use Rattle.lw_grammar.specs.Statements.{last_minterm, blit_end, blit_area, put_line, blit_line};
 ghost use Rattle.lw_words.specs.TokenMeaning.{token_meaning};
 ghost use Rattle.lw_statements.specs.StatementMeaning.{statement_meaning, corners_meaning, area_meaning};
 
@@ -23,29 +22,22 @@ fn asked_area(sx: i64, sy: i64, corners: &Corners, minterm: u8) -> AskedArea
     }
 }
 
-/// The minterm that a word spells: one byte whose lower four bits are 0.
-fn minterm_in(token: &Token<'_>) -> Option<u8>
-    ensures { result ≡ minterm_of (bytes_in 1 (token_meaning token.now)) }
-{
-    match digits_in(1, token) {
-        None => None,
-        Some(digits) => {
-            let minterm = digits.byte(0);
-            if minterm % 16 == 0 {
-                Some(minterm)
-            } else {
-                None
-            }
-        }
-    }
-}
-
-/// A minterm at the end of a line.
+/// A minterm at the end of a line: one byte whose lower four bits are 0.
 fn last_minterm(tokens: &[Token<'_>]) -> Option<u8>
     ensures { result ≡ last_minterm (map token_meaning tokens.now) }
 {
     match tokens {
-        [word] => minterm_in(word),
+        [word] => match digits_in(1, word) {
+            None => None,
+            Some(digits) => {
+                let minterm = digits.byte(0);
+                if minterm % 16 == 0 {
+                    Some(minterm)
+                } else {
+                    None
+                }
+            }
+        },
         _ => None,
     }
 }

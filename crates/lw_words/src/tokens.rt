@@ -1,4 +1,4 @@
-ghost use Rattle.std.specs.Prelude.{◌≡◌, ◌∷◌, ◌<◌, Ok, Some, position, length, OnOk, IfErr};
+ghost use Rattle.std.specs.Prelude.{◌≡◌, Ok, Some, position, OnOk, IfErr};
 ghost use Rattle.lw_grammar.specs.Tokens.{tokens, ends_text as text_end_meant};
 ghost use Rattle.lw_words.specs.Cuts.{CutsWord, IsWordBegun, targets, is_break};
 ghost use Rattle.lw_words.specs.Stops.{Tells};

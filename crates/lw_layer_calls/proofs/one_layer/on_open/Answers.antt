@@ -2,23 +2,15 @@ use Rattle.std.proofs.Common.{◌≡◌, ℕ, ℤ, to_z, of_z, w16, w32, List, r
 use Rattle.std.proofs.lemmas.Result.{IfOk-weaker}
 use Rattle.lw_region.specs.Rectangle.{Rectangle}
 use Rattle.lw_calls.specs.Assets.{Assets}
-use Rattle.lw_calls.specs.declared.call.Call.TheVariants.{At, WritePixel, ReadPixel, DrawTo, Letters, Put, Clip, SetTitle}
+use Rattle.lw_calls.specs.declared.call.Call.TheVariants.{WritePixel, ReadPixel, DrawTo, Letters, Put, Clip, SetTitle}
 use Rattle.lw_calls.specs.declared.touch.CallClass.TheVariants.{OnLayer}
 use Rattle.lw_calls.specs.Touches.{class_of}
 use Rattle.lw_layer_calls.specs.Open.{IsLentStep}
 use Rattle.lw_layer_calls.proofs.OneLayerLaws.{on_its_slot, on_its_place}
 use Rattle.lw_layer_calls.proofs.one_layer.on_open.Goals as goal
 
-pub returns-in-At-clause-step : goal.returns-in-At-clause-step
-returns-in-At-clause-step c =
-    λ slot class.
-    let a = c.args in
-    let x : ℤ = c.in-At.x in
-    let y : ℤ = c.in-At.y in
-    let column : to_z w16 (of_z w16 x) ≡ x = search rules in
-    let row : to_z w16 (of_z w16 y) ≡ y = search rules in
-    on_its_place slot c.in-At.slot x y _ _ a.call.now (λ n u v. At n u v) (λ k. IsLentStep a.task slot a.layer.now a.regs.now a.assets.now k c.at.result c.at.new.layer) class c.in-At.is refl column row
-    (λ d live registers handed. c.at.ensures slot d a.task live)
+pub returns-in-SetA-clause-step : goal.returns-in-SetA-clause-step
+returns-in-SetA-clause-step c = λ slot class d live registers handed. c.set_state.ensures slot class d c.args.task live
 
 pub returns-in-WritePixel-clause-step : goal.returns-in-WritePixel-clause-step
 returns-in-WritePixel-clause-step c =

@@ -1,12 +1,13 @@
-use Rattle.std.proofs.Common.{sym, subst, ◌∷◌, arith, List}
+use Rattle.std.proofs.Common.{refl, sym, subst, ◌∷◌, arith, List}
 use Rattle.lw_grammar.specs.Script.{Setting}
-use Rattle.lw_grammar.specs.Statements.{Statement as StatementValue}
+use Rattle.lw_grammar.specs.Statements.{Statement as StatementValue, EndLine, OrderLine, ReportLine}
 use Rattle.lw_statements.specs.declared.statement.Statement.{Statement}
+use Rattle.lw_statements.specs.declared.section.Section.TheVariants.{Tasks, Numbers, Nothing}
 use Rattle.lw_statements.specs.StatementMeaning.{statement_meaning}
 use Rattle.lw_script.specs.declared.state.Reader.{Reader}
 use Rattle.lw_script.specs.Represents.{Represents, CanAdd}
 use Rattle.lw_script.proofs.Addable.{in_64, screen_ranged, bitmap_ranged}
-use Rattle.lw_script.proofs.Passing.{same_screen, same_bitmap, on_done}
+use Rattle.lw_script.proofs.Passing.{same_screen, same_bitmap, on_done, turned_to, turned}
 use Rattle.lw_script.proofs.state.Reader.add.Goals as goal
 
 -- the reader represents the statement put on the lines above
@@ -14,13 +15,16 @@ abbrev Put : Setting → Reader → List StatementValue → Statement → Type 0
 Put s r above f = Represents s r (statement_meaning f ∷ above)
 
 pub returns-in-End : goal.returns-in-End
-returns-in-End c = λ s above k. subst (Put s c.add_end.new.self above) (sym c.in-End.is) (c.add_end.ensures s above k)
+returns-in-End c = λ s above k.
+    subst (Put s (turned_to Tasks c.args.self.now) above) (sym c.in-End.is) (turned s c.args.self.now above EndLine Tasks refl (refl, refl, refl, refl) refl refl k)
 
 pub returns-in-Order : goal.returns-in-Order
-returns-in-Order c = λ s above k. subst (Put s c.add_order.new.self above) (sym c.in-Order.is) (c.add_order.ensures s above k)
+returns-in-Order c = λ s above k.
+    subst (Put s (turned_to Numbers c.args.self.now) above) (sym c.in-Order.is) (turned s c.args.self.now above OrderLine Numbers refl (refl, refl, refl, refl) refl refl k)
 
 pub returns-in-Report : goal.returns-in-Report
-returns-in-Report c = λ s above k. subst (Put s c.add_report.new.self above) (sym c.in-Report.is) (c.add_report.ensures s above k)
+returns-in-Report c = λ s above k.
+    subst (Put s (turned_to Nothing c.args.self.now) above) (sym c.in-Report.is) (turned s c.args.self.now above ReportLine Nothing refl (refl, refl, refl, refl) refl refl k)
 
 pub returns-in-Hold : goal.returns-in-Hold
 returns-in-Hold c = λ s above k. subst (Put s c.add_hold.new.self above) (sym c.in-Hold.is) (c.add_hold.ensures s above k)

@@ -12,25 +12,25 @@ pub bitmap_of-bitmap-requires : goal.bitmap_of-bitmap-requires
 bitmap_of-bitmap-requires c = few_bitmaps c.args.self.now _ c.requires
 
 pub add_call-requires-clause-range : goal.add_call-requires-clause-range
-add_call-requires-clause-range c = call_ranged c.args.self.now (layers_meaning c.args.layers) (act_meaning c.args.act) c.requires
+add_call-requires-clause-range c = call_ranged c.args.self.now (layers_meaning c.args.layers) (act_meaning c.args.act.now) c.requires
 
 pub add_call-requires-clause-made : goal.add_call-requires-clause-made
-add_call-requires-clause-made c = call_made c.args.self.now (layers_meaning c.args.layers) (act_meaning c.args.act) c.requires
+add_call-requires-clause-made c = call_made c.args.self.now (layers_meaning c.args.layers) (act_meaning c.args.act.now) c.requires
 
 pub add_call-requires-clause-few : goal.add_call-requires-clause-few
 add_call-requires-clause-few c = few_names c.args.self.now _ c.requires
 
 pub add_call-requires-clause-room : goal.add_call-requires-clause-room
-add_call-requires-clause-room c = call_room c.args.self.now (layers_meaning c.args.layers) (act_meaning c.args.act) c.requires
+add_call-requires-clause-room c = call_room c.args.self.now (layers_meaning c.args.layers) (act_meaning c.args.act.now) c.requires
 
 pub add_call-requires-clause-supers : goal.add_call-requires-clause-supers
-add_call-requires-clause-supers c = call_supers c.args.self.now (layers_meaning c.args.layers) (act_meaning c.args.act) c.requires
+add_call-requires-clause-supers c = call_supers c.args.self.now (layers_meaning c.args.layers) (act_meaning c.args.act.now) c.requires
 
 pub returns : goal.returns
 returns c = λ s above k.
-    let f = CallLine (layers_meaning c.args.layers) (act_meaning c.args.act) in
+    let f = CallLine (layers_meaning c.args.layers) (act_meaning c.args.act.now) in
     let r = c.args.self.now in
-    let act = act_meaning c.args.act in
+    let act = act_meaning c.args.act.now in
     let P : List (List ℕ) → Type 0 = λ ns. IsBitmapAt ns c.bitmap_of-bitmap.result act in
     let stands = subst P k.assets.names (bitmap_stands (targets r.assets.names.keys) c.bitmap_of-bitmap.result act c.bitmap_of-bitmap.ensures) in
     on_done c.add_call.result _ _ (with_tasks s r above f c.add_call.new.self refl refl k) (c.add_call.ensures above stands k.tasks)

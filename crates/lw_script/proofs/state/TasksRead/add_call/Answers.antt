@@ -11,12 +11,12 @@ pub note_hook-requires : goal.note_hook-requires
 note_hook-requires c =
     let ls = layers_meaning c.args.layers in
     let P : Option ℤ → Type 0 = λ o. IsTrue (is_hook_number o) in
-    subst P (sym (c.hook.ensures ls)) (hook_fits ls (act_meaning c.args.act) c.requires.range)
+    subst P (sym (c.hook.ensures ls)) (hook_fits ls (act_meaning c.args.act.now) c.requires.range)
 
 pub returns : goal.returns
 returns c = λ above h s.
     let ls = layers_meaning c.args.layers in
-    let act = act_meaning c.args.act in
+    let act = act_meaning c.args.act.now in
     let first : c.in_ok-slot.slot ≡ first_place (told above).names ls = c.in_ok-slot.ensures.first ∙ ap (λ ns. first_place ns ls) s.names in
     let second : c.in_ok-slot.other ≡ second_place (told above).names ls = c.in_ok-slot.ensures.second ∙ ap (λ ns. second_place ns ls) s.names in
     let P : Option ℤ → Type 0 = λ o. AreNoted c.note_hook.new.used.keys (and_hook o (told above).used) in
