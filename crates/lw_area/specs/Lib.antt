@@ -1,0 +1,4 @@
+pub mod Polygons
+pub mod Patterns
+pub mod Areas
+pub mod Rows
