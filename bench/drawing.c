@@ -5,7 +5,7 @@
 #include <stdlib.h>
 #include <string.h>
 
-enum shape { SQUARE, LINES, SCROLL_LEFT, SCROLL_UP, SCROLL_BACK, FROM_BITMAP, FROM_LAYER, WITHIN, TEXT };
+enum shape { SQUARE, LINES, SCROLL_LEFT, SCROLL_UP, SCROLL_BACK, FROM_BITMAP, FROM_LAYER, WITHIN, TEXT, WINDOWS, CUT, CLIPPED };
 
 struct work {
     uint32_t shape;
@@ -77,6 +77,16 @@ static void print_moves(uint32_t planes) {
     }
 }
 
+// A fill of 100 by 100 in a layer that is cut into rectangles.
+static void print_cut(const char *name, uint32_t shape, uint32_t planes, uint32_t rectangles) {
+    struct work work = {shape, 100, planes, 1, planes * bytes_of_square(100)};
+    double seconds[2];
+    time_both(with_step, with_memset, &work, seconds);
+    printf("| %s | %u | %u | %.0f | %.1f |\n", name, (unsigned)planes, (unsigned)rectangles, 1 / seconds[0],
+           seconds[0] * 1e9 / rectangles);
+    fflush(stdout);
+}
+
 void bench_drawing(void) {
     static const int16_t sides[3] = {10, 100, 500};
     static const uint32_t depths[2] = {2, 8};
@@ -95,5 +105,12 @@ void bench_drawing(void) {
         struct work text = {TEXT, 0, planes, 1, planes * 8 * 80};
         print_line("text of 80 letters", &text);
         print_moves(planes);
+    }
+    puts("\n| fill of 100 by 100 | planes | rectangles | calls a second | nanoseconds a rectangle |");
+    puts("|---|---|---|---|---|");
+    for (int d = 0; d < 2; d++) {
+        print_cut("four windows over the layer", WINDOWS, depths[d], 13);
+        print_cut("over 64 clip rectangles", CUT, depths[d], 64);
+        print_cut("in a clip region of 128 rectangles", CLIPPED, depths[d], 128);
     }
 }

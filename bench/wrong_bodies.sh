@@ -1,5 +1,7 @@
 #!/bin/sh
-# Shows that the tests of threads and locks refuse wrong bodies. Each patch of bench/wrong-bodies makes one of the code. It is made on
+# Shows that wrong bodies are refused which the gate doesn't try: those that tests refuse, and those that proofs do.
+#
+# The tests of threads and locks refuse the first kind. Each patch of bench/wrong-bodies makes one of the code. It is made on
 # a copy of the crates, where the tests of one module are run with no proof (`rt try --test`): those that are named for the patch have
 # to fail, and no other. Without a patch, all of them have to pass. It prints a line for each, and ends with status 1 at the first that
 # isn't so; the copy and what `rt` wrote are then kept.
@@ -8,6 +10,11 @@
 #
 # NAME is a patch, as two_locks_by_parity; without it, all are tried. Each takes some minutes, and one whose tests wait in vain for a
 # call that is held up takes longest.
+#
+#     bench/wrong_bodies.sh edits CRATE ..
+#
+# Proofs refuse the second kind. The gate tries the edits of `must-fail` alone, for its time; a crate's others are
+# bench/wrong-bodies/CRATE/*.edit. They are tried on a copy as those of `must-fail` are, for whoever has changed the crate.
 #
 # The patches:
 #
@@ -78,6 +85,16 @@ try_closing() {
     echo "$1 with allocation $2 failing: of lw_desk_tests::tests_closing fail: ${told:-none}"
 }
 
+# Tries the edits of crates that the gate leaves out.
+edits() {
+    copy none
+    for crate in "$@"; do
+        mkdir "$work/copy/crates/$crate/must-fail"
+        cp "$bench/wrong-bodies/$crate"/*.edit "$work/copy/crates/$crate/must-fail"
+    done
+    (cd "$work/copy" && rt must-fail "$@") || fail "not all edits are refused"
+}
+
 one() {
     case $1 in
     none)
@@ -113,6 +130,12 @@ one() {
     esac
 }
 
+if [ "${1:-}" = edits ]; then
+    shift
+    edits "$@"
+    rm -rf "$work"
+    exit
+fi
 [ $# -gt 0 ] || set -- none one_lock_before_the_gate one_lock_after_the_gate two_locks_by_parity \
     the_gate_is_told_before_the_lock a_replay_beside_threads exchanged_where_not_closed
 for name in "$@"; do

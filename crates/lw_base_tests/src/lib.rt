@@ -1,4 +1,4 @@
-//! Tests of the crates below a layer, by what these export: regions, bits, streams, demos, ports, hooks, the list of layers and the order
+//! Tests of the crates below a layer, by what these export: regions, bits, streams, demos, message classes, hooks and the order
 //! word.
 #![tactic(auto)]
 
@@ -8,10 +8,6 @@ mod shapes;
 mod tests_backfill;
 #[cfg(test)]
 mod tests_cliprects;
-#[cfg(test)]
-mod tests_damage;
-#[cfg(test)]
-mod tests_example;
 #[cfg(test)]
 mod tests_gen;
 #[cfg(test)]
@@ -26,7 +22,5 @@ mod tests_planes;
 mod tests_ports;
 #[cfg(test)]
 mod tests_region;
-#[cfg(test)]
-mod tests_stack;
 #[cfg(test)]
 mod tests_strips;

@@ -1,5 +1,4 @@
-use lw_backfill::{Backfill, Checker, Cycle, Shelf, Solid, row_of};
-use std::alloc::{AllocError, Global};
+use lw_backfill::{Backfill, Checker, Cycle, Solid};
 use std::test::Fail;
 
 // Pixels by column and row, also left of a layer's first one, above it and further off than a tile, each with the pen that a
@@ -44,56 +43,5 @@ fn boxed_hooks_have_their_pens_and_turn(rt: HostRuntime) -> Result<(), Fail> {
             held.turned();
         }
     }
-    Ok(())
-}
-
-#[test]
-fn a_row_has_eight_pens(rt: HostRuntime) -> Result<(), Fail> {
-    let checker = Checker::new(2, 3);
-    assert!(rt; row_of(&checker, -3) == [3, 2, 3, 2, 3, 2, 3, 2]);
-    let held: Box<dyn Backfill + Send> = Box::new(rt.alloc(), checker)?;
-    assert!(rt; row_of(&held, 16) == [2, 3, 2, 3, 2, 3, 2, 3]);
-    Ok(())
-}
-
-#[test]
-fn no_pens_make_no_cycle(rt: HostRuntime) -> Result<(), Fail> {
-    assert!(rt; Cycle::new(Vec::new(rt.alloc())).is_none());
-    Ok(())
-}
-
-// The pens at column 1 and row 0 of the two hooks of a shelf, the second of which is taken first; none if the shelf lacks a hook
-// that nobody took, or still has one that was taken.
-fn pens_of_taken<B: Backfill>(
-    alloc: Global,
-    hooks: Vec<B>,
-) -> Result<Option<(u8, u8)>, AllocError> {
-    let mut shelf = Shelf::new(alloc, hooks)?;
-    let Some(lent) = shelf.get(1) else {
-        return Ok(None);
-    };
-    let pen = lent.pen_at(1, 0);
-    let Some(second) = shelf.take(1) else {
-        return Ok(None);
-    };
-    if second.pen_at(1, 0) != pen || shelf.get(1).is_some() || shelf.take(1).is_some() {
-        return Ok(None);
-    }
-    let Some(first) = shelf.take(0) else {
-        return Ok(None);
-    };
-    if shelf.get(0).is_some() || shelf.take(2).is_some() {
-        return Ok(None);
-    }
-    Ok(Some((first.pen_at(1, 0), pen)))
-}
-
-#[test]
-fn a_shelf_gives_each_boxed_hook_once(rt: HostRuntime) -> Result<(), Fail> {
-    let alloc = rt.alloc();
-    let mut hooks: Vec<Box<dyn Backfill + Send>> = Vec::new(alloc);
-    hooks.push(Box::new(alloc, Solid::new(7))?)?;
-    hooks.push(Box::new(alloc, Checker::new(2, 3))?)?;
-    assert!(rt; pens_of_taken(alloc, hooks)? == Some((7, 3)));
     Ok(())
 }

@@ -45,20 +45,6 @@ fn copy<S: Source, K: Sink>(
     }
 }
 
-// How many of the five bytes are read, where this call fails.
-fn count_read(
-    alloc: Global,
-    step: u8,
-    fails: u32,
-    limit: u8,
-) -> Result<Result<usize, ReadStop>, AllocError>
-    requires { 0 < step }
-{
-    let fails = Vec::from_slice(alloc, &[fails])?;
-    let mut source = MemSource::new(Vec::from_slice(alloc, TEXT)?, usize::from(step), fails);
-    Ok(read_all(alloc, &mut source, usize::from(limit)).map(|bytes| bytes.len()))
-}
-
 // What a sink answers to the five bytes, and how many it holds then, where this call fails.
 fn count_written(
     alloc: Global,
@@ -72,27 +58,6 @@ fn count_written(
     let mut sink = MemSink::new(alloc, usize::from(room), usize::from(step), fails)?;
     let answer = write_all(&mut sink, TEXT);
     Ok((answer, TEXT.starts_with(sink.bytes()), sink.bytes().len()))
-}
-
-#[test]
-fn source_is_read_whole_where_no_call_fails(rt: HostRuntime) -> Result<(), Fail> {
-    // A source of five bytes takes so many calls, the last of which finds its end.
-    for (step, calls) in [(1, 6), (2, 4), (7, 2)] {
-        for fails in 0..=calls {
-            let want = if fails < calls {
-                Err(ReadStop::Fault)
-            } else {
-                Ok(5)
-            };
-            assert!(rt; step > 0);
-            assert_eq!(rt;
-                count_read(rt.alloc(), step, fails, 9)?,
-                want,
-                "step {step}, fails at {fails}"
-            );
-        }
-    }
-    Ok(())
 }
 
 #[test]
@@ -125,15 +90,6 @@ fn want_of_memory_is_not_answered_in_place_of_a_fault(rt: HostRuntime) -> Result
         // A call that stops for want of memory, where an allocation fails, hasn't met the fault, and
         // leaves it to the next call.
         assert!(rt; first != second);
-    }
-    Ok(())
-}
-
-#[test]
-fn more_than_the_limit_is_too_long(rt: HostRuntime) -> Result<(), Fail> {
-    for (limit, want) in [(4, Err(ReadStop::TooLong)), (5, Ok(5)), (6, Ok(5))] {
-        assert_eq!(rt; count_read(rt.alloc(), 1, 9, limit)?, want, "limit {limit}");
-        assert_eq!(rt; count_read(rt.alloc(), 7, 9, limit)?, want, "limit {limit}");
     }
     Ok(())
 }
@@ -175,16 +131,5 @@ fn std_reader_and_writer_carry_the_bytes(rt: HostRuntime) -> Result<(), Fail> {
         "the writer takes nothing"
     );
     assert_eq!(rt; room.as_slice(), text.as_slice());
-    Ok(())
-}
-
-#[test]
-fn copied_text_comes_after_what_was_there(rt: HostRuntime) -> Result<(), Fail> {
-    let alloc = rt.alloc();
-    let mut source = MemSource::new(Vec::from_slice(alloc, TEXT)?, 2, Vec::new(alloc));
-    let mut sink = MemSink::new(alloc, 9, 2, Vec::new(alloc))?;
-    assert_eq!(rt; write_all(&mut sink, b">"), Ok(()));
-    assert_eq!(rt; copy(alloc, &mut source, &mut sink, 5), Ok(()));
-    assert_eq!(rt; sink.bytes(), b">abcde".as_slice());
     Ok(())
 }

@@ -84,66 +84,6 @@ fn combine_within_reads_the_bits_before_the_call(rt: HostRuntime) {
     assert_eq!(rt; row.as_slice(), [0xe0, 0].as_slice());
 }
 
-// B is 1100 1010 and C is 1010 0110, so B and C is 1000 0010, B alone 0100 1000, C alone 0010 0100, and
-// neither 0001 0001.
-#[test]
-fn all_sixteen_minterms(rt: HostRuntime) {
-    let table = [
-        (0x00, 0x00),
-        (0x10, 0x11),
-        (0x20, 0x24),
-        (0x30, 0x35),
-        (0x40, 0x48),
-        (0x50, 0x59),
-        (0x60, 0x6c),
-        (0x70, 0x7d),
-        (0x80, 0x82),
-        (0x90, 0x93),
-        (0xa0, 0xa6),
-        (0xb0, 0xb7),
-        (0xc0, 0xca),
-        (0xd0, 0xdb),
-        (0xe0, 0xee),
-        (0xf0, 0xff),
-    ];
-    for (minterm, want) in table {
-        let mut to = [0xa6];
-        combine(&mut to, 0, &[0xca], 0, 8, minterm);
-        assert_eq!(rt; to.as_slice(), [want].as_slice(), "minterm {minterm:x}");
-    }
-}
-
-#[test]
-fn fill_and_flip_change_the_named_bits_alone(rt: HostRuntime) {
-    for from in 0..9 {
-        for count in COUNTS {
-            assert!(rt; count <= 65);
-            let (mut ones, mut zeros, mut flipped) = (LEFT, LEFT, LEFT);
-            fill(&mut ones, from, count, true);
-            fill(&mut zeros, from, count, false);
-            flip(&mut flipped, from, count);
-            for x in 0..80 {
-                let (old, named) = (bit(&LEFT, x), from <= x && x < from + count);
-                assert_eq!(rt;
-                    bit(&ones, x),
-                    old || named,
-                    "bit {x} of {count} from {from}"
-                );
-                assert_eq!(rt;
-                    bit(&zeros, x),
-                    old && !named,
-                    "bit {x} of {count} from {from}"
-                );
-                assert_eq!(rt;
-                    bit(&flipped, x),
-                    old != named,
-                    "bit {x} of {count} from {from}"
-                );
-            }
-        }
-    }
-}
-
 #[test]
 fn combine_changes_the_named_bits_alone(rt: HostRuntime) {
     for offset in 0..9 {

@@ -108,25 +108,6 @@ fn two_threads_draw_each_number_once(rt: HostRuntime) -> Result<(), Fail> {
     Ok(())
 }
 
-// The first of two seats takes in the other, and stamps a call.
-fn stamp_joined(order: &Order, mut seat: Seat, other: Seat) -> u64
-    requires words { (seat.word ≡ order.now.word) × (other.word ≡ order.now.word) }
-    requires role { Contains seat.roles (Role.Task 0) }
-    requires new { count_of 0 seat.history ≡ 0 }
-{
-    order.join(&mut seat, other);
-    stamp_one(order, &mut seat, 0)
-}
-
-#[test]
-fn joined_seat_goes_on_from_both_histories(rt: HostRuntime) -> Result<(), Fail> {
-    let (order, first, mut second) = start_two(rt.alloc())?;
-    assert_eq!(rt; stamp_one(&order, &mut second, 1), 0);
-    assert_eq!(rt; stamp_one(&order, &mut second, 1), 1);
-    assert_eq!(rt; stamp_joined(&order, first, second), 2);
-    Ok(())
-}
-
 // A seat of one task's role alone, with the task's number.
 #[derive(Drop)]
 struct Job {

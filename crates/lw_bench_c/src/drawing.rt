@@ -4,8 +4,9 @@ ghost use Rattle.lw_machine.specs.Desk.{Desk};
 ghost use Rattle.lw_runs.specs.Standing.{StandForDesk};
 
 use crate::blits::{blit_of, put_of, scroll_of};
+use crate::settings::settings_of;
 use lw_backfill::Solid;
-use lw_calls::{Assets, Call, Kind, Make, Place, Replies, Sizes, Text};
+use lw_calls::{Assets, Call, Replies, Sizes, Text};
 use lw_engine::LayerEngine;
 use lw_engine_trait::Engine;
 use lw_planes::Planes;
@@ -16,7 +17,7 @@ use std::alloc::{AllocError, Global};
 // How many letters a text has.
 const LETTERS: usize = 80;
 
-// The sizes of a desk with two layers and a bitmap.
+// The sizes of a desk with two layers, 28 windows and a bitmap.
 fn sizes_of(planes: u32) -> Sizes
     requires some { 1 ≤ planes }
     requires few { planes ≤ 8 }
@@ -28,28 +29,11 @@ fn sizes_of(planes: u32) -> Sizes
         width: 640,
         height: 512,
         depth: planes,
-        slots: 2,
+        slots: 30,
         tasks: 1,
         hooks: 0,
         bitmaps: 1,
     }
-}
-
-// The creation of a layer that covers the screen, in front of the other one.
-fn creation(slot: u32) -> Call {
-    let make = Make {
-        kind: Kind::Smart,
-        place: Place::Front,
-        x: 0,
-        y: 0,
-        w: 640,
-        h: 512,
-        backdrop: false,
-        hook: None,
-        bits_w: 0,
-        bits_h: 0,
-    };
-    Call::Create { slot, make }
 }
 
 // The fill of a square whose left edge is in the middle of a byte.
@@ -71,13 +55,13 @@ fn letters(alloc: Global) -> Result<Call, AllocError> {
     })
 }
 
-// The calls of one repetition: a fill; two lines of 100 pixels, there and back; a scroll by 1 column, by 1 row, or by 7 columns and 3
-// rows the other way; a blit from the bitmap, from the layer behind, or within the layer; or a text with the call that puts the
-// cursor before it.
+// The calls of one repetition: a fill; two lines of 100 pixels, there and back; a scroll by 1 column, by 1 row, or by 7 columns
+// and 3 rows the other way; a blit from the bitmap, from the layer behind, or within the layer; a text with the call that puts
+// the cursor before it; or a fill again, of a layer that is cut.
 fn calls_of(alloc: Global, shape: u32, side: i16) -> Option<Vec<Call>> {
     let mut calls = Vec::new(alloc);
     match shape {
-        0 => calls.push(fill_of(side)?).ok()?,
+        0 | 9..=11 => calls.push(fill_of(side)?).ok()?,
         1 => {
             calls.push(line_to(99, side)).ok()?;
             calls.push(line_to(0, 0)).ok()?;
@@ -171,12 +155,13 @@ fn make_often<E: Engine>(
     Some(())
 }
 
-// The parts once two layers that cover the screen were created, and then all calls made so many times.
+// The parts once a shape was set up, and then all calls made so many times.
 fn drawn<E: Engine>(
     alloc: Global,
     engine: &E,
     parts: Parts<E>,
     sizes: &Sizes,
+    shape: u32,
     calls: &[Call],
     repetitions: u32,
 ) -> Option<Parts<E>>
@@ -187,9 +172,9 @@ fn drawn<E: Engine>(
     ensures { IfSome result (λ made. (d : Desk) × StandForDesk E.relations (E.sizes engine.now) (E.assets engine.now)
         made.info made.cells.items made.registers.items d) }
 {
+    let settings = settings_of(alloc, shape)?;
     let mut parts = parts;
-    let both = [creation(1), creation(0)];
-    make_each(alloc, engine, &mut parts, sizes, &both)?;
+    make_each(alloc, engine, &mut parts, sizes, settings.as_slice())?;
     make_often(alloc, engine, &mut parts, sizes, calls, repetitions)?;
     Some(parts)
 }
@@ -250,13 +235,23 @@ pub(crate) fn repeated(
     let assets = assets_of(alloc, planes)?;
     let calls = calls_of(alloc, shape, side)?;
     let engine = LayerEngine::<Solid>::new(sizes, &assets);
-    let opened = engine.open(alloc, Vec::new(alloc)).ok()?;
+    let Ok(opened) = engine.open(alloc, Vec::new(alloc)) else {
+        return None;
+    };
     let parts = Parts {
         info: opened.info,
         cells: opened.slots,
         registers: opened.registers,
     };
-    let parts = drawn(alloc, &engine, parts, &sizes, calls.as_slice(), repetitions)?;
+    let parts = drawn(
+        alloc,
+        &engine,
+        parts,
+        &sizes,
+        shape,
+        calls.as_slice(),
+        repetitions,
+    )?;
     let Parts { info, cells, .. } = parts;
     let mut replies = Vec::new(alloc);
     replies.push(Replies::new(Vec::new(alloc))).ok()?;

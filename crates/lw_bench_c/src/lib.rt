@@ -1,5 +1,5 @@
-//! The calls of the benchmarks, for a program in C. Each takes numbers alone, makes its operands, those of regions and rows by the
-//! generator that docs/BENCHMARKS.md states, and repeats one operation on them.
+//! The calls of the benchmarks, for a program in C. Each takes numbers alone, makes its operands, those of regions and rows by
+//! the generator that docs/BENCHMARKS.md states, and repeats one operation on them.
 #![tactic(auto)]
 
 ghost use Rattle.std.specs.Prelude.{◌≡◌, ◌<◌, ◌≤ℤ◌, negsuc};
@@ -11,6 +11,7 @@ mod generator;
 mod operation;
 mod regions;
 mod rows;
+mod settings;
 
 use std::alloc::Global;
 
@@ -54,12 +55,13 @@ pub extern "C" fn lw_bench_row(
     rows::repeated(kernel, bytes.min(4096), bit % 8, minterm, repetitions, seed)
 }
 
-/// A number made of the bytes of the screen, after drawing calls were made `repetitions` times on the front one of two layers of 640
-/// by 512 pixels and `planes` planes, of which 1 to 8 count. Shape 0 is the fill of a square of `side` by `side` pixels, whose left
-/// edge is 3 columns off a byte's; 1 is two lines, from the corner to column 99 and row `side` and back; 2, 3 and 4 scroll that square
-/// by (1, 0), (0, 1) and (-7, -3); 5, 6 and 7 blit a square, 3 columns to the right in its bytes, from a bitmap, from the layer behind
-/// and within the layer; any other is a text of 80 letters with the call that puts the cursor before it. It is -1 where the square
-/// isn't one and where memory runs out.
+/// A number made of the bytes of the screen, after drawing calls were made `repetitions` times on the front one of two layers of
+/// 640 by 512 pixels and `planes` planes, of which 1 to 8 count. Shape 0 is the fill of a square of `side` by `side` pixels,
+/// whose left edge is 3 columns off a byte's; 1 is two lines, from the corner to column 99 and row `side` and back; 2, 3 and 4
+/// scroll that square by (1, 0), (0, 1) and (-7, -3); 5, 6 and 7 blit a square, 3 columns to the right in its bytes, from a
+/// bitmap, from the layer behind and within the layer; 9, 10 and 11 fill that square where four windows lie over the layer, where
+/// windows cut it into 64 clip rectangles, and in a clip region of 128 rectangles; any other is a text of 80 letters with the
+/// call that puts the cursor before it. It is -1 where the square isn't one and where memory runs out.
 #[unsafe(no_mangle)]
 pub extern "C" fn lw_bench_drawing(
     alloc: Global,

@@ -8,6 +8,3 @@ mod rectangles;
 mod tiles;
 
 pub use filling::fill;
-
-#[cfg(test)]
-mod tests;

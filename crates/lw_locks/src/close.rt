@@ -20,8 +20,8 @@ use lw_order::Seat;
 use std::alloc::Global;
 use std::sync::Mutex;
 
-/// What a desk leaves: LayerInfo, the cells of all slots and the registers of all tasks, in rising number, and the seat that knows the
-/// whole history.
+/// What a desk leaves: LayerInfo, the cells of all slots and the registers of all tasks, in rising number, and the seat that
+/// knows the whole history.
 #[derive(Drop)]
 pub struct Closed<E: Engine> {
     pub info: E::Info,
@@ -39,8 +39,8 @@ pub struct NotClosed<E: Engine, N: Opening> {
 }
 
 impl<E: Engine, N: Opening> Desk<E, N> {
-    /// Takes a desk apart whose passes are these, of all tasks and in any order. It fails only when out of memory, and then gives the
-    /// desk and the passes back.
+    /// Takes a desk apart whose passes are these, of all tasks and in any order. It fails only when out of memory, and then gives
+    /// the desk and the passes back.
     pub fn close(self, alloc: Global, passes: Vec<Pass<E, N>>) -> Result<Closed<E>, NotClosed<E, N>>
         requires many { vec_len passes ≡ N.desk.sizes.tasks }
         requires each { HasEach passes.items N.desk.sizes.tasks }
@@ -123,8 +123,8 @@ fn join_all<E: Engine, N: Opening>(
     }
 }
 
-// Takes the layers from behind their locks, joins their seats to one, the first lock's first, and gives their numbers and cells in this
-// order. No two seats have a role in common, so no number comes twice.
+// Takes the layers from behind their locks, joins their seats to one, the first lock's first, and gives their numbers and cells
+// in this order. No two seats have a role in common, so no number comes twice.
 fn join_layers<E: Engine, N: Opening>(
     steps: &Steps<E, N>,
     seat: &mut Seat,

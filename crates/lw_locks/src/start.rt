@@ -24,8 +24,8 @@ use std::marker::PhantomData;
 use std::sync::Mutex;
 
 impl<E: Engine, N: Opening> Desk<E, N> {
-    /// A desk before its first call, and the passes of all tasks in rising number. The cells are those of all slots, and the registers
-    /// those of all tasks, in rising number too. It fails only when out of memory.
+    /// A desk before its first call, and the passes of all tasks in rising number. The cells are those of all slots, and the
+    /// registers those of all tasks, in rising number too. It fails only when out of memory.
     pub fn start(
         alloc: Global,
         order: Order,

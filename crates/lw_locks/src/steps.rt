@@ -1,5 +1,5 @@
-//! Each class of calls on the parts that it touches: the machine's step by the engine, and its ticket by the order word. The step that
-//! can fail comes first, so a call that failed has no ticket.
+//! Each class of calls on the parts that it touches: the machine's step by the engine, and its ticket by the order word. The step
+//! that can fail comes first, so a call that failed has no ticket.
 ghost use Rattle.std.specs.Prelude.{◌≡◌, ◌<◌, length, IfOk, OnErr, IsTrue, Contains};
 ghost use Rattle.lw_calls.specs.Entries.{count_of};
 ghost use Rattle.lw_calls.specs.Limits.{IsWithinLimits, call_fits};

@@ -19,8 +19,8 @@ use std::alloc::{AllocError, Global};
 use std::sync::Wait;
 use std::thread::Threads;
 
-/// Runs all tasks on a desk of these parts, each on a thread of its own where one can be made, and takes it apart. It may wait, and so
-/// promises no return. It fails only when out of memory, and no task still runs then.
+/// Runs all tasks on a desk of these parts, each on a thread of its own where one can be made, and takes it apart. It may wait,
+/// and so promises no return. It fails only when out of memory, and no task still runs then.
 pub fn run_all<E: Engine, N: Opening + Send + Sync, R: Threads + Wait + Sync, G: Gate + Sync>(
     rt: &R,
     alloc: Global,

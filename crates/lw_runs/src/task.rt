@@ -141,8 +141,8 @@ fn make_groups<E: Engine, N: Opening, R: Wait, G: Gate>(
     Ok(())
 }
 
-/// Makes the calls of the pass's task, which made none so far, one after another, and each group's under one holding of its locks.
-/// It may wait, and so promises no return. It fails only when out of memory, and the task then makes no further call.
+/// Makes the calls of the pass's task, which made none so far, one after another, and each group's under one holding of its
+/// locks. It may wait, and so promises no return. It fails only when out of memory, and the task then makes no further call.
 pub(crate) fn run_task<E: Engine, N: Opening, R: Wait, G: Gate>(
     desk: &Desk<E, N>,
     rt: &R,

@@ -27,9 +27,9 @@ pub struct Run {
     pub seat: Seat,
 }
 
-/// Runs a plan whose hooks lie on the shelf, each task on a thread of its own where one can be made. It may wait, and so promises no
-/// return. The seat knows the history of all calls: each task's calls, once and in their order. It fails only when out of memory, and
-/// no task still runs then.
+/// Runs a plan whose hooks lie on the shelf, each task on a thread of its own where one can be made. It may wait, and so promises
+/// no return. The seat knows the history of all calls: each task's calls, once and in their order. It fails only when out of
+/// memory, and no task still runs then.
 pub fn run_tasks<B: Backfill + Send, R: Threads + Wait + Sync, G: Gate + Sync>(
     rt: &R,
     alloc: Global,
