@@ -1,5 +1,6 @@
 -- Tasks without groups may make their calls one task after another.
-use Rattle.std.proofs.Common.{◌≡◌, ℕ, zero, suc, ◌+◌, ◌<◌, ◌≤◌, ◌==◌, Bool, true, false, not, ◌&&◌, ◌||◌, List, [], ◌∷◌, ◌++◌, length, replicate, Some, get_or, refl, ap, inl, inr, ◌∙◌, arith}
+use Rattle.std.proofs.Common.{◌≡◌, ℕ, zero, suc, ◌+◌, ◌<◌, ◌≤◌, ◌==◌, Bool, true, false, not, ◌&&◌, ◌||◌, List, [], ◌∷◌, ◌++◌}
+use Rattle.std.proofs.Common.{length, replicate, Some, get_or, refl, ap, inl, inr, ◌∙◌, arith}
 use Rattle.std.specs.Prelude.{if◌then◌else◌}
 use Rattle.std.specs.List.{flat_map, list_any, range_with_len}
 use Rattle.std.proofs.lemmas.Bool.{eqb-true, eqb-false, eq-eqb, ne_eqb, cases_lt, and_from, or_right}
@@ -21,15 +22,20 @@ occurs_split t (x ∷ xs) ys = let rest = occurs_split t xs ys in omega (arith, 
 
 occurs_own : (k t : ℕ) → occurrences t (replicate k t) ≡ k
 occurs_own zero t = refl
-occurs_own (suc k) t = let rest = occurs_own k t in ap (λ b. (if b then 1 else 0) + occurrences t (replicate k t)) (eq-eqb t t refl) ∙ omega (arith, rest)
+occurs_own (suc k) t =
+    let rest = occurs_own k t in ap (λ b. (if b then 1 else 0) + occurrences t (replicate k t)) (eq-eqb t t refl) ∙ omega
+    (arith, rest)
 
 occurs_other : (k t u : ℕ) → (u ≡ t → ⊥) → occurrences t (replicate k u) ≡ 0
 occurs_other zero t u other = refl
-occurs_other (suc k) t u other = let rest = occurs_other k t u other in ap (λ b. (if b then 1 else 0) + occurrences t (replicate k u)) (ne_eqb u t other) ∙ omega (arith, rest)
+occurs_other (suc k) t u other =
+    let rest = occurs_other k t u other in
+    ap (λ b. (if b then 1 else 0) + occurrences t (replicate k u)) (ne_eqb u t other) ∙ omega (arith, rest)
 
 -- a number that is no smaller than another, and not that one, is larger
 further : (a t : ℕ) → a ≤ t → (a ≡ t → ⊥) → a + 1 ≤ t
-further a t above other = elim (cases_lt a t) [ inl low ↦ omega (arith, low) | inr high ↦ absurd (other (omega (arith, above, high))) ]
+further a t above other =
+    elim (cases_lt a t) [ inl low ↦ omega (arith, low) | inr high ↦ absurd (other (omega (arith, above, high))) ]
 
 module _ (plan : Plan) (bare : (task : ℕ) → task_groups plan task ≡ []) where
   abbrev block : ℕ → List ℕ
@@ -39,18 +45,23 @@ module _ (plan : Plan) (bare : (task : ℕ) → task_groups plan task ≡ []) wh
   comes : (past : List ℕ) (t : ℕ) (c : Call) → may_come plan past t (Some c) ≡ true
   comes past t c =
       all_range (λ u. (u == t) || not (keeps_off plan past (touch_of t c) u)) plan.sizes.tasks
-      (λ u low. or_right (u == t) (not (keeps_off plan past (touch_of t c) u)) (ap (λ gs. not (list_any (λ g. is_open (occurrences u past) g && meets g.hold (touch_of t c)) gs)) (bare u)))
+      (λ u low. or_right (u == t) (not (keeps_off plan past (touch_of t c) u))
+      (ap (λ gs. not (list_any (λ g. is_open (occurrences u past) g && meets g.hold (touch_of t c)) gs)) (bare u)))
 
   -- the calls of a task may come in a row
-  keeps_block : (k : ℕ) (past : List ℕ) (t : ℕ) → occurrences t past + k ≡ length (task_calls plan t) → keeps_groups plan past (replicate k t) ≡ true
+  keeps_block : (k : ℕ) (past : List ℕ) (t : ℕ) → occurrences t past + k ≡ length (task_calls plan t)
+      → keeps_groups plan past (replicate k t) ≡ true
   keeps_block zero past t many = refl
   keeps_block (suc k) past t many =
       let low : occurrences t past < length (task_calls plan t) = omega (arith, many) in
       let again = occurs_again t past in
-      and_from _ _ (ap (may_come plan past t) (slice_get-get_or (task_calls plan t) (occurrences t past) (ToFront 0) low) ∙ comes past t (get_or (task_calls plan t) (occurrences t past) (ToFront 0)))
+      and_from _ _
+      (ap (may_come plan past t) (slice_get-get_or (task_calls plan t) (occurrences t past) (ToFront 0) low) ∙
+      comes past t (get_or (task_calls plan t) (occurrences t past) (ToFront 0)))
       (keeps_block k (past ++ t ∷ []) t (omega (arith, many, again)))
 
-  keeps_blocks : (n a : ℕ) (past : List ℕ) → ((u : ℕ) → a ≤ u → occurrences u past ≡ 0) → keeps_groups plan past (flat_map block (range_with_len a n)) ≡ true
+  keeps_blocks : (n a : ℕ) (past : List ℕ) → ((u : ℕ) → a ≤ u → occurrences u past ≡ 0)
+      → keeps_groups plan past (flat_map block (range_with_len a n)) ≡ true
   keeps_blocks zero a past none = refl
   keeps_blocks (suc n) a past none =
       let first = none a (omega arith) in
@@ -69,15 +80,20 @@ module _ (plan : Plan) (bare : (task : ℕ) → task_groups plan task ≡ []) wh
       let rest = occurs_before n (a + 1) t (omega (arith, low)) in
       occurs_split t (block a) (flat_map block (range_with_len (a + 1) n)) ∙ omega (arith, other, rest)
 
-  occurs_blocks : (n a t : ℕ) → a ≤ t → t < a + n → occurrences t (flat_map block (range_with_len a n)) ≡ length (task_calls plan t)
+  occurs_blocks : (n a t : ℕ) → a ≤ t → t < a + n
+      → occurrences t (flat_map block (range_with_len a n)) ≡ length (task_calls plan t)
   occurs_blocks zero a t above low = absurd (omega (arith, above, low))
-  occurs_blocks (suc n) a t above low = occurs_split t (block a) (flat_map block (range_with_len (a + 1) n)) ∙ step (a == t) refl (λ more. occurs_blocks n (a + 1) t more (omega (arith, low)))
+  occurs_blocks (suc n) a t above low =
+      occurs_split t (block a) (flat_map block (range_with_len (a + 1) n)) ∙
+      step (a == t) refl (λ more. occurs_blocks n (a + 1) t more (omega (arith, low)))
     where
-      step : (b : Bool) → (a == t) ≡ b → (a + 1 ≤ t → occurrences t (flat_map block (range_with_len (a + 1) n)) ≡ length (task_calls plan t))
+      step : (b : Bool) → (a == t) ≡ b
+          → (a + 1 ≤ t → occurrences t (flat_map block (range_with_len (a + 1) n)) ≡ length (task_calls plan t))
           → occurrences t (block a) + occurrences t (flat_map block (range_with_len (a + 1) n)) ≡ length (task_calls plan t)
       step true is more =
           let same : a ≡ t = eqb-true a t is in
-          let here : occurrences t (block a) ≡ length (task_calls plan t) = ap (λ u. occurrences t (block u)) same ∙ occurs_own (length (task_calls plan t)) t in
+          let here : occurrences t (block a) ≡ length (task_calls plan t) =
+          ap (λ u. occurrences t (block u)) same ∙ occurs_own (length (task_calls plan t)) t in
           let rest = occurs_before n (a + 1) t (omega (arith, same)) in
           omega (arith, here, rest)
       step false is more =
@@ -90,7 +106,8 @@ pub may_go : TasksMayGoInTurn
 may_go plan bare =
     and_from _ _ (keeps_blocks plan bare plan.sizes.tasks 0 [] (λ u above. refl))
     (all_range (λ t. occurrences t (in_turn plan) == length (task_calls plan t)) plan.sizes.tasks
-    (λ t low. eq-eqb (occurrences t (in_turn plan)) (length (task_calls plan t)) (occurs_blocks plan bare plan.sizes.tasks 0 t (omega arith) (omega (arith, low)))))
+    (λ t low. eq-eqb (occurrences t (in_turn plan)) (length (task_calls plan t))
+    (occurs_blocks plan bare plan.sizes.tasks 0 t (omega arith) (omega (arith, low)))))
 
 pub demos_may_go : DemosMayGoInTurn
 demos_may_go number tasks = may_go (demo_plan number tasks) (no_group (range_with_len 0 tasks))

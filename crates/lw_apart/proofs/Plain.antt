@@ -10,7 +10,8 @@ use Rattle.lw_machine.specs.Layer.{Layer}
 use Rattle.lw_machine.specs.Kept.{visible_within, is_kept, is_drawable, kept_as, in_inner}
 use Rattle.lw_machine.specs.Paint.{with_pens}
 use Rattle.lw_machine.specs.Shapes.{rect_fill}
-use Rattle.lw_machine.specs.Reveal.{Across, counts_as_kept, resized, keeps, fill_pen, frame_is_due, framed_by, with_messages, settled_layer}
+use Rattle.lw_machine.specs.Reveal.{Across, counts_as_kept, at_new_size, keeps, fill_pen, frame_is_due, framed_by, with_messages}
+use Rattle.lw_machine.specs.Reveal.{settled_layer}
 use Rattle.lw_machine.specs.Sound.{IsKeeping, IsBounded}
 use Rattle.lw_machine.proofs.Settling.{revealed_in, revealed_plain, revealed_super, settled_is}
 
@@ -27,7 +28,8 @@ abbrev pub reveal : Across → Layer → Layer
 reveal c l = if is_super l.kind then plain l else revealed_in c (plain l)
 
 -- no frame is painted where there is no window
-unframed : (due : Bool) (glyphs : List (List ℕ)) (kept : ℕ → ℕ → Bool) (active : Bool) (l : Layer) → (if due then framed_by glyphs kept active None l else l) ≡ l
+unframed : (due : Bool) (glyphs : List (List ℕ)) (kept : ℕ → ℕ → Bool) (active : Bool) (l : Layer)
+    → (if due then framed_by glyphs kept active None l else l) ≡ l
 unframed true glyphs kept active l = refl
 unframed false glyphs kept active l = refl
 
@@ -64,13 +66,15 @@ pub revealed_bare : (c : Across) (l : Layer) → bare (reveal c l) ≡ bare_reve
 unfolding is_kept counts_as_kept
 revealed_bare c l = go (is_super l.kind)
   where
-    go : (b : Bool) → bare (if b then plain l else revealed_in c (plain l)) ≡ (if b then bare (plain l) else bare (revealed_in (still c) (bare (plain l))))
+    go : (b : Bool) → bare (if b then plain l else revealed_in c (plain l)) ≡
+        (if b then bare (plain l) else bare (revealed_in (still c) (bare (plain l))))
     go true = refl
     go false = refl
 
 -- a layer that keeps its bounds r and the places on which it is shown
 abbrev pub staying : (ℤ → ℤ → Bool) → Rectangle → Across
-staying shown r = record { bounds = Some r; new_bounds = Some r; shown = shown; new_shown = shown; active = false; new_active = false }
+staying shown r =
+    record { bounds = Some r; new_bounds = Some r; shown = shown; new_shown = shown; active = false; new_active = false }
 
 and_or_true : (a b : Bool) → (a && (b || true)) ≡ a
 and_or_true true true = refl
@@ -78,7 +82,8 @@ and_or_true true false = refl
 and_or_true false b = refl
 
 -- Its pens stay: what it keeps counts as kept, and the rest has pen 0.
-pub stays : (sizes : Sizes) (depth : ℕ) (shown : ℤ → ℤ → Bool) (r : Rectangle) (l : Layer) → IsBounded sizes l r → IsKeeping depth (visible_within shown (Some r) l.scroll_x l.scroll_y) l
+pub stays : (sizes : Sizes) (depth : ℕ) (shown : ℤ → ℤ → Bool) (r : Rectangle) (l : Layer) → IsBounded sizes l r
+    → IsKeeping depth (visible_within shown (Some r) l.scroll_x l.scroll_y) l
     → bare_reveal (staying shown r) (bare (plain l)) ≡ bare (plain l)
 unfolding is_kept counts_as_kept
 stays sizes depth shown r l bounded keeping = go (is_super l.kind) refl
@@ -93,38 +98,49 @@ stays sizes depth shown r l bounded keeping = go (is_super l.kind) refl
     kept x y = is_kept (visible_within shown (Some r) l.scroll_x l.scroll_y) l x y
 
     pens : (ℕ → ℕ → ℕ)
-    pens x y = if keeps c (resized c k) x y then (if counts_as_kept c k x y then pen_at l.bits x y else fill_pen l.bits.depth None x y) else 0
+    pens x y =
+        if keeps c (at_new_size c k) x y
+        then (if counts_as_kept c k x y then pen_at l.bits x y else fill_pen l.bits.depth None x y) else 0
 
     go : (b : Bool) → is_super l.kind ≡ b → (if b then k else bare (revealed_in c k)) ≡ k
     go true is = refl
     go false is =
         let wide : width r ≡ l.bits.width = sym (bounded.columns is) in
         let high : height r ≡ l.bits.height = sym (bounded.rows is) in
-        ap (λ bits. record k { bits = bits }) ((λ i. bitmap (wide i) (high i) l.bits.depth pens) ∙ sym (bitmap_from_pens l.bits pens keeping.bitmap (λ x y left low. each x y (kept x y) refl)))
+        ap (λ bits. record k { bits = bits })
+        ((λ i. bitmap (wide i) (high i) l.bits.depth pens) ∙
+        sym (bitmap_from_pens l.bits pens keeping.bitmap (λ x y left low. each x y (kept x y) refl)))
       where
-        same : (x y : ℕ) → keeps c (resized c k) x y ≡ kept x y
-        same x y = λ i. (nat_lt x (sym (bounded.columns is) i) && nat_lt y (sym (bounded.rows is) i)) && kept_as l.kind (visible_within shown (Some r) l.scroll_x l.scroll_y x y)
+        same : (x y : ℕ) → keeps c (at_new_size c k) x y ≡ kept x y
+        same x y =
+            λ i. (nat_lt x (sym (bounded.columns is) i) && nat_lt y (sym (bounded.rows is) i))
+            && kept_as l.kind (visible_within shown (Some r) l.scroll_x l.scroll_y x y)
 
         counted : (x y : ℕ) → counts_as_kept c k x y ≡ kept x y
         counted x y = and_or_true (kept x y) (in_inner false (width r) (height r) x y)
 
         each : (x y : ℕ) (b : Bool) → kept x y ≡ b → pen_at l.bits x y ≡ pens x y
         each x y true is_kept_here =
-            sym (ap (λ t. if t then (if counts_as_kept c k x y then pen_at l.bits x y else fill_pen l.bits.depth None x y) else 0) (same x y ∙ is_kept_here)
+            sym (ap (λ t. if t then (if counts_as_kept c k x y then pen_at l.bits x y else fill_pen l.bits.depth None x y)
+            else 0) (same x y ∙ is_kept_here)
             ∙ ap (λ t. if t then pen_at l.bits x y else fill_pen l.bits.depth None x y) (counted x y ∙ is_kept_here))
         each x y false is_lost =
             keeping.off_kept x y is_lost
-            ∙ sym (ap (λ t. if t then (if counts_as_kept c k x y then pen_at l.bits x y else fill_pen l.bits.depth None x y) else 0) (same x y ∙ is_lost))
+            ∙ sym (ap
+            (λ t. if t then (if counts_as_kept c k x y then pen_at l.bits x y else fill_pen l.bits.depth None x y) else 0)
+            (same x y ∙ is_lost))
 
 -- a fill of a layer that shows its pixels on these places, by its bounds
 abbrev pub fill_shown : (ℤ → ℤ → Bool) → Option Rectangle → Rectangle → Layer → Layer
 fill_shown shown bounds rect l = rect_fill (visible_within shown bounds l.scroll_x l.scroll_y) rect l
 
 -- a fill of a plain layer takes no notice of its damage
-pub filled_bare : (shown : ℤ → ℤ → Bool) (bounds : Option Rectangle) (rect : Rectangle) (l : Layer) → bare (fill_shown shown bounds rect (plain l)) ≡ fill_shown shown bounds rect (bare (plain l))
+pub filled_bare : (shown : ℤ → ℤ → Bool) (bounds : Option Rectangle) (rect : Rectangle) (l : Layer)
+    → bare (fill_shown shown bounds rect (plain l)) ≡ fill_shown shown bounds rect (bare (plain l))
 unfolding with_pens is_drawable is_kept
 filled_bare shown bounds rect l = refl
 
-pub filled_plain : (shown : ℤ → ℤ → Bool) (bounds : Option Rectangle) (rect : Rectangle) (l : Layer) → fill_shown shown bounds rect (plain l) ≡ plain (fill_shown shown bounds rect (plain l))
+pub filled_plain : (shown : ℤ → ℤ → Bool) (bounds : Option Rectangle) (rect : Rectangle) (l : Layer)
+    → fill_shown shown bounds rect (plain l) ≡ plain (fill_shown shown bounds rect (plain l))
 unfolding with_pens
 filled_plain shown bounds rect l = refl

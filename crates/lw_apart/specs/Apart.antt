@@ -19,8 +19,8 @@ pub record Shares : Type 0 where
 abbrev pub OwnsColumns : Shares → ℕ → Rectangle → Type 0
 OwnsColumns shares task r = (x : ℤ) → within r.min_x x r.max_x ≡ true → shares.column x ≡ task
 
--- The call is one of a task that keeps apart: it creates a layer without a hook in columns of the task's own, or brings a layer of
--- the task to the front, sets its pen A, fills in it or reads a pen of it.
+-- The call is one of a task that keeps apart: it creates a layer without a hook in columns of the task's own, or brings a layer
+-- of the task to the front, sets its pen A, fills in it or reads a pen of it.
 abbrev pub IsOwn : Shares → ℕ → Call → Type 0
 IsOwn shares task (Create slot make) = (shares.slot slot ≡ task) × (make.hook ≡ None) × OwnsColumns shares task (bounds_of make)
 IsOwn shares task (ToFront slot) = shares.slot slot ≡ task
@@ -42,10 +42,12 @@ pub record LeavesTheSame (plan : Plan) (hooks : List Hook) (a b : List ℕ) : Ty
 -- Where the tasks of a plan keep apart, no legal order shows.
 abbrev pub ApartTasksShowNoOrder : Type 0
 ApartTasksShowNoOrder =
-    (plan : Plan) (hooks : List Hook) (a b : List ℕ) → IsPlan plan → KeepsApart plan → is_legal plan a ≡ true → is_legal plan b ≡ true → LeavesTheSame plan hooks a b
+    (plan : Plan) (hooks : List Hook) (a b : List ℕ) → IsPlan plan → KeepsApart plan → is_legal plan a ≡ true
+    → is_legal plan b ≡ true → LeavesTheSame plan hooks a b
 
 -- No legal order of a demo's plan shows.
 abbrev pub DemosShowNoOrder : Type 0
 DemosShowNoOrder =
-    (number tasks : ℕ) (hooks : List Hook) (a b : List ℕ) → 1 ≤ tasks → tasks ≤ 16 → is_legal (demo_plan number tasks) a ≡ true → is_legal (demo_plan number tasks) b ≡ true
+    (number tasks : ℕ) (hooks : List Hook) (a b : List ℕ) → 1 ≤ tasks → tasks ≤ 16 → is_legal (demo_plan number tasks) a ≡ true
+    → is_legal (demo_plan number tasks) b ≡ true
     → LeavesTheSame (demo_plan number tasks) hooks a b

@@ -16,8 +16,9 @@ abbrev pub numbered : ℕ → ℕ → List Call → List Entry
 numbered task n [] = []
 numbered task n (c ∷ cs) = record { task = task; seq = n; call = c } ∷ numbered task (n + 1) cs
 
--- Whatever legal order a run has, the steps of each task are its calls, each once and in their order. A task that the plan hasn't got
--- has none.
+-- Whatever legal order a run has, the steps of each task are its calls, each once and in their order. A task that the plan hasn't
+-- got has none.
 abbrev pub TasksKeepTheirOrder : Type 0
 TasksKeepTheirOrder =
-    (plan : Plan) (order : List ℕ) → IsPlan plan → is_legal plan order ≡ true → (task : ℕ) → steps_of task (entries plan [] order) ≡ numbered task 0 (task_calls plan task)
+    (plan : Plan) (order : List ℕ) → IsPlan plan → is_legal plan order ≡ true → (task : ℕ)
+    → steps_of task (entries plan [] order) ≡ numbered task 0 (task_calls plan task)

@@ -18,7 +18,8 @@ pub fn demos_show_no_order()
     ensures { DemosShowNoOrder }
 {}
 
-/// Where the tasks of a plan have no groups, the order is legal that has all calls of task 0 first, then those of task 1, and so on.
+/// Where the tasks of a plan have no groups, the order is legal that has all calls of task 0 first, then those of task 1, and so
+/// on.
 pub fn tasks_may_go_in_turn()
     ensures { TasksMayGoInTurn }
 {}

@@ -21,13 +21,20 @@ runs_after : (x : ℤ) (rs : List Run) → AreRuns rs → StartsAfter x rs → A
 runs_after x [] are h = λ i d low. absurd (omega arith)
 runs_after x (r ∷ rs) are h =
     let p = are.0 in
-    All-cons (λ q. x <ℤ q.first) r rs h (runs_after x rs are.2 (starts_after_less x (r.last +ℤ pos 1) rs (omega (arith, ints)) are.1))
+    All-cons (λ q. x <ℤ q.first) r rs h
+    (runs_after x rs are.2 (starts_after_less x (r.last +ℤ pos 1) rs (omega (arith, ints)) are.1))
 
 pub runs_begin : (rs : List Run) → AreRuns rs → All (Begins rs) rs
 runs_begin [] are = λ i d low. absurd (omega arith)
 runs_begin (r ∷ rs) are =
     All-cons (Begins (r ∷ rs)) r rs
-    (record { some = are.0; first = in_first r rs r.first (let p = are.0 in omega (arith, ints)) are.0; before = none_before (r ∷ rs) (r.first -ℤ pos 1) are (omega (arith, ints)) })
+    (record {
+      some =
+          are.0;
+      first = in_first r rs r.first (let p = are.0 in omega (arith, ints)) are.0;
+      before =
+          none_before (r ∷ rs) (r.first -ℤ pos 1) are (omega (arith, ints));
+    })
     (λ i d low.
     let b = runs_begin rs are.2 i d low in
     let later = runs_after (r.last +ℤ pos 1) rs are.2 are.1 i d low in
@@ -48,7 +55,8 @@ bands_below : (y : ℤ) (bs : List Band) → AreBands bs → StartsBelow y bs �
 bands_below y [] are h = λ i d low. absurd (omega arith)
 bands_below y (b ∷ bs) are h =
     let p = are.0.rows in
-    All-cons (λ q. y <ℤ q.top) b bs h (bands_below y bs are.2 (starts_below_less y b.bottom bs (omega (arith, ints)) (above_starts b bs are.1)))
+    All-cons (λ q. y <ℤ q.top) b bs h
+    (bands_below y bs are.2 (starts_below_less y b.bottom bs (omega (arith, ints)) (above_starts b bs are.1)))
 
 -- the first band
 first_row : (b : Band) (bs : List Band) → AreBands (b ∷ bs) → IsTopRow (b ∷ bs) b
@@ -57,7 +65,8 @@ first_row b bs are = record {
   row = λ x. in_top b bs x b.top are (omega (arith, ints)) are.0.rows;
   differs = λ same.
       let some = some_column b.runs are.0.runs are.0.some in
-      let none : in_bands (b ∷ bs) some.0 (b.top -ℤ pos 1) ≡ false = none_over (b ∷ bs) some.0 (b.top -ℤ pos 1) are (omega (arith, ints)) in
+      let none : in_bands (b ∷ bs) some.0 (b.top -ℤ pos 1) ≡ false =
+      none_over (b ∷ bs) some.0 (b.top -ℤ pos 1) are (omega (arith, ints)) in
       false≢true (sym none ∙ (sym (same some.0) ∙ (in_top b bs some.0 b.top are (omega (arith, ints)) are.0.rows ∙ some.1)));
 }
 
@@ -66,11 +75,14 @@ far_row : (b : Band) (bs : List Band) (c : Band) → (b.bottom +ℤ pos 1) <ℤ 
 far_row b bs c far is = record {
   band = is.band;
   row = λ x. in_below b bs x c.top (omega (arith, ints)) ∙ is.row x;
-  differs = λ same. is.differs (λ x. sym (in_below b bs x c.top (omega (arith, ints))) ∙ (same x ∙ in_below b bs x (c.top -ℤ pos 1) (omega (arith, ints))));
+  differs = λ same. is.differs
+      (λ x. sym (in_below b bs x c.top (omega (arith, ints))) ∙
+      (same x ∙ in_below b bs x (c.top -ℤ pos 1) (omega (arith, ints))));
 }
 
 -- the band after the first one, right below it
-near_row : (b c : Band) (bs : List Band) → AreBands (b ∷ c ∷ bs) → b.bottom +ℤ pos 1 ≡ c.top → IsTopRow (c ∷ bs) c → IsTopRow (b ∷ c ∷ bs) c
+near_row : (b c : Band) (bs : List Band) → AreBands (b ∷ c ∷ bs) → b.bottom +ℤ pos 1 ≡ c.top → IsTopRow (c ∷ bs) c
+    → IsTopRow (b ∷ c ∷ bs) c
 near_row b c bs are near is = record {
   band = is.band;
   row = λ x. in_below b (c ∷ bs) x c.top (omega (arith, ints, near)) ∙ is.row x;

@@ -40,6 +40,14 @@ cut_columns cut = flat_map (λ c. c.min_x ∷ (c.max_x +ℤ pos 1) ∷ []) cut
 abbrev pub cut_rows : List Rectangle → List ℤ
 cut_rows cut = flat_map (λ c. c.min_y ∷ (c.max_y +ℤ pos 1) ∷ []) cut
 
+-- Bounds of which is visible what n rectangles leave of a screen have at most (2n + 3) (2n + 3) rectangles, visible and hidden
+-- together.
+abbrev pub RectanglesOnScreensAreFew : Type 0
+RectanglesOnScreensAreFew =
+    (bounds screen : Rectangle) (front visible : List Rectangle)
+    → IsVisible bounds (λ x y. has_pixel screen x y && not (covers front x y)) visible
+    → rectangle_count bounds visible ≤ (2 * length front + 3) * (2 * length front + 3)
+
 -- Bounds of which is visible what n rectangles leave have at most (2n + 1) (2n + 1) rectangles, visible and hidden together.
 abbrev pub RectanglesUnderCoversAreFew : Type 0
 RectanglesUnderCoversAreFew =

@@ -6,5 +6,5 @@ mod laws;
 
 pub use laws::{
     counted_examples, rectangles_are_few, rectangles_in_lists_are_few,
-    rectangles_under_covers_are_few, rectangles_under_cuts_are_few,
+    rectangles_on_screens_are_few, rectangles_under_covers_are_few, rectangles_under_cuts_are_few,
 };

@@ -15,7 +15,8 @@ blit_not_all true source slot h = false≢true h
 blit_not_all false source slot h = false≢true h
 
 -- a blit touches its source
-pub touches_source : (source slot : ℕ) (same : Bool) → (source == slot) ≡ same → has_slot (slots_in (blit_class same source slot)) source ≡ true
+pub touches_source : (source slot : ℕ) (same : Bool) → (source == slot) ≡ same
+    → has_slot (slots_in (blit_class same source slot)) source ≡ true
 touches_source source slot true h = eq-eqb slot source (sym (eqb-true source slot h))
 touches_source source slot false h = rw (eq-eqb source source refl) refl
 
@@ -25,6 +26,7 @@ touches_destination source slot true = eq-eqb slot slot refl
 touches_destination source slot false = or_right (source == slot) (slot == slot) (eq-eqb slot slot refl)
 
 -- a slot that a blit doesn't touch isn't its destination
-pub not_blitted : (source slot s : ℕ) (same : Bool) → has_slot (slots_in (blit_class same source slot)) s ≡ false → (slot == s) ≡ false
+pub not_blitted : (source slot s : ℕ) (same : Bool) → has_slot (slots_in (blit_class same source slot)) s ≡ false
+    → (slot == s) ≡ false
 not_blitted source slot s true h = h
 not_blitted source slot s false h = (or_parts (source == s) (slot == s) h).1

@@ -4,14 +4,15 @@ use Rattle.std.specs.List.{slice_index_or}
 use Rattle.std.proofs.lemmas.List.Elements.{All-nil, All-cons, All-replicate}
 use Rattle.lw_calls.specs.declared.call.Call.{Call}
 use Rattle.lw_calls.specs.declared.group.Group.{Group}
+use Rattle.lw_calls.specs.declared.pair.Pair.{Pair}
 use Rattle.lw_calls.specs.declared.sizes.Sizes.{Sizes}
-use Rattle.lw_calls.specs.Limits.{IsWithinLimits, call_fits, call_limit}
+use Rattle.lw_calls.specs.Limits.{IsWithinLimits, limits_of, call_fits}
 use Rattle.lw_calls.specs.Assets.{Assets}
 use Rattle.lw_calls.specs.Plan.{Plan, IsPlan, groups_fit, no_assets}
 
 -- no more calls than a task may have, each of which fits
 pub record AreFitting (sizes : Sizes) (calls : List Call) : Type 0 where
-  pub few : length calls ≤ call_limit
+  pub few : length calls ≤ (limits_of sizes.version).calls
   pub fit : All (λ c. IsTrue (call_fits sizes c)) calls
 
 -- what holds of two lists
@@ -26,23 +27,29 @@ each_fits first second groups h (suc zero) = refl
 each_fits first second groups h (suc (suc task)) = refl
 
 -- a plan of these parts
-abbrev pub plan_with : Sizes → List (List ℕ) → List (List ℕ) → List (List ℕ) → List (List Call) → List (List Group) → Assets → Plan
-plan_with sizes slots tasks bitmaps calls groups assets = record {
+abbrev pub plan_with : Sizes → List (List ℕ) → List (List ℕ) → List (List ℕ) → List (List Call) → List (List Group) → List Pair
+    → Assets
+    → Plan
+plan_with sizes slots tasks bitmaps calls groups pairs assets = record {
   sizes = sizes;
   slot_names = slots;
   task_names = tasks;
   bitmap_names = bitmaps;
   calls = calls;
   groups = groups;
+  pairs = pairs;
   assets = assets;
 }
 
-pub two_tasks : (sizes : Sizes) (slots tasks bitmaps : List (List ℕ)) (calls : List (List Call)) (grouped : List (List Group)) (assets : Assets) (first second : List Call) (groups : List Group)
+pub two_tasks : (sizes : Sizes) (slots tasks bitmaps : List (List ℕ)) (calls : List (List Call)) (grouped : List (List Group))
+    (pairs : List Pair) (assets : Assets) (first second : List Call) (groups : List Group)
     → IsWithinLimits sizes → sizes.tasks ≡ 2 → sizes.bitmaps ≡ 0 → length slots ≡ sizes.slots → length tasks ≡ 2
     → bitmaps ≡ [] → calls ≡ first ∷ second ∷ [] → grouped ≡ groups ∷ [] ∷ [] → assets ≡ no_assets
-    → AreFitting sizes first → AreFitting sizes second → IsTrue (groups_fit first groups) → IsPlan (plan_with sizes slots tasks bitmaps calls grouped assets)
-two_tasks sizes slots tasks bitmaps calls grouped assets first second groups limits two none a b c d e f g h k =
-    let same : plan_with sizes slots tasks [] (first ∷ second ∷ []) (groups ∷ [] ∷ []) no_assets ≡ plan_with sizes slots tasks bitmaps calls grouped assets = cc in
+    → AreFitting sizes first → AreFitting sizes second → IsTrue (groups_fit first groups)
+    → IsPlan (plan_with sizes slots tasks bitmaps calls grouped pairs assets)
+two_tasks sizes slots tasks bitmaps calls grouped pairs assets first second groups limits two none a b c d e f g h k =
+    let same : plan_with sizes slots tasks [] (first ∷ second ∷ []) (groups ∷ [] ∷ []) pairs no_assets
+    ≡ plan_with sizes slots tasks bitmaps calls grouped pairs assets = cc in
     subst IsPlan same
     (record {
       limits = limits;
@@ -53,7 +60,7 @@ two_tasks sizes slots tasks bitmaps calls grouped assets first second groups lim
       group_lists = sym two;
       supplied = sym none;
       assets = record { glyphs = refl; rows = All-replicate (λ g. length g ≡ 8) 95 (replicate 8 0) refl; bitmaps = All-nil _ };
-      few = of_two (λ cs. length cs ≤ call_limit) first second g.few h.few;
+      few = of_two (λ cs. length cs ≤ (limits_of sizes.version).calls) first second g.few h.few;
       fit = of_two (λ cs. All (λ c. IsTrue (call_fits sizes c)) cs) first second g.fit h.fit;
       groups = each_fits first second groups k;
     })

@@ -1,41 +1,59 @@
 -- The limits of a plan's sizes, and which calls fit them.
-use Rattle.std.specs.Prelude.{◌≡◌, ℕ, ◌≤◌, ◌%◌, Bool, true, false, not, ◌&&◌, nat_lt, nat_le, ◌==◌, ℤ, pos, negsuc, int_le, Option, Some, None}
+use Rattle.std.specs.Prelude.{ℕ, ◌≤◌, ◌%◌, Bool, true, false, not, ◌&&◌, nat_lt, nat_le, ◌==◌, if◌then◌else◌, ℤ, pos, negsuc}
+use Rattle.std.specs.Prelude.{int_le, Option, Some, None}
 use Rattle.lw_region.specs.Rectangle.{Rectangle, within}
 use Rattle.lw_calls.specs.declared.sizes.Sizes.{Sizes}
+use Rattle.lw_calls.specs.declared.limits.Limits.{Limits}
 use Rattle.lw_calls.specs.declared.make.Kind.{Kind}
 use Rattle.lw_calls.specs.declared.make.Kind.TheVariants.{Simple, Smart, SuperBitmap}
 use Rattle.lw_calls.specs.declared.make.Make.{Make}
 use Rattle.lw_calls.specs.declared.call.Call.{Call}
-use Rattle.lw_calls.specs.declared.call.Call.TheVariants.{RegRect, RegPair, RegClear, Create, OpenWindow, Close, ToFront, ToBack, InFrontOf, MoveBy, SizeBy, SetBox, Activate, Which, SetA, SetB, SetMode, SetMask, At, WritePixel, ReadPixel, Fill, DrawTo, Letters, SetRast, ScrollRaster, Put, Blit, Clip, Unclip, BeginRefresh, EndRefresh, Scroll, SetTitle, TakeMessage}
+use Rattle.lw_calls.specs.declared.call.Call.TheVariants.{RegRect, RegPair, RegClear, Create, OpenWindow, Close, ToFront, ToBack}
+use Rattle.lw_calls.specs.declared.call.Call.TheVariants.{InFrontOf, MoveBy, SizeBy, SetBox, Activate, SetHook, Which, SetA, SetB}
+use Rattle.lw_calls.specs.declared.call.Call.TheVariants.{SetMode, SetMask, At, WritePixel, ReadPixel, Fill, DrawTo, Letters}
+use Rattle.lw_calls.specs.declared.call.Call.TheVariants.{SetRast, ScrollRaster, Put, Blit, Clip, Unclip, BeginRefresh}
+use Rattle.lw_calls.specs.declared.call.Call.TheVariants.{EndRefresh, Scroll, SetTitle, TakeMessage}
 use Rattle.lw_calls.specs.declared.area.Area.{Area}
 use Rattle.lw_calls.specs.Kinds.{is_super}
 
--- how many layer names a script has at most
-abbrev pub name_limit : ℕ
-name_limit = 64
+-- The limits that go by the version: how many columns, and how many rows, a screen has at most, how many layer names a plan, and
+-- how many calls a task.
+abbrev pub limits_of : ℕ → Limits
+limits_of version =
+    if version == 1 then record { screen = 1024; names = 64; calls = 4096 }
+    else (if version == 2 then record { screen = 2048; names = 128; calls = 16384 }
+    else record { screen = 2048; names = 1024; calls = 16384 })
 
--- how many tasks and how many bitmaps a script has at most
+-- From version 2 on a layer's hook may be replaced, and a layer may lie off the screen.
+abbrev pub may_replace_hooks : ℕ → Bool
+may_replace_hooks version = nat_le 2 version
+
+abbrev pub may_leave_screen : ℕ → Bool
+may_leave_screen version = nat_le 2 version
+
+-- In version 3 a slot whose layer was closed may be opened again.
+abbrev pub may_reopen : ℕ → Bool
+may_reopen version = nat_le 3 version
+
+-- how many tasks and how many bitmaps a plan has at most
 abbrev pub task_limit : ℕ
 task_limit = 16
 
 abbrev pub bitmap_limit : ℕ
 bitmap_limit = 16
 
--- how many calls a task has at most
-abbrev pub call_limit : ℕ
-call_limit = 4096
-
--- Sizes that a plan of version 1 may have: the screen is 1 to 1024 columns by 1 to 1024 rows of 1 to 8 planes, with at most 64
--- layer names, 1 to 16 tasks and at most 16 bitmaps.
+-- Sizes that a plan may have: its version is 1, 2 or 3; its screen has a column, a row and 1 to 8 planes, and no more columns,
+-- rows and layer names than its version allows; it has 1 to 16 tasks and at most 16 bitmaps.
 pub record IsWithinLimits (s : Sizes) : Type 0 where
-  pub version : s.version ≡ 1
+  pub some_version : 1 ≤ s.version
+  pub version : s.version ≤ 3
   pub some_columns : 1 ≤ s.width
-  pub columns : s.width ≤ 1024
+  pub columns : s.width ≤ (limits_of s.version).screen
   pub some_rows : 1 ≤ s.height
-  pub rows : s.height ≤ 1024
+  pub rows : s.height ≤ (limits_of s.version).screen
   pub some_planes : 1 ≤ s.depth
   pub planes : s.depth ≤ 8
-  pub slots : s.slots ≤ name_limit
+  pub slots : s.slots ≤ (limits_of s.version).names
   pub some_task : 1 ≤ s.tasks
   pub tasks : s.tasks ≤ task_limit
   pub bitmaps : s.bitmaps ≤ bitmap_limit
@@ -105,7 +123,8 @@ call_fits s (RegRect op register rect) = register_fits register && rect_fits rec
 call_fits s (RegPair op source into) = register_fits source && register_fits into
 call_fits s (RegClear register) = register_fits register
 call_fits s (Create slot make) = nat_lt slot s.slots && make_fits s make
-call_fits s (OpenWindow slot make framed nocare classes title) = nat_lt slot s.slots && (make_fits s make && window_fits make framed classes)
+call_fits s (OpenWindow slot make framed nocare classes title) =
+    nat_lt slot s.slots && (make_fits s make && window_fits make framed classes)
 call_fits s (Close slot) = nat_lt slot s.slots
 call_fits s (ToFront slot) = nat_lt slot s.slots
 call_fits s (ToBack slot) = nat_lt slot s.slots
@@ -114,6 +133,7 @@ call_fits s (MoveBy slot dx dy) = nat_lt slot s.slots && coordinates_fit dx dy
 call_fits s (SizeBy slot dw dh) = nat_lt slot s.slots && coordinates_fit dw dh
 call_fits s (SetBox slot x y w h) = nat_lt slot s.slots && (coordinates_fit x y && (is_extent w && is_extent h))
 call_fits s (Activate slot) = nat_lt slot s.slots
+call_fits s (SetHook slot hook) = may_replace_hooks s.version && (nat_lt slot s.slots && nat_lt hook s.hooks)
 call_fits s (Which x y) = coordinates_fit x y
 call_fits s (SetA slot pen) = nat_lt slot s.slots && is_byte pen
 call_fits s (SetB slot pen) = nat_lt slot s.slots && is_byte pen

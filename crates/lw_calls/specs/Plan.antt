@@ -1,5 +1,6 @@
 -- What a plan holds, as contracts see it.
-use Rattle.std.specs.Prelude.{◌≡◌, ℕ, ◌+◌, ◌-◌, ◌≤◌, ◌==◌, Bool, true, false, not, ◌&&◌, ◌||◌, nat_lt, nat_le, List, [], ◌∷◌, length, take, drop, replicate, All, IsTrue}
+use Rattle.std.specs.Prelude.{◌≡◌, ℕ, ◌+◌, ◌-◌, ◌≤◌, ◌==◌, Bool, true, false, not, ◌&&◌, ◌||◌, nat_lt, nat_le, List, [], ◌∷◌}
+use Rattle.std.specs.Prelude.{length, take, drop, replicate, All, IsTrue}
 use Rattle.std.specs.List.{slice_index_or, list_all}
 use Rattle.lw_planes.specs.Sizes.{IsPlanes}
 use Rattle.lw_calls.specs.declared.sizes.Sizes.{Sizes}
@@ -10,12 +11,13 @@ use Rattle.lw_calls.specs.declared.touch.Slots.TheVariants.{Nothing, One, Two, A
 use Rattle.lw_calls.specs.declared.group.Hold.{Hold}
 use Rattle.lw_calls.specs.declared.group.Hold.TheVariants.{Slot, All as AllLayers}
 use Rattle.lw_calls.specs.declared.group.Group.{Group}
+use Rattle.lw_calls.specs.declared.pair.Pair.{Pair}
 use Rattle.lw_calls.specs.Assets.{Assets}
-use Rattle.lw_calls.specs.Limits.{IsWithinLimits, call_limit, call_fits}
+use Rattle.lw_calls.specs.Limits.{IsWithinLimits, limits_of, call_fits}
 use Rattle.lw_calls.specs.Touches.{slots_of}
 
 -- The sizes, the names of the layers by slot, of the tasks and of the bitmaps by number, each task's calls in their order
--- and its groups in theirs, and what the script hands in.
+-- and its groups in theirs, the windows of two layers, and what the script hands in.
 pub record Plan : Type 0 where
   pub sizes : Sizes
   pub slot_names : List (List ℕ)
@@ -23,6 +25,7 @@ pub record Plan : Type 0 where
   pub bitmap_names : List (List ℕ)
   pub calls : List (List Call)
   pub groups : List (List Group)
+  pub pairs : List Pair
   pub assets : Assets
 
 -- the calls of a task, and none of a task that the plan hasn't got
@@ -76,7 +79,8 @@ abbrev pub are_an_update : ℕ → List Call → Bool
 are_an_update s [] = false
 are_an_update s (c ∷ cs) = (is_one s (slots_of c) && begins_update c) && end_an_update s cs
 
--- A group that holds this allows these calls: calls on the one layer, which are locked or an update of it; or arrangements.
+-- A group that holds this allows these calls: calls on the one layer, which are locked or an update of it; or calls that touch
+-- all layers.
 abbrev pub hold_allows : Hold → List Call → Bool
 hold_allows (Slot s) calls = are_locked s calls || are_an_update s calls
 hold_allows AllLayers calls = list_all (λ c. is_all (slots_of c)) calls
@@ -106,7 +110,7 @@ pub record AreAssets (assets : Assets) : Type 0 where
   pub bitmaps : All IsPlanes assets.bitmaps
 
 -- A plan that may be run: its lists are as long as its sizes say, no task has too many calls, every call fits, and each
--- task's groups fit.
+-- task's groups fit. Nothing is asked of its windows of two layers.
 pub record IsPlan (p : Plan) : Type 0 where
   pub limits : IsWithinLimits p.sizes
   pub slots : length p.slot_names ≡ p.sizes.slots
@@ -116,6 +120,6 @@ pub record IsPlan (p : Plan) : Type 0 where
   pub group_lists : length p.groups ≡ p.sizes.tasks
   pub supplied : length p.assets.bitmaps ≡ p.sizes.bitmaps
   pub assets : AreAssets p.assets
-  pub few : All (λ cs. length cs ≤ call_limit) p.calls
+  pub few : All (λ cs. length cs ≤ (limits_of p.sizes.version).calls) p.calls
   pub fit : All (λ cs. All (λ c. IsTrue (call_fits p.sizes c)) cs) p.calls
   pub groups : (task : ℕ) → IsTrue (groups_fit (task_calls p task) (task_groups p task))

@@ -1,7 +1,11 @@
 -- Which parts of the desk a call may read or change.
 use Rattle.std.specs.Prelude.{ℕ, ◌==◌, Bool, true, false, ◌||◌, if◌then◌else◌}
 use Rattle.lw_calls.specs.declared.call.Call.{Call}
-use Rattle.lw_calls.specs.declared.call.Call.TheVariants.{RegRect, RegPair, RegClear, Create, OpenWindow, Close, ToFront, ToBack, InFrontOf, MoveBy, SizeBy, SetBox, Activate, Which, SetA, SetB, SetMode, SetMask, At, WritePixel, ReadPixel, Fill, DrawTo, Letters, SetRast, ScrollRaster, Put, Blit, Clip, Unclip, BeginRefresh, EndRefresh, Scroll, SetTitle, TakeMessage}
+use Rattle.lw_calls.specs.declared.call.Call.TheVariants.{RegRect, RegPair, RegClear, Create, OpenWindow, Close, ToFront, ToBack}
+use Rattle.lw_calls.specs.declared.call.Call.TheVariants.{InFrontOf, MoveBy, SizeBy, SetBox, Activate, SetHook, Which, SetA, SetB}
+use Rattle.lw_calls.specs.declared.call.Call.TheVariants.{SetMode, SetMask, At, WritePixel, ReadPixel, Fill, DrawTo, Letters}
+use Rattle.lw_calls.specs.declared.call.Call.TheVariants.{SetRast, ScrollRaster, Put, Blit, Clip, Unclip, BeginRefresh}
+use Rattle.lw_calls.specs.declared.call.Call.TheVariants.{EndRefresh, Scroll, SetTitle, TakeMessage}
 use Rattle.lw_calls.specs.declared.touch.CallClass.{CallClass}
 use Rattle.lw_calls.specs.declared.touch.CallClass.TheVariants.{OnRegisters, OnInfo, OnLayer, OnLayers, OnAll}
 use Rattle.lw_calls.specs.declared.touch.Role.{Role}
@@ -25,6 +29,7 @@ class_of (MoveBy slot dx dy) = OnAll
 class_of (SizeBy slot dw dh) = OnAll
 class_of (SetBox slot x y w h) = OnAll
 class_of (Activate slot) = OnAll
+class_of (SetHook slot hook) = OnAll
 class_of (Which x y) = OnInfo
 class_of (SetA slot pen) = OnLayer slot
 class_of (SetB slot pen) = OnLayer slot
@@ -48,8 +53,8 @@ class_of (Scroll slot dx dy) = OnLayer slot
 class_of (SetTitle slot title) = OnLayer slot
 class_of (TakeMessage slot) = OnLayer slot
 
--- The call is an arrangement (Layers, and Intuition's windows): it may change which layers there are, their order, their bounds, or which
--- window is active.
+-- The call is an arrangement (Layers, and Intuition's windows): it may change which layers there are, their order, their
+-- bounds, or which window is active. A change of a hook is none, though it touches all that an arrangement touches.
 abbrev pub is_arrangement : Call → Bool
 is_arrangement (Create slot make) = true
 is_arrangement (OpenWindow slot make framed nocare asks title) = true

@@ -83,6 +83,13 @@ pub enum Call {
         slot: u32,
     },
 
+    /// Takes a hook from the shelf for a layer, whose former hook is dropped (InstallLayerHook); from version 2 on. The hook is
+    /// one of those handed in, by its number.
+    SetHook {
+        slot: u32,
+        hook: u32,
+    },
+
     /// Finds the layer on a place of the screen (WhichLayer).
     Which {
         x: i32,

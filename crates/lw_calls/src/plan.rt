@@ -4,6 +4,7 @@ ghost use Rattle.lw_calls.specs.Plan.{task_calls, task_groups, IsPlan};
 use crate::assets::Assets;
 use crate::call::Call;
 use crate::group::Group;
+use crate::pair::Pair;
 use crate::sizes::Sizes;
 use crate::text::Text;
 use std::marker::Model;
@@ -22,6 +23,8 @@ pub struct PlanParts {
     pub calls: Vec<Vec<Call>>,
     /// Each task's groups in rising order.
     pub groups: Vec<Vec<Group>>,
+    /// The windows of two layers; nothing is asked of them.
+    pub pairs: Vec<Pair>,
     pub assets: Assets,
 }
 
@@ -38,6 +41,7 @@ impl Model for PlanParts {
       bitmap_names = p.bitmap_names.items;
       calls = map (λ cs. cs.items) p.calls.items;
       groups = map (λ gs. gs.items) p.groups.items;
+      pairs = p.pairs.items;
       assets = p.assets;
     } };
 }
@@ -90,7 +94,7 @@ impl Plan {
         self.parts.task_names.as_slice()
     }
 
-    /// The script's version.
+    /// The version: 1, 2 or 3.
     pub fn version(&self) -> u32
         ensures { result ≡ self.now.sizes.version }
     {
@@ -109,6 +113,13 @@ impl Plan {
         ensures { result.now ≡ self.now.assets }
     {
         &self.parts.assets
+    }
+
+    /// The windows of two layers.
+    pub fn pairs(&self) -> &[Pair]
+        ensures { result.now ≡ self.now.pairs }
+    {
+        self.parts.pairs.as_slice()
     }
 
     /// The groups of a task in rising order.

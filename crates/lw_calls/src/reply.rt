@@ -22,7 +22,7 @@ pub enum Reply {
     Got(Message),
     /// Refused: a named layer isn't live.
     NotOpen,
-    /// Refused: the layer's name was opened before.
+    /// Refused: the slot's layer is live, or, before version 3, was closed.
     AlreadyOpen,
     /// Refused: the layer isn't a window.
     NotWindow,

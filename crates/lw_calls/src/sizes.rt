@@ -3,7 +3,9 @@ ghost use Rattle.lw_calls.specs.Touches.{slots_of, is_one_or_two};
 ghost use Rattle.lw_calls.specs.Plan.{is_all};
 ghost use Rattle.lw_region.specs.Rectangle.{within};
 ghost use Rattle.lw_calls.specs.Kinds.{is_super};
-ghost use Rattle.lw_calls.specs.Limits.{call_fits, register_fits, coordinates_fit, is_extent, is_byte, is_minterm, window_fits, area_fits, make_fits, hook_fits, kind_fits, axis_fits, rect_fits, is_coordinate};
+ghost use Rattle.lw_calls.specs.Limits.{call_fits, register_fits, may_replace_hooks, coordinates_fit, is_extent, is_byte};
+ghost use Rattle.lw_calls.specs.Limits.{is_minterm, window_fits, area_fits, make_fits, hook_fits, kind_fits, axis_fits};
+ghost use Rattle.lw_calls.specs.Limits.{rect_fits, is_coordinate};
 
 use crate::area::Area;
 use crate::call::Call;
@@ -13,15 +15,16 @@ use lw_region::Rect;
 /// The sizes of a screen, and how many of each a plan has.
 #[derive(Clone, Copy, Debug, PartialEq, Eq)]
 pub struct Sizes {
-    /// The script's version, 1.
+    /// The version: 1 or 2, as a script says, or 3, which no script says and which is for programs. What goes by it is told in
+    /// `Limits` and at the calls.
     pub version: u32,
-    /// The screen's columns, 1 to 1024.
+    /// The screen's columns, from 1 to the version's limit.
     pub width: u32,
-    /// The screen's rows, 1 to 1024.
+    /// The screen's rows, from 1 to the version's limit.
     pub height: u32,
     /// The screen's bit planes, 1 to 8.
     pub depth: u32,
-    /// How many layer names the plan has, at most 64.
+    /// How many layer names the plan has, at most as many as the version allows.
     pub slots: u32,
     /// How many tasks the plan has, 1 to 16.
     pub tasks: u32,
@@ -50,13 +53,14 @@ impl Sizes {
             | Call::MoveBy { .. }
             | Call::SizeBy { .. }
             | Call::SetBox { .. }
-            | Call::Activate { .. } => self.fits_arrangement(call),
+            | Call::Activate { .. }
+            | Call::SetHook { .. } => self.fits_on_all(call),
             _ => self.fits_on_layer(call),
         }
     }
 
     /// The same of a call that touches all slots.
-    fn fits_arrangement(&self, call: &Call) -> bool
+    fn fits_on_all(&self, call: &Call) -> bool
         requires { IsTrue (is_all (slots_of call.now)) }
         ensures { result ≡ call_fits self.now call.now }
     {
@@ -78,6 +82,9 @@ impl Sizes {
             Call::SizeBy { slot, dw, dh } => self.has_slot(*slot) && are_coordinates(*dw, *dh),
             Call::SetBox { slot, x, y, w, h } => {
                 self.has_slot(*slot) && are_coordinates(*x, *y) && are_extents(*w, *h)
+            }
+            Call::SetHook { slot, hook } => {
+                self.may_replace_hooks() && self.has_slot(*slot) && *hook < self.hooks
             }
             // No other call touches all slots.
             _ => unreachable!(),
@@ -122,6 +129,12 @@ impl Sizes {
             // No other call touches one layer or two.
             _ => unreachable!(),
         }
+    }
+
+    fn may_replace_hooks(&self) -> bool
+        ensures { result ≡ may_replace_hooks self.now.version }
+    {
+        2 <= self.version
     }
 
     fn has_slot(&self, slot: u32) -> bool

@@ -54,7 +54,7 @@ pub struct Touch {
 }
 
 /// What a call works on, and with it what it locks: the registers of its task; LayerInfo, at which it looks; the layer of a slot;
-/// two different layers; or all layers, which it arranges.
+/// two different layers; or all layers, which it arranges or of which one gets another hook.
 #[derive(Clone, Copy, Debug, PartialEq, Eq)]
 pub enum CallClass {
     OnRegisters,
@@ -89,7 +89,7 @@ impl CallClass {
 }
 
 /// What a call touches. A call on registers touches the task alone, one on a layer also that slot, a blit between two
-/// layers both slots, a look at LayerInfo also that, and an arrangement also LayerInfo and all slots.
+/// layers both slots, a look at LayerInfo also that, and an arrangement or a change of a hook also LayerInfo and all slots.
 pub fn touches(task: u32, call: &Call) -> Touch
     ensures { result ≡ touch_of task call.now }
 {
@@ -118,7 +118,8 @@ pub fn class_of(call: &Call) -> CallClass
         | Call::MoveBy { .. }
         | Call::SizeBy { .. }
         | Call::SetBox { .. }
-        | Call::Activate { .. } => CallClass::OnAll,
+        | Call::Activate { .. }
+        | Call::SetHook { .. } => CallClass::OnAll,
         Call::SetA { slot, .. }
         | Call::SetB { slot, .. }
         | Call::SetMode { slot, .. }

@@ -12,7 +12,7 @@ use Rattle.lw_machine.specs.Kept.{is_visible, is_kept, is_drawable, in_inner}
 use Rattle.lw_machine.specs.Paint.{through_mask, with_pens}
 use Rattle.lw_machine.specs.Shapes.{line_offset, is_on_line, glyph_has, in_cells, cell_has}
 use Rattle.lw_machine.specs.Registers.{has_too_many}
-use Rattle.lw_machine.specs.Arrangement.{is_on_screen, is_at_least, portion_fits}
+use Rattle.lw_machine.specs.Arrangement.{is_on_screen, has_coordinates, is_no_larger, may_lie_at, is_at_least, portion_fits}
 use Rattle.lw_machine.specs.Reveal.{counts_as_kept, some_pixel, revealed, in_frame, in_title, is_damaged, same_bounds, settled_layer}
 use Rattle.lw_calls.specs.Limits.{axis_fits}
 use Rattle.lw_machine.specs.Step.{after, reply}
@@ -20,5 +20,5 @@ use Rattle.lw_machine.specs.Report.{order_part, plane_lines, planes_part, of_slo
 use Rattle.lw_machine.specs.Finals.{shown_set, damage_set}
 
 unfoldable pub computing : Unit {0}
-unfolding digits within contains_pixel pixels_of union intersection difference symmetric_difference bands grid at pen_of byte_of plane_row hook_pen top screen is_visible is_kept is_drawable in_inner through_mask with_pens line_offset is_on_line glyph_has in_cells cell_has has_too_many is_on_screen is_at_least portion_fits counts_as_kept some_pixel revealed in_frame in_title is_damaged same_bounds settled_layer axis_fits after reply order_part plane_lines planes_part shown_set damage_set of_slots reply_lines replies_part report
+unfolding digits within contains_pixel pixels_of union intersection difference symmetric_difference bands grid at pen_of byte_of plane_row hook_pen top screen is_visible is_kept is_drawable in_inner through_mask with_pens line_offset is_on_line glyph_has in_cells cell_has has_too_many is_on_screen has_coordinates is_no_larger may_lie_at is_at_least portion_fits counts_as_kept some_pixel revealed in_frame in_title is_damaged same_bounds settled_layer axis_fits after reply order_part plane_lines planes_part shown_set damage_set of_slots reply_lines replies_part report
 computing = tt

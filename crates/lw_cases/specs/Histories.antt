@@ -1,5 +1,5 @@
 -- Worked cases.
--- Damage that is told by the history, beside the damage that the machine keeps.
+-- Damage by the history, beside the damage that the machine keeps.
 use Rattle.std.specs.Prelude.{◌≡◌, ℕ, List, []}
 use Rattle.lw_region.specs.Pixels.{Pixel}
 use Rattle.lw_machine.specs.Hook.{Hook}
@@ -26,7 +26,7 @@ damage_of Closed = []
 abbrev pub damaged_in : Plan → List Hook → List ℕ → ℕ → List Pixel
 damaged_in plan hooks order slot = damage_of ((machine (opening_desk plan hooks) (entries plan [] order)).slot slot)
 
--- The damage of a slot's layer at the end of a run is told by the history: both are these pixels.
-pub record IsToldByHistory (plan : Plan) (hooks : List Hook) (order : List ℕ) (slot : ℕ) (pixels : List Pixel) : Type 0 where
-  pub told : hurt_in plan hooks order slot ≡ pixels
+-- The damage of a slot's layer at the end of a run is that by the history: both are these pixels.
+pub record HasDamageByHistory (plan : Plan) (hooks : List Hook) (order : List ℕ) (slot : ℕ) (pixels : List Pixel) : Type 0 where
+  pub hurt : hurt_in plan hooks order slot ≡ pixels
   pub kept : damaged_in plan hooks order slot ≡ pixels

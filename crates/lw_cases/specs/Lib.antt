@@ -35,3 +35,4 @@ pub mod CallLimits
 pub mod Touching
 pub mod SlotsAndTasks
 pub mod PlanLimits
+pub mod Versions

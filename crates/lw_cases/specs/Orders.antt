@@ -20,6 +20,7 @@ two_layers =
       bitmap_names = [];
       calls = (create 0 Smart 0 0 3 0 ∷ fill 0 0 0 3 0 ∷ []) ∷ (create 1 Smart 8 0 11 0 ∷ fill 1 0 0 3 0 ∷ []) ∷ [];
       groups = [] ∷ [] ∷ [];
+      pairs = [];
       assets = no_assets;
     }
 
@@ -54,6 +55,7 @@ locked_fills =
       bitmap_names = [];
       calls = (create 0 Smart 0 0 3 0 ∷ fill 0 0 0 0 0 ∷ fill 0 1 0 1 0 ∷ []) ∷ (fill 0 2 0 2 0 ∷ []) ∷ [];
       groups = (record { first = 1; last = 2; hold = Slot 0 } ∷ []) ∷ [] ∷ [];
+      pairs = [];
       assets = no_assets;
     }
 

@@ -30,8 +30,13 @@ one_task w h d names calls =
       bitmap_names = [];
       calls = calls ∷ [];
       groups = [] ∷ [];
+      pairs = [];
       assets = no_assets;
     }
+
+-- the plan of another version
+abbrev pub of_version : ℕ → Plan → Plan
+of_version version plan = record plan { sizes = record plan.sizes { version = version } }
 
 -- the plan of one task with further calls
 abbrev pub further : Plan → List Call → Plan

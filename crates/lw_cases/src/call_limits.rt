@@ -3,10 +3,11 @@
 
 ghost use Rattle.std.specs.Prelude.{◌≡◌, ◌∷◌, ◌++◌, [], true, false, Some};
 ghost use Rattle.lw_calls.specs.declared.make.Kind.TheVariants.{Simple, Smart};
-ghost use Rattle.lw_calls.specs.declared.call.Call.TheVariants.{OpenWindow, SetMode, Put};
+ghost use Rattle.lw_calls.specs.declared.call.Call.TheVariants.{OpenWindow, SetHook, SetMode, Put};
+ghost use Rattle.lw_calls.specs.Limits.{call_fits};
 ghost use Rattle.lw_cases.specs.Plans.{box};
 ghost use Rattle.lw_cases.specs.CallTables.{one_pixel, own_pixel, layer_of, window_of, on_one_layer, arrangements, beside_slot_0, at_a_pair, of_a_size, made_of_a_size, in_a_rectangle, with_a_byte, with_a_register, with_a_minterm, with_a_hook, with_own_bitmap, with_a_bitmap_of_none};
-ghost use Rattle.lw_cases.specs.CallLimits.{all_fit, some_fits, calls_with, calls_with_pairs, pairs_at_bounds, pairs_past_bounds, sizes_at_bounds, sizes_past_bounds, made_sizes_at_bounds, made_sizes_past_bounds, own_sizes_at_bounds, own_sizes_past_bounds, rectangles_at_bounds, rectangles_past_bounds, minterms, no_minterms};
+ghost use Rattle.lw_cases.specs.CallLimits.{few_of_each, all_fit, some_fits, calls_with, calls_with_pairs, pairs_at_bounds, pairs_past_bounds, sizes_at_bounds, sizes_past_bounds, made_sizes_at_bounds, made_sizes_past_bounds, own_sizes_at_bounds, own_sizes_past_bounds, rectangles_at_bounds, rectangles_past_bounds, minterms, no_minterms};
 
 /// A call names slots, bitmaps and hooks that there are: of two slots, three bitmaps and five hooks the last ones.
 pub fn calls_name_what_there_is()
@@ -16,6 +17,15 @@ pub fn calls_name_what_there_is()
     ensures no_bitmap { some_fits (Put 3 1 one_pixel ∷ []) ≡ false }
     ensures hooks { all_fit (calls_with with_a_hook (0 ∷ 4 ∷ [])) ≡ true }
     ensures no_hook { some_fits (calls_with with_a_hook (5 ∷ [])) ≡ false }
+{}
+
+/// A hook is changed in the versions 2 and 3 alone, of a layer that there is, for a hook that there is.
+pub fn hooks_are_changed_from_version_2_on()
+    ensures first { call_fits few_of_each (SetHook 0 0) ≡ false }
+    ensures second { call_fits (record few_of_each { version = 2 }) (SetHook 1 4) ≡ true }
+    ensures third { call_fits (record few_of_each { version = 3 }) (SetHook 1 4) ≡ true }
+    ensures no_slot { call_fits (record few_of_each { version = 2 }) (SetHook 2 0) ≡ false }
+    ensures no_hook { call_fits (record few_of_each { version = 2 }) (SetHook 0 5) ≡ false }
 {}
 
 /// Coordinates and steps are -32768 to 32767.

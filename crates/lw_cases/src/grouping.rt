@@ -4,7 +4,7 @@
 ghost use Rattle.std.specs.Prelude.{◌≡◌, ◌∷◌, [], true, false, pos};
 ghost use Rattle.std.specs.List.{list_all};
 ghost use Rattle.lw_calls.specs.declared.make.Kind.TheVariants.{Smart};
-ghost use Rattle.lw_calls.specs.declared.call.Call.TheVariants.{RegClear, Close, ToFront, Activate, Which, ReadPixel, Clip, BeginRefresh, EndRefresh};
+ghost use Rattle.lw_calls.specs.declared.call.Call.TheVariants.{RegClear, Close, ToFront, Activate, SetHook, Which, ReadPixel, Clip, BeginRefresh, EndRefresh};
 ghost use Rattle.lw_calls.specs.declared.group.Hold.TheVariants.{Slot, All};
 ghost use Rattle.lw_calls.specs.Orders.{is_legal};
 ghost use Rattle.lw_calls.specs.Plan.{groups_fit};
@@ -22,6 +22,7 @@ pub fn lock_has_calls_on_its_layer_alone()
     ensures source { fit_as (Slot 0) (fill_first 0 ∷ blit_across 0 0 1 0 1 192 ∷ []) ≡ false }
     ensures target { fit_as (Slot 0) (fill_first 0 ∷ blit_across 1 0 0 0 1 192 ∷ []) ≡ false }
     ensures arrangement { fit_as (Slot 0) (fill_first 0 ∷ ToFront 0 ∷ []) ≡ false }
+    ensures hook { fit_as (Slot 0) (fill_first 0 ∷ SetHook 0 0 ∷ []) ≡ false }
     ensures registers { fit_as (Slot 0) (fill_first 0 ∷ RegClear 0 ∷ []) ≡ false }
     ensures look { fit_as (Slot 0) (fill_first 0 ∷ Which (pos 0) (pos 0) ∷ []) ≡ false }
     ensures beginning { fit_as (Slot 0) (fill_first 0 ∷ BeginRefresh 0 ∷ []) ≡ false }
@@ -45,9 +46,10 @@ pub fn update_has_its_beginning_and_its_end()
     ensures other_layer { fit_as (Slot 0) (BeginRefresh 0 ∷ fill_first 1 ∷ EndRefresh 0 true ∷ []) ≡ false }
 {}
 
-/// Within a hold stand arrangements alone.
-pub fn hold_has_arrangements_alone()
+/// Within a hold stand arrangements and changes of hooks alone.
+pub fn hold_has_calls_on_all_layers_alone()
     ensures fits { fit_as All (create 0 Smart 0 0 3 0 ∷ ToFront 0 ∷ Activate 0 ∷ Close 0 ∷ []) ≡ true }
+    ensures hooks { fit_as All (SetHook 0 0 ∷ create 1 Smart 0 0 3 0 ∷ SetHook 1 1 ∷ []) ≡ true }
     ensures fill { fit_as All (ToFront 0 ∷ fill_first 0 ∷ []) ≡ false }
     ensures blit { fit_as All (ToFront 0 ∷ blit_across 0 0 1 0 1 192 ∷ []) ≡ false }
     ensures registers { fit_as All (ToFront 0 ∷ RegClear 0 ∷ []) ≡ false }

@@ -36,4 +36,5 @@ pub mod super_bitmaps;
 pub mod telling;
 pub mod touching;
 pub mod updates;
+pub mod versions;
 pub mod windows;

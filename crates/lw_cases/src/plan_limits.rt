@@ -7,14 +7,15 @@ ghost use Rattle.lw_calls.specs.declared.call.Call.TheVariants.{RegClear};
 ghost use Rattle.lw_calls.specs.Limits.{IsWithinLimits};
 ghost use Rattle.lw_calls.specs.Plan.{IsPlan, no_assets};
 ghost use Rattle.lw_cases.specs.Grouping.{lock_from};
-ghost use Rattle.lw_cases.specs.PlanLimits.{least_sizes, greatest_sizes, clears, filled_plan, first_calling, second_calling};
+ghost use Rattle.lw_cases.specs.PlanLimits.{least_sizes, greatest_sizes, second_sizes, third_sizes, clears, filled, filled_plan, second_filled, third_filled, first_calling, second_calling};
 
-/// A screen of 1 to 1024 by 1 to 1024 pixels and 1 to 8 planes, at most 64 layer names, 1 to 16 tasks and at most 16 bitmaps.
+/// A version of 1 to 3, a screen of 1 to 8 planes, 1 to 16 tasks and at most 16 bitmaps; and in version 1 a screen of 1 to 1024 by 1 to
+/// 1024 pixels and at most 64 layer names.
 pub fn sizes_of_plans_have_bounds()
     ensures least { IsWithinLimits least_sizes }
     ensures greatest { IsWithinLimits greatest_sizes }
     ensures version_0 { IsWithinLimits (record least_sizes { version = 0 }) → ⊥ }
-    ensures version_2 { IsWithinLimits (record greatest_sizes { version = 2 }) → ⊥ }
+    ensures version_4 { IsWithinLimits (record least_sizes { version = 4 }) → ⊥ }
     ensures no_columns { IsWithinLimits (record least_sizes { width = 0 }) → ⊥ }
     ensures columns { IsWithinLimits (record greatest_sizes { width = 1025 }) → ⊥ }
     ensures no_rows { IsWithinLimits (record least_sizes { height = 0 }) → ⊥ }
@@ -27,7 +28,28 @@ pub fn sizes_of_plans_have_bounds()
     ensures bitmaps { IsWithinLimits (record greatest_sizes { bitmaps = 17 }) → ⊥ }
 {}
 
-/// A plan has as many names, lists and bitmaps as its sizes say, at most 4096 calls for each task, 95 glyphs of 8 rows, and
+/// In version 2 a screen of at most 2048 by 2048 pixels and at most 128 layer names, and in version 3 at most 1,024.
+pub fn sizes_of_later_plans_have_bounds()
+    ensures second { IsWithinLimits second_sizes }
+    ensures second_columns { IsWithinLimits (record second_sizes { width = 2049 }) → ⊥ }
+    ensures second_rows { IsWithinLimits (record second_sizes { height = 2049 }) → ⊥ }
+    ensures second_slots { IsWithinLimits (record second_sizes { slots = 129 }) → ⊥ }
+    ensures second_bitmaps { IsWithinLimits (record second_sizes { bitmaps = 17 }) → ⊥ }
+    ensures third { IsWithinLimits third_sizes }
+    ensures third_columns { IsWithinLimits (record third_sizes { width = 2049 }) → ⊥ }
+    ensures third_rows { IsWithinLimits (record third_sizes { height = 2049 }) → ⊥ }
+    ensures third_slots { IsWithinLimits (record third_sizes { slots = 1025 }) → ⊥ }
+{}
+
+/// In the versions 2 and 3 a task has at most 16,384 calls.
+pub fn later_plans_have_bounds()
+    ensures second { IsPlan second_filled }
+    ensures second_calls { IsPlan (filled second_sizes 128 16385) → ⊥ }
+    ensures third { IsPlan third_filled }
+    ensures third_calls { IsPlan (filled third_sizes 1024 16385) → ⊥ }
+{}
+
+/// A plan has as many names, lists and bitmaps as its sizes say, in version 1 at most 4096 calls for each task, 95 glyphs of 8 rows, and
 /// calls and groups that fit.
 pub fn plans_have_bounds()
     ensures filled { IsPlan filled_plan }

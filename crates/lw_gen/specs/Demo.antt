@@ -14,7 +14,8 @@ use Rattle.lw_gen.specs.Generator.{words, calls_from}
 
 -- the screen, and three layers a task
 abbrev pub demo_sizes : ℕ → Sizes
-demo_sizes tasks = record { version = 1; width = 640; height = 256; depth = 2; slots = 3 * tasks; tasks = tasks; hooks = 0; bitmaps = 0 }
+demo_sizes tasks =
+    record { version = 1; width = 640; height = 256; depth = 2; slots = 3 * tasks; tasks = tasks; hooks = 0; bitmaps = 0 }
 
 -- the name of a task: t, and its number
 abbrev pub task_name : ℕ → List ℕ
@@ -51,7 +52,8 @@ creations first left right =
 -- starts as the sum of the demo's number and the task's.
 abbrev pub band_calls : ℕ → ℕ → ℕ → List Call
 band_calls number task columns =
-    creations (3 * task) (task * columns) ((task * columns + columns) - 1) ++ calls_from 497 (3 * task) columns ((number + task) % words)
+    creations (3 * task) (task * columns) ((task * columns + columns) - 1)
+    ++ calls_from 497 (3 * task) columns ((number + task) % words)
 
 -- Each task has a band of the screen's columns, all of them as wide as fits.
 abbrev pub demo_calls : ℕ → ℕ → ℕ → List Call
@@ -68,5 +70,6 @@ demo_plan number tasks =
       bitmap_names = [];
       calls = map (demo_calls number tasks) all;
       groups = map (λ task. []) all;
+      pairs = [];
       assets = no_assets;
     }

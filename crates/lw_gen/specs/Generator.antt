@@ -18,7 +18,8 @@ picked n x = (x / 65536) % n
 
 -- a fill whose box has its left upper corner at column x and row y, and goes on by so many columns and rows
 abbrev pub fill_from : ℕ → ℕ → ℕ → ℕ → ℕ → Call
-fill_from slot x y columns rows = Fill slot (record { min_x = pos x; min_y = pos y; max_x = pos (x + columns); max_y = pos (y + rows) })
+fill_from slot x y columns rows =
+    Fill slot (record { min_x = pos x; min_y = pos y; max_x = pos (x + columns); max_y = pos (y + rows) })
 
 -- A call, and the word after its picks, which go from left to right. The slot is that of a layer in a band of so many columns.
 abbrev pub fill_after : ℕ → ℕ → ℕ → Call × ℕ

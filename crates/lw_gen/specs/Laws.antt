@@ -47,5 +47,6 @@ pub record DrawsTheseCalls : Type 0 where
   pub created : take 3 (demo_calls 7 2 1) ≡ second_created
   pub first : take 8 (drop 3 (demo_calls 7 2 0)) ≡ first_drawn
   pub second : take 7 (drop 3 (demo_calls 7 2 1)) ≡ second_drawn
-  pub first_end : drop 499 (demo_calls 7 2 0) ≡ Fill 1 (record { min_x = pos 305; min_y = pos 34; max_x = pos 308; max_y = pos 34 }) ∷ []
+  pub first_end : drop 499 (demo_calls 7 2 0)
+      ≡ Fill 1 (record { min_x = pos 305; min_y = pos 34; max_x = pos 308; max_y = pos 34 }) ∷ []
   pub second_end : drop 499 (demo_calls 7 2 1) ≡ ReadPixel 4 (pos 57) (pos 87) ∷ []

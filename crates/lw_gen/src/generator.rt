@@ -1,6 +1,7 @@
 //! The calls that a task draws by its word.
 ghost use Rattle.std.specs.Prelude.{◌≡◌, ◌<◌, ◌≤◌, ◌+◌, ◌++◌, pos, ◌≤ℤ◌, OnOk};
-ghost use Rattle.lw_gen.specs.Generator.{stirred, picked, fill_after, pen_after, read_after, chosen_after, call_after, calls_from};
+ghost use Rattle.lw_gen.specs.Generator.{stirred, picked, fill_after, pen_after, read_after, chosen_after, call_after};
+ghost use Rattle.lw_gen.specs.Generator.{calls_from};
 
 use lw_calls::Call;
 use lw_region::Rect;

@@ -103,7 +103,8 @@ fn calls_of(alloc: Global, number: u32, tasks: u32, task: u32) -> Result<Vec<Cal
 /// The calls of all tasks.
 fn call_lists(alloc: Global, number: u32, tasks: u32) -> Result<Vec<Vec<Call>>, AllocError>
     requires few { tasks ≤ 16 }
-    ensures { IfOk result (λ lists. map (λ calls. calls.items) lists.items ≡ map (demo_calls number tasks) (range_with_len 0 tasks)) }
+    ensures { IfOk result
+        (λ lists. map (λ calls. calls.items) lists.items ≡ map (demo_calls number tasks) (range_with_len 0 tasks)) }
 {
     let mut lists = Vec::new(alloc);
     for task in 0..tasks {
@@ -204,6 +205,7 @@ pub fn plan_of(alloc: Global, number: u32, tasks: u32) -> Result<Plan, AllocErro
         bitmap_names: Vec::new(alloc),
         calls: call_lists(alloc, number, tasks)?,
         groups: no_groups(alloc, tasks)?,
+        pairs: Vec::new(alloc),
         assets: no_assets(alloc),
     }))
 }

@@ -1,5 +1,6 @@
 -- The final state of a run, and its report, have the damage that the history tells.
-use Rattle.std.proofs.Common.{◌≡◌, ℕ, ◌<◌, ◌≤◌, false, List, [], ◌∷◌, ◌++◌, length, All, Option, Some, None, IsTrue, refl, sym, ap, subst, ⊎_elim}
+use Rattle.std.proofs.Common.{◌≡◌, ℕ, ◌<◌, ◌≤◌, false, List, [], ◌∷◌, ◌++◌, length, All, Option, Some, None, IsTrue, refl, sym}
+use Rattle.std.proofs.Common.{ap, subst, ⊎_elim}
 use Rattle.std.specs.Prelude.{map}
 use Rattle.std.specs.List.{slice_get, range_with_len}
 use Rattle.std.proofs.lemmas.Bool.{cases_lt}
@@ -42,23 +43,30 @@ task_fits plan task is = ⊎_elim inside outside (cases_lt task (length plan.cal
     outside past = subst Fits (sym (get_or_past plan.calls task [] past)) (All-nil (λ c. IsTrue (call_fits plan.sizes c)))
 
 -- the call of each entry of a history fits
-pub entries_fit : (plan : Plan) (past : List Entry) (order : List ℕ) → IsPlan plan → All (λ e. IsTrue (call_fits plan.sizes e.call)) (entries plan past order)
+pub entries_fit : (plan : Plan) (past : List Entry) (order : List ℕ) → IsPlan plan
+    → All (λ e. IsTrue (call_fits plan.sizes e.call)) (entries plan past order)
 entries_fit plan past [] is = All-nil (λ e. IsTrue (call_fits plan.sizes e.call))
 entries_fit plan past (task ∷ tasks) is =
     let next = next_entry task (count_of task past) (slice_get (task_calls plan task) (count_of task past)) in
     All-append (λ e. IsTrue (call_fits plan.sizes e.call)) next (entries plan (past ++ next) tasks)
     (fits_next (slice_get (task_calls plan task) (count_of task past)) refl) (entries_fit plan (past ++ next) tasks is)
   where
-    fits_next : (o : Option Call) → slice_get (task_calls plan task) (count_of task past) ≡ o → All (λ e. IsTrue (call_fits plan.sizes e.call)) (next_entry task (count_of task past) o)
+    fits_next : (o : Option Call) → slice_get (task_calls plan task) (count_of task past) ≡ o
+        → All (λ e. IsTrue (call_fits plan.sizes e.call)) (next_entry task (count_of task past) o)
     fits_next None at_none = All-nil (λ e. IsTrue (call_fits plan.sizes e.call))
     fits_next (Some c) at_some =
         let n = count_of task past in
         let cs = task_calls plan task in
-        let fits : IsTrue (call_fits plan.sizes c) = subst (λ q. IsTrue (call_fits plan.sizes q)) (get_or_from_slice_get cs n c c at_some) (All-get_or (λ q. IsTrue (call_fits plan.sizes q)) cs n c (slice_get_within cs n c at_some) (task_fits plan task is)) in
+        let fits : IsTrue (call_fits plan.sizes c) =
+        subst (λ q. IsTrue (call_fits plan.sizes q)) (get_or_from_slice_get cs n c c at_some)
+        (All-get_or (λ q. IsTrue (call_fits plan.sizes q)) cs n c (slice_get_within cs n c at_some) (task_fits plan task is))
+        in
         All-cons (λ e. IsTrue (call_fits plan.sizes e.call)) _ [] fits (All-nil (λ e. IsTrue (call_fits plan.sizes e.call)))
 
 -- the damage of a layer, by its kind
-damage_told : (hurt : Hurts) (s : ℕ) (l : Layer) (k : Kind) → l.kind ≡ k → (l.kind ≡ Simple → (x y : ℕ) → at false l.damage x y ≡ hurt s x y) → damage_set l ≡ damage_as k (hurt_set hurt s l) (damage_set l)
+damage_told : (hurt : Hurts) (s : ℕ) (l : Layer) (k : Kind) → l.kind ≡ k
+    → (l.kind ≡ Simple → (x y : ℕ) → at false l.damage x y ≡ hurt s x y)
+    → damage_set l ≡ damage_as k (hurt_set hurt s l) (damage_set l)
 unfolding damage_set
 damage_told hurt s l Simple is told =
     let marks : at false l.damage ≡ hurt s = λ i. λ x y. told is x y i in
@@ -67,7 +75,8 @@ damage_told hurt s l Smart is told = refl
 damage_told hurt s l SuperBitmap is told = refl
 
 -- what is seen of a slot
-seen_told : (d : Desk) (hurt : Hurts) → IsTold d hurt → (s : ℕ) (x : Slot) → d.slot s ≡ x → seen_of d s x ≡ seen_by_history d hurt s x
+seen_told : (d : Desk) (hurt : Hurts) → IsTold d hurt → (s : ℕ) (x : Slot) → d.slot s ≡ x
+    → seen_of d s x ≡ seen_by_history d hurt s x
 seen_told d hurt told s Unopened is = refl
 seen_told d hurt told s (Live l) is =
     ap (λ (set : List Pixel). Some (record { visible = bands (shown_set d s); damage = bands set; messages = port_of l.window }))
@@ -87,7 +96,9 @@ runs_tell_damage plan hooks order is = record { last = last; text = ap (report p
     end = machine d es
 
     told : IsTold end (is_hurt d es)
-    told s l x y at_slot simple = damage_is_history plan.sizes plan.assets (shelf_of hooks) es s l x y is.limits (entries_fit plan [] order is) at_slot simple
+    told s l x y at_slot simple =
+        damage_is_history plan.sizes plan.assets (shelf_of hooks) es s l x y is.limits
+        (entries_fit plan [] order is) at_slot simple
 
     here : ℕ → Option Seen
     here s = seen_of end s (end.slot s)
@@ -99,4 +110,5 @@ runs_tell_damage plan hooks order is = record { last = last; text = ap (report p
     seen = λ i. λ s. seen_told end (is_hurt d es) told s (end.slot s) refl i
 
     last : run_final plan hooks order ≡ final_by_history plan hooks order
-    last = ap (λ (f : ℕ → Option Seen). record (run_final plan hooks order) { slots = map f (range_with_len 0 end.sizes.slots) }) seen
+    last = ap
+        (λ (f : ℕ → Option Seen). record (run_final plan hooks order) { slots = map f (range_with_len 0 end.sizes.slots) }) seen

@@ -24,7 +24,8 @@ guarded false true v entails same = same refl
 guarded false false v entails same = refl
 
 -- a changed slot's layer was there before the change
-pub live_before : (change : Layer → Layer) (x : Slot) (m : Layer) → change_layer change x ≡ Live m → (l : Layer) × (x ≡ Live l) × (m ≡ change l)
+pub live_before : (change : Layer → Layer) (x : Slot) (m : Layer) → change_layer change x ≡ Live m
+    → (l : Layer) × (x ≡ Live l) × (m ≡ change l)
 live_before change Unopened m is = absurd (cc)
 live_before change (Live l) m is = (l, refl, cc)
 live_before change Closed m is = absurd (cc)
@@ -35,10 +36,12 @@ pub record IsChanged (d : Desk) (slot : ℕ) (change : Layer → Layer) (s : ℕ
   pub was : d.slot s ≡ Live layer
   pub is : m ≡ (if slot == s then change layer else layer)
 
-pub one_changed : (d : Desk) (slot : ℕ) (change : Layer → Layer) (s : ℕ) (m : Layer) → (on_layer d slot change).slot s ≡ Live m → IsChanged d slot change s m
+pub one_changed : (d : Desk) (slot : ℕ) (change : Layer → Layer) (s : ℕ) (m : Layer) → (on_layer d slot change).slot s ≡ Live m
+    → IsChanged d slot change s m
 one_changed d slot change s m = go (s == slot) refl
   where
-    go : (b : Bool) → (s == slot) ≡ b → (if b then change_layer change (d.slot slot) else d.slot s) ≡ Live m → IsChanged d slot change s m
+    go : (b : Bool) → (s == slot) ≡ b → (if b then change_layer change (d.slot slot) else d.slot s) ≡ Live m
+        → IsChanged d slot change s m
     go true e is =
         let same : s ≡ slot = eqb-true s slot e in
         let at_slot : change_layer change (d.slot s) ≡ Live m = ap (λ k. change_layer change (d.slot k)) same ∙ is in
@@ -57,12 +60,16 @@ damage_of_either true l m has = has
 damage_of_either false l m has = record { kind = refl; damage = refl }
 
 -- where the layer of a slot was changed so that its kind and its damage stayed, what is damaged is what was hurt
-pub same_damage : (d : Desk) (hurt : Hurts) → IsTold d hurt → (slot : ℕ) (change : Layer → Layer) → ((l : Layer) → HasDamageOf l (change l)) → (s : ℕ) (m : Layer) (x y : ℕ) (v : Slot → Bool) → ((l : Layer) → v (Live l) ≡ hurt s x y) → (on_layer d slot change).slot s ≡ Live m → m.kind ≡ Simple → at false m.damage x y ≡ v (d.slot s)
+pub same_damage : (d : Desk) (hurt : Hurts) → IsTold d hurt → (slot : ℕ) (change : Layer → Layer)
+    → ((l : Layer) → HasDamageOf l (change l)) → (s : ℕ) (m : Layer) (x y : ℕ) (v : Slot → Bool)
+    → ((l : Layer) → v (Live l) ≡ hurt s x y) → (on_layer d slot change).slot s ≡ Live m → m.kind ≡ Simple
+    → at false m.damage x y ≡ v (d.slot s)
 same_damage d hurt told slot change leaves s m x y v live is simple =
     let c = one_changed d slot change s m is in
     let has = damage_of_either (slot == s) c.layer (change c.layer) (leaves c.layer) in
     let kind : c.layer.kind ≡ Simple = sym has.kind ∙ (ap (λ q. q.kind) (sym c.is) ∙ simple) in
-    ap (λ (q : Layer). at false q.damage x y) c.is ∙ (ap (λ q. at false q x y) has.damage ∙ (told s c.layer x y c.was kind ∙ (sym (live c.layer) ∙ ap v (sym c.was))))
+    ap (λ (q : Layer). at false q.damage x y) c.is ∙
+    (ap (λ q. at false q x y) has.damage ∙ (told s c.layer x y c.was kind ∙ (sym (live c.layer) ∙ ap v (sym c.was))))
 
 -- a pixel of the inner rectangle lies in the layer
 pub inner_lies : (framed : Bool) (w h x y : ℕ) → in_inner framed w h x y ≡ true → (x < w) × (y < h)

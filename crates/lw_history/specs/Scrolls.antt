@@ -5,9 +5,9 @@ use Rattle.lw_region.specs.Rectangle.{Rectangle, has_pixel}
 use Rattle.lw_machine.specs.Layer.{Layer}
 use Rattle.lw_machine.specs.Kept.{in_bits, is_kept, is_drawable, holds_at}
 
--- What is hurt at the pixel (x, y) of a layer after a ScrollRaster by (dx, dy) of the rectangle, before which the layer was l, if the
--- layer then keeps the pixel in its inner rectangle. A drawable pixel of the rectangle for which the pixel at (x + dx, y + dy) lies
--- in the rectangle and in the layer too is hurt where that one wasn't kept, or was hurt. Any other is hurt as before.
+-- What is hurt at the pixel (x, y) of a layer after a ScrollRaster by (dx, dy) of the rectangle, before which the layer was l, if
+-- the layer then keeps the pixel in its inner rectangle. A drawable pixel of the rectangle for which the pixel at (x + dx, y +
+-- dy) lies in the rectangle and in the layer too is hurt where that one wasn't kept, or was hurt. Any other is hurt as before.
 abbrev pub hurt_by_scroll : (ℕ → ℕ → Bool) → ℤ → ℤ → Rectangle → Layer → (ℕ → ℕ → Bool) → ℕ → ℕ → Bool
 hurt_by_scroll visible dx dy rect l hurt x y =
     let column = pos x +ℤ dx in

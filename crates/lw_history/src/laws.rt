@@ -11,9 +11,9 @@ pub fn the_last_entry_tells()
     ensures { TheLastEntryTells }
 {}
 
-/// What a ScrollRaster leaves hurt of its layer, at pixels that the layer then keeps in its inner rectangle: a drawable pixel of the
-/// rectangle to which a pixel of the rectangle and of the layer is brought is hurt where that one wasn't kept or was hurt, and any
-/// other as before.
+/// What a ScrollRaster leaves hurt of its layer, at pixels that the layer then keeps in its inner rectangle: a drawable pixel of
+/// the rectangle to which a pixel of the rectangle and of the layer is brought is hurt where that one wasn't kept or was hurt,
+/// and any other as before.
 pub fn scrolls_hurt_what_they_bring()
     ensures { ScrollsHurtWhatTheyBring }
 {}

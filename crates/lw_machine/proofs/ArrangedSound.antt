@@ -1,5 +1,6 @@
 -- Each arrangement that isn't refused arranges a sound desk as it should be.
-use Rattle.std.proofs.Common.{◌≡◌, ℕ, ◌==◌, Bool, true, false, ◌&&◌, List, ◌∷◌, Option, Some, None, option_and_then, refl, sym, ap, subst, ◌∙◌, arith}
+use Rattle.std.proofs.Common.{◌≡◌, ℕ, ◌==◌, Bool, true, false, ◌&&◌, List, ◌∷◌, Option, Some, None, option_and_then, refl, sym}
+use Rattle.std.proofs.Common.{ap, subst, ◌∙◌, arith}
 use Rattle.std.specs.Prelude.{if◌then◌else◌}
 use Rattle.std.proofs.lemmas.Bool.{eqb-true, false≢true}
 use Rattle.lw_region.specs.Rectangle.{Rectangle}
@@ -13,7 +14,8 @@ use Rattle.lw_calls.specs.Orders.{occurrences}
 use Rattle.lw_machine.specs.Step.{may_change_bounds}
 use Rattle.lw_machine.specs.Sound.{IsKeeping, IsPlaced, IsSlot, IsDesk, backdrops_last}
 use Rattle.lw_machine.proofs.LayerCallSound.{active_stays, kept_same}
-use Rattle.lw_machine.proofs.ListSound.{occurrences_put_before, occurrences_without_other, occurrences_moved, last_without, last_front, last_before_backdrops, last_before_one}
+use Rattle.lw_machine.proofs.ListSound.{occurrences_put_before, occurrences_without_other, occurrences_moved, last_without}
+use Rattle.lw_machine.proofs.ListSound.{last_front, last_before_backdrops, last_before_one}
 use Rattle.lw_machine.proofs.RevealSound.{may_at}
 use Rattle.lw_machine.proofs.SettledSound.{IsReadySlot, IsArranged}
 
@@ -75,7 +77,8 @@ desk_arranged d ok =
     }
 
 -- with the same slots in another order, all backdrops last, a desk is arranged as it should be
-pub reordered : (d : Desk) (order : List ℕ) → IsArranged d → ((t : ℕ) → occurrences t order ≡ occurrences t d.front_to_back) → backdrops_last (has_backdrop d) order ≡ true → IsArranged (record d { front_to_back = order })
+pub reordered : (d : Desk) (order : List ℕ) → IsArranged d → ((t : ℕ) → occurrences t order ≡ occurrences t d.front_to_back)
+    → backdrops_last (has_backdrop d) order ≡ true → IsArranged (record d { front_to_back = order })
 reordered d order ok same last =
     record {
       limits = ok.limits;
@@ -91,38 +94,59 @@ once : (d : Desk) (s : ℕ) → IsArranged d → is_live (d.slot s) ≡ true →
 once d s ok live = ok.listed s ∙ ap (λ b. if b then 1 else 0) live
 
 -- put elsewhere, each slot stands in the list as often as before
-moved : (d : Desk) (test : ℕ → Bool) (s t : ℕ) → IsArranged d → is_live (d.slot s) ≡ true → occurrences t (put_before test s (without s d.front_to_back)) ≡ occurrences t d.front_to_back
+moved : (d : Desk) (test : ℕ → Bool) (s t : ℕ) → IsArranged d → is_live (d.slot s) ≡ true
+    → occurrences t (put_before test s (without s d.front_to_back)) ≡ occurrences t d.front_to_back
 moved d test s t ok live =
     occurrences_put_before test s t (without s d.front_to_back) ∙ occurrences_moved s t d.front_to_back (once d s ok live)
 
 -- The list with a slot in front, with one before the backdrops, and with one before another.
-pub front_arranged : (d : Desk) (s : ℕ) → IsArranged d → is_live (d.slot s) ≡ true → has_backdrop d s ≡ false → IsArranged (record d { front_to_back = s ∷ without s d.front_to_back })
+pub front_arranged : (d : Desk) (s : ℕ) → IsArranged d → is_live (d.slot s) ≡ true → has_backdrop d s ≡ false
+    → IsArranged (record d { front_to_back = s ∷ without s d.front_to_back })
 front_arranged d s ok live other =
     reordered d (s ∷ without s d.front_to_back) ok (λ t. occurrences_moved s t d.front_to_back (once d s ok live))
-    (last_front (has_backdrop d) s (without s d.front_to_back) other (last_without (has_backdrop d) s d.front_to_back ok.backdrops))
+    (last_front (has_backdrop d) s (without s d.front_to_back) other
+    (last_without (has_backdrop d) s d.front_to_back ok.backdrops))
 
-pub back_arranged : (d : Desk) (s : ℕ) → IsArranged d → is_live (d.slot s) ≡ true → IsArranged (record d { front_to_back = put_before (has_backdrop d) s (without s d.front_to_back) })
+pub back_arranged : (d : Desk) (s : ℕ) → IsArranged d → is_live (d.slot s) ≡ true
+    → IsArranged (record d { front_to_back = put_before (has_backdrop d) s (without s d.front_to_back) })
 back_arranged d s ok live =
     reordered d (put_before (has_backdrop d) s (without s d.front_to_back)) ok (λ t. moved d (has_backdrop d) s t ok live)
-    (last_before_backdrops (has_backdrop d) s (without s d.front_to_back) (last_without (has_backdrop d) s d.front_to_back ok.backdrops))
+    (last_before_backdrops (has_backdrop d) s (without s d.front_to_back)
+    (last_without (has_backdrop d) s d.front_to_back ok.backdrops))
 
-pub before_arranged : (d : Desk) (s m : ℕ) → IsArranged d → is_live (d.slot s) ≡ true → is_live (d.slot m) ≡ true → has_backdrop d s ≡ false → has_backdrop d m ≡ false → IsArranged (if s == m then d else record d { front_to_back = put_before (λ t. t == m) s (without s d.front_to_back) })
+pub before_arranged : (d : Desk) (s m : ℕ) → IsArranged d → is_live (d.slot s) ≡ true → is_live (d.slot m) ≡ true
+    → has_backdrop d s ≡ false → has_backdrop d m ≡ false
+    → IsArranged (if s == m then d else record d { front_to_back = put_before (λ t. t == m) s (without s d.front_to_back) })
 before_arranged d s m ok live other_live plain other_plain = go (s == m) refl
   where
-    go : (b : Bool) → (s == m) ≡ b → IsArranged (if b then d else record d { front_to_back = put_before (λ t. t == m) s (without s d.front_to_back) })
+    go : (b : Bool) → (s == m) ≡ b
+        → IsArranged (if b then d else record d { front_to_back = put_before (λ t. t == m) s (without s d.front_to_back) })
     go true e = ok
     go false e =
-        let there : occurrences m (without s d.front_to_back) ≡ 1 = occurrences_without_other s m d.front_to_back e ∙ once d m ok other_live in
+        let there : occurrences m (without s d.front_to_back) ≡ 1 =
+        occurrences_without_other s m d.front_to_back e ∙ once d m ok other_live in
         reordered d (put_before (λ t. t == m) s (without s d.front_to_back)) ok (λ t. moved d (λ u. u == m) s t ok live)
-        (last_before_one (has_backdrop d) s m (without s d.front_to_back) plain other_plain (omega (arith, there)) (last_without (has_backdrop d) s d.front_to_back ok.backdrops))
+        (last_before_one (has_backdrop d) s m (without s d.front_to_back) plain other_plain (omega (arith, there))
+        (last_without (has_backdrop d) s d.front_to_back ok.backdrops))
 
 -- Another live window is active.
-pub activated : (d : Desk) (s : ℕ) → IsArranged d → layer_is (λ l. is_window l.window) (d.slot s) ≡ true → IsArranged (record d { active = Some s })
+pub activated : (d : Desk) (s : ℕ) → IsArranged d → layer_is (λ l. is_window l.window) (d.slot s) ≡ true
+    → IsArranged (record d { active = Some s })
 activated d s ok window =
-    record { limits = ok.limits; beyond = ok.beyond; listed = ok.listed; backdrops = ok.backdrops; slots = ok.slots; active = window }
+    record {
+      limits =
+          ok.limits;
+      beyond = ok.beyond;
+      listed = ok.listed;
+      backdrops = ok.backdrops;
+      slots = ok.slots;
+      active = window;
+    }
 
 -- a slot whose layer may have its bounds changed so is ready for it
-ready_changed : (d : Desk) (s : ℕ) (change : Rectangle → Rectangle) (b : Option Rectangle) (x : Slot) → d.slot s ≡ x → IsReadySlot d.sizes b x → may_change_bounds d s change b ≡ true → IsReadySlot d.sizes (option_and_then (λ r. Some (change r)) b) x
+ready_changed : (d : Desk) (s : ℕ) (change : Rectangle → Rectangle) (b : Option Rectangle) (x : Slot) → d.slot s ≡ x
+    → IsReadySlot d.sizes b x → may_change_bounds d s change b ≡ true
+    → IsReadySlot d.sizes (option_and_then (λ r. Some (change r)) b) x
 ready_changed d s change None x is ready may = absurd (false≢true may)
 ready_changed d s change (Some r) Unopened is ready may = absurd (cc)
 ready_changed d s change (Some r) (Live l) is ready may =
@@ -138,7 +162,8 @@ ready_changed d s change (Some r) (Live l) is ready may =
 ready_changed d s change (Some r) Closed is ready may = absurd (cc)
 
 -- Bounds changed as a layer may have them.
-pub bounds_arranged : (d : Desk) (s : ℕ) (change : Rectangle → Rectangle) → IsArranged d → may_change_bounds d s change (d.bounds s) ≡ true → IsArranged (change_bounds d s change)
+pub bounds_arranged : (d : Desk) (s : ℕ) (change : Rectangle → Rectangle) → IsArranged d
+    → may_change_bounds d s change (d.bounds s) ≡ true → IsArranged (change_bounds d s change)
 bounds_arranged d s change ok may =
     record {
       limits = ok.limits;
@@ -149,7 +174,8 @@ bounds_arranged d s change ok may =
       active = active_stays d (change_bounds d s change) d.active (λ t. refl) ok.active;
     }
   where
-    go : (t : ℕ) (b : Bool) → (t == s) ≡ b → IsReadySlot d.sizes (if b then option_and_then (λ r. Some (change r)) (d.bounds s) else d.bounds t) (d.slot t)
+    go : (t : ℕ) (b : Bool) → (t == s) ≡ b
+        → IsReadySlot d.sizes (if b then option_and_then (λ r. Some (change r)) (d.bounds s) else d.bounds t) (d.slot t)
     go t true e =
         subst (λ k. IsReadySlot d.sizes (option_and_then (λ r. Some (change r)) (d.bounds s)) (d.slot k)) (sym (eqb-true t s e))
         (ready_changed d s change (d.bounds s) (d.slot s) refl (ok.slots s) may)

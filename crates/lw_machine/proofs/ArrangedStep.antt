@@ -1,18 +1,18 @@
 -- An arrangement that isn't refused settles the desk that it arranged.
-use Rattle.std.proofs.Common.{◌≡◌, ℕ, ◌==◌, None, refl, ap, ◌∙◌}
+use Rattle.std.proofs.Common.{◌≡◌, ℕ, true, None, refl, ap, ◌∙◌}
+use Rattle.std.proofs.lemmas.Bool.{false≢true}
 use Rattle.lw_calls.specs.declared.call.Call.{Call}
-use Rattle.lw_calls.specs.declared.call.Call.TheVariants.{Create, OpenWindow, Close, ToFront, ToBack, InFrontOf, MoveBy, SizeBy, SetBox, Activate, Blit}
-use Rattle.lw_calls.specs.declared.touch.CallClass.TheVariants.{OnAll}
-use Rattle.lw_calls.specs.Touches.{class_of, slots_in}
-use Rattle.lw_calls.specs.Plan.{is_all}
-use Rattle.lw_calls.proofs.BlitClass.{blit_not_all}
+use Rattle.lw_calls.specs.declared.call.Call.TheVariants.{Create, OpenWindow, Close, ToFront, ToBack, InFrontOf, MoveBy, SizeBy}
+use Rattle.lw_calls.specs.declared.call.Call.TheVariants.{SetBox, Activate}
+use Rattle.lw_calls.specs.Touches.{is_arrangement}
 use Rattle.lw_machine.specs.Desk.{Desk}
 use Rattle.lw_machine.specs.Arrangement.{arranged}
 use Rattle.lw_machine.specs.Reveal.{settled}
 use Rattle.lw_machine.specs.Step.{refusal, effect, after, changed_unless}
 
 -- what an arrangement does
-pub effect_is : (d : Desk) (task : ℕ) (call : Call) → class_of call ≡ OnAll → effect d task call ≡ settled d (arranged d task call)
+pub effect_is : (d : Desk) (task : ℕ) (call : Call) → is_arrangement call ≡ true
+    → effect d task call ≡ settled d (arranged d task call)
 effect_is d task (Create slot make) all = refl
 effect_is d task (OpenWindow slot make framed nocare asks title) all = refl
 effect_is d task (Close slot) all = refl
@@ -23,10 +23,10 @@ effect_is d task (MoveBy slot dx dy) all = refl
 effect_is d task (SizeBy slot dw dh) all = refl
 effect_is d task (SetBox slot x y w h) all = refl
 effect_is d task (Activate slot) all = refl
-effect_is d task (Blit source slot area) all = absurd (blit_not_all (source == slot) source slot (ap (λ k. is_all (slots_in k)) all))
-effect_is d task call all = absurd (cc all)
+effect_is d task call all = absurd (false≢true all)
 
 -- the desk after it
-pub after_is : (d : Desk) (task : ℕ) (call : Call) → class_of call ≡ OnAll → refusal d task call ≡ None → after d task call ≡ settled d (arranged d task call)
+pub after_is : (d : Desk) (task : ℕ) (call : Call) → is_arrangement call ≡ true → refusal d task call ≡ None
+    → after d task call ≡ settled d (arranged d task call)
 unfolding after
 after_is d task call all done = ap (λ o. changed_unless o d (effect d task call)) done ∙ effect_is d task call all

@@ -47,16 +47,21 @@ choice_false false p q n e h = h
 choice_false true p q n e h = absurd (cc)
 
 -- a layer that paints kept pixels alone, with pens in its planes, goes on keeping what it should
-pub painted_keeping : (depth : ℕ) (visible : ℕ → ℕ → Bool) (on : ℕ → ℕ → Bool) (pen : ℕ → ℕ → ℕ) (l : Layer) → IsKeeping depth visible l → ((x y : ℕ) → on x y ≡ true → is_kept visible l x y ≡ true) → ((x y : ℕ) → pen x y < 2 ^ l.bits.depth) → IsKeeping depth visible (with_pens on pen l)
+pub painted_keeping : (depth : ℕ) (visible : ℕ → ℕ → Bool) (on : ℕ → ℕ → Bool) (pen : ℕ → ℕ → ℕ) (l : Layer)
+    → IsKeeping depth visible l → ((x y : ℕ) → on x y ≡ true → is_kept visible l x y ≡ true)
+    → ((x y : ℕ) → pen x y < 2 ^ l.bits.depth) → IsKeeping depth visible (with_pens on pen l)
 unfolding with_pens is_kept
 painted_keeping depth visible on pen l k kept small =
     record {
       bitmap = IsBitmap_bitmap l.bits.width l.bits.height l.bits.depth (λ x y. if on x y then pen x y else pen_at l.bits x y)
-          (λ x y left low. chosen_small (on x y) (pen x y) (pen_at l.bits x y) (2 ^ l.bits.depth) (small x y) (k.bitmap.pens x y left low));
+          (λ x y left low. chosen_small (on x y) (pen x y) (pen_at l.bits x y) (2 ^ l.bits.depth) (small x y)
+          (k.bitmap.pens x y left low));
       planes = k.planes;
       frameless = k.frameless;
-      off_kept = λ x y off. grid_at_default l.bits.width l.bits.height (λ a b. if on a b then pen a b else pen_at l.bits a b) 0 x y
-          (choice_false (on x y) (pen x y) (pen_at l.bits x y) 0 (false_below (on x y) (is_kept visible l x y) (kept x y) off) (k.off_kept x y off));
+      off_kept =
+          λ x y off. grid_at_default l.bits.width l.bits.height (λ a b. if on a b then pen a b else pen_at l.bits a b) 0 x y
+          (choice_false (on x y) (pen x y) (pen_at l.bits x y) 0 (false_below (on x y) (is_kept visible l x y) (kept x y) off)
+          (k.off_kept x y off));
       damage_kept = k.damage_kept;
       damage_inner = k.damage_inner;
     }
@@ -99,7 +104,9 @@ unpainted depth visible l k =
     }
 
 -- painting kept pixels alone, with pens in the layer's planes
-pub is_painted : (depth : ℕ) (visible : ℕ → ℕ → Bool) (on : ℕ → ℕ → Bool) (pen : ℕ → ℕ → ℕ) (l : Layer) → IsKeeping depth visible l → ((x y : ℕ) → on x y ≡ true → is_kept visible l x y ≡ true) → ((x y : ℕ) → pen x y < 2 ^ l.bits.depth) → IsPainted depth visible l (with_pens on pen l)
+pub is_painted : (depth : ℕ) (visible : ℕ → ℕ → Bool) (on : ℕ → ℕ → Bool) (pen : ℕ → ℕ → ℕ) (l : Layer)
+    → IsKeeping depth visible l → ((x y : ℕ) → on x y ≡ true → is_kept visible l x y ≡ true)
+    → ((x y : ℕ) → pen x y < 2 ^ l.bits.depth) → IsPainted depth visible l (with_pens on pen l)
 unfolding with_pens
 is_painted depth visible on pen l k kept small =
     record {
@@ -124,13 +131,19 @@ pub pen_within_lt : (depth pen : ℕ) → pen_within depth pen < 2 ^ depth
 pen_within_lt depth pen = pen_of_lt depth (λ k. bit_at pen k) (λ k h. bit_at-lt pen k)
 
 -- the frame of a window is painted on kept pixels alone, with pens in the layer's planes
-pub frame_painted : (depth : ℕ) (visible : ℕ → ℕ → Bool) (kept : ℕ → ℕ → Bool) (glyphs : List (List ℕ)) (active : Bool) (l : Layer) → IsKeeping depth visible l → ((x y : ℕ) → kept x y ≡ true → is_kept visible l x y ≡ true) → IsPainted depth visible l (with_frame glyphs kept active l)
+pub frame_painted : (depth : ℕ) (visible : ℕ → ℕ → Bool) (kept : ℕ → ℕ → Bool) (glyphs : List (List ℕ)) (active : Bool)
+    (l : Layer) → IsKeeping depth visible l → ((x y : ℕ) → kept x y ≡ true → is_kept visible l x y ≡ true)
+    → IsPainted depth visible l (with_frame glyphs kept active l)
 frame_painted depth visible kept glyphs active l k is =
     go l.window
   where
-    due : (title : List ℕ) (b : Bool) → IsPainted depth visible l (if b then with_pens (λ x y. kept x y && in_frame l.bits.width l.bits.height x y) (λ x y. pen_within l.bits.depth (framing_pen glyphs title active l.bits.width x y)) l else l)
+    due : (title : List ℕ) (b : Bool)
+        → IsPainted depth visible l
+        (if b then with_pens (λ x y. kept x y && in_frame l.bits.width l.bits.height x y)
+        (λ x y. pen_within l.bits.depth (framing_pen glyphs title active l.bits.width x y)) l else l)
     due title true =
-        is_painted depth visible _ _ l k (λ x y on. is x y ((and_parts (kept x y) _ on).0)) (λ x y. pen_within_lt l.bits.depth (framing_pen glyphs title active l.bits.width x y))
+        is_painted depth visible _ _ l k (λ x y on. is x y ((and_parts (kept x y) _ on).0))
+        (λ x y. pen_within_lt l.bits.depth (framing_pen glyphs title active l.bits.width x y))
     due title false = unpainted depth visible l k
 
     go : (o : Option Window) → IsPainted depth visible l (framed_by glyphs kept active o l)

@@ -13,8 +13,7 @@ use Rattle.lw_calls.specs.Assets.{Assets}
 use Rattle.lw_calls.specs.Limits.{IsWithinLimits, call_fits}
 use Rattle.lw_machine.specs.Arrangement.{without, put_before}
 use Rattle.lw_machine.specs.Step.{refusal, changed_unless, effect, after}
-use Rattle.lw_calls.specs.Touches.{slots_of}
-use Rattle.lw_calls.specs.Plan.{is_all}
+use Rattle.lw_calls.specs.Touches.{is_arrangement}
 use Rattle.lw_machine.specs.History.{machine}
 use Rattle.lw_machine.specs.Sound.{IsDesk}
 use Rattle.lw_machine.specs.Laws.{ReachedDesksAreSound}
@@ -22,7 +21,8 @@ use Rattle.lw_machine.proofs.ArrangementSound.{arrangement_sound}
 use Rattle.lw_machine.proofs.LayerCallSound.{layer_call_sound}
 
 -- a desk before the first call is sound
-empty_sound : (sizes : Sizes) (assets : Assets) (shelf : ℕ → Option Hook) → IsWithinLimits sizes → IsDesk (empty_desk sizes assets shelf)
+empty_sound : (sizes : Sizes) (assets : Assets) (shelf : ℕ → Option Hook) → IsWithinLimits sizes
+    → IsDesk (empty_desk sizes assets shelf)
 empty_sound sizes assets shelf limits =
     record {
       limits = limits;
@@ -40,7 +40,9 @@ same_sizes false d e same = same
 
 -- no call changes the sizes
 effect_sizes : (d : Desk) (task : ℕ) (call : Call) → (effect d task call).sizes ≡ d.sizes
-effect_sizes d task (InFrontOf slot other) = same_sizes (slot == other) d (record d { front_to_back = put_before (λ t. t == other) slot (without slot d.front_to_back) }) refl
+effect_sizes d task (InFrontOf slot other) =
+    same_sizes (slot == other) d
+    (record d { front_to_back = put_before (λ t. t == other) slot (without slot d.front_to_back) }) refl
 effect_sizes d task call = refl
 
 unless_refused_sizes : (o : Option Reply) (d e : Desk) → e.sizes ≡ d.sizes → (changed_unless o d e).sizes ≡ d.sizes
@@ -53,20 +55,22 @@ after_sizes d task call = unless_refused_sizes (refusal d task call) d (effect d
 
 -- A call that fits leaves a sound desk sound.
 pub step_sound : (d : Desk) (task : ℕ) (call : Call) → IsDesk d → IsTrue (call_fits d.sizes call) → IsDesk (after d task call)
-step_sound d task call ok fits = go (is_all (slots_of call)) refl
+step_sound d task call ok fits = go (is_arrangement call) refl
   where
-    go : (b : Bool) → is_all (slots_of call) ≡ b → IsDesk (after d task call)
+    go : (b : Bool) → is_arrangement call ≡ b → IsDesk (after d task call)
     go true e = arrangement_sound d task call ok fits e
     go false e = layer_call_sound d task call ok fits e
 
 -- after each step of a history the desk is sound
-pub machine_sound : (es : List Entry) (d : Desk) → IsDesk d → All (λ e. IsTrue (call_fits d.sizes e.call)) es → IsDesk (machine d es)
+pub machine_sound : (es : List Entry) (d : Desk) → IsDesk d → All (λ e. IsTrue (call_fits d.sizes e.call)) es
+    → IsDesk (machine d es)
 machine_sound [] d ok fit = ok
 machine_sound (e ∷ es) d ok fit =
     let fits : IsTrue (call_fits d.sizes e.call) = All-head (λ e. IsTrue (call_fits d.sizes e.call)) e es fit in
     let rest : All (λ e. IsTrue (call_fits d.sizes e.call)) es = All-tail (λ e. IsTrue (call_fits d.sizes e.call)) e es fit in
     let P : Sizes → Type 0 = λ sizes. All (λ e. IsTrue (call_fits sizes e.call)) es in
-    machine_sound es (after d e.task e.call) (step_sound d e.task e.call ok fits) (subst P (sym (after_sizes d e.task e.call)) rest)
+    machine_sound es (after d e.task e.call) (step_sound d e.task e.call ok fits)
+    (subst P (sym (after_sizes d e.task e.call)) rest)
 
 -- Every desk that a history of calls that fit reaches is sound.
 pub reached_sound : ReachedDesksAreSound

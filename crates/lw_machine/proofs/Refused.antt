@@ -4,13 +4,14 @@ use Rattle.std.proofs.lemmas.Bool.{false≢true}
 use Rattle.lw_region.specs.Pixels.{Pixel}
 use Rattle.lw_calls.specs.declared.message.Message.{Message}
 use Rattle.lw_calls.specs.declared.call.Call.{Call}
-use Rattle.lw_calls.specs.declared.call.Call.TheVariants.{RegRect, RegPair, RegClear, Create, OpenWindow, Close, ToFront, ToBack, InFrontOf, MoveBy, SizeBy, SetBox, Activate, Which, SetA, SetB, SetMode, SetMask, At, WritePixel, ReadPixel, Fill, DrawTo, Letters, SetRast, ScrollRaster, Put, Blit, Clip, Unclip, BeginRefresh, EndRefresh, Scroll, SetTitle, TakeMessage}
+use Rattle.lw_calls.specs.declared.call.Call.TheVariants.{Which, WritePixel, ReadPixel, Clip, Unclip, TakeMessage}
 use Rattle.lw_calls.specs.declared.reply.Reply.{Reply}
 use Rattle.lw_calls.specs.declared.reply.Reply.TheVariants.{Done, Pen, Outside}
 use Rattle.lw_machine.specs.Layer.{Layer, Window, Slot, Unopened, Live, Closed}
 use Rattle.lw_machine.specs.Desk.{Desk}
 use Rattle.lw_machine.specs.Screen.{top}
-use Rattle.lw_machine.specs.Step.{refusal, effect, answer, after, reply, changed_unless, reply_or, found, from_layer, clip_answer, window_answer, message_answer}
+use Rattle.lw_machine.specs.Step.{refusal, effect, answer, after, reply, changed_unless, reply_or, found, from_layer, clip_answer}
+use Rattle.lw_machine.specs.Step.{window_answer, message_answer}
 use Rattle.lw_machine.specs.Laws.{is_refusing}
 
 -- a pen that is read, or none, accepts
@@ -56,38 +57,11 @@ answers_accept d task (ReadPixel slot x y) = layer_accepts _ (d.slot slot) (λ l
 answers_accept d task (Clip slot register) = layer_accepts _ (d.slot slot) (λ l. clip_accepts l.clip)
 answers_accept d task (Unclip slot) = layer_accepts _ (d.slot slot) (λ l. clip_accepts l.clip)
 answers_accept d task (TakeMessage slot) = layer_accepts _ (d.slot slot) (λ l. window_accepts l.window)
-answers_accept d task (RegRect op register rect) = refl
-answers_accept d task (RegPair op source into) = refl
-answers_accept d task (RegClear register) = refl
-answers_accept d task (Create slot make) = refl
-answers_accept d task (OpenWindow slot make framed nocare asks title) = refl
-answers_accept d task (Close slot) = refl
-answers_accept d task (ToFront slot) = refl
-answers_accept d task (ToBack slot) = refl
-answers_accept d task (InFrontOf slot other) = refl
-answers_accept d task (MoveBy slot dx dy) = refl
-answers_accept d task (SizeBy slot dw dh) = refl
-answers_accept d task (SetBox slot x y w h) = refl
-answers_accept d task (Activate slot) = refl
-answers_accept d task (SetA slot pen) = refl
-answers_accept d task (SetB slot pen) = refl
-answers_accept d task (SetMode slot mode) = refl
-answers_accept d task (SetMask slot mask) = refl
-answers_accept d task (At slot x y) = refl
-answers_accept d task (Fill slot rect) = refl
-answers_accept d task (DrawTo slot x y) = refl
-answers_accept d task (Letters slot text) = refl
-answers_accept d task (SetRast slot pen) = refl
-answers_accept d task (ScrollRaster slot dx dy rect) = refl
-answers_accept d task (Put bitmap slot area) = refl
-answers_accept d task (Blit source slot area) = refl
-answers_accept d task (BeginRefresh slot) = refl
-answers_accept d task (EndRefresh slot full) = refl
-answers_accept d task (Scroll slot dx dy) = refl
-answers_accept d task (SetTitle slot title) = refl
+answers_accept d task call = refl
 
 -- where the answer accepts and the reply refuses, the call was refused
-by_refusal : (o : Option Reply) (r : Reply) (d e : Desk) → is_refusing r ≡ false → IsTrue (is_refusing (reply_or o r)) → changed_unless o d e ≡ d
+by_refusal : (o : Option Reply) (r : Reply) (d e : Desk) → is_refusing r ≡ false → IsTrue (is_refusing (reply_or o r))
+    → changed_unless o d e ≡ d
 by_refusal None r d e h k = absurd (false≢true (sym h ∙ k))
 by_refusal (Some q) r d e h k = refl
 

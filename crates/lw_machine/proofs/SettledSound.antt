@@ -1,5 +1,6 @@
 -- A desk that is arranged as it should be is sound once its layers are settled.
-use Rattle.std.proofs.Common.{◌≡◌, ℕ, ◌+◌, ◌<◌, ◌≤◌, ◌==◌, Bool, true, false, List, [], ◌∷◌, Option, Some, None, refl, sym, ap, subst, ◌∙◌, arith}
+use Rattle.std.proofs.Common.{◌≡◌, ℕ, ◌+◌, ◌<◌, ◌≤◌, ◌==◌, Bool, true, false, List, [], ◌∷◌, Option, Some, None, refl, sym, ap}
+use Rattle.std.proofs.Common.{subst, ◌∙◌, arith}
 use Rattle.std.specs.Prelude.{if◌then◌else◌}
 use Rattle.std.proofs.lemmas.Bool.{eqb-true, eq-eqb}
 use Rattle.lw_region.specs.Rectangle.{Rectangle}
@@ -34,22 +35,26 @@ pub record IsArranged (a : Desk) : Type 0 where
   pub active : active_is_window a a.active ≡ true
 
 -- what is changed at each number of a list is changed at one that stands in it
-pub changed_in : {A : Type 0} (order : List ℕ) (change : ℕ → A → A) (f : ℕ → A) (s : ℕ) → 0 < occurrences s order → change_each order change f s ≡ change s (f s)
+pub changed_in : {A : Type 0} (order : List ℕ) (change : ℕ → A → A) (f : ℕ → A) (s : ℕ) → 0 < occurrences s order
+    → change_each order change f s ≡ change s (f s)
 changed_in [] change f s has = absurd (omega arith)
 changed_in {A} (n ∷ ns) change f s has = step (s == n) refl (λ more. changed_in ns change f s more)
   where
-    step : (b : Bool) → (s == n) ≡ b → (0 < occurrences s ns → change_each ns change f s ≡ change s (f s)) → (if b then change n (f n) else change_each ns change f s) ≡ change s (f s)
+    step : (b : Bool) → (s == n) ≡ b → (0 < occurrences s ns → change_each ns change f s ≡ change s (f s))
+        → (if b then change n (f n) else change_each ns change f s) ≡ change s (f s)
     step true e h = ap (λ k. change k (f k)) (sym (eqb-true s n e))
     step false e h =
         let rest : 0 < 0 + occurrences s ns = rw (differ_back s n e) at has in
         h (omega (arith, rest))
 
 -- and stays as it is at any other
-changed_out : {A : Type 0} (order : List ℕ) (change : ℕ → A → A) (f : ℕ → A) (s : ℕ) → occurrences s order ≡ 0 → change_each order change f s ≡ f s
+changed_out : {A : Type 0} (order : List ℕ) (change : ℕ → A → A) (f : ℕ → A) (s : ℕ) → occurrences s order ≡ 0
+    → change_each order change f s ≡ f s
 changed_out [] change f s none = refl
 changed_out {A} (n ∷ ns) change f s none = step (s == n) refl (λ rest. changed_out ns change f s rest)
   where
-    step : (b : Bool) → (s == n) ≡ b → (occurrences s ns ≡ 0 → change_each ns change f s ≡ f s) → (if b then change n (f n) else change_each ns change f s) ≡ f s
+    step : (b : Bool) → (s == n) ≡ b → (occurrences s ns ≡ 0 → change_each ns change f s ≡ f s)
+        → (if b then change n (f n) else change_each ns change f s) ≡ f s
     step true e h =
         let same : (n == s) ≡ true = eq-eqb n s (sym (eqb-true s n e)) in
         let one : 1 + occurrences s ns ≡ 0 = rw same at none in
@@ -59,7 +64,9 @@ changed_out {A} (n ∷ ns) change f s none = step (s == n) refl (λ rest. change
         h (omega (arith, rest))
 
 -- where a list has each live slot once, each slot's layer is changed, if it has one
-changed_live : (order : List ℕ) (change : ℕ → Layer → Layer) (f : ℕ → Slot) (s : ℕ) (x : Slot) → f s ≡ x → occurrences s order ≡ (if is_live x then 1 else 0) → change_each order (λ t layer. change_layer (change t) layer) f s ≡ change_layer (change s) x
+changed_live : (order : List ℕ) (change : ℕ → Layer → Layer) (f : ℕ → Slot) (s : ℕ) (x : Slot) → f s ≡ x
+    → occurrences s order ≡ (if is_live x then 1 else 0)
+    → change_each order (λ t layer. change_layer (change t) layer) f s ≡ change_layer (change s) x
 changed_live order change f s Unopened is listed = changed_out order (λ t layer. change_layer (change t) layer) f s listed ∙ is
 changed_live order change f s (Live l) is listed =
     changed_in order (λ t layer. change_layer (change t) layer) f s (omega (arith, listed)) ∙ ap (change_layer (change s)) is
@@ -70,15 +77,18 @@ abbrev slot_after : Desk → Desk → ℕ → Slot → Slot
 slot_after d a s x = change_layer (settled_layer d.assets.glyphs (across d a s)) x
 
 slot_is_after : (d a : Desk) (s : ℕ) → IsArranged a → (settled d a).slot s ≡ slot_after d a s (a.slot s)
-slot_is_after d a s ok = changed_live a.front_to_back (λ t. settled_layer d.assets.glyphs (across d a t)) a.slot s (a.slot s) refl (ok.listed s)
+slot_is_after d a s ok =
+    changed_live a.front_to_back (λ t. settled_layer d.assets.glyphs (across d a t)) a.slot s (a.slot s) refl (ok.listed s)
 
 -- whether a slot has a backdrop layer, or a window, stays the same
-backdrop_after : (d a : Desk) (s : ℕ) (x : Slot) → IsReadySlot a.sizes (a.bounds s) x → layer_is (λ l. l.backdrop) (slot_after d a s x) ≡ layer_is (λ l. l.backdrop) x
+backdrop_after : (d a : Desk) (s : ℕ) (x : Slot) → IsReadySlot a.sizes (a.bounds s) x
+    → layer_is (λ l. l.backdrop) (slot_after d a s x) ≡ layer_is (λ l. l.backdrop) x
 backdrop_after d a s Unopened ready = refl
 backdrop_after d a s (Live l) ready = (layer_settled a.sizes d.assets.glyphs (across d a s) l ready).backdrop
 backdrop_after d a s Closed ready = refl
 
-window_after : (d a : Desk) (s : ℕ) (x : Slot) → IsReadySlot a.sizes (a.bounds s) x → layer_is (λ l. is_window l.window) (slot_after d a s x) ≡ layer_is (λ l. is_window l.window) x
+window_after : (d a : Desk) (s : ℕ) (x : Slot) → IsReadySlot a.sizes (a.bounds s) x
+    → layer_is (λ l. is_window l.window) (slot_after d a s x) ≡ layer_is (λ l. is_window l.window) x
 window_after d a s Unopened ready = refl
 window_after d a s (Live l) ready = (layer_settled a.sizes d.assets.glyphs (across d a s) l ready).window
 window_after d a s Closed ready = refl
@@ -100,7 +110,8 @@ settled_sound d a ok =
     record {
       limits = ok.limits;
       beyond = λ s past. slot_is_after d a s ok ∙ ap (slot_after d a s) (ok.beyond s past);
-      listed = λ s. ok.listed s ∙ ap (λ b. if b then 1 else 0) (sym (ap is_live (slot_is_after d a s ok) ∙ live_stays _ (a.slot s)));
+      listed = λ s. ok.listed s ∙ ap (λ b. if b then 1 else 0)
+          (sym (ap is_live (slot_is_after d a s ok) ∙ live_stays _ (a.slot s)));
       backdrops = last_same (has_backdrop (settled d a)) (has_backdrop a) a.front_to_back (λ s _. backdrop s) ∙ ok.backdrops;
       slots = λ s. subst (IsSlot (settled d a) s) (sym (slot_is_after d a s ok)) (sound_after d a s (a.slot s) (ok.slots s));
       active = active a.active ok.active;
@@ -111,4 +122,5 @@ settled_sound d a ok =
 
     active : (o : Option ℕ) → active_is_window a o ≡ true → active_is_window (settled d a) o ≡ true
     active None h = refl
-    active (Some s) h = (ap (layer_is (λ l. is_window l.window)) (slot_is_after d a s ok) ∙ window_after d a s (a.slot s) (ok.slots s)) ∙ h
+    active (Some s) h =
+        (ap (layer_is (λ l. is_window l.window)) (slot_is_after d a s ok) ∙ window_after d a s (a.slot s) (ok.slots s)) ∙ h

@@ -2,7 +2,9 @@
 use Rattle.std.proofs.Common.{◌≡◌, ℕ, ◌==◌, Bool, true, false, if◌then◌else◌, List, Option, Some, None, refl, arith, true≢false}
 use Rattle.std.proofs.lemmas.Bool.Decides.{nat_tests}
 use Rattle.lw_calls.specs.declared.call.Call.{Call}
-use Rattle.lw_calls.specs.declared.call.Call.TheVariants.{RegRect, RegPair, RegClear, Create, OpenWindow, Close, ToFront, ToBack, InFrontOf, MoveBy, SizeBy, SetBox, Activate, Which, ReadPixel, Blit}
+use Rattle.lw_calls.specs.declared.call.Call.TheVariants.{RegRect, RegPair, RegClear, Create, OpenWindow, Close, ToFront, ToBack}
+use Rattle.lw_calls.specs.declared.call.Call.TheVariants.{InFrontOf, MoveBy, SizeBy, SetBox, Activate, SetHook, Which, ReadPixel}
+use Rattle.lw_calls.specs.declared.call.Call.TheVariants.{Blit}
 use Rattle.lw_calls.specs.declared.reply.Reply.{Reply}
 use Rattle.lw_calls.specs.declared.touch.Role.{Role}
 use Rattle.lw_calls.specs.declared.touch.Role.TheVariants.{Task, Slot as SlotRole, Info}
@@ -24,12 +26,14 @@ elsewhere : {A : Type 0} (n k : ℕ) (v : A) (f : ℕ → A) → (n == k) ≡ fa
 elsewhere n k v f h = rw (differ_back n k h) refl
 
 -- what holds of a settled desk where a slot may be put in front of itself, or not
-pub if_in_front : (P : Desk → Type 0) (d : Desk) (order : List ℕ) (same : Bool) → P (settled d d) → P (settled d (record d { front_to_back = order })) → P (settled d (if same then d else record d { front_to_back = order }))
+pub if_in_front : (P : Desk → Type 0) (d : Desk) (order : List ℕ) (same : Bool) → P (settled d d)
+    → P (settled d (record d { front_to_back = order })) → P (settled d (if same then d else record d { front_to_back = order }))
 if_in_front P d order true h k = h
 if_in_front P d order false h k = k
 
 -- a call leaves the registers of other tasks
-registers_left : (d : Desk) (task : ℕ) (call : Call) (t : ℕ) → (task == t) ≡ false → d.registers t ≡ (effect d task call).registers t
+registers_left : (d : Desk) (task : ℕ) (call : Call) (t : ℕ) → (task == t) ≡ false
+    → d.registers t ≡ (effect d task call).registers t
 registers_left d task (RegRect op register rect) t h = elsewhere task t _ d.registers h
 registers_left d task (RegPair op source into) t h = elsewhere task t _ d.registers h
 registers_left d task (RegClear register) t h = elsewhere task t _ d.registers h
@@ -38,12 +42,14 @@ registers_left d task (InFrontOf slot other) t h =
 registers_left d task call t h = refl
 
 -- a change of one slot leaves the others
-beside : (d : Desk) (slot s : ℕ) (v : Slot) → (slot == s) ≡ false → slot_part d s ≡ slot_part (record d { slot = with_value slot v d.slot }) s
+beside : (d : Desk) (slot s : ℕ) (v : Slot) → (slot == s) ≡ false
+    → slot_part d s ≡ slot_part (record d { slot = with_value slot v d.slot }) s
 unfolding top
 beside d slot s v h = rw (differ_back slot s h) refl
 
 -- a call leaves the slots that it doesn't touch
-slot_left : (d : Desk) (task : ℕ) (call : Call) (s : ℕ) → has_slot (slots_of call) s ≡ false → slot_part d s ≡ slot_part (effect d task call) s
+slot_left : (d : Desk) (task : ℕ) (call : Call) (s : ℕ) → has_slot (slots_of call) s ≡ false
+    → slot_part d s ≡ slot_part (effect d task call) s
 unfolding top
 slot_left d task (RegRect op register rect) s h = refl
 slot_left d task (RegPair op source into) s h = refl
@@ -58,6 +64,7 @@ slot_left d task (MoveBy slot dx dy) s h = absurd (true≢false h)
 slot_left d task (SizeBy slot dw dh) s h = absurd (true≢false h)
 slot_left d task (SetBox slot x y w z) s h = absurd (true≢false h)
 slot_left d task (Activate slot) s h = absurd (true≢false h)
+slot_left d task (SetHook slot hook) s h = absurd (true≢false h)
 slot_left d task (Which x y) s h = refl
 slot_left d task (ReadPixel slot x y) s h = refl
 slot_left d task (Blit source slot area) s h = beside d slot s _ (not_blitted source slot s (source == slot) h)
@@ -75,10 +82,12 @@ info_left d task (MoveBy slot dx dy) h = absurd (true≢false h)
 info_left d task (SizeBy slot dw dh) h = absurd (true≢false h)
 info_left d task (SetBox slot x y w z) h = absurd (true≢false h)
 info_left d task (Activate slot) h = absurd (true≢false h)
+info_left d task (SetHook slot hook) h = absurd (true≢false h)
 info_left d task call h = refl
 
 -- a call leaves each part that it doesn't touch
-effect_leaves : (d : Desk) (task : ℕ) (call : Call) (r : Role) → touches_role (touch_of task call) r ≡ false → HaveSame r d (effect d task call)
+effect_leaves : (d : Desk) (task : ℕ) (call : Call) (r : Role) → touches_role (touch_of task call) r ≡ false
+    → HaveSame r d (effect d task call)
 effect_leaves d task call (Task t) h = registers_left d task call t h
 effect_leaves d task call (SlotRole s) h = slot_left d task call s h
 effect_leaves d task call Info h = info_left d task call h
@@ -95,7 +104,8 @@ unless_same None r d e h = h
 unless_same (Some reply) r d e h = same_part r d
 
 -- A step leaves each part of the desk that its call doesn't touch.
-pub leaves_the_rest : (d : Desk) (task : ℕ) (call : Call) (r : Role) → touches_role (touch_of task call) r ≡ false → HaveSame r d (after d task call)
+pub leaves_the_rest : (d : Desk) (task : ℕ) (call : Call) (r : Role) → touches_role (touch_of task call) r ≡ false
+    → HaveSame r d (after d task call)
 unfolding after
 leaves_the_rest d task call r h =
     unless_same (refusal d task call) r d (effect d task call) (effect_leaves d task call r h)

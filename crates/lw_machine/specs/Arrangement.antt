@@ -1,7 +1,8 @@
 -- Arrangements: the calls that change which layers there are, their order and their bounds, and which window is active
 -- (the manual's Layers Library and Intuition Windows chapters; which bounds a layer may have, where a new backdrop layer goes
 -- among backdrop layers, and that closing the active window leaves none active are this project's own).
-use Rattle.std.specs.Prelude.{ℕ, ◌==◌, Bool, true, false, not, ◌&&◌, if◌then◌else◌, List, [], ◌∷◌, ℤ, pos, ◌+ℤ◌, int_le, unsigned_abs, Option, Some, None, option_and_then}
+use Rattle.std.specs.Prelude.{ℕ, ◌==◌, Bool, true, false, not, ◌&&◌, if◌then◌else◌, List, [], ◌∷◌, ℤ, pos, ◌+ℤ◌, int_le}
+use Rattle.std.specs.Prelude.{unsigned_abs, Option, Some, None, option_and_then}
 use Rattle.std.specs.List.{filter}
 use Rattle.lw_region.specs.Rectangle.{Rectangle, columns_of, rows_of, moved_by}
 use Rattle.lw_planes.specs.Grid.{grid}
@@ -13,7 +14,9 @@ use Rattle.lw_calls.specs.declared.make.Place.{Place}
 use Rattle.lw_calls.specs.declared.make.Place.TheVariants.{Front, Behind}
 use Rattle.lw_calls.specs.declared.make.Make.{Make}
 use Rattle.lw_calls.specs.declared.call.Call.{Call}
-use Rattle.lw_calls.specs.declared.call.Call.TheVariants.{RegRect, RegPair, RegClear, Create, OpenWindow, Close, ToFront, ToBack, InFrontOf, MoveBy, SizeBy, SetBox, Activate, Which, SetA, SetB, SetMode, SetMask, At, WritePixel, ReadPixel, Fill, DrawTo, Letters, SetRast, ScrollRaster, Put, Blit, Clip, Unclip, BeginRefresh, EndRefresh, Scroll, SetTitle, TakeMessage}
+use Rattle.lw_calls.specs.declared.call.Call.TheVariants.{Create, OpenWindow, Close, ToFront, ToBack, InFrontOf, MoveBy, SizeBy}
+use Rattle.lw_calls.specs.declared.call.Call.TheVariants.{SetBox, Activate}
+use Rattle.lw_calls.specs.Limits.{may_leave_screen, coordinates_fit}
 use Rattle.lw_machine.specs.Hook.{Hook}
 use Rattle.lw_machine.specs.Layer.{Layer, Window, Live, Closed, new_raster, layer_is, is_framed}
 use Rattle.lw_calls.specs.Kinds.{is_super}
@@ -26,7 +29,21 @@ bounds_of m = box_at m.x m.y m.w m.h
 -- all pixels of the rectangle lie on the screen
 unfoldable pub is_on_screen : Sizes → Rectangle → Bool
 is_on_screen s r =
-    (int_le (pos 0) r.min_x && int_le (r.max_x +ℤ pos 1) (pos s.width)) && (int_le (pos 0) r.min_y && int_le (r.max_y +ℤ pos 1) (pos s.height))
+    (int_le (pos 0) r.min_x && int_le (r.max_x +ℤ pos 1) (pos s.width))
+    && (int_le (pos 0) r.min_y && int_le (r.max_y +ℤ pos 1) (pos s.height))
+
+-- a rectangle's first and last column and row are coordinates
+unfoldable pub has_coordinates : Rectangle → Bool
+has_coordinates r = coordinates_fit r.min_x r.min_y && coordinates_fit r.max_x r.max_y
+
+-- a rectangle is no wider and no higher than the screen
+unfoldable pub is_no_larger : Sizes → Rectangle → Bool
+is_no_larger s r = int_le (columns_of r) (pos s.width) && int_le (rows_of r) (pos s.height)
+
+-- A layer may lie there: its first and last column and row are coordinates; in version 1 no pixel is off the screen, and from
+-- version 2 on pixels may be, but the layer is no wider and no higher than the screen.
+unfoldable pub may_lie_at : Sizes → Rectangle → Bool
+may_lie_at s r = has_coordinates r && (if may_leave_screen s.version then is_no_larger s r else is_on_screen s r)
 
 -- a rectangle is at least this wide and this high
 unfoldable pub is_at_least : ℤ → ℤ → Rectangle → Bool
@@ -38,12 +55,13 @@ portion_fits x y w h r =
     (int_le (pos 0) x && int_le (x +ℤ columns_of r) (pos w)) && (int_le (pos 0) y && int_le (y +ℤ rows_of r) (pos h))
 
 -- The bounds r that a layer may have, by whether it has a frame, its kind, and the scroll (x, y) and the size w by h of a
--- bitmap of its own. No pixel is off the screen, there is a column and a row, a framed window is at least 9 wide and 14 high,
+-- bitmap of its own. They lie where a layer may lie, there is a column and a row, a framed window is at least 9 wide and 14 high,
 -- and what a super-bitmap layer shows lies in its bitmap.
 abbrev pub may_have_bounds : Sizes → Bool → Kind → ℕ → ℕ → ℕ → ℕ → Rectangle → Bool
 may_have_bounds s framed kind x y w h r =
-    (is_on_screen s r && is_at_least (pos 1) (pos 1) r)
-    && ((if framed then is_at_least (pos 9) (pos 14) r else true) && (if is_super kind then portion_fits (pos x) (pos y) w h r else true))
+    (may_lie_at s r && is_at_least (pos 1) (pos 1) r)
+    && ((if framed then is_at_least (pos 9) (pos 14) r else true)
+    && (if is_super kind then portion_fits (pos x) (pos y) w h r else true))
 
 -- a layer may have these bounds
 abbrev pub layer_may_have_bounds : Sizes → Layer → Rectangle → Bool
@@ -138,7 +156,8 @@ sized_by r w h = record r { max_x = r.max_x +ℤ w; max_y = r.max_y +ℤ h }
 
 -- a slot's bounds changed, where it has some
 abbrev pub change_bounds : Desk → ℕ → (Rectangle → Rectangle) → Desk
-change_bounds d slot change = record d { bounds = with_value slot (option_and_then (λ r. Some (change r)) (d.bounds slot)) d.bounds }
+change_bounds d slot change =
+    record d { bounds = with_value slot (option_and_then (λ r. Some (change r)) (d.bounds slot)) d.bounds }
 
 -- the desk with its layers in this list from front to back
 abbrev pub reordered : Desk → List ℕ → Desk
@@ -152,7 +171,8 @@ abbrev pub behind_layer : Desk → ℕ → Desk
 behind_layer d slot = reordered d (put_before (has_backdrop d) slot (without slot d.front_to_back))
 
 abbrev pub move_layer_in_front_of : Desk → ℕ → ℕ → Desk
-move_layer_in_front_of d slot other = if slot == other then d else reordered d (put_before (λ t. t == other) slot (without slot d.front_to_back))
+move_layer_in_front_of d slot other =
+    if slot == other then d else reordered d (put_before (λ t. t == other) slot (without slot d.front_to_back))
 
 -- the desk with another active window
 abbrev pub with_active : Desk → ℕ → Desk
@@ -162,7 +182,8 @@ with_active d slot = record d { active = Some slot }
 -- leaves it.
 abbrev pub arranged : Desk → ℕ → Call → Desk
 arranged d task (Create slot make) = create_layer d slot make None
-arranged d task (OpenWindow slot make framed nocare asks title) = create_layer d slot make (Some (new_window task framed nocare asks title))
+arranged d task (OpenWindow slot make framed nocare asks title) =
+    create_layer d slot make (Some (new_window task framed nocare asks title))
 arranged d task (Close slot) = delete_layer d slot
 arranged d task (ToFront slot) = upfront_layer d slot
 arranged d task (ToBack slot) = behind_layer d slot
@@ -171,28 +192,4 @@ arranged d task (MoveBy slot dx dy) = change_bounds d slot (λ r. moved_by r dx 
 arranged d task (SizeBy slot dw dh) = change_bounds d slot (λ r. sized_by r dw dh)
 arranged d task (SetBox slot x y w h) = change_bounds d slot (λ r. box_at x y w h)
 arranged d task (Activate slot) = with_active d slot
-arranged d task (RegRect op register rect) = d
-arranged d task (RegPair op source into) = d
-arranged d task (RegClear register) = d
-arranged d task (Which x y) = d
-arranged d task (SetA slot pen) = d
-arranged d task (SetB slot pen) = d
-arranged d task (SetMode slot mode) = d
-arranged d task (SetMask slot mask) = d
-arranged d task (At slot x y) = d
-arranged d task (WritePixel slot x y) = d
-arranged d task (ReadPixel slot x y) = d
-arranged d task (Fill slot rect) = d
-arranged d task (DrawTo slot x y) = d
-arranged d task (Letters slot text) = d
-arranged d task (SetRast slot pen) = d
-arranged d task (ScrollRaster slot dx dy rect) = d
-arranged d task (Put bitmap slot area) = d
-arranged d task (Blit source slot area) = d
-arranged d task (Clip slot register) = d
-arranged d task (Unclip slot) = d
-arranged d task (BeginRefresh slot) = d
-arranged d task (EndRefresh slot full) = d
-arranged d task (Scroll slot dx dy) = d
-arranged d task (SetTitle slot title) = d
-arranged d task (TakeMessage slot) = d
+arranged d task call = d

@@ -8,8 +8,8 @@ use Rattle.lw_planes.specs.Bitmap.{Bitmap, pen_at}
 use Rattle.lw_planes.specs.Minterm.{minterm_bit}
 use Rattle.lw_calls.specs.declared.area.Area.{Area}
 use Rattle.lw_machine.specs.Layer.{Layer}
-use Rattle.lw_machine.specs.Kept.{in_bits, is_kept, is_drawable, holds_at, may_be_damaged}
-use Rattle.lw_machine.specs.Paint.{draw_where, set_where}
+use Rattle.lw_machine.specs.Kept.{in_bits, is_kept, holds_at, may_be_damaged}
+use Rattle.lw_machine.specs.Paint.{is_drawn, draw_where, set_where}
 use Rattle.lw_machine.specs.Shapes.{box_at}
 
 -- the column of the source that goes to a column of the destination, and the row that goes to a row
@@ -32,7 +32,8 @@ blit_candidate source a l x y k = minterm_bit a.minterm (bit_at (source_pen sour
 -- call.
 abbrev pub blitted : (ℤ → ℤ → Bool) → Bitmap → (ℕ → ℕ → Bool) → Area → Layer → Layer
 blitted has_source source visible a l =
-    draw_where visible (λ x y. has_pixel (box_at a.x a.y a.w a.h) (pos x) (pos y) && has_source (source_column a x) (source_row a y))
+    draw_where visible
+    (λ x y. has_pixel (box_at a.x a.y a.w a.h) (pos x) (pos y) && has_source (source_column a x) (source_row a y))
     (blit_candidate source a l)
     l
 
@@ -45,9 +46,13 @@ abbrev pub blt_bitmap_rast_port : Bitmap → (ℕ → ℕ → Bool) → Area →
 blt_bitmap_rast_port source visible a l =
     blitted (holds_at (λ x y. nat_lt x source.width && nat_lt y source.height)) source visible a l
 
+-- the pixels of a ScrollRaster's rectangle, which is its shape
+abbrev pub in_rectangle : Rectangle → ℕ → ℕ → Bool
+in_rectangle rect x y = has_pixel rect (pos x) (pos y)
+
 -- the pixel lies in the rectangle and in the layer's bits
 abbrev pub in_scroll_area : Rectangle → Layer → ℕ → ℕ → Bool
-in_scroll_area rect l x y = in_bits l x y && has_pixel rect (pos x) (pos y)
+in_scroll_area rect l x y = in_bits l x y && in_rectangle rect x y
 
 -- What a ScrollRaster brings to a pixel: the pixel at this column and row, which is kept; a pixel of the rectangle that isn't
 -- kept; or nothing, from outside the rectangle.
@@ -66,7 +71,8 @@ abbrev pub brought_to : (ℕ → ℕ → Bool) → ℤ → ℤ → Rectangle →
 brought_to visible dx dy rect l x y =
     let column = pos x +ℤ dx in
     let row = pos y +ℤ dy in
-    brought_if (holds_at (in_scroll_area rect l) column row) (holds_at (is_kept visible l) column row) (unsigned_abs column) (unsigned_abs row)
+    brought_if (holds_at (in_scroll_area rect l) column row) (holds_at (is_kept visible l) column row) (unsigned_abs column)
+    (unsigned_abs row)
 
 -- the pen that is brought: 0 from a pixel that isn't kept, and pen B from outside
 abbrev pub brought_pen : Layer → Brought → ℕ
@@ -81,19 +87,17 @@ brought_mark mark x y (BroughtPixel column row) = mark column row
 brought_mark mark x y BroughtHidden = true
 brought_mark mark x y BroughtNone = mark x y
 
--- the drawable pixels of the rectangle
-abbrev pub is_scrolled : (ℕ → ℕ → Bool) → Rectangle → Layer → ℕ → ℕ → Bool
-is_scrolled visible rect l x y = is_drawable visible l x y && has_pixel rect (pos x) (pos y)
-
--- the marks of a layer's pixels after a ScrollRaster
+-- the marks of a layer's pixels after a ScrollRaster, which changes the pixels that a drawing call of its rectangle changes
 abbrev pub scrolled_mark : (ℕ → ℕ → Bool) → ℤ → ℤ → Rectangle → Layer → (ℕ → ℕ → Bool) → ℕ → ℕ → Bool
 scrolled_mark visible dx dy rect l mark x y =
-    if is_scrolled visible rect l x y then brought_mark mark x y (brought_to visible dx dy rect l x y) else mark x y
+    if is_drawn visible (in_rectangle rect) l x y then brought_mark mark x y (brought_to visible dx dy rect l x y) else mark x y
 
 -- ScrollRaster: each drawable pixel of the rectangle takes the pen that is brought to it, through the mask, and its damage,
 -- which is dropped where damage may not lie; all of them from the layer before the call.
 abbrev pub scroll_raster : (ℕ → ℕ → Bool) → ℤ → ℤ → Rectangle → Layer → Layer
 scroll_raster visible dx dy rect l =
-    record (set_where visible (λ x y. has_pixel rect (pos x) (pos y)) (λ x y. brought_pen l (brought_to visible dx dy rect l x y)) l) {
-      damage = grid l.bits.width l.bits.height (λ x y. scrolled_mark visible dx dy rect l (at false l.damage) x y && may_be_damaged l x y);
+    record (set_where visible (in_rectangle rect) (λ x y. brought_pen l (brought_to visible dx dy rect l x y)) l) {
+      damage =
+          grid l.bits.width l.bits.height
+          (λ x y. scrolled_mark visible dx dy rect l (at false l.damage) x y && may_be_damaged l x y);
     }

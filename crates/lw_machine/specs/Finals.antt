@@ -19,7 +19,8 @@ use Rattle.lw_machine.specs.History.{machine, replies_of}
 -- the pixels of a table of this width and height for which the test holds, in reading order
 abbrev pub pixels_where : ℕ → ℕ → (ℕ → ℕ → Bool) → List Pixel
 pixels_where w h test =
-    flat_map (λ y. flat_map (λ x. if test x y then record { x = pos x; y = pos y } ∷ [] else []) (range_with_len 0 w)) (range_with_len 0 h)
+    flat_map (λ y. flat_map (λ x. if test x y then record { x = pos x; y = pos y } ∷ [] else []) (range_with_len 0 w))
+    (range_with_len 0 h)
 
 -- the places of the screen on which a slot's layer is shown
 unfoldable pub shown_set : Desk → ℕ → List Pixel
@@ -37,7 +38,8 @@ port_of (Some w) = Some w.port
 -- What is seen of a slot: of a live layer where it is shown, its damage, and its port's messages.
 abbrev pub seen_of : Desk → ℕ → Slot → Option Seen
 seen_of d s Unopened = None
-seen_of d s (Live l) = Some (record { visible = bands (shown_set d s); damage = bands (damage_set l); messages = port_of l.window })
+seen_of d s (Live l) =
+    Some (record { visible = bands (shown_set d s); damage = bands (damage_set l); messages = port_of l.window })
 seen_of d s Closed = None
 
 -- The final state of a desk whose tasks had these replies: the screen, what is seen of each slot, and each task's replies.

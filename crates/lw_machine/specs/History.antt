@@ -14,4 +14,5 @@ machine d (e ∷ es) = machine (after d e.task e.call) es
 abbrev pub replies_of : Desk → ℕ → List Entry → List Reply
 replies_of d task [] = []
 replies_of d task (e ∷ es) =
-    if e.task == task then reply d e.task e.call ∷ replies_of (after d e.task e.call) task es else replies_of (after d e.task e.call) task es
+    if e.task == task then reply d e.task e.call ∷ replies_of (after d e.task e.call) task es
+    else replies_of (after d e.task e.call) task es

@@ -24,14 +24,15 @@ is_not_refused None = true
 is_not_refused (Some r) = false
 
 -- What a call that was done, between the desks d and e, leaves hurt at a pixel of the layer in slot s, which keeps it in its
--- inner rectangle afterwards: after an arrangement what didn't count as kept before, and what was hurt. After a ScrollRaster of this
--- layer what is brought to a pixel, if anything is: hurt where it wasn't kept or was hurt. After a full EndRefresh of it nothing; and
--- after any other call what was hurt.
+-- inner rectangle afterwards: after an arrangement what didn't count as kept before, and what was hurt. After a ScrollRaster of
+-- this layer what is brought to a pixel, if anything is: hurt where it wasn't kept or was hurt. After a full EndRefresh of it
+-- nothing; and after any other call what was hurt.
 abbrev pub hurt_by_call : Desk → Desk → ℕ → Layer → Call → (ℕ → ℕ → Bool) → ℕ → ℕ → Bool
 hurt_by_call d e s l (ScrollRaster slot dx dy rect) hurt x y =
     if slot == s then scrolled_mark (is_visible d s l) dx dy rect l hurt x y else hurt x y
 hurt_by_call d e s l (EndRefresh slot full) hurt x y = if (slot == s) && full then false else hurt x y
-hurt_by_call d e s l call hurt x y = if is_arrangement call then not (counts_as_kept (across d e s) l x y) || hurt x y else hurt x y
+hurt_by_call d e s l call hurt x y =
+    if is_arrangement call then not (counts_as_kept (across d e s) l x y) || hurt x y else hurt x y
 
 -- What is hurt after a call that was done, by what the slot had before: of a layer that the call created nothing is.
 abbrev pub hurt_in_slot : Desk → Desk → ℕ → Slot → Call → (ℕ → ℕ → Bool) → ℕ → ℕ → Bool

@@ -6,6 +6,7 @@ use Rattle.lw_planes.specs.Bitmap.{Bitmap}
 use Rattle.lw_calls.specs.declared.make.Kind.{Kind}
 use Rattle.lw_calls.specs.declared.message.Message.{Message}
 use Rattle.lw_calls.specs.declared.message.Message.TheVariants.{Refresh, NewSize, Change, Active, Inactive}
+use Rattle.lw_calls.specs.Limits.{may_reopen}
 use Rattle.lw_machine.specs.Hook.{Hook}
 
 -- How a layer paints: its pens A and B, its mode, its mask of planes, and its cursor (Graphics Primitives: RastPort).
@@ -17,9 +18,9 @@ pub record Raster : Type 0 where
   pub cursor_x : ℤ
   pub cursor_y : ℤ
 
--- A window (Intuition Windows; that it belongs to the task that opened it is this project's own): that task, whether it has a frame, its title, whether it wants no refresh
--- messages at all, its set of message classes, its port with the messages from the oldest, and whether it was asked to
--- refresh since its last full refresh.
+-- A window (Intuition Windows; that it belongs to the task that opened it is this project's own): that task, whether it has a
+-- frame, its title, whether it wants no refresh messages at all, its set of message classes, its port with the messages from the
+-- oldest, and whether it was asked to refresh since its last full refresh.
 pub record Window : Type 0 where
   pub owner : ℕ
   pub framed : Bool
@@ -45,7 +46,7 @@ pub record Layer : Type 0 where
   pub hook : Option Hook
   pub window : Option Window
 
--- A name's slot: its layer was not created so far, is live, or was deleted. Each name opens at most once.
+-- A name's slot: its layer was not created so far, is live, or was deleted.
 pub data Slot : Type 0 where
   Unopened : Slot
   Live : Layer → Slot
@@ -55,10 +56,11 @@ pub data Slot : Type 0 where
 abbrev pub new_raster : Raster
 new_raster = record { pen_a = 1; pen_b = 0; mode = 1; mask = 255; cursor_x = pos 0; cursor_y = pos 0 }
 
-abbrev pub is_unopened : Slot → Bool
-is_unopened Unopened = true
-is_unopened (Live l) = false
-is_unopened Closed = false
+-- A layer may be created in the slot: it has had none so far or, where the version opens slots again, its former one was deleted.
+abbrev pub may_open : ℕ → Slot → Bool
+may_open version Unopened = true
+may_open version (Live l) = false
+may_open version Closed = may_reopen version
 
 abbrev pub is_live : Slot → Bool
 is_live Unopened = false
@@ -109,6 +111,6 @@ class_bit Change = 2
 class_bit Active = 3
 class_bit Inactive = 4
 
--- the window asks for messages of this class
-abbrev pub asks_for : Window → Message → Bool
-asks_for w m = bit_at w.classes (class_bit m) == 1
+-- the window wants messages of this class
+abbrev pub wants : Window → Message → Bool
+wants w m = bit_at w.classes (class_bit m) == 1

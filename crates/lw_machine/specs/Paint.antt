@@ -22,7 +22,8 @@ has_inversvid r = bit_at r.mode 2 == 1
 -- elsewhere; else it is pen A's bit in the foreground, and elsewhere pen B's under JAM2 and the old bit without it.
 abbrev pub candidate_bit : Raster → Bool → ℕ → ℕ → ℕ
 candidate_bit r foreground k old =
-    if has_complement r then (if foreground then 1 - old else old) else (if foreground then bit_at r.pen_a k else (if has_jam2 r then bit_at r.pen_b k else old))
+    if has_complement r then (if foreground then 1 - old else old)
+    else (if foreground then bit_at r.pen_a k else (if has_jam2 r then bit_at r.pen_b k else old))
 
 -- The pen whose planes that the mask has take the candidate's bit, while each other plane keeps the old pen's.
 unfoldable pub through_mask : ℕ → ℕ → (ℕ → ℕ) → ℕ → ℕ
@@ -37,11 +38,15 @@ unfoldable pub with_pens : (ℕ → ℕ → Bool) → (ℕ → ℕ → ℕ) → 
 with_pens on pen l =
     record l { bits = bitmap l.bits.width l.bits.height l.bits.depth (λ x y. if on x y then pen x y else pen_at l.bits x y) }
 
+-- the pixels that a drawing call of a shape changes: the drawable ones of the shape
+abbrev pub is_drawn : (ℕ → ℕ → Bool) → (ℕ → ℕ → Bool) → Layer → ℕ → ℕ → Bool
+is_drawn visible shape l x y = is_drawable visible l x y && shape x y
+
 -- The layer with each drawable pixel of a shape drawn through the mask: of its candidate, which is given bit by bit, it takes
 -- the planes that the mask has. Every drawing call is such a change.
 abbrev pub draw_where : (ℕ → ℕ → Bool) → (ℕ → ℕ → Bool) → (ℕ → ℕ → ℕ → ℕ) → Layer → Layer
 draw_where visible shape candidate l =
-    with_pens (λ x y. is_drawable visible l x y && shape x y) (λ x y. through_mask l.bits.depth l.raster.mask (candidate x y) (pen_at l.bits x y)) l
+    with_pens (is_drawn visible shape l) (λ x y. through_mask l.bits.depth l.raster.mask (candidate x y) (pen_at l.bits x y)) l
 
 -- a shape painted by the layer's raster state, in the foreground or not
 abbrev pub paint_where : (ℕ → ℕ → Bool) → (ℕ → ℕ → Bool) → (ℕ → ℕ → Bool) → Layer → Layer

@@ -1,5 +1,6 @@
 -- The report of a run (docs/FORMATS.md has it with an example).
-use Rattle.std.specs.Prelude.{ℕ, ◌+◌, ◌%◌, ◌==◌, Bool, true, false, ◌||◌, if◌then◌else◌, List, [], ◌∷◌, ◌++◌, length, codes, Option, Some, None}
+use Rattle.std.specs.Prelude.{ℕ, ◌+◌, ◌%◌, ◌==◌, Bool, true, false, ◌||◌, if◌then◌else◌, List, [], ◌∷◌, ◌++◌, length, codes}
+use Rattle.std.specs.Prelude.{Option, Some, None}
 use Rattle.std.specs.List.{flat_map, range_with_len, slice_index_or}
 use Rattle.std.specs.Fmt.{decimal, signed_decimal}
 use Rattle.lw_region.specs.Rectangle.{Rectangle}
@@ -7,7 +8,9 @@ use Rattle.lw_planes.specs.Bitmap.{Bitmap, plane_row}
 use Rattle.lw_calls.specs.declared.message.Message.{Message}
 use Rattle.lw_calls.specs.declared.message.Message.TheVariants.{Refresh, NewSize, Change, Active, Inactive}
 use Rattle.lw_calls.specs.declared.reply.Reply.{Reply}
-use Rattle.lw_calls.specs.declared.reply.Reply.TheVariants.{Done, Pen, Outside, Nothing, Layer, Rects, Got, NotOpen, AlreadyOpen, NotWindow, NotOwner, Backdrop, NotSuper, InUpdate, NotInUpdate, OutOfBounds, TooManyRects}
+use Rattle.lw_calls.specs.declared.reply.Reply.TheVariants.{Done, Pen, Outside, Nothing, Layer, Rects, Got, NotOpen, AlreadyOpen}
+use Rattle.lw_calls.specs.declared.reply.Reply.TheVariants.{NotWindow, NotOwner, Backdrop, NotSuper, InUpdate, NotInUpdate}
+use Rattle.lw_calls.specs.declared.reply.Reply.TheVariants.{OutOfBounds, TooManyRects}
 use Rattle.lw_calls.specs.declared.last.Seen.{Seen}
 use Rattle.lw_calls.specs.Final.{Final}
 use Rattle.lw_calls.specs.Written.{line_of, spaced, hex_byte, spaced_signed, spaced_bounds}
@@ -35,12 +38,14 @@ order_part order = line_of (codes "order" ++ spaced (length order)) ++ order_num
 -- plane k, row by row in hexadecimal digits
 unfoldable pub plane_lines : Bitmap → ℕ → List ℕ
 plane_lines b k =
-    line_of (codes "plane" ++ spaced k) ++ flat_map (λ y. line_of (flat_map hex_byte (plane_row b k y))) (range_with_len 0 b.height)
+    line_of (codes "plane" ++ spaced k)
+    ++ flat_map (λ y. line_of (flat_map hex_byte (plane_row b k y))) (range_with_len 0 b.height)
 
 -- The second part: the sizes of the screen and its planes.
 unfoldable pub planes_part : Bitmap → List ℕ
 planes_part b =
-    line_of (codes "planes" ++ spaced b.width ++ spaced b.height ++ spaced b.depth) ++ flat_map (plane_lines b) (range_with_len 0 b.depth)
+    line_of (codes "planes" ++ spaced b.width ++ spaced b.height ++ spaced b.depth)
+    ++ flat_map (plane_lines b) (range_with_len 0 b.depth)
 
 -- a rectangle on a line of its own: its four bounds with single spaces
 abbrev pub rectangle_line : Rectangle → List ℕ
@@ -118,13 +123,16 @@ reply_lines names task replies =
 -- The sixth part: the replies of each task in rising number.
 unfoldable pub replies_part : List (List ℕ) → List (List ℕ) → List (List Reply) → List ℕ
 replies_part names tasks replies =
-    flat_map (λ t. reply_lines names (slice_index_or tasks t []) (slice_index_or replies t [])) (range_with_len 0 (length replies))
+    flat_map (λ t. reply_lines names (slice_index_or tasks t []) (slice_index_or replies t []))
+    (range_with_len 0 (length replies))
 
 -- The report of a plan after an order, where the run left this: the order, the planes of the screen, where each layer is
 -- shown and what of it is damaged, each window's messages, the replies of each task, and "done".
 unfoldable pub report : Plan → List ℕ → Final → List ℕ
 report plan order last =
-    order_part order ++ planes_part last.planes ++ of_slots visible_text plan.slot_names last.slots ++ of_slots damage_text plan.slot_names last.slots ++ of_slots messages_text plan.slot_names last.slots ++ replies_part plan.slot_names plan.task_names last.replies ++ line_of (codes "done")
+    order_part order ++ planes_part last.planes ++ of_slots visible_text plan.slot_names last.slots
+    ++ of_slots damage_text plan.slot_names last.slots ++ of_slots messages_text plan.slot_names last.slots
+    ++ replies_part plan.slot_names plan.task_names last.replies ++ line_of (codes "done")
 
 -- The report of the machine's run of a plan in an order, with these hooks.
 abbrev pub run_report : Plan → List Hook → List ℕ → List ℕ

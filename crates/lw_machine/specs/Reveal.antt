@@ -1,7 +1,8 @@
 -- What an arrangement makes of each layer: the pixels that it reveals, its frame, and the messages that its window is told
 -- (the manual's Layers Library and Intuition Windows chapters; exactly which pixels are filled and damaged, how a frame
 -- looks, and when each message is put are this project's own).
-use Rattle.std.specs.Prelude.{ℕ, ◌+◌, ◌-◌, ◌/◌, ◌%◌, ◌==◌, Bool, true, false, not, ◌&&◌, ◌||◌, nat_lt, nat_le, if◌then◌else◌, List, [], ◌∷◌, ◌++◌, length, ℤ, pos, Option, Some, None}
+use Rattle.std.specs.Prelude.{ℕ, ◌+◌, ◌-◌, ◌/◌, ◌%◌, ◌==◌, Bool, true, false, not, ◌&&◌, ◌||◌, nat_lt, nat_le, if◌then◌else◌}
+use Rattle.std.specs.Prelude.{List, [], ◌∷◌, ◌++◌, length, ℤ, pos, Option, Some, None}
 use Rattle.std.specs.List.{list_any, range_with_len, slice_index_or}
 use Rattle.std.specs.Ordering.{int_eq}
 use Rattle.lw_region.specs.Rectangle.{Rectangle, width, height}
@@ -10,7 +11,7 @@ use Rattle.lw_planes.specs.Bitmap.{bitmap, pen_at}
 use Rattle.lw_calls.specs.declared.message.Message.{Message}
 use Rattle.lw_calls.specs.declared.message.Message.TheVariants.{Refresh, NewSize, Change, Active, Inactive}
 use Rattle.lw_machine.specs.Hook.{Hook, hook_pen, turned}
-use Rattle.lw_machine.specs.Layer.{Layer, Window, is_framed, changed_window, change_layer, asks_for}
+use Rattle.lw_machine.specs.Layer.{Layer, Window, is_framed, changed_window, change_layer, wants}
 use Rattle.lw_calls.specs.Kinds.{is_super}
 use Rattle.lw_machine.specs.Desk.{Desk, change_each, is_the}
 use Rattle.lw_machine.specs.Screen.{is_shown}
@@ -73,25 +74,26 @@ is_inner c before x y = in_inner (is_framed before.window) (width_in c.new_bound
 -- its old frame that lies in its new inner rectangle doesn't count. (Where the size stays there is no such pixel.)
 unfoldable pub counts_as_kept : Across → Layer → ℕ → ℕ → Bool
 counts_as_kept c before x y =
-    (was_live c && is_kept (visible_within c.shown c.bounds before.scroll_x before.scroll_y) before x y) && (was_inner c before x y || not (is_framed before.window && is_inner c before x y))
+    (was_live c && is_kept (visible_within c.shown c.bounds before.scroll_x before.scroll_y) before x y)
+    && (was_inner c before x y || not (is_framed before.window && is_inner c before x y))
 
 -- The layer, which isn't a super-bitmap layer, at its new size, with pen 0 everywhere and no damage: the reveal gives each
 -- pixel what it has.
-abbrev pub resized : Across → Layer → Layer
-resized c before =
+abbrev pub at_new_size : Across → Layer → Layer
+at_new_size c before =
     record before {
       bits = bitmap (width_in c.new_bounds) (height_in c.new_bounds) before.bits.depth (λ x y. 0);
       damage = grid (width_in c.new_bounds) (height_in c.new_bounds) (λ x y. false);
     }
 
--- the layer, as it is after the arrangement, keeps the pixel
+-- a layer of the new size keeps the pixel after the arrangement
 abbrev pub keeps : Across → Layer → ℕ → ℕ → Bool
-keeps c after x y = is_kept (visible_within c.new_shown c.new_bounds after.scroll_x after.scroll_y) after x y
+keeps c l x y = is_kept (visible_within c.new_shown c.new_bounds l.scroll_x l.scroll_y) l x y
 
--- The arrangement fills the pixel: the layer keeps it now, and it doesn't count as kept before. It is not asked of a
--- super-bitmap layer, which is never filled.
+-- The arrangement fills the pixel: the layer, which has its new size, keeps it then, and it doesn't count as kept before. It is
+-- not asked of a super-bitmap layer, which is never filled.
 abbrev pub fills : Across → Layer → Layer → ℕ → ℕ → Bool
-fills c before after x y = keeps c after x y && not (counts_as_kept c before x y)
+fills c before l x y = keeps c l x y && not (counts_as_kept c before x y)
 
 -- some pixel of a table of this width and height is such
 unfoldable pub some_pixel : ℕ → ℕ → (ℕ → ℕ → Bool) → Bool
@@ -115,23 +117,27 @@ hook_after has_filled (Some h) = Some (if has_filled then turned h else h)
 -- kept before has its former pen and, where damage may lie, its former damage. Any other that is kept is filled, and damaged
 -- where it lies in the inner rectangle, unless the layer was created in this step. Its hook, if it filled, is turned.
 abbrev pub with_revealed : Across → Layer → Layer → Layer
-with_revealed c before after =
-    record after {
-      bits = bitmap after.bits.width after.bits.height after.bits.depth (λ x y.
-          if keeps c after x y then (if counts_as_kept c before x y then pen_at before.bits x y else fill_pen after.bits.depth after.hook x y) else 0);
-      damage = grid after.bits.width after.bits.height (λ x y.
-          (keeps c after x y && is_inner c before x y) && (if counts_as_kept c before x y then at false before.damage x y else was_live c));
-      hook = hook_after (some_now c (fills c before after)) after.hook;
+with_revealed c before sized =
+    record sized {
+      bits = bitmap sized.bits.width sized.bits.height sized.bits.depth (λ x y.
+          if keeps c sized x y
+          then (if counts_as_kept c before x y then pen_at before.bits x y else fill_pen sized.bits.depth sized.hook x y)
+          else 0);
+      damage = grid sized.bits.width sized.bits.height (λ x y.
+          (keeps c sized x y && is_inner c before x y)
+          && (if counts_as_kept c before x y then at false before.damage x y else was_live c));
+      hook = hook_after (some_now c (fills c before sized)) sized.hook;
     }
 
 -- The layer after the reveal. A super-bitmap layer is never filled: it keeps its bits, and gets no damage.
 unfoldable pub revealed : Across → Layer → Layer
-revealed c before = if is_super before.kind then before else with_revealed c before (resized c before)
+revealed c before = if is_super before.kind then before else with_revealed c before (at_new_size c before)
 
 -- the pixel lies in the frame of a window this wide and high: in its top, left, right or bottom fill
 unfoldable pub in_frame : ℕ → ℕ → ℕ → ℕ → Bool
 in_frame w h x y =
-    (nat_le y 10 || (nat_le 11 y && nat_le x 3)) || ((nat_le 11 y && nat_le w (x + 4)) || (nat_le h (y + 2) && (nat_le 4 x && nat_lt (x + 4) w)))
+    (nat_le y 10 || (nat_le 11 y && nat_le x 3))
+    || ((nat_le 11 y && nat_le w (x + 4)) || (nat_le h (y + 2) && (nat_le 4 x && nat_lt (x + 4) w)))
 
 -- The pixel is one of the title's: its cells begin at column 4 and row 2, and are painted from column 4 on up to the fifth
 -- from the right, where the glyphs have their foreground.
@@ -165,12 +171,12 @@ framed_by glyphs kept active (Some w) l =
 abbrev pub with_frame : List (List ℕ) → (ℕ → ℕ → Bool) → Bool → Layer → Layer
 with_frame glyphs kept active l = framed_by glyphs kept active l.window l
 
--- The frame is due: the window was opened in this step, changed its size or its activity, or had a pixel outside its inner
--- rectangle filled.
+-- The frame of a revealed layer is due: the window was opened in this step, changed its size or its activity, or had a pixel
+-- outside its inner rectangle filled.
 abbrev pub frame_is_due : Across → Layer → Layer → Bool
-frame_is_due c before after =
+frame_is_due c before shown =
     (not (was_live c) || is_resized c)
-    || (differ c.active c.new_active || some_now c (λ x y. fills c before after x y && not (is_inner c before x y)))
+    || (differ c.active c.new_active || some_now c (λ x y. fills c before shown x y && not (is_inner c before x y)))
 
 -- some damage is there
 unfoldable pub is_damaged : Layer → Bool
@@ -184,45 +190,46 @@ same_bounds (Some r) None = false
 same_bounds (Some r) (Some s) =
     (int_eq r.min_x s.min_x && int_eq r.min_y s.min_y) && (int_eq r.max_x s.max_x && int_eq r.max_y s.max_y)
 
--- the message, where the case for it holds and the window asks for its class
+-- the message, where the case for it holds and the window wants its class
 abbrev pub message_if : Window → Bool → Message → List Message
-message_if w holds m = if holds && asks_for w m then m ∷ [] else []
+message_if w holds m = if holds && wants w m then m ∷ [] else []
 
--- a refresh message is put: some damage is there, the window wasn't asked since its last full refresh, it asks for such
--- messages, and it cares
+-- a refresh message is put: some damage of the layer is there, the window wasn't asked to refresh since its last full refresh, it
+-- wants such messages, and it cares
 abbrev pub refresh_is_put : Layer → Window → Bool
-refresh_is_put after w = (is_damaged after && not w.asked) && (asks_for w Refresh && not w.nocare)
+refresh_is_put l w = (is_damaged l && not w.asked) && (wants w Refresh && not w.nocare)
 
 -- The messages that a window gets, in this order: newsize where its width or height differs from before; change where it
 -- was live before and its bounds differ from then; inactive where it ceased to be the active window; active where it became
 -- it; and refresh.
 abbrev pub messages_due : Across → Layer → Window → List Message
-messages_due c after w =
+messages_due c l w =
     message_if w (is_resized c) NewSize
     ++ message_if w (was_live c && not (same_bounds c.bounds c.new_bounds)) Change
     ++ message_if w (c.active && not c.new_active) Inactive
     ++ message_if w (c.new_active && not c.active) Active
-    ++ (if refresh_is_put after w then Refresh ∷ [] else [])
+    ++ (if refresh_is_put l w then Refresh ∷ [] else [])
 
--- the window with these messages at the end of its port
-abbrev pub window_told : Across → Layer → Window → Window
-window_told c after w =
-    record w { port = w.port ++ messages_due c after w; asked = w.asked || refresh_is_put after w }
+-- the window with the messages that are due at the end of its port
+abbrev pub window_with_messages : Across → Layer → Window → Window
+window_with_messages c l w = record w { port = w.port ++ messages_due c l w; asked = w.asked || refresh_is_put l w }
 
--- the layer, as it is after the arrangement, with its window told what it is due
+-- the layer with the messages that are due in its window's port
 abbrev pub with_messages : Across → Layer → Layer
-with_messages c after = record after { window = changed_window (window_told c after) after.window }
+with_messages c l = record l { window = changed_window (window_with_messages c l) l.window }
 
--- The layer with its frame painted on the pixels that it keeps after the arrangement, where it is due.
+-- The revealed layer with its frame painted, where it is due, on the pixels that it keeps.
 abbrev pub with_due_frame : List (List ℕ) → Across → Layer → Layer → Layer
-with_due_frame glyphs c before after =
-    if frame_is_due c before after then with_frame glyphs (keeps c after) c.new_active after else after
+with_due_frame glyphs c before shown =
+    if frame_is_due c before shown then with_frame glyphs (keeps c shown) c.new_active shown else shown
 
--- The layer after the arrangement: revealed, then framed where its frame is due, then told.
+-- The layer after the arrangement: revealed, then framed where its frame is due, then with the messages that are due.
 unfoldable pub settled_layer : List (List ℕ) → Across → Layer → Layer
 settled_layer glyphs c before = with_messages c (with_due_frame glyphs c before (revealed c before))
 
 -- The desk after the arrangement of the desk d to the desk a: each layer of the list settled.
 abbrev pub settled : Desk → Desk → Desk
 settled d a =
-    record a { slot = change_each a.front_to_back (λ s layer. change_layer (settled_layer d.assets.glyphs (across d a s)) layer) a.slot }
+    record a {
+      slot = change_each a.front_to_back (λ s layer. change_layer (settled_layer d.assets.glyphs (across d a s)) layer) a.slot;
+    }

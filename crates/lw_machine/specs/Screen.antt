@@ -1,9 +1,10 @@
 -- Which layer is on top of a place, and what the screen shows (the manual's Layers Library chapter; how
 -- a super-bitmap layer shows its bits is this project's own).
-use Rattle.std.specs.Prelude.{ℕ, ◌+◌, Bool, false, ℤ, pos, ◌-ℤ◌, unsigned_abs, Option, Some, None}
+use Rattle.std.specs.Prelude.{ℕ, ◌+◌, Bool, false, if◌then◌else◌, List, ℤ, pos, ◌-ℤ◌, unsigned_abs, Option, Some, None}
 use Rattle.std.specs.List.{find}
 use Rattle.lw_region.specs.Rectangle.{Rectangle, has_pixel}
 use Rattle.lw_planes.specs.Bitmap.{Bitmap, bitmap, pen_at}
+use Rattle.lw_calls.specs.declared.sizes.Sizes.{Sizes}
 use Rattle.lw_machine.specs.Layer.{Slot, Unopened, Live, Closed}
 use Rattle.lw_machine.specs.Desk.{Desk, is_the}
 
@@ -12,9 +13,18 @@ abbrev pub bounds_have : Option Rectangle → ℤ → ℤ → Bool
 bounds_have None x y = false
 bounds_have (Some r) x y = has_pixel r x y
 
--- The slot of the first layer from the front whose bounds have the place at column x and row y.
+-- The screen's places: columns from 0 to the width less 1, and rows from 0 to the height less 1.
+abbrev pub screen_bounds : Sizes → Rectangle
+screen_bounds s = record { min_x = pos 0; min_y = pos 0; max_x = pos s.width -ℤ pos 1; max_y = pos s.height -ℤ pos 1 }
+
+-- The slot of the first layer of a list, from the front, whose bounds have the place at column x and row y, if that is a place of
+-- the screen. Elsewhere there is no top.
+abbrev pub top_at : Sizes → (ℕ → Option Rectangle) → List ℕ → ℤ → ℤ → Option ℕ
+top_at sizes bounds slots x y = if has_pixel (screen_bounds sizes) x y then find (λ s. bounds_have (bounds s) x y) slots else None
+
+-- the top layer of a place of the desk
 unfoldable pub top : Desk → ℤ → ℤ → Option ℕ
-top d x y = find (λ s. bounds_have (d.bounds s) x y) d.front_to_back
+top d x y = top_at d.sizes d.bounds d.front_to_back x y
 
 -- The layer in slot s is the top of the place: the screen shows a pixel of it there.
 abbrev pub is_shown : Desk → ℕ → ℤ → ℤ → Bool

@@ -2,7 +2,8 @@
 -- once, decided from the layer before it (the manual's chapters Graphics Primitives and, for text, Graphics Library and Text;
 -- the rule of the line, the cell of a text and that a fill, a line and a pixel take no notice of INVERSVID are this project's
 -- own).
-use Rattle.std.specs.Prelude.{ℕ, ◌+◌, ◌-◌, ◌*◌, ◌/◌, ◌%◌, ◌==◌, Bool, true, not, ◌&&◌, nat_le, if◌then◌else◌, List, [], length, ℤ, pos, ◌+ℤ◌, ◌-ℤ◌, int_le, unsigned_abs}
+use Rattle.std.specs.Prelude.{ℕ, ◌+◌, ◌-◌, ◌*◌, ◌/◌, ◌%◌, ◌==◌, Bool, true, not, ◌&&◌, nat_le, if◌then◌else◌, List, [], length, ℤ}
+use Rattle.std.specs.Prelude.{pos, ◌+ℤ◌, ◌-ℤ◌, int_le, unsigned_abs}
 use Rattle.std.specs.Int.{bit_at, int_min, int_max}
 use Rattle.std.specs.List.{slice_index_or}
 use Rattle.std.specs.Ordering.{int_eq}
@@ -39,7 +40,8 @@ is_on_axes long_from long_to short_from short_to long short =
     let n = unsigned_abs (long_to -ℤ long_from) in
     let m = unsigned_abs (short_to -ℤ short_from) in
     let i = unsigned_abs (long -ℤ long_from) in
-    within (int_min long_from long_to) long (int_max long_from long_to) && is_steps_towards short_from short_to (line_offset n m i) short
+    within (int_min long_from long_to) long (int_max long_from long_to)
+    && is_steps_towards short_from short_to (line_offset n m i) short
 
 -- The pixel (x, y) lies on the line from (x0, y0) to (x1, y1). The long axis is that of x where the line moves on it at
 -- least as far as on that of y.
@@ -54,18 +56,21 @@ with_cursor x y l = record l { raster = record l.raster { cursor_x = x; cursor_y
 -- Draw: the line from the cursor, in the foreground. The cursor then stands at its end.
 abbrev pub draw_line : (ℕ → ℕ → Bool) → ℤ → ℤ → Layer → Layer
 draw_line visible x1 y1 l =
-    with_cursor x1 y1 (paint_where visible (λ x y. is_on_line l.raster.cursor_x l.raster.cursor_y x1 y1 (pos x) (pos y)) (λ x y. true) l)
+    with_cursor x1 y1
+    (paint_where visible (λ x y. is_on_line l.raster.cursor_x l.raster.cursor_y x1 y1 (pos x) (pos y)) (λ x y. true) l)
 
 -- The glyph of a code has at this column and row, each from 0 to 7, its foreground. A code outside 0x20 to 0x7e has the empty
 -- glyph, and so has one to which the script gives none.
 unfoldable pub glyph_has : List (List ℕ) → ℕ → ℕ → ℕ → Bool
 glyph_has glyphs code column row =
-    (nat_le 32 code && nat_le code 126) && (bit_at (slice_index_or (slice_index_or glyphs (code - 32) []) row 0) (7 - column) == 1)
+    (nat_le 32 code && nat_le code 126)
+    && (bit_at (slice_index_or (slice_index_or glyphs (code - 32) []) row 0) (7 - column) == 1)
 
 -- The place lies in the cells of so many characters, of 8 columns each, of which the first begins at this left column and
 -- top row.
 unfoldable pub in_cells : ℤ → ℤ → ℕ → ℤ → ℤ → Bool
-in_cells left top_row count x y = (int_le left x && int_le (x +ℤ pos 1) (left +ℤ pos (8 * count))) && within top_row y (top_row +ℤ pos 7)
+in_cells left top_row count x y =
+    (int_le left x && int_le (x +ℤ pos 1) (left +ℤ pos (8 * count))) && within top_row y (top_row +ℤ pos 7)
 
 -- The glyph in whose cell the place lies has its foreground there.
 unfoldable pub cell_has : List (List ℕ) → List ℕ → ℤ → ℤ → ℤ → ℤ → Bool

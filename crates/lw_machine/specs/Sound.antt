@@ -24,7 +24,7 @@ pub record IsKeeping (depth : ℕ) (visible : ℕ → ℕ → Bool) (l : Layer) 
   pub damage_kept : (x y : ℕ) → at false l.damage x y ≡ true → is_kept visible l x y ≡ true
   pub damage_inner : (x y : ℕ) → at false l.damage x y ≡ true → may_be_damaged l x y ≡ true
 
--- The bounds of a layer: it may have them, so that they lie on the screen and a super-bitmap layer's portion lies in its
+-- The bounds of a layer: it may have them, so that they lie where a layer may lie and a super-bitmap layer's portion lies in its
 -- bitmap. Unless it has a bitmap of its own, they have the size of its bits, and it isn't scrolled.
 pub record IsBounded (sizes : Sizes) (l : Layer) (r : Rectangle) : Type 0 where
   pub may : layer_may_have_bounds sizes l r ≡ true
@@ -54,8 +54,9 @@ abbrev pub active_is_window : Desk → Option ℕ → Bool
 active_is_window d None = true
 active_is_window d (Some s) = layer_is (λ l. is_window l.window) (d.slot s)
 
--- A desk that is sound: its sizes are within the limits; slots from the number of slots on are unopened; the list has each live slot once and no other, with
--- all backdrop layers last; each slot is as it should be; and at most one window is active, which is live.
+-- A desk that is sound: its sizes are within the limits; slots from the number of slots on are unopened; the list has each live
+-- slot once and no other, with all backdrop layers last; each slot is as it should be; and at most one window is active, which is
+-- live.
 pub record IsDesk (d : Desk) : Type 0 where
   pub limits : IsWithinLimits d.sizes
   pub beyond : (s : ℕ) → d.sizes.slots ≤ s → d.slot s ≡ Unopened

@@ -1,7 +1,8 @@
 -- What each call does to the desk, and what it answers (the manual's Graphics Primitives, Layers Library and Intuition
 -- Windows chapters; every refusal, the order of refusals, that a refused call changes nothing, which pixels count as outside for
 -- WritePixel and ReadPixel, and the direction of ScrollLayer are this project's own).
-use Rattle.std.specs.Prelude.{ℕ, ◌*◌, Bool, true, false, not, if◌then◌else◌, ℤ, pos, ◌+ℤ◌, int_le, unsigned_abs, List, [], ◌∷◌, length, Option, Some, None}
+use Rattle.std.specs.Prelude.{ℕ, ◌*◌, Bool, true, false, not, if◌then◌else◌, ℤ, pos, ◌+ℤ◌, int_le, unsigned_abs, List, [], ◌∷◌}
+use Rattle.std.specs.Prelude.{length, Option, Some, None}
 use Rattle.std.specs.List.{slice_index_or}
 use Rattle.lw_region.specs.Rectangle.{Rectangle, moved_by}
 use Rattle.lw_region.specs.Order.{natural}
@@ -13,13 +14,20 @@ use Rattle.lw_calls.specs.declared.message.Message.{Message}
 use Rattle.lw_calls.specs.declared.make.Make.{Make}
 use Rattle.lw_calls.specs.declared.area.Area.{Area}
 use Rattle.lw_calls.specs.declared.call.Call.{Call}
-use Rattle.lw_calls.specs.declared.call.Call.TheVariants.{RegRect, RegPair, RegClear, Create, OpenWindow, Close, ToFront, ToBack, InFrontOf, MoveBy, SizeBy, SetBox, Activate, Which, SetA, SetB, SetMode, SetMask, At, WritePixel, ReadPixel, Fill, DrawTo, Letters, SetRast, ScrollRaster, Put, Blit, Clip, Unclip, BeginRefresh, EndRefresh, Scroll, SetTitle, TakeMessage}
+use Rattle.lw_calls.specs.declared.call.Call.TheVariants.{RegRect, RegPair, RegClear, Create, OpenWindow, Close, ToFront, ToBack}
+use Rattle.lw_calls.specs.declared.call.Call.TheVariants.{InFrontOf, MoveBy, SizeBy, SetBox, Activate, SetHook, Which, SetA, SetB}
+use Rattle.lw_calls.specs.declared.call.Call.TheVariants.{SetMode, SetMask, At, WritePixel, ReadPixel, Fill, DrawTo, Letters}
+use Rattle.lw_calls.specs.declared.call.Call.TheVariants.{SetRast, ScrollRaster, Put, Blit, Clip, Unclip, BeginRefresh}
+use Rattle.lw_calls.specs.declared.call.Call.TheVariants.{EndRefresh, Scroll, SetTitle, TakeMessage}
 use Rattle.lw_calls.specs.declared.reply.Reply.{Reply}
-use Rattle.lw_calls.specs.declared.reply.Reply.TheVariants.{Done, Pen, Outside, Nothing, Layer as LayerFound, Rects, Got, NotOpen, AlreadyOpen, NotWindow, NotOwner, Backdrop, NotSuper, InUpdate, NotInUpdate, OutOfBounds, TooManyRects}
-use Rattle.lw_calls.specs.declared.touch.CallClass.{CallClass}
-use Rattle.lw_calls.specs.declared.touch.CallClass.TheVariants.{OnRegisters, OnInfo, OnLayer, OnLayers, OnAll}
-use Rattle.lw_calls.specs.Touches.{class_of}
-use Rattle.lw_machine.specs.Layer.{Layer, Window, Slot, Unopened, Live, Closed, is_unopened, is_live, layer_is, change_layer, is_window, is_foreign, change_window}
+use Rattle.lw_calls.specs.declared.reply.Reply.TheVariants.{Done, Pen, Outside, Nothing, Layer as LayerFound, Rects, Got, NotOpen}
+use Rattle.lw_calls.specs.declared.reply.Reply.TheVariants.{AlreadyOpen, NotWindow, NotOwner, Backdrop, NotSuper, InUpdate}
+use Rattle.lw_calls.specs.declared.reply.Reply.TheVariants.{NotInUpdate, OutOfBounds, TooManyRects}
+use Rattle.lw_calls.specs.declared.touch.Slots.{Slots}
+use Rattle.lw_calls.specs.declared.touch.Slots.TheVariants.{Nothing as NoSlot, One, Two, All as AllSlots}
+use Rattle.lw_calls.specs.Touches.{slots_of}
+use Rattle.lw_machine.specs.Layer.{Layer, Window, Slot, Unopened, Live, Closed, may_open, is_live, layer_is, change_layer}
+use Rattle.lw_machine.specs.Layer.{is_window, is_foreign, change_window}
 use Rattle.lw_calls.specs.Kinds.{is_super}
 use Rattle.lw_machine.specs.Desk.{Desk, with_value, is_the}
 use Rattle.lw_machine.specs.Screen.{top}
@@ -27,7 +35,8 @@ use Rattle.lw_machine.specs.Kept.{is_visible, is_kept, is_drawable, holds_at}
 use Rattle.lw_machine.specs.Shapes.{box_at, write_pixel, rect_fill, draw_line, with_cursor, draw_text, set_rast}
 use Rattle.lw_machine.specs.Blits.{clip_blit, blt_bitmap_rast_port, scroll_raster}
 use Rattle.lw_machine.specs.Registers.{rect_result, pair_result, has_too_many}
-use Rattle.lw_machine.specs.Arrangement.{bounds_of, portion_fits, may_have_bounds, layer_may_have_bounds, sized_by, arranged}
+use Rattle.lw_machine.specs.Arrangement.{bounds_of, portion_fits, may_have_bounds, layer_may_have_bounds, shelf_without, sized_by}
+use Rattle.lw_machine.specs.Arrangement.{arranged}
 use Rattle.lw_machine.specs.Reveal.{with_frame, settled}
 
 -- the refusal with this reply where the test holds, or else the next one
@@ -55,45 +64,63 @@ abbrev pub may_change_bounds : Desk → ℕ → (Rectangle → Rectangle) → Op
 may_change_bounds d slot change None = false
 may_change_bounds d slot change (Some r) = layer_is (λ l. layer_may_have_bounds d.sizes l (change r)) (d.slot slot)
 
--- the refusal of a change of a slot's bounds
+-- the refusal of a change of an open slot's bounds
 abbrev pub change_refusal : Desk → ℕ → (Rectangle → Rectangle) → Option Reply
 change_refusal d slot change =
-    refuse_not_open (d.slot slot) (refuse_backdrop (d.slot slot) (refuse (not (may_change_bounds d slot change (d.bounds slot))) OutOfBounds None))
+    refuse_backdrop (d.slot slot) (refuse (not (may_change_bounds d slot change (d.bounds slot))) OutOfBounds None)
 
 -- the refusal of a new layer in a slot, with a frame or without
 abbrev pub creation_refusal : Desk → ℕ → Make → Bool → Option Reply
 creation_refusal d slot make framed =
-    refuse (not (is_unopened (d.slot slot))) AlreadyOpen (refuse (not (may_have_bounds d.sizes framed make.kind 0 0 make.bits_w make.bits_h (bounds_of make))) OutOfBounds None)
+    refuse (not (may_open d.sizes.version (d.slot slot))) AlreadyOpen
+    (refuse (not (may_have_bounds d.sizes framed make.kind 0 0 make.bits_w make.bits_h (bounds_of make))) OutOfBounds None)
 
 -- what a super-bitmap layer would show at another scroll lies in its bitmap
 abbrev pub may_scroll : Option Rectangle → ℤ → ℤ → Layer → Bool
 may_scroll None dx dy l = false
 may_scroll (Some r) dx dy l = portion_fits (pos l.scroll_x +ℤ dx) (pos l.scroll_y +ℤ dy) l.bits.width l.bits.height r
 
--- the refusal of a call on one layer or two that aren't open, or else the next one; nothing is asked of an arrangement here
-abbrev pub refuse_unless_open : Desk → CallClass → Option Reply → Option Reply
-refuse_unless_open d OnRegisters next = next
-refuse_unless_open d OnInfo next = next
-refuse_unless_open d (OnLayer slot) next = refuse_not_open (d.slot slot) next
-refuse_unless_open d (OnLayers source slot) next = refuse_not_open (d.slot source) (refuse_not_open (d.slot slot) next)
-refuse_unless_open d OnAll next = next
+-- The layers that have to be open for a call, in the order in which it names them: those that it touches or, where it touches
+-- all, those that it names. A creation is the exception: its layer is not to be open.
+abbrev pub must_be_open : Call → Slots
+must_be_open (Create slot make) = NoSlot
+must_be_open (OpenWindow slot make framed nocare asks title) = NoSlot
+must_be_open (Close slot) = One slot
+must_be_open (ToFront slot) = One slot
+must_be_open (ToBack slot) = One slot
+must_be_open (InFrontOf slot other) = Two slot other
+must_be_open (MoveBy slot dx dy) = One slot
+must_be_open (SizeBy slot dw dh) = One slot
+must_be_open (SetBox slot x y w h) = One slot
+must_be_open (Activate slot) = One slot
+must_be_open (SetHook slot hook) = One slot
+must_be_open call = slots_of call
 
--- The first refusal that holds of a call, where its one layer or its two are open if it is a call on one or two.
+-- the refusal of a call where not all of these layers are open, or else the next one
+abbrev pub refuse_unless_open : Desk → Slots → Option Reply → Option Reply
+refuse_unless_open d NoSlot next = next
+refuse_unless_open d (One slot) next = refuse_not_open (d.slot slot) next
+refuse_unless_open d (Two slot other) next = refuse_not_open (d.slot slot) (refuse_not_open (d.slot other) next)
+refuse_unless_open d AllSlots next = next
+
+-- The first refusal that holds of a call for which all layers are open that have to be.
 abbrev pub further_refusal : Desk → ℕ → Call → Option Reply
-further_refusal d task (RegRect op register rect) = refuse (has_too_many (rect_result op (d.registers task register) rect)) TooManyRects None
-further_refusal d task (RegPair op source into) = refuse (has_too_many (pair_result op (d.registers task source) (d.registers task into))) TooManyRects None
+further_refusal d task (RegRect op register rect) =
+    refuse (has_too_many (rect_result op (d.registers task register) rect)) TooManyRects None
+further_refusal d task (RegPair op source into) =
+    refuse (has_too_many (pair_result op (d.registers task source) (d.registers task into))) TooManyRects None
 further_refusal d task (RegClear register) = None
 further_refusal d task (Create slot make) = creation_refusal d slot make false
 further_refusal d task (OpenWindow slot make framed nocare asks title) = creation_refusal d slot make framed
-further_refusal d task (Close slot) = refuse_not_open (d.slot slot) (refuse_not_owner task (d.slot slot) None)
-further_refusal d task (ToFront slot) = refuse_not_open (d.slot slot) (refuse_backdrop (d.slot slot) None)
-further_refusal d task (ToBack slot) = refuse_not_open (d.slot slot) (refuse_backdrop (d.slot slot) None)
-further_refusal d task (InFrontOf slot other) =
-    refuse_not_open (d.slot slot) (refuse_not_open (d.slot other) (refuse_backdrop (d.slot slot) (refuse_backdrop (d.slot other) None)))
+further_refusal d task (Close slot) = refuse_not_owner task (d.slot slot) None
+further_refusal d task (ToFront slot) = refuse_backdrop (d.slot slot) None
+further_refusal d task (ToBack slot) = refuse_backdrop (d.slot slot) None
+further_refusal d task (InFrontOf slot other) = refuse_backdrop (d.slot slot) (refuse_backdrop (d.slot other) None)
 further_refusal d task (MoveBy slot dx dy) = change_refusal d slot (λ r. moved_by r dx dy)
 further_refusal d task (SizeBy slot dw dh) = change_refusal d slot (λ r. sized_by r dw dh)
 further_refusal d task (SetBox slot x y w h) = change_refusal d slot (λ r. box_at x y w h)
-further_refusal d task (Activate slot) = refuse_not_open (d.slot slot) (refuse_not_window (d.slot slot) None)
+further_refusal d task (Activate slot) = refuse_not_window (d.slot slot) None
+further_refusal d task (SetHook slot hook) = None
 further_refusal d task (Which x y) = None
 further_refusal d task (SetA slot pen) = None
 further_refusal d task (SetB slot pen) = None
@@ -117,14 +144,15 @@ further_refusal d task (BeginRefresh slot) =
 further_refusal d task (EndRefresh slot full) =
     refuse_not_owner task (d.slot slot) (refuse (layer_is (λ l. not l.updating) (d.slot slot)) NotInUpdate None)
 further_refusal d task (Scroll slot dx dy) =
-    refuse (layer_is (λ l. not (is_super l.kind)) (d.slot slot)) NotSuper (refuse (layer_is (λ l. not (may_scroll (d.bounds slot) dx dy l)) (d.slot slot)) OutOfBounds None)
+    refuse (layer_is (λ l. not (is_super l.kind)) (d.slot slot)) NotSuper
+    (refuse (layer_is (λ l. not (may_scroll (d.bounds slot) dx dy l)) (d.slot slot)) OutOfBounds None)
 further_refusal d task (SetTitle slot title) = refuse_not_window (d.slot slot) (refuse_not_owner task (d.slot slot) None)
 further_refusal d task (TakeMessage slot) = refuse_not_window (d.slot slot) (refuse_not_owner task (d.slot slot) None)
 
 -- The first refusal that holds, in the order of the replies: not-open, already-open, not-window, not-owner, backdrop,
 -- not-super, in-update, not-in-update, out-of-bounds, too-many-rects.
 abbrev pub refusal : Desk → ℕ → Call → Option Reply
-refusal d task call = refuse_unless_open d (class_of call) (further_refusal d task call)
+refusal d task call = refuse_unless_open d (must_be_open call) (further_refusal d task call)
 
 -- the desk with the layer in a slot changed, if it has one
 abbrev pub on_layer : Desk → ℕ → (Layer → Layer) → Desk
@@ -132,7 +160,8 @@ on_layer d slot change = record d { slot = with_value slot (change_layer change 
 
 -- the desk with a register of a task
 abbrev pub with_register : Desk → ℕ → ℕ → List Pixel → Desk
-with_register d task register set = record d { registers = with_value task (with_value register set (d.registers task)) d.registers }
+with_register d task register set =
+    record d { registers = with_value task (with_value register set (d.registers task)) d.registers }
 
 -- the layer with its pens, its mode or its mask
 abbrev pub with_pen_a : ℕ → Layer → Layer
@@ -161,7 +190,8 @@ clip_blit_from Closed source_visible visible area l = l
 abbrev pub end_update : Bool → Layer → Layer
 end_update false l = record l { updating = false }
 end_update true l =
-    change_window (λ w. record w { asked = false }) (record l { updating = false; damage = grid l.bits.width l.bits.height (λ x y. false) })
+    change_window (λ w. record w { asked = false })
+    (record l { updating = false; damage = grid l.bits.width l.bits.height (λ x y. false) })
 
 -- ScrollLayer: a super-bitmap layer shows another portion of its bitmap.
 abbrev pub scroll_layer : ℤ → ℤ → Layer → Layer
@@ -177,6 +207,12 @@ abbrev pub after_first : List Message → List Message
 after_first [] = []
 after_first (m ∷ ms) = ms
 
+-- InstallLayerHook: the layer's hook is the shelf's one of this number, or none where the shelf hasn't got it, and the shelf
+-- lacks it then. The former hook is gone; pixels, damage and messages stay.
+abbrev pub install_layer_hook : Desk → ℕ → ℕ → Desk
+install_layer_hook d slot n =
+    record (on_layer d slot (λ l. record l { hook = d.shelf n })) { shelf = shelf_without (Some n) d.shelf }
+
 -- GetMsg: the port without its oldest message
 abbrev pub get_msg : Layer → Layer
 get_msg l = change_window (λ w. record w { port = after_first w.port }) l
@@ -188,10 +224,12 @@ no_bitmap = record { width = 0; height = 0; depth = 0; rows = [] }
 -- The desk after a call that is not refused.
 abbrev pub effect : Desk → ℕ → Call → Desk
 effect d task (RegRect op register rect) = with_register d task register (rect_result op (d.registers task register) rect)
-effect d task (RegPair op source into) = with_register d task into (pair_result op (d.registers task source) (d.registers task into))
+effect d task (RegPair op source into) =
+    with_register d task into (pair_result op (d.registers task source) (d.registers task into))
 effect d task (RegClear register) = with_register d task register []
 effect d task (Create slot make) = settled d (arranged d task (Create slot make))
-effect d task (OpenWindow slot make framed nocare asks title) = settled d (arranged d task (OpenWindow slot make framed nocare asks title))
+effect d task (OpenWindow slot make framed nocare asks title) =
+    settled d (arranged d task (OpenWindow slot make framed nocare asks title))
 effect d task (Close slot) = settled d (arranged d task (Close slot))
 effect d task (ToFront slot) = settled d (arranged d task (ToFront slot))
 effect d task (ToBack slot) = settled d (arranged d task (ToBack slot))
@@ -200,6 +238,7 @@ effect d task (MoveBy slot dx dy) = settled d (arranged d task (MoveBy slot dx d
 effect d task (SizeBy slot dw dh) = settled d (arranged d task (SizeBy slot dw dh))
 effect d task (SetBox slot x y w h) = settled d (arranged d task (SetBox slot x y w h))
 effect d task (Activate slot) = settled d (arranged d task (Activate slot))
+effect d task (SetHook slot hook) = install_layer_hook d slot hook
 effect d task (Which x y) = d
 effect d task (SetA slot pen) = on_layer d slot (with_pen_a pen)
 effect d task (SetB slot pen) = on_layer d slot (with_pen_b pen)
@@ -215,13 +254,15 @@ effect d task (SetRast slot pen) = drawn_on d slot (λ visible. set_rast visible
 effect d task (ScrollRaster slot dx dy rect) = drawn_on d slot (λ visible. scroll_raster visible dx dy rect)
 effect d task (Put bitmap slot area) =
     drawn_on d slot (λ visible. blt_bitmap_rast_port (slice_index_or d.assets.bitmaps bitmap no_bitmap) visible area)
-effect d task (Blit source slot area) = drawn_on d slot (λ visible. clip_blit_from (d.slot source) (is_visible d source) visible area)
+effect d task (Blit source slot area) =
+    drawn_on d slot (λ visible. clip_blit_from (d.slot source) (is_visible d source) visible area)
 effect d task (Clip slot register) = on_layer d slot (λ l. record l { clip = Some (d.registers task register) })
 effect d task (Unclip slot) = on_layer d slot (λ l. record l { clip = None })
 effect d task (BeginRefresh slot) = on_layer d slot (λ l. record l { updating = true })
 effect d task (EndRefresh slot full) = on_layer d slot (end_update full)
 effect d task (Scroll slot dx dy) = on_layer d slot (scroll_layer dx dy)
-effect d task (SetTitle slot title) = drawn_on d slot (λ visible. set_window_titles d.assets.glyphs visible (is_the d.active slot) title)
+effect d task (SetTitle slot title) =
+    drawn_on d slot (λ visible. set_window_titles d.assets.glyphs visible (is_the d.active slot) title)
 effect d task (TakeMessage slot) = on_layer d slot get_msg
 
 -- what a look at a place answers
@@ -264,6 +305,7 @@ answer d task (MoveBy slot dx dy) = Done
 answer d task (SizeBy slot dw dh) = Done
 answer d task (SetBox slot x y w h) = Done
 answer d task (Activate slot) = Done
+answer d task (SetHook slot hook) = Done
 answer d task (Which x y) = found (top d x y)
 answer d task (SetA slot pen) = Done
 answer d task (SetB slot pen) = Done
@@ -273,7 +315,10 @@ answer d task (At slot x y) = Done
 answer d task (WritePixel slot x y) =
     from_layer (λ l. if holds_at (is_drawable (is_visible d slot l) l) x y then Done else Outside) (d.slot slot)
 answer d task (ReadPixel slot x y) =
-    from_layer (λ l. if holds_at (is_kept (is_visible d slot l) l) x y then Pen (pen_at l.bits (unsigned_abs x) (unsigned_abs y)) else Outside) (d.slot slot)
+    from_layer
+    (λ l. if holds_at (is_kept (is_visible d slot l) l) x y then Pen (pen_at l.bits (unsigned_abs x) (unsigned_abs y))
+    else Outside)
+    (d.slot slot)
 answer d task (Fill slot rect) = Done
 answer d task (DrawTo slot x y) = Done
 answer d task (Letters slot text) = Done

@@ -1,4 +1,5 @@
-ghost use Rattle.lw_machine.specs.Laws.{ScreenShowsTheTop, VisiblePixelsAreSeen, NothingIsLost, RefusedCallsChangeNothing, ReachedDesksAreSound, StepsLeaveTheRest, StepsAreLocal};
+ghost use Rattle.lw_machine.specs.Laws.{ScreenShowsTheTop, VisiblePixelsAreSeen, NothingIsLost, RefusedCallsChangeNothing};
+ghost use Rattle.lw_machine.specs.Laws.{ReachedDesksAreSound, StepsLeaveTheRest, StepsAreLocal};
 
 /// A law of the machine, which does nothing: the screen has at each place the pen of the top
 /// layer's pixel, or 0 where there is no layer.
@@ -12,8 +13,8 @@ pub fn visible_pixels_are_seen()
     ensures { VisiblePixelsAreSeen }
 {}
 
-/// A law of the machine, which does nothing: an arrangement leaves the pen of each pixel that lies
-/// in the inner rectangle of a smart layer before and after it, and all pens of a super-bitmap layer.
+/// A law of the machine, which does nothing: an arrangement, and any other call that touches all layers, leaves the pen of each
+/// pixel that lies in the inner rectangle of a smart layer before and after it, and all pens of a super-bitmap layer.
 pub fn nothing_is_lost()
     ensures { NothingIsLost }
 {}

@@ -1,6 +1,7 @@
 -- For private contracts.
 -- What the code keeps of a past while an order is read, for its proofs.
-use Rattle.std.specs.Prelude.{ℕ, ◌+◌, ◌==◌, Bool, false, not, ◌&&◌, ◌||◌, nat_lt, if◌then◌else◌, List, [], ◌∷◌, length, map, Option, Some, None}
+use Rattle.std.specs.Prelude.{ℕ, ◌+◌, ◌==◌, Bool, false, not, ◌&&◌, ◌||◌, nat_lt, if◌then◌else◌, List, [], ◌∷◌, length, map}
+use Rattle.std.specs.Prelude.{Option, Some, None}
 use Rattle.std.specs.List.{list_all, range_with_len, slice_get, slice_index_or}
 use Rattle.lw_calls.specs.declared.touch.Touch.{Touch}
 use Rattle.lw_calls.specs.declared.group.Group.{Group}
@@ -37,7 +38,8 @@ is_held groups touch p = is_held_by p.made touch (slice_get groups p.group)
 -- no other task is within a group that holds what the call of this task touches
 abbrev pub is_free : Plan → List Progress → ℕ → Touch → Bool
 is_free plan states task touch =
-    list_all (λ t. (t == task) || not (is_held (task_groups plan t) touch (slice_index_or states t no_progress))) (range_with_len 0 plan.sizes.tasks)
+    list_all (λ t. (t == task) || not (is_held (task_groups plan t) touch (slice_index_or states t no_progress)))
+    (range_with_len 0 plan.sizes.tasks)
 
 -- one group more is over where the task comes to the last call of the next group
 abbrev pub over_more : ℕ → ℕ → Option Group → ℕ
@@ -50,4 +52,5 @@ progress_more groups p = record { made = p.made + 1; group = over_more (p.made +
 
 -- each task made all its calls
 abbrev pub are_all_made : Plan → List Progress → Bool
-are_all_made plan states = list_all (λ t. (slice_index_or states t no_progress).made == length (task_calls plan t)) (range_with_len 0 plan.sizes.tasks)
+are_all_made plan states =
+    list_all (λ t. (slice_index_or states t no_progress).made == length (task_calls plan t)) (range_with_len 0 plan.sizes.tasks)

@@ -5,4 +5,6 @@ use Rattle.lw_calls.specs.Code.OrderState.{no_progress, is_held}
 use Rattle.lw_calls.proofs.orders.is_free.Given as goal
 
 abbrev pub invariant-loop-other : goal.invariant-loop-other
-invariant-loop-other l = list_all (λ t. (t == l.task) || not (is_held (task_groups l.plan t) l.touch (slice_index_or l.states t no_progress))) (range_with_len 0 l.other) ≡ true
+invariant-loop-other l =
+    list_all (λ t. (t == l.task) || not (is_held (task_groups l.plan t) l.touch (slice_index_or l.states t no_progress)))
+    (range_with_len 0 l.other) ≡ true

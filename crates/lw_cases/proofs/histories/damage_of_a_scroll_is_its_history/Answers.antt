@@ -5,12 +5,12 @@ use Rattle.lw_cases.proofs.histories.damage_of_a_scroll_is_its_history.Goals as 
 
 pub returns-clause-under_cover : goal.returns-clause-under_cover
 unfolding computing
-returns-clause-under_cover c = record { told = refl; kept = refl }
+returns-clause-under_cover c = record { hurt = refl; kept = refl }
 
 pub returns-clause-uncovered : goal.returns-clause-uncovered
 unfolding computing
-returns-clause-uncovered c = record { told = refl; kept = refl }
+returns-clause-uncovered c = record { hurt = refl; kept = refl }
 
 pub returns-clause-once_more : goal.returns-clause-once_more
 unfolding computing
-returns-clause-once_more c = record { told = refl; kept = refl }
+returns-clause-once_more c = record { hurt = refl; kept = refl }

@@ -5,4 +5,4 @@ use Rattle.lw_cases.proofs.histories.damage_of_an_update_is_its_history.Goals as
 
 pub returns-clause-hook : goal.returns-clause-hook
 unfolding computing
-returns-clause-hook c = record { told = refl; kept = refl }
+returns-clause-hook c = record { hurt = refl; kept = refl }

@@ -32,7 +32,7 @@ pub returns-clause-bitmaps : goal.returns-clause-bitmaps
 returns-clause-bitmaps c = λ limits. omega (arith, limits.bitmaps)
 
 pub returns-clause-version_0 : goal.returns-clause-version_0
-returns-clause-version_0 c = λ limits. omega (arith, limits.version)
+returns-clause-version_0 c = λ limits. omega (arith, limits.some_version)
 
-pub returns-clause-version_2 : goal.returns-clause-version_2
-returns-clause-version_2 c = λ limits. omega (arith, limits.version)
+pub returns-clause-version_4 : goal.returns-clause-version_4
+returns-clause-version_4 c = λ limits. omega (arith, limits.version)

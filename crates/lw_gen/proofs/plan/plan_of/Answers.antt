@@ -4,8 +4,8 @@ use Rattle.lw_gen.specs.Demo.{demo_sizes}
 use Rattle.lw_gen.proofs.Plans.{are_plans}
 use Rattle.lw_gen.proofs.plan.plan_of.Goals as goal
 
-pub new-requires-2 : goal.new-requires-2
-new-requires-2 c =
+pub new-requires-3 : goal.new-requires-3
+new-requires-3 c =
     subst IsPlan
     (λ i. record {
       sizes = demo_sizes c.args.tasks;
@@ -14,6 +14,7 @@ new-requires-2 c =
       bitmap_names = sym c.new.ensures.items i;
       calls = sym c.in_ok-call_lists.ensures i;
       groups = sym c.in_ok-no_groups.ensures i;
+      pairs = sym c.new-2.ensures.items i;
       assets = sym c.no_assets.ensures i;
     })
     (are_plans c.args.number c.args.tasks c.requires.some c.requires.few)

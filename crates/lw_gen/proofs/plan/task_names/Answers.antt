@@ -5,4 +5,5 @@ use Rattle.lw_gen.proofs.plan.task_names.Goals as goal
 
 pub loop-task-preserved : goal.loop-task-preserved
 loop-task-preserved c =
-    one_more task_name c.loop-task.task c.loop-task.names.items c.push.new.self.items c.new.result c.loop-task.invariant (c.new.ensures ∙ c.in_ok-task_name.ensures) c.in_ok-push.ensures.items
+    one_more task_name c.loop-task.task c.loop-task.names.items c.push.new.self.items c.new.result c.loop-task.invariant
+    (c.new.ensures ∙ c.in_ok-task_name.ensures) c.in_ok-push.ensures.items

@@ -6,4 +6,5 @@ use Rattle.lw_machine.proofs.laws.screen_shows_the_top.Goals as goal
 pub returns : goal.returns
 unfolding screen
 returns c =
-    λ d x y left low. pen_at_bitmap d.sizes.width d.sizes.height d.sizes.depth (λ x y. pen_of_top d (top d (pos x) (pos y)) (pos x) (pos y)) x y left low
+    λ d x y left low. pen_at_bitmap d.sizes.width d.sizes.height d.sizes.depth
+    (λ x y. pen_of_top d (top d (pos x) (pos y)) (pos x) (pos y)) x y left low
