@@ -2,18 +2,14 @@
 use Rattle.std.proofs.Common.{◌≡◌, ℕ, ◌<◌, ◌==◌, Bool, true, false, ◌&&◌, List, ◌∷◌, length, Option, Some, None, option_and_then, IsTrue, refl, sym, ap, ◌∙◌, arith}
 use Rattle.std.specs.Prelude.{if◌then◌else◌}
 use Rattle.std.specs.List.{slice_index_or, slice_set}
-use Rattle.std.proofs.lemmas.Bool.{ltb-true}
+use Rattle.std.proofs.lemmas.Bool.{ltb-true, false≢true}
 use Rattle.lw_region.specs.Rectangle.{Rectangle}
 use Rattle.lw_calls.specs.declared.make.Make.{Make}
 use Rattle.lw_calls.specs.declared.call.Call.{Call}
-use Rattle.lw_calls.specs.declared.call.Call.TheVariants.{Create, OpenWindow, Close, ToFront, ToBack, InFrontOf, MoveBy, SizeBy, SetBox, Activate, Blit}
+use Rattle.lw_calls.specs.declared.call.Call.TheVariants.{Create, OpenWindow, Close, ToFront, ToBack, InFrontOf, MoveBy, SizeBy, SetBox, Activate}
 use Rattle.lw_calls.specs.Limits.{call_fits, make_fits, coordinates_fit, is_extent, window_fits}
 use Rattle.lw_calls.specs.Orders.{occurrences}
-use Rattle.lw_calls.specs.declared.touch.CallClass.{CallClass}
-use Rattle.lw_calls.specs.declared.touch.CallClass.TheVariants.{OnAll}
-use Rattle.lw_calls.specs.Touches.{class_of, slots_in}
-use Rattle.lw_calls.specs.Plan.{is_all}
-use Rattle.lw_calls.proofs.BlitClass.{blit_not_all}
+use Rattle.lw_calls.specs.Touches.{is_arrangement}
 use Rattle.lw_machine.specs.Layer.{Window}
 use Rattle.lw_machine.specs.Desk.{Desk, with_value}
 use Rattle.lw_machine.specs.Parts.{info_part}
@@ -122,7 +118,7 @@ change_stands d v s change stands low =
 
 -- What planning makes of LayerInfo stands for what the machine makes of it.
 pub after_stands : (d : Desk) (v : Stack) (looks : List (Option Look)) (fresh : Bool) (task : ℕ) (call : Call) → IsStack v
-    → class_of call ≡ OnAll → IsTrue (call_fits v.sizes call) → AreOf d v looks fresh call
+    → is_arrangement call ≡ true → IsTrue (call_fits v.sizes call) → AreOf d v looks fresh call
     → StandsForInfo (stack_after v looks call) (info_part (arranged d task call))
 after_stands d v looks fresh task (Create slot make) ok all fits are =
     new_stands d v looks fresh (Create slot make) slot make None ok are (entry_low v slot (make_fits v.sizes make) ok fits)
@@ -143,5 +139,4 @@ after_stands d v looks fresh task (SetBox slot x y w h) ok all fits are =
     change_stands d v slot (Box x y w h) are.info (entry_low v slot (coordinates_fit x y && (is_extent w && is_extent h)) ok fits)
 after_stands d v looks fresh task (Activate slot) ok all fits are =
     record { front_to_back = are.info.front_to_back; bounds = are.info.bounds; active = refl }
-after_stands d v looks fresh task (Blit source slot area) ok all fits are = absurd (blit_not_all (source == slot) source slot (ap (λ (k : CallClass). is_all (slots_in k)) all))
-after_stands d v looks fresh task call ok all fits are = absurd (cc)
+after_stands d v looks fresh task call ok all fits are = absurd (false≢true all)

@@ -13,7 +13,7 @@ use Rattle.lw_calls.specs.Kinds.{is_super}
 use Rattle.lw_machine.specs.Layer.{Layer, Window, is_framed}
 use Rattle.lw_machine.specs.Kept.{in_inner, is_kept}
 use Rattle.lw_machine.specs.Arrangement.{blank, new_layer}
-use Rattle.lw_machine.specs.Reveal.{width_in, height_in, counts_as_kept, resized, fill_pen, hook_after}
+use Rattle.lw_machine.specs.Reveal.{width_in, height_in, counts_as_kept, at_new_size, fill_pen, hook_after}
 use Rattle.lw_machine.specs.Reveal as reveal
 use Rattle.lw_machine.proofs.CreatedSound.{blank_bitmap}
 use Rattle.lw_layer.specs.View.{LiveView, CellView, keeps}
@@ -51,7 +51,7 @@ all_counts c r visible x y stays =
 abbrev bare_pen : LiveView → Rectangle → List Rectangle → ℕ → ℕ → ℕ
 bare_pen c r visible x y =
     let k = across_to c r visible in
-    if reveal.keeps k (resized k c.layer) x y
+    if reveal.keeps k (at_new_size k c.layer) x y
     then (if counts_as_kept k (windowless c.layer) x y then pen_at c.layer.bits x y else 0)
     else 0
 
@@ -64,7 +64,7 @@ bare_is : (c : LiveView) (r : Rectangle) (visible : List Rectangle) (x y : ℕ) 
     → carried_pen c r visible x y ≡ bare_pen c r visible x y
 bare_is c r visible x y sound =
     let k = across_to c r visible in
-    ap (λ o. if reveal.keeps k (resized k c.layer) x y
+    ap (λ o. if reveal.keeps k (at_new_size k c.layer) x y
     then (if counts_as_kept k (windowless c.layer) x y then pen_at c.layer.bits x y else fill_pen c.layer.bits.depth o x y)
     else 0) sound.hook
 
@@ -99,14 +99,14 @@ gained_blank c r visible x y live sound stays has =
         let inside = gained_inside c (stayed r visible c) x y has in
         let left = subst (λ (v : LiveView). x < v.layer.bits.width) carried inside.0 in
         let low = subst (λ (v : LiveView). y < v.layer.bits.height) carried inside.1 in
-        let filled : (reveal.keeps k (resized k l) x y && not (counts_as_kept k l x y)) ≡ true =
+        let filled : (reveal.keeps k (at_new_size k l) x y && not (counts_as_kept k l x y)) ≡ true =
         sym (gains_stayed c r visible c.live.active c.live.active x y live other) ∙ has in
         let same : counts_as_kept k (windowless l) x y ≡ counts_as_kept k l x y =
         counts_kept c.live r visible x y ∙ sym (all_counts c.live r visible x y stays) in
         ap (λ (v : LiveView). pen_at v.layer.bits x y) carried
         ∙ (pens left low
         ∙ (bare_is c.live r visible x y sound
-        ∙ zero_pen (reveal.keeps k (resized k l) x y) (counts_as_kept k (windowless l) x y) (counts_as_kept k l x y)
+        ∙ zero_pen (reveal.keeps k (at_new_size k l) x y) (counts_as_kept k (windowless l) x y) (counts_as_kept k l x y)
         (pen_at l.bits x y) same filled))
       where
         pens : x < width_in (Some r) → y < height_in (Some r)
@@ -144,7 +144,7 @@ carried_bitmap c r visible sound =
         (λ x y left low.
         let Q : ℕ → Type 0 = λ n. n < 2 ^ c.layer.bits.depth in
         subst Q (sym (bare_is c r visible x y sound))
-        (small_pen (reveal.keeps k (resized k c.layer) x y) (counts_as_kept k (windowless c.layer) x y) (pen_at c.layer.bits x y)
+        (small_pen (reveal.keeps k (at_new_size k c.layer) x y) (counts_as_kept k (windowless c.layer) x y) (pen_at c.layer.bits x y)
         c.layer.bits.depth (λ counts. kept_small c x y sound (sym (counts_kept c r visible x y) ∙ counts)))))
 
 -- and it has no hook either

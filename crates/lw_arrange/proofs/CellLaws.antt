@@ -1,23 +1,19 @@
 -- What a planned arrangement makes of a cell stands for what the machine makes of its slot.
 use Rattle.std.proofs.Common.{◌≡◌, ℕ, ◌==◌, Bool, true, false, not, List, Option, Some, None, refl, sym, ap, ◌∙◌, ◌⊎◌, inl, inr}
 use Rattle.std.specs.Prelude.{if◌then◌else◌, option_and_then}
-use Rattle.std.proofs.lemmas.Bool.{eqb-true}
+use Rattle.std.proofs.lemmas.Bool.{eqb-true, false≢true}
 use Rattle.lw_region.specs.Rectangle.{Rectangle, moved_by}
 use Rattle.lw_calls.specs.declared.call.Call.{Call}
-use Rattle.lw_calls.specs.declared.call.Call.TheVariants.{Create, OpenWindow, Close, ToFront, ToBack, InFrontOf, MoveBy, SizeBy, SetBox, Activate, Blit}
-use Rattle.lw_calls.specs.declared.touch.CallClass.{CallClass}
-use Rattle.lw_calls.specs.declared.touch.CallClass.TheVariants.{OnAll}
-use Rattle.lw_calls.specs.Touches.{class_of, slots_in}
-use Rattle.lw_calls.specs.Plan.{is_all}
-use Rattle.lw_calls.proofs.BlitClass.{blit_not_all}
+use Rattle.lw_calls.specs.declared.call.Call.TheVariants.{Create, OpenWindow, Close, ToFront, ToBack, InFrontOf, MoveBy, SizeBy, SetBox, Activate}
+use Rattle.lw_calls.specs.Touches.{is_arrangement}
 use Rattle.lw_calls.specs.declared.reply.Reply.TheVariants.{AlreadyOpen, OutOfBounds}
-use Rattle.lw_machine.specs.Layer.{Unopened, Live, Closed, is_live, is_unopened, is_framed}
+use Rattle.lw_machine.specs.Layer.{Live, Closed, may_open, is_live, is_framed}
 use Rattle.lw_machine.specs.Desk.{Desk}
 use Rattle.lw_machine.specs.Shapes.{box_at}
 use Rattle.lw_machine.specs.Arrangement.{bounds_of, hook_from, new_layer, new_window, sized_by, may_have_bounds, create_layer, change_bounds, arranged}
 use Rattle.lw_machine.specs.Reveal.{has_bounds}
 use Rattle.lw_machine.specs.Step.{refuse, creation_refusal, refusal}
-use Rattle.lw_machine.proofs.ArrangementSound.{unopened}
+use Rattle.lw_machine.proofs.ArrangementSound.{idle}
 use Rattle.lw_machine.proofs.LayerCallSound.{not_refused}
 use Rattle.lw_arrange.specs.Prepared.{Created, created_by}
 
@@ -30,7 +26,7 @@ pub record Stays (d a : Desk) (s : ℕ) : Type 0 where
 pub record Opens (d a : Desk) (task : ℕ) (call : Call) (s : ℕ) : Type 0 where
   pub created : Created
   pub asked : created_by task call ≡ Some created
-  pub free : d.slot s ≡ Unopened
+  pub free : is_live (d.slot s) ≡ false
   pub slot : a.slot s ≡ Live (new_layer d.sizes.depth created.make (hook_from d.shelf created.make.hook) created.window)
   pub bounds : a.bounds s ≡ Some (bounds_of created.make)
   pub may : may_have_bounds d.sizes (is_framed created.window) created.make.kind 0 0 created.make.bits_w created.make.bits_h (bounds_of created.make) ≡ true
@@ -62,15 +58,15 @@ opens : (d : Desk) (task slot s : ℕ) (call : Call) (n : Created) → created_b
     → Becomes d (create_layer d slot n.make n.window) task call s
 opens d task slot s call n asked done = go (s == slot) refl
   where
-    first : (is_unopened (d.slot slot) ≡ true) × (refuse (not (may_have_bounds d.sizes (is_framed n.window) n.make.kind 0 0 n.make.bits_w n.make.bits_h (bounds_of n.make))) OutOfBounds None ≡ None)
-    first = not_refused (is_unopened (d.slot slot)) AlreadyOpen _ done
+    first : (may_open d.sizes.version (d.slot slot) ≡ true) × (refuse (not (may_have_bounds d.sizes (is_framed n.window) n.make.kind 0 0 n.make.bits_w n.make.bits_h (bounds_of n.make))) OutOfBounds None ≡ None)
+    first = not_refused (may_open d.sizes.version (d.slot slot)) AlreadyOpen _ done
 
     go : (b : Bool) → (s == slot) ≡ b → Becomes d (create_layer d slot n.make n.window) task call s
     go true e =
         inr (inl (record {
           created = n;
           asked = asked;
-          free = ap d.slot (eqb-true s slot e) ∙ unopened (d.slot slot) first.0;
+          free = ap (λ n. is_live (d.slot n)) (eqb-true s slot e) ∙ idle d.sizes.version (d.slot slot) first.0;
           slot = rw e refl;
           bounds = rw e refl;
           may = (not_refused (may_have_bounds d.sizes (is_framed n.window) n.make.kind 0 0 n.make.bits_w n.make.bits_h (bounds_of n.make)) OutOfBounds None first.1).0;
@@ -88,7 +84,7 @@ closes d task slot s done = go (s == slot) refl
     go false e = inl (record { slot = rw e refl; bounds = rw e refl })
 
 -- each slot stays, is opened or is closed
-pub slot_becomes : (d : Desk) (task : ℕ) (call : Call) (s : ℕ) → class_of call ≡ OnAll → refusal d task call ≡ None → Becomes d (arranged d task call) task call s
+pub slot_becomes : (d : Desk) (task : ℕ) (call : Call) (s : ℕ) → is_arrangement call ≡ true → refusal d task call ≡ None → Becomes d (arranged d task call) task call s
 slot_becomes d task (Create slot make) s all done = opens d task slot s (Create slot make) (record { make = make; window = None }) refl done
 slot_becomes d task (OpenWindow slot make framed nocare asks title) s all done =
     opens d task slot s (OpenWindow slot make framed nocare asks title)
@@ -101,5 +97,4 @@ slot_becomes d task (MoveBy slot dx dy) s all done = inl (record { slot = refl; 
 slot_becomes d task (SizeBy slot dw dh) s all done = inl (record { slot = refl; bounds = bounds_there d slot s (λ r. sized_by r dw dh) })
 slot_becomes d task (SetBox slot x y w h) s all done = inl (record { slot = refl; bounds = bounds_there d slot s (λ r. box_at x y w h) })
 slot_becomes d task (Activate slot) s all done = inl (record { slot = refl; bounds = refl })
-slot_becomes d task (Blit source slot area) s all done = absurd (blit_not_all (source == slot) source slot (ap (λ (k : CallClass). is_all (slots_in k)) all))
-slot_becomes d task call s all done = absurd (cc all)
+slot_becomes d task call s all done = absurd (false≢true all)

@@ -18,10 +18,12 @@ use Rattle.lw_calls.specs.declared.sizes.Sizes.{Sizes}
 use Rattle.lw_machine.specs.Desk.{is_the}
 use Rattle.lw_strips.specs.Strips.{StripView, strip_of, blank_planes, rects_of}
 use Rattle.lw_strips.specs.Laying.{screen, LiesIn, AreDisjoint}
-use Rattle.lw_stack.specs.Stack.{Stack, first_at, is_first_at, LieApart}
+use Rattle.lw_stack.specs.Stack.{Stack, first_at, top_in, is_top_in, LieApart}
 use Rattle.lw_stack.specs.Desktop.{is_bare, IsDesktop}
 use Rattle.lw_arrange.specs.Desktops.{IsSorted}
-use Rattle.lw_arrange.proofs.PieceLaws.{IsOnScreen}
+use Rattle.lw_cliprects.specs.Parts.{LieIn}
+use Rattle.lw_machine.specs.Screen.{screen_bounds}
+use Rattle.lw_arrange.proofs.PieceLaws.{first_is_top}
 
 -- a rectangle that was grown has all places that it had
 wider : (low z high l h : ℤ) → l ≤ℤ low → high ≤ℤ h → within low z high ≡ true → within l z h ≡ true
@@ -253,12 +255,16 @@ pub record IsRemade (v w : Stack) (area : List Rectangle) (strips kept : List St
   pub clear : (x y : ℤ) → covers cleared x y ≡ (covers near x y && not (covers area x y))
   pub join : (x y : ℤ) → covers joined x y ≡ (covers cleared x y || covers rest x y)
   pub left : (x y : ℤ) → covers rest x y ≡ (covers area x y && not (is_some (first_at w.bounds w.front_to_back x y)))
-  pub inside : IsOnScreen v.sizes area
+  pub inside : LieIn (screen_bounds v.sizes) area
   pub same : w.sizes ≡ v.sizes
   pub elsewhere : (s : ℕ) (x y : ℤ) → covers area x y ≡ false
-      → is_first_at v.bounds v.front_to_back s x y ≡ is_first_at w.bounds w.front_to_back s x y
+      → is_top_in v s x y ≡ is_top_in w s x y
 
--- what is the first for each slot is one layer or none
+-- a place of the screen without a top is one without a layer
+bare_by_top : (v : Stack) (x y : ℤ) → is_bare v x y ≡ (has_pixel (screen_bounds v.sizes) x y && not (is_some (top_in v x y)))
+bare_by_top v x y = first_is_top v x y (has_pixel (screen_bounds v.sizes) x y) (λ o. not (is_some o)) (λ on. on)
+
+-- what is on top for each slot is one layer or none
 pub one_first : (o p : Option ℕ) → ((s : ℕ) → is_the o s ≡ is_the p s) → o ≡ p
 one_first None None each = refl
 one_first None (Some n) each = absurd (false≢true (each n ∙ eq-eqb n n refl))
@@ -289,9 +295,10 @@ module _ (v w : Stack) (area : List Rectangle) (strips kept : List StripView) (n
 
   bare_same : (x y : ℤ) → covers area x y ≡ false → is_bare v x y ≡ is_bare w x y
   bare_same x y off =
-      ap (λ o. has_pixel (screen v.sizes.width v.sizes.height) x y && not (is_some o))
-      (one_first (first_at v.bounds v.front_to_back x y) (first_at w.bounds w.front_to_back x y) (λ s. h.elsewhere s x y off))
-      ∙ ap (λ (z : Sizes). has_pixel (screen z.width z.height) x y && not (is_some (first_at w.bounds w.front_to_back x y))) (sym h.same)
+      bare_by_top v x y
+      ∙ (ap (λ o. has_pixel (screen_bounds v.sizes) x y && not (is_some o))
+      (one_first (top_in v x y) (top_in w x y) (λ s. h.elsewhere s x y off))
+      ∙ (ap (λ z. has_pixel (screen_bounds z) x y && not (is_some (top_in w x y))) (sym h.same) ∙ sym (bare_by_top w x y)))
 
   remade_places : (x y : ℤ) → (covers (rects_of kept) x y || covers joined x y) ≡ is_bare w x y
   remade_places x y =

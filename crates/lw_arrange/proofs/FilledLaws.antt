@@ -9,7 +9,7 @@ use Rattle.lw_machine.specs.Hook.{Hook}
 use Rattle.lw_machine.specs.Layer.{Layer}
 use Rattle.lw_machine.specs.Kept.{is_kept}
 use Rattle.lw_machine.specs.Paint.{with_pens}
-use Rattle.lw_machine.specs.Reveal.{Across, width_in, height_in, counts_as_kept, resized, keeps, fills, fill_pen, some_pixel, some_now, hook_after, with_revealed, revealed}
+use Rattle.lw_machine.specs.Reveal.{Across, width_in, height_in, counts_as_kept, at_new_size, keeps, fills, fill_pen, some_pixel, some_now, hook_after, with_revealed, revealed}
 use Rattle.lw_machine.proofs.Settling.{revealed_plain}
 use Rattle.lw_arrange.specs.Filled.{filled_layer}
 
@@ -27,7 +27,7 @@ abbrev pub with_hook : Option Hook → Layer → Layer
 with_hook h l = record l { hook = h }
 
 abbrev pub revealed_in : Across → Layer → Layer
-revealed_in k l = with_revealed k l (resized k l)
+revealed_in k l = with_revealed k l (at_new_size k l)
 
 -- the revealed layer with other pens, and another hook
 abbrev pub with_other_pens : Across → Layer → (ℕ → ℕ → ℕ) → Option Hook → Layer
@@ -37,12 +37,12 @@ with_other_pens k l pen other =
 -- Such pens are right off the pixels that are filled: those that count as kept have their former pens, and those that aren't kept
 -- pen 0.
 pub record AreLeft (k : Across) (l : Layer) (pen : ℕ → ℕ → ℕ) : Type 0 where
-  pub stays : (x y : ℕ) → keeps k (resized k l) x y ≡ true → counts_as_kept k l x y ≡ true → pen x y ≡ pen_at l.bits x y
-  pub off : (x y : ℕ) → keeps k (resized k l) x y ≡ false → pen x y ≡ 0
+  pub stays : (x y : ℕ) → keeps k (at_new_size k l) x y ≡ true → counts_as_kept k l x y ≡ true → pen x y ≡ pen_at l.bits x y
+  pub off : (x y : ℕ) → keeps k (at_new_size k l) x y ≡ false → pen x y ≡ 0
 
 -- the pens of a revealed layer with a hook or without
 bits_filled : (k : Across) (l : Layer) (h : Option Hook) (on : ℕ → ℕ → Bool) (some : Bool) (pen : ℕ → ℕ → ℕ) (other : Option Hook)
-    → ((x y : ℕ) → on x y ≡ fills k l (resized k l) x y) → AreLeft k l pen
+    → ((x y : ℕ) → on x y ≡ fills k l (at_new_size k l) x y) → AreLeft k l pen
     → (revealed_in k (with_hook h l)).bits ≡ (filled_layer h on some (with_other_pens k l pen other)).bits
 unfolding with_pens counts_as_kept is_kept
 bits_filled k l h on some pen other is left =
@@ -51,22 +51,22 @@ bits_filled k l h on some pen other is left =
     let d = l.bits.depth in
     bitmap_same w t d _ (λ x y. if on x y then fill_pen d h x y else pen_at (bitmap w t d pen) x y)
     (λ x y across down.
-    pen_filled (keeps k (resized k l) x y) (counts_as_kept k l x y) (on x y) (pen_at l.bits x y) (fill_pen d h x y) (pen x y) (is x y)
+    pen_filled (keeps k (at_new_size k l) x y) (counts_as_kept k l x y) (on x y) (pen_at l.bits x y) (fill_pen d h x y) (pen x y) (is x y)
     (left.stays x y) (left.off x y)
     ∙ ap (λ p. if on x y then fill_pen d h x y else p) (sym (pen_at_bitmap w t d pen x y across down)))
 
 -- what is filled doesn't depend on the hook, and so neither does whether something is
-some_filled : (k : Across) (l : Layer) (h : Option Hook) (on : ℕ → ℕ → Bool) → ((x y : ℕ) → on x y ≡ fills k l (resized k l) x y)
-    → some_now k (fills k (with_hook h l) (resized k (with_hook h l))) ≡ some_now k (λ x y. on x y)
+some_filled : (k : Across) (l : Layer) (h : Option Hook) (on : ℕ → ℕ → Bool) → ((x y : ℕ) → on x y ≡ fills k l (at_new_size k l) x y)
+    → some_now k (fills k (with_hook h l) (at_new_size k (with_hook h l))) ≡ some_now k (λ x y. on x y)
 unfolding counts_as_kept is_kept
 some_filled k l h on is =
-    let same : (λ x y. fills k l (resized k l) x y) ≡ (λ x y. on x y) = fun_ext (λ x. fun_ext (λ y. sym (is x y))) in
+    let same : (λ x y. fills k l (at_new_size k l) x y) ≡ (λ x y. on x y) = fun_ext (λ x. fun_ext (λ y. sym (is x y))) in
     ap (λ f. some_pixel (width_in k.new_bounds) (height_in k.new_bounds) f) same
 
 -- A layer that isn't a super-bitmap layer is revealed with a hook or without as one with other pens that is filled where it gains
 -- pixels.
 pub revealed_filled : (k : Across) (l : Layer) (h : Option Hook) (on : ℕ → ℕ → Bool) (some : Bool) (pen : ℕ → ℕ → ℕ)
-    (other : Option Hook) → is_super l.kind ≡ false → ((x y : ℕ) → on x y ≡ fills k l (resized k l) x y)
+    (other : Option Hook) → is_super l.kind ≡ false → ((x y : ℕ) → on x y ≡ fills k l (at_new_size k l) x y)
     → some ≡ some_now k (λ x y. on x y) → AreLeft k l pen
     → revealed k (with_hook h l) ≡ filled_layer h on some (with_other_pens k l pen other)
 unfolding with_pens counts_as_kept is_kept

@@ -18,7 +18,7 @@ use Rattle.lw_damage.specs.Damaged.{may_lie}
 use Rattle.lw_machine.specs.Hook.{Hook}
 use Rattle.lw_machine.specs.Layer.{Window, is_framed}
 use Rattle.lw_machine.specs.Kept.{is_kept, holds_at}
-use Rattle.lw_machine.specs.Reveal.{Across, counts_as_kept, resized}
+use Rattle.lw_machine.specs.Reveal.{Across, counts_as_kept, at_new_size}
 use Rattle.lw_machine.specs.Reveal as reveal
 use Rattle.lw_layer.specs.View.{State, LiveView, CellView, keeps}
 use Rattle.lw_layer.specs.View as view
@@ -37,7 +37,7 @@ use Rattle.lw_arrange.specs.Arrangements.{ArrangementView}
 use Rattle.lw_arrange.specs.Prepared.{Created, created_by, kind_of, without_layer, becomes, shown_at, cell_after, MayBeNew, MayOpen}
 use Rattle.lw_arrange.specs.Filled.{keeps_if_live, counts_if_live, gains, gains_some, AreGained, filled_by}
 use Rattle.lw_arrange.proofs.GainsLaws.{stayed, none_gained, gains_stayed, gained_inside}
-use Rattle.lw_arrange.proofs.OpenedLaws.{new_width, new_height, created}
+use Rattle.lw_arrange.proofs.OpenedLaws.{new_width, new_height, created, none_counted}
 
 -- tests on layer pixels that are the same at each pixel are so at each place
 pub same_at : (f g : ℕ → ℕ → Bool) → ((x y : ℕ) → f x y ≡ g x y) → (x y : ℤ) → holds_at f x y ≡ holds_at g x y
@@ -120,10 +120,10 @@ all_new false false false other none = refl
 
 -- A new layer gains the pixels that it keeps, asked at any place.
 new_at : (c : CellView) (n : Created) (depth : ℕ) (bounds : Rectangle) (visible : List Rectangle) (x y : ℤ)
-    → c.state ≡ view.Unopened → IsNewSize n.make depth bounds → IsOrdered bounds → LieIn bounds visible
+    → (c.state ≡ view.Live → ⊥) → IsNewSize n.make depth bounds → IsOrdered bounds → LieIn bounds visible
     → keeps_pixel n.make.kind bounds visible x y
     ≡ holds_at (λ i j. gains c (created c n.make depth bounds visible n.window) i j) x y
-new_at c n depth bounds visible x y fresh size ordered inside = go (is_super n.make.kind) refl
+new_at c n depth bounds visible x y dead size ordered inside = go (is_super n.make.kind) refl
   where
     kind : Kind
     kind = n.make.kind
@@ -141,12 +141,12 @@ new_at c n depth bounds visible x y fresh size ordered inside = go (is_super n.m
         kept_pixel new kind refl own (new_plain n.make depth bounds visible n.window own size ordered inside) x y
         ∙ same_at (λ i j. keeps new i j) (λ i j. gains c to i j)
         (λ i j. all_new (is_super kind) (counts_if_live c.state c.live new i j) (keeps new i j) own
-        (ap (λ q. counts_if_live q c.live new i j) fresh)) x y
+        (none_counted c.state c.live new i j dead)) x y
 
 -- what the carried layer keeps is what the machine's does
 carried_keeps : (c : LiveView) (bounds : Rectangle) (visible : List Rectangle) (x y : ℕ)
     → keeps (gained_view bounds visible c) x y
-    ≡ reveal.keeps (across_to c bounds visible) (resized (across_to c bounds visible) c.layer) x y
+    ≡ reveal.keeps (across_to c bounds visible) (at_new_size (across_to c bounds visible) c.layer) x y
 unfolding keeps is_kept
 carried_keeps c bounds visible x y = refl
 
@@ -189,12 +189,12 @@ more_at c bounds visible x y live sound ordered inside = go (is_super kind) refl
 
 -- The pixels that a new layer keeps are those that it gains.
 pub anew_gained : (c : CellView) (n : Created) (depth : ℕ) (bounds : Rectangle) (listed visible made : List Rectangle)
-    → c.state ≡ view.Unopened → listed ≡ visible → IsNewSize n.make depth bounds → IsOrdered bounds → LieIn bounds visible
+    → (c.state ≡ view.Live → ⊥) → listed ≡ visible → IsNewSize n.make depth bounds → IsOrdered bounds → LieIn bounds visible
     → AreKept n.make.kind bounds listed made
     → AreGained c (created c n.make depth bounds visible n.window) made
-anew_gained c n depth bounds listed visible made fresh lists size ordered inside are x y =
+anew_gained c n depth bounds listed visible made dead lists size ordered inside are x y =
     are x y
-    ∙ (ap (λ l. keeps_pixel n.make.kind bounds l x y) lists ∙ new_at c n depth bounds visible x y fresh size ordered inside)
+    ∙ (ap (λ l. keeps_pixel n.make.kind bounds l x y) lists ∙ new_at c n depth bounds visible x y dead size ordered inside)
 
 -- what a new layer asks, told of the one that is created
 pub record IsMade (o : Option Created) (depth : ℕ) (bounds : Rectangle) (kind : Kind) : Type 0 where

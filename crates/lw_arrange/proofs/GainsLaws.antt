@@ -8,7 +8,7 @@ use Rattle.lw_calls.specs.Kinds.{is_super}
 use Rattle.lw_machine.specs.Hook.{Hook}
 use Rattle.lw_machine.specs.Layer.{Layer}
 use Rattle.lw_machine.specs.Kept.{is_kept}
-use Rattle.lw_machine.specs.Reveal.{Across, counts_as_kept, resized, fills, fill_pen, some_pixel, some_now, revealed}
+use Rattle.lw_machine.specs.Reveal.{Across, counts_as_kept, at_new_size, fills, fill_pen, some_pixel, some_now, revealed}
 use Rattle.lw_machine.specs.Reveal as reveal
 use Rattle.lw_machine.proofs.Settling.{revealed_super}
 use Rattle.lw_layer.specs.View.{State, LiveView, CellView, keeps, with_live}
@@ -39,7 +39,7 @@ pub gains_stayed : (c : CellView) (r : Rectangle) (visible : List Rectangle) (ac
     → c.state ≡ view.Live → is_super c.live.layer.kind ≡ false
     → gains c (stayed r visible c) x y
     ≡ fills (across_with c.live r visible active new_active) c.live.layer
-    (resized (across_with c.live r visible active new_active) c.live.layer) x y
+    (at_new_size (across_with c.live r visible active new_active) c.live.layer) x y
 unfolding keeps counts_as_kept is_kept
 gains_stayed c r visible active new_active x y live other =
     let k = across_with c.live r visible active new_active in
@@ -47,7 +47,7 @@ gains_stayed c r visible active new_active x y live other =
     let Gains : State → LiveView → Bool =
     λ s v. not (is_super v.layer.kind) && (keeps_if_live s v x y && not (counts_if_live s c.live v x y)) in
     ap (λ v. Gains c.state v) (carried_without_bitmap c.live r visible other)
-    ∙ (ap (λ s. Gains s (gained_view r visible c.live)) live ∙ ap (λ t. not t && fills k l (resized k l) x y) other)
+    ∙ (ap (λ s. Gains s (gained_view r visible c.live)) live ∙ ap (λ t. not t && fills k l (at_new_size k l) x y) other)
 
 -- whether something is gained, asked over the machine's size
 some_stayed : (c : CellView) (r : Rectangle) (visible : List Rectangle) → is_super c.live.layer.kind ≡ false
@@ -60,7 +60,7 @@ some_stayed c r visible other =
 abbrev pub carried_pen : LiveView → Rectangle → List Rectangle → ℕ → ℕ → ℕ
 carried_pen c r visible x y =
     let k = across_to c r visible in
-    if reveal.keeps k (resized k c.layer) x y
+    if reveal.keeps k (at_new_size k c.layer) x y
     then (if counts_as_kept k (windowless c.layer) x y then pen_at c.layer.bits x y else fill_pen c.layer.bits.depth c.layer.hook x y)
     else 0
 

@@ -1,7 +1,7 @@
 -- A cell of a desk may be prepared for an arrangement that is done there.
 use Rattle.std.proofs.Common.{◌≡◌, ℕ, ◌+◌, ◌≤◌, Bool, true, false, not, ◌&&◌, List, Option, Some, None, refl, sym, ap, subst, ◌∙◌, ⊎_elim, arith, ℤ, pos, ◌+ℤ◌, ◌-ℤ◌, int_le, nat_le, nat_lt, unsigned_abs, IsTrue}
 use Rattle.std.specs.Prelude.{if◌then◌else◌}
-use Rattle.std.proofs.lemmas.Bool.{and_parts, eqb-true, ltb-true}
+use Rattle.std.proofs.lemmas.Bool.{and_parts, and_from, ltb-true, false≢true}
 use Rattle.std.proofs.lemmas.Bool.Decides.{nat_tests}
 use Rattle.std.proofs.lemmas.Int.{ints}
 use Rattle.lw_region.specs.Rectangle.{Rectangle, columns_of, rows_of, has_pixel, width, height}
@@ -12,14 +12,15 @@ use Rattle.lw_calls.specs.declared.call.Call.{Call}
 use Rattle.lw_calls.specs.declared.call.Call.TheVariants.{Create, OpenWindow}
 use Rattle.lw_calls.specs.declared.sizes.Sizes.{Sizes}
 use Rattle.lw_calls.specs.Kinds.{is_super}
-use Rattle.lw_calls.specs.Limits.{IsWithinLimits, call_fits, make_fits, window_fits, hook_fits, kind_fits}
+use Rattle.lw_calls.proofs.LimitLaws.{screen_at_most}
+use Rattle.lw_calls.specs.Limits.{IsWithinLimits, may_leave_screen, call_fits, make_fits, window_fits, hook_fits, kind_fits}
 use Rattle.lw_machine.specs.Hook.{Hook}
 use Rattle.lw_machine.specs.Layer.{Layer, Window, Slot, Live, is_framed}
-use Rattle.lw_machine.specs.Desk.{Desk, is_the}
+use Rattle.lw_machine.specs.Desk.{Desk}
 use Rattle.lw_machine.specs.Screen.{bounds_have}
 use Rattle.lw_machine.specs.Paint.{with_pens}
-use Rattle.lw_machine.specs.Arrangement.{bounds_of, is_on_screen, is_at_least, portion_fits, may_have_bounds, layer_may_have_bounds, arranged}
-use Rattle.lw_machine.specs.Reveal.{Across, has_bounds, across, revealed, resized, with_revealed, keeps, framed_by, with_frame, frame_is_due, with_due_frame, with_messages, settled_layer, settled}
+use Rattle.lw_machine.specs.Arrangement.{bounds_of, is_on_screen, has_coordinates, is_no_larger, may_lie_at, is_at_least, portion_fits, may_have_bounds, layer_may_have_bounds, arranged}
+use Rattle.lw_machine.specs.Reveal.{Across, has_bounds, across, revealed, at_new_size, with_revealed, keeps, framed_by, with_frame, frame_is_due, with_due_frame, with_messages, settled_layer, settled}
 use Rattle.lw_machine.specs.Parts.{slot_part}
 use Rattle.lw_machine.specs.Sound.{IsDesk, IsSlot, IsPlaced}
 use Rattle.lw_machine.proofs.Settling.{told_framed}
@@ -30,18 +31,40 @@ use Rattle.lw_layer.specs.View as view
 use Rattle.lw_layer.specs.Pieces.{HasFrameRoom}
 use Rattle.lw_layer.specs.StandsFor.{IsPartOf, StandsFor, IsSound}
 use Rattle.lw_layer.proofs.SoundLaws.{live_part}
-use Rattle.lw_stack.specs.Stack.{bounds_at, first_at, is_first_at}
+use Rattle.lw_stack.specs.Stack.{bounds_at}
 use Rattle.lw_reveal.specs.Changed.{MayHave}
+use Rattle.lw_stack.proofs.FirstLaws.{not_top}
 use Rattle.lw_stack.proofs.ListedLaws.{shown_places}
 use Rattle.lw_arrange.specs.Arrangements.{ArrangementView}
-use Rattle.lw_arrange.specs.Prepared.{Created, created_by, shown_at, HasClasses, MayBeNew, MayBecome, MayBe, MayPrepare}
+use Rattle.lw_arrange.specs.Prepared.{Created, created_by, shown_at, HasClasses, MayBeNew, MayOpen, MayBecome, MayBe, MayPrepare}
 use Rattle.lw_arrange.proofs.SettledLaws.{each_settled}
 use Rattle.lw_arrange.proofs.CellLaws.{Stays, Opens, slot_becomes}
-use Rattle.lw_arrange.proofs.StandLaws.{IsDone, find_passes, not_opened, created_is, gone}
+use Rattle.lw_arrange.proofs.StandLaws.{IsDone, not_live, created_is, gone}
 
--- along one axis: bounds on the screen that have a place
-axis_size : (low high : ℤ) (n : ℕ) → int_le (pos 0) low ≡ true → int_le (high +ℤ pos 1) (pos n) ≡ true → int_le (pos 1) ((high +ℤ pos 1) -ℤ low) ≡ true → n ≤ 1024 → (1 ≤ unsigned_abs ((high +ℤ pos 1) -ℤ low)) × (unsigned_abs ((high +ℤ pos 1) -ℤ low) ≤ 2048)
-axis_size low high n first last some few = (grind (arith, ints), grind (arith, ints))
+-- along one axis: bounds no larger than the screen that have a place
+axis_size : (low high : ℤ) (n : ℕ) → int_le ((high +ℤ pos 1) -ℤ low) (pos n) ≡ true → int_le (pos 1) ((high +ℤ pos 1) -ℤ low) ≡ true → n ≤ 2048 → (1 ≤ unsigned_abs ((high +ℤ pos 1) -ℤ low)) × (unsigned_abs ((high +ℤ pos 1) -ℤ low) ≤ 2048)
+axis_size low high n most some few = (grind (arith, ints), grind (arith, ints))
+
+-- what lies on the screen is no larger than it
+axis_most : (low high : ℤ) (n : ℕ) → int_le (pos 0) low ≡ true → int_le (high +ℤ pos 1) (pos n) ≡ true → int_le ((high +ℤ pos 1) -ℤ low) (pos n) ≡ true
+axis_most low high n first last = grind (arith, ints)
+
+on_screen_no_larger : (s : Sizes) (r : Rectangle) → is_on_screen s r ≡ true → is_no_larger s r ≡ true
+unfolding is_on_screen is_no_larger
+on_screen_no_larger s r on =
+    let sides = and_parts (int_le (pos 0) r.min_x && int_le (r.max_x +ℤ pos 1) (pos s.width)) (int_le (pos 0) r.min_y && int_le (r.max_y +ℤ pos 1) (pos s.height)) on in
+    let across = and_parts (int_le (pos 0) r.min_x) (int_le (r.max_x +ℤ pos 1) (pos s.width)) sides.0 in
+    let down = and_parts (int_le (pos 0) r.min_y) (int_le (r.max_y +ℤ pos 1) (pos s.height)) sides.1 in
+    and_from (int_le (columns_of r) (pos s.width)) (int_le (rows_of r) (pos s.height))
+    (axis_most r.min_x r.max_x s.width across.0 across.1) (axis_most r.min_y r.max_y s.height down.0 down.1)
+
+no_larger : (s : Sizes) (r : Rectangle) → may_lie_at s r ≡ true → is_no_larger s r ≡ true
+unfolding may_lie_at
+no_larger s r lies = go (may_leave_screen s.version) (and_parts (has_coordinates r) _ lies).1
+  where
+    go : (off : Bool) → (if off then is_no_larger s r else is_on_screen s r) ≡ true → is_no_larger s r ≡ true
+    go true is = is
+    go false is = on_screen_no_larger s r is
 
 -- and a portion of so many places that begins at one
 axis_portion : (low high : ℤ) (x w : ℕ) → int_le (pos x +ℤ ((high +ℤ pos 1) -ℤ low)) (pos w) ≡ true → int_le (pos 1) ((high +ℤ pos 1) -ℤ low) ≡ true → x + unsigned_abs ((high +ℤ pos 1) -ℤ low) ≤ w
@@ -61,19 +84,20 @@ pub record IsFit (framed own : Bool) (x y w h : ℕ) (r : Rectangle) : Type 0 wh
 
 pub may_fit : (s : Sizes) (framed : Bool) (k : Kind) (x y w h : ℕ) (r : Rectangle) → IsWithinLimits s
     → may_have_bounds s framed k x y w h r ≡ true → IsFit framed (is_super k) x y w h r
-unfolding is_on_screen is_at_least portion_fits
+unfolding is_no_larger is_at_least portion_fits
 may_fit s framed k x y w h r limits may =
     let halves = and_parts _ _ may in
-    let first = and_parts (is_on_screen s r) (is_at_least (pos 1) (pos 1) r) halves.0 in
+    let first = and_parts (may_lie_at s r) (is_at_least (pos 1) (pos 1) r) halves.0 in
     let second = and_parts (if framed then is_at_least (pos 9) (pos 14) r else true) (if is_super k then portion_fits (pos x) (pos y) w h r else true) halves.1 in
-    let sides = and_parts (int_le (pos 0) r.min_x && int_le (r.max_x +ℤ pos 1) (pos s.width)) (int_le (pos 0) r.min_y && int_le (r.max_y +ℤ pos 1) (pos s.height)) first.0 in
-    let across = and_parts (int_le (pos 0) r.min_x) (int_le (r.max_x +ℤ pos 1) (pos s.width)) sides.0 in
-    let down = and_parts (int_le (pos 0) r.min_y) (int_le (r.max_y +ℤ pos 1) (pos s.height)) sides.1 in
+    let most = and_parts (int_le (columns_of r) (pos s.width)) (int_le (rows_of r) (pos s.height)) (no_larger s r first.0) in
+    let bound = screen_at_most s.version in
+    let columns = limits.columns in
+    let rows = limits.rows in
     let some = and_parts (int_le (pos 1) (columns_of r)) (int_le (pos 1) (rows_of r)) first.1 in
     let portion : is_super k ≡ true → portion_fits (pos x) (pos y) w h r ≡ true = λ own. sym (ap (λ b. if b then portion_fits (pos x) (pos y) w h r else true) own) ∙ second.1 in
     record {
-      wide = axis_size r.min_x r.max_x s.width across.0 across.1 some.0 limits.columns;
-      high = axis_size r.min_y r.max_y s.height down.0 down.1 some.1 limits.rows;
+      wide = axis_size r.min_x r.max_x s.width most.0 some.0 (omega (arith, columns, bound));
+      high = axis_size r.min_y r.max_y s.height most.1 some.1 (omega (arith, rows, bound));
       right =
           λ own.
           let fits = and_parts (int_le (pos 0) (pos x) && int_le (pos x +ℤ columns_of r) (pos w)) (int_le (pos 0) (pos y) && int_le (pos y +ℤ rows_of r) (pos h)) (portion own) in
@@ -90,20 +114,12 @@ may_fit s framed k x y w h r limits may =
 
 -- what is shown of a slot lies in its bounds
 pub shown_inside : (a : ArrangementView) (s : ℕ) (r : Rectangle) → bounds_at a.stack.bounds s ≡ Some r → LieIn r (shown_at a s)
-unfolding first_at
-shown_inside a s r planned x y has =
-    let first : is_first_at a.stack.bounds a.stack.front_to_back s x y ≡ true =
-    sym (shown_places a.stack.bounds a.stack.front_to_back s x y) ∙ has in
-    go (first_at a.stack.bounds a.stack.front_to_back x y) refl first
+shown_inside a s r planned x y has = go (has_pixel r x y) refl
   where
-    have : (o : Option Rectangle) → o ≡ Some r → bounds_have o x y ≡ true → has_pixel r x y ≡ true
-    have o is h = sym (ap (λ q. bounds_have q x y) is) ∙ h
-
-    go : (o : Option ℕ) → first_at a.stack.bounds a.stack.front_to_back x y ≡ o → is_the o s ≡ true → has_pixel r x y ≡ true
-    go None is h = absurd (cc h)
-    go (Some n) is h =
-        let there : bounds_have (bounds_at a.stack.bounds n) x y ≡ true = find_passes (λ t. bounds_have (bounds_at a.stack.bounds t) x y) a.stack.front_to_back n is in
-        have (bounds_at a.stack.bounds s) planned (ap (λ k. bounds_have (bounds_at a.stack.bounds k) x y) (sym (eqb-true n s h)) ∙ there)
+    go : (b : Bool) → has_pixel r x y ≡ b → b ≡ true
+    go true e = refl
+    go false e =
+        absurd (false≢true (sym (not_top a.stack s x y (ap (λ o. bounds_have o x y) planned ∙ e)) ∙ (sym (shown_places a.stack s x y) ∙ has)))
 
 -- what is settled of a layer has its kind, its scroll, a frame as it has, and bits of the same size where they are its own
 record IsSameFrame (l m : Layer) : Type 0 where
@@ -131,7 +147,7 @@ revealed_frame : (k : Across) (l : Layer) → IsSameFrame l (revealed k l)
 unfolding revealed
 revealed_frame k l = go (is_super l.kind) refl
   where
-    go : (own : Bool) → is_super l.kind ≡ own → IsSameFrame l (if own then l else with_revealed k l (resized k l))
+    go : (own : Bool) → is_super l.kind ≡ own → IsSameFrame l (if own then l else with_revealed k l (at_new_size k l))
     go true is = same_frame l
     go false is = record {
       kind = refl;
@@ -284,6 +300,13 @@ opens_may d caller made a s done opens =
       classes = asked.classes;
     }
 
+-- a slot that isn't live may have the bounds that a new layer may
+may_open_idle : (new : Option Created) (depth : ℕ) (r : Rectangle) (visible : List Rectangle) (c : CellView) (q : State) → (q ≡ view.Live → ⊥)
+    → MayOpen new depth r → MayBecome new depth r visible c q
+may_open_idle new depth r visible c view.Unopened dead may = may
+may_open_idle new depth r visible c view.Live dead may = absurd (dead refl)
+may_open_idle new depth r visible c view.Closed dead may = may
+
 -- A cell of the desk may be prepared, whatever hook its layer has.
 pub may_prepare : (d : Desk) (caller : ℕ) (made : Call) (a : ArrangementView) (c : CellView) (h : Option Hook) → IsDone d caller made a
     → StandsFor (hooked h c) (slot_part d c.number) → (c.state ≡ view.Live → IsSound c.live) → MayPrepare a c
@@ -302,9 +325,8 @@ may_prepare d caller made a c h done stands sound =
         let n = opens.created in
         let r = bounds_of n.make in
         let visible = shown_at a c.number in
-        let was = not_opened (hooked h c) (slot_part d c.number) stands opens.free in
-        let R : State → Type 0 = λ q. MayBecome (Some n) d.sizes.depth r visible c q in
-        let first : MayBe (Some n) d.sizes.depth visible c (Some r) = subst R (sym was.0) (opens_may d caller made a c.number done opens) in
+        let was = not_live (hooked h c) (slot_part d c.number) stands opens.free in
+        let first : MayBe (Some n) d.sizes.depth visible c (Some r) = may_open_idle (Some n) d.sizes.depth r visible c c.state was.0 (opens_may d caller made a c.number done opens) in
         let P : Option Rectangle → Type 0 = λ o. MayBe (Some n) d.sizes.depth visible c o in
         let Q : ℕ → Type 0 = λ depth. MayBe (Some n) depth visible c (bounds_at a.stack.bounds c.number) in
         let T : Option Created → Type 0 = λ o. MayBe o a.stack.sizes.depth visible c (bounds_at a.stack.bounds c.number) in

@@ -15,11 +15,11 @@ use Rattle.lw_machine.specs.Hook.{Hook}
 use Rattle.lw_machine.specs.Layer.{Layer, Window}
 use Rattle.lw_machine.specs.Kept.{is_kept, kept_as, screen_place}
 use Rattle.lw_machine.specs.Arrangement.{bounds_of, blank, new_layer}
-use Rattle.lw_machine.specs.Reveal.{Across, width_in, height_in, is_inner, counts_as_kept, resized, fills, some_pixel, revealed}
+use Rattle.lw_machine.specs.Reveal.{Across, width_in, height_in, is_inner, counts_as_kept, at_new_size, fills, some_pixel, revealed}
 use Rattle.lw_machine.specs.Reveal as reveal
 use Rattle.lw_machine.proofs.Settling.{revealed_super}
 use Rattle.lw_machine.proofs.CreatedSound.{blank_bitmap}
-use Rattle.lw_layer.specs.View.{CellView, keeps}
+use Rattle.lw_layer.specs.View.{State, LiveView, CellView, keeps}
 use Rattle.lw_layer.specs.View as view
 use Rattle.lw_layer.specs.New.{new_live}
 use Rattle.lw_layer.proofs.NewDraftLaws.{box_extent}
@@ -82,7 +82,7 @@ kept_new : (make : Make) (depth : ℕ) (window : Option Window) (shown : ℤ →
     (active new_active : Bool) (x y : ℕ) → is_super make.kind ≡ false
     → keeps (new_live make depth (bounds_of make) visible window 0) x y
     ≡ reveal.keeps (across_new make shown visible active new_active)
-    (resized (across_new make shown visible active new_active) (new_layer depth make None window)) x y
+    (at_new_size (across_new make shown visible active new_active) (new_layer depth make None window)) x y
 unfolding keeps is_kept
 kept_new make depth window shown visible active new_active x y other =
     let r = bounds_of make in
@@ -90,20 +90,26 @@ kept_new make depth window shown visible active new_active x y other =
     ap (λ w. (nat_lt x w && nat_lt y (blank make.kind depth make).height) && seen) (wide make depth other)
     ∙ ap (λ h. (nat_lt x (width_in (Some r)) && nat_lt y h) && seen) (high make depth other)
 
+-- and none in a slot that isn't live
+pub none_counted : (q : State) (c to : LiveView) (x y : ℕ) → (q ≡ view.Live → ⊥) → counts_if_live q c to x y ≡ false
+none_counted view.Unopened c to x y dead = refl
+none_counted view.Live c to x y dead = absurd (dead refl)
+none_counted view.Closed c to x y dead = refl
+
 -- What a new layer gains is what the machine fills.
 gains_created : (c : CellView) (make : Make) (depth : ℕ) (window : Option Window) (shown : ℤ → ℤ → Bool) (visible : List Rectangle)
-    (active new_active : Bool) (x y : ℕ) → c.state ≡ view.Unopened → is_super make.kind ≡ false
+    (active new_active : Bool) (x y : ℕ) → (c.state ≡ view.Live → ⊥) → is_super make.kind ≡ false
     → gains c (created c make depth (bounds_of make) visible window) x y
     ≡ fills (across_new make shown visible active new_active) (new_layer depth make None window)
-    (resized (across_new make shown visible active new_active) (new_layer depth make None window)) x y
-gains_created c make depth window shown visible active new_active x y fresh other =
+    (at_new_size (across_new make shown visible active new_active) (new_layer depth make None window)) x y
+gains_created c make depth window shown visible active new_active x y dead other =
     let k = across_new make shown visible active new_active in
     let l = new_layer depth make None window in
     let new = new_live make depth (bounds_of make) visible window 0 in
     ap (λ t. not t && (keeps new x y && not (counts_if_live c.state c.live new x y))) other
     ∙ (ap (λ t. t && not (counts_if_live c.state c.live new x y)) (kept_new make depth window shown visible active new_active x y other)
-    ∙ (ap (λ s. reveal.keeps k (resized k l) x y && not (counts_if_live s c.live new x y)) fresh
-    ∙ ap (λ t. reveal.keeps k (resized k l) x y && not t) (sym (uncounted make shown visible active new_active l x y))))
+    ∙ ap (λ t. reveal.keeps k (at_new_size k l) x y && not t)
+    (none_counted c.state c.live new x y dead ∙ sym (uncounted make shown visible active new_active l x y)))
 
 -- whether something is gained, asked over the machine's size
 some_created : (make : Make) (depth : ℕ) (test : ℕ → ℕ → Bool) → is_super make.kind ≡ false
@@ -135,7 +141,7 @@ created_pens make depth window shown visible active new_active other =
     let damage : (revealed_in k l).damage ≡ l.damage =
     grid_same w t _ (λ x y. false)
     (λ x y left low.
-    undamaged (reveal.keeps k (resized k l) x y && is_inner k l x y) (counts_as_kept k l x y) (at false l.damage x y)
+    undamaged (reveal.keeps k (at_new_size k l) x y && is_inner k l x y) (counts_as_kept k l x y) (at false l.damage x y)
     (uncounted make shown visible active new_active l x y))
     ∙ (ap (λ n. grid n t (λ x y. false)) (sym (wide make depth other))
     ∙ ap (λ n. grid b.width n (λ x y. false)) (sym (high make depth other))) in
@@ -143,11 +149,11 @@ created_pens make depth window shown visible active new_active other =
 
 -- What the machine reveals of a new layer, with a hook or without, is the created layer once what it gains is filled.
 pub new_revealed : (c : CellView) (make : Make) (depth : ℕ) (r : Rectangle) (visible : List Rectangle) (window : Option Window)
-    (h : Option Hook) (shown : ℤ → ℤ → Bool) (active new_active : Bool) → c.state ≡ view.Unopened → r ≡ bounds_of make
+    (h : Option Hook) (shown : ℤ → ℤ → Bool) (active new_active : Bool) → (c.state ≡ view.Live → ⊥) → r ≡ bounds_of make
     → revealed (across_new make shown visible active new_active) (new_layer depth make h window)
     ≡ filled_layer h (λ x y. gains c (created c make depth r visible window) x y)
     (gains_some c (created c make depth r visible window)) (new_layer depth make None window)
-new_revealed c make depth r visible window h shown active new_active fresh place =
+new_revealed c make depth r visible window h shown active new_active dead place =
     let P : Rectangle → Type 0 = λ r.
     revealed (across_new make shown visible active new_active) (new_layer depth make h window)
     ≡ filled_layer h (λ x y. gains c (created c make depth r visible window) x y)
@@ -178,7 +184,7 @@ new_revealed c make depth r visible window h shown active new_active fresh place
     part : is_super make.kind ≡ false → revealed q (with_hook h l) ≡ filled_layer h on (gains_some c to) l
     part other =
         revealed_filled q l h on (gains_some c to) (λ x y. 0) None other
-        (λ x y. gains_created c make depth window shown visible active new_active x y fresh other)
+        (λ x y. gains_created c make depth window shown visible active new_active x y dead other)
         (some_created make depth on other)
         (record {
           stays = λ x y kept counts. absurd (cc (uncounted make shown visible active new_active l x y, counts));

@@ -1,13 +1,13 @@
 -- The pieces of an area that change owner: what each owner loses to each other one, and that no place has two owners.
-use Rattle.std.proofs.Common.{◌≡◌, ℕ, zero, suc, ◌+◌, ◌<◌, ◌≤◌, ◌==◌, Bool, true, false, not, ◌&&◌, ◌||◌, cond, List, [], ◌∷◌, ◌++◌, map, length, ℤ, pos, ◌+ℤ◌, ◌-ℤ◌, int_le, Option, Some, None, refl, sym, ap, subst, ◌∙◌, inl, inr, arith}
+use Rattle.std.proofs.Common.{◌≡◌, ℕ, zero, suc, ◌+◌, ◌<◌, ◌≤◌, ◌==◌, Bool, true, false, not, ◌&&◌, cond, List, [], ◌∷◌, ◌++◌, map, length, ℤ, Option, Some, None, refl, sym, ap, subst, ◌∙◌, inl, inr, arith}
 use Rattle.std.specs.Prelude.{if◌then◌else◌}
 use Rattle.std.specs.List.{All, filter}
 use Rattle.std.specs.Option.{is_some}
 use Rattle.std.proofs.lemmas.Bool.{false≢true, cases_lt, ne_eqb, eq-eqb, eqb-true, and_parts, and_from, and_right}
-use Rattle.std.proofs.lemmas.Int.{ints}
-use Rattle.std.proofs.lemmas.List.{append-nil, get_or_default, get_or_past}
+use Rattle.std.proofs.lemmas.List.{append-nil, get_or_default, get_or_past, nil_from_length}
+use Rattle.std.proofs.lemmas.List.Concat.{flat_map-append}
 use Rattle.std.proofs.lemmas.List.Elements.{All-nil, All-append, All-map}
-use Rattle.lw_region.specs.Rectangle.{Rectangle, within, has_pixel}
+use Rattle.lw_region.specs.Rectangle.{Rectangle, has_pixel}
 use Rattle.lw_region.specs.Pixels.{pixels_of, intersection}
 use Rattle.lw_region.specs.Bands.{bands, covers}
 use Rattle.lw_region.specs.Banded.{IsCanonical}
@@ -15,15 +15,14 @@ use Rattle.lw_region.proofs.Canonical.{covers_nil}
 use Rattle.lw_region.proofs.Disjoint.{has_at}
 use Rattle.lw_region.proofs.SetOps.{combined_lists, canonical_bands, canonical_nil, canonical_empty}
 use Rattle.lw_calls.specs.declared.sizes.Sizes.{Sizes}
-use Rattle.lw_calls.specs.declared.call.Call.{Call}
 use Rattle.lw_machine.specs.Desk.{is_the}
-use Rattle.lw_machine.specs.Screen.{bounds_have}
-use Rattle.lw_machine.specs.Arrangement.{is_on_screen}
+use Rattle.lw_machine.specs.Screen.{screen_bounds}
 use Rattle.lw_strips.specs.Laying.{screen, LiesIn}
 use Rattle.lw_strips.specs.declared.piece.Piece.{Piece}
-use Rattle.lw_stack.specs.Stack.{Stack, bounds_at, first_at, IsPlacedOn, IsStack, AreShownIn}
-use Rattle.lw_arrange.specs.Areas.{slot_arranged, slot_has, IsAreaOf}
-use Rattle.lw_arrange.specs.Pieces.{is_owner, owner_has, between, ArePieces, owner_in, piece_of, pieces_to, gather, losses, all_losses}
+use Rattle.lw_cliprects.specs.Parts.{LieIn}
+use Rattle.lw_stack.specs.Stack.{Stack, first_at, top_in, AreShownIn}
+use Rattle.lw_stack.proofs.FirstLaws.{top_on_screen}
+use Rattle.lw_arrange.specs.Pieces.{is_owner, owner_has, between, ArePieces, owner_in, piece_of, pieces_to, gather, owners_below, losses_to, losses, all_losses}
 
 -- the places that both lists have
 abbrev common : List Rectangle → List Rectangle → List Rectangle
@@ -54,19 +53,49 @@ nothing_gained a b lost gained empty =
     by_test true none = refl
     by_test false none = ap (map (piece_of a b)) none
 
-pub no_losses : (n a : ℕ) (lost : List Rectangle) (sets : List (List Rectangle)) (rest : List Rectangle) → lost ≡ []
-    → losses n a lost sets rest ≡ []
-no_losses zero a lost sets rest empty = refl
-no_losses (suc n) a lost sets rest empty =
-    ap (λ l. l ++ pieces_to a lost n (owner_in sets rest n)) (no_losses n a lost sets rest empty)
-    ∙ nothing_lost a n lost (owner_in sets rest n) empty
+pub no_losses : (a : ℕ) (lost : List Rectangle) (sets : List (List Rectangle)) (rest : List Rectangle) (owners : List ℕ) → lost ≡ []
+    → losses_to a lost sets rest owners ≡ []
+no_losses a lost sets rest [] empty = refl
+no_losses a lost sets rest (b ∷ owners) empty =
+    ap (λ l. l ++ losses_to a lost sets rest owners) (nothing_lost a b lost (owner_in sets rest b) empty)
+    ∙ no_losses a lost sets rest owners empty
+
+pub none_more : (ps qs : List Piece) → qs ≡ [] → ps ≡ ps ++ qs
+none_more ps qs none = sym (ap (λ l. ps ++ l) none ∙ append-nil ps)
+
+-- an owner loses nothing to those of which nothing is shown afterwards
+pub losses_are_to : (n a : ℕ) (lost : List Rectangle) (sets : List (List Rectangle)) (rest : List Rectangle)
+    → losses_to a lost sets rest (owners_below n sets rest) ≡ losses n a lost sets rest
+losses_are_to zero a lost sets rest = refl
+losses_are_to (suc n) a lost sets rest = by_test (length gained == 0) refl (losses_are_to n a lost sets rest)
+  where
+    gained : List Rectangle
+    gained = owner_in sets rest n
+
+    by_test : (t : Bool) → (length gained == 0) ≡ t → losses_to a lost sets rest (owners_below n sets rest) ≡ losses n a lost sets rest
+        → losses_to a lost sets rest (if t then owners_below n sets rest else owners_below n sets rest ++ n ∷ [])
+        ≡ losses n a lost sets rest ++ pieces_to a lost n gained
+    by_test true none same =
+        same ∙ none_more (losses n a lost sets rest) _
+        (nothing_gained a n lost gained (nil_from_length gained (eqb-true (length gained) 0 none)))
+    by_test false some same =
+        flat_map-append (λ b. pieces_to a lost b (owner_in sets rest b)) (owners_below n sets rest) (n ∷ [])
+        ∙ (ap (λ l. l ++ (pieces_to a lost n gained ++ [])) same
+        ∙ ap (λ l. losses n a lost sets rest ++ l) (append-nil (pieces_to a lost n gained)))
+
+-- the pieces that one owner more loses
+pub one_owner_more : (k n : ℕ) (were : List (List Rectangle)) (bare : List Rectangle) (sets : List (List Rectangle)) (rest : List Rectangle)
+    (pieces : List Piece) (lost : List Rectangle) → pieces ≡ all_losses k n were bare sets rest → lost ≡ owner_in were bare k
+    → pieces ++ losses n k lost sets rest ≡ all_losses (k + 1) n were bare sets rest
+one_owner_more k n were bare sets rest pieces lost so_far is =
+    let next : suc k ≡ k + 1 = omega arith in
+    ap (λ l. l ++ losses n k lost sets rest) so_far
+    ∙ (ap (λ l. all_losses k n were bare sets rest ++ losses n k l sets rest) is
+    ∙ ap (λ m. all_losses m n were bare sets rest) next)
 
 pub nothing_to_itself : (a b : ℕ) (lost gained : List Rectangle) → a ≡ b → pieces_to a lost b gained ≡ []
 nothing_to_itself a b lost gained same =
     ap (λ t. if t then [] else map (piece_of a b) (common lost gained)) (eq-eqb a b same)
-
-pub none_more : (ps qs : List Piece) → qs ≡ [] → ps ≡ ps ++ qs
-none_more ps qs none = sym (ap (λ l. ps ++ l) none ∙ append-nil ps)
 
 -- pieces of two lists
 rects_on : (p : Piece) (t : Bool) (xs ys : List Piece) (zs : List Rectangle) → map (λ q. q.rect) xs ≡ map (λ q. q.rect) ys ++ zs
@@ -224,16 +253,19 @@ pub record AreOwnersIn (area : List Rectangle) (v : Stack) (sets : List (List Re
   pub shown : AreShownIn area v.bounds v.front_to_back sets
   pub left : (x y : ℤ) → covers rest x y ≡ (covers area x y && not (is_some (first_at v.bounds v.front_to_back x y)))
 
--- all places of the area lie on the screen
-abbrev pub IsOnScreen : Sizes → List Rectangle → Type 0
-IsOnScreen sizes area = (x y : ℤ) → covers area x y ≡ true → has_pixel (screen sizes.width sizes.height) x y ≡ true
+-- within places of the screen, the first layer of the list is the top
+pub first_is_top : (v : Stack) (x y : ℤ) (on : Bool) (test : Option ℕ → Bool)
+    → (on ≡ true → has_pixel (screen_bounds v.sizes) x y ≡ true)
+    → (on && test (first_at v.bounds v.front_to_back x y)) ≡ (on && test (top_in v x y))
+first_is_top v x y true test inside = ap test (sym (top_on_screen v x y (inside refl)))
+first_is_top v x y false test inside = refl
 
 with_screen : (a on n : Bool) → (a ≡ true → on ≡ true) → (a && n) ≡ (a && (on && n))
 with_screen false on n inside = refl
 with_screen true on n inside = ap (λ b. b && n) (sym (inside refl))
 
 owner_places : (area : List Rectangle) (v : Stack) (sets : List (List Rectangle)) (rest : List Rectangle) → AreOwnersIn area v sets rest
-    → IsOnScreen v.sizes area → (k : ℕ) → k ≤ v.sizes.slots → (x y : ℤ)
+    → LieIn (screen_bounds v.sizes) area → (k : ℕ) → k ≤ v.sizes.slots → (x y : ℤ)
     → covers (owner_in sets rest k) x y ≡ (covers area x y && owner_has v k x y)
 owner_places area v sets rest h inside k most x y =
     elim (cases_lt k v.sizes.slots) [
@@ -241,54 +273,21 @@ owner_places area v sets rest h inside k most x y =
           let held : k < length sets = omega (arith, listed, h.shown.many) in
           ap (λ l. covers l x y) (get_or_default sets k rest [] held)
           ∙ (h.shown.places k x y listed
-          ∙ ap (λ t. covers area x y && (if t then bare else is_the top k)) (sym (ne_eqb k v.sizes.slots (λ same. absurd (omega (arith, below, same))))))
+          ∙ (first_is_top v x y (covers area x y) (λ o. is_the o k) (inside x y)
+          ∙ ap (λ t. covers area x y && (if t then bare else is_the top k)) (sym (ne_eqb k v.sizes.slots (λ same. absurd (omega (arith, below, same)))))))
       | inr past ↦ let last : length sets ≤ k = omega (arith, past, h.many, h.shown.many) in
           ap (λ l. covers l x y) (get_or_past sets k rest last)
           ∙ (h.left x y
+          ∙ (first_is_top v x y (covers area x y) (λ o. not (is_some o)) (inside x y)
           ∙ (with_screen (covers area x y) (has_pixel (screen v.sizes.width v.sizes.height) x y) (not (is_some top)) (inside x y)
-          ∙ ap (λ t. covers area x y && (if t then bare else is_the top k)) (sym (eq-eqb k v.sizes.slots (omega (arith, past, most))))))
+          ∙ ap (λ t. covers area x y && (if t then bare else is_the top k)) (sym (eq-eqb k v.sizes.slots (omega (arith, past, most)))))))
     ]
   where
     top : Option ℕ
-    top = first_at v.bounds v.front_to_back x y
+    top = top_in v x y
 
     bare : Bool
     bare = has_pixel (screen v.sizes.width v.sizes.height) x y && not (is_some top)
-
--- the bounds of a slot, and so an area, lie on the screen
-on_axis : (low z high : ℤ) (n : ℕ) → int_le (pos 0) low ≡ true → int_le (high +ℤ pos 1) (pos n) ≡ true → within low z high ≡ true
-    → within (pos 0) z (pos n -ℤ pos 1) ≡ true
-unfolding within
-on_axis low z high n first last has = grind (arith, ints)
-
-bounds_on_screen : (sizes : Sizes) (o : Option Rectangle) (x y : ℤ) → IsPlacedOn sizes o → bounds_have o x y ≡ true
-    → has_pixel (screen sizes.width sizes.height) x y ≡ true
-unfolding is_on_screen
-bounds_on_screen sizes None x y placed has = absurd (false≢true has)
-bounds_on_screen sizes (Some r) x y placed has =
-    let sides = and_parts (int_le (pos 0) r.min_x && int_le (r.max_x +ℤ pos 1) (pos sizes.width))
-    (int_le (pos 0) r.min_y && int_le (r.max_y +ℤ pos 1) (pos sizes.height)) placed.1 in
-    let across = and_parts (int_le (pos 0) r.min_x) (int_le (r.max_x +ℤ pos 1) (pos sizes.width)) sides.0 in
-    let down = and_parts (int_le (pos 0) r.min_y) (int_le (r.max_y +ℤ pos 1) (pos sizes.height)) sides.1 in
-    let parts = and_parts (within r.min_x x r.max_x) (within r.min_y y r.max_y) has in
-    and_from _ _ (on_axis r.min_x x r.max_x sizes.width across.0 across.1 parts.0) (on_axis r.min_y y r.max_y sizes.height down.0 down.1 parts.1)
-
-pub area_on_screen : (v w : Stack) (call : Call) (area : List Rectangle) → IsStack v → IsStack w → w.sizes ≡ v.sizes → IsAreaOf v w call area
-    → IsOnScreen v.sizes area
-area_on_screen v w call area before after same around x y has =
-    by_slot (slot_arranged call) (sym (around x y) ∙ has)
-  where
-    by_test : (a b : Bool) → (a || b) ≡ true → (a ≡ true → has_pixel (screen v.sizes.width v.sizes.height) x y ≡ true)
-        → (b ≡ true → has_pixel (screen v.sizes.width v.sizes.height) x y ≡ true) → has_pixel (screen v.sizes.width v.sizes.height) x y ≡ true
-    by_test true b some first second = first refl
-    by_test false b some first second = second some
-
-    by_slot : (o : Option ℕ) → (slot_has v o x y || slot_has w o x y) ≡ true → has_pixel (screen v.sizes.width v.sizes.height) x y ≡ true
-    by_slot None some = absurd (false≢true some)
-    by_slot (Some s) some =
-        by_test (bounds_have (bounds_at v.bounds s) x y) (bounds_have (bounds_at w.bounds s) x y) some
-        (bounds_on_screen v.sizes (bounds_at v.bounds s) x y (before.placed s))
-        (bounds_on_screen v.sizes (bounds_at w.bounds s) x y (subst (λ z. IsPlacedOn z (bounds_at w.bounds s)) same (after.placed s)))
 
 -- what the one has before and the other afterwards, within the area and everywhere
 in_area : (a h k : Bool) → (a ≡ false → (h && k) ≡ false) → ((a && h) && (a && k)) ≡ (h && k)
@@ -298,8 +297,8 @@ in_area true h k none = refl
 -- The pieces of an area, outside which the same layer is on top before and after, are those of the whole screen.
 pub are_pieces : (v w : Stack) (area : List Rectangle) (were : List (List Rectangle)) (bare : List Rectangle) (sets : List (List Rectangle))
     (rest : List Rectangle) (n : ℕ) (pieces : List Piece) → n ≡ v.sizes.slots + 1 → w.sizes ≡ v.sizes → AreOwnersIn area v were bare
-    → AreOwnersIn area w sets rest → IsOnScreen v.sizes area
-    → ((x y : ℤ) → covers area x y ≡ false → first_at v.bounds v.front_to_back x y ≡ first_at w.bounds w.front_to_back x y)
+    → AreOwnersIn area w sets rest → LieIn (screen_bounds v.sizes) area
+    → ((x y : ℤ) → covers area x y ≡ false → top_in v x y ≡ top_in w x y)
     → pieces ≡ all_losses n n were bare sets rest → ArePieces v w pieces
 are_pieces v w area were bare sets rest n pieces count same before after inside elsewhere is =
     let P : List Piece → Type 0 = λ ps. ArePieces v w ps in
@@ -312,14 +311,14 @@ are_pieces v w area were bare sets rest n pieces count same before after inside 
           ∙ by_test a b x y (a == b) refl one other;
     })
   where
-    inside_after : IsOnScreen w.sizes area
-    inside_after = subst (λ z. IsOnScreen z area) (sym same) inside
+    inside_after : LieIn (screen_bounds w.sizes) area
+    inside_after = subst (λ z. LieIn (screen_bounds z) area) (sym same) inside
 
     apart : (a b : ℕ) (x y : ℤ) → (a == b) ≡ false → covers area x y ≡ false → (owner_has v a x y && owner_has w b x y) ≡ false
     apart a b x y other off =
         ap (λ o. is_owner v.sizes.slots (has_pixel (screen v.sizes.width v.sizes.height) x y) o a && owner_has w b x y) (elsewhere x y off)
-        ∙ (ap (λ (z : Sizes). is_owner z.slots (has_pixel (screen z.width z.height) x y) (first_at w.bounds w.front_to_back x y) a && owner_has w b x y) (sym same)
-        ∙ one_owner w.sizes.slots (has_pixel (screen w.sizes.width w.sizes.height) x y) (first_at w.bounds w.front_to_back x y) a b other)
+        ∙ (ap (λ (z : Sizes). is_owner z.slots (has_pixel (screen z.width z.height) x y) (top_in w x y) a && owner_has w b x y) (sym same)
+        ∙ one_owner w.sizes.slots (has_pixel (screen w.sizes.width w.sizes.height) x y) (top_in w x y) a b other)
 
     by_test : (a b : ℕ) (x y : ℤ) (t : Bool) → (a == b) ≡ t → a ≤ v.sizes.slots → b ≤ v.sizes.slots
         → covers (if t then [] else common (owner_in were bare a) (owner_in sets rest b)) x y ≡ (not t && (owner_has v a x y && owner_has w b x y))
@@ -333,7 +332,7 @@ are_pieces v w area were bare sets rest n pieces count same before after inside 
 
 -- and they lie on the screen
 pub pieces_on_screen : (v : Stack) (area : List Rectangle) (were : List (List Rectangle)) (bare : List Rectangle) (sets : List (List Rectangle))
-    (rest : List Rectangle) (n : ℕ) (pieces : List Piece) → n ≡ v.sizes.slots + 1 → AreOwnersIn area v were bare → IsOnScreen v.sizes area
+    (rest : List Rectangle) (n : ℕ) (pieces : List Piece) → n ≡ v.sizes.slots + 1 → AreOwnersIn area v were bare → LieIn (screen_bounds v.sizes) area
     → pieces ≡ all_losses n n were bare sets rest → All (λ p. LiesIn p.rect (screen v.sizes.width v.sizes.height)) pieces
 pieces_on_screen v area were bare sets rest n pieces count before inside is =
     let P : List Piece → Type 0 = λ ps. All (λ p. LiesIn p.rect (screen v.sizes.width v.sizes.height)) ps in

@@ -1,5 +1,5 @@
 -- What planning refuses is what the machine refuses.
-use Rattle.std.proofs.Common.{◌≡◌, ℕ, ◌<◌, ◌==◌, Bool, true, false, not, ◌&&◌, nat_lt, ℤ, pos, List, Option, Some, None, IsTrue, refl, sym, ap, ◌∙◌}
+use Rattle.std.proofs.Common.{◌≡◌, ℕ, ◌<◌, Bool, true, false, not, ◌&&◌, nat_lt, ℤ, pos, List, Option, Some, None, IsTrue, refl, sym, ap, ◌∙◌}
 use Rattle.std.specs.Prelude.{if◌then◌else◌}
 use Rattle.std.specs.List.{slice_index_or}
 use Rattle.std.proofs.lemmas.Bool.{and_parts, ltb-true, false≢true}
@@ -9,21 +9,17 @@ use Rattle.lw_calls.specs.declared.make.Kind.{Kind}
 use Rattle.lw_calls.specs.declared.make.Kind.TheVariants.{Simple, Smart, SuperBitmap}
 use Rattle.lw_calls.specs.declared.make.Make.{Make}
 use Rattle.lw_calls.specs.declared.call.Call.{Call}
-use Rattle.lw_calls.specs.declared.call.Call.TheVariants.{Create, OpenWindow, Close, ToFront, ToBack, InFrontOf, MoveBy, SizeBy, SetBox, Activate, Blit}
+use Rattle.lw_calls.specs.declared.call.Call.TheVariants.{Create, OpenWindow, Close, ToFront, ToBack, InFrontOf, MoveBy, SizeBy, SetBox, Activate}
 use Rattle.lw_calls.specs.declared.reply.Reply.{Reply}
 use Rattle.lw_calls.specs.declared.reply.Reply.TheVariants.{NotOpen, AlreadyOpen, NotWindow, NotOwner, Backdrop, OutOfBounds}
 use Rattle.lw_calls.specs.Kinds.{is_super}
 use Rattle.lw_calls.specs.Limits.{call_fits, make_fits, coordinates_fit, is_extent, window_fits}
-use Rattle.lw_calls.specs.declared.touch.CallClass.{CallClass}
-use Rattle.lw_calls.specs.declared.touch.CallClass.TheVariants.{OnAll}
-use Rattle.lw_calls.specs.Touches.{class_of, slots_in}
-use Rattle.lw_calls.specs.Plan.{is_all}
-use Rattle.lw_calls.proofs.BlitClass.{blit_not_all}
+use Rattle.lw_calls.specs.Touches.{is_arrangement}
 use Rattle.lw_calls.proofs.LimitLaws.{first_low}
-use Rattle.lw_machine.specs.Layer.{Layer, Window, Slot, Unopened, Live, Closed, is_live, is_unopened, layer_is, is_window, is_foreign, is_framed}
+use Rattle.lw_machine.specs.Layer.{Layer, Window, Slot, Unopened, Live, Closed, may_open, is_live, layer_is, is_window, is_foreign, is_framed}
 use Rattle.lw_machine.specs.Desk.{Desk}
 use Rattle.lw_machine.specs.Reveal.{has_bounds}
-use Rattle.lw_machine.specs.Arrangement.{is_on_screen, is_at_least, portion_fits, may_have_bounds, layer_may_have_bounds, bounds_of}
+use Rattle.lw_machine.specs.Arrangement.{may_lie_at, is_at_least, portion_fits, may_have_bounds, layer_may_have_bounds, bounds_of}
 use Rattle.lw_machine.specs.Step.{refuse, refuse_not_open, refuse_not_owner, refuse_not_window, refuse_backdrop, may_change_bounds, change_refusal, creation_refusal, refusal}
 use Rattle.lw_layer.specs.Looks.{owner_of}
 use Rattle.lw_layer.specs.declared.look.Look.{Look}
@@ -93,7 +89,7 @@ bits_same SuperBitmap x y w h w' h' r ew eh = ap (λ n. portion_fits x y n h r) 
 may_same : (s : Sizes) (l : Layer) (place : Option Rectangle) (k : Look) (r : Rectangle) → IsLookOf l place k
     → may_lie s (needs_of k) r ≡ layer_may_have_bounds s l r
 may_same s l place k r is =
-    let on : Bool = is_on_screen s r && is_at_least (pos 1) (pos 1) r in
+    let on : Bool = may_lie_at s r && is_at_least (pos 1) (pos 1) r in
     let frame : Bool → Bool = λ f. if f then is_at_least (pos 9) (pos 14) r else true in
     let own : Kind → ℤ → ℤ → ℕ → ℕ → Bool = λ kind x y w h. if is_super kind then portion_fits x y w h r else true in
     ap (λ f. on && (frame f && own k.kind k.scroll_x k.scroll_y k.bits_w k.bits_h)) is.framed
@@ -130,7 +126,7 @@ change_same d v k s change (Some r) e told =
 -- a change is refused as the machine refuses it
 pub change_is : (d : Desk) (v : Stack) (looks : List (Option Look)) (fresh : Bool) (call : Call) (s : ℕ) (change : Change)
     → AreOf d v looks fresh call → s < v.sizes.slots
-    → change_refused v looks s change ≡ change_refusal d s (changed_by change)
+    → change_refused v looks s change ≡ refuse_not_open (d.slot s) (change_refusal d s (changed_by change))
 change_is d v looks fresh call s change are low =
     let k = live_at v looks s in
     let told = told_at d v looks fresh call s are low in
@@ -140,21 +136,21 @@ change_is d v looks fresh call s change are low =
     refuse_same _ _ NotOpen _ _ (ap not (told_live d s k told))
     (refuse_same _ _ Backdrop _ _ (told_backdrop d s k told) (refuse_same _ _ OutOfBounds None None (ap not may) refl))
 
--- a slot that was never opened has no bounds
+-- a slot in which a layer may be created has no bounds
 free_same : (d : Desk) (v : Stack) (looks : List (Option Look)) (fresh : Bool) (call : Call) (s : ℕ)
-    → AreOf d v looks fresh call → s < v.sizes.slots → fresh ≡ is_unopened (d.slot s)
-    → is_free_at v fresh s ≡ is_unopened (d.slot s)
+    → AreOf d v looks fresh call → s < v.sizes.slots → fresh ≡ may_open d.sizes.version (d.slot s)
+    → is_free_at v fresh s ≡ may_open d.sizes.version (d.slot s)
 free_same d v looks fresh call s are low e = go fresh (slice_index_or looks s None) e (are.looks s low)
   where
-    go : (f : Bool) (k : Option Look) → f ≡ is_unopened (d.slot s) → IsTold d s k
-        → (f && not (has_bounds (bounds_at v.bounds s))) ≡ is_unopened (d.slot s)
+    go : (f : Bool) (k : Option Look) → f ≡ may_open d.sizes.version (d.slot s) → IsTold d s k
+        → (f && not (has_bounds (bounds_at v.bounds s))) ≡ may_open d.sizes.version (d.slot s)
     go false k is told = is
     go true None is told = rw (sym (are.info.bounds s) ∙ told.1) is
-    go true (Some k) is told = absurd (false≢true (sym (ap is_unopened told.1) ∙ sym is))
+    go true (Some k) is told = absurd (false≢true (sym (ap (may_open d.sizes.version) told.1) ∙ sym is))
 
 -- a creation is refused as the machine refuses it
 creation_is : (d : Desk) (v : Stack) (looks : List (Option Look)) (fresh : Bool) (call : Call) (s : ℕ) (make : Make)
-    (framed : Bool) → AreOf d v looks fresh call → s < v.sizes.slots → fresh ≡ is_unopened (d.slot s)
+    (framed : Bool) → AreOf d v looks fresh call → s < v.sizes.slots → fresh ≡ may_open d.sizes.version (d.slot s)
     → creation_refused v fresh s make framed ≡ creation_refusal d s make framed
 creation_is d v looks fresh call s make framed are low e =
     refuse_same _ _ AlreadyOpen _ _ (ap not (free_same d v looks fresh call s are low e))
@@ -205,7 +201,7 @@ activation_is d v looks fresh call s are low =
 
 -- Planning refuses a call as the machine does.
 pub refused_is_refusal : (d : Desk) (v : Stack) (looks : List (Option Look)) (fresh : Bool) (task : ℕ) (call : Call)
-    → class_of call ≡ OnAll → IsTrue (call_fits v.sizes call) → AreOf d v looks fresh call
+    → is_arrangement call ≡ true → IsTrue (call_fits v.sizes call) → AreOf d v looks fresh call
     → refused v looks fresh task call ≡ refusal d task call
 refused_is_refusal d v looks fresh task (Create slot make) all fits are =
     creation_is d v looks fresh (Create slot make) slot make false are
@@ -232,5 +228,4 @@ refused_is_refusal d v looks fresh task (SetBox slot x y w h) all fits are =
     (first_low slot v.sizes.slots (coordinates_fit x y && (is_extent w && is_extent h)) fits)
 refused_is_refusal d v looks fresh task (Activate slot) all fits are =
     activation_is d v looks fresh (Activate slot) slot are (ltb-true slot v.sizes.slots fits)
-refused_is_refusal d v looks fresh task (Blit source slot area) all fits are = absurd (blit_not_all (source == slot) source slot (ap (λ (k : CallClass). is_all (slots_in k)) all))
-refused_is_refusal d v looks fresh task call all fits are = absurd (cc)
+refused_is_refusal d v looks fresh task call all fits are = absurd (false≢true all)

@@ -1,21 +1,22 @@
 -- What a call that isn't refused makes of a list of layers is one.
-use Rattle.std.proofs.Common.{◌≡◌, ℕ, ◌+◌, ◌<◌, ◌==◌, Bool, true, false, not, ◌&&◌, nat_lt, pos, ◌≤ℤ◌, List, ◌∷◌, length, Option, Some, None, IsTrue, refl, sym, ap, subst, ◌∙◌, arith}
-use Rattle.std.specs.Prelude.{if◌then◌else◌, int_le, ◌+ℤ◌}
+use Rattle.std.proofs.Common.{◌≡◌, ℕ, ◌+◌, ◌<◌, ◌==◌, Bool, true, false, not, ◌&&◌, nat_lt, ℤ, pos, negsuc, ◌≤ℤ◌, List, ◌∷◌, length, Option, Some, None, IsTrue, refl, sym, ap, subst, ◌∙◌, arith}
+use Rattle.std.specs.Prelude.{if◌then◌else◌, int_le}
 use Rattle.std.specs.List.{slice_index_or, slice_set}
 use Rattle.std.proofs.lemmas.Int.{ints}
 use Rattle.std.proofs.lemmas.List.{get_or-set_same, get_or-set_other, length-set}
 use Rattle.std.proofs.lemmas.Bool.{and_parts, ltb-true, false≢true, eqb-true, eq-eqb, not-true, not-false}
-use Rattle.lw_region.specs.Rectangle.{Rectangle, columns_of, rows_of}
+use Rattle.lw_region.specs.Rectangle.{Rectangle, columns_of, rows_of, IsWord}
+use Rattle.lw_region.proofs.Within.{within_low, within_high}
 use Rattle.lw_calls.specs.declared.sizes.Sizes.{Sizes}
 use Rattle.lw_calls.specs.declared.make.Make.{Make}
 use Rattle.lw_calls.specs.declared.call.Call.{Call}
 use Rattle.lw_calls.specs.declared.call.Call.TheVariants.{Create, OpenWindow, Close, ToFront, ToBack, InFrontOf, MoveBy, SizeBy, SetBox, Activate}
 use Rattle.lw_calls.specs.declared.reply.Reply.{Reply}
 use Rattle.lw_calls.specs.declared.reply.Reply.TheVariants.{NotOpen, AlreadyOpen, Backdrop, OutOfBounds}
-use Rattle.lw_calls.specs.Limits.{IsWithinLimits, call_fits, make_fits, coordinates_fit, is_extent, window_fits}
+use Rattle.lw_calls.specs.Limits.{call_fits, make_fits, is_coordinate, coordinates_fit, is_extent, window_fits}
 use Rattle.lw_calls.specs.Orders.{occurrences}
 use Rattle.lw_machine.specs.Reveal.{has_bounds}
-use Rattle.lw_machine.specs.Arrangement.{is_on_screen, is_at_least, bounds_of, without, put_before, placed}
+use Rattle.lw_machine.specs.Arrangement.{has_coordinates, may_lie_at, is_at_least, bounds_of, without, put_before, placed}
 use Rattle.lw_machine.specs.Step.{refuse}
 use Rattle.lw_machine.proofs.ListSound.{occurrences_put_before, occurrences_placed, occurrences_without_same, occurrences_without_other, occurrences_moved}
 use Rattle.lw_machine.proofs.ArrangementSound.{unrefused}
@@ -37,41 +38,34 @@ pub reordering_bounds : (v : Stack) (looks : List (Option Look)) (s : ℕ) (next
 reordering_bounds v looks s next e =
     live_has_bounds (bounds_at v.bounds s) (slice_index_or looks s None) (not-false _ (unrefused _ NotOpen next e).0)
 
--- bounds that a layer may have lie on the screen and are in order
+-- bounds that a layer may have lie where one may and are in order
 lying_on : (s : Sizes) (n : Needs) (r : Rectangle) → may_lie s n r ≡ true → IsPlacedOn s (Some r)
 unfolding is_at_least
 lying_on s n r may =
-    let first = and_parts (is_on_screen s r && is_at_least (pos 1) (pos 1) r) _ may in
-    let parts = and_parts (is_on_screen s r) (is_at_least (pos 1) (pos 1) r) first.0 in
+    let first = and_parts (may_lie_at s r && is_at_least (pos 1) (pos 1) r) _ may in
+    let parts = and_parts (may_lie_at s r) (is_at_least (pos 1) (pos 1) r) first.0 in
     let size = and_parts (int_le (pos 1) (columns_of r)) (int_le (pos 1) (rows_of r)) parts.1 in
     let columns : pos 1 ≤ℤ columns_of r = grind (arith, ints) in
     let rows : pos 1 ≤ℤ rows_of r = grind (arith, ints) in
     (record { columns = omega (arith, ints); rows = omega (arith, ints) }, parts.0)
 
 -- so they are those of a rectangle
-rect_on : (s : Sizes) (r : Rectangle) → IsWithinLimits s → IsPlacedOn s (Some r) → IsRect r
-unfolding is_on_screen
-rect_on s r limits on =
-    let parts =
-    and_parts (int_le (pos 0) r.min_x && int_le (r.max_x +ℤ pos 1) (pos s.width))
-    (int_le (pos 0) r.min_y && int_le (r.max_y +ℤ pos 1) (pos s.height)) on.1 in
-    let x = and_parts (int_le (pos 0) r.min_x) (int_le (r.max_x +ℤ pos 1) (pos s.width)) parts.0 in
-    let y = and_parts (int_le (pos 0) r.min_y) (int_le (r.max_y +ℤ pos 1) (pos s.height)) parts.1 in
-    let left : pos 0 ≤ℤ r.min_x = grind (arith, ints) in
-    let top : pos 0 ≤ℤ r.min_y = grind (arith, ints) in
-    let right : (r.max_x +ℤ pos 1) ≤ℤ pos s.width = grind (arith, ints) in
-    let bottom : (r.max_y +ℤ pos 1) ≤ℤ pos s.height = grind (arith, ints) in
-    let columns = on.0.columns in
-    let rows = on.0.rows in
-    let wide = limits.columns in
-    let high = limits.rows in
+coordinate_word : (z : ℤ) → is_coordinate z ≡ true → IsWord z
+coordinate_word z h = (within_low (negsuc 32767) z (pos 32767) h, within_high (negsuc 32767) z (pos 32767) h)
+
+rect_on : (s : Sizes) (r : Rectangle) → IsPlacedOn s (Some r) → IsRect r
+unfolding may_lie_at has_coordinates
+rect_on s r on =
+    let corners = and_parts (coordinates_fit r.min_x r.min_y) (coordinates_fit r.max_x r.max_y) (and_parts (has_coordinates r) _ on.1).0 in
+    let first = and_parts (is_coordinate r.min_x) (is_coordinate r.min_y) corners.0 in
+    let last = and_parts (is_coordinate r.max_x) (is_coordinate r.max_y) corners.1 in
     record {
       ordered = on.0;
       words = record {
-        left = (omega (arith, ints), omega (arith, ints));
-        top = (omega (arith, ints), omega (arith, ints));
-        right = (omega (arith, ints), omega (arith, ints));
-        bottom = (omega (arith, ints), omega (arith, ints));
+        left = coordinate_word r.min_x first.0;
+        top = coordinate_word r.min_y first.1;
+        right = coordinate_word r.max_x last.0;
+        bottom = coordinate_word r.max_y last.1;
       };
     }
 
@@ -101,25 +95,24 @@ change_placed v looks s change e =
     let third = unrefused (not (may_change v k change (bounds_at v.bounds s))) OutOfBounds None second.1 in
     change_on v k change (bounds_at v.bounds s) (not-false _ third.0)
 
-change_rect : (v : Stack) (change : Change) (b : Option Rectangle) → IsWithinLimits v.sizes
-    → IsPlacedOn v.sizes (changed_bounds change b) → IsChangeRect change b
-change_rect v change None limits on = tt
-change_rect v change (Some r) limits on = rect_on v.sizes (changed_by change r) limits on
+change_rect : (v : Stack) (change : Change) (b : Option Rectangle) → IsPlacedOn v.sizes (changed_bounds change b)
+    → IsChangeRect change b
+change_rect v change None on = tt
+change_rect v change (Some r) on = rect_on v.sizes (changed_by change r) on
 
 -- The bounds that a call gives a layer which isn't refused are those of a rectangle.
-pub new_rect : (v : Stack) (looks : List (Option Look)) (fresh : Bool) (task : ℕ) (call : Call) → IsWithinLimits v.sizes
+pub new_rect : (v : Stack) (looks : List (Option Look)) (fresh : Bool) (task : ℕ) (call : Call)
     → refused v looks fresh task call ≡ None → HasNewRect v call
-new_rect v looks fresh task (Create slot make) limits e =
-    rect_on v.sizes (bounds_of make) limits (creation_free v fresh slot make false e).1
-new_rect v looks fresh task (OpenWindow slot make framed nocare asks title) limits e =
-    rect_on v.sizes (bounds_of make) limits (creation_free v fresh slot make framed e).1
-new_rect v looks fresh task (MoveBy slot dx dy) limits e =
-    change_rect v (Move dx dy) (bounds_at v.bounds slot) limits (change_placed v looks slot (Move dx dy) e)
-new_rect v looks fresh task (SizeBy slot dw dh) limits e =
-    change_rect v (Size dw dh) (bounds_at v.bounds slot) limits (change_placed v looks slot (Size dw dh) e)
-new_rect v looks fresh task (SetBox slot x y w h) limits e =
-    change_rect v (Box x y w h) (bounds_at v.bounds slot) limits (change_placed v looks slot (Box x y w h) e)
-new_rect v looks fresh task call limits e = tt
+new_rect v looks fresh task (Create slot make) e = rect_on v.sizes (bounds_of make) (creation_free v fresh slot make false e).1
+new_rect v looks fresh task (OpenWindow slot make framed nocare asks title) e =
+    rect_on v.sizes (bounds_of make) (creation_free v fresh slot make framed e).1
+new_rect v looks fresh task (MoveBy slot dx dy) e =
+    change_rect v (Move dx dy) (bounds_at v.bounds slot) (change_placed v looks slot (Move dx dy) e)
+new_rect v looks fresh task (SizeBy slot dw dh) e =
+    change_rect v (Size dw dh) (bounds_at v.bounds slot) (change_placed v looks slot (Size dw dh) e)
+new_rect v looks fresh task (SetBox slot x y w h) e =
+    change_rect v (Box x y w h) (bounds_at v.bounds slot) (change_placed v looks slot (Box x y w h) e)
+new_rect v looks fresh task call e = tt
 
 -- the bounds of all slots, with those of one changed
 pub bounds_set : (bounds : List (Option Rectangle)) (s t : ℕ) (b : Option Rectangle) → s < length bounds

@@ -2,21 +2,20 @@
 use Rattle.std.proofs.Common.{◌≡◌, ℕ, ◌==◌, Bool, true, false, List, [], ◌∷◌, Option, Some, None, refl, sym, ap, subst, ◌∙◌, ⊎_elim, ℤ, IsTrue}
 use Rattle.std.specs.Prelude.{if◌then◌else◌}
 use Rattle.std.specs.List.{find}
-use Rattle.std.proofs.Math.Path.{fun_ext}
 use Rattle.std.proofs.lemmas.Bool.{eqb-true}
-use Rattle.lw_region.specs.Rectangle.{Rectangle}
+use Rattle.lw_region.specs.Rectangle.{Rectangle, has_pixel}
 use Rattle.lw_region.specs.Bands.{covers}
 use Rattle.lw_region.proofs.Canonical.{covers_nil}
 use Rattle.lw_calls.specs.declared.sizes.Sizes.{Sizes}
 use Rattle.lw_calls.specs.declared.call.Call.{Call}
+use Rattle.lw_calls.specs.declared.call.Call.TheVariants.{InFrontOf}
 use Rattle.lw_calls.specs.Limits.{call_fits}
-use Rattle.lw_calls.specs.declared.touch.CallClass.TheVariants.{OnAll}
-use Rattle.lw_calls.specs.Touches.{class_of}
+use Rattle.lw_calls.specs.Touches.{is_arrangement}
 use Rattle.lw_machine.specs.Hook.{Hook}
 use Rattle.lw_machine.specs.Layer.{Layer, Slot, Unopened, Live, Closed, is_live, layer_is, is_window}
 use Rattle.lw_machine.specs.Desk.{Desk, is_the}
-use Rattle.lw_machine.specs.Screen.{bounds_have, top, is_shown}
-use Rattle.lw_machine.specs.Arrangement.{bounds_of, hook_from, new_layer, arranged}
+use Rattle.lw_machine.specs.Screen.{bounds_have, screen_bounds, top, is_shown}
+use Rattle.lw_machine.specs.Arrangement.{bounds_of, without, put_before, reordered, hook_from, new_layer, arranged}
 use Rattle.lw_machine.specs.Reveal.{has_bounds, across, settled_layer, settled}
 use Rattle.lw_machine.specs.Parts.{SlotPart, slot_part}
 use Rattle.lw_machine.specs.Step.{refusal}
@@ -26,7 +25,8 @@ use Rattle.lw_layer.specs.View as view
 use Rattle.lw_layer.specs.Drafts.{no_layer}
 use Rattle.lw_layer.specs.StandsFor.{IsPartOf, StandsFor}
 use Rattle.lw_layer.proofs.SoundLaws.{live_part}
-use Rattle.lw_stack.specs.Stack.{Stack, bounds_at, first_at, is_first_at, StandsForInfo}
+use Rattle.lw_stack.specs.Stack.{bounds_at}
+use Rattle.lw_stack.proofs.ListLaws.{shown_is_top}
 use Rattle.lw_stack.proofs.ListedLaws.{shown_places}
 use Rattle.lw_arrange.specs.Arrangements.{ArrangementView, IsArrangement}
 use Rattle.lw_arrange.specs.Arranged.{IsArrangementOf}
@@ -41,7 +41,7 @@ pub record IsDone (d : Desk) (caller : ℕ) (made : Call) (a : ArrangementView) 
   pub sound : IsDesk d
   pub settled : IsDesk (settled d (arranged d caller made))
   pub fits : IsTrue (call_fits d.sizes made)
-  pub all : class_of made ≡ OnAll
+  pub all : is_arrangement made ≡ true
   pub unrefused : refusal d caller made ≡ None
   pub planned : IsArrangement a
   pub plan : IsArrangementOf d caller made a
@@ -56,12 +56,14 @@ pub gone : (o : Option Rectangle) → has_bounds o ≡ false → o ≡ None
 gone None has = refl
 gone (Some r) has = absurd (cc has)
 
--- where the list says what is shown, the desk shows it
-pub shown_is : (v : Stack) (a : Desk) (s : ℕ) (x y : ℤ) → StandsForInfo v (record { front_to_back = a.front_to_back; bounds = a.bounds; active = a.active; shelf = a.shelf }) → is_shown a s x y ≡ is_first_at v.bounds v.front_to_back s x y
-unfolding top first_at
-shown_is v a s x y stands =
-    let bounds : (λ t. bounds_have (a.bounds t) x y) ≡ (λ t. bounds_have (bounds_at v.bounds t) x y) = fun_ext (λ t. ap (λ o. bounds_have o x y) (stands.bounds t)) in
-    ap (λ f. is_the (find f a.front_to_back) s) bounds ∙ ap (λ l. is_the (find (λ t. bounds_have (bounds_at v.bounds t) x y) l) s) stands.front_to_back
+-- an arrangement leaves the sizes
+arranged_sizes : (d : Desk) (task : ℕ) (call : Call) → (arranged d task call).sizes ≡ d.sizes
+arranged_sizes d task (InFrontOf slot other) = by_test (slot == other)
+  where
+    by_test : (b : Bool) → (if b then d else reordered d (put_before (λ t. t == other) slot (without slot d.front_to_back))).sizes ≡ d.sizes
+    by_test true = refl
+    by_test false = refl
+arranged_sizes d task call = refl
 
 -- the settled desk shows what the arranged one does
 shown_settled : (d a : Desk) (s : ℕ) (x y : ℤ) → is_shown (settled d a) s x y ≡ is_shown a s x y
@@ -71,7 +73,8 @@ shown_settled d a s x y = refl
 -- what is shown of a slot afterwards
 pub shown_after : (d : Desk) (caller : ℕ) (made : Call) (a : ArrangementView) (s : ℕ) (x y : ℤ) → IsDone d caller made a → has_bounds (bounds_at a.stack.bounds s) ≡ true → is_shown (arranged d caller made) s x y ≡ covers (shown_at a s) x y
 shown_after d caller made a s x y done has =
-    shown_is a.stack (arranged d caller made) s x y done.plan.info ∙ sym (shown_places a.stack.bounds a.stack.front_to_back s x y)
+    shown_is_top a.stack (arranged d caller made) (arranged_sizes d caller made ∙ sym done.sizes) done.plan.info s x y
+    ∙ sym (shown_places a.stack s x y)
 
 -- what a cell stands for says whether it is live
 pub not_dead : (c : CellView) (p : SlotPart) → StandsFor c p → is_live p.slot ≡ true → c.state ≡ view.Live
@@ -82,13 +85,13 @@ not_dead c p stands live = go c.state stands
     go view.Live part = refl
     go view.Closed part = absurd (cc (part.0, live))
 
-pub not_opened : (c : CellView) (p : SlotPart) → StandsFor c p → p.slot ≡ Unopened → (c.state ≡ view.Unopened) × (p.bounds ≡ None)
-not_opened c p stands free = go c.state stands
+pub not_live : (c : CellView) (p : SlotPart) → StandsFor c p → is_live p.slot ≡ false → (c.state ≡ view.Live → ⊥) × (p.bounds ≡ None)
+not_live c p stands free = go c.state stands
   where
-    go : (q : State) → IsPartOf q c.live p → (q ≡ view.Unopened) × (p.bounds ≡ None)
-    go view.Unopened part = (refl, part.1)
+    go : (q : State) → IsPartOf q c.live p → (q ≡ view.Live → ⊥) × (p.bounds ≡ None)
+    go view.Unopened part = (λ live. cc live, part.1)
     go view.Live part = absurd (cc (part.slot, free))
-    go view.Closed part = absurd (cc (part.0, free))
+    go view.Closed part = (λ live. cc live, part.1)
 
 -- no slot without a layer is the active window
 pub idle_slot : (d : Desk) (s : ℕ) → IsDesk d → is_live (d.slot s) ≡ false → is_the d.active s ≡ false
@@ -108,7 +111,7 @@ idle_slot d s ok dead = go d.active ok.active
     go (Some n) h = step n (n == s) refl (window_live (d.slot n) h)
 
 -- what is found passes the test
-pub find_passes : (test : ℕ → Bool) (ns : List ℕ) (n : ℕ) → find test ns ≡ Some n → test n ≡ true
+find_passes : (test : ℕ → Bool) (ns : List ℕ) (n : ℕ) → find test ns ≡ Some n → test n ≡ true
 find_passes test [] n is = absurd (cc is)
 find_passes test (m ∷ ms) n is = step (test m) refl (λ h. find_passes test ms n h) is
   where
@@ -123,7 +126,7 @@ find_passes test (m ∷ ms) n is = step (test m) refl (λ h. find_passes test ms
 -- what is shown of a slot without bounds
 pub shown_nowhere : (d : Desk) (s : ℕ) (x y : ℤ) → d.bounds s ≡ None → is_shown d s x y ≡ false
 unfolding top
-shown_nowhere d s x y none = go (find (λ t. bounds_have (d.bounds t) x y) d.front_to_back) refl
+shown_nowhere d s x y none = by_screen (has_pixel (screen_bounds d.sizes) x y)
   where
     step : (n : ℕ) (b : Bool) → (n == s) ≡ b → bounds_have (d.bounds n) x y ≡ true → b ≡ false
     step n true e has = absurd (cc (ap (λ k. bounds_have (d.bounds k) x y) (eqb-true n s e), ap (λ o. bounds_have o x y) none, has))
@@ -132,6 +135,10 @@ shown_nowhere d s x y none = go (find (λ t. bounds_have (d.bounds t) x y) d.fro
     go : (o : Option ℕ) → find (λ t. bounds_have (d.bounds t) x y) d.front_to_back ≡ o → is_the o s ≡ false
     go None is = refl
     go (Some n) is = step n (n == s) refl (find_passes (λ t. bounds_have (d.bounds t) x y) d.front_to_back n is)
+
+    by_screen : (b : Bool) → is_the (if b then find (λ t. bounds_have (d.bounds t) x y) d.front_to_back else None) s ≡ false
+    by_screen true = go (find (λ t. bounds_have (d.bounds t) x y) d.front_to_back) refl
+    by_screen false = refl
 
 -- what the plan leaves active is the desk's
 active_after : (d : Desk) (caller : ℕ) (made : Call) (a : ArrangementView) (s : ℕ) → IsDone d caller made a
@@ -228,6 +235,13 @@ pub created_is : (d : Desk) (caller : ℕ) (made : Call) (a : ArrangementView) (
 created_is d caller made a n done asked =
     ap (λ t. created_by t a.call) done.plan.task ∙ (ap (created_by caller) done.plan.call ∙ asked)
 
+-- a slot that isn't live has a new layer
+settled_opened : (glyphs : List (List ℕ)) (a : ArrangementView) (h : Option Hook) (c : CellView) (r : Rectangle) (q : State) → (q ≡ view.Live → ⊥)
+    → settled_with glyphs a h c r q ≡ record { number = c.number; state = view.Live; live = settled_new glyphs a c.number r (new_of (created_by a.task a.call) a.stack.sizes.depth h) }
+settled_opened glyphs a h c r view.Unopened dead = refl
+settled_opened glyphs a h c r view.Live dead = absurd (dead refl)
+settled_opened glyphs a h c r view.Closed dead = refl
+
 -- The slot of a layer that is created.
 opens_slot : (d : Desk) (caller : ℕ) (made : Call) (a : ArrangementView) (c : CellView) (h : Option Hook) → IsDone d caller made a
     → StandsFor c (slot_part d c.number) → is_the d.active c.number ≡ false → (opens : Opens d (arranged d caller made) caller made c.number)
@@ -241,7 +255,7 @@ opens_slot d caller made a c h done stands idle opens asked =
     let given = hook_from d.shelf n.make.hook in
     let new : Layer = new_layer d.sizes.depth n.make given n.window in
     let r = bounds_of n.make in
-    let was = not_opened c (slot_part d s) stands opens.free in
+    let was = not_live c (slot_part d s) stands opens.free in
     let planned : bounds_at a.stack.bounds s ≡ Some r = sym (done.plan.info.bounds s) ∙ opens.bounds in
     let q = across_arrangement a s None no_layer r in
     let shown : (x y : ℤ) → is_shown e s x y ≡ covers (shown_at a s) x y =
@@ -257,7 +271,7 @@ opens_slot d caller made a c h done stands idle opens asked =
     let to : CellView = record { number = s; state = view.Live; live = settled_new glyphs a s r new } in
     let after : slot_settled glyphs a h c ≡ to =
     ap (settled_by glyphs a h c) planned
-    ∙ (ap (settled_with glyphs a h c r) was.0
+    ∙ (settled_opened glyphs a h c r c.state was.0
     ∙ ap (λ l. record { number = s; state = view.Live; live = settled_new glyphs a s r l }) layer) in
     let P : CellView → Type 0 = λ v. StandsFor v (slot_part (settled d e) s) in
     subst P (sym after)
@@ -271,7 +285,7 @@ opens_slot d caller made a c h done stands idle opens asked =
 -- the hook of a new layer is the one that its call asks for, where the slot is opened
 abbrev pub IsHookAsked : Desk → ArrangementView → CellView → Option Hook → Type 0
 IsHookAsked d a c h =
-    c.state ≡ view.Unopened → has_bounds (bounds_at a.stack.bounds c.number) ≡ true → h ≡ hook_asked d.shelf (created_by a.task a.call)
+    (c.state ≡ view.Live → ⊥) → has_bounds (bounds_at a.stack.bounds c.number) ≡ true → h ≡ hook_asked d.shelf (created_by a.task a.call)
 
 -- The slot of a cell, which has the hook of its layer, stands after a planned arrangement for its part of the desk that is settled.
 pub slot_stands : (d : Desk) (caller : ℕ) (made : Call) (a : ArrangementView) (c : CellView) (h : Option Hook) → IsDone d caller made a
@@ -281,8 +295,8 @@ slot_stands d caller made a c h done stands asked =
     ⊎_elim (λ stays. by_state c.state refl stays)
     (λ rest. ⊎_elim
     (λ opens.
-    opens_slot d caller made a c h done stands (idle_slot d c.number done.sound (ap is_live opens.free)) opens
-    (asked (not_opened c (slot_part d c.number) stands opens.free).0
+    opens_slot d caller made a c h done stands (idle_slot d c.number done.sound opens.free) opens
+    (asked (not_live c (slot_part d c.number) stands opens.free).0
     (ap has_bounds (sym (done.plan.info.bounds c.number) ∙ opens.bounds))))
     (λ closes. closes_slot d caller made a c h done stands closes) rest)
     (slot_becomes d caller made c.number done.all done.unrefused)

@@ -1,13 +1,13 @@
--- The area of an arrangement: outside it each layer is shown as before.
-use Rattle.std.specs.Prelude.{◌≡◌, ℕ, Bool, false, ◌||◌, List, ℤ, Option, Some, None}
-use Rattle.lw_region.specs.Rectangle.{Rectangle}
+-- The area of an arrangement: places of the screen, outside which each layer is shown as before.
+use Rattle.std.specs.Prelude.{◌≡◌, ℕ, Bool, false, ◌&&◌, ◌||◌, List, ℤ, Option, Some, None}
+use Rattle.lw_region.specs.Rectangle.{Rectangle, has_pixel}
 use Rattle.lw_region.specs.Bands.{covers}
 use Rattle.lw_calls.specs.declared.call.Call.{Call}
 use Rattle.lw_calls.specs.declared.call.Call.TheVariants.{Create, OpenWindow, Close, ToFront, ToBack, InFrontOf, MoveBy, SizeBy, SetBox}
-use Rattle.lw_machine.specs.Screen.{bounds_have}
+use Rattle.lw_machine.specs.Screen.{bounds_have, screen_bounds}
 use Rattle.lw_layer.specs.View.{State, LiveView, CellView}
 use Rattle.lw_layer.specs.View as view
-use Rattle.lw_stack.specs.Stack.{Stack, bounds_at, is_first_at}
+use Rattle.lw_stack.specs.Stack.{Stack, bounds_at, is_top_in}
 use Rattle.lw_arrange.specs.Arrangements.{ArrangementView}
 use Rattle.lw_arrange.specs.Prepared.{shown_at}
 use Rattle.lw_arrange.specs.declared.arrangement.Step.{Step}
@@ -31,16 +31,19 @@ abbrev pub slot_has : Stack → Option ℕ → ℤ → ℤ → Bool
 slot_has v None x y = false
 slot_has v (Some s) x y = bounds_have (bounds_at v.bounds s) x y
 
--- the area is the bounds of the call's slot in the one list and in the other; it is empty for a call that changes neither bounds nor order
+-- the area is what the bounds of the call's slot in the one list and in the other have of the screen; it is empty for a call that
+-- changes neither bounds nor order
 abbrev pub IsAreaOf : Stack → Stack → Call → List Rectangle → Type 0
 IsAreaOf v w call area =
-    (x y : ℤ) → covers area x y ≡ (slot_has v (slot_arranged call) x y || slot_has w (slot_arranged call) x y)
+    (x y : ℤ) → covers area x y
+    ≡ (has_pixel (screen_bounds v.sizes) x y && (slot_has v (slot_arranged call) x y || slot_has w (slot_arranged call) x y))
 
--- The area of an arrangement is the former and the new bounds of its call's slot, and outside it each layer is shown as before.
+-- The area of an arrangement is what the former and the new bounds of its call's slot have of the screen, and outside it each
+-- layer is shown as before.
 pub record HasArea (v : Stack) (a : ArrangementView) : Type 0 where
   pub area : IsAreaOf v a.stack a.call a.area
   pub elsewhere : (s : ℕ) (x y : ℤ) → covers a.area x y ≡ false
-      → is_first_at v.bounds v.front_to_back s x y ≡ is_first_at a.stack.bounds a.stack.front_to_back s x y
+      → is_top_in v s x y ≡ is_top_in a.stack s x y
 
 -- so it is with what planning answers, where that is an arrangement
 abbrev pub StepHasArea : Stack → Step → Type 0
@@ -57,7 +60,7 @@ is_visible view.Closed c x y = false
 abbrev pub IsShownElsewhere : ArrangementView → CellView → Type 0
 IsShownElsewhere a c =
     (x y : ℤ) → covers a.area x y ≡ false
-    → is_visible c.state c.live x y ≡ is_first_at a.stack.bounds a.stack.front_to_back c.number x y
+    → is_visible c.state c.live x y ≡ is_top_in a.stack c.number x y
 
 -- For private contracts.
 -- The visible rectangles of a live layer after an arrangement, in which it then has these bounds; none are told where both stay.

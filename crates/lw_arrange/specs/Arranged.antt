@@ -5,7 +5,7 @@ use Rattle.lw_region.specs.Rectangle.{Rectangle}
 use Rattle.lw_calls.specs.declared.call.Call.{Call}
 use Rattle.lw_calls.specs.declared.call.Call.TheVariants.{Create, OpenWindow}
 use Rattle.lw_calls.specs.Kinds.{is_super}
-use Rattle.lw_machine.specs.Layer.{Layer, Live, is_live, is_unopened, is_framed}
+use Rattle.lw_machine.specs.Layer.{Layer, Live, may_open, is_live, is_framed}
 use Rattle.lw_machine.specs.Desk.{Desk}
 use Rattle.lw_machine.specs.Arrangement.{arranged}
 use Rattle.lw_machine.specs.Parts.{info_part}
@@ -34,14 +34,14 @@ abbrev pub IsTold : Desk → ℕ → Option Look → Type 0
 IsTold d s None = (is_live (d.slot s) ≡ false) × (d.bounds s ≡ None)
 IsTold d s (Some k) = (l : Layer) × (d.slot s ≡ Live l) × IsLookOf l (d.bounds s) k
 
--- the slot that a call creates or opens a layer in is unopened, where the flag says so
+-- a layer may be created in the slot of a call that creates or opens one, where the flag says so
 abbrev pub IsFresh : Desk → Call → Bool → Type 0
-IsFresh d (Create slot make) fresh = fresh ≡ is_unopened (d.slot slot)
-IsFresh d (OpenWindow slot make framed nocare asks title) fresh = fresh ≡ is_unopened (d.slot slot)
+IsFresh d (Create slot make) fresh = fresh ≡ may_open d.sizes.version (d.slot slot)
+IsFresh d (OpenWindow slot make framed nocare asks title) fresh = fresh ≡ may_open d.sizes.version (d.slot slot)
 IsFresh d call fresh = Unit {0}
 
 -- All that planning a call reads is of this desk: its sizes, its list, bounds and active window, what is told of each slot, and
--- whether the slot of a creation is unopened.
+-- whether a layer may be created in the slot of a creation.
 pub record AreOf (d : Desk) (v : Stack) (told : List (Option Look)) (free : Bool) (call : Call) : Type 0 where
   pub sizes : d.sizes ≡ v.sizes
   pub info : StandsForInfo v (info_part d)

@@ -13,6 +13,6 @@ abbrev pub IsPrepared : CellView → CellView → Becomes → Type 0
 IsPrepared from to Stays = to ≡ from
 IsPrepared from to Closes = (from.state ≡ view.Live) × (to ≡ record { number = from.number; state = view.Closed; live = no_layer })
 IsPrepared from to (Opens d) =
-    (from.state ≡ view.Unopened) × IsLiveDraft d × (to ≡ record { number = from.number; state = view.Live; live = live_view d })
+    (from.state ≡ view.Live → ⊥) × IsLiveDraft d × (to ≡ record { number = from.number; state = view.Live; live = live_view d })
 IsPrepared from to (Changes k) =
     (from.state ≡ view.Live) × IsChange from.live k × (to ≡ with_live (λ c. carried_to k.bounds k.parts.visible c) from)

@@ -1,7 +1,7 @@
 -- The pieces of the screen that change owner in an arrangement (the manual's Layers Library chapter has clip rectangles; that
 -- they are exchanged so is this project's own). Owners are the slots by their numbers, and the desktop by the number of slots.
-use Rattle.std.specs.Prelude.{◌≡◌, ℕ, zero, suc, ◌≤◌, ◌==◌, Bool, not, ◌&&◌, if◌then◌else◌, List, [], ◌++◌, map, ℤ, Option}
-use Rattle.std.specs.List.{All, filter, slice_index_or}
+use Rattle.std.specs.Prelude.{◌≡◌, ℕ, zero, suc, ◌≤◌, ◌==◌, Bool, not, ◌&&◌, if◌then◌else◌, List, [], ◌∷◌, ◌++◌, length, map, ℤ, Option}
+use Rattle.std.specs.List.{All, filter, flat_map, slice_index_or}
 use Rattle.std.specs.Option.{is_some}
 use Rattle.lw_region.specs.Rectangle.{Rectangle, has_pixel}
 use Rattle.lw_region.specs.Pixels.{pixels_of, intersection}
@@ -10,7 +10,7 @@ use Rattle.lw_region.specs.Banded.{IsCanonical}
 use Rattle.lw_machine.specs.Desk.{is_the}
 use Rattle.lw_strips.specs.Laying.{screen}
 use Rattle.lw_strips.specs.declared.piece.Piece.{Piece}
-use Rattle.lw_stack.specs.Stack.{Stack, first_at}
+use Rattle.lw_stack.specs.Stack.{Stack, top_in}
 use Rattle.lw_arrange.specs.declared.arrangement.Step.{Step}
 use Rattle.lw_arrange.specs.declared.arrangement.Step.TheVariants.{Refused, Arranged}
 
@@ -22,7 +22,7 @@ is_owner slots on_screen top k = if k == slots then (on_screen && not (is_some t
 -- owner k has the place
 abbrev pub owner_has : Stack → ℕ → ℤ → ℤ → Bool
 owner_has v k x y =
-    is_owner v.sizes.slots (has_pixel (screen v.sizes.width v.sizes.height) x y) (first_at v.bounds v.front_to_back x y) k
+    is_owner v.sizes.slots (has_pixel (screen v.sizes.width v.sizes.height) x y) (top_in v x y) k
 
 -- the rectangles of the pieces that one owner loses to another, in their order
 abbrev pub between : ℕ → ℕ → List Piece → List Rectangle
@@ -55,6 +55,16 @@ pieces_to a lost b gained = if a == b then [] else map (piece_of a b) (bands (in
 abbrev pub gather : ℕ → (ℕ → List Piece) → List Piece
 gather zero f = []
 gather (suc n) f = gather n f ++ f n
+
+-- the owners below n of which something is shown, in rising order
+abbrev pub owners_below : ℕ → List (List Rectangle) → List Rectangle → List ℕ
+owners_below zero sets rest = []
+owners_below (suc n) sets rest =
+    if length (owner_in sets rest n) == 0 then owners_below n sets rest else owners_below n sets rest ++ n ∷ []
+
+-- the pieces of what was shown that an owner loses to each of these
+abbrev pub losses_to : ℕ → List Rectangle → List (List Rectangle) → List Rectangle → List ℕ → List Piece
+losses_to a lost sets rest owners = flat_map (λ b. pieces_to a lost b (owner_in sets rest b)) owners
 
 abbrev pub losses : ℕ → ℕ → List Rectangle → List (List Rectangle) → List Rectangle → List Piece
 losses n a lost sets rest = gather n (λ b. pieces_to a lost b (owner_in sets rest b))

@@ -1,5 +1,5 @@
 -- For private contracts.
--- Bounds that a call asks for, before they are known to lie on the screen (the manual's
+-- Bounds that a call asks for, before they are known to lie where a layer may (the manual's
 -- Layers Library chapter; which bounds a layer may have is this project's own).
 use Rattle.std.specs.Prelude.{ℕ, Bool, true, ◌&&◌, if◌then◌else◌, ℤ, pos, ◌+ℤ◌, ◌-ℤ◌, int_le}
 use Rattle.lw_region.specs.Rectangle.{Rectangle, IsOrdered, HasWords, within, moved_by}
@@ -8,7 +8,7 @@ use Rattle.lw_calls.specs.declared.make.Make.{Make}
 use Rattle.lw_calls.specs.Kinds.{is_super}
 use Rattle.lw_calls.specs.Limits.{is_coordinate, coordinates_fit, is_extent}
 use Rattle.lw_machine.specs.Shapes.{box_at}
-use Rattle.lw_machine.specs.Arrangement.{sized_by, is_on_screen, is_at_least, portion_fits}
+use Rattle.lw_machine.specs.Arrangement.{sized_by, may_lie_at, is_at_least, portion_fits}
 use Rattle.lw_layer.specs.declared.look.Look.{Look}
 use Rattle.lw_arrange.specs.declared.place.Edges.{Edges}
 use Rattle.lw_arrange.specs.declared.place.Needs.{Needs}
@@ -22,6 +22,10 @@ rectangle_of e = record { min_x = e.min_x; min_y = e.min_y; max_x = e.max_x; max
 -- along one axis, the places lie among the first of these
 unfoldable pub axis_on : ℤ → ℤ → ℕ → Bool
 axis_on low high limit = int_le (pos 0) low && int_le (high +ℤ pos 1) (pos limit)
+
+-- along one axis, there are so many places at most
+unfoldable pub axis_within : ℤ → ℤ → ℕ → Bool
+axis_within low high limit = int_le ((high +ℤ pos 1) -ℤ low) (pos limit)
 
 -- along one axis, there are so many places at least
 unfoldable pub axis_has : ℤ → ℤ → ℤ → Bool
@@ -41,7 +45,7 @@ bits_suffice n r = if is_super n.kind then portion_fits n.scroll_x n.scroll_y n.
 
 -- a layer that needs so may have these bounds
 abbrev pub may_lie : Sizes → Needs → Rectangle → Bool
-may_lie s n r = (is_on_screen s r && is_at_least (pos 1) (pos 1) r) && (frame_has_room n r && bits_suffice n r)
+may_lie s n r = (may_lie_at s r && is_at_least (pos 1) (pos 1) r) && (frame_has_room n r && bits_suffice n r)
 
 -- what a layer of this look needs
 abbrev pub needs_of : Look → Needs

@@ -36,7 +36,7 @@ placed_look (Some r) k = k
 abbrev pub live_at : Stack → List (Option Look) → ℕ → Option Look
 live_at v looks s = placed_look (bounds_at v.bounds s) (slice_index_or looks s None)
 
--- the slot was never opened
+-- a layer may be created in the slot: where that is told of one without bounds
 abbrev pub is_free_at : Stack → Bool → ℕ → Bool
 is_free_at v fresh s = fresh && not (has_bounds (bounds_at v.bounds s))
 

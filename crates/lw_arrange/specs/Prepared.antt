@@ -52,10 +52,9 @@ without_layer c view.Closed = c
 
 -- the cell of a slot that is live afterwards, with these bounds and visible rectangles: its layer is revealed, or a new one
 abbrev pub with_bounds : Option Created → ℕ → Rectangle → List Rectangle → CellView → State → CellView
-with_bounds new depth bounds visible c view.Unopened =
-    record { number = c.number; state = view.Live; live = created_live new depth bounds visible }
 with_bounds new depth bounds visible c view.Live = with_live (carried_to bounds visible) c
-with_bounds new depth bounds visible c view.Closed = c
+with_bounds new depth bounds visible c idle =
+    record { number = c.number; state = view.Live; live = created_live new depth bounds visible }
 
 -- the cell of a slot with these bounds and visible rectangles afterwards
 abbrev pub becomes : Option Created → ℕ → List Rectangle → CellView → Option Rectangle → CellView
@@ -64,7 +63,7 @@ becomes new depth visible c (Some r) = with_bounds new depth r visible c c.state
 
 -- the visible rectangles of a slot after a planned arrangement
 abbrev pub shown_at : ArrangementView → ℕ → List Rectangle
-shown_at a s = shown_list a.stack.bounds a.stack.front_to_back s
+shown_at a s = shown_list a.stack s
 
 -- the cell after a planned arrangement
 abbrev pub cell_after : ArrangementView → CellView → CellView
@@ -90,9 +89,8 @@ MayOpen (Some n) depth bounds = MayBeNew n depth bounds
 
 -- a slot that is to be live afterwards may have these bounds
 abbrev pub MayBecome : Option Created → ℕ → Rectangle → List Rectangle → CellView → State → Type 0
-MayBecome new depth bounds visible c view.Unopened = MayOpen new depth bounds
 MayBecome new depth bounds visible c view.Live = MayHave c.live bounds visible
-MayBecome new depth bounds visible c view.Closed = ⊥
+MayBecome new depth bounds visible c idle = MayOpen new depth bounds
 
 abbrev pub MayBe : Option Created → ℕ → List Rectangle → CellView → Option Rectangle → Type 0
 MayBe new depth visible c None = Unit {0}

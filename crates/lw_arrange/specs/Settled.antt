@@ -53,13 +53,12 @@ new_of (Some n) depth h = new_layer depth n.make h n.window
 
 -- the slot after it, by what it holds before and its bounds afterwards; a new layer takes this hook, and any other keeps its own
 abbrev pub settled_with : List (List ℕ) → ArrangementView → Option Hook → CellView → Rectangle → State → CellView
-settled_with glyphs a h c r view.Unopened = record {
+settled_with glyphs a h c r view.Live = record { number = c.number; state = view.Live; live = settled_live glyphs a c.number c.live r }
+settled_with glyphs a h c r idle = record {
   number = c.number;
   state = view.Live;
   live = settled_new glyphs a c.number r (new_of (created_by a.task a.call) a.stack.sizes.depth h);
 }
-settled_with glyphs a h c r view.Live = record { number = c.number; state = view.Live; live = settled_live glyphs a c.number c.live r }
-settled_with glyphs a h c r view.Closed = c
 
 abbrev pub settled_by : List (List ℕ) → ArrangementView → Option Hook → CellView → Option Rectangle → CellView
 settled_by glyphs a h c None = without_layer c c.state

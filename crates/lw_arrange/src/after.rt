@@ -1,7 +1,6 @@
-ghost use Rattle.std.specs.Prelude.{◌≡◌, ◌<◌, length, Some, None, IfOk, IsTrue};
+ghost use Rattle.std.specs.Prelude.{◌≡◌, ◌<◌, true, length, Some, None, IfOk, IsTrue};
 ghost use Rattle.std.specs.List.{All, slice_set};
-ghost use Rattle.lw_calls.specs.declared.touch.CallClass.TheVariants.{OnAll};
-ghost use Rattle.lw_calls.specs.Touches.{class_of};
+ghost use Rattle.lw_calls.specs.Touches.{is_arrangement};
 ghost use Rattle.lw_calls.specs.Limits.{call_fits};
 ghost use Rattle.lw_machine.specs.Arrangement.{bounds_of, active_without, without};
 ghost use Rattle.lw_stack.specs.Stack.{bounds_at, stack_of};
@@ -24,7 +23,7 @@ pub(crate) fn after(
     looks: &[Option<Look>],
     call: &Call,
 ) -> Result<InfoDraft, AllocError>
-    requires all { class_of call.now ≡ OnAll }
+    requires all { is_arrangement call.now ≡ true }
     requires fits { IsTrue (call_fits info.now.sizes call.now) }
     requires many { length looks.now ≡ info.now.sizes.slots }
     requires placed { HasNewRect info.now call.now }

@@ -13,9 +13,9 @@ pub enum Step {
     Arranged(Arrangement),
 }
 
-/// A planned arrangement: its call, the list, the bounds and the active window after it, the area outside which each layer is
-/// shown as before, what is then shown of each layer in the area and what no layer has of it, and the pieces of the screen that
-/// change owner (the manual's Layers Library chapter).
+/// A planned arrangement: its call, the list, the bounds and the active window after it, the area of the screen outside which
+/// each layer is shown as before, what is then shown of each layer in the area and what no layer has of it, and the pieces of the
+/// screen that change owner (the manual's Layers Library chapter).
 #[derive(Debug, Drop)]
 pub struct Arrangement {
     task: u32,
@@ -43,6 +43,8 @@ impl Arrangement {
     ghost use Rattle.std.specs.List.{All, slice_index_or};
     ghost use Rattle.std.specs.Option.{is_some};
     ghost use Rattle.lw_region.specs.Bands.{covers};
+    ghost use Rattle.lw_cliprects.specs.Parts.{LieIn};
+    ghost use Rattle.lw_machine.specs.Screen.{screen_bounds};
     ghost use Rattle.lw_strips.specs.Laying.{screen, LiesIn};
     ghost use Rattle.lw_stack.specs.Stack.{bounds_at, first_at, stack_of, IsStack, AreShownIn};
     ghost use Rattle.lw_arrange.specs.Arrangements.{IsArrangement};
@@ -59,6 +61,7 @@ impl Arrangement {
         pieces: Vec<Piece>,
     ) -> Arrangement
         requires stack { IsStack (stack_of sizes after) }
+        requires area { LieIn (screen_bounds sizes) area }
         requires shown { AreShownIn area after.bounds.items after.order.items shown.sets.items }
         requires rest { (x y : ℤ) →
             covers shown.rest x y ≡ (covers area x y && not (is_some (first_at after.bounds.items after.order.items x y))) }
@@ -105,8 +108,8 @@ impl Arrangement {
         self.after.order.as_slice()
     }
 
-    /// The bounds of a slot's layer after it, in pixels of the screen, their edges included; `None` exactly where no slot of this
-    /// number is live then.
+    /// The bounds of a slot's layer after it, in places of the screen, off which they may lie, their edges included; `None`
+    /// exactly where no slot of this number is live then.
     pub fn bounds(&self, slot: u32) -> Option<Rect>
         ensures { result ≡ bounds_at self.now.stack.bounds slot }
     {
@@ -138,7 +141,7 @@ impl Arrangement {
         &self.sizes
     }
 
-    /// The area outside which each layer is shown as before.
+    /// The area of the screen outside which each layer is shown as before.
     pub(crate) fn area(&self) -> &Region
         ensures { result.now ≡ self.now.area }
     {

@@ -1,13 +1,12 @@
-ghost use Rattle.std.specs.Prelude.{◌≡◌, IfOk};
-ghost use Rattle.lw_calls.specs.declared.touch.CallClass.TheVariants.{OnAll};
-ghost use Rattle.lw_calls.specs.Touches.{class_of};
+ghost use Rattle.std.specs.Prelude.{◌≡◌, true, IfOk};
+ghost use Rattle.lw_calls.specs.Touches.{is_arrangement};
 
 use lw_calls::{Call, Text};
 use std::alloc::{AllocError, Global};
 
 /// A copy of a call that arranges layers.
 pub(crate) fn copied(alloc: Global, call: &Call) -> Result<Call, AllocError>
-    requires { class_of call.now ≡ OnAll }
+    requires { is_arrangement call.now ≡ true }
     ensures { IfOk result (λ copy. copy ≡ call.now) }
 {
     match *call {

@@ -75,7 +75,7 @@ fn gained_anew(
     bounds: &Rect,
     visible: &Region,
 ) -> Result<Region, AllocError>
-    requires unopened { cell.now.state ≡ view.Unopened }
+    requires idle { cell.now.state ≡ view.Live → ⊥ }
     requires may { MayOpen (created_by arrangement.now.task arrangement.now.call) arrangement.now.stack.sizes.depth bounds.now }
     requires inside { LieIn bounds.now visible.now }
     ensures { IfOk result (λ region. AreGained cell.now (record { number = cell.now.number; state = view.Live; live = created_live (created_by arrangement.now.task arrangement.now.call) arrangement.now.stack.sizes.depth bounds.now visible.now }) region) }

@@ -1,7 +1,7 @@
 // The pieces of an area that change owner. Owners are the slots by their numbers, and the desktop by the number of slots.
 
 ghost use Rattle.std.specs.Prelude.{◌≡◌, ◌≤◌, ◌+◌, ◌++◌, map, IfOk, OnOk};
-ghost use Rattle.lw_arrange.specs.Pieces.{owner_in, piece_of, pieces_to, losses, all_losses};
+ghost use Rattle.lw_arrange.specs.Pieces.{owner_in, piece_of, pieces_to, owners_below, losses_to, all_losses};
 
 use lw_region::{Rect, Region, and_region};
 use lw_stack::Shown;
@@ -15,16 +15,31 @@ pub(crate) fn pieces_of(
     were: &Shown,
     shown: &Shown,
 ) -> Result<Vec<Piece>, AllocError>
-    requires { slots ≤ 64 }
+    requires { slots ≤ 1024 }
     ensures { IfOk result (λ pieces. pieces.items
         ≡ all_losses (slots + 1) (slots + 1) were.now.sets.items were.now.rest shown.now.sets.items shown.now.rest) }
 {
+    let gaining = owners_of(alloc, slots, shown)?;
     let mut pieces = Vec::new(alloc);
     for from in 0..slots + 1 {
         let lost = owned(were, from);
-        add_losses(alloc, slots, from, lost, shown, &mut pieces)?;
+        add_losses(alloc, from, lost, gaining.as_slice(), shown, &mut pieces)?;
     }
     Ok(pieces)
+}
+
+// The owners of which something is shown, in rising order: of many slots few are live.
+fn owners_of(alloc: Global, slots: u32, shown: &Shown) -> Result<Vec<u32>, AllocError>
+    requires { slots ≤ 1024 }
+    ensures { IfOk result (λ owners. owners.items ≡ owners_below (slots + 1) shown.now.sets.items shown.now.rest) }
+{
+    let mut owners = Vec::new(alloc);
+    for owner in 0..slots + 1 {
+        if !owned(shown, owner).rects().is_empty() {
+            owners.push(owner)?;
+        }
+    }
+    Ok(owners)
 }
 
 // What is shown of an owner.
@@ -37,25 +52,23 @@ fn owned<'a>(shown: &'a Shown, owner: u32) -> &'a Region
     }
 }
 
-// Adds the pieces that one owner, of which this was shown, loses to all others.
+// Adds the pieces that one owner, of which this was shown, loses to others.
 fn add_losses(
     alloc: Global,
-    slots: u32,
     from: u32,
     lost: &Region,
+    gaining: &[u32],
     shown: &Shown,
     pieces: &mut Vec<Piece>,
 ) -> Result<(), AllocError>
-    requires { slots ≤ 64 }
     ensures { OnOk result (pieces.new.items
-        ≡ pieces.old.items ++ losses (slots + 1) from lost.now shown.now.sets.items shown.now.rest) }
+        ≡ pieces.old.items ++ losses_to from lost.now shown.now.sets.items shown.now.rest gaining.now) }
 {
     if lost.rects().is_empty() {
         return Ok(());
     }
-    for to in 0..slots + 1 {
-        let gained = owned(shown, to);
-        add_pieces(alloc, from, lost, to, gained, pieces)?;
+    for to in gaining {
+        add_pieces(alloc, from, lost, *to, owned(shown, *to), pieces)?;
     }
     Ok(())
 }
@@ -72,9 +85,6 @@ fn add_pieces(
     ensures { OnOk result (pieces.new.items ≡ pieces.old.items ++ pieces_to from lost.now to gained.now) }
 {
     if from == to {
-        return Ok(());
-    }
-    if gained.rects().is_empty() {
         return Ok(());
     }
     let mut both = lost.copy(alloc)?;

@@ -1,13 +1,14 @@
 ghost use Rattle.std.specs.Prelude.{◌≡◌, ◌≤◌, ◌&&◌, true, Some, pos, negsuc, ◌+ℤ◌, ◌-ℤ◌, ◌≤ℤ◌, IsTrue};
 ghost use Rattle.lw_machine.specs.Shapes.{box_at};
-ghost use Rattle.lw_machine.specs.Arrangement.{is_on_screen, is_at_least, portion_fits};
-ghost use Rattle.lw_arrange.specs.Places.{rectangle_of, axis_on, axis_has, axis_shows, frame_has_room, bits_suffice, may_lie, span_fits, IsRect};
+ghost use Rattle.lw_calls.specs.Limits.{is_coordinate, coordinates_fit};
+ghost use Rattle.lw_machine.specs.Arrangement.{is_on_screen, has_coordinates, is_no_larger, may_lie_at, is_at_least, portion_fits};
+ghost use Rattle.lw_arrange.specs.Places.{rectangle_of, axis_on, axis_within, axis_has, axis_shows, frame_has_room, bits_suffice, may_lie, span_fits, IsRect};
 ghost use Rattle.lw_region.specs.Rectangle.{IsWord};
 
 use lw_calls::{Kind, Sizes};
 use lw_region::Rect;
 
-/// Bounds that a call asks for, which may lie off the screen. All four are inclusive.
+/// Bounds that a call asks for, wherever they lie. All four are inclusive.
 #[derive(Clone, Copy, Debug, PartialEq, Eq)]
 pub(crate) struct Edges {
     pub min_x: i32,
@@ -16,7 +17,7 @@ pub(crate) struct Edges {
     pub max_y: i32,
 }
 
-/// What decides which bounds a layer may have, beside the screen.
+/// What decides which bounds a layer may have, beside the version and the screen.
 #[derive(Clone, Copy, Debug, PartialEq, Eq)]
 pub(crate) struct Needs {
     /// The layer is a window with a frame.
@@ -53,15 +54,67 @@ fn last_place(from: i32, count: i32) -> i32
     from + count - 1
 }
 
-/// Whether a layer with such needs may have these bounds: all its pixels lie on the screen, it has a column and a row, a framed
-/// window is at least 9 wide and 14 high, and what a super-bitmap layer shows lies in its bitmap.
+/// Whether a layer with such needs may have these bounds: it lies where a layer may, it has a column and a row, a framed window
+/// is at least 9 wide and 14 high, and what a super-bitmap layer shows lies in its bitmap.
 pub(crate) fn may_have(sizes: &Sizes, needs: &Needs, edges: &Edges) -> bool
     ensures { result ≡ may_lie sizes.now needs.now (rectangle_of edges.now) }
 {
-    is_on(sizes, edges)
+    may_lie_at(sizes, edges)
         && has_at_least(1, 1, edges)
         && fits_frame(needs, edges)
         && fits_bits(needs, edges)
+}
+
+/// Whether a layer may lie there: its first and last column and row are coordinates, and in version 1 all its pixels lie on the
+/// screen, where from version 2 on it is no larger than the screen.
+#[tactic(auto, unfolding(lw_machine::specs::Arrangement::may_lie_at))]
+fn may_lie_at(sizes: &Sizes, edges: &Edges) -> bool
+    ensures { result ≡ may_lie_at sizes.now (rectangle_of edges.now) }
+{
+    if !has_coordinates(edges) {
+        return false;
+    }
+    if sizes.version >= 2 {
+        return is_no_larger(sizes, edges);
+    }
+    is_on(sizes, edges)
+}
+
+/// Whether the first and the last column and row are coordinates.
+#[tactic(auto, unfolding(lw_machine::specs::Arrangement::has_coordinates))]
+fn has_coordinates(edges: &Edges) -> bool
+    ensures { result ≡ has_coordinates (rectangle_of edges.now) }
+{
+    are_coordinates(edges.min_x, edges.min_y) && are_coordinates(edges.max_x, edges.max_y)
+}
+
+fn are_coordinates(x: i32, y: i32) -> bool
+    ensures { result ≡ coordinates_fit x y }
+{
+    is_coordinate(x) && is_coordinate(y)
+}
+
+#[tactic(auto, using(std::proofs::lemmas::Int::ints), unfolding(lw_region::specs::Rectangle::within))]
+fn is_coordinate(place: i32) -> bool
+    ensures { result ≡ is_coordinate place }
+{
+    -32768 <= place && place <= 32767
+}
+
+/// Whether there are no more columns and rows than the screen has.
+#[tactic(auto, unfolding(lw_machine::specs::Arrangement::is_no_larger, crate::specs::Places::axis_within))]
+fn is_no_larger(sizes: &Sizes, edges: &Edges) -> bool
+    ensures { result ≡ is_no_larger sizes.now (rectangle_of edges.now) }
+{
+    is_axis_within(edges.min_x, edges.max_x, sizes.width)
+        && is_axis_within(edges.min_y, edges.max_y, sizes.height)
+}
+
+#[tactic(auto, using(std::proofs::lemmas::Int::ints), unfolding(crate::specs::Places::axis_within))]
+fn is_axis_within(low: i32, high: i32, limit: u32) -> bool
+    ensures { result ≡ axis_within low high limit }
+{
+    places(low, high) <= i64::from(limit)
 }
 
 /// Whether all pixels lie on the screen.

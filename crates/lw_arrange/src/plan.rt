@@ -1,8 +1,7 @@
-ghost use Rattle.std.specs.Prelude.{◌≡◌, not, ◌&&◌, length, ℤ, IfOk, IsTrue};
+ghost use Rattle.std.specs.Prelude.{◌≡◌, true, not, ◌&&◌, length, ℤ, IfOk, IsTrue};
 ghost use Rattle.std.specs.Option.{is_some};
 ghost use Rattle.lw_region.specs.Bands.{covers};
-ghost use Rattle.lw_calls.specs.declared.touch.CallClass.TheVariants.{OnAll};
-ghost use Rattle.lw_calls.specs.Touches.{class_of};
+ghost use Rattle.lw_calls.specs.Touches.{is_arrangement};
 ghost use Rattle.lw_calls.specs.Limits.{call_fits};
 ghost use Rattle.lw_machine.specs.Desk.{Desk};
 ghost use Rattle.lw_stack.specs.Stack.{bounds_at, first_at, stack_of, AreShownIn};
@@ -19,12 +18,12 @@ use crate::refused::refused;
 use lw_calls::Call;
 use lw_layer::Look;
 use lw_region::{Rect, Region};
-use lw_stack::{Info, InfoDraft, Shown, cover, shown_in};
+use lw_stack::{Info, InfoDraft, Shown, cover, on_screen, shown_in};
 use std::alloc::{AllocError, Global};
 
 /// What a task's call that arranges layers does, told from LayerInfo and the looks of all slots alone: its first refusal, or the
-/// plan of it. `fresh` says of a call that creates a layer whether its slot was never opened. It fails only
-/// when out of memory.
+/// plan of it. `fresh` says of a call that creates a layer whether one may be created in its slot. It fails only when out of
+/// memory.
 pub fn plan_step(
     alloc: Global,
     info: &Info,
@@ -33,7 +32,7 @@ pub fn plan_step(
     task: u32,
     call: &Call,
 ) -> Result<Step, AllocError>
-    requires all { class_of call.now ≡ OnAll }
+    requires all { is_arrangement call.now ≡ true }
     requires fits { IsTrue (call_fits info.now.sizes call.now) }
     requires many { length looks.now ≡ info.now.sizes.slots }
     ensures step { IfOk result
@@ -69,7 +68,8 @@ fn shown_before(alloc: Global, info: &Info, area: &Region) -> Result<Shown, Allo
     shown_in(alloc, area, info.order(), info.all_bounds())
 }
 
-// The former and the new bounds of the call's slot; no place of a call that changes no layer's bounds nor its place in the list.
+// What the former and the new bounds of the call's slot have of the screen; no place of a call that changes no layer's bounds nor
+// its place in the list.
 fn area_of(alloc: Global, info: &Info, after: &InfoDraft, call: &Call) -> Result<Region, AllocError>
     ensures { IfOk result (λ area. IsAreaOf info.now (stack_of info.now.sizes after.now) call.now area) }
 {
@@ -77,8 +77,13 @@ fn area_of(alloc: Global, info: &Info, after: &InfoDraft, call: &Call) -> Result
     let Some(slot) = slot_arranged(call) else {
         return Ok(area);
     };
-    cover(alloc, info.bounds(slot), &mut area)?;
-    cover(alloc, bounds_after(after, slot), &mut area)?;
+    let sizes = info.sizes();
+    cover(alloc, on_screen(sizes, info.bounds(slot)), &mut area)?;
+    cover(
+        alloc,
+        on_screen(sizes, bounds_after(after, slot)),
+        &mut area,
+    )?;
     Ok(area)
 }
 

@@ -140,7 +140,7 @@ fn created(
 ) -> Result<Becomes, AllocError>
     requires may { MayOpen (created_by arrangement.now.task arrangement.now.call) arrangement.now.stack.sizes.depth bounds.now }
     requires inside { LieIn bounds.now visible.now }
-    requires fresh { cell.now.state ≡ view.Unopened }
+    requires idle { cell.now.state ≡ view.Live → ⊥ }
     ensures { IfOk result (λ becomes. IsPrepared cell.now (record { number = cell.now.number; state = view.Live; live = created_live (created_by arrangement.now.task arrangement.now.call) arrangement.now.stack.sizes.depth bounds.now visible.now }) becomes) }
 {
     let depth = arrangement.sizes().depth;

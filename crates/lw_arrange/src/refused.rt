@@ -1,6 +1,5 @@
-ghost use Rattle.std.specs.Prelude.{◌≡◌, ◌<◌, length, IsTrue};
-ghost use Rattle.lw_calls.specs.declared.touch.CallClass.TheVariants.{OnAll};
-ghost use Rattle.lw_calls.specs.Touches.{class_of};
+ghost use Rattle.std.specs.Prelude.{◌≡◌, ◌<◌, true, length, IsTrue};
+ghost use Rattle.lw_calls.specs.Touches.{is_arrangement};
 ghost use Rattle.lw_calls.specs.Limits.{call_fits};
 ghost use Rattle.lw_machine.specs.Arrangement.{bounds_of};
 ghost use Rattle.lw_stack.specs.Stack.{bounds_at};
@@ -21,7 +20,7 @@ pub(crate) fn refused(
     task: u32,
     call: &Call,
 ) -> Option<Reply>
-    requires all { class_of call.now ≡ OnAll }
+    requires all { is_arrangement call.now ≡ true }
     requires fits { IsTrue (call_fits info.now.sizes call.now) }
     requires many { length looks.now ≡ info.now.sizes.slots }
     ensures { result ≡ refused info.now looks.now fresh task call.now }
@@ -66,7 +65,7 @@ pub(crate) fn refused(
     }
 }
 
-/// Whether a slot was never opened: none that has bounds is fresh.
+/// Whether a layer may be created in a slot: in none that has bounds.
 fn is_free(info: &Info, fresh: bool, slot: u32) -> bool
     ensures { result ≡ is_free_at info.now fresh slot }
 {

@@ -16,7 +16,7 @@ use std::alloc::{AllocError, Global};
 /// The visible region of a new layer in the cell: what is shown of it in the area, since elsewhere nothing is.
 pub(crate) fn new_visible<'a>(cell: &Cell, arrangement: &'a Arrangement) -> &'a Region
     requires slot { cell.now.number < arrangement.now.stack.sizes.slots }
-    requires fresh { cell.now.state ≡ view.Unopened }
+    requires idle { cell.now.state ≡ view.Live → ⊥ }
     requires elsewhere { IsShownElsewhere arrangement.now cell.now }
     ensures { result.now ≡ shown_at arrangement.now cell.now.number }
 {

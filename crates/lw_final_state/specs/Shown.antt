@@ -8,11 +8,11 @@ use Rattle.lw_calls.specs.declared.last.Seen.{Seen}
 use Rattle.lw_machine.specs.Finals.{pixels_where, damage_set, port_of}
 use Rattle.lw_layer.specs.View.{State, Unopened, Live, Closed, LiveView, CellView}
 use Rattle.lw_layer.specs.Copied.{with_visible}
-use Rattle.lw_stack.specs.Stack.{Stack, is_first_at}
+use Rattle.lw_stack.specs.Stack.{Stack, is_top_in}
 
--- the places of the screen on which a slot's layer is the first of the list
-unfoldable pub first_set : Stack → ℕ → List Pixel
-first_set v s = pixels_where v.sizes.width v.sizes.height (λ x y. is_first_at v.bounds v.front_to_back s (pos x) (pos y))
+-- the places of the screen on which a slot's layer is on top
+unfoldable pub top_set : Stack → ℕ → List Pixel
+top_set v s = pixels_where v.sizes.width v.sizes.height (λ x y. is_top_in v s (pos x) (pos y))
 
 -- what is seen of a live layer that is visible there, and nothing of a slot that isn't live
 abbrev pub seen_as : State → List Rectangle → LiveView → Option Seen
@@ -22,7 +22,7 @@ seen_as Closed visible c = None
 
 -- what is seen of a cell
 abbrev pub seen_in : Stack → CellView → Option Seen
-seen_in v c = seen_as c.state (bands (first_set v c.number)) c.live
+seen_in v c = seen_as c.state (bands (top_set v c.number)) c.live
 
 -- the bitmap with the pens of a slot's layer where it is visible, by what the slot holds
 unfoldable pub with_layer_shown : State → LiveView → Bitmap → Bitmap

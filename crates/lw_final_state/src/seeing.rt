@@ -3,7 +3,7 @@
 ghost use Rattle.std.specs.Prelude.{◌≡◌, IfOk};
 ghost use Rattle.lw_region.specs.Bands.{bands};
 ghost use Rattle.lw_machine.specs.Finals.{damage_set, port_of};
-ghost use Rattle.lw_final_state.specs.Shown.{first_set, seen_in};
+ghost use Rattle.lw_final_state.specs.Shown.{top_set, seen_in};
 
 use lw_calls::{Messages, Seen};
 use lw_layer::{Cell, Layer};
@@ -31,11 +31,10 @@ pub fn seen(alloc: Global, info: &Info, cell: &Cell) -> Result<Option<Seen>, All
 
 // Where on the screen the slot's layer is shown.
 fn visible(alloc: Global, info: &Info, slot: u32) -> Result<Region, AllocError>
-    ensures { IfOk result (λ region. region ≡ bands (first_set info.now slot)) }
+    ensures { IfOk result (λ region. region ≡ bands (top_set info.now slot)) }
 {
-    // Reading these two tells the proof that the bounds lie on the screen, and that the region's list is canonical.
-    let _ = info.order();
     let region = info.visible_of(alloc, slot)?;
+    // Reading them tells the proof that their list is canonical.
     let _ = region.rects();
     Ok(region)
 }

@@ -10,10 +10,10 @@ use Rattle.lw_planes.proofs.BitmapLaws.{pen_at_bitmap}
 use Rattle.lw_cliprects.specs.Parts.{hidden_of, LieIn, AreDivided}
 use Rattle.lw_machine.specs.Parts.{SlotPart}
 use Rattle.lw_layer.specs.View as view
-use Rattle.lw_layer.specs.View.{keeps, State, CellView}
+use Rattle.lw_layer.specs.View.{keeps, State, LiveView, CellView}
 use Rattle.lw_layer.specs.Pieces.{buffer_at}
 use Rattle.lw_layer.specs.Drafts.{IsLiveDraft, layout, buffers_of, pen_from, live_view}
-use Rattle.lw_layer.specs.StandsFor.{IsSound, IsLivePart, IsPartOf, StandsFor}
+use Rattle.lw_layer.specs.StandsFor.{IsSound, slot_of, IsLivePart, IsPartOf, StandsFor}
 use Rattle.lw_layer.specs.declared.draft.LiveDraft.{LiveDraft}
 use Rattle.lw_layer.proofs.KeptLaws.{keeps_found, plain_size}
 use Rattle.lw_layer.proofs.BitsLaws.{live_bits}
@@ -63,3 +63,9 @@ live_sound d ok ordered canonical divided = record {
 -- the slot of a live cell has its layer
 pub live_part : (c : CellView) (p : SlotPart) → c.state ≡ view.Live → StandsFor c p → IsLivePart c.live p
 live_part c p live stands = let P : State → Type 0 = λ s. IsPartOf s c.live p in subst P live stands
+
+-- what the cell of a slot says of it
+pub slot_told : (s : State) (c : LiveView) (p : SlotPart) → IsPartOf s c p → p.slot ≡ slot_of s c
+slot_told view.Unopened c p part = part.0
+slot_told view.Live c p part = part.slot
+slot_told view.Closed c p part = part.0

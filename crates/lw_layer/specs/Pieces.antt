@@ -21,7 +21,7 @@ use Rattle.lw_machine.specs.Screen.{distance}
 use Rattle.lw_machine.specs.Kept.{screen_place, holds_at}
 use Rattle.lw_layer.specs.View.{LiveView, keeps, repainted}
 
--- Where a layer's pixels lie: its bounds and visible rectangles on the screen, its kind, its scroll, and the size of its bits.
+-- Where a layer's pixels lie: its bounds and visible rectangles in screen coordinates, its kind, its scroll, and its bits' size.
 pub record Layout : Type 0 where
   pub bounds : Rectangle
   pub visible : List Rectangle

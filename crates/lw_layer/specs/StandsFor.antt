@@ -7,13 +7,19 @@ use Rattle.lw_planes.specs.Bitmap.{pen_at}
 use Rattle.lw_planes.specs.Sizes.{IsPlanes}
 use Rattle.lw_calls.specs.Kinds.{is_super}
 use Rattle.lw_cliprects.specs.Parts.{LieIn}
-use Rattle.lw_machine.specs.Layer.{is_framed}
+use Rattle.lw_machine.specs.Layer.{Slot, is_framed}
 use Rattle.lw_machine.specs.Layer as layer
 use Rattle.lw_machine.specs.Parts.{SlotPart}
 use Rattle.lw_layer.specs.View.{State, LiveView, CellView, keeps}
 use Rattle.lw_layer.specs.View as view
 use Rattle.lw_layer.specs.Pieces.{layout_of, HasFrameRoom}
 use Rattle.lw_layer.specs.Drafts.{IsScrolled}
+
+-- the machine's slot, by what the state and the live layer of a cell say
+abbrev pub slot_of : State → LiveView → Slot
+slot_of view.Unopened c = layer.Unopened
+slot_of view.Live c = layer.Live c.layer
+slot_of view.Closed c = layer.Closed
 
 -- The slot has this layer with these bounds, which is shown on the places that the visible rectangles cover.
 pub record IsLivePart (c : LiveView) (p : SlotPart) : Type 0 where

@@ -7,15 +7,15 @@ use Rattle.lw_machine.specs.Hook.{Hook}
 use Rattle.lw_machine.specs.Layer.{Layer}
 use Rattle.lw_machine.specs.Kept.{visible_within, is_kept, is_drawable}
 
--- what a slot holds: its layer was not created so far, is live, or was deleted
+-- what a slot holds: no layer was created in it so far, its layer is live, or its last one was deleted
 pub data State : Type 0 where
   Unopened : State
   Live : State
   Closed : State
 
--- A live layer with its bounds on the screen, its visible rectangles there, whether it is the active window, and for how many more
--- messages its window's port has room, which is none of a layer that isn't a window. Off the pixels that it keeps the layer's pens
--- are 0.
+-- A live layer with its bounds and its visible rectangles, in screen coordinates, whether it is the active window, and for how
+-- many more messages its window's port has room, which is none of a layer that isn't a window. Off the pixels that it keeps the
+-- layer's pens are 0.
 pub record LiveView : Type 0 where
   pub bounds : Rectangle
   pub visible : List Rectangle

@@ -1,10 +1,11 @@
-ghost use Rattle.std.specs.Prelude.{◌≡◌, ◌↔◌, IsTrue, OnOk, OnErr, MatchOption};
+ghost use Rattle.std.specs.Prelude.{◌≡◌, OnOk, OnErr, MatchOption};
 ghost use Rattle.std.specs.Borrow.{sem};
+ghost use Rattle.lw_machine.specs.Layer.{may_open};
 ghost use Rattle.lw_layer.specs.View as view;
 ghost use Rattle.lw_layer.specs.Drafts.{IsDraft, cell_view, no_layer};
 ghost use Rattle.lw_layer.specs.Lending.{LendsLayer};
 ghost use Rattle.lw_layer.specs.Looks.{IsLookAt};
-ghost use Rattle.lw_layer.specs.StandsFor.{IsSound};
+ghost use Rattle.lw_layer.specs.StandsFor.{IsSound, slot_of};
 ghost use Rattle.lw_layer.specs.Windows.{without_room, HasRoom};
 
 use crate::draft::Draft;
@@ -82,13 +83,14 @@ impl Cell {
         }
     }
 
-    /// Whether the slot's layer was not created so far.
-    pub fn fresh(&self) -> bool
-        ensures { IsTrue result ↔ self.now.state ≡ view.Unopened }
+    /// Whether a layer may be created in the slot: it has had none so far or, from version 3 on, its former one was deleted.
+    pub fn may_open(&self, version: u32) -> bool
+        ensures { result ≡ may_open version (slot_of self.now.state self.now.live) }
     {
         match &self.state {
             CellState::Unopened => true,
-            _ => false,
+            CellState::Live(_) => false,
+            CellState::Closed => 3 <= version,
         }
     }
 

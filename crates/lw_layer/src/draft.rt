@@ -33,7 +33,7 @@ pub enum DraftState {
 pub struct LiveDraft {
     pub kind: Kind,
     pub backdrop: bool,
-    /// The layer's bounds on the screen.
+    /// The layer's bounds, in screen coordinates; they may lie off the screen.
     pub bounds: Rect,
     /// The pixel of a super-bitmap layer's own bitmap that its top left corner shows, and 0 for other layers.
     pub scroll_x: i32,
@@ -44,7 +44,7 @@ pub struct LiveDraft {
     /// The clip region, in layer coordinates.
     pub clip: Option<Region>,
     pub damage: Damage,
-    /// The bounds, cut into visible and hidden rectangles of the screen.
+    /// The bounds, cut into visible and hidden rectangles.
     pub parts: Parts,
     /// A solid strip for each visible rectangle, in their order: its buffer.
     pub strips: Vec<Strip>,

@@ -239,7 +239,7 @@ impl Layer {
         self.draft.shown_strips()
     }
 
-    /// The hidden rectangles, on the screen: what the visible ones leave of the bounds, in bands.
+    /// The hidden rectangles, in screen coordinates: what the visible ones leave of the bounds, in bands.
     pub fn hidden(&self) -> &[Rect]
         ensures value { result.now ≡ hidden_of self.now.bounds self.now.visible }
         ensures divided { AreDivided self.now.bounds self.now.visible result.now }

@@ -7,7 +7,7 @@ use lw_region::Rect;
 pub struct Look {
     pub kind: Kind,
     pub backdrop: bool,
-    /// The layer's bounds on the screen.
+    /// The layer's bounds, in screen coordinates; they may lie off the screen.
     pub bounds: Rect,
     /// The pixel of a super-bitmap layer's own bitmap that its top left corner shows, and 0 for other layers.
     pub scroll_x: i32,

@@ -13,7 +13,6 @@ use Rattle.lw_calls.specs.declared.call.Call.{Call}
 use Rattle.lw_calls.specs.declared.call.Call.TheVariants.{ScrollRaster, Put, Blit}
 use Rattle.lw_calls.specs.Limits.{is_coordinate, coordinates_fit}
 use Rattle.lw_calls.specs.declared.reply.Reply.TheVariants.{Done, NotOpen}
-use Rattle.lw_calls.specs.declared.touch.CallClass.{CallClass}
 use Rattle.lw_calls.specs.declared.touch.CallClass.TheVariants.{OnLayer, OnLayers}
 use Rattle.lw_calls.specs.Touches.{class_of}
 use Rattle.lw_machine.specs.Layer.{Layer, Slot, is_live, change_layer}
@@ -23,7 +22,7 @@ use Rattle.lw_machine.specs.Kept.{is_visible, holds_at}
 use Rattle.lw_machine.specs.Shapes.{box_at}
 use Rattle.lw_machine.specs.Blits.{source_column, source_row, blit_candidate, clip_blit, blt_bitmap_rast_port, scroll_raster}
 use Rattle.lw_machine.specs.Parts.{SlotPart, slot_part}
-use Rattle.lw_machine.specs.Step.{refuse, refuse_not_open, refuse_unless_open, further_refusal, refusal, on_layer, clip_blit_from, no_bitmap, effect, changed_unless, after}
+use Rattle.lw_machine.specs.Step.{refuse, refuse_not_open, further_refusal, refusal, on_layer, clip_blit_from, no_bitmap, effect, changed_unless, after}
 use Rattle.lw_engine_trait.proofs.ClassLaws.{ArePair, pair_told, pair_apart}
 use Rattle.lw_layer.specs.View.{LiveView, CellView, shows, draws, with_layer, with_live}
 use Rattle.lw_layer.specs.View as view
@@ -34,7 +33,7 @@ use Rattle.lw_draw.proofs.DrawnLaws.{drawn_nowhere}
 use Rattle.lw_draw.proofs.PaintLaws.{shape_drawn}
 use Rattle.lw_layer_calls.specs.Parts.{IsSlotStep, IsPairStep}
 use Rattle.lw_layer_calls.specs.Open.{IsLiveStep, IsOpenStep, IsLentStep}
-use Rattle.lw_layer_calls.proofs.OneLayerLaws.{dead_slot, refused_step, on_slot, changed_step, shown_same, drawn_step}
+use Rattle.lw_layer_calls.proofs.OneLayerLaws.{dead_slot, refused_step, class_refusal, on_slot, changed_step, shown_same, drawn_step}
 
 -- a call within one layer is on that layer
 pub class_within : (n : ℕ) (a : Area) → class_of (Blit n n a) ≡ OnLayer n
@@ -105,7 +104,7 @@ pair_refused source to call d task refused from stands =
     ((refused_step d task source.number call NotOpen (λ p. StandsFor source p) refused from).1, refused_step d task to.number call NotOpen (λ p. StandsFor to p) refused stands)
 
 class_refuses : (source to : CellView) (call : Call) (d : Desk) (task : ℕ) → class_of call ≡ OnLayers source.number to.number → refusal d task call ≡ refuse_not_open (d.slot source.number) (refuse_not_open (d.slot to.number) (further_refusal d task call))
-class_refuses source to call d task class = ap (λ (k : CallClass). refuse_unless_open d k (further_refusal d task call)) class
+class_refuses source to call d task class = class_refusal d task call (OnLayers source.number to.number) class (λ other. cc other)
 
 pub source_not_open : (source to : CellView) (call : Call) → class_of call ≡ OnLayers source.number to.number → (source.state ≡ view.Live → ⊥) → IsPairStep source to call NotOpen to
 source_not_open source to call class idle =

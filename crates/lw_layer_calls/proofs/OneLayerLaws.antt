@@ -8,13 +8,15 @@ use Rattle.lw_region.specs.Pixels.{Pixel, pixels_of}
 use Rattle.lw_planes.specs.Bitmap.{pen_at}
 use Rattle.lw_calls.specs.Assets.{Assets}
 use Rattle.lw_calls.specs.declared.call.Call.{Call}
+use Rattle.lw_calls.specs.declared.call.Call.TheVariants.{Create, OpenWindow, Close, ToFront, ToBack, InFrontOf, MoveBy, SizeBy, SetBox, Activate, SetHook}
 use Rattle.lw_calls.specs.declared.call.Call.TheVariants.{SetA, SetB, SetMode, SetMask, At, WritePixel, ReadPixel, Letters, Clip, Unclip, Scroll}
 use Rattle.lw_calls.specs.declared.reply.Reply.{Reply}
 use Rattle.lw_calls.specs.declared.reply.Reply.TheVariants.{Done, Pen, Outside, NotOpen, NotSuper, InUpdate, OutOfBounds}
 use Rattle.lw_calls.specs.Kinds.{is_super}
 use Rattle.lw_calls.specs.declared.touch.CallClass.{CallClass}
-use Rattle.lw_calls.specs.declared.touch.CallClass.TheVariants.{OnLayer}
-use Rattle.lw_calls.specs.Touches.{class_of}
+use Rattle.lw_calls.specs.declared.touch.CallClass.TheVariants.{OnLayer, OnAll}
+use Rattle.lw_calls.specs.declared.touch.Slots.{Slots}
+use Rattle.lw_calls.specs.Touches.{class_of, slots_in}
 use Rattle.lw_machine.specs.Layer.{Layer, Slot, is_live, layer_is, change_layer}
 use Rattle.lw_machine.specs.Layer as layer
 use Rattle.lw_machine.specs.Desk.{Desk}
@@ -22,7 +24,7 @@ use Rattle.lw_machine.specs.Screen.{top, is_shown}
 use Rattle.lw_machine.specs.Kept.{visible_within, screen_place, is_visible, is_kept, is_drawable, holds_at}
 use Rattle.lw_machine.specs.Shapes.{write_pixel, draw_text, with_cursor}
 use Rattle.lw_machine.specs.Parts.{SlotPart, slot_part}
-use Rattle.lw_machine.specs.Step.{refuse, refuse_unless_open, further_refusal, refusal, on_layer, with_pen_a, with_pen_b, with_mode, with_mask, drawn_on, effect, from_layer, clip_answer, may_scroll, scroll_layer, answer, changed_unless, reply_or, after, reply}
+use Rattle.lw_machine.specs.Step.{refuse, must_be_open, refuse_unless_open, further_refusal, refusal, on_layer, with_pen_a, with_pen_b, with_mode, with_mask, drawn_on, effect, from_layer, clip_answer, may_scroll, scroll_layer, answer, changed_unless, reply_or, after, reply}
 use Rattle.lw_layer.specs.View.{State, LiveView, CellView, shows, keeps, draws, kept_pen, with_layer, with_live}
 use Rattle.lw_layer.specs.View as view
 use Rattle.lw_layer.specs.StandsFor.{IsLivePart, IsPartOf, StandsFor}
@@ -48,12 +50,31 @@ refused_step d task slot call r P refused holds =
     let Q : Desk → Type 0 = λ e. P (slot_part e slot) in
     (sym (ap (λ o. reply_or o (answer d task call)) refused), subst Q (sym (ap (λ o. changed_unless o d (effect d task call)) refused)) holds)
 
+-- the layers that have to be open for a call that isn't on all slots are those that it touches
+open_slots : (call : Call) (k : CallClass) → class_of call ≡ k → (k ≡ OnAll → ⊥) → must_be_open call ≡ slots_in k
+open_slots (Create slot make) k class part = absurd (part (sym class))
+open_slots (OpenWindow slot make framed nocare asks title) k class part = absurd (part (sym class))
+open_slots (Close slot) k class part = absurd (part (sym class))
+open_slots (ToFront slot) k class part = absurd (part (sym class))
+open_slots (ToBack slot) k class part = absurd (part (sym class))
+open_slots (InFrontOf slot other) k class part = absurd (part (sym class))
+open_slots (MoveBy slot dx dy) k class part = absurd (part (sym class))
+open_slots (SizeBy slot dw dh) k class part = absurd (part (sym class))
+open_slots (SetBox slot x y w h) k class part = absurd (part (sym class))
+open_slots (Activate slot) k class part = absurd (part (sym class))
+open_slots (SetHook slot hook) k class part = absurd (part (sym class))
+open_slots call k class part = ap slots_in class
+
+-- and where one of them isn't open, the call is refused
+pub class_refusal : (d : Desk) (task : ℕ) (call : Call) (k : CallClass) → class_of call ≡ k → (k ≡ OnAll → ⊥) → refusal d task call ≡ refuse_unless_open d (slots_in k) (further_refusal d task call)
+class_refusal d task call k class part = ap (λ (s : Slots). refuse_unless_open d s (further_refusal d task call)) (open_slots call k class part)
+
 -- a call on a slot without a layer
 pub not_open : (task : ℕ) (c : CellView) (regs : List (List Rectangle)) (assets : Assets) (call : Call) → class_of call ≡ OnLayer c.number → (c.state ≡ view.Live → ⊥) → IsLayerStep task c regs assets call NotOpen c
 not_open task c regs assets call class idle =
     λ d stands registers handed.
     refused_step d task c.number call NotOpen (λ p. StandsFor c p)
-    (ap (λ (k : CallClass). refuse_unless_open d k (further_refusal d task call)) class ∙
+    (class_refusal d task call (OnLayer c.number) class (λ other. cc other) ∙
     ap (λ live. refuse (not live) NotOpen (further_refusal d task call)) (dead_slot c (slot_part d c.number) idle stands))
     stands
 
@@ -93,7 +114,7 @@ open_step task c made new regs assets call r is leaves step =
 -- a call on a layer that is open is refused by its further refusals
 pub open_refusal : (d : Desk) (task slot : ℕ) (call : Call) (l : Layer) → class_of call ≡ OnLayer slot → d.slot slot ≡ layer.Live l → refusal d task call ≡ further_refusal d task call
 open_refusal d task slot call l class is =
-    ap (λ (k : CallClass). refuse_unless_open d k (further_refusal d task call)) class ∙
+    class_refusal d task call (OnLayer slot) class (λ other. cc other) ∙
     ap (λ (s : Slot). refuse (not (is_live s)) NotOpen (further_refusal d task call)) is
 
 -- a call of a task on a layer whose further refusal is this one

@@ -5,16 +5,16 @@ ghost use Rattle.lw_calls.specs.Touches.{class_of};
 ghost use Rattle.lw_machine.specs.Desk.{Desk};
 ghost use Rattle.lw_machine.specs.Parts.{info_part};
 ghost use Rattle.lw_machine.specs.Step.{found, reply};
-ghost use Rattle.lw_stack.specs.Stack.{StandsForInfo, first_at};
+ghost use Rattle.lw_stack.specs.Stack.{StandsForInfo};
 
 use lw_calls::{Call, Reply};
 use lw_stack::Info;
 
 /// Makes one call that only looks at LayerInfo and gives its reply (WhichLayer), as the machine's step says of every desk
-/// with this LayerInfo.
+/// with this LayerInfo and its sizes.
 pub fn on_info(info: &Info, call: &Call) -> Reply
     requires class { class_of call.now ≡ OnInfo }
-    ensures { (d : Desk) (task : ℕ) → StandsForInfo info.now (info_part d) → result ≡ reply d task call.now }
+    ensures { (d : Desk) (task : ℕ) → d.sizes ≡ info.now.sizes → StandsForInfo info.now (info_part d) → result ≡ reply d task call.now }
 {
     match *call {
         Call::Which { x, y } => which(info, x, y),
@@ -25,7 +25,7 @@ pub fn on_info(info: &Info, call: &Call) -> Reply
 
 // The layer that is on top of a place.
 fn which(info: &Info, x: i32, y: i32) -> Reply
-    ensures { (d : Desk) (task : ℕ) → StandsForInfo info.now (info_part d) → result ≡ reply d task (Which x y) }
+    ensures { (d : Desk) (task : ℕ) → d.sizes ≡ info.now.sizes → StandsForInfo info.now (info_part d) → result ≡ reply d task (Which x y) }
 {
     answer(info.which(x, y))
 }

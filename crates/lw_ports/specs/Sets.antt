@@ -4,7 +4,7 @@ use Rattle.std.specs.Prelude.{◌≡◌, ℕ, ◌^◌, ◌==◌, Bool, false, �
 use Rattle.std.specs.Int.{bit_at}
 use Rattle.std.specs.Int.RustNames.{bit_or}
 use Rattle.lw_calls.specs.declared.message.Message.{Message}
-use Rattle.lw_machine.specs.Layer.{Window, class_bit, asks_for}
+use Rattle.lw_machine.specs.Layer.{Window, class_bit, wants}
 use Rattle.lw_ports.specs.declared.set.MessageSet.{MessageSet}
 
 -- the classes of a set
@@ -17,7 +17,7 @@ has_class classes m = bit_at classes (class_bit m) == 1
 
 -- a window asks for the messages whose class its classes have
 abbrev pub AskedByClass : Type 0
-AskedByClass = (w : Window) (m : Message) → asks_for w m ≡ has_class w.classes m
+AskedByClass = (w : Window) (m : Message) → wants w m ≡ has_class w.classes m
 
 -- no class is in the empty set, one in that of a message, and in that of two sets are the classes that either has
 pub record ClassLaws : Type 0 where

@@ -14,7 +14,7 @@ use Rattle.lw_calls.specs.Kinds.{is_super}
 use Rattle.lw_cliprects.specs.Parts.{hidden_of}
 use Rattle.lw_machine.specs.Layer.{Layer}
 use Rattle.lw_machine.specs.Kept.{is_kept, holds_at}
-use Rattle.lw_machine.specs.Reveal.{Across, resized, counts_as_kept}
+use Rattle.lw_machine.specs.Reveal.{Across, at_new_size, counts_as_kept}
 use Rattle.lw_machine.specs.Reveal as reveal
 use Rattle.lw_machine.proofs.Seen.{holds_same}
 use Rattle.lw_layer.specs.View.{LiveView, keeps, kept_pen}
@@ -159,7 +159,7 @@ pen_chosen false p = refl
 
 -- the pixels that are kept afterwards, by their definition
 reveal_kept : (d : LiveDraft) (k : Change) (x y : ℕ) → is_super d.kind ≡ false → IsLiveDraft d
-    → reveal.keeps (over d k) (resized (over d k) (windowless (live_view d).layer)) x y ≡ keeps (live_view (changed_draft d k)) x y
+    → reveal.keeps (over d k) (at_new_size (over d k) (windowless (live_view d).layer)) x y ≡ keeps (live_view (changed_draft d k)) x y
 unfolding keeps is_kept
 reveal_kept d k x y without_bitmap ok = let size = size_without_bitmap d k without_bitmap ok in rw (size.0, size.1) refl
 
@@ -173,11 +173,11 @@ bits_without_bitmap d k other ok made =
     let unwindowed : Layer = windowless c.layer in
     let size = size_without_bitmap d k other ok in
     let F : ℕ → ℕ → ℕ = λ x y. pen_from (buffers_of r) l (buffer_at l x y) x y in
-    let G : ℕ → ℕ → ℕ = λ x y. if reveal.keeps (over d k) (resized (over d k) unwindowed) x y then (if counts_as_kept (over d k) unwindowed x y then pen_at c.layer.bits x y else 0) else 0 in
+    let G : ℕ → ℕ → ℕ = λ x y. if reveal.keeps (over d k) (at_new_size (over d k) unwindowed) x y then (if counts_as_kept (over d k) unwindowed x y then pen_at c.layer.bits x y else 0) else 0 in
     bitmap_same l.width l.height d.depth F G
     (λ x y left low.
     let counted = counts_kept c k.bounds k.parts.visible x y in
-    let kept : reveal.keeps (over d k) (resized (over d k) unwindowed) x y ≡ keeps (live_view r) x y = reveal_kept d k x y other ok in
+    let kept : reveal.keeps (over d k) (at_new_size (over d k) unwindowed) x y ≡ keeps (live_view r) x y = reveal_kept d k x y other ok in
     rw (kept, counted) (found_pen d k x y (buffer_at l x y) ok made left low refl ∙ ap (λ p. if keeps (live_view r) x y then p else 0) (pen_chosen (keeps c x y) (pen_at c.layer.bits x y)))) ∙
     (ap (λ w. bitmap w l.height d.depth G) size.0 ∙ ap (λ h. bitmap (width k.bounds) h d.depth G) size.1)
 

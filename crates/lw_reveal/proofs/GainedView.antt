@@ -11,7 +11,7 @@ use Rattle.lw_cliprects.specs.Parts.{LieIn}
 use Rattle.lw_damage.specs.Damaged.{Damaged, may_lie}
 use Rattle.lw_machine.specs.Layer.{Layer, is_framed}
 use Rattle.lw_machine.specs.Kept.{is_kept}
-use Rattle.lw_machine.specs.Reveal.{is_inner, counts_as_kept, resized, with_revealed, revealed}
+use Rattle.lw_machine.specs.Reveal.{is_inner, counts_as_kept, at_new_size, with_revealed, revealed}
 use Rattle.lw_machine.specs.Reveal as reveal
 use Rattle.lw_machine.proofs.Settling.{revealed_plain, revealed_super}
 use Rattle.lw_layer.specs.View.{LiveView, keeps}
@@ -40,14 +40,14 @@ carried_from bounds visible c unwindowed whole =
 abbrev pub gained_view : Rectangle → List Rectangle → LiveView → LiveView
 gained_view bounds visible c =
     let a = across_to c bounds visible in
-    carried_from bounds visible c (with_revealed a (windowless c.layer) (resized a (windowless c.layer))) (with_revealed a c.layer (resized a c.layer))
+    carried_from bounds visible c (with_revealed a (windowless c.layer) (at_new_size a (windowless c.layer))) (with_revealed a c.layer (at_new_size a c.layer))
 
 pub carried_without_bitmap : (c : LiveView) (bounds : Rectangle) (visible : List Rectangle) → is_super c.layer.kind ≡ false
     → carried_to bounds visible c ≡ gained_view bounds visible c
 carried_without_bitmap c bounds visible other =
     let a = across_to c bounds visible in
     ap (λ l. carried_from bounds visible c l (revealed a c.layer)) (revealed_plain a (windowless c.layer) other)
-    ∙ ap (λ l. carried_from bounds visible c (with_revealed a (windowless c.layer) (resized a (windowless c.layer))) l) (revealed_plain a c.layer other)
+    ∙ ap (λ l. carried_from bounds visible c (with_revealed a (windowless c.layer) (at_new_size a (windowless c.layer))) l) (revealed_plain a c.layer other)
 
 -- and of a super-bitmap layer
 pub carried_own : (c : LiveView) (bounds : Rectangle) (visible : List Rectangle) → is_super c.layer.kind ≡ true
@@ -72,7 +72,7 @@ gained_plain c bounds visible sound ordered inside other = record {
 
 -- what the machine's layer keeps then
 gained_keeps : (c : LiveView) (bounds : Rectangle) (visible : List Rectangle) (x y : ℕ)
-    → reveal.keeps (across_to c bounds visible) (resized (across_to c bounds visible) c.layer) x y ≡ keeps (gained_view bounds visible c) x y
+    → reveal.keeps (across_to c bounds visible) (at_new_size (across_to c bounds visible) c.layer) x y ≡ keeps (gained_view bounds visible c) x y
 unfolding keeps is_kept
 gained_keeps c bounds visible x y = refl
 
@@ -112,7 +112,7 @@ same_tests kept inner before may now counts damaged is inside stays = rw (is, in
 abbrev damaged_then : LiveView → Rectangle → List Rectangle → ℕ → ℕ → Bool
 damaged_then c bounds visible x y =
     let a = across_to c bounds visible in
-    (reveal.keeps a (resized a c.layer) x y && is_inner a c.layer x y)
+    (reveal.keeps a (at_new_size a c.layer) x y && is_inner a c.layer x y)
     && (if counts_as_kept a c.layer x y then at false c.layer.damage x y else true)
 
 -- so it is by the code's rectangles

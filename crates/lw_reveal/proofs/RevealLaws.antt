@@ -11,7 +11,7 @@ use Rattle.lw_damage.specs.Damaged.{Damaged, may_lie}
 use Rattle.lw_machine.specs.Layer.{Layer, Window, is_framed}
 use Rattle.lw_machine.specs.Kept.{is_kept, in_inner}
 use Rattle.lw_machine.specs.Hook.{Hook}
-use Rattle.lw_machine.specs.Reveal.{counts_as_kept, resized, is_inner, fill_pen, hook_after}
+use Rattle.lw_machine.specs.Reveal.{counts_as_kept, at_new_size, is_inner, fill_pen, hook_after}
 use Rattle.lw_machine.specs.Reveal as reveal
 use Rattle.lw_layer.specs.View.{LiveView, keeps}
 use Rattle.lw_layer.specs.Pieces.{IsDamageOf}
@@ -24,7 +24,7 @@ use Rattle.lw_reveal.proofs.GainedView.{gained_view, carried_without_bitmap, car
 -- where neither the bounds nor the size change, what the layer keeps afterwards is what it keeps, whatever its window
 kept_after : (c : LiveView) (w : Option Window) (x y : ℕ) → c.layer.bits.width ≡ width c.bounds
     → c.layer.bits.height ≡ height c.bounds
-    → reveal.keeps (across_to c c.bounds c.visible) (resized (across_to c c.bounds c.visible) (record c.layer { window = w })) x y ≡ keeps c x y
+    → reveal.keeps (across_to c c.bounds c.visible) (at_new_size (across_to c c.bounds c.visible) (record c.layer { window = w })) x y ≡ keeps c x y
 unfolding keeps is_kept
 kept_after c w x y wide high = rw (wide, high) refl
 
@@ -60,7 +60,7 @@ bits_stay c sound without_bitmap =
     let a = across_to c c.bounds c.visible in
     let l : Layer = windowless c.layer in
     let b = c.layer.bits in
-    let F : ℕ → ℕ → ℕ = λ x y. if reveal.keeps a (resized a l) x y then (if counts_as_kept a l x y then pen_at b x y else fill_pen b.depth c.layer.hook x y) else 0 in
+    let F : ℕ → ℕ → ℕ = λ x y. if reveal.keeps a (at_new_size a l) x y then (if counts_as_kept a l x y then pen_at b x y else fill_pen b.depth c.layer.hook x y) else 0 in
     ap (λ w. bitmap w (height c.bounds) b.depth F) (sym (sound.wide without_bitmap)) ∙
     (ap (λ h. bitmap b.width h b.depth F) (sym (sound.high without_bitmap)) ∙
     (bitmap_same b.width b.height b.depth F (λ x y. pen_at b x y)
@@ -77,7 +77,7 @@ damage_stay c d sound damage lies without_bitmap =
     let a = across_to c c.bounds c.visible in
     let b = c.layer.bits in
     let framed = is_framed c.layer.window in
-    let F : ℕ → ℕ → Bool = λ x y. (reveal.keeps a (resized a c.layer) x y && is_inner a c.layer x y) && (if counts_as_kept a c.layer x y then at false c.layer.damage x y else true) in
+    let F : ℕ → ℕ → Bool = λ x y. (reveal.keeps a (at_new_size a c.layer) x y && is_inner a c.layer x y) && (if counts_as_kept a c.layer x y then at false c.layer.damage x y else true) in
     ap (λ w. grid w (height c.bounds) F) (sym (sound.wide without_bitmap)) ∙
     (ap (λ h. grid b.width h F) (sym (sound.high without_bitmap)) ∙
     (grid_same b.width b.height F (λ x y. covers d.rects (pos x) (pos y))

@@ -1,17 +1,17 @@
--- Which layer of a list is the first at a place: as the list grows at its end, around one of its entries, and of lists that
--- differ in one slot.
+-- Which layer of a list is the first at a place, as the list grows at its end and around one of its entries, and which is the top,
+-- of lists that differ in one slot too.
 use Rattle.std.proofs.Common.{◌≡◌, ℕ, ◌+◌, ◌<◌, ◌==◌, Bool, true, false, not, ◌&&◌, ◌||◌, cond, List, [], ◌∷◌, ◌++◌, length, take, drop, get_or, ℤ, Option, Some, None, refl, sym, ap, ◌∙◌}
 use Rattle.std.specs.Prelude.{if◌then◌else◌}
 use Rattle.std.specs.List.{find}
 use Rattle.std.specs.Option.{option_or, is_some}
-use Rattle.std.proofs.lemmas.Bool.{false≢true, eq-eqb, ne_eqb, eqb-true, and_right}
+use Rattle.std.proofs.lemmas.Bool.{false≢true, eq-eqb, ne_eqb, eqb-true, and_right, or_parts}
 use Rattle.std.proofs.lemmas.List.{take-append-drop, drop_more}
 use Rattle.std.proofs.lemmas.List.Folds.{find-append}
-use Rattle.lw_region.specs.Rectangle.{Rectangle}
+use Rattle.lw_region.specs.Rectangle.{Rectangle, has_pixel}
 use Rattle.lw_machine.specs.Desk.{is_the}
-use Rattle.lw_machine.specs.Screen.{bounds_have}
+use Rattle.lw_machine.specs.Screen.{bounds_have, screen_bounds}
 use Rattle.lw_machine.specs.Arrangement.{without}
-use Rattle.lw_stack.specs.Stack.{bounds_at, first_at, is_first_at}
+use Rattle.lw_stack.specs.Stack.{Stack, bounds_at, first_at, is_first_at, top_in, is_top_in}
 use Rattle.lw_stack.specs.Laws.{ElsewhereLaw}
 
 -- the slot's bounds have the place
@@ -142,16 +142,56 @@ first_alike : (bounds new_bounds : List (Option Rectangle)) (slots : List ℕ) (
 unfolding first_at
 first_alike bounds new_bounds slots x y alike = ap (λ (test : ℕ → Bool). find test slots) (λ i. λ t. alike t i)
 
--- lists that differ in one slot have the same layer on top outside both of its bounds
-pub first_elsewhere : ElsewhereLaw
-first_elsewhere s bounds new_bounds slots new_slots x y differ before after =
-    sym (first_without bounds slots s x y before)
-    ∙ (ap (λ us. first_at bounds us x y) differ.order
-    ∙ (first_alike bounds new_bounds (without s new_slots) x y (λ t. by_test t (t == s) refl)
-    ∙ first_without new_bounds new_slots s x y after))
+-- the top of a place is the first layer of the list that has it, on the screen, and off the screen there is none
+pub top_where : (v : Stack) (x y : ℤ)
+    → top_in v x y ≡ (if has_pixel (screen_bounds v.sizes) x y then first_at v.bounds v.front_to_back x y else None)
+unfolding top_in first_at
+top_where v x y = refl
+
+pub top_on_screen : (v : Stack) (x y : ℤ) → has_pixel (screen_bounds v.sizes) x y ≡ true
+    → top_in v x y ≡ first_at v.bounds v.front_to_back x y
+top_on_screen v x y on = top_where v x y ∙ ap (λ b. if b then first_at v.bounds v.front_to_back x y else None) on
+
+pub top_off_screen : (v : Stack) (x y : ℤ) → has_pixel (screen_bounds v.sizes) x y ≡ false → top_in v x y ≡ None
+top_off_screen v x y off = top_where v x y ∙ ap (λ b. if b then first_at v.bounds v.front_to_back x y else None) off
+
+-- a layer is on top where it is the first of the list, on the screen
+pub is_top_where : (v : Stack) (s : ℕ) (x y : ℤ)
+    → is_top_in v s x y ≡ (has_pixel (screen_bounds v.sizes) x y && is_first_at v.bounds v.front_to_back s x y)
+is_top_where v s x y =
+    ap (λ o. is_the o s) (top_where v x y)
+    ∙ by_test (has_pixel (screen_bounds v.sizes) x y) (first_at v.bounds v.front_to_back x y)
   where
-    by_test : (t : ℕ) (b : Bool) → (t == s) ≡ b → has_at bounds t x y ≡ has_at new_bounds t x y
-    by_test t true e =
-        ap (λ u. has_at bounds u x y) (eqb-true t s e)
-        ∙ (before ∙ sym (ap (λ u. has_at new_bounds u x y) (eqb-true t s e) ∙ after))
-    by_test t false e = ap (λ o. bounds_have o x y) (differ.others t e)
+    by_test : (b : Bool) (o : Option ℕ) → is_the (if b then o else None) s ≡ (b && is_the o s)
+    by_test true o = refl
+    by_test false o = refl
+
+-- a layer that doesn't have the place isn't on top of it
+pub not_top : (v : Stack) (s : ℕ) (x y : ℤ) → has_at v.bounds s x y ≡ false → is_top_in v s x y ≡ false
+not_top v s x y outside =
+    is_top_where v s x y ∙ and_right (has_pixel (screen_bounds v.sizes) x y) _ (not_first v.bounds v.front_to_back s x y outside)
+
+-- lists that differ in one slot have the same layer on top outside both of its bounds
+pub top_elsewhere : ElsewhereLaw
+top_elsewhere s v w x y differ outside =
+    by_screen (has_pixel (screen_bounds v.sizes) x y) refl
+  where
+    same : (t : ℕ) (b : Bool) → (t == s) ≡ b → has_at v.bounds s x y ≡ false → has_at w.bounds s x y ≡ false
+        → has_at v.bounds t x y ≡ has_at w.bounds t x y
+    same t true e before after =
+        ap (λ u. has_at v.bounds u x y) (eqb-true t s e)
+        ∙ (before ∙ sym (ap (λ u. has_at w.bounds u x y) (eqb-true t s e) ∙ after))
+    same t false e before after = ap (λ o. bounds_have o x y) (differ.others t e)
+
+    by_screen : (b : Bool) → has_pixel (screen_bounds v.sizes) x y ≡ b → top_in v x y ≡ top_in w x y
+    by_screen false off =
+        top_off_screen v x y off ∙ sym (top_off_screen w x y (ap (λ z. has_pixel (screen_bounds z) x y) (sym differ.sizes) ∙ off))
+    by_screen true on =
+        let parts = or_parts (has_at v.bounds s x y) (has_at w.bounds s x y)
+        (sym (ap (λ b. b && (has_at v.bounds s x y || has_at w.bounds s x y)) on) ∙ outside) in
+        top_on_screen v x y on
+        ∙ (sym (first_without v.bounds v.front_to_back s x y parts.0)
+        ∙ (ap (λ us. first_at v.bounds us x y) differ.order
+        ∙ (first_alike v.bounds w.bounds (without s w.front_to_back) x y (λ t. same t (t == s) refl parts.0 parts.1)
+        ∙ (first_without w.bounds w.front_to_back s x y parts.1
+        ∙ sym (top_on_screen w x y (ap (λ z. has_pixel (screen_bounds z) x y) (sym differ.sizes) ∙ on))))))

@@ -1,7 +1,7 @@
--- Laws of the list of layers: which layer is the first at a place, and which slots stand in the list.
+-- Laws of the list of layers: which layer is on top of a place, and which slots stand in the list.
 use Rattle.std.proofs.Common.{◌≡◌, ℕ, ◌<◌, ◌≤◌, Bool, true, false, List, [], ◌∷◌, length, replicate, ℤ, Option, None, refl, sym, ap, subst, ◌∙◌, ◌⊎◌, inl, inr, arith}
 use Rattle.std.specs.Prelude.{if◌then◌else◌}
-use Rattle.std.specs.List.{All, find}
+use Rattle.std.specs.List.{All}
 use Rattle.std.proofs.lemmas.List.{get_or_past, get_or-replicate, length-replicate}
 use Rattle.std.proofs.lemmas.List.Elements.{All-nil, All-cons}
 use Rattle.std.proofs.lemmas.Bool.{false≢true, cases_lt}
@@ -10,28 +10,29 @@ use Rattle.lw_calls.specs.declared.sizes.Sizes.{Sizes}
 use Rattle.lw_calls.specs.Limits.{IsWithinLimits}
 use Rattle.lw_calls.specs.Orders.{occurrences}
 use Rattle.lw_machine.specs.Desk.{Desk, is_the}
-use Rattle.lw_machine.specs.Screen.{top, is_shown, bounds_have}
+use Rattle.lw_machine.specs.Screen.{top_at, top, is_shown}
 use Rattle.lw_machine.specs.Reveal.{has_bounds}
 use Rattle.lw_machine.specs.Parts.{info_part}
 use Rattle.lw_machine.proofs.ListSound.{has_first, has_rest}
-use Rattle.lw_stack.specs.Stack.{Stack, bounds_at, first_at, is_first_at, IsPlacedOn, IsStack, StandsForInfo}
+use Rattle.lw_stack.specs.Stack.{Stack, bounds_at, top_in, is_top_in, IsPlacedOn, IsStack, StandsForInfo}
 use Rattle.lw_stack.specs.Laws.{ListLaw}
 
--- the top layer of a place is the first of the list that has it
-pub top_is_first : (v : Stack) (d : Desk) → StandsForInfo v (info_part d) → (x y : ℤ)
-    → top d x y ≡ first_at v.bounds v.front_to_back x y
-unfolding top first_at
-top_is_first v d h x y =
-    ap (λ slots. find (λ s. bounds_have (d.bounds s) x y) slots) h.front_to_back
-    ∙ ap (λ (bounds : ℕ → Option Rectangle). find (λ s. bounds_have (bounds s) x y) v.front_to_back) (λ i. λ s. h.bounds s i)
+-- the top layer of a place of the desk is the list's
+pub top_is_listed : (v : Stack) (d : Desk) → d.sizes ≡ v.sizes → StandsForInfo v (info_part d) → (x y : ℤ)
+    → top d x y ≡ top_in v x y
+unfolding top top_in
+top_is_listed v d same h x y =
+    ap (λ (z : Sizes). top_at z d.bounds d.front_to_back x y) same
+    ∙ (ap (λ slots. top_at v.sizes d.bounds slots x y) h.front_to_back
+    ∙ ap (λ (bounds : ℕ → Option Rectangle). top_at v.sizes bounds v.front_to_back x y) (λ i. λ s. h.bounds s i))
 
--- a layer is shown where it is the first of the list
-pub shown_is_first : (v : Stack) (d : Desk) → StandsForInfo v (info_part d) → (s : ℕ) (x y : ℤ)
-    → is_shown d s x y ≡ is_first_at v.bounds v.front_to_back s x y
-shown_is_first v d h s x y = ap (λ o. is_the o s) (top_is_first v d h x y)
+-- a layer is shown where it is on top by the list
+pub shown_is_top : (v : Stack) (d : Desk) → d.sizes ≡ v.sizes → StandsForInfo v (info_part d) → (s : ℕ) (x y : ℤ)
+    → is_shown d s x y ≡ is_top_in v s x y
+shown_is_top v d same h s x y = ap (λ o. is_the o s) (top_is_listed v d same h x y)
 
 pub list_law : ListLaw
-list_law v d h = record { top = top_is_first v d h; shown = shown_is_first v d h }
+list_law v d same h = record { top = top_is_listed v d same h; shown = shown_is_top v d same h }
 
 -- what holds of each slot that stands in a list holds of its entries
 pub all_entries : (P : ℕ → Type 0) (us : List ℕ) → ((t : ℕ) → 0 < occurrences t us → P t) → All P us

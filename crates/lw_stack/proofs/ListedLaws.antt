@@ -13,9 +13,9 @@ use Rattle.lw_region.proofs.Reading.{contains_pixels_of}
 use Rattle.lw_region.proofs.Canonical.{covers_bands}
 use Rattle.lw_region.proofs.SetOps.{canonical_bands, covers_one}
 use Rattle.lw_machine.specs.Screen.{bounds_have}
-use Rattle.lw_stack.specs.Stack.{bounds_at, is_first_at, pixels_in, shown_list}
+use Rattle.lw_stack.specs.Stack.{Stack, bounds_at, is_top_in, pixels_in, shown_list}
 use Rattle.lw_stack.specs.Laws.{ShownListLaw}
-use Rattle.lw_stack.proofs.FirstLaws.{not_first}
+use Rattle.lw_stack.proofs.FirstLaws.{not_top}
 
 -- a test on the pixel at a place is the test on that place
 at_test : (f : ℤ → ℤ → Bool) (x y : ℤ) (p : Pixel) → (f p.x p.y && is_at x y p) ≡ (is_at x y p && f x y)
@@ -42,20 +42,19 @@ in_bounds None x y = refl
 in_bounds (Some r) x y = contains_pixels_of (r ∷ []) x y ∙ covers_one r x y
 
 -- what holds nowhere off the bounds holds in them where it holds
-part_of : (has first : Bool) → (has ≡ false → first ≡ false) → (has && first) ≡ first
-part_of true first h = refl
-part_of false first h = sym (h refl)
+part_of : (has top : Bool) → (has ≡ false → top ≡ false) → (has && top) ≡ top
+part_of true top h = refl
+part_of false top h = sym (h refl)
 
-pub shown_places : (bounds : List (Option Rectangle)) (slots : List ℕ) (s : ℕ) (x y : ℤ)
-    → covers (shown_list bounds slots s) x y ≡ is_first_at bounds slots s x y
+pub shown_places : (v : Stack) (s : ℕ) (x y : ℤ) → covers (shown_list v s) x y ≡ is_top_in v s x y
 unfolding shown_list
-shown_places bounds slots s x y =
-    let own = bounds_at bounds s in
-    let first = is_first_at bounds slots s x y in
-    covers_bands (filter (λ p. is_first_at bounds slots s p.x p.y) (pixels_in own)) x y
-    ∙ (tested_pixels (λ a b. is_first_at bounds slots s a b) (pixels_in own) x y
-    ∙ (ap (λ h. h && first) (in_bounds own x y) ∙ part_of (bounds_have own x y) first (not_first bounds slots s x y)))
+shown_places v s x y =
+    let own = bounds_at v.bounds s in
+    let on_top = is_top_in v s x y in
+    covers_bands (filter (λ p. is_top_in v s p.x p.y) (pixels_in own)) x y
+    ∙ (tested_pixels (λ a b. is_top_in v s a b) (pixels_in own) x y
+    ∙ (ap (λ h. h && on_top) (in_bounds own x y) ∙ part_of (bounds_have own x y) on_top (not_top v s x y)))
 
 pub shown_list_law : ShownListLaw
 unfolding shown_list
-shown_list_law bounds slots s = (shown_places bounds slots s, canonical_bands _)
+shown_list_law v s = (shown_places v s, canonical_bands _)

@@ -10,14 +10,14 @@ use Rattle.lw_calls.specs.declared.sizes.Sizes.{Sizes}
 use Rattle.lw_calls.specs.Limits.{IsWithinLimits}
 use Rattle.lw_calls.specs.Orders.{occurrences}
 use Rattle.lw_machine.specs.Desk.{is_the}
-use Rattle.lw_machine.specs.Screen.{bounds_have}
-use Rattle.lw_machine.specs.Arrangement.{is_on_screen}
+use Rattle.lw_machine.specs.Screen.{bounds_have, top_at}
+use Rattle.lw_machine.specs.Arrangement.{may_lie_at}
 use Rattle.lw_machine.specs.Reveal.{has_bounds}
 use Rattle.lw_machine.specs.Parts.{InfoPart}
 use Rattle.lw_stack.specs.declared.info.InfoDraft.{InfoDraft}
 
--- The sizes; the slots of the live layers from front to back; by slot the bounds on the screen, or none where it isn't live; and
--- the active window.
+-- The sizes; the slots of the live layers from front to back; by slot the bounds, in places of the screen, off which they may lie
+-- from version 2 on, or none where it isn't live; and the active window.
 pub record Stack : Type 0 where
   pub sizes : Sizes
   pub front_to_back : List ℕ
@@ -36,22 +36,30 @@ first_at bounds slots x y = find (λ s. bounds_have (bounds_at bounds s) x y) sl
 abbrev pub is_first_at : List (Option Rectangle) → List ℕ → ℕ → ℤ → ℤ → Bool
 is_first_at bounds slots s x y = is_the (first_at bounds slots x y) s
 
+-- the slot of the layer that is on top of a place; a place off the screen has no top
+unfoldable pub top_in : Stack → ℤ → ℤ → Option ℕ
+top_in v x y = top_at v.sizes (bounds_at v.bounds) v.front_to_back x y
+
+-- the layer in slot s is on top of the place
+abbrev pub is_top_in : Stack → ℕ → ℤ → ℤ → Bool
+is_top_in v s x y = is_the (top_in v x y) s
+
 -- the pixels of the bounds, if there are any
 abbrev pub pixels_in : Option Rectangle → List Pixel
 pixels_in None = []
 pixels_in (Some r) = rectangle_set r
 
--- the canonical list of the places where the layer in slot s is the first of the list, all of which are in its bounds
-unfoldable pub shown_list : List (Option Rectangle) → List ℕ → ℕ → List Rectangle
-shown_list bounds slots s = bands (filter (λ p. is_first_at bounds slots s p.x p.y) (pixels_in (bounds_at bounds s)))
+-- the canonical list of the places where the layer in slot s is on top, all of which are in its bounds
+unfoldable pub shown_list : Stack → ℕ → List Rectangle
+shown_list v s = bands (filter (λ p. is_top_in v s p.x p.y) (pixels_in (bounds_at v.bounds s)))
 
--- bounds, if there are any, have a pixel, and all their pixels lie on the screen
+-- bounds, if there are any, have a pixel, and a layer may lie there
 abbrev pub IsPlacedOn : Sizes → Option Rectangle → Type 0
 IsPlacedOn sizes None = Unit {0}
-IsPlacedOn sizes (Some r) = IsOrdered r × IsTrue (is_on_screen sizes r)
+IsPlacedOn sizes (Some r) = IsOrdered r × IsTrue (may_lie_at sizes r)
 
 -- What holds of every list of layers: there are bounds or none for each slot, the list has each slot with bounds once and no
--- other, and the bounds lie on the screen.
+-- other, and a layer may lie at its bounds.
 pub record IsStack (v : Stack) : Type 0 where
   pub limits : IsWithinLimits v.sizes
   pub many : length v.bounds ≡ v.sizes.slots

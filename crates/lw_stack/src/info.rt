@@ -1,14 +1,14 @@
 ghost use Rattle.std.specs.Prelude.{◌≡◌, ◌<◌, [], None, replicate, ℤ, IfOk};
 ghost use Rattle.lw_calls.specs.Limits.{IsWithinLimits};
-ghost use Rattle.lw_stack.specs.Stack.{Stack, bounds_at, first_at, is_first_at, IsStack, stack_of};
+ghost use Rattle.lw_stack.specs.Stack.{Stack, bounds_at, first_at, top_in, is_top_in, IsStack, stack_of};
 ghost use Rattle.lw_stack.specs.Desktop.{IsDesktop};
 ghost use Rattle.lw_region.specs.Bands.{covers};
 ghost use Rattle.lw_machine.specs.Screen.{bounds_have};
 
-use crate::shown::{cover, uncovered};
+use crate::shown::{cover, on_screen, screen_of_sizes, uncovered};
 use lw_calls::Sizes;
 use lw_region::{Rect, Region};
-use lw_strips::{Strip, screen_of};
+use lw_strips::Strip;
 use std::alloc::{AllocError, Global};
 use std::marker::Model;
 use std::mem;
@@ -18,7 +18,7 @@ use std::mem;
 pub struct InfoDraft {
     /// The numbers of the live layers' slots, each once, from front to back.
     pub order: Vec<u32>,
-    /// By slot the layer's bounds in pixels of the screen; `None` where the slot isn't live.
+    /// By slot the layer's bounds in places of the screen, off which they may lie; `None` where the slot isn't live.
     pub bounds: Vec<Option<Rect>>,
     /// The slot of the active window; `None` where no window is active.
     pub active: Option<u32>,
@@ -57,8 +57,7 @@ impl Info {
             bounds.push(None)?;
         }
         let mut desktop = Vec::with_capacity(alloc, 1)?;
-        let screen = screen_of(sizes.width, sizes.height);
-        desktop.push(Strip::blank(screen, sizes.depth))?;
+        desktop.push(Strip::blank(screen_of_sizes(sizes), sizes.depth))?;
         Ok(Info {
             sizes: *sizes,
             draft: InfoDraft {
@@ -86,8 +85,8 @@ impl Info {
         self.draft.order.as_slice()
     }
 
-    /// The bounds of a slot's layer in pixels of the screen, their edges included; `None` exactly where no slot of this number is
-    /// live.
+    /// The bounds of a slot's layer in places of the screen, off which they may lie, their edges included; `None` exactly where
+    /// no slot of this number is live.
     pub fn bounds(&self, slot: u32) -> Option<Rect>
         ensures { result ≡ bounds_at self.now.bounds slot }
     {
@@ -119,8 +118,18 @@ impl Info {
     }
 
     /// The slot of the layer that is on top at column `x` and row `y` of the screen; `None` exactly where no layer has the
-    /// pixel (WhichLayer). Any place may be asked for.
+    /// pixel, and off the screen (WhichLayer). Any place may be asked for.
     pub fn which(&self, x: i32, y: i32) -> Option<u32>
+        ensures { result ≡ top_in self.now x y }
+    {
+        if !screen_of_sizes(self.sizes()).has(x, y) {
+            return None;
+        }
+        self.first(x, y)
+    }
+
+    // The slot of the first layer of the list whose bounds have the place; `None` where none has it.
+    fn first(&self, x: i32, y: i32) -> Option<u32>
         ensures { result ≡ first_at self.now.bounds self.now.front_to_back x y }
     {
         let order = self.order();
@@ -136,14 +145,14 @@ impl Info {
     /// shown nowhere. It fails only when out of memory.
     pub fn visible_of(&self, alloc: Global, slot: u32) -> Result<Region, AllocError>
         ensures { IfOk result
-            (λ region. (x y : ℤ) → covers region x y ≡ is_first_at self.now.bounds self.now.front_to_back slot x y) }
+            (λ region. (x y : ℤ) → covers region x y ≡ is_top_in self.now slot x y) }
     {
         let order = self.order();
         let mut covered = Region::new(alloc);
         for front in order {
             let bounds = self.bounds(*front);
             if *front == slot {
-                return uncovered(alloc, bounds, &covered);
+                return uncovered(alloc, on_screen(self.sizes(), bounds), &covered);
             }
             cover(alloc, bounds, &mut covered)?;
         }

@@ -1,13 +1,13 @@
 ghost use Rattle.lw_stack.specs.Laws.{ListLaw, ShownListLaw, ElsewhereLaw};
 
-/// A law of the list, which does nothing: where it stands for a desk's LayerInfo, the top layer of each place is the first of
-/// the list whose bounds have the place, and a layer is shown exactly there.
+/// A law of the list, which does nothing: where it stands for a desk's LayerInfo, it tells the top layer of each place, and so
+/// where each layer is shown.
 pub fn list_law()
     ensures { ListLaw }
 {}
 
-/// A law of the list of what is shown of a layer, which does nothing: it has the places where the layer is the first of the list,
-/// and is canonical.
+/// A law of the list of what is shown of a layer, which does nothing: it has the places where the layer is on top, and is
+/// canonical.
 pub fn shown_list_law()
     ensures { ShownListLaw }
 {}

@@ -8,4 +8,4 @@ mod shown;
 
 pub use info::{Info, InfoDraft};
 pub use laws::{elsewhere_law, list_law, shown_list_law};
-pub use shown::{Shown, cover, meets, shown_in};
+pub use shown::{Shown, cover, meets, on_screen, shown_in};

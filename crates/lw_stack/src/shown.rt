@@ -3,10 +3,13 @@ ghost use Rattle.std.specs.List.{All, slice_index_or};
 ghost use Rattle.std.specs.Option.{is_some};
 ghost use Rattle.lw_region.specs.Rectangle.{has_pixel};
 ghost use Rattle.lw_region.specs.Bands.{covers};
-ghost use Rattle.lw_machine.specs.Screen.{bounds_have};
+ghost use Rattle.lw_calls.specs.Limits.{IsWithinLimits};
+ghost use Rattle.lw_machine.specs.Screen.{bounds_have, screen_bounds};
 ghost use Rattle.lw_stack.specs.Stack.{bounds_at, first_at, AreShownIn, LieApart};
 
+use lw_calls::Sizes;
 use lw_region::{Rect, Region, clear_region, or_region};
+use lw_strips::screen_of;
 use std::alloc::{AllocError, Global};
 
 /// What is shown within an area: of each layer, and of nothing but the desktop.
@@ -21,7 +24,8 @@ pub struct Shown {
 /// What is shown within an area of each layer of a list of slots from front to back, by slot: the places of the area where it is
 /// the first of the list whose bounds have them. A slot that isn't in the list has an empty region. `bounds` has the layers'
 /// bounds by slot. (One pass from the front over what is left of the area, as the X server's miComputeClips makes it, which ends
-/// where nothing is left.) What is left at the end is the rest. It fails only when out of memory.
+/// where nothing is left.) What is left at the end is the rest. Places of the area off the screen are told as any other. It fails
+/// only when out of memory.
 pub fn shown_in(
     alloc: Global,
     area: &Region,
@@ -110,6 +114,25 @@ pub fn meets(region: &Region, rect: &Rect) -> bool
         }
     }
     false
+}
+
+/// The part of the bounds that lies on a screen of these sizes; `None` where no pixel of them does, or there are no bounds.
+pub fn on_screen(sizes: &Sizes, bounds: Option<Rect>) -> Option<Rect>
+    requires { IsWithinLimits sizes.now }
+    ensures { (x y : ℤ) → bounds_have result x y ≡ (has_pixel (screen_bounds sizes.now) x y && bounds_have bounds x y) }
+{
+    match bounds {
+        Some(rect) => screen_of_sizes(sizes).meet(&rect),
+        None => None,
+    }
+}
+
+// The rectangle of a screen of these sizes.
+pub(crate) fn screen_of_sizes(sizes: &Sizes) -> Rect
+    requires { IsWithinLimits sizes.now }
+    ensures { result ≡ screen_bounds sizes.now }
+{
+    screen_of(sizes.width, sizes.height)
 }
 
 // The pixels of the bounds that aren't covered; none without bounds.

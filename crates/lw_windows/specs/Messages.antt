@@ -2,7 +2,7 @@
 use Rattle.std.specs.Prelude.{◌≡◌, Bool, not, ◌&&◌, if◌then◌else◌, List, [], ◌∷◌, ◌++◌}
 use Rattle.lw_calls.specs.declared.message.Message.{Message}
 use Rattle.lw_calls.specs.declared.message.Message.TheVariants.{Refresh, NewSize, Change, Active, Inactive}
-use Rattle.lw_machine.specs.Layer.{Layer, Window, asks_for}
+use Rattle.lw_machine.specs.Layer.{Layer, Window, wants}
 use Rattle.lw_machine.specs.Reveal.{Across, was_live, is_resized, same_bounds, is_damaged}
 use Rattle.lw_windows.specs.declared.messages.Change.{Change as Told}
 use Rattle.lw_windows.specs.declared.messages.Classes.{Classes}
@@ -23,11 +23,11 @@ listed s =
 -- What `due` is told is so of the window w, of its layer as it is after the arrangement, and of the layer's part in it: the
 -- set has the classes for which the window asks, and no others.
 pub record Tells (c : Across) (after : Layer) (w : Window) (asks : Classes) (nocare asked : Bool) (t : Told) : Type 0 where
-  pub newsize : asks.newsize ≡ asks_for w NewSize
-  pub change : asks.change ≡ asks_for w Change
-  pub inactive : asks.inactive ≡ asks_for w Inactive
-  pub active : asks.active ≡ asks_for w Active
-  pub refresh : asks.refresh ≡ asks_for w Refresh
+  pub newsize : asks.newsize ≡ wants w NewSize
+  pub change : asks.change ≡ wants w Change
+  pub inactive : asks.inactive ≡ wants w Inactive
+  pub active : asks.active ≡ wants w Active
+  pub refresh : asks.refresh ≡ wants w Refresh
   pub cares : nocare ≡ w.nocare
   pub was_asked : asked ≡ w.asked
   pub sized : t.sized ≡ is_resized c

@@ -9,7 +9,7 @@ use Rattle.lw_calls.specs.Limits.{IsWithinLimits}
 use Rattle.lw_strips.specs.Strips.{strip_of}
 use Rattle.lw_strips.specs.Laying.{screen, LiesIn}
 use Rattle.lw_arrange.specs.Desktops.{IsSorted}
-use Rattle.lw_arrange.proofs.PieceLaws.{area_on_screen}
+use Rattle.lw_arrange.proofs.ElsewhereLaws.{area_on_screen}
 use Rattle.lw_arrange.proofs.DesktopLaws.{IsParted, none_parted, parted_more, IsRemade, joined_inside, desktop_remade}
 use Rattle.lw_arrange.proofs.desktop.desktop_after.Goals as goal
 
@@ -42,7 +42,7 @@ push_blank-requires-clause-inside c =
       join = λ x y. (combined_lists.unions c.clear_region.new.into c.rest.result.now c.or_region.new.into c.in_ok-or_region.ensures.list).pixels x y
           ∙ ap (λ l. covers c.clear_region.new.into x y || covers l x y) c.rest.ensures;
       left = c.sizes-sizes.ensures.planned.rest;
-      inside = area_on_screen v a.stack a.call a.area c.sizes.ensures.stack c.sizes-sizes.ensures.planned.stack c.requires.sizes c.requires.area.area;
+      inside = area_on_screen v a.stack a.call a.area c.requires.area.area;
       same = c.requires.sizes;
       elsewhere = c.requires.area.elsewhere;
     } in
@@ -63,7 +63,7 @@ returns c =
       join = λ x y. (combined_lists.unions c.clear_region.new.into c.rest.result.now c.or_region.new.into c.in_ok-or_region.ensures.list).pixels x y
           ∙ ap (λ l. covers c.clear_region.new.into x y || covers l x y) c.rest.ensures;
       left = c.sizes-sizes.ensures.planned.rest;
-      inside = area_on_screen v a.stack a.call a.area c.sizes.ensures.stack c.sizes-sizes.ensures.planned.stack c.requires.sizes c.requires.area.area;
+      inside = area_on_screen v a.stack a.call a.area c.requires.area.area;
       same = c.requires.sizes;
       elsewhere = c.requires.area.elsewhere;
     } in

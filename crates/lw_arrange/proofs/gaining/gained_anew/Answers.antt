@@ -48,6 +48,6 @@ returns c =
     let R : Option Created → Type 0 = λ o. Q o region in
     let S : Kind → Type 0 = λ k. AreKept k bounds listed region in
     subst R (sym made.is)
-    (anew_gained cell made.created depth bounds listed visible region c.requires.unopened c.rects.ensures.value made.may.size
+    (anew_gained cell made.created depth bounds listed visible region c.requires.idle c.rects.ensures.value made.may.size
     c.kept_region.ensures.ordered c.requires.inside (subst S made.kind_is are)))
     c.kept_region.ensures.kept

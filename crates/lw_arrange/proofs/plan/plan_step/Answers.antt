@@ -1,6 +1,8 @@
 use Rattle.std.proofs.Common.{◌≡◌, ◌+◌, length, refl, sym, ap, subst, ◌∙◌}
 use Rattle.std.specs.List.{All}
 use Rattle.lw_calls.specs.declared.sizes.Sizes.{Sizes}
+use Rattle.lw_cliprects.specs.Parts.{LieIn}
+use Rattle.lw_machine.specs.Screen.{screen_bounds}
 use Rattle.lw_strips.specs.Laying.{screen, LiesIn}
 use Rattle.lw_stack.specs.Stack.{Stack, IsStack, StandsForInfo, stack_of}
 use Rattle.lw_machine.specs.Parts.{info_part}
@@ -15,8 +17,8 @@ use Rattle.lw_arrange.proofs.SoundLaws.{new_rect, after_sound}
 use Rattle.lw_arrange.proofs.ArrangedLaws.{after_stands}
 use Rattle.lw_arrange.specs.Pieces.{ArePieces}
 use Rattle.lw_arrange.specs.Planning.{stack_after}
-use Rattle.lw_arrange.proofs.ElsewhereLaws.{top_elsewhere, plan_area}
-use Rattle.lw_arrange.proofs.PieceLaws.{area_on_screen, are_pieces, pieces_on_screen}
+use Rattle.lw_arrange.proofs.ElsewhereLaws.{top_elsewhere, plan_area, area_on_screen}
+use Rattle.lw_arrange.proofs.PieceLaws.{are_pieces, pieces_on_screen}
 use Rattle.lw_arrange.proofs.plan.plan_step.Goals as goal
 
 pub returns-in-Some-clause-step : goal.returns-in-Some-clause-step
@@ -28,7 +30,7 @@ returns-in-Some-clause-step c = λ d are.
 pub after-requires-clause-placed : goal.after-requires-clause-placed
 after-requires-clause-placed c =
     let a = c.args in
-    new_rect a.info.now a.looks.now a.fresh a.task a.call.now c.sizes-sizes.ensures.stack.limits
+    new_rect a.info.now a.looks.now a.fresh a.task a.call.now
     (sym c.refused.ensures ∙ c.in_default.is)
 
 pub shown_in-requires : goal.shown_in-requires
@@ -83,6 +85,13 @@ returns-clause-area c =
     (ap (λ (z : Sizes). stack_of z after) c.sizes-sizes.ensures.value ∙ c.in_ok-after.ensures {u = tt}) (c.in_ok-call.ensures {u = tt})
     (c.in_ok-area.ensures {u = tt}))
 
+pub new-requires-clause-area : goal.new-requires-clause-area
+new-requires-clause-area c =
+    let v = c.args.info.now in
+    let P : Sizes → Type 0 = λ z. LieIn (screen_bounds z) c.in_ok-area.area in
+    subst P (sym c.sizes-sizes.ensures.value)
+    (area_on_screen v (stack_of v.sizes c.in_ok-after.after) c.args.call.now c.in_ok-area.area (c.in_ok-area.ensures {u = tt}))
+
 pub new-requires-clause-pieces : goal.new-requires-clause-pieces
 new-requires-clause-pieces c =
     let v = c.args.info.now in
@@ -91,10 +100,7 @@ new-requires-clause-pieces c =
     subst P (sym c.sizes-sizes.ensures.value)
     (pieces_on_screen v c.in_ok-area.area c.in_ok-were.were.sets.items c.in_ok-were.were.rest c.in_ok-shown.shown.sets.items
     c.in_ok-shown.shown.rest _ c.in_ok-pieces.pieces.items (ap (λ n. n + 1) slots)
-    (record { many = c.sizes-sizes.ensures.stack.many; shown = c.in_ok-were.ensures.sets; left = c.in_ok-were.ensures.rest }) (area_on_screen v (stack_of v.sizes c.in_ok-after.after) c.args.call.now c.in_ok-area.area c.sizes-sizes.ensures.stack
-    (subst IsStack (sym (c.in_ok-after.ensures {u = tt}))
-    (after_sound c.args.info.now c.args.looks.now c.args.fresh c.args.task c.args.call.now c.sizes-sizes.ensures.stack c.requires.fits
-    (sym c.refused.ensures ∙ c.in_default.is))) refl (c.in_ok-area.ensures {u = tt}))
+    (record { many = c.sizes-sizes.ensures.stack.many; shown = c.in_ok-were.ensures.sets; left = c.in_ok-were.ensures.rest }) (area_on_screen v (stack_of v.sizes c.in_ok-after.after) c.args.call.now c.in_ok-area.area (c.in_ok-area.ensures {u = tt}))
     c.in_ok-pieces.ensures)
 
 pub returns-clause-pieces : goal.returns-clause-pieces
@@ -118,9 +124,6 @@ returns-clause-pieces c =
       many = sound.many;
       shown = rw (c.as_slice-2.ensures.value, c.as_slice.ensures.value) at c.in_ok-shown.ensures.sets;
       left = rw (c.as_slice-2.ensures.value, c.as_slice.ensures.value) at c.in_ok-shown.ensures.rest;
-    }) (area_on_screen v (stack_of v.sizes c.in_ok-after.after) c.args.call.now c.in_ok-area.area c.sizes-sizes.ensures.stack
-    (subst IsStack (sym (c.in_ok-after.ensures {u = tt}))
-    (after_sound c.args.info.now c.args.looks.now c.args.fresh c.args.task c.args.call.now c.sizes-sizes.ensures.stack c.requires.fits
-    (sym c.refused.ensures ∙ c.in_default.is))) refl (c.in_ok-area.ensures {u = tt}))
+    }) (area_on_screen v (stack_of v.sizes c.in_ok-after.after) c.args.call.now c.in_ok-area.area (c.in_ok-area.ensures {u = tt}))
     (top_elsewhere v (stack_of v.sizes after) a.looks.now a.call.now c.in_ok-area.area made (c.in_ok-area.ensures {u = tt}))
     c.in_ok-pieces.ensures))
