@@ -1,28 +1,24 @@
 -- What a call on all layers makes of LayerInfo and the cells, in every desk for which they stand.
-use Rattle.std.proofs.Common.{◌≡◌, ◌↔◌, ℕ, ◌<◌, ◌==◌, Bool, true, false, List, length, map, Option, Some, None, Result, Ok, Err, IfOk, OnErr, IsTrue, refl, sym, ap, subst, ◌∙◌, arith}
+use Rattle.std.proofs.Common.{◌≡◌, ℕ, ◌<◌, ◌==◌, Bool, true, false, List, length, map, Option, Some, None, Result, Ok, Err, IfOk, OnErr, IsTrue, refl, sym, ap, subst, ◌∙◌, arith}
 use Rattle.std.specs.Prelude.{if◌then◌else◌}
 use Rattle.std.specs.List.{slice_index_or}
-use Rattle.std.proofs.lemmas.Bool.{and_parts, ltb-true, eqb-true}
+use Rattle.std.proofs.lemmas.Bool.{and_parts, ltb-true, eqb-true, false≢true}
 use Rattle.lw_region.specs.Rectangle.{Rectangle}
 use Rattle.lw_calls.specs.declared.call.Call.{Call}
-use Rattle.lw_calls.specs.declared.call.Call.TheVariants.{Create, OpenWindow, Close, ToFront, ToBack, InFrontOf, MoveBy, SizeBy, SetBox, Activate, Blit}
+use Rattle.lw_calls.specs.declared.call.Call.TheVariants.{Create, OpenWindow, Close, ToFront, ToBack, InFrontOf, MoveBy, SizeBy, SetBox, Activate}
 use Rattle.lw_calls.specs.declared.reply.Reply.{Reply}
 use Rattle.lw_calls.specs.declared.reply.Reply.TheVariants.{Done}
 use Rattle.lw_calls.specs.declared.sizes.Sizes.{Sizes}
 use Rattle.lw_calls.specs.Limits.{call_fits}
-use Rattle.lw_calls.specs.Plan.{is_all}
-use Rattle.lw_calls.specs.declared.touch.CallClass.{CallClass}
-use Rattle.lw_calls.specs.declared.touch.CallClass.TheVariants.{OnAll}
-use Rattle.lw_calls.specs.Touches.{class_of, slots_in}
+use Rattle.lw_calls.specs.Touches.{is_arrangement}
 use Rattle.lw_calls.specs.declared.make.Make.{Make}
-use Rattle.lw_calls.proofs.BlitClass.{blit_not_all}
-use Rattle.lw_machine.specs.Layer.{is_live, is_unopened}
+use Rattle.lw_machine.specs.Layer.{may_open, is_live}
 use Rattle.lw_machine.specs.Desk.{Desk, is_the}
 use Rattle.lw_machine.specs.Hook.{Hook}
 use Rattle.lw_machine.specs.Arrangement.{bounds_of, hook_from, without, put_before, arranged}
 use Rattle.lw_machine.specs.Arrangement as machine
 use Rattle.lw_machine.specs.Reveal.{settled}
-use Rattle.lw_machine.specs.Parts.{slot_part, info_part}
+use Rattle.lw_machine.specs.Parts.{SlotPart, slot_part, info_part}
 use Rattle.lw_machine.specs.Step.{refusal, answer, after, reply, changed_unless, reply_or, effect}
 use Rattle.lw_machine.specs.Sound.{IsDesk}
 use Rattle.lw_machine.proofs.ArrangedStep.{after_is}
@@ -31,7 +27,8 @@ use Rattle.lw_machine.proofs.ReachedSound.{step_sound, after_sizes}
 use Rattle.lw_layer.specs.View.{State, CellView}
 use Rattle.lw_layer.specs.View as view
 use Rattle.lw_layer.specs.Looks.{IsLookAt}
-use Rattle.lw_layer.specs.StandsFor.{IsPartOf, StandsFor, IsSound}
+use Rattle.lw_layer.specs.StandsFor.{slot_of, IsPartOf, StandsFor, IsSound}
+use Rattle.lw_layer.proofs.SoundLaws.{slot_told}
 use Rattle.lw_layer.specs.Windows.{without_room, HasRoom}
 use Rattle.lw_layer.specs.declared.look.Look.{Look}
 use Rattle.lw_stack.specs.Stack.{Stack, bounds_at, StandsForInfo}
@@ -79,23 +76,20 @@ told_slot d s c k stands look = go c.state k stands look
     go view.Closed None part look = (ap is_live part.0, part.1)
     go view.Closed (Some k) part look = absurd (cc look)
 
--- a flag that says whether a cell is unopened says it of its slot
-fresh_slot : (d : Desk) (s : ℕ) (c : CellView) (fresh : Bool) → StandsFor c (slot_part d s) → (IsTrue fresh ↔ (c.state ≡ view.Unopened)) → fresh ≡ is_unopened (d.slot s)
-fresh_slot d s c fresh stands says = go c.state refl fresh says stands
-  where
-    go : (q : State) → c.state ≡ q → (f : Bool) → (IsTrue f ↔ (c.state ≡ view.Unopened)) → IsPartOf q c.live (slot_part d s) → f ≡ is_unopened (d.slot s)
-    go view.Unopened is true says part = sym (ap is_unopened part.0)
-    go view.Unopened is false says part = absurd (cc (says.1 is))
-    go view.Live is true says part = absurd (cc (sym is ∙ says.0 refl))
-    go view.Live is false says part = sym (ap is_unopened part.slot)
-    go view.Closed is true says part = absurd (cc (sym is ∙ says.0 refl))
-    go view.Closed is false says part = sym (ap is_unopened part.0)
+-- what a cell says of its slot being free is so
+free_slot : (d : Desk) (s : ℕ) (c : CellView) (version : ℕ) (fresh : Bool) → d.sizes.version ≡ version → StandsFor c (slot_part d s)
+    → fresh ≡ may_open version (slot_of c.state c.live) → fresh ≡ may_open d.sizes.version (d.slot s)
+free_slot d s c version fresh same stands says =
+    says ∙ (ap (may_open version) (sym (slot_told c.state c.live (slot_part d s) stands)) ∙ ap (λ n. may_open n (d.slot s)) (sym same))
 
-fresh_call : (d : Desk) (v : Stack) (cells : List CellView) (call : Call) (fresh : Bool) → AreOfDesk v cells d → IsTrue (call_fits v.sizes call) → IsFreshSlot cells call fresh → IsFresh d call fresh
+fresh_call : (d : Desk) (v : Stack) (cells : List CellView) (call : Call) (fresh : Bool) → AreOfDesk v cells d → IsTrue (call_fits v.sizes call)
+    → IsFreshSlot v.sizes.version cells call fresh → IsFresh d call fresh
 fresh_call d v cells (Create slot make) fresh are fits says =
-    fresh_slot d slot (cell_at cells slot) fresh (are.slots slot (ltb-true slot v.sizes.slots (and_parts _ _ fits).0)) says
+    free_slot d slot (cell_at cells slot) v.sizes.version fresh (ap (λ (z : Sizes). z.version) are.sizes)
+    (are.slots slot (ltb-true slot v.sizes.slots (and_parts _ _ fits).0)) says
 fresh_call d v cells (OpenWindow slot make framed nocare asks title) fresh are fits says =
-    fresh_slot d slot (cell_at cells slot) fresh (are.slots slot (ltb-true slot v.sizes.slots (and_parts _ _ fits).0)) says
+    free_slot d slot (cell_at cells slot) v.sizes.version fresh (ap (λ (z : Sizes). z.version) are.sizes)
+    (are.slots slot (ltb-true slot v.sizes.slots (and_parts _ _ fits).0)) says
 fresh_call d v cells call fresh are fits says = tt
 
 -- the slot of a new layer is one that there is
@@ -105,7 +99,7 @@ slot_is_there sizes (OpenWindow slot make framed nocare asks title) many is fits
 slot_is_there sizes call many is fits = tt
 
 -- Planning reads what is of the desk.
-pub told_desk : (d : Desk) (v : Stack) (cells : List CellView) (looks : List (Option Look)) (fresh : Bool) (call : Call) → AreOfDesk v cells d → AreNumbered v.sizes.slots cells → AreLooks cells looks → IsFreshSlot cells call fresh → IsTrue (call_fits v.sizes call) → AreOf d v looks fresh call
+pub told_desk : (d : Desk) (v : Stack) (cells : List CellView) (looks : List (Option Look)) (fresh : Bool) (call : Call) → AreOfDesk v cells d → AreNumbered v.sizes.slots cells → AreLooks cells looks → IsFreshSlot v.sizes.version cells call fresh → IsTrue (call_fits v.sizes call) → AreOf d v looks fresh call
 told_desk d v cells looks fresh call are numbered truth says fits =
     record {
       sizes = are.sizes;
@@ -115,7 +109,7 @@ told_desk d v cells looks fresh call are numbered truth says fits =
     }
 
 -- A plan of the desk may be done there.
-pub done_desk : (d : Desk) (v : Stack) (cells : List CellView) (task : ℕ) (call : Call) (a : ArrangementView) → AreOfDesk v cells d → class_of call ≡ OnAll → IsTrue (call_fits v.sizes call) → refusal d task call ≡ None → IsArrangementOf d task call a → IsArrangement a → a.stack.sizes ≡ v.sizes
+pub done_desk : (d : Desk) (v : Stack) (cells : List CellView) (task : ℕ) (call : Call) (a : ArrangementView) → AreOfDesk v cells d → is_arrangement call ≡ true → IsTrue (call_fits v.sizes call) → refusal d task call ≡ None → IsArrangementOf d task call a → IsArrangement a → a.stack.sizes ≡ v.sizes
     → IsDone d task call a
 done_desk d v cells task call a are all fits unrefused plan planned sizes =
     let here : IsTrue (call_fits d.sizes call) = ap (λ z. call_fits z call) are.sizes ∙ fits in
@@ -131,7 +125,7 @@ done_desk d v cells task call a are all fits unrefused plan planned sizes =
     }
 
 -- an arrangement that is done answers so
-answers_done : (d : Desk) (task : ℕ) (call : Call) → class_of call ≡ OnAll → answer d task call ≡ Done
+answers_done : (d : Desk) (task : ℕ) (call : Call) → is_arrangement call ≡ true → answer d task call ≡ Done
 answers_done d task (Create slot make) all = refl
 answers_done d task (OpenWindow slot make framed nocare asks title) all = refl
 answers_done d task (Close slot) all = refl
@@ -142,10 +136,9 @@ answers_done d task (MoveBy slot dx dy) all = refl
 answers_done d task (SizeBy slot dw dh) all = refl
 answers_done d task (SetBox slot x y w h) all = refl
 answers_done d task (Activate slot) all = refl
-answers_done d task (Blit source slot area) all = refl
-answers_done d task call all = absurd (cc all)
+answers_done d task call all = absurd (false≢true all)
 
-reply_done : (d : Desk) (task : ℕ) (call : Call) → class_of call ≡ OnAll → refusal d task call ≡ None → Done ≡ reply d task call
+reply_done : (d : Desk) (task : ℕ) (call : Call) → is_arrangement call ≡ true → refusal d task call ≡ None → Done ≡ reply d task call
 unfolding reply
 reply_done d task call all unrefused = sym (ap (λ o. reply_or o (answer d task call)) unrefused ∙ answers_done d task call all)
 
@@ -182,20 +175,28 @@ asked_same d task (Create slot make) shelf n r hooks none some = asked_at d shel
 asked_same d task (OpenWindow slot make framed nocare asks title) shelf n r hooks none some = asked_at d shelf slot n make r hooks none some
 asked_same d task call shelf n r hooks none some = refl
 
+-- a slot of which the cell isn't live has no layer and no bounds
+pub idle_part : (c : CellView) (p : SlotPart) → (c.state ≡ view.Live → ⊥) → StandsFor c p → (is_live p.slot ≡ false) × (p.bounds ≡ None)
+idle_part c p idle stands = go c.state idle stands
+  where
+    go : (q : State) → (q ≡ view.Live → ⊥) → IsPartOf q c.live p → (is_live p.slot ≡ false) × (p.bounds ≡ None)
+    go view.Unopened idle part = (ap is_live part.0, part.1)
+    go view.Live idle part = absurd (idle refl)
+    go view.Closed idle part = (ap is_live part.0, part.1)
+
 -- so it is with the hook of a slot that is opened
 asked_of_slot : (d : Desk) (task : ℕ) (call : Call) (a : ArrangementView) (shelf : List (Option Hook)) (c : CellView) → IsDone d task call a → AreOnShelf shelf d
     → StandsFor c (slot_part d c.number) → IsHookAsked d a c (asked_hook shelf a.call c.number)
-asked_of_slot d task call a shelf c done hooks stands fresh has =
+asked_of_slot d task call a shelf c done hooks stands idle has =
     let n = c.number in
-    let Q : State → Type 0 = λ t. IsPartOf t c.live (slot_part d n) in
-    let none : d.bounds n ≡ None = (subst Q fresh stands).1 in
+    let none : d.bounds n ≡ None = (idle_part c (slot_part d n) idle stands).1 in
     let place = there (bounds_at a.stack.bounds n) has in
     let made : created_by task call ≡ created_by a.task a.call = ap (λ t. created_by t call) (sym done.plan.task) ∙ ap (created_by a.task) (sym done.plan.call) in
     ap (λ q. asked_hook shelf q n) done.plan.call
     ∙ (asked_same d task call shelf n place.0 hooks none (done.plan.info.bounds n ∙ place.1) ∙ ap (hook_asked d.shelf) made)
 
 -- The shelf after a planned arrangement.
-taken_stands : (d : Desk) (shelf : List (Option Hook)) (o : Option ℕ) → AreOnShelf shelf d → (n : ℕ) → machine.shelf_without o d.shelf n ≡ hook_at (shelf_without o shelf) n
+pub taken_stands : (d : Desk) (shelf : List (Option Hook)) (o : Option ℕ) → AreOnShelf shelf d → (n : ℕ) → machine.shelf_without o d.shelf n ≡ hook_at (shelf_without o shelf) n
 taken_stands d shelf None hooks n = hooks n
 taken_stands d shelf (Some k) hooks n = ap (λ q. if n == k then None else q) (hooks n) ∙ sym (without_one shelf k n)
 
@@ -257,7 +258,7 @@ idle_without : (slot n : ℕ) (active : Option ℕ) (t : Bool) → is_the active
 idle_without slot n active true idle = refl
 idle_without slot n active false idle = idle
 
-idle_arranged : (d : Desk) (task : ℕ) (call : Call) (n : ℕ) → class_of call ≡ OnAll → refusal d task call ≡ None → is_live (d.slot n) ≡ false
+idle_arranged : (d : Desk) (task : ℕ) (call : Call) (n : ℕ) → is_arrangement call ≡ true → refusal d task call ≡ None → is_live (d.slot n) ≡ false
     → is_the d.active n ≡ false → is_the (arranged d task call).active n ≡ false
 idle_arranged d task (Create slot make) n all done dead idle = idle
 idle_arranged d task (OpenWindow slot make framed nocare asks title) n all done dead idle = idle
@@ -276,9 +277,7 @@ idle_arranged d task (Activate slot) n all done dead idle = apart (slot == n) re
     apart : (t : Bool) → (slot == n) ≡ t → t ≡ false
     apart true is = absurd (cc (ap (λ k. is_live (d.slot k)) (eqb-true slot n is), live, dead))
     apart false is = refl
-idle_arranged d task (Blit source slot area) n all done dead idle =
-    absurd (blit_not_all (source == slot) source slot (ap (λ (k : CallClass). is_all (slots_in k)) all))
-idle_arranged d task call n all done dead idle = absurd (cc all)
+idle_arranged d task call n all done dead idle = absurd (false≢true all)
 
 -- Each slot's cell may be made ready.
 pub cells_may : (d : Desk) (v : Stack) (cells : List CellView) (task : ℕ) (call : Call) (a : ArrangementView) → AreOfDesk v cells d → AreNumbered v.sizes.slots cells
@@ -290,13 +289,12 @@ cells_may d v cells task call a are numbered done has sound room s below =
     let low : s < v.sizes.slots = omega (arith, numbered.many, below) in
     let number : c.number ≡ s = numbered.numbers s low in
     let before : StandsFor c (slot_part d c.number) = let P : ℕ → Type 0 = λ n. StandsFor c (slot_part d n) in subst P (sym number) (are.slots s low) in
-    let Q : State → Type 0 = λ t. IsPartOf t c.live (slot_part d c.number) in
     record {
       prepare = may_prepare d task call a (bare c) (hook_in c) done before (sound s below);
-      elsewhere = shown_elsewhere d v a (bare c) (hook_in c) are.info has before;
+      elsewhere = shown_elsewhere d v a (bare c) (hook_in c) are.sizes are.info has before;
       idle =
-          λ fresh.
-          let dead : is_live (d.slot c.number) ≡ false = ap is_live (subst Q fresh before).0 in
+          λ idle.
+          let dead : is_live (d.slot c.number) ≡ false = (idle_part c (slot_part d c.number) idle before).0 in
           ap (λ o. is_the o c.number) (sym done.plan.info.active)
           ∙ idle_arranged d task call c.number done.all done.unrefused dead (idle_slot d c.number done.sound dead);
       room = room s below;
@@ -396,8 +394,8 @@ step_after glyphs a w shelf left cells new (Ok q) R reply info taken changed hol
 step_after glyphs a w shelf left cells new (Err e) R reply info taken changed holds = tt
 
 -- What planning answered is done where it is a plan.
-pub plan_done : (d : Desk) (v : Stack) (cells : List CellView) (looks : List (Option Look)) (fresh : Bool) (task : ℕ) (call : Call) (q : Step) (a : ArrangementView) → AreOfDesk v cells d → AreNumbered v.sizes.slots cells → AreLooks cells looks → IsFreshSlot cells call fresh
-    → class_of call ≡ OnAll → IsTrue (call_fits v.sizes call) → ((e : Desk) → AreOf e v looks fresh call → IsStepOf e task call q) → KeepsSizes v.sizes q → q ≡ Arranged a → IsArrangement a → IsDone d task call a
+pub plan_done : (d : Desk) (v : Stack) (cells : List CellView) (looks : List (Option Look)) (fresh : Bool) (task : ℕ) (call : Call) (q : Step) (a : ArrangementView) → AreOfDesk v cells d → AreNumbered v.sizes.slots cells → AreLooks cells looks → IsFreshSlot v.sizes.version cells call fresh
+    → is_arrangement call ≡ true → IsTrue (call_fits v.sizes call) → ((e : Desk) → AreOf e v looks fresh call → IsStepOf e task call q) → KeepsSizes v.sizes q → q ≡ Arranged a → IsArrangement a → IsDone d task call a
 plan_done d v cells looks fresh task call q a are numbered truth says all fits step sizes is planned =
     let P : Step → Type 0 = λ p. IsStepOf d task call p in
     let Q : Step → Type 0 = λ p. KeepsSizes v.sizes p in

@@ -21,7 +21,7 @@ use Rattle.lw_arrange.proofs.BareLaws.{KeepsFrame, carried_bitmap, carried_bare,
 use Rattle.lw_arrange.proofs.GainedRegions.{filled_region}
 use Rattle.lw_arrange.proofs.GainsLaws.{stayed}
 use Rattle.lw_engine.specs.Slots.{hook_in, bare, asked_hook, due_hook, filled_from, filled_as, is_sized, MayBeReady}
-use Rattle.lw_engine.proofs.SettlingLaws.{none_filled, cell_is, state_of_cell, may_become}
+use Rattle.lw_engine.proofs.SettlingLaws.{none_filled, cell_is, cell_opened, state_of_cell, may_become}
 
 -- a cell whose layer without a hook is as it is filled, where nothing is filled
 left_as : (b e : CellView) (rects : List Rectangle) → IsBitmap e.live.layer.bits → e.live.layer.hook ≡ None → rects ≡ []
@@ -40,7 +40,7 @@ none_due : (a : ArrangementView) (shelf : List (Option Hook)) (c : CellView) (s 
     → due_hook a shelf c s ≡ None
 none_due a shelf c view.Unopened is = (no_hook_of (hook_in c) (asked_hook shelf a.call c.number) is).1
 none_due a shelf c view.Live is = (no_hook_of (hook_in c) (asked_hook shelf a.call c.number) is).0
-none_due a shelf c view.Closed is = refl
+none_due a shelf c view.Closed is = (no_hook_of (hook_in c) (asked_hook shelf a.call c.number) is).1
 
 abbrev no_rectangle : List Rectangle
 no_rectangle = []
@@ -90,16 +90,16 @@ filled_right a shelf c gained final held sized may sound idle canonical final_is
     final_none empty = final_is ∙ (ap (λ l. if held || sized then l else []) empty ∙ no_list (held || sized))
 
     -- a new layer without a hook
-    opened_right : (r : Rectangle) (o : Option Created) → held ≡ false → bounds_at a.stack.bounds n ≡ Some r → c.state ≡ view.Unopened
+    opened_right : (r : Rectangle) (o : Option Created) → held ≡ false → bounds_at a.stack.bounds n ≡ Some r → (c.state ≡ view.Live → ⊥)
         → created_by a.task a.call ≡ o → MayOpen o a.stack.sizes.depth r → filled_from b None e ≡ with_live (filled_as None final) e
-    opened_right r None off bounds fresh new may_open = absurd may_open
-    opened_right r (Some k) off bounds fresh new may_open =
+    opened_right r None off bounds dead new may_open = absurd may_open
+    opened_right r (Some k) off bounds dead new may_open =
         let depth = a.stack.sizes.depth in
         let made : CellView = record { number = n; state = view.Live; live = created_live (Some k) depth r (shown_at a n) } in
         let is : e ≡ made =
-        cell_is a c (Some r) view.Unopened bounds fresh ∙ ap (λ o. record { number = n; state = view.Live; live = created_live o depth r (shown_at a n) }) new
+        cell_opened a c r bounds dead ∙ ap (λ o. record { number = n; state = view.Live; live = created_live o depth r (shown_at a n) }) new
         in
-        let plain : is_framed c.live.layer.window ≡ false = ap (λ v. is_framed v.layer.window) (idle (λ l. cc (fresh, l))) in
+        let plain : is_framed c.live.layer.window ≡ false = ap (λ v. is_framed v.layer.window) (idle dead) in
         let P : CellView → Type 0 = λ v. filled_from b None v ≡ with_live (filled_as None final) v in
         subst P (sym is)
         (left_as b made final (blank_bitmap k.make.kind depth k.make) refl (final_none (without off plain))
@@ -133,9 +133,10 @@ filled_right a shelf c gained final held sized may sound idle canonical final_is
     by_cases None bounds view.Live state off = absurd (cc (state_of_cell _ _ (cell_is a c None view.Live bounds state), live))
     by_cases None bounds view.Closed state off = absurd (cc (state_of_cell e b (cell_is a c None view.Closed bounds state), state, live))
     by_cases (Some r) bounds view.Unopened state off =
-        bare_right off (opened_right r (created_by a.task a.call) off bounds state refl (may_become a c may r view.Unopened bounds state))
+        bare_right off (opened_right r (created_by a.task a.call) off bounds (λ l. cc (state, l)) refl (may_become a c may r view.Unopened bounds state))
     by_cases (Some r) bounds view.Live state off = by_frame r (is_framed c.live.layer.window) sized off bounds state refl refl
-    by_cases (Some r) bounds view.Closed state off = absurd (cc (state_of_cell e b (cell_is a c (Some r) view.Closed bounds state), state, live))
+    by_cases (Some r) bounds view.Closed state off =
+        bare_right off (opened_right r (created_by a.task a.call) off bounds (λ l. cc (state, l)) refl (may_become a c may r view.Closed bounds state))
 
     by_held : (t : Bool) → held ≡ t → filled_from b (due_hook a shelf c c.state) e ≡ with_live (filled_as (due_hook a shelf c c.state) final) e
     by_held true on =

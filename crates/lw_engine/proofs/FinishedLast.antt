@@ -14,9 +14,9 @@ use Rattle.lw_machine.specs.Finals.{pixels_where, shown_set, seen_of}
 use Rattle.lw_layer.specs.View.{State, LiveView, CellView}
 use Rattle.lw_layer.specs.View as view
 use Rattle.lw_layer.specs.StandsFor.{IsPartOf}
-use Rattle.lw_stack.specs.Stack.{Stack, is_first_at}
-use Rattle.lw_stack.proofs.ListLaws.{shown_is_first}
-use Rattle.lw_final_state.specs.Shown.{first_set, seen_as, seen_in}
+use Rattle.lw_stack.specs.Stack.{Stack, is_top_in}
+use Rattle.lw_stack.proofs.ListLaws.{shown_is_top}
+use Rattle.lw_final_state.specs.Shown.{top_set, seen_as, seen_in}
 use Rattle.lw_engine.specs.Desks.{cell_at, AreNumbered, AreOfDesk}
 use Rattle.lw_engine.specs.Finished.{AreSlotsOf}
 
@@ -26,11 +26,11 @@ slots_of_desk v cells d sizes is stands =
     let P : Sizes → Type 0 = λ z. AreSlotsOf z cells d in
     subst P (sym is) (record { sound = stands.sound; same_sizes = stands.sizes; slots = stands.slots })
 
--- a slot's layer is shown where it is the first of the list
-first_shown : (v : Stack) (cells : List CellView) (d : Desk) (s : ℕ) → AreOfDesk v cells d → first_set v s ≡ shown_set d s
-unfolding first_set shown_set
-first_shown v cells d s stands =
-    let same : (λ x y. is_first_at v.bounds v.front_to_back s (pos x) (pos y)) ≡ (λ x y. is_shown d s (pos x) (pos y)) = λ i. λ x y. (sym (shown_is_first v d stands.info s (pos x) (pos y))) i in
+-- a slot's layer is shown where it is on top by the list
+top_shown : (v : Stack) (cells : List CellView) (d : Desk) (s : ℕ) → AreOfDesk v cells d → top_set v s ≡ shown_set d s
+unfolding top_set shown_set
+top_shown v cells d s stands =
+    let same : (λ x y. is_top_in v s (pos x) (pos y)) ≡ (λ x y. is_shown d s (pos x) (pos y)) = λ i. λ x y. (sym (shown_is_top v d stands.sizes stands.info s (pos x) (pos y))) i in
     ap (λ test. pixels_where v.sizes.width v.sizes.height test) same
     ∙ ap (λ (z : Sizes). pixels_where z.width z.height (λ x y. is_shown d s (pos x) (pos y))) (sym stands.sizes)
 
@@ -47,7 +47,7 @@ slots_stand v cells d numbered stands =
     map_range_same v.sizes.slots (λ s. seen_in v (cell_at cells s)) (λ s. seen_of d s (d.slot s))
     (λ s low.
     let c = cell_at cells s in
-    seen_by d s c.state c.live (first_set v c.number) (ap (first_set v) (numbered.numbers s low) ∙ first_shown v cells d s stands) (stands.slots s low))
+    seen_by d s c.state c.live (top_set v c.number) (ap (top_set v) (numbered.numbers s low) ∙ top_shown v cells d s stands) (stands.slots s low))
     ∙ ap (λ (z : Sizes). map (λ s. seen_of d s (d.slot s)) (range_with_len 0 z.slots)) (sym stands.sizes)
 
 -- the replies of each task

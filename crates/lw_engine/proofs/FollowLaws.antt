@@ -4,7 +4,7 @@ use Rattle.lw_region.specs.Rectangle.{Rectangle}
 use Rattle.lw_machine.specs.Hook.{Hook}
 use Rattle.lw_machine.specs.Layer.{Layer, Window, is_window, changed_window}
 use Rattle.lw_machine.specs.Kept.{is_kept}
-use Rattle.lw_machine.specs.Reveal.{Across, is_damaged, window_told}
+use Rattle.lw_machine.specs.Reveal.{Across, is_damaged, window_with_messages}
 use Rattle.lw_layer.specs.View.{State, LiveView, CellView, keeps, with_layer, with_live, hooked}
 use Rattle.lw_layer.specs.View as view
 use Rattle.lw_layer.specs.Windows.{due_count, RoomWhere, HasRoom}
@@ -37,7 +37,7 @@ told_hooked h q c = by_window c.layer.window
     Told : Layer → Option Window → LiveView
     Told m o = record c {
       room = c.room - due_count q m o;
-      layer = record l { hook = h; window = changed_window (window_told q m) o };
+      layer = record l { hook = h; window = changed_window (window_with_messages q m) o };
     }
 
     by_window : (o : Option Window) → Told (with_hook h l) o ≡ Told l o

@@ -7,13 +7,13 @@ use Rattle.lw_region.specs.Rectangle.{Rectangle}
 use Rattle.lw_calls.specs.Assets.{Assets}
 use Rattle.lw_calls.specs.declared.area.Area.{Area}
 use Rattle.lw_calls.specs.declared.call.Call.{Call}
-use Rattle.lw_calls.specs.declared.call.Call.TheVariants.{Create, OpenWindow, Close, ToFront, ToBack, InFrontOf, MoveBy, SizeBy, SetBox, Activate, SetA, SetB, SetMode, SetMask, At, WritePixel, Fill, DrawTo, Letters, SetRast, ScrollRaster, Put, Blit, Clip, Unclip, BeginRefresh, EndRefresh, Scroll, SetTitle, TakeMessage}
+use Rattle.lw_calls.specs.declared.call.Call.TheVariants.{Create, OpenWindow, Close, ToFront, ToBack, InFrontOf, MoveBy, SizeBy, SetBox, Activate, SetHook, SetA, SetB, SetMode, SetMask, At, WritePixel, Fill, DrawTo, Letters, SetRast, ScrollRaster, Put, Blit, Clip, Unclip, BeginRefresh, EndRefresh, Scroll, SetTitle, TakeMessage}
 use Rattle.lw_calls.specs.declared.reply.Reply.{Reply}
 use Rattle.lw_calls.specs.declared.reply.Reply.TheVariants.{NotOpen, NotSuper, OutOfBounds}
 use Rattle.lw_calls.specs.Kinds.{is_super}
 use Rattle.lw_calls.specs.declared.touch.CallClass.{CallClass}
 use Rattle.lw_calls.specs.declared.touch.CallClass.TheVariants.{OnRegisters, OnInfo, OnLayer, OnLayers, OnAll}
-use Rattle.lw_calls.specs.Touches.{class_of}
+use Rattle.lw_calls.specs.Touches.{class_of, slots_in}
 use Rattle.lw_machine.specs.Hook.{Hook}
 use Rattle.lw_machine.specs.Layer.{Layer, Slot, Window, is_live, change_layer, changed_window, change_window}
 use Rattle.lw_machine.specs.Layer as layer
@@ -29,8 +29,9 @@ use Rattle.lw_machine.specs.Step.{refuse, refuse_not_open, refuse_unless_open, f
 use Rattle.lw_engine_trait.proofs.ClassLaws.{ArePair, pair_told, pair_apart}
 use Rattle.lw_layer.specs.View.{State, LiveView, CellView, with_layer, hooked}
 use Rattle.lw_layer.specs.View as view
-use Rattle.lw_layer.specs.StandsFor.{IsPartOf, StandsFor}
+use Rattle.lw_layer.specs.StandsFor.{slot_of, IsPartOf, StandsFor}
 use Rattle.lw_layer_calls.specs.Parts.{IsSlotStep, IsLayerStep, IsPairStep}
+use Rattle.lw_layer_calls.proofs.OneLayerLaws.{class_refusal}
 
 -- the layer with this hook
 abbrev pub with_hook : Option Hook → Layer → Layer
@@ -111,8 +112,13 @@ alone_at d task (MoveBy slot dx dy) is = absurd (false≢true is)
 alone_at d task (SizeBy slot dw dh) is = absurd (false≢true is)
 alone_at d task (SetBox slot x y width height) is = absurd (false≢true is)
 alone_at d task (Activate slot) is = absurd (false≢true is)
+alone_at d task (SetHook slot hook) is = absurd (false≢true is)
 alone_at d task (Blit m n a) is = alone_blit d task m n a (m == n) refl is
 alone_at d task call is = record { refuses = refl; answers = refl; changes = refl }
+
+-- the refusal of a call on one layer
+on_refusal : (d : Desk) (task n : ℕ) (call : Call) → class_of call ≡ OnLayer n → refusal d task call ≡ refuse_not_open (d.slot n) (further_refusal d task call)
+on_refusal d task n call class = class_refusal d task call (OnLayer n) class (λ other. cc other)
 
 alone : (d : Desk) (task n : ℕ) (call : Call) → class_of call ≡ OnLayer n → IsLike (λ p. p) d (filled d (d.slot n)) task n call
 unfolding top
@@ -121,9 +127,7 @@ alone d task n call class =
     let P : ℕ → Type 0 = λ k. IsAlone d task k call in
     let same : IsAlone d task n call = subst P (ap layer_of class) (alone_at d task call (ap is_on_layer class)) in
     like (λ p. p) d e task n call
-    (ap (λ (k : CallClass). refuse_unless_open d k (further_refusal d task call)) class ∙
-    (ap (λ o. refuse_not_open (d.slot n) o) same.refuses ∙
-    sym (ap (λ (k : CallClass). refuse_unless_open e k (further_refusal e task call)) class)))
+    (on_refusal d task n call class ∙ (ap (λ o. refuse_not_open (d.slot n) o) same.refuses ∙ sym (on_refusal e task n call class)))
     same.answers refl same.changes
 
 -- a change that takes no notice of the hook
@@ -182,6 +186,7 @@ blind_at h d task (MoveBy slot dx dy) l is = absurd (false≢true is)
 blind_at h d task (SizeBy slot dw dh) l is = absurd (false≢true is)
 blind_at h d task (SetBox slot x y width height) l is = absurd (false≢true is)
 blind_at h d task (Activate slot) l is = absurd (false≢true is)
+blind_at h d task (SetHook slot hook) l is = absurd (false≢true is)
 blind_at h d task (Scroll slot dx dy) l is =
     record {
       refuses = ap (λ t. refuse (not (is_super l.kind)) NotSuper (refuse (not t) OutOfBounds None)) (scroll_alike h (d.bounds slot) dx dy l);
@@ -213,6 +218,7 @@ effect_alike h d task (MoveBy slot dx dy) l is = absurd (false≢true is)
 effect_alike h d task (SizeBy slot dw dh) l is = absurd (false≢true is)
 effect_alike h d task (SetBox slot x y width height) l is = absurd (false≢true is)
 effect_alike h d task (Activate slot) l is = absurd (false≢true is)
+effect_alike h d task (SetHook slot hook) l is = absurd (false≢true is)
 effect_alike h d task (SetA slot pen) l is = changed_alike h d slot l (with_pen_a pen) (with_pen_a pen) refl
 effect_alike h d task (SetB slot pen) l is = changed_alike h d slot l (with_pen_b pen) (with_pen_b pen) refl
 effect_alike h d task (SetMode slot mode) l is = changed_alike h d slot l (with_mode mode) (with_mode mode) refl
@@ -250,7 +256,7 @@ unfolding after
 idle_alike h d task n call s class idle plain =
     let e : Desk = filled d s in
     let refused : refusal e task call ≡ Some NotOpen =
-    ap (λ (k : CallClass). refuse_unless_open e k (further_refusal e task call)) class ∙
+    on_refusal e task n call class ∙
     ap (λ live. refuse (not live) NotOpen (further_refusal e task call)) idle in
     let stays : slot_part (after e task call) n ≡ slot_part e n = ap (λ o. slot_part (changed_unless o e (effect e task call)) n) refused in
     record {
@@ -269,8 +275,7 @@ blind h d task n call (layer.Live l) class =
     let same : IsBlind h d task call l = blind_at h d task call l (ap is_on_layer class) in
     let changes : IsChangedAlike h d task n call l = subst P (ap layer_of class) (effect_alike h d task call l (ap is_on_layer class)) in
     like (hooked_part h) e f task n call
-    (ap (λ (k : CallClass). refuse_unless_open e k (further_refusal e task call)) class ∙
-    (same.refuses ∙ sym (ap (λ (k : CallClass). refuse_unless_open f k (further_refusal f task call)) class)))
+    (on_refusal e task n call class ∙ (same.refuses ∙ sym (on_refusal f task n call class)))
     same.answers refl changes
 blind h d task n call layer.Closed class = idle_alike h d task n call layer.Closed class refl refl
 
@@ -299,7 +304,7 @@ pair_refused_alike g h s t =
 
 pair_refuses : (d : Desk) (task m n : ℕ) (a : Area) (s t : Slot) → (m == n) ≡ false → d.slot m ≡ s → d.slot n ≡ t → refusal d task (Blit m n a) ≡ pair_refusal s t
 pair_refuses d task m n a s t apart from to =
-    ap (λ b. refuse_unless_open d (if b then OnLayer n else OnLayers m n) None) apart ∙
+    ap (λ b. refuse_unless_open d (slots_in (if b then OnLayer n else OnLayers m n)) None) apart ∙
     (ap (λ (k : Slot). pair_refusal k (d.slot n)) from ∙ ap (λ (k : Slot). pair_refusal s k) to)
 
 -- what a blit makes of the second of two slots
@@ -350,24 +355,18 @@ two_layers_second g h d task m n a s t apart from to =
     (pair_refused_alike g h s t ∙ sym (pair_refuses e task m n a s t apart source there)))
     refl (ap (λ (q : Slot). record (slot_part d n) { slot = q }) before) (ap (λ (q : Slot). record (slot_part d n) { slot = q }) leaves)
 
--- what a slot holds, by a cell's state and its live layer
-abbrev held : State → LiveView → Slot
-held view.Unopened c = layer.Unopened
-held view.Live c = layer.Live c.layer
-held view.Closed c = layer.Closed
-
 -- a part for which a cell with a hook stands is that of the cell with the hook
-hooked_held : (h : Option Hook) (s : State) (c : LiveView) (p : SlotPart) → IsPartOf s (with_layer (λ l. with_hook h l) c) p → p.slot ≡ hooked_slot h (held s c)
+hooked_held : (h : Option Hook) (s : State) (c : LiveView) (p : SlotPart) → IsPartOf s (with_layer (λ l. with_hook h l) c) p → p.slot ≡ hooked_slot h (slot_of s c)
 hooked_held h view.Unopened c p is = is.0
 hooked_held h view.Live c p is = is.slot
 hooked_held h view.Closed c p is = is.0
 
-unhooked_part : (h : Option Hook) (s : State) (c : LiveView) (p : SlotPart) → IsPartOf s (with_layer (λ l. with_hook h l) c) p → IsPartOf s c (record p { slot = held s c })
+unhooked_part : (h : Option Hook) (s : State) (c : LiveView) (p : SlotPart) → IsPartOf s (with_layer (λ l. with_hook h l) c) p → IsPartOf s c (record p { slot = slot_of s c })
 unhooked_part h view.Unopened c p is = (refl, is.1)
 unhooked_part h view.Live c p is = record { slot = refl; bounds = is.bounds; shown = is.shown; active = is.active }
 unhooked_part h view.Closed c p is = (refl, is.1)
 
-rehooked_part : (h : Option Hook) (s : State) (c : LiveView) (p : SlotPart) → IsPartOf s c p → IsPartOf s (with_layer (λ l. with_hook h l) c) (hooked_part h p)
+pub rehooked_part : (h : Option Hook) (s : State) (c : LiveView) (p : SlotPart) → IsPartOf s c p → IsPartOf s (with_layer (λ l. with_hook h l) c) (hooked_part h p)
 rehooked_part h view.Unopened c p is = (ap (hooked_slot h) is.0, is.1)
 rehooked_part h view.Live c p is = record { slot = ap (hooked_slot h) is.slot; bounds = is.bounds; shown = is.shown; active = is.active }
 rehooked_part h view.Closed c p is = (ap (hooked_slot h) is.0, is.1)
@@ -378,7 +377,7 @@ unfolding top
 hooked_step h task c new regs assets call r class same step =
     λ d stands registers handed.
     let n : ℕ = c.number in
-    let s : Slot = held c.state c.live in
+    let s : Slot = slot_of c.state c.live in
     let e : Desk = filled d s in
     let law : IsLike (hooked_part h) d e task n call = one_layer_unhooked h d task n call s class (hooked_held h c.state c.live (slot_part d n) stands) in
     let done : IsSlotStep e task n call r new = step e (unhooked_part h c.state c.live (slot_part d n) stands) registers handed in
@@ -393,8 +392,8 @@ hooked_blit g h source to new a r apart step =
     let m : ℕ = source.number in
     let n : ℕ = to.number in
     let call : Call = Blit m n a in
-    let s : Slot = held source.state source.live in
-    let t : Slot = held to.state to.live in
+    let s : Slot = slot_of source.state source.live in
+    let t : Slot = slot_of to.state to.live in
     let e : Desk = paired d n s t in
     let first_held : d.slot m ≡ hooked_slot g s = hooked_held g source.state source.live (slot_part d m) from in
     let second_held : d.slot n ≡ hooked_slot h t = hooked_held h to.state to.live (slot_part d n) stands in

@@ -12,6 +12,7 @@ pub mod FinishedDesk
 pub mod FinishedLast
 pub mod ArrangingLists
 pub mod ArrangingDesks
+pub mod HookSetting
 pub mod HookLaws
 pub mod FewRectangles
 pub mod ExchangeSums

@@ -11,11 +11,11 @@ use Rattle.lw_calls.specs.declared.make.Make.{Make}
 use Rattle.lw_calls.specs.declared.message.Message.TheVariants.{Refresh}
 use Rattle.lw_calls.specs.Kinds.{is_super}
 use Rattle.lw_machine.specs.Hook.{Hook}
-use Rattle.lw_machine.specs.Layer.{Layer, Window, is_framed, changed_window, asks_for}
+use Rattle.lw_machine.specs.Layer.{Layer, Window, is_framed, changed_window, wants}
 use Rattle.lw_machine.specs.Paint.{with_pens, pen_within}
 use Rattle.lw_machine.specs.Desk.{is_the}
 use Rattle.lw_machine.specs.Arrangement.{bounds_of, new_layer}
-use Rattle.lw_machine.specs.Reveal.{Across, resized, with_revealed, revealed, frame_is_due, in_frame, framing_pen, framed_by, with_frame, with_due_frame, is_damaged, messages_due, refresh_is_put, window_told, with_messages, settled_layer}
+use Rattle.lw_machine.specs.Reveal.{Across, at_new_size, with_revealed, revealed, frame_is_due, in_frame, framing_pen, framed_by, with_frame, with_due_frame, is_damaged, messages_due, refresh_is_put, window_with_messages, with_messages, settled_layer}
 use Rattle.lw_machine.specs.Reveal as reveal
 use Rattle.lw_machine.proofs.RevealSound.{frameless_by}
 use Rattle.lw_layer.specs.View.{LiveView, CellView, keeps, with_live}
@@ -39,7 +39,7 @@ revealed_window : (q : Across) (l : Layer) → (revealed q l).window ≡ l.windo
 unfolding revealed
 revealed_window q l = go (is_super l.kind)
   where
-    go : (b : Bool) → (if b then l else with_revealed q l (resized q l)).window ≡ l.window
+    go : (b : Bool) → (if b then l else with_revealed q l (at_new_size q l)).window ≡ l.window
     go true = refl
     go false = refl
 
@@ -127,11 +127,11 @@ created_across a n r active = record (across_arrangement a n None no_layer r) { 
 
 -- Its window is due no message, where it isn't damaged.
 untold : (a : ArrangementView) (n : ℕ) (r : Rectangle) (l : Layer) (o : Option Window) → is_damaged l ≡ false
-    → changed_window (window_told (created_across a n r false) l) o ≡ o
+    → changed_window (window_with_messages (created_across a n r false) l) o ≡ o
 untold a n r l None none = refl
 untold a n r l (Some w) none =
     let q = created_across a n r false in
-    let put : refresh_is_put l w ≡ false = ap (λ t. (t && not w.asked) && (asks_for w Refresh && not w.nocare)) none in
+    let put : refresh_is_put l w ≡ false = ap (λ t. (t && not w.asked) && (wants w Refresh && not w.nocare)) none in
     let none_due : messages_due q l w ≡ [] = ap (λ t. if t then Refresh ∷ [] else []) put in
     ap (λ ms. Some (record w { port = w.port ++ ms; asked = w.asked || refresh_is_put l w })) none_due
     ∙ (ap (λ p. Some (record w { port = p; asked = w.asked || refresh_is_put l w })) (append-nil w.port)
@@ -170,26 +170,26 @@ live_filled a c r live sound =
     ∙ ap (λ s. record { number = c.number; state = s; live = record e.live { layer = revealed (across_live a c r) c.live.layer } }) live
 
 -- And so it is with a new layer.
-pub new_filled : (a : ArrangementView) (c : CellView) (r : Rectangle) (make : Make) (window : Option Window) (depth : ℕ) (h : Option Hook) → c.state ≡ view.Unopened
+pub new_filled : (a : ArrangementView) (c : CellView) (r : Rectangle) (make : Make) (window : Option Window) (depth : ℕ) (h : Option Hook) → (c.state ≡ view.Live → ⊥)
     → r ≡ bounds_of make
     → filled_from (bare c) h (created (bare c) make depth r (shown_at a c.number) window)
     ≡ placed a c.number false r 0 (revealed (created_across a c.number r false) (new_layer depth make h window))
-new_filled a c r make window depth h fresh place =
+new_filled a c r make window depth h idle place =
     let b = bare c in
     let e = created b make depth r (shown_at a c.number) window in
     let Filled : Layer → CellView = λ l. record e { live = record e.live { layer = l } } in
     let Bounds : Rectangle → Layer = λ s. revealed (record (created_across a c.number r false) { new_bounds = Some s }) (new_layer depth make h window) in
     ap Filled
-    (sym (new_revealed b make depth r (shown_at a c.number) window h (λ x y. covers no_layer.visible x y) false false fresh place)
+    (sym (new_revealed b make depth r (shown_at a c.number) window h (λ x y. covers no_layer.visible x y) false false idle place)
     ∙ ap Bounds (sym place))
 
 -- its damage is that of the new layer
-pub new_undamaged : (a : ArrangementView) (c : CellView) (r : Rectangle) (make : Make) (window : Option Window) (depth : ℕ) (h : Option Hook) → c.state ≡ view.Unopened
+pub new_undamaged : (a : ArrangementView) (c : CellView) (r : Rectangle) (make : Make) (window : Option Window) (depth : ℕ) (h : Option Hook) → (c.state ≡ view.Live → ⊥)
     → r ≡ bounds_of make
     → (revealed (created_across a c.number r false) (new_layer depth make h window)).damage
     ≡ grid (revealed (created_across a c.number r false) (new_layer depth make h window)).bits.width
     (revealed (created_across a c.number r false) (new_layer depth make h window)).bits.height (λ x y. false)
 unfolding with_pens
-new_undamaged a c r make window depth h fresh place =
+new_undamaged a c r make window depth h idle place =
     let P : CellView → Type 0 = λ v. v.live.layer.damage ≡ grid v.live.layer.bits.width v.live.layer.bits.height (λ x y. false) in
-    subst P (new_filled a c r make window depth h fresh place) refl
+    subst P (new_filled a c r make window depth h idle place) refl

@@ -18,6 +18,7 @@ use Rattle.lw_layer.specs.View.{State, LiveView, CellView, keeps, with_layer, wi
 use Rattle.lw_layer.specs.View as view
 use Rattle.lw_layer.specs.Drafts.{no_layer}
 use Rattle.lw_layer.specs.StandsFor.{IsSound}
+use Rattle.lw_layer.specs.declared.draft.LiveDraft.{LiveDraft}
 use Rattle.lw_frames.specs.Framing.{with_own_frame}
 use Rattle.lw_stack.specs.Stack.{bounds_at}
 use Rattle.lw_arrange.specs.declared.preparing.Becomes.{Becomes}
@@ -129,6 +130,25 @@ cell_is a c (Some r) s bounds state =
     ap (becomes (created_by a.task a.call) a.stack.sizes.depth (shown_at a c.number) (bare c)) bounds
     ∙ ap (with_bounds (created_by a.task a.call) a.stack.sizes.depth r (shown_at a c.number) (bare c)) state
 
+-- a slot without a layer that has bounds afterwards has a new layer
+pub cell_opened : (a : ArrangementView) (c : CellView) (r : Rectangle) → bounds_at a.stack.bounds c.number ≡ Some r → (c.state ≡ view.Live → ⊥)
+    → cell_after a (bare c)
+    ≡ record { number = c.number; state = view.Live; live = created_live (created_by a.task a.call) a.stack.sizes.depth r (shown_at a c.number) }
+cell_opened a c r bounds idle = by_state c.state refl
+  where
+    by_state : (s : State) → c.state ≡ s → cell_after a (bare c)
+        ≡ record { number = c.number; state = view.Live; live = created_live (created_by a.task a.call) a.stack.sizes.depth r (shown_at a c.number) }
+    by_state view.Unopened state = cell_is a c (Some r) view.Unopened bounds state
+    by_state view.Live state = absurd (idle state)
+    by_state view.Closed state = cell_is a c (Some r) view.Closed bounds state
+
+-- and that one has the hook that is asked for
+due_asked : (a : ArrangementView) (shelf : List (Option Hook)) (c : CellView) (s : State) → (s ≡ view.Live → ⊥)
+    → due_hook a shelf c s ≡ asked_hook shelf a.call c.number
+due_asked a shelf c view.Unopened idle = refl
+due_asked a shelf c view.Live idle = absurd (idle refl)
+due_asked a shelf c view.Closed idle = refl
+
 pub state_of_cell : (u v : CellView) → u ≡ v → u.state ≡ v.state
 state_of_cell u v is = ap (λ (q : CellView). q.state) is
 
@@ -180,25 +200,41 @@ ready_settled glyphs a shelf c p gained w may sound ready filled after = by_case
         ∙ live_settled glyphs a c r w f (is ∙ live_filled a c r live (sound live)) (after live r bounds)
 
     -- a new layer
-    opened_new : (r : Rectangle) (o : Option Created) → bounds_at a.stack.bounds n ≡ Some r → c.state ≡ view.Unopened
+    slot_opened : (r : Rectangle) (s : State) → bounds_at a.stack.bounds n ≡ Some r → c.state ≡ s → (s ≡ view.Live → ⊥)
+        → slot_after glyphs a shelf c
+        ≡ record { number = n; state = view.Live; live = settled_new glyphs a n r (new_of (created_by a.task a.call) a.stack.sizes.depth h) }
+    slot_opened r view.Unopened bounds state idle = slot_is (Some r) view.Unopened bounds state
+    slot_opened r view.Live bounds state idle = absurd (idle refl)
+    slot_opened r view.Closed bounds state idle = slot_is (Some r) view.Closed bounds state
+
+    opened_new : (r : Rectangle) (o : Option Created) → bounds_at a.stack.bounds n ≡ Some r → (c.state ≡ view.Live → ⊥)
         → created_by a.task a.call ≡ o → MayOpen o a.stack.sizes.depth r → e.state ≡ view.Live
         → slot_after glyphs a shelf c ≡ with_live (λ k. with_own_frame glyphs false (filled_as h gained k)) e
-    opened_new r None bounds fresh new may_open live = absurd may_open
-    opened_new r (Some k) bounds fresh new may_open live =
+    opened_new r None bounds idle new may_open live = absurd may_open
+    opened_new r (Some k) bounds idle new may_open live =
         let depth = a.stack.sizes.depth in
         let made : CellView = record { number = n; state = view.Live; live = created_live (Some k) depth r (shown_at a n) } in
         let cell : e ≡ made =
-        cell_is a c (Some r) view.Unopened bounds fresh ∙ ap (λ o. record { number = n; state = view.Live; live = created_live o depth r (shown_at a n) }) new
+        cell_opened a c r bounds idle ∙ ap (λ o. record { number = n; state = view.Live; live = created_live o depth r (shown_at a n) }) new
         in
         let layer = new_of (Some k) depth h in
-        let P : State → Type 0 = λ s. filled_from b (due_hook a shelf c s) e ≡ with_live (filled_as (due_hook a shelf c s) gained) e in
-        let right : filled_from b h e ≡ with_live (filled_as h gained) e = subst P fresh (filled live) in
+        let P : Option Hook → Type 0 = λ k. filled_from b k e ≡ with_live (filled_as k gained) e in
+        let right : filled_from b h e ≡ with_live (filled_as h gained) e = subst P (due_asked a shelf c c.state idle) (filled live) in
         let place = may_open.size.place in
-        slot_is (Some r) view.Unopened bounds fresh
+        slot_opened r c.state bounds refl idle
         ∙ (ap (λ o. record { number = n; state = view.Live; live = settled_new glyphs a n r (new_of o depth h) }) new
-        ∙ new_settled glyphs a n r layer (with_live (filled_as h gained) e) (may.idle fresh)
-        (sym right ∙ (ap (filled_from b h) cell ∙ new_filled a c r k.make k.window depth h fresh place))
-        (new_undamaged a c r k.make k.window depth h fresh place))
+        ∙ new_settled glyphs a n r layer (with_live (filled_as h gained) e) (may.idle idle)
+        (sym right ∙ (ap (filled_from b h) cell ∙ new_filled a c r k.make k.window depth h idle place))
+        (new_undamaged a c r k.make k.window depth h idle place))
+
+    opened : (r : Rectangle) (d : LiveDraft) → IsPrepared b e (Opens d) → bounds_at a.stack.bounds n ≡ Some r
+        → MayOpen (created_by a.task a.call) a.stack.sizes.depth r → IsSettledBy glyphs c (slot_after glyphs a shelf c) gained h w (Opens d)
+    opened r d ready bounds may_open = (
+      ready.0,
+      ready.1,
+      opened_new r (created_by a.task a.call) bounds ready.0 refl may_open (state_of_cell _ _ ready.2)
+          ∙ ap (λ v. with_live (λ k. with_own_frame glyphs false (filled_as h gained k)) v) ready.2,
+    )
 
     still : (s : State) → c.state ≡ s → IsStill glyphs c (slot_after glyphs a shelf c) w s → IsSettledBy glyphs c (slot_after glyphs a shelf c) gained h w Stays
     still s state is = let P : State → Type 0 = λ t. IsStill glyphs c (slot_after glyphs a shelf c) w t in subst P (sym state) is
@@ -211,20 +247,15 @@ ready_settled glyphs a shelf c p gained w may sound ready filled after = by_case
     by_cases None bounds view.Unopened state (Changes k) ready = absurd (cc (state, ready.0))
     by_cases None bounds view.Live state Stays ready = absurd (cc (state_of_cell _ _ (cell_is a c None view.Live bounds state), state))
     by_cases None bounds view.Live state Closes ready = (state, slot_is None view.Live bounds state)
-    by_cases None bounds view.Live state (Opens d) ready = absurd (cc (state, ready.0))
+    by_cases None bounds view.Live state (Opens d) ready = absurd (ready.0 state)
     by_cases None bounds view.Live state (Changes k) ready = absurd (cc (state_of_cell _ _ (cell_is a c None view.Live bounds state), state, state_of_cell _ _ ready.2))
     by_cases None bounds view.Closed state Stays ready = still view.Closed state (slot_is None view.Closed bounds state)
     by_cases None bounds view.Closed state Closes ready = absurd (cc (state, ready.0))
-    by_cases None bounds view.Closed state (Opens d) ready = absurd (cc (state, ready.0))
+    by_cases None bounds view.Closed state (Opens d) ready = absurd (cc (state_of_cell e b (cell_is a c None view.Closed bounds state), state, state_of_cell _ _ ready.2))
     by_cases None bounds view.Closed state (Changes k) ready = absurd (cc (state, ready.0))
     by_cases (Some r) bounds view.Unopened state Stays ready = absurd (cc (state_of_cell _ _ (cell_is a c (Some r) view.Unopened bounds state), state))
     by_cases (Some r) bounds view.Unopened state Closes ready = absurd (cc (state, ready.0))
-    by_cases (Some r) bounds view.Unopened state (Opens d) ready = (
-      state,
-      ready.1,
-      opened_new r (created_by a.task a.call) bounds state refl (may_become a c may r view.Unopened bounds state) (state_of_cell _ _ ready.2)
-          ∙ ap (λ v. with_live (λ k. with_own_frame glyphs false (filled_as h gained k)) v) ready.2,
-    )
+    by_cases (Some r) bounds view.Unopened state (Opens d) ready = opened r d ready bounds (may_become a c may r view.Unopened bounds state)
     by_cases (Some r) bounds view.Unopened state (Changes k) ready = absurd (cc (state, ready.0))
     by_cases (Some r) bounds view.Live state Stays ready =
         still view.Live state (
@@ -237,7 +268,7 @@ ready_settled glyphs a shelf c p gained w may sound ready filled after = by_case
         )
     by_cases (Some r) bounds view.Live state Closes ready =
         absurd (cc (state_of_cell _ _ (cell_is a c (Some r) view.Live bounds state), state, state_of_cell _ _ ready.1))
-    by_cases (Some r) bounds view.Live state (Opens d) ready = absurd (cc (state, ready.0))
+    by_cases (Some r) bounds view.Live state (Opens d) ready = absurd (ready.0 state)
     by_cases (Some r) bounds view.Live state (Changes k) ready =
         let live : e.state ≡ view.Live = state_of_cell _ _ ready.2 ∙ state in
         let P : State → Type 0 = λ s. filled_from b (due_hook a shelf c s) e ≡ with_live (filled_as (due_hook a shelf c s) gained) e in
@@ -251,7 +282,7 @@ ready_settled glyphs a shelf c p gained w may sound ready filled after = by_case
               (ap (with_live (filled_as (hook_in c) gained)) (sym ready.2)
               ∙ (sym right ∙ ap (filled_from b (hook_in c)) (cell_is a c (Some r) view.Live bounds state))),
         )
-    by_cases (Some r) bounds view.Closed state Stays ready = still view.Closed state (slot_is (Some r) view.Closed bounds state)
+    by_cases (Some r) bounds view.Closed state Stays ready = absurd (cc (state_of_cell _ _ (cell_is a c (Some r) view.Closed bounds state), state))
     by_cases (Some r) bounds view.Closed state Closes ready = absurd (cc (state, ready.0))
-    by_cases (Some r) bounds view.Closed state (Opens d) ready = absurd (cc (state, ready.0))
+    by_cases (Some r) bounds view.Closed state (Opens d) ready = opened r d ready bounds (may_become a c may r view.Closed bounds state)
     by_cases (Some r) bounds view.Closed state (Changes k) ready = absurd (cc (state, ready.0))

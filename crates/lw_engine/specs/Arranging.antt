@@ -1,26 +1,28 @@
--- What a call makes of LayerInfo, the shelf of hooks and all slots (`IsAllStep`, `DropHooks`), and words of this crate's private
--- contracts on what is prepared for it.
-use Rattle.std.specs.Prelude.{◌≡◌, ◌↔◌, ℕ, ◌<◌, ◌≤◌, Bool, List, [], length, slice_set, IsTrue, Option, None}
+-- What a call makes of LayerInfo, the shelf of hooks and all slots (`IsAllStep`, `DropHooks`, `ReplacesHook`), and words of this
+-- crate's private contracts.
+use Rattle.std.specs.Prelude.{◌≡◌, ℕ, ◌<◌, ◌≤◌, Bool, List, [], length, slice_set, Option, Some, None}
 use Rattle.std.specs.List.{slice_index_or}
 use Rattle.lw_region.specs.Rectangle.{Rectangle}
 use Rattle.lw_calls.specs.Assets.{Assets}
 use Rattle.lw_calls.specs.declared.call.Call.{Call}
-use Rattle.lw_calls.specs.declared.call.Call.TheVariants.{Create, OpenWindow}
+use Rattle.lw_calls.specs.declared.call.Call.TheVariants.{Create, OpenWindow, SetHook}
 use Rattle.lw_calls.specs.declared.reply.Reply.{Reply}
+use Rattle.lw_calls.specs.declared.reply.Reply.TheVariants.{Done, NotOpen}
 use Rattle.lw_machine.specs.Hook.{Hook}
+use Rattle.lw_machine.specs.Layer.{may_open}
 use Rattle.lw_machine.specs.Desk.{Desk}
 use Rattle.lw_machine.specs.Arrangement.{hook_from}
 use Rattle.lw_machine.specs.Step.{after, reply}
-use Rattle.lw_layer.specs.View.{CellView}
+use Rattle.lw_layer.specs.View.{State, CellView, hooked}
 use Rattle.lw_layer.specs.View as view
 use Rattle.lw_layer.specs.Looks.{IsLookAt}
-use Rattle.lw_layer.specs.StandsFor.{IsSound}
+use Rattle.lw_layer.specs.StandsFor.{IsSound, slot_of}
 use Rattle.lw_layer.specs.declared.look.Look.{Look}
 use Rattle.lw_strips.specs.Strips.{rects_of}
 use Rattle.lw_stack.specs.Stack.{Stack}
 use Rattle.lw_arrange.specs.Arrangements.{ArrangementView}
 use Rattle.lw_engine.specs.Desks.{AreOfDesk, AreOnShelf, hook_at, no_cell, cell_at}
-use Rattle.lw_engine.specs.Slots.{hook_in, bare, ReadyView, IsSettled, IsReadyFor, nothing_ready}
+use Rattle.lw_engine.specs.Slots.{hook_in, bare, shelf_without, ReadyView, IsSettled, IsReadyFor, nothing_ready}
 
 -- What a call on all layers answers and leaves in each desk with these parts and this shelf of hooks, to which this was handed
 -- in.
@@ -33,6 +35,20 @@ IsAllStep assets v shelf cells task call r new_v new_shelf new_cells =
 abbrev pub DropHooks : List CellView → List CellView → Type 0
 DropHooks slots new =
     (s : ℕ) → s < length slots → (cell_at slots s).state ≡ view.Live → (cell_at new s).state ≡ view.Closed → hook_in (cell_at new s) ≡ None
+
+-- a layer whose hook was replaced has the shelf's hook of that number, or none where the shelf hasn't got it, and no former one
+abbrev pub ReplacesHook : Call → List (Option Hook) → List CellView → List CellView → Type 0
+ReplacesHook (SetHook slot n) shelf slots new =
+    (cell_at slots slot).state ≡ view.Live → hook_in (cell_at new slot) ≡ hook_at shelf n
+ReplacesHook call shelf slots new = Unit {0}
+
+-- What becomes of the shelf and of the slots where the hook of this number is set in a slot that is in this state: the layer
+-- takes it from the shelf, and no slot but a live one has a layer.
+abbrev pub IsHookSet : State → List (Option Hook) → List CellView → ℕ → ℕ → Reply → List (Option Hook) → List CellView → Type 0
+IsHookSet view.Live shelf slots slot n r new_shelf new =
+    (r ≡ Done) × (new_shelf ≡ shelf_without (Some n) shelf)
+    × (new ≡ slice_set slots slot (hooked (hook_at shelf n) (cell_at slots slot)))
+IsHookSet idle shelf slots slot n r new_shelf new = (r ≡ NotOpen) × (new_shelf ≡ shelf) × (new ≡ slots)
 
 -- what is told of a slot's cell is so, and a live one is sound, its hook aside
 pub record IsTruth (c : CellView) (k : Option Look) : Type 0 where
@@ -48,11 +64,13 @@ pub record ForEach {A B : Type 0} (P : A → B → Type 0) (a : A) (b : B) (xs :
 abbrev pub AreLooks : List CellView → List (Option Look) → Type 0
 AreLooks cells looks = ForEach IsTruth no_cell None cells looks
 
--- the flag says whether the slot that a call creates or opens a layer in is unopened
-abbrev pub IsFreshSlot : List CellView → Call → Bool → Type 0
-IsFreshSlot cells (Create slot make) fresh = IsTrue fresh ↔ ((cell_at cells slot).state ≡ view.Unopened)
-IsFreshSlot cells (OpenWindow slot make framed nocare asks title) fresh = IsTrue fresh ↔ ((cell_at cells slot).state ≡ view.Unopened)
-IsFreshSlot cells call fresh = Unit {0}
+-- the flag says whether in this version a layer may be created in the slot that a call creates or opens one in
+abbrev pub IsFreshSlot : ℕ → List CellView → Call → Bool → Type 0
+IsFreshSlot version cells (Create slot make) fresh =
+    fresh ≡ may_open version (slot_of (cell_at cells slot).state (cell_at cells slot).live)
+IsFreshSlot version cells (OpenWindow slot make framed nocare asks title) fresh =
+    fresh ≡ may_open version (slot_of (cell_at cells slot).state (cell_at cells slot).live)
+IsFreshSlot version cells call fresh = Unit {0}
 
 -- the slot that a call creates or opens a layer in is one of so many
 abbrev pub HasSlot : ℕ → Call → Type 0

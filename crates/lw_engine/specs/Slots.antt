@@ -42,7 +42,7 @@ asked_hook shelf (Create slot make) n = if n == slot then hook_from (hook_at she
 asked_hook shelf (OpenWindow slot make framed nocare asks title) n = if n == slot then hook_from (hook_at shelf) make.hook else None
 asked_hook shelf call n = None
 
--- the shelf without a hook that is asked for, and after a call that is done
+-- the shelf without a hook that is asked for, and after an arrangement that is done
 abbrev pub shelf_without : Option ℕ → List (Option Hook) → List (Option Hook)
 shelf_without None shelf = shelf
 shelf_without (Some n) shelf = slice_set shelf n None
@@ -59,18 +59,17 @@ slot_after glyphs a shelf c = slot_settled glyphs a (asked_hook shelf a.call c.n
 -- Words of this crate's private contracts.
 
 -- a slot may be made ready for the arrangement: its cell may be prepared, and shows what the plan says outside the area, it isn't
--- to be the active window before it is opened, and a window's port has room for all messages that it may be due
+-- to be the active window unless it is live, and a window's port has room for all messages that it may be due
 pub record MayBeReady (a : ArrangementView) (c : CellView) : Type 0 where
   pub prepare : MayPrepare a (bare c)
   pub elsewhere : IsShownElsewhere a (bare c)
-  pub idle : c.state ≡ view.Unopened → is_the a.stack.active c.number ≡ false
+  pub idle : (c.state ≡ view.Live → ⊥) → is_the a.stack.active c.number ≡ false
   pub room : HasRoom 5 c
 
 -- the hook that a slot's layer fills with, by what the slot holds before
 abbrev pub due_hook : ArrangementView → List (Option Hook) → CellView → State → Option Hook
-due_hook a shelf c view.Unopened = asked_hook shelf a.call c.number
 due_hook a shelf c view.Live = hook_in c
-due_hook a shelf c view.Closed = None
+due_hook a shelf c idle = asked_hook shelf a.call c.number
 
 -- a slot whose cell was made from this one, and whose layer has this hook: what its layer gained was filled
 abbrev pub filled_from : CellView → Option Hook → CellView → CellView
@@ -130,7 +129,7 @@ IsSettledBy glyphs from to gained taken w Stays = IsStill glyphs from to w from.
 IsSettledBy glyphs from to gained taken w Closes =
     (from.state ≡ view.Live) × (to ≡ record { number = from.number; state = view.Closed; live = no_layer })
 IsSettledBy glyphs from to gained taken w (Opens d) =
-    (from.state ≡ view.Unopened) × IsLiveDraft d
+    (from.state ≡ view.Live → ⊥) × IsLiveDraft d
     × (to ≡ record {
       number = from.number;
       state = view.Live;

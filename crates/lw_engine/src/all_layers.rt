@@ -1,11 +1,12 @@
-ghost use Rattle.std.specs.Prelude.{◌≡◌, ℕ, ◌+◌, ◌<◌, ◌≤◌, [], length, option_map, IfOk, OnOk, OnErr, IsTrue};
+ghost use Rattle.std.specs.Prelude.{◌≡◌, ℕ, ◌+◌, ◌<◌, ◌≤◌, true, false, [], length, option_map, IsOk, IfOk, OnOk, OnErr, IsTrue};
 ghost use Rattle.std.specs.List.{All};
 ghost use Rattle.lw_region.specs.Rectangle.{Rectangle};
 ghost use Rattle.lw_calls.specs.Limits.{call_fits};
 ghost use Rattle.lw_calls.specs.declared.touch.CallClass.TheVariants.{OnAll};
-ghost use Rattle.lw_calls.specs.Touches.{class_of};
+ghost use Rattle.lw_calls.specs.Touches.{class_of, is_arrangement};
 ghost use Rattle.lw_machine.specs.Arrangement.{hook_from};
 ghost use Rattle.lw_machine.specs.Desk.{Desk};
+ghost use Rattle.lw_engine_trait.specs.Memory.{takes_memory};
 ghost use Rattle.lw_strips.specs.Strips.{rects_of};
 ghost use Rattle.lw_strips.specs.Pools.{copies, copies_in};
 ghost use Rattle.lw_strips.specs.Exchange.{gained_by, lost_rects, gained_rects, pieces_of, total};
@@ -17,7 +18,7 @@ ghost use Rattle.lw_arrange.specs.Areas.{HasArea};
 ghost use Rattle.lw_arrange.specs.Pieces.{ArePieces};
 ghost use Rattle.lw_engine.specs.Desks.{AreNumbered, AreOfDesk, AreAsBefore, hook_at, cell_at};
 ghost use Rattle.lw_engine.specs.Slots.{shelf_without, shelf_after, slot_after, IsSettled, MayBeReady};
-ghost use Rattle.lw_engine.specs.Arranging.{AreLooks, HasSlot, IsFreshSlot, AreReady, AreSettled, with_taken, lost_of, claims_of, HaveGiven, AreChanged, IsAllStep, DropHooks};
+ghost use Rattle.lw_engine.specs.Arranging.{AreLooks, HasSlot, IsFreshSlot, AreReady, AreSettled, with_taken, lost_of, claims_of, HaveGiven, AreChanged, IsAllStep, DropHooks, IsHookSet, ReplacesHook};
 
 use crate::ready::Ready;
 use crate::slot::Slot;
@@ -32,9 +33,10 @@ use lw_strips::{Piece, Pool};
 use std::alloc::{AllocError, Global};
 use std::mem;
 
-/// Makes a call that arranges layers, on LayerInfo, the shelf of hooks and all slots in rising number, as the machine's step says
-/// of every desk to which this was handed in: it is planned, room is reserved in each window's port, everything is prepared, and
-/// only then anything is changed. It fails only when out of memory, and all is then as it was, whatever room ports have.
+/// Makes a call on all slots, which are given in rising number, with LayerInfo and the shelf of hooks, as the machine's step says
+/// of every desk to which this was handed in. An arrangement is planned, room is reserved in each window's port, everything is
+/// prepared, and only then anything is changed. It fails only when out of memory, and all is then as it was, whatever room ports
+/// have. Setting a hook takes no memory, and drops the layer's former one.
 pub fn on_all<B: Backfill>(
     alloc: Global,
     info: &mut Info,
@@ -52,10 +54,53 @@ pub fn on_all<B: Backfill>(
     ensures sizes { info.new.sizes ≡ info.old.sizes }
     ensures cells { AreNumbered info.new.sizes.slots slots.new }
     ensures dropped { DropHooks slots.old slots.new }
+    ensures replaced { ReplacesHook call.now shelf.old slots.old slots.new }
+    ensures unchanged { OnErr result ((info.new ≡ info.old) × (shelf.new ≡ shelf.old) × AreAsBefore slots.old slots.new) }
+    ensures memory { takes_memory call.now ≡ false → IsOk result }
+{
+    match call {
+        Call::SetHook { slot, hook } => Ok(set_hook(shelf, slots, *slot, *hook)),
+        _ => plan_and_arrange(alloc, info, shelf, slots, assets, task, call),
+    }
+}
+
+// Sets the hook of this number from the shelf, or none where the shelf hasn't got it, in a slot. The former hook of its layer is
+// dropped.
+fn set_hook<B: Backfill>(shelf: &mut Shelf<B>, slots: &mut [Slot<B>], slot: u32, hook: u32) -> Reply
+    requires { slot < length slots.old }
+    ensures { IsHookSet (cell_at slots.old slot).state shelf.old slots.old slot hook result shelf.new slots.new }
+{
+    let place = slot as usize;
+    if !slots[place].is_live() {
+        return Reply::NotOpen;
+    }
+    let held = shelf.take(hook);
+    slots[place].install(held);
+    Reply::Done
+}
+
+// Makes a call that arranges layers: it is planned, and done unless it is refused.
+fn plan_and_arrange<B: Backfill>(
+    alloc: Global,
+    info: &mut Info,
+    shelf: &mut Shelf<B>,
+    slots: &mut [Slot<B>],
+    assets: &Assets,
+    task: u32,
+    call: &Call,
+) -> Result<Reply, AllocError>
+    requires all { is_arrangement call.now ≡ true }
+    requires fits { IsTrue (call_fits info.old.sizes call.now) }
+    requires cells { AreNumbered info.old.sizes.slots slots.old }
+    requires desk { (d : Desk) × AreOfDesk info.old slots.old d }
+    ensures step { IfOk result (λ r. IsAllStep assets.now info.old shelf.old slots.old task call.now r info.new shelf.new slots.new) }
+    ensures sizes { info.new.sizes ≡ info.old.sizes }
+    ensures cells { AreNumbered info.new.sizes.slots slots.new }
+    ensures dropped { DropHooks slots.old slots.new }
     ensures unchanged { OnErr result ((info.new ≡ info.old) × (shelf.new ≡ shelf.old) × AreAsBefore slots.old slots.new) }
 {
     let looks = looks_of(alloc, slots)?;
-    let fresh = is_fresh(slots, call);
+    let fresh = is_fresh(info, slots, call);
     match plan_step(alloc, info, &looks, fresh, task, call)? {
         Step::Refused(reply) => Ok(reply),
         Step::Arranged(arrangement) => {
@@ -163,14 +208,15 @@ fn looks_of<B: Backfill>(alloc: Global, slots: &[Slot<B>]) -> Result<Vec<Option<
     Ok(looks)
 }
 
-// Whether the slot in which a call creates or opens a layer is unopened.
-fn is_fresh<B: Backfill>(slots: &[Slot<B>], call: &Call) -> bool
+// Whether in the desk's version a layer may be created in the slot in which a call creates or opens one.
+fn is_fresh<B: Backfill>(info: &Info, slots: &[Slot<B>], call: &Call) -> bool
     requires { HasSlot (length slots.now) call.now }
-    ensures { IsFreshSlot slots.now call.now result }
+    ensures { IsFreshSlot info.now.sizes.version slots.now call.now result }
 {
+    let version = info.sizes().version;
     match call {
-        Call::Create { slot, .. } => slots[*slot as usize].cell().fresh(),
-        Call::OpenWindow { slot, .. } => slots[*slot as usize].cell().fresh(),
+        Call::Create { slot, .. } => slots[*slot as usize].may_open(version),
+        Call::OpenWindow { slot, .. } => slots[*slot as usize].may_open(version),
         _ => false,
     }
 }

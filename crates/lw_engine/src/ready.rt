@@ -185,7 +185,7 @@ impl<B: Backfill> Slot<B> {
         taken: Option<B>,
         gained: &Region,
     )
-        requires fresh { self.old.state ≡ view.Unopened }
+        requires idle { self.old.state ≡ view.Live → ⊥ }
         requires draft { IsLiveDraft draft }
         ensures { self.new ≡ record {
           number = self.old.number;

@@ -1,12 +1,15 @@
 // A slot of the desk: its cell, and beside it the hook of its layer.
 
-ghost use Rattle.std.specs.Prelude.{◌≡◌, false, Option, IsOk, IfOk, OnOk, OnErr, IsTrue};
+ghost use Rattle.std.specs.Prelude.{◌≡◌, ◌↔◌, false, option_map, Option, IsOk, IfOk, OnOk, OnErr, IsTrue};
 ghost use Rattle.lw_calls.specs.declared.sizes.Sizes.{Sizes};
 ghost use Rattle.lw_calls.specs.Limits.{call_fits};
 ghost use Rattle.lw_calls.specs.declared.touch.CallClass.TheVariants.{OnLayer, OnLayers};
 ghost use Rattle.lw_calls.specs.Touches.{class_of};
 ghost use Rattle.lw_engine_trait.specs.Memory.{takes_memory};
+ghost use Rattle.lw_machine.specs.Layer.{may_open};
+ghost use Rattle.lw_layer.specs.View as view;
 ghost use Rattle.lw_layer.specs.View.{hooked};
+ghost use Rattle.lw_layer.specs.StandsFor.{slot_of};
 ghost use Rattle.lw_layer.specs.Windows.{without_room, HasRoom};
 ghost use Rattle.lw_layer_calls.specs.Parts.{IsLayerStep, IsPairStep};
 ghost use Rattle.lw_engine.specs.Slots.{hook_in};
@@ -19,8 +22,8 @@ use lw_layer_calls::{Regs, on_layer, on_layers};
 use std::alloc::{AllocError, Global};
 use std::marker::Model;
 
-/// A slot of the desk: its cell, and beside it the backfill hook that its layer was created with, if there was one (the manual's
-/// Layers Library chapter). Contracts see the cell with the hook on its layer.
+/// A slot of the desk: its cell, and beside it the backfill hook of its layer, if it has one (the manual's Layers Library
+/// chapter). Contracts see the cell with the hook on its layer.
 #[derive(Drop)]
 pub struct Slot<B: Backfill> {
     pub(crate) cell: Cell,
@@ -52,6 +55,27 @@ impl<B: Backfill> Slot<B> {
         ensures { self.now ≡ hooked (hook_in self.now) result.now }
     {
         &self.cell
+    }
+
+    // Whether a layer is live in the slot.
+    pub(crate) fn is_live(&self) -> bool
+        ensures { IsTrue result ↔ (self.now.state ≡ view.Live) }
+    {
+        self.cell.layer().is_some()
+    }
+
+    // Whether in this version a layer may be created in the slot.
+    pub(crate) fn may_open(&self, version: u32) -> bool
+        ensures { result ≡ may_open version (slot_of self.now.state self.now.live) }
+    {
+        self.cell.may_open(version)
+    }
+
+    // The layer has this hook from now on, or none. Its former one is dropped.
+    pub(crate) fn install(&mut self, hook: Option<B>)
+        ensures { self.new ≡ hooked (option_map B.hook hook) self.old }
+    {
+        self.held = hook;
     }
 
     /// Makes one call on the slot's layer, as `on_layer` does.

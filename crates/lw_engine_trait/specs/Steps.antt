@@ -66,7 +66,7 @@ pub record AreParts {Info Cell Regs : Type 0} (relations : Relations Info Cell R
   pub cells : AreCells relations all d
 
 module _ {Info Cell Regs : Type 0} (relations : Relations Info Cell Regs) where
-  -- a call that arranges the layers
+  -- a call on all slots
   abbrev pub IsAllStep : Sizes → Assets → Info → List Cell → ℕ → Call → Reply → Info → List Cell → Type 0
   IsAllStep sizes assets info cells task call r new_info new_cells =
       (d : Desk) → AreParts relations sizes assets info cells d

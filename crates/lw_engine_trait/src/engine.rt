@@ -68,7 +68,7 @@ pub trait Engine: Drop + Sync {
         ensures step { IsTwoStep relations (sizes self.now) (assets self.now) source.now to.old call.now result to.new }
         ensures number { relations.number to.new ≡ relations.number to.old };
 
-    /// Makes a call that arranges the layers of all slots, whose cells are given in rising number. After it ran out of memory the parts
+    /// Makes a call on the layers of all slots, whose cells are given in rising number. After it ran out of memory the parts
     /// stand for the same desks as before. They need not be the same values: room that was made in a cell before another cell's ran out
     /// may stay, and no desk tells of room. An engine's own function may say more, as that all is as before but for such room.
     fn all(
@@ -84,5 +84,6 @@ pub trait Engine: Drop + Sync {
         requires desk { (d : Desk) × AreParts relations (sizes self.now) (assets self.now) info.old cells.old d }
         ensures step { IfOk result (λ r.
             IsAllStep relations (sizes self.now) (assets self.now) info.old cells.old task call.now r info.new cells.new) }
-        ensures unchanged { OnErr result (AreStill relations (sizes self.now) (assets self.now) info.old cells.old info.new cells.new) };
+        ensures unchanged { OnErr result (AreStill relations (sizes self.now) (assets self.now) info.old cells.old info.new cells.new) }
+        ensures memory { takes_memory call.now ≡ false → IsOk result };
 }

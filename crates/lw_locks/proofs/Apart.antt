@@ -1,4 +1,4 @@
--- Calls on layers, looks and arrangements aren't on registers.
+-- Calls on layers and looks aren't on registers.
 use Rattle.std.proofs.Common.{◌≡◌, ◌≢◌, ℕ}
 use Rattle.lw_calls.specs.declared.touch.CallClass.{CallClass}
 use Rattle.lw_calls.specs.declared.touch.CallClass.TheVariants.{OnRegisters, OnInfo, OnLayer, OnLayers, OnAll}

@@ -52,7 +52,7 @@ module _ {I C R : Type 0} (relations : Relations I C R) (desk : Desk) (s : Sizes
   has_each : (k : ℕ) → k < desk.sizes.slots → Contains seat.roles (Slot k)
   has_each k below = held_slot relations desk seat info cells held k (subst (λ n. k < n) (sym many) below)
 
-  -- whoever has them may stamp a call that arranges the layers
+  -- whoever has them may stamp a call on all layers
   pub owns_all : (task : ℕ) (call : Call) → Contains seat.roles (Task task) → class_of call ≡ OnAll → Owns desk.sizes.slots seat.roles (touch_of task call)
   owns_all task call has class =
       record {

@@ -1,4 +1,4 @@
-// Calls of a task that arrange all layers, made one after another under all locks.
+// Calls of a task on all layers, made one after another under all locks.
 
 ghost use Rattle.std.specs.Prelude.{◌≡◌, ◌+◌, ◌<◌, ◌≤◌, ◌∷◌, [], length, vec_len, vec_capacity, All, IfOk, OnErr, IsTrue, MatchResult};
 ghost use Rattle.lw_calls.specs.Limits.{call_fits};

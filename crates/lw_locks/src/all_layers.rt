@@ -1,4 +1,4 @@
-// Calls that arrange all layers, under LayerInfo's lock and then those of all slots.
+// Calls on all layers, under LayerInfo's lock and then those of all slots.
 
 ghost use Rattle.std.specs.Prelude.{◌≡◌, ◌+◌, ◌<◌, ◌≤◌, [], ◌∷◌, length, vec_len, vec_capacity, All, IfOk, OnErr, IsTrue, MatchResult};
 ghost use Rattle.lw_calls.specs.declared.group.Hold.TheVariants.{All as AllSlots};
@@ -25,7 +25,7 @@ use std::slice;
 use std::sync::Wait;
 
 impl<E: Engine, N: Opening> Desk<E, N> {
-    // Makes one call that arranges the layers under all locks.
+    // Makes one call on all layers under all locks.
     pub(crate) fn once_under_all<R: Wait, G: Gate>(
         &self,
         rt: &R,

@@ -22,8 +22,8 @@ use std::marker::PhantomData;
 use std::sync::Wait;
 
 impl<E: Engine, N: Opening> Desk<E, N> {
-    /// Makes a call under the locks of just what it touches: LayerInfo, at which it looks, one layer, two layers, or all of these, which
-    /// it arranges. It may wait, and so promises no return. After it ran out of memory the call isn't in the history.
+    /// Makes a call under the locks of just what it touches: LayerInfo, at which it looks, one layer, two layers, or all of
+    /// these. It may wait, and so promises no return. After it ran out of memory the call isn't in the history.
     pub fn call<R: Wait, G: Gate>(
         &self,
         rt: &R,

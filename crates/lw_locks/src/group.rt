@@ -21,8 +21,8 @@ use std::alloc::{AllocError, Global};
 use std::sync::Wait;
 
 impl<E: Engine, N: Opening> Desk<E, N> {
-    /// Makes calls one after another under one holding of their locks: calls on the layer that is held, or calls that arrange the layers
-    /// where all are. It may wait, and so promises no return. It ends with the first call that runs out of memory: the calls before it
+    /// Makes calls one after another under one holding of their locks: calls on the layer that is held, or on all
+    /// layers where all are. It may wait, and so promises no return. It ends with the first call that runs out of memory: the calls before it
     /// have their answers after those that were there, and no further one is in the history.
     pub fn group<R: Wait, G: Gate>(
         &self,

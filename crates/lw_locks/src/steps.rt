@@ -172,7 +172,7 @@ impl<E: Engine, N: Opening> Steps<E, N> {
         Answer { reply, ticket }
     }
 
-    // A call of a task with these registers that arranges the layers of all slots, whose cells are given in rising number.
+    // A call of a task with these registers on the layers of all slots, whose cells are given in rising number.
     pub(crate) fn on_all(
         &self,
         alloc: Global,

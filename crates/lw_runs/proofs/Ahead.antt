@@ -15,6 +15,7 @@ use Rattle.lw_calls.specs.Plan.{Plan, IsPlan, task_calls, task_groups, is_one, i
 use Rattle.lw_calls.specs.declared.touch.CallClass.{CallClass}
 use Rattle.lw_calls.specs.declared.touch.CallClass.TheVariants.{OnRegisters, OnInfo, OnLayer, OnLayers, OnAll}
 use Rattle.lw_calls.specs.Touches.{class_of, slots_in, slots_of}
+use Rattle.lw_calls.proofs.LimitLaws.{calls_at_most}
 use Rattle.lw_calls.proofs.OrderGroups.{head_fits, rest_fits, has_order, ends_within, not_begun, is_over}
 use Rattle.lw_locks.specs.Promised.{class_under}
 use Rattle.lw_runs.specs.Made.{IsFree, IsAhead, IsNext}
@@ -125,15 +126,15 @@ an_update s (c ∷ cs) h =
     let parts = and_parts (is_one s (slots_of c) && begins_update c) _ h in
     All-cons (λ c. class_of c ≡ OnLayer s) c cs (one_class s (class_of c) (and_parts (is_one s (slots_of c)) _ parts.0).0) (to_end s cs parts.1)
 
-all_arrange : (calls : List Call) → list_all (λ c. is_all (slots_of c)) calls ≡ true → All (λ c. class_of c ≡ OnAll) calls
-all_arrange [] h = All-nil (λ c. class_of c ≡ OnAll)
-all_arrange (c ∷ cs) h =
+all_on_all : (calls : List Call) → list_all (λ c. is_all (slots_of c)) calls ≡ true → All (λ c. class_of c ≡ OnAll) calls
+all_on_all [] h = All-nil (λ c. class_of c ≡ OnAll)
+all_on_all (c ∷ cs) h =
     let parts = and_parts (is_all (slots_of c)) _ h in
-    All-cons (λ c. class_of c ≡ OnAll) c cs (all_class (class_of c) parts.0) (all_arrange cs parts.1)
+    All-cons (λ c. class_of c ≡ OnAll) c cs (all_class (class_of c) parts.0) (all_on_all cs parts.1)
 
 stand_class : (hold : Hold) (calls : List Call) → hold_allows hold calls ≡ true → All (λ c. class_of c ≡ class_under hold) calls
 stand_class (OneSlot s) calls h = ⊎_elim (λ a. locked s calls a) (λ b. an_update s calls b) (or_cases (are_locked s calls) (are_an_update s calls) h)
-stand_class AllLayers calls h = all_arrange calls h
+stand_class AllLayers calls h = all_on_all calls h
 
 pub group_class : (calls : List Call) (g : Group) → group_fits calls g ≡ true → All (λ c. class_of c ≡ class_under g.hold) (group_calls calls g)
 group_class calls g h = stand_class g.hold (group_calls calls g) (and_parts (nat_le g.first g.last && nat_lt g.last (length calls)) _ h).1
@@ -148,8 +149,11 @@ group_long calls g h =
     omega (arith, all, low)
 
 -- of the calls of a plan's task
-pub few_calls : (plan : Plan) (task : ℕ) → IsPlan plan → task < plan.sizes.tasks → length (task_calls plan task) ≤ 4096
-few_calls plan task is low = is.few task [] (omega (arith, low, is.lists))
+pub few_calls : (plan : Plan) (task : ℕ) → IsPlan plan → task < plan.sizes.tasks → length (task_calls plan task) ≤ 16384
+few_calls plan task is low =
+    let few = is.few task [] (omega (arith, low, is.lists)) in
+    let most = calls_at_most plan.sizes.version in
+    omega (arith, few, most)
 
 pub calls_fit : (plan : Plan) (task : ℕ) → IsPlan plan → task < plan.sizes.tasks → All (λ c. IsTrue (call_fits plan.sizes c)) (task_calls plan task)
 calls_fit plan task is low = is.fit task [] (omega (arith, low, is.lists))

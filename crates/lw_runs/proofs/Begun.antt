@@ -47,7 +47,7 @@ module _ (desk : Desk) (plan : Plan) (task : ℕ) where
   pub begun_many : (history : List Entry) (had : List Answer) → length had ≤ length (task_calls plan task) → HasBegun desk plan task history had → count_of task history ≡ length had
   begun_many history had low h = sym (length_calls_of task history) ∙ (ap length h.calls ∙ length-take-le (length had) (task_calls plan task) low)
 
-  pub begun_room : (history : List Entry) (had : List Answer) → IsPlan plan → task < plan.sizes.tasks → length had ≤ length (task_calls plan task) → HasBegun desk plan task history had → count_of task history + (length (task_calls plan task) - length had) ≤ 4096
+  pub begun_room : (history : List Entry) (had : List Answer) → IsPlan plan → task < plan.sizes.tasks → length had ≤ length (task_calls plan task) → HasBegun desk plan task history had → count_of task history + (length (task_calls plan task) - length had) ≤ 16384
   begun_room history had is of low h =
       let many = begun_many history had low h in
       let few = few_calls plan task is of in

@@ -172,7 +172,7 @@ module _ {I C R : Type 0} (relations : Relations I C R) (sizes : Sizes) (assets 
           (touch_two call from slot s class ∙ or_from (from == s) (slot == s) (ne_eqb from s (λ back. apart (sym back))) (ne_eqb slot s (λ back. other (sym back)))) was)
           (cases_eq s from)
 
-  -- a call that arranges the layers
+  -- a call on all layers
   pub all_step : {E : Type 0} (result : Result Reply E) (info new_info : I) (cells new : List C) (regs : List R) (task : ℕ) (call : Call) → class_of call ≡ OnAll
       → IfOk result (λ r. IsAllStep relations sizes assets info cells task call r new_info new)
       → IfOk result (λ r. IsStep relations sizes assets info cells regs task call r new_info new regs)

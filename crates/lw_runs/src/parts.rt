@@ -119,7 +119,7 @@ impl<E: Engine> Parts<E> {
         on_two(engine, self.cells.as_mut_slice(), source, slot, call)
     }
 
-    // A call that arranges the layers.
+    // A call on all layers.
     fn on_all(
         &mut self,
         engine: &E,
@@ -137,6 +137,7 @@ impl<E: Engine> Parts<E> {
         ensures unchanged { OnErr result (StandStill E.relations (E.sizes engine.now) (E.assets engine.now)
             self.old.info self.old.cells.items self.old.registers.items
             self.new.info self.new.cells.items self.new.registers.items) }
+        ensures memory { takes_memory call.now ≡ false → IsOk result }
     {
         engine.all(alloc, &mut self.info, self.cells.as_mut_slice(), task, call)
     }

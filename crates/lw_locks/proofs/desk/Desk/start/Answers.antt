@@ -1,7 +1,12 @@
 -- A desk before its first call, from the first seat and the values that stand for the parts of the empty desk.
-use Rattle.std.proofs.Common.{◌∙◌, vec_len}
+use Rattle.std.proofs.Common.{◌∙◌, refl, subst, sym, arith, vec_len}
+use Rattle.std.specs.Prelude.{Contains}
+use Rattle.lw_calls.specs.declared.touch.Role.TheVariants.{Info}
 use Rattle.lw_locks.proofs.Starting.{info_at_start, has_slots, has_tasks}
 use Rattle.lw_locks.proofs.desk.Desk.start.Goals as goal
+
+pub split-seat-requires-clause-role : goal.split-seat-requires-clause-role
+split-seat-requires-clause-role g c = subst (λ rs. Contains rs Info) (sym c.requires.roles) (0, omega arith, refl)
 
 pub put_layers-requires-clause-roles : goal.put_layers-requires-clause-roles
 put_layers-requires-clause-roles g c κs within =

@@ -1,4 +1,4 @@
--- A call that arranges all layers, made and stamped.
+-- A call on all layers, made and stamped.
 use Rattle.std.proofs.Common.{◌∙◌, sym, ap}
 use Rattle.lw_calls.specs.Touches.{class_of}
 use Rattle.lw_machine.specs.History.{machine}
