@@ -7,7 +7,7 @@ use Rattle.lw_planes.specs.Row.{row_bit}
 use Rattle.lw_planes.specs.Bitmap.{Bitmap, row_bytes, plane_row}
 use Rattle.lw_planes.specs.Storage.{bit_place, stored}
 use Rattle.lw_planes.proofs.BitmapLaws.{row_bytes_wide}
-use Rattle.lw_grammar.specs.Statements.{Statement, BitmapLine, RowLine, is_line_in_range}
+use Rattle.lw_grammar.specs.Statements.{Statement, BitmapLine, RowLine, are_sizes_in_range, bitmap_size_limit}
 use Rattle.lw_grammar.specs.Told.{told}
 use Rattle.lw_grammar.specs.Script.{Setting, AreGoodLines}
 use Rattle.lw_canonical.specs.Canonical.{enumerated, lines_of_bitmap}
@@ -134,7 +134,7 @@ bitmaps_by_number (n ∷ ns) (b ∷ bs) h =
     ap (λ (t : List Statement). lines_of_bitmap n b ++ t) (enumerated_next (λ c. lines_of_bitmap (slice_index_or (n ∷ ns) c.0 []) c.1) 0 bs ∙ bitmaps_by_number ns bs (omega arith))
 
 -- a bitmap's line
-bitmap_line_back : (name : List ℕ) (w h d : ℤ) → is_line_in_range (BitmapLine name w h d) ≡ true → BitmapLine name (pos (unsigned_abs w)) (pos (unsigned_abs h)) (pos (unsigned_abs d)) ≡ BitmapLine name w h d
+bitmap_line_back : (name : List ℕ) (w h d : ℤ) → are_sizes_in_range bitmap_size_limit w h d ≡ true → BitmapLine name (pos (unsigned_abs w)) (pos (unsigned_abs h)) (pos (unsigned_abs d)) ≡ BitmapLine name w h d
 bitmap_line_back name w h d e =
     let halves = and_parts (within (pos 1) w (pos 1024) && within (pos 1) h (pos 1024)) _ e in
     let sides = and_parts (within (pos 1) w (pos 1024)) _ halves.0 in

@@ -9,8 +9,9 @@ use Rattle.lw_grammar.proofs.ScriptSizes.{here, none_due, row_less}
 use Rattle.lw_canonical.proofs.Rearranged.{is_of_bitmaps}
 use Rattle.std.proofs.lemmas.Bool.{eqb-true}
 
--- Lines of a screen of these sizes, and of glyphs and bitmaps: of nothing else do they tell anything.
-pub record IsBare (w h d : ℕ) (lines : List Statement) : Type 0 where
+-- Lines of a version and a screen of these sizes, and of glyphs and bitmaps: of nothing else do they tell anything.
+pub record IsBare (v w h d : ℕ) (lines : List Statement) : Type 0 where
+  pub version : (told lines).version ≡ v
   pub section : (told lines).section ≡ AssetsAreDue
   pub width : (told lines).width ≡ w
   pub height : (told lines).height ≡ h
@@ -26,17 +27,17 @@ pub record IsBare (w h d : ℕ) (lines : List Statement) : Type 0 where
   pub groups : (told lines).groups ≡ []
 
 -- so do they with a further glyph, bitmap or row
-pub bare_glyph : (w h d : ℕ) (lines : List Statement) (code : ℕ) (rows : List ℕ) → IsBare w h d lines → IsBare w h d (GlyphLine code rows ∷ lines)
-bare_glyph w h d lines code rows k =
-    record { section = k.section; width = k.width; height = k.height; depth = k.depth; tasks = k.tasks; names = k.names; supers = k.supers; hooks = k.hooks; group = k.group; so_far = k.so_far; began = k.began; calls = k.calls; groups = k.groups }
+pub bare_glyph : (v w h d : ℕ) (lines : List Statement) (code : ℕ) (rows : List ℕ) → IsBare v w h d lines → IsBare v w h d (GlyphLine code rows ∷ lines)
+bare_glyph v w h d lines code rows k =
+    record { version = k.version; section = k.section; width = k.width; height = k.height; depth = k.depth; tasks = k.tasks; names = k.names; supers = k.supers; hooks = k.hooks; group = k.group; so_far = k.so_far; began = k.began; calls = k.calls; groups = k.groups }
 
-bare_bitmap : (w h d : ℕ) (lines : List Statement) (name : List ℕ) (x y z : ℤ) → IsBare w h d lines → IsBare w h d (BitmapLine name x y z ∷ lines)
-bare_bitmap w h d lines name x y z k =
-    record { section = k.section; width = k.width; height = k.height; depth = k.depth; tasks = k.tasks; names = k.names; supers = k.supers; hooks = k.hooks; group = k.group; so_far = k.so_far; began = k.began; calls = k.calls; groups = k.groups }
+bare_bitmap : (v w h d : ℕ) (lines : List Statement) (name : List ℕ) (x y z : ℤ) → IsBare v w h d lines → IsBare v w h d (BitmapLine name x y z ∷ lines)
+bare_bitmap v w h d lines name x y z k =
+    record { version = k.version; section = k.section; width = k.width; height = k.height; depth = k.depth; tasks = k.tasks; names = k.names; supers = k.supers; hooks = k.hooks; group = k.group; so_far = k.so_far; began = k.began; calls = k.calls; groups = k.groups }
 
-bare_row : (w h d : ℕ) (lines : List Statement) (bytes : List ℕ) → IsBare w h d lines → IsBare w h d (RowLine bytes ∷ lines)
-bare_row w h d lines bytes k =
-    record { section = k.section; width = k.width; height = k.height; depth = k.depth; tasks = k.tasks; names = k.names; supers = k.supers; hooks = k.hooks; group = k.group; so_far = k.so_far; began = k.began; calls = k.calls; groups = k.groups }
+bare_row : (v w h d : ℕ) (lines : List Statement) (bytes : List ℕ) → IsBare v w h d lines → IsBare v w h d (RowLine bytes ∷ lines)
+bare_row v w h d lines bytes k =
+    record { version = k.version; section = k.section; width = k.width; height = k.height; depth = k.depth; tasks = k.tasks; names = k.names; supers = k.supers; hooks = k.hooks; group = k.group; so_far = k.so_far; began = k.began; calls = k.calls; groups = k.groups }
 
 -- Lines without bitmaps.
 pub record IsWithoutBitmaps (lines : List Statement) : Type 0 where
@@ -49,11 +50,11 @@ pub record IsWithoutBitmaps (lines : List Statement) : Type 0 where
 abbrev pub kept : List Statement → List Statement → List Statement
 kept above base = filter is_of_bitmaps above ++ base
 
-pub bare_kept : (w h d : ℕ) (above base : List Statement) → IsBare w h d base → IsBare w h d (kept above base)
-bare_kept w h d [] base k = k
-bare_kept w h d (BitmapLine name x y z ∷ above) base k = bare_bitmap w h d (kept above base) name x y z (bare_kept w h d above base k)
-bare_kept w h d (RowLine bytes ∷ above) base k = bare_row w h d (kept above base) bytes (bare_kept w h d above base k)
-bare_kept w h d (f ∷ above) base k = bare_kept w h d above base k
+pub bare_kept : (v w h d : ℕ) (above base : List Statement) → IsBare v w h d base → IsBare v w h d (kept above base)
+bare_kept v w h d [] base k = k
+bare_kept v w h d (BitmapLine name x y z ∷ above) base k = bare_bitmap v w h d (kept above base) name x y z (bare_kept v w h d above base k)
+bare_kept v w h d (RowLine bytes ∷ above) base k = bare_row v w h d (kept above base) bytes (bare_kept v w h d above base k)
+bare_kept v w h d (f ∷ above) base k = bare_kept v w h d above base k
 
 -- glyphs are those of the lines below
 pub glyph_kept : (above base : List Statement) (code : ℕ) → (told (kept above base)).glyphs code ≡ (told base).glyphs code

@@ -9,10 +9,10 @@ use Rattle.lw_grammar.specs.declared.verb.NumberVerb.{NumberVerb}
 use Rattle.lw_grammar.specs.declared.verb.NumberVerb.TheVariants.{APen as APenVerb}
 use Rattle.lw_grammar.specs.declared.verb.PairVerb.TheVariants.{Move as MoveVerb}
 use Rattle.lw_grammar.specs.declared.verb.TextVerb.TheVariants.{Text as TextOf}
-use Rattle.lw_grammar.specs.Statements.{AskedLayer, Act, NumberAct, PairAct, TextAct, BareAct, RegRectAct, RegPairAct, RegClearAct, CreateAct, OpenAct, InFrontAct, WhichAct, PutAct, BlitAct, CallLine, four, is_hook_number, is_own_size, is_asked_in_range, place_and_size_fit, greatest_number, is_act_in_range}
+use Rattle.lw_grammar.specs.Statements.{NewLayer, Act, NumberAct, PairAct, TextAct, BareAct, RegRectAct, RegPairAct, RegClearAct, CreateAct, OpenAct, InFrontAct, WhichAct, PutAct, BlitAct, CallLine, four, is_hook_number, is_own_size, is_new_layer_in_range, place_and_size_fit, greatest_number, is_act_in_range}
 use Rattle.lw_grammar.specs.Told.{place_among, created_make, opened_make, number_call, spelled_call}
-use Rattle.lw_canonical.specs.Canonical.{created_asked, opened_asked, line_of_call}
-use Rattle.lw_grammar.proofs.ScriptStatements.{IsAskedOf, IsStatementMade}
+use Rattle.lw_canonical.specs.Canonical.{created_layer, opened_layer, line_of_call}
+use Rattle.lw_grammar.proofs.ScriptStatements.{IsNewLayerOf, IsStatementMade}
 use Rattle.std.proofs.lemmas.Int.{ints}
 use Rattle.std.proofs.lemmas.Bool.{false≢true, and_parts}
 use Rattle.std.proofs.lemmas.List.{nil_from_length}
@@ -47,7 +47,7 @@ hook_back None h = refl
 hook_back (Some n) h = ap (λ (z : ℤ). Some z) (number_back 0 n 4294967295 h)
 
 -- the size of its bitmap
-own_back : (kind : Kind) (a : AskedLayer) → IsAskedOf kind a → is_own_size kind a.bits_w a.bits_h ≡ true → (pos (unsigned_abs a.bits_w) ≡ a.bits_w) × (pos (unsigned_abs a.bits_h) ≡ a.bits_h)
+own_back : (kind : Kind) (a : NewLayer) → IsNewLayerOf kind a → is_own_size kind a.bits_w a.bits_h ≡ true → (pos (unsigned_abs a.bits_w) ≡ a.bits_w) × (pos (unsigned_abs a.bits_h) ≡ a.bits_h)
 own_back Simple a m h = (ap (λ z. pos (unsigned_abs z)) m.0 ∙ sym m.0, ap (λ z. pos (unsigned_abs z)) m.1 ∙ sym m.1)
 own_back Smart a m h = (ap (λ z. pos (unsigned_abs z)) m.0 ∙ sym m.0, ap (λ z. pos (unsigned_abs z)) m.1 ∙ sym m.1)
 own_back SuperBitmap a m h =
@@ -55,12 +55,12 @@ own_back SuperBitmap a m h =
     (number_back 1 a.bits_w 2048 sides.0, number_back 1 a.bits_h 2048 sides.1)
 
 -- a layer that is asked for, by its parts
-abbrev asked_with : AskedLayer → Rectangle → Option ℤ → ℤ → ℤ → AskedLayer
-asked_with a numbers hook w h = record { kind = a.kind; place = a.place; numbers = numbers; backdrop = a.backdrop; hook = hook; bits_w = w; bits_h = h }
+abbrev layer_with : NewLayer → Rectangle → Option ℤ → ℤ → ℤ → NewLayer
+layer_with a numbers hook w h = record { kind = a.kind; place = a.place; numbers = numbers; backdrop = a.backdrop; hook = hook; bits_w = w; bits_h = h }
 
-asked_same : (a : AskedLayer) (numbers : Rectangle) (hook : Option ℤ) (w h : ℤ) → numbers ≡ a.numbers → hook ≡ a.hook → w ≡ a.bits_w → h ≡ a.bits_h → asked_with a numbers hook w h ≡ a
-asked_same a numbers hook w h b k c d =
-    ap (λ (q : Rectangle). asked_with a q hook w h) b ∙ ap (λ (q : Option ℤ). asked_with a a.numbers q w h) k ∙ ap (λ (q : ℤ). asked_with a a.numbers a.hook q h) c ∙ ap (λ (q : ℤ). asked_with a a.numbers a.hook a.bits_w q) d
+layer_same : (a : NewLayer) (numbers : Rectangle) (hook : Option ℤ) (w h : ℤ) → numbers ≡ a.numbers → hook ≡ a.hook → w ≡ a.bits_w → h ≡ a.bits_h → layer_with a numbers hook w h ≡ a
+layer_same a numbers hook w h b k c d =
+    ap (λ (q : Rectangle). layer_with a q hook w h) b ∙ ap (λ (q : Option ℤ). layer_with a a.numbers q w h) k ∙ ap (λ (q : ℤ). layer_with a a.numbers a.hook q h) c ∙ ap (λ (q : ℤ). layer_with a a.numbers a.hook a.bits_w q) d
 
 -- its bounds
 bound_back : (low high : ℤ) → (low +ℤ ((high -ℤ low) +ℤ pos 1)) -ℤ pos 1 ≡ high
@@ -70,17 +70,17 @@ numbers_same : (r : Rectangle) (c d : ℤ) → c ≡ r.max_x → d ≡ r.max_y �
 numbers_same r c d e f = ap (λ (q : ℤ). four r.min_x r.min_y q d) e ∙ ap (λ (q : ℤ). four r.min_x r.min_y r.max_x q) f
 
 -- what a creation asks for, and what an opening does
-created_back : (a : AskedLayer) → IsAskedOf a.kind a → is_asked_in_range a ≡ true → created_asked (created_make a) ≡ a
+created_back : (a : NewLayer) → IsNewLayerOf a.kind a → is_new_layer_in_range a ≡ true → created_layer (created_make a) ≡ a
 created_back a m h =
     let halves = and_parts (is_hook_number a.hook) _ h in
     let own = own_back a.kind a m halves.1 in
-    asked_same a _ _ _ _ (numbers_same a.numbers _ _ (bound_back a.numbers.min_x a.numbers.max_x) (bound_back a.numbers.min_y a.numbers.max_y)) (hook_back a.hook halves.0) own.0 own.1
+    layer_same a _ _ _ _ (numbers_same a.numbers _ _ (bound_back a.numbers.min_x a.numbers.max_x) (bound_back a.numbers.min_y a.numbers.max_y)) (hook_back a.hook halves.0) own.0 own.1
 
-opened_back : (a : AskedLayer) → IsAskedOf a.kind a → is_asked_in_range a ≡ true → opened_asked (opened_make a) ≡ a
+opened_back : (a : NewLayer) → IsNewLayerOf a.kind a → is_new_layer_in_range a ≡ true → opened_layer (opened_make a) ≡ a
 opened_back a m h =
     let halves = and_parts (is_hook_number a.hook) _ h in
     let own = own_back a.kind a m halves.1 in
-    asked_same a _ _ _ _ refl (hook_back a.hook halves.0) own.0 own.1
+    layer_same a _ _ _ _ refl (hook_back a.hook halves.0) own.0 own.1
 
 -- the bitmap of a blit from a bitmap is found by its place among those above the line
 abbrev pub IsBitmapBack : List (List ℕ) → List (List ℕ) → Act → Type 0

@@ -3,13 +3,14 @@
 use Rattle.std.proofs.Common.{◌≡◌, ℕ, zero, suc, ◌+◌, ◌<◌, ◌≤◌, ◌==◌, Bool, true, false, cond, List, [], ◌∷◌, ◌++◌, length, replicate, reverse, Ok, refl, sym, ap, subst, ◌∙◌, inl, inr, ◌⊎◌, ⊎_elim, arith, append_assoc, append-nil}
 use Rattle.std.specs.List.{list_all, flat_map, range_with_len}
 use Rattle.lw_calls.proofs.Ranges.{range_last}
+use Rattle.lw_calls.specs.Limits.{limits_of}
 use Rattle.lw_grammar.specs.Statements.{Statement, GlyphLine}
 use Rattle.lw_grammar.specs.Told.{AssetsAreDue, nothing_told, told}
 use Rattle.lw_grammar.specs.Script.{Setting, line_read, AreGoodLines}
 use Rattle.lw_canonical.specs.Spelling.{spelled}
 use Rattle.lw_canonical.specs.Canonical.{lines_of_glyph}
 use Rattle.lw_grammar.proofs.ScriptSizes.{IsStatementTested, tests_pass, here, tests, in_assets}
-use Rattle.lw_canonical.proofs.ReadsAgain.{verb_statements, spelled_again, isnt_passed}
+use Rattle.lw_canonical.proofs.ReadsAgain.{plain_statements, spelled_again, isnt_passed}
 use Rattle.lw_canonical.proofs.BitmapsKept.{IsBare, bare_glyph, IsWithoutBitmaps}
 use Rattle.lw_canonical.proofs.BitmapsSpelled.{few_bare, due_bare}
 use Rattle.lw_canonical.proofs.Rearranged.{glyphs_in_order, AreSpelled, HasOneSpelling}
@@ -60,8 +61,8 @@ module _ (above base : List Statement) where
       step false k = more (32 + n) (rows_at n) (glyphs_over n) k
 
   -- so glyphs tell nothing but themselves
-  pub bare_over : (w h d n : ℕ) → IsBare w h d base → IsBare w h d (glyphs_over n)
-  bare_over w h d n k = over_keeps (IsBare w h d) (λ code rows lines. bare_glyph w h d lines code rows) k n
+  pub bare_over : (v w h d n : ℕ) → IsBare v w h d base → IsBare v w h d (glyphs_over n)
+  bare_over v w h d n k = over_keeps (IsBare v w h d) (λ code rows lines. bare_glyph v w h d lines code rows) k n
 
   pub unmapped_over : (n : ℕ) → IsWithoutBitmaps base → IsWithoutBitmaps (glyphs_over n)
   unmapped_over n k =
@@ -140,34 +141,34 @@ module _ (s : Setting) (above base : List Statement) (g : AreGoodLines s above) 
           at false d = k (earlier d)
 
 -- a good glyph line reads again over lines that tell of a screen alone, and of other codes
-glyph_again : HasOneSpelling → (s t : Setting) (w h d code : ℕ) (rows : List ℕ) (above lines : List Statement) → AreGoodLines s (GlyphLine code rows ∷ above) → IsBare w h d lines → IsWithoutBitmaps lines → (told lines).given code ≡ false → line_read t (told lines) (spelled (GlyphLine code rows)) ≡ Ok (GlyphLine code rows)
-glyph_again one s t w h d code rows above lines g bare b new =
+glyph_again : HasOneSpelling → (s t : Setting) (v w h d code : ℕ) (rows : List ℕ) (above lines : List Statement) → AreGoodLines s (GlyphLine code rows ∷ above) → IsBare v w h d lines → IsWithoutBitmaps lines → (told lines).given code ≡ false → line_read t (told lines) (spelled (GlyphLine code rows)) ≡ Ok (GlyphLine code rows)
+glyph_again one s t v w h d code rows above lines g bare b new =
     let f : Statement = GlyphLine code rows in
     let at = here s above (GlyphLine code rows) g in
     let k = tests s above (GlyphLine code rows) g in
     let none : length (told lines).bitmap_names ≡ 0 = ap length b.names in
     let tested : IsStatementTested t lines (GlyphLine code rows) =
-    record { range = k.range; named = refl; new = new; group = refl; few = few_bare w h d (f ∷ lines) (bare_glyph w h d lines code rows bare) (omega (arith, none)); hook = refl; unused = refl; padding = refl } in
-    spelled_again one s t above lines f g.0 (verb_statements s t above lines AssetsAreDue f at.0 (eq-eqb _ 0 b.due) (in_assets _ at.1) bare.section refl) (tests_pass t lines f tested)
+    record { range = k.range; named = refl; new = new; group = refl; few = few_bare v w h d (f ∷ lines) (bare_glyph v w h d lines code rows bare) (limits_of (told lines).version) (omega (arith, none)); hook = refl; unused = refl; padding = refl } in
+    spelled_again one s t above lines f g.0 (plain_statements s t above lines AssetsAreDue f at.0 (eq-eqb _ 0 b.due) (in_assets _ at.1) bare.section refl refl) (tests_pass t lines f tested)
 
 -- So do all glyphs in order.
-pub over_spelled : HasOneSpelling → (s t : Setting) (above base : List Statement) → AreGoodLines s above → (w h d : ℕ) → IsBare w h d base → IsWithoutBitmaps base → (told base).given ≡ nothing_told.given → AreSpelled t base → (n : ℕ) → AreSpelled t (glyphs_over above base n)
-over_spelled one s t above base g w h d bare b e k zero = k
-over_spelled one s t above base g w h d bare b e k (suc n) =
-    step (list_all (λ row. row == 0) ((told above).glyphs (32 + n))) refl (over_spelled one s t above base g w h d bare b e k n)
+pub over_spelled : HasOneSpelling → (s t : Setting) (above base : List Statement) → AreGoodLines s above → (v w h d : ℕ) → IsBare v w h d base → IsWithoutBitmaps base → (told base).given ≡ nothing_told.given → AreSpelled t base → (n : ℕ) → AreSpelled t (glyphs_over above base n)
+over_spelled one s t above base g v w h d bare b e k zero = k
+over_spelled one s t above base g v w h d bare b e k (suc n) =
+    step (list_all (λ row. row == 0) ((told above).glyphs (32 + n))) refl (over_spelled one s t above base g v w h d bare b e k n)
   where
     below : List Statement
     below = glyphs_over above base n
 
-    here_bare : IsBare w h d below
-    here_bare = bare_over above base w h d n bare
+    here_bare : IsBare v w h d below
+    here_bare = bare_over above base v w h d n bare
 
     at : list_all (λ row. row == 0) ((told above).glyphs (32 + n)) ≡ false → IsGlyphRead s (32 + n) ((told above).glyphs (32 + n)) → line_read t (told below) (spelled (GlyphLine (32 + n) ((told above).glyphs (32 + n)))) ≡ Ok (GlyphLine (32 + n) ((told above).glyphs (32 + n)))
     at set (inl z) = absurd (false≢true (sym set ∙ ap (list_all (λ row. row == 0)) z))
     at set (inr found) =
-        glyph_again one s t w h d (32 + n) ((told above).glyphs (32 + n)) found.0 below found.1 here_bare (unmapped_over above base n b) (new_over above base e n (32 + n) (omega arith))
+        glyph_again one s t v w h d (32 + n) ((told above).glyphs (32 + n)) found.0 below found.1 here_bare (unmapped_over above base n b) (new_over above base e n (32 + n) (omega arith))
 
     step : (t' : Bool) → list_all (λ row. row == 0) ((told above).glyphs (32 + n)) ≡ t' → AreSpelled t below → AreSpelled t (cond t' [] (GlyphLine (32 + n) ((told above).glyphs (32 + n)) ∷ []) ++ below)
     step true set rest = rest
     step false set rest =
-        (at set (glyph_read s above g (32 + n)), isnt_passed below (spelled (GlyphLine (32 + n) ((told above).glyphs (32 + n)))) refl (due_bare w h d below here_bare), rest)
+        (at set (glyph_read s above g (32 + n)), isnt_passed below (spelled (GlyphLine (32 + n) ((told above).glyphs (32 + n)))) refl (due_bare v w h d below here_bare), rest)

@@ -3,11 +3,11 @@ use Rattle.std.proofs.Common.{◌≡◌, ℕ, ◌+◌, ◌-◌, ◌≤◌, ◌==
 use Rattle.lw_calls.specs.declared.group.Hold.{Hold}
 use Rattle.lw_calls.specs.declared.group.Hold.TheVariants.{Slot, All as AllLayers}
 use Rattle.lw_grammar.specs.declared.verb.BareVerb.TheVariants.{Refresh as RefreshVerb}
-use Rattle.lw_grammar.specs.Statements.{Act, BareAct, EndRefreshAct, Statement, ScreenLine, GlyphLine, BitmapLine, RowLine, TaskLine, EndLine, OrderLine, NumbersLine, ReportLine, CallLine, LockLine, UnlockLine, HoldLine, ReleaseLine}
-use Rattle.lw_grammar.specs.Told.{Section, ScreenIsDue, AssetsAreDue, CallsAreDue, TasksAreDue, NumbersAreDue, NothingIsDue, nothing_told, and_name, and_names, place_among, onto_last, spelled_call, call_below, asks_super, hook_on, and_hook, left_open_by, group_from, told}
+use Rattle.lw_grammar.specs.Statements.{Act, BareAct, EndRefreshAct, Statement, LayersLine, ScreenLine, GlyphLine, BitmapLine, RowLine, TaskLine, EndLine, OrderLine, NumbersLine, ReportLine, CallLine, LockLine, UnlockLine, HoldLine, ReleaseLine, version_at_screen}
+use Rattle.lw_grammar.specs.Told.{Section, ScreenIsDue, AssetsAreDue, CallsAreDue, TasksAreDue, NumbersAreDue, NothingIsDue, nothing_told, and_name, and_names, place_among, onto_last, spelled_call, call_below, makes_super, hook_on, and_hook, left_open_by, group_from, told}
 use Rattle.lw_grammar.specs.Script.{Setting, are_calls_due, are_tasks_due, are_numbers_due, AreGoodLines}
 use Rattle.lw_grammar.proofs.ScriptOutcome.{rows_in_assets}
-use Rattle.lw_grammar.proofs.ScriptSizes.{here, has_begun, has_screen, in_screen, in_assets, in_calls, in_tasks, in_numbers, in_assets_or_tasks}
+use Rattle.lw_grammar.proofs.ScriptSizes.{here, has_begun, has_screen, in_screen, in_assets, in_calls, in_tasks, in_numbers, in_assets_or_tasks, version_first}
 use Rattle.lw_canonical.proofs.Rearranged.{is_of_tasks, IsBaseOf}
 use Rattle.std.proofs.lemmas.Bool.{true≢false, false≢true, and_parts}
 
@@ -36,7 +36,11 @@ calls_begun c e = ap has_begun (in_calls c e)
 both_begun : (c : Section) → has_begun c ≡ true → has_begun c ≡ false → ⊥
 both_begun c e n = true≢false (sym e ∙ n)
 
--- the screen line, a glyph, a bitmap or a row leaves lines bare
+-- the version, the screen line, a glyph, a bitmap or a row leaves lines bare
+layers_bare : (above : List Statement) → AreBare above → AreBare (LayersLine ∷ above)
+layers_bare above b =
+    record { of_tasks = b.of_tasks; tasks = b.tasks; names = b.names; supers = b.supers; hooks = b.hooks; group = b.group; so_far = b.so_far; began = b.began; calls = b.calls; groups = b.groups }
+
 screen_bare : (above : List Statement) (w h d : ℤ) → AreBare above → AreBare (ScreenLine w h d ∷ above)
 screen_bare above w h d b =
     record { of_tasks = b.of_tasks; tasks = b.tasks; names = b.names; supers = b.supers; hooks = b.hooks; group = b.group; so_far = b.so_far; began = b.began; calls = b.calls; groups = b.groups }
@@ -57,6 +61,7 @@ row_bare above bytes b =
 pub bare : (s : Setting) (above : List Statement) → AreGoodLines s above → has_begun (told above).section ≡ false → AreBare above
 bare s [] g n =
     record { of_tasks = refl; tasks = refl; names = refl; supers = refl; hooks = refl; group = refl; so_far = refl; began = refl; calls = refl; groups = refl }
+bare s (LayersLine ∷ above) g n = layers_bare above (bare s above g.1 n)
 bare s (ScreenLine w h d ∷ above) g n =
     screen_bare above w h d (bare s above g.1 (ap has_begun (in_screen (told above).section (here s above (ScreenLine w h d) g).1)))
 bare s (GlyphLine code rows ∷ above) g n = glyph_bare above code rows (bare s above g.1 n)
@@ -84,6 +89,7 @@ section_alone NothingIsDue = TasksAreDue
 
 -- other lines that tell the same, but for an order and a report
 pub record AreAlike (above new : List Statement) : Type 0 where
+  pub version : (told new).version ≡ (told above).version
   pub section : (told new).section ≡ section_alone (told above).section
   pub due : (told new).rows_due ≡ 0
   pub width : (told new).width ≡ (told above).width
@@ -106,6 +112,7 @@ pub record AreAlike (above new : List Statement) : Type 0 where
 base_alike : (above base : List Statement) → (told above).section ≡ AssetsAreDue → AreBare above → IsBaseOf above base → AreAlike above base
 base_alike above base c n b =
     record {
+      version = b.version;
       section = b.section ∙ ap section_alone (sym c);
       due = b.due;
       width = b.width;
@@ -156,6 +163,12 @@ module _ (above new : List Statement) (a : AreAlike above new) where
   more_section ReportLine t = absurd (false≢true t)
   more_section f t = a.section
 
+  -- the version
+  more_version : (f : Statement) → (told (f ∷ new)).version ≡ (told (f ∷ above)).version
+  more_version LayersLine = refl
+  more_version (ScreenLine w h d) = ap version_at_screen a.version
+  more_version f = a.version
+
   -- no rows are due
   more_due : (f : Statement) → is_of_tasks f ≡ true → (told (f ∷ new)).rows_due ≡ 0
   more_due (BitmapLine name w h d) t = absurd (false≢true t)
@@ -205,7 +218,7 @@ module _ (above new : List Statement) (a : AreAlike above new) where
 
   -- how many lines ask for a super-bitmap layer, and the hooks that are named
   more_supers : (f : Statement) → (told (f ∷ new)).supers ≡ (told (f ∷ above)).supers
-  more_supers (CallLine layers act) = ap (λ n. cond (asks_super (CallLine layers act)) 1 0 + n) a.supers
+  more_supers (CallLine layers act) = ap (λ n. cond (makes_super (CallLine layers act)) 1 0 + n) a.supers
   more_supers f = a.supers
 
   more_hooks : (f : Statement) → (told (f ∷ new)).used ≡ (told (f ∷ above)).used
@@ -258,6 +271,7 @@ module _ (above new : List Statement) (a : AreAlike above new) where
   pub alike_more : (f : Statement) → is_of_tasks f ≡ true → AreAlike (f ∷ above) (f ∷ new)
   alike_more f t =
       record {
+        version = more_version f;
         section = more_section f t;
         due = more_due f t;
         width = more_width f;
@@ -279,6 +293,7 @@ module _ (above new : List Statement) (a : AreAlike above new) where
 
 -- the line stands after all glyphs and bitmaps
 abbrev pub is_behind : Statement → Bool
+is_behind LayersLine = false
 is_behind (ScreenLine w h d) = false
 is_behind (GlyphLine code rows) = false
 is_behind (BitmapLine name w h d) = false
@@ -287,12 +302,14 @@ is_behind f = true
 
 -- without such a line the lines have the same base
 pub base_below : (f : Statement) (above base : List Statement) → is_behind f ≡ true → IsBaseOf (f ∷ above) base → IsBaseOf above base
+base_below LayersLine above base t b = absurd (false≢true t)
 base_below (ScreenLine w h d) above base t b = absurd (false≢true t)
 base_below (GlyphLine code rows) above base t b = absurd (false≢true t)
 base_below (BitmapLine name w h d) above base t b = absurd (false≢true t)
 base_below (RowLine bytes) above base t b = absurd (false≢true t)
 base_below f above base t b =
     record {
+      version = b.version;
       section = b.section;
       due = b.due;
       width = b.width;
@@ -320,6 +337,7 @@ is_of_end ReportLine = true
 is_of_end f = false
 
 alike_behind : (above new : List Statement) (f : Statement) → is_of_end f ≡ true → section_alone (told (f ∷ above)).section ≡ section_alone (told above).section → AreAlike above new → AreAlike (f ∷ above) new
+alike_behind above new LayersLine t c a = absurd (false≢true t)
 alike_behind above new (ScreenLine w h d) t c a = absurd (false≢true t)
 alike_behind above new (GlyphLine code rows) t c a = absurd (false≢true t)
 alike_behind above new (BitmapLine name w h d) t c a = absurd (false≢true t)
@@ -333,6 +351,7 @@ alike_behind above new HoldLine t c a = absurd (false≢true t)
 alike_behind above new ReleaseLine t c a = absurd (false≢true t)
 alike_behind above new f t c a =
     record {
+      version = a.version;
       section = a.section ∙ sym c;
       due = a.due;
       width = a.width;
@@ -379,6 +398,7 @@ assets_alike s above base g c b =
 -- The lines of tasks over a base are alike the good lines below the screen.
 pub alike : (s : Setting) (above base : List Statement) → AreGoodLines s above → has_screen (told above).section ≡ true → IsBaseOf above base → AreAlike above (filter is_of_tasks above ++ base)
 alike s [] base g e b = absurd (false≢true e)
+alike s (LayersLine ∷ above) base g e b = absurd (true≢false (sym e ∙ ap has_screen (version_first s above g)))
 alike s (ScreenLine w h d ∷ above) base g e b = assets_alike s (ScreenLine w h d ∷ above) base g refl b
 alike s (GlyphLine code rows ∷ above) base g e b =
     assets_alike s (GlyphLine code rows ∷ above) base g (in_assets (told above).section (here s above (GlyphLine code rows) g).1) b

@@ -2,8 +2,8 @@
 use Rattle.std.proofs.Common.{◌≡◌, ℕ, ◌==◌, Bool, true, false, not, cond, nat_le, List, [], ◌∷◌, ◌++◌, length, map, codes, Option, Some, None, Result, Ok, Err, ok_or, IfSome, refl, sym, ap, subst, ◌∙◌, append_assoc}
 use Rattle.std.specs.List.{list_all, flat_map, onto_first}
 use Rattle.std.specs.Result.{IfOk}
-use Rattle.lw_calls.specs.declared.reason.Reason.{Reason}
-use Rattle.lw_calls.specs.declared.reason.Reason.TheVariants.{LineTooLong, BadByte, UnknownWord, Misplaced, Form as FormReason, Range}
+use Rattle.lw_grammar.specs.declared.reason.Reason.{Reason}
+use Rattle.lw_grammar.specs.declared.reason.Reason.TheVariants.{LineTooLong, BadByte, UnknownWord, Misplaced, Form as FormReason, Range}
 use Rattle.lw_grammar.specs.declared.verb.Verb.{Verb}
 use Rattle.lw_grammar.specs.declared.verb.Verb.TheVariants.{Part, Bare, Number, Pair, Text, Rect, Region, ClearRegion, Create, Open, InFront, Box, Which, Fill, ScrollRaster, Put, Blit, EndRefresh}
 use Rattle.lw_grammar.specs.Demands.{◌>>=◌, demand}
@@ -12,7 +12,7 @@ use Rattle.lw_grammar.specs.Tokens.{tokens, Token, token_of}
 use Rattle.lw_grammar.specs.Verbs.{verb_word, verb_of}
 use Rattle.lw_grammar.specs.Statements.{BoxAct, FillAct, Statement, row_line, numbers_line, statement_by, is_line_in_range}
 use Rattle.lw_grammar.specs.Told.{told}
-use Rattle.lw_grammar.specs.Script.{Setting, line_limit, is_printable, are_numbers_due, belongs_in, words_read, verb_read, statement_read, statement_tested, line_read}
+use Rattle.lw_grammar.specs.Script.{Setting, line_limit, is_printable, are_numbers_due, is_known_in, belongs_in, words_read, verb_read, statement_read, statement_tested, line_read}
 use Rattle.lw_calls.specs.Written.{line_of}
 use Rattle.lw_canonical.specs.Spelling.{joined, words_of, spelled}
 use Rattle.lw_canonical.proofs.Rearranged.{HasOneSpelling}
@@ -47,11 +47,11 @@ statement_spelt EndRefresh ts = endrefresh_spelt ts
 
 -- The statement's words are these, where it is in range and the words are good ones.
 abbrev IsOfWords : List (List ℕ) → Statement → Type 0
-IsOfWords ws f = AreWords ws → is_line_in_range f ≡ true → words_of f ≡ ws
+IsOfWords ws f = AreWords ws → (version : ℕ) → is_line_in_range version f ≡ true → words_of f ≡ ws
 
 -- a statement without a verb, by what its words are
 by_tokens : (ws : List (List ℕ)) (f : Statement) → HasWords (map token_word (map token_of ws)) (map token_of ws) f → IsOfWords ws f
-by_tokens ws f h good r = h (tokens_good ws) r ∙ tokens_back ws good
+by_tokens ws f h good v r = h (tokens_good ws) v r ∙ tokens_back ws good
 
 -- the same of a statement that is found, or not
 found_words : (ws : List (List ℕ)) (o : Option Statement) → IfSome o (HasWords (map token_word (map token_of ws)) (map token_of ws)) → IfOk (ok_or o FormReason) (IsOfWords ws)
@@ -61,20 +61,21 @@ found_words ws (Some f) h = by_tokens ws f h
 -- a statement with a verb
 by_verb : (w : List ℕ) (v : Verb) (ws : List (List ℕ)) → IsWordOf w v → (o : Option Statement) → IfSome o (IsSpelt (verb_word v) (map token_of ws)) → IfOk (ok_or o FormReason) (IsOfWords (w ∷ ws))
 by_verb w v ws e None h = tt
-by_verb w v ws e (Some f) h = λ good r. h (tokens_good ws) r ∙ also (sym e) (tokens_back ws good.1)
+by_verb w v ws e (Some f) h = λ good version r. h (tokens_good ws) version r ∙ also (sym e) (tokens_back ws good.1)
 
 -- a line that begins with a verb
-verb_words : (s : Setting) (above : List Statement) (ws : List (List ℕ)) → IfOk (verb_read s.form (told above).section ws) (IsOfWords ws)
+verb_words : (s : Setting) (above : List Statement) (ws : List (List ℕ)) → IfOk (verb_read s.form (told above).version (told above).section ws) (IsOfWords ws)
 verb_words s above [] = tt
 verb_words s above (w ∷ ws) = at_verb (verb_of w) (verb_spelled w)
   where
-    at_test : (v : Verb) → IsWordOf w v → (b : Bool) → IfOk (demand b Misplaced >>= (λ _. ok_or (statement_by v (map token_of ws)) FormReason)) (IsOfWords (w ∷ ws))
-    at_test v e false = tt
-    at_test v e true = by_verb w v ws e (statement_by v (map token_of ws)) (statement_spelt v (map token_of ws))
+    at_tests : (v : Verb) → IsWordOf w v → (a b : Bool) → IfOk (demand a UnknownWord >>= (λ _. demand b Misplaced >>= (λ _. ok_or (statement_by v (map token_of ws)) FormReason))) (IsOfWords (w ∷ ws))
+    at_tests v e false b = tt
+    at_tests v e true false = tt
+    at_tests v e true true = by_verb w v ws e (statement_by v (map token_of ws)) (statement_spelt v (map token_of ws))
 
-    at_verb : (o : Option Verb) → IfSome o (IsWordOf w) → IfOk (ok_or o UnknownWord >>= (λ v. demand (belongs_in s.form (told above).section v) Misplaced >>= (λ _. ok_or (statement_by v (map token_of ws)) FormReason))) (IsOfWords (w ∷ ws))
+    at_verb : (o : Option Verb) → IfSome o (IsWordOf w) → IfOk (ok_or o UnknownWord >>= (λ v. demand (is_known_in (told above).version v) UnknownWord >>= (λ _. demand (belongs_in s.form (told above).version (told above).section v) Misplaced >>= (λ _. ok_or (statement_by v (map token_of ws)) FormReason)))) (IsOfWords (w ∷ ws))
     at_verb None e = tt
-    at_verb (Some v) e = at_test v e (belongs_in s.form (told above).section v)
+    at_verb (Some v) e = at_tests v e (is_known_in (told above).version v) (belongs_in s.form (told above).version (told above).section v)
 
 -- of two results, each has what it is to have
 either_ok : {A : Type 0} (P : A → Type 0) (b : Bool) (x y : Result A Reason) → IfOk x P → IfOk y P → IfOk (cond b x y) P
@@ -82,7 +83,7 @@ either_ok P true x y h k = h
 either_ok P false x y h k = k
 
 -- the statement that is read has the line's words
-statement_words : (s : Setting) (above : List Statement) (ws : List (List ℕ)) → IfOk (statement_read s.form (told above).section (told above).rows_due (told above).row_width ws) (IsOfWords ws)
+statement_words : (s : Setting) (above : List Statement) (ws : List (List ℕ)) → IfOk (statement_read s.form (told above).version (told above).section (told above).rows_due (told above).row_width ws) (IsOfWords ws)
 statement_words s above ws =
     either_ok (IsOfWords ws) (not ((told above).rows_due == 0)) _ _ (found_words ws (row_line (told above).row_width (map token_of ws)) (row_spelt (told above).row_width (map token_of ws))) (either_ok (IsOfWords ws) (are_numbers_due (told above).section) _ _ (found_words ws (numbers_line (map token_of ws)) (numbers_spelt (map token_of ws))) (verb_words s above ws))
 
@@ -101,23 +102,23 @@ pub record IsReading (s : Setting) (above : List Statement) (line : List ℕ) (f
   pub printable : list_all is_printable line ≡ true
   pub ws : List (List ℕ)
   pub split : tokens line ≡ Ok ws
-  pub statement : statement_read s.form (told above).section (told above).rows_due (told above).row_width ws ≡ Ok f
-  pub range : is_line_in_range f ≡ true
+  pub statement : statement_read s.form (told above).version (told above).section (told above).rows_due (told above).row_width ws ≡ Ok f
+  pub range : is_line_in_range (told above).version f ≡ true
 
 -- the statement that was tested is the one that was told
-told_statement : (s : Setting) (above : List Statement) (g f : Statement) (h : (statement_tested s (told above) g >>= (λ _. Ok g)) ≡ Ok f) → (g ≡ f) × (is_line_in_range f ≡ true)
+told_statement : (s : Setting) (above : List Statement) (g f : Statement) (h : (statement_tested s (told above) g >>= (λ _. Ok g)) ≡ Ok f) → (g ≡ f) × (is_line_in_range (told above).version f ≡ true)
 told_statement s above g f h =
     let t = handed_on (statement_tested s (told above) g) (λ _. Ok g) f h in
     let same : g ≡ f = cc in
-    let tested = demanded (is_line_in_range g) Range _ _ t.1 in
-    (same, subst (λ k. is_line_in_range k ≡ true) same tested.0)
+    let tested = demanded (is_line_in_range (told above).version g) Range _ _ t.1 in
+    (same, subst (λ k. is_line_in_range (told above).version k ≡ true) same tested.0)
 
 pub reading : (s : Setting) (above : List Statement) (line : List ℕ) (f : Statement) → line_read s (told above) line ≡ Ok f → IsReading s above line f
 reading s above line f e =
     let words = handed_on (words_read line) _ f e in
     let short = demanded (nat_le (length line) line_limit) LineTooLong _ _ words.1 in
     let clean = demanded (list_all is_printable line) BadByte _ _ short.1 in
-    let statement = handed_on (statement_read s.form (told above).section (told above).rows_due (told above).row_width words.0) _ f words.2 in
+    let statement = handed_on (statement_read s.form (told above).version (told above).section (told above).rows_due (told above).row_width words.0) _ f words.2 in
     let told = told_statement s above statement.0 f statement.2 in
     record { printable = clean.0; ws = words.0; split = clean.1; statement = statement.1 ∙ ap (λ g. Ok g) told.0; range = told.1 }
 
@@ -131,7 +132,7 @@ pub one_spelling : HasOneSpelling
 one_spelling s above line f e =
     let r = reading s above line f e in
     let words = joined_line line r.ws (IfOk-at_ok (AreWordsOf line) r.split (words_joined line)) in
-    ap joined (IfOk-at_ok (IsOfWords r.ws) r.statement (statement_words s above r.ws) words.1 r.range) ∙ words.0
+    ap joined (IfOk-at_ok (IsOfWords r.ws) r.statement (statement_words s above r.ws) words.1 (told above).version r.range) ∙ words.0
 
 -- no byte is a line feed
 abbrev pub HasNoFeed : List ℕ → Type 0

@@ -1,13 +1,13 @@
 -- The lines of a script in the order of its canonical text, nearest first: those of its tasks, below those of its bitmaps,
--- below its glyphs in the order of their codes, below its screen.
+-- below its glyphs in the order of their codes, below its screen, below its version.
 use Rattle.std.proofs.Common.{◌||◌, ◌≡◌, ℕ, ◌+◌, ◌≤◌, Bool, true, false, List, [], ◌∷◌, ◌++◌, filter, reverse, pos, None, Ok}
 use Rattle.std.specs.List.{flat_map, range_with_len}
-use Rattle.lw_calls.specs.declared.form.Form.TheVariants.{Plain}
+use Rattle.lw_grammar.specs.declared.form.Form.TheVariants.{Plain}
 use Rattle.lw_grammar.specs.Statements.{Statement, ScreenLine, BitmapLine, RowLine, TaskLine, EndLine, CallLine, LockLine, UnlockLine, HoldLine, ReleaseLine}
 use Rattle.lw_grammar.specs.Told.{AssetsAreDue, nothing_told, told}
 use Rattle.lw_grammar.specs.Script.{Setting, is_skipped, is_nothing_due, line_read}
 use Rattle.lw_canonical.specs.Spelling.{spelled}
-use Rattle.lw_canonical.specs.Canonical.{lines_of_glyph}
+use Rattle.lw_canonical.specs.Canonical.{lines_of_glyph, lines_of_version}
 
 -- the line stands in a task, or begins or ends one
 abbrev pub is_of_tasks : Statement → Bool
@@ -30,13 +30,16 @@ is_of_bitmaps f = false
 abbrev pub glyphs_in_order : List Statement → List Statement
 glyphs_in_order above = flat_map (λ i. lines_of_glyph (32 + i) ((told above).glyphs (32 + i))) (range_with_len 0 95)
 
--- the screen's line
+-- the lines of the screen and the version
 abbrev pub screen_line_of : List Statement → Statement
 screen_line_of above = ScreenLine (pos (told above).width) (pos (told above).height) (pos (told above).depth)
 
+abbrev pub screen_of : List Statement → List Statement
+screen_of above = screen_line_of above ∷ lines_of_version (told above).version
+
 -- what stands below the tasks, and all
 abbrev pub base_of : List Statement → List Statement
-base_of above = filter is_of_bitmaps above ++ (reverse (glyphs_in_order above) ++ screen_line_of above ∷ [])
+base_of above = filter is_of_bitmaps above ++ (reverse (glyphs_in_order above) ++ screen_of above)
 
 abbrev pub arranged : List Statement → List Statement
 arranged above = filter is_of_tasks above ++ base_of above
@@ -58,8 +61,9 @@ AreSpelled t (f ∷ above) = (line_read t (told above) (spelled f) ≡ Ok f) × 
 abbrev pub HasOneSpelling : Type 0
 HasOneSpelling = (s : Setting) (above : List Statement) (line : List ℕ) (f : Statement) → line_read s (told above) line ≡ Ok f → spelled f ≡ line
 
--- lines that tell of screen, glyphs and bitmaps what those above tell, and of nothing else
+-- lines that tell of version, screen, glyphs and bitmaps what those above tell, and of nothing else
 pub record IsBaseOf (above base : List Statement) : Type 0 where
+  pub version : (told base).version ≡ (told above).version
   pub section : (told base).section ≡ AssetsAreDue
   pub due : (told base).rows_due ≡ 0
   pub width : (told base).width ≡ (told above).width

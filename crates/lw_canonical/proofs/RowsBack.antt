@@ -10,8 +10,8 @@ use Rattle.lw_planes.proofs.RowLaws.{row_bit_lt, row_bit_at}
 use Rattle.lw_planes.proofs.BitmapLaws.{length_plane_row, plane_row_at}
 use Rattle.lw_planes.proofs.StorageLaws.{bit_stored}
 use Rattle.lw_planes.proofs.DefinitionLaws.{plane_bit_inside, plane_bit_padding}
-use Rattle.lw_calls.specs.declared.reason.Reason.{Reason}
-use Rattle.lw_calls.specs.declared.reason.Reason.TheVariants.{Form as FormReason}
+use Rattle.lw_grammar.specs.declared.reason.Reason.{Reason}
+use Rattle.lw_grammar.specs.declared.reason.Reason.TheVariants.{Form as FormReason}
 use Rattle.lw_grammar.specs.Tokens.{Token, token_of, bytes_in}
 use Rattle.lw_grammar.specs.Statements.{Statement, RowLine, row_line}
 use Rattle.lw_grammar.specs.Told.{told}
@@ -36,16 +36,16 @@ row_words width [] = tt
 row_words width (t ∷ []) = spelled_row (bytes_in (row_bytes width) t) (row_bytes width) (token_spelled (row_bytes width) t)
 row_words width (t ∷ u ∷ us) = tt
 
-row_statement : (s : Setting) (above : List Statement) (ws : List (List ℕ)) → ((told above).rows_due == 0) ≡ false → IfOk (statement_read s.form (told above).section (told above).rows_due (told above).row_width ws) IsRowRead
+row_statement : (s : Setting) (above : List Statement) (ws : List (List ℕ)) → ((told above).rows_due == 0) ≡ false → IfOk (statement_read s.form (told above).version (told above).section (told above).rows_due (told above).row_width ws) IsRowRead
 row_statement s above ws e = rw e (row_words (told above).row_width (map token_of ws))
 
 row_tested : (f g : Statement) (t : Result (Unit {0}) Reason) → (t >>= (λ _. Ok f)) ≡ Ok g → IsRowRead f → IsRowRead g
 row_tested f g (Ok u) d h = let same : f ≡ g = cc in subst IsRowRead same h
 row_tested f g (Err r) d h = absurd (cc)
 
-row_read : (s : Setting) (above : List Statement) (g : Statement) (t : Result (List (List ℕ)) Reason) → ((told above).rows_due == 0) ≡ false → (t >>= (λ ws. statement_read s.form (told above).section (told above).rows_due (told above).row_width ws >>= (λ f. statement_tested s (told above) f >>= (λ _. Ok f)))) ≡ Ok g → IsRowRead g
+row_read : (s : Setting) (above : List Statement) (g : Statement) (t : Result (List (List ℕ)) Reason) → ((told above).rows_due == 0) ≡ false → (t >>= (λ ws. statement_read s.form (told above).version (told above).section (told above).rows_due (told above).row_width ws >>= (λ f. statement_tested s (told above) f >>= (λ _. Ok f)))) ≡ Ok g → IsRowRead g
 row_read s above g (Err r) e d = absurd (cc)
-row_read s above g (Ok ws) e d = at_statement (statement_read s.form (told above).section (told above).rows_due (told above).row_width ws) (row_statement s above ws e) d
+row_read s above g (Ok ws) e d = at_statement (statement_read s.form (told above).version (told above).section (told above).rows_due (told above).row_width ws) (row_statement s above ws e) d
   where
     at_statement : (r : Result Statement Reason) → IfOk r IsRowRead → (r >>= (λ f. statement_tested s (told above) f >>= (λ _. Ok f))) ≡ Ok g → IsRowRead g
     at_statement (Err r) h d = absurd (cc)

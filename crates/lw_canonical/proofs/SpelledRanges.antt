@@ -1,11 +1,11 @@
 -- Numbers in the ranges of a script's lines lie below the cap, so they are written as they were read.
-use Rattle.std.proofs.Common.{◌≡◌, ◌<◌, true, ◌&&◌, List, ◌∷◌, ℤ, pos, negsuc, unsigned_abs, Some, arith}
+use Rattle.std.proofs.Common.{◌≡◌, ℕ, ◌<◌, ◌≤◌, true, ◌&&◌, List, ◌∷◌, ℤ, pos, negsuc, unsigned_abs, Some, arith}
 use Rattle.lw_region.specs.Rectangle.{Rectangle, within}
 use Rattle.lw_calls.specs.Limits.{is_coordinate, axis_fits, rect_fits, coordinates_fit, is_extent}
 use Rattle.lw_grammar.specs.Tokens.{cap}
 use Rattle.lw_grammar.specs.declared.verb.NumberVerb.{NumberVerb}
-use Rattle.lw_grammar.specs.declared.verb.NumberVerb.TheVariants.{Mode as ModeVerb, Clip as ClipVerb}
-use Rattle.lw_grammar.specs.Statements.{is_hook_number, place_and_size_fit, greatest_number}
+use Rattle.lw_grammar.specs.declared.verb.NumberVerb.TheVariants.{Mode as ModeVerb, Clip as ClipVerb, Hook as HookVerb}
+use Rattle.lw_grammar.specs.Statements.{greatest_hook, is_hook_number, place_and_size_fit, greatest_number, are_sizes_in_range}
 use Rattle.lw_canonical.proofs.SpelledNumbers.{small_in}
 use Rattle.std.proofs.lemmas.Bool.{and_parts}
 
@@ -29,28 +29,31 @@ size_small z h = small_in (pos 1) z (pos 32767) h (omega arith) (omega arith)
 pub register_small : (z : ℤ) → within (pos 0) z (pos 7) ≡ true → IsSmall z
 register_small z h = small_in (pos 0) z (pos 7) h (omega arith) (omega arith)
 
+-- a hook's number
+pub hook_small : (z : ℤ) → is_hook_number (Some z) ≡ true → IsSmall z
+hook_small z h = small_in (pos 0) z (pos greatest_hook) h (omega arith) (omega arith)
+
 -- the number after a layer
 pub after_layer_small : (verb : NumberVerb) (z : ℤ) → within (pos 0) z (pos (greatest_number verb)) ≡ true → IsSmall z
 after_layer_small ModeVerb z h = register_small z h
 after_layer_small ClipVerb z h = register_small z h
+after_layer_small HookVerb z h = hook_small z h
 after_layer_small verb z h = small_in (pos 0) z (pos 255) h (omega arith) (omega arith)
 
 pub task_small : (z : ℤ) → within (pos 0) z (pos 15) ≡ true → IsSmall z
 task_small z h = small_in (pos 0) z (pos 15) h (omega arith) (omega arith)
 
--- the sizes of a screen or a bitmap, and of a bitmap of a layer's own
-pub side_small : (z : ℤ) → within (pos 1) z (pos 1024) ≡ true → IsSmall z
-side_small z h = small_in (pos 1) z (pos 1024) h (omega arith) (omega arith)
-
-pub depth_small : (z : ℤ) → within (pos 1) z (pos 8) ≡ true → IsSmall z
-depth_small z h = small_in (pos 1) z (pos 8) h (omega arith) (omega arith)
-
+-- the size of a bitmap of a layer's own
 pub own_small : (z : ℤ) → within (pos 1) z (pos 2048) ≡ true → IsSmall z
 own_small z h = small_in (pos 1) z (pos 2048) h (omega arith) (omega arith)
 
--- a hook's number
-pub hook_small : (z : ℤ) → is_hook_number (Some z) ≡ true → IsSmall z
-hook_small z h = small_in (pos 0) z (pos 4294967295) h (omega arith) (omega arith)
+-- the sizes of a screen or a bitmap
+pub sizes_small : (limit : ℕ) (w h d : ℤ) → limit ≤ 2048 → are_sizes_in_range limit w h d ≡ true → IsSmall w × (IsSmall h × IsSmall d)
+sizes_small limit w h d low r =
+    let k = and_parts (within (pos 1) w (pos limit) && within (pos 1) h (pos limit)) _ r in
+    let s = and_parts (within (pos 1) w (pos limit)) _ k.0 in
+    let side : (z : ℤ) → within (pos 1) z (pos limit) ≡ true → IsSmall z = λ z e. small_in (pos 1) z (pos limit) e (omega arith) (omega (arith, low)) in
+    (side w s.0, (side h s.1, small_in (pos 1) d (pos 8) k.1 (omega arith) (omega arith)))
 
 -- each number of four
 abbrev pub AreSmall : Rectangle → Type 0

@@ -3,8 +3,8 @@ use Rattle.std.proofs.Common.{◌≡◌, ℕ, ◌<◌, ◌==◌, Bool, true, fal
 use Rattle.std.specs.List.{onto_first}
 use Rattle.std.specs.Result.{IfOk}
 use Rattle.std.specs.Fmt.{signed_decimal}
-use Rattle.lw_calls.specs.declared.reason.Reason.{Reason}
-use Rattle.lw_calls.specs.declared.reason.Reason.TheVariants.{Spacing, Quote}
+use Rattle.lw_grammar.specs.declared.reason.Reason.{Reason}
+use Rattle.lw_grammar.specs.declared.reason.Reason.TheVariants.{Spacing, Quote}
 use Rattle.lw_grammar.specs.Tokens.{space, quote, ends_text, on_found, tokens_at, tokens, Token, NameToken, NumberToken, TextToken, OddToken, is_a_name, is_a_number, is_a_text, cap, value_of_number, without_last, token_of}
 use Rattle.lw_canonical.specs.Spelling.{joined, text_word}
 use Rattle.lw_canonical.proofs.SpelledNumbers.{number_spelled}

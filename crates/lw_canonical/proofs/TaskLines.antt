@@ -6,7 +6,7 @@ use Rattle.lw_calls.specs.declared.call.Call.{Call}
 use Rattle.lw_calls.specs.declared.group.Hold.TheVariants.{Slot, All as AllLayers}
 use Rattle.lw_calls.specs.declared.group.Group.{Group}
 use Rattle.lw_grammar.specs.declared.verb.BareVerb.TheVariants.{Refresh as RefreshVerb}
-use Rattle.lw_grammar.specs.Statements.{Act, BareAct, NumberAct, PairAct, TextAct, PutAct, EndRefreshAct, Statement, ScreenLine, GlyphLine, BitmapLine, RowLine, TaskLine, EndLine, OrderLine, NumbersLine, ReportLine, CallLine, LockLine, UnlockLine, HoldLine, ReleaseLine}
+use Rattle.lw_grammar.specs.Statements.{Act, BareAct, NumberAct, PairAct, TextAct, PutAct, EndRefreshAct, Statement, LayersLine, ScreenLine, GlyphLine, BitmapLine, RowLine, TaskLine, EndLine, OrderLine, NumbersLine, ReportLine, CallLine, LockLine, UnlockLine, HoldLine, ReleaseLine}
 use Rattle.lw_grammar.specs.Told.{Section, ScreenIsDue, AssetsAreDue, CallsAreDue, TasksAreDue, NumbersAreDue, NothingIsDue, OpenGroup, Locked, Updating, Held, and_names, place_among, onto_last, call_below, group_from, told, plan_of}
 use Rattle.lw_grammar.specs.Script.{Setting, is_screen_due, are_assets_due, are_calls_due, are_tasks_due, are_numbers_due, lacks_name, is_beginning, is_ending, is_lock_on, is_hold, AreGoodLines}
 use Rattle.lw_canonical.specs.Canonical.{line_of_call, are_updating, is_update, opening_lines, closing_lines}
@@ -14,7 +14,7 @@ use Rattle.lw_canonical.proofs.Rearranged.{is_of_tasks}
 use Rattle.lw_grammar.proofs.ScriptNames.{any_before, place_before, any_kept, place_kept, AreNamed, all_named}
 use Rattle.lw_grammar.proofs.ScriptGroups.{number_plain, pair_plain, text_plain, drop_pushed}
 use Rattle.lw_grammar.proofs.ScriptOutcome.{rows_in_assets}
-use Rattle.lw_grammar.proofs.ScriptSizes.{here, tests, in_calls, in_tasks}
+use Rattle.lw_grammar.proofs.ScriptSizes.{here, tests, in_calls, in_tasks, version_first}
 use Rattle.lw_grammar.proofs.ScriptTasks.{View, view_of, OpenState, HaveBegun, IsNow, AreTasks, tasks_fit, calls_listed, groups_listed, none_open, plain_groups, opens_none, ends_same, unlocks_same, releases_held, onto_pushed}
 use Rattle.lw_canonical.proofs.CallLinesBack.{IsBitmapBack, line_back}
 use Rattle.lw_canonical.proofs.GroupLines.{AreInside, groups_inside, open_group_before, locked_begin_none, update_begins, closed_lines, lines_so_far, none_before, group_begun, group_ended, lines_closed, call_line, update_line}
@@ -106,14 +106,14 @@ nearest_task : (s : Setting) (above : List Statement) → AreGoodLines s above �
 nearest_task s above g e done done_groups calls groups a b =
     let z : Sizes = (plan_of s.hooks (told above)).sizes in
     let P : Section → Type 0 = λ c. AreTasks z c (view_of above) in
-    let at : AreTasks z CallsAreDue (view_of above) = subst P e (tasks_fit z s above g refl (omega arith) (omega arith)) in
+    let at : AreTasks z CallsAreDue (view_of above) = subst P e (tasks_fit z s above g refl refl (omega arith) (omega arith)) in
     let begun : HaveBegun z (view_of above) = at.tasks in
     let Q : List Call → Type 0 = λ cs. IsTask (view_of above) cs groups in
     let R : List Group → Type 0 = λ gs. IsTask (view_of above) begun.calls gs in
     subst Q (last_same (told above).calls begun.done done begun.calls calls begun.all_are a) (subst R (last_same (told above).groups begun.done_groups done_groups begun.groups groups begun.groups_are b) (now_task z (view_of above) begun.calls begun.groups begun.now))
 
 none_between : (s : Setting) (above : List Statement) → AreGoodLines s above → are_calls_due (told above).section ≡ false → (told above).group ≡ None
-none_between s above g e = (tasks_fit (plan_of s.hooks (told above)).sizes s above g refl (omega arith) (omega arith)).closed e
+none_between s above g e = (tasks_fit (plan_of s.hooks (told above)).sizes s above g refl refl (omega arith) (omega arith)).closed e
 
 -- nothing was opened before a call after the next one
 open_group_behind : (o : Option OpenGroup) (so_far began n : ℕ) (names : List (List ℕ)) (calls : List Call) (groups : List Group) → OpenState o so_far began names calls groups → so_far < n → open_group_before o began n ≡ []
@@ -350,6 +350,9 @@ module _ (names bitmaps : List (List ℕ)) where
   -- Good lines tell their tasks.
   pub tasks_told : (s : Setting) (above : List Statement) → AreGoodLines s above → IsFoundIn names (told above).names → IsFoundIn bitmaps (told above).bitmap_names → ToldOrClosed (are_calls_due (told above).section) above
   tasks_told s [] g found stored = refl
+  tasks_told s (LayersLine ∷ above) g found stored =
+      let off = ap are_calls_due (version_first s above g) in
+      closed_told (are_calls_due (told above).section) (LayersLine ∷ above) off (told_closed (are_calls_due (told above).section) above off (tasks_told s above g.1 found stored))
   tasks_told s (ScreenLine w h d ∷ above) g found stored =
       told_closed (are_calls_due (told above).section) above (no_calls_in_screen (told above).section (here s above (ScreenLine w h d) g).1) (tasks_told s above g.1 found stored)
   tasks_told s (GlyphLine code rows ∷ above) g found stored =

@@ -2,15 +2,15 @@
 use Rattle.std.proofs.Common.{◌≡◌, ℕ, ◌+◌, ◌==◌, Bool, true, false, ◌||◌, cond, List, [], ◌∷◌, ◌++◌, map, filter, reverse, Ok, refl, sym, ap, subst, ◌∙◌, arith}
 use Rattle.std.specs.List.{list_all, flat_map, range_with_len}
 use Rattle.lw_planes.proofs.GridLaws.{map_range_same}
-use Rattle.lw_calls.specs.declared.form.Form.TheVariants.{Plain}
-use Rattle.lw_grammar.specs.Statements.{Statement, ScreenLine, GlyphLine, BitmapLine, RowLine, TaskLine, EndLine, OrderLine, NumbersLine, ReportLine, CallLine, LockLine, UnlockLine, HoldLine, ReleaseLine}
+use Rattle.lw_grammar.specs.declared.form.Form.TheVariants.{Plain}
+use Rattle.lw_grammar.specs.Statements.{Statement, LayersLine, ScreenLine, GlyphLine, BitmapLine, RowLine, TaskLine, EndLine, OrderLine, NumbersLine, ReportLine, CallLine, LockLine, UnlockLine, HoldLine, ReleaseLine}
 use Rattle.lw_grammar.specs.Told.{Section, ScreenIsDue, AssetsAreDue, CallsAreDue, TasksAreDue, NumbersAreDue, NothingIsDue, told, plan_of}
 use Rattle.lw_grammar.specs.Script.{Setting, are_assets_due, are_calls_due, are_tasks_due, is_nothing_due, line_read, may_end, IsGoodLine, AreGoodLines}
 use Rattle.lw_canonical.specs.Spelling.{spelled}
 use Rattle.lw_canonical.specs.Canonical.{lines_of_glyph}
 use Rattle.lw_grammar.proofs.ScriptOutcome.{rows_in_assets}
-use Rattle.lw_grammar.proofs.ScriptSizes.{here, tests, has_begun, has_screen, in_assets, in_assets_or_tasks, MayEnd, whole_ends}
-use Rattle.lw_canonical.proofs.Rearranged.{is_of_tasks, is_of_bitmaps, glyphs_in_order, screen_line_of, base_of, alone, AreSpelled, HasOneSpelling, IsBaseOf}
+use Rattle.lw_grammar.proofs.ScriptSizes.{here, tests, has_begun, has_screen, in_assets, in_assets_or_tasks, version_first, MayEnd, whole_ends}
+use Rattle.lw_canonical.proofs.Rearranged.{is_of_tasks, is_of_bitmaps, glyphs_in_order, screen_line_of, screen_of, base_of, alone, AreSpelled, HasOneSpelling, IsBaseOf}
 use Rattle.lw_canonical.proofs.ReadsAgain.{isnt_passed}
 use Rattle.lw_canonical.proofs.NotionsAlike.{bare, section_alone, AreAlike, base_below, calls_screen, numbers_screen, order_screen, report_screen, alike}
 use Rattle.lw_canonical.proofs.TaskLineAlone.{task_not_skipped, is_inner, inner, read_alone}
@@ -55,6 +55,7 @@ assets_over s above base g c k =
 -- The lines of tasks are spelled over a spelled base.
 tasks_over : HasOneSpelling → (s : Setting) (above base : List Statement) → AreGoodLines s above → has_screen (told above).section ≡ true → IsBaseOf above base → AreSpelled (alone s) base → AreSpelled (alone s) (filter is_of_tasks above ++ base)
 tasks_over one s [] base g e b k = absurd (false≢true e)
+tasks_over one s (LayersLine ∷ above) base g e b k = absurd (true≢false (sym e ∙ ap has_screen (version_first s above g)))
 tasks_over one s (ScreenLine w h d ∷ above) base g e b k = assets_over s (ScreenLine w h d ∷ above) base g refl k
 tasks_over one s (GlyphLine code rows ∷ above) base g e b k =
     assets_over s (GlyphLine code rows ∷ above) base g (in_assets (told above).section (here s above (GlyphLine code rows) g).1) k
@@ -116,6 +117,7 @@ same_glyphs above new a =
 -- lines that tell the same have the same plan
 same_plan : (hooks : ℕ) (above new : List Statement) → AreAlike above new → plan_of hooks (told new) ≡ plan_of hooks (told above)
 same_plan hooks above new a =
+    let version = a.version in
     let width = a.width in
     let height = a.height in
     let depth = a.depth in
@@ -205,7 +207,15 @@ glyphs_none : (above : List Statement) (ns : List ℕ) → list_all has_no_numbe
 glyphs_none above [] = refl
 glyphs_none above (i ∷ ns) = both_none (lines_of_glyph (32 + i) ((told above).glyphs (32 + i))) _ (glyph_none (32 + i) ((told above).glyphs (32 + i))) (glyphs_none above ns)
 
+-- so are the lines of screen and version
+screen_none : (above : List Statement) → list_all has_no_numbers (screen_of above) ≡ true
+screen_none above = step ((told above).version == 2)
+  where
+    step : (t : Bool) → list_all has_no_numbers (screen_line_of above ∷ cond t (LayersLine ∷ []) []) ≡ true
+    step true = refl
+    step false = refl
+
 -- Below the tasks no order stands.
 pub base_order : (above : List Statement) → (told (base_of above)).order ≡ []
 base_order above =
-    order_none (base_of above) (both_none (filter is_of_bitmaps above) _ (bitmaps_none above) (both_none (reverse (glyphs_in_order above)) (screen_line_of above ∷ []) (reverse_none (glyphs_in_order above) (glyphs_none above (range_with_len 0 95))) refl))
+    order_none (base_of above) (both_none (filter is_of_bitmaps above) _ (bitmaps_none above) (both_none (reverse (glyphs_in_order above)) (screen_of above) (reverse_none (glyphs_in_order above) (glyphs_none above (range_with_len 0 95))) (screen_none above)))

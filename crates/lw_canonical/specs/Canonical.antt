@@ -1,22 +1,22 @@
--- The canonical text of a plan: a script without skipped lines that spells the plan. After the
--- screen come the glyphs with some bit set in the order of their codes, the bitmaps with their rows, and the tasks.
+-- The canonical text of a plan: a script without skipped lines that spells the plan. After the line of version 2, in a plan of
+-- it, and the screen come the glyphs with some bit set in the order of their codes, the bitmaps with their rows, and the tasks.
 use Rattle.std.specs.Prelude.{ℕ, ◌+◌, ◌==◌, Bool, true, false, if◌then◌else◌, List, [], ◌∷◌, ◌++◌, map, drop, length, ℤ, pos, ◌+ℤ◌, ◌-ℤ◌, option_map, slice_index_or}
 use Rattle.std.specs.List.{list_all, flat_map, range_with_len}
 use Rattle.lw_planes.specs.Bitmap.{Bitmap, plane_row}
 use Rattle.lw_calls.specs.declared.make.Make.{Make}
 use Rattle.lw_calls.specs.declared.call.Call.{Call}
-use Rattle.lw_calls.specs.declared.call.Call.TheVariants.{RegRect, RegPair, RegClear, Create, OpenWindow, Close, ToFront, ToBack, InFrontOf, MoveBy, SizeBy, SetBox, Activate, Which, SetA, SetB, SetMode, SetMask, At, WritePixel, ReadPixel, Fill, DrawTo, Letters, SetRast, ScrollRaster, Put, Blit, Clip, Unclip, BeginRefresh, EndRefresh, Scroll, SetTitle, TakeMessage}
+use Rattle.lw_calls.specs.declared.call.Call.TheVariants.{RegRect, RegPair, RegClear, Create, OpenWindow, Close, ToFront, ToBack, InFrontOf, MoveBy, SizeBy, SetBox, Activate, SetHook, Which, SetA, SetB, SetMode, SetMask, At, WritePixel, ReadPixel, Fill, DrawTo, Letters, SetRast, ScrollRaster, Put, Blit, Clip, Unclip, BeginRefresh, EndRefresh, Scroll, SetTitle, TakeMessage}
 use Rattle.lw_calls.specs.declared.group.Hold.{Hold}
 use Rattle.lw_calls.specs.declared.group.Hold.TheVariants.{Slot, All}
 use Rattle.lw_calls.specs.declared.group.Group.{Group}
-use Rattle.lw_calls.specs.declared.form.Form.TheVariants.{Plain}
+use Rattle.lw_grammar.specs.declared.form.Form.TheVariants.{Plain}
 use Rattle.lw_calls.specs.Plan.{Plan, task_calls, task_groups, begins_update}
 use Rattle.lw_calls.specs.Written.{line_of}
 use Rattle.lw_grammar.specs.declared.verb.BareVerb.TheVariants.{Close as CloseVerb, Front as FrontVerb, Behind as BehindVerb, Activate as ActivateVerb, Unclip as UnclipVerb, Refresh as RefreshVerb, GetMsg as GetMsgVerb}
-use Rattle.lw_grammar.specs.declared.verb.NumberVerb.TheVariants.{APen as APenVerb, BPen as BPenVerb, Mode as ModeVerb, Mask as MaskVerb, SetRast as SetRastVerb, Clip as ClipVerb}
+use Rattle.lw_grammar.specs.declared.verb.NumberVerb.TheVariants.{APen as APenVerb, BPen as BPenVerb, Mode as ModeVerb, Mask as MaskVerb, SetRast as SetRastVerb, Clip as ClipVerb, Hook as HookVerb}
 use Rattle.lw_grammar.specs.declared.verb.PairVerb.TheVariants.{Move as MoveVerb, Size as SizeVerb, At as AtVerb, Write as WriteVerb, Read as ReadVerb, Draw as DrawVerb, Scroll as ScrollVerb}
 use Rattle.lw_grammar.specs.declared.verb.TextVerb.TheVariants.{Text as TextOf, Title as TitleVerb}
-use Rattle.lw_grammar.specs.Statements.{AskedLayer, Act, BareAct, NumberAct, PairAct, TextAct, RegRectAct, RegPairAct, RegClearAct, CreateAct, OpenAct, InFrontAct, BoxAct, WhichAct, FillAct, ScrollRasterAct, PutAct, BlitAct, EndRefreshAct, Statement, ScreenLine, GlyphLine, BitmapLine, RowLine, TaskLine, EndLine, CallLine, LockLine, UnlockLine, HoldLine, ReleaseLine, four}
+use Rattle.lw_grammar.specs.Statements.{NewLayer, Act, BareAct, NumberAct, PairAct, TextAct, RegRectAct, RegPairAct, RegClearAct, CreateAct, OpenAct, InFrontAct, BoxAct, WhichAct, FillAct, ScrollRasterAct, PutAct, BlitAct, EndRefreshAct, Statement, LayersLine, ScreenLine, GlyphLine, BitmapLine, RowLine, TaskLine, EndLine, CallLine, LockLine, UnlockLine, HoldLine, ReleaseLine, four}
 use Rattle.lw_grammar.specs.Script.{Setting, ScriptInput, SpellsInput}
 use Rattle.lw_canonical.specs.Spelling.{spelled}
 
@@ -26,8 +26,8 @@ enumerated n [] = []
 enumerated n (a ∷ as') = (n, a) ∷ enumerated (n + 1) as'
 
 -- what a line asks for of which a call with this layer was made: a creation by its bounds, an opening by its place and size
-abbrev pub asked_of : Make → ℤ → ℤ → AskedLayer
-asked_of m a b =
+abbrev pub new_layer_of : Make → ℤ → ℤ → NewLayer
+new_layer_of m a b =
     record {
       kind = m.kind;
       place = m.place;
@@ -38,11 +38,11 @@ asked_of m a b =
       bits_h = pos m.bits_h;
     }
 
-abbrev pub created_asked : Make → AskedLayer
-created_asked m = asked_of m ((m.x +ℤ m.w) -ℤ pos 1) ((m.y +ℤ m.h) -ℤ pos 1)
+abbrev pub created_layer : Make → NewLayer
+created_layer m = new_layer_of m ((m.x +ℤ m.w) -ℤ pos 1) ((m.y +ℤ m.h) -ℤ pos 1)
 
-abbrev pub opened_asked : Make → AskedLayer
-opened_asked m = asked_of m m.w m.h
+abbrev pub opened_layer : Make → NewLayer
+opened_layer m = new_layer_of m m.w m.h
 
 -- the line of a call on one layer, of this name
 abbrev pub on_layer : List (List ℕ) → ℕ → Act → Statement
@@ -53,9 +53,9 @@ abbrev pub line_of_call : List (List ℕ) → List (List ℕ) → Call → State
 line_of_call names bitmaps (RegRect op r rect) = CallLine [] (RegRectAct op (pos r) rect)
 line_of_call names bitmaps (RegPair op s r) = CallLine [] (RegPairAct op (pos s) (pos r))
 line_of_call names bitmaps (RegClear r) = CallLine [] (RegClearAct (pos r))
-line_of_call names bitmaps (Create s m) = on_layer names s (CreateAct (created_asked m))
+line_of_call names bitmaps (Create s m) = on_layer names s (CreateAct (created_layer m))
 line_of_call names bitmaps (OpenWindow s m framed nocare classes title) =
-    on_layer names s (OpenAct (opened_asked m) framed nocare classes title)
+    on_layer names s (OpenAct (opened_layer m) framed nocare classes title)
 line_of_call names bitmaps (Close s) = on_layer names s (BareAct CloseVerb)
 line_of_call names bitmaps (ToFront s) = on_layer names s (BareAct FrontVerb)
 line_of_call names bitmaps (ToBack s) = on_layer names s (BareAct BehindVerb)
@@ -64,6 +64,7 @@ line_of_call names bitmaps (MoveBy s dx dy) = on_layer names s (PairAct MoveVerb
 line_of_call names bitmaps (SizeBy s dw dh) = on_layer names s (PairAct SizeVerb dw dh)
 line_of_call names bitmaps (SetBox s x y w h) = on_layer names s (BoxAct (four x y w h))
 line_of_call names bitmaps (Activate s) = on_layer names s (BareAct ActivateVerb)
+line_of_call names bitmaps (SetHook s n) = on_layer names s (NumberAct HookVerb (pos n))
 line_of_call names bitmaps (Which x y) = CallLine [] (WhichAct x y)
 line_of_call names bitmaps (SetA s p) = on_layer names s (NumberAct APenVerb (pos p))
 line_of_call names bitmaps (SetB s p) = on_layer names s (NumberAct BPenVerb (pos p))
@@ -138,10 +139,14 @@ lines_of_bitmap name b =
     BitmapLine name (pos b.width) (pos b.height) (pos b.depth) ∷
     flat_map (λ k. map (λ y. RowLine (plane_row b k y)) (range_with_len 0 b.height)) (range_with_len 0 b.depth)
 
+-- the line of version 2: no other version has one
+abbrev pub lines_of_version : ℕ → List Statement
+lines_of_version version = if version == 2 then LayersLine ∷ [] else []
+
 -- the lines of a plan
 abbrev pub lines_of_plan : Plan → List Statement
 lines_of_plan p =
-    ScreenLine (pos p.sizes.width) (pos p.sizes.height) (pos p.sizes.depth) ∷
+    lines_of_version p.sizes.version ++ ScreenLine (pos p.sizes.width) (pos p.sizes.height) (pos p.sizes.depth) ∷
     flat_map (λ i. lines_of_glyph (32 + i) (slice_index_or p.assets.glyphs i [])) (range_with_len 0 95)
     ++ flat_map (λ b. lines_of_bitmap (slice_index_or p.bitmap_names b.0 []) b.1) (enumerated 0 p.assets.bitmaps)
     ++ flat_map (lines_of_task p) (range_with_len 0 p.sizes.tasks)

@@ -9,7 +9,7 @@ use Rattle.lw_calls.specs.declared.make.Place.{Place}
 use Rattle.lw_calls.specs.declared.make.Place.TheVariants.{Front, Behind}
 use Rattle.lw_grammar.specs.Tokens.{space, quote}
 use Rattle.lw_grammar.specs.Verbs.{bare_word, number_word, pair_word, text_verb_word, rect_word, region_word}
-use Rattle.lw_grammar.specs.Statements.{AskedLayer, Act, BareAct, NumberAct, PairAct, TextAct, RegRectAct, RegPairAct, RegClearAct, CreateAct, OpenAct, InFrontAct, BoxAct, WhichAct, FillAct, ScrollRasterAct, PutAct, BlitAct, EndRefreshAct, Statement, ScreenLine, GlyphLine, BitmapLine, RowLine, TaskLine, EndLine, OrderLine, NumbersLine, ReportLine, CallLine, LockLine, UnlockLine, HoldLine, ReleaseLine}
+use Rattle.lw_grammar.specs.Statements.{NewLayer, Act, BareAct, NumberAct, PairAct, TextAct, RegRectAct, RegPairAct, RegClearAct, CreateAct, OpenAct, InFrontAct, BoxAct, WhichAct, FillAct, ScrollRasterAct, PutAct, BlitAct, EndRefreshAct, Statement, LayersLine, ScreenLine, GlyphLine, BitmapLine, RowLine, TaskLine, EndLine, OrderLine, NumbersLine, ReportLine, CallLine, LockLine, UnlockLine, HoldLine, ReleaseLine}
 use Rattle.lw_calls.specs.Written.{hex_byte}
 
 -- words with single spaces between them
@@ -65,19 +65,19 @@ abbrev pub ask_words : ℕ → List (List ℕ)
 ask_words classes = if classes == 0 then [] else codes "ask" ∷ set_word classes ∷ []
 
 -- what a layer is asked for with after its four numbers: BW BH [backdrop], or [backdrop] [hook N]
-abbrev pub created_words : Kind → AskedLayer → List (List ℕ)
+abbrev pub created_words : Kind → NewLayer → List (List ℕ)
 created_words Simple a = flag_words (codes "backdrop") a.backdrop ++ hook_words a.hook
 created_words Smart a = flag_words (codes "backdrop") a.backdrop ++ hook_words a.hook
 created_words SuperBitmap a = signed_decimal a.bits_w ∷ signed_decimal a.bits_h ∷ flag_words (codes "backdrop") a.backdrop
 
 -- what a window without a bitmap of its own is asked for with there: [backdrop] [borderless] [nocare] [hook N] [ask SET]
-abbrev pub opened_words_without_bitmap : AskedLayer → Bool → Bool → ℕ → List (List ℕ)
+abbrev pub opened_words_without_bitmap : NewLayer → Bool → Bool → ℕ → List (List ℕ)
 opened_words_without_bitmap a framed nocare classes =
     flag_words (codes "backdrop") a.backdrop ++ flag_words (codes "borderless") (not framed) ++ flag_words (codes "nocare") nocare
     ++ hook_words a.hook ++ ask_words classes
 
 -- what a window is asked for with there: the same, or BW BH [backdrop] [ask SET]
-abbrev pub opened_words : Kind → AskedLayer → Bool → Bool → ℕ → List (List ℕ)
+abbrev pub opened_words : Kind → NewLayer → Bool → Bool → ℕ → List (List ℕ)
 opened_words Simple a framed nocare classes = opened_words_without_bitmap a framed nocare classes
 opened_words Smart a framed nocare classes = opened_words_without_bitmap a framed nocare classes
 opened_words SuperBitmap a framed nocare classes =
@@ -113,6 +113,7 @@ call_words layers (EndRefreshAct full) = codes "endrefresh" ∷ layers ++ (if fu
 
 -- the words of a line
 abbrev pub words_of : Statement → List (List ℕ)
+words_of LayersLine = codes "layers" ∷ codes "2" ∷ []
 words_of (ScreenLine w h d) = codes "screen" ∷ signed_decimal w ∷ signed_decimal h ∷ signed_decimal d ∷ []
 words_of (GlyphLine code rows) = codes "glyph" ∷ hex_byte code ∷ hex_word rows ∷ []
 words_of (BitmapLine name w h d) = codes "bitmap" ∷ name ∷ signed_decimal w ∷ signed_decimal h ∷ signed_decimal d ∷ []

@@ -15,7 +15,7 @@ use Rattle.lw_grammar.specs.declared.verb.PairVerb.TheVariants.{Read as ReadVerb
 use Rattle.lw_grammar.specs.declared.verb.Verb.TheVariants.{Bare, Number, Pair, Create as CreateVerb, Fill as FillVerb}
 use Rattle.lw_grammar.specs.Tokens.{NameToken, token_of}
 use Rattle.lw_grammar.specs.Verbs.{verb_of}
-use Rattle.lw_grammar.specs.Statements.{AskedLayer, BareAct, NumberAct, PairAct, CreateAct, FillAct, four, statement_by, asked_without_bitmap}
+use Rattle.lw_grammar.specs.Statements.{NewLayer, BareAct, NumberAct, PairAct, CreateAct, FillAct, four, statement_by, new_without_bitmap}
 use Rattle.lw_grammar.specs.Told.{spelled_call}
 use Rattle.lw_canonical.specs.Spelling.{kind_word, place_word}
 use Rattle.lw_gen.specs.Demo.{layer_between}
@@ -35,14 +35,14 @@ axis low high up small =
     and_from _ _ (and_from _ _ (coordinate low (omega (arith, up, small))) (coordinate high small)) (le_true (pos low) (pos high) (omega (arith, ints, up)))
 
 -- a layer that is created in front of all others, in these bounds
-abbrev pub asked_between : Kind → ℕ → ℕ → ℕ → ℕ → AskedLayer
-asked_between kind x0 y0 x1 y1 = asked_without_bitmap kind Front (four (pos x0) (pos y0) (pos x1) (pos y1)) false None
+abbrev pub new_between : Kind → ℕ → ℕ → ℕ → ℕ → NewLayer
+new_between kind x0 y0 x1 y1 = new_without_bitmap kind Front (four (pos x0) (pos y0) (pos x1) (pos y1)) false None
 
 -- its call
 size_between : (low high : ℕ) → low ≤ high → (pos high -ℤ pos low) +ℤ pos 1 ≡ pos ((high + 1) - low)
 size_between low high up = omega (arith, ints, up)
 
-pub created_between : (kind : Kind) (x0 y0 x1 y1 slot : ℕ) → x0 ≤ x1 → y0 ≤ y1 → spelled_call [] (CreateAct (asked_between kind x0 y0 x1 y1)) (slot ∷ []) ≡ Create slot (layer_between kind x0 y0 x1 y1)
+pub created_between : (kind : Kind) (x0 y0 x1 y1 slot : ℕ) → x0 ≤ x1 → y0 ≤ y1 → spelled_call [] (CreateAct (new_between kind x0 y0 x1 y1)) (slot ∷ []) ≡ Create slot (layer_between kind x0 y0 x1 y1)
 created_between kind x0 y0 x1 y1 slot wide high =
     let w = size_between x0 x1 wide in
     let h = size_between y0 y1 high in
@@ -59,6 +59,7 @@ module _ (l : List ℕ) (plain_name : is_plain l ≡ true) (name : token_of l �
     plain = and_from (is_plain l) true plain_name refl;
     few = omega arith;
     known = refl;
+    spoken = refl;
     made = λ i. statement_by (Bare FrontVerb) (name i ∷ []);
     belongs = refl;
     stands = refl;
@@ -81,6 +82,7 @@ module _ (l : List ℕ) (plain_name : is_plain l ≡ true) (name : token_of l �
         plain = and_from (is_plain l) _ plain_name (and_from (is_plain (decimal p)) true number.plain refl);
         few = omega arith;
         known = refl;
+        spoken = refl;
         made = λ i. statement_by (Number APenVerb) (name i ∷ number.token i ∷ []);
         belongs = refl;
         stands = refl;
@@ -104,6 +106,7 @@ module _ (l : List ℕ) (plain_name : is_plain l ≡ true) (name : token_of l �
         plain = and_from (is_plain l) _ plain_name (and_from (is_plain (decimal x)) _ a.plain (and_from (is_plain (decimal y)) true b.plain refl));
         few = omega arith;
         known = refl;
+        spoken = refl;
         made = λ i. statement_by (Pair ReadVerb) (name i ∷ a.token i ∷ b.token i ∷ []);
         belongs = refl;
         stands = refl;
@@ -143,6 +146,7 @@ module _ (l : List ℕ) (plain_name : is_plain l ≡ true) (name : token_of l �
       plain = words_plain;
       few = omega arith;
       known = refl;
+      spoken = refl;
       made = λ i. statement_by FillVerb (name i ∷ a.token i ∷ b.token i ∷ c.token i ∷ d.token i ∷ []);
       belongs = refl;
       stands = refl;
@@ -154,7 +158,7 @@ module _ (l : List ℕ) (plain_name : is_plain l ≡ true) (name : token_of l �
     }
 
     -- create L simple front X0 Y0 X1 Y1, and create L smart front X0 Y0 X1 Y1
-    pub simple_readable : IsReadable l (CreateAct (asked_between Simple x0 y0 x1 y1))
+    pub simple_readable : IsReadable l (CreateAct (new_between Simple x0 y0 x1 y1))
     unfolding verb_of
     simple_readable = record {
       verb = CreateVerb;
@@ -163,6 +167,7 @@ module _ (l : List ℕ) (plain_name : is_plain l ≡ true) (name : token_of l �
       plain = words_plain;
       few = omega arith;
       known = refl;
+      spoken = refl;
       made = λ i. statement_by CreateVerb (name i ∷ NameToken (kind_word Simple) ∷ NameToken (place_word Front) ∷ a.token i ∷ b.token i ∷ c.token i ∷ d.token i ∷ []);
       belongs = refl;
       stands = refl;
@@ -173,7 +178,7 @@ module _ (l : List ℕ) (plain_name : is_plain l ≡ true) (name : token_of l �
       tells = λ tasks names n calls groups. refl;
     }
 
-    pub smart_readable : IsReadable l (CreateAct (asked_between Smart x0 y0 x1 y1))
+    pub smart_readable : IsReadable l (CreateAct (new_between Smart x0 y0 x1 y1))
     unfolding verb_of
     smart_readable = record {
       verb = CreateVerb;
@@ -182,6 +187,7 @@ module _ (l : List ℕ) (plain_name : is_plain l ≡ true) (name : token_of l �
       plain = words_plain;
       few = omega arith;
       known = refl;
+      spoken = refl;
       made = λ i. statement_by CreateVerb (name i ∷ NameToken (kind_word Smart) ∷ NameToken (place_word Front) ∷ a.token i ∷ b.token i ∷ c.token i ∷ d.token i ∷ []);
       belongs = refl;
       stands = refl;

@@ -26,7 +26,7 @@ use Rattle.lw_demo_text.proofs.PlainWords.{is_plain}
 use Rattle.lw_demo_text.proofs.DemoNames.{layer_name, of_tasks, tasks_named, one_named, two_named, layers_named, IsNamed, new_task, new_layers, known_layer}
 use Rattle.lw_demo_text.proofs.ReadOn.{IsReached, nothing_reached, line_more, plan_reads_back}
 use Rattle.lw_demo_text.proofs.DemoLines.{in_demo, line_reads, tests_pass, few_in_demo, IsReadable, call_more}
-use Rattle.lw_demo_text.proofs.DemoCalls.{asked_between, created_between, front_readable, pen_readable, read_readable, fill_readable, simple_readable, smart_readable}
+use Rattle.lw_demo_text.proofs.DemoCalls.{new_between, created_between, front_readable, pen_readable, read_readable, fill_readable, simple_readable, smart_readable}
 use Rattle.std.proofs.lemmas.Bool.{and_from}
 use Rattle.std.proofs.lemmas.Nat.{le-div}
 use Rattle.std.proofs.lemmas.List.{map-id}
@@ -46,11 +46,11 @@ module _ (tasks : List (List ℕ)) (few_tasks : length tasks ≤ 16) (calls : Li
   -- a layer more, of each kind
   simple_more : (old new : List (List ℕ)) (l : List ℕ) (slot n x0 y0 x1 y1 : ℕ) (done : List Call) → n < 4096 → IsNamed old new l slot → x0 ≤ x1 → x1 < 1000 → y0 ≤ y1 → y1 < 1000 → IsReached (told_after old n done) → IsReached (told_after new (n + 1) (done ++ Create slot (layer_between Simple x0 y0 x1 y1) ∷ []))
   simple_more old new l slot n x0 y0 x1 y1 done more named wide right high lower reached =
-      one_more old new l slot n done (CreateAct (asked_between Simple x0 y0 x1 y1)) (Create slot (layer_between Simple x0 y0 x1 y1)) more named (simple_readable l named.plain named.name x0 y0 x1 y1 wide right high lower) (created_between Simple x0 y0 x1 y1 slot wide high) reached
+      one_more old new l slot n done (CreateAct (new_between Simple x0 y0 x1 y1)) (Create slot (layer_between Simple x0 y0 x1 y1)) more named (simple_readable l named.plain named.name x0 y0 x1 y1 wide right high lower) (created_between Simple x0 y0 x1 y1 slot wide high) reached
 
   smart_more : (old new : List (List ℕ)) (l : List ℕ) (slot n x0 y0 x1 y1 : ℕ) (done : List Call) → n < 4096 → IsNamed old new l slot → x0 ≤ x1 → x1 < 1000 → y0 ≤ y1 → y1 < 1000 → IsReached (told_after old n done) → IsReached (told_after new (n + 1) (done ++ Create slot (layer_between Smart x0 y0 x1 y1) ∷ []))
   smart_more old new l slot n x0 y0 x1 y1 done more named wide right high lower reached =
-      one_more old new l slot n done (CreateAct (asked_between Smart x0 y0 x1 y1)) (Create slot (layer_between Smart x0 y0 x1 y1)) more named (smart_readable l named.plain named.name x0 y0 x1 y1 wide right high lower) (created_between Smart x0 y0 x1 y1 slot wide high) reached
+      one_more old new l slot n done (CreateAct (new_between Smart x0 y0 x1 y1)) (Create slot (layer_between Smart x0 y0 x1 y1)) more named (smart_readable l named.plain named.name x0 y0 x1 y1 wide right high lower) (created_between Smart x0 y0 x1 y1 slot wide high) reached
 
   module _ (task : ℕ) (low : task < 16) where
     abbrev names : List (List ℕ)
@@ -131,14 +131,14 @@ begun section k n calls groups low numbers due belongs reached =
     let f = TaskLine (task_name k) in
     let new = new_task k low in
     let few = few_in_demo CallsAreDue (tasks_named (suc k)) (layers_named k) 0 (calls ++ [] ∷ []) (groups ++ [] ∷ []) (let m = many_tasks (suc k) in omega (arith, m, low)) (let m = many_layers k in omega (arith, m, low)) (omega arith) in
-    line_more t u f reached (line_reads t f (Part TaskVerb) (task_name k ∷ []) refl (and_from (is_plain (task_name k)) true new.plain refl) (omega arith) refl (λ i. statement_by (Part TaskVerb) (new.name i ∷ [])) refl numbers belongs (tests_pass t f refl refl new.new refl few refl refl)) refl due refl
+    line_more t u f reached (line_reads t f (Part TaskVerb) (task_name k ∷ []) refl (and_from (is_plain (task_name k)) true new.plain refl) (omega arith) refl refl (λ i. statement_by (Part TaskVerb) (new.name i ∷ [])) refl numbers belongs (tests_pass t f refl refl new.new refl few refl refl)) refl due refl
 
 ended : (k n : ℕ) (calls : List (List Call)) (groups : List (List Group)) → k ≤ 16 → n ≤ 4096 → IsReached (in_demo CallsAreDue (tasks_named k) (layers_named k) n calls groups) → IsReached (in_demo TasksAreDue (tasks_named k) (layers_named k) n calls groups)
 unfolding verb_of
 ended k n calls groups low long reached =
     let t = in_demo CallsAreDue (tasks_named k) (layers_named k) n calls groups in
     let few = few_in_demo TasksAreDue (tasks_named k) (layers_named k) n calls groups (let m = many_tasks k in omega (arith, m, low)) (let m = many_layers k in omega (arith, m, low)) long in
-    line_more t (in_demo TasksAreDue (tasks_named k) (layers_named k) n calls groups) EndLine reached (line_reads t EndLine (Part EndVerb) [] refl refl (omega arith) refl refl refl refl refl (tests_pass t EndLine refl refl refl refl few refl refl)) refl refl refl
+    line_more t (in_demo TasksAreDue (tasks_named k) (layers_named k) n calls groups) EndLine reached (line_reads t EndLine (Part EndVerb) [] refl refl (omega arith) refl refl refl refl refl refl (tests_pass t EndLine refl refl refl refl few refl refl)) refl refl refl
 
 -- What the lines of so many tasks of a demo tell.
 module _ (number tasks : ℕ) (few : tasks ≤ 16) where
@@ -183,7 +183,7 @@ module _ (number tasks : ℕ) (few : tasks ≤ 16) where
   unfolding digits within verb_of
   screen_read =
       let f = ScreenLine (pos 640) (pos 256) (pos 2) in
-      line_more nothing_told (told_by zero) f nothing_reached (line_reads nothing_told f (Part ScreenVerb) (signed_decimal (pos 640) ∷ signed_decimal (pos 256) ∷ signed_decimal (pos 2) ∷ []) refl refl (omega arith) refl refl refl refl refl (tests_pass nothing_told f refl refl refl refl refl refl refl)) refl refl refl
+      line_more nothing_told (told_by zero) f nothing_reached (line_reads nothing_told f (Part ScreenVerb) (signed_decimal (pos 640) ∷ signed_decimal (pos 256) ∷ signed_decimal (pos 2) ∷ []) refl refl (omega arith) refl refl refl refl refl refl (tests_pass nothing_told f refl refl refl refl refl refl refl)) refl refl refl
 
 -- what tasks have, as the plan has it
 of_all : {A : Type 0} (f : ℕ → A) (n : ℕ) → of_tasks f n ≡ map f (range_with_len 0 n)
@@ -220,6 +220,7 @@ plan_is number tasks few =
       bitmap_names = [];
       calls = calls i;
       groups = groups i;
+      pairs = [];
       assets = record { glyphs = replicate 95 (replicate 8 0); bitmaps = [] };
     }
 

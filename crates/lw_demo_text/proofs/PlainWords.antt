@@ -1,7 +1,7 @@
 -- Words without spaces and quotes, with single spaces between them, are the words of their line.
 use Rattle.std.proofs.Common.{◌≡◌, ℕ, ◌*◌, ◌≤◌, ◌==◌, Bool, true, false, not, ◌&&◌, nat_le, cond, List, [], ◌∷◌, ◌++◌, length, drop, Ok, Err, refl, ap, subst, ◌∙◌, arith, append-nil, length-append}
 use Rattle.std.specs.List.{list_all, onto_first}
-use Rattle.lw_calls.specs.declared.reason.Reason.TheVariants.{LineTooLong, BadByte, Spacing, Quote}
+use Rattle.lw_grammar.specs.declared.reason.Reason.TheVariants.{LineTooLong, BadByte, Spacing, Quote}
 use Rattle.lw_grammar.specs.Demands.{◌>>=◌, demand}
 use Rattle.lw_grammar.specs.Tokens.{ends_text, on_found, tokens_at, NameToken, NumberToken, TextToken, OddToken, is_a_text, is_a_name, is_a_number, value_of_number, without_last, token_of}
 use Rattle.lw_grammar.specs.Script.{line_limit, is_printable, words_read}

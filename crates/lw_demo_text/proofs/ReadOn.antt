@@ -1,8 +1,8 @@
 -- Lines in their one spelling, read one after another from a script's first line on.
 use Rattle.std.proofs.Common.{◌≡◌, ℕ, true, false, cond, min, List, [], ◌∷◌, ◌++◌, length, map, Ok, refl, sym, ap, subst, ◌∙◌, append_assoc, append-nil}
 use Rattle.std.specs.List.{flat_map}
-use Rattle.lw_calls.specs.declared.form.Form.TheVariants.{Plain}
-use Rattle.lw_calls.specs.declared.reason.Reason.TheVariants.{Missing}
+use Rattle.lw_grammar.specs.declared.form.Form.TheVariants.{Plain}
+use Rattle.lw_grammar.specs.declared.reason.Reason.TheVariants.{Missing}
 use Rattle.lw_calls.specs.Plan.{Plan}
 use Rattle.lw_calls.specs.Written.{line_of}
 use Rattle.lw_grammar.specs.Demands.{◌>>=◌, demand}

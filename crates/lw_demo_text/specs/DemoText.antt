@@ -1,6 +1,6 @@
 -- What the canonical texts of the plans of demos promise.
 use Rattle.std.specs.Prelude.{ℕ, ◌≤◌}
-use Rattle.lw_calls.specs.declared.form.Form.TheVariants.{Plain}
+use Rattle.lw_grammar.specs.declared.form.Form.TheVariants.{Plain}
 use Rattle.lw_grammar.specs.Script.{reading_with, SpellsInput}
 use Rattle.lw_canonical.specs.Canonical.{canonical_text, canonical_input}
 use Rattle.lw_gen.specs.Demo.{demo_plan}

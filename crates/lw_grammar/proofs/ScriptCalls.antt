@@ -10,16 +10,15 @@ use Rattle.lw_calls.specs.Kinds.{is_super}
 use Rattle.lw_calls.proofs.LimitLaws.{extent_fits}
 use Rattle.lw_grammar.specs.declared.verb.BareVerb.{BareVerb}
 use Rattle.lw_grammar.specs.declared.verb.BareVerb.TheVariants.{Close as CloseVerb}
-use Rattle.lw_grammar.specs.declared.verb.NumberVerb.{NumberVerb}
-use Rattle.lw_grammar.specs.declared.verb.NumberVerb.TheVariants.{Mode as ModeVerb, Clip as ClipVerb}
+use Rattle.lw_grammar.specs.declared.verb.NumberVerb.TheVariants.{Mode as ModeVerb, Clip as ClipVerb, Hook as HookVerb}
 use Rattle.lw_grammar.specs.declared.verb.PairVerb.{PairVerb}
 use Rattle.lw_grammar.specs.declared.verb.PairVerb.TheVariants.{Move as MoveVerb}
 use Rattle.lw_grammar.specs.declared.verb.TextVerb.{TextVerb}
 use Rattle.lw_grammar.specs.declared.verb.TextVerb.TheVariants.{Text as TextOf}
-use Rattle.lw_grammar.specs.Statements.{AskedLayer, Act, BareAct, NumberAct, PairAct, TextAct, RegRectAct, RegPairAct, RegClearAct, CreateAct, OpenAct, InFrontAct, BoxAct, WhichAct, FillAct, ScrollRasterAct, PutAct, BlitAct, EndRefreshAct, CallLine, is_hook_number, is_own_size, is_asked_in_range, place_and_size_fit, greatest_number, is_act_in_range, layers_of}
-use Rattle.lw_grammar.specs.Told.{place_among, make_of, created_make, opened_make, bare_call, number_call, pair_call, text_call, spelled_call, hook_on}
+use Rattle.lw_grammar.specs.Statements.{NewLayer, Act, BareAct, NumberAct, PairAct, TextAct, RegRectAct, RegPairAct, RegClearAct, CreateAct, OpenAct, InFrontAct, BoxAct, WhichAct, FillAct, ScrollRasterAct, PutAct, BlitAct, EndRefreshAct, CallLine, is_hook_number, is_own_size, is_new_layer_in_range, place_and_size_fit, is_act_in_range, layers_of}
+use Rattle.lw_grammar.specs.Told.{place_among, make_of, created_make, opened_make, bare_call, pair_call, text_call, spelled_call, hook_on}
 use Rattle.lw_grammar.specs.Script.{lacks_name, is_no_hook}
-use Rattle.lw_grammar.proofs.ScriptStatements.{IsAskedOf, IsActMade}
+use Rattle.lw_grammar.proofs.ScriptStatements.{IsNewLayerOf, IsActMade, is_known_act}
 use Rattle.lw_grammar.proofs.ScriptNames.{place_below}
 use Rattle.std.proofs.lemmas.Int.{ints}
 use Rattle.std.proofs.lemmas.Bool.{not-false, lt-ltb, le-leb, eq-eqb, and_parts, and_from}
@@ -54,45 +53,45 @@ own_fits z h =
     and_from _ _ (le-leb 1 (unsigned_abs z) size.0) (le-leb (unsigned_abs z) 2048 size.1)
 
 -- the hook that is asked for is one of those handed in
-asked_hook_fits : (hooks : ℕ) (hook : Option ℤ) → is_no_hook hooks hook ≡ false → hook_fits hooks (option_map unsigned_abs hook) ≡ true
-asked_hook_fits hooks None h = refl
-asked_hook_fits hooks (Some n) h = not-false (nat_lt (unsigned_abs n) hooks) h
+new_hook_fits : (hooks : ℕ) (hook : Option ℤ) → is_no_hook hooks hook ≡ false → hook_fits hooks (option_map unsigned_abs hook) ≡ true
+new_hook_fits hooks None h = refl
+new_hook_fits hooks (Some n) h = not-false (nat_lt (unsigned_abs n) hooks) h
 
 -- the kind of a layer that is asked for
-asked_kind_fits : (kind : Kind) (a : AskedLayer) → IsAskedOf kind a → is_own_size kind a.bits_w a.bits_h ≡ true → kind_fits kind (option_map unsigned_abs a.hook) (unsigned_abs a.bits_w) (unsigned_abs a.bits_h) ≡ true
-asked_kind_fits Simple a m h = and_from _ _ (eq-eqb _ 0 (ap unsigned_abs m.0)) (eq-eqb _ 0 (ap unsigned_abs m.1))
-asked_kind_fits Smart a m h = and_from _ _ (eq-eqb _ 0 (ap unsigned_abs m.0)) (eq-eqb _ 0 (ap unsigned_abs m.1))
-asked_kind_fits SuperBitmap a m h =
+new_kind_fits : (kind : Kind) (a : NewLayer) → IsNewLayerOf kind a → is_own_size kind a.bits_w a.bits_h ≡ true → kind_fits kind (option_map unsigned_abs a.hook) (unsigned_abs a.bits_w) (unsigned_abs a.bits_h) ≡ true
+new_kind_fits Simple a m h = and_from _ _ (eq-eqb _ 0 (ap unsigned_abs m.0)) (eq-eqb _ 0 (ap unsigned_abs m.1))
+new_kind_fits Smart a m h = and_from _ _ (eq-eqb _ 0 (ap unsigned_abs m.0)) (eq-eqb _ 0 (ap unsigned_abs m.1))
+new_kind_fits SuperBitmap a m h =
     let sides = and_parts (within (pos 1) a.bits_w (pos 2048)) _ h in
     let P : Option ℤ → Type 0 = λ hook. kind_fits SuperBitmap (option_map unsigned_abs hook) (unsigned_abs a.bits_w) (unsigned_abs a.bits_h) ≡ true in
     subst P (sym m) (and_from _ _ (own_fits a.bits_w sides.0) (own_fits a.bits_h sides.1))
 
 -- the numbers of a layer that is asked for
-make_made : (z : Sizes) (a : AskedLayer) (x y w h : ℤ) → IsAskedOf a.kind a → is_asked_in_range a ≡ true → is_no_hook z.hooks a.hook ≡ false → is_coordinate x ≡ true → is_coordinate y ≡ true → within (pos 1) w (pos 65536) ≡ true → within (pos 1) h (pos 65536) ≡ true → make_fits z (make_of a x y w h) ≡ true
+make_made : (z : Sizes) (a : NewLayer) (x y w h : ℤ) → IsNewLayerOf a.kind a → is_new_layer_in_range a ≡ true → is_no_hook z.hooks a.hook ≡ false → is_coordinate x ≡ true → is_coordinate y ≡ true → within (pos 1) w (pos 65536) ≡ true → within (pos 1) h (pos 65536) ≡ true → make_fits z (make_of a x y w h) ≡ true
 make_made z a x y w h m r k cx cy sw sh =
     let own = and_parts (is_hook_number a.hook) _ r in
-    and_from _ _ (and_from _ _ (and_from _ _ cx cy) (and_from _ _ sw sh)) (and_from _ _ (asked_hook_fits z.hooks a.hook k) (asked_kind_fits a.kind a m own.1))
+    and_from _ _ (and_from _ _ (and_from _ _ cx cy) (and_from _ _ sw sh)) (and_from _ _ (new_hook_fits z.hooks a.hook k) (new_kind_fits a.kind a m own.1))
 
 -- of a creation, and of an opening
-created_fits : (z : Sizes) (a : AskedLayer) → IsAskedOf a.kind a → (rect_fits a.numbers && is_asked_in_range a) ≡ true → is_no_hook z.hooks a.hook ≡ false → make_fits z (created_make a) ≡ true
+created_fits : (z : Sizes) (a : NewLayer) → IsNewLayerOf a.kind a → (rect_fits a.numbers && is_new_layer_in_range a) ≡ true → is_no_hook z.hooks a.hook ≡ false → make_fits z (created_make a) ≡ true
 created_fits z a m r k =
-    let parts = and_parts (rect_fits a.numbers) (is_asked_in_range a) r in
+    let parts = and_parts (rect_fits a.numbers) (is_new_layer_in_range a) r in
     let axes = and_parts (axis_fits a.numbers.min_x a.numbers.max_x) (axis_fits a.numbers.min_y a.numbers.max_y) parts.0 in
     let x = span_fits a.numbers.min_x a.numbers.max_x axes.0 in
     let y = span_fits a.numbers.min_y a.numbers.max_y axes.1 in
     make_made z a _ _ _ _ m parts.1 k x.0 y.0 x.1 y.1
 
-opened_fits : (z : Sizes) (a : AskedLayer) → IsAskedOf a.kind a → (place_and_size_fit a.numbers && is_asked_in_range a) ≡ true → is_no_hook z.hooks a.hook ≡ false → make_fits z (opened_make a) ≡ true
+opened_fits : (z : Sizes) (a : NewLayer) → IsNewLayerOf a.kind a → (place_and_size_fit a.numbers && is_new_layer_in_range a) ≡ true → is_no_hook z.hooks a.hook ≡ false → make_fits z (opened_make a) ≡ true
 opened_fits z a m r k =
-    let parts = and_parts (place_and_size_fit a.numbers) (is_asked_in_range a) r in
+    let parts = and_parts (place_and_size_fit a.numbers) (is_new_layer_in_range a) r in
     let halves = and_parts (is_coordinate a.numbers.min_x && is_coordinate a.numbers.min_y) _ parts.0 in
     let place = and_parts (is_coordinate a.numbers.min_x) _ halves.0 in
     let size = and_parts (is_extent a.numbers.max_x) _ halves.1 in
     make_made z a _ _ _ _ m parts.1 k place.0 place.1 (extent_fits _ size.0) (extent_fits _ size.1)
 
 -- a window that is asked for
-asked_window_fits : (z : Sizes) (a : AskedLayer) (framed : Bool) (classes : ℕ) → (framed && is_super a.kind) ≡ false → classes < 32 → window_fits (opened_make a) framed classes ≡ true
-asked_window_fits z a framed classes f c = and_from _ _ (ap not f) (lt-ltb classes 32 c)
+new_window_fits : (z : Sizes) (a : NewLayer) (framed : Bool) (classes : ℕ) → (framed && is_super a.kind) ≡ false → classes < 32 → window_fits (opened_make a) framed classes ≡ true
+new_window_fits z a framed classes f c = and_from _ _ (ap not f) (lt-ltb classes 32 c)
 
 -- The call of an act fits sizes that have its slots, its bitmap and its hook.
 module _ (z : Sizes) (bitmaps : List (List ℕ)) (few : length bitmaps ≤ z.bitmaps) (slots : List ℕ) where
@@ -113,15 +112,10 @@ module _ (z : Sizes) (bitmaps : List (List ℕ)) (few : length bitmaps ≤ z.bit
       let low = place_below (bytes_eq bm) bitmaps (not-false _ h) in
       lt-ltb (place_among bitmaps bm) z.bitmaps (omega arith)
 
-  -- the calls of verbs with a layer: alone, with a number, with two numbers, and with a text
+  -- the calls of verbs with a layer: alone, with two numbers, and with a text
   bare_fits : (verb : BareVerb) → HaveSlots 1 → call_fits z (bare_call verb (slice_index slots 0)) ≡ true
   bare_fits CloseVerb s = slot_fits 1 0 (omega arith) s
   bare_fits verb s = slot_fits 1 0 (omega arith) s
-
-  number_fits : (verb : NumberVerb) (n : ℤ) → within (pos 0) n (pos (greatest_number verb)) ≡ true → HaveSlots 1 → call_fits z (number_call verb (slice_index slots 0) (unsigned_abs n)) ≡ true
-  number_fits ModeVerb n h s = with_slot _ s (below_eight n h)
-  number_fits ClipVerb n h s = with_slot _ s (below_eight n h)
-  number_fits verb n h s = with_slot _ s (a_byte n h)
 
   pair_fits : (verb : PairVerb) (x y : ℤ) → coordinates_fit x y ≡ true → HaveSlots 1 → call_fits z (pair_call verb (slice_index slots 0) x y) ≡ true
   pair_fits MoveVerb x y h s = with_slot _ s h
@@ -131,23 +125,26 @@ module _ (z : Sizes) (bitmaps : List (List ℕ)) (few : length bitmaps ≤ z.bit
   text_fits TextOf text s = slot_fits 1 0 (omega arith) s
   text_fits verb text s = slot_fits 1 0 (omega arith) s
 
-  pub act_fits : (layers : List (List ℕ)) (act : Act) → IsActMade act → is_act_in_range act ≡ true → lacks_name bitmaps (CallLine layers act) ≡ false → is_no_hook z.hooks (hook_on (CallLine layers act)) ≡ false → HaveSlots (layers_of act) → call_fits z (spelled_call bitmaps act slots) ≡ true
-  act_fits layers (BareAct verb) m h b k s = bare_fits verb s
-  act_fits layers (NumberAct verb n) m h b k s = number_fits verb n h s
-  act_fits layers (PairAct verb x y) m h b k s = pair_fits verb x y h s
-  act_fits layers (TextAct verb text) m h b k s = text_fits verb text s
-  act_fits layers (RegRectAct op r rect) m h b k s = let p = and_parts (within (pos 0) r (pos 7)) _ h in and_from _ _ (below_eight r p.0) p.1
-  act_fits layers (RegPairAct op q r) m h b k s = let p = and_parts (within (pos 0) q (pos 7)) _ h in and_from _ _ (below_eight q p.0) (below_eight r p.1)
-  act_fits layers (RegClearAct r) m h b k s = below_eight r h
-  act_fits layers (CreateAct a) m h b k s = with_slot _ s (created_fits z a m h k)
-  act_fits layers (OpenAct a framed nocare classes title) m h b k s =
-      with_slot _ s (and_from _ _ (opened_fits z a m.0 h k) (asked_window_fits z a framed classes m.1 m.2))
-  act_fits layers InFrontAct m h b k s = and_from _ _ (slot_fits 2 0 (omega arith) s) (slot_fits 2 1 (omega arith) s)
-  act_fits layers (BoxAct r) m h b k s = with_slot _ s h
-  act_fits layers (WhichAct x y) m h b k s = h
-  act_fits layers (FillAct rect) m h b k s = with_slot _ s h
-  act_fits layers (ScrollRasterAct dx dy rect) m h b k s = with_slot _ s h
-  act_fits layers (PutAct bm g) m h b k s = and_from _ _ (bitmap_fits bm b) (with_slot _ s (and_from _ _ h m))
-  act_fits layers (BlitAct g) m h b k s =
+  pub act_fits : (layers : List (List ℕ)) (act : Act) → IsActMade act → is_known_act z.version act ≡ true → is_act_in_range act ≡ true → lacks_name bitmaps (CallLine layers act) ≡ false → is_no_hook z.hooks (hook_on (CallLine layers act)) ≡ false → HaveSlots (layers_of act) → call_fits z (spelled_call bitmaps act slots) ≡ true
+  act_fits layers (BareAct verb) m v h b k s = bare_fits verb s
+  act_fits layers (NumberAct ModeVerb n) m v h b k s = with_slot _ s (below_eight n h)
+  act_fits layers (NumberAct ClipVerb n) m v h b k s = with_slot _ s (below_eight n h)
+  act_fits layers (NumberAct HookVerb n) m v h b k s = and_from _ _ v (with_slot _ s (not-false (nat_lt (unsigned_abs n) z.hooks) k))
+  act_fits layers (NumberAct verb n) m v h b k s = with_slot _ s (a_byte n h)
+  act_fits layers (PairAct verb x y) m v h b k s = pair_fits verb x y h s
+  act_fits layers (TextAct verb text) m v h b k s = text_fits verb text s
+  act_fits layers (RegRectAct op r rect) m v h b k s = let p = and_parts (within (pos 0) r (pos 7)) _ h in and_from _ _ (below_eight r p.0) p.1
+  act_fits layers (RegPairAct op q r) m v h b k s = let p = and_parts (within (pos 0) q (pos 7)) _ h in and_from _ _ (below_eight q p.0) (below_eight r p.1)
+  act_fits layers (RegClearAct r) m v h b k s = below_eight r h
+  act_fits layers (CreateAct a) m v h b k s = with_slot _ s (created_fits z a m h k)
+  act_fits layers (OpenAct a framed nocare classes title) m v h b k s =
+      with_slot _ s (and_from _ _ (opened_fits z a m.0 h k) (new_window_fits z a framed classes m.1 m.2))
+  act_fits layers InFrontAct m v h b k s = and_from _ _ (slot_fits 2 0 (omega arith) s) (slot_fits 2 1 (omega arith) s)
+  act_fits layers (BoxAct r) m v h b k s = with_slot _ s h
+  act_fits layers (WhichAct x y) m v h b k s = h
+  act_fits layers (FillAct rect) m v h b k s = with_slot _ s h
+  act_fits layers (ScrollRasterAct dx dy rect) m v h b k s = with_slot _ s h
+  act_fits layers (PutAct bm g) m v h b k s = and_from _ _ (bitmap_fits bm b) (with_slot _ s (and_from _ _ h m))
+  act_fits layers (BlitAct g) m v h b k s =
       and_from _ _ (slot_fits 2 0 (omega arith) s) (and_from _ _ (slot_fits 2 1 (omega arith) s) (and_from _ _ h m))
-  act_fits layers (EndRefreshAct full) m h b k s = slot_fits 1 0 (omega arith) s
+  act_fits layers (EndRefreshAct full) m v h b k s = slot_fits 1 0 (omega arith) s

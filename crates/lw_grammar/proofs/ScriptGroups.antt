@@ -10,14 +10,14 @@ use Rattle.lw_calls.proofs.BlitClass.{blit_class}
 use Rattle.lw_calls.specs.Plan.{is_one, is_all, begins_update, ends_update, may_be_locked, end_an_update, hold_allows, group_calls, group_fits, groups_fit}
 use Rattle.lw_grammar.specs.declared.verb.BareVerb.TheVariants.{Close as CloseVerb, Front as FrontVerb, Behind as BehindVerb, Activate as ActivateVerb, Refresh as RefreshVerb}
 use Rattle.lw_grammar.specs.declared.verb.NumberVerb.{NumberVerb}
-use Rattle.lw_grammar.specs.declared.verb.NumberVerb.TheVariants.{APen as APenVerb}
+use Rattle.lw_grammar.specs.declared.verb.NumberVerb.TheVariants.{APen as APenVerb, Hook as HookVerb}
 use Rattle.lw_grammar.specs.declared.verb.PairVerb.{PairVerb}
 use Rattle.lw_grammar.specs.declared.verb.PairVerb.TheVariants.{Move as MoveVerb, Size as SizeVerb}
 use Rattle.lw_grammar.specs.declared.verb.TextVerb.{TextVerb}
 use Rattle.lw_grammar.specs.declared.verb.TextVerb.TheVariants.{Text as TextOf}
 use Rattle.lw_grammar.specs.Statements.{Act, BareAct, NumberAct, PairAct, TextAct, RegRectAct, RegPairAct, RegClearAct, CreateAct, OpenAct, InFrontAct, BoxAct, WhichAct, BlitAct, EndRefreshAct, layers_of}
 use Rattle.lw_grammar.specs.Told.{place_among, spelled_call}
-use Rattle.lw_grammar.specs.Script.{is_arranging, is_beginning, is_ending, are_all, is_on_one}
+use Rattle.lw_grammar.specs.Script.{is_on_all, is_beginning, is_ending, are_all, is_on_one}
 use Rattle.lw_grammar.proofs.ScriptNames.{equal_names}
 use Rattle.std.proofs.lemmas.Bool.{true≢false, false≢true, lt-ltb, le-leb, ltb-true, leb-true, eq-eqb, and_parts, and_from, or_left, or_right, not-true}
 use Rattle.std.proofs.lemmas.List.Folds.{list_all-append}
@@ -52,24 +52,25 @@ pub text_plain : (verb : TextVerb) (text : List ℕ) → (is_beginning (TextAct 
 text_plain TextOf text = (refl, refl)
 text_plain verb text = (refl, refl)
 
--- the call of an arrangement touches all layers
-pub arranges : (bitmaps : List (List ℕ)) (act : Act) (slots : List ℕ) → is_arranging act ≡ true → is_all (slots_of (spelled_call bitmaps act slots)) ≡ true
-arranges bitmaps (CreateAct a) slots h = refl
-arranges bitmaps (OpenAct a framed nocare classes title) slots h = refl
-arranges bitmaps (BareAct CloseVerb) slots h = refl
-arranges bitmaps (BareAct FrontVerb) slots h = refl
-arranges bitmaps (BareAct BehindVerb) slots h = refl
-arranges bitmaps InFrontAct slots h = refl
-arranges bitmaps (PairAct MoveVerb dx dy) slots h = refl
-arranges bitmaps (PairAct SizeVerb dw dh) slots h = refl
-arranges bitmaps (BoxAct r) slots h = refl
-arranges bitmaps (BareAct ActivateVerb) slots h = refl
-arranges bitmaps (NumberAct APenVerb z) slots h = absurd (false≢true h)
-arranges bitmaps (TextAct TextOf text) slots h = absurd (false≢true h)
-arranges bitmaps act slots h = absurd (false≢true h)
+-- a call on all layers touches them all, whichever layer it names
+pub touches_all : (bitmaps : List (List ℕ)) (act : Act) (slots : List ℕ) → is_on_all act ≡ true → is_all (slots_of (spelled_call bitmaps act slots)) ≡ true
+touches_all bitmaps (CreateAct a) slots h = refl
+touches_all bitmaps (OpenAct a framed nocare classes title) slots h = refl
+touches_all bitmaps (BareAct CloseVerb) slots h = refl
+touches_all bitmaps (BareAct FrontVerb) slots h = refl
+touches_all bitmaps (BareAct BehindVerb) slots h = refl
+touches_all bitmaps InFrontAct slots h = refl
+touches_all bitmaps (PairAct MoveVerb dx dy) slots h = refl
+touches_all bitmaps (PairAct SizeVerb dw dh) slots h = refl
+touches_all bitmaps (BoxAct r) slots h = refl
+touches_all bitmaps (BareAct ActivateVerb) slots h = refl
+touches_all bitmaps (NumberAct HookVerb z) slots h = refl
+touches_all bitmaps (NumberAct APenVerb z) slots h = absurd (false≢true h)
+touches_all bitmaps (TextAct TextOf text) slots h = absurd (false≢true h)
+touches_all bitmaps act slots h = absurd (false≢true h)
 
--- a call that names layers, all of them in slot s, and is no arrangement touches that slot alone
-pub touches_one : (bitmaps : List (List ℕ)) (act : Act) (slots : List ℕ) (s : ℕ) → is_arranging act ≡ false → 0 < layers_of act → ((i : ℕ) → i < layers_of act → slice_index slots i ≡ s) → is_one s (slots_of (spelled_call bitmaps act slots)) ≡ true
+-- a call that names layers, all of them in slot s, and is none on all layers touches that slot alone
+pub touches_one : (bitmaps : List (List ℕ)) (act : Act) (slots : List ℕ) (s : ℕ) → is_on_all act ≡ false → 0 < layers_of act → ((i : ℕ) → i < layers_of act → slice_index slots i ≡ s) → is_one s (slots_of (spelled_call bitmaps act slots)) ≡ true
 touches_one bitmaps (RegRectAct op r rect) slots s h k e = absurd (omega arith)
 touches_one bitmaps (RegPairAct op q r) slots s h k e = absurd (omega arith)
 touches_one bitmaps (RegClearAct r) slots s h k e = absurd (omega arith)
@@ -92,6 +93,7 @@ touches_one bitmaps (BlitAct b) slots s h k e =
     step : (t : Bool) → t ≡ true → (slice_index slots 1 == s) ≡ true → is_one s (slots_in (blit_class t (slice_index slots 0) (slice_index slots 1))) ≡ true
     step true e d = d
     step false e d = absurd (false≢true e)
+touches_one bitmaps (NumberAct HookVerb z) slots s h k e = absurd (true≢false h)
 touches_one bitmaps (NumberAct APenVerb z) slots s h k e = eq-eqb _ s (e 0 (omega arith))
 touches_one bitmaps (TextAct TextOf text) slots s h k e = eq-eqb _ s (e 0 (omega arith))
 touches_one bitmaps act slots s h k e = eq-eqb _ s (e 0 (omega arith))

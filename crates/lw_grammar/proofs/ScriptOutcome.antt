@@ -1,8 +1,8 @@
 -- What the outcome of bytes tells: the lines of an input were good, and an input is spelled or a first line is bad.
 use Rattle.std.proofs.Common.{◌≡◌, ℕ, ◌==◌, Bool, true, false, cond, min, List, [], ◌∷◌, length, Result, Ok, Err, MatchResult, refl, sym, subst, ◌∙◌, ap, inl, inr, ◌⊎◌}
 use Rattle.std.specs.Result.{IfOk}
-use Rattle.lw_calls.specs.declared.reason.Reason.{Reason}
-use Rattle.lw_calls.specs.declared.reason.Reason.TheVariants.{Missing}
+use Rattle.lw_grammar.specs.declared.reason.Reason.{Reason}
+use Rattle.lw_grammar.specs.declared.reason.Reason.TheVariants.{Missing}
 use Rattle.lw_grammar.specs.Demands.{◌>>=◌, demand}
 use Rattle.lw_grammar.specs.Lines.{lines}
 use Rattle.lw_grammar.specs.Statements.{Statement, BitmapLine, RowLine}
@@ -23,9 +23,9 @@ read_tests s above f g h (Ok u) e d =
 read_tests s above f g h (Err r) e d = absurd (cc)
 
 -- the same of the words that a line has, or has not
-read_words : (s : Setting) (above : List Statement) (g : Statement) (t : Result (List (List ℕ)) Reason) → (t >>= (λ ws. statement_read s.form (told above).section (told above).rows_due (told above).row_width ws >>= (λ f. statement_tested s (told above) f >>= (λ _. Ok f)))) ≡ Ok g → IsRead s above g
+read_words : (s : Setting) (above : List Statement) (g : Statement) (t : Result (List (List ℕ)) Reason) → (t >>= (λ ws. statement_read s.form (told above).version (told above).section (told above).rows_due (told above).row_width ws >>= (λ f. statement_tested s (told above) f >>= (λ _. Ok f)))) ≡ Ok g → IsRead s above g
 read_words s above g (Err r) e = absurd (cc)
-read_words s above g (Ok ws) e = at_statement (statement_read s.form (told above).section (told above).rows_due (told above).row_width ws) (statement_here s above ws) e
+read_words s above g (Ok ws) e = at_statement (statement_read s.form (told above).version (told above).section (told above).rows_due (told above).row_width ws) (statement_here s above ws) e
   where
     at_statement : (r : Result Statement Reason) → IfOk r (IsStatementHere s above) → (r >>= (λ f. statement_tested s (told above) f >>= (λ _. Ok f))) ≡ Ok g → IsRead s above g
     at_statement (Err r) h d = absurd (cc)

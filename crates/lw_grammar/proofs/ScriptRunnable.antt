@@ -1,7 +1,7 @@
 -- An input that bytes spell may be run.
 use Rattle.std.proofs.Common.{◌≡◌, ℕ, ◌<◌, ◌≤◌, ◌==◌, Bool, true, false, cond, nat_lt, List, [], length, IsTrue, All, refl, sym, subst, arith}
 use Rattle.lw_calls.specs.declared.sizes.Sizes.{Sizes}
-use Rattle.lw_calls.specs.Limits.{call_limit, call_fits}
+use Rattle.lw_calls.specs.Limits.{limits_of, call_fits}
 use Rattle.lw_grammar.specs.Statements.{Statement}
 use Rattle.lw_grammar.specs.Told.{told, plan_of}
 use Rattle.lw_grammar.specs.Script.{Setting, are_assets_due, may_end, ScriptInput, input_from, SpellsInput, IsRunnableInput, AreGoodLines}
@@ -28,18 +28,19 @@ runs_from_good s above place g e =
     let some : 0 < length (told above).tasks = ltb-true _ _ (subst P ends.begun (begun_tasks s above g)) in
     let z : Sizes = (plan_of s.hooks (told above)).sizes in
     let Q : Bool → Type 0 = λ b. TasksAre b z (view_of above) in
-    let begun : HaveBegun z (view_of above) = subst Q ends.begun (tasks_fit z s above g refl (omega arith) (omega arith)).tasks in
+    let begun : HaveBegun z (view_of above) = subst Q ends.begun (tasks_fit z s above g refl refl (omega arith) (omega arith)).tasks in
     let fits = every_task z (view_of above) begun in
     record {
       plan = record {
         limits = record {
-          version = refl;
-          some_columns = size.columns.0;
-          columns = size.columns.1;
-          some_rows = size.rows.0;
-          rows = size.rows.1;
-          some_planes = size.planes.0;
-          planes = size.planes.1;
+          some_version = size.some_version;
+          version = omega (arith, size.small_version);
+          some_columns = size.sizes.columns.0;
+          columns = size.sizes.columns.1;
+          some_rows = size.sizes.rows.0;
+          rows = size.sizes.rows.1;
+          some_planes = size.sizes.planes.0;
+          planes = size.sizes.planes.1;
           slots = counts.names;
           some_task = omega arith;
           tasks = counts.tasks;
@@ -56,7 +57,7 @@ runs_from_good s above place g e =
           rows = all_glyphs s above g;
           bitmaps = bitmaps_made s above g [] (none_due above (rows_done s above g ends.assets));
         };
-        few = zip_first (IsTaskFit z) (λ calls. length calls ≤ call_limit) _ _ (λ calls groups h. h.few) fits;
+        few = zip_first (IsTaskFit z) (λ calls. length calls ≤ (limits_of z.version).calls) _ _ (λ calls groups h. h.few) fits;
         fit = zip_first (IsTaskFit z) (λ calls. All (λ c. IsTrue (call_fits z c)) calls) _ _ (λ calls groups h. h.fit) fits;
         groups = λ task. (zip_at (IsTaskFit z) _ _ [] [] fits (nothing_fits z) task).grouped;
       };

@@ -5,27 +5,28 @@ use Rattle.lw_region.specs.Rectangle.{within}
 use Rattle.lw_planes.specs.Bitmap.{row_bytes}
 use Rattle.lw_planes.specs.Sizes.{AreSizes, IsPlanes}
 use Rattle.lw_planes.proofs.StorageLaws.{IsPlanes_stored}
-use Rattle.lw_calls.specs.declared.reason.Reason.{Reason}
-use Rattle.lw_calls.specs.declared.form.Form.{Form}
-use Rattle.lw_calls.specs.declared.form.Form.TheVariants.{Plain, Ordered, Audited}
-use Rattle.lw_calls.specs.Limits.{name_limit, call_limit, task_limit, bitmap_limit}
+use Rattle.lw_grammar.specs.declared.reason.Reason.{Reason}
+use Rattle.lw_grammar.specs.declared.form.Form.{Form}
+use Rattle.lw_grammar.specs.declared.form.Form.TheVariants.{Plain, Ordered, Audited}
+use Rattle.lw_calls.specs.declared.limits.Limits.{Limits}
+use Rattle.lw_calls.specs.Limits.{limits_of, task_limit, bitmap_limit}
 use Rattle.lw_grammar.specs.Demands.{◌>>=◌, demand}
-use Rattle.lw_grammar.specs.Statements.{Statement, ScreenLine, GlyphLine, BitmapLine, RowLine, TaskLine, EndLine, OrderLine, NumbersLine, ReportLine, is_line_in_range}
+use Rattle.lw_grammar.specs.Statements.{Statement, LayersLine, ScreenLine, GlyphLine, BitmapLine, RowLine, TaskLine, EndLine, OrderLine, NumbersLine, ReportLine, CallLine, LockLine, UnlockLine, version_at_screen, are_sizes_in_range, bitmap_size_limit, is_line_in_range}
 use Rattle.lw_grammar.specs.Told.{Section, ScreenIsDue, AssetsAreDue, CallsAreDue, TasksAreDue, NumbersAreDue, NothingIsDue, hook_on, told}
 use Rattle.lw_grammar.specs.Script.{Setting, is_screen_due, are_assets_due, are_calls_due, are_tasks_due, are_numbers_due, is_nothing_due, lacks_name, gives_again, fits_group, super_limit, are_few, is_no_hook, is_used, has_padding, statement_tested, may_end, AreGoodLines}
 use Rattle.lw_grammar.proofs.ScriptStatements.{IsStatementHere}
 use Rattle.lw_grammar.proofs.ScriptOutcome.{good_line}
 use Rattle.lw_grammar.proofs.ScriptCalls.{in_range, size_range}
-use Rattle.std.proofs.lemmas.Bool.{true≢false, false≢true, not-true, not_from_false, eqb-true, leb-true, lt-ltb, and_parts}
+use Rattle.std.proofs.lemmas.Bool.{true≢false, false≢true, not-true, not_from_false, eqb-true, ne_eqb, leb-true, lt-ltb, and_parts}
 use Rattle.std.proofs.lemmas.List.Elements.{All-nil, All-cons, All-append, All-push, All-map}
 
 -- each test of a good line's statement
 pub record IsStatementTested (s : Setting) (above : List Statement) (f : Statement) : Type 0 where
-  pub range : is_line_in_range f ≡ true
+  pub range : is_line_in_range (told above).version f ≡ true
   pub named : lacks_name (told above).bitmap_names f ≡ false
   pub new : gives_again (told above) f ≡ false
   pub group : fits_group (told above).group (nat_lt (told above).began (told above).so_far) f ≡ true
-  pub few : are_few (told (f ∷ above)) ≡ true
+  pub few : are_few (limits_of (told above).version) (told (f ∷ above)) ≡ true
   pub hook : is_no_hook s.hooks (hook_on f) ≡ false
   pub unused : is_used (told above).used (hook_on f) ≡ false
   pub padding : has_padding (told above).row_width f ≡ false
@@ -43,11 +44,11 @@ passed_last false r h = absurd (cc)
 -- the tests of a statement that has passed them
 tests_passed : (s : Setting) (above : List Statement) (f : Statement) → statement_tested s (told above) f ≡ Ok tt → IsStatementTested s above f
 tests_passed s above f h =
-    let a = passed (is_line_in_range f) _ _ h in
+    let a = passed (is_line_in_range (told above).version f) _ _ h in
     let b = passed (not (lacks_name (told above).bitmap_names f)) _ _ a.1 in
     let c = passed (not (gives_again (told above) f)) _ _ b.1 in
     let d = passed (fits_group (told above).group (nat_lt (told above).began (told above).so_far) f) _ _ c.1 in
-    let e = passed (are_few (told (f ∷ above))) _ _ d.1 in
+    let e = passed (are_few (limits_of (told above).version) (told (f ∷ above))) _ _ d.1 in
     let g = passed (not (is_no_hook s.hooks (hook_on f))) _ _ e.1 in
     let i = passed (not (is_used (told above).used (hook_on f))) _ _ g.1 in
     let j = passed_last (not (has_padding (told above).row_width f)) _ i.1 in
@@ -84,23 +85,6 @@ here s above f g = (good_line s above f g.0).0
 pub tests : (s : Setting) (above : List Statement) (f : Statement) → AreGoodLines s (f ∷ above) → IsStatementTested s above f
 tests s above f g = tests_passed s above f (good_line s above f g.0).1
 
--- the counts of lines
-pub record AreCounted (above : List Statement) : Type 0 where
-  pub tasks : length (told above).tasks ≤ 16
-  pub bitmaps : length (told above).bitmap_names ≤ 16
-  pub names : length (told above).names ≤ name_limit
-  pub calls : (told above).so_far ≤ call_limit
-
--- good lines are few
-pub counted : (s : Setting) (above : List Statement) → AreGoodLines s above → AreCounted above
-counted s [] g = record { tasks = omega arith; bitmaps = omega arith; names = omega arith; calls = omega arith }
-counted s (f ∷ above) g =
-    let halves = and_parts ((nat_le (length (told (f ∷ above)).tasks) task_limit && nat_le (length (told (f ∷ above)).bitmap_names) bitmap_limit) && nat_le (length (told (f ∷ above)).names) name_limit) _ (tests s above f g).few in
-    let three = and_parts (nat_le (length (told (f ∷ above)).tasks) task_limit && nat_le (length (told (f ∷ above)).bitmap_names) bitmap_limit) _ halves.0 in
-    let two = and_parts (nat_le (length (told (f ∷ above)).tasks) task_limit) _ three.0 in
-    let last = and_parts (nat_le (told (f ∷ above)).supers super_limit) _ halves.1 in
-    record { tasks = leb-true _ _ two.0; bitmaps = leb-true _ _ two.1; names = leb-true _ _ three.1; calls = leb-true _ _ last.1 }
-
 -- a fact that is known where a test holds
 abbrev pub When : Bool → Type 0 → Type 0
 When true P = P
@@ -109,6 +93,10 @@ When false P = Unit {0}
 pub when : (b : Bool) (P : Type 0) → b ≡ true → When b P → P
 when true P e h = h
 when false P e h = absurd (false≢true e)
+
+pub unless : (b : Bool) (P : Type 0) → b ≡ false → When b P
+unless true P e = absurd (true≢false e)
+unless false P e = tt
 
 -- a task has begun
 abbrev pub has_begun : Section → Bool
@@ -177,23 +165,103 @@ in_assets_or_tasks TasksAreDue e = refl
 in_assets_or_tasks NumbersAreDue e = refl
 in_assets_or_tasks NothingIsDue e = refl
 
--- the sizes of a screen
-pub record IsScreen (w h d : ℕ) : Type 0 where
-  pub columns : (1 ≤ w) × (w ≤ 1024)
-  pub rows : (1 ≤ h) × (h ≤ 1024)
+-- the version stands before the screen
+pub version_first : (s : Setting) (above : List Statement) → AreGoodLines s (LayersLine ∷ above) → (told above).section ≡ ScreenIsDue
+version_first s above g = in_screen (told above).section (and_parts (is_screen_due (told above).section) _ (here s above LayersLine g).1).0
+
+-- before the first task no layer is named and no call made
+record IsUnbegun (above : List Statement) : Type 0 where
+  names : (told above).names ≡ []
+  so_far : (told above).so_far ≡ 0
+
+unbegun : (s : Setting) (above : List Statement) → AreGoodLines s above → has_begun (told above).section ≡ false → IsUnbegun above
+unbegun s [] g n = record { names = refl; so_far = refl }
+unbegun s (ScreenLine w h d ∷ above) g n =
+    let b = unbegun s above g.1 (ap has_begun (in_screen (told above).section (here s above (ScreenLine w h d) g).1)) in
+    record { names = b.names; so_far = b.so_far }
+unbegun s (TaskLine name ∷ above) g n = absurd (true≢false n)
+unbegun s (EndLine ∷ above) g n = absurd (true≢false n)
+unbegun s (OrderLine ∷ above) g n = absurd (true≢false n)
+unbegun s (ReportLine ∷ above) g n = absurd (true≢false n)
+unbegun s (CallLine layers act ∷ above) g n =
+    absurd (true≢false (sym (ap has_begun (in_calls (told above).section (here s above (CallLine layers act) g).1)) ∙ n))
+unbegun s (LockLine name ∷ above) g n =
+    absurd (true≢false (sym (ap has_begun (in_calls (told above).section (here s above (LockLine name) g).1)) ∙ n))
+unbegun s (UnlockLine name ∷ above) g n =
+    absurd (true≢false (sym (ap has_begun (in_calls (told above).section (here s above (UnlockLine name) g).1)) ∙ n))
+unbegun s (f ∷ above) g n =
+    let b = unbegun s above g.1 n in
+    record { names = b.names; so_far = b.so_far }
+
+-- the counts of lines, by a version's limits
+pub record AreCounted (limits : Limits) (above : List Statement) : Type 0 where
+  pub tasks : length (told above).tasks ≤ 16
+  pub bitmaps : length (told above).bitmap_names ≤ 16
+  pub names : length (told above).names ≤ limits.names
+  pub calls : (told above).so_far ≤ limits.calls
+
+few_counted : (limits : Limits) (above : List Statement) → are_few limits (told above) ≡ true → AreCounted limits above
+few_counted limits above few =
+    let halves = and_parts ((nat_le (length (told above).tasks) task_limit && nat_le (length (told above).bitmap_names) bitmap_limit) && nat_le (length (told above).names) limits.names) _ few in
+    let three = and_parts (nat_le (length (told above).tasks) task_limit && nat_le (length (told above).bitmap_names) bitmap_limit) _ halves.0 in
+    let two = and_parts (nat_le (length (told above).tasks) task_limit) _ three.0 in
+    let last = and_parts (nat_le (told above).supers super_limit) _ halves.1 in
+    record { tasks = leb-true _ _ two.0; bitmaps = leb-true _ _ two.1; names = leb-true _ _ three.1; calls = leb-true _ _ last.1 }
+
+-- they stay few in each version where no task has begun
+unbegun_counted : (limits other : Limits) (above : List Statement) → AreCounted limits above → IsUnbegun above → AreCounted other above
+unbegun_counted limits other above c b =
+    let names : length (told above).names ≡ 0 = ap length b.names in
+    record { tasks = c.tasks; bitmaps = c.bitmaps; names = omega (arith, names); calls = omega (arith, b.so_far) }
+
+-- good lines are few
+pub counted : (s : Setting) (above : List Statement) → AreGoodLines s above → AreCounted (limits_of (told above).version) above
+counted s [] g = record { tasks = omega arith; bitmaps = omega arith; names = omega arith; calls = omega arith }
+counted s (LayersLine ∷ above) g =
+    unbegun_counted (limits_of (told above).version) _ (LayersLine ∷ above) (few_counted _ (LayersLine ∷ above) (tests s above LayersLine g).few) (unbegun s (LayersLine ∷ above) g (ap has_begun (version_first s above g)))
+counted s (ScreenLine w h d ∷ above) g =
+    unbegun_counted (limits_of (told above).version) _ (ScreenLine w h d ∷ above) (few_counted _ (ScreenLine w h d ∷ above) (tests s above (ScreenLine w h d) g).few) (unbegun s (ScreenLine w h d ∷ above) g refl)
+counted s (f ∷ above) g = few_counted (limits_of (told above).version) (f ∷ above) (tests s above f g).few
+
+-- a width and a height up to a limit, and a depth
+pub record AreSizesUpTo (limit w h d : ℕ) : Type 0 where
+  pub columns : (1 ≤ w) × (w ≤ limit)
+  pub rows : (1 ≤ h) × (h ≤ limit)
   pub planes : (1 ≤ d) × (d ≤ 8)
 
 -- three sizes in their ranges
-sizes_range : (w h d : ℤ) → ((within (pos 1) w (pos 1024) && within (pos 1) h (pos 1024)) && within (pos 1) d (pos 8)) ≡ true → IsScreen (unsigned_abs w) (unsigned_abs h) (unsigned_abs d)
-sizes_range w h d e =
-    let halves = and_parts (within (pos 1) w (pos 1024) && within (pos 1) h (pos 1024)) _ e in
-    let sides = and_parts (within (pos 1) w (pos 1024)) _ halves.0 in
-    record { columns = size_range w 1024 sides.0; rows = size_range h 1024 sides.1; planes = size_range d 8 halves.1 }
+sizes_range : (limit : ℕ) (w h d : ℤ) → are_sizes_in_range limit w h d ≡ true → AreSizesUpTo limit (unsigned_abs w) (unsigned_abs h) (unsigned_abs d)
+sizes_range limit w h d e =
+    let halves = and_parts (within (pos 1) w (pos limit) && within (pos 1) h (pos limit)) _ e in
+    let sides = and_parts (within (pos 1) w (pos limit)) _ halves.0 in
+    record { columns = size_range w limit sides.0; rows = size_range h limit sides.1; planes = size_range d 8 halves.1 }
+
+-- lines tell no other version than 2, and 1 at the screen line without it
+version_small : (version : ℕ) → version ≤ 2 → (1 ≤ version_at_screen version) × (version_at_screen version ≤ 2)
+version_small zero h = (omega arith, omega arith)
+version_small (suc version) h =
+    let P : Bool → Type 0 = λ none. (1 ≤ cond none 1 (suc version)) × (cond none 1 (suc version) ≤ 2) in
+    subst P (sym (ne_eqb (suc version) 0 (λ e. omega arith))) (omega arith, h)
+
+told_small : (above : List Statement) → (told above).version ≤ 2
+told_small [] = omega arith
+told_small (LayersLine ∷ above) = omega arith
+told_small (ScreenLine w h d ∷ above) = (version_small (told above).version (told_small above)).1
+told_small (f ∷ above) = told_small above
+
+-- the sizes of a screen in this version
+pub record IsScreen (version w h d : ℕ) : Type 0 where
+  pub some_version : 1 ≤ version
+  pub small_version : version ≤ 2
+  pub sizes : AreSizesUpTo (limits_of version).screen w h d
 
 -- below the screen line good lines give the sizes of a screen
-pub sized : (s : Setting) (above : List Statement) → AreGoodLines s above → When (has_screen (told above).section) (IsScreen (told above).width (told above).height (told above).depth)
+pub sized : (s : Setting) (above : List Statement) → AreGoodLines s above → When (has_screen (told above).section) (IsScreen (told above).version (told above).width (told above).height (told above).depth)
 sized s [] g = tt
-sized s (ScreenLine w h d ∷ above) g = sizes_range w h d (tests s above (ScreenLine w h d) g).range
+sized s (LayersLine ∷ above) g = unless _ _ (ap has_screen (version_first s above g))
+sized s (ScreenLine w h d ∷ above) g =
+    let small = version_small (told above).version (told_small above) in
+    record { some_version = small.0; small_version = small.1; sizes = sizes_range _ w h d (tests s above (ScreenLine w h d) g).range }
 sized s (TaskLine name ∷ above) g =
     when _ _ (in_assets_or_tasks (told above).section (here s above (TaskLine name) g).1) (sized s above g.1)
 sized s (EndLine ∷ above) g =
@@ -275,7 +343,7 @@ all_glyphs s above g =
     All-map (λ rows. length rows ≡ 8) (λ i. (told above).glyphs (32 + i)) (range_with_len 0 95) (λ k d low. glyph_rows s above g (32 + slice_index_or (range_with_len 0 95) k d))
 
 -- a bitmap's sizes, which a script has
-bitmap_sizes : (w h d : ℕ) → IsScreen w h d → AreSizes w h d
+bitmap_sizes : (w h d : ℕ) → AreSizesUpTo bitmap_size_limit w h d → AreSizes w h d
 bitmap_sizes w h d s =
     record {
       columns = (s.columns.0, omega (arith, s.columns.1));
@@ -299,7 +367,7 @@ row_less (suc due) n bytes rows e h k =
 pub bitmaps_made : (s : Setting) (above : List Statement) → AreGoodLines s above → (rows : List ℕ) → length rows ≡ (told above).rows_due * row_bytes (told above).row_width → All IsPlanes ((told above).bitmaps rows)
 bitmaps_made s [] g rows n = All-nil IsPlanes
 bitmaps_made s (BitmapLine name w h d ∷ above) g rows n =
-    let sizes = bitmap_sizes _ _ _ (sizes_range w h d (tests s above (BitmapLine name w h d) g).range) in
+    let sizes = bitmap_sizes _ _ _ (sizes_range bitmap_size_limit w h d (tests s above (BitmapLine name w h d) g).range) in
     let due : (told above).rows_due ≡ 0 = eqb-true _ 0 (here s above (BitmapLine name w h d) g).0 in
     All-push IsPlanes ((told above).bitmaps []) _ (bitmaps_made s above g.1 [] (none_due above due)) (IsPlanes_stored _ _ _ rows (record { sizes = sizes; long = n }))
 bitmaps_made s (RowLine bytes ∷ above) g rows n =

@@ -1,5 +1,5 @@
 -- What the words of a line that has a statement were good for: where the line stands, and how the statement is made.
-use Rattle.std.proofs.Common.{◌≡◌, ℕ, suc, ◌+◌, ◌*◌, ◌%◌, ◌^◌, ◌<◌, ◌≤◌, ◌==◌, Bool, true, false, not, cond, ◌&&◌, ◌||◌, nat_le, List, [], ◌∷◌, length, map, ℤ, pos, codes, bytes_eq, Option, Some, None, option_map, option_and_then, ok_or, IfSome, refl, ap, ◌∙◌, arith, pow_mono, pow-suc, add-one}
+use Rattle.std.proofs.Common.{◌≡◌, ℕ, suc, ◌+◌, ◌*◌, ◌%◌, ◌^◌, ◌<◌, ◌≤◌, ◌==◌, Bool, true, false, not, cond, ◌&&◌, ◌||◌, nat_le, List, [], ◌∷◌, length, map, ℤ, pos, codes, bytes_eq, Option, Some, None, option_map, option_and_then, ok_or, IfSome, refl, ap, subst, ◌∙◌, arith, pow_mono, pow-suc, add-one}
 use Rattle.std.specs.Result.{IfOk}
 use Rattle.lw_region.specs.Rectangle.{Rectangle}
 use Rattle.lw_planes.specs.Bitmap.{row_bytes}
@@ -8,11 +8,11 @@ use Rattle.lw_calls.specs.declared.operation.PairOp.{PairOp}
 use Rattle.lw_calls.specs.declared.make.Kind.{Kind}
 use Rattle.lw_calls.specs.declared.make.Kind.TheVariants.{Simple, Smart, SuperBitmap}
 use Rattle.lw_calls.specs.declared.make.Place.{Place}
-use Rattle.lw_calls.specs.declared.form.Form.{Form}
-use Rattle.lw_calls.specs.declared.reason.Reason.{Reason}
-use Rattle.lw_calls.specs.declared.reason.Reason.TheVariants.{UnknownWord, Misplaced, Form as FormReason}
+use Rattle.lw_grammar.specs.declared.form.Form.{Form}
+use Rattle.lw_grammar.specs.declared.reason.Reason.{Reason}
+use Rattle.lw_grammar.specs.declared.reason.Reason.TheVariants.{UnknownWord, Misplaced, Form as FormReason}
 use Rattle.lw_grammar.specs.declared.verb.PartVerb.{PartVerb}
-use Rattle.lw_grammar.specs.declared.verb.PartVerb.TheVariants.{Screen as ScreenVerb, Glyph as GlyphVerb, Bitmap as BitmapVerb, Task as TaskVerb, End as EndVerb, Order as OrderVerb, Report as ReportVerb, Lock as LockVerb, Unlock as UnlockVerb, Hold as HoldVerb, Release as ReleaseVerb}
+use Rattle.lw_grammar.specs.declared.verb.PartVerb.TheVariants.{Layers as LayersVerb, Screen as ScreenVerb, Glyph as GlyphVerb, Bitmap as BitmapVerb, Task as TaskVerb, End as EndVerb, Order as OrderVerb, Report as ReportVerb, Lock as LockVerb, Unlock as UnlockVerb, Hold as HoldVerb, Release as ReleaseVerb}
 use Rattle.lw_grammar.specs.declared.verb.BareVerb.{BareVerb}
 use Rattle.lw_grammar.specs.declared.verb.NumberVerb.{NumberVerb}
 use Rattle.lw_grammar.specs.declared.verb.PairVerb.{PairVerb}
@@ -22,40 +22,50 @@ use Rattle.lw_grammar.specs.declared.verb.Verb.TheVariants.{Part, Bare, Number, 
 use Rattle.lw_calls.specs.Limits.{is_minterm}
 use Rattle.lw_calls.specs.Kinds.{is_super}
 use Rattle.lw_grammar.specs.Tokens.{Token, NameToken, NumberToken, TextToken, OddToken, token_of, is_hex, hex_value, hex_bytes, spelled_bytes, bytes_in}
-use Rattle.lw_grammar.specs.Statements.{layers_of, AskedLayer, Act, BareAct, NumberAct, PairAct, TextAct, RegRectAct, RegPairAct, RegClearAct, CreateAct, OpenAct, InFrontAct, BoxAct, WhichAct, FillAct, ScrollRasterAct, PutAct, BlitAct, EndRefreshAct, Statement, ScreenLine, GlyphLine, BitmapLine, RowLine, TaskLine, EndLine, OrderLine, NumbersLine, ReportLine, CallLine, LockLine, UnlockLine, HoldLine, ReleaseLine, four, screen_line, glyph_of_bytes, glyph_line, bitmap_line, row_line, all_numbers, numbers_limit, numbers_line, name_line, alone_line, part_line, layer_line, number_line, pair_line, text_line, rect_line, region_line, clear_line, which_line, infront_line, four_line, scrollraster_line, minterm_of, blit_end, blit_area, put_line, blit_line, endrefresh_line, kind_of, place_of, flag, hook_option, message_class_of, classes_from, asked_classes, ask_option, at_end, create_super, create_kind, titled_line, open_super, open_kind, asked_line, statement_by}
+use Rattle.lw_grammar.specs.Statements.{layers_of, NewLayer, Act, BareAct, NumberAct, PairAct, TextAct, RegRectAct, RegPairAct, RegClearAct, CreateAct, OpenAct, InFrontAct, BoxAct, WhichAct, FillAct, ScrollRasterAct, PutAct, BlitAct, EndRefreshAct, Statement, LayersLine, ScreenLine, GlyphLine, BitmapLine, RowLine, TaskLine, EndLine, OrderLine, NumbersLine, ReportLine, CallLine, LockLine, UnlockLine, HoldLine, ReleaseLine, four, layers_line, screen_line, glyph_of_bytes, glyph_line, bitmap_line, row_line, all_numbers, numbers_limit, numbers_line, name_line, alone_line, part_line, layer_line, number_line, pair_line, text_line, rect_line, region_line, clear_line, which_line, infront_line, four_line, scrollraster_line, minterm_of, blit_end, blit_area, put_line, blit_line, endrefresh_line, kind_of, place_of, flag, hook_option, message_class_of, classes_from, asked_classes, ask_option, at_end, create_super, create_kind, titled_line, open_super, open_kind, new_layer_line, statement_by}
 use Rattle.lw_grammar.specs.Told.{Section, told}
-use Rattle.lw_grammar.specs.Script.{Setting, is_screen_due, are_assets_due, are_calls_due, are_tasks_due, are_numbers_due, is_ordered, is_audited, belongs_in, verb_on, after_verb, verb_read, statement_read}
+use Rattle.lw_grammar.specs.Script.{Setting, is_screen_due, are_assets_due, are_calls_due, are_tasks_due, are_numbers_due, is_ordered, is_audited, is_known_in, belongs_in, verb_on, after_verb, verb_read, statement_read}
 use Rattle.lw_grammar.specs.Demands.{◌>>=◌, demand}
 use Rattle.std.proofs.lemmas.Bool.{false≢true, eqb-true, leb-true, le-leb, and_parts, and_from, and_right}
 use Rattle.std.proofs.lemmas.Bool.Decides.{nat_tests}
 
--- A line with this statement, which begins with a verb, belongs in this section of this input.
-abbrev pub belongs_at : Form → Section → Statement → Bool
-belongs_at form s (ScreenLine w h d) = is_screen_due s
-belongs_at form s (GlyphLine code rows) = are_assets_due s
-belongs_at form s (BitmapLine name w h d) = are_assets_due s
-belongs_at form s (RowLine bytes) = false
-belongs_at form s (TaskLine name) = are_assets_due s || are_tasks_due s
-belongs_at form s EndLine = are_calls_due s
-belongs_at form s OrderLine = are_tasks_due s && is_ordered form
-belongs_at form s (NumbersLine zs) = false
-belongs_at form s ReportLine = are_tasks_due s && is_audited form
-belongs_at form s (CallLine layers act) = are_calls_due s
-belongs_at form s (LockLine name) = are_calls_due s
-belongs_at form s (UnlockLine name) = are_calls_due s
-belongs_at form s HoldLine = are_calls_due s
-belongs_at form s ReleaseLine = are_calls_due s
+-- A line with this statement, which begins with a verb, belongs in this version and section of this input.
+abbrev pub belongs_at : Form → ℕ → Section → Statement → Bool
+belongs_at form version s LayersLine = is_screen_due s && (version == 0)
+belongs_at form version s (ScreenLine w h d) = is_screen_due s
+belongs_at form version s (GlyphLine code rows) = are_assets_due s
+belongs_at form version s (BitmapLine name w h d) = are_assets_due s
+belongs_at form version s (RowLine bytes) = false
+belongs_at form version s (TaskLine name) = are_assets_due s || are_tasks_due s
+belongs_at form version s EndLine = are_calls_due s
+belongs_at form version s OrderLine = are_tasks_due s && is_ordered form
+belongs_at form version s (NumbersLine zs) = false
+belongs_at form version s ReportLine = are_tasks_due s && is_audited form
+belongs_at form version s (CallLine layers act) = are_calls_due s
+belongs_at form version s (LockLine name) = are_calls_due s
+belongs_at form version s (UnlockLine name) = are_calls_due s
+belongs_at form version s HoldLine = are_calls_due s
+belongs_at form version s ReleaseLine = are_calls_due s
+
+-- Some line has this act, or this statement, where the lines above tell this version.
+abbrev pub is_known_act : ℕ → Act → Bool
+is_known_act version (NumberAct verb z) = is_known_in version (Number verb)
+is_known_act version act = true
+
+abbrev pub is_known_line : ℕ → Statement → Bool
+is_known_line version (CallLine layers act) = is_known_act version act
+is_known_line version statement = true
 
 -- a layer with a bitmap of its own has no hook, and no other has the size of one
-abbrev pub IsAskedOf : Kind → AskedLayer → Type 0
-IsAskedOf Simple a = (a.bits_w ≡ pos 0) × (a.bits_h ≡ pos 0)
-IsAskedOf Smart a = (a.bits_w ≡ pos 0) × (a.bits_h ≡ pos 0)
-IsAskedOf SuperBitmap a = a.hook ≡ None
+abbrev pub IsNewLayerOf : Kind → NewLayer → Type 0
+IsNewLayerOf Simple a = (a.bits_w ≡ pos 0) × (a.bits_h ≡ pos 0)
+IsNewLayerOf Smart a = (a.bits_w ≡ pos 0) × (a.bits_h ≡ pos 0)
+IsNewLayerOf SuperBitmap a = a.hook ≡ None
 
 -- what the words of a call are good for, besides the ranges of its numbers
 abbrev pub IsActMade : Act → Type 0
-IsActMade (CreateAct a) = IsAskedOf a.kind a
-IsActMade (OpenAct a framed nocare classes title) = IsAskedOf a.kind a × ((framed && is_super a.kind) ≡ false) × (classes < 32)
+IsActMade (CreateAct a) = IsNewLayerOf a.kind a
+IsActMade (OpenAct a framed nocare classes title) = IsNewLayerOf a.kind a × ((framed && is_super a.kind) ≡ false) × (classes < 32)
 IsActMade (PutAct bm b) = is_minterm b.minterm ≡ true
 IsActMade (BlitAct b) = is_minterm b.minterm ≡ true
 IsActMade act = Unit {0}
@@ -66,18 +76,24 @@ IsStatementMade (GlyphLine code rows) = length rows ≡ 8
 IsStatementMade (CallLine layers act) = (length layers ≡ layers_of act) × IsActMade act
 IsStatementMade statement = Unit {0}
 
--- The statement is made of words after a verb whose lines stand here or not.
-pub record IsVerbStatement (form : Form) (s : Section) (stands : Bool) (f : Statement) : Type 0 where
-  pub place : stands ≡ true → belongs_at form s f ≡ true
+-- The statement is made of words after a verb that is known and whose lines stand here, or not.
+pub record IsVerbStatement (form : Form) (version : ℕ) (s : Section) (stands : Bool) (f : Statement) : Type 0 where
+  pub place : stands ≡ true → belongs_at form version s f ≡ true
+  pub known : stands ≡ true → is_known_line version f ≡ true
   pub made : IsStatementMade f
 
 -- a statement whose lines stand where the verb's do
-belongs_so : (form : Form) (s : Section) (f : Statement) → IsStatementMade f → IsVerbStatement form s (belongs_at form s f) f
-belongs_so form s f h = record { place = λ e. e; made = h }
+belongs_so : (form : Form) (version : ℕ) (s : Section) (f : Statement) → is_known_line version f ≡ true → IsStatementMade f → IsVerbStatement form version s (belongs_at form version s f) f
+belongs_so form version s f k h = record { place = λ e. e; known = λ e. k; made = h }
 
 -- the statement of a call, which stands where calls are due
-call_so : (form : Form) (s : Section) (layers : List (List ℕ)) (act : Act) → length layers ≡ layers_of act → IsActMade act → IsVerbStatement form s (are_calls_due s) (CallLine layers act)
-call_so form s layers act n h = record { place = λ e. e; made = (n, h) }
+call_so : (form : Form) (version : ℕ) (s : Section) (layers : List (List ℕ)) (act : Act) → length layers ≡ layers_of act → IsActMade act → IsVerbStatement form version s (is_known_act version act && are_calls_due s) (CallLine layers act)
+call_so form version s layers act n h =
+    record {
+      place = λ e. (and_parts (is_known_act version act) _ e).1;
+      known = λ e. (and_parts (is_known_act version act) _ e).0;
+      made = (n, h);
+    }
 
 -- of two options that have a property, each has it
 pub either_has : {A : Type 0} (P : A → Type 0) (b : Bool) (x y : Option A) → IfSome x P → IfSome y P → IfSome (cond b x y) P
@@ -194,10 +210,10 @@ classes_small least (b ∷ bs) h = step (message_class_of b) (class_small b) (λ
         test true e = map_has (λ rest. rest + 2 ^ (k + 1) ≤ 32) (λ c. c + 2 ^ least ≤ 32) (λ rest. 2 ^ k + rest) (classes_from (k + 1) bs) (go k small) (λ rest r. class_step least k rest (leb-true least k e) r)
 
 -- so is what words ask for
-asked_small : (ts : List Token) → (ask_option ts).0 < 32
-asked_small [] = omega arith
-asked_small (NameToken n ∷ []) = omega arith
-asked_small (NameToken n ∷ NameToken set ∷ ts) = step (bytes_eq n (codes "ask"))
+ask_small : (ts : List Token) → (ask_option ts).0 < 32
+ask_small [] = omega arith
+ask_small (NameToken n ∷ []) = omega arith
+ask_small (NameToken n ∷ NameToken set ∷ ts) = step (bytes_eq n (codes "ask"))
   where
     found : (o : Option ℕ) → IfSome o (λ c. c + 2 ^ 0 ≤ 32) → (asked_classes o ts (NameToken n ∷ NameToken set ∷ ts)).0 < 32
     found None h = omega arith
@@ -206,208 +222,218 @@ asked_small (NameToken n ∷ NameToken set ∷ ts) = step (bytes_eq n (codes "as
     step : (t : Bool) → (cond t (asked_classes (classes_from 0 set) ts (NameToken n ∷ NameToken set ∷ ts)) (0, NameToken n ∷ NameToken set ∷ ts)).0 < 32
     step true = found (classes_from 0 set) (classes_small 0 set (omega arith))
     step false = omega arith
-asked_small (NameToken n ∷ NumberToken a z ∷ ts) = omega arith
-asked_small (NameToken n ∷ TextToken a ∷ ts) = omega arith
-asked_small (NameToken n ∷ OddToken a ∷ ts) = omega arith
-asked_small (NumberToken a z ∷ ts) = omega arith
-asked_small (TextToken a ∷ ts) = omega arith
-asked_small (OddToken a ∷ ts) = omega arith
+ask_small (NameToken n ∷ NumberToken a z ∷ ts) = omega arith
+ask_small (NameToken n ∷ TextToken a ∷ ts) = omega arith
+ask_small (NameToken n ∷ OddToken a ∷ ts) = omega arith
+ask_small (NumberToken a z ∷ ts) = omega arith
+ask_small (TextToken a ∷ ts) = omega arith
+ask_small (OddToken a ∷ ts) = omega arith
 
 -- what stands after an opening's words up to its hook
 abbrev behind_hook : List Token → List Token
 behind_hook ts = (hook_option (flag (codes "nocare") (flag (codes "borderless") (flag (codes "backdrop") ts).1).1).1).1
 
 -- The lines of each family of verbs.
-module _ (form : Form) (s : Section) where
+module _ (form : Form) (version : ℕ) (s : Section) where
+  -- layers 2
+  layers_made : (ts : List Token) → IfSome (layers_line ts) (IsVerbStatement form version s (not (version == 1) && (is_screen_due s && (version == 0))))
+  layers_made (NumberToken a z ∷ []) =
+      either_has (IsVerbStatement form version s (not (version == 1) && (is_screen_due s && (version == 0)))) (bytes_eq a (codes "2")) (Some LayersLine) None (record { place = λ e. (and_parts (not (version == 1)) _ e).1; known = λ e. refl; made = tt }) tt
+  layers_made _ = tt
+
   -- screen W H D
-  screen_made : (ts : List Token) → IfSome (screen_line ts) (IsVerbStatement form s (is_screen_due s))
-  screen_made (NumberToken a w ∷ NumberToken b h ∷ NumberToken c d ∷ []) = belongs_so form s (ScreenLine w h d) tt
+  screen_made : (ts : List Token) → IfSome (screen_line ts) (IsVerbStatement form version s (is_screen_due s))
+  screen_made (NumberToken a w ∷ NumberToken b h ∷ NumberToken c d ∷ []) = belongs_so form version s (ScreenLine w h d) refl tt
   screen_made _ = tt
 
   -- a glyph of the bytes that its words spell
-  glyph_bytes_made : (code rows : Option (List ℕ)) → IfSome rows (AreSoMany 8) → IfSome (glyph_of_bytes code rows) (IsVerbStatement form s (are_assets_due s))
-  glyph_bytes_made (Some (code ∷ [])) (Some rows) h = belongs_so form s (GlyphLine code rows) h.0
+  glyph_bytes_made : (code rows : Option (List ℕ)) → IfSome rows (AreSoMany 8) → IfSome (glyph_of_bytes code rows) (IsVerbStatement form version s (are_assets_due s))
+  glyph_bytes_made (Some (code ∷ [])) (Some rows) h = belongs_so form version s (GlyphLine code rows) refl h.0
   glyph_bytes_made _ _ h = tt
 
   -- glyph CC HHHHHHHHHHHHHHHH
-  glyph_made : (ts : List Token) → IfSome (glyph_line ts) (IsVerbStatement form s (are_assets_due s))
+  glyph_made : (ts : List Token) → IfSome (glyph_line ts) (IsVerbStatement form version s (are_assets_due s))
   glyph_made (code ∷ rows ∷ []) = glyph_bytes_made (bytes_in 1 code) (bytes_in 8 rows) (token_spelled 8 rows)
   glyph_made _ = tt
 
   -- bitmap NAME W H D
-  bitmap_made : (ts : List Token) → IfSome (bitmap_line ts) (IsVerbStatement form s (are_assets_due s))
-  bitmap_made (NameToken n ∷ NumberToken a w ∷ NumberToken b h ∷ NumberToken c d ∷ []) = belongs_so form s (BitmapLine n w h d) tt
+  bitmap_made : (ts : List Token) → IfSome (bitmap_line ts) (IsVerbStatement form version s (are_assets_due s))
+  bitmap_made (NameToken n ∷ NumberToken a w ∷ NumberToken b h ∷ NumberToken c d ∷ []) = belongs_so form version s (BitmapLine n w h d) refl tt
   bitmap_made _ = tt
 
   -- a verb with a name
-  name_made : (f : List ℕ → Statement) (stands : Bool) → ((n : List ℕ) → IsVerbStatement form s stands (f n)) → (ts : List Token) → IfSome (name_line f ts) (IsVerbStatement form s stands)
+  name_made : (f : List ℕ → Statement) (stands : Bool) → ((n : List ℕ) → IsVerbStatement form version s stands (f n)) → (ts : List Token) → IfSome (name_line f ts) (IsVerbStatement form version s stands)
   name_made f stands h (NameToken n ∷ []) = h n
   name_made f stands h _ = tt
 
   -- a verb alone
-  bare_made : (f : Statement) (stands : Bool) → IsVerbStatement form s stands f → (ts : List Token) → IfSome (alone_line f ts) (IsVerbStatement form s stands)
+  bare_made : (f : Statement) (stands : Bool) → IsVerbStatement form version s stands f → (ts : List Token) → IfSome (alone_line f ts) (IsVerbStatement form version s stands)
   bare_made f stands h [] = h
   bare_made f stands h _ = tt
 
   -- a line that parts a script or a task
-  part_made : (verb : PartVerb) (ts : List Token) → IfSome (part_line verb ts) (IsVerbStatement form s (belongs_in form s (Part verb)))
+  part_made : (verb : PartVerb) (ts : List Token) → IfSome (part_line verb ts) (IsVerbStatement form version s (is_known_in version (Part verb) && belongs_in form version s (Part verb)))
+  part_made LayersVerb ts = layers_made ts
   part_made ScreenVerb ts = screen_made ts
   part_made GlyphVerb ts = glyph_made ts
   part_made BitmapVerb ts = bitmap_made ts
-  part_made TaskVerb ts = name_made _ _ (λ n. belongs_so form s (TaskLine n) tt) ts
-  part_made EndVerb ts = bare_made EndLine _ (belongs_so form s EndLine tt) ts
-  part_made OrderVerb ts = bare_made OrderLine _ (belongs_so form s OrderLine tt) ts
-  part_made ReportVerb ts = bare_made ReportLine _ (belongs_so form s ReportLine tt) ts
-  part_made LockVerb ts = name_made _ _ (λ n. belongs_so form s (LockLine n) tt) ts
-  part_made UnlockVerb ts = name_made _ _ (λ n. belongs_so form s (UnlockLine n) tt) ts
-  part_made HoldVerb ts = bare_made HoldLine _ (belongs_so form s HoldLine tt) ts
-  part_made ReleaseVerb ts = bare_made ReleaseLine _ (belongs_so form s ReleaseLine tt) ts
+  part_made TaskVerb ts = name_made _ _ (λ n. belongs_so form version s (TaskLine n) refl tt) ts
+  part_made EndVerb ts = bare_made EndLine _ (belongs_so form version s EndLine refl tt) ts
+  part_made OrderVerb ts = bare_made OrderLine _ (belongs_so form version s OrderLine refl tt) ts
+  part_made ReportVerb ts = bare_made ReportLine _ (belongs_so form version s ReportLine refl tt) ts
+  part_made LockVerb ts = name_made _ _ (λ n. belongs_so form version s (LockLine n) refl tt) ts
+  part_made UnlockVerb ts = name_made _ _ (λ n. belongs_so form version s (UnlockLine n) refl tt) ts
+  part_made HoldVerb ts = bare_made HoldLine _ (belongs_so form version s HoldLine refl tt) ts
+  part_made ReleaseVerb ts = bare_made ReleaseLine _ (belongs_so form version s ReleaseLine refl tt) ts
 
   -- a verb with a layer
-  layer_made : (verb : BareVerb) (ts : List Token) → IfSome (layer_line verb ts) (IsVerbStatement form s (are_calls_due s))
-  layer_made verb (NameToken l ∷ []) = call_so form s (l ∷ []) (BareAct verb) refl tt
+  layer_made : (verb : BareVerb) (ts : List Token) → IfSome (layer_line verb ts) (IsVerbStatement form version s (are_calls_due s))
+  layer_made verb (NameToken l ∷ []) = call_so form version s (l ∷ []) (BareAct verb) refl tt
   layer_made verb _ = tt
 
   -- a verb with a layer and a number
-  number_made : (verb : NumberVerb) (ts : List Token) → IfSome (number_line verb ts) (IsVerbStatement form s (are_calls_due s))
-  number_made verb (NameToken l ∷ NumberToken a z ∷ []) = call_so form s (l ∷ []) (NumberAct verb z) refl tt
+  number_made : (verb : NumberVerb) (ts : List Token) → IfSome (number_line verb ts) (IsVerbStatement form version s (is_known_in version (Number verb) && are_calls_due s))
+  number_made verb (NameToken l ∷ NumberToken a z ∷ []) = call_so form version s (l ∷ []) (NumberAct verb z) refl tt
   number_made verb _ = tt
 
   -- a verb with a layer and two numbers
-  pair_made : (verb : PairVerb) (ts : List Token) → IfSome (pair_line verb ts) (IsVerbStatement form s (are_calls_due s))
-  pair_made verb (NameToken l ∷ NumberToken a x ∷ NumberToken b y ∷ []) = call_so form s (l ∷ []) (PairAct verb x y) refl tt
+  pair_made : (verb : PairVerb) (ts : List Token) → IfSome (pair_line verb ts) (IsVerbStatement form version s (are_calls_due s))
+  pair_made verb (NameToken l ∷ NumberToken a x ∷ NumberToken b y ∷ []) = call_so form version s (l ∷ []) (PairAct verb x y) refl tt
   pair_made verb _ = tt
 
   -- a verb with a layer and a text
-  text_made : (verb : TextVerb) (ts : List Token) → IfSome (text_line verb ts) (IsVerbStatement form s (are_calls_due s))
-  text_made verb (NameToken l ∷ TextToken text ∷ []) = call_so form s (l ∷ []) (TextAct verb text) refl tt
+  text_made : (verb : TextVerb) (ts : List Token) → IfSome (text_line verb ts) (IsVerbStatement form version s (are_calls_due s))
+  text_made verb (NameToken l ∷ TextToken text ∷ []) = call_so form version s (l ∷ []) (TextAct verb text) refl tt
   text_made verb _ = tt
 
   -- a verb with a layer and four numbers
-  four_made : (act : Rectangle → Act) → ((r : Rectangle) → 1 ≡ layers_of (act r)) → ((r : Rectangle) → IsActMade (act r)) → (ts : List Token) → IfSome (four_line act ts) (IsVerbStatement form s (are_calls_due s))
-  four_made act n h (NameToken l ∷ NumberToken a x ∷ NumberToken b y ∷ NumberToken c w ∷ NumberToken d z ∷ []) =
-      call_so form s (l ∷ []) (act (four x y w z)) (n (four x y w z)) (h (four x y w z))
-  four_made act n h _ = tt
+  four_made : (act : Rectangle → Act) → ((r : Rectangle) → is_known_act version (act r) ≡ true) → ((r : Rectangle) → 1 ≡ layers_of (act r)) → ((r : Rectangle) → IsActMade (act r)) → (ts : List Token) → IfSome (four_line act ts) (IsVerbStatement form version s (are_calls_due s))
+  four_made act k n h (NameToken l ∷ NumberToken a x ∷ NumberToken b y ∷ NumberToken c w ∷ NumberToken d z ∷ []) =
+      let r = four x y w z in
+      let P : Bool → Type 0 = λ known. IsVerbStatement form version s (known && are_calls_due s) (CallLine (l ∷ []) (act r)) in
+      subst P (k r) (call_so form version s (l ∷ []) (act r) (n r) (h r))
+  four_made act k n h _ = tt
 
   -- orrect R X0 Y0 X1 Y1, and its kin
-  rect_made : (op : RectOp) (ts : List Token) → IfSome (rect_line op ts) (IsVerbStatement form s (are_calls_due s))
+  rect_made : (op : RectOp) (ts : List Token) → IfSome (rect_line op ts) (IsVerbStatement form version s (are_calls_due s))
   rect_made op (NumberToken a r ∷ NumberToken b x0 ∷ NumberToken c y0 ∷ NumberToken d x1 ∷ NumberToken e y1 ∷ []) =
-      call_so form s [] (RegRectAct op r (four x0 y0 x1 y1)) refl tt
+      call_so form version s [] (RegRectAct op r (four x0 y0 x1 y1)) refl tt
   rect_made op _ = tt
 
   -- orregion S R, and its kin
-  region_made : (op : PairOp) (ts : List Token) → IfSome (region_line op ts) (IsVerbStatement form s (are_calls_due s))
-  region_made op (NumberToken a r ∷ NumberToken b q ∷ []) = call_so form s [] (RegPairAct op r q) refl tt
+  region_made : (op : PairOp) (ts : List Token) → IfSome (region_line op ts) (IsVerbStatement form version s (are_calls_due s))
+  region_made op (NumberToken a r ∷ NumberToken b q ∷ []) = call_so form version s [] (RegPairAct op r q) refl tt
   region_made op _ = tt
 
   -- clearregion R
-  clear_made : (ts : List Token) → IfSome (clear_line ts) (IsVerbStatement form s (are_calls_due s))
-  clear_made (NumberToken a r ∷ []) = call_so form s [] (RegClearAct r) refl tt
+  clear_made : (ts : List Token) → IfSome (clear_line ts) (IsVerbStatement form version s (are_calls_due s))
+  clear_made (NumberToken a r ∷ []) = call_so form version s [] (RegClearAct r) refl tt
   clear_made _ = tt
 
   -- which X Y
-  which_made : (ts : List Token) → IfSome (which_line ts) (IsVerbStatement form s (are_calls_due s))
-  which_made (NumberToken a x ∷ NumberToken b y ∷ []) = call_so form s [] (WhichAct x y) refl tt
+  which_made : (ts : List Token) → IfSome (which_line ts) (IsVerbStatement form version s (are_calls_due s))
+  which_made (NumberToken a x ∷ NumberToken b y ∷ []) = call_so form version s [] (WhichAct x y) refl tt
   which_made _ = tt
 
   -- infront L M
-  infront_made : (ts : List Token) → IfSome (infront_line ts) (IsVerbStatement form s (are_calls_due s))
-  infront_made (NameToken l ∷ NameToken m ∷ []) = call_so form s (l ∷ m ∷ []) InFrontAct refl tt
+  infront_made : (ts : List Token) → IfSome (infront_line ts) (IsVerbStatement form version s (are_calls_due s))
+  infront_made (NameToken l ∷ NameToken m ∷ []) = call_so form version s (l ∷ m ∷ []) InFrontAct refl tt
   infront_made _ = tt
 
   -- scrollraster L DX DY X0 Y0 X1 Y1
-  scrollraster_made : (ts : List Token) → IfSome (scrollraster_line ts) (IsVerbStatement form s (are_calls_due s))
+  scrollraster_made : (ts : List Token) → IfSome (scrollraster_line ts) (IsVerbStatement form version s (are_calls_due s))
   scrollraster_made (NameToken l ∷ NumberToken a dx ∷ NumberToken b dy ∷ NumberToken c x0 ∷ NumberToken d y0 ∷ NumberToken e x1 ∷ NumberToken f y1 ∷ []) =
-      call_so form s (l ∷ []) (ScrollRasterAct dx dy (four x0 y0 x1 y1)) refl tt
+      call_so form version s (l ∷ []) (ScrollRasterAct dx dy (four x0 y0 x1 y1)) refl tt
   scrollraster_made _ = tt
 
   -- put BM SX SY L X Y W H MM
-  put_made : (ts : List Token) → IfSome (put_line ts) (IsVerbStatement form s (are_calls_due s))
+  put_made : (ts : List Token) → IfSome (put_line ts) (IsVerbStatement form version s (are_calls_due s))
   put_made (NameToken bm ∷ NumberToken a sx ∷ NumberToken b sy ∷ NameToken l ∷ ts) =
-      map_has (λ end. is_minterm end.1 ≡ true) (IsVerbStatement form s (are_calls_due s)) _ (blit_end ts) (end_minterm ts) (λ end k. call_so form s (l ∷ []) (PutAct bm (blit_area sx sy end.0 end.1)) refl k)
+      map_has (λ end. is_minterm end.1 ≡ true) (IsVerbStatement form version s (are_calls_due s)) _ (blit_end ts) (end_minterm ts) (λ end k. call_so form version s (l ∷ []) (PutAct bm (blit_area sx sy end.0 end.1)) refl k)
   put_made _ = tt
 
   -- blit L SX SY M X Y W H MM
-  blit_made : (ts : List Token) → IfSome (blit_line ts) (IsVerbStatement form s (are_calls_due s))
+  blit_made : (ts : List Token) → IfSome (blit_line ts) (IsVerbStatement form version s (are_calls_due s))
   blit_made (NameToken l ∷ NumberToken a sx ∷ NumberToken b sy ∷ NameToken m ∷ ts) =
-      map_has (λ end. is_minterm end.1 ≡ true) (IsVerbStatement form s (are_calls_due s)) _ (blit_end ts) (end_minterm ts) (λ end k. call_so form s (l ∷ m ∷ []) (BlitAct (blit_area sx sy end.0 end.1)) refl k)
+      map_has (λ end. is_minterm end.1 ≡ true) (IsVerbStatement form version s (are_calls_due s)) _ (blit_end ts) (end_minterm ts) (λ end k. call_so form version s (l ∷ m ∷ []) (BlitAct (blit_area sx sy end.0 end.1)) refl k)
   blit_made _ = tt
 
   -- endrefresh L full, endrefresh L part
-  endrefresh_made : (ts : List Token) → IfSome (endrefresh_line ts) (IsVerbStatement form s (are_calls_due s))
+  endrefresh_made : (ts : List Token) → IfSome (endrefresh_line ts) (IsVerbStatement form version s (are_calls_due s))
   endrefresh_made (NameToken l ∷ NameToken how ∷ []) =
-      either_has (IsVerbStatement form s (are_calls_due s)) (bytes_eq how (codes "full")) _ _ (call_so form s (l ∷ []) (EndRefreshAct true) refl tt) (either_has (IsVerbStatement form s (are_calls_due s)) (bytes_eq how (codes "part")) _ None (call_so form s (l ∷ []) (EndRefreshAct false) refl tt) tt)
+      either_has (IsVerbStatement form version s (are_calls_due s)) (bytes_eq how (codes "full")) _ _ (call_so form version s (l ∷ []) (EndRefreshAct true) refl tt) (either_has (IsVerbStatement form version s (are_calls_due s)) (bytes_eq how (codes "part")) _ None (call_so form version s (l ∷ []) (EndRefreshAct false) refl tt) tt)
   endrefresh_made _ = tt
 
   -- the statement at the end of a creation's words
-  end_made : (f : Statement) → IsVerbStatement form s (are_calls_due s) f → (ts : List Token) → IfSome (at_end f ts) (IsVerbStatement form s (are_calls_due s))
+  end_made : (f : Statement) → IsVerbStatement form version s (are_calls_due s) f → (ts : List Token) → IfSome (at_end f ts) (IsVerbStatement form version s (are_calls_due s))
   end_made f h [] = h
   end_made f h (t ∷ ts) = tt
 
   -- what stands after a creation's four numbers
-  create_super_made : (l : List ℕ) (place : Place) (numbers : Rectangle) (ts : List Token) → IfSome (create_super l place numbers ts) (IsVerbStatement form s (are_calls_due s))
-  create_super_made l place numbers (NumberToken a w ∷ NumberToken b h ∷ ts) = end_made _ (call_so form s (l ∷ []) _ refl refl) _
+  create_super_made : (l : List ℕ) (place : Place) (numbers : Rectangle) (ts : List Token) → IfSome (create_super l place numbers ts) (IsVerbStatement form version s (are_calls_due s))
+  create_super_made l place numbers (NumberToken a w ∷ NumberToken b h ∷ ts) = end_made _ (call_so form version s (l ∷ []) _ refl refl) _
   create_super_made l place numbers _ = tt
 
-  create_made : (l : List ℕ) (place : Place) (numbers : Rectangle) (ts : List Token) (kind : Kind) → IfSome (create_kind l place numbers ts kind) (IsVerbStatement form s (are_calls_due s))
-  create_made l place numbers ts Simple = end_made _ (call_so form s (l ∷ []) _ refl (refl, refl)) _
-  create_made l place numbers ts Smart = end_made _ (call_so form s (l ∷ []) _ refl (refl, refl)) _
+  create_made : (l : List ℕ) (place : Place) (numbers : Rectangle) (ts : List Token) (kind : Kind) → IfSome (create_kind l place numbers ts kind) (IsVerbStatement form version s (are_calls_due s))
+  create_made l place numbers ts Simple = end_made _ (call_so form version s (l ∷ []) _ refl (refl, refl)) _
+  create_made l place numbers ts Smart = end_made _ (call_so form version s (l ∷ []) _ refl (refl, refl)) _
   create_made l place numbers ts SuperBitmap = create_super_made l place numbers ts
 
   -- the statement at the title
-  titled_made : (l : List ℕ) (asked : AskedLayer) (framed nocare : Bool) (classes : ℕ) → IsAskedOf asked.kind asked → (framed && is_super asked.kind) ≡ false → classes < 32 → (ts : List Token) → IfSome (titled_line l asked framed nocare classes ts) (IsVerbStatement form s (are_calls_due s))
-  titled_made l asked framed nocare classes a f c (TextToken title ∷ []) =
-      call_so form s (l ∷ []) (OpenAct asked framed nocare classes title) refl (a, f, c)
-  titled_made l asked framed nocare classes a f c _ = tt
+  titled_made : (l : List ℕ) (layer : NewLayer) (framed nocare : Bool) (classes : ℕ) → IsNewLayerOf layer.kind layer → (framed && is_super layer.kind) ≡ false → classes < 32 → (ts : List Token) → IfSome (titled_line l layer framed nocare classes ts) (IsVerbStatement form version s (are_calls_due s))
+  titled_made l layer framed nocare classes a f c (TextToken title ∷ []) =
+      call_so form version s (l ∷ []) (OpenAct layer framed nocare classes title) refl (a, f, c)
+  titled_made l layer framed nocare classes a f c _ = tt
 
   -- what stands after an opening's four numbers
-  open_super_made : (l : List ℕ) (place : Place) (numbers : Rectangle) (ts : List Token) → IfSome (open_super l place numbers ts) (IsVerbStatement form s (are_calls_due s))
-  open_super_made l place numbers (NumberToken a w ∷ NumberToken b h ∷ ts) = titled_made l _ false false _ refl refl (asked_small ((flag (codes "backdrop") ts).1)) _
+  open_super_made : (l : List ℕ) (place : Place) (numbers : Rectangle) (ts : List Token) → IfSome (open_super l place numbers ts) (IsVerbStatement form version s (are_calls_due s))
+  open_super_made l place numbers (NumberToken a w ∷ NumberToken b h ∷ ts) = titled_made l _ false false _ refl refl (ask_small ((flag (codes "backdrop") ts).1)) _
   open_super_made l place numbers _ = tt
 
-  open_made : (l : List ℕ) (place : Place) (numbers : Rectangle) (ts : List Token) (kind : Kind) → IfSome (open_kind l place numbers ts kind) (IsVerbStatement form s (are_calls_due s))
-  open_made l place numbers ts Simple = titled_made l _ _ _ _ (refl, refl) (and_right _ false refl) (asked_small (behind_hook ts)) _
-  open_made l place numbers ts Smart = titled_made l _ _ _ _ (refl, refl) (and_right _ false refl) (asked_small (behind_hook ts)) _
+  open_made : (l : List ℕ) (place : Place) (numbers : Rectangle) (ts : List Token) (kind : Kind) → IfSome (open_kind l place numbers ts kind) (IsVerbStatement form version s (are_calls_due s))
+  open_made l place numbers ts Simple = titled_made l _ _ _ _ (refl, refl) (and_right _ false refl) (ask_small (behind_hook ts)) _
+  open_made l place numbers ts Smart = titled_made l _ _ _ _ (refl, refl) (and_right _ false refl) (ask_small (behind_hook ts)) _
   open_made l place numbers ts SuperBitmap = open_super_made l place numbers ts
 
   -- create L KIND PLACE X0 Y0 X1 Y1 .., and open L KIND PLACE X Y W H ..
-  asked_made : (behind : List ℕ → Place → Rectangle → List Token → Kind → Option Statement) → ((l : List ℕ) (place : Place) (numbers : Rectangle) (ts : List Token) (kind : Kind) → IfSome (behind l place numbers ts kind) (IsVerbStatement form s (are_calls_due s))) → (ts : List Token) → IfSome (asked_line behind ts) (IsVerbStatement form s (are_calls_due s))
-  asked_made behind made (NameToken l ∷ NameToken k ∷ NameToken p ∷ NumberToken a x ∷ NumberToken b y ∷ NumberToken c z ∷ NumberToken d w ∷ ts) =
-      then_has (IsVerbStatement form s (are_calls_due s)) _ (place_of p) (λ place. then_has (IsVerbStatement form s (are_calls_due s)) _ (kind_of k) (λ kind. made l place (four x y z w) ts kind))
-  asked_made behind made _ = tt
+  new_layer_made : (behind : List ℕ → Place → Rectangle → List Token → Kind → Option Statement) → ((l : List ℕ) (place : Place) (numbers : Rectangle) (ts : List Token) (kind : Kind) → IfSome (behind l place numbers ts kind) (IsVerbStatement form version s (are_calls_due s))) → (ts : List Token) → IfSome (new_layer_line behind ts) (IsVerbStatement form version s (are_calls_due s))
+  new_layer_made behind made (NameToken l ∷ NameToken k ∷ NameToken p ∷ NumberToken a x ∷ NumberToken b y ∷ NumberToken c z ∷ NumberToken d w ∷ ts) =
+      then_has (IsVerbStatement form version s (are_calls_due s)) _ (place_of p) (λ place. then_has (IsVerbStatement form version s (are_calls_due s)) _ (kind_of k) (λ kind. made l place (four x y z w) ts kind))
+  new_layer_made behind made _ = tt
 
 -- so it is for each verb
-verb_made : (form : Form) (s : Section) (verb : Verb) (ts : List Token) → IfSome (statement_by verb ts) (IsVerbStatement form s (belongs_in form s verb))
-verb_made form s (Part verb) ts = part_made form s verb ts
-verb_made form s (Bare verb) ts = layer_made form s verb ts
-verb_made form s (Number verb) ts = number_made form s verb ts
-verb_made form s (Pair verb) ts = pair_made form s verb ts
-verb_made form s (Text verb) ts = text_made form s verb ts
-verb_made form s (Rect op) ts = rect_made form s op ts
-verb_made form s (Region op) ts = region_made form s op ts
-verb_made form s ClearRegion ts = clear_made form s ts
-verb_made form s Create ts = asked_made form s create_kind (create_made form s) ts
-verb_made form s Open ts = asked_made form s open_kind (open_made form s) ts
-verb_made form s InFront ts = infront_made form s ts
-verb_made form s Box ts = four_made form s (λ r. BoxAct r) (λ r. refl) (λ r. tt) ts
-verb_made form s Which ts = which_made form s ts
-verb_made form s Fill ts = four_made form s (λ r. FillAct r) (λ r. refl) (λ r. tt) ts
-verb_made form s ScrollRaster ts = scrollraster_made form s ts
-verb_made form s Put ts = put_made form s ts
-verb_made form s Blit ts = blit_made form s ts
-verb_made form s EndRefresh ts = endrefresh_made form s ts
+verb_made : (form : Form) (version : ℕ) (s : Section) (verb : Verb) (ts : List Token) → IfSome (statement_by verb ts) (IsVerbStatement form version s (is_known_in version verb && belongs_in form version s verb))
+verb_made form version s (Part verb) ts = part_made form version s verb ts
+verb_made form version s (Bare verb) ts = layer_made form version s verb ts
+verb_made form version s (Number verb) ts = number_made form version s verb ts
+verb_made form version s (Pair verb) ts = pair_made form version s verb ts
+verb_made form version s (Text verb) ts = text_made form version s verb ts
+verb_made form version s (Rect op) ts = rect_made form version s op ts
+verb_made form version s (Region op) ts = region_made form version s op ts
+verb_made form version s ClearRegion ts = clear_made form version s ts
+verb_made form version s Create ts = new_layer_made form version s create_kind (create_made form version s) ts
+verb_made form version s Open ts = new_layer_made form version s open_kind (open_made form version s) ts
+verb_made form version s InFront ts = infront_made form version s ts
+verb_made form version s Box ts = four_made form version s (λ r. BoxAct r) (λ r. refl) (λ r. refl) (λ r. tt) ts
+verb_made form version s Which ts = which_made form version s ts
+verb_made form version s Fill ts = four_made form version s (λ r. FillAct r) (λ r. refl) (λ r. refl) (λ r. tt) ts
+verb_made form version s ScrollRaster ts = scrollraster_made form version s ts
+verb_made form version s Put ts = put_made form version s ts
+verb_made form version s Blit ts = blit_made form version s ts
+verb_made form version s EndRefresh ts = endrefresh_made form version s ts
 
 -- What a line with this statement was good for, below lines with these statements.
 abbrev pub IsStatementHere : Setting → List Statement → Statement → Type 0
 IsStatementHere s above (RowLine bytes) = (((told above).rows_due == 0) ≡ false) × (length bytes ≡ row_bytes (told above).row_width)
 IsStatementHere s above (NumbersLine zs) = (((told above).rows_due == 0) ≡ true) × (are_numbers_due (told above).section ≡ true)
-IsStatementHere s above f = (((told above).rows_due == 0) ≡ true) × (belongs_at s.form (told above).section f ≡ true) × IsStatementMade f
+IsStatementHere s above f =
+    (((told above).rows_due == 0) ≡ true) × (belongs_at s.form (told above).version (told above).section f ≡ true) × IsStatementMade f × (is_known_line (told above).version f ≡ true)
 
 -- a statement of a verb is good for this, where its lines stand
-verb_here : (s : Setting) (above : List Statement) → ((told above).rows_due == 0) ≡ true → (stands : Bool) → stands ≡ true → (f : Statement) → IsVerbStatement s.form (told above).section stands f → IsStatementHere s above f
+verb_here : (s : Setting) (above : List Statement) → ((told above).rows_due == 0) ≡ true → (stands : Bool) → stands ≡ true → (f : Statement) → IsVerbStatement s.form (told above).version (told above).section stands f → IsStatementHere s above f
 verb_here s above e stands h (RowLine bytes) k = absurd (false≢true (k.place h))
 verb_here s above e stands h (NumbersLine zs) k = absurd (false≢true (k.place h))
-verb_here s above e stands h f k = (e, k.place h, k.made)
+verb_here s above e stands h f k = (e, k.place h, k.made, k.known h)
 
 -- what is found is found as a result too
 pub found_has : {A : Type 0} (P : A → Type 0) (o : Option A) (r : Reason) → IfSome o P → IfOk (ok_or o r) P
@@ -415,20 +441,27 @@ found_has P None r h = tt
 found_has P (Some a) r h = h
 
 -- the same of each line with a verb
-verb_line_here : (s : Setting) (above : List Statement) → ((told above).rows_due == 0) ≡ true → (ws : List (List ℕ)) → IfOk (verb_read s.form (told above).section ws) (IsStatementHere s above)
+verb_line_here : (s : Setting) (above : List Statement) → ((told above).rows_due == 0) ≡ true → (ws : List (List ℕ)) → IfOk (verb_read s.form (told above).version (told above).section ws) (IsStatementHere s above)
 verb_line_here s above e ws = at_verb (verb_on ws)
   where
-    at_statement : (v : Verb) → belongs_in s.form (told above).section v ≡ true → (o : Option Statement) → IfSome o (IsVerbStatement s.form (told above).section (belongs_in s.form (told above).section v)) → IfOk (ok_or o FormReason) (IsStatementHere s above)
+    is_known : Verb → Bool
+    is_known v = is_known_in (told above).version v
+
+    belongs : Verb → Bool
+    belongs v = belongs_in s.form (told above).version (told above).section v
+
+    at_statement : (v : Verb) → (is_known v && belongs v) ≡ true → (o : Option Statement) → IfSome o (IsVerbStatement s.form (told above).version (told above).section (is_known v && belongs v)) → IfOk (ok_or o FormReason) (IsStatementHere s above)
     at_statement v h None k = tt
     at_statement v h (Some f) k = verb_here s above e _ h f k
 
-    at_test : (v : Verb) (b : Bool) → belongs_in s.form (told above).section v ≡ b → IfOk (demand b Misplaced >>= (λ _. ok_or (statement_by v (map token_of (after_verb ws))) FormReason)) (IsStatementHere s above)
-    at_test v false h = tt
-    at_test v true h = at_statement v h (statement_by v (map token_of (after_verb ws))) (verb_made s.form (told above).section v (map token_of (after_verb ws)))
+    at_tests : (v : Verb) (a b : Bool) → is_known v ≡ a → belongs v ≡ b → IfOk (demand a UnknownWord >>= (λ _. demand b Misplaced >>= (λ _. ok_or (statement_by v (map token_of (after_verb ws))) FormReason))) (IsStatementHere s above)
+    at_tests v false b k h = tt
+    at_tests v true false k h = tt
+    at_tests v true true k h = at_statement v (and_from _ _ k h) (statement_by v (map token_of (after_verb ws))) (verb_made s.form (told above).version (told above).section v (map token_of (after_verb ws)))
 
-    at_verb : (o : Option Verb) → IfOk (ok_or o UnknownWord >>= (λ v. demand (belongs_in s.form (told above).section v) Misplaced >>= (λ _. ok_or (statement_by v (map token_of (after_verb ws))) FormReason))) (IsStatementHere s above)
+    at_verb : (o : Option Verb) → IfOk (ok_or o UnknownWord >>= (λ v. demand (is_known v) UnknownWord >>= (λ _. demand (belongs v) Misplaced >>= (λ _. ok_or (statement_by v (map token_of (after_verb ws))) FormReason)))) (IsStatementHere s above)
     at_verb None = tt
-    at_verb (Some v) = at_test v (belongs_in s.form (told above).section v) refl
+    at_verb (Some v) = at_tests v (is_known v) (belongs v) refl refl
 
 -- a row of a bitmap
 row_here : (s : Setting) (above : List Statement) → ((told above).rows_due == 0) ≡ false → (ts : List Token) → IfSome (row_line (told above).row_width ts) (IsStatementHere s above)
@@ -446,13 +479,13 @@ numbers_here s above e d ts =
     some_has (Some zs) = tt
 
 -- The statement that is read is good for what a line of it is good for here.
-pub statement_here : (s : Setting) (above : List Statement) (ws : List (List ℕ)) → IfOk (statement_read s.form (told above).section (told above).rows_due (told above).row_width ws) (IsStatementHere s above)
+pub statement_here : (s : Setting) (above : List Statement) (ws : List (List ℕ)) → IfOk (statement_read s.form (told above).version (told above).section (told above).rows_due (told above).row_width ws) (IsStatementHere s above)
 statement_here s above ws = at_rows ((told above).rows_due == 0) refl
   where
-    at_numbers : (t : Bool) → are_numbers_due (told above).section ≡ t → ((told above).rows_due == 0) ≡ true → IfOk (cond t (ok_or (numbers_line (map token_of ws)) FormReason) (verb_read s.form (told above).section ws)) (IsStatementHere s above)
+    at_numbers : (t : Bool) → are_numbers_due (told above).section ≡ t → ((told above).rows_due == 0) ≡ true → IfOk (cond t (ok_or (numbers_line (map token_of ws)) FormReason) (verb_read s.form (told above).version (told above).section ws)) (IsStatementHere s above)
     at_numbers true d e = found_has (IsStatementHere s above) _ FormReason (numbers_here s above e d (map token_of ws))
     at_numbers false d e = verb_line_here s above e ws
 
-    at_rows : (t : Bool) → ((told above).rows_due == 0) ≡ t → IfOk (cond (not t) (ok_or (row_line (told above).row_width (map token_of ws)) FormReason) (cond (are_numbers_due (told above).section) (ok_or (numbers_line (map token_of ws)) FormReason) (verb_read s.form (told above).section ws))) (IsStatementHere s above)
+    at_rows : (t : Bool) → ((told above).rows_due == 0) ≡ t → IfOk (cond (not t) (ok_or (row_line (told above).row_width (map token_of ws)) FormReason) (cond (are_numbers_due (told above).section) (ok_or (numbers_line (map token_of ws)) FormReason) (verb_read s.form (told above).version (told above).section ws))) (IsStatementHere s above)
     at_rows true e = at_numbers (are_numbers_due (told above).section) refl e
     at_rows false e = found_has (IsStatementHere s above) _ FormReason (row_here s above e (map token_of ws))

@@ -6,17 +6,18 @@ use Rattle.lw_calls.specs.declared.call.Call.{Call}
 use Rattle.lw_calls.specs.declared.group.Hold.{Hold}
 use Rattle.lw_calls.specs.declared.group.Hold.TheVariants.{Slot, All as AllLayers}
 use Rattle.lw_calls.specs.declared.group.Group.{Group}
-use Rattle.lw_calls.specs.Limits.{call_limit, call_fits}
+use Rattle.lw_calls.specs.Limits.{limits_of, call_fits}
 use Rattle.lw_calls.specs.Touches.{slots_of}
 use Rattle.lw_calls.specs.Plan.{is_one, is_all, begins_update, ends_update, may_be_locked, hold_allows, group_fits, groups_fit}
 use Rattle.lw_grammar.specs.declared.verb.BareVerb.TheVariants.{Refresh as RefreshVerb}
-use Rattle.lw_grammar.specs.Statements.{Act, BareAct, NumberAct, PairAct, TextAct, EndRefreshAct, Statement, ScreenLine, BitmapLine, TaskLine, EndLine, OrderLine, ReportLine, CallLine, LockLine, UnlockLine, HoldLine, ReleaseLine, layers_of}
+use Rattle.lw_grammar.specs.Statements.{Act, BareAct, NumberAct, PairAct, TextAct, EndRefreshAct, Statement, LayersLine, ScreenLine, BitmapLine, TaskLine, EndLine, OrderLine, ReportLine, CallLine, LockLine, UnlockLine, HoldLine, ReleaseLine, layers_of}
 use Rattle.lw_grammar.specs.Told.{Section, ScreenIsDue, AssetsAreDue, CallsAreDue, TasksAreDue, NumbersAreDue, NothingIsDue, OpenGroup, Locked, Updating, Held, and_names, place_among, onto_last, spelled_call, call_below, hook_on, left_open_by, group_from, told}
-use Rattle.lw_grammar.specs.Script.{Setting, is_screen_due, are_assets_due, are_calls_due, are_tasks_due, is_beginning, is_ending, is_on_one, group_allows, is_lock_on, is_hold, is_no_hook, AreGoodLines}
+use Rattle.lw_grammar.specs.Script.{Setting, are_assets_due, are_calls_due, are_tasks_due, is_beginning, is_ending, is_on_one, group_allows, is_lock_on, is_hold, is_no_hook, AreGoodLines}
+use Rattle.lw_grammar.proofs.ScriptStatements.{is_known_act}
 use Rattle.lw_grammar.proofs.ScriptNames.{equal_names, names_grow, any_kept, place_kept, all_named, places_below}
 use Rattle.lw_grammar.proofs.ScriptCalls.{act_fits}
-use Rattle.lw_grammar.proofs.ScriptGroups.{begins_so, ends_so, number_plain, pair_plain, text_plain, arranges, on_one, EndBefore, end_later, end_pushed, groups_kept, groups_pushed, to_the_end, all_pushed, update_stands, locked_stands, drop_pushed}
-use Rattle.lw_grammar.proofs.ScriptSizes.{here, tests, counted, has_begun, in_calls, in_tasks}
+use Rattle.lw_grammar.proofs.ScriptGroups.{begins_so, ends_so, number_plain, pair_plain, text_plain, touches_all, on_one, EndBefore, end_later, end_pushed, groups_kept, groups_pushed, to_the_end, all_pushed, update_stands, locked_stands, drop_pushed}
+use Rattle.lw_grammar.proofs.ScriptSizes.{here, tests, counted, has_begun, in_screen, in_calls, in_tasks, version_first}
 use Rattle.std.proofs.lemmas.Bool.{true≢false, false≢true, eq-eqb, and_parts, and_from}
 use Rattle.std.proofs.lemmas.List.{drop_all, drop_at}
 use Rattle.std.proofs.lemmas.List.Elements.{All-nil, All-cons, All-push}
@@ -44,7 +45,7 @@ view_of above =
 
 -- the calls of one task fit, and so do its groups
 pub record IsTaskFit (z : Sizes) (calls : List Call) (groups : List Group) : Type 0 where
-  pub few : length calls ≤ call_limit
+  pub few : length calls ≤ (limits_of z.version).calls
   pub fit : All (λ c. IsTrue (call_fits z c)) calls
   pub grouped : groups_fit calls groups ≡ true
 
@@ -223,10 +224,10 @@ plain_state (Some Held) so_far began names layers act bitmaps calls groups long 
     let slots : List ℕ = map (place_among (and_names names layers)) layers in
     let c : Call = spelled_call bitmaps act slots in
     let P : List Call → Type 0 = λ cs. are_held cs ≡ true in
-    (open_later so_far (so_far + 1) began groups (omega arith) h.0, subst P (sym (drop_pushed calls c began (omega (arith, long, h.0.order)))) (all_pushed (λ c. is_all (slots_of c)) (drop began calls) c h.1 (arranges bitmaps act slots stands)))
+    (open_later so_far (so_far + 1) began groups (omega arith) h.0, subst P (sym (drop_pushed calls c began (omega (arith, long, h.0.order)))) (all_pushed (λ c. is_all (slots_of c)) (drop began calls) c h.1 (touches_all bitmaps act slots stands)))
 
 -- one call more fits
-task_longer : (z : Sizes) (calls : List Call) (groups : List Group) (c : Call) → length calls + 1 ≤ call_limit → call_fits z c ≡ true → IsTaskFit z calls groups → IsTaskFit z (calls ++ c ∷ []) groups
+task_longer : (z : Sizes) (calls : List Call) (groups : List Group) (c : Call) → length calls + 1 ≤ (limits_of z.version).calls → call_fits z c ≡ true → IsTaskFit z calls groups → IsTaskFit z (calls ++ c ∷ []) groups
 task_longer z calls groups c few fits h =
     record {
       few = omega (arith, few, length-append calls (c ∷ []));
@@ -250,17 +251,18 @@ plain_groups above (l ∷ m ∷ ms) (EndRefreshAct full) b e = absurd (true≢fa
 plain_groups above layers act b e = (refl, refl, refl)
 
 -- the call of a good line fits
-call_sound : (z : Sizes) (s : Setting) (above : List Statement) (layers : List (List ℕ)) (act : Act) → AreGoodLines s (CallLine layers act ∷ above) → z.hooks ≡ s.hooks → length (told (CallLine layers act ∷ above)).names ≤ z.slots → length (told above).bitmap_names ≤ z.bitmaps → call_fits z (call_below (told above) layers act) ≡ true
-call_sound z s above layers act g hooks slots bitmaps =
+call_sound : (z : Sizes) (s : Setting) (above : List Statement) (layers : List (List ℕ)) (act : Act) → AreGoodLines s (CallLine layers act ∷ above) → z.version ≡ (told above).version → z.hooks ≡ s.hooks → length (told (CallLine layers act ∷ above)).names ≤ z.slots → length (told above).bitmap_names ≤ z.bitmaps → call_fits z (call_below (told above) layers act) ≡ true
+call_sound z s above layers act g version hooks slots bitmaps =
     let h = here s above (CallLine layers act) g in
     let t = tests s above (CallLine layers act) g in
     let more : List (List ℕ) = and_names (told above).names layers in
     let low = places_below more layers (all_named (told above).names layers) in
     let P : ℕ → Type 0 = λ n. is_no_hook n (hook_on (CallLine layers act)) ≡ false in
-    act_fits z (told above).bitmap_names bitmaps (map (place_among more) layers) layers act h.2.1 t.range t.named (subst P (sym hooks) t.hook) (λ i k. omega (arith, low i (omega (arith, h.2.0, k)), slots))
+    let Q : ℕ → Type 0 = λ v. is_known_act v act ≡ true in
+    act_fits z (told above).bitmap_names bitmaps (map (place_among more) layers) layers act h.2.1 (subst Q (sym version) h.3) t.range t.named (subst P (sym hooks) t.hook) (λ i k. omega (arith, low i (omega (arith, h.2.0, k)), slots))
 
 -- the tasks with a call and groups more in the nearest one
-module _ (z : Sizes) (s : Setting) (above : List Statement) (layers : List (List ℕ)) (act : Act) (good : AreGoodLines s (CallLine layers act ∷ above)) (hooks : z.hooks ≡ s.hooks) (slots : length (told (CallLine layers act ∷ above)).names ≤ z.slots) (bitmaps : length (told above).bitmap_names ≤ z.bitmaps) where
+module _ (z : Sizes) (s : Setting) (above : List Statement) (layers : List (List ℕ)) (act : Act) (good : AreGoodLines s (CallLine layers act ∷ above)) (version : z.version ≡ (told above).version) (hooks : z.hooks ≡ s.hooks) (slots : length (told (CallLine layers act ∷ above)).names ≤ z.slots) (bitmaps : length (told above).bitmap_names ≤ z.bitmaps) where
   -- the call
   abbrev the_call : Call
   the_call = call_below (told above) layers act
@@ -268,8 +270,9 @@ module _ (z : Sizes) (s : Setting) (above : List Statement) (layers : List (List
   -- the nearest task's calls with it
   call_fits_now : (calls : List Call) (groups : List Group) → length calls ≡ (told above).so_far → IsTaskFit z calls groups → IsTaskFit z (calls ++ the_call ∷ []) groups
   call_fits_now calls groups long h =
-      let sound = call_sound z s above layers act good hooks slots bitmaps in
-      let few = (counted s (CallLine layers act ∷ above) good).calls in
+      let sound = call_sound z s above layers act good version hooks slots bitmaps in
+      let P : ℕ → Type 0 = λ v. (told above).so_far + 1 ≤ (limits_of v).calls in
+      let few : P z.version = subst P (sym version) (counted s (CallLine layers act ∷ above) good).calls in
       task_longer z calls groups the_call (omega (arith, few, long)) sound h
 
   -- the tasks with it
@@ -323,8 +326,8 @@ update_whole slot [] c h k = absurd h
 update_whole slot (b ∷ cs) c h k = update_stands slot b cs c h.0 h.1 k
 
 -- an update begins
-refresh_call : (z : Sizes) (s : Setting) (above : List Statement) (l : List ℕ) → AreGoodLines s (CallLine (l ∷ []) (BareAct RefreshVerb) ∷ above) → z.hooks ≡ s.hooks → length (told (CallLine (l ∷ []) (BareAct RefreshVerb) ∷ above)).names ≤ z.slots → length (told above).bitmap_names ≤ z.bitmaps → HaveBegun z (view_of above) → HaveBegun z (view_of (CallLine (l ∷ []) (BareAct RefreshVerb) ∷ above))
-refresh_call z s above l g hooks slots bitmaps b =
+refresh_call : (z : Sizes) (s : Setting) (above : List Statement) (l : List ℕ) → AreGoodLines s (CallLine (l ∷ []) (BareAct RefreshVerb) ∷ above) → z.version ≡ (told above).version → z.hooks ≡ s.hooks → length (told (CallLine (l ∷ []) (BareAct RefreshVerb) ∷ above)).names ≤ z.slots → length (told above).bitmap_names ≤ z.bitmaps → HaveBegun z (view_of above) → HaveBegun z (view_of (CallLine (l ∷ []) (BareAct RefreshVerb) ∷ above))
+refresh_call z s above l g version hooks slots bitmaps b =
     let t = tests s above (CallLine (l ∷ []) (BareAct RefreshVerb)) g in
     let so_far : ℕ = (told above).so_far in
     let more : List (List ℕ) = and_names (told above).names (l ∷ []) in
@@ -334,12 +337,12 @@ refresh_call z s above l g hooks slots bitmaps b =
     let Q : List Call → Type 0 = λ cs. IsUpdating (place_among more l) cs in
     let alone : drop so_far (b.calls ++ c ∷ []) ≡ c ∷ [] = drop_at b.calls (c ∷ []) so_far b.now.long in
     let begun : IsUpdating (place_among more l) (c ∷ []) = (and_from _ _ (eq-eqb (place_among more l) _ refl) refl, refl) in
-    with_call z s above (l ∷ []) (BareAct RefreshVerb) g hooks slots bitmaps b b.groups b.groups_are (call_fits_now z s above (l ∷ []) (BareAct RefreshVerb) g hooks slots bitmaps b.calls b.groups b.now.long b.now.fits)
+    with_call z s above (l ∷ []) (BareAct RefreshVerb) g version hooks slots bitmaps b b.groups b.groups_are (call_fits_now z s above (l ∷ []) (BareAct RefreshVerb) g version hooks slots bitmaps b.calls b.groups b.now.long b.now.fits)
     (record { before = before; order = omega arith }, (all_named (told above).names (l ∷ [])).0, subst Q (sym alone) begun)
 
 -- an update ends
-endrefresh_call : (z : Sizes) (s : Setting) (above : List Statement) (l : List ℕ) (full : Bool) → AreGoodLines s (CallLine (l ∷ []) (EndRefreshAct full) ∷ above) → z.hooks ≡ s.hooks → length (told (CallLine (l ∷ []) (EndRefreshAct full) ∷ above)).names ≤ z.slots → length (told above).bitmap_names ≤ z.bitmaps → HaveBegun z (view_of above) → HaveBegun z (view_of (CallLine (l ∷ []) (EndRefreshAct full) ∷ above))
-endrefresh_call z s above l full g hooks slots bitmaps b =
+endrefresh_call : (z : Sizes) (s : Setting) (above : List Statement) (l : List ℕ) (full : Bool) → AreGoodLines s (CallLine (l ∷ []) (EndRefreshAct full) ∷ above) → z.version ≡ (told above).version → z.hooks ≡ s.hooks → length (told (CallLine (l ∷ []) (EndRefreshAct full) ∷ above)).names ≤ z.slots → length (told above).bitmap_names ≤ z.bitmaps → HaveBegun z (view_of above) → HaveBegun z (view_of (CallLine (l ∷ []) (EndRefreshAct full) ∷ above))
+endrefresh_call z s above l full g version hooks slots bitmaps b =
     let t = tests s above (CallLine (l ∷ []) (EndRefreshAct full)) g in
     let so_far : ℕ = (told above).so_far in
     let began : ℕ = (told above).began in
@@ -355,24 +358,24 @@ endrefresh_call z s above l full g hooks slots bitmaps b =
     let whole = update_whole slot (drop began b.calls) c state.2 ends in
     let stands : hold_allows (Slot slot) (drop began calls) ≡ true = ap (hold_allows (Slot slot)) (drop_pushed b.calls c began (omega (arith, b.now.long, state.0.order))) ∙ whole in
     let fits : group_fits calls group ≡ true = to_the_end calls began ((so_far + 1) - 1) (Slot slot) (omega (arith, state.0.order)) (omega (arith, long)) stands in
-    with_call z s above (l ∷ []) (EndRefreshAct full) g hooks slots bitmaps b (b.groups ++ group ∷ []) (ap (onto_last group) b.groups_are ∙ onto_pushed group b.done_groups b.groups) (task_grouped z calls b.groups group state.0.before fits (call_fits_now z s above (l ∷ []) (EndRefreshAct full) g hooks slots bitmaps b.calls b.groups b.now.long b.now.fits))
+    with_call z s above (l ∷ []) (EndRefreshAct full) g version hooks slots bitmaps b (b.groups ++ group ∷ []) (ap (onto_last group) b.groups_are ∙ onto_pushed group b.done_groups b.groups) (task_grouped z calls b.groups group state.0.before fits (call_fits_now z s above (l ∷ []) (EndRefreshAct full) g version hooks slots bitmaps b.calls b.groups b.now.long b.now.fits))
     (end_pushed b.groups group (so_far + 1) (omega arith))
 
 -- any call
-any_call : (z : Sizes) (s : Setting) (above : List Statement) (layers : List (List ℕ)) (act : Act) → AreGoodLines s (CallLine layers act ∷ above) → z.hooks ≡ s.hooks → length (told (CallLine layers act ∷ above)).names ≤ z.slots → length (told above).bitmap_names ≤ z.bitmaps → HaveBegun z (view_of above) → HaveBegun z (view_of (CallLine layers act ∷ above))
-any_call z s above [] (BareAct RefreshVerb) g hooks slots bitmaps b = absurd (cc ((here s above (CallLine [] (BareAct RefreshVerb)) g).2.0))
-any_call z s above (l ∷ []) (BareAct RefreshVerb) g hooks slots bitmaps b = refresh_call z s above l g hooks slots bitmaps b
-any_call z s above (l ∷ m ∷ ms) (BareAct RefreshVerb) g hooks slots bitmaps b = absurd (omega (arith, (here s above (CallLine (l ∷ m ∷ ms) (BareAct RefreshVerb)) g).2.0))
-any_call z s above [] (EndRefreshAct full) g hooks slots bitmaps b = absurd (cc ((here s above (CallLine [] (EndRefreshAct full)) g).2.0))
-any_call z s above (l ∷ []) (EndRefreshAct full) g hooks slots bitmaps b = endrefresh_call z s above l full g hooks slots bitmaps b
-any_call z s above (l ∷ m ∷ ms) (EndRefreshAct full) g hooks slots bitmaps b = absurd (omega (arith, (here s above (CallLine (l ∷ m ∷ ms) (EndRefreshAct full)) g).2.0))
-any_call z s above layers (NumberAct verb n) g hooks slots bitmaps b =
-    let p = number_plain verb n in plain_call z s above layers (NumberAct verb n) g hooks slots bitmaps p.0 p.1 b
-any_call z s above layers (PairAct verb x y) g hooks slots bitmaps b =
-    let p = pair_plain verb x y in plain_call z s above layers (PairAct verb x y) g hooks slots bitmaps p.0 p.1 b
-any_call z s above layers (TextAct verb text) g hooks slots bitmaps b =
-    let p = text_plain verb text in plain_call z s above layers (TextAct verb text) g hooks slots bitmaps p.0 p.1 b
-any_call z s above layers act g hooks slots bitmaps b = plain_call z s above layers act g hooks slots bitmaps refl refl b
+any_call : (z : Sizes) (s : Setting) (above : List Statement) (layers : List (List ℕ)) (act : Act) → AreGoodLines s (CallLine layers act ∷ above) → z.version ≡ (told above).version → z.hooks ≡ s.hooks → length (told (CallLine layers act ∷ above)).names ≤ z.slots → length (told above).bitmap_names ≤ z.bitmaps → HaveBegun z (view_of above) → HaveBegun z (view_of (CallLine layers act ∷ above))
+any_call z s above [] (BareAct RefreshVerb) g version hooks slots bitmaps b = absurd (cc ((here s above (CallLine [] (BareAct RefreshVerb)) g).2.0))
+any_call z s above (l ∷ []) (BareAct RefreshVerb) g version hooks slots bitmaps b = refresh_call z s above l g version hooks slots bitmaps b
+any_call z s above (l ∷ m ∷ ms) (BareAct RefreshVerb) g version hooks slots bitmaps b = absurd (omega (arith, (here s above (CallLine (l ∷ m ∷ ms) (BareAct RefreshVerb)) g).2.0))
+any_call z s above [] (EndRefreshAct full) g version hooks slots bitmaps b = absurd (cc ((here s above (CallLine [] (EndRefreshAct full)) g).2.0))
+any_call z s above (l ∷ []) (EndRefreshAct full) g version hooks slots bitmaps b = endrefresh_call z s above l full g version hooks slots bitmaps b
+any_call z s above (l ∷ m ∷ ms) (EndRefreshAct full) g version hooks slots bitmaps b = absurd (omega (arith, (here s above (CallLine (l ∷ m ∷ ms) (EndRefreshAct full)) g).2.0))
+any_call z s above layers (NumberAct verb n) g version hooks slots bitmaps b =
+    let p = number_plain verb n in plain_call z s above layers (NumberAct verb n) g version hooks slots bitmaps p.0 p.1 b
+any_call z s above layers (PairAct verb x y) g version hooks slots bitmaps b =
+    let p = pair_plain verb x y in plain_call z s above layers (PairAct verb x y) g version hooks slots bitmaps p.0 p.1 b
+any_call z s above layers (TextAct verb text) g version hooks slots bitmaps b =
+    let p = text_plain verb text in plain_call z s above layers (TextAct verb text) g version hooks slots bitmaps p.0 p.1 b
+any_call z s above layers act g version hooks slots bitmaps b = plain_call z s above layers act g version hooks slots bitmaps refl refl b
 
 -- the tasks with no further call, and these groups in the nearest one
 grouped : (z : Sizes) (v w : View) (b : HaveBegun z v) (groups : List Group) → w.calls ≡ v.calls → w.so_far ≡ v.so_far → w.groups ≡ b.done_groups ++ groups ∷ [] → IsTaskFit z b.calls groups → OpenState w.group w.so_far w.began w.names b.calls groups → HaveBegun z w
@@ -455,14 +458,12 @@ release_ends z s above g b =
     grouped z (view_of above) (view_of (ReleaseLine ∷ above)) b (b.groups ++ group ∷ []) refl refl (ap (onto_last group) b.groups_are ∙ onto_pushed group b.done_groups b.groups) (ended_group z above b AllLayers some state.0.before state.1)
     (end_pushed b.groups group (told above).so_far (omega (arith, some)))
 
--- the screen line leaves no tasks
-screen_tasks : (z : Sizes) (c : Section) (v : View) → is_screen_due c ≡ true → AreTasks z c v → AreTasks z AssetsAreDue v
-screen_tasks z ScreenIsDue v e h = record { closed = λ d. h.closed refl; tasks = h.tasks }
-screen_tasks z AssetsAreDue v e h = absurd (false≢true e)
-screen_tasks z CallsAreDue v e h = absurd (false≢true e)
-screen_tasks z TasksAreDue v e h = absurd (false≢true e)
-screen_tasks z NumbersAreDue v e h = absurd (false≢true e)
-screen_tasks z NothingIsDue v e h = absurd (false≢true e)
+-- before the screen line there are no tasks, whatever the sizes
+before_screen : (y z : Sizes) (c : Section) (v : View) → c ≡ ScreenIsDue → AreTasks y c v → AreTasks z ScreenIsDue v
+before_screen y z c v e h =
+    let P : Section → Type 0 = λ k. AreTasks y k v in
+    let at : AreTasks y ScreenIsDue v = subst P e h in
+    record { closed = at.closed; tasks = at.tasks }
 
 -- a task ends where no group is open
 end_tasks : (z : Sizes) (c : Section) (v : View) → are_calls_due c ≡ true → v.group ≡ None → AreTasks z c v → AreTasks z TasksAreDue v
@@ -479,34 +480,41 @@ after_tasks z c v e h =
     (record { closed = λ d. at.closed refl; tasks = at.tasks }, record { closed = λ d. at.closed refl; tasks = at.tasks })
 
 -- Good lines give tasks whose calls and groups fit sizes that have their names.
-pub tasks_fit : (z : Sizes) (s : Setting) (above : List Statement) → AreGoodLines s above → z.hooks ≡ s.hooks → length (told above).names ≤ z.slots → length (told above).bitmap_names ≤ z.bitmaps → AreTasks z (told above).section (view_of above)
-tasks_fit z s [] g hooks slots bitmaps = record { closed = λ d. refl; tasks = (refl, refl) }
-tasks_fit z s (ScreenLine w h d ∷ above) g hooks slots bitmaps =
-    screen_tasks z (told above).section (view_of above) (here s above (ScreenLine w h d) g).1 (tasks_fit z s above g.1 hooks slots bitmaps)
-tasks_fit z s (BitmapLine name w h d ∷ above) g hooks slots bitmaps =
-    tasks_fit z s above g.1 hooks slots (omega (arith, length-append (told above).bitmap_names (name ∷ []), bitmaps))
-tasks_fit z s (TaskLine name ∷ above) g hooks slots bitmaps =
+pub tasks_fit : (z : Sizes) (s : Setting) (above : List Statement) → AreGoodLines s above → z.version ≡ (told above).version → z.hooks ≡ s.hooks → length (told above).names ≤ z.slots → length (told above).bitmap_names ≤ z.bitmaps → AreTasks z (told above).section (view_of above)
+tasks_fit z s [] g version hooks slots bitmaps = record { closed = λ d. refl; tasks = (refl, refl) }
+tasks_fit z s (LayersLine ∷ above) g version hooks slots bitmaps =
+    let y : Sizes = record z { version = (told above).version } in
+    let first = version_first s above g in
+    let P : Section → Type 0 = λ k. AreTasks z k (view_of above) in
+    subst P (sym first) (before_screen y z (told above).section (view_of above) first (tasks_fit y s above g.1 refl hooks slots bitmaps))
+tasks_fit z s (ScreenLine w h d ∷ above) g version hooks slots bitmaps =
+    let y : Sizes = record z { version = (told above).version } in
+    let first = before_screen y z (told above).section (view_of above) (in_screen (told above).section (here s above (ScreenLine w h d) g).1) (tasks_fit y s above g.1 refl hooks slots bitmaps) in
+    record { closed = λ d. first.closed refl; tasks = first.tasks }
+tasks_fit z s (BitmapLine name w h d ∷ above) g version hooks slots bitmaps =
+    tasks_fit z s above g.1 version hooks slots (omega (arith, length-append (told above).bitmap_names (name ∷ []), bitmaps))
+tasks_fit z s (TaskLine name ∷ above) g version hooks slots bitmaps =
     record {
       closed = λ d. absurd (true≢false d);
-      tasks = task_begins z (told above).section (view_of above) (view_of (TaskLine name ∷ above)) (here s above (TaskLine name) g).1 refl refl refl refl (tasks_fit z s above g.1 hooks slots bitmaps);
+      tasks = task_begins z (told above).section (view_of above) (view_of (TaskLine name ∷ above)) (here s above (TaskLine name) g).1 refl refl refl refl (tasks_fit z s above g.1 version hooks slots bitmaps);
     }
-tasks_fit z s (EndLine ∷ above) g hooks slots bitmaps =
-    end_tasks z (told above).section (view_of above) (here s above EndLine g).1 (none_open (told above).group (tests s above EndLine g).group) (tasks_fit z s above g.1 hooks slots bitmaps)
-tasks_fit z s (OrderLine ∷ above) g hooks slots bitmaps =
-    (after_tasks z (told above).section (view_of above) (and_parts (are_tasks_due (told above).section) _ (here s above OrderLine g).1).0 (tasks_fit z s above g.1 hooks slots bitmaps)).0
-tasks_fit z s (ReportLine ∷ above) g hooks slots bitmaps =
-    (after_tasks z (told above).section (view_of above) (and_parts (are_tasks_due (told above).section) _ (here s above ReportLine g).1).0 (tasks_fit z s above g.1 hooks slots bitmaps)).1
-tasks_fit z s (CallLine layers act ∷ above) g hooks slots bitmaps =
-    inside z (told above).section (view_of above) (view_of (CallLine layers act ∷ above)) (in_calls (told above).section (here s above (CallLine layers act) g).1) (any_call z s above layers act g hooks slots bitmaps) (tasks_fit z s above g.1 hooks (omega (arith, names_grow (told above).names layers, slots)) bitmaps)
-tasks_fit z s (LockLine name ∷ above) g hooks slots bitmaps =
-    inside z (told above).section (view_of above) (view_of (LockLine name ∷ above)) (in_calls (told above).section (here s above (LockLine name) g).1) (lock_begins z s above name g) (tasks_fit z s above g.1 hooks (omega (arith, names_grow (told above).names (name ∷ []), slots)) bitmaps)
-tasks_fit z s (UnlockLine name ∷ above) g hooks slots bitmaps =
-    inside z (told above).section (view_of above) (view_of (UnlockLine name ∷ above)) (in_calls (told above).section (here s above (UnlockLine name) g).1) (unlock_ends z s above name g) (tasks_fit z s above g.1 hooks (omega (arith, names_grow (told above).names (name ∷ []), slots)) bitmaps)
-tasks_fit z s (HoldLine ∷ above) g hooks slots bitmaps =
-    inside z (told above).section (view_of above) (view_of (HoldLine ∷ above)) (in_calls (told above).section (here s above HoldLine g).1) (hold_begins z s above g) (tasks_fit z s above g.1 hooks slots bitmaps)
-tasks_fit z s (ReleaseLine ∷ above) g hooks slots bitmaps =
-    inside z (told above).section (view_of above) (view_of (ReleaseLine ∷ above)) (in_calls (told above).section (here s above ReleaseLine g).1) (release_ends z s above g) (tasks_fit z s above g.1 hooks slots bitmaps)
-tasks_fit z s (f ∷ above) g hooks slots bitmaps = tasks_fit z s above g.1 hooks slots bitmaps
+tasks_fit z s (EndLine ∷ above) g version hooks slots bitmaps =
+    end_tasks z (told above).section (view_of above) (here s above EndLine g).1 (none_open (told above).group (tests s above EndLine g).group) (tasks_fit z s above g.1 version hooks slots bitmaps)
+tasks_fit z s (OrderLine ∷ above) g version hooks slots bitmaps =
+    (after_tasks z (told above).section (view_of above) (and_parts (are_tasks_due (told above).section) _ (here s above OrderLine g).1).0 (tasks_fit z s above g.1 version hooks slots bitmaps)).0
+tasks_fit z s (ReportLine ∷ above) g version hooks slots bitmaps =
+    (after_tasks z (told above).section (view_of above) (and_parts (are_tasks_due (told above).section) _ (here s above ReportLine g).1).0 (tasks_fit z s above g.1 version hooks slots bitmaps)).1
+tasks_fit z s (CallLine layers act ∷ above) g version hooks slots bitmaps =
+    inside z (told above).section (view_of above) (view_of (CallLine layers act ∷ above)) (in_calls (told above).section (here s above (CallLine layers act) g).1) (any_call z s above layers act g version hooks slots bitmaps) (tasks_fit z s above g.1 version hooks (omega (arith, names_grow (told above).names layers, slots)) bitmaps)
+tasks_fit z s (LockLine name ∷ above) g version hooks slots bitmaps =
+    inside z (told above).section (view_of above) (view_of (LockLine name ∷ above)) (in_calls (told above).section (here s above (LockLine name) g).1) (lock_begins z s above name g) (tasks_fit z s above g.1 version hooks (omega (arith, names_grow (told above).names (name ∷ []), slots)) bitmaps)
+tasks_fit z s (UnlockLine name ∷ above) g version hooks slots bitmaps =
+    inside z (told above).section (view_of above) (view_of (UnlockLine name ∷ above)) (in_calls (told above).section (here s above (UnlockLine name) g).1) (unlock_ends z s above name g) (tasks_fit z s above g.1 version hooks (omega (arith, names_grow (told above).names (name ∷ []), slots)) bitmaps)
+tasks_fit z s (HoldLine ∷ above) g version hooks slots bitmaps =
+    inside z (told above).section (view_of above) (view_of (HoldLine ∷ above)) (in_calls (told above).section (here s above HoldLine g).1) (hold_begins z s above g) (tasks_fit z s above g.1 version hooks slots bitmaps)
+tasks_fit z s (ReleaseLine ∷ above) g version hooks slots bitmaps =
+    inside z (told above).section (view_of above) (view_of (ReleaseLine ∷ above)) (in_calls (told above).section (here s above ReleaseLine g).1) (release_ends z s above g) (tasks_fit z s above g.1 version hooks slots bitmaps)
+tasks_fit z s (f ∷ above) g version hooks slots bitmaps = tasks_fit z s above g.1 version hooks slots bitmaps
 
 -- there are as many lists of calls as tasks, and as many lists of groups
 pub calls_listed : (above : List Statement) → length (told above).calls ≡ length (told above).tasks

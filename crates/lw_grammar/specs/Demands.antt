@@ -1,6 +1,6 @@
 -- Tests in a row, each with a reason to stop, as a reader makes them.
 use Rattle.std.specs.Prelude.{Bool, true, false, Result, Ok, Err}
-use Rattle.lw_calls.specs.declared.reason.Reason.{Reason}
+use Rattle.lw_grammar.specs.declared.reason.Reason.{Reason}
 
 infixl 10 ◌>>=◌
 -- what is found is handed on, unless there was a reason to stop

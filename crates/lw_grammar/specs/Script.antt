@@ -4,14 +4,16 @@
 use Rattle.std.specs.Prelude.{◌≡◌, ℕ, ◌+◌, ◌-◌, ◌*◌, ◌≤◌, ◌==◌, Bool, true, false, not, ◌&&◌, ◌||◌, nat_le, nat_lt, min, if◌then◌else◌, List, [], ◌∷◌, length, map, ℤ, unsigned_abs, Option, Some, None, is_none, Result, Ok, Err, ok_or, bytes_eq, ◌⊎◌, All}
 use Rattle.std.specs.List.{list_any, list_all, range_with_len}
 use Rattle.lw_planes.specs.Row.{row_bit}
-use Rattle.lw_calls.specs.declared.form.Form.{Form}
-use Rattle.lw_calls.specs.declared.form.Form.TheVariants.{Plain, Ordered, Audited}
-use Rattle.lw_calls.specs.declared.reason.Reason.{Reason}
-use Rattle.lw_calls.specs.declared.reason.Reason.TheVariants.{LineTooLong, BadByte, UnknownWord, Misplaced, Form as FormReason, Range, NoName, DoubleName, Group, TooMany, NoHook, HookUsed, Padding, Missing}
+use Rattle.lw_grammar.specs.declared.form.Form.{Form}
+use Rattle.lw_grammar.specs.declared.form.Form.TheVariants.{Plain, Ordered, Audited}
+use Rattle.lw_grammar.specs.declared.reason.Reason.{Reason}
+use Rattle.lw_grammar.specs.declared.reason.Reason.TheVariants.{LineTooLong, BadByte, UnknownWord, Misplaced, Form as FormReason, Range, NoName, DoubleName, Group, TooMany, NoHook, HookUsed, Padding, Missing}
 use Rattle.lw_grammar.specs.declared.verb.Verb.{Verb}
-use Rattle.lw_grammar.specs.declared.verb.Verb.TheVariants.{Part}
-use Rattle.lw_grammar.specs.declared.verb.PartVerb.TheVariants.{Screen as ScreenVerb, Glyph as GlyphVerb, Bitmap as BitmapVerb, Task as TaskVerb, Order as OrderVerb, Report as ReportVerb}
-use Rattle.lw_calls.specs.Limits.{name_limit, task_limit, bitmap_limit, call_limit}
+use Rattle.lw_grammar.specs.declared.verb.Verb.TheVariants.{Part, Number}
+use Rattle.lw_grammar.specs.declared.verb.PartVerb.TheVariants.{Layers as LayersVerb, Screen as ScreenVerb, Glyph as GlyphVerb, Bitmap as BitmapVerb, Task as TaskVerb, Order as OrderVerb, Report as ReportVerb}
+use Rattle.lw_grammar.specs.declared.verb.NumberVerb.TheVariants.{Hook as HookVerb}
+use Rattle.lw_calls.specs.declared.limits.Limits.{Limits}
+use Rattle.lw_calls.specs.Limits.{limits_of, may_replace_hooks, task_limit, bitmap_limit}
 use Rattle.lw_calls.specs.Touches.{slots_of}
 use Rattle.lw_calls.specs.Plan.{Plan, IsPlan, is_all, begins_update, ends_update}
 use Rattle.lw_grammar.specs.Lines.{lines}
@@ -79,15 +81,23 @@ is_audited Plain = false
 is_audited Ordered = false
 is_audited Audited = true
 
--- Lines with this verb belong in this section of this input.
-abbrev pub belongs_in : Form → Section → Verb → Bool
-belongs_in form s (Part ScreenVerb) = is_screen_due s
-belongs_in form s (Part GlyphVerb) = are_assets_due s
-belongs_in form s (Part BitmapVerb) = are_assets_due s
-belongs_in form s (Part TaskVerb) = are_assets_due s || are_tasks_due s
-belongs_in form s (Part OrderVerb) = are_tasks_due s && is_ordered form
-belongs_in form s (Part ReportVerb) = are_tasks_due s && is_audited form
-belongs_in form s verb = are_calls_due s
+-- Some line begins with this verb, where the lines above tell this version: `layers` is known as a script's first line and in
+-- version 2, `hook` where hooks may be replaced.
+abbrev pub is_known_in : ℕ → Verb → Bool
+is_known_in version (Part LayersVerb) = not (version == 1)
+is_known_in version (Number HookVerb) = may_replace_hooks version
+is_known_in version verb = true
+
+-- Lines with this verb belong in this section of this input, where the lines above tell this version.
+abbrev pub belongs_in : Form → ℕ → Section → Verb → Bool
+belongs_in form version s (Part LayersVerb) = is_screen_due s && (version == 0)
+belongs_in form version s (Part ScreenVerb) = is_screen_due s
+belongs_in form version s (Part GlyphVerb) = are_assets_due s
+belongs_in form version s (Part BitmapVerb) = are_assets_due s
+belongs_in form version s (Part TaskVerb) = are_assets_due s || are_tasks_due s
+belongs_in form version s (Part OrderVerb) = are_tasks_due s && is_ordered form
+belongs_in form version s (Part ReportVerb) = are_tasks_due s && is_audited form
+belongs_in form version s verb = are_calls_due s
 
 -- the verb of a line's words
 abbrev pub verb_on : List (List ℕ) → Option Verb
@@ -111,10 +121,10 @@ gives_again t (BitmapLine name w h d) = list_any (bytes_eq name) t.bitmap_names
 gives_again t (TaskLine name) = list_any (bytes_eq name) t.tasks
 gives_again t statement = false
 
--- What the call of an act is, whichever layers and bitmaps it names: an arrangement; one that begins an update; one that ends
--- an update.
-abbrev pub is_arranging : Act → Bool
-is_arranging act = is_all (slots_of (spelled_call [] act []))
+-- What the call of an act is, whichever layers and bitmaps it names: one that touches all layers; one that begins an update;
+-- one that ends an update.
+abbrev pub is_on_all : Act → Bool
+is_on_all act = is_all (slots_of (spelled_call [] act []))
 
 abbrev pub is_beginning : Act → Bool
 is_beginning act = begins_update (spelled_call [] act [])
@@ -129,14 +139,14 @@ are_all l (m ∷ ms) = list_all (bytes_eq l) (m ∷ ms)
 
 -- a call on the one layer
 abbrev pub is_on_one : List ℕ → List (List ℕ) → Act → Bool
-is_on_one l layers act = are_all l layers && not (is_arranging act)
+is_on_one l layers act = are_all l layers && not (is_on_all act)
 
 -- This group, or none, allows such a call.
 abbrev pub group_allows : Option OpenGroup → List (List ℕ) → Act → Bool
 group_allows None layers act = not (is_ending act)
 group_allows (Some (Locked l)) layers act = is_on_one l layers act && (not (is_beginning act) && not (is_ending act))
 group_allows (Some (Updating l)) layers act = is_on_one l layers act && not (is_beginning act)
-group_allows (Some Held) layers act = is_arranging act
+group_allows (Some Held) layers act = is_on_all act
 
 -- the group is a lock on this layer
 abbrev pub is_lock_on : List ℕ → Option OpenGroup → Bool
@@ -166,11 +176,11 @@ fits_group group has_calls statement = true
 abbrev pub super_limit : ℕ
 super_limit = 16
 
--- lines tell of no more tasks, bitmaps, layer names, super-bitmap layers and calls of a task than may be
-abbrev pub are_few : Told → Bool
-are_few t =
-    ((nat_le (length t.tasks) task_limit && nat_le (length t.bitmap_names) bitmap_limit) && nat_le (length t.names) name_limit)
-    && (nat_le t.supers super_limit && nat_le t.so_far call_limit)
+-- lines tell of no more tasks, bitmaps, layer names, super-bitmap layers and calls of a task than may be by a version's limits
+abbrev pub are_few : Limits → Told → Bool
+are_few limits t =
+    ((nat_le (length t.tasks) task_limit && nat_le (length t.bitmap_names) bitmap_limit) && nat_le (length t.names) limits.names)
+    && (nat_le t.supers super_limit && nat_le t.so_far limits.calls)
 
 -- there is a hook's number, and it isn't below the number of hooks
 abbrev pub is_no_hook : ℕ → Option ℤ → Bool
@@ -195,29 +205,33 @@ words_read line = do
   _ ← demand (list_all is_printable line) BadByte
   tokens line
 
--- The statement of a line of these words that begins with a verb, in this section of this input, or its first reason.
-abbrev pub verb_read : Form → Section → List (List ℕ) → Result Statement Reason
-verb_read form section ws = do
+-- The statement of a line of these words that begins with a verb, in this version and section of this input, or its first
+-- reason.
+abbrev pub verb_read : Form → ℕ → Section → List (List ℕ) → Result Statement Reason
+verb_read form version section ws = do
   verb ← ok_or (verb_on ws) UnknownWord
-  _ ← demand (belongs_in form section verb) Misplaced
+  _ ← demand (is_known_in version verb) UnknownWord
+  _ ← demand (belongs_in form version section verb) Misplaced
   ok_or (statement_by verb (map token_of (after_verb ws))) FormReason
 
 -- The statement of a line of these words: where so many rows of a bitmap of this width are due, a row; where numbers are due,
 -- numbers; and else a line with a verb.
-abbrev pub statement_read : Form → Section → ℕ → ℕ → List (List ℕ) → Result Statement Reason
-statement_read form section due width ws =
+abbrev pub statement_read : Form → ℕ → Section → ℕ → ℕ → List (List ℕ) → Result Statement Reason
+statement_read form version section due width ws =
     if not (due == 0)
     then ok_or (row_line width (map token_of ws)) FormReason
-    else (if are_numbers_due section then ok_or (numbers_line (map token_of ws)) FormReason else verb_read form section ws)
+    else (if are_numbers_due section
+    then ok_or (numbers_line (map token_of ws)) FormReason
+    else verb_read form version section ws)
 
 -- The first reason for which a line with this statement is bad, if it is bad.
 abbrev pub statement_tested : Setting → Told → Statement → Result (Unit {0}) Reason
 statement_tested s t statement = do
-  _ ← demand (is_line_in_range statement) Range
+  _ ← demand (is_line_in_range t.version statement) Range
   _ ← demand (not (lacks_name t.bitmap_names statement)) NoName
   _ ← demand (not (gives_again t statement)) DoubleName
   _ ← demand (fits_group t.group (group_has_calls t) statement) Group
-  _ ← demand (are_few (told_with statement t)) TooMany
+  _ ← demand (are_few (limits_of t.version) (told_with statement t)) TooMany
   _ ← demand (not (is_no_hook s.hooks (hook_on statement))) NoHook
   _ ← demand (not (is_used t.used (hook_on statement))) HookUsed
   demand (not (has_padding t.row_width statement)) Padding
@@ -225,7 +239,7 @@ statement_tested s t statement = do
 -- The statement of a line of these words, below lines that tell this, or its first reason.
 abbrev pub statement_of : Setting → Told → List (List ℕ) → Result Statement Reason
 statement_of s t ws = do
-  statement ← statement_read s.form t.section t.rows_due t.row_width ws
+  statement ← statement_read s.form t.version t.section t.rows_due t.row_width ws
   _ ← statement_tested s t statement
   Ok statement
 

@@ -11,21 +11,21 @@ use Rattle.lw_calls.specs.declared.make.Place.{Place}
 use Rattle.lw_calls.specs.declared.make.Place.TheVariants.{Front, Behind}
 use Rattle.lw_calls.specs.declared.area.Area.{Area}
 use Rattle.lw_grammar.specs.declared.verb.PartVerb.{PartVerb}
-use Rattle.lw_grammar.specs.declared.verb.PartVerb.TheVariants.{Screen as ScreenVerb, Glyph as GlyphVerb, Bitmap as BitmapVerb, Task as TaskVerb, End as EndVerb, Order as OrderVerb, Report as ReportVerb, Lock as LockVerb, Unlock as UnlockVerb, Hold as HoldVerb, Release as ReleaseVerb}
+use Rattle.lw_grammar.specs.declared.verb.PartVerb.TheVariants.{Layers as LayersVerb, Screen as ScreenVerb, Glyph as GlyphVerb, Bitmap as BitmapVerb, Task as TaskVerb, End as EndVerb, Order as OrderVerb, Report as ReportVerb, Lock as LockVerb, Unlock as UnlockVerb, Hold as HoldVerb, Release as ReleaseVerb}
 use Rattle.lw_grammar.specs.declared.verb.BareVerb.{BareVerb}
 use Rattle.lw_grammar.specs.declared.verb.NumberVerb.{NumberVerb}
-use Rattle.lw_grammar.specs.declared.verb.NumberVerb.TheVariants.{APen as APenVerb, BPen as BPenVerb, Mode as ModeVerb, Mask as MaskVerb, SetRast as SetRastVerb, Clip as ClipVerb}
+use Rattle.lw_grammar.specs.declared.verb.NumberVerb.TheVariants.{APen as APenVerb, BPen as BPenVerb, Mode as ModeVerb, Mask as MaskVerb, SetRast as SetRastVerb, Clip as ClipVerb, Hook as HookVerb}
 use Rattle.lw_grammar.specs.declared.verb.PairVerb.{PairVerb}
 use Rattle.lw_grammar.specs.declared.verb.TextVerb.{TextVerb}
 use Rattle.lw_grammar.specs.declared.verb.Verb.{Verb}
 use Rattle.lw_grammar.specs.declared.verb.Verb.TheVariants.{Part, Bare, Number, Pair, Text, Rect, Region, ClearRegion, Create, Open, InFront, Box, Which, Fill, ScrollRaster, Put, Blit, EndRefresh}
-use Rattle.lw_calls.specs.Limits.{rect_fits, coordinates_fit, is_extent}
+use Rattle.lw_calls.specs.Limits.{limits_of, rect_fits, coordinates_fit, is_extent}
 use Rattle.lw_grammar.specs.Tokens.{Token, NameToken, NumberToken, TextToken, bytes_in}
 
 -- A layer as a line asks for it: its kind and place, its four numbers (the bounds of a creation, or the place and size of an
 -- opening), whether it is a backdrop layer, its hook, and the size of a bitmap of its own, or 0 and 0. All numbers are the
 -- line's own, in their ranges or not; the call has a `Make` of them, with a corner and a size in any case.
-pub record AskedLayer : Type 0 where
+pub record NewLayer : Type 0 where
   pub kind : Kind
   pub place : Place
   pub numbers : Rectangle
@@ -44,8 +44,8 @@ pub data Act : Type 0 where
   RegRectAct : RectOp → ℤ → Rectangle → Act
   RegPairAct : PairOp → ℤ → ℤ → Act
   RegClearAct : ℤ → Act
-  CreateAct : AskedLayer → Act
-  OpenAct : AskedLayer → Bool → Bool → ℕ → List ℕ → Act
+  CreateAct : NewLayer → Act
+  OpenAct : NewLayer → Bool → Bool → ℕ → List ℕ → Act
   InFrontAct : Act
   BoxAct : Rectangle → Act
   WhichAct : ℤ → ℤ → Act
@@ -65,10 +65,11 @@ layers_of InFrontAct = 2
 layers_of (BlitAct b) = 2
 layers_of act = 1
 
--- What a line says, if it isn't skipped: the screen; a glyph by its code and its rows; a bitmap, whose rows then follow; a
--- row of a bitmap; a task's beginning and its end; the beginnings of an order and of a report; numbers of an order; a call
--- with the layers that it names from left to right; and the beginnings and ends of groups.
+-- What a line says, if it isn't skipped: that the script has version 2; the screen; a glyph by its code and its rows; a bitmap,
+-- whose rows then follow; a row of a bitmap; a task's beginning and its end; the beginnings of an order and of a report;
+-- numbers of an order; a call with the layers that it names from left to right; and the beginnings and ends of groups.
 pub data Statement : Type 0 where
+  LayersLine : Statement
   ScreenLine : ℤ → ℤ → ℤ → Statement
   GlyphLine : ℕ → List ℕ → Statement
   BitmapLine : List ℕ → ℤ → ℤ → ℤ → Statement
@@ -97,6 +98,11 @@ four_numbers _ = None
 abbrev pub last_four : List Token → Option Rectangle
 last_four (NumberToken a x ∷ NumberToken b y ∷ NumberToken c z ∷ NumberToken d w ∷ []) = Some (four x y z w)
 last_four _ = None
+
+-- layers 2
+abbrev pub layers_line : List Token → Option Statement
+layers_line (NumberToken a z ∷ []) = if bytes_eq a (codes "2") then Some LayersLine else None
+layers_line _ = None
 
 -- screen W H D
 abbrev pub screen_line : List Token → Option Statement
@@ -149,6 +155,7 @@ alone_line statement _ = None
 
 -- a line that parts a script or a task
 abbrev pub part_line : PartVerb → List Token → Option Statement
+part_line LayersVerb ts = layers_line ts
 part_line ScreenVerb ts = screen_line ts
 part_line GlyphVerb ts = glyph_line ts
 part_line BitmapVerb ts = bitmap_line ts
@@ -308,13 +315,13 @@ at_end statement [] = Some statement
 at_end statement (t ∷ ts) = None
 
 -- a layer that is asked for without a bitmap of its own
-abbrev pub asked_without_bitmap : Kind → Place → Rectangle → Bool → Option ℤ → AskedLayer
-asked_without_bitmap kind place numbers backdrop hook =
+abbrev pub new_without_bitmap : Kind → Place → Rectangle → Bool → Option ℤ → NewLayer
+new_without_bitmap kind place numbers backdrop hook =
     record { kind = kind; place = place; numbers = numbers; backdrop = backdrop; hook = hook; bits_w = pos 0; bits_h = pos 0 }
 
 -- a layer that is asked for with a bitmap of its own
-abbrev pub asked_super : Place → Rectangle → Bool → ℤ → ℤ → AskedLayer
-asked_super place numbers backdrop w h =
+abbrev pub new_super : Place → Rectangle → Bool → ℤ → ℤ → NewLayer
+new_super place numbers backdrop w h =
     record { kind = SuperBitmap; place = place; numbers = numbers; backdrop = backdrop; hook = None; bits_w = w; bits_h = h }
 
 -- what stands after the four numbers of a creation without a bitmap of its own: [backdrop] [hook N]
@@ -322,13 +329,13 @@ abbrev pub create_without_bitmap : List ℕ → Kind → Place → Rectangle →
 create_without_bitmap l kind place numbers ts =
     let backdrop = flag (codes "backdrop") ts in
     let hook = hook_option backdrop.1 in
-    at_end (CallLine (l ∷ []) (CreateAct (asked_without_bitmap kind place numbers backdrop.0 hook.0))) hook.1
+    at_end (CallLine (l ∷ []) (CreateAct (new_without_bitmap kind place numbers backdrop.0 hook.0))) hook.1
 
 -- what stands after those of a creation with one: BW BH [backdrop]
 abbrev pub create_super : List ℕ → Place → Rectangle → List Token → Option Statement
 create_super l place numbers (NumberToken a w ∷ NumberToken b h ∷ ts) =
     let backdrop = flag (codes "backdrop") ts in
-    at_end (CallLine (l ∷ []) (CreateAct (asked_super place numbers backdrop.0 w h))) backdrop.1
+    at_end (CallLine (l ∷ []) (CreateAct (new_super place numbers backdrop.0 w h))) backdrop.1
 create_super l place numbers _ = None
 
 -- what stands after those of a creation of this kind
@@ -338,10 +345,10 @@ create_kind l place numbers ts Smart = create_without_bitmap l Smart place numbe
 create_kind l place numbers ts SuperBitmap = create_super l place numbers ts
 
 -- the title, where it is the last word
-abbrev pub titled_line : List ℕ → AskedLayer → Bool → Bool → ℕ → List Token → Option Statement
-titled_line l asked framed nocare classes (TextToken title ∷ []) =
-    Some (CallLine (l ∷ []) (OpenAct asked framed nocare classes title))
-titled_line l asked framed nocare classes _ = None
+abbrev pub titled_line : List ℕ → NewLayer → Bool → Bool → ℕ → List Token → Option Statement
+titled_line l layer framed nocare classes (TextToken title ∷ []) =
+    Some (CallLine (l ∷ []) (OpenAct layer framed nocare classes title))
+titled_line l layer framed nocare classes _ = None
 
 -- what stands after the four numbers of an opening without a bitmap of its own: [backdrop] [borderless] [nocare] [hook N]
 -- [ask SET] "TITLE"
@@ -352,14 +359,14 @@ open_without_bitmap l kind place numbers ts =
     let nocare = flag (codes "nocare") borderless.1 in
     let hook = hook_option nocare.1 in
     let ask = ask_option hook.1 in
-    titled_line l (asked_without_bitmap kind place numbers backdrop.0 hook.0) (not borderless.0) nocare.0 ask.0 ask.1
+    titled_line l (new_without_bitmap kind place numbers backdrop.0 hook.0) (not borderless.0) nocare.0 ask.0 ask.1
 
 -- what stands after those of an opening with one: BW BH [backdrop] [ask SET] "TITLE"
 abbrev pub open_super : List ℕ → Place → Rectangle → List Token → Option Statement
 open_super l place numbers (NumberToken a w ∷ NumberToken b h ∷ ts) =
     let backdrop = flag (codes "backdrop") ts in
     let ask = ask_option backdrop.1 in
-    titled_line l (asked_super place numbers backdrop.0 w h) false false ask.0 ask.1
+    titled_line l (new_super place numbers backdrop.0 w h) false false ask.0 ask.1
 open_super l place numbers _ = None
 
 -- what stands after those of an opening of this kind
@@ -369,11 +376,12 @@ open_kind l place numbers ts Smart = open_without_bitmap l Smart place numbers t
 open_kind l place numbers ts SuperBitmap = open_super l place numbers ts
 
 -- create L KIND PLACE X0 Y0 X1 Y1 .., and open L KIND PLACE X Y W H ..
-abbrev pub asked_line : (List ℕ → Place → Rectangle → List Token → Kind → Option Statement) → List Token → Option Statement
-asked_line behind (NameToken l ∷ NameToken k ∷ NameToken p ∷ ts) =
+abbrev pub new_layer_line
+    : (List ℕ → Place → Rectangle → List Token → Kind → Option Statement) → List Token → Option Statement
+new_layer_line behind (NameToken l ∷ NameToken k ∷ NameToken p ∷ ts) =
     option_and_then (λ n. option_and_then (λ place. option_and_then (behind l place n.0 n.1) (kind_of k)) (place_of p))
     (four_numbers ts)
-asked_line behind _ = None
+new_layer_line behind _ = None
 
 -- The statement of a line with this verb, if the words after it make one.
 abbrev pub statement_by : Verb → List Token → Option Statement
@@ -385,8 +393,8 @@ statement_by (Text verb) ts = text_line verb ts
 statement_by (Rect op) ts = rect_line op ts
 statement_by (Region op) ts = region_line op ts
 statement_by ClearRegion ts = clear_line ts
-statement_by Create ts = asked_line create_kind ts
-statement_by Open ts = asked_line open_kind ts
+statement_by Create ts = new_layer_line create_kind ts
+statement_by Open ts = new_layer_line open_kind ts
 statement_by InFront ts = infront_line ts
 statement_by Box ts = four_line (λ r. BoxAct r) ts
 statement_by Which ts = which_line ts
@@ -396,10 +404,14 @@ statement_by Put ts = put_line ts
 statement_by Blit ts = blit_line ts
 statement_by EndRefresh ts = endrefresh_line ts
 
+-- a hook's number has 32 bits
+abbrev pub greatest_hook : ℕ
+greatest_hook = 4294967295
+
 -- a hook's number, if there is one
 abbrev pub is_hook_number : Option ℤ → Bool
 is_hook_number None = true
-is_hook_number (Some n) = within (pos 0) n (pos 4294967295)
+is_hook_number (Some n) = within (pos 0) n (pos greatest_hook)
 
 -- the size of a bitmap of a layer's own, if it has one
 abbrev pub is_own_size : Kind → ℤ → ℤ → Bool
@@ -408,8 +420,8 @@ is_own_size Smart w h = true
 is_own_size SuperBitmap w h = within (pos 1) w (pos 2048) && within (pos 1) h (pos 2048)
 
 -- the numbers of a layer that is asked for, besides its four
-abbrev pub is_asked_in_range : AskedLayer → Bool
-is_asked_in_range a = is_hook_number a.hook && is_own_size a.kind a.bits_w a.bits_h
+abbrev pub is_new_layer_in_range : NewLayer → Bool
+is_new_layer_in_range a = is_hook_number a.hook && is_own_size a.kind a.bits_w a.bits_h
 
 -- a place, a width and a height
 abbrev pub place_and_size_fit : Rectangle → Bool
@@ -427,6 +439,7 @@ greatest_number ModeVerb = 7
 greatest_number MaskVerb = 255
 greatest_number SetRastVerb = 255
 greatest_number ClipVerb = 7
+greatest_number HookVerb = greatest_hook
 
 -- every number of the act is in its range, and no maximum is below its minimum
 abbrev pub is_act_in_range : Act → Bool
@@ -435,8 +448,8 @@ is_act_in_range (PairAct verb x y) = coordinates_fit x y
 is_act_in_range (RegRectAct op r rect) = within (pos 0) r (pos 7) && rect_fits rect
 is_act_in_range (RegPairAct op s r) = within (pos 0) s (pos 7) && within (pos 0) r (pos 7)
 is_act_in_range (RegClearAct r) = within (pos 0) r (pos 7)
-is_act_in_range (CreateAct asked) = rect_fits asked.numbers && is_asked_in_range asked
-is_act_in_range (OpenAct asked framed nocare classes title) = place_and_size_fit asked.numbers && is_asked_in_range asked
+is_act_in_range (CreateAct layer) = rect_fits layer.numbers && is_new_layer_in_range layer
+is_act_in_range (OpenAct layer framed nocare classes title) = place_and_size_fit layer.numbers && is_new_layer_in_range layer
 is_act_in_range (BoxAct r) = place_and_size_fit r
 is_act_in_range (WhichAct x y) = coordinates_fit x y
 is_act_in_range (FillAct rect) = rect_fits rect
@@ -445,12 +458,23 @@ is_act_in_range (PutAct bm area) = is_area_in_range area
 is_act_in_range (BlitAct area) = is_area_in_range area
 is_act_in_range act = true
 
--- Every number of the line is in its range, and no maximum is below its minimum.
-abbrev pub is_line_in_range : Statement → Bool
-is_line_in_range (ScreenLine w h d) = (within (pos 1) w (pos 1024) && within (pos 1) h (pos 1024)) && within (pos 1) d (pos 8)
-is_line_in_range (GlyphLine code rows) = nat_le 32 code && nat_le code 126
-is_line_in_range (BitmapLine name w h d) =
-    (within (pos 1) w (pos 1024) && within (pos 1) h (pos 1024)) && within (pos 1) d (pos 8)
-is_line_in_range (NumbersLine zs) = list_all (λ z. within (pos 0) z (pos 15)) zs
-is_line_in_range (CallLine layers act) = is_act_in_range act
-is_line_in_range statement = true
+-- the version of a script whose screen line stands below lines that tell this version, or none by 0: without `layers 2` it is 1
+abbrev pub version_at_screen : ℕ → ℕ
+version_at_screen version = if version == 0 then 1 else version
+
+-- a width and a height up to a limit, and a depth
+abbrev pub are_sizes_in_range : ℕ → ℤ → ℤ → ℤ → Bool
+are_sizes_in_range limit w h d = (within (pos 1) w (pos limit) && within (pos 1) h (pos limit)) && within (pos 1) d (pos 8)
+
+-- how many columns, and how many rows, a bitmap has at most, in each version
+abbrev pub bitmap_size_limit : ℕ
+bitmap_size_limit = 1024
+
+-- Every number of the line is in its range, and no maximum is below its minimum, where the lines above tell this version.
+abbrev pub is_line_in_range : ℕ → Statement → Bool
+is_line_in_range version (ScreenLine w h d) = are_sizes_in_range (limits_of (version_at_screen version)).screen w h d
+is_line_in_range version (GlyphLine code rows) = nat_le 32 code && nat_le code 126
+is_line_in_range version (BitmapLine name w h d) = are_sizes_in_range bitmap_size_limit w h d
+is_line_in_range version (NumbersLine zs) = list_all (λ z. within (pos 0) z (pos 15)) zs
+is_line_in_range version (CallLine layers act) = is_act_in_range act
+is_line_in_range version statement = true

@@ -7,7 +7,7 @@ use Rattle.lw_planes.specs.Bitmap.{Bitmap}
 use Rattle.lw_planes.specs.Storage.{stored}
 use Rattle.lw_calls.specs.declared.make.Make.{Make}
 use Rattle.lw_calls.specs.declared.call.Call.{Call}
-use Rattle.lw_calls.specs.declared.call.Call.TheVariants.{RegRect, RegPair, RegClear, Create, OpenWindow, Close, ToFront, ToBack, InFrontOf, MoveBy, SizeBy, SetBox, Activate, Which, SetA, SetB, SetMode, SetMask, At, WritePixel, ReadPixel, Fill, DrawTo, Letters, SetRast, ScrollRaster, Put, Blit, Clip, Unclip, BeginRefresh, EndRefresh, Scroll, SetTitle, TakeMessage}
+use Rattle.lw_calls.specs.declared.call.Call.TheVariants.{RegRect, RegPair, RegClear, Create, OpenWindow, Close, ToFront, ToBack, InFrontOf, MoveBy, SizeBy, SetBox, Activate, SetHook, Which, SetA, SetB, SetMode, SetMask, At, WritePixel, ReadPixel, Fill, DrawTo, Letters, SetRast, ScrollRaster, Put, Blit, Clip, Unclip, BeginRefresh, EndRefresh, Scroll, SetTitle, TakeMessage}
 use Rattle.lw_calls.specs.declared.group.Hold.{Hold}
 use Rattle.lw_calls.specs.declared.group.Hold.TheVariants.{Slot, All}
 use Rattle.lw_calls.specs.declared.group.Group.{Group}
@@ -16,15 +16,16 @@ use Rattle.lw_calls.specs.Plan.{Plan}
 use Rattle.lw_grammar.specs.declared.verb.BareVerb.{BareVerb}
 use Rattle.lw_grammar.specs.declared.verb.BareVerb.TheVariants.{Close as CloseVerb, Front as FrontVerb, Behind as BehindVerb, Activate as ActivateVerb, Unclip as UnclipVerb, Refresh as RefreshVerb, GetMsg as GetMsgVerb}
 use Rattle.lw_grammar.specs.declared.verb.NumberVerb.{NumberVerb}
-use Rattle.lw_grammar.specs.declared.verb.NumberVerb.TheVariants.{APen as APenVerb, BPen as BPenVerb, Mode as ModeVerb, Mask as MaskVerb, SetRast as SetRastVerb, Clip as ClipVerb}
+use Rattle.lw_grammar.specs.declared.verb.NumberVerb.TheVariants.{APen as APenVerb, BPen as BPenVerb, Mode as ModeVerb, Mask as MaskVerb, SetRast as SetRastVerb, Clip as ClipVerb, Hook as HookVerb}
 use Rattle.lw_grammar.specs.declared.verb.PairVerb.{PairVerb}
 use Rattle.lw_grammar.specs.declared.verb.PairVerb.TheVariants.{Move as MoveVerb, Size as SizeVerb, At as AtVerb, Write as WriteVerb, Read as ReadVerb, Draw as DrawVerb, Scroll as ScrollVerb}
 use Rattle.lw_grammar.specs.declared.verb.TextVerb.{TextVerb}
 use Rattle.lw_grammar.specs.declared.verb.TextVerb.TheVariants.{Text as TextOf, Title as TitleVerb}
-use Rattle.lw_grammar.specs.Statements.{AskedLayer, Act, BareAct, NumberAct, PairAct, TextAct, RegRectAct, RegPairAct, RegClearAct, CreateAct, OpenAct, InFrontAct, BoxAct, WhichAct, FillAct, ScrollRasterAct, PutAct, BlitAct, EndRefreshAct, Statement, ScreenLine, GlyphLine, BitmapLine, RowLine, TaskLine, EndLine, OrderLine, NumbersLine, ReportLine, CallLine, LockLine, UnlockLine, HoldLine, ReleaseLine}
+use Rattle.lw_grammar.specs.Statements.{NewLayer, Act, BareAct, NumberAct, PairAct, TextAct, RegRectAct, RegPairAct, RegClearAct, CreateAct, OpenAct, InFrontAct, BoxAct, WhichAct, FillAct, ScrollRasterAct, PutAct, BlitAct, EndRefreshAct, Statement, LayersLine, ScreenLine, GlyphLine, BitmapLine, RowLine, TaskLine, EndLine, OrderLine, NumbersLine, ReportLine, CallLine, LockLine, UnlockLine, HoldLine, ReleaseLine, version_at_screen}
 
--- The parts of a script, by what is due in them: the screen; glyphs, bitmaps and the first task; in a task calls, groups or
--- its end; after a task a further one, an order or a report; numbers of an order; and nothing more, after a line `report`.
+-- The parts of a script, by what is due in them: the screen, before which the version may stand; glyphs, bitmaps and the first
+-- task; in a task calls, groups or its end; after a task a further one, an order or a report; numbers of an order; and nothing
+-- more, after a line `report`.
 pub data Section : Type 0 where
   ScreenIsDue : Section
   AssetsAreDue : Section
@@ -39,12 +40,14 @@ pub data OpenGroup : Type 0 where
   Updating : List ℕ → OpenGroup
   Held : OpenGroup
 
--- What lines tell: the section in which the next line stands; the screen's sizes; which codes have a glyph line, and the rows
--- of each code's glyph; the bitmaps' names; the bitmaps, where further rows stand after those of the nearest one; the width
--- of the nearest one, and how many of its rows are due; the names of the tasks, and those of the layers in the order of their
--- first appearance; how many lines ask for a super-bitmap layer; which hooks are named; the group that is open, and how many
--- calls its task had when it began; how many calls the nearest task has; each task's calls and groups; and the order.
+-- What lines tell: the script's version, or 0 where there is no line yet; the section in which the next line stands; the
+-- screen's sizes; which codes have a glyph line, and the rows of each code's glyph; the bitmaps' names; the bitmaps, where
+-- further rows stand after those of the nearest one; the width of the nearest one, and how many of its rows are due; the names
+-- of the tasks, and those of the layers in the order of their first appearance; how many lines ask for a super-bitmap layer;
+-- which hooks are named; the group that is open, and how many calls its task had when it began; how many calls the nearest task
+-- has; each task's calls and groups; and the order.
 pub record Told : Type 0 where
+  pub version : ℕ
   pub section : Section
   pub width : ℕ
   pub height : ℕ
@@ -70,6 +73,7 @@ pub record Told : Type 0 where
 abbrev pub nothing_told : Told
 nothing_told =
     record {
+      version = 0;
       section = ScreenIsDue;
       width = 0;
       height = 0;
@@ -113,7 +117,7 @@ onto_last a (list ∷ next ∷ rest) = list ∷ onto_last a (next ∷ rest)
 
 -- The numbers that a layer is asked for with, as the call has them: a creation's four are its bounds, an opening's its place
 -- and size.
-abbrev pub make_of : AskedLayer → ℤ → ℤ → ℤ → ℤ → Make
+abbrev pub make_of : NewLayer → ℤ → ℤ → ℤ → ℤ → Make
 make_of a x y w h =
     record {
       kind = a.kind;
@@ -129,13 +133,13 @@ make_of a x y w h =
     }
 
 -- the bounds that a creation asks for as a corner and a size
-abbrev pub created_make : AskedLayer → Make
+abbrev pub created_make : NewLayer → Make
 created_make a =
     make_of a a.numbers.min_x a.numbers.min_y ((a.numbers.max_x -ℤ a.numbers.min_x) +ℤ pos 1)
     ((a.numbers.max_y -ℤ a.numbers.min_y) +ℤ pos 1)
 
 -- an opening asks for a place, a width and a height
-abbrev pub opened_make : AskedLayer → Make
+abbrev pub opened_make : NewLayer → Make
 opened_make a = make_of a a.numbers.min_x a.numbers.min_y a.numbers.max_x a.numbers.max_y
 
 -- The calls of the verbs that have a layer alone after them, and one with a number, with two numbers or with a text; s is the
@@ -156,6 +160,7 @@ number_call ModeVerb s n = SetMode s n
 number_call MaskVerb s n = SetMask s n
 number_call SetRastVerb s n = SetRast s n
 number_call ClipVerb s n = Clip s n
+number_call HookVerb s n = SetHook s n
 
 abbrev pub pair_call : PairVerb → ℕ → ℤ → ℤ → Call
 pair_call MoveVerb s x y = MoveBy s x y
@@ -179,9 +184,9 @@ spelled_call bitmaps (TextAct verb text) slots = text_call verb (slice_index slo
 spelled_call bitmaps (RegRectAct op r rect) slots = RegRect op (unsigned_abs r) rect
 spelled_call bitmaps (RegPairAct op s r) slots = RegPair op (unsigned_abs s) (unsigned_abs r)
 spelled_call bitmaps (RegClearAct r) slots = RegClear (unsigned_abs r)
-spelled_call bitmaps (CreateAct asked) slots = Create (slice_index slots 0) (created_make asked)
-spelled_call bitmaps (OpenAct asked framed nocare classes title) slots =
-    OpenWindow (slice_index slots 0) (opened_make asked) framed nocare classes title
+spelled_call bitmaps (CreateAct layer) slots = Create (slice_index slots 0) (created_make layer)
+spelled_call bitmaps (OpenAct layer framed nocare classes title) slots =
+    OpenWindow (slice_index slots 0) (opened_make layer) framed nocare classes title
 spelled_call bitmaps InFrontAct slots = InFrontOf (slice_index slots 0) (slice_index slots 1)
 spelled_call bitmaps (BoxAct r) slots = SetBox (slice_index slots 0) r.min_x r.min_y r.max_x r.max_y
 spelled_call bitmaps (WhichAct x y) slots = Which x y
@@ -196,15 +201,16 @@ abbrev pub call_below : Told → List (List ℕ) → Act → Call
 call_below t layers act = spelled_call t.bitmap_names act (map (place_among (and_names t.names layers)) layers)
 
 -- the line asks for a layer with a bitmap of its own
-abbrev pub asks_super : Statement → Bool
-asks_super (CallLine layers (CreateAct asked)) = is_super asked.kind
-asks_super (CallLine layers (OpenAct asked framed nocare classes title)) = is_super asked.kind
-asks_super statement = false
+abbrev pub makes_super : Statement → Bool
+makes_super (CallLine layers (CreateAct layer)) = is_super layer.kind
+makes_super (CallLine layers (OpenAct layer framed nocare classes title)) = is_super layer.kind
+makes_super statement = false
 
 -- the hook that a line names
 abbrev pub hook_on : Statement → Option ℤ
-hook_on (CallLine layers (CreateAct asked)) = asked.hook
-hook_on (CallLine layers (OpenAct asked framed nocare classes title)) = asked.hook
+hook_on (CallLine layers (CreateAct layer)) = layer.hook
+hook_on (CallLine layers (OpenAct layer framed nocare classes title)) = layer.hook
+hook_on (CallLine layers (NumberAct HookVerb z)) = Some z
 hook_on statement = None
 
 -- which hooks are named, with a further one
@@ -233,8 +239,15 @@ ended_by layers act t = t.groups
 
 -- What a line with this statement adds to what the lines above it tell.
 abbrev pub told_with : Statement → Told → Told
+told_with LayersLine t = record t { version = 2 }
 told_with (ScreenLine w h d) t =
-    record t { section = AssetsAreDue; width = unsigned_abs w; height = unsigned_abs h; depth = unsigned_abs d }
+    record t {
+      version = version_at_screen t.version;
+      section = AssetsAreDue;
+      width = unsigned_abs w;
+      height = unsigned_abs h;
+      depth = unsigned_abs d;
+    }
 told_with (GlyphLine code rows) t =
     record t { given = λ c. (code == c) || t.given c; glyphs = λ c. if code == c then rows else t.glyphs c }
 told_with (BitmapLine name w h d) t =
@@ -260,7 +273,7 @@ told_with ReportLine t = record t { section = NothingIsDue }
 told_with (CallLine layers act) t =
     record t {
       names = and_names t.names layers;
-      supers = (if asks_super (CallLine layers act) then 1 else 0) + t.supers;
+      supers = (if makes_super (CallLine layers act) then 1 else 0) + t.supers;
       used = and_hook (hook_on (CallLine layers act)) t.used;
       group = left_open_by layers act t.group;
       began = began_by act t.so_far t.began;
@@ -288,7 +301,7 @@ abbrev pub plan_of : ℕ → Told → Plan
 plan_of hooks t =
     record {
       sizes = record {
-        version = 1;
+        version = t.version;
         width = t.width;
         height = t.height;
         depth = t.depth;
@@ -302,5 +315,6 @@ plan_of hooks t =
       bitmap_names = t.bitmap_names;
       calls = t.calls;
       groups = t.groups;
+      pairs = [];
       assets = record { glyphs = map (λ i. t.glyphs (32 + i)) (range_with_len 0 95); bitmaps = t.bitmaps [] };
     }

@@ -5,11 +5,11 @@ use Rattle.lw_calls.specs.declared.operation.RectOp.TheVariants.{Or as OrR, And 
 use Rattle.lw_calls.specs.declared.operation.PairOp.{PairOp}
 use Rattle.lw_calls.specs.declared.operation.PairOp.TheVariants.{Or as OrP, And as AndP, Xor as XorP}
 use Rattle.lw_grammar.specs.declared.verb.PartVerb.{PartVerb}
-use Rattle.lw_grammar.specs.declared.verb.PartVerb.TheVariants.{Screen, Glyph, Bitmap, Task, End, Order, Report, Lock, Unlock, Hold, Release}
+use Rattle.lw_grammar.specs.declared.verb.PartVerb.TheVariants.{Layers, Screen, Glyph, Bitmap, Task, End, Order, Report, Lock, Unlock, Hold, Release}
 use Rattle.lw_grammar.specs.declared.verb.BareVerb.{BareVerb}
 use Rattle.lw_grammar.specs.declared.verb.BareVerb.TheVariants.{Close, Front, Behind, Activate, Unclip, Refresh, GetMsg}
 use Rattle.lw_grammar.specs.declared.verb.NumberVerb.{NumberVerb}
-use Rattle.lw_grammar.specs.declared.verb.NumberVerb.TheVariants.{APen, BPen, Mode, Mask, SetRast, Clip}
+use Rattle.lw_grammar.specs.declared.verb.NumberVerb.TheVariants.{APen, BPen, Mode, Mask, SetRast, Clip, Hook}
 use Rattle.lw_grammar.specs.declared.verb.PairVerb.{PairVerb}
 use Rattle.lw_grammar.specs.declared.verb.PairVerb.TheVariants.{Move, Size, At, Write, Read, Draw, Scroll}
 use Rattle.lw_grammar.specs.declared.verb.TextVerb.{TextVerb}
@@ -19,6 +19,7 @@ use Rattle.lw_grammar.specs.declared.verb.Verb.TheVariants.{Part, Bare, Number, 
 
 -- the words of verbs, by their kinds
 abbrev pub part_word : PartVerb → List ℕ
+part_word Layers = codes "layers"
 part_word Screen = codes "screen"
 part_word Glyph = codes "glyph"
 part_word Bitmap = codes "bitmap"
@@ -47,6 +48,7 @@ number_word Mode = codes "mode"
 number_word Mask = codes "mask"
 number_word SetRast = codes "setrast"
 number_word Clip = codes "clip"
+number_word Hook = codes "hook"
 
 abbrev pub pair_word : PairVerb → List ℕ
 pair_word Move = codes "move"
@@ -96,10 +98,10 @@ verb_word EndRefresh = codes "endrefresh"
 -- all verbs
 abbrev pub verbs : List Verb
 verbs =
-    Part Screen ∷ Part Glyph ∷ Part Bitmap ∷ Part Task ∷ Part End ∷ Part Order ∷ Part Report ∷
+    Part Layers ∷ Part Screen ∷ Part Glyph ∷ Part Bitmap ∷ Part Task ∷ Part End ∷ Part Order ∷ Part Report ∷
     Part Lock ∷ Part Unlock ∷ Part Hold ∷ Part Release ∷
     Bare Close ∷ Bare Front ∷ Bare Behind ∷ Bare Activate ∷ Bare Unclip ∷ Bare Refresh ∷ Bare GetMsg ∷
-    Number APen ∷ Number BPen ∷ Number Mode ∷ Number Mask ∷ Number SetRast ∷ Number Clip ∷
+    Number APen ∷ Number BPen ∷ Number Mode ∷ Number Mask ∷ Number SetRast ∷ Number Clip ∷ Number Hook ∷
     Pair Move ∷ Pair Size ∷ Pair At ∷ Pair Write ∷ Pair Read ∷ Pair Draw ∷ Pair Scroll ∷
     Text TextOf ∷ Text Title ∷
     Rect OrR ∷ Rect AndR ∷ Rect XorR ∷ Rect ClearR ∷ Region OrP ∷ Region AndP ∷ Region XorP ∷ ClearRegion ∷

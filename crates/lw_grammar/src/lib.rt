@@ -3,8 +3,12 @@
 //! `specs/` is the text to believe. `docs/DEFINITIONS.md` is its map.
 #![tactic(auto)]
 
+mod form;
 mod laws;
+mod reason;
 mod verb;
 
+pub use form::Form;
 pub use laws::{inputs_are_decided, spelled_inputs_are_runnable};
+pub use reason::Reason;
 pub use verb::{BareVerb, NumberVerb, PairVerb, PartVerb, TextVerb, Verb};

@@ -3,6 +3,7 @@ use lw_calls::{PairOp, RectOp};
 /// The first word of a line that parts a script or a task.
 #[derive(Clone, Copy, Debug, PartialEq, Eq)]
 pub enum PartVerb {
+    Layers,
     Screen,
     Glyph,
     Bitmap,
@@ -37,6 +38,7 @@ pub enum NumberVerb {
     Mask,
     SetRast,
     Clip,
+    Hook,
 }
 
 /// The same with a layer and two numbers, as `move L DX DY`.

@@ -57,9 +57,9 @@ pieces_text f n m start p end e =
 pub viewed_written : (gs hs : Assets → List Statement) (s t : Assets) (o p q : List ℕ) → s ≡ t → p ≡ o ++ text_of_lines (gs s) → q ≡ p ++ text_of_lines (hs s) → q ≡ o ++ text_of_lines (gs t ++ hs t)
 viewed_written gs hs s t o p q e f h = rw (← e) (more_lines (gs s) (hs s) o p q f h)
 
--- a line is written, and then others in two parts
-pub parts_written : (f : Statement) (gs hs ks : List Statement) (o p q r : List ℕ) → o ≡ [] → p ≡ o ++ line_of (spelled f) → q ≡ p ++ text_of_lines (gs ++ hs) → r ≡ q ++ text_of_lines ks → r ≡ text_of_lines (f ∷ gs ++ hs ++ ks)
-parts_written f gs hs ks o p q r none d e g =
-    more_lines (f ∷ gs ++ hs) ks [] q r
-    (more_lines (f ∷ []) (gs ++ hs) [] p q (line_written f [] p (d ∙ ap (λ xs. xs ++ line_of (spelled f)) none)) e)
-    g
+-- lines are written, then one, and then others in two parts
+pub parts_written : (vs : List Statement) (f : Statement) (gs hs ks : List Statement) (o n p q r : List ℕ) → o ≡ [] → n ≡ o ++ text_of_lines vs → p ≡ n ++ line_of (spelled f) → q ≡ p ++ text_of_lines (gs ++ hs) → r ≡ q ++ text_of_lines ks → r ≡ text_of_lines (vs ++ f ∷ gs ++ hs ++ ks)
+parts_written vs f gs hs ks o n p q r none first d e g =
+    let same : (vs ++ f ∷ []) ++ (gs ++ hs) ≡ vs ++ f ∷ gs ++ hs = simp append_assoc in
+    let one = more_lines vs (f ∷ []) [] n p (first ∙ ap (λ xs. xs ++ text_of_lines vs) none) (line_written f n p d) in
+    more_lines ((vs ++ f ∷ []) ++ (gs ++ hs)) ks [] q r (more_lines (vs ++ f ∷ []) (gs ++ hs) [] p q one e) g ∙ ap (λ fs. text_of_lines (fs ++ ks)) same

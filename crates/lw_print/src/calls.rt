@@ -183,9 +183,9 @@ fn push_layer_and_numbers(
             push_word(out, name_of(names, *slot as usize))?;
             push_spaced(alloc, out, *number as usize)
         }
-        Call::Clip { slot, reg } => {
+        Call::Clip { slot, reg: number } | Call::SetHook { slot, hook: number } => {
             push_word(out, name_of(names, *slot as usize))?;
-            push_spaced(alloc, out, *reg as usize)
+            push_spaced(alloc, out, *number as usize)
         }
         Call::MoveBy { slot, dx: x, dy: y }
         | Call::SizeBy { slot, dw: x, dh: y }

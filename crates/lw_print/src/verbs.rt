@@ -38,12 +38,12 @@ pub fn verb_of(call: &Call) -> &'static str
         Call::Scroll { .. } => "scroll",
         Call::SetTitle { .. } => "title",
         Call::TakeMessage { .. } => "getmsg",
-        _ => verb_of_arrangement(call),
+        _ => verb_on_all(call),
     }
 }
 
-/// The first word of an arrangement's line.
-fn verb_of_arrangement(call: &Call) -> &'static str
+/// The first word of the line of a call that touches all layers.
+fn verb_on_all(call: &Call) -> &'static str
     requires { IsTrue (is_all (slots_of call.now)) }
     ensures { (names bitmaps : List (List ℕ)) → result.now ≡ first_word (words_of_call names bitmaps call.now) }
 {
@@ -58,7 +58,8 @@ fn verb_of_arrangement(call: &Call) -> &'static str
         Call::SizeBy { .. } => "size",
         Call::SetBox { .. } => "box",
         Call::Activate { .. } => "activate",
-        // No other call arranges layers.
+        Call::SetHook { .. } => "hook",
+        // No other call touches all layers.
         _ => unreachable!(),
     }
 }

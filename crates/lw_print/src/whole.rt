@@ -2,7 +2,7 @@
 
 ghost use Rattle.std.specs.Prelude.{◌≡◌, ◌++◌, pos, IfOk, OnOk};
 ghost use Rattle.std.specs.List.{flat_map, range_with_len};
-ghost use Rattle.lw_canonical.specs.Canonical.{canonical_text, lines_of_task};
+ghost use Rattle.lw_canonical.specs.Canonical.{canonical_text, lines_of_version, lines_of_task};
 ghost use Rattle.lw_grammar.specs.Statements.{ScreenLine};
 ghost use Rattle.lw_calls.specs.Written.{line_of};
 ghost use Rattle.lw_canonical.specs.Spelling.{spelled};
@@ -17,16 +17,27 @@ use lw_text_output::{end_line, push_spaced};
 use std::alloc::{AllocError, Global};
 
 /// The canonical text of a plan: a script without skipped lines that spells the plan, with each line in its one spelling.
-/// After the screen stand the glyphs with some bit set in the order of their codes, the bitmaps with their rows, and the
-/// tasks with their calls. The only error is running out of memory.
+/// After the line of version 2, in a plan of it, and the screen stand the glyphs with some bit set in the order of their codes,
+/// the bitmaps with their rows, and the tasks with their calls. The only error is running out of memory.
 pub fn print(alloc: Global, plan: &Plan) -> Result<Vec<u8>, AllocError>
     ensures { IfOk result (λ text. text.items ≡ canonical_text plan.now) }
 {
     let mut out = Vec::new(alloc);
+    push_version(&mut out, plan)?;
     push_screen(alloc, &mut out, plan)?;
     push_assets(alloc, &mut out, plan.bitmap_names(), plan.assets())?;
     push_tasks(alloc, &mut out, plan)?;
     Ok(out)
+}
+
+/// Writes the line that a script of version 2 begins with, and nothing for a plan of another version.
+fn push_version(out: &mut Vec<u8>, plan: &Plan) -> Result<(), AllocError>
+    ensures { OnOk result (out.new.items ≡ out.old.items ++ text_of_lines (lines_of_version plan.now.sizes.version)) }
+{
+    if plan.version() == 2 {
+        out.extend_from_slice(b"layers 2\n")?;
+    }
+    Ok(())
 }
 
 /// Writes the line with the sizes of the screen.

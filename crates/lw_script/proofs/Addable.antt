@@ -3,10 +3,11 @@ use Rattle.std.proofs.Common.{◌≡◌, ℕ, ◌+◌, ◌<◌, ◌≤◌, ◌==
 use Rattle.std.specs.List.{list_any}
 use Rattle.lw_region.specs.Rectangle.{within}
 use Rattle.lw_planes.specs.Bitmap.{row_bytes}
-use Rattle.lw_grammar.specs.Statements.{Statement, ScreenLine, GlyphLine, BitmapLine, RowLine, TaskLine, CallLine, UnlockLine, ReleaseLine, Act, layers_of, is_act_in_range}
-use Rattle.lw_grammar.specs.Told.{asks_super, told}
+use Rattle.lw_grammar.specs.Statements.{Statement, ScreenLine, GlyphLine, BitmapLine, RowLine, TaskLine, CallLine, UnlockLine, ReleaseLine, Act, layers_of, version_at_screen, are_sizes_in_range, bitmap_size_limit, is_act_in_range}
+use Rattle.lw_grammar.specs.Told.{makes_super, told}
 use Rattle.lw_grammar.specs.Script.{is_lock_on, is_hold, super_limit}
-use Rattle.lw_calls.specs.Limits.{name_limit, task_limit, bitmap_limit}
+use Rattle.lw_calls.specs.Limits.{limits_of, task_limit, bitmap_limit}
+use Rattle.lw_calls.proofs.LimitLaws.{screen_at_most, names_at_most, calls_at_most}
 use Rattle.lw_grammar.proofs.ScriptStatements.{IsStatementHere}
 use Rattle.lw_grammar.proofs.ScriptSizes.{IsStatementTested, here, tests, counted}
 use Rattle.lw_words.specs.Cuts.{targets}
@@ -29,25 +30,37 @@ tests_of r f c = tests c.0 c.1 f c.3
 pub due_of : (r : Reader) (f : Statement) (c : CanAdd r f) → ((told c.1).rows_due == 0) ≡ true → r.assets.due ≡ 0
 due_of r f c e = none_due c.0 r c.1 c.2 e
 
--- three sizes in their ranges
-pub record AreRanged (w h d : ℤ) : Type 0 where
-  pub width : within (pos 1) w (pos 1024) ≡ true
-  pub height : within (pos 1) h (pos 1024) ≡ true
+-- three sizes in their ranges, of which two have this limit
+pub record AreRanged (limit : ℕ) (w h d : ℤ) : Type 0 where
+  pub width : within (pos 1) w (pos limit) ≡ true
+  pub height : within (pos 1) h (pos limit) ≡ true
   pub depth : within (pos 1) d (pos 8) ≡ true
 
-sizes_ranged : (w h d : ℤ) → ((within (pos 1) w (pos 1024) && within (pos 1) h (pos 1024)) && within (pos 1) d (pos 8)) ≡ true → AreRanged w h d
-sizes_ranged w h d e =
-    let halves = and_parts (within (pos 1) w (pos 1024) && within (pos 1) h (pos 1024)) _ e in
-    let sides = and_parts (within (pos 1) w (pos 1024)) _ halves.0 in
+sizes_ranged : (limit : ℕ) (w h d : ℤ) → are_sizes_in_range limit w h d ≡ true → AreRanged limit w h d
+sizes_ranged limit w h d e =
+    let halves = and_parts (within (pos 1) w (pos limit) && within (pos 1) h (pos limit)) _ e in
+    let sides = and_parts (within (pos 1) w (pos limit)) _ halves.0 in
     record { width = sides.0; height = sides.1; depth = halves.1 }
 
--- the screen's line
-pub screen_ranged : (r : Reader) (w h d : ℤ) → CanAdd r (ScreenLine w h d) → AreRanged w h d
-screen_ranged r w h d c = sizes_ranged w h d (tests_of r (ScreenLine w h d) c).range
+-- a number up to a lower limit is one up to a higher
+within_more : (z : ℤ) (m n : ℕ) → m ≤ n → within (pos 1) z (pos m) ≡ true → within (pos 1) z (pos n) ≡ true
+unfolding within
+within_more z m n h e = grind (arith, ints, nat_tests)
+
+-- the screen's line, in any version
+pub screen_ranged : (r : Reader) (w h d : ℤ) → CanAdd r (ScreenLine w h d) → AreRanged 2048 w h d
+screen_ranged r w h d c =
+    let version = version_at_screen (told c.1).version in
+    let e = sizes_ranged (limits_of version).screen w h d (tests_of r (ScreenLine w h d) c).range in
+    record {
+      width = within_more w _ 2048 (screen_at_most version) e.width;
+      height = within_more h _ 2048 (screen_at_most version) e.height;
+      depth = e.depth;
+    }
 
 -- a bitmap's
-pub bitmap_ranged : (r : Reader) (name : List ℕ) (w h d : ℤ) → CanAdd r (BitmapLine name w h d) → AreRanged w h d
-bitmap_ranged r name w h d c = sizes_ranged w h d (tests_of r (BitmapLine name w h d) c).range
+pub bitmap_ranged : (r : Reader) (name : List ℕ) (w h d : ℤ) → CanAdd r (BitmapLine name w h d) → AreRanged bitmap_size_limit w h d
+bitmap_ranged r name w h d c = sizes_ranged bitmap_size_limit w h d (tests_of r (BitmapLine name w h d) c).range
 
 pub bitmap_new : (r : Reader) (name : List ℕ) (w h d : ℤ) → CanAdd r (BitmapLine name w h d) → list_any (bytes_eq name) (targets r.assets.names.keys) ≡ false
 bitmap_new r name w h d c = rw (c.2.assets.names) (tests_of r (BitmapLine name w h d) c).new
@@ -78,12 +91,13 @@ pub task_new : (r : Reader) (name : List ℕ) → CanAdd r (TaskLine name) → l
 task_new r name c = rw (c.2.tasks.tasks) (tests_of r (TaskLine name) c).new
 
 -- how many names there are
-pub few_names : (r : Reader) (f : Statement) → CanAdd r f → length r.tasks.layer_names.keys ≤ 64
+pub few_names : (r : Reader) (f : Statement) → CanAdd r f → length r.tasks.layer_names.keys < 4294967294
 few_names r f c =
-    let few : length (told c.1).names ≤ 64 = (counted c.0 c.1 (c.3).1).names in
+    let few : length (told c.1).names ≤ (limits_of (told c.1).version).names = (counted c.0 c.1 (c.3).1).names in
+    let most = names_at_most (told c.1).version in
     let same : length (targets r.tasks.layer_names.keys) ≡ length (told c.1).names = ap length c.2.tasks.names in
     let all = length_targets r.tasks.layer_names.keys in
-    omega (arith, few, same, all)
+    omega (arith, few, most, same, all)
 
 pub few_bitmaps : (r : Reader) (f : Statement) → CanAdd r f → length r.assets.names.keys ≤ 16
 few_bitmaps r f c =
@@ -114,27 +128,29 @@ call_ranged r layers act c = (tests_of r (CallLine layers act) c).range
 pub call_made : (r : Reader) (layers : List (List ℕ)) (act : Act) → CanAdd r (CallLine layers act) → length layers ≡ layers_of act
 call_made r layers act c = ((here_of r (CallLine layers act) c).2).0
 
-pub call_room : (r : Reader) (layers : List (List ℕ)) (act : Act) → CanAdd r (CallLine layers act) → r.tasks.so_far < 4096
+pub call_room : (r : Reader) (layers : List (List ℕ)) (act : Act) → CanAdd r (CallLine layers act) → r.tasks.so_far < 4294967295
 call_room r layers act c =
-    let few : (told (CallLine layers act ∷ c.1)).so_far ≤ 4096 = (counted c.0 (CallLine layers act ∷ c.1) c.3).calls in
+    let few : (told c.1).so_far + 1 ≤ (limits_of (told c.1).version).calls = (counted c.0 (CallLine layers act ∷ c.1) c.3).calls in
+    let most = calls_at_most (told c.1).version in
     let same = c.2.tasks.so_far in
-    omega (arith, few, same)
+    omega (arith, few, most, same)
 
 pub call_supers : (r : Reader) (layers : List (List ℕ)) (act : Act) → CanAdd r (CallLine layers act) → r.tasks.supers ≤ 16
 call_supers r layers act c =
     let f = CallLine layers act in
-    let halves = and_parts ((nat_le (length (told (f ∷ c.1)).tasks) task_limit && nat_le (length (told (f ∷ c.1)).bitmap_names) bitmap_limit) && nat_le (length (told (f ∷ c.1)).names) name_limit) _ (tests_of r f c).few in
+    let limits = limits_of (told c.1).version in
+    let halves = and_parts ((nat_le (length (told (f ∷ c.1)).tasks) task_limit && nat_le (length (told (f ∷ c.1)).bitmap_names) bitmap_limit) && nat_le (length (told (f ∷ c.1)).names) limits.names) _ (tests_of r f c).few in
     let last = and_parts (nat_le (told (f ∷ c.1)).supers super_limit) _ halves.1 in
-    let few : cond (asks_super f) 1 0 + (told c.1).supers ≤ 16 = leb-true _ _ last.0 in
+    let few : cond (makes_super f) 1 0 + (told c.1).supers ≤ 16 = leb-true _ _ last.0 in
     let same = c.2.tasks.supers in
     omega (arith, few, same)
 
 -- a size in its range is read as it is
-pub in_64 : (z : ℤ) (m : ℕ) → m ≤ 1024 → within (pos 1) z (pos m) ≡ true → to_z w64 (of_z w64 z) ≡ z
+pub in_64 : (z : ℤ) (m : ℕ) → m ≤ 2048 → within (pos 1) z (pos m) ≡ true → to_z w64 (of_z w64 z) ≡ z
 unfolding within
 in_64 z m h e = grind (arith, ints, nat_tests)
 
 -- and is a number that isn't negative, in 32 bits
-pub count_64 : (z : ℤ) (m : ℕ) → m ≤ 1024 → within (pos 1) z (pos m) ≡ true → within (pos 0) (to_z w64 (of_z w64 z)) (pos 4294967295) ≡ true
+pub count_64 : (z : ℤ) (m : ℕ) → m ≤ 2048 → within (pos 1) z (pos m) ≡ true → within (pos 0) (to_z w64 (of_z w64 z)) (pos 4294967295) ≡ true
 unfolding within
 count_64 z m h e = rw (in_64 z m h e) (grind (arith, ints, nat_tests))

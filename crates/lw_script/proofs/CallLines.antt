@@ -5,6 +5,7 @@ use Rattle.lw_calls.specs.declared.call.Call.{Call}
 use Rattle.lw_calls.specs.declared.group.Group.{Group}
 use Rattle.lw_calls.specs.declared.group.Hold.TheVariants.{Slot}
 use Rattle.lw_grammar.specs.declared.verb.BareVerb.TheVariants.{Close as CloseVerb}
+use Rattle.lw_grammar.specs.declared.verb.NumberVerb.TheVariants.{Hook as HookVerb}
 use Rattle.lw_grammar.specs.Statements.{Act, BareAct, NumberAct, PairAct, TextAct, RegRectAct, RegPairAct, RegClearAct, CreateAct, OpenAct, InFrontAct, WhichAct, PutAct, BlitAct, EndRefreshAct, Statement, CallLine, layers_of, is_hook_number, is_act_in_range}
 use Rattle.lw_grammar.specs.Told.{and_names, place_among, onto_last, spelled_call, call_below, hook_on, told}
 use Rattle.lw_grammar.specs.Script.{is_ending}
@@ -68,6 +69,7 @@ groups_with above ls act e = refl
 pub hook_fits : (ls : List (List ℕ)) (act : Act) → IsTrue (is_act_in_range act) → IsTrue (is_hook_number (hook_on (CallLine ls act)))
 hook_fits ls (CreateAct asked) h = (and_parts _ _ (and_parts _ _ h).1).0
 hook_fits ls (OpenAct asked framed nocare classes title) h = (and_parts _ _ (and_parts _ _ h).1).0
+hook_fits ls (NumberAct HookVerb z) h = h
 hook_fits ls act h = refl
 
 -- the groups that are kept

@@ -1,6 +1,6 @@
 -- What reading a script answers, given that it gives the outcome of its bytes.
 use Rattle.std.proofs.Common.{◌≡◌, ℕ, min, length, List, Result, Ok, Err, IfOk, sym, ap, subst, ◌∙◌}
-use Rattle.lw_calls.specs.declared.reason.Reason.{Reason}
+use Rattle.lw_grammar.specs.declared.reason.Reason.{Reason}
 use Rattle.lw_grammar.specs.Demands.{◌>>=◌}
 use Rattle.lw_grammar.specs.Lines.{lines}
 use Rattle.lw_grammar.specs.Told.{told}

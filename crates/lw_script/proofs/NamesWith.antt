@@ -59,6 +59,6 @@ two_more (Unlock l) t = omega (arith, one_more t.names l.now)
 two_more statement t = omega arith
 
 -- where two more have room, those of a line have
-pub room_for_two : (statement : Statement) (r : Reader) → length r.tasks.layer_names.keys ≤ 62 → true ≡ nat_le (length (told_with (statement_meaning statement) (known r)).names) 64
-room_for_two statement r h =
+pub room_for_two : (statement : Statement) (r : Reader) (n : ℕ) → length r.tasks.layer_names.keys + 2 ≤ n → true ≡ nat_le (length (told_with (statement_meaning statement) (known r)).names) n
+room_for_two statement r n h =
     sym (le-leb _ _ (omega (arith, h, two_more statement (known r), length_targets r.tasks.layer_names.keys)))

@@ -1,6 +1,6 @@
 -- Lines that leave what the reader has read: of glyphs and bitmaps, or of tasks.
-use Rattle.std.proofs.Common.{◌≡◌, ℕ, ◌==◌, Bool, true, false, List, ◌∷◌, Result, Ok, Err, OnOk, ℤ, sym, subst, ◌∙◌}
-use Rattle.lw_grammar.specs.Statements.{Statement, ScreenLine, GlyphLine, BitmapLine, RowLine, TaskLine, EndLine, OrderLine, NumbersLine, ReportLine, CallLine, LockLine, UnlockLine, HoldLine, ReleaseLine}
+use Rattle.std.proofs.Common.{◌≡◌, ℕ, ◌==◌, Bool, true, false, List, ◌∷◌, Result, Ok, Err, OnOk, ℤ, refl, sym, subst, ◌∙◌}
+use Rattle.lw_grammar.specs.Statements.{Statement, LayersLine, ScreenLine, GlyphLine, BitmapLine, RowLine, TaskLine, EndLine, OrderLine, NumbersLine, ReportLine, CallLine, LockLine, UnlockLine, HoldLine, ReleaseLine}
 use Rattle.lw_grammar.specs.Told.{told}
 use Rattle.lw_grammar.specs.Script.{Setting}
 use Rattle.lw_statements.specs.declared.section.Section.{Section}
@@ -28,15 +28,16 @@ leaves_tasks HoldLine = false
 leaves_tasks ReleaseLine = false
 leaves_tasks f = true
 
--- the line is no screen, no numbers, and begins or ends no task, order or report
-abbrev pub keeps_section : Statement → Bool
-keeps_section (ScreenLine w h d) = false
-keeps_section (TaskLine name) = false
-keeps_section EndLine = false
-keeps_section OrderLine = false
-keeps_section ReportLine = false
-keeps_section (NumbersLine zs) = false
-keeps_section f = true
+-- the line tells no version, is no screen, no numbers, and begins or ends no task, order or report
+abbrev pub leaves_rest : Statement → Bool
+leaves_rest LayersLine = false
+leaves_rest (ScreenLine w h d) = false
+leaves_rest (TaskLine name) = false
+leaves_rest EndLine = false
+leaves_rest OrderLine = false
+leaves_rest ReportLine = false
+leaves_rest (NumbersLine zs) = false
+leaves_rest f = true
 
 -- no row is due
 pub none_due : (s : Setting) (r : Reader) (above : List Statement) → Represents s r above → ((told above).rows_due == 0) ≡ true → r.assets.due ≡ 0
@@ -86,7 +87,8 @@ on_done (Ok a) P Q f h = f h
 on_done (Err e) P Q f h = tt
 
 -- the reader below a line that changes its glyphs and bitmaps alone, or its tasks alone
-pub with_assets : (s : Setting) (r : Reader) (above : List Statement) (f : Statement) (a : AssetsRead) → keeps_section f ≡ true → leaves_tasks f ≡ true → Represents s r above → AssetsRepresent a (f ∷ above) → Represents s (record r { assets = a }) (f ∷ above)
+pub with_assets : (s : Setting) (r : Reader) (above : List Statement) (f : Statement) (a : AssetsRead) → leaves_rest f ≡ true → leaves_tasks f ≡ true → Represents s r above → AssetsRepresent a (f ∷ above) → Represents s (record r { assets = a }) (f ∷ above)
+with_assets s r above LayersLine a e t k new = absurd (false≢true e)
 with_assets s r above (ScreenLine w h d) a e t k new = absurd (false≢true e)
 with_assets s r above (TaskLine name) a e t k new = absurd (false≢true e)
 with_assets s r above EndLine a e t k new = absurd (false≢true e)
@@ -97,6 +99,7 @@ with_assets s r above f a e t k new =
     record {
       hooks = k.hooks;
       form = k.form;
+      version = k.version;
       section = k.section;
       width = k.width;
       height = k.height;
@@ -106,7 +109,8 @@ with_assets s r above f a e t k new =
       order = k.order;
     }
 
-pub with_tasks : (s : Setting) (r : Reader) (above : List Statement) (f : Statement) (t : TasksRead) → keeps_section f ≡ true → leaves_assets f ≡ true → Represents s r above → TasksRepresent t (f ∷ above) → Represents s (record r { tasks = t }) (f ∷ above)
+pub with_tasks : (s : Setting) (r : Reader) (above : List Statement) (f : Statement) (t : TasksRead) → leaves_rest f ≡ true → leaves_assets f ≡ true → Represents s r above → TasksRepresent t (f ∷ above) → Represents s (record r { tasks = t }) (f ∷ above)
+with_tasks s r above LayersLine t e a k new = absurd (false≢true e)
 with_tasks s r above (ScreenLine w h d) t e a k new = absurd (false≢true e)
 with_tasks s r above (TaskLine name) t e a k new = absurd (false≢true e)
 with_tasks s r above EndLine t e a k new = absurd (false≢true e)
@@ -117,6 +121,7 @@ with_tasks s r above f t e a k new =
     record {
       hooks = k.hooks;
       form = k.form;
+      version = k.version;
       section = k.section;
       width = k.width;
       height = k.height;
@@ -130,18 +135,38 @@ with_tasks s r above f t e a k new =
 abbrev pub turned_to : Section → Reader → Reader
 turned_to section r = record r { section = section }
 
-pub turned : (s : Setting) (r : Reader) (above : List Statement) (f : Statement) (section : Section) → section_meaning section ≡ (told (f ∷ above)).section → ((told (f ∷ above)).width ≡ (told above).width) × ((told (f ∷ above)).height ≡ (told above).height) × ((told (f ∷ above)).depth ≡ (told above).depth) × ((told (f ∷ above)).order ≡ (told above).order) → leaves_assets f ≡ true → leaves_tasks f ≡ true → Represents s r above → Represents s (turned_to section r) (f ∷ above)
+pub turned : (s : Setting) (r : Reader) (above : List Statement) (f : Statement) (section : Section) → section_meaning section ≡ (told (f ∷ above)).section → ((told (f ∷ above)).version ≡ (told above).version) × ((told (f ∷ above)).width ≡ (told above).width) × ((told (f ∷ above)).height ≡ (told above).height) × ((told (f ∷ above)).depth ≡ (told above).depth) × ((told (f ∷ above)).order ≡ (told above).order) → leaves_assets f ≡ true → leaves_tasks f ≡ true → Represents s r above → Represents s (turned_to section r) (f ∷ above)
 turned s r above f section turns same a t k =
     record {
       hooks = k.hooks;
       form = k.form;
+      version = k.version ∙ sym same.0;
       section = turns;
-      width = k.width ∙ sym same.0;
-      height = k.height ∙ sym same.1;
-      depth = k.depth ∙ sym same.2;
+      width = k.width ∙ sym same.1;
+      height = k.height ∙ sym same.2;
+      depth = k.depth ∙ sym same.3;
       assets = assets_pass r.assets above f a k.assets;
       tasks = tasks_pass r.tasks above f t k.tasks;
-      order = k.order ∙ sym same.3;
+      order = k.order ∙ sym same.4;
+    }
+
+-- the reader below the line of the version
+abbrev pub in_version_2 : Reader → Reader
+in_version_2 r = record r { version = 2 }
+
+pub version_told : (s : Setting) (r : Reader) (above : List Statement) → Represents s r above → Represents s (in_version_2 r) (LayersLine ∷ above)
+version_told s r above k =
+    record {
+      hooks = k.hooks;
+      form = k.form;
+      version = refl;
+      section = k.section;
+      width = k.width;
+      height = k.height;
+      depth = k.depth;
+      assets = assets_pass r.assets above LayersLine refl k.assets;
+      tasks = tasks_pass r.tasks above LayersLine refl k.tasks;
+      order = k.order;
     }
 
 -- lines of the same numbers

@@ -4,6 +4,7 @@ use Rattle.std.specs.List.{range_with_len}
 use Rattle.lw_planes.specs.Bitmap.{Bitmap}
 use Rattle.lw_calls.specs.declared.call.Call.{Call}
 use Rattle.lw_calls.specs.declared.group.Group.{Group}
+use Rattle.lw_calls.specs.declared.pair.Pair.{Pair}
 use Rattle.lw_calls.specs.declared.sizes.Sizes.{Sizes}
 use Rattle.lw_calls.specs.Assets.{Assets}
 use Rattle.lw_calls.specs.Plan.{Plan, IsPlan}
@@ -22,7 +23,7 @@ use Rattle.lw_script.specs.Represents.{Represents, HasRead, unfinished}
 use Rattle.std.proofs.lemmas.Bool.{eqb-true}
 
 -- the number of few names fits 32 bits
-pub names_fit : (keys : List (Bor (List ℕ))) (names : List (List ℕ)) (n : ℕ) → n ≡ length keys → targets keys ≡ names → length names ≤ 64 → Fits w32 n
+pub names_fit : (keys : List (Bor (List ℕ))) (names : List (List ℕ)) (n : ℕ) → n ≡ length keys → targets keys ≡ names → length names ≤ 1024 → Fits w32 n
 names_fit keys names n e d few =
     let same : length keys ≡ length names = sym (length_targets keys) ∙ ap length d in omega arith
 
@@ -55,13 +56,13 @@ bitmaps_are s r above k e =
     sym (append-nil r.assets.bitmaps.items) ∙ ap (λ bs. r.assets.bitmaps.items ++ bs) (sym finished) ∙ k.assets.bitmaps [] (λ d. refl)
 
 -- a plan whose parts are those of lines is the plan of the lines
-same_plan : (z : Sizes) (ss ts bs : List (List ℕ)) (cs : List (List Call)) (gs : List (List Group)) (glyphs : List (List ℕ)) (bitmaps : List Bitmap) (hooks : ℕ) (above : List Statement) → z ≡ (plan_of hooks (told above)).sizes → ss ≡ (told above).names → ts ≡ (told above).tasks → bs ≡ (told above).bitmap_names → cs ≡ (told above).calls → gs ≡ (told above).groups → glyphs ≡ ((plan_of 0 (told above)).assets).glyphs → bitmaps ≡ ((plan_of 0 (told above)).assets).bitmaps → plan_with z ss ts bs cs gs (record { glyphs = glyphs; bitmaps = bitmaps }) ≡ plan_of hooks (told above)
-same_plan z ss ts bs cs gs glyphs bitmaps hooks above a b c d e f g h = rw (a, b, c, d, e, f, g, h) refl
+same_plan : (z : Sizes) (ss ts bs : List (List ℕ)) (cs : List (List Call)) (gs : List (List Group)) (ps : List Pair) (glyphs : List (List ℕ)) (bitmaps : List Bitmap) (hooks : ℕ) (above : List Statement) → z ≡ (plan_of hooks (told above)).sizes → ss ≡ (told above).names → ts ≡ (told above).tasks → bs ≡ (told above).bitmap_names → cs ≡ (told above).calls → gs ≡ (told above).groups → ps ≡ [] → glyphs ≡ ((plan_of 0 (told above)).assets).glyphs → bitmaps ≡ ((plan_of 0 (told above)).assets).bitmaps → plan_with z ss ts bs cs gs ps (record { glyphs = glyphs; bitmaps = bitmaps }) ≡ plan_of hooks (told above)
+same_plan z ss ts bs cs gs ps glyphs bitmaps hooks above a b c d e f p g h = rw (a, b, c, d, e, f, p, g, h) refl
 
 -- so is one whose parts are the reader's, where no rows are due
-pub plan_is : (s : Setting) (r : Reader) (above : List Statement) → Represents s r above → r.assets.due ≡ 0 → (z : Sizes) (ss ts bs : List (List ℕ)) (x : Assets) → z ≡ (plan_of s.hooks (told above)).sizes → ss ≡ targets r.tasks.layer_names.keys → ts ≡ targets r.tasks.task_names.keys → bs ≡ targets r.assets.names.keys → x.glyphs ≡ map (λ i. (told above).glyphs (32 + i)) (range_with_len 0 95) → x.bitmaps ≡ r.assets.bitmaps.items → plan_with z ss ts bs (map (λ cs. cs.items) r.tasks.calls.items) (map (λ gs. gs.items) r.tasks.groups.items) x ≡ plan_of s.hooks (told above)
-plan_is s r above k due z ss ts bs x a b c d g h =
-    same_plan z ss ts bs _ _ x.glyphs x.bitmaps s.hooks above a (b ∙ k.tasks.names) (c ∙ k.tasks.tasks) (d ∙ k.assets.names) k.tasks.calls k.tasks.groups g (h ∙ bitmaps_are s r above k due)
+pub plan_is : (s : Setting) (r : Reader) (above : List Statement) → Represents s r above → r.assets.due ≡ 0 → (z : Sizes) (ss ts bs : List (List ℕ)) (ps : List Pair) (x : Assets) → z ≡ (plan_of s.hooks (told above)).sizes → ss ≡ targets r.tasks.layer_names.keys → ts ≡ targets r.tasks.task_names.keys → bs ≡ targets r.assets.names.keys → ps ≡ [] → x.glyphs ≡ map (λ i. (told above).glyphs (32 + i)) (range_with_len 0 95) → x.bitmaps ≡ r.assets.bitmaps.items → plan_with z ss ts bs (map (λ cs. cs.items) r.tasks.calls.items) (map (λ gs. gs.items) r.tasks.groups.items) ps x ≡ plan_of s.hooks (told above)
+plan_is s r above k due z ss ts bs ps x a b c d p g h =
+    same_plan z ss ts bs _ _ ps x.glyphs x.bitmaps s.hooks above a (b ∙ k.tasks.names) (c ∙ k.tasks.tasks) (d ∙ k.assets.names) k.tasks.calls k.tasks.groups p g (h ∙ bitmaps_are s r above k due)
 
 -- a plan that is that of good lines may be run
 pub plan_runs : (r : Reader) (h : HasRead r) → may_end r.form (section_meaning r.section) ≡ true → (p : Plan) → p ≡ plan_of h.0.hooks (told h.1) → IsPlan p

@@ -12,6 +12,7 @@ use Rattle.lw_statements.specs.SectionMeaning.{section_meaning}
 abbrev pub known : Reader → Told
 known r =
     record nothing_told {
+      version = r.version;
       section = section_meaning r.section;
       given = λ code. get_or r.assets.given code false;
       bitmap_names = targets r.assets.names.keys;

@@ -50,6 +50,7 @@ pub record TasksRepresent (t : TasksRead) (above : List Statement) : Type 0 wher
 pub record Represents (s : Setting) (r : Reader) (above : List Statement) : Type 0 where
   pub hooks : r.hooks ≡ s.hooks
   pub form : r.form ≡ s.form
+  pub version : r.version ≡ (told above).version
   pub section : section_meaning r.section ≡ (told above).section
   pub width : r.width ≡ (told above).width
   pub height : r.height ≡ (told above).height

@@ -11,7 +11,7 @@ ghost use Rattle.lw_script.specs.CallParts.{bitmap_place};
 ghost use Rattle.lw_script.specs.Represents.{Represents, CanAdd};
 
 use crate::state::{Reader, place_of_name};
-use lw_statements::{Act, Layers, Section, Statement, count};
+use lw_statements::{Act, Layers, Section, Statement, count, version_at_screen};
 use lw_words::Digits;
 use std::alloc::{AllocError, Global};
 
@@ -37,6 +37,7 @@ impl<'a> Reader<'a> {
         self.width = count(width);
         self.height = count(height);
         self.depth = count(depth);
+        self.version = version_at_screen(self.version);
         self.section = Section::Assets;
     }
 
@@ -163,6 +164,10 @@ impl<'a> Reader<'a> {
             → OnOk result (Represents s self.new (statement_meaning statement.now ∷ above)) }
     {
         match statement {
+            Statement::Layers => {
+                self.version = 2;
+                Ok(())
+            }
             Statement::Screen {
                 width,
                 height,

@@ -11,7 +11,8 @@ ghost use Rattle.lw_script.specs.Answers.{input_meaning, Gives, ended_with};
 
 use crate::input::{Input, ScriptStop};
 use crate::state::{AssetsRead, Reader, TasksRead};
-use lw_calls::{Assets, OrderList, Plan, PlanParts, Reason, Sizes, Text};
+use lw_calls::{Assets, OrderList, Plan, PlanParts, Sizes, Text};
+use lw_grammar::Reason;
 use lw_planes::Planes;
 use std::alloc::{AllocError, Global};
 
@@ -43,7 +44,7 @@ impl<'a> Reader<'a> {
             → result ≡ (plan_of s.hooks (told above)).sizes }
     {
         Sizes {
-            version: 1,
+            version: self.version,
             width: self.width,
             height: self.height,
             depth: self.depth,
@@ -84,6 +85,7 @@ impl<'a> Reader<'a> {
             bitmap_names,
             calls,
             groups,
+            pairs: Vec::new(alloc),
             assets: assets_of(glyphs, bitmaps),
         });
         Ok(Input {

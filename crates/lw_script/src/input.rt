@@ -1,7 +1,8 @@
 ghost use Rattle.std.specs.Prelude.{◌≡◌};
 ghost use Rattle.lw_script.specs.declared.input.ScriptStop.TheVariants.{Memory};
 
-use lw_calls::{OrderList, Plan, Reason};
+use lw_calls::{OrderList, Plan};
+use lw_grammar::Reason;
 use std::alloc::{AllocError, AllocFailed};
 use thiserror::Error;
 

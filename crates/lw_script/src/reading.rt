@@ -27,6 +27,7 @@ impl<'a> Reader<'a> {
         let read = words_statement(
             alloc,
             self.form,
+            self.version,
             self.section,
             self.assets.due,
             self.assets.width,

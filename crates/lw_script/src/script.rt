@@ -1,13 +1,13 @@
 //! Reads a script from its first line to its last.
 ghost use Rattle.std.specs.Prelude.{◌≡◌, ◌<◌, ℕ, IfOk, Err, length};
-ghost use Rattle.lw_calls.specs.declared.reason.Reason.{Reason as ReasonValue};
+ghost use Rattle.lw_grammar.specs.declared.reason.Reason.{Reason as ReasonValue};
 ghost use Rattle.lw_grammar.specs.Lines.{lines};
 ghost use Rattle.lw_grammar.specs.Script.{ScriptInput, outcome_of, SpellsInput, IsFirstBadIn, IsRunnableInput, reading_with};
 ghost use Rattle.lw_script.specs.Answers.{input_meaning, Gives, GivesInput, RefusesAt};
 
 use crate::input::{Input, ScriptStop};
 use crate::state::Reader;
-use lw_calls::Form;
+use lw_grammar::Form;
 use std::alloc::Global;
 
 /// Reads the lines one after another, up to a line `report` if there is one.

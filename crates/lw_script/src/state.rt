@@ -5,7 +5,8 @@ ghost use Rattle.lw_grammar.specs.Told.{place_among};
 ghost use Rattle.lw_words.specs.Cuts.{targets};
 
 use indexmap::IndexSet;
-use lw_calls::{Call, Form, Group};
+use lw_calls::{Call, Group};
+use lw_grammar::Form;
 use lw_planes::Planes;
 use lw_statements::{OpenGroup, Section};
 use std::alloc::Global;
@@ -56,6 +57,8 @@ pub struct Reader<'a> {
     /// How many hooks there are.
     pub hooks: u32,
     pub form: Form,
+    /// The script's version, and 0 where no line was read that tells it.
+    pub version: u32,
     pub section: Section,
     /// The sizes of the screen.
     pub width: u32,
@@ -77,6 +80,7 @@ impl<'a> Reader<'a> {
         Reader {
             hooks,
             form,
+            version: 0,
             section: Section::Screen,
             width: 0,
             height: 0,

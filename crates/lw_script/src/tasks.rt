@@ -2,7 +2,7 @@
 ghost use Rattle.std.specs.Prelude.{Bool, ◌≡◌, ℕ, ◌+◌, ◌<◌, ◌≤◌, false, if◌then◌else◌, IsTrue, IfOk, OnOk, List, ◌∷◌, length, map, option_map, bytes_eq};
 ghost use Rattle.std.specs.List.{list_any};
 ghost use Rattle.lw_grammar.specs.Statements.{Statement as StatementValue, TaskLine, LockLine, UnlockLine, HoldLine, ReleaseLine, CallLine, layers_of, is_hook_number, is_act_in_range};
-ghost use Rattle.lw_grammar.specs.Told.{and_name, and_names, place_among, onto_last, asks_super, and_hook, left_open_by, told};
+ghost use Rattle.lw_grammar.specs.Told.{and_name, and_names, place_among, onto_last, makes_super, and_hook, left_open_by, told};
 ghost use Rattle.lw_grammar.specs.Script.{is_ending};
 ghost use Rattle.lw_words.specs.Cuts.{targets};
 ghost use Rattle.lw_statements.specs.StatementMeaning.{act_meaning, layers_meaning};
@@ -20,7 +20,7 @@ use std::alloc::{AllocError, Global};
 
 /// The number of a name among these, where a name that isn't one of them gets the next number.
 fn numbered<'a>(names: &mut IndexSet<&'a [u8]>, name: &'a [u8]) -> Result<u32, AllocError>
-    requires few { length names.old.keys ≤ 66 }
+    requires few { length names.old.keys < 4294967295 }
     ensures names { OnOk result (targets names.new.keys ≡ and_name (targets names.old.keys) name.entry.now) }
     ensures place { IfOk result (λ slot. slot ≡ place_among (targets names.old.keys) name.entry.now) }
 {
@@ -43,7 +43,7 @@ fn slots_of<'a>(
     names: &mut IndexSet<&'a [u8]>,
     layers: Layers<'a>,
 ) -> Result<(u32, u32), AllocError>
-    requires few { length names.old.keys ≤ 64 }
+    requires few { length names.old.keys < 4294967294 }
     ensures names { OnOk result (targets names.new.keys ≡ and_names (targets names.old.keys) (layers_meaning layers.entry)) }
     ensures first { IfOk result (λ slots. slots.0 ≡ first_place (targets names.old.keys) (layers_meaning layers.entry)) }
     ensures second { IfOk result (λ slots. slots.1 ≡ second_place (targets names.old.keys) (layers_meaning layers.entry)) }
@@ -76,9 +76,13 @@ fn note_hook(used: &mut IndexSet<u32>, number: Option<i64>) -> Result<(), AllocE
 /// How many lines asked for a super-bitmap layer, with a call's.
 fn supers_with(supers: u32, act: &Act<'_>) -> u32
     requires { supers ≤ 16 }
-    ensures { (layers : List (List ℕ)) → result ≡ (if asks_super (CallLine layers (act_meaning act.now)) then 1 else 0) + supers }
+    ensures { (layers : List (List ℕ)) → result ≡ (if makes_super (CallLine layers (act_meaning act.now)) then 1 else 0) + supers }
 {
-    if act.asks_super() { supers + 1 } else { supers }
+    if act.makes_super() {
+        supers + 1
+    } else {
+        supers
+    }
 }
 
 /// Adds the group that a call ends, if it ends one.
@@ -135,7 +139,7 @@ impl<'a> TasksRead<'a> {
 
     /// Begins a lock on a layer.
     pub(crate) fn add_lock(&mut self, name: &'a [u8]) -> Result<(), AllocError>
-        requires few { length self.old.layer_names.keys ≤ 64 }
+        requires few { length self.old.layer_names.keys < 4294967294 }
         ensures { (above : List StatementValue) → TasksRepresent self.old above
             → OnOk result (TasksRepresent self.new (LockLine name.entry.now ∷ above)) }
     {
@@ -155,7 +159,7 @@ impl<'a> TasksRead<'a> {
 
     /// Ends a lock on a layer, which has calls.
     pub(crate) fn add_unlock(&mut self, name: &'a [u8]) -> Result<(), AllocError>
-        requires few { length self.old.layer_names.keys ≤ 64 }
+        requires few { length self.old.layer_names.keys < 4294967294 }
         requires some { 0 < self.old.so_far }
         ensures { (above : List StatementValue) → TasksRepresent self.old above
             → OnOk result (TasksRepresent self.new (UnlockLine name.entry.now ∷ above)) }
@@ -197,8 +201,8 @@ impl<'a> TasksRead<'a> {
     ) -> Result<(), AllocError>
         requires range { IsTrue (is_act_in_range (act_meaning act.now)) }
         requires made { length (layers_meaning layers) ≡ layers_of (act_meaning act.now) }
-        requires few { length self.old.layer_names.keys ≤ 64 }
-        requires room { self.old.so_far < 4096 }
+        requires few { length self.old.layer_names.keys < 4294967294 }
+        requires room { self.old.so_far < 4294967295 }
         requires supers { self.old.supers ≤ 16 }
         ensures { (above : List StatementValue) → IsBitmapAt (told above).bitmap_names bitmap (act_meaning act.now)
             → TasksRepresent self.old above

@@ -1,6 +1,6 @@
 //! The tests of a line's statement by what was read so far.
 ghost use Rattle.std.specs.Prelude.{◌≡◌, nat_le, length, IsTrue};
-ghost use Rattle.lw_calls.specs.Limits.{name_limit, call_limit};
+ghost use Rattle.lw_calls.specs.Limits.{limits_of};
 ghost use Rattle.lw_grammar.specs.Statements.{is_line_in_range};
 ghost use Rattle.lw_grammar.specs.Told.{and_name, hook_on, told_with};
 ghost use Rattle.lw_grammar.specs.Script.{lacks_name, gives_again, group_has_calls, fits_group, super_limit, are_few, is_no_hook, is_used, has_padding, statement_tested};
@@ -8,20 +8,17 @@ ghost use Rattle.lw_statements.specs.StatementMeaning.{statement_meaning};
 ghost use Rattle.lw_script.specs.ReaderKnows.{known, setting_of};
 
 use crate::state::{Reader, has_hook, has_name};
-use lw_calls::Reason;
+use lw_calls::limits_of;
+use lw_grammar::Reason;
 use lw_statements::{Act, Layers, Statement, count};
 use lw_words::is_text;
 
-/// How many tasks, bitmaps, layer names, lines that ask for a super-bitmap layer, and calls of a task a script has at most.
+/// How many tasks, bitmaps and lines that ask for a super-bitmap layer a script has at most.
 const TASK_LIMIT: usize = 16;
 
 const BITMAP_LIMIT: usize = 16;
 
-const NAME_LIMIT: usize = 64;
-
 const SUPER_LIMIT: u32 = 16;
-
-const CALL_LIMIT: u32 = 4096;
 
 impl<'a> Reader<'a> {
     /// Whether it is a line `put` whose bitmap doesn't stand above.
@@ -69,14 +66,14 @@ impl<'a> Reader<'a> {
         }
     }
 
-    /// Whether the line's call is one too many.
-    fn has_room_for_call(&self, statement: &Statement<'a>) -> bool
-        ensures { result ≡ nat_le (told_with (statement_meaning statement.now) (known self.now)).so_far call_limit }
+    /// Whether a task may have the line's call beside those that it has, where it may have so many.
+    fn has_room_for_call(&self, statement: &Statement<'a>, calls: u32) -> bool
+        ensures { result ≡ nat_le (told_with (statement_meaning statement.now) (known self.now)).so_far calls }
     {
         match statement {
             Statement::Task(_) => true,
-            Statement::Call { .. } => self.tasks.so_far < CALL_LIMIT,
-            _ => self.tasks.so_far <= CALL_LIMIT,
+            Statement::Call { .. } => self.tasks.so_far < calls,
+            _ => self.tasks.so_far <= calls,
         }
     }
 
@@ -85,7 +82,7 @@ impl<'a> Reader<'a> {
         ensures { result ≡ nat_le (told_with (statement_meaning statement.now) (known self.now)).supers super_limit }
     {
         match statement {
-            Statement::Call { act, .. } if act.asks_super() => self.tasks.supers < SUPER_LIMIT,
+            Statement::Call { act, .. } if act.makes_super() => self.tasks.supers < SUPER_LIMIT,
             _ => self.tasks.supers <= SUPER_LIMIT,
         }
     }
@@ -135,29 +132,31 @@ impl<'a> Reader<'a> {
         }
     }
 
-    /// Whether no layer name of the line is one too many. Where two more have room, no name is looked up.
+    /// Whether there are no more layer names than this with those of the line. Where two more have room, no name is looked up.
     #[tactic(auto, using(crate::proofs::NamesWith::room_for_two))]
-    fn has_room_for_names(&self, statement: &Statement<'a>) -> bool
-        ensures { result ≡ nat_le (length (told_with (statement_meaning statement.now) (known self.now)).names) name_limit }
+    fn has_room_for_names(&self, statement: &Statement<'a>, names: u32) -> bool
+        ensures { result ≡ nat_le (length (told_with (statement_meaning statement.now) (known self.now)).names) names }
     {
-        if self.tasks.layer_names.len() <= NAME_LIMIT - 2 {
+        if self.tasks.layer_names.len() + 2 <= names as usize {
             return true;
         }
-        self.names_with(statement) <= NAME_LIMIT
+        self.names_with(statement) <= names as usize
     }
 
     /// Whether nothing of the line is one too many.
     fn has_room(&self, statement: &Statement<'a>) -> bool
-        ensures { result ≡ are_few (told_with (statement_meaning statement.now) (known self.now)) }
+        ensures { result ≡ are_few (limits_of self.now.version) (told_with (statement_meaning statement.now) (known self.now)) }
     {
+        let limits = limits_of(self.version);
         ((self.tasks_with(statement) <= TASK_LIMIT && self.bitmaps_with(statement) <= BITMAP_LIMIT)
-            && self.has_room_for_names(statement))
-            && (self.has_room_for_super(statement) && self.has_room_for_call(statement))
+            && self.has_room_for_names(statement, limits.names))
+            && (self.has_room_for_super(statement)
+                && self.has_room_for_call(statement, limits.calls))
     }
 
     /// Whether there is no hook of the number that the line names.
     fn is_no_hook(&self, statement: &Statement<'a>) -> bool
-        requires { IsTrue (is_line_in_range (statement_meaning statement.now)) }
+        requires { IsTrue (is_line_in_range self.now.version (statement_meaning statement.now)) }
         ensures { result ≡ is_no_hook self.now.hooks (hook_on (statement_meaning statement.now)) }
     {
         match statement.hook() {
@@ -168,7 +167,7 @@ impl<'a> Reader<'a> {
 
     /// Whether the hook that the line names is used.
     fn is_used(&self, statement: &Statement<'a>) -> bool
-        requires { IsTrue (is_line_in_range (statement_meaning statement.now)) }
+        requires { IsTrue (is_line_in_range self.now.version (statement_meaning statement.now)) }
         ensures { result ≡ is_used (known self.now).used (hook_on (statement_meaning statement.now)) }
     {
         match statement.hook() {
@@ -199,7 +198,7 @@ impl<'a> Reader<'a> {
     pub fn tested(&self, statement: &Statement<'a>) -> Result<(), Reason>
         ensures { result ≡ statement_tested (setting_of self.now) (known self.now) (statement_meaning statement.now) }
     {
-        if !statement.is_in_range() {
+        if !statement.is_in_range(self.version) {
             return Err(Reason::Range);
         }
         if self.lacks_name(statement) {

@@ -2,7 +2,7 @@
 use Rattle.std.proofs.Common.{ℕ, List, [], ◌∷◌, length, min, Result, Ok, Err, MatchResult}
 use Rattle.lw_grammar.specs.Told.{told}
 use Rattle.lw_grammar.specs.Script.{Setting, Reached, at_the_top, lines_read, input_from, SpellsInput, IsFirstBadIn}
-use Rattle.lw_calls.specs.declared.reason.Reason.{Reason}
+use Rattle.lw_grammar.specs.declared.reason.Reason.{Reason}
 use Rattle.lw_grammar.specs.Lines.{lines}
 use Rattle.lw_grammar.proofs.ScriptOutcome.{reads_decide}
 use Rattle.lw_script_cases.specs.WholeScripts.{IsSpelled, alone}

@@ -61,6 +61,7 @@ three_tasks =
       bitmap_names = [];
       calls = clock_calls ∷ edit_calls ∷ paint_calls ∷ [];
       groups = (record { first = 3; last = 6; hold = Slot 0 } ∷ []) ∷ (record { first = 1; last = 4; hold = Slot 2 } ∷ []) ∷ (record { first = 8; last = 9; hold = All } ∷ []) ∷ [];
+      pairs = [];
       assets = no_assets;
     })))
 

@@ -3,3 +3,4 @@ pub mod CanonicalTexts
 pub mod LinesBelow
 pub mod Refused
 pub mod SpelledPlans
+pub mod VersionLines

@@ -3,14 +3,14 @@
 use Rattle.std.specs.Prelude.{ℕ, List, [], ◌∷◌, ◌++◌, Option, Some, None, Result, Ok, Err, codes}
 use Rattle.std.specs.List.{flat_map, range_with_len}
 use Rattle.std.specs.Fmt.{decimal}
-use Rattle.lw_calls.specs.declared.form.Form.{Form}
-use Rattle.lw_calls.specs.declared.reason.Reason.{Reason}
+use Rattle.lw_grammar.specs.declared.form.Form.{Form}
+use Rattle.lw_grammar.specs.declared.reason.Reason.{Reason}
 use Rattle.lw_grammar.specs.Demands.{◌>>=◌}
 use Rattle.lw_grammar.specs.Statements.{Statement}
 use Rattle.lw_grammar.specs.Lines.{lines}
 use Rattle.lw_grammar.specs.Told.{told}
 use Rattle.lw_grammar.specs.Script.{Setting, words_read, statement_read, line_read}
-use Rattle.lw_script_cases.specs.WholeScripts.{script, in_task_a}
+use Rattle.lw_script_cases.specs.WholeScripts.{script, in_task_a, created, of_version_2}
 
 -- the statements of lines whose words make statements, put on those of the lines above them
 abbrev pub and_statement : Result Statement Reason → List Statement → List Statement
@@ -21,7 +21,7 @@ abbrev pub statements_below : Form → List Statement → List (List ℕ) → Li
 statements_below form above [] = above
 statements_below form above (line ∷ ls) =
     statements_below form (and_statement (words_read line
-    >>= (λ ws. statement_read form (told above).section (told above).rows_due (told above).row_width ws)) above) ls
+    >>= (λ ws. statement_read form (told above).version (told above).section (told above).rows_due (told above).row_width ws)) above) ls
 
 -- the first reason, if there is one
 abbrev pub reason_of : Result Statement Reason → Option Reason
@@ -38,6 +38,10 @@ created_with_hook = in_task_a ++ script (codes "create w smart front 0 0 7 3 hoo
 
 abbrev pub opened_with_hook : List ℕ
 opened_with_hook = in_task_a ++ script (codes "open w simple behind 0 0 9 14 nocare hook 2 ''/")
+
+-- in version 2, one whose layer got it
+abbrev pub hook_set : List ℕ
+hook_set = of_version_2 created ++ script (codes "hook w 2/")
 
 -- the first of two tasks names hook 2
 abbrev pub hook_of_another_task : List ℕ

@@ -1,10 +1,10 @@
 -- Worked cases.
 -- Scripts that are refused, by their first reasons, each with the number of its first bad line.
 use Rattle.std.specs.Prelude.{ℕ, List, [], ◌∷◌, ◌++◌, codes}
-use Rattle.lw_calls.specs.declared.reason.Reason.{Reason}
+use Rattle.lw_grammar.specs.declared.reason.Reason.{Reason}
 use Rattle.lw_grammar.specs.Lines.{lines}
 use Rattle.lw_grammar.specs.Script.{IsFirstBadIn}
-use Rattle.lw_script_cases.specs.WholeScripts.{script, alone, screened, in_task_a, created}
+use Rattle.lw_script_cases.specs.WholeScripts.{script, alone, screened, in_task_a, created, in_version_2}
 
 -- the number of a line, and the bytes of a script
 pub record Refused : Type 0 where
@@ -24,6 +24,7 @@ abbrev pub bad_bytes : List Refused
 bad_bytes =
     at_line 1 ((13 ∷ []) ++ script (codes "/screen 16 4 1/")) ∷
     at_line 1 ((0 ∷ [])) ∷
+    at_line 1 (script (codes "layers 2") ++ (13 ∷ []) ++ script (codes "/")) ∷
     at_line 2 (screened ++ (31 ∷ []) ++ script (codes "/")) ∷
     at_line 2 (screened ++ (127 ∷ []) ++ script (codes "/")) ∷
     at_line 2 (script (codes "#") ++ (0 ∷ []) ++ (1 ∷ []) ++ (255 ∷ []) ++ script (codes "  '/") ++ (254 ∷ []) ++ script (codes "/")) ∷
@@ -40,6 +41,8 @@ bad_bytes =
 abbrev pub bad_spacing : List Refused
 bad_spacing =
     at_line 1 (script (codes "screen  16 4 1/")) ∷
+    at_line 1 (script (codes " layers 2/")) ∷
+    at_line 1 (script (codes "layers  7/")) ∷
     at_line 2 (screened ++ script (codes " /")) ∷
     at_line 2 (screened ++ script (codes " # note/")) ∷
     at_line 2 (screened ++ script (codes "end /")) ∷
@@ -53,6 +56,7 @@ bad_spacing =
 -- quotes inside words, and texts that go on after their end
 abbrev pub bad_quotes : List Refused
 bad_quotes =
+    at_line 1 (script (codes "layers 2'/")) ∷
     at_line 2 (screened ++ script (codes "end '/")) ∷
     at_line 3 (in_task_a ++ script (codes "'/")) ∷
     at_line 3 (in_task_a ++ script (codes "text w 'a''/")) ∷
@@ -71,6 +75,18 @@ abbrev pub unknown_words : List Refused
 unknown_words =
     at_line 1 (script (codes "Screen 16 4 1/")) ∷
     at_line 1 (script (codes "glow/")) ∷
+    at_line 1 (script (codes "Layers 2/")) ∷
+    at_line 1 (script (codes "layer 2/")) ∷
+    at_line 1 (script (codes "layers2/")) ∷
+    at_line 1 (script (codes "hook w 0/")) ∷
+    at_line 2 (screened ++ script (codes "layers 2/")) ∷
+    at_line 2 (screened ++ script (codes "layers 7/")) ∷
+    at_line 2 (screened ++ script (codes "hook w 0/")) ∷
+    at_line 3 (in_task_a ++ script (codes "layers 2/")) ∷
+    at_line 3 (in_task_a ++ script (codes "hook w 0/")) ∷
+    at_line 4 (in_task_a ++ script (codes "lock w/hook w 0/")) ∷
+    at_line 4 (in_task_a ++ script (codes "end/layers 2/")) ∷
+    at_line 4 (in_version_2 ++ script (codes "hooks w 0/")) ∷
     at_line 2 (screened ++ script (codes "glow/")) ∷
     at_line 3 (in_task_a ++ script (codes "fills w 0 0 1 1/")) ∷
     at_line 3 (in_task_a ++ script (codes "fil w 0 0 1 1/")) ∷
@@ -90,6 +106,17 @@ abbrev pub misplaced : List Refused
 misplaced =
     at_line 1 (script (codes "fill w 0 0 1 1/")) ∷
     at_line 1 (script (codes "order/")) ∷
+    at_line 2 (script (codes "layers 2/layers 2/")) ∷
+    at_line 2 (script (codes "layers 2/layers 7/")) ∷
+    at_line 2 (script (codes "layers 2/layers/")) ∷
+    at_line 2 (script (codes "layers 2/task a/")) ∷
+    at_line 2 (script (codes "layers 2/hook w 0/")) ∷
+    at_line 3 (script (codes "layers 2/screen 16 4 1/layers 2/")) ∷
+    at_line 3 (script (codes "layers 2/screen 16 4 1/hook w 0/")) ∷
+    at_line 4 (in_version_2 ++ script (codes "layers 2/")) ∷
+    at_line 4 (in_version_2 ++ script (codes "screen 16 4 1/")) ∷
+    at_line 5 (in_version_2 ++ script (codes "end/layers 2/")) ∷
+    at_line 5 (in_version_2 ++ script (codes "end/hook w 0/")) ∷
     at_line 2 (screened ++ script (codes "fill w 0 0 1 1/")) ∷
     at_line 2 (screened ++ script (codes "lock w/")) ∷
     at_line 2 (screened ++ script (codes "report/")) ∷
@@ -112,6 +139,28 @@ misplaced =
 -- words that fit no form of their verb
 abbrev pub bad_forms : List Refused
 bad_forms =
+    at_line 1 (script (codes "layers/")) ∷
+    at_line 1 (script (codes "layers 0/")) ∷
+    at_line 1 (script (codes "layers 1/")) ∷
+    at_line 1 (script (codes "layers 3/")) ∷
+    at_line 1 (script (codes "layers 7/")) ∷
+    at_line 1 (script (codes "layers -2/")) ∷
+    at_line 1 (script (codes "layers 02/")) ∷
+    at_line 1 (script (codes "layers 4294967298/")) ∷
+    at_line 1 (script (codes "layers 18446744073709551618/")) ∷
+    at_line 1 (script (codes "layers two/")) ∷
+    at_line 1 (script (codes "layers '2'/")) ∷
+    at_line 1 (script (codes "layers 2 2/")) ∷
+    at_line 1 (script (codes "layers 2 3/")) ∷
+    at_line 3 (screened ++ script (codes "bitmap b 16 1 1/layers 2/")) ∷
+    at_line 4 (in_version_2 ++ script (codes "hook/")) ∷
+    at_line 4 (in_version_2 ++ script (codes "hook w/")) ∷
+    at_line 4 (in_version_2 ++ script (codes "hook w x/")) ∷
+    at_line 4 (in_version_2 ++ script (codes "hook w '0'/")) ∷
+    at_line 4 (in_version_2 ++ script (codes "hook w 00/")) ∷
+    at_line 4 (in_version_2 ++ script (codes "hook w 0 1/")) ∷
+    at_line 4 (in_version_2 ++ script (codes "hook w v 0/")) ∷
+    at_line 4 (in_version_2 ++ script (codes "hook 0 w/")) ∷
     at_line 1 (script (codes "screen 16 4/")) ∷
     at_line 1 (script (codes "screen 16 4 1 1/")) ∷
     at_line 1 (script (codes "screen w 4 1/")) ∷
@@ -238,6 +287,15 @@ out_of_range =
     at_line 1 (script (codes "screen 16 4 0/")) ∷
     at_line 1 (script (codes "screen 16 4 9/")) ∷
     at_line 1 (script (codes "screen -1 4 1/")) ∷
+    at_line 1 (script (codes "screen 2048 1 1/")) ∷
+    at_line 2 (script (codes "layers 2/screen 2049 4 1/")) ∷
+    at_line 2 (script (codes "layers 2/screen 16 2049 1/")) ∷
+    at_line 2 (script (codes "layers 2/screen 0 4 1/")) ∷
+    at_line 2 (script (codes "layers 2/screen 16 4 9/")) ∷
+    at_line 3 (script (codes "layers 2/screen 16 4 1/bitmap b 1025 1 1/")) ∷
+    at_line 3 (script (codes "layers 2/screen 16 4 1/bitmap b 1 1025 1/")) ∷
+    at_line 4 (in_version_2 ++ script (codes "hook w -1/")) ∷
+    at_line 4 (in_version_2 ++ script (codes "hook w 4294967296/")) ∷
     at_line 2 (screened ++ script (codes "bitmap b 1025 1 1/")) ∷
     at_line 2 (screened ++ script (codes "bitmap b 16 0 1/")) ∷
     at_line 2 (screened ++ script (codes "bitmap b 16 1025 1/")) ∷
@@ -350,6 +408,8 @@ abbrev pub bad_groups : List Refused
 bad_groups =
     at_line 4 (in_task_a ++ script (codes "lock w/create w smart front 0 0 7 3 hook 0/")) ∷
     at_line 4 (created ++ script (codes "endrefresh w part/")) ∷
+    at_line 5 (in_version_2 ++ script (codes "lock w/hook w 0/")) ∷
+    at_line 5 (in_version_2 ++ script (codes "refresh w/hook w 0/")) ∷
     at_line 4 (in_task_a ++ script (codes "hold/release/")) ∷
     at_line 4 (in_task_a ++ script (codes "lock w/end/")) ∷
     at_line 4 (in_task_a ++ script (codes "hold/lock w/")) ∷
@@ -397,6 +457,9 @@ no_hooks =
     at_line 3 (in_task_a ++ script (codes "create w smart front 0 0 7 3 hook 0/")) ∷
     at_line 3 (in_task_a ++ script (codes "create w smart front 0 0 7 3 hook 4294967295/")) ∷
     at_line 3 (in_task_a ++ script (codes "create w simple behind 0 0 7 3 hook 1/")) ∷
+    at_line 4 (in_version_2 ++ script (codes "hook w 0/")) ∷
+    at_line 4 (in_version_2 ++ script (codes "hook w 4294967295/")) ∷
+    at_line 5 (in_version_2 ++ script (codes "hold/hook w 0/")) ∷
     at_line 3 (in_task_a ++ script (codes "create w smart front 0 0 7 3 backdrop hook 0/")) ∷
     at_line 3 (in_task_a ++ script (codes "open w smart front 0 0 9 14 borderless nocare hook 2 ask rncai 't'/")) ∷
     at_line 4 (in_task_a ++ script (codes "hold/create w smart front 0 0 7 3 hook 0/")) ∷ []
@@ -420,6 +483,10 @@ unfinished =
     at_line 2 (script (codes "# note/")) ∷
     at_line 2 (script (codes "# note")) ∷
     at_line 2 (script (codes "screen 1 1 1/")) ∷
+    at_line 2 (script (codes "layers 2")) ∷
+    at_line 3 (script (codes "# note/layers 2/")) ∷
+    at_line 3 (script (codes "layers 2/screen 2048 2048 8/")) ∷
+    at_line 4 (script (codes "layers 2//screen 1025 1 1/")) ∷
     at_line 2 (script (codes "screen 1024 1024 8/")) ∷
     at_line 3 (script (codes "//")) ∷
     at_line 3 (script (codes "# note/screen 16 4 1")) ∷

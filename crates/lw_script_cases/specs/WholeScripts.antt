@@ -3,7 +3,7 @@
 use Rattle.std.specs.Prelude.{ℕ, ◌==◌, if◌then◌else◌, List, [], ◌∷◌, ◌++◌, map, replicate, codes}
 use Rattle.std.specs.List.{flat_map, range_with_len}
 use Rattle.std.specs.Fmt.{decimal}
-use Rattle.lw_calls.specs.declared.form.Form.TheVariants.{Plain, Ordered, Audited}
+use Rattle.lw_grammar.specs.declared.form.Form.TheVariants.{Plain, Ordered, Audited}
 use Rattle.lw_grammar.specs.Script.{Setting, ScriptInput, SpellsInput}
 use Rattle.lw_cases.specs.Drawing.{first_fill}
 
@@ -38,6 +38,13 @@ in_task_a = screened ++ script (codes "task a/")
 
 abbrev pub created : List ℕ
 created = in_task_a ++ script (codes "create w smart front 0 0 7 3/")
+
+-- the same in version 2
+abbrev pub of_version_2 : List ℕ → List ℕ
+of_version_2 bytes = script (codes "layers 2/") ++ bytes
+
+abbrev pub in_version_2 : List ℕ
+in_version_2 = of_version_2 in_task_a
 
 -- 64 layers of 64 names, 16 layers with bitmaps of their own, 16 bitmaps, and 16 tasks
 abbrev pub sixty_four_layers : List ℕ

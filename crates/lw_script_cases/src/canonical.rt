@@ -4,8 +4,10 @@
 ghost use Rattle.std.specs.Prelude.{◌≡◌};
 ghost use Rattle.lw_canonical.specs.Canonical.{canonical_text};
 ghost use Rattle.lw_cases.specs.Drawing.{first_fill};
+ghost use Rattle.lw_cases.specs.Versions.{hook_replaced};
 ghost use Rattle.lw_script_cases.specs.WholeScripts.{first_fill_script};
 ghost use Rattle.lw_script_cases.specs.CanonicalTexts.{three_tasks, three_tasks_text, all_asked, all_asked_text, further_calls, further_calls_text};
+ghost use Rattle.lw_script_cases.specs.VersionLines.{hook_replaced_script};
 
 /// The first fill's canonical text is its script.
 pub fn first_fill_is_canonical()
@@ -25,4 +27,9 @@ pub fn optional_words_stand_in_order()
 /// Each further call has its words in their order.
 pub fn calls_have_their_words()
     ensures { canonical_text further_calls ≡ further_calls_text }
+{}
+
+/// The canonical text of a plan of version 2 begins with that.
+pub fn version_2_stands_first()
+    ensures { canonical_text hook_replaced ≡ hook_replaced_script }
 {}

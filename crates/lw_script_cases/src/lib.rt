@@ -7,3 +7,4 @@ pub mod lines_below;
 pub mod refused;
 pub mod scripts;
 pub mod spelled;
+pub mod version_lines;

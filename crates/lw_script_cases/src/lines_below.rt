@@ -2,9 +2,9 @@
 #![tactic(auto, unfolding(crate::proofs::Computing::reading))]
 
 ghost use Rattle.std.specs.Prelude.{◌≡◌, ◌++◌, None, Some, codes};
-ghost use Rattle.lw_calls.specs.declared.reason.Reason.TheVariants.{Group, TooMany, NoHook, HookUsed};
-ghost use Rattle.lw_script_cases.specs.WholeScripts.{alone, with_order, script};
-ghost use Rattle.lw_script_cases.specs.LinesBelow.{reason_below, created_with_hook, opened_with_hook, hook_of_another_task, greatest_hook, updating, supers};
+ghost use Rattle.lw_grammar.specs.declared.reason.Reason.TheVariants.{UnknownWord, Group, TooMany, NoHook, HookUsed};
+ghost use Rattle.lw_script_cases.specs.WholeScripts.{alone, with_order, script, of_version_2};
+ghost use Rattle.lw_script_cases.specs.LinesBelow.{reason_below, created_with_hook, opened_with_hook, hook_set, hook_of_another_task, greatest_hook, updating, supers};
 
 /// A hook is named once, by a layer or a window, in whichever task.
 pub fn hooks_are_named_once()
@@ -18,6 +18,22 @@ pub fn hooks_are_named_once()
     ensures same_name { reason_below (alone 3) created_with_hook (codes "create w smart front 0 0 7 3 hook 2") ≡ Some HookUsed }
     ensures another { reason_below (alone 6) created_with_hook (codes "create v smart front 0 0 3 3 hook 1") ≡ None }
     ensures not_handed_in { reason_below (alone 2) created_with_hook (codes "create v smart front 0 0 3 3 hook 2") ≡ Some NoHook }
+{}
+
+/// In version 2 a line `hook` names one too. It stands in a hold or in no group.
+pub fn hooks_are_set_once()
+    ensures set_again { reason_below (alone 6) hook_set (codes "hook w 2") ≡ Some HookUsed }
+    ensures of_another { reason_below (alone 6) hook_set (codes "hook v 2") ≡ Some HookUsed }
+    ensures then_created { reason_below (alone 6) hook_set (codes "create v smart front 0 0 3 3 hook 2") ≡ Some HookUsed }
+    ensures then_opened { reason_below (alone 6) hook_set (codes "open v smart front 0 0 9 14 hook 2 ''") ≡ Some HookUsed }
+    ensures created_before { reason_below (alone 6) (of_version_2 created_with_hook) (codes "hook v 2") ≡ Some HookUsed }
+    ensures greatest { reason_below (alone 4294967296) (of_version_2 greatest_hook) (codes "hook w 4294967295") ≡ Some HookUsed }
+    ensures another { reason_below (alone 6) hook_set (codes "hook w 5") ≡ None }
+    ensures not_handed_in { reason_below (alone 2) hook_set (codes "hook w 2") ≡ Some NoHook }
+    ensures in_hold { reason_below (alone 6) (hook_set ++ script (codes "hold/")) (codes "hook w 5") ≡ None }
+    ensures in_lock { reason_below (alone 6) (hook_set ++ script (codes "lock w/")) (codes "hook w 5") ≡ Some Group }
+    ensures in_update { reason_below (alone 6) (hook_set ++ script (codes "refresh w/")) (codes "hook w 5") ≡ Some Group }
+    ensures in_version_1 { reason_below (alone 6) created_with_hook (codes "hook w 5") ≡ Some UnknownWord }
 {}
 
 /// In an update of a layer stand calls on it alone, and the end of its own update.

@@ -1,11 +1,11 @@
 use crate::tests_script::read_short;
-use lw_calls::{Form, Reason};
+use lw_grammar::{Form, Reason};
 use lw_script::ScriptStop;
 use std::alloc::{AllocError, Global};
 use std::test::Fail;
 
-// The line and the reason for which a script is refused, or nothing where it is read.
-fn refusal_of(
+/// The line and the reason for which a script is refused, or nothing where it is read.
+pub fn refusal_of(
     alloc: Global,
     script: &[u8],
     form: Form,

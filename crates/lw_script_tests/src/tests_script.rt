@@ -1,4 +1,5 @@
-use lw_calls::{Form, Text};
+use lw_calls::Text;
+use lw_grammar::Form;
 use lw_script::{Input, ScriptStop, read};
 use std::alloc::{AllocError, Global};
 use std::test::Fail;
@@ -83,6 +84,16 @@ fn a_script_gives_its_sizes_names_and_order(rt: HostRuntime) -> Result<(), Fail>
     assert_eq!(rt; bitmaps.as_slice(), b"dot two ".as_slice());
     assert_eq!(rt; input.order.tasks(), [0, 1, 0, 15, 1].as_slice());
     assert_eq!(rt; input.rest, WHOLE.len());
+    Ok(())
+}
+
+#[test]
+fn a_first_line_gives_version_2(rt: HostRuntime) -> Result<(), Fail> {
+    let script = "# note\nlayers 2\nscreen 2048 1025 1\ntask a\nhook w 1\nend\n";
+    let input = read_short(rt.alloc(), script.as_bytes(), 2, Form::Plain)?;
+    let sizes = input.plan.sizes();
+    assert_eq!(rt; (sizes.version, sizes.width, sizes.height), (2, 2048, 1025));
+    assert_eq!(rt; (sizes.slots, sizes.hooks), (1, 2));
     Ok(())
 }
 

@@ -4,7 +4,7 @@ use Rattle.lw_region.specs.Rectangle.{within}
 use Rattle.lw_calls.specs.declared.call.Call.{Call}
 use Rattle.lw_calls.specs.Limits.{is_coordinate}
 use Rattle.lw_grammar.specs.declared.verb.NumberVerb.{NumberVerb}
-use Rattle.lw_grammar.specs.declared.verb.NumberVerb.TheVariants.{Mode, Clip}
+use Rattle.lw_grammar.specs.declared.verb.NumberVerb.TheVariants.{Mode, Clip, Hook}
 use Rattle.lw_grammar.specs.declared.verb.PairVerb.{PairVerb}
 use Rattle.lw_grammar.specs.Statements.{greatest_number, is_act_in_range}
 use Rattle.lw_grammar.specs.Told.{number_call, pair_call, spelled_call}
@@ -16,7 +16,7 @@ use Rattle.std.proofs.lemmas.Int.{ints}
 use Rattle.std.proofs.lemmas.Bool.Decides.{nat_tests}
 
 -- a number of a range is the same in 64 bits
-counted_64 : (z : ℤ) (m : ℕ) → within (pos 0) z (pos m) ≡ true → m ≤ 255 → to_z w64 (of_z w64 z) ≡ z
+counted_64 : (z : ℤ) (m : ℕ) → within (pos 0) z (pos m) ≡ true → m ≤ 4294967295 → to_z w64 (of_z w64 z) ≡ z
 unfolding within
 counted_64 z m h le = grind (arith, ints, nat_tests)
 
@@ -24,10 +24,11 @@ placed_64 : (z : ℤ) → is_coordinate z ≡ true → to_z w64 (of_z w64 z) ≡
 unfolding within
 placed_64 z h = grind (arith, ints, nat_tests)
 
--- no number is greater than 255
-greatest_small : (verb : NumberVerb) → greatest_number verb ≤ 255
+-- no number needs more than 32 bits
+greatest_small : (verb : NumberVerb) → greatest_number verb ≤ 4294967295
 greatest_small Mode = omega arith
 greatest_small Clip = omega arith
+greatest_small Hook = omega arith
 greatest_small verb = omega arith
 
 -- the call of a verb with a number

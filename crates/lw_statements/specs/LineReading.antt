@@ -1,6 +1,6 @@
 -- What reading a line answers.
 use Rattle.std.specs.Prelude.{◌≡◌, Result, Ok, Err}
-use Rattle.lw_calls.specs.declared.reason.Reason.{Reason}
+use Rattle.lw_grammar.specs.declared.reason.Reason.{Reason}
 use Rattle.lw_grammar.specs.Statements.{Statement as Meaning}
 use Rattle.lw_statements.specs.declared.statement.Statement.{Statement}
 use Rattle.lw_words.specs.declared.stop.Stop.{Stop}

@@ -2,24 +2,24 @@
 use Rattle.std.specs.Prelude.{List, [], ◌∷◌, ℕ}
 use Rattle.lw_region.specs.Rectangle.{Rectangle}
 use Rattle.lw_calls.specs.declared.area.Area.{Area}
-use Rattle.lw_grammar.specs.Statements.{AskedLayer as AskedMeaning, Act as ActMeaning, BareAct, NumberAct, PairAct, TextAct, RegRectAct, RegPairAct, RegClearAct, CreateAct, OpenAct, InFrontAct, BoxAct, WhichAct, FillAct, ScrollRasterAct, PutAct, BlitAct, EndRefreshAct, Statement as Meaning, ScreenLine, GlyphLine, BitmapLine, RowLine, TaskLine, EndLine, OrderLine, NumbersLine, ReportLine, CallLine, LockLine, UnlockLine, HoldLine, ReleaseLine, four}
+use Rattle.lw_grammar.specs.Statements.{NewLayer as NewLayerMeaning, Act as ActMeaning, BareAct, NumberAct, PairAct, TextAct, RegRectAct, RegPairAct, RegClearAct, CreateAct, OpenAct, InFrontAct, BoxAct, WhichAct, FillAct, ScrollRasterAct, PutAct, BlitAct, EndRefreshAct, Statement as Meaning, LayersLine, ScreenLine, GlyphLine, BitmapLine, RowLine, TaskLine, EndLine, OrderLine, NumbersLine, ReportLine, CallLine, LockLine, UnlockLine, HoldLine, ReleaseLine, four}
 use Rattle.lw_statements.specs.declared.statement.Corners.{Corners}
-use Rattle.lw_statements.specs.declared.statement.AskedLayer.{AskedLayer}
+use Rattle.lw_statements.specs.declared.statement.NewLayer.{NewLayer}
 use Rattle.lw_statements.specs.declared.statement.AskedArea.{AskedArea}
 use Rattle.lw_statements.specs.declared.statement.Act.{Act}
 use Rattle.lw_statements.specs.declared.statement.Act.TheVariants.{RegRect, RegPair, RegClear, Create, Open, InFront, Box, Which, Bare, Number, Pair, Text, Fill, ScrollRaster, Put, Blit, EndRefresh}
 use Rattle.lw_statements.specs.declared.statement.Layers.{Layers}
 use Rattle.lw_statements.specs.declared.statement.Layers.TheVariants.{Nothing, One, Two}
 use Rattle.lw_statements.specs.declared.statement.Statement.{Statement}
-use Rattle.lw_statements.specs.declared.statement.Statement.TheVariants.{Screen, Glyph, Bitmap, Row, Task, End, Order, Numbers, Report, Call, Lock, Unlock, Hold, Release}
+use Rattle.lw_statements.specs.declared.statement.Statement.TheVariants.{Layers as LayersOf, Screen, Glyph, Bitmap, Row, Task, End, Order, Numbers, Report, Call, Lock, Unlock, Hold, Release}
 use Rattle.lw_words.specs.Digits.{decoded}
 
 -- the four numbers as bounds
 abbrev pub corners_meaning : Corners → Rectangle
 corners_meaning c = four c.x0 c.y0 c.x1 c.y1
 
-abbrev pub asked_meaning : AskedLayer → AskedMeaning
-asked_meaning a =
+abbrev pub new_layer_meaning : NewLayer → NewLayerMeaning
+new_layer_meaning a =
     record {
       kind = a.kind;
       place = a.place;
@@ -38,8 +38,8 @@ abbrev pub act_meaning : Act → ActMeaning
 act_meaning (RegRect op register c) = RegRectAct op register (corners_meaning c)
 act_meaning (RegPair op source into) = RegPairAct op source into
 act_meaning (RegClear register) = RegClearAct register
-act_meaning (Create asked) = CreateAct (asked_meaning asked)
-act_meaning (Open asked framed nocare classes title) = OpenAct (asked_meaning asked) framed nocare classes title.now
+act_meaning (Create asked) = CreateAct (new_layer_meaning asked)
+act_meaning (Open asked framed nocare classes title) = OpenAct (new_layer_meaning asked) framed nocare classes title.now
 act_meaning InFront = InFrontAct
 act_meaning (Box c) = BoxAct (corners_meaning c)
 act_meaning (Which x y) = WhichAct x y
@@ -61,6 +61,7 @@ layers_meaning (Two l m) = l.now ∷ m.now ∷ []
 
 -- names by their bytes, digits by what they spell, and all else as it stands
 abbrev pub statement_meaning : Statement → Meaning
+statement_meaning LayersOf = LayersLine
 statement_meaning (Screen w h d) = ScreenLine w h d
 statement_meaning (Glyph code digits) = GlyphLine code (decoded digits.digits.now)
 statement_meaning (Bitmap name w h d) = BitmapLine name.now w h d

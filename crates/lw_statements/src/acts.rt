@@ -1,14 +1,14 @@
 //! What the grammar asks of a line's act.
 ghost use Rattle.std.specs.Prelude.{◌≡◌, ℕ, List, is_none, option_map};
 ghost use Rattle.lw_grammar.specs.Statements.{CallLine};
-ghost use Rattle.lw_grammar.specs.Told.{asks_super, hook_on};
-ghost use Rattle.lw_grammar.specs.Script.{is_arranging, is_beginning, is_ending, are_all, is_on_one, group_allows, is_lock_on, is_hold, fits_group};
+ghost use Rattle.lw_grammar.specs.Told.{makes_super, hook_on};
+ghost use Rattle.lw_grammar.specs.Script.{is_on_all, is_beginning, is_ending, are_all, is_on_one, group_allows, is_lock_on, is_hold, fits_group};
 ghost use Rattle.lw_statements.specs.StatementMeaning.{act_meaning, layers_meaning, statement_meaning};
 ghost use Rattle.lw_statements.specs.GroupMeaning.{group_meaning};
 
 use crate::statement::{Act, Layers, Statement};
 use lw_calls::Kind;
-use lw_grammar::{BareVerb, PairVerb};
+use lw_grammar::{BareVerb, NumberVerb, PairVerb};
 use lw_words::is_text;
 
 /// A group that is open.
@@ -23,9 +23,9 @@ pub enum OpenGroup<'a> {
 }
 
 impl Act<'_> {
-    /// Whether it is an arrangement.
-    fn is_arranging(&self) -> bool
-        ensures { result ≡ is_arranging (act_meaning self.now) }
+    /// Whether its call touches all layers.
+    fn is_on_all(&self) -> bool
+        ensures { result ≡ is_on_all (act_meaning self.now) }
     {
         match self {
             Act::Create(_)
@@ -33,6 +33,7 @@ impl Act<'_> {
             | Act::InFront
             | Act::Box(_)
             | Act::Bare(BareVerb::Close | BareVerb::Front | BareVerb::Behind | BareVerb::Activate)
+            | Act::Number(NumberVerb::Hook, _)
             | Act::Pair(PairVerb::Move | PairVerb::Size, _, _) => true,
             _ => false,
         }
@@ -61,8 +62,8 @@ impl Act<'_> {
 
 impl Act<'_> {
     /// Whether its line asks for a layer with a bitmap of its own.
-    pub fn asks_super(&self) -> bool
-        ensures { (layers : List (List ℕ)) → result ≡ asks_super (CallLine layers (act_meaning self.now)) }
+    pub fn makes_super(&self) -> bool
+        ensures { (layers : List (List ℕ)) → result ≡ makes_super (CallLine layers (act_meaning self.now)) }
     {
         match self {
             Act::Create(asked) | Act::Open { asked, .. } => match asked.kind {
@@ -79,6 +80,7 @@ impl Act<'_> {
     {
         match self {
             Act::Create(asked) | Act::Open { asked, .. } => asked.hook,
+            Act::Number(NumberVerb::Hook, number) => Some(*number),
             _ => None,
         }
     }
@@ -101,7 +103,7 @@ impl Layers<'_> {
 fn is_on_one(layer: &[u8], layers: &Layers<'_>, act: &Act<'_>) -> bool
     ensures { result ≡ is_on_one layer.now (layers_meaning layers.now) (act_meaning act.now) }
 {
-    layers.are_all(layer) && !act.is_arranging()
+    layers.are_all(layer) && !act.is_on_all()
 }
 
 /// Whether such a call may stand in this group, or in none.
@@ -114,7 +116,7 @@ fn group_allows(group: &Option<OpenGroup<'_>>, layers: &Layers<'_>, act: &Act<'_
             is_on_one(*layer, layers, act) && (!act.is_beginning() && !act.is_ending())
         }
         Some(OpenGroup::Updating(layer)) => is_on_one(*layer, layers, act) && !act.is_beginning(),
-        Some(OpenGroup::Held) => act.is_arranging(),
+        Some(OpenGroup::Held) => act.is_on_all(),
     }
 }
 
@@ -155,7 +157,8 @@ impl Statement<'_> {
             Statement::Lock(_) | Statement::Hold | Statement::End => is_closed(group),
             Statement::Unlock(layer) => is_lock_on(*layer, group) && has_calls,
             Statement::Release => is_hold(group) && has_calls,
-            Statement::Screen { .. }
+            Statement::Layers
+            | Statement::Screen { .. }
             | Statement::Glyph { .. }
             | Statement::Bitmap { .. }
             | Statement::Row(_)
@@ -167,11 +170,11 @@ impl Statement<'_> {
     }
 
     /// Whether the line asks for a layer with a bitmap of its own.
-    pub fn asks_super(&self) -> bool
-        ensures { result ≡ asks_super (statement_meaning self.now) }
+    pub fn makes_super(&self) -> bool
+        ensures { result ≡ makes_super (statement_meaning self.now) }
     {
         match self {
-            Statement::Call { act, .. } => act.asks_super(),
+            Statement::Call { act, .. } => act.makes_super(),
             _ => false,
         }
     }

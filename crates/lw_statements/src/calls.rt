@@ -1,14 +1,14 @@
 //! The calls that acts are.
 ghost use Rattle.std.specs.Prelude.{◌≡◌, ℕ, List, [], ◌∷◌, pos, ◌+ℤ◌, ◌-ℤ◌, IsTrue, IfOk, option_map, unsigned_abs};
 ghost use Rattle.lw_calls.specs.Limits.{axis_fits, rect_fits, coordinates_fit};
-ghost use Rattle.lw_grammar.specs.Statements.{is_hook_number, is_own_size, is_asked_in_range, place_and_size_fit, is_area_in_range, greatest_number, is_act_in_range};
+ghost use Rattle.lw_grammar.specs.Statements.{is_hook_number, is_own_size, is_new_layer_in_range, place_and_size_fit, is_area_in_range, greatest_number, is_act_in_range};
 ghost use Rattle.lw_region.specs.Rectangle.{within};
 ghost use Rattle.lw_grammar.specs.Told.{make_of, created_make, opened_make, bare_call, number_call, pair_call, text_call, spelled_call};
-ghost use Rattle.lw_statements.specs.StatementMeaning.{corners_meaning, asked_meaning, area_meaning, act_meaning};
+ghost use Rattle.lw_statements.specs.StatementMeaning.{corners_meaning, new_layer_meaning, area_meaning, act_meaning};
 ghost use Rattle.lw_statements.specs.CallMeaning.{IsBitmapAt, is_apart, is_single_on_layers};
 
 use crate::converted::{byte, coordinate, count, extent, step};
-use crate::statement::{Act, AskedArea, AskedLayer};
+use crate::statement::{Act, AskedArea, NewLayer};
 use lw_calls::{Area, Call, Kind, Make, Text};
 use lw_grammar::{BareVerb, NumberVerb, PairVerb, TextVerb};
 use std::alloc::{AllocError, Global};
@@ -32,7 +32,7 @@ fn spread(low: i64, high: i64) -> i32
     (high - low + 1) as i32
 }
 
-impl AskedLayer {
+impl NewLayer {
     /// The size of a bitmap of its own, or 0 and 0.
     #[tactic(auto, using(std::proofs::lemmas::Int::ints), unfolding(lw_region::specs::Rectangle::within))]
     fn bits(&self) -> (u32, u32)
@@ -47,8 +47,8 @@ impl AskedLayer {
 
     /// The layer with this place and size.
     fn make(&self, x: i32, y: i32, w: i32, h: i32) -> Make
-        requires { IsTrue (is_asked_in_range (asked_meaning self.now)) }
-        ensures { result ≡ make_of (asked_meaning self.now) x y w h }
+        requires { IsTrue (is_new_layer_in_range (new_layer_meaning self.now)) }
+        ensures { result ≡ make_of (new_layer_meaning self.now) x y w h }
     {
         let (bits_w, bits_h) = self.bits();
         Make {
@@ -68,8 +68,8 @@ impl AskedLayer {
     /// The layer of a creation, with these bounds.
     fn created(&self) -> Make
         requires bounds { IsTrue (rect_fits (corners_meaning self.now.numbers)) }
-        requires range { IsTrue (is_asked_in_range (asked_meaning self.now)) }
-        ensures { result ≡ created_make (asked_meaning self.now) }
+        requires range { IsTrue (is_new_layer_in_range (new_layer_meaning self.now)) }
+        ensures { result ≡ created_make (new_layer_meaning self.now) }
     {
         let numbers = self.numbers;
         self.make(
@@ -83,8 +83,8 @@ impl AskedLayer {
     /// The layer of an opening, with this place and size.
     fn opened(&self) -> Make
         requires bounds { IsTrue (place_and_size_fit (corners_meaning self.now.numbers)) }
-        requires range { IsTrue (is_asked_in_range (asked_meaning self.now)) }
-        ensures { result ≡ opened_make (asked_meaning self.now) }
+        requires range { IsTrue (is_new_layer_in_range (new_layer_meaning self.now)) }
+        ensures { result ≡ opened_make (new_layer_meaning self.now) }
     {
         let numbers = self.numbers;
         self.make(
@@ -156,6 +156,10 @@ fn number_call(verb: NumberVerb, slot: u32, number: i64) -> Call
         NumberVerb::Clip => Call::Clip {
             slot,
             reg: count(number),
+        },
+        NumberVerb::Hook => Call::SetHook {
+            slot,
+            hook: count(number),
         },
     }
 }

@@ -19,5 +19,6 @@ mod statement;
 pub use acts::OpenGroup;
 pub use converted::count;
 pub use line::words_statement;
-pub use section::{Section, belongs_in};
-pub use statement::{Act, AskedArea, AskedLayer, Corners, Layers, Statement};
+pub use ranges::version_at_screen;
+pub use section::Section;
+pub use statement::{Act, AskedArea, Corners, Layers, NewLayer, Statement};

@@ -1,6 +1,6 @@
 //! The statement of a line of these words in its place.
 ghost use Rattle.std.specs.Prelude.{◌≡◌, ◌≤◌, Ok, ◌∷◌, option_map, ok_or};
-ghost use Rattle.lw_calls.specs.declared.reason.Reason.TheVariants.{Form as FormReason};
+ghost use Rattle.lw_grammar.specs.declared.reason.Reason.TheVariants.{Form as FormReason};
 ghost use Rattle.lw_words.specs.Cuts.{targets};
 ghost use Rattle.lw_statements.specs.StatementMeaning.{statement_meaning};
 ghost use Rattle.lw_statements.specs.SectionMeaning.{section_meaning};
@@ -9,9 +9,9 @@ ghost use Rattle.lw_grammar.specs.Script.{verb_read, statement_read};
 
 use crate::lines_parts::{numbers_line, row_line};
 use crate::lines_verb::statement_by;
-use crate::section::{Section, belongs_in};
+use crate::section::{Section, belongs_in, is_known_in};
 use crate::statement::Statement;
-use lw_calls::{Form, Reason};
+use lw_grammar::{Form, Reason};
 use lw_words::{Stop, Token, tokens_of, verb_of};
 use std::alloc::Global;
 
@@ -25,31 +25,37 @@ fn found(statement: Option<Statement<'_>>) -> Result<Statement<'_>, Stop>
     }
 }
 
-/// The statement of a line that begins with this word, in this section of this input, or its first reason.
+/// The statement of a line that begins with this word, in this version and section of this input, or its first reason.
 fn verb_line<'a>(
     form: Form,
+    version: u32,
     section: Section,
     first: &'a [u8],
     rest: &[&'a [u8]],
     tokens: &mut Vec<Token<'a>>,
 ) -> Result<Statement<'a>, Stop>
-    ensures { Reads result (verb_read form (section_meaning section) (first.now ∷ targets rest.now)) }
+    ensures { Reads result (verb_read form version (section_meaning section) (first.now ∷ targets rest.now)) }
 {
     let Some(verb) = verb_of(first) else {
         return Err(Stop::Refused(Reason::UnknownWord));
     };
-    if !belongs_in(form, section, verb) {
+    if !is_known_in(version, verb) {
+        return Err(Stop::Refused(Reason::UnknownWord));
+    }
+    if !belongs_in(form, version, section, verb) {
         return Err(Stop::Refused(Reason::Misplaced));
     }
     tokens_of(rest, tokens)?;
     found(statement_by(verb, tokens.as_slice()))
 }
 
-/// The statement of a line of these words in this section of this input, where so many rows of a bitmap of this width are
-/// due, or its first reason. The list of tokens is lent for its room, which is kept from line to line.
+/// The statement of a line of these words in this section of this input, where the lines above tell this version, or none by 0,
+/// and so many rows of a bitmap of this width are due; or its first reason. The list of tokens is lent for its room, which is
+/// kept from line to line.
 pub fn words_statement<'a>(
     alloc: Global,
     form: Form,
+    version: u32,
     section: Section,
     due: u32,
     width: u32,
@@ -57,7 +63,7 @@ pub fn words_statement<'a>(
     tokens: &mut Vec<Token<'a>>,
 ) -> Result<Statement<'a>, Stop>
     requires { width ≤ 1024 }
-    ensures { Reads result (statement_read form (section_meaning section) due width (targets words.now)) }
+    ensures { Reads result (statement_read form version (section_meaning section) due width (targets words.now)) }
 {
     if due != 0 {
         tokens_of(words, tokens)?;
@@ -69,6 +75,6 @@ pub fn words_statement<'a>(
     }
     match words {
         [] => Err(Stop::Refused(Reason::UnknownWord)),
-        [first, rest @ ..] => verb_line(form, section, *first, rest, tokens),
+        [first, rest @ ..] => verb_line(form, version, section, *first, rest, tokens),
     }
 }

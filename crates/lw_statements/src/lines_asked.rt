@@ -1,12 +1,12 @@
 ghost use Rattle.std.specs.Prelude.{◌≡◌, ◌≤◌, IfSome, map, option_map, [], ◌∷◌};
-ghost use Rattle.lw_grammar.specs.Statements.{kind_of, place_of, flag as flag_meant, hook_option, message_class_of, classes_from, ask_option, create_without_bitmap, create_super, titled_line, open_without_bitmap, open_super, asked_line};
+ghost use Rattle.lw_grammar.specs.Statements.{kind_of, place_of, flag as flag_meant, hook_option, message_class_of, classes_from, ask_option, create_without_bitmap, create_super, titled_line, open_without_bitmap, open_super, new_layer_line};
 ghost use Rattle.lw_grammar.specs.Tokens.{NumberToken};
 ghost use Rattle.lw_words.specs.TokenMeaning.{token_meaning};
-ghost use Rattle.lw_statements.specs.StatementMeaning.{statement_meaning, corners_meaning, asked_meaning};
+ghost use Rattle.lw_statements.specs.StatementMeaning.{statement_meaning, corners_meaning, new_layer_meaning};
 ghost use Rattle.lw_statements.specs.AskedParts.{after_numbers, with_words, with_numbers};
 
 use crate::corners::corners_in;
-use crate::statement::{Act, AskedLayer, Corners, Statement};
+use crate::statement::{Act, Corners, NewLayer, Statement};
 use lw_calls::{Kind, Place};
 use lw_words::{Token, is_text};
 
@@ -139,7 +139,7 @@ fn create_without_bitmap<'a>(
     if !rest.is_empty() {
         return None;
     }
-    let asked = AskedLayer::without_bitmap(kind, place, numbers, backdrop, hook);
+    let asked = NewLayer::without_bitmap(kind, place, numbers, backdrop, hook);
     Some(Statement::on(layer, Act::Create(asked)))
 }
 
@@ -163,7 +163,7 @@ fn create_super<'a>(
             if !rest.is_empty() {
                 return None;
             }
-            let asked = AskedLayer {
+            let asked = NewLayer {
                 kind: Kind::SuperBitmap,
                 place,
                 numbers,
@@ -181,14 +181,14 @@ fn create_super<'a>(
 /// An opening, where its title is the last word.
 fn titled<'a>(
     layer: &'a [u8],
-    asked: AskedLayer,
+    asked: NewLayer,
     framed: bool,
     nocare: bool,
     classes: u8,
     tokens: &[Token<'a>],
 ) -> Option<Statement<'a>>
     ensures { option_map statement_meaning result
-        ≡ titled_line layer.now (asked_meaning asked) framed nocare classes (map token_meaning tokens.now) }
+        ≡ titled_line layer.now (new_layer_meaning asked) framed nocare classes (map token_meaning tokens.now) }
 {
     match tokens {
         [Token::Text(title)] => {
@@ -225,7 +225,7 @@ fn open_without_bitmap<'a>(
     let (nocare, rest) = flag(b"nocare", rest);
     let (hook, rest) = hook_in(rest);
     let (classes, rest) = asks_in(rest);
-    let asked = AskedLayer::without_bitmap(kind, place, numbers, backdrop, hook);
+    let asked = NewLayer::without_bitmap(kind, place, numbers, backdrop, hook);
     titled(layer, asked, !borderless, nocare, classes, rest)
 }
 
@@ -243,7 +243,7 @@ fn open_sized<'a>(
 {
     let (backdrop, rest) = flag(b"backdrop", tokens);
     let (classes, rest) = asks_in(rest);
-    let asked = AskedLayer {
+    let asked = NewLayer {
         kind: Kind::SuperBitmap,
         place,
         numbers,
@@ -334,8 +334,8 @@ fn named_line<'a>(
 }
 
 /// `create L KIND PLACE X0 Y0 X1 Y1 ..`, and `open L KIND PLACE X Y W H ..`
-pub(crate) fn asked_line<'a>(request: Request, tokens: &[Token<'a>]) -> Option<Statement<'a>>
-    ensures { option_map statement_meaning result ≡ asked_line (after_numbers request) (map token_meaning tokens.now) }
+pub(crate) fn new_layer_line<'a>(request: Request, tokens: &[Token<'a>]) -> Option<Statement<'a>>
+    ensures { option_map statement_meaning result ≡ new_layer_line (after_numbers request) (map token_meaning tokens.now) }
 {
     match tokens {
         [

@@ -1,15 +1,25 @@
 ghost use Rattle.std.specs.Prelude.{◌≡◌, ◌≤◌, ℕ, List, ◌∷◌, map, option_map, IfOk};
-ghost use Rattle.lw_grammar.specs.Statements.{Statement as StatementValue, screen_line, glyph_of_bytes, glyph_line, bitmap_line, row_line, numbers_line, all_numbers, name_line, alone_line};
+ghost use Rattle.lw_grammar.specs.Statements.{Statement as StatementValue, layers_line, screen_line, glyph_of_bytes, glyph_line, bitmap_line, row_line, numbers_line, all_numbers, name_line, alone_line};
 ghost use Rattle.lw_grammar.specs.Tokens.{bytes_in};
 ghost use Rattle.lw_words.specs.TokenMeaning.{token_meaning};
 ghost use Rattle.lw_statements.specs.StatementMeaning.{statement_meaning};
 
 use crate::statement::Statement;
-use lw_words::{Token, digits_in};
+use lw_words::{Token, digits_in, is_text};
 use std::alloc::{AllocError, Global};
 
 /// How many numbers of an order a line has at most.
 const NUMBERS_LIMIT: usize = 64;
+
+/// `layers 2`
+pub(crate) fn layers_line<'a>(tokens: &[Token<'a>]) -> Option<Statement<'a>>
+    ensures { option_map statement_meaning result ≡ layers_line (map token_meaning tokens.now) }
+{
+    match tokens {
+        [Token::Number(version, _)] if is_text(*version, b"2") => Some(Statement::Layers),
+        _ => None,
+    }
+}
 
 /// `screen W H D`
 pub(crate) fn screen_line<'a>(tokens: &[Token<'a>]) -> Option<Statement<'a>>

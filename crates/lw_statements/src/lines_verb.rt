@@ -3,13 +3,13 @@ ghost use Rattle.lw_grammar.specs.Statements.{part_line, statement_by as stateme
 ghost use Rattle.lw_words.specs.TokenMeaning.{token_meaning};
 ghost use Rattle.lw_statements.specs.StatementMeaning.{statement_meaning};
 
-use crate::lines_asked::{Request, asked_line};
+use crate::lines_asked::{Request, new_layer_line};
 use crate::lines_blit::{blit_line, put_line};
 use crate::lines_layer::{
     box_line, clear_line, endrefresh_line, fill_line, infront_line, layer_line, number_line,
     pair_line, rect_line, region_line, scrollraster_line, text_line, which_line,
 };
-use crate::lines_parts::{alone, bitmap_line, glyph_line, only_name, screen_line};
+use crate::lines_parts::{alone, bitmap_line, glyph_line, layers_line, only_name, screen_line};
 use crate::statement::Statement;
 use lw_grammar::{PartVerb, Verb};
 use lw_words::Token;
@@ -19,6 +19,7 @@ fn part_line<'a>(verb: PartVerb, tokens: &[Token<'a>]) -> Option<Statement<'a>>
     ensures { option_map statement_meaning result ≡ part_line verb (map token_meaning tokens.now) }
 {
     match verb {
+        PartVerb::Layers => layers_line(tokens),
         PartVerb::Screen => screen_line(tokens),
         PartVerb::Glyph => glyph_line(tokens),
         PartVerb::Bitmap => bitmap_line(tokens),
@@ -46,8 +47,8 @@ pub(crate) fn statement_by<'a>(verb: Verb, tokens: &[Token<'a>]) -> Option<State
         Verb::Rect(op) => rect_line(op, tokens),
         Verb::Region(op) => region_line(op, tokens),
         Verb::ClearRegion => clear_line(tokens),
-        Verb::Create => asked_line(Request::Creation, tokens),
-        Verb::Open => asked_line(Request::Opening, tokens),
+        Verb::Create => new_layer_line(Request::Creation, tokens),
+        Verb::Open => new_layer_line(Request::Opening, tokens),
         Verb::InFront => infront_line(tokens),
         Verb::Box => box_line(tokens),
         Verb::Which => which_line(tokens),

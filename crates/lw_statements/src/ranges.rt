@@ -1,12 +1,12 @@
-ghost use Rattle.std.specs.Prelude.{◌≡◌, ◌&&◌, pos};
+ghost use Rattle.std.specs.Prelude.{◌≡◌, pos};
 ghost use Rattle.std.specs.List.{list_all};
 ghost use Rattle.lw_region.specs.Rectangle.{within};
 ghost use Rattle.lw_calls.specs.Limits.{is_coordinate, axis_fits, rect_fits, coordinates_fit as places_meant, is_extent};
-ghost use Rattle.lw_grammar.specs.Statements.{is_hook_number, is_own_size, is_asked_in_range, place_and_size_fit, is_area_in_range, greatest_number, is_act_in_range, is_line_in_range};
-ghost use Rattle.lw_statements.specs.StatementMeaning.{corners_meaning, asked_meaning, area_meaning, act_meaning, statement_meaning};
+ghost use Rattle.lw_grammar.specs.Statements.{is_hook_number, is_own_size, is_new_layer_in_range, place_and_size_fit, is_area_in_range, greatest_number, is_act_in_range, version_at_screen, are_sizes_in_range, is_line_in_range};
+ghost use Rattle.lw_statements.specs.StatementMeaning.{corners_meaning, new_layer_meaning, area_meaning, act_meaning, statement_meaning};
 
-use crate::statement::{Act, AskedArea, AskedLayer, Corners, Statement};
-use lw_calls::Kind;
+use crate::statement::{Act, AskedArea, Corners, NewLayer, Statement};
+use lw_calls::{Kind, limits_of};
 use lw_grammar::NumberVerb;
 
 #[tactic(auto, using(std::proofs::lemmas::Int::ints), unfolding(lw_region::specs::Rectangle::within))]
@@ -62,12 +62,15 @@ impl Corners {
     }
 }
 
+/// The greatest number of a hook.
+const GREATEST_HOOK: i64 = 4_294_967_295;
+
 fn is_hook_number(hook: Option<i64>) -> bool
     ensures { result ≡ is_hook_number hook }
 {
     match hook {
         None => true,
-        Some(number) => is_between(0, number, 4_294_967_295),
+        Some(number) => is_between(0, number, GREATEST_HOOK),
     }
 }
 
@@ -81,10 +84,10 @@ fn is_own_size(kind: Kind, width: i64, height: i64) -> bool
     }
 }
 
-impl AskedLayer {
+impl NewLayer {
     /// Whether the numbers besides the four are in their ranges.
     fn is_in_range(&self) -> bool
-        ensures { result ≡ is_asked_in_range (asked_meaning self.now) }
+        ensures { result ≡ is_new_layer_in_range (new_layer_meaning self.now) }
     {
         is_hook_number(self.hook) && is_own_size(self.kind, self.bits_w, self.bits_h)
     }
@@ -106,6 +109,7 @@ fn greatest_number(verb: NumberVerb) -> i64
     match verb {
         NumberVerb::Mode | NumberVerb::Clip => 7,
         NumberVerb::APen | NumberVerb::BPen | NumberVerb::Mask | NumberVerb::SetRast => 255,
+        NumberVerb::Hook => GREATEST_HOOK,
     }
 }
 
@@ -143,33 +147,51 @@ fn are_tasks(numbers: &[i64]) -> bool
     numbers.iter().all(|number| is_between(0, *number, 15))
 }
 
-fn are_sizes(width: i64, height: i64, depth: i64) -> bool
-    ensures { result ≡ ((within (pos 1) width (pos 1024) && within (pos 1) height (pos 1024)) && within (pos 1) depth (pos 8)) }
+/// The version of a script whose screen's line stands below lines that tell this version, or none by 0.
+pub fn version_at_screen(version: u32) -> u32
+    ensures { result ≡ version_at_screen version }
 {
-    (is_between(1, width, 1024) && is_between(1, height, 1024)) && is_between(1, depth, 8)
+    if version == 0 { 1 } else { version }
+}
+
+/// How many columns, and how many rows, a bitmap has at most.
+const BITMAP_SIZE_LIMIT: u32 = 1024;
+
+/// Whether they are a width and a height, neither of them above a limit, and a depth.
+fn are_sizes(limit: u32, width: i64, height: i64, depth: i64) -> bool
+    ensures { result ≡ are_sizes_in_range limit width height depth }
+{
+    let limit = i64::from(limit);
+    (is_between(1, width, limit) && is_between(1, height, limit)) && is_between(1, depth, 8)
 }
 
 impl Statement<'_> {
-    /// Whether every number is in its range, and no maximum is below its minimum.
-    pub fn is_in_range(&self) -> bool
-        ensures { result ≡ is_line_in_range (statement_meaning self.now) }
+    /// Whether every number is in its range below lines that tell this version, and no maximum is below its minimum.
+    pub fn is_in_range(&self, version: u32) -> bool
+        ensures { result ≡ is_line_in_range version (statement_meaning self.now) }
     {
         match self {
             Statement::Screen {
                 width,
                 height,
                 depth,
-            }
-            | Statement::Bitmap {
+            } => are_sizes(
+                limits_of(version_at_screen(version)).screen,
+                *width,
+                *height,
+                *depth,
+            ),
+            Statement::Bitmap {
                 width,
                 height,
                 depth,
                 ..
-            } => are_sizes(*width, *height, *depth),
+            } => are_sizes(BITMAP_SIZE_LIMIT, *width, *height, *depth),
             Statement::Glyph { code, .. } => 32 <= *code && *code <= 126,
             Statement::Numbers(numbers) => are_tasks(numbers.as_slice()),
             Statement::Call { act, .. } => act.is_in_range(),
-            Statement::Row(_)
+            Statement::Layers
+            | Statement::Row(_)
             | Statement::Task(_)
             | Statement::End
             | Statement::Order

@@ -1,9 +1,8 @@
 ghost use Rattle.std.specs.Prelude.{◌≡◌};
-ghost use Rattle.lw_grammar.specs.Script.{is_screen_due, are_assets_due, are_calls_due, are_tasks_due, are_numbers_due, is_nothing_due, is_ordered, is_audited, belongs_in as belongs_meant, may_end as may_end_meant};
+ghost use Rattle.lw_grammar.specs.Script.{is_screen_due, are_assets_due, are_calls_due, are_tasks_due, are_numbers_due, is_nothing_due, is_ordered, is_audited, is_known_in, belongs_in as belongs_meant, may_end as may_end_meant};
 ghost use Rattle.lw_statements.specs.SectionMeaning.{section_meaning};
 
-use lw_calls::Form;
-use lw_grammar::{PartVerb, Verb};
+use lw_grammar::{Form, NumberVerb, PartVerb, Verb};
 
 /// The parts of a script, by what is due in them.
 #[derive(Clone, Copy, Debug, PartialEq, Eq)]
@@ -86,11 +85,23 @@ fn is_audited(form: Form) -> bool
     form == Form::Audited
 }
 
-/// Whether lines with this verb stand in this section of this input.
-pub fn belongs_in(form: Form, section: Section, verb: Verb) -> bool
-    ensures { result ≡ belongs_meant form (section_meaning section) verb }
+/// Whether some line begins with this verb, where the lines above tell this version, or none by 0.
+pub fn is_known_in(version: u32, verb: Verb) -> bool
+    ensures { result ≡ is_known_in version verb }
 {
     match verb {
+        Verb::Part(PartVerb::Layers) => version != 1,
+        Verb::Number(NumberVerb::Hook) => version >= 2,
+        _ => true,
+    }
+}
+
+/// Whether lines with this verb stand in this section of this input, where the lines above tell this version, or none by 0.
+pub fn belongs_in(form: Form, version: u32, section: Section, verb: Verb) -> bool
+    ensures { result ≡ belongs_meant form version (section_meaning section) verb }
+{
+    match verb {
+        Verb::Part(PartVerb::Layers) => section.is_screen() && version == 0,
         Verb::Part(PartVerb::Screen) => section.is_screen(),
         Verb::Part(PartVerb::Glyph | PartVerb::Bitmap) => section.is_assets(),
         Verb::Part(PartVerb::Task) => section.is_assets() || section.is_tasks(),

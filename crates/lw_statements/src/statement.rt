@@ -15,7 +15,7 @@ pub struct Corners {
 
 /// A layer as a line asks for it, in the line's own numbers. The call that the line is has a `Make` of them.
 #[derive(Clone, Copy)]
-pub struct AskedLayer {
+pub struct NewLayer {
     pub kind: Kind,
     pub place: Place,
     /// The bounds of a creation, or the place and size of an opening.
@@ -28,10 +28,10 @@ pub struct AskedLayer {
     ghost bits: { FitKind kind bits_w bits_h },
 }
 
-impl AskedLayer {
+impl NewLayer {
     ghost use Rattle.std.specs.Prelude.{◌≡◌};
-    ghost use Rattle.lw_grammar.specs.Statements.{asked_without_bitmap};
-    ghost use Rattle.lw_statements.specs.StatementMeaning.{corners_meaning, asked_meaning};
+    ghost use Rattle.lw_grammar.specs.Statements.{new_without_bitmap};
+    ghost use Rattle.lw_statements.specs.StatementMeaning.{corners_meaning, new_layer_meaning};
 
     /// A layer without a bitmap of its own.
     pub fn without_bitmap(
@@ -40,10 +40,10 @@ impl AskedLayer {
         numbers: Corners,
         backdrop: bool,
         hook: Option<i64>,
-    ) -> AskedLayer
-        ensures { asked_meaning result ≡ asked_without_bitmap kind place (corners_meaning numbers) backdrop hook }
+    ) -> NewLayer
+        ensures { new_layer_meaning result ≡ new_without_bitmap kind place (corners_meaning numbers) backdrop hook }
     {
-        AskedLayer {
+        NewLayer {
             kind,
             place,
             numbers,
@@ -84,9 +84,9 @@ pub enum Act<'a> {
     },
     /// A register emptied.
     RegClear(i64),
-    Create(AskedLayer),
+    Create(NewLayer),
     Open {
-        asked: AskedLayer,
+        asked: NewLayer,
         framed: bool,
         nocare: bool,
         /// The set of the classes of messages: class k is bit k.
@@ -131,6 +131,8 @@ pub enum Layers<'a> {
 /// What a line of a script says, if it isn't skipped. Names, texts and digits stand in the input.
 #[derive(Drop)]
 pub enum Statement<'a> {
+    /// The script has version 2.
+    Layers,
     Screen {
         width: i64,
         height: i64,

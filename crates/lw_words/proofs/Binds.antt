@@ -1,6 +1,6 @@
 -- Steps in a row, where one stops or goes on.
 use Rattle.std.proofs.Common.{◌≡◌, Result, Err, refl}
-use Rattle.lw_calls.specs.declared.reason.Reason.{Reason}
+use Rattle.lw_grammar.specs.declared.reason.Reason.{Reason}
 use Rattle.lw_grammar.specs.Demands.{◌>>=◌}
 use Rattle.lw_words.specs.declared.stop.Stop.{Stop}
 use Rattle.lw_words.specs.declared.stop.Stop.TheVariants.{Refused, Memory}

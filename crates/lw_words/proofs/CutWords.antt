@@ -1,8 +1,8 @@
 -- The first word of a line, by the place of the byte that ends it.
 use Rattle.std.proofs.Common.{◌≡◌, ℕ, zero, suc, ◌+◌, ◌-◌, ◌<◌, ◌≤◌, ◌==◌, Bool, true, false, not, ◌||◌, cond, List, [], ◌∷◌, ◌++◌, append_assoc, Bor, length, take, drop, get_or, Some, None, Result, Ok, Err, position, refl, sym, ap, subst, ◌∙◌, arith, one-add, length-drop}
 use Rattle.std.specs.List.{onto_first, position_or_len}
-use Rattle.lw_calls.specs.declared.reason.Reason.{Reason}
-use Rattle.lw_calls.specs.declared.reason.Reason.TheVariants.{Spacing, Quote}
+use Rattle.lw_grammar.specs.declared.reason.Reason.{Reason}
+use Rattle.lw_grammar.specs.declared.reason.Reason.TheVariants.{Spacing, Quote}
 use Rattle.lw_grammar.specs.Tokens.{ends_text, on_found, tokens_at, tokens}
 use Rattle.lw_words.specs.Cuts.{is_break, IsWordBegun, targets}
 use Rattle.lw_words.proofs.Targets.{targets_push}

@@ -1,6 +1,6 @@
 -- What a stop at a line tells.
 use Rattle.std.specs.Prelude.{◌≡◌, Result, Err}
-use Rattle.lw_calls.specs.declared.reason.Reason.{Reason}
+use Rattle.lw_grammar.specs.declared.reason.Reason.{Reason}
 use Rattle.lw_words.specs.declared.stop.Stop.{Stop}
 use Rattle.lw_words.specs.declared.stop.Stop.TheVariants.{Refused, Memory}
 

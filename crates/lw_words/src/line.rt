@@ -7,7 +7,7 @@ ghost use Rattle.lw_words.specs.Stops.{Tells};
 
 use crate::stop::Stop;
 use crate::tokens::words_of;
-use lw_calls::Reason;
+use lw_grammar::Reason;
 
 /// How many bytes a line has at most.
 const LINE_LIMIT: usize = 512;

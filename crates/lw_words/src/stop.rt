@@ -1,7 +1,7 @@
 ghost use Rattle.std.specs.Prelude.{◌≡◌};
 ghost use Rattle.lw_words.specs.declared.stop.Stop.TheVariants.{Memory};
 
-use lw_calls::Reason;
+use lw_grammar::Reason;
 use std::alloc::{AllocError, AllocFailed};
 
 /// Why reading stops at a line.

@@ -5,7 +5,7 @@ ghost use Rattle.lw_words.specs.Stops.{Tells};
 
 use crate::cut::place_of;
 use crate::stop::Stop;
-use lw_calls::Reason;
+use lw_grammar::Reason;
 
 /// Where a word ends that is no text: at a space, or at a quote, which is a fault there.
 fn break_of(bytes: &[u8]) -> Option<usize>

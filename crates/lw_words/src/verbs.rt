@@ -10,6 +10,7 @@ fn verb_word(verb: Verb) -> &'static [u8]
     ensures { result.now ≡ verb_word verb }
 {
     match verb {
+        Verb::Part(PartVerb::Layers) => b"layers",
         Verb::Part(PartVerb::Screen) => b"screen",
         Verb::Part(PartVerb::Glyph) => b"glyph",
         Verb::Part(PartVerb::Bitmap) => b"bitmap",
@@ -34,6 +35,7 @@ fn verb_word(verb: Verb) -> &'static [u8]
         Verb::Number(NumberVerb::Mask) => b"mask",
         Verb::Number(NumberVerb::SetRast) => b"setrast",
         Verb::Number(NumberVerb::Clip) => b"clip",
+        Verb::Number(NumberVerb::Hook) => b"hook",
         Verb::Pair(PairVerb::Move) => b"move",
         Verb::Pair(PairVerb::Size) => b"size",
         Verb::Pair(PairVerb::At) => b"at",
@@ -111,9 +113,9 @@ fn verbs_with(first: u8) -> &'static [Verb]
         b'e' => &[Verb::Part(PartVerb::End), Verb::EndRefresh],
         b'f' => &[Verb::Bare(BareVerb::Front), Verb::Fill],
         b'g' => &[Verb::Part(PartVerb::Glyph), Verb::Bare(BareVerb::GetMsg)],
-        b'h' => &[Verb::Part(PartVerb::Hold)],
+        b'h' => &[Verb::Part(PartVerb::Hold), Verb::Number(NumberVerb::Hook)],
         b'i' => &[Verb::InFront],
-        b'l' => &[Verb::Part(PartVerb::Lock)],
+        b'l' => &[Verb::Part(PartVerb::Layers), Verb::Part(PartVerb::Lock)],
         b'm' => &[
             Verb::Number(NumberVerb::Mode),
             Verb::Number(NumberVerb::Mask),

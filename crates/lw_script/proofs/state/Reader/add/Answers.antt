@@ -7,24 +7,28 @@ use Rattle.lw_statements.specs.StatementMeaning.{statement_meaning}
 use Rattle.lw_script.specs.declared.state.Reader.{Reader}
 use Rattle.lw_script.specs.Represents.{Represents, CanAdd}
 use Rattle.lw_script.proofs.Addable.{in_64, screen_ranged, bitmap_ranged}
-use Rattle.lw_script.proofs.Passing.{same_screen, same_bitmap, on_done, turned_to, turned}
+use Rattle.lw_script.proofs.Passing.{same_screen, same_bitmap, on_done, turned_to, turned, in_version_2, version_told}
 use Rattle.lw_script.proofs.state.Reader.add.Goals as goal
 
 -- the reader represents the statement put on the lines above
 abbrev Put : Setting → Reader → List StatementValue → Statement → Type 0
 Put s r above f = Represents s r (statement_meaning f ∷ above)
 
+pub returns-in-Layers : goal.returns-in-Layers
+returns-in-Layers c = λ s above k.
+    subst (Put s (in_version_2 c.args.self.now) above) (sym c.in-Layers.is) (version_told s c.args.self.now above k)
+
 pub returns-in-End : goal.returns-in-End
 returns-in-End c = λ s above k.
-    subst (Put s (turned_to Tasks c.args.self.now) above) (sym c.in-End.is) (turned s c.args.self.now above EndLine Tasks refl (refl, refl, refl, refl) refl refl k)
+    subst (Put s (turned_to Tasks c.args.self.now) above) (sym c.in-End.is) (turned s c.args.self.now above EndLine Tasks refl (refl, refl, refl, refl, refl) refl refl k)
 
 pub returns-in-Order : goal.returns-in-Order
 returns-in-Order c = λ s above k.
-    subst (Put s (turned_to Numbers c.args.self.now) above) (sym c.in-Order.is) (turned s c.args.self.now above OrderLine Numbers refl (refl, refl, refl, refl) refl refl k)
+    subst (Put s (turned_to Numbers c.args.self.now) above) (sym c.in-Order.is) (turned s c.args.self.now above OrderLine Numbers refl (refl, refl, refl, refl, refl) refl refl k)
 
 pub returns-in-Report : goal.returns-in-Report
 returns-in-Report c = λ s above k.
-    subst (Put s (turned_to Nothing c.args.self.now) above) (sym c.in-Report.is) (turned s c.args.self.now above ReportLine Nothing refl (refl, refl, refl, refl) refl refl k)
+    subst (Put s (turned_to Nothing c.args.self.now) above) (sym c.in-Report.is) (turned s c.args.self.now above ReportLine Nothing refl (refl, refl, refl, refl, refl) refl refl k)
 
 pub returns-in-Hold : goal.returns-in-Hold
 returns-in-Hold c = λ s above k. subst (Put s c.add_hold.new.self above) (sym c.in-Hold.is) (c.add_hold.ensures s above k)
@@ -43,7 +47,7 @@ returns-in-Screen c = λ s above k.
     let d = c.in-Screen.depth in
     let q = screen_ranged c.args.self.now w h d (subst (Adds c.args.self.now) c.in-Screen.is c.requires) in
     let new = c.add_screen.new.self in
-    subst (Put s new above) (sym c.in-Screen.is) (same_screen s new above w h d _ _ _ (in_64 w 1024 (omega arith) q.width) (in_64 h 1024 (omega arith) q.height) (in_64 d 8 (omega arith) q.depth) (c.add_screen.ensures s above k))
+    subst (Put s new above) (sym c.in-Screen.is) (same_screen s new above w h d _ _ _ (in_64 w 2048 (omega arith) q.width) (in_64 h 2048 (omega arith) q.height) (in_64 d 8 (omega arith) q.depth) (c.add_screen.ensures s above k))
 
 pub returns-in-Bitmap : goal.returns-in-Bitmap
 returns-in-Bitmap c = λ s above k.

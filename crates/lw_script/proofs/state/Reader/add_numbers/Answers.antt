@@ -14,6 +14,7 @@ returns c = λ s above k.
     record {
       hooks = k.hooks;
       form = k.form;
+      version = k.version;
       section = k.section;
       width = k.width;
       height = k.height;

@@ -1,5 +1,5 @@
 use Rattle.std.proofs.Common.{refl, ap, ◌∙◌, unsigned_abs, w64, arith}
-use Rattle.lw_grammar.specs.Statements.{ScreenLine}
+use Rattle.lw_grammar.specs.Statements.{ScreenLine, version_at_screen}
 use Rattle.lw_script.proofs.Addable.{screen_ranged, count_64}
 use Rattle.lw_script.proofs.Passing.{assets_pass, tasks_pass}
 use Rattle.std.proofs.lemmas.Int.{to_z-of_z}
@@ -7,11 +7,11 @@ use Rattle.lw_script.proofs.state.Reader.add_screen.Goals as goal
 
 pub count-self-requires : goal.count-self-requires
 count-self-requires c =
-    count_64 c.args.width 1024 (omega arith) (screen_ranged c.args.self.now c.args.width c.args.height c.args.depth c.requires).width
+    count_64 c.args.width 2048 (omega arith) (screen_ranged c.args.self.now c.args.width c.args.height c.args.depth c.requires).width
 
 pub count-self-requires-2 : goal.count-self-requires-2
 count-self-requires-2 c =
-    count_64 c.args.height 1024 (omega arith) (screen_ranged c.args.self.now c.args.width c.args.height c.args.depth c.requires).height
+    count_64 c.args.height 2048 (omega arith) (screen_ranged c.args.self.now c.args.width c.args.height c.args.depth c.requires).height
 
 pub count-self-requires-3 : goal.count-self-requires-3
 count-self-requires-3 c =
@@ -23,6 +23,7 @@ returns c = λ s above k.
     record {
       hooks = k.hooks;
       form = k.form;
+      version = c.version_at_screen-self.ensures ∙ ap version_at_screen k.version;
       section = refl;
       width = c.count-self.ensures ∙ ap unsigned_abs (to_z-of_z w64 c.args.width c.ranges.width);
       height = c.count-self-2.ensures ∙ ap unsigned_abs (to_z-of_z w64 c.args.height c.ranges.height);

@@ -13,6 +13,7 @@ returns c = λ s above k.
     record {
       hooks = k.hooks;
       form = k.form;
+      version = k.version;
       section = refl;
       width = k.width;
       height = k.height;

@@ -2,7 +2,7 @@ use Rattle.std.proofs.Common.{◌≡◌, true, Ok, sym, ap, ◌∙◌}
 use Rattle.lw_grammar.specs.Told.{told}
 use Rattle.lw_grammar.specs.Script.{at_number, may_end, input_from}
 use Rattle.lw_grammar.specs.Demands.{◌>>=◌, demand}
-use Rattle.lw_calls.specs.declared.reason.Reason.TheVariants.{Missing}
+use Rattle.lw_grammar.specs.declared.reason.Reason.TheVariants.{Missing}
 use Rattle.lw_script.proofs.ReadPlans.{ends_alike}
 use Rattle.lw_script.proofs.state.Reader.finish.Goals as goal
 

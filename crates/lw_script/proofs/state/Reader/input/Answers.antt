@@ -10,11 +10,11 @@ new-plan-requires c =
     let h = c.requires.read in
     let k = h.2 in
     let due = none_due r h c.requires.ended in
-    plan_runs r h c.requires.ended _ (plan_is h.0 r h.1 k due c.sizes-sizes.result c.in_ok-slot_names.slot_names.items c.in_ok-task_names.task_names.items c.in_ok-bitmap_names.bitmap_names.items c.assets_of.result (c.sizes-sizes.ensures h.0 h.1 k) (c.in_ok-slot_names.ensures ∙ ap targets c.as_slice.ensures.keys) (c.in_ok-task_names.ensures ∙ ap targets c.as_slice-2.ensures.keys) (c.in_ok-bitmap_names.ensures ∙ ap targets c.as_slice-3.ensures.keys) (c.assets_of.ensures.glyphs (λ i. (told h.1).glyphs (32 + i)) k.assets.glyphs) c.assets_of.ensures.bitmaps)
+    plan_runs r h c.requires.ended _ (plan_is h.0 r h.1 k due c.sizes-sizes.result c.in_ok-slot_names.slot_names.items c.in_ok-task_names.task_names.items c.in_ok-bitmap_names.bitmap_names.items c.new.result.items c.assets_of.result (c.sizes-sizes.ensures h.0 h.1 k) (c.in_ok-slot_names.ensures ∙ ap targets c.as_slice.ensures.keys) (c.in_ok-task_names.ensures ∙ ap targets c.as_slice-2.ensures.keys) (c.in_ok-bitmap_names.ensures ∙ ap targets c.as_slice-3.ensures.keys) c.new.ensures.items (c.assets_of.ensures.glyphs (λ i. (told h.1).glyphs (32 + i)) k.assets.glyphs) c.assets_of.ensures.bitmaps)
 
 pub returns : goal.returns
 returns c = λ s above k.
     (let r = c.args.self in
     let due = none_due r c.requires.read c.requires.ended in
-    let same = plan_is s r above k due c.sizes-sizes.result c.in_ok-slot_names.slot_names.items c.in_ok-task_names.task_names.items c.in_ok-bitmap_names.bitmap_names.items c.assets_of.result (c.sizes-sizes.ensures s above k) (c.in_ok-slot_names.ensures ∙ ap targets c.as_slice.ensures.keys) (c.in_ok-task_names.ensures ∙ ap targets c.as_slice-2.ensures.keys) (c.in_ok-bitmap_names.ensures ∙ ap targets c.as_slice-3.ensures.keys) (c.assets_of.ensures.glyphs (λ i. (told above).glyphs (32 + i)) k.assets.glyphs) c.assets_of.ensures.bitmaps in
-    input_is s above c.args.rest c.new-plan.result c.new.result (c.new-plan.ensures ∙ same) (c.new.ensures ∙ k.order))
+    let same = plan_is s r above k due c.sizes-sizes.result c.in_ok-slot_names.slot_names.items c.in_ok-task_names.task_names.items c.in_ok-bitmap_names.bitmap_names.items c.new.result.items c.assets_of.result (c.sizes-sizes.ensures s above k) (c.in_ok-slot_names.ensures ∙ ap targets c.as_slice.ensures.keys) (c.in_ok-task_names.ensures ∙ ap targets c.as_slice-2.ensures.keys) (c.in_ok-bitmap_names.ensures ∙ ap targets c.as_slice-3.ensures.keys) c.new.ensures.items (c.assets_of.ensures.glyphs (λ i. (told above).glyphs (32 + i)) k.assets.glyphs) c.assets_of.ensures.bitmaps in
+    input_is s above c.args.rest c.new-plan.result c.new-2.result (c.new-plan.ensures ∙ same) (c.new-2.ensures ∙ k.order))

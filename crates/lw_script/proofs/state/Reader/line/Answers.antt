@@ -1,5 +1,5 @@
 use Rattle.std.proofs.Common.{List, ℕ, Result, Ok, sym, ap, subst, ◌∙◌}
-use Rattle.lw_calls.specs.declared.reason.Reason.{Reason}
+use Rattle.lw_grammar.specs.declared.reason.Reason.{Reason}
 use Rattle.lw_grammar.specs.Demands.{◌>>=◌}
 use Rattle.lw_grammar.specs.Script.{statement_of}
 use Rattle.lw_words.proofs.Binds.{stops_before}

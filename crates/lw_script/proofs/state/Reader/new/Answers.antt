@@ -9,6 +9,7 @@ returns c =
     record {
       hooks = refl;
       form = refl;
+      version = refl;
       section = refl;
       width = refl;
       height = refl;

@@ -1,4 +1,6 @@
 use Rattle.std.proofs.Common.{◌≤◌, length, arith}
+use Rattle.lw_calls.specs.Limits.{limits_of}
+use Rattle.lw_calls.proofs.LimitLaws.{names_at_most}
 use Rattle.lw_grammar.specs.Told.{told}
 use Rattle.lw_grammar.proofs.ScriptSizes.{counted}
 use Rattle.lw_script.proofs.ReadPlans.{names_fit}
@@ -7,7 +9,8 @@ use Rattle.lw_script.proofs.state.Reader.sizes.Goals as goal
 pub overflow_cast-result : goal.overflow_cast-result
 overflow_cast-result c =
     let h = c.requires in
-    names_fit c.args.self.now.tasks.layer_names.keys _ c.len.result c.len.ensures.len h.2.tasks.names (counted h.0 h.1 h.3).names
+    let few : length (told h.1).names ≤ (limits_of (told h.1).version).names = (counted h.0 h.1 h.3).names in
+    names_fit c.args.self.now.tasks.layer_names.keys _ c.len.result c.len.ensures.len h.2.tasks.names (omega (arith, few, names_at_most (told h.1).version))
 
 pub overflow_cast-result-2 : goal.overflow_cast-result-2
 overflow_cast-result-2 c =

@@ -1,6 +1,6 @@
 use Rattle.std.proofs.Common.{◌≡◌, ◌+◌, cond, Option, ℤ, sym, ap, subst, ◌∙◌}
 use Rattle.lw_grammar.specs.Statements.{CallLine, is_hook_number}
-use Rattle.lw_grammar.specs.Told.{and_names, asks_super, and_hook, left_open_by, told}
+use Rattle.lw_grammar.specs.Told.{and_names, makes_super, and_hook, left_open_by, told}
 use Rattle.std.specs.Bool.{IsTrue}
 use Rattle.lw_statements.specs.StatementMeaning.{act_meaning, layers_meaning}
 use Rattle.lw_script.specs.CallParts.{first_place, second_place, AreNoted}
@@ -23,7 +23,7 @@ returns c = λ above h s.
     record {
       tasks = s.tasks;
       names = c.in_ok-slot.ensures.names ∙ ap (λ ns. and_names ns ls) s.names;
-      supers = c.supers_with-self.ensures ls ∙ ap (λ n. cond (asks_super (CallLine ls act)) 1 0 + n) s.supers;
+      supers = c.supers_with-self.ensures ls ∙ ap (λ n. cond (makes_super (CallLine ls act)) 1 0 + n) s.supers;
       used = subst P (c.hook.ensures ls) (c.in_ok-note_hook.ensures (told above).used s.used);
       group = c.group_below-self.ensures ∙ ap (left_open_by ls act) s.group;
       began = c.began_below-self.ensures above s.began s.so_far ls;

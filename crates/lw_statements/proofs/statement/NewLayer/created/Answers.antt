@@ -1,6 +1,6 @@
 use Rattle.lw_statements.specs.StatementMeaning.{corners_meaning}
 use Rattle.lw_statements.proofs.RectRanges.{axes, lower}
-use Rattle.lw_statements.proofs.statement.AskedLayer.created.Goals as goal
+use Rattle.lw_statements.proofs.statement.NewLayer.created.Goals as goal
 
 pub step-requires : goal.step-requires
 step-requires c = lower _ _ (axes (corners_meaning c.args.self.now.numbers) c.requires.bounds).0

@@ -1,0 +1,11 @@
+use Rattle.std.specs.Fmt.{digits}
+use Rattle.lw_region.specs.Rectangle.{within}
+use Rattle.lw_planes.specs.Row.{row_bit}
+use Rattle.lw_calls.specs.Limits.{axis_fits}
+use Rattle.lw_grammar.specs.Verbs.{verb_of}
+use Rattle.std.proofs.Common.{refl}
+use Rattle.lw_script_cases.proofs.version_lines.hooks_are_replaced_in_holds.Goals as goal
+
+pub returns : goal.returns
+unfolding digits within row_bit axis_fits verb_of
+returns c = refl
