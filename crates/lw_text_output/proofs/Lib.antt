@@ -1,4 +1,4 @@
 mod FourBounds
-mod Padded
+pub mod Padded
 pub mod Pieces
 mod Kept

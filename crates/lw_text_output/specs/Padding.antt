@@ -1,4 +1,3 @@
--- For private contracts.
 -- Rows of planes with zeros in their padding.
 use Rattle.std.specs.Prelude.{ℕ, ◌-◌, nat_lt, if◌then◌else◌, List, [], ◌∷◌}
 use Rattle.std.specs.Int.{bit_at}

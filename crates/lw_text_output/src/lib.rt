@@ -11,4 +11,4 @@ pub use lines::{
     end_line, name_of, push_decimal, push_hex_byte, push_line, push_numbered_line, push_signed,
     push_spaced, push_spaced_signed, push_word,
 };
-pub use row::push_rows;
+pub use row::{leftmost_bits, push_rows};

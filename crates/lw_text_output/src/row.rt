@@ -46,7 +46,7 @@ fn push_bytes(out: &mut Vec<u8>, row: &[u8], width: usize) -> Result<(), AllocEr
 }
 
 /// The byte with its leftmost bits, as many as `kept`, and zeros after them.
-fn leftmost_bits(byte: u8, kept: usize) -> u8
+pub fn leftmost_bits(byte: u8, kept: usize) -> u8
     ensures { result ≡ leftmost_bits kept byte }
 {
     if kept < 8 {
