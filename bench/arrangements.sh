@@ -1,7 +1,8 @@
 #!/bin/sh
 # Times arrangements: so many layers of 200 by 200 pixels on a screen of 1024 by 768 with 8 planes, each put in front in turn, or
-# moved by 3 columns and 2 rows in turn (and back in every second round). It runs scripts through the program, once with the
-# calls and once without them, takes the least of five runs each, and prints how many calls a second the difference gives.
+# moved by 3 columns and 2 rows in turn (and back in every second round). A script of version 1 has names for 64 layers, so one with
+# more of them is of version 2. It runs scripts through the program, once with the calls and once without them, takes the least of
+# five runs each, and prints how many calls a second the difference gives.
 #
 #     bench/arrangements.sh [PROGRAM]
 #
@@ -21,6 +22,7 @@ trap 'rm -rf "$work"' EXIT
 # A script: kind, number of layers, call (front or move), rounds.
 script() {
     awk -v kind="$1" -v count="$2" -v call="$3" -v rounds="$4" 'BEGIN {
+        if (count > 64) print "layers 2"
         print "screen 1024 768 8"
         print "task a"
         for (i = 0; i < count; i++) {
@@ -53,7 +55,7 @@ least() {
 echo "load before: $(cut -d ' ' -f 1-3 /proc/loadavg 2>/dev/null || echo unknown)"
 echo "kind layers call calls microseconds calls-a-second"
 for kind in smart simple; do
-    for count in 16 64; do
+    for count in 16 64 128; do
         script "$kind" "$count" front 0 >"$work/none"
         none=$(least "$work/none")
         for call in front move; do

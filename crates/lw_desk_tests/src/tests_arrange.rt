@@ -1,7 +1,6 @@
-ghost use Rattle.std.specs.Prelude.{◌≡◌, OnOk, IsTrue};
-ghost use Rattle.lw_calls.specs.declared.touch.CallClass.TheVariants.{OnAll};
+ghost use Rattle.std.specs.Prelude.{◌≡◌, true, OnOk, IsTrue};
 ghost use Rattle.lw_calls.specs.Limits.{call_fits};
-ghost use Rattle.lw_calls.specs.Touches.{class_of};
+ghost use Rattle.lw_calls.specs.Touches.{is_arrangement};
 
 use lw_arrange::{Step, commit_info, give_up_info, plan_step, prepare_info};
 use lw_calls::{Call, Kind, Make, Place, Sizes};
@@ -35,7 +34,7 @@ static ON_TOP: [&[u8; 16]; 8] = [
 
 // A layer of w columns and h rows from (x, y) on, in front of all others.
 fn create(slot: u32, x: i32, y: i32, w: i32, h: i32) -> Call
-    ensures { class_of result ≡ OnAll }
+    ensures { is_arrangement result ≡ true }
 {
     Call::Create {
         slot,
@@ -56,7 +55,7 @@ fn create(slot: u32, x: i32, y: i32, w: i32, h: i32) -> Call
 
 // Creates a layer on LayerInfo alone, whose desktop then gains nothing. Answers how many strips the desktop gives up.
 fn put(alloc: Global, info: &mut Info, call: &Call) -> Result<usize, Fail>
-    requires class { class_of call.now ≡ OnAll }
+    requires all { is_arrangement call.now ≡ true }
     requires sizes { info.old.sizes ≡ SIZES }
     ensures { OnOk result (info.new.sizes ≡ SIZES) }
 {
@@ -68,7 +67,7 @@ fn put(alloc: Global, info: &mut Info, call: &Call) -> Result<usize, Fail>
 
 // Makes the call, which fits.
 fn arrange(alloc: Global, info: &mut Info, call: &Call) -> Result<usize, Fail>
-    requires class { class_of call.now ≡ OnAll }
+    requires all { is_arrangement call.now ≡ true }
     requires fits { IsTrue (call_fits info.old.sizes call.now) }
     requires sizes { info.old.sizes ≡ SIZES }
     ensures { OnOk result (info.new.sizes ≡ SIZES) }

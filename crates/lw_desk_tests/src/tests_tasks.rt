@@ -32,6 +32,7 @@ fn plan_of(alloc: Global, first: Vec<Call>, second: Vec<Call>) -> Result<Plan, A
         bitmap_names: Vec::new(alloc),
         calls: vec![in alloc; first, second]?,
         groups: vec![in alloc; Vec::new(alloc), Vec::new(alloc)]?,
+        pairs: Vec::new(alloc),
         assets: no_assets(alloc),
     };
     Ok(Plan::new(parts))

@@ -34,4 +34,6 @@ mod tests_told;
 #[cfg(test)]
 mod tests_updates;
 #[cfg(test)]
+mod tests_versions;
+#[cfg(test)]
 mod tests_windows;

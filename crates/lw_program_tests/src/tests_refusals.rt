@@ -49,8 +49,12 @@ const TASKS: Pieces = ("screen 16 4 1\n", "task t@\nend\n");
 
 const LAYERS: Pieces = ("screen 16 4 1\ntask a\n", "create n@ smart front 0 0 7 3\n");
 
+const CALLS_2: Pieces = ("layers 2\nscreen 16 4 1\ntask a\n", "clearregion 0\n");
+
+const LAYERS_2: Pieces = ("layers 2\nscreen 16 4 1\ntask a\n", "behind n@\n");
+
 // Pieces, how many there are, what stands after them, and the first bad line with its reason.
-static COUNTED: [(Pieces, u32, &str, &str); 12] = [
+static COUNTED: [(Pieces, u32, &str, &str); 16] = [
     // A line has 512 bytes at most, its line feed aside.
     (BYTES, 513, "\n", "1 line-too-long"),
     (BYTES, 512, "\n", "1 unknown-word"),
@@ -68,10 +72,15 @@ static COUNTED: [(Pieces, u32, &str, &str); 12] = [
     (LAYERS, 64, "end\ntask b\nfront x\n", "69 too-many"),
     (CALLS, 4096, "end\ntask b\nwhich 0 0\n", "4102 missing"),
     (TASKS, 16, "task u\n", "34 too-many"),
+    // In version 2 there are 128 layer names, and 16,384 calls of a task.
+    (LAYERS_2, 127, "infront x x\n", "132 missing"),
+    (LAYERS_2, 127, "infront x y\n", "131 too-many"),
+    (CALLS_2, 16384, "which 0 0\n", "16388 too-many"),
+    (CALLS_2, 16383, "which 0 0\n", "16388 missing"),
 ];
 
-// Whether `run` of a script, with six hooks, is refused on this line for this reason, with its text.
-fn is_refused<R: Threads + Wait + AllocGlobal + Sync>(
+/// Whether `run` of a script, with six hooks, is refused on this line for this reason, with its text.
+pub fn is_refused<R: Threads + Wait + AllocGlobal + Sync>(
     rt: &R,
     script: &str,
     refused: &str,

@@ -2,7 +2,7 @@
 use Rattle.std.proofs.Common.{◌≡◌, ◌≢◌, ◌⊎◌, ℕ, ◌+◌, ◌<◌, ◌≤◌, List, [], ◌++◌, codes, Option, Some, None, IfSome, true, false, IsTrue, length, refl, sym, ap, subst, ◌∙◌, inl, inr, append-nil, length-append, arith}
 use Rattle.std.proofs.lemmas.Bool.{true≢false}
 use Rattle.lw_io.specs.Streams.{Stream, StreamChange, NoneLeft, TakesJust, TakesAtMost, bytes_before, bytes_after, Wrote, HasFailed}
-use Rattle.lw_calls.specs.declared.reason.Reason.{Reason}
+use Rattle.lw_grammar.specs.declared.reason.Reason.{Reason}
 use Rattle.lw_calls.specs.Plan.{IsPlan}
 use Rattle.lw_calls.specs.Written.{line_of}
 use Rattle.lw_calls.proofs.OrdersComplete.{begins}

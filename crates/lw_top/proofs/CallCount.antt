@@ -1,5 +1,5 @@
 -- A legal order has a number for each call of its plan, each below 16.
-use Rattle.std.proofs.Common.{◌≡◌, ℕ, zero, suc, ◌+◌, ◌*◌, ◌<◌, ◌≤◌, ◌==◌, Bool, true, false, cond, List, [], ◌∷◌, ◌++◌, length, take, slice_index_or, ◌^◌, inl, inr, refl, ap, ◌∙◌, arith}
+use Rattle.std.proofs.Common.{◌≡◌, ℕ, zero, suc, ◌+◌, ◌*◌, ◌<◌, ◌≤◌, ◌==◌, Bool, true, false, cond, List, [], ◌∷◌, ◌++◌, length, take, slice_index_or, ◌^◌, inl, inr, refl, ap, ◌∙◌, arith, mul-le-mul}
 use Rattle.std.specs.List.{AllByRecursion, slice_get, sum_by}
 use Rattle.std.proofs.lemmas.Bool.{eqb-true, eqb-false, and_parts, cases_lt}
 use Rattle.std.proofs.lemmas.List.{take_all}
@@ -7,7 +7,9 @@ use Rattle.std.proofs.lemmas.List.Sums.{sum_by_more, sum_by-le}
 use Rattle.lw_calls.specs.declared.call.Call.{Call}
 use Rattle.lw_calls.specs.Plan.{Plan, IsPlan, task_calls}
 use Rattle.lw_calls.specs.Orders.{occurrences, may_come, keeps_groups, is_complete, is_legal}
+use Rattle.lw_calls.specs.Limits.{limits_of}
 use Rattle.lw_calls.proofs.OrdersComplete.{all_below, call_there}
+use Rattle.lw_calls.proofs.LimitLaws.{calls_at_most}
 use Rattle.lw_script.specs.OrderSection.{AreTasks}
 use Rattle.lw_top.specs.Audit.{call_count}
 use Rattle.lw_top.proofs.LegalOrders.{is_of_plan}
@@ -92,11 +94,13 @@ legal_tasks plan order ok legal =
     }
 
 -- and these are few
-pub few_calls : (plan : Plan) → IsPlan plan → call_count plan ≤ plan.sizes.tasks * 4096
+pub few_calls : (plan : Plan) → IsPlan plan → call_count plan ≤ plan.sizes.tasks * 16384
 few_calls plan ok =
-    let most = sum_by-le (λ calls. length calls) 4096 plan.calls ok.few in
+    let limit = (limits_of plan.sizes.version).calls in
+    let most = sum_by-le (λ calls. length calls) limit plan.calls ok.few in
+    let each : length plan.calls * limit ≤ length plan.calls * 16384 = mul-le-mul (omega arith) (calls_at_most plan.sizes.version) in
     let lists = ok.lists in
-    omega (arith, most, lists)
+    omega (arith, most, each, lists)
 
 pub order_short : (plan : Plan) (order : List ℕ) → IsPlan plan → is_legal plan order ≡ true → length order < 2 ^ 64
 order_short plan order ok legal =

@@ -3,8 +3,8 @@ use Rattle.std.proofs.Common.{◌≡◌, ℕ, suc, ◌+◌, ◌*◌, ◌≤◌, 
 use Rattle.std.proofs.lemmas.List.{length-map}
 use Rattle.std.specs.List.{onto_first}
 use Rattle.std.proofs.lemmas.Bool.{leb-true}
-use Rattle.lw_calls.specs.declared.reason.Reason.{Reason}
-use Rattle.lw_calls.specs.declared.reason.Reason.TheVariants.{Form as FormReason}
+use Rattle.lw_grammar.specs.declared.reason.Reason.{Reason}
+use Rattle.lw_grammar.specs.declared.reason.Reason.TheVariants.{Form as FormReason}
 use Rattle.lw_grammar.specs.Demands.{◌>>=◌}
 use Rattle.lw_grammar.specs.Lines.{lines}
 use Rattle.lw_grammar.specs.Tokens.{Token, NumberToken, token_of}
@@ -43,13 +43,13 @@ few_numbers ts zs e = at_test (nat_le (length ts) numbers_limit) refl e
     at_test false d e = absurd (cc)
 
 -- where the numbers of an order are read, they are few
-few_read : (s : Setting) (above : List Statement) (ws : List (List ℕ)) (zs : List ℤ) → IsStatementHere s above (NumbersLine zs) → statement_read s.form (told above).section (told above).rows_due (told above).row_width ws ≡ Ok (NumbersLine zs) → length zs ≤ 64
+few_read : (s : Setting) (above : List Statement) (ws : List (List ℕ)) (zs : List ℤ) → IsStatementHere s above (NumbersLine zs) → statement_read s.form (told above).version (told above).section (told above).rows_due (told above).row_width ws ≡ Ok (NumbersLine zs) → length zs ≤ 64
 few_read s above ws zs h e =
-    let P : Bool → Type 0 = λ b. cond (not b) (ok_or (row_line (told above).row_width (map token_of ws)) FormReason) (cond (are_numbers_due (told above).section) (ok_or (numbers_line (map token_of ws)) FormReason) (verb_read s.form (told above).section ws)) ≡ Ok (NumbersLine zs) in
-    let Q : Bool → Type 0 = λ b. cond b (ok_or (numbers_line (map token_of ws)) FormReason) (verb_read s.form (told above).section ws) ≡ Ok (NumbersLine zs) in
+    let P : Bool → Type 0 = λ b. cond (not b) (ok_or (row_line (told above).row_width (map token_of ws)) FormReason) (cond (are_numbers_due (told above).section) (ok_or (numbers_line (map token_of ws)) FormReason) (verb_read s.form (told above).version (told above).section ws)) ≡ Ok (NumbersLine zs) in
+    let Q : Bool → Type 0 = λ b. cond b (ok_or (numbers_line (map token_of ws)) FormReason) (verb_read s.form (told above).version (told above).section ws) ≡ Ok (NumbersLine zs) in
     few_numbers (map token_of ws) zs (subst Q h.1 (subst P h.0 e))
 
-few_tested : (s : Setting) (above : List Statement) (ws : List (List ℕ)) (zs : List ℤ) → IsStatementHere s above (NumbersLine zs) → (r : Result Statement Reason) → statement_read s.form (told above).section (told above).rows_due (told above).row_width ws ≡ r → (r >>= (λ f. statement_tested s (told above) f >>= (λ _. Ok f))) ≡ Ok (NumbersLine zs) → length zs ≤ 64
+few_tested : (s : Setting) (above : List Statement) (ws : List (List ℕ)) (zs : List ℤ) → IsStatementHere s above (NumbersLine zs) → (r : Result Statement Reason) → statement_read s.form (told above).version (told above).section (told above).rows_due (told above).row_width ws ≡ r → (r >>= (λ f. statement_tested s (told above) f >>= (λ _. Ok f))) ≡ Ok (NumbersLine zs) → length zs ≤ 64
 few_tested s above ws zs h (Err q) e d = absurd (cc)
 few_tested s above ws zs h (Ok f) e d = at_test (statement_tested s (told above) f) d
   where
@@ -59,9 +59,9 @@ few_tested s above ws zs h (Ok f) e d = at_test (statement_tested s (told above)
         let same : f ≡ NumbersLine zs = cc in
         few_read s above ws zs h (e ∙ ap Ok same)
 
-few_words : (s : Setting) (above : List Statement) (zs : List ℤ) → IsStatementHere s above (NumbersLine zs) → (t : Result (List (List ℕ)) Reason) → (t >>= (λ ws. statement_read s.form (told above).section (told above).rows_due (told above).row_width ws >>= (λ f. statement_tested s (told above) f >>= (λ _. Ok f)))) ≡ Ok (NumbersLine zs) → length zs ≤ 64
+few_words : (s : Setting) (above : List Statement) (zs : List ℤ) → IsStatementHere s above (NumbersLine zs) → (t : Result (List (List ℕ)) Reason) → (t >>= (λ ws. statement_read s.form (told above).version (told above).section (told above).rows_due (told above).row_width ws >>= (λ f. statement_tested s (told above) f >>= (λ _. Ok f)))) ≡ Ok (NumbersLine zs) → length zs ≤ 64
 few_words s above zs h (Err q) e = absurd (cc)
-few_words s above zs h (Ok ws) e = few_tested s above ws zs h (statement_read s.form (told above).section (told above).rows_due (told above).row_width ws) refl e
+few_words s above zs h (Ok ws) e = few_tested s above ws zs h (statement_read s.form (told above).version (told above).section (told above).rows_due (told above).row_width ws) refl e
 
 -- an order above has at most 64 for each line
 few_above : (s : Setting) (above : List Statement) → AreGoodLines s above → length (told above).order ≤ 64 * length above

@@ -4,7 +4,7 @@ use Rattle.std.specs.Option.{option_map}
 use Rattle.std.specs.String.{string_bytes}
 use Rattle.std.specs.declared.string.String.{String}
 use Rattle.lw_region.specs.Rectangle.{within}
-use Rattle.lw_calls.specs.declared.form.Form.TheVariants.{Plain, Ordered, Audited}
+use Rattle.lw_grammar.specs.declared.form.Form.TheVariants.{Plain, Ordered, Audited}
 use Rattle.lw_canonical.specs.Canonical.{canonical_text}
 use Rattle.lw_calls.specs.Orders.{is_legal, IsBadPlace}
 use Rattle.lw_calls.specs.Written.{line_of}

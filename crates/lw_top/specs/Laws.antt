@@ -1,7 +1,7 @@
 -- What follows from the promise of a command: an input has one outcome, and each answer tells what it should of the input.
 use Rattle.std.specs.Prelude.{◌≡◌, ◌≢◌, ◌⊎◌, ℕ, ◌+◌, ◌<◌, ◌≤◌, Bool, true, false, IsTrue, List, length, Option, None, IfSome}
 use Rattle.lw_io.specs.Streams.{StreamChange, NoneLeft, TakesJust, TakesAtMost, Took, Wrote, HasFailed}
-use Rattle.lw_calls.specs.declared.reason.Reason.{Reason}
+use Rattle.lw_grammar.specs.declared.reason.Reason.{Reason}
 use Rattle.lw_calls.specs.Orders.{is_legal}
 use Rattle.lw_grammar.specs.Script.{ScriptInput, SpellsInput}
 use Rattle.lw_machine.specs.Hook.{Hook}

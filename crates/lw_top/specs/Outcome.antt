@@ -1,7 +1,7 @@
 -- The outcome of a command on an input, and what a command promises by it.
 use Rattle.std.specs.Prelude.{◌≡◌, ◌≢◌, ◌⊎◌, ℕ, ◌+◌, ◌<◌, ◌≤◌, List, length}
 use Rattle.lw_io.specs.Streams.{StreamChange, NoneLeft, TakesAtMost, Took, HasFailed}
-use Rattle.lw_calls.specs.declared.reason.Reason.{Reason}
+use Rattle.lw_grammar.specs.declared.reason.Reason.{Reason}
 use Rattle.lw_grammar.specs.Lines.{lines}
 use Rattle.lw_grammar.specs.Script.{ScriptInput, SpellsInput, IsFirstBadIn}
 use Rattle.lw_machine.specs.Hook.{Hook}

@@ -1,8 +1,8 @@
 -- What the program's call answers, and what it writes for it.
 use Rattle.std.specs.Prelude.{◌≡◌, ℕ, ◌⊎◌, List, [], ◌∷◌, ◌++◌, codes}
 use Rattle.lw_io.specs.Streams.{StreamChange, Wrote, WritesPrefix, HasFailed}
-use Rattle.lw_calls.specs.declared.reason.Reason.{Reason}
-use Rattle.lw_calls.specs.declared.reason.Reason.TheVariants.{LineTooLong, BadByte, Spacing, Quote, UnknownWord, Misplaced, Form, Range, NoName, DoubleName, Group, TooMany, NoHook, HookUsed, Padding, Missing}
+use Rattle.lw_grammar.specs.declared.reason.Reason.{Reason}
+use Rattle.lw_grammar.specs.declared.reason.Reason.TheVariants.{LineTooLong, BadByte, Spacing, Quote, UnknownWord, Misplaced, Form, Range, NoName, DoubleName, Group, TooMany, NoHook, HookUsed, Padding, Missing}
 use Rattle.lw_calls.specs.Written.{line_of, spaced}
 use Rattle.lw_top.specs.declared.status.Status.{Status}
 use Rattle.lw_top.specs.declared.status.Status.TheVariants.{Done, Refused, Usage, ReadFault, WriteFault, NoMemory, TooLong, Differs, BadOrder}

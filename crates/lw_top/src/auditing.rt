@@ -14,7 +14,8 @@ use crate::report::report_of;
 use crate::status::Status;
 use crate::words::ScriptCommand;
 use lw_backfill::Backfill;
-use lw_calls::{Form, OrderList, Plan, bad_place};
+use lw_calls::{OrderList, Plan, bad_place};
+use lw_grammar::Form;
 use lw_script::{OrderStop, ScriptStop, first_difference, read, read_order};
 use std::alloc::{AllocError, Global};
 

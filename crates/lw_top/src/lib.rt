@@ -19,7 +19,7 @@ pub use laws::{
     reports_tell_their_order, texts_tell_damage_by_history,
 };
 pub use lw_backfill::Backfill;
-pub use lw_calls::Reason;
+pub use lw_grammar::Reason;
 pub use lw_io::{Failed, Sink, Source};
 pub use lw_locks::{Gate, OpenGate, Spot};
 pub use serving::{audit, check, replay_cmd};

@@ -1,7 +1,7 @@
 ghost use Rattle.std.specs.Prelude.{◌≡◌};
 ghost use Rattle.lw_top.specs.Status.{number_of};
 
-use lw_calls::Reason;
+use lw_grammar::Reason;
 
 /// What a call of the program answers.
 #[derive(Clone, Copy, Debug, PartialEq, Eq)]

@@ -2,7 +2,7 @@ use Rattle.std.proofs.Common.{◌≡◌, ℕ, List, length, map, Err, ap, subst,
 use Rattle.std.proofs.lemmas.Result.{IfOk-weaker}
 use Rattle.std.proofs.lemmas.List.{length-map}
 use Rattle.lw_machine.specs.Hook.{Hook}
-use Rattle.lw_calls.specs.declared.form.Form.TheVariants.{Ordered}
+use Rattle.lw_grammar.specs.declared.form.Form.TheVariants.{Ordered}
 use Rattle.lw_grammar.specs.Lines.{lines}
 use Rattle.lw_grammar.specs.Script.{SpellsInput, IsFirstBadIn, reading_with}
 use Rattle.lw_script.specs.Answers.{input_meaning}
