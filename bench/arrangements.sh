@@ -10,12 +10,7 @@
 set -eu
 
 bench=$(cd "$(dirname "$0")" && pwd)
-if [ $# -gt 0 ]; then
-    program=$1
-else
-    "$bench/../build" >&2
-    program=$bench/../out/layers
-fi
+. "$bench/program.sh"
 work=$(mktemp -d)
 trap 'rm -rf "$work"' EXIT
 

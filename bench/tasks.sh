@@ -25,12 +25,7 @@ fail() {
     exit 1
 }
 
-if [ $# -gt 0 ]; then
-    program=$1
-else
-    "$bench/../build" >&2
-    program=$bench/../out/layers
-fi
+. "$bench/program.sh"
 [ -x "$program" ] || fail "$program isn't there"
 
 # A script: number of tasks, kind of calls (fills or fronts), calls of each task.

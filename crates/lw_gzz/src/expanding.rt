@@ -79,6 +79,25 @@ fn both(alloc: Global, first: Call, second: Call) -> Result<Vec<Call>, AllocErro
     Ok(vec![in alloc; first, second]?)
 }
 
+/// Opens both windows of a pair and puts the inner one directly in front of the outer one.
+fn opening(
+    alloc: Global,
+    pair: &Pair,
+    frame: Make,
+    inside: Make,
+    asks: u8,
+    title: &Text,
+) -> Result<Vec<Call>, AllocError>
+    ensures { IfOk result (λ calls. calls.items ≡
+        OpenWindow pair.now.outer frame true false asks title.now ∷ OpenWindow pair.now.inner inside false false asks []
+        ∷ InFrontOf pair.now.inner pair.now.outer ∷ []) }
+{
+    let first = window(pair.outer, frame, true, asks, copied(alloc, title)?);
+    let second = window(pair.inner, inside, false, asks, Text::new(Vec::new(alloc)));
+    let third = put_in_front(pair.inner, pair.outer);
+    Ok(vec![in alloc; first, second, third]?)
+}
+
 /// The calls that stand for what is done with a pair, in their order; they are a group that holds all layers. The inner window's
 /// kind is simple or smart, and the place and the size of the inner rectangle are such as an `i32` has. This project's own.
 pub fn expand(alloc: Global, pair: &Pair, word: &GzzWord) -> Result<Vec<Call>, AllocError>
@@ -101,15 +120,11 @@ pub fn expand(alloc: Global, pair: &Pair, word: &GzzWord) -> Result<Vec<Call>, A
         } => {
             let frame = plain_make(Kind::Smart, *place, *x, *y, *w, *h);
             let inside = inner_make(*kind, *place, *x, *y, *w, *h);
-            let first = window(outer, frame, true, *asks, copied(alloc, title)?);
-            let second = window(inner, inside, false, *asks, Text::new(Vec::new(alloc)));
-            let third = put_in_front(inner, outer);
-            Ok(vec![in alloc; first, second, third]?)
+            opening(alloc, pair, frame, inside, *asks, title)
         }
         GzzWord::SetBox { x, y, w, h } => {
             let first = set_box(outer, *x, *y, *w, *h);
-            let second = set_inner_box(inner, *x, *y, *w, *h);
-            both(alloc, first, second)
+            both(alloc, first, set_inner_box(inner, *x, *y, *w, *h))
         }
         GzzWord::Front => {
             let first = Call::ToFront { slot: outer };
@@ -122,14 +137,12 @@ pub fn expand(alloc: Global, pair: &Pair, word: &GzzWord) -> Result<Vec<Call>, A
             both(alloc, first, second)
         }
         GzzWord::InFrontOf { other } => {
-            let place = put_in_front(outer, *other);
-            let join = put_in_front(inner, outer);
-            both(alloc, place, join)
+            let first = put_in_front(outer, *other);
+            both(alloc, first, put_in_front(inner, outer))
         }
         GzzWord::Close => {
             let first = Call::Close { slot: outer };
-            let second = Call::Close { slot: inner };
-            both(alloc, first, second)
+            both(alloc, first, Call::Close { slot: inner })
         }
     }
 }
