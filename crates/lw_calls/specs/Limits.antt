@@ -67,7 +67,8 @@ abbrev pub hook_fits : ℕ → Option ℕ → Bool
 hook_fits hooks None = true
 hook_fits hooks (Some n) = nat_lt n hooks
 
--- A super-bitmap layer has a bitmap of 1 to 2048 by 1 to 2048 pixels and no hook; no other layer has a bitmap of its own.
+-- A super-bitmap layer has a bitmap of 1 to 2048 by 1 to 2048 pixels, and no hook as it is created; no other layer has a bitmap
+-- of its own.
 abbrev pub kind_fits : Kind → Option ℕ → ℕ → ℕ → Bool
 kind_fits SuperBitmap None w h = (nat_le 1 w && nat_le w 2048) && (nat_le 1 h && nat_le h 2048)
 kind_fits SuperBitmap (Some n) w h = false

@@ -58,7 +58,7 @@ pub enum Call {
         slot: u32,
         other: u32,
     },
-    /// Moves a layer on the screen (MoveLayer, MoveWindow).
+    /// Moves a layer, from version 2 on also off the screen (MoveLayer, MoveWindow).
     MoveBy {
         slot: u32,
         dx: i32,
@@ -70,7 +70,8 @@ pub enum Call {
         dw: i32,
         dh: i32,
     },
-    /// Gives a layer a place on the screen and a size, 1 to 32767 each way (MoveSizeLayer, ChangeWindowBox).
+    /// Gives a layer a place in screen coordinates, from version 2 on also off the screen, and a size, 1 to 32767 each way
+    /// (MoveSizeLayer, ChangeWindowBox).
     SetBox {
         slot: u32,
         x: i32,
@@ -84,7 +85,7 @@ pub enum Call {
     },
 
     /// Takes a hook from the shelf for a layer, whose former hook is dropped (InstallLayerHook); from version 2 on. The hook is
-    /// one of those handed in, by its number.
+    /// one of those handed in, by its number; where it was taken before, the layer has no hook afterwards.
     SetHook {
         slot: u32,
         hook: u32,

@@ -12,7 +12,7 @@ pub struct Limits {
     pub calls: u32,
 }
 
-/// The limits of the versions 1, 2 and 3.
+/// The limits of the version, 1, 2 or 3.
 pub fn limits_of(version: u32) -> Limits
     ensures { result ≡ limits_of version }
 {

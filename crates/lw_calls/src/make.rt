@@ -31,7 +31,7 @@ pub struct Make {
     pub h: i32,
     /// Whether the layer stays behind all that are no backdrop layers (LAYERBACKDROP).
     pub backdrop: bool,
-    /// The number of the hook that fills what is uncovered; a super-bitmap layer has none.
+    /// The number of the hook that fills what is uncovered; a super-bitmap layer is created without one.
     pub hook: Option<u32>,
     /// The width of a super-bitmap layer's own bitmap, 1 to 2048, and 0 for the other kinds.
     pub bits_w: u32,

@@ -15,8 +15,9 @@ use lw_region::Rect;
 /// The sizes of a screen, and how many of each a plan has.
 #[derive(Clone, Copy, Debug, PartialEq, Eq)]
 pub struct Sizes {
-    /// The version: 1 or 2, as a script says, or 3, which no script says and which is for programs. What goes by it is told in
-    /// `Limits` and at the calls.
+    /// The version: 1 or 2, as a script says, or 3, which no script says and which is for programs. By it go the limits
+    /// (`limits_of`), whether `SetHook` stands, whether layers may lie off the screen, and whether a closed slot may be opened
+    /// again (`may_open`).
     pub version: u32,
     /// The screen's columns, from 1 to the version's limit.
     pub width: u32,

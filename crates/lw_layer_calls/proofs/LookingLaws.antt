@@ -9,7 +9,9 @@ use Rattle.lw_stack.specs.Stack.{Stack, top_in, StandsForInfo}
 use Rattle.lw_stack.proofs.ListLaws.{list_law}
 
 -- the layer that is found at a place, which the code tells by equal numbers
-pub which_reply : (v : Stack) (r : Reply) (top : Option ℕ) (x y told_x told_y : ℤ) → told_x ≡ x → told_y ≡ y → top ≡ top_in v told_x told_y → r ≡ found top → (d : Desk) (task : ℕ) → d.sizes ≡ v.sizes → StandsForInfo v (info_part d) → r ≡ reply d task (Which x y)
+pub which_reply : (v : Stack) (r : Reply) (top : Option ℕ) (x y told_x told_y : ℤ) → told_x ≡ x → told_y ≡ y
+    → top ≡ top_in v told_x told_y → r ≡ found top
+    → (d : Desk) (task : ℕ) → d.sizes ≡ v.sizes → StandsForInfo v (info_part d) → r ≡ reply d task (Which x y)
 unfolding reply
 which_reply v r top x y told_x told_y same_x same_y finds answers =
     λ d task same stands.

@@ -8,7 +8,8 @@ use Rattle.lw_region.specs.Pixels.{Pixel, pixels_of}
 use Rattle.lw_planes.specs.Bitmap.{pen_at}
 use Rattle.lw_calls.specs.Assets.{Assets}
 use Rattle.lw_calls.specs.declared.call.Call.{Call}
-use Rattle.lw_calls.specs.declared.call.Call.TheVariants.{Create, OpenWindow, Close, ToFront, ToBack, InFrontOf, MoveBy, SizeBy, SetBox, Activate, SetHook}
+use Rattle.lw_calls.specs.declared.call.Call.TheVariants.{Create, OpenWindow, Close, ToFront, ToBack, InFrontOf, MoveBy, SizeBy}
+use Rattle.lw_calls.specs.declared.call.Call.TheVariants.{SetBox, Activate, SetHook}
 use Rattle.lw_calls.specs.declared.call.Call.TheVariants.{SetA, SetB, SetMode, SetMask, At, WritePixel, ReadPixel, Letters, Clip, Unclip, Scroll}
 use Rattle.lw_calls.specs.declared.reply.Reply.{Reply}
 use Rattle.lw_calls.specs.declared.reply.Reply.TheVariants.{Done, Pen, Outside, NotOpen, NotSuper, InUpdate, OutOfBounds}
@@ -24,7 +25,9 @@ use Rattle.lw_machine.specs.Screen.{top, is_shown}
 use Rattle.lw_machine.specs.Kept.{visible_within, screen_place, is_visible, is_kept, is_drawable, holds_at}
 use Rattle.lw_machine.specs.Shapes.{write_pixel, draw_text, with_cursor}
 use Rattle.lw_machine.specs.Parts.{SlotPart, slot_part}
-use Rattle.lw_machine.specs.Step.{refuse, must_be_open, refuse_unless_open, further_refusal, refusal, on_layer, with_pen_a, with_pen_b, with_mode, with_mask, drawn_on, effect, from_layer, clip_answer, may_scroll, scroll_layer, answer, changed_unless, reply_or, after, reply}
+use Rattle.lw_machine.specs.Step.{refuse, must_be_open, refuse_unless_open, further_refusal, refusal, on_layer, with_pen_a}
+use Rattle.lw_machine.specs.Step.{with_pen_b, with_mode, with_mask, drawn_on, effect, from_layer, clip_answer, may_scroll}
+use Rattle.lw_machine.specs.Step.{scroll_layer, answer, changed_unless, reply_or, after, reply}
 use Rattle.lw_layer.specs.View.{State, LiveView, CellView, shows, keeps, draws, kept_pen, with_layer, with_live}
 use Rattle.lw_layer.specs.View as view
 use Rattle.lw_layer.specs.StandsFor.{IsLivePart, IsPartOf, StandsFor}
@@ -66,8 +69,10 @@ open_slots (SetHook slot hook) k class part = absurd (part (sym class))
 open_slots call k class part = ap slots_in class
 
 -- and where one of them isn't open, the call is refused
-pub class_refusal : (d : Desk) (task : ℕ) (call : Call) (k : CallClass) → class_of call ≡ k → (k ≡ OnAll → ⊥) → refusal d task call ≡ refuse_unless_open d (slots_in k) (further_refusal d task call)
-class_refusal d task call k class part = ap (λ (s : Slots). refuse_unless_open d s (further_refusal d task call)) (open_slots call k class part)
+pub class_refusal : (d : Desk) (task : ℕ) (call : Call) (k : CallClass) → class_of call ≡ k → (k ≡ OnAll → ⊥)
+    → refusal d task call ≡ refuse_unless_open d (slots_in k) (further_refusal d task call)
+class_refusal d task call k class part =
+    ap (λ (s : Slots). refuse_unless_open d s (further_refusal d task call)) (open_slots call k class part)
 
 -- a call on a slot without a layer
 pub not_open : (task : ℕ) (c : CellView) (regs : List (List Rectangle)) (assets : Assets) (call : Call) → class_of call ≡ OnLayer c.number → (c.state ≡ view.Live → ⊥) → IsLayerStep task c regs assets call NotOpen c

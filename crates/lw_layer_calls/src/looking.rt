@@ -14,7 +14,8 @@ use lw_stack::Info;
 /// with this LayerInfo and its sizes.
 pub fn on_info(info: &Info, call: &Call) -> Reply
     requires class { class_of call.now ≡ OnInfo }
-    ensures { (d : Desk) (task : ℕ) → d.sizes ≡ info.now.sizes → StandsForInfo info.now (info_part d) → result ≡ reply d task call.now }
+    ensures { (d : Desk) (task : ℕ) → d.sizes ≡ info.now.sizes → StandsForInfo info.now (info_part d)
+        → result ≡ reply d task call.now }
 {
     match *call {
         Call::Which { x, y } => which(info, x, y),
@@ -25,7 +26,8 @@ pub fn on_info(info: &Info, call: &Call) -> Reply
 
 // The layer that is on top of a place.
 fn which(info: &Info, x: i32, y: i32) -> Reply
-    ensures { (d : Desk) (task : ℕ) → d.sizes ≡ info.now.sizes → StandsForInfo info.now (info_part d) → result ≡ reply d task (Which x y) }
+    ensures { (d : Desk) (task : ℕ) → d.sizes ≡ info.now.sizes → StandsForInfo info.now (info_part d)
+        → result ≡ reply d task (Which x y) }
 {
     answer(info.which(x, y))
 }

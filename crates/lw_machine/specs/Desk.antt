@@ -9,8 +9,8 @@ use Rattle.lw_machine.specs.Hook.{Hook}
 use Rattle.lw_machine.specs.Layer.{Slot, Unopened}
 
 -- The sizes and what the script handed in; what LayerInfo keeps (the manual's Layer_Info; the active window and the shelf are
--- this project's own), which is the slots of the live layers from front to back, each one's bounds on the screen, the active
--- window, and the shelf of hooks that no call took; the slots; and by task and register the sets of pixels of the region
+-- this project's own), which is the slots of the live layers from front to back, each one's bounds in screen coordinates, the
+-- active window, and the shelf of hooks that no call took; the slots; and by task and register the sets of pixels of the region
 -- registers.
 pub record Desk : Type 0 where
   pub sizes : Sizes

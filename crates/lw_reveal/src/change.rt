@@ -26,7 +26,7 @@ use std::alloc::{AllocError, Global};
 /// What a live layer is to become once its bounds, or what is visible of it, are others.
 #[derive(Debug, Drop)]
 pub struct Change {
-    /// The new bounds on the screen.
+    /// The new bounds, in screen coordinates.
     pub bounds: Rect,
     /// The new bounds, cut into visible and hidden rectangles.
     pub parts: Parts,
@@ -42,7 +42,7 @@ pub struct Change {
     pub handed: Vec<Option<usize>>,
 }
 
-/// Makes ready what the live layer becomes once it has these bounds and these visible pixels, both in pixels of the screen. The
+/// Makes ready what the live layer becomes once it has these bounds and these visible pixels, both in screen coordinates. The
 /// layer stays as it is. It fails only when out of memory.
 pub fn prepare(
     alloc: Global,
