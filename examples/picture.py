@@ -37,14 +37,24 @@ def chunk(kind, data):
     return struct.pack(">I", len(data)) + kind + data + struct.pack(">I", zlib.crc32(kind + data))
 
 
-def png(pens, scale):
-    """A PNG file of the pens."""
+def header(pens, scale):
+    """The first bytes of a PNG file for pictures of this size."""
+    size = struct.pack(">IIBBBBB", len(pens[0]) * scale, len(pens) * scale, 8, 2, 0, 0, 0)
+    return b"\x89PNG\r\n\x1a\n" + chunk(b"IHDR", size)
+
+
+def packed(pens, scale):
+    """The rows of a picture of the pens, as a PNG file has them."""
     rows = b""
     for line in pens:
         row = b"\0" + b"".join(colour(pen) * scale for pen in line)
         rows += row * scale
-    size = struct.pack(">IIBBBBB", len(pens[0]) * scale, len(pens) * scale, 8, 2, 0, 0, 0)
-    return b"\x89PNG\r\n\x1a\n" + chunk(b"IHDR", size) + chunk(b"IDAT", zlib.compress(rows, 9)) + chunk(b"IEND", b"")
+    return zlib.compress(rows, 9)
+
+
+def png(pens, scale):
+    """A PNG file of the pens."""
+    return header(pens, scale) + chunk(b"IDAT", packed(pens, scale)) + chunk(b"IEND", b"")
 
 
 def main():
@@ -56,4 +66,5 @@ def main():
     sys.stdout.buffer.write(png(pens, max(scale, 1)))
 
 
-main()
+if __name__ == "__main__":
+    main()
