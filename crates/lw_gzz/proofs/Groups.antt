@@ -1,154 +1,250 @@
--- The groups of a pair leave its two windows together.
-use Rattle.std.proofs.Common.{◌≡◌, ℕ, ◌+◌, ◌<◌, ◌==◌, Bool, true, false, not, List, [], ◌∷◌, ℤ, Option, Some, None, refl, sym, ap}
-use Rattle.std.proofs.Common.{subst, ◌∙◌, arith}
-use Rattle.std.specs.Prelude.{if◌then◌else◌}
-use Rattle.std.proofs.lemmas.Bool.{eq-eqb, false≢true}
+-- The groups of a pair leave it paired, and any other pair.
+use Rattle.std.proofs.Common.{◌≡◌, ℕ, ◌==◌, Bool, true, false, not, List, [], ℤ, pos, ◌+ℤ◌, ◌-ℤ◌, Some, None, refl, sym, ap}
+use Rattle.std.proofs.Common.{subst, ◌∙◌, inl, inr, option_and_then}
+use Rattle.std.specs.Prelude.{◌||◌, if◌then◌else◌}
+use Rattle.std.proofs.lemmas.Bool.{eq-eqb, not-true, or_from, or_parts}
+use Rattle.lw_region.specs.Rectangle.{Rectangle}
+use Rattle.lw_calls.specs.declared.make.Kind.{Kind}
+use Rattle.lw_calls.specs.declared.make.Kind.TheVariants.{Smart}
+use Rattle.lw_calls.specs.declared.make.Place.{Place}
+use Rattle.lw_calls.specs.declared.make.Make.{Make}
 use Rattle.lw_calls.specs.declared.pair.Pair.{Pair}
 use Rattle.lw_calls.specs.declared.call.Call.{Call}
-use Rattle.lw_calls.specs.declared.call.Call.TheVariants.{ToFront, ToBack, InFrontOf as PutInFront, SetBox as BoxCall}
-use Rattle.lw_calls.specs.declared.reply.Reply.{Reply}
-use Rattle.lw_calls.specs.declared.reply.Reply.TheVariants.{NotOpen, Backdrop}
-use Rattle.lw_calls.specs.Orders.{occurrences}
-use Rattle.lw_machine.specs.Layer.{is_live, layer_is}
+use Rattle.lw_calls.specs.declared.call.Call.TheVariants.{OpenWindow, InFrontOf as PutInFront, SetBox as BoxCall}
+use Rattle.lw_calls.specs.declared.reply.Reply.TheVariants.{NotOpen, AlreadyOpen, Backdrop, OutOfBounds}
+use Rattle.lw_calls.specs.Limits.{may_leave_screen}
+use Rattle.lw_calls.specs.Kinds.{is_super}
+use Rattle.lw_machine.specs.Layer.{may_open, is_live, layer_is}
 use Rattle.lw_machine.specs.Desk.{Desk}
-use Rattle.lw_machine.specs.Arrangement.{without, put_before, has_backdrop}
-use Rattle.lw_machine.specs.Reveal.{settled}
-use Rattle.lw_machine.specs.Step.{refusal, effect, after}
+use Rattle.lw_machine.specs.Shapes.{box_at}
+use Rattle.lw_machine.specs.Arrangement.{bounds_of, may_have_bounds, layer_may_have_bounds, has_backdrop}
+use Rattle.lw_machine.specs.Step.{refusal, effect, may_change_bounds, after}
 use Rattle.lw_machine.proofs.ArrangedStep.{after_is}
-use Rattle.lw_machine.proofs.ListSound.{occurrences_put_before, occurrences_without_other, put_before_same}
-use Rattle.lw_machine.proofs.Untouched.{differ_back, if_in_front}
+use Rattle.lw_machine.proofs.ReachedSound.{after_sizes}
+use Rattle.lw_machine.proofs.Untouched.{differ_back}
 use Rattle.lw_gzz.specs.declared.word.GzzWord.{GzzWord}
 use Rattle.lw_gzz.specs.declared.word.GzzWord.TheVariants.{Open, SetBox, Front, Behind, InFrontOf, Close}
-use Rattle.lw_gzz.specs.Together.{StandsBefore, AreOpen, GroupsKeepPairsTogether}
-use Rattle.lw_gzz.proofs.Lists.{outer_listed, brought, both_front, both_behind}
-use Rattle.lw_gzz.proofs.Order.{unless}
-use Rattle.lw_gzz.proofs.Settled.{backdrop_stable, live_stable, moves, after_same}
+use Rattle.lw_gzz.specs.Words.{plain_make, expansion, has_kind}
+use Rattle.lw_gzz.specs.Together.{StandsBefore, AreTogether, IsPaired, IsPairBox, HasPairBox, puts_before, AreDisjoint, is_of}
+use Rattle.lw_gzz.specs.Together.{after_all, inner_rectangle, GroupsKeepPairsTogether}
+use Rattle.lw_gzz.proofs.Lists.{outer_listed}
+use Rattle.lw_gzz.proofs.Order.{disturbs, unless}
+use Rattle.lw_gzz.proofs.Lasting.{Lasts, test_stable, live_stable, remakes, after_lasts}
+use Rattle.lw_gzz.proofs.Pairs.{mates_last, alters, not_remade, bounds_stay, kept}
+use Rattle.lw_gzz.proofs.Closing.{refused_left, closed}
+use Rattle.lw_gzz.proofs.Boxes.{outer_slot, inner_slot, inner_is}
+use Rattle.lw_gzz.proofs.Joining.{AreOpen, joined_order, front_order, behind_order, put_order}
+use Rattle.lw_gzz.proofs.Opening.{opened}
 
--- the windows are open after a call that moves one
-pub still_open : (d : Desk) (task : ℕ) (call : Call) (p : Pair) → moves call ≡ true → AreOpen d p → AreOpen (after d task call) p
-still_open d task call p is h =
+-- what lasts of a slot over two calls
+last_two : (d : Desk) (task : ℕ) (first second : Call) (s : ℕ) → remakes s first ≡ false → remakes s second ≡ false
+    → Lasts (d.slot s) ((after (after d task first) task second).slot s)
+last_two d task first second s once again f stable =
+    after_lasts (after d task first) task second s again f stable ∙ after_lasts d task first s once f stable
+
+-- a live pair's windows are open
+open_of : (d : Desk) (p : Pair) → (p.inner == p.outer) ≡ false → IsPaired d p → is_live (d.slot p.outer) ≡ true → AreOpen d p
+open_of d p differ h live =
     record {
-      differ = h.differ;
-      outer_live = after_same is_live live_stable d task call p.outer is ∙ h.outer_live;
-      inner_live = after_same is_live live_stable d task call p.inner is ∙ h.inner_live;
-      outer_plain = after_same (layer_is (λ l. l.backdrop)) backdrop_stable d task call p.outer is ∙ h.outer_plain;
-      inner_plain = after_same (layer_is (λ l. l.backdrop)) backdrop_stable d task call p.inner is ∙ h.inner_plain;
+      differ = differ;
+      outer_live = live;
+      inner_live = h.mates.lives ∙ live;
+      outer_plain = h.mates.outer_plain;
+      inner_plain = h.mates.inner_plain;
     }
 
--- a live layer that is no backdrop may be put in front of all others, and behind them
-may_move : (live plain : Bool) → live ≡ true → plain ≡ false
-    → (if not live then Some NotOpen else (if plain then Some Backdrop else None)) ≡ None
-may_move live plain is other = λ i. if not (is i) then Some NotOpen else (if other i then Some Backdrop else None)
+-- two calls that change no bounds leave a pair paired where they leave its order
+put_elsewhere : (d : Desk) (task : ℕ) (p : Pair) (first second : Call)
+    → ((s : ℕ) → (alters s first ≡ false) × (alters s second ≡ false))
+    → (is_live (d.slot p.outer) ≡ true → AreTogether d p
+    → StandsBefore p.inner p.outer (after (after d task first) task second).front_to_back)
+    → IsPaired d p → IsPaired (after (after d task first) task second) p
+put_elsewhere d task p first second spared order h =
+    let lasts : (s : ℕ) → Lasts (d.slot s) ((after (after d task first) task second).slot s) =
+    λ s. last_two d task first second s (not_remade s first (spared s).0) (not_remade s second (spared s).1) in
+    let stay : (s : ℕ) → (after (after d task first) task second).bounds s ≡ d.bounds s =
+    λ s. bounds_stay (after d task first) task second s (spared s).1 ∙ bounds_stay d task first s (spared s).0 in
+    record {
+      mates = mates_last _ _ _ _ h.mates (lasts p.outer) (lasts p.inner);
+      together = λ live. let was : is_live (d.slot p.outer) ≡ true = sym (lasts p.outer is_live live_stable) ∙ live in
+          let t = h.together was in
+          record {
+            bounds = t.bounds;
+            outer_bounds = stay p.outer ∙ t.outer_bounds;
+            inner_bounds = stay p.inner ∙ t.inner_bounds;
+            order = order was t;
+          };
+    }
 
-list_front : (d : Desk) (task s : ℕ) → is_live (d.slot s) ≡ true → has_backdrop d s ≡ false
-    → (after d task (ToFront s)).front_to_back ≡ s ∷ without s d.front_to_back
-list_front d task s live plain =
-    ap (λ a. a.front_to_back) (after_is d task (ToFront s) refl (may_move (is_live (d.slot s)) (has_backdrop d s) live plain))
+-- the inner window put in front of the outer one again
+rejoined : (d : Desk) (task : ℕ) (p : Pair) → (p.inner == p.outer) ≡ false → IsPaired d p
+    → IsPaired (after d task (PutInFront p.inner p.outer)) p
+rejoined d task p differ h =
+    let outer : Lasts (d.slot p.outer) ((after d task (PutInFront p.inner p.outer)).slot p.outer) =
+    after_lasts d task (PutInFront p.inner p.outer) p.outer refl in
+    record {
+      mates = mates_last _ _ _ _ h.mates outer (after_lasts d task (PutInFront p.inner p.outer) p.inner refl);
+      together = λ live. let was : is_live (d.slot p.outer) ≡ true = sym (outer is_live live_stable) ∙ live in
+          let t = h.together was in
+          record {
+            bounds = t.bounds;
+            outer_bounds = bounds_stay d task (PutInFront p.inner p.outer) p.outer refl ∙ t.outer_bounds;
+            inner_bounds = bounds_stay d task (PutInFront p.inner p.outer) p.inner refl ∙ t.inner_bounds;
+            order = joined_order d task p (open_of d p differ h was) (outer_listed p.inner p.outer d.front_to_back t.order);
+          };
+    }
 
-list_behind : (d : Desk) (task s : ℕ) → is_live (d.slot s) ≡ true → has_backdrop d s ≡ false
-    → (after d task (ToBack s)).front_to_back ≡ put_before (has_backdrop d) s (without s d.front_to_back)
-list_behind d task s live plain =
-    ap (λ a. a.front_to_back) (after_is d task (ToBack s) refl (may_move (is_live (d.slot s)) (has_backdrop d s) live plain))
+-- a box that is given to a live layer that may have it
+may_have_box : (d : Desk) (task s : ℕ) (x y w h : ℤ) (r : Rectangle) → is_live (d.slot s) ≡ true → has_backdrop d s ≡ false
+    → layer_is (λ l. layer_may_have_bounds d.sizes l (box_at x y w h)) (d.slot s) ≡ true → d.bounds s ≡ Some r
+    → refusal d task (BoxCall s x y w h) ≡ None
+may_have_box d task s x y w h r live plain may bounds =
+    let allowed : may_change_bounds d s (λ r. box_at x y w h) (d.bounds s) ≡ true =
+    ap (may_change_bounds d s (λ r. box_at x y w h)) bounds ∙ may in
+    λ i. if not (live i) then Some NotOpen
+    else (if plain i then Some Backdrop else (if not (allowed i) then Some OutOfBounds else None))
 
--- the inner window may be put in front of the outer one
-pub may_join : (d : Desk) (task : ℕ) (p : Pair) → AreOpen d p → refusal d task (PutInFront p.inner p.outer) ≡ None
-may_join d task p h =
-    λ i. if not (h.inner_live i) then Some NotOpen
-    else (if not (h.outer_live i) then Some NotOpen
-    else (if h.inner_plain i then Some Backdrop else (if h.outer_plain i then Some Backdrop else None)))
-
-pub list_joined : (d : Desk) (task : ℕ) (p : Pair) → AreOpen d p
-    → (after d task (PutInFront p.inner p.outer)).front_to_back
-    ≡ put_before (λ t. t == p.outer) p.inner (without p.inner d.front_to_back)
-list_joined d task p h =
-    ap (λ a. a.front_to_back) (after_is d task (PutInFront p.inner p.outer) refl (may_join d task p h)) ∙
-    ap (λ t. (settled d (if t then d
-    else record d { front_to_back = put_before (λ t. t == p.outer) p.inner (without p.inner d.front_to_back) })).front_to_back)
-    h.differ
-
--- the outer slot is listed after it was put in front of another one, or wasn't
-listed_put : (d : Desk) (o m : ℕ) → 0 < occurrences o (put_before (λ t. t == m) o (without o d.front_to_back))
-listed_put d o m =
-    subst (λ n. 0 < n) (sym (occurrences_put_before (λ t. t == m) o o (without o d.front_to_back))) (step (o == o) (eq-eqb o o refl))
-  where
-    step : (b : Bool) → b ≡ true → 0 < (if b then 1 else 0) + occurrences o (without o d.front_to_back)
-    step true is = omega arith
-    step false is = absurd (false≢true is)
-
-still_listed : (d : Desk) (task o m : ℕ) → 0 < occurrences o d.front_to_back
-    → 0 < occurrences o (after d task (PutInFront o m)).front_to_back
-unfolding after
-still_listed d task o m has =
-    unless (λ a. 0 < occurrences o a.front_to_back) (refusal d task (PutInFront o m)) d (effect d task (PutInFront o m)) has
-    (if_in_front (λ a. 0 < occurrences o a.front_to_back) d (put_before (λ t. t == m) o (without o d.front_to_back)) (o == m) has
-    (listed_put d o m))
-
--- and it is listed where the inner one is taken out
-pub still_without : (o i : ℕ) (slots : List ℕ) → (i == o) ≡ false → 0 < occurrences o slots → 0 < occurrences o (without i slots)
-still_without o i slots differ has =
-    let same : occurrences o (without i slots) ≡ occurrences o slots = occurrences_without_other i o slots differ in
-    omega (arith, same, has)
+given_box : (d : Desk) (task s : ℕ) (x y w h : ℤ) (r : Rectangle) → refusal d task (BoxCall s x y w h) ≡ None
+    → d.bounds s ≡ Some r → (after d task (BoxCall s x y w h)).bounds s ≡ Some (box_at x y w h)
+given_box d task s x y w h r allowed bounds =
+    ap (λ a. a.bounds s) (after_is d task (BoxCall s x y w h) refl allowed) ∙
+    (ap (λ b. if b then option_and_then (λ r. Some (box_at x y w h)) (d.bounds s) else d.bounds s) (eq-eqb s s refl) ∙
+    ap (option_and_then (λ r. Some (box_at x y w h))) bounds)
 
 -- a call that gives a box leaves the list
-boxed : (d : Desk) (task s : ℕ) (x y w h : ℤ) (p : Pair) → StandsBefore p.inner p.outer d.front_to_back
+list_boxed : (d : Desk) (task s : ℕ) (x y w h : ℤ) (p : Pair) → StandsBefore p.inner p.outer d.front_to_back
     → StandsBefore p.inner p.outer (after d task (BoxCall s x y w h)).front_to_back
 unfolding after
-boxed d task s x y w h p order =
+list_boxed d task s x y w h p order =
     unless (λ a. StandsBefore p.inner p.outer a.front_to_back) (refusal d task (BoxCall s x y w h)) d
     (effect d task (BoxCall s x y w h)) order order
 
--- the order of the pair after each group
-front_order : (d : Desk) (task : ℕ) (p : Pair) → AreOpen d p
-    → StandsBefore p.inner p.outer (after (after d task (ToFront p.outer)) task (ToFront p.inner)).front_to_back
-front_order d task p h =
-    let e : Desk = after d task (ToFront p.outer) in
-    let open_e : AreOpen e p = still_open d task (ToFront p.outer) p refl h in
-    let first : e.front_to_back ≡ p.outer ∷ without p.outer d.front_to_back = list_front d task p.outer h.outer_live h.outer_plain in
-    let second : (after e task (ToFront p.inner)).front_to_back ≡ p.inner ∷ without p.inner e.front_to_back =
-    list_front e task p.inner open_e.inner_live open_e.inner_plain in
-    subst (λ l. StandsBefore p.inner p.outer l) (sym (second ∙ ap (λ l. p.inner ∷ without p.inner l) first))
-    (both_front p.inner p.outer (without p.outer d.front_to_back) (differ_back p.inner p.outer h.differ))
+boxed : (d : Desk) (task : ℕ) (p : Pair) (x y w h : ℤ) → may_leave_screen d.sizes.version ≡ true → (p.inner == p.outer) ≡ false
+    → IsPairBox d.sizes x y w h → IsPaired d p → IsPaired (after_all d task (expansion p (SetBox x y w h))) p
+boxed d task p x y w h leaves differ box paired =
+    record {
+      mates = mates_last _ _ _ _ paired.mates lasts (last_two d task first second p.inner refl refl);
+      together = λ live. together (sym (lasts is_live live_stable) ∙ live);
+    }
+  where
+    first : Call
+    first = BoxCall p.outer x y w h
 
-behind_order : (d : Desk) (task : ℕ) (p : Pair) → AreOpen d p
-    → StandsBefore p.inner p.outer (after (after d task (ToBack p.inner)) task (ToBack p.outer)).front_to_back
-behind_order d task p h =
-    let e : Desk = after d task (ToBack p.inner) in
-    let open_e : AreOpen e p = still_open d task (ToBack p.inner) p refl h in
-    let first : e.front_to_back ≡ put_before (has_backdrop d) p.inner (without p.inner d.front_to_back) =
-    list_behind d task p.inner h.inner_live h.inner_plain in
-    let same : (s : ℕ) → has_backdrop d s ≡ has_backdrop e s =
-    λ s. sym (after_same (layer_is (λ l. l.backdrop)) backdrop_stable d task (ToBack p.inner) s refl) in
-    let second : (after e task (ToBack p.outer)).front_to_back
-    ≡ put_before (has_backdrop e) p.outer (without p.outer e.front_to_back) =
-    list_behind e task p.outer open_e.outer_live open_e.outer_plain in
-    subst (λ l. StandsBefore p.inner p.outer l)
-    (sym (second ∙ ap (λ l. put_before (has_backdrop e) p.outer (without p.outer l))
-    (first ∙ put_before_same (has_backdrop d) (has_backdrop e) p.inner (without p.inner d.front_to_back) (λ t _. same t))))
-    (both_behind (has_backdrop e) p.inner p.outer (without p.inner d.front_to_back) open_e.inner_plain open_e.outer_plain h.differ)
+    second : Call
+    second = BoxCall p.inner (x +ℤ pos 4) (y +ℤ pos 11) (w -ℤ pos 8) (h -ℤ pos 13)
 
-joined_order : (d : Desk) (task m : ℕ) (p : Pair) → AreOpen d p → StandsBefore p.inner p.outer d.front_to_back
-    → StandsBefore p.inner p.outer
-    (after (after d task (PutInFront p.outer m)) task (PutInFront p.inner p.outer)).front_to_back
-joined_order d task m p h order =
-    let e : Desk = after d task (PutInFront p.outer m) in
-    let open_e : AreOpen e p = still_open d task (PutInFront p.outer m) p refl h in
-    subst (λ l. StandsBefore p.inner p.outer l) (sym (list_joined e task p open_e))
-    (brought p.inner p.outer (without p.inner e.front_to_back)
-    (still_without p.outer p.inner e.front_to_back h.differ
-    (still_listed d task p.outer m (outer_listed p.inner p.outer d.front_to_back order))))
+    e : Desk
+    e = after d task first
 
--- the windows are open after two such calls
-open_twice : (d : Desk) (task : ℕ) (first second : Call) (p : Pair) → moves first ≡ true → moves second ≡ true → AreOpen d p
-    → AreOpen (after (after d task first) task second) p
-open_twice d task first second p is has h = still_open (after d task first) task second p has (still_open d task first p is h)
+    lasts : Lasts (d.slot p.outer) ((after e task second).slot p.outer)
+    lasts = last_two d task first second p.outer refl refl
+
+    sizes : e.sizes ≡ d.sizes
+    sizes = after_sizes d task first
+
+    inner_lasts : Lasts (d.slot p.inner) (e.slot p.inner)
+    inner_lasts = after_lasts d task first p.inner refl
+
+    together : is_live (d.slot p.outer) ≡ true → AreTogether (after e task second) p
+    together live =
+        let t = paired.together live in
+        let mates = paired.mates in
+        let outer_allowed : refusal d task first ≡ None =
+        may_have_box d task p.outer x y w h t.bounds live mates.outer_plain
+        (outer_slot d.sizes x y w h (d.slot p.outer) leaves box live mates.outer_own) t.outer_bounds in
+        let inner_bounds : e.bounds p.inner ≡ Some (inner_rectangle t.bounds) =
+        bounds_stay d task first p.inner (differ_back p.inner p.outer differ) ∙ t.inner_bounds in
+        let inner_live : is_live (e.slot p.inner) ≡ true = inner_lasts is_live live_stable ∙ (mates.lives ∙ live) in
+        let inner_plain : has_backdrop e p.inner ≡ false = inner_lasts _ (test_stable (λ n. n.backdrop)) ∙ mates.inner_plain in
+        let inner_allowed : refusal e task second ≡ None =
+        may_have_box e task p.inner (x +ℤ pos 4) (y +ℤ pos 11) (w -ℤ pos 8) (h -ℤ pos 13) (inner_rectangle t.bounds) inner_live
+        inner_plain
+        (inner_slot e.sizes x y w h (e.slot p.inner) (ap (λ s. may_leave_screen s.version) sizes ∙ leaves)
+        (subst (λ s. IsPairBox s x y w h) (sym sizes) box) inner_live
+        (inner_lasts _ (test_stable (λ n. is_super n.kind)) ∙ mates.inner_own)
+        (inner_lasts _ (test_stable (λ n. n.framed)) ∙ mates.frameless)) inner_bounds in
+        record {
+          bounds = box_at x y w h;
+          outer_bounds = bounds_stay e task second p.outer differ ∙ given_box d task p.outer x y w h t.bounds outer_allowed
+              t.outer_bounds;
+          inner_bounds =
+              given_box e task p.inner _ _ _ _ (inner_rectangle t.bounds) inner_allowed inner_bounds ∙
+              ap (λ r. Some r) (inner_is x y w h);
+          order = list_boxed e task p.inner _ _ _ _ p (list_boxed d task p.outer x y w h p t.order);
+        }
+
+-- windows that may not be opened
+not_made : (d : Desk) (task slot : ℕ) (make : Make) (framed : Bool) (asks : ℕ) (title : List ℕ)
+    → may_open d.sizes.version (d.slot slot) ≡ false → after d task (OpenWindow slot make framed false asks title) ≡ d
+not_made d task slot make framed asks title taken =
+    refused_left d task (OpenWindow slot make framed false asks title) AlreadyOpen
+    (λ i. if not (taken i) then Some AlreadyOpen
+    else (if not (may_have_bounds d.sizes framed make.kind 0 0 make.bits_w make.bits_h (bounds_of make)) then Some OutOfBounds
+    else None))
+
+opening : (d : Desk) (task : ℕ) (p : Pair) (kind : Kind) (place : Place) (x y w h : ℤ) (asks : ℕ) (title : List ℕ)
+    → may_leave_screen d.sizes.version ≡ true → (p.inner == p.outer) ≡ false → is_super kind ≡ false → IsPairBox d.sizes x y w h
+    → IsPaired d p → IsPaired (after_all d task (expansion p (Open kind place x y w h asks title))) p
+opening d task p kind place x y w h asks title leaves differ plain box paired =
+    step (may_open d.sizes.version (d.slot p.outer)) refl
+  where
+    frame : Make
+    frame = plain_make Smart place x y w h
+
+    inside : Make
+    inside = plain_make kind place (x +ℤ pos 4) (y +ℤ pos 11) (w -ℤ pos 8) (h -ℤ pos 13)
+
+    step : (b : Bool) → may_open d.sizes.version (d.slot p.outer) ≡ b
+        → IsPaired (after_all d task (expansion p (Open kind place x y w h asks title))) p
+    step true free =
+        (opened d task p kind place x y w h asks title leaves differ free (paired.mates.opens d.sizes.version ∙ free) plain
+        box).paired
+    step false taken =
+        subst (λ a. IsPaired (after a task (PutInFront p.inner p.outer)) p)
+        (sym (ap (λ a. after a task (OpenWindow p.inner inside false false asks []))
+        (not_made d task p.outer frame true asks title taken) ∙
+        not_made d task p.inner inside false asks [] (paired.mates.opens d.sizes.version ∙ taken)))
+        (rejoined d task p differ paired)
+
+-- a word's calls leave its own pair paired
+own_kept : (d : Desk) (task : ℕ) (p : Pair) (word : GzzWord) → may_leave_screen d.sizes.version ≡ true
+    → (p.inner == p.outer) ≡ false → has_kind word ≡ true → HasPairBox d.sizes word → IsPaired d p
+    → IsPaired (after_all d task (expansion p word)) p
+own_kept d task p (Open kind place x y w h asks title) leaves differ plain box paired =
+    opening d task p kind place x y w h asks title leaves differ (not-true (is_super kind) plain) box paired
+own_kept d task p (SetBox x y w h) leaves differ plain box paired = boxed d task p x y w h leaves differ box paired
+own_kept d task p Front leaves differ plain box paired =
+    put_elsewhere d task p _ _ (λ s. (refl, refl)) (λ live t. front_order d task p (open_of d p differ paired live)) paired
+own_kept d task p Behind leaves differ plain box paired =
+    put_elsewhere d task p _ _ (λ s. (refl, refl)) (λ live t. behind_order d task p (open_of d p differ paired live)) paired
+own_kept d task p (InFrontOf other) leaves differ plain box paired =
+    put_elsewhere d task p _ _ (λ s. (refl, refl))
+    (λ live t. put_order d task other p (open_of d p differ paired live) t.order) paired
+own_kept d task p Close leaves differ plain box paired = closed d task p differ paired
+
+-- two calls, neither of which disturbs a pair
+kept_two : (d : Desk) (task : ℕ) (first second : Call) (q : Pair) → disturbs q first ≡ false → disturbs q second ≡ false
+    → IsPaired d q → IsPaired (after (after d task first) task second) q
+kept_two d task first second q once again h = kept (after d task first) task second q again (kept d task first q once h)
+
+-- and they leave other pairs paired
+other_kept : (d : Desk) (task : ℕ) (p q : Pair) (word : GzzWord) → AreDisjoint p q → puts_before q.outer word ≡ false
+    → IsPaired d q → IsPaired (after_all d task (expansion p word)) q
+other_kept d task p q word apart place h = by_word word place
+  where
+    joins : (is_of q p.inner || (p.outer == q.outer)) ≡ false
+    joins = or_from _ _ apart.1 (or_parts _ (p.outer == q.inner) apart.0).0
+
+    by_word : (word : GzzWord) → puts_before q.outer word ≡ false → IsPaired (after_all d task (expansion p word)) q
+    by_word (Open kind place x y w h' asks title) at = kept _ task _ q joins (kept_two d task _ _ q apart.0 apart.1 h)
+    by_word (SetBox x y w h') at = kept_two d task _ _ q apart.0 apart.1 h
+    by_word Front at = kept_two d task _ _ q apart.0 apart.1 h
+    by_word Behind at = kept_two d task _ _ q apart.1 apart.0 h
+    by_word (InFrontOf other) at = kept_two d task _ _ q (or_from _ _ apart.0 at) joins h
+    by_word Close at = kept_two d task _ _ q apart.0 apart.1 h
 
 pub groups_keep : GroupsKeepPairsTogether
-groups_keep d task p (Open kind place x y w h asks title) leaves t = absurd (false≢true leaves)
-groups_keep d task p (SetBox x y w h) leaves t = (
-  open_twice d task _ _ p refl refl t.0,
-  boxed (after d task (BoxCall p.outer x y w h)) task p.inner _ _ _ _ p (boxed d task p.outer x y w h p t.1),
-)
-groups_keep d task p Front leaves t = (open_twice d task _ _ p refl refl t.0, front_order d task p t.0)
-groups_keep d task p Behind leaves t = (open_twice d task _ _ p refl refl t.0, behind_order d task p t.0)
-groups_keep d task p (InFrontOf other) leaves t = (open_twice d task _ _ p refl refl t.0, joined_order d task other p t.0 t.1)
-groups_keep d task p Close leaves t = absurd (false≢true leaves)
+groups_keep d task p q word leaves differ plain box place (inl same) h =
+    subst (λ r. IsPaired (after_all d task (expansion p word)) r) same
+    (own_kept d task p word leaves differ plain box (subst (λ r. IsPaired d r) (sym same) h))
+groups_keep d task p q word leaves differ plain box place (inr apart) h = other_kept d task p q word apart place h

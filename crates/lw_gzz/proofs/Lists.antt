@@ -1,5 +1,6 @@
 -- Lists in which one slot stands directly in front of another.
-use Rattle.std.proofs.Common.{◌≡◌, ℕ, ◌+◌, ◌<◌, ◌==◌, Bool, true, false, not, List, [], ◌∷◌, ◌++◌, refl, sym, ap, subst, ◌∙◌, arith}
+use Rattle.std.proofs.Common.{◌≡◌, ℕ, ◌+◌, ◌<◌, ◌==◌, Bool, true, false, not, List, [], ◌∷◌, ◌++◌, refl, sym, ap, subst, ◌∙◌}
+use Rattle.std.proofs.Common.{arith}
 use Rattle.std.specs.Prelude.{if◌then◌else◌}
 use Rattle.std.proofs.lemmas.Bool.{eqb-true, eq-eqb, both_ways, false≢true}
 use Rattle.std.proofs.lemmas.List.Elements.{filter-append}
@@ -77,19 +78,16 @@ outer_among i o (u ∷ us) behind = let h = outer_among i o us behind in omega (
 pub outer_listed : (i o : ℕ) (slots : List ℕ) → StandsBefore i o slots → 0 < occurrences o slots
 outer_listed i o slots h = subst (λ l. 0 < occurrences o l) (sym h.list) (outer_among i o h.front h.behind)
 
--- a further one that stands in a list after another one stands in the rest
-in_rest : (m u : ℕ) (us : List ℕ) → (u == m) ≡ false → 0 < occurrences m (u ∷ us) → 0 < occurrences m us
-in_rest m u us e has = let h : 0 < 0 + occurrences m us = rw e at has in omega (arith, h)
-
 -- the inner slot is put directly in front of the outer one
 pub brought : (i o : ℕ) (slots : List ℕ) → 0 < occurrences o slots → StandsBefore i o (put_before (λ t. t == o) i slots)
 brought i o [] has = absurd (omega (arith, has))
-brought i o (u ∷ us) has = step (u == o) refl (λ e. brought i o us (in_rest o u us e has))
+brought i o (u ∷ us) has = step (u == o) refl has (λ more. brought i o us more)
   where
-    step : (b : Bool) → (u == o) ≡ b → ((u == o) ≡ false → StandsBefore i o (put_before (λ t. t == o) i us))
+    step : (b : Bool) → (u == o) ≡ b → 0 < (if b then 1 else 0) + occurrences o us
+        → (0 < occurrences o us → StandsBefore i o (put_before (λ t. t == o) i us))
         → StandsBefore i o (if b then i ∷ u ∷ us else u ∷ put_before (λ t. t == o) i us)
-    step true e h = record { front = []; behind = us; list = ap (λ n. i ∷ n ∷ us) (eqb-true u o e) }
-    step false e h = front_keeps u i o (put_before (λ t. t == o) i us) (h e)
+    step true e has h = record { front = []; behind = us; list = ap (λ n. i ∷ n ∷ us) (eqb-true u o e) }
+    step false e has h = front_keeps u i o (put_before (λ t. t == o) i us) (h (omega (arith, has)))
 
 -- first the outer one to the front, and then the inner one
 pub both_front : (i o : ℕ) (slots : List ℕ) → (o == i) ≡ false → StandsBefore i o (i ∷ without i (o ∷ slots))

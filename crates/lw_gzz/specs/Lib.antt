@@ -1,2 +1,5 @@
 pub mod Words
 pub mod Together
+pub mod Apart
+pub mod Examples
+pub mod Code

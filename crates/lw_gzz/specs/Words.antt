@@ -1,6 +1,6 @@
 -- The calls that stand for what is done with a window of two layers (the manual's Intuition Windows chapter: GIMMEZEROZERO; that
 -- it is made of two windows, and these calls, are this project's own).
-use Rattle.std.specs.Prelude.{Bool, true, false, not, List, [], ◌∷◌, ℤ, pos, ◌+ℤ◌, ◌-ℤ◌, None, FitsSigned}
+use Rattle.std.specs.Prelude.{◌≡◌, Bool, true, false, not, List, [], ◌∷◌, ℤ, pos, ◌+ℤ◌, ◌-ℤ◌, Option, Some, None, FitsSigned}
 use Rattle.std.specs.Int.{w32}
 use Rattle.lw_calls.specs.declared.make.Kind.{Kind}
 use Rattle.lw_calls.specs.declared.make.Kind.TheVariants.{Smart}
@@ -8,8 +8,8 @@ use Rattle.lw_calls.specs.declared.make.Place.{Place}
 use Rattle.lw_calls.specs.declared.make.Make.{Make}
 use Rattle.lw_calls.specs.declared.pair.Pair.{Pair}
 use Rattle.lw_calls.specs.declared.call.Call.{Call}
-use Rattle.lw_calls.specs.declared.call.Call.TheVariants.{OpenWindow, Close as CloseCall, ToFront, ToBack, InFrontOf as PutInFront}
-use Rattle.lw_calls.specs.declared.call.Call.TheVariants.{SetBox as BoxCall}
+use Rattle.lw_calls.specs.declared.call.Call.TheVariants.{OpenWindow, Close as CloseCall, ToFront, ToBack}
+use Rattle.lw_calls.specs.declared.call.Call.TheVariants.{InFrontOf as PutInFront, SetBox as BoxCall}
 use Rattle.lw_calls.specs.Kinds.{is_super}
 use Rattle.lw_gzz.specs.declared.word.GzzWord.{GzzWord}
 use Rattle.lw_gzz.specs.declared.word.GzzWord.TheVariants.{Open, SetBox, Front, Behind, InFrontOf, Close}
@@ -59,3 +59,12 @@ abbrev pub HasInnerBox : GzzWord → Type 0
 HasInnerBox (Open kind place x y w h asks title) = HasInner x y w h
 HasInnerBox (SetBox x y w h) = HasInner x y w h
 HasInnerBox word = Unit {0}
+
+-- These calls are what the word stands for, whose inner window is simple or smart.
+abbrev pub Spells : Pair → GzzWord → List Call → Type 0
+Spells p word calls = (has_kind word ≡ true) × (expansion p word ≡ calls)
+
+-- The answer is the word for which these calls stand, and none exactly where they stand for no word.
+pub record IsWordOf (p : Pair) (calls : List Call) (answer : Option GzzWord) : Type 0 where
+  pub spelled : (word : GzzWord) → answer ≡ Some word → Spells p word calls
+  pub found : (word : GzzWord) → Spells p word calls → answer ≡ Some word

@@ -99,7 +99,8 @@ fn opening(
 }
 
 /// The calls that stand for what is done with a pair, in their order; they are a group that holds all layers. The inner window's
-/// kind is simple or smart, and the place and the size of the inner rectangle are such as an `i32` has. This project's own.
+/// kind is simple or smart, and the place and the size of the inner rectangle are such as an `i32` has. The error
+/// is want of memory. This project's own.
 pub fn expand(alloc: Global, pair: &Pair, word: &GzzWord) -> Result<Vec<Call>, AllocError>
     requires kind { has_kind word.now ≡ true }
     requires inner { HasInnerBox word.now }
