@@ -11,4 +11,5 @@ mod replies;
 mod report;
 
 pub use order::byte_after;
+pub use planes::push_planes;
 pub use report::write;
