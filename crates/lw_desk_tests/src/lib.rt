@@ -1,5 +1,5 @@
-//! Tests of the desk by what its crates export: the plan of an arrangement, calls behind locks, tasks on threads, and a desk that was not
-//! closed.
+//! Tests of the desk by what its crates export: the plan of an arrangement, calls behind locks, tasks on threads, a desk that was
+//! not closed, slots that are opened again, layers over the edges of the screen, 1,024 slots, and strips that change owner.
 #![tactic(auto)]
 
 #[cfg(test)]
@@ -11,4 +11,8 @@ mod tests_closing;
 #[cfg(test)]
 mod tests_overlap;
 #[cfg(test)]
+mod tests_strips;
+#[cfg(test)]
 mod tests_tasks;
+#[cfg(test)]
+mod tests_versions;

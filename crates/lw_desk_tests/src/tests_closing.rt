@@ -8,14 +8,13 @@ ghost use Rattle.lw_engine_trait.specs.Steps.{AreParts};
 ghost use Rattle.lw_locks.specs.Closing.{task_of};
 ghost use Rattle.lw_locks.specs.Seen.{opening_pass};
 
-use crate::calls::{SIZES, are_done, calls_of_task, make_all, no_assets};
+use crate::calls::{SIZES, are_done, calls_of_task, fill, make_all, no_assets};
 use lw_backfill::Solid;
 use lw_calls::{Assets, Call, Final, Replies, Reply};
 use lw_engine::LayerEngine;
 use lw_engine_trait::Engine;
 use lw_locks::{Closed, Desk, NotClosed, OpenGate, Opening, Pass};
 use lw_order::{Order, Seat};
-use lw_region::Rect;
 use std::alloc::{AllocError, Global};
 use std::marker::Brand;
 use std::process::Abort;
@@ -48,13 +47,7 @@ fn make_each<E: Engine, N: Opening, R: Wait>(
     Ok((passes, a, b))
 }
 
-// The call that fills the last two columns of a layer, which is four columns wide.
-fn fill_more<R: Abort>(rt: &R, slot: u32) -> Call {
-    let rect = Rect::new(2, 0, 3, 0).expect(rt, "a rectangle");
-    Call::Fill { slot, rect }
-}
-
-// Fills more on both layers of a desk that was not closed, and closes it.
+// Fills the last two columns too on both layers of a desk that was not closed, and closes it.
 fn close_again<E: Engine, N: Opening, R: Wait + Abort>(
     rt: &R,
     alloc: Global,
@@ -65,7 +58,7 @@ fn close_again<E: Engine, N: Opening, R: Wait + Abort>(
     ensures { IfOk result (λ c. (d : MachineDesk) × AreParts E.relations N.desk.sizes N.desk.assets c.info c.cells.items d) }
 {
     let NotClosed { desk, passes } = left;
-    let (first, second) = ([fill_more(rt, 0)], [fill_more(rt, 1)]);
+    let (first, second) = ([fill(rt, 0, 2, 3)], [fill(rt, 1, 2, 3)]);
     let (passes, a, b) = make_each(
         rt,
         alloc,

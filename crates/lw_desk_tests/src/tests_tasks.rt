@@ -1,42 +1,13 @@
-ghost use Rattle.std.specs.Prelude.{◌≡◌, [], ◌∷◌, true, All, IsTrue, IfOk, length};
-ghost use Rattle.lw_calls.specs.Limits.{call_fits};
+ghost use Rattle.std.specs.Prelude.{◌≡◌, true};
 ghost use Rattle.lw_calls.specs.Orders.{is_legal};
 
-use crate::calls::{SIZES, are_done, calls_of_task, no_assets};
+use crate::calls::{SIZES, are_done, calls_of_task, plan_of};
 use lw_backfill::{Backfill, Solid};
-use lw_calls::{Call, OrderList, Plan, PlanParts, Text};
+use lw_calls::{OrderList, Plan};
 use lw_locks::OpenGate;
 use lw_tasks::{replay, run_tasks};
-use std::alloc::{AllocError, Global};
 use std::process::Abort;
 use std::test::Fail;
-
-fn name(alloc: Global, bytes: &[u8]) -> Result<Text, AllocError> {
-    Ok(Text::new(Vec::from_slice(alloc, bytes)?))
-}
-
-// The plan of these two tasks, which has no groups.
-fn plan_of(alloc: Global, first: Vec<Call>, second: Vec<Call>) -> Result<Plan, AllocError>
-    requires two { length first.items ≡ 2 }
-    requires two_more { length second.items ≡ 2 }
-    requires fit { All (λ call. IsTrue (call_fits SIZES call)) first.items }
-    requires fit_more { All (λ call. IsTrue (call_fits SIZES call)) second.items }
-    ensures calls { IfOk result (λ plan. plan.calls ≡ first.items ∷ second.items ∷ []) }
-    ensures groups { IfOk result (λ plan. plan.groups ≡ [] ∷ [] ∷ []) }
-    ensures tasks { IfOk result (λ plan. plan.sizes.tasks ≡ 2) }
-{
-    let parts = PlanParts {
-        sizes: SIZES,
-        slot_names: vec![in alloc; name(alloc, b"x")?, name(alloc, b"y")?]?,
-        task_names: vec![in alloc; name(alloc, b"a")?, name(alloc, b"b")?]?,
-        bitmap_names: Vec::new(alloc),
-        calls: vec![in alloc; first, second]?,
-        groups: vec![in alloc; Vec::new(alloc), Vec::new(alloc)]?,
-        pairs: Vec::new(alloc),
-        assets: no_assets(alloc),
-    };
-    Ok(Plan::new(parts))
-}
 
 // Runs the plan in the order with these hooks, and looks for this row on the screen and for a task's two replies each.
 fn fills_both<B: Backfill + Send>(
@@ -67,7 +38,7 @@ fn tasks_on_threads_end_as_their_order_does(rt: HostRuntime) -> Result<(), Fail>
     let alloc = rt.alloc();
     let first = calls_of_task(&rt, 0, 0, None)?;
     let second = calls_of_task(&rt, 1, 8, None)?;
-    let plan = plan_of(alloc, first, second)?;
+    let plan = plan_of(alloc, SIZES.slots, first, second)?;
     let none = Vec::<Solid>::new(alloc);
     let run = run_tasks(&rt, alloc, &plan, none, &OpenGate)?;
     assert_eq!(rt; run.last.planes.height(), 1);

@@ -47,7 +47,7 @@ use Rattle.lw_arrange.proofs.MayLaws.{may_prepare}
 use Rattle.lw_arrange.proofs.ElsewhereLaws.{shown_elsewhere}
 use Rattle.lw_engine.specs.Desks.{cell_at, hook_at, AreNumbered, AreOfDesk, AreAsBefore, AreOnShelf}
 use Rattle.lw_engine.specs.Slots.{hook_in, bare, asked_hook, shelf_without, shelf_after, slot_after, MayBeReady}
-use Rattle.lw_engine.specs.Arranging.{AreLooks, IsFreshSlot, HasSlot, AreChanged, DropHooks}
+use Rattle.lw_engine.specs.Arranging.{AreLooks, IsFreshSlot, AreChanged, DropHooks}
 use Rattle.lw_engine.proofs.RoomLaws.{same_cell, same_length}
 
 -- what is told of a cell is told of the slot for which it stands
@@ -91,12 +91,6 @@ fresh_call d v cells (OpenWindow slot make framed nocare asks title) fresh are f
     free_slot d slot (cell_at cells slot) v.sizes.version fresh (ap (λ (z : Sizes). z.version) are.sizes)
     (are.slots slot (ltb-true slot v.sizes.slots (and_parts _ _ fits).0)) says
 fresh_call d v cells call fresh are fits says = tt
-
--- the slot of a new layer is one that there is
-pub slot_is_there : (sizes : Sizes) (call : Call) (many : ℕ) → many ≡ sizes.slots → IsTrue (call_fits sizes call) → HasSlot many call
-slot_is_there sizes (Create slot make) many is fits = let low = ltb-true slot sizes.slots (and_parts _ _ fits).0 in omega (arith, is, low)
-slot_is_there sizes (OpenWindow slot make framed nocare asks title) many is fits = let low = ltb-true slot sizes.slots (and_parts _ _ fits).0 in omega (arith, is, low)
-slot_is_there sizes call many is fits = tt
 
 -- Planning reads what is of the desk.
 pub told_desk : (d : Desk) (v : Stack) (cells : List CellView) (looks : List (Option Look)) (fresh : Bool) (call : Call) → AreOfDesk v cells d → AreNumbered v.sizes.slots cells → AreLooks cells looks → IsFreshSlot v.sizes.version cells call fresh → IsTrue (call_fits v.sizes call) → AreOf d v looks fresh call

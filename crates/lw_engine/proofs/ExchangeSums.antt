@@ -1,16 +1,16 @@
 -- Sums over owners of the pieces that each gives up and claims, and the lists of what is ready while they do.
-use Rattle.std.proofs.Common.{◌≡◌, ◌≢◌, ℕ, zero, suc, ◌+◌, ◌-◌, ◌<◌, ◌≤◌, ◌==◌, Bool, true, false, cond, List, [], ◌∷◌, ◌++◌, map, reverse, length, get_or, set, Option, refl, sym, ap, subst, ◌∙◌, inl, inr, ⊎_elim, arith}
-use Rattle.std.specs.List.{All, filter}
-use Rattle.std.proofs.lemmas.Bool.{cases_lt, cases_eq, ne_eqb, eq-eqb}
-use Rattle.std.proofs.lemmas.List.{length-set, get_or_default, get_or-set_same, get_or-set_other}
-use Rattle.std.proofs.lemmas.List.Elements.{All-head, All-tail, All-weaker}
-use Rattle.std.proofs.lemmas.List.Sums.{sum_by-cons}
+use Rattle.std.proofs.Common.{◌≡◌, ◌≢◌, ℕ, zero, suc, ◌+◌, ◌-◌, ◌<◌, ◌≤◌, ◌==◌, Bool, true, false, cond, List, [], ◌∷◌, ◌++◌, map, reverse, length, take, get_or, set, Option, refl, sym, ap, ◌∙◌, inl, inr, ⊎_elim, arith}
+use Rattle.std.specs.Prelude.{if◌then◌else◌}
+use Rattle.std.specs.List.{All, filter, sum_by, sum}
+use Rattle.std.proofs.lemmas.Bool.{cases_lt, cases_eq, ne_eqb, eq-eqb, eqb-false}
+use Rattle.std.proofs.lemmas.List.{length-set, length-map, get_or_default, get_or-map, get_or-set_same, get_or-set_other, ext_get_or, take_all}
+use Rattle.std.proofs.lemmas.List.Elements.{All-head, All-tail, All-weaker, All-map}
+use Rattle.std.proofs.lemmas.List.Sums.{sum_by-cons, sum_by_more, sum-map}
 use Rattle.lw_region.specs.Rectangle.{Rectangle}
 use Rattle.lw_planes.specs.Row.{bit_of}
 use Rattle.lw_calls.specs.declared.call.Call.{Call}
-use Rattle.lw_calls.specs.declared.call.Call.TheVariants.{Create, OpenWindow}
+use Rattle.lw_calls.specs.Orders.{occurrences}
 use Rattle.lw_machine.specs.Hook.{Hook}
-use Rattle.lw_machine.specs.Arrangement.{hook_from}
 use Rattle.lw_strips.specs.Strips.{StripView, rects_of}
 use Rattle.lw_strips.specs.Pools.{PoolView, same_rectangle, copies, copies_in}
 use Rattle.lw_strips.specs.Exchange.{lost_by, gained_by, lost_rects, gained_rects, pieces_of, total}
@@ -18,29 +18,20 @@ use Rattle.lw_strips.specs.declared.piece.Piece.{Piece}
 use Rattle.lw_strips.proofs.PoolLaws.{counting}
 use Rattle.lw_strips.proofs.ExchangeLaws.{exchange}
 use Rattle.lw_layer.specs.View.{CellView}
-use Rattle.lw_arrange.specs.Arrangements.{ArrangementView}
-use Rattle.lw_arrange.proofs.DesktopLaws.{blank_rects}
-use Rattle.lw_engine.specs.Desks.{AreNumbered, hook_at, no_cell, cell_at}
+use Rattle.lw_engine.specs.Desks.{no_cell}
 use Rattle.lw_engine.specs.Slots.{ReadyView, IsSettled, nothing_ready}
-use Rattle.lw_engine.specs.Arranging.{HasSlot, AreReady, AreSettled, with_taken, lost_of, claims_of, HaveGiven}
-
--- an owner's part, with those of all before it, is no more than the whole
-pub total_step : (n k : ℕ) (f : ℕ → ℕ) → k < n → total k f + f k ≤ total n f
-total_step zero k f below = absurd (omega arith)
-total_step (suc n) k f below =
-    elim (cases_lt k n) [
-      | inl less ↦ let rest = total_step n k f less in omega (arith, rest)
-      | inr most ↦ let P : ℕ → Type 0 = λ m. total m f + f m ≤ total (suc n) f in
-          let same : n ≡ k = omega (arith, most, below) in
-          subst P same (omega arith)
-    ]
+use Rattle.lw_engine.specs.Arranging.{slots_of, AreSettled, with_taken, given_up, HaveGiven}
+use Rattle.lw_engine.proofs.ReadyLists.{others_differ, taken_keeps}
 
 pub total_more : (k : ℕ) (f : ℕ → ℕ) → total (k + 1) f ≡ total k f + f k
 total_more k f = let next : k + 1 ≡ suc k = omega arith in ap (λ n. total n f) next
 
-total_same : (n : ℕ) (f g : ℕ → ℕ) → ((i : ℕ) → f i ≡ g i) → total n f ≡ total n g
+total_same : (n : ℕ) (f g : ℕ → ℕ) → ((i : ℕ) → i < n → f i ≡ g i) → total n f ≡ total n g
 total_same zero f g same = refl
-total_same (suc n) f g same = let rest = total_same n f g same in let last = same n in omega (arith, rest, last)
+total_same (suc n) f g same =
+    let rest = total_same n f g (λ i low. same i (omega (arith, low))) in
+    let last = same n (omega arith) in
+    omega (arith, rest, last)
 
 total_plus : (n : ℕ) (f g : ℕ → ℕ) → total n (λ i. f i + g i) ≡ total n f + total n g
 total_plus zero f g = refl
@@ -82,7 +73,7 @@ total_lost (p ∷ rest) n below =
     let one = total_one n p.from (All-head (λ q. q.from < n) p rest below) in
     let split : total n (λ o. length (lost_rects o (p ∷ rest))) ≡ total n (λ o. bit_of (p.from == o)) + total n (λ o. length (lost_rects o rest)) =
     total_same n (λ o. length (lost_rects o (p ∷ rest))) (λ o. bit_of (p.from == o) + length (lost_rects o rest))
-    (λ o. first_lost (p.from == o) p (filter (λ q. q.from == o) rest))
+    (λ o _. first_lost (p.from == o) p (filter (λ q. q.from == o) rest))
     ∙ total_plus n (λ o. bit_of (p.from == o)) (λ o. length (lost_rects o rest))
     in
     omega (arith, others, one, split)
@@ -99,57 +90,24 @@ rects_many : (strips : List StripView) → length (rects_of strips) ≡ length s
 rects_many [] = refl
 rects_many (s ∷ rest) = ap suc (rects_many rest)
 
-pub lost_many : (k : ℕ) (pieces : List Piece) (lost : List StripView) → rects_of lost ≡ lost_rects k pieces
+pub strips_many : (k : ℕ) (pieces : List Piece) (lost : List StripView) → rects_of lost ≡ lost_rects k pieces
     → length lost ≡ length (lost_rects k pieces)
-lost_many k pieces lost is = sym (rects_many lost) ∙ ap length is
+strips_many k pieces lost is = sym (rects_many lost) ∙ ap length is
 
-lost_counted : (r : Rectangle) (k : ℕ) (pieces : List Piece) (lost : List StripView) → rects_of lost ≡ lost_rects k pieces
+pub lost_counted : (r : Rectangle) (k : ℕ) (pieces : List Piece) (lost : List StripView) → rects_of lost ≡ lost_rects k pieces
     → copies_in r lost ≡ lost_by r k pieces
 lost_counted r k pieces lost is = strips_counted r lost ∙ (ap (copies r) is ∙ exchange.lost r k pieces)
-
--- there is room for what the next owner gives up, which is counted then
-pub room_left : (n k : ℕ) (pieces : List Piece) (lost : List StripView) (spare first : ℕ) → k < n → All (λ p. p.from < n) pieces
-    → rects_of lost ≡ lost_rects k pieces → length pieces ≤ first
-    → spare + total k (λ o. length (lost_rects o pieces)) ≡ first → length lost ≤ spare
-room_left n k pieces lost spare first below owners is enough so_far =
-    let step = total_step n k (λ o. length (lost_rects o pieces)) below in
-    let whole = total_lost pieces n owners in
-    let many = lost_many k pieces lost is in
-    omega (arith, step, whole, many, enough, so_far)
-
-pub given_numbers : (r : Rectangle) (k : ℕ) (pieces : List Piece) (lost : List StripView) (old new : PoolView) → rects_of lost ≡ lost_rects k pieces
-    → new ≡ record { strips = old.strips ++ reverse lost; spare = old.spare - length lost }
-    → copies_in r old.strips ≡ total k (λ o. lost_by r o pieces) → copies_in r new.strips ≡ total (k + 1) (λ o. lost_by r o pieces)
-given_numbers r k pieces lost old new is step so_far =
-    let strips = ap (λ (p : PoolView). copies_in r p.strips) step in
-    let both = counting.given r old.strips lost in
-    let one = lost_counted r k pieces lost is in
-    let next = total_more k (λ o. lost_by r o pieces) in
-    omega (arith, strips, both, one, next, so_far)
-
-pub given_spare : (k : ℕ) (pieces : List Piece) (lost : List StripView) (old new : PoolView) (first : ℕ) → rects_of lost ≡ lost_rects k pieces
-    → new ≡ record { strips = old.strips ++ reverse lost; spare = old.spare - length lost } → length lost ≤ old.spare
-    → old.spare + total k (λ o. length (lost_rects o pieces)) ≡ first → new.spare + total (k + 1) (λ o. length (lost_rects o pieces)) ≡ first
-given_spare k pieces lost old new first is step room so_far =
-    let spare = ap (λ (p : PoolView). p.spare) step in
-    let many = lost_many k pieces lost is in
-    let next = total_more k (λ o. length (lost_rects o pieces)) in
-    omega (arith, spare, many, next, room, so_far)
-
-pub all_given : (r : Rectangle) (n : ℕ) (pieces : List Piece) (strips : List StripView) → All (λ p. p.from < n + 1) pieces
-    → copies_in r strips ≡ total (n + 1) (λ o. lost_by r o pieces) → copies_in r strips ≡ pieces_of r pieces
-all_given r n pieces strips owners so_far = so_far ∙ exchange.losses pieces (n + 1) r owners
 
 -- what is ready, of which none, one more, or all gave their strips up
 pub none_given : (ready : List ReadyView) → HaveGiven 0 ready ready
 none_given ready = record { many = refl; done = λ s below. absurd (omega arith); left = λ s _. refl }
 
-pub next_lost : (k : ℕ) (ready now : List ReadyView) (d : ReadyView) → HaveGiven k ready now → k < length ready
+pub next_given : (k : ℕ) (ready now : List ReadyView) (d : ReadyView) → HaveGiven k ready now → k < length ready
     → get_or now k d ≡ get_or ready k nothing_ready
-next_lost k ready now d given below = get_or_default now k d nothing_ready (omega (arith, given.many, below)) ∙ given.left k (omega arith)
+next_given k ready now d given below = get_or_default now k d nothing_ready (omega (arith, given.many, below)) ∙ given.left k (omega arith)
 
 pub given_more : (k : ℕ) (ready now : List ReadyView) (d r : ReadyView) → HaveGiven k ready now → k < length ready
-    → r ≡ record (get_or now k d) { lost = [] } → HaveGiven (k + 1) ready (set now k r)
+    → r ≡ given_up (get_or now k d) → HaveGiven (k + 1) ready (set now k r)
 given_more k ready now d r given below is =
     let inside : k < length now = omega (arith, given.many, below) in
     record {
@@ -159,87 +117,122 @@ given_more k ready now d r given below is =
           ⊎_elim
           (λ (same : s ≡ k).
           let here : get_or (set now k r) k nothing_ready ≡ r = get_or-set_same now k r nothing_ready inside in
-          let emptied : ReadyView → ReadyView = λ q. record q { lost = [] } in
           ap (λ n. get_or (set now k r) n nothing_ready) same
-          ∙ (here ∙ (is ∙ (ap emptied (next_lost k ready now d given below) ∙ ap (λ n. emptied (get_or ready n nothing_ready)) (sym same)))))
+          ∙ (here ∙ (is ∙ (ap given_up (next_given k ready now d given below) ∙ ap (λ n. given_up (get_or ready n nothing_ready)) (sym same)))))
           (λ (other : s ≢ k). get_or-set_other now k s r nothing_ready other ∙ given.done s (omega (arith, other, low)))
           (cases_eq s k);
       left = λ s past. get_or-set_other now k s r nothing_ready (λ same. absurd (omega (arith, same, past))) ∙ given.left s (omega (arith, past));
     }
 
-pub given_settled : (glyphs : List (List ℕ)) (after : CellView → CellView) (n : ℕ) (slots : List CellView) (ready given : List ReadyView)
-    → n ≡ length ready → HaveGiven n ready given → AreSettled glyphs after slots ready → AreSettled glyphs after slots given
-given_settled glyphs after n slots ready given count gave all = record {
-  many = gave.many ∙ all.many;
-  each = λ s below.
-      let P : ReadyView → Type 0 = λ r. IsSettled glyphs (get_or slots s no_cell) (after (get_or slots s no_cell)) r in
-      subst P (sym (gave.done s (omega (arith, count, all.many, below)))) (all.each s below);
-}
+pub all_given : (k : ℕ) (ready now : List ReadyView) → HaveGiven k ready now → length ready ≤ k → now ≡ map given_up ready
+all_given k ready now given past =
+    ext_get_or nothing_ready now (map given_up ready) (given.many ∙ sym (length-map ready given_up))
+    (λ i low.
+    let inside : i < length ready = omega (arith, given.many, low) in
+    given.done i (omega (arith, inside, past)) ∙ sym (get_or-map given_up ready i nothing_ready nothing_ready inside))
 
-pub given_claims : (n : ℕ) (ready given : List ReadyView) (s : ℕ) → s < n → HaveGiven n ready given → claims_of given s ≡ claims_of ready s
-given_claims n ready given s below gave = ap (λ (r : ReadyView). r.claims) (gave.done s below)
+-- the pool with the strips of one more
+pub given_numbers : (r : Rectangle) (lost : List StripView) (old new : PoolView) (so_far : ℕ)
+    → new ≡ record { strips = old.strips ++ reverse lost; spare = old.spare - length lost } → copies_in r old.strips ≡ so_far
+    → copies_in r new.strips ≡ so_far + copies_in r lost
+given_numbers r lost old new so_far step is =
+    let strips = ap (λ (p : PoolView). copies_in r p.strips) step in
+    let both = counting.given r old.strips lost in
+    omega (arith, strips, both, is)
 
--- taking a hook for a new layer leaves its pieces
-pub taken_keeps : (f : ReadyView → List Rectangle) (shelf : List (Option Hook)) (call : Call) (ready : List ReadyView) (s : ℕ)
-    → HasSlot (length ready) call → ((r : ReadyView) (h : Option Hook) → f (record r { taken = h }) ≡ f r)
-    → f (get_or (with_taken shelf call ready) s nothing_ready) ≡ f (get_or ready s nothing_ready)
-taken_keeps f shelf call ready s has keeps = by_call call has
+pub given_spare : (lost : List StripView) (old new : PoolView) (first so_far : ℕ)
+    → new ≡ record { strips = old.strips ++ reverse lost; spare = old.spare - length lost } → length lost ≤ old.spare
+    → old.spare + so_far ≡ first → new.spare + (so_far + length lost) ≡ first
+given_spare lost old new first so_far step room is = let spare = ap (λ (p : PoolView). p.spare) step in omega (arith, spare, room, is)
+
+-- what the next one adds to a sum, by its own default
+pub sum_next : (f : ReadyView → ℕ) (k : ℕ) (ready now : List ReadyView) (d : ReadyView) → HaveGiven k ready now → k < length ready
+    → sum_by f (take (k + 1) ready) ≡ sum_by f (take k ready) + f (get_or now k d)
+sum_next f k ready now d given below =
+    sum_by_more f ready k nothing_ready below ∙ ap (λ q. sum_by f (take k ready) + f q) (sym (next_given k ready now d given below))
+
+pub sum_end : (f : ReadyView → ℕ) (k : ℕ) (ready : List ReadyView) → length ready ≤ k → sum_by f (take k ready) ≡ sum_by f ready
+sum_end f k ready past = ap (sum_by f) (take_all k ready past)
+
+-- neither a hook for a new layer nor giving up changes a sum of something else, and what is settled
+up_keeps : {X : Type 0} (f : ReadyView → X) (ready : List ReadyView) → ((r : ReadyView) → f (given_up r) ≡ f r) → map f (map given_up ready) ≡ map f ready
+up_keeps f [] keeps = refl
+up_keeps f (r ∷ ready) keeps = λ i. keeps r i ∷ up_keeps f ready keeps i
+
+pub given_slots : (shelf : List (Option Hook)) (call : Call) (ready : List ReadyView)
+    → slots_of (map given_up (with_taken shelf call ready)) ≡ slots_of ready
+given_slots shelf call ready =
+    up_keeps (λ r. r.slot) (with_taken shelf call ready) (λ r. refl) ∙ taken_keeps (λ r. r.slot) shelf call ready (λ r h. refl)
+
+pub given_claims : (r : Rectangle) (shelf : List (Option Hook)) (call : Call) (ready : List ReadyView)
+    → sum_by (λ q. copies r q.claims) (map given_up (with_taken shelf call ready)) ≡ sum_by (λ q. copies r q.claims) ready
+given_claims r shelf call ready =
+    sym (sum-map (λ (q : ReadyView). copies r q.claims) (map given_up (with_taken shelf call ready)))
+    ∙ (ap sum (up_keeps (λ q. copies r q.claims) (with_taken shelf call ready) (λ q. refl) ∙ taken_keeps (λ q. copies r q.claims) shelf call ready (λ q h. refl))
+    ∙ sum-map (λ (q : ReadyView). copies r q.claims) ready)
+
+pub taken_sum : (f : ReadyView → ℕ) (shelf : List (Option Hook)) (call : Call) (ready : List ReadyView) → ((r : ReadyView) (h : Option Hook) → f (record r { taken = h }) ≡ f r)
+    → sum_by f (with_taken shelf call ready) ≡ sum_by f ready
+taken_sum f shelf call ready keeps =
+    sym (sum-map f (with_taken shelf call ready)) ∙ (ap sum (taken_keeps f shelf call ready keeps) ∙ sum-map f ready)
+
+pub given_settled : (glyphs : List (List ℕ)) (after : CellView → CellView) (slots : List CellView) (ready : List ReadyView)
+    → AreSettled glyphs after slots ready → AreSettled glyphs after slots (map given_up ready)
+given_settled glyphs after slots ready all =
+    All-map (λ r. (r.slot < length slots) × IsSettled glyphs (get_or slots r.slot no_cell) (after (get_or slots r.slot no_cell)) r) given_up ready all
+
+-- what all owners have but for one
+abbrev off : ℕ → (ℕ → ℕ) → ℕ → ℕ
+off k f i = if i == k then 0 else f i
+
+total_off : (n k : ℕ) (f : ℕ → ℕ) → k < n → total n f ≡ f k + total n (off k f)
+total_off zero k f below = absurd (omega (arith, below))
+total_off (suc n) k f below =
+    elim (cases_lt k n) [
+      | inl less ↦ let rest = total_off n k f less in
+          let last : off k f n ≡ f n = ap (λ t. if t then 0 else f n) (ne_eqb n k (λ same. absurd (omega (arith, same, less)))) in
+          omega (arith, rest, last)
+      | inr most ↦ let same : k ≡ n = omega (arith, most, below) in
+          let here : off k f n ≡ 0 = ap (λ t. if t then 0 else f n) (eq-eqb n k (sym same)) in
+          let others = total_same n (off k f) f
+          (λ i low. ap (λ t. if t then 0 else f i) (ne_eqb i k (λ is. absurd (omega (arith, is, low, same))))) in
+          let own = ap f same in
+          omega (arith, here, others, own)
+    ]
+
+-- What the slots have for which something is ready is what all slots have, where the others have nothing.
+pub ready_total : (f : ReadyView → ℕ) (n : ℕ) (ready : List ReadyView) (g : ℕ → ℕ) → All (λ r. (r.slot < n) × (f r ≡ g r.slot)) ready
+    → ((s : ℕ) → occurrences s (slots_of ready) ≤ 1) → ((s : ℕ) → s < n → occurrences s (slots_of ready) ≡ 0 → g s ≡ 0)
+    → sum_by f ready ≡ total n g
+ready_total f n [] g each once none = sym (total_same n g (λ _. 0) (λ s low. none s low refl) ∙ total_none n)
+ready_total f n (r ∷ ready) g each once none =
+    let k = r.slot in
+    let first = All-head (λ q. (q.slot < n) × (f q ≡ g q.slot)) r ready each in
+    let others = All-tail (λ q. (q.slot < n) × (f q ≡ g q.slot)) r ready each in
+    let here : bit_of (k == k) ≡ 1 = ap bit_of (eq-eqb k k refl) in
+    let only = once k in
+    let alone : occurrences k (slots_of ready) ≡ 0 = omega (arith, here, only) in
+    let rest =
+    ready_total f n ready (off k g)
+    (λ i d below.
+    let q = get_or ready i d in
+    let one = others i d below in
+    (one.0, one.1 ∙ sym (ap (λ t. if t then 0 else g q.slot) (others_differ ready k i d below alone))))
+    (λ s. let all = once s in omega (arith, all))
+    (λ s low absent.
+    by_test s (s == k) refl
+    (λ other.
+    let apart : bit_of (k == s) ≡ 0 = ap bit_of (ne_eqb k s (λ same. eqb-false s k other (sym same))) in
+    none s low (omega (arith, apart, absent))))
+    in
+    let cut = total_off n k g first.0 in
+    let own = first.1 in
+    let split = sum_by-cons f r ready in
+    omega (arith, rest, cut, own, split)
   where
-    put : (slot : ℕ) (h : Option Hook) → slot < length ready
-        → f (get_or (set ready slot (record (get_or ready slot nothing_ready) { taken = h })) s nothing_ready) ≡ f (get_or ready s nothing_ready)
-    put slot h below =
-        let one = record (get_or ready slot nothing_ready) { taken = h } in
-        ⊎_elim
-        (λ (same : s ≡ slot).
-        ap (λ n. f (get_or (set ready slot one) n nothing_ready)) same
-        ∙ (ap f (get_or-set_same ready slot one nothing_ready below)
-        ∙ (keeps (get_or ready slot nothing_ready) h ∙ ap (λ n. f (get_or ready n nothing_ready)) (sym same))))
-        (λ (other : s ≢ slot). ap f (get_or-set_other ready slot s one nothing_ready other))
-        (cases_eq s slot)
-
-    by_call : (k : Call) → HasSlot (length ready) k → f (get_or (with_taken shelf k ready) s nothing_ready) ≡ f (get_or ready s nothing_ready)
-    by_call (Create slot make) below = put slot (hook_from (hook_at shelf) make.hook) below
-    by_call (OpenWindow slot make framed nocare asks title) below = put slot (hook_from (hook_at shelf) make.hook) below
-    by_call k below = refl
-
--- what is ready for each slot has its pieces, once a hook was taken too
-module _ (a : ArrangementView) (shelf : List (Option Hook)) (slots : List CellView) (made ready : List ReadyView)
-    (numbered : AreNumbered a.stack.sizes.slots slots) (all : AreReady a shelf slots made) (has : HasSlot (length slots) a.call)
-    (is : ready ≡ with_taken shelf a.call made) where
-  has_slot : HasSlot (length made) a.call
-  has_slot = subst (λ n. HasSlot n a.call) (sym all.many) has
-
-  number : (s : ℕ) → s < length slots → (cell_at slots s).number ≡ s
-  number s below = numbered.numbers s (omega (arith, numbered.many, below))
-
-  pub taken_lost : (s : ℕ) → s < length slots → lost_of ready s ≡ lost_rects s a.pieces
-  taken_lost s below =
-      ap (λ l. lost_of l s) is
-      ∙ (taken_keeps (λ r. rects_of r.lost) shelf a.call made s has_slot (λ r h. refl)
-      ∙ (ap rects_of (all.each s below).pieces.lost
-      ∙ (blank_rects a.stack.sizes.depth (lost_rects (cell_at slots s).number a.pieces)
-      ∙ ap (λ n. lost_rects n a.pieces) (number s below))))
-
-  pub taken_claims : (s : ℕ) → s < length slots → claims_of ready s ≡ gained_rects s a.pieces
-  taken_claims s below =
-      ap (λ l. claims_of l s) is
-      ∙ (taken_keeps (λ r. r.claims) shelf a.call made s has_slot (λ r h. refl)
-      ∙ ((all.each s below).pieces.gained ∙ ap (λ n. gained_rects n a.pieces) (number s below)))
-
--- what an owner claims is in the pool, and what is left there in the end is the last owner's
-pub claims_there : (r : Rectangle) (n k : ℕ) (pieces : List Piece) (claims : List Rectangle) (first pool : ℕ) → k < n → claims ≡ gained_rects k pieces
-    → total n (λ s. gained_by r s pieces) ≤ first → first ≡ pool + total k (λ s. gained_by r s pieces) → copies r claims ≤ pool
-claims_there r n k pieces claims first pool below is enough so_far =
-    let step = total_step n k (λ s. gained_by r s pieces) below in
-    let one = ap (copies r) is ∙ exchange.gained r k pieces in
-    omega (arith, step, one, enough, so_far)
-
-pub claimed_numbers : (r : Rectangle) (k : ℕ) (pieces : List Piece) (claims : List Rectangle) (first old new : ℕ) → claims ≡ gained_rects k pieces
-    → first ≡ old + total k (λ s. gained_by r s pieces) → old ≡ new + copies r claims → first ≡ new + total (k + 1) (λ s. gained_by r s pieces)
-claimed_numbers r k pieces claims first old new is so_far step =
-    let one = ap (copies r) is ∙ exchange.gained r k pieces in
-    let next = total_more k (λ s. gained_by r s pieces) in
-    omega (arith, one, next, so_far, step)
+    by_test : (s : ℕ) (t : Bool) → (s == r.slot) ≡ t → ((s == r.slot) ≡ false → g s ≡ 0) → (if t then 0 else g s) ≡ 0
+    by_test s true is other = refl
+    by_test s false is other = other is
 
 pub all_but_last : (r : Rectangle) (n : ℕ) (pieces : List Piece) → All (λ p. p.to < n + 1) pieces
     → pieces_of r pieces ≡ total n (λ s. gained_by r s pieces) + gained_by r n pieces
@@ -263,9 +256,9 @@ none_left n pieces claims old new is was step =
     let after = step r in
     omega (arith, one, before, after))
 
-pub owners_below : (n slots : ℕ) (pieces : List Piece) → n ≡ slots → All (λ p. (p.from ≤ slots) × (p.to ≤ slots)) pieces
+pub owners_below : (n : ℕ) (pieces : List Piece) → All (λ p. (p.from ≤ n) × (p.to ≤ n)) pieces
     → All (λ p. p.from < n + 1) pieces × All (λ p. p.to < n + 1) pieces
-owners_below n slots pieces count owners = (
-  All-weaker (λ p. (p.from ≤ slots) × (p.to ≤ slots)) (λ p. p.from < n + 1) (λ p both. omega (arith, both.0, count)) pieces owners,
-  All-weaker (λ p. (p.from ≤ slots) × (p.to ≤ slots)) (λ p. p.to < n + 1) (λ p both. omega (arith, both.1, count)) pieces owners,
+owners_below n pieces owners = (
+  All-weaker (λ p. (p.from ≤ n) × (p.to ≤ n)) (λ p. p.from < n + 1) (λ p both. omega (arith, both.0)) pieces owners,
+  All-weaker (λ p. (p.from ≤ n) × (p.to ≤ n)) (λ p. p.to < n + 1) (λ p both. omega (arith, both.1)) pieces owners,
 )

@@ -1,14 +1,16 @@
 -- What a run leaves of a desk that the list of layers and the cells stand for.
-use Rattle.std.proofs.Common.{◌≡◌, ℕ, ◌<◌, pos, List, [], length, get_or, map, ◌∙◌, sym, ap, subst}
+use Rattle.std.proofs.Common.{◌≡◌, ℕ, ◌+◌, ◌<◌, pos, List, [], ◌∷◌, ◌++◌, length, get_or, map, ◌∙◌, sym, ap, zero-add}
 use Rattle.std.specs.List.{range_with_len}
-use Rattle.std.proofs.lemmas.List.FromFn.{fill_by_all}
+use Rattle.std.proofs.lemmas.List.{get_or_default}
+use Rattle.std.proofs.lemmas.List.FromFn.{fill_by_all, map-range_with_len_more}
 use Rattle.lw_region.specs.Pixels.{Pixel}
 use Rattle.lw_region.specs.Bands.{bands}
+use Rattle.lw_planes.specs.Bitmap.{Bitmap}
 use Rattle.lw_planes.proofs.GridLaws.{map_range_same}
 use Rattle.lw_calls.specs.declared.reply.Reply.{Reply}
 use Rattle.lw_calls.specs.declared.sizes.Sizes.{Sizes}
 use Rattle.lw_machine.specs.Desk.{Desk}
-use Rattle.lw_machine.specs.Screen.{is_shown}
+use Rattle.lw_machine.specs.Screen.{is_shown, screen}
 use Rattle.lw_machine.specs.Parts.{slot_part}
 use Rattle.lw_machine.specs.Finals.{pixels_where, shown_set, seen_of}
 use Rattle.lw_layer.specs.View.{State, LiveView, CellView}
@@ -18,13 +20,8 @@ use Rattle.lw_stack.specs.Stack.{Stack, is_top_in}
 use Rattle.lw_stack.proofs.ListLaws.{shown_is_top}
 use Rattle.lw_final_state.specs.Shown.{top_set, seen_as, seen_in}
 use Rattle.lw_engine.specs.Desks.{cell_at, AreNumbered, AreOfDesk}
-use Rattle.lw_engine.specs.Finished.{AreSlotsOf}
-
--- the cells stand for the slots
-pub slots_of_desk : (v : Stack) (cells : List CellView) (d : Desk) (sizes : Sizes) → sizes ≡ v.sizes → AreOfDesk v cells d → AreSlotsOf sizes cells d
-slots_of_desk v cells d sizes is stands =
-    let P : Sizes → Type 0 = λ z. AreSlotsOf z cells d in
-    subst P (sym is) (record { sound = stands.sound; same_sizes = stands.sizes; slots = stands.slots })
+use Rattle.lw_engine.specs.Owners.{IsAssembled}
+use Rattle.lw_engine.proofs.OwnersLaws.{are_whole}
 
 -- a slot's layer is shown where it is on top by the list
 top_shown : (v : Stack) (cells : List CellView) (d : Desk) (s : ℕ) → AreOfDesk v cells d → top_set v s ≡ shown_set d s
@@ -54,3 +51,20 @@ slots_stand v cells d numbered stands =
 pub replies_stand : (v : Stack) (cells : List CellView) (d : Desk) (rs : ℕ → List Reply) (replies : List (List Reply)) → length replies ≡ v.sizes.tasks → ((t : ℕ) → t < v.sizes.tasks → get_or replies t [] ≡ rs t) → AreOfDesk v cells d → replies ≡ map rs (range_with_len 0 d.sizes.tasks)
 replies_stand v cells d rs replies long each stands =
     fill_by_all rs replies v.sizes.tasks [] long each ∙ ap (λ (z : Sizes). map rs (range_with_len 0 z.tasks)) (sym stands.sizes)
+
+-- what is assembled of the strips of all owners is what the screen shows
+pub screen_stands : (v : Stack) (cells : List CellView) (d : Desk) (planes : Bitmap) → length cells ≡ v.sizes.slots → AreOfDesk v cells d
+    → IsAssembled v cells planes → planes ≡ screen d
+screen_stands v cells d planes many stands made = made.whole ∙ sym (are_whole v cells d made.layers made.desktop many stands made.lent).planes
+
+-- one value more
+pub more_mapped : {X : Type 0} (f : ℕ → X) (now new : List X) (n : ℕ) (v : X) → now ≡ map f (range_with_len 0 n) → v ≡ f n
+    → new ≡ now ++ v ∷ [] → new ≡ map f (range_with_len 0 (n + 1))
+more_mapped f now new n v before is push =
+    push
+    ∙ (ap (λ l. l ++ v ∷ []) before
+    ∙ (ap (λ u. map f (range_with_len 0 n) ++ u ∷ []) is ∙ sym (map-range_with_len_more f 0 n n (zero-add n))))
+
+-- a cell that was read out of its list
+pub cell_read : (cells : List CellView) (n : ℕ) (c : CellView) → n < length cells → c ≡ get_or cells n c → c ≡ cell_at cells n
+cell_read cells n c inside is = is ∙ get_or_default cells n c _ inside

@@ -8,7 +8,8 @@ pub mod FillingLaws
 pub mod FollowLaws
 pub mod WindowLaws
 pub mod ReadyLists
-pub mod FinishedDesk
+pub mod OwnersLaws
+pub mod FinishedScreen
 pub mod FinishedLast
 pub mod ArrangingLists
 pub mod ArrangingDesks
@@ -16,3 +17,4 @@ pub mod HookSetting
 pub mod HookLaws
 pub mod FewRectangles
 pub mod ExchangeSums
+pub mod ReadyParts

@@ -1,16 +1,20 @@
 -- The room that ports have makes no difference to what cells stand for.
-use Rattle.std.proofs.Common.{◌≡◌, ◌≢◌, ℕ, zero, suc, ◌+◌, ◌<◌, List, [], ◌∷◌, map, length, get_or, set, ◌∙◌, sym, refl, ap, subst, ⊎_elim, arith}
-use Rattle.std.proofs.lemmas.Bool.{cases_eq}
+use Rattle.std.proofs.Common.{◌≡◌, ◌≢◌, ℕ, zero, suc, ◌<◌, ◌≤◌, List, [], ◌∷◌, ◌++◌, map, length, get_or, set, ◌⊎◌, inl, inr, ◌∙◌, sym, refl, ap, subst, ⊎_elim, arith}
+use Rattle.std.proofs.lemmas.Bool.{cases_eq, cases_lt}
 use Rattle.std.proofs.lemmas.List.{length-map, get_or-map, get_or-set_same, get_or-set_other}
+use Rattle.lw_calls.specs.Orders.{occurrences}
 use Rattle.lw_machine.specs.Desk.{Desk}
+use Rattle.lw_machine.specs.Reveal.{has_bounds}
 use Rattle.lw_machine.specs.Parts.{SlotPart, slot_part}
 use Rattle.lw_layer.specs.View.{State, LiveView, CellView, keeps}
 use Rattle.lw_layer.specs.View as view
 use Rattle.lw_layer.specs.StandsFor.{IsPartOf, StandsFor, IsSound}
-use Rattle.lw_layer.specs.Windows.{without_room, HasRoom}
-use Rattle.lw_stack.specs.Stack.{Stack}
+use Rattle.lw_layer.specs.Windows.{without_room, RoomWhere, HasRoom}
+use Rattle.lw_stack.specs.Stack.{Stack, IsStack}
 use Rattle.lw_engine.specs.Desks.{no_cell, cell_at, AreNumbered, AreOfDesk, AreAsBefore}
 use Rattle.lw_engine.specs.Slots.{bare}
+use Rattle.lw_engine.specs.Arranging.{AreListed}
+use Rattle.lw_engine.proofs.ArrangingLists.{occurs_before, idle_slot}
 
 -- the live layer with this room in its port
 abbrev roomed : ℕ → LiveView → LiveView
@@ -91,11 +95,45 @@ pub more_as_before : (cells now : List CellView) (k : ℕ) (c : CellView) → Ar
 more_as_before cells now k c same is = set_kept now k c is ∙ same
 
 -- and one more port with room
-pub more_room : (now : List CellView) (k : ℕ) (c : CellView) → k < length now → ((s : ℕ) → s < k → HasRoom 5 (cell_at now s)) → HasRoom 5 c → (s : ℕ) → s < k + 1
-    → HasRoom 5 (cell_at (set now k c) s)
-more_room now k c inside before one s low =
+pub more_room : (now : List CellView) (us : List ℕ) (u : ℕ) (c : CellView) → u < length now
+    → ((s : ℕ) → 0 < occurrences s us → HasRoom 5 (cell_at now s)) → HasRoom 5 c
+    → (s : ℕ) → 0 < occurrences s (us ++ u ∷ []) → HasRoom 5 (cell_at (set now u c) s)
+more_room now us u c inside before one s has =
     let P : CellView → Type 0 = λ v. HasRoom 5 v in
     ⊎_elim
-    (λ (same : s ≡ k). subst P (sym (ap (λ n. get_or (set now k c) n no_cell) same ∙ get_or-set_same now k c no_cell inside)) one)
-    (λ (other : s ≢ k). subst P (sym (get_or-set_other now k s c no_cell other)) (before s (omega (arith, low, other))))
-    (cases_eq s k)
+    (λ (same : s ≡ u). subst P (sym (ap (λ n. get_or (set now u c) n no_cell) same ∙ get_or-set_same now u c no_cell inside)) one)
+    (λ (other : s ≢ u).
+    let still = occurs_before s u us other in
+    subst P (sym (get_or-set_other now u s c no_cell other)) (before s (omega (arith, has, still))))
+    (cases_eq s u)
+
+-- every slot with a layer is in LayerInfo's list still
+pub listed_roomed : (v : Stack) (cells other : List CellView) → AreAsBefore cells other → AreListed v cells → AreListed v other
+listed_roomed v cells other same listed s low live =
+    let inside : s < length cells = omega (arith, same_length cells other same, low) in
+    listed s inside (ap (λ (c : CellView). c.state) (sym (same_cell cells other s same inside)) ∙ live)
+
+-- where those in the list have room, all have
+pub all_room : (v : Stack) (cells now : List CellView) → IsStack v → AreListed v cells → AreAsBefore cells now
+    → ((s : ℕ) → 0 < occurrences s v.front_to_back → HasRoom 5 (cell_at now s)) → (s : ℕ) → s < length now → HasRoom 5 (cell_at now s)
+all_room v cells now ok listed same room s low = either (cases_lt 0 (occurrences s v.front_to_back))
+  where
+    without : (c : CellView) (q : State) → (q ≡ view.Live → ⊥) → RoomWhere q 5 c.live
+    without c view.Unopened idle = tt
+    without c view.Live idle = absurd (idle refl)
+    without c view.Closed idle = tt
+
+    either : (0 < occurrences s v.front_to_back) ⊎ (occurrences s v.front_to_back ≤ 0) → HasRoom 5 (cell_at now s)
+    either (inl has) = room s has
+    either (inr past) =
+        let none : occurrences s v.front_to_back ≡ 0 = omega (arith, past) in
+        without (cell_at now s) (cell_at now s).state
+        (λ live. idle_slot v now s ok (listed_roomed v cells now same listed) low none live)
+
+-- so it is with the parts of a desk
+pub listed_cells : (v : Stack) (cells : List CellView) (d : Desk) → AreOfDesk v cells d → AreNumbered v.sizes.slots cells → AreListed v cells
+listed_cells v cells d are numbered s low live =
+    let c = cell_at cells s in
+    let P : State → Type 0 = λ q. IsPartOf q c.live (slot_part d s) in
+    let part : P view.Live = subst P live (are.slots s (omega (arith, numbered.many, low))) in
+    ap has_bounds (sym (are.info.bounds s) ∙ part.bounds)

@@ -1,25 +1,25 @@
 -- What a call makes of LayerInfo, the shelf of hooks and all slots (`IsAllStep`, `DropHooks`, `ReplacesHook`), and words of this
 -- crate's private contracts.
-use Rattle.std.specs.Prelude.{◌≡◌, ℕ, ◌<◌, ◌≤◌, Bool, List, [], length, slice_set, Option, Some, None}
-use Rattle.std.specs.List.{slice_index_or}
-use Rattle.lw_region.specs.Rectangle.{Rectangle}
+use Rattle.std.specs.Prelude.{◌≡◌, ℕ, ◌<◌, ◌≤◌, ◌==◌, Bool, true, not, ◌||◌, if◌then◌else◌, List, [], ◌∷◌, length, map, take, slice_set, Option, Some, None}
+use Rattle.std.specs.List.{All, slice_index_or}
 use Rattle.lw_calls.specs.Assets.{Assets}
 use Rattle.lw_calls.specs.declared.call.Call.{Call}
 use Rattle.lw_calls.specs.declared.call.Call.TheVariants.{Create, OpenWindow, SetHook}
+use Rattle.lw_calls.specs.Orders.{occurrences}
 use Rattle.lw_calls.specs.declared.reply.Reply.{Reply}
 use Rattle.lw_calls.specs.declared.reply.Reply.TheVariants.{Done, NotOpen}
 use Rattle.lw_machine.specs.Hook.{Hook}
 use Rattle.lw_machine.specs.Layer.{may_open}
 use Rattle.lw_machine.specs.Desk.{Desk}
 use Rattle.lw_machine.specs.Arrangement.{hook_from}
+use Rattle.lw_machine.specs.Reveal.{has_bounds}
 use Rattle.lw_machine.specs.Step.{after, reply}
 use Rattle.lw_layer.specs.View.{State, CellView, hooked}
 use Rattle.lw_layer.specs.View as view
 use Rattle.lw_layer.specs.Looks.{IsLookAt}
 use Rattle.lw_layer.specs.StandsFor.{IsSound, slot_of}
 use Rattle.lw_layer.specs.declared.look.Look.{Look}
-use Rattle.lw_strips.specs.Strips.{rects_of}
-use Rattle.lw_stack.specs.Stack.{Stack}
+use Rattle.lw_stack.specs.Stack.{Stack, bounds_at}
 use Rattle.lw_arrange.specs.Arrangements.{ArrangementView}
 use Rattle.lw_engine.specs.Desks.{AreOfDesk, AreOnShelf, hook_at, no_cell, cell_at}
 use Rattle.lw_engine.specs.Slots.{hook_in, bare, shelf_without, ReadyView, IsSettled, IsReadyFor, nothing_ready}
@@ -78,43 +78,76 @@ HasSlot many (Create slot make) = slot < many
 HasSlot many (OpenWindow slot make framed nocare asks title) = slot < many
 HasSlot many call = Unit {0}
 
--- something is ready for each slot
-abbrev pub AreReady : ArrangementView → List (Option Hook) → List CellView → List ReadyView → Type 0
-AreReady a shelf slots made = ForEach (λ c r. IsReadyFor a shelf c r) no_cell nothing_ready slots made
+-- every slot with a layer has bounds in LayerInfo's list
+abbrev pub AreListed : Stack → List CellView → Type 0
+AreListed v cells =
+    (s : ℕ) → s < length cells → (cell_at cells s).state ≡ view.Live → has_bounds (bounds_at v.bounds s) ≡ true
 
--- what is ready for each slot makes of it what is told
+-- the slots for which something is ready
+abbrev pub slots_of : List ReadyView → List ℕ
+slots_of ready = map (λ r. r.slot) ready
+
+-- what is ready was made for slots that there are
+abbrev pub AreFor : ArrangementView → List (Option Hook) → List CellView → List ReadyView → Type 0
+AreFor a shelf slots made = All (λ r. (r.slot < length slots) × IsReadyFor a shelf (cell_at slots r.slot) r) made
+
+-- something is ready for these slots, in their order
+pub record AreMade (a : ArrangementView) (shelf : List (Option Hook)) (slots : List CellView) (numbers : List ℕ)
+    (made : List ReadyView) : Type 0 where
+  pub each : AreFor a shelf slots made
+  pub order : slots_of made ≡ numbers
+
+-- the slot has no bounds in the list
+abbrev pub is_idle : Stack → ℕ → Bool
+is_idle v s = not (has_bounds (bounds_at v.bounds s))
+
+-- the slot has bounds in the one list or in the other
+abbrev pub is_concerned : Stack → Stack → ℕ → Bool
+is_concerned v w s = has_bounds (bounds_at v.bounds s) || has_bounds (bounds_at w.bounds s)
+
+-- Something is ready once for each slot that has bounds before the arrangement or afterwards, and for no other.
+pub record AreReady (v : Stack) (a : ArrangementView) (shelf : List (Option Hook)) (slots : List CellView)
+    (made : List ReadyView) : Type 0 where
+  pub each : AreFor a shelf slots made
+  pub listed : (s : ℕ) → occurrences s (slots_of made) ≡ (if is_concerned v a.stack s then 1 else 0)
+
+-- what is ready makes of its slots what is told
 abbrev pub AreSettled : List (List ℕ) → (CellView → CellView) → List CellView → List ReadyView → Type 0
-AreSettled glyphs after slots ready = ForEach (λ c r. IsSettled glyphs c (after c) r) no_cell nothing_ready slots ready
+AreSettled glyphs after slots ready =
+    All (λ r. (r.slot < length slots) × IsSettled glyphs (cell_at slots r.slot) (after (cell_at slots r.slot)) r) ready
 
--- what is ready, once the hook that a call asks for was taken from the shelf for the slot of its new layer
+-- what is ready, once the slot has this hook, and once the hook that a call asks for was taken from the shelf for the slot of its
+-- new layer
+abbrev pub given_to : ℕ → Option Hook → List ReadyView → List ReadyView
+given_to slot h [] = []
+given_to slot h (r ∷ ready) = if r.slot == slot then record r { taken = h } ∷ ready else r ∷ given_to slot h ready
+
 abbrev pub with_taken : List (Option Hook) → Call → List ReadyView → List ReadyView
-with_taken shelf (Create slot make) ready =
-    slice_set ready slot (record (slice_index_or ready slot nothing_ready) { taken = hook_from (hook_at shelf) make.hook })
-with_taken shelf (OpenWindow slot make framed nocare asks title) ready =
-    slice_set ready slot (record (slice_index_or ready slot nothing_ready) { taken = hook_from (hook_at shelf) make.hook })
+with_taken shelf (Create slot make) ready = given_to slot (hook_from (hook_at shelf) make.hook) ready
+with_taken shelf (OpenWindow slot make framed nocare asks title) ready = given_to slot (hook_from (hook_at shelf) make.hook) ready
 with_taken shelf call ready = ready
 
 -- each cell has become what is told
 abbrev pub AreChanged : (CellView → CellView) → List CellView → List CellView → Type 0
 AreChanged becomes cells changed = ForEach (λ c e. e ≡ becomes c) no_cell no_cell cells changed
 
--- the first k slots were settled, and what is ready for the others is still there
+-- the cells of these slots have become what is told, and all others are as before
+pub record AreChangedAt (order : List ℕ) (becomes : CellView → CellView) (cells changed : List CellView) : Type 0 where
+  pub many : length changed ≡ length cells
+  pub each : (s : ℕ) → cell_at changed s ≡ (if occurrences s order == 0 then cell_at cells s else becomes (cell_at cells s))
+
+-- the first k that are ready were settled, and the others are still there
 pub record AreUnder (becomes : CellView → CellView) (k : ℕ) (slots now : List CellView) (made ready : List ReadyView) : Type 0 where
-  pub many : length now ≡ length slots
-  pub as_many : length ready ≡ length made
-  pub done : (s : ℕ) → s < k → cell_at now s ≡ becomes (cell_at slots s)
-  pub left : (s : ℕ) → k ≤ s → cell_at now s ≡ cell_at slots s
-  pub still : (s : ℕ) → k ≤ s → slice_index_or ready s nothing_ready ≡ slice_index_or made s nothing_ready
+  pub cells : AreChangedAt (slots_of (take k made)) becomes slots now
+  pub many : length ready ≡ length made
+  pub still : (i : ℕ) → k ≤ i → slice_index_or ready i nothing_ready ≡ slice_index_or made i nothing_ready
 
--- the rectangles of the strips that slot s gives up, and of those that it claims
-abbrev pub lost_of : List ReadyView → ℕ → List Rectangle
-lost_of ready s = rects_of (slice_index_or ready s nothing_ready).lost
+-- what is ready, without its strips, which were given up
+abbrev pub given_up : ReadyView → ReadyView
+given_up r = record r { lost = [] }
 
-abbrev pub claims_of : List ReadyView → ℕ → List Rectangle
-claims_of ready s = (slice_index_or ready s nothing_ready).claims
-
--- what is ready, once the first k slots gave their strips up
+-- what is ready, once the first k gave their strips up
 pub record HaveGiven (k : ℕ) (ready given : List ReadyView) : Type 0 where
   pub many : length given ≡ length ready
-  pub done : (s : ℕ) → s < k → slice_index_or given s nothing_ready ≡ record (slice_index_or ready s nothing_ready) { lost = [] }
-  pub left : (s : ℕ) → k ≤ s → slice_index_or given s nothing_ready ≡ slice_index_or ready s nothing_ready
+  pub done : (i : ℕ) → i < k → slice_index_or given i nothing_ready ≡ given_up (slice_index_or ready i nothing_ready)
+  pub left : (i : ℕ) → k ≤ i → slice_index_or given i nothing_ready ≡ slice_index_or ready i nothing_ready

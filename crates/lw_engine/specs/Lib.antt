@@ -2,5 +2,5 @@ pub mod Desks
 pub mod Counted
 pub mod Layers
 pub mod Slots
-pub mod Finished
+pub mod Owners
 pub mod Arranging

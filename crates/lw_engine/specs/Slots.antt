@@ -107,9 +107,11 @@ with_frame_if due glyphs active c = if due then with_own_frame glyphs active c e
 abbrev pub followed : List (List ℕ) → WindowAfter → Across → LiveView → LiveView
 followed glyphs w q c = with_window_told q (with_frame_if w.frame glyphs w.active (with_activity w.active c))
 
--- What is ready to be made of a slot: what was prepared for its cell, the strips that it gives up, the rectangles of those that
--- it claims, the pixels that are then filled, the hook of a new layer, and what becomes of the window of one that stays live.
+-- What is ready to be made of a slot: its number, what was prepared for its cell, the strips that it gives up, the rectangles of
+-- those that it claims, the pixels that are then filled, the hook of a new layer, and what becomes of the window of one that stays
+-- live.
 pub record ReadyView : Type 0 where
+  pub slot : ℕ
   pub prepared : Becomes
   pub lost : List StripView
   pub claims : List Rectangle
@@ -147,6 +149,7 @@ IsSettled glyphs from to r = IsSettledBy glyphs from to r.gained r.taken r.windo
 pub record IsReadyFor (a : ArrangementView) (shelf : List (Option Hook)) (c : CellView) (r : ReadyView) : Type 0 where
   pub settled : (glyphs : List (List ℕ))
       → IsSettledBy glyphs c (slot_after glyphs a shelf c) r.gained (asked_hook shelf a.call c.number) r.window r.prepared
+  pub slot : r.slot ≡ c.number
   pub untaken : r.taken ≡ None
   pub pieces : HasPieces c.number a.stack.sizes.depth a.pieces r.lost r.claims
 
@@ -160,4 +163,4 @@ no_window_after = record {
 
 -- nothing is ready
 abbrev pub nothing_ready : ReadyView
-nothing_ready = record { prepared = Stays; lost = []; claims = []; gained = []; taken = None; window = no_window_after }
+nothing_ready = record { slot = 0; prepared = Stays; lost = []; claims = []; gained = []; taken = None; window = no_window_after }

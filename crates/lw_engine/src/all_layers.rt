@@ -1,24 +1,24 @@
-ghost use Rattle.std.specs.Prelude.{◌≡◌, ℕ, ◌+◌, ◌<◌, ◌≤◌, true, false, [], length, option_map, IsOk, IfOk, OnOk, OnErr, IsTrue};
-ghost use Rattle.std.specs.List.{All};
+ghost use Rattle.std.specs.Prelude.{◌≡◌, ℕ, ◌+◌, ◌<◌, ◌≤◌, true, false, [], length, map, replicate, sum_by, option_map, None, IsOk, IfOk, OnOk, OnErr, IsTrue};
+ghost use Rattle.std.specs.List.{slice_set};
 ghost use Rattle.lw_region.specs.Rectangle.{Rectangle};
 ghost use Rattle.lw_calls.specs.Limits.{call_fits};
 ghost use Rattle.lw_calls.specs.declared.touch.CallClass.TheVariants.{OnAll};
 ghost use Rattle.lw_calls.specs.Touches.{class_of, is_arrangement};
 ghost use Rattle.lw_machine.specs.Arrangement.{hook_from};
 ghost use Rattle.lw_machine.specs.Desk.{Desk};
+ghost use Rattle.lw_calls.specs.Orders.{occurrences};
 ghost use Rattle.lw_engine_trait.specs.Memory.{takes_memory};
-ghost use Rattle.lw_strips.specs.Strips.{rects_of};
 ghost use Rattle.lw_strips.specs.Pools.{copies, copies_in};
-ghost use Rattle.lw_strips.specs.Exchange.{gained_by, lost_rects, gained_rects, pieces_of, total};
+ghost use Rattle.lw_strips.specs.Exchange.{gained_by, gained_rects};
 ghost use Rattle.lw_layer.specs.View.{CellView};
-ghost use Rattle.lw_layer.specs.Windows.{HasRoom};
+ghost use Rattle.lw_layer.specs.Windows.{without_room, HasRoom};
 ghost use Rattle.lw_stack.specs.Stack.{IsStack, stack_of};
 ghost use Rattle.lw_stack.specs.Desktop.{IsDesktop};
 ghost use Rattle.lw_arrange.specs.Areas.{HasArea};
 ghost use Rattle.lw_arrange.specs.Pieces.{ArePieces};
 ghost use Rattle.lw_engine.specs.Desks.{AreNumbered, AreOfDesk, AreAsBefore, hook_at, cell_at};
-ghost use Rattle.lw_engine.specs.Slots.{shelf_without, shelf_after, slot_after, IsSettled, MayBeReady};
-ghost use Rattle.lw_engine.specs.Arranging.{AreLooks, HasSlot, IsFreshSlot, AreReady, AreSettled, with_taken, lost_of, claims_of, HaveGiven, AreChanged, IsAllStep, DropHooks, IsHookSet, ReplacesHook};
+ghost use Rattle.lw_engine.specs.Slots.{shelf_without, shelf_after, slot_after, IsReadyFor, IsSettled, MayBeReady};
+ghost use Rattle.lw_engine.specs.Arranging.{AreLooks, AreListed, IsTruth, HasSlot, IsFreshSlot, AreMade, AreReady, AreSettled, slots_of, with_taken, given_to, given_up, AreChanged, AreChangedAt, IsAllStep, DropHooks, IsHookSet, ReplacesHook};
 
 use crate::ready::Ready;
 use crate::slot::Slot;
@@ -99,14 +99,14 @@ fn plan_and_arrange<B: Backfill>(
     ensures dropped { DropHooks slots.old slots.new }
     ensures unchanged { OnErr result ((info.new ≡ info.old) × (shelf.new ≡ shelf.old) × AreAsBefore slots.old slots.new) }
 {
-    let looks = looks_of(alloc, slots)?;
+    let looks = looks_of(alloc, info, slots)?;
     let fresh = is_fresh(info, slots, call);
     match plan_step(alloc, info, &looks, fresh, task, call)? {
         Step::Refused(reply) => Ok(reply),
         Step::Arranged(arrangement) => {
             // Reading the sizes tells the proof what holds of the plan.
             let _ = arrangement.sizes();
-            reserve_all(alloc, slots)?;
+            reserve_all(alloc, info, slots)?;
             arrange(alloc, info, shelf, slots, assets, &arrangement)
         }
     }
@@ -124,7 +124,7 @@ fn arrange<B: Backfill>(
 ) -> Result<Reply, AllocError>
     requires sizes { arrangement.now.stack.sizes ≡ info.old.sizes }
     requires cells { AreNumbered info.old.sizes.slots slots.old }
-    requires call { HasSlot (length slots.old) arrangement.now.call }
+    requires listed { AreListed info.old slots.old }
     requires area { HasArea info.old arrangement.now }
     requires pieces { ArePieces info.old arrangement.now.stack arrangement.now.pieces }
     requires may { (s : ℕ) → s < length slots.old → MayBeReady arrangement.now (cell_at slots.old s) }
@@ -136,39 +136,32 @@ fn arrange<B: Backfill>(
 {
     // Reading the sizes tells the proof what holds of the plan.
     let _ = arrangement.sizes();
-    let mut ready = prepare_all(alloc, slots, shelf, arrangement)?;
+    let mut ready = prepare_all(alloc, info, slots, shelf, arrangement)?;
     let mut next = prepare_info(alloc, info, arrangement)?;
     let pieces = arrangement.pieces();
     let mut pool = Pool::new(alloc);
     pool.reserve(pieces.len())?;
     let ready = ready.as_mut_slice();
     take_hook(shelf, ready, arrangement.call());
-    give_up_all(pieces, ready, &mut next, &mut pool);
-    settle_all(alloc, slots, assets, ready, pieces, &mut pool);
+    give_up_all(ready, &mut next, &mut pool);
+    settle_all(alloc, slots, assets, ready, &mut pool);
     commit_last(info, next, pieces, &mut pool);
     Ok(Reply::Done)
 }
 
-// Every slot and then the desktop gives up what it loses of these pieces.
-fn give_up_all<B: Backfill>(
-    pieces: &[Piece],
-    ready: &mut [Ready<B>],
-    next: &mut PreparedInfo,
-    pool: &mut Pool,
-)
-    requires owners { All (λ p. p.from < length ready.old + 1) pieces.now }
-    requires lost { (s : ℕ) → s < length ready.old → lost_of ready.old s ≡ lost_rects s pieces.now }
-    requires bare { rects_of next.old.exchange.lost.items ≡ lost_rects (length ready.old) pieces.now }
-    requires room { length pieces.now ≤ pool.old.spare }
+// The slots for which something is ready, and then the desktop, give up what they lose.
+fn give_up_all<B: Backfill>(ready: &mut [Ready<B>], next: &mut PreparedInfo, pool: &mut Pool)
+    requires room { sum_by (λ r. length r.lost) ready.old + length next.old.exchange.lost.items ≤ pool.old.spare }
     requires empty { pool.old.strips ≡ [] }
-    ensures numbers { (r : Rectangle) → copies_in r pool.new.strips ≡ pieces_of r pieces.now }
-    ensures ready { HaveGiven (length ready.old) ready.old ready.new }
+    ensures numbers { (r : Rectangle) →
+        copies_in r pool.new.strips ≡ sum_by (λ q. copies_in r q.lost) ready.old + copies_in r next.old.exchange.lost.items }
+    ensures ready { ready.new ≡ map given_up ready.old }
     ensures given { next.new.exchange.lost.items ≡ [] }
     ensures gained { next.new.exchange.gained ≡ next.old.exchange.gained }
     ensures after { next.new.after ≡ next.old.after }
 {
-    for slot in 0..ready.len() {
-        ready[slot].give_up(pool);
+    for place in 0..ready.len() {
+        ready[place].give_up(pool);
     }
     give_up_info(next, pool);
 }
@@ -187,25 +180,72 @@ fn commit_last(info: &mut Info, next: PreparedInfo, pieces: &[Piece], pool: &mut
 }
 
 // Reserves room in each window's port for as many messages as it may be due, so that none can fail to be put.
-fn reserve_all<B: Backfill>(alloc: Global, slots: &mut [Slot<B>]) -> Result<(), AllocError>
+fn reserve_all<B: Backfill>(
+    alloc: Global,
+    info: &Info,
+    slots: &mut [Slot<B>],
+) -> Result<(), AllocError>
+    requires many { length slots.old ≡ info.now.sizes.slots }
+    requires listed { AreListed info.now slots.old }
     ensures cells { AreAsBefore slots.old slots.new }
     ensures room { OnOk result ((s : ℕ) → s < length slots.new → HasRoom 5 (cell_at slots.new s)) }
 {
-    for slot in 0..slots.len() {
-        slots[slot].reserve(alloc)?;
+    let order = info.order();
+    for slot in order {
+        reserve_one(alloc, slots, *slot)?;
     }
     Ok(())
 }
 
-// What is told of each slot's layer.
-fn looks_of<B: Backfill>(alloc: Global, slots: &[Slot<B>]) -> Result<Vec<Option<Look>>, AllocError>
+// Reserves room in the port of the window in a slot, if there is one.
+fn reserve_one<B: Backfill>(
+    alloc: Global,
+    slots: &mut [Slot<B>],
+    slot: u32,
+) -> Result<(), AllocError>
+    requires { slot < length slots.old }
+    ensures slots { slots.new ≡ slice_set slots.old slot (cell_at slots.new slot) }
+    ensures cell { without_room (cell_at slots.new slot) ≡ without_room (cell_at slots.old slot) }
+    ensures room { OnOk result (HasRoom 5 (cell_at slots.new slot)) }
+{
+    slots[slot as usize].reserve(alloc)
+}
+
+// What is told of each slot's layer. Only the slots of LayerInfo's list are looked at: no other one has a layer.
+fn looks_of<B: Backfill>(
+    alloc: Global,
+    info: &Info,
+    slots: &[Slot<B>],
+) -> Result<Vec<Option<Look>>, AllocError>
+    requires many { length slots.now ≡ info.now.sizes.slots }
+    requires listed { AreListed info.now slots.now }
     ensures { IfOk result (λ looks. AreLooks slots.now looks.items) }
 {
-    let mut looks = Vec::with_capacity(alloc, slots.len())?;
-    for slot in slots {
-        looks.push(slot.cell().look())?;
+    let mut looks = no_looks(alloc, slots.len())?;
+    let order = info.order();
+    for slot in order {
+        looks[*slot as usize] = look_of(slots, *slot);
     }
     Ok(looks)
+}
+
+// What is told of so many slots without a layer.
+fn no_looks(alloc: Global, count: usize) -> Result<Vec<Option<Look>>, AllocError>
+    ensures { IfOk result (λ looks. looks.items ≡ replicate count None) }
+{
+    let mut looks = Vec::with_capacity(alloc, count)?;
+    for _slot in 0..count {
+        looks.push(None)?;
+    }
+    Ok(looks)
+}
+
+// What is told of a slot's layer.
+fn look_of<B: Backfill>(slots: &[Slot<B>], slot: u32) -> Option<Look>
+    requires { slot < length slots.now }
+    ensures { IsTruth (cell_at slots.now slot) result }
+{
+    slots[slot as usize].cell().look()
 }
 
 // Whether in the desk's version a layer may be created in the slot in which a call creates or opens one.
@@ -221,36 +261,113 @@ fn is_fresh<B: Backfill>(info: &Info, slots: &[Slot<B>], call: &Call) -> bool
     }
 }
 
-// Makes everything ready, slot by slot.
+// Makes everything ready: of the slots in LayerInfo's list, and then of the one that gets a layer. No other slot is looked at.
 fn prepare_all<B: Backfill>(
     alloc: Global,
+    info: &Info,
     slots: &[Slot<B>],
     shelf: &Shelf<B>,
     arrangement: &Arrangement,
 ) -> Result<Vec<Ready<B>>, AllocError>
+    requires sizes { arrangement.now.stack.sizes ≡ info.now.sizes }
+    requires cells { AreNumbered info.now.sizes.slots slots.now }
+    requires may { (s : ℕ) → s < length slots.now → MayBeReady arrangement.now (cell_at slots.now s) }
+    ensures { IfOk result (λ made. AreReady info.now arrangement.now shelf.now slots.now made.items) }
+{
+    let mut made = Vec::with_capacity(alloc, info.order().len() + 1)?;
+    prepare_live(alloc, info, slots, shelf, arrangement, &mut made)?;
+    prepare_new(alloc, info, slots, shelf, arrangement, &mut made)?;
+    Ok(made)
+}
+
+// Makes the slots in LayerInfo's list ready, from front to back.
+fn prepare_live<B: Backfill>(
+    alloc: Global,
+    info: &Info,
+    slots: &[Slot<B>],
+    shelf: &Shelf<B>,
+    arrangement: &Arrangement,
+    made: &mut Vec<Ready<B>>,
+) -> Result<(), AllocError>
+    requires sizes { arrangement.now.stack.sizes ≡ info.now.sizes }
+    requires cells { AreNumbered info.now.sizes.slots slots.now }
+    requires may { (s : ℕ) → s < length slots.now → MayBeReady arrangement.now (cell_at slots.now s) }
+    requires none { made.old.items ≡ [] }
+    ensures { OnOk result (AreMade arrangement.now shelf.now slots.now info.now.front_to_back made.new.items) }
+{
+    let order = info.order();
+    for slot in order {
+        made.push(prepare_one(alloc, slots, shelf, arrangement, *slot)?)?;
+    }
+    Ok(())
+}
+
+// Makes the slots ready that have a layer afterwards and are not in LayerInfo's list.
+fn prepare_new<B: Backfill>(
+    alloc: Global,
+    info: &Info,
+    slots: &[Slot<B>],
+    shelf: &Shelf<B>,
+    arrangement: &Arrangement,
+    made: &mut Vec<Ready<B>>,
+) -> Result<(), AllocError>
+    requires sizes { arrangement.now.stack.sizes ≡ info.now.sizes }
+    requires cells { AreNumbered info.now.sizes.slots slots.now }
+    requires may { (s : ℕ) → s < length slots.now → MayBeReady arrangement.now (cell_at slots.now s) }
+    requires live { AreMade arrangement.now shelf.now slots.now info.now.front_to_back made.old.items }
+    ensures { OnOk result (AreReady info.now arrangement.now shelf.now slots.now made.new.items) }
+{
+    // Reading the sizes tells the proof what holds of the list and of the plan.
+    let _ = info.sizes();
+    let _ = arrangement.sizes();
+    let order = arrangement.order();
+    for slot in order {
+        if info.bounds(*slot).is_none() {
+            made.push(prepare_one(alloc, slots, shelf, arrangement, *slot)?)?;
+        }
+    }
+    Ok(())
+}
+
+// Makes a slot ready.
+fn prepare_one<B: Backfill>(
+    alloc: Global,
+    slots: &[Slot<B>],
+    shelf: &Shelf<B>,
+    arrangement: &Arrangement,
+    slot: u32,
+) -> Result<Ready<B>, AllocError>
     requires cells { AreNumbered arrangement.now.stack.sizes.slots slots.now }
     requires may { (s : ℕ) → s < length slots.now → MayBeReady arrangement.now (cell_at slots.now s) }
-    ensures { IfOk result (λ made. AreReady arrangement.now shelf.now slots.now made.items) }
+    requires low { slot < length slots.now }
+    ensures { IfOk result (λ ready. (ready.slot ≡ slot) × IsReadyFor arrangement.now shelf.now (cell_at slots.now slot) ready) }
 {
-    let mut made = Vec::with_capacity(alloc, slots.len())?;
-    for slot in slots {
-        made.push(slot.prepare(alloc, shelf, arrangement)?)?;
-    }
-    Ok(made)
+    slots[slot as usize].prepare(alloc, shelf, arrangement)
 }
 
 // Takes the hook that the call asks for from the shelf, for the slot of its new layer.
 fn take_hook<B: Backfill>(shelf: &mut Shelf<B>, ready: &mut [Ready<B>], call: &Call)
-    requires { HasSlot (length ready.old) call.now }
     ensures shelf { shelf.new ≡ shelf_after call.now shelf.old }
     ensures ready { ready.new ≡ with_taken shelf.old call.now ready.old }
 {
     match call {
         Call::Create { slot, make } | Call::OpenWindow { slot, make, .. } => {
             let taken = take(shelf, make.hook);
-            ready[*slot as usize].receive(taken);
+            give_to(ready, *slot, taken);
         }
         _ => {}
+    }
+}
+
+// The slot takes this hook, where something is ready for it.
+fn give_to<B: Backfill>(ready: &mut [Ready<B>], slot: u32, hook: Option<B>)
+    ensures { ready.new ≡ given_to slot (option_map B.hook hook) ready.old }
+{
+    for place in 0..ready.len() {
+        if ready[place].is_for(slot) {
+            ready[place].receive(hook);
+            return;
+        }
     }
 }
 
@@ -265,40 +382,43 @@ fn take<B: Backfill>(shelf: &mut Shelf<B>, hook: Option<u32>) -> Option<B>
     }
 }
 
-// Settles every slot, which claims what it gains of these pieces.
+// Settles the slots for which something is ready, each of which claims what it gains.
 fn settle_all<B: Backfill>(
     alloc: Global,
     slots: &mut [Slot<B>],
     assets: &Assets,
     ready: &mut [Ready<B>],
-    pieces: &[Piece],
     pool: &mut Pool,
 )
     requires settled { (after : CellView → CellView) × AreSettled assets.now.glyphs after slots.old ready.old }
-    requires claims { (s : ℕ) → s < length ready.old → claims_of ready.old s ≡ gained_rects s pieces.now }
-    requires pool { (r : Rectangle) → total (length slots.old) (λ s. gained_by r s pieces.now) ≤ copies_in r pool.old.strips }
-    ensures settled { (after : CellView → CellView) → AreSettled assets.now.glyphs after slots.old ready.old → AreChanged after slots.old slots.new }
+    requires once { (s : ℕ) → occurrences s (slots_of ready.old) ≤ 1 }
+    requires pool { (r : Rectangle) → sum_by (λ q. copies r q.claims) ready.old ≤ copies_in r pool.old.strips }
+    ensures settled { (after : CellView → CellView) → AreSettled assets.now.glyphs after slots.old ready.old
+        → AreChangedAt (slots_of ready.old) after slots.old slots.new }
     ensures numbers { (r : Rectangle) →
-        copies_in r pool.old.strips ≡ copies_in r pool.new.strips + total (length slots.old) (λ s. gained_by r s pieces.now) }
+        copies_in r pool.old.strips ≡ copies_in r pool.new.strips + sum_by (λ q. copies r q.claims) ready.old }
 {
-    for slot in 0..slots.len() {
-        settle_one(alloc, &mut slots[slot], assets, &mut ready[slot], pool);
+    for place in 0..ready.len() {
+        settle_one(alloc, slots, assets, &mut ready[place], pool);
     }
 }
 
-// Settles one slot.
+// Settles the slot for which this is ready.
 fn settle_one<B: Backfill>(
     alloc: Global,
-    slot: &mut Slot<B>,
+    slots: &mut [Slot<B>],
     assets: &Assets,
     ready: &mut Ready<B>,
     pool: &mut Pool,
 )
-    requires settled { (to : CellView) × IsSettled assets.now.glyphs slot.old to ready.old }
+    requires low { ready.old.slot < length slots.old }
+    requires settled { (to : CellView) × IsSettled assets.now.glyphs (cell_at slots.old ready.old.slot) to ready.old }
     requires pool { (r : Rectangle) → copies r ready.old.claims ≤ copies_in r pool.old.strips }
-    ensures settled { (to : CellView) → IsSettled assets.now.glyphs slot.old to ready.old → slot.new ≡ to }
+    ensures settled { (to : CellView) → IsSettled assets.now.glyphs (cell_at slots.old ready.old.slot) to ready.old
+        → slots.new ≡ slice_set slots.old ready.old.slot to }
     ensures numbers { (r : Rectangle) → copies_in r pool.old.strips ≡ copies_in r pool.new.strips + copies r ready.old.claims }
 {
+    let place = ready.slot() as usize;
     let ready = mem::replace(ready, Ready::stays(alloc));
-    slot.settle(alloc, assets, ready, pool);
+    slots[place].settle(alloc, assets, ready, pool);
 }

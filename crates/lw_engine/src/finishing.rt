@@ -5,21 +5,22 @@ ghost use Rattle.std.specs.List.{range_with_len, slice_index_or};
 ghost use Rattle.lw_calls.specs.declared.reply.Reply.{Reply as AnyReply};
 ghost use Rattle.lw_machine.specs.Desk.{Desk};
 ghost use Rattle.lw_machine.specs.Finals.{final_of};
-ghost use Rattle.lw_machine.specs.Screen.{screen};
 ghost use Rattle.lw_final_state.specs.Shown.{seen_in};
 ghost use Rattle.lw_engine.specs.Desks.{cell_at, AreNumbered, AreOfDesk};
-ghost use Rattle.lw_engine.specs.Finished.{AreSlotsOf};
+ghost use Rattle.lw_engine.specs.Owners.{IsAssembled};
 
 use crate::slot::Slot;
 use lw_backfill::Backfill;
-use lw_calls::{Final, Replies, Seen, Sizes};
-use lw_final_state::{seen, show_layer};
+use lw_calls::{Final, Replies, Seen};
+use lw_final_state::seen;
 use lw_planes::Planes;
 use lw_stack::Info;
+use lw_strips::{assemble, lay_all, screen_of};
 use std::alloc::{AllocError, Global};
 
 /// What a run leaves whose tasks had these replies, a list for each task: the screen, where each layer is shown with its
-/// damage, and the replies. It is given all slots. It fails only when out of memory.
+/// damage, and the replies. It is given all slots. The screen is assembled of the strips of all slots and of the desktop. It fails
+/// only when out of memory.
 pub fn finish<B: Backfill>(
     alloc: Global,
     info: &Info,
@@ -29,12 +30,13 @@ pub fn finish<B: Backfill>(
     requires cells { AreNumbered info.now.sizes.slots slots.now }
     requires tasks { vec_len replies ≡ info.now.sizes.tasks }
     requires desk { (d : Desk) × AreOfDesk info.now slots.now d }
-    ensures { IfOk result (λ last. (d : Desk) (rs : ℕ → List AnyReply)
+    ensures final_state { IfOk result (λ last. (d : Desk) (rs : ℕ → List AnyReply)
         → AreOfDesk info.now slots.now d
         → ((t : ℕ) → t < info.now.sizes.tasks → slice_index_or replies.items t [] ≡ rs t)
         → last ≡ final_of d rs) }
+    ensures assembled { IfOk result (λ last. IsAssembled info.now slots.now last.planes) }
 {
-    let planes = screen(alloc, info.sizes(), slots)?;
+    let planes = screen(alloc, info, slots)?;
     let slots = slots_seen(alloc, info, slots)?;
     Ok(Final {
         planes,
@@ -43,19 +45,18 @@ pub fn finish<B: Backfill>(
     })
 }
 
-// What the screen shows.
-fn screen<B: Backfill>(
-    alloc: Global,
-    sizes: &Sizes,
-    slots: &[Slot<B>],
-) -> Result<Planes, AllocError>
-    requires many { length slots.now ≡ sizes.now.slots }
-    requires desk { (d : Desk) × AreSlotsOf sizes.now slots.now d }
-    ensures { IfOk result (λ planes. (d : Desk) → AreSlotsOf sizes.now slots.now d → planes ≡ screen d) }
+// The strips of the desktop and of all slots, those of the first slot last.
+fn screen<B: Backfill>(alloc: Global, info: &Info, slots: &[Slot<B>]) -> Result<Planes, AllocError>
+    requires desk { (d : Desk) × AreOfDesk info.now slots.now d }
+    requires many { length slots.now ≡ info.now.sizes.slots }
+    ensures { IfOk result (λ planes. IsAssembled info.now slots.now planes) }
 {
-    let mut planes = Planes::new(alloc, sizes.width, sizes.height, sizes.depth)?;
-    for slot in slots {
-        show_layer(&mut planes, slot.cell());
+    let sizes = info.sizes();
+    let desktop = info.desktop();
+    let window = screen_of(sizes.width, sizes.height);
+    let mut planes = assemble(alloc, sizes.width, sizes.height, sizes.depth, desktop)?;
+    for index in (0..slots.len()).rev() {
+        lay_all(&mut planes, &window, slots[index].strips());
     }
     Ok(planes)
 }

@@ -5,6 +5,7 @@ ghost use Rattle.lw_calls.specs.Limits.{IsWithinLimits};
 ghost use Rattle.lw_machine.specs.Desk.{Desk, empty_desk, shelf_of};
 ghost use Rattle.lw_machine.specs.Finals.{final_of};
 ghost use Rattle.lw_engine.specs.Layers.{layer_relations, AreLayers, AreRegisters};
+ghost use Rattle.lw_engine.specs.Owners.{IsAssembled};
 
 use crate::all_layers::on_all;
 use crate::finishing::finish;
@@ -66,7 +67,8 @@ impl<'a, B: Backfill> LayerEngine<'a, B> {
     }
 
     /// What a run leaves of these parts whose tasks had these replies, a list for each task: the screen, where each layer is
-    /// shown with its damage, and the replies. It fails only when out of memory.
+    /// shown with its damage, and the replies. The screen is assembled of the strips of all slots and of the desktop. It fails
+    /// only when out of memory.
     pub fn finish(
         &self,
         alloc: Global,
@@ -76,10 +78,11 @@ impl<'a, B: Backfill> LayerEngine<'a, B> {
     ) -> Result<Final, AllocError>
         requires tasks { vec_len replies ≡ self.now.sizes.tasks }
         requires desk { (d : Desk) × AreLayers self.now.sizes self.now.assets.now info.now slots.now d }
-        ensures { IfOk result (λ last. (d : Desk) (rs : ℕ → List AnyReply)
+        ensures final_state { IfOk result (λ last. (d : Desk) (rs : ℕ → List AnyReply)
             → AreLayers self.now.sizes self.now.assets.now info.now slots.now d
             → ((t : ℕ) → t < self.now.sizes.tasks → slice_index_or replies.items t [] ≡ rs t)
             → last ≡ final_of d rs) }
+        ensures assembled { IfOk result (λ last. IsAssembled info.now.stack slots.now last.planes) }
     {
         finish(alloc, &info.info, slots, replies)
     }

@@ -1,5 +1,7 @@
 // LayerInfo with the hooks that no call took.
 
+ghost use Rattle.std.specs.Prelude.{◌≡◌};
+
 use lw_backfill::{Backfill, Shelf};
 use lw_stack::Info;
 use std::marker::Model;
@@ -18,4 +20,13 @@ impl<B: Backfill> Model for LayerInfo<B> {
     ghost Value = { InfoView };
 
     ghost view = { λ i. record { stack = i.info; shelf = i.shelf } };
+}
+
+impl<B: Backfill> LayerInfo<B> {
+    /// The list of layers and the desktop, without the hooks.
+    pub fn info(&self) -> &Info
+        ensures { result.now ≡ self.now.stack }
+    {
+        &self.info
+    }
 }

@@ -1,6 +1,6 @@
 // What an arrangement makes of one slot, in two steps: making it ready takes all the memory, and settling it takes none.
 
-ghost use Rattle.std.specs.Prelude.{◌≡◌, ◌+◌, ◌-◌, ◌<◌, ◌≤◌, ◌++◌, reverse, length, ◌||◌, option_map, is_some, true, false, if◌then◌else◌, [], IfOk};
+ghost use Rattle.std.specs.Prelude.{◌≡◌, ◌+◌, ◌-◌, ◌<◌, ◌≤◌, ◌==◌, ◌++◌, reverse, length, ◌||◌, option_map, is_some, true, false, if◌then◌else◌, [], IfOk};
 ghost use Rattle.lw_region.specs.Rectangle.{Rectangle};
 ghost use Rattle.lw_strips.specs.Pools.{copies, copies_in};
 ghost use Rattle.lw_machine.specs.Arrangement.{hook_from};
@@ -38,6 +38,7 @@ use std::marker::Model;
 /// then filled, the hook that a new layer takes from the shelf, and what becomes of the window of a layer that stays live.
 #[derive(Drop)]
 pub(crate) struct Ready<B: Backfill> {
+    pub(crate) slot: u32,
     pub(crate) prepared: Becomes,
     pub(crate) exchange: Exchange,
     pub(crate) gained: Region,
@@ -51,21 +52,36 @@ impl<B: Backfill> Model for Ready<B> {
 
     ghost Value = { ReadyView };
 
-    ghost view = { λ r. record { prepared = r.prepared; lost = r.exchange.lost.items; claims = r.exchange.gained.items; gained = r.gained; taken = option_map B.hook r.taken; window = r.window } };
+    ghost view = { λ r. record { slot = r.slot; prepared = r.prepared; lost = r.exchange.lost.items; claims = r.exchange.gained.items; gained = r.gained; taken = option_map B.hook r.taken; window = r.window } };
 }
 
 impl<B: Backfill> Ready<B> {
-    /// Nothing: the slot stays as it is.
+    /// Nothing is ready: this stands where what was ready has been taken.
     pub(crate) fn stays(alloc: Global) -> Ready<B>
         ensures { result ≡ nothing_ready }
     {
         Ready {
+            slot: 0,
             prepared: Becomes::Stays,
             exchange: Exchange::none(alloc),
             gained: Region::new(alloc),
             taken: None,
             window: WindowAfter::none(),
         }
+    }
+
+    /// The slot's number.
+    pub(crate) fn slot(&self) -> u32
+        ensures { result ≡ self.now.slot }
+    {
+        self.slot
+    }
+
+    /// Whether it is ready for this slot.
+    pub(crate) fn is_for(&self, slot: u32) -> bool
+        ensures { result ≡ (self.now.slot == slot) }
+    {
+        self.slot == slot
     }
 
     /// A new layer takes this hook.
@@ -110,6 +126,7 @@ impl<B: Backfill> Slot<B> {
         let gained = pixels_filled(alloc, gained, hooked, window.change.sized);
         let _ = gained.rects();
         Ok(Ready {
+            slot: self.cell.slot(),
             prepared: prepared.becomes,
             exchange: prepared.exchange,
             gained,
@@ -146,6 +163,7 @@ impl<B: Backfill> Slot<B> {
             gained,
             taken,
             window,
+            ..
         } = ready;
         exchange.claim(pool);
         match prepared {

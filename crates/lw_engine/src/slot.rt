@@ -14,11 +14,13 @@ ghost use Rattle.lw_layer.specs.Windows.{without_room, HasRoom};
 ghost use Rattle.lw_layer_calls.specs.Parts.{IsLayerStep, IsPairStep};
 ghost use Rattle.lw_engine.specs.Slots.{hook_in};
 ghost use Rattle.lw_engine.specs.Desks.{unopened_cell};
+ghost use Rattle.lw_engine.specs.Owners.{AreStripsOf};
 
 use lw_backfill::Backfill;
 use lw_calls::{Assets, Call, Reply};
 use lw_layer::Cell;
 use lw_layer_calls::{Regs, on_layer, on_layers};
+use lw_strips::Strip;
 use std::alloc::{AllocError, Global};
 use std::marker::Model;
 
@@ -55,6 +57,20 @@ impl<B: Backfill> Slot<B> {
         ensures { self.now ≡ hooked (hook_in self.now) result.now }
     {
         &self.cell
+    }
+
+    /// The strips that the slot's layer shows on the screen, as `Layer::strips` lends them; a slot that isn't live has none.
+    pub fn strips(&self) -> &[Strip]
+        ensures { AreStripsOf self.now result.now }
+    {
+        match self.cell.layer() {
+            Some(layer) => {
+                // Reading them tells the proof that their list is canonical.
+                let _ = layer.visible();
+                layer.strips()
+            }
+            None => &[],
+        }
     }
 
     // Whether a layer is live in the slot.

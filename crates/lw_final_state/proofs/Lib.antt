@@ -1,3 +1,2 @@
 pub mod SeenTables
 pub mod SeenLaws
-pub mod ShownLayer

@@ -1,13 +1,11 @@
--- What a run leaves of one cell: what is seen of it, by the list of layers, and its visible pixels on the screen.
-use Rattle.std.specs.Prelude.{◌≡◌, ℕ, List, pos, Option, Some, None}
+-- What a run leaves of one cell: what is seen of it, by the list of layers.
+use Rattle.std.specs.Prelude.{ℕ, List, pos, Option, Some, None}
 use Rattle.lw_region.specs.Pixels.{Pixel}
 use Rattle.lw_region.specs.Rectangle.{Rectangle}
 use Rattle.lw_region.specs.Bands.{bands}
-use Rattle.lw_planes.specs.Bitmap.{Bitmap}
 use Rattle.lw_calls.specs.declared.last.Seen.{Seen}
 use Rattle.lw_machine.specs.Finals.{pixels_where, damage_set, port_of}
 use Rattle.lw_layer.specs.View.{State, Unopened, Live, Closed, LiveView, CellView}
-use Rattle.lw_layer.specs.Copied.{with_visible}
 use Rattle.lw_stack.specs.Stack.{Stack, is_top_in}
 
 -- the places of the screen on which a slot's layer is on top
@@ -23,13 +21,3 @@ seen_as Closed visible c = None
 -- what is seen of a cell
 abbrev pub seen_in : Stack → CellView → Option Seen
 seen_in v c = seen_as c.state (bands (top_set v c.number)) c.live
-
--- the bitmap with the pens of a slot's layer where it is visible, by what the slot holds
-unfoldable pub with_layer_shown : State → LiveView → Bitmap → Bitmap
-with_layer_shown Unopened c b = b
-with_layer_shown Live c b = with_visible c b
-with_layer_shown Closed c b = b
-
--- the layer of a slot, if it is live, has as many planes as the bitmap
-abbrev pub HasPlanesOf : Bitmap → CellView → Type 0
-HasPlanesOf b c = c.state ≡ Live → c.live.layer.bits.depth ≡ b.depth

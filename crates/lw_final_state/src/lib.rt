@@ -1,8 +1,6 @@
-//! What a run leaves of one layer: its visible pixels on the screen, and what is seen of it.
+//! What a run leaves of one layer: where on the screen it is seen, its damage, and the messages of its window.
 #![tactic(auto)]
 
 mod seeing;
-mod showing;
 
 pub use seeing::seen;
-pub use showing::show_layer;

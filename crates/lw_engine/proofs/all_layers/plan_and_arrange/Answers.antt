@@ -1,6 +1,5 @@
-use Rattle.std.proofs.Common.{◌<◌, List, length, Option, ◌∙◌, sym, subst, arith}
+use Rattle.std.proofs.Common.{◌<◌, List, length, Option, sym, subst, arith}
 use Rattle.lw_calls.specs.Assets.{Assets}
-use Rattle.lw_calls.specs.declared.call.Call.{Call}
 use Rattle.lw_calls.specs.declared.reply.Reply.{Reply}
 use Rattle.lw_machine.specs.Hook.{Hook}
 use Rattle.lw_machine.specs.Desk.{Desk}
@@ -13,10 +12,18 @@ use Rattle.lw_arrange.specs.Pieces.{StepHasPieces}
 use Rattle.lw_arrange.specs.Steps.{KeepsSizes}
 use Rattle.lw_engine.specs.Desks.{cell_at}
 use Rattle.lw_engine.specs.Slots.{slot_after}
-use Rattle.lw_engine.specs.Arranging.{AreLooks, HasSlot, AreChanged, IsAllStep}
-use Rattle.lw_engine.proofs.RoomLaws.{same_cell, same_length, sound_roomed, numbered_roomed, of_desk_roomed}
-use Rattle.lw_engine.proofs.ArrangingDesks.{told_desk, plan_done, refused_step, done_step, cells_may, slot_is_there, numbered_after, dropped_after, dropped_none, kept_after, step_after}
+use Rattle.lw_engine.specs.Arranging.{AreLooks, AreChanged, IsAllStep}
+use Rattle.lw_engine.proofs.RoomLaws.{same_cell, same_length, sound_roomed, numbered_roomed, of_desk_roomed, listed_roomed, listed_cells}
+use Rattle.lw_engine.proofs.ArrangingDesks.{told_desk, plan_done, refused_step, done_step, cells_may, numbered_after, dropped_after, dropped_none, kept_after, step_after}
 use Rattle.lw_engine.proofs.all_layers.plan_and_arrange.Goals as goal
+
+pub looks_of-requires-clause-listed : goal.looks_of-requires-clause-listed
+looks_of-requires-clause-listed g c =
+    listed_cells c.args.info.now c.args.slots.now c.requires.desk.0 c.requires.desk.1 c.requires.cells
+
+pub reserve_all-requires-clause-listed : goal.reserve_all-requires-clause-listed
+reserve_all-requires-clause-listed g c =
+    listed_cells c.args.info.now c.args.slots.now c.requires.desk.0 c.requires.desk.1 c.requires.cells
 
 pub returns-in-Refused-clause-step : goal.returns-in-Refused-clause-step
 returns-in-Refused-clause-step g c =
@@ -70,21 +77,11 @@ arrange-requires-clause-may g c =
     sound_roomed (cell_at cells s) (cell_at roomy s) (same_cell cells roomy s before inside) (truth.each s inside).sound)
     (c.in_ok-reserve_all-in-Arranged.ensures {u = tt}).room
 
-pub arrange-requires-clause-call : goal.arrange-requires-clause-call
-arrange-requires-clause-call g c =
+pub arrange-requires-clause-listed : goal.arrange-requires-clause-listed
+arrange-requires-clause-listed g c =
     let v = c.args.info.now in
-    let cells = c.args.slots.now in
-    let roomy = c.reserve_all.new.slots in
-    let d : Desk = c.requires.desk.0 in
-    let L : List (Option Look) → Type 0 = λ l. AreLooks cells l in
-    let truth : L c.deref.result.now = subst L (sym c.deref.ensures.value) c.in_ok-looks.ensures in
-    let done =
-    plan_done d v cells c.deref.result.now c.is_fresh-fresh.result c.args.task c.args.call.now c.in_ok-reply.field-0 c.in-Arranged.arrangement c.requires.desk.1 c.requires.cells truth c.is_fresh-fresh.ensures
-    c.requires.all c.requires.fits c.in_ok-reply.ensures.step c.in_ok-reply.ensures.sizes c.in-Arranged.is c.sizes.ensures.planned
-    in
-    let P : Call → Type 0 = λ q. HasSlot (length roomy) q in
-    subst P (sym done.plan.call)
-    (slot_is_there v.sizes c.args.call.now (length roomy) (same_length cells roomy c.reserve_all.ensures.cells ∙ c.requires.cells.many) c.requires.fits)
+    listed_roomed v c.args.slots.now c.reserve_all.new.slots c.reserve_all.ensures.cells
+    (listed_cells v c.args.slots.now c.requires.desk.0 c.requires.desk.1 c.requires.cells)
 
 pub returns-clause-step : goal.returns-clause-step
 returns-clause-step g c =

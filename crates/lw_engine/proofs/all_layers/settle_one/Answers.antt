@@ -1,23 +1,43 @@
-use Rattle.std.proofs.Common.{◌≡◌, ◌≤◌, ◌+◌, sym, subst}
+use Rattle.std.proofs.Common.{◌≡◌, ◌≤◌, ◌+◌, get_or, set, sym, ap, subst, ◌∙◌}
+use Rattle.std.proofs.lemmas.List.{get_or_default}
 use Rattle.lw_strips.specs.Pools.{copies, copies_in}
+use Rattle.lw_layer.specs.View.{CellView}
+use Rattle.lw_engine.specs.Desks.{no_cell, cell_at}
 use Rattle.lw_engine.specs.Slots.{ReadyView, IsSettled}
 use Rattle.lw_engine.proofs.all_layers.settle_one.Goals as goal
 
 pub settle-requires-clause-settled : goal.settle-requires-clause-settled
 settle-requires-clause-settled g c =
-    let P : ReadyView → Type 0 = λ r. IsSettled c.args.assets.now.glyphs c.args.slot.now c.requires.settled.0 r in
-    (c.requires.settled.0, subst P (sym c.replace-ready.ensures.value) c.requires.settled.1)
-
-pub returns-clause-settled : goal.returns-clause-settled
-returns-clause-settled g c =
-    λ to is.
-    let P : ReadyView → Type 0 = λ r. IsSettled c.args.assets.now.glyphs c.args.slot.now to r in
-    c.settle.ensures.settled to (subst P (sym c.replace-ready.ensures.value) is)
+    let slots = c.args.slots.now in
+    let q = c.args.ready.now.slot in
+    let d = c.index-slots-place.result in
+    let glyphs = c.args.assets.now.glyphs in
+    let here : get_or slots c.slot-place.result d ≡ cell_at slots q =
+    ap (λ n. get_or slots n d) c.slot-place.ensures ∙ get_or_default slots q d no_cell c.requires.low
+    in
+    let P : CellView → Type 0 = λ v. IsSettled glyphs v c.requires.settled.0 c.replace-ready.result in
+    let R : ReadyView → Type 0 = λ r. IsSettled glyphs (cell_at slots q) c.requires.settled.0 r in
+    (c.requires.settled.0, subst P (sym here) (subst R (sym c.replace-ready.ensures.value) c.requires.settled.1))
 
 pub settle-requires-clause-pool : goal.settle-requires-clause-pool
 settle-requires-clause-pool g c = λ r.
     let P : ReadyView → Type 0 = λ v. copies r v.claims ≤ copies_in r c.args.pool.now.strips in
     subst P (sym c.replace-ready.ensures.value) (c.requires.pool r)
+
+pub returns-clause-settled : goal.returns-clause-settled
+returns-clause-settled g c =
+    λ to is.
+    let slots = c.args.slots.now in
+    let q = c.args.ready.now.slot in
+    let d = c.index-slots-place.result in
+    let glyphs = c.args.assets.now.glyphs in
+    let here : get_or slots c.slot-place.result d ≡ cell_at slots q =
+    ap (λ n. get_or slots n d) c.slot-place.ensures ∙ get_or_default slots q d no_cell c.requires.low
+    in
+    let P : CellView → Type 0 = λ v. IsSettled glyphs v to c.replace-ready.result in
+    let R : ReadyView → Type 0 = λ r. IsSettled glyphs (cell_at slots q) to r in
+    ap (λ n. set slots n c.settle.new.self) c.slot-place.ensures
+    ∙ ap (set slots q) (c.settle.ensures.settled to (subst P (sym here) (subst R (sym c.replace-ready.ensures.value) is)))
 
 pub returns-clause-numbers : goal.returns-clause-numbers
 returns-clause-numbers g c = λ r.

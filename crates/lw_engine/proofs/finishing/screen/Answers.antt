@@ -1,34 +1,48 @@
-use Rattle.std.proofs.Common.{◌∙◌, sym, ap, subst, arith}
-use Rattle.lw_planes.specs.Bitmap.{Bitmap}
-use Rattle.lw_layer.specs.View.{CellView}
-use Rattle.lw_final_state.specs.Shown.{HasPlanesOf, with_layer_shown}
-use Rattle.lw_engine.specs.Slots.{hook_in}
-use Rattle.lw_engine.proofs.HookedLaws.{shown_hooked}
-use Rattle.lw_engine.proofs.FinishedDesk.{cell_read, cell_deep, no_layer_shown, cell_shown, all_shown}
+use Rattle.std.proofs.Common.{◌≡◌, ℕ, ◌-◌, drop, ◌∙◌, ap, arith, subst, sym}
+use Rattle.lw_planes.specs.Sizes.{AreSizes}
+use Rattle.lw_strips.specs.Laying.{screen, assembled}
+use Rattle.lw_calls.specs.declared.sizes.Sizes.{Sizes}
+use Rattle.lw_engine.specs.Owners.{IsAssembled}
+use Rattle.lw_engine.proofs.FinishedLast.{cell_read}
+use Rattle.lw_engine.proofs.FinishedScreen.{slot_deep, desktop_deep, screen_may, laid_size, laid_depth, laid_none, laid_more}
 use Rattle.lw_engine.proofs.finishing.screen.Goals as goal
 
-pub loop-slot-init : goal.loop-slot-init
-loop-slot-init g c = λ d stands. no_layer_shown c.args.sizes.now c.args.slots.now d c.in_ok-planes.planes stands c.in_ok-planes.ensures
+pub assemble-requires-clause-sizes : goal.assemble-requires-clause-sizes
+assemble-requires-clause-sizes g c =
+    let P : Sizes → Type 0 = λ z. AreSizes z.width z.height z.depth in
+    subst P (sym c.sizes-sizes.ensures.value) (screen_may c.args.info.now.sizes c.sizes-sizes.ensures.stack.limits)
 
-pub show_layer-requires : goal.show_layer-requires
-show_layer-requires g c =
-    let cells = c.args.slots.now in
-    let n = c.loop-slot.slot-index in
-    let d = c.requires.desk.0 in
-    let read = cell_read cells n c.slot-item.result c.loop-slot-test.true c.slot-item.is in
-    let HasPlanes : CellView → Type 0 = λ v. HasPlanesOf c.loop-slot.planes v in
-    subst HasPlanes c.cell.ensures
-    (cell_deep c.args.sizes.now cells d n n c.slot-item.result c.loop-slot.planes c.requires.desk.1 (omega (arith, c.loop-slot-test.true, c.requires.many)) read (c.loop-slot.invariant d c.requires.desk.1))
+pub assemble-requires-clause-planes : goal.assemble-requires-clause-planes
+assemble-requires-clause-planes g c =
+    desktop_deep c.args.info.now c.desktop-desktop.result.now _ c.desktop-desktop.ensures (ap (λ (z : Sizes). z.depth) c.sizes-sizes.ensures.value)
 
-pub loop-slot-preserved : goal.loop-slot-preserved
-loop-slot-preserved g c = λ d stands.
-    let sizes = c.args.sizes.now in
+pub loop-index-init : goal.loop-index-init
+loop-index-init g c =
+    let desktop = c.desktop-desktop.result.now in
+    let P : Sizes → Type 0 = λ z. c.in_ok-planes.planes ≡ assembled z.width z.height z.depth desktop in
+    laid_none c.args.info.now c.args.slots.now _ desktop c.in_ok-planes.planes (omega arith) c.desktop-desktop.ensures
+    (subst P c.sizes-sizes.ensures.value c.in_ok-planes.ensures)
+
+pub lay_all-requires-clause-size : goal.lay_all-requires-clause-size
+lay_all-requires-clause-size g c =
+    laid_size c.args.info.now (drop c.loop-index.index c.args.slots.now) c.loop-index.planes c.screen_of-window.result
+    (c.screen_of-window.ensures ∙ ap (λ (z : Sizes). screen z.width z.height) c.sizes-sizes.ensures.value) c.loop-index.invariant
+
+pub lay_all-requires-clause-planes : goal.lay_all-requires-clause-planes
+lay_all-requires-clause-planes g c =
     let cells = c.args.slots.now in
-    let n = c.loop-slot.slot-index in
-    let read = cell_read cells n c.slot-item.result c.loop-slot-test.true c.slot-item.is in
-    let shown : CellView → Bitmap = λ v. with_layer_shown v.state v.live c.loop-slot.planes in
-    cell_shown sizes cells d n c.slot-item.result c.loop-slot.planes c.show_layer.new.planes stands (omega (arith, c.loop-slot-test.true, c.requires.many)) read (c.loop-slot.invariant d stands)
-    (c.show_layer.ensures ∙ (shown_hooked c.loop-slot.planes (hook_in c.slot-item.result) c.cell.result.now ∙ ap shown (sym c.cell.ensures)))
+    let k : ℕ = c.loop-index.index - 1 in
+    slot_deep c.args.info.now cells c.requires.desk.0 k c.index-slots-index.result c.strips.result.now c.loop-index.planes.depth c.requires.desk.1
+    (omega (arith, c.requires.many)) (cell_read cells k c.index-slots-index.result (omega arith) c.index-slots-index.is) c.strips.ensures
+    (laid_depth c.args.info.now (drop c.loop-index.index cells) c.loop-index.planes c.loop-index.invariant)
+
+pub loop-index-preserved : goal.loop-index-preserved
+loop-index-preserved g c =
+    laid_more c.args.info.now c.args.slots.now (c.loop-index.index - 1) c.loop-index.index c.index-slots-index.result c.strips.result.now
+    c.loop-index.planes c.lay_all.new.planes c.screen_of-window.result (omega arith) (omega arith) c.index-slots-index.is c.strips.ensures
+    (c.screen_of-window.ensures ∙ ap (λ (z : Sizes). screen z.width z.height) c.sizes-sizes.ensures.value) c.loop-index.invariant c.lay_all.ensures
 
 pub returns : goal.returns
-returns g c = λ d stands. all_shown c.args.sizes.now c.args.slots.now d c.loop-slot.slot-index c.loop-slot.planes stands (omega (arith, c.loop-slot-test.false, c.requires.many)) (c.loop-slot.invariant d stands)
+returns g c =
+    let first : c.loop-index.index ≡ 0 = omega arith in
+    subst (λ n. IsAssembled c.args.info.now (drop n c.args.slots.now) c.loop-index.planes) first c.loop-index.invariant

@@ -2,7 +2,7 @@ use Rattle.std.proofs.Common.{◌∙◌, sym, ap, arith}
 use Rattle.lw_final_state.specs.Shown.{seen_in}
 use Rattle.lw_engine.specs.Desks.{cell_at}
 use Rattle.lw_engine.specs.Slots.{hook_in}
-use Rattle.lw_engine.proofs.FinishedDesk.{more_mapped, cell_read}
+use Rattle.lw_engine.proofs.FinishedLast.{more_mapped, cell_read}
 use Rattle.lw_engine.proofs.HookedLaws.{seen_hooked}
 use Rattle.lw_engine.proofs.finishing.slots_seen.Goals as goal
 

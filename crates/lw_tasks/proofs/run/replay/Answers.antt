@@ -67,4 +67,4 @@ returns g c =
     IfOk-weaker c.finish.result _ _
     (λ last left. left (machine start es) (λ t. replies_of start t es) (subst Q (sym c.as_slice.ensures.value) run.stands.layers)
     (λ t low. run.each t (let under : t < plan.sizes.tasks = omega (arith, low, tasks) in under)))
-    c.finish.ensures
+    c.finish.ensures.final_state

@@ -83,5 +83,5 @@ returns-clause-last g c =
     let L : List CellView → Type 0 = λ q. AreLayers engine.sizes engine.assets.now closed.info q (machine d history) in
     let tasks : engine.sizes.tasks ≡ plan.sizes.tasks = ap (λ (s : Sizes). s.tasks) (c.new-engine-2.ensures.sizes ∙ c.sizes-2.ensures.value) in
     let said = run_said layer_relations d plan closed.info closed.cells.items history all of_plan ran c.in_ok-replies.replies.items (c.in_ok-replies.ensures {u = tt}) in
-    let last = c.in_ok-last.ensures {u = tt} (machine d history) (λ t. replies_of d t history) (subst L (sym c.as_slice-2.ensures.value) (subst A assets (subst S sizes ran.parts))) (λ t low. said t (let under : t < plan.sizes.tasks = omega (arith, low, tasks) in under)) in
+    let last = (c.in_ok-last.ensures {u = tt}).final_state (machine d history) (λ t. replies_of d t history) (subst L (sym c.as_slice-2.ensures.value) (subst A assets (subst S sizes ran.parts))) (λ t low. said t (let under : t < plan.sizes.tasks = omega (arith, low, tasks) in under)) in
     run_last layer_relations d plan closed.info closed.cells.items history all of_plan ran hooks c.new.result c.in_ok-last.last c.requires.desk (c.new.ensures ∙ order) last

@@ -1,7 +1,8 @@
-use Rattle.std.proofs.Common.{◌≡◌, ◌<◌, ◌∙◌, sym, ap, subst, arith}
+use Rattle.std.proofs.Common.{◌≡◌, ◌<◌, IfOk, ◌∙◌, sym, ap, subst, arith}
 use Rattle.std.proofs.lemmas.Result.{IfOk-weaker}
 use Rattle.lw_calls.specs.declared.sizes.Sizes.{Sizes}
 use Rattle.lw_engine.specs.Layers.{InfoView, AreLayers}
+use Rattle.lw_engine.specs.Owners.{IsAssembled}
 use Rattle.lw_engine.proofs.LayerLaws.{numbered_cells, layers_of_desk}
 use Rattle.lw_engine.proofs.layer_engine.LayerEngine.finish.Goals as goal
 
@@ -31,8 +32,8 @@ finish-requires-clause-desk g c =
     let P : InfoView → Type 0 = λ i. AreLayers sizes assets i a.slots.now d in
     (d, layers_of_desk sizes assets (record { stack = f.info; shelf = f.shelf }) a.slots.now d (subst P (sym c.info.view_is) c.requires.desk.1))
 
-pub returns : goal.returns
-returns g c =
+pub returns-clause-final_state : goal.returns-clause-final_state
+returns-clause-final_state g c =
     let a = c.args in
     let f = c.info.inside in
     let sizes = a.self.now.sizes in
@@ -46,4 +47,10 @@ returns g c =
     let P : InfoView → Type 0 = λ i. AreLayers sizes assets i a.slots.now d in
     left d rs (layers_of_desk sizes assets (record { stack = f.info; shelf = f.shelf }) a.slots.now d (subst P (sym c.info.view_is) parts))
     (λ t low. given t (let under : t < sizes.tasks = omega (arith, low, first) in under)))
-    c.finish.ensures
+    c.finish.ensures.final_state
+
+pub returns-clause-assembled : goal.returns-clause-assembled
+returns-clause-assembled g c =
+    let f = c.info.inside in
+    let P : InfoView → Type 0 = λ i. IfOk c.finish.result (λ last. IsAssembled i.stack c.args.slots.now last.planes) in
+    subst P c.info.view_is c.finish.ensures.assembled

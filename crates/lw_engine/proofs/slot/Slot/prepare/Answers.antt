@@ -62,6 +62,7 @@ returns g c =
           (c.has_hook-hooked.ensures ∙ ap (λ q. is_some (hook_in s) || is_some (asked_hook shelf q s.number)) c.call.ensures) (subst Hook_gains same told.hook) (subst Frame_gains same told.frame)
           (subst None_gained same told.none) (λ live r bounds. (after live r bounds).done.sized))
           after;
+      slot = c.slot.ensures ∙ ap (λ (v : CellView). v.number) c.self.view_is;
       untaken = refl;
       pieces = subst Pieces same (c.in_ok-prepared.ensures {u = tt}).pieces;
     }

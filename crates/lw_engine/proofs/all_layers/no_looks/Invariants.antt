@@ -1,0 +1,5 @@
+use Rattle.std.proofs.Common.{◌≡◌, None, replicate}
+use Rattle.lw_engine.proofs.all_layers.no_looks.Given as goal
+
+abbrev pub invariant-loop-slot : goal.invariant-loop-slot
+invariant-loop-slot l = l.looks.items ≡ replicate l._slot None
