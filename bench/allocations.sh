@@ -1,6 +1,7 @@
 #!/bin/sh
-# Refuses each allocation of the built program in turn, one in each run of it, for `run`, `check`, `replay` and `audit` of
-# examples/first-fill.layers and examples/realistic.layers, whose three tasks run on threads. Each run has to end with status 5 and to
+# Refuses each allocation of the built program in turn, one in each run of it, for `run`, `check`, `replay`, `audit` and `ilbm` of
+# examples/first-fill.layers and examples/realistic.layers, whose three tasks run on threads, and for `bitmap` of what `ilbm` writes
+# of these. Each run has to end with status 5 and to
 # write nothing, or with status 0 and its usual text; a report of `run` is usual where `audit` says so. It prints for each command and
 # script how many allocations were refused, and how many runs ended in either way. It ends with status 1 at the first run that
 # answered anything else, and tells which one it was.
@@ -30,14 +31,15 @@ is_usual() {
     fi
 }
 
-# Refuses one allocation after another of a command on an input, until a run has fewer.
+# Refuses one allocation after another of a command, with its further words, on an input, until a run has fewer.
 refuse_each() {
     command=$1 input=$2 number=0 stopped=0 finished=0
-    "$program" "$command" <"$input" >"$work/usual"
+    shift 2
+    "$program" "$command" "$@" <"$input" >"$work/usual"
     while :; do
         number=$((number + 1)) status=0
         # (`timeout` itself allocates, and isn't to be refused)
-        timeout 60 env REFUSED=$number LD_PRELOAD="$work/refuse.so" "$program" "$command" \
+        timeout 60 env REFUSED=$number LD_PRELOAD="$work/refuse.so" "$program" "$command" "$@" \
             <"$input" >"$work/output" 2>"$work/said" || status=$?
         grep -q refused "$work/said" || break
         if [ "$status" -eq 5 ] && [ ! -s "$work/output" ]; then
@@ -61,4 +63,7 @@ for script in "$bench/../examples/first-fill.layers" "$bench/../examples/realist
     refuse_each check "$script"
     refuse_each replay "$work/ordered"
     refuse_each audit "$work/audited"
+    refuse_each ilbm "$work/ordered"
+    "$program" ilbm <"$work/ordered" >"$work/picture"
+    refuse_each bitmap "$work/picture" b
 done

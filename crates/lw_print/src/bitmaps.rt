@@ -1,6 +1,6 @@
 //! The lines of bitmaps.
 
-ghost use Rattle.std.specs.Prelude.{◌≡◌, ◌++◌, map, pos, OnOk};
+ghost use Rattle.std.specs.Prelude.{◌≡◌, ◌++◌, map, pos, IfOk, OnOk};
 ghost use Rattle.std.specs.List.{flat_map, range_with_len};
 ghost use Rattle.lw_planes.specs.Bitmap.{plane_row};
 ghost use Rattle.lw_canonical.specs.Canonical.{lines_of_bitmap};
@@ -8,6 +8,7 @@ ghost use Rattle.lw_grammar.specs.Statements.{BitmapLine, RowLine};
 ghost use Rattle.lw_calls.specs.Written.{line_of};
 ghost use Rattle.lw_canonical.specs.Spelling.{spelled};
 ghost use Rattle.lw_print.specs.Behind.{text_of_lines};
+ghost use Rattle.lw_print.specs.Bitmaps.{bitmap_text};
 ghost use Rattle.lw_print.specs.Parts.{bitmap_lines};
 
 use lw_calls::Text;
@@ -28,6 +29,16 @@ pub fn push_bitmaps(
         push_bitmap(alloc, out, name_of(names, number), &bitmaps[number])?;
     }
     Ok(())
+}
+
+/// The lines of a bitmap of this name, as they stand in a script: its name and sizes, and its rows plane by plane. The only error is
+/// running out of memory.
+pub fn print_bitmap(alloc: Global, name: &[u8], bitmap: &Planes) -> Result<Vec<u8>, AllocError>
+    ensures { IfOk result (λ text. text.items ≡ bitmap_text name.now bitmap.now) }
+{
+    let mut out = Vec::new(alloc);
+    push_bitmap(alloc, &mut out, name, bitmap)?;
+    Ok(out)
 }
 
 /// Writes the lines of a bitmap: its name and sizes, and its rows plane by plane.

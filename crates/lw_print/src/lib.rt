@@ -1,4 +1,4 @@
-//! The canonical text of a plan: the script that spells it, with each line in its one spelling.
+//! The canonical text of a plan: the script that spells it, with each line in its one spelling; and the lines of a bitmap alone.
 //!
 //! `lw_canonical` has the text as a definition, in `specs/Canonical.antt`.
 #![tactic(auto)]
@@ -14,4 +14,5 @@ mod verbs;
 mod whole;
 mod words;
 
+pub use bitmaps::print_bitmap;
 pub use whole::print;

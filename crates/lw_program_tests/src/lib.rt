@@ -22,6 +22,8 @@ mod tests_hooks;
 #[cfg(test)]
 mod tests_layers;
 #[cfg(test)]
+mod tests_pictures;
+#[cfg(test)]
 mod tests_realistic;
 #[cfg(test)]
 mod tests_refusals;

@@ -65,7 +65,7 @@ fn replay_runs_several_tasks_in_a_legal_order(rt: HostRuntime) -> Result<(), Fai
 }
 
 // A command, a script and what stands after it, and the line that is written for it.
-static REFUSED: [(&str, &[u8], &[u8], &str); 9] = [
+static REFUSED: [(&str, &[u8], &[u8], &str); 11] = [
     // Another task's call within the lock, and an order that ends too early, which is bad at its end.
     ("replay", LOCKED, b"0 0 1 0\n", "bad order at 2\n"),
     ("replay", LOCKED, b"0 0\n", "bad order at 2\n"),
@@ -94,6 +94,9 @@ static REFUSED: [(&str, &[u8], &[u8], &str); 9] = [
         "refused line 6 misplaced\n",
     ),
     ("replay", FIRST_FILL, b"", "refused line 6 missing\n"),
+    // A screen is written as a file where the script and its order are ones to replay.
+    ("ilbm", LOCKED, b"0 0 1 0\n", "bad order at 2\n"),
+    ("ilbm", FIRST_FILL, b"", "refused line 6 missing\n"),
 ];
 
 #[test]

@@ -10,7 +10,8 @@ pub const FIRST_FILL: &[u8] =
 pub const FIRST_FILL_REPORT: &[u8] =
     b"order 2\n0 0\nplanes 16 4 1\nplane 0\n0000\n6000\n6000\n0000\nvisible w 1\n0 0 7 3\ndamage w 0\nreplies a 2\nok\nok\ndone\n";
 
-const USAGE_LINE: &[u8] = b"usage: layers run|check|replay|audit|demo NUMBER TASKS\n";
+const USAGE_LINE: &[u8] =
+    b"usage: layers run|check|replay|audit|demo NUMBER TASKS|ilbm|bitmap NAME\n";
 
 #[test]
 fn scripts_give_their_reports(rt: HostRuntime) -> Result<(), Fail> {
@@ -28,7 +29,7 @@ fn scripts_give_their_reports(rt: HostRuntime) -> Result<(), Fail> {
 #[test]
 fn words_that_are_no_command_get_the_usage_line(rt: HostRuntime) -> Result<(), Fail> {
     let alloc = rt.alloc();
-    let table: [&[&str]; 11] = [
+    let table: [&[&str]; 17] = [
         &[],
         &["run", "run"],
         &["audit", "1"],
@@ -40,6 +41,13 @@ fn words_that_are_no_command_get_the_usage_line(rt: HostRuntime) -> Result<(), F
         &["demo", "4294967296", "1"],
         &["demo", "7", "2", "x"],
         &["demo", "-1", "2"],
+        &["ilbm", "a"],
+        &["bitmap"],
+        &["bitmap", "a", "b"],
+        // A number, an empty word and 17 bytes are no names.
+        &["bitmap", "9"],
+        &["bitmap", ""],
+        &["bitmap", "abcdefghijklmnopq"],
     ];
     for texts in table {
         let mut words = Vec::new(alloc);

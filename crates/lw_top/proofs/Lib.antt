@@ -1,11 +1,13 @@
 mod AnswerLaws
 mod AuditOutcomes
 mod BadPlaces
+mod BitmapOutcomes
 mod CallCount
 mod DamageTold
 mod DemoScreens
 mod LegalOrders
 mod OrderLength
+mod OutcomeLaws
 mod Outcomes
 mod PenCounts
 mod PrintedOrder

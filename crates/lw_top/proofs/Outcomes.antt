@@ -23,7 +23,7 @@ use Rattle.lw_script.specs.Differing.{DiffersAt}
 use Rattle.lw_script.specs.OrderSection.{HasOrder, StopsAt}
 use Rattle.lw_script.proofs.OrderSections.{order_or_place, one_order, one_stop, same_or_differ, one_difference, same_or_differs}
 use Rattle.lw_top.specs.Audit.{call_count, IsMachineReport, IsBadReportOrder, IsDifference}
-use Rattle.lw_top.specs.Commands.{reads_with, behind_script, IsTextFor, IsBadOrderFor, IsDifferenceFor}
+use Rattle.lw_top.specs.Commands.{output_of, reads_with, behind_script, IsTextFor, IsBadOrderFor, IsDifferenceFor}
 use Rattle.lw_top.specs.Outcome.{IsOutcomeFor, IsOutcome}
 use Rattle.lw_top.specs.Laws.{IsDecided}
 use Rattle.lw_top.specs.Status.{text_of, input_limit}
@@ -46,10 +46,10 @@ bad_from plan ok order illegal (suc n) k e keeps = step (λ d. bad_from plan ok 
 outcome_for : (hooks : List Hook) (command : ScriptCommand) (input : List ℕ) (script : ScriptInput) → IsPlan script.plan → (status : Status) × (text : List ℕ) × IsOutcomeFor hooks command input script status text
 outcome_for hooks Run input script ok = let legal = begins script.plan ok [] refl in (Done, run_report script.plan hooks legal.0, (legal.0, legal.1, refl))
 outcome_for hooks Check input script ok = (Done, canonical_text script.plan, refl)
-outcome_for hooks Replay input script ok = step (is_legal script.plan script.order) refl
+outcome_for hooks (Replay output) input script ok = step (is_legal script.plan script.order) refl
   where
-    step : (b : Bool) → is_legal script.plan script.order ≡ b → (status : Status) × (text : List ℕ) × IsOutcomeFor hooks Replay input script status text
-    step true d = (Done, run_report script.plan hooks script.order, (d, refl))
+    step : (b : Bool) → is_legal script.plan script.order ≡ b → (status : Status) × (text : List ℕ) × IsOutcomeFor hooks (Replay output) input script status text
+    step true d = (Done, output_of output script.plan hooks script.order, (d, refl))
     step false d =
         let bad = bad_from script.plan ok script.order d (length script.order) 0 (omega arith) refl in
         (BadOrder bad.0, text_of (BadOrder bad.0), (bad.1, refl))
@@ -147,37 +147,37 @@ one_place hooks plan text k m (inr a) (inr b) =
 one_text : (hooks : List Hook) (command : ScriptCommand) (input : List ℕ) (script : ScriptInput) (a b : List ℕ) → IsTextFor hooks command input script a → IsTextFor hooks command input script b → IsOneText command Done a b
 one_text hooks Run input script a b x y = inr (refl, refl)
 one_text hooks Check input script a b x y = inl (x ∙ sym y)
-one_text hooks Replay input script a b x y = inl (x.1 ∙ sym y.1)
+one_text hooks (Replay output) input script a b x y = inl (x.1 ∙ sym y.1)
 one_text hooks Audit input script a b x y = inl (x.1 ∙ sym y.1)
 
 text_or_bad : (hooks : List Hook) (command : ScriptCommand) (input : List ℕ) (script : ScriptInput) (text : List ℕ) (place : ℕ) → IsPlan script.plan → IsTextFor hooks command input script text → IsBadOrderFor command input script place → ⊥
 text_or_bad hooks Run input script text place ok h bad = bad
 text_or_bad hooks Check input script text place ok h bad = bad
-text_or_bad hooks Replay input script text place ok h bad = legal_or_bad script.plan script.order place h.0 bad
+text_or_bad hooks (Replay output) input script text place ok h bad = legal_or_bad script.plan script.order place h.0 bad
 text_or_bad hooks Audit input script text place ok h bad = machine_or_bad hooks script.plan (behind_script input script) place ok h.0 bad
 
 text_or_differs : (hooks : List Hook) (command : ScriptCommand) (input : List ℕ) (script : ScriptInput) (text : List ℕ) (place : ℕ) → IsPlan script.plan → IsTextFor hooks command input script text → IsDifferenceFor hooks command input script place → ⊥
 text_or_differs hooks Run input script text place ok h d = d
 text_or_differs hooks Check input script text place ok h d = d
-text_or_differs hooks Replay input script text place ok h d = d
+text_or_differs hooks (Replay output) input script text place ok h d = d
 text_or_differs hooks Audit input script text place ok h d = machine_or_differs hooks script.plan (behind_script input script) place ok h.0 d
 
 order_or_differs : (hooks : List Hook) (command : ScriptCommand) (input : List ℕ) (script : ScriptInput) (k m : ℕ) → IsBadOrderFor command input script k → IsDifferenceFor hooks command input script m → ⊥
 order_or_differs hooks Run input script k m bad d = d
 order_or_differs hooks Check input script k m bad d = d
-order_or_differs hooks Replay input script k m bad d = d
+order_or_differs hooks (Replay output) input script k m bad d = d
 order_or_differs hooks Audit input script k m bad d = bad_or_differs hooks script.plan (behind_script input script) k m bad d
 
 one_bad_order : (command : ScriptCommand) (input : List ℕ) (script : ScriptInput) (k m : ℕ) → IsBadOrderFor command input script k → IsBadOrderFor command input script m → k ≡ m
 one_bad_order Run input script k m a b = absurd a
 one_bad_order Check input script k m a b = absurd a
-one_bad_order Replay input script k m a b = one_bad_place script.plan script.order k m a b
+one_bad_order (Replay output) input script k m a b = one_bad_place script.plan script.order k m a b
 one_bad_order Audit input script k m a b = one_bad_report script.plan (behind_script input script) k m a b
 
 one_differs : (hooks : List Hook) (command : ScriptCommand) (input : List ℕ) (script : ScriptInput) (k m : ℕ) → IsDifferenceFor hooks command input script k → IsDifferenceFor hooks command input script m → k ≡ m
 one_differs hooks Run input script k m a b = absurd a
 one_differs hooks Check input script k m a b = absurd a
-one_differs hooks Replay input script k m a b = absurd a
+one_differs hooks (Replay output) input script k m a b = absurd a
 one_differs hooks Audit input script k m a b = one_place hooks script.plan (behind_script input script) k m a b
 
 one_for : (hooks : List Hook) (command : ScriptCommand) (input : List ℕ) (script : ScriptInput) (s q : Status) (a b : List ℕ) → IsPlan script.plan → IsOutcomeFor hooks command input script s a → IsOutcomeFor hooks command input script q b → (s ≡ q) × IsOneText command s a b

@@ -6,15 +6,14 @@ use Rattle.lw_calls.specs.Orders.{is_legal}
 use Rattle.lw_grammar.specs.Script.{ScriptInput, SpellsInput}
 use Rattle.lw_machine.specs.Hook.{Hook}
 use Rattle.lw_top.specs.declared.status.Status.{Status}
-use Rattle.lw_top.specs.declared.status.Status.TheVariants.{Done, Refused, Usage, ReadFault, WriteFault, NoMemory, TooLong, Differs, BadOrder}
+use Rattle.lw_top.specs.declared.status.Status.TheVariants.{Done, Refused, Usage, ReadFault, WriteFault, NoMemory, TooLong, Differs, BadOrder, BadPicture}
 use Rattle.lw_top.specs.declared.words.ScriptCommand.{ScriptCommand}
 use Rattle.lw_top.specs.declared.words.ScriptCommand.TheVariants.{Run, Check, Replay, Audit}
-use Rattle.lw_top.specs.declared.words.Command.{Command}
-use Rattle.lw_top.specs.declared.words.Command.TheVariants.{Script, Demo}
 use Rattle.lw_top.specs.Audit.{IsMachineReport}
-use Rattle.lw_top.specs.Commands.{reads_input, reads_with, behind_script, IsTextFor, IsBadOrderFor, IsDifferenceFor}
+use Rattle.lw_top.specs.Bitmaps.{IsBitmapOutcome}
+use Rattle.lw_top.specs.Commands.{Asked, OfScript, OfDemo, OfBitmap, reads_input, reads_with, behind_script, IsTextFor, IsBadOrderFor, IsDifferenceFor}
 use Rattle.lw_top.specs.Demo.{demo_text}
-use Rattle.lw_top.specs.Outcome.{IsBadLineOf, IsOutcome, Promised}
+use Rattle.lw_top.specs.Outcome.{IsBadLineOf, IsOutcome, IsTaken, Outcomes, Promised}
 use Rattle.lw_top.specs.Status.{Says, text_of, input_limit}
 
 -- A command has an outcome on an input, whatever hooks are handed in. Its answer is one only, and so is its text, but that a run may
@@ -26,6 +25,14 @@ pub record IsDecided (hooks : List Hook) (command : ScriptCommand) (input : List
 
 abbrev pub OutcomesAreDecided : Type 0
 OutcomesAreDecided = (hooks : List Hook) (command : ScriptCommand) (input : List ℕ) → IsDecided hooks command input
+
+-- An input has an outcome, and one only.
+pub record HasOneOutcome (IsDueOn : Outcomes) (input : List ℕ) : Type 0 where
+  pub some : (status : Status) × (text : List ℕ) × IsDueOn input status text
+  pub one : (s q : Status) (a b : List ℕ) → IsDueOn input s a → IsDueOn input q b → (s ≡ q) × (a ≡ b)
+
+abbrev pub BitmapsAreDecided : Type 0
+BitmapsAreDecided = (name input : List ℕ) → HasOneOutcome (IsBitmapOutcome name) input
 
 -- the text is what a command writes for the script that the input spells
 abbrev pub IsTextOf : List Hook → ScriptCommand → List ℕ → List ℕ → Type 0
@@ -43,7 +50,7 @@ IsDifferenceOf hooks command input place = (script : ScriptInput) × SpellsInput
 abbrev pub IsDue : List Hook → ScriptCommand → List ℕ → ScriptInput → Type 0
 IsDue hooks Run input script = Unit {0}
 IsDue hooks Check input script = Unit {0}
-IsDue hooks Replay input script = is_legal script.plan script.order ≡ true
+IsDue hooks (Replay output) input script = is_legal script.plan script.order ≡ true
 IsDue hooks Audit input script = IsMachineReport hooks script.plan (behind_script input script)
 
 -- the answers that a stream's fault or running out of memory gives
@@ -64,11 +71,28 @@ pub record IsInput (input : List ℕ) (source : StreamChange) : Type 0 where
   pub within : length input ≤ input_limit
 
 -- The answer is the one that is due, and a text that is due with it was written whole.
-pub record IsAnswer (hooks : List Hook) (command : ScriptCommand) (input : List ℕ) (due result : Status) (sink : StreamChange) : Type 0 where
+pub record IsAnswer (IsDueOn : Outcomes) (input : List ℕ) (due result : Status) (sink : StreamChange) : Type 0 where
   pub text : List ℕ
-  pub outcome : IsOutcome hooks command input due text
+  pub outcome : IsDueOn input due text
   pub same : result ≡ due
   pub written : Wrote text sink
+
+-- What each answer tells of what was taken, and of what the source had left where it exposes that, where these are the outcomes.
+pub record OutcomeTells (IsDueOn : Outcomes) (result : Status) (source sink : StreamChange) : Type 0 where
+  -- an answer that neither a fault nor running out of memory gives is the outcome, and its text was written whole
+  pub came : (due : Status) → is_stop due ≡ false → result ≡ due
+      → (input : List ℕ) × IsTaken input source × IsAnswer IsDueOn input due result sink
+  pub came_of_left : (due : Status) → is_stop due ≡ false → result ≡ due
+      → IfSome source.old.bytes (λ input. IsAnswer IsDueOn input due result sink)
+  pub read_fault : result ≡ ReadFault → HasFailed source
+  pub write_fault : result ≡ WriteFault → HasFailed sink
+  -- the outcome comes, unless a stream failed or memory ran out
+  pub only : IfSome source.old.bytes (λ input. (due : Status) (text : List ℕ) → IsDueOn input due text → IsUnlessStopped due result)
+  pub complete : ¬ HasFailed source → ¬ HasFailed sink
+      → IfSome source.old.bytes (λ input. (due : Status) (text : List ℕ) → IsDueOn input due text
+      → IsAnswer IsDueOn input due result sink ⊎ (result ≡ NoMemory))
+  -- the text of each answer, whole
+  pub text : result ≢ Done → result ≢ WriteFault → Wrote (text_of result) sink
 
 -- What each answer to a command on a script tells of what was taken, and of what the source had left where it exposes that.
 pub record AnswerTells (hooks : List Hook) (command : ScriptCommand) (result : Status) (source sink : StreamChange) : Type 0 where
@@ -78,6 +102,7 @@ pub record AnswerTells (hooks : List Hook) (command : ScriptCommand) (result : S
   pub done_of_left : result ≡ Done
       → IfSome source.old.bytes (λ input. (text : List ℕ) × IsTextOf hooks command input text × Wrote text sink)
   pub never_usage : result ≡ Usage → ⊥
+  pub never_bad_picture : (place : ℕ) → result ≡ BadPicture place → ⊥
   pub read_fault : result ≡ ReadFault → HasFailed source
   pub too_long : result ≡ TooLong → TakesJust (input_limit + 1) source.old.bytes source.new.bytes
   pub too_long_of_left : result ≡ TooLong → IfSome source.old.bytes (λ input. input_limit < length input)
@@ -107,7 +132,7 @@ pub record AnswerTells (hooks : List Hook) (command : ScriptCommand) (result : S
       → IsUnlessStopped Done result)
   pub complete : ¬ HasFailed source → ¬ HasFailed sink
       → IfSome source.old.bytes (λ input. (due : Status) (text : List ℕ) → IsOutcome hooks command input due text
-      → IsAnswer hooks command input due result sink ⊎ (result ≡ NoMemory))
+      → IsAnswer (IsOutcome hooks command) input due result sink ⊎ (result ≡ NoMemory))
   -- the text of each answer, whole
   pub text : result ≢ Done → result ≢ WriteFault → Wrote (text_of result) sink
 
@@ -118,14 +143,15 @@ pub record DemoTells (number tasks : ℕ) (result : Status) (sink : StreamChange
   -- that it is done, unless the sink failed or memory ran out
   pub complete : ¬ HasFailed sink → (result ≡ Done) ⊎ (result ≡ NoMemory)
 
--- What an answer to a command tells.
-abbrev pub CommandTells : List Hook → Command → Status → StreamChange → StreamChange → Type 0
-CommandTells hooks (Script command) result source sink = AnswerTells hooks command result source sink
-CommandTells hooks (Demo number tasks) result source sink = DemoTells number tasks result sink
+-- What an answer tells of what was asked for.
+abbrev pub CommandTells : List Hook → Asked → Status → StreamChange → StreamChange → Type 0
+CommandTells hooks (OfScript command) result source sink = AnswerTells hooks command result source sink
+CommandTells hooks (OfDemo number tasks) result source sink = DemoTells number tasks result sink
+CommandTells hooks (OfBitmap name) result source sink = OutcomeTells (IsBitmapOutcome name) result source sink
 
--- What an answer to the words of a command line tells, which are this command, if they are one.
-pub record ToldOfWords (hooks : List Hook) (asked : Option Command) (result : Status) (source sink : StreamChange) : Type 0 where
-  pub told : IfSome asked (λ command. CommandTells hooks command result source sink)
+-- What an answer to the words of a command line tells, which ask for this, if they are a command.
+pub record ToldOfWords (hooks : List Hook) (asked : Option Asked) (result : Status) (source sink : StreamChange) : Type 0 where
+  pub told : IfSome asked (λ it. CommandTells hooks it result source sink)
   pub usage : result ≡ Usage → asked ≡ None
   pub only_usage : asked ≡ None → (result ≡ Usage) ⊎ (result ≡ WriteFault)
   pub write_fault : result ≡ WriteFault → HasFailed sink
@@ -141,8 +167,8 @@ pub record ToldOfWords (hooks : List Hook) (asked : Option Command) (result : St
 -- that reads the input; and nothing written after a fault of the source or running out of memory.
 abbrev pub AnswersTell : Type 0
 AnswersTell =
-    (hooks : List Hook) (asked : Option Command) (result : Status) (source sink : StreamChange)
-    → IfSome asked (λ command. Promised hooks command result source sink)
+    (hooks : List Hook) (asked : Option Asked) (result : Status) (source sink : StreamChange)
+    → IfSome asked (λ it. Promised hooks it result source sink)
     → (asked ≡ None → Says (text_of Usage) Usage result sink)
     → (reads_input asked ≡ false → source.new ≡ source.old)
     → ((result ≡ ReadFault) ⊎ (result ≡ NoMemory) → sink.new ≡ sink.old)

@@ -1,5 +1,6 @@
 pub mod Audit
 pub mod AuditOutcome
+pub mod Bitmaps
 pub mod Commands
 pub mod Damage
 pub mod Demo

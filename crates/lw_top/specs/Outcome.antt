@@ -8,9 +8,8 @@ use Rattle.lw_machine.specs.Hook.{Hook}
 use Rattle.lw_top.specs.declared.status.Status.{Status}
 use Rattle.lw_top.specs.declared.status.Status.TheVariants.{Done, Refused, ReadFault, NoMemory, TooLong, Differs, BadOrder}
 use Rattle.lw_top.specs.declared.words.ScriptCommand.{ScriptCommand}
-use Rattle.lw_top.specs.declared.words.Command.{Command}
-use Rattle.lw_top.specs.declared.words.Command.TheVariants.{Script, Demo}
-use Rattle.lw_top.specs.Commands.{reads_with, IsTextFor, IsBadOrderFor, IsDifferenceFor}
+use Rattle.lw_top.specs.Bitmaps.{IsBitmapOutcome}
+use Rattle.lw_top.specs.Commands.{Asked, OfScript, OfDemo, OfBitmap, reads_with, IsTextFor, IsBadOrderFor, IsDifferenceFor}
 use Rattle.lw_top.specs.Demo.{demo_text}
 use Rattle.lw_top.specs.Status.{Says, text_of, input_limit}
 
@@ -41,19 +40,23 @@ pub record IsTaken (input : List ℕ) (source : StreamChange) : Type 0 where
   pub front : Took input source
   pub ended : ((length input ≤ input_limit) × NoneLeft source.new.bytes) ⊎ (length input ≡ input_limit + 1)
 
--- The answer is the outcome of a command on what was taken from a source, and its text was written to a sink.
-pub record Served (hooks : List Hook) (command : ScriptCommand) (result : Status) (source sink : StreamChange) : Type 0 where
+-- The outcomes on inputs: which answer is due, and which text with it.
+abbrev pub Outcomes : Type 1
+Outcomes = List ℕ → Status → List ℕ → Type 0
+
+-- The answer is the outcome on what was taken from a source, and its text was written to a sink.
+pub record Served (IsDueOn : Outcomes) (result : Status) (source sink : StreamChange) : Type 0 where
   pub input : List ℕ
   pub due : Status
   pub text : List ℕ
   pub taken : IsTaken input source
-  pub outcome : IsOutcome hooks command input due text
+  pub outcome : IsDueOn input due text
   pub said : Says text due result sink
 
--- What a command on a script promises that is handed these hooks: the outcome, unless reading failed or memory ran out; and each answer other
--- than ReadFault comes only where no read failed.
-pub record Answered (hooks : List Hook) (command : ScriptCommand) (result : Status) (source sink : StreamChange) : Type 0 where
-  pub outcome : Served hooks command result source sink ⊎ ((result ≡ ReadFault) × HasFailed source) ⊎ (result ≡ NoMemory)
+-- What a command that reads its input promises: the outcome, unless reading failed or memory ran out; and each answer other than
+-- ReadFault comes only where no read failed.
+pub record Answered (IsDueOn : Outcomes) (result : Status) (source sink : StreamChange) : Type 0 where
+  pub outcome : Served IsDueOn result source sink ⊎ ((result ≡ ReadFault) × HasFailed source) ⊎ (result ≡ NoMemory)
   pub no_read_fault : result ≢ ReadFault → source.new.faults ≡ source.old.faults
   pub taken : TakesAtMost (input_limit + 1) source.old.bytes source.new.bytes
   pub source_count : source.old.faults ≤ source.new.faults
@@ -63,7 +66,8 @@ pub record Answered (hooks : List Hook) (command : ScriptCommand) (result : Stat
 abbrev pub DemoSaid : ℕ → ℕ → Status → StreamChange → Type 0
 DemoSaid number tasks result sink = Says (demo_text number tasks) Done result sink ⊎ (result ≡ NoMemory)
 
--- What the program promises of a command that is handed these hooks, which a demo drops.
-abbrev pub Promised : List Hook → Command → Status → StreamChange → StreamChange → Type 0
-Promised hooks (Script command) result source sink = Answered hooks command result source sink
-Promised hooks (Demo number tasks) result source sink = DemoSaid number tasks result sink
+-- What the program promises of what is asked for where it is handed these hooks, which only a command on a script needs.
+abbrev pub Promised : List Hook → Asked → Status → StreamChange → StreamChange → Type 0
+Promised hooks (OfScript command) result source sink = Answered (IsOutcome hooks command) result source sink
+Promised hooks (OfDemo number tasks) result source sink = DemoSaid number tasks result sink
+Promised hooks (OfBitmap name) result source sink = Answered (IsBitmapOutcome name) result source sink

@@ -5,7 +5,7 @@ use Rattle.lw_grammar.specs.declared.reason.Reason.{Reason}
 use Rattle.lw_grammar.specs.declared.reason.Reason.TheVariants.{LineTooLong, BadByte, Spacing, Quote, UnknownWord, Misplaced, Form, Range, NoName, DoubleName, Group, TooMany, NoHook, HookUsed, Padding, Missing}
 use Rattle.lw_calls.specs.Written.{line_of, spaced}
 use Rattle.lw_top.specs.declared.status.Status.{Status}
-use Rattle.lw_top.specs.declared.status.Status.TheVariants.{Done, Refused, Usage, ReadFault, WriteFault, NoMemory, TooLong, Differs, BadOrder}
+use Rattle.lw_top.specs.declared.status.Status.TheVariants.{Done, Refused, Usage, ReadFault, WriteFault, NoMemory, TooLong, Differs, BadOrder, BadPicture}
 
 -- the exit status of each answer
 abbrev pub number_of : Status → ℕ
@@ -18,6 +18,7 @@ number_of NoMemory = 5
 number_of TooLong = 6
 number_of (Differs place) = 7
 number_of (BadOrder place) = 8
+number_of (BadPicture place) = 9
 
 -- how a reason is printed
 abbrev pub reason_text : Reason → List ℕ
@@ -43,13 +44,14 @@ reason_text Missing = codes "missing"
 abbrev pub text_of : Status → List ℕ
 text_of Done = []
 text_of (Refused line reason) = line_of (codes "refused line" ++ spaced line ++ 32 ∷ reason_text reason)
-text_of Usage = line_of (codes "usage: layers run|check|replay|audit|demo NUMBER TASKS")
+text_of Usage = line_of (codes "usage: layers run|check|replay|audit|demo NUMBER TASKS|ilbm|bitmap NAME")
 text_of ReadFault = []
 text_of WriteFault = []
 text_of NoMemory = []
 text_of TooLong = line_of (codes "too long")
 text_of (Differs place) = line_of (codes "differs at" ++ spaced place)
 text_of (BadOrder place) = line_of (codes "bad order at" ++ spaced place)
+text_of (BadPicture place) = line_of (codes "bad picture at" ++ spaced place)
 
 -- the most bytes that an input may have
 abbrev pub input_limit : ℕ

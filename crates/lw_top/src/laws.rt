@@ -1,7 +1,7 @@
 //! Laws of a run and of its answers: each function does nothing, and its contract is the law.
 
 ghost use Rattle.lw_top.specs.Damage.{TextsTellDamageByHistory};
-ghost use Rattle.lw_top.specs.Laws.{AnswersTell, OutcomesAreDecided};
+ghost use Rattle.lw_top.specs.Laws.{AnswersTell, BitmapsAreDecided, OutcomesAreDecided};
 ghost use Rattle.lw_top.specs.Run.{CallsStandOnce, OneTaskHasOneOrder, ReportsTellTheirOrder};
 
 /// In a legal order, and so in the one that a report prints, each task's calls stand once, and in their order, and nothing else does.
@@ -22,6 +22,11 @@ pub fn one_task_has_one_order()
 /// A command has an outcome on each input, and one only, but that `run` reports one of a script's legal orders.
 pub fn outcomes_are_decided()
     ensures { OutcomesAreDecided }
+{}
+
+/// An input has an outcome where its picture is written as a bitmap of a name, and one only.
+pub fn bitmaps_are_decided()
+    ensures { BitmapsAreDecided }
 {}
 
 /// What `layers` promises tells, of each answer, what it has to do with the input and what was written; of each input, what

@@ -4,9 +4,9 @@ ghost use Rattle.lw_script.specs.Answers.{input_meaning};
 ghost use Rattle.lw_top.specs.Outcome.{IsOutcome, IsOutcomeFor};
 ghost use Rattle.lw_top.specs.Status.{input_limit, reason_text, text_of};
 
-use crate::report::{report_of, report_of_tasks};
+use crate::report::{output_of, report_of_tasks};
 use crate::status::Status;
-use crate::words::ScriptCommand;
+use crate::words::{Output, ScriptCommand};
 use lw_backfill::Backfill;
 use lw_calls::bad_place;
 use lw_grammar::{Form, Reason};
@@ -44,19 +44,20 @@ pub fn run_outcome<B: Backfill + Send, R: Threads + Wait + Sync, G: Gate + Sync>
     }
 }
 
-/// The outcome of `replay` with these hooks, on an input of no more bytes than the limit.
+/// The outcome of a replay with these hooks, on an input of no more bytes than the limit.
 pub fn replay_outcome<B: Backfill + Send>(
     alloc: Global,
+    output: Output,
     input: &[u8],
     hooks: Vec<B>,
 ) -> Result<Outcome, AllocError>
     requires short { length input.now ≤ input_limit }
     requires few { vec_len hooks < 4294967296 }
     ensures { IfOk result (λ outcome.
-        IsOutcome (map B.hook hooks.items) ScriptCommand.Replay input.now outcome.status outcome.text.items) }
+        IsOutcome (map B.hook hooks.items) (ScriptCommand.Replay output) input.now outcome.status outcome.text.items) }
 {
     match read(alloc, input, hooks.len() as u32, Form::Ordered) {
-        Ok(script) => outcome_in_order(alloc, &script, hooks),
+        Ok(script) => outcome_in_order(alloc, output, &script, hooks),
         Err(ScriptStop::Refused { line, reason }) => refusal(alloc, line, reason),
         Err(ScriptStop::Memory) => Err(AllocError),
     }
@@ -84,19 +85,20 @@ pub(crate) fn done(text: Vec<u8>) -> Outcome
     }
 }
 
-/// The report of the machine's run in the order that stands in a script, with these hooks, or the order's first bad place.
+/// What is written of the machine's run in the order that stands in a script, with these hooks, or the order's first bad place.
 fn outcome_in_order<B: Backfill + Send>(
     alloc: Global,
+    output: Output,
     script: &Input,
     hooks: Vec<B>,
 ) -> Result<Outcome, AllocError>
     requires few { length script.now.order < 4294967296 }
-    ensures { (input : List ℕ) → IfOk result (λ outcome. IsOutcomeFor (map B.hook hooks.items) ScriptCommand.Replay input
-        (input_meaning script.now) outcome.status outcome.text.items) }
+    ensures { (input : List ℕ) → IfOk result (λ outcome. IsOutcomeFor (map B.hook hooks.items) (ScriptCommand.Replay output)
+        input (input_meaning script.now) outcome.status outcome.text.items) }
 {
     match bad_place(alloc, &script.plan, &script.order)? {
         Some(place) => bad_order(alloc, place),
-        None => Ok(done(report_of(alloc, &script.plan, hooks, &script.order)?)),
+        None => Ok(done(output_of(alloc, output, &script.plan, hooks, &script.order)?)),
     }
 }
 

@@ -1,9 +1,14 @@
 ghost use Rattle.std.specs.Prelude.{◌≡◌, ℕ, List, map, true, IfOk};
 ghost use Rattle.lw_calls.specs.Orders.{is_legal};
+ghost use Rattle.lw_machine.specs.Finals.{run_final};
 ghost use Rattle.lw_machine.specs.Report.{run_report};
+ghost use Rattle.lw_ilbm.specs.Pictures.{encoded};
+ghost use Rattle.lw_top.specs.Commands.{output_of};
 
+use crate::words::Output;
 use lw_backfill::Backfill;
 use lw_calls::{OrderList, Plan};
+use lw_ilbm::encode;
 use lw_locks::Gate;
 use lw_report::write;
 use lw_tasks::{replay, run_tasks};
@@ -38,4 +43,35 @@ pub fn report_of<B: Backfill + Send>(
 {
     let last = replay(alloc, plan, hooks, order)?;
     write(alloc, plan, &last, order)
+}
+
+/// The screen that the machine's run of a plan in a legal order leaves, with these hooks, as an ILBM file.
+fn file_of<B: Backfill + Send>(
+    alloc: Global,
+    plan: &Plan,
+    hooks: Vec<B>,
+    order: &OrderList,
+) -> Result<Vec<u8>, AllocError>
+    requires legal { is_legal plan.now order.now ≡ true }
+    ensures { IfOk result (λ file. file.items ≡ encoded (run_final plan.now (map B.hook hooks.items) order.now).planes) }
+{
+    let last = replay(alloc, plan, hooks, order)?;
+    encode(alloc, &last.planes)
+}
+
+/// What is written of the machine's run of a plan in a legal order, with these hooks.
+pub fn output_of<B: Backfill + Send>(
+    alloc: Global,
+    output: Output,
+    plan: &Plan,
+    hooks: Vec<B>,
+    order: &OrderList,
+) -> Result<Vec<u8>, AllocError>
+    requires legal { is_legal plan.now order.now ≡ true }
+    ensures { IfOk result (λ text. text.items ≡ output_of output plan.now (map B.hook hooks.items) order.now) }
+{
+    match output {
+        Output::Report => report_of(alloc, plan, hooks, order),
+        Output::Picture => file_of(alloc, plan, hooks, order),
+    }
 }

@@ -1,25 +1,25 @@
-//! What every command on a script does: it reads its input, and writes the outcome's text. `check`, `replay_cmd` and `audit`
-//! take no lock, and return.
+//! What every command on a script does: it reads its input, and writes the outcome's text. `check`, `replay_cmd`, `ilbm_cmd` and
+//! `audit` take no lock, and return.
 
 ghost use Rattle.std.specs.Prelude.{◌≡◌, ◌⊎◌, ◌<◌, ◌≤◌, List, length, map, vec_len};
 ghost use Rattle.lw_io.specs.Streams.{change};
 ghost use Rattle.lw_machine.specs.Hook.{Hook};
-ghost use Rattle.lw_top.specs.Outcome.{Answered};
-ghost use Rattle.lw_top.specs.Status.{Says, text_of};
+ghost use Rattle.lw_top.specs.Outcome.{Answered, IsOutcome};
 
 use crate::auditing::audit_outcome;
 use crate::outcome::{check_outcome, replay_outcome, run_outcome};
-use crate::say::say;
+use crate::say::{say, say_stop};
 use crate::status::Status;
-use crate::words::ScriptCommand;
+use crate::words::{Output, ScriptCommand};
 use lw_backfill::Backfill;
-use lw_io::{ReadStop, Sink, Source, read_all};
+use lw_io::{Sink, Source, read_all};
 use lw_locks::Gate;
 use std::alloc::Global;
 use std::sync::Wait;
 use std::thread::Threads;
 
-const INPUT_LIMIT: usize = 4_194_304;
+/// The most bytes that an input may have.
+pub(crate) const INPUT_LIMIT: usize = 4_194_304;
 
 /// Does what a command says with the script in the source, with these hooks. `run` may wait, so it promises no return.
 pub fn on_script<R: Threads + Wait + Sync, S: Source, K: Sink, G: Gate + Sync>(
@@ -32,7 +32,7 @@ pub fn on_script<R: Threads + Wait + Sync, S: Source, K: Sink, G: Gate + Sync>(
     gate: &G,
 ) -> Status
     requires few { vec_len hooks < 4294967296 }
-    ensures answered { Answered (map (λ b. hook b) hooks.items) command result
+    ensures answered { Answered (IsOutcome (map (λ b. hook b) hooks.items) command) result
         (change S.left S.faults source.old source.new)
         (change K.written K.faults sink.old sink.new) }
     ensures untouched { (result ≡ Status.ReadFault) ⊎ (result ≡ Status.NoMemory)
@@ -41,7 +41,8 @@ pub fn on_script<R: Threads + Wait + Sync, S: Source, K: Sink, G: Gate + Sync>(
     match command {
         ScriptCommand::Run => run(rt, alloc, source, sink, hooks, gate),
         ScriptCommand::Check => check(alloc, source, sink, hooks.len() as u32),
-        ScriptCommand::Replay => replay_cmd(alloc, source, sink, hooks),
+        ScriptCommand::Replay(Output::Report) => replay_cmd(alloc, source, sink, hooks),
+        ScriptCommand::Replay(Output::Picture) => ilbm_cmd(alloc, source, sink, hooks),
         ScriptCommand::Audit => audit(alloc, source, sink, hooks),
     }
 }
@@ -58,7 +59,7 @@ pub fn run<B: Backfill + Send, R: Threads + Wait + Sync, S: Source, K: Sink, G: 
     gate: &G,
 ) -> Status
     requires few { vec_len hooks < 4294967296 }
-    ensures answered { Answered (map B.hook hooks.items) ScriptCommand.Run result
+    ensures answered { Answered (IsOutcome (map B.hook hooks.items) ScriptCommand.Run) result
         (change S.left S.faults source.old source.new)
         (change K.written K.faults sink.old sink.new) }
     ensures untouched { (result ≡ Status.ReadFault) ⊎ (result ≡ Status.NoMemory)
@@ -79,7 +80,7 @@ pub fn run<B: Backfill + Send, R: Threads + Wait + Sync, S: Source, K: Sink, G: 
 pub fn check<S: Source, K: Sink>(alloc: Global, source: &mut S, sink: &mut K, hooks: u32) -> Status
     // Whichever hooks these are.
     ensures answered { (given : List Hook) → length given ≡ hooks
-        → Answered given ScriptCommand.Check result
+        → Answered (IsOutcome given ScriptCommand.Check) result
         (change S.left S.faults source.old source.new)
         (change K.written K.faults sink.old sink.new) }
     ensures untouched { (result ≡ Status.ReadFault) ⊎ (result ≡ Status.NoMemory)
@@ -104,31 +105,51 @@ pub fn replay_cmd<S: Source, K: Sink>(
     hooks: Vec<Box<dyn Backfill + Send>>,
 ) -> Status
     requires few { vec_len hooks < 4294967296 }
-    ensures answered { Answered (map (λ b. hook b) hooks.items) ScriptCommand.Replay result
+    ensures answered { Answered (IsOutcome (map (λ b. hook b) hooks.items) (ScriptCommand.Replay Output.Report)) result
         (change S.left S.faults source.old source.new)
         (change K.written K.faults sink.old sink.new) }
     ensures untouched { (result ≡ Status.ReadFault) ⊎ (result ≡ Status.NoMemory)
         → sink.new ≡ sink.old }
 {
-    replay(alloc, source, sink, hooks)
+    replay(alloc, Output::Report, source, sink, hooks)
 }
 
-// The same with hooks of any one type.
+/// Runs a script of some tasks in the order that stands after them, with these hooks: reads the
+/// source to its end and writes the screen that is left as an ILBM file, or the text of another
+/// answer. It takes no lock, and returns.
+pub fn ilbm_cmd<S: Source, K: Sink>(
+    alloc: Global,
+    source: &mut S,
+    sink: &mut K,
+    hooks: Vec<Box<dyn Backfill + Send>>,
+) -> Status
+    requires few { vec_len hooks < 4294967296 }
+    ensures answered { Answered (IsOutcome (map (λ b. hook b) hooks.items) (ScriptCommand.Replay Output.Picture)) result
+        (change S.left S.faults source.old source.new)
+        (change K.written K.faults sink.old sink.new) }
+    ensures untouched { (result ≡ Status.ReadFault) ⊎ (result ≡ Status.NoMemory)
+        → sink.new ≡ sink.old }
+{
+    replay(alloc, Output::Picture, source, sink, hooks)
+}
+
+// The same with hooks of any one type, and with what is written of the run.
 fn replay<S: Source, K: Sink, B: Backfill + Send>(
     alloc: Global,
+    output: Output,
     source: &mut S,
     sink: &mut K,
     hooks: Vec<B>,
 ) -> Status
     requires few { vec_len hooks < 4294967296 }
-    ensures answered { Answered (map B.hook hooks.items) ScriptCommand.Replay result
+    ensures answered { Answered (IsOutcome (map B.hook hooks.items) (ScriptCommand.Replay output)) result
         (change S.left S.faults source.old source.new)
         (change K.written K.faults sink.old sink.new) }
     ensures untouched { (result ≡ Status.ReadFault) ⊎ (result ≡ Status.NoMemory)
         → sink.new ≡ sink.old }
 {
     match read_all(alloc, source, INPUT_LIMIT) {
-        Ok(input) => match replay_outcome(alloc, input.as_slice(), hooks) {
+        Ok(input) => match replay_outcome(alloc, output, input.as_slice(), hooks) {
             Ok(outcome) => say(sink, outcome.text.as_slice(), outcome.status),
             Err(_) => Status::NoMemory,
         },
@@ -146,7 +167,7 @@ pub fn audit<S: Source, K: Sink>(
     hooks: Vec<Box<dyn Backfill + Send>>,
 ) -> Status
     requires few { vec_len hooks < 4294967296 }
-    ensures answered { Answered (map (λ b. hook b) hooks.items) ScriptCommand.Audit result
+    ensures answered { Answered (IsOutcome (map (λ b. hook b) hooks.items) ScriptCommand.Audit) result
         (change S.left S.faults source.old source.new)
         (change K.written K.faults sink.old sink.new) }
     ensures untouched { (result ≡ Status.ReadFault) ⊎ (result ≡ Status.NoMemory)
@@ -163,7 +184,7 @@ fn audited<S: Source, K: Sink, B: Backfill + Send>(
     hooks: Vec<B>,
 ) -> Status
     requires few { vec_len hooks < 4294967296 }
-    ensures answered { Answered (map B.hook hooks.items) ScriptCommand.Audit result
+    ensures answered { Answered (IsOutcome (map B.hook hooks.items) ScriptCommand.Audit) result
         (change S.left S.faults source.old source.new)
         (change K.written K.faults sink.old sink.new) }
     ensures untouched { (result ≡ Status.ReadFault) ⊎ (result ≡ Status.NoMemory)
@@ -175,22 +196,5 @@ fn audited<S: Source, K: Sink, B: Backfill + Send>(
             Err(_) => Status::NoMemory,
         },
         Err(stop) => say_stop(sink, stop),
-    }
-}
-
-// Writes the text that is due where the input was not read to its end.
-fn say_stop<K: Sink>(sink: &mut K, stop: ReadStop) -> Status
-    ensures long { stop ≡ ReadStop.TooLong → Says (text_of Status.TooLong) Status.TooLong result
-        (change K.written K.faults sink.old sink.new) }
-    ensures fault { stop ≡ ReadStop.Fault → result ≡ Status.ReadFault }
-    ensures memory { stop ≡ ReadStop.Memory → result ≡ Status.NoMemory }
-    ensures untouched { (result ≡ Status.ReadFault) ⊎ (result ≡ Status.NoMemory)
-        → sink.new ≡ sink.old }
-    ensures count { K.faults sink.old ≤ K.faults sink.new }
-{
-    match stop {
-        ReadStop::TooLong => say(sink, b"too long\n", Status::TooLong),
-        ReadStop::Fault => Status::ReadFault,
-        ReadStop::Memory => Status::NoMemory,
     }
 }

@@ -25,10 +25,12 @@ pub enum Status {
     Differs { place: u64 },
     /// The order isn't legal, from this place on, counted from 0.
     BadOrder { place: u32 },
+    /// The input is no picture, and its first fault is at this place: the number of bytes before it.
+    BadPicture { place: u32 },
 }
 
 impl Status {
-    /// The exit status: 0 to 8.
+    /// The exit status: 0 to 9.
     pub fn number(&self) -> u8
         ensures { result ≡ number_of self.now }
     {
@@ -42,6 +44,7 @@ impl Status {
             Status::TooLong => 6,
             Status::Differs { .. } => 7,
             Status::BadOrder { .. } => 8,
+            Status::BadPicture { .. } => 9,
         }
     }
 }

@@ -1,17 +1,19 @@
-ghost use Rattle.std.specs.Prelude.{◌≡◌, ◌≤◌, pos, Some, None, IfSome, if◌then◌else◌, unsigned_abs};
+ghost use Rattle.std.specs.Prelude.{◌≡◌, ◌≤◌, pos, Some, None, IfSome, if◌then◌else◌, option_map, unsigned_abs};
 ghost use Rattle.lw_region.specs.Rectangle.{within};
-ghost use Rattle.lw_grammar.specs.Tokens.{token_of};
-ghost use Rattle.lw_top.specs.Commands.{command_named, command_of, demo_of, number_within, HasTasks};
+ghost use Rattle.lw_grammar.specs.Tokens.{token_of, is_a_name};
+ghost use Rattle.lw_top.specs.Commands.{asked_by, bitmap_of, command_named, command_of, demo_of, number_within, IsInRange};
 
 use lw_words::{Token, is_text, token_of};
 
 /// What the program is told to do.
-#[derive(Clone, Copy, Debug, PartialEq, Eq)]
-pub enum Command {
+#[derive(Clone, Copy, Debug)]
+pub enum Command<'a> {
     /// Something with the script in its input.
     Script(ScriptCommand),
     /// Run the demo of this number with so many tasks, 1 to 16.
     Demo { number: u32, tasks: u32 },
+    /// Write the picture in the input as a bitmap of this name.
+    Bitmap { name: &'a str },
 }
 
 /// What is done with a script.
@@ -21,22 +23,32 @@ pub enum ScriptCommand {
     Run,
     /// Write a script's canonical text.
     Check,
-    /// Run a script of some tasks in the order that stands in it.
-    Replay,
+    /// Run a script of some tasks in the order that stands in it, and write this of the run.
+    Replay(Output),
     /// Compare the report behind a script with the machine's in the order with which that report begins.
     Audit,
 }
 
+/// What is written of a run.
+#[derive(Clone, Copy, Debug, PartialEq, Eq)]
+pub enum Output {
+    /// Its report.
+    Report,
+    /// Its screen, as an ILBM file.
+    Picture,
+}
+
 /// The command that the words are, without the program's name; none where they are no command.
-pub fn command_of(words: &[String]) -> Option<Command>
-    ensures is { result ≡ command_of words.now }
-    ensures tasks { IfSome result HasTasks }
+pub fn command_of(words: &[String]) -> Option<Command<'_>>
+    ensures is { option_map asked_by result ≡ command_of words.now }
+    ensures range { IfSome result (λ command. IsInRange (asked_by command)) }
 {
     match words {
         [word] => match command_named(word.as_bytes()) {
             Some(command) => Some(Command::Script(command)),
             None => None,
         },
+        [word, name] => bitmap_of(word.as_bytes(), name.as_str()),
         [word, number, tasks] => {
             if !is_text(word.as_bytes(), b"demo") {
                 return None;
@@ -47,10 +59,35 @@ pub fn command_of(words: &[String]) -> Option<Command>
     }
 }
 
+/// The bitmap of this name, if the first word asks for one and the second is a name.
+fn bitmap_of<'a>(word: &[u8], name: &'a str) -> Option<Command<'a>>
+    ensures is { option_map asked_by result ≡ bitmap_of word.now name.now }
+    ensures range { IfSome result (λ command. IsInRange (asked_by command)) }
+{
+    if is_text(word, b"bitmap") && is_name(name) {
+        Some(Command::Bitmap { name })
+    } else {
+        None
+    }
+}
+
+/// Whether the word is a name of a script: a letter, and then letters, digits or underscores, of 1 to 16 bytes.
+pub fn is_name(word: &str) -> bool
+    ensures { result ≡ is_a_name word.now }
+{
+    match token_of(word.as_bytes()) {
+        Token::Name(_) => true,
+        Token::Number(_, _) => false,
+        Token::Text(_) => false,
+        Token::Odd(_) => false,
+    }
+}
+
 /// The demo of two words, if they are a number and a number of tasks.
-fn demo_of(number: &[u8], tasks: &[u8]) -> Option<Command>
-    ensures is { result ≡ demo_of (number_within 0 4294967295 (token_of number.now)) (number_within 1 16 (token_of tasks.now)) }
-    ensures tasks { IfSome result HasTasks }
+fn demo_of<'a>(number: &[u8], tasks: &[u8]) -> Option<Command<'a>>
+    ensures is { option_map asked_by result
+        ≡ demo_of (number_within 0 4294967295 (token_of number.now)) (number_within 1 16 (token_of tasks.now)) }
+    ensures range { IfSome result (λ command. IsInRange (asked_by command)) }
 {
     let number = number_within(0, u32::MAX, number)?;
     let tasks = number_within(1, 16, tasks)?;
@@ -88,9 +125,11 @@ fn command_named(word: &[u8]) -> Option<ScriptCommand>
     } else if is_text(word, b"check") {
         Some(ScriptCommand::Check)
     } else if is_text(word, b"replay") {
-        Some(ScriptCommand::Replay)
+        Some(ScriptCommand::Replay(Output::Report))
     } else if is_text(word, b"audit") {
         Some(ScriptCommand::Audit)
+    } else if is_text(word, b"ilbm") {
+        Some(ScriptCommand::Replay(Output::Picture))
     } else {
         None
     }

@@ -5,12 +5,14 @@ use Rattle.lw_machine.specs.Hook.{Hook}
 use Rattle.lw_top.specs.declared.status.Status.{Status}
 use Rattle.lw_top.specs.declared.words.ScriptCommand.{ScriptCommand}
 use Rattle.lw_top.specs.declared.words.ScriptCommand.TheVariants.{Check}
-use Rattle.lw_top.specs.Outcome.{Answered}
+use Rattle.lw_top.specs.Outcome.{Answered, IsOutcome}
 use Rattle.lw_top.proofs.serving.on_script.Goals as goal
 
 -- what is promised of any hooks of a number
-of_these : (command : ScriptCommand) (count : ℕ) (r : Status) (source sink : StreamChange) → command ≡ Check → ((given : List Hook) → length given ≡ count → Answered given Check r source sink) → (hooks : List Hook) → length hooks ≡ count → Answered hooks command r source sink
-of_these command count r source sink is each hooks many = subst (λ k. Answered hooks k r source sink) (sym is) (each hooks many)
+of_these : (command : ScriptCommand) (count : ℕ) (r : Status) (source sink : StreamChange) → command ≡ Check
+    → ((given : List Hook) → length given ≡ count → Answered (IsOutcome given Check) r source sink)
+    → (hooks : List Hook) → length hooks ≡ count → Answered (IsOutcome hooks command) r source sink
+of_these command count r source sink is each hooks many = subst (λ k. Answered (IsOutcome hooks k) r source sink) (sym is) (each hooks many)
 
 pub returns-in-Check-clause-answered : goal.returns-in-Check-clause-answered
 returns-in-Check-clause-answered g c =

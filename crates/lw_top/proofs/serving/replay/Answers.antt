@@ -1,10 +1,11 @@
-use Rattle.std.proofs.Common.{map, Err, ap}
+use Rattle.std.proofs.Common.{map, Err, ap, refl}
 use Rattle.lw_top.specs.declared.words.ScriptCommand.TheVariants.{Replay}
+use Rattle.lw_top.specs.Outcome.{IsOutcome}
 use Rattle.lw_top.proofs.Unread.{unread}
 use Rattle.lw_top.proofs.serving.replay.Goals as goal
 
 pub returns-clause-answered : goal.returns-clause-answered
 returns-clause-answered g c =
-    unread (map (λ b. g.B.Backfill.hook b) c.args.hooks.items) Replay c.in-Err.stop c.say_stop.result _ _
+    unread (IsOutcome (map (λ b. g.B.Backfill.hook b) c.args.hooks.items) (Replay c.args.output)) (λ input long. (long, refl)) c.in-Err.stop c.say_stop.result _ _
     (λ e. c.in-Err.ensures.too_long (ap Err e)) (λ e. c.in-Err.ensures.fault (ap Err e)) (λ other. c.in-Err.ensures.no_fault (λ e. other (cc)))
     c.say_stop.ensures.long c.say_stop.ensures.fault c.say_stop.ensures.memory c.in-Err.ensures.taken c.in-Err.ensures.count c.say_stop.ensures.count
