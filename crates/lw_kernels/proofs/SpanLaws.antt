@@ -80,6 +80,19 @@ masked_done one two value new mask at byte from end begins ends named written is
         (cases_lt x end))
         (cases_lt x from)
 
+-- the same of a byte of the first row
+pub byte_done : (one two : List ℕ) (value new : ℕ → ℕ) (mask byte from end : ℕ) → 8 * byte ≤ from → end ≤ 8 * byte + 8
+    → ((j : ℕ) → j < 8 → bit_at mask (7 - j) ≡ bit_of (is_between from end (8 * byte + j)))
+    → ((p : ℕ) → row_bit two p ≡ (if p / 8 == byte && bit_at mask (7 - p % 8) == 1 then value p else row_bit one p))
+    → ((p : ℕ) → p / 8 ≡ byte → value p ≡ new p) → Done two new (λ x. row_bit one x) from end
+byte_done one two value new mask byte from end begins ends named written is =
+    let none : (n : ℕ) → 0 + n ≡ n = λ n. omega arith in
+    subst (λ n. Done two new (λ x. row_bit one x) n end) (none from)
+    (subst (λ n. Done two new (λ x. row_bit one x) (0 + from) n) (none end)
+    (masked_done one two value new mask 0 byte from end begins ends named
+    (subst (λ n. (p : ℕ) → row_bit two p ≡ (if p / 8 == n && bit_at mask (7 - p % 8) == 1 then value p else row_bit one p)) (sym (none byte)) written)
+    (λ p here _ _. is p (here ∙ none byte))))
+
 -- an inverted byte has the inverted bits of the row
 pub inverted_bit : (row : List ℕ) (index x : ℕ) → get_or row index 0 < 256 → x / 8 ≡ index → bit_at (255 - get_or row index 0) (7 - x % 8) ≡ 1 - row_bit row x
 inverted_bit row index x small here =

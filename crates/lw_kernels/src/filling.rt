@@ -3,7 +3,7 @@ ghost use Rattle.lw_planes.specs.Row.{bit_of, row_bit, row_bits};
 ghost use Rattle.lw_kernels.specs.Kernel.{is_between, is_named, place_in, with_named};
 ghost use Rattle.lw_kernels.specs.Spans.{IsSpan};
 
-use crate::bytes::spread;
+use crate::bytes::{mask, spread};
 use crate::spans::{Span, put_masked, span_of};
 
 /// Gives the `count` bits of the row from bit `from` on this value. All of them are in the row, and
@@ -14,6 +14,26 @@ pub fn fill(row: &mut [u8], from: u32, count: u32, bit: bool)
     ensures each { (x : ℕ) → row_bit row.new x ≡ (if is_named from count x then bit_of bit else row_bit row.old x) }
 {
     if count > 0 {
+        fill_run(row, from, count, bit);
+    }
+}
+
+// As `fill`, of one bit at least. Bits of one byte, such as those of a steep line, need one mask alone.
+fn fill_run(row: &mut [u8], from: u32, count: u32, bit: bool)
+    requires some { 0 < count }
+    requires inside { from + count ≤ 8 * length row.old }
+    ensures { (p : ℕ) → row_bit row.new p ≡ (if is_between from (from + count) p then bit_of bit else row_bit row.old p) }
+{
+    if count <= 8 - from % 8 {
+        let from = from as usize;
+        let index = from / 8;
+        put_masked(
+            row,
+            index,
+            mask(from, from + count as usize, index),
+            spread(bit),
+        );
+    } else {
         fill_line(row, 0, span_of(from, count), bit);
     }
 }

@@ -3,6 +3,7 @@ ghost use Rattle.lw_planes.specs.Row.{row_bit, row_bits};
 ghost use Rattle.lw_kernels.specs.Kernel.{is_between, is_named, place_in, with_named};
 ghost use Rattle.lw_kernels.specs.Spans.{IsSpan};
 
+use crate::bytes::mask;
 use crate::copying::{copy_plain, put_block};
 use crate::spans::{Span, put_masked, span_of};
 
@@ -14,6 +15,27 @@ pub fn flip(row: &mut [u8], from: u32, count: u32)
     ensures each { (x : ℕ) → row_bit row.new x ≡ (if is_named from count x then 1 - row_bit row.old x else row_bit row.old x) }
 {
     if count > 0 {
+        flip_run(row, from, count);
+    }
+}
+
+// As `flip`, of one bit at least. Bits of one byte need one mask alone.
+fn flip_run(row: &mut [u8], from: u32, count: u32)
+    requires some { 0 < count }
+    requires inside { from + count ≤ 8 * length row.old }
+    ensures { (p : ℕ) → row_bit row.new p ≡ (if is_between from (from + count) p then 1 - row_bit row.old p else row_bit row.old p) }
+{
+    if count <= 8 - from % 8 {
+        let from = from as usize;
+        let index = from / 8;
+        let flipped = !row[index];
+        put_masked(
+            row,
+            index,
+            mask(from, from + count as usize, index),
+            flipped,
+        );
+    } else {
         flip_line(row, 0, span_of(from, count));
     }
 }

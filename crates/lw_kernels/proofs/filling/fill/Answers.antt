@@ -6,8 +6,8 @@ use Rattle.lw_kernels.proofs.filling.fill.Goals as goal
 
 pub returns-then-count-gt0-clause-bits : goal.returns-then-count-gt0-clause-bits
 returns-then-count-gt0-clause-bits c =
-    with_named_from_bits c.fill_line.new.bytes c.args.row.now c.args.from c.args.count (λ _. bit_of c.args.bit) (λ _. bit_of c.args.bit) c.fill_line.auto.bytes
-    (named_done c.fill_line.new.bytes (λ _. bit_of c.args.bit) (λ x. row_bit c.args.row.now x) c.args.from c.args.count _ _ (omega arith) (omega arith) c.fill_line.ensures)
+    with_named_from_bits c.fill_run.new.row c.args.row.now c.args.from c.args.count (λ _. bit_of c.args.bit) (λ _. bit_of c.args.bit) c.fill_run.auto.row
+    (named_done c.fill_run.new.row (λ _. bit_of c.args.bit) (λ x. row_bit c.args.row.now x) c.args.from c.args.count _ _ (omega arith) (omega arith) c.fill_run.ensures)
     (λ x. refl)
 
 pub returns-else-count-gt0-clause-bits : goal.returns-else-count-gt0-clause-bits

@@ -6,8 +6,8 @@ use Rattle.lw_kernels.proofs.flipping.flip.Goals as goal
 
 pub returns-then-count-gt0-clause-bits : goal.returns-then-count-gt0-clause-bits
 returns-then-count-gt0-clause-bits c =
-    with_named_from_bits c.flip_line.new.bytes c.args.row.now c.args.from c.args.count (λ x. 1 - get_or (row_bits c.args.row.now) x 0) (λ x. 1 - row_bit c.args.row.now x) c.flip_line.auto.bytes
-    (named_done c.flip_line.new.bytes (λ x. 1 - row_bit c.args.row.now x) (λ x. row_bit c.args.row.now x) c.args.from c.args.count _ _ (omega arith) (omega arith) c.flip_line.ensures)
+    with_named_from_bits c.flip_run.new.row c.args.row.now c.args.from c.args.count (λ x. 1 - get_or (row_bits c.args.row.now) x 0) (λ x. 1 - row_bit c.args.row.now x) c.flip_run.auto.row
+    (named_done c.flip_run.new.row (λ x. 1 - row_bit c.args.row.now x) (λ x. row_bit c.args.row.now x) c.args.from c.args.count _ _ (omega arith) (omega arith) c.flip_run.ensures)
     (λ x. ap (λ n. 1 - n) (sym (bits_at c.args.row.now x)))
 
 pub returns-else-count-gt0-clause-bits : goal.returns-else-count-gt0-clause-bits
