@@ -30,7 +30,7 @@
 # the test passes where this one fails or one of the two after it, and ends with an error where the one before it fails.
 set -eu
 
-ROOM=54
+ROOM=83
 
 bench=$(cd "$(dirname "$0")" && pwd)
 top=$bench/..

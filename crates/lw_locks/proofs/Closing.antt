@@ -19,9 +19,10 @@ use Rattle.lw_order.proofs.RoleLaws.{contains_first, contains_more}
 use Rattle.lw_engine_trait.specs.Steps.{Relations}
 use Rattle.lw_engine_trait.proofs.Histories.{reached}
 use Rattle.lw_locks.specs.Closing.{task_of, IsClosed, AreRegsHeld, AreFollowed, slots_of, AreTaken, ArePlaced}
-use Rattle.lw_locks.specs.Held.{IsSeat, AreRegs, IsCell, IsInfo, AreCellsHeld, IsOwn}
+use Rattle.lw_locks.specs.Held.{IsSeat, AreRegs, IsCell, IsInfo, AreCellsHeld}
 use Rattle.lw_locks.specs.Joins.{WasJoined, IsLonger}
-use Rattle.lw_locks.specs.Seen.{SeenPass}
+use Rattle.lw_locks.specs.Seen.{SeenPass, SeenHolder, shown}
+use Rattle.lw_locks.proofs.Passes.{has_own}
 use Rattle.lw_locks.proofs.Deeper.{get_either}
 use Rattle.lw_locks.proofs.Seats.{longer_by, their_longer, regs_longer, cell_longer, info_longer}
 
@@ -124,15 +125,13 @@ one_of : (r : Role) (roles : List Role) → Contains roles r → (role : Role) �
 one_of r roles has role there = All-contains (λ x. Contains roles x) (r ∷ []) role (All-cons (λ x. Contains roles x) r [] has (All-nil (λ x. Contains roles x))) there
 
 -- one pass more, whose seat was joined
-pub followed_more : {I C R : Type 0} (relations : Relations I C R) (name : TableId) (desk : Desk) (made : ℕ) (mine theirs both : SeenSeat) (whole rest : List SeenPass) (off : SeenPass) (n : ℕ) (regs : R) → WasJoined desk mine theirs both → WasTakenOut task_of whole rest off n → AreFollowed rest mine
-    → (task : ℕ) → record { task = task; history = theirs.history } ≡ off → IsOwn relations name desk task made theirs regs → AreFollowed whole both
-followed_more relations name desk made mine theirs both whole rest off n regs was out had task is own p there =
-    let longer = longer_by desk mine theirs both was in
-    let theirs_go = their_longer desk mine theirs both was in
+pub followed_more : (desk : Desk) (mine both : SeenSeat) (own : SeenHolder) (whole rest : List SeenPass) (off : SeenPass) (n : ℕ) → WasJoined desk mine own.seat both → WasTakenOut task_of whole rest off n → AreFollowed rest mine → shown own ≡ off → own.seat.roles ≡ Task own.task ∷ [] → AreFollowed whole both
+followed_more desk mine both own whole rest off n was out had is alone p there =
+    let longer = longer_by desk mine own.seat both was in
     ⊎_elim
     (λ (this : p ≡ off).
-    let here : Contains both.roles (Task task) × Follows (Task task ∷ []) theirs.history both.history =
-    (theirs_go.among (Task task) own.regs.has, subst (λ rs. Follows rs theirs.history both.history) own.roles was.other_follows) in
+    let here : Contains both.roles (Task own.task) × Follows (Task own.task ∷ []) own.seat.history both.history =
+    ((their_longer desk mine own.seat both was).among (Task own.task) (has_own own alone), subst (λ rs. Follows rs own.seat.history both.history) alone was.other_follows) in
     subst (λ (v : SeenPass). Contains both.roles (Task v.task) × Follows (Task v.task ∷ []) v.history both.history) (is ∙ sym this) here)
     (λ (other : Contains (out.front ++ out.back) p).
     let old = had p (subst (λ ps. Contains ps p) (sym out.left) other) in

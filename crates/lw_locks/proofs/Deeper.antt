@@ -2,23 +2,23 @@
 use Rattle.std.proofs.Common.{◌≡◌, ℕ, zero, suc, ◌+◌, ◌≤◌, ◌⊎◌, false, length, map, List, [], ◌∷◌, ◌++◌, ⊎_elim, inl, inr, refl, sym, ap, subst, ◌∙◌, arith}
 use Rattle.std.specs.Prelude.{All, Contains, Some}
 use Rattle.std.specs.List.{slice_get, range_with_len}
-use Rattle.std.proofs.lemmas.List.Elements.{All-nil, All-cons, All-append, Contains-push, Contains-append_left, Contains-append_right}
+use Rattle.std.proofs.lemmas.List.Elements.{All-nil, All-cons, All-append, Contains-push, Contains-append_left}
 use Rattle.std.proofs.lemmas.Bool.{ne_eqb}
 use Rattle.std.proofs.lemmas.List.FromFn.{map-range_with_len_more}
 use Rattle.std.proofs.lemmas.Option.{slice_get_within}
 use Rattle.atomic_table.specs.Seated.{TableId}
 use Rattle.lw_calls.specs.declared.touch.Role.{Role}
 use Rattle.lw_calls.specs.declared.touch.Role.TheVariants.{Task, Slot, Info}
-use Rattle.lw_calls.specs.Entries.{count_of}
 use Rattle.lw_machine.specs.Desk.{Desk}
 use Rattle.lw_order.specs.Roles.{same_role}
 use Rattle.lw_order.specs.Seen.{SeenSeat}
 use Rattle.lw_order.proofs.RoleLaws.{still_there}
 use Rattle.lw_engine_trait.specs.Steps.{Relations}
-use Rattle.lw_locks.specs.Joins.{WasJoined, WasSplit}
-use Rattle.lw_locks.specs.Held.{IsSeat, IsCell, IsInfo, AreCellsHeld, AreHeld, IsHolding, IsLayer, roles_below}
-use Rattle.lw_locks.proofs.Seats.{longer_by, seat_joined, regs_longer, info_longer, cell_longer, seat_at, regs_at, cell_at, info_at, their_longer}
-use Rattle.lw_locks.proofs.Passes.{counted_joined, roles_left}
+use Rattle.lw_locks.specs.Joins.{WasJoined, Took, Gave}
+use Rattle.lw_locks.specs.Seen.{SeenHolder}
+use Rattle.lw_locks.specs.Held.{IsCell, IsInfo, AreCellsHeld, AreHeld, IsLayer, roles_below}
+use Rattle.lw_locks.proofs.Seats.{longer_by, info_longer, cell_longer, cell_at, info_at, their_longer}
+use Rattle.lw_locks.proofs.Passes.{layer_back}
 use Rattle.lw_locks.proofs.Starting.{get_front, get_last}
 
 roles_more : (task k : ℕ) → roles_below task (k + 1) ≡ roles_below task k ++ Slot k ∷ []
@@ -63,67 +63,41 @@ info_held relations desk mine theirs both info cells was none is =
       cells = λ s c at_s. let below = slice_get_within cells s c at_s in absurd (omega (arith, below, none));
     }
 
-module _ (name : TableId) (desk : Desk) (task slot k : ℕ) (mine theirs both : SeenSeat) (was : WasJoined desk mine theirs both) (place : slot ≡ k) (roles : mine.roles ≡ roles_below task k) (their_roles : theirs.roles ≡ Slot slot ∷ []) where
-  pub roles_deeper : both.roles ≡ roles_below task (k + 1)
+-- A task that holds LayerInfo and the slots below a number, and then that slot too.
+module _ (name : TableId) (desk : Desk) (slot k : ℕ) (mine both : SeenHolder) (theirs : SeenSeat) (took : Took desk mine theirs both) (place : slot ≡ k) (roles : mine.seat.roles ≡ roles_below mine.task k) (their_roles : theirs.roles ≡ Slot slot ∷ []) where
+  pub roles_deeper : both.seat.roles ≡ roles_below both.task (k + 1)
   roles_deeper =
-      was.roles ∙ (ap (λ rs. rs ++ theirs.roles) roles ∙ (ap (λ rs. roles_below task k ++ rs) (their_roles ∙ ap (λ s. Slot s ∷ []) place) ∙ sym (roles_more task k)))
+      took.joined.roles
+      ∙ (ap (λ rs. rs ++ theirs.roles) roles ∙ (ap (λ rs. roles_below mine.task k ++ rs) (their_roles ∙ ap (λ s. Slot s ∷ []) place) ∙ (sym (roles_more mine.task k) ∙ ap (λ t. roles_below t (k + 1)) (sym took.task))))
 
-  pub holding_deeper : {I C R : Type 0} (relations : Relations I C R) (made : ℕ) (regs : R) → IsHolding relations name desk task made mine regs → IsHolding relations name desk task made both regs
-  holding_deeper relations made regs had =
+  pub has_task : Contains mine.seat.roles (Task mine.task)
+  has_task = subst (λ rs. Contains rs (Task mine.task)) (sym roles) (Contains-append_left (Task mine.task ∷ []) (Info ∷ map (λ s. Slot s) (range_with_len 0 k)) (Task mine.task) (Contains-push [] (Task mine.task)))
+
+  pub held_deeper : {I C R : Type 0} (relations : Relations I C R) (info : I) (cells : List C) (cell : C) → length cells ≡ k → AreHeld relations desk mine.seat info cells → relations.number cell ≡ slot → IsCell relations desk theirs cell → AreHeld relations desk both.seat info (cells ++ cell ∷ [])
+  held_deeper relations info cells cell many had numbered is =
       record {
-        seat = seat_joined desk mine theirs both was name had.seat;
-        regs = regs_longer desk mine both (longer_by desk mine theirs both was) relations task regs had.regs;
-        counted = counted_joined task made mine both (longer_by desk mine theirs both was) had.regs.has had.counted;
+        info = info_longer desk mine.seat both.seat (longer_by desk mine.seat theirs both.seat took.joined) relations info had.info;
+        cells = cells_more relations desk mine.seat theirs both.seat cells cell took.joined had.cells (numbered ∙ (place ∙ sym many)) is;
       }
 
-  pub held_deeper : {I C R : Type 0} (relations : Relations I C R) (info : I) (cells : List C) (cell : C) → length cells ≡ k → AreHeld relations desk mine info cells → relations.number cell ≡ slot → IsCell relations desk theirs cell → AreHeld relations desk both info (cells ++ cell ∷ [])
-  held_deeper {C = C} relations info cells cell many had numbered is =
-      record {
-        info = info_longer desk mine both (longer_by desk mine theirs both was) relations info had.info;
-        cells = cells_more relations desk mine theirs both cells cell was had.cells (numbered ∙ (place ∙ sym many)) is;
-      }
+  pub apart_mine : All (λ r. same_role (Slot slot) r ≡ false) mine.seat.roles
+  apart_mine = subst (λ rs. All (λ r. same_role (Slot slot) r ≡ false) rs) (sym roles) (subst (λ n. All (λ r. same_role (Slot n) r ≡ false) (roles_below mine.task k)) (sym place) (apart_below mine.task k))
 
-  pub has_off : (whole : SeenSeat) → whole.roles ≡ both.roles → Contains whole.roles (Slot slot)
-  has_off whole same = subst (λ rs. Contains rs (Slot slot)) (sym (same ∙ was.roles)) (Contains-append_right mine.roles theirs.roles (Slot slot) (subst (λ rs. Contains rs (Slot slot)) (sym their_roles) (Contains-push [] (Slot slot))))
-
-  -- the seat after the calls, from which the slot's role is split off again
-  module _ (whole left given : SeenSeat) (same : whole.roles ≡ both.roles) (cut : WasSplit (Slot slot) whole left given) where
-    pub roles_back : left.roles ≡ mine.roles
-    roles_back =
-        let whole_roles : whole.roles ≡ mine.roles ++ Slot slot ∷ [] = same ∙ (was.roles ∙ ap (λ rs. mine.roles ++ rs) their_roles) in
-        let apart : All (λ r. same_role (Slot slot) r ≡ false) mine.roles = subst (λ rs. All (λ r. same_role (Slot slot) r ≡ false) rs) (sym roles) (subst (λ n. All (λ r. same_role (Slot n) r ≡ false) (roles_below task k)) (sym place) (apart_below task k)) in
-        roles_left (Slot slot) mine.roles whole left given cut whole_roles apart
-
-    has_mine : (r : Role) → Contains mine.roles r → Contains left.roles r
-    has_mine r h = subst (λ rs. Contains rs r) (sym roles_back) h
-
-    pub holding_back : {I C R : Type 0} (relations : Relations I C R) (made : ℕ) (regs : R) → IsHolding relations name desk task made whole regs → IsHolding relations name desk task made left regs
-    holding_back relations made regs had =
+  -- the cells after the calls, of which the last is given back
+  module _ (stepped left : SeenHolder) (given : SeenSeat) (gave : Gave name desk (Slot slot) stepped left given) where
+    pub held_back : {I C R : Type 0} (relations : Relations I C R) (info : I) (all front : List C) (cell : C) → all ≡ front ++ cell ∷ [] → length front ≡ k → AreHeld relations desk stepped.seat info all → AreHeld relations desk left.seat info front
+    held_back relations info all front cell parts many had =
+        let stays : (r : Role) → same_role (Slot slot) r ≡ false → Contains stepped.seat.roles r → Contains left.seat.roles r = λ r apart h. subst (λ rs. Contains rs r) (sym gave.roles) (still_there (Slot slot) r stepped.seat.roles apart h) in
         record {
-          seat = seat_at desk whole left cut.histories.0 name cut.words.0 had.seat;
-          regs = regs_at desk whole left cut.histories.0 relations task regs (has_mine (Task task) (subst (λ rs. Contains rs (Task task)) (sym roles) (Contains-append_left (Task task ∷ []) (Info ∷ map (λ s. Slot s) (range_with_len 0 k)) (Task task) (Contains-push [] (Task task))))) had.regs;
-          counted = had.counted ∙ ap (count_of task) (sym cut.histories.0);
-        }
-
-    pub held_back : {I C R : Type 0} (relations : Relations I C R) (info : I) (all front : List C) (cell : C) → all ≡ front ++ cell ∷ [] → length front ≡ k → AreHeld relations desk whole info all → AreHeld relations desk left info front
-    held_back {C = C} relations info all front cell parts many had =
-        let stays : (r : Role) → same_role (Slot slot) r ≡ false → Contains whole.roles r → Contains left.roles r = λ r apart h. subst (λ rs. Contains rs r) (sym cut.left_roles) (still_there (Slot slot) r whole.roles apart h) in
-        record {
-          info = info_at desk whole left cut.histories.0 relations info (stays Info refl had.info.has) had.info;
+          info = info_at desk stepped.seat left.seat gave.history relations info (stays Info refl had.info.has) had.info;
           cells = λ s c at_s.
               let old = had.cells s c (subst (λ cs. slice_get cs s ≡ Some c) (sym parts) (get_front front cell c s at_s)) in
               let below = slice_get_within front s c at_s in
               let numbered = old.0 in
-              (old.0, cell_at desk whole left cut.histories.0 relations c (stays (Slot (relations.number c)) (ne_eqb slot (relations.number c) (λ same. omega (arith, same, place, numbered, below, many))) old.1.has) old.1);
+              (old.0, cell_at desk stepped.seat left.seat gave.history relations c (stays (Slot (relations.number c)) (ne_eqb slot (relations.number c) (λ same. omega (arith, same, place, numbered, below, many))) old.1.has) old.1);
         }
 
-    pub layer_back : {I C R : Type 0} (relations : Relations I C R) (info : I) (all front : List C) (cell : C) → all ≡ front ++ cell ∷ [] → length front ≡ k → IsSeat name desk whole → AreHeld relations desk whole info all → IsLayer relations name desk slot given cell
-    layer_back relations info all front cell parts many seat had =
+    pub last_back : {I C R : Type 0} (relations : Relations I C R) (info : I) (all front : List C) (cell : C) → all ≡ front ++ cell ∷ [] → length front ≡ k → AreHeld relations desk stepped.seat info all → IsLayer relations name desk slot given cell
+    last_back relations info all front cell parts many had =
         let last = had.cells k cell (subst (λ cs. slice_get cs k ≡ Some cell) (sym parts) (subst (λ n. slice_get (front ++ cell ∷ []) n ≡ Some cell) many (get_last front cell))) in
-        let has : Contains given.roles (Slot (relations.number cell)) = subst (λ n. Contains given.roles (Slot n)) (place ∙ sym last.0) (subst (λ rs. Contains rs (Slot slot)) (sym cut.given_roles) (Contains-push [] (Slot slot))) in
-        record {
-          seat = seat_at desk whole given cut.histories.1 name cut.words.1 seat;
-          roles = cut.given_roles;
-          number = last.0 ∙ sym place;
-          cell = cell_at desk whole given cut.histories.1 relations cell has last.1;
-        }
+        layer_back relations name desk slot stepped left given cell gave (last.0 ∙ sym place) last.1

@@ -1,4 +1,3 @@
-mod Apart
 mod Closing
 mod Deeper
 pub mod Groups

@@ -1,14 +1,22 @@
 -- Calls that were made one after another.
-use Rattle.std.proofs.Common.{◌≡◌, ℕ, suc, ◌+◌, ◌<◌, length, List, [], ◌∷◌, ◌++◌, refl, sym, ap, subst, ◌∙◌, append_assoc, append-nil, length-append, arith}
-use Rattle.std.specs.Prelude.{Contains, Result, Ok, Err, OnErr}
+use Rattle.std.proofs.Common.{◌≡◌, ℕ, suc, ◌+◌, ◌<◌, length, take, drop, get_or, List, [], ◌∷◌, ◌++◌, refl, sym, ap, subst, ◌∙◌, append_assoc, append-nil, length-append, arith}
+use Rattle.std.specs.Prelude.{Contains, Result, Ok, Err, OnErr, IsErr}
+use Rattle.std.proofs.lemmas.List.{take_more, take-append-drop, length-take-le}
+use Rattle.std.proofs.lemmas.List.Elements.{Contains-append_left}
+use Rattle.std.proofs.lemmas.Result.{MatchResult-from_err, IfOk-from_err}
 use Rattle.lw_calls.specs.declared.call.Call.{Call}
 use Rattle.lw_calls.specs.declared.entry.Entry.{Entry}
+use Rattle.lw_calls.specs.declared.group.Hold.{Hold}
 use Rattle.lw_calls.specs.declared.touch.Role.{Role}
+use Rattle.lw_calls.specs.declared.touch.Role.TheVariants.{Task}
+use Rattle.lw_calls.specs.Entries.{count_of}
 use Rattle.lw_machine.specs.Desk.{Desk}
 use Rattle.lw_order.specs.Promised.{Follows}
 use Rattle.lw_order.proofs.HistoryLaws.{follows_itself, follows_on, fewer_follow}
 use Rattle.lw_locks.specs.declared.answer.Answer.{Answer}
-use Rattle.lw_locks.specs.Promised.{Done, Ran, Grown, GroupDone}
+use Rattle.lw_locks.specs.Called.{Called, Stepped, CalledEach, SteppedEach}
+use Rattle.lw_locks.specs.Promised.{Done, Ran, Grown, GroupDone, held_roles}
+use Rattle.lw_locks.specs.Seen.{SeenPass, SeenHolder}
 use Rattle.lw_locks.proofs.Seats.{done_after}
 
 -- what holds anyway holds after a failure
@@ -116,3 +124,92 @@ once_done desk few many task old new call had has front answer among g is one =
 
 pub once_failed : (desk : Desk) (few many : List Role) (task : ℕ) (old new : List Entry) (calls : List Call) (had has : List Answer) → GroupDone desk few many task old new calls had has → length has < length had + 1 → Follows few old new
 once_failed desk few many task old new calls had has g none = subst (Follows few old) (sym (ran_none desk many task g.start new calls had has g.grown none)) g.follows
+
+-- Calls that a task makes one after another, and has made up to a number of them.
+pub record Going (desk : Desk) (old now : SeenHolder) (calls : List Call) (had has : List Answer) (i : ℕ) : Type 0 where
+  pub task : now.task ≡ old.task
+  pub roles : now.seat.roles ≡ old.seat.roles
+  pub counted : count_of old.task now.seat.history ≡ count_of old.task old.seat.history + i
+  pub many : length has ≡ length had + i
+  pub grown : Grown desk old.seat.roles old.task old.seat.history now.seat.history (take i calls) had has
+
+pub going_none : (desk : Desk) (old : SeenHolder) (calls : List Call) (had : List Answer) → Going desk old old calls had had 0
+going_none desk old calls had = record { task = refl; roles = refl; counted = omega arith; many = omega arith; grown = grown_none desk old.seat.roles old.task old.seat.history [] had }
+
+module _ (desk : Desk) (old now : SeenHolder) (calls : List Call) (had has : List Answer) (i : ℕ) (g : Going desk old now calls had has i) where
+  pub going_more : {E : Type 0} (new : SeenHolder) (more : List Answer) (call : Call) (a : Answer) → Stepped {E = E} desk now new call (Ok a) → i < length calls → call ≡ get_or calls i call → more ≡ has ++ a ∷ [] → Going desk old new calls had more (i + 1)
+  going_more new more call a s below is pushed =
+      let counted = g.counted in
+      let again = subst (λ t. count_of t new.seat.history ≡ count_of t now.seat.history + 1) g.task s.counted in
+      let many = g.many in
+      let longer = ap length pushed ∙ length-append has (a ∷ []) in
+      let last : take (i + 1) calls ≡ take i calls ++ call ∷ [] = take_more calls i call below ∙ ap (λ x. take i calls ++ x ∷ []) (sym is) in
+      let done = subst (λ t. Done desk old.seat.roles t now.seat.history new.seat.history call a.reply a.ticket) g.task (subst (λ rs. Done desk rs now.task now.seat.history new.seat.history call a.reply a.ticket) g.roles s.done) in
+      let one = grown_one desk old.seat.roles old.task now.seat.history new.seat.history call a has more done pushed in
+      let front = length-take-le i calls (omega (arith, below)) in
+      let all = grown_on desk old.seat.roles old.task old.seat.history now.seat.history new.seat.history (take i calls) (call ∷ []) had has more g.grown (g.many ∙ ap (λ n. length had + n) (sym front)) one in
+      record {
+        task = s.task ∙ g.task;
+        roles = s.roles ∙ g.roles;
+        counted = omega (arith, counted, again);
+        many = omega (arith, many, longer);
+        grown = subst (λ cs. Grown desk old.seat.roles old.task old.seat.history new.seat.history cs had more) (sym last) all;
+      }
+
+  pub going_failed : {A E F : Type 0} (new : SeenHolder) (call : Call) (e : F) (o : Result A E) → Stepped desk now new call (Err e) → i < length calls → IsErr o → SteppedEach desk old.seat.roles old new calls had has o
+  going_failed new call e o s below failed =
+      let many = g.many in
+      let front = subst (λ h. Grown desk old.seat.roles old.task old.seat.history h (take i calls) had has) (sym s.same) g.grown in
+      record {
+        task = s.task ∙ g.task;
+        roles = s.roles ∙ g.roles;
+        done = record {
+          start = old.seat.history;
+          follows = follows_itself old.seat.roles old.seat.history;
+          grown = subst (λ cs. Grown desk old.seat.roles old.task old.seat.history new.seat.history cs had has) (take-append-drop i calls) (grown_more desk old.seat.roles old.task old.seat.history new.seat.history (take i calls) (drop i calls) had has front);
+        };
+        all = MatchResult-from_err o (λ _. length has ≡ length had + length calls) (λ _. length has < length had + length calls) failed (λ _. omega (arith, many, below));
+      }
+
+-- A group of which no call was made.
+pub called_none : {A E : Type 0} (desk : Desk) (hold : Hold) (seen : SeenPass) (calls : List Call) (had : List Answer) (o : Result A E) → 0 < length calls → IsErr o → CalledEach desk hold seen seen calls had had o
+called_none desk hold seen calls had o some failed =
+    record {
+      task = refl;
+      done = group_none desk (Task seen.task ∷ []) (Task seen.task ∷ held_roles desk.sizes.slots hold) seen.task seen.history calls had;
+      all = MatchResult-from_err o (λ _. length had ≡ length had + length calls) (λ _. length had < length had + length calls) failed (λ _. omega (arith, some));
+    }
+
+pub each_none : {A E : Type 0} (desk : Desk) (held : List Role) (old : SeenHolder) (calls : List Call) (had : List Answer) (o : Result A E) → 0 < length calls → IsErr o → SteppedEach desk held old old calls had had o
+each_none desk held old calls had o some failed =
+    record {
+      task = refl;
+      roles = refl;
+      done = group_none desk old.seat.roles held old.task old.seat.history calls had;
+      all = MatchResult-from_err o (λ _. length had ≡ length had + length calls) (λ _. length had < length had + length calls) failed (λ _. omega (arith, some));
+    }
+
+-- One call in a group of its own.
+module _ {E : Type 0} (desk : Desk) (hold : Hold) (old new : SeenPass) (call : Call) (calls : List Call) (had has : List Answer) (is : calls ≡ call ∷ []) where
+  pub once_called : {A F : Type 0} (x : A) (front : List Answer) (answer : Answer) → has ≡ front ++ answer ∷ [] → CalledEach {E = F} desk hold old new calls had has (Ok x) → Called {E = E} desk old new call (Ok answer)
+  once_called x front answer pushed e =
+      let few = Task old.task ∷ [] in
+      let many = Task old.task ∷ held_roles desk.sizes.slots hold in
+      let done = subst (λ cs. GroupDone desk few many old.task old.history new.history cs had has) is e.done in
+      let one : length has ≡ length had + 1 = subst (λ (cs : List Call). length has ≡ length had + length cs) is e.all in
+      record {
+        task = e.task;
+        done = once_done desk few many old.task old.history new.history call had has front answer (λ r h. Contains-append_left few (held_roles desk.sizes.slots hold) r h) done pushed one;
+        failed = tt;
+      }
+
+  pub once_not_called : {A F : Type 0} (e : F) (o : Result Answer E) → IsErr o → CalledEach {A = A} desk hold old new calls had has (Err e) → Called desk old new call o
+  once_not_called e o failed each =
+      let few = Task old.task ∷ [] in
+      let many = Task old.task ∷ held_roles desk.sizes.slots hold in
+      let none : length has < length had + 1 = subst (λ (cs : List Call). length has < length had + length cs) is each.all in
+      record {
+        task = each.task;
+        done = IfOk-from_err o (λ a. Done desk few old.task old.history new.history call a.reply a.ticket) failed;
+        failed = on_error o (Follows few old.history new.history) (once_failed desk few many old.task old.history new.history calls had has each.done none);
+      }

@@ -19,7 +19,7 @@ use Rattle.lw_order.specs.Seen.{SeenSeat}
 use Rattle.lw_order.proofs.RoleLaws.{still_there, all_roles_has_slot, all_roles_has_task}
 use Rattle.lw_engine_trait.specs.Steps.{Relations, AreCells}
 use Rattle.lw_locks.specs.Joins.{IsHistory}
-use Rattle.lw_locks.specs.Held.{IsSeat, AreTasksRegs, IsOwn, IsLayer, IsLayerInfo}
+use Rattle.lw_locks.specs.Held.{IsSeat, AreTasksRegs, IsHolding, IsLayer, IsLayerInfo}
 use Rattle.lw_locks.specs.Seen.{SeenPass, opening_pass}
 
 -- a seat that knows no step
@@ -55,11 +55,10 @@ info_at_start relations name desk own kept word empty roles is =
       info = record { has = only Info own.roles roles; stands = subst (λ h. relations.info_is desk.sizes kept (info_part (machine desk h))) (sym empty) is };
     }
 
-pub own_at_start : {I C R : Type 0} (relations : Relations I C R) (name : TableId) (desk : Desk) (task : ℕ) (own : SeenSeat) (mine : R) → own.word ≡ name → own.history ≡ [] → own.roles ≡ Task task ∷ [] → relations.regs_is mine (desk.registers task) → IsOwn relations name desk task 0 own mine
-own_at_start relations name desk task own mine word empty roles is =
+pub holding_at_start : {I C R : Type 0} (relations : Relations I C R) (name : TableId) (desk : Desk) (task : ℕ) (own : SeenSeat) (mine : R) → own.word ≡ name → own.history ≡ [] → own.roles ≡ Task task ∷ [] → relations.regs_is mine (desk.registers task) → IsHolding relations name desk task 0 own mine
+holding_at_start relations name desk task own mine word empty roles is =
     record {
       seat = seat_at_start name desk own word empty;
-      roles = roles;
       regs = record { has = only (Task task) own.roles roles; stand = subst (λ h. relations.regs_is mine ((machine desk h).registers task)) (sym empty) is };
       counted = ap (count_of task) (sym empty);
     }

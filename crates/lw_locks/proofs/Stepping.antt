@@ -1,19 +1,19 @@
 -- What a step on parts and its stamp leave: the parts stand for the machine after the longer history, and the call was answered as the
 -- machine answers at its ticket.
-use Rattle.std.proofs.Common.{◌≡◌, ◌≢◌, ◌⊎◌, ℕ, ◌<◌, ◌≤◌, length, List, [], ◌∷◌, ◌++◌, refl, sym, ap, subst, ◌∙◌, get_or, inl, inr, arith}
-use Rattle.std.specs.Prelude.{Contains, Some, None}
+use Rattle.std.proofs.Common.{◌≡◌, ◌≢◌, ◌⊎◌, ℕ, ◌+◌, ◌<◌, ◌≤◌, length, List, [], ◌∷◌, ◌++◌, refl, sym, ap, subst, ◌∙◌, get_or, inl, inr, arith}
+use Rattle.std.specs.Prelude.{Contains, Some, None, Ok}
 use Rattle.std.specs.List.{slice_get}
 use Rattle.std.proofs.lemmas.Option.{slice_get_cases, slice_get_within}
 use Rattle.lw_calls.specs.declared.call.Call.{Call}
+use Rattle.atomic_table.specs.Seated.{TableId}
 use Rattle.lw_calls.specs.declared.entry.Entry.{Entry}
 use Rattle.lw_calls.specs.declared.reply.Reply.{Reply}
 use Rattle.lw_calls.specs.declared.touch.Role.{Role}
 use Rattle.lw_calls.specs.declared.touch.Role.TheVariants.{Task, Slot, Info}
 use Rattle.lw_calls.specs.Entries.{count_of}
-use Rattle.lw_calls.specs.Limits.{IsWithinLimits}
 use Rattle.lw_calls.specs.declared.touch.CallClass.TheVariants.{OnRegisters, OnInfo, OnAll}
 use Rattle.lw_calls.specs.Touches.{class_of, touch_of, slots_in}
-use Rattle.lw_machine.specs.Desk.{Desk, empty_desk}
+use Rattle.lw_machine.specs.Desk.{Desk}
 use Rattle.lw_machine.specs.History.{machine}
 use Rattle.lw_machine.specs.Parts.{slot_part, info_part}
 use Rattle.lw_machine.specs.Step.{after, reply}
@@ -27,9 +27,12 @@ use Rattle.lw_engine_trait.proofs.Histories.{machine_push, reached}
 use Rattle.lw_calls.specs.declared.sizes.Sizes.{Sizes}
 use Rattle.lw_calls.specs.Assets.{Assets}
 use Rattle.lw_order.specs.Seen.{SeenSeat}
+use Rattle.lw_locks.specs.declared.answer.Answer.{Answer}
+use Rattle.lw_locks.specs.Called.{Stepped}
+use Rattle.lw_locks.specs.Seen.{SeenHolder}
 use Rattle.lw_locks.specs.Joins.{WasStamped}
 use Rattle.lw_locks.specs.Promised.{Done}
-use Rattle.lw_locks.specs.Held.{AreRegs, IsCell, IsInfo, AreHeld}
+use Rattle.lw_locks.specs.Held.{IsBegun, AreRegs, IsCell, IsInfo, AreHeld, IsHolding}
 use Rattle.lw_locks.proofs.Later.{later}
 
 -- the role of each slot whose cell is held
@@ -39,13 +42,6 @@ held_slot {C = C} relations desk seat info cells held k below = from ((slice_get
     from : ((c : C) × (k < length cells) × (slice_get cells k ≡ Some c) × (get_or cells k c ≡ c)) ⊎ ((length cells ≤ k) × (slice_get cells k ≡ None)) → Contains seat.roles (Slot k)
     from (inl there) = let is = held.cells k there.0 there.2 in subst (λ n. Contains seat.roles (Slot n)) is.0 is.1.has
     from (inr past) = let none = past.0 in absurd (omega (arith, below, none))
-
--- What the parts hang on: the machine begins with an empty desk, and these are an engine's sizes and assets.
-pub record IsBegun (desk : Desk) (s : Sizes) (a : Assets) : Type 0 where
-  pub empty : desk ≡ empty_desk desk.sizes desk.assets desk.shelf
-  pub limits : IsWithinLimits desk.sizes
-  pub sizes : s ≡ desk.sizes
-  pub assets : a ≡ desk.assets
 
 -- LayerInfo and all cells that are held, as parts of the machine's desk.
 module _ {I C R : Type 0} (relations : Relations I C R) (desk : Desk) (s : Sizes) (a : Assets) (begun : IsBegun desk s a) (seat : SeenSeat) (fits : CallsFit desk.sizes seat.history) (info : I) (cells : List C) (many : length cells ≡ desk.sizes.slots) (held : AreHeld relations desk seat info cells) where
@@ -128,6 +124,14 @@ module _ (desk : Desk) (s : Sizes) (a : Assets) (begun : IsBegun desk s a) (old 
       let stay : (machine desk new.history).registers task ≡ (machine desk before).registers task = ap (λ d. d.registers task) desk_after ∙ ap (λ f. f task) (after_registers (machine desk before) task call other) in
       record { has = still_has (Task task) are.has; stand = subst (relations.regs_is regs) (sym stay) (regs_before relations regs are) }
 
+  -- a task's part, with other registers, and after a call that isn't on them
+  pub holding_with : {I C R : Type 0} (relations : Relations I C R) (name : TableId) (made : ℕ) (regs regs_new : R) → IsHolding relations name desk task made old regs → AreRegs relations desk task new regs_new → IsHolding relations name desk task (made + 1) new regs_new
+  holding_with relations name made regs regs_new had are =
+      record { seat = record { word = was.word ∙ had.seat.word; known = was.known }; regs = are; counted = ap (λ n. n + 1) had.counted ∙ sym was.counted }
+
+  pub holding_stepped : {I C R : Type 0} (relations : Relations I C R) (name : TableId) (made : ℕ) (regs : R) → class_of call ≢ OnRegisters → IsHolding relations name desk task made old regs → IsHolding relations name desk task (made + 1) new regs
+  holding_stepped relations name made regs other had = holding_with relations name made regs regs had (regs_stay relations regs other had.regs)
+
   cell_before : {I C R : Type 0} (relations : Relations I C R) (cell : C) → IsCell relations desk old cell → relations.cell_is cell (slot_part (machine desk before) (relations.number cell))
   cell_before relations cell is = subst (relations.cell_is cell) (later desk old.roles (Slot (relations.number cell)) old.history before is.has goes_on) is.stands
 
@@ -190,3 +194,8 @@ module _ (desk : Desk) (s : Sizes) (a : Assets) (begun : IsBegun desk s a) (old 
               );
         },
       )
+
+-- A call that a task made, from its step and its stamp.
+pub stepped_ok : {E : Type 0} (desk : Desk) (old new : SeenHolder) (call : Call) (answer : Answer) → new.task ≡ old.task → WasStamped desk old.seat new.seat old.task call answer.ticket → Done desk old.seat.roles old.task old.seat.history new.seat.history call answer.reply answer.ticket
+    → Stepped {E = E} desk old new call (Ok answer)
+stepped_ok desk old new call answer task was done = record { task = task; roles = was.roles; counted = was.counted; done = done; same = tt }

@@ -1,13 +1,16 @@
 -- What lies behind a lock, or with a task: a part that stands for its part of the machine after the history that its seat knows.
 -- Which values stand for which parts is an argument, as in `lw_engine_trait`.
-use Rattle.std.specs.Prelude.{◌≡◌, ℕ, List, [], ◌∷◌, length, Some, Contains}
+use Rattle.std.specs.Prelude.{◌≡◌, ℕ, List, [], ◌∷◌, Some, Contains}
 use Rattle.std.specs.List.{slice_get}
 use Rattle.atomic_table.specs.Seated.{TableId}
+use Rattle.lw_calls.specs.Assets.{Assets}
 use Rattle.lw_calls.specs.declared.group.Hold.TheVariants.{All as AllLayers}
+use Rattle.lw_calls.specs.declared.sizes.Sizes.{Sizes}
 use Rattle.lw_calls.specs.declared.touch.Role.{Role}
 use Rattle.lw_calls.specs.declared.touch.Role.TheVariants.{Task, Slot, Info}
 use Rattle.lw_calls.specs.Entries.{count_of}
-use Rattle.lw_machine.specs.Desk.{Desk}
+use Rattle.lw_calls.specs.Limits.{IsWithinLimits}
+use Rattle.lw_machine.specs.Desk.{Desk, empty_desk}
 use Rattle.lw_machine.specs.History.{machine}
 use Rattle.lw_machine.specs.Parts.{slot_part, info_part}
 use Rattle.lw_order.specs.Seen.{SeenSeat}
@@ -19,6 +22,13 @@ use Rattle.lw_locks.specs.Promised.{held_roles}
 pub record IsSeat (name : TableId) (desk : Desk) (seat : SeenSeat) : Type 0 where
   pub word : seat.word ≡ name
   pub known : IsHistory desk.sizes seat.history
+
+-- What the parts hang on: the machine begins with an empty desk, and these are an engine's sizes and assets.
+pub record IsBegun (desk : Desk) (s : Sizes) (a : Assets) : Type 0 where
+  pub empty : desk ≡ empty_desk desk.sizes desk.assets desk.shelf
+  pub limits : IsWithinLimits desk.sizes
+  pub sizes : s ≡ desk.sizes
+  pub assets : a ≡ desk.assets
 
 -- the machine after the history that a seat knows
 abbrev pub desk_at : Desk → SeenSeat → Desk
@@ -52,24 +62,11 @@ pub record AreHeld {I C R : Type 0} (relations : Relations I C R) (desk : Desk) 
   pub info : IsInfo relations desk seat kept
   pub cells : AreCellsHeld relations desk seat all
 
--- LayerInfo and the cells of all slots stand for their parts, whose roles the seat has.
-pub record AreAllHeld {I C R : Type 0} (relations : Relations I C R) (desk : Desk) (seat : SeenSeat) (kept : I) (all : List C) : Type 0 where
-  pub slots : length all ≡ desk.sizes.slots
-  pub held : AreHeld relations desk seat kept all
-
--- A task's part while its seat may have further roles: its registers, and a seat with its role, which knows as many of its calls as it
--- made.
+-- A task's part: its registers, and a seat with its role and maybe others, which knows as many of its calls as it made.
 pub record IsHolding {I C R : Type 0} (relations : Relations I C R) (name : TableId) (desk : Desk) (task made : ℕ) (held : SeenSeat) (mine : R) : Type 0 where
   pub seat : IsSeat name desk held
   pub regs : AreRegs relations desk task held mine
   pub counted : made ≡ count_of task held.history
-
--- A task's own part: its registers, and a seat with its role, which knows as many of its calls as it made.
-pub record IsOwn {I C R : Type 0} (relations : Relations I C R) (name : TableId) (desk : Desk) (task made : ℕ) (own : SeenSeat) (mine : R) : Type 0 where
-  pub seat : IsSeat name desk own
-  pub roles : own.roles ≡ Task task ∷ []
-  pub regs : AreRegs relations desk task own mine
-  pub counted : made ≡ count_of task own.history
 
 -- A slot behind its lock: its cell, and a seat with its role.
 pub record IsLayer {I C R : Type 0} (relations : Relations I C R) (name : TableId) (desk : Desk) (slot : ℕ) (own : SeenSeat) (kept : C) : Type 0 where

@@ -1,25 +1,21 @@
 // Calls on all layers, under LayerInfo's lock and then those of all slots.
 
-ghost use Rattle.std.specs.Prelude.{◌≡◌, ◌+◌, ◌<◌, ◌≤◌, [], ◌∷◌, length, vec_len, vec_capacity, All, IfOk, OnErr, IsTrue, MatchResult};
+ghost use Rattle.std.specs.Prelude.{◌≡◌, ◌+◌, ◌≤◌, length, vec_len, vec_capacity};
 ghost use Rattle.lw_calls.specs.declared.group.Hold.TheVariants.{All as AllSlots};
-ghost use Rattle.lw_calls.specs.declared.touch.Role.TheVariants.{Task};
-ghost use Rattle.lw_calls.specs.Entries.{count_of};
-ghost use Rattle.lw_calls.specs.Limits.{call_fits};
 ghost use Rattle.lw_calls.specs.declared.touch.CallClass.TheVariants.{OnAll};
 ghost use Rattle.lw_calls.specs.Touches.{class_of};
-ghost use Rattle.lw_order.specs.Promised.{Follows};
-ghost use Rattle.lw_locks.specs.Promised.{Done, GroupDone, held_roles};
-ghost use Rattle.lw_locks.specs.Held.{IsHolding, AreHeld, roles_below};
+ghost use Rattle.lw_locks.specs.Called.{MayCall, Called, MayCallEach, CalledEach, SteppedEach};
+ghost use Rattle.lw_locks.specs.Held.{AreHeld, roles_below};
 
 use crate::answer::Answer;
 use crate::desk::Desk;
 use crate::gate::Gate;
 use crate::held::{Layer, LayerInfo};
+use crate::holder::Holder;
 use crate::opening::Opening;
 use crate::pass::Pass;
 use lw_calls::{Call, Role};
 use lw_engine_trait::Engine;
-use lw_order::Seat;
 use std::alloc::{AllocError, Global};
 use std::slice;
 use std::sync::Wait;
@@ -35,11 +31,8 @@ impl<E: Engine, N: Opening> Desk<E, N> {
         call: &Call,
     ) -> Result<Answer, AllocError>
         requires class { class_of call.now ≡ OnAll }
-        requires fits { IsTrue (call_fits N.desk.sizes call.now) }
-        requires room { count_of pass.old.task pass.old.history < 4294967295 }
-        ensures task { pass.new.task ≡ pass.old.task }
-        ensures done { IfOk result (λ a. Done N.desk (Task pass.old.task ∷ []) pass.old.task pass.old.history pass.new.history call.now a.reply a.ticket) }
-        ensures failed { OnErr result (Follows (Task pass.old.task ∷ []) pass.old.history pass.new.history) }
+        requires may { MayCall N.desk pass.old.task pass.old.history call.now }
+        ensures { Called N.desk pass.old pass.new call.now result }
     {
         let mut answers = Vec::with_capacity(alloc, 1)?;
         let one = slice::from_ref(call);
@@ -60,14 +53,9 @@ impl<E: Engine, N: Opening> Desk<E, N> {
         calls: &[Call],
         answers: &mut Vec<Answer>,
     ) -> Result<(), AllocError>
-        requires class { All (λ c. class_of c ≡ OnAll) calls.now }
-        requires fits { All (λ c. IsTrue (call_fits N.desk.sizes c)) calls.now }
-        requires some { 0 < length calls.now }
+        requires may { MayCallEach N.desk OnAll pass.old.task pass.old.history calls.now }
         requires space { vec_len answers.old + length calls.now ≤ vec_capacity answers.old }
-        requires room { count_of pass.old.task pass.old.history + length calls.now ≤ 4294967295 }
-        ensures task { pass.new.task ≡ pass.old.task }
-        ensures done { GroupDone N.desk (Task pass.old.task ∷ []) (Task pass.old.task ∷ held_roles N.desk.sizes.slots AllSlots) pass.old.task pass.old.history pass.new.history calls.now answers.old.items answers.new.items }
-        ensures all { MatchResult result (λ _. length answers.new.items ≡ length answers.old.items + length calls.now) (λ _. length answers.new.items < length answers.old.items + length calls.now) }
+        ensures { CalledEach N.desk AllSlots pass.old pass.new calls.now answers.old.items answers.new.items result }
     {
         let mut cells = Vec::with_capacity(alloc, self.layers.len())?;
         let mut guard = self.info.lock(rt);
@@ -75,98 +63,51 @@ impl<E: Engine, N: Opening> Desk<E, N> {
         let Some(info) = place.held.take() else {
             unreachable!();
         };
-        let (info, done) = self.with_info(rt, alloc, gate, info, &mut cells, pass, calls, answers);
-        place.held = Some(info);
-        done
-    }
-
-    // Makes calls under the locks of all slots, as steps between a join and a split of LayerInfo's seat.
-    fn with_info<R: Wait, G: Gate>(
-        &self,
-        rt: &R,
-        alloc: Global,
-        gate: &G,
-        info: LayerInfo<E, N>,
-        cells: &mut Vec<E::Cell>,
-        pass: &mut Pass<E, N>,
-        calls: &[Call],
-        answers: &mut Vec<Answer>,
-    ) -> (LayerInfo<E, N>, Result<(), AllocError>)
-        requires empty { vec_len cells.old ≡ 0 }
-        requires capacity { N.desk.sizes.slots ≤ vec_capacity cells.old }
-        requires class { All (λ c. class_of c ≡ OnAll) calls.now }
-        requires fits { All (λ c. IsTrue (call_fits N.desk.sizes c)) calls.now }
-        requires some { 0 < length calls.now }
-        requires space { vec_len answers.old + length calls.now ≤ vec_capacity answers.old }
-        requires room { count_of pass.old.task pass.old.history + length calls.now ≤ 4294967295 }
-        ensures task { pass.new.task ≡ pass.old.task }
-        ensures done { GroupDone N.desk (Task pass.old.task ∷ []) (Task pass.old.task ∷ held_roles N.desk.sizes.slots AllSlots) pass.old.task pass.old.history pass.new.history calls.now answers.old.items answers.new.items }
-        ensures all { MatchResult result.1 (λ _. length answers.new.items ≡ length answers.old.items + length calls.now) (λ _. length answers.new.items < length answers.old.items + length calls.now) }
-    {
         let LayerInfo {
             mut info,
             seat: theirs,
             of,
         } = info;
-        self.steps.join(&mut pass.seat, theirs);
+        let holder = &mut pass.holder;
+        self.steps.hold(holder, theirs);
         let done = self.under_slots(
-            rt,
-            alloc,
-            gate,
-            0,
-            &mut info,
-            cells,
-            &mut pass.seat,
-            pass.task,
-            &mut pass.made,
-            &pass.regs,
-            calls,
-            answers,
+            rt, alloc, gate, &mut info, &mut cells, holder, calls, answers,
         );
-        let seat = self.steps.split(&mut pass.seat, Role::Info);
-        (LayerInfo { info, seat, of }, done)
+        let seat = self.steps.give(holder, Role::Info);
+        let back = LayerInfo { info, seat, of };
+        place.held = Some(back);
+        done
     }
 
-    // Takes the locks of the slots from `next` on in rising number, makes the calls under all of them, and gives them back. No
-    // lock has another slot's layer; if one had, no call would be made.
+    // Takes the locks of the slots whose cells aren't held, in rising number, makes the calls under all of them, and gives them back.
+    // No lock has another slot's layer; if one had, no call would be made.
     fn under_slots<R: Wait, G: Gate>(
         &self,
         rt: &R,
         alloc: Global,
         gate: &G,
-        next: usize,
         info: &mut E::Info,
         cells: &mut Vec<E::Cell>,
-        seat: &mut Seat,
-        task: u32,
-        made: &mut u32,
-        regs: &E::Regs,
+        holder: &mut Holder<E, N>,
         calls: &[Call],
         answers: &mut Vec<Answer>,
     ) -> Result<(), AllocError>
-        requires next { vec_len cells.old ≡ next }
-        requires below { next ≤ N.desk.sizes.slots }
+        requires below { length cells.old.items ≤ N.desk.sizes.slots }
         requires capacity { N.desk.sizes.slots ≤ vec_capacity cells.old }
-        requires class { All (λ c. class_of c ≡ OnAll) calls.now }
-        requires fits { All (λ c. IsTrue (call_fits N.desk.sizes c)) calls.now }
-        requires some { 0 < length calls.now }
+        requires may { MayCallEach N.desk OnAll holder.old.task holder.old.seat.history calls.now }
         requires space { vec_len answers.old + length calls.now ≤ vec_capacity answers.old }
-        requires room { made.old + length calls.now ≤ 4294967295 }
-        requires roles { seat.old.roles ≡ roles_below task next }
-        requires holding { IsHolding E.relations N.word N.desk task made.old seat.old regs.now }
-        requires held { AreHeld E.relations N.desk seat.old info.old cells.old.items }
-        ensures next { vec_len cells.new ≡ next }
-        ensures roles { seat.new.roles ≡ seat.old.roles }
-        ensures holding { IsHolding E.relations N.word N.desk task made.new seat.new regs.now }
-        ensures held { AreHeld E.relations N.desk seat.new info.new cells.new.items }
-        ensures done { GroupDone N.desk seat.old.roles (roles_below task N.desk.sizes.slots) task seat.old.history seat.new.history calls.now answers.old.items answers.new.items }
-        ensures all { MatchResult result (λ _. length answers.new.items ≡ length answers.old.items + length calls.now) (λ _. length answers.new.items < length answers.old.items + length calls.now) }
+        requires roles { holder.old.seat.roles ≡ roles_below holder.old.task (length cells.old.items) }
+        requires held { AreHeld E.relations N.desk holder.old.seat info.old cells.old.items }
+        ensures stepped { SteppedEach N.desk (roles_below holder.old.task N.desk.sizes.slots) holder.old holder.new calls.now answers.old.items answers.new.items result }
+        ensures many { length cells.new.items ≡ length cells.old.items }
+        ensures held { AreHeld E.relations N.desk holder.new.seat info.new cells.new.items }
     {
+        let next = cells.len();
         if next == self.layers.len() {
             let all = cells.as_mut_slice();
-            return self.steps.each_on_all(
-                alloc, gate, info, all, seat, task, made, regs, calls, answers,
-            );
+            return self
+                .steps
+                .each_on_all(alloc, gate, info, all, holder, calls, answers);
         }
         let mut guard = self.layers[next].lock(rt);
         let place = &mut *guard;
@@ -183,30 +124,17 @@ impl<E: Engine, N: Opening> Desk<E, N> {
             seat: theirs,
             of,
         } = layer;
-        self.steps.join(seat, theirs);
+        self.steps.hold(holder, theirs);
         cells.push_reserved(cell);
-        let done = self.under_slots(
-            rt,
-            alloc,
-            gate,
-            next + 1,
-            info,
-            cells,
-            seat,
-            task,
-            made,
-            regs,
-            calls,
-            answers,
-        );
+        let done = self.under_slots(rt, alloc, gate, info, cells, holder, calls, answers);
         let Some(cell) = cells.pop() else {
             unreachable!();
         };
-        let own = self.steps.split(seat, Role::Slot(slot));
+        let seat = self.steps.give(holder, Role::Slot(slot));
         let back = Layer {
             slot,
             cell,
-            seat: own,
+            seat,
             of,
         };
         place.held = Some(back);

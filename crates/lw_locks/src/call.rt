@@ -7,6 +7,7 @@ ghost use Rattle.lw_calls.specs.Limits.{call_fits};
 ghost use Rattle.lw_calls.specs.declared.touch.CallClass.TheVariants.{OnRegisters, OnInfo, OnLayer, OnLayers};
 ghost use Rattle.lw_calls.specs.Touches.{class_of};
 ghost use Rattle.lw_order.specs.Promised.{Follows};
+ghost use Rattle.lw_locks.specs.Called.{MayCall, Called};
 ghost use Rattle.lw_locks.specs.Promised.{Done};
 
 use crate::answer::Answer;
@@ -14,7 +15,7 @@ use crate::desk::Desk;
 use crate::gate::{Gate, Spot};
 use crate::held::{Layer, LayerInfo, Place};
 use crate::opening::Opening;
-use crate::pass::{Pass, made_after};
+use crate::pass::Pass;
 use lw_calls::{Call, CallClass, Role, class_of};
 use lw_engine_trait::Engine;
 use std::alloc::{AllocError, Global};
@@ -39,7 +40,7 @@ impl<E: Engine, N: Opening> Desk<E, N> {
         ensures done { IfOk result (λ a. Done N.desk (Task pass.old.task ∷ []) pass.old.task pass.old.history pass.new.history call.now a.reply a.ticket) }
         ensures failed { OnErr result (Follows (Task pass.old.task ∷ []) pass.old.history pass.new.history) }
     {
-        let (task, seq) = (pass.task, pass.made);
+        let (task, seq) = (pass.task(), pass.made());
         gate.pass(task, seq, Spot::Before);
         let answer = self.locked(rt, alloc, gate, pass, call);
         gate.pass(task, seq, Spot::After);
@@ -56,11 +57,8 @@ impl<E: Engine, N: Opening> Desk<E, N> {
         call: &Call,
     ) -> Result<Answer, AllocError>
         requires registers { class_of call.now ≢ OnRegisters }
-        requires fits { IsTrue (call_fits N.desk.sizes call.now) }
-        requires room { count_of pass.old.task pass.old.history < 4294967295 }
-        ensures task { pass.new.task ≡ pass.old.task }
-        ensures done { IfOk result (λ a. Done N.desk (Task pass.old.task ∷ []) pass.old.task pass.old.history pass.new.history call.now a.reply a.ticket) }
-        ensures failed { OnErr result (Follows (Task pass.old.task ∷ []) pass.old.history pass.new.history) }
+        requires may { MayCall N.desk pass.old.task pass.old.history call.now }
+        ensures { Called N.desk pass.old pass.new call.now result }
     {
         match class_of(call) {
             CallClass::OnInfo => Ok(self.under_info(rt, gate, pass, call)),
@@ -73,7 +71,7 @@ impl<E: Engine, N: Opening> Desk<E, N> {
         }
     }
 
-    // Under the lock of LayerInfo, as a step between a join and a split of seats.
+    // Under the lock of LayerInfo.
     fn under_info<R: Wait, G: Gate>(
         &self,
         rt: &R,
@@ -82,13 +80,12 @@ impl<E: Engine, N: Opening> Desk<E, N> {
         call: &Call,
     ) -> Answer
         requires class { class_of call.now ≡ OnInfo }
-        requires fits { IsTrue (call_fits N.desk.sizes call.now) }
-        requires room { count_of pass.old.task pass.old.history < 4294967295 }
+        requires may { MayCall N.desk pass.old.task pass.old.history call.now }
         ensures task { pass.new.task ≡ pass.old.task }
         ensures done { Done N.desk (Task pass.old.task ∷ []) pass.old.task pass.old.history pass.new.history call.now result.reply result.ticket }
     {
         let mut guard = self.info.lock(rt);
-        gate.pass(pass.task, pass.made, Spot::Under);
+        gate.pass(pass.task(), pass.made(), Spot::Under);
         let place = &mut *guard;
         let Some(info) = place.held.take() else {
             unreachable!();
@@ -98,19 +95,15 @@ impl<E: Engine, N: Opening> Desk<E, N> {
             seat: theirs,
             of,
         } = info;
-        self.steps.join(&mut pass.seat, theirs);
-        let answer = self
-            .steps
-            .on_info(&mut pass.seat, pass.task, &info, &pass.regs, call);
-        pass.made += 1;
-        let seat = self.steps.split(&mut pass.seat, Role::Info);
+        self.steps.hold(&mut pass.holder, theirs);
+        let answer = self.steps.on_info(&info, &mut pass.holder, call);
+        let seat = self.steps.give(&mut pass.holder, Role::Info);
         let back = LayerInfo { info, seat, of };
         place.held = Some(back);
         answer
     }
 
-    // Under the lock of one layer, as a step between a join and a split of seats. No lock has another slot's layer; if it had, the call
-    // would fail.
+    // Under the lock of one layer. No lock has another slot's layer; if it had, the call would fail.
     fn under_layer<R: Wait, G: Gate>(
         &self,
         rt: &R,
@@ -121,14 +114,11 @@ impl<E: Engine, N: Opening> Desk<E, N> {
         call: &Call,
     ) -> Result<Answer, AllocError>
         requires class { class_of call.now ≡ OnLayer slot }
-        requires fits { IsTrue (call_fits N.desk.sizes call.now) }
-        requires room { count_of pass.old.task pass.old.history < 4294967295 }
-        ensures task { pass.new.task ≡ pass.old.task }
-        ensures done { IfOk result (λ a. Done N.desk (Task pass.old.task ∷ []) pass.old.task pass.old.history pass.new.history call.now a.reply a.ticket) }
-        ensures failed { OnErr result (Follows (Task pass.old.task ∷ []) pass.old.history pass.new.history) }
+        requires may { MayCall N.desk pass.old.task pass.old.history call.now }
+        ensures { Called N.desk pass.old pass.new call.now result }
     {
         let mut guard = self.layers[slot as usize].lock(rt);
-        gate.pass(pass.task, pass.made, Spot::Under);
+        gate.pass(pass.task(), pass.made(), Spot::Under);
         let place = &mut *guard;
         let Some(layer) = place.held.take() else {
             unreachable!();
@@ -143,17 +133,11 @@ impl<E: Engine, N: Opening> Desk<E, N> {
             seat: theirs,
             of,
         } = layer;
-        self.steps.join(&mut pass.seat, theirs);
-        let answer = self.steps.on_layer(
-            alloc,
-            &mut pass.seat,
-            pass.task,
-            &mut cell,
-            &pass.regs,
-            call,
-        );
-        pass.made = made_after(pass.made, &answer);
-        let seat = self.steps.split(&mut pass.seat, Role::Slot(slot));
+        self.steps.hold(&mut pass.holder, theirs);
+        let answer = self
+            .steps
+            .on_layer(alloc, &mut cell, &mut pass.holder, call);
+        let seat = self.steps.give(&mut pass.holder, Role::Slot(slot));
         let back = Layer {
             slot,
             cell,
@@ -175,26 +159,22 @@ impl<E: Engine, N: Opening> Desk<E, N> {
         call: &Call,
     ) -> Result<Answer, AllocError>
         requires class { class_of call.now ≡ OnLayers source slot }
-        requires fits { IsTrue (call_fits N.desk.sizes call.now) }
-        requires room { count_of pass.old.task pass.old.history < 4294967295 }
-        ensures task { pass.new.task ≡ pass.old.task }
-        ensures done { IfOk result (λ a. Done N.desk (Task pass.old.task ∷ []) pass.old.task pass.old.history pass.new.history call.now a.reply a.ticket) }
-        ensures failed { OnErr result (Follows (Task pass.old.task ∷ []) pass.old.history pass.new.history) }
+        requires may { MayCall N.desk pass.old.task pass.old.history call.now }
+        ensures { Called N.desk pass.old pass.new call.now result }
     {
         if source < slot {
             let mut from = self.layers[source as usize].lock(rt);
             let mut into = self.layers[slot as usize].lock(rt);
-            gate.pass(pass.task, pass.made, Spot::Under);
+            gate.pass(pass.task(), pass.made(), Spot::Under);
             return self.in_layers(&mut from, &mut into, pass, source, slot, call);
         }
         let mut into = self.layers[slot as usize].lock(rt);
         let mut from = self.layers[source as usize].lock(rt);
-        gate.pass(pass.task, pass.made, Spot::Under);
+        gate.pass(pass.task(), pass.made(), Spot::Under);
         self.in_layers(&mut from, &mut into, pass, source, slot, call)
     }
 
-    // A call on the layers behind two locks, as a step between two joins and two splits of seats. No lock has another slot's layer; if it
-    // had, the call would fail.
+    // A call on the layers behind two locks. No lock has another slot's layer; if it had, the call would fail.
     fn in_layers(
         &self,
         from: &mut Place<Layer<E, N>>,
@@ -205,12 +185,9 @@ impl<E: Engine, N: Opening> Desk<E, N> {
         call: &Call,
     ) -> Result<Answer, AllocError>
         requires class { class_of call.now ≡ OnLayers source slot }
-        requires fits { IsTrue (call_fits N.desk.sizes call.now) }
-        requires room { count_of pass.old.task pass.old.history < 4294967295 }
+        requires may { MayCall N.desk pass.old.task pass.old.history call.now }
         ensures places { (from.new.held ≡ from.old.held) × (into.new.held ≡ into.old.held) }
-        ensures task { pass.new.task ≡ pass.old.task }
-        ensures done { IfOk result (λ a. Done N.desk (Task pass.old.task ∷ []) pass.old.task pass.old.history pass.new.history call.now a.reply a.ticket) }
-        ensures failed { OnErr result (Follows (Task pass.old.task ∷ []) pass.old.history pass.new.history) }
+        ensures called { Called N.desk pass.old pass.new call.now result }
     {
         let Some(first) = from.held.take() else {
             unreachable!();
@@ -229,7 +206,7 @@ impl<E: Engine, N: Opening> Desk<E, N> {
         Ok(answer)
     }
 
-    // A call on two layers, as a step between two joins and two splits of seats.
+    // A call on two layers.
     fn make_in_layers(
         &self,
         first: Layer<E, N>,
@@ -238,8 +215,7 @@ impl<E: Engine, N: Opening> Desk<E, N> {
         call: &Call,
     ) -> (Layer<E, N>, Layer<E, N>, Answer)
         requires class { class_of call.now ≡ OnLayers first second }
-        requires fits { IsTrue (call_fits N.desk.sizes call.now) }
-        requires room { count_of pass.old.task pass.old.history < 4294967295 }
+        requires may { MayCall N.desk pass.old.task pass.old.history call.now }
         ensures slots { (result.0 ≡ first) × (result.1 ≡ second) }
         ensures task { pass.new.task ≡ pass.old.task }
         ensures done { Done N.desk (Task pass.old.task ∷ []) pass.old.task pass.old.history pass.new.history call.now result.2.reply result.2.ticket }
@@ -256,19 +232,13 @@ impl<E: Engine, N: Opening> Desk<E, N> {
             seat: second,
             of,
         } = second;
-        self.steps.join(&mut pass.seat, first);
-        self.steps.join(&mut pass.seat, second);
-        let answer = self.steps.on_layers(
-            &mut pass.seat,
-            pass.task,
-            &from,
-            &mut cell,
-            &pass.regs,
-            call,
-        );
-        pass.made += 1;
-        let second = self.steps.split(&mut pass.seat, Role::Slot(slot));
-        let first = self.steps.split(&mut pass.seat, Role::Slot(source));
+        self.steps.hold(&mut pass.holder, first);
+        self.steps.hold(&mut pass.holder, second);
+        let answer = self
+            .steps
+            .on_layers(&from, &mut cell, &mut pass.holder, call);
+        let second = self.steps.give(&mut pass.holder, Role::Slot(slot));
+        let first = self.steps.give(&mut pass.holder, Role::Slot(source));
         (
             Layer {
                 slot: source,

@@ -12,6 +12,7 @@ ghost use Rattle.lw_locks.specs.Seen.{SeenPass};
 
 use crate::desk::Desk;
 use crate::held::{Layer, LayerInfo, Place};
+use crate::holder::Holder;
 use crate::opening::Opening;
 use crate::pass::Pass;
 use crate::steps::Steps;
@@ -215,13 +216,14 @@ fn join_passes<E: Engine, N: Opening>(
     let place = place_of(passes.as_slice(), last - 1);
     let pass = passes.remove(place);
     join_passes(steps, seat, passes, regs);
-    let Pass {
+    let Pass { holder } = pass;
+    let Holder {
         task: _,
         made: _,
         regs: mine,
         seat: own,
         of: _,
-    } = pass;
+    } = holder;
     steps.join(seat, own);
     regs.push_reserved(mine);
 }

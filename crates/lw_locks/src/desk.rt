@@ -44,32 +44,12 @@ impl<E: Engine, N: Opening> Desk<E, N> {
         ensures done { IfOk result (λ a. Done N.desk (Task pass.old.task ∷ []) pass.old.task pass.old.history pass.new.history call.now a.reply a.ticket) }
         ensures failed { OnErr result (pass.new ≡ pass.old) }
     {
-        let (task, seq) = (pass.task, pass.made);
+        let (task, seq) = (pass.task(), pass.made());
         gate.pass(task, seq, Spot::Before);
         gate.pass(task, seq, Spot::Under);
-        let answer = self.make_own(alloc, pass, call);
+        let answer = self.steps.on_registers(alloc, &mut pass.holder, call);
         gate.pass(task, seq, Spot::After);
         answer
-    }
-
-    fn make_own(
-        &self,
-        alloc: Global,
-        pass: &mut Pass<E, N>,
-        call: &Call,
-    ) -> Result<Answer, AllocError>
-        requires class { class_of call.now ≡ OnRegisters }
-        requires fits { IsTrue (call_fits N.desk.sizes call.now) }
-        requires room { count_of pass.old.task pass.old.history < 4294967295 }
-        ensures task { pass.new.task ≡ pass.old.task }
-        ensures done { IfOk result (λ a. Done N.desk (Task pass.old.task ∷ []) pass.old.task pass.old.history pass.new.history call.now a.reply a.ticket) }
-        ensures failed { OnErr result (pass.new ≡ pass.old) }
-    {
-        let answer = self
-            .steps
-            .on_registers(alloc, &mut pass.seat, pass.task, &mut pass.regs, call)?;
-        pass.made += 1;
-        Ok(answer)
     }
 }
 

@@ -3,17 +3,17 @@
 //! order: LayerInfo's first, and then those of the slots in rising number.
 #![tactic(auto)]
 
-mod all_calls;
 mod all_layers;
 mod answer;
 mod call;
 mod close;
 mod desk;
+mod each;
 mod gate;
 mod group;
 mod held;
+mod holder;
 mod laws;
-mod layer_calls;
 mod opening;
 mod pass;
 mod start;

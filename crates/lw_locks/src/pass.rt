@@ -1,34 +1,29 @@
-ghost use Rattle.std.specs.Prelude.{◌≡◌, ◌<◌, ◌+◌, MatchResult};
+ghost use Rattle.std.specs.Prelude.{◌≡◌};
 ghost use Rattle.lw_calls.specs.Entries.{count_of};
 ghost use Rattle.lw_locks.specs.Joins.{IsHistory};
 
-use crate::answer::Answer;
+use crate::holder::Holder;
 use crate::opening::Opening;
 use lw_engine_trait::Engine;
-use lw_order::Seat;
-use std::alloc::AllocError;
-use std::marker::{Model, PhantomData};
+use std::marker::Model;
 
 /// A task on a desk: its registers, and what it knows of the history. Contracts see its number and that history, in which its own
 /// calls stand once and in their order.
 #[derive(Drop)]
 pub struct Pass<E: Engine, N: Opening> {
-    pub(crate) task: u32,
-    pub(crate) made: u32,
-    pub(crate) regs: E::Regs,
-    pub(crate) seat: Seat,
-    pub(crate) of: PhantomData<N>,
+    pub(crate) holder: Holder<E, N>,
 }
 
 impl<E: Engine, N: Opening> Model for Pass<E, N> {
-    ghost use Rattle.lw_locks.specs.Seen.{SeenPass};
-    ghost use Rattle.lw_locks.specs.Held.{IsOwn};
+    ghost use Rattle.std.specs.Prelude.{◌≡◌, [], ◌∷◌};
+    ghost use Rattle.lw_calls.specs.declared.touch.Role.TheVariants.{Task};
+    ghost use Rattle.lw_locks.specs.Seen.{SeenPass, shown};
 
     ghost Value = { SeenPass };
 
-    ghost view = { λ p. record { task = p.task; history = p.seat.history } };
+    ghost view = { λ p. shown p.holder };
 
-    ghost invariant = { λ p. IsOwn E.relations N.word N.desk p.task p.made p.seat p.regs };
+    ghost invariant = { λ p. p.holder.seat.roles ≡ Task p.holder.task ∷ [] };
 }
 
 impl<E: Engine, N: Opening> Pass<E, N> {
@@ -36,7 +31,7 @@ impl<E: Engine, N: Opening> Pass<E, N> {
     pub fn task(&self) -> u32
         ensures { result ≡ self.now.task }
     {
-        self.task
+        self.holder.task()
     }
 
     /// How many calls it made. Their history is one that the desk's order word may have.
@@ -44,17 +39,6 @@ impl<E: Engine, N: Opening> Pass<E, N> {
         ensures count { result ≡ count_of self.now.task self.now.history }
         ensures known { IsHistory N.desk.sizes self.now.history }
     {
-        self.made
-    }
-}
-
-// How many calls a task made, after one that was made or failed.
-pub(crate) fn made_after(made: u32, answer: &Result<Answer, AllocError>) -> u32
-    requires { made < 4294967295 }
-    ensures { MatchResult answer.now (λ a. result ≡ made + 1) (λ e. result ≡ made) }
-{
-    match answer {
-        Ok(_) => made + 1,
-        Err(_) => made,
+        self.holder.made()
     }
 }

@@ -13,6 +13,7 @@ ghost use Rattle.lw_locks.specs.Seen.{opening_pass};
 
 use crate::desk::Desk;
 use crate::held::{Layer, LayerInfo, Place};
+use crate::holder::Holder;
 use crate::opening::Opening;
 use crate::pass::Pass;
 use crate::steps::Steps;
@@ -121,13 +122,14 @@ impl<E: Engine, N: Opening> Desk<E, N> {
         };
         let task = regs.len() as u32;
         let own = order.split(seat, Role::Task(task));
-        let pass = Pass {
+        let holder = Holder {
             task,
             made: 0,
             regs: mine,
             seat: own,
             of: PhantomData,
         };
+        let pass = Pass { holder };
         Self::put_passes(order, seat, regs, passes)?;
         passes.push(pass)?;
         Ok(())

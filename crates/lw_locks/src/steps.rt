@@ -1,17 +1,20 @@
 //! Each class of calls on the parts that it touches: the machine's step by the engine, and its ticket by the order word. The step
 //! that can fail comes first, so a call that failed has no ticket.
-ghost use Rattle.std.specs.Prelude.{◌≡◌, ◌<◌, length, IfOk, OnErr, IsTrue, Contains};
+ghost use Rattle.std.specs.Prelude.{◌≡◌, ◌≢◌, ◌<◌, false, length, IsTrue, Contains};
 ghost use Rattle.lw_calls.specs.Entries.{count_of};
-ghost use Rattle.lw_calls.specs.Limits.{IsWithinLimits, call_fits};
+ghost use Rattle.lw_calls.specs.Limits.{call_fits};
 ghost use Rattle.lw_calls.specs.declared.touch.CallClass.TheVariants.{OnRegisters, OnInfo, OnLayer, OnLayers, OnAll};
+ghost use Rattle.lw_calls.specs.declared.touch.Role.TheVariants.{Task};
 ghost use Rattle.lw_calls.specs.Touches.{touch_of, class_of};
-ghost use Rattle.lw_machine.specs.Desk.{empty_desk};
 ghost use Rattle.lw_order.specs.Owned.{Owns};
-ghost use Rattle.lw_locks.specs.Joins.{WasJoined, WasSplit, WasStamped};
+ghost use Rattle.lw_order.specs.Roles.{same_role};
+ghost use Rattle.lw_locks.specs.Called.{MayCall, Stepped};
+ghost use Rattle.lw_locks.specs.Held.{IsBegun, IsCell, IsInfo, AreHeld};
+ghost use Rattle.lw_locks.specs.Joins.{WasJoined, WasStamped, Took, Gave};
 ghost use Rattle.lw_locks.specs.Promised.{Done};
-ghost use Rattle.lw_locks.specs.Held.{IsSeat, AreRegs, IsCell, IsInfo, AreHeld};
 
 use crate::answer::Answer;
+use crate::holder::Holder;
 use crate::opening::Opening;
 use lw_calls::{Call, Role};
 use lw_engine_trait::Engine;
@@ -26,10 +29,7 @@ pub(crate) struct Steps<E: Engine, N: Opening> {
     pub(crate) of: PhantomData<N>,
     ghost word: { order.word ≡ N.word },
     ghost sizes: { order.sizes ≡ N.desk.sizes },
-    ghost engine_sizes: { E.sizes engine ≡ N.desk.sizes },
-    ghost engine_assets: { E.assets engine ≡ N.desk.assets },
-    ghost empty: { N.desk ≡ empty_desk N.desk.sizes N.desk.assets N.desk.shelf },
-    ghost limits: { IsWithinLimits N.desk.sizes },
+    ghost begun: { IsBegun N.desk (E.sizes engine) (E.assets engine) },
 }
 
 impl<E: Engine, N: Opening> Steps<E, N> {
@@ -42,13 +42,21 @@ impl<E: Engine, N: Opening> Steps<E, N> {
         self.order.join(seat, theirs);
     }
 
-    // Splits a role off a seat.
-    pub(crate) fn split(&self, seat: &mut Seat, off: Role) -> Seat
-        requires word { seat.old.word ≡ N.word }
-        requires role { Contains seat.old.roles off }
-        ensures { WasSplit off seat.old seat.new result }
+    // Gives a task the roles and the history of a seat.
+    pub(crate) fn hold(&self, holder: &mut Holder<E, N>, theirs: Seat)
+        requires { theirs.word ≡ N.word }
+        ensures { Took N.desk holder.old theirs holder.new }
     {
-        self.order.split(seat, off)
+        self.join(&mut holder.seat, theirs);
+    }
+
+    // Takes a role, which isn't its task's own, from a task, and gives it a seat.
+    pub(crate) fn give(&self, holder: &mut Holder<E, N>, off: Role) -> Seat
+        requires role { Contains holder.old.seat.roles off }
+        requires other { same_role off (Task holder.old.task) ≡ false }
+        ensures { Gave N.word N.desk off holder.old holder.new result }
+    {
+        self.order.split(&mut holder.seat, off)
     }
 
     // Stamps a call, and gives its ticket.
@@ -62,144 +70,117 @@ impl<E: Engine, N: Opening> Steps<E, N> {
         self.order.stamp(seat, task, call)
     }
 
+    // Stamps a task's call that isn't on registers, and gives its ticket.
+    fn stamp_step(&self, holder: &mut Holder<E, N>, call: &Call) -> u64
+        requires registers { class_of call.now ≢ OnRegisters }
+        requires owns { Contains holder.old.seat.roles (Task holder.old.task) → Owns N.desk.sizes.slots holder.old.seat.roles (touch_of holder.old.task call.now) }
+        requires may { MayCall N.desk holder.old.task holder.old.seat.history call.now }
+        ensures task { holder.new.task ≡ holder.old.task }
+        ensures stamped { WasStamped N.desk holder.old.seat holder.new.seat holder.old.task call.now result }
+    {
+        let ticket = self.stamp(&mut holder.seat, holder.task, call);
+        holder.made += 1;
+        ticket
+    }
+
     // A call on the registers of its task.
     pub(crate) fn on_registers(
         &self,
         alloc: Global,
-        seat: &mut Seat,
-        task: u32,
-        regs: &mut E::Regs,
+        holder: &mut Holder<E, N>,
         call: &Call,
     ) -> Result<Answer, AllocError>
         requires class { class_of call.now ≡ OnRegisters }
-        requires fits { IsTrue (call_fits N.desk.sizes call.now) }
-        requires seat { IsSeat N.word N.desk seat.old }
-        requires regs { AreRegs E.relations N.desk task seat.old regs.old }
-        requires room { count_of task seat.old.history < 4294967295 }
-        ensures seat { IsSeat N.word N.desk seat.new }
-        ensures roles { seat.new.roles ≡ seat.old.roles }
-        ensures regs { AreRegs E.relations N.desk task seat.new regs.new }
-        ensures done { IfOk result (λ a. Done N.desk seat.old.roles task seat.old.history seat.new.history call.now a.reply a.ticket) }
-        ensures same { OnErr result (seat.new.history ≡ seat.old.history) }
+        requires may { MayCall N.desk holder.old.task holder.old.seat.history call.now }
+        ensures { Stepped N.desk holder.old holder.new call.now result }
     {
-        let reply = self.engine.regs(alloc, regs, call)?;
-        let ticket = self.stamp(seat, task, call);
+        let reply = self.engine.regs(alloc, &mut holder.regs, call)?;
+        let ticket = self.stamp(&mut holder.seat, holder.task, call);
+        holder.made += 1;
         Ok(Answer { reply, ticket })
     }
 
-    // A look at LayerInfo, of a task with these registers.
-    pub(crate) fn on_info(
-        &self,
-        seat: &mut Seat,
-        task: u32,
-        info: &E::Info,
-        regs: &E::Regs,
-        call: &Call,
-    ) -> Answer
+    // A look at LayerInfo.
+    pub(crate) fn on_info(&self, info: &E::Info, holder: &mut Holder<E, N>, call: &Call) -> Answer
         requires class { class_of call.now ≡ OnInfo }
-        requires fits { IsTrue (call_fits N.desk.sizes call.now) }
-        requires seat { IsSeat N.word N.desk seat.old }
-        requires regs { AreRegs E.relations N.desk task seat.old regs.now }
-        requires info { IsInfo E.relations N.desk seat.old info.now }
-        requires room { count_of task seat.old.history < 4294967295 }
-        ensures seat { IsSeat N.word N.desk seat.new }
-        ensures roles { seat.new.roles ≡ seat.old.roles }
-        ensures regs { AreRegs E.relations N.desk task seat.new regs.now }
-        ensures info { IsInfo E.relations N.desk seat.new info.now }
-        ensures done { Done N.desk seat.old.roles task seat.old.history seat.new.history call.now result.reply result.ticket }
+        requires may { MayCall N.desk holder.old.task holder.old.seat.history call.now }
+        requires info { IsInfo E.relations N.desk holder.old.seat info.now }
+        ensures task { holder.new.task ≡ holder.old.task }
+        ensures roles { holder.new.seat.roles ≡ holder.old.seat.roles }
+        ensures info { IsInfo E.relations N.desk holder.new.seat info.now }
+        ensures done { Done N.desk holder.old.seat.roles holder.old.task holder.old.seat.history holder.new.seat.history call.now result.reply result.ticket }
     {
         let reply = self.engine.look(info, call);
-        let ticket = self.stamp(seat, task, call);
+        let ticket = self.stamp_step(holder, call);
         Answer { reply, ticket }
     }
 
-    // A call of a task with these registers on the layer of a slot.
+    // A call on the layer of a slot.
     pub(crate) fn on_layer(
         &self,
         alloc: Global,
-        seat: &mut Seat,
-        task: u32,
         cell: &mut E::Cell,
-        regs: &E::Regs,
+        holder: &mut Holder<E, N>,
         call: &Call,
     ) -> Result<Answer, AllocError>
         requires class { class_of call.now ≡ OnLayer (E.relations.number cell.old) }
-        requires fits { IsTrue (call_fits N.desk.sizes call.now) }
-        requires seat { IsSeat N.word N.desk seat.old }
-        requires regs { AreRegs E.relations N.desk task seat.old regs.now }
-        requires cell { IsCell E.relations N.desk seat.old cell.old }
-        requires room { count_of task seat.old.history < 4294967295 }
-        ensures seat { IsSeat N.word N.desk seat.new }
-        ensures roles { seat.new.roles ≡ seat.old.roles }
-        ensures regs { AreRegs E.relations N.desk task seat.new regs.now }
-        ensures cell { IsCell E.relations N.desk seat.new cell.new }
+        requires may { MayCall N.desk holder.old.task holder.old.seat.history call.now }
+        requires cell { IsCell E.relations N.desk holder.old.seat cell.old }
+        ensures stepped { Stepped N.desk holder.old holder.new call.now result }
+        ensures cell { IsCell E.relations N.desk holder.new.seat cell.new }
         ensures number { E.relations.number cell.new ≡ E.relations.number cell.old }
-        ensures done { IfOk result (λ a. Done N.desk seat.old.roles task seat.old.history seat.new.history call.now a.reply a.ticket) }
-        ensures same { OnErr result (seat.new.history ≡ seat.old.history) }
     {
+        let task = holder.task();
+        let regs = holder.regs();
         let reply = self.engine.one(alloc, cell, regs, task, call)?;
-        let ticket = self.stamp(seat, task, call);
+        let ticket = self.stamp_step(holder, call);
         Ok(Answer { reply, ticket })
     }
 
-    // A call of a task with these registers on two layers.
+    // A call on two layers, of which it reads the first.
     pub(crate) fn on_layers(
         &self,
-        seat: &mut Seat,
-        task: u32,
         source: &E::Cell,
         to: &mut E::Cell,
-        regs: &E::Regs,
+        holder: &mut Holder<E, N>,
         call: &Call,
     ) -> Answer
         requires class { class_of call.now ≡ OnLayers (E.relations.number source.now) (E.relations.number to.old) }
-        requires fits { IsTrue (call_fits N.desk.sizes call.now) }
-        requires seat { IsSeat N.word N.desk seat.old }
-        requires regs { AreRegs E.relations N.desk task seat.old regs.now }
-        requires source { IsCell E.relations N.desk seat.old source.now }
-        requires to { IsCell E.relations N.desk seat.old to.old }
-        requires room { count_of task seat.old.history < 4294967295 }
-        ensures seat { IsSeat N.word N.desk seat.new }
-        ensures roles { seat.new.roles ≡ seat.old.roles }
-        ensures regs { AreRegs E.relations N.desk task seat.new regs.now }
-        ensures source { IsCell E.relations N.desk seat.new source.now }
-        ensures to { IsCell E.relations N.desk seat.new to.new }
+        requires may { MayCall N.desk holder.old.task holder.old.seat.history call.now }
+        requires source { IsCell E.relations N.desk holder.old.seat source.now }
+        requires to { IsCell E.relations N.desk holder.old.seat to.old }
+        ensures task { holder.new.task ≡ holder.old.task }
+        ensures roles { holder.new.seat.roles ≡ holder.old.seat.roles }
+        ensures source { IsCell E.relations N.desk holder.new.seat source.now }
+        ensures to { IsCell E.relations N.desk holder.new.seat to.new }
         ensures number { E.relations.number to.new ≡ E.relations.number to.old }
-        ensures done { Done N.desk seat.old.roles task seat.old.history seat.new.history call.now result.reply result.ticket }
+        ensures done { Done N.desk holder.old.seat.roles holder.old.task holder.old.seat.history holder.new.seat.history call.now result.reply result.ticket }
     {
         let reply = self.engine.two(source, to, call);
-        let ticket = self.stamp(seat, task, call);
+        let ticket = self.stamp_step(holder, call);
         Answer { reply, ticket }
     }
 
-    // A call of a task with these registers on the layers of all slots, whose cells are given in rising number.
+    // A call on the layers of all slots, whose cells are given in rising number.
     pub(crate) fn on_all(
         &self,
         alloc: Global,
-        seat: &mut Seat,
-        task: u32,
         info: &mut E::Info,
         cells: &mut [E::Cell],
-        regs: &E::Regs,
+        holder: &mut Holder<E, N>,
         call: &Call,
     ) -> Result<Answer, AllocError>
         requires class { class_of call.now ≡ OnAll }
-        requires fits { IsTrue (call_fits N.desk.sizes call.now) }
-        requires seat { IsSeat N.word N.desk seat.old }
-        requires regs { AreRegs E.relations N.desk task seat.old regs.now }
+        requires may { MayCall N.desk holder.old.task holder.old.seat.history call.now }
         requires slots { length cells.old ≡ N.desk.sizes.slots }
-        requires held { AreHeld E.relations N.desk seat.old info.old cells.old }
-        requires room { count_of task seat.old.history < 4294967295 }
-        ensures seat { IsSeat N.word N.desk seat.new }
-        ensures roles { seat.new.roles ≡ seat.old.roles }
-        ensures regs { AreRegs E.relations N.desk task seat.new regs.now }
+        requires held { AreHeld E.relations N.desk holder.old.seat info.old cells.old }
+        ensures stepped { Stepped N.desk holder.old holder.new call.now result }
         ensures slots { length cells.new ≡ N.desk.sizes.slots }
-        ensures held { AreHeld E.relations N.desk seat.new info.new cells.new }
-        ensures done { IfOk result (λ a. Done N.desk seat.old.roles task seat.old.history seat.new.history call.now a.reply a.ticket) }
-        ensures same { OnErr result (seat.new.history ≡ seat.old.history) }
+        ensures held { AreHeld E.relations N.desk holder.new.seat info.new cells.new }
     {
+        let task = holder.task();
         let reply = self.engine.all(alloc, info, cells, task, call)?;
-        let ticket = self.stamp(seat, task, call);
+        let ticket = self.stamp_step(holder, call);
         Ok(Answer { reply, ticket })
     }
 }

@@ -43,6 +43,17 @@ ahead_first calls groups fit = record {
   within = omega arith;
 }
 
+-- the next group is so still when the task came to it
+pub next_there : (calls : List Call) (groups : List Group) (made there : ℕ) (g : Group) → IsNext calls groups made g → there ≡ g.first → IsNext calls groups there g
+next_there calls groups made there g n at =
+    let ahead = n.ahead in
+    record {
+      fits = n.fits;
+      ahead = omega (arith, at);
+      free = λ k low high. n.free k (omega (arith, at, ahead, low)) high;
+      alone = λ k low high. n.alone k (omega (arith, at, ahead, low)) high;
+    }
+
 pub ahead_next : (calls : List Call) (groups left : List Group) (made : ℕ) (g : Group) (gs : List Group) → left ≡ g ∷ gs → IsAhead calls groups left made → IsNext calls groups made g
 ahead_next calls groups left made g gs begins a =
     let fit : groups_fit calls (g ∷ gs) ≡ true = subst (λ l. groups_fit calls l ≡ true) begins a.fit in

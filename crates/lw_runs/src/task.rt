@@ -6,8 +6,10 @@ ghost use Rattle.lw_calls.specs.Entries.{count_of};
 ghost use Rattle.lw_calls.specs.Limits.{call_fits};
 ghost use Rattle.lw_calls.specs.Plan.{IsPlan, task_calls, task_groups};
 ghost use Rattle.lw_locks.specs.Promised.{Done};
-ghost use Rattle.lw_runs.specs.Made.{HasMade, HasBegun, IsFree, IsNext, IsAhead};
+ghost use Rattle.lw_runs.specs.Whole.{HasAll};
+ghost use Rattle.lw_runs.specs.Made.{HasBegun, IsFree, IsNext};
 
+use crate::answers::TaskAnswers;
 use crate::run::call_of;
 use lw_calls::{Call, CallClass, Group, Plan, class_of};
 use lw_engine_trait::Engine;
@@ -35,34 +37,7 @@ fn make_one<E: Engine, N: Opening, R: Wait, G: Gate>(
     }
 }
 
-// Makes the task's next call, which is in no group, and keeps its answer.
-fn make_next<E: Engine, N: Opening, R: Wait, G: Gate>(
-    desk: &Desk<E, N>,
-    rt: &R,
-    alloc: Global,
-    gate: &G,
-    plan: &Plan,
-    pass: &mut Pass<E, N>,
-    answers: &mut Vec<Answer>,
-) -> Result<(), AllocError>
-    requires plan { IsPlan plan.now }
-    requires sizes { N.desk.sizes ≡ plan.now.sizes }
-    requires task { pass.old.task < plan.now.sizes.tasks }
-    requires begun { HasBegun N.desk plan.now pass.old.task pass.old.history answers.old.items }
-    requires left { length answers.old.items < length (task_calls plan.now pass.old.task) }
-    requires free { IsFree (task_groups plan.now pass.old.task) (length answers.old.items) }
-    ensures task { pass.new.task ≡ pass.old.task }
-    ensures many { OnOk result (length answers.new.items ≡ length answers.old.items + 1) }
-    ensures begun { OnOk result (HasBegun N.desk plan.now pass.old.task pass.new.history answers.new.items) }
-{
-    let call = call_of(plan, pass.task(), answers.len());
-    answers.reserve(1)?;
-    let answer = make_one(desk, rt, alloc, gate, pass, call)?;
-    answers.push_reserved(answer);
-    Ok(())
-}
-
-// Makes the task's next calls up to a number, none of which is in a group.
+// Makes the task's next calls up to a number, none of which is in a group, and keeps their answers.
 fn make_up_to<E: Engine, N: Opening, R: Wait, G: Gate>(
     desk: &Desk<E, N>,
     rt: &R,
@@ -84,13 +59,16 @@ fn make_up_to<E: Engine, N: Opening, R: Wait, G: Gate>(
     ensures many { OnOk result (length answers.new.items ≡ to) }
     ensures begun { OnOk result (HasBegun N.desk plan.now pass.old.task pass.new.history answers.new.items) }
 {
-    for _next in answers.len()..to {
-        make_next(desk, rt, alloc, gate, plan, pass, answers)?;
+    for next in answers.len()..to {
+        let call = call_of(plan, pass.task(), next);
+        answers.reserve(1)?;
+        let answer = make_one(desk, rt, alloc, gate, pass, call)?;
+        answers.push_reserved(answer);
     }
     Ok(())
 }
 
-// Makes the task's calls up to the end of its next group.
+// Makes the calls of the task's next group, which it has come to.
 fn make_group<E: Engine, N: Opening, R: Wait, G: Gate>(
     desk: &Desk<E, N>,
     rt: &R,
@@ -106,39 +84,15 @@ fn make_group<E: Engine, N: Opening, R: Wait, G: Gate>(
     requires task { pass.old.task < plan.now.sizes.tasks }
     requires begun { HasBegun N.desk plan.now pass.old.task pass.old.history answers.old.items }
     requires next { IsNext (task_calls plan.now pass.old.task) (task_groups plan.now pass.old.task) (length answers.old.items) group.now }
+    requires here { length answers.old.items ≡ group.now.first }
     ensures task { pass.new.task ≡ pass.old.task }
     ensures many { OnOk result (length answers.new.items ≡ group.now.last + 1) }
     ensures begun { OnOk result (HasBegun N.desk plan.now pass.old.task pass.new.history answers.new.items) }
 {
     let (first, last) = (group.first as usize, group.last as usize);
-    make_up_to(desk, rt, alloc, gate, plan, pass, first, answers)?;
     let calls = plan.calls(pass.task());
     let part = &calls[first..last + 1];
     desk.group(rt, alloc, gate, pass, group.hold, part, answers)
-}
-
-// Makes the task's calls up to the end of its last group.
-fn make_groups<E: Engine, N: Opening, R: Wait, G: Gate>(
-    desk: &Desk<E, N>,
-    rt: &R,
-    alloc: Global,
-    gate: &G,
-    plan: &Plan,
-    pass: &mut Pass<E, N>,
-    answers: &mut Vec<Answer>,
-) -> Result<(), AllocError>
-    requires plan { IsPlan plan.now }
-    requires sizes { N.desk.sizes ≡ plan.now.sizes }
-    requires task { pass.old.task < plan.now.sizes.tasks }
-    requires first { (pass.old.history ≡ []) × (answers.old.items ≡ []) }
-    ensures task { pass.new.task ≡ pass.old.task }
-    ensures left { OnOk result (IsAhead (task_calls plan.now pass.old.task) (task_groups plan.now pass.old.task) [] (length answers.new.items)) }
-    ensures begun { OnOk result (HasBegun N.desk plan.now pass.old.task pass.new.history answers.new.items) }
-{
-    for group in plan.groups(pass.task()) {
-        make_group(desk, rt, alloc, gate, plan, pass, group, answers)?;
-    }
-    Ok(())
 }
 
 /// Makes the calls of the pass's task, which made none so far, one after another, and each group's under one holding of its
@@ -150,17 +104,21 @@ pub(crate) fn run_task<E: Engine, N: Opening, R: Wait, G: Gate>(
     gate: &G,
     plan: &Plan,
     pass: &mut Pass<E, N>,
-) -> Result<Vec<Answer>, AllocError>
+) -> Result<TaskAnswers, AllocError>
     requires plan { IsPlan plan.now }
     requires sizes { N.desk.sizes ≡ plan.now.sizes }
     requires task { pass.old.task < plan.now.sizes.tasks }
     requires first { pass.old.history ≡ [] }
     ensures task { pass.new.task ≡ pass.old.task }
-    ensures made { IfOk result (λ answers. HasMade N.desk (task_groups plan.now pass.old.task) pass.old.task (task_calls plan.now pass.old.task) pass.new.history answers.items) }
+    ensures told { IfOk result (λ told. HasAll N.desk plan.now pass.old.task pass.new.history told) }
 {
     let mut answers = Vec::new(alloc);
-    make_groups(desk, rt, alloc, gate, plan, pass, &mut answers)?;
+    for group in plan.groups(pass.task()) {
+        let first = group.first as usize;
+        make_up_to(desk, rt, alloc, gate, plan, pass, first, &mut answers)?;
+        make_group(desk, rt, alloc, gate, plan, pass, group, &mut answers)?;
+    }
     let all = plan.calls(pass.task()).len();
     make_up_to(desk, rt, alloc, gate, plan, pass, all, &mut answers)?;
-    Ok(answers)
+    TaskAnswers::of(alloc, answers)
 }

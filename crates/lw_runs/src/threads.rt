@@ -39,54 +39,19 @@ pub fn run_each<E: Engine, N: Opening + Send + Sync, R: Threads + Wait + Sync, G
     ensures told { IfOk result (λ runs. (t : ℕ) (run : _) → slice_get runs.items t ≡ Some run
         → (run.pass.task ≡ t) × IfOk run.told (λ told. HasAll N.desk plan.now t run.pass.history told)) }
 {
-    let run = |pass: Pass<E, N>| -> TaskRun<E, N>
+    let run = |mut pass: Pass<E, N>| -> TaskRun<E, N>
         requires plan { IsPlan plan.now }
         requires sizes { N.desk.sizes ≡ plan.now.sizes }
         requires task { pass.task < plan.now.sizes.tasks }
         requires first { pass.history ≡ [] }
         ensures task { result.pass.task ≡ pass.task }
         ensures told { IfOk result.told (λ told. HasAll N.desk plan.entry.now pass.task result.pass.history told) }
-    { run_one(desk, rt, alloc, gate, plan, pass) };
+    {
+        let told = run_task(desk, rt, alloc, gate, plan, &mut pass);
+        TaskRun { pass, told }
+    };
     let runs = thread::map_vec(rt, passes, &run)?;
     Ok(runs)
-}
-
-fn run_one<E: Engine, N: Opening, R: Wait, G: Gate>(
-    desk: &Desk<E, N>,
-    rt: &R,
-    alloc: Global,
-    gate: &G,
-    plan: &Plan,
-    mut pass: Pass<E, N>,
-) -> TaskRun<E, N>
-    requires plan { IsPlan plan.now }
-    requires sizes { N.desk.sizes ≡ plan.now.sizes }
-    requires task { pass.task < plan.now.sizes.tasks }
-    requires first { pass.history ≡ [] }
-    ensures task { result.pass.task ≡ pass.task }
-    ensures told { IfOk result.told (λ told. HasAll N.desk plan.now pass.task result.pass.history told) }
-{
-    let told = tell(desk, rt, alloc, gate, plan, &mut pass);
-    TaskRun { pass, told }
-}
-
-fn tell<E: Engine, N: Opening, R: Wait, G: Gate>(
-    desk: &Desk<E, N>,
-    rt: &R,
-    alloc: Global,
-    gate: &G,
-    plan: &Plan,
-    pass: &mut Pass<E, N>,
-) -> Result<TaskAnswers, AllocError>
-    requires plan { IsPlan plan.now }
-    requires sizes { N.desk.sizes ≡ plan.now.sizes }
-    requires task { pass.old.task < plan.now.sizes.tasks }
-    requires first { pass.old.history ≡ [] }
-    ensures task { pass.new.task ≡ pass.old.task }
-    ensures told { IfOk result (λ told. HasAll N.desk plan.now pass.old.task pass.new.history told) }
-{
-    let answers = run_task(desk, rt, alloc, gate, plan, pass)?;
-    TaskAnswers::of(alloc, answers)
 }
 
 /// The passes of runs, and what their tasks were told. It fails where one of these, or this call, ran out of memory.

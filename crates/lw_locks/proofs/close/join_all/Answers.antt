@@ -53,5 +53,5 @@ returns g c =
     let put = c.put_cells.ensures in
     let mine = c.join_passes.ensures.many in
     closed e.relations g.N.Opening.word desk c.args.passes.items c.info.inside.info cells.items regs.items c.info.inside.seat c.join_layers.new.seat c.join_passes.new.seat
-    steps.empty steps.limits joined.longer c.join_passes.ensures.longer c.info.invariant.info (λ s x at_s. joined.taken s x (put.placed s x at_s)) (sym cells.ok.0 ∙ (put.many.0 ∙ (joined.many.0 ∙ c.requires.layers)))
+    steps.begun.empty steps.begun.limits joined.longer c.join_passes.ensures.longer c.info.invariant.info (λ s x at_s. joined.taken s x (put.placed s x at_s)) (sym cells.ok.0 ∙ (put.many.0 ∙ (joined.many.0 ∙ c.requires.layers)))
     c.join_passes.ensures.seat c.join_passes.ensures.regs (sym regs.ok.0 ∙ (mine.0 ∙ c.requires.many)) c.join_passes.ensures.followed

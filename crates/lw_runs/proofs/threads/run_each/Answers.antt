@@ -16,7 +16,8 @@ map_vec-requires-after_bounds g c κs within =
     let number : x.task ≡ i = ap (λ (p : SeenPass). p.task) is in
     let task : x.task < tasks = omega (arith, number, low, many) in
     let first : x.history ≡ [] = ap (λ (p : SeenPass). p.history) is in
-    search rules
+    let t = c.type_bounds in
+    (c.requires.plan, (c.requires.sizes, (task, (first, search (rules, t.send-N.owned, t.send-N.leaving, t.send-E-Info.owned, t.send-E-Cell.owned, t.send-E-Regs.owned, t.sync-E.shared, t.sync-N.shared, t.sync-R.shared, t.sync-G.shared) depth 9))))
 
 pub returns : goal.returns
 returns g c =

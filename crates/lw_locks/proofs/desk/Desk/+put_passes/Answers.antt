@@ -1,6 +1,6 @@
 -- Passes made of registers, the last one first.
 use Rattle.std.proofs.Common.{◌≡◌, ◌∙◌, length, vec_len}
-use Rattle.lw_locks.proofs.Starting.{own_at_start, regs_front, regs_last, tasks_left, passes_more}
+use Rattle.lw_locks.proofs.Starting.{holding_at_start, regs_front, regs_last, tasks_left, passes_more}
 use Rattle.lw_locks.proofs.desk.Desk.+put_passes.Goals as goal
 
 pub put_passes-requires-clause-roles : goal.put_passes-requires-clause-roles
@@ -11,10 +11,10 @@ pub put_passes-requires-clause-regs : goal.put_passes-requires-clause-regs
 put_passes-requires-clause-regs g t c κs within =
     regs_front g.E.Engine.relations g.N.Opening.desk c.args.regs.now.items c.pop.new.self.items c.in-Some.mine c.in-Some.ensures.items c.requires.regs
 
-pub invariant_of-pass : goal.invariant_of-pass
-invariant_of-pass g t c =
+pub invariant_of-holder : goal.invariant_of-holder
+invariant_of-holder g t c =
     let place : c.len-task.result ≡ length c.pop.new.self.items = c.len-task.ensures ∙ c.pop.new.self.ok.0 in
-    own_at_start g.E.Engine.relations g.N.Opening.word g.N.Opening.desk c.len-task.result c.split-own.result c.in-Some.mine
+    holding_at_start g.E.Engine.relations g.N.Opening.word g.N.Opening.desk c.len-task.result c.split-own.result c.in-Some.mine
     (c.split-own.ensures.words.1 ∙ c.requires.seat_word) (c.split-own.ensures.histories.1 ∙ c.requires.history) c.split-own.ensures.given
     (regs_last g.E.Engine.relations g.N.Opening.desk c.args.regs.now.items c.pop.new.self.items c.in-Some.mine c.in-Some.ensures.items c.requires.regs c.len-task.result place)
 

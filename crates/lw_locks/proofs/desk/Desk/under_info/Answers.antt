@@ -1,74 +1,34 @@
 -- A look at LayerInfo, between a join and a split of seats.
-use Rattle.std.proofs.Common.{◌≡◌, ◌<◌, ◌++◌, ◌∷◌, [], ◌∙◌, ◌+◌, refl, sym, ap, subst}
-use Rattle.std.specs.Prelude.{Result, Ok}
-use Rattle.lw_calls.specs.declared.touch.Role.TheVariants.{Task, Info}
-use Rattle.lw_calls.specs.Entries.{count_of}
-use Rattle.lw_locks.specs.Seen.{SeenPass}
-use Rattle.lw_locks.specs.declared.answer.Answer.{Answer}
-use Rattle.lw_locks.proofs.Seats.{longer_by, regs_longer, info_longer, their_longer}
-use Rattle.lw_locks.proofs.Passes.{room_joined, counted_joined, counted_after, own_left, done_out}
+use Rattle.std.proofs.Common.{refl}
+use Rattle.lw_calls.specs.declared.touch.Role.TheVariants.{Info}
+use Rattle.lw_locks.proofs.Passes.{may_own, has_own, may_still, info_got, has_off, alone_back, done_back, info_back}
 use Rattle.lw_locks.proofs.desk.Desk.under_info.Goals as goal
 
-pub on_info-answer-requires-clause-regs : goal.on_info-answer-requires-clause-regs
-on_info-answer-requires-clause-regs g c κs within =
+pub on_info-answer-requires-clause-may : goal.on_info-answer-requires-clause-may
+on_info-answer-requires-clause-may g c κs within =
+    let own = c.pass.inside.holder in
     let desk = g.N.Opening.desk in
-    let task = c.pass.inside.task in
-    let mine = c.pass.inside.seat in
-    let theirs = c.info.inside.seat in
-    let both = c.join.new.seat in
-    let joined = c.join.ensures in
-    regs_longer desk mine both (longer_by desk mine theirs both joined) g.E.Engine.relations task c.pass.inside.regs c.pass.invariant.regs
+    may_still desk own c.info.inside.seat c.hold.new.holder c.hold.ensures c.args.call.now (has_own own c.pass.invariant) (may_own desk own c.args.pass.now c.pass.invariant c.pass.view_is c.args.call.now c.requires.may)
 
 pub on_info-answer-requires-clause-info : goal.on_info-answer-requires-clause-info
 on_info-answer-requires-clause-info g c κs within =
-    let desk = g.N.Opening.desk in
-    let task = c.pass.inside.task in
-    let mine = c.pass.inside.seat in
-    let theirs = c.info.inside.seat in
-    let both = c.join.new.seat in
-    let joined = c.join.ensures in
-    info_longer desk theirs both (their_longer desk mine theirs both joined) g.E.Engine.relations c.info.inside.info c.info.invariant.info
+    info_got g.N.Opening.desk c.pass.inside.holder c.info.inside.seat c.hold.new.holder c.hold.ensures g.E.Engine.relations c.info.inside.info c.info.invariant.info
 
-pub on_info-answer-requires-clause-room : goal.on_info-answer-requires-clause-room
-on_info-answer-requires-clause-room g c κs within =
-    let desk = g.N.Opening.desk in
-    let task = c.pass.inside.task in
-    let mine = c.pass.inside.seat in
-    let theirs = c.info.inside.seat in
-    let both = c.join.new.seat in
-    let joined = c.join.ensures in
-    room_joined task mine both (longer_by desk mine theirs both joined) c.pass.invariant.regs.has (subst (λ (v : SeenPass). count_of v.task v.history < 4294967295) (sym c.pass.view_is) c.requires.room)
+pub give-seat-requires-clause-role : goal.give-seat-requires-clause-role
+give-seat-requires-clause-role g c κs within =
+    has_off g.N.Opening.desk c.pass.inside.holder c.info.inside.seat c.hold.new.holder c.hold.ensures Info c.on_info-answer.new.holder c.info.invariant.roles c.on_info-answer.ensures.roles
+
+pub invariant_of-back : goal.invariant_of-back
+invariant_of-back g c =
+    info_back g.E.Engine.relations g.N.Opening.word g.N.Opening.desk c.on_info-answer.new.holder c.give-seat.new.holder c.give-seat.result c.info.inside.info c.give-seat.ensures c.on_info-answer.ensures.info
 
 pub invariant_of-pass : goal.invariant_of-pass
 invariant_of-pass g c =
-    let desk = g.N.Opening.desk in
-    let task = c.pass.inside.task in
-    let mine = c.pass.inside.seat in
-    let theirs = c.info.inside.seat in
-    let both = c.join.new.seat in
-    let joined = c.join.ensures in
-    let stepped = c.on_info-answer.new.seat in
-    let left = c.split-seat.new.seat.history in
-    let longer = longer_by desk mine theirs both joined in
-    let ok : Result Answer (Unit {0}) = Ok c.on_info-answer.result in
-    let cut = c.split-seat.ensures in
-    let roles : stepped.roles ≡ (Task task ∷ []) ++ Info ∷ [] =
-    c.on_info-answer.ensures.roles ∙ (joined.roles ∙ (ap (λ rs. rs ++ theirs.roles) c.pass.invariant.roles ∙ ap (λ rs. (Task task ∷ []) ++ rs) c.info.invariant.roles)) in
-    own_left g.E.Engine.relations g.N.Opening.word desk task (c.pass.inside.made + 1) Info stepped c.split-seat.new.seat c.split-seat.result c.pass.inside.regs
-    c.on_info-answer.ensures.seat c.on_info-answer.ensures.regs cut roles refl
-    (counted_after ok desk both.roles task c.pass.inside.made (c.pass.inside.made + 1) both.history stepped.history c.args.call.now (λ (a : Answer). a.reply) (λ (a : Answer). a.ticket) (longer.among (Task task) c.pass.invariant.regs.has)
-    (counted_joined task c.pass.inside.made mine both longer c.pass.invariant.regs.has c.pass.invariant.counted) refl c.on_info-answer.ensures.done tt)
+    let e = c.on_info-answer.ensures in
+    alone_back g.N.Opening.desk c.pass.inside.holder c.info.inside.seat c.hold.new.holder c.hold.ensures g.N.Opening.word Info c.on_info-answer.new.holder c.give-seat.new.holder c.give-seat.result c.info.invariant.roles e.roles e.task c.give-seat.ensures c.pass.invariant refl
 
 pub returns-clause-done : goal.returns-clause-done
 returns-clause-done g c =
-    let desk = g.N.Opening.desk in
-    let task = c.pass.inside.task in
-    let mine = c.pass.inside.seat in
-    let theirs = c.info.inside.seat in
-    let both = c.join.new.seat in
-    let joined = c.join.ensures in
-    let stepped = c.on_info-answer.new.seat in
-    let left = c.split-seat.new.seat.history in
-    let longer = longer_by desk mine theirs both joined in
-    let ok : Result Answer (Unit {0}) = Ok c.on_info-answer.result in
-    done_out desk task mine both stepped.history left c.args.pass.now longer c.pass.invariant.roles c.split-seat.ensures.histories.0 c.pass.view_is ok c.args.call.now (λ (a : Answer). a.reply) (λ (a : Answer). a.ticket) c.on_info-answer.ensures.done
+    let answer = c.on_info-answer.result in
+    done_back g.N.Opening.desk c.pass.inside.holder c.args.pass.now c.pass.invariant c.pass.view_is g.N.Opening.word Info c.info.inside.seat c.hold.new.holder c.on_info-answer.new.holder c.give-seat.new.holder c.give-seat.result c.args.call.now answer.reply answer.ticket
+    c.hold.ensures c.give-seat.ensures c.on_info-answer.ensures.done

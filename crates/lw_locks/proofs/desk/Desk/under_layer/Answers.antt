@@ -1,82 +1,34 @@
 -- A call on one layer, between a join and a split of seats.
-use Rattle.std.proofs.Common.{◌≡◌, ◌<◌, ◌++◌, ◌∷◌, [], ◌∙◌, refl, sym, ap, subst}
-use Rattle.lw_calls.specs.declared.touch.Role.TheVariants.{Task, Slot}
-use Rattle.lw_calls.specs.Entries.{count_of}
-use Rattle.lw_locks.specs.Seen.{SeenPass}
-use Rattle.lw_locks.specs.declared.answer.Answer.{Answer}
-use Rattle.lw_locks.proofs.Seats.{longer_by, regs_longer, cell_longer, their_longer}
-use Rattle.lw_locks.proofs.Passes.{room_joined, counted_joined, counted_after, own_left, done_out, failed_out}
+use Rattle.std.proofs.Common.{refl, ◌∙◌}
+use Rattle.lw_calls.specs.declared.touch.Role.TheVariants.{Slot}
+use Rattle.lw_locks.proofs.Passes.{may_own, has_own, may_still, cell_held, has_off, alone_back, called_back, layer_back}
 use Rattle.lw_locks.proofs.desk.Desk.under_layer.Goals as goal
 
-pub on_layer-answer-requires-clause-regs : goal.on_layer-answer-requires-clause-regs
-on_layer-answer-requires-clause-regs g c κs within =
+pub on_layer-answer-requires-clause-may : goal.on_layer-answer-requires-clause-may
+on_layer-answer-requires-clause-may g c κs within =
+    let own = c.pass.inside.holder in
     let desk = g.N.Opening.desk in
-    let task = c.pass.inside.task in
-    let mine = c.pass.inside.seat in
-    let theirs = c.layer.inside.seat in
-    let both = c.join.new.seat in
-    let joined = c.join.ensures in
-    regs_longer desk mine both (longer_by desk mine theirs both joined) g.E.Engine.relations task c.pass.inside.regs c.pass.invariant.regs
+    may_still desk own c.layer.inside.seat c.hold.new.holder c.hold.ensures c.args.call.now (has_own own c.pass.invariant) (may_own desk own c.args.pass.now c.pass.invariant c.pass.view_is c.args.call.now c.requires.may)
 
 pub on_layer-answer-requires-clause-cell : goal.on_layer-answer-requires-clause-cell
 on_layer-answer-requires-clause-cell g c κs within =
-    let desk = g.N.Opening.desk in
-    let task = c.pass.inside.task in
-    let mine = c.pass.inside.seat in
-    let theirs = c.layer.inside.seat in
-    let both = c.join.new.seat in
-    let joined = c.join.ensures in
-    cell_longer desk theirs both (their_longer desk mine theirs both joined) g.E.Engine.relations c.layer.inside.cell c.layer.invariant.cell
+    cell_held g.N.Opening.desk c.pass.inside.holder c.layer.inside.seat c.hold.new.holder c.hold.ensures g.E.Engine.relations c.layer.inside.cell c.layer.invariant.cell
 
-pub on_layer-answer-requires-clause-room : goal.on_layer-answer-requires-clause-room
-on_layer-answer-requires-clause-room g c κs within =
-    let desk = g.N.Opening.desk in
-    let task = c.pass.inside.task in
-    let mine = c.pass.inside.seat in
-    let theirs = c.layer.inside.seat in
-    let both = c.join.new.seat in
-    let joined = c.join.ensures in
-    room_joined task mine both (longer_by desk mine theirs both joined) c.pass.invariant.regs.has (subst (λ (v : SeenPass). count_of v.task v.history < 4294967295) (sym c.pass.view_is) c.requires.room)
+pub give-seat-requires-clause-role : goal.give-seat-requires-clause-role
+give-seat-requires-clause-role g c κs within =
+    has_off g.N.Opening.desk c.pass.inside.holder c.layer.inside.seat c.hold.new.holder c.hold.ensures (Slot c.layer.inside.slot) c.on_layer-answer.new.holder c.layer.invariant.roles c.on_layer-answer.ensures.stepped.roles
+
+pub invariant_of-back : goal.invariant_of-back
+invariant_of-back g c =
+    let e = c.on_layer-answer.ensures in
+    layer_back g.E.Engine.relations g.N.Opening.word g.N.Opening.desk c.layer.inside.slot c.on_layer-answer.new.holder c.give-seat.new.holder c.give-seat.result c.on_layer-answer.new.cell c.give-seat.ensures (e.number ∙ c.layer.invariant.number) e.cell
 
 pub invariant_of-pass : goal.invariant_of-pass
 invariant_of-pass g c =
-    let desk = g.N.Opening.desk in
-    let task = c.pass.inside.task in
-    let mine = c.pass.inside.seat in
-    let theirs = c.layer.inside.seat in
-    let both = c.join.new.seat in
-    let joined = c.join.ensures in
-    let stepped = c.on_layer-answer.new.seat in
-    let left = c.split-seat.new.seat.history in
-    let longer = longer_by desk mine theirs both joined in
-    let cut = c.split-seat.ensures in
-    let roles : stepped.roles ≡ (Task task ∷ []) ++ Slot c.layer.inside.slot ∷ [] =
-    c.on_layer-answer.ensures.roles ∙ (joined.roles ∙ (ap (λ rs. rs ++ theirs.roles) c.pass.invariant.roles ∙ ap (λ rs. (Task task ∷ []) ++ rs) c.layer.invariant.roles)) in
-    own_left g.E.Engine.relations g.N.Opening.word desk task c.made_after-pass-inside.result (Slot c.layer.inside.slot) stepped c.split-seat.new.seat c.split-seat.result c.pass.inside.regs
-    c.on_layer-answer.ensures.seat c.on_layer-answer.ensures.regs cut roles refl
-    (counted_after c.on_layer-answer.result desk both.roles task c.pass.inside.made c.made_after-pass-inside.result both.history stepped.history c.args.call.now (λ (a : Answer). a.reply) (λ (a : Answer). a.ticket) (longer.among (Task task) c.pass.invariant.regs.has)
-    (counted_joined task c.pass.inside.made mine both longer c.pass.invariant.regs.has c.pass.invariant.counted) c.made_after-pass-inside.ensures c.on_layer-answer.ensures.done c.on_layer-answer.ensures.same)
+    let e = c.on_layer-answer.ensures.stepped in
+    alone_back g.N.Opening.desk c.pass.inside.holder c.layer.inside.seat c.hold.new.holder c.hold.ensures g.N.Opening.word (Slot c.layer.inside.slot) c.on_layer-answer.new.holder c.give-seat.new.holder c.give-seat.result c.layer.invariant.roles e.roles e.task c.give-seat.ensures c.pass.invariant refl
 
-pub returns-clause-done : goal.returns-clause-done
-returns-clause-done g c =
-    let desk = g.N.Opening.desk in
-    let task = c.pass.inside.task in
-    let mine = c.pass.inside.seat in
-    let theirs = c.layer.inside.seat in
-    let both = c.join.new.seat in
-    let joined = c.join.ensures in
-    let stepped = c.on_layer-answer.new.seat in
-    let left = c.split-seat.new.seat.history in
-    let longer = longer_by desk mine theirs both joined in
-    done_out desk task mine both stepped.history left c.args.pass.now longer c.pass.invariant.roles c.split-seat.ensures.histories.0 c.pass.view_is c.on_layer-answer.result c.args.call.now (λ (a : Answer). a.reply) (λ (a : Answer). a.ticket) c.on_layer-answer.ensures.done
-
-pub returns-clause-failed : goal.returns-clause-failed
-returns-clause-failed g c =
-    let desk = g.N.Opening.desk in
-    let task = c.pass.inside.task in
-    let mine = c.pass.inside.seat in
-    let theirs = c.layer.inside.seat in
-    let both = c.join.new.seat in
-    let stepped = c.on_layer-answer.new.seat in
-    let left = c.split-seat.new.seat.history in
-    failed_out desk task mine both stepped.history left c.args.pass.now (longer_by desk mine theirs both c.join.ensures) c.pass.invariant.roles c.split-seat.ensures.histories.0 c.pass.view_is c.on_layer-answer.result c.on_layer-answer.ensures.same
+pub returns : goal.returns
+returns g c =
+    called_back g.N.Opening.desk c.pass.inside.holder c.args.pass.now c.pass.invariant c.pass.view_is g.N.Opening.word (Slot c.layer.inside.slot) c.layer.inside.seat c.hold.new.holder c.on_layer-answer.new.holder c.give-seat.new.holder c.give-seat.result c.args.call.now c.on_layer-answer.result
+    c.hold.ensures c.give-seat.ensures c.on_layer-answer.ensures.stepped

@@ -1,16 +1,11 @@
-use Rattle.std.proofs.Common.{◌≡◌, ◌+◌, length, take, vec_capacity}
-use Rattle.lw_locks.specs.Promised.{Grown}
-use Rattle.lw_locks.specs.Held.{IsHolding, IsCell}
+use Rattle.std.proofs.Common.{◌≡◌, vec_capacity}
+use Rattle.lw_locks.specs.Held.{IsCell}
+use Rattle.lw_locks.proofs.Running.{Going}
 use Rattle.lw_locks.proofs.steps.Steps.each_on_layer.Given as goal
 
 abbrev pub invariant-loop-call : goal.invariant-loop-call
 invariant-loop-call g l =
-    let desk = g.N.Opening.desk in
-    (l.seat.roles ≡ l.initial.seat.roles)
-    × (l.made ≡ l.initial.made + l.call-index)
-    × (length l.answers.items ≡ length l.initial.answers.items + l.call-index)
+    Going g.N.Opening.desk l.initial.holder l.holder l.calls l.initial.answers.items l.answers.items l.call-index
+    × IsCell g.E.Engine.relations g.N.Opening.desk l.holder.seat l.cell
     × (g.E.Engine.relations.number l.cell ≡ g.E.Engine.relations.number l.initial.cell)
-    × IsCell g.E.Engine.relations desk l.seat l.cell
-    × IsHolding g.E.Engine.relations g.N.Opening.word desk l.task l.made l.seat l.regs
-    × Grown desk l.initial.seat.roles l.task l.initial.seat.history l.seat.history (take l.call-index l.calls) l.initial.answers.items l.answers.items
     × (vec_capacity l.answers ≡ vec_capacity l.initial.answers)

@@ -1,50 +1,27 @@
 -- A call on one layer, made and stamped.
-use Rattle.lw_calls.specs.Touches.{class_of}
-use Rattle.lw_locks.proofs.Apart.{layer_apart}
-use Rattle.lw_locks.proofs.Stepping.{IsBegun, regs_stay, one_made}
+use Rattle.std.proofs.Common.{subst}
+use Rattle.lw_engine_trait.specs.Steps.{IsOneStep}
+use Rattle.lw_locks.specs.Held.{IsCell}
+use Rattle.lw_locks.specs.Promised.{Done}
+use Rattle.lw_locks.proofs.Stepping.{one_made, stepped_ok}
+use Rattle.lw_locks.proofs.steps.Steps.on_layer.Given.{Over}
+use Rattle.lw_locks.proofs.steps.Steps.on_layer.Goals.{After-stamp_step-ticket}
 use Rattle.lw_locks.proofs.steps.Steps.on_layer.Goals as goal
 
-pub returns-clause-regs : goal.returns-clause-regs
-returns-clause-regs g c =
-    let desk = g.N.Opening.desk in
-    let old = c.args.seat.now in
-    let new = c.stamp-ticket.new.seat in
-    let task = c.args.task in
-    let call = c.args.call.now in
-    let ticket = c.stamp-ticket.result in
-    let sizes = g.E.Engine.sizes c.args.self.now.engine in
-    let assets = g.E.Engine.assets c.args.self.now.engine in
-    let begun : IsBegun desk sizes assets =
-    record { empty = c.args.self.now.empty; limits = c.args.self.now.limits; sizes = c.args.self.now.engine_sizes; assets = c.args.self.now.engine_assets } in
-    let was = c.stamp-ticket.ensures in
-    regs_stay desk sizes assets begun old new task call ticket was g.E.Engine.relations c.args.regs.now (layer_apart (class_of call) (g.E.Engine.relations.number c.args.cell.now) c.requires.class) c.requires.regs
+made : (g : Over) (c : After-stamp_step-ticket g) → Done g.N.Opening.desk c.args.holder.now.seat.roles c.args.holder.now.task c.args.holder.now.seat.history c.stamp_step-ticket.new.holder.seat.history c.args.call.now c.in_ok-reply.reply c.stamp_step-ticket.result
+    × IsCell g.E.Engine.relations g.N.Opening.desk c.stamp_step-ticket.new.holder.seat c.one.new.cell
+made g c =
+    let e = g.E.Engine in
+    let self = c.args.self.now in
+    let own = c.args.holder.now in
+    one_made g.N.Opening.desk (e.sizes self.engine) (e.assets self.engine) self.begun own.seat c.stamp_step-ticket.new.holder.seat own.task c.args.call.now c.stamp_step-ticket.result c.stamp_step-ticket.ensures.stamped e.relations c.args.cell.now c.one.new.cell c.regs-regs.result.now c.in_ok-reply.reply
+    c.requires.cell c.regs-regs.ensures c.one.ensures.number
+    (subst (λ t. IsOneStep e.relations (e.sizes self.engine) (e.assets self.engine) c.args.cell.now c.regs-regs.result.now t c.args.call.now c.in_ok-reply.reply c.one.new.cell) c.task-task.ensures.number c.in_ok-reply.ensures.step)
+
+pub returns-clause-stepped : goal.returns-clause-stepped
+returns-clause-stepped g c =
+    let e = c.stamp_step-ticket.ensures in
+    stepped_ok g.N.Opening.desk c.args.holder.now c.stamp_step-ticket.new.holder c.args.call.now (record { reply = c.in_ok-reply.reply; ticket = c.stamp_step-ticket.result }) e.task e.stamped (made g c).0
 
 pub returns-clause-cell : goal.returns-clause-cell
-returns-clause-cell g c =
-    let desk = g.N.Opening.desk in
-    let old = c.args.seat.now in
-    let new = c.stamp-ticket.new.seat in
-    let task = c.args.task in
-    let call = c.args.call.now in
-    let ticket = c.stamp-ticket.result in
-    let sizes = g.E.Engine.sizes c.args.self.now.engine in
-    let assets = g.E.Engine.assets c.args.self.now.engine in
-    let begun : IsBegun desk sizes assets =
-    record { empty = c.args.self.now.empty; limits = c.args.self.now.limits; sizes = c.args.self.now.engine_sizes; assets = c.args.self.now.engine_assets } in
-    let was = c.stamp-ticket.ensures in
-    (one_made desk sizes assets begun old new task call ticket was g.E.Engine.relations c.args.cell.now c.one.new.cell c.args.regs.now c.in_ok-reply.reply c.requires.cell c.requires.regs c.one.ensures.number c.in_ok-reply.ensures.step).1
-
-pub returns-clause-done : goal.returns-clause-done
-returns-clause-done g c =
-    let desk = g.N.Opening.desk in
-    let old = c.args.seat.now in
-    let new = c.stamp-ticket.new.seat in
-    let task = c.args.task in
-    let call = c.args.call.now in
-    let ticket = c.stamp-ticket.result in
-    let sizes = g.E.Engine.sizes c.args.self.now.engine in
-    let assets = g.E.Engine.assets c.args.self.now.engine in
-    let begun : IsBegun desk sizes assets =
-    record { empty = c.args.self.now.empty; limits = c.args.self.now.limits; sizes = c.args.self.now.engine_sizes; assets = c.args.self.now.engine_assets } in
-    let was = c.stamp-ticket.ensures in
-    (one_made desk sizes assets begun old new task call ticket was g.E.Engine.relations c.args.cell.now c.one.new.cell c.args.regs.now c.in_ok-reply.reply c.requires.cell c.requires.regs c.one.ensures.number c.in_ok-reply.ensures.step).0
+returns-clause-cell g c = (made g c).1

@@ -1,65 +1,26 @@
 -- A call on two layers, made and stamped.
-use Rattle.lw_calls.specs.Touches.{class_of}
-use Rattle.lw_locks.proofs.Apart.{layers_apart}
-use Rattle.lw_locks.proofs.Stepping.{IsBegun, regs_stay, two_made}
+use Rattle.lw_locks.specs.Held.{IsCell}
+use Rattle.lw_locks.specs.Promised.{Done}
+use Rattle.lw_locks.proofs.Stepping.{two_made}
+use Rattle.lw_locks.proofs.steps.Steps.on_layers.Given.{Over}
+use Rattle.lw_locks.proofs.steps.Steps.on_layers.Goals.{After-stamp_step-ticket}
 use Rattle.lw_locks.proofs.steps.Steps.on_layers.Goals as goal
 
-pub returns-clause-regs : goal.returns-clause-regs
-returns-clause-regs g c =
-    let desk = g.N.Opening.desk in
-    let old = c.args.seat.now in
-    let new = c.stamp-ticket.new.seat in
-    let task = c.args.task in
-    let call = c.args.call.now in
-    let ticket = c.stamp-ticket.result in
-    let sizes = g.E.Engine.sizes c.args.self.now.engine in
-    let assets = g.E.Engine.assets c.args.self.now.engine in
-    let begun : IsBegun desk sizes assets =
-    record { empty = c.args.self.now.empty; limits = c.args.self.now.limits; sizes = c.args.self.now.engine_sizes; assets = c.args.self.now.engine_assets } in
-    let was = c.stamp-ticket.ensures in
-    regs_stay desk sizes assets begun old new task call ticket was g.E.Engine.relations c.args.regs.now (layers_apart (class_of call) (g.E.Engine.relations.number c.args.source.now) (g.E.Engine.relations.number c.args.to.now) c.requires.class) c.requires.regs
+made : (g : Over) (c : After-stamp_step-ticket g) → Done g.N.Opening.desk c.args.holder.now.seat.roles c.args.holder.now.task c.args.holder.now.seat.history c.stamp_step-ticket.new.holder.seat.history c.args.call.now c.two-reply.result c.stamp_step-ticket.result
+    × IsCell g.E.Engine.relations g.N.Opening.desk c.stamp_step-ticket.new.holder.seat c.args.source.now
+    × IsCell g.E.Engine.relations g.N.Opening.desk c.stamp_step-ticket.new.holder.seat c.two-reply.new.to
+made g c =
+    let e = g.E.Engine in
+    let self = c.args.self.now in
+    let own = c.args.holder.now in
+    two_made g.N.Opening.desk (e.sizes self.engine) (e.assets self.engine) self.begun own.seat c.stamp_step-ticket.new.holder.seat own.task c.args.call.now c.stamp_step-ticket.result c.stamp_step-ticket.ensures.stamped e.relations c.args.source.now c.args.to.now c.two-reply.new.to c.two-reply.result
+    c.requires.source c.requires.to c.two-reply.ensures.number c.two-reply.ensures.step
 
 pub returns-clause-source : goal.returns-clause-source
-returns-clause-source g c =
-    let desk = g.N.Opening.desk in
-    let old = c.args.seat.now in
-    let new = c.stamp-ticket.new.seat in
-    let task = c.args.task in
-    let call = c.args.call.now in
-    let ticket = c.stamp-ticket.result in
-    let sizes = g.E.Engine.sizes c.args.self.now.engine in
-    let assets = g.E.Engine.assets c.args.self.now.engine in
-    let begun : IsBegun desk sizes assets =
-    record { empty = c.args.self.now.empty; limits = c.args.self.now.limits; sizes = c.args.self.now.engine_sizes; assets = c.args.self.now.engine_assets } in
-    let was = c.stamp-ticket.ensures in
-    (two_made desk sizes assets begun old new task call ticket was g.E.Engine.relations c.args.source.now c.args.to.now c.two-reply.new.to c.two-reply.result c.requires.source c.requires.to c.two-reply.ensures.number c.two-reply.ensures.step).1
+returns-clause-source g c = (made g c).1
 
 pub returns-clause-to : goal.returns-clause-to
-returns-clause-to g c =
-    let desk = g.N.Opening.desk in
-    let old = c.args.seat.now in
-    let new = c.stamp-ticket.new.seat in
-    let task = c.args.task in
-    let call = c.args.call.now in
-    let ticket = c.stamp-ticket.result in
-    let sizes = g.E.Engine.sizes c.args.self.now.engine in
-    let assets = g.E.Engine.assets c.args.self.now.engine in
-    let begun : IsBegun desk sizes assets =
-    record { empty = c.args.self.now.empty; limits = c.args.self.now.limits; sizes = c.args.self.now.engine_sizes; assets = c.args.self.now.engine_assets } in
-    let was = c.stamp-ticket.ensures in
-    (two_made desk sizes assets begun old new task call ticket was g.E.Engine.relations c.args.source.now c.args.to.now c.two-reply.new.to c.two-reply.result c.requires.source c.requires.to c.two-reply.ensures.number c.two-reply.ensures.step).2
+returns-clause-to g c = (made g c).2
 
 pub returns-clause-done : goal.returns-clause-done
-returns-clause-done g c =
-    let desk = g.N.Opening.desk in
-    let old = c.args.seat.now in
-    let new = c.stamp-ticket.new.seat in
-    let task = c.args.task in
-    let call = c.args.call.now in
-    let ticket = c.stamp-ticket.result in
-    let sizes = g.E.Engine.sizes c.args.self.now.engine in
-    let assets = g.E.Engine.assets c.args.self.now.engine in
-    let begun : IsBegun desk sizes assets =
-    record { empty = c.args.self.now.empty; limits = c.args.self.now.limits; sizes = c.args.self.now.engine_sizes; assets = c.args.self.now.engine_assets } in
-    let was = c.stamp-ticket.ensures in
-    (two_made desk sizes assets begun old new task call ticket was g.E.Engine.relations c.args.source.now c.args.to.now c.two-reply.new.to c.two-reply.result c.requires.source c.requires.to c.two-reply.ensures.number c.two-reply.ensures.step).0
+returns-clause-done g c = (made g c).0

@@ -1,33 +1,25 @@
 -- A call on registers, made and stamped.
-use Rattle.lw_locks.proofs.Stepping.{IsBegun, registers_made}
+use Rattle.std.proofs.Common.{refl, subst}
+use Rattle.std.specs.Prelude.{Ok}
+use Rattle.lw_locks.specs.Called.{Stepped}
+use Rattle.lw_locks.specs.Seen.{SeenHolder}
+use Rattle.lw_locks.proofs.Stepping.{registers_made, holding_with, stepped_ok}
 use Rattle.lw_locks.proofs.steps.Steps.on_registers.Goals as goal
 
-pub returns-clause-regs : goal.returns-clause-regs
-returns-clause-regs g c =
-    let desk = g.N.Opening.desk in
-    let old = c.args.seat.now in
-    let new = c.stamp-ticket.new.seat in
-    let task = c.args.task in
-    let call = c.args.call.now in
-    let ticket = c.stamp-ticket.result in
-    let sizes = g.E.Engine.sizes c.args.self.now.engine in
-    let assets = g.E.Engine.assets c.args.self.now.engine in
-    let begun : IsBegun desk sizes assets =
-    record { empty = c.args.self.now.empty; limits = c.args.self.now.limits; sizes = c.args.self.now.engine_sizes; assets = c.args.self.now.engine_assets } in
-    let was = c.stamp-ticket.ensures in
-    (registers_made desk sizes assets begun old new task call ticket was g.E.Engine.relations c.args.regs.now c.regs.new.regs c.in_ok-reply.reply c.requires.regs c.in_ok-reply.ensures.step).1
+pub invariant_of-holder-2 : goal.invariant_of-holder-2
+invariant_of-holder-2 g c =
+    let e = g.E.Engine in
+    let own = c.holder.inside in
+    let self = c.args.self.now in
+    holding_with g.N.Opening.desk (e.sizes self.engine) (e.assets self.engine) self.begun own.seat c.stamp-ticket.new.seat own.task c.args.call.now c.stamp-ticket.result c.stamp-ticket.ensures e.relations g.N.Opening.word own.made own.regs c.regs.new.regs c.holder.invariant
+    (registers_made g.N.Opening.desk (e.sizes self.engine) (e.assets self.engine) self.begun own.seat c.stamp-ticket.new.seat own.task c.args.call.now c.stamp-ticket.result c.stamp-ticket.ensures e.relations own.regs c.regs.new.regs c.in_ok-reply.reply c.holder.invariant.regs c.in_ok-reply.ensures.step).1
 
-pub returns-clause-done : goal.returns-clause-done
-returns-clause-done g c =
-    let desk = g.N.Opening.desk in
-    let old = c.args.seat.now in
-    let new = c.stamp-ticket.new.seat in
-    let task = c.args.task in
-    let call = c.args.call.now in
-    let ticket = c.stamp-ticket.result in
-    let sizes = g.E.Engine.sizes c.args.self.now.engine in
-    let assets = g.E.Engine.assets c.args.self.now.engine in
-    let begun : IsBegun desk sizes assets =
-    record { empty = c.args.self.now.empty; limits = c.args.self.now.limits; sizes = c.args.self.now.engine_sizes; assets = c.args.self.now.engine_assets } in
-    let was = c.stamp-ticket.ensures in
-    (registers_made desk sizes assets begun old new task call ticket was g.E.Engine.relations c.args.regs.now c.regs.new.regs c.in_ok-reply.reply c.requires.regs c.in_ok-reply.ensures.step).0
+pub returns : goal.returns
+returns g c =
+    let e = g.E.Engine in
+    let self = c.args.self.now in
+    let own = c.holder.inside in
+    let left : SeenHolder = record { task = own.task; seat = c.stamp-ticket.new.seat } in
+    subst (λ (h : SeenHolder). Stepped g.N.Opening.desk h left c.args.call.now (Ok (record { reply = c.in_ok-reply.reply; ticket = c.stamp-ticket.result }))) c.holder.view_is
+    (stepped_ok g.N.Opening.desk (record { task = own.task; seat = own.seat }) left c.args.call.now (record { reply = c.in_ok-reply.reply; ticket = c.stamp-ticket.result }) refl c.stamp-ticket.ensures
+    (registers_made g.N.Opening.desk (e.sizes self.engine) (e.assets self.engine) self.begun own.seat c.stamp-ticket.new.seat own.task c.args.call.now c.stamp-ticket.result c.stamp-ticket.ensures e.relations own.regs c.regs.new.regs c.in_ok-reply.reply c.holder.invariant.regs c.in_ok-reply.ensures.step).0)

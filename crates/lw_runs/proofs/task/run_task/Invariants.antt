@@ -1,7 +1,7 @@
 use Rattle.std.proofs.Common.{◌≡◌, length, drop}
 use Rattle.lw_calls.specs.Plan.{task_calls, task_groups}
 use Rattle.lw_runs.specs.Made.{HasBegun, IsAhead}
-use Rattle.lw_runs.proofs.task.make_groups.Given as goal
+use Rattle.lw_runs.proofs.task.run_task.Given as goal
 
 abbrev pub invariant-loop-group : goal.invariant-loop-group
 invariant-loop-group g l =
