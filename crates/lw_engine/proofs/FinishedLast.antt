@@ -20,7 +20,8 @@ use Rattle.lw_stack.specs.Stack.{Stack, is_top_in}
 use Rattle.lw_stack.proofs.ListLaws.{shown_is_top}
 use Rattle.lw_final_state.specs.Shown.{top_set, seen_as, seen_in}
 use Rattle.lw_engine.specs.Desks.{cell_at, AreNumbered, AreOfDesk}
-use Rattle.lw_engine.specs.Owners.{IsAssembled}
+use Rattle.lw_strips.specs.Laying.{assembled}
+use Rattle.lw_engine.specs.Owners.{all_strips, IsAssembled}
 use Rattle.lw_engine.proofs.OwnersLaws.{are_whole}
 
 -- a slot's layer is shown where it is on top by the list
@@ -55,7 +56,10 @@ replies_stand v cells d rs replies long each stands =
 -- what is assembled of the strips of all owners is what the screen shows
 pub screen_stands : (v : Stack) (cells : List CellView) (d : Desk) (planes : Bitmap) → length cells ≡ v.sizes.slots → AreOfDesk v cells d
     → IsAssembled v cells planes → planes ≡ screen d
-screen_stands v cells d planes many stands made = made.whole ∙ sym (are_whole v cells d made.layers made.desktop many stands made.lent).planes
+screen_stands v cells d planes many stands made =
+    made.whole
+    ∙ (ap (λ (z : Sizes). assembled z.width z.height z.depth (all_strips made.layers made.desktop)) (sym stands.sizes)
+    ∙ sym (are_whole v cells d made.layers made.desktop many stands made.lent).planes)
 
 -- one value more
 pub more_mapped : {X : Type 0} (f : ℕ → X) (now new : List X) (n : ℕ) (v : X) → now ≡ map f (range_with_len 0 n) → v ≡ f n

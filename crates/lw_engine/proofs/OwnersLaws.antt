@@ -4,7 +4,7 @@ use Rattle.std.specs.List.{All}
 use Rattle.std.specs.Option.{is_some}
 use Rattle.std.proofs.lemmas.Bool.{false≢true, true_from_ne_false, cases_lt, cases_eq, eq-eqb, ne_eqb}
 use Rattle.std.proofs.lemmas.Bool.Decides.{nat_tests}
-use Rattle.std.proofs.lemmas.List.{length-map, get_or-map, get_or_default, get_or_past}
+use Rattle.std.proofs.lemmas.List.{append-nil, length-map, get_or-map, get_or_default, get_or_past}
 use Rattle.std.proofs.lemmas.List.Sums.{sum_by-cons, sum_by-append}
 use Rattle.lw_region.specs.Rectangle.{Rectangle, has_pixel}
 use Rattle.lw_region.specs.Order.{natural}
@@ -21,6 +21,8 @@ use Rattle.lw_strips.proofs.LayingLaws.{pen_in_nil, pen_in_cons}
 use Rattle.lw_strips.proofs.OverlapLaws.{blank_pen}
 use Rattle.lw_cliprects.specs.Parts.{hidden_of, LieIn}
 use Rattle.lw_cliprects.proofs.HiddenLaws.{covers_hidden, divided}
+use Rattle.lw_calls.specs.declared.make.Kind.{Kind}
+use Rattle.lw_calls.specs.declared.make.Kind.TheVariants.{Simple, Smart, SuperBitmap}
 use Rattle.lw_calls.specs.declared.sizes.Sizes.{Sizes}
 use Rattle.lw_machine.specs.Layer as layer
 use Rattle.lw_machine.specs.Desk.{Desk, is_the}
@@ -30,14 +32,17 @@ use Rattle.lw_machine.specs.Sound.{IsSlot}
 use Rattle.lw_machine.proofs.Seen.{the_one}
 use Rattle.lw_layer.specs.View.{State, LiveView, CellView}
 use Rattle.lw_layer.specs.View as view
+use Rattle.lw_layer.specs.declared.draft.LiveDraft.{LiveDraft}
+use Rattle.lw_layer.specs.Drafts.{IsLiveDraft, live_view}
+use Rattle.lw_layer.specs.Pieces.{rest_as, layout_of, whole_of}
 use Rattle.lw_layer.specs.StandsFor.{IsLivePart, IsPartOf}
 use Rattle.lw_stack.specs.Stack.{Stack, top_in, is_top_in}
 use Rattle.lw_stack.proofs.ListLaws.{top_is_listed, shown_is_top}
 use Rattle.lw_stack.proofs.FirstLaws.{not_top, top_off_screen}
-use Rattle.lw_arrange.specs.Pieces.{owner_has}
+use Rattle.lw_arrange.specs.Pieces.{is_owner, owner_has}
 use Rattle.lw_arrange.proofs.PieceLaws.{first_is_top}
 use Rattle.lw_engine.specs.Desks.{cell_at, AreOfDesk}
-use Rattle.lw_engine.specs.Owners.{AreStripsOfLayer, AreStripsIn, AreLent, all_strips, strips_at, IsCutUp, AreWhole}
+use Rattle.lw_engine.specs.Owners.{AreStripsOfLayer, AreStripsIn, AreLent, all_strips, strips_at, HaveBuffers, without_hook, IsMadeOf, IsCutUp, AreWhole}
 
 -- no strip has the place
 none_at : (strips : List StripView) (x y : ℤ)
@@ -167,6 +172,20 @@ blank_pens depth (s ∷ rest) all x y =
     by_test true one others = one
     by_test false one others = others
 
+-- which rectangles of a layer have a buffer, by its kind
+have_buffers : (k : Kind) (c : LiveView) → c.layer.kind ≡ k → HaveBuffers k c
+have_buffers Simple c is = ap (λ q. c.visible ++ rest_as q (hidden_of c.bounds c.visible) (whole_of (layout_of c))) is ∙ append-nil c.visible
+have_buffers Smart c is = ap (λ q. c.visible ++ rest_as q (hidden_of c.bounds c.visible) (whole_of (layout_of c))) is
+have_buffers SuperBitmap c is = ap (λ q. c.visible ++ rest_as q (hidden_of c.bounds c.visible) (whole_of (layout_of c))) is
+
+-- and what a draft has that is the layer
+is_made_of : (c : LiveView) (draft : LiveDraft) → IsLiveDraft draft → live_view draft ≡ without_hook c → IsMadeOf c draft
+is_made_of c draft sound is =
+    let P : LiveView → Type 0 = λ k. IsMadeOf k draft in
+    let own : P (live_view draft) = record { strips = sound.shown; hidden = sound.rest; sizes = sound.buffers } in
+    let bare : P (without_hook c) = subst P is own in
+    record { strips = bare.strips; hidden = bare.hidden; sizes = bare.sizes }
+
 -- Where a list of layers and cells stand for a desk, and these are the strips of all owners.
 module _ (v : Stack) (cells : List CellView) (d : Desk) (layers : List (List StripView)) (desktop : List StripView)
     (many : length cells ≡ v.sizes.slots) (stands : AreOfDesk v cells d) (lent : AreLent v cells layers desktop) where
@@ -221,6 +240,10 @@ module _ (v : Stack) (cells : List CellView) (d : Desk) (layers : List (List Str
       one_at desktop lent.bare.disjoint x y
       ∙ ap bit_of (lent.bare.places x y
       ∙ first_is_top v x y (has_pixel (screen_bounds v.sizes) x y) (λ o. not (is_some o)) (λ on. on))
+
+  -- the list of layers has the machine's top
+  told_top : (x y : ℤ) → top_in v x y ≡ top d x y
+  told_top x y = sym (top_is_listed v d stands.sizes stands.info x y)
 
   -- each place of the screen is in one strip
   once : (x y : ℤ) → strips_at (all_strips layers desktop) x y ≡ bit_of (has_pixel (screen_bounds v.sizes) x y)
@@ -301,19 +324,19 @@ module _ (v : Stack) (cells : List CellView) (d : Desk) (layers : List (List Str
               ∙ ((slot_is s below).1 (pos x) (pos y) ∙ (ap (λ o. is_the o s) is ∙ eq-eqb s s refl))))
 
   -- the screen is assembled of all strips
-  planes : screen d ≡ assembled v.sizes.width v.sizes.height v.sizes.depth (all_strips layers desktop)
+  planes : screen d ≡ assembled d.sizes.width d.sizes.height d.sizes.depth (all_strips layers desktop)
   unfolding screen
-  planes =
-      bitmap_same d.sizes.width d.sizes.height d.sizes.depth _ _ (λ x y left low. sym (pen_shown_at x y))
-      ∙ ap (λ (z : Sizes). assembled z.width z.height z.depth (all_strips layers desktop)) stands.sizes
+  planes = bitmap_same d.sizes.width d.sizes.height d.sizes.depth _ _ (λ x y left low. sym (pen_shown_at x y))
 
   -- each live layer is cut up
-  cut : (s : ℕ) → s < v.sizes.slots → (cell_at cells s).state ≡ view.Live → IsCutUp v s (cell_at cells s).live
+  cut : (s : ℕ) → s < v.sizes.slots → (cell_at cells s).state ≡ view.Live → IsCutUp d s (cell_at cells s).live
   cut s below live =
       record {
         divided = divided c.bounds c.visible (hidden_of c.bounds c.visible) refl inside told.canonical;
-        visible = shown;
-        hidden = λ x y. covers_hidden c.bounds c.visible x y ∙ ap (λ t. has_pixel c.bounds x y && not t) (shown x y);
+        visible = λ x y. sym (part.shown x y);
+        hidden = λ x y. covers_hidden c.bounds c.visible x y ∙ ap (λ t. has_pixel c.bounds x y && not t) (sym (part.shown x y));
+        buffers = have_buffers c.layer.kind c refl;
+        made = is_made_of c;
       }
     where
       c : LiveView
@@ -334,5 +357,16 @@ module _ (v : Stack) (cells : List CellView) (d : Desk) (layers : List (List Str
           false≢true (sym (not_top v s x y (ap (λ o. bounds_have o x y) (sym (stands.info.bounds s) ∙ part.bounds) ∙ off))
           ∙ (sym (shown x y) ∙ has)))
 
-  pub are_whole : AreWhole v cells layers desktop d
-  are_whole = record { once = once; whose = whose; planes = planes; cut = cut }
+  pub are_whole : AreWhole d cells layers desktop
+  are_whole =
+      record {
+        once = λ x y. once x y ∙ ap (λ (z : Sizes). bit_of (has_pixel (screen_bounds z) x y)) (sym stands.sizes);
+        whose = λ k x y most.
+            whose k x y (omega (arith, most, slots)) ∙ ap (λ o. bit_of (is_owner v.sizes.slots (has_pixel (screen_bounds v.sizes) x y) o k)) (told_top x y)
+            ∙ ap (λ (z : Sizes). bit_of (is_owner z.slots (has_pixel (screen_bounds z) x y) (top d x y) k)) (sym stands.sizes);
+        planes = planes;
+        cut = λ s below. cut s (omega (arith, below, slots));
+      }
+    where
+      slots : d.sizes.slots ≡ v.sizes.slots
+      slots = ap (λ (z : Sizes). z.slots) stands.sizes

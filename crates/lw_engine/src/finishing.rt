@@ -18,10 +18,10 @@ use lw_stack::Info;
 use lw_strips::{assemble, lay_all, screen_of};
 use std::alloc::{AllocError, Global};
 
-/// What a run leaves whose tasks had these replies, a list for each task: the screen, where each layer is shown with its
-/// damage, and the replies. It is given all slots. The screen is assembled of the strips of all slots and of the desktop. It fails
-/// only when out of memory.
-pub fn finish<B: Backfill>(
+// What a run leaves whose tasks had these replies, a list for each task: the screen, where each layer is shown with its
+// damage, and the replies. It is given all slots. The screen is assembled of the strips of all slots and of the desktop. It fails
+// only when out of memory.
+pub(crate) fn finish<B: Backfill>(
     alloc: Global,
     info: &Info,
     slots: &[Slot<B>],

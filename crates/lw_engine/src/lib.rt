@@ -16,7 +16,6 @@ mod slot;
 mod window_after;
 
 pub use all_layers::on_all;
-pub use finishing::finish;
 pub use laws::{cells_have_few_rectangles, strips_make_the_screen};
 pub use layer_engine::LayerEngine;
 pub use layer_info::LayerInfo;

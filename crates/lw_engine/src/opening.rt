@@ -29,7 +29,7 @@ pub(crate) fn unopened_slots<B: Backfill>(
 {
     let mut slots = Vec::with_capacity(alloc, count as usize)?;
     for slot in 0..count {
-        slots.push(Slot::unopened(slot))?;
+        slots.push(Slot::unopened(alloc, slot)?)?;
     }
     Ok(slots)
 }

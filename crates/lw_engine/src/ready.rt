@@ -117,16 +117,17 @@ impl<B: Backfill> Slot<B> {
         requires may { MayBeReady arrangement.now self.now }
         ensures { IfOk result (λ ready. IsReadyFor arrangement.now shelf.now self.now ready) }
     {
+        let cell = &*self.cell;
         // Reading these tells the proof what holds of the cell, and that the region's list is canonical.
-        let _ = self.cell.look();
-        let prepared = prepare(alloc, &self.cell, arrangement)?;
+        let _ = cell.look();
+        let prepared = prepare(alloc, cell, arrangement)?;
         let hooked = self.has_hook(shelf, arrangement.call());
-        let gained = pixels_gained(alloc, &self.cell, arrangement, hooked)?;
-        let window = window_after(&self.cell, arrangement, &gained);
+        let gained = pixels_gained(alloc, cell, arrangement, hooked)?;
+        let window = window_after(cell, arrangement, &gained);
         let gained = pixels_filled(alloc, gained, hooked, window.change.sized);
         let _ = gained.rects();
         Ok(Ready {
-            slot: self.cell.slot(),
+            slot: cell.slot(),
             prepared: prepared.becomes,
             exchange: prepared.exchange,
             gained,
@@ -190,7 +191,7 @@ impl<B: Backfill> Slot<B> {
         requires { self.old.state ≡ view.Live }
         ensures { self.new ≡ record { number = self.old.number; state = view.Closed; live = no_layer } }
     {
-        turn_into(&mut self.cell, Becomes::Closes);
+        turn_into(&mut *self.cell, Becomes::Closes);
         self.held = None;
     }
 
@@ -211,9 +212,10 @@ impl<B: Backfill> Slot<B> {
           live = with_own_frame assets.now.glyphs false (filled_as (option_map B.hook taken) gained.now (live_view draft));
         } }
     {
-        turn_into(&mut self.cell, Becomes::Opens(draft));
+        let cell = &mut *self.cell;
+        turn_into(cell, Becomes::Opens(draft));
         self.held = taken;
-        let Some(layer) = self.cell.layer_mut() else {
+        let Some(layer) = cell.layer_mut() else {
             unreachable!();
         };
         fill_gained(layer, &mut self.held, gained);
@@ -238,10 +240,11 @@ impl<B: Backfill> Slot<B> {
             (filled_as (hook_in self.old) gained.now (carried_to change.bounds change.parts.visible c)))
             (bare self.old) }
     {
+        let cell = &mut *self.cell;
         // Reading this tells the proof that the cell has no hook of its own.
-        let _ = self.cell.look();
-        turn_into(&mut self.cell, Becomes::Changes(change));
-        let Some(layer) = self.cell.layer_mut() else {
+        let _ = cell.look();
+        turn_into(cell, Becomes::Changes(change));
+        let Some(layer) = cell.layer_mut() else {
             unreachable!();
         };
         fill_gained(layer, &mut self.held, gained);

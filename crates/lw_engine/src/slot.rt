@@ -25,10 +25,11 @@ use std::alloc::{AllocError, Global};
 use std::marker::Model;
 
 /// A slot of the desk: its cell, and beside it the backfill hook of its layer, if it has one (the manual's Layers Library
-/// chapter). Contracts see the cell with the hook on its layer.
+/// chapter). Contracts see the cell with the hook on its layer. The cell is boxed, since slots are moved out of their locks and
+/// back, and a cell is large.
 #[derive(Drop)]
 pub struct Slot<B: Backfill> {
-    pub(crate) cell: Cell,
+    pub(crate) cell: Box<Cell>,
     pub(crate) held: Option<B>,
 }
 
@@ -38,25 +39,23 @@ impl<B: Backfill> Model for Slot<B> {
 
     ghost Value = { CellView };
 
-    ghost view = { λ s. hooked (option_map B.hook s.held) s.cell };
+    ghost view = { λ s. hooked (option_map B.hook s.held) s.cell.value };
 }
 
 impl<B: Backfill> Slot<B> {
-    /// The slot of a layer that was not created so far.
-    pub fn unopened(slot: u32) -> Slot<B>
-        ensures { result ≡ unopened_cell slot }
+    /// The slot of a layer that was not created so far. It fails only when out of memory.
+    pub fn unopened(alloc: Global, slot: u32) -> Result<Slot<B>, AllocError>
+        ensures { IfOk result (λ s. s ≡ unopened_cell slot) }
     {
-        Slot {
-            cell: Cell::unopened(slot),
-            held: None,
-        }
+        let cell = Box::new(alloc, Cell::unopened(slot))?;
+        Ok(Slot { cell, held: None })
     }
 
     /// The slot's cell, which knows nothing of the hook.
     pub fn cell(&self) -> &Cell
         ensures { self.now ≡ hooked (hook_in self.now) result.now }
     {
-        &self.cell
+        &*self.cell
     }
 
     /// The strips that the slot's layer shows on the screen, as `Layer::strips` lends them; a slot that isn't live has none.
@@ -110,7 +109,7 @@ impl<B: Backfill> Slot<B> {
         ensures unchanged { OnErr result (self.new ≡ self.old) }
         ensures memory { takes_memory call.now ≡ false → IsOk result }
     {
-        on_layer(alloc, &mut self.cell, regs, assets, task, call)
+        on_layer(alloc, &mut *self.cell, regs, assets, task, call)
     }
 
     // Reserves room in the port of a window for as many messages as it may be due after an arrangement. It changes nothing else.
@@ -128,7 +127,7 @@ impl<B: Backfill> Slot<B> {
         ensures step { IsPairStep source.now self.old call.now result self.new }
         ensures number { self.new.number ≡ self.old.number }
     {
-        on_layers(&source.cell, &mut self.cell, call)
+        on_layers(&*source.cell, &mut *self.cell, call)
     }
 }
 

@@ -1,4 +1,4 @@
-use Rattle.std.proofs.Common.{◌≡◌, Option, option_map, IfOk, sym, subst}
+use Rattle.std.proofs.Common.{◌≡◌, Option, option_map, IfOk, ◌∙◌, sym, ap, subst}
 use Rattle.std.proofs.lemmas.Result.{IfOk-weaker}
 use Rattle.lw_machine.specs.Hook.{Hook}
 use Rattle.lw_calls.specs.declared.touch.CallClass.TheVariants.{OnLayer}
@@ -11,11 +11,12 @@ use Rattle.lw_engine.proofs.slot.Slot.on_layer.Goals as goal
 pub returns-clause-step : goal.returns-clause-step
 returns-clause-step g c =
     let a = c.args in
-    let f = c.self.inside in
-    let h : Option Hook = option_map g.B.Backfill.hook f.held in
+    let cell = c.deref_mut.result.now in
+    let h : Option Hook = option_map g.B.Backfill.hook c.self.inside.held in
+    let seen : hooked h cell ≡ a.self.now = ap (hooked h) c.deref_mut.ensures.value ∙ c.self.view_is in
     let new = c.on_layer.new.cell in
     let Class : CellView → Type 0 = λ v. class_of a.call.now ≡ OnLayer v.number in
     let Step : CellView → Type 0 = λ v. IfOk c.on_layer.result (λ r. IsLayerStep a.task v a.regs.now a.assets.now a.call.now r (hooked h new)) in
-    subst Step c.self.view_is
-    (IfOk-weaker c.on_layer.result (λ r. IsLayerStep a.task f.cell a.regs.now a.assets.now a.call.now r new) (λ r. IsLayerStep a.task (hooked h f.cell) a.regs.now a.assets.now a.call.now r (hooked h new))
-    (λ r step. hooked_step h a.task f.cell new a.regs.now a.assets.now a.call.now r (subst Class (sym c.self.view_is) c.requires.class) c.on_layer.ensures.number step) c.on_layer.ensures.step)
+    subst Step seen
+    (IfOk-weaker c.on_layer.result (λ r. IsLayerStep a.task cell a.regs.now a.assets.now a.call.now r new) (λ r. IsLayerStep a.task (hooked h cell) a.regs.now a.assets.now a.call.now r (hooked h new))
+    (λ r step. hooked_step h a.task cell new a.regs.now a.assets.now a.call.now r (subst Class (sym seen) c.requires.class) c.on_layer.ensures.number step) c.on_layer.ensures.step)

@@ -1,4 +1,4 @@
-use Rattle.std.proofs.Common.{◌≡◌, true, false, [], ◌||◌, Option, Some, is_some, ◌∙◌, refl, sym, ap, subst}
+use Rattle.std.proofs.Common.{◌≡◌, true, false, [], ◌||◌, Option, Some, option_map, is_some, ◌∙◌, refl, sym, ap, subst}
 use Rattle.lw_region.specs.Rectangle.{Rectangle}
 use Rattle.lw_machine.specs.Hook.{Hook}
 use Rattle.lw_machine.specs.Layer.{is_framed}
@@ -18,13 +18,17 @@ use Rattle.lw_engine.proofs.slot.Slot.prepare.Goals as goal
 
 pub pixels_gained-requires-clause-may : goal.pixels_gained-requires-clause-may
 pixels_gained-requires-clause-may g c =
-    let same : c.self.inside.cell ≡ bare c.args.self.now = bare_cell c.self.inside.cell c.look.ensures.sound c.look.ensures.idle ∙ ap bare c.self.view_is in
+    let cell = c.deref-cell.result.now in
+    let seen : hooked (option_map g.B.Backfill.hook c.self.inside.held) cell ≡ c.args.self.now = ap (hooked (option_map g.B.Backfill.hook c.self.inside.held)) c.deref-cell.ensures ∙ c.self.view_is in
+    let same : cell ≡ bare c.args.self.now = bare_cell cell c.look.ensures.sound c.look.ensures.idle ∙ ap bare seen in
     let May : CellView → Type 0 = λ v. MayPrepare c.args.arrangement.now v in
     subst May (sym same) c.requires.may.prepare
 
 pub window_after-window-requires-clause-may : goal.window_after-window-requires-clause-may
 window_after-window-requires-clause-may g c =
-    let same : c.self.inside.cell ≡ bare c.args.self.now = bare_cell c.self.inside.cell c.look.ensures.sound c.look.ensures.idle ∙ ap bare c.self.view_is in
+    let cell = c.deref-cell.result.now in
+    let seen : hooked (option_map g.B.Backfill.hook c.self.inside.held) cell ≡ c.args.self.now = ap (hooked (option_map g.B.Backfill.hook c.self.inside.held)) c.deref-cell.ensures ∙ c.self.view_is in
+    let same : cell ≡ bare c.args.self.now = bare_cell cell c.look.ensures.sound c.look.ensures.idle ∙ ap bare seen in
     let May : CellView → Type 0 = λ v. MayPrepare c.args.arrangement.now v in
     subst May (sym same) c.requires.may.prepare
 
@@ -33,12 +37,13 @@ returns g c =
     let a = c.args.arrangement.now in
     let shelf = c.args.shelf.now in
     let s : CellView = c.args.self.now in
-    let cell : CellView = c.self.inside.cell in
+    let cell : CellView = c.deref-cell.result.now in
+    let seen : hooked (option_map g.B.Backfill.hook c.self.inside.held) cell ≡ s = ap (hooked (option_map g.B.Backfill.hook c.self.inside.held)) c.deref-cell.ensures ∙ c.self.view_is in
     let p = c.in_ok-prepared.prepared.becomes in
     let found = c.in_ok-gained.gained in
     let final = c.pixels_filled-gained.result in
     let w = c.window_after-window.result in
-    let same : cell ≡ bare s = bare_cell cell c.look.ensures.sound c.look.ensures.idle ∙ ap bare c.self.view_is in
+    let same : cell ≡ bare s = bare_cell cell c.look.ensures.sound c.look.ensures.idle ∙ ap bare seen in
     let Made : CellView → Type 0 = λ v. IsPrepared v (cell_after a v) p in
     let Pieces : CellView → Type 0 =
     λ v. HasPieces v.number a.stack.sizes.depth a.pieces c.in_ok-prepared.prepared.exchange.lost.items c.in_ok-prepared.prepared.exchange.gained.items in
@@ -62,7 +67,7 @@ returns g c =
           (c.has_hook-hooked.ensures ∙ ap (λ q. is_some (hook_in s) || is_some (asked_hook shelf q s.number)) c.call.ensures) (subst Hook_gains same told.hook) (subst Frame_gains same told.frame)
           (subst None_gained same told.none) (λ live r bounds. (after live r bounds).done.sized))
           after;
-      slot = c.slot.ensures ∙ ap (λ (v : CellView). v.number) c.self.view_is;
+      slot = c.slot.ensures ∙ ap (λ (v : CellView). v.number) seen;
       untaken = refl;
       pieces = subst Pieces same (c.in_ok-prepared.ensures {u = tt}).pieces;
     }

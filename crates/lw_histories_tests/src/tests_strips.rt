@@ -5,7 +5,6 @@ ghost use Rattle.lw_machine.specs.Desk.{Desk as MachineDesk};
 ghost use Rattle.lw_engine.specs.Layers.{AreLayers, layer_relations};
 ghost use Rattle.lw_runs.specs.Standing.{StandForDesk};
 
-use crate::calls::no_assets;
 use lw_backfill::Checker;
 use lw_calls::{Assets, Call, Kind, Make, Place, Replies, Reply, Sizes, Text};
 use lw_engine::{LayerEngine, LayerInfo, Slot};
@@ -30,6 +29,17 @@ const SIZES: Sizes = Sizes {
     hooks: 500,
     bitmaps: 0,
 };
+
+// How many arrangements of a history are done at least.
+const DONE: u32 = 200;
+
+// Bitmaps and glyphs that nothing uses.
+fn no_assets(alloc: Global) -> Assets {
+    Assets {
+        glyphs: [[0; 8]; 95],
+        bitmaps: Vec::new(alloc),
+    }
+}
 
 // How a layer is painted: pen `a` where its column and row have an even sum, and `b` elsewhere.
 #[derive(Clone, Copy)]
@@ -445,7 +455,7 @@ fn each_place_is_in_one_strip_in_random_histories(rt: HostRuntime) -> Result<(),
     for seed in 1..3 {
         let calls = random_calls(alloc, seed)?;
         let done = run(&rt, alloc, &assets, calls.as_slice())?;
-        assert!(rt; done >= 200);
+        assert!(rt; done >= DONE);
     }
     Ok(())
 }
