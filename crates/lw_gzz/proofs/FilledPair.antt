@@ -13,7 +13,7 @@ use Rattle.lw_calls.specs.Plan.{task_groups, group_calls, task_calls}
 use Rattle.lw_gzz.specs.declared.word.GzzWord.{GzzWord}
 use Rattle.lw_gzz.specs.declared.word.GzzWord.TheVariants.{Open}
 use Rattle.lw_gzz.specs.Words.{expansion}
-use Rattle.lw_gzz.specs.Code.Recognition.{word_of}
+use Rattle.lw_gzz.specs.Recognition.{word_of}
 use Rattle.lw_gzz.specs.Together.{may_part, HasPairBox, puts_before, IsPairBox}
 use Rattle.lw_gzz.specs.Apart.{StandsForWord, IsInPairGroup, IsOpenedOnce, IsApart}
 use Rattle.lw_gzz.specs.Examples.{filled_pair}

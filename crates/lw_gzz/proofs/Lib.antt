@@ -14,5 +14,6 @@ mod PairGroups
 mod Starts
 mod Runs
 mod Fresh
-mod Spelling
+pub mod Spelling
+pub mod OnePair
 mod FilledPair

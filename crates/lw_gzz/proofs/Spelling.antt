@@ -19,8 +19,8 @@ use Rattle.lw_calls.specs.Kinds.{is_super}
 use Rattle.lw_gzz.specs.declared.word.GzzWord.{GzzWord}
 use Rattle.lw_gzz.specs.declared.word.GzzWord.TheVariants.{Open, SetBox, Front, Behind, InFrontOf, Close}
 use Rattle.lw_gzz.specs.Words.{plain_make, expansion, has_kind, Spells, IsWordOf, HasInner}
-use Rattle.lw_gzz.specs.Code.Recognition.{is_plain, is_smart, is_same_place, is_inner_box, are_makes, is_bare, has_both, word_if}
-use Rattle.lw_gzz.specs.Code.Recognition.{word_of_two, word_of_three, word_of}
+use Rattle.lw_gzz.specs.Recognition.{is_plain, is_smart, is_same_place, is_inner_box, are_makes, is_bare, has_both, word_if}
+use Rattle.lw_gzz.specs.Recognition.{word_of_two, word_of_three, word_of}
 
 -- the tests that hold of a word's own calls
 both_is : (p : Pair) → has_both p p.outer p.inner ≡ true

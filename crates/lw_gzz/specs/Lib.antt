@@ -2,4 +2,4 @@ pub mod Words
 pub mod Together
 pub mod Apart
 pub mod Examples
-pub mod Code
+pub mod Recognition

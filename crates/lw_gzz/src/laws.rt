@@ -1,3 +1,4 @@
+ghost use Rattle.lw_gzz.specs.Recognition.{CallsHaveTheirWord, CallsStandForOnePair, WordsMayPartTheirPair};
 ghost use Rattle.lw_gzz.specs.Together.{OtherCallsKeepPairsTogether, CallsBetweenLeaveTheLayers, GroupsKeepPairsTogether};
 ghost use Rattle.lw_gzz.specs.Together.{FrameLeavesInnerRectangle, PairsAreOpened, BothAreClosedAlike, DrawingStaysInside};
 ghost use Rattle.lw_gzz.specs.Apart.{PairsStayTogether, OpeningsAreNotRefused};
@@ -58,4 +59,19 @@ pub fn pairs_stay_together()
 /// refused.
 pub fn openings_are_not_refused()
     ensures { OpeningsAreNotRefused }
+{}
+
+/// A law of words, which does nothing: `word_of` is the word for which calls stand.
+pub fn calls_have_their_word()
+    ensures { CallsHaveTheirWord }
+{}
+
+/// A law of words, which does nothing: calls stand for one word at most, done with one pair.
+pub fn calls_stand_for_one_pair()
+    ensures { CallsStandForOnePair }
+{}
+
+/// A law of words, which does nothing: each call of a word is one that may part its pair.
+pub fn words_may_part_their_pair()
+    ensures { WordsMayPartTheirPair }
 {}

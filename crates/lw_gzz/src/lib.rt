@@ -13,9 +13,10 @@ mod word;
 pub use examples::filled_pair_is_apart;
 pub use expanding::expand;
 pub use laws::{
-    both_are_closed_alike, calls_between_leave_the_layers, drawing_stays_inside,
-    frame_leaves_inner_rectangle, groups_keep_pairs_together, openings_are_not_refused,
-    other_calls_keep_pairs_together, pairs_are_opened, pairs_stay_together,
+    both_are_closed_alike, calls_between_leave_the_layers, calls_have_their_word,
+    calls_stand_for_one_pair, drawing_stays_inside, frame_leaves_inner_rectangle,
+    groups_keep_pairs_together, openings_are_not_refused, other_calls_keep_pairs_together,
+    pairs_are_opened, pairs_stay_together, words_may_part_their_pair,
 };
 pub use recognized::as_word;
 pub use word::GzzWord;

@@ -3,8 +3,8 @@ ghost use Rattle.std.specs.Ordering.{int_eq};
 ghost use Rattle.lw_calls.specs.Kinds.{is_super};
 ghost use Rattle.lw_gzz.specs.declared.word.GzzWord.TheVariants.{Open};
 ghost use Rattle.lw_gzz.specs.Words.{HasInner, HasInnerBox, IsWordOf};
-ghost use Rattle.lw_gzz.specs.Code.Recognition.{is_plain, is_smart, is_same_place, is_inner_box, are_makes, is_bare, has_both};
-ghost use Rattle.lw_gzz.specs.Code.Recognition.{word_if, word_of_two, word_of_three};
+ghost use Rattle.lw_gzz.specs.Recognition.{is_plain, is_smart, is_same_place, is_inner_box, are_makes, is_bare, has_both};
+ghost use Rattle.lw_gzz.specs.Recognition.{word_if, word_of_two, word_of_three};
 
 use crate::expanding::copied;
 use crate::word::GzzWord;

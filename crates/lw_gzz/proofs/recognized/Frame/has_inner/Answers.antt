@@ -1,7 +1,7 @@
 use Rattle.std.proofs.Common.{◌≡◌, Bool, ◌&&◌, ℤ, pos, ◌+ℤ◌, to_z, of_z, w32, FitsSigned, arith, ◌∙◌, rules, sym}
 use Rattle.std.specs.Ordering.{int_eq}
 use Rattle.std.proofs.lemmas.Int.{ints}
-use Rattle.lw_gzz.specs.Code.Recognition.{is_inner_box}
+use Rattle.lw_gzz.specs.Recognition.{is_inner_box}
 use Rattle.lw_gzz.proofs.Spelling.{box_fits}
 use Rattle.lw_gzz.proofs.recognized.Frame.has_inner.Goals as goal
 

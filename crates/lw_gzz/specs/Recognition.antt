@@ -1,8 +1,8 @@
--- For private contracts.
--- The word for which calls stand, found by tests of their parts.
-use Rattle.std.specs.Prelude.{ℕ, ◌==◌, Bool, true, false, not, ◌&&◌, if◌then◌else◌, List, [], ◌∷◌, ℤ, pos, ◌+ℤ◌, Option, Some}
+-- The word for which calls stand, found by tests of their parts (this project's own).
+use Rattle.std.specs.Prelude.{◌≡◌, ℕ, ◌==◌, Bool, true, false, not, ◌&&◌, if◌then◌else◌, List, [], ◌∷◌, ℤ, pos, ◌+ℤ◌, Option, Some}
 use Rattle.std.specs.Prelude.{None, is_some, length}
 use Rattle.std.specs.Ordering.{int_eq}
+use Rattle.std.specs.List.{list_all}
 use Rattle.lw_calls.specs.declared.make.Kind.{Kind}
 use Rattle.lw_calls.specs.declared.make.Kind.TheVariants.{Simple, Smart, SuperBitmap}
 use Rattle.lw_calls.specs.declared.make.Place.{Place}
@@ -15,6 +15,8 @@ use Rattle.lw_calls.specs.declared.call.Call.TheVariants.{InFrontOf as PutInFron
 use Rattle.lw_calls.specs.Kinds.{is_super}
 use Rattle.lw_gzz.specs.declared.word.GzzWord.{GzzWord}
 use Rattle.lw_gzz.specs.declared.word.GzzWord.TheVariants.{Open, SetBox, Front, Behind, InFrontOf, Close}
+use Rattle.lw_gzz.specs.Words.{expansion, Spells, IsWordOf}
+use Rattle.lw_gzz.specs.Together.{may_part}
 
 -- the layer is no backdrop, and has no hook and no bitmap of its own
 abbrev pub is_plain : Make → Bool
@@ -79,3 +81,16 @@ abbrev pub word_of : Pair → List Call → Option GzzWord
 word_of p (first ∷ second ∷ []) = word_of_two p first second
 word_of p (first ∷ second ∷ third ∷ []) = word_of_three p first second third
 word_of p calls = None
+
+-- It is the word whose calls they are, and there is none exactly where they stand for no word.
+abbrev pub CallsHaveTheirWord : Type 0
+CallsHaveTheirWord = (p : Pair) (calls : List Call) → IsWordOf p calls (word_of p calls)
+
+-- Calls stand for one word at most, done with one pair.
+abbrev pub CallsStandForOnePair : Type 0
+CallsStandForOnePair =
+    (p q : Pair) (calls : List Call) (word other : GzzWord) → Spells p word calls → Spells q other calls → (p ≡ q) × (word ≡ other)
+
+-- Each call of a word is one that may part its pair.
+abbrev pub WordsMayPartTheirPair : Type 0
+WordsMayPartTheirPair = (p : Pair) (word : GzzWord) → list_all (may_part p) (expansion p word) ≡ true

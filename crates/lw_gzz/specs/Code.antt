@@ -1,2 +1,0 @@
--- What only the clauses of private functions cite.
-pub mod Recognition
